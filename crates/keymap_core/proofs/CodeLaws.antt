@@ -1,0 +1,92 @@
+-- The code of each action is that action's alone.
+use Rattle.std.proofs.Common.{◌≡◌, ℕ, ◌+◌, ◌-◌, ◌<◌, ◌≤◌, ◌==◌, nat_le, List, [], ◌∷◌, suc, zero, Bool, true, false, refl, arith, sym, ap, subst, inl, inr, rules}
+use Rattle.std.specs.Prelude.{◌&&◌, Some, None, Option, cond}
+use Rattle.std.specs.List.{find, list_all}
+use Rattle.std.proofs.lemmas.Bool.{and_parts, eqb-true, leb-true}
+use Rattle.std.proofs.lemmas.Option.{none-some, same_Some}
+use Rattle.std.proofs.lemmas.Bool.Decides.{nat_tests}
+use Rattle.std.proofs.lemmas.Grind.{common_steps}
+use Rattle.keymap_core.specs.Actions.{IsAction, code_of, action_of, plain_actions, within}
+use Rattle.keymap_core.specs.declared.action.Action.{Action}
+use Rattle.keymap_core.specs.declared.action.Action.TheVariants as a
+use Rattle.keymap_core.specs.declared.action.Modifier.TheVariants as m
+use Rattle.keymap_core.specs.declared.action.Lock.TheVariants as l
+
+pub code-read : (action : Action) → IsAction action → action_of (code_of action) ≡ Some action
+code-read (a.Screen k) known = grind (arith, nat_tests, common_steps)
+code-read (a.Function k) known = grind (arith, nat_tests, common_steps)
+code-read (a.DeadKey k) known = grind (arith, nat_tests, common_steps)
+code-read a.Nop known = refl
+code-read (a.Mod m.LeftShift) known = refl
+code-read (a.Mod m.RightShift) known = refl
+code-read (a.Lock l.Caps) known = refl
+code-read (a.Lock l.Num) known = refl
+code-read (a.Lock l.Scroll) known = refl
+code-read (a.Mod m.LeftAlt) known = refl
+code-read a.BackTab known = refl
+code-read (a.Mod m.LeftControl) known = refl
+code-read a.NextScreen known = refl
+code-read (a.Mod m.RightControl) known = refl
+code-read (a.Mod m.RightAlt) known = refl
+code-read (a.Lock l.Alt) known = refl
+code-read (a.Mod m.AltShift) known = refl
+code-read (a.Mod m.Meta) known = refl
+code-read a.Boot known = refl
+code-read a.Debug known = refl
+code-read a.Suspend known = refl
+code-read a.Saver known = refl
+code-read a.Standby known = refl
+code-read a.PreviousScreen known = refl
+code-read a.Panic known = refl
+code-read a.Halt known = refl
+code-read a.PowerDown known = refl
+code-read a.Paste known = refl
+
+-- an action without a number
+abbrev is_plain : Action → Bool
+is_plain (a.Screen k) = false
+is_plain (a.Function k) = false
+is_plain (a.DeadKey k) = false
+is_plain _ = true
+
+plain-known : (action : Action) → is_plain action ≡ true → IsAction action
+plain-known (a.Screen k) h = absurd (cc)
+plain-known (a.Function k) h = absurd (cc)
+plain-known (a.DeadKey k) h = absurd (cc)
+plain-known _ h = tt
+
+abbrev HasCode : ℕ → Action → Type 0
+HasCode c action = (code_of action ≡ c) × IsAction action
+
+-- one step of the search by code
+step-has_code : (c : ℕ) (x action : Action) (rest : Option Action) (b : Bool) → code_of x == c ≡ b → IsAction x
+    → (rest ≡ Some action → HasCode c action) → cond b (Some x) rest ≡ Some action → HasCode c action
+step-has_code c x action rest true test known later h =
+    subst (λ y. HasCode c y) (same_Some x action h) (eqb-true (code_of x) c test, known)
+step-has_code c x action rest false test known later h = later h
+
+-- what the search by code finds has the code
+find-has_code : (c : ℕ) (xs : List Action) (action : Action) → list_all is_plain xs ≡ true
+    → find (λ x. code_of x == c) xs ≡ Some action → HasCode c action
+find-has_code c [] action plain h = absurd (none-some action h)
+find-has_code c (x ∷ xs) action plain h =
+    let parts = and_parts (is_plain x) (list_all is_plain xs) plain in
+    step-has_code c x action (find (λ y. code_of y == c) xs) (code_of x == c) refl (plain-known x parts.0)
+    (find-has_code c xs action parts.1) h
+
+-- one range of codes of actions with a number
+range-has_code : (c low high : ℕ) (numbered action : Action) (rest : Option Action) (b : Bool) → within low high c ≡ b
+    → (low ≤ c → c ≤ high → HasCode c numbered) → (rest ≡ Some action → HasCode c action)
+    → cond b (Some numbered) rest ≡ Some action → HasCode c action
+range-has_code c low high numbered action rest true test inside later h =
+    let parts = and_parts (nat_le low c) (nat_le c high) test in
+    subst (λ y. HasCode c y) (same_Some numbered action h) (inside (leb-true low c parts.0) (leb-true c high parts.1))
+range-has_code c low high numbered action rest false test inside later h = later h
+
+-- the action of a code has the code
+pub action-has_code : (c : ℕ) (action : Action) → action_of c ≡ Some action → HasCode c action
+action-has_code c action =
+    range-has_code c 0x0b 0x1a (a.Screen (c - 0x0a)) action _ _ refl (λ low high. (omega arith, (omega arith, omega arith)))
+    (range-has_code c 0x1b 0x7a (a.Function (c - 0x1a)) action _ _ refl (λ low high. (omega arith, (omega arith, omega arith)))
+    (range-has_code c 0x89 0x97 (a.DeadKey (c - 0x89)) action _ _ refl (λ low high. (omega arith, omega arith))
+    (find-has_code c plain_actions action refl)))

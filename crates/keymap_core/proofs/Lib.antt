@@ -1,0 +1,3 @@
+mod CodeLaws
+mod NameLaws
+mod Taking

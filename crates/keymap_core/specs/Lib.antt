@@ -1,0 +1,9 @@
+pub mod Accents
+pub mod Actions
+pub mod Bearers
+pub mod Borne
+pub mod Devices
+pub mod Inside
+pub mod Maps
+pub mod Names
+pub mod Transfers

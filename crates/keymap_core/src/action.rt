@@ -1,0 +1,329 @@
+//! Actions, their codes and names.
+ghost use Rattle.std.specs.Prelude.{◌≡◌, ◌<◌, ◌≤◌, ◌==◌, find};
+
+use arrayvec::ArrayVec;
+use std::marker::Model;
+
+/// The name of an action.
+pub type Name = ArrayVec<u8, 6>;
+
+#[derive(Clone, Copy, Debug, PartialEq, Eq)]
+pub enum Modifier {
+    LeftShift,
+    RightShift,
+    LeftControl,
+    RightControl,
+    LeftAlt,
+    RightAlt,
+    AltShift,
+    Meta,
+}
+
+#[derive(Clone, Copy, Debug, PartialEq, Eq)]
+pub enum Lock {
+    Caps,
+    Num,
+    Scroll,
+    Alt,
+}
+
+/// An action that stays in force while its key is pressed: a modifier or a lock.
+#[derive(Clone, Copy, Debug, PartialEq, Eq)]
+pub enum Holding {
+    Mod(Modifier),
+    Lock(Lock),
+}
+
+impl Modifier {
+    ghost use Rattle.keymap_core.specs.Actions.{modifier_index};
+
+    /// The modifier's place in the list of the modifiers, from 0.
+    pub fn index(self) -> usize
+        ensures value { result ≡ modifier_index self }
+        ensures in_range { result < 8 }
+    {
+        match self {
+            Modifier::LeftShift => 0,
+            Modifier::RightShift => 1,
+            Modifier::LeftControl => 2,
+            Modifier::RightControl => 3,
+            Modifier::LeftAlt => 4,
+            Modifier::RightAlt => 5,
+            Modifier::AltShift => 6,
+            Modifier::Meta => 7,
+        }
+    }
+}
+
+impl Lock {
+    ghost use Rattle.keymap_core.specs.Actions.{lock_index};
+
+    /// The lock's place in the list of the locks, from 0.
+    pub fn index(self) -> usize
+        ensures value { result ≡ lock_index self }
+        ensures in_range { result < 4 }
+    {
+        match self {
+            Lock::Caps => 0,
+            Lock::Num => 1,
+            Lock::Scroll => 2,
+            Lock::Alt => 3,
+        }
+    }
+}
+
+impl Holding {
+    ghost use Rattle.keymap_core.specs.Actions.{holding_index, holding_action};
+
+    /// The action's place in the list of the holding actions: the modifiers, then the locks.
+    pub fn index(self) -> usize
+        ensures value { result ≡ holding_index self }
+        ensures in_range { result < 12 }
+    {
+        match self {
+            Holding::Mod(modifier) => modifier.index(),
+            Holding::Lock(lock) => 8 + lock.index(),
+        }
+    }
+
+    /// The action that it is.
+    pub fn action(self) -> Action
+        ensures { result ≡ holding_action self }
+    {
+        match self {
+            Holding::Mod(modifier) => Action::Mod(modifier),
+            Holding::Lock(lock) => Action::Lock(lock),
+        }
+    }
+}
+
+/// The number of a screen, 1 to 16.
+#[derive(Clone, Copy, Debug, PartialEq, Eq)]
+pub struct ScreenNumber {
+    number: u8,
+}
+
+impl Model for ScreenNumber {
+    ghost use Rattle.std.specs.Prelude.{ℕ, ◌<◌, ◌≤◌};
+
+    ghost Value = { ℕ };
+
+    ghost view = { λ screen. screen.number };
+
+    ghost invariant = { λ screen. (0 < screen.number) × (screen.number ≤ 16) };
+
+    ghost inverse = { λ n. record { number = n } };
+}
+
+impl ScreenNumber {
+    pub fn new(number: u8) -> Self
+        requires low { 0 < number }
+        requires high { number ≤ 16 }
+        ensures { result ≡ number }
+    {
+        ScreenNumber { number }
+    }
+
+    pub fn get(self) -> u8
+        ensures value { result ≡ self }
+        ensures low { 0 < result }
+        ensures high { result ≤ 16 }
+    {
+        self.number
+    }
+}
+
+/// The number of a function key, 1 to 96.
+#[derive(Clone, Copy, Debug, PartialEq, Eq)]
+pub struct FunctionNumber {
+    number: u8,
+}
+
+impl Model for FunctionNumber {
+    ghost use Rattle.std.specs.Prelude.{ℕ, ◌<◌, ◌≤◌};
+
+    ghost Value = { ℕ };
+
+    ghost view = { λ function. function.number };
+
+    ghost invariant = { λ function. (0 < function.number) × (function.number ≤ 96) };
+
+    ghost inverse = { λ n. record { number = n } };
+}
+
+impl FunctionNumber {
+    pub fn new(number: u8) -> Self
+        requires low { 0 < number }
+        requires high { number ≤ 96 }
+        ensures { result ≡ number }
+    {
+        FunctionNumber { number }
+    }
+
+    pub fn get(self) -> u8
+        ensures value { result ≡ self }
+        ensures low { 0 < result }
+        ensures high { result ≤ 96 }
+    {
+        self.number
+    }
+}
+
+/// The index of an accent, 0 to 14.
+#[derive(Clone, Copy, Debug, PartialEq, Eq)]
+pub struct AccentIndex {
+    index: u8,
+}
+
+impl Model for AccentIndex {
+    ghost use Rattle.std.specs.Prelude.{ℕ, ◌<◌};
+
+    ghost Value = { ℕ };
+
+    ghost view = { λ accent. accent.index };
+
+    ghost invariant = { λ accent. accent.index < 15 };
+
+    ghost inverse = { λ n. record { index = n } };
+}
+
+impl AccentIndex {
+    pub fn new(index: u8) -> Self
+        requires { index < 15 }
+        ensures { result ≡ index }
+    {
+        AccentIndex { index }
+    }
+
+    pub fn get(self) -> u8
+        ensures value { result ≡ self }
+        ensures high { result < 15 }
+    {
+        self.index
+    }
+}
+
+#[derive(Clone, Copy, Debug, PartialEq, Eq)]
+pub enum Action {
+    Nop,
+    Mod(Modifier),
+    Lock(Lock),
+    BackTab,
+    NextScreen,
+    PreviousScreen,
+    Screen(ScreenNumber),
+    Function(FunctionNumber),
+    DeadKey(AccentIndex),
+    Boot,
+    Debug,
+    Suspend,
+    Saver,
+    Standby,
+    Panic,
+    Halt,
+    PowerDown,
+    Paste,
+}
+
+impl Action {
+    ghost use Rattle.keymap_core.specs.Actions.{IsAction, code_of, action_of, plain_actions, holding_of};
+
+    /// The code of an action in a table.
+    pub fn code(self) -> u8
+        ensures known { IsAction self }
+        ensures code { result ≡ code_of self }
+    {
+        match &self {
+            Action::Nop => 0x00,
+            Action::Mod(Modifier::LeftShift) => 0x02,
+            Action::Mod(Modifier::RightShift) => 0x03,
+            Action::Mod(Modifier::LeftControl) => 0x09,
+            Action::Mod(Modifier::RightControl) => 0x80,
+            Action::Mod(Modifier::LeftAlt) => 0x07,
+            Action::Mod(Modifier::RightAlt) => 0x81,
+            Action::Mod(Modifier::AltShift) => 0x83,
+            Action::Mod(Modifier::Meta) => 0x84,
+            Action::Lock(Lock::Caps) => 0x04,
+            Action::Lock(Lock::Num) => 0x05,
+            Action::Lock(Lock::Scroll) => 0x06,
+            Action::Lock(Lock::Alt) => 0x82,
+            Action::BackTab => 0x08,
+            Action::NextScreen => 0x0a,
+            Action::PreviousScreen => 0x99,
+            Action::Screen(screen) => 0x0a + screen.get(),
+            Action::Function(function) => 0x1a + function.get(),
+            Action::DeadKey(accent) => 0x89 + accent.get(),
+            Action::Boot => 0x85,
+            Action::Debug => 0x86,
+            Action::Suspend => 0x87,
+            Action::Saver => 0x88,
+            Action::Standby => 0x98,
+            Action::Panic => 0x9a,
+            Action::Halt => 0xa1,
+            Action::PowerDown => 0xa2,
+            Action::Paste => 0xa3,
+        }
+    }
+
+    /// The holding action that it is, if it is one.
+    pub fn holding(self) -> Option<Holding>
+        ensures { result ≡ holding_of self }
+    {
+        match &self {
+            Action::Mod(modifier) => Some(Holding::Mod(*modifier)),
+            Action::Lock(lock) => Some(Holding::Lock(*lock)),
+            _ => None,
+        }
+    }
+
+    /// The action of a code.
+    pub fn from_code(code: u8) -> Option<Action>
+        ensures { result ≡ action_of code }
+    {
+        match code {
+            0x0b..=0x1a => Some(Action::Screen(ScreenNumber::new(code - 0x0a))),
+            0x1b..=0x7a => Some(Action::Function(FunctionNumber::new(code - 0x1a))),
+            0x89..=0x97 => Some(Action::DeadKey(AccentIndex::new(code - 0x89))),
+            _ => Action::plain(code),
+        }
+    }
+
+    /// The action without a number that has the code.
+    fn plain(code: u8) -> Option<Action>
+        ensures { result ≡ find (λ a. code_of a == code) plain_actions }
+    {
+        PLAIN_ACTIONS
+            .iter()
+            .copied()
+            .find(|action| action.code() == code)
+    }
+}
+
+/// The actions without a number.
+pub const PLAIN_ACTIONS: [Action; 25] = [
+    Action::Nop,
+    Action::Mod(Modifier::LeftShift),
+    Action::Mod(Modifier::RightShift),
+    Action::Lock(Lock::Caps),
+    Action::Lock(Lock::Num),
+    Action::Lock(Lock::Scroll),
+    Action::Mod(Modifier::LeftAlt),
+    Action::BackTab,
+    Action::Mod(Modifier::LeftControl),
+    Action::NextScreen,
+    Action::Mod(Modifier::RightControl),
+    Action::Mod(Modifier::RightAlt),
+    Action::Lock(Lock::Alt),
+    Action::Mod(Modifier::AltShift),
+    Action::Mod(Modifier::Meta),
+    Action::Boot,
+    Action::Debug,
+    Action::Suspend,
+    Action::Saver,
+    Action::Standby,
+    Action::PreviousScreen,
+    Action::Panic,
+    Action::Halt,
+    Action::PowerDown,
+    Action::Paste,
+];

@@ -1,0 +1,44 @@
+//! The code of a key.
+ghost use Rattle.std.specs.Prelude.{◌≡◌, ◌<◌, ◌↔◌, IfSome, IsSome};
+
+use std::marker::Model;
+
+/// The code of a key, 0 to 127.
+#[derive(Clone, Copy, Debug, PartialEq, Eq)]
+pub struct KeyCode {
+    code: u8,
+}
+
+impl Model for KeyCode {
+    ghost use Rattle.std.specs.Prelude.{ℕ, ◌<◌};
+
+    ghost Value = { ℕ };
+
+    ghost view = { λ k. k.code };
+
+    ghost invariant = { λ k. k.code < 128 };
+
+    ghost inverse = { λ n. record { code = n } };
+}
+
+impl KeyCode {
+    /// The key with this code, if there is one: none above 127.
+    pub fn new(code: u8) -> Option<KeyCode>
+        ensures some { IsSome result ↔ (code < 128) }
+        ensures same { IfSome result (λ key. key ≡ code) }
+    {
+        if code < 128 {
+            Some(KeyCode { code })
+        } else {
+            None
+        }
+    }
+
+    /// The key's code.
+    pub fn get(self) -> u8
+        ensures same { result ≡ self }
+        ensures in_range { result < 128 }
+    {
+        self.code
+    }
+}

@@ -1,0 +1,141 @@
+//! The keymap: `struct keymap` and `struct accentmap` of sys/kbio.h.
+ghost use Rattle.std.specs.Prelude.{◌≡◌, ◌<◌, ◌≤◌, ◌↔◌, [], IfOk, IfSome, OnOk, OnErr, IsErr, option_copied, slice_get};
+
+use crate::accent::Accent;
+use crate::entry::{Entry, UNDEFINED};
+use std::alloc::{AllocError, Global};
+use std::marker::Model;
+
+/// No accent has this index.
+#[derive(Clone, Copy, Debug, PartialEq, Eq)]
+pub struct BadAccent;
+
+const SLOTS: usize = 256;
+
+const ACCENTS: usize = 15;
+
+/// A keymap: its defined entries and accents.
+#[derive(Drop)]
+pub struct KeyMap {
+    entries: Vec<Entry>,
+    accents: Vec<Accent>,
+    /// The undefined entry, lent for each slot past the last.
+    past: Entry,
+}
+
+impl Model for KeyMap {
+    ghost use Rattle.keymap_core.specs.Maps.{MapValue};
+
+    ghost Value = { MapValue };
+
+    ghost use Rattle.keymap_core.specs.Inside.{IsSound};
+
+    ghost view = { λ m. record { entries = m.entries.items; accents = m.accents.items } };
+
+    ghost invariant = { IsSound };
+}
+
+impl KeyMap {
+    ghost use Rattle.keymap_core.specs.Maps.{entry_at, with_entry, with_accent, n_keys_of, n_accs_of};
+
+    /// The map of no keys, with room for all that a map ever holds.
+    pub fn new(alloc: Global) -> Result<KeyMap, AllocError>
+        ensures entries { IfOk result (λ m. m.entries ≡ []) }
+        ensures accents { IfOk result (λ m. m.accents ≡ []) }
+    {
+        let entries = Vec::with_capacity(alloc, SLOTS)?;
+        let accents = Vec::with_capacity(alloc, ACCENTS)?;
+        Ok(KeyMap {
+            entries,
+            accents,
+            past: UNDEFINED,
+        })
+    }
+
+    pub fn n_keys(&self) -> u16
+        ensures value { result ≡ n_keys_of self.now }
+        ensures bounded { result ≤ 256 }
+    {
+        self.entries.len() as u16
+    }
+
+    pub fn entry(&self, slot: u8) -> &Entry
+        ensures { result.now ≡ entry_at self.now slot }
+    {
+        self.entries.get(slot as usize).unwrap_or(&self.past)
+    }
+
+    pub fn set(&mut self, slot: u8, entry: Entry)
+        ensures { self.new ≡ with_entry self.old slot entry }
+    {
+        let index = slot as usize;
+        while self.entries.len() <= index {
+            self.entries.push_reserved(UNDEFINED);
+        }
+        self.entries[index] = entry;
+    }
+
+    pub fn n_accs(&self) -> u8
+        ensures value { result ≡ n_accs_of self.now }
+        ensures bounded { result ≤ 15 }
+    {
+        self.accents.len() as u8
+    }
+
+    pub fn accent(&self, index: u8) -> Option<&Accent>
+        ensures value { option_copied result ≡ slice_get self.now.accents index }
+        ensures in_range { IfSome result (λ _. index < 15) }
+    {
+        self.accents.get(index as usize)
+    }
+
+    pub fn set_accent(&mut self, index: u8, accent: Accent) -> Result<(), BadAccent>
+        ensures ok { OnOk result (self.new ≡ with_accent self.old index accent) }
+        ensures refused { IsErr result ↔ (14 < index) }
+        ensures err { OnErr result (self.new ≡ self.old) }
+    {
+        let index = index as usize;
+        if index >= ACCENTS {
+            return Err(BadAccent);
+        }
+        while self.accents.len() <= index {
+            self.accents.push_reserved(Accent::new('\0'));
+        }
+        self.accents[index] = accent;
+        Ok(())
+    }
+
+    pub fn try_clone(&self, alloc: Global) -> Result<KeyMap, AllocError>
+        ensures { IfOk result (λ m. m ≡ self.now) }
+    {
+        let mut entries = Vec::with_capacity(alloc, SLOTS)?;
+        let mut accents = Vec::with_capacity(alloc, ACCENTS)?;
+        for entry in &self.entries {
+            entries.push_reserved(*entry);
+        }
+        for accent in &self.accents {
+            accents.push_reserved(accent.copied());
+        }
+        Ok(KeyMap {
+            entries,
+            accents,
+            past: UNDEFINED,
+        })
+    }
+}
+
+impl PartialEq for KeyMap {
+    ghost use Rattle.std.specs.Cmp.Lexicographic.{pointwise, lists_per};
+    ghost use Rattle.std.specs.Cmp.{and_per, on_per};
+    ghost use Rattle.std.specs.Ordering.{on, eq_of_both};
+    ghost use Rattle.keymap_core.specs.contracts.entry.EntryPartialEq.TheImpl.Laws.{laws-law as entry-laws};
+    ghost use Rattle.keymap_core.specs.contracts.accent.AccentPartialEq.TheImpl.Laws.{laws-law as accent-laws};
+
+    ghost eq = { eq_of_both (on (λ m. m.entries) (pointwise ⟦<Entry as PartialEq>⟧.eq)) (on (λ m. m.accents) (pointwise ⟦<Accent as PartialEq>⟧.eq)) };
+
+    ghost laws = { and_per (on_per (λ m. m.entries) (lists_per entry-laws)) (on_per (λ m. m.accents) (lists_per accent-laws)) };
+
+    fn eq(&self, other: &KeyMap) -> bool {
+        self.entries == other.entries && self.accents == other.accents
+    }
+}

@@ -1,12 +1,15 @@
 -- The code of each action is that action's alone.
-use Rattle.std.proofs.Common.{◌≡◌, ℕ, ◌+◌, ◌-◌, ◌<◌, ◌≤◌, ◌==◌, nat_le, List, [], ◌∷◌, suc, zero, Bool, true, false, refl, arith, sym, ap, subst, inl, inr, rules}
-use Rattle.std.specs.Prelude.{◌&&◌, Some, None, Option, cond}
-use Rattle.std.specs.List.{find, list_all}
-use Rattle.std.proofs.lemmas.Bool.{and_parts, eqb-true, leb-true}
+use Rattle.std.proofs.Common.{◌↔◌, ◌∙◌, nat_lt, ◌≡◌, ℕ, ◌-◌, ◌<◌, ◌≤◌, ◌==◌, nat_le, List, [], ◌∷◌, Bool, true, false, refl, arith, sym, ap, subst, inl, inr}
+use Rattle.std.specs.Prelude.{◌||◌, is_none, Some, None, Option, cond}
+use Rattle.std.specs.List.{find, list_all, range_with_len}
+use Rattle.std.proofs.lemmas.Bool.{and_parts, cases_lt, eqb-true, leb-true}
 use Rattle.std.proofs.lemmas.Option.{none-some, same_Some}
 use Rattle.std.proofs.lemmas.Bool.Decides.{nat_tests}
 use Rattle.std.proofs.lemmas.Grind.{common_steps}
-use Rattle.keymap_core.specs.Actions.{IsAction, code_of, action_of, plain_actions, within}
+use Rattle.std.specs.Cmp.{booleans_Decides}
+use Rattle.std.proofs.Math.Bool.{beq}
+use Rattle.keymap_core.proofs.NameLaws.{all-in}
+use Rattle.keymap_core.specs.Actions.{IsAction, IsUnusedCode, code_of, action_of, plain_actions, within}
 use Rattle.keymap_core.specs.declared.action.Action.{Action}
 use Rattle.keymap_core.specs.declared.action.Action.TheVariants as a
 use Rattle.keymap_core.specs.declared.action.Modifier.TheVariants as m
@@ -90,3 +93,50 @@ action-has_code c action =
     (range-has_code c 0x1b 0x7a (a.Function (c - 0x1a)) action _ _ refl (λ low high. (omega arith, (omega arith, omega arith)))
     (range-has_code c 0x89 0x97 (a.DeadKey (c - 0x89)) action _ _ refl (λ low high. (omega arith, omega arith))
     (find-has_code c plain_actions action refl)))
+
+-- a code past those of the table is that of no action
+beyond-find : (c : ℕ) (xs : List Action) → list_all (λ x. nat_lt (code_of x) 0xa4) xs ≡ true → 0xa4 ≤ c → find (λ x. code_of x == c) xs ≡ None
+beyond-find c [] below h = refl
+beyond-find c (x ∷ xs) below h =
+    let parts = and_parts (nat_lt (code_of x) 0xa4) (list_all (λ y. nat_lt (code_of y) 0xa4) xs) below in
+    rw (differ (code_of x) c parts.0 h) (beyond-find c xs parts.1 h)
+  where
+    differ : (a c : ℕ) → nat_lt a 0xa4 ≡ true → 0xa4 ≤ c → a == c ≡ false
+    differ a c low high = grind (arith, nat_tests)
+
+beyond-none : (c : ℕ) → 0xa4 ≤ c → action_of c ≡ None
+beyond-none c h =
+    rw (beyond 0x0b 0x1a c h (omega arith), beyond 0x1b 0x7a c h (omega arith), beyond 0x89 0x97 c h (omega arith))
+    (beyond-find c plain_actions refl h)
+  where
+    beyond : (low high c : ℕ) → 0xa4 ≤ c → high < 0xa4 → within low high c ≡ false
+    beyond low high c h few = grind (arith, nat_tests)
+
+-- the same as a test
+abbrev is_unused_code : ℕ → Bool
+is_unused_code c = (c == 0x01) || within 0x7b 0x7f c || within 0x9b 0xa0 c || nat_le 0xa4 c
+
+unused-from_test : (c : ℕ) → is_unused_code c ≡ true → IsUnusedCode c
+unused-from_test c h = grind (arith, nat_tests)
+
+unused-as_test : (c : ℕ) → IsUnusedCode c → is_unused_code c ≡ true
+unused-as_test c h = grind (arith, nat_tests)
+
+-- computed over the table
+all-codes : list_all (λ c. beq (is_none (action_of c)) (is_unused_code c)) (range_with_len 0 0xa4) ≡ true
+all-codes = refl
+
+-- what the test says of each code
+same-as_test : (c : ℕ) → is_none (action_of c) ≡ is_unused_code c
+same-as_test c = elim (cases_lt c 0xa4) [
+  | inl below ↦ (booleans_Decides _ _).0 (all-in (λ c. beq (is_none (action_of c)) (is_unused_code c)) 0 0xa4 all-codes c (omega arith) (omega (arith, below)))
+  | inr above ↦ ap is_none (beyond-none c above) ∙ sym (unused-as_test c (inr (inr (inr above))))
+]
+
+is_none-None : (o : Option Action) → is_none o ≡ true → o ≡ None
+is_none-None None h = refl
+is_none-None (Some x) h = absurd (cc)
+
+pub unused-codes : (c : ℕ) → (action_of c ≡ None) ↔ IsUnusedCode c
+unused-codes c =
+    (λ e. unused-from_test c (sym (same-as_test c) ∙ ap is_none e), λ u. is_none-None (action_of c) (same-as_test c ∙ unused-as_test c u))

@@ -1,11 +1,12 @@
 -- The name of each action, read again, gives the action.
-use Rattle.std.proofs.Common.{◌≡◌, ℕ, ◌+◌, ◌<◌, ◌≤◌, ◌==◌, suc, zero, Bool, true, false, refl, arith, sym, ap, subst, inl, inr}
+use Rattle.std.proofs.Common.{List, All, map, ◌≡◌, ℕ, ◌+◌, ◌<◌, ◌≤◌, ◌==◌, suc, zero, Bool, true, false, refl, arith, sym, ap, subst, inl, inr}
 use Rattle.std.specs.Prelude.{◌&&◌}
 use Rattle.std.specs.List.{list_all, range_with_len}
+use Rattle.std.specs.Char.{to_ascii_lowercase}
 use Rattle.std.proofs.lemmas.Bool.{eqb-true}
 use Rattle.std.proofs.Math.Nat.{eq-or-lt_of_le}
 use Rattle.keymap_core.specs.Actions.{IsAction, name_of}
-use Rattle.keymap_core.specs.Names.{named_of}
+use Rattle.keymap_core.specs.Names.{named_of, meaning_of, combined_names}
 use Rattle.keymap_core.specs.declared.action.Action.{Action}
 use Rattle.keymap_core.specs.declared.action.Action.TheVariants as a
 use Rattle.keymap_core.specs.declared.action.Modifier.TheVariants as m
@@ -101,3 +102,16 @@ name-read a.Panic known = refl
 name-read a.Halt known = refl
 name-read a.PowerDown known = refl
 name-read a.Paste known = refl
+
+-- computed over the table
+pub combined-refused : All (λ word. named_of word ≡ n.Combined) combined_names
+combined-refused zero d h = refl
+combined-refused (suc zero) d h = refl
+combined-refused (suc (suc zero)) d h = refl
+combined-refused (suc (suc (suc zero))) d h = refl
+combined-refused (suc (suc (suc (suc zero)))) d h = refl
+combined-refused (suc (suc (suc (suc (suc zero))))) d h = refl
+combined-refused (suc (suc (suc (suc (suc (suc k)))))) d h = absurd (omega (arith, h))
+
+pub same-meaning : (a b : List ℕ) → map to_ascii_lowercase a ≡ map to_ascii_lowercase b → named_of a ≡ named_of b
+same-meaning a b h = ap meaning_of h

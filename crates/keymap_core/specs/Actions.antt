@@ -1,5 +1,5 @@
 -- The actions of a keymap: each with its code in a table and its name.
-use Rattle.std.specs.Prelude.{◌≡◌, ℕ, ◌+◌, ◌-◌, ◌*◌, ◌/◌, ◌%◌, ◌<◌, ◌≤◌, ◌==◌, nat_le, List, [], ◌∷◌, ◌++◌, codes, Option, Some, None, slice_index_or, if◌then◌else◌, ◌&&◌, Bool}
+use Rattle.std.specs.Prelude.{◌≡◌, ℕ, ◌+◌, ◌-◌, ◌/◌, ◌%◌, ◌<◌, ◌≤◌, ◌==◌, nat_le, List, [], ◌∷◌, ◌++◌, codes, Option, Some, None, slice_index_or, if◌then◌else◌, ◌&&◌, ◌⊎◌, Bool}
 use Rattle.std.specs.List.{find}
 use Rattle.keymap_core.specs.declared.action.Action.{Action}
 use Rattle.keymap_core.specs.declared.action.Action.TheVariants as a
@@ -64,6 +64,12 @@ code_of a = (row_of a).code
 abbrev pub name_of : Action → List ℕ
 name_of a = (row_of a).name
 
+-- the name without its digits, if it has some
+abbrev pub letters_of : Action → List ℕ
+letters_of (a.Screen n) = codes "scr"
+letters_of (a.Function n) = codes "fkey"
+letters_of a = name_of a
+
 -- the actions of the table: screens 1 to 16, function keys 1 to 96, accents 0 to 14
 abbrev pub IsAction : Action → Type 0
 IsAction (a.Screen n) = (0 < n) × (n ≤ 16)
@@ -79,6 +85,13 @@ plain_actions =
     ∷ a.Mod m.AltShift ∷ a.Mod m.Meta ∷ a.Boot ∷ a.Debug ∷ a.Suspend ∷ a.Saver ∷ a.Standby ∷ a.PreviousScreen ∷ a.Panic
     ∷ a.Halt ∷ a.PowerDown ∷ a.Paste ∷ []
 
+-- the dead keys, in the order of their accents
+abbrev pub dead_keys : List Action
+dead_keys =
+    a.DeadKey 0 ∷ a.DeadKey 1 ∷ a.DeadKey 2 ∷ a.DeadKey 3 ∷ a.DeadKey 4 ∷ a.DeadKey 5 ∷ a.DeadKey 6 ∷ a.DeadKey 7 ∷ a.DeadKey 8
+    ∷ a.DeadKey 9 ∷ a.DeadKey 10 ∷ a.DeadKey 11 ∷ a.DeadKey 12 ∷ a.DeadKey 13 ∷ a.DeadKey 14 ∷ []
+
+-- the number is in the range, both ends included
 abbrev pub within : ℕ → ℕ → ℕ → Bool
 within low high n = nat_le low n && nat_le n high
 
@@ -89,6 +102,11 @@ action_of c =
     else if within 0x1b 0x7a c then Some (a.Function (c - 0x1a))
     else if within 0x89 0x97 c then Some (a.DeadKey (c - 0x89))
     else find (λ a. code_of a == c) plain_actions
+
+-- the codes that no action has: those of the combined actions, 9b to a0, and the unused ones
+abbrev pub IsUnusedCode : ℕ → Type 0
+IsUnusedCode c =
+    (c ≡ 0x01) ⊎ ((0x7b ≤ c) × (c ≤ 0x7f)) ⊎ ((0x9b ≤ c) × (c ≤ 0xa0)) ⊎ (0xa4 ≤ c)
 
 -- a modifier's place in the list of the modifiers
 abbrev pub modifier_index : Modifier → ℕ

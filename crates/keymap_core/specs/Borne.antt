@@ -1,4 +1,4 @@
--- Which holding actions some key of a map bears, as a test.
+-- Which holding actions some key of a map bears, as tests that compute. Laws say that they tell what Bearers states.
 use Prim.Native.Nat.{zero, suc}
 use Rattle.std.specs.Prelude.{ℕ, ◌+◌, Bool, false, ◌&&◌, ◌||◌}
 use Rattle.keymap_core.specs.declared.action.Modifier.TheVariants as modifier
@@ -16,6 +16,7 @@ unfoldable pub any_below : (ℕ → Bool) → ℕ → Bool
 any_below test zero = false
 any_below test (suc n) = any_below test n || test n
 
+-- the cell is the action
 abbrev pub is_cell_of_action : Action → Cell → Bool
 is_cell_of_action a (Char c) = false
 is_cell_of_action a (Act b) = same_action b a

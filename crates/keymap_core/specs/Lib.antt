@@ -2,8 +2,10 @@ pub mod Accents
 pub mod Actions
 pub mod Bearers
 pub mod Borne
+pub mod Bounds
 pub mod Devices
 pub mod Inside
 pub mod Maps
 pub mod Names
+pub mod Streams
 pub mod Transfers

@@ -6,9 +6,7 @@ use Rattle.std.specs.Prelude.{Ok, Err}
 use Rattle.std.specs.Prelude.{Option}
 use Rattle.keymap_core.specs.declared.transfer.ReadError.{ReadError}
 use Rattle.keymap_core.specs.declared.transfer.ReadError.TheVariants.{Memory, Read}
-use Rattle.keymap_core.specs.declared.transfer.ReadFault.{ReadFault}
-use Rattle.keymap_core.specs.declared.transfer.ReadFaultKind.{ReadFaultKind}
-use Rattle.keymap_core.specs.declared.transfer.ReadFaultKind.TheVariants.{Device, Endless}
+use Rattle.keymap_core.specs.declared.transfer.ReadFaultKind.TheVariants.{Device}
 
 -- The bytes read are the first max bytes of those left, or all where there are fewer.
 pub record ReadsUpTo (max : ℕ) (old new : Option (List ℕ)) (bytes : List ℕ) : Type 0 where

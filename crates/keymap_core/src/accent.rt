@@ -1,18 +1,24 @@
 //! Accents and their pairs: `struct acc_t` of sys/kbio.h.
 ghost use Rattle.std.specs.Prelude.{◌≡◌, ◌≢◌, ◌≤◌, ◌↔◌, ◌++◌, [], ◌∷◌, length, OnOk, OnErr, IsErrOf};
+ghost use Rattle.std.specs.Char.{IsScalar};
+ghost use Rattle.keymap_core.specs.Accents.{AreScalars};
 
 use arrayvec::ArrayVec;
 use std::marker::Model;
 
+/// Why an accent takes no further pair.
 #[derive(Clone, Copy, Debug, PartialEq, Eq)]
 pub enum PairFault {
+    /// The base is character 0, which ends the pairs in a table.
     ZeroBase,
+    /// There are 52 pairs already.
     TooManyPairs,
 }
 
+/// How many pairs an accent has room for: `NUM_ACCENTCHARS` of sys/kbio.h.
 pub const PAIRS: usize = 52;
 
-/// An accent: its own character, and for each base the result.
+/// An accent: its own character, and 0 to 52 pairs of a base and the result. No base is character 0.
 #[derive(Debug, Drop, PartialEq, Eq)]
 pub struct Accent {
     own: char,
@@ -33,6 +39,10 @@ impl Model for Accent {
 }
 
 impl Accent {
+    ghost use Rattle.keymap_core.specs.Accents.{AllBasesNotZero};
+    ghost use Rattle.keymap_core.specs.Bounds.{IsAccent};
+
+    /// The accent with this character and no pairs.
     pub fn new(own: char) -> Accent
         ensures own { result.own ≡ own }
         ensures pairs { result.pairs ≡ [] }
@@ -43,19 +53,23 @@ impl Accent {
         }
     }
 
+    /// The character that the accent itself gives.
     pub fn own(&self) -> char
         ensures { result ≡ self.now.own }
     {
         self.own
     }
 
+    /// The pairs of a base and the result, in the order in which they were pushed.
     pub fn pairs(&self) -> &[(char, char)]
         ensures value { result.now ≡ self.now.pairs }
         ensures few { length result.now ≤ 52 }
+        ensures bases { AllBasesNotZero result.now }
     {
         self.pairs.as_slice()
     }
 
+    /// Adds a pair of a base and the result after the others.
     pub fn push_pair(&mut self, base: char, composed: char) -> Result<(), PairFault>
         ensures ok { OnOk result (self.new ≡ record self.old { pairs = self.old.pairs ++ (base, composed) ∷ [] }) }
         ensures zero { IsErrOf result PairFault.ZeroBase ↔ (base ≡ 0) }
@@ -81,4 +95,28 @@ impl Accent {
         }
         copy
     }
+
+    /// Reads each pair: so it is known what an accent holds.
+    pub(crate) fn has_bounds(&self)
+        ensures { IsAccent self.now }
+    {
+        is_scalar(self.own);
+        for pair in self.pairs() {
+            are_scalars(pair);
+        }
+    }
+}
+
+/// A character is a scalar value.
+fn is_scalar(c: char)
+    ensures { IsScalar c }
+{
+    let _ = c as u32;
+}
+
+fn are_scalars(pair: &(char, char))
+    ensures { AreScalars pair.now }
+{
+    is_scalar(pair.0);
+    is_scalar(pair.1);
 }

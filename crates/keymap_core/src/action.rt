@@ -1,12 +1,14 @@
-//! Actions, their codes and names.
+//! Actions and their codes: `u_char` values with a bit of `spcl` set in sys/kbio.h. The table of codes and names stands
+//! in specs/Actions.
 ghost use Rattle.std.specs.Prelude.{◌≡◌, ◌<◌, ◌≤◌, ◌==◌, find};
 
 use arrayvec::ArrayVec;
 use std::marker::Model;
 
-/// The name of an action.
+/// The name of an action: at most six bytes.
 pub type Name = ArrayVec<u8, 6>;
 
+/// A modifier: it is on while its key is pressed.
 #[derive(Clone, Copy, Debug, PartialEq, Eq)]
 pub enum Modifier {
     LeftShift,
@@ -15,15 +17,18 @@ pub enum Modifier {
     RightControl,
     LeftAlt,
     RightAlt,
+    /// It selects the upper half of the slots.
     AltShift,
     Meta,
 }
 
+/// A lock: each press of its key turns it.
 #[derive(Clone, Copy, Debug, PartialEq, Eq)]
 pub enum Lock {
     Caps,
     Num,
     Scroll,
+    /// It selects the upper half of the slots.
     Alt,
 }
 
@@ -97,7 +102,7 @@ impl Holding {
     }
 }
 
-/// The number of a screen, 1 to 16.
+/// The number of a screen, 1 to 16: `F_SCR` is the code of screen 1.
 #[derive(Clone, Copy, Debug, PartialEq, Eq)]
 pub struct ScreenNumber {
     number: u8,
@@ -116,6 +121,7 @@ impl Model for ScreenNumber {
 }
 
 impl ScreenNumber {
+    /// The screen with this number.
     pub fn new(number: u8) -> Self
         requires low { 0 < number }
         requires high { number ≤ 16 }
@@ -124,6 +130,7 @@ impl ScreenNumber {
         ScreenNumber { number }
     }
 
+    /// The number.
     pub fn get(self) -> u8
         ensures value { result ≡ self }
         ensures low { 0 < result }
@@ -133,7 +140,7 @@ impl ScreenNumber {
     }
 }
 
-/// The number of a function key, 1 to 96.
+/// The number of a function key, 1 to 96: `F_FN` is the code of function key 1.
 #[derive(Clone, Copy, Debug, PartialEq, Eq)]
 pub struct FunctionNumber {
     number: u8,
@@ -152,6 +159,7 @@ impl Model for FunctionNumber {
 }
 
 impl FunctionNumber {
+    /// The function key with this number.
     pub fn new(number: u8) -> Self
         requires low { 0 < number }
         requires high { number ≤ 96 }
@@ -160,6 +168,7 @@ impl FunctionNumber {
         FunctionNumber { number }
     }
 
+    /// The number.
     pub fn get(self) -> u8
         ensures value { result ≡ self }
         ensures low { 0 < result }
@@ -169,7 +178,7 @@ impl FunctionNumber {
     }
 }
 
-/// The index of an accent, 0 to 14.
+/// The index of an accent, 0 to 14: `F_ACC` is the code of the dead key of accent 0.
 #[derive(Clone, Copy, Debug, PartialEq, Eq)]
 pub struct AccentIndex {
     index: u8,
@@ -188,6 +197,7 @@ impl Model for AccentIndex {
 }
 
 impl AccentIndex {
+    /// The accent with this index.
     pub fn new(index: u8) -> Self
         requires { index < 15 }
         ensures { result ≡ index }
@@ -195,6 +205,7 @@ impl AccentIndex {
         AccentIndex { index }
     }
 
+    /// The index.
     pub fn get(self) -> u8
         ensures value { result ≡ self }
         ensures high { result < 15 }
@@ -203,6 +214,7 @@ impl AccentIndex {
     }
 }
 
+/// What a key does other than to give a character. The actions that join a modifier with the alt lock aren't among them.
 #[derive(Clone, Copy, Debug, PartialEq, Eq)]
 pub enum Action {
     Nop,
@@ -228,7 +240,7 @@ pub enum Action {
 impl Action {
     ghost use Rattle.keymap_core.specs.Actions.{IsAction, code_of, action_of, plain_actions, holding_of};
 
-    /// The code of an action in a table.
+    /// The code, as in sys/kbio.h.
     pub fn code(self) -> u8
         ensures known { IsAction self }
         ensures code { result ≡ code_of self }
@@ -276,7 +288,7 @@ impl Action {
         }
     }
 
-    /// The action of a code.
+    /// The action that has the code. The codes of the actions that join a modifier with the alt lock have none.
     pub fn from_code(code: u8) -> Option<Action>
         ensures { result ≡ action_of code }
     {
@@ -300,7 +312,7 @@ impl Action {
 }
 
 /// The actions without a number.
-pub const PLAIN_ACTIONS: [Action; 25] = [
+pub(crate) const PLAIN_ACTIONS: [Action; 25] = [
     Action::Nop,
     Action::Mod(Modifier::LeftShift),
     Action::Mod(Modifier::RightShift),
@@ -326,4 +338,23 @@ pub const PLAIN_ACTIONS: [Action; 25] = [
     Action::Halt,
     Action::PowerDown,
     Action::Paste,
+];
+
+/// The dead keys, in the order of their accents.
+pub(crate) const DEAD_KEYS: [Action; 15] = [
+    Action::DeadKey(AccentIndex { index: 0 }),
+    Action::DeadKey(AccentIndex { index: 1 }),
+    Action::DeadKey(AccentIndex { index: 2 }),
+    Action::DeadKey(AccentIndex { index: 3 }),
+    Action::DeadKey(AccentIndex { index: 4 }),
+    Action::DeadKey(AccentIndex { index: 5 }),
+    Action::DeadKey(AccentIndex { index: 6 }),
+    Action::DeadKey(AccentIndex { index: 7 }),
+    Action::DeadKey(AccentIndex { index: 8 }),
+    Action::DeadKey(AccentIndex { index: 9 }),
+    Action::DeadKey(AccentIndex { index: 10 }),
+    Action::DeadKey(AccentIndex { index: 11 }),
+    Action::DeadKey(AccentIndex { index: 12 }),
+    Action::DeadKey(AccentIndex { index: 13 }),
+    Action::DeadKey(AccentIndex { index: 14 }),
 ];

@@ -3,13 +3,14 @@ ghost use Rattle.std.specs.Prelude.{◌≡◌, length};
 
 use crate::action::Action;
 
+/// What a key gives in one column. Character 0 and the action `nop` are different cells.
 #[derive(Clone, Copy, Debug, PartialEq, Eq)]
 pub enum Cell {
     Char(char),
     Act(Action),
 }
 
-/// Which locks flip the shift bit of an entry's column.
+/// Which locks flip the shift bit of an entry's column: none, caps, num or both.
 #[derive(Clone, Copy, Debug, PartialEq, Eq)]
 pub enum LockFlag {
     O,
@@ -18,6 +19,7 @@ pub enum LockFlag {
     B,
 }
 
+/// The cells of a slot. The column is shift + 2 times control + 4 times alt.
 #[derive(Clone, Copy, Debug, PartialEq, Eq)]
 pub struct Entry {
     pub cells: [Cell; 8],
@@ -30,9 +32,10 @@ pub(crate) const UNDEFINED: Entry = Entry {
 };
 
 impl Entry {
+    ghost use Rattle.keymap_core.specs.Bounds.{IsCell, IsEntry};
     ghost use Rattle.keymap_core.specs.Maps.{undefined};
 
-    /// The entry of a slot that no definition names.
+    /// The entry of a slot that no definition names: eight characters 0 and flag O.
     pub fn undefined() -> Entry
         ensures { result ≡ undefined }
     {
@@ -49,5 +52,31 @@ impl Entry {
             let _ = cell;
         }
         cells
+    }
+
+    /// Reads each cell: so it is known what an entry holds.
+    pub(crate) fn has_bounds(&self)
+        ensures { IsEntry self.now }
+    {
+        for cell in self.cells() {
+            cell.has_bounds();
+        }
+    }
+}
+
+impl Cell {
+    ghost use Rattle.keymap_core.specs.Bounds.{IsCell};
+
+    fn has_bounds(&self)
+        ensures { IsCell self.now }
+    {
+        match self {
+            Cell::Char(c) => {
+                let _ = *c as u32;
+            }
+            Cell::Act(action) => {
+                let _ = action.code();
+            }
+        }
     }
 }

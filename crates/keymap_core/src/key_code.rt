@@ -1,4 +1,4 @@
-//! The code of a key.
+//! The code of a key: what the keyboard driver makes of scan codes.
 ghost use Rattle.std.specs.Prelude.{◌≡◌, ◌<◌, ◌↔◌, IfSome, IsSome};
 
 use std::marker::Model;

@@ -1,4 +1,16 @@
-//! The values of a keymap, and the devices that bytes come from and go to.
+//! The values of a keymap(5) of the FreeBSD console, and the devices that bytes come from and go to.
+//!
+//! A [`KeyMap`] is `struct keymap` and `struct accentmap` of sys/kbio.h: entries of eight cells and a lock flag, and
+//! accents with their pairs. A cell is a character or an [`Action`], which has a code in tables and a name in texts. A
+//! contract sees a map as the lists of its defined entries and accents, and specs/ states on these lists which slots are
+//! live and which keys bear which modifiers and locks. The crates for texts, tables and the translation stand on these
+//! values.
+//!
+//! [`Read`] and [`Write`] are the devices of all calls that read or write: their laws say which bytes a call took, and
+//! that a failure is never taken for an end. A caller learns of each call how many bytes were taken before a fault.
+//!
+//! Nothing here takes memory but [`KeyMap::new`], [`KeyMap::try_clone`] and [`read_up_to`]. A map reserves at once all
+//! that it ever holds, so no later change can fail. The texts and names of fixed capacity are those of `arrayvec`.
 #![tactic(auto)]
 
 mod accent;
@@ -10,6 +22,11 @@ mod key_code;
 pub mod laws;
 mod map;
 mod named;
+mod names;
+mod stream;
+#[cfg(test)]
+mod tests;
+mod to_std;
 mod transfer;
 
 pub use accent::{Accent, PairFault};
@@ -18,8 +35,10 @@ pub use action::{
 };
 pub use device::{Failed, Read, Write};
 pub use entry::{Cell, Entry, LockFlag};
-pub use from_std::{FromStd, ToStd};
+pub use from_std::FromStd;
 pub use key_code::KeyCode;
 pub use map::{BadAccent, KeyMap};
 pub use named::Named;
+pub use stream::Stream;
+pub use to_std::ToStd;
 pub use transfer::{ReadError, ReadFault, ReadFaultKind, WriteFault, put, read_up_to, write_text};

@@ -6,16 +6,18 @@ use crate::entry::{Entry, UNDEFINED};
 use std::alloc::{AllocError, Global};
 use std::marker::Model;
 
-/// No accent has this index.
+/// No accent has this index: it is above 14.
 #[derive(Clone, Copy, Debug, PartialEq, Eq)]
 pub struct BadAccent;
 
+/// `NUM_KEYS` of sys/kbio.h.
 const SLOTS: usize = 256;
 
+/// `NUM_DEADKEYS` of sys/kbio.h.
 const ACCENTS: usize = 15;
 
 /// A keymap: its defined entries and accents.
-#[derive(Drop)]
+#[derive(Debug, Drop)]
 pub struct KeyMap {
     entries: Vec<Entry>,
     accents: Vec<Accent>,
@@ -52,6 +54,7 @@ impl KeyMap {
         })
     }
 
+    /// How many slots there are up to the last defined one, 0 to 256.
     pub fn n_keys(&self) -> u16
         ensures value { result ≡ n_keys_of self.now }
         ensures bounded { result ≤ 256 }
@@ -59,12 +62,14 @@ impl KeyMap {
         self.entries.len() as u16
     }
 
+    /// The entry of the slot, undefined past the last defined one.
     pub fn entry(&self, slot: u8) -> &Entry
         ensures { result.now ≡ entry_at self.now slot }
     {
         self.entries.get(slot as usize).unwrap_or(&self.past)
     }
 
+    /// Defines the slot. Slots below it that weren't defined stay undefined.
     pub fn set(&mut self, slot: u8, entry: Entry)
         ensures { self.new ≡ with_entry self.old slot entry }
     {
@@ -75,6 +80,7 @@ impl KeyMap {
         self.entries[index] = entry;
     }
 
+    /// How many accents there are up to the last defined one, 0 to 15.
     pub fn n_accs(&self) -> u8
         ensures value { result ≡ n_accs_of self.now }
         ensures bounded { result ≤ 15 }
@@ -82,6 +88,7 @@ impl KeyMap {
         self.accents.len() as u8
     }
 
+    /// The accent, if its index is below the number of accents.
     pub fn accent(&self, index: u8) -> Option<&Accent>
         ensures value { option_copied result ≡ slice_get self.now.accents index }
         ensures in_range { IfSome result (λ _. index < 15) }
@@ -89,6 +96,7 @@ impl KeyMap {
         self.accents.get(index as usize)
     }
 
+    /// Defines the accent. Where the index is above 14 the accent is dropped.
     pub fn set_accent(&mut self, index: u8, accent: Accent) -> Result<(), BadAccent>
         ensures ok { OnOk result (self.new ≡ with_accent self.old index accent) }
         ensures refused { IsErr result ↔ (14 < index) }
@@ -105,6 +113,7 @@ impl KeyMap {
         Ok(())
     }
 
+    /// A copy of the map.
     pub fn try_clone(&self, alloc: Global) -> Result<KeyMap, AllocError>
         ensures { IfOk result (λ m. m ≡ self.now) }
     {
@@ -124,6 +133,22 @@ impl KeyMap {
     }
 }
 
+impl KeyMap {
+    ghost use Rattle.keymap_core.specs.Bounds.{IsMap};
+
+    /// Reads each entry and accent: so it is known what a map holds.
+    pub(crate) fn has_bounds(&self)
+        ensures { IsMap self.now }
+    {
+        for entry in &self.entries {
+            entry.has_bounds();
+        }
+        for accent in &self.accents {
+            accent.has_bounds();
+        }
+    }
+}
+
 impl PartialEq for KeyMap {
     ghost use Rattle.std.specs.Cmp.Lexicographic.{pointwise, lists_per};
     ghost use Rattle.std.specs.Cmp.{and_per, on_per};
@@ -138,4 +163,13 @@ impl PartialEq for KeyMap {
     fn eq(&self, other: &KeyMap) -> bool {
         self.entries == other.entries && self.accents == other.accents
     }
+}
+
+impl Eq for KeyMap {
+    ghost use Rattle.std.specs.Cmp.Lexicographic.{lists_equiv};
+    ghost use Rattle.std.specs.Cmp.{and_equiv, on_equiv};
+    ghost use Rattle.keymap_core.specs.contracts.entry.EntryEq.TheImpl.Laws.{laws-law as entry-laws};
+    ghost use Rattle.keymap_core.specs.contracts.accent.AccentEq.TheImpl.Laws.{laws-law as accent-laws};
+
+    ghost laws = { and_equiv (on_equiv (λ m. m.entries) (lists_equiv entry-laws)) (on_equiv (λ m. m.accents) (lists_equiv accent-laws)) };
 }

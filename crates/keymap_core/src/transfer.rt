@@ -1,4 +1,5 @@
-//! Loops over devices.
+//! Loops over devices: a whole text is written and the bytes of a reader are gathered. A failure ends a loop, and nothing is
+//! tried again.
 ghost use Rattle.std.specs.Prelude.{◌≡◌, ℕ, ◌+◌, ◌^◌, ◌<◌, ◌≤◌, ◌||◌, List, length, take, IfOk, IfErr, IfSome, OnErr, OnOk, true, is_err, vec_len, MatchResult};
 ghost use Rattle.std.specs.Io.KnownBytes.{Consumes, IsAtEnd, Appends};
 ghost use Rattle.keymap_core.specs.Devices.{WritesText, PutsPiece};
@@ -7,12 +8,13 @@ ghost use Rattle.keymap_core.specs.Transfers.{ReadsUpTo, IsDeviceFault, fails_de
 use crate::device::{Failed, Read, Write};
 use std::alloc::Global;
 
-/// How many bytes a writer took before it failed.
+/// A writer failed, after it had taken so many bytes.
 #[derive(Clone, Copy, Debug, PartialEq, Eq)]
 pub struct WriteFault {
     pub written: u64,
 }
 
+/// Why reading ended before its time.
 #[derive(Clone, Copy, Debug, PartialEq, Eq)]
 pub enum ReadFaultKind {
     /// The reader failed.
@@ -21,22 +23,26 @@ pub enum ReadFaultKind {
     Endless,
 }
 
-/// A fault of a reader, after so many bytes.
+/// A fault of a reader, after so many bytes were taken from it.
 #[derive(Clone, Copy, Debug, PartialEq, Eq)]
 pub struct ReadFault {
     pub offset: u64,
     pub kind: ReadFaultKind,
 }
 
+/// Why no bytes were gathered.
 #[derive(Debug, Drop)]
 pub enum ReadError {
+    /// Memory was refused.
     Memory,
+    /// The reader failed.
     Read(ReadFault),
 }
 
-const PIECE: usize = 512;
+/// How many bytes are asked for at once.
+const PIECE: usize = 4096;
 
-/// Reads until the end, or until `max` bytes were taken.
+/// Reads until the end, or until `max` bytes were taken, in at most `max` + 1 reads.
 pub fn read_up_to<R: Read>(alloc: Global, reader: &mut R, max: usize) -> Result<Vec<u8>, ReadError>
     ensures ok { IfOk result (λ bytes. ReadsUpTo max (R.remaining reader.old) (R.remaining reader.new) bytes.items) }
     ensures failed { R.has_failed reader.new ≡ (fails_device result || R.has_failed reader.old) }

@@ -1,0 +1,51 @@
+-- `==` of values tells whether they are the same.
+use Rattle.std.proofs.Common.{◌≡◌, ◌==◌, ℕ, Bool, ap, rules}
+use Rattle.std.specs.Prelude.{◌&&◌}
+use Rattle.std.specs.Bool.{Decides}
+use Rattle.std.specs.Cmp.Lexicographic.{pointwise, pointwise_decides}
+use Rattle.std.proofs.lemmas.Bool.{and_parts, and_from}
+use Rattle.keymap_core.specs.Accents.{AccentValue}
+use Rattle.keymap_core.specs.Maps.{MapValue}
+use Rattle.keymap_core.specs.declared.entry.Cell.{Cell}
+use Rattle.keymap_core.specs.declared.entry.Entry.{Entry}
+use Rattle.keymap_core.specs.contracts.entry.CellPartialEq.TheImpl as cell
+use Rattle.keymap_core.specs.contracts.entry.EntryPartialEq.TheImpl as entry
+use Rattle.keymap_core.specs.contracts.entry.LockFlagPartialEq.TheImpl as flag
+use Rattle.keymap_core.specs.contracts.accent.AccentPartialEq.TheImpl as accent
+use Rattle.keymap_core.specs.declared.entry.LockFlag.{LockFlag}
+
+-- two tests together tell two facts
+both-Decides : (p q : Bool) (P Q : Type 0) → Decides p P → Decides q Q → Decides (p && q) (P × Q)
+both-Decides p q P Q d e =
+    (λ h. let parts = and_parts p q h in (d.0 parts.0, e.0 parts.1), λ h. and_from p q (d.1 h.0) (e.1 h.1))
+
+cell-same : (a b : Cell) → Decides (cell.eq-value.it a b) (a ≡ b)
+cell-same a b = search rules
+
+flag-same : (a b : LockFlag) → Decides (flag.eq-value.it a b) (a ≡ b)
+flag-same a b = search rules
+
+pub entry-same : (a b : Entry) → Decides (entry.eq-value.it a b) (a ≡ b)
+entry-same a b =
+    let d = both-Decides _ _ _ _ (pointwise_decides cell-same a.cells b.cells) (flag-same a.flag b.flag) in (
+      λ h. let e = d.0 h in λ i. record { cells = e.0 i; flag = e.1 i },
+      λ e. d.1 (ap (λ (x : Entry). x.cells) e, ap (λ (x : Entry). x.flag) e),
+    )
+
+pair-same : (a b : ℕ × ℕ) → Decides ((a.0 == b.0) && (a.1 == b.1)) (a ≡ b)
+pair-same a b = search rules
+
+pub accent-same : (a b : AccentValue) → Decides (accent.eq-value.it a b) (a ≡ b)
+accent-same a b =
+    let d = both-Decides _ _ _ _ (search rules) (pointwise_decides pair-same a.pairs b.pairs) in (
+      λ h. let e = d.0 h in λ i. record { own = e.0 i; pairs = e.1 i },
+      λ e. d.1 (ap (λ (x : AccentValue). x.own) e, ap (λ (x : AccentValue). x.pairs) e),
+    )
+
+pub map-same : (a b : MapValue)
+    → Decides (pointwise entry.eq-value.it a.entries b.entries && pointwise accent.eq-value.it a.accents b.accents) (a ≡ b)
+map-same a b =
+    let d = both-Decides _ _ _ _ (pointwise_decides entry-same a.entries b.entries) (pointwise_decides accent-same a.accents b.accents) in (
+      λ h. let e = d.0 h in λ i. record { entries = e.0 i; accents = e.1 i },
+      λ e. d.1 (ap (λ (x : MapValue). x.entries) e, ap (λ (x : MapValue). x.accents) e),
+    )

@@ -1,0 +1,77 @@
+-- A text that goes to a writer through a buffer.
+use Rattle.std.proofs.Common.{◌≡◌, ℕ, ◌+◌, ◌<◌, ◌≤◌, List, [], ◌++◌, length, take, refl, sym, ap, ◌∙◌, append_assoc, append-nil, arith, length-append, subst}
+use Rattle.std.specs.Prelude.{Option, None, Some, Result, Ok, Err, IsErrAnd, MatchResult}
+use Rattle.std.proofs.lemmas.List.{take-append-le}
+use Rattle.std.proofs.Math.Seq.{take-append-add}
+use Rattle.std.specs.Io.KnownBytes.{Appends}
+use Rattle.keymap_core.specs.Streams.{StreamValue, Gathers, StopsIn}
+
+-- What is taken in two turns is taken in one.
+pub Appends-trans : (a b c : Option (List ℕ)) (xs ys : List ℕ) → Appends a b xs → Appends b c ys → Appends a c (xs ++ ys)
+Appends-trans None b c xs ys first second = tt
+Appends-trans (Some held) None c xs ys first second = absurd first
+Appends-trans (Some held) (Some mid) None xs ys first second = absurd second
+Appends-trans (Some held) (Some mid) (Some last) xs ys first second =
+    second ∙ ap (λ v. v ++ ys) first ∙ append_assoc held xs ys
+
+-- The buffer was taken.
+pub Gathers-flushed : {start mid : Option (List ℕ)} (new : Option (List ℕ)) {before : StreamValue} (after : StreamValue) {text : List ℕ} → Gathers start mid before text → after.written ≡ before.written + length before.waiting → Appends mid new before.waiting → after.waiting ≡ [] → Gathers start new after text
+Gathers-flushed {start = start} {mid = mid} new {before = before} after g counted taken empty = record {
+  front = g.front ++ before.waiting;
+  taken = Appends-trans start mid new g.front before.waiting g.taken taken;
+  counted = omega (arith, length-append g.front before.waiting, g.counted, counted);
+  whole = g.whole ∙ sym (rw empty (append-nil (g.front ++ before.waiting)));
+}
+
+-- The buffer got a piece.
+pub Gathers-more : {start now : Option (List ℕ)} {before : StreamValue} (after : StreamValue) {text : List ℕ} (piece : List ℕ) → Gathers start now before text → after.written ≡ before.written → after.waiting ≡ before.waiting ++ piece → Gathers start now after (text ++ piece)
+Gathers-more {before = before} after piece g counted grown = record {
+  front = g.front;
+  taken = g.taken;
+  counted = counted ∙ g.counted;
+  whole = rw grown (ap (λ v. v ++ piece) g.whole ∙ append_assoc g.front before.waiting piece);
+}
+
+-- The writer failed within the buffer.
+pub Gathers-stops : {start mid : Option (List ℕ)} (new : Option (List ℕ)) {before : StreamValue} {text : List ℕ} (w : ℕ) (rest : List ℕ) → Gathers start mid before text → ((k : ℕ) × (k < length before.waiting) × (w ≡ before.written + k) × Appends mid new (take k before.waiting)) → StopsIn start new (text ++ rest) w
+Gathers-stops {start = start} {mid = mid} new {before = before} {text = text} w rest g fault =
+    let buffer = before.waiting in
+    let k = fault.0 in
+    let short : k ≤ length buffer = omega (arith, fault.1) in
+    let counted : w ≡ length g.front + k = omega (arith, fault.2, g.counted) in
+    let all : text ++ rest ≡ g.front ++ (buffer ++ rest) =
+    ap (λ v. v ++ rest) g.whole ∙ append_assoc g.front buffer rest in
+    let front : take w (text ++ rest) ≡ g.front ++ take k buffer =
+    rw (counted, all, take-append-add g.front (buffer ++ rest) k, take-append-le k buffer rest short) refl in
+    let long : length (text ++ rest) ≡ length g.front + (length buffer + length rest) = rw (all) (simp length-append) in
+    (omega (arith, fault.1, counted), rw front (Appends-trans start mid new g.front (take k buffer) g.taken fault.3))
+
+-- The same text, written in another way.
+pub Gathers-same : {start now : Option (List ℕ)} {stream : StreamValue} (text : List ℕ) {same : List ℕ} → text ≡ same → Gathers start now stream text → Gathers start now stream same
+Gathers-same text equal g = record { front = g.front; taken = g.taken; counted = g.counted; whole = sym equal ∙ g.whole }
+
+-- The writer failed in a longer text.
+pub StopsIn-more : (start now : Option (List ℕ)) (text rest all : List ℕ) (w : ℕ) → all ≡ text ++ rest → StopsIn start now text w → StopsIn start now all w
+StopsIn-more start now text rest all w parts stops =
+    let short : w ≤ length text = omega (arith, stops.0) in
+    let front : take w all ≡ take w text = rw (parts) (take-append-le w text rest short) in
+    let long : length all ≡ length text + length rest = rw (parts) (length-append text rest) in
+    (omega (arith, stops.0), rw front stops.1)
+
+-- what a `?` passes on
+pub passed_on : {X E : Type 0} (r : Result X E) (e : E) (P : X → Type 0) (Q : E → Type 0) → IsErrAnd r (λ f. f ≡ e) → Q e → MatchResult r P Q
+passed_on (Ok x) e P Q is here = absurd is
+passed_on (Err f) e P Q is here = subst Q (sym is) here
+
+-- Nothing was written yet.
+pub Gathers-start : (now : Option (List ℕ)) (stream : StreamValue) → stream.waiting ≡ [] → stream.written ≡ 0 → Gathers now now stream []
+Gathers-start now stream empty none = record {
+  front = [];
+  taken = Appends-nothing now;
+  counted = none;
+  whole = sym empty;
+}
+  where
+    Appends-nothing : (now : Option (List ℕ)) → Appends now now []
+    Appends-nothing None = tt
+    Appends-nothing (Some held) = sym (append-nil held)

@@ -1,0 +1,11 @@
+use Rattle.std.proofs.Common.{◌≡◌, min, take, true}
+use Rattle.std.specs.List.{list_all}
+use Rattle.std.specs.Char.{is_ascii_digit}
+use Rattle.keymap_core.specs.Names.{digits_value}
+use Rattle.keymap_core.proofs.named.decimal_of.Given as goal
+
+abbrev pub invariant-loop-digit : goal.invariant-loop-digit
+invariant-loop-digit l = record {
+  value : l.number ≡ min (digits_value (take l.digit-index l.digits)) 255;
+  so_far : list_all is_ascii_digit (take l.digit-index l.digits) ≡ true;
+}

@@ -1,0 +1,76 @@
+//! Writing through a buffer of fixed size, so that a text of many small pieces costs few writes.
+ghost use Rattle.std.specs.Prelude.{◌≡◌, ℕ, ◌+◌, ◌^◌, ◌<◌, ◌≤◌, ◌||◌, [], List, Option, length, is_err, OnOk};
+ghost use Rattle.keymap_core.specs.Devices.{WritesText, PutsPiece};
+ghost use Rattle.keymap_core.specs.Streams.{Gathers, Pushes, size_of};
+
+use crate::device::Write;
+use crate::transfer::{WriteFault, put};
+use arrayvec::ArrayVec;
+use std::marker::Model;
+
+/// How many bytes are gathered before they are written.
+const GATHERED: usize = 4096;
+
+/// Bytes on their way to a writer: how many it took, and those that still wait in the buffer.
+#[derive(Drop)]
+pub struct Stream {
+    buffer: ArrayVec<u8, GATHERED>,
+    written: u64,
+}
+
+impl Model for Stream {
+    ghost use Rattle.std.specs.Prelude.{length, ◌≤◌};
+    ghost use Rattle.keymap_core.specs.Streams.{StreamValue};
+
+    ghost Value = { StreamValue };
+
+    ghost view = { λ s. record { written = s.written; waiting = s.buffer.items } };
+}
+
+impl Stream {
+    /// A stream of which nothing was written.
+    pub fn new() -> Stream
+        ensures none { result.written ≡ 0 }
+        ensures empty { result.waiting ≡ [] }
+    {
+        Stream {
+            buffer: ArrayVec::new(),
+            written: 0,
+        }
+    }
+
+    /// Writes what waits. The answer is how many bytes were written by then.
+    fn flush<W: Write>(&self, writer: &mut W) -> Result<u64, WriteFault>
+        requires { size_of self.now < 2 ^ 64 }
+        ensures bytes { PutsPiece (λ f. f.written) (W.contents writer.old) (W.contents writer.new) self.now.written self.now.waiting result }
+        ensures failed { W.has_failed writer.new ≡ (is_err result || W.has_failed writer.old) }
+    {
+        put(writer, self.written, self.buffer.as_slice())
+    }
+
+    /// Adds a piece of at most 4,096 bytes to the text. What waits is written first where the buffer has no room.
+    pub fn push<W: Write>(&mut self, writer: &mut W, piece: &[u8]) -> Result<(), WriteFault>
+        requires small { length piece.now ≤ 4096 }
+        requires counted { size_of self.old + length piece.now < 2 ^ 64 }
+        ensures bytes { Pushes (W.contents writer.old) (W.contents writer.new) self.old self.new piece.now result }
+        ensures count { OnOk result (size_of self.new ≡ size_of self.old + length piece.now) }
+        ensures failed { W.has_failed writer.new ≡ (is_err result || W.has_failed writer.old) }
+    {
+        if self.buffer.remaining_capacity() < piece.len() {
+            self.written = self.flush(writer)?;
+            self.buffer.clear();
+        }
+        self.buffer.try_extend_from_slice(piece).unwrap();
+        Ok(())
+    }
+
+    /// Writes what is left of the text.
+    pub fn finish<W: Write>(&self, writer: &mut W) -> Result<(), WriteFault>
+        requires { size_of self.now < 2 ^ 64 }
+        ensures bytes { (start : Option (List ℕ)) (text : List ℕ) → Gathers start (W.contents writer.old) self.now text → WritesText (λ f. f.written) start (W.contents writer.new) text result }
+        ensures failed { W.has_failed writer.new ≡ (is_err result || W.has_failed writer.old) }
+    {
+        self.flush(writer)?;
+        Ok(())
+    }
+}

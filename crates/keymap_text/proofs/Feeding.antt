@@ -1,0 +1,98 @@
+-- A text that is read from a device, piece by piece.
+use Rattle.std.proofs.Common.{◌≡◌, ℕ, zero, suc, ◌+◌, ◌≤◌, ◌<◌, ◌||◌, Bool, List, [], ◌∷◌, ◌++◌, length, take, refl, sym, ◌∙◌, ap, subst, arith, Option, Some, None, Result, Ok, Err, length-append, append-nil}
+use mathlib.Core.Logic.{inl, inr}
+use Rattle.std.specs.Io.KnownBytes.{Consumes, IsAtEnd, Keeps}
+use Rattle.std.proofs.KnownBytes.{Consumes-trans, Consumes-kept, Consumes-nil}
+use Rattle.keymap_core.specs.Maps.{MapValue}
+use Rattle.keymap_core.specs.declared.transfer.ReadFaultKind.TheVariants as kinds
+use Rattle.keymap_text.specs.declared.fault.TextError.{TextError}
+use Rattle.keymap_text.specs.declared.fault.TextError.TheVariants as errors
+use Rattle.keymap_text.specs.declared.fault.TextFault.{TextFault}
+use Rattle.keymap_text.specs.Progress.{Progress}
+use Rattle.keymap_text.specs.Reading.{verdict, judge, Spelled}
+use Rattle.keymap_text.specs.Lexical.{split}
+use Rattle.keymap_text.specs.Grammar.{empty_map, at_end}
+use Rattle.keymap_text.specs.Standing.{StandsAfter, FedAfter, Concludes}
+use Rattle.keymap_text.specs.Sources.{limit, HasNoEarlyFault, TakesWhole, FailsInside, GoesPast, ReadsMap, names_device}
+use Rattle.keymap_text.proofs.Verdicts.{spells_from, fault_or_map}
+
+-- The reader stands after the bytes that the device gave, which have no early fault.
+pub record IsFed (old new : Option (List ℕ)) (reader : Progress) (taken : ℕ) : Type 0 where
+  pub text : List ℕ
+  pub consumed : Consumes old new text
+  pub size : length text ≡ taken
+  pub stands : StandsAfter reader text
+  pub sound : HasNoEarlyFault text
+
+empty_verdict : verdict [] ≡ Spelled empty_map
+unfolding judge split at_end
+empty_verdict = refl
+
+none_early : HasNoEarlyFault []
+none_early f e = never _ (sym (fault_or_map [] empty_map (spells_from [] empty_map empty_verdict)) ∙ e.0)
+  where
+    never : {A : Type 0} (x : A) → None ≡ Some x → ⊥
+    never x h = cc
+
+pub fed_none : (old : Option (List ℕ)) (r : Progress) → StandsAfter r [] → IsFed old old r 0
+fed_none old r h = record { text = []; consumed = Consumes-nil old; size = refl; stands = h; sound = none_early }
+
+pub piece_length : (n : ℕ) (buffer : List ℕ) → n ≤ length buffer → length (take n buffer) ≡ n
+piece_length zero buffer h = refl
+piece_length (suc n) [] h = absurd (omega (arith, h))
+piece_length (suc n) (c ∷ buffer) h = ap suc (piece_length n buffer (omega (arith, h)))
+
+pub fed_more : {a b c : Option (List ℕ)} {r r' : Progress} {taken n : ℕ} → (buffer : List ℕ) → (fed : IsFed a b r taken) → Consumes b c (take n buffer) → n ≤ length buffer → FedAfter (Ok tt) r' (fed.text ++ take n buffer) → IsFed a c r' (taken + n)
+fed_more {a = a} {b = b} {c = c} {n = n} buffer fed h l k = record {
+  text = fed.text ++ take n buffer;
+  consumed = Consumes-trans a b c _ _ fed.consumed h;
+  size = omega (arith, length-append fed.text (take n buffer), piece_length n buffer l, fed.size);
+  stands = k.0;
+  sound = k.1;
+}
+
+pub fed_early : {a b c : Option (List ℕ)} {r : Progress} {taken n : ℕ} {f : TextFault} → (r' : Progress) → (buffer : List ℕ) → (fed : IsFed a b r taken) → Consumes b c (take n buffer) → n ≤ length buffer → taken + n ≤ limit → FedAfter (Err f) r' (fed.text ++ take n buffer) → ReadsMap a c (Err (errors.Fault f))
+fed_early {a = a} {b = b} {c = c} {n = n} r' buffer fed h l few k = (fed.text ++ take n buffer, inl (record { taken = Consumes-trans a b c _ _ fed.consumed h; few = omega (arith, length-append fed.text (take n buffer), piece_length n buffer l, fed.size, few) }, k.0))
+
+concluded : (a c : Option (List ℕ)) (result : Result MapValue TextError) (text : List ℕ) → Concludes result text → TakesWhole a c text → ReadsMap a c result
+concluded a c (Ok m) text h w = (text, w, h)
+concluded a c (Err errors.Memory) text h w = absurd h
+concluded a c (Err (errors.Read f)) text h w = absurd h
+concluded a c (Err (errors.Fault f)) text h w = (text, inr (w, h))
+
+none_taken : (b c : Option (List ℕ)) (n : ℕ) (buffer : List ℕ) → n ≡ 0 → Consumes b c (take n buffer) → Consumes b c []
+none_taken b c n buffer z h = subst (λ (n : ℕ). Consumes b c (take n buffer)) z h
+
+pub fed_whole : {a b : Option (List ℕ)} {r : Progress} {taken n : ℕ} → (c : Option (List ℕ)) → (buffer : List ℕ) → (result : Result MapValue TextError) → (fed : IsFed a b r taken) → taken ≤ limit → n ≡ 0 → Consumes b c (take n buffer) → IsAtEnd c → Concludes result fed.text → ReadsMap a c result
+fed_whole {a = a} {b = b} {n = n} c buffer result fed few z h e k = concluded a c result fed.text k (record {
+  taken = subst (λ (t : List ℕ). Consumes a c t) (append-nil fed.text) (Consumes-trans a b c _ _ fed.consumed (none_taken b c n buffer z h));
+  few = omega (arith, fed.size, few);
+  end = e;
+})
+
+pub no_device : (result : Result MapValue TextError) (text : List ℕ) (b : Bool) → Concludes result text → (names_device result || b) ≡ b
+no_device (Ok m) text b h = refl
+no_device (Err errors.Memory) text b h = absurd h
+no_device (Err (errors.Read f)) text b h = absurd h
+no_device (Err (errors.Fault f)) text b h = refl
+
+pub fed_fails : {a b : Option (List ℕ)} {r : Progress} {taken : ℕ} → (c : Option (List ℕ)) → (offset : ℕ) → (fed : IsFed a b r taken) → taken ≡ offset → taken ≤ limit → Keeps b c → FailsInside a c (record { offset = offset; kind = kinds.Device })
+fed_fails {a = a} {b = b} c offset fed e few k = record { text = fed.text; takes = record { taken = Consumes-kept a b c fed.text fed.consumed k; few = omega (arith, fed.size, few) }; offset = fed.size ∙ e; sound = fed.sound }
+
+one_byte : (n : ℕ) (buffer : List ℕ) → 0 < n → n ≤ length buffer → length buffer ≡ 1 → (next : ℕ) × (take n buffer ≡ next ∷ [])
+one_byte zero buffer z l s = absurd (omega (arith, z))
+one_byte (suc n) [] z l s = absurd (omega (arith, l))
+one_byte (suc zero) (c ∷ buffer) z l s = (c, refl)
+one_byte (suc (suc n)) (c ∷ buffer) z l s = absurd (omega (arith, l, s))
+
+pub fed_past : {a b : Option (List ℕ)} {r : Progress} {taken n : ℕ} → (c : Option (List ℕ)) → (buffer : List ℕ) → (fed : IsFed a b r taken) → taken ≡ limit → 0 < n → n ≤ length buffer → length buffer ≡ 1 → Consumes b c (take n buffer) → GoesPast a c (record { offset = limit; kind = kinds.Endless })
+fed_past {a = a} {b = b} {n = n} c buffer fed full z l s h =
+    let one = one_byte n buffer z l s in
+    record {
+      text = fed.text;
+      next = one.0;
+      taken = Consumes-trans a b c _ _ fed.consumed (subst (λ (t : List ℕ). Consumes b c t) one.1 h);
+      full = fed.size ∙ full;
+      offset = refl;
+      sound = fed.sound;
+    }

@@ -1,0 +1,57 @@
+-- How many bytes at the front pass a test.
+use Rattle.std.proofs.Common.{◌≡◌, ℕ, suc, ◌+◌, ◌<◌, ◌≤◌, Bool, true, false, cond, List, [], ◌∷◌, ◌++◌, length, drop, get_or, refl, sym, ◌∙◌, ap, arith, add-one, drop-cons, length-append}
+use Rattle.std.proofs.lemmas.List.{at_drop_all}
+use Rattle.keymap_text.specs.Lexical.{leading}
+
+-- the number, where the first byte passes and where it does not
+pub leading_pass : (p : ℕ → Bool) (c : ℕ) (cs : List ℕ) → p c ≡ true → leading p (c ∷ cs) ≡ leading p cs + 1
+unfolding leading
+leading_pass p c cs h = ap (λ b. cond b (leading p cs + 1) 0) h
+
+pub leading_fail : (p : ℕ → Bool) (c : ℕ) (cs : List ℕ) → p c ≡ false → leading p (c ∷ cs) ≡ 0
+unfolding leading
+leading_fail p c cs h = ap (λ b. cond b (leading p cs + 1) 0) h
+
+pub leading_none : (p : ℕ → Bool) → leading p [] ≡ 0
+unfolding leading
+leading_none p = refl
+
+-- the same at an index of a list
+pub leading_pass_at : (p : ℕ → Bool) (xs : List ℕ) (i : ℕ) → i < length xs → p (get_or xs i 0) ≡ true → leading p (drop i xs) ≡ leading p (drop (i + 1) xs) + 1
+leading_pass_at p xs i h e = ap (leading p) (drop-cons xs i 0 h) ∙ leading_pass p _ _ e ∙ ap (λ n. leading p (drop n xs) + 1) (sym (add-one i))
+
+pub leading_fail_at : (p : ℕ → Bool) (xs : List ℕ) (i : ℕ) → i < length xs → p (get_or xs i 0) ≡ false → leading p (drop i xs) ≡ 0
+leading_fail_at p xs i h e = ap (leading p) (drop-cons xs i 0 h) ∙ leading_fail p _ _ e
+
+pub leading_end : (p : ℕ → Bool) (xs : List ℕ) (i : ℕ) → length xs ≤ i → leading p (drop i xs) ≡ 0
+leading_end p xs i h = at_drop_all (leading p) xs i h ∙ leading_none p
+
+le_case : (b : Bool) (n m : ℕ) → n ≤ m → cond b (n + 1) 0 ≤ suc m
+le_case true n m h = omega arith
+le_case false n m h = omega arith
+
+pub leading_le : (p : ℕ → Bool) (xs : List ℕ) → leading p xs ≤ length xs
+unfolding leading
+leading_le p [] = omega arith
+leading_le p (x ∷ xs) = le_case (p x) _ _ (leading_le p xs)
+
+-- bytes that all pass, and others behind them
+pub leading_append : (p : ℕ → Bool) (w y : List ℕ) → leading p w ≡ length w → leading p (w ++ y) ≡ length w + leading p y
+leading_append p [] y h = omega arith
+leading_append p (c ∷ w) y h = go (p c) refl (leading_append p w y)
+  where
+    go : (b : Bool) → p c ≡ b → (leading p w ≡ length w → leading p (w ++ y) ≡ length w + leading p y) → leading p (c ∷ (w ++ y)) ≡ suc (length w) + leading p y
+    go true e k = leading_pass p c (w ++ y) e ∙ ap (λ n. n + 1) (k (omega (arith, leading_pass p c w e, h))) ∙ omega arith
+    go false e k = absurd (omega (arith, leading_fail p c w e, h))
+
+pub leading_push : (p : ℕ → Bool) (w : List ℕ) (c : ℕ) → leading p w ≡ length w → p c ≡ true → leading p (w ++ c ∷ []) ≡ length (w ++ c ∷ [])
+leading_push p w c h e = leading_append p w (c ∷ []) h ∙ ap (λ n. length w + n) (leading_pass p c [] e ∙ ap (λ n. n + 1) (leading_none p)) ∙ sym (length-append w (c ∷ []))
+
+pub leading_tail : (p : ℕ → Bool) (c : ℕ) (w : List ℕ) → leading p (c ∷ w) ≡ suc (length w) → (p c ≡ true) × (leading p w ≡ length w)
+leading_tail p c w h = go (p c) refl
+  where
+    go : (b : Bool) → p c ≡ b → (p c ≡ true) × (leading p w ≡ length w)
+    go true e = (e, omega (arith, leading_pass p c w e, h))
+    go false e = absurd (omega (arith, leading_fail p c w e, h))
+
+pub ruleset leading_rules = (leading_pass_at, leading_fail_at, leading_end, leading_le)

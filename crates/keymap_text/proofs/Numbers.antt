@@ -1,0 +1,88 @@
+-- Names and numbers.
+use Rattle.std.proofs.Common.{◌≡◌, ℕ, suc, ◌+◌, ◌*◌, ◌^◌, ◌<◌, ◌≤◌, Bool, true, false, cond, ◌&&◌, List, [], ◌∷◌, length, take, drop, get_or, refl, sym, ◌∙◌, ap, arith, add-one, drop-cons, pow_mono, pow-add, nat_lt, Some, None, Option}
+use Rattle.std.proofs.Common.{mul-le-mul_left, ap₂}
+use Rattle.std.proofs.lemmas.List.{at_drop_all}
+use Rattle.std.proofs.lemmas.List.Sums.{fold_more}
+use Rattle.std.proofs.lemmas.List.Folds.{list_all_at, list_all_more}
+use Rattle.std.proofs.lemmas.Bool.Decides.{nat_tests}
+use Rattle.std.specs.List.{list_all}
+use Rattle.std.specs.Char.{digit_value}
+use Rattle.keymap_text.specs.declared.names.Name.{Name}
+use Rattle.keymap_text.specs.Words.{look, same_name, digits_of, number, is_digit}
+
+pub look_none : (w : List ℕ) → look [] w ≡ None
+unfolding look
+look_none w = refl
+
+pub look_here : (name : Name) (names : List Name) (w : List ℕ) → same_name name.text.now w ≡ true → look (name ∷ names) w ≡ Some name.meaning
+unfolding look
+look_here name names w h = ap (λ b. cond b (Some name.meaning) (look names w)) h
+
+pub look_on : (name : Name) (names : List Name) (w : List ℕ) → same_name name.text.now w ≡ false → look (name ∷ names) w ≡ look names w
+unfolding look
+look_on name names w h = ap (λ b. cond b (Some name.meaning) (look names w)) h
+
+pub look_end : (names : List Name) (i : ℕ) (w : List ℕ) → length names ≤ i → look (drop i names) w ≡ None
+look_end names i w h = at_drop_all (λ n. look n w) names i h ∙ look_none w
+
+pub look_here_at : (names : List Name) (i : ℕ) (d : Name) (w : List ℕ) → i < length names → same_name (get_or names i d).text.now w ≡ true → look (drop i names) w ≡ Some (get_or names i d).meaning
+look_here_at names i d w h e = ap (λ n. look n w) (drop-cons names i d h) ∙ look_here _ _ w e
+
+pub look_on_at : (names : List Name) (i : ℕ) (d : Name) (w : List ℕ) → i < length names → same_name (get_or names i d).text.now w ≡ false → look (drop i names) w ≡ look (drop (i + 1) names) w
+look_on_at names i d w h e = ap (λ n. look n w) (drop-cons names i d h) ∙ look_on _ _ w e ∙ ap (λ k. look (drop k names) w) (sym (add-one i))
+
+pub ruleset look_rules = (look_end, look_here_at, look_on_at)
+
+pub bound_step : (n base d i : ℕ) → n < 2 ^ (4 * i) → base ≤ 16 → d < base → n * base + d < 2 ^ (4 * (i + 1))
+bound_step n base d i h b e =
+    let k = mul-le-mul_left n b in
+    let p : 2 ^ (4 * (i + 1)) ≡ 2 ^ (4 * i) * 16 = ap (λ m. 2 ^ m) (four i) ∙ pow-add 2 (4 * i) 4 in
+    omega (arith, k, p)
+  where
+    four : (i : ℕ) → 4 * (i + 1) ≡ 4 * i + 4
+    four i = omega arith
+
+pub room : (i : ℕ) → i < 32 → 2 ^ (4 * (i + 1)) ≤ 2 ^ 128
+room i h = pow_mono {i = 4 * (i + 1)} {j = 128} (omega arith)
+
+pub product_fits : (n base i : ℕ) → n < 2 ^ (4 * i) → base ≤ 16 → i < 32 → n * base < 2 ^ 128
+product_fits n base i h b l =
+    let k = mul-le-mul_left n b in
+    let p : 2 ^ (4 * (i + 1)) ≡ 2 ^ (4 * i) * 16 = ap (λ m. 2 ^ m) (four i) ∙ pow-add 2 (4 * i) 4 in
+    omega (arith, k, p, room i l)
+  where
+    four : (i : ℕ) → 4 * (i + 1) ≡ 4 * i + 4
+    four i = omega arith
+
+pub digits_none : (base : ℕ) (w : List ℕ) → length w ≡ 0 → digits_of base w ≡ None
+unfolding digits_of
+digits_none base [] h = refl
+digits_none base (x ∷ w) h = absurd (omega (arith, h))
+
+pub digits_bad : (base : ℕ) (w : List ℕ) (i : ℕ) → i < length w → base ≤ digit_value (get_or w i 0) → digits_of base w ≡ None
+unfolding digits_of
+digits_bad base w i h e = ap (λ b. cond (nat_lt 0 (length w) && b) (Some (number base w)) None) (list_all_at (is_digit base) w i 0 h (le-nltb base _ e)) ∙ never (nat_lt 0 (length w)) (Some (number base w))
+  where
+    never : (b : Bool) (x : Option ℕ) → cond (b && false) x None ≡ None
+    never true x = refl
+    never false x = refl
+
+    le-nltb : (n d : ℕ) → n ≤ d → nat_lt d n ≡ false
+    le-nltb n d h = grind (arith, nat_tests)
+
+pub digits_good : (base : ℕ) (w : List ℕ) → 0 < length w → list_all (is_digit base) w ≡ true → digits_of base w ≡ Some (number base w)
+unfolding digits_of
+digits_good base [] h e = absurd (omega (arith, h))
+digits_good base (x ∷ w) h e = rw (some (length w), e) refl
+  where
+    some : (n : ℕ) → nat_lt 0 (suc n) ≡ true
+    some n = grind (arith, nat_tests)
+
+pub number_more : (base : ℕ) (w : List ℕ) (i : ℕ) → i < length w → number base (take (i + 1) w) ≡ number base (take i w) * base + digit_value (get_or w i 0)
+number_more base w i h = fold_more (λ n c. n * base + digit_value c) 0 w i 0 h
+
+pub digits_more : (base : ℕ) (w : List ℕ) (i : ℕ) → i < length w → list_all (is_digit base) (take i w) ≡ true → digit_value (get_or w i 0) < base → list_all (is_digit base) (take (i + 1) w) ≡ true
+digits_more base w i h e d = list_all_more (is_digit base) w i 0 h ∙ ap₂ (λ a b. a && b) e (lt-test _ _ d)
+  where
+    lt-test : (d n : ℕ) → d < n → nat_lt d n ≡ true
+    lt-test d n h = grind (arith, nat_tests)

@@ -1,0 +1,123 @@
+-- The name of each action is one word, which means that action.
+use Rattle.std.proofs.Common.{◌≡◌, ℕ, ◌<◌, ◌≤◌, Bool, true, false, map, refl, arith, nat_le, ◌⊎◌, inl, inr}
+use Rattle.std.proofs.lemmas.Bool.Decides.{nat_tests}
+use Rattle.std.specs.List.{range_with_len}
+use Rattle.keymap_core.specs.Actions.{IsAction, name_of}
+use Rattle.keymap_core.specs.declared.action.Action.{Action}
+use Rattle.keymap_core.specs.declared.action.Action.TheVariants as a
+use Rattle.keymap_core.specs.declared.action.Modifier.TheVariants as m
+use Rattle.keymap_core.specs.declared.action.Lock.TheVariants as l
+use Rattle.keymap_text.specs.declared.words.Meaning.TheVariants.{Act}
+use Rattle.keymap_text.specs.Lexical.{leading}
+use Rattle.keymap_text.specs.Words.{meaning, digits_of, named}
+use Rattle.keymap_text.proofs.Characters.{along, is_one_word}
+
+-- computed over the names
+screen_words : map (λ k. is_one_word (name_of (a.Screen k))) (range_with_len 1 16) ≡ map (λ k. true) (range_with_len 1 16)
+unfolding leading
+screen_words = refl
+
+screen_meanings : map (λ k. meaning (name_of (a.Screen k))) (range_with_len 1 16) ≡ map (λ k. Act (a.Screen k)) (range_with_len 1 16)
+unfolding meaning digits_of named
+screen_meanings = refl
+
+function_words : map (λ k. is_one_word (name_of (a.Function k))) (range_with_len 1 96) ≡ map (λ k. true) (range_with_len 1 96)
+unfolding leading
+function_words = refl
+
+low_function_meanings : map (λ k. meaning (name_of (a.Function k))) (range_with_len 1 48) ≡ map (λ k. Act (a.Function k)) (range_with_len 1 48)
+unfolding meaning digits_of named
+low_function_meanings = refl
+
+high_function_meanings : map (λ k. meaning (name_of (a.Function k))) (range_with_len 49 48) ≡ map (λ k. Act (a.Function k)) (range_with_len 49 48)
+unfolding meaning digits_of named
+high_function_meanings = refl
+
+dead_key_words : map (λ k. is_one_word (name_of (a.DeadKey k))) (range_with_len 0 15) ≡ map (λ k. true) (range_with_len 0 15)
+unfolding leading
+dead_key_words = refl
+
+dead_key_meanings : map (λ k. meaning (name_of (a.DeadKey k))) (range_with_len 0 15) ≡ map (λ k. Act (a.DeadKey k)) (range_with_len 0 15)
+unfolding meaning digits_of named
+dead_key_meanings = refl
+
+low_or_high : (k : ℕ) → (k ≤ 48) ⊎ (48 < k)
+low_or_high k = go (nat_le k 48) refl
+  where
+    is_le : nat_le k 48 ≡ true → k ≤ 48
+    is_le t = grind (arith, nat_tests)
+
+    not_le : nat_le k 48 ≡ false → 48 < k
+    not_le t = grind (arith, nat_tests)
+
+    go : (b : Bool) → nat_le k 48 ≡ b → (k ≤ 48) ⊎ (48 < k)
+    go true t = inl (is_le t)
+    go false t = inr (not_le t)
+
+function_meaning : (k : ℕ) → 1 ≤ k → k ≤ 96 → meaning (name_of (a.Function k)) ≡ Act (a.Function k)
+function_meaning k low high = elim (low_or_high k) [
+  | inl h ↦ along (λ k. meaning (name_of (a.Function k))) (λ k. Act (a.Function k)) 1 48 low_function_meanings k low (omega (arith, h))
+  | inr h ↦ along (λ k. meaning (name_of (a.Function k))) (λ k. Act (a.Function k)) 49 48 high_function_meanings k (omega (arith, h)) (omega (arith, high))
+]
+
+pub action_word : (action : Action) → IsAction action → is_one_word (name_of action) ≡ true
+unfolding leading
+action_word (a.Screen k) known = along (λ k. is_one_word (name_of (a.Screen k))) (λ k. true) 1 16 screen_words k (omega arith) (omega arith)
+action_word (a.Function k) known = along (λ k. is_one_word (name_of (a.Function k))) (λ k. true) 1 96 function_words k (omega arith) (omega arith)
+action_word (a.DeadKey k) known = along (λ k. is_one_word (name_of (a.DeadKey k))) (λ k. true) 0 15 dead_key_words k (omega arith) (omega arith)
+action_word a.Nop known = refl
+action_word (a.Mod m.LeftShift) known = refl
+action_word (a.Mod m.RightShift) known = refl
+action_word (a.Mod m.LeftControl) known = refl
+action_word (a.Mod m.RightControl) known = refl
+action_word (a.Mod m.LeftAlt) known = refl
+action_word (a.Mod m.RightAlt) known = refl
+action_word (a.Mod m.AltShift) known = refl
+action_word (a.Mod m.Meta) known = refl
+action_word (a.Lock l.Caps) known = refl
+action_word (a.Lock l.Num) known = refl
+action_word (a.Lock l.Scroll) known = refl
+action_word (a.Lock l.Alt) known = refl
+action_word a.BackTab known = refl
+action_word a.NextScreen known = refl
+action_word a.PreviousScreen known = refl
+action_word a.Boot known = refl
+action_word a.Debug known = refl
+action_word a.Suspend known = refl
+action_word a.Saver known = refl
+action_word a.Standby known = refl
+action_word a.Panic known = refl
+action_word a.Halt known = refl
+action_word a.PowerDown known = refl
+action_word a.Paste known = refl
+
+pub action_meaning : (action : Action) → IsAction action → meaning (name_of action) ≡ Act action
+unfolding meaning digits_of named
+action_meaning (a.Screen k) known = along (λ k. meaning (name_of (a.Screen k))) (λ k. Act (a.Screen k)) 1 16 screen_meanings k (omega arith) (omega arith)
+action_meaning (a.Function k) known = function_meaning k (omega arith) (omega arith)
+action_meaning (a.DeadKey k) known = along (λ k. meaning (name_of (a.DeadKey k))) (λ k. Act (a.DeadKey k)) 0 15 dead_key_meanings k (omega arith) (omega arith)
+action_meaning a.Nop known = refl
+action_meaning (a.Mod m.LeftShift) known = refl
+action_meaning (a.Mod m.RightShift) known = refl
+action_meaning (a.Mod m.LeftControl) known = refl
+action_meaning (a.Mod m.RightControl) known = refl
+action_meaning (a.Mod m.LeftAlt) known = refl
+action_meaning (a.Mod m.RightAlt) known = refl
+action_meaning (a.Mod m.AltShift) known = refl
+action_meaning (a.Mod m.Meta) known = refl
+action_meaning (a.Lock l.Caps) known = refl
+action_meaning (a.Lock l.Num) known = refl
+action_meaning (a.Lock l.Scroll) known = refl
+action_meaning (a.Lock l.Alt) known = refl
+action_meaning a.BackTab known = refl
+action_meaning a.NextScreen known = refl
+action_meaning a.PreviousScreen known = refl
+action_meaning a.Boot known = refl
+action_meaning a.Debug known = refl
+action_meaning a.Suspend known = refl
+action_meaning a.Saver known = refl
+action_meaning a.Standby known = refl
+action_meaning a.Panic known = refl
+action_meaning a.Halt known = refl
+action_meaning a.PowerDown known = refl
+action_meaning a.Paste known = refl

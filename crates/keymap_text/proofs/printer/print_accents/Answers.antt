@@ -1,0 +1,29 @@
+use Rattle.std.proofs.Common.{rules, arith, ◌≡◌, ℕ, List, length, ap, sym, ◌∙◌}
+use Rattle.std.specs.Prelude.{slice_index_or, option_copied}
+use Rattle.keymap_core.specs.Accents.{blank}
+use Rattle.keymap_core.proofs.Gathering.{Gathers-same, StopsIn-more, passed_on}
+use Rattle.keymap_text.specs.Printed.{accent_line}
+use Rattle.keymap_text.proofs.Pieces.{lines-next, lines-cut, element_is}
+use Rattle.keymap_text.proofs.printer.print_accents.Goals as goal
+
+pub loop-index-preserved : goal.loop-index-preserved
+loop-index-preserved g c =
+    let m = c.args.map.now in
+    let line : ℕ → List ℕ = λ i. accent_line i (slice_index_or m.accents i blank) in
+    let same : c.as_slice.result.now ≡ line c.loop-index.index = c.as_slice.ensures.value ∙ c.accent_line-line.ensures ∙ ap (accent_line c.loop-index.index) (element_is m.accents c.loop-index.index blank c.unwrap.result.now (sym c.accent.ensures.value ∙ ap option_copied c.unwrap.ensures)) in
+    record {
+      pushed = λ start text gathers.
+          Gathers-same _ (lines-next line c.loop-index.index text _ same) (c.in_ok-push.ensures.bytes start _ (c.loop-index.invariant.pushed start text gathers));
+      few = omega (arith, c.in_ok-push.ensures.count, c.as_slice.ensures.fits, c.loop-index.invariant.few);
+      sound = search rules;
+    }
+
+pub returns-in_err-push-clause-bytes : goal.returns-in_err-push-clause-bytes
+returns-in_err-push-clause-bytes g c start text gathers =
+    let m = c.args.map.now in
+    let line : ℕ → List ℕ = λ i. accent_line i (slice_index_or m.accents i blank) in
+    let i = c.loop-index.index in
+    let same : c.as_slice.result.now ≡ line i = c.as_slice.ensures.value ∙ c.accent_line-line.ensures ∙ ap (accent_line c.loop-index.index) (element_is m.accents c.loop-index.index blank c.unwrap.result.now (sym c.accent.ensures.value ∙ ap option_copied c.unwrap.ensures)) in
+    let cut = lines-cut line i (length m.accents) text _ (omega arith) same in
+    passed_on _ _ _ _ c.from_residual.ensures.1
+    (StopsIn-more start _ _ _ _ _ cut.1 (c.in_err-push.ensures.bytes start _ (c.loop-index.invariant.pushed start text gathers)))

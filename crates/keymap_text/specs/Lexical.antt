@@ -1,0 +1,106 @@
+-- How bytes are split into tokens. Blanks and comments separate; a parenthesis, a quoted character and a word are tokens.
+use Rattle.std.specs.Prelude.{ℕ, zero, suc, ◌+◌, Bool, true, false, cond, not, ◌==◌, ◌&&◌, ◌||◌, nat_lt, nat_le, List, [], ◌∷◌, length, take, drop, Option, Some, None, Result, Ok, Err, slice_index}
+use Rattle.std.specs.Char.{is_ascii_alphanumeric}
+use Rattle.bstr.specs.Utf8.{decoded, Decoded}
+use Rattle.keymap_text.specs.declared.fault.TextFaultKind.{TextFaultKind}
+use Rattle.keymap_text.specs.declared.fault.TextFaultKind.TheVariants.{BadByte, BadLiteral, BadWord, EndInside}
+use Rattle.keymap_text.specs.declared.token.TokenKind.{TokenKind}
+use Rattle.keymap_text.specs.declared.token.TokenKind.TheVariants.{ParenL, ParenR, Literal, Word}
+
+-- blank, tab, CR, LF
+abbrev pub is_blank : ℕ → Bool
+is_blank c = c == 32 || (c == 9 || (c == 13 || c == 10))
+
+-- an ASCII letter or digit
+abbrev pub is_word : ℕ → Bool
+is_word c = is_ascii_alphanumeric c
+
+-- a blank, or the beginning of a comment
+abbrev pub separates : ℕ → Bool
+separates c = is_blank c || c == 35
+
+-- no LF
+abbrev pub stays_on_line : ℕ → Bool
+stays_on_line c = not (c == 10)
+
+-- how many bytes at the front pass the test
+unfoldable pub leading : (ℕ → Bool) → List ℕ → ℕ
+leading p [] = 0
+leading p (c ∷ cs) = cond (p c) (leading p cs + 1) 0
+
+-- What stands at the front of some bytes, with the number of its bytes after the first one.
+pub data Front : Type 0 where
+  -- a blank or a comment
+  Skipped : ℕ → Front
+  Found : TokenKind → ℕ → Front
+  Refused : TextFaultKind → Front
+  -- a quoted character that the bytes break off
+  Unfinished : Front
+
+-- the quoted character, where these bytes stand after the first apostrophe; c is their first character, of n bytes
+abbrev pub closing : ℕ → ℕ → List ℕ → Front
+closing c n bytes = cond (c == 10) (Refused BadLiteral)
+    (cond (nat_le (length bytes) n) Unfinished
+    (cond (slice_index bytes n == 39) (Found (Literal c) (n + 1)) (Refused BadLiteral)))
+
+-- the same where no character stands first, though the first n bytes may begin one
+abbrev pub unclosed : ℕ → List ℕ → Front
+unclosed n bytes = cond (length bytes == n) Unfinished (Refused BadLiteral)
+
+abbrev pub quoted : Decoded → List ℕ → Front
+quoted d bytes = elim d.char [ Some c ↦ closing c d.size bytes | None ↦ unclosed d.size bytes ]
+
+-- a byte from 0x80 on, and an apostrophe
+abbrev pub is_lone : List ℕ → Bool
+is_lone bytes = nat_lt 1 (length bytes) && (nat_lt 127 (slice_index bytes 0) && slice_index bytes 1 == 39)
+
+unfoldable pub literal : List ℕ → Front
+literal bytes = cond (is_lone bytes) (Found (Literal (slice_index bytes 0)) 2) (quoted (decoded bytes) bytes)
+
+-- a word with n bytes after the first one
+abbrev pub word : ℕ → Front
+word n = cond (nat_lt n 32) (Found Word n) (Refused BadWord)
+
+unfoldable pub front : ℕ → List ℕ → Front
+front c bytes =
+    cond (is_blank c) (Skipped 0)
+    (cond (c == 35) (Skipped (leading stays_on_line bytes))
+    (cond (c == 40) (Found ParenL 0)
+    (cond (c == 41) (Found ParenR 0)
+    (cond (c == 39) (literal bytes)
+    (cond (is_word c) (word (leading is_word bytes))
+    (Refused BadByte))))))
+
+-- a token, with its bytes and its place in the text, and whether the text ends after it
+pub record Token : Type 0 where
+  pub kind : TokenKind
+  pub bytes : List ℕ
+  pub start : ℕ
+  pub last : Bool
+
+-- Tokens in order, and what ends them: the end of the text at a place, or a fault at a place.
+pub data Tokens : Type 0 where
+  Ends : ℕ → Tokens
+  Stops : TextFaultKind → ℕ → Tokens
+  Then : Token → Tokens → Tokens
+
+abbrev pub is_empty : List ℕ → Bool
+is_empty [] = true
+is_empty (c ∷ cs) = false
+
+-- The tokens of the bytes after the first k of them, where these bytes stand at the place q of the text.
+unfoldable pub split : ℕ → ℕ → List ℕ → Tokens
+split k q [] = Ends q
+split (suc k) q (c ∷ bytes) = split k (q + 1) bytes
+split zero q (c ∷ bytes) = elim (front c bytes) [
+  | Skipped n ↦ split n (q + 1) bytes
+  | Found kind n ↦ Then (record { kind = kind; bytes = c ∷ take n bytes; start = q; last = is_empty (drop n bytes) }) (split n (q + 1) bytes)
+  | Refused f ↦ Stops f q
+  | Unfinished ↦ Stops EndInside (q + 1 + length bytes)
+]
+
+-- the first token, none, or the fault with its place
+abbrev pub first : Tokens → Result (Option Token) (TextFaultKind × ℕ)
+first (Ends q) = Ok None
+first (Stops f q) = Err (f, q)
+first (Then t ts) = Ok (Some t)

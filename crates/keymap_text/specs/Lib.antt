@@ -1,0 +1,15 @@
+pub mod Lexical
+pub mod Words
+pub mod Items
+pub mod Grammar
+pub mod Rows
+pub mod Places
+pub mod Meaning
+pub mod Progress
+pub mod Standing
+pub mod Inner
+pub mod Reading
+pub mod Views
+pub mod Resuming
+pub mod Sources
+pub mod Printed

@@ -1,0 +1,77 @@
+-- What a text says: the map that it spells, or its fault.
+use Rattle.std.specs.Prelude.{◌≡◌, ℕ, Bool, true, false, cond, not, List, [], ◌∷◌, map, Option, Some, None, Result, Ok, Err}
+use Rattle.keymap_text.specs.declared.fault.TextFaultKind.{TextFaultKind}
+use Rattle.keymap_text.specs.declared.fault.TextFaultKind.TheVariants as faults
+use Rattle.keymap_text.specs.declared.fault.TextFault.{TextFault}
+use Rattle.keymap_text.specs.declared.words.Item.{Item}
+use Rattle.keymap_text.specs.Lexical.{Token, Tokens, Ends, Stops, Then, split}
+use Rattle.keymap_text.specs.Words.{item}
+use Rattle.keymap_core.specs.Maps.{MapValue}
+use Rattle.keymap_text.specs.Rows.{Definition, IsRow, map_of}
+use Rattle.keymap_text.specs.Places.{Place, AtDefinition, next, may_end}
+use Rattle.keymap_text.specs.Reading.{line, is_settled, is_end_inside}
+
+-- the tokens in order, and what stands after them: the end of the text, or a fault with its place
+unfoldable pub list_of : Tokens → List Token
+list_of (Then t ts) = t ∷ list_of ts
+list_of _ = []
+
+unfoldable pub behind : Tokens → Result ℕ (TextFaultKind × ℕ)
+behind (Then t ts) = behind ts
+behind (Ends q) = Ok q
+behind (Stops f q) = Err (f, q)
+
+abbrev pub item_of : Token → Item
+item_of t = item t.kind t.bytes
+
+abbrev pub tokens : List ℕ → List Token
+tokens text = list_of (split 0 0 text)
+
+abbrev pub items : List ℕ → List Item
+items text = map item_of (tokens text)
+
+abbrev pub ending : List ℕ → Result ℕ (TextFaultKind × ℕ)
+ending text = behind (split 0 0 text)
+
+-- The text is a row of definitions up to its end, and the map is what the last ones say.
+pub record Spells (text : List ℕ) (m : MapValue) : Type 0 where
+  pub definitions : List Definition
+  pub row : IsRow (items text) definitions
+  pub end : ℕ
+  pub whole : ending text ≡ Ok end
+  pub map : m ≡ map_of definitions
+
+-- the place to which tokens lead, or the first one that is refused, and why
+unfoldable pub leads : Place → List Token → Result Place (TextFaultKind × Token)
+leads p [] = Ok p
+leads p (t ∷ ts) = elim (next p (item_of t)) [ Ok p' ↦ leads p' ts | Err f ↦ Err (f, t) ]
+
+-- a fault, its offset, and whether it stays whatever follows the text
+pub record Found : Type 0 where
+  pub kind : TextFaultKind
+  pub offset : ℕ
+  pub early : Bool
+
+abbrev pub found_in : Result Place (TextFaultKind × Token) → Result ℕ (TextFaultKind × ℕ) → Option Found
+-- a token is refused where it stands
+found_in (Err (f, t)) end = Some (record { kind = f; offset = t.start; early = is_settled t })
+-- no token stands after the last
+found_in (Ok p) (Err (f, q)) = Some (record { kind = f; offset = q; early = not (is_end_inside f) })
+-- the text ends inside a definition
+found_in (Ok p) (Ok q) = cond (may_end p) None (Some (record { kind = faults.EndInside; offset = q; early = false }))
+
+abbrev pub fault_of : List ℕ → Option Found
+fault_of text = found_in (leads AtDefinition (tokens text)) (ending text)
+
+abbrev pub FaultAt : List ℕ → TextFault → Bool → Type 0
+FaultAt text f early = (fault_of text ≡ Some (record { kind = f.kind; offset = f.offset; early = early })) × (f.line ≡ line text f.offset)
+
+abbrev pub Fault : List ℕ → TextFault → Type 0
+Fault text f = (early : Bool) × FaultAt text f early
+
+abbrev pub Early : List ℕ → TextFault → Type 0
+Early text f = FaultAt text f true
+
+-- the same token, but for whether the text ends after it
+abbrev pub IsSameToken : Token → Token → Type 0
+IsSameToken t u = (t.kind ≡ u.kind) × (t.bytes ≡ u.bytes) × (t.start ≡ u.start)

@@ -1,0 +1,76 @@
+-- The printed form of a map.
+use Rattle.std.specs.Prelude.{ℕ, ◌+◌, ◌-◌, ◌/◌, ◌%◌, cond, ◌==◌, ◌||◌, nat_lt, List, [], ◌∷◌, ◌++◌, length, replicate, codes, slice_index_or}
+use Rattle.std.specs.List.{flat_map, range_with_len}
+use Rattle.keymap_core.specs.Accents.{AccentValue, blank}
+use Rattle.keymap_core.specs.Actions.{name_of, accent_names}
+use Rattle.keymap_core.specs.Maps.{MapValue, entry_at}
+use Rattle.keymap_core.specs.declared.entry.Entry.{Entry}
+use Rattle.keymap_core.specs.declared.entry.Cell.{Cell}
+use Rattle.keymap_core.specs.declared.entry.Cell.TheVariants as cells
+use Rattle.keymap_core.specs.declared.entry.LockFlag.{LockFlag}
+use Rattle.keymap_core.specs.declared.entry.LockFlag.TheVariants as flags
+use Rattle.keymap_text.specs.Words.{control_names}
+
+abbrev pub control_name : ℕ → List ℕ
+control_name c = cond (c == 127) (codes "del") (slice_index_or control_names c [])
+
+-- a lower case hexadecimal digit
+abbrev pub hex_digit : ℕ → ℕ
+hex_digit d = cond (nat_lt d 10) (48 + d) (87 + d)
+
+-- the digit of 16 ^ k, where p is 16 ^ k
+abbrev pub hex_at : ℕ → ℕ → ℕ
+hex_at c p = hex_digit (c / p % 16)
+
+abbrev pub hex4 : ℕ → List ℕ
+hex4 c = hex_at c 4096 ∷ hex_at c 256 ∷ hex_at c 16 ∷ hex_at c 1 ∷ []
+
+-- four digits, or five or six where the number has as many
+unfoldable pub hex : ℕ → List ℕ
+hex c = cond (nat_lt c 65536) (hex4 c) (cond (nat_lt c 1048576) (hex_at c 65536 ∷ hex4 c) (hex_at c 1048576 ∷ hex_at c 65536 ∷ hex4 c))
+
+-- a name for a control character, between apostrophes where it is one of ASCII else, and a number for all others
+unfoldable pub character_text : ℕ → List ℕ
+character_text c = cond (nat_lt c 32 || c == 127) (control_name c) (cond (nat_lt c 127) (39 ∷ c ∷ 39 ∷ []) (codes "0x" ++ hex c))
+
+abbrev pub cell_text : Cell → List ℕ
+cell_text (cells.Char c) = character_text c
+cell_text (cells.Act a) = name_of a
+
+-- filled on the right with blanks to six places
+abbrev pub column : List ℕ → List ℕ
+column text = 32 ∷ (text ++ replicate (6 - length text) 32)
+
+abbrev pub flag_letter : LockFlag → ℕ
+flag_letter flags.O = 79
+flag_letter flags.C = 67
+flag_letter flags.N = 78
+flag_letter flags.B = 66
+
+-- three decimal digits
+abbrev pub slot_text : ℕ → List ℕ
+slot_text s = (48 + s / 100) ∷ (48 + s / 10 % 10) ∷ (48 + s % 10) ∷ []
+
+unfoldable pub key_line : ℕ → Entry → List ℕ
+key_line slot e = slot_text slot ++ (flat_map (λ c. column (cell_text c)) e.cells ++ 32 ∷ flag_letter e.flag ∷ 10 ∷ [])
+
+abbrev pub accent_name : ℕ → List ℕ
+accent_name i = slice_index_or accent_names i []
+
+-- ` ( base result )`
+unfoldable pub pair_text : ℕ × ℕ → List ℕ
+pair_text p = 32 ∷ 40 ∷ 32 ∷ (character_text p.0 ++ 32 ∷ (character_text p.1 ++ 32 ∷ 41 ∷ []))
+
+unfoldable pub accent_line : ℕ → AccentValue → List ℕ
+accent_line i a = accent_name i ++ 32 ∷ (character_text a.own ++ (flat_map pair_text a.pairs ++ 10 ∷ []))
+
+-- a line for each slot
+abbrev pub key_lines : MapValue → List ℕ
+key_lines m = flat_map (λ s. key_line s (entry_at m s)) (range_with_len 0 (length m.entries))
+
+-- a line for each accent
+abbrev pub accent_lines : MapValue → List ℕ
+accent_lines m = flat_map (λ i. accent_line i (slice_index_or m.accents i blank)) (range_with_len 0 (length m.accents))
+
+abbrev pub printed : MapValue → List ℕ
+printed m = key_lines m ++ accent_lines m

@@ -1,0 +1,82 @@
+-- What a reader that stands in a text makes of the bytes to come. Inner: private contracts alone speak of it.
+use Rattle.keymap_core.specs.Maps.{MapValue}
+use Rattle.std.specs.Prelude.{◌≡◌, ◌≢◌, ℕ, ◌+◌, ◌<◌, ◌≤◌, Bool, true, false, List, [], ◌++◌, length, drop, slice_index, Result, Ok, Err, cond, ◌==◌, count_by}
+use Rattle.keymap_text.specs.declared.fault.TextFaultKind.{TextFaultKind}
+use Rattle.keymap_text.specs.declared.fault.TextFault.{TextFault}
+use Rattle.keymap_text.specs.declared.scanner.Mode.{Mode}
+use Rattle.keymap_text.specs.declared.scanner.Mode.TheVariants as modes
+use Rattle.keymap_text.specs.declared.scanner.Scanner.{Scanner}
+use Rattle.keymap_text.specs.Lexical.{split, Tokens, leading, stays_on_line, is_word, is_blank, literal, Unfinished}
+use Rattle.keymap_text.specs.Reading.{judge, line, Verdict, Spelled, Faulty}
+use Rattle.keymap_text.specs.Grammar.{State}
+use Rattle.keymap_text.specs.Views.{state_view, IsPlace}
+
+-- the tokens from the pending bytes on, where the bytes x are to come
+abbrev pub tokens_of : Mode → List ℕ → ℕ → List ℕ → Tokens
+tokens_of modes.Between p q x = split 0 q x
+tokens_of modes.Comment p q x = split (leading stays_on_line x) q x
+tokens_of modes.Word p q x = split 0 q (p ++ x)
+tokens_of modes.Literal p q x = split 0 q (p ++ x)
+
+abbrev pub resume : Scanner → List ℕ → Verdict
+resume r x = judge (state_view r.grammar) (tokens_of r.mode r.pending.items r.offset x)
+
+-- what is pending
+abbrev pub KeepsMode : Mode → List ℕ → Type 0
+KeepsMode modes.Between p = p ≡ []
+KeepsMode modes.Comment p = p ≡ []
+KeepsMode modes.Word p = (0 < length p) × (leading is_word p ≡ length p) × (length p ≤ 32)
+KeepsMode modes.Literal p = (0 < length p) × (slice_index p 0 ≡ 39) × (literal (drop 1 p) ≡ Unfinished)
+
+pub record IsReader (r : Scanner) : Type 0 where
+  pub place : IsPlace r.grammar.place r.grammar.accent
+  pub keeps : KeepsMode r.mode r.pending.items
+  pub low : r.line ≤ r.offset + 1
+
+-- What taking some bytes did, where f says what is made of them and of those that follow: what g makes of these, or the fault stands.
+abbrev pub Goes : Result (Unit {0}) TextFault → (List ℕ → Verdict) → (List ℕ → Verdict) → Type 0
+Goes (Ok u) f g = (x : List ℕ) → f x ≡ g x
+Goes (Err e) f g = (x : List ℕ) → f x ≡ Faulty e.kind e.offset true
+
+abbrev pub Takes : Result (Unit {0}) TextFault → (List ℕ → Verdict) → Scanner → Type 0
+Takes result f r = Goes result f (resume r)
+
+-- What a whole token did.
+abbrev pub Accepts : Result (Unit {0}) TextFault → Result State TextFaultKind → ℕ → Scanner → ℕ → Type 0
+Accepts (Ok u) s q r end = (s ≡ Ok (state_view r.grammar)) × (r.mode ≡ modes.Between) × (r.offset ≡ end)
+Accepts (Err e) s q r end = (s ≡ Err e.kind) × (e.offset ≡ q)
+
+-- a byte that begins no blank, comment, parenthesis or quoted character
+pub record HasNoRole (c : ℕ) : Type 0 where
+  pub blank : is_blank c ≡ false
+  pub comment : c ≢ 35
+  pub left : c ≢ 40
+  pub right : c ≢ 41
+  pub quote : c ≢ 39
+
+-- What a call answers, by the verdict.
+abbrev pub Says : Result MapValue TextFault → Verdict → Type 0
+Says (Ok m) v = v ≡ Spelled m
+Says (Err e) v = (early : Bool) × (v ≡ Faulty e.kind e.offset early)
+
+-- one for a line feed
+abbrev pub line_feed : ℕ → ℕ
+line_feed c = cond (c == 10) 1 0
+
+-- What a byte c did to the line: after a line feed nothing is pending.
+pub record Forward (old new : Scanner) (c : ℕ) : Type 0 where
+  pub line : new.line ≡ old.line + line_feed c
+  pub on : old.offset ≤ new.offset
+  pub past : c ≡ 10 → length new.pending.items ≡ 0
+
+-- A fault at what is pending, or after it.
+pub record IsPending (e : TextFault) (old : Scanner) : Type 0 where
+  pub line : e.line ≡ old.line
+  pub from : old.offset ≤ e.offset
+  pub to : e.offset ≤ old.offset + length old.pending.items
+
+-- The bytes b stand before what is to come, and none of them from the first pending one on is a line feed.
+pub record Lined (r : Scanner) (b : List ℕ) : Type 0 where
+  pub fed : r.offset + length r.pending.items ≡ length b
+  pub line : r.line ≡ line b r.offset
+  pub none : count_by (λ c. c == 10) (drop r.offset b) ≡ 0

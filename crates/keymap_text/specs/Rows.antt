@@ -1,0 +1,78 @@
+-- A text's row of definitions, and the map that the last definitions make.
+use Rattle.std.specs.Prelude.{◌≡◌, ◌≢◌, ℕ, ◌+◌, ◌<◌, ◌≤◌, cond, ◌==◌, max, List, [], ◌∷◌, ◌++◌, length, map, Option, Some, None, Ok}
+use Rattle.std.specs.List.{range_with_len}
+use Rattle.std.specs.Option.{option_or}
+use Rattle.keymap_core.specs.declared.entry.Entry.{Entry}
+use Rattle.keymap_core.specs.declared.entry.Cell.{Cell}
+use Rattle.keymap_core.specs.declared.action.Action.{Action}
+use Rattle.keymap_text.specs.declared.words.Meaning.TheVariants.{Number, Act, Letter}
+use Rattle.keymap_text.specs.declared.words.Item.{Item}
+use Rattle.keymap_text.specs.declared.words.Item.TheVariants.{Open, Close, Value}
+use Rattle.keymap_core.specs.Accents.{AccentValue, blank}
+use Rattle.keymap_core.specs.Maps.{MapValue, undefined}
+use Rattle.keymap_text.specs.Items.{character, cell, accent_index}
+
+pub data Definition : Type 0 where
+  KeyDefinition : ℕ → Entry → Definition
+  AccentDefinition : ℕ → AccentValue → Definition
+
+-- one cell a token
+pub data AreCells : List Item → List Cell → Type 0 where
+  no_cells : AreCells [] []
+  one_cell : {t : Item} {c : Cell} {ts : List Item} {cs : List Cell} → cell t ≡ Ok c → AreCells ts cs → AreCells (t ∷ ts) (c ∷ cs)
+
+-- `( base result )` for each pair, no base being 0
+pub data ArePairs : List Item → List (ℕ × ℕ) → Type 0 where
+  no_pairs : ArePairs [] []
+  one_pair : {t u : Item} {base result : ℕ} {ts : List Item} {ps : List (ℕ × ℕ)} → character t ≡ Ok base → base ≢ 0 → character u ≡ Ok result → ArePairs ts ps
+      → ArePairs (Open ∷ t ∷ u ∷ Close ∷ ts) ((base, result) ∷ ps)
+
+-- The tokens of one definition: a slot, eight cells and a lock letter; or an accent's name, its character and up to 52 pairs.
+pub data Defines : List Item → Definition → Type 0 where
+  of_key : {slot : ℕ} {e : Entry} {ts : List Item} → slot < 256 → length e.cells ≡ 8 → AreCells ts e.cells
+      → Defines (Value (Number slot) ∷ (ts ++ Value (Letter e.flag) ∷ [])) (KeyDefinition slot e)
+  of_accent : {i : ℕ} {a : AccentValue} {t : Item} {ts : List Item} → (name : Action) → accent_index name ≡ Some i → character t ≡ Ok a.own → length a.pairs ≤ 52 → ArePairs ts a.pairs
+      → Defines (Value (Act name) ∷ t ∷ ts) (AccentDefinition i a)
+
+-- the tokens of definitions, one after the other
+pub data IsRow : List Item → List Definition → Type 0 where
+  no_definition : IsRow [] []
+  one_definition : {ts us : List Item} {d : Definition} {ds : List Definition} → Defines ts d → IsRow us ds → IsRow (ts ++ us) (d ∷ ds)
+
+-- what a definition says of a slot, and of an accent
+abbrev pub of_slot : ℕ → Definition → Option Entry
+of_slot slot (KeyDefinition s e) = cond (s == slot) (Some e) None
+of_slot slot (AccentDefinition i a) = None
+
+abbrev pub of_index : ℕ → Definition → Option AccentValue
+of_index i (KeyDefinition s e) = None
+of_index i (AccentDefinition j a) = cond (j == i) (Some a) None
+
+-- what the last one says that says anything
+unfoldable pub last : {A : Type 0} → (Definition → Option A) → List Definition → Option A
+last says [] = None
+last says (d ∷ ds) = option_or (last says ds) (says d)
+
+-- one more than the slot, and than the accent, that a definition is of
+abbrev pub slots : Definition → ℕ
+slots (KeyDefinition s e) = s + 1
+slots (AccentDefinition i a) = 0
+
+abbrev pub indices : Definition → ℕ
+indices (KeyDefinition s e) = 0
+indices (AccentDefinition i a) = i + 1
+
+unfoldable pub greatest : (Definition → ℕ) → List Definition → ℕ
+greatest f [] = 0
+greatest f (d ∷ ds) = max (f d) (greatest f ds)
+
+abbrev pub or_else : {A : Type 0} → Option A → A → A
+or_else (Some x) d = x
+or_else None d = d
+
+-- Each entry and accent is what its last definition says, else undefined, up to the greatest that is defined.
+abbrev pub map_of : List Definition → MapValue
+map_of ds = record {
+  entries = map (λ slot. or_else (last (of_slot slot) ds) undefined) (range_with_len 0 (greatest slots ds));
+  accents = map (λ i. or_else (last (of_index i) ds) blank) (range_with_len 0 (greatest indices ds));
+}

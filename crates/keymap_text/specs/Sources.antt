@@ -1,0 +1,68 @@
+-- What reading a text from a device answers, by the bytes that the device had left before and has left after.
+use Rattle.std.specs.Prelude.{◌≡◌, ℕ, ◌≤◌, List, [], ◌∷◌, ◌++◌, length, Option, Result, Ok, Err, Bool, true, false, ◌⊎◌}
+use Rattle.std.specs.Io.KnownBytes.{Consumes, IsAtEnd, Keeps}
+use Rattle.keymap_core.specs.Maps.{MapValue}
+use Rattle.keymap_core.specs.declared.transfer.ReadFault.{ReadFault}
+use Rattle.keymap_core.specs.declared.transfer.ReadFaultKind.{ReadFaultKind}
+use Rattle.keymap_core.specs.declared.transfer.ReadFaultKind.TheVariants as kinds
+use Rattle.keymap_text.specs.declared.fault.TextError.{TextError}
+use Rattle.keymap_text.specs.declared.fault.TextError.TheVariants as errors
+use Rattle.keymap_text.specs.declared.fault.TextFault.{TextFault}
+use Rattle.keymap_text.specs.Meaning.{Spells, Fault, Early}
+
+-- how many bytes of a text are read at most
+abbrev pub limit : ℕ
+limit = 1048576
+
+-- These bytes were taken.
+pub record TakesText (old new : Option (List ℕ)) (text : List ℕ) : Type 0 where
+  pub taken : Consumes old new text
+  pub few : length text ≤ limit
+
+-- These bytes were taken, and the end came after them.
+pub record TakesWhole (old new : Option (List ℕ)) (text : List ℕ) : Type 0 where
+  pub taken : Consumes old new text
+  pub few : length text ≤ limit
+  pub end : IsAtEnd new
+
+abbrev pub HasNoEarlyFault : List ℕ → Type 0
+HasNoEarlyFault text = (f : TextFault) → Early text f → ⊥
+
+-- The device failed after the bytes up to the offset, which have no early fault.
+pub record FailsInside (old new : Option (List ℕ)) (f : ReadFault) : Type 0 where
+  pub text : List ℕ
+  pub takes : TakesText old new text
+  pub offset : length text ≡ f.offset
+  pub sound : HasNoEarlyFault text
+
+-- One byte more than the limit was taken, and the bytes up to the limit have no early fault.
+pub record GoesPast (old new : Option (List ℕ)) (f : ReadFault) : Type 0 where
+  pub text : List ℕ
+  pub next : ℕ
+  pub taken : Consumes old new (text ++ next ∷ [])
+  pub full : length text ≡ limit
+  pub offset : f.offset ≡ limit
+  pub sound : HasNoEarlyFault text
+
+abbrev pub StopsReading : Option (List ℕ) → Option (List ℕ) → ReadFault → ReadFaultKind → Type 0
+StopsReading old new f kinds.Device = FailsInside old new f
+StopsReading old new f kinds.Endless = GoesPast old new f
+
+-- The map of the whole text, or its fault, or an early fault of the bytes taken, or a fault of the device. Where the
+-- map got no memory nothing was read.
+abbrev pub ReadsMap : Option (List ℕ) → Option (List ℕ) → Result MapValue TextError → Type 0
+ReadsMap old new (Ok m) = (text : List ℕ) × TakesWhole old new text × Spells text m
+ReadsMap old new (Err errors.Memory) = Keeps old new
+ReadsMap old new (Err (errors.Read f)) = StopsReading old new f f.kind
+ReadsMap old new (Err (errors.Fault f)) = (text : List ℕ) × ((TakesText old new text × Early text f) ⊎ (TakesWhole old new text × Fault text f))
+
+-- whether the answer is that the device failed
+abbrev pub is_device : ReadFaultKind → Bool
+is_device kinds.Device = true
+is_device kinds.Endless = false
+
+abbrev pub names_device : Result MapValue TextError → Bool
+names_device (Ok m) = false
+names_device (Err errors.Memory) = false
+names_device (Err (errors.Read f)) = is_device f.kind
+names_device (Err (errors.Fault f)) = false

@@ -1,0 +1,68 @@
+-- How values of the code are seen by the definitions. Inner, but for what a token and its search give.
+use Rattle.std.specs.Prelude.{◌≡◌, ◌≢◌, ℕ, ◌≤◌, List, length, drop, Option, Some, None, Result, Ok, Err, ◌<◌}
+use Rattle.keymap_text.specs.declared.fault.TextFaultKind.{TextFaultKind}
+use Rattle.keymap_text.specs.declared.fault.TextFault.{TextFault}
+use Rattle.keymap_text.specs.declared.token.Front.{Front}
+use Rattle.keymap_text.specs.declared.token.Front.TheVariants as fronts
+use Rattle.keymap_text.specs.declared.token.Token.{Token}
+use Rattle.keymap_text.specs.Lexical as lexical
+use Rattle.keymap_core.specs.declared.entry.Entry.{Entry}
+use Rattle.keymap_text.specs.declared.grammar.Place.{Place}
+use Rattle.keymap_text.specs.declared.grammar.Place.TheVariants as places
+use Rattle.keymap_text.specs.declared.grammar.Grammar.{Grammar}
+use Rattle.keymap_core.specs.Accents.{AccentValue}
+use Rattle.keymap_core.specs.Maps.{undefined}
+use Rattle.keymap_text.specs.Grammar as spec
+
+abbrev pub front_view : Front → lexical.Front
+front_view (fronts.Found kind n) = lexical.Found kind n
+front_view (fronts.Refused f) = lexical.Refused f
+front_view fronts.Unfinished = lexical.Unfinished
+
+-- the token that was found has no more bytes than there are
+abbrev pub FoundFits : Front → ℕ → Type 0
+FoundFits (fronts.Found kind n) m = n ≤ m
+FoundFits _ m = Unit {0}
+
+abbrev pub token_view : List ℕ → Token → lexical.Token
+token_view text t = record { kind = t.kind; bytes = t.slice.now; start = t.span.start; last = lexical.is_empty (drop t.span.end text) }
+
+abbrev pub result_view : List ℕ → Result (Option Token) TextFault → Result (Option lexical.Token) (TextFaultKind × ℕ)
+result_view text (Ok None) = Ok None
+result_view text (Ok (Some t)) = Ok (Some (token_view text t))
+result_view text (Err f) = Err (f.kind, f.offset)
+
+-- a place, with the entry and the accent that are being defined
+abbrev pub place_view : Place → Entry → AccentValue → spec.Place
+place_view places.Definition e a = spec.Definition
+place_view (places.Cell slot i) e a = spec.CellAt slot i e
+place_view (places.Lock slot) e a = spec.LockAt slot e
+place_view (places.AccentCharacter i) e a = spec.AccentCharacter i
+place_view (places.AfterAccent i) e a = spec.AfterAccent i a
+place_view (places.PairBase i) e a = spec.PairBase i a
+place_view (places.PairResult i b) e a = spec.PairResult i a b
+place_view (places.PairEnd i b r) e a = spec.PairEnd i a b r
+
+abbrev pub state_view : Grammar → spec.State
+state_view g = spec.at g.map (place_view g.place g.entry g.accent)
+
+-- the indices that places may have
+abbrev pub IsPlace : Place → AccentValue → Type 0
+IsPlace places.Definition a = Unit {0}
+IsPlace (places.Cell slot i) a = i < 8
+IsPlace (places.Lock slot) a = Unit {0}
+IsPlace (places.AccentCharacter i) a = i < 15
+IsPlace (places.AfterAccent i) a = i < 15
+IsPlace (places.PairBase i) a = (i < 15) × (length a.pairs < 52)
+IsPlace (places.PairResult i b) a = (i < 15) × (length a.pairs < 52) × (b ≢ 0)
+IsPlace (places.PairEnd i b r) a = (i < 15) × (length a.pairs < 52) × (b ≢ 0)
+
+-- what a step of the code did, by the step of the definitions
+abbrev pub Steps : Result (Unit {0}) TextFaultKind → Result spec.State TextFaultKind → spec.State → Type 0
+Steps (Ok u) r s = r ≡ Ok s
+Steps (Err f) r s = r ≡ Err f
+
+-- where the first token of a definition leads
+abbrev pub Leads : Result Place TextFaultKind → Result spec.Place TextFaultKind → Type 0
+Leads (Ok p) r = ((a : AccentValue) → r ≡ Ok (place_view p undefined a)) × ((a : AccentValue) → IsPlace p a)
+Leads (Err f) r = r ≡ Err f

@@ -1,0 +1,290 @@
+//! Definitions, token by token.
+ghost use Rattle.std.specs.Prelude.{◌≡◌, ◌<◌, Ok, Err, Result, OnOk, length, cond, IfSome, ◌≢◌};
+ghost use lib.Utf8.{scalar};
+ghost use Rattle.keymap_core.specs.Maps.{with_accent};
+ghost use Rattle.keymap_text.specs.Views.{Steps, Leads, state_view, place_view, IsPlace};
+ghost use Rattle.keymap_text.specs.Items as items;
+ghost use Rattle.keymap_text.specs.Grammar as spec;
+
+use crate::fault::TextFaultKind;
+use crate::words::{Item, Meaning};
+use keymap_core::{Accent, Action, Cell, Entry, KeyMap, LockFlag};
+use std::mem::replace;
+
+/// Where a text stands in its row of definitions.
+#[derive(Clone, Copy)]
+pub(crate) enum Place {
+    Definition,
+    Cell { slot: u8, index: u8 },
+    Lock { slot: u8 },
+    AccentCharacter { index: u8 },
+    AfterAccent { index: u8 },
+    PairBase { index: u8 },
+    PairResult { index: u8, base: char },
+    PairEnd { index: u8, base: char, result: char },
+}
+
+/// The map so far, and the definition that the text is in.
+#[derive(Drop)]
+pub(crate) struct Grammar {
+    pub(crate) map: KeyMap,
+    pub(crate) place: Place,
+    pub(crate) entry: Entry,
+    pub(crate) accent: Accent,
+}
+
+/// The fault of a token where it is not wanted.
+fn refusal(item: &Item) -> TextFaultKind
+    ensures { result ≡ items.refusal item.now }
+{
+    match item {
+        Item::Value(Meaning::Unknown) => TextFaultKind::BadWord,
+        Item::Value(Meaning::OutOfRange) => TextFaultKind::BadFunction,
+        Item::Value(Meaning::Combined) => TextFaultKind::Combined,
+        Item::Value(Meaning::Number(_)) => TextFaultKind::Unexpected,
+        Item::Value(Meaning::Char(_)) => TextFaultKind::Unexpected,
+        Item::Value(Meaning::Act(_)) => TextFaultKind::Unexpected,
+        Item::Value(Meaning::Letter(_)) => TextFaultKind::Unexpected,
+        Item::Open | Item::Close => TextFaultKind::Unexpected,
+    }
+}
+
+fn scalar_of(n: u128) -> Result<char, TextFaultKind>
+    ensures { result ≡ cond (scalar n) (Ok n) (Err TextFaultKind.BadChar) }
+{
+    if n < 0xD800 || (n >= 0xE000 && n < 0x110000) {
+        Ok(char::from_u32(n as u32).unwrap())
+    } else {
+        Err(TextFaultKind::BadChar)
+    }
+}
+
+fn character_of(item: &Item) -> Result<char, TextFaultKind>
+    ensures { result ≡ items.character item.now }
+{
+    match item {
+        Item::Value(Meaning::Number(n)) => scalar_of(*n),
+        Item::Value(Meaning::Char(c)) => Ok(*c),
+        other => Err(refusal(other)),
+    }
+}
+
+fn cell_of(item: &Item) -> Result<Cell, TextFaultKind>
+    ensures { result ≡ items.cell item.now }
+{
+    match item {
+        Item::Value(Meaning::Act(a)) => Ok(Cell::Act(*a)),
+        other => match character_of(other) {
+            Ok(c) => Ok(Cell::Char(c)),
+            Err(f) => Err(f),
+        },
+    }
+}
+
+fn lock_of(item: &Item) -> Result<LockFlag, TextFaultKind>
+    ensures { result ≡ items.lock item.now }
+{
+    match item {
+        Item::Value(Meaning::Letter(f)) => Ok(*f),
+        other => Err(refusal(other)),
+    }
+}
+
+/// The index of the accent that an action names.
+fn accent_index(action: &Action) -> Option<u8>
+    ensures value { result ≡ items.accent_index action.now }
+    ensures bound { IfSome result (λ index. index < 15) }
+{
+    match action {
+        Action::DeadKey(accent) => Some(accent.get()),
+        _ => None,
+    }
+}
+
+/// Where the first token of a definition leads.
+fn first_place(item: &Item) -> Result<Place, TextFaultKind>
+    ensures { Leads result (spec.first_of item.now) }
+{
+    match item {
+        Item::Value(Meaning::Number(n)) => {
+            if *n < 256 {
+                Ok(Place::Cell {
+                    slot: *n as u8,
+                    index: 0,
+                })
+            } else {
+                Err(TextFaultKind::KeyTooLarge)
+            }
+        }
+        Item::Value(Meaning::Act(a)) => match accent_index(a) {
+            Some(index) => Ok(Place::AccentCharacter { index }),
+            None => Err(TextFaultKind::Unexpected),
+        },
+        other => Err(refusal(other)),
+    }
+}
+
+impl Grammar {
+    pub(crate) fn new(map: KeyMap) -> Self
+        ensures map { result.map ≡ map }
+        ensures place { result.place ≡ Place.Definition }
+    {
+        Grammar {
+            map,
+            place: Place::Definition,
+            entry: Entry::undefined(),
+            accent: Accent::new('\0'),
+        }
+    }
+
+    /// Takes the next token. After an `Err` the value is of no use.
+    pub(crate) fn accept(&mut self, item: &Item) -> Result<(), TextFaultKind>
+        requires { IsPlace self.old.place self.old.accent }
+        ensures steps { Steps result (spec.step self.old.map (place_view self.old.place self.old.entry self.old.accent) item.now) (state_view self.new) }
+        ensures place { OnOk result (IsPlace self.new.place self.new.accent) }
+    {
+        match self.place {
+            Place::Definition => self.begin(item),
+            Place::Cell { slot, index } => self.cell(slot, index, item),
+            Place::Lock { slot } => self.lock(slot, item),
+            Place::AccentCharacter { index } => self.accent_character(index, item),
+            Place::AfterAccent { index } => self.after_accent(index, item),
+            Place::PairBase { index } => self.pair_base(index, item),
+            Place::PairResult { index, base } => self.pair_result(index, base, item),
+            Place::PairEnd {
+                index,
+                base,
+                result,
+            } => self.pair_end(index, base, result, item),
+        }
+    }
+
+    fn begin(&mut self, item: &Item) -> Result<(), TextFaultKind>
+        ensures steps { Steps result (spec.step self.old.map spec.Definition item.now) (state_view self.new) }
+        ensures place { OnOk result (IsPlace self.new.place self.new.accent) }
+    {
+        let place = first_place(item)?;
+        self.entry = Entry::undefined();
+        self.place = place;
+        Ok(())
+    }
+
+    fn cell(&mut self, slot: u8, index: u8, item: &Item) -> Result<(), TextFaultKind>
+        requires { index < 8 }
+        ensures steps { Steps result (spec.step self.old.map (spec.CellAt slot index self.old.entry) item.now) (state_view self.new) }
+        ensures place { OnOk result (IsPlace self.new.place self.new.accent) }
+    {
+        let cell = cell_of(item)?;
+        self.entry.cells[index as usize] = cell;
+        self.place = if index == 7 {
+            Place::Lock { slot }
+        } else {
+            Place::Cell {
+                slot,
+                index: index + 1,
+            }
+        };
+        Ok(())
+    }
+
+    fn lock(&mut self, slot: u8, item: &Item) -> Result<(), TextFaultKind>
+        ensures steps { Steps result (spec.step self.old.map (spec.LockAt slot self.old.entry) item.now) (state_view self.new) }
+        ensures place { OnOk result (IsPlace self.new.place self.new.accent) }
+    {
+        let flag = lock_of(item)?;
+        self.entry.flag = flag;
+        self.map.set(slot, self.entry);
+        self.place = Place::Definition;
+        Ok(())
+    }
+
+    fn accent_character(&mut self, index: u8, item: &Item) -> Result<(), TextFaultKind>
+        requires { index < 15 }
+        ensures steps { Steps result (spec.step self.old.map (spec.AccentCharacter index) item.now) (state_view self.new) }
+        ensures place { OnOk result (IsPlace self.new.place self.new.accent) }
+    {
+        let own = character_of(item)?;
+        self.accent = Accent::new(own);
+        self.place = Place::AfterAccent { index };
+        Ok(())
+    }
+
+    fn after_accent(&mut self, index: u8, item: &Item) -> Result<(), TextFaultKind>
+        requires { index < 15 }
+        ensures steps { Steps result (spec.step self.old.map (spec.AfterAccent index self.old.accent) item.now) (state_view self.new) }
+        ensures place { OnOk result (IsPlace self.new.place self.new.accent) }
+    {
+        if let Item::Open = item {
+            if self.accent.pairs().len() == 52 {
+                return Err(TextFaultKind::TooManyPairs);
+            }
+            self.place = Place::PairBase { index };
+            return Ok(());
+        }
+        let place = first_place(item)?;
+        self.close_accent(index);
+        self.entry = Entry::undefined();
+        self.place = place;
+        Ok(())
+    }
+
+    /// Puts the accent that is complete into the map.
+    pub(crate) fn close_accent(&mut self, index: u8)
+        requires { index < 15 }
+        ensures { self.new.map ≡ with_accent self.old.map index self.old.accent }
+    {
+        let accent = replace(&mut self.accent, Accent::new('\0'));
+        self.map.set_accent(index, accent).unwrap();
+    }
+
+    fn pair_base(&mut self, index: u8, item: &Item) -> Result<(), TextFaultKind>
+        requires index { index < 15 }
+        requires room { length self.old.accent.pairs < 52 }
+        ensures steps { Steps result (spec.step self.old.map (spec.PairBase index self.old.accent) item.now) (state_view self.new) }
+        ensures place { OnOk result (IsPlace self.new.place self.new.accent) }
+    {
+        let base = character_of(item)?;
+        if base == '\0' {
+            return Err(TextFaultKind::ZeroBase);
+        }
+        self.place = Place::PairResult { index, base };
+        Ok(())
+    }
+
+    fn pair_result(&mut self, index: u8, base: char, item: &Item) -> Result<(), TextFaultKind>
+        requires index { index < 15 }
+        requires room { length self.old.accent.pairs < 52 }
+        requires base { base ≢ 0 }
+        ensures steps { Steps result (spec.step self.old.map (spec.PairResult index self.old.accent base) item.now) (state_view self.new) }
+        ensures place { OnOk result (IsPlace self.new.place self.new.accent) }
+    {
+        let result = character_of(item)?;
+        self.place = Place::PairEnd {
+            index,
+            base,
+            result,
+        };
+        Ok(())
+    }
+
+    fn pair_end(
+        &mut self,
+        index: u8,
+        base: char,
+        composed: char,
+        item: &Item,
+    ) -> Result<(), TextFaultKind>
+        requires index { index < 15 }
+        requires room { length self.old.accent.pairs < 52 }
+        requires base { base ≢ 0 }
+        ensures steps { Steps result (spec.step self.old.map (spec.PairEnd index self.old.accent base composed) item.now) (state_view self.new) }
+        ensures place { OnOk result (IsPlace self.new.place self.new.accent) }
+    {
+        let Item::Close = item else {
+            return Err(refusal(item));
+        };
+        self.accent.push_pair(base, composed).unwrap();
+        self.place = Place::AfterAccent { index };
+        Ok(())
+    }
+}

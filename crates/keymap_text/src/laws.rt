@@ -1,0 +1,48 @@
+//! Laws of the definitions. No function here does anything.
+ghost use Rattle.std.specs.Prelude.{◌≡◌, ℕ, ◌<◌, List, ◌++◌, true, false, length, slice_index_or, map, Ok, Err, ◌⊎◌};
+ghost use Rattle.keymap_text.specs.Lexical.{Token};
+ghost use Rattle.keymap_text.specs.Meaning.{Spells, Fault, Early, item_of, leads, tokens, ending, IsSameToken};
+ghost use Rattle.keymap_core.specs.Maps.{MapValue};
+ghost use Rattle.keymap_text.specs.Rows.{Definition, IsRow};
+ghost use Rattle.keymap_core.specs.Bounds.{IsMap};
+ghost use Rattle.keymap_text.specs.Printed.{printed};
+ghost use Rattle.keymap_text.specs.Places.{Place, AtDefinition, may_end};
+ghost use Rattle.keymap_text.specs.Reading.{is_settled, is_end_inside};
+ghost use Rattle.keymap_text.specs.declared.fault.TextFault.{TextFault as Found};
+ghost use Rattle.keymap_text.specs.declared.fault.TextFaultKind.{TextFaultKind as Kind};
+
+/// The places accept tokens up to a place where a text may end exactly if these are a row of definitions.
+pub fn rows_are_accepted()
+    ensures row { (ts : List Token) (p : Place) → leads AtDefinition ts ≡ Ok p → may_end p ≡ true → (ds : List Definition) × IsRow (map item_of ts) ds }
+    ensures accepted { (ts : List Token) (ds : List Definition) → IsRow (map item_of ts) ds → (p : Place) × (leads AtDefinition ts ≡ Ok p) × (may_end p ≡ true) }
+{}
+
+/// A text spells one map, or has one fault.
+pub fn one_meaning()
+    ensures one_map { (text : List ℕ) (m n : MapValue) → Spells text m → Spells text n → m ≡ n }
+    ensures one_fault { (text : List ℕ) (f g : Found) → Fault text f → Fault text g → (f.kind ≡ g.kind) × (f.offset ≡ g.offset) × (f.line ≡ g.line) }
+    ensures not_both { (text : List ℕ) (m : MapValue) (f : Found) → Spells text m → Fault text f → ⊥ }
+    ensures one_of_them { (text : List ℕ) → ((m : MapValue) × Spells text m) ⊎ ((f : Found) × Fault text f) }
+{}
+
+/// An early fault of a text is the fault of every text that begins with it.
+pub fn early_faults_stay()
+    ensures { (text more : List ℕ) (f : Found) → Early text f → Early (text ++ more) f }
+{}
+
+/// Each token of a text, but for a word of at most 32 bytes at its end, is one of every text that begins with it.
+pub fn settled_tokens_stay()
+    ensures { (text more : List ℕ) (i : ℕ) (d : Token) → i < length (tokens text) → is_settled (slice_index_or (tokens text) i d) ≡ true → (i < length (tokens (text ++ more))) × IsSameToken (slice_index_or (tokens text) i d) (slice_index_or (tokens (text ++ more)) i d) }
+{}
+
+/// A place where no token stands, and not for want of bytes alone, is that of every text that begins with this one.
+pub fn broken_tokens_stay()
+    ensures { (text more : List ℕ) (f : Kind) (q : ℕ) → ending text ≡ Err (f, q) → is_end_inside f ≡ false → ending (text ++ more) ≡ Err (f, q) }
+{}
+
+/// The printed form of a map spells it, so reading it gives that map and no fault.
+pub fn printed_form_spells()
+    ensures spells { (m : MapValue) → IsMap m → Spells (printed m) m }
+    ensures read_again { (m n : MapValue) → IsMap m → Spells (printed m) n → n ≡ m }
+    ensures no_fault { (m : MapValue) (f : Found) → IsMap m → Fault (printed m) f → ⊥ }
+{}

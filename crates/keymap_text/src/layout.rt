@@ -1,0 +1,181 @@
+//! The lines of a printed map.
+ghost use Rattle.std.specs.Prelude.{◌≡◌, ◌+◌, ◌<◌, ◌≤◌, ◌++◌, ◌⊎◌, [], length, map, slice_index_or, codes};
+ghost use Rattle.keymap_text.specs.Printed as spec;
+
+use crate::names::{NAMES, Name};
+use arrayvec::ArrayVec;
+use keymap_core::{Accent, AccentIndex, Action, Cell, Entry, LockFlag};
+
+/// The text of a cell, at most `0x10ffff`.
+type Text = ArrayVec<u8, 8>;
+
+/// How long a line can be: that of an accent with 52 pairs.
+const LINE: usize = 1160;
+
+pub(crate) type Line = ArrayVec<u8, LINE>;
+
+fn text_of(bytes: &[u8]) -> Text
+    requires { length bytes.now ≤ 8 }
+    ensures { result.items ≡ bytes.now }
+{
+    let mut text = Text::new();
+    for b in bytes {
+        text.push(*b);
+    }
+    text
+}
+
+fn name_text(names: &[Name], index: usize) -> &'static [u8]
+    requires { index < length names.now }
+    ensures { result.now ≡ slice_index_or (map (λ name. name.text.now) names.now) index [] }
+{
+    names[index].text
+}
+
+/// The name of a control character.
+fn control_name(c: u8) -> &'static [u8]
+    requires { (c < 32) ⊎ (c ≡ 127) }
+    ensures name { result.now ≡ spec.control_name c }
+    ensures short { length result.now ≤ 3 }
+{
+    if c == 127 {
+        b"del"
+    } else {
+        name_text(&NAMES, c as usize)
+    }
+}
+
+fn hex_digit(d: u32) -> u8
+    requires { d < 16 }
+    ensures { result ≡ spec.hex_digit d }
+{
+    if d < 10 {
+        b'0' + d as u8
+    } else {
+        b'a' - 10 + d as u8
+    }
+}
+
+/// A number in hexadecimal, with four to six digits.
+#[tactic(auto, unfolding(crate::specs::Printed::hex))]
+fn hex_text(c: u32) -> Text
+    requires { c < 0x110000 }
+    ensures { result.items ≡ codes "0x" ++ spec.hex c }
+{
+    let mut text = text_of(b"0x");
+    if c >= 0x100000 {
+        text.push(hex_digit(c / 0x100000 % 16));
+    }
+    if c >= 0x10000 {
+        text.push(hex_digit(c / 0x10000 % 16));
+    }
+    text.push(hex_digit(c / 0x1000 % 16));
+    text.push(hex_digit(c / 0x100 % 16));
+    text.push(hex_digit(c / 0x10 % 16));
+    text.push(hex_digit(c % 16));
+    text
+}
+
+#[tactic(auto, unfolding(crate::specs::Printed::character_text))]
+fn character_text(c: char) -> Text
+    ensures { result.items ≡ spec.character_text c }
+{
+    match c {
+        '\0'..='\x1f' | '\x7f' => text_of(control_name(c as u8)),
+        ' '..='~' => text_of(&[b'\'', c as u8, b'\'']),
+        _ => hex_text(c as u32),
+    }
+}
+
+fn cell_text(cell: &Cell) -> Text
+    ensures { result.items ≡ spec.cell_text cell.now }
+{
+    match cell {
+        Cell::Char(c) => character_text(*c),
+        Cell::Act(action) => text_of(action.name().as_slice()),
+    }
+}
+
+fn push_text(line: &mut Line, text: &[u8])
+    requires { length line.old.items + length text.now ≤ 1160 }
+    ensures { line.new.items ≡ line.old.items ++ text.now }
+{
+    for b in text {
+        line.push(*b);
+    }
+}
+
+/// A blank, and the text of a cell, filled on the right with blanks to six places.
+fn push_column(line: &mut Line, cell: &Cell)
+    requires { length line.old.items + 9 ≤ 1160 }
+    ensures text { line.new.items ≡ line.old.items ++ spec.column (spec.cell_text cell.now) }
+    ensures size { length line.new.items ≤ length line.old.items + 9 }
+{
+    let text = cell_text(cell);
+    let blanks = [b' '; 6];
+    line.push(b' ');
+    push_text(line, text.as_slice());
+    if text.len() < 6 {
+        push_text(line, &blanks[text.len()..]);
+    }
+}
+
+fn flag_letter(flag: LockFlag) -> u8
+    ensures { result ≡ spec.flag_letter flag }
+{
+    match flag {
+        LockFlag::O => b'O',
+        LockFlag::C => b'C',
+        LockFlag::N => b'N',
+        LockFlag::B => b'B',
+    }
+}
+
+/// The line of a key.
+#[tactic(auto, unfolding(crate::specs::Printed::key_line))]
+pub(crate) fn key_line(slot: u8, entry: &Entry) -> Line
+    ensures { result.items ≡ spec.key_line slot entry.now }
+{
+    let mut line = Line::new();
+    push_text(
+        &mut line,
+        &[b'0' + slot / 100, b'0' + slot / 10 % 10, b'0' + slot % 10],
+    );
+    for cell in entry.cells() {
+        push_column(&mut line, cell);
+    }
+    push_text(&mut line, &[b' ', flag_letter(entry.flag), b'\n']);
+    line
+}
+
+/// A pair of an accent: ` ( base composed )`.
+#[tactic(auto, unfolding(crate::specs::Printed::pair_text))]
+fn push_pair(line: &mut Line, base: char, composed: char)
+    requires { length line.old.items + 22 ≤ 1160 }
+    ensures text { line.new.items ≡ line.old.items ++ spec.pair_text (base, composed) }
+    ensures size { length line.new.items ≤ length line.old.items + 22 }
+{
+    push_text(line, b" ( ");
+    push_text(line, character_text(base).as_slice());
+    line.push(b' ');
+    push_text(line, character_text(composed).as_slice());
+    push_text(line, b" )");
+}
+
+/// The line of an accent.
+#[tactic(auto, unfolding(crate::specs::Printed::accent_line))]
+pub(crate) fn accent_line(index: u8, accent: &Accent) -> Line
+    requires { index < 15 }
+    ensures { result.items ≡ spec.accent_line index accent.now }
+{
+    let mut line = Line::new();
+    let name = Action::DeadKey(AccentIndex::new(index)).name();
+    push_text(&mut line, name.as_slice());
+    line.push(b' ');
+    push_text(&mut line, character_text(accent.own()).as_slice());
+    for (base, composed) in accent.pairs() {
+        push_pair(&mut line, *base, *composed);
+    }
+    line.push(b'\n');
+    line
+}

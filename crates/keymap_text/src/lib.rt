@@ -1,0 +1,27 @@
+//! The text form of keymaps, as kbdcontrol(1) reads and dumps it: tokens, the reader and the printer.
+//!
+//! A text is a row of definitions of keys and accents. It spells one map or has one fault, and the reader answers
+//! exactly that, whether the text comes whole, in pieces or from a device. The crate stands on `keymap_core`, whose
+//! maps it reads and prints.
+#![tactic(auto)]
+
+mod fault;
+mod grammar;
+pub mod laws;
+mod layout;
+mod names;
+mod printer;
+mod reader;
+mod scanner;
+mod source;
+#[cfg(test)]
+mod tests;
+mod token;
+mod words;
+
+pub use fault::{TextError, TextFault, TextFaultKind};
+pub use printer::print_map;
+pub use reader::{MapReader, read_map};
+pub use source::read_from;
+pub use token::{Span, Token, TokenKind, next_token};
+pub use words::{Meaning, word_meaning};

@@ -1,0 +1,107 @@
+//! Reading a text, whole or in pieces.
+ghost use Rattle.std.specs.Prelude.{◌≡◌, ℕ, ◌+◌, ◌<◌, ◌^◌, ◌++◌, [], List, IfOk, length, MatchResult, Some, Err};
+ghost use Rattle.keymap_text.specs.Standing.{StandsAfter, FedAfter, Means, Concludes, Reads};
+ghost use Rattle.keymap_text.specs.declared.fault.TextFault.{TextFault as Found};
+
+use crate::fault::{TextError, TextFault};
+use crate::scanner::Scanner;
+use keymap_core::KeyMap;
+use std::alloc::{AllocError, Global};
+use std::marker::Model;
+
+/// Reads a text that comes in pieces. It keeps the map, at most 32 bytes of an unfinished token and its place, never the text.
+#[derive(Drop)]
+pub struct MapReader {
+    scanner: Scanner,
+    fed: u64,
+    fault: Option<TextFault>,
+}
+
+impl Model for MapReader {
+    ghost use Rattle.keymap_text.specs.Progress.{Progress};
+
+    ghost Value = { Progress };
+
+    ghost use Rattle.keymap_text.specs.Inner.{progress, IsSound};
+
+    ghost view = { progress };
+
+    ghost invariant = { IsSound };
+}
+
+impl MapReader {
+    /// A reader that stands at the beginning of a text, with the memory that its map ever needs.
+    pub fn new(alloc: Global) -> Result<MapReader, AllocError>
+        ensures { IfOk result (λ reader. StandsAfter reader []) }
+    {
+        let map = KeyMap::new(alloc)?;
+        Ok(MapReader {
+            scanner: Scanner::new(map),
+            fed: 0,
+            fault: None,
+        })
+    }
+
+    /// How many bytes were taken without a fault.
+    pub fn fed(&self) -> u64
+        ensures { result ≡ self.now.fed }
+    {
+        self.fed
+    }
+
+    /// Takes the next piece: a fault exactly if the bytes so far have an early one, and then ever after.
+    pub fn feed(&mut self, piece: &[u8]) -> Result<(), TextFault>
+        requires room { self.old.fed + length piece.now < 2 ^ 63 }
+        ensures stands { (b : List ℕ) → StandsAfter self.old b → FedAfter result self.new (b ++ piece.now) }
+        ensures fed { MatchResult result (λ _. self.new.fed ≡ self.old.fed + length piece.now) (λ _. self.new.fed ≡ self.old.fed) }
+        ensures stays { (f : Found) → self.old.fault ≡ Some f → (result ≡ Err f) × (self.new.fault ≡ Some f) }
+    {
+        if let Some(f) = self.fault {
+            return Err(f);
+        }
+        match self.scanner.feed(piece) {
+            Ok(()) => {
+                self.fed += piece.len() as u64;
+                Ok(())
+            }
+            Err(f) => {
+                self.fault = Some(f);
+                Err(f)
+            }
+        }
+    }
+
+    /// The text ends here: the map that it spells, or its fault.
+    pub fn finish(self) -> Result<KeyMap, TextFault>
+        ensures means { (b : List ℕ) → StandsAfter self b → Means result b }
+        ensures stays { (f : Found) → self.fault ≡ Some f → result ≡ Err f }
+    {
+        match self.fault {
+            Some(f) => Err(f),
+            None => self.scanner.finish(),
+        }
+    }
+}
+
+/// The end of a text, its fault as an error.
+pub(crate) fn conclude(reader: MapReader) -> Result<KeyMap, TextError>
+    ensures { (b : List ℕ) → StandsAfter reader b → Concludes result b }
+{
+    match reader.finish() {
+        Ok(map) => Ok(map),
+        Err(fault) => Err(TextError::Fault(fault)),
+    }
+}
+
+/// The map that a text spells, or its fault. The map is reserved before the text is looked at.
+pub fn read_map(alloc: Global, text: &[u8]) -> Result<KeyMap, TextError>
+    ensures { Reads result text.now }
+{
+    let Ok(mut reader) = MapReader::new(alloc) else {
+        return Err(TextError::Memory);
+    };
+    if let Err(fault) = reader.feed(text) {
+        return Err(TextError::Fault(fault));
+    }
+    conclude(reader)
+}

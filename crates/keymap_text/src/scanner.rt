@@ -1,0 +1,341 @@
+//! Reading a text byte by byte.
+ghost use Rattle.std.specs.Prelude.{◌≡◌, ℕ, ◌+◌, ◌<◌, ◌≤◌, ◌^◌, ◌∷◌, ◌++◌, [], List, length, OnOk, IfErr, Ok, Err, drop, slice_index, cond, ◌==◌};
+ghost use Rattle.keymap_text.specs.Lexical.{literal};
+ghost use Rattle.keymap_text.specs.Reading.{verdict, ended, line};
+ghost use Rattle.keymap_text.specs.Words.{item, meaning};
+ghost use Rattle.keymap_text.specs.Views.{state_view, front_view, FoundFits, IsPlace};
+ghost use Rattle.keymap_text.specs.Resuming.{resume, Takes, IsReader, Accepts, HasNoRole, Says, Forward, IsPending, Lined, line_feed};
+ghost use Rattle.keymap_text.specs.Grammar as spec;
+
+use crate::fault::{TextFault, TextFaultKind};
+use crate::grammar::{Grammar, Place};
+use crate::token::{Front, TokenKind, is_blank_byte, is_word_byte, literal_front};
+use crate::words::{Item, Meaning, item_of};
+use arrayvec::ArrayVec;
+use keymap_core::KeyMap;
+
+/// What the bytes are part of that stand after the last whole token.
+#[derive(Clone, Copy)]
+pub(crate) enum Mode {
+    Between,
+    Comment,
+    Word,
+    Literal,
+}
+
+/// Takes a text byte by byte. After a fault the value is of no use.
+#[derive(Drop)]
+pub(crate) struct Scanner {
+    pub(crate) grammar: Grammar,
+    pub(crate) mode: Mode,
+    /// The bytes of the token that is not whole yet.
+    pub(crate) pending: ArrayVec<u8, 32>,
+    /// The place of the first pending byte.
+    pub(crate) offset: u64,
+    /// The line of the first pending byte.
+    pub(crate) line: u64,
+}
+
+fn fault(kind: TextFaultKind, offset: u64, line: u64) -> TextFault
+    ensures kind { result.kind ≡ kind }
+    ensures offset { result.offset ≡ offset }
+    ensures line { result.line ≡ line }
+{
+    TextFault { offset, line, kind }
+}
+
+/// The line of the next byte, after the byte c.
+fn next_line(line: u64, c: u8) -> u64
+    requires { line + 1 < 2 ^ 64 }
+    ensures { result ≡ line + line_feed c }
+{
+    if c == b'\n' { line + 1 } else { line }
+}
+
+fn mode_in_comment(c: u8) -> Mode
+    ensures { result ≡ cond (c == 10) Mode.Between Mode.Comment }
+{
+    if c == b'\n' {
+        Mode::Between
+    } else {
+        Mode::Comment
+    }
+}
+
+impl Scanner {
+    /// Takes the next byte.
+    fn take(&mut self, c: u8) -> Result<(), TextFault>
+        requires reader { IsReader self.old }
+        requires room { self.old.offset + length self.old.pending.items + 1 < 2 ^ 63 }
+        ensures takes { Takes result (λ x. resume self.old (c ∷ x)) self.new }
+        ensures reader { OnOk result (IsReader self.new) }
+        ensures fed { OnOk result (self.new.offset + length self.new.pending.items ≡ self.old.offset + length self.old.pending.items + 1) }
+        ensures line { OnOk result (Forward self.old self.new c) }
+        ensures place { IfErr result (λ e. IsPending e self.old) }
+    {
+        match self.mode {
+            Mode::Between => self.begin(c),
+            Mode::Comment => {
+                self.pass(c);
+                Ok(())
+            }
+            Mode::Word => self.word_byte(c),
+            Mode::Literal => self.literal_byte(c),
+        }
+    }
+
+    /// A byte of a comment, or the end of its line.
+    fn pass(&mut self, c: u8)
+        requires reader { IsReader self.old }
+        requires mode { self.old.mode ≡ Mode.Comment }
+        requires room { self.old.offset + length self.old.pending.items + 1 < 2 ^ 63 }
+        ensures takes { (x : List ℕ) → resume self.old (c ∷ x) ≡ resume self.new x }
+        ensures reader { IsReader self.new }
+        ensures fed { self.new.offset + length self.new.pending.items ≡ self.old.offset + length self.old.pending.items + 1 }
+        ensures line { Forward self.old self.new c }
+    {
+        self.mode = mode_in_comment(c);
+        self.line = next_line(self.line, c);
+        self.offset += 1;
+    }
+
+    /// The first byte after a token.
+    fn begin(&mut self, c: u8) -> Result<(), TextFault>
+        requires reader { IsReader self.old }
+        requires mode { self.old.mode ≡ Mode.Between }
+        requires room { self.old.offset + length self.old.pending.items + 1 < 2 ^ 63 }
+        ensures takes { Takes result (λ x. resume self.old (c ∷ x)) self.new }
+        ensures reader { OnOk result (IsReader self.new) }
+        ensures fed { OnOk result (self.new.offset + length self.new.pending.items ≡ self.old.offset + length self.old.pending.items + 1) }
+        ensures line { OnOk result (Forward self.old self.new c) }
+        ensures place { IfErr result (λ e. IsPending e self.old) }
+    {
+        if is_blank_byte(c) {
+            self.line = next_line(self.line, c);
+            self.offset += 1;
+            return Ok(());
+        }
+        match c {
+            b'#' => {
+                self.mode = Mode::Comment;
+                self.offset += 1;
+                Ok(())
+            }
+            b'(' => self.paren(Item::Open),
+            b')' => self.paren(Item::Close),
+            b'\'' => {
+                self.mode = Mode::Literal;
+                self.pending.push(c);
+                Ok(())
+            }
+            _ => self.begin_word(c),
+        }
+    }
+
+    fn begin_word(&mut self, c: u8) -> Result<(), TextFault>
+        requires reader { IsReader self.old }
+        requires mode { self.old.mode ≡ Mode.Between }
+        requires byte { HasNoRole c }
+        ensures takes { Takes result (λ x. resume self.old (c ∷ x)) self.new }
+        ensures reader { OnOk result (IsReader self.new) }
+        ensures fed { OnOk result (self.new.offset + length self.new.pending.items ≡ self.old.offset + length self.old.pending.items + 1) }
+        ensures line { OnOk result (Forward self.old self.new c) }
+        ensures place { IfErr result (λ e. IsPending e self.old) }
+    {
+        if !is_word_byte(c) {
+            return Err(fault(TextFaultKind::BadByte, self.offset, self.line));
+        }
+        self.mode = Mode::Word;
+        self.pending.push(c);
+        Ok(())
+    }
+
+    fn paren(&mut self, item: Item) -> Result<(), TextFault>
+        requires reader { IsReader self.old }
+        requires mode { self.old.mode ≡ Mode.Between }
+        requires room { self.old.offset + length self.old.pending.items + 1 < 2 ^ 63 }
+        ensures accepts { Accepts result (spec.accept (state_view self.old.grammar) item) self.old.offset self.new (self.old.offset + 1) }
+        ensures reader { OnOk result (IsReader self.new) }
+        ensures fed { OnOk result (self.new.offset + length self.new.pending.items ≡ self.old.offset + length self.old.pending.items + 1) }
+        ensures line { OnOk result (self.new.line ≡ self.old.line) }
+        ensures place { IfErr result (λ e. IsPending e self.old) }
+    {
+        self.accept(item, 1)
+    }
+
+    fn pending_item(&self, kind: TokenKind) -> Item
+        ensures { result ≡ item kind self.now.pending.items }
+    {
+        item_of(kind, self.pending.as_slice())
+    }
+
+    fn pending_literal(&self) -> Front
+        requires { 0 < length self.now.pending.items }
+        ensures value { front_view result ≡ literal (drop 1 self.now.pending.items) }
+        ensures fits { FoundFits result (length (drop 1 self.now.pending.items)) }
+    {
+        literal_front(&self.pending.as_slice()[1..])
+    }
+
+    #[tactic(auto, unfolding(crate::specs::Grammar::accept))]
+    /// Takes a whole token of n bytes, of which none is pending then.
+    fn accept(&mut self, item: Item, n: u64) -> Result<(), TextFault>
+        requires place { IsPlace self.old.grammar.place self.old.grammar.accent }
+        requires low { self.old.line ≤ self.old.offset + 1 }
+        requires room { self.old.offset + n < 2 ^ 63 }
+        ensures accepts { Accepts result (spec.accept (state_view self.old.grammar) item) self.old.offset self.new (self.old.offset + n) }
+        ensures reader { OnOk result (IsReader self.new) }
+        ensures fed { OnOk result (self.new.pending.items ≡ []) }
+        ensures line { OnOk result (self.new.line ≡ self.old.line) }
+        ensures fault_line { IfErr result (λ e. e.line ≡ self.old.line) }
+    {
+        match self.grammar.accept(&item) {
+            Ok(()) => {
+                self.mode = Mode::Between;
+                self.pending.clear();
+                self.offset += n;
+                Ok(())
+            }
+            Err(kind) => Err(fault(kind, self.offset, self.line)),
+        }
+    }
+
+    /// The next byte, where a word is pending.
+    fn word_byte(&mut self, c: u8) -> Result<(), TextFault>
+        requires reader { IsReader self.old }
+        requires mode { self.old.mode ≡ Mode.Word }
+        requires room { self.old.offset + length self.old.pending.items + 1 < 2 ^ 63 }
+        ensures takes { Takes result (λ x. resume self.old (c ∷ x)) self.new }
+        ensures reader { OnOk result (IsReader self.new) }
+        ensures fed { OnOk result (self.new.offset + length self.new.pending.items ≡ self.old.offset + length self.old.pending.items + 1) }
+        ensures line { OnOk result (Forward self.old self.new c) }
+        ensures place { IfErr result (λ e. IsPending e self.old) }
+    {
+        if !is_word_byte(c) {
+            return match self.end_word() {
+                Ok(()) => self.begin(c),
+                Err(f) => Err(f),
+            };
+        }
+        if self.pending.is_full() {
+            return Err(fault(TextFaultKind::BadWord, self.offset, self.line));
+        }
+        self.pending.push(c);
+        Ok(())
+    }
+
+    /// The pending word is whole.
+    fn end_word(&mut self) -> Result<(), TextFault>
+        requires reader { IsReader self.old }
+        requires mode { self.old.mode ≡ Mode.Word }
+        requires room { self.old.offset + length self.old.pending.items < 2 ^ 63 }
+        ensures accepts { Accepts result (spec.accept (state_view self.old.grammar) (Item.Value (meaning self.old.pending.items))) self.old.offset self.new (self.old.offset + length self.old.pending.items) }
+        ensures reader { OnOk result (IsReader self.new) }
+        ensures fed { OnOk result (self.new.pending.items ≡ []) }
+        ensures line { OnOk result (self.new.line ≡ self.old.line) }
+        ensures fault_line { IfErr result (λ e. e.line ≡ self.old.line) }
+    {
+        let item = self.pending_item(TokenKind::Word);
+        let n = self.pending.len() as u64;
+        self.accept(item, n)
+    }
+
+    /// The next byte, where a quoted character is pending.
+    fn literal_byte(&mut self, c: u8) -> Result<(), TextFault>
+        requires reader { IsReader self.old }
+        requires mode { self.old.mode ≡ Mode.Literal }
+        requires room { self.old.offset + length self.old.pending.items + 1 < 2 ^ 63 }
+        ensures takes { Takes result (λ x. resume self.old (c ∷ x)) self.new }
+        ensures reader { OnOk result (IsReader self.new) }
+        ensures fed { OnOk result (self.new.offset + length self.new.pending.items ≡ self.old.offset + length self.old.pending.items + 1) }
+        ensures line { OnOk result (Forward self.old self.new c) }
+        ensures place { IfErr result (λ e. IsPending e self.old) }
+    {
+        self.pending.push(c);
+        match self.pending_literal() {
+            Front::Unfinished => Ok(()),
+            Front::Refused(kind) => Err(fault(kind, self.offset, self.line)),
+            Front::Found(kind, _) => {
+                let item = self.pending_item(kind);
+                let n = self.pending.len() as u64;
+                self.accept(item, n)
+            }
+        }
+    }
+
+    /// A reader that stands at the beginning of a text. The map is one without definitions.
+    pub(crate) fn new(map: KeyMap) -> Self
+        requires { map ≡ spec.empty_map }
+        ensures start { (x : List ℕ) → resume result x ≡ verdict x }
+        ensures reader { IsReader result }
+        ensures fed { result.offset + length result.pending.items ≡ 0 }
+        ensures line { result.line ≡ 1 }
+    {
+        Scanner {
+            grammar: Grammar::new(map),
+            mode: Mode::Between,
+            pending: ArrayVec::new(),
+            offset: 0,
+            line: 1,
+        }
+    }
+
+    /// Takes the next piece of the text.
+    pub(crate) fn feed(&mut self, piece: &[u8]) -> Result<(), TextFault>
+        requires reader { IsReader self.old }
+        requires room { self.old.offset + length self.old.pending.items + length piece.now < 2 ^ 63 }
+        ensures takes { Takes result (λ x. resume self.old (piece.now ++ x)) self.new }
+        ensures reader { OnOk result (IsReader self.new) }
+        ensures fed { OnOk result (self.new.offset + length self.new.pending.items ≡ self.old.offset + length self.old.pending.items + length piece.now) }
+        ensures line { (b : List ℕ) → Lined self.old b → OnOk result (Lined self.new (b ++ piece.now)) }
+        ensures fault_line { (b : List ℕ) → Lined self.old b → IfErr result (λ e. e.line ≡ line (b ++ piece.now) e.offset) }
+    {
+        for c in piece {
+            match self.take(*c) {
+                Ok(()) => {}
+                Err(f) => return Err(f),
+            }
+        }
+        Ok(())
+    }
+
+    /// The text ends here.
+    pub(crate) fn finish(mut self) -> Result<KeyMap, TextFault>
+        requires reader { IsReader self }
+        requires room { self.offset + length self.pending.items < 2 ^ 63 }
+        ensures says { Says result (resume self []) }
+        ensures place { IfErr result (λ e. IsPending e self) }
+    {
+        match self.mode {
+            Mode::Between => self.end(),
+            Mode::Comment => self.end(),
+            Mode::Word => match self.end_word() {
+                Ok(()) => self.end(),
+                Err(f) => Err(f),
+            },
+            Mode::Literal => Err(fault(
+                TextFaultKind::EndInside,
+                self.offset + self.pending.len() as u64,
+                self.line,
+            )),
+        }
+    }
+
+    /// The text ends between two tokens.
+    #[tactic(auto, unfolding(crate::specs::Grammar::at_end))]
+    fn end(mut self) -> Result<KeyMap, TextFault>
+        requires { IsPlace self.grammar.place self.grammar.accent }
+        ensures says { Says result (ended (spec.at_end (state_view self.grammar)) self.offset) }
+        ensures line { IfErr result (λ e. e.line ≡ self.line) }
+        ensures place { IfErr result (λ e. e.offset ≡ self.offset) }
+    {
+        match self.grammar.place {
+            Place::Definition => Ok(self.grammar.map),
+            Place::AfterAccent { index } => {
+                self.grammar.close_accent(index);
+                Ok(self.grammar.map)
+            }
+            _ => Err(fault(TextFaultKind::EndInside, self.offset, self.line)),
+        }
+    }
+}

@@ -1,0 +1,315 @@
+//! Printing maps, and reading them again.
+
+ghost use Rattle.std.specs.Prelude.{None};
+
+use crate::tests::maps;
+use crate::{print_map, read_map};
+use keymap_core::{Failed, ToStd, Write, WriteFault};
+use std::test::Fail;
+
+/// A writer that keeps what it takes, a few bytes at a time.
+#[derive(Drop)]
+struct Page {
+    bytes: Vec<u8>,
+    failed: bool,
+}
+
+impl Write for Page {
+    ghost contents = { λ _. None };
+
+    ghost has_failed = { λ page. page.failed };
+
+    fn write(&mut self, bytes: &[u8]) -> Result<usize, Failed> {
+        let count = bytes.len().min(7);
+        if self.bytes.extend_from_slice(&bytes[..count]).is_err() {
+            self.failed = true;
+            return Err(Failed);
+        }
+        Ok(count)
+    }
+
+    fn failed(&self) -> bool {
+        self.failed
+    }
+}
+
+/// A text, how many lines its map has for keys, those that are not undefined, and the lines for accents.
+struct Printed {
+    text: &'static [u8],
+    keys: usize,
+    lines: &'static [(usize, &'static [u8])],
+    accents: &'static [u8],
+}
+
+/// The line of an undefined entry, after its slot.
+const UNDEFINED: &[u8] = b" nul    nul    nul    nul    nul    nul    nul    nul    O";
+
+const MAPS: [Printed; 12] = [
+    Printed {
+        text: maps::EMPTY,
+        keys: 0,
+        lines: &[],
+        accents: b"",
+    },
+    Printed {
+        text: maps::LETTER_AND_SHIFT,
+        keys: 43,
+        lines: &[
+            (
+                30,
+                b"030 'a'    'A'    soh    soh    'a'    'A'    soh    soh    C",
+            ),
+            (
+                42,
+                b"042 lshift lshift lshift lshift lshift lshift lshift lshift O",
+            ),
+        ],
+        accents: b"",
+    },
+    Printed {
+        text: maps::TWO_SCROLL_LOCKS,
+        keys: 105,
+        lines: &[
+            (
+                70,
+                b"070 slock  slock  slock  slock  slock  slock  slock  slock  O",
+            ),
+            (
+                104,
+                b"104 slock  slock  slock  slock  slock  slock  slock  slock  O",
+            ),
+        ],
+        accents: b"",
+    },
+    Printed {
+        text: maps::SHIFT_WITH_TRAP,
+        keys: 43,
+        lines: &[
+            (
+                29,
+                b"029 lctrl  lctrl  lctrl  lctrl  lctrl  lctrl  lctrl  lctrl  O",
+            ),
+            (
+                42,
+                b"042 lshift lshift 'x'    'x'    lshift lshift lshift lshift O",
+            ),
+        ],
+        accents: b"",
+    },
+    Printed {
+        text: maps::ALT_SHIFT_WITH_TRAP,
+        keys: 94,
+        lines: &[
+            (
+                42,
+                b"042 lshift lshift lshift lshift lshift lshift lshift lshift O",
+            ),
+            (
+                93,
+                b"093 ashift ashift ashift ashift ashift ashift ashift ashift O",
+            ),
+        ],
+        accents: b"",
+    },
+    Printed {
+        text: maps::CAPS_AND_NUM,
+        keys: 70,
+        lines: &[
+            (
+                30,
+                b"030 'a'    'A'    soh    soh    'a'    'A'    soh    soh    B",
+            ),
+            (
+                58,
+                b"058 clock  clock  clock  clock  clock  clock  clock  clock  O",
+            ),
+            (
+                69,
+                b"069 nlock  nlock  nlock  nlock  nlock  nlock  nlock  nlock  O",
+            ),
+        ],
+        accents: b"",
+    },
+    Printed {
+        text: maps::ACCENTS,
+        keys: 93,
+        lines: &[
+            (
+                15,
+                b"015 ht     btab   ht     ht     ht     btab   ht     ht     O",
+            ),
+            (
+                18,
+                b"018 'e'    'E'    enq    enq    'e'    'E'    enq    enq    C",
+            ),
+            (
+                26,
+                b"026 dacu   dacu   dacu   dacu   dacu   dacu   dacu   dacu   O",
+            ),
+            (
+                30,
+                b"030 'a'    'A'    soh    soh    'a'    'A'    soh    soh    C",
+            ),
+            (
+                41,
+                b"041 dgra   dgra   dgra   dgra   dgra   dgra   dgra   dgra   O",
+            ),
+            (
+                42,
+                b"042 lshift lshift lshift lshift lshift lshift lshift lshift O",
+            ),
+            (
+                56,
+                b"056 meta   meta   meta   meta   meta   meta   meta   meta   O",
+            ),
+            (
+                57,
+                b"057 ' '    ' '    ' '    ' '    ' '    ' '    ' '    ' '    O",
+            ),
+            (
+                59,
+                b"059 fkey01 fkey01 fkey01 fkey01 fkey01 fkey01 fkey01 fkey01 O",
+            ),
+            (
+                92,
+                b"092 nscr   nscr   nscr   nscr   nscr   nscr   nscr   nscr   O",
+            ),
+        ],
+        accents: b"dgra nul
+dacu 0x00b4 ( 'e' 0x00e9 ) ( 'E' 0x00c9 ) ( 'e' 0x00ea )
+",
+    },
+    Printed {
+        text: maps::TWO_CONTROLS,
+        keys: 43,
+        lines: &[
+            (
+                29,
+                b"029 lctrl  rctrl  lctrl  rctrl  lctrl  rctrl  lctrl  rctrl  O",
+            ),
+            (
+                42,
+                b"042 lshift lshift lshift lshift lshift lshift lshift lshift O",
+            ),
+        ],
+        accents: b"",
+    },
+    Printed {
+        text: maps::UPPER_HALF,
+        keys: 222,
+        lines: &[
+            (
+                30,
+                b"030 'a'    'A'    soh    soh    'a'    'A'    soh    soh    C",
+            ),
+            (
+                58,
+                b"058 alock  alock  alock  alock  alock  alock  alock  alock  O",
+            ),
+            (
+                93,
+                b"093 ashift ashift ashift ashift ashift ashift ashift ashift O",
+            ),
+            (
+                158,
+                b"158 'b'    'B'    stx    stx    'b'    'B'    stx    stx    C",
+            ),
+            (
+                186,
+                b"186 alock  alock  alock  alock  alock  alock  alock  alock  O",
+            ),
+            (
+                221,
+                b"221 ashift ashift ashift ashift ashift ashift ashift ashift O",
+            ),
+        ],
+        accents: b"",
+    },
+    Printed {
+        text: maps::SHIFT_AND_CAPS,
+        keys: 59,
+        lines: &[
+            (
+                42,
+                b"042 lshift lshift lshift lshift lshift lshift lshift lshift O",
+            ),
+            (
+                58,
+                b"058 clock  clock  clock  clock  clock  clock  clock  clock  O",
+            ),
+        ],
+        accents: b"",
+    },
+    Printed {
+        text: b"001 ''' '\\' '#' ' ' nul nul nul nul O",
+        keys: 2,
+        lines: &[(
+            1,
+            b"001 '''    '\\'    '#'    ' '    nul    nul    nul    nul    O",
+        )],
+        accents: b"",
+    },
+    Printed {
+        text: b"0 'a' 'A' SOH soh fkey1 scr16 0x20ac DEL b dgra 0x10ffff ( 65536 127 )",
+        keys: 1,
+        lines: &[(
+            0,
+            b"000 'a'    'A'    soh    soh    fkey01 scr16  0x20ac del    B",
+        )],
+        accents: b"dgra 0x10ffff ( 0x10000 del )
+",
+    },
+];
+
+#[test]
+fn maps_are_printed_and_read_again(rt: HostRuntime) -> Result<(), Fail> {
+    for printed in &MAPS {
+        let map = read_map(rt.alloc(), printed.text)?;
+        let mut page = Page {
+            bytes: Vec::new(rt.alloc()),
+            failed: false,
+        };
+        print_map(&map, &mut page)?;
+        let mut wanted = Vec::new(rt.alloc());
+        let mut lines = printed.lines.iter();
+        let mut next = lines.next();
+        for slot in 0..printed.keys {
+            match next {
+                Some((typed, line)) if *typed == slot => {
+                    wanted.extend_from_slice(line)?;
+                    next = lines.next();
+                }
+                _ => {
+                    wanted.push(b'0' + (slot / 100 % 10) as u8)?;
+                    wanted.push(b'0' + (slot / 10 % 10) as u8)?;
+                    wanted.push(b'0' + (slot % 10) as u8)?;
+                    wanted.extend_from_slice(UNDEFINED)?;
+                }
+            }
+            wanted.push(b'\n')?;
+        }
+        wanted.extend_from_slice(printed.accents)?;
+        assert_eq!(rt;
+            page.bytes.as_slice(),
+            wanted.as_slice(),
+            "of {printed:?}",
+            printed = printed.text
+        );
+        assert!(rt; read_map(rt.alloc(), page.bytes.as_slice())? == map);
+    }
+    Ok(())
+}
+
+#[test]
+fn a_full_writer_is_a_fault(rt: HostRuntime) -> Result<(), Fail> {
+    let map = read_map(rt.alloc(), b"0 'a' 'A' SOH soh fkey1 scr16 0x20ac DEL b")?;
+    let mut page = [0u8; 10];
+    let mut writer = ToStd::new(page.as_mut_slice());
+    assert_eq!(rt;
+        print_map(&map, &mut writer),
+        Err(WriteFault { written: 10 })
+    );
+    assert!(rt; writer.failed());
+    assert_eq!(rt; page.as_slice(), b"000 'a'   ".as_slice());
+    Ok(())
+}

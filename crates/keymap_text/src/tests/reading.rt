@@ -1,0 +1,241 @@
+//! Reading texts, whole and in pieces.
+
+ghost use Rattle.std.specs.Prelude.{◌<◌};
+
+use crate::tests::maps::{ACCENTS, LETTER_AND_SHIFT};
+use crate::{MapReader, TextError, TextFault, TextFaultKind, print_map, read_map};
+use keymap_core::{
+    Action, Cell, Entry, FunctionNumber, KeyMap, LockFlag, Modifier, ScreenNumber, ToStd,
+};
+use std::alloc::Global;
+use std::process::Abort;
+use std::test::Fail;
+
+/// The map or fault of a text in pieces of a size. Where a growth is refused, the reader is made again.
+pub(crate) fn read_pieces(
+    rt: &impl Abort,
+    alloc: Global,
+    text: &[u8],
+    size: usize,
+) -> Result<KeyMap, TextError>
+    requires { 0 < size }
+{
+    let mut reader = match MapReader::new(alloc) {
+        Ok(reader) => reader,
+        Err(_) => MapReader::new(alloc).map_err(|_| TextError::Memory)?,
+    };
+    for piece in text.chunks(size) {
+        let before = reader.fed();
+        assert!(rt; before <= 1 << 40 && piece.len() <= 1 << 20);
+        if let Err(fault) = reader.feed(piece) {
+            assert_eq!(rt; reader.fed(), before);
+            assert_eq!(rt; reader.feed(b" "), Err(fault));
+            assert_eq!(rt; reader.finish().err(), Some(fault));
+            return Err(TextError::Fault(fault));
+        }
+        assert_eq!(rt; reader.fed(), before + piece.len() as u64);
+    }
+    reader.finish().map_err(TextError::Fault)
+}
+
+#[test]
+fn the_empty_text_is_the_map_of_no_keys(rt: HostRuntime) -> Result<(), Fail> {
+    let map = match read_map(rt.alloc(), b"") {
+        Err(TextError::Memory) => read_map(rt.alloc(), b"")?,
+        other => other?,
+    };
+    assert_eq!(rt; (map.n_keys(), map.n_accs()), (0, 0));
+    let copy = match map.try_clone(rt.alloc()) {
+        Ok(copy) => copy,
+        Err(_) => map.try_clone(rt.alloc())?,
+    };
+    assert!(rt; copy == map);
+    let mut page = [b'x'; 1];
+    let mut writer = ToStd::new(page.as_mut_slice());
+    print_map(&map, &mut writer)?;
+    assert_eq!(rt; page, [b'x']);
+    Ok(())
+}
+
+#[test]
+fn cells_are_read(rt: HostRuntime) -> Result<(), Fail> {
+    let map = read_map(rt.alloc(), b"001 ''' '\\' '#' ' ' nul nul nul nul O")?;
+    assert_eq!(rt; map.n_keys(), 2);
+    let cells = map.entry(1).cells();
+    assert_eq!(rt; (cells[0], cells[1]), (Cell::Char('\''), Cell::Char('\\')));
+    assert_eq!(rt; (cells[2], cells[3]), (Cell::Char('#'), Cell::Char(' ')));
+    assert_eq!(rt; *map.entry(0), Entry::undefined());
+
+    let map = read_map(rt.alloc(), b"0 'a' 'A' SOH soh fkey1 scr16 0x20ac DEL b")?;
+    let entry = map.entry(0);
+    assert_eq!(rt;
+        (entry.cells[1], entry.cells[2]),
+        (Cell::Char('A'), Cell::Char('\x01'))
+    );
+    assert_eq!(rt;
+        (entry.cells[6], entry.cells[7]),
+        (Cell::Char('\u{20ac}'), Cell::Char('\x7f'))
+    );
+    assert_eq!(rt; entry.flag, LockFlag::B);
+    let first_function = Cell::Act(Action::Function(FunctionNumber::new(1)));
+    let last_screen = Cell::Act(Action::Screen(ScreenNumber::new(16)));
+    assert_eq!(rt;
+        (entry.cells[4], entry.cells[5]),
+        (first_function, last_screen)
+    );
+
+    let map = read_map(rt.alloc(), b"255 nop nop nop nop nop nop nop nop O")?;
+    assert_eq!(rt; map.n_keys(), 256);
+    assert_eq!(rt; *map.entry(254), Entry::undefined());
+    assert_eq!(rt; map.entry(255).cells[7], Cell::Act(Action::Nop));
+    Ok(())
+}
+
+/// A line of the layout that kbdcontrol(1) dumps, with its header.
+const DUMPED: &[u8] = b"#                                                         alt
+# scan                       cntrl          alt    alt   cntrl lock
+  104   slock  saver  slock  saver  susp   nop    susp   nop     O
+";
+
+#[test]
+fn dumped_lines_are_read(rt: HostRuntime) -> Result<(), Fail> {
+    let map = read_map(rt.alloc(), DUMPED)?;
+    let entry = map.entry(104);
+    assert_eq!(rt; map.n_keys(), 105);
+    assert_eq!(rt; entry.cells[1], Cell::Act(Action::Saver));
+    assert_eq!(rt; entry.cells[4], Cell::Act(Action::Suspend));
+    assert_eq!(rt; entry.flag, LockFlag::O);
+    Ok(())
+}
+
+#[test]
+fn the_last_of_two_definitions_counts(rt: HostRuntime) -> Result<(), Fail> {
+    let text = b"1 'a' 'a' 'a' 'a' 'a' 'a' 'a' 'a' O 001 'b' 'b' 'b' 'b' 'b' 'b' 'b' 'b' C";
+    let map = read_map(rt.alloc(), text)?;
+    let wanted = Entry {
+        cells: [Cell::Char('b'); 8],
+        flag: LockFlag::C,
+    };
+    assert_eq!(rt; map.n_keys(), 2);
+    assert_eq!(rt; *map.entry(1), wanted);
+    let map = read_map(rt.alloc(), b"dacu 1 ( 2 3 ) dgra 4 dacu 5")?;
+    assert_eq!(rt; map.n_accs(), 2);
+    assert_eq!(rt; map.accent(1).map(|accent| accent.pairs().len()), Some(0));
+    let text = b"9 nop nop nop nop nop nop nop nop O 1 nul nul nul nul nul nul nul nul O";
+    assert_eq!(rt; read_map(rt.alloc(), text)?.n_keys(), 10);
+    Ok(())
+}
+
+/// A text, and a further one so many times.
+fn repeated(
+    alloc: Global,
+    text: &[u8],
+    more: &[u8],
+    times: usize,
+) -> Result<Vec<u8>, std::alloc::AllocError> {
+    let mut bytes = Vec::new(alloc);
+    bytes.extend_from_slice(text)?;
+    for _ in 0..times {
+        bytes.extend_from_slice(more)?;
+    }
+    Ok(bytes)
+}
+
+#[test]
+fn accents_are_read(rt: HostRuntime) -> Result<(), Fail> {
+    let map = read_map(rt.alloc(), b"dacu 180\n( 'e' 0xe9 )\n( 'E' 0xc9 )")?;
+    let accent = map.accent(1).ok_or("no accent")?;
+    assert_eq!(rt; map.n_accs(), 2);
+    assert_eq!(rt; accent.own(), '\u{b4}');
+    assert_eq!(rt;
+        accent.pairs(),
+        [('e', '\u{e9}'), ('E', '\u{c9}')].as_slice()
+    );
+    let map = read_map(rt.alloc(), b"dmac 000")?;
+    assert_eq!(rt; map.n_accs(), 5);
+    assert_eq!(rt; map.accent(4).map(|accent| accent.own()), Some('\0'));
+    let text = repeated(rt.alloc(), b"dgra 96", b" ( 'a' 'b' )", 52)?;
+    let map = read_map(rt.alloc(), text.as_slice())?;
+    assert_eq!(rt; map.accent(0).map(|accent| accent.pairs().len()), Some(52));
+    let text = repeated(rt.alloc(), b"dgra 96", b" ( 'a' 'b' )", 53)?;
+    let wanted = TextFault {
+        offset: 632,
+        line: 1,
+        kind: TextFaultKind::TooManyPairs,
+    };
+    assert_eq!(rt;
+        read_map(rt.alloc(), text.as_slice()).err(),
+        Some(TextError::Fault(wanted))
+    );
+    Ok(())
+}
+
+/// Pieces, the offset and kind of the fault, and whether it comes before the end.
+type Feeding = (&'static [&'static [u8]], u64, TextFaultKind, bool);
+
+#[test]
+fn words_are_judged_when_they_are_complete(rt: HostRuntime) -> Result<(), Fail> {
+    use TextFaultKind::{BadLiteral, BadWord, EndInside, KeyTooLarge, Unexpected};
+    let texts: [Feeding; 8] = [
+        (&[b"25", b"6"], 0, KeyTooLarge, false),
+        (&[b"25", b"6", b" "], 0, KeyTooLarge, true),
+        (&[b"1 ", b"'\xc3", b"\xa9", b"'"], 6, EndInside, false),
+        (&[b"1 ", b"''", b"a"], 2, BadLiteral, true),
+        (&[b"1 ", b"''"], 4, EndInside, false),
+        (
+            &[b"1 ", b"xxxxxxxxxxxxxxxxxxxxxxxxxxxxxxxx"],
+            2,
+            BadWord,
+            false,
+        ),
+        (
+            &[b"1 ", b"xxxxxxxxxxxxxxxxxxxxxxxxxxxxxxxx", b"x"],
+            2,
+            BadWord,
+            true,
+        ),
+        (&[b"1 ("], 2, Unexpected, true),
+    ];
+    for (pieces, offset, kind, early) in texts {
+        let wanted = TextFault {
+            offset,
+            line: 1,
+            kind,
+        };
+        let mut reader = MapReader::new(rt.alloc())?;
+        let mut answer = Ok(());
+        for piece in pieces {
+            assert!(rt; answer.is_ok() && reader.fed() <= 99 && piece.len() <= 99);
+            answer = reader.feed(piece);
+        }
+        let wanted_of_feed = if early { Err(wanted) } else { Ok(()) };
+        assert_eq!(rt; answer, wanted_of_feed, "of {pieces:?}");
+        assert_eq!(rt; reader.finish().err(), Some(wanted), "of {pieces:?}");
+    }
+    Ok(())
+}
+
+/// Each prefix of a text is one map or has one fault, in pieces of any size.
+#[test]
+fn pieces_make_no_difference(rt: HostRuntime) -> Result<(), Fail> {
+    for end in 0..=ACCENTS.len() {
+        if end > 150 && end + 60 < ACCENTS.len() {
+            continue;
+        }
+        let text = &ACCENTS[..end];
+        let whole = read_map(rt.alloc(), text);
+        for size in [1, 7] {
+            match (&whole, read_pieces(&rt, rt.alloc(), text, size)) {
+                (Ok(map), Ok(other)) => assert!(rt; *map == other, "up to {end}"),
+                (Err(error), Err(other)) => assert_eq!(rt; *error, other, "up to {end}"),
+                _ => assert!(rt; false, "up to {end}"),
+            }
+        }
+    }
+    let map = read_pieces(&rt, rt.alloc(), LETTER_AND_SHIFT, 1)?;
+    assert_eq!(rt; map.n_keys(), 43);
+    assert_eq!(rt; map.entry(30).cells[5], Cell::Char('A'));
+    let shift = Cell::Act(Action::Mod(Modifier::LeftShift));
+    assert_eq!(rt; map.entry(42).cells, [shift; 8]);
+    Ok(())
+}

@@ -1,0 +1,219 @@
+//! Tokens of a text.
+ghost use Rattle.std.specs.Prelude.{◌≡◌, ℕ, ◌+◌, ◌<◌, ◌≤◌, ◌==◌, Bool, false, List, ◌∷◌, length, take, drop, slice_index, cond, IsFalse, IfOk, IfSome, IfErr};
+ghost use Rattle.keymap_text.specs.Lexical as lexical;
+ghost use Rattle.keymap_text.specs.Lexical.{is_blank, is_word, stays_on_line, separates, leading, is_lone, literal, word, front, split, first};
+ghost use Rattle.keymap_text.specs.Reading.{line};
+ghost use Rattle.keymap_text.specs.Views.{front_view, FoundFits, result_view};
+
+use crate::fault::{TextFault, TextFaultKind};
+
+/// What a token is.
+#[derive(Clone, Copy, Debug, PartialEq, Eq)]
+pub enum TokenKind {
+    ParenL,
+    ParenR,
+    /// A character between apostrophes.
+    Literal(char),
+    /// A longest run of ASCII letters and digits.
+    Word,
+}
+
+/// Where a token stands in the text: the offset of its first byte, and that after its last one.
+#[derive(Clone, Copy, Debug, PartialEq, Eq)]
+pub struct Span {
+    pub start: usize,
+    pub end: usize,
+}
+
+/// A token, with its bytes and its place in the text.
+#[derive(Clone, Copy, Debug)]
+pub struct Token<'a> {
+    pub kind: TokenKind,
+    pub slice: &'a [u8],
+    pub span: Span,
+}
+
+/// What stands at the front of some bytes; a token has this many bytes after its first one.
+#[derive(Clone, Copy)]
+pub(crate) enum Front {
+    Found(TokenKind, usize),
+    Refused(TextFaultKind),
+    Unfinished,
+}
+
+pub(crate) fn is_blank_byte(c: u8) -> bool
+    ensures { result ≡ is_blank c }
+{
+    c == b' ' || c == b'\t' || c == b'\r' || c == b'\n'
+}
+
+pub(crate) fn is_word_byte(c: u8) -> bool
+    ensures { result ≡ is_word c }
+{
+    c.is_ascii_alphanumeric()
+}
+
+#[tactic(auto, using(crate::proofs::Leading::leading_rules))]
+/// How many word bytes stand in front.
+fn word_len(bytes: &[u8]) -> usize
+    ensures length { result ≤ length bytes.now }
+    ensures value { result ≡ leading is_word bytes.now }
+{
+    let mut i: usize = 0;
+    while i < bytes.len() && is_word_byte(bytes[i]) {
+        i += 1;
+    }
+    i
+}
+
+#[tactic(auto, using(crate::proofs::Leading::leading_rules))]
+/// The place of the line's end, at `at` or after it.
+fn line_end(text: &[u8], at: usize) -> usize
+    requires { at ≤ length text.now }
+    ensures length { result ≤ length text.now }
+    ensures value { result ≡ at + leading stays_on_line (drop at text.now) }
+{
+    let mut i = at;
+    while i < text.len() && text[i] != b'\n' {
+        i += 1;
+    }
+    i
+}
+
+/// Does a byte from 0x80 on stand before an apostrophe?
+fn is_lone_byte(bytes: &[u8]) -> bool
+    ensures { result ≡ is_lone bytes.now }
+{
+    bytes.len() > 1 && bytes[0] >= 0x80 && bytes[1] == b'\''
+}
+
+#[tactic(auto, unfolding(crate::specs::Lexical::literal))]
+/// The quoted character whose bytes these are, after the first apostrophe.
+pub(crate) fn literal_front(bytes: &[u8]) -> Front
+    ensures value { front_view result ≡ literal bytes.now }
+    ensures fits { FoundFits result (length bytes.now) }
+{
+    if is_lone_byte(bytes) {
+        return Front::Found(TokenKind::Literal(bytes[0] as char), 2);
+    }
+    let (character, size) = bstr::decode_utf8(bytes);
+    match character {
+        Some('\n') => Front::Refused(TextFaultKind::BadLiteral),
+        Some(c) => {
+            if bytes.len() <= size {
+                Front::Unfinished
+            } else if bytes[size] == b'\'' {
+                Front::Found(TokenKind::Literal(c), size + 1)
+            } else {
+                Front::Refused(TextFaultKind::BadLiteral)
+            }
+        }
+        None => {
+            if bytes.len() == size {
+                Front::Unfinished
+            } else {
+                Front::Refused(TextFaultKind::BadLiteral)
+            }
+        }
+    }
+}
+
+/// What stands at the front of some bytes that begin with neither a blank nor a comment.
+#[tactic(auto, unfolding(crate::specs::Lexical::front))]
+fn token_front(bytes: &[u8]) -> Front
+    requires some { 0 < length bytes.now }
+    requires stands { IsFalse (separates (slice_index bytes.now 0)) }
+    ensures value { front_view result ≡ front (slice_index bytes.now 0) (drop 1 bytes.now) }
+    ensures fits { FoundFits result (length (drop 1 bytes.now)) }
+{
+    let c = bytes[0];
+    let rest = &bytes[1..];
+    match c {
+        b'(' => Front::Found(TokenKind::ParenL, 0),
+        b')' => Front::Found(TokenKind::ParenR, 0),
+        b'\'' => literal_front(rest),
+        _ => word_front(c, rest),
+    }
+}
+
+#[tactic(auto, unfolding(crate::specs::Lexical::front))]
+fn word_front(c: u8, rest: &[u8]) -> Front
+    ensures value { front_view result ≡ cond (is_word c) (word (leading is_word rest.now)) (lexical.Refused TextFaultKind.BadByte) }
+    ensures fits { FoundFits result (length rest.now) }
+{
+    if !is_word_byte(c) {
+        return Front::Refused(TextFaultKind::BadByte);
+    }
+    let n = word_len(rest);
+    if n < 32 {
+        Front::Found(TokenKind::Word, n)
+    } else {
+        Front::Refused(TextFaultKind::BadWord)
+    }
+}
+
+/// The place after the blanks and comments at `at`.
+fn token_start(text: &[u8], at: usize) -> usize
+    requires { at ≤ length text.now }
+    ensures length { result ≤ length text.now }
+    ensures same { split 0 at (drop at text.now) ≡ split 0 result (drop result text.now) }
+    ensures stands { result < length text.now → IsFalse (separates (slice_index text.now result)) }
+{
+    let mut i = at;
+    while i < text.len() {
+        if text[i] == b'#' {
+            i = line_end(text, i + 1);
+        } else if is_blank_byte(text[i]) {
+            i += 1;
+        } else {
+            return i;
+        }
+    }
+    i
+}
+
+/// The line of a place, counted from 1.
+fn line_of(text: &[u8], place: usize) -> u64
+    requires { place ≤ length text.now }
+    ensures { result ≡ line text.now place }
+{
+    text[..place].iter().filter(|c| **c == b'\n').count() as u64 + 1
+}
+
+fn fault_at(text: &[u8], place: usize, kind: TextFaultKind) -> TextFault
+    requires { place ≤ length text.now }
+    ensures place { result.offset ≡ place }
+    ensures line { result.line ≡ line text.now place }
+    ensures kind { result.kind ≡ kind }
+{
+    TextFault {
+        offset: place as u64,
+        line: line_of(text, place),
+        kind,
+    }
+}
+
+/// The first token of the bytes from `at` on, after blanks and comments; none where the text ends there.
+pub fn next_token(text: &[u8], at: usize) -> Result<Option<Token<'_>>, TextFault>
+    requires { at ≤ length text.now }
+    ensures exact { result_view text.now result ≡ first (split 0 at (drop at text.now)) }
+    ensures span { IfOk result (λ token. IfSome token (λ t. t.span.end ≡ t.span.start + length t.slice.now)) }
+    ensures line { IfErr result (λ f. f.line ≡ line text.now f.offset) }
+{
+    let start = token_start(text, at);
+    if start == text.len() {
+        return Ok(None);
+    }
+    match token_front(&text[start..]) {
+        Front::Found(kind, n) => {
+            let end = start + 1 + n;
+            Ok(Some(Token {
+                kind,
+                slice: &text[start..end],
+                span: Span { start, end },
+            }))
+        }
+        Front::Refused(kind) => Err(fault_at(text, start, kind)),
+        Front::Unfinished => Err(fault_at(text, text.len(), TextFaultKind::EndInside)),
+    }
+}

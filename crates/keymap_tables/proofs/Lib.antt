@@ -1,0 +1,14 @@
+pub mod AccentImages
+pub mod Cells
+pub mod Contents
+pub mod Images
+pub mod Lifting
+pub mod Outcomes
+pub mod Pads
+pub mod Pairs
+pub mod ReadingLaws
+pub mod RowImages
+pub mod Rows
+pub mod SlotImages
+pub mod Slots
+pub mod Whole

@@ -1,0 +1,18 @@
+use Rattle.std.proofs.Common.{◌≡◌, ◌*◌, length, take}
+use Rattle.std.specs.Prelude.{All}
+use Rattle.std.specs.List.{flat_map}
+use Rattle.keymap_core.specs.Bounds.{IsAccent}
+use Rattle.keymap_tables.specs.Faults.{row_fault, accent_fault, HasNoFault}
+use Rattle.keymap_tables.specs.Image.{accent_bytes}
+use Rattle.keymap_tables.specs.Layouts.{wide}
+use Rattle.keymap_tables.proofs.read.read_accents.Given as goal
+
+-- The accents so far have the bytes so far, and no fault stands there.
+abbrev pub invariant-loop-index : goal.invariant-loop-index
+invariant-loop-index l = record {
+  count : length l.map.accents ≡ l.index;
+  bytes : flat_map (accent_bytes wide) l.map.accents ≡ take (420 * l.index) l.bytes;
+  known : All IsAccent l.map.accents;
+  entries : l.map.entries ≡ l.fn.map.entries;
+  sound : HasNoFault (row_fault (accent_fault wide) 420 l.n_accs l.bytes) (420 * l.index);
+}

@@ -1,0 +1,36 @@
+use Rattle.std.proofs.Common.{◌≡◌, ap, ◌∙◌, sym, [], ℕ, List}
+use Rattle.std.proofs.lemmas.Option.{get_or_from_slice_get, unwrap_or-slice_get, slice_get-get_or}
+use Rattle.std.proofs.Common.{subst, None, Some}
+use Rattle.keymap_core.specs.Bounds.{IsAccent}
+use Rattle.std.specs.Prelude.{unwrap_or, Option, slice_get}
+use Rattle.keymap_core.specs.Accents.{AccentValue, blank}
+use Rattle.keymap_tables.specs.Image.{accent_bytes}
+use Rattle.keymap_tables.specs.Layouts.{wide}
+use Rattle.keymap_tables.proofs.write.accent_piece.Goals as goal
+
+pub returns-in-Some-clause-bytes : goal.returns-in-Some-clause-bytes
+returns-in-Some-clause-bytes c =
+    c.accent_image.ensures.bytes ∙ ap (accent_bytes wide) (sym (get_or_from_slice_get c.args.map.now.accents c.args.index _ blank (sym c.in-Some.ensures.value)))
+
+none_some : (o : Option AccentValue) (a : AccentValue) → None ≡ o → o ≡ Some a → ⊥
+none_some o a none some = cc
+
+accent_of : ℕ → List (ℕ × ℕ) → AccentValue
+accent_of own pairs = record { own = own; pairs = pairs }
+
+blank-made : (a : AccentValue) → a.own ≡ 0 → a.pairs ≡ [] → a ≡ blank
+unfolding accent_of
+blank-made a own none = ap (λ (v : ℕ). accent_of v a.pairs) own ∙ ap (λ (v : List (ℕ × ℕ)). accent_of 0 v) none
+
+pub returns-in-None-clause-bytes : goal.returns-in-None-clause-bytes
+returns-in-None-clause-bytes c =
+    let past = ap (λ (o : Option AccentValue). unwrap_or o blank) c.in-None.ensures.value ∙ unwrap_or-slice_get c.args.map.now.accents c.args.index blank in
+    c.accent_image-in-None.ensures.bytes ∙ ap (accent_bytes wide) (blank-made c.new.result c.new.ensures.own c.new.ensures.pairs ∙ past)
+
+pub returns-in-Some-clause-known : goal.returns-in-Some-clause-known
+returns-in-Some-clause-known c used =
+    subst IsAccent (sym (get_or_from_slice_get c.args.map.now.accents c.args.index _ blank (sym c.in-Some.ensures.value))) c.accent_image.ensures.known
+
+pub returns-in-None-clause-known : goal.returns-in-None-clause-known
+returns-in-None-clause-known c used =
+    absurd (none_some (slice_get c.args.map.now.accents c.args.index) _ c.in-None.ensures.value (slice_get-get_or c.args.map.now.accents c.args.index blank used))

@@ -1,0 +1,5 @@
+pub mod Faults
+pub mod Image
+pub mod Layouts
+pub mod Readings
+pub mod Sources

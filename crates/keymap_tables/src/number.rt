@@ -1,0 +1,118 @@
+//! Reading of the numbers of a table.
+ghost use Rattle.std.specs.Prelude.{◌≡◌, ℕ, ◌+◌, ◌-◌, ◌<◌, ◌≤◌, length, drop, slice_index, IfOk, IfErr, OnOk, None, Some, MatchResult, true};
+ghost use Rattle.std.specs.Char.{IsScalar};
+ghost use Rattle.keymap_core.specs.Bounds.{IsCell};
+ghost use Rattle.keymap_tables.specs.Faults.{number_at, count_at, char_fault, action_fault, cell_fault, count_fault, IsFirstFault, IsFirstFilled, HasNoFault};
+ghost use Rattle.keymap_tables.specs.Image.{number_of, is_act, count_bytes, zeros};
+ghost use Rattle.keymap_tables.specs.Layouts.{wide};
+
+use crate::fault::{TableFault, TableFaultKind};
+use crate::layout::COUNT;
+use keymap_core::{Action, Cell};
+
+/// The four bytes from a place on, as a number.
+pub fn read_number(bytes: &[u8], at: usize) -> u32
+    requires { at + 4 ≤ length bytes.now }
+    ensures { result ≡ number_at wide bytes.now at }
+{
+    u32::from_le_bytes([bytes[at], bytes[at + 1], bytes[at + 2], bytes[at + 3]])
+}
+
+/// The character of the four bytes from a place on.
+pub fn read_char(bytes: &[u8], at: usize) -> Result<char, TableFault>
+    requires { at + 4 ≤ length bytes.now }
+    ensures number { IfOk result (λ c. c ≡ number_at wide bytes.now at) }
+    ensures known { IfOk result IsScalar }
+    ensures sound { OnOk result (char_fault (number_at wide bytes.now at) ≡ None) }
+    ensures fault { IfErr result (λ f. (f.offset ≡ at) × (char_fault (number_at wide bytes.now at) ≡ Some f.kind)) }
+{
+    match char::from_u32(read_number(bytes, at)) {
+        Some(c) => Ok(c),
+        None => Err(TableFault {
+            offset: at as u64,
+            kind: TableFaultKind::BadChar,
+        }),
+    }
+}
+
+/// The action of a number.
+fn action_of_number(number: u32) -> Result<Action, TableFaultKind>
+    ensures number { IfOk result (λ a. number_of (Cell.Act a) ≡ number) }
+    ensures known { IfOk result (λ a. IsCell (Cell.Act a)) }
+    ensures fault { MatchResult result (λ _. action_fault number ≡ None) (λ kind. action_fault number ≡ Some kind) }
+{
+    match u8::try_from(number) {
+        Ok(0x9b..=0xa0) => Err(TableFaultKind::Combined),
+        Ok(code) => Action::from_code(code).ok_or(TableFaultKind::BadAction),
+        Err(_) => Err(TableFaultKind::BadAction),
+    }
+}
+
+/// The cell of a number, an action where it is marked.
+pub fn cell_of(number: u32, is_marked: bool) -> Result<Cell, TableFaultKind>
+    ensures number { IfOk result (λ c. number_of c ≡ number) }
+    ensures mark { IfOk result (λ c. is_act c ≡ is_marked) }
+    ensures known { IfOk result IsCell }
+    ensures fault { MatchResult result (λ _. cell_fault number is_marked ≡ None) (λ kind. cell_fault number is_marked ≡ Some kind) }
+{
+    if is_marked {
+        Ok(Cell::Act(action_of_number(number)?))
+    } else {
+        match char::from_u32(number) {
+            Some(c) => Ok(Cell::Char(c)),
+            None => Err(TableFaultKind::BadChar),
+        }
+    }
+}
+
+/// Looks for a byte that isn't 0, from a place on.
+pub fn check_empty(bytes: &[u8], from: usize) -> Result<(), TableFault>
+    requires { from ≤ length bytes.now }
+    ensures none { OnOk result ((p : ℕ) → from ≤ p → slice_index bytes.now p ≡ 0) }
+    ensures first { IfErr result (IsFirstFilled bytes.now from) }
+{
+    for place in from..bytes.len() {
+        if bytes[place] != 0 {
+            return Err(TableFault {
+                offset: place as u64,
+                kind: TableFaultKind::NotEmpty,
+            });
+        }
+    }
+    Ok(())
+}
+
+/// The first two bytes, as a number.
+fn read_half(bytes: &[u8]) -> u16
+    requires { 2 ≤ length bytes.now }
+    ensures { result ≡ count_at bytes.now 0 }
+{
+    u16::from_le_bytes([bytes[0], bytes[1]])
+}
+
+/// A count of at most `most`, and two pads.
+pub fn read_count(bytes: &[u8], most: u16) -> Result<u16, TableFault>
+    requires { length bytes.now ≡ 4 }
+    ensures value { IfOk result (λ n. n ≡ count_at bytes.now 0) }
+    ensures few { IfOk result (λ n. n ≤ most) }
+    ensures image { IfOk result (λ n. bytes.now ≡ count_bytes wide n) }
+    ensures sound { OnOk result (HasNoFault (count_fault most bytes.now) 4) }
+    ensures fault { IfErr result (λ f. IsFirstFault (count_fault most bytes.now) f × (f.offset < 4)) }
+{
+    let count = read_half(bytes);
+    if count > most {
+        return Err(TableFault {
+            offset: 0,
+            kind: TableFaultKind::BadCount,
+        });
+    }
+    for place in 2..COUNT {
+        if bytes[place] != 0 {
+            return Err(TableFault {
+                offset: place as u64,
+                kind: TableFaultKind::BadPad,
+            });
+        }
+    }
+    Ok(count)
+}

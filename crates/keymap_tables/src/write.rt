@@ -1,0 +1,73 @@
+//! Writing of tables.
+ghost use Rattle.std.specs.Prelude.{◌≡◌, ◌+◌, ◌^◌, ◌<◌, ◌≤◌, ◌||◌, All, length, is_err, slice_index_or, OnOk};
+ghost use Rattle.keymap_core.specs.Accents.{blank};
+ghost use Rattle.keymap_core.specs.Devices.{WritesText};
+ghost use Rattle.keymap_core.specs.Bounds.{IsAccent, IsEntry, IsMap};
+ghost use Rattle.keymap_tables.specs.Image.{image, accent_bytes, slots_bytes, accents_bytes};
+ghost use Rattle.keymap_tables.specs.Layouts.{wide};
+ghost use Rattle.keymap_core.specs.Streams.{Pushes, size_of};
+
+use crate::accent::accent_image;
+use crate::count::count_image;
+use crate::layout::{ACCENT, ACCENTS, SLOTS};
+use crate::slot::slot_image;
+use arrayvec::ArrayVec;
+use keymap_core::{Accent, KeyMap, Stream, Write, WriteFault};
+
+fn push_slots<W: Write>(stream: &mut Stream, writer: &mut W, map: &KeyMap) -> Result<(), WriteFault>
+    requires few { length map.now.entries ≤ 256 }
+    requires counted { size_of stream.old + 9216 < 2 ^ 64 }
+    ensures bytes { Pushes (W.contents writer.old) (W.contents writer.new) stream.old stream.new (slots_bytes wide map.now.entries) result }
+    ensures count { OnOk result (size_of stream.new ≡ size_of stream.old + 9216) }
+    ensures failed { W.has_failed writer.new ≡ (is_err result || W.has_failed writer.old) }
+    ensures known { OnOk result (All IsEntry map.now.entries) }
+{
+    for slot in 0..SLOTS {
+        stream.push(writer, slot_image(map.entry(slot as u8)).as_slice())?;
+    }
+    Ok(())
+}
+
+/// The bytes of an accent, zeros where it isn't in use.
+fn accent_piece(map: &KeyMap, index: u8) -> ArrayVec<u8, ACCENT>
+    ensures bytes { result.items ≡ accent_bytes wide (slice_index_or map.now.accents index blank) }
+    ensures whole { length result.items ≡ 420 }
+    ensures known { index < length map.now.accents → IsAccent (slice_index_or map.now.accents index blank) }
+{
+    match map.accent(index) {
+        Some(accent) => accent_image(accent),
+        None => accent_image(&Accent::new('\0')),
+    }
+}
+
+fn push_accents<W: Write>(
+    stream: &mut Stream,
+    writer: &mut W,
+    map: &KeyMap,
+) -> Result<(), WriteFault>
+    requires few { length map.now.accents ≤ 15 }
+    requires counted { size_of stream.old + 6300 < 2 ^ 64 }
+    ensures bytes { Pushes (W.contents writer.old) (W.contents writer.new) stream.old stream.new (accents_bytes wide map.now.accents) result }
+    ensures count { OnOk result (size_of stream.new ≡ size_of stream.old + 6300) }
+    ensures failed { W.has_failed writer.new ≡ (is_err result || W.has_failed writer.old) }
+    ensures known { OnOk result (All IsAccent map.now.accents) }
+{
+    for index in 0..ACCENTS {
+        stream.push(writer, accent_piece(map, index as u8).as_slice())?;
+    }
+    Ok(())
+}
+
+/// Writes the table file of a map: 15,524 bytes, gathered into few writes. It takes no memory.
+pub fn write_tables<W: Write>(map: &KeyMap, writer: &mut W) -> Result<(), WriteFault>
+    ensures bytes { WritesText (λ f. f.written) (W.contents writer.old) (W.contents writer.new) (image map.now) result }
+    ensures failed { W.has_failed writer.new ≡ (is_err result || W.has_failed writer.old) }
+    ensures known { OnOk result (IsMap map.now) }
+{
+    let mut stream = Stream::new();
+    stream.push(writer, &count_image(map.n_keys()))?;
+    push_slots(&mut stream, writer, map)?;
+    stream.push(writer, &count_image(u16::from(map.n_accs())))?;
+    push_accents(&mut stream, writer, map)?;
+    stream.finish(writer)
+}

@@ -1,0 +1,7 @@
+use Rattle.std.proofs.Common.{refl}
+use Rattle.console_core.specs.History.{between}
+use Rattle.console_core.proofs.Agreeing.{stands-start}
+use Rattle.console_core.proofs.machine.Console.over.Goals as goal
+
+pub returns : goal.returns
+returns g c = (refl, refl, stands-start (between c.args.first.now c.args.second.now) _ _ _ _ _ c.requires.marks c.requires.locks c.requires.memories c.requires.pending c.requires.force)

@@ -1,0 +1,76 @@
+use Rattle.std.proofs.Common.{◌≡◌, ◌+◌, ◌∷◌, ◌++◌, [], take, ap, sym, ◌∙◌, arith}
+use Rattle.std.specs.Prelude.{reverse}
+use Rattle.std.proofs.lemmas.Grind.{common_steps}
+use Rattle.console_core.proofs.Headline.{on_only_while_pressed, on_exactly_while_pressed, off_once_quiet, goes_on_as_after_reset, repeats-kept}
+use Rattle.console_core.proofs.FreshPresses.{locked_by_fresh_presses}
+use Rattle.console_core.proofs.PlainLooks.{shown-plain}
+use Rattle.console_core.proofs.Traps.{on_only_while_pressed_without_traps}
+use Rattle.console_core.specs.History.{AnswersTo}
+use Rattle.console_core.proofs.Deliveries.{take_event, AnswersTo-push, reverse-push}
+use Rattle.console_core.proofs.replays.replay.Goals as goal
+
+pub loop-event-preserved : goal.loop-event-preserved
+loop-event-preserved g c =
+    let e : take (c.loop-event.event-index + 1) c.args.events.now ≡ take c.loop-event.event-index c.args.events.now ++ c.event-item.result ∷ [] = take_event _ _ _ c.event-item.is c.loop-event-test.true in
+    record {
+      room = omega arith;
+      count = omega arith;
+      answers = λ ms h s. rw (c.push_reserved.ensures.items, e, AnswersTo-push ms h (take c.loop-event.event-index c.args.events.now) c.event-item.result, c.loop-event.invariant.answers ms h s) (ap (λ a. AnswersTo ms h (take c.loop-event.event-index c.args.events.now) ++ a ∷ []) (c.step.ensures.answer ms _ (c.loop-event.invariant.stands ms h s)));
+      stands = λ ms h s. rw (e, reverse-push c.event-item.result (take c.loop-event.event-index c.args.events.now) h) (c.step.ensures.next ms _ (c.loop-event.invariant.stands ms h s));
+    }
+
+pub returns-clause-on_only_while_pressed : goal.returns-clause-on_only_while_pressed
+returns-clause-on_only_while_pressed g c =
+    λ ms h s keys safe i on.
+    let e : take c.loop-event.event-index c.args.events.now ≡ c.args.events.now = grind (arith, common_steps) in
+    let at : g.T.Translator.stands c.loop-event.console ms (reverse c.args.events.now ++ h) = rw e at (c.loop-event.invariant.stands ms h s) in
+    on_only_while_pressed ms (reverse c.args.events.now ++ h) safe keys i (sym (g.met.T.Translator.on_where_it_stands c.loop-event.console ms (reverse c.args.events.now ++ h) at i) ∙ on)
+
+pub returns-clause-on_exactly_while_pressed : goal.returns-clause-on_exactly_while_pressed
+returns-clause-on_exactly_while_pressed g c =
+    λ ms h s keys i k bears.
+    let e : take c.loop-event.event-index c.args.events.now ≡ c.args.events.now = grind (arith, common_steps) in
+    let at : g.T.Translator.stands c.loop-event.console ms (reverse c.args.events.now ++ h) = rw e at (c.loop-event.invariant.stands ms h s) in
+    g.met.T.Translator.on_where_it_stands c.loop-event.console ms (reverse c.args.events.now ++ h) at i ∙ on_exactly_while_pressed ms (reverse c.args.events.now ++ h) keys i k bears
+
+pub returns-clause-repeats_turn_no_steady_lock : goal.returns-clause-repeats_turn_no_steady_lock
+returns-clause-repeats_turn_no_steady_lock g c =
+    λ ms h s keys repeats l steady.
+    let e : take c.loop-event.event-index c.args.events.now ≡ c.args.events.now = grind (arith, common_steps) in
+    let at : g.T.Translator.stands c.loop-event.console ms (reverse c.args.events.now ++ h) = rw e at (c.loop-event.invariant.stands ms h s) in
+    g.met.T.Translator.locked_where_it_stands c.loop-event.console ms (reverse c.args.events.now ++ h) at l ∙ repeats-kept ms l h c.args.events.now steady keys repeats ∙ sym (g.met.T.Translator.locked_where_it_stands c.args.console.now ms h s l)
+
+pub returns-clause-off_once_quiet : goal.returns-clause-off_once_quiet
+returns-clause-off_once_quiet g c =
+    λ ms h s keys safe quiet i.
+    let e : take c.loop-event.event-index c.args.events.now ≡ c.args.events.now = grind (arith, common_steps) in
+    let at : g.T.Translator.stands c.loop-event.console ms (reverse c.args.events.now ++ h) = rw e at (c.loop-event.invariant.stands ms h s) in
+    g.met.T.Translator.on_where_it_stands c.loop-event.console ms (reverse c.args.events.now ++ h) at i ∙ off_once_quiet ms (reverse c.args.events.now ++ h) safe keys quiet i
+
+pub returns-clause-goes_on_as_after_reset : goal.returns-clause-goes_on_as_after_reset
+returns-clause-goes_on_as_after_reset g c =
+    λ ms h s keys safe quiet p.
+    let e : take c.loop-event.event-index c.args.events.now ≡ c.args.events.now = grind (arith, common_steps) in
+    let at : g.T.Translator.stands c.loop-event.console ms (reverse c.args.events.now ++ h) = rw e at (c.loop-event.invariant.stands ms h s) in
+    goes_on_as_after_reset ms (reverse c.args.events.now ++ h) safe keys quiet (sym (g.met.T.Translator.pending_where_it_stands c.loop-event.console ms (reverse c.args.events.now ++ h) at) ∙ p)
+
+pub returns-clause-locked_by_fresh_presses : goal.returns-clause-locked_by_fresh_presses
+returns-clause-locked_by_fresh_presses g c =
+    λ ms h s keys l k first bearer.
+    let e : take c.loop-event.event-index c.args.events.now ≡ c.args.events.now = grind (arith, common_steps) in
+    let at : g.T.Translator.stands c.loop-event.console ms (reverse c.args.events.now ++ h) = rw e at (c.loop-event.invariant.stands ms h s) in
+    g.met.T.Translator.locked_where_it_stands c.loop-event.console ms (reverse c.args.events.now ++ h) at l ∙ locked_by_fresh_presses ms (reverse c.args.events.now ++ h) keys l k first bearer
+
+pub returns-clause-looks_plainly : goal.returns-clause-looks_plainly
+returns-clause-looks_plainly g c =
+    λ ms h s keys plain none k.
+    let e : take c.loop-event.event-index c.args.events.now ≡ c.args.events.now = grind (arith, common_steps) in
+    let at : g.T.Translator.stands c.loop-event.console ms (reverse c.args.events.now ++ h) = rw e at (c.loop-event.invariant.stands ms h s) in
+    shown-plain ms (reverse c.args.events.now ++ h) none keys plain k (g.T.Translator.shows_on c.loop-event.console) (g.T.Translator.shows_locked c.loop-event.console) (λ i. g.met.T.Translator.on_where_it_stands c.loop-event.console ms (reverse c.args.events.now ++ h) at i) (λ l. g.met.T.Translator.locked_where_it_stands c.loop-event.console ms (reverse c.args.events.now ++ h) at l)
+
+pub returns-clause-on_only_while_pressed_without_traps : goal.returns-clause-on_only_while_pressed_without_traps
+returns-clause-on_only_while_pressed_without_traps g c =
+    λ ms h s keys locks i free on.
+    let e : take c.loop-event.event-index c.args.events.now ≡ c.args.events.now = grind (arith, common_steps) in
+    let at : g.T.Translator.stands c.loop-event.console ms (reverse c.args.events.now ++ h) = rw e at (c.loop-event.invariant.stands ms h s) in
+    on_only_while_pressed_without_traps ms (reverse c.args.events.now ++ h) keys locks i free (sym (g.met.T.Translator.on_where_it_stands c.loop-event.console ms (reverse c.args.events.now ++ h) at i) ∙ on)

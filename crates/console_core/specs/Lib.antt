@@ -1,0 +1,16 @@
+pub mod Agrees
+pub mod Answers
+pub mod Columns
+pub mod Facts
+pub mod Headline
+pub mod History
+pub mod Loads
+pub mod Plain
+pub mod Positions
+pub mod Raw
+pub mod Reading
+pub mod Resolved
+pub mod Safety
+pub mod Tables
+pub mod Traps
+pub mod Words

@@ -1,0 +1,45 @@
+-- How a history reads where loads change nothing: without loads, and where both maps are the same.
+use Rattle.std.specs.Prelude.{◌≡◌, ℕ, ◌<◌, List, [], ◌∷◌, ◌↔◌, true}
+use Rattle.keymap_core.specs.declared.action.Modifier.{Modifier}
+use Rattle.keymap_core.specs.declared.action.Lock.{Lock}
+use Rattle.keymap_core.specs.declared.action.Holding.{Holding}
+use Rattle.keymap_core.specs.Maps.{MapValue}
+use Rattle.console_core.specs.declared.event.Event.{Event}
+use Rattle.console_core.specs.declared.event.Event.TheVariants.{Press, Release, Reset, Load}
+use Rattle.console_core.specs.Positions.{count_where, is_odd}
+use Rattle.keymap_core.specs.Borne.{is_borne}
+use Rattle.console_core.specs.History.{Maps, between, in_force, resolved, On, Locked, Pending, AnswersTo, HasKeys, HasNoLoads}
+use Rattle.keymap_core.specs.Bearers.{Bears}
+use Rattle.console_core.specs.Reading.{Turns}
+
+-- a list without loads reads as under the first map alone, and a lock is on after an odd number of turns
+abbrev pub WithoutLoads : Type 0
+WithoutLoads =
+    (ms : Maps) (h : List Event) → HasNoLoads h
+    → (in_force ms h ≡ ms.first)
+    × (resolved ms h ≡ resolved (between ms.first ms.first) h)
+    × ((l : Lock) → Locked ms l h ≡ is_odd (count_where (Turns ms l) h))
+
+abbrev pub as_reset : Event → Event
+as_reset (Press k) = Press k
+as_reset (Release k) = Release k
+as_reset Reset = Reset
+as_reset Load = Reset
+
+abbrev pub loads_as_resets : List Event → List Event
+loads_as_resets [] = []
+loads_as_resets (e ∷ h) = as_reset e ∷ loads_as_resets h
+
+-- under one map twice a load is a reset
+abbrev pub LoadsOfOneMapAreResets : Type 0
+LoadsOfOneMapAreResets =
+    (m : MapValue) (h : List Event) → HasKeys h
+    → ((i : Modifier) → On (between m m) i h ≡ On (between m m) i (loads_as_resets h))
+    × ((l : Lock) → Locked (between m m) l h ≡ Locked (between m m) l (loads_as_resets h))
+    × (Pending (between m m) h ≡ Pending (between m m) (loads_as_resets h))
+    × ((later : List Event) → HasKeys later
+    → AnswersTo (between m m) h later ≡ AnswersTo (between m m) (loads_as_resets h) (loads_as_resets later))
+
+-- the test whether some key bears a holding action, in words
+abbrev pub BorneByTest : Type 0
+BorneByTest = (m : MapValue) (a : Holding) → (is_borne m a ≡ true) ↔ ((k : ℕ) × (k < 128) × Bears m k a)

@@ -1,0 +1,186 @@
+-- The notions of a history read on the events themselves, at a position (an event and the events before it).
+use Rattle.std.specs.Prelude.{◌≡◌, ◌≢◌, ℕ, ◌==◌, length, if◌then◌else◌, Bool, false, true, ◌&&◌, not, List, [], ◌∷◌, ◌++◌, Option, None, Some, ◌↔◌}
+use Rattle.keymap_core.specs.declared.action.Action.{Action}
+use Rattle.keymap_core.specs.declared.action.Holding.{Holding}
+use Rattle.keymap_core.specs.declared.action.Holding.TheVariants as holding
+use Rattle.keymap_core.specs.declared.action.Lock.{Lock}
+use Rattle.keymap_core.specs.declared.action.Modifier.TheVariants.{Meta}
+use Rattle.keymap_core.specs.declared.entry.Cell.{Cell}
+use Rattle.keymap_core.specs.declared.entry.Cell.TheVariants.{Char, Act}
+use Rattle.keymap_core.specs.Actions.{holding_action}
+use Rattle.keymap_core.specs.Maps.{MapValue}
+use Rattle.console_core.specs.declared.event.Answer.{Answer}
+use Rattle.console_core.specs.declared.event.Answer.TheVariants as answer
+use Rattle.console_core.specs.declared.event.Event.{Event}
+use Rattle.console_core.specs.declared.event.Event.TheVariants.{Press, Release, Reset, Load}
+use Rattle.keymap_core.specs.Borne.{is_borne}
+use Rattle.console_core.specs.Positions.{count_since, is_odd, positions_without}
+use Rattle.console_core.specs.Resolved.{ResolvedEvent, unless_nop, keeps_taken, usable_dead_key, look, remembered, taken_over, is_action, held, locked}
+use Rattle.console_core.specs.Answers.{answer_char, answer_action, answer_release}
+use Rattle.console_core.specs.History.{Maps, in_force, loaded, concerns, pressed, resolved, resolved_event, On, Pending, AnswerTo}
+
+-- Look, Remembered and Taken, of a key after h
+abbrev pub Look : Maps → ℕ → List Event → Cell
+Look ms k h = look (in_force ms h) (resolved ms h) k
+
+abbrev pub Remembered : Maps → ℕ → List Event → Option Action
+Remembered ms k h = remembered k (resolved ms h)
+
+abbrev pub taken_of : Option Action → Cell → Option Action
+taken_of o (Char c) = None
+taken_of o (Act a) = Some (taken_over o a)
+
+abbrev pub Taken : Maps → ℕ → List Event → Option Action
+Taken ms k h = taken_of (Remembered ms k h) (Look ms k h)
+
+abbrev pub Raises : Maps → Holding → Event → List Event → Bool
+Raises ms a (Press k) h = is_action (Taken ms k h) (holding_action a)
+Raises ms a _ h = false
+
+abbrev pub Lowers : Maps → Holding → Event → List Event → Bool
+Lowers ms a (Press k) h = false
+Lowers ms a (Release k) h = is_action (Remembered ms k h) (holding_action a)
+Lowers ms a Reset h = true
+Lowers ms a Load h = true
+
+-- On, of a modifier, and Down, of a lock
+abbrev pub Held : Maps → Holding → List Event → Bool
+Held ms a h = held a (resolved ms h)
+
+abbrev pub Turns : Maps → Lock → Event → List Event → Bool
+Turns ms l e h = Raises ms (holding.Lock l) e h && not (Held ms (holding.Lock l) h)
+
+-- a load that puts in force a map in which nobody bears the lock
+abbrev pub Unlocks : Maps → Lock → Event → List Event → Bool
+Unlocks ms l Load h = not (is_borne (loaded ms h) (holding.Lock l))
+Unlocks ms l _ h = false
+
+-- no element of `later` passes the test, where `tail` are the elements before them
+abbrev pub NoneOf : {A : Type 0} → (A → List A → Bool) → List A → List A → Type 0
+NoneOf test [] tail = Unit {0}
+NoneOf test (x ∷ later) tail = (test x (later ++ tail) ≡ false) × NoneOf test later tail
+
+-- some element starts it, and no later one ends it
+abbrev pub SomeSince : {A : Type 0} → (A → List A → Bool) → (A → List A → Bool) → List A → Type 0
+SomeSince {A} starts ends h =
+    (later : List A) × (x : A) × (before : List A) × (h ≡ later ++ x ∷ before) × (starts x before ≡ true) × NoneOf ends later (x ∷ before)
+
+-- the elements `recent` are those after the last one that passes `ends`, the elements `old` that one and those before
+abbrev pub IsSinceLast : {A : Type 0} → (A → List A → Bool) → List A → List A → Type 0
+IsSinceLast ends recent [] = NoneOf ends recent []
+IsSinceLast ends recent (x ∷ old) = NoneOf ends recent (x ∷ old) × (ends x old ≡ true)
+
+abbrev pub is_some : {B : Type 0} → Option B → Bool
+is_some None = false
+is_some (Some b) = true
+
+-- of the elements since the last one that passes `ends`, the first at which `pick` gives something gives b
+abbrev pub FirstSince : {A B : Type 0} → (A → List A → Bool) → (A → List A → Option B) → List A → B → Type 0
+FirstSince {A} ends pick h b =
+    (later : List A) × (x : A) × (earlier : List A) × (old : List A) × (h ≡ (later ++ x ∷ earlier) ++ old)
+    × IsSinceLast ends (later ++ x ∷ earlier) old × (pick x (earlier ++ old) ≡ Some b)
+    × NoneOf (λ y before. is_some (pick y before)) earlier old
+
+-- at none of them `pick` gives something
+abbrev pub NothingSince : {A B : Type 0} → (A → List A → Bool) → (A → List A → Option B) → List A → Type 0
+NothingSince {A} ends pick h =
+    (recent : List A) × (old : List A) × (h ≡ recent ++ old) × IsSinceLast ends recent old
+    × NoneOf (λ y before. is_some (pick y before)) recent old
+
+-- a reset, a load, a release of the key, or a press of it whose look is a character
+abbrev pub is_character : Cell → Bool
+is_character (Char c) = true
+is_character (Act a) = false
+
+abbrev pub Forgets : Maps → ℕ → Event → List Event → Bool
+Forgets ms k (Press j) h = (j == k) && is_character (Look ms j h)
+Forgets ms k (Release j) h = j == k
+Forgets ms k Reset h = true
+Forgets ms k Load h = true
+
+-- the look of a press of the key, if it is an action other than nop
+abbrev pub offered : Cell → Option Action
+offered (Char c) = None
+offered (Act a) = unless_nop a
+
+abbrev pub Offers : Maps → ℕ → Event → List Event → Option Action
+Offers ms k (Press j) h = if j == k then offered (Look ms j h) else None
+Offers ms k _ h = None
+
+abbrev pub RememberedByPositions : Type 0
+RememberedByPositions = (ms : Maps) (k : ℕ) (h : List Event) (a : Action) → (Remembered ms k h ≡ Some a) ↔ FirstSince (Forgets ms k) (Offers ms k) h a
+
+abbrev pub NothingRememberedByPositions : Type 0
+NothingRememberedByPositions = (ms : Maps) (k : ℕ) (h : List Event) → (Remembered ms k h ≡ None) ↔ NothingSince (Forgets ms k) (Offers ms k) h
+
+-- a release, or a press that takes nop, a modifier or a lock
+abbrev pub keeps_option : Option Action → Bool
+keeps_option None = false
+keeps_option (Some a) = keeps_taken a
+
+abbrev pub Keeps : Maps → Event → List Event → Bool
+Keeps ms (Press k) h = keeps_option (Taken ms k h)
+Keeps ms (Release k) h = true
+Keeps ms Reset h = false
+Keeps ms Load h = false
+
+-- the dead key that a press takes, if it is usable in the map m
+abbrev pub dead_key_of : MapValue → Option Action → Option ℕ
+dead_key_of m None = None
+dead_key_of m (Some a) = usable_dead_key m a
+
+abbrev pub TakesDeadKey : Maps → MapValue → Event → List Event → Option ℕ
+TakesDeadKey ms m (Press k) h = dead_key_of m (Taken ms k h)
+TakesDeadKey ms m _ h = None
+
+-- all positions of the run take the dead key i
+abbrev pub AllTake : Maps → MapValue → ℕ → List (Event × List Event) → Type 0
+AllTake ms m i [] = Unit {0}
+AllTake ms m i (p ∷ run) = (TakesDeadKey ms m p.0 p.1 ≡ Some i) × AllTake ms m i run
+
+-- the last of the positions doesn't take the dead key i
+abbrev pub LastTakesNot : Maps → MapValue → ℕ → List (Event × List Event) → Type 0
+LastTakesNot ms m i [] = Unit {0}
+LastTakesNot ms m i (p ∷ rest) = TakesDeadKey ms m p.0 p.1 ≢ Some i
+
+-- the positions end in a longest run of presses that each take the dead key i, and its length is odd
+abbrev pub EndsInOddRun : Maps → MapValue → ℕ → List (Event × List Event) → Type 0
+EndsInOddRun ms m i positions =
+    (run : List (Event × List Event)) × (rest : List (Event × List Event)) × (positions ≡ run ++ rest)
+    × AllTake ms m i run × LastTakesNot ms m i rest × (is_odd (length run) ≡ true)
+
+abbrev pub PendingByRun : Type 0
+PendingByRun =
+    (ms : Maps) (h : List Event) (i : ℕ) → (Pending ms h ≡ Some i) ↔ EndsInOddRun ms (in_force ms h) i (positions_without (Keeps ms) h)
+
+abbrev pub HeldByPositions : Type 0
+HeldByPositions = (ms : Maps) (a : Holding) (h : List Event) → (Held ms a h ≡ true) ↔ SomeSince (Raises ms a) (Lowers ms a) h
+
+abbrev pub LockedByCount : Type 0
+LockedByCount = (ms : Maps) (l : Lock) (h : List Event) → locked l (resolved ms h) ≡ is_odd (count_since (Unlocks ms l) (Turns ms l) h)
+
+-- the last event that is about the key, or is a reset or a load, is a press of the key
+abbrev pub LastPresses : ℕ → List Event → Type 0
+LastPresses k h =
+    (later : List Event) × (before : List Event) × (h ≡ later ++ Press k ∷ before) × NoneOf (λ e _. concerns k e) later (Press k ∷ before)
+
+abbrev pub PressedByPositions : Type 0
+PressedByPositions = (k : ℕ) (h : List Event) → (pressed k h ≡ true) ↔ LastPresses k h
+
+-- What an event is resolved to, so what a pressed key looks up, depends on the events before it alone.
+abbrev pub ResolvedAtPrefix : Type 0
+ResolvedAtPrefix =
+    (ms : Maps) (later : List Event) (e : Event) (before : List Event)
+    → (newer : List ResolvedEvent) × (length newer ≡ length later)
+    × (resolved ms (later ++ e ∷ before) ≡ newer ++ resolved_event ms before e ∷ resolved ms before)
+
+-- The answer to a press, by the key's look, to a release, to a reset and to a load.
+abbrev pub answer_to_look : Maps → ℕ → List Event → Cell → Answer
+answer_to_look ms k h (Char c) = answer_char (in_force ms h) (Pending ms h) (On ms Meta h) c
+answer_to_look ms k h (Act a) = answer_action (in_force ms h) (Pending ms h) (On ms Meta h) (taken_over (Remembered ms k h) a)
+
+abbrev pub AnswersByCases : Type 0
+AnswersByCases =
+    (ms : Maps) (k : ℕ) (h : List Event)
+    → (AnswerTo ms h (Press k) ≡ answer_to_look ms k h (Look ms k h)) × (AnswerTo ms h (Release k) ≡ answer_release (Remembered ms k h))
+    × (AnswerTo ms h Reset ≡ answer.None) × (AnswerTo ms h Load ≡ answer.None)

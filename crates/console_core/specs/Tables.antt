@@ -1,0 +1,18 @@
+-- What the tables of a console hold, by the holding action, the lock or the key.
+use Rattle.std.specs.Prelude.{ℕ, Bool, false, List, Option, None, slice_index_or}
+use Rattle.keymap_core.specs.declared.action.Action.{Action}
+use Rattle.keymap_core.specs.declared.action.Holding.{Holding}
+use Rattle.keymap_core.specs.declared.action.Lock.{Lock}
+use Rattle.keymap_core.specs.Actions.{holding_index, lock_index}
+
+-- the mark of a holding action
+abbrev pub mark_at : List Bool → Holding → Bool
+mark_at marks a = slice_index_or marks (holding_index a) false
+
+-- the state of a lock
+abbrev pub lock_at : List Bool → Lock → Bool
+lock_at locks l = slice_index_or locks (lock_index l) false
+
+-- the action that is remembered for a key
+abbrev pub memory_at : List (Option Action) → ℕ → Option Action
+memory_at memory k = slice_index_or memory k None

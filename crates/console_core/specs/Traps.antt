@@ -1,0 +1,61 @@
+-- Keys that can leave a modifier on: one of their cells is the modifier, and another is a character that is looked up while
+-- the modifier is on.
+use Rattle.std.specs.Prelude.{◌≡◌, ℕ, ◌<◌, Bool, true, List}
+use Rattle.keymap_core.specs.declared.action.Modifier.{Modifier}
+use Rattle.keymap_core.specs.declared.action.Modifier.TheVariants.{LeftShift, RightShift, LeftControl, RightControl, LeftAlt, RightAlt, AltShift, Meta}
+use Rattle.keymap_core.specs.declared.action.Lock.TheVariants as lock
+use Rattle.keymap_core.specs.declared.action.Holding.TheVariants as holding
+use Rattle.keymap_core.specs.declared.entry.Cell.{Cell}
+use Rattle.keymap_core.specs.declared.entry.Cell.TheVariants.{Char}
+use Rattle.keymap_core.specs.Maps.{MapValue, cell_at}
+use Rattle.keymap_core.specs.Bearers.{Bears, IsUpperLive}
+use Rattle.console_core.specs.declared.event.Event.{Event}
+use Rattle.console_core.specs.Columns.{slot_of, column_of}
+use Rattle.console_core.specs.History.{Maps, in_force, On, pressed, HasKeys}
+use Rattle.console_core.specs.Plain.{NobodyBears}
+
+-- the bits of a cell: those of its column, and ashift for a cell in the upper half
+pub record Bits : Type 0 where
+  pub upper : Bool
+  pub shift : Bool
+  pub control : Bool
+  pub alt : Bool
+
+abbrev pub cell_with : MapValue → ℕ → Bits → Cell
+cell_with m k bits = cell_at m (slot_of k bits.upper) (column_of bits.shift bits.control bits.alt)
+
+-- the bit of the modifier's group; meta has none, and any bits will do
+abbrev pub group_bit : Modifier → Bits → Bool
+group_bit LeftShift bits = bits.shift
+group_bit RightShift bits = bits.shift
+group_bit LeftControl bits = bits.control
+group_bit RightControl bits = bits.control
+group_bit LeftAlt bits = bits.alt
+group_bit RightAlt bits = bits.alt
+group_bit AltShift bits = bits.upper
+group_bit Meta bits = true
+
+-- one of the key's cells is the modifier, and another is a character whose bits have the bit of the modifier's group
+abbrev pub HasTrap : MapValue → Modifier → ℕ → Type 0
+HasTrap m i k =
+    Bears m k (holding.Mod i)
+    × ((bits : Bits) × (c : ℕ) × (bits.upper ≡ true → IsUpperLive m) × (group_bit i bits ≡ true) × (cell_with m k bits ≡ Char c))
+
+abbrev pub HasNoTrap : MapValue → Modifier → Type 0
+HasNoTrap m i = (k : ℕ) → k < 128 → HasTrap m i k → ⊥
+
+-- nobody bears a lock that picks a cell
+abbrev pub HasNoLocks : MapValue → Type 0
+HasNoLocks m =
+    NobodyBears m (holding.Lock lock.Caps) × NobodyBears m (holding.Lock lock.Num) × NobodyBears m (holding.Lock lock.Alt)
+
+-- without those locks and without a trap for it, a modifier is on only while a key that bears it is pressed, also in a map
+-- that isn't safe
+abbrev pub IsOnOnlyWhilePressedWithoutTraps : MapValue → List Event → (Modifier → Bool) → Type 0
+IsOnOnlyWhilePressedWithoutTraps m h is_on =
+    HasNoLocks m → (i : Modifier) → HasNoTrap m i → is_on i ≡ true
+    → (k : ℕ) × (k < 128) × Bears m k (holding.Mod i) × (pressed k h ≡ true)
+
+abbrev pub OnOnlyWhilePressedWithoutTraps : Type 0
+OnOnlyWhilePressedWithoutTraps =
+    (ms : Maps) (h : List Event) → HasKeys h → IsOnOnlyWhilePressedWithoutTraps (in_force ms h) h (λ i. On ms i h)

@@ -1,0 +1,104 @@
+//! Laws over histories: the headline for all lists of events, the facts on which it stands, and each notion read on the
+//! positions of a list of events.
+ghost use Rattle.console_core.specs.Headline.{OnOnlyWhilePressed, OnExactlyWhilePressed, RepeatsTurnNoSteadyLock, OffOnceQuiet, LockedByFreshPresses, GoesOnAsAfterReset};
+ghost use Rattle.console_core.specs.Facts.{LooksAreCells, DeadUpperHalfIsNotLookedAt, HoldingIsRemembered, OnByPressedKey};
+ghost use Rattle.console_core.specs.Loads.{WithoutLoads, LoadsOfOneMapAreResets, BorneByTest};
+ghost use Rattle.console_core.specs.Plain.{LooksPlainly};
+ghost use Rattle.console_core.specs.Reading.{HeldByPositions, LockedByCount, RememberedByPositions, NothingRememberedByPositions, PendingByRun, PressedByPositions, ResolvedAtPrefix, AnswersByCases};
+ghost use Rattle.console_core.specs.Traps.{OnOnlyWhilePressedWithoutTraps};
+
+/// In a safe map a modifier is on only while a key that bears it is pressed; in any map one that a key alone bears
+/// throughout is on exactly while that key is pressed.
+pub fn modifiers_follow_keys()
+    ensures only_while { OnOnlyWhilePressed }
+    ensures exactly_while { OnExactlyWhilePressed }
+{}
+
+/// A repeat never turns a steady lock.
+pub fn repeats_turn_no_steady_lock()
+    ensures { RepeatsTurnNoSteadyLock }
+{}
+
+/// Once no key is pressed, in a safe map, no modifier is on, and with no accent pending the console goes on as after a
+/// reset.
+pub fn quiet_is_a_reset()
+    ensures off { OffOnceQuiet }
+    ensures goes_on { GoesOnAsAfterReset }
+{}
+
+/// A lock that one key alone bears throughout is on exactly after an odd number of fresh presses of that key.
+pub fn locks_count_fresh_presses()
+    ensures { LockedByFreshPresses }
+{}
+
+/// In a plain map what a key looks up follows from which keys are pressed and from fresh presses of the locks' keys.
+pub fn looks_plainly()
+    ensures { LooksPlainly }
+{}
+
+/// A modifier for which no key has a trap is on only while a key that bears it is pressed, also in a map that isn't safe,
+/// if nobody bears clock, nlock or alock.
+pub fn modifiers_without_traps_follow_keys()
+    ensures { OnOnlyWhilePressedWithoutTraps }
+{}
+
+/// What a key looks up is one of its cells; a dead upper half is never looked at.
+pub fn looks_are_cells()
+    ensures cells { LooksAreCells }
+    ensures dead_upper_half { DeadUpperHalfIsNotLookedAt }
+{}
+
+/// In a safe map a holding action that is remembered is forgotten only by a release, a reset or a load.
+pub fn holding_actions_are_remembered()
+    ensures { HoldingIsRemembered }
+{}
+
+/// In a safe map a modifier that is on has a pressed key that raised it.
+pub fn modifiers_are_raised_by_pressed_keys()
+    ensures { OnByPressedKey }
+{}
+
+/// On, down and locked on positions: some event raises it and no later event lowers it; the number of events that turn it
+/// is odd.
+pub fn held_by_positions()
+    ensures held { HeldByPositions }
+    ensures locked { LockedByCount }
+{}
+
+/// What is remembered, on positions: the first action other than nop that was looked up since the key was let go or looked
+/// up a character.
+pub fn remembered_by_positions()
+    ensures something { RememberedByPositions }
+    ensures nothing { NothingRememberedByPositions }
+{}
+
+/// What is pending, on positions: the dead key of the longest run at the end, where its length is odd.
+pub fn pending_by_run()
+    ensures { PendingByRun }
+{}
+
+/// Pressed, on positions: the last event that is about the key, or is a reset or a load, is a press of it.
+pub fn pressed_by_positions()
+    ensures { PressedByPositions }
+{}
+
+/// What a pressed key looks up depends on the events before it alone.
+pub fn looks_depend_on_prefixes()
+    ensures { ResolvedAtPrefix }
+{}
+
+/// The answer to each kind of event, by look, taken and remembered action, pending accent and meta.
+pub fn answers_by_cases()
+    ensures { AnswersByCases }
+{}
+
+/// Without loads everything is as under the first map alone; under one map twice a load is a reset.
+pub fn loads_that_change_nothing()
+    ensures without { WithoutLoads }
+    ensures of_one_map { LoadsOfOneMapAreResets }
+{}
+
+/// The test whether a map bears a holding action is true exactly if some key bears it.
+pub fn borne_by_test()
+    ensures { BorneByTest }
+{}

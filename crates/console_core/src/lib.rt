@@ -1,0 +1,32 @@
+//! Consoles that translate presses and releases of keys into characters and actions under a keymap, as genkbd_keyaction of
+//! sys/dev/kbd/kbd.c does, with a reset and a load of a second keymap besides.
+//!
+//! The crate stands on keymap_core alone. A console promises, of the whole list of events that it was delivered since it was
+//! made, the answer to each event and which modifiers and locks are on: `specs/History.antt` defines these by positions in
+//! that list. `PlainConsole` and `WordConsole` keep that promise in two layouts, `replay` delivers a list of events, and
+//! `laws` has what follows for all lists: in a keymap where no key bears a modifier or lock beside a character, a modifier is
+//! on only while a key that bears it is pressed, and once every key is released the console goes on as after a reset.
+//!
+//! No call takes memory but `replay`, and no call fails but for want of memory there.
+#![tactic(auto)]
+
+mod borne_locks;
+mod event;
+pub mod laws;
+mod machine;
+mod plain_console;
+mod plain_store;
+mod replays;
+mod rules;
+mod store;
+#[cfg(test)]
+mod tests;
+mod translator;
+mod word_console;
+mod word_store;
+
+pub use event::{Answer, Event};
+pub use plain_console::PlainConsole;
+pub use replays::replay;
+pub use translator::Translator;
+pub use word_console::WordConsole;

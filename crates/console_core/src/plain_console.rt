@@ -1,0 +1,68 @@
+//! The console with a truth value for each modifier, lock and down mark.
+ghost use Rattle.std.specs.Prelude.{[]};
+ghost use Rattle.console_core.specs.History.{between};
+
+use crate::event::{Answer, Event};
+use crate::machine::Console;
+use crate::plain_store::PlainStore;
+use crate::translator::Translator;
+use keymap_core::{KeyMap, Lock, Modifier};
+
+/// A console that keeps a truth value for each modifier, lock and down mark, an optional action for each key, an optional
+/// pending accent, and a truth value for the map in force.
+#[derive(Drop)]
+pub struct PlainConsole<'m> {
+    console: Console<'m, PlainStore>,
+}
+
+impl<'m> PlainConsole<'m> {
+    /// A console of one map, where a load acts as a reset. All modifiers and locks are off and nothing is pending.
+    pub fn new(map: &'m KeyMap) -> PlainConsole<'m>
+        ensures { ⟦<PlainConsole<'m> as Translator>⟧.stands result (between map.now map.now) [] }
+    {
+        PlainConsole::between(map, map)
+    }
+
+    /// A console of two maps, the first one in force. All modifiers and locks are off and nothing is pending.
+    pub fn between(first: &'m KeyMap, second: &'m KeyMap) -> PlainConsole<'m>
+        ensures { ⟦<PlainConsole<'m> as Translator>⟧.stands result (between first.now second.now) [] }
+    {
+        PlainConsole {
+            console: Console::over(first, second, PlainStore::new()),
+        }
+    }
+}
+
+impl<'m> Translator for PlainConsole<'m> {
+    ghost use Rattle.keymap_core.specs.declared.action.Holding.TheVariants.{Mod};
+
+    ghost stands = { λ c. ⟦<Console<'m, PlainStore> as Translator>⟧.stands c.console };
+
+    ghost shows_on = { λ c. ⟦<Console<'m, PlainStore> as Translator>⟧.shows_on c.console };
+
+    ghost shows_locked = { λ c. ⟦<Console<'m, PlainStore> as Translator>⟧.shows_locked c.console };
+
+    ghost shows_pending = { λ c. ⟦<Console<'m, PlainStore> as Translator>⟧.shows_pending c.console };
+
+    ghost on_where_it_stands = { λ c ms h at i. at.2.agrees.marks (Mod i) };
+
+    ghost locked_where_it_stands = { λ c ms h at l. at.2.agrees.locks l };
+
+    ghost pending_where_it_stands = { λ c ms h at. at.2.agrees.pending };
+
+    fn step(&mut self, event: Event) -> Answer {
+        self.console.step(event)
+    }
+
+    fn on(&self, modifier: Modifier) -> bool {
+        self.console.on(modifier)
+    }
+
+    fn locked(&self, lock: Lock) -> bool {
+        self.console.locked(lock)
+    }
+
+    fn pending(&self) -> Option<u8> {
+        self.console.pending()
+    }
+}

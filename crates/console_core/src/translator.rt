@@ -1,0 +1,47 @@
+//! What every console promises.
+ghost use Rattle.std.specs.Prelude.{◌≡◌, ℕ, Bool, List, ◌∷◌, [], Option};
+ghost use Rattle.keymap_core.specs.declared.action.Modifier.{Modifier as ModifierValue};
+ghost use Rattle.keymap_core.specs.declared.action.Lock.{Lock as LockValue};
+ghost use Rattle.console_core.specs.declared.event.Event.{Event as EventValue};
+ghost use Rattle.console_core.specs.History.{Maps, On, Locked, Pending, AnswerTo};
+
+use crate::event::{Answer, Event};
+use keymap_core::{Lock, Modifier};
+
+/// A console: it is delivered events, and answers each by the list of all events so far.
+pub trait Translator {
+    /// The console stands at the list of events under the two maps.
+    ghost stands: { Self → Maps → List EventValue → Type 0 };
+
+    /// Which modifiers are on.
+    ghost shows_on: { Self → ModifierValue → Bool };
+
+    /// Which locks are on.
+    ghost shows_locked: { Self → LockValue → Bool };
+
+    /// The index of the pending accent.
+    ghost shows_pending: { Self → Option ℕ };
+
+    /// Delivers an event. Where the console stands at a list of events, it stands at that list with the event afterwards.
+    fn step(&mut self, event: Event) -> Answer
+        ensures answer { (ms : Maps) (h : List EventValue) → stands self.old ms h → result ≡ AnswerTo ms h event }
+        ensures next { (ms : Maps) (h : List EventValue) → stands self.old ms h → stands self.new ms (event ∷ h) };
+
+    /// Whether the modifier is on.
+    fn on(&self, modifier: Modifier) -> bool
+        ensures { result ≡ shows_on self.now modifier };
+
+    /// Whether the lock is on.
+    fn locked(&self, lock: Lock) -> bool
+        ensures { result ≡ shows_locked self.now lock };
+
+    /// The index of the pending accent, if there is one.
+    fn pending(&self) -> Option<u8>
+        ensures { result ≡ shows_pending self.now };
+
+    ghost on_where_it_stands: { (c : Self) (ms : Maps) (h : List EventValue) → stands c ms h → (i : ModifierValue) → shows_on c i ≡ On ms i h };
+
+    ghost locked_where_it_stands: { (c : Self) (ms : Maps) (h : List EventValue) → stands c ms h → (l : LockValue) → shows_locked c l ≡ Locked ms l h };
+
+    ghost pending_where_it_stands: { (c : Self) (ms : Maps) (h : List EventValue) → stands c ms h → shows_pending c ≡ Pending ms h };
+}

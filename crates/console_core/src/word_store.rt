@@ -1,0 +1,164 @@
+//! A store with one word of 32 bits and a byte for each key.
+ghost use Rattle.std.specs.Prelude.{◌≡◌, ℕ, ◌<◌, ◌≤◌, Bool, false, None, length, IfSome};
+ghost use Rattle.keymap_core.specs.declared.action.Holding.{Holding as HoldingValue};
+ghost use Rattle.keymap_core.specs.declared.action.Lock.{Lock as LockValue};
+ghost use Rattle.keymap_core.specs.Actions.{same_action};
+ghost use Rattle.console_core.specs.Words.{word_mark, word_lock, word_pending, word_second, mark_bit as mark_bit_of, lock_bit as lock_bit_of, pending_from, pending_code as pending_code_of, coded, code_memory};
+
+use crate::store::Store;
+use keymap_core::laws::every_code_is_read;
+use keymap_core::{Action, Holding, KeyCode, Lock};
+
+/// The bits that a reset leaves: the locks and the map in force.
+const KEPT: u32 = 0x0010_0f00;
+
+/// The bit of the map in force.
+const SECOND: u32 = 20;
+
+/// The bit of a modifier, or of a lock's down mark.
+fn mark_bit(holding: Holding) -> usize
+    ensures value { result ≡ mark_bit_of holding }
+    ensures in_range { result < 16 }
+{
+    match holding {
+        Holding::Mod(modifier) => modifier.index(),
+        Holding::Lock(lock) => 12 + lock.index(),
+    }
+}
+
+/// The bit of a lock.
+fn lock_bit(lock: Lock) -> usize
+    ensures value { result ≡ lock_bit_of lock }
+    ensures in_range { result < 12 }
+{
+    8 + lock.index()
+}
+
+/// The number by which the pending accent is kept.
+fn pending_code(index: Option<u8>) -> u32
+    requires { IfSome index (λ i. i < 15) }
+    ensures code { result ≡ pending_code_of index }
+    ensures in_range { result ≤ 15 }
+    ensures back { pending_from result ≡ index }
+{
+    match index {
+        Some(index) => u32::from(index) + 1,
+        None => 0,
+    }
+}
+
+/// The byte by which a remembered action is kept: its code, 0 for nothing.
+fn memory_code(action: &Option<Action>) -> u8
+    requires { IfSome action.now (λ a. same_action a Action.Nop ≡ false) }
+    ensures { coded result ≡ action.now }
+{
+    match action {
+        Some(action) => {
+            every_code_is_read();
+            action.code()
+        }
+        None => 0,
+    }
+}
+
+/// The modifiers in bits 0 to 7 of the word, the locks in bits 8 to 11, the down marks in bits 12 to 15, the pending accent
+/// in bits 16 to 19 (0 for none, else 1 + its index), and bit 20 set where the second map is in force. The bytes are the
+/// codes of the remembered actions, 0 for nothing.
+#[derive(Drop)]
+pub struct WordStore {
+    word: u32,
+    codes: [u8; 128],
+    ghost keys: { length codes ≡ 128 },
+}
+
+impl WordStore {
+    pub fn new() -> WordStore
+        ensures marks { (a : HoldingValue) → word_mark result.word a ≡ false }
+        ensures locks { (l : LockValue) → word_lock result.word l ≡ false }
+        ensures memories { (k : ℕ) → k < 128 → code_memory result.codes k ≡ None }
+        ensures pending { word_pending result.word ≡ None }
+        ensures force { word_second result.word ≡ false }
+    {
+        WordStore {
+            word: 0,
+            codes: [0; 128],
+        }
+    }
+}
+
+#[tactic(auto, using(crate::proofs::WordBits::word_bits))]
+impl Store for WordStore {
+    ghost mark = { λ s. word_mark s.word };
+
+    ghost lock = { λ s. word_lock s.word };
+
+    ghost memory = { λ s. code_memory s.codes };
+
+    ghost waiting = { λ s. word_pending s.word };
+
+    ghost second = { λ s. word_second s.word };
+
+    fn is_marked(&self, holding: Holding) -> bool {
+        self.word & (1 << mark_bit(holding)) != 0
+    }
+
+    fn is_locked(&self, which: Lock) -> bool {
+        self.word & (1 << lock_bit(which)) != 0
+    }
+
+    fn remembered(&self, key: KeyCode) -> Option<Action> {
+        let code = self.codes[key.get() as usize];
+        if code == 0 {
+            None
+        } else {
+            Action::from_code(code)
+        }
+    }
+
+    fn pending(&self) -> Option<u8> {
+        let field = (self.word >> 16) & 15;
+        if field == 0 {
+            None
+        } else {
+            Some((field - 1) as u8)
+        }
+    }
+
+    fn is_second(&self) -> bool {
+        self.word & (1 << SECOND) != 0
+    }
+
+    fn set_mark(&mut self, holding: Holding, on: bool) {
+        let bit = 1 << mark_bit(holding);
+        if on {
+            self.word |= bit;
+        } else {
+            self.word &= !bit;
+        }
+    }
+
+    fn turn(&mut self, which: Lock) {
+        let word = self.word;
+        let bit = 1 << lock_bit(which);
+        self.word = word ^ bit;
+    }
+
+    fn remember(&mut self, key: KeyCode, action: Option<Action>) {
+        self.codes[key.get() as usize] = memory_code(&action);
+    }
+
+    fn set_pending(&mut self, index: Option<u8>) {
+        let word = self.word;
+        self.word = (word & 0xfff0_ffff) | (pending_code(index) << 16);
+    }
+
+    fn reset(&mut self) {
+        self.word &= KEPT;
+        self.codes = [0; 128];
+    }
+
+    fn exchange(&mut self) {
+        let word = self.word;
+        self.word = word ^ (1 << SECOND);
+    }
+}

@@ -1,0 +1,16 @@
+pub mod Bearers
+pub mod Bearing
+pub mod Bits
+pub mod Counting
+pub mod Findings
+pub mod FirstPlaces
+pub mod Firsts
+pub mod Lengths
+pub mod Places
+pub mod Promises
+pub mod Quiet
+pub mod Reported
+pub mod Same
+pub mod Shown
+pub mod Trapless
+pub mod Tried

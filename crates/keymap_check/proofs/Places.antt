@@ -1,0 +1,110 @@
+-- The places of a key's cells, and the cells that it has.
+use Rattle.std.proofs.Common.{◌≡◌, ℕ, ◌<◌, ◌≤◌, ◌+◌, ◌-◌, ◌⊎◌, Bool, true, false, ◌||◌, Some, None, refl, ap, subst, sym, ◌∙◌, inl, inr, if◌then◌else◌, arith}
+use Rattle.std.specs.Prelude.{nat_lt}
+use Rattle.std.proofs.lemmas.Bool.{cases_Bool, or_cases, ltb-true, ltb-false, lt-ltb, le-ltb}
+use Rattle.keymap_core.specs.declared.action.Modifier.TheVariants as modifier
+use Rattle.keymap_core.specs.declared.action.Lock.TheVariants as lock
+use Rattle.keymap_core.specs.declared.action.Action.TheVariants as act
+use Rattle.keymap_core.specs.declared.action.Holding.TheVariants as holding
+use Rattle.keymap_core.specs.declared.entry.Cell.{Cell}
+use Rattle.keymap_core.specs.declared.entry.Cell.TheVariants.{Act}
+use Rattle.keymap_core.specs.Maps.{MapValue, cell_at}
+use Rattle.keymap_core.specs.Bearers.{StandsIn, IsUpperLive, IsCellOf}
+use Rattle.keymap_check.specs.declared.kind.Kind.{Kind}
+use Rattle.keymap_check.specs.Below.{any_below}
+use Rattle.keymap_check.specs.Cells.{fits, is_upper_switch, is_upper_live, place_count, cell_of, first_place}
+use Rattle.keymap_check.proofs.Counting.{any_below-found, any_below-some, first_below-no, first_below-some, IsFirstBelow, NoneBelow}
+use Rattle.keymap_check.proofs.Same.{is_holding-true}
+
+switch-cell : (m : MapValue) (slot column : ℕ) → slot < 128 → column < 8 → is_upper_switch (cell_at m slot column) ≡ true → IsUpperLive m
+switch-cell m slot column lt in_range e =
+    elim (or_cases _ _ e) [
+      | inl s ↦ (slot, lt, inl (column, in_range, is_holding-true (holding.Mod modifier.AltShift) (cell_at m slot column) s))
+      | inr s ↦ (slot, lt, inr (column, in_range, is_holding-true (holding.Lock lock.Alt) (cell_at m slot column) s))
+    ]
+
+pub upper-live : (m : MapValue) → is_upper_live m ≡ true → IsUpperLive m
+unfolding is_upper_live
+upper-live m e =
+    let s : (i : ℕ) × (i < 128) × (any_below (λ column. is_upper_switch (cell_at m i column)) 8 ≡ true) = any_below-some (λ slot. any_below (λ column. is_upper_switch (cell_at m slot column)) 8) 128 e in
+    let c : (j : ℕ) × (j < 8) × (is_upper_switch (cell_at m s.0 j) ≡ true) = any_below-some (λ column. is_upper_switch (cell_at m s.0 column)) 8 s.2 in
+    switch-cell m s.0 c.0 s.1 c.1 c.2
+
+or-true : (x : Bool) → (x || true) ≡ true
+or-true true = refl
+or-true false = refl
+
+switch-here : (m : MapValue) (slot : ℕ) → (StandsIn m slot (Act (act.Mod modifier.AltShift)) ⊎ StandsIn m slot (Act (act.Lock lock.Alt))) → (j : ℕ) × (j < 8) × (is_upper_switch (cell_at m slot j) ≡ true)
+switch-here m slot (inl s) = (s.0, s.1, ap is_upper_switch s.2)
+switch-here m slot (inr s) = (s.0, s.1, ap is_upper_switch s.2)
+
+pub live-upper : (m : MapValue) → IsUpperLive m → is_upper_live m ≡ true
+unfolding is_upper_live
+live-upper m live =
+    let c : (j : ℕ) × (j < 8) × (is_upper_switch (cell_at m live.0 j) ≡ true) = switch-here m live.0 live.2 in
+    any_below-found (λ slot. any_below (λ column. is_upper_switch (cell_at m slot column)) 8) live.0 128 live.1 (any_below-found (λ column. is_upper_switch (cell_at m live.0 column)) c.0 8 c.1 c.2)
+
+pub count_if : (m : MapValue) (t : Bool) → is_upper_live m ≡ t → place_count m ≡ (if t then 16 else 8)
+unfolding place_count
+count_if m t e = ap (λ x. if x then 16 else 8) e
+
+low-cell : (m : MapValue) (k p : ℕ) (t : Bool) → nat_lt p 8 ≡ t → t ≡ true → cell_of m k p ≡ cell_at m k p
+low-cell m k p t e f = rw (e, f) refl
+
+high-cell : (m : MapValue) (k p : ℕ) (t : Bool) → nat_lt p 8 ≡ t → t ≡ false → cell_of m k p ≡ cell_at m (k + 128) (p - 8)
+high-cell m k p t e f = rw (e, f) refl
+
+place_by : (m : MapValue) (k p : ℕ) (t : Bool) → is_upper_live m ≡ t → p < place_count m → IsCellOf m k (cell_of m k p)
+place_by m k p true live lt =
+    let lt16 : p < 16 = subst (λ n. p < n) (count_if m true live) lt in
+    elim (cases_Bool (nat_lt p 8)) [
+      | inl s ↦ inl (p, ltb-true p 8 s, sym (low-cell m k p (nat_lt p 8) refl s))
+      | inr s ↦ inr (upper-live m live, (p - 8, omega (arith, lt16, ltb-false p 8 s), sym (high-cell m k p (nat_lt p 8) refl s)))
+    ]
+place_by m k p false live lt =
+    let lt8 : p < 8 = subst (λ n. p < n) (count_if m false live) lt in
+    elim (cases_Bool (nat_lt p 8)) [
+      | inl s ↦ inl (p, lt8, sym (low-cell m k p (nat_lt p 8) refl s))
+      | inr s ↦ absurd (omega (arith, lt8, ltb-false p 8 s))
+    ]
+
+pub place-cell : (m : MapValue) (k p : ℕ) → p < place_count m → IsCellOf m k (cell_of m k p)
+place-cell m k p lt = place_by m k p (is_upper_live m) refl lt
+
+-- where a cell of the key stands
+abbrev pub HasPlace : MapValue → ℕ → Cell → Type 0
+HasPlace m k x = (p : ℕ) × (p < place_count m) × (cell_of m k p ≡ x)
+
+pub count_least : (m : MapValue) (t : Bool) → is_upper_live m ≡ t → 8 ≤ place_count m
+count_least m true e = let c : place_count m ≡ 16 = count_if m true e in omega (arith, c)
+count_least m false e = let c : place_count m ≡ 8 = count_if m false e in omega (arith, c)
+
+pub cell-place : (m : MapValue) (k : ℕ) (x : Cell) → IsCellOf m k x → HasPlace m k x
+cell-place m k x (inl s) =
+    let n : 8 ≤ place_count m = count_least m (is_upper_live m) refl in
+    (s.0, omega (arith, n, s.1), low-cell m k s.0 (nat_lt s.0 8) refl (lt-ltb s.0 8 s.1) ∙ s.2)
+cell-place m k x (inr s) =
+    let c : place_count m ≡ 16 = count_if m true (live-upper m s.0) in
+    let s1 : StandsIn m (k + 128) x = s.1 in
+    let e : (s1.0 + 8) - 8 ≡ s1.0 = omega arith in
+    let lt : s1.0 + 8 < 16 = omega (arith, s1.1) in
+    (s1.0 + 8, omega (arith, c, lt), high-cell m k (s1.0 + 8) (nat_lt (s1.0 + 8) 8) refl (le-ltb (s1.0 + 8) 8 (omega arith)) ∙ ap (λ j. cell_at m (k + 128) j) e ∙ s1.2)
+
+-- the first place of a kind
+pub first_place-some : (m : MapValue) (x : Kind) (k p : ℕ) → first_place m x k ≡ Some p → IsFirstBelow (λ q. fits x (cell_of m k q)) (place_count m) p
+unfolding first_place
+first_place-some m x k p e = first_below-some (λ q. fits x (cell_of m k q)) (place_count m) p e
+
+pub first_place-cell : (m : MapValue) (x : Kind) (k p : ℕ) → first_place m x k ≡ Some p → IsCellOf m k (cell_of m k p) × (fits x (cell_of m k p) ≡ true)
+first_place-cell m x k p e =
+    let s : IsFirstBelow (λ q. fits x (cell_of m k q)) (place_count m) p = first_place-some m x k p e in
+    (place-cell m k p s.0, s.1)
+
+first_place-no : (m : MapValue) (x : Kind) (k : ℕ) → first_place m x k ≡ None → NoneBelow (λ q. fits x (cell_of m k q)) (place_count m)
+unfolding first_place
+first_place-no m x k e = first_below-no (λ q. fits x (cell_of m k q)) (place_count m) e
+
+pub no_place-cell : (m : MapValue) (x : Kind) (k : ℕ) → first_place m x k ≡ None → (y : Cell) → IsCellOf m k y → fits x y ≡ false
+no_place-cell m x k e y is =
+    let p : HasPlace m k y = cell-place m k y is in
+    ap (λ z. fits x z) (sym p.2) ∙ first_place-no m x k e p.0 p.1

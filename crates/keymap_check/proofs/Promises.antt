@@ -1,0 +1,37 @@
+-- The promises, from the laws over the two maps of a console.
+use Rattle.std.proofs.Common.{◌≡◌, ℕ, ◌⊎◌, inl, inr, subst, sym}
+use Rattle.std.proofs.lemmas.List.Elements.{All-cons}
+use Rattle.keymap_core.specs.declared.action.Lock.{Lock}
+use Rattle.keymap_core.specs.declared.action.Modifier.{Modifier}
+use Rattle.keymap_core.specs.declared.action.Holding.TheVariants as holding
+use Rattle.keymap_core.specs.Maps.{MapValue}
+use Rattle.keymap_core.specs.Bearers.{BearsThroughout}
+use Rattle.console_core.specs.declared.event.Event.TheVariants.{Press}
+use Rattle.console_core.specs.History.{Maps, HasKey, On}
+use Rattle.console_core.specs.Safety.{IsSafe, IsSteady}
+use Rattle.console_core.specs.Headline.{OnOnlyWhilePressed, OnExactlyWhilePressed, RepeatsTurnNoSteadyLock, OffOnceQuiet, GoesOnAsAfterReset, LockedByFreshPresses, IsOnOnlyWhilePressed}
+use Rattle.keymap_check.specs.Promises.{ModifiersAreOnOnlyWhilePressed, IsOnExactlyWhilePressed, NoRepeatTurns, ModifiersAreOffOnceQuiet, GoesOnAsAfterResetOnceQuiet, IsOnAfterOddFreshPresses}
+
+pub only_while : OnOnlyWhilePressed → (m : MapValue) → IsSafe m → ModifiersAreOnOnlyWhilePressed m
+only_while law m safe ms h e keys =
+    subst (λ n. IsOnOnlyWhilePressed n h (λ i. On ms i h)) e (law ms h (subst IsSafe (sym e) safe) keys)
+
+pub exactly_while : OnExactlyWhilePressed → (m : MapValue) (i : Modifier) (k : ℕ) → BearsThroughout m k (holding.Mod i) → IsOnExactlyWhilePressed m i k
+exactly_while law m i k throughout ms h e keys = law ms h keys i k (subst (λ n. BearsThroughout n k (holding.Mod i)) (sym e) throughout)
+
+pub repeats : RepeatsTurnNoSteadyLock → (m : MapValue) (l : Lock) → IsSteady m l → NoRepeatTurns m l
+repeats law m l steady ms h e keys k lt is = (law ms h l (subst (λ n. IsSteady n l) (sym e) steady) k (All-cons HasKey (Press k) h lt keys) is).1
+
+pub off_once_quiet : OffOnceQuiet → (m : MapValue) → IsSafe m → ModifiersAreOffOnceQuiet m
+off_once_quiet law m safe ms h e keys quiet i = law ms h (subst IsSafe (sym e) safe) keys quiet i
+
+pub as_after_reset : GoesOnAsAfterReset → (m : MapValue) → IsSafe m → GoesOnAsAfterResetOnceQuiet m
+as_after_reset law m safe ms h e keys quiet none = law ms h (subst IsSafe (sym e) safe) keys quiet none
+
+same_map : (m : MapValue) (l : Lock) (k : ℕ) (ms : Maps) {P : Type 0} → BearsThroughout m k (holding.Lock l) → P ⊎ (ms.second ≡ m) → P ⊎ BearsThroughout ms.second k (holding.Lock l)
+same_map m l k ms throughout (inl none) = inl none
+same_map m l k ms throughout (inr e) = inr (subst (λ n. BearsThroughout n k (holding.Lock l)) (sym e) throughout)
+
+pub fresh_presses : LockedByFreshPresses → (m : MapValue) (l : Lock) (k : ℕ) → BearsThroughout m k (holding.Lock l) → IsOnAfterOddFreshPresses m l k
+fresh_presses law m l k throughout ms h e loads keys =
+    law ms h keys l k (subst (λ n. BearsThroughout n k (holding.Lock l)) (sym e) throughout) (same_map m l k ms throughout loads)

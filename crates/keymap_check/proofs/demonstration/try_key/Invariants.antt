@@ -1,0 +1,8 @@
+use Rattle.std.proofs.Common.{◌≡◌, None}
+use Rattle.keymap_check.specs.Below.{gathered}
+use Rattle.std.specs.Prelude.{find}
+use Rattle.keymap_check.specs.Scripts.{leaves_modifier_on, scripts_with}
+use Rattle.keymap_check.proofs.demonstration.try_key.Given as goal
+
+abbrev pub invariant-loop-a : goal.invariant-loop-a
+invariant-loop-a l = find (leaves_modifier_on l.map) (gathered (scripts_with l.keys l.key) l.a) ≡ None

@@ -1,0 +1,11 @@
+use Rattle.std.proofs.Common.{◌≡◌, ◌≤◌}
+use Rattle.arrayvec.specs.ArrayVec.{array_vec_len}
+use Rattle.keymap_check.specs.Below.{gathered}
+use Rattle.keymap_check.specs.Computed.{findings_at}
+use Rattle.keymap_check.proofs.finding.findings.Given as goal
+
+abbrev pub invariant-loop-key : goal.invariant-loop-key
+invariant-loop-key l = record {
+  found : l.findings.items ≡ gathered (findings_at l.map) l.key;
+  room : array_vec_len l.findings ≤ l.key;
+}

@@ -1,0 +1,85 @@
+-- The cells of a key in their order, as a computation: what is first among them.
+use Rattle.std.specs.Prelude.{ℕ, ◌+◌, ◌-◌, nat_lt, Bool, false, true, ◌||◌, not, Option, if◌then◌else◌}
+use Rattle.keymap_core.specs.declared.action.Modifier.{Modifier}
+use Rattle.keymap_core.specs.declared.action.Modifier.TheVariants as modifier
+use Rattle.keymap_core.specs.declared.action.Lock.TheVariants as lock
+use Rattle.keymap_core.specs.declared.action.Action.TheVariants as act
+use Rattle.keymap_core.specs.declared.action.Holding.{Holding}
+use Rattle.keymap_core.specs.declared.action.Holding.TheVariants as holding
+use Rattle.keymap_core.specs.declared.entry.Cell.{Cell}
+use Rattle.keymap_core.specs.declared.entry.Cell.TheVariants.{Char, Act}
+use Rattle.keymap_core.specs.Actions.{same_action, holding_action}
+use Rattle.keymap_core.specs.Maps.{MapValue, cell_at}
+use Rattle.keymap_check.specs.declared.kind.Group.{Group}
+use Rattle.keymap_check.specs.declared.kind.Group.TheVariants as group
+use Rattle.keymap_check.specs.declared.kind.Kind.{Kind}
+use Rattle.keymap_check.specs.declared.kind.Kind.TheVariants as kind
+use Rattle.keymap_check.specs.declared.finding.Place.{Place}
+use Rattle.keymap_check.specs.Below.{any_below, first_below}
+
+abbrev pub is_of_group : Group → Modifier → Bool
+is_of_group group.Shift modifier.LeftShift = true
+is_of_group group.Shift modifier.RightShift = true
+is_of_group group.Control modifier.LeftControl = true
+is_of_group group.Control modifier.RightControl = true
+is_of_group group.Alt modifier.LeftAlt = true
+is_of_group group.Alt modifier.RightAlt = true
+is_of_group group.AltShift modifier.AltShift = true
+is_of_group _ _ = false
+
+abbrev pub is_character : Cell → Bool
+is_character (Char c) = true
+is_character (Act a) = false
+
+abbrev pub is_any_holding : Cell → Bool
+is_any_holding (Act (act.Mod i)) = true
+is_any_holding (Act (act.Lock l)) = true
+is_any_holding _ = false
+
+abbrev pub is_holding : Holding → Cell → Bool
+is_holding a (Char c) = false
+is_holding a (Act b) = same_action b (holding_action a)
+
+-- a character or nop
+abbrev pub is_character_or_nop : Cell → Bool
+is_character_or_nop (Char c) = true
+is_character_or_nop (Act act.Nop) = true
+is_character_or_nop (Act _) = false
+
+abbrev pub is_group_cell : Group → Cell → Bool
+is_group_cell g (Act (act.Mod i)) = is_of_group g i
+is_group_cell g _ = false
+
+abbrev pub is_upper_switch : Cell → Bool
+is_upper_switch x = is_holding (holding.Mod modifier.AltShift) x || is_holding (holding.Lock lock.Alt) x
+
+abbrev pub fits : Kind → Cell → Bool
+fits kind.Character x = is_character x
+fits kind.AnyHolding x = is_any_holding x
+fits (kind.Holding a) x = is_holding a x
+fits (kind.OtherThan a) x = not (is_holding a x)
+fits kind.CharacterOrNop x = is_character_or_nop x
+fits (kind.Of g) x = is_group_cell g x
+fits kind.UpperSwitch x = is_upper_switch x
+
+unfoldable pub is_upper_live : MapValue → Bool
+is_upper_live m = any_below (λ slot. any_below (λ column. is_upper_switch (cell_at m slot column)) 8) 128
+
+unfoldable pub place_count : MapValue → ℕ
+place_count m = if is_upper_live m then 16 else 8
+
+abbrev pub slot_at : ℕ → ℕ → ℕ
+slot_at k place = if nat_lt place 8 then k else k + 128
+
+abbrev pub column_at : ℕ → ℕ
+column_at place = if nat_lt place 8 then place else place - 8
+
+abbrev pub cell_of : MapValue → ℕ → ℕ → Cell
+cell_of m k place = cell_at m (slot_at k place) (column_at place)
+
+-- the first place of the key that has a cell of the kind
+unfoldable pub first_place : MapValue → Kind → ℕ → Option ℕ
+first_place m x k = first_below (λ place. fits x (cell_of m k place)) (place_count m)
+
+abbrev pub place_at : ℕ → ℕ → Place
+place_at k place = record { slot = slot_at k place; column = column_at place }

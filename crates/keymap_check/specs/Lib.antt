@@ -1,0 +1,9 @@
+pub mod Below
+pub mod Cells
+pub mod Computed
+pub mod Findings
+pub mod Promises
+pub mod Report
+pub mod Scripts
+pub mod Shown
+pub mod Tried

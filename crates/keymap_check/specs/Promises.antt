@@ -1,0 +1,42 @@
+-- What the check promises for every list of delivered events, newest first. The list may hold loads of another map:
+-- then the promises are those of the map that is in force after it.
+use Rattle.std.specs.Prelude.{◌≡◌, ℕ, ◌<◌, ◌⊎◌, List, ◌∷◌, None, true, false}
+use Rattle.keymap_core.specs.declared.action.Modifier.{Modifier}
+use Rattle.keymap_core.specs.declared.action.Lock.{Lock}
+use Rattle.keymap_core.specs.Maps.{MapValue}
+use Rattle.console_core.specs.declared.event.Event.{Event}
+use Rattle.console_core.specs.declared.event.Event.TheVariants.{Press, Reset}
+use Rattle.console_core.specs.History.{Maps, in_force, HasKeys, HasNoLoads, IsQuiet, On, Locked, Pending, pressed}
+use Rattle.console_core.specs.Positions.{count_where, is_odd}
+use Rattle.console_core.specs.Headline.{IsOnOnlyWhilePressed, GoesOnAs, is_fresh_press}
+
+-- P holds after every list of events about keys 0 to 127 that leaves the map in force
+abbrev pub AfterEveryList : MapValue → (Maps → List Event → Type 0) → Type 0
+AfterEveryList m P = (ms : Maps) (h : List Event) → in_force ms h ≡ m → HasKeys h → P ms h
+
+-- a modifier is on only while a key that bears it is pressed
+abbrev pub ModifiersAreOnOnlyWhilePressed : MapValue → Type 0
+ModifiersAreOnOnlyWhilePressed m = AfterEveryList m (λ ms h. IsOnOnlyWhilePressed m h (λ i. On ms i h))
+
+-- the modifier is on exactly while the key is pressed
+abbrev pub IsOnExactlyWhilePressed : MapValue → Modifier → ℕ → Type 0
+IsOnExactlyWhilePressed m i k = AfterEveryList m (λ ms h. On ms i h ≡ pressed k h)
+
+-- a press of a key that is pressed already leaves the lock as it was
+abbrev pub NoRepeatTurns : MapValue → Lock → Type 0
+NoRepeatTurns m l =
+    AfterEveryList m (λ ms h. (k : ℕ) → k < 128 → pressed k h ≡ true → Locked ms l (Press k ∷ h) ≡ Locked ms l h)
+
+-- once no key is pressed, no modifier is on
+abbrev pub ModifiersAreOffOnceQuiet : MapValue → Type 0
+ModifiersAreOffOnceQuiet m = AfterEveryList m (λ ms h. IsQuiet h → (i : Modifier) → On ms i h ≡ false)
+
+-- once no key is pressed and no accent is pending, the console goes on as after a reset
+abbrev pub GoesOnAsAfterResetOnceQuiet : MapValue → Type 0
+GoesOnAsAfterResetOnceQuiet m = AfterEveryList m (λ ms h. IsQuiet h → Pending ms h ≡ None → GoesOnAs ms h (Reset ∷ h))
+
+-- where no other map is loaded, the lock is on exactly after an odd number of fresh presses of the key
+abbrev pub IsOnAfterOddFreshPresses : MapValue → Lock → ℕ → Type 0
+IsOnAfterOddFreshPresses m l k =
+    (ms : Maps) (h : List Event) → ms.first ≡ m → HasNoLoads h ⊎ (ms.second ≡ m) → HasKeys h
+    → Locked ms l h ≡ is_odd (count_where (is_fresh_press k) h)

@@ -1,0 +1,65 @@
+-- What the check reports.
+use Rattle.std.specs.Prelude.{◌≡◌, ◌≢◌, ◌↔◌, ℕ, ◌<◌, Bool, true, false, List, [], ◌∷◌, slice_index_or}
+use Rattle.keymap_core.specs.declared.action.Modifier.TheVariants.{LeftShift, RightShift, LeftControl, RightControl, LeftAlt, RightAlt, AltShift, Meta}
+use Rattle.keymap_core.specs.declared.action.Lock.{Lock}
+use Rattle.keymap_core.specs.declared.action.Lock.TheVariants.{Caps, Num, Scroll, Alt}
+use Rattle.keymap_core.specs.declared.action.Holding.{Holding}
+use Rattle.keymap_core.specs.declared.action.Holding.TheVariants as holding
+use Rattle.keymap_core.specs.declared.entry.Cell.{Cell}
+use Rattle.keymap_core.specs.declared.entry.Cell.TheVariants.{Act}
+use Rattle.keymap_core.specs.Actions.{holding_action, holding_index, lock_index}
+use Rattle.keymap_core.specs.Maps.{MapValue}
+use Rattle.keymap_core.specs.Bearers.{IsCellOf, Bears, IsAlone, BearsThroughout}
+use Rattle.console_core.specs.Safety.{IsSafe, IsSteady}
+use Rattle.keymap_check.specs.declared.bearer.Bearer.{Bearer}
+use Rattle.keymap_check.specs.declared.bearer.Bearer.TheVariants.{Nobody, Throughout, Sole, Several}
+use Rattle.keymap_check.specs.declared.finding.Finding.{Finding}
+use Rattle.keymap_check.specs.Computed.{bearer_of, is_steady, findings_of}
+use Rattle.keymap_check.specs.Findings.{AreFindings}
+
+-- which key bears the holding action
+abbrev pub IsBearer : MapValue → Holding → Bearer → Type 0
+IsBearer m a Nobody = (k : ℕ) → k < 128 → Bears m k a → ⊥
+IsBearer m a (Throughout k) = Bears m k a × BearsThroughout m k a
+IsBearer m a (Sole k) = (k < 128) × Bears m k a × IsAlone m k a × ((x : Cell) × IsCellOf m k x × (x ≢ Act (holding_action a)))
+IsBearer m a Several = (i : ℕ) × (j : ℕ) × (i < 128) × (j < 128) × (i ≢ j) × Bears m i a × Bears m j a
+
+-- the keys that make the map refused, the bearer of each holding action, and which locks are steady
+pub record ReportValue : Type 0 where
+  pub findings : List Finding
+  pub bearers : List Bearer
+  pub steady : List Bool
+
+abbrev pub IsAccepted : ReportValue → Type 0
+IsAccepted r = r.findings ≡ []
+
+abbrev pub bearer_in : ReportValue → Holding → Bearer
+bearer_in r a = slice_index_or r.bearers (holding_index a) Nobody
+
+abbrev pub is_steady_in : ReportValue → Lock → Bool
+is_steady_in r l = slice_index_or r.steady (lock_index l) false
+
+-- the report on a map
+abbrev pub report_of : MapValue → ReportValue
+report_of m = record {
+  findings = findings_of m;
+  bearers =
+      bearer_of m (holding.Mod LeftShift) ∷ bearer_of m (holding.Mod RightShift) ∷ bearer_of m (holding.Mod LeftControl)
+      ∷ bearer_of m (holding.Mod RightControl) ∷ bearer_of m (holding.Mod LeftAlt) ∷ bearer_of m (holding.Mod RightAlt)
+      ∷ bearer_of m (holding.Mod AltShift) ∷ bearer_of m (holding.Mod Meta) ∷ bearer_of m (holding.Lock Caps)
+      ∷ bearer_of m (holding.Lock Num) ∷ bearer_of m (holding.Lock Scroll) ∷ bearer_of m (holding.Lock Alt) ∷ [];
+  steady = is_steady m Caps ∷ is_steady m Num ∷ is_steady m Scroll ∷ is_steady m Alt ∷ [];
+}
+
+-- what is computed of a map is what is said of it
+abbrev pub FindingsAreComputed : Type 0
+FindingsAreComputed = (m : MapValue) → AreFindings m (findings_of m)
+
+abbrev pub BearersAreComputed : Type 0
+BearersAreComputed = (m : MapValue) (a : Holding) → IsBearer m a (bearer_of m a)
+
+abbrev pub SteadyLocksAreComputed : Type 0
+SteadyLocksAreComputed = (m : MapValue) (l : Lock) → (is_steady m l ≡ true) ↔ IsSteady m l
+
+abbrev pub NoFindingsExactlyIfSafe : Type 0
+NoFindingsExactlyIfSafe = (m : MapValue) → (findings_of m ≡ []) ↔ IsSafe m

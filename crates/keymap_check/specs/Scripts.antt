@@ -1,0 +1,99 @@
+-- The scripts that a demonstration tries, as events in the order of delivery.
+use Rattle.std.specs.Prelude.{ℕ, ◌/◌, ◌%◌, ◌^◌, ◌==◌, Bool, true, false, ◌&&◌, ◌||◌, not, List, [], ◌∷◌, ◌++◌, Option, None, Some, if◌then◌else◌, reverse, slice_index_or, find}
+use Rattle.keymap_core.specs.declared.action.Modifier.TheVariants.{LeftShift, RightShift, LeftControl, RightControl, LeftAlt, RightAlt, AltShift, Meta}
+use Rattle.keymap_core.specs.Maps.{MapValue}
+use Rattle.console_core.specs.declared.event.Event.{Event}
+use Rattle.console_core.specs.declared.event.Event.TheVariants.{Press, Release}
+use Rattle.console_core.specs.History.{Maps, between, On}
+use Rattle.keymap_check.specs.declared.kind.Group.{Group}
+use Rattle.keymap_check.specs.declared.kind.Group.TheVariants as group
+use Rattle.keymap_check.specs.declared.kind.Kind.TheVariants as kind
+use Rattle.keymap_check.specs.declared.finding.Finding.{Finding}
+use Rattle.keymap_check.specs.Below.{first_below, any_below, gathered}
+use Rattle.keymap_check.specs.Cells.{first_place}
+use Rattle.keymap_check.specs.Computed.{is_there, is_missing, findings_at}
+
+-- bit 0 is shift, bit 1 control, bit 2 alt, bit 3 ashift
+abbrev pub group_at : ℕ → Group
+group_at bit = if bit == 0 then group.Shift else if bit == 1 then group.Control else if bit == 2 then group.Alt else group.AltShift
+
+abbrev pub has_bit : ℕ → ℕ → Bool
+has_bit set bit = ((set / 2 ^ bit) % 2) == 1
+
+abbrev pub is_bit_key : MapValue → ℕ → ℕ → ℕ → Bool
+is_bit_key m k bit j = not (j == k) && is_there (first_place m (kind.Of (group_at bit)) j)
+
+-- the key of a bit: the least one, other than the tried key k, that bears an action of its group
+unfoldable pub bit_key : MapValue → ℕ → ℕ → Option ℕ
+bit_key m k bit = first_below (is_bit_key m k bit) 128
+
+abbrev pub bit_keys : MapValue → ℕ → List (Option ℕ)
+bit_keys m k = bit_key m k 0 ∷ bit_key m k 1 ∷ bit_key m k 2 ∷ bit_key m k 3 ∷ []
+
+abbrev pub bit_key_at : List (Option ℕ) → ℕ → Option ℕ
+bit_key_at keys bit = slice_index_or keys bit None
+
+abbrev pub event_of : Bool → ℕ → Event
+event_of is_press k = if is_press then Press k else Release k
+
+abbrev pub event_if : Bool → Option ℕ → List Event
+event_if is_press None = []
+event_if is_press (Some k) = event_of is_press k ∷ []
+
+-- in the set, and not in the other one
+abbrev pub is_chosen : ℕ → ℕ → ℕ → Bool
+is_chosen set except bit = has_bit set bit && not (has_bit except bit)
+
+abbrev pub event_at : Bool → List (Option ℕ) → ℕ → ℕ → ℕ → List Event
+event_at is_press keys set except bit = if is_chosen set except bit then event_if is_press (bit_key_at keys bit) else []
+
+-- presses, or releases, of the keys of the bits that are in the set and not in the other one, in the order of the bits
+abbrev pub events_of : Bool → List (Option ℕ) → ℕ → ℕ → List Event
+events_of is_press keys set except = gathered (event_at is_press keys set except) 4
+
+-- press A's keys; press the key; release the keys of A that aren't in B; press those of B that aren't in A; press the
+-- key; release the key; release B's keys
+abbrev pub script : List (Option ℕ) → ℕ → ℕ → ℕ → List Event
+script keys k a b =
+    ((((events_of true keys a 0 ++ Press k ∷ []) ++ events_of false keys a b) ++ events_of true keys b a) ++ Press k ∷ Release k ∷ []) ++ events_of false keys b 0
+
+-- the sets name the bit, and it has no key
+abbrev pub is_lacking : List (Option ℕ) → ℕ → ℕ → ℕ → Bool
+is_lacking keys a b bit = (has_bit a bit || has_bit b bit) && is_missing (bit_key_at keys bit)
+
+unfoldable pub lacks_key : List (Option ℕ) → ℕ → ℕ → Bool
+lacks_key keys a b = any_below (is_lacking keys a b) 4
+
+abbrev pub scripts_of : List (Option ℕ) → ℕ → ℕ → ℕ → List (List Event)
+scripts_of keys k a b = if lacks_key keys a b then [] else script keys k a b ∷ []
+
+abbrev pub scripts_with : List (Option ℕ) → ℕ → ℕ → List (List Event)
+scripts_with keys k a = gathered (scripts_of keys k a) 16
+
+abbrev pub scripts_for : List (Option ℕ) → ℕ → List (List Event)
+scripts_for keys k = gathered (scripts_with keys k) 16
+
+abbrev pub has_some : List Finding → Bool
+has_some [] = false
+has_some (f ∷ fs) = true
+
+abbrev pub tried_at : MapValue → ℕ → List (List Event)
+tried_at m k = if has_some (findings_at m k) then scripts_for (bit_keys m k) k else []
+
+-- the scripts in the order in which they are tried: by key with a finding, then by set A, then by set B
+abbrev pub tried : MapValue → List (List Event)
+tried m = gathered (tried_at m) 128
+
+-- some modifier is on after the events, newest first
+abbrev pub is_some_on : Maps → List Event → Bool
+is_some_on ms h =
+    On ms LeftShift h || On ms RightShift h || On ms LeftControl h || On ms RightControl h || On ms LeftAlt h
+    || On ms RightAlt h || On ms AltShift h || On ms Meta h
+
+-- some modifier is on after a new console was delivered the script
+abbrev pub leaves_modifier_on : MapValue → List Event → Bool
+leaves_modifier_on m events = is_some_on (between m m) (reverse events)
+
+-- the first of the tried scripts after which some modifier is on
+abbrev pub demonstration_of : MapValue → Option (List Event)
+demonstration_of m = find (leaves_modifier_on m) (tried m)

@@ -1,0 +1,90 @@
+//! The cells of a key by their places: 0 to 7 are the columns of its slot, 8 to 15 those of the slot 128 higher, which count
+//! only where the upper slots are live.
+ghost use Rattle.std.specs.Prelude.{◌≡◌, ◌<◌, ◌≤◌, IfSome};
+ghost use Rattle.keymap_core.specs.Maps.{cell_at};
+ghost use Rattle.keymap_check.specs.Below.{any_below, first_below};
+ghost use Rattle.keymap_check.specs.Cells.{fits, slot_at, column_at, cell_of as cell_of_key, first_place as first_place_of, place_count as place_count_of, is_upper_live as is_upper_live_in};
+
+use crate::kind::Kind;
+use keymap_core::{Cell, KeyMap};
+
+/// The slot of a key's cell at the place.
+pub fn slot(key: u8, place: u8) -> u8
+    requires is_key { key < 128 }
+    ensures { result ≡ slot_at key place }
+{
+    if place < 8 { key } else { key + 128 }
+}
+
+/// The column of a key's cell at the place.
+pub fn column(place: u8) -> u8
+    requires { place < 16 }
+    ensures value { result ≡ column_at place }
+    ensures in_range { result < 8 }
+{
+    if place < 8 { place } else { place - 8 }
+}
+
+/// The key's cell at the place.
+pub fn cell_of(map: &KeyMap, key: u8, place: u8) -> Cell
+    requires is_key { key < 128 }
+    requires is_place { place < 16 }
+    ensures { result ≡ cell_of_key map.now key place }
+{
+    cell(map, slot(key, place), column(place))
+}
+
+fn cell(map: &KeyMap, slot: u8, column: u8) -> Cell
+    requires { column < 8 }
+    ensures { result ≡ cell_at map.now slot column }
+{
+    map.entry(slot).cells()[column as usize]
+}
+
+/// Whether a cell of the slot makes the upper slots live.
+fn has_upper_switch(map: &KeyMap, slot: u8) -> bool
+    ensures { result ≡ any_below (λ column. fits Kind.UpperSwitch (cell_at map.now slot column)) 8 }
+{
+    for column in 0..8 {
+        if Kind::UpperSwitch.fits(cell(map, slot, column)) {
+            return true;
+        }
+    }
+    false
+}
+
+/// Whether the slots 128 to 255 are live.
+fn is_upper_live(map: &KeyMap) -> bool
+    ensures { result ≡ is_upper_live_in map.now }
+{
+    for slot in 0..128 {
+        if has_upper_switch(map, slot) {
+            return true;
+        }
+    }
+    false
+}
+
+/// How many cells each key has.
+pub fn place_count(map: &KeyMap) -> u8
+    ensures value { result ≡ place_count_of map.now }
+    ensures in_range { result ≤ 16 }
+{
+    if is_upper_live(map) { 16 } else { 8 }
+}
+
+/// The first place of the key that has a cell of the kind.
+pub fn first_place(map: &KeyMap, places: u8, key: u8, kind: Kind) -> Option<u8>
+    requires is_count { places ≡ place_count_of map.now }
+    requires is_bounded { places ≤ 16 }
+    requires is_key { key < 128 }
+    ensures value { result ≡ first_place_of map.now kind key }
+    ensures in_range { IfSome result (λ place. place < 16) }
+{
+    for place in 0..places {
+        if kind.fits(cell_of(map, key, place)) {
+            return Some(place);
+        }
+    }
+    None
+}

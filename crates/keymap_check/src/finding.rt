@@ -1,0 +1,91 @@
+//! The keys that make a keymap refused.
+ghost use Rattle.std.specs.Prelude.{◌≡◌, ◌<◌, ◌≤◌, MatchOption, [], ◌∷◌};
+ghost use Rattle.keymap_check.specs.Cells.{place_count as place_count_of, place_at as place_of};
+ghost use Rattle.keymap_check.specs.Computed.{findings_at, findings_of};
+ghost use Rattle.arrayvec.specs.ArrayVec.{array_vec_len};
+
+use crate::bearer::key_with;
+use crate::cells::{cell_of, column, first_place, slot};
+use crate::kind::Kind;
+use arrayvec::ArrayVec;
+use keymap_core::{Cell, Holding, KeyCode, KeyMap, Modifier};
+
+/// Where a cell stands: its slot, 0 to 255, and its column, 0 to 7.
+#[derive(Clone, Copy, Debug, PartialEq, Eq)]
+pub struct Place {
+    pub slot: u8,
+    pub column: u8,
+}
+
+/// A key that bears a modifier or a lock and also has a character among its cells. First is what stands in the lower slot,
+/// then in the lesser column.
+#[derive(Clone, Copy, Debug, PartialEq, Eq)]
+pub struct Finding {
+    pub key: KeyCode,
+    /// The key's first modifier or lock, and where it stands.
+    pub holding: Holding,
+    pub holding_at: Place,
+    /// Where the key's first character stands.
+    pub character_at: Place,
+}
+
+impl Default for Finding {
+    fn default() -> Finding {
+        let nowhere = Place { slot: 0, column: 0 };
+        Finding {
+            key: key_with(0),
+            holding: Holding::Mod(Modifier::LeftShift),
+            holding_at: nowhere,
+            character_at: nowhere,
+        }
+    }
+}
+
+fn place_at(key: u8, place: u8) -> Place
+    requires is_key { key < 128 }
+    requires is_place { place < 16 }
+    ensures { result ≡ place_of key place }
+{
+    Place {
+        slot: slot(key, place),
+        column: column(place),
+    }
+}
+
+/// The finding of the key, if it has one.
+pub fn find_at(map: &KeyMap, places: u8, key: u8) -> Option<Finding>
+    requires is_count { places ≡ place_count_of map.now }
+    requires is_bounded { places ≤ 16 }
+    requires is_key { key < 128 }
+    ensures { MatchOption result (findings_at map.now key ≡ []) (λ f. findings_at map.now key ≡ f ∷ []) }
+{
+    let holding_place = first_place(map, places, key, Kind::AnyHolding)?;
+    let character_place = first_place(map, places, key, Kind::Character)?;
+    let action = match cell_of(map, key, holding_place) {
+        Cell::Act(action) => action,
+        Cell::Char(_) => return None,
+    };
+    let holding = action.holding()?;
+    Some(Finding {
+        key: key_with(key),
+        holding,
+        holding_at: place_at(key, holding_place),
+        character_at: place_at(key, character_place),
+    })
+}
+
+/// The findings in the order of their keys.
+pub fn findings(map: &KeyMap, places: u8) -> ArrayVec<Finding, 128>
+    requires is_count { places ≡ place_count_of map.now }
+    requires is_bounded { places ≤ 16 }
+    ensures { result.items ≡ findings_of map.now }
+{
+    let mut findings = ArrayVec::new();
+    for key in 0..128 {
+        match find_at(map, places, key) {
+            Some(finding) => findings.push(finding),
+            None => {}
+        }
+    }
+    findings
+}

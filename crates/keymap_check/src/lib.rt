@@ -1,0 +1,36 @@
+//! Whether a keymap can leave a modifier stuck: which keymaps are accepted, which key bears which modifier or lock, and a
+//! search for a few events that show how a refused keymap sticks.
+//!
+//! A keymap is accepted exactly if no key bears a modifier or a lock and also has a character among its cells. The contract
+//! of [`check`] says what that gives, for every list of events that a console of `console_core` was delivered:
+//!
+//! - In an accepted keymap a modifier is on only while a key that bears it is pressed (`only_while`).
+//! - In every keymap a modifier that one key alone bears throughout is on exactly while that key is pressed
+//!   (`exactly_while`), and such a lock is on exactly after an odd number of fresh presses of its key (`fresh_presses`).
+//! - In every keymap no repeat turns a steady lock (`repeats`).
+//! - In an accepted keymap, once no key is pressed, no modifier is on (`off_once_quiet`), and with no accent pending the
+//!   console goes on as after a reset (`as_after_reset`).
+//!
+//! [`demonstrate`] tries a fixed list of scripts. That it gives none for a refused keymap does not mean that the keymap
+//! cannot stick: only for some keymaps does it say so (`without_traps`), and only some traps are sure to be shown (`shown`).
+//!
+//! No call takes memory or fails.
+#![tactic(auto)]
+
+mod bearer;
+mod cells;
+mod demonstration;
+mod finding;
+mod kind;
+pub mod laws;
+mod report;
+mod script;
+
+pub use bearer::Bearer;
+pub use demonstration::demonstrate;
+pub use finding::{Finding, Place};
+pub use report::{Report, check};
+pub use script::Script;
+
+#[cfg(test)]
+mod tests;

@@ -1,0 +1,131 @@
+//! The check and its report.
+ghost use Rattle.std.specs.Prelude.{◌≡◌, ◌↔◌, ℕ, IsTrue, true};
+ghost use Rattle.keymap_core.specs.declared.action.Modifier.{Modifier as ModifierValue};
+ghost use Rattle.keymap_core.specs.declared.action.Lock.{Lock as LockValue};
+ghost use Rattle.keymap_core.specs.declared.action.Holding.{Holding as HoldingValue};
+ghost use Rattle.console_core.specs.Safety.{IsSafe, IsSteady};
+ghost use Rattle.keymap_check.specs.Findings.{AreFindings};
+ghost use Rattle.keymap_check.specs.Promises.{ModifiersAreOnOnlyWhilePressed, IsOnExactlyWhilePressed, NoRepeatTurns, ModifiersAreOffOnceQuiet, GoesOnAsAfterResetOnceQuiet, IsOnAfterOddFreshPresses};
+ghost use Rattle.keymap_check.specs.Report.{IsAccepted, IsBearer, bearer_in, is_steady_in, report_of};
+
+use crate::bearer::{Bearer, bearer_of, is_steady};
+use crate::cells::place_count;
+use crate::finding::{Finding, findings};
+use crate::laws::reports_are_computed;
+use arrayvec::ArrayVec;
+use console_core::laws::{
+    locks_count_fresh_presses, modifiers_follow_keys, quiet_is_a_reset, repeats_turn_no_steady_lock,
+};
+use keymap_core::{Holding, KeyMap, Lock, Modifier};
+use std::marker::Model;
+
+/// What the check says of a keymap.
+#[derive(Drop)]
+pub struct Report {
+    findings: ArrayVec<Finding, 128>,
+    bearers: [Bearer; 12],
+    steady: [bool; 4],
+}
+
+impl Model for Report {
+    ghost use Rattle.std.specs.Prelude.{◌≡◌, length};
+    ghost use Rattle.keymap_check.specs.Report.{ReportValue};
+
+    ghost Value = { ReportValue };
+
+    ghost view = { λ r. record {
+      findings = r.findings.items;
+      bearers = r.bearers;
+      steady = r.steady;
+    } };
+
+    ghost invariant = { λ r. (length r.bearers ≡ 12) × (length r.steady ≡ 4) };
+}
+
+impl Report {
+    /// Whether the keymap is accepted.
+    pub fn accepted(&self) -> bool
+        ensures { IsTrue result ↔ IsAccepted self.now }
+    {
+        self.findings.is_empty()
+    }
+
+    /// The keys that make the keymap refused, in their order.
+    pub fn findings(&self) -> &ArrayVec<Finding, 128>
+        ensures { result.now.items ≡ self.now.findings }
+    {
+        &self.findings
+    }
+
+    /// Which key bears the holding action.
+    pub fn bearer(&self, holding: Holding) -> Bearer
+        ensures { result ≡ bearer_in self.now holding }
+    {
+        self.bearers[holding.index()]
+    }
+
+    /// Whether the lock is steady.
+    pub fn steady(&self, lock: Lock) -> bool
+        ensures { result ≡ is_steady_in self.now lock }
+    {
+        self.steady[lock.index()]
+    }
+}
+
+fn survey(map: &KeyMap) -> Report
+    ensures { result ≡ report_of map.now }
+{
+    let places = place_count(map);
+    Report {
+        findings: findings(map, places),
+        bearers: [
+            bearer_of(map, places, Holding::Mod(Modifier::LeftShift)),
+            bearer_of(map, places, Holding::Mod(Modifier::RightShift)),
+            bearer_of(map, places, Holding::Mod(Modifier::LeftControl)),
+            bearer_of(map, places, Holding::Mod(Modifier::RightControl)),
+            bearer_of(map, places, Holding::Mod(Modifier::LeftAlt)),
+            bearer_of(map, places, Holding::Mod(Modifier::RightAlt)),
+            bearer_of(map, places, Holding::Mod(Modifier::AltShift)),
+            bearer_of(map, places, Holding::Mod(Modifier::Meta)),
+            bearer_of(map, places, Holding::Lock(Lock::Caps)),
+            bearer_of(map, places, Holding::Lock(Lock::Num)),
+            bearer_of(map, places, Holding::Lock(Lock::Scroll)),
+            bearer_of(map, places, Holding::Lock(Lock::Alt)),
+        ],
+        steady: [
+            is_steady(map, places, Lock::Caps),
+            is_steady(map, places, Lock::Num),
+            is_steady(map, places, Lock::Scroll),
+            is_steady(map, places, Lock::Alt),
+        ],
+    }
+}
+
+/// Checks the keymap: whether it is safe, which keys bear what, and which locks are steady.
+///
+/// Where it is accepted, then after every list of delivered events a modifier is on only while a key that bears it is
+/// pressed, and once no key is pressed no modifier is on, and with no accent pending the console goes on as after a
+/// reset. For every keymap, a modifier that one key alone bears throughout is on exactly while that key is pressed, and
+/// no repeat turns a steady lock.
+pub fn check(map: &KeyMap) -> Report
+    ensures value { result ≡ report_of map.now }
+    ensures accepted { IsAccepted result ↔ IsSafe map.now }
+    ensures findings { AreFindings map.now result.findings }
+    ensures bearers { (a : HoldingValue) → IsBearer map.now a (bearer_in result a) }
+    ensures steady { (l : LockValue) → (is_steady_in result l ≡ true) ↔ IsSteady map.now l }
+    ensures only_while { IsAccepted result → ModifiersAreOnOnlyWhilePressed map.now }
+    ensures exactly_while { (i : ModifierValue) (k : ℕ) → bearer_in result (Holding.Mod i) ≡ Bearer.Throughout k
+        → IsOnExactlyWhilePressed map.now i k }
+    ensures repeats { (l : LockValue) → is_steady_in result l ≡ true → NoRepeatTurns map.now l }
+    ensures off_once_quiet { IsAccepted result → ModifiersAreOffOnceQuiet map.now }
+    ensures as_after_reset { IsAccepted result → GoesOnAsAfterResetOnceQuiet map.now }
+    ensures fresh_presses { (l : LockValue) (k : ℕ) → bearer_in result (Holding.Lock l) ≡ Bearer.Throughout k
+        → IsOnAfterOddFreshPresses map.now l k }
+{
+    reports_are_computed();
+    modifiers_follow_keys();
+    repeats_turn_no_steady_lock();
+    quiet_is_a_reset();
+    locks_count_fresh_presses();
+    survey(map)
+}

@@ -1,0 +1,156 @@
+//! The script that tries one key.
+ghost use Rattle.std.specs.Prelude.{◌≡◌, ◌<◌, ◌≤◌, ◌+◌, ◌++◌, MatchOption, length, true, false, [], ◌∷◌};
+ghost use Rattle.arrayvec.specs.ArrayVec.{array_vec_len};
+ghost use Rattle.keymap_check.specs.Cells.{place_count as place_count_of};
+ghost use Rattle.keymap_check.specs.Scripts.{group_at as group_in, has_bit as has_bit_in, is_bit_key as is_bit_key_of, bit_key as bit_key_of, bit_keys as bit_keys_of, event_of as event_by, event_at as event_in, is_lacking as is_lacking_of, is_chosen as is_chosen_of, events_of, script as script_of, lacks_key as lacks_key_of};
+
+use crate::bearer::key_with;
+use crate::cells::first_place;
+use crate::kind::{Group, Kind};
+use arrayvec::ArrayVec;
+use console_core::Event;
+use keymap_core::{KeyCode, KeyMap};
+
+/// The events that a demonstration delivers, in their order.
+pub type Script = ArrayVec<Event, 11>;
+
+/// The keys of the four bits of a set: shift, control, alt and ashift.
+pub type BitKeys = [Option<KeyCode>; 4];
+
+/// The modifiers that the bit of a set stands for.
+fn group_at(bit: u8) -> Group
+    ensures { result ≡ group_in bit }
+{
+    match bit {
+        0 => Group::Shift,
+        1 => Group::Control,
+        2 => Group::Alt,
+        _ => Group::AltShift,
+    }
+}
+
+fn has_bit(set: u8, bit: u8) -> bool
+    requires { bit < 4 }
+    ensures { result ≡ has_bit_in set bit }
+{
+    (set >> bit) % 2 == 1
+}
+
+/// Whether the bit is in the set and not in the other one.
+fn is_chosen(set: u8, except: u8, bit: u8) -> bool
+    requires { bit < 4 }
+    ensures { result ≡ is_chosen_of set except bit }
+{
+    has_bit(set, bit) && !has_bit(except, bit)
+}
+
+fn is_bit_key(map: &KeyMap, places: u8, tried: u8, bit: u8, key: u8) -> bool
+    requires is_count { places ≡ place_count_of map.now }
+    requires is_bounded { places ≤ 16 }
+    requires is_key { key < 128 }
+    ensures { result ≡ is_bit_key_of map.now tried bit key }
+{
+    key != tried && first_place(map, places, key, Kind::Of(group_at(bit))).is_some()
+}
+
+/// The least key, other than the tried one, that bears an action of the bit's group.
+fn bit_key(map: &KeyMap, places: u8, tried: u8, bit: u8) -> Option<KeyCode>
+    requires is_count { places ≡ place_count_of map.now }
+    requires is_bounded { places ≤ 16 }
+    ensures { result ≡ bit_key_of map.now tried bit }
+{
+    for key in 0..128 {
+        if is_bit_key(map, places, tried, bit, key) {
+            return Some(key_with(key));
+        }
+    }
+    None
+}
+
+/// The keys of the bits, while the key is tried.
+pub fn bit_keys(map: &KeyMap, places: u8, tried: u8) -> BitKeys
+    requires is_count { places ≡ place_count_of map.now }
+    requires is_bounded { places ≤ 16 }
+    ensures { result ≡ bit_keys_of map.now tried }
+{
+    [
+        bit_key(map, places, tried, 0),
+        bit_key(map, places, tried, 1),
+        bit_key(map, places, tried, 2),
+        bit_key(map, places, tried, 3),
+    ]
+}
+
+fn event_of(key: KeyCode, is_press: bool) -> Event
+    ensures { result ≡ event_by is_press key }
+{
+    if is_press {
+        Event::Press(key)
+    } else {
+        Event::Release(key)
+    }
+}
+
+/// The press or release of the bit's key, if the bit is in the set and not in the other one.
+fn event_at(keys: &BitKeys, set: u8, except: u8, bit: u8, is_press: bool) -> Option<Event>
+    requires { bit < 4 }
+    ensures { MatchOption result (event_in is_press keys.now set except bit ≡ []) (λ e. event_in is_press keys.now set except bit ≡ e ∷ []) }
+{
+    if !is_chosen(set, except, bit) {
+        return None;
+    }
+    match keys[bit as usize] {
+        Some(key) => Some(event_of(key, is_press)),
+        None => None,
+    }
+}
+
+/// Appends presses or releases of the keys of the bits that are in the set and not in the other one.
+fn push_events(script: &mut Script, keys: &BitKeys, set: u8, except: u8, is_press: bool)
+    requires { array_vec_len script.old + length (events_of is_press keys.now set except) ≤ 11 }
+    ensures items { script.new.items ≡ script.old.items ++ events_of is_press keys.now set except }
+    ensures len { array_vec_len script.new ≡ array_vec_len script.old + length (events_of is_press keys.now set except) }
+{
+    for bit in 0..4 {
+        match event_at(keys, set, except, bit, is_press) {
+            Some(event) => script.push(event),
+            None => {}
+        }
+    }
+}
+
+/// The script that tries the key with the sets of bits.
+pub fn make_script(keys: &BitKeys, key: u8, a: u8, b: u8) -> Script
+    requires { key < 128 }
+    ensures { result.items ≡ script_of keys.now key a b }
+{
+    let mut script = ArrayVec::new();
+    push_events(&mut script, keys, a, 0, true);
+    script.push(Event::Press(key_with(key)));
+    push_events(&mut script, keys, a, b, false);
+    push_events(&mut script, keys, b, a, true);
+    script.push(Event::Press(key_with(key)));
+    script.push(Event::Release(key_with(key)));
+    push_events(&mut script, keys, b, 0, false);
+    script
+}
+
+/// Whether the sets name the bit and it has no key.
+fn is_lacking(keys: &BitKeys, a: u8, b: u8, bit: u8) -> bool
+    requires { bit < 4 }
+    ensures { result ≡ is_lacking_of keys.now a b bit }
+{
+    (has_bit(a, bit) || has_bit(b, bit)) && keys[bit as usize].is_none()
+}
+
+/// Whether the sets name a bit that has no key.
+pub fn lacks_key(keys: &BitKeys, a: u8, b: u8) -> bool
+    ensures { result ≡ lacks_key_of keys.now a b }
+{
+    for bit in 0..4 {
+        if is_lacking(keys, a, b, bit) {
+            return true;
+        }
+    }
+    false
+}

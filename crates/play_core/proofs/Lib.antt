@@ -1,0 +1,6 @@
+pub mod Gathered
+pub mod LineWords
+pub mod Outcomes
+pub mod ScriptLines
+pub mod Sending
+pub mod Texts

@@ -1,0 +1,174 @@
+-- The lines of a script, one after another.
+use Prim.Native.Nat.{zero, suc}
+use Rattle.std.proofs.Common.{◌≡◌, ℕ, ◌+◌, ◌<◌, ◌≤◌, true, false, Bool, eqb, ◌==◌, append-nil, List, [], ◌∷◌, ◌++◌, length, take, drop, get_or, map, Option, None, Some, Bor, refl, sym, ap, subst, ◌∙◌, arith, add-one, drop-cons, take-append-drop, length-take-le, take_all, length-drop}
+use Rattle.std.specs.Prelude.{⊤, codes}
+use Rattle.std.specs.List.{AllZip, filter, slice_split, onto_first, position, position_or_len}
+use Rattle.std.proofs.lemmas.List.{take_more, get_or-map, length-map}
+use Rattle.std.proofs.lemmas.List.Elements.{filter-append}
+use Rattle.std.proofs.lemmas.List.Sums.{count_by-le-length}
+use Rattle.std.proofs.lemmas.List.Splits.{length-slice_split, slice_split_first}
+use Rattle.std.specs.Option.{unwrap_or, MatchOption}
+use Rattle.std.proofs.lemmas.List.Quantifiers.{position-Some}
+use Rattle.play_core.proofs.LineWords.{unwrap_position}
+use Rattle.play_core.specs.declared.sent.What.{What}
+use Rattle.play_core.specs.declared.sent.What.TheVariants.{Down, Repeat, Up, Reset, Load}
+use Rattle.play_core.specs.declared.sent.Sent.{Sent}
+use Rattle.play_core.specs.declared.script.ScriptFault.{ScriptFault}
+use Rattle.play_core.specs.Scripts.{is_there, parts_of, words_of, lines_of, AreEvents, IsEvent, Sends, Tells, mark_of, IsScriptFault, IsFaultOf}
+
+-- the part at a place is the line there
+pub record IsPart (script text : List ℕ) (n : ℕ) : Type 0 where
+  pub within : n < length (parts_of script)
+  pub same : text ≡ get_or (parts_of script) n text
+
+pub few_lines : (script : List ℕ) → length (parts_of script) ≤ length script + 1
+unfolding parts_of
+few_lines script = rw (length-slice_split (λ b. eqb b 10) script) (omega (arith, count_by-le-length (λ b. eqb b 10) script))
+
+module _ {script text : List ℕ} {n : ℕ} (part : IsPart script text n) where
+  within_lines : n < length (lines_of script)
+  unfolding lines_of
+  within_lines = subst (λ k. n < k) (sym (length-map (parts_of script) words_of)) part.within
+
+  line_is : get_or (lines_of script) n (words_of text) ≡ words_of text
+  unfolding lines_of
+  line_is = get_or-map words_of (parts_of script) n text (words_of text) part.within ∙ ap words_of (sym part.same)
+
+  pub lines_more : take (n + 1) (lines_of script) ≡ take n (lines_of script) ++ words_of text ∷ []
+  lines_more = take_more (lines_of script) n (words_of text) within_lines ∙ ap (λ w. take n (lines_of script) ++ w ∷ []) line_is
+
+  lines_split : lines_of script ≡ take n (lines_of script) ++ words_of text ∷ drop (suc n) (lines_of script)
+  lines_split =
+      sym (take-append-drop n (lines_of script))
+      ∙ ap (λ l. take n (lines_of script) ++ l) (drop-cons (lines_of script) n (words_of text) within_lines)
+      ∙ ap (λ w. take n (lines_of script) ++ w ∷ drop (suc n) (lines_of script)) line_is
+
+  length_before : length (take n (lines_of script)) ≡ n
+  length_before = length-take-le n (lines_of script) (omega (arith, within_lines))
+
+zip_more : {A B : Type 0} (R : A → B → Type 0) (xs : List A) (ys : List B) (x : A) (y : B) → AllZip R xs ys → R x y → AllZip R (xs ++ x ∷ []) (ys ++ y ∷ [])
+zip_more R [] [] x y h r = (r, tt)
+zip_more R [] (b ∷ ys) x y h r = absurd h
+zip_more R (a ∷ xs) [] x y h r = absurd h
+zip_more R (a ∷ xs) (b ∷ ys) x y h r = (h.0, zip_more R xs ys x y h.1 r)
+
+command_there : (command : List (List ℕ)) (w : What) → Tells command w → is_there command ≡ true
+command_there command (Down k) h = ap is_there h.1
+command_there command (Repeat k) h = ap is_there h.1
+command_there command (Up k) h = ap is_there h.1
+command_there command Reset h = ap is_there h
+command_there command Load h = ap is_there h
+
+marked_there : (s : Sent) (lost : Bool) (command : List (List ℕ)) → is_there command ≡ true → is_there (mark_of lost ++ command) ≡ true
+marked_there s true command h = refl
+marked_there s false command h = h
+
+event_there : (words : List (List ℕ)) (s : Sent) → Sends words s → is_there words ≡ true
+event_there words s h = ap is_there h.1 ∙ marked_there s s.lost h.0 (command_there h.0 s.what h.2)
+
+-- a line without a word
+pub blank_more : (lines : List (List (List ℕ))) (words : List (List ℕ)) (sent : List Sent) → AreEvents lines sent → words ≡ []
+    → AreEvents (lines ++ words ∷ []) sent
+blank_more lines words sent h e =
+    subst (λ l. AllZip IsEvent l sent) (sym (filter-append is_there lines (words ∷ []) ∙ ap (λ w. filter is_there lines ++ filter is_there (w ∷ [])) e ∙ append-nil (filter is_there lines))) h
+
+-- a line that is an event
+pub event_more : (lines : List (List (List ℕ))) (words : List (List ℕ)) (sent : List Sent) (s : Sent) → AreEvents lines sent → IsEvent words s
+    → AreEvents (lines ++ words ∷ []) (sent ++ s ∷ [])
+event_more lines words sent s h event =
+    let there : filter is_there (words ∷ []) ≡ words ∷ [] = rw (event_there words s event.0) refl in
+    subst (λ l. AllZip IsEvent l (sent ++ s ∷ [])) (sym (filter-append is_there lines (words ∷ []) ∙ ap (λ l. filter is_there lines ++ l) there))
+    (zip_more IsEvent (filter is_there lines) sent words s h event)
+
+-- the fault of a line whose lines before it are events
+pub fault_at : (script text : List ℕ) (n : ℕ) (sent : List Sent) (fault : ScriptFault) → IsPart script text n → AreEvents (take n (lines_of script)) sent
+    → IsFaultOf (words_of text) (n + 1) fault → IsScriptFault script fault
+fault_at script text n sent fault part events first = record {
+  before = take n (lines_of script);
+  line = words_of text;
+  after = drop (suc n) (lines_of script);
+  split = lines_split part;
+  sent = sent;
+  events = events;
+  first = subst (λ k. IsFaultOf (words_of text) (k + 1) fault) (sym (length_before part)) first;
+}
+
+-- ---- the parts that are left
+
+abbrev pub parts_left : Option (Bor (List ℕ)) → List (List ℕ)
+parts_left None = []
+parts_left (Some rest) = parts_of rest.now
+
+abbrev pub bytes_left : Option (Bor (List ℕ)) → ℕ
+bytes_left None = 0
+bytes_left (Some rest) = length rest.now + 1
+
+whole_at : (t : Bool) (b : ℕ) (bs : List ℕ) → eqb b 10 ≡ t
+    → (position_or_len (λ b. eqb b 10) bs ≡ length bs → slice_split (λ b. eqb b 10) bs ≡ bs ∷ [])
+    → position_or_len (λ b. eqb b 10) (b ∷ bs) ≡ length (b ∷ bs) → slice_split (λ b. eqb b 10) (b ∷ bs) ≡ (b ∷ bs) ∷ []
+whole_at true b bs e rest h =
+    let none : 0 ≡ suc (length bs) = rw e at h in
+    absurd (omega arith)
+whole_at false b bs e rest h =
+    let more : 1 + position_or_len (λ b. eqb b 10) bs ≡ suc (length bs) = rw e at h in
+    rw e (ap (onto_first b) (rest (omega arith)))
+
+whole_part : (text : List ℕ) → position_or_len (λ b. eqb b 10) text ≡ length text → slice_split (λ b. eqb b 10) text ≡ text ∷ []
+whole_part [] h = refl
+whole_part (b ∷ bs) h = whole_at (eqb b 10) b bs refl (whole_part bs) h
+
+-- no line feed is left
+pub last_part : (text : List ℕ) → None ≡ position (λ b. b == 10) text → parts_of text ≡ text ∷ []
+unfolding parts_of
+last_part text e =
+    whole_part text (sym (unwrap_position (λ b. eqb b 10) text) ∙ ap (λ o. unwrap_or o (length text)) (sym e))
+
+drop_more : (text : List ℕ) (n : ℕ) → drop (n + 1) text ≡ drop 1 (drop n text)
+drop_more text n = rw add-one (dropped text n)
+  where
+    dropped : (text : List ℕ) (n : ℕ) → drop (suc n) text ≡ drop 1 (drop n text)
+    dropped [] zero = refl
+    dropped [] (suc n) = refl
+    dropped (b ∷ bs) zero = refl
+    dropped (b ∷ bs) (suc n) = dropped bs n
+
+-- the part before the first line feed
+pub first_part : (text : List ℕ) (end : ℕ) → position (λ b. b == 10) text ≡ Some end
+    → parts_of text ≡ take end text ∷ parts_of (drop 1 (drop end text))
+unfolding parts_of
+first_part text end e =
+    let found = position-Some (λ b. eqb b 10) text end 0 e in
+    let same : end ≡ position_or_len (λ b. eqb b 10) text =
+    ap (λ o. unwrap_or o (length text)) (sym e) ∙ unwrap_position (λ b. eqb b 10) text in
+    slice_split_first (λ b. eqb b 10) text 0 (omega arith)
+    ∙ ap (λ n. take n text ∷ parts_of (drop (n + 1) text)) (sym same)
+    ∙ ap (λ l. take end text ∷ parts_of l) (drop_more text end)
+
+drop_is : {A : Type 0} (xs : List A) (n : ℕ) (y : A) (ys : List A) → drop n xs ≡ y ∷ ys
+    → (n < length xs) × (y ≡ get_or xs n y) × (drop (suc n) xs ≡ ys)
+drop_is [] zero y ys e = cc
+drop_is [] (suc n) y ys e = cc
+drop_is (x ∷ xs) zero y ys e = (omega arith, cc, cc)
+drop_is (x ∷ xs) (suc n) y ys e = let rest = drop_is xs n y ys e in (omega arith, rest.1, rest.2)
+
+-- the next part, and those behind it
+pub next_part : (script line : List ℕ) (n : ℕ) (rest : List (List ℕ)) → drop n (parts_of script) ≡ line ∷ rest
+    → IsPart script line n × (drop (n + 1) (parts_of script) ≡ rest)
+next_part script line n rest e =
+    let at = drop_is (parts_of script) n line rest e in
+    (record { within = at.0; same = at.1 }, rw add-one at.2)
+
+-- what splitting off a line leaves
+pub after_split : (text line : List ℕ) (following : Option (Bor (List ℕ)))
+    → MatchOption following (parts_of text ≡ line ∷ []) (λ rest. parts_of text ≡ line ∷ parts_of rest.now)
+    → parts_of text ≡ line ∷ parts_left following
+after_split text line None h = h
+after_split text line (Some rest) h = h
+
+-- no part is left
+pub no_part : (script : List ℕ) (n : ℕ) → drop n (parts_of script) ≡ [] → take n (lines_of script) ≡ lines_of script
+unfolding lines_of
+no_part script n e =
+    take_all n (map words_of (parts_of script))
+    (let none = ap length e in let cut = length-drop n (parts_of script) in
+    subst (λ k. k ≤ n) (sym (length-map (parts_of script) words_of)) (omega arith))

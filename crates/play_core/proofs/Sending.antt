@@ -1,0 +1,249 @@
+-- What the reading of a line means: it is an event exactly where its words say so.
+use Rattle.std.proofs.Common.{◌≡◌, ◌≢◌, ℕ, ◌<◌, ◌≤◌, min, Bool, true, false, not, cond, ltb, List, [], ◌∷◌, ◌++◌, Option, None, Some, Result, Ok, Err, refl, sym, ap, subst, ◌∙◌, arith, ◌↔◌, ⊎_elim, lit<}
+use Rattle.std.specs.Prelude.{codes, IsSome, IfSome, IsTrue, ⊤}
+use Rattle.std.specs.Option.{ok_or}
+use Rattle.std.specs.Str.{bytes_eq}
+use Rattle.std.specs.Str.Parse.{AllDigits, digits_value}
+use Rattle.std.proofs.lemmas.Bool.{and_from, and_parts, lt-ltb, ltb-true, ltb-false, le-ltb, cases_lt, not-false}
+use Rattle.std.proofs.lemmas.Slice.Eq.{bytes_eq-Decides}
+use Rattle.play_core.specs.declared.line.LineFault.{LineFault}
+use Rattle.play_core.specs.declared.line.LineFault.TheVariants.{Form, Key}
+use Rattle.play_core.specs.declared.sent.What.{What}
+use Rattle.play_core.specs.declared.sent.What.TheVariants.{Down, Repeat, Up, Reset, Load}
+use Rattle.play_core.specs.declared.sent.Sent.{Sent}
+use Rattle.play_core.specs.Scripts.{IsNumber, Tells, Sends, mark_of, key_of, IsEvent, HasBadKey, HasBadForm}
+use Rattle.play_core.specs.Readings.{are_digits, key_in, of_key, what_with_key, what_alone, what_of, sent_by, reading_of_lost, reading}
+
+digits_pass : (word : List ℕ) → AllDigits 10 word → are_digits word ≡ true
+digits_pass [] h = refl
+digits_pass (b ∷ bs) h = and_from _ _ (lt-ltb _ _ h.0) (digits_pass bs h.1)
+
+digits_from_pass : (word : List ℕ) → are_digits word ≡ true → AllDigits 10 word
+digits_from_pass [] e = tt
+digits_from_pass (b ∷ bs) e = let both = and_parts _ _ e in (ltb-true _ _ both.0, digits_from_pass bs both.1)
+
+-- a number below 128 is a key
+abbrev judged_key : ℕ → Result ℕ LineFault
+judged_key k = cond (ltb k 128) (Ok k) (Err Key)
+
+key_of_number : (word : List ℕ) → AllDigits 10 word → key_in word ≡ judged_key (digits_value 10 word)
+unfolding key_in
+key_of_number word h = rw (digits_pass word h) refl
+
+none_at : (word : List ℕ) (b : Bool) → are_digits word ≡ b → (AllDigits 10 word → ⊥) → key_in word ≡ Err Form
+unfolding key_in
+none_at word true e h = absurd (h (digits_from_pass word e))
+none_at word false e h = rw e refl
+
+pub key_of_none : (word : List ℕ) → (AllDigits 10 word → ⊥) → key_in word ≡ Err Form
+key_of_none word h = none_at word (are_digits word) refl h
+
+large : (n : ℕ) → (n < 128 → ⊥) → 128 ≤ n
+large n h = ⊎_elim (λ low. absurd (h low)) (λ high. high) (cases_lt n 128)
+
+-- where the number was made a key
+pub key_of_some : (word : List ℕ) (n : ℕ) (key : Option ℕ) → AllDigits 10 word → n ≡ min 128 (digits_value 10 word)
+    → (IsSome key ↔ (n < 128)) → IfSome key (λ k. k ≡ n) → ok_or key Key ≡ key_in word
+key_of_some word n None h e small same =
+    let high : 128 ≤ n = large n (λ low. absurd (cc (small.1 low))) in
+    let value_high : 128 ≤ digits_value 10 word = omega arith in
+    rw (key_of_number word h, le-ltb _ _ value_high) refl
+key_of_some word n (Some k) h e small same =
+    let low : n < 128 = small.0 refl in
+    let is : k ≡ digits_value 10 word = omega arith in
+    let value_low : digits_value 10 word < 128 = omega arith in
+    rw (key_of_number word h, lt-ltb _ _ value_low) (ap (λ n. Ok n) is)
+
+-- ---- what tells of an event is read so
+
+abbrev what_in : List (List ℕ) → Result What LineFault
+what_in [] = Err Form
+what_in (word ∷ rest) = what_of word rest
+
+abbrev judged_what : What → Result What LineFault
+judged_what w = cond (ltb (key_of w) 128) (Ok w) (Err Key)
+
+abbrev judged : Sent → Result (Option Sent) LineFault
+judged s = cond (ltb (key_of s.what) 128) (Ok (Some s)) (Err Key)
+
+of_key_judged : (what : ℕ → What) (b : Bool) (k : ℕ) → of_key what (cond b (Ok k) (Err Key)) ≡ cond b (Ok (what k)) (Err Key)
+of_key_judged what true k = refl
+of_key_judged what false k = refl
+
+read_down : (number : List ℕ) (k : ℕ) → IsNumber number k → what_of (codes "down") (number ∷ []) ≡ judged_what (Down k)
+unfolding what_of what_with_key
+read_down number k h = rw (key_of_number number h.0, ← h.1) (of_key_judged (λ k. Down k) (ltb k 128) k)
+
+read_repeat : (number : List ℕ) (k : ℕ) → IsNumber number k → what_of (codes "repeat") (number ∷ []) ≡ judged_what (Repeat k)
+unfolding what_of what_with_key
+read_repeat number k h = rw (key_of_number number h.0, ← h.1) (of_key_judged (λ k. Repeat k) (ltb k 128) k)
+
+read_up : (number : List ℕ) (k : ℕ) → IsNumber number k → what_of (codes "up") (number ∷ []) ≡ judged_what (Up k)
+unfolding what_of what_with_key
+read_up number k h = rw (key_of_number number h.0, ← h.1) (of_key_judged (λ k. Up k) (ltb k 128) k)
+
+what_read : (words : List (List ℕ)) (w : What) → Tells words w → what_in words ≡ judged_what w
+unfolding what_of what_alone
+what_read words (Down k) h = ap what_in h.1 ∙ read_down h.0 k h.2
+what_read words (Repeat k) h = ap what_in h.1 ∙ read_repeat h.0 k h.2
+what_read words (Up k) h = ap what_in h.1 ∙ read_up h.0 k h.2
+what_read words Reset h = ap what_in h
+what_read words Load h = ap what_in h
+
+lost_read : (words : List (List ℕ)) → reading_of_lost words ≡ sent_by true (what_in words)
+unfolding reading_of_lost sent_by
+lost_read [] = refl
+lost_read (word ∷ rest) = refl
+
+-- a line that begins with `lost`
+pub lost_line : (words : List (List ℕ)) (word : List ℕ) (rest : List (List ℕ)) → words ≡ word ∷ rest → false ≡ not (bytes_eq word (codes "lost"))
+    → reading words ≡ reading_of_lost rest
+unfolding reading
+lost_line words word rest e lost = rw (e, not-false _ (sym lost)) refl
+
+pub lost_alone : reading_of_lost [] ≡ Err Form
+unfolding reading_of_lost
+lost_alone = refl
+
+pub lost_command : (word : List ℕ) (rest : List (List ℕ)) → reading_of_lost (word ∷ rest) ≡ sent_by true (what_of word rest)
+unfolding reading_of_lost
+lost_command word rest = refl
+
+-- no command begins with `lost`
+not_lost : (words : List (List ℕ)) (w : What) → Tells words w → reading words ≡ sent_by false (what_in words)
+unfolding reading
+not_lost words (Down k) h = rw h.1 refl
+not_lost words (Repeat k) h = rw h.1 refl
+not_lost words (Up k) h = rw h.1 refl
+not_lost words Reset h = rw h refl
+not_lost words Load h = rw h refl
+
+sent_judged : (lost : Bool) (w : What) (b : Bool) → sent_by lost (cond b (Ok w) (Err Key)) ≡ cond b (Ok (Some (record { lost = lost; what = w }))) (Err Key)
+unfolding sent_by
+sent_judged lost w true = refl
+sent_judged lost w false = refl
+
+marked : (lost : Bool) (command : List (List ℕ)) (w : What) → Tells command w
+    → reading (mark_of lost ++ command) ≡ sent_by lost (what_in command)
+unfolding reading
+marked true command w h = lost_read command
+marked false command w h = not_lost command w h
+
+pub event_read : (words : List (List ℕ)) (s : Sent) → Sends words s → reading words ≡ judged s
+event_read words s h =
+    ap reading h.1 ∙ marked s.lost h.0 s.what h.2 ∙ ap (sent_by s.lost) (what_read h.0 s.what h.2)
+    ∙ sent_judged s.lost s.what (ltb (key_of s.what) 128)
+
+-- ---- what is read as an event tells of it
+
+choice : {A : Type 0} (P : A → Type 0) (word name : List ℕ) (x y : A) (b : Bool) → bytes_eq word name ≡ b → (word ≡ name → P x) → P y
+    → P (cond b x y)
+choice P word name x y true e is other = is ((bytes_eq-Decides word name).0 e)
+choice P word name x y false e is other = other
+
+-- by whether the word is this one
+chosen : {A : Type 0} (P : A → Type 0) (word name : List ℕ) (x y : A) → (word ≡ name → P x) → P y → P (cond (bytes_eq word name) x y)
+chosen P word name x y is other = choice P word name x y (bytes_eq word name) refl is other
+
+-- what a reading says of the words, but that a bad form is one
+abbrev IsKey : List ℕ → Result ℕ LineFault → Type 0
+IsKey number (Ok k) = IsNumber number k × (k < 128)
+IsKey number (Err Key) = (k : ℕ) × IsNumber number k × (127 < k)
+IsKey number (Err Form) = ⊤
+
+key_at : (number : List ℕ) (b : Bool) → are_digits number ≡ true → ltb (digits_value 10 number) 128 ≡ b
+    → IsKey number (cond b (Ok (digits_value 10 number)) (Err Key))
+key_at number true d e = ((digits_from_pass number d, refl), ltb-true _ _ e)
+key_at number false d e =
+    let high = ltb-false _ _ e in
+    (digits_value 10 number, (digits_from_pass number d, refl), omega arith)
+
+key_if : (number : List ℕ) (b : Bool) → are_digits number ≡ b
+    → IsKey number (cond b (cond (ltb (digits_value 10 number) 128) (Ok (digits_value 10 number)) (Err Key)) (Err Form))
+key_if number true e = key_at number (ltb (digits_value 10 number) 128) e refl
+key_if number false e = tt
+
+key_is : (number : List ℕ) → IsKey number (key_in number)
+unfolding key_in
+key_is number = key_if number (are_digits number) refl
+
+abbrev IsWhat : List (List ℕ) → Result What LineFault → Type 0
+IsWhat words (Ok w) = Tells words w × (key_of w < 128)
+IsWhat words (Err Key) = (w : What) × Tells words w × (127 < key_of w)
+IsWhat words (Err Form) = ⊤
+
+keyed : (words : List (List ℕ)) (number : List ℕ) (what : ℕ → What) (r : Result ℕ LineFault) → IsKey number r
+    → ((k : ℕ) → IsNumber number k → Tells words (what k)) → ((k : ℕ) → key_of (what k) ≡ k) → IsWhat words (of_key what r)
+keyed words number what (Ok k) h tells key = (tells k h.0, subst (λ n. n < 128) (sym (key k)) h.1)
+keyed words number what (Err Key) h tells key = (what h.0, tells h.0 h.1, subst (λ n. 127 < n) (sym (key h.0)) h.2)
+keyed words number what (Err Form) h tells key = tt
+
+with_key : (word number : List ℕ) → IsWhat (word ∷ number ∷ []) (what_with_key word number)
+unfolding what_with_key
+with_key word number =
+    let words = word ∷ number ∷ [] in
+    chosen (IsWhat words) word (codes "down") _ _
+    (λ e. keyed words number (λ k. Down k) (key_in number) (key_is number) (λ k n. (number, ap (λ w. w ∷ number ∷ []) e, n)) (λ k. refl))
+    (chosen (IsWhat words) word (codes "repeat") _ _
+    (λ e. keyed words number (λ k. Repeat k) (key_in number) (key_is number) (λ k n. (number, ap (λ w. w ∷ number ∷ []) e, n)) (λ k. refl))
+    (chosen (IsWhat words) word (codes "up") _ _
+    (λ e. keyed words number (λ k. Up k) (key_in number) (key_is number) (λ k n. (number, ap (λ w. w ∷ number ∷ []) e, n)) (λ k. refl))
+    tt))
+
+alone : (word : List ℕ) → IsWhat (word ∷ []) (what_alone word)
+unfolding what_alone
+alone word =
+    chosen (IsWhat (word ∷ [])) word (codes "reset") _ _ (λ e. (ap (λ w. w ∷ []) e, lit< tt))
+    (chosen (IsWhat (word ∷ [])) word (codes "load") _ _ (λ e. (ap (λ w. w ∷ []) e, lit< tt)) tt)
+
+what_is : (words : List (List ℕ)) → IsWhat words (what_in words)
+unfolding what_of
+what_is [] = tt
+what_is (word ∷ []) = alone word
+what_is (word ∷ number ∷ []) = with_key word number
+what_is (word ∷ number ∷ more ∷ rest) = tt
+
+-- what a reading says, but that a bad form is one
+abbrev IsSentOrBad : List (List ℕ) → Result (Option Sent) LineFault → Type 0
+IsSentOrBad words (Ok None) = words ≡ []
+IsSentOrBad words (Ok (Some s)) = IsEvent words s
+IsSentOrBad words (Err Key) = HasBadKey words
+IsSentOrBad words (Err Form) = words ≢ []
+
+sent_is : (words command : List (List ℕ)) (lost : Bool) (r : Result What LineFault) → words ≡ mark_of lost ++ command → words ≢ []
+    → IsWhat command r → IsSentOrBad words (sent_by lost r)
+unfolding sent_by
+sent_is words command lost (Ok w) e some h = ((command, e, h.0), h.1)
+sent_is words command lost (Err Key) e some h = (record { lost = lost; what = h.0 }, (command, e, h.1), h.2)
+sent_is words command lost (Err Form) e some h = some
+
+sent_or_bad : (words : List (List ℕ)) → IsSentOrBad words (reading words)
+unfolding reading
+sent_or_bad [] = refl
+sent_or_bad (word ∷ rest) =
+    let words = word ∷ rest in
+    let some : words ≢ [] = λ e. cc in
+    chosen (IsSentOrBad words) word (codes "lost") _ _
+    (λ e. subst (IsSentOrBad words) (sym (lost_read rest))
+    (sent_is words rest true (what_in rest) (ap (λ w. w ∷ rest) e) some (what_is rest)))
+    (sent_is words words false (what_of word rest) refl some (what_is words))
+
+-- the reading of a line says what its words say
+abbrev pub IsReading : List (List ℕ) → Result (Option Sent) LineFault → Type 0
+IsReading words (Ok None) = words ≡ []
+IsReading words (Ok (Some s)) = IsEvent words s
+IsReading words (Err Key) = HasBadKey words
+IsReading words (Err Form) = HasBadForm words
+
+not_judged : (s : Sent) (b : Bool) → Err Form ≡ cond b (Ok (Some s)) (Err Key) → ⊥
+not_judged s true e = cc
+not_judged s false e = cc
+
+is_reading : (words : List (List ℕ)) (r : Result (Option Sent) LineFault) → reading words ≡ r → IsSentOrBad words r → IsReading words r
+is_reading words (Ok None) e h = h
+is_reading words (Ok (Some s)) e h = h
+is_reading words (Err Key) e h = h
+is_reading words (Err Form) e h = (h, λ s sends. not_judged s (ltb (key_of s.what) 128) (sym e ∙ event_read words s sends))
+
+pub reading_is : (words : List (List ℕ)) (r : Result (Option Sent) LineFault) → r ≡ reading words → IsReading words r
+reading_is words r e = is_reading words r (sym e) (subst (IsSentOrBad words) (sym e) (sent_or_bad words))

@@ -1,0 +1,24 @@
+use Rattle.std.proofs.Common.{◌≡◌, refl, sym, inl, inr}
+use Rattle.std.proofs.KnownBytes.{Keeps-refl}
+use Rattle.play_core.proofs.Outcomes.{text_refused, text_names, played_names}
+use Rattle.play_core.proofs.player.play.Goals as goal
+
+pub returns-in-Err-clause-plays : goal.returns-in-Err-clause-plays
+returns-in-Err-clause-plays g c =
+    rw c.text_error.ensures (inl (text_refused _ _ c.in-Err.error c.in-Err.ensures.reads, Keeps-refl _, Keeps-refl _))
+
+pub returns-in-Err-clause-text_failed : goal.returns-in-Err-clause-text_failed
+returns-in-Err-clause-text_failed g c = let names = text_names c.in-Err.error in rw (c.text_error.ensures, names.0) c.in-Err.ensures.failed
+
+pub returns-in-Err-clause-script_failed : goal.returns-in-Err-clause-script_failed
+returns-in-Err-clause-script_failed g c = let names = text_names c.in-Err.error in rw (c.text_error.ensures, names.2) refl
+
+pub returns-in-Err-clause-out_failed : goal.returns-in-Err-clause-out_failed
+returns-in-Err-clause-out_failed g c = let names = text_names c.in-Err.error in rw (c.text_error.ensures, names.3) refl
+
+pub returns-clause-plays : goal.returns-clause-plays
+returns-clause-plays g c = inr (c.in-Ok.map, c.in-Ok.ensures.reads, c.play_on.ensures.plays)
+
+pub returns-clause-text_failed : goal.returns-clause-text_failed
+returns-clause-text_failed g c =
+    let names = played_names _ _ _ _ _ c.play_on.ensures.plays in rw names.0 c.in-Ok.ensures.failed

@@ -1,0 +1,55 @@
+-- The reading of a line by tests in order, for the functions inside. `Scripts` says what it means.
+use Rattle.std.specs.Prelude.{ℕ, nat_lt, Bool, true, false, ◌&&◌, List, [], ◌∷◌, codes, Option, None, Some, Result, Ok, Err, if◌then◌else◌}
+use Rattle.std.specs.Str.{bytes_eq}
+use Rattle.std.specs.Char.{digit_value}
+use Rattle.std.specs.Str.Parse.{digits_value}
+use Rattle.play_core.specs.declared.line.LineFault.{LineFault}
+use Rattle.play_core.specs.declared.line.LineFault.TheVariants.{Form, Key}
+use Rattle.play_core.specs.declared.sent.What.{What}
+use Rattle.play_core.specs.declared.sent.What.TheVariants.{Down, Repeat, Up, Reset, Load}
+use Rattle.play_core.specs.declared.sent.Sent.{Sent}
+
+abbrev pub are_digits : List ℕ → Bool
+are_digits [] = true
+are_digits (b ∷ bs) = nat_lt (digit_value b) 10 && are_digits bs
+
+unfoldable pub key_in : List ℕ → Result ℕ LineFault
+key_in number =
+    if are_digits number
+    then (if nat_lt (digits_value 10 number) 128 then Ok (digits_value 10 number) else Err Key)
+    else Err Form
+
+abbrev pub of_key : (ℕ → What) → Result ℕ LineFault → Result What LineFault
+of_key what (Ok k) = Ok (what k)
+of_key what (Err f) = Err f
+
+unfoldable pub what_with_key : List ℕ → List ℕ → Result What LineFault
+what_with_key word number =
+    if bytes_eq word (codes "down") then of_key (λ k. Down k) (key_in number)
+    else if bytes_eq word (codes "repeat") then of_key (λ k. Repeat k) (key_in number)
+    else if bytes_eq word (codes "up") then of_key (λ k. Up k) (key_in number)
+    else Err Form
+
+unfoldable pub what_alone : List ℕ → Result What LineFault
+what_alone word =
+    if bytes_eq word (codes "reset") then Ok Reset
+    else if bytes_eq word (codes "load") then Ok Load
+    else Err Form
+
+unfoldable pub what_of : List ℕ → List (List ℕ) → Result What LineFault
+what_of word [] = what_alone word
+what_of word (number ∷ []) = what_with_key word number
+what_of word (number ∷ more ∷ rest) = Err Form
+
+unfoldable pub sent_by : Bool → Result What LineFault → Result (Option Sent) LineFault
+sent_by lost (Ok w) = Ok (Some (record { lost = lost; what = w }))
+sent_by lost (Err f) = Err f
+
+unfoldable pub reading_of_lost : List (List ℕ) → Result (Option Sent) LineFault
+reading_of_lost [] = Err Form
+reading_of_lost (word ∷ rest) = sent_by true (what_of word rest)
+
+unfoldable pub reading : List (List ℕ) → Result (Option Sent) LineFault
+reading [] = Ok None
+reading (word ∷ rest) =
+    if bytes_eq word (codes "lost") then reading_of_lost rest else sent_by false (what_of word rest)

@@ -1,0 +1,29 @@
+//! Plays a script of key presses, repeats, releases, resets and loads on a keymap, or on two.
+//!
+//! A script has one event a line; a line marked as lost is sent and not delivered. `play` reads a keymap from a text
+//! and then the script, and writes a line for each delivered event, or the bytes that the answers type; `play_next`
+//! reads a second text, whose keymap a load puts in force.
+//!
+//! It stands on `keymap_text` for the keymap of a text, on `console_core` for the answers, and on `keymap_core` for
+//! readers and writers. It promises that what is written is the text that `specs/Written.antt` defines for the keymaps
+//! and the script that were read, that nothing is written before the whole script was read, and that a fault is that of
+//! the bytes that were read (`specs/Playing.antt`, `specs/Scripts.antt`).
+#![tactic(auto)]
+
+mod line;
+mod lines;
+mod output;
+mod player;
+mod script;
+mod sent;
+mod show;
+mod words;
+
+pub use output::typed;
+pub use player::{PlayError, Source, play, play_next};
+pub use script::{ScriptError, ScriptFault, read_script};
+pub use sent::{Sent, What};
+pub use show::Show;
+
+#[cfg(test)]
+mod tests;

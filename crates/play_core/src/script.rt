@@ -1,0 +1,58 @@
+//! Scripts: what is sent to a console, one event a line.
+ghost use Rattle.std.specs.Prelude.{◌≡◌, IfOk, IfErr};
+ghost use Rattle.play_core.specs.Scripts.{IsScript, IsScriptError};
+
+use crate::line::{LineFault, read_line};
+use crate::sent::Sent;
+use crate::words::split_line;
+use std::alloc::{AllocFailed, Global};
+use thiserror::Error;
+
+/// The first line of a script that is no event, counted from 1.
+#[derive(Clone, Copy, Debug, PartialEq, Eq)]
+pub enum ScriptFault {
+    /// The line has another form.
+    BadLine(u64),
+    /// The number of the key is above 127.
+    BadKey(u64),
+}
+
+#[derive(Clone, Copy, Debug, PartialEq, Eq, Error)]
+pub enum ScriptError {
+    #[error("out of memory")]
+    Memory,
+    #[error("fault in the script: {0:?}")]
+    Fault(ScriptFault),
+}
+
+impl<T: Drop> From<AllocFailed<T>> for ScriptError {
+    ghost use Rattle.play_core.specs.declared.script.ScriptError.TheVariants.{Memory};
+
+    ghost from_gives = { λ _ e. e ≡ Memory };
+
+    fn from(_e: AllocFailed<T>) -> ScriptError {
+        ScriptError::Memory
+    }
+}
+
+/// Reads a script: each line that has a word is one event.
+pub fn read_script(alloc: Global, script: &[u8]) -> Result<Vec<Sent>, ScriptError>
+    ensures ok { IfOk result (λ events. IsScript script.now events.items) }
+    ensures err { IfErr result (IsScriptError script.now) }
+{
+    let mut events = Vec::new(alloc);
+    let mut number = 0;
+    let mut rest = Some(script);
+    while let Some(text) = rest {
+        let (line, following) = split_line(text);
+        number += 1;
+        match read_line(line) {
+            Ok(None) => {}
+            Ok(Some(Sent { lost, what })) => events.push(Sent { lost, what })?,
+            Err(LineFault::Form) => return Err(ScriptError::Fault(ScriptFault::BadLine(number))),
+            Err(LineFault::Key) => return Err(ScriptError::Fault(ScriptFault::BadKey(number))),
+        }
+        rest = following;
+    }
+    Ok(events)
+}

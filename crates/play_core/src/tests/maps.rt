@@ -1,0 +1,41 @@
+//! The texts of keymaps for tests.
+
+pub const LETTER_AND_SHIFT: &str = "030 'a' 'A' soh soh 'a' 'A' soh soh C
+042 lshift lshift lshift lshift lshift lshift lshift lshift O
+";
+
+pub const TWO_SCROLL_LOCKS: &str = "070 slock slock slock slock slock slock slock slock O
+104 slock slock slock slock slock slock slock slock O
+";
+
+pub const SHIFT_WITH_TRAP: &str = "029 lctrl lctrl lctrl lctrl lctrl lctrl lctrl lctrl O
+042 lshift lshift 'x' 'x' lshift lshift lshift lshift O
+";
+
+pub const CAPS_AND_NUM: &str = "030 'a' 'A' soh soh 'a' 'A' soh soh B
+058 clock clock clock clock clock clock clock clock O
+069 nlock nlock nlock nlock nlock nlock nlock nlock O
+";
+
+pub const ACCENTS: &str = "015 ht btab ht ht ht btab ht ht O
+018 'e' 'E' enq enq 'e' 'E' enq enq C
+030 'a' 'A' soh soh 'a' 'A' soh soh C
+026 dacu dacu dacu dacu dacu dacu dacu dacu O
+041 dgra dgra dgra dgra dgra dgra dgra dgra O
+042 lshift lshift lshift lshift lshift lshift lshift lshift O
+056 meta meta meta meta meta meta meta meta O
+057 ' ' ' ' ' ' ' ' ' ' ' ' ' ' ' ' O
+059 fkey01 fkey01 fkey01 fkey01 fkey01 fkey01 fkey01 fkey01 O
+092 nscr nscr nscr nscr nscr nscr nscr nscr O
+dacu 180 ( 'e' 0xe9 ) ( 'E' 0xc9 ) ( 'e' 0xea )
+";
+
+pub const TWO_CONTROLS: &str = "029 lctrl rctrl lctrl rctrl lctrl rctrl lctrl rctrl O
+042 lshift lshift lshift lshift lshift lshift lshift lshift O
+";
+
+pub const SHIFT_AND_CAPS: &str = "042 lshift lshift lshift lshift lshift lshift lshift lshift O
+058 clock clock clock clock clock clock clock clock O
+";
+
+pub const NOP_UNDER_CONTROL: &str = "030 'a' 'A' nop nop 'a' 'A' nop nop C";

@@ -1,0 +1,132 @@
+#!/bin/sh
+# Measures the program on large inputs: what a byte of text and an event of a script cost, how these costs grow from a
+# tenth of the largest size to the whole, and how many system calls a run makes.
+#
+# usage: run.sh PROGRAM
+# Costs are instructions, counted by perf(1) or else by callgrind of valgrind(1), or else microseconds of processor
+# time. System calls are counted by strace(1), or else by `valgrind --trace-syscalls=yes`.
+
+program=${1:-crates/kmap/out/kmap}
+case $program in
+/*) ;;
+*) program=$PWD/$program ;;
+esac
+keymap=$(cd "$(dirname "$0")/../examples" && pwd)/us.kbd
+folder=$(mktemp -d) || exit 1
+trap 'rm -rf "$folder"' EXIT
+cd "$folder" || exit 1
+
+# The largest text and script that the program reads.
+limit=1048576
+
+# make_text SIZE: the lines of the keymap over and over, as long as they fit
+make_text() {
+    grep -v '^#' "$keymap" | awk -v size="$1" '
+        { line[NR] = $0 }
+        END {
+            for (i = 0; (used += length(line[i % NR + 1]) + 1) <= size; i++)
+                print line[i % NR + 1]
+        }'
+}
+
+# make_script SIZE: keys typed in turn, some with shift, a few lost releases and resets
+make_script() {
+    awk -v size="$1" '
+        function put(line) {
+            if (used + length(line) + 1 <= size) {
+                print line
+                used += length(line) + 1
+            } else
+                full = 1
+        }
+        BEGIN {
+            for (i = 0; !full; i++) {
+                key = 16 + i * 7 % 35
+                if (i % 5 == 0) put("down 42")
+                put("down " key)
+                if (i % 3 == 0) put("repeat " key)
+                put(i % 97 == 0 ? "lost up " key : "up " key)
+                if (i % 5 == 0) put("up 42")
+                if (i % 997 == 0) put("reset")
+            }
+        }'
+}
+
+if perf stat -x, -e instructions:u true 2> perf.out && grep -q '^[0-9]' perf.out; then
+    unit=instructions
+    cost() {
+        perf stat -x, -e instructions:u -o cost.out "$program" "$@" > /dev/null
+        awk -F, '/instructions/ { print $1 }' cost.out
+    }
+elif command -v valgrind > /dev/null; then
+    unit=instructions
+    cost() {
+        valgrind --tool=callgrind --callgrind-out-file=/dev/null "$program" "$@" 2>&1 > /dev/null |
+            awk '/Collected/ { print $NF }'
+    }
+else
+    unit=microseconds
+    cost() {
+        { time -p "$program" "$@" > /dev/null; } 2>&1 | awk '/user|sys/ { t += $2 } END { print t * 1000000 }'
+    }
+fi
+
+if command -v strace > /dev/null; then
+    calls() {
+        strace -f -o calls.out "$program" "$@" > /dev/null
+        grep -c '(' calls.out
+    }
+elif command -v valgrind > /dev/null; then
+    calls() {
+        valgrind --trace-syscalls=yes "$program" "$@" 2>&1 > /dev/null | grep -c 'SYSCALL\['
+    }
+else
+    calls() {
+        echo unknown
+    }
+fi
+
+# per TOTAL FIXED COUNT: the cost of one
+per() {
+    awk -v total="$1" -v fixed="$2" -v count="$3" 'BEGIN { printf "%.1f", (total - fixed) / count }'
+}
+
+# growth TENTH WHOLE FIXED TENTH_COUNT WHOLE_COUNT: how the costs grow, and how the sizes do
+growth() {
+    awk -v a="$1" -v b="$2" -v f="$3" -v m="$4" -v n="$5" \
+        'BEGIN { printf "cost times %.2f where the size is times %.2f", (b - f) / (a - f), n / m }'
+}
+
+make_text $((limit / 10)) > text.tenth
+make_text $limit > text.whole
+make_script $((limit / 10)) > script.tenth
+make_script $limit > script.whole
+: > empty
+
+bytes_tenth=$(wc -c < text.tenth)
+bytes_whole=$(wc -c < text.whole)
+events_tenth=$(wc -l < script.tenth)
+events_whole=$(wc -l < script.whole)
+
+fixed=$(cost check empty)
+tenth=$(cost check text.tenth)
+whole=$(cost check text.whole)
+echo "text of $bytes_tenth and of $bytes_whole bytes, checked:"
+echo "  $(per "$tenth" "$fixed" "$bytes_tenth") and $(per "$whole" "$fixed" "$bytes_whole") $unit a byte;" \
+    "$(growth "$tenth" "$whole" "$fixed" "$bytes_tenth" "$bytes_whole")"
+echo "  $(calls check text.tenth) and $(calls check text.whole) system calls ($(calls check empty) on an empty text)"
+
+for show in '' --typed; do
+    # The flag is left out where it is empty.
+    fixed=$(cost play $show "$keymap" empty)
+    tenth=$(cost play $show "$keymap" script.tenth)
+    whole=$(cost play $show "$keymap" script.whole)
+    echo "script of $events_tenth and of $events_whole events, played${show:+ with $show}:"
+    echo "  $(per "$tenth" "$fixed" "$events_tenth") and $(per "$whole" "$fixed" "$events_whole") $unit an event;" \
+        "$(growth "$tenth" "$whole" "$fixed" "$events_tenth" "$events_whole")"
+    echo "  $(calls play $show "$keymap" script.tenth) and $(calls play $show "$keymap" script.whole) system calls" \
+        "($(calls play $show "$keymap" empty) on an empty script)"
+done
+
+"$program" compile "$keymap" tables || exit 1
+echo "dump of the tables of us.kbd: $(cost dump tables) $unit, $(calls dump tables) system calls"

@@ -1,0 +1,81 @@
+-- The report of the check, as text.
+use Rattle.std.specs.Prelude.{ℕ, Bool, true, false, List, [], ◌∷◌, ◌++◌, codes, decimal, Option, None, Some}
+use Rattle.std.specs.List.{flat_map}
+use Rattle.keymap_core.specs.declared.action.Modifier.TheVariants.{LeftShift, RightShift, LeftControl, RightControl, LeftAlt, RightAlt, AltShift, Meta}
+use Rattle.keymap_core.specs.declared.action.Lock.TheVariants.{Caps, Num, Scroll, Alt}
+use Rattle.keymap_core.specs.declared.action.Holding.{Holding}
+use Rattle.keymap_core.specs.declared.action.Holding.TheVariants as holding
+use Rattle.keymap_core.specs.Actions.{holding_action, name_of}
+use Rattle.keymap_core.specs.Maps.{MapValue}
+use Rattle.console_core.specs.declared.event.Event.{Event}
+use Rattle.console_core.specs.declared.event.Event.TheVariants.{Press, Release, Reset, Load}
+use Rattle.keymap_check.specs.declared.bearer.Bearer.{Bearer}
+use Rattle.keymap_check.specs.declared.bearer.Bearer.TheVariants.{Nobody, Throughout, Sole, Several}
+use Rattle.keymap_check.specs.declared.finding.Finding.{Finding}
+use Rattle.keymap_check.specs.declared.finding.Place.{Place}
+use Rattle.keymap_check.specs.Report.{ReportValue, report_of, bearer_in, is_steady_in}
+use Rattle.keymap_check.specs.Scripts.{demonstration_of}
+
+abbrev pub holding_name : Holding → List ℕ
+holding_name a = name_of (holding_action a)
+
+abbrev pub verdict_line : List Finding → List ℕ
+verdict_line [] = codes "accepted\n"
+verdict_line (f ∷ fs) = codes "refused\n"
+
+abbrev pub place_text : Place → List ℕ
+place_text p = codes " at slot " ++ decimal p.slot ++ codes " column " ++ decimal p.column
+
+-- a key that bears a holding action and has a character
+abbrev pub finding_line : Finding → List ℕ
+finding_line f =
+    codes "key " ++ decimal f.key ++ codes ": " ++ holding_name f.holding ++ place_text f.holding_at ++ codes ", character"
+    ++ place_text f.character_at ++ codes "\n"
+
+abbrev pub bearer_text : Bearer → List ℕ
+bearer_text Nobody = codes " nobody"
+bearer_text (Throughout k) = codes " throughout " ++ decimal k
+bearer_text (Sole k) = codes " sole " ++ decimal k
+bearer_text Several = codes " several"
+
+abbrev pub steady_text : Bool → List ℕ
+steady_text true = codes " steady"
+steady_text false = []
+
+-- only a lock can be steady
+abbrev pub is_steady : ReportValue → Holding → Bool
+is_steady r (holding.Mod m) = false
+is_steady r (holding.Lock l) = is_steady_in r l
+
+abbrev pub holding_line : ReportValue → Holding → List ℕ
+holding_line r a = holding_name a ++ bearer_text (bearer_in r a) ++ steady_text (is_steady r a) ++ codes "\n"
+
+-- the modifiers, then the locks
+abbrev pub holdings : List Holding
+holdings =
+    holding.Mod LeftShift ∷ holding.Mod RightShift ∷ holding.Mod LeftControl ∷ holding.Mod RightControl ∷ holding.Mod LeftAlt
+    ∷ holding.Mod RightAlt ∷ holding.Mod AltShift ∷ holding.Mod Meta ∷ holding.Lock Caps ∷ holding.Lock Num
+    ∷ holding.Lock Scroll ∷ holding.Lock Alt ∷ []
+
+abbrev pub check_text : ReportValue → List ℕ
+check_text r = verdict_line r.findings ++ flat_map finding_line r.findings ++ flat_map (holding_line r) holdings
+
+-- the line of a script that delivers the event
+abbrev pub event_line : Event → List ℕ
+event_line (Press k) = codes "down " ++ decimal k ++ codes "\n"
+event_line (Release k) = codes "up " ++ decimal k ++ codes "\n"
+event_line Reset = codes "reset\n"
+event_line Load = codes "load\n"
+
+abbrev pub demonstration_text : Option (List Event) → List ℕ
+demonstration_text None = codes "demonstration: none\n"
+demonstration_text (Some events) = codes "demonstration:\n" ++ flat_map event_line events
+
+-- the demonstration comes only where it is asked for
+abbrev pub shown_text : Bool → MapValue → List ℕ
+shown_text true m = demonstration_text (demonstration_of m)
+shown_text false m = []
+
+-- the whole report on a map
+abbrev pub report : MapValue → Bool → List ℕ
+report m show = check_text (report_of m) ++ shown_text show m

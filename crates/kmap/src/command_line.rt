@@ -1,0 +1,117 @@
+//! The command line: its subcommands, and what its words ask for.
+use clap::{Arg, ArgAction, ArgMatches, Command};
+use std::alloc::{AllocError, Global};
+
+fn file<'a>(alloc: Global, name: &'a str, help: &'a str) -> Arg<'a> {
+    Arg::new(alloc, name)
+        .required(true)
+        .action(ArgAction::Set)
+        .help(help)
+}
+
+fn flag<'a>(alloc: Global, name: &'a str, help: &'a str) -> Arg<'a> {
+    Arg::new(alloc, name)
+        .long(name)
+        .action(ArgAction::SetTrue)
+        .help(help)
+}
+
+fn dump<'a>(alloc: Global) -> Result<Command<'a>, AllocError> {
+    Command::new(alloc, "dump")
+        .about("Prints a table file as text")
+        .arg(file(alloc, "TABLES", "The table file"))
+}
+
+fn compile<'a>(alloc: Global) -> Result<Command<'a>, AllocError> {
+    Command::new(alloc, "compile")
+        .about("Writes the table file of a text")
+        .arg(file(alloc, "TEXT", "The keymap text"))?
+        .arg(file(alloc, "OUT", "The table file to create"))
+}
+
+fn check<'a>(alloc: Global) -> Result<Command<'a>, AllocError> {
+    Command::new(alloc, "check")
+        .about("Checks that no key can leave a modifier on")
+        .arg(file(alloc, "TEXT", "The keymap text"))?
+        .arg(flag(
+            alloc,
+            "show",
+            "Also prints key presses that leave a modifier on",
+        ))
+}
+
+fn next<'a>(alloc: Global) -> Arg<'a> {
+    Arg::new(alloc, "next")
+        .long("next")
+        .value_name("TEXT2")
+        .action(ArgAction::Set)
+        .help("The keymap text that a load puts in force")
+}
+
+fn play<'a>(alloc: Global) -> Result<Command<'a>, AllocError> {
+    Command::new(alloc, "play")
+        .about("Prints what the console answers to a script")
+        .arg(file(alloc, "TEXT", "The keymap text"))?
+        .arg(file(alloc, "SCRIPT", "The script of key presses"))?
+        .arg(flag(alloc, "typed", "Prints the typed bytes instead"))?
+        .arg(next(alloc))
+}
+
+/// The subcommands of the program and their words.
+pub(crate) fn command<'a>(alloc: Global) -> Result<Command<'a>, AllocError> {
+    Command::new(alloc, "kmap")
+        .about("Reads, checks, converts and plays console keymaps")
+        .subcommand_required(true)
+        .arg_required_else_help(true)
+        .subcommand(dump(alloc)?)?
+        .subcommand(compile(alloc)?)?
+        .subcommand(check(alloc)?)?
+        .subcommand(play(alloc)?)
+}
+
+/// What the words ask for.
+#[derive(Clone, Copy, Drop)]
+pub(crate) enum Request<'a> {
+    Dump {
+        tables: &'a str,
+    },
+    Compile {
+        text: &'a str,
+        out: &'a str,
+    },
+    Check {
+        text: &'a str,
+        show: bool,
+    },
+    Play {
+        text: &'a str,
+        next: Option<&'a str>,
+        script: &'a str,
+        typed: bool,
+    },
+}
+
+/// The request of words that `clap` took.
+pub(crate) fn request_of<'a>(matches: &ArgMatches<'a>) -> Option<Request<'a>> {
+    let (name, words) = matches.subcommand()?;
+    match name {
+        "dump" => Some(Request::Dump {
+            tables: words.get_str("TABLES")?,
+        }),
+        "compile" => Some(Request::Compile {
+            text: words.get_str("TEXT")?,
+            out: words.get_str("OUT")?,
+        }),
+        "check" => Some(Request::Check {
+            text: words.get_str("TEXT")?,
+            show: words.get_flag("show"),
+        }),
+        "play" => Some(Request::Play {
+            text: words.get_str("TEXT")?,
+            next: words.get_str("next"),
+            script: words.get_str("SCRIPT")?,
+            typed: words.get_flag("typed"),
+        }),
+        _ => None,
+    }
+}

@@ -1,0 +1,220 @@
+//! One run of the program: the words, the files that they name, and the exit status.
+use crate::command_line::{Request, command, request_of};
+use crate::fault_line::{RunError, write_run_error};
+use crate::runs::{check_run, dump_run, play_failure, text_failure};
+use clap::error::ErrorKind;
+use keymap_core::{FromStd, ToStd, Write, write_text};
+use keymap_tables::write_tables;
+use keymap_text::read_from;
+use play_core::{PlayError, Show, play, play_next};
+use std::alloc::AllocError;
+use std::process::ExitCode;
+use std::rt::{Env, Files};
+use std::{env, fs, io};
+
+/// Why the program ends with status 1, besides a refused map.
+#[derive(Drop)]
+enum Failure<'a> {
+    Run(RunError),
+    CannotOpen(&'a str),
+    CannotCreate(&'a str),
+}
+
+/// The status where the words are wrong.
+const WRONG_WORDS: u8 = 2;
+
+/// Does what the words of the command line ask for. A fault is one line to `faults`.
+pub(crate) fn run<R, W>(rt: &R, faults: &mut W) -> ExitCode
+where
+    R: Env + AllocGlobal + Files + Print + Eprint,
+    W: Write,
+{
+    match words_run(rt, faults) {
+        Ok(status) => status,
+        Err(AllocError) => {
+            let _ = write_run_error(&RunError::Memory, faults);
+            ExitCode::FAILURE
+        }
+    }
+}
+
+fn words_run<R, W>(rt: &R, faults: &mut W) -> Result<ExitCode, AllocError>
+where
+    R: Env + AllocGlobal + Files + Print + Eprint,
+    W: Write,
+{
+    let alloc = rt.alloc();
+    let words: Vec<String> = match env::args(rt) {
+        Ok(words) => words.collect(alloc)?,
+        Err(error) => {
+            if error.kind() == io::ErrorKind::OutOfMemory {
+                return Err(AllocError);
+            }
+            return no_text(rt);
+        }
+    };
+    match command(alloc)?.try_get_matches_from(words.as_slice()) {
+        Ok(matches) => match request_of(&matches) {
+            Some(request) => Ok(status_of(answer(rt, request), faults)),
+            None => no_text(rt),
+        },
+        Err(error) => {
+            if error.kind() == ErrorKind::OutOfMemory {
+                return Err(AllocError);
+            }
+            let _ = error.print(rt);
+            Ok(ExitCode::from(if error.use_stderr() { WRONG_WORDS } else { 0 }))
+        }
+    }
+}
+
+/// Tells that the words are no text.
+fn no_text<R: AllocGlobal + Print + Eprint>(rt: &R) -> Result<ExitCode, AllocError> {
+    let refusal = command(rt.alloc())?.error(ErrorKind::InvalidValue, "an argument is no UTF-8")?;
+    let _ = refusal.print(rt);
+    Ok(ExitCode::from(WRONG_WORDS))
+}
+
+/// The status of a request's outcome: a refused map has that of a failure, which also gets its line.
+fn status_of<W: Write>(outcome: Result<bool, Failure<'_>>, faults: &mut W) -> ExitCode {
+    match outcome {
+        Ok(true) => ExitCode::SUCCESS,
+        Ok(false) => ExitCode::FAILURE,
+        Err(failure) => {
+            report(&failure, faults);
+            ExitCode::FAILURE
+        }
+    }
+}
+
+/// Writes the line of a failure. Where that can't be done, the status stays.
+fn report<W: Write>(failure: &Failure<'_>, faults: &mut W) {
+    match failure {
+        Failure::Run(error) => {
+            let _ = write_run_error(error, faults);
+        }
+        Failure::CannotOpen(name) => report_name(b"kmap: cannot open ", name, faults),
+        Failure::CannotCreate(name) => report_name(b"kmap: cannot create ", name, faults),
+    }
+}
+
+fn report_name<W: Write>(front: &[u8], name: &str, faults: &mut W) {
+    if write_text(faults, front).is_ok() && write_text(faults, name.as_bytes()).is_ok() {
+        let _ = write_text(faults, b"\n");
+    }
+}
+
+/// Answers a request: whether all is well, which only a refused map denies.
+fn answer<'a, R>(rt: &R, request: Request<'a>) -> Result<bool, Failure<'a>>
+where
+    R: AllocGlobal + Files + Print,
+{
+    match request {
+        Request::Dump { tables } => {
+            dump(rt, tables)?;
+            Ok(true)
+        }
+        Request::Compile { text, out } => {
+            compile(rt, text, out)?;
+            Ok(true)
+        }
+        Request::Check { text, show } => {
+            let mut source = opened(rt, text)?;
+            let mut out = ToStd::new(io::writer(rt));
+            run_outcome(check_run(rt.alloc(), &mut source, show, &mut out))
+        }
+        Request::Play {
+            text,
+            next,
+            script,
+            typed,
+        } => {
+            let show = if typed { Show::Typed } else { Show::Lines };
+            match next {
+                Some(next) => play_two(rt, show, text, next, script)?,
+                None => play_one(rt, show, text, script)?,
+            }
+            Ok(true)
+        }
+    }
+}
+
+fn run_outcome<'a, T>(outcome: Result<T, RunError>) -> Result<T, Failure<'a>> {
+    match outcome {
+        Ok(value) => Ok(value),
+        Err(error) => Err(Failure::Run(error)),
+    }
+}
+
+fn dump<'a, R: AllocGlobal + Files + Print>(rt: &R, tables: &'a str) -> Result<(), Failure<'a>> {
+    let mut source = opened(rt, tables)?;
+    let mut out = ToStd::new(io::writer(rt));
+    run_outcome(dump_run(rt.alloc(), &mut source, &mut out))
+}
+
+/// The table file is created only once the text was read whole, so a fault leaves an old one as it is.
+fn compile<'a, R>(rt: &R, text: &'a str, out: &'a str) -> Result<(), Failure<'a>>
+where
+    R: AllocGlobal + Files,
+{
+    let mut source = opened(rt, text)?;
+    let map = match read_from(rt.alloc(), &mut source) {
+        Ok(map) => map,
+        Err(error) => return Err(Failure::Run(text_failure(error))),
+    };
+    let Ok(file) = fs::create(rt, out) else {
+        return Err(Failure::CannotCreate(out));
+    };
+    match write_tables(&map, &mut ToStd::new(file)) {
+        Ok(()) => Ok(()),
+        Err(fault) => Err(Failure::Run(RunError::Write(fault))),
+    }
+}
+
+fn play_outcome<'a>(outcome: Result<(), PlayError>) -> Result<(), Failure<'a>> {
+    match outcome {
+        Ok(()) => Ok(()),
+        Err(error) => Err(Failure::Run(play_failure(error))),
+    }
+}
+
+fn play_one<'a, R>(rt: &R, show: Show, text: &'a str, script: &'a str) -> Result<(), Failure<'a>>
+where
+    R: AllocGlobal + Files + Print,
+{
+    let mut text = opened(rt, text)?;
+    let mut script = opened(rt, script)?;
+    let mut out = ToStd::new(io::writer(rt));
+    play_outcome(play(rt.alloc(), show, &mut text, &mut script, &mut out))
+}
+
+fn play_two<'a, R>(
+    rt: &R,
+    show: Show,
+    text: &'a str,
+    next: &'a str,
+    script: &'a str,
+) -> Result<(), Failure<'a>>
+where
+    R: AllocGlobal + Files + Print,
+{
+    let mut text = opened(rt, text)?;
+    let mut next = opened(rt, next)?;
+    let mut script = opened(rt, script)?;
+    let mut out = ToStd::new(io::writer(rt));
+    play_outcome(play_next(
+        rt.alloc(),
+        show,
+        &mut text,
+        &mut next,
+        &mut script,
+        &mut out,
+    ))
+}
+
+fn opened<'a, R: Files>(rt: &R, name: &'a str) -> Result<FromStd<R::File>, Failure<'a>> {
+    match fs::open(rt, name) {
+        Ok(file) => Ok(FromStd::new(file)),
+        Err(_) => Err(Failure::CannotOpen(name)),
+    }
+}

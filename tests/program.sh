@@ -1,0 +1,216 @@
+#!/bin/sh
+# Runs the built program on files and compares what it writes and how it ends.
+#
+# usage: program.sh PROGRAM
+# The last line is 'N passed, M failed'; the status is 0 where none failed.
+
+program=${1:-crates/kmap/out/kmap}
+case $program in
+/*) ;;
+*) program=$PWD/$program ;;
+esac
+examples=$(cd "$(dirname "$0")/../examples" && pwd)
+folder=$(mktemp -d) || exit 1
+trap 'rm -rf "$folder"' EXIT
+cd "$folder" || exit 1
+
+passed=0
+failed=0
+
+# ran NAME STATUS STDOUT STDERR ARGS..: the program with these arguments ends so, and writes exactly these texts
+ran() {
+    name=$1 status=$2 out=$3 err=$4
+    shift 4
+    "$program" "$@" > stdout 2> stderr
+    got=$?
+    printf %s "$out" > wanted.out
+    printf %s "$err" > wanted.err
+    if [ $got -eq "$status" ] && cmp -s wanted.out stdout && cmp -s wanted.err stderr; then
+        passed=$((passed + 1))
+    else
+        failed=$((failed + 1))
+        echo "failed: $name (status $got, $status wanted)"
+        diff wanted.out stdout
+        diff wanted.err stderr
+    fi
+}
+
+# holds NAME COMMAND..: the command succeeds
+holds() {
+    name=$1
+    shift
+    if "$@"; then
+        passed=$((passed + 1))
+    else
+        failed=$((failed + 1))
+        echo "failed: $name"
+    fi
+}
+
+# same_bytes FILE TEXT: the file has exactly the text
+same_bytes() {
+    printf %s "$2" | cmp -s - "$1"
+}
+
+line='
+'
+
+printf "030 'a' 'A' nop nop 'a' 'A' nop nop C\n" > letter
+printf 'down 30\nup 30\n' > tap
+printf "1 '" > cut
+printf 'down 128\n' > bad.script
+printf "030 'a' 'A' soh soh 'a' 'A' soh soh C\n042 lshift lshift lshift lshift lshift lshift lshift lshift O\n" > shift
+printf "042 lshift lshift lshift lshift lshift lshift lshift lshift O\n058 clock clock clock clock clock clock clock clock O\n" > caps
+mkdir folder
+
+printf 'down 42\ndown 29\ndown 42\nup 42\nup 29\n' > stuck
+printf 'down 58\nup 58\ndown 42\nload\ndown 30\n' > load
+head -c 15524 /dev/zero > zeros
+head -c 1048577 /dev/zero | tr '\000' ' ' > blanks
+{ printf '\001'; head -c 36 /dev/zero; printf '\004'; head -c 15486 /dev/zero; } > flag
+
+# Playing.
+ran 'plays lines' 0 "press 30: char 97; mods none; locks none
+release 30: none; mods none; locks none
+" '' play letter tap
+ran 'plays typed bytes' 0 'a' '' play letter tap --typed
+ran 'plays a load' 0 "press 58: clock; mods none; locks clock
+release 58: released clock; mods none; locks clock
+press 42: lshift; mods lshift; locks clock
+load: none; mods none; locks none
+press 30: char 97; mods none; locks none
+" '' play caps load --next shift
+ran 'plays a map that the check refuses' 0 "press 42: lshift; mods lshift; locks none
+press 29: lctrl; mods lshift lctrl; locks none
+press 42: char 120; mods lshift lctrl; locks none
+release 42: none; mods lshift lctrl; locks none
+release 29: released lctrl; mods lshift; locks none
+" '' play "$examples/trap.kbd" stuck
+ran 'types the example' 0 "$(printf 'Hello, FREEBSD caf\303\251!')$line" '' \
+    play "$examples/us.kbd" "$examples/line.script" --typed
+
+# Faults of what was read.
+ran 'a fault of the text' 1 '' "kmap: text line 1 offset 3: EndInside$line" play cut bad.script
+ran 'a fault of the next text' 1 '' "kmap: next line 1 offset 3: EndInside$line" play caps bad.script --next cut
+ran 'a fault of the script' 1 '' "kmap: script line 1: BadKey$line" play letter bad.script
+ran 'a fault of the tables' 1 '' "kmap: tables offset 37: BadFlag$line" dump flag
+ran 'tables without end' 1 '' "kmap: tables offset 15524: Long$line" dump /dev/zero
+ran 'a text that is too long' 1 '' "kmap: text: more than 1048576 bytes$line" check blanks
+ran 'a script that is too long' 1 '' "kmap: script: more than 1048576 bytes$line" play letter blanks
+ran 'a directory as text' 1 '' "kmap: text: read fault at offset 0$line" check folder
+ran 'a directory as next text' 1 '' "kmap: next: read fault at offset 0$line" play letter tap --next folder
+ran 'a directory as script' 1 '' "kmap: script: read fault at offset 0$line" play letter folder
+ran 'a directory as tables' 1 '' "kmap: tables: read fault at offset 0$line" dump folder
+
+# Files are opened in the order TEXT, TEXT2, SCRIPT, before anything is read.
+ran 'no text' 1 '' "kmap: cannot open none1$line" play none1 none3 --next none2
+ran 'no next text' 1 '' "kmap: cannot open none2$line" play letter none3 --next none2
+ran 'no script' 1 '' "kmap: cannot open none3$line" play cut none3 --next cut
+ran 'no text to check' 1 '' "kmap: cannot open none1$line" check none1
+ran 'no tables' 1 '' "kmap: cannot open none1$line" dump none1
+ran 'no text to compile' 1 '' "kmap: cannot open none1$line" compile none1 made
+holds 'nothing is made of no text' [ ! -e made ]
+
+# Compiling and dumping.
+ran 'compiles' 0 '' '' compile letter tables
+holds 'the size of tables' [ "$(wc -c < tables)" -eq 15524 ]
+slot=0
+while [ $slot -lt 30 ]; do
+    printf '%03d nul    nul    nul    nul    nul    nul    nul    nul    O\n' $slot
+    slot=$((slot + 1))
+done > printed
+echo "030 'a'    'A'    nop    nop    'a'    'A'    nop    nop    C" >> printed
+ran 'dumps what was compiled' 0 "$(cat printed)$line" '' dump tables
+ran 'compiles what was dumped' 0 '' '' compile printed again
+holds 'the same tables' cmp -s tables again
+ran 'dumps tables of no keys' 0 '' '' dump zeros
+ran 'compiles the example' 0 '' '' compile "$examples/us.kbd" us
+"$program" dump us > us.text
+ran 'compiles the dumped example' 0 '' '' compile us.text us.again
+holds 'the same tables of the example' cmp -s us us.again
+echo old > kept
+ran 'compiles no faulty text' 1 '' "kmap: text line 1 offset 3: EndInside$line" compile cut kept
+holds 'an old file is left as it was' same_bytes kept "old$line"
+ran 'cannot create in no folder' 1 '' "kmap: cannot create none/made$line" compile letter none/made
+ran 'cannot create a folder' 1 '' "kmap: cannot create folder$line" compile letter folder
+
+# Checking.
+accepted="accepted
+lshift throughout 42
+rshift nobody
+lctrl nobody
+rctrl nobody
+lalt nobody
+ralt nobody
+ashift nobody
+meta nobody
+clock nobody
+nlock nobody
+slock nobody
+alock nobody
+"
+refused="refused
+key 42: lshift at slot 42 column 0, character at slot 42 column 2
+lshift sole 42
+rshift nobody
+lctrl throughout 29
+rctrl nobody
+lalt nobody
+ralt nobody
+ashift nobody
+meta nobody
+clock nobody
+nlock nobody
+slock nobody
+alock nobody
+"
+ran 'accepts' 0 "$accepted" '' check shift
+ran 'shows that there is nothing to show' 0 "${accepted}demonstration: none$line" '' check shift --show
+ran 'refuses' 1 "$refused" '' check "$examples/trap.kbd"
+ran 'shows what sticks' 1 "${refused}demonstration:
+down 42
+down 29
+down 42
+up 42
+up 29
+" '' check --show "$examples/trap.kbd"
+holds 'accepts the example' [ "$("$program" check "$examples/us.kbd" | head -n 1)" = accepted ]
+
+# fails_to_write NAME ARGS..: on a full device the fault is told
+fails_to_write() {
+    label=$1
+    shift
+    "$program" "$@" > /dev/full 2> stderr
+    holds "$label: status" [ $? -eq 1 ]
+    holds "$label: line" same_bytes stderr "kmap: write fault after 0 bytes$line"
+}
+if [ -c /dev/full ]; then
+    fails_to_write 'checks to a full device' check shift
+    fails_to_write 'dumps to a full device' dump tables
+    fails_to_write 'plays to a full device' play letter tap
+    ran 'compiles to a full device' 1 '' "kmap: write fault after 0 bytes$line" compile letter /dev/full
+    "$program" check none1 2> /dev/full
+    holds 'the status stays where the line cannot be written' [ $? -eq 1 ]
+fi
+
+# Words. The texts are those of clap.
+# tells NAME STATUS FULL EMPTY ARGS..: ends so, and writes to the one file and not to the other
+tells() {
+    label=$1 status=$2 full=$3 empty=$4
+    shift 4
+    "$program" "$@" > stdout 2> stderr
+    holds "$label: status" [ $? -eq "$status" ]
+    holds "$label: text" [ -s "$full" ]
+    holds "$label: nothing else" [ ! -s "$empty" ]
+}
+tells 'help' 0 stdout stderr --help
+tells 'help of a subcommand' 0 stdout stderr play --help
+tells 'no words' 2 stderr stdout
+tells 'an unknown word' 2 stderr stdout jump
+tells 'a word too few' 2 stderr stdout play letter
+tells 'a word too many' 2 stderr stdout check letter tap
+tells 'an unknown flag' 2 stderr stdout check letter --loud
+tells 'words that are no UTF-8' 2 stderr stdout check "$(printf '\377')"
+
+echo "$passed passed, $failed failed"
+[ $failed -eq 0 ]

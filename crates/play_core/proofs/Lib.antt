@@ -1,4 +1,3 @@
-pub mod Gathered
 pub mod LineWords
 pub mod Outcomes
 pub mod ScriptLines

@@ -1,8 +1,8 @@
 -- The words of a line, one after another.
 use Prim.Native.Nat.{zero, suc}
-use Rattle.std.proofs.Common.{◌≡◌, ℕ, ◌+◌, ◌≤◌, ◌<◌, Bool, true, false, cond, not, List, [], ◌∷◌, length, take, drop, get_or, Option, None, Some, refl, sym, ap, ◌∙◌, arith, ltb, drop-cons}
+use Rattle.std.proofs.Common.{◌≡◌, ℕ, ◌+◌, ◌<◌, Bool, true, false, cond, not, List, [], ◌∷◌, length, take, drop, get_or, None, Some, refl, sym, ap, ◌∙◌, arith, ltb, drop-cons}
 use Rattle.std.specs.Option.{unwrap_or}
-use Rattle.std.specs.List.{prefix_len, position_or_len, position, filter, slice_split, onto_first}
+use Rattle.std.specs.List.{position_or_len, position, filter, slice_split, onto_first}
 use Rattle.std.specs.Char.{digit_value}
 use Rattle.std.specs.Str.Parse.{AllDigits}
 use Rattle.std.proofs.lemmas.List.Sums.{prefix_len-le-length}

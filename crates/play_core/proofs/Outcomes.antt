@@ -1,26 +1,19 @@
 -- What playing answers, from what its steps answer.
-use Rattle.std.proofs.Common.{◌≡◌, ℕ, ◌+◌, ◌<◌, ◌≤◌, Bool, true, false, ◌||◌, List, [], ◌∷◌, length, Option, None, Some, Result, Ok, Err, refl, sym, ap, subst, ◌∙◌, arith}
-use Rattle.std.specs.Prelude.{IsTrue, is_err}
-use Rattle.std.specs.List.{AllZip, filter, count_by}
-use Rattle.std.specs.Io.KnownBytes.{Consumes, IsAtEnd, Appends, Keeps}
+use Rattle.std.proofs.Common.{◌≡◌, ℕ, ◌+◌, ◌≤◌, false, List, [], ◌∷◌, length, Option, Result, Ok, Err, refl, arith}
+use Rattle.std.specs.List.{AllZip, filter}
 use Rattle.std.proofs.KnownBytes.{Keeps-refl}
 use Rattle.std.proofs.lemmas.List.Sums.{length-filter, count_by-le-length}
-use Rattle.keymap_core.specs.Maps.{MapValue}
-use Rattle.keymap_core.specs.Devices.{WritesText}
-use Rattle.keymap_core.specs.declared.transfer.WriteFault.{WriteFault}
 use Rattle.keymap_text.specs.declared.fault.TextError.{TextError}
 use Rattle.keymap_text.specs.declared.fault.TextError.TheVariants as text_errors
 use Rattle.keymap_text.specs.Sources.{ReadsMap, names_device}
 use Rattle.console_core.specs.History.{Maps}
 use Rattle.play_core.specs.declared.sent.Sent.{Sent}
 use Rattle.play_core.specs.declared.show.Show.{Show}
-use Rattle.play_core.specs.declared.player.Source.{Source}
 use Rattle.play_core.specs.declared.player.Source.TheVariants as source
 use Rattle.play_core.specs.declared.player.PlayError.{PlayError}
 use Rattle.play_core.specs.declared.player.PlayError.TheVariants.{Memory, Text, Next, Script, Read, Write}
-use Rattle.play_core.specs.Scripts.{is_there, lines_of, parts_of, IsEvent, IsScript}
-use Rattle.play_core.specs.Written.{played_text}
-use Rattle.play_core.specs.Playing.{Moves, moves, Stays, ReadsScript, RefusesScript, PlaysOn, RefusesText, RefusesNext, fails_reading, fails_writing, error_of_text, error_of_next}
+use Rattle.play_core.specs.Scripts.{is_there, lines_of, IsEvent, IsScript}
+use Rattle.play_core.specs.Playing.{Moves, moves, RefusesScript, PlaysOn, RefusesText, RefusesNext, fails_reading, fails_writing, error_of_text, error_of_next}
 use Rattle.play_core.proofs.ScriptLines.{few_lines}
 use Rattle.std.proofs.lemmas.List.{length-map}
 

@@ -1,6 +1,6 @@
 -- What the reading of a line means: it is an event exactly where its words say so.
 use Rattle.std.proofs.Common.{◌≡◌, ◌≢◌, ℕ, ◌<◌, ◌≤◌, min, Bool, true, false, not, cond, ltb, List, [], ◌∷◌, ◌++◌, Option, None, Some, Result, Ok, Err, refl, sym, ap, subst, ◌∙◌, arith, ◌↔◌, ⊎_elim, lit<}
-use Rattle.std.specs.Prelude.{codes, IsSome, IfSome, IsTrue, ⊤}
+use Rattle.std.specs.Prelude.{codes, IsSome, IfSome, ⊤}
 use Rattle.std.specs.Option.{ok_or}
 use Rattle.std.specs.Str.{bytes_eq}
 use Rattle.std.specs.Str.Parse.{AllDigits, digits_value}

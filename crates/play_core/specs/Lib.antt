@@ -1,5 +1,4 @@
 pub mod Delivery
-pub mod Gathering
 pub mod Playing
 pub mod Readings
 pub mod Scripts

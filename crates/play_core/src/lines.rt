@@ -7,14 +7,11 @@ use arrayvec::ArrayVec;
 use console_core::{Answer, Event, Translator};
 use keymap_core::{Action, Lock, Modifier};
 
-/// How many bytes are gathered before they are written.
-pub(crate) const GATHERED: usize = 4096;
+/// More bytes than are ever shown of one event.
+const PIECE: usize = 160;
 
-/// The bytes that are gathered.
-pub(crate) type Gathered = ArrayVec<u8, GATHERED>;
-
-/// More bytes than the text of an event ever has.
-pub(crate) const TEXT: usize = 160;
+/// What is shown of one event.
+pub(crate) type Piece = ArrayVec<u8, PIECE>;
 
 const MODIFIERS: [Modifier; 8] = [
     Modifier::LeftShift,
@@ -29,17 +26,15 @@ const MODIFIERS: [Modifier; 8] = [
 
 const LOCKS: [Lock; 4] = [Lock::Caps, Lock::Num, Lock::Scroll, Lock::Alt];
 
-fn push(text: &mut Gathered, piece: &[u8])
-    requires { length text.old.items + length piece.now ≤ 4096 }
+fn push(text: &mut Piece, piece: &[u8])
+    requires { length text.old.items + length piece.now ≤ 160 }
     ensures { text.new.items ≡ text.old.items ++ piece.now }
 {
-    for b in piece {
-        text.push(*b);
-    }
+    let _ = text.try_extend_from_slice(piece);
 }
 
-fn push_number(text: &mut Gathered, number: u32)
-    requires { length text.old.items + 10 ≤ 4096 }
+fn push_number(text: &mut Piece, number: u32)
+    requires { length text.old.items + 10 ≤ 160 }
     ensures text { text.new.items ≡ text.old.items ++ decimal number }
     ensures size { length text.new.items ≤ length text.old.items + 10 }
 {
@@ -48,8 +43,8 @@ fn push_number(text: &mut Gathered, number: u32)
 }
 
 #[tactic(auto, unfolding(crate::specs::Written::event_text))]
-fn push_event(text: &mut Gathered, event: &Event)
-    requires { length text.old.items + 20 ≤ 4096 }
+fn push_event(text: &mut Piece, event: &Event)
+    requires { length text.old.items + 20 ≤ 160 }
     ensures text { text.new.items ≡ text.old.items ++ spec.event_text event.now }
     ensures size { length text.new.items ≤ length text.old.items + 20 }
 {
@@ -68,8 +63,8 @@ fn push_event(text: &mut Gathered, event: &Event)
 }
 
 #[tactic(auto, unfolding(crate::specs::Written::answer_text))]
-fn push_answer(text: &mut Gathered, answer: &Answer)
-    requires { length text.old.items + 20 ≤ 4096 }
+fn push_answer(text: &mut Piece, answer: &Answer)
+    requires { length text.old.items + 20 ≤ 160 }
     ensures text { text.new.items ≡ text.old.items ++ spec.answer_text answer.now }
     ensures size { length text.new.items ≤ length text.old.items + 20 }
 {
@@ -94,8 +89,8 @@ fn push_answer(text: &mut Gathered, answer: &Answer)
 }
 
 /// Adds the name of an action behind a blank, where it is on.
-fn push_name_if(text: &mut Gathered, is_on: bool, action: Action)
-    requires { length text.old.items + 7 ≤ 4096 }
+fn push_name_if(text: &mut Piece, is_on: bool, action: Action)
+    requires { length text.old.items + 7 ≤ 160 }
     ensures text { text.new.items ≡ text.old.items ++ spec.name_if is_on (name_of action) }
     ensures size { length text.new.items ≤ length text.old.items + 7 }
 {
@@ -106,8 +101,8 @@ fn push_name_if(text: &mut Gathered, is_on: bool, action: Action)
 }
 
 #[tactic(auto, unfolding(crate::specs::Written::names_of_modifiers))]
-fn push_modifiers<T: Translator>(text: &mut Gathered, console: &T, modifiers: &[Modifier])
-    requires { length text.old.items + 7 * length modifiers.now ≤ 4096 }
+fn push_modifiers<T: Translator>(text: &mut Piece, console: &T, modifiers: &[Modifier])
+    requires { length text.old.items + 7 * length modifiers.now ≤ 160 }
     ensures text { text.new.items ≡ text.old.items ++ spec.names_of_modifiers (T.shows_on console.now) modifiers.now }
     ensures size { length text.new.items ≤ length text.old.items + 7 * length modifiers.now }
 {
@@ -117,8 +112,8 @@ fn push_modifiers<T: Translator>(text: &mut Gathered, console: &T, modifiers: &[
 }
 
 #[tactic(auto, unfolding(crate::specs::Written::names_of_locks))]
-fn push_locks<T: Translator>(text: &mut Gathered, console: &T, locks: &[Lock])
-    requires { length text.old.items + 7 * length locks.now ≤ 4096 }
+fn push_locks<T: Translator>(text: &mut Piece, console: &T, locks: &[Lock])
+    requires { length text.old.items + 7 * length locks.now ≤ 160 }
     ensures text { text.new.items ≡ text.old.items ++ spec.names_of_locks (T.shows_locked console.now) locks.now }
     ensures size { length text.new.items ≤ length text.old.items + 7 * length locks.now }
 {
@@ -128,8 +123,8 @@ fn push_locks<T: Translator>(text: &mut Gathered, console: &T, locks: &[Lock])
 }
 
 /// Adds the names of the modifiers that are on, or none.
-fn push_mods<T: Translator>(text: &mut Gathered, console: &T)
-    requires { length text.old.items + 56 ≤ 4096 }
+fn push_mods<T: Translator>(text: &mut Piece, console: &T)
+    requires { length text.old.items + 56 ≤ 160 }
     ensures text { text.new.items ≡ text.old.items ++ spec.or_none (spec.names_of_modifiers (T.shows_on console.now) spec.modifiers) }
     ensures size { length text.new.items ≤ length text.old.items + 56 }
 {
@@ -141,8 +136,8 @@ fn push_mods<T: Translator>(text: &mut Gathered, console: &T)
 }
 
 /// Adds the names of the locks that are on, or none.
-fn push_locked<T: Translator>(text: &mut Gathered, console: &T)
-    requires { length text.old.items + 28 ≤ 4096 }
+fn push_locked<T: Translator>(text: &mut Piece, console: &T)
+    requires { length text.old.items + 28 ≤ 160 }
     ensures text { text.new.items ≡ text.old.items ++ spec.or_none (spec.names_of_locks (T.shows_locked console.now) spec.locks) }
     ensures size { length text.new.items ≤ length text.old.items + 28 }
 {
@@ -156,14 +151,14 @@ fn push_locked<T: Translator>(text: &mut Gathered, console: &T)
 /// Adds the line of an event to which the console gave the answer.
 #[tactic(auto, unfolding(crate::specs::Written::line_of))]
 pub(crate) fn push_line<T: Translator>(
-    text: &mut Gathered,
+    text: &mut Piece,
     event: &Event,
     answer: &Answer,
     console: &T,
 )
-    requires { length text.old.items + 160 ≤ 4096 }
+    requires { length text.old.items + 140 ≤ 160 }
     ensures text { text.new.items ≡ text.old.items ++ spec.line_of event.now answer.now (T.shows_on console.now) (T.shows_locked console.now) }
-    ensures size { length text.new.items ≤ length text.old.items + 160 }
+    ensures size { length text.new.items ≤ length text.old.items + 140 }
 {
     push_event(text, event);
     push(text, b": ");
@@ -177,8 +172,8 @@ pub(crate) fn push_line<T: Translator>(
 
 /// Adds the bytes that an answer types.
 #[tactic(auto, unfolding(crate::specs::Written::typed_by))]
-pub(crate) fn push_typed(text: &mut Gathered, answer: &Answer)
-    requires { length text.old.items + 5 ≤ 4096 }
+pub(crate) fn push_typed(text: &mut Piece, answer: &Answer)
+    requires { length text.old.items + 5 ≤ 160 }
     ensures text { text.new.items ≡ text.old.items ++ spec.typed_by answer.now }
     ensures size { length text.new.items ≤ length text.old.items + 5 }
 {

@@ -1,17 +1,16 @@
-//! Writing what events give, gathered into pieces of some KiB.
-ghost use Rattle.std.specs.Prelude.{◌≡◌, ℕ, ◌+◌, ◌^◌, ◌≤◌, ◌<◌, ◌||◌, ◌++◌, List, [], ◌∷◌, Option, length, is_err, reverse, MatchResult, OnOk, IfOk};
+//! Writing what is shown of events, gathered into pieces of some KiB.
+ghost use Rattle.std.specs.Prelude.{◌≡◌, ◌+◌, ◌^◌, ◌≤◌, ◌<◌, ◌||◌, ◌++◌, List, [], ◌∷◌, length, is_err, reverse};
 ghost use Rattle.keymap_core.specs.Devices.{WritesText};
 ghost use Rattle.console_core.specs.declared.event.Event.{Event as EventValue};
 ghost use Rattle.console_core.specs.History.{Maps};
 ghost use Rattle.play_core.specs.Delivery.{delivered};
-ghost use Rattle.play_core.specs.Gathering.{HasGathered, IsCutAt};
-ghost use Rattle.play_core.specs.Written.{typed_text, text_after, event_output};
+ghost use Rattle.play_core.specs.Written.{typed_text, typed_by, text_after, event_output};
 
-use crate::lines::{GATHERED, Gathered, TEXT, push_line, push_typed};
+use crate::lines::{Piece, push_line, push_typed};
 use crate::sent::Sent;
 use crate::show::Show;
 use console_core::{Answer, Event, Translator};
-use keymap_core::{Write, WriteFault, put};
+use keymap_core::{Stream, Write, WriteFault};
 
 /// Writes the bytes that the answers type: a character in UTF-8, behind an escape under meta, and a sequence for the
 /// back tab.
@@ -20,13 +19,21 @@ pub fn typed<W: Write>(answers: &[Answer], out: &mut W) -> Result<(), WriteFault
     ensures bytes { WritesText (λ f. f.written) (W.contents out.old) (W.contents out.new) (typed_text answers.now) result }
     ensures failed { W.has_failed out.new ≡ (is_err result || W.has_failed out.old) }
 {
-    let mut taken = 0;
-    let mut text = Gathered::new();
+    let mut stream = Stream::new();
     for answer in answers {
-        taken = make_room(out, taken, &mut text)?;
-        push_typed(&mut text, answer);
+        stream.push(out, typed_piece(answer).as_slice())?;
     }
-    write_rest(out, taken, &text)
+    stream.finish(out)
+}
+
+/// The bytes that an answer types.
+fn typed_piece(answer: &Answer) -> Piece
+    ensures bytes { result.items ≡ typed_by answer.now }
+    ensures size { length result.items ≤ 5 }
+{
+    let mut text = Piece::new();
+    push_typed(&mut text, answer);
+    text
 }
 
 /// Delivers what is sent to the console, but for what is lost, and writes what the show has of it.
@@ -41,23 +48,34 @@ pub(crate) fn write_events<T: Translator, W: Write>(
         → WritesText (λ f. f.written) (W.contents out.old) (W.contents out.new) (text_after show ms h (delivered sent.now)) result }
     ensures failed { W.has_failed out.new ≡ (is_err result || W.has_failed out.old) }
 {
-    let mut taken = 0;
-    let mut text = Gathered::new();
+    let mut stream = Stream::new();
     for one in sent {
-        taken = make_room(out, taken, &mut text)?;
-        push_sent(show, console, *one, &mut text);
+        stream.push(out, sent_piece(show, console, one).as_slice())?;
     }
-    write_rest(out, taken, &text)
+    stream.finish(out)
 }
 
-/// Delivers what is sent, unless it is lost, and gathers what the show has of it.
-fn push_sent<T: Translator>(show: Show, console: &mut T, one: Sent, text: &mut Gathered)
-    requires { length text.old.items + 160 ≤ 4096 }
+/// Delivers what is sent, unless it is lost, and answers what the show has of it.
+fn sent_piece<T: Translator>(show: Show, console: &mut T, one: &Sent) -> Piece
+    ensures text { (ms : Maps) (h : List EventValue) → T.stands console.old ms h
+        → result.items ≡ text_after show ms h (delivered (one.now ∷ [])) }
+    ensures next { (ms : Maps) (h : List EventValue) → T.stands console.old ms h
+        → T.stands console.new ms (reverse (delivered (one.now ∷ [])) ++ h) }
+    ensures size { length result.items ≤ 140 }
+{
+    let mut text = Piece::new();
+    push_sent(show, console, *one, &mut text);
+    text
+}
+
+/// Delivers what is sent, unless it is lost, and adds what the show has of it.
+fn push_sent<T: Translator>(show: Show, console: &mut T, one: Sent, text: &mut Piece)
+    requires { length text.old.items + 140 ≤ 160 }
     ensures text { (ms : Maps) (h : List EventValue) → T.stands console.old ms h
         → text.new.items ≡ text.old.items ++ text_after show ms h (delivered (one ∷ [])) }
     ensures next { (ms : Maps) (h : List EventValue) → T.stands console.old ms h
         → T.stands console.new ms (reverse (delivered (one ∷ [])) ++ h) }
-    ensures size { length text.new.items ≤ length text.old.items + 160 }
+    ensures size { length text.new.items ≤ length text.old.items + 140 }
 {
     let Some(event) = one.event() else {
         return;
@@ -65,46 +83,17 @@ fn push_sent<T: Translator>(show: Show, console: &mut T, one: Sent, text: &mut G
     push_delivered(show, console, event, text);
 }
 
-/// Delivers an event, and gathers what the show has of it.
-fn push_delivered<T: Translator>(show: Show, console: &mut T, event: Event, text: &mut Gathered)
-    requires { length text.old.items + 160 ≤ 4096 }
+/// Delivers an event, and adds what the show has of it.
+fn push_delivered<T: Translator>(show: Show, console: &mut T, event: Event, text: &mut Piece)
+    requires { length text.old.items + 140 ≤ 160 }
     ensures text { (ms : Maps) (h : List EventValue) → T.stands console.old ms h
         → text.new.items ≡ text.old.items ++ event_output show ms h event }
     ensures next { (ms : Maps) (h : List EventValue) → T.stands console.old ms h → T.stands console.new ms (event ∷ h) }
-    ensures size { length text.new.items ≤ length text.old.items + 160 }
+    ensures size { length text.new.items ≤ length text.old.items + 140 }
 {
     let answer = console.step(event);
     match show {
         Show::Lines => push_line(text, &event, &answer, console),
         Show::Typed => push_typed(text, &answer),
     }
-}
-
-/// Writes what is gathered where there is no room for the text of an event. `taken` bytes were written before.
-fn make_room<W: Write>(out: &mut W, taken: u64, text: &mut Gathered) -> Result<u64, WriteFault>
-    requires { taken + length text.old.items < 2 ^ 64 }
-    ensures bytes { (first : Option (List ℕ)) (so_far : List ℕ) → HasGathered first (W.contents out.old) taken text.old.items so_far
-        → MatchResult result (λ n. HasGathered first (W.contents out.new) n text.new.items so_far)
-        (λ f. (rest : List ℕ) → IsCutAt first (W.contents out.new) (so_far ++ rest) f.written) }
-    ensures room { OnOk result (length text.new.items + 160 ≤ 4096) }
-    ensures count { IfOk result (λ n. n + length text.new.items ≡ taken + length text.old.items) }
-    ensures failed { W.has_failed out.new ≡ (is_err result || W.has_failed out.old) }
-{
-    if text.len() + TEXT <= GATHERED {
-        return Ok(taken);
-    }
-    let taken = put(out, taken, text.as_slice())?;
-    text.clear();
-    Ok(taken)
-}
-
-/// Writes what is gathered. `taken` bytes were written before.
-fn write_rest<W: Write>(out: &mut W, taken: u64, text: &Gathered) -> Result<(), WriteFault>
-    requires { taken + length text.now.items < 2 ^ 64 }
-    ensures bytes { (first : Option (List ℕ)) (so_far : List ℕ) → HasGathered first (W.contents out.old) taken text.now.items so_far
-        → WritesText (λ f. f.written) first (W.contents out.new) so_far result }
-    ensures failed { W.has_failed out.new ≡ (is_err result || W.has_failed out.old) }
-{
-    put(out, taken, text.as_slice())?;
-    Ok(())
 }

@@ -1,4 +1,4 @@
-use Rattle.std.proofs.Common.{◌≡◌, [], ◌∷◌, ◌++◌, None, Some, refl, sym, ap, ◌∙◌, append-nil}
+use Rattle.std.proofs.Common.{◌≡◌, [], ◌++◌, None, Some, sym, ap, ◌∙◌, append-nil}
 use Rattle.std.specs.List.{cons_option}
 use Rattle.play_core.specs.Delivery.{event_of}
 use Rattle.play_core.specs.Written.{text_after}

@@ -1,9 +1,9 @@
-use Rattle.std.proofs.Common.{◌≡◌, ◌≤◌, ◌+◌, ◌*◌, ◌++◌, List, length, take}
+use Rattle.std.proofs.Common.{◌≡◌, ◌≤◌, ◌*◌, ◌++◌, List, take}
 use Rattle.std.specs.Prelude.{reverse}
+use Rattle.keymap_core.specs.Streams.{Gathers, size_of}
 use Rattle.console_core.specs.declared.event.Event.{Event}
 use Rattle.console_core.specs.History.{Maps}
 use Rattle.play_core.specs.Delivery.{delivered}
-use Rattle.play_core.specs.Gathering.{HasGathered}
 use Rattle.play_core.specs.Written.{text_after}
 use Rattle.play_core.proofs.output.write_events.Given as goal
 
@@ -11,8 +11,8 @@ abbrev pub invariant-loop-one : goal.invariant-loop-one
 invariant-loop-one g l = record {
   stands : (ms : Maps) (h : List Event) → g.T.Translator.stands l.fn.console ms h
       → g.T.Translator.stands l.console ms (reverse (delivered (take l.one-index l.sent)) ++ h);
-  gathered : (ms : Maps) (h : List Event) → g.T.Translator.stands l.fn.console ms h
-      → HasGathered (g.W.Write.contents l.fn.out) (g.W.Write.contents l.out) l.taken l.text.items (text_after l.show ms h (delivered (take l.one-index l.sent)));
-  few : l.taken + length l.text.items ≤ 160 * l.one-index;
+  gathers : (ms : Maps) (h : List Event) → g.T.Translator.stands l.fn.console ms h
+      → Gathers (g.W.Write.contents l.fn.out) (g.W.Write.contents l.out) l.stream (text_after l.show ms h (delivered (take l.one-index l.sent)));
+  few : size_of l.stream ≤ 140 * l.one-index;
   failed : g.W.Write.has_failed l.out ≡ g.W.Write.has_failed l.fn.out;
 }

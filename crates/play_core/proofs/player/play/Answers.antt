@@ -1,4 +1,4 @@
-use Rattle.std.proofs.Common.{◌≡◌, refl, sym, inl, inr}
+use Rattle.std.proofs.Common.{refl, inl, inr}
 use Rattle.std.proofs.KnownBytes.{Keeps-refl}
 use Rattle.play_core.proofs.Outcomes.{text_refused, text_names, played_names}
 use Rattle.play_core.proofs.player.play.Goals as goal

@@ -1,6 +1,6 @@
-use Rattle.std.proofs.Common.{◌≡◌, refl, sym, inl, inr}
+use Rattle.std.proofs.Common.{refl, inl, inr}
 use Rattle.std.proofs.KnownBytes.{Keeps-refl}
-use Rattle.play_core.proofs.Outcomes.{text_refused, text_names, next_refused, next_names, played_names}
+use Rattle.play_core.proofs.Outcomes.{text_refused, text_names, next_refused, played_names}
 use Rattle.play_core.proofs.player.play_next.Goals as goal
 
 pub returns-in-Err-clause-plays : goal.returns-in-Err-clause-plays

@@ -1,4 +1,4 @@
-use Rattle.std.proofs.Common.{◌≡◌, [], refl, sym}
+use Rattle.std.proofs.Common.{[], refl}
 use Rattle.std.proofs.lemmas.Result.{err_from_is_err_and}
 use Rattle.console_core.specs.History.{between}
 use Rattle.play_core.proofs.Outcomes.{script_refused, script_names}

@@ -1,4 +1,4 @@
-use Rattle.std.proofs.Common.{◌≡◌, ◌≤◌, length, ap, ◌∙◌, arith}
+use Rattle.std.proofs.Common.{length, ap, arith}
 use Rattle.play_core.proofs.Outcomes.{events_few}
 use Rattle.play_core.proofs.player.read_whole_script.Goals as goal
 

@@ -1,8 +1,8 @@
-use Rattle.std.proofs.Common.{◌≡◌, ℕ, ◌+◌, take, drop, refl, sym, ap, subst, ◌∙◌, arith, Some, None, Ok, Err}
-use Rattle.play_core.specs.Scripts.{AreEvents, lines_of, words_of, parts_of}
+use Rattle.std.proofs.Common.{take, refl, ap, subst, ◌∙◌, arith, Some, None, Ok, Err}
+use Rattle.play_core.specs.Scripts.{AreEvents, lines_of, words_of}
 use Rattle.play_core.specs.declared.line.LineFault.TheVariants.{Form, Key}
 use Rattle.play_core.proofs.Sending.{reading_is}
-use Rattle.play_core.proofs.ScriptLines.{IsPart, few_lines, lines_more, blank_more, event_more, fault_at, next_part, after_split, no_part, parts_left}
+use Rattle.play_core.proofs.ScriptLines.{few_lines, lines_more, blank_more, event_more, fault_at, next_part, after_split, no_part, parts_left}
 use Rattle.play_core.proofs.script.read_script.Goals as goal
 
 pub overflow_add-number : goal.overflow_add-number

@@ -1,4 +1,4 @@
-use Rattle.std.proofs.Common.{◌≡◌, ◌≤◌, min, take}
+use Rattle.std.proofs.Common.{◌≡◌, min, take}
 use Rattle.std.specs.Str.Parse.{AllDigits, digits_value}
 use Rattle.play_core.proofs.words.number_of.Given as goal
 

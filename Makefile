@@ -16,6 +16,7 @@ all:
 check:
 	$(RT) ci
 	sh tests/program.sh $(PROGRAM)
+	sh tests/refused_memory.sh $(PROGRAM)
 
 bench: all
 	sh bench/run.sh $(PROGRAM)

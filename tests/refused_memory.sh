@@ -1,0 +1,77 @@
+#!/bin/sh
+# Runs the built program once for each of its allocations, with that one refused: it says that it is out of memory and
+# has written nothing, or it ends as it does with ample memory.
+#
+# usage: refused_memory.sh PROGRAM
+# The last line is 'N passed, M failed'; the status is 0 where none failed. Without a C compiler nothing is tried.
+
+program=${1:-crates/kmap/out/kmap}
+case $program in
+/*) ;;
+*) program=$PWD/$program ;;
+esac
+source=$(cd "$(dirname "$0")" && pwd)/refuse.c
+examples=$(cd "$(dirname "$0")/../examples" && pwd)
+folder=$(mktemp -d) || exit 1
+trap 'rm -rf "$folder"' EXIT
+cd "$folder" || exit 1
+
+if ! command -v "${CC:-cc}" > /dev/null; then
+    echo "0 passed, 0 failed, 1 skipped"
+    exit 0
+fi
+"${CC:-cc}" -shared -fPIC -O1 -o refuse.so "$source" -ldl || exit 1
+
+printf "030 'a' 'A' nop nop 'a' 'A' nop nop C\n" > letter
+printf "042 lshift lshift lshift lshift lshift lshift lshift lshift O\ndacu 180 ( 'e' 0xe9 )\n" > shift
+printf 'down 30\nup 30\nload\ndown 42\n' > script
+"$program" compile letter tables || exit 1
+echo 'kmap: out of memory' > said
+
+passed=0
+failed=0
+
+# refuses STATUS ARGS..: the program ends so with ample memory, and each refusal is told
+refuses() {
+    status=$1
+    shift
+    rm -f made
+    ALLOCATIONS=count LD_PRELOAD=./refuse.so "$program" "$@" > wanted 2> faults
+    got=$?
+    if [ $got -ne "$status" ] || [ ! -s count ]; then
+        failed=$((failed + 1))
+        echo "failed: $* (status $got)"
+        return
+    fi
+    told=0
+    number=1
+    while [ $number -le "$(cat count)" ]; do
+        rm -f made
+        REFUSE=$number LD_PRELOAD=./refuse.so "$program" "$@" > stdout 2> stderr
+        got=$?
+        if [ $got -eq 1 ] && [ ! -s stdout ] && [ ! -e made ] && cmp -s said stderr; then
+            told=$((told + 1))
+            passed=$((passed + 1))
+        elif [ $got -eq "$status" ] && cmp -s wanted stdout && [ ! -s stderr ]; then
+            passed=$((passed + 1))
+        else
+            failed=$((failed + 1))
+            echo "failed: $* with allocation $number refused (status $got)"
+        fi
+        number=$((number + 1))
+    done
+    if [ $told -eq 0 ]; then
+        failed=$((failed + 1))
+        echo "failed: $* never ran out of memory"
+    fi
+}
+
+refuses 0 check letter
+refuses 1 check "$examples/trap.kbd" --show
+refuses 0 play letter script
+refuses 0 play letter script --typed --next shift
+refuses 0 dump tables
+refuses 0 compile shift made
+
+echo "$passed passed, $failed failed"
+[ $failed -eq 0 ]

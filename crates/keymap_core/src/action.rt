@@ -143,7 +143,7 @@ impl ScreenNumber {
 /// The number of a function key, 1 to 96: `F_FN` is the code of function key 1.
 #[derive(Clone, Copy, Debug, PartialEq, Eq)]
 pub struct FunctionNumber {
-    number: u8,
+    key: u8,
 }
 
 impl Model for FunctionNumber {
@@ -151,11 +151,11 @@ impl Model for FunctionNumber {
 
     ghost Value = { ℕ };
 
-    ghost view = { λ function. function.number };
+    ghost view = { λ function. function.key };
 
-    ghost invariant = { λ function. (0 < function.number) × (function.number ≤ 96) };
+    ghost invariant = { λ function. (0 < function.key) × (function.key ≤ 96) };
 
-    ghost inverse = { λ n. record { number = n } };
+    ghost inverse = { λ n. record { key = n } };
 }
 
 impl FunctionNumber {
@@ -165,7 +165,7 @@ impl FunctionNumber {
         requires high { number ≤ 96 }
         ensures { result ≡ number }
     {
-        FunctionNumber { number }
+        FunctionNumber { key: number }
     }
 
     /// The number.
@@ -174,7 +174,7 @@ impl FunctionNumber {
         ensures low { 0 < result }
         ensures high { result ≤ 96 }
     {
-        self.number
+        self.key
     }
 }
 

@@ -1,13 +1,11 @@
 -- What the runs of the program do to the devices that they are lent.
 use Rattle.std.specs.Prelude.{◌↔◌, IsTrue, ℕ, ◌<◌, Bool, true, false, List, Option, Result, Ok, Err, length, take}
 use Rattle.std.specs.Io.KnownBytes.{Appends, Keeps}
-use Rattle.keymap_core.specs.declared.transfer.ReadFaultKind.{ReadFaultKind}
-use Rattle.keymap_core.specs.declared.transfer.ReadFaultKind.TheVariants.{Device, Endless}
 use Rattle.keymap_core.specs.Maps.{MapValue}
 use Rattle.keymap_text.specs.declared.fault.TextError.{TextError}
 use Rattle.keymap_text.specs.declared.fault.TextError.TheVariants as text
 use Rattle.keymap_text.specs.Printed.{printed}
-use Rattle.keymap_text.specs.Sources.{ReadsMap}
+use Rattle.keymap_text.specs.Sources.{ReadsMap, is_device}
 use Rattle.keymap_tables.specs.declared.fault.TableError.{TableError}
 use Rattle.keymap_tables.specs.declared.fault.TableError.TheVariants as tables
 use Rattle.keymap_tables.specs.Sources.{ReadsTables}
@@ -61,10 +59,6 @@ DumpsTables before after old new (Err (error.Tables f)) = ReadsTables before aft
 DumpsTables before after old new (Err (error.ReadTables f)) = ReadsTables before after (Err (tables.Read f)) × Keeps old new
 DumpsTables before after old new (Err error.Memory) = ReadsTables before after (Err tables.Memory) × Keeps old new
 DumpsTables before after old new (Err _) = ⊥
-
-abbrev is_device : ReadFaultKind → Bool
-is_device Device = true
-is_device Endless = false
 
 -- the answer names the reader as what failed
 abbrev pub blames_reader : {X : Type 0} → Result X RunError → Bool

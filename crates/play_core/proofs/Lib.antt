@@ -3,3 +3,4 @@ pub mod Outcomes
 pub mod ScriptLines
 pub mod Sending
 pub mod Texts
+pub mod Verdicts

@@ -10,6 +10,7 @@
 //! the bytes that were read (`specs/Playing.antt`, `specs/Scripts.antt`).
 #![tactic(auto)]
 
+pub mod laws;
 mod line;
 mod lines;
 mod output;

@@ -1,24 +1,44 @@
-//! Each kind of fault at each place of a definition.
+//! Each kind of fault at each kind of place where it can come.
 
 use crate::tests::reading::read_pieces;
 use crate::{TextError, TextFault, TextFaultKind, read_map};
+use std::alloc::{AllocError, Global};
+use std::process::Abort;
 use std::test::Fail;
 
-/// What stands before a definition, a cell, a lock letter, an accent's character, after that, after a pair, before a
-/// pair's base, its result, and its end.
-const PLACES: [&[u8]; 9] = [
+/// An accent with as many pairs as one has at most.
+pub(crate) const FULL_ACCENT: &[u8] = b"dgra 96 \
+          ( 'a' 'b' ) ( 'a' 'b' ) ( 'a' 'b' ) ( 'a' 'b' ) \
+          ( 'a' 'b' ) ( 'a' 'b' ) ( 'a' 'b' ) ( 'a' 'b' ) \
+          ( 'a' 'b' ) ( 'a' 'b' ) ( 'a' 'b' ) ( 'a' 'b' ) \
+          ( 'a' 'b' ) ( 'a' 'b' ) ( 'a' 'b' ) ( 'a' 'b' ) \
+          ( 'a' 'b' ) ( 'a' 'b' ) ( 'a' 'b' ) ( 'a' 'b' ) \
+          ( 'a' 'b' ) ( 'a' 'b' ) ( 'a' 'b' ) ( 'a' 'b' ) \
+          ( 'a' 'b' ) ( 'a' 'b' ) ( 'a' 'b' ) ( 'a' 'b' ) \
+          ( 'a' 'b' ) ( 'a' 'b' ) ( 'a' 'b' ) ( 'a' 'b' ) \
+          ( 'a' 'b' ) ( 'a' 'b' ) ( 'a' 'b' ) ( 'a' 'b' ) \
+          ( 'a' 'b' ) ( 'a' 'b' ) ( 'a' 'b' ) ( 'a' 'b' ) \
+          ( 'a' 'b' ) ( 'a' 'b' ) ( 'a' 'b' ) ( 'a' 'b' ) \
+          ( 'a' 'b' ) ( 'a' 'b' ) ( 'a' 'b' ) ( 'a' 'b' ) \
+          ( 'a' 'b' ) ( 'a' 'b' ) ( 'a' 'b' ) ( 'a' 'b' ) \
+";
+
+/// What stands before a definition, a cell, a lock letter, an accent's character, after that, after a pair, after the
+/// last of 52 pairs, before a pair's base, its result, and its end.
+const PLACES: [&[u8]; 10] = [
     b"",
     b"1 ",
     b"1 nop nop nop nop nop nop nop nop ",
     b"dgra ",
     b"dgra 96 ",
     b"dgra 96 ( 'a' 'b' ) ",
+    FULL_ACCENT,
     b"dgra 96 ( ",
     b"dgra 96 ( 'a' ",
     b"dgra 96 ( 'a' 'b' ",
 ];
 
-type Kinds = [Option<TextFaultKind>; 9];
+type Kinds = [Option<TextFaultKind>; 10];
 
 const BYTE: Option<TextFaultKind> = Some(TextFaultKind::BadByte);
 
@@ -34,154 +54,164 @@ const CHAR: Option<TextFaultKind> = Some(TextFaultKind::BadChar);
 
 const FUNCTION: Option<TextFaultKind> = Some(TextFaultKind::BadFunction);
 
+const MANY: Option<TextFaultKind> = Some(TextFaultKind::TooManyPairs);
+
 const ZERO: Option<TextFaultKind> = Some(TextFaultKind::ZeroBase);
 
 const COMBINED: Option<TextFaultKind> = Some(TextFaultKind::Combined);
 
-/// A token, and its fault at each of the places; none where it is wanted there.
-const TOKENS: [(&[u8], Kinds); 22] = [
-    (b"@", [BYTE; 9]),
-    (b"'ab'", [LITERAL; 9]),
-    (b"unknown", [WORD; 9]),
-    (b"123456789012345678901234567890123", [WORD; 9]),
-    (b"fkey97", [FUNCTION; 9]),
-    (b"scr0", [FUNCTION; 9]),
-    (b"ralta", [COMBINED; 9]),
+const INSIDE: Option<TextFaultKind> = Some(TextFaultKind::EndInside);
+
+/// A token, and the fault of the text that ends with it at each of the places; none where that text is whole.
+const TOKENS: [(&[u8], Kinds); 25] = [
+    (b"@", [BYTE; 10]),
+    (b"'ab'", [LITERAL; 10]),
+    (b"unknown", [WORD; 10]),
+    (b"123456789012345678901234567890123", [WORD; 10]),
+    (b"fkey97", [FUNCTION; 10]),
+    (b"scr0", [FUNCTION; 10]),
+    (b"ralta", [COMBINED; 10]),
+    (b"'", [INSIDE; 10]),
+    (b"'\xe2\x82", [INSIDE; 10]),
+    (b"'a", [INSIDE; 10]),
     (
         b"(",
-        [OTHER, OTHER, OTHER, OTHER, None, None, OTHER, OTHER, OTHER],
+        [
+            OTHER, OTHER, OTHER, OTHER, INSIDE, INSIDE, MANY, OTHER, OTHER, OTHER,
+        ],
     ),
     (
         b")",
-        [OTHER, OTHER, OTHER, OTHER, OTHER, OTHER, OTHER, OTHER, None],
+        [
+            OTHER, OTHER, OTHER, OTHER, OTHER, OTHER, OTHER, OTHER, OTHER, None,
+        ],
     ),
     (
         b"o",
-        [OTHER, OTHER, None, OTHER, OTHER, OTHER, OTHER, OTHER, OTHER],
+        [
+            OTHER, OTHER, None, OTHER, OTHER, OTHER, OTHER, OTHER, OTHER, OTHER,
+        ],
     ),
     (
         b"B",
-        [OTHER, OTHER, None, OTHER, OTHER, OTHER, OTHER, OTHER, OTHER],
+        [
+            OTHER, OTHER, None, OTHER, OTHER, OTHER, OTHER, OTHER, OTHER, OTHER,
+        ],
     ),
     (
         b"lshift",
-        [OTHER, None, OTHER, OTHER, OTHER, OTHER, OTHER, OTHER, OTHER],
+        [
+            OTHER, INSIDE, OTHER, OTHER, OTHER, OTHER, OTHER, OTHER, OTHER, OTHER,
+        ],
     ),
     (
         b"dcar",
-        [None, None, OTHER, OTHER, None, None, OTHER, OTHER, OTHER],
+        [
+            INSIDE, INSIDE, OTHER, OTHER, INSIDE, INSIDE, INSIDE, OTHER, OTHER, OTHER,
+        ],
     ),
     (
         b"'a'",
-        [OTHER, None, OTHER, None, OTHER, OTHER, None, None, OTHER],
+        [
+            OTHER, INSIDE, OTHER, None, OTHER, OTHER, OTHER, INSIDE, INSIDE, OTHER,
+        ],
     ),
     (
         b"esc",
-        [OTHER, None, OTHER, None, OTHER, OTHER, None, None, OTHER],
+        [
+            OTHER, INSIDE, OTHER, None, OTHER, OTHER, OTHER, INSIDE, INSIDE, OTHER,
+        ],
     ),
     (
         b"nul",
-        [OTHER, None, OTHER, None, OTHER, OTHER, ZERO, None, OTHER],
+        [
+            OTHER, INSIDE, OTHER, None, OTHER, OTHER, OTHER, ZERO, INSIDE, OTHER,
+        ],
     ),
     (
         b"'\0'",
-        [OTHER, None, OTHER, None, OTHER, OTHER, ZERO, None, OTHER],
+        [
+            OTHER, INSIDE, OTHER, None, OTHER, OTHER, OTHER, ZERO, INSIDE, OTHER,
+        ],
     ),
     (
         b"0",
-        [None, None, OTHER, None, None, None, ZERO, None, OTHER],
+        [
+            INSIDE, INSIDE, OTHER, None, INSIDE, INSIDE, INSIDE, ZERO, INSIDE, OTHER,
+        ],
     ),
     (
         b"255",
-        [None, None, OTHER, None, None, None, None, None, OTHER],
+        [
+            INSIDE, INSIDE, OTHER, None, INSIDE, INSIDE, INSIDE, INSIDE, INSIDE, OTHER,
+        ],
     ),
     (
         b"0x100",
-        [LARGE, None, OTHER, None, LARGE, LARGE, None, None, OTHER],
+        [
+            LARGE, INSIDE, OTHER, None, LARGE, LARGE, LARGE, INSIDE, INSIDE, OTHER,
+        ],
     ),
     (
         b"0x110000",
-        [LARGE, CHAR, OTHER, CHAR, LARGE, LARGE, CHAR, CHAR, OTHER],
+        [
+            LARGE, CHAR, OTHER, CHAR, LARGE, LARGE, LARGE, CHAR, CHAR, OTHER,
+        ],
     ),
     (
         b"55296",
-        [LARGE, CHAR, OTHER, CHAR, LARGE, LARGE, CHAR, CHAR, OTHER],
+        [
+            LARGE, CHAR, OTHER, CHAR, LARGE, LARGE, LARGE, CHAR, CHAR, OTHER,
+        ],
     ),
 ];
+
+/// The answer to a text that is a place and a token: a fault stands at the token, and at the end where the text ends
+/// inside of something.
+fn assert_fault(
+    rt: &impl Abort,
+    alloc: Global,
+    place: &[u8],
+    token: &[u8],
+    kind: Option<TextFaultKind>,
+) -> Result<(), AllocError> {
+    let mut text = Vec::new(alloc);
+    text.extend_from_slice(place)?;
+    text.extend_from_slice(token)?;
+    let offset = match kind {
+        Some(TextFaultKind::EndInside) => text.len() as u64,
+        _ => place.len() as u64,
+    };
+    let wanted = kind.map(|kind| TextError::Fault(TextFault {
+        offset,
+        line: 1,
+        kind,
+    }));
+    let whole = read_map(alloc, text.as_slice()).err();
+    assert_eq!(rt; whole, wanted, "of {token:?} after {place:?}");
+    let pieces = read_pieces(rt, alloc, text.as_slice(), 1).err();
+    assert_eq!(rt; pieces, wanted, "of {token:?} after {place:?}, in pieces");
+    Ok(())
+}
 
 #[test]
 fn each_kind_of_fault_is_found_at_each_place(rt: HostRuntime) -> Result<(), Fail> {
     for (token, kinds) in TOKENS {
-        for (place, wanted) in PLACES.iter().zip(kinds) {
-            let mut text = Vec::new(rt.alloc());
-            text.extend_from_slice(place)?;
-            text.extend_from_slice(token)?;
-            text.push(b' ')?;
-            let end = text.len() as u64;
-            let whole = read_map(rt.alloc(), text.as_slice()).err();
-            let pieces = read_pieces(&rt, rt.alloc(), text.as_slice(), 1).err();
-            assert_eq!(rt; pieces, whole);
-            match (whole, wanted) {
-                (Some(TextError::Fault(found)), Some(kind)) => {
-                    let offset = place.len() as u64;
-                    let fault = TextFault {
-                        offset,
-                        line: 1,
-                        kind,
-                    };
-                    assert_eq!(rt; found, fault, "of {token:?} after {place:?}");
-                }
-                (Some(TextError::Fault(found)), None) => {
-                    let kind = TextFaultKind::EndInside;
-                    let fault = TextFault {
-                        offset: end,
-                        line: 1,
-                        kind,
-                    };
-                    assert_eq!(rt; found, fault, "of {token:?} after {place:?}");
-                }
-                (None, None) => {}
-                _ => assert!(rt; false, "{token:?} after {place:?}"),
-            }
+        for (place, kind) in PLACES.iter().zip(kinds) {
+            assert_fault(&rt, rt.alloc(), place, token, kind)?;
         }
     }
     Ok(())
 }
 
-/// Where a text may end, and where its end or an unfinished token is a fault.
+/// A text may end before and after a definition, and nowhere else.
 #[test]
 fn texts_end_where_definitions_do(rt: HostRuntime) -> Result<(), Fail> {
-    let may_end = [true, false, false, false, true, true, false, false, false];
-    for (place, may_end) in PLACES.iter().zip(may_end) {
-        let found = read_map(rt.alloc(), place).err();
-        let kind = TextFaultKind::EndInside;
-        let offset = place.len() as u64;
-        let fault = TextFault {
-            offset,
-            line: 1,
-            kind,
-        };
-        let wanted = if may_end {
-            None
-        } else {
-            Some(TextError::Fault(fault))
-        };
-        assert_eq!(rt; found, wanted, "after {place:?}");
-        let mut text = Vec::new(rt.alloc());
-        text.extend_from_slice(place)?;
-        text.extend_from_slice(b"'\xe2\x82")?;
-        let offset = text.len() as u64;
-        let fault = TextFault {
-            offset,
-            line: 1,
-            kind,
-        };
-        let found = read_map(rt.alloc(), text.as_slice()).err();
-        assert_eq!(rt;
-            found,
-            Some(TextError::Fault(fault)),
-            "inside a token after {place:?}"
-        );
+    let kinds = [
+        None, INSIDE, INSIDE, INSIDE, None, None, None, INSIDE, INSIDE, INSIDE,
+    ];
+    for (place, kind) in PLACES.iter().zip(kinds) {
+        assert_fault(&rt, rt.alloc(), place, b"", kind)?;
     }
     Ok(())
 }
@@ -193,12 +223,14 @@ fn the_first_fault_is_answered(rt: HostRuntime) {
         BadChar, BadFunction, BadLiteral, BadWord, Combined, EndInside, KeyTooLarge, Unexpected,
         ZeroBase,
     };
-    let texts: [(&[u8], u64, u64, TextFaultKind); 18] = [
+    let texts: [(&[u8], u64, u64, TextFaultKind); 20] = [
         (b"1 'ab'", 2, 1, BadLiteral),
         (b"256", 0, 1, KeyTooLarge),
         (b"4294967296", 0, 1, KeyTooLarge),
         (b"18446744073709551616", 0, 1, KeyTooLarge),
         (b"1 4294967393", 2, 1, BadChar),
+        (b"30 nul", 6, 1, EndInside),
+        (b"30 97", 5, 1, EndInside),
         (b"1 fkey96", 8, 1, EndInside),
         (b"1 fkey97", 2, 1, BadFunction),
         (b"1 scr0", 2, 1, BadFunction),

@@ -3,6 +3,7 @@
 ghost use Rattle.std.specs.Prelude.{None};
 
 use crate::tests::maps;
+use crate::tests::reading::DUMPED;
 use crate::{print_map, read_map};
 use keymap_core::{Failed, ToStd, Write, WriteFault};
 use std::test::Fail;
@@ -44,7 +45,7 @@ struct Printed {
 /// The line of an undefined entry, after its slot.
 const UNDEFINED: &[u8] = b" nul    nul    nul    nul    nul    nul    nul    nul    O";
 
-const MAPS: [Printed; 12] = [
+const MAPS: [Printed; 17] = [
     Printed {
         text: maps::EMPTY,
         keys: 0,
@@ -250,12 +251,55 @@ dacu 0x00b4 ( 'e' 0x00e9 ) ( 'E' 0x00c9 ) ( 'e' 0x00ea )
         accents: b"",
     },
     Printed {
-        text: b"0 'a' 'A' SOH soh fkey1 scr16 0x20ac DEL b dgra 0x10ffff ( 65536 127 )",
+        text: b"255 nop nop nop nop nop nop nop nop O",
+        keys: 256,
+        lines: &[(
+            255,
+            b"255 nop    nop    nop    nop    nop    nop    nop    nop    O",
+        )],
+        accents: b"",
+    },
+    Printed {
+        text: b"dacu 180\n( 'e' 0xe9 )\n( 'E' 0xc9 )",
+        keys: 0,
+        lines: &[],
+        accents: b"dgra nul
+dacu 0x00b4 ( 'e' 0x00e9 ) ( 'E' 0x00c9 )
+",
+    },
+    Printed {
+        text: b"dmac 000",
+        keys: 0,
+        lines: &[],
+        accents: b"dgra nul
+dacu nul
+dcir nul
+dtil nul
+dmac nul
+",
+    },
+    Printed {
+        text: DUMPED,
+        keys: 105,
+        lines: &[(
+            104,
+            b"104 slock  saver  slock  saver  susp   nop    susp   nop    O",
+        )],
+        accents: b"",
+    },
+    Printed {
+        text: b"0 'a' 'A' SOH soh fkey1 scr16 0x20ac DEL b",
         keys: 1,
         lines: &[(
             0,
             b"000 'a'    'A'    soh    soh    fkey01 scr16  0x20ac del    B",
         )],
+        accents: b"",
+    },
+    Printed {
+        text: b"dgra 0x10ffff ( 65536 127 )",
+        keys: 0,
+        lines: &[],
         accents: b"dgra 0x10ffff ( 0x10000 del )
 ",
     },

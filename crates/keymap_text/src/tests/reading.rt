@@ -2,7 +2,7 @@
 
 ghost use Rattle.std.specs.Prelude.{◌<◌};
 
-use crate::tests::maps::{ACCENTS, LETTER_AND_SHIFT};
+use crate::tests::maps::{ACCENTS, LETTER_AND_SHIFT, UPPER_HALF};
 use crate::{MapReader, TextError, TextFault, TextFaultKind, print_map, read_map};
 use keymap_core::{
     Action, Cell, Entry, FunctionNumber, KeyMap, LockFlag, Modifier, ScreenNumber, ToStd,
@@ -45,6 +45,11 @@ fn the_empty_text_is_the_map_of_no_keys(rt: HostRuntime) -> Result<(), Fail> {
         other => other?,
     };
     assert_eq!(rt; (map.n_keys(), map.n_accs()), (0, 0));
+    let empty = match KeyMap::new(rt.alloc()) {
+        Ok(empty) => empty,
+        Err(_) => KeyMap::new(rt.alloc())?,
+    };
+    assert!(rt; map == empty);
     let copy = match map.try_clone(rt.alloc()) {
         Ok(copy) => copy,
         Err(_) => map.try_clone(rt.alloc())?,
@@ -91,8 +96,26 @@ fn cells_are_read(rt: HostRuntime) -> Result<(), Fail> {
     Ok(())
 }
 
+#[test]
+fn quoted_characters_are_read(rt: HostRuntime) -> Result<(), Fail> {
+    let map = read_map(
+        rt.alloc(),
+        b"7 '\xc3\xa9' '\xe9' '\x80' '\xe2\x82\xac' nul nul nul nul O",
+    )?;
+    let cells = map.entry(7).cells();
+    assert_eq!(rt;
+        (cells[0], cells[1]),
+        (Cell::Char('\u{e9}'), Cell::Char('\u{e9}'))
+    );
+    assert_eq!(rt;
+        (cells[2], cells[3]),
+        (Cell::Char('\u{80}'), Cell::Char('\u{20ac}'))
+    );
+    Ok(())
+}
+
 /// A line of the layout that kbdcontrol(1) dumps, with its header.
-const DUMPED: &[u8] = b"#                                                         alt
+pub(crate) const DUMPED: &[u8] = b"#                                                         alt
 # scan                       cntrl          alt    alt   cntrl lock
   104   slock  saver  slock  saver  susp   nop    susp   nop     O
 ";
@@ -215,23 +238,30 @@ fn words_are_judged_when_they_are_complete(rt: HostRuntime) -> Result<(), Fail> 
     Ok(())
 }
 
-/// Each prefix of a text is one map or has one fault, in pieces of any size.
-#[test]
-fn pieces_make_no_difference(rt: HostRuntime) -> Result<(), Fail> {
-    for end in 0..=ACCENTS.len() {
-        if end > 150 && end + 60 < ACCENTS.len() {
-            continue;
-        }
-        let text = &ACCENTS[..end];
-        let whole = read_map(rt.alloc(), text);
-        for size in [1, 7] {
-            match (&whole, read_pieces(&rt, rt.alloc(), text, size)) {
-                (Ok(map), Ok(other)) => assert!(rt; *map == other, "up to {end}"),
-                (Err(error), Err(other)) => assert_eq!(rt; *error, other, "up to {end}"),
-                _ => assert!(rt; false, "up to {end}"),
-            }
+/// The map or fault of a text, also in pieces.
+fn assert_same_in_pieces(rt: &impl Abort, alloc: Global, text: &[u8]) {
+    let end = text.len();
+    let whole = read_map(alloc, text);
+    for size in [1, 7] {
+        match (&whole, read_pieces(rt, alloc, text, size)) {
+            (Ok(map), Ok(other)) => assert!(rt; *map == other, "up to {end}"),
+            (Err(error), Err(other)) => assert_eq!(rt; *error, other, "up to {end}"),
+            _ => assert!(rt; false, "up to {end}"),
         }
     }
+}
+
+#[test]
+fn each_prefix_is_read_the_same_in_pieces(rt: HostRuntime) {
+    for text in [ACCENTS, UPPER_HALF] {
+        for end in 0..=text.len() {
+            assert_same_in_pieces(&rt, rt.alloc(), &text[..end]);
+        }
+    }
+}
+
+#[test]
+fn a_map_is_read_byte_by_byte(rt: HostRuntime) -> Result<(), Fail> {
     let map = read_pieces(&rt, rt.alloc(), LETTER_AND_SHIFT, 1)?;
     assert_eq!(rt; map.n_keys(), 43);
     assert_eq!(rt; map.entry(30).cells[5], Cell::Char('A'));

@@ -124,9 +124,10 @@ fn a_map_is_read_from_a_device(rt: HostRuntime) -> Result<(), Fail> {
     Ok(())
 }
 
+/// The reader fails after each number of bytes, and in place of the end.
 #[test]
 fn a_failing_device_is_a_fault(rt: HostRuntime) {
-    for fails in [0, 1, 29, 98] {
+    for fails in 0..=LETTER_AND_SHIFT.len() {
         let mut tape = tape_of(LETTER_AND_SHIFT, LETTER_AND_SHIFT.len(), 13);
         tape.fails = fails;
         let wanted = TextError::Read(ReadFault {
@@ -135,5 +136,20 @@ fn a_failing_device_is_a_fault(rt: HostRuntime) {
         });
         assert_eq!(rt; read_from(rt.alloc(), &mut tape).err(), Some(wanted));
         assert!(rt; tape.failed());
+    }
+}
+
+/// The reader fails at the byte that is asked for after the limit.
+#[test]
+fn a_device_that_fails_at_the_limit_is_a_fault(rt: HostRuntime) {
+    let wanted = TextError::Read(ReadFault {
+        offset: 1_048_576,
+        kind: ReadFaultKind::Device,
+    });
+    for pace in [1, 512] {
+        let mut tape = tape_of(b"", usize::MAX, pace);
+        tape.fails = LIMIT;
+        assert_eq!(rt; read_from(rt.alloc(), &mut tape).err(), Some(wanted));
+        assert!(rt; tape.reads <= 1_048_578 && tape.given == LIMIT && tape.failed());
     }
 }

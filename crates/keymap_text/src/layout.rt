@@ -19,9 +19,7 @@ fn text_of(bytes: &[u8]) -> Text
     ensures { result.items ≡ bytes.now }
 {
     let mut text = Text::new();
-    for b in bytes {
-        text.push(*b);
-    }
+    text.try_extend_from_slice(bytes).unwrap();
     text
 }
 
@@ -100,9 +98,7 @@ fn push_text(line: &mut Line, text: &[u8])
     requires { length line.old.items + length text.now ≤ 1160 }
     ensures { line.new.items ≡ line.old.items ++ text.now }
 {
-    for b in text {
-        line.push(*b);
-    }
+    line.try_extend_from_slice(text).unwrap();
 }
 
 /// A blank, and the text of a cell, filled on the right with blanks to six places.

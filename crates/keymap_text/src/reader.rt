@@ -9,7 +9,8 @@ use keymap_core::KeyMap;
 use std::alloc::{AllocError, Global};
 use std::marker::Model;
 
-/// Reads a text that comes in pieces. It keeps the map, at most 32 bytes of an unfinished token and its place, never the text.
+/// Reads a text that comes in pieces. It keeps the map, at most 32 bytes of an unfinished token and its place, never the
+/// text, and allocates only the map.
 #[derive(Drop)]
 pub struct MapReader {
     scanner: Scanner,
@@ -46,7 +47,8 @@ impl MapReader {
     pub fn fed(&self) -> u64
         ensures { result ≡ self.now.fed }
     {
-        self.fed
+        let count = self.fed;
+        count
     }
 
     /// Takes the next piece: a fault exactly if the bytes so far have an early one, and then ever after.
@@ -93,7 +95,8 @@ pub(crate) fn conclude(reader: MapReader) -> Result<KeyMap, TextError>
     }
 }
 
-/// The map that a text spells, or its fault. The map is reserved before the text is looked at.
+/// The map that a text spells, or its fault. The map is reserved before the text is looked at, and is all that is
+/// allocated, however long the text is.
 pub fn read_map(alloc: Global, text: &[u8]) -> Result<KeyMap, TextError>
     ensures { Reads result text.now }
 {

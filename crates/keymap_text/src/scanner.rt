@@ -177,8 +177,8 @@ impl Scanner {
         literal_front(&self.pending.as_slice()[1..])
     }
 
-    #[tactic(auto, unfolding(crate::specs::Grammar::accept))]
     /// Takes a whole token of n bytes, of which none is pending then.
+    #[tactic(auto, unfolding(crate::specs::Grammar::accept))]
     fn accept(&mut self, item: Item, n: u64) -> Result<(), TextFault>
         requires place { IsPlace self.old.grammar.place self.old.grammar.accent }
         requires low { self.old.line ≤ self.old.offset + 1 }

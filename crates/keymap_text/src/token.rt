@@ -53,8 +53,8 @@ pub(crate) fn is_word_byte(c: u8) -> bool
     c.is_ascii_alphanumeric()
 }
 
-#[tactic(auto, using(crate::proofs::Leading::leading_rules))]
 /// How many word bytes stand in front.
+#[tactic(auto, using(crate::proofs::Leading::leading_rules))]
 fn word_len(bytes: &[u8]) -> usize
     ensures length { result ≤ length bytes.now }
     ensures value { result ≡ leading is_word bytes.now }
@@ -66,8 +66,8 @@ fn word_len(bytes: &[u8]) -> usize
     i
 }
 
-#[tactic(auto, using(crate::proofs::Leading::leading_rules))]
 /// The place of the line's end, at `at` or after it.
+#[tactic(auto, using(crate::proofs::Leading::leading_rules))]
 fn line_end(text: &[u8], at: usize) -> usize
     requires { at ≤ length text.now }
     ensures length { result ≤ length text.now }
@@ -87,8 +87,8 @@ fn is_lone_byte(bytes: &[u8]) -> bool
     bytes.len() > 1 && bytes[0] >= 0x80 && bytes[1] == b'\''
 }
 
-#[tactic(auto, unfolding(crate::specs::Lexical::literal))]
 /// The quoted character whose bytes these are, after the first apostrophe.
+#[tactic(auto, unfolding(crate::specs::Lexical::literal))]
 pub(crate) fn literal_front(bytes: &[u8]) -> Front
     ensures value { front_view result ≡ literal bytes.now }
     ensures fits { FoundFits result (length bytes.now) }

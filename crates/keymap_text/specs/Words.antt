@@ -47,7 +47,7 @@ named (entry ∷ entries) w = cond (same_name entry.0 w) (Some entry.1) (named e
 -- the same of the names as the code has them
 unfoldable pub look : List Name → List ℕ → Option Meaning
 look [] w = None
-look (name ∷ names) w = cond (same_name name.text.now w) (Some name.meaning) (look names w)
+look (name ∷ names) w = cond (same_name name.0.now w) (Some name.1) (look names w)
 
 abbrev pub is_digit : ℕ → ℕ → Bool
 is_digit base c = nat_lt (digit_value c) base

@@ -25,9 +25,9 @@ fn text_of(bytes: &[u8]) -> Text
 
 fn name_text(names: &[Name], index: usize) -> &'static [u8]
     requires { index < length names.now }
-    ensures { result.now ≡ slice_index_or (map (λ name. name.text.now) names.now) index [] }
+    ensures { result.now ≡ slice_index_or (map (λ name. name.0.now) names.now) index [] }
 {
-    names[index].text
+    names[index].0
 }
 
 /// The name of a control character.

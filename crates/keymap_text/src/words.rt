@@ -41,8 +41,8 @@ fn lookup(names: &[Name], word: &[u8]) -> Option<Meaning>
     ensures { result ≡ look names.now word.now }
 {
     for name in names {
-        if is_same_name(name.text, word) {
-            return Some(name.meaning);
+        if is_same_name(name.0, word) {
+            return Some(name.1);
         }
     }
     None

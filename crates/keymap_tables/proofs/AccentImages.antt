@@ -12,6 +12,7 @@ use Rattle.keymap_core.specs.Bounds.{IsPair, IsAccent}
 use Rattle.keymap_tables.specs.Faults.{number_at, base_at, pairs_in, char_fault, accent_fault, HasNoFault}
 use Rattle.keymap_tables.specs.Image.{number_bytes, pair_bytes, accent_bytes, zeros}
 use Rattle.keymap_tables.specs.Layouts.{wide}
+use Rattle.keymap_tables.specs.declared.fault.TableFaultKind.TheVariants.{NotEmpty}
 use Rattle.keymap_tables.proofs.Lifting.{none-past}
 use Rattle.keymap_tables.proofs.Pairs.{pairs-counted, accent-more, accent-past}
 use Rattle.keymap_tables.proofs.RowImages.{row-in, length-rows, zeros-behind}
@@ -106,7 +107,7 @@ accent_bytes-sound accent known =
     let front = number_bytes wide accent.own ++ flat_map (pair_bytes wide) accent.pairs in
     let long : length (number_bytes wide accent.own ++ flat_map (pair_bytes wide) accent.pairs) ≡ 4 + 8 * length accent.pairs =
     length-append (number_bytes wide accent.own) (flat_map (pair_bytes wide) accent.pairs) ∙ omega (arith, length-pairs accent.pairs) in
-    none-past (accent_fault wide (accent_bytes wide accent)) (accent_bytes wide accent) (4 + 8 * length accent.pairs) 420
+    none-past NotEmpty (accent_fault wide (accent_bytes wide accent)) (accent_bytes wide accent) (4 + 8 * length accent.pairs) 420
     (λ p past inside. accent-past (accent_bytes wide accent) (length accent.pairs) p (pairs-of accent known) past)
     (sound-upto accent known (length accent.pairs) (omega arith))
     (λ p past. zeros-behind front (8 * (52 - length accent.pairs)) p (omega (arith, long)))

@@ -152,6 +152,10 @@ slot-none bytes n cells small empty p below =
       ]
     ]
 
+-- no fault before the pads
+pub slot-front : (bytes : List ℕ) → ((p : ℕ) → p < 32 → slot_fault wide bytes p ≡ None) → slice_index bytes 33 ≤ 3 → (p : ℕ) → p < 34 → slot_fault wide bytes p ≡ None
+slot-front bytes cells small = slot-none bytes 34 cells small (λ p past below. absurd (omega arith))
+
 -- a flag's number is small
 pub small-flag : (byte : ℕ) (flag : LockFlag) → flag_number flag ≡ byte → byte ≤ 3
 small-flag byte variant.O is = omega arith

@@ -35,8 +35,8 @@ first-after whole inner base size f same before first inside = record {
 }
 
 -- What follows has to be zeros, and is.
-pub none-past : (whole : FaultOf) (bytes : List ℕ) (from n : ℕ) → ((p : ℕ) → from ≤ p → p < n → whole p ≡ zero_fault NotEmpty bytes p) → HasNoFault whole from → ((p : ℕ) → from ≤ p → slice_index bytes p ≡ 0) → HasNoFault whole n
-none-past whole bytes from n same before empty p below =
+pub none-past : (kind : TableFaultKind) (whole : FaultOf) (bytes : List ℕ) (from n : ℕ) → ((p : ℕ) → from ≤ p → p < n → whole p ≡ zero_fault kind bytes p) → HasNoFault whole from → ((p : ℕ) → from ≤ p → slice_index bytes p ≡ 0) → HasNoFault whole n
+none-past kind whole bytes from n same before empty p below =
     elim (cases_lt p from) [
       | inl front ↦ before p front
       | inr past ↦ let is : slice_index bytes p ≡ 0 = empty p past in
@@ -44,8 +44,8 @@ none-past whole bytes from n same before empty p below =
     ]
 
 -- What follows has to be zeros, and isn't.
-pub first-past : (whole : FaultOf) (bytes : List ℕ) (from n : ℕ) (f : TableFault) → ((p : ℕ) → from ≤ p → p < n → whole p ≡ zero_fault NotEmpty bytes p) → HasNoFault whole from → length bytes ≤ n → IsFirstFilled bytes from f → IsFirstFault whole f
-first-past whole bytes from n f same before long first = record {
+pub first-past : (kind : TableFaultKind) (whole : FaultOf) (bytes : List ℕ) (from n : ℕ) (f : TableFault) → ((p : ℕ) → from ≤ p → p < n → whole p ≡ zero_fault kind bytes p) → HasNoFault whole from → length bytes ≤ n → IsFirstFilled bytes from kind f → IsFirstFault whole f
+first-past kind whole bytes from n f same before long first = record {
   here = same f.offset first.past (omega (arith, first.inside)) ∙ first.here;
   before = λ p below. elim (cases_lt p from) [
     | inl front ↦ before p front

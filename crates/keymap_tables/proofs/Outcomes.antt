@@ -2,13 +2,13 @@
 use Rattle.std.proofs.Common.{◌≡◌, subst, sym}
 use Rattle.std.specs.Prelude.{Result, Ok, Err, IsErrAnd, IfErr, OnOk}
 
-pub OnOk-map : {X E : Type 0} (r : Result X E) (P Q : Type 0) → (P → Q) → OnOk r P → OnOk r Q
-OnOk-map (Ok x) P Q step held = step held
-OnOk-map (Err e) P Q step held = held
+pub OnOk-map : {X E : Type 0} (r : Result X E) (P Q : Type 0) → OnOk r P → (P → Q) → OnOk r Q
+OnOk-map (Ok x) P Q held step = step held
+OnOk-map (Err e) P Q held step = held
 
-pub IfErr-map : {X E : Type 0} (r : Result X E) (P Q : E → Type 0) → ((e : E) → P e → Q e) → IfErr r P → IfErr r Q
-IfErr-map (Ok x) P Q step held = held
-IfErr-map (Err e) P Q step held = step e held
+pub IfErr-map : {X E : Type 0} (r : Result X E) (P Q : E → Type 0) → IfErr r P → ((e : E) → P e → Q e) → IfErr r Q
+IfErr-map (Ok x) P Q held step = held
+IfErr-map (Err e) P Q held step = step e held
 
 pub OnOk-at : {X E : Type 0} (r : Result X E) (x : X) (P : Type 0) → r ≡ Ok x → OnOk r P → P
 OnOk-at {X = X} {E = E} r x P is held = subst (λ (v : Result X E). OnOk v P) is held

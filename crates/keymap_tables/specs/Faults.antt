@@ -108,8 +108,8 @@ abbrev pub HasNoFault : (ℕ → Option TableFaultKind) → ℕ → Type 0
 HasNoFault fault_of n = (p : ℕ) → p < n → fault_of p ≡ None
 
 -- of the bytes from a place on, which have to be 0, the fault at the first that isn't
-pub record IsFirstFilled (bytes : List ℕ) (from : ℕ) (f : TableFault) : Type 0 where
-  pub here : zero_fault NotEmpty bytes f.offset ≡ Some f.kind
+pub record IsFirstFilled (bytes : List ℕ) (from : ℕ) (kind : TableFaultKind) (f : TableFault) : Type 0 where
+  pub here : zero_fault kind bytes f.offset ≡ Some f.kind
   pub past : from ≤ f.offset
   pub inside : f.offset < length bytes
-  pub before : (p : ℕ) → from ≤ p → p < f.offset → zero_fault NotEmpty bytes p ≡ None
+  pub before : (p : ℕ) → from ≤ p → p < f.offset → zero_fault kind bytes p ≡ None

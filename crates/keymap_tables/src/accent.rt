@@ -32,7 +32,7 @@ fn push_char(image: &mut ArrayVec<u8, ACCENT>, character: char)
 }
 
 /// The 420 bytes of an accent.
-pub fn accent_image(accent: &Accent) -> ArrayVec<u8, ACCENT>
+pub(crate) fn accent_image(accent: &Accent) -> ArrayVec<u8, ACCENT>
     ensures bytes { result.items ≡ accent_bytes wide accent.now }
     ensures whole { length result.items ≡ 420 }
     ensures known { IsAccent accent.now }

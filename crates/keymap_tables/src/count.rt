@@ -8,7 +8,7 @@ use crate::layout::COUNT;
 use arrayvec::ArrayVec;
 
 /// The bytes of a count, with its pads.
-pub fn count_image(count: u16) -> [u8; COUNT]
+pub(crate) fn count_image(count: u16) -> [u8; COUNT]
     ensures bytes { result ≡ count_bytes wide count }
     ensures whole { length result ≡ 4 }
 {

@@ -36,7 +36,7 @@ pub struct TableFault {
 }
 
 /// Why tables were not read.
-#[derive(Debug, Drop, Error)]
+#[derive(Clone, Copy, Debug, PartialEq, Eq, Error)]
 pub enum TableError {
     #[error("out of memory")]
     Memory,

@@ -7,11 +7,11 @@ ghost use Rattle.keymap_tables.specs.Image.{number_of, is_act, count_bytes, zero
 ghost use Rattle.keymap_tables.specs.Layouts.{wide};
 
 use crate::fault::{TableFault, TableFaultKind};
-use crate::layout::COUNT;
+use crate::layout::COUNT_PADS_AT;
 use keymap_core::{Action, Cell};
 
 /// The four bytes from a place on, as a number.
-pub fn read_number(bytes: &[u8], at: usize) -> u32
+pub(crate) fn read_number(bytes: &[u8], at: usize) -> u32
     requires { at + 4 ≤ length bytes.now }
     ensures { result ≡ number_at wide bytes.now at }
 {
@@ -19,7 +19,7 @@ pub fn read_number(bytes: &[u8], at: usize) -> u32
 }
 
 /// The character of the four bytes from a place on.
-pub fn read_char(bytes: &[u8], at: usize) -> Result<char, TableFault>
+pub(crate) fn read_char(bytes: &[u8], at: usize) -> Result<char, TableFault>
     requires { at + 4 ≤ length bytes.now }
     ensures number { IfOk result (λ c. c ≡ number_at wide bytes.now at) }
     ensures known { IfOk result IsScalar }
@@ -49,7 +49,7 @@ fn action_of_number(number: u32) -> Result<Action, TableFaultKind>
 }
 
 /// The cell of a number, an action where it is marked.
-pub fn cell_of(number: u32, is_marked: bool) -> Result<Cell, TableFaultKind>
+pub(crate) fn cell_of(number: u32, is_marked: bool) -> Result<Cell, TableFaultKind>
     ensures number { IfOk result (λ c. number_of c ≡ number) }
     ensures mark { IfOk result (λ c. is_act c ≡ is_marked) }
     ensures known { IfOk result IsCell }
@@ -65,17 +65,17 @@ pub fn cell_of(number: u32, is_marked: bool) -> Result<Cell, TableFaultKind>
     }
 }
 
-/// Looks for a byte that isn't 0, from a place on.
-pub fn check_empty(bytes: &[u8], from: usize) -> Result<(), TableFault>
+/// Looks for a byte that isn't 0, from a place on. It is a fault of this kind.
+pub(crate) fn check_zeros(bytes: &[u8], from: usize, kind: TableFaultKind) -> Result<(), TableFault>
     requires { from ≤ length bytes.now }
     ensures none { OnOk result ((p : ℕ) → from ≤ p → slice_index bytes.now p ≡ 0) }
-    ensures first { IfErr result (IsFirstFilled bytes.now from) }
+    ensures first { IfErr result (IsFirstFilled bytes.now from kind) }
 {
     for place in from..bytes.len() {
         if bytes[place] != 0 {
             return Err(TableFault {
                 offset: place as u64,
-                kind: TableFaultKind::NotEmpty,
+                kind,
             });
         }
     }
@@ -91,7 +91,7 @@ fn read_half(bytes: &[u8]) -> u16
 }
 
 /// A count of at most `most`, and two pads.
-pub fn read_count(bytes: &[u8], most: u16) -> Result<u16, TableFault>
+pub(crate) fn read_count(bytes: &[u8], most: u16) -> Result<u16, TableFault>
     requires { length bytes.now ≡ 4 }
     ensures value { IfOk result (λ n. n ≡ count_at bytes.now 0) }
     ensures few { IfOk result (λ n. n ≤ most) }
@@ -106,13 +106,6 @@ pub fn read_count(bytes: &[u8], most: u16) -> Result<u16, TableFault>
             kind: TableFaultKind::BadCount,
         });
     }
-    for place in 2..COUNT {
-        if bytes[place] != 0 {
-            return Err(TableFault {
-                offset: place as u64,
-                kind: TableFaultKind::BadPad,
-            });
-        }
-    }
+    check_zeros(bytes, COUNT_PADS_AT, TableFaultKind::BadPad)?;
     Ok(count)
 }

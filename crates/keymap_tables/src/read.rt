@@ -9,7 +9,7 @@ ghost use Rattle.keymap_core.specs.Maps.{MapValue};
 
 use crate::fault::{TableError, TableFault, TableFaultKind};
 use crate::layout::{ACCENT, ACCENTS_AT, FILE, N_ACCS_AT, SLOT, SLOTS_AT};
-use crate::number::{check_empty, read_count};
+use crate::number::{check_zeros, read_count};
 use crate::read_accent::read_accent;
 use crate::read_slot::read_slot;
 use keymap_core::KeyMap;
@@ -34,7 +34,7 @@ fn read_slots(bytes: &[u8], n_keys: u16, map: &mut KeyMap) -> Result<(), TableFa
             Err(fault) => return Err(fault.after(at)),
         }
     }
-    check_empty(bytes, SLOT * n_keys as usize)
+    check_zeros(bytes, SLOT * n_keys as usize, TableFaultKind::NotEmpty)
 }
 
 /// Reads so many accents, and zeros in place of the others, into a map of no accents.
@@ -56,7 +56,7 @@ fn read_accents(bytes: &[u8], n_accs: u16, map: &mut KeyMap) -> Result<(), Table
             Err(fault) => return Err(fault.after(at)),
         }
     }
-    check_empty(bytes, ACCENT * n_accs as usize)
+    check_zeros(bytes, ACCENT * n_accs as usize, TableFaultKind::NotEmpty)
 }
 
 /// Reads a file of the right length into a map of no keys and no accents.

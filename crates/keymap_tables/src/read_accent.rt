@@ -5,9 +5,9 @@ ghost use Rattle.keymap_tables.specs.Faults.{accent_fault, base_at, pairs_in, Is
 ghost use Rattle.keymap_tables.specs.Image.{accent_bytes};
 ghost use Rattle.keymap_tables.specs.Layouts.{wide};
 
-use crate::fault::TableFault;
+use crate::fault::{TableFault, TableFaultKind};
 use crate::layout::{NUMBER, PAIR, PAIRS};
-use crate::number::{check_empty, read_char, read_number};
+use crate::number::{check_zeros, read_char, read_number};
 use keymap_core::Accent;
 
 /// How many pairs stand before the first base 0.
@@ -26,7 +26,7 @@ fn count_pairs(bytes: &[u8]) -> usize
 }
 
 /// The accent whose image the 420 bytes are, or their first fault.
-pub fn read_accent(bytes: &[u8]) -> Result<Accent, TableFault>
+pub(crate) fn read_accent(bytes: &[u8]) -> Result<Accent, TableFault>
     requires { length bytes.now ≡ 420 }
     ensures image { IfOk result (λ accent. bytes.now ≡ accent_bytes wide accent) }
     ensures known { IfOk result IsAccent }
@@ -41,6 +41,6 @@ pub fn read_accent(bytes: &[u8]) -> Result<Accent, TableFault>
         let composed = read_char(bytes, at + NUMBER)?;
         accent.push_pair(base, composed).unwrap();
     }
-    check_empty(bytes, NUMBER + PAIR * pairs)?;
+    check_zeros(bytes, NUMBER + PAIR * pairs, TableFaultKind::NotEmpty)?;
     Ok(accent)
 }

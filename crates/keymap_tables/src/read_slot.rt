@@ -7,8 +7,8 @@ ghost use Rattle.keymap_tables.specs.Image.{slot_bytes, cell_bytes, marks_of, fl
 ghost use Rattle.keymap_tables.specs.Layouts.{wide};
 
 use crate::fault::{TableFault, TableFaultKind};
-use crate::layout::{NUMBER, SLOT};
-use crate::number::{cell_of, read_number};
+use crate::layout::{FLAG_AT, MARKS_AT, NUMBER, SLOT_PADS_AT};
+use crate::number::{cell_of, check_zeros, read_number};
 use keymap_core::{Cell, Entry, LockFlag};
 
 /// The flag of a byte.
@@ -34,7 +34,7 @@ fn read_cells(bytes: &[u8]) -> Result<[Cell; 8], TableFault>
     ensures sound { OnOk result (HasNoFault (slot_fault wide bytes.now) 32) }
     ensures fault { IfErr result (λ f. IsFirstFault (slot_fault wide bytes.now) f × (f.offset < 32)) }
 {
-    let marks = bytes[32];
+    let marks = bytes[MARKS_AT];
     let mut cells = [Cell::Char('\0'); 8];
     for column in 0..8 {
         let at = NUMBER * column;
@@ -53,7 +53,7 @@ fn read_cells(bytes: &[u8]) -> Result<[Cell; 8], TableFault>
 }
 
 /// The entry whose image the 36 bytes are, or their first fault.
-pub fn read_slot(bytes: &[u8]) -> Result<Entry, TableFault>
+pub(crate) fn read_slot(bytes: &[u8]) -> Result<Entry, TableFault>
     requires { length bytes.now ≡ 36 }
     ensures image { IfOk result (λ entry. bytes.now ≡ slot_bytes wide entry) }
     ensures known { IfOk result IsEntry }
@@ -61,19 +61,12 @@ pub fn read_slot(bytes: &[u8]) -> Result<Entry, TableFault>
     ensures fault { IfErr result (λ f. IsFirstFault (slot_fault wide bytes.now) f × (f.offset < 36)) }
 {
     let cells = read_cells(bytes)?;
-    let Some(flag) = flag_of(bytes[33]) else {
+    let Some(flag) = flag_of(bytes[FLAG_AT]) else {
         return Err(TableFault {
-            offset: 33,
+            offset: FLAG_AT as u64,
             kind: TableFaultKind::BadFlag,
         });
     };
-    for place in 34..SLOT {
-        if bytes[place] != 0 {
-            return Err(TableFault {
-                offset: place as u64,
-                kind: TableFaultKind::BadPad,
-            });
-        }
-    }
+    check_zeros(bytes, SLOT_PADS_AT, TableFaultKind::BadPad)?;
     Ok(Entry { cells, flag })
 }

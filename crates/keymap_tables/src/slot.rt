@@ -45,7 +45,7 @@ fn flag_byte(flag: LockFlag) -> u8
 }
 
 /// Appends the four bytes of a number.
-pub fn push_number<const N: usize>(image: &mut ArrayVec<u8, N>, number: u32)
+pub(crate) fn push_number<const N: usize>(image: &mut ArrayVec<u8, N>, number: u32)
     requires { array_vec_len image.old + 4 ≤ N }
     ensures bytes { image.new.items ≡ image.old.items ++ number_bytes wide number }
     ensures count { array_vec_len image.new ≡ array_vec_len image.old + 4 }
@@ -58,7 +58,7 @@ pub fn push_number<const N: usize>(image: &mut ArrayVec<u8, N>, number: u32)
 }
 
 /// The 36 bytes of a slot.
-pub fn slot_image(entry: &Entry) -> ArrayVec<u8, SLOT>
+pub(crate) fn slot_image(entry: &Entry) -> ArrayVec<u8, SLOT>
     ensures bytes { result.items ≡ slot_bytes wide entry.now }
     ensures whole { length result.items ≡ 36 }
     ensures known { IsEntry entry.now }

@@ -1,31 +1,29 @@
-use Rattle.std.proofs.Common.{arith, ◌≤◌, ◌∙◌, inl, inr}
-use Rattle.std.proofs.lemmas.Bool.{cases_lt}
-use Rattle.std.proofs.lemmas.List.{get_or_past}
-use Rattle.keymap_tables.proofs.Pads.{zero-here, count-pad, count-none, count-whole}
-use Rattle.keymap_tables.specs.Faults.{count_at}
+use Rattle.std.proofs.Common.{arith, ◌≤◌, ◌<◌, ◌∙◌}
+use Rattle.keymap_tables.proofs.Lifting.{none-past, first-past}
+use Rattle.keymap_tables.proofs.Outcomes.{err_passed}
+use Rattle.keymap_tables.proofs.Pads.{count-pad, count-front, count-whole}
+use Rattle.keymap_tables.specs.Faults.{count_at, count_fault, IsFirstFault}
 use Rattle.keymap_tables.specs.declared.fault.TableFaultKind.TheVariants.{BadPad}
 use Rattle.keymap_tables.proofs.number.read_count.Goals as goal
 
-pub returns-then-bytes-place-ne0-clause-fault : goal.returns-then-bytes-place-ne0-clause-fault
-returns-then-bytes-place-ne0-clause-fault c =
-    let few : count_at c.args.bytes.now 0 ≤ c.args.most = omega (arith, c.loop-place.invariant.few, c.read_half-count.ensures) in (
-      record {
-        here = count-pad c.args.most c.args.bytes.now c.loop-place.place (omega arith)
-            ∙ zero-here BadPad c.args.bytes.now c.loop-place.place c.if-bytes-place-ne0.true;
-        before = count-none c.args.most c.args.bytes.now c.loop-place.place few c.loop-place.invariant.empty;
-      },
-      omega arith,
+pub returns-in_err-check_zeros-clause-fault : goal.returns-in_err-check_zeros-clause-fault
+returns-in_err-check_zeros-clause-fault c =
+    let bytes = c.args.bytes.now in
+    let few : count_at bytes 0 ≤ c.args.most = omega (arith, c.read_half-count.ensures) in
+    err_passed _ _ _ c.from_residual.ensures.1 (
+      first-past BadPad (count_fault c.args.most bytes) bytes _ 4 _ (λ p past inside. count-pad c.args.most bytes p (omega arith))
+          (λ p below. count-front c.args.most bytes few p (omega arith)) (omega arith) c.in_err-check_zeros.ensures.first,
+      omega (arith, c.in_err-check_zeros.ensures.first.inside),
     )
 
 pub returns-clause-image : goal.returns-clause-image
 returns-clause-image c =
     count-whole c.args.bytes.now _ c.requires (λ i. omega (arith, c.type_inv.bytes i)) c.read_half-count.ensures
-    (λ p past. elim (cases_lt p c.loop-place.place) [
-      | inl below ↦ c.loop-place.invariant.empty p past below
-      | inr above ↦ get_or_past c.args.bytes.now p 0 (omega arith)
-    ])
+    (λ p past. c.in_ok-check_zeros.ensures.none p (omega arith))
 
 pub returns-clause-sound : goal.returns-clause-sound
 returns-clause-sound c =
-    let few : count_at c.args.bytes.now 0 ≤ c.args.most = omega (arith, c.loop-place.invariant.few, c.read_half-count.ensures) in
-    count-none c.args.most c.args.bytes.now 4 few (λ p past below. c.loop-place.invariant.empty p past (omega arith))
+    let bytes = c.args.bytes.now in
+    let few : count_at bytes 0 ≤ c.args.most = omega (arith, c.read_half-count.ensures) in
+    none-past BadPad (count_fault c.args.most bytes) bytes 2 4 (λ p past inside. count-pad c.args.most bytes p past)
+    (count-front c.args.most bytes few) (λ p past. c.in_ok-check_zeros.ensures.none p (omega arith))

@@ -6,10 +6,11 @@ use Rattle.std.specs.List.{flat_map}
 use Rattle.keymap_core.specs.Accents.{blank}
 use Rattle.keymap_core.specs.Maps.{MapValue}
 use Rattle.keymap_core.specs.Bounds.{IsAccent}
-use Rattle.keymap_tables.specs.Faults.{row_fault, accent_fault, IsFirstFault, IsFirstFilled, HasNoFault}
+use Rattle.keymap_tables.specs.Faults.{row_fault, accent_fault, IsFirstFault, HasNoFault}
 use Rattle.keymap_tables.specs.Image.{accent_bytes, accents_bytes}
 use Rattle.keymap_tables.specs.Layouts.{wide, part}
 use Rattle.keymap_tables.specs.declared.fault.TableFault.{TableFault}
+use Rattle.keymap_tables.specs.declared.fault.TableFaultKind.TheVariants.{NotEmpty}
 use Rattle.keymap_tables.proofs.Lifting.{first-after, none-after, first-past, none-past, row-at, row-past}
 use Rattle.keymap_tables.proofs.Outcomes.{OnOk-map, IfErr-map, OnOk-at}
 use Rattle.keymap_tables.proofs.Pads.{drop-zeros}
@@ -57,27 +58,24 @@ returns-clause-image c =
     let end : c.loop-index.index ≡ c.args.n_accs = omega arith in
     let so_far = c.loop-index.invariant.bytes ∙ ap (λ (n : ℕ). take (420 * n) bytes) end in
     let rest : length bytes - 420 * c.args.n_accs ≡ 420 * (15 - length accents) = omega (arith, c.loop-index.invariant.count) in
-    OnOk-map c.check_empty.result ((p : ℕ) → 420 * c.args.n_accs ≤ p → slice_index bytes p ≡ 0) (bytes ≡ accents_bytes wide accents)
-    (λ empty. rows-whole (accent_bytes wide) 420 15 c.args.n_accs bytes accents so_far (drop-zeros bytes (420 * c.args.n_accs) empty) rest)
-    c.check_empty.ensures.none
+    OnOk-map c.check_zeros.result _ (bytes ≡ accents_bytes wide accents) c.check_zeros.ensures.none
+    (λ empty. rows-whole (accent_bytes wide) 420 15 c.args.n_accs bytes accents so_far (drop-zeros bytes (420 * c.args.n_accs) (λ p past. empty p (omega arith))) rest)
 
 pub returns-clause-sound : goal.returns-clause-sound
 returns-clause-sound c =
     let bytes = c.args.bytes.now in
     let whole = row_fault (accent_fault wide) 420 c.args.n_accs bytes in
-    OnOk-map c.check_empty.result ((p : ℕ) → 420 * c.args.n_accs ≤ p → slice_index bytes p ≡ 0) (HasNoFault whole 6300)
-    (λ empty. none-past whole bytes (420 * c.args.n_accs) 6300 (λ p past inside. row-past (accent_fault wide) 420 c.args.n_accs bytes p (omega arith) past)
-    (λ p below. c.loop-index.invariant.sound p (omega arith)) empty)
-    c.check_empty.ensures.none
+    OnOk-map c.check_zeros.result _ (HasNoFault whole 6300) c.check_zeros.ensures.none
+    (λ empty. none-past NotEmpty whole bytes (420 * c.args.n_accs) 6300 (λ p past inside. row-past (accent_fault wide) 420 c.args.n_accs bytes p (omega arith) past)
+    (λ p below. c.loop-index.invariant.sound p (omega arith)) (λ p past. empty p (omega arith)))
 
 pub returns-clause-fault : goal.returns-clause-fault
 returns-clause-fault c =
     let bytes = c.args.bytes.now in
     let whole = row_fault (accent_fault wide) 420 c.args.n_accs bytes in
-    IfErr-map c.check_empty.result (IsFirstFilled bytes (420 * c.args.n_accs)) (λ f. IsFirstFault whole f × (f.offset < 6300))
+    IfErr-map c.check_zeros.result _ (λ f. IsFirstFault whole f × (f.offset < 6300)) c.check_zeros.ensures.first
     (λ f first. (
-      first-past whole bytes (420 * c.args.n_accs) 6300 f (λ p past inside. row-past (accent_fault wide) 420 c.args.n_accs bytes p (omega arith) past)
+      first-past NotEmpty whole bytes _ 6300 f (λ p past inside. row-past (accent_fault wide) 420 c.args.n_accs bytes p (omega arith) (omega arith))
           (λ p below. c.loop-index.invariant.sound p (omega arith)) (omega arith) first,
       omega (arith, first.inside),
     ))
-    c.check_empty.ensures.first

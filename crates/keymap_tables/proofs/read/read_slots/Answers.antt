@@ -5,10 +5,11 @@ use Rattle.std.specs.Prelude.{slice_index, ◌≤◌}
 use Rattle.std.specs.List.{flat_map}
 use Rattle.keymap_core.specs.Maps.{MapValue, undefined}
 use Rattle.keymap_core.specs.Bounds.{IsEntry}
-use Rattle.keymap_tables.specs.Faults.{row_fault, slot_fault, IsFirstFault, IsFirstFilled, HasNoFault}
+use Rattle.keymap_tables.specs.Faults.{row_fault, slot_fault, IsFirstFault, HasNoFault}
 use Rattle.keymap_tables.specs.Image.{slot_bytes, slots_bytes}
 use Rattle.keymap_tables.specs.Layouts.{wide, part}
 use Rattle.keymap_tables.specs.declared.fault.TableFault.{TableFault}
+use Rattle.keymap_tables.specs.declared.fault.TableFaultKind.TheVariants.{NotEmpty}
 use Rattle.keymap_tables.proofs.Lifting.{first-after, none-after, first-past, none-past, row-at, row-past}
 use Rattle.keymap_tables.proofs.Outcomes.{OnOk-map, IfErr-map}
 use Rattle.keymap_tables.proofs.Pads.{drop-zeros}
@@ -55,27 +56,24 @@ returns-clause-image c =
     let end : c.loop-slot.slot ≡ c.args.n_keys = omega arith in
     let so_far = c.loop-slot.invariant.bytes ∙ ap (λ (n : ℕ). take (36 * n) bytes) end in
     let rest : length bytes - 36 * c.args.n_keys ≡ 36 * (256 - length entries) = omega (arith, c.loop-slot.invariant.count) in
-    OnOk-map c.check_empty.result ((p : ℕ) → 36 * c.args.n_keys ≤ p → slice_index bytes p ≡ 0) (bytes ≡ slots_bytes wide entries)
-    (λ empty. rows-whole (slot_bytes wide) 36 256 c.args.n_keys bytes entries so_far (drop-zeros bytes (36 * c.args.n_keys) empty) rest)
-    c.check_empty.ensures.none
+    OnOk-map c.check_zeros.result _ (bytes ≡ slots_bytes wide entries) c.check_zeros.ensures.none
+    (λ empty. rows-whole (slot_bytes wide) 36 256 c.args.n_keys bytes entries so_far (drop-zeros bytes (36 * c.args.n_keys) (λ p past. empty p (omega arith))) rest)
 
 pub returns-clause-sound : goal.returns-clause-sound
 returns-clause-sound c =
     let bytes = c.args.bytes.now in
     let whole = row_fault (slot_fault wide) 36 c.args.n_keys bytes in
-    OnOk-map c.check_empty.result ((p : ℕ) → 36 * c.args.n_keys ≤ p → slice_index bytes p ≡ 0) (HasNoFault whole 9216)
-    (λ empty. none-past whole bytes (36 * c.args.n_keys) 9216 (λ p past inside. row-past (slot_fault wide) 36 c.args.n_keys bytes p (omega arith) past)
-    (λ p below. c.loop-slot.invariant.sound p (omega arith)) empty)
-    c.check_empty.ensures.none
+    OnOk-map c.check_zeros.result _ (HasNoFault whole 9216) c.check_zeros.ensures.none
+    (λ empty. none-past NotEmpty whole bytes (36 * c.args.n_keys) 9216 (λ p past inside. row-past (slot_fault wide) 36 c.args.n_keys bytes p (omega arith) past)
+    (λ p below. c.loop-slot.invariant.sound p (omega arith)) (λ p past. empty p (omega arith)))
 
 pub returns-clause-fault : goal.returns-clause-fault
 returns-clause-fault c =
     let bytes = c.args.bytes.now in
     let whole = row_fault (slot_fault wide) 36 c.args.n_keys bytes in
-    IfErr-map c.check_empty.result (IsFirstFilled bytes (36 * c.args.n_keys)) (λ f. IsFirstFault whole f × (f.offset < 9216))
+    IfErr-map c.check_zeros.result _ (λ f. IsFirstFault whole f × (f.offset < 9216)) c.check_zeros.ensures.first
     (λ f first. (
-      first-past whole bytes (36 * c.args.n_keys) 9216 f (λ p past inside. row-past (slot_fault wide) 36 c.args.n_keys bytes p (omega arith) past)
+      first-past NotEmpty whole bytes _ 9216 f (λ p past inside. row-past (slot_fault wide) 36 c.args.n_keys bytes p (omega arith) (omega arith))
           (λ p below. c.loop-slot.invariant.sound p (omega arith)) (omega arith) first,
       omega (arith, first.inside),
     ))
-    c.check_empty.ensures.first

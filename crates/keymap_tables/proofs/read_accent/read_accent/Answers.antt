@@ -71,4 +71,4 @@ returns-clause-image c =
     let pair : c.loop-pair.pair ≡ n = omega arith in
     accent-whole c.args.bytes.now c.loop-pair.accent n c.requires (c.loop-pair.invariant.count ∙ pair) c.loop-pair.invariant.own
     (c.loop-pair.invariant.bytes ∙ ap (λ (i : ℕ). take (8 * i) (drop 4 c.args.bytes.now)) pair)
-    (drop-zeros c.args.bytes.now (4 + 8 * n) c.in_ok-check_empty.ensures.none)
+    (drop-zeros c.args.bytes.now (4 + 8 * n) (λ p past. c.in_ok-check_zeros.ensures.none p (omega arith)))

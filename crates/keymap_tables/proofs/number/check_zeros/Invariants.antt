@@ -1,6 +1,6 @@
 use Rattle.std.proofs.Common.{◌≡◌, ℕ, ◌<◌, ◌≤◌}
 use Rattle.std.specs.Prelude.{slice_index}
-use Rattle.keymap_tables.proofs.number.check_empty.Given as goal
+use Rattle.keymap_tables.proofs.number.check_zeros.Given as goal
 
 -- The bytes passed are 0.
 abbrev pub invariant-loop-place : goal.invariant-loop-place

@@ -1,4 +1,4 @@
-use Rattle.std.proofs.Common.{arith, ◌≡◌, ◌+◌, ◌*◌, ◌∙◌, sym, refl, ap, subst, length, ℕ, take, drop}
+use Rattle.std.proofs.Common.{arith, ◌≡◌, ◌+◌, ◌*◌, ◌<◌, ◌∙◌, sym, refl, ap, subst, length, ℕ, take, drop}
 use Rattle.std.specs.Char.{IsScalar}
 use Rattle.std.proofs.lemmas.List.Elements.{All-nil, All-same, All-push}
 use Rattle.std.proofs.lemmas.List.{length_push}
@@ -10,7 +10,10 @@ use Rattle.keymap_core.specs.Bounds.{IsPair}
 use Rattle.keymap_tables.proofs.Cells.{number_bytes-at}
 use Rattle.keymap_tables.proofs.Outcomes.{err_passed, OnOk-at}
 use Rattle.keymap_tables.proofs.Pads.{drop-zeros}
-use Rattle.keymap_tables.proofs.Pairs.{accent-more, accent-first, pairs-more, accent-whole}
+use Rattle.keymap_tables.proofs.Lifting.{first-past}
+use Rattle.keymap_tables.specs.Faults.{accent_fault}
+use Rattle.keymap_tables.specs.declared.fault.TableFaultKind.TheVariants.{NotEmpty}
+use Rattle.keymap_tables.proofs.Pairs.{accent-past, accent-more, accent-first, pairs-more, accent-whole}
 use Rattle.keymap_tables.proofs.read_accent.read_accent.Goals as goal
 
 pub loop-pair-init : goal.loop-pair-init
@@ -41,6 +44,15 @@ returns-in_err-composed-clause-fault c =
     err_passed _ _ _ c.from_residual-in_err-composed.ensures.1 (
       accent-first c.args.bytes.now c.count_pairs-pairs.result (at + 4) _ c.count_pairs-pairs.ensures.value (omega arith) (omega arith) sound c.in_err-composed.ensures.fault.0 c.in_err-composed.ensures.fault.1,
       omega (arith, c.in_err-composed.ensures.fault.0, c.count_pairs-pairs.ensures.few),
+    )
+
+pub returns-in_err-check_zeros-clause-fault : goal.returns-in_err-check_zeros-clause-fault
+returns-in_err-check_zeros-clause-fault c =
+    let bytes = c.args.bytes.now in
+    err_passed _ _ _ c.from_residual-in_err-check_zeros.ensures.1 (
+      first-past NotEmpty (accent_fault wide bytes) bytes _ 420 _ (λ p past inside. accent-past bytes c.count_pairs-pairs.result p c.count_pairs-pairs.ensures.value (omega arith))
+          (λ p below. c.loop-pair.invariant.sound p (omega arith)) (omega arith) c.in_err-check_zeros.ensures.first,
+      omega (arith, c.in_err-check_zeros.ensures.first.inside),
     )
 
 pub loop-pair-preserved : goal.loop-pair-preserved

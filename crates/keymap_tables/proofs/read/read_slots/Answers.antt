@@ -1,7 +1,6 @@
 use Rattle.std.proofs.Common.{arith, ◌≡◌, ◌<◌, ◌+◌, ◌-◌, ◌*◌, ◌∙◌, ℕ, sym, ap, subst, take, drop, length}
 use Rattle.std.proofs.lemmas.List.Elements.{All-same, All-push}
 use Rattle.std.proofs.lemmas.List.{length_push}
-use Rattle.std.specs.Prelude.{slice_index, ◌≤◌}
 use Rattle.std.specs.List.{flat_map}
 use Rattle.keymap_core.specs.Maps.{MapValue, undefined}
 use Rattle.keymap_core.specs.Bounds.{IsEntry}

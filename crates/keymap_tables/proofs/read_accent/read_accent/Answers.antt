@@ -1,4 +1,4 @@
-use Rattle.std.proofs.Common.{arith, ◌≡◌, ◌+◌, ◌*◌, ◌<◌, ◌∙◌, sym, refl, ap, subst, length, ℕ, take, drop}
+use Rattle.std.proofs.Common.{arith, ◌≡◌, ◌+◌, ◌*◌, ◌∙◌, sym, refl, ap, subst, length, ℕ, take, drop}
 use Rattle.std.specs.Char.{IsScalar}
 use Rattle.std.proofs.lemmas.List.Elements.{All-nil, All-same, All-push}
 use Rattle.std.proofs.lemmas.List.{length_push}

@@ -1,4 +1,4 @@
-use Rattle.std.proofs.Common.{arith, ◌<◌, ◌∙◌}
+use Rattle.std.proofs.Common.{arith}
 use Rattle.keymap_tables.proofs.Cells.{slot-whole, slot-pad, slot-front, slot-bad_flag, small-flag}
 use Rattle.keymap_tables.proofs.Lifting.{none-past, first-past}
 use Rattle.keymap_tables.proofs.Outcomes.{err_passed}

@@ -1,11 +1,9 @@
 //! The two counts of a table file.
 ghost use Rattle.std.specs.Prelude.{◌≡◌, length};
-ghost use Rattle.arrayvec.specs.ArrayVec.{array_vec_len};
 ghost use Rattle.keymap_tables.specs.Image.{count_bytes};
 ghost use Rattle.keymap_tables.specs.Layouts.{wide};
 
 use crate::layout::COUNT;
-use arrayvec::ArrayVec;
 
 /// The bytes of a count, with its pads.
 pub(crate) fn count_image(count: u16) -> [u8; COUNT]

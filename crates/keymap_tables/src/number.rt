@@ -1,9 +1,9 @@
 //! Reading of the numbers of a table.
-ghost use Rattle.std.specs.Prelude.{◌≡◌, ℕ, ◌+◌, ◌-◌, ◌<◌, ◌≤◌, length, drop, slice_index, IfOk, IfErr, OnOk, None, Some, MatchResult, true};
+ghost use Rattle.std.specs.Prelude.{◌≡◌, ℕ, ◌+◌, ◌-◌, ◌<◌, ◌≤◌, length, slice_index, IfOk, IfErr, OnOk, None, Some, MatchResult};
 ghost use Rattle.std.specs.Char.{IsScalar};
 ghost use Rattle.keymap_core.specs.Bounds.{IsCell};
 ghost use Rattle.keymap_tables.specs.Faults.{number_at, count_at, char_fault, action_fault, cell_fault, count_fault, IsFirstFault, IsFirstFilled, HasNoFault};
-ghost use Rattle.keymap_tables.specs.Image.{number_of, is_act, count_bytes, zeros};
+ghost use Rattle.keymap_tables.specs.Image.{number_of, is_act, count_bytes};
 ghost use Rattle.keymap_tables.specs.Layouts.{wide};
 
 use crate::fault::{TableFault, TableFaultKind};

@@ -1,5 +1,5 @@
 //! Reading of tables.
-ghost use Rattle.std.specs.Prelude.{◌≡◌, ℕ, ◌+◌, ◌-◌, ◌*◌, ◌<◌, ◌≤◌, [], length, All, IfErr, OnOk};
+ghost use Rattle.std.specs.Prelude.{◌≡◌, ◌+◌, ◌-◌, ◌*◌, ◌<◌, ◌≤◌, [], length, All, IfErr, OnOk};
 ghost use Rattle.keymap_core.specs.Bounds.{IsEntry, IsAccent, IsMap};
 ghost use Rattle.keymap_tables.specs.Faults.{row_fault, slot_fault, accent_fault, content_fault, IsFirstFault, IsTableFault, HasNoFault};
 ghost use Rattle.keymap_tables.specs.Image.{image, slots_bytes, accents_bytes};

@@ -1,6 +1,6 @@
 //! The image of a slot: eight cells, the marks, the lock flag and two pads.
 ghost use Rattle.std.specs.Prelude.{◌≡◌, ◌+◌, ◌*◌, ◌<◌, ◌≤◌, ◌++◌, length, if◌then◌else◌};
-ghost use Rattle.std.specs.Int.{to_le_bytes, w32};
+ghost use Rattle.std.specs.Int.{to_le_bytes};
 ghost use Rattle.arrayvec.specs.ArrayVec.{array_vec_len};
 ghost use Rattle.keymap_core.specs.Bounds.{IsCell, IsEntry};
 ghost use Rattle.keymap_tables.specs.Image.{slot_bytes, number_of, number_bytes, flag_number, is_act};

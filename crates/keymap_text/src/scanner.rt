@@ -1,5 +1,5 @@
 //! Reading a text byte by byte.
-ghost use Rattle.std.specs.Prelude.{◌≡◌, ℕ, ◌+◌, ◌<◌, ◌≤◌, ◌^◌, ◌∷◌, ◌++◌, [], List, length, OnOk, IfErr, Ok, Err, drop, slice_index, cond, ◌==◌};
+ghost use Rattle.std.specs.Prelude.{◌≡◌, ℕ, ◌+◌, ◌<◌, ◌≤◌, ◌^◌, ◌∷◌, ◌++◌, [], List, length, OnOk, IfErr, Ok, Err, drop, cond, ◌==◌};
 ghost use Rattle.keymap_text.specs.Lexical.{literal};
 ghost use Rattle.keymap_text.specs.Reading.{verdict, ended, line};
 ghost use Rattle.keymap_text.specs.Words.{item, meaning};
@@ -10,7 +10,7 @@ ghost use Rattle.keymap_text.specs.Grammar as spec;
 use crate::fault::{TextFault, TextFaultKind};
 use crate::grammar::{Grammar, Place};
 use crate::token::{Front, TokenKind, is_blank_byte, is_word_byte, literal_front};
-use crate::words::{Item, Meaning, item_of};
+use crate::words::{Item, item_of};
 use arrayvec::ArrayVec;
 use keymap_core::KeyMap;
 

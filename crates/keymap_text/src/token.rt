@@ -1,5 +1,5 @@
 //! Tokens of a text.
-ghost use Rattle.std.specs.Prelude.{◌≡◌, ℕ, ◌+◌, ◌<◌, ◌≤◌, ◌==◌, Bool, false, List, ◌∷◌, length, take, drop, slice_index, cond, IsFalse, IfOk, IfSome, IfErr};
+ghost use Rattle.std.specs.Prelude.{◌≡◌, ◌+◌, ◌<◌, ◌≤◌, ◌==◌, length, drop, slice_index, cond, IsFalse, IfOk, IfSome, IfErr};
 ghost use Rattle.keymap_text.specs.Lexical as lexical;
 ghost use Rattle.keymap_text.specs.Lexical.{is_blank, is_word, stays_on_line, separates, leading, is_lone, literal, word, front, split, first};
 ghost use Rattle.keymap_text.specs.Reading.{line};

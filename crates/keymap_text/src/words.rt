@@ -1,5 +1,5 @@
 //! What words mean.
-ghost use Rattle.std.specs.Prelude.{◌≡◌, ◌+◌, ◌≤◌, ◌<◌, length, drop, Some, None};
+ghost use Rattle.std.specs.Prelude.{◌≡◌, ◌+◌, ◌≤◌, ◌<◌, length, Some, None};
 ghost use Rattle.std.specs.Char as char_spec;
 ghost use Rattle.keymap_text.specs.Words.{meaning, item, look, same_name, digits_of, number_after, of_action};
 

@@ -166,7 +166,7 @@ const LETTER_AND_SHIFT: [(u8, Entry); 2] = [
 ];
 
 fn letter_and_shift(alloc: Global) -> Result<KeyMap, AllocError> {
-    let mut map = empty_map(alloc)?;
+    let mut map = KeyMap::new(alloc)?;
     for line in &LETTER_AND_SHIFT {
         map.set(line.0, line.1);
     }
@@ -206,7 +206,8 @@ fn a_map_of_a_letter_and_a_shift_has_its_bytes(rt: HostRuntime) -> Result<(), Fa
     Ok(())
 }
 
-/// Where one growth is refused, the answer is want of memory, and the map comes from the call after it.
+/// Where one growth is refused, as `rt try --test --fail-alloc N` does, the call answers want of memory, and the one
+/// after it the map.
 #[test]
 fn the_empty_map_is_zeros(rt: HostRuntime) -> Result<(), Fail> {
     let empty = empty_map(rt.alloc())?;
@@ -234,7 +235,7 @@ fn accents_are_read_again(rt: HostRuntime) -> Result<(), Fail> {
         0xb4, 0, 0, 0, 0x65, 0, 0, 0, 0xe9, 0, 0, 0, 0x45, 0, 0, 0, 0xc9, 0, 0, 0, 0,
     ];
     assert_eq!(rt; bytes.get(9644..9665), Some(pairs.as_slice()));
-    assert!(rt; read_again(rt.alloc(), bytes)? == map);
+    assert!(rt; read_tables(rt.alloc(), bytes)? == map);
     Ok(())
 }
 
@@ -289,14 +290,15 @@ fn each_fault_is_at_its_offset(rt: HostRuntime) -> Result<(), Fail> {
             }
         }
         let wanted = fault(offset, kind);
-        assert_eq!(rt; fault_of(read_again(rt.alloc(), &bytes)), wanted);
-        assert_eq!(rt; fault_of(read_device_again(rt.alloc(), &bytes)), wanted);
+        assert_eq!(rt; fault_of(read_tables(rt.alloc(), &bytes)), wanted);
+        let mut reader = FromStd::new(bytes.as_slice());
+        assert_eq!(rt; fault_of(read_tables_from(rt.alloc(), &mut reader)), wanted);
     }
     Ok(())
 }
 
-/// `read_tables` answers a wrong length even where the next growth would be refused: it is asked once. Of a device it
-/// is answered once the bytes are there.
+/// Where one growth is refused, `read_tables` answers a wrong length all the same: it is called once. The bytes of a
+/// reader want memory themselves.
 #[test]
 fn a_wrong_length_is_refused(rt: HostRuntime) -> Result<(), Fail> {
     let short = zero_bytes(rt.alloc(), LENGTH - 1)?;
@@ -310,33 +312,27 @@ fn a_wrong_length_is_refused(rt: HostRuntime) -> Result<(), Fail> {
     Ok(())
 }
 
-/// Zeros, read again from a new reader where memory is wanted.
-fn read_zeros(alloc: Global, most: u64) -> (Zeros, Result<KeyMap, TableError>) {
-    let mut reader = zeros_of(most);
-    let mut answer = read_tables_from(alloc, &mut reader);
-    if let Err(TableError::Memory) = answer {
-        reader = zeros_of(most);
-        answer = read_tables_from(alloc, &mut reader);
-    }
-    (reader, answer)
-}
-
 #[test]
 fn a_reader_without_end_is_left(rt: HostRuntime) {
-    let (reader, answer) = read_zeros(rt.alloc(), u64::MAX);
-    assert_eq!(rt; fault_of(answer), fault(15524, TableFaultKind::Long));
+    let mut reader = zeros_of(u64::MAX);
+    let result = read_tables_from(rt.alloc(), &mut reader);
+    assert_eq!(rt; fault_of(result), fault(15524, TableFaultKind::Long));
     assert!(rt; reader.reads <= 15526 && !reader.failed());
 }
 
 #[test]
 fn a_failing_reader_is_a_fault(rt: HostRuntime) {
     for most in [0, 1, 511, 512, 513, 15523, 15524] {
-        let (reader, answer) = read_zeros(rt.alloc(), most);
+        let mut reader = zeros_of(most);
         let wanted = TableError::Read(ReadFault {
             offset: most,
             kind: ReadFaultKind::Device,
         });
-        assert_eq!(rt; answer.err(), Some(wanted), "after {most} bytes");
+        assert_eq!(rt;
+            read_tables_from(rt.alloc(), &mut reader).err(),
+            Some(wanted),
+            "after {most} bytes"
+        );
         assert!(rt; reader.failed());
     }
 }
@@ -373,7 +369,7 @@ fn each_proper_prefix_is_short(rt: HostRuntime) -> Result<(), Fail> {
 
 /// A fault, or a map whose image the bytes are.
 fn is_read_exactly(alloc: Global, bytes: &[u8]) -> bool {
-    match read_again(alloc, bytes) {
+    match read_tables(alloc, bytes) {
         Err(TableError::Fault(_)) => true,
         Err(_) => false,
         Ok(map) => {

@@ -17,7 +17,7 @@ use Rattle.keymap_core.specs.Bearers.{IsCellOf, Bears, IsAlone}
 use Rattle.console_core.specs.declared.event.Event.{Event}
 use Rattle.console_core.specs.declared.event.Event.TheVariants.{Press, Release, Reset, Load}
 use Rattle.console_core.proofs.OneMore.{resolved-start, resolved-more, held-start, held-character, held-action, held-release, held-reset, remembered-start, remembered-character, remembered-action, remembered-release, remembered-reset, pressed-press, pressed-release, held-load, remembered-load}
-use Rattle.console_core.proofs.SameActions.{same_action-true, same_action-refl}
+use Rattle.keymap_core.proofs.SameActions.{same_action-true, same_action-refl}
 use Rattle.console_core.proofs.Borne.{AllLooked, taken-holding}
 
 pub none_some : (a : Action) → None ≡ Some a → ⊥

@@ -24,8 +24,8 @@ use Rattle.console_core.specs.declared.event.Event.{Event}
 use Rattle.console_core.specs.declared.event.Event.TheVariants.{Press, Release, Reset, Load}
 use Rattle.console_core.proofs.OneMore.{resolved-start, resolved-more, held-start, held-character, held-action, held-release, held-reset, locked-start, locked-character, locked-action, locked-release, locked-reset, held-load, locked-load}
 use Rattle.keymap_core.specs.Borne.{is_borne}
-use Rattle.console_core.proofs.BorneTests.{borne-upper, bears-borne}
-use Rattle.console_core.proofs.SameActions.{same_action-true}
+use Rattle.keymap_core.proofs.BorneTests.{borne-upper, bears-borne}
+use Rattle.keymap_core.proofs.SameActions.{same_action-true}
 
 -- the resolved event's key is a key, and its look is a cell of the key
 abbrev pub Looked : MapValue → ResolvedEvent → Type 0

@@ -23,7 +23,7 @@ use Rattle.console_core.specs.Reading.{Remembered, Raises, Lowers, NoneOf, SomeS
 use Rattle.console_core.specs.Safety.{IsSafe}
 use Rattle.console_core.specs.Facts.{LooksAreCells, DeadUpperHalfIsNotLookedAt, lets_go, HoldingIsRemembered, IsRaisedByPressed, OnByPressedKey}
 use Rattle.console_core.proofs.OneMore.{resolved-more, remembered-character, remembered-action, remembered-release}
-use Rattle.console_core.proofs.SameActions.{same_action-refl}
+use Rattle.keymap_core.proofs.SameActions.{same_action-refl}
 use Rattle.console_core.proofs.Borne.{AllLooked, taken-holding, held-upper, locked-upper, look-cell, resolved-looked}
 use Rattle.console_core.proofs.Bearing.{remembered-cell, remembered-pressed, first_kept}
 use Rattle.console_core.proofs.Readings.{held-positions}

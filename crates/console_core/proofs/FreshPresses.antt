@@ -14,7 +14,7 @@ use Rattle.keymap_core.specs.Actions.{same_action}
 use Rattle.keymap_core.specs.Maps.{MapValue, cell_at}
 use Rattle.keymap_core.specs.declared.action.Holding.{Holding}
 use Rattle.keymap_core.specs.Borne.{is_borne}
-use Rattle.console_core.proofs.BorneTests.{bears-borne}
+use Rattle.keymap_core.proofs.BorneTests.{bears-borne}
 use Rattle.console_core.specs.Positions.{count_where, is_odd}
 use Rattle.console_core.specs.Resolved.{unlocks, ResolvedEvent, held, locked, remembered, taken_over, look, resolve_press, turns}
 use Rattle.console_core.specs.History.{Maps, in_force, loaded, is_second_in_force, resolved_event, resolved, pressed, HasKey, HasKeys, IsNoLoad, HasNoLoads}
@@ -23,10 +23,11 @@ use Rattle.console_core.specs.Headline.{is_fresh_press, LockedByFreshPresses}
 use Rattle.console_core.specs.declared.event.Event.{Event}
 use Rattle.console_core.specs.declared.event.Event.TheVariants.{Press, Release, Reset, Load}
 use Rattle.console_core.proofs.OneMore.{resolved-start, resolved-more, locked-start, locked-more}
-use Rattle.console_core.proofs.SameActions.{same_action-refl}
+use Rattle.keymap_core.proofs.SameActions.{same_action-refl}
 use Rattle.console_core.proofs.Borne.{AllLooked, taken-holding, look-cell, resolved-looked}
 use Rattle.console_core.proofs.Bearing.{remembered-cell}
-use Rattle.console_core.proofs.Headline.{throughout_held, act_act, press-unlocks}
+use Rattle.console_core.proofs.Headline.{throughout_held, act_act}
+use Rattle.console_core.proofs.OneMore.{press-unlocks}
 
 same_false : (x : Bool) → (x ≡ true → ⊥) → x ≡ false
 same_false true f = absurd (f refl)

@@ -27,7 +27,9 @@ use Rattle.console_core.specs.Headline.{AreRepeats, OnOnlyWhilePressed, OnExactl
 use Rattle.console_core.specs.declared.event.Event.{Event}
 use Rattle.console_core.specs.declared.event.Event.TheVariants.{Press, Release, Reset, Load}
 use Rattle.console_core.proofs.OneMore.{resolved-more, locked-more, held-character, held-action, held-release, held-reset, locked-character, locked-action, locked-release, locked-reset, remembered-character, remembered-action, remembered-release, remembered-reset, pending-character, pending-action, pending-release, pending-reset, pressed-start, pressed-press, pressed-release, pressed-reset, pressed-load, held-load, locked-load, remembered-load, pending-load}
-use Rattle.console_core.proofs.SameActions.{same_action-true}
+use Rattle.console_core.proofs.OneMore.{press-unlocks}
+use Rattle.console_core.proofs.Readings.{turns-event}
+use Rattle.keymap_core.proofs.SameActions.{same_action-true}
 use Rattle.console_core.proofs.Borne.{AllLooked, taken-holding, look-cell, resolved-looked}
 use Rattle.console_core.proofs.Bearing.{remembered-cell, remembered-pressed, held-remembered, remembered-held, none_some, RememberedBySome}
 use Rattle.console_core.proofs.Deliveries.{reverse-cons}
@@ -132,15 +134,10 @@ repeat-turns ms h l k (Act b) steady keys p is =
     let f : remembered k (resolved ms h) ≡ Some (act.Lock l) = s.1 ∙ ap (λ o. first_of_two o (unless_nop b)) (sym s.1) ∙ t1.1 in
     remembered-held (in_force ms h) (holding.Lock l) k (λ j lt bears. steady.3 j lt bears ∙ sym e) (resolved ms h) (resolved-looked ms h (All-tail HasKey (Press k) h keys)) f)
 
--- a press turns no lock off as a load does
-pub press-unlocks : (l : Lock) (k : ℕ) (x : Cell) (r : List ResolvedEvent) → unlocks l (resolve_press k x) r ≡ false
-press-unlocks l k (Char c) r = refl
-press-unlocks l k (Act a) r = refl
-
 pub repeats_turn_no_steady_lock : RepeatsTurnNoSteadyLock
 repeats_turn_no_steady_lock ms h l steady k keys p =
     let still : turns l (resolve_press k (look (in_force ms h) (resolved ms h) k)) (resolved ms h) ≡ false = repeat-turns ms h l k (look (in_force ms h) (resolved ms h) k) steady keys p (look-cell (in_force ms h) (resolved ms h) k (resolved-looked ms h (All-tail HasKey (Press k) h keys))) in
-    (still, ap (λ r. locked l r) (resolved-more ms h (Press k)) ∙ locked-more l _ (resolved ms h) ∙ ap (λ b. if b then false else (if turns l (resolve_press k (look (in_force ms h) (resolved ms h) k)) (resolved ms h) then not (locked l (resolved ms h)) else locked l (resolved ms h))) (press-unlocks l k (look (in_force ms h) (resolved ms h) k) (resolved ms h)) ∙ ap (λ t. if t then not (locked l (resolved ms h)) else locked l (resolved ms h)) still)
+    (sym (turns-event ms l (Press k) h) ∙ still, ap (λ r. locked l r) (resolved-more ms h (Press k)) ∙ locked-more l _ (resolved ms h) ∙ ap (λ b. if b then false else (if turns l (resolve_press k (look (in_force ms h) (resolved ms h) k)) (resolved ms h) then not (locked l (resolved ms h)) else locked l (resolved ms h))) (press-unlocks l k (look (in_force ms h) (resolved ms h) k) (resolved ms h)) ∙ ap (λ t. if t then not (locked l (resolved ms h)) else locked l (resolved ms h)) still)
 
 not_true : (x : Bool) → (x ≡ true → ⊥) → x ≡ false
 not_true true f = absurd (f refl)

@@ -1,7 +1,6 @@
 pub mod Agreeing
 pub mod Bearing
 pub mod Borne
-pub mod BorneTests
 pub mod Codes
 pub mod Deliveries
 pub mod Facts
@@ -14,7 +13,6 @@ pub mod PlainLooks
 pub mod Prefixes
 pub mod Readings
 pub mod Runs
-pub mod SameActions
 pub mod Since
 pub mod Traps
 pub mod WordBits

@@ -13,16 +13,13 @@ use Rattle.console_core.specs.Resolved.{ResolvedEvent, resolve, locked, pending,
 use Rattle.console_core.specs.History.{Maps, between, in_force, loaded, is_second_in_force, resolved, resolved_event, AnswerTo, AnswersTo, HasKey, HasKeys, IsNoLoad, HasNoLoads}
 use Rattle.console_core.specs.Resolved.ResolvedEvent.{WasReset, WasLoaded}
 use Rattle.console_core.specs.Reading.{Turns, Unlocks}
-use Rattle.console_core.specs.Loads.{WithoutLoads, as_reset, loads_as_resets, LoadsOfOneMapAreResets, BorneByTest}
+use Rattle.console_core.specs.Loads.{WithoutLoads, as_reset, loads_as_resets, LoadsOfOneMapAreResets}
 use Rattle.console_core.proofs.OneMore.{resolved-start, resolved-more, held-reset, held-load, locked-reset, locked-load, remembered-reset, remembered-load, pending-reset, pending-load}
 use Rattle.console_core.proofs.Borne.{AllLooked, locked-borne, resolved-looked}
-use Rattle.console_core.proofs.BorneTests.{borne-bears, bears-borne}
+use Rattle.keymap_core.proofs.BorneTests.{borne-bears, bears-borne}
 use Rattle.console_core.proofs.FreshPresses.{no_loads-first}
 use Rattle.console_core.proofs.Headline.{Same, same-resolve, same-step, same-answer_resolved, resolve-key}
 use Rattle.console_core.proofs.Readings.{locked-count}
-
-pub borne_by_test : BorneByTest
-borne_by_test m a = ((λ e. borne-bears m a e), (λ s. bears-borne m a s.0 s.1 s.2))
 
 -- without loads
 pub first_in_force : (ms : Maps) (h : List Event) → HasNoLoads h → in_force ms h ≡ ms.first

@@ -7,13 +7,15 @@ use Rattle.keymap_core.specs.declared.action.Action.{Action}
 use Rattle.keymap_core.specs.declared.action.Lock.{Lock}
 use Rattle.keymap_core.specs.declared.action.Holding.{Holding}
 use Rattle.keymap_core.specs.declared.action.Holding.TheVariants as holding
+use Rattle.keymap_core.specs.declared.entry.Cell.{Cell}
+use Rattle.keymap_core.specs.declared.entry.Cell.TheVariants.{Char, Act}
 use Rattle.keymap_core.specs.Actions.{same_action, holding_action}
 use Rattle.keymap_core.specs.Maps.{MapValue}
 use Rattle.console_core.specs.declared.event.Event.{Event}
 use Rattle.console_core.specs.declared.event.Event.TheVariants.{Press, Release, Reset, Load}
 use Rattle.keymap_core.specs.Borne.{is_borne}
 use Rattle.console_core.specs.Positions.{is_odd, first_of_two, last_where}
-use Rattle.console_core.specs.Resolved.{unlocks, ResolvedEvent, remembered, held, locked, turns, taken, taken_over, unless_nop, is_action, pending, pending_after, dead_keys, keeps_taken, usable_dead_key, run_length}
+use Rattle.console_core.specs.Resolved.{unlocks, resolve_press, ResolvedEvent, remembered, held, locked, turns, taken, taken_over, unless_nop, is_action, pending, pending_after, dead_keys, keeps_taken, usable_dead_key, run_length}
 use Rattle.console_core.specs.History.{Maps, resolved_event, pressed, resolved, is_press, concerns}
 use Rattle.console_core.specs.Agrees.{toggled, next_pending}
 use Rattle.std.proofs.lemmas.Bool.{eqb-true, eq-eqb}
@@ -215,3 +217,8 @@ locked_more false t n = locked_step t n
 pub locked-more : (l : Lock) (x : ResolvedEvent) (h : List ResolvedEvent) → locked l (x ∷ h) ≡ (if unlocks l x h then false else (if turns l x h then not (locked l h) else locked l h))
 unfolding locked
 locked-more l x h = locked_more (unlocks l x h) (turns l x h) _
+
+-- a press turns no lock off as a load does
+pub press-unlocks : (l : Lock) (k : ℕ) (x : Cell) (r : List ResolvedEvent) → unlocks l (resolve_press k x) r ≡ false
+press-unlocks l k (Char c) r = refl
+press-unlocks l k (Act a) r = refl

@@ -10,7 +10,7 @@ use Rattle.keymap_core.specs.declared.action.Holding.TheVariants as holding
 use Rattle.keymap_core.specs.declared.entry.Cell.TheVariants.{Act}
 use Rattle.keymap_core.specs.Actions.{holding_action}
 use Rattle.keymap_core.specs.Maps.{MapValue, cell_at}
-use Rattle.keymap_core.specs.Bearers.{Bears, IsCellOf, BearsThroughout}
+use Rattle.keymap_core.specs.Bearers.{Bears, IsCellOf, BearsThroughout, NobodyBears}
 use Rattle.keymap_core.specs.Borne.{any_below, has_in_slot, is_upper_live}
 use Rattle.console_core.specs.declared.event.Event.{Event}
 use Rattle.console_core.specs.Positions.{count_where, is_odd}
@@ -18,8 +18,8 @@ use Rattle.console_core.specs.Columns.{look_with}
 use Rattle.console_core.specs.Resolved.{ResolvedEvent, held, locked, look}
 use Rattle.console_core.specs.History.{Maps, in_force, resolved, pressed, On, Locked, HasKeys, HasNoLoads}
 use Rattle.console_core.specs.Headline.{is_fresh_press}
-use Rattle.console_core.specs.Plain.{NobodyBears, IsPlainFor, IsPlain, bears, plain_on, plain_locked, PlainLook, LooksPlainly}
-use Rattle.console_core.proofs.BorneTests.{any-some, some-any, slot-stands, stands-slot, live-upper, upper-is_live, borne-bears, or-left, or-right}
+use Rattle.console_core.specs.Plain.{IsPlainFor, IsPlain, bears, plain_on, plain_locked, PlainLook, LooksPlainly, PlainOnByKeys, PlainLockedByKeys}
+use Rattle.keymap_core.proofs.BorneTests.{any-some, some-any, slot-stands, stands-slot, live-upper, upper-is_live, borne-bears, or-left, or-right}
 use Rattle.console_core.proofs.Borne.{AllLooked, locked-borne, resolved-looked}
 use Rattle.console_core.proofs.Bearing.{RememberedBySome, held-remembered, remembered-cell}
 use Rattle.console_core.proofs.Headline.{throughout_held, same_by}
@@ -59,6 +59,30 @@ one_bearer m a k fact s =
     let p : (bears m a t.0 ≡ true) × (fact t.0 ≡ true) = and_parts _ _ t.2 in
     subst (λ j. fact j ≡ true) (s.1 t.0 t.1 (bears-is m a t.0 p.0)) p.1)
     (λ e. any-some (λ j. bears m a j && fact j) k 128 s.0 (rw (is-bears m a k (throughout-bears m k a s), e) refl))
+
+-- some key that bears the action has a fact
+bearer-some : (m : MapValue) (a : Holding) (fact : ℕ → Bool) → any_below (λ j. bears m a j && fact j) 128 ≡ true
+    → (k : ℕ) × (k < 128) × Bears m k a × (fact k ≡ true)
+bearer-some m a fact e =
+    let t : (j : ℕ) × (j < 128) × ((bears m a j && fact j) ≡ true) = some-any (λ j. bears m a j && fact j) 128 e in
+    let p : (bears m a t.0 ≡ true) × (fact t.0 ≡ true) = and_parts _ _ t.2 in
+    (t.0, t.1, bears-is m a t.0 p.0, p.1)
+
+some-bearer : (m : MapValue) (a : Holding) (fact : ℕ → Bool) (k : ℕ) → k < 128 → Bears m k a → fact k ≡ true
+    → any_below (λ j. bears m a j && fact j) 128 ≡ true
+some-bearer m a fact k lt b e = any-some (λ j. bears m a j && fact j) k 128 lt (rw (is-bears m a k b, e) refl)
+
+pub plain_on_by_keys : PlainOnByKeys
+unfolding plain_on
+plain_on_by_keys m h i =
+    (bearer-some m (holding.Mod i) (λ k. pressed k h), λ s. some-bearer m (holding.Mod i) (λ k. pressed k h) s.0 s.1 s.2 s.3)
+
+pub plain_locked_by_keys : PlainLockedByKeys
+unfolding plain_locked
+plain_locked_by_keys m h l = (
+  bearer-some m (holding.Lock l) (λ k. is_odd (count_where (is_fresh_press k) h)),
+  λ s. some-bearer m (holding.Lock l) (λ k. is_odd (count_where (is_fresh_press k) h)) s.0 s.1 s.2 s.3,
+)
 
 no_bearer : (m : MapValue) (a : Holding) (fact : ℕ → Bool) → NobodyBears m a → any_below (λ j. bears m a j && fact j) 128 ≡ false
 no_bearer m a fact nobody =

@@ -11,7 +11,7 @@ use Rattle.console_core.specs.declared.event.Event.TheVariants.{Press, Release, 
 use Rattle.console_core.specs.Positions.{holds_since, count_since, is_odd}
 use Rattle.console_core.specs.Resolved.{unlocks, look, resolve_press, held, locked, raises, lowers, turns}
 use Rattle.console_core.specs.History.{Maps, in_force, resolved_event, resolved}
-use Rattle.console_core.proofs.Headline.{press-unlocks}
+use Rattle.console_core.proofs.OneMore.{press-unlocks}
 use Rattle.console_core.specs.Reading.{Unlocks, Raises, Lowers, Turns, Held, NoneOf, SomeSince, HeldByPositions, LockedByCount}
 
 raises_press : (ms : Maps) (a : Holding) (k : ℕ) (h : List Event) (x : Cell) → look (in_force ms h) (resolved ms h) k ≡ x → raises a (resolve_press k (look (in_force ms h) (resolved ms h) k)) (resolved ms h) ≡ Raises ms a (Press k) h
@@ -39,7 +39,7 @@ unfolding held resolved
 held-events ms a [] = refl
 held-events ms a (e ∷ h) = rw (raises-event ms a e h, lowers-event ms a e h, held-events ms a h) refl
 
-turns-event : (ms : Maps) (l : Lock) (e : Event) (h : List Event) → turns l (resolved_event ms h e) (resolved ms h) ≡ Turns ms l e h
+pub turns-event : (ms : Maps) (l : Lock) (e : Event) (h : List Event) → turns l (resolved_event ms h e) (resolved ms h) ≡ Turns ms l e h
 turns-event ms l e h = ap (λ t. t && not (Held ms (holding.Lock l) h)) (raises-event ms (holding.Lock l) e h)
 
 unlocks-event : (ms : Maps) (l : Lock) (e : Event) (h : List Event) → unlocks l (resolved_event ms h e) (resolved ms h) ≡ Unlocks ms l e h

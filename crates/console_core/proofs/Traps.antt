@@ -22,7 +22,7 @@ use Rattle.console_core.specs.Resolved.{ResolvedEvent, held, locked, on, remembe
 use Rattle.console_core.specs.History.{Maps, in_force, resolved, HasKey, HasKeys}
 use Rattle.console_core.specs.Traps.{Bits, cell_with, group_bit, HasNoLocks, HasNoTrap, OnOnlyWhilePressedWithoutTraps}
 use Rattle.console_core.proofs.OneMore.{resolved-start, resolved-more, held-start, held-character, held-action, held-release, held-reset, held-load, remembered-character, remembered-action, remembered-release}
-use Rattle.console_core.proofs.SameActions.{same_action-refl}
+use Rattle.keymap_core.proofs.SameActions.{same_action-refl}
 use Rattle.console_core.proofs.Borne.{AllLooked, taken-holding, held-upper, resolved-looked}
 use Rattle.console_core.proofs.Bearing.{RememberedBySome, remembered-cell, remembered-pressed, first_kept}
 use Rattle.console_core.proofs.PlainLooks.{never-locked}

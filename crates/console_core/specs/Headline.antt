@@ -9,8 +9,8 @@ use Rattle.keymap_core.specs.Bearers.{Bears, BearsThroughout}
 use Rattle.console_core.specs.declared.event.Event.{Event}
 use Rattle.console_core.specs.declared.event.Event.TheVariants.{Press, Reset}
 use Rattle.console_core.specs.Positions.{count_where, is_odd}
-use Rattle.console_core.specs.Resolved.{turns}
-use Rattle.console_core.specs.History.{Maps, in_force, On, Locked, Pending, AnswersTo, pressed, resolved_event, resolved, HasKeys, HasNoLoads, IsQuiet}
+use Rattle.console_core.specs.Reading.{Turns}
+use Rattle.console_core.specs.History.{Maps, in_force, On, Locked, Pending, AnswersTo, pressed, HasKeys, HasNoLoads, IsQuiet}
 use Rattle.console_core.specs.Safety.{IsSafe, IsSteady}
 
 -- A modifier is on only while a key that bears it is pressed, where `is_on` are the modifiers after h.
@@ -33,13 +33,20 @@ OnExactlyWhilePressed = (ms : Maps) (h : List Event) → HasKeys h → IsOnExact
 abbrev pub RepeatsTurnNoSteadyLock : Type 0
 RepeatsTurnNoSteadyLock =
     (ms : Maps) (h : List Event) → (l : Lock) → IsSteady (in_force ms h) l → (k : ℕ) → HasKeys (Press k ∷ h) → pressed k h ≡ true
-    → (turns l (resolved_event ms h (Press k)) (resolved ms h) ≡ false) × (Locked ms l (Press k ∷ h) ≡ Locked ms l h)
+    → (Turns ms l (Press k) h ≡ false) × (Locked ms l (Press k ∷ h) ≡ Locked ms l h)
 
 -- the events, in the order of their delivery, are all repeats after h
 abbrev pub AreRepeats : List Event → List Event → Type 0
 AreRepeats h [] = Unit {0}
 AreRepeats h (Press k ∷ later) = (pressed k h ≡ true) × AreRepeats (Press k ∷ h) later
 AreRepeats h (e ∷ later) = ⊥
+
+-- The repeats that the events end in leave a steady lock as it was before them, where `is_locked` are the locks after h and
+-- then the events.
+abbrev pub LastRepeatsTurnNoSteadyLock : Maps → List Event → List Event → (Lock → Bool) → Type 0
+LastRepeatsTurnNoSteadyLock ms h events is_locked =
+    (earlier : List Event) (repeats : List Event) → events ≡ earlier ++ repeats → AreRepeats (reverse earlier ++ h) repeats
+    → (l : Lock) → IsSteady (in_force ms (reverse earlier ++ h)) l → is_locked l ≡ Locked ms l (reverse earlier ++ h)
 
 -- Once no key is pressed, no modifier is on.
 abbrev pub IsOffOnceQuiet : List Event → (Modifier → Bool) → Type 0

@@ -1,15 +1,12 @@
 -- How a history reads where loads change nothing: without loads, and where both maps are the same.
-use Rattle.std.specs.Prelude.{◌≡◌, ℕ, ◌<◌, List, [], ◌∷◌, ◌↔◌, true}
+use Rattle.std.specs.Prelude.{◌≡◌, List, [], ◌∷◌}
 use Rattle.keymap_core.specs.declared.action.Modifier.{Modifier}
 use Rattle.keymap_core.specs.declared.action.Lock.{Lock}
-use Rattle.keymap_core.specs.declared.action.Holding.{Holding}
 use Rattle.keymap_core.specs.Maps.{MapValue}
 use Rattle.console_core.specs.declared.event.Event.{Event}
 use Rattle.console_core.specs.declared.event.Event.TheVariants.{Press, Release, Reset, Load}
 use Rattle.console_core.specs.Positions.{count_where, is_odd}
-use Rattle.keymap_core.specs.Borne.{is_borne}
 use Rattle.console_core.specs.History.{Maps, between, in_force, resolved, On, Locked, Pending, AnswersTo, HasKeys, HasNoLoads}
-use Rattle.keymap_core.specs.Bearers.{Bears}
 use Rattle.console_core.specs.Reading.{Turns}
 
 -- a list without loads reads as under the first map alone, and a lock is on after an odd number of turns
@@ -39,7 +36,3 @@ LoadsOfOneMapAreResets =
     × (Pending (between m m) h ≡ Pending (between m m) (loads_as_resets h))
     × ((later : List Event) → HasKeys later
     → AnswersTo (between m m) h later ≡ AnswersTo (between m m) (loads_as_resets h) (loads_as_resets later))
-
--- the test whether some key bears a holding action, in words
-abbrev pub BorneByTest : Type 0
-BorneByTest = (m : MapValue) (a : Holding) → (is_borne m a ≡ true) ↔ ((k : ℕ) × (k < 128) × Bears m k a)

@@ -1,6 +1,6 @@
 -- Maps in which each modifier and lock that picks a cell is borne throughout by one key alone, or by nobody: there a look
 -- follows from which keys are pressed, and from the fresh presses of the locks' keys.
-use Rattle.std.specs.Prelude.{◌≡◌, ℕ, ◌+◌, ◌<◌, ◌⊎◌, Bool, ◌&&◌, ◌||◌, List}
+use Rattle.std.specs.Prelude.{◌≡◌, ℕ, ◌+◌, ◌<◌, ◌⊎◌, ◌↔◌, true, Bool, ◌&&◌, ◌||◌, List}
 use Rattle.keymap_core.specs.declared.action.Modifier.{Modifier}
 use Rattle.keymap_core.specs.declared.action.Modifier.TheVariants as modifier
 use Rattle.keymap_core.specs.declared.action.Lock.{Lock}
@@ -10,7 +10,7 @@ use Rattle.keymap_core.specs.declared.action.Holding.TheVariants as holding
 use Rattle.keymap_core.specs.declared.entry.Cell.{Cell}
 use Rattle.keymap_core.specs.Actions.{holding_action}
 use Rattle.keymap_core.specs.Maps.{MapValue}
-use Rattle.keymap_core.specs.Bearers.{Bears, BearsThroughout}
+use Rattle.keymap_core.specs.Bearers.{Bears, BearsThroughout, NobodyBears}
 use Rattle.keymap_core.specs.Borne.{any_below, has_in_slot, is_upper_live}
 use Rattle.console_core.specs.declared.event.Event.{Event}
 use Rattle.console_core.specs.Positions.{count_where, is_odd}
@@ -18,9 +18,6 @@ use Rattle.console_core.specs.Columns.{look_with}
 use Rattle.console_core.specs.History.{Maps, pressed, HasKeys, HasNoLoads}
 use Rattle.console_core.specs.Headline.{is_fresh_press}
 use Rattle.console_core.specs.Reading.{Look}
-
-abbrev pub NobodyBears : MapValue → Holding → Type 0
-NobodyBears m a = (k : ℕ) → k < 128 → Bears m k a → ⊥
 
 -- nobody bears it, or one key alone does, in all its cells
 abbrev pub IsPlainFor : MapValue → Holding → Type 0
@@ -49,6 +46,17 @@ plain_on m h i = any_below (λ k. bears m (holding.Mod i) k && pressed k h) 128
 -- a key that bears the lock has an odd number of fresh presses: false where nobody bears it
 unfoldable pub plain_locked : MapValue → List Event → Lock → Bool
 plain_locked m h l = any_below (λ k. bears m (holding.Lock l) k && is_odd (count_where (is_fresh_press k) h)) 128
+
+-- these two, in words
+abbrev pub PlainOnByKeys : Type 0
+PlainOnByKeys =
+    (m : MapValue) (h : List Event) (i : Modifier)
+    → (plain_on m h i ≡ true) ↔ ((k : ℕ) × (k < 128) × Bears m k (holding.Mod i) × (pressed k h ≡ true))
+
+abbrev pub PlainLockedByKeys : Type 0
+PlainLockedByKeys =
+    (m : MapValue) (h : List Event) (l : Lock)
+    → (plain_locked m h l ≡ true) ↔ ((k : ℕ) × (k < 128) × Bears m k (holding.Lock l) × (is_odd (count_where (is_fresh_press k) h) ≡ true))
 
 abbrev pub PlainLook : MapValue → ℕ → List Event → Cell
 PlainLook m k h = look_with m (plain_on m h) (plain_locked m h) k

@@ -8,11 +8,10 @@ use Rattle.keymap_core.specs.declared.action.Holding.TheVariants as holding
 use Rattle.keymap_core.specs.declared.entry.Cell.{Cell}
 use Rattle.keymap_core.specs.declared.entry.Cell.TheVariants.{Char}
 use Rattle.keymap_core.specs.Maps.{MapValue, cell_at}
-use Rattle.keymap_core.specs.Bearers.{Bears, IsUpperLive}
+use Rattle.keymap_core.specs.Bearers.{Bears, IsUpperLive, NobodyBears}
 use Rattle.console_core.specs.declared.event.Event.{Event}
 use Rattle.console_core.specs.Columns.{slot_of, column_of}
 use Rattle.console_core.specs.History.{Maps, in_force, On, pressed, HasKeys}
-use Rattle.console_core.specs.Plain.{NobodyBears}
 
 -- the bits of a cell: those of its column, and ashift for a cell in the upper half
 pub record Bits : Type 0 where

@@ -2,8 +2,8 @@
 //! positions of a list of events.
 ghost use Rattle.console_core.specs.Headline.{OnOnlyWhilePressed, OnExactlyWhilePressed, RepeatsTurnNoSteadyLock, OffOnceQuiet, LockedByFreshPresses, GoesOnAsAfterReset};
 ghost use Rattle.console_core.specs.Facts.{LooksAreCells, DeadUpperHalfIsNotLookedAt, HoldingIsRemembered, OnByPressedKey};
-ghost use Rattle.console_core.specs.Loads.{WithoutLoads, LoadsOfOneMapAreResets, BorneByTest};
-ghost use Rattle.console_core.specs.Plain.{LooksPlainly};
+ghost use Rattle.console_core.specs.Loads.{WithoutLoads, LoadsOfOneMapAreResets};
+ghost use Rattle.console_core.specs.Plain.{LooksPlainly, PlainOnByKeys, PlainLockedByKeys};
 ghost use Rattle.console_core.specs.Reading.{HeldByPositions, LockedByCount, RememberedByPositions, NothingRememberedByPositions, PendingByRun, PressedByPositions, ResolvedAtPrefix, AnswersByCases};
 ghost use Rattle.console_core.specs.Traps.{OnOnlyWhilePressedWithoutTraps};
 
@@ -26,14 +26,19 @@ pub fn quiet_is_a_reset()
     ensures goes_on { GoesOnAsAfterReset }
 {}
 
-/// A lock that one key alone bears throughout is on exactly after an odd number of fresh presses of that key.
+/// A lock that one key alone bears throughout, where there are loads in both maps, is on exactly after an odd number of
+/// fresh presses of that key.
 pub fn locks_count_fresh_presses()
     ensures { LockedByFreshPresses }
 {}
 
-/// In a plain map what a key looks up follows from which keys are pressed and from fresh presses of the locks' keys.
+/// In a plain map, without loads, what a key looks up follows from which keys are pressed and from fresh presses of the
+/// locks' keys: a modifier is on as a key that bears it is pressed, and a lock as such a key was freshly pressed an odd
+/// number of times.
 pub fn looks_plainly()
-    ensures { LooksPlainly }
+    ensures look { LooksPlainly }
+    ensures on { PlainOnByKeys }
+    ensures locked { PlainLockedByKeys }
 {}
 
 /// A modifier for which no key has a trap is on only while a key that bears it is pressed, also in a map that isn't safe,
@@ -96,9 +101,4 @@ pub fn answers_by_cases()
 pub fn loads_that_change_nothing()
     ensures without { WithoutLoads }
     ensures of_one_map { LoadsOfOneMapAreResets }
-{}
-
-/// The test whether a map bears a holding action is true exactly if some key bears it.
-pub fn borne_by_test()
-    ensures { BorneByTest }
 {}

@@ -1,11 +1,10 @@
 //! The delivery of a whole list of events.
 ghost use Rattle.std.specs.Prelude.{◌≡◌, ◌++◌, ◌∷◌, List, None, IfOk, OnOk, OnErr, reverse};
-ghost use Rattle.keymap_core.specs.declared.action.Lock.{Lock as LockValue};
 ghost use Rattle.console_core.specs.declared.event.Event.{Event as EventValue};
 ghost use Rattle.console_core.specs.declared.event.Event.TheVariants as event;
 ghost use Rattle.console_core.specs.History.{Maps, in_force, AnswersTo, HasKeys, IsQuiet};
-ghost use Rattle.console_core.specs.Safety.{IsSafe, IsSteady};
-ghost use Rattle.console_core.specs.Headline.{Afterwards, IsOnOnlyWhilePressed, IsOnExactlyWhilePressed, AreRepeats, IsOffOnceQuiet, GoesOnAs, IsLockedByFreshPresses};
+ghost use Rattle.console_core.specs.Safety.{IsSafe};
+ghost use Rattle.console_core.specs.Headline.{Afterwards, IsOnOnlyWhilePressed, IsOnExactlyWhilePressed, LastRepeatsTurnNoSteadyLock, IsOffOnceQuiet, GoesOnAs, IsLockedByFreshPresses};
 ghost use Rattle.console_core.specs.Plain.{IsPlainAfter};
 ghost use Rattle.console_core.specs.Traps.{IsOnOnlyWhilePressedWithoutTraps};
 
@@ -32,10 +31,9 @@ pub fn replay<T: Translator>(
     ensures on_exactly_while_pressed { OnOk result (Afterwards (T.stands console.old) events.now (λ ms h.
         IsOnExactlyWhilePressed (in_force ms h) h (T.shows_on console.new))) }
 
-    // Repeats leave a steady lock as it was.
+    // The repeats that the events end in leave a steady lock as it was before them.
     ensures repeats_turn_no_steady_lock { OnOk result ((ms : Maps) (h : List EventValue) → T.stands console.old ms h
-        → HasKeys (reverse events.now ++ h) → AreRepeats h events.now
-        → (l : LockValue) → IsSteady (in_force ms h) l → T.shows_locked console.new l ≡ T.shows_locked console.old l) }
+        → HasKeys (reverse events.now ++ h) → LastRepeatsTurnNoSteadyLock ms h events.now (T.shows_locked console.new)) }
 
     // In a safe map no modifier is on once no key is pressed, and with no accent pending it goes on as after a reset.
     ensures off_once_quiet { OnOk result (Afterwards (T.stands console.old) events.now (λ ms h.
@@ -43,11 +41,13 @@ pub fn replay<T: Translator>(
     ensures goes_on_as_after_reset { OnOk result (Afterwards (T.stands console.old) events.now (λ ms h.
         IsSafe (in_force ms h) → IsQuiet h → T.shows_pending console.new ≡ None → GoesOnAs ms h (event.Reset ∷ h))) }
 
-    // A lock that one key alone bears throughout is on exactly after an odd number of fresh presses of that key.
+    // A lock that one key alone bears throughout, where there are loads in both maps, is on exactly after an odd number of
+    // fresh presses of that key.
     ensures locked_by_fresh_presses { OnOk result (Afterwards (T.stands console.old) events.now (λ ms h.
         IsLockedByFreshPresses ms h (T.shows_locked console.new))) }
 
-    // In a plain map the next look follows from the keys that are pressed and from fresh presses of the locks' keys.
+    // In a plain map, without loads, the next look follows from the keys that are pressed and from fresh presses of the
+    // locks' keys.
     ensures looks_plainly { OnOk result (Afterwards (T.stands console.old) events.now (λ ms h.
         IsPlainAfter ms h (T.shows_on console.new) (T.shows_locked console.new))) }
 

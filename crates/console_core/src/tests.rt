@@ -297,13 +297,7 @@ fn answer(output: Output) -> Result<Answer, &'static str> {
     }
 }
 
-fn expect_shown<T: Translator>(
-    rt: &impl Abort,
-    console: &T,
-    on: &[Modifier],
-    locked: &[Lock],
-    pending: Option<u8>,
-) {
+fn expect_on<T: Translator>(rt: &impl Abort, console: &T, on: &[Modifier]) {
     for modifier in MODIFIERS {
         assert_eq!(rt;
             console.on(modifier),
@@ -311,6 +305,16 @@ fn expect_shown<T: Translator>(
             "{modifier:?}"
         );
     }
+}
+
+fn expect_shown<T: Translator>(
+    rt: &impl Abort,
+    console: &T,
+    on: &[Modifier],
+    locked: &[Lock],
+    pending: Option<u8>,
+) {
+    expect_on(rt, console, on);
     for lock in LOCKS {
         assert_eq!(rt; console.locked(lock), locked.contains(&lock), "{lock:?}");
     }
@@ -391,26 +395,30 @@ fn loads(rt: HostRuntime) -> Result<(), Fail> {
     Ok(())
 }
 
-/// Answers as numbers, after these events.
-const RAW: [(Input, u32); 7] = [
-    (Down(42), 0x8000_0002),
-    (Down(15), 0x8800_0008),
-    (Up(15), 0xc000_0008),
-    (Up(42), 0xc000_0002),
-    (Down(56), 0x8000_0084),
-    (Down(18), 0x0400_0065),
-    (Up(56), 0xc000_0084),
+/// Events, their answers as numbers, and the modifiers that are on after them.
+const RAW: [(Input, u32, &[Modifier]); 7] = [
+    (Down(42), 0x8000_0002, &[Modifier::LeftShift]),
+    (Down(15), 0x8800_0008, &[Modifier::LeftShift]),
+    (Up(15), 0xc000_0008, &[Modifier::LeftShift]),
+    (Up(42), 0xc000_0002, &[]),
+    (Down(56), 0x8000_0084, &[Modifier::Meta]),
+    (Down(18), 0x0400_0065, &[Modifier::Meta]),
+    (Up(56), 0xc000_0084, &[]),
 ];
+
+fn expect_raw<T: Translator>(rt: &impl Abort, console: &mut T) -> Result<(), Fail> {
+    for (input, raw, on) in RAW {
+        assert_eq!(rt; console.step(event(input)?).raw(), raw);
+        expect_shown(rt, console, on, &[], None);
+    }
+    Ok(())
+}
 
 #[test]
 fn answers_as_numbers(rt: HostRuntime) -> Result<(), Fail> {
     let map = map_with_accents(rt.alloc())?;
-    let mut plain = PlainConsole::new(&map);
-    let mut word = WordConsole::new(&map);
-    for (input, raw) in RAW {
-        assert_eq!(rt; plain.step(event(input)?).raw(), raw);
-        assert_eq!(rt; word.step(event(input)?).raw(), raw);
-    }
+    expect_raw(&rt, &mut PlainConsole::new(&map))?;
+    expect_raw(&rt, &mut WordConsole::new(&map))?;
     assert_eq!(rt; Answer::Special(action(FKEY01)?).raw(), 0x8200_001b);
     assert_eq!(rt; Answer::None.raw(), 0x0100_0000);
     assert_eq!(rt; Answer::Error.raw(), 0x2000_0000);
@@ -456,25 +464,18 @@ fn expect_dead_key<T: Translator>(
     Ok(())
 }
 
+/// Asserts that a key of the map of no keys gives the character 0, and changes nothing.
+fn expect_nul<T: Translator>(rt: &impl Abort, alloc: Global, console: &mut T) -> Result<(), Fail> {
+    expect_replay(rt, alloc, console, &[Down(30)], &[Char('\0')])?;
+    expect_shown(rt, console, &[], &[], None);
+    Ok(())
+}
+
 #[test]
 fn replays(rt: HostRuntime) -> Result<(), Fail> {
     let map = KeyMap::new(rt.alloc())?;
-    let letter = [Down(30)];
-    let answers = [Char('\0')];
-    expect_replay(
-        &rt,
-        rt.alloc(),
-        &mut PlainConsole::new(&map),
-        &letter,
-        &answers,
-    )?;
-    expect_replay(
-        &rt,
-        rt.alloc(),
-        &mut WordConsole::new(&map),
-        &letter,
-        &answers,
-    )?;
+    expect_nul(&rt, rt.alloc(), &mut PlainConsole::new(&map))?;
+    expect_nul(&rt, rt.alloc(), &mut WordConsole::new(&map))?;
     let map = map_with_accents(rt.alloc())?;
     expect_dead_key(&rt, rt.alloc(), &mut PlainConsole::new(&map))?;
     expect_dead_key(&rt, rt.alloc(), &mut WordConsole::new(&map))

@@ -2,7 +2,9 @@
 use Prim.Native.Nat.{zero, suc}
 use Rattle.std.proofs.Common.{◌≡◌, ◌≢◌, ℕ, ◌<◌, Bool, true, false, not, Option, Some, None, refl, ap, subst, sym, ◌∙◌, inl, inr, if◌then◌else◌, arith}
 use Rattle.std.proofs.lemmas.Bool.{cases_Bool, true≢false}
+use Rattle.keymap_core.specs.declared.action.Modifier.TheVariants as modifier
 use Rattle.keymap_core.specs.declared.action.Lock.{Lock}
+use Rattle.keymap_core.specs.declared.action.Lock.TheVariants as lock
 use Rattle.keymap_core.specs.declared.action.Holding.{Holding}
 use Rattle.keymap_core.specs.declared.action.Holding.TheVariants as holding
 use Rattle.keymap_core.specs.declared.entry.Cell.{Cell}
@@ -10,13 +12,14 @@ use Rattle.keymap_core.specs.declared.entry.Cell.TheVariants.{Act}
 use Rattle.keymap_core.specs.Actions.{holding_action}
 use Rattle.keymap_core.specs.Maps.{MapValue}
 use Rattle.keymap_core.specs.Bearers.{IsCellOf, Bears, IsAlone, BearsThroughout}
+use Rattle.console_core.specs.Plain.{IsPlainFor, IsPlain}
 use Rattle.console_core.specs.Safety.{IsSteady, IsActing}
 use Rattle.keymap_check.specs.declared.kind.Kind.TheVariants as kind
 use Rattle.keymap_check.specs.declared.bearer.Bearer.{Bearer}
-use Rattle.keymap_check.specs.declared.bearer.Bearer.TheVariants.{Nobody, Throughout, Several}
+use Rattle.keymap_check.specs.declared.bearer.Bearer.TheVariants.{Nobody, Throughout, Sole, Several}
 use Rattle.keymap_check.specs.Cells.{first_place, cell_of, is_holding, is_character_or_nop}
 use Rattle.keymap_check.specs.Computed.{is_there, is_missing, bears, bearer_by, bearer_with, next_bearer, bearer_below, bearer_of, is_steady_by}
-use Rattle.keymap_check.specs.Report.{IsBearer, BearersAreComputed, SteadyLocksAreComputed}
+use Rattle.keymap_check.specs.Report.{IsBearer, ReportValue, bearer_in, is_plain_bearer, picks_a_cell, HasPlainBearers, BearersAreComputed, SteadyLocksAreComputed}
 use Rattle.keymap_check.proofs.Same.{is_holding-true, is_holding-refl, not_holding-false, not_acting, acting-not}
 use Rattle.keymap_check.proofs.Places.{first_place-cell, no_place-cell}
 use Rattle.keymap_check.proofs.Bearers.{bearer_below-start, bearer_below-more}
@@ -91,7 +94,7 @@ found m a (suc n) =
 
 -- the bearer of an action that one key alone bears
 single : (m : MapValue) (a : Holding) (k : ℕ) (o : Option ℕ) → first_place m (kind.OtherThan a) k ≡ o → k < 128 → Bears m k a → IsAlone m k a → IsBearer m a (bearer_by k o)
-single m a k None e lt is alone = (is, (lt, alone, λ x cell. is_holding-true a x (not_holding-false a x (no_place-cell m (kind.OtherThan a) k e x cell))))
+single m a k None e lt is alone = (lt, alone, λ x cell. is_holding-true a x (not_holding-false a x (no_place-cell m (kind.OtherThan a) k e x cell)))
 single m a k (Some p) e lt is alone =
     let s : IsCellOf m k (cell_of m k p) × (not (is_holding a (cell_of m k p)) ≡ true) = first_place-cell m (kind.OtherThan a) k p e in
     (lt, is, alone, (cell_of m k p, s.0, λ q. true≢false (sym s.1 ∙ ap (λ x. not (is_holding a x)) q ∙ ap not (is_holding-refl a))))
@@ -144,5 +147,27 @@ steady_locks_are_computed m l = (steady-true m l (bearer_of m (holding.Lock l)) 
 
 -- what a bearer that is reported says
 pub throughout-bears : (m : MapValue) (a : Holding) (k : ℕ) → bearer_of m a ≡ Throughout k → BearsThroughout m k a
-throughout-bears m a k e =
-    let s : IsBearer m a (Throughout k) = subst (λ b. IsBearer m a b) e (bearers_are_computed m a) in s.1
+throughout-bears m a k e = subst (λ b. IsBearer m a b) e (bearers_are_computed m a)
+
+plain_for : (m : MapValue) (a : Holding) (b : Bearer) → IsBearer m a b → is_plain_bearer b ≡ true → IsPlainFor m a
+plain_for m a Nobody is e = inl is
+plain_for m a (Throughout k) is e = inr (k, is)
+plain_for m a (Sole k) is e = absurd (true≢false (sym e))
+plain_for m a Several is e = absurd (true≢false (sym e))
+
+pub plain_bearers : (m : MapValue) (r : ReportValue) → ((a : Holding) → IsBearer m a (bearer_in r a)) → HasPlainBearers r → IsPlain m
+plain_bearers m r are plain = record {
+  left_shift = of (holding.Mod modifier.LeftShift) refl;
+  right_shift = of (holding.Mod modifier.RightShift) refl;
+  left_control = of (holding.Mod modifier.LeftControl) refl;
+  right_control = of (holding.Mod modifier.RightControl) refl;
+  left_alt = of (holding.Mod modifier.LeftAlt) refl;
+  right_alt = of (holding.Mod modifier.RightAlt) refl;
+  alt_shift = of (holding.Mod modifier.AltShift) refl;
+  caps = of (holding.Lock lock.Caps) refl;
+  num = of (holding.Lock lock.Num) refl;
+  alt_lock = of (holding.Lock lock.Alt) refl;
+}
+  where
+    of : (a : Holding) → picks_a_cell a ≡ true → IsPlainFor m a
+    of a e = plain_for m a (bearer_in r a) (are a) (plain a e)

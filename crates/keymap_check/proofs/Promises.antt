@@ -1,5 +1,5 @@
 -- The promises, from the laws over the two maps of a console.
-use Rattle.std.proofs.Common.{◌≡◌, ℕ, ◌⊎◌, inl, inr, subst, sym}
+use Rattle.std.proofs.Common.{◌≡◌, ℕ, ◌⊎◌, inl, inr, ap, subst, sym, ◌∙◌}
 use Rattle.std.proofs.lemmas.List.Elements.{All-cons}
 use Rattle.keymap_core.specs.declared.action.Lock.{Lock}
 use Rattle.keymap_core.specs.declared.action.Modifier.{Modifier}
@@ -9,8 +9,9 @@ use Rattle.keymap_core.specs.Bearers.{BearsThroughout}
 use Rattle.console_core.specs.declared.event.Event.TheVariants.{Press}
 use Rattle.console_core.specs.History.{Maps, HasKey, On}
 use Rattle.console_core.specs.Safety.{IsSafe, IsSteady}
+use Rattle.console_core.specs.Plain.{IsPlain, PlainLook, LooksPlainly}
 use Rattle.console_core.specs.Headline.{OnOnlyWhilePressed, OnExactlyWhilePressed, RepeatsTurnNoSteadyLock, OffOnceQuiet, GoesOnAsAfterReset, LockedByFreshPresses, IsOnOnlyWhilePressed}
-use Rattle.keymap_check.specs.Promises.{ModifiersAreOnOnlyWhilePressed, IsOnExactlyWhilePressed, NoRepeatTurns, ModifiersAreOffOnceQuiet, GoesOnAsAfterResetOnceQuiet, IsOnAfterOddFreshPresses}
+use Rattle.keymap_check.specs.Promises.{ModifiersAreOnOnlyWhilePressed, IsOnExactlyWhilePressed, NoRepeatTurns, ModifiersAreOffOnceQuiet, GoesOnAsAfterResetOnceQuiet, IsOnAfterOddFreshPresses, LooksPlainlyIn}
 
 pub only_while : OnOnlyWhilePressed → (m : MapValue) → IsSafe m → ModifiersAreOnOnlyWhilePressed m
 only_while law m safe ms h e keys =
@@ -20,7 +21,7 @@ pub exactly_while : OnExactlyWhilePressed → (m : MapValue) (i : Modifier) (k :
 exactly_while law m i k throughout ms h e keys = law ms h keys i k (subst (λ n. BearsThroughout n k (holding.Mod i)) (sym e) throughout)
 
 pub repeats : RepeatsTurnNoSteadyLock → (m : MapValue) (l : Lock) → IsSteady m l → NoRepeatTurns m l
-repeats law m l steady ms h e keys k lt is = (law ms h l (subst (λ n. IsSteady n l) (sym e) steady) k (All-cons HasKey (Press k) h lt keys) is).1
+repeats law m l steady ms h e keys k lt is = law ms h l (subst (λ n. IsSteady n l) (sym e) steady) k (All-cons HasKey (Press k) h lt keys) is
 
 pub off_once_quiet : OffOnceQuiet → (m : MapValue) → IsSafe m → ModifiersAreOffOnceQuiet m
 off_once_quiet law m safe ms h e keys quiet i = law ms h (subst IsSafe (sym e) safe) keys quiet i
@@ -35,3 +36,7 @@ same_map m l k ms throughout (inr e) = inr (subst (λ n. BearsThroughout n k (ho
 pub fresh_presses : LockedByFreshPresses → (m : MapValue) (l : Lock) (k : ℕ) → BearsThroughout m k (holding.Lock l) → IsOnAfterOddFreshPresses m l k
 fresh_presses law m l k throughout ms h e loads keys =
     law ms h keys l k (subst (λ n. BearsThroughout n k (holding.Lock l)) (sym e) throughout) (same_map m l k ms throughout loads)
+
+pub looks_plainly : LooksPlainly → (m : MapValue) → IsPlain m → LooksPlainlyIn m
+looks_plainly law m plain ms h e none keys k =
+    law ms h (subst IsPlain (sym e) plain) none keys k ∙ ap (λ n. PlainLook n k h) e

@@ -20,7 +20,7 @@ use Rattle.console_core.specs.History.{Maps, between, On, resolved}
 use Rattle.console_core.specs.Columns.{slot_of, column_of}
 use Rattle.console_core.specs.Resolved.ResolvedEvent.{PressedCharacter, PressedAction, ReleasedKey}
 use Rattle.console_core.proofs.Borne.{AllLooked, look-cell}
-use Rattle.console_core.proofs.SameActions.{same_action-true}
+use Rattle.keymap_core.proofs.SameActions.{same_action-true}
 use Rattle.console_core.specs.Traps.{Bits, cell_with}
 use Rattle.keymap_check.specs.declared.kind.Group.{Group}
 use Rattle.keymap_check.specs.declared.kind.Group.TheVariants as group

@@ -8,6 +8,8 @@ use Rattle.console_core.specs.declared.event.Event.{Event}
 use Rattle.console_core.specs.declared.event.Event.TheVariants.{Press, Reset}
 use Rattle.console_core.specs.History.{Maps, in_force, HasKeys, HasNoLoads, IsQuiet, On, Locked, Pending, pressed}
 use Rattle.console_core.specs.Positions.{count_where, is_odd}
+use Rattle.console_core.specs.Plain.{PlainLook}
+use Rattle.console_core.specs.Reading.{Look, Turns}
 use Rattle.console_core.specs.Headline.{IsOnOnlyWhilePressed, GoesOnAs, is_fresh_press}
 
 -- P holds after every list of events about keys 0 to 127 that leaves the map in force
@@ -22,10 +24,11 @@ ModifiersAreOnOnlyWhilePressed m = AfterEveryList m (λ ms h. IsOnOnlyWhilePress
 abbrev pub IsOnExactlyWhilePressed : MapValue → Modifier → ℕ → Type 0
 IsOnExactlyWhilePressed m i k = AfterEveryList m (λ ms h. On ms i h ≡ pressed k h)
 
--- a press of a key that is pressed already leaves the lock as it was
+-- a press of a key that is pressed already doesn't turn the lock, which stays as it was
 abbrev pub NoRepeatTurns : MapValue → Lock → Type 0
 NoRepeatTurns m l =
-    AfterEveryList m (λ ms h. (k : ℕ) → k < 128 → pressed k h ≡ true → Locked ms l (Press k ∷ h) ≡ Locked ms l h)
+    AfterEveryList m (λ ms h. (k : ℕ) → k < 128 → pressed k h ≡ true
+    → (Turns ms l (Press k) h ≡ false) × (Locked ms l (Press k ∷ h) ≡ Locked ms l h))
 
 -- once no key is pressed, no modifier is on
 abbrev pub ModifiersAreOffOnceQuiet : MapValue → Type 0
@@ -40,3 +43,8 @@ abbrev pub IsOnAfterOddFreshPresses : MapValue → Lock → ℕ → Type 0
 IsOnAfterOddFreshPresses m l k =
     (ms : Maps) (h : List Event) → ms.first ≡ m → HasNoLoads h ⊎ (ms.second ≡ m) → HasKeys h
     → Locked ms l h ≡ is_odd (count_where (is_fresh_press k) h)
+
+-- without loads, what a key looks up follows from which keys are pressed, and from the fresh presses of the locks' keys
+abbrev pub LooksPlainlyIn : MapValue → Type 0
+LooksPlainlyIn m =
+    (ms : Maps) (h : List Event) → ms.first ≡ m → HasNoLoads h → HasKeys h → (k : ℕ) → Look ms k h ≡ PlainLook m k h

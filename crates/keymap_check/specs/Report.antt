@@ -5,11 +5,9 @@ use Rattle.keymap_core.specs.declared.action.Lock.{Lock}
 use Rattle.keymap_core.specs.declared.action.Lock.TheVariants.{Caps, Num, Scroll, Alt}
 use Rattle.keymap_core.specs.declared.action.Holding.{Holding}
 use Rattle.keymap_core.specs.declared.action.Holding.TheVariants as holding
-use Rattle.keymap_core.specs.declared.entry.Cell.{Cell}
-use Rattle.keymap_core.specs.declared.entry.Cell.TheVariants.{Act}
-use Rattle.keymap_core.specs.Actions.{holding_action, holding_index, lock_index}
+use Rattle.keymap_core.specs.Actions.{holding_index, lock_index}
 use Rattle.keymap_core.specs.Maps.{MapValue}
-use Rattle.keymap_core.specs.Bearers.{IsCellOf, Bears, IsAlone, BearsThroughout}
+use Rattle.keymap_core.specs.Bearers.{NobodyBears, BearsThroughout, BearsNotThroughout, SeveralBear}
 use Rattle.console_core.specs.Safety.{IsSafe, IsSteady}
 use Rattle.keymap_check.specs.declared.bearer.Bearer.{Bearer}
 use Rattle.keymap_check.specs.declared.bearer.Bearer.TheVariants.{Nobody, Throughout, Sole, Several}
@@ -19,10 +17,16 @@ use Rattle.keymap_check.specs.Findings.{AreFindings}
 
 -- which key bears the holding action
 abbrev pub IsBearer : MapValue → Holding → Bearer → Type 0
-IsBearer m a Nobody = (k : ℕ) → k < 128 → Bears m k a → ⊥
-IsBearer m a (Throughout k) = Bears m k a × BearsThroughout m k a
-IsBearer m a (Sole k) = (k < 128) × Bears m k a × IsAlone m k a × ((x : Cell) × IsCellOf m k x × (x ≢ Act (holding_action a)))
-IsBearer m a Several = (i : ℕ) × (j : ℕ) × (i < 128) × (j < 128) × (i ≢ j) × Bears m i a × Bears m j a
+IsBearer m a Nobody = NobodyBears m a
+IsBearer m a (Throughout k) = BearsThroughout m k a
+IsBearer m a (Sole k) = BearsNotThroughout m k a
+IsBearer m a Several = SeveralBear m a
+
+-- whether it has a part in which cell is looked up
+abbrev pub picks_a_cell : Holding → Bool
+picks_a_cell (holding.Mod Meta) = false
+picks_a_cell (holding.Lock Scroll) = false
+picks_a_cell a = true
 
 -- the keys that make the map refused, the bearer of each holding action, and which locks are steady
 pub record ReportValue : Type 0 where
@@ -35,6 +39,17 @@ IsAccepted r = r.findings ≡ []
 
 abbrev pub bearer_in : ReportValue → Holding → Bearer
 bearer_in r a = slice_index_or r.bearers (holding_index a) Nobody
+
+-- nobody bears it, or one key alone does, throughout
+abbrev pub is_plain_bearer : Bearer → Bool
+is_plain_bearer Nobody = true
+is_plain_bearer (Throughout k) = true
+is_plain_bearer (Sole k) = false
+is_plain_bearer Several = false
+
+-- so it is for each modifier and lock that picks a cell: all but meta and slock
+abbrev pub HasPlainBearers : ReportValue → Type 0
+HasPlainBearers r = (a : Holding) → picks_a_cell a ≡ true → is_plain_bearer (bearer_in r a) ≡ true
 
 abbrev pub is_steady_in : ReportValue → Lock → Bool
 is_steady_in r l = slice_index_or r.steady (lock_index l) false

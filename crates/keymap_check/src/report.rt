@@ -5,8 +5,8 @@ ghost use Rattle.keymap_core.specs.declared.action.Lock.{Lock as LockValue};
 ghost use Rattle.keymap_core.specs.declared.action.Holding.{Holding as HoldingValue};
 ghost use Rattle.console_core.specs.Safety.{IsSafe, IsSteady};
 ghost use Rattle.keymap_check.specs.Findings.{AreFindings};
-ghost use Rattle.keymap_check.specs.Promises.{ModifiersAreOnOnlyWhilePressed, IsOnExactlyWhilePressed, NoRepeatTurns, ModifiersAreOffOnceQuiet, GoesOnAsAfterResetOnceQuiet, IsOnAfterOddFreshPresses};
-ghost use Rattle.keymap_check.specs.Report.{IsAccepted, IsBearer, bearer_in, is_steady_in, report_of};
+ghost use Rattle.keymap_check.specs.Promises.{ModifiersAreOnOnlyWhilePressed, IsOnExactlyWhilePressed, NoRepeatTurns, ModifiersAreOffOnceQuiet, GoesOnAsAfterResetOnceQuiet, IsOnAfterOddFreshPresses, LooksPlainlyIn};
+ghost use Rattle.keymap_check.specs.Report.{IsAccepted, IsBearer, HasPlainBearers, bearer_in, is_steady_in, report_of};
 
 use crate::bearer::{Bearer, bearer_of, is_steady};
 use crate::cells::place_count;
@@ -14,7 +14,8 @@ use crate::finding::{Finding, findings};
 use crate::laws::reports_are_computed;
 use arrayvec::ArrayVec;
 use console_core::laws::{
-    locks_count_fresh_presses, modifiers_follow_keys, quiet_is_a_reset, repeats_turn_no_steady_lock,
+    locks_count_fresh_presses, looks_plainly, modifiers_follow_keys, quiet_is_a_reset,
+    repeats_turn_no_steady_lock,
 };
 use keymap_core::{Holding, KeyMap, Lock, Modifier};
 use std::marker::Model;
@@ -103,10 +104,14 @@ fn survey(map: &KeyMap) -> Report
 
 /// Checks the keymap: whether it is safe, which keys bear what, and which locks are steady.
 ///
-/// Where it is accepted, then after every list of delivered events a modifier is on only while a key that bears it is
-/// pressed, and once no key is pressed no modifier is on, and with no accent pending the console goes on as after a
-/// reset. For every keymap, a modifier that one key alone bears throughout is on exactly while that key is pressed, and
-/// no repeat turns a steady lock.
+/// What it promises holds after every list of delivered events that leaves the keymap in force, loads of another keymap
+/// among them. Where it is accepted, a modifier is on only while a key that bears it is pressed, and once no key is pressed
+/// no modifier is on, and with no accent pending the console goes on as after a reset. For every keymap, a modifier that one
+/// key alone bears throughout is on exactly while that key is pressed, and no repeat turns a steady lock.
+///
+/// Where no other keymap is loaded, a lock that one key alone bears throughout is on exactly after an odd number of fresh
+/// presses of that key. Without loads, and where each modifier and lock that picks a cell is borne so or by nobody, what a
+/// key looks up follows from which keys are pressed and from those fresh presses.
 pub fn check(map: &KeyMap) -> Report
     ensures value { result ≡ report_of map.now }
     ensures accepted { IsAccepted result ↔ IsSafe map.now }
@@ -119,6 +124,7 @@ pub fn check(map: &KeyMap) -> Report
     ensures repeats { (l : LockValue) → is_steady_in result l ≡ true → NoRepeatTurns map.now l }
     ensures off_once_quiet { IsAccepted result → ModifiersAreOffOnceQuiet map.now }
     ensures as_after_reset { IsAccepted result → GoesOnAsAfterResetOnceQuiet map.now }
+    ensures looks_plainly { HasPlainBearers result → LooksPlainlyIn map.now }
     ensures fresh_presses { (l : LockValue) (k : ℕ) → bearer_in result (Holding.Lock l) ≡ Bearer.Throughout k
         → IsOnAfterOddFreshPresses map.now l k }
 {
@@ -127,5 +133,6 @@ pub fn check(map: &KeyMap) -> Report
     repeats_turn_no_steady_lock();
     quiet_is_a_reset();
     locks_count_fresh_presses();
+    looks_plainly();
     survey(map)
 }

@@ -7,6 +7,7 @@ use Rattle.keymap_core.specs.declared.action.Lock.TheVariants as lock
 use Rattle.keymap_core.specs.declared.action.Action.{Action}
 use Rattle.keymap_core.specs.declared.action.Action.TheVariants as act
 use Rattle.keymap_core.specs.declared.action.Holding.{Holding}
+use Rattle.keymap_core.specs.declared.action.Holding.TheVariants as holding
 use Rattle.keymap_core.specs.declared.entry.Cell.{Cell}
 use Rattle.keymap_core.specs.declared.entry.Cell.TheVariants.{Char, Act}
 use Rattle.keymap_core.specs.Actions.{holding_action}
@@ -15,7 +16,21 @@ use Rattle.keymap_core.specs.Borne.{any_below, is_cell_of_action, has_in_slot, h
 use Rattle.keymap_core.specs.Bearers.{StandsIn, IsUpperLive, Bears}
 use Rattle.keymap_core.proofs.SameActions.{same_action-true, same_action-refl}
 
-or-right : (x y : Bool) → y ≡ true → (x || y) ≡ true
+pub any-start : (test : ℕ → Bool) → any_below test 0 ≡ false
+unfolding any_below
+any-start test = refl
+
+any-suc : (test : ℕ → Bool) (n : ℕ) → any_below test (suc n) ≡ (any_below test n || test n)
+unfolding any_below
+any-suc test n = refl
+
+pub any-more : (test : ℕ → Bool) (n : ℕ) → any_below test (n + 1) ≡ (any_below test n || test n)
+any-more test n = let e : n + 1 ≡ suc n = omega arith in ap (λ x. any_below test x) e ∙ any-suc test n
+
+pub any-none : (test : ℕ → Bool) (n : ℕ) → any_below test n ≡ false → test n ≡ false → any_below test (n + 1) ≡ false
+any-none test n e f = rw (any-more test n, e, f) refl
+
+pub or-right : (x y : Bool) → y ≡ true → (x || y) ≡ true
 or-right true y e = refl
 or-right false y e = e
 
@@ -120,3 +135,41 @@ borne-same m a = (borne-bears m a, λ s. bears-borne m a s.0 s.1 s.2)
 
 pub live-same : (m : MapValue) → (is_upper_live m ≡ true) ↔ IsUpperLive m
 live-same m = (live-upper m, upper-is_live m)
+
+borne_upper_by : (m : MapValue) (k : ℕ) → k < 128 → Bears m k (holding.Lock lock.Alt) → IsUpperLive m
+borne_upper_by m k lt (inl s) = (k, lt, inr s)
+borne_upper_by m k lt (inr s) = s.0
+
+-- the upper slots are live where some key bears alock
+pub borne-upper : (m : MapValue) → is_borne m (holding.Lock lock.Alt) ≡ true → IsUpperLive m
+borne-upper m e =
+    let s : (k : ℕ) × (k < 128) × Bears m k (holding.Lock lock.Alt) = borne-bears m (holding.Lock lock.Alt) e in borne_upper_by m s.0 s.1 s.2
+
+-- what the loops keep
+pub slot-none : (m : MapValue) (a : Action) (slot column : ℕ) → any_below (λ i. is_cell_of_action a (cell_at m slot i)) column ≡ false → is_cell_of_action a (cell_at m slot column) ≡ false → any_below (λ i. is_cell_of_action a (cell_at m slot i)) (column + 1) ≡ false
+slot-none m a slot column e f = any-none _ column e f
+
+pub slot-some : (m : MapValue) (a : Action) (slot column : ℕ) → column < 8 → is_cell_of_action a (cell_at m slot column) ≡ true → has_in_slot m a slot ≡ true
+unfolding has_in_slot
+slot-some m a slot column lt e = any-some _ column 8 lt e
+
+pub slot-end : (m : MapValue) (a : Action) (slot column : ℕ) → column ≡ 8 → any_below (λ i. is_cell_of_action a (cell_at m slot i)) column ≡ false → has_in_slot m a slot ≡ false
+unfolding has_in_slot
+slot-end m a slot column e f = ap (λ n. any_below (λ i. is_cell_of_action a (cell_at m slot i)) n) (sym e) ∙ f
+
+pub half-some : (m : MapValue) (a : Action) (from key : ℕ) → key < 128 → has_in_slot m a (key + from) ≡ true → has_in_half m a from ≡ true
+unfolding has_in_half
+half-some m a from key lt e = any-some _ key 128 lt e
+
+pub half-end : (m : MapValue) (a : Action) (from key : ℕ) → key ≡ 128 → any_below (λ k. has_in_slot m a (k + from)) key ≡ false → has_in_half m a from ≡ false
+unfolding has_in_half
+half-end m a from key e f = ap (λ n. any_below (λ k. has_in_slot m a (k + from)) n) (sym e) ∙ f
+
+-- the tests, as the code makes them
+pub live-by : (m : MapValue) → is_upper_live m ≡ (has_in_half m (act.Mod modifier.AltShift) 0 || has_in_half m (act.Lock lock.Alt) 0)
+unfolding is_upper_live
+live-by m = refl
+
+pub borne-by : (m : MapValue) (a : Holding) → is_borne m a ≡ (has_in_half m (holding_action a) 0 || (is_upper_live m && has_in_half m (holding_action a) 128))
+unfolding is_borne
+borne-by m a = refl

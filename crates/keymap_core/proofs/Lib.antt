@@ -1,4 +1,4 @@
-mod BorneTests
+pub mod BorneTests
 mod CodeLaws
 mod Equality
 pub mod Gathering
@@ -6,5 +6,5 @@ mod Meanings
 mod NameLaws
 mod Numbers
 mod Placing
-mod SameActions
+pub mod SameActions
 mod Taking

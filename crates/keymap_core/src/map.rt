@@ -119,9 +119,7 @@ impl KeyMap {
     {
         let mut entries = Vec::with_capacity(alloc, SLOTS)?;
         let mut accents = Vec::with_capacity(alloc, ACCENTS)?;
-        for entry in &self.entries {
-            entries.push_reserved(*entry);
-        }
+        entries.extend_from_slice(&self.entries)?;
         for accent in &self.accents {
             accents.push_reserved(accent.copied());
         }
@@ -134,18 +132,33 @@ impl KeyMap {
 }
 
 impl KeyMap {
-    ghost use Rattle.keymap_core.specs.Bounds.{IsMap};
+    ghost use Rattle.std.specs.Prelude.{All, length};
+    ghost use Rattle.keymap_core.specs.Bounds.{IsEntry, IsAccent, IsMap};
+
+    fn entries_have_bounds(&self)
+        ensures few { length self.now.entries ≤ 256 }
+        ensures all { All IsEntry self.now.entries }
+    {
+        for entry in &self.entries {
+            entry.has_bounds();
+        }
+    }
+
+    fn accents_have_bounds(&self)
+        ensures few { length self.now.accents ≤ 15 }
+        ensures all { All IsAccent self.now.accents }
+    {
+        for accent in &self.accents {
+            accent.has_bounds();
+        }
+    }
 
     /// Reads each entry and accent: so it is known what a map holds.
     pub(crate) fn has_bounds(&self)
         ensures { IsMap self.now }
     {
-        for entry in &self.entries {
-            entry.has_bounds();
-        }
-        for accent in &self.accents {
-            accent.has_bounds();
-        }
+        self.entries_have_bounds();
+        self.accents_have_bounds();
     }
 }
 

@@ -6,8 +6,8 @@ ghost use Rattle.std.specs.Prelude.{None};
 use crate::device::{Failed, Read, Write};
 use crate::{
     Accent, Action, BadAccent, Cell, Entry, FromStd, KeyCode, KeyMap, Lock, LockFlag, Modifier,
-    Named, PairFault, ReadError, ReadFault, ReadFaultKind, ToStd, WriteFault, put, read_up_to,
-    write_text,
+    Named, PairFault, ReadError, ReadFault, ReadFaultKind, Stream, ToStd, WriteFault, put,
+    read_up_to, write_text,
 };
 use std::test::Fail;
 
@@ -195,6 +195,9 @@ fn accents_end_at_14(rt: HostRuntime) -> Result<(), Fail> {
     assert_eq!(rt; map.accent(4).map(|accent| accent.own()), Some('\0'));
     map.set_accent(14, Accent::new('x'))?;
     assert_eq!(rt; map.n_accs(), 15);
+    let mut only_the_last = KeyMap::new(rt.alloc())?;
+    only_the_last.set_accent(14, Accent::new('x'))?;
+    assert_eq!(rt; only_the_last.n_accs(), 15);
     let before = map.try_clone(rt.alloc())?;
     assert_eq!(rt; map.set_accent(15, Accent::new('y')), Err(BadAccent));
     assert!(rt; map == before);
@@ -210,6 +213,7 @@ fn slots_end_at_255(rt: HostRuntime) -> Result<(), Fail> {
     };
     map.set(255, nops);
     assert_eq!(rt; map.n_keys(), 256);
+    assert_eq!(rt; *map.entry(255), nops);
     map.set(3, nops);
     assert_eq!(rt; map.n_keys(), 256);
     assert_eq!(rt; *map.entry(3), nops);
@@ -217,22 +221,34 @@ fn slots_end_at_255(rt: HostRuntime) -> Result<(), Fail> {
     Ok(())
 }
 
-/// Where a growth is refused, the call after it isn't, and nothing else has changed.
 #[test]
 fn a_new_map_has_no_keys(rt: HostRuntime) -> Result<(), Fail> {
-    let map = match KeyMap::new(rt.alloc()) {
-        Ok(map) => map,
-        Err(_) => KeyMap::new(rt.alloc())?,
-    };
+    let map = KeyMap::new(rt.alloc())?;
     assert_eq!(rt; map.n_keys(), 0);
     assert_eq!(rt; map.n_accs(), 0);
     assert_eq!(rt; *map.entry(0), Entry::undefined());
     assert!(rt; map.accent(0).is_none());
+    Ok(())
+}
+
+/// Where a growth is refused, the next call isn't, and the map that was to be copied is as it was.
+#[test]
+fn a_copy_is_equal(rt: HostRuntime) -> Result<(), Fail> {
+    let entry = Entry {
+        cells: [Cell::Char('k'); 8],
+        flag: LockFlag::N,
+    };
+    let mut map = KeyMap::new(rt.alloc())?;
+    map.set(37, entry);
+    map.set_accent(2, Accent::new('^'))?;
     let copy = match map.try_clone(rt.alloc()) {
         Ok(copy) => copy,
         Err(_) => map.try_clone(rt.alloc())?,
     };
     assert!(rt; copy == map);
+    assert_eq!(rt; (map.n_keys(), map.n_accs()), (38, 3));
+    assert_eq!(rt; *map.entry(37), entry);
+    assert_eq!(rt; map.accent(2).map(|accent| accent.own()), Some('^'));
     Ok(())
 }
 
@@ -304,21 +320,23 @@ fn a_refused_growth_is_no_read_fault(rt: HostRuntime) {
     assert!(rt; !reader.failed());
 }
 
+/// It fails after so many bytes, after the last one too, in place of the end.
 #[test]
-fn a_failing_reader_is_a_fault(rt: HostRuntime) {
-    for most in 0..5 {
+fn a_failing_reader_is_a_fault(rt: HostRuntime) -> Result<(), Fail> {
+    for most in 0..=5 {
         let mut reader = reader_of(b"12345", most);
-        let fault = match read_up_to(rt.alloc(), &mut reader, 7) {
-            Err(ReadError::Read(fault)) => Some(fault),
-            _ => None,
-        };
         let wanted = ReadFault {
             offset: most as u64,
             kind: ReadFaultKind::Device,
         };
-        assert_eq!(rt; fault, Some(wanted), "after {most} bytes");
+        match read_up_to(rt.alloc(), &mut reader, 7) {
+            Ok(_) => return Err("the failure was taken for the end")?,
+            Err(ReadError::Read(fault)) => assert_eq!(rt; fault, wanted),
+            Err(ReadError::Memory) => return Err(ReadError::Memory)?,
+        }
         assert!(rt; reader.failed());
     }
+    Ok(())
 }
 
 /// A writer that takes one byte at a time, and fails when it is full.
@@ -394,4 +412,71 @@ fn readers_and_writers_of_std_are_devices(rt: HostRuntime) -> Result<(), Fail> {
     );
     assert!(rt; writer.failed());
     Ok(())
+}
+
+/// A writer that takes all it is given up to so many bytes, and then fails.
+#[derive(Drop)]
+struct Limited {
+    taken: usize,
+    most: usize,
+    writes: u32,
+    failed: bool,
+}
+
+fn limited_to(most: usize) -> Limited {
+    Limited {
+        taken: 0,
+        most,
+        writes: 0,
+        failed: false,
+    }
+}
+
+impl Write for Limited {
+    ghost contents = { λ _. None };
+
+    ghost has_failed = { λ writer. writer.failed };
+
+    fn write(&mut self, bytes: &[u8]) -> Result<usize, Failed> {
+        if bytes.is_empty() {
+            return Ok(0);
+        }
+        self.writes = self.writes.saturating_add(1);
+        if self.taken >= self.most {
+            self.failed = true;
+            return Err(Failed);
+        }
+        let count = bytes.len().min(self.most - self.taken);
+        self.taken += count;
+        Ok(count)
+    }
+
+    fn failed(&self) -> bool {
+        self.failed
+    }
+}
+
+/// Five pieces of 1,000 bytes: four wait in the buffer when the fifth comes.
+fn stream_pieces(writer: &mut Limited) -> Result<(), WriteFault> {
+    let piece = [b'x'; 1000];
+    let mut stream = Stream::new();
+    stream.push(writer, &piece)?;
+    stream.push(writer, &piece)?;
+    stream.push(writer, &piece)?;
+    stream.push(writer, &piece)?;
+    stream.push(writer, &piece)?;
+    stream.finish(writer)
+}
+
+#[test]
+fn pieces_are_gathered(rt: HostRuntime) {
+    let mut writer = limited_to(9000);
+    assert_eq!(rt; stream_pieces(&mut writer), Ok(()));
+    assert_eq!(rt; (writer.taken, writer.writes), (5000, 2));
+    for most in [0, 1, 3999, 4000, 4001, 4999] {
+        let mut writer = limited_to(most);
+        let written = most as u64;
+        assert_eq!(rt; stream_pieces(&mut writer), Err(WriteFault { written }));
+        assert!(rt; writer.failed());
+    }
 }

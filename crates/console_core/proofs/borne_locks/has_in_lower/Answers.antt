@@ -1,7 +1,7 @@
 use Rattle.std.proofs.Common.{◌≡◌, ◌+◌, ap, sym, ◌∙◌, arith}
 use Rattle.keymap_core.specs.Actions.{holding_action}
 use Rattle.keymap_core.specs.Borne.{has_in_slot}
-use Rattle.console_core.proofs.BorneTests.{any-start, any-none, half-some, half-end}
+use Rattle.keymap_core.proofs.BorneTests.{any-start, any-none, half-some, half-end}
 use Rattle.console_core.proofs.borne_locks.has_in_lower.Goals as goal
 
 pub loop-key-init : goal.loop-key-init

@@ -1,6 +1,6 @@
 use Rattle.std.proofs.Common.{refl}
 use Rattle.keymap_core.specs.declared.action.Holding.TheVariants as holding
-use Rattle.console_core.proofs.BorneTests.{borne-by}
+use Rattle.keymap_core.proofs.BorneTests.{borne-by}
 use Rattle.console_core.proofs.borne_locks.is_borne.Goals as goal
 
 pub returns-then-has_in_lower : goal.returns-then-has_in_lower

@@ -1,12 +1,12 @@
-use Rattle.std.proofs.Common.{◌≡◌, ◌+◌, ◌∷◌, ◌++◌, [], take, ap, sym, ◌∙◌, arith}
+use Rattle.std.proofs.Common.{◌≡◌, ◌+◌, ◌∷◌, ◌++◌, [], take, ap, subst, sym, ◌∙◌, arith}
 use Rattle.std.specs.Prelude.{reverse}
 use Rattle.std.proofs.lemmas.Grind.{common_steps}
 use Rattle.console_core.proofs.Headline.{on_only_while_pressed, on_exactly_while_pressed, off_once_quiet, goes_on_as_after_reset, repeats-kept}
 use Rattle.console_core.proofs.FreshPresses.{locked_by_fresh_presses}
 use Rattle.console_core.proofs.PlainLooks.{shown-plain}
 use Rattle.console_core.proofs.Traps.{on_only_while_pressed_without_traps}
-use Rattle.console_core.specs.History.{AnswersTo}
-use Rattle.console_core.proofs.Deliveries.{take_event, AnswersTo-push, reverse-push}
+use Rattle.console_core.specs.History.{AnswersTo, HasKeys, Locked}
+use Rattle.console_core.proofs.Deliveries.{take_event, AnswersTo-push, reverse-push, reverse-joined}
 use Rattle.console_core.proofs.replays.replay.Goals as goal
 
 pub loop-event-preserved : goal.loop-event-preserved
@@ -35,10 +35,13 @@ returns-clause-on_exactly_while_pressed g c =
 
 pub returns-clause-repeats_turn_no_steady_lock : goal.returns-clause-repeats_turn_no_steady_lock
 returns-clause-repeats_turn_no_steady_lock g c =
-    λ ms h s keys repeats l steady.
+    λ ms h s keys earlier repeats split are l steady.
     let e : take c.loop-event.event-index c.args.events.now ≡ c.args.events.now = grind (arith, common_steps) in
     let at : g.T.Translator.stands c.loop-event.console ms (reverse c.args.events.now ++ h) = rw e at (c.loop-event.invariant.stands ms h s) in
-    g.met.T.Translator.locked_where_it_stands c.loop-event.console ms (reverse c.args.events.now ++ h) at l ∙ repeats-kept ms l h c.args.events.now steady keys repeats ∙ sym (g.met.T.Translator.locked_where_it_stands c.args.console.now ms h s l)
+    let joined : reverse c.args.events.now ++ h ≡ reverse repeats ++ (reverse earlier ++ h) = rw split (reverse-joined earlier repeats h) in
+    g.met.T.Translator.locked_where_it_stands c.loop-event.console ms (reverse c.args.events.now ++ h) at l
+    ∙ ap (λ x. Locked ms l x) joined
+    ∙ repeats-kept ms l (reverse earlier ++ h) repeats steady (subst HasKeys joined keys) are
 
 pub returns-clause-off_once_quiet : goal.returns-clause-off_once_quiet
 returns-clause-off_once_quiet g c =

@@ -3,7 +3,7 @@ use Rattle.keymap_check.specs.Findings.{AreFindings}
 use Rattle.keymap_check.specs.Report.{IsBearer}
 use Rattle.keymap_check.proofs.Reported.{reported-bearer, reported-steady}
 use Rattle.keymap_core.specs.declared.action.Holding.TheVariants as holding
-use Rattle.keymap_check.proofs.Bearing.{throughout-bears}
+use Rattle.keymap_check.proofs.Bearing.{throughout-bears, plain_bearers}
 use Rattle.keymap_check.proofs.Promises as promise
 use Rattle.keymap_check.proofs.report.check.Goals as goal
 
@@ -55,3 +55,10 @@ pub returns-clause-fresh_presses : goal.returns-clause-fresh_presses
 returns-clause-fresh_presses c l k e =
     promise.fresh_presses c.locks_count_fresh_presses.ensures c.args.map.now l k
     (throughout-bears c.args.map.now (holding.Lock l) k (sym (reported-bearer c.args.map.now c.survey.result (holding.Lock l) c.survey.ensures) ∙ e))
+
+pub returns-clause-looks_plainly : goal.returns-clause-looks_plainly
+returns-clause-looks_plainly c plain =
+    promise.looks_plainly c.looks_plainly.ensures.look c.args.map.now
+    (plain_bearers c.args.map.now c.survey.result
+    (λ a. subst (λ b. IsBearer c.args.map.now a b) (sym (reported-bearer c.args.map.now c.survey.result a c.survey.ensures)) (c.reports_are_computed.ensures.bearers c.args.map.now a))
+    plain)

@@ -18,7 +18,7 @@ use Rattle.keymap_core.specs.Maps.{MapValue}
 use Rattle.console_core.specs.Positions.{first_of_two, is_odd, count_where}
 use Rattle.keymap_core.specs.Borne.{is_borne}
 use Rattle.console_core.specs.Columns.{look_with}
-use Rattle.console_core.specs.Resolved.{unlocks, ResolvedEvent, held, locked, remembered, pending, taken_over, unless_nop, look, resolve, resolve_press, turns, answer_resolved, on}
+use Rattle.console_core.specs.Resolved.{ResolvedEvent, held, locked, remembered, pending, taken_over, unless_nop, look, resolve, resolve_press, turns, answer_resolved, on}
 use Rattle.console_core.specs.History.{Maps, in_force, loaded, is_second_in_force, is_load, resolved_event, resolved, pressed, Pending, AnswersTo, AnswerTo, HasKey, HasKeys, IsQuiet}
 use Rattle.console_core.specs.Resolved.ResolvedEvent.{PressedCharacter, PressedAction, ReleasedKey, WasReset, WasLoaded}
 use Rattle.keymap_core.specs.Bearers.{IsCellOf, BearsThroughout}

@@ -16,7 +16,6 @@ use Rattle.console_core.specs.Reading.{Turns, Unlocks}
 use Rattle.console_core.specs.Loads.{WithoutLoads, as_reset, loads_as_resets, LoadsOfOneMapAreResets}
 use Rattle.console_core.proofs.OneMore.{resolved-start, resolved-more, held-reset, held-load, locked-reset, locked-load, remembered-reset, remembered-load, pending-reset, pending-load}
 use Rattle.console_core.proofs.Borne.{AllLooked, locked-borne, resolved-looked}
-use Rattle.keymap_core.proofs.BorneTests.{borne-bears, bears-borne}
 use Rattle.console_core.proofs.FreshPresses.{no_loads-first}
 use Rattle.console_core.proofs.Headline.{Same, same-resolve, same-step, same-answer_resolved, resolve-key}
 use Rattle.console_core.proofs.Readings.{locked-count}

@@ -10,7 +10,6 @@
 //! No call takes memory but `replay`, and no call fails but for want of memory there.
 #![tactic(auto)]
 
-mod borne_locks;
 mod event;
 pub mod laws;
 mod machine;

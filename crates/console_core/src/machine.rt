@@ -14,7 +14,6 @@ ghost use Rattle.console_core.specs.Resolved.ResolvedEvent.{PressedCharacter, Pr
 ghost use Rattle.console_core.specs.Agrees.{Agrees, StandsAt};
 ghost use Rattle.keymap_core.specs.Borne.{is_borne as is_borne_of};
 
-use crate::borne_locks::is_borne;
 use crate::event::{Answer, Event};
 use crate::rules::{answer_action, column, compose, flips, next_pending};
 use crate::store::Store;
@@ -176,7 +175,7 @@ fn keep_if_borne<S: Store>(store: &mut S, map: &KeyMap, lock: Lock)
     ensures force { S.second store.new ≡ S.second store.old }
 {
     if store.is_locked(lock) {
-        if !is_borne(map, lock) {
+        if !map.is_borne(Holding::Lock(lock)) {
             store.turn(lock);
         }
     }

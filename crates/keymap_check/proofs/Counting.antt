@@ -1,33 +1,10 @@
 -- One more number below a bound.
 use Prim.Native.Nat.{zero, suc}
-use Rattle.std.proofs.Common.{◌≡◌, ℕ, ◌<◌, ◌≤◌, length, length-append, ◌+◌, ◌-◌, Bool, true, false, ◌||◌, List, [], ◌++◌, Option, Some, None, refl, ap, subst, sym, ◌∙◌, ◌⊎◌, inl, inr, if◌then◌else◌, arith, add-one}
+use Rattle.std.proofs.Common.{◌≡◌, ℕ, ◌<◌, ◌≤◌, length, length-append, ◌+◌, ◌-◌, Bool, true, false, List, [], ◌++◌, Option, Some, None, refl, ap, subst, sym, ◌∙◌, ◌⊎◌, inl, inr, if◌then◌else◌, arith, add-one}
 use Rattle.std.specs.Prelude.{◌==◌}
-use Rattle.std.proofs.lemmas.Bool.{cases_Bool, true≢false, eqb-true, eq-eqb, or_cases}
-use Rattle.keymap_check.specs.Below.{any_below, first_below, gathered}
+use Rattle.std.proofs.lemmas.Bool.{cases_Bool, true≢false, eqb-true, eq-eqb}
+use Rattle.keymap_check.specs.Below.{first_below, gathered}
 use Rattle.console_core.specs.Positions.{first_of_two}
-
-pub any_below-none : (test : ℕ → Bool) → any_below test 0 ≡ false
-unfolding any_below
-any_below-none test = refl
-
-pub any_below-more : (test : ℕ → Bool) (n : ℕ) → any_below test n ≡ false → test n ≡ false → any_below test (n + 1) ≡ false
-unfolding any_below
-any_below-more test n e f = rw (add-one, e) f
-
-or-true : (b : Bool) → (b || true) ≡ true
-or-true true = refl
-or-true false = refl
-
-pub any_below-found : (test : ℕ → Bool) (i n : ℕ) → i < n → test i ≡ true → any_below test n ≡ true
-unfolding any_below
-any_below-found test i zero lt e = absurd (omega (arith, lt))
-any_below-found test i (suc n) lt e =
-    elim (cases_Bool (i == n)) [
-      | inl s ↦ ap (λ t. any_below test n || t) (subst (λ j. test j ≡ true) (eqb-true i n s) e) ∙ or-true _
-      | inr s ↦
-          let ne : i ≡ n → ⊥ = λ q. true≢false (sym (eq-eqb i n q) ∙ s) in
-          ap (λ t. t || test n) (any_below-found test i n (omega (arith, lt, ne)) e)
-    ]
 
 pub first_below-none : (test : ℕ → Bool) → first_below test 0 ≡ None
 unfolding first_below
@@ -66,15 +43,6 @@ below-suc i n lt =
     elim (cases_Bool (i == n)) [
       | inl s ↦ inr (eqb-true i n s)
       | inr s ↦ let ne : i ≡ n → ⊥ = λ q. true≢false (sym (eq-eqb i n q) ∙ s) in inl (omega (arith, lt, ne))
-    ]
-
-pub any_below-some : (test : ℕ → Bool) (n : ℕ) → any_below test n ≡ true → (i : ℕ) × (i < n) × (test i ≡ true)
-unfolding any_below
-any_below-some test zero e = absurd (true≢false (sym e))
-any_below-some test (suc n) e =
-    elim (or_cases (any_below test n) (test n) e) [
-      | inl s ↦ let r : (i : ℕ) × (i < n) × (test i ≡ true) = any_below-some test n s in (r.0, omega (arith, r.1), r.2)
-      | inr s ↦ (n, omega arith, s)
     ]
 
 none_some : {A : Type 0} (x : A) → None ≡ Some x → ⊥

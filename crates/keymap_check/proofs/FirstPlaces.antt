@@ -14,7 +14,8 @@ use Rattle.keymap_check.specs.declared.kind.Kind.TheVariants as kind
 use Rattle.keymap_check.specs.declared.finding.Finding.{Finding}
 use Rattle.keymap_check.specs.declared.finding.Place.{Place}
 use Rattle.keymap_check.specs.Below.{gathered}
-use Rattle.keymap_check.specs.Cells.{fits, is_upper_live, cell_of, slot_at, column_at, place_at, place_count, first_place, is_character, is_any_holding}
+use Rattle.keymap_core.specs.Borne.{is_upper_live}
+use Rattle.keymap_check.specs.Cells.{fits, cell_of, slot_at, column_at, place_at, place_count, first_place, is_character, is_any_holding}
 use Rattle.keymap_check.specs.Computed.{findings_at, findings_of, finding_by, finding_with, held_by}
 use Rattle.std.specs.Prelude.{All, AllPairs, Any}
 use Rattle.std.proofs.lemmas.List.Elements.{All-cons, All-nil}
@@ -23,7 +24,8 @@ use Rattle.keymap_check.specs.Findings.{IsPlaceOf, NotAfter, IsFirstOf, IsHoldin
 use Rattle.keymap_check.specs.Report.{FindingsAreComputed}
 use Rattle.keymap_check.proofs.Counting.{IsFirstBelow, below-suc}
 use Rattle.keymap_check.proofs.Same.{character-cell, holding-cell, IsHeldBy, holding-any}
-use Rattle.keymap_check.proofs.Places.{first_place-some, count_if, upper-live, live-upper, count_least}
+use Rattle.keymap_check.proofs.Places.{first_place-some, count_if, count_least}
+use Rattle.keymap_core.proofs.BorneTests.{live-upper, upper-is_live}
 use Rattle.keymap_check.proofs.Findings.{safe_by}
 
 -- the place with a number
@@ -46,7 +48,7 @@ number m k q is =
           let p : (slot_at k q.column ≡ k) × (column_at q.column ≡ q.column) = place_low k q.column (nat_lt q.column 8) refl (lt-ltb q.column 8 lt) in
           (q.column, omega (arith, least, lt), p.0 ∙ sym s, p.1)
       | inr s ↦
-          let c : place_count m ≡ 16 = count_if m true (live-upper m s.0) in
+          let c : place_count m ≡ 16 = count_if m true (upper-is_live m s.0) in
           let lt : q.column < 8 = is.0 in
           let p : (slot_at k (q.column + 8) ≡ k + 128) × (column_at (q.column + 8) ≡ (q.column + 8) - 8) = place_high k (q.column + 8) (nat_lt (q.column + 8) 8) refl (le-ltb (q.column + 8) 8 (omega arith)) in
           let back : (q.column + 8) - 8 ≡ q.column = omega arith in
@@ -54,7 +56,7 @@ number m k q is =
     ]
 
 live_if : (m : MapValue) (p : ℕ) (t : Bool) → is_upper_live m ≡ t → p < place_count m → 8 ≤ p → IsUpperLive m × (p < 16)
-live_if m p true e lt le = let c : place_count m ≡ 16 = count_if m true e in (upper-live m e, omega (arith, c, lt))
+live_if m p true e lt le = let c : place_count m ≡ 16 = count_if m true e in (live-upper m e, omega (arith, c, lt))
 live_if m p false e lt le = let c : place_count m ≡ 8 = count_if m false e in absurd (omega (arith, c, lt, le))
 
 live_by : (m : MapValue) (p : ℕ) → p < place_count m → 8 ≤ p → IsUpperLive m × (p < 16)

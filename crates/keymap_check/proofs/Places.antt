@@ -1,48 +1,15 @@
 -- The places of a key's cells, and the cells that it has.
-use Rattle.std.proofs.Common.{◌≡◌, ℕ, ◌<◌, ◌≤◌, ◌+◌, ◌-◌, ◌⊎◌, Bool, true, false, ◌||◌, Some, None, refl, ap, subst, sym, ◌∙◌, inl, inr, if◌then◌else◌, arith}
+use Rattle.std.proofs.Common.{◌≡◌, ℕ, ◌<◌, ◌≤◌, ◌+◌, ◌-◌, Bool, true, false, Some, None, refl, ap, subst, sym, ◌∙◌, inl, inr, if◌then◌else◌, arith}
 use Rattle.std.specs.Prelude.{nat_lt}
-use Rattle.std.proofs.lemmas.Bool.{cases_Bool, or_cases, ltb-true, ltb-false, lt-ltb, le-ltb}
-use Rattle.keymap_core.specs.declared.action.Modifier.TheVariants as modifier
-use Rattle.keymap_core.specs.declared.action.Lock.TheVariants as lock
-use Rattle.keymap_core.specs.declared.action.Action.TheVariants as act
-use Rattle.keymap_core.specs.declared.action.Holding.TheVariants as holding
+use Rattle.std.proofs.lemmas.Bool.{cases_Bool, ltb-true, ltb-false, lt-ltb, le-ltb}
 use Rattle.keymap_core.specs.declared.entry.Cell.{Cell}
-use Rattle.keymap_core.specs.declared.entry.Cell.TheVariants.{Act}
 use Rattle.keymap_core.specs.Maps.{MapValue, cell_at}
-use Rattle.keymap_core.specs.Bearers.{StandsIn, IsUpperLive, IsCellOf}
+use Rattle.keymap_core.specs.Bearers.{StandsIn, IsCellOf}
+use Rattle.keymap_core.specs.Borne.{is_upper_live}
+use Rattle.keymap_core.proofs.BorneTests.{live-upper, upper-is_live}
 use Rattle.keymap_check.specs.declared.kind.Kind.{Kind}
-use Rattle.keymap_check.specs.Below.{any_below}
-use Rattle.keymap_check.specs.Cells.{fits, is_upper_switch, is_upper_live, place_count, cell_of, first_place}
-use Rattle.keymap_check.proofs.Counting.{any_below-found, any_below-some, first_below-no, first_below-some, IsFirstBelow, NoneBelow}
-use Rattle.keymap_check.proofs.Same.{is_holding-true}
-
-switch-cell : (m : MapValue) (slot column : ℕ) → slot < 128 → column < 8 → is_upper_switch (cell_at m slot column) ≡ true → IsUpperLive m
-switch-cell m slot column lt in_range e =
-    elim (or_cases _ _ e) [
-      | inl s ↦ (slot, lt, inl (column, in_range, is_holding-true (holding.Mod modifier.AltShift) (cell_at m slot column) s))
-      | inr s ↦ (slot, lt, inr (column, in_range, is_holding-true (holding.Lock lock.Alt) (cell_at m slot column) s))
-    ]
-
-pub upper-live : (m : MapValue) → is_upper_live m ≡ true → IsUpperLive m
-unfolding is_upper_live
-upper-live m e =
-    let s : (i : ℕ) × (i < 128) × (any_below (λ column. is_upper_switch (cell_at m i column)) 8 ≡ true) = any_below-some (λ slot. any_below (λ column. is_upper_switch (cell_at m slot column)) 8) 128 e in
-    let c : (j : ℕ) × (j < 8) × (is_upper_switch (cell_at m s.0 j) ≡ true) = any_below-some (λ column. is_upper_switch (cell_at m s.0 column)) 8 s.2 in
-    switch-cell m s.0 c.0 s.1 c.1 c.2
-
-or-true : (x : Bool) → (x || true) ≡ true
-or-true true = refl
-or-true false = refl
-
-switch-here : (m : MapValue) (slot : ℕ) → (StandsIn m slot (Act (act.Mod modifier.AltShift)) ⊎ StandsIn m slot (Act (act.Lock lock.Alt))) → (j : ℕ) × (j < 8) × (is_upper_switch (cell_at m slot j) ≡ true)
-switch-here m slot (inl s) = (s.0, s.1, ap is_upper_switch s.2)
-switch-here m slot (inr s) = (s.0, s.1, ap is_upper_switch s.2)
-
-pub live-upper : (m : MapValue) → IsUpperLive m → is_upper_live m ≡ true
-unfolding is_upper_live
-live-upper m live =
-    let c : (j : ℕ) × (j < 8) × (is_upper_switch (cell_at m live.0 j) ≡ true) = switch-here m live.0 live.2 in
-    any_below-found (λ slot. any_below (λ column. is_upper_switch (cell_at m slot column)) 8) live.0 128 live.1 (any_below-found (λ column. is_upper_switch (cell_at m live.0 column)) c.0 8 c.1 c.2)
+use Rattle.keymap_check.specs.Cells.{fits, place_count, cell_of, first_place}
+use Rattle.keymap_check.proofs.Counting.{first_below-no, first_below-some, IsFirstBelow, NoneBelow}
 
 pub count_if : (m : MapValue) (t : Bool) → is_upper_live m ≡ t → place_count m ≡ (if t then 16 else 8)
 unfolding place_count
@@ -59,7 +26,7 @@ place_by m k p true live lt =
     let lt16 : p < 16 = subst (λ n. p < n) (count_if m true live) lt in
     elim (cases_Bool (nat_lt p 8)) [
       | inl s ↦ inl (p, ltb-true p 8 s, sym (low-cell m k p (nat_lt p 8) refl s))
-      | inr s ↦ inr (upper-live m live, (p - 8, omega (arith, lt16, ltb-false p 8 s), sym (high-cell m k p (nat_lt p 8) refl s)))
+      | inr s ↦ inr (live-upper m live, (p - 8, omega (arith, lt16, ltb-false p 8 s), sym (high-cell m k p (nat_lt p 8) refl s)))
     ]
 place_by m k p false live lt =
     let lt8 : p < 8 = subst (λ n. p < n) (count_if m false live) lt in
@@ -84,7 +51,7 @@ cell-place m k x (inl s) =
     let n : 8 ≤ place_count m = count_least m (is_upper_live m) refl in
     (s.0, omega (arith, n, s.1), low-cell m k s.0 (nat_lt s.0 8) refl (lt-ltb s.0 8 s.1) ∙ s.2)
 cell-place m k x (inr s) =
-    let c : place_count m ≡ 16 = count_if m true (live-upper m s.0) in
+    let c : place_count m ≡ 16 = count_if m true (upper-is_live m s.0) in
     let s1 : StandsIn m (k + 128) x = s.1 in
     let e : (s1.0 + 8) - 8 ≡ s1.0 = omega arith in
     let lt : s1.0 + 8 < 16 = omega (arith, s1.1) in

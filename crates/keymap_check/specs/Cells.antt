@@ -1,11 +1,9 @@
 -- The cells of a key in their order, as a computation: what is first among them.
-use Rattle.std.specs.Prelude.{ℕ, ◌+◌, ◌-◌, nat_lt, Bool, false, true, ◌||◌, not, Option, if◌then◌else◌}
+use Rattle.std.specs.Prelude.{ℕ, ◌+◌, ◌-◌, nat_lt, Bool, false, true, not, Option, if◌then◌else◌}
 use Rattle.keymap_core.specs.declared.action.Modifier.{Modifier}
 use Rattle.keymap_core.specs.declared.action.Modifier.TheVariants as modifier
-use Rattle.keymap_core.specs.declared.action.Lock.TheVariants as lock
 use Rattle.keymap_core.specs.declared.action.Action.TheVariants as act
 use Rattle.keymap_core.specs.declared.action.Holding.{Holding}
-use Rattle.keymap_core.specs.declared.action.Holding.TheVariants as holding
 use Rattle.keymap_core.specs.declared.entry.Cell.{Cell}
 use Rattle.keymap_core.specs.declared.entry.Cell.TheVariants.{Char, Act}
 use Rattle.keymap_core.specs.Actions.{same_action, holding_action}
@@ -15,7 +13,8 @@ use Rattle.keymap_check.specs.declared.kind.Group.TheVariants as group
 use Rattle.keymap_check.specs.declared.kind.Kind.{Kind}
 use Rattle.keymap_check.specs.declared.kind.Kind.TheVariants as kind
 use Rattle.keymap_check.specs.declared.finding.Place.{Place}
-use Rattle.keymap_check.specs.Below.{any_below, first_below}
+use Rattle.keymap_core.specs.Borne.{is_upper_live}
+use Rattle.keymap_check.specs.Below.{first_below}
 
 abbrev pub is_of_group : Group → Modifier → Bool
 is_of_group group.Shift modifier.LeftShift = true
@@ -50,9 +49,6 @@ abbrev pub is_group_cell : Group → Cell → Bool
 is_group_cell g (Act (act.Mod i)) = is_of_group g i
 is_group_cell g _ = false
 
-abbrev pub is_upper_switch : Cell → Bool
-is_upper_switch x = is_holding (holding.Mod modifier.AltShift) x || is_holding (holding.Lock lock.Alt) x
-
 abbrev pub fits : Kind → Cell → Bool
 fits kind.Character x = is_character x
 fits kind.AnyHolding x = is_any_holding x
@@ -60,10 +56,6 @@ fits (kind.Holding a) x = is_holding a x
 fits (kind.OtherThan a) x = not (is_holding a x)
 fits kind.CharacterOrNop x = is_character_or_nop x
 fits (kind.Of g) x = is_group_cell g x
-fits kind.UpperSwitch x = is_upper_switch x
-
-unfoldable pub is_upper_live : MapValue → Bool
-is_upper_live m = any_below (λ slot. any_below (λ column. is_upper_switch (cell_at m slot column)) 8) 128
 
 unfoldable pub place_count : MapValue → ℕ
 place_count m = if is_upper_live m then 16 else 8

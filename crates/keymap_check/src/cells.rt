@@ -2,8 +2,7 @@
 //! only where the upper slots are live.
 ghost use Rattle.std.specs.Prelude.{◌≡◌, ◌<◌, ◌≤◌, IfSome};
 ghost use Rattle.keymap_core.specs.Maps.{cell_at};
-ghost use Rattle.keymap_check.specs.Below.{any_below, first_below};
-ghost use Rattle.keymap_check.specs.Cells.{fits, slot_at, column_at, cell_of as cell_of_key, first_place as first_place_of, place_count as place_count_of, is_upper_live as is_upper_live_in};
+ghost use Rattle.keymap_check.specs.Cells.{slot_at, column_at, cell_of as cell_of_key, first_place as first_place_of, place_count as place_count_of};
 
 use crate::kind::Kind;
 use keymap_core::{Cell, KeyMap};
@@ -41,36 +40,12 @@ fn cell(map: &KeyMap, slot: u8, column: u8) -> Cell
     map.entry(slot).cells()[column as usize]
 }
 
-/// Whether a cell of the slot makes the upper slots live.
-fn has_upper_switch(map: &KeyMap, slot: u8) -> bool
-    ensures { result ≡ any_below (λ column. fits Kind.UpperSwitch (cell_at map.now slot column)) 8 }
-{
-    for column in 0..8 {
-        if Kind::UpperSwitch.fits(cell(map, slot, column)) {
-            return true;
-        }
-    }
-    false
-}
-
-/// Whether the slots 128 to 255 are live.
-fn is_upper_live(map: &KeyMap) -> bool
-    ensures { result ≡ is_upper_live_in map.now }
-{
-    for slot in 0..128 {
-        if has_upper_switch(map, slot) {
-            return true;
-        }
-    }
-    false
-}
-
 /// How many cells each key has.
 pub fn place_count(map: &KeyMap) -> u8
     ensures value { result ≡ place_count_of map.now }
     ensures in_range { result ≤ 16 }
 {
-    if is_upper_live(map) { 16 } else { 8 }
+    if map.is_upper_live() { 16 } else { 8 }
 }
 
 /// The first place of the key that has a cell of the kind.

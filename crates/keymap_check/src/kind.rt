@@ -2,7 +2,7 @@
 ghost use Rattle.std.specs.Prelude.{◌≡◌};
 ghost use Rattle.keymap_check.specs.Cells.{fits as fits_kind, is_of_group};
 
-use keymap_core::{Action, Cell, Holding, Lock, Modifier};
+use keymap_core::{Action, Cell, Holding, Modifier};
 
 /// The modifiers that count as one when a column or a slot is looked up.
 #[derive(Clone, Copy, Debug, PartialEq, Eq)]
@@ -23,8 +23,6 @@ pub enum Kind {
     OtherThan(Holding),
     CharacterOrNop,
     Of(Group),
-    /// An action that makes the upper slots live.
-    UpperSwitch,
 }
 
 fn is_holding(cell: Cell, holding: Holding) -> bool
@@ -66,10 +64,6 @@ impl Kind {
                 Cell::Act(Action::Mod(modifier)) => is_in_group(*modifier, group),
                 _ => false,
             },
-            Kind::UpperSwitch => {
-                is_holding(cell, Holding::Mod(Modifier::AltShift))
-                    || is_holding(cell, Holding::Lock(Lock::Alt))
-            }
         }
     }
 }

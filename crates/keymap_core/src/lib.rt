@@ -15,6 +15,7 @@
 
 mod accent;
 mod action;
+mod bearers;
 mod device;
 mod entry;
 mod from_std;

@@ -1,5 +1,5 @@
 //! Writing through a buffer of fixed size, so that a text of many small pieces costs few writes.
-ghost use Rattle.std.specs.Prelude.{◌≡◌, ℕ, ◌+◌, ◌^◌, ◌<◌, ◌≤◌, ◌||◌, [], List, Option, length, is_err, OnOk};
+ghost use Rattle.std.specs.Prelude.{◌≡◌, ℕ, ◌+◌, ◌^◌, ◌<◌, ◌≤◌, ◌||◌, [], List, Option, length, is_err, OnOk, OnErr};
 ghost use Rattle.keymap_core.specs.Devices.{WritesText, PutsPiece};
 ghost use Rattle.keymap_core.specs.Streams.{Gathers, Pushes, size_of};
 
@@ -54,6 +54,7 @@ impl Stream {
         requires counted { size_of self.old + length piece.now < 2 ^ 64 }
         ensures bytes { Pushes (W.contents writer.old) (W.contents writer.new) self.old self.new piece.now result }
         ensures count { OnOk result (size_of self.new ≡ size_of self.old + length piece.now) }
+        ensures err { OnErr result (self.new ≡ self.old) }
         ensures failed { W.has_failed writer.new ≡ (is_err result || W.has_failed writer.old) }
     {
         if self.buffer.remaining_capacity() < piece.len() {

@@ -2,7 +2,7 @@ use Rattle.std.proofs.Common.{◌≡◌, false}
 use Rattle.keymap_core.specs.Actions.{holding_action}
 use Rattle.keymap_core.specs.Maps.{cell_at}
 use Rattle.keymap_core.specs.Borne.{any_below, is_cell_of_action}
-use Rattle.console_core.proofs.borne_locks.has_in_slot.Given as goal
+use Rattle.keymap_core.proofs.bearers.has_in_slot.Given as goal
 
 abbrev pub invariant-loop-column : goal.invariant-loop-column
 invariant-loop-column l = (any_below (λ i. is_cell_of_action (holding_action l.holding) (cell_at l.map l.slot i)) l.column ≡ false)

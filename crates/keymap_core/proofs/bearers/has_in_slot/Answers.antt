@@ -1,7 +1,7 @@
 use Rattle.std.proofs.Common.{sym, ◌∙◌, arith}
 use Rattle.keymap_core.specs.Actions.{holding_action}
 use Rattle.keymap_core.proofs.BorneTests.{any-start, slot-none, slot-some, slot-end}
-use Rattle.console_core.proofs.borne_locks.has_in_slot.Goals as goal
+use Rattle.keymap_core.proofs.bearers.has_in_slot.Goals as goal
 
 pub loop-column-init : goal.loop-column-init
 loop-column-init c = any-start _

@@ -13,7 +13,7 @@ use Rattle.play_core.specs.declared.sent.What.{What}
 use Rattle.play_core.specs.declared.sent.What.TheVariants.{Down, Repeat, Up, Reset, Load}
 use Rattle.play_core.specs.declared.sent.Sent.{Sent}
 use Rattle.play_core.specs.declared.script.ScriptFault.{ScriptFault}
-use Rattle.play_core.specs.Scripts.{is_there, parts_of, words_of, lines_of, AreEvents, IsEvent, Sends, Tells, mark_of, IsScriptFault, IsFaultOf}
+use Rattle.play_core.specs.Scripts.{is_there, parts_of, words_of, lines_of, AreEvents, IsEvent, Sends, Tells, mark_of, IsScriptFault, IsFaultOf, RunsOut}
 
 -- the part at a place is the line there
 pub record IsPart (script text : List ℕ) (n : ℕ) : Type 0 where
@@ -90,6 +90,19 @@ fault_at script text n sent fault part events first = record {
   sent = sent;
   events = events;
   first = subst (λ k. IsFaultOf (words_of text) (k + 1) fault) (sym (length_before part)) first;
+}
+
+pub out_at : (script text : List ℕ) (n : ℕ) (sent : List Sent) (unkept : Sent) → IsPart script text n → AreEvents (take n (lines_of script)) sent
+    → IsEvent (words_of text) unkept → RunsOut script
+out_at script text n sent unkept part events event = record {
+  before = take n (lines_of script);
+  line = words_of text;
+  after = drop (suc n) (lines_of script);
+  split = lines_split part;
+  sent = sent;
+  events = events;
+  unkept = unkept;
+  event = event;
 }
 
 -- ---- the parts that are left

@@ -1,5 +1,5 @@
 -- What a script says: what is sent, one event a line, or the first line that is no event.
-use Rattle.std.specs.Prelude.{◌≡◌, ◌≢◌, ℕ, ◌+◌, ◌<◌, ◌||◌, ◌==◌, Bool, true, false, List, [], ◌∷◌, ◌++◌, length, map, codes, ⊤}
+use Rattle.std.specs.Prelude.{◌≡◌, ◌≢◌, ℕ, ◌+◌, ◌<◌, ◌||◌, ◌==◌, Bool, true, false, List, [], ◌∷◌, ◌++◌, length, map, codes}
 use Rattle.std.specs.List.{slice_split, filter, before_first, AllZip}
 use Rattle.std.specs.Str.Parse.{AllDigits, digits_value}
 use Rattle.play_core.specs.declared.sent.What.{What}
@@ -98,7 +98,18 @@ pub record IsScriptFault (script : List ℕ) (fault : ScriptFault) : Type 0 wher
   pub events : AreEvents before sent
   pub first : IsFaultOf line (length before + 1) fault
 
+-- The lines before some line are events, and so is that line, for which memory was refused.
+pub record RunsOut (script : List ℕ) : Type 0 where
+  pub before : List (List (List ℕ))
+  pub line : List (List ℕ)
+  pub after : List (List (List ℕ))
+  pub split : lines_of script ≡ before ++ line ∷ after
+  pub sent : List Sent
+  pub events : AreEvents before sent
+  pub unkept : Sent
+  pub event : IsEvent line unkept
+
 -- why a script is refused
 abbrev pub IsScriptError : List ℕ → ScriptError → Type 0
-IsScriptError script errors.Memory = ⊤
+IsScriptError script errors.Memory = RunsOut script
 IsScriptError script (errors.Fault f) = IsScriptFault script f

@@ -35,7 +35,9 @@ impl<T: Drop> From<AllocFailed<T>> for ScriptError {
     }
 }
 
-/// Reads a script: each line that has a word is one event.
+/// Reads a script: each line that has a word is one event. Unless memory is refused, it answers the events exactly if
+/// all of these lines are events, and else the fault of the first one that is none. Each script has one list of events
+/// or one fault, by `laws::one_reading`.
 pub fn read_script(alloc: Global, script: &[u8]) -> Result<Vec<Sent>, ScriptError>
     ensures ok { IfOk result (λ events. IsScript script.now events.items) }
     ensures err { IfErr result (IsScriptError script.now) }

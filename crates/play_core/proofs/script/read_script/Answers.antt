@@ -1,8 +1,9 @@
 use Rattle.std.proofs.Common.{take, refl, ap, subst, ◌∙◌, arith, Some, None, Ok, Err}
+use Rattle.std.proofs.lemmas.Result.{err_from_is_err_and}
 use Rattle.play_core.specs.Scripts.{AreEvents, lines_of, words_of}
 use Rattle.play_core.specs.declared.line.LineFault.TheVariants.{Form, Key}
 use Rattle.play_core.proofs.Sending.{reading_is}
-use Rattle.play_core.proofs.ScriptLines.{few_lines, lines_more, blank_more, event_more, fault_at, next_part, after_split, no_part, parts_left}
+use Rattle.play_core.proofs.ScriptLines.{few_lines, lines_more, blank_more, event_more, fault_at, out_at, next_part, after_split, no_part, parts_left}
 use Rattle.play_core.proofs.script.read_script.Goals as goal
 
 pub overflow_add-number : goal.overflow_add-number
@@ -23,6 +24,14 @@ returns-in-Err-Key-clause-err c =
     let split = after_split _ _ c.split_line.result.1 c.split_line.ensures.parts in
     let next = next_part c.args.script.now _ c.loop-rest.number _ (c.loop-rest.invariant.1 ∙ ap parts_left c.in-Some.is ∙ split) in
     fault_at c.args.script.now _ c.loop-rest.number _ _ next.0 c.loop-rest.invariant.0 (refl, reading_is (words_of c.split_line.result.0.now) (Err Key) (rw c.in-Err-Key.field-0-is at c.in-Err-Key.ensures))
+
+pub returns-in_err-push-in-Ok-Some-clause-err : goal.returns-in_err-push-in-Ok-Some-clause-err
+returns-in_err-push-in-Ok-Some-clause-err c =
+    let split = after_split _ _ c.split_line.result.1 c.split_line.ensures.parts in
+    let next = next_part c.args.script.now _ c.loop-rest.number _ (c.loop-rest.invariant.1 ∙ ap parts_left c.in-Some.is ∙ split) in
+    let sent = reading_is (words_of c.split_line.result.0.now) (Ok (Some c.in-Ok-Some.field-0-0)) (rw c.in-Ok-Some.field-0-is at c.in-Ok-Some.ensures) in
+    let p = err_from_is_err_and c.from_residual.result c.from_residual.ensures.1 in
+    rw (p.1, p.2) (out_at c.args.script.now _ c.loop-rest.number _ _ next.0 c.loop-rest.invariant.0 sent)
 
 pub loop-rest-preserved-in-Ok-None : goal.loop-rest-preserved-in-Ok-None
 loop-rest-preserved-in-Ok-None c =

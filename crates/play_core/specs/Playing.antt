@@ -1,6 +1,6 @@
 -- What `play` reads and writes, and which fault it answers.
-use Rattle.std.specs.Prelude.{◌≡◌, ℕ, ◌+◌, ◌≤◌, ◌<◌, Bool, true, false, List, length, take, Option, Result, Ok, Err, ⊤, ◌⊎◌}
-use Rattle.std.specs.Io.KnownBytes.{Consumes, IsAtEnd, Appends, Keeps}
+use Rattle.std.specs.Prelude.{◌≡◌, ℕ, ◌+◌, ◌<◌, Bool, true, false, List, length, take, Option, Result, Ok, Err, ⊤, ◌⊎◌}
+use Rattle.std.specs.Io.KnownBytes.{Consumes, Appends, Keeps}
 use Rattle.keymap_core.specs.Maps.{MapValue}
 use Rattle.keymap_core.specs.Transfers.{IsDeviceFault}
 use Rattle.keymap_core.specs.declared.transfer.ReadError.TheVariants as read_errors
@@ -9,7 +9,7 @@ use Rattle.keymap_core.specs.declared.transfer.ReadFaultKind.{ReadFaultKind}
 use Rattle.keymap_core.specs.declared.transfer.ReadFaultKind.TheVariants as kinds
 use Rattle.keymap_text.specs.declared.fault.TextError.{TextError}
 use Rattle.keymap_text.specs.declared.fault.TextError.TheVariants as text_errors
-use Rattle.keymap_text.specs.Sources.{ReadsMap, is_device}
+use Rattle.keymap_text.specs.Sources.{TakesWhole, ReadsMap, limit, is_device}
 use Rattle.console_core.specs.History.{Maps, between}
 use Rattle.play_core.specs.declared.sent.Sent.{Sent}
 use Rattle.play_core.specs.declared.script.ScriptFault.{ScriptFault}
@@ -20,10 +20,6 @@ use Rattle.play_core.specs.declared.player.PlayError.{PlayError}
 use Rattle.play_core.specs.declared.player.PlayError.TheVariants.{Memory, Text, Next, Script, Read, Write}
 use Rattle.play_core.specs.Scripts.{IsScript, IsScriptFault}
 use Rattle.play_core.specs.Written.{played_text}
-
--- how many bytes of a script are read at most
-abbrev pub limit : ℕ
-limit = 1048576
 
 -- the bytes that a reader has left, or that a writer has taken, before a call and after it
 pub record Moves : Type 0 where
@@ -36,22 +32,16 @@ moves old new = record { old = old; new = new }
 abbrev pub Stays : Moves → Type 0
 Stays m = Keeps m.old m.new
 
--- These bytes were taken, and the end came after them.
-pub record TakesScript (m : Moves) (script : List ℕ) : Type 0 where
-  pub taken : Consumes m.old m.new script
-  pub few : length script ≤ limit
-  pub end : IsAtEnd m.new
-
--- The script was read whole, and is this list of events.
+-- The script was read whole, up to the limit of a text, and is this list of events.
 pub record ReadsScript (m : Moves) (sent : List Sent) : Type 0 where
   pub script : List ℕ
-  pub takes : TakesScript m script
+  pub takes : TakesWhole m.old m.new script
   pub events : IsScript script sent
 
 -- The script was read whole, and has this fault.
 pub record FaultsScript (m : Moves) (fault : ScriptFault) : Type 0 where
   pub script : List ℕ
-  pub takes : TakesScript m script
+  pub takes : TakesWhole m.old m.new script
   pub first : IsScriptFault script fault
 
 -- One byte more than the limit was taken.

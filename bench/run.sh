@@ -1,6 +1,7 @@
 #!/bin/sh
 # Measures the program on large inputs: what a byte of text and an event of a script cost, how these costs grow from a
-# tenth of the largest size to the whole, and how many system calls a run makes.
+# tenth of the largest size to the whole, how many system calls a run makes, and what the longest search for a
+# demonstration costs.
 #
 # usage: run.sh PROGRAM
 # Costs are instructions, counted by perf(1) or else by callgrind of valgrind(1), or else microseconds of processor
@@ -50,6 +51,15 @@ make_script() {
                 if (i % 997 == 0) put("reset")
             }
         }'
+}
+
+# make_refused: each key has a trap and each bit of a set a key, but no press ever turns a modifier on
+make_refused() {
+    awk 'BEGIN {
+        split("lshift lctrl lalt ashift", name, " ")
+        for (key = 0; key < 128; key++)
+            print key, "\047x\047 \047x\047 \047x\047 \047x\047 \047x\047 \047x\047 \047x\047", name[key % 4 + 1], "O"
+    }'
 }
 
 if perf stat -x, -e instructions:u true 2> perf.out && grep -q '^[0-9]' perf.out; then
@@ -130,3 +140,9 @@ done
 
 "$program" compile "$keymap" tables || exit 1
 echo "dump of the tables of us.kbd: $(cost dump tables) $unit, $(calls dump tables) system calls"
+
+make_refused > refused
+plain=$(cost check refused)
+shown=$(cost check --show refused)
+echo "map of $("$program" check refused | grep -c '^key ') findings, checked: $plain $unit; with --show: $shown $unit," \
+    "times $(per "$shown" 0 "$plain"); $("$program" check --show refused | tail -n 1)"

@@ -135,34 +135,21 @@ ran 'cannot create in no folder' 1 '' "kmap: cannot create none/made$line" compi
 ran 'cannot create a folder' 1 '' "kmap: cannot create folder$line" compile letter folder
 
 # Checking.
+# bearers LSHIFT LCTRL: the lines of a report on the holding actions, of which only these two have a key
+bearers() {
+    echo "lshift $1"
+    echo 'rshift nobody'
+    echo "lctrl $2"
+    for name in rctrl lalt ralt ashift meta clock nlock slock alock; do
+        echo "$name nobody"
+    done
+}
 accepted="accepted
-lshift throughout 42
-rshift nobody
-lctrl nobody
-rctrl nobody
-lalt nobody
-ralt nobody
-ashift nobody
-meta nobody
-clock nobody
-nlock nobody
-slock nobody
-alock nobody
+$(bearers 'throughout 42' nobody)
 "
 refused="refused
 key 42: lshift at slot 42 column 0, character at slot 42 column 2
-lshift sole 42
-rshift nobody
-lctrl throughout 29
-rctrl nobody
-lalt nobody
-ralt nobody
-ashift nobody
-meta nobody
-clock nobody
-nlock nobody
-slock nobody
-alock nobody
+$(bearers 'sole 42' 'throughout 29')
 "
 ran 'accepts' 0 "$accepted" '' check shift
 ran 'shows that there is nothing to show' 0 "${accepted}demonstration: none$line" '' check shift --show
@@ -176,22 +163,28 @@ up 29
 " '' check --show "$examples/trap.kbd"
 holds 'accepts the example' [ "$("$program" check "$examples/us.kbd" | head -n 1)" = accepted ]
 
-# fails_to_write NAME ARGS..: on a full device the fault is told
+# fails_to_write NAME ARGS..: on a full device and on a closed standard output the fault is told
 fails_to_write() {
     label=$1
     shift
     "$program" "$@" > /dev/full 2> stderr
-    holds "$label: status" [ $? -eq 1 ]
-    holds "$label: line" same_bytes stderr "kmap: write fault after 0 bytes$line"
+    holds "$label to a full device: status" [ $? -eq 1 ]
+    holds "$label to a full device: line" same_bytes stderr "kmap: write fault after 0 bytes$line"
+    "$program" "$@" >&- 2> stderr
+    holds "$label to a closed output: status" [ $? -eq 1 ]
+    holds "$label to a closed output: line" same_bytes stderr "kmap: write fault after 0 bytes$line"
 }
-if [ -c /dev/full ]; then
-    fails_to_write 'checks to a full device' check shift
-    fails_to_write 'dumps to a full device' dump tables
-    fails_to_write 'plays to a full device' play letter tap
-    ran 'compiles to a full device' 1 '' "kmap: write fault after 0 bytes$line" compile letter /dev/full
-    "$program" check none1 2> /dev/full
-    holds 'the status stays where the line cannot be written' [ $? -eq 1 ]
-fi
+fails_to_write 'checks' check shift
+fails_to_write 'shows' check --show "$examples/trap.kbd"
+fails_to_write 'dumps' dump tables
+fails_to_write 'plays' play letter tap
+fails_to_write 'plays two' play caps load --next shift
+fails_to_write 'types' play letter tap --typed
+ran 'compiles to a full device' 1 '' "kmap: write fault after 0 bytes$line" compile letter /dev/full
+"$program" check none1 2> /dev/full
+holds 'the status stays where the line cannot be written' [ $? -eq 1 ]
+"$program" check none1 2>&-
+holds 'the status stays where there is no place for the line' [ $? -eq 1 ]
 
 # Words. The texts are those of clap.
 # tells NAME STATUS FULL EMPTY ARGS..: ends so, and writes to the one file and not to the other

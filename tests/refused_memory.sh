@@ -1,9 +1,10 @@
 #!/bin/sh
 # Runs the built program once for each of its allocations, with that one refused: it says that it is out of memory and
-# has written nothing, or it ends as it does with ample memory.
+# has written nothing, or it ends as it does with ample memory and has made the same file.
 #
 # usage: refused_memory.sh PROGRAM
-# The last line is 'N passed, M failed'; the status is 0 where none failed. Without a C compiler nothing is tried.
+# The last line is 'N passed, M failed'; the status is 0 where none failed. It needs the C compiler that CC names, cc
+# unless it is set.
 
 program=${1:-crates/kmap/out/kmap}
 case $program in
@@ -17,25 +18,45 @@ trap 'rm -rf "$folder"' EXIT
 cd "$folder" || exit 1
 
 if ! command -v "${CC:-cc}" > /dev/null; then
-    echo "0 passed, 0 failed, 1 skipped"
-    exit 0
+    echo "failed: there is no C compiler ${CC:-cc}, so no allocation can be refused; set CC"
+    echo "0 passed, 1 failed"
+    exit 1
 fi
 "${CC:-cc}" -shared -fPIC -O1 -o refuse.so "$source" -ldl || exit 1
 
 printf "030 'a' 'A' nop nop 'a' 'A' nop nop C\n" > letter
 printf "042 lshift lshift lshift lshift lshift lshift lshift lshift O\ndacu 180 ( 'e' 0xe9 )\n" > shift
-printf 'down 30\nup 30\nload\ndown 42\n' > script
+# Longer than what is read at once, so that the bytes outgrow their memory as the events do.
+yes 'down 30
+lost up 30
+repeat 30
+load
+down 42' | head -n 1000 > script
+: > empty
+{
+    yes "$(cat letter)" | head -n 25000
+    head -c 1048576 /dev/zero | tr '\000' ' '
+} | head -c 1048576 > large
 "$program" compile letter tables || exit 1
 echo 'kmap: out of memory' > said
 
 passed=0
 failed=0
 
+# same_file: the file that was made, if any, is the one that ample memory makes
+same_file() {
+    if [ -e good ]; then
+        cmp -s good made
+    else
+        [ ! -e made ]
+    fi
+}
+
 # refuses STATUS ARGS..: the program ends so with ample memory, and each refusal is told
 refuses() {
     status=$1
     shift
-    rm -f made
+    rm -f made good
     ALLOCATIONS=count LD_PRELOAD=./refuse.so "$program" "$@" > wanted 2> faults
     got=$?
     if [ $got -ne "$status" ] || [ ! -s count ]; then
@@ -43,6 +64,7 @@ refuses() {
         echo "failed: $* (status $got)"
         return
     fi
+    [ ! -e made ] || mv made good
     told=0
     number=1
     while [ $number -le "$(cat count)" ]; do
@@ -52,7 +74,7 @@ refuses() {
         if [ $got -eq 1 ] && [ ! -s stdout ] && [ ! -e made ] && cmp -s said stderr; then
             told=$((told + 1))
             passed=$((passed + 1))
-        elif [ $got -eq "$status" ] && cmp -s wanted stdout && [ ! -s stderr ]; then
+        elif [ $got -eq "$status" ] && cmp -s wanted stdout && [ ! -s stderr ] && same_file; then
             passed=$((passed + 1))
         else
             failed=$((failed + 1))
@@ -72,6 +94,22 @@ refuses 0 play letter script
 refuses 0 play letter script --typed --next shift
 refuses 0 dump tables
 refuses 0 compile shift made
+
+# allocations ARGS..: how often the program allocates
+allocations() {
+    rm -f count
+    ALLOCATIONS=count LD_PRELOAD=./refuse.so "$program" "$@" > /dev/null && cat count
+}
+
+# A text takes no memory but that of its map, which is the same for all.
+few=$(allocations check empty)
+many=$(allocations check large)
+if [ -n "$few" ] && [ "$few" = "$many" ]; then
+    passed=$((passed + 1))
+else
+    failed=$((failed + 1))
+    echo "failed: $few allocations for an empty text, $many for one of 1048576 bytes"
+fi
 
 echo "$passed passed, $failed failed"
 [ $failed -eq 0 ]

@@ -13,7 +13,7 @@ use play_core::ScriptFault;
 use thiserror::Error;
 
 /// Why a run failed. `write_run_error` writes the line that tells it.
-#[derive(Debug, Drop, Error)]
+#[derive(Clone, Copy, Debug, PartialEq, Eq, Error)]
 pub enum RunError {
     #[error("out of memory")]
     Memory,

@@ -4,8 +4,9 @@
 # has failed.
 #
 # usage: refused_growth.sh [LAST [CRATE..]]
-# LAST is the number of the last allocation that is refused, 6 unless it is given. The runs of a crate end before that
-# where no test allocates so often. RT is the command of the toolchain, rt unless it is set. The last line is 'N passed, M failed'; the status is 0 where none failed.
+# LAST is the number of the last allocation that is refused, 6 unless it is given; the crates are all that take memory,
+# unless some are named. The runs of a crate end earlier where no test tells of a refusal. RT is the command of the
+# toolchain, rt unless it is set. The last line is 'N passed, M failed'; the status is 0 where none failed.
 
 last=${1:-6}
 [ $# -gt 0 ] && shift

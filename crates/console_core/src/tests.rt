@@ -3,7 +3,7 @@
 mod maps;
 
 use crate::{Answer, Event, PlainConsole, Translator, WordConsole, replay};
-use keymap_core::{Action, KeyCode, KeyMap, Lock, Modifier};
+use keymap_core::{Action, KeyCode, KeyMap, LOCKS, Lock, MODIFIERS, Modifier};
 use maps::{
     CAPS_AND_NUM, CAPS_LOCK_WITH_NOP, LETTER_AND_SHIFT, Line, SHIFT_AND_CAPS, TWO_CONTROLS,
     TWO_SCROLL_LOCKS, TWO_SHIFTS, UPPER_HALF, map_of, map_with_accents, map_with_blank_macron,
@@ -11,19 +11,6 @@ use maps::{
 use std::alloc::Global;
 use std::process::Abort;
 use std::test::Fail;
-
-const MODIFIERS: [Modifier; 8] = [
-    Modifier::LeftShift,
-    Modifier::RightShift,
-    Modifier::LeftControl,
-    Modifier::RightControl,
-    Modifier::LeftAlt,
-    Modifier::RightAlt,
-    Modifier::AltShift,
-    Modifier::Meta,
-];
-
-const LOCKS: [Lock; 4] = [Lock::Caps, Lock::Num, Lock::Scroll, Lock::Alt];
 
 // The codes of the actions.
 const LSHIFT: u8 = 0x02;

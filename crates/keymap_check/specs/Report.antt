@@ -1,11 +1,11 @@
 -- What the check reports.
-use Rattle.std.specs.Prelude.{◌≡◌, ◌↔◌, Bool, true, false, List, [], ◌∷◌, slice_index_or}
-use Rattle.keymap_core.specs.declared.action.Modifier.TheVariants.{LeftShift, RightShift, LeftControl, RightControl, LeftAlt, RightAlt, AltShift, Meta}
+use Rattle.std.specs.Prelude.{◌≡◌, ◌↔◌, Bool, true, false, List, [], map, slice_index_or}
+use Rattle.keymap_core.specs.declared.action.Modifier.TheVariants.{Meta}
 use Rattle.keymap_core.specs.declared.action.Lock.{Lock}
-use Rattle.keymap_core.specs.declared.action.Lock.TheVariants.{Caps, Num, Scroll, Alt}
+use Rattle.keymap_core.specs.declared.action.Lock.TheVariants.{Scroll}
 use Rattle.keymap_core.specs.declared.action.Holding.{Holding}
 use Rattle.keymap_core.specs.declared.action.Holding.TheVariants as holding
-use Rattle.keymap_core.specs.Actions.{holding_index, lock_index}
+use Rattle.keymap_core.specs.Actions.{holdings, locks, holding_index, lock_index}
 use Rattle.keymap_core.specs.Maps.{MapValue}
 use Rattle.keymap_core.specs.Bearers.{NobodyBears, BearsThroughout, BearsNotThroughout, SeveralBear}
 use Rattle.console_core.specs.Safety.{IsSafe, IsSteady}
@@ -58,12 +58,8 @@ is_steady_in r l = slice_index_or r.steady (lock_index l) false
 abbrev pub report_of : MapValue → ReportValue
 report_of m = record {
   findings = findings_of m;
-  bearers =
-      bearer_of m (holding.Mod LeftShift) ∷ bearer_of m (holding.Mod RightShift) ∷ bearer_of m (holding.Mod LeftControl)
-      ∷ bearer_of m (holding.Mod RightControl) ∷ bearer_of m (holding.Mod LeftAlt) ∷ bearer_of m (holding.Mod RightAlt)
-      ∷ bearer_of m (holding.Mod AltShift) ∷ bearer_of m (holding.Mod Meta) ∷ bearer_of m (holding.Lock Caps)
-      ∷ bearer_of m (holding.Lock Num) ∷ bearer_of m (holding.Lock Scroll) ∷ bearer_of m (holding.Lock Alt) ∷ [];
-  steady = is_steady m Caps ∷ is_steady m Num ∷ is_steady m Scroll ∷ is_steady m Alt ∷ [];
+  bearers = map (bearer_of m) holdings;
+  steady = map (is_steady m) locks;
 }
 
 -- what is computed of a map is what is said of it

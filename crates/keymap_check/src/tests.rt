@@ -4,26 +4,15 @@ mod maps;
 
 use crate::{Bearer, Finding, Place, Report, check, demonstrate};
 use console_core::Event;
-use keymap_core::{Action, Cell, Entry, Holding, KeyCode, KeyMap, Lock, LockFlag, Modifier};
+use keymap_core::{
+    Action, Cell, Entry, Holding, KeyCode, KeyMap, LOCKS, Lock, LockFlag, MODIFIERS, Modifier,
+};
 use maps::{
     ALT_SHIFT_WITH_TRAP, CAPS_LOCK_WITH_NOP, Line, SCROLL_LOCK_WITH_NOP, SHIFT_WITH_TRAP,
     SHIFT_WITHOUT_TRAP, TWO_SCROLL_LOCKS, UPPER_HALF, map_of,
 };
 use std::process::Abort;
 use std::test::Fail;
-
-const MODIFIERS: [Modifier; 8] = [
-    Modifier::LeftShift,
-    Modifier::RightShift,
-    Modifier::LeftControl,
-    Modifier::RightControl,
-    Modifier::LeftAlt,
-    Modifier::RightAlt,
-    Modifier::AltShift,
-    Modifier::Meta,
-];
-
-const LOCKS: [Lock; 4] = [Lock::Caps, Lock::Num, Lock::Scroll, Lock::Alt];
 
 fn key(code: u8) -> Result<KeyCode, &'static str> {
     KeyCode::new(code).ok_or("no key has this code")

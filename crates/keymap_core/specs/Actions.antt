@@ -1,5 +1,5 @@
 -- The actions of a keymap: each with its code in a table and its name.
-use Rattle.std.specs.Prelude.{◌≡◌, ℕ, ◌+◌, ◌-◌, ◌/◌, ◌%◌, ◌<◌, ◌≤◌, ◌==◌, nat_le, List, [], ◌∷◌, ◌++◌, codes, Option, Some, None, slice_index_or, if◌then◌else◌, ◌&&◌, ◌⊎◌, Bool}
+use Rattle.std.specs.Prelude.{◌≡◌, ℕ, ◌+◌, ◌-◌, ◌/◌, ◌%◌, ◌<◌, ◌≤◌, ◌==◌, nat_le, List, [], ◌∷◌, ◌++◌, codes, map, Option, Some, None, slice_index_or, if◌then◌else◌, ◌&&◌, ◌⊎◌, Bool}
 use Rattle.std.specs.List.{find}
 use Rattle.keymap_core.specs.declared.action.Action.{Action}
 use Rattle.keymap_core.specs.declared.action.Action.TheVariants as a
@@ -108,6 +108,11 @@ abbrev pub IsUnusedCode : ℕ → Type 0
 IsUnusedCode c =
     (c ≡ 0x01) ⊎ ((0x7b ≤ c) × (c ≤ 0x7f)) ⊎ ((0x9b ≤ c) × (c ≤ 0xa0)) ⊎ (0xa4 ≤ c)
 
+-- the modifiers, in their order
+abbrev pub modifiers : List Modifier
+modifiers =
+    m.LeftShift ∷ m.RightShift ∷ m.LeftControl ∷ m.RightControl ∷ m.LeftAlt ∷ m.RightAlt ∷ m.AltShift ∷ m.Meta ∷ []
+
 -- a modifier's place in the list of the modifiers
 abbrev pub modifier_index : Modifier → ℕ
 modifier_index m.LeftShift = 0
@@ -118,6 +123,10 @@ modifier_index m.LeftAlt = 4
 modifier_index m.RightAlt = 5
 modifier_index m.AltShift = 6
 modifier_index m.Meta = 7
+
+-- the locks, in their order
+abbrev pub locks : List Lock
+locks = l.Caps ∷ l.Num ∷ l.Scroll ∷ l.Alt ∷ []
 
 -- a lock's place in the list of the locks
 abbrev pub lock_index : Lock → ℕ
@@ -165,7 +174,11 @@ same_lock l k = lock_index l == lock_index k
 abbrev pub same_action : Action → Action → Bool
 same_action a b = (action_kind a == action_kind b) && (action_number a == action_number b)
 
--- a holding action's place in the list of the holding actions: the modifiers, then the locks
+-- the holding actions: the modifiers, then the locks
+abbrev pub holdings : List Holding
+holdings = map h.Mod modifiers ++ map h.Lock locks
+
+-- a holding action's place in their list
 abbrev pub holding_index : Holding → ℕ
 holding_index (h.Mod m) = modifier_index m
 holding_index (h.Lock l) = 8 + lock_index l

@@ -39,6 +39,37 @@ pub enum Holding {
     Lock(Lock),
 }
 
+/// The modifiers in their order.
+pub const MODIFIERS: [Modifier; 8] = [
+    Modifier::LeftShift,
+    Modifier::RightShift,
+    Modifier::LeftControl,
+    Modifier::RightControl,
+    Modifier::LeftAlt,
+    Modifier::RightAlt,
+    Modifier::AltShift,
+    Modifier::Meta,
+];
+
+/// The locks in their order.
+pub const LOCKS: [Lock; 4] = [Lock::Caps, Lock::Num, Lock::Scroll, Lock::Alt];
+
+/// The modifiers, then the locks.
+pub const HOLDINGS: [Holding; 12] = [
+    Holding::Mod(Modifier::LeftShift),
+    Holding::Mod(Modifier::RightShift),
+    Holding::Mod(Modifier::LeftControl),
+    Holding::Mod(Modifier::RightControl),
+    Holding::Mod(Modifier::LeftAlt),
+    Holding::Mod(Modifier::RightAlt),
+    Holding::Mod(Modifier::AltShift),
+    Holding::Mod(Modifier::Meta),
+    Holding::Lock(Lock::Caps),
+    Holding::Lock(Lock::Num),
+    Holding::Lock(Lock::Scroll),
+    Holding::Lock(Lock::Alt),
+];
+
 impl Modifier {
     ghost use Rattle.keymap_core.specs.Actions.{modifier_index};
 

@@ -32,7 +32,8 @@ mod transfer;
 
 pub use accent::{Accent, PairFault};
 pub use action::{
-    AccentIndex, Action, FunctionNumber, Holding, Lock, Modifier, Name, ScreenNumber,
+    AccentIndex, Action, FunctionNumber, HOLDINGS, Holding, LOCKS, Lock, MODIFIERS, Modifier, Name,
+    ScreenNumber,
 };
 pub use device::{Failed, Read, Write};
 pub use entry::{Cell, Entry, LockFlag};

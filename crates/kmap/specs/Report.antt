@@ -1,11 +1,9 @@
 -- The report of the check, as text.
 use Rattle.std.specs.Prelude.{ℕ, Bool, true, false, List, [], ◌∷◌, ◌++◌, codes, decimal, Option, None, Some}
 use Rattle.std.specs.List.{flat_map}
-use Rattle.keymap_core.specs.declared.action.Modifier.TheVariants.{LeftShift, RightShift, LeftControl, RightControl, LeftAlt, RightAlt, AltShift, Meta}
-use Rattle.keymap_core.specs.declared.action.Lock.TheVariants.{Caps, Num, Scroll, Alt}
 use Rattle.keymap_core.specs.declared.action.Holding.{Holding}
 use Rattle.keymap_core.specs.declared.action.Holding.TheVariants as holding
-use Rattle.keymap_core.specs.Actions.{holding_action, name_of}
+use Rattle.keymap_core.specs.Actions.{holding_action, holdings, name_of}
 use Rattle.keymap_core.specs.Maps.{MapValue}
 use Rattle.console_core.specs.declared.event.Event.{Event}
 use Rattle.console_core.specs.declared.event.Event.TheVariants.{Press, Release, Reset, Load}
@@ -49,13 +47,6 @@ is_steady r (holding.Lock l) = is_steady_in r l
 
 abbrev pub holding_line : ReportValue → Holding → List ℕ
 holding_line r a = holding_name a ++ bearer_text (bearer_in r a) ++ steady_text (is_steady r a) ++ codes "\n"
-
--- the modifiers, then the locks
-abbrev pub holdings : List Holding
-holdings =
-    holding.Mod LeftShift ∷ holding.Mod RightShift ∷ holding.Mod LeftControl ∷ holding.Mod RightControl ∷ holding.Mod LeftAlt
-    ∷ holding.Mod RightAlt ∷ holding.Mod AltShift ∷ holding.Mod Meta ∷ holding.Lock Caps ∷ holding.Lock Num
-    ∷ holding.Lock Scroll ∷ holding.Lock Alt ∷ []
 
 abbrev pub check_text : ReportValue → List ℕ
 check_text r = verdict_line r.findings ++ flat_map finding_line r.findings ++ flat_map (holding_line r) holdings

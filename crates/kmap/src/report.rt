@@ -10,29 +10,13 @@ use crate::text::{append, append_byte};
 use arrayvec::ArrayVec;
 use console_core::Event;
 use keymap_check::{Bearer, Finding, Place, Report, check, demonstrate};
-use keymap_core::{Holding, KeyMap, Lock, Modifier};
+use keymap_core::{HOLDINGS, Holding, KeyMap};
 
 /// How many bytes a report has at most: the verdict, a line of 73 bytes for each of 128 findings, one of 29 for each of 12
 /// holding actions, and the demonstration, fit with room to spare.
 const REPORT: usize = 10_240;
 
 pub(crate) type Text = ArrayVec<u8, REPORT>;
-
-/// The modifiers, then the locks.
-const HOLDINGS: [Holding; 12] = [
-    Holding::Mod(Modifier::LeftShift),
-    Holding::Mod(Modifier::RightShift),
-    Holding::Mod(Modifier::LeftControl),
-    Holding::Mod(Modifier::RightControl),
-    Holding::Mod(Modifier::LeftAlt),
-    Holding::Mod(Modifier::RightAlt),
-    Holding::Mod(Modifier::AltShift),
-    Holding::Mod(Modifier::Meta),
-    Holding::Lock(Lock::Caps),
-    Holding::Lock(Lock::Num),
-    Holding::Lock(Lock::Scroll),
-    Holding::Lock(Lock::Alt),
-];
 
 fn append_name(text: &mut Text, holding: Holding)
     requires { array_vec_len text.old + 6 ≤ REPORT }

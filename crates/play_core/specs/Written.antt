@@ -2,11 +2,9 @@
 use Rattle.std.specs.Prelude.{ℕ, Bool, true, false, List, [], ◌∷◌, ◌++◌, codes, decimal, encode_utf8}
 use Rattle.std.specs.List.{flat_map}
 use Rattle.keymap_core.specs.declared.action.Modifier.{Modifier}
-use Rattle.keymap_core.specs.declared.action.Modifier.TheVariants as modifier
 use Rattle.keymap_core.specs.declared.action.Lock.{Lock}
-use Rattle.keymap_core.specs.declared.action.Lock.TheVariants as lock
 use Rattle.keymap_core.specs.declared.action.Action.TheVariants as action
-use Rattle.keymap_core.specs.Actions.{name_of}
+use Rattle.keymap_core.specs.Actions.{name_of, modifiers, locks}
 use Rattle.console_core.specs.declared.event.Event.{Event}
 use Rattle.console_core.specs.declared.event.Event.TheVariants.{Press, Release, Reset, Load}
 use Rattle.console_core.specs.declared.event.Answer.{Answer}
@@ -31,14 +29,6 @@ answer_text (answer.Char c true) = codes "meta char " ++ decimal c
 answer_text (answer.Special a) = name_of a
 answer_text answer.BackTab = codes "btab"
 answer_text (answer.Released a) = codes "released " ++ name_of a
-
-abbrev pub modifiers : List Modifier
-modifiers =
-    modifier.LeftShift ∷ modifier.RightShift ∷ modifier.LeftControl ∷ modifier.RightControl ∷ modifier.LeftAlt
-    ∷ modifier.RightAlt ∷ modifier.AltShift ∷ modifier.Meta ∷ []
-
-abbrev pub locks : List Lock
-locks = lock.Caps ∷ lock.Num ∷ lock.Scroll ∷ lock.Alt ∷ []
 
 -- a name behind a blank, where it is on
 abbrev pub name_if : Bool → List ℕ → List ℕ

@@ -1,30 +1,17 @@
 //! The text of an event: its line, or the bytes that its answer types.
 ghost use Rattle.std.specs.Prelude.{◌≡◌, ◌+◌, ◌*◌, ◌≤◌, ◌++◌, length, decimal};
-ghost use Rattle.keymap_core.specs.Actions.{name_of};
+ghost use Rattle.keymap_core.specs.Actions.{name_of, modifiers, locks};
 ghost use Rattle.play_core.specs.Written as spec;
 
 use arrayvec::ArrayVec;
 use console_core::{Answer, Event, Translator};
-use keymap_core::{Action, Lock, Modifier};
+use keymap_core::{Action, LOCKS, Lock, MODIFIERS, Modifier};
 
 /// More bytes than are ever shown of one event.
 const PIECE: usize = 160;
 
 /// What is shown of one event.
 pub(crate) type Piece = ArrayVec<u8, PIECE>;
-
-const MODIFIERS: [Modifier; 8] = [
-    Modifier::LeftShift,
-    Modifier::RightShift,
-    Modifier::LeftControl,
-    Modifier::RightControl,
-    Modifier::LeftAlt,
-    Modifier::RightAlt,
-    Modifier::AltShift,
-    Modifier::Meta,
-];
-
-const LOCKS: [Lock; 4] = [Lock::Caps, Lock::Num, Lock::Scroll, Lock::Alt];
 
 fn push(text: &mut Piece, piece: &[u8])
     requires { length text.old.items + length piece.now ≤ 160 }
@@ -125,7 +112,7 @@ fn push_locks<T: Translator>(text: &mut Piece, console: &T, locks: &[Lock])
 /// Adds the names of the modifiers that are on, or none.
 fn push_mods<T: Translator>(text: &mut Piece, console: &T)
     requires { length text.old.items + 56 ≤ 160 }
-    ensures text { text.new.items ≡ text.old.items ++ spec.or_none (spec.names_of_modifiers (T.shows_on console.now) spec.modifiers) }
+    ensures text { text.new.items ≡ text.old.items ++ spec.or_none (spec.names_of_modifiers (T.shows_on console.now) modifiers) }
     ensures size { length text.new.items ≤ length text.old.items + 56 }
 {
     let before = text.len();
@@ -138,7 +125,7 @@ fn push_mods<T: Translator>(text: &mut Piece, console: &T)
 /// Adds the names of the locks that are on, or none.
 fn push_locked<T: Translator>(text: &mut Piece, console: &T)
     requires { length text.old.items + 28 ≤ 160 }
-    ensures text { text.new.items ≡ text.old.items ++ spec.or_none (spec.names_of_locks (T.shows_locked console.now) spec.locks) }
+    ensures text { text.new.items ≡ text.old.items ++ spec.or_none (spec.names_of_locks (T.shows_locked console.now) locks) }
     ensures size { length text.new.items ≤ length text.old.items + 28 }
 {
     let before = text.len();

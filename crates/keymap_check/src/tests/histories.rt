@@ -2,10 +2,10 @@
 use super::maps::{
     CAPS_AND_NUM, LETTER_AND_SHIFT, SHIFT_AND_CAPS, UPPER_HALF, map_of, map_with_accents,
 };
-use super::{LOCKS, MODIFIERS, key, press, release};
+use super::{key, press, release};
 use crate::{Bearer, Report, check};
 use console_core::{Answer, Event, PlainConsole, Translator, WordConsole, replay};
-use keymap_core::{Action, Holding, KeyCode, KeyMap, Lock, Modifier};
+use keymap_core::{Action, Holding, KeyCode, KeyMap, LOCKS, Lock, MODIFIERS, Modifier};
 use std::alloc::Global;
 use std::process::Abort;
 use std::test::Fail;

@@ -31,7 +31,7 @@ pub struct ReadFault {
 }
 
 /// Why no bytes were gathered.
-#[derive(Debug, Drop)]
+#[derive(Clone, Copy, Debug, PartialEq, Eq)]
 pub enum ReadError {
     /// Memory was refused.
     Memory,

@@ -173,6 +173,14 @@ fn letter_and_shift(alloc: Global) -> Result<KeyMap, AllocError> {
     Ok(map)
 }
 
+/// An answer for which memory sufficed; memory that was refused is an error of its own.
+fn settled(answer: Result<KeyMap, TableError>) -> Result<Result<KeyMap, TableError>, TableError> {
+    match answer {
+        Err(TableError::Memory) => Err(TableError::Memory),
+        answer => Ok(answer),
+    }
+}
+
 fn fault_of(answer: Result<KeyMap, TableError>) -> Option<TableFault> {
     match answer {
         Err(TableError::Fault(fault)) => Some(fault),
@@ -290,9 +298,11 @@ fn each_fault_is_at_its_offset(rt: HostRuntime) -> Result<(), Fail> {
             }
         }
         let wanted = fault(offset, kind);
-        assert_eq!(rt; fault_of(read_tables(rt.alloc(), &bytes)), wanted);
+        let answer = settled(read_tables(rt.alloc(), &bytes))?;
+        assert_eq!(rt; fault_of(answer), wanted);
         let mut reader = FromStd::new(bytes.as_slice());
-        assert_eq!(rt; fault_of(read_tables_from(rt.alloc(), &mut reader)), wanted);
+        let answer = settled(read_tables_from(rt.alloc(), &mut reader))?;
+        assert_eq!(rt; fault_of(answer), wanted);
     }
     Ok(())
 }
@@ -313,28 +323,27 @@ fn a_wrong_length_is_refused(rt: HostRuntime) -> Result<(), Fail> {
 }
 
 #[test]
-fn a_reader_without_end_is_left(rt: HostRuntime) {
+fn a_reader_without_end_is_left(rt: HostRuntime) -> Result<(), Fail> {
     let mut reader = zeros_of(u64::MAX);
-    let result = read_tables_from(rt.alloc(), &mut reader);
-    assert_eq!(rt; fault_of(result), fault(15524, TableFaultKind::Long));
+    let answer = settled(read_tables_from(rt.alloc(), &mut reader))?;
+    assert_eq!(rt; fault_of(answer), fault(15524, TableFaultKind::Long));
     assert!(rt; reader.reads <= 15526 && !reader.failed());
+    Ok(())
 }
 
 #[test]
-fn a_failing_reader_is_a_fault(rt: HostRuntime) {
+fn a_failing_reader_is_a_fault(rt: HostRuntime) -> Result<(), Fail> {
     for most in [0, 1, 511, 512, 513, 15523, 15524] {
         let mut reader = zeros_of(most);
         let wanted = TableError::Read(ReadFault {
             offset: most,
             kind: ReadFaultKind::Device,
         });
-        assert_eq!(rt;
-            read_tables_from(rt.alloc(), &mut reader).err(),
-            Some(wanted),
-            "after {most} bytes"
-        );
+        let answer = settled(read_tables_from(rt.alloc(), &mut reader))?;
+        assert_eq!(rt; answer.err(), Some(wanted), "after {most} bytes");
         assert!(rt; reader.failed());
     }
+    Ok(())
 }
 
 #[test]
@@ -368,13 +377,13 @@ fn each_proper_prefix_is_short(rt: HostRuntime) -> Result<(), Fail> {
 }
 
 /// A fault, or a map whose image the bytes are.
-fn is_read_exactly(alloc: Global, bytes: &[u8]) -> bool {
-    match read_tables(alloc, bytes) {
-        Err(TableError::Fault(_)) => true,
-        Err(_) => false,
+fn is_read_exactly(alloc: Global, bytes: &[u8]) -> Result<bool, TableError> {
+    match settled(read_tables(alloc, bytes))? {
+        Err(TableError::Fault(_)) => Ok(true),
+        Err(_) => Ok(false),
         Ok(map) => {
             let mut sheet = sheet_of(LENGTH);
-            write_tables(&map, &mut sheet).is_ok() && sheet.bytes.as_slice() == bytes
+            Ok(write_tables(&map, &mut sheet).is_ok() && sheet.bytes.as_slice() == bytes)
         }
     }
 }
@@ -393,7 +402,7 @@ fn stays_exact(rt: &HostRuntime, step: u8, mask: u8) -> Result<bool, Fail> {
         if let Some(copy) = bytes.get_mut(place) {
             *copy = byte.wrapping_add(step) ^ mask;
         }
-        if !is_read_exactly(rt.alloc(), &bytes) {
+        if !is_read_exactly(rt.alloc(), &bytes)? {
             return Ok(false);
         }
         if let Some(copy) = bytes.get_mut(place) {

@@ -1,8 +1,8 @@
 //! Each kind of fault at each kind of place where it can come.
 
-use crate::tests::reading::read_pieces;
+use crate::tests::reading::{read_pieces, settled};
 use crate::{TextError, TextFault, TextFaultKind, read_map};
-use std::alloc::{AllocError, Global};
+use std::alloc::Global;
 use std::process::Abort;
 use std::test::Fail;
 
@@ -174,7 +174,7 @@ fn assert_fault(
     place: &[u8],
     token: &[u8],
     kind: Option<TextFaultKind>,
-) -> Result<(), AllocError> {
+) -> Result<(), Fail> {
     let mut text = Vec::new(alloc);
     text.extend_from_slice(place)?;
     text.extend_from_slice(token)?;
@@ -187,9 +187,9 @@ fn assert_fault(
         line: 1,
         kind,
     }));
-    let whole = read_map(alloc, text.as_slice()).err();
+    let whole = settled(read_map(alloc, text.as_slice()))?.err();
     assert_eq!(rt; whole, wanted, "of {token:?} after {place:?}");
-    let pieces = read_pieces(rt, alloc, text.as_slice(), 1).err();
+    let pieces = settled(read_pieces(rt, alloc, text.as_slice(), 1))?.err();
     assert_eq!(rt; pieces, wanted, "of {token:?} after {place:?}, in pieces");
     Ok(())
 }
@@ -218,7 +218,7 @@ fn texts_end_where_definitions_do(rt: HostRuntime) -> Result<(), Fail> {
 
 /// Texts, and the offset, line and kind of their fault.
 #[test]
-fn the_first_fault_is_answered(rt: HostRuntime) {
+fn the_first_fault_is_answered(rt: HostRuntime) -> Result<(), Fail> {
     use TextFaultKind::{
         BadChar, BadFunction, BadLiteral, BadWord, Combined, EndInside, KeyTooLarge, Unexpected,
         ZeroBase,
@@ -247,7 +247,8 @@ fn the_first_fault_is_answered(rt: HostRuntime) {
     ];
     for (text, offset, line, kind) in texts {
         let fault = TextFault { offset, line, kind };
-        let found = read_map(rt.alloc(), text).err();
+        let found = settled(read_map(rt.alloc(), text))?.err();
         assert_eq!(rt; found, Some(TextError::Fault(fault)), "in {text:?}");
     }
+    Ok(())
 }

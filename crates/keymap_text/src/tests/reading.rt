@@ -11,6 +11,16 @@ use std::alloc::Global;
 use std::process::Abort;
 use std::test::Fail;
 
+/// An answer for which memory sufficed; memory that was refused is an error of its own.
+pub(crate) fn settled(
+    answer: Result<KeyMap, TextError>,
+) -> Result<Result<KeyMap, TextError>, TextError> {
+    match answer {
+        Err(TextError::Memory) => Err(TextError::Memory),
+        answer => Ok(answer),
+    }
+}
+
 /// The map or fault of a text in pieces of a size. Where a growth is refused, the reader is made again.
 pub(crate) fn read_pieces(
     rt: &impl Abort,
@@ -239,25 +249,27 @@ fn words_are_judged_when_they_are_complete(rt: HostRuntime) -> Result<(), Fail> 
 }
 
 /// The map or fault of a text, also in pieces.
-fn assert_same_in_pieces(rt: &impl Abort, alloc: Global, text: &[u8]) {
+fn assert_same_in_pieces(rt: &impl Abort, alloc: Global, text: &[u8]) -> Result<(), TextError> {
     let end = text.len();
-    let whole = read_map(alloc, text);
+    let whole = settled(read_map(alloc, text))?;
     for size in [1, 7] {
-        match (&whole, read_pieces(rt, alloc, text, size)) {
+        match (&whole, settled(read_pieces(rt, alloc, text, size))?) {
             (Ok(map), Ok(other)) => assert!(rt; *map == other, "up to {end}"),
             (Err(error), Err(other)) => assert_eq!(rt; *error, other, "up to {end}"),
             _ => assert!(rt; false, "up to {end}"),
         }
     }
+    Ok(())
 }
 
 #[test]
-fn each_prefix_is_read_the_same_in_pieces(rt: HostRuntime) {
+fn each_prefix_is_read_the_same_in_pieces(rt: HostRuntime) -> Result<(), Fail> {
     for text in [ACCENTS, UPPER_HALF] {
         for end in 0..=text.len() {
-            assert_same_in_pieces(&rt, rt.alloc(), &text[..end]);
+            assert_same_in_pieces(&rt, rt.alloc(), &text[..end])?;
         }
     }
+    Ok(())
 }
 
 #[test]

@@ -102,7 +102,7 @@ ran 'a directory as next text' 1 '' "kmap: next: read fault at offset 0$line" pl
 ran 'a directory as script' 1 '' "kmap: script: read fault at offset 0$line" play letter folder
 ran 'a directory as tables' 1 '' "kmap: tables: read fault at offset 0$line" dump folder
 
-# Files are opened in the order TEXT, TEXT2, SCRIPT, before anything is read.
+# All files are opened before the first is read: TEXT, then TEXT2, then SCRIPT.
 ran 'no text' 1 '' "kmap: cannot open none1$line" play none1 none3 --next none2
 ran 'no next text' 1 '' "kmap: cannot open none2$line" play letter none3 --next none2
 ran 'no script' 1 '' "kmap: cannot open none3$line" play cut none3 --next cut

@@ -47,7 +47,7 @@ column_of shift control alt = bit shift + 2 * bit control + 4 * bit alt
 abbrev pub is_upper : (Modifier → Bool) → (Lock → Bool) → Bool
 is_upper is_on is_locked = xor (is_on AltShift) (is_locked Alt)
 
--- the cell of the key, where shift, control and alt are each on if the left or the right modifier is on
+-- the cell of the key: the left and the right one of shift, control and alt count as one
 abbrev pub look_with : MapValue → (Modifier → Bool) → (Lock → Bool) → ℕ → Cell
 look_with m is_on is_locked k =
     let slot = slot_of k (is_upper is_on is_locked) in

@@ -37,7 +37,7 @@ HoldingIsRemembered =
     → (k : ℕ) (a : Holding) → Remembered ms k h ≡ Some (holding_action a) → lets_go k e h ≡ false
     → Remembered ms k (e ∷ h) ≡ Some (holding_action a)
 
--- In a safe map a modifier that is on has a pressed key that raised it and wasn't let go since.
+-- In a safe map each modifier that is on was raised by a key that has been pressed ever since.
 abbrev pub IsRaisedByPressed : Maps → Modifier → List Event → Type 0
 IsRaisedByPressed ms i h =
     (k : ℕ) × (later : List Event) × (before : List Event) × (pressed k h ≡ true) × (h ≡ later ++ Press k ∷ before)

@@ -28,7 +28,7 @@ HasKey Load = Unit {0}
 abbrev pub HasKeys : List Event → Type 0
 HasKeys h = All HasKey h
 
--- The map in force: the first one after an even number of loads, else the second one.
+-- The map in force: each load exchanges the two, and the first one is in force before any.
 abbrev pub is_load : Event → List Event → Bool
 is_load Load before = true
 is_load _ before = false

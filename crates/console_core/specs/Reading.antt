@@ -50,7 +50,7 @@ Held ms a h = held a (resolved ms h)
 abbrev pub Turns : Maps → Lock → Event → List Event → Bool
 Turns ms l e h = Raises ms (holding.Lock l) e h && not (Held ms (holding.Lock l) h)
 
--- a load that puts in force a map in which nobody bears the lock
+-- a load of a map where no key bears the lock
 abbrev pub Unlocks : Maps → Lock → Event → List Event → Bool
 Unlocks ms l Load h = not (is_borne (loaded ms h) (holding.Lock l))
 Unlocks ms l _ h = false
@@ -143,7 +143,7 @@ abbrev pub LastTakesNot : Maps → MapValue → ℕ → List (Event × List Even
 LastTakesNot ms m i [] = Unit {0}
 LastTakesNot ms m i (p ∷ rest) = TakesDeadKey ms m p.0 p.1 ≢ Some i
 
--- the positions end in a longest run of presses that each take the dead key i, and its length is odd
+-- at the end of the positions an odd number of presses, and no more, take the dead key i one after another
 abbrev pub EndsInOddRun : Maps → MapValue → ℕ → List (Event × List Event) → Type 0
 EndsInOddRun ms m i positions =
     (run : List (Event × List Event)) × (rest : List (Event × List Event)) × (positions ≡ run ++ rest)

@@ -9,7 +9,7 @@ use Rattle.keymap_core.specs.declared.entry.Cell.TheVariants.{Char, Act}
 use Rattle.keymap_core.specs.Maps.{MapValue}
 use Rattle.keymap_core.specs.Bearers.{IsCellOf, Bears, IsAlone}
 
--- no key bears a holding action and also has a character among its cells
+-- a key with a modifier or a lock among its cells has no character among them
 abbrev pub IsSafe : MapValue → Type 0
 IsSafe m = (k : ℕ) → k < 128 → (a : Holding) → Bears m k a → (c : ℕ) → IsCellOf m k (Char c) → ⊥
 

@@ -13,7 +13,7 @@ use Rattle.console_core.specs.declared.event.Event.{Event}
 use Rattle.console_core.specs.Columns.{slot_of, column_of}
 use Rattle.console_core.specs.History.{Maps, in_force, On, pressed, HasKeys}
 
--- the bits of a cell: those of its column, and ashift for a cell in the upper half
+-- the bits of a cell: whether it is in the upper half, and which of shift, control and alt its column stands for
 pub record Bits : Type 0 where
   pub upper : Bool
   pub shift : Bool
@@ -34,7 +34,7 @@ group_bit RightAlt bits = bits.alt
 group_bit AltShift bits = bits.upper
 group_bit Meta bits = true
 
--- one of the key's cells is the modifier, and another is a character whose bits have the bit of the modifier's group
+-- the modifier is a cell of the key, and so is some character among those that the modifier's own group leads to
 abbrev pub HasTrap : MapValue → Modifier → ℕ → Type 0
 HasTrap m i k =
     Bears m k (holding.Mod i)

@@ -58,7 +58,7 @@ pub fn holding_actions_are_remembered()
     ensures { HoldingIsRemembered }
 {}
 
-/// In a safe map a modifier that is on has a pressed key that raised it.
+/// In a safe map each modifier that is on was raised by a key that has been pressed ever since.
 pub fn modifiers_are_raised_by_pressed_keys()
     ensures { OnByPressedKey }
 {}

@@ -61,8 +61,8 @@ fn memory_code(action: &Option<Action>) -> u8
     }
 }
 
-/// The modifiers in bits 0 to 7 of the word, the locks in bits 8 to 11, the down marks in bits 12 to 15, the pending accent
-/// in bits 16 to 19 (0 for none, else 1 + its index), and bit 20 set where the second map is in force. The bytes are the
+/// The modifiers in bits 0 to 7 of the word, the locks in bits 8 to 11, the down marks in bits 12 to 15, the index of
+/// the pending accent plus 1, or 0, in bits 16 to 19, and bit 20 set where the second map is in force. The bytes are the
 /// codes of the remembered actions, 0 for nothing.
 #[derive(Drop)]
 pub struct WordStore {

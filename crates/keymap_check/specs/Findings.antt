@@ -35,7 +35,7 @@ pub record IsFinding (m : MapValue) (f : Finding) : Type 0 where
   pub first_holding : IsFirstOf m f.key IsHoldingCell f.holding_at
   pub first_character : IsFirstOf m f.key IsCharacterCell f.character_at
 
--- the key bears a holding action and also has a character among its cells
+-- the key has both a modifier or lock and a character among its cells
 abbrev pub IsUnsafeKey : MapValue → ℕ → Type 0
 IsUnsafeKey m k = (a : Holding) × Bears m k a × ((c : ℕ) × IsCellOf m k (Char c))
 

@@ -24,7 +24,7 @@ ModifiersAreOnOnlyWhilePressed m = AfterEveryList m (λ ms h. IsOnOnlyWhilePress
 abbrev pub IsOnExactlyWhilePressed : MapValue → Modifier → ℕ → Type 0
 IsOnExactlyWhilePressed m i k = AfterEveryList m (λ ms h. On ms i h ≡ pressed k h)
 
--- a press of a key that is pressed already doesn't turn the lock, which stays as it was
+-- no repeat turns the lock, which stays as it was
 abbrev pub NoRepeatTurns : MapValue → Lock → Type 0
 NoRepeatTurns m l =
     AfterEveryList m (λ ms h. (k : ℕ) → k < 128 → pressed k h ≡ true

@@ -106,8 +106,8 @@ fn try_if_found(map: &KeyMap, places: u8, key: u8) -> Option<Script>
 /// Shows how the keymap can leave a modifier on: gives the first script, in the order in which they are tried, after which
 /// a new console has some modifier on though each key was released.
 ///
-/// The keys with findings are tried in their order, each with the pairs of sets of modifiers A and B, A from 0 to 15 and
-/// within it B from 0 to 15. A script presses the keys of A, presses the tried key, goes on from A to B, presses the tried
+/// The keys with findings are tried in their order, each with the 256 pairs of sets of modifiers, all sets B for each set A.
+/// A script presses the keys of A, presses the tried key, goes on from A to B, presses the tried
 /// key again and releases it, and releases the keys of B.
 ///
 /// That there is none does not mean that a refused keymap cannot stick, since no other scripts are tried.

@@ -17,7 +17,7 @@ pub struct Place {
     pub column: u8,
 }
 
-/// A key that bears a modifier or a lock and also has a character among its cells. First is what stands in the lower slot,
+/// A key that has both a modifier or lock and a character among its cells. First is what stands in the lower slot,
 /// then in the lesser column.
 #[derive(Clone, Copy, Debug, PartialEq, Eq)]
 pub struct Finding {

@@ -1,7 +1,7 @@
 //! Whether a keymap can leave a modifier stuck: which keymaps are accepted, which key bears which modifier or lock, and a
 //! search for a few events that show how a refused keymap sticks.
 //!
-//! A keymap is accepted exactly if no key bears a modifier or a lock and also has a character among its cells. The contract
+//! A keymap is accepted exactly if no key has both a modifier or lock and a character among its cells. The contract
 //! of [`check`] says what that gives, for every list of events, delivered to a console of `console_core`, that leaves the
 //! keymap in force:
 //!

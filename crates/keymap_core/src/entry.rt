@@ -3,7 +3,7 @@ ghost use Rattle.std.specs.Prelude.{◌≡◌, length};
 
 use crate::action::Action;
 
-/// What a key gives in one column. Character 0 and the action `nop` are different cells.
+/// What a key gives in one column. The character 0 isn't the action `nop`.
 #[derive(Clone, Copy, Debug, PartialEq, Eq)]
 pub enum Cell {
     Char(char),

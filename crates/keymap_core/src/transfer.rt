@@ -42,7 +42,7 @@ pub enum ReadError {
 /// How many bytes are asked for at once.
 const PIECE: usize = 4096;
 
-/// Reads until the end, or until `max` bytes were taken, in at most `max` + 1 reads.
+/// The bytes up to the end, or the first `max` of them, in at most `max` + 1 reads.
 pub fn read_up_to<R: Read>(alloc: Global, reader: &mut R, max: usize) -> Result<Vec<u8>, ReadError>
     ensures ok { IfOk result (λ bytes. ReadsUpTo max (R.remaining reader.old) (R.remaining reader.new) bytes.items) }
     ensures failed { R.has_failed reader.new ≡ (fails_device result || R.has_failed reader.old) }

@@ -23,7 +23,7 @@ fn read_fault(offset: usize, kind: ReadFaultKind) -> TextError
 }
 
 /// The map that the text from a device spells, or its fault. The map is reserved before the first read, and is all that
-/// is allocated. A fault ends the reading and leaves the rest unread. At the limit one byte more is asked for.
+/// is allocated. Nothing is read after a fault. At the limit one byte more is asked for.
 pub fn read_from<R: Read>(alloc: Global, reader: &mut R) -> Result<KeyMap, TextError>
     ensures reads { ReadsMap (R.remaining reader.old) (R.remaining reader.new) result }
     ensures failed { R.has_failed reader.new ≡ (names_device result || R.has_failed reader.old) }

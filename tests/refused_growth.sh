@@ -40,7 +40,7 @@ judged() {
         }
         name == "" { next }
         { lines = lines "  " $0 "\n" }
-        /^ *error: (AllocError|Memory|"out of memory")$/ { is_refused = 1 }
+        /^ *error: (AllocError|AllocFailed.*|Memory|"out of memory")$/ { is_refused = 1 }
         /killed by signal|assertion/ { is_stopped = 1 }
         END { tell() }
     ' "$1"

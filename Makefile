@@ -1,23 +1,36 @@
-# make               proves and builds the program, and leaves it at crates/kmap/out/kmap
+# make               proves and builds the program, and leaves it at crates/kmap/out/kmap; at once where nothing changed
 # make check         proves every crate from nothing, tries the edits that must be refused, and runs all tests
 # make check-memory  runs the tests of the crates with each of their first allocations refused, some 20 minutes in all
 # make bench         measures the program on large inputs
-# make install       installs the program, its manual page and the examples below $(DESTDIR)$(PREFIX)
+# make install       installs the program, manual pages, completions, examples and documents in $(DESTDIR)$(PREFIX)
+# make uninstall     removes what this version installs
 # make clean         removes what was made
+#
+# It is for any make: the kit's `rt` knows which sources the program is made of, so each target asks it.
 
 PREFIX = /usr/local
 DESTDIR =
 RT = rt
 INSTALL = install
 PROGRAM = crates/kmap/out/kmap
-SOURCES = crates.txt $(shell find crates -name out -prune -o -type f \( -name '*.rt' -o -name '*.antt' \) -print)
+
+SHARE = $(DESTDIR)$(PREFIX)/share
+MAN = $(SHARE)/man
+BASH_COMPLETIONS = $(SHARE)/bash-completion/completions
+FISH_COMPLETIONS = $(SHARE)/fish/vendor_completions.d
+ZSH_COMPLETIONS = $(SHARE)/zsh/site-functions
+EXAMPLES = $(SHARE)/examples/kmap
+DOC = $(SHARE)/doc/kmap
 
 all:
-	cd crates/kmap && $(RT) run -- --help > /dev/null
+	cd crates/kmap && $(RT) run -- --version > /dev/null
 
-check:
+check: all
 	$(RT) ci
 	sh tests/program.sh $(PROGRAM)
+	sh tests/completions.sh $(PROGRAM)
+	sh tests/manual.sh $(PROGRAM)
+	sh tests/install.sh
 	sh tests/refused_memory.sh $(PROGRAM)
 
 check-memory:
@@ -26,16 +39,28 @@ check-memory:
 bench: all
 	sh bench/run.sh $(PROGRAM)
 
-$(PROGRAM): $(SOURCES)
-	$(MAKE) all
+install: all
+	$(INSTALL) -d "$(DESTDIR)$(PREFIX)/bin" "$(MAN)/man1" "$(MAN)/man5" "$(EXAMPLES)" "$(DOC)/docs" \
+	    "$(BASH_COMPLETIONS)" "$(FISH_COMPLETIONS)" "$(ZSH_COMPLETIONS)"
+	$(INSTALL) -m 755 $(PROGRAM) "$(DESTDIR)$(PREFIX)/bin/kmap"
+	$(INSTALL) -m 644 man/kmap.1 "$(MAN)/man1/kmap.1"
+	$(INSTALL) -m 644 man/kmap.5 "$(MAN)/man5/kmap.5"
+	$(INSTALL) -m 644 completions/kmap.bash "$(BASH_COMPLETIONS)/kmap"
+	$(INSTALL) -m 644 completions/kmap.fish "$(FISH_COMPLETIONS)/kmap.fish"
+	$(INSTALL) -m 644 completions/_kmap "$(ZSH_COMPLETIONS)/_kmap"
+	$(INSTALL) -m 644 examples/* "$(EXAMPLES)"
+	$(INSTALL) -m 644 README.md CHANGELOG.md LICENSE "$(DOC)"
+	$(INSTALL) -m 644 docs/*.md "$(DOC)/docs"
 
-install: $(PROGRAM)
-	$(INSTALL) -d $(DESTDIR)$(PREFIX)/bin $(DESTDIR)$(PREFIX)/share/man/man1 $(DESTDIR)$(PREFIX)/share/examples/kmap
-	$(INSTALL) -m 755 $(PROGRAM) $(DESTDIR)$(PREFIX)/bin/kmap
-	$(INSTALL) -m 644 man/kmap.1 $(DESTDIR)$(PREFIX)/share/man/man1/kmap.1
-	$(INSTALL) -m 644 examples/* $(DESTDIR)$(PREFIX)/share/examples/kmap
+# Folders that other programs share stay, and so does what a user put into the program's own.
+uninstall:
+	rm -f "$(DESTDIR)$(PREFIX)/bin/kmap" "$(MAN)/man1/kmap.1" "$(MAN)/man5/kmap.5"
+	rm -f "$(BASH_COMPLETIONS)/kmap" "$(FISH_COMPLETIONS)/kmap.fish" "$(ZSH_COMPLETIONS)/_kmap"
+	for file in examples/*; do rm -f "$(EXAMPLES)/$${file#examples/}"; done
+	for file in README.md CHANGELOG.md LICENSE docs/*.md; do rm -f "$(DOC)/$$file"; done
+	for folder in "$(EXAMPLES)" "$(DOC)/docs" "$(DOC)"; do rmdir "$$folder" 2> /dev/null || true; done
 
 clean:
 	rm -rf crates/*/out
 
-.PHONY: all check check-memory bench install clean
+.PHONY: all check check-memory bench install uninstall clean

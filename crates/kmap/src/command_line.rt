@@ -2,6 +2,9 @@
 use clap::{Arg, ArgAction, ArgMatches, Command};
 use std::alloc::{AllocError, Global};
 
+/// The version of the program, which CHANGELOG.md and the manual pages repeat.
+const VERSION: &str = "0.1.0";
+
 fn file<'a>(alloc: Global, name: &'a str, help: &'a str) -> Arg<'a> {
     Arg::new(alloc, name)
         .required(true)
@@ -16,27 +19,15 @@ fn flag<'a>(alloc: Global, name: &'a str, help: &'a str) -> Arg<'a> {
         .help(help)
 }
 
-fn dump<'a>(alloc: Global) -> Result<Command<'a>, AllocError> {
-    Command::new(alloc, "dump")
-        .about("Prints a table file as text")
-        .arg(file(alloc, "TABLES", "The table file"))
-}
-
-fn compile<'a>(alloc: Global) -> Result<Command<'a>, AllocError> {
-    Command::new(alloc, "compile")
-        .about("Writes the table file of a text")
-        .arg(file(alloc, "TEXT", "The keymap text"))?
-        .arg(file(alloc, "OUT", "The table file to create"))
-}
-
 fn check<'a>(alloc: Global) -> Result<Command<'a>, AllocError> {
     Command::new(alloc, "check")
-        .about("Checks that no key can leave a modifier on")
+        .about("Tells whether a keymap is free of keys that can leave a modifier on")
+        .after_help("Example: kmap check --show de.kbd{n}{n}kmap(1) tells how to read the report.")
         .arg(file(alloc, "TEXT", "The keymap text"))?
         .arg(flag(
             alloc,
             "show",
-            "Also prints key presses that leave a modifier on",
+            "Also prints key presses that leave a modifier on, if found",
         ))
 }
 
@@ -50,23 +41,45 @@ fn next<'a>(alloc: Global) -> Arg<'a> {
 
 fn play<'a>(alloc: Global) -> Result<Command<'a>, AllocError> {
     Command::new(alloc, "play")
-        .about("Prints what the console answers to a script")
+        .about("Prints what the console answers to a script of key presses")
+        .after_help(
+            "Example: kmap play --typed de.kbd de.script{n}{n}kmap(1) tells what a script is.",
+        )
         .arg(file(alloc, "TEXT", "The keymap text"))?
         .arg(file(alloc, "SCRIPT", "The script of key presses"))?
         .arg(flag(alloc, "typed", "Prints the typed bytes instead"))?
         .arg(next(alloc))
 }
 
+fn compile<'a>(alloc: Global) -> Result<Command<'a>, AllocError> {
+    Command::new(alloc, "compile")
+        .about("Writes the table file of a keymap text")
+        .after_help(
+            "Example: kmap compile de.kbd de.tables{n}{n}kmap(1) tells what OUT is good for.",
+        )
+        .arg(file(alloc, "TEXT", "The keymap text"))?
+        .arg(file(alloc, "OUT", "The table file to create or overwrite"))
+}
+
+fn dump<'a>(alloc: Global) -> Result<Command<'a>, AllocError> {
+    Command::new(alloc, "dump")
+        .about("Prints a table file as keymap text")
+        .after_help("Example: kmap dump de.tables{n}{n}kmap(5) tells what the text means.")
+        .arg(file(alloc, "TABLES", "The table file"))
+}
+
 /// The subcommands of the program and their words.
 pub(crate) fn command<'a>(alloc: Global) -> Result<Command<'a>, AllocError> {
     Command::new(alloc, "kmap")
+        .version(VERSION)
         .about("Reads, checks, converts and plays console keymaps")
+        .after_help("Example: kmap check de.kbd{n}{n}The manual pages are kmap(1) and kmap(5).")
         .subcommand_required(true)
         .arg_required_else_help(true)
-        .subcommand(dump(alloc)?)?
-        .subcommand(compile(alloc)?)?
         .subcommand(check(alloc)?)?
-        .subcommand(play(alloc)?)
+        .subcommand(play(alloc)?)?
+        .subcommand(compile(alloc)?)?
+        .subcommand(dump(alloc)?)
 }
 
 /// What the words ask for.

@@ -1,0 +1,38 @@
+# Completions of kmap for fish: the words of each command as its help lists them, and files in all other places.
+
+# __kmap_after COMMAND: the words so far begin with this command; with no COMMAND, there is none so far
+function __kmap_after
+    set -l words (commandline -opc)
+    if set -q argv[1]
+        test (count $words) -ge 2; and test "$words[2]" = $argv[1]
+    else
+        test (count $words) -eq 1
+    end
+end
+
+complete -c kmap -n '__kmap_after' -f
+complete -c kmap -n '__kmap_after' -a check -d 'Tells whether a keymap is free of keys that can leave a modifier on'
+complete -c kmap -n '__kmap_after' -a play -d 'Prints what the console answers to a script of key presses'
+complete -c kmap -n '__kmap_after' -a compile -d 'Writes the table file of a keymap text'
+complete -c kmap -n '__kmap_after' -a dump -d 'Prints a table file as keymap text'
+complete -c kmap -n '__kmap_after' -a help -d 'Print this message or the help of the given subcommand(s)'
+complete -c kmap -n '__kmap_after' -s h -l help -d 'Print help'
+complete -c kmap -n '__kmap_after' -s V -l version -d 'Print version'
+
+complete -c kmap -n '__kmap_after check' -l show -d 'Also prints key presses that leave a modifier on, if found'
+complete -c kmap -n '__kmap_after check' -s h -l help -d 'Print help'
+
+complete -c kmap -n '__kmap_after play' -l typed -d 'Prints the typed bytes instead'
+complete -c kmap -n '__kmap_after play' -l next -r -F -d 'The keymap text that a load puts in force'
+complete -c kmap -n '__kmap_after play' -s h -l help -d 'Print help'
+
+complete -c kmap -n '__kmap_after compile' -s h -l help -d 'Print help'
+
+complete -c kmap -n '__kmap_after dump' -s h -l help -d 'Print help'
+
+complete -c kmap -n '__kmap_after help' -f
+complete -c kmap -n '__kmap_after help' -a check
+complete -c kmap -n '__kmap_after help' -a play
+complete -c kmap -n '__kmap_after help' -a compile
+complete -c kmap -n '__kmap_after help' -a dump
+complete -c kmap -n '__kmap_after help' -a help

@@ -1,0 +1,83 @@
+#!/bin/sh
+# Installs the program into an empty folder and takes it away again, with GNU make and with BSD make. In place of the
+# kit's rt stands a program that notes that it was asked to build, or one that fails.
+#
+# usage: install.sh, with the program already built
+# The last line is 'N passed, M failed'; the status is 0 where none failed.
+
+top=$(cd "$(dirname "$0")/.." && pwd)
+. "$top/tests/shared.sh"
+folder=$(mktemp -d) || exit 1
+trap 'rm -rf "$folder"' EXIT
+cd "$top" || exit 1
+# What a make that runs this script was told is not for the ones below.
+unset MAKEFLAGS MFLAGS MAKELEVEL
+printf '#!/bin/sh\necho "${PWD##*/} $*" > "%s/asked"\n' "$folder" > "$folder/built"
+printf '#!/bin/sh\nexit 1\n' > "$folder/not built"
+chmod +x "$folder/built" "$folder/not built"
+place="$folder/a place"
+own=$place/opt/kmap
+
+cat > "$folder/wanted" << 'END'
+bin/kmap
+share/bash-completion/completions/kmap
+share/doc/kmap/CHANGELOG.md
+share/doc/kmap/LICENSE
+share/doc/kmap/README.md
+share/doc/kmap/docs/ARCHITECTURE.md
+share/doc/kmap/docs/DECISIONS.md
+share/doc/kmap/docs/FORMATS.md
+share/doc/kmap/docs/TRANSLATION.md
+share/examples/kmap/de.kbd
+share/examples/kmap/de.script
+share/examples/kmap/line.script
+share/examples/kmap/trap.kbd
+share/examples/kmap/us.kbd
+share/fish/vendor_completions.d/kmap.fish
+share/man/man1/kmap.1
+share/man/man5/kmap.5
+share/zsh/site-functions/_kmap
+END
+
+# made MAKE RT TARGET: runs a target with this build, below DESTDIR and PREFIX
+made() {
+    "$1" RT="'$2'" DESTDIR="$place" PREFIX=/opt/kmap "$3" > "$folder/said" 2>&1
+}
+
+# refused MAKE RT TARGET: as `made`, of a target that cannot be made
+refused() {
+    ! made "$@"
+}
+
+# installs MAKE: installing and taking away with this make
+installs() {
+    holds "$1 installs" made "$1" "$folder/built" install
+    holds "$1 asks for the build first" grep -qx 'kmap run -- --version' "$folder/asked"
+    (cd "$own" && find . -type f) | sed 's/^\.\///' | LC_ALL=C sort > "$folder/got"
+    same_text "$1 installs these files" "$folder/wanted" "$folder/got"
+    holds "$1 installs nothing elsewhere" [ "$(find "$place" -type f | wc -l)" -eq "$(wc -l < "$folder/wanted")" ]
+    holds "$1 installs the program" cmp -s crates/kmap/out/kmap "$own/bin/kmap"
+    holds "$1 installs a program that runs" "$own/bin/kmap" check "$own/share/examples/kmap/de.kbd" > "$folder/said"
+    holds "$1 installs again" made "$1" "$folder/built" install
+
+    : > "$own/share/examples/kmap/mine.kbd"
+    holds "$1 uninstalls" made "$1" "$folder/built" uninstall
+    holds "$1 leaves what is not its own" [ "$(find "$place" -type f)" = "$own/share/examples/kmap/mine.kbd" ]
+    rm "$own/share/examples/kmap/mine.kbd"
+    holds "$1 uninstalls twice" made "$1" "$folder/built" uninstall
+    holds "$1 takes its own folders away" [ -z "$(find "$place" -name kmap ! -path "$own")" ]
+    rm -rf "$place"
+
+    holds "$1 stops where the build fails" refused "$1" "$folder/not built" install
+    holds "$1 then installs nothing" [ ! -e "$place" ]
+    rm -f "$folder/asked"
+}
+
+if is_there make; then
+    installs make
+fi
+if is_there bmake; then
+    installs bmake
+fi
+
+counted

@@ -1,0 +1,55 @@
+#!/bin/sh
+# Compares the manual pages and the list of changes with the built program: the version is the same everywhere, the
+# pages name every command and option of the help and every kind of fault, and mandoc has nothing to say about them.
+#
+# usage: manual.sh PROGRAM
+# The last line is 'N passed, M failed'; the status is 0 where none failed.
+
+program=${1:-crates/kmap/out/kmap}
+case $program in
+/*) ;;
+*) program=$PWD/$program ;;
+esac
+top=$(cd "$(dirname "$0")/.." && pwd)
+. "$top/tests/shared.sh"
+folder=$(mktemp -d) || exit 1
+trap 'rm -rf "$folder"' EXIT
+cd "$top" || exit 1
+
+version=$("$program" --version | sed -n 's/^kmap \([0-9.]*\)$/\1/p')
+holds 'the program has a version' [ -n "$version" ]
+holds 'the newest change is of this version' [ "$(sed -n 's/^## //p' CHANGELOG.md | head -n 1)" = "$version" ]
+for page in man/kmap.1 man/kmap.5; do
+    holds "$page is of this version" grep -qx "This page is that of version $version\." "$page"
+done
+
+# Options are written in a page as `Fl h` and `Fl Fl show`.
+"$program" --help > "$folder/help"
+commands=$(commands_in "$folder/help")
+holds 'the help lists commands' [ "$(echo "$commands" | wc -l)" -ge 5 ]
+for command in '' $commands; do
+    [ -z "$command" ] || holds "kmap(1) has the command $command" grep -q "^\.It Cm $command " man/kmap.1
+    [ "$command" != help ] || continue
+    "$program" $command --help > "$folder/help"
+    for option in $(options_in "$folder/help"); do
+        macros=$(echo "$option" | sed 's/^--/Fl Fl /; s/^-/Fl /')
+        holds "kmap(1) has the option $option of: $command" grep -qE "^\.(It )?$macros( |\$)" man/kmap.1
+    done
+done
+
+# Kinds of faults stand in the document of the formats as the first words of tables.
+kinds=$(sed -n 's/^| \([A-Z][A-Za-z]*\) |.*/\1/p' docs/FORMATS.md)
+holds 'the formats have kinds of faults' [ "$(echo "$kinds" | wc -l)" -ge 18 ]
+for kind in $kinds Short Long BadLine BadKey; do
+    holds "kmap(1) tells of $kind" grep -qw "$kind" man/kmap.1
+done
+
+# Pages of FreeBSD needn't be installed where this runs.
+if is_there mandoc; then
+    for page in man/kmap.1 man/kmap.5; do
+        said=$(mandoc -Tlint "$page" | grep -v 'STYLE: referenced manual not found: Xr ')
+        holds "mandoc on $page: $said" [ -z "$said" ]
+    done
+fi
+
+counted

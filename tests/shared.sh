@@ -1,0 +1,45 @@
+# For the scripts beside it, which read it: counts what held and what failed, and takes the program's help apart.
+# A script ends by `counted`, so its last line is 'N passed, M failed', and its status is 0 where none failed.
+
+passed=0
+failed=0
+
+# holds NAME COMMAND..: the command succeeds
+holds() {
+    name=$1
+    shift
+    if "$@"; then
+        passed=$((passed + 1))
+    else
+        failed=$((failed + 1))
+        echo "failed: $name"
+    fi
+}
+
+# same_text NAME WANTED GOT: the two files are the same; if not, their difference is shown
+same_text() {
+    holds "$1" cmp -s "$2" "$3" || true
+    cmp -s "$2" "$3" || diff "$2" "$3"
+}
+
+# is_there COMMAND: the command is installed; if not, a line says that its tests are skipped
+is_there() {
+    command -v "$1" > /dev/null && return
+    echo "skipped: there is no $1"
+    return 1
+}
+
+# commands_in FILE: the commands that a help lists, one a line
+commands_in() {
+    sed -n '/^Commands:$/,/^$/s/^  \([a-z]*\) .*/\1/p' "$1"
+}
+
+# options_in FILE: the options that a help lists, short ones and long ones, one a line
+options_in() {
+    sed -n '/^Options:$/,/^$/s/   *[A-Z].*//p' "$1" | grep -oE -e '--?[A-Za-z][A-Za-z-]*'
+}
+
+counted() {
+    echo "$passed passed, $failed failed"
+    [ $failed -eq 0 ]
+}

@@ -43,8 +43,10 @@ install: all
 	$(INSTALL) -d "$(DESTDIR)$(PREFIX)/bin" "$(MAN)/man1" "$(MAN)/man5" "$(EXAMPLES)" "$(DOC)/docs" \
 	    "$(BASH_COMPLETIONS)" "$(FISH_COMPLETIONS)" "$(ZSH_COMPLETIONS)"
 	$(INSTALL) -m 755 $(PROGRAM) "$(DESTDIR)$(PREFIX)/bin/kmap"
-	$(INSTALL) -m 644 man/kmap.1 "$(MAN)/man1/kmap.1"
-	$(INSTALL) -m 644 man/kmap.5 "$(MAN)/man5/kmap.5"
+	for page in 1 5; do \
+	    sed 's,/usr/local,$(PREFIX),g' man/kmap.$$page > "$(MAN)/man$$page/kmap.$$page" && \
+	    chmod 644 "$(MAN)/man$$page/kmap.$$page" || exit 1; \
+	done
 	$(INSTALL) -m 644 completions/kmap.bash "$(BASH_COMPLETIONS)/kmap"
 	$(INSTALL) -m 644 completions/kmap.fish "$(FISH_COMPLETIONS)/kmap.fish"
 	$(INSTALL) -m 644 completions/_kmap "$(ZSH_COMPLETIONS)/_kmap"

@@ -58,6 +58,7 @@ installs() {
     holds "$1 installs nothing elsewhere" [ "$(find "$place" -type f | wc -l)" -eq "$(wc -l < "$folder/wanted")" ]
     holds "$1 installs the program" cmp -s crates/kmap/out/kmap "$own/bin/kmap"
     holds "$1 installs a program that runs" "$own/bin/kmap" check "$own/share/examples/kmap/de.kbd" > "$folder/said"
+    holds "$1 installs pages that name this place" grep -q '^\.It Pa /opt/kmap/share/doc' "$own/share/man/man1/kmap.1"
     holds "$1 installs again" made "$1" "$folder/built" install
 
     : > "$own/share/examples/kmap/mine.kbd"

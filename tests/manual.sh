@@ -30,7 +30,7 @@ holds 'the help lists commands' [ "$(echo "$commands" | wc -l)" -ge 5 ]
 for command in '' $commands; do
     [ -z "$command" ] || holds "kmap(1) has the command $command" grep -q "^\.It Cm $command " man/kmap.1
     [ "$command" != help ] || continue
-    "$program" $command --help > "$folder/help"
+    "$program" ${command:+"$command"} --help > "$folder/help"
     for option in $(options_in "$folder/help"); do
         macros=$(echo "$option" | sed 's/^--/Fl Fl /; s/^-/Fl /')
         holds "kmap(1) has the option $option of: $command" grep -qE "^\.(It )?$macros( |\$)" man/kmap.1

@@ -219,11 +219,11 @@ holds 'the version is a number' grep -qxE 'kmap [0-9]+\.[0-9]+\.[0-9]+' stdout
 "$program" --help > help
 for subcommand in '' $(commands_in help); do
     [ "$subcommand" != help ] || continue
-    tells "help of: $subcommand" 0 stdout stderr $subcommand --help
+    tells "help of: $subcommand" 0 stdout stderr ${subcommand:+"$subcommand"} --help
     holds "an example in the help of: $subcommand" grep -q "^Example: kmap .*$subcommand " stdout
     holds "the manual page in the help of: $subcommand" grep -qF 'kmap(' stdout
     cp stdout help
-    tells "short help of: $subcommand" 0 stdout stderr $subcommand -h
+    tells "short help of: $subcommand" 0 stdout stderr ${subcommand:+"$subcommand"} -h
     holds "the same short help of: $subcommand" cmp -s help stdout
 done
 tells 'no words' 2 stderr stdout

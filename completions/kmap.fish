@@ -11,7 +11,7 @@ function __kmap_after
 end
 
 complete -c kmap -n '__kmap_after' -f
-complete -c kmap -n '__kmap_after' -a check -d 'Tells whether a keymap is free of keys that can leave a modifier on'
+complete -c kmap -n '__kmap_after' -a check -d 'Accepts a keymap only if no key can leave a modifier on'
 complete -c kmap -n '__kmap_after' -a play -d 'Prints what the console answers to a script of key presses'
 complete -c kmap -n '__kmap_after' -a compile -d 'Writes the table file of a keymap text'
 complete -c kmap -n '__kmap_after' -a dump -d 'Prints a table file as keymap text'

@@ -21,7 +21,7 @@ fn flag<'a>(alloc: Global, name: &'a str, help: &'a str) -> Arg<'a> {
 
 fn check<'a>(alloc: Global) -> Result<Command<'a>, AllocError> {
     Command::new(alloc, "check")
-        .about("Tells whether a keymap is free of keys that can leave a modifier on")
+        .about("Accepts a keymap only if no key can leave a modifier on")
         .after_help("Example: kmap check --show de.kbd{n}{n}kmap(1) tells how to read the report.")
         .arg(file(alloc, "TEXT", "The keymap text"))?
         .arg(flag(

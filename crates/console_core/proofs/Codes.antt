@@ -1,8 +1,9 @@
 -- Actions kept by their codes.
 use Rattle.std.proofs.Common.{◌≡◌, ℕ, ◌<◌, Bool, true, false, eqb, List, length, set, replicate, Option, None, Some, refl, ap, sym, ◌∙◌, if◌then◌else◌}
-use Rattle.std.specs.Prelude.{◌==◌}
+use Rattle.std.specs.Prelude.{◌==◌, ◌≢◌, option_map}
 use Rattle.std.proofs.lemmas.List.{get_or-replicate}
 use Rattle.std.proofs.lemmas.Bool.{eqb-true, true≢false}
+use Rattle.keymap_core.proofs.SameActions.{same_action-true}
 use Rattle.keymap_core.specs.declared.action.Action.{Action}
 use Rattle.keymap_core.specs.declared.action.Action.TheVariants as act
 use Rattle.keymap_core.specs.Actions.{same_action, code_of, action_of}
@@ -12,6 +13,13 @@ use Rattle.console_core.proofs.Places.{get_or-set_if}
 some_some : (a b : Action) → Some a ≡ Some b → a ≡ b
 some_some a b e = cc
 
+coded_some : (code : ℕ) (b : Bool) → eqb code 0 ≡ b → code ≢ 0 → coded code ≡ action_of code
+coded_some code true e not_zero = absurd (not_zero (eqb-true code 0 e))
+coded_some code false e not_zero = rw e refl
+
+coded-some : (code : ℕ) → code ≢ 0 → coded code ≡ action_of code
+coded-some code not_zero = coded_some code (eqb code 0) refl not_zero
+
 coded_by : (a : Action) (b : Bool) → eqb (code_of a) 0 ≡ b → same_action a act.Nop ≡ false → action_of (code_of a) ≡ Some a → coded (code_of a) ≡ Some a
 coded_by a true e not_nop read =
     let s : a ≡ act.Nop = some_some a act.Nop (sym read ∙ ap action_of (eqb-true (code_of a) 0 e)) in
@@ -20,6 +28,17 @@ coded_by a false e not_nop read = rw e read
 
 pub coded-code : (a : Action) → same_action a act.Nop ≡ false → action_of (code_of a) ≡ Some a → coded (code_of a) ≡ Some a
 coded-code a not_nop read = coded_by a (eqb (code_of a) 0) refl not_nop read
+
+-- the byte of another action
+other_code : (b : Bool) (held expected : Action) → same_action held expected ≡ b → code_of held ≢ code_of expected → b ≡ false
+other_code true held expected e ne = absurd (ne (ap code_of (same_action-true held expected e)))
+other_code false held expected e ne = refl
+
+pub coded-other : (code : ℕ) (held expected : Action) → code ≢ 0 → action_of code ≡ Some held → code_of held ≡ code → code ≢ code_of expected
+    → Some false ≡ option_map (λ a. same_action a expected) (coded code)
+coded-other code held expected not_zero read same ne =
+    let e : coded code ≡ Some held = coded-some code not_zero ∙ read in
+    rw e (ap Some (sym (other_code (same_action held expected) held expected refl (λ f. ne (sym same ∙ f)))))
 
 -- the bytes of all keys
 pub codes-start : (k : ℕ) → k < 128 → code_memory (replicate 128 0) k ≡ None

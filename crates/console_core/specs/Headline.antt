@@ -89,4 +89,4 @@ LockedByFreshPresses = (ms : Maps) (h : List Event) → HasKeys h → IsLockedBy
 -- where it stood before.
 abbrev pub Afterwards : (Maps → List Event → Type 0) → List Event → (Maps → List Event → Type 0) → Type 0
 Afterwards stood events P =
-    (ms : Maps) (h : List Event) → stood ms h → HasKeys (reverse events ++ h) → P ms (reverse events ++ h)
+    (ms : Maps) (h : List Event) → stood ms h → P ms (reverse events ++ h)

@@ -64,8 +64,9 @@ fn take_over<S: Store>(store: &mut S, key: KeyCode, action: Action) -> Action
     ensures pending { S.waiting store.new ≡ S.waiting store.old }
     ensures force { S.second store.new ≡ S.second store.old }
 {
-    match store.remembered(key) {
-        Some(held) => { if held == action { action } else { Action::Nop } }
+    match store.remembers(key, action) {
+        Some(true) => action,
+        Some(false) => Action::Nop,
         None => {
             if action != Action::Nop {
                 store.remember(key, Some(action));
@@ -132,6 +133,7 @@ fn press_character<S: Store>(store: &mut S, map: &KeyMap, key: KeyCode, c: char)
     answer
 }
 
+#[inline(always)]
 fn press_action<S: Store>(store: &mut S, map: &KeyMap, key: KeyCode, action: Action) -> Answer
     ensures answer { (h : List ResolvedEvent) → Agrees map.now h (S.mark store.old) (S.lock store.old) (S.memory store.old) (S.waiting store.old)
         → result ≡ answer_resolved map.now (PressedAction key action) h }
@@ -182,6 +184,7 @@ fn keep_if_borne<S: Store>(store: &mut S, map: &KeyMap, lock: Lock)
 }
 
 /// Forgets what a reset forgets, puts the other map in force and turns off each lock that no key of it bears.
+#[inline(never)]
 fn load<S: Store>(store: &mut S, next: &KeyMap)
     ensures marks { (a : HoldingValue) → S.mark store.new a ≡ false }
     ensures locks { (l : LockValue) → S.lock store.new l ≡ (is_borne_of next.now (Holding.Lock l) && S.lock store.old l) }
@@ -198,6 +201,7 @@ fn load<S: Store>(store: &mut S, next: &KeyMap)
 }
 
 /// The answer to an event, and the store after it, under a map in force and the one that a load puts in force.
+#[inline(always)]
 fn step<S: Store>(store: &mut S, map: &KeyMap, next: &KeyMap, event: Event) -> Answer
     ensures answer { (ms : Maps) (h : List EventValue) → map.now ≡ in_force ms h → next.now ≡ loaded ms h
         → StandsAt ms h (S.mark store.old) (S.lock store.old) (S.memory store.old) (S.waiting store.old) (S.second store.old)
@@ -249,12 +253,35 @@ impl<'m, S: Store + Drop> Console<'m, S> {
     }
 }
 
+impl<'m, S: Drop> Console<'m, S> {
+    /// What the state is kept in.
+    pub fn store(&self) -> &S
+        ensures { result.now ≡ self.now.store }
+    {
+        &self.store
+    }
+
+    /// A console between the same maps, which keeps its state in this store.
+    pub fn with_store(&self, store: S) -> Console<'m, S>
+        ensures first { result.first ≡ self.now.first }
+        ensures second { result.second ≡ self.now.second }
+        ensures store { result.store ≡ store }
+    {
+        Console {
+            first: self.first,
+            second: self.second,
+            store,
+        }
+    }
+}
+
 impl<'m, S: Store + Drop> Translator for Console<'m, S> {
     ghost use Rattle.std.specs.Prelude.{◌≡◌};
     ghost use Rattle.keymap_core.specs.declared.action.Holding.TheVariants.{Mod};
     ghost use Rattle.console_core.specs.Agrees.{StandsAt};
+    ghost use Rattle.console_core.specs.History.{HasKeys};
 
-    ghost stands = { λ c ms h. (c.first.now ≡ ms.first) × (c.second.now ≡ ms.second) × StandsAt ms h (S.mark c.store) (S.lock c.store) (S.memory c.store) (S.waiting c.store) (S.second c.store) };
+    ghost stands = { λ c ms h. (c.first.now ≡ ms.first) × (c.second.now ≡ ms.second) × HasKeys h × StandsAt ms h (S.mark c.store) (S.lock c.store) (S.memory c.store) (S.waiting c.store) (S.second c.store) };
 
     ghost shows_on = { λ c i. S.mark c.store (Mod i) };
 
@@ -262,18 +289,20 @@ impl<'m, S: Store + Drop> Translator for Console<'m, S> {
 
     ghost shows_pending = { λ c. S.waiting c.store };
 
-    ghost on_where_it_stands = { λ c ms h stands i. stands.2.agrees.marks (Mod i) };
+    ghost on_where_it_stands = { λ c ms h stands i. stands.3.agrees.marks (Mod i) };
 
-    ghost locked_where_it_stands = { λ c ms h stands l. stands.2.agrees.locks l };
+    ghost locked_where_it_stands = { λ c ms h stands l. stands.3.agrees.locks l };
 
-    ghost pending_where_it_stands = { λ c ms h stands. stands.2.agrees.pending };
+    ghost keys_where_it_stands = { λ c ms h stands. stands.2 };
 
+    ghost pending_where_it_stands = { λ c ms h stands. stands.3.agrees.pending };
+
+    #[inline(always)]
     fn step(&mut self, event: Event) -> Answer {
-        if self.store.is_second() {
-            step(&mut self.store, self.second, self.first, event)
-        } else {
-            step(&mut self.store, self.first, self.second, event)
-        }
+        let is_second = self.store.is_second();
+        let map = if is_second { self.second } else { self.first };
+        let next = if is_second { self.first } else { self.second };
+        step(&mut self.store, map, next, event)
     }
 
     fn on(&self, modifier: Modifier) -> bool {

@@ -44,11 +44,13 @@ impl<'m> Translator for PlainConsole<'m> {
 
     ghost shows_pending = { λ c. ⟦<Console<'m, PlainStore> as Translator>⟧.shows_pending c.console };
 
-    ghost on_where_it_stands = { λ c ms h at i. at.2.agrees.marks (Mod i) };
+    ghost on_where_it_stands = { λ c ms h at i. at.3.agrees.marks (Mod i) };
 
-    ghost locked_where_it_stands = { λ c ms h at l. at.2.agrees.locks l };
+    ghost locked_where_it_stands = { λ c ms h at l. at.3.agrees.locks l };
 
-    ghost pending_where_it_stands = { λ c ms h at. at.2.agrees.pending };
+    ghost keys_where_it_stands = { λ c ms h at. at.2 };
+
+    ghost pending_where_it_stands = { λ c ms h at. at.3.agrees.pending };
 
     fn step(&mut self, event: Event) -> Answer {
         self.console.step(event)

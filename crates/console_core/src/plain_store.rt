@@ -65,6 +65,13 @@ impl Store for PlainStore {
         self.actions[key.get() as usize]
     }
 
+    fn remembers(&self, key: KeyCode, action: Action) -> Option<bool> {
+        match self.actions[key.get() as usize] {
+            Some(held) => Some(held == action),
+            None => None,
+        }
+    }
+
     fn pending(&self) -> Option<u8> {
         self.pending
     }

@@ -2,7 +2,7 @@
 ghost use Rattle.std.specs.Prelude.{◌≡◌, ◌++◌, ◌∷◌, List, None, IfOk, OnOk, OnErr, reverse};
 ghost use Rattle.console_core.specs.declared.event.Event.{Event as EventValue};
 ghost use Rattle.console_core.specs.declared.event.Event.TheVariants as event;
-ghost use Rattle.console_core.specs.History.{Maps, in_force, AnswersTo, HasKeys, IsQuiet};
+ghost use Rattle.console_core.specs.History.{Maps, in_force, AnswersTo, IsQuiet};
 ghost use Rattle.console_core.specs.Safety.{IsSafe};
 ghost use Rattle.console_core.specs.Headline.{Afterwards, IsOnOnlyWhilePressed, IsOnExactlyWhilePressed, LastRepeatsTurnNoSteadyLock, IsOffOnceQuiet, GoesOnAs, IsLockedByFreshPresses};
 ghost use Rattle.console_core.specs.Plain.{IsPlainAfter};
@@ -33,7 +33,7 @@ pub fn replay<T: Translator>(
 
     // The repeats that the events end in leave a steady lock as it was before them.
     ensures repeats_turn_no_steady_lock { OnOk result ((ms : Maps) (h : List EventValue) → T.stands console.old ms h
-        → HasKeys (reverse events.now ++ h) → LastRepeatsTurnNoSteadyLock ms h events.now (T.shows_locked console.new)) }
+        → LastRepeatsTurnNoSteadyLock ms h events.now (T.shows_locked console.new)) }
 
     // In a safe map no modifier is on once no key is pressed, and with no accent pending it goes on as after a reset.
     ensures off_once_quiet { OnOk result (Afterwards (T.stands console.old) events.now (λ ms h.

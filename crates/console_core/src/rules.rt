@@ -9,6 +9,7 @@ use crate::event::Answer;
 use keymap_core::{Action, KeyMap, LockFlag};
 
 /// The result of the accent's first pair with this base.
+#[inline(never)]
 fn first_result(pairs: &[(char, char)], base: char) -> Option<char>
     ensures { result ≡ first_result_of pairs.now base }
 {
@@ -21,6 +22,7 @@ fn first_result(pairs: &[(char, char)], base: char) -> Option<char>
 }
 
 /// What a character becomes under the pending accent, if one is pending.
+#[inline(always)]
 pub fn compose(map: &KeyMap, pending: Option<u8>, c: char, meta: bool) -> Answer
     ensures { result ≡ answer_char map.now pending meta c }
 {
@@ -97,6 +99,7 @@ fn toggled(map: &KeyMap, pending: Option<u8>, index: u8) -> Option<u8>
 }
 
 /// The answer to a dead key.
+#[inline(never)]
 fn answer_dead_key(map: &KeyMap, pending: Option<u8>, meta: bool, index: u8) -> Answer
     ensures { result ≡ answer_dead_key_of map.now pending meta index }
 {
@@ -116,6 +119,7 @@ fn answer_dead_key(map: &KeyMap, pending: Option<u8>, meta: bool, index: u8) -> 
 }
 
 /// The answer to a press that takes the action.
+#[inline(always)]
 pub fn answer_action(map: &KeyMap, pending: Option<u8>, meta: bool, taken: Action) -> Answer
     ensures { result ≡ answer_action_of map.now pending meta taken }
 {

@@ -1,5 +1,5 @@
 //! What a console keeps between two events.
-ghost use Rattle.std.specs.Prelude.{◌≡◌, ℕ, ◌<◌, ◌==◌, Bool, true, false, Option, None, not, if◌then◌else◌, IfSome};
+ghost use Rattle.std.specs.Prelude.{◌≡◌, ℕ, ◌<◌, ◌==◌, Bool, true, false, Option, None, option_map, not, if◌then◌else◌, IfSome};
 ghost use Rattle.keymap_core.specs.declared.action.Action.{Action as ActionValue};
 ghost use Rattle.keymap_core.specs.declared.action.Holding.{Holding as HoldingValue};
 ghost use Rattle.keymap_core.specs.declared.action.Lock.{Lock as LockValue};
@@ -27,6 +27,11 @@ pub trait Store {
 
     fn remembered(&self, key: KeyCode) -> Option<Action>
         ensures value { result ≡ memory self.now key }
+        ensures in_range { key < 128 };
+
+    /// Whether the action that is remembered for the key is this one, if one is remembered.
+    fn remembers(&self, key: KeyCode, action: Action) -> Option<bool>
+        ensures value { result ≡ option_map (λ held. same_action held action) (memory self.now key) }
         ensures in_range { key < 128 };
 
     fn pending(&self) -> Option<u8>

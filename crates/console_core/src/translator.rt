@@ -3,14 +3,14 @@ ghost use Rattle.std.specs.Prelude.{◌≡◌, ℕ, Bool, List, ◌∷◌, [], O
 ghost use Rattle.keymap_core.specs.declared.action.Modifier.{Modifier as ModifierValue};
 ghost use Rattle.keymap_core.specs.declared.action.Lock.{Lock as LockValue};
 ghost use Rattle.console_core.specs.declared.event.Event.{Event as EventValue};
-ghost use Rattle.console_core.specs.History.{Maps, On, Locked, Pending, AnswerTo};
+ghost use Rattle.console_core.specs.History.{Maps, On, Locked, Pending, AnswerTo, HasKeys};
 
 use crate::event::{Answer, Event};
 use keymap_core::{Lock, Modifier};
 
 /// A console: it is delivered events, and answers each by the list of all events so far.
 pub trait Translator {
-    /// The console stands at the list of events under the two maps.
+    /// The console stands at the list of events, which are all about keys, under the two maps.
     ghost stands: { Self → Maps → List EventValue → Type 0 };
 
     /// Which modifiers are on.
@@ -42,6 +42,8 @@ pub trait Translator {
     ghost on_where_it_stands: { (c : Self) (ms : Maps) (h : List EventValue) → stands c ms h → (i : ModifierValue) → shows_on c i ≡ On ms i h };
 
     ghost locked_where_it_stands: { (c : Self) (ms : Maps) (h : List EventValue) → stands c ms h → (l : LockValue) → shows_locked c l ≡ Locked ms l h };
+
+    ghost keys_where_it_stands: { (c : Self) (ms : Maps) (h : List EventValue) → stands c ms h → HasKeys h };
 
     ghost pending_where_it_stands: { (c : Self) (ms : Maps) (h : List EventValue) → stands c ms h → shows_pending c ≡ Pending ms h };
 }

@@ -1,6 +1,7 @@
 //! The console that is packed into a word and a byte for each key.
-ghost use Rattle.std.specs.Prelude.{[]};
-ghost use Rattle.console_core.specs.History.{between};
+ghost use Rattle.std.specs.Prelude.{List, []};
+ghost use Rattle.console_core.specs.declared.event.Event.{Event as EventValue};
+ghost use Rattle.console_core.specs.History.{Maps, between};
 
 use crate::event::{Answer, Event};
 use crate::machine::Console;
@@ -31,6 +32,16 @@ impl<'m> WordConsole<'m> {
             console: Console::over(first, second, WordStore::new()),
         }
     }
+
+    /// A console of the same maps that was delivered the same events.
+    pub fn copied(&self) -> WordConsole<'m>
+        ensures { (ms : Maps) (h : List EventValue) → ⟦<WordConsole<'m> as Translator>⟧.stands self.now ms h
+            → ⟦<WordConsole<'m> as Translator>⟧.stands result ms h }
+    {
+        WordConsole {
+            console: self.console.with_store(self.console.store().copied()),
+        }
+    }
 }
 
 impl<'m> Translator for WordConsole<'m> {
@@ -44,12 +55,15 @@ impl<'m> Translator for WordConsole<'m> {
 
     ghost shows_pending = { λ c. ⟦<Console<'m, WordStore> as Translator>⟧.shows_pending c.console };
 
-    ghost on_where_it_stands = { λ c ms h at i. at.2.agrees.marks (Mod i) };
+    ghost on_where_it_stands = { λ c ms h at i. at.3.agrees.marks (Mod i) };
 
-    ghost locked_where_it_stands = { λ c ms h at l. at.2.agrees.locks l };
+    ghost locked_where_it_stands = { λ c ms h at l. at.3.agrees.locks l };
 
-    ghost pending_where_it_stands = { λ c ms h at. at.2.agrees.pending };
+    ghost keys_where_it_stands = { λ c ms h at. at.2 };
 
+    ghost pending_where_it_stands = { λ c ms h at. at.3.agrees.pending };
+
+    #[inline(always)]
     fn step(&mut self, event: Event) -> Answer {
         self.console.step(event)
     }

@@ -1,12 +1,12 @@
 //! A store with one word of 32 bits and a byte for each key.
-ghost use Rattle.std.specs.Prelude.{◌≡◌, ℕ, ◌<◌, ◌≤◌, Bool, false, None, length, IfSome};
+ghost use Rattle.std.specs.Prelude.{◌≡◌, ◌≢◌, ℕ, ◌<◌, ◌≤◌, Bool, false, None, option_map, length, IfSome};
 ghost use Rattle.keymap_core.specs.declared.action.Holding.{Holding as HoldingValue};
 ghost use Rattle.keymap_core.specs.declared.action.Lock.{Lock as LockValue};
 ghost use Rattle.keymap_core.specs.Actions.{same_action};
 ghost use Rattle.console_core.specs.Words.{word_mark, word_lock, word_pending, word_second, mark_bit as mark_bit_of, lock_bit as lock_bit_of, pending_from, pending_code as pending_code_of, coded, code_memory};
 
 use crate::store::Store;
-use keymap_core::laws::every_code_is_read;
+use keymap_core::laws::{every_action_has_its_code, every_code_is_read};
 use keymap_core::{Action, Holding, KeyCode, Lock};
 
 /// The bits that a reset leaves: the locks and the map in force.
@@ -61,6 +61,23 @@ fn memory_code(action: &Option<Action>) -> u8
     }
 }
 
+/// Whether the byte keeps this action, if it keeps one. Only the code of another action is decoded.
+fn is_code_of(code: u8, expected: Action) -> Option<bool>
+    requires { code ≢ 0 }
+    ensures { result ≡ option_map (λ held. same_action held expected) (coded code) }
+{
+    every_code_is_read();
+    every_action_has_its_code();
+    if code == expected.code() {
+        Some(true)
+    } else {
+        match Action::from_code(code) {
+            Some(_) => Some(false),
+            None => None,
+        }
+    }
+}
+
 /// The modifiers in bits 0 to 7 of the word, the locks in bits 8 to 11, the down marks in bits 12 to 15, the index of
 /// the pending accent plus 1, or 0, in bits 16 to 19, and bit 20 set where the second map is in force. The bytes are the
 /// codes of the remembered actions, 0 for nothing.
@@ -82,6 +99,16 @@ impl WordStore {
         WordStore {
             word: 0,
             codes: [0; 128],
+        }
+    }
+
+    pub fn copied(&self) -> WordStore
+        ensures word { result.word ≡ self.now.word }
+        ensures codes { result.codes ≡ self.now.codes }
+    {
+        WordStore {
+            word: self.word,
+            codes: self.codes,
         }
     }
 }
@@ -112,6 +139,13 @@ impl Store for WordStore {
             None
         } else {
             Action::from_code(code)
+        }
+    }
+
+    fn remembers(&self, key: KeyCode, action: Action) -> Option<bool> {
+        match self.codes[key.get() as usize] {
+            0 => None,
+            code => is_code_of(code, action),
         }
     }
 

@@ -1,7 +1,8 @@
 use Rattle.std.proofs.Common.{refl}
-use Rattle.console_core.specs.History.{between}
+use Rattle.std.proofs.lemmas.List.Elements.{All-nil}
+use Rattle.console_core.specs.History.{between, HasKey}
 use Rattle.console_core.proofs.Agreeing.{stands-start}
 use Rattle.console_core.proofs.machine.Console.over.Goals as goal
 
 pub returns : goal.returns
-returns g c = (refl, refl, stands-start (between c.args.first.now c.args.second.now) _ _ _ _ _ c.requires.marks c.requires.locks c.requires.memories c.requires.pending c.requires.force)
+returns g c = (refl, refl, All-nil HasKey, stands-start (between c.args.first.now c.args.second.now) _ _ _ _ _ c.requires.marks c.requires.locks c.requires.memories c.requires.pending c.requires.force)

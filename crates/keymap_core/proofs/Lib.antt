@@ -1,5 +1,6 @@
 pub mod BorneTests
 mod CodeLaws
+mod CodeNames
 mod Equality
 pub mod Gathering
 mod Meanings

@@ -40,7 +40,7 @@ pub enum Holding {
 }
 
 /// The modifiers in their order.
-pub const MODIFIERS: [Modifier; 8] = [
+pub static MODIFIERS: [Modifier; 8] = [
     Modifier::LeftShift,
     Modifier::RightShift,
     Modifier::LeftControl,
@@ -52,10 +52,10 @@ pub const MODIFIERS: [Modifier; 8] = [
 ];
 
 /// The locks in their order.
-pub const LOCKS: [Lock; 4] = [Lock::Caps, Lock::Num, Lock::Scroll, Lock::Alt];
+pub static LOCKS: [Lock; 4] = [Lock::Caps, Lock::Num, Lock::Scroll, Lock::Alt];
 
 /// The modifiers, then the locks.
-pub const HOLDINGS: [Holding; 12] = [
+pub static HOLDINGS: [Holding; 12] = [
     Holding::Mod(Modifier::LeftShift),
     Holding::Mod(Modifier::RightShift),
     Holding::Mod(Modifier::LeftControl),
@@ -335,57 +335,44 @@ impl Action {
     fn plain(code: u8) -> Option<Action>
         ensures { result ≡ find (λ a. code_of a == code) plain_actions }
     {
-        PLAIN_ACTIONS
-            .iter()
-            .copied()
-            .find(|action| action.code() == code)
+        match code {
+            0x00 => Some(Action::Nop),
+            0x02 => Some(Action::Mod(Modifier::LeftShift)),
+            0x03 => Some(Action::Mod(Modifier::RightShift)),
+            0x04 => Some(Action::Lock(Lock::Caps)),
+            0x05 => Some(Action::Lock(Lock::Num)),
+            0x06 => Some(Action::Lock(Lock::Scroll)),
+            0x07 => Some(Action::Mod(Modifier::LeftAlt)),
+            0x08 => Some(Action::BackTab),
+            0x09 => Some(Action::Mod(Modifier::LeftControl)),
+            0x0a => Some(Action::NextScreen),
+            0x80 => Some(Action::Mod(Modifier::RightControl)),
+            0x81 => Some(Action::Mod(Modifier::RightAlt)),
+            0x82 => Some(Action::Lock(Lock::Alt)),
+            0x83 => Some(Action::Mod(Modifier::AltShift)),
+            0x84 => Some(Action::Mod(Modifier::Meta)),
+            0x85 => Some(Action::Boot),
+            0x86 => Some(Action::Debug),
+            0x87 => Some(Action::Suspend),
+            0x88 => Some(Action::Saver),
+            0x98 => Some(Action::Standby),
+            0x99 => Some(Action::PreviousScreen),
+            0x9a => Some(Action::Panic),
+            0xa1 => Some(Action::Halt),
+            0xa2 => Some(Action::PowerDown),
+            0xa3 => Some(Action::Paste),
+            _ => None,
+        }
     }
 }
 
-/// The actions without a number.
-pub(crate) const PLAIN_ACTIONS: [Action; 25] = [
-    Action::Nop,
-    Action::Mod(Modifier::LeftShift),
-    Action::Mod(Modifier::RightShift),
-    Action::Lock(Lock::Caps),
-    Action::Lock(Lock::Num),
-    Action::Lock(Lock::Scroll),
-    Action::Mod(Modifier::LeftAlt),
-    Action::BackTab,
-    Action::Mod(Modifier::LeftControl),
-    Action::NextScreen,
-    Action::Mod(Modifier::RightControl),
-    Action::Mod(Modifier::RightAlt),
-    Action::Lock(Lock::Alt),
-    Action::Mod(Modifier::AltShift),
-    Action::Mod(Modifier::Meta),
-    Action::Boot,
-    Action::Debug,
-    Action::Suspend,
-    Action::Saver,
-    Action::Standby,
-    Action::PreviousScreen,
-    Action::Panic,
-    Action::Halt,
-    Action::PowerDown,
-    Action::Paste,
+/// The codes of the actions without a number, in rising order.
+pub(crate) static PLAIN_CODES: [u8; 25] = [
+    0x00, 0x02, 0x03, 0x04, 0x05, 0x06, 0x07, 0x08, 0x09, 0x0a, 0x80, 0x81, 0x82, 0x83, 0x84, 0x85,
+    0x86, 0x87, 0x88, 0x98, 0x99, 0x9a, 0xa1, 0xa2, 0xa3,
 ];
 
-/// The dead keys, in the order of their accents.
-pub(crate) const DEAD_KEYS: [Action; 15] = [
-    Action::DeadKey(AccentIndex { index: 0 }),
-    Action::DeadKey(AccentIndex { index: 1 }),
-    Action::DeadKey(AccentIndex { index: 2 }),
-    Action::DeadKey(AccentIndex { index: 3 }),
-    Action::DeadKey(AccentIndex { index: 4 }),
-    Action::DeadKey(AccentIndex { index: 5 }),
-    Action::DeadKey(AccentIndex { index: 6 }),
-    Action::DeadKey(AccentIndex { index: 7 }),
-    Action::DeadKey(AccentIndex { index: 8 }),
-    Action::DeadKey(AccentIndex { index: 9 }),
-    Action::DeadKey(AccentIndex { index: 10 }),
-    Action::DeadKey(AccentIndex { index: 11 }),
-    Action::DeadKey(AccentIndex { index: 12 }),
-    Action::DeadKey(AccentIndex { index: 13 }),
-    Action::DeadKey(AccentIndex { index: 14 }),
+/// The codes of the dead keys, in the order of their accents.
+pub(crate) static DEAD_KEY_CODES: [u8; 15] = [
+    0x89, 0x8a, 0x8b, 0x8c, 0x8d, 0x8e, 0x8f, 0x90, 0x91, 0x92, 0x93, 0x94, 0x95, 0x96, 0x97,
 ];

@@ -65,8 +65,8 @@ impl Action {
         }
     }
 
-    /// The letters of the name: all of it, but for the digits of screens and function keys.
-    pub(crate) fn letters(self) -> &'static [u8]
+    /// The letters of the name, in lower case: all of it, but for the two digits of screens and function keys.
+    pub fn letters(self) -> &'static [u8]
         ensures name { result.now ≡ letters_of self }
         ensures lower { map to_ascii_lowercase result.now ≡ result.now }
         ensures short { length result.now ≤ 6 }

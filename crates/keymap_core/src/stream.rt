@@ -1,11 +1,10 @@
 //! Writing through a buffer of fixed size, so that a text of many small pieces costs few writes.
-ghost use Rattle.std.specs.Prelude.{◌≡◌, ℕ, ◌+◌, ◌^◌, ◌<◌, ◌≤◌, ◌||◌, [], List, Option, length, is_err, OnOk, OnErr};
+ghost use Rattle.std.specs.Prelude.{◌≡◌, ℕ, ◌+◌, ◌^◌, ◌<◌, ◌≤◌, ◌||◌, [], ◌++◌, List, Option, length, is_err, OnOk, OnErr};
 ghost use Rattle.keymap_core.specs.Devices.{WritesText, PutsPiece};
 ghost use Rattle.keymap_core.specs.Streams.{Gathers, Pushes, size_of};
 
 use crate::device::Write;
 use crate::transfer::{WriteFault, put};
-use arrayvec::ArrayVec;
 use std::marker::Model;
 
 /// How many bytes are gathered before they are written.
@@ -14,17 +13,20 @@ const GATHERED: usize = 4096;
 /// Bytes on their way to a writer: how many it took, and those that still wait in the buffer.
 #[derive(Drop)]
 pub struct Stream {
-    buffer: ArrayVec<u8, GATHERED>,
+    bytes: [u8; GATHERED],
+    waiting: usize,
     written: u64,
 }
 
 impl Model for Stream {
-    ghost use Rattle.std.specs.Prelude.{length, ◌≤◌};
+    ghost use Rattle.std.specs.Prelude.{◌≡◌, ◌≤◌, length, take};
     ghost use Rattle.keymap_core.specs.Streams.{StreamValue};
 
     ghost Value = { StreamValue };
 
-    ghost view = { λ s. record { written = s.written; waiting = s.buffer.items } };
+    ghost view = { λ s. record { written = s.written; waiting = take s.waiting s.bytes } };
+
+    ghost invariant = { λ s. (s.waiting ≤ 4096) × (length s.bytes ≡ 4096) };
 }
 
 impl Stream {
@@ -34,9 +36,37 @@ impl Stream {
         ensures empty { result.waiting ≡ [] }
     {
         Stream {
-            buffer: ArrayVec::new(),
+            bytes: [0; GATHERED],
+            waiting: 0,
             written: 0,
         }
+    }
+
+    /// How many bytes the buffer has room for.
+    fn room(&self) -> usize
+        ensures { result + length self.now.waiting ≡ 4096 }
+    {
+        GATHERED - self.waiting
+    }
+
+    /// Lets what waits go, where so many bytes were written by then.
+    fn restart(&mut self, written: u64)
+        ensures written { self.new.written ≡ written }
+        ensures waiting { self.new.waiting ≡ [] }
+    {
+        self.written = written;
+        self.waiting = 0;
+    }
+
+    /// Adds a piece for which there is room.
+    fn append(&mut self, piece: &[u8])
+        requires { length self.old.waiting + length piece.now ≤ 4096 }
+        ensures written { self.new.written ≡ self.old.written }
+        ensures waiting { self.new.waiting ≡ self.old.waiting ++ piece.now }
+    {
+        let end = self.waiting + piece.len();
+        self.bytes[self.waiting..end].copy_from_slice(piece);
+        self.waiting = end;
     }
 
     /// Writes what waits. The answer is how many bytes were written by then.
@@ -45,7 +75,7 @@ impl Stream {
         ensures bytes { PutsPiece (λ f. f.written) (W.contents writer.old) (W.contents writer.new) self.now.written self.now.waiting result }
         ensures failed { W.has_failed writer.new ≡ (is_err result || W.has_failed writer.old) }
     {
-        put(writer, self.written, self.buffer.as_slice())
+        put(writer, self.written, &self.bytes[..self.waiting])
     }
 
     /// Adds a piece of at most 4,096 bytes to the text. What waits is written first where the buffer has no room.
@@ -57,11 +87,11 @@ impl Stream {
         ensures err { OnErr result (self.new ≡ self.old) }
         ensures failed { W.has_failed writer.new ≡ (is_err result || W.has_failed writer.old) }
     {
-        if self.buffer.remaining_capacity() < piece.len() {
-            self.written = self.flush(writer)?;
-            self.buffer.clear();
+        if self.room() < piece.len() {
+            let written = self.flush(writer)?;
+            self.restart(written);
         }
-        self.buffer.try_extend_from_slice(piece).unwrap();
+        self.append(piece);
         Ok(())
     }
 

@@ -1,5 +1,7 @@
 -- Lines: one more than the line feeds before a place.
-use Rattle.std.proofs.Common.{◌≡◌, ℕ, zero, suc, ◌+◌, ◌-◌, ◌<◌, ◌≤◌, ◌==◌, Bool, true, false, cond, List, [], ◌∷◌, ◌++◌, length, take, drop, get_or, refl, sym, ◌∙◌, ap, subst, arith, count_by, eqb-true, eq-eqb, length-append, add-zero, append_assoc, take_all}
+use Rattle.std.proofs.Common.{◌≡◌, ℕ, zero, suc, ◌+◌, ◌-◌, ◌<◌, ◌≤◌, ◌==◌, Bool, true, false, cond, List, [], ◌∷◌, ◌++◌, length, take, drop, get_or, refl, sym, ◌∙◌, ap, subst, arith, count_by, eqb-true, eq-eqb, length-append, add-zero, append_assoc, take_all, true≢false}
+use Rattle.keymap_text.specs.Lexical.{leading}
+use Rattle.keymap_text.proofs.Leading.{leading_pass, leading_fail}
 use Rattle.std.proofs.lemmas.List.{drop-drop, drop-append-le, drop_all, take-append-le, take-append-drop, take_more}
 use Rattle.std.proofs.lemmas.List.Recursion.{is_count_by}
 use Rattle.keymap_text.specs.declared.fault.TextFault.{TextFault}
@@ -14,7 +16,7 @@ feeds (c ∷ b) = line_feed c + feeds b
 feeds_one : (c : ℕ) (b : List ℕ) → feeds (c ∷ b) ≡ line_feed c + feeds b
 feeds_one c b = refl
 
-feeds_are : (b : List ℕ) → feeds b ≡ count_by (λ c. c == 10) b
+pub feeds_are : (b : List ℕ) → feeds b ≡ count_by (λ c. c == 10) b
 feeds_are b = is_count_by feeds (λ c. c == 10) refl (λ c b. one (c == 10) (feeds b)) b
   where
     one : (t : Bool) (n : ℕ) → cond t 1 0 + n ≡ cond t (1 + n) n
@@ -45,7 +47,7 @@ line_all b n h = omega (arith, line_is b n, feeds_split n b, h)
 feed_is : (c : ℕ) → (c ≡ 10) → line_feed c ≡ 1
 feed_is c h = ap (λ b. cond b 1 0) (eq-eqb c 10 h)
 
-no_feed : (c : ℕ) → (c == 10) ≡ false → line_feed c ≡ 0
+pub no_feed : (c : ℕ) → (c == 10) ≡ false → line_feed c ≡ 0
 no_feed c h = ap (λ b. cond b 1 0) h
 
 pub lined_on : (old new : Scanner) (b : List ℕ) (c : ℕ) → Lined old b → Forward old new c → new.offset + length new.pending.items ≡ old.offset + length old.pending.items + 1 → Lined new (b ++ c ∷ [])
@@ -84,3 +86,30 @@ lined_all r b piece i h l = subst (λ (t : List ℕ). Lined r (b ++ t)) (take_al
 
 pub pending_line_in : (old : Scanner) (b piece : List ℕ) (i : ℕ) (e : TextFault) → Lined old (b ++ take i piece) → IsPending e old → e.line ≡ line (b ++ piece) e.offset
 pending_line_in old b piece i e l p = pending_line old (b ++ take i piece) (drop i piece) e l p ∙ ap (λ t. line t e.offset) (append_assoc b (take i piece) (drop i piece) ∙ ap (λ t. b ++ t) (take-append-drop i piece))
+
+-- Bytes without a line feed, where nothing was pending and nothing is.
+pub lined_run : (old new : Scanner) (b w : List ℕ) → old.pending.items ≡ [] → new.pending.items ≡ [] → new.line ≡ old.line → new.offset ≡ old.offset + length w → feeds w ≡ 0 → Lined old b → Lined new (b ++ w)
+lined_run old new b w p p' l o z h =
+    let e : old.offset ≡ length b = omega (arith, h.fed, ap length p) in
+    let n : new.offset ≡ length (b ++ w) = omega (arith, o, e, length-append b w) in
+    let none : feeds (drop old.offset b) ≡ 0 = feeds_are _ ∙ h.none in
+    let none' : feeds (drop new.offset (b ++ w)) ≡ 0 = ap feeds (drop_all new.offset (b ++ w) (omega (arith, n))) in
+    record {
+      fed = omega (arith, n, ap length p');
+      line = omega (arith, l, h.line, line_all b old.offset none, line_all (b ++ w) new.offset none', feeds_append b w, z);
+      none = sym (feeds_are _) ∙ none';
+    }
+
+-- bytes of a run that no line feed belongs to
+pub feeds_run : (p : ℕ → Bool) → p 10 ≡ false → (n : ℕ) (xs : List ℕ) → n ≤ leading p xs → feeds (take n xs) ≡ 0
+feeds_run p f zero xs h = refl
+feeds_run p f (suc n) [] h = refl
+feeds_run p f (suc n) (c ∷ xs) h = go (p c) refl (feeds_run p f n xs)
+  where
+    other : (t : Bool) → (c == 10) ≡ t → p c ≡ true → (c == 10) ≡ false
+    other true e k = absurd (true≢false (sym k ∙ ap p (eqb-true c 10 e) ∙ f))
+    other false e k = e
+
+    go : (t : Bool) → p c ≡ t → (n ≤ leading p xs → feeds (take n xs) ≡ 0) → feeds (take (suc n) (c ∷ xs)) ≡ 0
+    go true e k = omega (arith, no_feed c (other (c == 10) refl e), k (omega (arith, h, leading_pass p c xs e)))
+    go false e k = absurd (omega (arith, h, leading_fail p c xs e))

@@ -54,6 +54,18 @@ product_fits n base i h b l =
     four : (i : ℕ) → 4 * (i + 1) ≡ 4 * i + 4
     four i = omega arith
 
+pub short_room : (i : ℕ) → i < 15 → 2 ^ (4 * (i + 1)) ≤ 2 ^ 60
+short_room i h = pow_mono {i = 4 * (i + 1)} {j = 60} (omega arith)
+
+pub short_product_fits : (n base i : ℕ) → n < 2 ^ (4 * i) → base ≤ 16 → i < 15 → n * base < 2 ^ 60
+short_product_fits n base i h b l =
+    let k = mul-le-mul_left n b in
+    let p : 2 ^ (4 * (i + 1)) ≡ 2 ^ (4 * i) * 16 = ap (λ m. 2 ^ m) (four i) ∙ pow-add 2 (4 * i) 4 in
+    omega (arith, k, p, short_room i l)
+  where
+    four : (i : ℕ) → 4 * (i + 1) ≡ 4 * i + 4
+    four i = omega arith
+
 pub digits_none : (base : ℕ) (w : List ℕ) → length w ≡ 0 → digits_of base w ≡ None
 unfolding digits_of
 digits_none base [] h = refl

@@ -11,6 +11,10 @@ use Rattle.keymap_text.specs.declared.token.TokenKind.TheVariants.{ParenL, Paren
 abbrev pub is_blank : ℕ → Bool
 is_blank c = c == 32 || (c == 9 || (c == 13 || c == 10))
 
+-- a blank that ends no line
+abbrev pub is_space : ℕ → Bool
+is_space c = c == 32 || (c == 9 || c == 13)
+
 -- an ASCII letter or digit
 abbrev pub is_word : ℕ → Bool
 is_word c = is_ascii_alphanumeric c

@@ -13,3 +13,4 @@ pub mod Views
 pub mod Resuming
 pub mod Sources
 pub mod Printed
+pub mod Packed

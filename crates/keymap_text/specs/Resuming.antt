@@ -1,13 +1,15 @@
 -- What a reader that stands in a text makes of the bytes to come. Inner: private contracts alone speak of it.
 use Rattle.keymap_core.specs.Maps.{MapValue}
-use Rattle.std.specs.Prelude.{◌≡◌, ◌≢◌, ℕ, ◌+◌, ◌<◌, ◌≤◌, Bool, true, false, List, [], ◌++◌, length, drop, slice_index, Result, Ok, Err, cond, ◌==◌, count_by}
+use Rattle.std.specs.Prelude.{◌≡◌, ◌≢◌, ℕ, ◌+◌, ◌<◌, ◌≤◌, Bool, true, false, List, [], ◌++◌, length, take, drop, slice_index, Result, Ok, Err, cond, ◌==◌, count_by}
 use Rattle.keymap_text.specs.declared.fault.TextFaultKind.{TextFaultKind}
 use Rattle.keymap_text.specs.declared.fault.TextFault.{TextFault}
 use Rattle.keymap_text.specs.declared.scanner.Mode.{Mode}
 use Rattle.keymap_text.specs.declared.scanner.Mode.TheVariants as modes
 use Rattle.keymap_text.specs.declared.scanner.Scanner.{Scanner}
-use Rattle.keymap_text.specs.Lexical.{split, Tokens, leading, stays_on_line, is_word, is_blank, literal, Unfinished}
-use Rattle.keymap_text.specs.Reading.{judge, line, Verdict, Spelled, Faulty}
+use Rattle.keymap_text.specs.Lexical.{split, Tokens, Token, Then, leading, stays_on_line, is_word, is_blank, literal, Unfinished}
+use Rattle.keymap_text.specs.Reading.{judge, line, Verdict, Spelled, Faulty, is_settled}
+use Rattle.keymap_text.specs.Words.{item}
+use Rattle.keymap_text.specs.declared.words.Item.{Item}
 use Rattle.keymap_text.specs.Grammar.{State}
 use Rattle.keymap_text.specs.Views.{state_view, IsPlace}
 
@@ -80,3 +82,27 @@ pub record Lined (r : Scanner) (b : List ℕ) : Type 0 where
   pub fed : r.offset + length r.pending.items ≡ length b
   pub line : r.line ≡ line b r.offset
   pub none : count_by (λ c. c == 10) (drop r.offset b) ≡ 0
+
+-- What taking the first n of some bytes did.
+pub record Advances (old new : Scanner) (rest : List ℕ) (n : ℕ) : Type 0 where
+  pub takes : (x : List ℕ) → resume old (rest ++ x) ≡ resume new (drop n rest ++ x)
+  pub reader : IsReader new
+  pub fed : new.offset + length new.pending.items ≡ old.offset + length old.pending.items + n
+  pub inside : n ≤ length rest
+  pub line : (b : List ℕ) → Lined old b → Lined new (b ++ take n rest)
+
+-- These bytes have a fault that stands whatever follows them.
+pub record Refuses (old : Scanner) (rest : List ℕ) (e : TextFault) : Type 0 where
+  pub takes : (x : List ℕ) → resume old (rest ++ x) ≡ Faulty e.kind e.offset true
+  pub line : (b : List ℕ) → Lined old b → e.line ≡ line (b ++ rest) e.offset
+
+-- A whole token of n bytes, which stands for i, is in front, whatever follows.
+pub record Fronts (rest : List ℕ) (i : Item) (n : ℕ) : Type 0 where
+  pub token : ℕ → List ℕ → Token
+  pub splits : (q : ℕ) (x : List ℕ) → split 0 q (rest ++ x) ≡ Then (token q x) (split 0 (q + n) (drop n rest ++ x))
+  pub item : (q : ℕ) (x : List ℕ) → item (token q x).kind (token q x).bytes ≡ i
+  pub start : (q : ℕ) (x : List ℕ) → (token q x).start ≡ q
+  pub settled : (q : ℕ) (x : List ℕ) → is_settled (token q x) ≡ true
+  pub some : 0 < n
+  pub inside : n ≤ length rest
+  pub one_line : count_by (λ c. c == 10) (take n rest) ≡ 0

@@ -138,6 +138,7 @@ impl Grammar {
     }
 
     /// Takes the next token. After an `Err` the value is of no use.
+    #[inline(always)]
     pub(crate) fn accept(&mut self, item: &Item) -> Result<(), TextFaultKind>
         requires { IsPlace self.old.place self.old.accent }
         ensures steps { Steps result (spec.step self.old.map (place_view self.old.place self.old.entry self.old.accent) item.now) (state_view self.new) }
@@ -159,6 +160,7 @@ impl Grammar {
         }
     }
 
+    #[inline(always)]
     fn begin(&mut self, item: &Item) -> Result<(), TextFaultKind>
         ensures steps { Steps result (spec.step self.old.map spec.Definition item.now) (state_view self.new) }
         ensures place { OnOk result (IsPlace self.new.place self.new.accent) }
@@ -169,6 +171,7 @@ impl Grammar {
         Ok(())
     }
 
+    #[inline(always)]
     fn cell(&mut self, slot: u8, index: u8, item: &Item) -> Result<(), TextFaultKind>
         requires { index < 8 }
         ensures steps { Steps result (spec.step self.old.map (spec.CellAt slot index self.old.entry) item.now) (state_view self.new) }
@@ -187,6 +190,7 @@ impl Grammar {
         Ok(())
     }
 
+    #[inline(always)]
     fn lock(&mut self, slot: u8, item: &Item) -> Result<(), TextFaultKind>
         ensures steps { Steps result (spec.step self.old.map (spec.LockAt slot self.old.entry) item.now) (state_view self.new) }
         ensures place { OnOk result (IsPlace self.new.place self.new.accent) }
@@ -198,6 +202,7 @@ impl Grammar {
         Ok(())
     }
 
+    #[inline(always)]
     fn accent_character(&mut self, index: u8, item: &Item) -> Result<(), TextFaultKind>
         requires { index < 15 }
         ensures steps { Steps result (spec.step self.old.map (spec.AccentCharacter index) item.now) (state_view self.new) }
@@ -209,6 +214,7 @@ impl Grammar {
         Ok(())
     }
 
+    #[inline(always)]
     fn after_accent(&mut self, index: u8, item: &Item) -> Result<(), TextFaultKind>
         requires { index < 15 }
         ensures steps { Steps result (spec.step self.old.map (spec.AfterAccent index self.old.accent) item.now) (state_view self.new) }
@@ -229,6 +235,7 @@ impl Grammar {
     }
 
     /// Puts the accent that is complete into the map.
+    #[inline(never)]
     pub(crate) fn close_accent(&mut self, index: u8)
         requires { index < 15 }
         ensures { self.new.map ≡ with_accent self.old.map index self.old.accent }
@@ -237,6 +244,7 @@ impl Grammar {
         self.map.set_accent(index, accent).unwrap();
     }
 
+    #[inline(always)]
     fn pair_base(&mut self, index: u8, item: &Item) -> Result<(), TextFaultKind>
         requires index { index < 15 }
         requires room { length self.old.accent.pairs < 52 }
@@ -251,6 +259,7 @@ impl Grammar {
         Ok(())
     }
 
+    #[inline(always)]
     fn pair_result(&mut self, index: u8, base: char, item: &Item) -> Result<(), TextFaultKind>
         requires index { index < 15 }
         requires room { length self.old.accent.pairs < 52 }
@@ -267,6 +276,7 @@ impl Grammar {
         Ok(())
     }
 
+    #[inline(always)]
     fn pair_end(
         &mut self,
         index: u8,

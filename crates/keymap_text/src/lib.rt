@@ -11,6 +11,7 @@ pub mod laws;
 mod layout;
 mod names;
 mod printer;
+mod quick;
 mod reader;
 mod scanner;
 mod source;

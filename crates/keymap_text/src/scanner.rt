@@ -1,16 +1,19 @@
 //! Reading a text byte by byte.
-ghost use Rattle.std.specs.Prelude.{◌≡◌, ℕ, ◌+◌, ◌<◌, ◌≤◌, ◌^◌, ◌∷◌, ◌++◌, [], List, length, OnOk, IfErr, Ok, Err, drop, cond, ◌==◌};
-ghost use Rattle.keymap_text.specs.Lexical.{literal};
+ghost use Rattle.std.specs.Prelude.{◌≡◌, ℕ, ◌+◌, ◌<◌, ◌≤◌, ◌^◌, ◌∷◌, ◌++◌, [], List, length, take, OnOk, IfSome, IfErr, MatchResult, Ok, Err, drop, cond, ◌==◌};
+ghost use Rattle.keymap_text.specs.Lexical.{literal, leading, is_word};
 ghost use Rattle.keymap_text.specs.Reading.{verdict, ended, line};
 ghost use Rattle.keymap_text.specs.Words.{item, meaning};
-ghost use Rattle.keymap_text.specs.Views.{state_view, front_view, FoundFits, IsPlace};
-ghost use Rattle.keymap_text.specs.Resuming.{resume, Takes, IsReader, Accepts, HasNoRole, Says, Forward, IsPending, Lined, line_feed};
+ghost use Rattle.keymap_text.specs.Views.{state_view, front_view, FoundFits, IsPlace, Steps};
+ghost use Rattle.keymap_text.specs.Resuming.{resume, Takes, Advances, Fronts, IsReader, Accepts, HasNoRole, Says, Forward, IsPending, Lined, line_feed};
 ghost use Rattle.keymap_text.specs.Grammar as spec;
 
 use crate::fault::{TextFault, TextFaultKind};
 use crate::grammar::{Grammar, Place};
-use crate::token::{Front, TokenKind, is_blank_byte, is_word_byte, literal_front};
-use crate::words::{Item, item_of};
+use crate::quick::name_meaning;
+use crate::token::{
+    Front, TokenKind, is_blank_byte, is_word_byte, literal_front, space_len, word_len,
+};
+use crate::words::{Item, Meaning, item_of, short_number};
 use arrayvec::ArrayVec;
 use keymap_core::KeyMap;
 
@@ -52,6 +55,55 @@ fn next_line(line: u64, c: u8) -> u64
     if c == b'\n' { line + 1 } else { line }
 }
 
+/// The meaning of the word of n bytes in front, if it is a short name or number.
+#[inline(always)]
+fn front_meaning(rest: &[u8], n: usize) -> Option<Meaning>
+    requires word { n ≤ leading is_word rest.now }
+    requires some { 0 < length rest.now }
+    requires inside { n ≤ length rest.now }
+    requires few { n ≤ 15 }
+    ensures { IfSome result (λ m. m ≡ meaning (take n rest.now)) }
+{
+    if rest[0] > b'9' {
+        return name_meaning(rest, n);
+    }
+    match short_number(&rest[..n]) {
+        Some(number) => Some(Meaning::Number(number as u128)),
+        None => None,
+    }
+}
+
+/// The token in front of the bytes, and how many bytes it has, where they show that it is whole. Other tokens and what
+/// stands in their place are taken byte by byte.
+#[inline(always)]
+fn whole_token(rest: &[u8]) -> Option<(Item, usize)>
+    requires { 0 < length rest.now }
+    ensures { IfSome result (λ found. Fronts rest.now found.0 found.1) }
+{
+    let c = rest[0];
+    if is_word_byte(c) {
+        let n = word_len(rest);
+        if n == rest.len() || n > 15 {
+            return None;
+        }
+        return match front_meaning(rest, n) {
+            Some(meaning) => Some((Item::Value(meaning), n)),
+            None => None,
+        };
+    }
+    match c {
+        b'\'' => {
+            if rest.len() < 3 || rest[1] < b' ' || rest[1] > b'~' || rest[2] != b'\'' {
+                return None;
+            }
+            Some((Item::Value(Meaning::Char(rest[1] as char)), 3))
+        }
+        b'(' => Some((Item::Open, 1)),
+        b')' => Some((Item::Close, 1)),
+        _ => None,
+    }
+}
+
 fn mode_in_comment(c: u8) -> Mode
     ensures { result ≡ cond (c == 10) Mode.Between Mode.Comment }
 {
@@ -64,6 +116,7 @@ fn mode_in_comment(c: u8) -> Mode
 
 impl Scanner {
     /// Takes the next byte.
+    #[inline(never)]
     fn take(&mut self, c: u8) -> Result<(), TextFault>
         requires reader { IsReader self.old }
         requires room { self.old.offset + length self.old.pending.items + 1 < 2 ^ 63 }
@@ -178,6 +231,7 @@ impl Scanner {
     }
 
     /// Takes a whole token of n bytes, of which none is pending then.
+    #[inline(never)]
     #[tactic(auto, unfolding(crate::specs::Grammar::accept))]
     fn accept(&mut self, item: Item, n: u64) -> Result<(), TextFault>
         requires place { IsPlace self.old.grammar.place self.old.grammar.accent }
@@ -280,6 +334,58 @@ impl Scanner {
         }
     }
 
+    /// Takes the blanks in front, of which none ends the line; there may be none.
+    #[inline(always)]
+    fn spaces(&mut self, rest: &[u8]) -> usize
+        requires reader { IsReader self.old }
+        requires mode { self.old.mode ≡ Mode.Between }
+        requires room { self.old.offset + length self.old.pending.items + length rest.now < 2 ^ 63 }
+        ensures advances { Advances self.old self.new rest.now result }
+        ensures mode { self.new.mode ≡ Mode.Between }
+    {
+        let n = space_len(rest);
+        self.offset += n as u64;
+        n
+    }
+
+    /// Takes the end of a line between tokens.
+    #[inline(always)]
+    fn end_line(&mut self)
+        requires reader { IsReader self.old }
+        requires mode { self.old.mode ≡ Mode.Between }
+        requires room { self.old.offset + length self.old.pending.items + 1 < 2 ^ 63 }
+        ensures takes { (x : List ℕ) → resume self.old (10 ∷ x) ≡ resume self.new x }
+        ensures reader { IsReader self.new }
+        ensures fed { self.new.offset + length self.new.pending.items ≡ self.old.offset + length self.old.pending.items + 1 }
+        ensures line { Forward self.old self.new 10 }
+    {
+        self.line += 1;
+        self.offset += 1;
+    }
+
+    /// Takes a whole token of n bytes, where nothing is pending.
+    #[inline(always)]
+    #[tactic(auto, unfolding(crate::specs::Grammar::accept))]
+    fn token(&mut self, item: &Item, n: usize) -> Result<(), TextFaultKind>
+        requires reader { IsReader self.old }
+        requires mode { self.old.mode ≡ Mode.Between }
+        requires room { self.old.offset + n < 2 ^ 63 }
+        ensures steps { Steps result (spec.accept (state_view self.old.grammar) item.now) (state_view self.new.grammar) }
+        ensures reader { OnOk result (IsReader self.new) }
+        ensures offset { MatchResult result (λ _. self.new.offset ≡ self.old.offset + n) (λ _. self.new.offset ≡ self.old.offset) }
+        ensures line { self.new.line ≡ self.old.line }
+        ensures mode { self.new.mode ≡ self.old.mode }
+        ensures pending { self.new.pending.items ≡ self.old.pending.items }
+    {
+        match self.grammar.accept(item) {
+            Ok(()) => {
+                self.offset += n as u64;
+                Ok(())
+            }
+            Err(kind) => Err(kind),
+        }
+    }
+
     /// Takes the next piece of the text.
     pub(crate) fn feed(&mut self, piece: &[u8]) -> Result<(), TextFault>
         requires reader { IsReader self.old }
@@ -290,9 +396,28 @@ impl Scanner {
         ensures line { (b : List ℕ) → Lined self.old b → OnOk result (Lined self.new (b ++ piece.now)) }
         ensures fault_line { (b : List ℕ) → Lined self.old b → IfErr result (λ e. e.line ≡ line (b ++ piece.now) e.offset) }
     {
-        for c in piece {
-            match self.take(*c) {
-                Ok(()) => {}
+        let mut i = 0;
+        while i < piece.len() {
+            if let Mode::Between = self.mode {
+                i += self.spaces(&piece[i..]);
+                if i == piece.len() {
+                    return Ok(());
+                }
+                if piece[i] == b'\n' {
+                    self.end_line();
+                    i += 1;
+                    continue;
+                }
+                if let Some((item, n)) = whole_token(&piece[i..]) {
+                    match self.token(&item, n) {
+                        Ok(()) => i += n,
+                        Err(kind) => return Err(fault(kind, self.offset, self.line)),
+                    }
+                    continue;
+                }
+            }
+            match self.take(piece[i]) {
+                Ok(()) => i += 1,
                 Err(f) => return Err(f),
             }
         }

@@ -1,7 +1,7 @@
 //! Tokens of a text.
 ghost use Rattle.std.specs.Prelude.{◌≡◌, ◌+◌, ◌<◌, ◌≤◌, ◌==◌, length, drop, slice_index, cond, IsFalse, IfOk, IfSome, IfErr};
 ghost use Rattle.keymap_text.specs.Lexical as lexical;
-ghost use Rattle.keymap_text.specs.Lexical.{is_blank, is_word, stays_on_line, separates, leading, is_lone, literal, word, front, split, first};
+ghost use Rattle.keymap_text.specs.Lexical.{is_blank, is_space, is_word, stays_on_line, separates, leading, is_lone, literal, word, front, split, first};
 ghost use Rattle.keymap_text.specs.Reading.{line};
 ghost use Rattle.keymap_text.specs.Views.{front_view, FoundFits, result_view};
 
@@ -47,15 +47,83 @@ pub(crate) fn is_blank_byte(c: u8) -> bool
     c == b' ' || c == b'\t' || c == b'\r' || c == b'\n'
 }
 
+/// Which bytes are blanks that end no line.
+static SPACE_BYTES: [bool; 256] = [
+    false, false, false, false, false, false, false, false, false, true, false, false, false, true,
+    false, false, false, false, false, false, false, false, false, false, false, false, false,
+    false, false, false, false, false, true, false, false, false, false, false, false, false,
+    false, false, false, false, false, false, false, false, false, false, false, false, false,
+    false, false, false, false, false, false, false, false, false, false, false, false, false,
+    false, false, false, false, false, false, false, false, false, false, false, false, false,
+    false, false, false, false, false, false, false, false, false, false, false, false, false,
+    false, false, false, false, false, false, false, false, false, false, false, false, false,
+    false, false, false, false, false, false, false, false, false, false, false, false, false,
+    false, false, false, false, false, false, false, false, false, false, false, false, false,
+    false, false, false, false, false, false, false, false, false, false, false, false, false,
+    false, false, false, false, false, false, false, false, false, false, false, false, false,
+    false, false, false, false, false, false, false, false, false, false, false, false, false,
+    false, false, false, false, false, false, false, false, false, false, false, false, false,
+    false, false, false, false, false, false, false, false, false, false, false, false, false,
+    false, false, false, false, false, false, false, false, false, false, false, false, false,
+    false, false, false, false, false, false, false, false, false, false, false, false, false,
+    false, false, false, false, false, false, false, false, false, false, false, false, false,
+    false, false, false, false, false, false, false, false, false, false, false, false, false,
+    false, false, false, false, false, false, false, false,
+];
+
+/// Which bytes are ASCII letters and digits.
+static WORD_BYTES: [bool; 256] = [
+    false, false, false, false, false, false, false, false, false, false, false, false, false,
+    false, false, false, false, false, false, false, false, false, false, false, false, false,
+    false, false, false, false, false, false, false, false, false, false, false, false, false,
+    false, false, false, false, false, false, false, false, false, true, true, true, true, true,
+    true, true, true, true, true, false, false, false, false, false, false, false, true, true,
+    true, true, true, true, true, true, true, true, true, true, true, true, true, true, true, true,
+    true, true, true, true, true, true, true, true, false, false, false, false, false, false, true,
+    true, true, true, true, true, true, true, true, true, true, true, true, true, true, true, true,
+    true, true, true, true, true, true, true, true, true, false, false, false, false, false, false,
+    false, false, false, false, false, false, false, false, false, false, false, false, false,
+    false, false, false, false, false, false, false, false, false, false, false, false, false,
+    false, false, false, false, false, false, false, false, false, false, false, false, false,
+    false, false, false, false, false, false, false, false, false, false, false, false, false,
+    false, false, false, false, false, false, false, false, false, false, false, false, false,
+    false, false, false, false, false, false, false, false, false, false, false, false, false,
+    false, false, false, false, false, false, false, false, false, false, false, false, false,
+    false, false, false, false, false, false, false, false, false, false, false, false, false,
+    false, false, false, false, false, false, false, false, false, false, false, false, false,
+    false, false, false, false, false, false, false, false, false, false,
+];
+
+#[inline(always)]
+pub(crate) fn is_space_byte(c: u8) -> bool
+    ensures { result ≡ is_space c }
+{
+    SPACE_BYTES[c as usize]
+}
+
+/// How many blanks that end no line stand in front.
+#[tactic(auto, using(crate::proofs::Leading::leading_rules))]
+pub(crate) fn space_len(bytes: &[u8]) -> usize
+    ensures length { result ≤ length bytes.now }
+    ensures value { result ≡ leading is_space bytes.now }
+{
+    let mut i: usize = 0;
+    while i < bytes.len() && is_space_byte(bytes[i]) {
+        i += 1;
+    }
+    i
+}
+
+#[inline(always)]
 pub(crate) fn is_word_byte(c: u8) -> bool
     ensures { result ≡ is_word c }
 {
-    c.is_ascii_alphanumeric()
+    WORD_BYTES[c as usize]
 }
 
 /// How many word bytes stand in front.
 #[tactic(auto, using(crate::proofs::Leading::leading_rules))]
-fn word_len(bytes: &[u8]) -> usize
+pub(crate) fn word_len(bytes: &[u8]) -> usize
     ensures length { result ≤ length bytes.now }
     ensures value { result ≡ leading is_word bytes.now }
 {

@@ -1,7 +1,8 @@
 //! What words mean.
-ghost use Rattle.std.specs.Prelude.{◌≡◌, ◌+◌, ◌≤◌, ◌<◌, length, Some, None};
+ghost use Rattle.std.specs.Prelude.{◌≡◌, ◌+◌, ◌≤◌, ◌<◌, length, Some, None, IfSome};
 ghost use Rattle.std.specs.Char as char_spec;
-ghost use Rattle.keymap_text.specs.Words.{meaning, item, look, same_name, digits_of, number_after, of_action};
+ghost use Rattle.keymap_text.specs.declared.words.Meaning.TheVariants.{Number};
+ghost use Rattle.keymap_text.specs.Words.{meaning, item, look, named, table, same_name, digits_of, number_after, of_action};
 
 use crate::names::{NAMES, Name};
 use crate::token::TokenKind;
@@ -48,20 +49,40 @@ fn lookup(names: &[Name], word: &[u8]) -> Option<Meaning>
     None
 }
 
+/// What the word means by the names of characters and the lock letters.
+#[inline(never)]
+fn looked_up(word: &[u8]) -> Option<Meaning>
+    ensures { result ≡ named table word.now }
+{
+    lookup(&NAMES, word)
+}
+
+/// The value of each byte as a digit, and 36 where it is none.
+static DIGITS: [u8; 256] = [
+    36, 36, 36, 36, 36, 36, 36, 36, 36, 36, 36, 36, 36, 36, 36, 36, 36, 36, 36, 36, 36, 36, 36, 36,
+    36, 36, 36, 36, 36, 36, 36, 36, 36, 36, 36, 36, 36, 36, 36, 36, 36, 36, 36, 36, 36, 36, 36, 36,
+    0, 1, 2, 3, 4, 5, 6, 7, 8, 9, 36, 36, 36, 36, 36, 36, 36, 10, 11, 12, 13, 14, 15, 16, 17, 18,
+    19, 20, 21, 22, 23, 24, 25, 26, 27, 28, 29, 30, 31, 32, 33, 34, 35, 36, 36, 36, 36, 36, 36, 10,
+    11, 12, 13, 14, 15, 16, 17, 18, 19, 20, 21, 22, 23, 24, 25, 26, 27, 28, 29, 30, 31, 32, 33, 34,
+    35, 36, 36, 36, 36, 36, 36, 36, 36, 36, 36, 36, 36, 36, 36, 36, 36, 36, 36, 36, 36, 36, 36, 36,
+    36, 36, 36, 36, 36, 36, 36, 36, 36, 36, 36, 36, 36, 36, 36, 36, 36, 36, 36, 36, 36, 36, 36, 36,
+    36, 36, 36, 36, 36, 36, 36, 36, 36, 36, 36, 36, 36, 36, 36, 36, 36, 36, 36, 36, 36, 36, 36, 36,
+    36, 36, 36, 36, 36, 36, 36, 36, 36, 36, 36, 36, 36, 36, 36, 36, 36, 36, 36, 36, 36, 36, 36, 36,
+    36, 36, 36, 36, 36, 36, 36, 36, 36, 36, 36, 36, 36, 36, 36, 36, 36, 36, 36, 36, 36, 36, 36, 36,
+    36, 36, 36, 36, 36, 36, 36, 36, 36, 36, 36, 36, 36, 36,
+];
+
 /// The value of a digit, and 36 where the byte is none.
+#[inline(always)]
 fn digit_value(c: u8) -> u8
     ensures { result ≡ char_spec.digit_value c }
 {
-    match c {
-        b'0'..=b'9' => c - b'0',
-        b'A'..=b'Z' => c - b'A' + 10,
-        b'a'..=b'z' => c - b'a' + 10,
-        _ => 36,
-    }
+    DIGITS[c as usize]
 }
 
 /// The number that the digits spell; none where there are no bytes or one of them is no digit.
-fn number_of(base: u8, digits: &[u8]) -> Option<u128>
+#[inline(never)]
+fn long_number_of(base: u8, digits: &[u8]) -> Option<u128>
     requires base { base ≤ 16 }
     requires length { length digits.now ≤ 32 }
     ensures { result ≡ digits_of base digits.now }
@@ -80,7 +101,44 @@ fn number_of(base: u8, digits: &[u8]) -> Option<u128>
     Some(n)
 }
 
+/// The same number of few digits; none where there are no bytes or one of them is no digit.
+#[inline(always)]
+fn short_number_of(base: u8, digits: &[u8]) -> Option<u64>
+    requires base { base ≤ 16 }
+    requires length { length digits.now ≤ 15 }
+    ensures { result ≡ digits_of base digits.now }
+{
+    if digits.is_empty() {
+        return None;
+    }
+    let mut n: u64 = 0;
+    for c in digits {
+        let d = digit_value(*c);
+        if d >= base {
+            return None;
+        }
+        n = n * base as u64 + d as u64;
+    }
+    Some(n)
+}
+
+#[inline(always)]
+fn number_of(base: u8, digits: &[u8]) -> Option<u128>
+    requires base { base ≤ 16 }
+    requires length { length digits.now ≤ 32 }
+    ensures { result ≡ digits_of base digits.now }
+{
+    if digits.len() > 15 {
+        return long_number_of(base, digits);
+    }
+    match short_number_of(base, digits) {
+        Some(n) => Some(n as u128),
+        None => None,
+    }
+}
+
 /// The number after the prefix.
+#[inline(never)]
 fn prefixed_number(prefix: &[u8], base: u8, word: &[u8]) -> Option<u128>
     requires base { base ≤ 16 }
     requires length { length word.now ≤ 32 }
@@ -92,6 +150,7 @@ fn prefixed_number(prefix: &[u8], base: u8, word: &[u8]) -> Option<u128>
     number_of(base, &word[prefix.len()..])
 }
 
+#[inline(never)]
 fn action_meaning(named: Named) -> Meaning
     ensures { result ≡ of_action named }
 {
@@ -105,6 +164,7 @@ fn action_meaning(named: Named) -> Meaning
 
 /// The meaning of a word of at most 32 bytes, without regard to ASCII case: a decimal number, a hexadecimal one after
 /// `0x`, the name of a control character, a lock letter, or the name of an action.
+#[inline(always)]
 #[tactic(auto, unfolding(crate::specs::Words::meaning))]
 pub fn word_meaning(word: &[u8]) -> Meaning
     requires { length word.now ≤ 32 }
@@ -116,12 +176,25 @@ pub fn word_meaning(word: &[u8]) -> Meaning
     if let Some(n) = prefixed_number(b"0x", 16, word) {
         return Meaning::Number(n);
     }
-    match lookup(&NAMES, word) {
+    match looked_up(word) {
         Some(meaning) => meaning,
         None => action_meaning(Action::named(word)),
     }
 }
 
+/// The number that a word of few bytes spells, if it spells one.
+#[inline(always)]
+pub(crate) fn short_number(word: &[u8]) -> Option<u64>
+    requires { length word.now ≤ 15 }
+    ensures { IfSome result (λ n. Number n ≡ meaning word.now) }
+{
+    if word.len() > 2 && word[0] == b'0' && word[1] == b'x' {
+        return short_number_of(16, &word[2..]);
+    }
+    short_number_of(10, word)
+}
+
+#[inline(never)]
 pub(crate) fn item_of(kind: TokenKind, bytes: &[u8]) -> Item
     requires { length bytes.now ≤ 32 }
     ensures { result ≡ item kind bytes.now }

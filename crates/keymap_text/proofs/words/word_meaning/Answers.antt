@@ -1,7 +1,7 @@
 use Rattle.std.proofs.Common.{◌≡◌, List, ℕ, None, Some, codes, sym, ◌∙◌, ap, refl}
 use Rattle.keymap_core.specs.Names.{named_of}
 use Rattle.keymap_text.specs.declared.words.Meaning.{Meaning}
-use Rattle.keymap_text.specs.Words.{meaning, named, look, table, digits_of, number_after, of_action}
+use Rattle.keymap_text.specs.Words.{meaning, named, table, digits_of, number_after, of_action}
 use Rattle.keymap_text.proofs.words.word_meaning.Goals as goal
 
 by_name : (w : List ℕ) (m : Meaning) → None ≡ digits_of 10 w → None ≡ number_after (codes "0x") 16 w → Some m ≡ named table w → m ≡ meaning w
@@ -12,10 +12,8 @@ by_action : (w : List ℕ) (m : Meaning) → None ≡ digits_of 10 w → None �
 unfolding meaning
 by_action w m a b d h = rw (sym a, meaning) (rw (sym b) (rw (sym d) h))
 
-pub returns-in-Some-lookup : goal.returns-in-Some-lookup
-unfolding look named
-returns-in-Some-lookup c = by_name c.args.word.now c.in-Some-lookup.meaning c.in_default.ensures c.in_default-prefixed_number.ensures c.in-Some-lookup.ensures
+pub returns-in-Some-looked_up : goal.returns-in-Some-looked_up
+returns-in-Some-looked_up c = by_name c.args.word.now c.in-Some-looked_up.meaning c.in_default.ensures c.in_default-prefixed_number.ensures c.in-Some-looked_up.ensures
 
 pub returns-in-None : goal.returns-in-None
-unfolding look named
 returns-in-None c = by_action c.args.word.now c.action_meaning.result c.in_default.ensures c.in_default-prefixed_number.ensures c.in-None.ensures (c.action_meaning.ensures ∙ ap of_action c.named.ensures)

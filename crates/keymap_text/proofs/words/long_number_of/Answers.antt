@@ -3,7 +3,7 @@ use Rattle.std.proofs.lemmas.List.{take_all as take_whole}
 use Rattle.keymap_text.specs.Words.{number, is_digit}
 use Rattle.std.specs.List.{list_all}
 use Rattle.keymap_text.proofs.Numbers.{digits_none, digits_bad, digits_good, number_more, digits_more, bound_step, product_fits, room}
-use Rattle.keymap_text.proofs.words.number_of.Goals as goal
+use Rattle.keymap_text.proofs.words.long_number_of.Goals as goal
 
 pub returns-then-is_empty : goal.returns-then-is_empty
 returns-then-is_empty c = sym (digits_none c.args.base c.args.digits.now (eqb-true _ _ (sym c.is_empty.ensures ∙ c.if-is_empty.true)))

@@ -1,0 +1,27 @@
+-- The tables of the classes of bytes.
+use Rattle.std.proofs.Common.{◌≡◌, ℕ, ◌<◌, map, get_or, refl, false, arith}
+use Rattle.std.specs.List.{range_with_len}
+use Rattle.keymap_text.specs.declared.token.TheConstants.{SPACE_BYTES, WORD_BYTES}
+use Rattle.std.specs.Char.{digit_value}
+use Rattle.keymap_text.specs.declared.words.TheConstants.{DIGITS}
+use Rattle.keymap_text.specs.Lexical.{is_space, is_word}
+use Rattle.keymap_text.proofs.Characters.{along}
+
+-- computed over the tables
+spaces : map (λ c. get_or SPACE_BYTES c false) (range_with_len 0 256) ≡ map is_space (range_with_len 0 256)
+spaces = refl
+
+words : map (λ c. get_or WORD_BYTES c false) (range_with_len 0 256) ≡ map is_word (range_with_len 0 256)
+words = refl
+
+pub space_class : (c : ℕ) → c < 256 → get_or SPACE_BYTES c false ≡ is_space c
+space_class c h = along (λ c. get_or SPACE_BYTES c false) is_space 0 256 spaces c (omega arith) h
+
+pub word_class : (c : ℕ) → c < 256 → get_or WORD_BYTES c false ≡ is_word c
+word_class c h = along (λ c. get_or WORD_BYTES c false) is_word 0 256 words c (omega arith) h
+
+digits : map (λ c. get_or DIGITS c 0) (range_with_len 0 256) ≡ map digit_value (range_with_len 0 256)
+digits = refl
+
+pub digit_class : (c : ℕ) → c < 256 → get_or DIGITS c 0 ≡ digit_value c
+digit_class c h = along (λ c. get_or DIGITS c 0) digit_value 0 256 digits c (omega arith) h

@@ -1,0 +1,143 @@
+-- Each row of the table of names says what its name means.
+use Rattle.std.proofs.Common.{◌≡◌, ℕ, zero, suc, ◌+◌, ◌*◌, ◌/◌, ◌%◌, ◌<◌, Bool, true, false, cond, ◌&&◌, List, [], ◌∷◌, length, take, drop, get_or, map, fold, All, refl, sym, ◌∙◌, ap, ap₂, arith, nat_lt, nat_le, Option, Some, None, IfSome, codes, bytes_eq}
+use Rattle.std.proofs.lemmas.Str.Ascii.{lowercase-lowercase}
+use Rattle.std.proofs.lemmas.List.{get_or-map, take-map, drop-map, length-map}
+use Rattle.std.proofs.lemmas.Bool.Decides.{nat_tests}
+use Rattle.std.specs.List.{list_all}
+use Rattle.std.specs.Char.{to_ascii_lowercase, digit_value}
+use Rattle.keymap_core.specs.Names.{named_of, meaning_of}
+use Rattle.keymap_core.specs.declared.named.Named.{Named}
+use Rattle.keymap_text.specs.declared.words.Meaning.TheVariants.{Number, Act}
+use Rattle.keymap_text.specs.declared.quick.TheConstants.{ROWS}
+use Rattle.keymap_text.specs.declared.quick.Row.{Row}
+use Rattle.keymap_text.specs.declared.words.Meaning.{Meaning}
+use Rattle.keymap_text.specs.Packed.{pack, unpacked, sense_meaning, Means, IsTrueRow, Letters, function_name, screen_name}
+use Rattle.keymap_text.proofs.Packing.{unpack_packed, letters_front}
+use Rattle.keymap_text.proofs.Characters.{along}
+use Rattle.keymap_text.specs.Lexical.{leading, is_word}
+use Rattle.keymap_core.specs.declared.action.Action.TheVariants as a
+use Rattle.std.specs.Int.{from_le_bytes, w64}
+use Rattle.std.specs.List.{range_with_len}
+use Rattle.std.proofs.Common.{◌≤◌, length-take}
+use Rattle.keymap_text.specs.Words.{meaning, named, table, digits_of, number_after, is_digit, of_action}
+
+-- case has no effect
+idem : (w : List ℕ) → map to_ascii_lowercase (map to_ascii_lowercase w) ≡ map to_ascii_lowercase w
+idem [] = refl
+idem (c ∷ w) = ap₂ (λ (x : ℕ) (xs : List ℕ). x ∷ xs) (lowercase-lowercase c) (idem w)
+
+digit_lower : (c : ℕ) → digit_value (to_ascii_lowercase c) ≡ digit_value c
+digit_lower c = grind (arith, nat_tests)
+
+all_lower : (base : ℕ) (w : List ℕ) → list_all (is_digit base) (map to_ascii_lowercase w) ≡ list_all (is_digit base) w
+all_lower base [] = refl
+all_lower base (c ∷ w) = ap₂ (λ d b. nat_lt d base && b) (digit_lower c) (all_lower base w)
+
+number_lower : (base n : ℕ) (w : List ℕ) → fold (λ n c. n * base + digit_value c) n (map to_ascii_lowercase w) ≡ fold (λ n c. n * base + digit_value c) n w
+number_lower base n [] = refl
+number_lower base n (c ∷ w) = number_lower base (n * base + digit_value (to_ascii_lowercase c)) w ∙ ap (λ d. fold (λ n c. n * base + digit_value c) (n * base + d) w) (digit_lower c)
+
+digits_lower : (base : ℕ) (w : List ℕ) → digits_of base (map to_ascii_lowercase w) ≡ digits_of base w
+unfolding digits_of
+digits_lower base w = rw (length-map, all_lower base w, number_lower base 0 w) refl
+
+after_lower : (prefix : List ℕ) (base : ℕ) (w : List ℕ) → number_after prefix base (map to_ascii_lowercase w) ≡ number_after prefix base w
+after_lower prefix base w =
+    let n = length prefix in
+    ap₂ (λ b o. cond b o None)
+    (ap₂ (λ m l. nat_le n m && bytes_eq (map to_ascii_lowercase prefix) l) (length-map w to_ascii_lowercase) (ap (map to_ascii_lowercase) (take-map to_ascii_lowercase n w) ∙ idem (take n w)))
+    (ap (digits_of base) (drop-map to_ascii_lowercase n w) ∙ digits_lower base (drop n w))
+
+named_lower : (t : List (List ℕ × Meaning)) (w : List ℕ) → named t (map to_ascii_lowercase w) ≡ named t w
+unfolding named
+named_lower [] w = refl
+named_lower (e ∷ t) w = ap₂ (λ l o. cond (bytes_eq (map to_ascii_lowercase e.0) l) (Some e.1) o) (idem w) (named_lower t w)
+
+pick : Option ℕ → Option ℕ → Option Meaning → Named → Meaning
+pick a b c d = elim a [ Some n ↦ Number n | None ↦ elim b [ Some n ↦ Number n | None ↦ elim c [ Some m ↦ m | None ↦ of_action d ] ] ]
+
+meaning_picks : (w : List ℕ) → meaning w ≡ pick (digits_of 10 w) (number_after (codes "0x") 16 w) (named table w) (named_of w)
+unfolding meaning pick
+meaning_picks w = refl
+
+same_pick : (a a' b b' : Option ℕ) (c c' : Option Meaning) (d d' : Named) → a ≡ a' → b ≡ b' → c ≡ c' → d ≡ d' → pick a b c d ≡ pick a' b' c' d'
+same_pick a a' b b' c c' d d' e f g h = cc
+
+pub meaning_lower : (w : List ℕ) → meaning (map to_ascii_lowercase w) ≡ meaning w
+meaning_lower w = meaning_picks _ ∙ same_pick _ _ _ _ _ _ _ _ (digits_lower 10 w) (after_lower (codes "0x") 16 w) (named_lower table w) (ap meaning_of (idem w)) ∙ sym (meaning_picks w)
+
+-- numbers
+pub decimal_meaning : (w : List ℕ) (n : ℕ) → Some n ≡ digits_of 10 w → Number n ≡ meaning w
+unfolding pick
+decimal_meaning w n h = ap (λ o. pick o (number_after (codes "0x") 16 w) (named table w) (named_of w)) h ∙ sym (meaning_picks w)
+
+none_of : (b : Bool) (x : Option ℕ) → cond (b && false) x None ≡ None
+none_of true x = refl
+none_of false x = refl
+
+not_decimal : (b : ℕ) (w : List ℕ) → nat_lt (digit_value b) 10 ≡ false → digits_of 10 (48 ∷ b ∷ w) ≡ None
+unfolding digits_of
+not_decimal b w h = rw (h, digits_of) (none_of _ _)
+
+some_length : (n : ℕ) → nat_le 2 (suc (suc n)) ≡ true
+some_length n = grind (arith, nat_tests)
+
+behind_prefix : (b : ℕ) (w : List ℕ) → to_ascii_lowercase b ≡ 120 → number_after (codes "0x") 16 (48 ∷ b ∷ w) ≡ digits_of 16 w
+behind_prefix b w l = ap₂ (λ m c. cond (m && bytes_eq (codes "0x") (48 ∷ c ∷ [])) (digits_of 16 w) None) (some_length (length w)) l
+
+hexadecimal : (b n : ℕ) (w : List ℕ) → nat_lt (digit_value b) 10 ≡ false → to_ascii_lowercase b ≡ 120 → Some n ≡ digits_of 16 w → Number n ≡ meaning (48 ∷ b ∷ w)
+unfolding pick
+hexadecimal b n w d l h =
+    let e : number_after (codes "0x") 16 (48 ∷ b ∷ w) ≡ digits_of 16 w = behind_prefix b w l in
+    ap (λ o. pick None o (named table (48 ∷ b ∷ w)) (named_of (48 ∷ b ∷ w))) (h ∙ sym e)
+    ∙ ap (λ o. pick o (number_after (codes "0x") 16 (48 ∷ b ∷ w)) (named table (48 ∷ b ∷ w)) (named_of (48 ∷ b ∷ w))) (sym (not_decimal b w d))
+    ∙ sym (meaning_picks (48 ∷ b ∷ w))
+
+pub hexadecimal_meaning : (w : List ℕ) (b n : ℕ) → nat_lt (digit_value b) 10 ≡ false → to_ascii_lowercase b ≡ 120 → 2 < length w → get_or w 0 0 ≡ 48 → get_or w 1 0 ≡ b → Some n ≡ digits_of 16 (drop 2 w) → Number n ≡ meaning w
+hexadecimal_meaning [] b n d l s x y h = absurd (omega (arith, s))
+hexadecimal_meaning (c ∷ []) b n d l s x y h = absurd (omega (arith, s))
+hexadecimal_meaning (c ∷ e ∷ w) b n d l s x y h = hexadecimal b n w d l h ∙ ap₂ (λ (x y : ℕ). meaning (x ∷ y ∷ w)) (sym x) (sym y)
+
+pub decimal_means : (r : Option ℕ) (w : List ℕ) → r ≡ digits_of 10 w → IfSome r (λ n. Number n ≡ meaning w)
+decimal_means (Some n) w h = decimal_meaning w n h
+decimal_means None w h = tt
+
+pub hexadecimal_means : (r : Option ℕ) (w : List ℕ) (b : ℕ) → nat_lt (digit_value b) 10 ≡ false → to_ascii_lowercase b ≡ 120 → 2 < length w → get_or w 0 0 ≡ 48 → get_or w 1 0 ≡ b → r ≡ digits_of 16 (drop 2 w) → IfSome r (λ n. Number n ≡ meaning w)
+hexadecimal_means (Some n) w b d l s x y h = hexadecimal_meaning w b n d l s x y h
+hexadecimal_means None w b d l s x y h = tt
+
+-- a row is true if the word that is packed in it means so
+pub means_of : (key : ℕ) (m : Meaning) → m ≡ meaning (unpacked 8 key) → Means key m
+means_of key m e = λ w short letters h. e ∙ ap meaning (ap (unpacked 8) (sym h) ∙ unpack_packed 8 w short letters) ∙ meaning_lower w
+
+-- computed over the names
+row_meanings : map (λ r. sense_meaning r.1) ROWS ≡ map (λ r. meaning (unpacked 8 (from_le_bytes w64 r.0))) ROWS
+unfolding meaning digits_of named
+row_meanings = refl
+
+functions : map (λ n. Act (a.Function n)) (range_with_len 1 96) ≡ map (λ n. meaning (unpacked 8 (function_name n))) (range_with_len 1 96)
+unfolding meaning digits_of named
+functions = refl
+
+screens : map (λ n. Act (a.Screen n)) (range_with_len 1 16) ≡ map (λ n. meaning (unpacked 8 (screen_name n))) (range_with_len 1 16)
+unfolding meaning digits_of named
+screens = refl
+
+at_row : {X : Type 0} (f g : Row → X) → map f ROWS ≡ map g ROWS → (k : ℕ) (d : Row) → k < length ROWS → f (get_or ROWS k d) ≡ g (get_or ROWS k d)
+at_row f g h k d l = sym (get_or-map f ROWS k d (f d) l) ∙ ap (λ xs. get_or xs k (f d)) h ∙ get_or-map g ROWS k d (f d) l
+
+pub rows_true : All IsTrueRow ROWS
+rows_true = λ k d h. means_of (from_le_bytes w64 (get_or ROWS k d).0) (sense_meaning (get_or ROWS k d).1) (at_row (λ r. sense_meaning r.1) (λ r. meaning (unpacked 8 (from_le_bytes w64 r.0))) row_meanings k d h)
+
+pub function_means : (n key : ℕ) → 0 < n → n ≤ 96 → key ≡ function_name n → Means key (Act (a.Function n))
+function_means n key l h e = means_of key (Act (a.Function n)) (along (λ n. Act (a.Function n)) (λ n. meaning (unpacked 8 (function_name n))) 1 96 functions n (omega (arith, l)) (omega (arith, h)) ∙ ap (λ k. meaning (unpacked 8 k)) (sym e))
+
+pub screen_means : (n key : ℕ) → 0 < n → n ≤ 16 → key ≡ screen_name n → Means key (Act (a.Screen n))
+screen_means n key l h e = means_of key (Act (a.Screen n)) (along (λ n. Act (a.Screen n)) (λ n. meaning (unpacked 8 (screen_name n))) 1 16 screens n (omega (arith, l)) (omega (arith, h)) ∙ ap (λ k. meaning (unpacked 8 k)) (sym e))
+
+pub some_means : (r : Option Meaning) (key n : ℕ) (w : List ℕ) → IfSome r (Means key) → n ≤ 8 → n ≤ leading is_word w → key ≡ pack 8 (map to_ascii_lowercase (take n w)) → IfSome r (λ m. m ≡ meaning (take n w))
+some_means (Some m) key n w h s l e = h (take n w) (short n w s) (letters_front n w l) (sym e)
+  where
+    short : (n : ℕ) (w : List ℕ) → n ≤ 8 → length (take n w) ≤ 8
+    short n w s = omega (arith, s, length-take n w)
+some_means None key n w h s l e = tt

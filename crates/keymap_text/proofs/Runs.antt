@@ -1,0 +1,276 @@
+-- What taking a whole token or a row of blanks makes of the rest of a text.
+use Rattle.std.proofs.Common.{◌≡◌, ℕ, zero, suc, ◌+◌, ◌<◌, ◌≤◌, Bool, true, false, List, [], ◌∷◌, ◌++◌, length, take, drop, get_or, refl, sym, ◌∙◌, ap, subst, arith, Ok, Err, ne_eqb, ◌-◌, ap₂, append_assoc, length-drop, drop-cons}
+use Rattle.std.proofs.lemmas.List.{drop-drop, take-append-drop, drop_all}
+use Rattle.std.proofs.Math.Seq.{take-add}
+use Rattle.std.proofs.lemmas.Bool.Decides.{nat_tests}
+use Rattle.keymap_text.specs.declared.fault.TextFault.{TextFault}
+use Rattle.keymap_text.specs.declared.token.TokenKind.TheVariants.{Word, Literal, ParenL, ParenR}
+use Rattle.keymap_text.specs.declared.words.Item.{Item}
+use Rattle.keymap_text.specs.declared.words.Item.TheVariants.{Value, Open, Close}
+use Rattle.keymap_text.specs.declared.words.Meaning.TheVariants.{Char}
+use Rattle.keymap_text.specs.declared.scanner.Mode.{Mode}
+use Rattle.keymap_text.specs.declared.scanner.Mode.TheVariants as modes
+use Rattle.keymap_text.specs.declared.scanner.Scanner.{Scanner}
+use Rattle.keymap_text.specs.Lexical.{leading, is_blank, is_space, is_word, literal, Found, split, Then, is_empty}
+use Rattle.keymap_text.specs.Words.{meaning}
+use Rattle.keymap_text.specs.Grammar.{State, accept}
+use Rattle.keymap_text.specs.Reading.{judge, Faulty, line}
+use Rattle.keymap_text.specs.Views.{state_view}
+use Rattle.keymap_text.specs.Resuming.{tokens_of, resume, KeepsMode, line_feed, IsReader, Lined, Forward, IsPending, Advances, Refuses, Fronts}
+use Rattle.keymap_text.proofs.Leading.{leading_pass, leading_fail, leading_none}
+use Rattle.keymap_text.proofs.Lines.{feeds, feeds_are, feeds_run, no_feed, lined_run, lined_on, lined_all, pending_line}
+use Rattle.keymap_text.proofs.Splitting.{split_blank, to_end}
+use Rattle.keymap_text.proofs.Steps.{judge_then, judge_refused, word_ended, found_whole, front_quote, front_left, front_right}
+
+-- blanks
+space_blank : (c : ℕ) → is_space c ≡ true → is_blank c ≡ true
+space_blank c h = grind (arith, nat_tests)
+
+split_spaces : (n q : ℕ) (xs y : List ℕ) → n ≤ leading is_space xs → split 0 q (xs ++ y) ≡ split 0 (q + n) (drop n xs ++ y)
+split_spaces zero q xs y h = ap (λ k. split 0 k (xs ++ y)) (omega arith)
+split_spaces (suc n) q [] y h = absurd (omega (arith, h, leading_none is_space))
+split_spaces (suc n) q (c ∷ xs) y h = go (is_space c) refl (split_spaces n (q + 1) xs y)
+  where
+    on : (k : ℕ) → q + 1 + n ≡ k → split 0 (q + 1 + n) (drop n xs ++ y) ≡ split 0 k (drop n xs ++ y)
+    on k e = ap (λ k. split 0 k (drop n xs ++ y)) e
+
+    go : (b : Bool) → is_space c ≡ b → (n ≤ leading is_space xs → split 0 (q + 1) (xs ++ y) ≡ split 0 (q + 1 + n) (drop n xs ++ y)) → split 0 q (c ∷ (xs ++ y)) ≡ split 0 (q + suc n) (drop n xs ++ y)
+    go true e k = split_blank q c (xs ++ y) (space_blank c e) ∙ k (omega (arith, h, leading_pass is_space c xs e)) ∙ on (q + suc n) (omega arith)
+    go false e k = absurd (omega (arith, h, leading_fail is_space c xs e))
+
+pub take_spaces : (s : State) (m : Mode) (p : List ℕ) (q n : ℕ) (rest : List ℕ) → m ≡ modes.Between → n ≡ leading is_space rest → (x : List ℕ) → judge s (tokens_of m p q (rest ++ x)) ≡ judge s (tokens_of m p (q + n) (drop n rest ++ x))
+take_spaces s m p q n rest h e x = ap (λ m. judge s (tokens_of m p q (rest ++ x))) h ∙ ap (judge s) (split_spaces n q rest x (omega (arith, e))) ∙ sym (ap (λ m. judge s (tokens_of m p (q + n) (drop n rest ++ x))) h)
+
+-- a word
+leading_front : (p : ℕ → Bool) (n : ℕ) (w : List ℕ) → leading p w ≡ n → leading p (take n w) ≡ n
+leading_front p zero w h = leading_none p
+leading_front p (suc n) [] h = h
+leading_front p (suc n) (c ∷ w) h = go (p c) refl (leading_front p n w)
+  where
+    go : (b : Bool) → p c ≡ b → (leading p w ≡ n → leading p (take n w) ≡ n) → leading p (c ∷ take n w) ≡ suc n
+    go true e k = omega (arith, leading_pass p c (take n w) e, k (omega (arith, h, leading_pass p c w e)))
+    go false e k = absurd (omega (arith, h, leading_fail p c w e))
+
+leading_behind : (p : ℕ → Bool) (n : ℕ) (w y : List ℕ) → leading p w ≡ n → n < length w → leading p (drop n w ++ y) ≡ 0
+leading_behind p n [] y h l = absurd (omega (arith, l))
+leading_behind p zero (c ∷ w) y h l = go (p c) refl
+  where
+    go : (b : Bool) → p c ≡ b → leading p (c ∷ (w ++ y)) ≡ 0
+    go true e = absurd (omega (arith, h, leading_pass p c w e))
+    go false e = leading_fail p c (w ++ y) e
+leading_behind p (suc n) (c ∷ w) y h l = go (p c) refl (leading_behind p n w y)
+  where
+    go : (b : Bool) → p c ≡ b → (leading p w ≡ n → n < length w → leading p (drop n w ++ y) ≡ 0) → leading p (drop n w ++ y) ≡ 0
+    go true e k = k (omega (arith, h, leading_pass p c w e)) (omega (arith, l))
+    go false e k = absurd (omega (arith, h, leading_fail p c w e))
+
+not_empty : (n : ℕ) (w x : List ℕ) → n < length w → is_empty (drop n w ++ x) ≡ false
+not_empty n [] x h = absurd (omega (arith, h))
+not_empty zero (c ∷ w) x h = refl
+not_empty (suc n) (c ∷ w) x h = not_empty n w x (omega (arith, h))
+
+pub front_length : (n : ℕ) (w : List ℕ) → n ≤ length w → length (take n w) ≡ n
+front_length zero w h = refl
+front_length (suc n) [] h = absurd (omega (arith, h))
+front_length (suc n) (c ∷ w) h = ap suc (front_length n w (omega (arith, h)))
+
+front_behind : (n : ℕ) (w x : List ℕ) → w ++ x ≡ take n w ++ (drop n w ++ x)
+front_behind zero w x = refl
+front_behind (suc n) [] x = refl
+front_behind (suc n) (c ∷ w) x = ap (λ t. c ∷ t) (front_behind n w x)
+
+word_split : (a q k : ℕ) (w x : List ℕ) → is_word a ≡ true → leading is_word w ≡ k → k < length w → k < 32 → split 0 q (a ∷ (w ++ x)) ≡ Then (record { kind = Word; bytes = a ∷ take k w; start = q; last = false }) (split 0 (q + suc k) (drop k w ++ x))
+word_split a q k w x h e l b =
+    let n = front_length k w (omega (arith, l)) in
+    ap (λ t. split 0 q (a ∷ t)) (front_behind k w x)
+    ∙ word_ended a q (take k w) (drop k w ++ x) h (leading_front is_word k w e ∙ sym n) (leading_behind is_word k w x e l) (omega (arith, n, b))
+    ∙ ap (λ last. Then (record { kind = Word; bytes = a ∷ take k w; start = q; last = last }) (split 0 (q + suc (length (take k w))) (drop k w ++ x))) (not_empty k w x l)
+    ∙ ap (λ k'. Then (record { kind = Word; bytes = a ∷ take k w; start = q; last = false }) (split 0 (q + suc k') (drop k w ++ x))) n
+
+pub word_fronts : (n : ℕ) (rest : List ℕ) → n ≡ leading is_word rest → n < length rest → is_word (get_or rest 0 0) ≡ true → n ≤ 32 → Fronts rest (Value (meaning (take n rest))) n
+word_fronts n [] e l t b = absurd (omega (arith, l))
+word_fronts zero (c ∷ w) e l t b = absurd (omega (arith, e, leading_pass is_word c w t))
+word_fronts (suc k) (c ∷ w) e l t b = record {
+  token = λ q x. record { kind = Word; bytes = c ∷ take k w; start = q; last = false };
+  splits = λ q x. word_split c q k w x t (omega (arith, e, leading_pass is_word c w t)) (omega (arith, l)) (omega (arith, b));
+  item = λ q x. refl;
+  start = λ q x. refl;
+  settled = λ q x. refl;
+  some = omega arith;
+  inside = omega (arith, l);
+  one_line = sym (feeds_are (take (suc k) (c ∷ w))) ∙ feeds_run is_word refl (suc k) (c ∷ w) (omega (arith, e));
+}
+
+-- a quoted character
+printable : (c : ℕ) (y : List ℕ) → 31 < c → c < 127 → literal (c ∷ 39 ∷ y) ≡ Found (Literal c) 2
+unfolding literal
+printable c y h k = grind (arith, nat_tests)
+
+quote_split : (c q : ℕ) (y : List ℕ) → 31 < c → c < 127 → split 0 q (39 ∷ c ∷ 39 ∷ y) ≡ Then (record { kind = Literal c; bytes = 39 ∷ c ∷ 39 ∷ []; start = q; last = is_empty y }) (split 0 (q + 3) y)
+quote_split c q y h k = found_whole (Literal c) q 39 (c ∷ 39 ∷ []) y (front_quote (c ∷ 39 ∷ y) ∙ printable c y h k)
+
+quotes : (a b c : ℕ) (z : List ℕ) → a ≡ 39 → b ≡ 39 → a ∷ c ∷ b ∷ z ≡ 39 ∷ c ∷ 39 ∷ z
+quotes a b c z e f = ap (λ n. n ∷ c ∷ b ∷ z) e ∙ ap (λ n. 39 ∷ c ∷ n ∷ z) f
+
+quoted_feeds : (c : ℕ) → 31 < c → feeds (39 ∷ c ∷ 39 ∷ []) ≡ 0
+quoted_feeds c h = middle (no_feed c (ne_eqb c 10 (λ n. omega (arith, h, n))))
+  where
+    middle : line_feed c ≡ 0 → feeds (39 ∷ c ∷ 39 ∷ []) ≡ 0
+    middle h = omega (arith, h)
+
+quoted_here : (c : ℕ) (z : List ℕ) → 31 < c → c < 127 → Fronts (39 ∷ c ∷ 39 ∷ z) (Value (Char c)) 3
+quoted_here c z f g = record {
+  token = λ q x. record { kind = Literal c; bytes = 39 ∷ c ∷ 39 ∷ []; start = q; last = is_empty (z ++ x) };
+  splits = λ q x. quote_split c q (z ++ x) f g;
+  item = λ q x. refl;
+  start = λ q x. refl;
+  settled = λ q x. refl;
+  some = omega arith;
+  inside = omega arith;
+  one_line = sym (feeds_are (39 ∷ c ∷ 39 ∷ [])) ∙ quoted_feeds c f;
+}
+
+pub quoted_fronts : (rest : List ℕ) → 2 < length rest → get_or rest 0 0 ≡ 39 → 31 < get_or rest 1 0 → get_or rest 1 0 < 127 → get_or rest 2 0 ≡ 39 → Fronts rest (Value (Char (get_or rest 1 0))) 3
+quoted_fronts [] l e f g k = absurd (omega (arith, l))
+quoted_fronts (x1 ∷ []) l e f g k = absurd (omega (arith, l))
+quoted_fronts (x1 ∷ x2 ∷ []) l e f g k = absurd (omega (arith, l))
+quoted_fronts (x1 ∷ c ∷ x3 ∷ z) l e f g k = subst (λ (t : List ℕ). Fronts t (Value (Char c)) 3) (sym (quotes x1 x3 c z e k)) (quoted_here c z f g)
+
+-- a parenthesis
+left_here : (z : List ℕ) → Fronts (40 ∷ z) Open 1
+left_here z = record {
+  token = λ q x. record { kind = ParenL; bytes = 40 ∷ []; start = q; last = is_empty (z ++ x) };
+  splits = λ q x. found_whole ParenL q 40 [] (z ++ x) (front_left (z ++ x));
+  item = λ q x. refl;
+  start = λ q x. refl;
+  settled = λ q x. refl;
+  some = omega arith;
+  inside = omega arith;
+  one_line = refl;
+}
+
+pub left_fronts : (rest : List ℕ) → 0 < length rest → get_or rest 0 0 ≡ 40 → Fronts rest Open 1
+left_fronts [] l e = absurd (omega (arith, l))
+left_fronts (c ∷ z) l e = subst (λ (n : ℕ). Fronts (n ∷ z) Open 1) (sym e) (left_here z)
+
+right_here : (z : List ℕ) → Fronts (41 ∷ z) Close 1
+right_here z = record {
+  token = λ q x. record { kind = ParenR; bytes = 41 ∷ []; start = q; last = is_empty (z ++ x) };
+  splits = λ q x. found_whole ParenR q 41 [] (z ++ x) (front_right (z ++ x));
+  item = λ q x. refl;
+  start = λ q x. refl;
+  settled = λ q x. refl;
+  some = omega arith;
+  inside = omega arith;
+  one_line = refl;
+}
+
+pub right_fronts : (rest : List ℕ) → 0 < length rest → get_or rest 0 0 ≡ 41 → Fronts rest Close 1
+right_fronts [] l e = absurd (omega (arith, l))
+right_fronts (c ∷ z) l e = subst (λ (n : ℕ). Fronts (n ∷ z) Close 1) (sym e) (right_here z)
+
+-- what the machine over tokens does with it
+between : (m : Mode) (p : List ℕ) → m ≡ modes.Between → KeepsMode m p → p ≡ []
+between m p h k = subst (λ m. KeepsMode m p) h k
+
+pub token_advances : (old new : Scanner) (rest : List ℕ) (i : Item) (n : ℕ) → Fronts rest i n → IsReader old → old.mode ≡ modes.Between → accept (state_view old.grammar) i ≡ Ok (state_view new.grammar) → IsReader new → new.offset ≡ old.offset + n → new.line ≡ old.line → new.mode ≡ old.mode → new.pending.items ≡ old.pending.items → Advances old new rest n
+token_advances old new rest i n f r m a r' o l m' p =
+    let none = between old.mode old.pending.items m r.keeps in
+    let s = state_view old.grammar in
+    record {
+      takes = λ x.
+          ap (λ m. judge s (tokens_of m old.pending.items old.offset (rest ++ x))) m
+          ∙ ap (judge s) (f.splits old.offset x)
+          ∙ judge_then s (state_view new.grammar) (f.token old.offset x) _ (ap (accept s) (f.item old.offset x) ∙ a)
+          ∙ sym (ap₂ (λ m q. judge (state_view new.grammar) (tokens_of m new.pending.items q (drop n rest ++ x))) (m' ∙ m) o);
+      reader = r';
+      fed = omega (arith, o, ap length p);
+      inside = f.inside;
+      line = λ b h. lined_run old new b (take n rest) none (p ∙ none) l (omega (arith, o, front_length n rest f.inside)) (feeds_are (take n rest) ∙ f.one_line) h;
+    }
+
+pub token_refuses : (old : Scanner) (rest : List ℕ) (i : Item) (n : ℕ) (e : TextFault) → Fronts rest i n → old.mode ≡ modes.Between → accept (state_view old.grammar) i ≡ Err e.kind → e.offset ≡ old.offset → e.line ≡ old.line → Refuses old rest e
+token_refuses old rest i n e f m a o l =
+    let s = state_view old.grammar in
+    record {
+      takes = λ x.
+          ap (λ m. judge s (tokens_of m old.pending.items old.offset (rest ++ x))) m
+          ∙ ap (judge s) (f.splits old.offset x)
+          ∙ judge_refused s e.kind (f.token old.offset x) _ (ap (accept s) (f.item old.offset x) ∙ a)
+          ∙ ap₂ (Faulty e.kind) (f.start old.offset x ∙ sym o) (f.settled old.offset x);
+      line = λ b h. pending_line old b rest e h (record { line = l; from = omega (arith, o); to = omega (arith, o) });
+    }
+
+-- one byte
+first : (xs : List ℕ) → 0 < length xs → xs ≡ get_or xs 0 0 ∷ drop 1 xs
+first [] h = absurd (omega (arith, h))
+first (c ∷ xs) h = refl
+
+one : (xs : List ℕ) → 0 < length xs → take 1 xs ≡ get_or xs 0 0 ∷ []
+one [] h = absurd (omega (arith, h))
+one (c ∷ xs) h = refl
+
+pub byte_advances : (old new : Scanner) (rest : List ℕ) (c : ℕ) → 0 < length rest → c ≡ get_or rest 0 0 → ((x : List ℕ) → resume old (c ∷ x) ≡ resume new x) → IsReader new → new.offset + length new.pending.items ≡ old.offset + length old.pending.items + 1 → Forward old new c → Advances old new rest 1
+byte_advances old new rest c h e t r f l =
+    record {
+      takes = λ x. ap (λ (t : List ℕ). resume old (t ++ x)) (first rest h ∙ sym (ap (λ n. n ∷ drop 1 rest) e)) ∙ t (drop 1 rest ++ x);
+      reader = r;
+      fed = f;
+      inside = h;
+      line = λ b k. subst (λ (t : List ℕ). Lined new (b ++ t)) (ap (λ n. n ∷ []) e ∙ sym (one rest h)) (lined_on old new b c k l f);
+    }
+
+pub byte_refuses : (old : Scanner) (rest : List ℕ) (c : ℕ) (e : TextFault) → 0 < length rest → c ≡ get_or rest 0 0 → ((x : List ℕ) → resume old (c ∷ x) ≡ Faulty e.kind e.offset true) → IsPending e old → Refuses old rest e
+byte_refuses old rest c e h k t p = record {
+  takes = λ x. ap (λ (t : List ℕ). resume old (t ++ x)) (first rest h ∙ sym (ap (λ n. n ∷ drop 1 rest) k)) ∙ t (drop 1 rest ++ x);
+  line = λ b l. pending_line old b rest e l p;
+}
+
+-- How far a reader has come in a piece.
+pub record Stands (start now : Scanner) (piece : List ℕ) (i : ℕ) : Type 0 where
+  pub inside : i ≤ length piece
+  pub rest : (x : List ℕ) → resume start (piece ++ x) ≡ resume now (drop i piece ++ x)
+  pub reader : IsReader now
+  pub fed : now.offset + length now.pending.items ≡ start.offset + length start.pending.items + i
+  pub line : (b : List ℕ) → Lined start b → Lined now (b ++ take i piece)
+
+further : (b piece : List ℕ) (i n : ℕ) → (b ++ take i piece) ++ take n (drop i piece) ≡ b ++ take (i + n) piece
+further b piece i n = append_assoc b (take i piece) (take n (drop i piece)) ∙ ap (λ (t : List ℕ). b ++ t) (sym (take-add i n piece))
+
+pub stands_more : (start old new : Scanner) (piece rest : List ℕ) (i n : ℕ) → Stands start old piece i → rest ≡ take (length piece - i) (drop i piece) → Advances old new rest n → Stands start new piece (i + n)
+stands_more start old new piece rest i n s e a0 =
+    let a = subst (λ (t : List ℕ). Advances old new t n) (e ∙ to_end piece i) a0 in
+    record {
+      inside = omega (arith, a.inside, length-drop i piece, s.inside);
+      rest = λ x. s.rest x ∙ a.takes x ∙ ap (λ (t : List ℕ). resume new (t ++ x)) (drop-drop n i piece);
+      reader = a.reader;
+      fed = omega (arith, a.fed, s.fed);
+      line = λ b h. subst (λ (t : List ℕ). Lined new t) (further b piece i n) (a.line (b ++ take i piece) (s.line b h));
+    }
+
+pub stands_refused : (start old : Scanner) (piece rest : List ℕ) (i : ℕ) (e : TextFault) → Stands start old piece i → rest ≡ take (length piece - i) (drop i piece) → Refuses old rest e → Refuses start piece e
+stands_refused start old piece rest i e s k r0 =
+    let r = subst (λ (t : List ℕ). Refuses old t e) (k ∙ to_end piece i) r0 in
+    record {
+      takes = λ x. s.rest x ∙ r.takes x;
+      line = λ b h. r.line (b ++ take i piece) (s.line b h) ∙ ap (λ t. line t e.offset) (append_assoc b (take i piece) (drop i piece) ∙ ap (λ t. b ++ t) (take-append-drop i piece));
+    }
+
+pub stands_takes : (start now : Scanner) (piece : List ℕ) (i : ℕ) → Stands start now piece i → length piece ≤ i → (x : List ℕ) → resume start (piece ++ x) ≡ resume now x
+stands_takes start now piece i s h x = s.rest x ∙ ap (λ (t : List ℕ). resume now (t ++ x)) (drop_all i piece h)
+
+pub stands_line : (start now : Scanner) (piece : List ℕ) (i : ℕ) → Stands start now piece i → length piece ≤ i → (b : List ℕ) → Lined start b → Lined now (b ++ piece)
+stands_line start now piece i s h b l = lined_all now b piece i h (s.line b l)
+
+-- the same with one byte
+behind_first : (piece : List ℕ) (i : ℕ) → i < length piece → get_or piece i 0 ≡ get_or (take (length piece - i) (drop i piece)) 0 0
+behind_first piece i h = sym (ap (λ (t : List ℕ). get_or t 0 0) (to_end piece i ∙ drop-cons piece i 0 h))
+
+behind_some : (piece : List ℕ) (i : ℕ) → i < length piece → 0 < length (take (length piece - i) (drop i piece))
+behind_some piece i h = omega (arith, ap length (to_end piece i), length-drop i piece, h)
+
+pub stands_byte : (start old new : Scanner) (piece : List ℕ) (i : ℕ) → Stands start old piece i × (i < length piece) → ((x : List ℕ) → resume old (get_or piece i 0 ∷ x) ≡ resume new x) → IsReader new → new.offset + length new.pending.items ≡ old.offset + length old.pending.items + 1 → Forward old new (get_or piece i 0) → Stands start new piece (i + 1)
+stands_byte start old new piece i s t r f l = stands_more start old new piece _ i 1 s.0 refl (byte_advances old new _ (get_or piece i 0) (behind_some piece i s.1) (behind_first piece i s.1) t r f l)
+
+pub byte_refused : (start old : Scanner) (piece : List ℕ) (i : ℕ) (e : TextFault) → Stands start old piece i × (i < length piece) → ((x : List ℕ) → resume old (get_or piece i 0 ∷ x) ≡ Faulty e.kind e.offset true) → IsPending e old → Refuses start piece e
+byte_refused start old piece i e s t p = stands_refused start old piece _ i e s.0 refl (byte_refuses old _ (get_or piece i 0) e (behind_some piece i s.1) (behind_first piece i s.1) t p)

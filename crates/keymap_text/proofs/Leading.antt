@@ -1,5 +1,5 @@
 -- How many bytes at the front pass a test.
-use Rattle.std.proofs.Common.{◌≡◌, ℕ, suc, ◌+◌, ◌<◌, ◌≤◌, Bool, true, false, cond, List, [], ◌∷◌, ◌++◌, length, drop, get_or, refl, sym, ◌∙◌, ap, arith, add-one, drop-cons, length-append}
+use Rattle.std.proofs.Common.{◌≡◌, ℕ, zero, suc, ◌+◌, ◌<◌, ◌≤◌, Bool, true, false, cond, List, [], ◌∷◌, ◌++◌, length, take, drop, get_or, refl, sym, ◌∙◌, ap, arith, add-one, drop-cons, length-append}
 use Rattle.std.proofs.lemmas.List.{at_drop_all}
 use Rattle.keymap_text.specs.Lexical.{leading}
 
@@ -53,5 +53,25 @@ leading_tail p c w h = go (p c) refl
     go : (b : Bool) → p c ≡ b → (p c ≡ true) × (leading p w ≡ length w)
     go true e = (e, omega (arith, leading_pass p c w e, h))
     go false e = absurd (omega (arith, leading_fail p c w e, h))
+
+-- two lists that are the same in front
+same_head : (a c : ℕ) (v w : List ℕ) → a ∷ v ≡ c ∷ w → a ≡ c
+same_head a c v w h = cc
+
+same_tail : (a c : ℕ) (v w : List ℕ) → a ∷ v ≡ c ∷ w → v ≡ w
+same_tail a c v w h = cc
+
+not_none : (c : ℕ) (w : List ℕ) → [] ≡ c ∷ w → ⊥
+not_none c w h = cc
+
+pub leading_same : (p : ℕ → Bool) (n : ℕ) (v w : List ℕ) → take n v ≡ take n w → n ≤ leading p w → n ≤ leading p v
+leading_same p zero v w e h = omega arith
+leading_same p (suc n) v [] e h = absurd (omega (arith, h, leading_none p))
+leading_same p (suc n) [] (c ∷ w) e h = absurd (not_none c (take n w) e)
+leading_same p (suc n) (a ∷ v) (c ∷ w) e h = go (p c) refl (leading_same p n v w (same_tail a c (take n v) (take n w) e))
+  where
+    go : (b : Bool) → p c ≡ b → (n ≤ leading p w → n ≤ leading p v) → suc n ≤ leading p (a ∷ v)
+    go true t k = omega (arith, leading_pass p a v (ap p (same_head a c (take n v) (take n w) e) ∙ t), k (omega (arith, h, leading_pass p c w t)))
+    go false t k = absurd (omega (arith, h, leading_fail p c w t))
 
 pub ruleset leading_rules = (leading_pass_at, leading_fail_at, leading_end, leading_le)

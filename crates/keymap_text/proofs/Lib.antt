@@ -19,7 +19,7 @@ pub mod Printing
 pub mod ControlNames
 pub mod Pieces
 pub mod Prefixes
-pub mod Packing
-pub mod Rows
+pub mod Keys
+pub mod Meanings
 pub mod Runs
 pub mod Classes

@@ -1,5 +1,6 @@
 pub mod Lexical
 pub mod Words
+pub mod Keys
 pub mod Items
 pub mod Grammar
 pub mod Rows
@@ -13,4 +14,3 @@ pub mod Views
 pub mod Resuming
 pub mod Sources
 pub mod Printed
-pub mod Packed

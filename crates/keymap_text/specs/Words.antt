@@ -1,14 +1,18 @@
 -- What a word means.
-use Rattle.std.specs.Prelude.{ℕ, ◌+◌, ◌*◌, Bool, cond, ◌&&◌, nat_lt, nat_le, List, [], ◌∷◌, ◌++◌, length, take, drop, map, fold, Option, Some, None, codes, bytes_eq}
+use Rattle.std.specs.Prelude.{ℕ, ◌+◌, ◌*◌, Bool, cond, not, ◌==◌, ◌&&◌, nat_lt, nat_le, List, [], ◌∷◌, ◌++◌, length, take, drop, map, fold, Option, Some, None, codes, bytes_eq}
 use Rattle.std.specs.List.{list_all}
 use Rattle.std.specs.Char.{to_ascii_lowercase, digit_value}
+use Rattle.keymap_text.specs.Lexical.{leading}
 use Rattle.keymap_core.specs.Names.{named_of}
 use Rattle.keymap_core.specs.declared.named.Named.{Named}
 use Rattle.keymap_core.specs.declared.named.Named.TheVariants as n
+use Rattle.keymap_core.specs.declared.action.Action.TheVariants as actions
 use Rattle.keymap_core.specs.declared.entry.LockFlag.TheVariants as flags
 use Rattle.keymap_text.specs.declared.token.TokenKind.{TokenKind}
 use Rattle.keymap_text.specs.declared.token.TokenKind.TheVariants as kinds
 use Rattle.keymap_text.specs.declared.names.Name.{Name}
+use Rattle.keymap_text.specs.declared.names.Sense.{Sense}
+use Rattle.keymap_text.specs.declared.names.Sense.TheVariants as senses
 use Rattle.keymap_text.specs.declared.words.Meaning.{Meaning}
 use Rattle.keymap_text.specs.declared.words.Meaning.TheVariants.{Number, Char, Act, Combined, OutOfRange, Letter, Unknown}
 use Rattle.keymap_text.specs.declared.words.Item.{Item}
@@ -44,10 +48,39 @@ unfoldable pub named : List (List ℕ × Meaning) → List ℕ → Option Meanin
 named [] w = None
 named (entry ∷ entries) w = cond (same_name entry.0 w) (Some entry.1) (named entries w)
 
--- the same of the names as the code has them
+-- no blank
+abbrev pub is_letter : ℕ → Bool
+is_letter c = not (c == 32)
+
+-- a name without the blanks that fill it
+abbrev pub letters : List ℕ → List ℕ
+letters name = take (leading is_letter name) name
+
+-- what a sense of the table of names means
+abbrev pub sense_meaning : Sense → Meaning
+sense_meaning (senses.Char c) = Char c
+sense_meaning (senses.Letter f) = Letter f
+sense_meaning (senses.Mod m) = Act (actions.Mod m)
+sense_meaning (senses.Lock l) = Act (actions.Lock l)
+sense_meaning (senses.DeadKey n) = cond (nat_lt n 15) (Act (actions.DeadKey n)) Unknown
+sense_meaning senses.Nop = Act actions.Nop
+sense_meaning senses.BackTab = Act actions.BackTab
+sense_meaning senses.NextScreen = Act actions.NextScreen
+sense_meaning senses.PreviousScreen = Act actions.PreviousScreen
+sense_meaning senses.Boot = Act actions.Boot
+sense_meaning senses.Debug = Act actions.Debug
+sense_meaning senses.Suspend = Act actions.Suspend
+sense_meaning senses.Saver = Act actions.Saver
+sense_meaning senses.Standby = Act actions.Standby
+sense_meaning senses.Panic = Act actions.Panic
+sense_meaning senses.Halt = Act actions.Halt
+sense_meaning senses.PowerDown = Act actions.PowerDown
+sense_meaning senses.Paste = Act actions.Paste
+
+-- the same as named, of the names as the code has them
 unfoldable pub look : List Name → List ℕ → Option Meaning
 look [] w = None
-look (name ∷ names) w = cond (same_name name.0.now w) (Some name.1) (look names w)
+look (name ∷ names) w = cond (same_name (letters name.0) w) (Some (sense_meaning name.1)) (look names w)
 
 abbrev pub is_digit : ℕ → ℕ → Bool
 is_digit base c = nat_lt (digit_value c) base

@@ -1,8 +1,8 @@
 //! The lines of a printed map.
-ghost use Rattle.std.specs.Prelude.{◌≡◌, ◌+◌, ◌<◌, ◌≤◌, ◌++◌, ◌⊎◌, [], length, map, slice_index_or, codes};
+ghost use Rattle.std.specs.Prelude.{◌≡◌, ◌+◌, ◌<◌, ◌≤◌, ◌++◌, length, codes};
 ghost use Rattle.keymap_text.specs.Printed as spec;
 
-use crate::names::{NAMES, Name};
+use crate::names::control_name;
 use arrayvec::ArrayVec;
 use keymap_core::{Accent, AccentIndex, Action, Cell, Entry, LockFlag};
 
@@ -21,26 +21,6 @@ fn text_of(bytes: &[u8]) -> Text
     let mut text = Text::new();
     text.try_extend_from_slice(bytes).unwrap();
     text
-}
-
-fn name_text(names: &[Name], index: usize) -> &'static [u8]
-    requires { index < length names.now }
-    ensures { result.now ≡ slice_index_or (map (λ name. name.0.now) names.now) index [] }
-{
-    names[index].0
-}
-
-/// The name of a control character.
-fn control_name(c: u8) -> &'static [u8]
-    requires { (c < 32) ⊎ (c ≡ 127) }
-    ensures name { result.now ≡ spec.control_name c }
-    ensures short { length result.now ≤ 3 }
-{
-    if c == 127 {
-        b"del"
-    } else {
-        name_text(&NAMES, c as usize)
-    }
 }
 
 fn hex_digit(d: u32) -> u8

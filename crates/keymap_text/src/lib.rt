@@ -11,7 +11,6 @@ pub mod laws;
 mod layout;
 mod names;
 mod printer;
-mod quick;
 mod reader;
 mod scanner;
 mod source;

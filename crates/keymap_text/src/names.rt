@@ -1,52 +1,372 @@
-//! The names of characters and the lock letters.
+//! The names of characters, lock letters and actions: one table, by which words are read and control characters are
+//! printed.
+ghost use Rattle.std.specs.Prelude.{◌≡◌, ◌==◌, ◌⊎◌, ◌≤◌, ◌<◌, if◌then◌else◌, All, IfSome, length, map, take, Some, None};
+ghost use Rattle.std.specs.Char.{to_ascii_lowercase};
+ghost use Rattle.keymap_text.specs.Lexical.{leading, is_word};
+ghost use Rattle.keymap_text.specs.Words.{meaning, is_letter, letters, same_name, sense_meaning, look, named, table};
+ghost use Rattle.keymap_text.specs.Keys.{pack, Means, IsTrueName, function_name, screen_name};
+ghost use Rattle.keymap_text.specs.Printed as printed;
 
 use crate::words::Meaning;
-use keymap_core::LockFlag;
+use keymap_core::{AccentIndex, Action, FunctionNumber, Lock, LockFlag, Modifier, ScreenNumber};
 
-/// A name in lower case, and what it means.
+/// What a name means, as plain data, since a static can't hold a value that has a model of its own.
 #[derive(Clone, Copy, Debug)]
-pub(crate) struct Name(pub(crate) &'static [u8], pub(crate) Meaning);
+pub(crate) enum Sense {
+    Char(u8),
+    Letter(LockFlag),
+    Nop,
+    Mod(Modifier),
+    Lock(Lock),
+    DeadKey(u8),
+    BackTab,
+    NextScreen,
+    PreviousScreen,
+    Boot,
+    Debug,
+    Suspend,
+    Saver,
+    Standby,
+    Panic,
+    Halt,
+    PowerDown,
+    Paste,
+}
 
-/// The control characters 0 to 31 in their order, del, the other names of three of them, and the lock letters.
-pub(crate) const NAMES: [Name; 40] = [
-    Name(b"nul", Meaning::Char('\0')),
-    Name(b"soh", Meaning::Char('\x01')),
-    Name(b"stx", Meaning::Char('\x02')),
-    Name(b"etx", Meaning::Char('\x03')),
-    Name(b"eot", Meaning::Char('\x04')),
-    Name(b"enq", Meaning::Char('\x05')),
-    Name(b"ack", Meaning::Char('\x06')),
-    Name(b"bel", Meaning::Char('\x07')),
-    Name(b"bs", Meaning::Char('\x08')),
-    Name(b"ht", Meaning::Char('\t')),
-    Name(b"nl", Meaning::Char('\n')),
-    Name(b"vt", Meaning::Char('\x0b')),
-    Name(b"ff", Meaning::Char('\x0c')),
-    Name(b"cr", Meaning::Char('\r')),
-    Name(b"so", Meaning::Char('\x0e')),
-    Name(b"si", Meaning::Char('\x0f')),
-    Name(b"dle", Meaning::Char('\x10')),
-    Name(b"dc1", Meaning::Char('\x11')),
-    Name(b"dc2", Meaning::Char('\x12')),
-    Name(b"dc3", Meaning::Char('\x13')),
-    Name(b"dc4", Meaning::Char('\x14')),
-    Name(b"nak", Meaning::Char('\x15')),
-    Name(b"syn", Meaning::Char('\x16')),
-    Name(b"etb", Meaning::Char('\x17')),
-    Name(b"can", Meaning::Char('\x18')),
-    Name(b"em", Meaning::Char('\x19')),
-    Name(b"sub", Meaning::Char('\x1a')),
-    Name(b"esc", Meaning::Char('\x1b')),
-    Name(b"fs", Meaning::Char('\x1c')),
-    Name(b"gs", Meaning::Char('\x1d')),
-    Name(b"rs", Meaning::Char('\x1e')),
-    Name(b"ns", Meaning::Char('\x1f')),
-    Name(b"del", Meaning::Char('\x7f')),
-    Name(b"lf", Meaning::Char('\n')),
-    Name(b"np", Meaning::Char('\x0c')),
-    Name(b"us", Meaning::Char('\x1f')),
-    Name(b"o", Meaning::Letter(LockFlag::O)),
-    Name(b"c", Meaning::Letter(LockFlag::C)),
-    Name(b"n", Meaning::Letter(LockFlag::N)),
-    Name(b"b", Meaning::Letter(LockFlag::B)),
+/// A name in lower case, filled with blanks to eight bytes, and what it means.
+#[derive(Clone, Copy, Debug)]
+pub(crate) struct Name(pub(crate) [u8; 8], pub(crate) Sense);
+
+/// How long a name is without the blanks that fill it.
+#[tactic(auto, using(crate::proofs::Leading::leading_rules))]
+fn name_len(name: &[u8]) -> usize
+    ensures length { result ≤ length name.now }
+    ensures value { result ≡ leading is_letter name.now }
+{
+    let mut i: usize = 0;
+    while i < name.len() && name[i] != b' ' {
+        i += 1;
+    }
+    i
+}
+
+impl Name {
+    /// The name without the blanks.
+    fn letters(&self) -> &[u8]
+        ensures { result.now ≡ letters self.now.0 }
+    {
+        let n = name_len(&self.0);
+        &self.0[..n]
+    }
+}
+
+pub(crate) fn is_same_name(a: &[u8], b: &[u8]) -> bool
+    ensures { result ≡ same_name a.now b.now }
+{
+    a.eq_ignore_ascii_case(b)
+}
+
+fn is_name(name: &Name, word: &[u8]) -> bool
+    ensures { result ≡ same_name (letters name.now.0) word.now }
+{
+    is_same_name(name.letters(), word)
+}
+
+#[inline(always)]
+fn meaning_of(sense: Sense) -> Meaning
+    ensures { result ≡ sense_meaning sense }
+{
+    match sense {
+        Sense::Char(c) => Meaning::Char(c as char),
+        Sense::Letter(flag) => Meaning::Letter(flag),
+        Sense::Nop => Meaning::Act(Action::Nop),
+        Sense::Mod(modifier) => Meaning::Act(Action::Mod(modifier)),
+        Sense::Lock(lock) => Meaning::Act(Action::Lock(lock)),
+        Sense::DeadKey(n) => {
+            if n >= 15 {
+                Meaning::Unknown
+            } else {
+                Meaning::Act(Action::DeadKey(AccentIndex::new(n)))
+            }
+        }
+        Sense::BackTab => Meaning::Act(Action::BackTab),
+        Sense::NextScreen => Meaning::Act(Action::NextScreen),
+        Sense::PreviousScreen => Meaning::Act(Action::PreviousScreen),
+        Sense::Boot => Meaning::Act(Action::Boot),
+        Sense::Debug => Meaning::Act(Action::Debug),
+        Sense::Suspend => Meaning::Act(Action::Suspend),
+        Sense::Saver => Meaning::Act(Action::Saver),
+        Sense::Standby => Meaning::Act(Action::Standby),
+        Sense::Panic => Meaning::Act(Action::Panic),
+        Sense::Halt => Meaning::Act(Action::Halt),
+        Sense::PowerDown => Meaning::Act(Action::PowerDown),
+        Sense::Paste => Meaning::Act(Action::Paste),
+    }
+}
+
+/// Where the name of a control character stands in the table.
+fn control_place(c: u8) -> usize
+    requires { (c < 32) ⊎ (c ≡ 127) }
+    ensures value { result ≡ if c == 127 then 32 else c }
+    ensures inside { result ≤ 32 }
+{
+    if c == 127 { 32 } else { c as usize }
+}
+
+/// The name of a control character.
+pub(crate) fn control_name(c: u8) -> &'static [u8]
+    requires { (c < 32) ⊎ (c ≡ 127) }
+    ensures name { result.now ≡ printed.control_name c }
+    ensures short { length result.now ≤ 3 }
+{
+    let place = control_place(c);
+    NAMES[place].letters()
+}
+
+/// What the first of these names means that is the word, without regard to case.
+#[tactic(auto, using(crate::proofs::Numbers::look_rules))]
+fn lookup(names: &[Name], word: &[u8]) -> Option<Meaning>
+    ensures { result ≡ look names.now word.now }
+{
+    for name in names {
+        if is_name(name, word) {
+            return Some(meaning_of(name.1));
+        }
+    }
+    None
+}
+
+/// What the word means by the names of characters and the lock letters.
+pub(crate) fn character_or_letter(word: &[u8]) -> Option<Meaning>
+    ensures { result ≡ named table word.now }
+{
+    lookup(&NAMES[..40], word)
+}
+
+/// The low bytes of a number, by their count.
+static LOW_BYTES: [u64; 9] = [
+    0,
+    0xff,
+    0xffff,
+    0xff_ffff,
+    0xffff_ffff,
+    0xff_ffff_ffff,
+    0xffff_ffff_ffff,
+    0xff_ffff_ffff_ffff,
+    0xffff_ffff_ffff_ffff,
+];
+
+/// The key of the word of n bytes in front: in lower case and filled with blanks, as a number.
+#[inline(always)]
+fn key_of(bytes: &[u8], n: usize) -> u64
+    requires word { n ≤ leading is_word bytes.now }
+    requires short { n ≤ 8 }
+    ensures { result ≡ pack 8 (map to_ascii_lowercase (take n bytes.now)) }
+{
+    if bytes.len() < 8 {
+        key_at_end(bytes, n)
+    } else {
+        key_of_eight(bytes, n)
+    }
+}
+
+#[inline(always)]
+fn key_of_eight(bytes: &[u8], n: usize) -> u64
+    requires word { n ≤ leading is_word bytes.now }
+    requires short { n ≤ 8 }
+    requires room { 8 ≤ length bytes.now }
+    ensures { result ≡ pack 8 (map to_ascii_lowercase (take n bytes.now)) }
+{
+    let mut eight = [0; 8];
+    eight.copy_from_slice(&bytes[..8]);
+    (u64::from_le_bytes(eight) & LOW_BYTES[n]) | 0x2020_2020_2020_2020
+}
+
+#[inline(never)]
+fn key_at_end(bytes: &[u8], n: usize) -> u64
+    requires word { n ≤ leading is_word bytes.now }
+    requires short { n ≤ 8 }
+    requires inside { n ≤ length bytes.now }
+    ensures { result ≡ pack 8 (map to_ascii_lowercase (take n bytes.now)) }
+{
+    let mut eight = [b' '; 8];
+    let mut i: usize = 0;
+    while i < n {
+        eight[i] = bytes[i];
+        i += 1;
+    }
+    key_of_eight(&eight, n)
+}
+
+/// The meaning of the words with this key, if they are a name.
+#[inline(always)]
+fn key_meaning(names: &[Name], key: u64) -> Option<Meaning>
+    requires { All IsTrueName names.now }
+    ensures { IfSome result (Means key) }
+{
+    let place = PLACES[(key.wrapping_mul(SPREAD) / 0x100_0000_0000_0000) as usize] as usize;
+    if place < names.len() && u64::from_le_bytes(names[place].0) == key {
+        Some(meaning_of(names[place].1))
+    } else {
+        None
+    }
+}
+
+/// The key of the name of a function key.
+#[inline(always)]
+fn function_key(n: u64) -> u64
+    requires { n < 100 }
+    ensures { result ≡ function_name n }
+{
+    0x2020_3030_7965_6b66 + n / 10 * 0x1_0000_0000 + n % 10 * 0x100_0000_0000
+}
+
+/// The key of the name of a screen.
+#[inline(always)]
+fn screen_key(n: u64) -> u64
+    requires { n < 100 }
+    ensures { result ≡ screen_name n }
+{
+    0x2020_2030_3072_6373 + n / 10 * 0x100_0000 + n % 10 * 0x1_0000_0000
+}
+
+/// The meaning of the words with this key, if they are the name of a function key or a screen, with two digits.
+#[inline(always)]
+fn numbered_meaning(key: u64) -> Option<Meaning>
+    ensures { IfSome result (Means key) }
+{
+    let n = key / 0x1_0000_0000 % 16 * 10 + key / 0x100_0000_0000 % 16;
+    if n > 0 && n <= 96 && key == function_key(n) {
+        return Some(Meaning::Act(Action::Function(FunctionNumber::new(n as u8))));
+    }
+    let n = key / 0x100_0000 % 16 * 10 + key / 0x1_0000_0000 % 16;
+    if n > 0 && n <= 16 && key == screen_key(n) {
+        return Some(Meaning::Act(Action::Screen(ScreenNumber::new(n as u8))));
+    }
+    None
+}
+
+/// The meaning of the word of n bytes in front, if it is a name of at most eight bytes.
+#[inline(always)]
+pub(crate) fn name_meaning(bytes: &[u8], n: usize) -> Option<Meaning>
+    requires { n ≤ leading is_word bytes.now }
+    ensures { IfSome result (λ m. m ≡ meaning (take n bytes.now)) }
+{
+    if n > 8 {
+        return None;
+    }
+    let key = key_of(bytes, n);
+    if key % 0x1_0000_0000 == 0x7965_6b66 || key % 0x100_0000 == 0x72_6373 {
+        return numbered_meaning(key);
+    }
+    key_meaning(&NAMES, key)
+}
+
+/// The control characters 0 to 31 in their order, del, further names of characters, the lock letters, and the actions
+/// but for screens and function keys.
+static NAMES: [Name; 84] = [
+    Name(*b"nul     ", Sense::Char(0)),
+    Name(*b"soh     ", Sense::Char(1)),
+    Name(*b"stx     ", Sense::Char(2)),
+    Name(*b"etx     ", Sense::Char(3)),
+    Name(*b"eot     ", Sense::Char(4)),
+    Name(*b"enq     ", Sense::Char(5)),
+    Name(*b"ack     ", Sense::Char(6)),
+    Name(*b"bel     ", Sense::Char(7)),
+    Name(*b"bs      ", Sense::Char(8)),
+    Name(*b"ht      ", Sense::Char(9)),
+    Name(*b"nl      ", Sense::Char(10)),
+    Name(*b"vt      ", Sense::Char(11)),
+    Name(*b"ff      ", Sense::Char(12)),
+    Name(*b"cr      ", Sense::Char(13)),
+    Name(*b"so      ", Sense::Char(14)),
+    Name(*b"si      ", Sense::Char(15)),
+    Name(*b"dle     ", Sense::Char(16)),
+    Name(*b"dc1     ", Sense::Char(17)),
+    Name(*b"dc2     ", Sense::Char(18)),
+    Name(*b"dc3     ", Sense::Char(19)),
+    Name(*b"dc4     ", Sense::Char(20)),
+    Name(*b"nak     ", Sense::Char(21)),
+    Name(*b"syn     ", Sense::Char(22)),
+    Name(*b"etb     ", Sense::Char(23)),
+    Name(*b"can     ", Sense::Char(24)),
+    Name(*b"em      ", Sense::Char(25)),
+    Name(*b"sub     ", Sense::Char(26)),
+    Name(*b"esc     ", Sense::Char(27)),
+    Name(*b"fs      ", Sense::Char(28)),
+    Name(*b"gs      ", Sense::Char(29)),
+    Name(*b"rs      ", Sense::Char(30)),
+    Name(*b"ns      ", Sense::Char(31)),
+    Name(*b"del     ", Sense::Char(127)),
+    Name(*b"lf      ", Sense::Char(10)),
+    Name(*b"np      ", Sense::Char(12)),
+    Name(*b"us      ", Sense::Char(31)),
+    Name(*b"o       ", Sense::Letter(LockFlag::O)),
+    Name(*b"c       ", Sense::Letter(LockFlag::C)),
+    Name(*b"n       ", Sense::Letter(LockFlag::N)),
+    Name(*b"b       ", Sense::Letter(LockFlag::B)),
+    Name(*b"nop     ", Sense::Nop),
+    Name(*b"lshift  ", Sense::Mod(Modifier::LeftShift)),
+    Name(*b"rshift  ", Sense::Mod(Modifier::RightShift)),
+    Name(*b"lctrl   ", Sense::Mod(Modifier::LeftControl)),
+    Name(*b"rctrl   ", Sense::Mod(Modifier::RightControl)),
+    Name(*b"lalt    ", Sense::Mod(Modifier::LeftAlt)),
+    Name(*b"ralt    ", Sense::Mod(Modifier::RightAlt)),
+    Name(*b"ashift  ", Sense::Mod(Modifier::AltShift)),
+    Name(*b"meta    ", Sense::Mod(Modifier::Meta)),
+    Name(*b"clock   ", Sense::Lock(Lock::Caps)),
+    Name(*b"nlock   ", Sense::Lock(Lock::Num)),
+    Name(*b"slock   ", Sense::Lock(Lock::Scroll)),
+    Name(*b"alock   ", Sense::Lock(Lock::Alt)),
+    Name(*b"dgra    ", Sense::DeadKey(0)),
+    Name(*b"dacu    ", Sense::DeadKey(1)),
+    Name(*b"dcir    ", Sense::DeadKey(2)),
+    Name(*b"dtil    ", Sense::DeadKey(3)),
+    Name(*b"dmac    ", Sense::DeadKey(4)),
+    Name(*b"dbre    ", Sense::DeadKey(5)),
+    Name(*b"ddot    ", Sense::DeadKey(6)),
+    Name(*b"duml    ", Sense::DeadKey(7)),
+    Name(*b"dsla    ", Sense::DeadKey(8)),
+    Name(*b"drin    ", Sense::DeadKey(9)),
+    Name(*b"dced    ", Sense::DeadKey(10)),
+    Name(*b"dapo    ", Sense::DeadKey(11)),
+    Name(*b"ddac    ", Sense::DeadKey(12)),
+    Name(*b"dogo    ", Sense::DeadKey(13)),
+    Name(*b"dcar    ", Sense::DeadKey(14)),
+    Name(*b"btab    ", Sense::BackTab),
+    Name(*b"nscr    ", Sense::NextScreen),
+    Name(*b"pscr    ", Sense::PreviousScreen),
+    Name(*b"boot    ", Sense::Boot),
+    Name(*b"debug   ", Sense::Debug),
+    Name(*b"susp    ", Sense::Suspend),
+    Name(*b"saver   ", Sense::Saver),
+    Name(*b"stby    ", Sense::Standby),
+    Name(*b"panic   ", Sense::Panic),
+    Name(*b"halt    ", Sense::Halt),
+    Name(*b"pdwn    ", Sense::PowerDown),
+    Name(*b"paste   ", Sense::Paste),
+    Name(*b"alt     ", Sense::Mod(Modifier::LeftAlt)),
+    Name(*b"ctrl    ", Sense::Mod(Modifier::LeftControl)),
+    Name(*b"backtab ", Sense::BackTab),
+    Name(*b"ddia    ", Sense::DeadKey(7)),
+];
+
+/// It spreads the keys of the names, so that the high bytes of the products differ.
+const SPREAD: u64 = 0x7e90_c5c6_7771_b3ad;
+
+/// Where the name stands whose key times `SPREAD` has this high byte; 255 where none has.
+static PLACES: [u8; 256] = [
+    255, 255, 1, 255, 255, 0, 255, 32, 44, 255, 7, 255, 255, 48, 255, 255, 43, 66, 255, 255, 255,
+    255, 255, 18, 255, 76, 64, 255, 255, 56, 255, 255, 255, 255, 71, 255, 255, 255, 55, 30, 255,
+    255, 255, 255, 13, 31, 255, 50, 53, 68, 2, 75, 255, 63, 255, 10, 28, 255, 255, 255, 38, 255, 8,
+    255, 255, 255, 255, 255, 255, 255, 3, 23, 255, 255, 255, 255, 255, 22, 39, 255, 255, 17, 255,
+    72, 255, 25, 61, 42, 255, 255, 82, 255, 4, 78, 255, 41, 255, 255, 14, 255, 255, 255, 255, 255,
+    255, 255, 255, 255, 79, 255, 255, 255, 255, 255, 255, 255, 255, 255, 58, 255, 255, 5, 34, 255,
+    27, 255, 255, 70, 255, 255, 69, 255, 255, 255, 255, 255, 62, 83, 255, 255, 255, 255, 255, 255,
+    255, 255, 81, 255, 16, 255, 255, 255, 255, 255, 255, 255, 255, 255, 255, 255, 255, 255, 20, 35,
+    6, 255, 255, 255, 51, 74, 255, 255, 255, 255, 255, 80, 255, 255, 11, 255, 255, 255, 54, 29, 40,
+    255, 255, 36, 255, 255, 255, 49, 255, 255, 52, 255, 26, 60, 9, 255, 255, 255, 255, 255, 37,
+    255, 255, 46, 255, 24, 255, 255, 255, 33, 255, 255, 45, 255, 255, 255, 19, 77, 12, 255, 255,
+    255, 255, 255, 255, 255, 255, 59, 65, 255, 255, 255, 73, 255, 255, 47, 21, 255, 255, 255, 255,
+    255, 255, 255, 67, 255, 255, 255, 255, 255, 15, 57,
 ];

@@ -9,7 +9,7 @@ ghost use Rattle.keymap_text.specs.Grammar as spec;
 
 use crate::fault::{TextFault, TextFaultKind};
 use crate::grammar::{Grammar, Place};
-use crate::quick::name_meaning;
+use crate::names::name_meaning;
 use crate::token::{
     Front, TokenKind, is_blank_byte, is_word_byte, literal_front, space_len, word_len,
 };

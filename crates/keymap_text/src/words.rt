@@ -2,10 +2,10 @@
 ghost use Rattle.std.specs.Prelude.{◌≡◌, ◌+◌, ◌≤◌, ◌<◌, length, Some, None, IfSome};
 ghost use Rattle.std.specs.Char as char_spec;
 ghost use Rattle.keymap_text.specs.declared.words.Meaning.TheVariants.{Number};
-ghost use Rattle.keymap_text.specs.Words.{meaning, item, look, named, table, same_name, digits_of, number_after, of_action};
+ghost use Rattle.keymap_text.specs.Words.{meaning, item, digits_of, number_after, of_action};
 
-use crate::names::{NAMES, Name};
-use crate::token::TokenKind;
+use crate::names::{character_or_letter, is_same_name, name_meaning};
+use crate::token::{TokenKind, word_len};
 use keymap_core::{Action, LockFlag, Named};
 
 /// The meaning of a word.
@@ -28,33 +28,6 @@ pub(crate) enum Item {
     Open,
     Close,
     Value(Meaning),
-}
-
-fn is_same_name(a: &[u8], b: &[u8]) -> bool
-    ensures { result ≡ same_name a.now b.now }
-{
-    a.eq_ignore_ascii_case(b)
-}
-
-/// What the first of these names means that is the word, without regard to case.
-#[tactic(auto, using(crate::proofs::Numbers::look_rules))]
-fn lookup(names: &[Name], word: &[u8]) -> Option<Meaning>
-    ensures { result ≡ look names.now word.now }
-{
-    for name in names {
-        if is_same_name(name.0, word) {
-            return Some(name.1);
-        }
-    }
-    None
-}
-
-/// What the word means by the names of characters and the lock letters.
-#[inline(never)]
-fn looked_up(word: &[u8]) -> Option<Meaning>
-    ensures { result ≡ named table word.now }
-{
-    lookup(&NAMES, word)
 }
 
 /// The value of each byte as a digit, and 36 where it is none.
@@ -162,6 +135,17 @@ fn action_meaning(named: Named) -> Meaning
     }
 }
 
+/// The meaning of a word that is a name of at most eight bytes.
+#[inline(never)]
+fn short_name(word: &[u8]) -> Option<Meaning>
+    ensures { IfSome result (λ m. m ≡ meaning word.now) }
+{
+    if word_len(word) < word.len() {
+        return None;
+    }
+    name_meaning(word, word.len())
+}
+
 /// The meaning of a word of at most 32 bytes, without regard to ASCII case: a decimal number, a hexadecimal one after
 /// `0x`, the name of a control character, a lock letter, or the name of an action.
 #[inline(always)]
@@ -176,7 +160,10 @@ pub fn word_meaning(word: &[u8]) -> Meaning
     if let Some(n) = prefixed_number(b"0x", 16, word) {
         return Meaning::Number(n);
     }
-    match looked_up(word) {
+    if let Some(meaning) = short_name(word) {
+        return meaning;
+    }
+    match character_or_letter(word) {
         Some(meaning) => meaning,
         None => action_meaning(Action::named(word)),
     }

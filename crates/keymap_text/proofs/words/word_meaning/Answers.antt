@@ -12,8 +12,8 @@ by_action : (w : List ℕ) (m : Meaning) → None ≡ digits_of 10 w → None �
 unfolding meaning
 by_action w m a b d h = rw (sym a, meaning) (rw (sym b) (rw (sym d) h))
 
-pub returns-in-Some-looked_up : goal.returns-in-Some-looked_up
-returns-in-Some-looked_up c = by_name c.args.word.now c.in-Some-looked_up.meaning c.in_default.ensures c.in_default-prefixed_number.ensures c.in-Some-looked_up.ensures
+pub returns-in-Some-character_or_letter : goal.returns-in-Some-character_or_letter
+returns-in-Some-character_or_letter c = by_name c.args.word.now c.in-Some-character_or_letter.meaning c.in_default.ensures c.in_default-prefixed_number.ensures c.in-Some-character_or_letter.ensures
 
 pub returns-in-None : goal.returns-in-None
 returns-in-None c = by_action c.args.word.now c.action_meaning.result c.in_default.ensures c.in_default-prefixed_number.ensures c.in-None.ensures (c.action_meaning.ensures ∙ ap of_action c.named.ensures)

@@ -1,4 +1,4 @@
--- Words packed into numbers.
+-- The keys of words.
 use Rattle.std.proofs.Common.{◌≡◌, ◌≢◌, ℕ, zero, suc, ◌+◌, ◌*◌, ◌/◌, ◌%◌, ◌^◌, ◌<◌, ◌≤◌, Bool, true, false, cond, ◌==◌, List, [], ◌∷◌, length, take, get_or, map, refl, sym, ◌∙◌, ap, ap₂, arith, eq-eqb, ne_eqb}
 use Rattle.std.proofs.lemmas.Nat.{and_block, or_block, or_disjoint, and_le_l, and_le_r}
 use Rattle.std.proofs.lemmas.Bool.Decides.{nat_tests}
@@ -7,8 +7,8 @@ use Rattle.std.specs.List.{range_with_len}
 use Rattle.std.specs.Int.{from_le_bytes, w64}
 use Rattle.std.specs.Char.{to_ascii_lowercase}
 use Rattle.keymap_text.specs.Lexical.{leading, is_word}
-use Rattle.keymap_text.specs.Packed.{pack, unpacked, Letters}
-use Rattle.keymap_text.specs.declared.quick.TheConstants.{LOW_BYTES}
+use Rattle.keymap_text.specs.Keys.{pack, unpacked, Letters}
+use Rattle.keymap_text.specs.declared.names.TheConstants.{LOW_BYTES}
 use Rattle.keymap_text.proofs.Characters.{along}
 use Rattle.keymap_text.proofs.Leading.{leading_pass, leading_fail, leading_none}
 
@@ -73,11 +73,8 @@ masks = refl
 mask : (n : ℕ) → n ≤ 8 → get_or LOW_BYTES n 0 ≡ ones n
 mask n h = along (λ n. get_or LOW_BYTES n 0) ones 0 9 masks n (omega arith) (omega (arith, h))
 
-front : List ℕ → List ℕ
-front w = get_or w 0 0 ∷ get_or w 1 0 ∷ get_or w 2 0 ∷ get_or w 3 0 ∷ get_or w 4 0 ∷ get_or w 5 0 ∷ get_or w 6 0 ∷ get_or w 7 0 ∷ []
-
-low_front : (w : List ℕ) → 8 ≤ length w → from_le_bytes w64 (front w) ≡ low 8 w
-unfolding front low
+low_front : (w : List ℕ) → 8 ≤ length w → from_le_bytes w64 (take 8 w) ≡ low 8 w
+unfolding low
 low_front [] h = absurd (omega (arith, h))
 low_front (a ∷ []) h = absurd (omega (arith, h))
 low_front (a ∷ b ∷ []) h = absurd (omega (arith, h))
@@ -88,10 +85,9 @@ low_front (a ∷ b ∷ c ∷ d ∷ e ∷ f ∷ []) h = absurd (omega (arith, h))
 low_front (a ∷ b ∷ c ∷ d ∷ e ∷ f ∷ g ∷ []) h = absurd (omega (arith, h))
 low_front (a ∷ b ∷ c ∷ d ∷ e ∷ f ∷ g ∷ i ∷ w) h = omega arith
 
-pub packed_front : (w : List ℕ) (n x : ℕ) → n ≤ 8 → 8 ≤ length w → n ≤ leading is_word w → x ≡ from_le_bytes w64 (get_or w 0 0 ∷ get_or w 1 0 ∷ get_or w 2 0 ∷ get_or w 3 0 ∷ get_or w 4 0 ∷ get_or w 5 0 ∷ get_or w 6 0 ∷ get_or w 7 0 ∷ []) → bit_or (bit_and x (get_or LOW_BYTES n 0)) 0x2020202020202020 ≡ pack 8 (map to_ascii_lowercase (take n w))
-unfolding front
-packed_front w n x h l s e =
-    ap₂ (λ x m. bit_or (bit_and x m) 0x2020202020202020) (e ∙ low_front w l) (mask n h)
+pub packed_front : (w : List ℕ) (n x : ℕ) (eight : List ℕ) → n ≤ 8 → 8 ≤ length w → n ≤ leading is_word w → eight ≡ take 8 w → x ≡ from_le_bytes w64 eight → bit_or (bit_and x (get_or LOW_BYTES n 0)) 0x2020202020202020 ≡ pack 8 (map to_ascii_lowercase (take n w))
+packed_front w n x eight h l s a e =
+    ap₂ (λ x m. bit_or (bit_and x m) 0x2020202020202020) (e ∙ ap (from_le_bytes w64) a ∙ low_front w l) (mask n h)
     ∙ packed_low 8 n w h l (letters_front n w s)
 
 -- what is packed can be unpacked

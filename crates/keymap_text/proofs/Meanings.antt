@@ -8,18 +8,18 @@ use Rattle.std.specs.Char.{to_ascii_lowercase, digit_value}
 use Rattle.keymap_core.specs.Names.{named_of, meaning_of}
 use Rattle.keymap_core.specs.declared.named.Named.{Named}
 use Rattle.keymap_text.specs.declared.words.Meaning.TheVariants.{Number, Act}
-use Rattle.keymap_text.specs.declared.quick.TheConstants.{ROWS}
-use Rattle.keymap_text.specs.declared.quick.Row.{Row}
+use Rattle.keymap_text.specs.declared.names.TheConstants.{NAMES}
+use Rattle.keymap_text.specs.declared.names.Name.{Name}
 use Rattle.keymap_text.specs.declared.words.Meaning.{Meaning}
-use Rattle.keymap_text.specs.Packed.{pack, unpacked, sense_meaning, Means, IsTrueRow, Letters, function_name, screen_name}
-use Rattle.keymap_text.proofs.Packing.{unpack_packed, letters_front}
+use Rattle.keymap_text.specs.Keys.{pack, unpacked, Means, IsTrueName, Letters, function_name, screen_name}
+use Rattle.keymap_text.proofs.Keys.{unpack_packed, letters_front}
 use Rattle.keymap_text.proofs.Characters.{along}
 use Rattle.keymap_text.specs.Lexical.{leading, is_word}
 use Rattle.keymap_core.specs.declared.action.Action.TheVariants as a
 use Rattle.std.specs.Int.{from_le_bytes, w64}
 use Rattle.std.specs.List.{range_with_len}
-use Rattle.std.proofs.Common.{◌≤◌, length-take}
-use Rattle.keymap_text.specs.Words.{meaning, named, table, digits_of, number_after, is_digit, of_action}
+use Rattle.std.proofs.Common.{◌≤◌, length-take, take_all}
+use Rattle.keymap_text.specs.Words.{meaning, same_name, sense_meaning, letters, look, named, table, digits_of, number_after, is_digit, of_action}
 
 -- case has no effect
 idem : (w : List ℕ) → map to_ascii_lowercase (map to_ascii_lowercase w) ≡ map to_ascii_lowercase w
@@ -106,14 +106,14 @@ pub hexadecimal_means : (r : Option ℕ) (w : List ℕ) (b : ℕ) → nat_lt (di
 hexadecimal_means (Some n) w b d l s x y h = hexadecimal_meaning w b n d l s x y h
 hexadecimal_means None w b d l s x y h = tt
 
--- a row is true if the word that is packed in it means so
+-- a name is true if the word with its key means so
 pub means_of : (key : ℕ) (m : Meaning) → m ≡ meaning (unpacked 8 key) → Means key m
 means_of key m e = λ w short letters h. e ∙ ap meaning (ap (unpacked 8) (sym h) ∙ unpack_packed 8 w short letters) ∙ meaning_lower w
 
 -- computed over the names
-row_meanings : map (λ r. sense_meaning r.1) ROWS ≡ map (λ r. meaning (unpacked 8 (from_le_bytes w64 r.0))) ROWS
+name_meanings : map (λ r. sense_meaning r.1) NAMES ≡ map (λ r. meaning (unpacked 8 (from_le_bytes w64 r.0))) NAMES
 unfolding meaning digits_of named
-row_meanings = refl
+name_meanings = refl
 
 functions : map (λ n. Act (a.Function n)) (range_with_len 1 96) ≡ map (λ n. meaning (unpacked 8 (function_name n))) (range_with_len 1 96)
 unfolding meaning digits_of named
@@ -123,11 +123,11 @@ screens : map (λ n. Act (a.Screen n)) (range_with_len 1 16) ≡ map (λ n. mean
 unfolding meaning digits_of named
 screens = refl
 
-at_row : {X : Type 0} (f g : Row → X) → map f ROWS ≡ map g ROWS → (k : ℕ) (d : Row) → k < length ROWS → f (get_or ROWS k d) ≡ g (get_or ROWS k d)
-at_row f g h k d l = sym (get_or-map f ROWS k d (f d) l) ∙ ap (λ xs. get_or xs k (f d)) h ∙ get_or-map g ROWS k d (f d) l
+at_name : {X : Type 0} (f g : Name → X) → map f NAMES ≡ map g NAMES → (k : ℕ) (d : Name) → k < length NAMES → f (get_or NAMES k d) ≡ g (get_or NAMES k d)
+at_name f g h k d l = sym (get_or-map f NAMES k d (f d) l) ∙ ap (λ xs. get_or xs k (f d)) h ∙ get_or-map g NAMES k d (f d) l
 
-pub rows_true : All IsTrueRow ROWS
-rows_true = λ k d h. means_of (from_le_bytes w64 (get_or ROWS k d).0) (sense_meaning (get_or ROWS k d).1) (at_row (λ r. sense_meaning r.1) (λ r. meaning (unpacked 8 (from_le_bytes w64 r.0))) row_meanings k d h)
+pub names_true : All IsTrueName NAMES
+names_true = λ k d h. means_of (from_le_bytes w64 (get_or NAMES k d).0) (sense_meaning (get_or NAMES k d).1) (at_name (λ r. sense_meaning r.1) (λ r. meaning (unpacked 8 (from_le_bytes w64 r.0))) name_meanings k d h)
 
 pub function_means : (n key : ℕ) → 0 < n → n ≤ 96 → key ≡ function_name n → Means key (Act (a.Function n))
 function_means n key l h e = means_of key (Act (a.Function n)) (along (λ n. Act (a.Function n)) (λ n. meaning (unpacked 8 (function_name n))) 1 96 functions n (omega (arith, l)) (omega (arith, h)) ∙ ap (λ k. meaning (unpacked 8 k)) (sym e))
@@ -141,3 +141,23 @@ some_means (Some m) key n w h s l e = h (take n w) (short n w s) (letters_front 
     short : (n : ℕ) (w : List ℕ) → n ≤ 8 → length (take n w) ≤ 8
     short n w s = omega (arith, s, length-take n w)
 some_means None key n w h s l e = tt
+
+-- the names of characters and the lock letters stand first, in the order of the table
+sense_entry : Name → List ℕ × Meaning
+sense_entry name = (letters name.0, sense_meaning name.1)
+
+look_named : (names : List Name) (w : List ℕ) → look names w ≡ named (map sense_entry names) w
+unfolding look named sense_entry
+look_named [] w = refl
+look_named (name ∷ names) w = ap (λ o. cond (same_name (letters name.0) w) (Some (sense_meaning name.1)) o) (look_named names w)
+
+first_names : map sense_entry (take 40 NAMES) ≡ table
+unfolding sense_entry leading
+first_names = refl
+
+pub look_in_table : (w : List ℕ) → look (take 40 NAMES) w ≡ named table w
+look_in_table w = look_named (take 40 NAMES) w ∙ ap (λ t. named t w) first_names
+
+pub whole_means : (r : Option Meaning) (w : List ℕ) → IfSome r (λ m. m ≡ meaning (take (length w) w)) → IfSome r (λ m. m ≡ meaning w)
+whole_means (Some m) w h = h ∙ ap meaning (take_all (length w) w (omega arith))
+whole_means None w h = tt

@@ -1,0 +1,7 @@
+use Rattle.std.proofs.Common.{arith}
+use Rattle.keymap_text.specs.Lexical.{is_word}
+use Rattle.keymap_text.proofs.Leading.{leading_le}
+use Rattle.keymap_text.proofs.names.key_of.Goals as goal
+
+pub key_at_end-requires-clause-inside : goal.key_at_end-requires-clause-inside
+key_at_end-requires-clause-inside c = omega (arith, leading_le is_word c.args.bytes.now, c.requires.word)

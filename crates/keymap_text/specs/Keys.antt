@@ -1,0 +1,38 @@
+-- The keys of words: their bytes as one number. Inner: private contracts alone speak of them.
+use Rattle.std.specs.Prelude.{◌≡◌, ℕ, zero, suc, ◌+◌, ◌*◌, ◌/◌, ◌%◌, ◌≤◌, Bool, true, cond, ◌==◌, nat_lt, ◌&&◌, List, [], ◌∷◌, length, map}
+use Rattle.std.specs.Int.{from_le_bytes, w64}
+use Rattle.keymap_text.specs.Lexical.{is_word}
+use Rattle.std.specs.Char.{to_ascii_lowercase}
+use Rattle.keymap_text.specs.declared.names.Name.{Name}
+use Rattle.keymap_text.specs.declared.words.Meaning.{Meaning}
+use Rattle.keymap_text.specs.Words.{meaning, sense_meaning}
+
+-- the bytes of a word as the digits of a number, the first byte lowest, with blanks behind the last
+abbrev pub pack : ℕ → List ℕ → ℕ
+pack zero w = 0
+pack (suc n) [] = pack n [] * 256 + 32
+pack (suc n) (c ∷ w) = pack n w * 256 + c
+
+-- the word with this key
+abbrev pub unpacked : ℕ → ℕ → List ℕ
+unpacked zero k = []
+unpacked (suc n) k = cond (k % 256 == 32) [] (k % 256 ∷ unpacked n (k / 256))
+
+-- the keys of fkey and scr with two digits
+abbrev pub function_name : ℕ → ℕ
+function_name n = 0x2020303079656b66 + n / 10 * 0x100000000 + n % 10 * 0x10000000000
+
+abbrev pub screen_name : ℕ → ℕ
+screen_name n = 0x2020203030726373 + n / 10 * 0x1000000 + n % 10 * 0x100000000
+
+-- each byte is a letter or a digit
+abbrev pub Letters : List ℕ → Type 0
+Letters [] = Unit {0}
+Letters (c ∷ w) = (is_word c ≡ true) × Letters w
+
+-- each word with this key, without regard to case, means m
+abbrev pub Means : ℕ → Meaning → Type 0
+Means key m = (w : List ℕ) → length w ≤ 8 → Letters w → pack 8 (map to_ascii_lowercase w) ≡ key → m ≡ meaning w
+
+abbrev pub IsTrueName : Name → Type 0
+IsTrueName name = Means (from_le_bytes w64 name.0) (sense_meaning name.1)

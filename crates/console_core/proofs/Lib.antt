@@ -13,6 +13,9 @@ pub mod PlainLooks
 pub mod Prefixes
 pub mod Readings
 pub mod Runs
+pub mod Scripts
+pub mod Searching
 pub mod Since
+pub mod Staying
 pub mod Traps
 pub mod WordBits

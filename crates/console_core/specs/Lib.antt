@@ -11,6 +11,8 @@ pub mod Raw
 pub mod Reading
 pub mod Resolved
 pub mod Safety
+pub mod Searching
+pub mod Sticking
 pub mod Tables
 pub mod Traps
 pub mod Words

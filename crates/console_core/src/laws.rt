@@ -5,6 +5,7 @@ ghost use Rattle.console_core.specs.Facts.{LooksAreCells, DeadUpperHalfIsNotLook
 ghost use Rattle.console_core.specs.Loads.{WithoutLoads, LoadsOfOneMapAreResets};
 ghost use Rattle.console_core.specs.Plain.{LooksPlainly, PlainOnByKeys, PlainLockedByKeys};
 ghost use Rattle.console_core.specs.Reading.{HeldByPositions, LockedByCount, RememberedByPositions, NothingRememberedByPositions, PendingByRun, PressedByPositions, ResolvedAtPrefix, AnswersByCases};
+ghost use Rattle.console_core.specs.Sticking.{NeverSticksUnlessReached, SticksIfReached};
 ghost use Rattle.console_core.specs.Traps.{OnOnlyWhilePressedWithoutTraps};
 
 /// In a safe map a modifier is on only while a key that bears it is pressed; in any map one that a key alone bears
@@ -45,6 +46,13 @@ pub fn looks_plainly()
 /// if nobody bears clock, nlock or alock.
 pub fn modifiers_without_traps_follow_keys()
     ensures { OnOnlyWhilePressedWithoutTraps }
+{}
+
+/// Without loads a keymap can leave a modifier on exactly if a path of moves leads to a state where a key that holds a
+/// modifier looks up a character: then a list of events that the path gives does it, and else no list does.
+pub fn modifiers_stick_where_paths_lead()
+    ensures never { NeverSticksUnlessReached }
+    ensures sticks { SticksIfReached }
 {}
 
 /// What a key looks up is one of its cells; a dead upper half is never looked at.

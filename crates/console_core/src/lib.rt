@@ -7,16 +7,21 @@
 //! `laws` has what follows for all lists: in a keymap where no key bears a modifier or lock beside a character, a modifier is
 //! on only while a key that bears it is pressed, and once every key is released the console goes on as after a reset.
 //!
-//! No call takes memory but `replay`, and no call fails but for want of memory there.
+//! `sticking` tells exactly, without loads, whether a keymap can leave a modifier on, unless it would have to go over
+//! too many states.
+//!
+//! No call takes memory but `replay` and `sticking`, and no call fails but for want of memory there.
 #![tactic(auto)]
 
 mod event;
 pub mod laws;
 mod machine;
+mod outcome;
 mod plain_console;
 mod plain_store;
 mod replays;
 mod rules;
+mod search;
 mod store;
 #[cfg(test)]
 mod tests;
@@ -25,7 +30,9 @@ mod word_console;
 mod word_store;
 
 pub use event::{Answer, Event};
+pub use outcome::Sticking;
 pub use plain_console::PlainConsole;
 pub use replays::replay;
+pub use search::sticking;
 pub use translator::Translator;
 pub use word_console::WordConsole;

@@ -81,6 +81,60 @@ pub const LETTER_AND_SHIFT: [Line; 2] = [
     ),
 ];
 
+/// Left shift, which is a letter where left control is on.
+pub const SHIFT_OR_LETTER: [Line; 2] = [
+    (
+        29,
+        Entry {
+            cells: [LEFT_CONTROL; 8],
+            flag: LockFlag::O,
+        },
+    ),
+    (
+        42,
+        Entry {
+            cells: [
+                LEFT_SHIFT,
+                LEFT_SHIFT,
+                LEFT_SHIFT,
+                Cell::Char('a'),
+                LEFT_SHIFT,
+                LEFT_SHIFT,
+                LEFT_SHIFT,
+                LEFT_SHIFT,
+            ],
+            flag: LockFlag::O,
+        },
+    ),
+];
+
+/// Left shift, which is a letter where left shift is off and left control is on.
+pub const SHIFT_BESIDE_LETTER: [Line; 2] = [
+    (
+        29,
+        Entry {
+            cells: [LEFT_CONTROL; 8],
+            flag: LockFlag::O,
+        },
+    ),
+    (
+        42,
+        Entry {
+            cells: [
+                LEFT_SHIFT,
+                LEFT_SHIFT,
+                Cell::Char('a'),
+                LEFT_SHIFT,
+                LEFT_SHIFT,
+                LEFT_SHIFT,
+                LEFT_SHIFT,
+                LEFT_SHIFT,
+            ],
+            flag: LockFlag::O,
+        },
+    ),
+];
+
 pub const TWO_SCROLL_LOCKS: [Line; 2] = [
     (
         70,

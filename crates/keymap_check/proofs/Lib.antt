@@ -1,12 +1,16 @@
 pub mod Bearers
 pub mod Bearing
 pub mod Bits
+pub mod CellBits
 pub mod Counting
 pub mod Findings
+pub mod Found
+pub mod Given
 pub mod FirstPlaces
 pub mod Firsts
 pub mod Lengths
 pub mod Places
+pub mod Played
 pub mod Promises
 pub mod Quiet
 pub mod Reported

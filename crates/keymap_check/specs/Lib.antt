@@ -1,4 +1,5 @@
 pub mod Below
+pub mod CellBits
 pub mod Cells
 pub mod Computed
 pub mod Findings

@@ -51,11 +51,16 @@ event_at is_press keys set except bit = if is_chosen set except bit then event_i
 abbrev pub events_of : Bool → List (Option ℕ) → ℕ → ℕ → List Event
 events_of is_press keys set except = gathered (event_at is_press keys set except) 4
 
--- press A's keys; press the key; release the keys of A that aren't in B; press those of B that aren't in A; press the
--- key; release the key; release B's keys
+-- press A's keys; press the key
+abbrev pub start_of : List (Option ℕ) → ℕ → ℕ → List Event
+start_of keys k a = events_of true keys a 0 ++ Press k ∷ []
+
+-- start so; release the keys of A that aren't in B; press those of B that aren't in A; press the key; release the key;
+-- release B's keys
 abbrev pub script : List (Option ℕ) → ℕ → ℕ → ℕ → List Event
 script keys k a b =
-    ((((events_of true keys a 0 ++ Press k ∷ []) ++ events_of false keys a b) ++ events_of true keys b a) ++ Press k ∷ Release k ∷ []) ++ events_of false keys b 0
+    (((start_of keys k a ++ events_of false keys a b) ++ events_of true keys b a) ++ Press k ∷ Release k ∷ [])
+    ++ events_of false keys b 0
 
 -- the sets name the bit, and it has no key
 abbrev pub is_lacking : List (Option ℕ) → ℕ → ℕ → ℕ → Bool

@@ -1,5 +1,5 @@
-//! The cells of a key by their places: 0 to 7 are the columns of its slot, 8 to 15 those of the slot 128 higher, which count
-//! only where the upper slots are live.
+//! The cells of a key by their places: 0 to 7 are the columns of its slot, 8 to 15 those of the slot 128 higher, which
+//! count only where the upper slots are live.
 ghost use Rattle.std.specs.Prelude.{◌≡◌, ◌<◌, ◌≤◌, IfSome};
 ghost use Rattle.keymap_core.specs.Maps.{cell_at};
 ghost use Rattle.keymap_check.specs.Cells.{slot_at, column_at, cell_of as cell_of_key, first_place as first_place_of, place_count as place_count_of};
@@ -8,7 +8,7 @@ use crate::kind::Kind;
 use keymap_core::{Cell, KeyMap};
 
 /// The slot of a key's cell at the place.
-pub fn slot(key: u8, place: u8) -> u8
+pub(crate) fn slot(key: u8, place: u8) -> u8
     requires is_key { key < 128 }
     ensures { result ≡ slot_at key place }
 {
@@ -16,7 +16,7 @@ pub fn slot(key: u8, place: u8) -> u8
 }
 
 /// The column of a key's cell at the place.
-pub fn column(place: u8) -> u8
+pub(crate) fn column(place: u8) -> u8
     requires { place < 16 }
     ensures value { result ≡ column_at place }
     ensures in_range { result < 8 }
@@ -25,7 +25,7 @@ pub fn column(place: u8) -> u8
 }
 
 /// The key's cell at the place.
-pub fn cell_of(map: &KeyMap, key: u8, place: u8) -> Cell
+pub(crate) fn cell_of(map: &KeyMap, key: u8, place: u8) -> Cell
     requires is_key { key < 128 }
     requires is_place { place < 16 }
     ensures { result ≡ cell_of_key map.now key place }
@@ -41,7 +41,7 @@ fn cell(map: &KeyMap, slot: u8, column: u8) -> Cell
 }
 
 /// How many cells each key has.
-pub fn place_count(map: &KeyMap) -> u8
+pub(crate) fn place_count(map: &KeyMap) -> u8
     ensures value { result ≡ place_count_of map.now }
     ensures in_range { result ≤ 16 }
 {
@@ -49,7 +49,7 @@ pub fn place_count(map: &KeyMap) -> u8
 }
 
 /// The first place of the key that has a cell of the kind.
-pub fn first_place(map: &KeyMap, places: u8, key: u8, kind: Kind) -> Option<u8>
+pub(crate) fn first_place(map: &KeyMap, places: u8, key: u8, kind: Kind) -> Option<u8>
     requires is_count { places ≡ place_count_of map.now }
     requires is_bounded { places ≤ 16 }
     requires is_key { key < 128 }

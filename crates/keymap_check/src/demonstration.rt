@@ -1,25 +1,33 @@
 //! How a key that makes a keymap refused can leave a modifier on.
-ghost use Rattle.std.specs.Prelude.{◌≡◌, ◌<◌, ◌≤◌, ◌++◌, List, [], None, Some, MatchOption, IfSome, IsNone, IsSome, ℕ, reverse, find, option_map};
+ghost use Rattle.std.specs.Prelude.{◌≡◌, ℕ, ◌<◌, ◌++◌, List, IfSome, IsNone, IsSome, reverse, find, option_map};
 ghost use Rattle.keymap_core.specs.declared.action.Modifier.{Modifier as ModifierValue};
+ghost use Rattle.keymap_core.specs.Maps.{MapValue};
 ghost use Rattle.console_core.specs.declared.event.Event.{Event as EventValue};
-ghost use Rattle.console_core.specs.History.{Maps, IsQuiet};
-ghost use Rattle.keymap_check.specs.Scripts.{leaves_modifier_on as leaves_modifier_on_in, is_some_on, scripts_of, scripts_with, scripts_for, tried_at, demonstration_of};
+ghost use Rattle.console_core.specs.History.{Maps, between, IsQuiet};
 ghost use Rattle.console_core.specs.Traps.{HasNoLocks, HasNoTrap};
+ghost use Rattle.keymap_check.specs.Scripts.{leaves_modifier_on as leaves_modifier_on_in, is_some_on, events_of, start_of};
+ghost use Rattle.keymap_check.specs.Scripts.{script as script_of, scripts_of, scripts_with, scripts_for, tried_at, demonstration_of};
 ghost use Rattle.keymap_check.specs.Shown.{HasShownTrap};
-ghost use Rattle.keymap_check.specs.Cells.{place_count as place_count_of};
 
-use crate::cells::place_count;
-use crate::finding::find_at;
-use crate::script::{BitKeys, Script, bit_keys, lacks_key, make_script};
+use crate::bearer::key_with;
+use crate::finding::is_found;
+use crate::script::{BitKeys, Script, bit_keys, event_at, lacks_key, make_script};
+use crate::survey::Survey;
 use console_core::{Event, Translator, WordConsole};
-use keymap_core::{KeyMap, Modifier};
+use keymap_core::{KeyCode, KeyMap, Modifier};
 
-/// Delivers the events in their order.
-fn deliver<T: Translator>(console: &mut T, events: &[Event])
-    ensures { (ms : Maps) (h : List EventValue) → T.stands console.old ms h → T.stands console.new ms (reverse events.now ++ h) }
+/// Delivers presses or releases of the keys of the bits that are in the set and not in the other one.
+fn deliver<T: Translator>(console: &mut T, keys: &BitKeys, set: u8, except: u8, is_press: bool)
+    ensures { (ms : Maps) (h : List EventValue) → T.stands console.old ms h
+        → T.stands console.new ms (reverse (events_of is_press keys.now set except) ++ h) }
 {
-    for event in events {
-        let _ = console.step(*event);
+    for bit in 0..4 {
+        match event_at(keys, set, except, bit, is_press) {
+            Some(event) => {
+                let _ = console.step(event);
+            }
+            None => {}
+        }
     }
 }
 
@@ -37,38 +45,69 @@ fn is_any_on<T: Translator>(console: &T) -> bool
         || console.on(Modifier::Meta)
 }
 
-/// Whether some modifier is on after a new console was delivered the events.
-fn leaves_modifier_on(map: &KeyMap, events: &[Event]) -> bool
-    ensures { result ≡ leaves_modifier_on_in map.now events.now }
+/// Whether the script of the key and the two sets leaves a modifier on. The console is one that was delivered its
+/// start.
+fn leaves_modifier_on<'m>(
+    start: &WordConsole<'m>,
+    keys: &BitKeys,
+    key: KeyCode,
+    a: u8,
+    b: u8,
+) -> bool
+    ensures { (m : MapValue)
+        → ⟦<WordConsole<'m> as Translator>⟧.stands start.now (between m m) (reverse (start_of keys.now key a))
+        → result ≡ leaves_modifier_on_in m (script_of keys.now key a b) }
 {
-    let mut console = WordConsole::new(map);
-    deliver(&mut console, events);
-    is_any_on(&console)
+    let mut console = start.copied();
+    deliver(&mut console, keys, a, b, false);
+    deliver(&mut console, keys, b, a, true);
+    let _ = console.step(Event::Press(key));
+    let _ = console.step(Event::Release(key));
+    if is_any_on(&console) {
+        deliver(&mut console, keys, b, 0, false);
+        is_any_on(&console)
+    } else {
+        // The releases that are left turn no modifier on.
+        false
+    }
 }
 
-/// The script of the key and the two sets, if it leaves a modifier on.
-fn try_sets(map: &KeyMap, keys: &BitKeys, key: u8, a: u8, b: u8) -> Option<Script>
-    requires { key < 128 }
-    ensures { MatchOption result (find (leaves_modifier_on_in map.now) (scripts_of keys.now key a b) ≡ None) (λ s. find (leaves_modifier_on_in map.now) (scripts_of keys.now key a b) ≡ Some s.items) }
+/// The script of the key and the two sets, if it leaves a modifier on. The console is one that was delivered its start.
+fn try_sets<'m>(
+    start: &WordConsole<'m>,
+    keys: &BitKeys,
+    key: KeyCode,
+    a: u8,
+    b: u8,
+) -> Option<Script>
+    ensures { (m : MapValue)
+        → ⟦<WordConsole<'m> as Translator>⟧.stands start.now (between m m) (reverse (start_of keys.now key a))
+        → option_map (λ s. s.items) result ≡ find (leaves_modifier_on_in m) (scripts_of keys.now key a b) }
 {
-    if lacks_key(keys, a, b) {
+    if lacks_key(keys, a, b) || !leaves_modifier_on(start, keys, key, a, b) {
         return None;
     }
-    let script = make_script(keys, key, a, b);
-    if leaves_modifier_on(map, script.as_slice()) {
-        Some(script)
-    } else {
-        None
-    }
+    Some(make_script(keys, key, a, b))
 }
 
-/// The first script of the key and the first set that leaves a modifier on.
-fn try_first_set(map: &KeyMap, keys: &BitKeys, key: u8, a: u8) -> Option<Script>
-    requires { key < 128 }
-    ensures { MatchOption result (find (leaves_modifier_on_in map.now) (scripts_with keys.now key a) ≡ None) (λ s. find (leaves_modifier_on_in map.now) (scripts_with keys.now key a) ≡ Some s.items) }
+/// A console that was delivered what the scripts of the key and the first set begin with.
+fn start<'m>(map: &'m KeyMap, keys: &BitKeys, key: KeyCode, a: u8) -> WordConsole<'m>
+    ensures { ⟦<WordConsole<'m> as Translator>⟧.stands result (between map.now map.now)
+        (reverse (start_of keys.now key a)) }
 {
+    let mut console = WordConsole::new(map);
+    deliver(&mut console, keys, a, 0, true);
+    let _ = console.step(Event::Press(key));
+    console
+}
+
+/// The first script of the key and the first set that leaves a modifier on. All begin alike: that is delivered once.
+fn try_first_set(map: &KeyMap, keys: &BitKeys, key: KeyCode, a: u8) -> Option<Script>
+    ensures { option_map (λ s. s.items) result ≡ find (leaves_modifier_on_in map.now) (scripts_with keys.now key a) }
+{
+    let start = start(map, keys, key, a);
     for b in 0..16 {
-        match try_sets(map, keys, key, a, b) {
+        match try_sets(&start, keys, key, a, b) {
             Some(script) => return Some(script),
             None => {}
         }
@@ -77,9 +116,8 @@ fn try_first_set(map: &KeyMap, keys: &BitKeys, key: u8, a: u8) -> Option<Script>
 }
 
 /// The first script of the key that leaves a modifier on.
-fn try_key(map: &KeyMap, keys: &BitKeys, key: u8) -> Option<Script>
-    requires { key < 128 }
-    ensures { MatchOption result (find (leaves_modifier_on_in map.now) (scripts_for keys.now key) ≡ None) (λ s. find (leaves_modifier_on_in map.now) (scripts_for keys.now key) ≡ Some s.items) }
+fn try_key(map: &KeyMap, keys: &BitKeys, key: KeyCode) -> Option<Script>
+    ensures { option_map (λ s. s.items) result ≡ find (leaves_modifier_on_in map.now) (scripts_for keys.now key) }
 {
     for a in 0..16 {
         match try_first_set(map, keys, key, a) {
@@ -91,24 +129,36 @@ fn try_key(map: &KeyMap, keys: &BitKeys, key: u8) -> Option<Script>
 }
 
 /// The first script of the key that leaves a modifier on, where the key has a finding.
-fn try_if_found(map: &KeyMap, places: u8, key: u8) -> Option<Script>
-    requires is_count { places ≡ place_count_of map.now }
-    requires is_bounded { places ≤ 16 }
-    requires is_key { key < 128 }
-    ensures { MatchOption result (find (leaves_modifier_on_in map.now) (tried_at map.now key) ≡ None) (λ s. find (leaves_modifier_on_in map.now) (tried_at map.now key) ≡ Some s.items) }
+fn try_if_found(survey: &Survey, key: u8) -> Option<Script>
+    requires { key < 128 }
+    ensures { option_map (λ s. s.items) result ≡ find (leaves_modifier_on_in survey.now) (tried_at survey.now key) }
 {
-    match find_at(map, places, key) {
-        Some(_) => try_key(map, &bit_keys(map, places, key), key),
-        None => None,
+    if is_found(survey, key) {
+        try_key(survey.map(), &bit_keys(survey, key), key_with(key))
+    } else {
+        None
     }
 }
 
-/// Shows how the keymap can leave a modifier on: gives the first script, in the order in which they are tried, after which
-/// a new console has some modifier on though each key was released.
+/// The first script, in the order in which they are tried, that leaves a modifier on.
+fn first_script(survey: &Survey) -> Option<Script>
+    ensures { option_map (λ s. s.items) result ≡ demonstration_of survey.now }
+{
+    for key in 0..128 {
+        match try_if_found(survey, key) {
+            Some(script) => return Some(script),
+            None => {}
+        }
+    }
+    None
+}
+
+/// Shows how the keymap can leave a modifier on: gives the first script, in the order in which they are tried, after
+/// which a new console has some modifier on though each key was released.
 ///
-/// The keys with findings are tried in their order, each with the 256 pairs of sets of modifiers, all sets B for each set A.
-/// A script presses the keys of A, presses the tried key, goes on from A to B, presses the tried
-/// key again and releases it, and releases the keys of B.
+/// The keys with findings are tried in their order, each with the 256 pairs of sets of modifiers, all sets B for each
+/// set A. A script presses the keys of A, presses the tried key, goes on from A to B, presses the tried key again and
+/// releases it, and releases the keys of B.
 ///
 /// That there is none does not mean that a refused keymap cannot stick, since no other scripts are tried.
 pub fn demonstrate(map: &KeyMap) -> Option<Script>
@@ -117,12 +167,5 @@ pub fn demonstrate(map: &KeyMap) -> Option<Script>
     ensures shown { (i : ModifierValue) (k : ℕ) → HasShownTrap map.now i k → IsSome result }
     ensures without_traps { HasNoLocks map.now → ((i : ModifierValue) → HasNoTrap map.now i) → IsNone result }
 {
-    let places = place_count(map);
-    for key in 0..128 {
-        match try_if_found(map, places, key) {
-            Some(script) => return Some(script),
-            None => {}
-        }
-    }
-    None
+    first_script(&Survey::of(map))
 }

@@ -1,14 +1,16 @@
 //! The keys that make a keymap refused.
-ghost use Rattle.std.specs.Prelude.{◌≡◌, ◌<◌, ◌≤◌, MatchOption, [], ◌∷◌};
-ghost use Rattle.keymap_check.specs.Cells.{place_count as place_count_of, place_at as place_of};
+ghost use Rattle.std.specs.Prelude.{◌≡◌, ◌<◌, MatchOption, [], ◌∷◌};
+ghost use Rattle.keymap_check.specs.Cells.{place_at as place_of};
 ghost use Rattle.keymap_check.specs.Computed.{findings_at, findings_of};
+ghost use Rattle.keymap_check.specs.Scripts.{has_some};
 ghost use Rattle.arrayvec.specs.ArrayVec.{array_vec_len};
 
 use crate::bearer::key_with;
-use crate::cells::{cell_of, column, first_place, slot};
+use crate::cells::{column, slot};
 use crate::kind::Kind;
+use crate::survey::Survey;
 use arrayvec::ArrayVec;
-use keymap_core::{Cell, Holding, KeyCode, KeyMap, Modifier};
+use keymap_core::{Cell, Holding, KeyCode, Modifier};
 
 /// Where a cell stands: its slot, 0 to 255, and its column, 0 to 7.
 #[derive(Clone, Copy, Debug, PartialEq, Eq)]
@@ -52,16 +54,25 @@ fn place_at(key: u8, place: u8) -> Place
     }
 }
 
-/// The finding of the key, if it has one.
-pub fn find_at(map: &KeyMap, places: u8, key: u8) -> Option<Finding>
-    requires is_count { places ≡ place_count_of map.now }
-    requires is_bounded { places ≤ 16 }
-    requires is_key { key < 128 }
-    ensures { MatchOption result (findings_at map.now key ≡ []) (λ f. findings_at map.now key ≡ f ∷ []) }
+/// Whether the key has a finding.
+pub(crate) fn is_found(survey: &Survey, key: u8) -> bool
+    requires { key < 128 }
+    ensures { result ≡ has_some (findings_at survey.now key) }
 {
-    let holding_place = first_place(map, places, key, Kind::AnyHolding)?;
-    let character_place = first_place(map, places, key, Kind::Character)?;
-    let action = match cell_of(map, key, holding_place) {
+    survey.has(key, Kind::AnyHolding) && survey.has(key, Kind::Character)
+}
+
+/// The finding of the key, if it has one.
+fn find_at(survey: &Survey, key: u8) -> Option<Finding>
+    requires { key < 128 }
+    ensures { MatchOption result (findings_at survey.now key ≡ []) (λ f. findings_at survey.now key ≡ f ∷ []) }
+{
+    if !is_found(survey, key) {
+        return None;
+    }
+    let holding_place = survey.first_place(key, Kind::AnyHolding)?;
+    let character_place = survey.first_place(key, Kind::Character)?;
+    let action = match survey.cell(key, holding_place) {
         Cell::Act(action) => action,
         Cell::Char(_) => return None,
     };
@@ -75,14 +86,12 @@ pub fn find_at(map: &KeyMap, places: u8, key: u8) -> Option<Finding>
 }
 
 /// The findings in the order of their keys.
-pub fn findings(map: &KeyMap, places: u8) -> ArrayVec<Finding, 128>
-    requires is_count { places ≡ place_count_of map.now }
-    requires is_bounded { places ≤ 16 }
-    ensures { result.items ≡ findings_of map.now }
+pub(crate) fn findings(survey: &Survey) -> ArrayVec<Finding, 128>
+    ensures { result.items ≡ findings_of survey.now }
 {
     let mut findings = ArrayVec::new();
     for key in 0..128 {
-        match find_at(map, places, key) {
+        match find_at(survey, key) {
             Some(finding) => findings.push(finding),
             None => {}
         }

@@ -1,6 +1,7 @@
 //! What is looked for among the cells of a key.
 ghost use Rattle.std.specs.Prelude.{◌≡◌};
 ghost use Rattle.keymap_check.specs.Cells.{fits as fits_kind, is_of_group};
+ghost use Rattle.keymap_check.specs.CellBits.{mask_of};
 
 use keymap_core::{Action, Cell, Holding, Modifier};
 
@@ -46,7 +47,25 @@ fn is_in_group(modifier: Modifier, group: Group) -> bool
 }
 
 impl Kind {
-    pub fn fits(self, cell: Cell) -> bool
+    /// The bits of the cells that are of the kind, as a survey numbers them.
+    pub(crate) fn mask(self) -> u16
+        ensures { result ≡ mask_of self }
+    {
+        match self {
+            Kind::Character => 0x1000,
+            Kind::AnyHolding => 0x0fff,
+            Kind::Holding(holding) => 1 << holding.index(),
+            Kind::OtherThan(holding) => 0x7fff ^ (1 << holding.index()),
+            Kind::CharacterOrNop => 0x3000,
+            Kind::Of(Group::Shift) => 0x0003,
+            Kind::Of(Group::Control) => 0x000c,
+            Kind::Of(Group::Alt) => 0x0030,
+            Kind::Of(Group::AltShift) => 0x0040,
+        }
+    }
+
+    /// Whether the cell is of the kind.
+    pub(crate) fn fits(self, cell: Cell) -> bool
         ensures { result ≡ fits_kind self cell }
     {
         match self {

@@ -10,8 +10,8 @@ pub fn reports_are_computed()
     ensures steady { SteadyLocksAreComputed }
 {}
 
-/// A demonstration tries the keys that make a map refused, and a bit's key is the least other one that bears a modifier of
-/// its group.
+/// A demonstration tries the keys that make a map refused, and a bit's key is the least other one that bears a
+/// modifier of its group.
 pub fn scripts_press_the_keys_of_the_map()
     ensures bit_keys { BitKeysAreLeast }
     ensures tried { TriedKeysAreUnsafe }

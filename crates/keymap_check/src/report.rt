@@ -9,9 +9,9 @@ ghost use Rattle.keymap_check.specs.Promises.{ModifiersAreOnOnlyWhilePressed, Is
 ghost use Rattle.keymap_check.specs.Report.{IsAccepted, IsBearer, HasPlainBearers, bearer_in, is_steady_in, report_of};
 
 use crate::bearer::{Bearer, bearer_of, is_steady};
-use crate::cells::place_count;
 use crate::finding::{Finding, findings};
 use crate::laws::reports_are_computed;
+use crate::survey::Survey;
 use arrayvec::ArrayVec;
 use console_core::laws::{
     locks_count_fresh_presses, looks_plainly, modifiers_follow_keys, quiet_is_a_reset,
@@ -73,45 +73,57 @@ impl Report {
     }
 }
 
-fn survey(map: &KeyMap) -> Report
-    ensures { result ≡ report_of map.now }
+/// The report on the keymap that was gone over.
+fn report_on(survey: &Survey) -> Report
+    ensures { result ≡ report_of survey.now }
 {
-    let places = place_count(map);
+    let caps = bearer_of(survey, Holding::Lock(Lock::Caps));
+    let num = bearer_of(survey, Holding::Lock(Lock::Num));
+    let scroll = bearer_of(survey, Holding::Lock(Lock::Scroll));
+    let alt = bearer_of(survey, Holding::Lock(Lock::Alt));
     Report {
-        findings: findings(map, places),
+        findings: findings(survey),
         bearers: [
-            bearer_of(map, places, Holding::Mod(Modifier::LeftShift)),
-            bearer_of(map, places, Holding::Mod(Modifier::RightShift)),
-            bearer_of(map, places, Holding::Mod(Modifier::LeftControl)),
-            bearer_of(map, places, Holding::Mod(Modifier::RightControl)),
-            bearer_of(map, places, Holding::Mod(Modifier::LeftAlt)),
-            bearer_of(map, places, Holding::Mod(Modifier::RightAlt)),
-            bearer_of(map, places, Holding::Mod(Modifier::AltShift)),
-            bearer_of(map, places, Holding::Mod(Modifier::Meta)),
-            bearer_of(map, places, Holding::Lock(Lock::Caps)),
-            bearer_of(map, places, Holding::Lock(Lock::Num)),
-            bearer_of(map, places, Holding::Lock(Lock::Scroll)),
-            bearer_of(map, places, Holding::Lock(Lock::Alt)),
+            bearer_of(survey, Holding::Mod(Modifier::LeftShift)),
+            bearer_of(survey, Holding::Mod(Modifier::RightShift)),
+            bearer_of(survey, Holding::Mod(Modifier::LeftControl)),
+            bearer_of(survey, Holding::Mod(Modifier::RightControl)),
+            bearer_of(survey, Holding::Mod(Modifier::LeftAlt)),
+            bearer_of(survey, Holding::Mod(Modifier::RightAlt)),
+            bearer_of(survey, Holding::Mod(Modifier::AltShift)),
+            bearer_of(survey, Holding::Mod(Modifier::Meta)),
+            caps,
+            num,
+            scroll,
+            alt,
         ],
         steady: [
-            is_steady(map, places, Lock::Caps),
-            is_steady(map, places, Lock::Num),
-            is_steady(map, places, Lock::Scroll),
-            is_steady(map, places, Lock::Alt),
+            is_steady(survey, &caps),
+            is_steady(survey, &num),
+            is_steady(survey, &scroll),
+            is_steady(survey, &alt),
         ],
     }
 }
 
+/// The report on a keymap.
+fn make_report(map: &KeyMap) -> Report
+    ensures { result ≡ report_of map.now }
+{
+    report_on(&Survey::of(map))
+}
+
 /// Checks the keymap: whether it is safe, which keys bear what, and which locks are steady.
 ///
-/// What it promises holds after every list of delivered events that leaves the keymap in force, loads of another keymap
-/// among them. Where it is accepted, a modifier is on only while a key that bears it is pressed, and once no key is pressed
-/// no modifier is on, and with no accent pending the console goes on as after a reset. For every keymap, a modifier that one
-/// key alone bears throughout is on exactly while that key is pressed, and no repeat turns a steady lock.
+/// What it promises holds after every list of delivered events that leaves the keymap in force, loads of another
+/// keymap among them. Where it is accepted, a modifier is on only while a key that bears it is pressed, and once no
+/// key is pressed no modifier is on, and with no accent pending the console goes on as after a reset. For every
+/// keymap, a modifier that one key alone bears throughout is on exactly while that key is pressed, and no repeat turns
+/// a steady lock.
 ///
-/// Where no other keymap is loaded, a lock that one key alone bears throughout is on exactly after an odd number of fresh
-/// presses of that key. Without loads, and where each modifier and lock that picks a cell is borne so or by nobody, what a
-/// key looks up follows from which keys are pressed and from those fresh presses.
+/// Where no other keymap is loaded, a lock that one key alone bears throughout is on exactly after an odd number of
+/// fresh presses of that key. Without loads, and where each modifier and lock that picks a cell is borne so or by
+/// nobody, what a key looks up follows from which keys are pressed and from those fresh presses.
 pub fn check(map: &KeyMap) -> Report
     ensures value { result ≡ report_of map.now }
     ensures accepted { IsAccepted result ↔ IsSafe map.now }
@@ -134,5 +146,5 @@ pub fn check(map: &KeyMap) -> Report
     quiet_is_a_reset();
     locks_count_fresh_presses();
     looks_plainly();
-    survey(map)
+    make_report(map)
 }

@@ -1,21 +1,20 @@
 //! The script that tries one key.
 ghost use Rattle.std.specs.Prelude.{◌≡◌, ◌<◌, ◌≤◌, ◌+◌, ◌++◌, MatchOption, length, true, false, [], ◌∷◌};
 ghost use Rattle.arrayvec.specs.ArrayVec.{array_vec_len};
-ghost use Rattle.keymap_check.specs.Cells.{place_count as place_count_of};
 ghost use Rattle.keymap_check.specs.Scripts.{group_at as group_in, has_bit as has_bit_in, is_bit_key as is_bit_key_of, bit_key as bit_key_of, bit_keys as bit_keys_of, event_of as event_by, event_at as event_in, is_lacking as is_lacking_of, is_chosen as is_chosen_of, events_of, script as script_of, lacks_key as lacks_key_of};
 
 use crate::bearer::key_with;
-use crate::cells::first_place;
 use crate::kind::{Group, Kind};
+use crate::survey::Survey;
 use arrayvec::ArrayVec;
 use console_core::Event;
-use keymap_core::{KeyCode, KeyMap};
+use keymap_core::KeyCode;
 
 /// The events that a demonstration delivers, in their order.
 pub type Script = ArrayVec<Event, 11>;
 
 /// The keys of the four bits of a set: shift, control, alt and ashift.
-pub type BitKeys = [Option<KeyCode>; 4];
+pub(crate) type BitKeys = [Option<KeyCode>; 4];
 
 /// The modifiers that the bit of a set stands for.
 fn group_at(bit: u8) -> Group
@@ -44,23 +43,19 @@ fn is_chosen(set: u8, except: u8, bit: u8) -> bool
     has_bit(set, bit) && !has_bit(except, bit)
 }
 
-fn is_bit_key(map: &KeyMap, places: u8, tried: u8, bit: u8, key: u8) -> bool
-    requires is_count { places ≡ place_count_of map.now }
-    requires is_bounded { places ≤ 16 }
-    requires is_key { key < 128 }
-    ensures { result ≡ is_bit_key_of map.now tried bit key }
+fn is_bit_key(survey: &Survey, tried: u8, bit: u8, key: u8) -> bool
+    requires { key < 128 }
+    ensures { result ≡ is_bit_key_of survey.now tried bit key }
 {
-    key != tried && first_place(map, places, key, Kind::Of(group_at(bit))).is_some()
+    key != tried && survey.has(key, Kind::Of(group_at(bit)))
 }
 
 /// The least key, other than the tried one, that bears an action of the bit's group.
-fn bit_key(map: &KeyMap, places: u8, tried: u8, bit: u8) -> Option<KeyCode>
-    requires is_count { places ≡ place_count_of map.now }
-    requires is_bounded { places ≤ 16 }
-    ensures { result ≡ bit_key_of map.now tried bit }
+fn bit_key(survey: &Survey, tried: u8, bit: u8) -> Option<KeyCode>
+    ensures { result ≡ bit_key_of survey.now tried bit }
 {
     for key in 0..128 {
-        if is_bit_key(map, places, tried, bit, key) {
+        if is_bit_key(survey, tried, bit, key) {
             return Some(key_with(key));
         }
     }
@@ -68,16 +63,14 @@ fn bit_key(map: &KeyMap, places: u8, tried: u8, bit: u8) -> Option<KeyCode>
 }
 
 /// The keys of the bits, while the key is tried.
-pub fn bit_keys(map: &KeyMap, places: u8, tried: u8) -> BitKeys
-    requires is_count { places ≡ place_count_of map.now }
-    requires is_bounded { places ≤ 16 }
-    ensures { result ≡ bit_keys_of map.now tried }
+pub(crate) fn bit_keys(survey: &Survey, tried: u8) -> BitKeys
+    ensures { result ≡ bit_keys_of survey.now tried }
 {
     [
-        bit_key(map, places, tried, 0),
-        bit_key(map, places, tried, 1),
-        bit_key(map, places, tried, 2),
-        bit_key(map, places, tried, 3),
+        bit_key(survey, tried, 0),
+        bit_key(survey, tried, 1),
+        bit_key(survey, tried, 2),
+        bit_key(survey, tried, 3),
     ]
 }
 
@@ -92,9 +85,16 @@ fn event_of(key: KeyCode, is_press: bool) -> Event
 }
 
 /// The press or release of the bit's key, if the bit is in the set and not in the other one.
-fn event_at(keys: &BitKeys, set: u8, except: u8, bit: u8, is_press: bool) -> Option<Event>
+pub(crate) fn event_at(
+    keys: &BitKeys,
+    set: u8,
+    except: u8,
+    bit: u8,
+    is_press: bool,
+) -> Option<Event>
     requires { bit < 4 }
-    ensures { MatchOption result (event_in is_press keys.now set except bit ≡ []) (λ e. event_in is_press keys.now set except bit ≡ e ∷ []) }
+    ensures { MatchOption result (event_in is_press keys.now set except bit ≡ [])
+        (λ e. event_in is_press keys.now set except bit ≡ e ∷ []) }
 {
     if !is_chosen(set, except, bit) {
         return None;
@@ -109,7 +109,8 @@ fn event_at(keys: &BitKeys, set: u8, except: u8, bit: u8, is_press: bool) -> Opt
 fn push_events(script: &mut Script, keys: &BitKeys, set: u8, except: u8, is_press: bool)
     requires { array_vec_len script.old + length (events_of is_press keys.now set except) ≤ 11 }
     ensures items { script.new.items ≡ script.old.items ++ events_of is_press keys.now set except }
-    ensures len { array_vec_len script.new ≡ array_vec_len script.old + length (events_of is_press keys.now set except) }
+    ensures len { array_vec_len script.new
+        ≡ array_vec_len script.old + length (events_of is_press keys.now set except) }
 {
     for bit in 0..4 {
         match event_at(keys, set, except, bit, is_press) {
@@ -120,17 +121,16 @@ fn push_events(script: &mut Script, keys: &BitKeys, set: u8, except: u8, is_pres
 }
 
 /// The script that tries the key with the sets of bits.
-pub fn make_script(keys: &BitKeys, key: u8, a: u8, b: u8) -> Script
-    requires { key < 128 }
+pub(crate) fn make_script(keys: &BitKeys, key: KeyCode, a: u8, b: u8) -> Script
     ensures { result.items ≡ script_of keys.now key a b }
 {
     let mut script = ArrayVec::new();
     push_events(&mut script, keys, a, 0, true);
-    script.push(Event::Press(key_with(key)));
+    script.push(Event::Press(key));
     push_events(&mut script, keys, a, b, false);
     push_events(&mut script, keys, b, a, true);
-    script.push(Event::Press(key_with(key)));
-    script.push(Event::Release(key_with(key)));
+    script.push(Event::Press(key));
+    script.push(Event::Release(key));
     push_events(&mut script, keys, b, 0, false);
     script
 }
@@ -144,7 +144,7 @@ fn is_lacking(keys: &BitKeys, a: u8, b: u8, bit: u8) -> bool
 }
 
 /// Whether the sets name a bit that has no key.
-pub fn lacks_key(keys: &BitKeys, a: u8, b: u8) -> bool
+pub(crate) fn lacks_key(keys: &BitKeys, a: u8, b: u8) -> bool
     ensures { result ≡ lacks_key_of keys.now a b }
 {
     for bit in 0..4 {

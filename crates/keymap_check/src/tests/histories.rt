@@ -1,6 +1,7 @@
 //! What the report says of modifiers and locks, over long lists of events.
 use super::maps::{
-    CAPS_AND_NUM, LETTER_AND_SHIFT, SHIFT_AND_CAPS, UPPER_HALF, map_of, map_with_accents,
+    CAPS_AND_NUM, LETTER_AND_SHIFT, SHIFT_AND_CAPS, SHIFT_WITHOUT_TRAP, UPPER_HALF, map_of,
+    map_with_accents,
 };
 use super::{key, press, release};
 use crate::{Bearer, Report, check};
@@ -130,6 +131,42 @@ fn both_consoles_keep_the_promises(rt: HostRuntime) -> Result<(), Fail> {
     run(&rt, &map, &mut [30, 58, 93].map(state_of))?;
     let map = map_of(rt.alloc(), &SHIFT_AND_CAPS)?;
     run(&rt, &map, &mut [42, 58].map(state_of))?;
+    Ok(())
+}
+
+fn is_pressed(keys: &[KeyState], code: u8) -> bool {
+    keys.iter()
+        .any(|state| state.code == code && state.is_pressed)
+}
+
+/// No key of the keymap has a trap and it has no locks: a modifier is on only while the key that bears it is pressed,
+/// though the keymap is refused.
+#[test]
+fn without_traps_modifiers_are_on_only_while_pressed(rt: HostRuntime) -> Result<(), Fail> {
+    let map = map_of(rt.alloc(), &SHIFT_WITHOUT_TRAP)?;
+    assert!(rt; !check(&map).accepted());
+    let mut console = WordConsole::new(&map);
+    let mut keys = [29, 42].map(state_of);
+    let mut number = 1;
+    let mut was_on = [false; 8];
+    for _ in 0..20_000 {
+        let event = next_event(&mut number, &keys)?;
+        follow(&mut keys, &event);
+        console.step(event);
+        for modifier in MODIFIERS {
+            let may_be_on = match modifier {
+                Modifier::LeftShift => is_pressed(&keys, 42),
+                Modifier::LeftControl => is_pressed(&keys, 29),
+                _ => false,
+            };
+            assert!(rt; may_be_on || !console.on(modifier), "{modifier:?}");
+            was_on[modifier.index()] |= console.on(modifier);
+        }
+    }
+    assert_eq!(rt;
+        was_on,
+        [true, false, true, false, false, false, false, false]
+    );
     Ok(())
 }
 

@@ -1,8 +1,19 @@
-use Rattle.std.proofs.Common.{◌≡◌, ◌+◌, ◌∷◌, ◌++◌, [], take}
-use Rattle.console_core.proofs.Deliveries.{take_event, reverse-push}
+use Rattle.keymap_check.specs.Scripts.{event_at}
+use Rattle.keymap_check.proofs.Counting.{gathered-none}
+use Rattle.keymap_check.proofs.Played.{one_more, none_more}
 use Rattle.keymap_check.proofs.demonstration.deliver.Goals as goal
+use Rattle.keymap_check.proofs.demonstration.deliver.Goals.{in-Some, in-None}
 
-pub loop-event-preserved : goal.loop-event-preserved
-loop-event-preserved g c =
-    let e : take (c.loop-event.event-index + 1) c.args.events.now ≡ take c.loop-event.event-index c.args.events.now ++ c.event-item.result ∷ [] = take_event _ _ _ c.event-item.is c.loop-event-test.true in
-    λ ms h s. rw (e, reverse-push c.event-item.result (take c.loop-event.event-index c.args.events.now) h) (c.step.ensures.next ms _ (c.loop-event.invariant ms h s))
+pub loop-bit-init : goal.loop-bit-init
+loop-bit-init g c = λ ms h s. rw (gathered-none (event_at c.args.is_press c.args.keys.now c.args.set c.args.except)) s
+
+pub loop-bit-preserved : goal.loop-bit-preserved
+loop-bit-preserved g c =
+    elim c.match-event_at.branch [
+      | in-Some w ↦ λ ms h s.
+          rw (w.console-is, ← one_more (event_at c.args.is_press c.args.keys.now c.args.set c.args.except) c.loop-bit.bit w.in-Some.event h w.in-Some.ensures)
+          (w.step.ensures.next ms _ (c.loop-bit.invariant ms h s))
+      | in-None w ↦ λ ms h s.
+          rw (w.console-is, ← none_more (event_at c.args.is_press c.args.keys.now c.args.set c.args.except) c.loop-bit.bit h w.in-None.ensures)
+          (c.loop-bit.invariant ms h s)
+    ]

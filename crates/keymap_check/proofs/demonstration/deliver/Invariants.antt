@@ -1,8 +1,12 @@
-use Rattle.std.proofs.Common.{◌++◌, take, List}
+use Rattle.std.proofs.Common.{◌++◌, List}
 use Rattle.std.specs.Prelude.{reverse}
 use Rattle.console_core.specs.History.{Maps}
 use Rattle.console_core.specs.declared.event.Event.{Event}
+use Rattle.keymap_check.specs.Below.{gathered}
+use Rattle.keymap_check.specs.Scripts.{event_at}
 use Rattle.keymap_check.proofs.demonstration.deliver.Given as goal
 
-abbrev pub invariant-loop-event : goal.invariant-loop-event
-invariant-loop-event g l = (ms : Maps) (h : List Event) → g.T.Translator.stands l.fn.console ms h → g.T.Translator.stands l.console ms (reverse (take l.event-index l.events) ++ h)
+abbrev pub invariant-loop-bit : goal.invariant-loop-bit
+invariant-loop-bit g l =
+    (ms : Maps) (h : List Event) → g.T.Translator.stands l.fn.console ms h
+    → g.T.Translator.stands l.console ms (reverse (gathered (event_at l.is_press l.keys l.set l.except) l.bit) ++ h)

@@ -1,6 +1,6 @@
-use Rattle.std.proofs.Common.{◌≡◌, ◌<◌, arith, subst, None}
-use Rattle.keymap_check.specs.Below.{gathered}
+use Rattle.std.proofs.Common.{◌≡◌, ◌<◌, arith, subst, sym, None}
 use Rattle.std.specs.Prelude.{find}
+use Rattle.keymap_check.specs.Below.{gathered}
 use Rattle.keymap_check.specs.Scripts.{leaves_modifier_on, scripts_with}
 use Rattle.keymap_check.proofs.Firsts.{try-start, try-more, try-found}
 use Rattle.keymap_check.proofs.demonstration.try_key.Goals as goal
@@ -9,14 +9,18 @@ pub loop-a-init : goal.loop-a-init
 loop-a-init c = try-start (leaves_modifier_on c.args.map.now) (scripts_with c.args.keys.now c.args.key)
 
 pub loop-a-preserved : goal.loop-a-preserved
-loop-a-preserved c = try-more (leaves_modifier_on c.args.map.now) (scripts_with c.args.keys.now c.args.key) c.loop-a.a c.loop-a.invariant c.in-None.ensures
+loop-a-preserved c =
+    try-more (leaves_modifier_on c.args.map.now) (scripts_with c.args.keys.now c.args.key) c.loop-a.a c.loop-a.invariant (sym c.in-None.ensures)
 
 pub returns-in-Some : goal.returns-in-Some
 returns-in-Some c =
     let lt : c.loop-a.a < 16 = omega (arith, c.loop-a-test.true) in
-    try-found (leaves_modifier_on c.args.map.now) (scripts_with c.args.keys.now c.args.key) c.loop-a.a 16 c.in-Some.script.items lt c.loop-a.invariant c.in-Some.ensures
+    sym (
+    try-found (leaves_modifier_on c.args.map.now) (scripts_with c.args.keys.now c.args.key) c.loop-a.a 16 c.in-Some.script.items lt c.loop-a.invariant
+    (sym c.in-Some.ensures)
+    )
 
 pub returns : goal.returns
 returns c =
     let e : c.loop-a.a ≡ 16 = omega (arith, c.loop-a-test.false, c.loop-a.auto.a-end) in
-    subst (λ n. find (leaves_modifier_on c.args.map.now) (gathered (scripts_with c.args.keys.now c.args.key) n) ≡ None) e c.loop-a.invariant
+    sym (subst (λ n. find (leaves_modifier_on c.args.map.now) (gathered (scripts_with c.args.keys.now c.args.key) n) ≡ None) e c.loop-a.invariant)

@@ -6,6 +6,6 @@ use Rattle.keymap_check.proofs.finding.findings.Given as goal
 
 abbrev pub invariant-loop-key : goal.invariant-loop-key
 invariant-loop-key l = record {
-  found : l.findings.items ≡ gathered (findings_at l.map) l.key;
+  found : l.findings.items ≡ gathered (findings_at l.survey) l.key;
   room : array_vec_len l.findings ≤ l.key;
 }

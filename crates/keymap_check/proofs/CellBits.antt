@@ -1,0 +1,191 @@
+-- What the bits of a key tell of its cells.
+use Prim.Native.Nat.{zero, suc}
+use Rattle.std.proofs.Common.{◌≡◌, ℕ, ◌+◌, ◌*◌, ◌%◌, ◌^◌, ◌<◌, ◌≤◌, ◌≢◌, min, max, Bool, true, false, not, ◌||◌, Option, Some, None, eqb, refl, ap, sym, ◌∙◌, if◌then◌else◌, arith, add-one, ◌⊎◌, inl, inr}
+use Rattle.std.specs.Prelude.{bit_and, bit_or, bit_xor}
+use Rattle.std.specs.Int.{bit_at}
+use Rattle.std.proofs.Math.Nat.{zero-mul, one-mul, mod-eq_of_lt}
+use Rattle.std.proofs.Math.Pow.{pow-lt}
+use Rattle.std.proofs.lemmas.Bool.{cases_Bool, true≢false, eqb-true, eqb-false, eq-eqb, ne_eqb}
+use Rattle.std.proofs.lemmas.Nat.{and_or_apart, and_comm}
+use Rattle.std.specs.Int.Bits.{and_zero_l}
+use Rattle.std.proofs.lemmas.Nat.Bits.{bit_at_and, bit_at_or, bit_at_xor, bit_at-pow_same, bit_at-pow_other, bit_at-lt, bit_at-zero, bit_at_ones, and_pow}
+use Rattle.keymap_core.specs.declared.action.Action.TheVariants as act
+use Rattle.keymap_core.specs.declared.action.Modifier.{Modifier}
+use Rattle.keymap_core.specs.declared.action.Modifier.TheVariants.{LeftShift, RightShift, LeftControl, RightControl, LeftAlt, RightAlt, AltShift, Meta}
+use Rattle.keymap_core.specs.declared.action.Lock.{Lock}
+use Rattle.keymap_core.specs.declared.action.Lock.TheVariants.{Caps, Num, Scroll, Alt}
+use Rattle.keymap_core.specs.declared.action.Holding.{Holding}
+use Rattle.keymap_core.specs.declared.action.Holding.TheVariants as holding
+use Rattle.keymap_core.specs.declared.entry.Cell.{Cell}
+use Rattle.keymap_core.specs.declared.entry.Cell.TheVariants.{Char, Act}
+use Rattle.keymap_core.specs.Actions.{modifier_index, lock_index, holding_index}
+use Rattle.keymap_core.specs.Maps.{MapValue}
+use Rattle.keymap_check.specs.declared.kind.Group.TheVariants as group
+use Rattle.keymap_check.specs.declared.kind.Kind.{Kind}
+use Rattle.keymap_check.specs.declared.kind.Kind.TheVariants as kind
+use Rattle.console_core.specs.Positions.{first_of_two}
+use Rattle.keymap_check.specs.Below.{first_below}
+use Rattle.keymap_check.specs.Cells.{fits, is_holding, is_of_group, cell_of, first_place, place_count}
+use Rattle.keymap_check.specs.CellBits.{cell_bit, is_set, bits_below, bits_of, mask_of}
+use Rattle.keymap_check.specs.Computed.{is_there}
+
+-- one bit of a power of two
+pow_by : (k i : ℕ) (b : Bool) → eqb i k ≡ b → is_set (2 ^ k) i ≡ b
+pow_by k i true e = let s : i ≡ k = eqb-true i k e in rw (s, bit_at-pow_same k) refl
+pow_by k i false e = ap (λ x. eqb x 1) (bit_at-pow_other k i (eqb-false i k e))
+
+is_set-pow : (k i : ℕ) → is_set (2 ^ k) i ≡ eqb i k
+is_set-pow k i = pow_by k i (eqb i k) refl
+
+modifier_index-lt : (i : Modifier) → modifier_index i < 8
+modifier_index-lt LeftShift = omega arith
+modifier_index-lt RightShift = omega arith
+modifier_index-lt LeftControl = omega arith
+modifier_index-lt RightControl = omega arith
+modifier_index-lt LeftAlt = omega arith
+modifier_index-lt RightAlt = omega arith
+modifier_index-lt AltShift = omega arith
+modifier_index-lt Meta = omega arith
+
+lock_index-lt : (l : Lock) → lock_index l < 4
+lock_index-lt Caps = omega arith
+lock_index-lt Num = omega arith
+lock_index-lt Scroll = omega arith
+lock_index-lt Alt = omega arith
+
+pub holding_index-lt : (a : Holding) → holding_index a < 12
+holding_index-lt (holding.Mod i) = let lt : modifier_index i < 8 = modifier_index-lt i in omega (arith, lt)
+holding_index-lt (holding.Lock l) = let lt : lock_index l < 4 = lock_index-lt l in omega (arith, lt)
+
+-- what the masks with fixed bits tell of a modifier and of a lock
+modifier-bits : (i : Modifier) → (is_set 0x1000 (modifier_index i) ≡ false) × (is_set 0x0fff (modifier_index i) ≡ true) × (is_set 0x3000 (modifier_index i) ≡ false) × (is_set 0x0003 (modifier_index i) ≡ is_of_group group.Shift i) × (is_set 0x000c (modifier_index i) ≡ is_of_group group.Control i) × (is_set 0x0030 (modifier_index i) ≡ is_of_group group.Alt i) × (is_set 0x0040 (modifier_index i) ≡ is_of_group group.AltShift i)
+modifier-bits LeftShift = (refl, refl, refl, refl, refl, refl, refl)
+modifier-bits RightShift = (refl, refl, refl, refl, refl, refl, refl)
+modifier-bits LeftControl = (refl, refl, refl, refl, refl, refl, refl)
+modifier-bits RightControl = (refl, refl, refl, refl, refl, refl, refl)
+modifier-bits LeftAlt = (refl, refl, refl, refl, refl, refl, refl)
+modifier-bits RightAlt = (refl, refl, refl, refl, refl, refl, refl)
+modifier-bits AltShift = (refl, refl, refl, refl, refl, refl, refl)
+modifier-bits Meta = (refl, refl, refl, refl, refl, refl, refl)
+
+lock-bits : (l : Lock) → (is_set 0x1000 (8 + lock_index l) ≡ false) × (is_set 0x0fff (8 + lock_index l) ≡ true) × (is_set 0x3000 (8 + lock_index l) ≡ false) × (is_set 0x0003 (8 + lock_index l) ≡ false) × (is_set 0x000c (8 + lock_index l) ≡ false) × (is_set 0x0030 (8 + lock_index l) ≡ false) × (is_set 0x0040 (8 + lock_index l) ≡ false)
+lock-bits Caps = (refl, refl, refl, refl, refl, refl, refl)
+lock-bits Num = (refl, refl, refl, refl, refl, refl, refl)
+lock-bits Scroll = (refl, refl, refl, refl, refl, refl, refl)
+lock-bits Alt = (refl, refl, refl, refl, refl, refl, refl)
+
+-- the bit of a holding action alone
+apart : (i k : ℕ) → i ≢ k → is_set (2 ^ k) i ≡ false
+apart i k ne = is_set-pow k i ∙ ne_eqb i k ne
+
+high_same : (i j : ℕ) (b : Bool) → eqb i j ≡ b → eqb (8 + i) (8 + j) ≡ b
+high_same i j true e = let s : i ≡ j = eqb-true i j e in eq-eqb (8 + i) (8 + j) (ap (λ x. 8 + x) s)
+high_same i j false e = ne_eqb (8 + i) (8 + j) (λ s. eqb-false i j e (omega arith))
+
+holding-bit : (a : Holding) (x : Cell) → is_set (2 ^ holding_index a) (cell_bit x) ≡ is_holding a x
+holding-bit (holding.Mod i) (Char c) = let lt : modifier_index i < 8 = modifier_index-lt i in apart 12 (modifier_index i) (λ e. omega (arith, lt, e))
+holding-bit (holding.Mod i) (Act (act.Mod j)) = is_set-pow (modifier_index i) (modifier_index j)
+holding-bit (holding.Mod i) (Act (act.Lock l)) = let lt : modifier_index i < 8 = modifier_index-lt i in apart (8 + lock_index l) (modifier_index i) (λ e. omega (arith, lt, e))
+holding-bit (holding.Mod i) (Act act.Nop) = let lt : modifier_index i < 8 = modifier_index-lt i in apart 13 (modifier_index i) (λ e. omega (arith, lt, e))
+holding-bit (holding.Mod i) (Act b) = let lt : modifier_index i < 8 = modifier_index-lt i in apart 14 (modifier_index i) (λ e. omega (arith, lt, e))
+holding-bit (holding.Lock k) (Char c) = let lt : lock_index k < 4 = lock_index-lt k in apart 12 (8 + lock_index k) (λ e. omega (arith, lt, e))
+holding-bit (holding.Lock k) (Act (act.Mod j)) = let lt : modifier_index j < 8 = modifier_index-lt j in apart (modifier_index j) (8 + lock_index k) (λ e. omega (arith, lt, e))
+holding-bit (holding.Lock k) (Act (act.Lock l)) = is_set-pow (8 + lock_index k) (8 + lock_index l) ∙ high_same (lock_index l) (lock_index k) (eqb (lock_index l) (lock_index k)) refl
+holding-bit (holding.Lock k) (Act act.Nop) = let lt : lock_index k < 4 = lock_index-lt k in apart 13 (8 + lock_index k) (λ e. omega (arith, lt, e))
+holding-bit (holding.Lock k) (Act b) = let lt : lock_index k < 4 = lock_index-lt k in apart 14 (8 + lock_index k) (λ e. omega (arith, lt, e))
+
+-- all bits but that of a holding action
+cell_bit-lt : (x : Cell) → cell_bit x < 15
+cell_bit-lt (Char c) = omega arith
+cell_bit-lt (Act (act.Mod i)) = let lt : modifier_index i < 8 = modifier_index-lt i in omega (arith, lt)
+cell_bit-lt (Act (act.Lock l)) = let lt : lock_index l < 4 = lock_index-lt l in omega (arith, lt)
+cell_bit-lt (Act act.Nop) = omega arith
+cell_bit-lt (Act b) = omega arith
+
+two_cases : (x : ℕ) → x < 2 → (x ≡ 0) ⊎ (x ≡ 1)
+two_cases zero lt = inl refl
+two_cases (suc zero) lt = inr refl
+two_cases (suc (suc x)) lt = let e : ⊥ = omega arith in absurd e
+
+turned : (x : ℕ) → x < 2 → eqb ((1 + x) % 2) 1 ≡ not (eqb x 1)
+turned x lt = elim (two_cases x lt) [ inl e ↦ rw e refl | inr e ↦ rw e refl ]
+
+other-bit : (n i : ℕ) → i < 15 → is_set (bit_xor 0x7fff n) i ≡ not (is_set n i)
+other-bit n i lt =
+    let ones : bit_at 0x7fff i ≡ 1 = bit_at_ones 15 i lt in
+    rw (bit_at_xor 0x7fff n i, ones) (turned (bit_at n i) (bit_at-lt n i))
+
+-- the mask of a kind has the bits of the cells of that kind
+pub mask-fits : (x : Kind) (y : Cell) → is_set (mask_of x) (cell_bit y) ≡ fits x y
+mask-fits (kind.Holding a) y = holding-bit a y
+mask-fits (kind.OtherThan a) y = other-bit (2 ^ holding_index a) (cell_bit y) (cell_bit-lt y) ∙ ap not (holding-bit a y)
+mask-fits kind.Character (Act (act.Mod i)) = (modifier-bits i).0
+mask-fits kind.Character (Act (act.Lock l)) = (lock-bits l).0
+mask-fits kind.AnyHolding (Act (act.Mod i)) = (modifier-bits i).1
+mask-fits kind.AnyHolding (Act (act.Lock l)) = (lock-bits l).1
+mask-fits kind.CharacterOrNop (Act (act.Mod i)) = (modifier-bits i).2
+mask-fits kind.CharacterOrNop (Act (act.Lock l)) = (lock-bits l).2
+mask-fits (kind.Of group.Shift) (Act (act.Mod i)) = (modifier-bits i).3
+mask-fits (kind.Of group.Shift) (Act (act.Lock l)) = (lock-bits l).3
+mask-fits (kind.Of group.Control) (Act (act.Mod i)) = (modifier-bits i).4
+mask-fits (kind.Of group.Control) (Act (act.Lock l)) = (lock-bits l).4
+mask-fits (kind.Of group.Alt) (Act (act.Mod i)) = (modifier-bits i).5
+mask-fits (kind.Of group.Alt) (Act (act.Lock l)) = (lock-bits l).5
+mask-fits (kind.Of group.AltShift) (Act (act.Mod i)) = (modifier-bits i).6
+mask-fits (kind.Of group.AltShift) (Act (act.Lock l)) = (lock-bits l).6
+mask-fits x y = refl
+
+-- one more bit
+abbrev pub meets : ℕ → ℕ → Bool
+meets bits mask = not (eqb (bit_and bits mask) 0)
+
+set_zero : (n i : ℕ) → is_set n i ≡ false → bit_at n i ≡ 0
+set_zero n i e = elim (two_cases (bit_at n i) (bit_at-lt n i)) [ inl z ↦ z | inr o ↦ absurd (true≢false (sym (ap (λ x. eqb x 1) o) ∙ e)) ]
+
+or_false : (b : Bool) → (b || false) ≡ b
+or_false true = refl
+or_false false = refl
+
+or_true : (b : Bool) → (b || true) ≡ true
+or_true true = refl
+or_true false = refl
+
+meets_by : (n mask i : ℕ) (b : Bool) → is_set mask i ≡ b → meets (bit_or n (2 ^ i)) mask ≡ (meets n mask || b)
+meets_by n mask i false e =
+    let z : bit_and (2 ^ i) mask ≡ 0 = and_comm (2 ^ i) mask ∙ and_pow mask i ∙ ap (λ x. x * 2 ^ i) (set_zero mask i e) ∙ zero-mul (2 ^ i) in
+    ap (λ x. not (eqb x 0)) (and_or_apart mask n (2 ^ i) z) ∙ sym (or_false (meets n mask))
+meets_by n mask i true e =
+    let one : bit_at mask i ≡ 1 = eqb-true (bit_at mask i) 1 e in
+    let here : bit_at (bit_and (bit_or n (2 ^ i)) mask) i ≡ min (max (bit_at n i) 1) 1 = bit_at_and (bit_or n (2 ^ i)) mask i ∙ rw (one, bit_at_or n (2 ^ i) i, bit_at-pow_same i) refl in
+    let ne : bit_and (bit_or n (2 ^ i)) mask ≡ 0 → ⊥ = λ z. let zero_here : bit_at (bit_and (bit_or n (2 ^ i)) mask) i ≡ 0 = ap (λ x. bit_at x i) z ∙ bit_at-zero i in omega (arith, here, zero_here) in
+    ap not (ne_eqb (bit_and (bit_or n (2 ^ i)) mask) 0 ne) ∙ sym (or_true (meets n mask))
+
+meets-more : (n mask i : ℕ) → meets (bit_or n (2 ^ i)) mask ≡ (meets n mask || is_set mask i)
+meets-more n mask i = meets_by n mask i (is_set mask i) refl
+
+there-more : (o : Option ℕ) (n : ℕ) (t : Bool) → is_there (first_of_two o (if t then Some n else None)) ≡ (is_there o || t)
+there-more None n true = refl
+there-more None n false = refl
+there-more (Some i) n t = refl
+
+tell_below : (m : MapValue) (k : ℕ) (x : Kind) (n : ℕ) → meets (bits_below m k n) (mask_of x) ≡ is_there (first_below (λ p. fits x (cell_of m k p)) n)
+unfolding bits_below first_below
+tell_below m k x zero = ap (λ z. not (eqb z 0)) (and_zero_l (mask_of x))
+tell_below m k x (suc n) =
+    meets-more (bits_below m k n) (mask_of x) (cell_bit (cell_of m k n)) ∙ rw (tell_below m k x n, mask-fits x (cell_of m k n)) (sym (there-more (first_below (λ p. fits x (cell_of m k p)) n) n (fits x (cell_of m k n))))
+
+-- the bits of a key tell whether it has a cell of the kind
+pub bits_tell : (m : MapValue) (k : ℕ) (x : Kind) → not (eqb (bit_and (bits_of m k) (mask_of x)) 0) ≡ is_there (first_place m x k)
+unfolding first_place
+bits_tell m k x = tell_below m k x (place_count m)
+
+pub bits_below-start : (m : MapValue) (k : ℕ) → bits_below m k 0 ≡ 0
+unfolding bits_below
+bits_below-start m k = refl
+
+shl-one : (i : ℕ) → i < 15 → 1 * 2 ^ i % 2 ^ 16 ≡ 2 ^ i
+shl-one i lt = let lt16 : i < 16 = omega (arith, lt) in let p : 2 ^ i < 2 ^ 16 = pow-lt lt16 in rw (one-mul (2 ^ i)) (mod-eq_of_lt p)
+
+pub bits_below-more : (m : MapValue) (k n : ℕ) → bit_or (bits_below m k n) (1 * 2 ^ cell_bit (cell_of m k n) % 2 ^ 16) ≡ bits_below m k (n + 1)
+unfolding bits_below
+bits_below-more m k n = rw (shl-one (cell_bit (cell_of m k n)) (cell_bit-lt (cell_of m k n)), add-one) refl

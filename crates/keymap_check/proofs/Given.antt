@@ -1,0 +1,29 @@
+-- What holds of the demonstration that is given, if there is one.
+use Rattle.std.proofs.Common.{◌≡◌, ℕ, List, Option, Some, None, refl, sym, ◌∙◌}
+use Rattle.std.specs.Prelude.{IfSome, IsSome, IsNone, option_map, reverse}
+use Rattle.keymap_core.specs.declared.action.Modifier.{Modifier}
+use Rattle.keymap_core.specs.Maps.{MapValue}
+use Rattle.console_core.specs.declared.event.Event.{Event}
+use Rattle.console_core.specs.History.{IsQuiet}
+use Rattle.console_core.specs.Traps.{HasNoLocks, HasNoTrap}
+use Rattle.keymap_check.specs.Scripts.{leaves_modifier_on, demonstration_of}
+use Rattle.keymap_check.specs.Shown.{HasShownTrap}
+use Rattle.keymap_check.proofs.Quiet.{given-quiet}
+use Rattle.keymap_check.proofs.Shown.{shown_traps_are_demonstrated}
+use Rattle.keymap_check.proofs.Trapless.{none_given}
+
+none_some : {A : Type 0} (x : A) → None ≡ Some x → ⊥
+none_some x e = cc
+
+module _ {S : Type 0} (items : S → List Event) (m : MapValue) where
+  pub is_quiet : (o : Option S) → option_map items o ≡ demonstration_of m → IfSome o (λ s. IsQuiet (reverse (items s)))
+  is_quiet None e = tt
+  is_quiet (Some s) e = given-quiet m (leaves_modifier_on m) (items s) (sym e)
+
+  pub is_shown : (o : Option S) → option_map items o ≡ demonstration_of m → (i : Modifier) (k : ℕ) → HasShownTrap m i k → IsSome o
+  is_shown None e i k trap = absurd (shown_traps_are_demonstrated m i k trap (sym e))
+  is_shown (Some s) e i k trap = refl
+
+  pub is_none : (o : Option S) → option_map items o ≡ demonstration_of m → HasNoLocks m → ((i : Modifier) → HasNoTrap m i) → IsNone o
+  is_none None e locks free = refl
+  is_none (Some s) e locks free = absurd (none_some (items s) (sym (none_given m locks free) ∙ sym e))

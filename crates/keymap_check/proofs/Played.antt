@@ -1,0 +1,88 @@
+-- What is left of a script once modifiers are off, and its events with the newest first.
+use Prim.Native.Nat.{zero, suc}
+use Rattle.std.proofs.Common.{◌≡◌, ℕ, ◌+◌, Bool, true, false, ◌&&◌, ◌||◌, not, List, [], ◌∷◌, ◌++◌, Option, Some, None, refl, ap, sym, ◌∙◌, if◌then◌else◌}
+use Rattle.std.specs.Prelude.{reverse}
+use Rattle.std.proofs.lemmas.Bool.{true≢false}
+use Rattle.std.proofs.lemmas.List.{reverse-append, append-nil}
+use Rattle.keymap_core.specs.declared.action.Modifier.{Modifier}
+use Rattle.keymap_core.specs.declared.action.Modifier.TheVariants.{LeftShift, RightShift, LeftControl, RightControl, LeftAlt, RightAlt, AltShift, Meta}
+use Rattle.keymap_core.specs.declared.action.Holding.TheVariants as holding
+use Rattle.console_core.specs.declared.event.Event.{Event}
+use Rattle.console_core.specs.declared.event.Event.TheVariants.{Press, Release}
+use Rattle.console_core.specs.History.{Maps, On, resolved}
+use Rattle.console_core.proofs.OneMore.{resolved-more, held-release}
+use Rattle.console_core.proofs.Deliveries.{reverse-push}
+use Rattle.keymap_check.specs.Below.{gathered}
+use Rattle.keymap_check.specs.Scripts.{event_if, event_at, is_chosen, bit_key_at, events_of, start_of, script, is_some_on}
+use Rattle.keymap_check.proofs.Counting.{gathered-none, gathered-more}
+
+-- the events of a script, the newest first
+pub played : (keys : List (Option ℕ)) (k a b : ℕ) → reverse (script keys k a b) ≡ reverse (events_of false keys b 0) ++ (Release k ∷ Press k ∷ (reverse (events_of true keys b a) ++ (reverse (events_of false keys a b) ++ reverse (start_of keys k a))))
+played keys k a b =
+    reverse-append (((start_of keys k a ++ events_of false keys a b) ++ events_of true keys b a) ++ Press k ∷ Release k ∷ []) (events_of false keys b 0)
+    ∙ ap (λ h. reverse (events_of false keys b 0) ++ h) (
+    reverse-append ((start_of keys k a ++ events_of false keys a b) ++ events_of true keys b a) (Press k ∷ Release k ∷ [])
+    ∙ ap (λ h. Release k ∷ Press k ∷ h) (
+    reverse-append (start_of keys k a ++ events_of false keys a b) (events_of true keys b a)
+    ∙ ap (λ h. reverse (events_of true keys b a) ++ h) (reverse-append (start_of keys k a) (events_of false keys a b))
+    )
+    )
+
+pub start_played : (keys : List (Option ℕ)) (k a : ℕ) → Press k ∷ (reverse (events_of true keys a 0) ++ []) ≡ reverse (start_of keys k a)
+start_played keys k a = sym (reverse-push (Press k) (events_of true keys a 0) []) ∙ append-nil (reverse (start_of keys k a))
+
+-- one bit more
+pub one_more : (f : ℕ → List Event) (n : ℕ) (e : Event) (h : List Event) → f n ≡ e ∷ [] → e ∷ (reverse (gathered f n) ++ h) ≡ reverse (gathered f (n + 1)) ++ h
+one_more f n e h is = sym (ap (λ xs. reverse xs ++ h) (gathered-more f n ∙ ap (λ ys. gathered f n ++ ys) is) ∙ reverse-push e (gathered f n) h)
+
+pub none_more : (f : ℕ → List Event) (n : ℕ) (h : List Event) → f n ≡ [] → reverse (gathered f n) ++ h ≡ reverse (gathered f (n + 1)) ++ h
+none_more f n h is = sym (ap (λ xs. reverse xs ++ h) (gathered-more f n ∙ ap (λ ys. gathered f n ++ ys) is ∙ append-nil (gathered f n)))
+
+-- a release turns no modifier on
+off_and : (b c : Bool) → b ≡ false → (b && c) ≡ false
+off_and b c e = rw e refl
+
+stays-off : (ms : Maps) (h : List Event) (j : ℕ) (i : Modifier) → On ms i h ≡ false → On ms i (Release j ∷ h) ≡ false
+stays-off ms h j i e =
+    rw (resolved-more ms h (Release j), held-release (holding.Mod i) j (resolved ms h)) (off_and (On ms i h) _ e)
+
+none_of : (a b c d e f g h : Bool) → (a || b || c || d || e || f || g || h) ≡ false
+    → (a ≡ false) × (b ≡ false) × (c ≡ false) × (d ≡ false) × (e ≡ false) × (f ≡ false) × (g ≡ false) × (h ≡ false)
+none_of true b c d e f g h q = absurd (true≢false q)
+none_of false true c d e f g h q = absurd (true≢false q)
+none_of false false true d e f g h q = absurd (true≢false q)
+none_of false false false true e f g h q = absurd (true≢false q)
+none_of false false false false true f g h q = absurd (true≢false q)
+none_of false false false false false true g h q = absurd (true≢false q)
+none_of false false false false false false true h q = absurd (true≢false q)
+none_of false false false false false false false h q = (refl, refl, refl, refl, refl, refl, refl, q)
+
+pub released : (ms : Maps) (h : List Event) (j : ℕ) → is_some_on ms h ≡ false → is_some_on ms (Release j ∷ h) ≡ false
+released ms h j e =
+    let off = none_of (On ms LeftShift h) (On ms RightShift h) (On ms LeftControl h) (On ms RightControl h) (On ms LeftAlt h)
+    (On ms RightAlt h) (On ms AltShift h) (On ms Meta h) e in
+    rw (
+      stays-off ms h j LeftShift off.0,
+      stays-off ms h j RightShift off.1,
+      stays-off ms h j LeftControl off.2,
+      stays-off ms h j RightControl off.3,
+      stays-off ms h j LeftAlt off.4,
+      stays-off ms h j RightAlt off.5,
+      stays-off ms h j AltShift off.6,
+      stays-off ms h j Meta off.7,
+    ) refl
+
+-- nor do the releases of the keys of a set
+one_release : (ms : Maps) (xs h : List Event) (t : Bool) (o : Option ℕ) → is_some_on ms (reverse xs ++ h) ≡ false → is_some_on ms (reverse (xs ++ (if t then event_if false o else [])) ++ h) ≡ false
+one_release ms xs h true None e = rw append-nil e
+one_release ms xs h true (Some j) e = rw (reverse-push (Release j) xs h) (released ms (reverse xs ++ h) j e)
+one_release ms xs h false o e = rw append-nil e
+
+releases_below : (ms : Maps) (h : List Event) (keys : List (Option ℕ)) (set except n : ℕ) → is_some_on ms h ≡ false → is_some_on ms (reverse (gathered (event_at false keys set except) n) ++ h) ≡ false
+unfolding gathered
+releases_below ms h keys set except zero e = e
+releases_below ms h keys set except (suc n) e =
+    one_release ms (gathered (event_at false keys set except) n) h (is_chosen set except n) (bit_key_at keys n) (releases_below ms h keys set except n e)
+
+pub stays_off : (ms : Maps) (h : List Event) (keys : List (Option ℕ)) (set except : ℕ) → is_some_on ms h ≡ false → is_some_on ms (reverse (events_of false keys set except) ++ h) ≡ false
+stays_off ms h keys set except e = releases_below ms h keys set except 4 e

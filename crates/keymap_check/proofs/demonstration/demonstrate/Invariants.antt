@@ -1,8 +1,0 @@
-use Rattle.std.proofs.Common.{◌≡◌, None}
-use Rattle.keymap_check.specs.Below.{gathered}
-use Rattle.std.specs.Prelude.{find}
-use Rattle.keymap_check.specs.Scripts.{leaves_modifier_on, tried_at}
-use Rattle.keymap_check.proofs.demonstration.demonstrate.Given as goal
-
-abbrev pub invariant-loop-key : goal.invariant-loop-key
-invariant-loop-key l = find (leaves_modifier_on l.map) (gathered (tried_at l.map) l.key) ≡ None

@@ -1,0 +1,30 @@
+use Rattle.std.proofs.Common.{◌∷◌, ◌++◌, List, sym, ◌∙◌}
+use Rattle.std.specs.Prelude.{reverse}
+use Rattle.console_core.specs.declared.event.Event.{Event}
+use Rattle.console_core.specs.declared.event.Event.TheVariants.{Press, Release}
+use Rattle.console_core.specs.History.{between}
+use Rattle.keymap_check.specs.Scripts.{events_of, start_of}
+use Rattle.keymap_check.proofs.Played.{played, stays_off}
+use Rattle.keymap_check.proofs.demonstration.leaves_modifier_on.Goals as goal
+
+pub returns-then-is_any_on : goal.returns-then-is_any_on
+returns-then-is_any_on c m started =
+    rw (played c.args.keys.now c.args.key c.args.a c.args.b)
+    (c.is_any_on-then-is_any_on.ensures (between m m) _
+    (c.deliver-then-is_any_on.ensures (between m m) _
+    (c.step-2.ensures.next (between m m) _
+    (c.step.ensures.next (between m m) _
+    (c.deliver-2.ensures (between m m) _
+    (c.deliver.ensures (between m m) _ (c.copied-console.ensures (between m m) _ started)))))))
+
+pub returns-else-is_any_on : goal.returns-else-is_any_on
+returns-else-is_any_on c m started =
+    let on =
+    c.is_any_on.ensures (between m m) _
+    (c.step-2.ensures.next (between m m) _
+    (c.step.ensures.next (between m m) _
+    (c.deliver-2.ensures (between m m) _
+    (c.deliver.ensures (between m m) _ (c.copied-console.ensures (between m m) _ started)))))
+    in
+    rw (played c.args.keys.now c.args.key c.args.a c.args.b)
+    (sym (stays_off (between m m) _ c.args.keys.now c.args.b 0 (sym on ∙ c.if-is_any_on.false)))

@@ -1,0 +1,14 @@
+use Rattle.std.proofs.Common.{◌&&◌, ap, sym, ◌∙◌}
+use Rattle.keymap_check.specs.declared.kind.Kind.TheVariants as kind
+use Rattle.keymap_check.specs.Cells.{first_place}
+use Rattle.keymap_check.specs.Computed.{is_there}
+use Rattle.keymap_check.proofs.Found.{found}
+use Rattle.keymap_check.proofs.finding.is_found.Goals as goal
+
+pub returns-then-has : goal.returns-then-has
+returns-then-has c =
+    c.has-then-has.ensures
+    ∙ sym (
+    found c.args.survey.now c.args.key
+    ∙ ap (λ b. b && is_there (first_place c.args.survey.now kind.Character c.args.key)) (sym c.has.ensures ∙ c.if-has.true)
+    )

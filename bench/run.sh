@@ -20,9 +20,29 @@ cd "$folder" || exit 1
 # The largest text and script that the program reads.
 limit=1048576
 
-# make_text SIZE: the lines of the keymap over and over, as long as they fit
-make_text() {
-    grep -v '^#' "$keymap" | awk -v size="$1" '
+# wide: the lines of the keymap, in columns
+wide() {
+    grep -v '^#' "$keymap"
+}
+
+# tight: the same with one blank between words, and numbers in place of quoted characters
+tight() {
+    wide | awk '
+        BEGIN {
+            for (i = 32; i < 127; i++)
+                number[sprintf("%c", i)] = sprintf("0x%04x", i)
+        }
+        {
+            while (match($0, /\047.\047/))
+                $0 = substr($0, 1, RSTART - 1) number[substr($0, RSTART + 1, 1)] substr($0, RSTART + 3)
+            $1 = $1
+            print
+        }'
+}
+
+# repeated SIZE: the lines of the input over and over, as long as they fit
+repeated() {
+    awk -v size="$1" '
         { line[NR] = $0 }
         END {
             for (i = 0; (used += length(line[i % NR + 1]) + 1) <= size; i++)
@@ -107,24 +127,26 @@ growth() {
         'BEGIN { printf "cost times %.2f where the size is times %.2f", (b - f) / (a - f), n / m }'
 }
 
-make_text $((limit / 10)) > text.tenth
-make_text $limit > text.whole
 make_script $((limit / 10)) > script.tenth
 make_script $limit > script.whole
 : > empty
 
-bytes_tenth=$(wc -c < text.tenth)
-bytes_whole=$(wc -c < text.whole)
 events_tenth=$(wc -l < script.tenth)
 events_whole=$(wc -l < script.whole)
 
 fixed=$(cost check empty)
-tenth=$(cost check text.tenth)
-whole=$(cost check text.whole)
-echo "text of $bytes_tenth and of $bytes_whole bytes, checked:"
-echo "  $(per "$tenth" "$fixed" "$bytes_tenth") and $(per "$whole" "$fixed" "$bytes_whole") $unit a byte;" \
-    "$(growth "$tenth" "$whole" "$fixed" "$bytes_tenth" "$bytes_whole")"
-echo "  $(calls check text.tenth) and $(calls check text.whole) system calls ($(calls check empty) on an empty text)"
+for text in wide tight; do
+    $text | repeated $((limit / 10)) > text.tenth
+    $text | repeated $limit > text.whole
+    bytes_tenth=$(wc -c < text.tenth)
+    bytes_whole=$(wc -c < text.whole)
+    tenth=$(cost check text.tenth)
+    whole=$(cost check text.whole)
+    echo "$text text of $bytes_tenth and of $bytes_whole bytes, checked:"
+    echo "  $(per "$tenth" "$fixed" "$bytes_tenth") and $(per "$whole" "$fixed" "$bytes_whole") $unit a byte;" \
+        "$(growth "$tenth" "$whole" "$fixed" "$bytes_tenth" "$bytes_whole")"
+    echo "  $(calls check text.tenth) and $(calls check text.whole) system calls ($(calls check empty) on an empty text)"
+done
 
 for show in '' --typed; do
     # The flag is left out where it is empty.

@@ -1,9 +1,10 @@
 -- A text that is read from a device, piece by piece.
-use Rattle.std.proofs.Common.{◌≡◌, ℕ, zero, suc, ◌+◌, ◌≤◌, ◌<◌, ◌||◌, Bool, List, [], ◌∷◌, ◌++◌, length, take, refl, sym, ◌∙◌, ap, subst, arith, Option, Some, None, Result, Ok, Err, length-append, append-nil}
+use Rattle.std.proofs.Common.{◌≡◌, ℕ, zero, suc, ◌+◌, ◌≤◌, ◌<◌, ◌||◌, Bool, List, [], ◌∷◌, ◌++◌, length, take, refl, sym, ◌∙◌, ap, subst, arith, Option, Some, None, Result, Ok, Err, length-append, append-nil, IfErr}
 use mathlib.Core.Logic.{inl, inr}
 use Rattle.std.specs.Io.KnownBytes.{Consumes, IsAtEnd, Keeps}
 use Rattle.std.proofs.KnownBytes.{Consumes-trans, Consumes-kept, Consumes-nil}
 use Rattle.keymap_core.specs.Maps.{MapValue}
+use Rattle.keymap_core.specs.declared.transfer.ReadFault.{ReadFault}
 use Rattle.keymap_core.specs.declared.transfer.ReadFaultKind.TheVariants as kinds
 use Rattle.keymap_text.specs.declared.fault.TextError.{TextError}
 use Rattle.keymap_text.specs.declared.fault.TextError.TheVariants as errors
@@ -13,7 +14,7 @@ use Rattle.keymap_text.specs.Reading.{verdict, judge, Spelled}
 use Rattle.keymap_text.specs.Lexical.{split}
 use Rattle.keymap_text.specs.Grammar.{empty_map, at_end}
 use Rattle.keymap_text.specs.Standing.{StandsAfter, FedAfter, Concludes}
-use Rattle.keymap_text.specs.Sources.{limit, HasNoEarlyFault, TakesWhole, FailsInside, GoesPast, ReadsMap, names_device}
+use Rattle.keymap_text.specs.Sources.{limit, HasNoEarlyFault, TakesWhole, FailsInside, GoesPast, ReadsMap, StopsAtOnce, names_device}
 use Rattle.keymap_text.proofs.Verdicts.{spells_from, fault_or_map}
 
 -- The reader stands after the bytes that the device gave, which have no early fault.
@@ -96,3 +97,16 @@ fed_past {a = a} {b = b} {n = n} c buffer fed full z l s h =
       offset = refl;
       sound = fed.sound;
     }
+
+-- nothing is read after a fault
+pub at_once_more : {a b c : Option (List ℕ)} {r : Progress} {taken n : ℕ} → (f : TextFault) → (buffer : List ℕ) → (fed : IsFed a b r taken) → Consumes b c (take n buffer) → n ≤ length buffer → n ≤ 512 → StopsAtOnce a c (errors.Fault f)
+at_once_more {a = a} {b = b} {c = c} {n = n} f buffer fed h l few = record { before = fed.text; last = take n buffer; taken = Consumes-trans a b c _ _ fed.consumed h; few = omega (arith, piece_length n buffer l, few); sound = fed.sound }
+
+pub at_once_whole : {a b : Option (List ℕ)} {r : Progress} {taken n : ℕ} → (c : Option (List ℕ)) → (buffer : List ℕ) → (result : Result MapValue TextError) → (fed : IsFed a b r taken) → n ≡ 0 → Consumes b c (take n buffer) → IfErr result (StopsAtOnce a c)
+at_once_whole c buffer (Ok m) fed z h = tt
+at_once_whole c buffer (Err errors.Memory) fed z h = tt
+at_once_whole c buffer (Err (errors.Read f)) fed z h = tt
+at_once_whole {a = a} {b = b} {n = n} c buffer (Err (errors.Fault f)) fed z h = record { before = fed.text; last = []; taken = Consumes-trans a b c _ _ fed.consumed (none_taken b c n buffer z h); few = omega arith; sound = fed.sound }
+
+pub at_once_read : (a c : Option (List ℕ)) (e : TextError) (f : ReadFault) → e ≡ errors.Read f → StopsAtOnce a c e
+at_once_read a c e f h = subst (λ (e : TextError). StopsAtOnce a c e) (sym h) tt

@@ -1,5 +1,5 @@
 -- What taking a whole token or a row of blanks makes of the rest of a text.
-use Rattle.std.proofs.Common.{◌≡◌, ℕ, zero, suc, ◌+◌, ◌<◌, ◌≤◌, Bool, true, false, List, [], ◌∷◌, ◌++◌, length, take, drop, get_or, refl, sym, ◌∙◌, ap, subst, arith, Ok, Err, ne_eqb, ◌-◌, ap₂, append_assoc, length-drop, drop-cons}
+use Rattle.std.proofs.Common.{◌≡◌, ℕ, zero, suc, ◌+◌, ◌<◌, ◌≤◌, Bool, true, false, List, [], ◌∷◌, ◌++◌, length, take, drop, get_or, refl, sym, ◌∙◌, ap, subst, arith, Ok, Err, ne_eqb, ◌-◌, ap₂, append_assoc, append-nil, length-drop, drop-cons}
 use Rattle.std.proofs.lemmas.List.{drop-drop, take-append-drop, drop_all}
 use Rattle.std.proofs.Math.Seq.{take-add}
 use Rattle.std.proofs.lemmas.Bool.Decides.{nat_tests}
@@ -274,3 +274,32 @@ stands_byte start old new piece i s t r f l = stands_more start old new piece _ 
 
 pub byte_refused : (start old : Scanner) (piece : List ℕ) (i : ℕ) (e : TextFault) → Stands start old piece i × (i < length piece) → ((x : List ℕ) → resume old (get_or piece i 0 ∷ x) ≡ Faulty e.kind e.offset true) → IsPending e old → Refuses start piece e
 byte_refused start old piece i e s t p = stands_refused start old piece _ i e s.0 refl (byte_refuses old _ (get_or piece i 0) e (behind_some piece i s.1) (behind_first piece i s.1) t p)
+
+pub byte_in_front : (old new : Scanner) (rest : List ℕ) → 0 < length rest → ((x : List ℕ) → resume old (get_or rest 0 0 ∷ x) ≡ resume new x) → IsReader new → new.offset + length new.pending.items ≡ old.offset + length old.pending.items + 1 → Forward old new (get_or rest 0 0) → Advances old new rest 1
+byte_in_front old new rest h t r f l = byte_advances old new rest (get_or rest 0 0) h refl t r f l
+
+-- nothing was taken
+pub stays : (r : Scanner) (rest : List ℕ) → IsReader r → Advances r r rest 0
+stays r rest h = record {
+  takes = λ x. refl;
+  reader = h;
+  fed = omega arith;
+  inside = omega arith;
+  line = λ b l. subst (λ (t : List ℕ). Lined r t) (sym (append-nil b)) l;
+}
+
+-- one after the other
+starts : (old mid : Scanner) (rest : List ℕ) (n : ℕ) → Advances old mid rest n → Stands old mid rest n
+starts old mid rest n a = record { inside = a.inside; rest = a.takes; reader = a.reader; fed = a.fed; line = a.line }
+
+pub advances_on : (old mid new : Scanner) (rest behind : List ℕ) (n m : ℕ) → Advances old mid rest n → behind ≡ take (length rest - n) (drop n rest) → Advances mid new behind m → Advances old new rest (n + m)
+advances_on old mid new rest behind n m a e b =
+    let s = stands_more old mid new rest behind n m (starts old mid rest n a) e b in
+    record { takes = s.rest; reader = s.reader; fed = s.fed; inside = s.inside; line = s.line }
+
+pub refuses_on : (old mid : Scanner) (rest behind : List ℕ) (n : ℕ) (e : TextFault) → Advances old mid rest n → behind ≡ take (length rest - n) (drop n rest) → Refuses mid behind e → Refuses old rest e
+refuses_on old mid rest behind n e a k r = stands_refused old mid rest behind n e (starts old mid rest n a) k r
+
+-- nothing was taken from a piece
+pub stands_still : (start old new : Scanner) (piece rest : List ℕ) (i n : ℕ) → Stands start old piece i → rest ≡ take (length piece - i) (drop i piece) → Advances old new rest n → n ≡ 0 → i < length piece → Stands start new piece i × (i < length piece)
+stands_still start old new piece rest i n s e a z h = (subst (λ (k : ℕ). Stands start new piece k) (omega (arith, z)) (stands_more start old new piece rest i n s e a), h)

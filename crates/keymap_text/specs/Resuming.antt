@@ -106,3 +106,8 @@ pub record Fronts (rest : List ℕ) (i : Item) (n : ℕ) : Type 0 where
   pub some : 0 < n
   pub inside : n ≤ length rest
   pub one_line : count_by (λ c. c == 10) (take n rest) ≡ 0
+
+-- What taking bytes in front did: so many were taken, or there is a fault at the place that was reached.
+abbrev pub Took : Result ℕ TextFaultKind → Scanner → Scanner → List ℕ → Type 0
+Took (Ok n) old new rest = Advances old new rest n
+Took (Err f) old new rest = (e : TextFault) → e.kind ≡ f → e.offset ≡ new.offset → e.line ≡ new.line → Refuses old rest e

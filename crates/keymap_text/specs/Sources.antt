@@ -1,5 +1,5 @@
 -- What reading a text from a device answers, by the bytes that the device had left before and has left after.
-use Rattle.std.specs.Prelude.{◌≡◌, ℕ, ◌≤◌, List, [], ◌∷◌, ◌++◌, length, Option, Result, Ok, Err, Bool, true, false, ◌⊎◌}
+use Rattle.std.specs.Prelude.{◌≡◌, ℕ, ◌≤◌, List, [], ◌∷◌, ◌++◌, length, Option, Result, Ok, Err, Bool, true, false, ◌⊎◌, ⊤}
 use Rattle.std.specs.Io.KnownBytes.{Consumes, IsAtEnd, Keeps}
 use Rattle.keymap_core.specs.Maps.{MapValue}
 use Rattle.keymap_core.specs.declared.transfer.ReadFault.{ReadFault}
@@ -55,6 +55,20 @@ ReadsMap old new (Ok m) = (text : List ℕ) × TakesWhole old new text × Spells
 ReadsMap old new (Err errors.Memory) = Keeps old new
 ReadsMap old new (Err (errors.Read f)) = StopsReading old new f f.kind
 ReadsMap old new (Err (errors.Fault f)) = (text : List ℕ) × ((TakesText old new text × Early text f) ⊎ (TakesWhole old new text × Fault text f))
+
+-- These bytes were taken, the last of them by one read, and those before have no early fault.
+pub record TakesOneMore (old new : Option (List ℕ)) : Type 0 where
+  pub before : List ℕ
+  pub last : List ℕ
+  pub taken : Consumes old new (before ++ last)
+  pub few : length last ≤ 512
+  pub sound : HasNoEarlyFault before
+
+-- After a read that showed a fault nothing was read.
+abbrev pub StopsAtOnce : Option (List ℕ) → Option (List ℕ) → TextError → Type 0
+StopsAtOnce old new errors.Memory = ⊤
+StopsAtOnce old new (errors.Read f) = ⊤
+StopsAtOnce old new (errors.Fault f) = TakesOneMore old new
 
 -- whether the answer is that the device failed
 abbrev pub is_device : ReadFaultKind → Bool

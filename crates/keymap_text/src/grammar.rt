@@ -171,8 +171,9 @@ impl Grammar {
         Ok(())
     }
 
+    /// Takes the next token, where a cell is wanted. After an `Err` the value is of no use.
     #[inline(always)]
-    fn cell(&mut self, slot: u8, index: u8, item: &Item) -> Result<(), TextFaultKind>
+    pub(crate) fn cell(&mut self, slot: u8, index: u8, item: &Item) -> Result<(), TextFaultKind>
         requires { index < 8 }
         ensures steps { Steps result (spec.step self.old.map (spec.CellAt slot index self.old.entry) item.now) (state_view self.new) }
         ensures place { OnOk result (IsPlace self.new.place self.new.accent) }

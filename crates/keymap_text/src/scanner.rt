@@ -1,10 +1,10 @@
 //! Reading a text byte by byte.
-ghost use Rattle.std.specs.Prelude.{◌≡◌, ℕ, ◌+◌, ◌<◌, ◌≤◌, ◌^◌, ◌∷◌, ◌++◌, [], List, length, take, OnOk, IfSome, IfErr, MatchResult, Ok, Err, drop, cond, ◌==◌};
+ghost use Rattle.std.specs.Prelude.{◌≡◌, ℕ, ◌+◌, ◌<◌, ◌≤◌, ◌^◌, ◌∷◌, ◌++◌, [], List, length, take, OnOk, IfSome, IfErr, Ok, Err, drop, cond, ◌==◌};
 ghost use Rattle.keymap_text.specs.Lexical.{literal, leading, is_word};
 ghost use Rattle.keymap_text.specs.Reading.{verdict, ended, line};
 ghost use Rattle.keymap_text.specs.Words.{item, meaning};
-ghost use Rattle.keymap_text.specs.Views.{state_view, front_view, FoundFits, IsPlace, Steps};
-ghost use Rattle.keymap_text.specs.Resuming.{resume, Takes, Advances, Fronts, IsReader, Accepts, HasNoRole, Says, Forward, IsPending, Lined, line_feed};
+ghost use Rattle.keymap_text.specs.Views.{state_view, front_view, FoundFits, IsPlace};
+ghost use Rattle.keymap_text.specs.Resuming.{resume, Takes, Advances, Fronts, IsReader, Accepts, HasNoRole, Says, Forward, IsPending, Lined, Took, line_feed};
 ghost use Rattle.keymap_text.specs.Grammar as spec;
 
 use crate::fault::{TextFault, TextFaultKind};
@@ -363,26 +363,97 @@ impl Scanner {
         self.offset += 1;
     }
 
-    /// Takes a whole token of n bytes, where nothing is pending.
+    /// Takes the token in front, where the bytes show that it is whole. Answers how many bytes it has, else 0.
     #[inline(always)]
-    #[tactic(auto, unfolding(crate::specs::Grammar::accept))]
-    fn token(&mut self, item: &Item, n: usize) -> Result<(), TextFaultKind>
+    fn token(&mut self, rest: &[u8]) -> Result<usize, TextFaultKind>
         requires reader { IsReader self.old }
         requires mode { self.old.mode ≡ Mode.Between }
-        requires room { self.old.offset + n < 2 ^ 63 }
-        ensures steps { Steps result (spec.accept (state_view self.old.grammar) item.now) (state_view self.new.grammar) }
-        ensures reader { OnOk result (IsReader self.new) }
-        ensures offset { MatchResult result (λ _. self.new.offset ≡ self.old.offset + n) (λ _. self.new.offset ≡ self.old.offset) }
-        ensures line { self.new.line ≡ self.old.line }
-        ensures mode { self.new.mode ≡ self.old.mode }
-        ensures pending { self.new.pending.items ≡ self.old.pending.items }
+        requires some { 0 < length rest.now }
+        requires room { self.old.offset + length self.old.pending.items + length rest.now < 2 ^ 63 }
+        ensures { Took result self.old self.new rest.now }
     {
-        match self.grammar.accept(item) {
-            Ok(()) => {
-                self.offset += n as u64;
-                Ok(())
-            }
+        match whole_token(rest) {
+            None => Ok(0),
+            Some((item, n)) => match self.grammar.accept(&item) {
+                Ok(()) => {
+                    self.offset += n as u64;
+                    Ok(n)
+                }
+                Err(kind) => Err(kind),
+            },
+        }
+    }
+
+    /// The same where the token is wanted as a cell, as most are.
+    #[inline(always)]
+    fn cell(&mut self, slot: u8, index: u8, rest: &[u8]) -> Result<usize, TextFaultKind>
+        requires reader { IsReader self.old }
+        requires mode { self.old.mode ≡ Mode.Between }
+        requires place { self.old.grammar.place ≡ Place.Cell slot index }
+        requires index { index < 8 }
+        requires some { 0 < length rest.now }
+        requires room { self.old.offset + length self.old.pending.items + length rest.now < 2 ^ 63 }
+        ensures { Took result self.old self.new rest.now }
+    {
+        match whole_token(rest) {
+            None => Ok(0),
+            Some((item, n)) => match self.grammar.cell(slot, index, &item) {
+                Ok(()) => {
+                    self.offset += n as u64;
+                    Ok(n)
+                }
+                Err(kind) => Err(kind),
+            },
+        }
+    }
+
+    /// Takes the end of a line or a whole token in front.
+    #[inline(always)]
+    fn after_spaces(&mut self, rest: &[u8]) -> Result<usize, TextFaultKind>
+        requires reader { IsReader self.old }
+        requires mode { self.old.mode ≡ Mode.Between }
+        requires some { 0 < length rest.now }
+        requires room { self.old.offset + length self.old.pending.items + length rest.now < 2 ^ 63 }
+        ensures { Took result self.old self.new rest.now }
+    {
+        if rest[0] == b'\n' {
+            self.end_line();
+            return Ok(1);
+        }
+        match self.grammar.place {
+            Place::Cell { slot, index } => self.cell(slot, index, rest),
+            _ => self.token(rest),
+        }
+    }
+
+    /// Takes blanks and what is behind them, as far as that is the end of a line or a whole token.
+    #[inline(always)]
+    fn between(&mut self, rest: &[u8]) -> Result<usize, TextFaultKind>
+        requires reader { IsReader self.old }
+        requires mode { self.old.mode ≡ Mode.Between }
+        requires room { self.old.offset + length self.old.pending.items + length rest.now < 2 ^ 63 }
+        ensures { Took result self.old self.new rest.now }
+    {
+        let n = self.spaces(rest);
+        if n == rest.len() {
+            return Ok(n);
+        }
+        match self.after_spaces(&rest[n..]) {
+            Ok(m) => Ok(n + m),
             Err(kind) => Err(kind),
+        }
+    }
+
+    /// Takes as much in front as is seen at once, where that is anything. A fault is one at the place that is reached.
+    #[inline(always)]
+    fn front(&mut self, rest: &[u8]) -> Result<usize, TextFaultKind>
+        requires reader { IsReader self.old }
+        requires room { self.old.offset + length self.old.pending.items + length rest.now < 2 ^ 63 }
+        ensures { Took result self.old self.new rest.now }
+    {
+        match self.mode {
+            Mode::Between => self.between(rest),
+            _ => Ok(0),
         }
     }
 
@@ -398,27 +469,13 @@ impl Scanner {
     {
         let mut i = 0;
         while i < piece.len() {
-            if let Mode::Between = self.mode {
-                i += self.spaces(&piece[i..]);
-                if i == piece.len() {
-                    return Ok(());
-                }
-                if piece[i] == b'\n' {
-                    self.end_line();
-                    i += 1;
-                    continue;
-                }
-                if let Some((item, n)) = whole_token(&piece[i..]) {
-                    match self.token(&item, n) {
-                        Ok(()) => i += n,
-                        Err(kind) => return Err(fault(kind, self.offset, self.line)),
-                    }
-                    continue;
-                }
-            }
-            match self.take(piece[i]) {
-                Ok(()) => i += 1,
-                Err(f) => return Err(f),
+            match self.front(&piece[i..]) {
+                Err(kind) => return Err(fault(kind, self.offset, self.line)),
+                Ok(0) => match self.take(piece[i]) {
+                    Ok(()) => i += 1,
+                    Err(fault) => return Err(fault),
+                },
+                Ok(n) => i += n,
             }
         }
         Ok(())

@@ -1,6 +1,6 @@
 //! Reading a text from a device.
-ghost use Rattle.std.specs.Prelude.{◌≡◌, ◌||◌};
-ghost use Rattle.keymap_text.specs.Sources.{ReadsMap, names_device};
+ghost use Rattle.std.specs.Prelude.{◌≡◌, ◌||◌, IfErr};
+ghost use Rattle.keymap_text.specs.Sources.{ReadsMap, StopsAtOnce, names_device};
 
 use crate::fault::TextError;
 use crate::reader::{MapReader, conclude};
@@ -26,6 +26,7 @@ fn read_fault(offset: usize, kind: ReadFaultKind) -> TextError
 /// is allocated. Nothing is read after a fault. At the limit one byte more is asked for.
 pub fn read_from<R: Read>(alloc: Global, reader: &mut R) -> Result<KeyMap, TextError>
     ensures reads { ReadsMap (R.remaining reader.old) (R.remaining reader.new) result }
+    ensures at_once { IfErr result (StopsAtOnce (R.remaining reader.old) (R.remaining reader.new)) }
     ensures failed { R.has_failed reader.new ≡ (names_device result || R.has_failed reader.old) }
 {
     let Ok(mut text) = MapReader::new(alloc) else {

@@ -1,7 +1,7 @@
 use Rattle.std.proofs.Common.{rules, arith, refl, subst, Err, sym}
 use Rattle.keymap_text.specs.declared.fault.TextError.{TextError}
 use Rattle.keymap_text.specs.Sources.{ReadsMap, limit}
-use Rattle.keymap_text.proofs.Feeding.{fed_none, fed_more, fed_early, fed_whole, fed_fails, fed_past, piece_length}
+use Rattle.keymap_text.proofs.Feeding.{fed_none, fed_more, fed_early, fed_whole, fed_fails, fed_past, piece_length, at_once_more, at_once_whole}
 use Rattle.keymap_text.proofs.source.read_from.Goals as goal
 
 pub loop-taken-init : goal.loop-taken-init
@@ -43,3 +43,14 @@ pub returns-in-Err-read-clause-reads : goal.returns-in-Err-read-clause-reads
 returns-in-Err-read-clause-reads g c =
     let fails = fed_fails (g.R.Read.remaining c.read-2.new.self) limit c.loop-taken.invariant.fed (omega arith) c.loop-taken.invariant.within c.in-Err-read.ensures.bytes in
     subst (λ (e : TextError). ReadsMap (g.R.Read.remaining c.args.reader.now) (g.R.Read.remaining c.read-2.new.self) (Err e)) (sym c.read_fault-in-Err-read.ensures) fails
+
+pub returns-in-Ok-eq0-clause-at_once : goal.returns-in-Ok-eq0-clause-at_once
+returns-in-Ok-eq0-clause-at_once g c = at_once_whole _ c.read.new.buffer c.conclude.result c.loop-taken.invariant.fed c.in-Ok-eq0.field-0-test c.in-Ok-eq0.ensures.bytes.0
+
+pub returns-in-Err-feed-clause-at_once : goal.returns-in-Err-feed-clause-at_once
+returns-in-Err-feed-clause-at_once g c =
+    let size = piece_length c.min-room.result c.loop-taken.buffer (omega arith) in
+    at_once_more c.in-Err-feed.fault c.read.new.buffer c.loop-taken.invariant.fed c.in-Ok-read.ensures.bytes.0 c.in-Ok-read.ensures.bound (omega (arith, size, c.in-Ok-read.ensures.bound))
+
+pub returns-in-Ok-eq0-read-clause-at_once : goal.returns-in-Ok-eq0-read-clause-at_once
+returns-in-Ok-eq0-read-clause-at_once g c = at_once_whole _ c.read-2.new.buffer c.conclude-in-Ok-eq0-read.result c.loop-taken.invariant.fed c.in-Ok-eq0-read.field-0-test c.in-Ok-eq0-read.ensures.bytes.0

@@ -58,7 +58,12 @@ holding_index-lt (holding.Mod i) = let lt : modifier_index i < 8 = modifier_inde
 holding_index-lt (holding.Lock l) = let lt : lock_index l < 4 = lock_index-lt l in omega (arith, lt)
 
 -- what the masks with fixed bits tell of a modifier and of a lock
-modifier-bits : (i : Modifier) → (is_set 0x1000 (modifier_index i) ≡ false) × (is_set 0x0fff (modifier_index i) ≡ true) × (is_set 0x3000 (modifier_index i) ≡ false) × (is_set 0x0003 (modifier_index i) ≡ is_of_group group.Shift i) × (is_set 0x000c (modifier_index i) ≡ is_of_group group.Control i) × (is_set 0x0030 (modifier_index i) ≡ is_of_group group.Alt i) × (is_set 0x0040 (modifier_index i) ≡ is_of_group group.AltShift i)
+modifier-bits : (i : Modifier)
+    → (is_set 0x1000 (modifier_index i) ≡ false) × (is_set 0x0fff (modifier_index i) ≡ true)
+    × (is_set 0x3000 (modifier_index i) ≡ false) × (is_set 0x0003 (modifier_index i) ≡ is_of_group group.Shift i)
+    × (is_set 0x000c (modifier_index i) ≡ is_of_group group.Control i)
+    × (is_set 0x0030 (modifier_index i) ≡ is_of_group group.Alt i)
+    × (is_set 0x0040 (modifier_index i) ≡ is_of_group group.AltShift i)
 modifier-bits LeftShift = (refl, refl, refl, refl, refl, refl, refl)
 modifier-bits RightShift = (refl, refl, refl, refl, refl, refl, refl)
 modifier-bits LeftControl = (refl, refl, refl, refl, refl, refl, refl)
@@ -68,7 +73,11 @@ modifier-bits RightAlt = (refl, refl, refl, refl, refl, refl, refl)
 modifier-bits AltShift = (refl, refl, refl, refl, refl, refl, refl)
 modifier-bits Meta = (refl, refl, refl, refl, refl, refl, refl)
 
-lock-bits : (l : Lock) → (is_set 0x1000 (8 + lock_index l) ≡ false) × (is_set 0x0fff (8 + lock_index l) ≡ true) × (is_set 0x3000 (8 + lock_index l) ≡ false) × (is_set 0x0003 (8 + lock_index l) ≡ false) × (is_set 0x000c (8 + lock_index l) ≡ false) × (is_set 0x0030 (8 + lock_index l) ≡ false) × (is_set 0x0040 (8 + lock_index l) ≡ false)
+lock-bits : (l : Lock)
+    → (is_set 0x1000 (8 + lock_index l) ≡ false) × (is_set 0x0fff (8 + lock_index l) ≡ true)
+    × (is_set 0x3000 (8 + lock_index l) ≡ false) × (is_set 0x0003 (8 + lock_index l) ≡ false)
+    × (is_set 0x000c (8 + lock_index l) ≡ false) × (is_set 0x0030 (8 + lock_index l) ≡ false)
+    × (is_set 0x0040 (8 + lock_index l) ≡ false)
 lock-bits Caps = (refl, refl, refl, refl, refl, refl, refl)
 lock-bits Num = (refl, refl, refl, refl, refl, refl, refl)
 lock-bits Scroll = (refl, refl, refl, refl, refl, refl, refl)
@@ -83,16 +92,28 @@ high_same i j true e = let s : i ≡ j = eqb-true i j e in eq-eqb (8 + i) (8 + j
 high_same i j false e = ne_eqb (8 + i) (8 + j) (λ s. eqb-false i j e (omega arith))
 
 holding-bit : (a : Holding) (x : Cell) → is_set (2 ^ holding_index a) (cell_bit x) ≡ is_holding a x
-holding-bit (holding.Mod i) (Char c) = let lt : modifier_index i < 8 = modifier_index-lt i in apart 12 (modifier_index i) (λ e. omega (arith, lt, e))
+holding-bit (holding.Mod i) (Char c) =
+    let lt : modifier_index i < 8 = modifier_index-lt i in apart 12 (modifier_index i) (λ e. omega (arith, lt, e))
 holding-bit (holding.Mod i) (Act (act.Mod j)) = is_set-pow (modifier_index i) (modifier_index j)
-holding-bit (holding.Mod i) (Act (act.Lock l)) = let lt : modifier_index i < 8 = modifier_index-lt i in apart (8 + lock_index l) (modifier_index i) (λ e. omega (arith, lt, e))
-holding-bit (holding.Mod i) (Act act.Nop) = let lt : modifier_index i < 8 = modifier_index-lt i in apart 13 (modifier_index i) (λ e. omega (arith, lt, e))
-holding-bit (holding.Mod i) (Act b) = let lt : modifier_index i < 8 = modifier_index-lt i in apart 14 (modifier_index i) (λ e. omega (arith, lt, e))
-holding-bit (holding.Lock k) (Char c) = let lt : lock_index k < 4 = lock_index-lt k in apart 12 (8 + lock_index k) (λ e. omega (arith, lt, e))
-holding-bit (holding.Lock k) (Act (act.Mod j)) = let lt : modifier_index j < 8 = modifier_index-lt j in apart (modifier_index j) (8 + lock_index k) (λ e. omega (arith, lt, e))
-holding-bit (holding.Lock k) (Act (act.Lock l)) = is_set-pow (8 + lock_index k) (8 + lock_index l) ∙ high_same (lock_index l) (lock_index k) (eqb (lock_index l) (lock_index k)) refl
-holding-bit (holding.Lock k) (Act act.Nop) = let lt : lock_index k < 4 = lock_index-lt k in apart 13 (8 + lock_index k) (λ e. omega (arith, lt, e))
-holding-bit (holding.Lock k) (Act b) = let lt : lock_index k < 4 = lock_index-lt k in apart 14 (8 + lock_index k) (λ e. omega (arith, lt, e))
+holding-bit (holding.Mod i) (Act (act.Lock l)) =
+    let lt : modifier_index i < 8 = modifier_index-lt i in
+    apart (8 + lock_index l) (modifier_index i) (λ e. omega (arith, lt, e))
+holding-bit (holding.Mod i) (Act act.Nop) =
+    let lt : modifier_index i < 8 = modifier_index-lt i in apart 13 (modifier_index i) (λ e. omega (arith, lt, e))
+holding-bit (holding.Mod i) (Act b) =
+    let lt : modifier_index i < 8 = modifier_index-lt i in apart 14 (modifier_index i) (λ e. omega (arith, lt, e))
+holding-bit (holding.Lock k) (Char c) =
+    let lt : lock_index k < 4 = lock_index-lt k in apart 12 (8 + lock_index k) (λ e. omega (arith, lt, e))
+holding-bit (holding.Lock k) (Act (act.Mod j)) =
+    let lt : modifier_index j < 8 = modifier_index-lt j in
+    apart (modifier_index j) (8 + lock_index k) (λ e. omega (arith, lt, e))
+holding-bit (holding.Lock k) (Act (act.Lock l)) =
+    is_set-pow (8 + lock_index k) (8 + lock_index l)
+    ∙ high_same (lock_index l) (lock_index k) (eqb (lock_index l) (lock_index k)) refl
+holding-bit (holding.Lock k) (Act act.Nop) =
+    let lt : lock_index k < 4 = lock_index-lt k in apart 13 (8 + lock_index k) (λ e. omega (arith, lt, e))
+holding-bit (holding.Lock k) (Act b) =
+    let lt : lock_index k < 4 = lock_index-lt k in apart 14 (8 + lock_index k) (λ e. omega (arith, lt, e))
 
 -- all bits but that of a holding action
 cell_bit-lt : (x : Cell) → cell_bit x < 15
@@ -140,7 +161,11 @@ abbrev pub meets : ℕ → ℕ → Bool
 meets bits mask = not (eqb (bit_and bits mask) 0)
 
 set_zero : (n i : ℕ) → is_set n i ≡ false → bit_at n i ≡ 0
-set_zero n i e = elim (two_cases (bit_at n i) (bit_at-lt n i)) [ inl z ↦ z | inr o ↦ absurd (true≢false (sym (ap (λ x. eqb x 1) o) ∙ e)) ]
+set_zero n i e =
+    elim (two_cases (bit_at n i) (bit_at-lt n i)) [
+      | inl z ↦ z
+      | inr o ↦ absurd (true≢false (sym (ap (λ x. eqb x 1) o) ∙ e))
+    ]
 
 or_false : (b : Bool) → (b || false) ≡ b
 or_false true = refl
@@ -152,30 +177,39 @@ or_true false = refl
 
 meets_by : (n mask i : ℕ) (b : Bool) → is_set mask i ≡ b → meets (bit_or n (2 ^ i)) mask ≡ (meets n mask || b)
 meets_by n mask i false e =
-    let z : bit_and (2 ^ i) mask ≡ 0 = and_comm (2 ^ i) mask ∙ and_pow mask i ∙ ap (λ x. x * 2 ^ i) (set_zero mask i e) ∙ zero-mul (2 ^ i) in
+    let z : bit_and (2 ^ i) mask ≡ 0 =
+    and_comm (2 ^ i) mask ∙ and_pow mask i ∙ ap (λ x. x * 2 ^ i) (set_zero mask i e) ∙ zero-mul (2 ^ i) in
     ap (λ x. not (eqb x 0)) (and_or_apart mask n (2 ^ i) z) ∙ sym (or_false (meets n mask))
 meets_by n mask i true e =
     let one : bit_at mask i ≡ 1 = eqb-true (bit_at mask i) 1 e in
-    let here : bit_at (bit_and (bit_or n (2 ^ i)) mask) i ≡ min (max (bit_at n i) 1) 1 = bit_at_and (bit_or n (2 ^ i)) mask i ∙ rw (one, bit_at_or n (2 ^ i) i, bit_at-pow_same i) refl in
-    let ne : bit_and (bit_or n (2 ^ i)) mask ≡ 0 → ⊥ = λ z. let zero_here : bit_at (bit_and (bit_or n (2 ^ i)) mask) i ≡ 0 = ap (λ x. bit_at x i) z ∙ bit_at-zero i in omega (arith, here, zero_here) in
+    let here : bit_at (bit_and (bit_or n (2 ^ i)) mask) i ≡ min (max (bit_at n i) 1) 1 =
+    bit_at_and (bit_or n (2 ^ i)) mask i ∙ rw (one, bit_at_or n (2 ^ i) i, bit_at-pow_same i) refl in
+    let ne : bit_and (bit_or n (2 ^ i)) mask ≡ 0 → ⊥ = λ z.
+    let none : bit_at (bit_and (bit_or n (2 ^ i)) mask) i ≡ 0 = ap (λ x. bit_at x i) z ∙ bit_at-zero i in
+    omega (arith, here, none) in
     ap not (ne_eqb (bit_and (bit_or n (2 ^ i)) mask) 0 ne) ∙ sym (or_true (meets n mask))
 
 meets-more : (n mask i : ℕ) → meets (bit_or n (2 ^ i)) mask ≡ (meets n mask || is_set mask i)
 meets-more n mask i = meets_by n mask i (is_set mask i) refl
 
-there-more : (o : Option ℕ) (n : ℕ) (t : Bool) → is_there (first_of_two o (if t then Some n else None)) ≡ (is_there o || t)
+there-more : (o : Option ℕ) (n : ℕ) (t : Bool)
+    → is_there (first_of_two o (if t then Some n else None)) ≡ (is_there o || t)
 there-more None n true = refl
 there-more None n false = refl
 there-more (Some i) n t = refl
 
-tell_below : (m : MapValue) (k : ℕ) (x : Kind) (n : ℕ) → meets (bits_below m k n) (mask_of x) ≡ is_there (first_below (λ p. fits x (cell_of m k p)) n)
+tell_below : (m : MapValue) (k : ℕ) (x : Kind) (n : ℕ)
+    → meets (bits_below m k n) (mask_of x) ≡ is_there (first_below (λ p. fits x (cell_of m k p)) n)
 unfolding bits_below first_below
 tell_below m k x zero = ap (λ z. not (eqb z 0)) (and_zero_l (mask_of x))
 tell_below m k x (suc n) =
-    meets-more (bits_below m k n) (mask_of x) (cell_bit (cell_of m k n)) ∙ rw (tell_below m k x n, mask-fits x (cell_of m k n)) (sym (there-more (first_below (λ p. fits x (cell_of m k p)) n) n (fits x (cell_of m k n))))
+    meets-more (bits_below m k n) (mask_of x) (cell_bit (cell_of m k n))
+    ∙ rw (tell_below m k x n, mask-fits x (cell_of m k n))
+    (sym (there-more (first_below (λ p. fits x (cell_of m k p)) n) n (fits x (cell_of m k n))))
 
 -- the bits of a key tell whether it has a cell of the kind
-pub bits_tell : (m : MapValue) (k : ℕ) (x : Kind) → not (eqb (bit_and (bits_of m k) (mask_of x)) 0) ≡ is_there (first_place m x k)
+pub bits_tell : (m : MapValue) (k : ℕ) (x : Kind)
+    → not (eqb (bit_and (bits_of m k) (mask_of x)) 0) ≡ is_there (first_place m x k)
 unfolding first_place
 bits_tell m k x = tell_below m k x (place_count m)
 
@@ -184,8 +218,11 @@ unfolding bits_below
 bits_below-start m k = refl
 
 shl-one : (i : ℕ) → i < 15 → 1 * 2 ^ i % 2 ^ 16 ≡ 2 ^ i
-shl-one i lt = let lt16 : i < 16 = omega (arith, lt) in let p : 2 ^ i < 2 ^ 16 = pow-lt lt16 in rw (one-mul (2 ^ i)) (mod-eq_of_lt p)
+shl-one i lt =
+    let lt16 : i < 16 = omega (arith, lt) in
+    let p : 2 ^ i < 2 ^ 16 = pow-lt lt16 in rw (one-mul (2 ^ i)) (mod-eq_of_lt p)
 
-pub bits_below-more : (m : MapValue) (k n : ℕ) → bit_or (bits_below m k n) (1 * 2 ^ cell_bit (cell_of m k n) % 2 ^ 16) ≡ bits_below m k (n + 1)
+pub bits_below-more : (m : MapValue) (k n : ℕ)
+    → bit_or (bits_below m k n) (1 * 2 ^ cell_bit (cell_of m k n) % 2 ^ 16) ≡ bits_below m k (n + 1)
 unfolding bits_below
 bits_below-more m k n = rw (shl-one (cell_bit (cell_of m k n)) (cell_bit-lt (cell_of m k n)), add-one) refl

@@ -18,5 +18,6 @@ found_by m k (Some p) (Some q) e =
 
 -- a key has a finding if it has a holding action and a character
 pub found : (m : MapValue) (k : ℕ)
-    → has_some (findings_at m k) ≡ (is_there (first_place m kind.AnyHolding k) && is_there (first_place m kind.Character k))
+    → has_some (findings_at m k)
+    ≡ (is_there (first_place m kind.AnyHolding k) && is_there (first_place m kind.Character k))
 found m k = found_by m k (first_place m kind.AnyHolding k) (first_place m kind.Character k) refl

@@ -20,10 +20,12 @@ module _ {S : Type 0} (items : S → List Event) (m : MapValue) where
   is_quiet None e = tt
   is_quiet (Some s) e = given-quiet m (leaves_modifier_on m) (items s) (sym e)
 
-  pub is_shown : (o : Option S) → option_map items o ≡ demonstration_of m → (i : Modifier) (k : ℕ) → HasShownTrap m i k → IsSome o
+  pub is_shown : (o : Option S) → option_map items o ≡ demonstration_of m → (i : Modifier) (k : ℕ)
+      → HasShownTrap m i k → IsSome o
   is_shown None e i k trap = absurd (shown_traps_are_demonstrated m i k trap (sym e))
   is_shown (Some s) e i k trap = refl
 
-  pub is_none : (o : Option S) → option_map items o ≡ demonstration_of m → HasNoLocks m → ((i : Modifier) → HasNoTrap m i) → IsNone o
+  pub is_none : (o : Option S) → option_map items o ≡ demonstration_of m → HasNoLocks m
+      → ((i : Modifier) → HasNoTrap m i) → IsNone o
   is_none None e locks free = refl
   is_none (Some s) e locks free = absurd (none_some (items s) (sym (none_given m locks free) ∙ sym e))

@@ -17,26 +17,44 @@ use Rattle.keymap_check.specs.Scripts.{event_if, event_at, is_chosen, bit_key_at
 use Rattle.keymap_check.proofs.Counting.{gathered-none, gathered-more}
 
 -- the events of a script, the newest first
-pub played : (keys : List (Option ℕ)) (k a b : ℕ) → reverse (script keys k a b) ≡ reverse (events_of false keys b 0) ++ (Release k ∷ Press k ∷ (reverse (events_of true keys b a) ++ (reverse (events_of false keys a b) ++ reverse (start_of keys k a))))
+pub played : (keys : List (Option ℕ)) (k a b : ℕ)
+    → reverse (script keys k a b)
+    ≡ reverse (events_of false keys b 0)
+    ++ (Release k ∷ Press k ∷ (reverse (events_of true keys b a)
+    ++ (reverse (events_of false keys a b) ++ reverse (start_of keys k a))))
 played keys k a b =
-    reverse-append (((start_of keys k a ++ events_of false keys a b) ++ events_of true keys b a) ++ Press k ∷ Release k ∷ []) (events_of false keys b 0)
+    reverse-append
+    (((start_of keys k a ++ events_of false keys a b) ++ events_of true keys b a) ++ Press k ∷ Release k ∷ [])
+    (events_of false keys b 0)
     ∙ ap (λ h. reverse (events_of false keys b 0) ++ h) (
-    reverse-append ((start_of keys k a ++ events_of false keys a b) ++ events_of true keys b a) (Press k ∷ Release k ∷ [])
+    reverse-append ((start_of keys k a ++ events_of false keys a b) ++ events_of true keys b a)
+    (Press k ∷ Release k ∷ [])
     ∙ ap (λ h. Release k ∷ Press k ∷ h) (
     reverse-append (start_of keys k a ++ events_of false keys a b) (events_of true keys b a)
     ∙ ap (λ h. reverse (events_of true keys b a) ++ h) (reverse-append (start_of keys k a) (events_of false keys a b))
     )
     )
 
-pub start_played : (keys : List (Option ℕ)) (k a : ℕ) → Press k ∷ (reverse (events_of true keys a 0) ++ []) ≡ reverse (start_of keys k a)
-start_played keys k a = sym (reverse-push (Press k) (events_of true keys a 0) []) ∙ append-nil (reverse (start_of keys k a))
+pub start_played : (keys : List (Option ℕ)) (k a : ℕ)
+    → Press k ∷ (reverse (events_of true keys a 0) ++ []) ≡ reverse (start_of keys k a)
+start_played keys k a =
+    sym (reverse-push (Press k) (events_of true keys a 0) []) ∙ append-nil (reverse (start_of keys k a))
 
 -- one bit more
-pub one_more : (f : ℕ → List Event) (n : ℕ) (e : Event) (h : List Event) → f n ≡ e ∷ [] → e ∷ (reverse (gathered f n) ++ h) ≡ reverse (gathered f (n + 1)) ++ h
-one_more f n e h is = sym (ap (λ xs. reverse xs ++ h) (gathered-more f n ∙ ap (λ ys. gathered f n ++ ys) is) ∙ reverse-push e (gathered f n) h)
+pub one_more : (f : ℕ → List Event) (n : ℕ) (e : Event) (h : List Event) → f n ≡ e ∷ []
+    → e ∷ (reverse (gathered f n) ++ h) ≡ reverse (gathered f (n + 1)) ++ h
+one_more f n e h is =
+    sym (
+    ap (λ xs. reverse xs ++ h) (gathered-more f n ∙ ap (λ ys. gathered f n ++ ys) is)
+    ∙ reverse-push e (gathered f n) h
+    )
 
-pub none_more : (f : ℕ → List Event) (n : ℕ) (h : List Event) → f n ≡ [] → reverse (gathered f n) ++ h ≡ reverse (gathered f (n + 1)) ++ h
-none_more f n h is = sym (ap (λ xs. reverse xs ++ h) (gathered-more f n ∙ ap (λ ys. gathered f n ++ ys) is ∙ append-nil (gathered f n)))
+pub none_more : (f : ℕ → List Event) (n : ℕ) (h : List Event) → f n ≡ []
+    → reverse (gathered f n) ++ h ≡ reverse (gathered f (n + 1)) ++ h
+none_more f n h is =
+    sym (
+    ap (λ xs. reverse xs ++ h) (gathered-more f n ∙ ap (λ ys. gathered f n ++ ys) is ∙ append-nil (gathered f n))
+    )
 
 -- a release turns no modifier on
 off_and : (b c : Bool) → b ≡ false → (b && c) ≡ false
@@ -59,8 +77,8 @@ none_of false false false false false false false h q = (refl, refl, refl, refl,
 
 pub released : (ms : Maps) (h : List Event) (j : ℕ) → is_some_on ms h ≡ false → is_some_on ms (Release j ∷ h) ≡ false
 released ms h j e =
-    let off = none_of (On ms LeftShift h) (On ms RightShift h) (On ms LeftControl h) (On ms RightControl h) (On ms LeftAlt h)
-    (On ms RightAlt h) (On ms AltShift h) (On ms Meta h) e in
+    let off = none_of (On ms LeftShift h) (On ms RightShift h) (On ms LeftControl h) (On ms RightControl h)
+    (On ms LeftAlt h) (On ms RightAlt h) (On ms AltShift h) (On ms Meta h) e in
     rw (
       stays-off ms h j LeftShift off.0,
       stays-off ms h j RightShift off.1,
@@ -73,16 +91,20 @@ released ms h j e =
     ) refl
 
 -- nor do the releases of the keys of a set
-one_release : (ms : Maps) (xs h : List Event) (t : Bool) (o : Option ℕ) → is_some_on ms (reverse xs ++ h) ≡ false → is_some_on ms (reverse (xs ++ (if t then event_if false o else [])) ++ h) ≡ false
+one_release : (ms : Maps) (xs h : List Event) (t : Bool) (o : Option ℕ) → is_some_on ms (reverse xs ++ h) ≡ false
+    → is_some_on ms (reverse (xs ++ (if t then event_if false o else [])) ++ h) ≡ false
 one_release ms xs h true None e = rw append-nil e
 one_release ms xs h true (Some j) e = rw (reverse-push (Release j) xs h) (released ms (reverse xs ++ h) j e)
 one_release ms xs h false o e = rw append-nil e
 
-releases_below : (ms : Maps) (h : List Event) (keys : List (Option ℕ)) (set except n : ℕ) → is_some_on ms h ≡ false → is_some_on ms (reverse (gathered (event_at false keys set except) n) ++ h) ≡ false
+releases_below : (ms : Maps) (h : List Event) (keys : List (Option ℕ)) (set except n : ℕ) → is_some_on ms h ≡ false
+    → is_some_on ms (reverse (gathered (event_at false keys set except) n) ++ h) ≡ false
 unfolding gathered
 releases_below ms h keys set except zero e = e
 releases_below ms h keys set except (suc n) e =
-    one_release ms (gathered (event_at false keys set except) n) h (is_chosen set except n) (bit_key_at keys n) (releases_below ms h keys set except n e)
+    one_release ms (gathered (event_at false keys set except) n) h (is_chosen set except n) (bit_key_at keys n)
+    (releases_below ms h keys set except n e)
 
-pub stays_off : (ms : Maps) (h : List Event) (keys : List (Option ℕ)) (set except : ℕ) → is_some_on ms h ≡ false → is_some_on ms (reverse (events_of false keys set except) ++ h) ≡ false
+pub stays_off : (ms : Maps) (h : List Event) (keys : List (Option ℕ)) (set except : ℕ) → is_some_on ms h ≡ false
+    → is_some_on ms (reverse (events_of false keys set except) ++ h) ≡ false
 stays_off ms h keys set except e = releases_below ms h keys set except 4 e

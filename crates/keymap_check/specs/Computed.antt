@@ -41,7 +41,8 @@ next_bearer _ alone = Several
 -- the bearer of the action among the keys below n
 unfoldable pub bearer_below : MapValue → Holding → ℕ → Bearer
 bearer_below m a zero = Nobody
-bearer_below m a (suc k) = if bears m k a then next_bearer (bearer_below m a k) (bearer_with m a k) else bearer_below m a k
+bearer_below m a (suc k) =
+    if bears m k a then next_bearer (bearer_below m a k) (bearer_with m a k) else bearer_below m a k
 
 abbrev pub bearer_of : MapValue → Holding → Bearer
 bearer_of m a = bearer_below m a 128
@@ -65,7 +66,8 @@ held_by (Act a) = holding_of a
 
 abbrev pub finding_with : ℕ → ℕ → ℕ → Option Holding → List Finding
 finding_with k p q None = []
-finding_with k p q (Some a) = record { key = k; holding = a; holding_at = place_at k p; character_at = place_at k q } ∷ []
+finding_with k p q (Some a) =
+    record { key = k; holding = a; holding_at = place_at k p; character_at = place_at k q } ∷ []
 
 abbrev pub finding_by : MapValue → ℕ → Option ℕ → Option ℕ → List Finding
 finding_by m k None q = []

@@ -20,7 +20,8 @@ NotAfter p q = (p.slot < q.slot) ⊎ ((p.slot ≡ q.slot) × (p.column ≤ q.col
 -- the first of the key's places whose cell has the property
 abbrev pub IsFirstOf : MapValue → ℕ → (Cell → Type 0) → Place → Type 0
 IsFirstOf m k P p =
-    IsPlaceOf m k p × P (cell_at m p.slot p.column) × ((q : Place) → IsPlaceOf m k q → P (cell_at m q.slot q.column) → NotAfter p q)
+    IsPlaceOf m k p × P (cell_at m p.slot p.column)
+    × ((q : Place) → IsPlaceOf m k q → P (cell_at m q.slot q.column) → NotAfter p q)
 
 abbrev pub IsHoldingCell : Cell → Type 0
 IsHoldingCell x = (a : Holding) × (x ≡ Act (holding_action a))

@@ -15,7 +15,9 @@ use Rattle.keymap_check.specs.Computed.{is_there, is_missing, findings_at}
 
 -- bit 0 is shift, bit 1 control, bit 2 alt, bit 3 ashift
 abbrev pub group_at : ℕ → Group
-group_at bit = if bit == 0 then group.Shift else if bit == 1 then group.Control else if bit == 2 then group.Alt else group.AltShift
+group_at bit =
+    if bit == 0 then group.Shift else if bit == 1 then group.Control else if bit == 2 then group.Alt
+    else group.AltShift
 
 abbrev pub has_bit : ℕ → ℕ → Bool
 has_bit set bit = ((set / 2 ^ bit) % 2) == 1

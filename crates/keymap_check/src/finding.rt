@@ -11,6 +11,7 @@ use crate::kind::Kind;
 use crate::survey::Survey;
 use arrayvec::ArrayVec;
 use keymap_core::{Cell, Holding, KeyCode, Modifier};
+use std::default::MadeWith;
 
 /// Where a cell stands: its slot, 0 to 255, and its column, 0 to 7.
 #[derive(Clone, Copy, Debug, PartialEq, Eq)]
@@ -31,8 +32,10 @@ pub struct Finding {
     pub character_at: Place,
 }
 
-impl Default for Finding {
-    fn default() -> Finding {
+/// What stands in the unused places of a list of findings, which the list never shows. It is no finding of any
+/// keymap: so a finding has no default.
+impl MadeWith<()> for Finding {
+    fn made_with(_alloc: ()) -> Finding {
         let nowhere = Place { slot: 0, column: 0 };
         Finding {
             key: key_with(0),
@@ -89,7 +92,7 @@ fn find_at(survey: &Survey, key: u8) -> Option<Finding>
 pub(crate) fn findings(survey: &Survey) -> ArrayVec<Finding, 128>
     ensures { result.items ≡ findings_of survey.now }
 {
-    let mut findings = ArrayVec::new();
+    let mut findings = ArrayVec::new_in(());
     for key in 0..128 {
         match find_at(survey, key) {
             Some(finding) => findings.push(finding),

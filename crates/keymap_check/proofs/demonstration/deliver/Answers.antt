@@ -11,9 +11,17 @@ pub loop-bit-preserved : goal.loop-bit-preserved
 loop-bit-preserved g c =
     elim c.match-event_at.branch [
       | in-Some w ↦ λ ms h s.
-          rw (w.console-is, ← one_more (event_at c.args.is_press c.args.keys.now c.args.set c.args.except) c.loop-bit.bit w.in-Some.event h w.in-Some.ensures)
+          rw (
+            w.console-is,
+            ← one_more (event_at c.args.is_press c.args.keys.now c.args.set c.args.except) c.loop-bit.bit
+                w.in-Some.event h w.in-Some.ensures,
+          )
           (w.step.ensures.next ms _ (c.loop-bit.invariant ms h s))
       | in-None w ↦ λ ms h s.
-          rw (w.console-is, ← none_more (event_at c.args.is_press c.args.keys.now c.args.set c.args.except) c.loop-bit.bit h w.in-None.ensures)
+          rw (
+            w.console-is,
+            ← none_more (event_at c.args.is_press c.args.keys.now c.args.set c.args.except) c.loop-bit.bit h
+                w.in-None.ensures,
+          )
           (c.loop-bit.invariant ms h s)
     ]

@@ -8,12 +8,15 @@ returns-clause-first c = c.first_script.ensures ∙ ap demonstration_of c.of.ens
 
 pub returns-clause-quiet : goal.returns-clause-quiet
 returns-clause-quiet c =
-    is_quiet (λ s. s.items) c.args.map.now c.first_script.result (c.first_script.ensures ∙ ap demonstration_of c.of.ensures)
+    is_quiet (λ s. s.items) c.args.map.now c.first_script.result
+    (c.first_script.ensures ∙ ap demonstration_of c.of.ensures)
 
 pub returns-clause-shown : goal.returns-clause-shown
 returns-clause-shown c =
-    is_shown (λ s. s.items) c.args.map.now c.first_script.result (c.first_script.ensures ∙ ap demonstration_of c.of.ensures)
+    is_shown (λ s. s.items) c.args.map.now c.first_script.result
+    (c.first_script.ensures ∙ ap demonstration_of c.of.ensures)
 
 pub returns-clause-without_traps : goal.returns-clause-without_traps
 returns-clause-without_traps c =
-    is_none (λ s. s.items) c.args.map.now c.first_script.result (c.first_script.ensures ∙ ap demonstration_of c.of.ensures)
+    is_none (λ s. s.items) c.args.map.now c.first_script.result
+    (c.first_script.ensures ∙ ap demonstration_of c.of.ensures)

@@ -10,17 +10,24 @@ loop-a-init c = try-start (leaves_modifier_on c.args.map.now) (scripts_with c.ar
 
 pub loop-a-preserved : goal.loop-a-preserved
 loop-a-preserved c =
-    try-more (leaves_modifier_on c.args.map.now) (scripts_with c.args.keys.now c.args.key) c.loop-a.a c.loop-a.invariant (sym c.in-None.ensures)
+    try-more (leaves_modifier_on c.args.map.now) (scripts_with c.args.keys.now c.args.key) c.loop-a.a c.loop-a.invariant
+    (sym c.in-None.ensures)
 
 pub returns-in-Some : goal.returns-in-Some
 returns-in-Some c =
     let lt : c.loop-a.a < 16 = omega (arith, c.loop-a-test.true) in
     sym (
-    try-found (leaves_modifier_on c.args.map.now) (scripts_with c.args.keys.now c.args.key) c.loop-a.a 16 c.in-Some.script.items lt c.loop-a.invariant
+    try-found (leaves_modifier_on c.args.map.now) (scripts_with c.args.keys.now c.args.key)
+    c.loop-a.a 16 c.in-Some.script.items lt c.loop-a.invariant
     (sym c.in-Some.ensures)
     )
 
 pub returns : goal.returns
 returns c =
     let e : c.loop-a.a ≡ 16 = omega (arith, c.loop-a-test.false, c.loop-a.auto.a-end) in
-    sym (subst (λ n. find (leaves_modifier_on c.args.map.now) (gathered (scripts_with c.args.keys.now c.args.key) n) ≡ None) e c.loop-a.invariant)
+    sym (
+    subst
+    (λ n. find (leaves_modifier_on c.args.map.now) (gathered (scripts_with c.args.keys.now c.args.key) n) ≡ None)
+    e
+    c.loop-a.invariant
+    )

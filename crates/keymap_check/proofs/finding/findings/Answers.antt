@@ -8,8 +8,8 @@ use Rattle.keymap_check.proofs.finding.findings.Goals.{in-Some, in-None}
 
 pub loop-key-init : goal.loop-key-init
 loop-key-init c =
-    let e : array_vec_len c.new-findings.result ≡ 0 = ap length c.new-findings.ensures in
-    record { found = c.new-findings.ensures ∙ sym (gathered-none (findings_at c.args.survey.now)); room = omega (arith, e) }
+    let e : array_vec_len c.new_in-findings.result ≡ 0 = ap length c.new_in-findings.ensures in
+    record { found = c.new_in-findings.ensures ∙ sym (gathered-none (findings_at c.args.survey.now)); room = omega (arith, e) }
 
 pub loop-key-preserved : goal.loop-key-preserved
 loop-key-preserved c =

@@ -8,7 +8,8 @@ pub loop-key-init : goal.loop-key-init
 loop-key-init c = first_below-none _
 
 pub loop-key-preserved : goal.loop-key-preserved
-loop-key-preserved c = first_below-more _ c.loop-key.key c.loop-key.invariant (sym c.is_bit_key.ensures ∙ c.if-is_bit_key.false)
+loop-key-preserved c =
+    first_below-more _ c.loop-key.key c.loop-key.invariant (sym c.is_bit_key.ensures ∙ c.if-is_bit_key.false)
 
 pub returns-then-is_bit_key : goal.returns-then-is_bit_key
 unfolding bit_key

@@ -8,4 +8,5 @@ loop-place-init c = sym (bits_below-start c.args.map.now c.args.key)
 
 pub loop-place-preserved : goal.loop-place-preserved
 loop-place-preserved c =
-    rw (c.bit_of.ensures.value, c.cell_of.ensures, c.loop-place.invariant) (bits_below-more c.args.map.now c.args.key c.loop-place.place)
+    rw (c.bit_of.ensures.value, c.cell_of.ensures, c.loop-place.invariant)
+    (bits_below-more c.args.map.now c.args.key c.loop-place.place)

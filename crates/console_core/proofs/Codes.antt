@@ -1,7 +1,8 @@
 -- Actions kept by their codes.
-use Rattle.std.proofs.Common.{◌≡◌, ℕ, ◌<◌, Bool, true, false, eqb, List, length, set, replicate, Option, None, Some, refl, ap, sym, ◌∙◌, if◌then◌else◌}
+use Prim.Native.Nat.{zero, suc}
+use Rattle.std.proofs.Common.{◌≡◌, ℕ, ◌<◌, Bool, true, false, eqb, List, length, get_or, set, replicate, Option, None}
+use Rattle.std.proofs.Common.{Some, refl, ap, sym, ◌∙◌, if◌then◌else◌}
 use Rattle.std.specs.Prelude.{◌==◌, ◌≢◌, option_map}
-use Rattle.std.proofs.lemmas.List.{get_or-replicate}
 use Rattle.std.proofs.lemmas.Bool.{eqb-true, true≢false}
 use Rattle.keymap_core.proofs.SameActions.{same_action-true}
 use Rattle.keymap_core.specs.declared.action.Action.{Action}
@@ -20,34 +21,47 @@ coded_some code false e not_zero = rw e refl
 coded-some : (code : ℕ) → code ≢ 0 → coded code ≡ action_of code
 coded-some code not_zero = coded_some code (eqb code 0) refl not_zero
 
-coded_by : (a : Action) (b : Bool) → eqb (code_of a) 0 ≡ b → same_action a act.Nop ≡ false → action_of (code_of a) ≡ Some a → coded (code_of a) ≡ Some a
+coded_by : (a : Action) (b : Bool) → eqb (code_of a) 0 ≡ b → same_action a act.Nop ≡ false
+    → action_of (code_of a) ≡ Some a → coded (code_of a) ≡ Some a
 coded_by a true e not_nop read =
     let s : a ≡ act.Nop = some_some a act.Nop (sym read ∙ ap action_of (eqb-true (code_of a) 0 e)) in
     absurd (true≢false (sym (ap (λ x. same_action x act.Nop) s) ∙ not_nop))
 coded_by a false e not_nop read = rw e read
 
-pub coded-code : (a : Action) → same_action a act.Nop ≡ false → action_of (code_of a) ≡ Some a → coded (code_of a) ≡ Some a
+pub coded-code : (a : Action) → same_action a act.Nop ≡ false → action_of (code_of a) ≡ Some a
+    → coded (code_of a) ≡ Some a
 coded-code a not_nop read = coded_by a (eqb (code_of a) 0) refl not_nop read
 
 -- the byte of another action
-other_code : (b : Bool) (held expected : Action) → same_action held expected ≡ b → code_of held ≢ code_of expected → b ≡ false
+other_code : (b : Bool) (held expected : Action) → same_action held expected ≡ b → code_of held ≢ code_of expected
+    → b ≡ false
 other_code true held expected e ne = absurd (ne (ap code_of (same_action-true held expected e)))
 other_code false held expected e ne = refl
 
-pub coded-other : (code : ℕ) (held expected : Action) → code ≢ 0 → action_of code ≡ Some held → code_of held ≡ code → code ≢ code_of expected
+pub coded-other : (code : ℕ) (held expected : Action) → code ≢ 0 → action_of code ≡ Some held → code_of held ≡ code
+    → code ≢ code_of expected
     → Some false ≡ option_map (λ a. same_action a expected) (coded code)
 coded-other code held expected not_zero read same ne =
     let e : coded code ≡ Some held = coded-some code not_zero ∙ read in
     rw e (ap Some (sym (other_code (same_action held expected) held expected refl (λ f. ne (sym same ∙ f)))))
 
--- the bytes of all keys
-pub codes-start : (k : ℕ) → k < 128 → code_memory (replicate 128 0) k ≡ None
-codes-start k lt = ap coded (get_or-replicate 128 k 0 0 lt)
+-- a list of one value, read anywhere, with that value in place of what isn't there
+pub get_or-replicate_default : {X : Type 0} (n i : ℕ) (d : X) → get_or (replicate n d) i d ≡ d
+get_or-replicate_default zero i d = refl
+get_or-replicate_default (suc n) zero d = refl
+get_or-replicate_default (suc n) (suc i) d = get_or-replicate_default n i d
 
-kept_if : (b : Bool) (code old : ℕ) (a : Option Action) → coded code ≡ a → coded (if b then code else old) ≡ (if b then a else coded old)
+-- the bytes of all keys
+pub codes-start : (k : ℕ) → code_memory (replicate 128 0) k ≡ None
+codes-start k = ap coded (get_or-replicate_default 128 k 0)
+
+kept_if : (b : Bool) (code old : ℕ) (a : Option Action) → coded code ≡ a
+    → coded (if b then code else old) ≡ (if b then a else coded old)
 kept_if true code old a e = e
 kept_if false code old a e = refl
 
-pub codes-set : (codes : List ℕ) (i j k code : ℕ) (a : Option Action) → i ≡ j → i < length codes → coded code ≡ a → code_memory (set codes i code) k ≡ (if j == k then a else code_memory codes k)
+pub codes-set : (codes : List ℕ) (i j k code : ℕ) (a : Option Action) → i ≡ j → i < length codes → coded code ≡ a
+    → code_memory (set codes i code) k ≡ (if j == k then a else code_memory codes k)
 codes-set codes i j k code a s lt e =
-    ap coded (get_or-set_if codes i k code 0 lt) ∙ kept_if (eqb i k) code _ a e ∙ ap (λ x. if x == k then a else code_memory codes k) s
+    ap coded (get_or-set_if codes i k code 0 lt) ∙ kept_if (eqb i k) code _ a e
+    ∙ ap (λ x. if x == k then a else code_memory codes k) s

@@ -6,6 +6,7 @@ pub mod Deliveries
 pub mod Facts
 pub mod FreshPresses
 pub mod Headline
+pub mod Keeping
 pub mod OneMap
 pub mod OneMore
 pub mod Places

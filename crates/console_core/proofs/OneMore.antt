@@ -1,6 +1,7 @@
 -- What each notion of a history is after one more event, by what it was before.
 use Prim.Native.Nat.{suc}
-use Rattle.std.proofs.Common.{◌≡◌, ℕ, Bool, true, false, ◌&&◌, ◌||◌, not, eqb, List, [], ◌∷◌, Option, Some, None, refl, ap, subst, sym, if◌then◌else◌}
+use Rattle.std.proofs.Common.{◌≡◌, ℕ, Bool, true, false, ◌&&◌, ◌||◌, not, eqb, List, [], ◌∷◌, Option, Some, None}
+use Rattle.std.proofs.Common.{refl, ap, subst, sym, if◌then◌else◌}
 use Rattle.std.proofs.Math.Bool.{and-true, and-false}
 use Rattle.std.specs.Prelude.{◌==◌}
 use Rattle.keymap_core.specs.declared.action.Action.{Action}
@@ -15,9 +16,11 @@ use Rattle.console_core.specs.declared.event.Event.{Event}
 use Rattle.console_core.specs.declared.event.Event.TheVariants.{Press, Release, Reset, Load}
 use Rattle.keymap_core.specs.Borne.{is_borne}
 use Rattle.console_core.specs.Positions.{is_odd, first_of_two, last_where}
-use Rattle.console_core.specs.Resolved.{unlocks, resolve_press, ResolvedEvent, remembered, held, locked, turns, taken, taken_over, unless_nop, is_action, pending, pending_after, dead_keys, keeps_taken, usable_dead_key, run_length}
+use Rattle.console_core.specs.Resolved.{unlocks, resolve_press, ResolvedEvent, remembered, held, locked, turns, taken}
+use Rattle.console_core.specs.Resolved.{taken_over, unless_nop, is_action, pending, pending_after, dead_keys}
+use Rattle.console_core.specs.Resolved.{keeps_taken, usable_dead_key, run_length}
 use Rattle.console_core.specs.History.{Maps, resolved_event, pressed, resolved, is_press, concerns}
-use Rattle.console_core.specs.Agrees.{toggled, next_pending}
+use Rattle.console_core.specs.Kept.{toggled, next_pending}
 use Rattle.std.proofs.lemmas.Bool.{eqb-true, eq-eqb}
 use Rattle.console_core.specs.Resolved.ResolvedEvent.{PressedCharacter, PressedAction, ReleasedKey, WasReset, WasLoaded}
 
@@ -26,7 +29,8 @@ pub resolved-start : (ms : Maps) → resolved ms [] ≡ []
 unfolding resolved
 resolved-start ms = refl
 
-pub resolved-more : (ms : Maps) (h : List Event) (e : Event) → resolved ms (e ∷ h) ≡ resolved_event ms h e ∷ resolved ms h
+pub resolved-more : (ms : Maps) (h : List Event) (e : Event)
+    → resolved ms (e ∷ h) ≡ resolved_event ms h e ∷ resolved ms h
 unfolding resolved
 resolved-more ms h e = refl
 
@@ -39,11 +43,14 @@ pub held-character : (a : Holding) (k c : ℕ) (h : List ResolvedEvent) → held
 unfolding held
 held-character a k c h = and-true (held a h)
 
-pub held-action : (a : Holding) (k : ℕ) (b : Action) (h : List ResolvedEvent) → held a (PressedAction k b ∷ h) ≡ (same_action (taken_over (remembered k h) b) (holding_action a) || held a h)
+pub held-action : (a : Holding) (k : ℕ) (b : Action) (h : List ResolvedEvent)
+    → held a (PressedAction k b ∷ h) ≡ (same_action (taken_over (remembered k h) b) (holding_action a) || held a h)
 unfolding held
-held-action a k b h = ap (λ x. same_action (taken_over (remembered k h) b) (holding_action a) || x) (and-true (held a h))
+held-action a k b h = ap (λ x. same_action (taken_over (remembered k h) b) (holding_action a) || x)
+    (and-true (held a h))
 
-pub held-release : (a : Holding) (k : ℕ) (h : List ResolvedEvent) → held a (ReleasedKey k ∷ h) ≡ (held a h && not (is_action (remembered k h) (holding_action a)))
+pub held-release : (a : Holding) (k : ℕ) (h : List ResolvedEvent)
+    → held a (ReleasedKey k ∷ h) ≡ (held a h && not (is_action (remembered k h) (holding_action a)))
 unfolding held
 held-release a k h = refl
 
@@ -68,7 +75,8 @@ pub locked-character : (l : Lock) (k c : ℕ) (h : List ResolvedEvent) → locke
 unfolding locked
 locked-character l k c h = refl
 
-pub locked-action : (l : Lock) (k : ℕ) (b : Action) (h : List ResolvedEvent) → locked l (PressedAction k b ∷ h) ≡ (if same_action (taken_over (remembered k h) b) (holding_action (holding.Lock l)) && not (held (holding.Lock l) h) then not (locked l h) else locked l h)
+pub locked-action : (l : Lock) (k : ℕ) (b : Action) (h : List ResolvedEvent)
+    → locked l (PressedAction k b ∷ h) ≡ (if same_action (taken_over (remembered k h) b) (holding_action (holding.Lock l)) && not (held (holding.Lock l) h) then not (locked l h) else locked l h)
 unfolding locked
 locked-action l k b h = locked_step (turns l (PressedAction k b) h) _
 
@@ -84,7 +92,8 @@ locked_load : (b : Bool) (n : ℕ) → is_odd (if not b then 0 else n) ≡ (b &&
 locked_load true n = refl
 locked_load false n = refl
 
-pub locked-load : (l : Lock) (m : MapValue) (h : List ResolvedEvent) → locked l (WasLoaded m ∷ h) ≡ (is_borne m (holding.Lock l) && locked l h)
+pub locked-load : (l : Lock) (m : MapValue) (h : List ResolvedEvent)
+    → locked l (WasLoaded m ∷ h) ≡ (is_borne m (holding.Lock l) && locked l h)
 unfolding locked
 locked-load l m h = locked_load (is_borne m (holding.Lock l)) _
 
@@ -97,15 +106,18 @@ none_after : (o : Option Action) → first_of_two o None ≡ o
 none_after None = refl
 none_after (Some a) = refl
 
-pub remembered-character : (k j c : ℕ) (h : List ResolvedEvent) → remembered k (PressedCharacter j c ∷ h) ≡ (if j == k then None else remembered k h)
+pub remembered-character : (k j c : ℕ) (h : List ResolvedEvent)
+    → remembered k (PressedCharacter j c ∷ h) ≡ (if j == k then None else remembered k h)
 unfolding remembered
 remembered-character k j c h = ap (λ x. if j == k then None else x) (none_after (remembered k h))
 
-pub remembered-action : (k j : ℕ) (b : Action) (h : List ResolvedEvent) → remembered k (PressedAction j b ∷ h) ≡ first_of_two (remembered k h) (if j == k then unless_nop b else None)
+pub remembered-action : (k j : ℕ) (b : Action) (h : List ResolvedEvent)
+    → remembered k (PressedAction j b ∷ h) ≡ first_of_two (remembered k h) (if j == k then unless_nop b else None)
 unfolding remembered
 remembered-action k j b h = refl
 
-pub remembered-release : (k j : ℕ) (h : List ResolvedEvent) → remembered k (ReleasedKey j ∷ h) ≡ (if j == k then None else remembered k h)
+pub remembered-release : (k j : ℕ) (h : List ResolvedEvent)
+    → remembered k (ReleasedKey j ∷ h) ≡ (if j == k then None else remembered k h)
 unfolding remembered
 remembered-release k j h = ap (λ x. if j == k then None else x) (none_after (remembered k h))
 
@@ -141,7 +153,8 @@ pending-load m n h = refl
 run_length-same : (i : ℕ) (rest : List (Option ℕ)) → run_length i (Some i ∷ rest) ≡ suc (run_length i rest)
 run_length-same i rest = rw (eq-eqb i i refl) refl
 
-toggle_again : (i n : ℕ) (b : Bool) → is_odd n ≡ b → (if is_odd (suc (suc n)) then Some i else None) ≡ toggled (Some i) (if is_odd (suc n) then Some i else None)
+toggle_again : (i n : ℕ) (b : Bool) → is_odd n ≡ b
+    → (if is_odd (suc (suc n)) then Some i else None) ≡ toggled (Some i) (if is_odd (suc n) then Some i else None)
 toggle_again i n true e = rw e refl
 toggle_again i n false e = rw (e, eq-eqb i i refl) refl
 
@@ -149,20 +162,25 @@ toggle_other : (i j : ℕ) (b : Bool) → eqb j i ≡ false → Some i ≡ toggl
 toggle_other i j true e = rw e refl
 toggle_other i j false e = refl
 
-toggle_same : (i : ℕ) (r : List (Option ℕ)) → pending_after (Some i ∷ (Some i ∷ r)) ≡ toggled (Some i) (pending_after (Some i ∷ r))
+toggle_same : (i : ℕ) (r : List (Option ℕ))
+    → pending_after (Some i ∷ (Some i ∷ r)) ≡ toggled (Some i) (pending_after (Some i ∷ r))
 unfolding pending_after
 toggle_same i r =
-    rw (run_length-same i (Some i ∷ r), run_length-same i r) (toggle_again i (run_length i r) (is_odd (run_length i r)) refl)
+    rw (run_length-same i (Some i ∷ r), run_length-same i r)
+    (toggle_again i (run_length i r) (is_odd (run_length i r)) refl)
 
-toggle_cases : (i j : ℕ) (r : List (Option ℕ)) (b : Bool) → eqb j i ≡ b → pending_after (Some i ∷ (Some j ∷ r)) ≡ toggled (Some i) (pending_after (Some j ∷ r))
+toggle_cases : (i j : ℕ) (r : List (Option ℕ)) (b : Bool) → eqb j i ≡ b
+    → pending_after (Some i ∷ (Some j ∷ r)) ≡ toggled (Some i) (pending_after (Some j ∷ r))
 unfolding pending_after
 toggle_cases i j r true e =
     let s : i ≡ j = sym (eqb-true j i e) in
-    subst (λ x. pending_after (Some i ∷ (Some x ∷ r)) ≡ toggled (Some i) (pending_after (Some x ∷ r))) s (toggle_same i r)
+    subst (λ x. pending_after (Some i ∷ (Some x ∷ r)) ≡ toggled (Some i) (pending_after (Some x ∷ r))) s
+    (toggle_same i r)
 toggle_cases i j r false e =
     rw (run_length-same i (Some j ∷ r), e) (toggle_other i j (is_odd (run_length j (Some j ∷ r))) e)
 
-pub pending_after-toggles : (i : ℕ) (rest : List (Option ℕ)) → pending_after (Some i ∷ rest) ≡ toggled (Some i) (pending_after rest)
+pub pending_after-toggles : (i : ℕ) (rest : List (Option ℕ))
+    → pending_after (Some i ∷ rest) ≡ toggled (Some i) (pending_after rest)
 unfolding pending_after
 pending_after-toggles i [] = rw (run_length-same i []) refl
 pending_after-toggles i (None ∷ rest) = rw (run_length-same i (None ∷ rest)) refl
@@ -173,11 +191,13 @@ unfolding pending_after
 toggles None rest = refl
 toggles (Some i) rest = pending_after-toggles i rest
 
-pending_step : (b : Bool) (o : Option ℕ) (rest : List (Option ℕ)) → pending_after (if b then rest else o ∷ rest) ≡ (if b then pending_after rest else toggled o (pending_after rest))
+pending_step : (b : Bool) (o : Option ℕ) (rest : List (Option ℕ))
+    → pending_after (if b then rest else o ∷ rest) ≡ (if b then pending_after rest else toggled o (pending_after rest))
 pending_step true o rest = refl
 pending_step false o rest = toggles o rest
 
-pub pending-action : (m : MapValue) (k : ℕ) (b : Action) (h : List ResolvedEvent) → pending m (PressedAction k b ∷ h) ≡ next_pending m (pending m h) (taken_over (remembered k h) b)
+pub pending-action : (m : MapValue) (k : ℕ) (b : Action) (h : List ResolvedEvent)
+    → pending m (PressedAction k b ∷ h) ≡ next_pending m (pending m h) (taken_over (remembered k h) b)
 unfolding dead_keys
 pending-action m k b h = pending_step (keeps_taken (taken k b h)) (usable_dead_key m (taken k b h)) (dead_keys m h)
 
@@ -186,7 +206,8 @@ pub pressed-start : (k : ℕ) → pressed k [] ≡ false
 unfolding pressed
 pressed-start k = refl
 
-press_step : (b : Bool) (k j : ℕ) (h : List Event) → is_press (if b then Some (Press j) else last_where (concerns k) h) ≡ (if b then true else is_press (last_where (concerns k) h))
+press_step : (b : Bool) (k j : ℕ) (h : List Event)
+    → is_press (if b then Some (Press j) else last_where (concerns k) h) ≡ (if b then true else is_press (last_where (concerns k) h))
 press_step true k j h = refl
 press_step false k j h = refl
 
@@ -194,7 +215,8 @@ pub pressed-press : (k j : ℕ) (h : List Event) → pressed k (Press j ∷ h) �
 unfolding pressed
 pressed-press k j h = press_step (j == k) k j h
 
-release_step : (b : Bool) (k j : ℕ) (h : List Event) → is_press (if b then Some (Release j) else last_where (concerns k) h) ≡ (if b then false else is_press (last_where (concerns k) h))
+release_step : (b : Bool) (k j : ℕ) (h : List Event)
+    → is_press (if b then Some (Release j) else last_where (concerns k) h) ≡ (if b then false else is_press (last_where (concerns k) h))
 release_step true k j h = refl
 release_step false k j h = refl
 
@@ -210,11 +232,13 @@ pub pressed-load : (k : ℕ) (h : List Event) → pressed k (Load ∷ h) ≡ fal
 unfolding pressed
 pressed-load k h = refl
 
-locked_more : (b t : Bool) (n : ℕ) → is_odd (if b then 0 else (if t then suc n else n)) ≡ (if b then false else (if t then not (is_odd n) else is_odd n))
+locked_more : (b t : Bool) (n : ℕ)
+    → is_odd (if b then 0 else (if t then suc n else n)) ≡ (if b then false else (if t then not (is_odd n) else is_odd n))
 locked_more true t n = refl
 locked_more false t n = locked_step t n
 
-pub locked-more : (l : Lock) (x : ResolvedEvent) (h : List ResolvedEvent) → locked l (x ∷ h) ≡ (if unlocks l x h then false else (if turns l x h then not (locked l h) else locked l h))
+pub locked-more : (l : Lock) (x : ResolvedEvent) (h : List ResolvedEvent)
+    → locked l (x ∷ h) ≡ (if unlocks l x h then false else (if turns l x h then not (locked l h) else locked l h))
 unfolding locked
 locked-more l x h = locked_more (unlocks l x h) (turns l x h) _
 

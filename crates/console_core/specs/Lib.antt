@@ -4,6 +4,7 @@ pub mod Columns
 pub mod Facts
 pub mod Headline
 pub mod History
+pub mod Kept
 pub mod Loads
 pub mod Plain
 pub mod Positions

@@ -4,6 +4,7 @@ use Rattle.keymap_core.specs.declared.action.Action.{Action}
 use Rattle.keymap_core.specs.declared.action.Holding.{Holding}
 use Rattle.keymap_core.specs.declared.action.Lock.{Lock}
 use Rattle.keymap_core.specs.Actions.{holding_index, lock_index}
+use Rattle.console_core.specs.Kept.{Kept}
 
 -- the mark of a holding action
 abbrev pub mark_at : List Bool → Holding → Bool
@@ -16,3 +17,12 @@ lock_at locks l = slice_index_or locks (lock_index l) false
 -- the action that is remembered for a key
 abbrev pub memory_at : List (Option Action) → ℕ → Option Action
 memory_at memory k = slice_index_or memory k None
+
+abbrev pub kept_in_tables : List Bool → List Bool → List (Option Action) → Option ℕ → Bool → Kept
+kept_in_tables marks locks memory pending is_second = record {
+  mark = mark_at marks;
+  lock = lock_at locks;
+  memory = memory_at memory;
+  pending = pending;
+  is_second = is_second;
+}

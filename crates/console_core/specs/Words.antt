@@ -8,6 +8,7 @@ use Rattle.keymap_core.specs.declared.action.Holding.{Holding}
 use Rattle.keymap_core.specs.declared.action.Holding.TheVariants as holding
 use Rattle.keymap_core.specs.declared.action.Lock.{Lock}
 use Rattle.keymap_core.specs.Actions.{action_of, modifier_index, lock_index}
+use Rattle.console_core.specs.Kept.{Kept}
 
 abbrev pub bit_is_set : ℕ → ℕ → Bool
 bit_is_set word i = bit_at word i == 1
@@ -48,3 +49,12 @@ coded code = if code == 0 then None else action_of code
 -- the action that is remembered for a key, by the bytes of all keys
 abbrev pub code_memory : List ℕ → ℕ → Option Action
 code_memory codes k = coded (slice_index_or codes k 0)
+
+abbrev pub kept_in_word : ℕ → List ℕ → Kept
+kept_in_word word codes = record {
+  mark = word_mark word;
+  lock = word_lock word;
+  memory = code_memory codes;
+  pending = word_pending word;
+  is_second = word_second word;
+}

@@ -1,18 +1,15 @@
 //! The machine that both consoles run: how an event changes what a store keeps, and the answer to it. It follows
 //! genkbd_keyaction of sys/dev/kbd/kbd.c.
-ghost use Rattle.std.specs.Prelude.{◌≡◌, ℕ, ◌<◌, ◌==◌, List, ◌∷◌, [], ◌||◌, ◌&&◌, not, false, None, if◌then◌else◌};
-ghost use Rattle.keymap_core.specs.Maps.{MapValue};
-ghost use Rattle.keymap_core.specs.Actions.{same_lock, same_action, holding_action};
-ghost use Rattle.keymap_core.specs.declared.action.Holding.{Holding as HoldingValue};
-ghost use Rattle.keymap_core.specs.declared.action.Lock.{Lock as LockValue};
+ghost use Rattle.std.specs.Prelude.{◌≡◌, ◌<◌, List, ◌∷◌, [], ◌||◌};
 ghost use Rattle.console_core.specs.declared.event.Event.{Event as EventValue};
-ghost use Rattle.console_core.specs.Positions.{first_of_two};
 ghost use Rattle.console_core.specs.Columns.{look_with, slot_of, is_upper};
-ghost use Rattle.console_core.specs.Resolved.{ResolvedEvent, answer_resolved, taken_over, unless_nop, is_action};
+ghost use Rattle.console_core.specs.Answers.{answer_char, answer_action as answer_action_of, answer_release};
+ghost use Rattle.console_core.specs.Resolved.{taken_over};
 ghost use Rattle.console_core.specs.History.{Maps, between, in_force, loaded, AnswerTo};
-ghost use Rattle.console_core.specs.Resolved.ResolvedEvent.{PressedCharacter, PressedAction, ReleasedKey, WasReset};
-ghost use Rattle.console_core.specs.Agrees.{Agrees, StandsAt};
-ghost use Rattle.keymap_core.specs.Borne.{is_borne as is_borne_of};
+ghost use Rattle.console_core.specs.Kept.{nothing_kept, with_offered, with_lock_taken, with_taken, with_released};
+ghost use Rattle.console_core.specs.Kept.{with_lock_borne};
+ghost use Rattle.console_core.specs.Kept.{after_character, after_action, after_release, after_load};
+ghost use Rattle.console_core.specs.Agrees.{StandsAt};
 
 use crate::event::{Answer, Event};
 use crate::rules::{answer_action, column, compose, flips, next_pending};
@@ -21,26 +18,26 @@ use crate::translator::Translator;
 use keymap_core::{Action, Cell, Holding, KeyCode, KeyMap, Lock, Modifier};
 
 fn is_on<S: Store>(store: &S, modifier: Modifier) -> bool
-    ensures { result ≡ S.mark store.now (Holding.Mod modifier) }
+    ensures { result ≡ (S.kept store.now).mark (Holding.Mod modifier) }
 {
     store.is_marked(Holding::Mod(modifier))
 }
 
 fn is_either_on<S: Store>(store: &S, left: Modifier, right: Modifier) -> bool
-    ensures { result ≡ (S.mark store.now (Holding.Mod left) || S.mark store.now (Holding.Mod right)) }
+    ensures { result ≡ ((S.kept store.now).mark (Holding.Mod left) || (S.kept store.now).mark (Holding.Mod right)) }
 {
     is_on(store, left) || is_on(store, right)
 }
 
 fn slot<S: Store>(store: &S, key: KeyCode) -> u8
-    ensures { result ≡ slot_of key (is_upper (λ i. S.mark store.now (Holding.Mod i)) (S.lock store.now)) }
+    ensures { result ≡ slot_of key (is_upper (λ i. (S.kept store.now).mark (Holding.Mod i)) (S.kept store.now).lock) }
 {
     let upper = is_on(store, Modifier::AltShift) != store.is_locked(Lock::Alt);
     if upper { key.get() + 128 } else { key.get() }
 }
 
 fn look<S: Store>(store: &S, map: &KeyMap, key: KeyCode) -> Cell
-    ensures { result ≡ look_with map.now (λ i. S.mark store.now (Holding.Mod i)) (S.lock store.now) key }
+    ensures { result ≡ look_with map.now (λ i. (S.kept store.now).mark (Holding.Mod i)) (S.kept store.now).lock key }
 {
     let entry = map.entry(slot(store, key));
     let flipped = flips(
@@ -57,12 +54,8 @@ fn look<S: Store>(store: &S, map: &KeyMap, key: KeyCode) -> Cell
 /// The action that a press takes, and what it leaves remembered.
 fn take_over<S: Store>(store: &mut S, key: KeyCode, action: Action) -> Action
     ensures in_range { key < 128 }
-    ensures taken { result ≡ taken_over (S.memory store.old key) action }
-    ensures marks { (a : HoldingValue) → S.mark store.new a ≡ S.mark store.old a }
-    ensures locks { (l : LockValue) → S.lock store.new l ≡ S.lock store.old l }
-    ensures memories { (k : ℕ) → k < 128 → S.memory store.new k ≡ first_of_two (S.memory store.old k) (if key == k then unless_nop action else None) }
-    ensures pending { S.waiting store.new ≡ S.waiting store.old }
-    ensures force { S.second store.new ≡ S.second store.old }
+    ensures taken { result ≡ taken_over ((S.kept store.old).memory key) action }
+    ensures kept { S.kept store.new ≡ with_offered key action (S.kept store.old) }
 {
     match store.remembers(key, action) {
         Some(true) => action,
@@ -78,12 +71,7 @@ fn take_over<S: Store>(store: &mut S, key: KeyCode, action: Action) -> Action
 
 /// Turns the lock that is taken if it isn't down.
 fn turn_lock<S: Store>(store: &mut S, taken: &Action)
-    ensures marks { (a : HoldingValue) → S.mark store.new a ≡ S.mark store.old a }
-    ensures locks { (l : LockValue) → S.lock store.new l
-        ≡ (if same_action taken.now (holding_action (Holding.Lock l)) && not (S.mark store.old (Holding.Lock l)) then not (S.lock store.old l) else S.lock store.old l) }
-    ensures memories { (k : ℕ) → k < 128 → S.memory store.new k ≡ S.memory store.old k }
-    ensures pending { S.waiting store.new ≡ S.waiting store.old }
-    ensures force { S.second store.new ≡ S.second store.old }
+    ensures { S.kept store.new ≡ with_lock_taken taken.now (S.kept store.old) }
 {
     if let Action::Lock(lock) = taken {
         if !store.is_marked(Holding::Lock(*lock)) {
@@ -95,11 +83,7 @@ fn turn_lock<S: Store>(store: &mut S, taken: &Action)
 /// Sets the mark of the action that is taken, if it has one.
 #[tactic(auto, using(crate::proofs::Places::places))]
 fn hold<S: Store>(store: &mut S, taken: &Action)
-    ensures marks { (a : HoldingValue) → S.mark store.new a ≡ (same_action taken.now (holding_action a) || S.mark store.old a) }
-    ensures locks { (l : LockValue) → S.lock store.new l ≡ S.lock store.old l }
-    ensures memories { (k : ℕ) → k < 128 → S.memory store.new k ≡ S.memory store.old k }
-    ensures pending { S.waiting store.new ≡ S.waiting store.old }
-    ensures force { S.second store.new ≡ S.second store.old }
+    ensures { S.kept store.new ≡ with_taken taken.now (S.kept store.old) }
 {
     if let Some(holding) = taken.holding() {
         store.set_mark(holding, true);
@@ -107,25 +91,19 @@ fn hold<S: Store>(store: &mut S, taken: &Action)
 }
 
 /// Clears the mark of the action that is released, if it has one.
-#[tactic(auto, using(crate::proofs::Places::places))]
 fn let_go<S: Store>(store: &mut S, released: &Action)
-    ensures marks { (a : HoldingValue) → S.mark store.new a ≡ (S.mark store.old a && not (same_action released.now (holding_action a))) }
-    ensures locks { (l : LockValue) → S.lock store.new l ≡ S.lock store.old l }
-    ensures memories { (k : ℕ) → k < 128 → S.memory store.new k ≡ S.memory store.old k }
-    ensures pending { S.waiting store.new ≡ S.waiting store.old }
-    ensures force { S.second store.new ≡ S.second store.old }
+    ensures { S.kept store.new ≡ with_released released.now (S.kept store.old) }
 {
     if let Some(holding) = released.holding() {
         store.set_mark(holding, false);
     }
 }
 
+#[tactic(auto, using(crate::proofs::Keeping::keeping))]
 fn press_character<S: Store>(store: &mut S, map: &KeyMap, key: KeyCode, c: char) -> Answer
-    ensures answer { (h : List ResolvedEvent) → Agrees map.now h (S.mark store.old) (S.lock store.old) (S.memory store.old) (S.waiting store.old)
-        → result ≡ answer_resolved map.now (PressedCharacter key c) h }
-    ensures next { (h : List ResolvedEvent) → Agrees map.now h (S.mark store.old) (S.lock store.old) (S.memory store.old) (S.waiting store.old)
-        → Agrees map.now (PressedCharacter key c ∷ h) (S.mark store.new) (S.lock store.new) (S.memory store.new) (S.waiting store.new) }
-    ensures force { S.second store.new ≡ S.second store.old }
+    ensures answer { let old = S.kept store.old in
+        result ≡ answer_char map.now old.pending (old.mark (Holding.Mod Modifier.Meta)) c }
+    ensures kept { S.kept store.new ≡ after_character key (S.kept store.old) }
 {
     let answer = compose(map, store.pending(), c, is_on(store, Modifier::Meta));
     store.remember(key, None);
@@ -135,11 +113,11 @@ fn press_character<S: Store>(store: &mut S, map: &KeyMap, key: KeyCode, c: char)
 
 #[inline(always)]
 fn press_action<S: Store>(store: &mut S, map: &KeyMap, key: KeyCode, action: Action) -> Answer
-    ensures answer { (h : List ResolvedEvent) → Agrees map.now h (S.mark store.old) (S.lock store.old) (S.memory store.old) (S.waiting store.old)
-        → result ≡ answer_resolved map.now (PressedAction key action) h }
-    ensures next { (h : List ResolvedEvent) → Agrees map.now h (S.mark store.old) (S.lock store.old) (S.memory store.old) (S.waiting store.old)
-        → Agrees map.now (PressedAction key action ∷ h) (S.mark store.new) (S.lock store.new) (S.memory store.new) (S.waiting store.new) }
-    ensures force { S.second store.new ≡ S.second store.old }
+    ensures answer { let old = S.kept store.old in
+        result ≡ answer_action_of map.now old.pending (old.mark (Holding.Mod Modifier.Meta))
+        (taken_over (old.memory key) action) }
+    ensures in_range { key < 128 }
+    ensures kept { S.kept store.new ≡ after_action map.now key action (S.kept store.old) }
 {
     let pending = store.pending();
     let meta = is_on(store, Modifier::Meta);
@@ -150,12 +128,11 @@ fn press_action<S: Store>(store: &mut S, map: &KeyMap, key: KeyCode, action: Act
     answer_action(map, pending, meta, taken)
 }
 
+#[tactic(auto, using(crate::proofs::Keeping::keeping))]
 fn release<S: Store>(store: &mut S, key: KeyCode) -> Answer
-    ensures answer { (m : MapValue) (h : List ResolvedEvent) → Agrees m h (S.mark store.old) (S.lock store.old) (S.memory store.old) (S.waiting store.old)
-        → result ≡ answer_resolved m (ReleasedKey key) h }
-    ensures next { (m : MapValue) (h : List ResolvedEvent) → Agrees m h (S.mark store.old) (S.lock store.old) (S.memory store.old) (S.waiting store.old)
-        → Agrees m (ReleasedKey key ∷ h) (S.mark store.new) (S.lock store.new) (S.memory store.new) (S.waiting store.new) }
-    ensures force { S.second store.new ≡ S.second store.old }
+    ensures answer { result ≡ answer_release ((S.kept store.old).memory key) }
+    ensures in_range { key < 128 }
+    ensures kept { S.kept store.new ≡ after_release key (S.kept store.old) }
 {
     match store.remembered(key) {
         Some(action) => {
@@ -169,12 +146,7 @@ fn release<S: Store>(store: &mut S, key: KeyCode) -> Answer
 
 /// Turns the lock off if no key of the map bears it.
 fn keep_if_borne<S: Store>(store: &mut S, map: &KeyMap, lock: Lock)
-    ensures marks { (a : HoldingValue) → S.mark store.new a ≡ S.mark store.old a }
-    ensures locks { (l : LockValue) → S.lock store.new l
-        ≡ (if same_lock lock l then is_borne_of map.now (Holding.Lock l) && S.lock store.old l else S.lock store.old l) }
-    ensures memories { (k : ℕ) → k < 128 → S.memory store.new k ≡ S.memory store.old k }
-    ensures pending { S.waiting store.new ≡ S.waiting store.old }
-    ensures force { S.second store.new ≡ S.second store.old }
+    ensures { S.kept store.new ≡ with_lock_borne map.now lock (S.kept store.old) }
 {
     if store.is_locked(lock) {
         if !map.is_borne(Holding::Lock(lock)) {
@@ -185,12 +157,9 @@ fn keep_if_borne<S: Store>(store: &mut S, map: &KeyMap, lock: Lock)
 
 /// Forgets what a reset forgets, puts the other map in force and turns off each lock that no key of it bears.
 #[inline(never)]
+#[tactic(auto, using(crate::proofs::Keeping::keeping))]
 fn load<S: Store>(store: &mut S, next: &KeyMap)
-    ensures marks { (a : HoldingValue) → S.mark store.new a ≡ false }
-    ensures locks { (l : LockValue) → S.lock store.new l ≡ (is_borne_of next.now (Holding.Lock l) && S.lock store.old l) }
-    ensures memories { (k : ℕ) → k < 128 → S.memory store.new k ≡ None }
-    ensures pending { S.waiting store.new ≡ None }
-    ensures force { S.second store.new ≡ not (S.second store.old) }
+    ensures { S.kept store.new ≡ after_load next.now (S.kept store.old) }
 {
     store.reset();
     store.exchange();
@@ -204,11 +173,11 @@ fn load<S: Store>(store: &mut S, next: &KeyMap)
 #[inline(always)]
 fn step<S: Store>(store: &mut S, map: &KeyMap, next: &KeyMap, event: Event) -> Answer
     ensures answer { (ms : Maps) (h : List EventValue) → map.now ≡ in_force ms h → next.now ≡ loaded ms h
-        → StandsAt ms h (S.mark store.old) (S.lock store.old) (S.memory store.old) (S.waiting store.old) (S.second store.old)
+        → StandsAt ms h (S.kept store.old)
         → result ≡ AnswerTo ms h event }
     ensures next { (ms : Maps) (h : List EventValue) → map.now ≡ in_force ms h → next.now ≡ loaded ms h
-        → StandsAt ms h (S.mark store.old) (S.lock store.old) (S.memory store.old) (S.waiting store.old) (S.second store.old)
-        → StandsAt ms (event ∷ h) (S.mark store.new) (S.lock store.new) (S.memory store.new) (S.waiting store.new) (S.second store.new) }
+        → StandsAt ms h (S.kept store.old)
+        → StandsAt ms (event ∷ h) (S.kept store.new) }
 {
     match event {
         Event::Press(key) => match look(store, map, key) {
@@ -238,11 +207,7 @@ pub struct Console<'m, S: Drop> {
 impl<'m, S: Store + Drop> Console<'m, S> {
     /// A console that keeps its state in a store of nothing, the first map in force.
     pub fn over(first: &'m KeyMap, second: &'m KeyMap, store: S) -> Console<'m, S>
-        requires marks { (a : HoldingValue) → S.mark store a ≡ false }
-        requires locks { (l : LockValue) → S.lock store l ≡ false }
-        requires memories { (k : ℕ) → k < 128 → S.memory store k ≡ None }
-        requires pending { S.waiting store ≡ None }
-        requires force { S.second store ≡ false }
+        requires { S.kept store ≡ nothing_kept }
         ensures { ⟦<Console<'m, S> as Translator>⟧.stands result (between first.now second.now) [] }
     {
         Console {
@@ -281,13 +246,14 @@ impl<'m, S: Store + Drop> Translator for Console<'m, S> {
     ghost use Rattle.console_core.specs.Agrees.{StandsAt};
     ghost use Rattle.console_core.specs.History.{HasKeys};
 
-    ghost stands = { λ c ms h. (c.first.now ≡ ms.first) × (c.second.now ≡ ms.second) × HasKeys h × StandsAt ms h (S.mark c.store) (S.lock c.store) (S.memory c.store) (S.waiting c.store) (S.second c.store) };
+    ghost stands = { λ c ms h. (c.first.now ≡ ms.first) × (c.second.now ≡ ms.second) × HasKeys h
+        × StandsAt ms h (S.kept c.store) };
 
-    ghost shows_on = { λ c i. S.mark c.store (Mod i) };
+    ghost shows_on = { λ c i. (S.kept c.store).mark (Mod i) };
 
-    ghost shows_locked = { λ c l. S.lock c.store l };
+    ghost shows_locked = { λ c. (S.kept c.store).lock };
 
-    ghost shows_pending = { λ c. S.waiting c.store };
+    ghost shows_pending = { λ c. (S.kept c.store).pending };
 
     ghost on_where_it_stands = { λ c ms h stands i. stands.3.agrees.marks (Mod i) };
 

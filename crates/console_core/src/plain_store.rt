@@ -1,9 +1,8 @@
 //! A store with a truth value for each modifier, lock and down mark, and an optional action for each key.
-ghost use Rattle.std.specs.Prelude.{◌≡◌, ℕ, ◌<◌, false, None, length, IfSome};
+ghost use Rattle.std.specs.Prelude.{◌≡◌, ◌<◌, length, IfSome};
 ghost use Rattle.std.proofs.Props.{props};
-ghost use Rattle.keymap_core.specs.declared.action.Holding.{Holding as HoldingValue};
-ghost use Rattle.keymap_core.specs.declared.action.Lock.{Lock as LockValue};
-ghost use Rattle.console_core.specs.Tables.{mark_at, lock_at, memory_at};
+ghost use Rattle.console_core.specs.Kept.{nothing_kept};
+ghost use Rattle.console_core.specs.Tables.{kept_in_tables};
 
 use crate::store::Store;
 use keymap_core::{Action, Holding, KeyCode, Lock};
@@ -25,11 +24,8 @@ pub struct PlainStore {
 #[tactic(auto, using(crate::proofs::Places::places))]
 impl PlainStore {
     pub fn new() -> PlainStore
-        ensures marks { (a : HoldingValue) → mark_at result.marks a ≡ false }
-        ensures locks { (l : LockValue) → lock_at result.locks l ≡ false }
-        ensures memories { (k : ℕ) → k < 128 → memory_at result.actions k ≡ None }
-        ensures pending { result.pending ≡ None }
-        ensures force { result.is_second ≡ false }
+        ensures { kept_in_tables result.marks result.locks result.actions result.pending result.is_second
+            ≡ nothing_kept }
     {
         PlainStore {
             marks: [false; 12],
@@ -43,15 +39,7 @@ impl PlainStore {
 
 #[tactic(auto, using(crate::proofs::Places::places))]
 impl Store for PlainStore {
-    ghost mark = { λ s. mark_at s.marks };
-
-    ghost lock = { λ s. lock_at s.locks };
-
-    ghost memory = { λ s. memory_at s.actions };
-
-    ghost waiting = { λ s. s.pending };
-
-    ghost second = { λ s. s.is_second };
+    ghost kept = { λ s. kept_in_tables s.marks s.locks s.actions s.pending s.is_second };
 
     fn is_marked(&self, holding: Holding) -> bool {
         self.marks[holding.index()]

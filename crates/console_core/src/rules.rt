@@ -2,8 +2,10 @@
 //! press takes.
 ghost use Rattle.std.specs.Prelude.{◌≡◌, ◌<◌, IfSome, if◌then◌else◌};
 ghost use Rattle.console_core.specs.Columns.{flips as flips_by, column_of};
-ghost use Rattle.console_core.specs.Answers.{first_result as first_result_of, answer_char, usable, answer_dead_key as answer_dead_key_of, answer_action as answer_action_of};
-ghost use Rattle.console_core.specs.Agrees.{next_pending as next_pending_of, toggled as toggled_of};
+ghost use Rattle.console_core.specs.Answers.{first_result as first_result_of, answer_char, usable};
+ghost use Rattle.console_core.specs.Answers.{answer_dead_key as answer_dead_key_of};
+ghost use Rattle.console_core.specs.Answers.{answer_action as answer_action_of};
+ghost use Rattle.console_core.specs.Kept.{next_pending as next_pending_of, toggled as toggled_of};
 
 use crate::event::Answer;
 use keymap_core::{Action, KeyMap, LockFlag};

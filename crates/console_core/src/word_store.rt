@@ -1,9 +1,9 @@
 //! A store with one word of 32 bits and a byte for each key.
-ghost use Rattle.std.specs.Prelude.{◌≡◌, ◌≢◌, ℕ, ◌<◌, ◌≤◌, Bool, false, None, option_map, length, IfSome};
-ghost use Rattle.keymap_core.specs.declared.action.Holding.{Holding as HoldingValue};
-ghost use Rattle.keymap_core.specs.declared.action.Lock.{Lock as LockValue};
+ghost use Rattle.std.specs.Prelude.{◌≡◌, ◌≢◌, ◌<◌, ◌≤◌, false, None, option_map, length, IfSome};
 ghost use Rattle.keymap_core.specs.Actions.{same_action};
-ghost use Rattle.console_core.specs.Words.{word_mark, word_lock, word_pending, word_second, mark_bit as mark_bit_of, lock_bit as lock_bit_of, pending_from, pending_code as pending_code_of, coded, code_memory};
+ghost use Rattle.console_core.specs.Kept.{nothing_kept};
+ghost use Rattle.console_core.specs.Words.{kept_in_word, mark_bit as mark_bit_of, lock_bit as lock_bit_of};
+ghost use Rattle.console_core.specs.Words.{pending_from, pending_code as pending_code_of, coded};
 
 use crate::store::Store;
 use keymap_core::laws::{every_action_has_its_code, every_code_is_read};
@@ -90,11 +90,7 @@ pub struct WordStore {
 
 impl WordStore {
     pub fn new() -> WordStore
-        ensures marks { (a : HoldingValue) → word_mark result.word a ≡ false }
-        ensures locks { (l : LockValue) → word_lock result.word l ≡ false }
-        ensures memories { (k : ℕ) → k < 128 → code_memory result.codes k ≡ None }
-        ensures pending { word_pending result.word ≡ None }
-        ensures force { word_second result.word ≡ false }
+        ensures { kept_in_word result.word result.codes ≡ nothing_kept }
     {
         WordStore {
             word: 0,
@@ -115,15 +111,7 @@ impl WordStore {
 
 #[tactic(auto, using(crate::proofs::WordBits::word_bits))]
 impl Store for WordStore {
-    ghost mark = { λ s. word_mark s.word };
-
-    ghost lock = { λ s. word_lock s.word };
-
-    ghost memory = { λ s. code_memory s.codes };
-
-    ghost waiting = { λ s. word_pending s.word };
-
-    ghost second = { λ s. word_second s.word };
+    ghost kept = { λ s. kept_in_word s.word s.codes };
 
     fn is_marked(&self, holding: Holding) -> bool {
         self.word & (1 << mark_bit(holding)) != 0

@@ -5,4 +5,4 @@ use Rattle.console_core.proofs.Agreeing.{stands-start}
 use Rattle.console_core.proofs.machine.Console.over.Goals as goal
 
 pub returns : goal.returns
-returns g c = (refl, refl, All-nil HasKey, stands-start (between c.args.first.now c.args.second.now) _ _ _ _ _ c.requires.marks c.requires.locks c.requires.memories c.requires.pending c.requires.force)
+returns g c = (refl, refl, All-nil HasKey, rw c.requires (stands-start (between c.args.first.now c.args.second.now)))

@@ -1,6 +1,10 @@
-use Rattle.std.proofs.Common.{None}
-use Rattle.std.proofs.lemmas.List.{get_or-replicate}
+use Rattle.std.proofs.Common.{false, None, refl}
+use Rattle.console_core.proofs.Codes.{get_or-replicate_default}
+use Rattle.keymap_core.specs.Actions.{holding_index}
+use Rattle.console_core.proofs.Keeping.{kept-same}
 use Rattle.console_core.proofs.plain_store.PlainStoreStore.reset.Goals as goal
 
-pub returns-clause-memories : goal.returns-clause-memories
-returns-clause-memories c = λ k h. get_or-replicate 128 k None None h
+pub returns : goal.returns
+returns c =
+    kept-same _ _ (λ a. get_or-replicate_default 12 (holding_index a) false) (λ l. refl)
+    (λ j. get_or-replicate_default 128 j None) refl refl

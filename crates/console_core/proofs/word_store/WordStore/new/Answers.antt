@@ -1,5 +1,7 @@
+use Rattle.std.proofs.Common.{rules, refl}
 use Rattle.console_core.proofs.Codes.{codes-start}
+use Rattle.console_core.proofs.Keeping.{kept-same}
 use Rattle.console_core.proofs.word_store.WordStore.new.Goals as goal
 
-pub returns-clause-memories : goal.returns-clause-memories
-returns-clause-memories c = λ k h. codes-start k h
+pub returns : goal.returns
+returns c = kept-same _ _ (λ a. search rules) (λ l. search rules) codes-start refl refl

@@ -1,0 +1,89 @@
+-- What writing parts of what a console keeps leaves, after a release and after a load.
+use Rattle.std.proofs.Common.{◌≡◌, ℕ, Bool, true, false, ◌&&◌, not, eqb, None, Some, refl, ap, sym, ◌∙◌}
+use Rattle.std.proofs.Common.{if◌then◌else◌}
+use Rattle.std.specs.Prelude.{◌==◌}
+use Rattle.std.proofs.lemmas.Bool.{eqb-true}
+use mathlib.Core.Path.{fun_ext}
+use Rattle.keymap_core.specs.declared.action.Action.{Action}
+use Rattle.keymap_core.specs.declared.action.Holding.{Holding}
+use Rattle.keymap_core.specs.declared.action.Holding.TheVariants as holding
+use Rattle.keymap_core.specs.declared.action.Lock.{Lock}
+use Rattle.keymap_core.specs.declared.action.Lock.TheVariants.{Caps, Num, Scroll, Alt}
+use Rattle.keymap_core.specs.Actions.{holding_action, holding_index, holding_of}
+use Rattle.keymap_core.specs.Borne.{is_borne}
+use Rattle.keymap_core.specs.Maps.{MapValue}
+use Rattle.console_core.specs.Resolved.{is_action}
+use Rattle.console_core.specs.Kept.{Kept, with_mark, with_memory, with_released, with_lock_borne}
+use Rattle.console_core.specs.Kept.{after_release, after_reset, exchanged, after_load}
+use Rattle.console_core.proofs.Places.{holding_of-some, same_place}
+
+-- what is kept is known by its parts
+pub kept-same : (j k : Kept) → ((a : Holding) → j.mark a ≡ k.mark a) → ((l : Lock) → j.lock l ≡ k.lock l)
+    → ((i : ℕ) → j.memory i ≡ k.memory i) → j.pending ≡ k.pending → j.is_second ≡ k.is_second → j ≡ k
+kept-same j k marks locks memory pending second =
+    let marks_same : j.mark ≡ k.mark = fun_ext marks in
+    let locks_same : j.lock ≡ k.lock = fun_ext locks in
+    let memory_same : j.memory ≡ k.memory = fun_ext memory in
+    ap (λ x. record j { mark = x }) marks_same
+    ∙ ap (λ x. record j { mark = k.mark; lock = x }) locks_same
+    ∙ ap (λ x. record k { memory = x; pending = j.pending; is_second = j.is_second }) memory_same
+    ∙ ap (λ x. record k { pending = x; is_second = j.is_second }) pending
+    ∙ ap (λ x. record k { is_second = x }) second
+
+same-marks : (k : Kept) (f g : Holding → Bool) → ((a : Holding) → f a ≡ g a)
+    → record k { mark = f } ≡ record k { mark = g }
+same-marks k f g same = let e : f ≡ g = fun_ext same in ap (λ x. record k { mark = x }) e
+
+same-locks : (k : Kept) (f g : Lock → Bool) → ((l : Lock) → f l ≡ g l) → record k { lock = f } ≡ record k { lock = g }
+same-locks k f g same = let e : f ≡ g = fun_ext same in ap (λ x. record k { lock = x }) e
+
+cleared : (t x : Bool) → (if t then false else x) ≡ (x && not t)
+cleared true true = refl
+cleared true false = refl
+cleared false true = refl
+cleared false false = refl
+
+pub released-cleared : (k : Kept) (b : Action) (a : Holding) → holding_of b ≡ Some a
+    → with_mark a false k ≡ with_released b k
+released-cleared k b a e =
+    let is : b ≡ holding_action a = holding_of-some b a e in
+    same-marks k _ _ (λ i. rw (is, same_place a i) (cleared (holding_index a == holding_index i) (k.mark i)))
+
+-- each lock in turn, after a load
+all_borne : (m : MapValue) (k : Kept) (l : Lock)
+    → (with_lock_borne m Alt (with_lock_borne m Scroll (with_lock_borne m Num (with_lock_borne m Caps k)))).lock l
+    ≡ (is_borne m (holding.Lock l) && k.lock l)
+all_borne m k Caps = refl
+all_borne m k Num = refl
+all_borne m k Scroll = refl
+all_borne m k Alt = refl
+
+pub loaded-kept : (m : MapValue) (k : Kept)
+    → with_lock_borne m Alt (with_lock_borne m Scroll
+    (with_lock_borne m Num (with_lock_borne m Caps (exchanged (after_reset k)))))
+    ≡ after_load m k
+loaded-kept m k = same-locks (exchanged (after_reset k)) _ _ (λ l. all_borne m (exchanged (after_reset k)) l)
+
+and_kept : (x : Bool) → x ≡ (x && true)
+and_kept true = refl
+and_kept false = refl
+
+forgotten : (k : Kept) (key j : ℕ) (t : Bool) → eqb key j ≡ t → k.memory key ≡ None
+    → k.memory j ≡ (if t then None else k.memory j)
+forgotten k key j true is none = ap k.memory (sym (eqb-true key j is)) ∙ none
+forgotten k key j false is none = refl
+
+-- a release of a key for which nothing is remembered
+pub idle-released : (k : Kept) (key : ℕ) → k.memory key ≡ None → k ≡ after_release key k
+idle-released k key none =
+    kept-same k (after_release key k)
+    (λ a. and_kept (k.mark a) ∙ ap (λ x. k.mark a && not (is_action x (holding_action a))) (sym none))
+    (λ l. refl) (λ j. forgotten k key j (eqb key j) refl none) refl refl
+
+-- a release of a key for which the action is remembered
+pub held-released : (k : Kept) (key : ℕ) (held : Action) → k.memory key ≡ Some held
+    → with_released held (with_memory key None k) ≡ after_release key k
+held-released k key held is =
+    same-marks (with_memory key None k) _ _ (λ a. ap (λ x. k.mark a && not (is_action x (holding_action a))) (sym is))
+
+pub ruleset keeping = (loaded-kept, idle-released, held-released)

@@ -1,10 +1,11 @@
 -- One more cell of a slot, read.
-use Rattle.std.proofs.Common.{◌≡◌, ℕ, ◌+◌, ◌-◌, ◌*◌, ◌/◌, ◌%◌, ◌^◌, ◌<◌, ◌≤◌, ◌==◌, List, [], ◌∷◌, ◌++◌, length, take, drop, get_or, set, cond, None, refl, sym, ap, ◌∙◌, arith, add-one, suc, zero, ◌≢◌, inl, inr, subst, length-drop, drop-cons}
+use Rattle.std.proofs.Common.{◌≡◌, ℕ, ◌+◌, ◌-◌, ◌*◌, ◌/◌, ◌%◌, ◌^◌, ◌<◌, ◌≤◌, ◌==◌, List, [], ◌∷◌, ◌++◌, length, take, drop, get_or, set, cond, None, Some, true, false, nat_lt, nat_le, append-nil, refl, sym, ap, ◌∙◌, arith, add-one, suc, zero, ◌≢◌, inl, inr, subst, length-drop, drop-cons}
 use Rattle.std.specs.Prelude.{slice_index, All}
+use Rattle.std.specs.Int.{to_le_bytes, from_le_bytes, w8, w32}
 use Rattle.std.proofs.lemmas.Grind.{common_steps, flat_map-append}
 use Rattle.std.proofs.lemmas.Bool.Decides.{nat_tests}
 use Rattle.std.proofs.Math.ListN.{drop_of_length-le}
-use Rattle.std.proofs.lemmas.List.{length-take-le, take-append-drop, get_or-take, get_or-drop}
+use Rattle.std.proofs.lemmas.List.{length-take-le, take-append-drop, get_or-take, get_or-drop, take_all}
 use Rattle.std.proofs.lemmas.List.Sums.{fold-append}
 use Rattle.std.proofs.lemmas.Nat.{le_bytes_4}
 use Rattle.std.proofs.lemmas.List.Elements.{All-push}
@@ -13,14 +14,36 @@ use Rattle.std.proofs.Math.Nat.{div-div-eq-div-mul, pow-suc, eq-or-lt_of_le}
 use Rattle.std.proofs.lemmas.Bool.{cases_lt}
 use Rattle.std.specs.List.{flat_map}
 use Rattle.keymap_core.specs.declared.entry.Cell.{Cell}
+use Rattle.keymap_core.specs.declared.entry.Cell.TheVariants.{Char, Act}
 use Rattle.keymap_core.specs.declared.entry.Entry.{Entry}
 use Rattle.keymap_core.specs.declared.entry.LockFlag.{LockFlag}
 use Rattle.keymap_core.specs.declared.entry.LockFlag.TheVariants as variant
-use Rattle.keymap_tables.proofs.Pads.{zero-none}
-use Rattle.keymap_tables.specs.Image.{cell_bytes, number_bytes, marks_of, number_of, is_act, slot_bytes, flag_number}
-use Rattle.keymap_tables.specs.Layouts.{wide}
+use Rattle.keymap_tables.proofs.Pads.{zero-none, drop-zeros}
+use Rattle.keymap_tables.specs.Image.{cell_bytes, number_bytes, marks_of, number_of, is_act, slot_bytes, flag_number, zeros}
+use Rattle.keymap_tables.specs.Layouts.{number_size, number_limit, pad_size, slot_size}
+use Rattle.keymap_tables.specs.declared.layout.Layout.{Layout}
+use Rattle.keymap_tables.specs.declared.layout.Layout.TheVariants.{Wide, Narrow}
+use Rattle.keymap_tables.specs.Fits.{CellFits}
+use Rattle.keymap_tables.proofs.Sizes.{some-number, cell-inside, cell-next, cells-end}
 use Rattle.keymap_tables.specs.Faults.{number_at, mark_at, cell_fault, slot_fault, zero_fault, IsFirstFault}
 use Rattle.keymap_tables.specs.declared.fault.TableFaultKind.TheVariants.{BadPad, BadFlag}
+use Rattle.keymap_tables.specs.declared.fault.TableFault.{TableFault}
+use Rattle.keymap_tables.specs.declared.fault.TableFaultKind.{TableFaultKind}
+
+is_below : (a b : ℕ) → a < b → nat_lt a b ≡ true
+is_below a b below = grind (arith, nat_tests)
+
+not_below : (a b : ℕ) → b ≤ a → nat_lt a b ≡ false
+not_below a b past = grind (arith, nat_tests)
+
+isnt_at : (a b : ℕ) → b < a → (a == b) ≡ false
+isnt_at a b past = grind (arith, nat_tests)
+
+is_few : (a b : ℕ) → a ≤ b → nat_le a b ≡ true
+is_few a b few = grind (arith, nat_tests)
+
+isnt_few : (a b : ℕ) → b < a → nat_le a b ≡ false
+isnt_few a b many = grind (arith, nat_tests)
 
 -- after one more cell
 pub take-more : {X : Type 0} (xs : List X) (i : ℕ) (x : X) → i < length xs → take (i + 1) (set xs i x) ≡ take i xs ++ x ∷ []
@@ -29,27 +52,51 @@ take-more xs i x below = rw add-one (take-suc-set xs i x below)
 pub All-more_set : {X : Type 0} (P : X → Type 0) (xs : List X) (i : ℕ) (x : X) → i < length xs → All P (take i xs) → P x → All P (take (i + 1) (set xs i x))
 All-more_set P xs i x below so_far is = rw (take-more xs i x below) (All-push P (take i xs) x so_far is)
 
-pub four-long : (bytes : List ℕ) (at : ℕ) → at + 4 ≤ length bytes → length (take 4 (drop at bytes)) ≡ 4
-four-long bytes at fits = length-take-le 4 (drop at bytes) (omega (arith, length-drop at bytes))
+pub number-long : (l : Layout) (bytes : List ℕ) (at : ℕ) → at + number_size l ≤ length bytes → length (take (number_size l) (drop at bytes)) ≡ number_size l
+number-long l bytes at fits = length-take-le (number_size l) (drop at bytes) (omega (arith, length-drop at bytes))
 
-pub four-small : (bytes : List ℕ) (at : ℕ) → ((i : ℕ) → get_or bytes i 0 < 256) → (i : ℕ) → get_or (take 4 (drop at bytes)) i 0 < 256
-four-small bytes at small i = grind (arith, common_steps, get_or-take, get_or-drop, small (at + i))
+pub part-small : (n : ℕ) (bytes : List ℕ) (at : ℕ) → ((i : ℕ) → get_or bytes i 0 < 256) → (i : ℕ) → get_or (take n (drop at bytes)) i 0 < 256
+part-small n bytes at small i = grind (arith, common_steps, get_or-take, get_or-drop, small (at + i))
 
--- the four bytes of a number
-pub number_bytes-at : (bytes : List ℕ) (at number : ℕ) → ((i : ℕ) → get_or bytes i 0 < 256) → at + 4 ≤ length bytes → number ≡ number_at wide bytes at → number_bytes wide number ≡ take 4 (drop at bytes)
-number_bytes-at bytes at number small fits is =
-    le_bytes_4 (take 4 (drop at bytes)) number (four-long bytes at fits) (four-small bytes at small) is
+-- one byte
+pub one-byte : (bytes : List ℕ) (n : ℕ) → length bytes ≡ 1 → get_or bytes 0 0 < 256 → n ≡ from_le_bytes w8 bytes → to_le_bytes w8 n ≡ bytes
+one-byte [] n one small is = absurd (omega arith)
+one-byte (b ∷ []) n one small is =
+    let same : n ≡ b = omega (arith, is) in
+    let whole : n % 256 ≡ b = omega arith in
+    ap (λ (v : ℕ). v ∷ []) whole
+one-byte (b ∷ c ∷ bytes) n one small is = absurd (omega arith)
 
-pub cell_bytes-at : (bytes : List ℕ) (at : ℕ) (cell : Cell) → ((i : ℕ) → get_or bytes i 0 < 256) → at + 4 ≤ length bytes → number_of cell ≡ number_at wide bytes at → cell_bytes wide cell ≡ take 4 (drop at bytes)
-cell_bytes-at bytes at cell small fits number =
-    le_bytes_4 (take 4 (drop at bytes)) (number_of cell) (four-long bytes at fits) (four-small bytes at small) number
+-- the bytes of a number
+pub number_bytes-at : (l : Layout) (bytes : List ℕ) (at number : ℕ) → ((i : ℕ) → get_or bytes i 0 < 256) → at + number_size l ≤ length bytes → number ≡ number_at l bytes at → number_bytes l number ≡ take (number_size l) (drop at bytes)
+number_bytes-at Wide bytes at number small fits is =
+    le_bytes_4 (take 4 (drop at bytes)) number (number-long Wide bytes at fits) (part-small 4 bytes at small) is
+number_bytes-at Narrow bytes at number small fits is =
+    one-byte (take 1 (drop at bytes)) number (number-long Narrow bytes at fits) (part-small 1 bytes at small 0) is
 
-pub bytes-more : (bytes : List ℕ) (cells : List Cell) (i : ℕ) (cell : Cell) → ((k : ℕ) → get_or bytes k 0 < 256) → 4 * i + 4 ≤ length bytes → i < length cells → flat_map (cell_bytes wide) (take i cells) ≡ take (4 * i) bytes → number_of cell ≡ number_at wide bytes (4 * i) → flat_map (cell_bytes wide) (take (i + 1) (set cells i cell)) ≡ take (4 * (i + 1)) bytes
-bytes-more bytes cells i cell small fits below so_far number =
-    let here = cell_bytes-at bytes (4 * i) cell small fits number in
-    let grown : 4 * (i + 1) ≡ 4 * i + 4 = omega arith in
-    rw (take-more cells i cell below, flat_map-append, so_far, grown, take-add (4 * i) 4 bytes)
-    (ap (λ (v : List ℕ). take (4 * i) bytes ++ v) here)
+-- a number that was read fits
+below_256 : (bytes : List ℕ) → get_or bytes 0 0 < 256 → from_le_bytes w8 bytes < 256
+below_256 bytes small = omega (arith, small)
+
+below_2_32 : (bytes : List ℕ) → ((i : ℕ) → get_or bytes i 0 < 256) → from_le_bytes w32 bytes < 2 ^ 32
+below_2_32 bytes small = omega (arith, small 0, small 1, small 2, small 3)
+
+pub number-fits : (l : Layout) (bytes : List ℕ) (at : ℕ) → ((i : ℕ) → get_or bytes i 0 < 256) → number_at l bytes at < number_limit l
+number-fits Wide bytes at small = below_2_32 (take 4 (drop at bytes)) (part-small 4 bytes at small)
+number-fits Narrow bytes at small = below_256 (take 1 (drop at bytes)) (part-small 1 bytes at small 0)
+
+pub cell-fits : (l : Layout) (cell : Cell) (n : ℕ) → number_of cell ≡ n → n < number_limit l → CellFits l cell
+cell-fits l (Char c) n is small = rw is small
+cell-fits l (Act a) n is small = tt
+
+pub bytes-more : (l : Layout) (bytes : List ℕ) (cells : List Cell) (i : ℕ) (cell : Cell) → ((k : ℕ) → get_or bytes k 0 < 256) → number_size l * i + number_size l ≤ length bytes → i < length cells → flat_map (cell_bytes l) (take i cells) ≡ take (number_size l * i) bytes → number_of cell ≡ number_at l bytes (number_size l * i) → flat_map (cell_bytes l) (take (i + 1) (set cells i cell)) ≡ take (number_size l * (i + 1)) bytes
+bytes-more l bytes cells i cell small fits below so_far number =
+    let s = number_size l in
+    let here = number_bytes-at l bytes (s * i) (number_of cell) small fits number in
+    ap (flat_map (cell_bytes l)) (take-more cells i cell below) ∙ flat_map-append (cell_bytes l) (take i cells) (cell ∷ [])
+    ∙ ap (λ (v : List ℕ). flat_map (cell_bytes l) (take i cells) ++ v) (append-nil (cell_bytes l cell) ∙ here)
+    ∙ ap (λ (v : List ℕ). v ++ take s (drop (s * i) bytes)) so_far
+    ∙ sym (take-add (s * i) s bytes) ∙ ap (λ (n : ℕ). take n bytes) (sym (cell-next l i))
 
 -- a number, by its half and its last bit
 pub halves : (y : ℕ) → 2 * (y / 2) + cond (y % 2 == 1) 1 0 ≡ y
@@ -66,40 +113,67 @@ marks-more marks cells i cell small below so_far mark =
     rw (take-more cells i cell below, fold-append, so_far, mark, half-of marks i small, less)
     (halves (marks / 2 ^ (7 - i)))
 
-pub fault-here : (bytes : List ℕ) (i : ℕ) → i < 8 → slot_fault wide bytes (4 * i) ≡ cell_fault (number_at wide bytes (4 * i)) (mark_at wide bytes i)
-fault-here bytes zero small = refl
-fault-here bytes (suc zero) small = refl
-fault-here bytes (suc (suc zero)) small = refl
-fault-here bytes (suc (suc (suc zero))) small = refl
-fault-here bytes (suc (suc (suc (suc zero)))) small = refl
-fault-here bytes (suc (suc (suc (suc (suc zero))))) small = refl
-fault-here bytes (suc (suc (suc (suc (suc (suc zero)))))) small = refl
-fault-here bytes (suc (suc (suc (suc (suc (suc (suc zero))))))) small = refl
-fault-here bytes (suc (suc (suc (suc (suc (suc (suc (suc n)))))))) small = absurd (omega arith)
+-- Where column i begins.
+begins : (l : Layout) (i : ℕ) → ((number_size l * i) % number_size l == 0) ≡ true
+begins Wide i = let none : (4 * i) % 4 ≡ 0 = omega arith in rw none refl
+begins Narrow i = let none : (1 * i) % 1 ≡ 0 = omega arith in rw none refl
+
+column-of : (l : Layout) (i : ℕ) → number_size l * i / number_size l ≡ i
+column-of Wide i = omega arith
+column-of Narrow i = omega arith
+
+among-cells : (l : Layout) (i p : ℕ) → i < 8 → p < number_size l * (i + 1) → nat_lt p (8 * number_size l) ≡ true
+among-cells Wide i p small below = is_below p 32 (omega arith)
+among-cells Narrow i p small below = is_below p 8 (omega arith)
+
+starts : (l : Layout) (i : ℕ) → number_size l * i < number_size l * (i + 1)
+starts Wide i = omega arith
+starts Narrow i = omega arith
+
+pub fault-here : (l : Layout) (bytes : List ℕ) (i : ℕ) → i < 8 → slot_fault l bytes (number_size l * i) ≡ cell_fault (number_at l bytes (number_size l * i)) (mark_at l bytes i)
+fault-here l bytes i small =
+    rw (among-cells l i (number_size l * i) small (starts l i), begins l i, column-of l i) refl
+
+-- the first fault, at a cell
+pub first-cell : (l : Layout) (bytes : List ℕ) (i : ℕ) (f : TableFault) → i < 8 → f.offset ≡ number_size l * i → cell_fault (number_at l bytes (number_size l * i)) (mark_at l bytes i) ≡ Some f.kind → ((p : ℕ) → p < number_size l * i → slot_fault l bytes p ≡ None) → IsFirstFault (slot_fault l bytes) f × (f.offset < 8 * number_size l)
+first-cell l bytes i f small at fault before = (
+  record {
+    here = ap (slot_fault l bytes) at ∙ fault-here l bytes i small ∙ fault;
+    before = λ p below. before p (omega (arith, below, at));
+  },
+  omega (arith, at, cell-inside l i small, some-number l),
+)
 
 -- between two cells no fault stands
-pub none-between : (bytes : List ℕ) (i p : ℕ) → i < 8 → 4 * i < p → p < 4 * (i + 1) → slot_fault wide bytes p ≡ None
-none-between bytes i p small above below =
-    let low : p < 32 = omega arith in
-    let off : p % 4 ≢ 0 = omega arith in
-    grind (arith, nat_tests)
+within-cell : (l : Layout) (i p : ℕ) → number_size l * i < p → p < number_size l * (i + 1) → (p % number_size l == 0) ≡ false
+within-cell Wide i p above below = let off : p % 4 ≢ 0 = omega arith in grind (arith, nat_tests)
+within-cell Narrow i p above below = absurd (omega arith)
 
-pub sound-more : (bytes : List ℕ) (i : ℕ) → i < 8 → ((p : ℕ) → p < 4 * i → slot_fault wide bytes p ≡ None) → cell_fault (number_at wide bytes (4 * i)) (mark_at wide bytes i) ≡ None → (p : ℕ) → p < 4 * (i + 1) → slot_fault wide bytes p ≡ None
-sound-more bytes i small so_far here p below =
-    elim (cases_lt p (4 * i)) [
+pub none-between : (l : Layout) (bytes : List ℕ) (i p : ℕ) → i < 8 → number_size l * i < p → p < number_size l * (i + 1) → slot_fault l bytes p ≡ None
+none-between l bytes i p small above below =
+    rw (among-cells l i p small below, within-cell l i p above below) refl
+
+pub sound-more : (l : Layout) (bytes : List ℕ) (i : ℕ) → i < 8 → ((p : ℕ) → p < number_size l * i → slot_fault l bytes p ≡ None) → cell_fault (number_at l bytes (number_size l * i)) (mark_at l bytes i) ≡ None → (p : ℕ) → p < number_size l * (i + 1) → slot_fault l bytes p ≡ None
+sound-more l bytes i small so_far here p below =
+    elim (cases_lt p (number_size l * i)) [
       | inl before ↦ so_far p before
       | inr from ↦ elim (eq-or-lt_of_le from) [
-        | inl same ↦ subst (λ q. slot_fault wide bytes q ≡ None) same (fault-here bytes i small ∙ here)
-        | inr above ↦ none-between bytes i p small above below
+        | inl same ↦ subst (λ q. slot_fault l bytes q ≡ None) same (fault-here l bytes i small ∙ here)
+        | inr above ↦ none-between l bytes i p small above below
       ]
     ]
 
 -- all eight cells
-pub bytes-all : (bytes : List ℕ) (cells : List Cell) (i : ℕ) → i ≡ 8 → length cells ≡ 8 → flat_map (cell_bytes wide) (take i cells) ≡ take (4 * i) bytes → take 32 bytes ≡ flat_map (cell_bytes wide) cells
-bytes-all bytes cells i end whole so_far =
-    let all : take i cells ≡ cells = grind (arith, common_steps) in
-    let thirty_two : 4 * i ≡ 32 = omega arith in
-    sym (rw (all, thirty_two) at so_far)
+pub bytes-all : (l : Layout) (bytes : List ℕ) (cells : List Cell) (i : ℕ) → i ≡ 8 → length cells ≡ 8 → flat_map (cell_bytes l) (take i cells) ≡ take (number_size l * i) bytes → take (8 * number_size l) bytes ≡ flat_map (cell_bytes l) cells
+bytes-all l bytes cells i end whole so_far =
+    let all : take i cells ≡ cells = take_all i cells (omega arith) in
+    let last : number_size l * i ≡ 8 * number_size l = ap (λ (k : ℕ). number_size l * k) end ∙ cells-end l in
+    ap (λ (n : ℕ). take n bytes) (sym last) ∙ sym so_far ∙ ap (flat_map (cell_bytes l)) all
+
+pub sound-all : (l : Layout) (bytes : List ℕ) (i : ℕ) → i ≡ 8 → ((p : ℕ) → p < number_size l * i → slot_fault l bytes p ≡ None) → (p : ℕ) → p < 8 * number_size l → slot_fault l bytes p ≡ None
+sound-all l bytes i end so_far p below =
+    let last : number_size l * i ≡ 8 * number_size l = ap (λ (k : ℕ). number_size l * k) end ∙ cells-end l in
+    so_far p (omega (arith, last))
 
 pub marks-all : (marks : ℕ) (cells : List Cell) (i : ℕ) → i ≡ 8 → length cells ≡ 8 → marks_of (take i cells) ≡ marks / 2 ^ (8 - i) → marks ≡ marks_of cells
 marks-all marks cells i end whole so_far =
@@ -109,52 +183,58 @@ marks-all marks cells i end whole so_far =
     let by_one : marks / 1 ≡ marks = omega arith in
     sym (whole_marks ∙ by_one)
 
--- the four bytes after the cells
-pub last-four : (bytes : List ℕ) → length bytes ≡ 36 → drop 32 bytes ≡ get_or bytes 32 0 ∷ get_or bytes 33 0 ∷ get_or bytes 34 0 ∷ get_or bytes 35 0 ∷ []
-last-four bytes whole =
-    let a : 32 < length bytes = omega arith in
-    let b : 33 < length bytes = omega arith in
-    let c : 34 < length bytes = omega arith in
-    let d : 35 < length bytes = omega arith in
-    let none : drop 36 bytes ≡ [] = drop_of_length-le bytes {i = 36} (omega arith) in
-    rw (drop-cons bytes 32 0, drop-cons bytes 33 0, drop-cons bytes 34 0, drop-cons bytes 35 0, none) refl
+-- what follows the cells: the marks, the flag, and zeros
+pub slot-tail : (l : Layout) (bytes : List ℕ) → length bytes ≡ slot_size l → ((p : ℕ) → 8 * number_size l + 2 ≤ p → slice_index bytes p ≡ 0) → drop (8 * number_size l) bytes ≡ get_or bytes (8 * number_size l) 0 ∷ get_or bytes (8 * number_size l + 1) 0 ∷ zeros (pad_size l)
+slot-tail l bytes whole empty =
+    let at = 8 * number_size l in
+    let marks : 8 * number_size l < length bytes = omega arith in
+    let flag : 8 * number_size l + 1 < length bytes = omega arith in
+    let pads : length bytes - (8 * number_size l + 2) ≡ pad_size l = omega arith in
+    let next : suc (8 * number_size l) ≡ 8 * number_size l + 1 = omega arith in
+    let last : suc (8 * number_size l + 1) ≡ 8 * number_size l + 2 = omega arith in
+    drop-cons bytes at 0 marks ∙ ap (λ (k : ℕ). get_or bytes at 0 ∷ drop k bytes) next
+    ∙ ap (λ (v : List ℕ). get_or bytes at 0 ∷ v) (drop-cons bytes (at + 1) 0 flag ∙ ap (λ (k : ℕ). get_or bytes (at + 1) 0 ∷ drop k bytes) last)
+    ∙ ap (λ (v : List ℕ). get_or bytes at 0 ∷ get_or bytes (at + 1) 0 ∷ v) (drop-zeros bytes (at + 2) empty ∙ ap zeros pads)
 
--- the 36 bytes by their parts
-pub slot-whole : (bytes : List ℕ) (entry : Entry) → length bytes ≡ 36 → take 32 bytes ≡ flat_map (cell_bytes wide) entry.cells → slice_index bytes 32 ≡ marks_of entry.cells → flag_number entry.flag ≡ slice_index bytes 33 → slice_index bytes 34 ≡ 0 → slice_index bytes 35 ≡ 0 → bytes ≡ slot_bytes wide entry
-slot-whole bytes entry whole cells marks flag first second =
-    let front : bytes ≡ take 32 bytes ++ drop 32 bytes = sym (take-append-drop 32 bytes) in
-    let back : drop 32 bytes ≡ marks_of entry.cells ∷ flag_number entry.flag ∷ 0 ∷ 0 ∷ [] =
-    rw (last-four bytes whole) (cc) in
-    front ∙ cc
+-- a slot by its parts
+pub slot-whole : (l : Layout) (bytes : List ℕ) (entry : Entry) → length bytes ≡ slot_size l → take (8 * number_size l) bytes ≡ flat_map (cell_bytes l) entry.cells → slice_index bytes (8 * number_size l) ≡ marks_of entry.cells → flag_number entry.flag ≡ slice_index bytes (8 * number_size l + 1) → ((p : ℕ) → 8 * number_size l + 2 ≤ p → slice_index bytes p ≡ 0) → bytes ≡ slot_bytes l entry
+slot-whole l bytes entry whole cells marks flag empty =
+    let at = 8 * number_size l in
+    sym (take-append-drop at bytes) ∙ ap (λ (v : List ℕ). v ++ drop at bytes) cells
+    ∙ ap (λ (v : List ℕ). flat_map (cell_bytes l) entry.cells ++ v)
+    (slot-tail l bytes whole empty ∙ ap (λ (n : ℕ). n ∷ get_or bytes (at + 1) 0 ∷ zeros (pad_size l)) marks ∙ ap (λ (n : ℕ). marks_of entry.cells ∷ n ∷ zeros (pad_size l)) (sym flag))
 
 -- the pads
-pub slot-pad : (bytes : List ℕ) (p : ℕ) → 34 ≤ p → slot_fault wide bytes p ≡ zero_fault BadPad bytes p
-slot-pad bytes p past = grind (arith, nat_tests)
+pub slot-pad : (l : Layout) (bytes : List ℕ) (p : ℕ) → 8 * number_size l + 2 ≤ p → slot_fault l bytes p ≡ zero_fault BadPad bytes p
+slot-pad l bytes p past =
+    rw (not_below p (8 * number_size l) (omega arith), isnt_at p (8 * number_size l) (omega arith), isnt_at p (8 * number_size l + 1) (omega arith)) refl
 
-pub slot-marks : (bytes : List ℕ) → slot_fault wide bytes 32 ≡ None
-slot-marks bytes = refl
+pub slot-marks : (l : Layout) (bytes : List ℕ) → slot_fault l bytes (8 * number_size l) ≡ None
+slot-marks Wide bytes = refl
+slot-marks Narrow bytes = refl
 
-pub slot-flag : (bytes : List ℕ) → slice_index bytes 33 ≤ 3 → slot_fault wide bytes 33 ≡ None
-slot-flag bytes small = grind (arith, nat_tests)
+pub slot-flag : (l : Layout) (bytes : List ℕ) → slice_index bytes (8 * number_size l + 1) ≤ 3 → slot_fault l bytes (8 * number_size l + 1) ≡ None
+slot-flag Wide bytes small = let few : nat_le (slice_index bytes 33) 3 ≡ true = is_few (slice_index bytes 33) 3 small in rw few refl
+slot-flag Narrow bytes small = let few : nat_le (slice_index bytes 9) 3 ≡ true = is_few (slice_index bytes 9) 3 small in rw few refl
 
 -- no fault up to a pad
-pub slot-none : (bytes : List ℕ) (n : ℕ) → ((p : ℕ) → p < 32 → slot_fault wide bytes p ≡ None) → slice_index bytes 33 ≤ 3 → ((p : ℕ) → 34 ≤ p → p < n → slice_index bytes p ≡ 0) → (p : ℕ) → p < n → slot_fault wide bytes p ≡ None
-slot-none bytes n cells small empty p below =
-    elim (cases_lt p 32) [
+pub slot-none : (l : Layout) (bytes : List ℕ) (n : ℕ) → ((p : ℕ) → p < 8 * number_size l → slot_fault l bytes p ≡ None) → slice_index bytes (8 * number_size l + 1) ≤ 3 → ((p : ℕ) → 8 * number_size l + 2 ≤ p → p < n → slice_index bytes p ≡ 0) → (p : ℕ) → p < n → slot_fault l bytes p ≡ None
+slot-none l bytes n cells small empty p below =
+    elim (cases_lt p (8 * number_size l)) [
       | inl front ↦ cells p front
-      | inr from ↦ elim (cases_lt p 34) [
+      | inr from ↦ elim (cases_lt p (8 * number_size l + 2)) [
         | inl middle ↦ elim (eq-or-lt_of_le from) [
-          | inl same ↦ subst (λ (q : ℕ). slot_fault wide bytes q ≡ None) same (slot-marks bytes)
-          | inr above ↦ let is : 33 ≡ p = omega arith in
-              subst (λ (q : ℕ). slot_fault wide bytes q ≡ None) is (slot-flag bytes small)
+          | inl same ↦ subst (λ (q : ℕ). slot_fault l bytes q ≡ None) same (slot-marks l bytes)
+          | inr above ↦ let is : 8 * number_size l + 1 ≡ p = omega arith in
+              subst (λ (q : ℕ). slot_fault l bytes q ≡ None) is (slot-flag l bytes small)
         ]
-        | inr past ↦ slot-pad bytes p past ∙ zero-none BadPad bytes p (empty p past below)
+        | inr past ↦ slot-pad l bytes p past ∙ zero-none BadPad bytes p (empty p past below)
       ]
     ]
 
 -- no fault before the pads
-pub slot-front : (bytes : List ℕ) → ((p : ℕ) → p < 32 → slot_fault wide bytes p ≡ None) → slice_index bytes 33 ≤ 3 → (p : ℕ) → p < 34 → slot_fault wide bytes p ≡ None
-slot-front bytes cells small = slot-none bytes 34 cells small (λ p past below. absurd (omega arith))
+pub slot-front : (l : Layout) (bytes : List ℕ) → ((p : ℕ) → p < 8 * number_size l → slot_fault l bytes p ≡ None) → slice_index bytes (8 * number_size l + 1) ≤ 3 → (p : ℕ) → p < 8 * number_size l + 2 → slot_fault l bytes p ≡ None
+slot-front l bytes cells small = slot-none l bytes (8 * number_size l + 2) cells small (λ p past below. absurd (omega arith))
 
 -- a flag's number is small
 pub small-flag : (byte : ℕ) (flag : LockFlag) → flag_number flag ≡ byte → byte ≤ 3
@@ -164,12 +244,16 @@ small-flag byte variant.N is = omega arith
 small-flag byte variant.B is = omega arith
 
 -- a flag above 3
-pub slot-bad_flag : (bytes : List ℕ) → ((p : ℕ) → p < 32 → slot_fault wide bytes p ≡ None) → 3 < slice_index bytes 33 → IsFirstFault (slot_fault wide bytes) (record { offset = 33; kind = BadFlag })
-slot-bad_flag bytes cells large = record {
-  here = grind (arith, nat_tests);
-  before = λ p below. elim (cases_lt p 32) [
+large-flag : (l : Layout) (bytes : List ℕ) → 3 < slice_index bytes (8 * number_size l + 1) → slot_fault l bytes (8 * number_size l + 1) ≡ Some BadFlag
+large-flag Wide bytes large = let many : nat_le (slice_index bytes 33) 3 ≡ false = isnt_few (slice_index bytes 33) 3 large in rw many refl
+large-flag Narrow bytes large = let many : nat_le (slice_index bytes 9) 3 ≡ false = isnt_few (slice_index bytes 9) 3 large in rw many refl
+
+pub slot-bad_flag : (l : Layout) (bytes : List ℕ) (f : TableFault) → f.offset ≡ 8 * number_size l + 1 → f.kind ≡ BadFlag → ((p : ℕ) → p < 8 * number_size l → slot_fault l bytes p ≡ None) → 3 < slice_index bytes (8 * number_size l + 1) → IsFirstFault (slot_fault l bytes) f
+slot-bad_flag l bytes f is kind cells large = record {
+  here = ap (slot_fault l bytes) is ∙ large-flag l bytes large ∙ ap (λ (k : TableFaultKind). Some k) (sym kind);
+  before = λ p below. elim (cases_lt p (8 * number_size l)) [
     | inl front ↦ cells p front
-    | inr from ↦ let is : 32 ≡ p = omega arith in
-        subst (λ (q : ℕ). slot_fault wide bytes q ≡ None) is (slot-marks bytes)
+    | inr from ↦ let same : 8 * number_size l ≡ p = omega arith in
+        subst (λ (q : ℕ). slot_fault l bytes q ≡ None) same (slot-marks l bytes)
   ];
 }

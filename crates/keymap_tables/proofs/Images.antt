@@ -1,55 +1,67 @@
--- The image of a map: it has no fault, and gives the map.
-use Rattle.std.proofs.Common.{◌≡◌, ℕ, ◌+◌, ◌-◌, ◌*◌, ◌<◌, ◌≤◌, suc, zero, List, ◌++◌, length, take, drop, None, refl, sym, ap, ◌∙◌, subst, arith, inl, inr, append_assoc, length-append}
+-- The image of a map that fits: it has no fault, and gives the map.
+use Rattle.std.proofs.Common.{◌≡◌, ℕ, ◌+◌, ◌-◌, ◌*◌, ◌<◌, ◌≤◌, List, ◌++◌, length, take, drop, get_or, None, refl, sym, ap, ◌∙◌, subst, arith, inl, inr, append_assoc, length-append}
 use Rattle.std.specs.Prelude.{slice_index, All}
 use Rattle.std.specs.List.{flat_map}
+use Rattle.std.specs.Int.{to_le_bytes, w16}
 use Rattle.std.proofs.lemmas.Bool.{cases_lt}
 use Rattle.std.proofs.lemmas.List.{take_at, drop_at, drop-drop, length-replicate, take_all}
-use Rattle.std.proofs.lemmas.List.Elements.{All-weaker}
+use Rattle.std.proofs.lemmas.List.Elements.{All-get_or}
 use Rattle.std.proofs.lemmas.Nat.{from_le_bytes-to_le_bytes_2}
 use Rattle.keymap_core.specs.Accents.{AccentValue, blank}
 use Rattle.keymap_core.specs.Maps.{MapValue, undefined}
 use Rattle.keymap_core.specs.declared.entry.Entry.{Entry}
 use Rattle.keymap_core.specs.Bounds.{IsEntry, IsAccent, IsMap}
 use Rattle.keymap_tables.specs.Faults.{count_at, count_fault, slot_fault, accent_fault, row_fault, content_fault, fault_at, HasNoFault}
-use Rattle.keymap_tables.specs.Image.{image, count_bytes, slot_bytes, slots_bytes, accent_bytes, accents_bytes, zeros}
-use Rattle.keymap_tables.specs.Layouts.{wide, part}
+use Rattle.keymap_tables.specs.Fits.{EntryFits, AccentFits, FitsIn}
+use Rattle.keymap_tables.specs.Image.{image_in, count_bytes, slot_bytes, slots_bytes, accent_bytes, accents_bytes, zeros}
+use Rattle.keymap_tables.specs.Layouts.{part, pad_size, count_size, slot_size, slots_place, slots_size, n_accs_place, accents_place, accent_size, accents_size, file_size}
+use Rattle.keymap_tables.specs.declared.layout.Layout.{Layout}
+use Rattle.keymap_tables.specs.declared.layout.Layout.TheVariants.{Wide, Narrow}
 use Rattle.keymap_tables.proofs.AccentImages.{length-accent_bytes, accent_bytes-sound, same-accent}
 use Rattle.keymap_tables.proofs.Contents.{count-part, content-past, fault-content, sound-n_keys, sound-slots, sound-n_accs, sound-accents}
 use Rattle.keymap_tables.proofs.Pads.{count-none}
-use Rattle.keymap_tables.proofs.RowImages.{IsSized, length-rows, sound-rows, same-rows}
+use Rattle.keymap_tables.proofs.RowImages.{IsSized, length-rows, sound-rows, same-rows, zeros-behind}
+use Rattle.keymap_tables.proofs.Sizes.{length-count, slot-some, accent-some, slots-whole, accents-whole}
 use Rattle.keymap_tables.proofs.SlotImages.{length-slot_bytes, slot_bytes-sound, same-entry}
 use Rattle.keymap_tables.proofs.Whole.{image-parts}
 
 -- A count gives its number, and has no fault.
-count-again : (n : ℕ) → n ≤ 256 → count_at (count_bytes wide n) 0 ≡ n
-count-again n few = from_le_bytes-to_le_bytes_2 n (omega arith)
+count-again : (l : Layout) (n : ℕ) → n ≤ 256 → count_at (count_bytes l n) 0 ≡ n
+count-again Wide n few = from_le_bytes-to_le_bytes_2 n (omega arith)
+count-again Narrow n few = from_le_bytes-to_le_bytes_2 n (omega arith)
 
-count-pads : (n p : ℕ) → 2 ≤ p → p < 4 → slice_index (count_bytes wide n) p ≡ 0
-count-pads n zero past below = absurd (omega arith)
-count-pads n (suc zero) past below = absurd (omega arith)
-count-pads n (suc (suc zero)) past below = refl
-count-pads n (suc (suc (suc zero))) past below = refl
-count-pads n (suc (suc (suc (suc p)))) past below = absurd (omega arith)
+count-sound : (l : Layout) (most n : ℕ) → n ≤ most → most ≤ 256 → HasNoFault (count_fault most (count_bytes l n)) (count_size l)
+count-sound l most n few small =
+    count-none most (count_bytes l n) (count_size l) (omega (arith, count-again l n (omega arith))) (λ p past below. zeros-behind (to_le_bytes w16 n) (pad_size l) p past)
 
-count-sound : (most n : ℕ) → n ≤ most → most ≤ 256 → HasNoFault (count_fault most (count_bytes wide n)) 4
-count-sound most n few small =
-    count-none most (count_bytes wide n) 4 (omega (arith, count-again n (omega arith))) (λ p past below. count-pads n p past below)
+-- what is known of the entries and the accents of a map that fits
+abbrev pub IsGoodEntry : Layout → Entry → Type 0
+IsGoodEntry l entry = IsEntry entry × EntryFits l entry
 
-slots-sized : (entries : List Entry) → All IsEntry entries → IsSized (slot_bytes wide) 36 entries
-slots-sized entries known = All-weaker IsEntry (λ entry. length (slot_bytes wide entry) ≡ 36) length-slot_bytes entries known
+abbrev pub IsGoodAccent : Layout → AccentValue → Type 0
+IsGoodAccent l accent = IsAccent accent × AccentFits l accent
 
-accents-sized : (accents : List AccentValue) → All IsAccent accents → IsSized (accent_bytes wide) 420 accents
-accents-sized accents known = All-weaker IsAccent (λ accent. length (accent_bytes wide accent) ≡ 420) length-accent_bytes accents known
+good-entries : (l : Layout) (m : MapValue) → IsMap m → FitsIn l m → All (IsGoodEntry l) m.entries
+good-entries l m is fits k d below = (All-get_or IsEntry m.entries k d below is.entries, All-get_or (EntryFits l) m.entries k d below fits.entries)
 
-length-slots : (m : MapValue) → IsMap m → length (slots_bytes wide m.entries) ≡ 9216
-length-slots m is =
-    length-append (flat_map (slot_bytes wide) m.entries) (zeros (36 * (256 - length m.entries)))
-    ∙ omega (arith, is.few_entries, length-rows (slot_bytes wide) 36 m.entries (slots-sized m.entries is.entries), length-replicate {A = ℕ} (36 * (256 - length m.entries)) 0)
+good-accents : (l : Layout) (m : MapValue) → IsMap m → FitsIn l m → All (IsGoodAccent l) m.accents
+good-accents l m is fits k d below = (All-get_or IsAccent m.accents k d below is.accents, All-get_or (AccentFits l) m.accents k d below fits.accents)
 
-length-accents : (m : MapValue) → IsMap m → length (accents_bytes wide m.accents) ≡ 6300
-length-accents m is =
-    length-append (flat_map (accent_bytes wide) m.accents) (zeros (420 * (15 - length m.accents)))
-    ∙ omega (arith, is.few_accents, length-rows (accent_bytes wide) 420 m.accents (accents-sized m.accents is.accents), length-replicate {A = ℕ} (420 * (15 - length m.accents)) 0)
+pub slots-sized : (l : Layout) (entries : List Entry) → All IsEntry entries → IsSized (slot_bytes l) (slot_size l) entries
+slots-sized l entries known k d below = length-slot_bytes l (get_or entries k d) (All-get_or IsEntry entries k d below known)
+
+pub accents-sized : (l : Layout) (accents : List AccentValue) → All IsAccent accents → IsSized (accent_bytes l) (accent_size l) accents
+accents-sized l accents known k d below = length-accent_bytes l (get_or accents k d) (All-get_or IsAccent accents k d below known)
+
+length-slots : (l : Layout) (m : MapValue) → IsMap m → length (slots_bytes l m.entries) ≡ slots_size l
+length-slots l m is =
+    length-append (flat_map (slot_bytes l) m.entries) (zeros (slot_size l * (256 - length m.entries)))
+    ∙ omega (arith, slots-whole l (length m.entries) is.few_entries, length-rows (slot_bytes l) (slot_size l) m.entries (slots-sized l m.entries is.entries), length-replicate {A = ℕ} (slot_size l * (256 - length m.entries)) 0)
+
+length-accents : (l : Layout) (m : MapValue) → IsMap m → length (accents_bytes l m.accents) ≡ accents_size l
+length-accents l m is =
+    length-append (flat_map (accent_bytes l) m.accents) (zeros (accent_size l * (15 - length m.accents)))
+    ∙ omega (arith, accents-whole l (length m.accents) is.few_accents, length-rows (accent_bytes l) (accent_size l) m.accents (accents-sized l m.accents is.accents), length-replicate {A = ℕ} (accent_size l * (15 - length m.accents)) 0)
 
 -- Four parts, cut out of their whole.
 four : (a b c d : List ℕ) → a ++ b ++ c ++ d ≡ a ++ (b ++ (c ++ d))
@@ -72,78 +84,81 @@ part-4 : (a b c d : List ℕ) (i l : ℕ) → length (a ++ b ++ c) ≡ i → len
 part-4 a b c d i l front last =
     ap (take l) (drop_at (a ++ b ++ c) d i front) ∙ take_all l d (omega arith)
 
-front-long : (m : MapValue) → IsMap m → length (count_bytes wide (length m.entries) ++ slots_bytes wide m.entries ++ count_bytes wide (length m.accents)) ≡ 9224
-front-long m is =
-    length-append (count_bytes wide (length m.entries) ++ slots_bytes wide m.entries) (count_bytes wide (length m.accents))
-    ∙ omega (arith, length-append (count_bytes wide (length m.entries)) (slots_bytes wide m.entries), length-slots m is)
+front-long : (l : Layout) (m : MapValue) → IsMap m → length (count_bytes l (length m.entries) ++ slots_bytes l m.entries ++ count_bytes l (length m.accents)) ≡ accents_place l
+front-long l m is =
+    length-append (count_bytes l (length m.entries) ++ slots_bytes l m.entries) (count_bytes l (length m.accents))
+    ∙ omega (arith, length-append (count_bytes l (length m.entries)) (slots_bytes l m.entries), length-slots l m is, length-count l (length m.entries), length-count l (length m.accents))
 
-pub length-image : (m : MapValue) → IsMap m → length (image m) ≡ 15524
-length-image m is =
-    ap length (image-parts m) ∙ length-append (count_bytes wide (length m.entries) ++ slots_bytes wide m.entries ++ count_bytes wide (length m.accents)) (accents_bytes wide m.accents)
-    ∙ omega (arith, front-long m is, length-accents m is)
+pub length-image : (l : Layout) (m : MapValue) → IsMap m → length (image_in l m) ≡ file_size l
+length-image l m is =
+    ap length (image-parts l m) ∙ length-append (count_bytes l (length m.entries) ++ slots_bytes l m.entries ++ count_bytes l (length m.accents)) (accents_bytes l m.accents)
+    ∙ omega (arith, front-long l m is, length-accents l m is)
 
 -- The parts of an image.
-image-n_keys : (m : MapValue) → IsMap m → take 4 (image m) ≡ count_bytes wide (length m.entries)
-image-n_keys m is =
-    ap (take 4) (image-parts m) ∙ part-1 (count_bytes wide (length m.entries)) (slots_bytes wide m.entries) (count_bytes wide (length m.accents)) (accents_bytes wide m.accents) 4 refl
+pub image-n_keys : (l : Layout) (m : MapValue) → IsMap m → take (slots_place l) (image_in l m) ≡ count_bytes l (length m.entries)
+image-n_keys l m is =
+    ap (take (slots_place l)) (image-parts l m) ∙ part-1 (count_bytes l (length m.entries)) (slots_bytes l m.entries) (count_bytes l (length m.accents)) (accents_bytes l m.accents) (slots_place l) (length-count l (length m.entries))
 
-image-slots : (m : MapValue) → IsMap m → part (image m) 4 9216 ≡ slots_bytes wide m.entries
-image-slots m is =
-    ap (λ (v : List ℕ). part v 4 9216) (image-parts m) ∙ part-2 (count_bytes wide (length m.entries)) (slots_bytes wide m.entries) (count_bytes wide (length m.accents)) (accents_bytes wide m.accents) 4 9216 refl (length-slots m is)
+pub image-slots : (l : Layout) (m : MapValue) → IsMap m → part (image_in l m) (slots_place l) (slots_size l) ≡ slots_bytes l m.entries
+image-slots l m is =
+    ap (λ (v : List ℕ). part v (slots_place l) (slots_size l)) (image-parts l m)
+    ∙ part-2 (count_bytes l (length m.entries)) (slots_bytes l m.entries) (count_bytes l (length m.accents)) (accents_bytes l m.accents) (slots_place l) (slots_size l) (length-count l (length m.entries)) (length-slots l m is)
 
-image-n_accs : (m : MapValue) → IsMap m → part (image m) 9220 4 ≡ count_bytes wide (length m.accents)
-image-n_accs m is =
-    ap (λ (v : List ℕ). part v 9220 4) (image-parts m) ∙ part-3 (count_bytes wide (length m.entries)) (slots_bytes wide m.entries) (count_bytes wide (length m.accents)) (accents_bytes wide m.accents) 4 9216 4 refl (length-slots m is) refl
+pub image-n_accs : (l : Layout) (m : MapValue) → IsMap m → part (image_in l m) (n_accs_place l) (count_size l) ≡ count_bytes l (length m.accents)
+image-n_accs l m is =
+    ap (λ (v : List ℕ). part v (n_accs_place l) (count_size l)) (image-parts l m)
+    ∙ part-3 (count_bytes l (length m.entries)) (slots_bytes l m.entries) (count_bytes l (length m.accents)) (accents_bytes l m.accents) (slots_place l) (slots_size l) (count_size l) (length-count l (length m.entries)) (length-slots l m is) (length-count l (length m.accents))
 
-image-accents : (m : MapValue) → IsMap m → part (image m) 9224 6300 ≡ accents_bytes wide m.accents
-image-accents m is =
-    ap (λ (v : List ℕ). part v 9224 6300) (image-parts m) ∙ part-4 (count_bytes wide (length m.entries)) (slots_bytes wide m.entries) (count_bytes wide (length m.accents)) (accents_bytes wide m.accents) 9224 6300 (front-long m is) (length-accents m is)
+pub image-accents : (l : Layout) (m : MapValue) → IsMap m → part (image_in l m) (accents_place l) (accents_size l) ≡ accents_bytes l m.accents
+image-accents l m is =
+    ap (λ (v : List ℕ). part v (accents_place l) (accents_size l)) (image-parts l m)
+    ∙ part-4 (count_bytes l (length m.entries)) (slots_bytes l m.entries) (count_bytes l (length m.accents)) (accents_bytes l m.accents) (accents_place l) (accents_size l) (front-long l m is) (length-accents l m is)
 
-n_keys-of : (m : MapValue) → IsMap m → length m.entries ≡ count_at (image m) 0
-n_keys-of m is =
-    sym (sym (count-part (image m) 0) ∙ ap (λ (v : List ℕ). count_at v 0) (image-n_keys m is) ∙ count-again (length m.entries) is.few_entries)
+pub n_keys-of : (l : Layout) (m : MapValue) → IsMap m → length m.entries ≡ count_at (image_in l m) 0
+n_keys-of l m is =
+    sym (sym (count-part (image_in l m) 0 (slots_place l) (omega arith)) ∙ ap (λ (v : List ℕ). count_at v 0) (image-n_keys l m is) ∙ count-again l (length m.entries) is.few_entries)
 
-n_accs-of : (m : MapValue) → IsMap m → length m.accents ≡ count_at (image m) 9220
-n_accs-of m is =
-    sym (sym (count-part (image m) 9220) ∙ ap (λ (v : List ℕ). count_at v 0) (image-n_accs m is) ∙ count-again (length m.accents) (omega (arith, is.few_accents)))
+pub n_accs-of : (l : Layout) (m : MapValue) → IsMap m → length m.accents ≡ count_at (image_in l m) (n_accs_place l)
+n_accs-of l m is =
+    sym (sym (count-part (image_in l m) (n_accs_place l) (count_size l) (omega arith)) ∙ ap (λ (v : List ℕ). count_at v 0) (image-n_accs l m is) ∙ count-again l (length m.accents) (omega (arith, is.few_accents)))
 
 -- No image has a fault.
-content-sound : (m : MapValue) → IsMap m → HasNoFault (content_fault wide (image m)) 15524
-content-sound m is =
-    let slots : HasNoFault (row_fault (slot_fault wide) 36 (length m.entries) (slots_bytes wide m.entries)) 9216 =
-    λ p below. sound-rows (slot_bytes wide) (slot_fault wide) 36 m.entries (36 * (256 - length m.entries)) undefined (omega arith) (slots-sized m.entries is.entries)
-    (All-weaker IsEntry (λ entry. HasNoFault (slot_fault wide (slot_bytes wide entry)) 36) slot_bytes-sound m.entries is.entries) p in
-    let accents : HasNoFault (row_fault (accent_fault wide) 420 (length m.accents) (accents_bytes wide m.accents)) 6300 =
-    λ p below. sound-rows (accent_bytes wide) (accent_fault wide) 420 m.accents (420 * (15 - length m.accents)) blank (omega arith) (accents-sized m.accents is.accents)
-    (All-weaker IsAccent (λ accent. HasNoFault (accent_fault wide (accent_bytes wide accent)) 420) accent_bytes-sound m.accents is.accents) p in
-    let upto_4 = sound-n_keys (image m) (subst (λ (v : List ℕ). HasNoFault (count_fault 256 v) 4) (sym (image-n_keys m is)) (count-sound 256 (length m.entries) is.few_entries (omega arith))) in
-    let upto_9220 = sound-slots (image m) (length m.entries) (n_keys-of m is) upto_4
-    (subst (λ (v : List ℕ). HasNoFault (row_fault (slot_fault wide) 36 (length m.entries) v) 9216) (sym (image-slots m is)) slots) in
-    let upto_9224 = sound-n_accs (image m) upto_9220
-    (subst (λ (v : List ℕ). HasNoFault (count_fault 15 v) 4) (sym (image-n_accs m is)) (count-sound 15 (length m.accents) is.few_accents (omega arith))) in
-    sound-accents (image m) (length m.accents) (n_accs-of m is) upto_9224
-    (subst (λ (v : List ℕ). HasNoFault (row_fault (accent_fault wide) 420 (length m.accents) v) 6300) (sym (image-accents m is)) accents)
+content-sound : (l : Layout) (m : MapValue) → IsMap m → FitsIn l m → HasNoFault (content_fault l (image_in l m)) (file_size l)
+content-sound l m is fits =
+    let slots : HasNoFault (row_fault (slot_fault l) (slot_size l) (length m.entries) (slots_bytes l m.entries)) (slots_size l) =
+    λ p below. sound-rows (slot_bytes l) (slot_fault l) (slot_size l) m.entries (slot_size l * (256 - length m.entries)) undefined (slot-some l) (slots-sized l m.entries is.entries)
+    (λ k d inside. slot_bytes-sound l (get_or m.entries k d) (All-get_or IsEntry m.entries k d inside is.entries) (All-get_or (EntryFits l) m.entries k d inside fits.entries)) p in
+    let accents : HasNoFault (row_fault (accent_fault l) (accent_size l) (length m.accents) (accents_bytes l m.accents)) (accents_size l) =
+    λ p below. sound-rows (accent_bytes l) (accent_fault l) (accent_size l) m.accents (accent_size l * (15 - length m.accents)) blank (accent-some l) (accents-sized l m.accents is.accents)
+    (λ k d inside. accent_bytes-sound l (get_or m.accents k d) (All-get_or IsAccent m.accents k d inside is.accents) (All-get_or (AccentFits l) m.accents k d inside fits.accents)) p in
+    let upto_slots = sound-n_keys l (image_in l m) (subst (λ (v : List ℕ). HasNoFault (count_fault 256 v) (slots_place l)) (sym (image-n_keys l m is)) (count-sound l 256 (length m.entries) is.few_entries (omega arith))) in
+    let upto_n_accs = sound-slots l (image_in l m) (length m.entries) (n_keys-of l m is) upto_slots
+    (subst (λ (v : List ℕ). HasNoFault (row_fault (slot_fault l) (slot_size l) (length m.entries) v) (slots_size l)) (sym (image-slots l m is)) slots) in
+    let upto_accents = sound-n_accs l (image_in l m) upto_n_accs
+    (subst (λ (v : List ℕ). HasNoFault (count_fault 15 v) (count_size l)) (sym (image-n_accs l m is)) (count-sound l 15 (length m.accents) is.few_accents (omega arith))) in
+    sound-accents l (image_in l m) (length m.accents) (n_accs-of l m is) upto_accents
+    (subst (λ (v : List ℕ). HasNoFault (row_fault (accent_fault l) (accent_size l) (length m.accents) v) (accents_size l)) (sym (image-accents l m is)) accents)
 
-pub image-sound : (m : MapValue) → IsMap m → (p : ℕ) → fault_at (image m) p ≡ None
-image-sound m is p =
-    elim (cases_lt p 15524) [
-      | inl inside ↦ fault-content (image m) p (length-image m is) ∙ content-sound m is p inside
-      | inr past ↦ fault-content (image m) p (length-image m is) ∙ content-past (image m) p past
+pub image-sound : (l : Layout) (m : MapValue) → IsMap m → FitsIn l m → (p : ℕ) → fault_at l (image_in l m) p ≡ None
+image-sound l m is fits p =
+    elim (cases_lt p (file_size l)) [
+      | inl inside ↦ fault-content l (image_in l m) p (length-image l m is) ∙ content-sound l m is fits p inside
+      | inr past ↦ fault-content l (image_in l m) p (length-image l m is) ∙ content-past l (image_in l m) p past
     ]
 
 -- Two maps with one image are one.
 map_of : List Entry → List AccentValue → MapValue
 map_of entries accents = record { entries = entries; accents = accents }
 
-pub same-map : (m n : MapValue) → IsMap m → IsMap n → image m ≡ image n → m ≡ n
+pub same-map : (l : Layout) (m n : MapValue) → IsMap m → FitsIn l m → IsMap n → FitsIn l n → image_in l m ≡ image_in l n → m ≡ n
 unfolding map_of
-same-map m n is also same =
-    let n_keys : length m.entries ≡ length n.entries = n_keys-of m is ∙ ap (λ (v : List ℕ). count_at v 0) same ∙ sym (n_keys-of n also) in
-    let n_accs : length m.accents ≡ length n.accents = n_accs-of m is ∙ ap (λ (v : List ℕ). count_at v 9220) same ∙ sym (n_accs-of n also) in
-    let slots : slots_bytes wide m.entries ≡ slots_bytes wide n.entries = sym (image-slots m is) ∙ ap (λ (v : List ℕ). part v 4 9216) same ∙ image-slots n also in
-    let accents : accents_bytes wide m.accents ≡ accents_bytes wide n.accents = sym (image-accents m is) ∙ ap (λ (v : List ℕ). part v 9224 6300) same ∙ image-accents n also in
-    let entries = same-rows (slot_bytes wide) 36 IsEntry m.entries n.entries (zeros (36 * (256 - length m.entries))) (zeros (36 * (256 - length n.entries))) same-entry
-    (slots-sized m.entries is.entries) (slots-sized n.entries also.entries) is.entries also.entries n_keys slots in
-    let accented = same-rows (accent_bytes wide) 420 IsAccent m.accents n.accents (zeros (420 * (15 - length m.accents))) (zeros (420 * (15 - length n.accents))) same-accent
-    (accents-sized m.accents is.accents) (accents-sized n.accents also.accents) is.accents also.accents n_accs accents in
+same-map l m n is fits also too same =
+    let n_keys : length m.entries ≡ length n.entries = n_keys-of l m is ∙ ap (λ (v : List ℕ). count_at v 0) same ∙ sym (n_keys-of l n also) in
+    let n_accs : length m.accents ≡ length n.accents = n_accs-of l m is ∙ ap (λ (v : List ℕ). count_at v (n_accs_place l)) same ∙ sym (n_accs-of l n also) in
+    let slots : slots_bytes l m.entries ≡ slots_bytes l n.entries = sym (image-slots l m is) ∙ ap (λ (v : List ℕ). part v (slots_place l) (slots_size l)) same ∙ image-slots l n also in
+    let accents : accents_bytes l m.accents ≡ accents_bytes l n.accents = sym (image-accents l m is) ∙ ap (λ (v : List ℕ). part v (accents_place l) (accents_size l)) same ∙ image-accents l n also in
+    let entries = same-rows (slot_bytes l) (slot_size l) (IsGoodEntry l) m.entries n.entries (zeros (slot_size l * (256 - length m.entries))) (zeros (slot_size l * (256 - length n.entries))) (same-entry l)
+    (slots-sized l m.entries is.entries) (slots-sized l n.entries also.entries) (good-entries l m is fits) (good-entries l n also too) n_keys slots in
+    let accented = same-rows (accent_bytes l) (accent_size l) (IsGoodAccent l) m.accents n.accents (zeros (accent_size l * (15 - length m.accents))) (zeros (accent_size l * (15 - length n.accents))) (same-accent l)
+    (accents-sized l m.accents is.accents) (accents-sized l n.accents also.accents) (good-accents l m is fits) (good-accents l n also too) n_accs accents in
     ap (λ (v : List Entry). map_of v m.accents) entries ∙ ap (λ (v : List AccentValue). map_of n.entries v) accented

@@ -6,9 +6,12 @@ pub mod Lifting
 pub mod Outcomes
 pub mod Pads
 pub mod Pairs
+pub mod Places
 pub mod ReadingLaws
 pub mod RowImages
 pub mod Rows
 pub mod SlotImages
+pub mod Sizes
 pub mod Slots
 pub mod Whole
+pub mod Wideness

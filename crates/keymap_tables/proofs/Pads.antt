@@ -9,7 +9,8 @@ use Rattle.std.proofs.lemmas.List.{take-append-drop, length-take-le, get_or-take
 use Rattle.std.proofs.lemmas.Nat.{le_bytes_2}
 use Rattle.keymap_tables.specs.Faults.{zero_fault, count_fault, count_at, HasNoFault}
 use Rattle.keymap_tables.specs.Image.{zeros, count_bytes}
-use Rattle.keymap_tables.specs.Layouts.{wide}
+use Rattle.keymap_tables.specs.declared.layout.Layout.{Layout}
+use Rattle.keymap_tables.specs.Layouts.{pad_size}
 use Rattle.keymap_tables.specs.declared.fault.TableFaultKind.{TableFaultKind}
 use Rattle.keymap_tables.specs.declared.fault.TableFaultKind.TheVariants.{BadPad}
 
@@ -44,11 +45,11 @@ count-none most bytes n few empty p below =
       | inr past ↦ count-pad most bytes p past ∙ zero-none BadPad bytes p (empty p past below)
     ]
 
-pub count-whole : (bytes : List ℕ) (n : ℕ) → length bytes ≡ 4 → ((i : ℕ) → get_or bytes i 0 < 256) → n ≡ count_at bytes 0 → ((p : ℕ) → 2 ≤ p → slice_index bytes p ≡ 0) → bytes ≡ count_bytes wide n
-count-whole bytes n whole small is empty =
+pub count-whole : (l : Layout) (bytes : List ℕ) (n : ℕ) → length bytes ≡ 2 + pad_size l → ((i : ℕ) → get_or bytes i 0 < 256) → n ≡ count_at bytes 0 → ((p : ℕ) → 2 ≤ p → slice_index bytes p ≡ 0) → bytes ≡ count_bytes l n
+count-whole l bytes n whole small is empty =
     let two : length (take 2 bytes) ≡ 2 = length-take-le 2 bytes (omega arith) in
     let bytes_small : (i : ℕ) → get_or (take 2 bytes) i 0 < 256 = λ i. grind (arith, common_steps, get_or-take, small i) in
     let front = le_bytes_2 (take 2 bytes) n two bytes_small is in
-    let long : length bytes - 2 ≡ 2 = omega arith in
-    let back : drop 2 bytes ≡ zeros 2 = drop-zeros bytes 2 empty ∙ ap zeros long in
+    let long : length bytes - 2 ≡ pad_size l = omega arith in
+    let back : drop 2 bytes ≡ zeros (pad_size l) = drop-zeros bytes 2 empty ∙ ap zeros long in
     sym (take-append-drop 2 bytes) ∙ ap (λ (v : List ℕ). v ++ drop 2 bytes) (sym front) ∙ ap (λ (v : List ℕ). to_le_bytes w16 n ++ v) back

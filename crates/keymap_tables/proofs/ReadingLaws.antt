@@ -1,25 +1,55 @@
--- What the reading of tables answers is the map of the image, or the one fault.
-use Rattle.std.proofs.Common.{◌≡◌, ℕ, List, None, Some, sym, ap, ◌∙◌, subst, inl, inr}
-use Rattle.std.specs.Prelude.{Result, Ok, Err, Option}
+-- What the reading of a file answers is the map of the image, or the one fault.
+use Rattle.std.proofs.Common.{◌≡◌, ◌<◌, ℕ, List, None, Some, sym, ap, ◌∙◌, subst, inl, inr}
+use Rattle.std.specs.Prelude.{Result, Ok, Err, Option, All}
+use Rattle.std.specs.Char.{IsScalar}
 use Rattle.std.proofs.lemmas.Bool.{cases_lt}
 use Rattle.std.proofs.Math.Nat.{eq-or-lt_of_le}
+use Rattle.std.proofs.lemmas.List.Elements.{All-weaker}
+use Rattle.keymap_core.specs.Accents.{AccentValue}
 use Rattle.keymap_core.specs.Maps.{MapValue}
-use Rattle.keymap_core.specs.Bounds.{IsMap}
-use Rattle.keymap_tables.specs.Faults.{IsTableFault, fault_at}
-use Rattle.keymap_tables.specs.Image.{image}
-use Rattle.keymap_tables.specs.Readings.{IsReading, AnswersMap, AnswersFault}
+use Rattle.keymap_core.specs.Bounds.{IsCell, IsEntry, IsPair, IsAccent, IsMap}
+use Rattle.keymap_core.specs.declared.entry.Cell.{Cell}
+use Rattle.keymap_core.specs.declared.entry.Cell.TheVariants.{Char, Act}
+use Rattle.keymap_core.specs.declared.entry.Entry.{Entry}
+use Rattle.keymap_tables.specs.Faults.{IsFirstFault, fault_at}
+use Rattle.keymap_tables.specs.Fits.{CellFits, EntryFits, PairFits, AccentFits, FitsIn}
+use Rattle.keymap_tables.specs.Image.{image_in}
+use Rattle.keymap_tables.specs.Layouts.{wide}
+use Rattle.keymap_tables.specs.Readings.{IsReading, IsReadingIn, AnswersMap, AnswersFault}
+use Rattle.keymap_tables.specs.declared.layout.Layout.{Layout}
 use Rattle.keymap_tables.specs.declared.fault.TableError.{TableError}
 use Rattle.keymap_tables.specs.declared.fault.TableError.TheVariants.{Memory, Read, Fault}
 use Rattle.keymap_tables.specs.declared.fault.TableFault.{TableFault}
 use Rattle.keymap_tables.specs.declared.fault.TableFaultKind.{TableFaultKind}
 use Rattle.keymap_tables.proofs.Images.{image-sound, same-map}
+use Rattle.keymap_tables.proofs.SlotImages.{scalar-small}
+
+-- Every map fits in the wide file.
+cell-wide : (cell : Cell) → IsCell cell → CellFits wide cell
+cell-wide (Char c) known = scalar-small c known
+cell-wide (Act a) known = tt
+
+entry-wide : (entry : Entry) → IsEntry entry → EntryFits wide entry
+entry-wide entry known = All-weaker IsCell (CellFits wide) cell-wide entry.cells known.cells
+
+pair-wide : (pair : ℕ × ℕ) → IsPair pair → PairFits wide pair
+pair-wide pair known = (scalar-small pair.0 known.0, scalar-small pair.1 known.2)
+
+accent-wide : (accent : AccentValue) → IsAccent accent → AccentFits wide accent
+accent-wide accent known = (scalar-small accent.own known.own, All-weaker IsPair (PairFits wide) pair-wide accent.pairs known.pairs)
+
+pub map-wide : (m : MapValue) → IsMap m → FitsIn wide m
+map-wide m is = record {
+  entries = All-weaker IsEntry (EntryFits wide) entry-wide m.entries is.entries;
+  accents = All-weaker IsAccent (AccentFits wide) accent-wide m.accents is.accents;
+}
 
 some_none : (kind : TableFaultKind) (o : Option TableFaultKind) → o ≡ Some kind → o ≡ None → ⊥
 some_none kind o some none = cc
 
 -- No image has a fault.
-pub no-fault : (m : MapValue) (f : TableFault) → IsMap m → IsTableFault (image m) f → ⊥
-no-fault m f is fault = some_none f.kind (fault_at (image m) f.offset) fault.here (image-sound m is f.offset)
+pub no-fault : (l : Layout) (m : MapValue) (f : TableFault) → IsMap m → FitsIn l m → IsFirstFault (fault_at l (image_in l m)) f → ⊥
+no-fault l m f is fits fault = some_none f.kind (fault_at l (image_in l m) f.offset) fault.here (image-sound l m is fits f.offset)
 
 fault_of : ℕ → TableFaultKind → TableFault
 fault_of offset kind = record { offset = offset; kind = kind }
@@ -28,29 +58,42 @@ same-kind : (o : Option TableFaultKind) (k l : TableFaultKind) → o ≡ Some k 
 same-kind o k l first second = cc
 
 -- A file has one fault.
-pub one-fault : (bytes : List ℕ) (f g : TableFault) → IsTableFault bytes f → IsTableFault bytes g → f ≡ g
+pub one-fault : (at : ℕ → Option TableFaultKind) (f g : TableFault) → IsFirstFault at f → IsFirstFault at g → f ≡ g
 unfolding fault_of
-one-fault bytes f g first second =
+one-fault at f g first second =
     let place : f.offset ≡ g.offset = elim (cases_lt f.offset g.offset) [
-      | inl before ↦ absurd (some_none f.kind (fault_at bytes f.offset) first.here (second.before f.offset before))
+      | inl before ↦ absurd (some_none f.kind (at f.offset) first.here (second.before f.offset before))
       | inr from ↦ elim (eq-or-lt_of_le from) [
         | inl same ↦ sym same
-        | inr after ↦ absurd (some_none g.kind (fault_at bytes g.offset) second.here (first.before g.offset after))
+        | inr after ↦ absurd (some_none g.kind (at g.offset) second.here (first.before g.offset after))
       ]
     ] in
-    let kind : f.kind ≡ g.kind = same-kind (fault_at bytes g.offset) f.kind g.kind (subst (λ (p : ℕ). fault_at bytes p ≡ Some f.kind) place first.here) second.here in
+    let kind : f.kind ≡ g.kind = same-kind (at g.offset) f.kind g.kind (subst (λ (p : ℕ). at p ≡ Some f.kind) place first.here) second.here in
     ap (λ (p : ℕ). fault_of p f.kind) place ∙ ap (λ (k : TableFaultKind). fault_of g.offset k) kind
 
--- Reading the image of a map gives the map.
-pub reading-image : (bytes : List ℕ) (r : Result MapValue TableError) → IsReading bytes r → (m : MapValue) → IsMap m → bytes ≡ image m → AnswersMap r m
-reading-image bytes (Ok n) reading m is same = same-map n m reading.0 is (sym reading.1 ∙ same)
-reading-image bytes (Err Memory) reading m is same = tt
-reading-image bytes (Err (Read f)) reading m is same = absurd reading
-reading-image bytes (Err (Fault f)) reading m is same = no-fault m f is (subst (λ (v : List ℕ). IsTableFault v f) same reading)
+-- Reading the image of a map that fits gives the map.
+pub reading-image : (l : Layout) (bytes : List ℕ) (r : Result MapValue TableError) → IsReadingIn l bytes r → (m : MapValue) → IsMap m → FitsIn l m → bytes ≡ image_in l m → AnswersMap r m
+reading-image l bytes (Ok n) reading m is fits same = same-map l n m reading.0 reading.2 is fits (sym reading.1 ∙ same)
+reading-image l bytes (Err Memory) reading m is fits same = tt
+reading-image l bytes (Err (Read f)) reading m is fits same = absurd reading
+reading-image l bytes (Err (Fault f)) reading m is fits same = no-fault l m f is fits (subst (λ (v : List ℕ). IsFirstFault (fault_at l v) f) same reading)
 
 -- Reading bytes with a fault gives the fault.
-pub reading-fault : (bytes : List ℕ) (r : Result MapValue TableError) → IsReading bytes r → (f : TableFault) → IsTableFault bytes f → AnswersFault r f
-reading-fault bytes (Ok n) reading f fault = no-fault n f reading.0 (subst (λ (v : List ℕ). IsTableFault v f) reading.1 fault)
-reading-fault bytes (Err Memory) reading f fault = tt
-reading-fault bytes (Err (Read g)) reading f fault = absurd reading
-reading-fault bytes (Err (Fault g)) reading f fault = one-fault bytes g f reading fault
+pub reading-fault : (l : Layout) (bytes : List ℕ) (r : Result MapValue TableError) → IsReadingIn l bytes r → (f : TableFault) → IsFirstFault (fault_at l bytes) f → AnswersFault r f
+reading-fault l bytes (Ok n) reading f fault = no-fault l n f reading.0 reading.2 (subst (λ (v : List ℕ). IsFirstFault (fault_at l v) f) reading.1 fault)
+reading-fault l bytes (Err Memory) reading f fault = tt
+reading-fault l bytes (Err (Read g)) reading f fault = absurd reading
+reading-fault l bytes (Err (Fault g)) reading f fault = one-fault (fault_at l bytes) g f reading fault
+
+-- The reading of a table file, with and without what every map has there.
+pub reading-wide : (bytes : List ℕ) (r : Result MapValue TableError) → IsReadingIn wide bytes r → IsReading bytes r
+reading-wide bytes (Ok m) reading = (reading.0, reading.1)
+reading-wide bytes (Err Memory) reading = reading
+reading-wide bytes (Err (Read f)) reading = reading
+reading-wide bytes (Err (Fault f)) reading = reading
+
+pub reading-in : (bytes : List ℕ) (r : Result MapValue TableError) → IsReading bytes r → IsReadingIn wide bytes r
+reading-in bytes (Ok m) reading = (reading.0, reading.1, map-wide m reading.0)
+reading-in bytes (Err Memory) reading = reading
+reading-in bytes (Err (Read f)) reading = reading
+reading-in bytes (Err (Fault f)) reading = reading

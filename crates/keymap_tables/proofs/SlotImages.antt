@@ -1,16 +1,18 @@
 -- The image of a slot: it has no fault, and gives the entry.
-use Rattle.std.proofs.Common.{◌≡◌, ℕ, ◌+◌, ◌-◌, ◌*◌, ◌/◌, ◌%◌, ◌^◌, ◌<◌, ◌≤◌, ◌==◌, suc, zero, List, [], ◌∷◌, length, cond, None, Some, refl, sym, ap, ◌∙◌, subst, arith, inl, inr}
+use Rattle.std.proofs.Common.{◌≡◌, ℕ, ◌+◌, ◌-◌, ◌*◌, ◌/◌, ◌%◌, ◌^◌, ◌<◌, ◌≤◌, ◌==◌, suc, zero, List, [], ◌∷◌, ◌++◌, length, get_or, cond, None, Some, refl, sym, ap, ◌∙◌, arith, append_assoc, length-append}
 use Rattle.std.specs.Prelude.{slice_index, All, Bool, true, false, unwrap_or}
 use Rattle.std.specs.Char.{IsScalar}
-use Rattle.std.specs.Int.{from_le_bytes, w32}
+use Rattle.std.specs.Int.{from_le_bytes}
+use Rattle.std.specs.List.{flat_map}
 use Rattle.std.proofs.lemmas.Bool.Decides.{nat_tests}
-use Rattle.std.proofs.Math.Nat.{eq-or-lt_of_le}
+use Rattle.std.proofs.lemmas.List.{get_or-append_right, length-replicate, same_lists}
+use Rattle.std.proofs.lemmas.List.Elements.{All-get_or}
 use Rattle.std.proofs.lemmas.Nat.{from_le_bytes-to_le_bytes_4}
 use Rattle.keymap_core.specs.Actions.{IsAction, code_of, action_of, within}
 use Rattle.keymap_core.specs.declared.action.Action.{Action}
 use Rattle.keymap_core.specs.declared.action.Action.TheVariants as a
 use Rattle.keymap_core.specs.declared.action.Modifier.TheVariants as m
-use Rattle.keymap_core.specs.declared.action.Lock.TheVariants as l
+use Rattle.keymap_core.specs.declared.action.Lock.TheVariants as lock
 use Rattle.keymap_core.specs.declared.entry.Cell.{Cell}
 use Rattle.keymap_core.specs.declared.entry.Cell.TheVariants.{Char, Act}
 use Rattle.keymap_core.specs.declared.entry.Entry.{Entry}
@@ -18,8 +20,13 @@ use Rattle.keymap_core.specs.declared.entry.LockFlag.{LockFlag}
 use Rattle.keymap_core.specs.declared.entry.LockFlag.TheVariants as flag
 use Rattle.keymap_core.specs.Bounds.{IsCell, IsEntry}
 use Rattle.keymap_tables.specs.Faults.{number_at, mark_at, char_fault, cell_fault, slot_fault, HasNoFault}
-use Rattle.keymap_tables.specs.Image.{cell_bytes, number_of, is_act, flag_number, slot_bytes}
-use Rattle.keymap_tables.specs.Layouts.{wide}
+use Rattle.keymap_tables.specs.Image.{cell_bytes, number_bytes, number_of, is_act, marks_of, flag_number, slot_bytes, zeros}
+use Rattle.keymap_tables.specs.Fits.{CellFits, EntryFits}
+use Rattle.keymap_tables.specs.Layouts.{number_width, number_size, number_limit, pad_size, slot_size}
+use Rattle.keymap_tables.specs.declared.layout.Layout.{Layout}
+use Rattle.keymap_tables.specs.declared.layout.Layout.TheVariants.{Wide, Narrow}
+use Rattle.keymap_tables.proofs.RowImages.{IsSized, length-rows, row-in, zeros-behind}
+use Rattle.keymap_tables.proofs.Sizes.{no-cells, cells-end, length-number}
 use Rattle.keymap_tables.proofs.Cells.{sound-more, slot-none, small-flag}
 
 -- The code of an action gives it.
@@ -54,10 +61,10 @@ action-of-code (a.Mod m.LeftAlt) known = refl
 action-of-code (a.Mod m.RightAlt) known = refl
 action-of-code (a.Mod m.AltShift) known = refl
 action-of-code (a.Mod m.Meta) known = refl
-action-of-code (a.Lock l.Caps) known = refl
-action-of-code (a.Lock l.Num) known = refl
-action-of-code (a.Lock l.Scroll) known = refl
-action-of-code (a.Lock l.Alt) known = refl
+action-of-code (a.Lock lock.Caps) known = refl
+action-of-code (a.Lock lock.Num) known = refl
+action-of-code (a.Lock lock.Scroll) known = refl
+action-of-code (a.Lock lock.Alt) known = refl
 action-of-code a.BackTab known = refl
 action-of-code a.NextScreen known = refl
 action-of-code a.PreviousScreen known = refl
@@ -85,10 +92,10 @@ code-bounds (a.Mod m.LeftAlt) known = (omega arith, refl)
 code-bounds (a.Mod m.RightAlt) known = (omega arith, refl)
 code-bounds (a.Mod m.AltShift) known = (omega arith, refl)
 code-bounds (a.Mod m.Meta) known = (omega arith, refl)
-code-bounds (a.Lock l.Caps) known = (omega arith, refl)
-code-bounds (a.Lock l.Num) known = (omega arith, refl)
-code-bounds (a.Lock l.Scroll) known = (omega arith, refl)
-code-bounds (a.Lock l.Alt) known = (omega arith, refl)
+code-bounds (a.Lock lock.Caps) known = (omega arith, refl)
+code-bounds (a.Lock lock.Num) known = (omega arith, refl)
+code-bounds (a.Lock lock.Scroll) known = (omega arith, refl)
+code-bounds (a.Lock lock.Alt) known = (omega arith, refl)
 code-bounds a.BackTab known = (omega arith, refl)
 code-bounds a.NextScreen known = (omega arith, refl)
 code-bounds a.PreviousScreen known = (omega arith, refl)
@@ -112,10 +119,6 @@ scalar-small c known = grind (arith, nat_tests)
 pub char-sound : (c : ℕ) → IsScalar c → char_fault c ≡ None
 char-sound c known = grind (arith, nat_tests)
 
-pub cell-small : (cell : Cell) → IsCell cell → number_of cell < 2 ^ 32
-cell-small (Char c) known = scalar-small c known
-cell-small (Act action) known = omega (arith, (code-bounds action known).0)
-
 pub cell-sound : (cell : Cell) → IsCell cell → cell_fault (number_of cell) (is_act cell) ≡ None
 cell-sound (Char c) known = char-sound c known
 cell-sound (Act action) known = rw ((code-bounds action known).1, action-of-code action known) refl
@@ -129,26 +132,6 @@ pub cell-again : (cell : Cell) → IsCell cell → cell_of (number_of cell) (is_
 unfolding cell_of
 cell-again (Char c) known = refl
 cell-again (Act action) known = rw (action-of-code action known) refl
-
--- the number of four bytes
-pub number-again : (cell : Cell) → IsCell cell → from_le_bytes w32 (cell_bytes wide cell) ≡ number_of cell
-number-again cell known = from_le_bytes-to_le_bytes_4 (number_of cell) (cell-small cell known)
-
--- a cell stands in a column of the 36 bytes: its number and its mark
-abbrev Shows : List ℕ → Cell → ℕ → Type 0
-Shows bytes cell i = (number_at wide bytes (4 * i) ≡ number_of cell) × (mark_at wide bytes i ≡ is_act cell)
-
-shows-sound : (bytes : List ℕ) (cell : Cell) (i : ℕ) → Shows bytes cell i → IsCell cell → cell_fault (number_at wide bytes (4 * i)) (mark_at wide bytes i) ≡ None
-shows-sound bytes cell i shows known =
-    ap (λ (n : ℕ). cell_fault n (mark_at wide bytes i)) shows.0 ∙ ap (λ (t : Bool). cell_fault (number_of cell) t) shows.1 ∙ cell-sound cell known
-
-cell_in : List ℕ → ℕ → Cell
-cell_in bytes i = cell_of (number_at wide bytes (4 * i)) (mark_at wide bytes i)
-
-shows-again : (bytes : List ℕ) (cell : Cell) (i : ℕ) → Shows bytes cell i → IsCell cell → cell_in bytes i ≡ cell
-unfolding cell_in
-shows-again bytes cell i shows known =
-    ap (λ (n : ℕ). cell_of n (mark_at wide bytes i)) shows.0 ∙ ap (λ (t : Bool). cell_of (number_of cell) t) shows.1 ∙ cell-again cell known
 
 -- a mark
 abbrev bit : Cell → ℕ
@@ -190,57 +173,104 @@ bit-6 b0 b1 b2 b3 b4 b5 b6 b7 s0 s1 s2 s3 s4 s5 s6 s7 = omega arith
 bit-7 : (b0 b1 b2 b3 b4 b5 b6 b7 : ℕ) → b0 < 2 → b1 < 2 → b2 < 2 → b3 < 2 → b4 < 2 → b5 < 2 → b6 < 2 → b7 < 2 → eight_bits b0 b1 b2 b3 b4 b5 b6 b7 / 2 ^ (7 - 7) % 2 ≡ b7
 bit-7 b0 b1 b2 b3 b4 b5 b6 b7 s0 s1 s2 s3 s4 s5 s6 s7 = omega arith
 
--- the slot of eight cells
-abbrev slot_of : Cell → Cell → Cell → Cell → Cell → Cell → Cell → Cell → LockFlag → List ℕ
-slot_of c0 c1 c2 c3 c4 c5 c6 c7 k = slot_bytes wide (record { cells = c0 ∷ c1 ∷ c2 ∷ c3 ∷ c4 ∷ c5 ∷ c6 ∷ c7 ∷ []; flag = k })
+-- a list of eight
+eight-of : {X : Type 0} (P : List X → Type 0) (xs : List X) → length xs ≡ 8 → ((c0 c1 c2 c3 c4 c5 c6 c7 : X) → P (c0 ∷ c1 ∷ c2 ∷ c3 ∷ c4 ∷ c5 ∷ c6 ∷ c7 ∷ [])) → P xs
+eight-of P (c0 ∷ c1 ∷ c2 ∷ c3 ∷ c4 ∷ c5 ∷ c6 ∷ c7 ∷ []) eight holds = holds c0 c1 c2 c3 c4 c5 c6 c7
+eight-of P _ eight holds = absurd (omega arith)
 
-shows-0 : (c0 c1 c2 c3 c4 c5 c6 c7 : Cell) (k : LockFlag) → IsCell c0 → Shows (slot_of c0 c1 c2 c3 c4 c5 c6 c7 k) c0 0
-shows-0 c0 c1 c2 c3 c4 c5 c6 c7 k known = (
-  number-again c0 known,
-  ap (λ (n : ℕ). n == 1) (bit-0 (bit c0) (bit c1) (bit c2) (bit c3) (bit c4) (bit c5) (bit c6) (bit c7) (bit-small c0) (bit-small c1) (bit-small c2) (bit-small c3) (bit-small c4) (bit-small c5) (bit-small c6) (bit-small c7)) ∙ bit-test c0,
-)
+-- the mark of a column
+mark-column : (c0 c1 c2 c3 c4 c5 c6 c7 : Cell) (d : Cell) (i : ℕ) → i < 8 → (marks_of (c0 ∷ c1 ∷ c2 ∷ c3 ∷ c4 ∷ c5 ∷ c6 ∷ c7 ∷ []) / 2 ^ (7 - i) % 2 == 1) ≡ is_act (get_or (c0 ∷ c1 ∷ c2 ∷ c3 ∷ c4 ∷ c5 ∷ c6 ∷ c7 ∷ []) i d)
+mark-column c0 c1 c2 c3 c4 c5 c6 c7 d zero below = ap (λ (n : ℕ). n == 1) (bit-0 (bit c0) (bit c1) (bit c2) (bit c3) (bit c4) (bit c5) (bit c6) (bit c7) (bit-small c0) (bit-small c1) (bit-small c2) (bit-small c3) (bit-small c4) (bit-small c5) (bit-small c6) (bit-small c7)) ∙ bit-test c0
+mark-column c0 c1 c2 c3 c4 c5 c6 c7 d (suc zero) below = ap (λ (n : ℕ). n == 1) (bit-1 (bit c0) (bit c1) (bit c2) (bit c3) (bit c4) (bit c5) (bit c6) (bit c7) (bit-small c0) (bit-small c1) (bit-small c2) (bit-small c3) (bit-small c4) (bit-small c5) (bit-small c6) (bit-small c7)) ∙ bit-test c1
+mark-column c0 c1 c2 c3 c4 c5 c6 c7 d (suc (suc zero)) below = ap (λ (n : ℕ). n == 1) (bit-2 (bit c0) (bit c1) (bit c2) (bit c3) (bit c4) (bit c5) (bit c6) (bit c7) (bit-small c0) (bit-small c1) (bit-small c2) (bit-small c3) (bit-small c4) (bit-small c5) (bit-small c6) (bit-small c7)) ∙ bit-test c2
+mark-column c0 c1 c2 c3 c4 c5 c6 c7 d (suc (suc (suc zero))) below = ap (λ (n : ℕ). n == 1) (bit-3 (bit c0) (bit c1) (bit c2) (bit c3) (bit c4) (bit c5) (bit c6) (bit c7) (bit-small c0) (bit-small c1) (bit-small c2) (bit-small c3) (bit-small c4) (bit-small c5) (bit-small c6) (bit-small c7)) ∙ bit-test c3
+mark-column c0 c1 c2 c3 c4 c5 c6 c7 d (suc (suc (suc (suc zero)))) below = ap (λ (n : ℕ). n == 1) (bit-4 (bit c0) (bit c1) (bit c2) (bit c3) (bit c4) (bit c5) (bit c6) (bit c7) (bit-small c0) (bit-small c1) (bit-small c2) (bit-small c3) (bit-small c4) (bit-small c5) (bit-small c6) (bit-small c7)) ∙ bit-test c4
+mark-column c0 c1 c2 c3 c4 c5 c6 c7 d (suc (suc (suc (suc (suc zero))))) below = ap (λ (n : ℕ). n == 1) (bit-5 (bit c0) (bit c1) (bit c2) (bit c3) (bit c4) (bit c5) (bit c6) (bit c7) (bit-small c0) (bit-small c1) (bit-small c2) (bit-small c3) (bit-small c4) (bit-small c5) (bit-small c6) (bit-small c7)) ∙ bit-test c5
+mark-column c0 c1 c2 c3 c4 c5 c6 c7 d (suc (suc (suc (suc (suc (suc zero)))))) below = ap (λ (n : ℕ). n == 1) (bit-6 (bit c0) (bit c1) (bit c2) (bit c3) (bit c4) (bit c5) (bit c6) (bit c7) (bit-small c0) (bit-small c1) (bit-small c2) (bit-small c3) (bit-small c4) (bit-small c5) (bit-small c6) (bit-small c7)) ∙ bit-test c6
+mark-column c0 c1 c2 c3 c4 c5 c6 c7 d (suc (suc (suc (suc (suc (suc (suc zero))))))) below = ap (λ (n : ℕ). n == 1) (bit-7 (bit c0) (bit c1) (bit c2) (bit c3) (bit c4) (bit c5) (bit c6) (bit c7) (bit-small c0) (bit-small c1) (bit-small c2) (bit-small c3) (bit-small c4) (bit-small c5) (bit-small c6) (bit-small c7)) ∙ bit-test c7
+mark-column c0 c1 c2 c3 c4 c5 c6 c7 d (suc (suc (suc (suc (suc (suc (suc (suc i)))))))) below = absurd (omega arith)
 
-shows-1 : (c0 c1 c2 c3 c4 c5 c6 c7 : Cell) (k : LockFlag) → IsCell c1 → Shows (slot_of c0 c1 c2 c3 c4 c5 c6 c7 k) c1 1
-shows-1 c0 c1 c2 c3 c4 c5 c6 c7 k known = (
-  number-again c1 known,
-  ap (λ (n : ℕ). n == 1) (bit-1 (bit c0) (bit c1) (bit c2) (bit c3) (bit c4) (bit c5) (bit c6) (bit c7) (bit-small c0) (bit-small c1) (bit-small c2) (bit-small c3) (bit-small c4) (bit-small c5) (bit-small c6) (bit-small c7)) ∙ bit-test c1,
-)
+mark-bit : (cells : List Cell) → length cells ≡ 8 → (d : Cell) (i : ℕ) → i < 8 → (marks_of cells / 2 ^ (7 - i) % 2 == 1) ≡ is_act (get_or cells i d)
+mark-bit cells eight =
+    eight-of (λ (cells : List Cell). (d : Cell) (i : ℕ) → i < 8 → (marks_of cells / 2 ^ (7 - i) % 2 == 1) ≡ is_act (get_or cells i d)) cells eight mark-column
 
-shows-2 : (c0 c1 c2 c3 c4 c5 c6 c7 : Cell) (k : LockFlag) → IsCell c2 → Shows (slot_of c0 c1 c2 c3 c4 c5 c6 c7 k) c2 2
-shows-2 c0 c1 c2 c3 c4 c5 c6 c7 k known = (
-  number-again c2 known,
-  ap (λ (n : ℕ). n == 1) (bit-2 (bit c0) (bit c1) (bit c2) (bit c3) (bit c4) (bit c5) (bit c6) (bit c7) (bit-small c0) (bit-small c1) (bit-small c2) (bit-small c3) (bit-small c4) (bit-small c5) (bit-small c6) (bit-small c7)) ∙ bit-test c2,
-)
+-- the number of its bytes
+pub number-back : (l : Layout) (n : ℕ) → n < number_limit l → from_le_bytes (number_width l) (number_bytes l n) ≡ n
+number-back Wide n small = from_le_bytes-to_le_bytes_4 n small
+number-back Narrow n small = omega arith
 
-shows-3 : (c0 c1 c2 c3 c4 c5 c6 c7 : Cell) (k : LockFlag) → IsCell c3 → Shows (slot_of c0 c1 c2 c3 c4 c5 c6 c7 k) c3 3
-shows-3 c0 c1 c2 c3 c4 c5 c6 c7 k known = (
-  number-again c3 known,
-  ap (λ (n : ℕ). n == 1) (bit-3 (bit c0) (bit c1) (bit c2) (bit c3) (bit c4) (bit c5) (bit c6) (bit c7) (bit-small c0) (bit-small c1) (bit-small c2) (bit-small c3) (bit-small c4) (bit-small c5) (bit-small c6) (bit-small c7)) ∙ bit-test c3,
-)
+pub number-small : (l : Layout) (cell : Cell) → IsCell cell → CellFits l cell → number_of cell < number_limit l
+number-small l (Char c) known fits = fits
+number-small Wide (Act action) known fits = omega (arith, (code-bounds action known).0)
+number-small Narrow (Act action) known fits = (code-bounds action known).0
 
-shows-4 : (c0 c1 c2 c3 c4 c5 c6 c7 : Cell) (k : LockFlag) → IsCell c4 → Shows (slot_of c0 c1 c2 c3 c4 c5 c6 c7 k) c4 4
-shows-4 c0 c1 c2 c3 c4 c5 c6 c7 k known = (
-  number-again c4 known,
-  ap (λ (n : ℕ). n == 1) (bit-4 (bit c0) (bit c1) (bit c2) (bit c3) (bit c4) (bit c5) (bit c6) (bit c7) (bit-small c0) (bit-small c1) (bit-small c2) (bit-small c3) (bit-small c4) (bit-small c5) (bit-small c6) (bit-small c7)) ∙ bit-test c4,
-)
+cells-sized : (l : Layout) (cells : List Cell) → IsSized (cell_bytes l) (number_size l) cells
+cells-sized l cells k d below = length-number l (number_of (get_or cells k d))
 
-shows-5 : (c0 c1 c2 c3 c4 c5 c6 c7 : Cell) (k : LockFlag) → IsCell c5 → Shows (slot_of c0 c1 c2 c3 c4 c5 c6 c7 k) c5 5
-shows-5 c0 c1 c2 c3 c4 c5 c6 c7 k known = (
-  number-again c5 known,
-  ap (λ (n : ℕ). n == 1) (bit-5 (bit c0) (bit c1) (bit c2) (bit c3) (bit c4) (bit c5) (bit c6) (bit c7) (bit-small c0) (bit-small c1) (bit-small c2) (bit-small c3) (bit-small c4) (bit-small c5) (bit-small c6) (bit-small c7)) ∙ bit-test c5,
-)
+cells-long : (l : Layout) (entry : Entry) → IsEntry entry → length (flat_map (cell_bytes l) entry.cells) ≡ 8 * number_size l
+cells-long l entry known =
+    length-rows (cell_bytes l) (number_size l) entry.cells (cells-sized l entry.cells) ∙ ap (λ (n : ℕ). number_size l * n) known.eight ∙ cells-end l
 
-shows-6 : (c0 c1 c2 c3 c4 c5 c6 c7 : Cell) (k : LockFlag) → IsCell c6 → Shows (slot_of c0 c1 c2 c3 c4 c5 c6 c7 k) c6 6
-shows-6 c0 c1 c2 c3 c4 c5 c6 c7 k known = (
-  number-again c6 known,
-  ap (λ (n : ℕ). n == 1) (bit-6 (bit c0) (bit c1) (bit c2) (bit c3) (bit c4) (bit c5) (bit c6) (bit c7) (bit-small c0) (bit-small c1) (bit-small c2) (bit-small c3) (bit-small c4) (bit-small c5) (bit-small c6) (bit-small c7)) ∙ bit-test c6,
-)
+-- what follows the cells of a slot
+abbrev tail_of : Layout → Entry → List ℕ
+tail_of l entry = marks_of entry.cells ∷ flag_number entry.flag ∷ zeros (pad_size l)
 
-shows-7 : (c0 c1 c2 c3 c4 c5 c6 c7 : Cell) (k : LockFlag) → IsCell c7 → Shows (slot_of c0 c1 c2 c3 c4 c5 c6 c7 k) c7 7
-shows-7 c0 c1 c2 c3 c4 c5 c6 c7 k known = (
-  number-again c7 known,
-  ap (λ (n : ℕ). n == 1) (bit-7 (bit c0) (bit c1) (bit c2) (bit c3) (bit c4) (bit c5) (bit c6) (bit c7) (bit-small c0) (bit-small c1) (bit-small c2) (bit-small c3) (bit-small c4) (bit-small c5) (bit-small c6) (bit-small c7)) ∙ bit-test c7,
-)
+-- The cells, the marks and the flag stand in their places, and zeros behind them.
+pub number-in : (l : Layout) (entry : Entry) (d : Cell) (i : ℕ) → IsEntry entry → EntryFits l entry → i < 8 → number_at l (slot_bytes l entry) (number_size l * i) ≡ number_of (get_or entry.cells i d)
+number-in l entry d i known fits below =
+    let inside : i < length entry.cells = omega (arith, known.eight) in
+    ap (from_le_bytes (number_width l)) (row-in (cell_bytes l) (number_size l) entry.cells (tail_of l entry) i d (cells-sized l entry.cells) inside)
+    ∙ number-back l (number_of (get_or entry.cells i d))
+    (number-small l (get_or entry.cells i d) (All-get_or IsCell entry.cells i d inside known.cells) (All-get_or (CellFits l) entry.cells i d inside fits))
+
+marks-in : (l : Layout) (entry : Entry) → IsEntry entry → slice_index (slot_bytes l entry) (8 * number_size l) ≡ marks_of entry.cells
+marks-in l entry known =
+    let none : 8 * number_size l - 8 * number_size l ≡ 0 = omega arith in
+    get_or-append_right (flat_map (cell_bytes l) entry.cells) (tail_of l entry) (8 * number_size l) (8 * number_size l) 0 (cells-long l entry known) (omega arith)
+    ∙ ap (λ (k : ℕ). get_or (tail_of l entry) k 0) none
+
+pub mark-in : (l : Layout) (entry : Entry) (d : Cell) (i : ℕ) → IsEntry entry → i < 8 → mark_at l (slot_bytes l entry) i ≡ is_act (get_or entry.cells i d)
+mark-in l entry d i known below =
+    ap (λ (m : ℕ). m / 2 ^ (7 - i) % 2 == 1) (marks-in l entry known) ∙ mark-bit entry.cells known.eight d i below
+
+pub flag-in : (l : Layout) (entry : Entry) → IsEntry entry → slice_index (slot_bytes l entry) (8 * number_size l + 1) ≡ flag_number entry.flag
+flag-in l entry known =
+    let one : 8 * number_size l + 1 - 8 * number_size l ≡ 1 = omega arith in
+    get_or-append_right (flat_map (cell_bytes l) entry.cells) (tail_of l entry) (8 * number_size l) (8 * number_size l + 1) 0 (cells-long l entry known) (omega arith)
+    ∙ ap (λ (k : ℕ). get_or (tail_of l entry) k 0) one
+
+pads-in : (l : Layout) (entry : Entry) (p : ℕ) → IsEntry entry → 8 * number_size l + 2 ≤ p → slice_index (slot_bytes l entry) p ≡ 0
+pads-in l entry p known past =
+    let front = flat_map (cell_bytes l) entry.cells ++ marks_of entry.cells ∷ flag_number entry.flag ∷ [] in
+    let whole : (flat_map (cell_bytes l) entry.cells ++ marks_of entry.cells ∷ flag_number entry.flag ∷ []) ++ zeros (pad_size l) ≡ slot_bytes l entry =
+    append_assoc (flat_map (cell_bytes l) entry.cells) (marks_of entry.cells ∷ flag_number entry.flag ∷ []) (zeros (pad_size l)) in
+    let long : length (flat_map (cell_bytes l) entry.cells ++ marks_of entry.cells ∷ flag_number entry.flag ∷ []) ≡ 8 * number_size l + 2 =
+    length-append (flat_map (cell_bytes l) entry.cells) (marks_of entry.cells ∷ flag_number entry.flag ∷ []) ∙ ap (λ (n : ℕ). n + 2) (cells-long l entry known) in
+    ap (λ (v : List ℕ). slice_index v p) (sym whole) ∙ zeros-behind front (pad_size l) p (omega (arith, long, past))
+
+pub length-slot_bytes : (l : Layout) (entry : Entry) → IsEntry entry → length (slot_bytes l entry) ≡ slot_size l
+length-slot_bytes l entry known =
+    length-append (flat_map (cell_bytes l) entry.cells) (tail_of l entry)
+    ∙ omega (arith, cells-long l entry known, length-replicate {A = ℕ} (pad_size l) 0)
+
+-- No fault up to a cell.
+cells-sound : (l : Layout) (entry : Entry) → IsEntry entry → EntryFits l entry → (i : ℕ) → i ≤ 8 → HasNoFault (slot_fault l (slot_bytes l entry)) (number_size l * i)
+cells-sound l entry known fits zero few p below = absurd (omega (arith, below, no-cells l))
+cells-sound l entry known fits (suc i) few p below =
+    let bytes = slot_bytes l entry in
+    let inside : i < length entry.cells = omega (arith, known.eight) in
+    let next : number_size l * suc i ≡ number_size l * (i + 1) = ap (λ (n : ℕ). number_size l * n) (omega arith) in
+    let here : cell_fault (number_at l bytes (number_size l * i)) (mark_at l bytes i) ≡ None =
+    ap (λ (n : ℕ). cell_fault n (mark_at l bytes i)) (number-in l entry (Char 0) i known fits (omega arith))
+    ∙ ap (λ (t : Bool). cell_fault (number_of (get_or entry.cells i (Char 0))) t) (mark-in l entry (Char 0) i known (omega arith))
+    ∙ cell-sound (get_or entry.cells i (Char 0)) (All-get_or IsCell entry.cells i (Char 0) inside known.cells) in
+    sound-more l bytes i (omega arith) (cells-sound l entry known fits i (omega arith)) here p (omega (arith, below, next))
+
+pub slot_bytes-sound : (l : Layout) (entry : Entry) → IsEntry entry → EntryFits l entry → HasNoFault (slot_fault l (slot_bytes l entry)) (slot_size l)
+slot_bytes-sound l entry known fits =
+    let cells : HasNoFault (slot_fault l (slot_bytes l entry)) (8 * number_size l) = λ p below. cells-sound l entry known fits 8 (omega arith) p (omega (arith, below, cells-end l)) in
+    slot-none l (slot_bytes l entry) (slot_size l) cells (small-flag (slice_index (slot_bytes l entry) (8 * number_size l + 1)) entry.flag (sym (flag-in l entry known)))
+    (λ p past below. pads-in l entry p known past)
 
 flag_of : ℕ → LockFlag
 flag_of zero = flag.O
@@ -255,63 +285,24 @@ flag-again flag.C = refl
 flag-again flag.N = refl
 flag-again flag.B = refl
 
--- the entry of 36 bytes
-entry_in : List ℕ → Entry
-entry_in bytes = record { cells = cell_in bytes 0 ∷ cell_in bytes 1 ∷ cell_in bytes 2 ∷ cell_in bytes 3 ∷ cell_in bytes 4 ∷ cell_in bytes 5 ∷ cell_in bytes 6 ∷ cell_in bytes 7 ∷ []; flag = flag_of (slice_index bytes 33) }
+pub same-flag : (x y : LockFlag) → flag_number x ≡ flag_number y → x ≡ y
+same-flag x y same = sym (flag-again x) ∙ ap flag_of same ∙ flag-again y
 
-same-cells : (c0 c1 c2 c3 c4 c5 c6 c7 d0 d1 d2 d3 d4 d5 d6 d7 : Cell) → c0 ≡ d0 → c1 ≡ d1 → c2 ≡ d2 → c3 ≡ d3 → c4 ≡ d4 → c5 ≡ d5 → c6 ≡ d6 → c7 ≡ d7 → let xs : List Cell = c0 ∷ c1 ∷ c2 ∷ c3 ∷ c4 ∷ c5 ∷ c6 ∷ c7 ∷ [] in let ys : List Cell = d0 ∷ d1 ∷ d2 ∷ d3 ∷ d4 ∷ d5 ∷ d6 ∷ d7 ∷ [] in xs ≡ ys
-same-cells c0 c1 c2 c3 c4 c5 c6 c7 d0 d1 d2 d3 d4 d5 d6 d7 e0 e1 e2 e3 e4 e5 e6 e7 = cc
+pub same-cell : (x y : Cell) → IsCell x → IsCell y → number_of x ≡ number_of y → is_act x ≡ is_act y → x ≡ y
+same-cell x y known also same marked =
+    sym (cell-again x known) ∙ ap (λ (n : ℕ). cell_of n (is_act x)) same ∙ ap (λ (t : Bool). cell_of (number_of y) t) marked ∙ cell-again y also
 
--- a list of eight
-eight-of : {X : Type 0} (P : List X → Type 0) (xs : List X) → length xs ≡ 8 → ((c0 c1 c2 c3 c4 c5 c6 c7 : X) → P (c0 ∷ c1 ∷ c2 ∷ c3 ∷ c4 ∷ c5 ∷ c6 ∷ c7 ∷ [])) → P xs
-eight-of P (c0 ∷ c1 ∷ c2 ∷ c3 ∷ c4 ∷ c5 ∷ c6 ∷ c7 ∷ []) eight holds = holds c0 c1 c2 c3 c4 c5 c6 c7
-eight-of P _ eight holds = absurd (omega arith)
+entry_of : List Cell → LockFlag → Entry
+entry_of cells k = record { cells = cells; flag = k }
 
-slot-again : (c0 c1 c2 c3 c4 c5 c6 c7 : Cell) (k : LockFlag) → All IsCell (c0 ∷ c1 ∷ c2 ∷ c3 ∷ c4 ∷ c5 ∷ c6 ∷ c7 ∷ []) → entry_in (slot_of c0 c1 c2 c3 c4 c5 c6 c7 k) ≡ record { cells = c0 ∷ c1 ∷ c2 ∷ c3 ∷ c4 ∷ c5 ∷ c6 ∷ c7 ∷ []; flag = k }
-unfolding entry_in
-slot-again c0 c1 c2 c3 c4 c5 c6 c7 k known =
-    let bytes = slot_of c0 c1 c2 c3 c4 c5 c6 c7 k in
-    let cells = same-cells _ _ _ _ _ _ _ _ c0 c1 c2 c3 c4 c5 c6 c7
-    (shows-again bytes c0 0 (shows-0 c0 c1 c2 c3 c4 c5 c6 c7 k (known 0 c0 (omega arith))) (known 0 c0 (omega arith)))
-    (shows-again bytes c1 1 (shows-1 c0 c1 c2 c3 c4 c5 c6 c7 k (known 1 c0 (omega arith))) (known 1 c0 (omega arith)))
-    (shows-again bytes c2 2 (shows-2 c0 c1 c2 c3 c4 c5 c6 c7 k (known 2 c0 (omega arith))) (known 2 c0 (omega arith)))
-    (shows-again bytes c3 3 (shows-3 c0 c1 c2 c3 c4 c5 c6 c7 k (known 3 c0 (omega arith))) (known 3 c0 (omega arith)))
-    (shows-again bytes c4 4 (shows-4 c0 c1 c2 c3 c4 c5 c6 c7 k (known 4 c0 (omega arith))) (known 4 c0 (omega arith)))
-    (shows-again bytes c5 5 (shows-5 c0 c1 c2 c3 c4 c5 c6 c7 k (known 5 c0 (omega arith))) (known 5 c0 (omega arith)))
-    (shows-again bytes c6 6 (shows-6 c0 c1 c2 c3 c4 c5 c6 c7 k (known 6 c0 (omega arith))) (known 6 c0 (omega arith)))
-    (shows-again bytes c7 7 (shows-7 c0 c1 c2 c3 c4 c5 c6 c7 k (known 7 c0 (omega arith))) (known 7 c0 (omega arith))) in
-    ap (λ (xs : List Cell). record { cells = xs; flag = flag_of (flag_number k) }) cells ∙ ap (λ (v : LockFlag). record { cells = c0 ∷ c1 ∷ c2 ∷ c3 ∷ c4 ∷ c5 ∷ c6 ∷ c7 ∷ []; flag = v }) (flag-again k)
-
-slot-sound : (c0 c1 c2 c3 c4 c5 c6 c7 : Cell) (k : LockFlag) → All IsCell (c0 ∷ c1 ∷ c2 ∷ c3 ∷ c4 ∷ c5 ∷ c6 ∷ c7 ∷ []) → HasNoFault (slot_fault wide (slot_of c0 c1 c2 c3 c4 c5 c6 c7 k)) 36
-slot-sound c0 c1 c2 c3 c4 c5 c6 c7 k known =
-    let bytes = slot_of c0 c1 c2 c3 c4 c5 c6 c7 k in
-    let before : HasNoFault (slot_fault wide bytes) 0 = λ p below. absurd (omega arith) in
-    let s0 = sound-more bytes 0 (omega arith) before (shows-sound bytes c0 0 (shows-0 c0 c1 c2 c3 c4 c5 c6 c7 k (known 0 c0 (omega arith))) (known 0 c0 (omega arith))) in
-    let s1 = sound-more bytes 1 (omega arith) s0 (shows-sound bytes c1 1 (shows-1 c0 c1 c2 c3 c4 c5 c6 c7 k (known 1 c0 (omega arith))) (known 1 c0 (omega arith))) in
-    let s2 = sound-more bytes 2 (omega arith) s1 (shows-sound bytes c2 2 (shows-2 c0 c1 c2 c3 c4 c5 c6 c7 k (known 2 c0 (omega arith))) (known 2 c0 (omega arith))) in
-    let s3 = sound-more bytes 3 (omega arith) s2 (shows-sound bytes c3 3 (shows-3 c0 c1 c2 c3 c4 c5 c6 c7 k (known 3 c0 (omega arith))) (known 3 c0 (omega arith))) in
-    let s4 = sound-more bytes 4 (omega arith) s3 (shows-sound bytes c4 4 (shows-4 c0 c1 c2 c3 c4 c5 c6 c7 k (known 4 c0 (omega arith))) (known 4 c0 (omega arith))) in
-    let s5 = sound-more bytes 5 (omega arith) s4 (shows-sound bytes c5 5 (shows-5 c0 c1 c2 c3 c4 c5 c6 c7 k (known 5 c0 (omega arith))) (known 5 c0 (omega arith))) in
-    let s6 = sound-more bytes 6 (omega arith) s5 (shows-sound bytes c6 6 (shows-6 c0 c1 c2 c3 c4 c5 c6 c7 k (known 6 c0 (omega arith))) (known 6 c0 (omega arith))) in
-    let s7 = sound-more bytes 7 (omega arith) s6 (shows-sound bytes c7 7 (shows-7 c0 c1 c2 c3 c4 c5 c6 c7 k (known 7 c0 (omega arith))) (known 7 c0 (omega arith))) in
-    let small = small-flag (flag_number k) k refl in
-    slot-none bytes 36 s7 small (λ p past below. elim (eq-or-lt_of_le past) [
-      | inl same ↦ subst (λ (q : ℕ). slice_index bytes q ≡ 0) same refl
-      | inr above ↦ let is : 35 ≡ p = omega arith in
-          subst (λ (q : ℕ). slice_index bytes q ≡ 0) is refl
-    ])
-
-pub length-slot_bytes : (entry : Entry) → IsEntry entry → length (slot_bytes wide entry) ≡ 36
-length-slot_bytes entry known =
-    eight-of (λ (cells : List Cell). length (slot_bytes wide (record { cells = cells; flag = entry.flag })) ≡ 36) entry.cells known.eight (λ c0 c1 c2 c3 c4 c5 c6 c7. refl)
-
-pub slot_bytes-sound : (entry : Entry) → IsEntry entry → HasNoFault (slot_fault wide (slot_bytes wide entry)) 36
-slot_bytes-sound entry known =
-    eight-of (λ (cells : List Cell). All IsCell cells → HasNoFault (slot_fault wide (slot_bytes wide (record { cells = cells; flag = entry.flag }))) 36) entry.cells known.eight (λ c0 c1 c2 c3 c4 c5 c6 c7. slot-sound c0 c1 c2 c3 c4 c5 c6 c7 entry.flag) known.cells
-
-entry-again : (entry : Entry) → IsEntry entry → entry_in (slot_bytes wide entry) ≡ entry
-entry-again entry known =
-    eight-of (λ (cells : List Cell). All IsCell cells → let other : Entry = record { cells = cells; flag = entry.flag } in entry_in (slot_bytes wide other) ≡ other) entry.cells known.eight (λ c0 c1 c2 c3 c4 c5 c6 c7. slot-again c0 c1 c2 c3 c4 c5 c6 c7 entry.flag) known.cells
-
-pub same-entry : (x y : Entry) → IsEntry x → IsEntry y → slot_bytes wide x ≡ slot_bytes wide y → x ≡ y
-same-entry x y known also same = sym (entry-again x known) ∙ ap entry_in same ∙ entry-again y also
+pub same-entry : (l : Layout) (x y : Entry) → IsEntry x × EntryFits l x → IsEntry y × EntryFits l y → slot_bytes l x ≡ slot_bytes l y → x ≡ y
+unfolding entry_of
+same-entry l x y known also same =
+    let cells : x.cells ≡ y.cells = same_lists x.cells y.cells (known.0.eight ∙ sym also.0.eight) (λ k d below.
+    let column : k < 8 = omega (arith, below, known.0.eight) in
+    let within : k < length y.cells = omega (arith, column, also.0.eight) in
+    same-cell (get_or x.cells k d) (get_or y.cells k d) (All-get_or IsCell x.cells k d below known.0.cells) (All-get_or IsCell y.cells k d within also.0.cells)
+    (sym (number-in l x d k known.0 known.1 column) ∙ ap (λ (v : List ℕ). number_at l v (number_size l * k)) same ∙ number-in l y d k also.0 also.1 column)
+    (sym (mark-in l x d k known.0 column) ∙ ap (λ (v : List ℕ). mark_at l v k) same ∙ mark-in l y d k also.0 column)) in
+    let flags = same-flag x.flag y.flag (sym (flag-in l x known.0) ∙ ap (λ (v : List ℕ). slice_index v (8 * number_size l + 1)) same ∙ flag-in l y also.0) in
+    ap (λ (xs : List Cell). entry_of xs x.flag) cells ∙ ap (λ (k : LockFlag). entry_of y.cells k) flags

@@ -1,14 +1,15 @@
 -- A table file by its four parts.
 use Rattle.std.proofs.Common.{◌≡◌, ℕ, List, [], ◌++◌, ◌+◌, length, take, ap, arith, refl, sym, ◌∙◌, append_assoc, append-nil}
 use Rattle.keymap_core.specs.Maps.{MapValue}
-use Rattle.keymap_tables.specs.Image.{image, count_bytes, slots_bytes, accents_bytes}
+use Rattle.keymap_tables.specs.declared.layout.Layout.{Layout}
+use Rattle.keymap_tables.specs.Image.{image_in, count_bytes, slots_bytes, accents_bytes}
 use Rattle.std.proofs.lemmas.List.{take_all}
 use Rattle.std.proofs.Math.Seq.{take-add}
-use Rattle.keymap_tables.specs.Layouts.{wide, part}
+use Rattle.keymap_tables.specs.Layouts.{part}
 
-pub image-parts : (m : MapValue) → image m ≡ count_bytes wide (length m.entries) ++ slots_bytes wide m.entries ++ count_bytes wide (length m.accents) ++ accents_bytes wide m.accents
-unfolding image
-image-parts m = refl
+pub image-parts : (l : Layout) (m : MapValue) → image_in l m ≡ count_bytes l (length m.entries) ++ slots_bytes l m.entries ++ count_bytes l (length m.accents) ++ accents_bytes l m.accents
+unfolding image_in
+image-parts l m = refl
 
 -- Four parts, cut after each in turn.
 cut-1 : (a b c d p : List ℕ) → p ≡ a → a ++ b ++ c ++ d ≡ ([] ++ p) ++ (b ++ c ++ d)
@@ -24,21 +25,21 @@ cut-4 : (a b c d p q : List ℕ) → p ≡ a → q ≡ c → a ++ b ++ c ++ d �
 cut-4 a b c d p q is also = rw (is, also) (sym (append-nil (a ++ b ++ c ++ d)))
 
 -- The image, cut after each part in turn.
-pub after-n_keys : (m : MapValue) (n_keys : List ℕ) → n_keys ≡ count_bytes wide (length m.entries) → image m ≡ ([] ++ n_keys) ++ (slots_bytes wide m.entries ++ count_bytes wide (length m.accents) ++ accents_bytes wide m.accents)
-after-n_keys m n_keys is =
-    image-parts m ∙ cut-1 (count_bytes wide (length m.entries)) (slots_bytes wide m.entries) (count_bytes wide (length m.accents)) (accents_bytes wide m.accents) n_keys is
+pub after-n_keys : (l : Layout) (m : MapValue) (n_keys : List ℕ) → n_keys ≡ count_bytes l (length m.entries) → image_in l m ≡ ([] ++ n_keys) ++ (slots_bytes l m.entries ++ count_bytes l (length m.accents) ++ accents_bytes l m.accents)
+after-n_keys l m n_keys is =
+    image-parts l m ∙ cut-1 (count_bytes l (length m.entries)) (slots_bytes l m.entries) (count_bytes l (length m.accents)) (accents_bytes l m.accents) n_keys is
 
-pub after-slots : (m : MapValue) (n_keys : List ℕ) → n_keys ≡ count_bytes wide (length m.entries) → image m ≡ (([] ++ n_keys) ++ slots_bytes wide m.entries) ++ (count_bytes wide (length m.accents) ++ accents_bytes wide m.accents)
-after-slots m n_keys is =
-    image-parts m ∙ cut-2 (count_bytes wide (length m.entries)) (slots_bytes wide m.entries) (count_bytes wide (length m.accents)) (accents_bytes wide m.accents) n_keys is
+pub after-slots : (l : Layout) (m : MapValue) (n_keys : List ℕ) → n_keys ≡ count_bytes l (length m.entries) → image_in l m ≡ (([] ++ n_keys) ++ slots_bytes l m.entries) ++ (count_bytes l (length m.accents) ++ accents_bytes l m.accents)
+after-slots l m n_keys is =
+    image-parts l m ∙ cut-2 (count_bytes l (length m.entries)) (slots_bytes l m.entries) (count_bytes l (length m.accents)) (accents_bytes l m.accents) n_keys is
 
-pub after-n_accs : (m : MapValue) (n_keys n_accs : List ℕ) → n_keys ≡ count_bytes wide (length m.entries) → n_accs ≡ count_bytes wide (length m.accents) → image m ≡ ((([] ++ n_keys) ++ slots_bytes wide m.entries) ++ n_accs) ++ accents_bytes wide m.accents
-after-n_accs m n_keys n_accs is also =
-    image-parts m ∙ cut-3 (count_bytes wide (length m.entries)) (slots_bytes wide m.entries) (count_bytes wide (length m.accents)) (accents_bytes wide m.accents) n_keys n_accs is also
+pub after-n_accs : (l : Layout) (m : MapValue) (n_keys n_accs : List ℕ) → n_keys ≡ count_bytes l (length m.entries) → n_accs ≡ count_bytes l (length m.accents) → image_in l m ≡ ((([] ++ n_keys) ++ slots_bytes l m.entries) ++ n_accs) ++ accents_bytes l m.accents
+after-n_accs l m n_keys n_accs is also =
+    image-parts l m ∙ cut-3 (count_bytes l (length m.entries)) (slots_bytes l m.entries) (count_bytes l (length m.accents)) (accents_bytes l m.accents) n_keys n_accs is also
 
-pub after-accents : (m : MapValue) (n_keys n_accs : List ℕ) → n_keys ≡ count_bytes wide (length m.entries) → n_accs ≡ count_bytes wide (length m.accents) → image m ≡ (((([] ++ n_keys) ++ slots_bytes wide m.entries) ++ n_accs) ++ accents_bytes wide m.accents) ++ []
-after-accents m n_keys n_accs is also =
-    image-parts m ∙ cut-4 (count_bytes wide (length m.entries)) (slots_bytes wide m.entries) (count_bytes wide (length m.accents)) (accents_bytes wide m.accents) n_keys n_accs is also
+pub after-accents : (l : Layout) (m : MapValue) (n_keys n_accs : List ℕ) → n_keys ≡ count_bytes l (length m.entries) → n_accs ≡ count_bytes l (length m.accents) → image_in l m ≡ (((([] ++ n_keys) ++ slots_bytes l m.entries) ++ n_accs) ++ accents_bytes l m.accents) ++ []
+after-accents l m n_keys n_accs is also =
+    image-parts l m ∙ cut-4 (count_bytes l (length m.entries)) (slots_bytes l m.entries) (count_bytes l (length m.accents)) (accents_bytes l m.accents) n_keys n_accs is also
 
 -- The bytes of a file by its parts.
 pub parts-of : (bytes : List ℕ) (a b c d : ℕ) → length bytes ≡ a + b + c + d → bytes ≡ take a bytes ++ part bytes a b ++ part bytes (a + b) c ++ part bytes (a + b + c) d

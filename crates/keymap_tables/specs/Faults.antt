@@ -3,14 +3,15 @@ use Rattle.std.specs.Prelude.{◌≡◌, ℕ, ◌+◌, ◌-◌, ◌*◌, ◌/◌
 use Rattle.std.specs.Int.{from_le_bytes, w16}
 use Rattle.std.specs.List.{range_with_len}
 use Rattle.keymap_core.specs.Actions.{action_of, within}
-use Rattle.keymap_tables.specs.Layouts.{Layout, wide, part, number_size, count_size, slot_size, pair_size, accent_size, slots_place, slots_size, n_accs_place, accents_place, accents_size, file_size}
+use Rattle.keymap_tables.specs.Layouts.{wide, narrow, part, number_width, number_size, count_size, slot_size, pair_size, accent_size, slots_place, slots_size, n_accs_place, accents_place, accents_size, file_size}
+use Rattle.keymap_tables.specs.declared.layout.Layout.{Layout}
 use Rattle.keymap_tables.specs.declared.fault.TableFaultKind.{TableFaultKind}
 use Rattle.keymap_tables.specs.declared.fault.TableFaultKind.TheVariants.{Short, Long, BadCount, BadPad, BadFlag, BadAction, Combined, BadChar, NotEmpty}
 use Rattle.keymap_tables.specs.declared.fault.TableFault.{TableFault}
 
 -- The number of a cell or a character, and a count, from a place on.
 abbrev pub number_at : Layout → List ℕ → ℕ → ℕ
-number_at l bytes at = from_le_bytes l.number (part bytes at (number_size l))
+number_at l bytes at = from_le_bytes (number_width l) (part bytes at (number_size l))
 
 abbrev pub count_at : List ℕ → ℕ → ℕ
 count_at bytes at = from_le_bytes w16 (part bytes at 2)
@@ -85,23 +86,23 @@ content_fault l bytes p =
     else None
 
 -- The places of a file: a wrong length first.
-abbrev pub fault_in : Layout → List ℕ → ℕ → Option TableFaultKind
-fault_in l bytes p =
+unfoldable pub fault_at : Layout → List ℕ → ℕ → Option TableFaultKind
+fault_at l bytes p =
     if nat_lt (length bytes) (file_size l) then (if p == length bytes then Some Short else None)
     else if nat_lt (file_size l) (length bytes) then (if p == file_size l then Some Long else None)
     else content_fault l bytes p
-
-unfoldable pub fault_at : List ℕ → ℕ → Option TableFaultKind
-fault_at bytes p = fault_in wide bytes p
 
 -- the fault at the first place that has one
 pub record IsFirstFault (fault_of : ℕ → Option TableFaultKind) (f : TableFault) : Type 0 where
   pub here : fault_of f.offset ≡ Some f.kind
   pub before : (p : ℕ) → p < f.offset → fault_of p ≡ None
 
--- the fault of a table file
+-- the fault of a table file, and of a narrow one
 abbrev pub IsTableFault : List ℕ → TableFault → Type 0
-IsTableFault bytes f = IsFirstFault (fault_at bytes) f
+IsTableFault bytes f = IsFirstFault (fault_at wide bytes) f
+
+abbrev pub IsNarrowFault : List ℕ → TableFault → Type 0
+IsNarrowFault bytes f = IsFirstFault (fault_at narrow bytes) f
 
 -- the first n places have no fault
 abbrev pub HasNoFault : (ℕ → Option TableFaultKind) → ℕ → Type 0

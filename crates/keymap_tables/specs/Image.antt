@@ -10,17 +10,18 @@ use Rattle.keymap_core.specs.declared.entry.Cell.TheVariants.{Char, Act}
 use Rattle.keymap_core.specs.declared.entry.Entry.{Entry}
 use Rattle.keymap_core.specs.declared.entry.LockFlag.{LockFlag}
 use Rattle.keymap_core.specs.declared.entry.LockFlag.TheVariants as flag
-use Rattle.keymap_tables.specs.Layouts.{Layout, wide, pair_size, slot_size, accent_size}
+use Rattle.keymap_tables.specs.declared.layout.Layout.{Layout}
+use Rattle.keymap_tables.specs.Layouts.{wide, narrow, number_width, pad_size, pair_size, slot_size, accent_size}
 
 abbrev pub zeros : ℕ → List ℕ
 zeros n = replicate n 0
 
 -- a count, and the pads
 abbrev pub count_bytes : Layout → ℕ → List ℕ
-count_bytes l n = to_le_bytes w16 n ++ zeros l.pads
+count_bytes l n = to_le_bytes w16 n ++ zeros (pad_size l)
 
 abbrev pub number_bytes : Layout → ℕ → List ℕ
-number_bytes l n = to_le_bytes l.number n
+number_bytes l n = to_le_bytes (number_width l) n
 
 -- a cell is a character's number or an action's code
 abbrev pub number_of : Cell → ℕ
@@ -46,7 +47,7 @@ flag_number flag.B = 3
 
 -- a slot: its cells, the marks, the flag, and the pads
 abbrev pub slot_bytes : Layout → Entry → List ℕ
-slot_bytes l entry = flat_map (cell_bytes l) entry.cells ++ marks_of entry.cells ∷ flag_number entry.flag ∷ zeros l.pads
+slot_bytes l entry = flat_map (cell_bytes l) entry.cells ++ marks_of entry.cells ∷ flag_number entry.flag ∷ zeros (pad_size l)
 
 abbrev pub pair_bytes : Layout → ℕ × ℕ → List ℕ
 pair_bytes l pair = number_bytes l pair.0 ++ number_bytes l pair.1
@@ -65,10 +66,14 @@ abbrev pub accents_bytes : Layout → List AccentValue → List ℕ
 accents_bytes l accents = flat_map (accent_bytes l) accents ++ zeros (accent_size l * (15 - length accents))
 
 -- the slots, and then the accents, each after its count
-abbrev pub image_in : Layout → MapValue → List ℕ
+unfoldable pub image_in : Layout → MapValue → List ℕ
 image_in l m =
     count_bytes l (length m.entries) ++ slots_bytes l m.entries ++ count_bytes l (length m.accents) ++ accents_bytes l m.accents
 
 -- the one image of a map
-unfoldable pub image : MapValue → List ℕ
+abbrev pub image : MapValue → List ℕ
 image m = image_in wide m
+
+-- the one narrow image of a map that fits
+abbrev pub narrow_image : MapValue → List ℕ
+narrow_image m = image_in narrow m

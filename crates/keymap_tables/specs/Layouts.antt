@@ -1,56 +1,72 @@
--- Where the parts of a table file stand, by how wide a number is and how many pads there are.
-use Rattle.std.specs.Prelude.{ℕ, ◌+◌, ◌*◌, List, take, drop}
-use Rattle.std.specs.Int.{Width, w32, byte_len}
-
-pub record Layout : Type 0 where
-  -- the width of a cell, and of an accent's character
-  pub number : Width
-  -- the zero bytes after a count, and after the flag of a slot
-  pub pads : ℕ
+-- Where the parts of a table file stand: one format at two widths.
+use Rattle.std.specs.Prelude.{ℕ, ◌+◌, ◌*◌, ◌^◌, List, take, drop}
+use Rattle.std.specs.Int.{Width, w8, w32}
+use Rattle.keymap_tables.specs.declared.layout.Layout.{Layout}
+use Rattle.keymap_tables.specs.declared.layout.Layout.TheVariants.{Wide, Narrow}
 
 -- the layout of `struct keymap` and `struct accentmap`
 abbrev pub wide : Layout
-wide = record { number = w32; pads = 2 }
+wide = Wide
 
--- two bytes and the pads: 4 in the wide layout
-abbrev pub count_size : Layout → ℕ
-count_size l = 2 + l.pads
+-- one byte a number, and no pads
+abbrev pub narrow : Layout
+narrow = Narrow
 
--- 4
+-- the width of a cell, and of an accent's character
+abbrev pub number_width : Layout → Width
+number_width Wide = w32
+number_width Narrow = w8
+
+-- the same in bytes
 abbrev pub number_size : Layout → ℕ
-number_size l = byte_len l.number
+number_size Wide = 4
+number_size Narrow = 1
 
--- eight cells, the marks, the flag, the pads: 36
+-- the numbers below this fit
+abbrev pub number_limit : Layout → ℕ
+number_limit Wide = 2 ^ 32
+number_limit Narrow = 256
+
+-- the zero bytes after a count, and after the flag of a slot
+abbrev pub pad_size : Layout → ℕ
+pad_size Wide = 2
+pad_size Narrow = 0
+
+-- two bytes and the pads: 4, narrow 2
+abbrev pub count_size : Layout → ℕ
+count_size l = 2 + pad_size l
+
+-- eight cells, the marks, the flag, the pads: 36, narrow 10
 abbrev pub slot_size : Layout → ℕ
-slot_size l = 8 * number_size l + 2 + l.pads
+slot_size l = 8 * number_size l + 2 + pad_size l
 
--- a base and a result: 8
+-- a base and a result: 8, narrow 2
 abbrev pub pair_size : Layout → ℕ
 pair_size l = 2 * number_size l
 
--- the own character and 52 pairs: 420
+-- the own character and 52 pairs: 420, narrow 105
 abbrev pub accent_size : Layout → ℕ
 accent_size l = number_size l + 52 * pair_size l
 
--- n_keys stands at 0, the slots at 4
+-- n_keys stands at 0, the slots at 4, narrow 2
 abbrev pub slots_place : Layout → ℕ
 slots_place l = count_size l
 
 abbrev pub slots_size : Layout → ℕ
 slots_size l = 256 * slot_size l
 
--- 9220
+-- 9220, narrow 2562
 abbrev pub n_accs_place : Layout → ℕ
 n_accs_place l = slots_place l + slots_size l
 
--- 9224
+-- 9224, narrow 2564
 abbrev pub accents_place : Layout → ℕ
 accents_place l = n_accs_place l + count_size l
 
 abbrev pub accents_size : Layout → ℕ
 accents_size l = 15 * accent_size l
 
--- 15524
+-- 15524, narrow 4139
 abbrev pub file_size : Layout → ℕ
 file_size l = accents_place l + accents_size l
 

@@ -1,5 +1,7 @@
 pub mod Faults
+pub mod Fits
 pub mod Image
 pub mod Layouts
 pub mod Readings
 pub mod Sources
+pub mod Writing

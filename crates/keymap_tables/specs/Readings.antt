@@ -1,9 +1,12 @@
 -- What the reading of tables answers.
 use Rattle.std.specs.Prelude.{◌≡◌, ℕ, List, length, ⊤, Result, Ok, Err}
+use Rattle.keymap_tables.specs.declared.layout.Layout.{Layout}
 use Rattle.keymap_core.specs.Maps.{MapValue}
 use Rattle.keymap_core.specs.Bounds.{IsMap}
-use Rattle.keymap_tables.specs.Faults.{IsTableFault}
-use Rattle.keymap_tables.specs.Image.{image}
+use Rattle.keymap_tables.specs.Faults.{IsTableFault, IsFirstFault, fault_at}
+use Rattle.keymap_tables.specs.Fits.{FitsIn}
+use Rattle.keymap_tables.specs.Image.{image, image_in}
+use Rattle.keymap_tables.specs.Layouts.{narrow, file_size}
 use Rattle.keymap_tables.specs.declared.fault.TableError.{TableError}
 use Rattle.keymap_tables.specs.declared.fault.TableFault.{TableFault}
 use Rattle.keymap_tables.specs.declared.fault.TableError.TheVariants.{Memory, Read, Fault}
@@ -14,6 +17,16 @@ IsReading bytes (Ok m) = IsMap m × (bytes ≡ image m)
 IsReading bytes (Err Memory) = length bytes ≡ 15524
 IsReading bytes (Err (Read f)) = ⊥
 IsReading bytes (Err (Fault f)) = IsTableFault bytes f
+
+-- The same at each width: the map fits.
+abbrev pub IsReadingIn : Layout → List ℕ → Result MapValue TableError → Type 0
+IsReadingIn l bytes (Ok m) = IsMap m × (bytes ≡ image_in l m) × FitsIn l m
+IsReadingIn l bytes (Err Memory) = length bytes ≡ file_size l
+IsReadingIn l bytes (Err (Read f)) = ⊥
+IsReadingIn l bytes (Err (Fault f)) = IsFirstFault (fault_at l bytes) f
+
+abbrev pub IsNarrowReading : List ℕ → Result MapValue TableError → Type 0
+IsNarrowReading bytes r = IsReadingIn narrow bytes r
 
 -- The map, if there is memory.
 abbrev pub AnswersMap : Result MapValue TableError → MapValue → Type 0

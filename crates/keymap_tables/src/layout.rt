@@ -1,41 +1,149 @@
-//! The sizes of the parts of a table file.
+//! Where the parts of a table file stand, in bytes from its start, and how long they are: one format at two widths.
+ghost use Rattle.std.specs.Prelude.{◌≡◌, ◌*◌};
+ghost use Rattle.keymap_tables.specs.Layouts.{number_size, count_size, slot_size, pair_size, accent_size, slots_place, n_accs_place, accents_place, file_size};
 
-/// A cell, or an accent's character.
-pub(crate) const NUMBER: usize = 4;
+/// How wide the numbers of a table file are.
+#[derive(Clone, Copy, Debug, PartialEq, Eq)]
+pub(crate) enum Layout {
+    /// Four bytes a number, and two pads after each count and each flag: `struct keymap` and `struct accentmap`.
+    Wide,
+    /// One byte a number, and no pads.
+    Narrow,
+}
 
-/// A count and its pads.
-pub(crate) const COUNT: usize = 4;
-
-/// Where the pads of a count stand.
+/// Where the pads of a count stand in it.
 pub(crate) const COUNT_PADS_AT: usize = 2;
 
-/// Eight cells, the marks, the flag and the pads.
+/// How many bytes a count, a slot and an accent have at most.
+pub(crate) const COUNT: usize = 4;
+
 pub(crate) const SLOT: usize = 36;
 
-/// Where the marks, the flag and the pads of a slot stand.
-pub(crate) const MARKS_AT: usize = 32;
-
-pub(crate) const FLAG_AT: usize = 33;
-
-pub(crate) const SLOT_PADS_AT: usize = 34;
-
-pub(crate) const SLOTS: usize = 256;
-
-/// The own character and 52 pairs.
 pub(crate) const ACCENT: usize = 420;
+
+/// How many slots, accents and pairs of an accent there are in each file.
+pub(crate) const SLOTS: usize = 256;
 
 pub(crate) const ACCENTS: usize = 15;
 
 pub(crate) const PAIRS: usize = 52;
 
-/// A base and a result.
-pub(crate) const PAIR: usize = 8;
+/// Where slot 0, the number of accents and accent 0 stand in a table file, and how long it is.
+pub(crate) const WIDE_SLOTS_AT: usize = 4;
 
-/// Where the slots, n_accs and the accents stand.
-pub(crate) const SLOTS_AT: usize = 4;
+pub(crate) const WIDE_N_ACCS_AT: usize = 9220;
 
-pub(crate) const N_ACCS_AT: usize = 9220;
+pub(crate) const WIDE_ACCENTS_AT: usize = 9224;
 
-pub(crate) const ACCENTS_AT: usize = 9224;
+pub(crate) const WIDE_FILE: usize = 15524;
 
-pub(crate) const FILE: usize = 15524;
+/// The same in a narrow file.
+pub(crate) const NARROW_SLOTS_AT: usize = 2;
+
+pub(crate) const NARROW_N_ACCS_AT: usize = 2562;
+
+pub(crate) const NARROW_ACCENTS_AT: usize = 2564;
+
+pub(crate) const NARROW_FILE: usize = 4139;
+
+impl Layout {
+    /// A cell, or an accent's character.
+    pub(crate) fn number(self) -> usize
+        ensures { result ≡ number_size self }
+    {
+        match self {
+            Layout::Wide => 4,
+            Layout::Narrow => 1,
+        }
+    }
+
+    /// A count and its pads.
+    pub(crate) fn count(self) -> usize
+        ensures { result ≡ count_size self }
+    {
+        match self {
+            Layout::Wide => COUNT,
+            Layout::Narrow => 2,
+        }
+    }
+
+    /// The eight cells of a slot. The marks, the flag and the pads follow them.
+    pub(crate) fn cells(self) -> usize
+        ensures { result ≡ 8 * number_size self }
+    {
+        match self {
+            Layout::Wide => 32,
+            Layout::Narrow => 8,
+        }
+    }
+
+    /// Eight cells, the marks, the flag and the pads.
+    pub(crate) fn slot(self) -> usize
+        ensures { result ≡ slot_size self }
+    {
+        match self {
+            Layout::Wide => SLOT,
+            Layout::Narrow => 10,
+        }
+    }
+
+    /// A base and a result.
+    pub(crate) fn pair(self) -> usize
+        ensures { result ≡ pair_size self }
+    {
+        match self {
+            Layout::Wide => 8,
+            Layout::Narrow => 2,
+        }
+    }
+
+    /// The own character and 52 pairs.
+    pub(crate) fn accent(self) -> usize
+        ensures { result ≡ accent_size self }
+    {
+        match self {
+            Layout::Wide => ACCENT,
+            Layout::Narrow => 105,
+        }
+    }
+
+    /// Where slot 0 stands.
+    pub(crate) fn slots_at(self) -> usize
+        ensures { result ≡ slots_place self }
+    {
+        match self {
+            Layout::Wide => WIDE_SLOTS_AT,
+            Layout::Narrow => NARROW_SLOTS_AT,
+        }
+    }
+
+    /// Where the number of accents stands.
+    pub(crate) fn n_accs_at(self) -> usize
+        ensures { result ≡ n_accs_place self }
+    {
+        match self {
+            Layout::Wide => WIDE_N_ACCS_AT,
+            Layout::Narrow => NARROW_N_ACCS_AT,
+        }
+    }
+
+    /// Where accent 0 stands.
+    pub(crate) fn accents_at(self) -> usize
+        ensures { result ≡ accents_place self }
+    {
+        match self {
+            Layout::Wide => WIDE_ACCENTS_AT,
+            Layout::Narrow => NARROW_ACCENTS_AT,
+        }
+    }
+
+    /// How long a file is.
+    pub(crate) fn file(self) -> usize
+        ensures { result ≡ file_size self }
+    {
+        match self {
+            Layout::Wide => WIDE_FILE,
+            Layout::Narrow => NARROW_FILE,
+        }
+    }
+}

@@ -1,8 +1,14 @@
 //! Binary keymap tables: the layout of `struct keymap` and `struct accentmap` of sys/kbio.h, 15,524 bytes, numbers little
 //! endian.
 //!
-//! `write_tables` writes the one image of a map. `read_tables` answers the map whose image the bytes are, or else the fault
-//! of least offset. `read_tables_from` does so with the bytes of a reader.
+//! `write_tables` writes the one image of a map. `read_tables` answers the map whose image the bytes are, or else the
+//! fault of least offset. `read_tables_from` does so with the bytes of a reader.
+//!
+//! The narrow file is this project's own: the same parts with one byte a number and no pads, 4,139 bytes. `write_narrow`,
+//! `read_narrow` and `read_narrow_from` are the same calls for it. A map fits if no character is above 255; `write_narrow`
+//! names the first that is, and writes nothing.
+//!
+//! Both are one format at two widths (`Layout`): images, faults, writers and readers are said once.
 //!
 //! It stands on keymap_core, which has the maps and the devices.
 #![tactic(auto)]
@@ -12,6 +18,7 @@ mod count;
 mod fault;
 pub mod laws;
 mod layout;
+mod narrow;
 mod number;
 mod read;
 mod read_accent;
@@ -23,6 +30,7 @@ mod tests;
 mod write;
 
 pub use fault::{TableError, TableFault, TableFaultKind};
-pub use read::read_tables;
-pub use source::read_tables_from;
+pub use narrow::{NarrowError, Wide, write_narrow};
+pub use read::{read_narrow, read_tables};
+pub use source::{read_narrow_from, read_tables_from};
 pub use write::write_tables;

@@ -4,29 +4,35 @@ ghost use Rattle.std.specs.Char.{IsScalar};
 ghost use Rattle.keymap_core.specs.Bounds.{IsCell};
 ghost use Rattle.keymap_tables.specs.Faults.{number_at, count_at, char_fault, action_fault, cell_fault, count_fault, IsFirstFault, IsFirstFilled, HasNoFault};
 ghost use Rattle.keymap_tables.specs.Image.{number_of, is_act, count_bytes};
-ghost use Rattle.keymap_tables.specs.Layouts.{wide};
+ghost use Rattle.keymap_tables.specs.Layouts.{number_size, count_size};
+ghost use Rattle.keymap_tables.specs.declared.layout.Layout.{Layout};
 
 use crate::fault::{TableFault, TableFaultKind};
-use crate::layout::COUNT_PADS_AT;
+use crate::layout::{COUNT_PADS_AT, Layout};
 use keymap_core::{Action, Cell};
 
-/// The four bytes from a place on, as a number.
-pub(crate) fn read_number(bytes: &[u8], at: usize) -> u32
-    requires { at + 4 ≤ length bytes.now }
-    ensures { result ≡ number_at wide bytes.now at }
+/// The number of the bytes from a place on, one or four.
+pub(crate) fn read_number(layout: Layout, bytes: &[u8], at: usize) -> u32
+    requires { at + number_size layout ≤ length bytes.now }
+    ensures { result ≡ number_at layout bytes.now at }
 {
-    u32::from_le_bytes([bytes[at], bytes[at + 1], bytes[at + 2], bytes[at + 3]])
+    match layout {
+        Layout::Wide => {
+            u32::from_le_bytes([bytes[at], bytes[at + 1], bytes[at + 2], bytes[at + 3]])
+        }
+        Layout::Narrow => u32::from(bytes[at]),
+    }
 }
 
-/// The character of the four bytes from a place on.
-pub(crate) fn read_char(bytes: &[u8], at: usize) -> Result<char, TableFault>
-    requires { at + 4 ≤ length bytes.now }
-    ensures number { IfOk result (λ c. c ≡ number_at wide bytes.now at) }
+/// The character of the number from a place on.
+pub(crate) fn read_char(layout: Layout, bytes: &[u8], at: usize) -> Result<char, TableFault>
+    requires { at + number_size layout ≤ length bytes.now }
+    ensures number { IfOk result (λ c. c ≡ number_at layout bytes.now at) }
     ensures known { IfOk result IsScalar }
-    ensures sound { OnOk result (char_fault (number_at wide bytes.now at) ≡ None) }
-    ensures fault { IfErr result (λ f. (f.offset ≡ at) × (char_fault (number_at wide bytes.now at) ≡ Some f.kind)) }
+    ensures sound { OnOk result (char_fault (number_at layout bytes.now at) ≡ None) }
+    ensures fault { IfErr result (λ f. (f.offset ≡ at) × (char_fault (number_at layout bytes.now at) ≡ Some f.kind)) }
 {
-    match char::from_u32(read_number(bytes, at)) {
+    match char::from_u32(read_number(layout, bytes, at)) {
         Some(c) => Ok(c),
         None => Err(TableFault {
             offset: at as u64,
@@ -90,14 +96,14 @@ fn read_half(bytes: &[u8]) -> u16
     u16::from_le_bytes([bytes[0], bytes[1]])
 }
 
-/// A count of at most `most`, and two pads.
+/// A count of at most `most`, and its pads.
 pub(crate) fn read_count(bytes: &[u8], most: u16) -> Result<u16, TableFault>
-    requires { length bytes.now ≡ 4 }
+    requires { 2 ≤ length bytes.now }
     ensures value { IfOk result (λ n. n ≡ count_at bytes.now 0) }
     ensures few { IfOk result (λ n. n ≤ most) }
-    ensures image { IfOk result (λ n. bytes.now ≡ count_bytes wide n) }
-    ensures sound { OnOk result (HasNoFault (count_fault most bytes.now) 4) }
-    ensures fault { IfErr result (λ f. IsFirstFault (count_fault most bytes.now) f × (f.offset < 4)) }
+    ensures image { (l : Layout) → length bytes.now ≡ count_size l → IfOk result (λ n. bytes.now ≡ count_bytes l n) }
+    ensures sound { OnOk result (HasNoFault (count_fault most bytes.now) (length bytes.now)) }
+    ensures fault { IfErr result (λ f. IsFirstFault (count_fault most bytes.now) f × (f.offset < length bytes.now)) }
 {
     let count = read_half(bytes);
     if count > most {

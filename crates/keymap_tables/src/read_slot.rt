@@ -1,13 +1,14 @@
-//! Reading of a slot: eight cells, the marks, the lock flag and two pads.
-ghost use Rattle.std.specs.Prelude.{◌≡◌, ◌<◌, length, take, IfOk, IfErr, OnOk, None, Some, All, slice_index, MatchOption};
+//! Reading of a slot: eight cells, the marks, the lock flag and the pads.
+ghost use Rattle.std.specs.Prelude.{◌≡◌, ◌*◌, ◌<◌, length, take, IfOk, IfErr, OnOk, None, Some, All, slice_index, MatchOption};
 ghost use Rattle.std.specs.List.{flat_map};
 ghost use Rattle.keymap_core.specs.Bounds.{IsCell, IsEntry};
 ghost use Rattle.keymap_tables.specs.Faults.{slot_fault, IsFirstFault, HasNoFault};
+ghost use Rattle.keymap_tables.specs.Fits.{CellFits, EntryFits};
 ghost use Rattle.keymap_tables.specs.Image.{slot_bytes, cell_bytes, marks_of, flag_number};
-ghost use Rattle.keymap_tables.specs.Layouts.{wide};
+ghost use Rattle.keymap_tables.specs.Layouts.{number_size, slot_size};
 
 use crate::fault::{TableFault, TableFaultKind};
-use crate::layout::{FLAG_AT, MARKS_AT, NUMBER, SLOT_PADS_AT};
+use crate::layout::Layout;
 use crate::number::{cell_of, check_zeros, read_number};
 use keymap_core::{Cell, Entry, LockFlag};
 
@@ -25,21 +26,24 @@ fn flag_of(byte: u8) -> Option<LockFlag>
 }
 
 /// The cells of a slot.
-fn read_cells(bytes: &[u8]) -> Result<[Cell; 8], TableFault>
-    requires { length bytes.now ≡ 36 }
+fn read_cells(layout: Layout, bytes: &[u8]) -> Result<[Cell; 8], TableFault>
+    requires { length bytes.now ≡ slot_size layout }
     ensures eight { IfOk result (λ cells. length cells ≡ 8) }
     ensures known { IfOk result (All IsCell) }
-    ensures bytes { IfOk result (λ cells. take 32 bytes.now ≡ flat_map (cell_bytes wide) cells) }
-    ensures marks { IfOk result (λ cells. slice_index bytes.now 32 ≡ marks_of cells) }
-    ensures sound { OnOk result (HasNoFault (slot_fault wide bytes.now) 32) }
-    ensures fault { IfErr result (λ f. IsFirstFault (slot_fault wide bytes.now) f × (f.offset < 32)) }
+    ensures fits { IfOk result (All (CellFits layout)) }
+    ensures bytes { IfOk result (λ cells. take (8 * number_size layout) bytes.now
+        ≡ flat_map (cell_bytes layout) cells) }
+    ensures marks { IfOk result (λ cells. slice_index bytes.now (8 * number_size layout) ≡ marks_of cells) }
+    ensures sound { OnOk result (HasNoFault (slot_fault layout bytes.now) (8 * number_size layout)) }
+    ensures fault { IfErr result (λ f. IsFirstFault (slot_fault layout bytes.now) f
+        × (f.offset < 8 * number_size layout)) }
 {
-    let marks = bytes[MARKS_AT];
+    let marks = bytes[layout.cells()];
     let mut cells = [Cell::Char('\0'); 8];
     for column in 0..8 {
-        let at = NUMBER * column;
+        let at = layout.number() * column;
         let is_marked = (marks >> (7 - column)) % 2 == 1;
-        match cell_of(read_number(bytes, at), is_marked) {
+        match cell_of(read_number(layout, bytes, at), is_marked) {
             Ok(cell) => cells[column] = cell,
             Err(kind) => {
                 return Err(TableFault {
@@ -52,21 +56,23 @@ fn read_cells(bytes: &[u8]) -> Result<[Cell; 8], TableFault>
     Ok(cells)
 }
 
-/// The entry whose image the 36 bytes are, or their first fault.
-pub(crate) fn read_slot(bytes: &[u8]) -> Result<Entry, TableFault>
-    requires { length bytes.now ≡ 36 }
-    ensures image { IfOk result (λ entry. bytes.now ≡ slot_bytes wide entry) }
+/// The entry whose image the bytes are, or their first fault.
+pub(crate) fn read_slot(layout: Layout, bytes: &[u8]) -> Result<Entry, TableFault>
+    requires { length bytes.now ≡ slot_size layout }
+    ensures image { IfOk result (λ entry. bytes.now ≡ slot_bytes layout entry) }
     ensures known { IfOk result IsEntry }
-    ensures sound { OnOk result (HasNoFault (slot_fault wide bytes.now) 36) }
-    ensures fault { IfErr result (λ f. IsFirstFault (slot_fault wide bytes.now) f × (f.offset < 36)) }
+    ensures fits { IfOk result (EntryFits layout) }
+    ensures sound { OnOk result (HasNoFault (slot_fault layout bytes.now) (slot_size layout)) }
+    ensures fault { IfErr result (λ f. IsFirstFault (slot_fault layout bytes.now) f × (f.offset < slot_size layout)) }
 {
-    let cells = read_cells(bytes)?;
-    let Some(flag) = flag_of(bytes[FLAG_AT]) else {
+    let cells = read_cells(layout, bytes)?;
+    let flag_at = layout.cells() + 1;
+    let Some(flag) = flag_of(bytes[flag_at]) else {
         return Err(TableFault {
-            offset: FLAG_AT as u64,
+            offset: flag_at as u64,
             kind: TableFaultKind::BadFlag,
         });
     };
-    check_zeros(bytes, SLOT_PADS_AT, TableFaultKind::BadPad)?;
+    check_zeros(bytes, flag_at + 1, TableFaultKind::BadPad)?;
     Ok(Entry { cells, flag })
 }

@@ -1,12 +1,12 @@
 //! The image of a slot: eight cells, the marks, the lock flag and two pads.
-ghost use Rattle.std.specs.Prelude.{◌≡◌, ◌+◌, ◌*◌, ◌<◌, ◌≤◌, ◌++◌, length, if◌then◌else◌};
+ghost use Rattle.std.specs.Prelude.{◌≡◌, ◌+◌, ◌-◌, ◌*◌, ◌<◌, ◌≤◌, ◌++◌, length, if◌then◌else◌};
 ghost use Rattle.std.specs.Int.{to_le_bytes};
 ghost use Rattle.arrayvec.specs.ArrayVec.{array_vec_len};
 ghost use Rattle.keymap_core.specs.Bounds.{IsCell, IsEntry};
-ghost use Rattle.keymap_tables.specs.Image.{slot_bytes, number_of, number_bytes, flag_number, is_act};
-ghost use Rattle.keymap_tables.specs.Layouts.{wide};
+ghost use Rattle.keymap_tables.specs.Image.{slot_bytes, number_of, number_bytes, flag_number, is_act, zeros};
+ghost use Rattle.keymap_tables.specs.Layouts.{number_size, slot_size};
 
-use crate::layout::SLOT;
+use crate::layout::{Layout, SLOT};
 use arrayvec::ArrayVec;
 use keymap_core::{Cell, Entry, LockFlag};
 
@@ -44,35 +44,51 @@ fn flag_byte(flag: LockFlag) -> u8
     }
 }
 
-/// Appends the four bytes of a number.
-pub(crate) fn push_number<const N: usize>(image: &mut ArrayVec<u8, N>, number: u32)
-    requires { array_vec_len image.old + 4 ≤ N }
-    ensures bytes { image.new.items ≡ image.old.items ++ number_bytes wide number }
-    ensures count { array_vec_len image.new ≡ array_vec_len image.old + 4 }
+/// Appends the bytes of a number, one or four.
+pub(crate) fn push_number<const N: usize>(image: &mut ArrayVec<u8, N>, layout: Layout, number: u32)
+    requires { array_vec_len image.old + number_size layout ≤ N }
+    ensures bytes { image.new.items ≡ image.old.items ++ number_bytes layout number }
+    ensures count { array_vec_len image.new ≡ array_vec_len image.old + number_size layout }
 {
     let [first, second, third, fourth] = number.to_le_bytes();
     image.push(first);
-    image.push(second);
-    image.push(third);
-    image.push(fourth);
+    match layout {
+        Layout::Wide => {
+            image.push(second);
+            image.push(third);
+            image.push(fourth);
+        }
+        Layout::Narrow => {}
+    }
 }
 
-/// The 36 bytes of a slot.
-pub(crate) fn slot_image(entry: &Entry) -> ArrayVec<u8, SLOT>
-    ensures bytes { result.items ≡ slot_bytes wide entry.now }
-    ensures whole { length result.items ≡ 36 }
+/// Appends zeros up to a length.
+pub(crate) fn push_zeros<const N: usize>(image: &mut ArrayVec<u8, N>, length: usize)
+    requires below { array_vec_len image.old ≤ length }
+    requires room { length ≤ N }
+    ensures bytes { image.new.items ≡ image.old.items ++ zeros (length - array_vec_len image.old) }
+    ensures count { array_vec_len image.new ≡ length }
+{
+    while image.len() < length {
+        image.push(0);
+    }
+}
+
+/// The bytes of a slot.
+pub(crate) fn slot_image(layout: Layout, entry: &Entry) -> ArrayVec<u8, SLOT>
+    ensures bytes { result.items ≡ slot_bytes layout entry.now }
+    ensures whole { length result.items ≡ slot_size layout }
     ensures known { IsEntry entry.now }
 {
     let mut image = ArrayVec::new();
     let mut marks: u8 = 0;
     let cells = entry.cells();
     for cell in cells {
-        push_number(&mut image, number(cell));
+        push_number(&mut image, layout, number(cell));
         marks = 2 * marks + mark(cell);
     }
     image.push(marks);
     image.push(flag_byte(entry.flag));
-    image.push(0);
-    image.push(0);
+    push_zeros(&mut image, layout.slot());
     image
 }

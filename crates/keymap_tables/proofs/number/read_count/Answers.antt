@@ -1,4 +1,4 @@
-use Rattle.std.proofs.Common.{arith, ◌≤◌}
+use Rattle.std.proofs.Common.{arith, ◌≤◌, length}
 use Rattle.keymap_tables.proofs.Lifting.{none-past, first-past}
 use Rattle.keymap_tables.proofs.Outcomes.{err_passed}
 use Rattle.keymap_tables.proofs.Pads.{count-pad, count-front, count-whole}
@@ -11,19 +11,19 @@ returns-in_err-check_zeros-clause-fault c =
     let bytes = c.args.bytes.now in
     let few : count_at bytes 0 ≤ c.args.most = omega (arith, c.read_half-count.ensures) in
     err_passed _ _ _ c.from_residual.ensures.1 (
-      first-past BadPad (count_fault c.args.most bytes) bytes _ 4 _ (λ p past inside. count-pad c.args.most bytes p (omega arith))
+      first-past BadPad (count_fault c.args.most bytes) bytes _ (length bytes) _ (λ p past inside. count-pad c.args.most bytes p (omega arith))
           (λ p below. count-front c.args.most bytes few p (omega arith)) (omega arith) c.in_err-check_zeros.ensures.first,
       omega (arith, c.in_err-check_zeros.ensures.first.inside),
     )
 
 pub returns-clause-image : goal.returns-clause-image
-returns-clause-image c =
-    count-whole c.args.bytes.now _ c.requires (λ i. omega (arith, c.type_inv.bytes i)) c.read_half-count.ensures
+returns-clause-image c l whole =
+    count-whole l c.args.bytes.now _ whole (λ i. omega (arith, c.type_inv.bytes i)) c.read_half-count.ensures
     (λ p past. c.in_ok-check_zeros.ensures.none p (omega arith))
 
 pub returns-clause-sound : goal.returns-clause-sound
 returns-clause-sound c =
     let bytes = c.args.bytes.now in
     let few : count_at bytes 0 ≤ c.args.most = omega (arith, c.read_half-count.ensures) in
-    none-past BadPad (count_fault c.args.most bytes) bytes 2 4 (λ p past inside. count-pad c.args.most bytes p past)
+    none-past BadPad (count_fault c.args.most bytes) bytes 2 (length bytes) (λ p past inside. count-pad c.args.most bytes p past)
     (count-front c.args.most bytes few) (λ p past. c.in_ok-check_zeros.ensures.none p (omega arith))

@@ -1,4 +1,4 @@
-use Rattle.std.proofs.Common.{arith, ◌≡◌, ◌<◌, ◌+◌, ◌-◌, ◌*◌, ◌∙◌, ℕ, sym, ap, subst, take, drop, length}
+use Rattle.std.proofs.Common.{arith, ◌≡◌, ◌<◌, ◌+◌, ◌-◌, ◌*◌, ◌∙◌, ℕ, sym, ap, subst, take, drop, length, List}
 use Rattle.std.proofs.lemmas.List.Elements.{All-same, All-push}
 use Rattle.std.proofs.lemmas.List.{length_push}
 use Rattle.std.specs.List.{flat_map}
@@ -6,75 +6,109 @@ use Rattle.keymap_core.specs.Accents.{blank}
 use Rattle.keymap_core.specs.Maps.{MapValue}
 use Rattle.keymap_core.specs.Bounds.{IsAccent}
 use Rattle.keymap_tables.specs.Faults.{row_fault, accent_fault, IsFirstFault, HasNoFault}
+use Rattle.keymap_tables.specs.Fits.{AccentFits}
 use Rattle.keymap_tables.specs.Image.{accent_bytes, accents_bytes}
-use Rattle.keymap_tables.specs.Layouts.{wide, part}
+use Rattle.keymap_tables.specs.Layouts.{part, accent_size, accents_size}
 use Rattle.keymap_tables.specs.declared.fault.TableFault.{TableFault}
 use Rattle.keymap_tables.specs.declared.fault.TableFaultKind.TheVariants.{NotEmpty}
 use Rattle.keymap_tables.proofs.Lifting.{first-after, none-after, first-past, none-past, row-at, row-past}
 use Rattle.keymap_tables.proofs.Outcomes.{OnOk-map, IfErr-map, OnOk-at}
 use Rattle.keymap_tables.proofs.Pads.{drop-zeros}
 use Rattle.keymap_tables.proofs.Rows.{rows-read, rows-whole, placed-end}
+use Rattle.keymap_tables.proofs.Sizes.{accent-next, accent-inside, accent-some, accents-inside, accents-rest}
 use Rattle.keymap_tables.proofs.read.read_accents.Goals as goal
 
--- a slice by its ends
-window : (i : ℕ) → (420 * i + 420) - 420 * i ≡ 420
-window i = omega arith
+-- a slice by its ends, by what the method answers
+window : (size i n : ℕ) → n ≡ size → (n * i + n) - n * i ≡ size
+window size i n is = omega (arith, is)
+
+place : (size i n : ℕ) → n ≡ size → n * i ≡ size * i
+place size i n is = ap (λ (k : ℕ). k * i) is
+
+-- the slice that was read is the row
+row : (bytes : List ℕ) (size i n m : ℕ) → n ≡ size → m ≡ size → take (n * i + m - n * i) (drop (n * i) bytes) ≡ part bytes (size * i) size
+row bytes size i n m one two =
+    let long : n * i + m - n * i ≡ m = omega arith in
+    ap (λ (k : ℕ). take k (drop (n * i) bytes)) (long ∙ two) ∙ ap (λ (k : ℕ). take size (drop k bytes)) (place size i n one)
 
 pub returns-in-Err-clause-fault : goal.returns-in-Err-clause-fault
 returns-in-Err-clause-fault c =
+    let layout = c.args.layout in
     let bytes = c.args.bytes.now in
     let i = c.loop-index.index in
-    let whole = row_fault (accent_fault wide) 420 c.args.n_accs bytes in
-    let first = subst (λ (n : ℕ). IsFirstFault (accent_fault wide (take n (drop (420 * i) bytes))) c.in-Err.fault) (window i) c.in-Err.ensures.fault.0 in
-    let lifted = first-after whole (accent_fault wide (part bytes (420 * i) 420)) (420 * i) 420 c.in-Err.fault
-    (λ q inside. row-at (accent_fault wide) 420 c.args.n_accs bytes i q (omega arith) inside) c.loop-index.invariant.sound first c.in-Err.ensures.fault.1 in
-    subst (λ (f : TableFault). IsFirstFault whole f × (f.offset < 6300)) (sym c.after.ensures) (lifted, omega (arith, c.in-Err.ensures.fault.1))
+    let size = accent_size layout in
+    let whole = row_fault (accent_fault layout) size c.args.n_accs bytes in
+    let cut = row bytes size i c.accent.result c.accent-in-loop-index.result c.accent.ensures c.accent-in-loop-index.ensures in
+    let first = subst (λ (v : List ℕ). IsFirstFault (accent_fault layout v) c.in-Err.fault) cut c.in-Err.ensures.fault.0 in
+    let lifted = first-after whole (accent_fault layout (part bytes (size * i) size)) (size * i) size c.in-Err.fault
+    (λ q inside. row-at (accent_fault layout) size c.args.n_accs bytes i q (omega arith) inside) c.loop-index.invariant.sound first c.in-Err.ensures.fault.1 in
+    let at = place size i c.accent.result c.accent.ensures in
+    subst (λ (f : TableFault). IsFirstFault whole f × (f.offset < accents_size layout)) (sym (c.after.ensures ∙ ap (λ (k : ℕ). record c.in-Err.fault { offset = k + c.in-Err.fault.offset }) at))
+    (lifted, omega (arith, c.in-Err.ensures.fault.1, accent-inside layout i (omega arith)))
 
 pub loop-index-preserved : goal.loop-index-preserved
 loop-index-preserved c =
+    let layout = c.args.layout in
     let bytes = c.args.bytes.now in
     let i = c.loop-index.index in
-    let whole = row_fault (accent_fault wide) 420 c.args.n_accs bytes in
+    let size = accent_size layout in
+    let whole = row_fault (accent_fault layout) size c.args.n_accs bytes in
     let set = OnOk-at _ _ _ c.unwrap.ensures c.set_accent.ensures.ok in
     let grown = ap (λ (m : MapValue). m.accents) set ∙ placed-end blank c.loop-index.map.accents i c.in-Ok.accent c.loop-index.invariant.count in
     let same = ap (λ (m : MapValue). m.entries) set in
-    let image = sym (ap (λ (n : ℕ). take n (drop (420 * i) bytes)) (window i)) ∙ c.in-Ok.ensures.image in
-    let clean = subst (λ (n : ℕ). HasNoFault (accent_fault wide (take n (drop (420 * i) bytes))) 420) (window i) c.in-Ok.ensures.sound in
-    let further = none-after whole (accent_fault wide (part bytes (420 * i) 420)) (420 * i) 420
-    (λ q inside. row-at (accent_fault wide) 420 c.args.n_accs bytes i q (omega arith) inside) c.loop-index.invariant.sound clean in
+    let cut = row bytes size i c.accent.result c.accent-in-loop-index.result c.accent.ensures c.accent-in-loop-index.ensures in
+    let image = sym cut ∙ c.in-Ok.ensures.image in
+    let clean = subst (λ (v : List ℕ). HasNoFault (accent_fault layout v) size) cut c.in-Ok.ensures.sound in
+    let further = none-after whole (accent_fault layout (part bytes (size * i) size)) (size * i) size
+    (λ q inside. row-at (accent_fault layout) size c.args.n_accs bytes i q (omega arith) inside) c.loop-index.invariant.sound clean in
     record {
       count = ap length grown ∙ length_push _ _ ∙ ap (λ (n : ℕ). n + 1) c.loop-index.invariant.count;
-      bytes = ap (flat_map (accent_bytes wide)) grown ∙ rows-read (accent_bytes wide) 420 bytes c.loop-index.map.accents i c.in-Ok.accent c.loop-index.invariant.bytes image;
+      bytes = ap (flat_map (accent_bytes layout)) grown ∙ rows-read (accent_bytes layout) size bytes c.loop-index.map.accents i c.in-Ok.accent c.loop-index.invariant.bytes image;
       known = All-same IsAccent _ _ grown (All-push IsAccent _ _ c.loop-index.invariant.known c.in-Ok.ensures.known);
+      fits = All-same (AccentFits layout) _ _ grown (All-push (AccentFits layout) _ _ c.loop-index.invariant.fits c.in-Ok.ensures.fits);
       entries = same ∙ c.loop-index.invariant.entries;
-      sound = λ p below. further p (omega arith);
+      sound = λ p below. further p (omega (arith, below, accent-next layout i));
     }
 
 pub returns-clause-image : goal.returns-clause-image
 returns-clause-image c =
+    let layout = c.args.layout in
     let bytes = c.args.bytes.now in
-    let accents = c.loop-index.map.accents in
+    let size = accent_size layout in
+    let rows = c.loop-index.map.accents in
     let end : c.loop-index.index ≡ c.args.n_accs = omega arith in
-    let so_far = c.loop-index.invariant.bytes ∙ ap (λ (n : ℕ). take (420 * n) bytes) end in
-    let rest : length bytes - 420 * c.args.n_accs ≡ 420 * (15 - length accents) = omega (arith, c.loop-index.invariant.count) in
-    OnOk-map c.check_zeros.result _ (bytes ≡ accents_bytes wide accents) c.check_zeros.ensures.none
-    (λ empty. rows-whole (accent_bytes wide) 420 15 c.args.n_accs bytes accents so_far (drop-zeros bytes (420 * c.args.n_accs) (λ p past. empty p (omega arith))) rest)
+    let so_far = c.loop-index.invariant.bytes ∙ ap (λ (n : ℕ). take (size * n) bytes) end in
+    let counted = c.loop-index.invariant.count ∙ end in
+    let rest = ap (λ (n : ℕ). n - size * c.args.n_accs) c.requires.whole ∙ accents-rest layout c.args.n_accs c.requires.few ∙ ap (λ (n : ℕ). size * (15 - n)) (sym counted) in
+    let at = place size c.args.n_accs c.accent-2.result c.accent-2.ensures in
+    OnOk-map c.check_zeros.result _ (bytes ≡ accents_bytes layout rows) c.check_zeros.ensures.none
+    (λ empty. rows-whole (accent_bytes layout) size 15 c.args.n_accs bytes rows so_far (drop-zeros bytes (size * c.args.n_accs) (λ p past. empty p (omega (arith, past, at)))) rest)
 
 pub returns-clause-sound : goal.returns-clause-sound
 returns-clause-sound c =
+    let layout = c.args.layout in
     let bytes = c.args.bytes.now in
-    let whole = row_fault (accent_fault wide) 420 c.args.n_accs bytes in
-    OnOk-map c.check_zeros.result _ (HasNoFault whole 6300) c.check_zeros.ensures.none
-    (λ empty. none-past NotEmpty whole bytes (420 * c.args.n_accs) 6300 (λ p past inside. row-past (accent_fault wide) 420 c.args.n_accs bytes p (omega arith) past)
-    (λ p below. c.loop-index.invariant.sound p (omega arith)) (λ p past. empty p (omega arith)))
+    let size = accent_size layout in
+    let whole = row_fault (accent_fault layout) size c.args.n_accs bytes in
+    let end : c.loop-index.index ≡ c.args.n_accs = omega arith in
+    let so_far = subst (λ (n : ℕ). HasNoFault whole (size * n)) end c.loop-index.invariant.sound in
+    let at = place size c.args.n_accs c.accent-2.result c.accent-2.ensures in
+    OnOk-map c.check_zeros.result _ (HasNoFault whole (accents_size layout)) c.check_zeros.ensures.none
+    (λ empty. none-past NotEmpty whole bytes (size * c.args.n_accs) (accents_size layout) (λ p past inside. row-past (accent_fault layout) size c.args.n_accs bytes p (accent-some layout) past)
+    so_far (λ p past. empty p (omega (arith, past, at))))
 
 pub returns-clause-fault : goal.returns-clause-fault
 returns-clause-fault c =
+    let layout = c.args.layout in
     let bytes = c.args.bytes.now in
-    let whole = row_fault (accent_fault wide) 420 c.args.n_accs bytes in
-    IfErr-map c.check_zeros.result _ (λ f. IsFirstFault whole f × (f.offset < 6300)) c.check_zeros.ensures.first
+    let size = accent_size layout in
+    let whole = row_fault (accent_fault layout) size c.args.n_accs bytes in
+    let end : c.loop-index.index ≡ c.args.n_accs = omega arith in
+    let so_far = subst (λ (n : ℕ). HasNoFault whole (size * n)) end c.loop-index.invariant.sound in
+    let at = place size c.args.n_accs c.accent-2.result c.accent-2.ensures in
+    IfErr-map c.check_zeros.result _ (λ f. IsFirstFault whole f × (f.offset < accents_size layout)) c.check_zeros.ensures.first
     (λ f first. (
-      first-past NotEmpty whole bytes _ 6300 f (λ p past inside. row-past (accent_fault wide) 420 c.args.n_accs bytes p (omega arith) (omega arith))
-          (λ p below. c.loop-index.invariant.sound p (omega arith)) (omega arith) first,
-      omega (arith, first.inside),
+      first-past NotEmpty whole bytes _ (accents_size layout) f (λ p past inside. row-past (accent_fault layout) size c.args.n_accs bytes p (accent-some layout) (omega (arith, past, at)))
+          (λ p below. so_far p (omega (arith, below, at))) (omega (arith, c.requires.whole)) first,
+      omega (arith, first.inside, c.requires.whole),
     ))

@@ -3,16 +3,18 @@ use Rattle.std.specs.Prelude.{All}
 use Rattle.std.specs.List.{flat_map}
 use Rattle.keymap_core.specs.Bounds.{IsAccent}
 use Rattle.keymap_tables.specs.Faults.{row_fault, accent_fault, HasNoFault}
+use Rattle.keymap_tables.specs.Fits.{AccentFits}
 use Rattle.keymap_tables.specs.Image.{accent_bytes}
-use Rattle.keymap_tables.specs.Layouts.{wide}
+use Rattle.keymap_tables.specs.Layouts.{accent_size}
 use Rattle.keymap_tables.proofs.read.read_accents.Given as goal
 
 -- The accents so far have the bytes so far, and no fault stands there.
 abbrev pub invariant-loop-index : goal.invariant-loop-index
 invariant-loop-index l = record {
   count : length l.map.accents ≡ l.index;
-  bytes : flat_map (accent_bytes wide) l.map.accents ≡ take (420 * l.index) l.bytes;
+  bytes : flat_map (accent_bytes l.layout) l.map.accents ≡ take (accent_size l.layout * l.index) l.bytes;
+  fits : All (AccentFits l.layout) l.map.accents;
   known : All IsAccent l.map.accents;
   entries : l.map.entries ≡ l.fn.map.entries;
-  sound : HasNoFault (row_fault (accent_fault wide) 420 l.n_accs l.bytes) (420 * l.index);
+  sound : HasNoFault (row_fault (accent_fault l.layout) (accent_size l.layout) l.n_accs l.bytes) (accent_size l.layout * l.index);
 }

@@ -1,10 +1,11 @@
-use Rattle.std.proofs.Common.{arith, ◌∙◌, sym, ap, subst, length}
+use Rattle.std.proofs.Common.{arith, ◌≡◌, ◌+◌, ◌∙◌, ℕ, List, sym, ap, subst, take, length}
 use Rattle.std.proofs.lemmas.List.Elements.{All-same}
 use Rattle.keymap_core.specs.Bounds.{IsEntry}
-use Rattle.keymap_tables.specs.Faults.{count_fault, row_fault, slot_fault, accent_fault, content_fault, IsFirstFault}
-use Rattle.keymap_tables.specs.Image.{count_bytes, slots_bytes}
-use Rattle.keymap_tables.specs.Layouts.{wide, part}
-use Rattle.keymap_tables.proofs.Contents.{count-part, content-n_keys, content-slots, content-n_accs, content-accents, sound-n_keys, sound-slots, sound-n_accs}
+use Rattle.keymap_tables.specs.Faults.{count_at, count_fault, row_fault, slot_fault, accent_fault, content_fault, IsFirstFault, HasNoFault}
+use Rattle.keymap_tables.specs.Fits.{EntryFits}
+use Rattle.keymap_tables.specs.Image.{count_bytes, slots_bytes, accents_bytes}
+use Rattle.keymap_tables.specs.Layouts.{part, count_size, slot_size, accent_size, slots_place, slots_size, n_accs_place, accents_place, accents_size, file_size}
+use Rattle.keymap_tables.proofs.Contents.{count-part, content-n_keys, content-slots, content-n_accs, content-accents, sound-n_keys, sound-slots, sound-n_accs, length-part, cut-part, count-clean, count-first, placed-after}
 use Rattle.keymap_tables.proofs.Lifting.{first-after}
 use Rattle.keymap_tables.proofs.Outcomes.{err_passed}
 use Rattle.keymap_tables.proofs.Whole.{image-parts, parts-of, same-parts}
@@ -12,55 +13,94 @@ use Rattle.keymap_tables.proofs.read.read_content.Goals as goal
 
 pub returns-in_err-n_keys-clause-fault : goal.returns-in_err-n_keys-clause-fault
 returns-in_err-n_keys-clause-fault c =
+    let l = c.args.layout in
     let bytes = c.args.bytes.now in
-    let fault = c.in_err-n_keys.ensures.fault in
+    let head = ap (λ (n : ℕ). take n bytes) c.slots_at-slots_at.ensures in
+    let fault = count-first 256 (slots_place l) _ _ _ head (length-part bytes 0 (slots_place l) (omega (arith, c.requires.whole))) c.in_err-n_keys.ensures.fault in
     err_passed _ _ _ c.from_residual.ensures.1
     (record {
-      here = content-n_keys bytes _ fault.1 ∙ fault.0.here;
-      before = λ p below. content-n_keys bytes p (omega (arith, fault.1)) ∙ fault.0.before p below;
+      here = content-n_keys l bytes _ fault.1 ∙ fault.0.here;
+      before = λ p below. content-n_keys l bytes p (omega (arith, fault.1)) ∙ fault.0.before p below;
     })
 
 pub returns-in-Err-clause-fault : goal.returns-in-Err-clause-fault
 returns-in-Err-clause-fault c =
+    let l = c.args.layout in
     let bytes = c.args.bytes.now in
-    let n_keys = c.in_ok-n_keys.ensures.value ∙ count-part bytes 0 in
+    let whole = content_fault l bytes in
+    let slots_at = c.slots_at-slots_at.ensures in
+    let head = ap (λ (n : ℕ). take n bytes) slots_at in
+    let slots = cut-part bytes _ _ (slots_place l) (slots_size l) slots_at c.n_accs_at-n_accs_at.ensures in
+    let n_keys = c.in_ok-n_keys.ensures.value ∙ ap (λ (v : List ℕ). count_at v 0) head ∙ count-part bytes 0 (slots_place l) (omega arith) in
+    let front = sound-n_keys l bytes (count-clean 256 (slots_place l) _ _ head (length-part bytes 0 (slots_place l) (omega (arith, c.requires.whole))) c.in_ok-n_keys.ensures.sound) in
     let fault = c.in-Err.ensures.fault in
-    subst (IsFirstFault (content_fault wide bytes)) (sym c.after.ensures)
-    (first-after (content_fault wide bytes) (row_fault (slot_fault wide) 36 _ (part bytes 4 9216)) 4 9216 c.in-Err.fault
-    (λ q inside. content-slots bytes _ q n_keys inside) (sound-n_keys bytes c.in_ok-n_keys.ensures.sound) fault.0 fault.1)
+    let first = subst (λ (v : List ℕ). IsFirstFault (row_fault (slot_fault l) (slot_size l) c.in_ok-n_keys.n_keys v) c.in-Err.fault) slots fault.0 in
+    subst (IsFirstFault whole) (sym (placed-after c.in-Err.fault _ _ (slots_place l) slots_at c.after.ensures))
+    (first-after whole (row_fault (slot_fault l) (slot_size l) c.in_ok-n_keys.n_keys (part bytes (slots_place l) (slots_size l))) (slots_place l) (slots_size l) c.in-Err.fault
+    (λ q inside. content-slots l bytes _ q n_keys inside) front first fault.1)
 
 pub returns-in-Err-read_count-clause-fault : goal.returns-in-Err-read_count-clause-fault
 returns-in-Err-read_count-clause-fault c =
+    let l = c.args.layout in
     let bytes = c.args.bytes.now in
-    let n_keys = c.in_ok-n_keys.ensures.value ∙ count-part bytes 0 in
-    let sound = sound-slots bytes _ n_keys (sound-n_keys bytes c.in_ok-n_keys.ensures.sound) c.in-Ok.ensures.sound in
-    let fault = c.in-Err-read_count.ensures.fault in
-    subst (IsFirstFault (content_fault wide bytes)) (sym c.after-in-Err-read_count.ensures)
-    (first-after (content_fault wide bytes) (count_fault 15 (part bytes 9220 4)) 9220 4 c.in-Err-read_count.fault
-    (λ q inside. content-n_accs bytes q inside) sound fault.0 fault.1)
+    let whole = content_fault l bytes in
+    let slots_at = c.slots_at-slots_at.ensures in
+    let n_accs_at = c.n_accs_at-n_accs_at.ensures in
+    let head = ap (λ (n : ℕ). take n bytes) slots_at in
+    let slots = cut-part bytes _ _ (slots_place l) (slots_size l) slots_at n_accs_at in
+    let middle = cut-part bytes _ _ (n_accs_place l) (count_size l) n_accs_at c.accents_at-accents_at.ensures in
+    let n_keys = c.in_ok-n_keys.ensures.value ∙ ap (λ (v : List ℕ). count_at v 0) head ∙ count-part bytes 0 (slots_place l) (omega arith) in
+    let front = sound-n_keys l bytes (count-clean 256 (slots_place l) _ _ head (length-part bytes 0 (slots_place l) (omega (arith, c.requires.whole))) c.in_ok-n_keys.ensures.sound) in
+    let sound = sound-slots l bytes _ n_keys front (subst (λ (v : List ℕ). HasNoFault (row_fault (slot_fault l) (slot_size l) c.in_ok-n_keys.n_keys v) (slots_size l)) slots c.in-Ok.ensures.sound) in
+    let fault = count-first 15 (count_size l) _ _ _ middle (length-part bytes (n_accs_place l) (count_size l) (omega (arith, c.requires.whole))) c.in-Err-read_count.ensures.fault in
+    subst (IsFirstFault whole) (sym (placed-after c.in-Err-read_count.fault _ _ (n_accs_place l) n_accs_at c.after-in-Err-read_count.ensures))
+    (first-after whole (count_fault 15 (part bytes (n_accs_place l) (count_size l))) (n_accs_place l) (count_size l) c.in-Err-read_count.fault
+    (λ q inside. content-n_accs l bytes q inside) sound fault.0 fault.1)
 
 pub returns-in-Err-read_accents-clause-fault : goal.returns-in-Err-read_accents-clause-fault
 returns-in-Err-read_accents-clause-fault c =
+    let l = c.args.layout in
     let bytes = c.args.bytes.now in
-    let n_keys = c.in_ok-n_keys.ensures.value ∙ count-part bytes 0 in
-    let n_accs = c.in-Ok-read_count.ensures.value ∙ count-part bytes 9220 in
-    let slots = sound-slots bytes _ n_keys (sound-n_keys bytes c.in_ok-n_keys.ensures.sound) c.in-Ok.ensures.sound in
-    let sound = sound-n_accs bytes slots c.in-Ok-read_count.ensures.sound in
+    let whole = content_fault l bytes in
+    let slots_at = c.slots_at-slots_at.ensures in
+    let n_accs_at = c.n_accs_at-n_accs_at.ensures in
+    let accents_at = c.accents_at-accents_at.ensures in
+    let head = ap (λ (n : ℕ). take n bytes) slots_at in
+    let slots = cut-part bytes _ _ (slots_place l) (slots_size l) slots_at n_accs_at in
+    let middle = cut-part bytes _ _ (n_accs_place l) (count_size l) n_accs_at accents_at in
+    let last = cut-part bytes _ _ (accents_place l) (accents_size l) accents_at c.file.ensures in
+    let n_keys = c.in_ok-n_keys.ensures.value ∙ ap (λ (v : List ℕ). count_at v 0) head ∙ count-part bytes 0 (slots_place l) (omega arith) in
+    let n_accs = c.in-Ok-read_count.ensures.value ∙ ap (λ (v : List ℕ). count_at v 0) middle ∙ count-part bytes (n_accs_place l) (count_size l) (omega arith) in
+    let front = sound-n_keys l bytes (count-clean 256 (slots_place l) _ _ head (length-part bytes 0 (slots_place l) (omega (arith, c.requires.whole))) c.in_ok-n_keys.ensures.sound) in
+    let sound = sound-slots l bytes _ n_keys front (subst (λ (v : List ℕ). HasNoFault (row_fault (slot_fault l) (slot_size l) c.in_ok-n_keys.n_keys v) (slots_size l)) slots c.in-Ok.ensures.sound) in
+    let upto = sound-n_accs l bytes sound (count-clean 15 (count_size l) _ _ middle (length-part bytes (n_accs_place l) (count_size l) (omega (arith, c.requires.whole))) c.in-Ok-read_count.ensures.sound) in
     let fault = c.in-Err-read_accents.ensures.fault in
-    subst (IsFirstFault (content_fault wide bytes)) (sym c.after-in-Err-read_accents.ensures)
-    (first-after (content_fault wide bytes) (row_fault (accent_fault wide) 420 _ (part bytes 9224 6300)) 9224 6300 c.in-Err-read_accents.fault
-    (λ q inside. content-accents bytes _ q n_accs inside) sound fault.0 fault.1)
+    let first = subst (λ (v : List ℕ). IsFirstFault (row_fault (accent_fault l) (accent_size l) c.in-Ok-read_count.count v) c.in-Err-read_accents.fault) last fault.0 in
+    subst (IsFirstFault whole) (sym (placed-after c.in-Err-read_accents.fault _ _ (accents_place l) accents_at c.after-in-Err-read_accents.ensures))
+    (first-after whole (row_fault (accent_fault l) (accent_size l) c.in-Ok-read_count.count (part bytes (accents_place l) (accents_size l))) (accents_place l) (accents_size l) c.in-Err-read_accents.fault
+    (λ q inside. content-accents l bytes _ q n_accs inside) upto first fault.1)
 
 pub returns-in-Ok-read_accents-clause-image : goal.returns-in-Ok-read_accents-clause-image
 returns-in-Ok-read_accents-clause-image c =
+    let l = c.args.layout in
     let bytes = c.args.bytes.now in
     let m = c.read_accents.new.map in
+    let slots_at = c.slots_at-slots_at.ensures in
+    let n_accs_at = c.n_accs_at-n_accs_at.ensures in
+    let accents_at = c.accents_at-accents_at.ensures in
+    let head = ap (λ (n : ℕ). take n bytes) slots_at in
+    let slots_cut = cut-part bytes _ _ (slots_place l) (slots_size l) slots_at n_accs_at in
+    let middle = cut-part bytes _ _ (n_accs_place l) (count_size l) n_accs_at accents_at in
+    let last = cut-part bytes _ _ (accents_place l) (accents_size l) accents_at c.file.ensures in
+    let first_long = ap length head ∙ length-part bytes 0 (slots_place l) (omega (arith, c.requires.whole)) in
+    let middle_long = ap length middle ∙ length-part bytes (n_accs_place l) (count_size l) (omega (arith, c.requires.whole)) in
     let entries = c.in-Ok-read_accents.ensures.entries in
-    let n_keys = c.in_ok-n_keys.ensures.image ∙ ap (count_bytes wide) (sym (ap length entries ∙ c.in-Ok.ensures.count)) in
-    let slots = c.in-Ok.ensures.image ∙ ap (slots_bytes wide) (sym entries) in
-    let n_accs = c.in-Ok-read_count.ensures.image ∙ ap (count_bytes wide) (sym c.in-Ok-read_accents.ensures.count) in
-    same-parts bytes _ _ _ _ _ _ _ _ (parts-of bytes 4 9216 4 6300 c.requires.whole) n_keys slots n_accs c.in-Ok-read_accents.ensures.image
-    ∙ sym (image-parts m)
+    let n_keys = sym head ∙ c.in_ok-n_keys.ensures.image l first_long ∙ ap (count_bytes l) (sym (ap length entries ∙ c.in-Ok.ensures.count)) in
+    let slots = sym slots_cut ∙ c.in-Ok.ensures.image ∙ ap (slots_bytes l) (sym entries) in
+    let n_accs = sym middle ∙ c.in-Ok-read_count.ensures.image l middle_long ∙ ap (count_bytes l) (sym c.in-Ok-read_accents.ensures.count) in
+    let accents = sym last ∙ c.in-Ok-read_accents.ensures.image in
+    same-parts bytes _ _ _ _ _ _ _ _ (parts-of bytes (slots_place l) (slots_size l) (count_size l) (accents_size l) c.requires.whole) n_keys slots n_accs accents
+    ∙ sym (image-parts l m)
 
 pub returns-in-Ok-read_accents-clause-known : goal.returns-in-Ok-read_accents-clause-known
 returns-in-Ok-read_accents-clause-known c =
@@ -72,3 +112,9 @@ returns-in-Ok-read_accents-clause-known c =
       few_accents = omega (arith, c.in-Ok-read_accents.ensures.count, c.in-Ok-read_count.ensures.few);
       accents = c.in-Ok-read_accents.ensures.known;
     }
+
+pub returns-in-Ok-read_accents-clause-fits : goal.returns-in-Ok-read_accents-clause-fits
+returns-in-Ok-read_accents-clause-fits c = record {
+  entries = All-same (EntryFits c.args.layout) _ _ c.in-Ok-read_accents.ensures.entries c.in-Ok.ensures.fits;
+  accents = c.in-Ok-read_accents.ensures.fits;
+}

@@ -1,12 +1,12 @@
-use Rattle.std.proofs.Common.{arith}
+use Rattle.std.proofs.Common.{arith, refl}
 use Rattle.keymap_tables.proofs.Contents.{first-content, first-short, first-long}
 use Rattle.keymap_tables.proofs.read.read_file.Goals as goal
 
-pub returns-then-bytes-lt-FILE : goal.returns-then-bytes-lt-FILE
-returns-then-bytes-lt-FILE c = first-short c.args.bytes.now (omega arith)
+pub returns-then-bytes-length : goal.returns-then-bytes-length
+returns-then-bytes-length c = first-short c.args.layout c.args.bytes.now _ (omega arith) refl refl
 
-pub returns-then-bytes-gt-FILE : goal.returns-then-bytes-gt-FILE
-returns-then-bytes-gt-FILE c = first-long c.args.bytes.now (omega arith)
+pub returns-then-bytes-length-2 : goal.returns-then-bytes-length-2
+returns-then-bytes-length-2 c = first-long c.args.layout c.args.bytes.now _ (omega arith) c.file-length.ensures refl
 
 pub returns-in-Err : goal.returns-in-Err
-returns-in-Err c = first-content c.args.bytes.now _ (omega arith) c.in-Err.ensures.fault
+returns-in-Err c = first-content c.args.layout c.args.bytes.now _ (omega arith) c.in-Err.ensures.fault

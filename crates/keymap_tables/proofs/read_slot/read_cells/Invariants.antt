@@ -2,8 +2,9 @@ use Rattle.std.proofs.Common.{◌≡◌, ℕ, ◌-◌, ◌*◌, ◌/◌, ◌^◌
 use Rattle.std.specs.List.{flat_map}
 use Rattle.std.specs.Prelude.{All}
 use Rattle.keymap_core.specs.Bounds.{IsCell}
+use Rattle.keymap_tables.specs.Fits.{CellFits}
 use Rattle.keymap_tables.specs.Image.{cell_bytes, marks_of}
-use Rattle.keymap_tables.specs.Layouts.{wide}
+use Rattle.keymap_tables.specs.Layouts.{number_size}
 use Rattle.keymap_tables.specs.Faults.{slot_fault}
 use Rattle.keymap_tables.proofs.read_slot.read_cells.Given as goal
 
@@ -11,8 +12,9 @@ use Rattle.keymap_tables.proofs.read_slot.read_cells.Given as goal
 abbrev pub invariant-loop-column : goal.invariant-loop-column
 invariant-loop-column l = record {
   known : All IsCell (take l.column l.cells);
+  fits : All (CellFits l.layout) (take l.column l.cells);
   whole : length l.cells ≡ 8;
-  bytes : flat_map (cell_bytes wide) (take l.column l.cells) ≡ take (4 * l.column) l.bytes;
+  bytes : flat_map (cell_bytes l.layout) (take l.column l.cells) ≡ take (number_size l.layout * l.column) l.bytes;
   marks : marks_of (take l.column l.cells) ≡ l.marks / 2 ^ (8 - l.column);
-  sound : (p : ℕ) → p < 4 * l.column → slot_fault wide l.bytes p ≡ None;
+  sound : (p : ℕ) → p < number_size l.layout * l.column → slot_fault l.layout l.bytes p ≡ None;
 }

@@ -1,6 +1,8 @@
-use Rattle.std.proofs.Common.{rules, arith, length-append, ap, length, sym, ◌∙◌}
+use Rattle.std.proofs.Common.{rules, arith, ◌≡◌, ℕ, ◌+◌, ◌*◌, ap, sym, ◌∙◌}
 use Rattle.std.proofs.lemmas.List.{take_all}
 use Rattle.std.proofs.lemmas.List.Elements.{All-same}
+use Rattle.keymap_tables.specs.Layouts.{number_size}
+use Rattle.keymap_tables.proofs.Sizes.{cell-inside, cell-next, cells-end, slot-small}
 use Rattle.keymap_tables.proofs.Slots.{All-next, cells-more, marks-next, small-next, slot-written}
 use Rattle.keymap_core.specs.Bounds.{IsCell}
 use Rattle.keymap_tables.proofs.slot.slot_image.Goals as goal
@@ -8,8 +10,8 @@ use Rattle.keymap_tables.proofs.slot.slot_image.Goals as goal
 pub loop-cell-preserved : goal.loop-cell-preserved
 loop-cell-preserved c = record {
   eight = search rules;
-  bytes = cells-more _ _ c.cell-item.result _ _ (omega arith) c.cell-item.is c.loop-cell.invariant.bytes (rw c.number.ensures.value at c.push_number.ensures.bytes);
-  four_each = omega (arith, simp length-append at (ap length c.push_number.ensures.bytes));
+  bytes = cells-more c.args.layout _ _ c.cell-item.result _ _ (omega arith) c.cell-item.is c.loop-cell.invariant.bytes (rw c.number.ensures.value at c.push_number.ensures.bytes);
+  four_each = c.push_number.ensures.count ∙ ap (λ (n : ℕ). n + number_size c.args.layout) c.loop-cell.invariant.four_each ∙ sym (cell-next c.args.layout c.loop-cell.cell-index);
   marks = marks-next c.cells-cells.result.now _ c.cell-item.result _ _ (omega arith) c.cell-item.is c.loop-cell.invariant.marks c.mark.ensures.bit;
   small = small-next _ _ _ c.loop-cell.invariant.small c.mark.ensures.small;
   known = All-next IsCell _ _ c.cell-item.result (omega arith) c.cell-item.is c.loop-cell.invariant.known c.number.ensures.known;
@@ -17,8 +19,10 @@ loop-cell-preserved c = record {
 
 pub returns-clause-bytes : goal.returns-clause-bytes
 returns-clause-bytes c =
-    slot-written c.args.entry.now c.cells-cells.result.now c.loop-cell.cell-index _ _ _ _ _ _ _ c.cells-cells.ensures.cells (omega arith) c.loop-cell.invariant.bytes c.loop-cell.invariant.marks c.flag_byte.ensures
-    c.push.ensures.items c.push-2.ensures.items c.push-3.ensures.items c.push-4.ensures.items
+    let last : c.loop-cell.cell-index ≡ 8 = omega arith in
+    let filled = c.loop-cell.invariant.four_each ∙ ap (λ (i : ℕ). number_size c.args.layout * i) last ∙ cells-end c.args.layout in
+    slot-written c.args.layout c.args.entry.now c.cells-cells.result.now c.loop-cell.cell-index _ _ _ _ _ _ _ c.cells-cells.ensures.cells (omega arith) c.loop-cell.invariant.bytes c.loop-cell.invariant.marks c.flag_byte.ensures
+    c.push.ensures.items c.push-2.ensures.items c.push_zeros.ensures.bytes (omega (arith, filled))
 
 pub returns-clause-known : goal.returns-clause-known
 returns-clause-known c =

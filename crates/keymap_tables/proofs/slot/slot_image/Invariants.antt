@@ -3,15 +3,15 @@ use Rattle.std.specs.List.{flat_map}
 use Rattle.std.specs.Prelude.{All}
 use Rattle.keymap_core.specs.Bounds.{IsCell}
 use Rattle.keymap_tables.specs.Image.{cell_bytes, marks_of}
-use Rattle.keymap_tables.specs.Layouts.{wide}
+use Rattle.keymap_tables.specs.Layouts.{number_size}
 use Rattle.keymap_tables.proofs.slot.slot_image.Given as goal
 
 -- The bytes, the marks and what is known of the cells so far.
 abbrev pub invariant-loop-cell : goal.invariant-loop-cell
 invariant-loop-cell l = record {
   eight : length l.cells ≡ 8;
-  bytes : l.image.items ≡ flat_map (cell_bytes wide) (take l.cell-index l.cells);
-  four_each : length l.image.items ≡ 4 * l.cell-index;
+  bytes : l.image.items ≡ flat_map (cell_bytes l.layout) (take l.cell-index l.cells);
+  four_each : length l.image.items ≡ number_size l.layout * l.cell-index;
   marks : l.marks ≡ marks_of (take l.cell-index l.cells);
   small : l.marks < 2 ^ l.cell-index;
   known : All IsCell (take l.cell-index l.cells);

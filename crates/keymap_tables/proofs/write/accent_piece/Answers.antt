@@ -5,12 +5,11 @@ use Rattle.keymap_core.specs.Bounds.{IsAccent}
 use Rattle.std.specs.Prelude.{unwrap_or, Option, slice_get}
 use Rattle.keymap_core.specs.Accents.{AccentValue, blank}
 use Rattle.keymap_tables.specs.Image.{accent_bytes}
-use Rattle.keymap_tables.specs.Layouts.{wide}
 use Rattle.keymap_tables.proofs.write.accent_piece.Goals as goal
 
 pub returns-in-Some-clause-bytes : goal.returns-in-Some-clause-bytes
 returns-in-Some-clause-bytes c =
-    c.accent_image.ensures.bytes ∙ ap (accent_bytes wide) (sym (get_or_from_slice_get c.args.map.now.accents c.args.index _ blank (sym c.in-Some.ensures.value)))
+    c.accent_image.ensures.bytes ∙ ap (accent_bytes c.args.layout) (sym (get_or_from_slice_get c.args.map.now.accents c.args.index _ blank (sym c.in-Some.ensures.value)))
 
 none_some : (o : Option AccentValue) (a : AccentValue) → None ≡ o → o ≡ Some a → ⊥
 none_some o a none some = cc
@@ -25,7 +24,7 @@ blank-made a own none = ap (λ (v : ℕ). accent_of v a.pairs) own ∙ ap (λ (v
 pub returns-in-None-clause-bytes : goal.returns-in-None-clause-bytes
 returns-in-None-clause-bytes c =
     let past = ap (λ (o : Option AccentValue). unwrap_or o blank) c.in-None.ensures.value ∙ unwrap_or-slice_get c.args.map.now.accents c.args.index blank in
-    c.accent_image-in-None.ensures.bytes ∙ ap (accent_bytes wide) (blank-made c.new.result c.new.ensures.own c.new.ensures.pairs ∙ past)
+    c.accent_image-in-None.ensures.bytes ∙ ap (accent_bytes c.args.layout) (blank-made c.new.result c.new.ensures.own c.new.ensures.pairs ∙ past)
 
 pub returns-in-Some-clause-known : goal.returns-in-Some-clause-known
 returns-in-Some-clause-known c used =

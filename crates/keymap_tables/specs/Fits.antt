@@ -1,0 +1,73 @@
+-- Which maps fit in a table file: those of which each character fits in the bytes of a number. In the wide file every
+-- map does.
+use Rattle.std.specs.Prelude.{ℕ, ◌+◌, ◌*◌, ◌<◌, ◌≤◌, ⊤, List, ◌∷◌, [], All, slice_index_or}
+use Rattle.std.specs.List.{flat_map}
+use Rattle.keymap_core.specs.Accents.{AccentValue}
+use Rattle.keymap_core.specs.Maps.{MapValue, cell_at, accent_or_blank}
+use Rattle.keymap_core.specs.declared.entry.Cell.{Cell}
+use Rattle.keymap_core.specs.declared.entry.Cell.TheVariants.{Char, Act}
+use Rattle.keymap_core.specs.declared.entry.Entry.{Entry}
+use Rattle.keymap_tables.specs.declared.layout.Layout.{Layout}
+use Rattle.keymap_tables.specs.declared.narrow.Wide.{Wide}
+use Rattle.keymap_tables.specs.declared.narrow.Wide.TheVariants as at
+use Rattle.keymap_tables.specs.Layouts.{narrow, number_limit, number_size, slot_size, accent_size, slots_place, accents_place}
+
+-- the code of an action always fits
+abbrev pub CellFits : Layout → Cell → Type 0
+CellFits l (Char c) = c < number_limit l
+CellFits l (Act a) = ⊤
+
+abbrev pub EntryFits : Layout → Entry → Type 0
+EntryFits l entry = All (CellFits l) entry.cells
+
+abbrev pub PairFits : Layout → ℕ × ℕ → Type 0
+PairFits l pair = (pair.0 < number_limit l) × (pair.1 < number_limit l)
+
+abbrev pub AccentFits : Layout → AccentValue → Type 0
+AccentFits l accent = (accent.own < number_limit l) × All (PairFits l) accent.pairs
+
+pub record FitsIn (l : Layout) (m : MapValue) : Type 0 where
+  pub entries : All (EntryFits l) m.entries
+  pub accents : All (AccentFits l) m.accents
+
+-- no character is above 255
+abbrev pub Fits : MapValue → Type 0
+Fits m = FitsIn narrow m
+
+-- the number of a character, 0 for an action
+abbrev pub character_of : Cell → ℕ
+character_of (Char c) = c
+character_of (Act a) = 0
+
+-- the own character, and the base and the result of each pair in turn
+abbrev pub numbers_of : AccentValue → List ℕ
+numbers_of accent = accent.own ∷ flat_map (λ pair. pair.0 ∷ pair.1 ∷ []) accent.pairs
+
+-- what stands at a place of a map: the character of a cell, or a number of an accent
+abbrev pub number_of_place : MapValue → Wide → ℕ
+number_of_place m (at.Cell slot column) = character_of (cell_at m slot column)
+number_of_place m (at.Accent accent number) = slice_index_or (numbers_of (accent_or_blank m accent)) number 0
+
+-- a character above 255 stands there
+abbrev pub IsWide : MapValue → Wide → Type 0
+IsWide m w = 255 < number_of_place m w
+
+-- its place in a narrow file
+abbrev pub place_of : Wide → ℕ
+place_of (at.Cell slot column) = slots_place narrow + slot_size narrow * slot + number_size narrow * column
+place_of (at.Accent accent number) = accents_place narrow + accent_size narrow * accent + number_size narrow * number
+
+-- the character above 255 that comes first in the file
+pub record IsFirstWide (m : MapValue) (w : Wide) : Type 0 where
+  pub here : IsWide m w
+  pub first : (v : Wide) → IsWide m v → place_of w ≤ place_of v
+
+-- the first column of a slot with such a character
+pub record IsFirstColumn (entry : Entry) (column : ℕ) : Type 0 where
+  pub here : 255 < character_of (slice_index_or entry.cells column (Char 0))
+  pub before : (k : ℕ) → k < column → character_of (slice_index_or entry.cells k (Char 0)) ≤ 255
+
+-- the first number of an accent that is above 255
+pub record IsFirstNumber (accent : AccentValue) (number : ℕ) : Type 0 where
+  pub here : 255 < slice_index_or (numbers_of accent) number 0
+  pub before : (k : ℕ) → k < number → slice_index_or (numbers_of accent) k 0 ≤ 255

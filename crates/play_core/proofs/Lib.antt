@@ -1,6 +1,11 @@
+pub mod Digits
 pub mod LineWords
 pub mod Outcomes
+pub mod Pieces
+pub mod PlainLines
 pub mod ScriptLines
 pub mod Sending
+pub mod SmallNumbers
+pub mod Tails
 pub mod Texts
 pub mod Verdicts

@@ -6,8 +6,8 @@ use Rattle.std.specs.Str.{bytes_eq}
 use Rattle.std.specs.Str.Parse.{AllDigits, digits_value}
 use Rattle.std.proofs.lemmas.Bool.{and_from, and_parts, lt-ltb, ltb-true, ltb-false, le-ltb, cases_lt, not-false}
 use Rattle.std.proofs.lemmas.Slice.Eq.{bytes_eq-Decides}
-use Rattle.play_core.specs.declared.line.LineFault.{LineFault}
-use Rattle.play_core.specs.declared.line.LineFault.TheVariants.{Form, Key}
+use Rattle.play_core.specs.declared.script_line.LineFault.{LineFault}
+use Rattle.play_core.specs.declared.script_line.LineFault.TheVariants.{Form, Key}
 use Rattle.play_core.specs.declared.sent.What.{What}
 use Rattle.play_core.specs.declared.sent.What.TheVariants.{Down, Repeat, Up, Reset, Load}
 use Rattle.play_core.specs.declared.sent.Sent.{Sent}

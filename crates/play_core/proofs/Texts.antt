@@ -1,5 +1,5 @@
 -- What is written of events, one after another.
-use Rattle.std.proofs.Common.{◌≡◌, ℕ, ◌+◌, ◌<◌, Bool, List, [], ◌∷◌, ◌++◌, length, take, drop, get_or, refl, sym, ap, ◌∙◌, append_assoc, append-nil, take-append-drop, length-append, arith}
+use Rattle.std.proofs.Common.{◌≡◌, ℕ, ◌+◌, ◌<◌, ◌||◌, Bool, true, false, List, [], ◌∷◌, ◌++◌, length, take, drop, get_or, refl, sym, ap, ◌∙◌, append_assoc, append-nil, take-append-drop, length-append, arith}
 use Rattle.std.specs.Prelude.{reverse, codes}
 use Rattle.std.specs.List.{filter_map}
 use Rattle.std.proofs.lemmas.List.{take_more, reverse-append}
@@ -16,7 +16,8 @@ use Rattle.play_core.specs.declared.show.Show.TheVariants as show
 use Rattle.play_core.specs.Delivery.{event_of, delivered}
 use Rattle.play_core.specs.Written.{line_of, lines_after, line_after, typed_by, typed_text, text_after, event_output, name_if, or_none, names_of_modifiers, names_of_locks}
 use Rattle.keymap_core.specs.declared.action.Action.TheVariants as action
-use Rattle.keymap_core.specs.Actions.{name_of}
+use Rattle.keymap_core.specs.declared.action.Modifier.TheVariants as modifier
+use Rattle.keymap_core.specs.Actions.{name_of, modifiers}
 
 reverse-first : (e : Event) (xs h : List Event) → reverse (e ∷ xs) ++ h ≡ reverse xs ++ (e ∷ h)
 reverse-first e xs h = ap (λ l. l ++ h) (reverse-append (e ∷ []) xs) ∙ append_assoc (reverse xs) (e ∷ []) h
@@ -125,3 +126,14 @@ or_none-nothing before (b ∷ names) h = let size = length-append before (b ∷ 
 pub or_none-some : (before names : List ℕ) → (length (before ++ names) ≡ length before → ⊥) → before ++ names ≡ before ++ or_none names
 or_none-some before [] h = absurd (h (ap length (append-nil before)))
 or_none-some before (b ∷ names) h = refl
+
+pub both_false : (a b : Bool) → (a || b) ≡ false → (a ≡ false) × (b ≡ false)
+both_false true b e = cc
+both_false false b e = (refl, e)
+
+-- no modifier is on
+pub no_names : (is_on : Modifier → Bool) → is_on modifier.LeftShift ≡ false → is_on modifier.RightShift ≡ false → is_on modifier.LeftControl ≡ false
+    → is_on modifier.RightControl ≡ false → is_on modifier.LeftAlt ≡ false → is_on modifier.RightAlt ≡ false → is_on modifier.AltShift ≡ false
+    → is_on modifier.Meta ≡ false → names_of_modifiers is_on modifiers ≡ []
+unfolding names_of_modifiers
+no_names is_on p1 p2 p3 p4 p5 p6 p7 p8 = rw (p1, p2, p3, p4, p5, p6, p7, p8) refl

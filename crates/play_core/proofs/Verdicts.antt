@@ -1,8 +1,8 @@
 -- A script has one reading: its lines, read one after another, are events up to the end, or one is the first that is none.
 use Rattle.std.proofs.Common.{◌≡◌, ℕ, ◌+◌, List, [], ◌∷◌, ◌++◌, length, Option, None, Some, Result, Ok, Err, refl, ap, subst, ◌∙◌, arith, ◌⊎◌, inl, inr}
 use Rattle.std.proofs.lemmas.Bool.{lt-ltb, le-ltb}
-use Rattle.play_core.specs.declared.line.LineFault.{LineFault}
-use Rattle.play_core.specs.declared.line.LineFault.TheVariants.{Form, Key}
+use Rattle.play_core.specs.declared.script_line.LineFault.{LineFault}
+use Rattle.play_core.specs.declared.script_line.LineFault.TheVariants.{Form, Key}
 use Rattle.play_core.specs.declared.script.ScriptFault.{ScriptFault}
 use Rattle.play_core.specs.declared.script.ScriptFault.TheVariants.{BadLine, BadKey}
 use Rattle.play_core.specs.declared.sent.Sent.{Sent}

@@ -1,13 +1,14 @@
 -- The reading of a line by tests in order, for the functions inside. `Scripts` says what it means.
-use Rattle.std.specs.Prelude.{ℕ, nat_lt, Bool, true, false, ◌&&◌, List, [], ◌∷◌, codes, Option, None, Some, Result, Ok, Err, if◌then◌else◌}
+use Rattle.std.specs.Prelude.{◌≡◌, ℕ, nat_lt, ◌<◌, Bool, true, false, ◌&&◌, List, [], ◌∷◌, ◌++◌, codes, Option, None, Some, Result, Ok, Err, if◌then◌else◌}
 use Rattle.std.specs.Str.{bytes_eq}
 use Rattle.std.specs.Char.{digit_value}
 use Rattle.std.specs.Str.Parse.{digits_value}
-use Rattle.play_core.specs.declared.line.LineFault.{LineFault}
-use Rattle.play_core.specs.declared.line.LineFault.TheVariants.{Form, Key}
+use Rattle.play_core.specs.declared.script_line.LineFault.{LineFault}
+use Rattle.play_core.specs.declared.script_line.LineFault.TheVariants.{Form, Key}
 use Rattle.play_core.specs.declared.sent.What.{What}
 use Rattle.play_core.specs.declared.sent.What.TheVariants.{Down, Repeat, Up, Reset, Load}
 use Rattle.play_core.specs.declared.sent.Sent.{Sent}
+use Rattle.play_core.specs.Scripts.{is_there, parts_of, words_of, IsNumber, IsEvent}
 
 abbrev pub are_digits : List ℕ → Bool
 are_digits [] = true
@@ -53,3 +54,14 @@ unfoldable pub reading : List (List ℕ) → Result (Option Sent) LineFault
 reading [] = Ok None
 reading (word ∷ rest) =
     if bytes_eq word (codes "lost") then reading_of_lost rest else sent_by false (what_of word rest)
+
+-- the text begins with the number of this key and a line feed, behind which the rest stands
+abbrev pub BeginsWithKey : List ℕ → ℕ → List ℕ → Type 0
+BeginsWithKey text key rest =
+    (number : List ℕ) × (text ≡ number ++ 10 ∷ rest) × IsNumber number key × (is_there number ≡ true) × (key < 128)
+
+-- the first line of the text is this event, and the rest follows that line
+abbrev pub BeginsWithEvent : List ℕ → What → List ℕ → Type 0
+BeginsWithEvent text what rest =
+    (line : List ℕ) × (parts_of text ≡ line ∷ parts_of rest)
+    × IsEvent (words_of line) (record { lost = false; what = what })

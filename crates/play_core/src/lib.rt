@@ -11,21 +11,27 @@
 //! fault, and never both (`laws::one_reading`).
 #![tactic(auto)]
 
+mod answer_line;
 pub mod laws;
-mod line;
-mod lines;
+mod number;
 mod output;
+mod piece;
+mod plain_line;
 mod player;
 mod script;
+mod script_line;
 mod sent;
 mod show;
+mod sources;
+mod tail;
+mod typed_bytes;
 mod words;
 
-pub use output::typed;
 pub use player::{PlayError, Source, play, play_next};
 pub use script::{ScriptError, ScriptFault, read_script};
 pub use sent::{Sent, What};
 pub use show::Show;
+pub use typed_bytes::typed;
 
 #[cfg(test)]
 mod tests;

@@ -1,17 +1,24 @@
 //! Playing a script on the keymap of a text.
-ghost use Rattle.std.specs.Prelude.{◌≡◌, ◌||◌, ◌^◌, ◌<◌, length, IfOk, MatchResult, Err};
-ghost use Rattle.console_core.specs.History.{between};
-ghost use Rattle.play_core.specs.Playing.{Plays, PlaysBetween, PlaysOn, ReadsScript, RefusesScript, moves, fails_reading, fails_writing, error_of_text, error_of_next};
+ghost use Rattle.std.specs.Prelude.{◌≡◌, ◌+◌, ◌||◌, ◌^◌, ◌<◌, ◌≤◌, ◌++◌, List, [], ◌∷◌, length, reverse, is_err};
+ghost use Rattle.keymap_core.specs.Devices.{WritesText};
+ghost use Rattle.console_core.specs.declared.event.Event.{Event as EventValue};
+ghost use Rattle.console_core.specs.History.{Maps, between};
+ghost use Rattle.play_core.specs.Delivery.{delivered};
+ghost use Rattle.play_core.specs.Written.{text_after, event_output};
+ghost use Rattle.play_core.specs.Playing.{Plays, PlaysBetween, PlaysOn, moves, fails_reading, fails_writing};
 
-use crate::output::write_events;
-use crate::script::{ScriptError, ScriptFault, read_script};
+use crate::answer_line::push_line;
+use crate::output::{make_room, write_rest};
+use crate::piece::Piece;
+use crate::script::ScriptFault;
 use crate::sent::Sent;
 use crate::show::Show;
-use console_core::WordConsole;
-use keymap_core::{
-    KeyMap, Read, ReadError, ReadFault, ReadFaultKind, Write, WriteFault, read_up_to,
-};
-use keymap_text::{TextError, TextFault, read_from};
+use crate::sources::{next_error, read_whole_script, text_error};
+use crate::tail::{Tails, first_tails};
+use crate::typed_bytes::push_typed;
+use console_core::{Event, Translator, WordConsole};
+use keymap_core::{KeyMap, Read, ReadFault, Write, WriteFault};
+use keymap_text::{TextFault, read_from};
 use std::alloc::Global;
 use thiserror::Error;
 
@@ -38,9 +45,6 @@ pub enum PlayError {
     #[error("fault in writing: {0:?}")]
     Write(WriteFault),
 }
-
-/// The most bytes that are read of a script.
-const LIMIT: usize = 1_048_576;
 
 /// Reads the text of a keymap, then a script, and plays the script on the map. A load in the script is a reset.
 pub fn play<R: Read, S: Read, W: Write>(
@@ -91,26 +95,6 @@ pub fn play_next<R: Read, N: Read, S: Read, W: Write>(
     play_on(alloc, show, &first, &second, script, out)
 }
 
-fn text_error(error: TextError) -> PlayError
-    ensures { result ≡ error_of_text error }
-{
-    match error {
-        TextError::Memory => PlayError::Memory,
-        TextError::Read(fault) => PlayError::Read(Source::Text, fault),
-        TextError::Fault(fault) => PlayError::Text(fault),
-    }
-}
-
-fn next_error(error: TextError) -> PlayError
-    ensures { result ≡ error_of_next error }
-{
-    match error {
-        TextError::Memory => PlayError::Memory,
-        TextError::Read(fault) => PlayError::Read(Source::Next, fault),
-        TextError::Fault(fault) => PlayError::Next(fault),
-    }
-}
-
 /// Reads a script and plays it on two maps.
 fn play_on<S: Read, W: Write>(
     alloc: Global,
@@ -127,38 +111,74 @@ fn play_on<S: Read, W: Write>(
 {
     let sent = read_whole_script(alloc, script)?;
     let mut console = WordConsole::between(first, second);
-    match write_events(show, &mut console, sent.as_slice(), out) {
+    match play_events(show, &mut console, sent.as_slice(), out) {
         Ok(()) => Ok(()),
         Err(fault) => Err(PlayError::Write(fault)),
     }
 }
 
-/// The events of a script that is read whole. One byte more than the limit is asked for, and none of it is judged if
-/// that came.
-fn read_whole_script<S: Read>(alloc: Global, script: &mut S) -> Result<Vec<Sent>, PlayError>
-    ensures reads { MatchResult result (λ sent. ReadsScript (moves (S.remaining script.old) (S.remaining script.new)) sent.items)
-        (RefusesScript (moves (S.remaining script.old) (S.remaining script.new))) }
-    ensures failed { MatchResult result (λ _. S.has_failed script.new ≡ S.has_failed script.old)
-        (λ e. S.has_failed script.new ≡ (fails_reading Source.Script (Err e) || S.has_failed script.old)) }
-    ensures few { IfOk result (λ sent. length sent.items < 2 ^ 50) }
+/// Delivers what is sent to the console, but for what is lost, and writes what the show has of it.
+fn play_events<T: Translator, W: Write>(
+    show: Show,
+    console: &mut T,
+    sent: &[Sent],
+    out: &mut W,
+) -> Result<(), WriteFault>
+    requires { length sent.now < 2 ^ 50 }
+    ensures bytes { (ms : Maps) (h : List EventValue) → T.stands console.old ms h
+        → WritesText (λ f. f.written) (W.contents out.old) (W.contents out.new) (text_after show ms h (delivered sent.now)) result }
+    ensures failed { W.has_failed out.new ≡ (is_err result || W.has_failed out.old) }
 {
-    let bytes = match read_up_to(alloc, script, LIMIT + 1) {
-        Ok(bytes) => bytes,
-        Err(ReadError::Memory) => return Err(PlayError::Memory),
-        Err(ReadError::Read(fault)) => return Err(PlayError::Read(Source::Script, fault)),
-    };
-    if bytes.len() > LIMIT {
-        return Err(PlayError::Read(
-            Source::Script,
-            ReadFault {
-                offset: LIMIT as u64,
-                kind: ReadFaultKind::Endless,
-            },
-        ));
+    let mut text = Piece::new();
+    let mut tails = first_tails();
+    let mut written = 0;
+    for one in sent {
+        written = make_room(written, &mut text, out)?;
+        play_sent(show, console, *one, &mut text, &mut tails);
     }
-    match read_script(alloc, bytes.as_slice()) {
-        Ok(sent) => Ok(sent),
-        Err(ScriptError::Memory) => Err(PlayError::Memory),
-        Err(ScriptError::Fault(fault)) => Err(PlayError::Script(fault)),
+    write_rest(written, &text, out)
+}
+
+/// Delivers what is sent, unless it is lost, and adds what the show has of it.
+#[inline(always)]
+fn play_sent<T: Translator>(
+    show: Show,
+    console: &mut T,
+    one: Sent,
+    text: &mut Piece,
+    tails: &mut Tails,
+)
+    requires { length text.old.items + 140 ≤ 4096 }
+    ensures text { (ms : Maps) (h : List EventValue) → T.stands console.old ms h
+        → text.new.items ≡ text.old.items ++ text_after show ms h (delivered (one ∷ [])) }
+    ensures next { (ms : Maps) (h : List EventValue) → T.stands console.old ms h
+        → T.stands console.new ms (reverse (delivered (one ∷ [])) ++ h) }
+    ensures size { length text.new.items ≤ length text.old.items + 140 }
+{
+    let Some(event) = one.event() else {
+        return;
+    };
+    play_event(show, console, event, text, tails);
+}
+
+/// Delivers an event, and adds what the show has of it.
+#[inline(always)]
+fn play_event<T: Translator>(
+    show: Show,
+    console: &mut T,
+    event: Event,
+    text: &mut Piece,
+    tails: &mut Tails,
+)
+    requires { length text.old.items + 140 ≤ 4096 }
+    ensures text { (ms : Maps) (h : List EventValue) → T.stands console.old ms h
+        → text.new.items ≡ text.old.items ++ event_output show ms h event }
+    ensures next { (ms : Maps) (h : List EventValue) → T.stands console.old ms h → T.stands console.new ms (event ∷ h) }
+    ensures size { length text.new.items ≤ length text.old.items + 140 }
+{
+    let answer = console.step(event);
+    match show {
+        Show::Lines => push_line(text, tails, &event, &answer, console),
+        Show::Typed => push_typed(text, &answer),
     }
 }

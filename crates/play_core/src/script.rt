@@ -2,7 +2,8 @@
 ghost use Rattle.std.specs.Prelude.{◌≡◌, IfOk, IfErr};
 ghost use Rattle.play_core.specs.Scripts.{IsScript, IsScriptError};
 
-use crate::line::{LineFault, read_line};
+use crate::plain_line::plain_line;
+use crate::script_line::{LineFault, read_line};
 use crate::sent::Sent;
 use crate::words::split_line;
 use std::alloc::{AllocFailed, Global};
@@ -46,6 +47,15 @@ pub fn read_script(alloc: Global, script: &[u8]) -> Result<Vec<Sent>, ScriptErro
     let mut number = 0;
     let mut rest = Some(script);
     while let Some(text) = rest {
+        if let Some(told) = plain_line(text) {
+            number += 1;
+            events.push(Sent {
+                lost: false,
+                what: told.0,
+            })?;
+            rest = Some(told.1);
+            continue;
+        }
         let (line, following) = split_line(text);
         number += 1;
         match read_line(line) {

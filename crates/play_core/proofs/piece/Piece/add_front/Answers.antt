@@ -1,0 +1,13 @@
+use Rattle.std.proofs.Common.{◌++◌, take, sym, ap, ◌∙◌, arith}
+use Rattle.std.proofs.lemmas.List.{length-take-le}
+use Rattle.play_core.specs.Pieces.{PieceValue}
+use Rattle.play_core.proofs.Pieces.{front_counted}
+use Rattle.play_core.proofs.piece.Piece.add_front.Goals as goal
+
+pub returns : goal.returns
+returns g c = record {
+  items =
+      front_counted (take c.self.inside.len c.self.inside.bytes) c.loop-i.self-inside.bytes c.args.piece.now c.self.inside.len c.loop-i.i c.args.count
+      (sym (length-take-le c.self.inside.len c.self.inside.bytes (omega (arith, c.self.invariant)))) (omega arith) c.loop-i.invariant.text
+      ∙ ap (λ (v : PieceValue). v.items ++ take c.args.count c.args.piece.now) c.self.view_is;
+}

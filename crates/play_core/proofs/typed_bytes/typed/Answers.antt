@@ -1,0 +1,30 @@
+use Rattle.std.proofs.Common.{drop, length, refl, sym, ap, ◌∙◌, arith}
+use Rattle.keymap_core.proofs.Gathering.{Gathers-start, Gathers-same, Gathers-more, StopsIn-more, passed_on}
+use Rattle.play_core.specs.Written.{typed_text}
+use Rattle.play_core.proofs.Texts.{typed-nil, typed-more, typed-rest}
+use Rattle.play_core.proofs.typed_bytes.typed.Goals as goal
+
+pub loop-answer-init : goal.loop-answer-init
+loop-answer-init g c = record {
+  gathers = rw typed-nil (Gathers-start _ _ c.new-text.ensures refl);
+  few = omega (arith, ap length c.new-text.ensures);
+  failed = refl;
+}
+
+pub loop-answer-preserved : goal.loop-answer-preserved
+loop-answer-preserved g c =
+    let answers = c.args.answers.now in
+    let i = c.loop-answer.answer-index in
+    let more = typed-more answers i c.answer-item.result c.loop-answer-test.true c.answer-item.is in
+    record {
+      gathers = Gathers-same _ (sym more) (Gathers-more _ _ (c.in_ok-written.ensures.bytes _ _ c.loop-answer.invariant.gathers) refl c.push_typed.ensures.text);
+      few = omega (arith, c.in_ok-written.ensures.count, c.push_typed.ensures.size, c.loop-answer.invariant.few);
+      failed = c.in_ok-written.ensures.failed ∙ c.loop-answer.invariant.failed;
+    }
+
+pub returns-in_err-written-clause-bytes : goal.returns-in_err-written-clause-bytes
+returns-in_err-written-clause-bytes g c =
+    let answers = c.args.answers.now in
+    let i = c.loop-answer.answer-index in
+    passed_on _ _ _ _ c.from_residual.ensures.1
+    (StopsIn-more _ _ _ (typed_text (drop i answers)) _ _ (sym (typed-rest answers i)) (c.in_err-written.ensures.bytes _ _ c.loop-answer.invariant.gathers))

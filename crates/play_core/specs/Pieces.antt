@@ -1,0 +1,5 @@
+-- The bytes that wait to be written.
+use Rattle.std.specs.Prelude.{ℕ, List}
+
+pub record PieceValue : Type 0 where
+  pub items : List ℕ

@@ -3,6 +3,8 @@
 
 ghost use Rattle.std.specs.Prelude.{None};
 
+mod std_devices;
+
 use crate::device::{Failed, Read, Write};
 use crate::{
     Accent, Action, BadAccent, Cell, Entry, FromStd, KeyCode, KeyMap, Lock, LockFlag, Modifier,
@@ -231,7 +233,6 @@ fn a_new_map_has_no_keys(rt: HostRuntime) -> Result<(), Fail> {
     Ok(())
 }
 
-/// Where a growth is refused, the next call isn't, and the map that was to be copied is as it was.
 #[test]
 fn a_copy_is_equal(rt: HostRuntime) -> Result<(), Fail> {
     let entry = Entry {
@@ -241,10 +242,7 @@ fn a_copy_is_equal(rt: HostRuntime) -> Result<(), Fail> {
     let mut map = KeyMap::new(rt.alloc())?;
     map.set(37, entry);
     map.set_accent(2, Accent::new('^'))?;
-    let copy = match map.try_clone(rt.alloc()) {
-        Ok(copy) => copy,
-        Err(_) => map.try_clone(rt.alloc())?,
-    };
+    let copy = map.try_clone(rt.alloc())?;
     assert!(rt; copy == map);
     assert_eq!(rt; (map.n_keys(), map.n_accs()), (38, 3));
     assert_eq!(rt; *map.entry(37), entry);
@@ -307,17 +305,6 @@ fn reads_end_at_the_limit(rt: HostRuntime) -> Result<(), Fail> {
     assert_eq!(rt; bytes.as_slice(), b"12345".as_slice());
     assert!(rt; reader.reads <= 8 && !reader.failed());
     Ok(())
-}
-
-/// A refused growth is answered as such, and is no fault of the reader.
-#[test]
-fn a_refused_growth_is_no_read_fault(rt: HostRuntime) {
-    let mut reader = reader_of(b"12345", 9);
-    match read_up_to(rt.alloc(), &mut reader, 7) {
-        Ok(bytes) => assert_eq!(rt; bytes.as_slice(), b"12345".as_slice()),
-        Err(error) => assert!(rt; matches!(error, ReadError::Memory)),
-    }
-    assert!(rt; !reader.failed());
 }
 
 /// It fails after so many bytes, after the last one too, in place of the end.

@@ -2,6 +2,7 @@
 //! device is called, and that the calls which take memory succeed where there is memory.
 
 mod devices;
+mod failing_devices;
 mod faults;
 mod maps;
 mod output;

@@ -73,23 +73,6 @@ fn a_script_that_stops_is_named(rt: HostRuntime) -> Result<(), Fail> {
     Ok(())
 }
 
-#[test]
-fn one_text_or_a_script_that_stops_is_named(rt: HostRuntime) -> Result<(), Fail> {
-    for most in 0..=SCRIPT.len() {
-        let mut out = sheet_of(usize::MAX);
-        let mut text = bytes_of(LETTER_AND_SHIFT, most);
-        let mut script = bytes_of(SCRIPT, usize::MAX);
-        let answer = play(rt.alloc(), Show::Typed, &mut text, &mut script, &mut out);
-        assert_eq!(rt; settled(answer, &out)?, stopped(Source::Text, most));
-        let mut text = bytes_of(LETTER_AND_SHIFT, usize::MAX);
-        let mut script = bytes_of(SCRIPT, most);
-        let answer = play(rt.alloc(), Show::Typed, &mut text, &mut script, &mut out);
-        assert_eq!(rt; settled(answer, &out)?, stopped(Source::Script, most));
-        assert!(rt; script.failed() && out.writes == 0);
-    }
-    Ok(())
-}
-
 fn play_texts(
     alloc: Global,
     show: Show,

@@ -6,8 +6,8 @@ _kmap_words() {
     '') echo 'check play compile dump help -h --help -V --version' ;;
     check) echo '--show -h --help' ;;
     play) echo '--typed --next -h --help' ;;
-    compile) echo '-h --help' ;;
-    dump) echo '-h --help' ;;
+    compile) echo '--narrow -h --help' ;;
+    dump) echo '--narrow -h --help' ;;
     help) echo 'check play compile dump help' ;;
     esac
 }

@@ -26,8 +26,10 @@ complete -c kmap -n '__kmap_after play' -l typed -d 'Prints the typed bytes inst
 complete -c kmap -n '__kmap_after play' -l next -r -F -d 'The keymap text that a load puts in force'
 complete -c kmap -n '__kmap_after play' -s h -l help -d 'Print help'
 
+complete -c kmap -n '__kmap_after compile' -l narrow -d 'Writes a narrow file, one byte a character'
 complete -c kmap -n '__kmap_after compile' -s h -l help -d 'Print help'
 
+complete -c kmap -n '__kmap_after dump' -l narrow -d 'Reads a narrow file'
 complete -c kmap -n '__kmap_after dump' -s h -l help -d 'Print help'
 
 complete -c kmap -n '__kmap_after help' -f

@@ -132,6 +132,23 @@ ran 'the part is no table file' 1 '' "kmap: tables offset $(wc -c < part | tr -d
 ran 'cannot create in no folder' 1 '' "kmap: cannot create none/made$line" compile letter none/made
 ran 'cannot create a folder' 1 '' "kmap: cannot create folder$line" compile letter folder
 
+# Narrow files.
+ran 'compiles a narrow file' 0 '' '' compile letter small --narrow
+holds 'the size of a narrow file' [ "$(wc -c < small)" -eq 4139 ]
+ran 'dumps a narrow file' 0 "$(cat printed)$line" '' dump small --narrow
+ran 'a narrow file is no table file' 1 '' "kmap: tables offset 4139: Short$line" dump small
+ran 'a table file is no narrow file' 1 '' "kmap: tables offset 4139: Long$line" dump tables --narrow
+echo "0 'a' 'A' SOH soh fkey1 scr16 0x20ac DEL b" > euro
+echo old > kept
+ran 'a character too wide' 1 '' "kmap: cell too wide at slot 0 column 6$line" compile euro kept --narrow
+holds 'what is too wide leaves an empty file' same_bytes kept ''
+echo "dacu 0x20ac ( 'e' 0x20ac )" > accent
+ran 'an accent too wide' 1 '' "kmap: accent too wide at accent 1 number 0$line" compile accent kept --narrow
+holds 'an accent too wide leaves an empty file' same_bytes kept ''
+echo old > kept
+ran 'a faulty text makes no narrow file' 1 '' "kmap: text line 1 offset 3: EndInside$line" compile cut kept --narrow
+holds 'a faulty text leaves the old file' same_bytes kept "old$line"
+
 # Checking.
 # bearers LSHIFT LCTRL: the lines of a report on the holding actions, of which only these two have a key
 bearers() {

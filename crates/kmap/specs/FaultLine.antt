@@ -10,6 +10,8 @@ use Rattle.keymap_text.specs.declared.fault.TextFaultKind.TheVariants as text
 use Rattle.keymap_tables.specs.declared.fault.TableFault.{TableFault}
 use Rattle.keymap_tables.specs.declared.fault.TableFaultKind.{TableFaultKind}
 use Rattle.keymap_tables.specs.declared.fault.TableFaultKind.TheVariants as tables
+use Rattle.keymap_tables.specs.declared.narrow.Wide.{Wide}
+use Rattle.keymap_tables.specs.declared.narrow.Wide.TheVariants as wide
 use Rattle.play_core.specs.declared.script.ScriptFault.{ScriptFault}
 use Rattle.play_core.specs.declared.script.ScriptFault.TheVariants.{BadLine, BadKey}
 use Rattle.kmap.specs.declared.fault_line.RunError.{RunError}
@@ -61,6 +63,12 @@ read_fault source f = source ++ read_fault_by f.kind f.offset
 abbrev pub write_fault : WriteFault → List ℕ
 write_fault f = codes "write fault after " ++ decimal f.written ++ codes " bytes"
 
+-- where a character stands that doesn't fit in a narrow file
+abbrev pub too_wide : Wide → List ℕ
+too_wide (wide.Cell slot column) = codes "cell too wide at slot " ++ decimal slot ++ codes " column " ++ decimal column
+too_wide (wide.Accent accent number) =
+    codes "accent too wide at accent " ++ decimal accent ++ codes " number " ++ decimal number
+
 abbrev pub message : RunError → List ℕ
 message error.Memory = codes "out of memory"
 message (error.Text f) = text_fault (codes "text") f
@@ -71,6 +79,7 @@ message (error.ReadText f) = read_fault (codes "text") f
 message (error.ReadNext f) = read_fault (codes "next") f
 message (error.ReadScript f) = read_fault (codes "script") f
 message (error.ReadTables f) = read_fault (codes "tables") f
+message (error.TooWide w) = too_wide w
 message (error.Write f) = write_fault f
 
 -- the line, with its end

@@ -8,7 +8,9 @@ use Rattle.keymap_text.specs.Printed.{printed}
 use Rattle.keymap_text.specs.Sources.{ReadsMap, is_device}
 use Rattle.keymap_tables.specs.declared.fault.TableError.{TableError}
 use Rattle.keymap_tables.specs.declared.fault.TableError.TheVariants as tables
-use Rattle.keymap_tables.specs.Sources.{ReadsTables}
+use Rattle.keymap_tables.specs.declared.narrow.NarrowError.{NarrowError}
+use Rattle.keymap_tables.specs.declared.narrow.NarrowError.TheVariants as narrow
+use Rattle.keymap_tables.specs.Sources.{ReadsTables, ReadsNarrow}
 use Rattle.play_core.specs.declared.player.PlayError.{PlayError}
 use Rattle.play_core.specs.declared.player.PlayError.TheVariants as play
 use Rattle.play_core.specs.declared.player.Source.TheVariants.{Text, Next, Script}
@@ -26,6 +28,10 @@ abbrev pub of_table_error : TableError → RunError
 of_table_error tables.Memory = error.Memory
 of_table_error (tables.Read f) = error.ReadTables f
 of_table_error (tables.Fault f) = error.Tables f
+
+abbrev pub of_narrow_error : NarrowError → RunError
+of_narrow_error (narrow.TooWide w) = error.TooWide w
+of_narrow_error (narrow.Write f) = error.Write f
 
 abbrev pub of_play_error : PlayError → RunError
 of_play_error play.Memory = error.Memory
@@ -49,16 +55,25 @@ ChecksText show before after old new (Err (error.ReadText f)) = ReadsMap before 
 ChecksText show before after old new (Err error.Memory) = ReadsMap before after (Err text.Memory) × Keeps old new
 ChecksText show before after old new (Err _) = ⊥
 
--- The tables that were read are the image of a map, and its printed form was written, or its first `written` bytes.
--- After any other refusal nothing was written, and a fault is that of the bytes taken.
+-- The bytes that were read are a map, and its printed form was written, or its first `written` bytes. After any other
+-- refusal nothing was written, and a fault is that of the bytes taken. `Reads` says what reading the file answers.
+abbrev pub DumpsFile : {X : Type 0} → (Option (List ℕ) → Option (List ℕ) → Result MapValue TableError → Type 0)
+    → Option (List ℕ) → Option (List ℕ) → Option (List ℕ) → Option (List ℕ) → Result X RunError → Type 0
+DumpsFile Reads before after old new (Ok _) = (m : MapValue) × Reads before after (Ok m) × Appends old new (printed m)
+DumpsFile Reads before after old new (Err (error.Write f)) =
+    (m : MapValue) × Reads before after (Ok m) × (f.written < length (printed m)) × Appends old new (take f.written (printed m))
+DumpsFile Reads before after old new (Err (error.Tables f)) = Reads before after (Err (tables.Fault f)) × Keeps old new
+DumpsFile Reads before after old new (Err (error.ReadTables f)) = Reads before after (Err (tables.Read f)) × Keeps old new
+DumpsFile Reads before after old new (Err error.Memory) = Reads before after (Err tables.Memory) × Keeps old new
+DumpsFile Reads before after old new (Err _) = ⊥
+
+-- The tables that were read are the image of the map.
 abbrev pub DumpsTables : {X : Type 0} → Option (List ℕ) → Option (List ℕ) → Option (List ℕ) → Option (List ℕ) → Result X RunError → Type 0
-DumpsTables before after old new (Ok _) = (m : MapValue) × ReadsTables before after (Ok m) × Appends old new (printed m)
-DumpsTables before after old new (Err (error.Write f)) =
-    (m : MapValue) × ReadsTables before after (Ok m) × (f.written < length (printed m)) × Appends old new (take f.written (printed m))
-DumpsTables before after old new (Err (error.Tables f)) = ReadsTables before after (Err (tables.Fault f)) × Keeps old new
-DumpsTables before after old new (Err (error.ReadTables f)) = ReadsTables before after (Err (tables.Read f)) × Keeps old new
-DumpsTables before after old new (Err error.Memory) = ReadsTables before after (Err tables.Memory) × Keeps old new
-DumpsTables before after old new (Err _) = ⊥
+DumpsTables before after old new r = DumpsFile ReadsTables before after old new r
+
+-- The narrow file that was read is the narrow image of the map.
+abbrev pub DumpsNarrow : {X : Type 0} → Option (List ℕ) → Option (List ℕ) → Option (List ℕ) → Option (List ℕ) → Result X RunError → Type 0
+DumpsNarrow before after old new r = DumpsFile ReadsNarrow before after old new r
 
 -- the answer names the reader as what failed
 abbrev pub blames_reader : {X : Type 0} → Result X RunError → Bool

@@ -58,14 +58,20 @@ fn compile<'a>(alloc: Global) -> Result<Command<'a>, AllocError> {
             "Example: kmap compile de.kbd de.tables{n}{n}kmap(1) tells what OUT is good for.",
         )
         .arg(file(alloc, "TEXT", "The keymap text"))?
-        .arg(file(alloc, "OUT", "The table file to create or overwrite"))
+        .arg(file(alloc, "OUT", "The table file to create or overwrite"))?
+        .arg(flag(
+            alloc,
+            "narrow",
+            "Writes a narrow file, one byte a character",
+        ))
 }
 
 fn dump<'a>(alloc: Global) -> Result<Command<'a>, AllocError> {
     Command::new(alloc, "dump")
         .about("Prints a table file as keymap text")
         .after_help("Example: kmap dump de.tables{n}{n}kmap(5) tells what the text means.")
-        .arg(file(alloc, "TABLES", "The table file"))
+        .arg(file(alloc, "TABLES", "The table file"))?
+        .arg(flag(alloc, "narrow", "Reads a narrow file"))
 }
 
 /// The subcommands of the program and their words.
@@ -87,10 +93,12 @@ pub(crate) fn command<'a>(alloc: Global) -> Result<Command<'a>, AllocError> {
 pub(crate) enum Request<'a> {
     Dump {
         tables: &'a str,
+        narrow: bool,
     },
     Compile {
         text: &'a str,
         out: &'a str,
+        narrow: bool,
     },
     Check {
         text: &'a str,
@@ -110,10 +118,12 @@ pub(crate) fn request_of<'a>(matches: &ArgMatches<'a>) -> Option<Request<'a>> {
     match name {
         "dump" => Some(Request::Dump {
             tables: words.get_str("TABLES")?,
+            narrow: words.get_flag("narrow"),
         }),
         "compile" => Some(Request::Compile {
             text: words.get_str("TEXT")?,
             out: words.get_str("OUT")?,
+            narrow: words.get_flag("narrow"),
         }),
         "check" => Some(Request::Check {
             text: words.get_str("TEXT")?,

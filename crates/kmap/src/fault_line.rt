@@ -2,12 +2,12 @@
 ghost use Rattle.std.specs.Prelude.{◌≡◌, ◌+◌, ◌≤◌, ◌++◌, ◌||◌, length, is_err};
 ghost use Rattle.arrayvec.specs.ArrayVec.{array_vec_len};
 ghost use Rattle.keymap_core.specs.Devices.{WritesText};
-ghost use Rattle.kmap.specs.FaultLine.{fault_line, message, read_fault, script_fault, table_fault, table_kind, text_fault, text_kind, write_fault};
+ghost use Rattle.kmap.specs.FaultLine.{fault_line, message, read_fault, script_fault, table_fault, table_kind, text_fault, text_kind, too_wide, write_fault};
 
 use crate::text::{append, append_number};
 use arrayvec::ArrayVec;
 use keymap_core::{ReadFault, ReadFaultKind, Write, WriteFault, write_text};
-use keymap_tables::{TableFault, TableFaultKind};
+use keymap_tables::{TableFault, TableFaultKind, Wide};
 use keymap_text::{TextFault, TextFaultKind};
 use play_core::ScriptFault;
 use thiserror::Error;
@@ -33,6 +33,8 @@ pub enum RunError {
     ReadScript(ReadFault),
     #[error("the tables cannot be read")]
     ReadTables(ReadFault),
+    #[error("a character is too wide for a narrow file")]
+    TooWide(Wide),
     #[error("the output cannot be written")]
     Write(WriteFault),
 }
@@ -137,6 +139,27 @@ fn append_read_fault(line: &mut Line, source: &[u8], fault: &ReadFault)
     }
 }
 
+fn append_wide(line: &mut Line, wide: &Wide)
+    requires { array_vec_len line.old + 80 ≤ 96 }
+    ensures text { line.new.items ≡ line.old.items ++ too_wide wide.now }
+    ensures bound { array_vec_len line.new ≤ array_vec_len line.old + 80 }
+{
+    match wide {
+        Wide::Cell { slot, column } => {
+            append(line, b"cell too wide at slot ");
+            append_number(line, u64::from(*slot));
+            append(line, b" column ");
+            append_number(line, u64::from(*column));
+        }
+        Wide::Accent { accent, number } => {
+            append(line, b"accent too wide at accent ");
+            append_number(line, u64::from(*accent));
+            append(line, b" number ");
+            append_number(line, u64::from(*number));
+        }
+    }
+}
+
 fn append_write_fault(line: &mut Line, fault: &WriteFault)
     requires { array_vec_len line.old + 50 ≤ 96 }
     ensures text { line.new.items ≡ line.old.items ++ write_fault fault.now }
@@ -162,6 +185,7 @@ fn append_message(line: &mut Line, error: &RunError)
         RunError::ReadNext(fault) => append_read_fault(line, b"next", fault),
         RunError::ReadScript(fault) => append_read_fault(line, b"script", fault),
         RunError::ReadTables(fault) => append_read_fault(line, b"tables", fault),
+        RunError::TooWide(wide) => append_wide(line, wide),
         RunError::Write(fault) => append_write_fault(line, fault),
     }
 }

@@ -1,10 +1,12 @@
 //! One run of the program: the words, the files that they name, and the exit status.
 use crate::command_line::{Request, command, request_of};
 use crate::fault_line::{RunError, write_run_error};
-use crate::runs::{check_run, dump_run, play_failure, text_failure};
+use crate::runs::{
+    check_run, dump_narrow_run, dump_run, narrow_failure, play_failure, text_failure,
+};
 use clap::error::ErrorKind;
-use keymap_core::{FromStd, ToStd, Write, write_text};
-use keymap_tables::write_tables;
+use keymap_core::{FromStd, KeyMap, ToStd, Write, write_text};
+use keymap_tables::{write_narrow, write_tables};
 use keymap_text::read_from;
 use play_core::{PlayError, Show, play, play_next};
 use std::alloc::AllocError;
@@ -110,12 +112,12 @@ where
     R: AllocGlobal + Files + Print,
 {
     match request {
-        Request::Dump { tables } => {
-            dump(rt, tables)?;
+        Request::Dump { tables, narrow } => {
+            dump(rt, tables, narrow)?;
             Ok(true)
         }
-        Request::Compile { text, out } => {
-            compile(rt, text, out)?;
+        Request::Compile { text, out, narrow } => {
+            compile(rt, text, out, narrow)?;
             Ok(true)
         }
         Request::Check { text, show } => {
@@ -146,14 +148,30 @@ fn run_outcome<'a, T>(outcome: Result<T, RunError>) -> Result<T, Failure<'a>> {
     }
 }
 
-fn dump<'a, R: AllocGlobal + Files + Print>(rt: &R, tables: &'a str) -> Result<(), Failure<'a>> {
+fn dump<'a, R>(rt: &R, tables: &'a str, narrow: bool) -> Result<(), Failure<'a>>
+where
+    R: AllocGlobal + Files + Print,
+{
     let mut source = opened(rt, tables)?;
     let mut out = ToStd::new(io::writer(rt));
-    run_outcome(dump_run(rt.alloc(), &mut source, &mut out))
+    run_outcome(if narrow {
+        dump_narrow_run(rt.alloc(), &mut source, &mut out)
+    } else {
+        dump_run(rt.alloc(), &mut source, &mut out)
+    })
 }
 
-/// The table file is created only once the text was read whole, so a fault leaves an old one as it is.
-fn compile<'a, R>(rt: &R, text: &'a str, out: &'a str) -> Result<(), Failure<'a>>
+fn write_file<W: Write>(map: &KeyMap, narrow: bool, out: &mut W) -> Result<(), RunError> {
+    if narrow {
+        write_narrow(map, out).map_err(narrow_failure)
+    } else {
+        write_tables(map, out).map_err(RunError::Write)
+    }
+}
+
+/// The table file is created only once the text was read whole, so a fault of it leaves an old one as it is. A map that
+/// doesn't fit in a narrow file leaves an empty one.
+fn compile<'a, R>(rt: &R, text: &'a str, out: &'a str, narrow: bool) -> Result<(), Failure<'a>>
 where
     R: AllocGlobal + Files,
 {
@@ -165,10 +183,7 @@ where
     let Ok(file) = fs::create(rt, out) else {
         return Err(Failure::CannotCreate(out));
     };
-    match write_tables(&map, &mut ToStd::new(file)) {
-        Ok(()) => Ok(()),
-        Err(fault) => Err(Failure::Run(RunError::Write(fault))),
-    }
+    run_outcome(write_file(&map, narrow, &mut ToStd::new(file)))
 }
 
 fn play_outcome<'a>(outcome: Result<(), PlayError>) -> Result<(), Failure<'a>> {

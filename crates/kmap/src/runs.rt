@@ -3,13 +3,14 @@ ghost use Rattle.std.specs.Prelude.{◌≡◌, ◌↔◌, ◌||◌, IfOk, IsTrue
 ghost use Rattle.keymap_core.specs.Devices.{WritesText};
 ghost use Rattle.console_core.specs.Safety.{IsSafe};
 ghost use Rattle.kmap.specs.Report.{report};
-ghost use Rattle.kmap.specs.Runs.{ChecksText, DumpsTables, blames_reader, blames_writer, of_play_error, of_table_error, of_text_error};
+ghost use Rattle.kmap.specs.Runs.{ChecksText, DumpsTables, DumpsNarrow, blames_reader, blames_writer};
+ghost use Rattle.kmap.specs.Runs.{of_narrow_error, of_play_error, of_table_error, of_text_error};
 
 use crate::fault_line::RunError;
 use crate::report::report_on;
 use keymap_check::check;
 use keymap_core::{KeyMap, Read, Write, WriteFault, write_text};
-use keymap_tables::{TableError, read_tables_from};
+use keymap_tables::{NarrowError, TableError, read_narrow_from, read_tables_from};
 use keymap_text::{TextError, print_map, read_from};
 use play_core::{PlayError, Source};
 use std::alloc::Global;
@@ -31,6 +32,15 @@ fn table_failure(error: TableError) -> RunError
         TableError::Memory => RunError::Memory,
         TableError::Read(fault) => RunError::ReadTables(fault),
         TableError::Fault(fault) => RunError::Tables(fault),
+    }
+}
+
+pub(crate) fn narrow_failure(error: NarrowError) -> RunError
+    ensures { result ≡ of_narrow_error error }
+{
+    match error {
+        NarrowError::TooWide(wide) => RunError::TooWide(wide),
+        NarrowError::Write(fault) => RunError::Write(fault),
     }
 }
 
@@ -97,4 +107,21 @@ pub fn dump_run<R: Read, W: Write>(
         Err(error) => return Err(table_failure(error)),
     };
     print_map(&map, writer).map_err(RunError::Write)
+}
+
+/// Reads a narrow file and prints its map as text.
+pub fn dump_narrow_run<R: Read, W: Write>(
+    alloc: Global,
+    reader: &mut R,
+    writer: &mut W,
+) -> Result<(), RunError>
+    ensures run { DumpsNarrow (R.remaining reader.old) (R.remaining reader.new) (W.contents writer.old) (W.contents writer.new) result }
+    ensures reader_failed { R.has_failed reader.new ≡ (blames_reader result || R.has_failed reader.old) }
+    ensures writer_failed { W.has_failed writer.new ≡ (blames_writer result || W.has_failed writer.old) }
+{
+    let narrow = match read_narrow_from(alloc, reader) {
+        Ok(map) => map,
+        Err(error) => return Err(table_failure(error)),
+    };
+    print_map(&narrow, writer).map_err(RunError::Write)
 }

@@ -3,7 +3,7 @@
 use crate::fault_line::{RunError, write_run_error};
 use crate::tests::devices::{writer_of, written};
 use keymap_core::{ReadFault, ReadFaultKind, Write, WriteFault};
-use keymap_tables::{TableFault, TableFaultKind};
+use keymap_tables::{TableFault, TableFaultKind, Wide};
 use keymap_text::{TextFault, TextFaultKind};
 use play_core::ScriptFault;
 
@@ -191,5 +191,32 @@ fn each_fault_of_a_device_has_its_line(rt: HostRuntime) {
     ];
     for (error, line) in &rows {
         assert!(rt; writes_line(error, line), "{line:?}");
+    }
+}
+
+#[test]
+fn each_place_that_is_too_wide_has_its_line(rt: HostRuntime) {
+    let rows: [(Wide, &[u8]); 3] = [
+        (
+            Wide::Cell { slot: 0, column: 6 },
+            b"kmap: cell too wide at slot 0 column 6\n",
+        ),
+        (
+            Wide::Accent {
+                accent: 1,
+                number: 0,
+            },
+            b"kmap: accent too wide at accent 1 number 0\n",
+        ),
+        (
+            Wide::Accent {
+                accent: 14,
+                number: 104,
+            },
+            b"kmap: accent too wide at accent 14 number 104\n",
+        ),
+    ];
+    for (wide, line) in rows {
+        assert!(rt; writes_line(&RunError::TooWide(wide), line), "{wide:?}");
     }
 }

@@ -1,11 +1,13 @@
 //! Tables that are printed.
 
 use crate::fault_line::RunError;
-use crate::runs::dump_run;
+use crate::runs::{dump_narrow_run, dump_run};
 use crate::tests::devices::{reader_of, settled, stopped, writer_of, written};
+use crate::tests::maps::LETTER_AND_SHIFT;
 use keymap_core::{Read, Write};
-use keymap_tables::{TableFault, TableFaultKind, write_tables};
+use keymap_tables::{TableFault, TableFaultKind, write_narrow, write_tables};
 use keymap_text::read_map;
+use std::alloc::{AllocError, Global};
 use std::test::Fail;
 
 const TABLES: usize = 15_524;
@@ -72,5 +74,69 @@ fn tables_print_as_their_map(rt: HostRuntime) -> Result<(), Fail> {
         assert_eq!(rt; writer.taken.as_slice(), &PRINTED[..most]);
         assert_eq!(rt; writer.failed(), most < PRINTED.len());
     }
+    Ok(())
+}
+
+const NARROW: usize = 4_139;
+
+/// The printed form of a letter in slot 30 and shift in slot 42, whose other slots are undefined.
+fn letter_and_shift_printed(alloc: Global) -> Result<Vec<u8>, AllocError> {
+    let mut printed = Vec::new(alloc);
+    for slot in 0..43u8 {
+        printed.push(b'0')?;
+        printed.push(b'0' + slot / 10)?;
+        printed.push(b'0' + slot % 10)?;
+        let rest: &[u8] = match slot {
+            30 => b" 'a'    'A'    soh    soh    'a'    'A'    soh    soh    C\n",
+            42 => b" lshift lshift lshift lshift lshift lshift lshift lshift O\n",
+            _ => b" nul    nul    nul    nul    nul    nul    nul    nul    O\n",
+        };
+        printed.extend_from_slice(rest)?;
+    }
+    Ok(printed)
+}
+
+#[test]
+fn narrow_files_print_as_their_map(rt: HostRuntime) -> Result<(), Fail> {
+    let map = read_map(rt.alloc(), LETTER_AND_SHIFT)?;
+    let mut narrow = writer_of(usize::MAX);
+    write_narrow(&map, &mut narrow)?;
+    assert_eq!(rt; narrow.taken.len(), NARROW);
+    let printed = letter_and_shift_printed(rt.alloc())?;
+    for most in 0..=printed.len() {
+        let mut reader = reader_of(narrow.taken.as_slice(), 512, usize::MAX);
+        let mut writer = writer_of(most);
+        let answer = dump_narrow_run(rt.alloc(), &mut reader, &mut writer);
+        assert_eq!(rt; settled(answer, &writer)?, written((), most, printed.len()));
+        assert_eq!(rt; writer.taken.as_slice(), &printed.as_slice()[..most]);
+        assert_eq!(rt; writer.failed(), most < printed.len());
+    }
+    Ok(())
+}
+
+#[test]
+fn narrow_files_that_stop_are_a_fault(rt: HostRuntime) -> Result<(), Fail> {
+    for most in 0..=NARROW {
+        let mut reader = reader_of(&[0; NARROW], usize::MAX, most);
+        let mut writer = writer_of(usize::MAX);
+        let answer = dump_narrow_run(rt.alloc(), &mut reader, &mut writer);
+        let wanted = Err(RunError::ReadTables(stopped(most)));
+        assert_eq!(rt; settled(answer, &writer)?, wanted);
+        assert!(rt; reader.failed() && writer.taken.is_empty() && !writer.failed());
+    }
+    Ok(())
+}
+
+#[test]
+fn tables_are_no_narrow_file(rt: HostRuntime) -> Result<(), Fail> {
+    let fault = TableFault {
+        offset: 4139,
+        kind: TableFaultKind::Long,
+    };
+    let mut reader = reader_of(&[0; TABLES], 512, usize::MAX);
+    let mut writer = writer_of(usize::MAX);
+    let answer = dump_narrow_run(rt.alloc(), &mut reader, &mut writer);
+    assert_eq!(rt; settled(answer, &writer)?, Err(RunError::Tables(fault)));
+    assert!(rt; writer.taken.is_empty());
     Ok(())
 }

@@ -1,6 +1,7 @@
 -- The events along a path lead a console to the path's state, and a holder that looks up a character there leaves its
 -- modifier on.
-use Rattle.std.proofs.Common.{◌≡◌, ℕ, ◌<◌, Bool, true, false, ◌&&◌, ◌||◌, not, List, [], ◌∷◌, ◌++◌, Option, Some, None, refl, ap, subst, sym, ◌∙◌, inl, inr, if◌then◌else◌}
+use Prim.Native.Nat.{suc}
+use Rattle.std.proofs.Common.{◌≡◌, ℕ, ◌<◌, ◌+◌, All, arith, Bool, true, false, ◌&&◌, ◌||◌, not, List, [], ◌∷◌, ◌++◌, Option, Some, None, refl, ap, subst, sym, ◌∙◌, inl, inr, if◌then◌else◌}
 use Rattle.std.specs.Prelude.{◌==◌}
 use Rattle.std.proofs.lemmas.Bool.{eqb-true, eq-eqb, cases_Bool, true≢false}
 use Rattle.std.proofs.lemmas.List.Elements.{All-nil, All-cons}
@@ -21,13 +22,15 @@ use Rattle.console_core.specs.Positions.{first_of_two}
 use Rattle.console_core.specs.Resolved.{ResolvedEvent, held, remembered, taken_over, is_action, look, resolve_press}
 use Rattle.console_core.specs.Resolved.ResolvedEvent.{PressedCharacter, PressedAction, ReleasedKey}
 use Rattle.console_core.specs.Reading.{is_some}
-use Rattle.console_core.specs.History.{Maps, resolved, On, pressed, HasKey, HasKeys, IsNoLoad, HasNoLoads, IsQuiet}
-use Rattle.console_core.specs.Sticking.{State, start, look_in, Holds, IsIdle, with_holder, with_turned, Move, IsMove, moved, Forgets, state_after, IsPath, events_of, events_along, release_of, releases, script, IsForgetful, IsSafeSet, SticksIfReached, NeverSticksUnlessReached}
-use Rattle.console_core.specs.Sticking.Move.{Hold, Turn, LetGo}
+use Rattle.console_core.specs.History.{Maps, between, resolved, On, pressed, HasKey, HasKeys, IsNoLoad, HasNoLoads, IsQuiet}
+use Rattle.console_core.specs.declared.held.Move.{Move}
+use Rattle.console_core.specs.declared.held.Move.TheVariants.{Hold, Turn, LetGo}
+use Rattle.console_core.specs.Moves.{State, start, look_in, Holds, IsIdle, with_holder, with_turned, IsMove, moved, Forgets, state_after, IsPath, presses_of, presses_along, events_of, events_along, release_of, releases, script, IsForgetful}
+use Rattle.console_core.specs.Sticking.{IsPressOrRelease, presses, SticksIfReached, NeverSticksUnlessReached}
 use Rattle.console_core.proofs.OneMore.{resolved-start, resolved-more, held-start, held-character, held-action, held-release, remembered-start, remembered-character, remembered-action, remembered-release, pressed-start, pressed-press, pressed-release}
 use Rattle.console_core.proofs.Bearing.{none_some}
 use Rattle.console_core.proofs.OneMap.{first_in_force}
-use Rattle.console_core.proofs.Staying.{Follows, follows-look, follows-start, follows-hold, follows-turn, follows-let_go, follows-release, takes, same_mods, some_mods, some_none, some_keys, not_true, never-sticks}
+use Rattle.console_core.proofs.Staying.{Follows, follows-look, follows-start, follows-hold, follows-turn, follows-let_go, follows-release, takes, same_mods, some_mods, some_none, some_keys, not_true, IsSafeBelow, never-sticks}
 
 abbrev pub HoldsSome : State → ℕ → Type 0
 HoldsSome s k = (i : Modifier) × Holds s k i
@@ -288,22 +291,77 @@ quiet-after ms h s i k x holds n lt =
           holds-none s n w.0 q.0 w.1
     ])
 
-pub sticks_if_reached : SticksIfReached
-sticks_if_reached ms path is i k forgets =
+-- presses and releases alone
+of_keys-release : (o : Option ℕ) (h : List Event) → All IsPressOrRelease h → All IsPressOrRelease (release_of o ++ h)
+of_keys-release None h x = x
+of_keys-release (Some k) h x = All-cons IsPressOrRelease (Release k) h tt x
+
+of_keys-releases : (s : State) (more : List Modifier) (h : List Event) → All IsPressOrRelease h → All IsPressOrRelease (releases s more ++ h)
+of_keys-releases s [] h x = x
+of_keys-releases s (i ∷ more) h x = rw (apart (s.holder i) (releases s more) h) (of_keys-release (s.holder i) (releases s more ++ h) (of_keys-releases s more h x))
+
+of_keys-move : (move : Move) (h : List Event) → All IsPressOrRelease h → All IsPressOrRelease (events_of move ++ h)
+of_keys-move (Hold k i) h x = All-cons IsPressOrRelease (Press k) h tt x
+of_keys-move (Turn k l) h x = All-cons IsPressOrRelease (Release k) (Press k ∷ h) tt (All-cons IsPressOrRelease (Press k) h tt x)
+of_keys-move (LetGo k i) h x = All-cons IsPressOrRelease (Release k) h tt x
+
+of_keys-along : (path : List Move) → All IsPressOrRelease (events_along path)
+of_keys-along [] = All-nil IsPressOrRelease
+of_keys-along (move ∷ path) = of_keys-move move (events_along path) (of_keys-along path)
+
+-- how many presses the script has
+presses-release : (o : Option ℕ) (h : List Event) → presses (release_of o ++ h) ≡ presses h
+presses-release None h = refl
+presses-release (Some k) h = refl
+
+presses-releases : (s : State) (more : List Modifier) (h : List Event) → presses (releases s more ++ h) ≡ presses h
+presses-releases s [] h = refl
+presses-releases s (i ∷ more) h = ap presses (apart (s.holder i) (releases s more) h) ∙ presses-release (s.holder i) (releases s more ++ h) ∙ presses-releases s more h
+
+presses-move : (move : Move) (h : List Event) → presses (events_of move ++ h) ≡ presses h + presses_of move
+presses-move (Hold k i) h = omega arith
+presses-move (Turn k l) h = omega arith
+presses-move (LetGo k i) h = omega arith
+
+presses-along : (path : List Move) → presses (events_along path) ≡ presses_along path
+presses-along [] = refl
+presses-along (move ∷ path) = presses-move move (events_along path) ∙ ap (λ n. n + presses_of move) (presses-along path)
+
+pub presses-script : (path : List Move) (k : ℕ) → presses (script path k) ≡ suc (presses_along path)
+presses-script path k = presses-releases (state_after path) modifiers (Press k ∷ events_along path) ∙ ap suc (presses-along path)
+
+left-after : (ms : Maps) (path : List Move) → IsPath ms.first path → (i : Modifier) (k : ℕ) → Forgets ms.first (state_after path) i k → IsLeft ms (script path k) i
+left-after ms path is i k forgets =
     let x : Stands ms (events_along path) (state_after path) = stands ms path is in
-    let left : IsLeft ms (script path k) i = left-releases ms (Press k ∷ events_along path) (state_after path) i modifiers x.key (left-character ms (events_along path) (state_after path) i k x forgets) in
-    (left.keys, left.no_loads, quiet-after ms (events_along path) (state_after path) i k x forgets.0, left.on)
+    left-releases ms (Press k ∷ events_along path) (state_after path) i modifiers x.key (left-character ms (events_along path) (state_after path) i k x forgets)
+
+pub sticks_if_reached : SticksIfReached
+sticks_if_reached m path is i k forgets =
+    let ms : Maps = between m m in (
+      (left-after ms path is i k forgets).keys,
+      of_keys-releases (state_after path) modifiers (Press k ∷ events_along path) (All-cons IsPressOrRelease (Press k) (events_along path) tt (of_keys-along path)),
+      (
+        quiet-after ms (events_along path) (state_after path) i k (stands ms path is) forgets.0,
+        (λ ns first. (left-after ns path (subst (λ x. IsPath x path) (sym first) is) i k (subst (λ x. Forgets x (state_after path) i k) (sym first) forgets)).on),
+      ),
+    )
 
 -- the states that paths lead to
 abbrev Reached : MapValue → State → Type 0
 Reached m s = (path : List Move) × IsPath m path × (state_after path ≡ s)
 
-reached-safe : (m : MapValue) → ((path : List Move) → IsPath m path → IsForgetful m (state_after path) → ⊥) → IsSafeSet m (Reached m)
-reached-safe m never = record {
+reached-more : (m : MapValue) (s : State) (move : Move) → Reached m s → IsMove m s move → Reached m (moved s move)
+reached-more m s move there is = (move ∷ there.0, (subst (λ x. IsMove m x move) (sym there.2) is, there.1), ap (λ x. moved x move) there.2)
+
+reached-safe : (m : MapValue) → ((path : List Move) → IsPath m path → IsForgetful m (state_after path) → ⊥) → (n : ℕ) → IsSafeBelow m n (λ p s. Reached m s)
+reached-safe m never n = record {
   start = ([], tt, refl);
-  closed = λ s move there is. (move ∷ there.0, (subst (λ x. IsMove m x move) (sym there.2) is, there.1), ap (λ x. moved x move) there.2);
-  safe = λ s there forgetful. never there.0 there.1 (subst (λ x. IsForgetful m x) (sym there.2) forgetful);
+  let_go = λ p lt s k i there h. reached-more m s (LetGo k i) there h;
+  more = λ p s there. there;
+  hold = λ p lt s k i there is. reached-more m s (Hold k i) there is;
+  turn = λ p lt s k l there is. reached-more m s (Turn k l) there is;
+  safe = λ p lt s there forgetful. never there.0 there.1 (subst (λ x. IsForgetful m x) (sym there.2) forgetful);
 }
 
 pub never_sticks_unless_reached : NeverSticksUnlessReached
-never_sticks_unless_reached ms never = never-sticks ms (Reached ms.first) (reached-safe ms.first never)
+never_sticks_unless_reached m never = never-sticks m (λ p s. Reached m s) (reached-safe m never)

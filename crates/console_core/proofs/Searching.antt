@@ -1,28 +1,35 @@
--- What was met stays met, and once all that was met is done, the states that were met are a safe set.
-use Rattle.std.proofs.Common.{◌≡◌, ◌≢◌, ℕ, ◌<◌, ◌≤◌, Bool, true, false, ◌⊎◌, inl, inr, IfSome, ◌&&◌, not, List, [], ◌∷◌, ◌++◌, length, get_or, Option, Some, None, refl, ap, subst, sym, ◌∙◌, arith, append_assoc, if◌then◌else◌}
-use mathlib.Core.Bool.{beq}
-use Rattle.std.specs.Option.{option_eq}
-use Rattle.std.specs.Cmp.Lexicographic.{pointwise}
-use Rattle.std.proofs.lemmas.Bool.{and_parts, true≢false}
-use Rattle.std.specs.List.{Contains}
-use Rattle.std.proofs.lemmas.List.{get_or_append_left, get_or_default}
-use Rattle.std.proofs.lemmas.List.Elements.{Contains-append_left}
+-- What was met stays met, and what the search concludes from it.
+use Prim.Native.Nat.{zero, suc}
+use Rattle.std.proofs.Common.{◌≡◌, ◌≢◌, ℕ, ◌+◌, ◌<◌, ◌≤◌, Bool, true, false, cond, ◌⊎◌, inl, inr, All, IfSome, not, List, [], ◌∷◌, ◌++◌, length, get_or, take, slice_get, slice_index_or, Option, Some, None, refl, ap, subst, sym, ◌∙◌, arith, append_assoc, if◌then◌else◌}
+use Rattle.std.proofs.lemmas.Bool.{cases_lt, true≢false}
+use Rattle.std.proofs.lemmas.Option.{slice_get_within, get_or_from_slice_get}
+use Rattle.std.proofs.lemmas.List.{append-nil, take_more}
+use Rattle.std.proofs.lemmas.List.Elements.{All-nil, All-cons, All-append}
 use Rattle.keymap_core.specs.declared.action.Modifier.{Modifier}
 use Rattle.keymap_core.specs.declared.action.Modifier.TheVariants.{LeftShift, RightShift, LeftControl, RightControl, LeftAlt, RightAlt, AltShift, Meta}
 use Rattle.keymap_core.specs.declared.action.Lock.{Lock}
 use Rattle.keymap_core.specs.declared.action.Lock.TheVariants.{Caps, Num, Scroll, Alt}
-use Rattle.keymap_core.specs.Actions.{same_lock, modifiers, modifier_index}
+use Rattle.keymap_core.specs.Actions.{same_lock, modifiers, modifier_index, lock_index}
 use Rattle.keymap_core.specs.Maps.{MapValue}
-use Rattle.console_core.specs.declared.search.Standing.{Standing}
-use Rattle.console_core.specs.Reading.{is_some}
-use Rattle.console_core.specs.History.{Maps}
-use Rattle.console_core.specs.Sticking.{State, start, look_in, Holds, with_holder, with_turned, Move, IsMove, moved, IsForgetful, IsSafeSet, NeverSticks, IsPath, state_after, Forgets, script}
-use Rattle.console_core.specs.Sticking.Move.{Hold, Turn, LetGo}
-use Rattle.console_core.specs.Searching.{state_of, IsMet, Grows, ArePressesMet, IsLetGoMet, IsDone, AreDone, IsNext, AreNext, AreReached, CanStick}
-use Rattle.console_core.proofs.Staying.{never-sticks}
-use Rattle.console_core.proofs.Scripts.{sticks_if_reached}
+use Rattle.console_core.specs.declared.event.Event.{Event}
+use Rattle.console_core.specs.declared.event.Event.TheVariants.{Press}
+use Rattle.console_core.specs.declared.held.Held.{Held}
+use Rattle.console_core.specs.declared.held.Move.{Move}
+use Rattle.console_core.specs.declared.held.Step.{Step}
+use Rattle.console_core.specs.declared.search.Origin.{Origin}
+use Rattle.std.specs.Option.{is_some}
+use Rattle.std.specs.Map.{lookup}
+use Rattle.indexmap.specs.IndexMap.{insert_entry}
+use Rattle.console_core.specs.declared.held.Move.TheVariants.{Hold, Turn, LetGo}
+use Rattle.console_core.specs.Moves.{State, start, look_in, Holds, with_holder, with_turned, IsMove, moved, IsForgetful, IsPath, state_after, presses_of, presses_along, Forgets, script, events_of, events_along, release_of, releases}
+use Rattle.console_core.specs.Searching.{state_of, Entry, Entries, Grows, IsStep, IsMetBy, IsLetGoMet, ArePressesMet, AreWithin, IsFrom, AreAdded, IsTrail, IsReached, IsClosed, IsPressed, Searched, AreInOrder, IsStuck, GoBack, IsScriptTo}
+use Rattle.console_core.specs.History.{HasKeys, HasNoLoads}
+use Rattle.console_core.specs.Sticking.{NeverSticks, LeavesOn, HasFewestPresses, SticksAfter, presses}
+use Rattle.console_core.proofs.Staying.{IsSafeBelow, never-sticks, sticks-late}
+use Rattle.console_core.proofs.Scripts.{sticks_if_reached, presses-script}
 use mathlib.Core.Path.{fun_ext}
 
+-- the modifiers by their places
 modifier_at : (i : Modifier) (d : Modifier) → get_or modifiers (modifier_index i) d ≡ i
 modifier_at LeftShift d = refl
 modifier_at RightShift d = refl
@@ -33,70 +40,384 @@ modifier_at RightAlt d = refl
 modifier_at AltShift d = refl
 modifier_at Meta d = refl
 
--- standings that test equal are one
-pointwise_equal : {X : Type 0} (E : X → X → Bool) → ((a b : X) → E a b ≡ true → a ≡ b) → (xs ys : List X) → pointwise E xs ys ≡ true → xs ≡ ys
-pointwise_equal E f [] [] e = refl
-pointwise_equal E f (x ∷ xs) (y ∷ ys) e =
-    let p : (E x y ≡ true) × (pointwise E xs ys ≡ true) = and_parts _ _ e in
-    ap (λ z. z ∷ xs) (f x y p.0) ∙ ap (λ zs. y ∷ zs) (pointwise_equal E f xs ys p.1)
-pointwise_equal E f [] (y ∷ ys) e = absurd (true≢false (sym e))
-pointwise_equal E f (x ∷ xs) [] e = absurd (true≢false (sym e))
-
-option_equal : (E : ℕ → ℕ → Bool) → ((a b : ℕ) → E a b ≡ true → a ≡ b) → (a b : Option ℕ) → option_eq E a b ≡ true → a ≡ b
-option_equal E f None None e = refl
-option_equal E f (Some a) (Some b) e = ap (λ x. Some x) (f a b e)
-option_equal E f None (Some b) e = absurd (true≢false (sym e))
-option_equal E f (Some a) None e = absurd (true≢false (sym e))
-
-pub same_bools : (a b : Bool) → beq a b ≡ true → a ≡ b
-same_bools true true e = refl
-same_bools false false e = refl
-same_bools true false e = absurd (true≢false (sym e))
-same_bools false true e = absurd (true≢false (sym e))
-
-pub same_standings : (E : ℕ → ℕ → Bool) (F : Bool → Bool → Bool) → ((a b : ℕ) → E a b ≡ true → a ≡ b) → ((a b : Bool) → F a b ≡ true → a ≡ b) → (x y : Standing) → (pointwise (option_eq E) x.holders y.holders && pointwise F x.locks y.locks) ≡ true → x ≡ y
-same_standings E F f g x y e =
-    let p : (pointwise (option_eq E) x.holders y.holders ≡ true) × (pointwise F x.locks y.locks ≡ true) = and_parts _ _ e in
-    ap (λ h. record { holders = h; locks = x.locks }) (pointwise_equal (option_eq E) (option_equal E f) x.holders y.holders p.0)
-    ∙ ap (λ l. record { holders = y.holders; locks = l }) (pointwise_equal F g x.locks y.locks p.1)
-
--- what was met stays met
-pub grows-again : (a b c : List Standing) → Grows a b → Grows b c → Grows a c
-grows-again a b c p q = (p.0 ++ q.0, q.1 ∙ ap (λ x. x ++ q.0) p.1 ∙ append_assoc a p.0 q.0)
-
-pub met-grows : (a b : List Standing) (s : State) → Grows a b → IsMet a s → IsMet b s
-met-grows a b s g p = (p.0, subst (λ x. Contains x p.0) (sym g.1) (Contains-append_left a g.0 p.0 p.1), p.2)
-
-pub let_go-grows : (a b : List Standing) (s : State) (i : Modifier) → Grows a b → IsLetGoMet a s i → IsLetGoMet b s i
-let_go-grows a b s i g p k h = met-grows a b (with_holder s i None) g (p k h)
-
-pub presses-grow : (m : MapValue) (a b : List Standing) (s : State) (k : ℕ) → Grows a b → ArePressesMet m a s k → ArePressesMet m b s k
-presses-grow m a b s k g p idle =
-    ((λ i seen free. met-grows a b (with_holder s i (Some k)) g ((p idle).0 i seen free)), (λ l other seen. met-grows a b (with_turned s l) g ((p idle).1 l other seen)))
-
-pub done-grows : (m : MapValue) (a b : List Standing) (s : State) → Grows a b → IsDone m a s → IsDone m b s
-done-grows m a b s g d = record {
-  let_gos = λ i. let_go-grows a b s i g (d.let_gos i);
-  presses = λ k lt. presses-grow m a b s k g (d.presses k lt);
-  safe = d.safe;
-}
-
--- the place below the length is as before
-place-grows : (a b : List Standing) (k : ℕ) (x : Standing) → Grows a b → k < length a → get_or b k x ≡ x → get_or a k x ≡ x
-place-grows a b k x g lt e = sym (get_or_append_left a g.0 x k lt) ∙ ap (λ y. get_or y k x) (sym g.1) ∙ e
-
-pub are_done-grow : (m : MapValue) (a b : List Standing) (n : ℕ) → n ≤ length a → Grows a b → AreDone m a n → AreDone m b n
-are_done-grow m a b n le g d k lt x e = done-grows m a b (state_of x) g (d k lt x (place-grows a b k x g (omega arith) e))
-
--- the state at a place that is done
-pub done-here : (m : MapValue) (a b : List Standing) (n : ℕ) (x d : Standing) → Grows a b → n < length a → d ≡ get_or a n d → get_or b n x ≡ x → IsDone m b (state_of d) → IsDone m b (state_of x)
-done-here m a b n x d g lt e f done =
-    let p : d ≡ x = e ∙ get_or_default a n d x lt ∙ place-grows a b n x g lt f in
-    subst (λ y. IsDone m b (state_of y)) p done
-
--- the modifiers by their places
 pub modifier-at : (i : Modifier) (n : ℕ) (d : Modifier) → modifier_index i ≡ n → get_or modifiers n d ≡ i
 modifier-at i n d e = subst (λ x. get_or modifiers x d ≡ i) e (modifier_at i d)
+
+-- entries by their places
+pub none_entry : (x : Entry) → None ≡ Some x → ⊥
+none_entry x e = cc
+
+pub some_entries : (x y : Entry) → Some x ≡ Some y → x ≡ y
+some_entries x y e = cc
+
+at-append : (es more : Entries) (j : ℕ) (x : Entry) → slice_get es j ≡ Some x → slice_get (es ++ more) j ≡ Some x
+at-append [] more j x e = absurd (none_entry x e)
+at-append (y ∷ es) more zero x e = e
+at-append (y ∷ es) more (suc j) x e = at-append es more j x e
+
+at-now : (es now : Entries) (j : ℕ) (x : Entry) → Grows es now → slice_get es j ≡ Some x → slice_get now j ≡ Some x
+at-now es now j x g e = subst (λ y. slice_get y j ≡ Some x) (sym g.1) (at-append es g.0 j x e)
+
+at_old : (es more : Entries) (j : ℕ) (x : Entry) → j < length es → slice_get (es ++ more) j ≡ Some x → slice_get es j ≡ Some x
+at_old [] more j x lt e = absurd (omega (arith, lt))
+at_old (y ∷ es) more zero x lt e = e
+at_old (y ∷ es) more (suc j) x lt e = at_old es more j x (omega (arith, lt)) e
+
+at_new : (es more : Entries) (j : ℕ) (x : Entry) → length es ≤ j → slice_get (es ++ more) j ≡ Some x → (n : ℕ) × (slice_get more n ≡ Some x)
+at_new [] more j x le e = (j, e)
+at_new (y ∷ es) more zero x le e = absurd (omega (arith, le))
+at_new (y ∷ es) more (suc j) x le e = at_new es more j x (omega (arith, le)) e
+
+at_last : (es : Entries) (x : Entry) → slice_get (es ++ x ∷ []) (length es) ≡ Some x
+at_last [] x = refl
+at_last (y ∷ es) x = at_last es x
+
+all-at : (P : Entry → Type 0) (xs : Entries) (n : ℕ) (x : Entry) → All P xs → slice_get xs n ≡ Some x → P x
+all-at P xs n x all e = subst P (get_or_from_slice_get xs n x x e) (all n x (slice_get_within xs n x e))
+
+-- an entry of the longer list is old or was added
+from-cases : (m : MapValue) (s : State) (place n p : ℕ) (es now : Entries) → AreAdded m s place n p es now → (j : ℕ) (x : Entry) → slice_get now j ≡ Some x
+    → (slice_get es j ≡ Some x) ⊎ ((length es ≤ j) × IsFrom m s place n p x)
+from-cases m s place n p es now (more, e, all) j x at =
+    let there : slice_get (es ++ more) j ≡ Some x = subst (λ y. slice_get y j ≡ Some x) e at in
+    elim (cases_lt j (length es)) [
+      | inl lt ↦ inl (at_old es more j x lt there)
+      | inr le ↦ let k : (i : ℕ) × (slice_get more i ≡ Some x) = at_new es more j x le there in inr (le, all-at (IsFrom m s place n p) more k.0 x all k.1)
+    ]
+
+pub added-grows : (m : MapValue) (s : State) (place n p : ℕ) (es now : Entries) → AreAdded m s place n p es now → Grows es now
+added-grows m s place n p es now a = (a.0, a.1)
+
+pub added-none : (m : MapValue) (s : State) (place n p : ℕ) (es : Entries) → AreAdded m s place n p es es
+added-none m s place n p es = ([], sym (append-nil es), All-nil (IsFrom m s place n p))
+
+pub added-again : (m : MapValue) (s : State) (place n p : ℕ) (a b c : Entries) → AreAdded m s place n p a b → AreAdded m s place n p b c → AreAdded m s place n p a c
+added-again m s place n p a b c x y =
+    (x.0 ++ y.0, y.1 ∙ ap (λ z. z ++ y.0) x.1 ∙ append_assoc a x.0 y.0, All-append (IsFrom m s place n p) x.0 y.0 x.2 y.2)
+
+pub added-longer : (es now : Entries) → Grows es now → length es ≤ length now
+added-longer es now g = subst (λ y. length es ≤ length y) (sym g.1) (longer es g.0)
+  where
+    longer : (xs ys : Entries) → length xs ≤ length (xs ++ ys)
+    longer [] ys = omega arith
+    longer (x ∷ xs) ys = let l : length xs ≤ length (xs ++ ys) = longer xs ys in omega (arith, l)
+
+one_entry : (x : Entry) (j : ℕ) (y : Entry) → slice_get (x ∷ []) j ≡ Some y → (j ≡ 0) × (y ≡ x)
+one_entry x zero y e = (refl, sym (some_entries x y e))
+one_entry x (suc j) y e = absurd (none_entry y e)
+
+pub grows-again : (a b c : Entries) → Grows a b → Grows b c → Grows a c
+grows-again a b c g h = (g.0 ++ h.0, h.1 ∙ ap (λ z. z ++ h.0) g.1 ∙ append_assoc a g.0 h.0)
+
+-- what was met stays met
+pub met-grows : (es now : Entries) (p : ℕ) (s : State) → Grows es now → IsMetBy es p s → IsMetBy now p s
+met-grows es now p s g (j, x, at, is, le) = (j, x, at-now es now j x g at, is, le)
+
+pub met-last : (es : Entries) (p : ℕ) (x : Entry) → x.1.presses ≤ p → IsMetBy (es ++ x ∷ []) p (state_of x.0)
+met-last es p x le = (length es, x, at_last es x, refl, le)
+
+pub let_go-grows : (es now : Entries) (p : ℕ) (s : State) (i : Modifier) → Grows es now → IsLetGoMet es p s i → IsLetGoMet now p s i
+let_go-grows es now p s i g met k h = met-grows es now p (with_holder s i None) g (met k h)
+
+pub presses-grow : (m : MapValue) (es now : Entries) (p : ℕ) (s : State) (k : ℕ) → Grows es now → ArePressesMet m es p s k → ArePressesMet m now p s k
+presses-grow m es now p s k g met idle =
+    ((λ i seen free. met-grows es now p (with_holder s i (Some k)) g ((met idle).0 i seen free)), (λ l other seen. met-grows es now p (with_turned s l) g ((met idle).1 l other seen)))
+
+closed-grows : (m : MapValue) (es now : Entries) (x : Entry) → Grows es now → IsClosed m es x → IsClosed m now x
+closed-grows m es now x g (met, safe) = ((λ i. let_go-grows es now x.1.presses (state_of x.0) i g (met i)), safe)
+
+pressed-grows : (m : MapValue) (es now : Entries) (x : Entry) → Grows es now → IsPressed m es x → IsPressed m now x
+pressed-grows m es now x g met k lt = presses-grow m es now (x.1.presses + 1) (state_of x.0) k g (met k lt)
+
+trail-grows : (es now : Entries) (j : ℕ) (path : List Move) → Grows es now → IsTrail es j path → IsTrail now j path
+trail-grows es now j [] g (x, at, none) = (x, at-now es now j x g at, none)
+trail-grows es now j (move ∷ path) g (x, parent, at, last, lt, rest) = (x, parent, at-now es now j x g at, last, lt, trail-grows es now parent path g rest)
+
+reached-grows : (m : MapValue) (es now : Entries) (j : ℕ) (x : Entry) → Grows es now → IsReached m es j x → IsReached m now j x
+reached-grows m es now j x g (path, trail, is, leads, count) = (path, trail-grows es now j path g trail, is, leads, count)
+
+-- a move from where a path leads goes on with the path
+reached-next : (m : MapValue) (es now : Entries) (place n p : ℕ) (y : Entry) → Grows es now → IsReached m es place y → p ≡ y.1.presses + n
+    → (j : ℕ) (x : Entry) → slice_get now j ≡ Some x → place < j → IsFrom m (state_of y.0) place n p x → IsReached m now j x
+reached-next m es now place n p y g (path, trail, is, leads, count) e j x at lt (by, by_p, last, move, next, by_n) = (
+  by ∷ path,
+  (x, place, at, last, lt, trail-grows es now place path g trail),
+  (subst (λ s. IsMove m s by) (sym leads) move, is),
+  ap (λ s. moved s by) leads ∙ sym next,
+  ap (λ q. q + presses_of by) count ∙ ap (λ q. y.1.presses + q) by_n ∙ sym e ∙ sym by_p,
+)
+
+pub searched-grows : (m : MapValue) (es now : Entries) (place n p a b : ℕ) (y : Entry) → slice_get es place ≡ Some y → p ≡ y.1.presses + n
+    → AreAdded m (state_of y.0) place n p es now → a ≤ length es → b ≤ length es → Searched m es a b → Searched m now a b
+searched-grows m es now place n p a b y here e added le_a le_b s =
+    let g : Grows es now = (added.0, added.1) in
+    let lt : place < length es = slice_get_within es place y here in
+    let either : (j : ℕ) (x : Entry) → slice_get now j ≡ Some x → (slice_get es j ≡ Some x) ⊎ ((length es ≤ j) × IsFrom m (state_of y.0) place n p x) = from-cases m (state_of y.0) place n p es now added in
+    record {
+      start = met-grows es now 0 start g s.start;
+      reached = λ j x at. elim (either j x at) [
+        | inl old ↦ reached-grows m es now j x g (s.reached j x old)
+        | inr new ↦ reached-next m es now place n p y g (s.reached place y here) e j x at (let le : length es ≤ j = new.0 in omega (arith, lt, le)) new.1
+      ];
+      pressed = λ j x at below. elim (either j x at) [
+        | inl old ↦ pressed-grows m es now x g (s.pressed j x old below)
+        | inr new ↦ let le : length es ≤ j = new.0 in absurd (omega (arith, below, le_a, le))
+      ];
+      closed = λ j x at below. elim (either j x at) [
+        | inl old ↦ closed-grows m es now x g (s.closed j x old below)
+        | inr new ↦ let le : length es ≤ j = new.0 in absurd (omega (arith, below, le_b, le))
+      ];
+    }
+
+-- fewer of them are asked for
+pub searched-fewer : (m : MapValue) (es : Entries) (a b c d : ℕ) → c ≤ a → d ≤ b → Searched m es a b → Searched m es c d
+searched-fewer m es a b c d le_c le_d s = record {
+  start = s.start;
+  reached = s.reached;
+  pressed = λ j x at lt. s.pressed j x at (omega (arith, lt, le_c));
+  closed = λ j x at lt. s.closed j x at (omega (arith, lt, le_d));
+}
+
+-- one place more is closed, or pressed
+place_last : (j n : ℕ) → j < n + 1 → (j < n) ⊎ (j ≡ n)
+place_last j n lt = elim (cases_lt j n) [ inl below ↦ inl below | inr le ↦ inr (omega (arith, lt, le)) ]
+
+same_entry : (es : Entries) (j n : ℕ) (x y : Entry) → j ≡ n → slice_get es j ≡ Some x → slice_get es n ≡ Some y → y ≡ x
+same_entry es j n x y e at here = some_entries y x (sym here ∙ ap (λ k. slice_get es k) (sym e) ∙ at)
+
+pub searched-closed : (m : MapValue) (es : Entries) (a n : ℕ) (y : Entry) → slice_get es n ≡ Some y → IsClosed m es y → Searched m es a n → Searched m es a (n + 1)
+searched-closed m es a n y here closed s = record {
+  start = s.start;
+  reached = s.reached;
+  pressed = s.pressed;
+  closed = λ j x at lt. elim (place_last j n lt) [
+    | inl below ↦ s.closed j x at below
+    | inr e ↦ subst (λ z. IsClosed m es z) (same_entry es j n x y e at here) closed
+  ];
+}
+
+pub searched-pressed : (m : MapValue) (es : Entries) (n b : ℕ) (y : Entry) → slice_get es n ≡ Some y → IsPressed m es y → Searched m es n b → Searched m es (n + 1) b
+searched-pressed m es n b y here pressed s = record {
+  start = s.start;
+  reached = s.reached;
+  closed = s.closed;
+  pressed = λ j x at lt. elim (place_last j n lt) [
+    | inl below ↦ s.pressed j x at below
+    | inr e ↦ subst (λ z. IsPressed m es z) (same_entry es j n x y e at here) pressed
+  ];
+}
+
+-- the order by presses
+pub order-grows : (m : MapValue) (s : State) (place n p level : ℕ) (es now : Entries) → AreAdded m s place n p es now → level ≤ length es → AreInOrder es level p → AreInOrder now level p
+order-grows m s place n p level es now added le order j x at =
+    elim (from-cases m s place n p es now added j x at) [
+      | inl old ↦ order j x old
+      | inr (after, from) ↦ ((λ lt. absurd (omega (arith, lt, le, after))), (λ le_j. from.1))
+    ]
+
+pub order-within : (es : Entries) (level p : ℕ) → AreInOrder es level p → AreWithin es p
+order-within es level p order j x at =
+    elim (cases_lt j level) [
+      | inl below ↦ let lt : x.1.presses < p = (order j x at).0 below in omega (arith, lt)
+      | inr le ↦ let e : x.1.presses ≡ p = (order j x at).1 le in omega (arith, e)
+    ]
+
+pub order-next : (es : Entries) (level p : ℕ) → AreInOrder es level p → AreInOrder es (length es) (p + 1)
+order-next es level p order j x at =
+    let lt : j < length es = slice_get_within es j x at in
+    ((λ below. let le : x.1.presses ≤ p = order-within es level p order j x at in omega (arith, le)), (λ le. absurd (omega (arith, lt, le))))
+
+pub within-grows : (m : MapValue) (s : State) (place n p : ℕ) (es now : Entries) → AreAdded m s place n p es now → AreWithin es p → AreWithin now p
+within-grows m s place n p es now added within j x at =
+    elim (from-cases m s place n p es now added j x at) [
+      | inl old ↦ within j x old
+      | inr (after, from) ↦ let e : x.1.presses ≡ p = from.1 in omega (arith, e)
+    ]
+
+-- what a call of `meet` adds
+pub meet-new : (es now : Entries) (place p : ℕ) (x : Step) → now ≡ es ++ (x.to, record { presses = p; last = Some (place, x.by) }) ∷ [] → AreWithin es p
+    → IsMetBy now p (state_of x.to) × AreWithin now p × Grows es now
+    × ((m : MapValue) (h : Held) (n : ℕ) → IsStep m (state_of h) n x → AreAdded m (state_of h) place n p es now)
+meet-new es now place p x e within =
+    let entry : Entry = (x.to, record { presses = p; last = Some (place, x.by) }) in (
+      subst (λ y. IsMetBy y p (state_of x.to)) (sym e) (met-last es p entry (omega arith)),
+      (λ j y at. elim (cases_lt j (length es)) [
+        | inl lt ↦ within j y (at_old es (entry ∷ []) j y lt (subst (λ z. slice_get z j ≡ Some y) e at))
+        | inr le ↦
+            let k : (i : ℕ) × (slice_get (entry ∷ []) i ≡ Some y) = at_new es (entry ∷ []) j y le (subst (λ z. slice_get z j ≡ Some y) e at) in
+            all-at (λ z. z.1.presses ≤ p) (entry ∷ []) k.0 y (All-cons (λ z. z.1.presses ≤ p) entry [] (omega arith) (All-nil (λ z. z.1.presses ≤ p))) k.1
+      ]),
+      (entry ∷ [], e),
+      (λ m h n (is, to, by). (entry ∷ [], e, All-cons (IsFrom m (state_of h) place n p) entry [] (x.by, refl, refl, is, to, by) (All-nil (IsFrom m (state_of h) place n p)))),
+    )
+
+abbrev IsFound : Entries → Held → Type 0
+IsFound es k = (j : ℕ) × (x : Entry) × (slice_get es j ≡ Some x) × (state_of k ≡ state_of x.0)
+
+found_by : (E : Held → Held → Bool) → ((a b : Held) → E a b ≡ true → state_of a ≡ state_of b) → (y : Entry) (es : Entries) (k : Held) (b : Bool) → E k y.0 ≡ b
+    → is_some (cond b (Some y.1) (lookup (E k) es)) ≡ true → (is_some (lookup (E k) es) ≡ true → IsFound es k) → IsFound (y ∷ es) k
+found_by E same y es k true q e rest = (0, y, refl, same k y.0 q)
+found_by E same y es k false q e rest = let r : IsFound es k = rest e in (suc r.0, r.1, r.2, r.3)
+
+found : (E : Held → Held → Bool) → ((a b : Held) → E a b ≡ true → state_of a ≡ state_of b) → (es : Entries) (k : Held) → is_some (lookup (E k) es) ≡ true → IsFound es k
+found E same [] k e = absurd (true≢false (sym e))
+found E same (y ∷ es) k e = found_by E same y es k (E k y.0) refl e (found E same es k)
+
+-- what the tables are says the state
+abbrev state_from : List (Option ℕ) → List Bool → State
+state_from holders locks = record {
+  holder = λ i. slice_index_or holders (modifier_index i) None;
+  is_locked = λ l. slice_index_or locks (lock_index l) false;
+}
+
+pub same-state : (x y : Held) → (x.holders ≡ y.holders) × (x.locks ≡ y.locks) → state_of x ≡ state_of y
+same-state x y e = ap (λ z. state_from z x.locks) e.0 ∙ ap (λ z. state_from y.holders z) e.1
+
+pub meet-old : (E : Held → Held → Bool) → ((a b : Held) → E a b ≡ true → state_of a ≡ state_of b) → (es : Entries) (p : ℕ) (k : Held) → is_some (lookup (E k) es) ≡ true → AreWithin es p
+    → IsMetBy es p (state_of k)
+meet-old E same es p k e within =
+    let r : IsFound es k = found E same es k e in
+    (r.0, r.1, r.2, sym r.3, within r.0 r.1 r.2)
+
+pub not_some : (o : Option Origin) → is_some o ≡ false → o ≡ None
+not_some None e = refl
+not_some (Some x) e = absurd (true≢false e)
+
+-- one place of a level is closed
+pub close-step : (m : MapValue) (es now : Entries) (level p n : ℕ) (y : Entry) → Searched m es level n → AreInOrder es level p → level ≤ n → slice_get es n ≡ Some y
+    → (IsForgetful m (state_of y.0) → ⊥) → AreAdded m (state_of y.0) n 0 p es now → ((i : Modifier) → IsLetGoMet now p (state_of y.0) i)
+    → Searched m now level (n + 1) × AreInOrder now level p
+close-step m es now level p n y s order le here safe added met =
+    let lt : n < length es = slice_get_within es n y here in
+    let e : y.1.presses ≡ p = (order n y here).1 le in
+    let below : level ≤ length es = omega (arith, le, lt) in
+    let grown : Searched m now level n = searched-grows m es now n 0 p level n y here (omega (arith, e)) added below (omega (arith, lt)) s in
+    let closed : IsClosed m now y = ((λ i. subst (λ q. IsLetGoMet now q (state_of y.0) i) (sym e) (met i)), safe) in
+    (searched-closed m now level n y (at-now es now n y (added.0, added.1) here) closed grown, order-grows m (state_of y.0) n 0 p level es now added below order)
+
+-- one place of a level is pressed
+pub press-step : (m : MapValue) (old es now : Entries) (level p n : ℕ) (y : Entry) → Searched m es n (length old) → AreInOrder old level p → Grows old es
+    → AreInOrder es (length old) (p + 1) → level ≤ n → n < length old → slice_get es n ≡ Some y
+    → AreAdded m (state_of y.0) n 1 (p + 1) es now → ((k : ℕ) → k < 128 → ArePressesMet m now (p + 1) (state_of y.0) k)
+    → Searched m now (n + 1) (length old) × AreInOrder now (length old) (p + 1) × Grows old now
+press-step m old es now level p n y s before g order le lt here added met =
+    let was : slice_get old n ≡ Some y = at_old old g.0 n y lt (subst (λ z. slice_get z n ≡ Some y) g.1 here) in
+    let e : y.1.presses ≡ p = (before n y was).1 le in
+    let longer : length old ≤ length es = added-longer old es g in
+    let grown : Searched m now n (length old) = searched-grows m es now n 1 (p + 1) n (length old) y here (omega (arith, e)) added (omega (arith, lt, longer)) longer s in
+    let pressed : IsPressed m now y = λ k below. subst (λ q. ArePressesMet m now (q + 1) (state_of y.0) k) (sym e) (met k below) in (
+      searched-pressed m now n (length old) y (at-now es now n y (added.0, added.1) here) pressed grown,
+      order-grows m (state_of y.0) n 1 (p + 1) (length old) es now added longer order,
+      grows-again old es now g (added.0, added.1),
+    )
+
+-- the way back from a place
+pub searched-back : (m : MapValue) (es : Entries) (a b : ℕ) → Searched m es a b → GoBack es
+searched-back m es a b s j x parent by at last =
+    let r : IsReached m es j x = s.reached j x at in back r.0 r.1
+  where
+    some_last : (p q : ℕ × Move) → Some p ≡ Some q → p ≡ q
+    some_last p q e = cc
+
+    back : (path : List Move) → IsTrail es j path → parent < j
+    back [] (y, there, none) =
+        let e : Some (parent, by) ≡ None = sym last ∙ ap (λ z. z.1.last) (some_entries x y (sym at ∙ there)) ∙ none in absurd (no_last (parent, by) e)
+      where
+        no_last : (p : ℕ × Move) → Some p ≡ None → ⊥
+        no_last p f = cc
+    back (move ∷ path) (y, from, there, by_last, lt, rest) =
+        let e : Some (parent, by) ≡ Some (from, move) = sym last ∙ ap (λ z. z.1.last) (some_entries x y (sym at ∙ there)) ∙ by_last in
+        subst (λ n. n < j) (sym (ap (λ q. q.0) (some_last (parent, by) (from, move) e))) lt
+
+-- the moves that are left, where the last of them is told
+abbrev pub LeadsBy : Entries → Option (ℕ × Move) → List Move → Type 0
+LeadsBy es None [] = Unit {0}
+LeadsBy es None (move ∷ path) = ⊥
+LeadsBy es (Some last) [] = ⊥
+LeadsBy es (Some last) (move ∷ path) = (last.1 ≡ move) × IsTrail es last.0 path
+
+pub trail-leads : (es : Entries) (j : ℕ) (path : List Move) (x : Entry) → slice_get es j ≡ Some x → IsTrail es j path → LeadsBy es x.1.last path
+trail-leads es j [] x at (y, there, none) =
+    subst (λ l. LeadsBy es l []) (sym (ap (λ z. z.1.last) (some_entries x y (sym at ∙ there)) ∙ none)) tt
+trail-leads es j (move ∷ path) x at (y, parent, there, last, lt, rest) =
+    subst (λ l. LeadsBy es l (move ∷ path)) (sym (ap (λ z. z.1.last) (some_entries x y (sym at ∙ there)) ∙ last)) (refl, rest)
+
+pub leads-next : (es : Entries) (last : ℕ × Move) (items : List Event) (rest : List Move) (target : List Event) → LeadsBy es (Some last) rest → items ++ events_along rest ≡ target
+    → (y : Entry) → slice_get es last.0 ≡ Some y → (more : List Move) × ((items ++ events_of last.1) ++ events_along more ≡ target) × LeadsBy es y.1.last more
+leads-next es last items [] target none e y at = absurd none
+leads-next es last items (move ∷ path) target (by, trail) e y at = (
+  path,
+  append_assoc items (events_of last.1) (events_along path) ∙ ap (λ b. items ++ (events_of b ++ events_along path)) by ∙ e,
+  trail-leads es last.0 path y at trail,
+)
+
+pub leads-end : (es : Entries) (items : List Event) (rest : List Move) (target : List Event) → LeadsBy es None rest → items ++ events_along rest ≡ target → items ≡ target
+leads-end es items [] target x e = sym (append-nil items) ∙ e
+leads-end es items (move ∷ path) target none e = absurd none
+
+pub script-begin : (path : List Move) (k : ℕ) (s : State) (items : List Event) → state_after path ≡ s → items ≡ releases s modifiers ++ Press k ∷ [] → items ++ events_along path ≡ script path k
+script-begin path k s items at e =
+    ap (λ z. z ++ events_along path) e
+    ∙ append_assoc (releases s modifiers) (Press k ∷ []) (events_along path)
+    ∙ ap (λ t. releases t modifiers ++ Press k ∷ events_along path) (sym at)
+
+-- the releases of one holder more
+releases-append : (s : State) (xs ys : List Modifier) → releases s (xs ++ ys) ≡ releases s xs ++ releases s ys
+releases-append s [] ys = refl
+releases-append s (i ∷ xs) ys = ap (λ z. release_of (s.holder i) ++ z) (releases-append s xs ys) ∙ sym (append_assoc (release_of (s.holder i)) (releases s xs) (releases s ys))
+
+pub releases-more : (s : State) (n : ℕ) (d : Modifier) → n < 8 → releases s (take (n + 1) modifiers) ≡ releases s (take n modifiers) ++ release_of (s.holder (get_or modifiers n d))
+releases-more s n d lt =
+    ap (λ z. releases s z) (take_more modifiers n d lt)
+    ∙ releases-append s (take n modifiers) (get_or modifiers n d ∷ [])
+    ∙ ap (λ z. releases s (take n modifiers) ++ z) (append-nil (release_of (s.holder (get_or modifiers n d))))
+
+pub within-last : (es : Entries) (j : ℕ) (x : Entry) → GoBack es → slice_get es j ≡ Some x → IfSome x.1.last (λ last. last.0 < length es)
+within-last es j x back at = by x.1.last refl
+  where
+    by : (o : Option (ℕ × Move)) → x.1.last ≡ o → IfSome o (λ last. last.0 < length es)
+    by None e = tt
+    by (Some (parent, move)) e =
+        let lt : parent < j = back j x parent move at e in
+        let le : j < length es = slice_get_within es j x at in
+        omega (arith, lt, le)
+
+-- the places that are left on the way back
+abbrev pub places_left : Option (ℕ × Move) → ℕ
+places_left None = 0
+places_left (Some last) = last.0 + 1
+
+pub left-smaller : (es : Entries) (parent : ℕ) (move : Move) (y : Entry) (last : Option (ℕ × Move)) → GoBack es → slice_get es parent ≡ Some y → last ≡ Some (parent, move)
+    → places_left y.1.last < places_left last
+left-smaller es parent move y last back at e = subst (λ l. places_left y.1.last < places_left l) (sym e) (fewer y.1.last refl)
+  where
+    fewer : (o : Option (ℕ × Move)) → y.1.last ≡ o → places_left o < parent + 1
+    fewer None q = omega arith
+    fewer (Some (p, by)) q = let lt : p < parent = back parent y p by at q in omega (arith, lt)
+
+pub same-place : (es : Entries) (j : ℕ) (x y : Entry) → slice_get es j ≡ Some x → slice_get es j ≡ Some y → x ≡ y
+same-place es j x y at here = some_entries x y (sym at ∙ here)
+
+-- the search begins at the start
+pub start-entries : (E : Held → Held → Bool) (es now : Entries) (x : Entry) → es ≡ [] → now ≡ insert_entry E es x.0 x.1 → now ≡ x ∷ []
+start-entries E es now x none e = e ∙ ap (λ z. insert_entry E z x.0 x.1) none
+
+pub searched-start : (m : MapValue) (h : Held) → state_of h ≡ start → (es : Entries) → es ≡ (h, record { presses = 0; last = None }) ∷ []
+    → Searched m es 0 0 × AreInOrder es 0 0
+searched-start m h is es e =
+    let x : Entry = (h, record { presses = 0; last = None }) in
+    let only : (j : ℕ) (y : Entry) → slice_get es j ≡ Some y → (j ≡ 0) × (y ≡ x) = λ j y at. one_entry x j y (subst (λ z. slice_get z j ≡ Some y) e at) in
+    let first : slice_get es 0 ≡ Some x = ap (λ z. slice_get z 0) e in (
+      record {
+        start = (0, x, first, is, omega arith);
+        reached = λ j y at.
+            subst (λ z. IsReached m es j z) (sym (only j y at).1)
+            (subst (λ n. IsReached m es n x) (sym (only j y at).0) ([], (x, first, refl), tt, sym is, refl));
+        pressed = λ j y at lt. absurd (omega (arith, lt));
+        closed = λ j y at lt. absurd (omega (arith, lt));
+      },
+      (λ j y at. ((λ lt. absurd (omega (arith, lt))), (λ le. ap (λ z. z.1.presses) (only j y at).1))),
+    )
 
 -- the state without the scroll lock, which picks no cell
 abbrev but_scroll : (Lock → Bool) → Lock → Bool
@@ -107,9 +428,6 @@ but_scroll on Alt = on Alt
 
 abbrev unscrolled : State → State
 unscrolled s = record { holder = s.holder; is_locked = but_scroll s.is_locked }
-
-abbrev IsAmong : (State → Type 0) → State → Type 0
-IsAmong S s = (t : State) × S t × (unscrolled t ≡ unscrolled s)
 
 look-unscrolled : (m : MapValue) (s : State) (k : ℕ) → look_in m s k ≡ look_in m (unscrolled s) k
 look-unscrolled m s k = refl
@@ -149,79 +467,99 @@ scroll_turned on Alt = refl
 scroll-moved : (s : State) (k : ℕ) → unscrolled s ≡ unscrolled (moved s (Turn k Scroll))
 scroll-moved s k = ap (λ x. record { holder = s.holder; is_locked = x }) (fun_ext (λ j. scroll_turned s.is_locked j))
 
--- A set of states that turns of the scroll lock may leave is safe once it is made to ignore that lock.
-record IsSafeButScroll (m : MapValue) (S : State → Type 0) : Type 0 where
-  start : S start
-  hold : (s : State) (k : ℕ) (i : Modifier) → S s → IsMove m s (Hold k i) → S (with_holder s i (Some k))
-  turn : (s : State) (k : ℕ) (l : Lock) → S s → l ≢ Scroll → IsMove m s (Turn k l) → S (with_turned s l)
-  let_go : (s : State) (k : ℕ) (i : Modifier) → S s → Holds s k i → S (with_holder s i None)
-  safe : (s : State) → S s → IsForgetful m s → ⊥
+-- The states met by at most p presses, but for the scroll lock.
+abbrev IsAmong : Entries → ℕ → State → Type 0
+IsAmong es p s = (t : State) × IsMetBy es p t × (unscrolled t ≡ unscrolled s)
 
-among-closed : (m : MapValue) (S : State → Type 0) → IsSafeButScroll m S → (s : State) (move : Move) → IsAmong S s → IsMove m s move → IsAmong S (moved s move)
-among-closed m S x s (Hold k i) (t, there, e) is =
-    (with_holder t i (Some k), x.hold t k i there (moves-unscrolled m s t (Hold k i) e is), same_moved s t (Hold k i) e)
-among-closed m S x s (LetGo k i) (t, there, e) is =
-    (with_holder t i None, x.let_go t k i there (moves-unscrolled m s t (LetGo k i) e is), same_moved s t (LetGo k i) e)
-among-closed m S x s (Turn k Scroll) (t, there, e) is = (t, there, e ∙ scroll-moved s k)
-among-closed m S x s (Turn k Caps) (t, there, e) is =
-    (with_turned t Caps, x.turn t k Caps there (λ p. cc) (moves-unscrolled m s t (Turn k Caps) e is), same_moved s t (Turn k Caps) e)
-among-closed m S x s (Turn k Num) (t, there, e) is =
-    (with_turned t Num, x.turn t k Num there (λ p. cc) (moves-unscrolled m s t (Turn k Num) e is), same_moved s t (Turn k Num) e)
-among-closed m S x s (Turn k Alt) (t, there, e) is =
-    (with_turned t Alt, x.turn t k Alt there (λ p. cc) (moves-unscrolled m s t (Turn k Alt) e is), same_moved s t (Turn k Alt) e)
+met-more : (es : Entries) (p : ℕ) (s : State) → IsMetBy es p s → IsMetBy es (suc p) s
+met-more es p s (j, x, at, is, le) = (j, x, at, is, omega (arith, le))
 
-among-safe : (m : MapValue) (S : State → Type 0) → IsSafeButScroll m S → IsSafeSet m (IsAmong S)
-among-safe m S x = record {
-  start = (start, x.start, refl);
-  closed = among-closed m S x;
-  safe = λ s p forgetful. x.safe p.0 p.1 (subst (λ y. IsForgetful m y) (sym p.2) forgetful);
+met-up : (es : Entries) (p q : ℕ) (s : State) → p ≤ q → IsMetBy es p s → IsMetBy es q s
+met-up es p q s up (j, x, at, is, le) = (j, x, at, is, omega (arith, le, up))
+
+-- what is done of the states that were met by fewer presses than n
+record AreDone (m : MapValue) (es : Entries) (n : ℕ) : Type 0 where
+  start : IsMetBy es 0 start
+  pressed : (j : ℕ) (x : Entry) → slice_get es j ≡ Some x → x.1.presses < n → IsPressed m es x
+  closed : (j : ℕ) (x : Entry) → slice_get es j ≡ Some x → x.1.presses < n → IsClosed m es x
+
+done-let_go : (m : MapValue) (es : Entries) (n p : ℕ) → AreDone m es n → p < n → (t : State) (k : ℕ) (i : Modifier) → IsMetBy es p t → Holds t k i → IsMetBy es p (with_holder t i None)
+done-let_go m es n p d lt t k i (j, x, at, is, le) h =
+    let closed : IsClosed m es x = d.closed j x at (omega (arith, le, lt)) in
+    subst (λ s. IsMetBy es p (with_holder s i None)) is (met-up es x.1.presses p (with_holder (state_of x.0) i None) le (closed.0 i k (subst (λ s. Holds s k i) (sym is) h)))
+
+done-hold : (m : MapValue) (es : Entries) (n p : ℕ) → AreDone m es n → p < n → (t : State) (k : ℕ) (i : Modifier) → IsMetBy es p t → IsMove m t (Hold k i) → IsMetBy es (suc p) (with_holder t i (Some k))
+done-hold m es n p d lt t k i (j, x, at, is, le) move =
+    let there : IsMove m (state_of x.0) (Hold k i) = subst (λ s. IsMove m s (Hold k i)) (sym is) move in
+    let met : IsMetBy es (x.1.presses + 1) (with_holder (state_of x.0) i (Some k)) = (d.pressed j x at (omega (arith, le, lt)) k there.0 there.1).0 i there.2 there.3 in
+    subst (λ s. IsMetBy es (suc p) (with_holder s i (Some k))) is (met-up es (x.1.presses + 1) (suc p) (with_holder (state_of x.0) i (Some k)) (omega (arith, le)) met)
+
+done-turn : (m : MapValue) (es : Entries) (n p : ℕ) → AreDone m es n → p < n → (t : State) (k : ℕ) (l : Lock) → l ≢ Scroll → IsMetBy es p t → IsMove m t (Turn k l) → IsMetBy es (suc p) (with_turned t l)
+done-turn m es n p d lt t k l other (j, x, at, is, le) move =
+    let there : IsMove m (state_of x.0) (Turn k l) = subst (λ s. IsMove m s (Turn k l)) (sym is) move in
+    let met : IsMetBy es (x.1.presses + 1) (with_turned (state_of x.0) l) = (d.pressed j x at (omega (arith, le, lt)) k there.0 there.1).1 l other there.2 in
+    subst (λ s. IsMetBy es (suc p) (with_turned s l)) is (met-up es (x.1.presses + 1) (suc p) (with_turned (state_of x.0) l) (omega (arith, le)) met)
+
+done-safe : (m : MapValue) (es : Entries) (n p : ℕ) → AreDone m es n → p < n → (t : State) → IsMetBy es p t → IsForgetful m t → ⊥
+done-safe m es n p d lt t (j, x, at, is, le) forgetful = (d.closed j x at (omega (arith, le, lt))).1 (subst (λ s. IsForgetful m s) (sym is) forgetful)
+
+among-turn : (m : MapValue) (es : Entries) (n p : ℕ) → AreDone m es n → p < n → (s : State) (k : ℕ) (l : Lock) → IsAmong es p s → IsMove m s (Turn k l) → IsAmong es (suc p) (with_turned s l)
+among-turn m es n p d lt s k Scroll (t, there, e) is = (t, met-more es p t there, e ∙ scroll-moved s k)
+among-turn m es n p d lt s k Caps (t, there, e) is =
+    (with_turned t Caps, done-turn m es n p d lt t k Caps (λ q. cc) there (moves-unscrolled m s t (Turn k Caps) e is), same_moved s t (Turn k Caps) e)
+among-turn m es n p d lt s k Num (t, there, e) is =
+    (with_turned t Num, done-turn m es n p d lt t k Num (λ q. cc) there (moves-unscrolled m s t (Turn k Num) e is), same_moved s t (Turn k Num) e)
+among-turn m es n p d lt s k Alt (t, there, e) is =
+    (with_turned t Alt, done-turn m es n p d lt t k Alt (λ q. cc) there (moves-unscrolled m s t (Turn k Alt) e is), same_moved s t (Turn k Alt) e)
+
+done-safe_below : (m : MapValue) (es : Entries) (n : ℕ) → AreDone m es n → IsSafeBelow m n (IsAmong es)
+done-safe_below m es n d = record {
+  start = (start, d.start, refl);
+  let_go = λ p lt s k i (t, there, e) h.
+      (with_holder t i None, done-let_go m es n p d lt t k i there (moves-unscrolled m s t (LetGo k i) e h), same_moved s t (LetGo k i) e);
+  more = λ p s (t, there, e). (t, met-more es p t there, e);
+  hold = λ p lt s k i (t, there, e) is.
+      (with_holder t i (Some k), done-hold m es n p d lt t k i there (moves-unscrolled m s t (Hold k i) e is), same_moved s t (Hold k i) e);
+  turn = λ p lt s k l there is. among-turn m es n p d lt s k l there is;
+  safe = λ p lt s (t, there, e) forgetful. done-safe m es n p d lt t there (subst (λ y. IsForgetful m y) (sym e) forgetful);
 }
 
--- all that was met is done
-done_at : (m : MapValue) (met : List Standing) (n : ℕ) (s : State) → AreDone m met n → length met ≤ n → IsMet met s → IsDone m met s
-done_at m met n s d le p =
-    let lt : p.1.0 < length met = p.1.1 in
-    subst (λ y. IsDone m met y) p.2 (d p.1.0 (omega arith) p.0 p.1.2)
+-- all that was met is pressed and closed
+pub searched-never : (m : MapValue) (es : Entries) (n : ℕ) → length es ≤ n → Searched m es n n → NeverSticks m
+searched-never m es n le s =
+    never-sticks m (IsAmong es) (λ q. done-safe_below m es q (record {
+      start = s.start;
+      pressed = λ j x at lt. let below : j < length es = slice_get_within es j x at in s.pressed j x at (omega (arith, below, le));
+      closed = λ j x at lt. let below : j < length es = slice_get_within es j x at in s.closed j x at (omega (arith, below, le));
+    }))
 
-met-safe : (m : MapValue) (met : List Standing) (n : ℕ) → IsMet met start → AreDone m met n → length met ≤ n → IsSafeButScroll m (IsMet met)
-met-safe m met n first d le = record {
-  start = first;
-  hold = λ s k i there is. ((done_at m met n s d le there).presses k is.0 is.1).0 i is.2 is.3;
-  turn = λ s k l there other is. ((done_at m met n s d le there).presses k is.0 is.1).1 l other is.2;
-  let_go = λ s k i there h. (done_at m met n s d le there).let_gos i k h;
-  safe = λ s there forgetful. (done_at m met n s d le there).safe forgetful;
+-- those met by fewer presses than the level are pressed and closed
+level-done : (m : MapValue) (es : Entries) (level p : ℕ) → AreInOrder es level p → Searched m es level level → AreDone m es p
+level-done m es level p order s = record {
+  start = s.start;
+  pressed = λ j x at lt. s.pressed j x at (below j x at lt);
+  closed = λ j x at lt. s.closed j x at (below j x at lt);
 }
-
-pub met-never : (m : MapValue) (met : List Standing) (n : ℕ) → IsMet met start → AreDone m met n → length met ≤ n → (ms : Maps) → ms.first ≡ m → NeverSticks ms
-met-never m met n first d le ms e =
-    never-sticks ms (IsAmong (IsMet met)) (subst (λ x. IsSafeSet x (IsAmong (IsMet met))) (sym e) (among-safe m (IsMet met) (met-safe m met n first d le)))
-
--- what is met next is where a move leads
-pub next-only : (m : MapValue) (a b : List Standing) (s : State) (next : Option Standing) → ((x : Standing) → Contains b x → Contains a x ⊎ (next ≡ Some x)) → IfSome next (λ x. IsNext m s (state_of x)) → AreNext m a b s
-next-only m a b s next only is x there =
-    elim (only x there) [
-      | inl old ↦ inl old
-      | inr e ↦ inr (subst (λ o. IfSome o (λ y. IsNext m s (state_of y))) e is)
+  where
+    below : (j : ℕ) (x : Entry) → slice_get es j ≡ Some x → x.1.presses < p → j < level
+    below j x at lt = elim (cases_lt j level) [
+      | inl less ↦ less
+      | inr le ↦ let e : x.1.presses ≡ p = (order j x at).1 le in absurd (omega (arith, e, lt))
     ]
 
-pub next-again : (m : MapValue) (a b c : List Standing) (s : State) → AreNext m a b s → AreNext m b c s → AreNext m a c s
-next-again m a b c s p q x there = elim (q x there) [ inl old ↦ p x old | inr next ↦ inr next ]
-
--- where moves lead from a state that a path leads to, paths lead
-pub reached-again : (m : MapValue) (a b : List Standing) (y : Standing) → Contains a y → AreReached m a → AreNext m a b (state_of y) → AreReached m b
-reached-again m a b y at reached next x there =
-    elim (next x there) [
-      | inl old ↦ reached x old
-      | inr step ↦
-          let p : (path : List Move) × IsPath m path × (state_of y ≡ state_after path) = reached y at in
-          (step.0 ∷ p.0, (subst (λ s. IsMove m s step.0) p.2 step.1, p.1), step.2 ∙ ap (λ s. moved s step.0) p.2)
-    ]
-
-pub reached-sticks : (m : MapValue) (met : List Standing) (y : Standing) (k : ℕ) → Contains met y → AreReached m met → (i : Modifier) → Forgets m (state_of y) i k → (ms : Maps) → ms.first ≡ m → CanStick ms
-reached-sticks m met y k at reached i forgets ms e =
-    let p : (path : List Move) × IsPath m path × (state_of y ≡ state_after path) = reached y at in
-    (script p.0 k, i, sticks_if_reached ms p.0 (subst (λ x. IsPath x p.0) (sym e) p.1) i k (subst (λ x. Forgets x (state_after p.0) i k) (sym e) (subst (λ s. Forgets m s i k) p.2 forgets)))
-
-pub not_held : (o : Option ℕ) → is_some o ≡ false → o ≡ None
-not_held None e = refl
-not_held (Some k) e = absurd (true≢false e)
+-- a holder at the place looks up a character: the script of a path to it leaves its modifier on, by the fewest presses
+pub stuck-sticks : (m : MapValue) (es : Entries) (level p j k : ℕ) → AreInOrder es level p → Searched m es level level → IsStuck m es j k
+    → (h : List Event) → IsScriptTo es j k h
+    → LeavesOn m h × HasFewestPresses m h
+stuck-sticks m es level p j k order s (x, at, stuck) h is =
+    let i : Modifier = stuck.0 in
+    let r : IsReached m es j x = s.reached j x at in
+    let e : h ≡ script r.0 k = is r.0 x at r.1 r.3 in
+    let left = sticks_if_reached m r.0 r.2 i k (subst (λ t. Forgets m t i k) (sym r.3) stuck.1) in
+    let within : x.1.presses ≤ p = order-within es level p order j x at in
+    let count : presses h ≡ suc x.1.presses = ap presses e ∙ presses-script r.0 k ∙ ap suc r.4 in (
+      subst (λ y. LeavesOn m y) (sym e) (left.0, left.1, (i, left.2)),
+      (λ g keys no_loads l sticks.
+          let late : p < presses g = sticks-late m p (IsAmong es) (done-safe_below m es p (level-done m es level p order s)) g keys no_loads l sticks in
+          omega (arith, within, count, late)),
+    )

@@ -1,8 +1,9 @@
--- A console stands in a state of any safe set, whatever presses, releases and resets come.
-use Rattle.std.proofs.Common.{◌≡◌, ℕ, ◌<◌, ◌⊎◌, Bool, true, false, ◌&&◌, ◌||◌, not, eqb, List, [], ◌∷◌, Option, Some, None, refl, ap, subst, sym, ◌∙◌, inl, inr, if◌then◌else◌}
+-- A console stands in a state of sets that the moves keep, whatever presses, releases and resets come.
+use Prim.Native.Nat.{suc}
+use Rattle.std.proofs.Common.{◌≡◌, ℕ, ◌<◌, ◌≤◌, ◌⊎◌, Bool, true, false, ◌&&◌, ◌||◌, not, eqb, List, [], ◌∷◌, Option, Some, None, refl, ap, subst, sym, ◌∙◌, inl, inr, arith, if◌then◌else◌}
 use Rattle.std.specs.Prelude.{◌==◌}
 use Rattle.std.proofs.Math.Bool.{and-true, and-false}
-use Rattle.std.proofs.lemmas.Bool.{eqb-true, eq-eqb, cases_Bool, true≢false}
+use Rattle.std.proofs.lemmas.Bool.{eqb-true, eq-eqb, cases_Bool, cases_lt, true≢false}
 use Rattle.std.proofs.lemmas.List.Elements.{All-head, All-tail}
 use Rattle.keymap_core.specs.declared.action.Action.{Action}
 use Rattle.keymap_core.specs.declared.action.Action.TheVariants as act
@@ -23,10 +24,11 @@ use Rattle.console_core.specs.Columns.{look_with}
 use Rattle.console_core.specs.Resolved.{ResolvedEvent, held, locked, on, remembered, taken_over, is_action, look, resolve, resolve_press}
 use Rattle.console_core.specs.Resolved.ResolvedEvent.{PressedCharacter, PressedAction, ReleasedKey, WasReset}
 use Rattle.console_core.specs.Reading.{is_some}
-use Rattle.console_core.specs.History.{Maps, in_force, loaded, resolved, On, pressed, HasKey, HasKeys, IsNoLoad, HasNoLoads}
-use Rattle.console_core.specs.Sticking.{State, start, is_held, look_in, Holds, IsIdle, with_holder, with_turned, IsSafeSet, NeverSticks}
-use Rattle.console_core.specs.Headline.{IsOnOnlyWhilePressed}
-use Rattle.console_core.specs.Sticking.Move.{Hold, Turn, LetGo}
+use Rattle.console_core.specs.History.{Maps, between, in_force, loaded, resolved, On, pressed, HasKey, HasKeys, IsNoLoad, HasNoLoads, IsQuiet}
+use Rattle.console_core.specs.Moves.{State, start, is_held, look_in, Holds, IsIdle, with_holder, with_turned, IsMove, IsForgetful}
+use Rattle.console_core.specs.declared.held.Move.TheVariants.{Hold, Turn, LetGo}
+use Rattle.console_core.specs.Sticking.{NeverSticks, SticksAfter, presses}
+use Rattle.console_core.specs.Headline.{IsOnOnlyWhilePressed, IsOffOnceQuiet}
 use Rattle.console_core.proofs.OneMore.{resolved-start, resolved-more, held-start, held-character, held-action, held-release, held-reset, locked-start, locked-character, locked-action, locked-release, locked-reset, remembered-character, remembered-action, remembered-release}
 use Rattle.console_core.proofs.Borne.{taken-holding, resolved-looked}
 use Rattle.console_core.proofs.Bearing.{first_kept, remembered-cell, remembered-pressed}
@@ -213,49 +215,60 @@ pub not_true : (x : Bool) → (x ≡ true → ⊥) → x ≡ false
 not_true true f = absurd (f refl)
 not_true false f = refl
 
--- the steps, in a safe set
+-- the steps, where the moves keep the sets
 abbrev Stays : (State → Type 0) → List ResolvedEvent → Type 0
 Stays S r = (s : State) × S s × Follows r s
+
+-- letting go doesn't leave the set
+abbrev KeepsLetGo : (State → Type 0) → Type 0
+KeepsLetGo S = (s : State) (k : ℕ) (i : Modifier) → S s → Holds s k i → S (with_holder s i None)
+
+-- A press leads from the one set to the other, and no holder looks up a character in the first.
+record LeadsOn (m : MapValue) (S T : State → Type 0) : Type 0 where
+  stay : (s : State) → S s → T s
+  hold : (s : State) (k : ℕ) (i : Modifier) → S s → IsMove m s (Hold k i) → T (with_holder s i (Some k))
+  turn : (s : State) (k : ℕ) (l : Lock) → S s → IsMove m s (Turn k l) → T (with_turned s l)
+  safe : (s : State) → S s → IsForgetful m s → ⊥
 
 -- a state without a holder for the modifier is as after letting go of it
 same_holders : (s : State) (i : Modifier) → s.holder i ≡ None → (j : Modifier) (t : Bool) → same_modifier i j ≡ t → s.holder j ≡ (if t then None else s.holder j)
 same_holders s i e j true t = ap (λ x. s.holder x) (sym (same_mods i j t)) ∙ e
 same_holders s i e j false t = refl
 
-without : (m : MapValue) (S : State → Type 0) → IsSafeSet m S → (s : State) (i : Modifier) (o : Option ℕ) → s.holder i ≡ o → S s → S (with_holder s i None)
-without m S safe s i None e there =
+without : (S : State → Type 0) → KeepsLetGo S → (s : State) (i : Modifier) (o : Option ℕ) → s.holder i ≡ o → S s → S (with_holder s i None)
+without S keeps s i None e there =
     let p : (λ (j : Modifier). s.holder j) ≡ (λ j. if same_modifier i j then None else s.holder j) = fun_ext (λ j. same_holders s i e j (same_modifier i j) refl) in
     subst (λ x. S (record { holder = x; is_locked = s.is_locked })) p there
-without m S safe s i (Some k) e there = safe.closed s (LetGo k i) there e
+without S keeps s i (Some k) e there = keeps s k i there e
 
-stays-mod : (m : MapValue) (S : State → Type 0) → IsSafeSet m S → (r : List ResolvedEvent) (s : State) → S s → Follows r s → (k : ℕ) → k < 128 → (b : Action) → look_in m s k ≡ Act b → (i : Modifier) → taken_over (remembered k r) b ≡ act.Mod i → b ≡ act.Mod i → (o : Option ℕ) → s.holder i ≡ o → Stays S (PressedAction k b ∷ r)
-stays-mod m S safe r s there f k lt b seen i e is None free =
-    (with_holder s i (Some k), safe.closed s (Hold k i) there (lt, (λ j h. some_none k (s.holder i) (subst (λ x. Holds s k x) (some_mods j i (holder-takes r s k b (holding.Mod i) j f h e)) h) free), seen ∙ ap (λ x. Act x) is, free), follows-hold r s k b i f e)
-stays-mod m S safe r s there f k lt b seen i e is (Some n) free = (s, there, follows-again r s k b i n f e free)
+stays-mod : (m : MapValue) (S T : State → Type 0) → LeadsOn m S T → (r : List ResolvedEvent) (s : State) → S s → Follows r s → (k : ℕ) → k < 128 → (b : Action) → look_in m s k ≡ Act b → (i : Modifier) → taken_over (remembered k r) b ≡ act.Mod i → b ≡ act.Mod i → (o : Option ℕ) → s.holder i ≡ o → Stays T (PressedAction k b ∷ r)
+stays-mod m S T leads r s there f k lt b seen i e is None free =
+    (with_holder s i (Some k), leads.hold s k i there (lt, (λ j h. some_none k (s.holder i) (subst (λ x. Holds s k x) (some_mods j i (holder-takes r s k b (holding.Mod i) j f h e)) h) free), seen ∙ ap (λ x. Act x) is, free), follows-hold r s k b i f e)
+stays-mod m S T leads r s there f k lt b seen i e is (Some n) free = (s, leads.stay s there, follows-again r s k b i n f e free)
 
-stays-lock : (m : MapValue) (S : State → Type 0) → IsSafeSet m S → (r : List ResolvedEvent) (s : State) → S s → Follows r s → (k : ℕ) → k < 128 → (b : Action) → look_in m s k ≡ Act b → (l : Lock) → taken_over (remembered k r) b ≡ act.Lock l → b ≡ act.Lock l → (d : Bool) → held (holding.Lock l) r ≡ d → Stays S (PressedAction k b ∷ r)
-stays-lock m S safe r s there f k lt b seen l e is true d = (s, there, follows-down r s k b l f e d)
-stays-lock m S safe r s there f k lt b seen l e is false d =
-    (with_turned s l, safe.closed s (Turn k l) there (lt, (λ j h. some_mod_lock j l (holder-takes r s k b (holding.Lock l) j f h e)), seen ∙ ap (λ x. Act x) is), follows-turn r s k b l f e d)
+stays-lock : (m : MapValue) (S T : State → Type 0) → LeadsOn m S T → (r : List ResolvedEvent) (s : State) → S s → Follows r s → (k : ℕ) → k < 128 → (b : Action) → look_in m s k ≡ Act b → (l : Lock) → taken_over (remembered k r) b ≡ act.Lock l → b ≡ act.Lock l → (d : Bool) → held (holding.Lock l) r ≡ d → Stays T (PressedAction k b ∷ r)
+stays-lock m S T leads r s there f k lt b seen l e is true d = (s, leads.stay s there, follows-down r s k b l f e d)
+stays-lock m S T leads r s there f k lt b seen l e is false d =
+    (with_turned s l, leads.turn s k l there (lt, (λ j h. some_mod_lock j l (holder-takes r s k b (holding.Lock l) j f h e)), seen ∙ ap (λ x. Act x) is), follows-turn r s k b l f e d)
 
 -- a press that takes a holding action looked it up
 looked_up : (r : List ResolvedEvent) (k : ℕ) (b : Action) (a : Holding) → taken_over (remembered k r) b ≡ holding_action a → b ≡ holding_action a
 looked_up r k b a e = (taken-holding (remembered k r) b a (ap (λ x. same_action x (holding_action a)) e ∙ same_action-refl (holding_action a))).0
 
-stays-press : (m : MapValue) (S : State → Type 0) → IsSafeSet m S → (r : List ResolvedEvent) (s : State) → S s → Follows r s → (k : ℕ) → k < 128 → (x : Cell) → look_in m s k ≡ x → Stays S (resolve_press k x ∷ r)
-stays-press m S safe r s there f k lt (Char c) seen = (s, there, follows-character r s k c f (λ i h. safe.safe s there (i, k, (h, (c, seen)))))
-stays-press m S safe r s there f k lt (Act b) seen =
+stays-press : (m : MapValue) (S T : State → Type 0) → LeadsOn m S T → (r : List ResolvedEvent) (s : State) → S s → Follows r s → (k : ℕ) → k < 128 → (x : Cell) → look_in m s k ≡ x → Stays T (resolve_press k x ∷ r)
+stays-press m S T leads r s there f k lt (Char c) seen = (s, leads.stay s there, follows-character r s k c f (λ i h. leads.safe s there (i, k, (h, (c, seen)))))
+stays-press m S T leads r s there f k lt (Act b) seen =
     elim (kind_of (taken_over (remembered k r) b)) [
-      | inl p ↦ stays-mod m S safe r s there f k lt b seen p.0 p.1 (looked_up r k b (holding.Mod p.0) p.1) (s.holder p.0) refl
-      | inr (inl p) ↦ stays-lock m S safe r s there f k lt b seen p.0 p.1 (looked_up r k b (holding.Lock p.0) p.1) (held (holding.Lock p.0) r) refl
-      | inr (inr none) ↦ (s, there, follows-nothing r s k b f none)
+      | inl p ↦ stays-mod m S T leads r s there f k lt b seen p.0 p.1 (looked_up r k b (holding.Mod p.0) p.1) (s.holder p.0) refl
+      | inr (inl p) ↦ stays-lock m S T leads r s there f k lt b seen p.0 p.1 (looked_up r k b (holding.Lock p.0) p.1) (held (holding.Lock p.0) r) refl
+      | inr (inr none) ↦ (s, leads.stay s there, follows-nothing r s k b f none)
     ]
 
-stays-release : (m : MapValue) (S : State → Type 0) → IsSafeSet m S → (r : List ResolvedEvent) (s : State) → S s → Follows r s → (k : ℕ) (o : Option Action) → remembered k r ≡ o → Stays S (ReleasedKey k ∷ r)
-stays-release m S safe r s there f k None e = (s, there, follows-release r s k f (λ i. ap (λ o. is_action o (act.Mod i)) e))
-stays-release m S safe r s there f k (Some a) e =
+stays-release : (S : State → Type 0) → KeepsLetGo S → (r : List ResolvedEvent) (s : State) → S s → Follows r s → (k : ℕ) (o : Option Action) → remembered k r ≡ o → Stays S (ReleasedKey k ∷ r)
+stays-release S keeps r s there f k None e = (s, there, follows-release r s k f (λ i. ap (λ o. is_action o (act.Mod i)) e))
+stays-release S keeps r s there f k (Some a) e =
     elim (kind_of a) [
-      | inl p ↦ (with_holder s p.0 None, without m S safe s p.0 (s.holder p.0) refl there, follows-let_go r s k p.0 f (e ∙ ap (λ x. Some x) p.1))
+      | inl p ↦ (with_holder s p.0 None, without S keeps s p.0 (s.holder p.0) refl there, follows-let_go r s k p.0 f (e ∙ ap (λ x. Some x) p.1))
       | inr (inl p) ↦ (s, there, follows-release r s k f (λ i. ap (λ o. is_action o (act.Mod i)) (e ∙ ap (λ x. Some x) p.1)))
       | inr (inr none) ↦ (s, there, follows-release r s k f (λ i. ap (λ o. is_action o (act.Mod i)) e ∙ none (holding.Mod i)))
     ]
@@ -275,27 +288,21 @@ emptied-none s RightAlt = refl
 emptied-none s AltShift = refl
 emptied-none s Meta = refl
 
-emptied-safe : (m : MapValue) (S : State → Type 0) → IsSafeSet m S → (s : State) → S s → S (emptied s)
-emptied-safe m S safe s there =
-    let any : (t : State) (i : Modifier) → S t → S (with_holder t i None) = λ t i here. without m S safe t i (t.holder i) refl here in
+emptied-kept : (S : State → Type 0) → KeepsLetGo S → (s : State) → S s → S (emptied s)
+emptied-kept S keeps s there =
+    let any : (t : State) (i : Modifier) → S t → S (with_holder t i None) = λ t i here. without S keeps t i (t.holder i) refl here in
     any _ Meta (any _ AltShift (any _ RightAlt (any _ LeftAlt (any _ RightControl (any _ LeftControl (any _ RightShift (any s LeftShift there)))))))
 
-stays-reset : (m : MapValue) (S : State → Type 0) → IsSafeSet m S → (r : List ResolvedEvent) (s : State) → S s → Follows r s → Stays S (WasReset ∷ r)
-stays-reset m S safe r s there f = (
+stays-reset : (S : State → Type 0) → KeepsLetGo S → (r : List ResolvedEvent) (s : State) → S s → Follows r s → Stays S (WasReset ∷ r)
+stays-reset S keeps r s there f = (
   emptied s,
-  emptied-safe m S safe s there,
+  emptied-kept S keeps s there,
   record {
     on = λ i. held-reset (holding.Mod i) r ∙ ap (λ o. is_some o) (sym (emptied-none s i));
     locked = λ l. locked-reset l r ∙ f.locked l;
     holds = λ i k h. absurd (some_none k ((emptied s).holder i) h (emptied-none s i));
   },
 )
-
-stays-event : (m n : MapValue) (S : State → Type 0) → IsSafeSet m S → (r : List ResolvedEvent) (e : Event) → HasKey e → IsNoLoad e → Stays S r → Stays S (resolve m n r e ∷ r)
-stays-event m n S safe r (Press k) key no_load (s, there, f) = stays-press m S safe r s there f k key (look m r k) (sym (follows-look m r s k f))
-stays-event m n S safe r (Release k) key no_load (s, there, f) = stays-release m S safe r s there f k (remembered k r) refl
-stays-event m n S safe r Reset key no_load (s, there, f) = stays-reset m S safe r s there f
-stays-event m n S safe r Load key no_load (s, there, f) = absurd (true≢false no_load)
 
 pub follows-start : Follows [] start
 follows-start = record {
@@ -304,28 +311,89 @@ follows-start = record {
   holds = λ i k h. absurd (some_none k None h refl);
 }
 
--- Whatever presses, releases and resets come, the console stands in a state of the set.
-pub stays : (ms : Maps) (S : State → Type 0) → IsSafeSet ms.first S → (h : List Event) → HasKeys h → HasNoLoads h → Stays S (resolved ms h)
-stays ms S safe [] keys no_loads = (start, safe.start, subst (λ r. Follows r start) (sym (resolved-start ms)) follows-start)
-stays ms S safe (e ∷ h) keys no_loads =
+-- Sets of states by how many presses lead to them: below n letting go stays in a set, a press leads from a set to the next
+-- one, and no holder looks up a character.
+pub record IsSafeBelow (m : MapValue) (n : ℕ) (S : ℕ → State → Type 0) : Type 0 where
+  pub start : S 0 start
+  pub let_go : (p : ℕ) → p < n → (s : State) (k : ℕ) (i : Modifier) → S p s → Holds s k i → S p (with_holder s i None)
+  pub more : (p : ℕ) (s : State) → S p s → S (suc p) s
+  pub hold : (p : ℕ) → p < n → (s : State) (k : ℕ) (i : Modifier) → S p s → IsMove m s (Hold k i) → S (suc p) (with_holder s i (Some k))
+  pub turn : (p : ℕ) → p < n → (s : State) (k : ℕ) (l : Lock) → S p s → IsMove m s (Turn k l) → S (suc p) (with_turned s l)
+  pub safe : (p : ℕ) → p < n → (s : State) → S p s → IsForgetful m s → ⊥
+
+-- after p presses the state is in its set, where p is below n
+abbrev Below : ℕ → (ℕ → State → Type 0) → ℕ → State → Type 0
+Below n S p s = p < n → S p s
+
+below-lets_go : (m : MapValue) (n : ℕ) (S : ℕ → State → Type 0) → IsSafeBelow m n S → (p : ℕ) → KeepsLetGo (Below n S p)
+below-lets_go m n S safe p s k i there h lt = safe.let_go p lt s k i (there lt) h
+
+below-leads_on : (m : MapValue) (n : ℕ) (S : ℕ → State → Type 0) → IsSafeBelow m n S → (p : ℕ) → p < n → LeadsOn m (S p) (Below n S (suc p))
+below-leads_on m n S safe p lt = record {
+  stay = λ s there next. safe.more p s there;
+  hold = λ s k i there is next. safe.hold p lt s k i there is;
+  turn = λ s k l there is next. safe.turn p lt s k l there is;
+  safe = λ s there forgetful. safe.safe p lt s there forgetful;
+}
+
+stays-event : (m other : MapValue) (n : ℕ) (S : ℕ → State → Type 0) → IsSafeBelow m n S → (r : List ResolvedEvent) (e : Event) (h : List Event) → HasKey e → IsNoLoad e → presses (e ∷ h) ≤ n
+    → Stays (Below n S (presses h)) r → Stays (Below n S (presses (e ∷ h))) (resolve m other r e ∷ r)
+stays-event m other n S safe r (Press k) h key no_load le (s, there, f) =
+    let lt : presses h < n = omega (arith, le) in
+    stays-press m (S (presses h)) (Below n S (suc (presses h))) (below-leads_on m n S safe (presses h) lt) r s (there lt) f k key (look m r k) (sym (follows-look m r s k f))
+stays-event m other n S safe r (Release k) h key no_load le (s, there, f) =
+    stays-release (Below n S (presses h)) (below-lets_go m n S safe (presses h)) r s there f k (remembered k r) refl
+stays-event m other n S safe r Reset h key no_load le (s, there, f) =
+    stays-reset (Below n S (presses h)) (below-lets_go m n S safe (presses h)) r s there f
+stays-event m other n S safe r Load h key no_load le (s, there, f) = absurd (true≢false no_load)
+
+fewer : (e : Event) (h : List Event) (n : ℕ) → presses (e ∷ h) ≤ n → presses h ≤ n
+fewer (Press k) h n le = omega (arith, le)
+fewer (Release k) h n le = le
+fewer Reset h n le = le
+fewer Load h n le = le
+
+-- Whatever presses, releases and resets come, at most n presses, the console stands in a state of the sets.
+stays : (ms : Maps) (n : ℕ) (S : ℕ → State → Type 0) → IsSafeBelow ms.first n S → (h : List Event) → HasKeys h → HasNoLoads h → presses h ≤ n
+    → Stays (Below n S (presses h)) (resolved ms h)
+stays ms n S safe [] keys no_loads le = (start, (λ lt. safe.start), subst (λ r. Follows r start) (sym (resolved-start ms)) follows-start)
+stays ms n S safe (e ∷ h) keys no_loads le =
     let rest : HasNoLoads h = All-tail IsNoLoad e h no_loads in
-    let before : Stays S (resolved ms h) = stays ms S safe h (All-tail HasKey e h keys) rest in
+    let before : Stays (Below n S (presses h)) (resolved ms h) = stays ms n S safe h (All-tail HasKey e h keys) rest (fewer e h n le) in
     rw (resolved-more ms h e, first_in_force ms h rest)
-    (stays-event ms.first (loaded ms h) S safe (resolved ms h) e (All-head HasKey e h keys) (All-head IsNoLoad e h no_loads) before)
+    (stays-event ms.first (loaded ms h) n S safe (resolved ms h) e h (All-head HasKey e h keys) (All-head IsNoLoad e h no_loads) le before)
 
 -- so a modifier is on only while a key that bears it is pressed
-pub stays-on : (ms : Maps) (S : State → Type 0) → IsSafeSet ms.first S → (h : List Event) → HasKeys h → HasNoLoads h → IsOnOnlyWhilePressed ms.first h (λ i. On ms i h)
-stays-on ms S safe h keys no_loads i e =
-    let s : Stays S (resolved ms h) = stays ms S safe h keys no_loads in
-    let k : (k : ℕ) × Holds s.0 k i = some_of (s.0.holder i) (sym (s.2.on i) ∙ e) in
-    let r : remembered k.0 (resolved ms h) ≡ Some (act.Mod i) = s.2.holds i k.0 k.1 in
+follows-on : (ms : Maps) (h : List Event) (s : State) → Follows (resolved ms h) s → HasKeys h → HasNoLoads h → IsOnOnlyWhilePressed ms.first h (λ i. On ms i h)
+follows-on ms h s f keys no_loads i e =
+    let k : (k : ℕ) × Holds s k i = some_of (s.holder i) (sym (f.on i) ∙ e) in
+    let r : remembered k.0 (resolved ms h) ≡ Some (act.Mod i) = f.holds i k.0 k.1 in
     let b : (k.0 < 128) × IsCellOf (in_force ms h) k.0 (Act (act.Mod i)) = remembered-cell (in_force ms h) (resolved ms h) k.0 (act.Mod i) (resolved-looked ms h keys) r in
     (k.0, b.0, subst (λ m. IsCellOf m k.0 (Act (act.Mod i))) (first_in_force ms h no_loads) b.1, remembered-pressed ms h k.0 (act.Mod i) r)
 
-pub never-sticks : (ms : Maps) (S : State → Type 0) → IsSafeSet ms.first S → NeverSticks ms
-never-sticks ms S safe h keys no_loads = (
-  stays-on ms S safe h keys no_loads,
-  (λ quiet i. not_true (On ms i h) (λ e.
-      let s : (k : ℕ) × (k < 128) × Bears ms.first k (holding.Mod i) × (pressed k h ≡ true) = stays-on ms S safe h keys no_loads i e in
-      true≢false (sym s.3 ∙ quiet s.0 s.1))),
-)
+follows-off : (ms : Maps) (h : List Event) → IsOnOnlyWhilePressed ms.first h (λ i. On ms i h) → IsOffOnceQuiet h (λ i. On ms i h)
+follows-off ms h on quiet i =
+    not_true (On ms i h) (λ e.
+    let s : (k : ℕ) × (k < 128) × Bears ms.first k (holding.Mod i) × (pressed k h ≡ true) = on i e in
+    true≢false (sym s.3 ∙ quiet s.0 s.1))
+
+within-on : (ms : Maps) (n : ℕ) (S : ℕ → State → Type 0) → IsSafeBelow ms.first n S → (h : List Event) → HasKeys h → HasNoLoads h → presses h ≤ n → IsOnOnlyWhilePressed ms.first h (λ i. On ms i h)
+within-on ms n S safe h keys no_loads le =
+    let s : Stays (Below n S (presses h)) (resolved ms h) = stays ms n S safe h keys no_loads le in
+    follows-on ms h s.0 s.2 keys no_loads
+
+-- sets that are safe below every number
+pub never-sticks : (m : MapValue) (S : ℕ → State → Type 0) → ((n : ℕ) → IsSafeBelow m n S) → NeverSticks m
+never-sticks m S safe ms h first keys no_loads =
+    let on : IsOnOnlyWhilePressed ms.first h (λ i. On ms i h) = within-on ms (presses h) S (subst (λ x. IsSafeBelow x (presses h) S) (sym first) (safe (presses h))) h keys no_loads (omega arith) in
+    (subst (λ x. IsOnOnlyWhilePressed x h (λ i. On ms i h)) first on, follows-off ms h on)
+
+-- sets that are safe below n
+pub sticks-late : (m : MapValue) (n : ℕ) (S : ℕ → State → Type 0) → IsSafeBelow m n S → (h : List Event) → HasKeys h → HasNoLoads h → (i : Modifier) → SticksAfter m h i → n < presses h
+sticks-late m n S safe h keys no_loads i (quiet, on) =
+    elim (cases_lt n (presses h)) [
+      | inl lt ↦ lt
+      | inr le ↦
+          let off : On (between m m) i h ≡ false = follows-off (between m m) h (within-on (between m m) n S safe h keys no_loads le) quiet i in
+          absurd (true≢false (sym (on (between m m) refl) ∙ off))
+    ]

@@ -3,9 +3,11 @@ pub mod Answers
 pub mod Columns
 pub mod Facts
 pub mod Headline
+pub mod HeldBytes
 pub mod History
 pub mod Kept
 pub mod Loads
+pub mod Moves
 pub mod Plain
 pub mod Positions
 pub mod Raw

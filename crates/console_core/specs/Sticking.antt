@@ -1,132 +1,65 @@
--- Whether a keymap can leave a modifier on, by a search: the states that the search goes over, the moves between them, and
--- what it finds out.
-use Rattle.std.specs.Prelude.{◌≡◌, ℕ, ◌<◌, Bool, false, true, not, List, [], ◌∷◌, ◌++◌, Option, None, Some, if◌then◌else◌}
+-- Whether a keymap can leave a modifier on while no key is pressed.
+use Rattle.std.specs.Prelude.{◌≡◌, ℕ, ◌≤◌, Bool, false, true, List, All, reverse}
 use Rattle.keymap_core.specs.declared.action.Modifier.{Modifier}
-use Rattle.keymap_core.specs.declared.action.Lock.{Lock}
-use Rattle.keymap_core.specs.declared.action.Action.TheVariants as act
-use Rattle.keymap_core.specs.declared.entry.Cell.{Cell}
-use Rattle.keymap_core.specs.declared.entry.Cell.TheVariants.{Char, Act}
-use Rattle.keymap_core.specs.Actions.{same_modifier, same_lock, modifiers}
 use Rattle.keymap_core.specs.Maps.{MapValue}
 use Rattle.console_core.specs.declared.event.Event.{Event}
-use Rattle.console_core.specs.declared.event.Event.TheVariants.{Press, Release}
-use Rattle.console_core.specs.Columns.{look_with}
-use Rattle.console_core.specs.Reading.{is_some}
+use Rattle.console_core.specs.declared.event.Event.TheVariants.{Press, Release, Reset, Load}
+use Rattle.console_core.specs.declared.outcome.Sticking.{Sticking}
+use Rattle.console_core.specs.declared.outcome.Sticking.TheVariants.{Sticks, Never, Undecided}
+use Rattle.console_core.specs.Positions.{count_where}
 use Rattle.console_core.specs.History.{Maps, On, HasKeys, HasNoLoads, IsQuiet}
 use Rattle.console_core.specs.Headline.{IsOnOnlyWhilePressed, IsOffOnceQuiet}
+use Rattle.console_core.specs.declared.held.Move.{Move}
+use Rattle.console_core.specs.Moves.{IsPath, state_after, IsForgetful, Forgets, script}
 
--- A state: for each modifier the key that holds it on, if one does, and which locks are on.
-pub record State : Type 0 where
-  pub holder : Modifier → Option ℕ
-  pub is_locked : Lock → Bool
+-- Sticks: no key is pressed after the list, and the modifier is on.
+abbrev pub SticksAfter : MapValue → List Event → Modifier → Type 0
+SticksAfter m h i = IsQuiet h × ((ms : Maps) → ms.first ≡ m → On ms i h ≡ true)
 
--- nothing is held, and no lock is on
-abbrev pub start : State
-start = record { holder = λ i. None; is_locked = λ l. false }
+-- presses and releases of keys, without resets and loads
+abbrev pub IsPressOrRelease : Event → Type 0
+IsPressOrRelease (Press k) = Unit {0}
+IsPressOrRelease (Release k) = Unit {0}
+IsPressOrRelease Reset = ⊥
+IsPressOrRelease Load = ⊥
 
-abbrev pub is_held : State → Modifier → Bool
-is_held s i = is_some (s.holder i)
+-- how many presses there are in a list, repeats among them
+abbrev pub is_a_press : Event → List Event → Bool
+is_a_press (Press k) before = true
+is_a_press _ before = false
 
--- what a press of the key looks up
-abbrev pub look_in : MapValue → State → ℕ → Cell
-look_in m s k = look_with m (λ i. is_held s i) (λ l. s.is_locked l) k
+abbrev pub presses : List Event → ℕ
+presses h = count_where is_a_press h
 
--- the key holds the modifier
-abbrev pub Holds : State → ℕ → Modifier → Type 0
-Holds s k i = s.holder i ≡ Some k
+-- some modifier sticks after this list of presses and releases
+abbrev pub LeavesOn : MapValue → List Event → Type 0
+LeavesOn m h = HasKeys h × All IsPressOrRelease h × ((i : Modifier) × SticksAfter m h i)
 
--- the key holds nothing
-abbrev pub IsIdle : State → ℕ → Type 0
-IsIdle s k = (i : Modifier) → Holds s k i → ⊥
+-- no list of presses, releases and resets after which a modifier sticks has fewer presses than this one
+abbrev pub HasFewestPresses : MapValue → List Event → Type 0
+HasFewestPresses m h =
+    (g : List Event) → HasKeys g → HasNoLoads g → (i : Modifier) → SticksAfter m g i → presses h ≤ presses g
 
-abbrev pub with_holder : State → Modifier → Option ℕ → State
-with_holder s i holder = record s { holder = λ j. if same_modifier i j then holder else s.holder j }
+-- After each list without loads a modifier is on only while a key that bears it is pressed, so none is on once no key
+-- is.
+abbrev pub NeverSticks : MapValue → Type 0
+NeverSticks m =
+    (ms : Maps) (h : List Event) → ms.first ≡ m → HasKeys h → HasNoLoads h
+    → IsOnOnlyWhilePressed m h (λ i. On ms i h) × IsOffOnceQuiet h (λ i. On ms i h)
 
-abbrev pub with_turned : State → Lock → State
-with_turned s l = record s { is_locked = λ j. if same_lock l j then not (s.is_locked j) else s.is_locked j }
+-- what each answer says of the keymap: nothing where the search gave up
+abbrev pub IsAnswer : MapValue → Sticking → Type 0
+IsAnswer m (Sticks events) = LeavesOn m (reverse events.items) × HasFewestPresses m (reverse events.items)
+IsAnswer m Never = NeverSticks m
+IsAnswer m Undecided = Unit {0}
 
-pub data Move : Type 0 where
-  -- a key becomes the holder of a modifier
-  Hold : ℕ → Modifier → Move
-  -- a key turns a lock
-  Turn : ℕ → Lock → Move
-  -- a key lets go of the modifier that it holds
-  LetGo : ℕ → Modifier → Move
-
--- The moves from a state. A key that holds nothing becomes the holder of the modifier that it looks up, if that has none,
--- or turns the lock that it looks up. A holder lets go.
-abbrev pub IsMove : MapValue → State → Move → Type 0
-IsMove m s (Hold k i) = (k < 128) × IsIdle s k × (look_in m s k ≡ Act (act.Mod i)) × (s.holder i ≡ None)
-IsMove m s (Turn k l) = (k < 128) × IsIdle s k × (look_in m s k ≡ Act (act.Lock l))
-IsMove m s (LetGo k i) = Holds s k i
-
-abbrev pub moved : State → Move → State
-moved s (Hold k i) = with_holder s i (Some k)
-moved s (Turn k l) = with_turned s l
-moved s (LetGo k i) = with_holder s i None
-
--- some key that holds a modifier looks up a character, so it can lose its release
-abbrev pub Forgets : MapValue → State → Modifier → ℕ → Type 0
-Forgets m s i k = Holds s k i × ((c : ℕ) × (look_in m s k ≡ Char c))
-
-abbrev pub IsForgetful : MapValue → State → Type 0
-IsForgetful m s = (i : Modifier) × (k : ℕ) × Forgets m s i k
-
--- A set of states that has the start and whatever a move leads to, and where no holder looks up a character.
-pub record IsSafeSet (m : MapValue) (S : State → Type 0) : Type 0 where
-  pub start : S start
-  pub closed : (s : State) (move : Move) → S s → IsMove m s move → S (moved s move)
-  pub safe : (s : State) → S s → IsForgetful m s → ⊥
-
--- Paths from the start: moves with the newest first, each possible in the state where the moves before it lead.
-abbrev pub state_after : List Move → State
-state_after [] = start
-state_after (move ∷ path) = moved (state_after path) move
-
-abbrev pub IsPath : MapValue → List Move → Type 0
-IsPath m [] = Unit {0}
-IsPath m (move ∷ path) = IsMove m (state_after path) move × IsPath m path
-
--- the events of the moves, with the newest first
-abbrev pub events_of : Move → List Event
-events_of (Hold k i) = Press k ∷ []
-events_of (Turn k l) = Release k ∷ Press k ∷ []
-events_of (LetGo k i) = Release k ∷ []
-
-abbrev pub events_along : List Move → List Event
-events_along [] = []
-events_along (move ∷ path) = events_of move ++ events_along path
-
--- the releases of the holders of these modifiers
-abbrev pub release_of : Option ℕ → List Event
-release_of None = []
-release_of (Some k) = Release k ∷ []
-
-abbrev pub releases : State → List Modifier → List Event
-releases s [] = []
-releases s (i ∷ more) = release_of (s.holder i) ++ releases s more
-
--- the path, a repeat of the key, and the release of each key that holds a modifier
-abbrev pub script : List Move → ℕ → List Event
-script path k = releases (state_after path) modifiers ++ Press k ∷ events_along path
-
--- If no path leads to where a holder looks up a character, a modifier is on only while a key that bears it is pressed, in
--- each list without loads.
-abbrev pub NeverSticks : Maps → Type 0
-NeverSticks ms =
-    (h : List Event) → HasKeys h → HasNoLoads h
-    → IsOnOnlyWhilePressed ms.first h (λ i. On ms i h) × IsOffOnceQuiet h (λ i. On ms i h)
-
+-- If no path leads to where a holder looks up a character, no modifier sticks.
 abbrev pub NeverSticksUnlessReached : Type 0
 NeverSticksUnlessReached =
-    (ms : Maps) → ((path : List Move) → IsPath ms.first path → IsForgetful ms.first (state_after path) → ⊥) → NeverSticks ms
+    (m : MapValue) → ((path : List Move) → IsPath m path → IsForgetful m (state_after path) → ⊥) → NeverSticks m
 
--- If a path leads to where the holder of a modifier looks up a character, the script releases every key and leaves the
--- modifier on.
-abbrev pub LeavesOn : Maps → List Event → Modifier → Type 0
-LeavesOn ms h i = HasKeys h × HasNoLoads h × IsQuiet h × (On ms i h ≡ true)
-
+-- If a path leads to where the holder of a modifier looks up a character, that modifier sticks after the path's script.
 abbrev pub SticksIfReached : Type 0
 SticksIfReached =
-    (ms : Maps) (path : List Move) → IsPath ms.first path → (i : Modifier) (k : ℕ) → Forgets ms.first (state_after path) i k
-    → LeavesOn ms (script path k) i
+    (m : MapValue) (path : List Move) → IsPath m path → (i : Modifier) (k : ℕ) → Forgets m (state_after path) i k
+    → HasKeys (script path k) × All IsPressOrRelease (script path k) × SticksAfter m (script path k) i

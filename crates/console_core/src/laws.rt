@@ -48,8 +48,8 @@ pub fn modifiers_without_traps_follow_keys()
     ensures { OnOnlyWhilePressedWithoutTraps }
 {}
 
-/// Without loads a keymap can leave a modifier on exactly if a path of moves leads to a state where a key that holds a
-/// modifier looks up a character: then a list of events that the path gives does it, and else no list does.
+/// A keymap can leave a modifier on while no key is pressed exactly if a path of moves leads to a state where a key that
+/// holds a modifier looks up a character: then the events along the path, a repeat of that key and the releases do so.
 pub fn modifiers_stick_where_paths_lead()
     ensures never { NeverSticksUnlessReached }
     ensures sticks { SticksIfReached }

@@ -7,13 +7,13 @@
 //! `laws` has what follows for all lists: in a keymap where no key bears a modifier or lock beside a character, a modifier is
 //! on only while a key that bears it is pressed, and once every key is released the console goes on as after a reset.
 //!
-//! `sticking` tells exactly, without loads, whether a keymap can leave a modifier on, unless it would have to go over
-//! too many states.
+//! `sticking` decides by a search whether a keymap can leave a modifier on while no key is pressed.
 //!
 //! No call takes memory but `replay` and `sticking`, and no call fails but for want of memory there.
 #![tactic(auto)]
 
 mod event;
+mod held;
 pub mod laws;
 mod machine;
 mod outcome;

@@ -1,12 +1,14 @@
 //! What the search for sticking modifiers answers.
+use crate::event::Event;
 
-/// Whether a keymap can leave a modifier on.
-#[derive(Clone, Copy, Debug, PartialEq, Eq)]
+/// Whether a keymap can leave a modifier on while no key is pressed.
+#[derive(Debug, Drop)]
 pub enum Sticking {
-    /// Some list of presses and releases ends with every key released and a modifier on.
-    Sticks,
-    /// After no list of presses, releases and resets is a modifier on unless a key that bears it is pressed.
+    /// After these presses and releases no key is pressed and some modifier is on. No list of presses, releases and
+    /// resets that leaves a modifier on so has fewer presses.
+    Sticks(Vec<Event>),
+    /// After each list of presses, releases and resets a modifier is on only while a key that bears it is pressed.
     Never,
-    /// More states can be reached than the search goes over.
+    /// The search met more than 65,536 states and gave up.
     Undecided,
 }

@@ -1,184 +1,82 @@
-//! Whether a keymap can leave a modifier on, decided by a search over all states that presses and releases lead to.
-ghost use Rattle.std.specs.Prelude.{◌≡◌, ◌⊎◌, ◌<◌, ℕ, List, false, true, None, ◌||◌, OnOk, MatchOption, IfOk, IfSome, IfNone, IsTrue};
-ghost use Rattle.std.specs.List.{Contains};
+//! The search for sticking modifiers over the states that presses and releases lead to, by the number of presses.
+ghost use Rattle.std.specs.Prelude.{◌≡◌, ◌+◌, ◌<◌, ◌≤◌, ◌⊎◌, ◌++◌, ◌∷◌, ℕ, List, [], None, Some, All, length, reverse, slice_get, OnOk, IfOk, IfSome};
 ghost use Rattle.keymap_core.specs.Maps.{MapValue};
 ghost use Rattle.keymap_core.specs.declared.action.Modifier.{Modifier as ModifierValue};
-ghost use Rattle.console_core.specs.Columns.{slot_of, is_upper};
-ghost use Rattle.console_core.specs.History.{Maps};
-ghost use Rattle.console_core.specs.Sticking.{start as start_state, is_held as is_held_in, look_in, IsIdle, with_holder as with_holder_in, with_turned as with_turned_in, Forgets, IsForgetful, NeverSticks};
-ghost use Rattle.console_core.specs.Searching.{state_of, Grows, IsLetGoMet, ArePressesMet, IsNext, AreNext, CanStick};
-ghost use Rattle.console_core.specs.declared.search.Standing.{Standing as StandingValue};
+ghost use Rattle.console_core.specs.declared.held.Held.{Held as HeldValue};
+ghost use Rattle.console_core.specs.Searching.{state_of, IsMetBy, AreWithin, Grows, IsStep, IsLetGoMet, ArePressesMet, AreAdded, Searched, AreInOrder, IsStuck, GoBack, IsScriptTo};
+ghost use Rattle.console_core.specs.Sticking.{IsAnswer};
 
+use crate::event::Event;
+use crate::held::{Held, Move, Step};
 use crate::outcome::Sticking;
-use crate::rules::{column, flips};
-use keymap_core::{Action, Cell, KeyCode, KeyMap, Lock, MODIFIERS, Modifier};
+use indexmap::IndexMap;
+use keymap_core::{KeyCode, KeyMap, MODIFIERS};
 use std::alloc::{AllocError, Global};
 
 /// How many states the search goes over.
 const BOUND: usize = 65_536;
 
-/// Which key holds each modifier on, and which locks are on. Turns of the scroll lock are left out.
+/// How a state was come to: by so many presses, and at last, unless it is the start, by a move from the state at a
+/// place.
 #[derive(Clone, Copy, Debug, PartialEq, Eq)]
-struct Standing {
-    holders: [Option<KeyCode>; 8],
-    locks: [bool; 4],
+pub struct Origin {
+    pub presses: usize,
+    pub last: Option<(usize, Move)>,
 }
 
-#[tactic(auto, using(crate::proofs::Places::places))]
-impl Standing {
-    fn start() -> Standing
-        ensures { state_of result ≡ start_state }
-    {
-        Standing {
-            holders: [None; 8],
-            locks: [false; 4],
+/// A place where the key holds a modifier and looks up a character.
+#[derive(Clone, Copy, Debug, PartialEq, Eq)]
+struct Stuck {
+    place: usize,
+    key: KeyCode,
+}
+
+/// The states that were met, in their order.
+type Met = IndexMap<Held, Origin>;
+
+/// The state that was met at the place, and how it was come to.
+fn entry(met: &Met, place: usize) -> (Held, Origin)
+    requires { place < length met.now.entries }
+    ensures { slice_get met.now.entries place ≡ Some result }
+{
+    match met.get_index(place) {
+        Some((held, origin)) => (*held, *origin),
+        None => unreachable!(),
+    }
+}
+
+/// Adds where the step from the place leads, if there is a step and that wasn't met.
+fn meet(met: &mut Met, place: usize, step: Option<Step>, presses: usize) -> Result<(), AllocError>
+    requires { AreWithin met.old.entries presses }
+    ensures met { OnOk result (IfSome step (λ x. IsMetBy met.new.entries presses (state_of x.to))) }
+    ensures within { OnOk result (AreWithin met.new.entries presses) }
+    ensures grown { OnOk result (Grows met.old.entries met.new.entries) }
+    ensures added { OnOk result ((m : MapValue) (h : HeldValue) (n : ℕ) → IfSome step (IsStep m (state_of h) n)
+        → AreAdded m (state_of h) place n presses met.old.entries met.new.entries) }
+{
+    if let Some(step) = step {
+        if !met.contains_key(&step.to) {
+            let origin = Origin {
+                presses,
+                last: Some((place, step.by)),
+            };
+            met.insert(step.to, origin)?;
         }
     }
+    Ok(())
+}
 
-    fn holder(&self, modifier: Modifier) -> Option<KeyCode>
-        ensures { result ≡ (state_of self.now).holder modifier }
-    {
-        self.holders[modifier.index()]
+/// Adds where letting go of the modifiers leads.
+fn meet_let_gos(met: &mut Met, place: usize, held: &Held, presses: usize) -> Result<(), AllocError>
+    requires { AreWithin met.old.entries presses }
+    ensures met { OnOk result ((i : ModifierValue) → IsLetGoMet met.new.entries presses (state_of held.now) i) }
+    ensures added { OnOk result ((m : MapValue)
+        → AreAdded m (state_of held.now) place 0 presses met.old.entries met.new.entries) }
+{
+    for modifier in MODIFIERS {
+        meet(met, place, held.let_go(modifier), presses)?;
     }
-
-    fn is_held(&self, modifier: Modifier) -> bool
-        ensures { result ≡ is_held_in (state_of self.now) modifier }
-    {
-        self.holder(modifier).is_some()
-    }
-
-    fn is_locked(&self, lock: Lock) -> bool
-        ensures { result ≡ (state_of self.now).is_locked lock }
-    {
-        self.locks[lock.index()]
-    }
-
-    fn with_holder(&self, modifier: Modifier, holder: Option<KeyCode>) -> Standing
-        ensures { state_of result ≡ with_holder_in (state_of self.now) modifier holder }
-    {
-        let mut next = *self;
-        next.holders[modifier.index()] = holder;
-        next
-    }
-
-    fn with_turned(&self, lock: Lock) -> Standing
-        ensures { state_of result ≡ with_turned_in (state_of self.now) lock }
-    {
-        let mut next = *self;
-        let place = lock.index();
-        next.locks[place] = !next.locks[place];
-        next
-    }
-
-    fn is_either_held(&self, left: Modifier, right: Modifier) -> bool
-        ensures { result ≡ (is_held_in (state_of self.now) left || is_held_in (state_of self.now) right) }
-    {
-        self.is_held(left) || self.is_held(right)
-    }
-
-    fn slot(&self, key: KeyCode) -> u8
-        ensures in_range { key < 128 }
-        ensures value { result ≡ slot_of key (is_upper (λ i. is_held_in (state_of self.now) i) (λ l. (state_of self.now).is_locked l)) }
-    {
-        let upper = self.is_held(Modifier::AltShift) != self.is_locked(Lock::Alt);
-        if upper { key.get() + 128 } else { key.get() }
-    }
-
-    /// What a press of the key looks up.
-    fn look(&self, map: &KeyMap, key: KeyCode) -> Cell
-        ensures in_range { key < 128 }
-        ensures value { result ≡ look_in map.now (state_of self.now) key }
-    {
-        let entry = map.entry(self.slot(key));
-        let flipped = flips(
-            entry.flag,
-            self.is_locked(Lock::Caps),
-            self.is_locked(Lock::Num),
-        );
-        let shift = self.is_either_held(Modifier::LeftShift, Modifier::RightShift) != flipped;
-        let control = self.is_either_held(Modifier::LeftControl, Modifier::RightControl);
-        let alt = self.is_either_held(Modifier::LeftAlt, Modifier::RightAlt);
-        entry.cells[column(shift, control, alt)]
-    }
-
-    /// Whether the key holds a modifier.
-    fn holds(&self, key: KeyCode) -> bool
-        ensures idle { result ≡ false → IsIdle (state_of self.now) key }
-        ensures busy { result ≡ true → IsIdle (state_of self.now) key → ⊥ }
-    {
-        for modifier in MODIFIERS {
-            if let Some(holder) = self.holder(modifier) {
-                if holder.get() == key.get() {
-                    return true;
-                }
-            }
-        }
-        false
-    }
-
-    /// The holder of the modifier, if it looks up a character.
-    fn forgets(&self, map: &KeyMap, modifier: Modifier) -> Option<KeyCode>
-        ensures { MatchOption result ((k : ℕ) → Forgets map.now (state_of self.now) modifier k → ⊥) (λ k. Forgets map.now (state_of self.now) modifier k) }
-    {
-        match self.holder(modifier) {
-            Some(key) => match self.look(map, key) {
-                Cell::Char(_) => Some(key),
-                Cell::Act(_) => None,
-            },
-            None => None,
-        }
-    }
-
-    /// A key that holds a modifier and looks up a character.
-    fn forgetful(&self, map: &KeyMap) -> Option<KeyCode>
-        ensures { MatchOption result (IsForgetful map.now (state_of self.now) → ⊥) (λ k. (i : ModifierValue) × Forgets map.now (state_of self.now) i k) }
-    {
-        for modifier in MODIFIERS {
-            match self.forgets(map, modifier) {
-                Some(key) => return Some(key),
-                None => {}
-            }
-        }
-        None
-    }
-
-    /// Where letting go of the modifier leads.
-    fn let_go(&self, modifier: Modifier) -> Option<Standing>
-        ensures met { (met : List StandingValue) → IfSome result (λ x. Contains met x) → IsLetGoMet met (state_of self.now) modifier }
-        ensures next { (m : MapValue) → IfSome result (λ x. IsNext m (state_of self.now) (state_of x)) }
-    {
-        match self.holder(modifier) {
-            Some(_) => Some(self.with_holder(modifier, None)),
-            None => None,
-        }
-    }
-
-    /// Where a press of the key leads, with its release if it turns a lock.
-    fn pressed(&self, map: &KeyMap, key: KeyCode) -> Option<Standing>
-        ensures met { (met : List StandingValue) → IfSome result (λ x. Contains met x) → ArePressesMet map.now met (state_of self.now) key }
-        ensures next { IfSome result (λ x. IsNext map.now (state_of self.now) (state_of x)) }
-    {
-        if self.holds(key) {
-            return None;
-        }
-        match self.look(map, key) {
-            Cell::Act(Action::Mod(modifier)) => {
-                if self.is_held(modifier) {
-                    None
-                } else {
-                    Some(self.with_holder(modifier, Some(key)))
-                }
-            }
-            Cell::Act(Action::Lock(lock)) => {
-                if lock == Lock::Scroll {
-                    None
-                } else {
-                    Some(self.with_turned(lock))
-                }
-            }
-            _ => None,
-        }
-    }
+    Ok(())
 }
 
 fn key_with(code: u8) -> KeyCode
@@ -191,68 +89,125 @@ fn key_with(code: u8) -> KeyCode
     }
 }
 
-/// Adds the state, if there is one and it isn't there.
-fn meet(met: &mut Vec<Standing>, next: Option<Standing>) -> Result<(), AllocError>
-    ensures contained { OnOk result (IfSome next (λ x. Contains met.new.items x)) }
-    ensures only { (x : StandingValue) → Contains met.new.items x → Contains met.old.items x ⊎ (next ≡ Some x) }
-    ensures grows { Grows met.old.items met.new.items }
-{
-    if let Some(standing) = next {
-        if !met.contains(&standing) {
-            met.push(standing)?;
-        }
-    }
-    Ok(())
-}
-
-/// Adds where letting go of the modifiers leads.
-fn meet_let_gos(met: &mut Vec<Standing>, standing: &Standing) -> Result<(), AllocError>
-    ensures noted { OnOk result ((i : ModifierValue) → IsLetGoMet met.new.items (state_of standing.now) i) }
-    ensures only { OnOk result ((m : MapValue) → AreNext m met.old.items met.new.items (state_of standing.now)) }
-    ensures grows { Grows met.old.items met.new.items }
-{
-    for modifier in MODIFIERS {
-        meet(met, standing.let_go(modifier))?;
-    }
-    Ok(())
-}
-
 /// Adds where presses of keys lead.
 fn meet_presses(
+    met: &mut Met,
     map: &KeyMap,
-    met: &mut Vec<Standing>,
-    standing: &Standing,
+    place: usize,
+    held: &Held,
+    presses: usize,
 ) -> Result<(), AllocError>
-    ensures noted { OnOk result ((k : ℕ) → k < 128 → ArePressesMet map.now met.new.items (state_of standing.now) k) }
-    ensures only { OnOk result (AreNext map.now met.old.items met.new.items (state_of standing.now)) }
-    ensures grows { Grows met.old.items met.new.items }
+    requires { AreWithin met.old.entries presses }
+    ensures met { OnOk result ((k : ℕ) → k < 128
+        → ArePressesMet map.now met.new.entries presses (state_of held.now) k) }
+    ensures added { OnOk result (AreAdded map.now (state_of held.now) place 1 presses met.old.entries met.new.entries) }
 {
     for code in 0..128 {
-        meet(met, standing.pressed(map, key_with(code)))?;
+        meet(met, place, held.pressed(map, key_with(code)), presses)?;
     }
     Ok(())
 }
 
-/// Goes over the states that presses and releases lead to. The answer is exact: `Sticks` only if some list of presses and
-/// releases ends with every key released and a modifier on, and `Never` only if no list of presses, releases and resets
-/// leaves a modifier on without a pressed key that bears it.
-pub fn sticking(alloc: Global, map: &KeyMap) -> Result<Sticking, AllocError>
-    ensures sticks { IfOk result (λ s. s ≡ Sticking.Sticks → (ms : Maps) → ms.first ≡ map.now → CanStick ms) }
-    ensures never { IfOk result (λ s. s ≡ Sticking.Never → (ms : Maps) → ms.first ≡ map.now → NeverSticks ms) }
+/// Adds where letting go leads from the states of a level, which as many presses lead to. Stops at a state where a key
+/// that holds a modifier looks up a character, and tells which. Stops once too many were met.
+fn close(
+    met: &mut Met,
+    map: &KeyMap,
+    level: usize,
+    presses: usize,
+) -> Result<Option<Stuck>, AllocError>
+    requires searched { Searched map.now met.old.entries level level }
+    requires order { AreInOrder met.old.entries level presses }
+    requires below { level ≤ length met.old.entries }
+    ensures searched { OnOk result (Searched map.now met.new.entries level level) }
+    ensures order { OnOk result (AreInOrder met.new.entries level presses) }
+    ensures grown { OnOk result (Grows met.old.entries met.new.entries) }
+    ensures closed { IfOk result (λ stuck. stuck ≡ None → length met.new.entries ≤ 65536
+        → Searched map.now met.new.entries level (length met.new.entries)) }
+    ensures stuck { IfOk result (λ stuck. IfSome stuck (λ x. IsStuck map.now met.new.entries x.place x.key)) }
 {
-    let mut met = Vec::new(alloc);
-    met.push(Standing::start())?;
-    for i in 0..BOUND {
-        if i >= met.len() {
-            return Ok(Sticking::Never);
+    let mut place = level;
+    while place < met.len() && met.len() <= BOUND {
+        let (held, _) = entry(met, place);
+        if let Some(key) = held.forgetful(map) {
+            return Ok(Some(Stuck { place, key }));
         }
-        let standing = met[i];
-        match standing.forgetful(map) {
-            Some(_) => return Ok(Sticking::Sticks),
-            None => {}
-        }
-        meet_let_gos(&mut met, &standing)?;
-        meet_presses(map, &mut met, &standing)?;
+        meet_let_gos(met, place, &held, presses)?;
+        place += 1;
     }
-    Ok(Sticking::Undecided)
+    Ok(None)
+}
+
+/// Adds where presses lead from the states of a level, which as many presses lead to. Stops once too many were met.
+fn press(met: &mut Met, map: &KeyMap, level: usize, presses: usize) -> Result<(), AllocError>
+    requires small { presses < 65536 }
+    requires searched { Searched map.now met.old.entries level (length met.old.entries) }
+    requires order { AreInOrder met.old.entries level presses }
+    requires below { level ≤ length met.old.entries }
+    ensures searched { OnOk result (length met.new.entries ≤ 65536
+        → Searched map.now met.new.entries (length met.old.entries) (length met.old.entries)) }
+    ensures reached { OnOk result (Searched map.now met.new.entries level level) }
+    ensures order { OnOk result (AreInOrder met.new.entries (length met.old.entries) (presses + 1)) }
+    ensures grown { OnOk result (Grows met.old.entries met.new.entries) }
+{
+    let end = met.len();
+    for place in level..end {
+        if met.len() > BOUND {
+            return Ok(());
+        }
+        let (held, _) = entry(met, place);
+        meet_presses(met, map, place, &held, presses + 1)?;
+    }
+    Ok(())
+}
+
+/// The events to the state at the place, a repeat of the key, and the releases of all keys that hold a modifier.
+fn script(alloc: Global, met: &Met, stuck: Stuck) -> Result<Vec<Event>, AllocError>
+    requires place { stuck.place < length met.now.entries }
+    requires back { GoBack met.now.entries }
+    ensures { IfOk result (λ events. IsScriptTo met.now.entries stuck.place stuck.key (reverse events.items)) }
+{
+    let mut events = Vec::new(alloc);
+    let (held, origin) = entry(met, stuck.place);
+    held.push_releases(&mut events)?;
+    events.push(Event::Press(stuck.key))?;
+    let mut last = origin.last;
+    while let Some((parent, by)) = last {
+        by.push_events(&mut events)?;
+        last = entry(met, parent).1.last;
+    }
+    events.reverse();
+    Ok(events)
+}
+
+/// Decides whether a keymap can leave a modifier on while no key is pressed.
+pub fn sticking(alloc: Global, map: &KeyMap) -> Result<Sticking, AllocError>
+    ensures { IfOk result (λ answer. IsAnswer map.now answer) }
+{
+    let mut met = IndexMap::new(alloc);
+    met.insert(
+        Held::start(),
+        Origin {
+            presses: 0,
+            last: None,
+        },
+    )?;
+    let mut level = 0;
+    let mut presses = 0;
+    while level < met.len() {
+        if let Some(stuck) = close(&mut met, map, level, presses)? {
+            return Ok(Sticking::Sticks(script(alloc, &met, stuck)?));
+        }
+        if met.len() > BOUND {
+            return Ok(Sticking::Undecided);
+        }
+        let end = met.len();
+        press(&mut met, map, level, presses)?;
+        if met.len() > BOUND {
+            return Ok(Sticking::Undecided);
+        }
+        level = end;
+        presses += 1;
+    }
+    Ok(Sticking::Never)
 }

@@ -1,13 +1,13 @@
 //! Histories that were worked out by hand, on both consoles: the answer to each event, and what is on, locked and pending
 //! after it.
 mod maps;
+mod searches;
 
-use crate::{Answer, Event, PlainConsole, Sticking, Translator, WordConsole, replay, sticking};
+use crate::{Answer, Event, PlainConsole, Translator, WordConsole, replay};
 use keymap_core::{Action, KeyCode, KeyMap, LOCKS, Lock, MODIFIERS, Modifier};
 use maps::{
-    CAPS_AND_NUM, CAPS_LOCK_WITH_NOP, LETTER_AND_SHIFT, Line, SHIFT_AND_CAPS, SHIFT_BESIDE_LETTER,
-    SHIFT_OR_LETTER, TWO_CONTROLS, TWO_SCROLL_LOCKS, TWO_SHIFTS, UPPER_HALF, map_of,
-    map_with_accents, map_with_blank_macron,
+    CAPS_AND_NUM, CAPS_LOCK_WITH_NOP, LETTER_AND_SHIFT, Line, SHIFT_AND_CAPS, TWO_CONTROLS,
+    TWO_SCROLL_LOCKS, TWO_SHIFTS, UPPER_HALF, map_of, map_with_accents, map_with_blank_macron,
 };
 use std::alloc::Global;
 use std::process::Abort;
@@ -547,26 +547,4 @@ fn a_refused_replay_delivers_nothing(rt: HostRuntime) -> Result<(), Fail> {
     let map = map_of(rt.alloc(), &SHIFT_AND_CAPS)?;
     expect_unchanged_if_refused(&rt, rt.alloc(), &mut PlainConsole::new(&map))?;
     expect_unchanged_if_refused(&rt, rt.alloc(), &mut WordConsole::new(&map))
-}
-
-/// Asserts whether the map can leave a modifier on.
-fn expect_sticking(
-    rt: &impl Abort,
-    map: &KeyMap,
-    alloc: Global,
-    expected: Sticking,
-) -> Result<(), Fail> {
-    assert_eq!(rt; sticking(alloc, map)?, expected);
-    Ok(())
-}
-
-#[test]
-fn a_keymap_sticks_where_a_holder_can_look_up_a_character(rt: HostRuntime) -> Result<(), Fail> {
-    let safe = map_of(rt.alloc(), &SHIFT_AND_CAPS)?;
-    expect_sticking(&rt, &safe, rt.alloc(), Sticking::Never)?;
-    let trap = map_of(rt.alloc(), &SHIFT_OR_LETTER)?;
-    expect_sticking(&rt, &trap, rt.alloc(), Sticking::Sticks)?;
-    // The key can't hold left shift on and look up the letter at once.
-    let harmless = map_of(rt.alloc(), &SHIFT_BESIDE_LETTER)?;
-    expect_sticking(&rt, &harmless, rt.alloc(), Sticking::Never)
 }

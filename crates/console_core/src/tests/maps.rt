@@ -1,5 +1,5 @@
 //! The maps that the tests use, as slots with their cells and lock flag.
-use keymap_core::{Accent, Action, Cell, Entry, KeyMap, Lock, LockFlag, Modifier};
+use keymap_core::{Accent, Action, Cell, Entry, KeyMap, Lock, LockFlag, MODIFIERS, Modifier};
 use std::alloc::{AllocError, Global};
 use std::test::Fail;
 
@@ -10,6 +10,8 @@ const NOP: Cell = Cell::Act(Action::Nop);
 const LEFT_SHIFT: Cell = Cell::Act(Action::Mod(Modifier::LeftShift));
 
 const LEFT_CONTROL: Cell = Cell::Act(Action::Mod(Modifier::LeftControl));
+
+const LEFT_ALT: Cell = Cell::Act(Action::Mod(Modifier::LeftAlt));
 
 const RIGHT_CONTROL: Cell = Cell::Act(Action::Mod(Modifier::RightControl));
 
@@ -81,8 +83,8 @@ pub const LETTER_AND_SHIFT: [Line; 2] = [
     ),
 ];
 
-/// Left shift, which is a letter where left control is on.
-pub const SHIFT_OR_LETTER: [Line; 2] = [
+/// Left control, and left shift, which is a letter where left control is on.
+pub const LETTER_UNDER_CONTROL: [Line; 2] = [
     (
         29,
         Entry {
@@ -96,8 +98,8 @@ pub const SHIFT_OR_LETTER: [Line; 2] = [
             cells: [
                 LEFT_SHIFT,
                 LEFT_SHIFT,
-                LEFT_SHIFT,
-                Cell::Char('a'),
+                Cell::Char('x'),
+                Cell::Char('x'),
                 LEFT_SHIFT,
                 LEFT_SHIFT,
                 LEFT_SHIFT,
@@ -108,28 +110,119 @@ pub const SHIFT_OR_LETTER: [Line; 2] = [
     ),
 ];
 
-/// Left shift, which is a letter where left shift is off and left control is on.
-pub const SHIFT_BESIDE_LETTER: [Line; 2] = [
+/// Left shift and alt shift, with nothing in the upper half.
+pub const ALT_SHIFT_TO_NOTHING: [Line; 2] = [
     (
-        29,
+        42,
         Entry {
-            cells: [LEFT_CONTROL; 8],
+            cells: [LEFT_SHIFT; 8],
             flag: LockFlag::O,
         },
     ),
     (
+        93,
+        Entry {
+            cells: [ALT_SHIFT; 8],
+            flag: LockFlag::O,
+        },
+    ),
+];
+
+/// Left shift in the lower half alone, and the alt lock in both.
+pub const ALT_LOCK_TO_NOTHING: [Line; 3] = [
+    (
         42,
         Entry {
+            cells: [LEFT_SHIFT; 8],
+            flag: LockFlag::O,
+        },
+    ),
+    (
+        58,
+        Entry {
+            cells: [ALT_LOCK; 8],
+            flag: LockFlag::O,
+        },
+    ),
+    (
+        186,
+        Entry {
+            cells: [ALT_LOCK; 8],
+            flag: LockFlag::O,
+        },
+    ),
+];
+
+/// The caps lock in the lower half alone, and alt shift in both.
+pub const CAPS_LOCK_TO_NOTHING: [Line; 3] = [
+    (
+        58,
+        Entry {
+            cells: [CAPS_LOCK; 8],
+            flag: LockFlag::O,
+        },
+    ),
+    (
+        93,
+        Entry {
+            cells: [ALT_SHIFT; 8],
+            flag: LockFlag::O,
+        },
+    ),
+    (
+        221,
+        Entry {
+            cells: [ALT_SHIFT; 8],
+            flag: LockFlag::O,
+        },
+    ),
+];
+
+/// Key 1 can remember left shift where it looks up the letter, but then key 2 holds left shift on.
+pub const REMEMBERED_BUT_HELD_BY_ANOTHER: [Line; 4] = [
+    (
+        1,
+        Entry {
             cells: [
+                NOP,
                 LEFT_SHIFT,
-                LEFT_SHIFT,
+                NOP,
                 Cell::Char('a'),
                 LEFT_SHIFT,
                 LEFT_SHIFT,
-                LEFT_SHIFT,
-                LEFT_SHIFT,
-                LEFT_SHIFT,
+                NOP,
+                NOP,
             ],
+            flag: LockFlag::O,
+        },
+    ),
+    (
+        2,
+        Entry {
+            cells: [LEFT_SHIFT; 8],
+            flag: LockFlag::O,
+        },
+    ),
+    (
+        3,
+        Entry {
+            cells: [
+                LEFT_CONTROL,
+                NOP,
+                LEFT_CONTROL,
+                NOP,
+                LEFT_CONTROL,
+                NOP,
+                LEFT_CONTROL,
+                NOP,
+            ],
+            flag: LockFlag::O,
+        },
+    ),
+    (
+        4,
+        Entry {
+            cells: [LEFT_ALT; 8],
             flag: LockFlag::O,
         },
     ),
@@ -394,6 +487,20 @@ pub fn map_of(alloc: Global, lines: &[Line]) -> Result<KeyMap, AllocError> {
     let mut map = KeyMap::new(alloc)?;
     for (slot, entry) in lines {
         map.set(*slot, *entry);
+    }
+    Ok(map)
+}
+
+/// Six modifiers with eight keys each, so that there are more than 500,000 ways to hold some of them.
+pub fn map_of_many_modifiers(alloc: Global) -> Result<KeyMap, AllocError> {
+    let mut map = KeyMap::new(alloc)?;
+    for code in 0..48u8 {
+        let modifier = MODIFIERS[(code / 8) as usize];
+        let entry = Entry {
+            cells: [Cell::Act(Action::Mod(modifier)); 8],
+            flag: LockFlag::O,
+        };
+        map.set(code, entry);
     }
     Ok(map)
 }

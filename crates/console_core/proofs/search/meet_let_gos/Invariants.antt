@@ -3,12 +3,12 @@ use Rattle.std.proofs.Common.{◌≡◌, ◌<◌, ℕ}
 use Rattle.keymap_core.specs.declared.action.Modifier.{Modifier}
 use Rattle.keymap_core.specs.Actions.{modifier_index}
 use Rattle.keymap_core.specs.Maps.{MapValue}
-use Rattle.console_core.specs.Searching.{state_of, Grows, AreNext, IsLetGoMet}
+use Rattle.console_core.specs.Searching.{state_of, AreWithin, AreAdded, IsLetGoMet}
 use Rattle.console_core.proofs.search.meet_let_gos.Given as goal
 
 abbrev pub invariant-loop-modifier : goal.invariant-loop-modifier
 invariant-loop-modifier l = record {
-  noted : (n : ℕ) → n < l.modifier-index → (i : Modifier) → modifier_index i ≡ n → IsLetGoMet l.met.items (state_of l.standing) i;
-  only : (m : MapValue) → AreNext m l.fn.met.items l.met.items (state_of l.standing);
-  grows : Grows l.fn.met.items l.met.items;
+  within : AreWithin l.met.entries l.presses;
+  met : (n : ℕ) → n < l.modifier-index → (i : Modifier) → modifier_index i ≡ n → IsLetGoMet l.met.entries l.presses (state_of l.held) i;
+  added : (m : MapValue) → AreAdded m (state_of l.held) l.place 0 l.presses l.fn.met.entries l.met.entries;
 }

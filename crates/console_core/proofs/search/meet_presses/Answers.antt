@@ -1,15 +1,16 @@
 use Rattle.std.proofs.Common.{subst, below_more}
-use Rattle.console_core.specs.Searching.{state_of, Grows, ArePressesMet}
-use Rattle.console_core.proofs.Searching.{grows-again, next-again, next-only, presses-grow}
+use Rattle.console_core.specs.Searching.{state_of, ArePressesMet}
+use Rattle.console_core.proofs.Searching.{added-again, presses-grow}
 use Rattle.console_core.proofs.search.meet_presses.Goals as goal
 
 pub loop-code-preserved : goal.loop-code-preserved
 loop-code-preserved c =
-    let g : Grows c.loop-code.met.items c.meet.new.met.items = c.meet.ensures.grows in
+    let es = c.loop-code.met.entries in
+    let now = c.meet.new.met.entries in
+    let s = state_of c.args.held.now in
     record {
-      noted = below_more _ _ (λ k lt. presses-grow c.args.map.now c.loop-code.met.items c.meet.new.met.items (state_of c.args.standing.now) k g (c.loop-code.invariant.noted k lt))
-          (subst (λ k. ArePressesMet c.args.map.now c.meet.new.met.items (state_of c.args.standing.now) k) c.key_with.ensures (c.pressed.ensures.met c.meet.new.met.items c.in_ok-meet.ensures.contained));
-      only = next-again c.args.map.now c.args.met.now.items c.loop-code.met.items c.meet.new.met.items (state_of c.args.standing.now) c.loop-code.invariant.only
-          (next-only c.args.map.now c.loop-code.met.items c.meet.new.met.items (state_of c.args.standing.now) c.pressed.result c.meet.ensures.only c.pressed.ensures.next);
-      grows = grows-again c.args.met.now.items c.loop-code.met.items c.meet.new.met.items c.loop-code.invariant.grows g;
+      within = c.in_ok-meet.ensures.within;
+      met = below_more _ _ (λ k lt. presses-grow c.args.map.now es now c.args.presses s k c.in_ok-meet.ensures.grown (c.loop-code.invariant.met k lt))
+          (subst (λ k. ArePressesMet c.args.map.now now c.args.presses s k) c.key_with.ensures (c.pressed.ensures.met now c.args.presses c.in_ok-meet.ensures.met));
+      added = added-again c.args.map.now s c.args.place 1 c.args.presses c.args.met.now.entries es now c.loop-code.invariant.added (c.in_ok-meet.ensures.added c.args.map.now c.args.held.now 1 c.pressed.ensures.step);
     }

@@ -1,11 +1,11 @@
 -- what presses of the keys below the code lead to was met
 use Rattle.std.proofs.Common.{◌<◌, ℕ}
-use Rattle.console_core.specs.Searching.{state_of, Grows, AreNext, ArePressesMet}
+use Rattle.console_core.specs.Searching.{state_of, AreWithin, AreAdded, ArePressesMet}
 use Rattle.console_core.proofs.search.meet_presses.Given as goal
 
 abbrev pub invariant-loop-code : goal.invariant-loop-code
 invariant-loop-code l = record {
-  noted : (k : ℕ) → k < l.code → ArePressesMet l.map l.met.items (state_of l.standing) k;
-  only : AreNext l.map l.fn.met.items l.met.items (state_of l.standing);
-  grows : Grows l.fn.met.items l.met.items;
+  within : AreWithin l.met.entries l.presses;
+  met : (k : ℕ) → k < l.code → ArePressesMet l.map l.met.entries l.presses (state_of l.held) k;
+  added : AreAdded l.map (state_of l.held) l.place 1 l.presses l.fn.met.entries l.met.entries;
 }

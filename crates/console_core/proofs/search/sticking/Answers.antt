@@ -1,35 +1,59 @@
-use Rattle.std.proofs.Common.{◌<◌, ◌≤◌, length, sym, arith, below_more}
-use Rattle.console_core.specs.Searching.{state_of, Grows, IsDone}
-use Rattle.console_core.proofs.Searching.{grows-again, let_go-grows, met-grows, are_done-grow, done-here, met-never, next-again, reached-again, reached-sticks}
+use Rattle.std.proofs.Common.{◌≡◌, ◌≤◌, ◌+◌, [], ◌∷◌, length, None, IfSome, reverse, subst, sym, arith}
+use Rattle.std.proofs.lemmas.Option.{slice_get_within}
+use Rattle.console_core.specs.declared.search.Origin.{Origin}
+use Rattle.console_core.specs.Searching.{Searched, AreInOrder, IsStuck}
+use Rattle.console_core.proofs.Searching.{added-longer, start-entries, searched-start, searched-never, searched-back, stuck-sticks}
 use Rattle.console_core.proofs.search.sticking.Goals as goal
 
-pub returns-then-i-len-clause-never : goal.returns-then-i-len-clause-never
-returns-then-i-len-clause-never c =
-    let le : length c.loop-i.met.items ≤ c.loop-i.i = omega (arith, c.loop-i.met.ok, c.len.ensures) in
-    λ e ms first. met-never c.args.map.now c.loop-i.met.items c.loop-i.i c.loop-i.invariant.start c.loop-i.invariant.done le ms first
-
-pub returns-in-Some-clause-sticks : goal.returns-in-Some-clause-sticks
-returns-in-Some-clause-sticks c =
-    let lt : c.loop-i.i < length c.loop-i.met.items = omega (arith, c.loop-i.met.ok, c.len.ensures) in
-    λ e ms first. reached-sticks c.args.map.now c.loop-i.met.items c.index.result.now c.in-Some.field-0 (c.loop-i.i, lt, sym c.index.ensures) c.loop-i.invariant.reached (c.in-Some.ensures).0 (c.in-Some.ensures).1 ms first
-
-pub loop-i-preserved : goal.loop-i-preserved
-loop-i-preserved c =
-    let old = c.loop-i.met.items in
-    let mid = c.meet_let_gos.new.met.items in
-    let new = c.meet_presses.new.met.items in
-    let late : Grows mid new = c.meet_presses.ensures.grows in
-    let g : Grows old new = grows-again old mid new c.meet_let_gos.ensures.grows late in
-    let lt : c.loop-i.i < length old = omega (arith, c.loop-i.met.ok, c.len.ensures) in
-    let done : IsDone c.args.map.now new (state_of c.index.result.now) = record {
-      let_gos = λ i. let_go-grows mid new (state_of c.index.result.now) i late (c.in_ok-meet_let_gos.ensures.noted i);
-      presses = c.in_ok-meet_presses.ensures.noted;
-      safe = c.in-None.ensures;
-    } in
+pub loop-level-init : goal.loop-level-init
+loop-level-init c =
+    let origin : Origin = record { presses = 0; last = None } in
+    let e : c.insert.new.self.entries ≡ (c.start.result, origin) ∷ [] =
+    start-entries _ c.new-met.result.entries c.insert.new.self.entries (c.start.result, origin) c.new-met.ensures.empty c.in_ok-insert.ensures.entries in
+    let s : Searched c.args.map.now c.insert.new.self.entries 0 0 × AreInOrder c.insert.new.self.entries 0 0 = searched-start c.args.map.now c.start.result c.start.ensures c.insert.new.self.entries e in
     record {
-      start = met-grows old new _ g c.loop-i.invariant.start;
-      reached = reached-again c.args.map.now old new c.index.result.now (c.loop-i.i, lt, sym c.index.ensures) c.loop-i.invariant.reached
-          (next-again c.args.map.now old mid new (state_of c.index.result.now) (c.in_ok-meet_let_gos.ensures.only c.args.map.now) c.in_ok-meet_presses.ensures.only);
-      done = below_more _ _ (are_done-grow c.args.map.now old new c.loop-i.i (omega arith) g c.loop-i.invariant.done)
-          (λ x e. done-here c.args.map.now old new c.loop-i.i x c.index.result.now g lt c.index.ensures e done);
+      searched = s.0;
+      order = s.1;
+      below = omega arith;
+      levels = omega arith;
+      small = subst (λ z. length z ≤ 65536) (sym e) (omega arith);
+    }
+
+pub returns : goal.returns
+returns c =
+    let le : length c.loop-level.met.entries ≤ c.loop-level.level = omega (arith, c.loop-level-test.false, c.len.ensures.len) in
+    searched-never c.args.map.now c.loop-level.met.entries c.loop-level.level le c.loop-level.invariant.searched
+
+pub script-requires-clause-place : goal.script-requires-clause-place
+script-requires-clause-place c =
+    let es = c.close.new.met.entries in
+    let stuck : IsStuck c.args.map.now es c.in-Some.stuck.place c.in-Some.stuck.key = subst (λ o. IfSome o (λ x. IsStuck c.args.map.now es x.place x.key)) c.in-Some.is c.in_ok-stuck.ensures.stuck in
+    slice_get_within es c.in-Some.stuck.place stuck.0 stuck.1
+
+pub script-requires-clause-back : goal.script-requires-clause-back
+script-requires-clause-back c = searched-back c.args.map.now c.close.new.met.entries c.loop-level.level c.loop-level.level c.in_ok-stuck.ensures.searched
+
+pub returns-in-Some : goal.returns-in-Some
+returns-in-Some c =
+    let es = c.close.new.met.entries in
+    let stuck : IsStuck c.args.map.now es c.in-Some.stuck.place c.in-Some.stuck.key = subst (λ o. IfSome o (λ x. IsStuck c.args.map.now es x.place x.key)) c.in-Some.is c.in_ok-stuck.ensures.stuck in
+    stuck-sticks c.args.map.now es c.loop-level.level c.loop-level.presses c.in-Some.stuck.place c.in-Some.stuck.key c.in_ok-stuck.ensures.order c.in_ok-stuck.ensures.searched stuck
+    (reverse c.in_ok-script.field-0.items) c.in_ok-script.ensures
+
+pub loop-level-preserved : goal.loop-level-preserved
+loop-level-preserved c =
+    let m = c.args.map.now in
+    let es = c.loop-level.met.entries in
+    let mid = c.close.new.met.entries in
+    let now = c.press.new.met.entries in
+    let e : c.len-end.result ≡ length mid = c.len-end.ensures.len in
+    let small : length now ≤ 65536 = omega (arith, c.if-len-gt-BOUND-2.false, c.len-in-loop-level-2.ensures.len) in
+    let closed_longer : length es ≤ length mid = added-longer es mid c.in_ok-stuck.ensures.grown in
+    let pressed_longer : length mid ≤ length now = added-longer mid now c.in_ok-press.ensures.grown in
+    record {
+      searched = subst (λ n. Searched m now n n) (sym e) (c.in_ok-press.ensures.searched small);
+      order = subst (λ n. AreInOrder now n (c.loop-level.presses + 1)) (sym e) c.in_ok-press.ensures.order;
+      below = omega (arith, e, pressed_longer);
+      levels = omega (arith, e, closed_longer, c.loop-level.invariant.levels, c.loop-level-test.true, c.len.ensures.len);
+      small = small;
     }

@@ -1,11 +1,16 @@
--- the start was met, and the states below the place are done
-use Rattle.console_core.specs.Sticking.{start}
-use Rattle.console_core.specs.Searching.{IsMet, AreDone, AreReached}
+-- the states below the level are pressed and closed, and as many presses lead to the others
+use Rattle.std.proofs.Common.{◌≤◌, ◌-◌, length}
+use Rattle.console_core.specs.Searching.{Searched, AreInOrder}
 use Rattle.console_core.proofs.search.sticking.Given as goal
 
-abbrev pub invariant-loop-i : goal.invariant-loop-i
-invariant-loop-i l = record {
-  start : IsMet l.met.items start;
-  reached : AreReached l.map l.met.items;
-  done : AreDone l.map l.met.items l.i;
+abbrev pub invariant-loop-level : goal.invariant-loop-level
+invariant-loop-level l = record {
+  searched : Searched l.map l.met.entries l.level l.level;
+  order : AreInOrder l.met.entries l.level l.presses;
+  below : l.level ≤ length l.met.entries;
+  levels : l.presses ≤ l.level;
+  small : length l.met.entries ≤ 65536;
 }
+
+abbrev pub decreases-loop-level : goal.decreases-loop-level
+decreases-loop-level l = 65537 - l.level

@@ -2,9 +2,9 @@
 use Rattle.std.proofs.Common.{◌≡◌, ◌<◌, ℕ}
 use Rattle.keymap_core.specs.declared.action.Modifier.{Modifier}
 use Rattle.keymap_core.specs.Actions.{modifier_index}
-use Rattle.console_core.specs.Sticking.{Forgets}
+use Rattle.console_core.specs.Moves.{Forgets}
 use Rattle.console_core.specs.Searching.{state_of}
-use Rattle.console_core.proofs.search.Standing.forgetful.Given as goal
+use Rattle.console_core.proofs.held.Held.forgetful.Given as goal
 
 abbrev pub invariant-loop-modifier : goal.invariant-loop-modifier
 invariant-loop-modifier l = (n : ℕ) → n < l.modifier-index → (i : Modifier) → modifier_index i ≡ n → (k : ℕ) → Forgets l.map (state_of l.self) i k → ⊥

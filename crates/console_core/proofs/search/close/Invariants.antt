@@ -1,0 +1,15 @@
+-- the states of the level below the place are closed
+use Rattle.std.proofs.Common.{◌≤◌, ◌-◌, length}
+use Rattle.console_core.specs.Searching.{Searched, AreInOrder, Grows}
+use Rattle.console_core.proofs.search.close.Given as goal
+
+abbrev pub invariant-loop-place : goal.invariant-loop-place
+invariant-loop-place l = record {
+  searched : Searched l.map l.met.entries l.level l.place;
+  order : AreInOrder l.met.entries l.level l.presses;
+  grown : Grows l.fn.met.entries l.met.entries;
+  after : l.level ≤ l.place;
+}
+
+abbrev pub decreases-loop-place : goal.decreases-loop-place
+decreases-loop-place l = 65537 - l.place

@@ -1,0 +1,45 @@
+use Rattle.std.proofs.Common.{◌≤◌, ◌<◌, ◌+◌, [], length, sym, arith}
+use Rattle.std.proofs.lemmas.List.{append-nil}
+use Rattle.console_core.specs.Searching.{state_of, AreAdded, Searched, AreInOrder, Grows}
+use Rattle.console_core.proofs.Searching.{press-step, order-next, searched-fewer}
+use Rattle.console_core.proofs.search.press.Goals as goal
+
+pub loop-place-init : goal.loop-place-init
+loop-place-init c = record {
+  searched = c.requires.searched;
+  order = order-next c.args.met.now.entries c.args.level c.args.presses c.requires.order;
+  grown = ([], sym (append-nil c.args.met.now.entries));
+}
+
+pub returns-then-len-gt-BOUND-clause-reached : goal.returns-then-len-gt-BOUND-clause-reached
+returns-then-len-gt-BOUND-clause-reached c =
+    searched-fewer c.args.map.now c.loop-place.met.entries c.loop-place.place (length c.args.met.now.entries) c.args.level c.args.level (omega (arith, c.loop-place.auto.place)) c.requires.below c.loop-place.invariant.searched
+
+pub loop-place-preserved : goal.loop-place-preserved
+loop-place-preserved c =
+    let m = c.args.map.now in
+    let old = c.args.met.now.entries in
+    let es = c.loop-place.met.entries in
+    let now = c.meet_presses.new.met.entries in
+    let n = c.loop-place.place in
+    let y = c.entry-held.result in
+    let le : c.args.level ≤ n = omega (arith, c.loop-place.auto.place) in
+    let lt : n < length old = omega (arith, c.loop-place-test.true, c.len-end.ensures.len) in
+    let step : Searched m now (n + 1) (length old) × AreInOrder now (length old) (c.args.presses + 1) × Grows old now =
+    press-step m old es now c.args.level c.args.presses n y c.loop-place.invariant.searched c.requires.order c.loop-place.invariant.grown c.loop-place.invariant.order le lt c.entry-held.ensures
+    c.in_ok-meet_presses.ensures.added c.in_ok-meet_presses.ensures.met in
+    record {
+      searched = step.0;
+      order = step.1;
+      grown = step.2;
+    }
+
+pub returns-clause-searched : goal.returns-clause-searched
+returns-clause-searched c =
+    λ small.
+    let le : length c.args.met.now.entries ≤ c.loop-place.place = omega (arith, c.loop-place-test.false, c.len-end.ensures.len) in
+    searched-fewer c.args.map.now c.loop-place.met.entries c.loop-place.place (length c.args.met.now.entries) (length c.args.met.now.entries) (length c.args.met.now.entries) le (omega arith) c.loop-place.invariant.searched
+
+pub returns-clause-reached : goal.returns-clause-reached
+returns-clause-reached c =
+    searched-fewer c.args.map.now c.loop-place.met.entries c.loop-place.place (length c.args.met.now.entries) c.args.level c.args.level (omega (arith, c.loop-place.auto.place)) c.requires.below c.loop-place.invariant.searched

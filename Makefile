@@ -1,6 +1,5 @@
 # make               proves and builds the program, and leaves it at crates/kmap/out/kmap; at once where nothing changed
 # make check         proves every crate from nothing, tries the edits that must be refused, and runs all tests
-# make check-memory  runs the tests of the crates with each of their first allocations refused, some 20 minutes in all
 # make bench         measures the program on large inputs
 # make install       installs the program, manual pages, completions, examples and documents in $(DESTDIR)$(PREFIX)
 # make uninstall     removes what this version installs
@@ -13,6 +12,7 @@ DESTDIR =
 RT = rt
 INSTALL = install
 PROGRAM = crates/kmap/out/kmap
+REFUSALS = crates/refusals/out/refusals
 
 SHARE = $(DESTDIR)$(PREFIX)/share
 MAN = $(SHARE)/man
@@ -32,9 +32,8 @@ check: all
 	sh tests/manual.sh $(PROGRAM)
 	sh tests/install.sh
 	sh tests/refused_memory.sh $(PROGRAM)
-
-check-memory:
-	RT="$(RT)" sh tests/refused_growth.sh
+	cd crates/refusals && $(RT) run -- read_map > /dev/null
+	sh tests/refused_calls.sh $(REFUSALS)
 
 bench: all
 	sh bench/run.sh $(PROGRAM)
@@ -65,4 +64,4 @@ uninstall:
 clean:
 	rm -rf crates/*/out
 
-.PHONY: all check check-memory bench install uninstall clean
+.PHONY: all check bench install uninstall clean

@@ -1,6 +1,7 @@
 /*
  * Preloaded into a program, refuses one of its allocations: the one whose number REFUSE gives, counted from 1. Where
- * ALLOCATIONS names a file, the number of all of them is written there at the end.
+ * ALLOCATIONS names a file, the number of all of them is written there at the end. With MARKED set, only those between
+ * the first and the second write to standard error are counted.
  */
 #define _GNU_SOURCE
 #include <dlfcn.h>
@@ -21,13 +22,18 @@ __attribute__((destructor)) static void tell(void) {
         unlink(name);
 }
 
+/* How often standard error was written to. */
+static int marks;
+
 static int refused(void) {
     static long wanted = -1;
+    static int is_marked;
     if (wanted < 0) {
         const char *text = getenv("REFUSE");
         wanted = text ? atol(text) : 0;
+        is_marked = getenv("MARKED") != NULL;
     }
-    if (++count != wanted)
+    if ((is_marked && marks != 1) || ++count != wanted)
         return 0;
     errno = ENOMEM;
     return 1;
@@ -59,4 +65,17 @@ void *aligned_alloc(size_t alignment, size_t size) {
     if (!next)
         next = (void *(*)(size_t, size_t))dlsym(RTLD_NEXT, "aligned_alloc");
     return refused() ? NULL : next(alignment, size);
+}
+
+ssize_t write(int file, const void *bytes, size_t size) {
+    static ssize_t (*next)(int, const void *, size_t);
+    if (!next)
+        next = (ssize_t (*)(int, const void *, size_t))dlsym(RTLD_NEXT, "write");
+    marks += file == STDERR_FILENO;
+    return next(file, bytes, size);
+}
+
+/* The C library's other name of it. */
+ssize_t __write(int file, const void *bytes, size_t size) {
+    return write(file, bytes, size);
 }

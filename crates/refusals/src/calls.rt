@@ -1,0 +1,301 @@
+//! The calls, each on inputs that are made before.
+use crate::devices::{Counting, reader_of};
+use crate::outcome::{Answer, Outcome};
+use console_core::{Event, PlainConsole, Translator, WordConsole, replay};
+use keymap_core::{
+    KeyCode, KeyMap, Lock, Modifier, ReadError, ToStd, Write, read_up_to, write_text,
+};
+use keymap_tables::{TableError, read_tables, read_tables_from, write_tables};
+use keymap_text::{MapReader, TextError, read_from, read_map};
+use play_core::{PlayError, ScriptError, Show, play, play_next, read_script};
+use std::alloc::{AllocError, Global};
+
+/// A letter, a shift, a lock and a dead key with its accent.
+const TEXT: &[u8] = b"026 dacu dacu dacu dacu dacu dacu dacu dacu O
+030 'a' 'A' nop nop 'a' 'A' nop nop C
+042 lshift lshift lshift lshift lshift lshift lshift lshift O
+058 clock clock clock clock clock clock clock clock O
+dacu 180 ( 'e' 0xe9 )
+";
+
+/// A text with a fault in its first byte.
+const FAULTY: &[u8] = b")";
+
+/// Makes the call of this name. There is none where no call has the name.
+pub fn outcome_of<W: Write>(
+    alloc: Global,
+    name: &str,
+    marks: &mut W,
+) -> Result<Option<Outcome>, AllocError> {
+    let outcome = match name {
+        "KeyMap::new" => new_map(alloc, marks),
+        "try_clone" => copies_map(alloc, marks)?,
+        "read_up_to" => reads_up_to(alloc, marks),
+        "read_map" => reads_map(alloc, TEXT, marks),
+        "read_map-faulty" => reads_map(alloc, FAULTY, marks),
+        "MapReader::new" => new_reader(alloc, marks),
+        "read_from" => reads_from(alloc, TEXT, marks),
+        "read_from-faulty" => reads_from(alloc, FAULTY, marks),
+        "read_tables" => reads_tables(alloc, tables(alloc)?.as_slice(), marks),
+        "read_tables-faulty" => reads_tables(alloc, &[0xff; TABLES], marks),
+        "read_tables-short" => reads_tables(alloc, TEXT, marks),
+        "read_tables-long" => reads_tables(alloc, &[0; TABLES + 1], marks),
+        "read_tables_from" => reads_tables_from(alloc, tables(alloc)?.as_slice(), marks),
+        "replay-plain" => replays_plainly(alloc, marks)?,
+        "replay-word" => replays_in_a_word(alloc, marks)?,
+        "read_script" => reads_script(alloc, marks),
+        "play-lines" => plays(alloc, Show::Lines, marks),
+        "play-typed" => plays(alloc, Show::Typed, marks),
+        "play_next-lines" => plays_next(alloc, Show::Lines, marks),
+        "play_next-typed" => plays_next(alloc, Show::Typed, marks),
+        _ => return Ok(None),
+    };
+    Ok(Some(outcome))
+}
+
+/// The answer of a call that came to an end, if it is the right one.
+fn done(is_right: bool) -> Answer {
+    if is_right {
+        Answer::Done
+    } else {
+        Answer::Fault
+    }
+}
+
+/// Tells that the call begins, or that it has ended.
+fn mark<W: Write>(marks: &mut W) {
+    let _ = write_text(marks, b"call\n");
+}
+
+fn sample(alloc: Global) -> Result<KeyMap, AllocError> {
+    match read_map(alloc, TEXT) {
+        Ok(map) => Ok(map),
+        Err(_) => Err(AllocError),
+    }
+}
+
+/// How many bytes the tables of a map have.
+const TABLES: usize = 15_524;
+
+fn tables(alloc: Global) -> Result<Vec<u8>, AllocError> {
+    let mut bytes = Vec::from_array(alloc, [0; TABLES])?;
+    let _ = write_tables(&sample(alloc)?, &mut ToStd::new(bytes.as_mut_slice()));
+    Ok(bytes)
+}
+
+/// More bytes than are read at once, so that they outgrow their memory, as the events do: a thousand lines.
+fn script() -> [u8; 8000] {
+    let mut script = [0; 8000];
+    for (index, byte) in script.iter_mut().enumerate() {
+        *byte = b"down 30\n"[index % 8];
+    }
+    script
+}
+
+fn new_map<W: Write>(alloc: Global, marks: &mut W) -> Outcome {
+    mark(marks);
+    let answer = KeyMap::new(alloc);
+    mark(marks);
+    match answer {
+        Ok(map) => Outcome::of(done(map.n_keys() == 0)),
+        Err(AllocError) => Outcome::of(Answer::Memory),
+    }
+}
+
+fn copies_map<W: Write>(alloc: Global, marks: &mut W) -> Result<Outcome, AllocError> {
+    let map = sample(alloc)?;
+    let twin = sample(alloc)?;
+    mark(marks);
+    let answer = map.try_clone(alloc);
+    mark(marks);
+    Ok(Outcome {
+        answer: match answer {
+            Ok(copy) => done(copy == map),
+            Err(AllocError) => Answer::Memory,
+        },
+        kept: map == twin,
+    })
+}
+
+fn reads_up_to<W: Write>(alloc: Global, marks: &mut W) -> Outcome {
+    let script = script();
+    let mut reader = reader_of(&script);
+    mark(marks);
+    let answer = read_up_to(alloc, &mut reader, 8000);
+    mark(marks);
+    Outcome::of(match answer {
+        Ok(bytes) => done(bytes.as_slice() == script.as_slice()),
+        Err(ReadError::Read(_fault)) => Answer::Fault,
+        Err(ReadError::Memory) => Answer::Memory,
+    })
+}
+
+/// What a reading of a text answered.
+fn text_answer(answer: Result<KeyMap, TextError>) -> Answer {
+    match answer {
+        Ok(map) => done(map.n_keys() == 59),
+        Err(TextError::Read(_) | TextError::Fault(_)) => Answer::Fault,
+        Err(TextError::Memory) => Answer::Memory,
+    }
+}
+
+fn reads_map<W: Write>(alloc: Global, text: &[u8], marks: &mut W) -> Outcome {
+    mark(marks);
+    let answer = read_map(alloc, text);
+    mark(marks);
+    Outcome::of(text_answer(answer))
+}
+
+fn new_reader<W: Write>(alloc: Global, marks: &mut W) -> Outcome {
+    mark(marks);
+    let answer = MapReader::new(alloc);
+    mark(marks);
+    match answer {
+        Ok(reader) => Outcome::of(done(reader.fed() == 0)),
+        Err(AllocError) => Outcome::of(Answer::Memory),
+    }
+}
+
+/// Where memory is refused, nothing was read.
+fn reads_from<W: Write>(alloc: Global, text: &[u8], marks: &mut W) -> Outcome {
+    let mut reader = reader_of(text);
+    mark(marks);
+    let answer = read_from(alloc, &mut reader);
+    mark(marks);
+    let answer = text_answer(answer);
+    Outcome {
+        answer,
+        kept: answer != Answer::Memory || reader.reads == 0,
+    }
+}
+
+/// What a reading of tables answered.
+fn table_answer(answer: Result<KeyMap, TableError>) -> Answer {
+    match answer {
+        Ok(map) => done(map.n_keys() == 59),
+        Err(TableError::Read(_) | TableError::Fault(_)) => Answer::Fault,
+        Err(TableError::Memory) => Answer::Memory,
+    }
+}
+
+fn reads_tables<W: Write>(alloc: Global, bytes: &[u8], marks: &mut W) -> Outcome {
+    mark(marks);
+    let answer = read_tables(alloc, bytes);
+    mark(marks);
+    Outcome::of(table_answer(answer))
+}
+
+fn reads_tables_from<W: Write>(alloc: Global, bytes: &[u8], marks: &mut W) -> Outcome {
+    let mut reader = reader_of(bytes);
+    mark(marks);
+    let answer = read_tables_from(alloc, &mut reader);
+    mark(marks);
+    Outcome::of(table_answer(answer))
+}
+
+/// The key with this code is pressed.
+fn press(code: u8) -> Event {
+    match KeyCode::new(code) {
+        Some(key) => Event::Press(key),
+        None => Event::Reset,
+    }
+}
+
+/// Whether two consoles show the same, and answer the same to each of the events.
+fn agree<T: Translator>(one: &mut T, other: &mut T, events: &[Event]) -> bool {
+    for event in events {
+        let shown = one.on(Modifier::LeftShift) == other.on(Modifier::LeftShift)
+            && one.locked(Lock::Caps) == other.locked(Lock::Caps)
+            && one.pending() == other.pending();
+        if !shown || one.step(*event) != other.step(*event) {
+            return false;
+        }
+    }
+    true
+}
+
+/// Replays events on the first of two new consoles, after a few on both. Where memory is refused, the first one goes on
+/// as the other does, which was lent to nobody.
+fn replays<T: Translator, W: Write>(
+    alloc: Global,
+    console: &mut T,
+    twin: &mut T,
+    marks: &mut W,
+) -> Outcome {
+    for code in [42, 58, 26] {
+        console.step(press(code));
+        twin.step(press(code));
+    }
+    let events = [press(58), press(30), press(26)];
+    mark(marks);
+    let answer = replay(alloc, console, &events);
+    mark(marks);
+    match answer {
+        Ok(answers) => Outcome::of(done(answers.len() == events.len())),
+        Err(AllocError) => Outcome {
+            answer: Answer::Memory,
+            kept: agree(console, twin, &events),
+        },
+    }
+}
+
+fn replays_plainly<W: Write>(alloc: Global, marks: &mut W) -> Result<Outcome, AllocError> {
+    let map = sample(alloc)?;
+    let mut console = PlainConsole::new(&map);
+    let mut twin = PlainConsole::new(&map);
+    Ok(replays(alloc, &mut console, &mut twin, marks))
+}
+
+fn replays_in_a_word<W: Write>(alloc: Global, marks: &mut W) -> Result<Outcome, AllocError> {
+    let map = sample(alloc)?;
+    let mut console = WordConsole::new(&map);
+    let mut twin = WordConsole::new(&map);
+    Ok(replays(alloc, &mut console, &mut twin, marks))
+}
+
+fn reads_script<W: Write>(alloc: Global, marks: &mut W) -> Outcome {
+    let script = script();
+    mark(marks);
+    let answer = read_script(alloc, &script);
+    mark(marks);
+    Outcome::of(match answer {
+        Ok(sent) => done(sent.len() == 1000),
+        Err(ScriptError::Fault(_fault)) => Answer::Fault,
+        Err(ScriptError::Memory) => Answer::Memory,
+    })
+}
+
+/// What a play came to. Where memory is refused, nothing was written.
+fn played(answer: Result<(), PlayError>, out: &Counting) -> Outcome {
+    match answer {
+        Ok(()) => Outcome::of(Answer::Done),
+        Err(PlayError::Memory) => Outcome {
+            answer: Answer::Memory,
+            kept: out.writes == 0,
+        },
+        Err(_) => Outcome::of(Answer::Fault),
+    }
+}
+
+fn plays<W: Write>(alloc: Global, show: Show, marks: &mut W) -> Outcome {
+    let script = script();
+    let mut text = reader_of(TEXT);
+    let mut events = reader_of(&script);
+    let mut out = Counting { writes: 0 };
+    mark(marks);
+    let answer = play(alloc, show, &mut text, &mut events, &mut out);
+    mark(marks);
+    played(answer, &out)
+}
+
+fn plays_next<W: Write>(alloc: Global, show: Show, marks: &mut W) -> Outcome {
+    let script = script();
+    let mut text = reader_of(TEXT);
+    let mut next = reader_of(TEXT);
+    let mut events = reader_of(&script);
+    let mut out = Counting { writes: 0 };
+    mark(marks);
+    let answer = play_next(alloc, show, &mut text, &mut next, &mut events, &mut out);
+    mark(marks);
+    played(answer, &out)
+}

@@ -1,0 +1,38 @@
+//! What came of a call.
+use std::fmt;
+
+/// What a call answered.
+#[derive(Clone, Copy, Debug, PartialEq, Eq)]
+pub enum Answer {
+    Done,
+    /// Memory was refused.
+    Memory,
+    /// What it was given has a fault.
+    Fault,
+}
+
+/// What a call answered, and whether it left alone what it must.
+#[derive(Clone, Copy, Debug, PartialEq, Eq)]
+pub struct Outcome {
+    pub answer: Answer,
+    pub kept: bool,
+}
+
+impl Outcome {
+    /// A call that was lent nothing which it has to leave alone.
+    pub fn of(answer: Answer) -> Outcome {
+        Outcome { answer, kept: true }
+    }
+}
+
+impl fmt::Display for Outcome {
+    fn fmt<W: fmt::Write>(&self, f: &mut fmt::Formatter<W>) -> fmt::Result {
+        let answer = match self.answer {
+            Answer::Done => "ok",
+            Answer::Memory => "memory",
+            Answer::Fault => "fault",
+        };
+        let change = if self.kept { "" } else { " changed" };
+        write!(f, "{answer}{change}")
+    }
+}

@@ -1,0 +1,72 @@
+#!/bin/sh
+# Runs each call of the libraries that takes memory with each of its own allocations refused in turn: it answers that
+# memory was refused, and leaves alone what it must. With ample memory it never answers so.
+#
+# usage: refused_calls.sh PROGRAM
+# PROGRAM is that of crates/refusals, which makes the calls and tells of what they left alone. The last line is
+# 'N passed, M failed'; the status is 0 where none failed. It needs the C compiler that CC names, cc unless it is set.
+
+program=${1:-crates/refusals/out/refusals}
+tests=$(dirname "$0")
+. "$tests/shared.sh"
+folder=$(mktemp -d) || exit 1
+trap 'rm -rf "$folder"' EXIT
+
+if ! command -v "${CC:-cc}" > /dev/null; then
+    holds "there is no C compiler ${CC:-cc}, so no allocation can be refused; set CC" false
+    counted
+    exit 1
+fi
+"${CC:-cc}" -shared -fPIC -O1 -o "$folder/refuse.so" "$tests/refuse.c" -ldl || exit 1
+
+# answers CALL NUMBER WANTED: the call answers so with this one of its own allocations refused, where it has that many
+answers() {
+    rm -f "$folder/count"
+    got=$(ALLOCATIONS="$folder/count" MARKED=1 REFUSE=$2 LD_PRELOAD="$folder/refuse.so" \
+        "$program" "$1" 2> "$folder/marks")
+    status=$?
+    holds "$1 with allocation $2 refused: '$got' in place of '$3', status $status" \
+        test "$status, $(($(wc -l < "$folder/marks"))) marks, $got" = "0, 2 marks, $3"
+    count=$(cat "$folder/count")
+}
+
+# refuses CALL [ANSWER]: the call answers so with ample memory, ok unless it is given, and memory where it is refused
+refuses() {
+    answers "$1" 0 "${2:-ok}"
+    all=${count:-0}
+    holds "$1 takes no memory" test "$all" -gt 0
+    number=1
+    while [ $number -le "$all" ]; do
+        answers "$1" $number memory
+        number=$((number + 1))
+    done
+}
+
+# takes_none CALL ANSWER: the call answers so, and takes no memory that could be refused
+takes_none() {
+    answers "$1" 1 "$2"
+    holds "$1 takes memory" test "$count" = 0
+}
+
+refuses KeyMap::new
+refuses try_clone
+refuses read_up_to
+refuses read_map
+refuses read_map-faulty fault
+refuses MapReader::new
+refuses read_from
+refuses read_from-faulty fault
+refuses read_tables
+refuses read_tables-faulty fault
+takes_none read_tables-short fault
+takes_none read_tables-long fault
+refuses read_tables_from
+refuses replay-plain
+refuses replay-word
+refuses read_script
+refuses play-lines
+refuses play-typed
+refuses play_next-lines
+refuses play_next-typed
+
+counted

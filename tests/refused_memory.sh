@@ -1,6 +1,6 @@
 #!/bin/sh
 # Runs the built program once for each of its allocations, with that one refused: it says that it is out of memory and
-# has written nothing, or it ends as it does with ample memory and has made the same file.
+# has written nothing. Before it opens a file it may also do without, and end as it does with ample memory.
 #
 # usage: refused_memory.sh PROGRAM
 # The last line is 'N passed, M failed'; the status is 0 where none failed. It needs the C compiler that CC names, cc
@@ -26,6 +26,8 @@ fi
 
 printf "030 'a' 'A' nop nop 'a' 'A' nop nop C\n" > letter
 printf "042 lshift lshift lshift lshift lshift lshift lshift lshift O\ndacu 180 ( 'e' 0xe9 )\n" > shift
+cp "$examples/trap.kbd" trap
+mkdir none
 # Longer than what is read at once, so that the bytes outgrow their memory as the events do.
 yes 'down 30
 lost up 30
@@ -52,6 +54,15 @@ same_file() {
     fi
 }
 
+# before ARGS..: how often the program allocates up to where it opens a file: as often as where there is none to open
+before() {
+    (
+        cd none || exit 1
+        ALLOCATIONS=count LD_PRELOAD=../refuse.so "$program" "$@" > /dev/null 2>&1
+        cat count
+    )
+}
+
 # refuses STATUS ARGS..: the program ends so with ample memory, and each refusal is told
 refuses() {
     status=$1
@@ -65,6 +76,7 @@ refuses() {
         return
     fi
     [ ! -e made ] || mv made good
+    before=$(before "$@")
     told=0
     number=1
     while [ $number -le "$(cat count)" ]; do
@@ -74,7 +86,8 @@ refuses() {
         if [ $got -eq 1 ] && [ ! -s stdout ] && [ ! -e made ] && cmp -s said stderr; then
             told=$((told + 1))
             passed=$((passed + 1))
-        elif [ $got -eq "$status" ] && cmp -s wanted stdout && [ ! -s stderr ] && same_file; then
+        elif [ $number -le "$before" ] &&
+            [ $got -eq "$status" ] && cmp -s wanted stdout && [ ! -s stderr ] && same_file; then
             passed=$((passed + 1))
         else
             failed=$((failed + 1))
@@ -89,7 +102,7 @@ refuses() {
 }
 
 refuses 0 check letter
-refuses 1 check "$examples/trap.kbd" --show
+refuses 1 check trap --show
 refuses 0 play letter script
 refuses 0 play letter script --typed --next shift
 refuses 0 dump tables

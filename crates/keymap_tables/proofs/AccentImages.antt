@@ -17,7 +17,7 @@ use Rattle.keymap_tables.specs.declared.fault.TableFaultKind.TheVariants.{NotEmp
 use Rattle.keymap_tables.proofs.Lifting.{none-past}
 use Rattle.keymap_tables.proofs.Pairs.{pairs-counted, accent-more, accent-past}
 use Rattle.keymap_tables.proofs.RowImages.{row-in, length-rows, zeros-behind}
-use Rattle.keymap_tables.proofs.Sizes.{some-number, length-number, none-read, none-over, pair-begins, result-begins, pair-below, result-below, pair-next, pairs-rest, accent-whole-size}
+use Rattle.keymap_tables.proofs.Sizes.{some-number, length-number, none-read, none-over, pair-begins, result-begins, pair-below, result-below, pair-next, accent-whole-size}
 use Rattle.keymap_tables.proofs.SlotImages.{number-back, char-sound}
 
 -- what follows the own character

@@ -1,10 +1,9 @@
 -- One more cell of a slot, read.
-use Rattle.std.proofs.Common.{◌≡◌, ℕ, ◌+◌, ◌-◌, ◌*◌, ◌/◌, ◌%◌, ◌^◌, ◌<◌, ◌≤◌, ◌==◌, List, [], ◌∷◌, ◌++◌, length, take, drop, get_or, set, cond, None, Some, true, false, nat_lt, nat_le, append-nil, refl, sym, ap, ◌∙◌, arith, add-one, suc, zero, ◌≢◌, inl, inr, subst, length-drop, drop-cons}
+use Rattle.std.proofs.Common.{◌≡◌, ℕ, ◌+◌, ◌-◌, ◌*◌, ◌/◌, ◌%◌, ◌^◌, ◌<◌, ◌≤◌, ◌==◌, List, [], ◌∷◌, ◌++◌, length, take, drop, get_or, set, cond, None, Some, true, false, nat_lt, nat_le, append-nil, refl, sym, ap, ◌∙◌, arith, add-one, suc, ◌≢◌, inl, inr, subst, length-drop, drop-cons}
 use Rattle.std.specs.Prelude.{slice_index, All}
 use Rattle.std.specs.Int.{to_le_bytes, from_le_bytes, w8, w32}
 use Rattle.std.proofs.lemmas.Grind.{common_steps, flat_map-append}
 use Rattle.std.proofs.lemmas.Bool.Decides.{nat_tests}
-use Rattle.std.proofs.Math.ListN.{drop_of_length-le}
 use Rattle.std.proofs.lemmas.List.{length-take-le, take-append-drop, get_or-take, get_or-drop, take_all}
 use Rattle.std.proofs.lemmas.List.Sums.{fold-append}
 use Rattle.std.proofs.lemmas.Nat.{le_bytes_4}

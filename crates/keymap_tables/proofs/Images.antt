@@ -1,6 +1,6 @@
 -- The image of a map that fits: it has no fault, and gives the map.
-use Rattle.std.proofs.Common.{◌≡◌, ℕ, ◌+◌, ◌-◌, ◌*◌, ◌<◌, ◌≤◌, List, ◌++◌, length, take, drop, get_or, None, refl, sym, ap, ◌∙◌, subst, arith, inl, inr, append_assoc, length-append}
-use Rattle.std.specs.Prelude.{slice_index, All}
+use Rattle.std.proofs.Common.{◌≡◌, ℕ, ◌+◌, ◌-◌, ◌*◌, ◌≤◌, List, ◌++◌, length, take, drop, get_or, None, sym, ap, ◌∙◌, subst, arith, inl, inr, append_assoc, length-append}
+use Rattle.std.specs.Prelude.{All}
 use Rattle.std.specs.List.{flat_map}
 use Rattle.std.specs.Int.{to_le_bytes, w16}
 use Rattle.std.proofs.lemmas.Bool.{cases_lt}

@@ -1,20 +1,18 @@
 -- What stands at each place of an image.
 use Rattle.std.proofs.Common.{◌≡◌, ℕ, ◌+◌, ◌-◌, ◌*◌, ◌<◌, ◌≤◌, List, ◌++◌, length, take, drop, get_or, refl, sym, ap, ◌∙◌, append-nil, arith, rules, inl, inr, subst, add-zero}
-use Rattle.std.specs.Prelude.{slice_index, All}
+use Rattle.std.specs.Prelude.{slice_index}
 use Rattle.std.specs.List.{flat_map}
 use Rattle.std.specs.Int.{from_le_bytes, w8}
 use Rattle.std.proofs.lemmas.Bool.{cases_lt}
 use Rattle.std.proofs.lemmas.List.{take-take, drop-take, drop-drop, get_or-take, get_or-drop, get_or_default, get_or_past, get_or-replicate}
 use Rattle.std.proofs.lemmas.List.Elements.{All-get_or}
-use Rattle.keymap_core.specs.Accents.{AccentValue, blank}
+use Rattle.keymap_core.specs.Accents.{blank}
 use Rattle.keymap_core.specs.Maps.{MapValue, undefined, entry_at, cell_at, accent_or_blank}
 use Rattle.keymap_core.specs.Bounds.{IsCell, IsEntry, IsMap}
-use Rattle.keymap_core.specs.declared.entry.Cell.{Cell}
 use Rattle.keymap_core.specs.declared.entry.Cell.TheVariants.{Char}
-use Rattle.keymap_core.specs.declared.entry.Entry.{Entry}
 use Rattle.keymap_tables.specs.Faults.{number_at, mark_at}
 use Rattle.keymap_tables.specs.Fits.{CellFits, EntryFits, FitsIn}
-use Rattle.keymap_tables.specs.Image.{image_in, number_of, is_act, flag_number, slot_bytes, slots_bytes, accent_bytes, accents_bytes, zeros}
+use Rattle.keymap_tables.specs.Image.{image_in, number_of, is_act, flag_number, slot_bytes, accent_bytes, zeros}
 use Rattle.keymap_tables.specs.Layouts.{narrow, part, number_width, number_size, slot_size, slots_place, slots_size, accent_size, accents_place, accents_size}
 use Rattle.keymap_tables.specs.declared.layout.Layout.{Layout}
 use Rattle.keymap_tables.specs.declared.layout.Layout.TheVariants.{Wide, Narrow}

@@ -1,6 +1,6 @@
 -- The image of a slot: it has no fault, and gives the entry.
 use Rattle.std.proofs.Common.{◌≡◌, ℕ, ◌+◌, ◌-◌, ◌*◌, ◌/◌, ◌%◌, ◌^◌, ◌<◌, ◌≤◌, ◌==◌, suc, zero, List, [], ◌∷◌, ◌++◌, length, get_or, cond, None, Some, refl, sym, ap, ◌∙◌, arith, append_assoc, length-append}
-use Rattle.std.specs.Prelude.{slice_index, All, Bool, true, false, unwrap_or}
+use Rattle.std.specs.Prelude.{slice_index, Bool, true, false, unwrap_or}
 use Rattle.std.specs.Char.{IsScalar}
 use Rattle.std.specs.Int.{from_le_bytes}
 use Rattle.std.specs.List.{flat_map}

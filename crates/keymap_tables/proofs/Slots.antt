@@ -11,7 +11,7 @@ use Rattle.keymap_core.specs.declared.entry.Cell.{Cell}
 use Rattle.keymap_core.specs.declared.entry.Entry.{Entry}
 use Rattle.keymap_tables.specs.Image.{cell_bytes, marks_of, is_act, slot_bytes, flag_number, zeros}
 use Rattle.keymap_tables.specs.declared.layout.Layout.{Layout}
-use Rattle.keymap_tables.specs.Layouts.{pad_size, slot_size}
+use Rattle.keymap_tables.specs.Layouts.{pad_size}
 
 -- what holds of the cells so far, and of one more
 pub All-next : {X : Type 0} (P : X → Type 0) (xs : List X) (i : ℕ) (x : X) → i < length xs → x ≡ get_or xs i x → All P (take i xs) → P x → All P (take (i + 1) xs)

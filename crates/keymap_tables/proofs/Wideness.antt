@@ -1,5 +1,5 @@
 -- Where the characters above 255 of a map stand.
-use Rattle.std.proofs.Common.{◌≡◌, ℕ, ◌+◌, ◌-◌, ◌*◌, ◌/◌, ◌%◌, ◌<◌, ◌≤◌, suc, zero, List, [], ◌∷◌, length, get_or, refl, sym, ap, ◌∙◌, subst, arith, inl, inr}
+use Rattle.std.proofs.Common.{◌≡◌, ℕ, ◌+◌, ◌*◌, ◌/◌, ◌%◌, ◌<◌, ◌≤◌, suc, zero, List, [], ◌∷◌, length, get_or, refl, sym, ap, ◌∙◌, subst, arith, inl, inr}
 use Rattle.std.specs.Prelude.{All}
 use Rattle.std.specs.List.{flat_map}
 use Rattle.std.proofs.lemmas.Bool.{cases_lt}
@@ -11,7 +11,7 @@ use Rattle.keymap_core.specs.Maps.{MapValue, undefined, entry_at, cell_at, accen
 use Rattle.keymap_core.specs.declared.entry.Cell.{Cell}
 use Rattle.keymap_core.specs.declared.entry.Cell.TheVariants.{Char, Act}
 use Rattle.keymap_core.specs.declared.entry.Entry.{Entry}
-use Rattle.keymap_tables.specs.Fits.{CellFits, EntryFits, PairFits, AccentFits, FitsIn, character_of, number_of_place, IsWide, IsFirstColumn, IsFirstNumber, IsFirstWide, numbers_of, place_of}
+use Rattle.keymap_tables.specs.Fits.{CellFits, EntryFits, PairFits, AccentFits, FitsIn, character_of, IsWide, IsFirstColumn, IsFirstNumber, IsFirstWide, numbers_of, place_of}
 use Rattle.keymap_tables.specs.Layouts.{narrow}
 use Rattle.keymap_tables.specs.declared.narrow.Wide.{Wide}
 use Rattle.keymap_tables.specs.declared.narrow.Wide.TheVariants as at

@@ -1,5 +1,5 @@
 -- What the writing of a narrow file answers.
-use Rattle.std.specs.Prelude.{◌≡◌, ℕ, ◌<◌, List, length, take, ⊤, Bool, true, false, Option, Result, Ok, Err}
+use Rattle.std.specs.Prelude.{ℕ, ◌<◌, List, length, take, Bool, true, false, Option, Result, Ok, Err}
 use Rattle.std.specs.Io.KnownBytes.{Appends, Keeps}
 use Rattle.keymap_core.specs.Maps.{MapValue}
 use Rattle.keymap_tables.specs.Fits.{Fits, IsFirstWide}

@@ -3,8 +3,7 @@ use Rattle.std.proofs.lemmas.List.{take_all}
 use Rattle.std.proofs.lemmas.List.Elements.{All-more, All-same}
 use Rattle.keymap_core.specs.Bounds.{IsPair}
 use Rattle.keymap_tables.specs.Image.{number_bytes}
-use Rattle.keymap_tables.specs.Layouts.{number_size, pair_size}
-use Rattle.keymap_tables.proofs.Sizes.{pair-next, pair-inside, pairs-inside, pairs-rest, accent-small}
+use Rattle.keymap_tables.proofs.Sizes.{pair-next}
 use Rattle.keymap_tables.proofs.Pairs.{pairs-next}
 use Rattle.keymap_tables.proofs.accent.accent_image.Goals as goal
 

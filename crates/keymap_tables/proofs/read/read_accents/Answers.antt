@@ -15,7 +15,7 @@ use Rattle.keymap_tables.proofs.Lifting.{first-after, none-after, first-past, no
 use Rattle.keymap_tables.proofs.Outcomes.{OnOk-map, IfErr-map, OnOk-at}
 use Rattle.keymap_tables.proofs.Pads.{drop-zeros}
 use Rattle.keymap_tables.proofs.Rows.{rows-read, rows-whole, placed-end}
-use Rattle.keymap_tables.proofs.Sizes.{accent-next, accent-inside, accent-some, accents-inside, accents-rest}
+use Rattle.keymap_tables.proofs.Sizes.{accent-next, accent-inside, accent-some, accents-rest}
 use Rattle.keymap_tables.proofs.read.read_accents.Goals as goal
 
 -- a slice by its ends, by what the method answers

@@ -1,10 +1,10 @@
-use Rattle.std.proofs.Common.{arith, ◌≡◌, ◌+◌, ◌∙◌, ℕ, List, sym, ap, subst, take, length}
+use Rattle.std.proofs.Common.{arith, ◌∙◌, ℕ, List, sym, ap, subst, take, length}
 use Rattle.std.proofs.lemmas.List.Elements.{All-same}
 use Rattle.keymap_core.specs.Bounds.{IsEntry}
 use Rattle.keymap_tables.specs.Faults.{count_at, count_fault, row_fault, slot_fault, accent_fault, content_fault, IsFirstFault, HasNoFault}
 use Rattle.keymap_tables.specs.Fits.{EntryFits}
-use Rattle.keymap_tables.specs.Image.{count_bytes, slots_bytes, accents_bytes}
-use Rattle.keymap_tables.specs.Layouts.{part, count_size, slot_size, accent_size, slots_place, slots_size, n_accs_place, accents_place, accents_size, file_size}
+use Rattle.keymap_tables.specs.Image.{count_bytes, slots_bytes}
+use Rattle.keymap_tables.specs.Layouts.{part, count_size, slot_size, accent_size, slots_place, slots_size, n_accs_place, accents_place, accents_size}
 use Rattle.keymap_tables.proofs.Contents.{count-part, content-n_keys, content-slots, content-n_accs, content-accents, sound-n_keys, sound-slots, sound-n_accs, length-part, cut-part, count-clean, count-first, placed-after}
 use Rattle.keymap_tables.proofs.Lifting.{first-after}
 use Rattle.keymap_tables.proofs.Outcomes.{err_passed}

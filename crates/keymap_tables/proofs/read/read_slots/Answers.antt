@@ -14,7 +14,7 @@ use Rattle.keymap_tables.proofs.Lifting.{first-after, none-after, first-past, no
 use Rattle.keymap_tables.proofs.Outcomes.{OnOk-map, IfErr-map}
 use Rattle.keymap_tables.proofs.Pads.{drop-zeros}
 use Rattle.keymap_tables.proofs.Rows.{rows-read, rows-whole, placed-end}
-use Rattle.keymap_tables.proofs.Sizes.{slot-next, slot-inside, slot-some, slots-inside, slots-rest}
+use Rattle.keymap_tables.proofs.Sizes.{slot-next, slot-inside, slot-some, slots-rest}
 use Rattle.keymap_tables.proofs.read.read_slots.Goals as goal
 
 -- a slice by its ends, by what the method answers

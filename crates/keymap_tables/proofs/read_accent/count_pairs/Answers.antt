@@ -2,7 +2,6 @@ use Rattle.std.proofs.Common.{arith, ℕ, ◌+◌, ◌*◌, ap, sym, ◌∙◌}
 use Rattle.keymap_tables.specs.Faults.{number_at}
 use Rattle.keymap_tables.specs.Layouts.{number_size}
 use Rattle.keymap_tables.proofs.Pairs.{pairs-counted}
-use Rattle.keymap_tables.proofs.Sizes.{pair-inside, accent-small}
 use Rattle.keymap_tables.proofs.read_accent.count_pairs.Goals as goal
 
 pub returns-then-read_number-eq0-clause-value : goal.returns-then-read_number-eq0-clause-value

@@ -5,7 +5,7 @@ use Rattle.std.proofs.lemmas.List.{length_push}
 use Rattle.std.specs.List.{flat_map}
 use Rattle.keymap_core.specs.Accents.{AccentValue}
 use Rattle.keymap_tables.specs.Image.{number_bytes, pair_bytes}
-use Rattle.keymap_tables.specs.Layouts.{number_size, number_limit, pair_size, accent_size}
+use Rattle.keymap_tables.specs.Layouts.{number_size, pair_size, accent_size}
 use Rattle.keymap_tables.specs.Fits.{PairFits}
 use Rattle.keymap_core.specs.Bounds.{IsPair}
 use Rattle.keymap_tables.proofs.Cells.{number_bytes-at, number-fits}
@@ -15,7 +15,7 @@ use Rattle.keymap_tables.proofs.Lifting.{first-past, none-past}
 use Rattle.keymap_tables.specs.Faults.{accent_fault, number_at, char_fault, HasNoFault}
 use Rattle.keymap_tables.specs.declared.fault.TableFaultKind.TheVariants.{NotEmpty}
 use Rattle.keymap_tables.proofs.Pairs.{accent-past, accent-more, accent-first, pairs-more, accent-whole}
-use Rattle.keymap_tables.proofs.Sizes.{some-number, pair-begins, pair-below, result-begins, result-below, pair-next, pair-inside, pairs-inside, accent-small, none-read, none-over, at-pair}
+use Rattle.keymap_tables.proofs.Sizes.{some-number, pair-begins, pair-below, result-begins, result-below, pair-next, pair-inside, pairs-inside, none-read, none-over, at-pair}
 use Rattle.keymap_tables.proofs.read_accent.read_accent.Goals as goal
 
 pub loop-pair-init : goal.loop-pair-init

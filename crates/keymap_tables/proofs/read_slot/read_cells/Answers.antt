@@ -1,9 +1,9 @@
-use Rattle.std.proofs.Common.{rules, arith, ◌≡◌, ◌∙◌, ◌+◌, ◌-◌, ◌*◌, ◌/◌, ◌%◌, ◌^◌, ◌==◌, ℕ, get_or, ◌<◌, ap, sym, None, Some}
+use Rattle.std.proofs.Common.{rules, arith, ◌∙◌, ◌-◌, ◌*◌, ◌/◌, ◌%◌, ◌^◌, ◌==◌, ℕ, get_or, ◌<◌, ap, sym}
 use Rattle.std.specs.Prelude.{slice_index, Bool}
 use Rattle.std.proofs.lemmas.List.{take_all}
 use Rattle.std.proofs.lemmas.List.Elements.{All-same}
 use Rattle.keymap_tables.proofs.Cells.{All-more_set, number-fits, cell-fits, bytes-more, marks-more, sound-more, first-cell, bytes-all, marks-all, sound-all}
-use Rattle.keymap_tables.proofs.Sizes.{cell-inside, slot-small}
+use Rattle.keymap_tables.proofs.Sizes.{cell-inside}
 use Rattle.keymap_core.specs.Bounds.{IsCell}
 use Rattle.keymap_tables.specs.Faults.{number_at, mark_at, cell_fault}
 use Rattle.keymap_tables.specs.Fits.{CellFits}

@@ -2,7 +2,7 @@ use Rattle.std.proofs.Common.{rules, arith, ◌≡◌, ℕ, ◌+◌, ◌*◌, ap
 use Rattle.std.proofs.lemmas.List.{take_all}
 use Rattle.std.proofs.lemmas.List.Elements.{All-same}
 use Rattle.keymap_tables.specs.Layouts.{number_size}
-use Rattle.keymap_tables.proofs.Sizes.{cell-inside, cell-next, cells-end, slot-small}
+use Rattle.keymap_tables.proofs.Sizes.{cell-next, cells-end}
 use Rattle.keymap_tables.proofs.Slots.{All-next, cells-more, marks-next, small-next, slot-written}
 use Rattle.keymap_core.specs.Bounds.{IsCell}
 use Rattle.keymap_tables.proofs.slot.slot_image.Goals as goal

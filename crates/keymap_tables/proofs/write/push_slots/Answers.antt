@@ -1,4 +1,4 @@
-use Rattle.std.proofs.Common.{rules, arith, ap, ◌∙◌, ◌++◌, refl, length, List, ℕ}
+use Rattle.std.proofs.Common.{rules, arith, ap, ◌∙◌, ◌++◌, length, List, ℕ}
 use Rattle.std.proofs.Common.{subst, get_or, ◌<◌}
 use Rattle.std.proofs.lemmas.List.Elements.{All-from_get_or}
 use Rattle.keymap_core.specs.Maps.{undefined}
@@ -7,7 +7,7 @@ use Rattle.keymap_tables.proofs.Rows.{known-next}
 use Rattle.keymap_tables.specs.Image.{slot_bytes}
 use Rattle.keymap_tables.specs.Layouts.{slot_size}
 use Rattle.keymap_core.proofs.Gathering.{Gathers-same, StopsIn-more, passed_on}
-use Rattle.keymap_tables.proofs.Sizes.{slot-next, slot-inside, slot-blank}
+use Rattle.keymap_tables.proofs.Sizes.{slot-next, slot-blank}
 use Rattle.keymap_tables.proofs.Rows.{rows-next, rows-all, rows-cut}
 use Rattle.keymap_tables.proofs.write.push_slots.Goals as goal
 

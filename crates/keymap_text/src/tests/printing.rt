@@ -6,6 +6,7 @@ use crate::tests::maps;
 use crate::tests::reading::DUMPED;
 use crate::{print_map, read_map};
 use keymap_core::{Failed, ToStd, Write, WriteFault};
+use std::alloc::{AllocError, Global};
 use std::test::Fail;
 
 /// A writer that keeps what it takes, a few bytes at a time.
@@ -35,8 +36,9 @@ impl Write for Page {
 }
 
 /// A text, how many lines its map has for keys, those that are not undefined, and the lines for accents.
-struct Printed {
-    text: &'static [u8],
+#[derive(Clone, Copy)]
+pub(crate) struct Printed {
+    pub(crate) text: &'static [u8],
     keys: usize,
     lines: &'static [(usize, &'static [u8])],
     accents: &'static [u8],
@@ -44,6 +46,57 @@ struct Printed {
 
 /// The line of an undefined entry, after its slot.
 const UNDEFINED: &[u8] = b" nul    nul    nul    nul    nul    nul    nul    nul    O";
+
+/// A map of more bytes than are gathered before they are written.
+pub(crate) const LONG: Printed = Printed {
+    text: maps::ACCENTS,
+    keys: 93,
+    lines: &[
+        (
+            15,
+            b"015 ht     btab   ht     ht     ht     btab   ht     ht     O",
+        ),
+        (
+            18,
+            b"018 'e'    'E'    enq    enq    'e'    'E'    enq    enq    C",
+        ),
+        (
+            26,
+            b"026 dacu   dacu   dacu   dacu   dacu   dacu   dacu   dacu   O",
+        ),
+        (
+            30,
+            b"030 'a'    'A'    soh    soh    'a'    'A'    soh    soh    C",
+        ),
+        (
+            41,
+            b"041 dgra   dgra   dgra   dgra   dgra   dgra   dgra   dgra   O",
+        ),
+        (
+            42,
+            b"042 lshift lshift lshift lshift lshift lshift lshift lshift O",
+        ),
+        (
+            56,
+            b"056 meta   meta   meta   meta   meta   meta   meta   meta   O",
+        ),
+        (
+            57,
+            b"057 ' '    ' '    ' '    ' '    ' '    ' '    ' '    ' '    O",
+        ),
+        (
+            59,
+            b"059 fkey01 fkey01 fkey01 fkey01 fkey01 fkey01 fkey01 fkey01 O",
+        ),
+        (
+            92,
+            b"092 nscr   nscr   nscr   nscr   nscr   nscr   nscr   nscr   O",
+        ),
+    ],
+    accents: b"dgra nul
+dacu 0x00b4 ( 'e' 0x00e9 ) ( 'E' 0x00c9 ) ( 'e' 0x00ea )
+",
+};
 
 const MAPS: [Printed; 17] = [
     Printed {
@@ -131,55 +184,7 @@ const MAPS: [Printed; 17] = [
         ],
         accents: b"",
     },
-    Printed {
-        text: maps::ACCENTS,
-        keys: 93,
-        lines: &[
-            (
-                15,
-                b"015 ht     btab   ht     ht     ht     btab   ht     ht     O",
-            ),
-            (
-                18,
-                b"018 'e'    'E'    enq    enq    'e'    'E'    enq    enq    C",
-            ),
-            (
-                26,
-                b"026 dacu   dacu   dacu   dacu   dacu   dacu   dacu   dacu   O",
-            ),
-            (
-                30,
-                b"030 'a'    'A'    soh    soh    'a'    'A'    soh    soh    C",
-            ),
-            (
-                41,
-                b"041 dgra   dgra   dgra   dgra   dgra   dgra   dgra   dgra   O",
-            ),
-            (
-                42,
-                b"042 lshift lshift lshift lshift lshift lshift lshift lshift O",
-            ),
-            (
-                56,
-                b"056 meta   meta   meta   meta   meta   meta   meta   meta   O",
-            ),
-            (
-                57,
-                b"057 ' '    ' '    ' '    ' '    ' '    ' '    ' '    ' '    O",
-            ),
-            (
-                59,
-                b"059 fkey01 fkey01 fkey01 fkey01 fkey01 fkey01 fkey01 fkey01 O",
-            ),
-            (
-                92,
-                b"092 nscr   nscr   nscr   nscr   nscr   nscr   nscr   nscr   O",
-            ),
-        ],
-        accents: b"dgra nul
-dacu 0x00b4 ( 'e' 0x00e9 ) ( 'E' 0x00c9 ) ( 'e' 0x00ea )
-",
-    },
+    LONG,
     Printed {
         text: maps::TWO_CONTROLS,
         keys: 43,
@@ -305,6 +310,30 @@ dmac nul
     },
 ];
 
+/// The printed form of the map.
+pub(crate) fn printed_form(alloc: Global, printed: &Printed) -> Result<Vec<u8>, AllocError> {
+    let mut wanted = Vec::new(alloc);
+    let mut lines = printed.lines.iter();
+    let mut next = lines.next();
+    for slot in 0..printed.keys {
+        match next {
+            Some((typed, line)) if *typed == slot => {
+                wanted.extend_from_slice(line)?;
+                next = lines.next();
+            }
+            _ => {
+                wanted.push(b'0' + (slot / 100 % 10) as u8)?;
+                wanted.push(b'0' + (slot / 10 % 10) as u8)?;
+                wanted.push(b'0' + (slot % 10) as u8)?;
+                wanted.extend_from_slice(UNDEFINED)?;
+            }
+        }
+        wanted.push(b'\n')?;
+    }
+    wanted.extend_from_slice(printed.accents)?;
+    Ok(wanted)
+}
+
 #[test]
 fn maps_are_printed_and_read_again(rt: HostRuntime) -> Result<(), Fail> {
     for printed in &MAPS {
@@ -314,25 +343,7 @@ fn maps_are_printed_and_read_again(rt: HostRuntime) -> Result<(), Fail> {
             failed: false,
         };
         print_map(&map, &mut page)?;
-        let mut wanted = Vec::new(rt.alloc());
-        let mut lines = printed.lines.iter();
-        let mut next = lines.next();
-        for slot in 0..printed.keys {
-            match next {
-                Some((typed, line)) if *typed == slot => {
-                    wanted.extend_from_slice(line)?;
-                    next = lines.next();
-                }
-                _ => {
-                    wanted.push(b'0' + (slot / 100 % 10) as u8)?;
-                    wanted.push(b'0' + (slot / 10 % 10) as u8)?;
-                    wanted.push(b'0' + (slot % 10) as u8)?;
-                    wanted.extend_from_slice(UNDEFINED)?;
-                }
-            }
-            wanted.push(b'\n')?;
-        }
-        wanted.extend_from_slice(printed.accents)?;
+        let wanted = printed_form(rt.alloc(), printed)?;
         assert_eq!(rt;
             page.bytes.as_slice(),
             wanted.as_slice(),

@@ -104,7 +104,7 @@ fn a_longer_text_is_endless(rt: HostRuntime) -> Result<(), Fail> {
         offset: 1_048_576,
         kind: ReadFaultKind::Endless,
     });
-    for (size, pace) in [(LIMIT + 1, 1), (usize::MAX, 512)] {
+    for (size, pace) in [(LIMIT + 1, 1), (usize::MAX, 1), (usize::MAX, 512)] {
         let mut tape = tape_of(b"", size, pace);
         assert_eq!(rt; stop_of(&rt, rt.alloc(), &mut tape)?, Some(wanted));
         assert!(rt; tape.reads <= 1_048_578 && tape.given == LIMIT + 1);
@@ -142,9 +142,9 @@ fn a_map_is_read_from_a_device(rt: HostRuntime) -> Result<(), Fail> {
     Ok(())
 }
 
-/// The reader fails after each number of bytes, and in place of the end.
+/// The last failure is in place of the end.
 #[test]
-fn a_failing_device_is_a_fault(rt: HostRuntime) -> Result<(), Fail> {
+fn a_device_that_fails_after_each_number_of_bytes_is_a_fault(rt: HostRuntime) -> Result<(), Fail> {
     for fails in 0..=LETTER_AND_SHIFT.len() {
         let mut tape = tape_of(LETTER_AND_SHIFT, LETTER_AND_SHIFT.len(), 13);
         tape.fails = fails;

@@ -23,3 +23,4 @@ pub mod Keys
 pub mod Meanings
 pub mod Runs
 pub mod Classes
+pub mod Vectors

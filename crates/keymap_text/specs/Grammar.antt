@@ -1,6 +1,6 @@
 -- The reader's machine over tokens: the map so far, and the part of a definition that it has read.
 -- Inner: private contracts alone speak of it. What a text means is said in Meaning.
-use Rattle.std.specs.Prelude.{ℕ, ◌+◌, cond, ◌==◌, nat_lt, [], ◌∷◌, ◌++◌, length, set, Option, Some, None, Result, Ok, Err}
+use Rattle.std.specs.Prelude.{ℕ, ◌+◌, if◌then◌else◌, ◌==◌, nat_lt, [], ◌∷◌, ◌++◌, length, set, Option, Some, None, Result, Ok, Err}
 use Rattle.keymap_core.specs.Accents.{AccentValue}
 use Rattle.keymap_core.specs.Maps.{MapValue, undefined, with_entry, with_accent}
 use Rattle.keymap_core.specs.declared.entry.Entry.{Entry}
@@ -28,7 +28,7 @@ pub data Place : Type 0 where
 
 -- the first token of a definition
 abbrev pub first_of : Item → Result Place TextFaultKind
-first_of (Value (Number n)) = cond (nat_lt n 256) (Ok (CellAt n 0 undefined)) (Err faults.KeyTooLarge)
+first_of (Value (Number n)) = if nat_lt n 256 then Ok (CellAt n 0 undefined) else Err faults.KeyTooLarge
 first_of (Value (Act a)) = elim (accent_index a) [ Some i ↦ Ok (AccentCharacter i) | None ↦ Err faults.Unexpected ]
 first_of other = Err (refusal other)
 
@@ -48,13 +48,13 @@ abbrev pub with_cell : Entry → ℕ → Cell → Entry
 with_cell e i c = record { cells = set e.cells i c; flag = e.flag }
 
 abbrev pub after_cell : ℕ → ℕ → Entry → Place
-after_cell slot i e = cond (i == 7) (LockAt slot e) (CellAt slot (i + 1) e)
+after_cell slot i e = if i == 7 then LockAt slot e else CellAt slot (i + 1) e
 
 abbrev pub with_pair : AccentValue → ℕ → ℕ → AccentValue
 with_pair a b r = record { own = a.own; pairs = a.pairs ++ (b, r) ∷ [] }
 
 abbrev pub base_at : MapValue → ℕ → AccentValue → ℕ → Result State TextFaultKind
-base_at m i a c = cond (c == 0) (Err faults.ZeroBase) (Ok (at m (PairResult i a c)))
+base_at m i a c = if c == 0 then Err faults.ZeroBase else Ok (at m (PairResult i a c))
 
 abbrev pub step : MapValue → Place → Item → Result State TextFaultKind
 step m Definition t = do
@@ -69,7 +69,7 @@ step m (LockAt slot e) t = do
 step m (AccentCharacter i) t = do
   c ← character t
   Ok (at m (AfterAccent i (record { own = c; pairs = [] })))
-step m (AfterAccent i a) Open = cond (nat_lt (length a.pairs) 52) (Ok (at m (PairBase i a))) (Err faults.TooManyPairs)
+step m (AfterAccent i a) Open = if nat_lt (length a.pairs) 52 then Ok (at m (PairBase i a)) else Err faults.TooManyPairs
 step m (AfterAccent i a) t = do
   p ← first_of t
   Ok (at (with_accent m i a) p)

@@ -1,5 +1,5 @@
 -- What a token stands for where a character, a cell, a lock letter or an accent is wanted.
-use Rattle.std.specs.Prelude.{ℕ, cond, Option, Some, None, Result, Ok, Err}
+use Rattle.std.specs.Prelude.{ℕ, if◌then◌else◌, Option, Some, None, Result, Ok, Err}
 use lib.Utf8.{scalar}
 use Rattle.keymap_core.specs.declared.entry.Cell.{Cell}
 use Rattle.keymap_core.specs.declared.entry.Cell.TheVariants as cells
@@ -26,7 +26,7 @@ refusal (Value Unknown) = faults.BadWord
 
 -- the character of a token, where one is wanted
 abbrev pub character : Item → Result ℕ TextFaultKind
-character (Value (Number n)) = cond (scalar n) (Ok n) (Err faults.BadChar)
+character (Value (Number n)) = if scalar n then Ok n else Err faults.BadChar
 character (Value (Char c)) = Ok c
 character other = Err (refusal other)
 

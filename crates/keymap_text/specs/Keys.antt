@@ -1,6 +1,6 @@
 -- The keys of words: their bytes as one number. Inner: private contracts alone speak of them.
-use Rattle.std.specs.Prelude.{◌≡◌, ℕ, zero, suc, ◌+◌, ◌*◌, ◌/◌, ◌%◌, ◌≤◌, Bool, true, cond, ◌==◌, nat_lt, ◌&&◌, List, [], ◌∷◌, length, map}
-use Rattle.std.specs.Int.{from_le_bytes, w64}
+use Rattle.std.specs.Prelude.{◌≡◌, ℕ, zero, suc, ◌+◌, ◌*◌, ◌/◌, ◌%◌, ◌≤◌, Bool, true, if◌then◌else◌, ◌==◌, nat_lt, ◌&&◌, List, [], ◌∷◌, length, map, if◌then◌else◌}
+use Rattle.std.specs.Int.{from_le_bytes, trailing_zeros, w64}
 use Rattle.keymap_text.specs.Lexical.{is_word}
 use Rattle.std.specs.Char.{to_ascii_lowercase}
 use Rattle.keymap_text.specs.declared.names.Name.{Name}
@@ -16,7 +16,7 @@ pack (suc n) (c ∷ w) = pack n w * 256 + c
 -- the word with this key
 abbrev pub unpacked : ℕ → ℕ → List ℕ
 unpacked zero k = []
-unpacked (suc n) k = cond (k % 256 == 32) [] (k % 256 ∷ unpacked n (k / 256))
+unpacked (suc n) k = if k % 256 == 32 then [] else k % 256 ∷ unpacked n (k / 256)
 
 -- the keys of fkey and scr with two digits
 abbrev pub function_name : ℕ → ℕ
@@ -36,3 +36,7 @@ Means key m = (w : List ℕ) → length w ≤ 8 → Letters w → pack 8 (map to
 
 abbrev pub IsTrueName : Name → Type 0
 IsTrueName name = Means (from_le_bytes w64 name.0) (sense_meaning name.1)
+
+-- the place of the lowest bit that is set, 16 where none is
+abbrev pub first_of_sixteen : ℕ → ℕ
+first_of_sixteen mask = if mask == 0 then 16 else trailing_zeros w64 mask

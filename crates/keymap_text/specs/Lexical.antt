@@ -1,5 +1,6 @@
--- How bytes are split into tokens. Blanks and comments separate; a parenthesis, a quoted character and a word are tokens.
-use Rattle.std.specs.Prelude.{ℕ, zero, suc, ◌+◌, Bool, true, false, cond, not, ◌==◌, ◌&&◌, ◌||◌, nat_lt, nat_le, List, [], ◌∷◌, length, take, drop, Option, Some, None, Result, Ok, Err, slice_index}
+-- How bytes are split into tokens. Blanks and comments separate; a parenthesis, a quoted character and a word are
+-- tokens.
+use Rattle.std.specs.Prelude.{ℕ, zero, suc, ◌+◌, Bool, true, false, if◌then◌else◌, not, ◌==◌, ◌&&◌, ◌||◌, nat_lt, nat_le, List, [], ◌∷◌, length, take, drop, Option, Some, None, Result, Ok, Err, slice_index}
 use Rattle.std.specs.Char.{is_ascii_alphanumeric}
 use Rattle.bstr.specs.Utf8.{decoded, Decoded}
 use Rattle.keymap_text.specs.declared.fault.TextFaultKind.{TextFaultKind}
@@ -30,7 +31,7 @@ stays_on_line c = not (c == 10)
 -- how many bytes at the front pass the test
 unfoldable pub leading : (ℕ → Bool) → List ℕ → ℕ
 leading p [] = 0
-leading p (c ∷ cs) = cond (p c) (leading p cs + 1) 0
+leading p (c ∷ cs) = if p c then leading p cs + 1 else 0
 
 -- What stands at the front of some bytes, with the number of its bytes after the first one.
 pub data Front : Type 0 where
@@ -43,13 +44,11 @@ pub data Front : Type 0 where
 
 -- the quoted character, where these bytes stand after the first apostrophe; c is their first character, of n bytes
 abbrev pub closing : ℕ → ℕ → List ℕ → Front
-closing c n bytes = cond (c == 10) (Refused BadLiteral)
-    (cond (nat_le (length bytes) n) Unfinished
-    (cond (slice_index bytes n == 39) (Found (Literal c) (n + 1)) (Refused BadLiteral)))
+closing c n bytes = if c == 10 then Refused BadLiteral else if nat_le (length bytes) n then Unfinished else if slice_index bytes n == 39 then Found (Literal c) (n + 1) else Refused BadLiteral
 
 -- the same where no character stands first, though the first n bytes may begin one
 abbrev pub unclosed : ℕ → List ℕ → Front
-unclosed n bytes = cond (length bytes == n) Unfinished (Refused BadLiteral)
+unclosed n bytes = if length bytes == n then Unfinished else Refused BadLiteral
 
 abbrev pub quoted : Decoded → List ℕ → Front
 quoted d bytes = elim d.char [ Some c ↦ closing c d.size bytes | None ↦ unclosed d.size bytes ]
@@ -59,21 +58,15 @@ abbrev pub is_lone : List ℕ → Bool
 is_lone bytes = nat_lt 1 (length bytes) && (nat_lt 127 (slice_index bytes 0) && slice_index bytes 1 == 39)
 
 unfoldable pub literal : List ℕ → Front
-literal bytes = cond (is_lone bytes) (Found (Literal (slice_index bytes 0)) 2) (quoted (decoded bytes) bytes)
+literal bytes = if is_lone bytes then Found (Literal (slice_index bytes 0)) 2 else quoted (decoded bytes) bytes
 
 -- a word with n bytes after the first one
 abbrev pub word : ℕ → Front
-word n = cond (nat_lt n 32) (Found Word n) (Refused BadWord)
+word n = if nat_lt n 32 then Found Word n else Refused BadWord
 
 unfoldable pub front : ℕ → List ℕ → Front
 front c bytes =
-    cond (is_blank c) (Skipped 0)
-    (cond (c == 35) (Skipped (leading stays_on_line bytes))
-    (cond (c == 40) (Found ParenL 0)
-    (cond (c == 41) (Found ParenR 0)
-    (cond (c == 39) (literal bytes)
-    (cond (is_word c) (word (leading is_word bytes))
-    (Refused BadByte))))))
+    if is_blank c then Skipped 0 else if c == 35 then Skipped (leading stays_on_line bytes) else if c == 40 then Found ParenL 0 else if c == 41 then Found ParenR 0 else if c == 39 then literal bytes else if is_word c then word (leading is_word bytes) else Refused BadByte
 
 -- a token, with its bytes and its place in the text, and whether the text ends after it
 pub record Token : Type 0 where

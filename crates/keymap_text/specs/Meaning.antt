@@ -1,5 +1,5 @@
 -- What a text says: the map that it spells, or its fault.
-use Rattle.std.specs.Prelude.{◌≡◌, ℕ, Bool, true, false, cond, not, List, [], ◌∷◌, map, Option, Some, None, Result, Ok, Err}
+use Rattle.std.specs.Prelude.{◌≡◌, ℕ, Bool, true, false, if◌then◌else◌, not, List, [], ◌∷◌, map, Option, Some, None, Result, Ok, Err}
 use Rattle.keymap_text.specs.declared.fault.TextFaultKind.{TextFaultKind}
 use Rattle.keymap_text.specs.declared.fault.TextFaultKind.TheVariants as faults
 use Rattle.keymap_text.specs.declared.fault.TextFault.{TextFault}
@@ -58,13 +58,14 @@ found_in (Err (f, t)) end = Some (record { kind = f; offset = t.start; early = i
 -- no token stands after the last
 found_in (Ok p) (Err (f, q)) = Some (record { kind = f; offset = q; early = not (is_end_inside f) })
 -- the text ends inside a definition
-found_in (Ok p) (Ok q) = cond (may_end p) None (Some (record { kind = faults.EndInside; offset = q; early = false }))
+found_in (Ok p) (Ok q) = if may_end p then None else Some (record { kind = faults.EndInside; offset = q; early = false })
 
 abbrev pub fault_of : List ℕ → Option Found
 fault_of text = found_in (leads AtDefinition (tokens text)) (ending text)
 
 abbrev pub FaultAt : List ℕ → TextFault → Bool → Type 0
-FaultAt text f early = (fault_of text ≡ Some (record { kind = f.kind; offset = f.offset; early = early })) × (f.line ≡ line text f.offset)
+FaultAt text f early = (fault_of text ≡ Some (record { kind = f.kind; offset = f.offset; early = early }))
+    × (f.line ≡ line text f.offset)
 
 abbrev pub Fault : List ℕ → TextFault → Type 0
 Fault text f = (early : Bool) × FaultAt text f early

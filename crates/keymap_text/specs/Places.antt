@@ -1,5 +1,5 @@
 -- Which token is accepted at which place of a row, and why another is refused. No place holds anything of the map.
-use Rattle.std.specs.Prelude.{ℕ, ◌+◌, Bool, true, false, cond, ◌==◌, nat_lt, Some, None, Result, Ok, Err}
+use Rattle.std.specs.Prelude.{ℕ, ◌+◌, Bool, true, false, if◌then◌else◌, ◌==◌, nat_lt, Some, None, Result, Ok, Err}
 use Rattle.keymap_text.specs.declared.fault.TextFaultKind.{TextFaultKind}
 use Rattle.keymap_text.specs.declared.fault.TextFaultKind.TheVariants as faults
 use Rattle.keymap_text.specs.declared.words.Meaning.TheVariants.{Number, Act}
@@ -25,18 +25,18 @@ to (Ok x) f = f x
 to (Err e) f = Err e
 
 abbrev pub definition : Item → Result Place TextFaultKind
-definition (Value (Number n)) = cond (nat_lt n 256) (Ok (AtCell 0)) (Err faults.KeyTooLarge)
+definition (Value (Number n)) = if nat_lt n 256 then Ok (AtCell 0) else Err faults.KeyTooLarge
 definition (Value (Act a)) = elim (accent_index a) [ Some i ↦ Ok AtAccentCharacter | None ↦ Err faults.Unexpected ]
 definition other = Err (refusal other)
 
 abbrev pub next : Place → Item → Result Place TextFaultKind
 next AtDefinition t = definition t
-next (AtCell n) t = to (cell t) (λ c. Ok (cond (n == 7) AtLock (AtCell (n + 1))))
+next (AtCell n) t = to (cell t) (λ c. Ok (if n == 7 then AtLock else AtCell (n + 1)))
 next AtLock t = to (lock t) (λ f. Ok AtDefinition)
 next AtAccentCharacter t = to (character t) (λ c. Ok (AfterPairs 0))
-next (AfterPairs n) Open = cond (nat_lt n 52) (Ok (AtBase n)) (Err faults.TooManyPairs)
+next (AfterPairs n) Open = if nat_lt n 52 then Ok (AtBase n) else Err faults.TooManyPairs
 next (AfterPairs n) other = definition other
-next (AtBase n) t = to (character t) (λ c. cond (c == 0) (Err faults.ZeroBase) (Ok (AtResult n)))
+next (AtBase n) t = to (character t) (λ c. if c == 0 then Err faults.ZeroBase else Ok (AtResult n))
 next (AtResult n) t = to (character t) (λ c. Ok (AtPairEnd n))
 next (AtPairEnd n) Close = Ok (AfterPairs (n + 1))
 next (AtPairEnd n) other = Err (refusal other)

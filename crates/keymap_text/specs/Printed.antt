@@ -1,5 +1,5 @@
 -- The printed form of a map.
-use Rattle.std.specs.Prelude.{ℕ, ◌+◌, ◌-◌, ◌/◌, ◌%◌, cond, ◌==◌, ◌||◌, nat_lt, List, [], ◌∷◌, ◌++◌, length, replicate, codes, slice_index_or}
+use Rattle.std.specs.Prelude.{ℕ, ◌+◌, ◌-◌, ◌/◌, ◌%◌, if◌then◌else◌, ◌==◌, ◌||◌, nat_lt, List, [], ◌∷◌, ◌++◌, length, replicate, codes, slice_index_or}
 use Rattle.std.specs.List.{flat_map, range_with_len}
 use Rattle.keymap_core.specs.Accents.{AccentValue, blank}
 use Rattle.keymap_core.specs.Actions.{name_of, accent_names}
@@ -12,11 +12,11 @@ use Rattle.keymap_core.specs.declared.entry.LockFlag.TheVariants as flags
 use Rattle.keymap_text.specs.Words.{control_names}
 
 abbrev pub control_name : ℕ → List ℕ
-control_name c = cond (c == 127) (codes "del") (slice_index_or control_names c [])
+control_name c = if c == 127 then codes "del" else slice_index_or control_names c []
 
 -- a lower case hexadecimal digit
 abbrev pub hex_digit : ℕ → ℕ
-hex_digit d = cond (nat_lt d 10) (48 + d) (87 + d)
+hex_digit d = if nat_lt d 10 then 48 + d else 87 + d
 
 -- the digit of 16 ^ k, where p is 16 ^ k
 abbrev pub hex_at : ℕ → ℕ → ℕ
@@ -27,11 +27,11 @@ hex4 c = hex_at c 4096 ∷ hex_at c 256 ∷ hex_at c 16 ∷ hex_at c 1 ∷ []
 
 -- four digits, or five or six where the number has as many
 unfoldable pub hex : ℕ → List ℕ
-hex c = cond (nat_lt c 65536) (hex4 c) (cond (nat_lt c 1048576) (hex_at c 65536 ∷ hex4 c) (hex_at c 1048576 ∷ hex_at c 65536 ∷ hex4 c))
+hex c = if nat_lt c 65536 then hex4 c else if nat_lt c 1048576 then hex_at c 65536 ∷ hex4 c else hex_at c 1048576 ∷ hex_at c 65536 ∷ hex4 c
 
 -- a name for a control character, between apostrophes where it is one of ASCII else, and a number for all others
 unfoldable pub character_text : ℕ → List ℕ
-character_text c = cond (nat_lt c 32 || c == 127) (control_name c) (cond (nat_lt c 127) (39 ∷ c ∷ 39 ∷ []) (codes "0x" ++ hex c))
+character_text c = if nat_lt c 32 || c == 127 then control_name c else if nat_lt c 127 then 39 ∷ c ∷ 39 ∷ [] else codes "0x" ++ hex c
 
 abbrev pub cell_text : Cell → List ℕ
 cell_text (cells.Char c) = character_text c

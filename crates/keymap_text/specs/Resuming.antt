@@ -1,6 +1,6 @@
 -- What a reader that stands in a text makes of the bytes to come. Inner: private contracts alone speak of it.
 use Rattle.keymap_core.specs.Maps.{MapValue}
-use Rattle.std.specs.Prelude.{◌≡◌, ◌≢◌, ℕ, ◌+◌, ◌<◌, ◌≤◌, Bool, true, false, List, [], ◌++◌, length, take, drop, slice_index, Result, Ok, Err, cond, ◌==◌, count_by}
+use Rattle.std.specs.Prelude.{◌≡◌, ◌≢◌, ℕ, ◌+◌, ◌<◌, ◌≤◌, Bool, true, false, List, [], ◌++◌, length, take, drop, slice_index, Result, Ok, Err, if◌then◌else◌, ◌==◌, count_by}
 use Rattle.keymap_text.specs.declared.fault.TextFaultKind.{TextFaultKind}
 use Rattle.keymap_text.specs.declared.fault.TextFault.{TextFault}
 use Rattle.keymap_text.specs.declared.scanner.Mode.{Mode}
@@ -35,7 +35,8 @@ pub record IsReader (r : Scanner) : Type 0 where
   pub keeps : KeepsMode r.mode r.pending.items
   pub low : r.line ≤ r.offset + 1
 
--- What taking some bytes did, where f says what is made of them and of those that follow: what g makes of these, or the fault stands.
+-- What taking some bytes did, where f says what is made of them and of those that follow: what g makes of these, or
+-- the fault stands.
 abbrev pub Goes : Result (Unit {0}) TextFault → (List ℕ → Verdict) → (List ℕ → Verdict) → Type 0
 Goes (Ok u) f g = (x : List ℕ) → f x ≡ g x
 Goes (Err e) f g = (x : List ℕ) → f x ≡ Faulty e.kind e.offset true
@@ -63,7 +64,7 @@ Says (Err e) v = (early : Bool) × (v ≡ Faulty e.kind e.offset early)
 
 -- one for a line feed
 abbrev pub line_feed : ℕ → ℕ
-line_feed c = cond (c == 10) 1 0
+line_feed c = if c == 10 then 1 else 0
 
 -- What a byte c did to the line: after a line feed nothing is pending.
 pub record Forward (old new : Scanner) (c : ℕ) : Type 0 where
@@ -110,4 +111,5 @@ pub record Fronts (rest : List ℕ) (i : Item) (n : ℕ) : Type 0 where
 -- What taking bytes in front did: so many were taken, or there is a fault at the place that was reached.
 abbrev pub Took : Result ℕ TextFaultKind → Scanner → Scanner → List ℕ → Type 0
 Took (Ok n) old new rest = Advances old new rest n
-Took (Err f) old new rest = (e : TextFault) → e.kind ≡ f → e.offset ≡ new.offset → e.line ≡ new.line → Refuses old rest e
+Took (Err f) old new rest = (e : TextFault) → e.kind ≡ f → e.offset ≡ new.offset → e.line ≡ new.line
+    → Refuses old rest e

@@ -1,5 +1,5 @@
 -- A text's row of definitions, and the map that the last definitions make.
-use Rattle.std.specs.Prelude.{◌≡◌, ◌≢◌, ℕ, ◌+◌, ◌<◌, ◌≤◌, cond, ◌==◌, max, List, [], ◌∷◌, ◌++◌, length, map, Option, Some, None, Ok}
+use Rattle.std.specs.Prelude.{◌≡◌, ◌≢◌, ℕ, ◌+◌, ◌<◌, ◌≤◌, if◌then◌else◌, ◌==◌, max, List, [], ◌∷◌, ◌++◌, length, map, Option, Some, None, Ok}
 use Rattle.std.specs.List.{range_with_len}
 use Rattle.std.specs.Option.{option_or}
 use Rattle.keymap_core.specs.declared.entry.Entry.{Entry}
@@ -19,34 +19,39 @@ pub data Definition : Type 0 where
 -- one cell a token
 pub data AreCells : List Item → List Cell → Type 0 where
   no_cells : AreCells [] []
-  one_cell : {t : Item} {c : Cell} {ts : List Item} {cs : List Cell} → cell t ≡ Ok c → AreCells ts cs → AreCells (t ∷ ts) (c ∷ cs)
+  one_cell : {t : Item} {c : Cell} {ts : List Item} {cs : List Cell} → cell t ≡ Ok c → AreCells ts cs
+      → AreCells (t ∷ ts) (c ∷ cs)
 
 -- `( base result )` for each pair, no base being 0
 pub data ArePairs : List Item → List (ℕ × ℕ) → Type 0 where
   no_pairs : ArePairs [] []
-  one_pair : {t u : Item} {base result : ℕ} {ts : List Item} {ps : List (ℕ × ℕ)} → character t ≡ Ok base → base ≢ 0 → character u ≡ Ok result → ArePairs ts ps
+  one_pair : {t u : Item} {base result : ℕ} {ts : List Item} {ps : List (ℕ × ℕ)} → character t ≡ Ok base → base ≢ 0
+      → character u ≡ Ok result → ArePairs ts ps
       → ArePairs (Open ∷ t ∷ u ∷ Close ∷ ts) ((base, result) ∷ ps)
 
--- The tokens of one definition: a slot, eight cells and a lock letter; or an accent's name, its character and up to 52 pairs.
+-- The tokens of one definition: a slot, eight cells and a lock letter; or an accent's name, its character and up to
+-- 52 pairs.
 pub data Defines : List Item → Definition → Type 0 where
   of_key : {slot : ℕ} {e : Entry} {ts : List Item} → slot < 256 → length e.cells ≡ 8 → AreCells ts e.cells
       → Defines (Value (Number slot) ∷ (ts ++ Value (Letter e.flag) ∷ [])) (KeyDefinition slot e)
-  of_accent : {i : ℕ} {a : AccentValue} {t : Item} {ts : List Item} → (name : Action) → accent_index name ≡ Some i → character t ≡ Ok a.own → length a.pairs ≤ 52 → ArePairs ts a.pairs
+  of_accent : {i : ℕ} {a : AccentValue} {t : Item} {ts : List Item} → (name : Action) → accent_index name ≡ Some i
+      → character t ≡ Ok a.own → length a.pairs ≤ 52 → ArePairs ts a.pairs
       → Defines (Value (Act name) ∷ t ∷ ts) (AccentDefinition i a)
 
 -- the tokens of definitions, one after the other
 pub data IsRow : List Item → List Definition → Type 0 where
   no_definition : IsRow [] []
-  one_definition : {ts us : List Item} {d : Definition} {ds : List Definition} → Defines ts d → IsRow us ds → IsRow (ts ++ us) (d ∷ ds)
+  one_definition : {ts us : List Item} {d : Definition} {ds : List Definition} → Defines ts d → IsRow us ds
+      → IsRow (ts ++ us) (d ∷ ds)
 
 -- what a definition says of a slot, and of an accent
 abbrev pub of_slot : ℕ → Definition → Option Entry
-of_slot slot (KeyDefinition s e) = cond (s == slot) (Some e) None
+of_slot slot (KeyDefinition s e) = if s == slot then Some e else None
 of_slot slot (AccentDefinition i a) = None
 
 abbrev pub of_index : ℕ → Definition → Option AccentValue
 of_index i (KeyDefinition s e) = None
-of_index i (AccentDefinition j a) = cond (j == i) (Some a) None
+of_index i (AccentDefinition j a) = if j == i then Some a else None
 
 -- what the last one says that says anything
 unfoldable pub last : {A : Type 0} → (Definition → Option A) → List Definition → Option A

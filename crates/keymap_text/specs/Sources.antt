@@ -54,7 +54,8 @@ abbrev pub ReadsMap : Option (List ℕ) → Option (List ℕ) → Result MapValu
 ReadsMap old new (Ok m) = (text : List ℕ) × TakesWhole old new text × Spells text m
 ReadsMap old new (Err errors.Memory) = Keeps old new
 ReadsMap old new (Err (errors.Read f)) = StopsReading old new f f.kind
-ReadsMap old new (Err (errors.Fault f)) = (text : List ℕ) × ((TakesText old new text × Early text f) ⊎ (TakesWhole old new text × Fault text f))
+ReadsMap old new (Err (errors.Fault f)) = (text : List ℕ) × ((TakesText old new text
+    × Early text f) ⊎ (TakesWhole old new text × Fault text f))
 
 -- These bytes were taken, the last of them by one read, and those before have no early fault.
 pub record TakesOneMore (old new : Option (List ℕ)) : Type 0 where

@@ -1,5 +1,5 @@
 -- What a word means.
-use Rattle.std.specs.Prelude.{ℕ, ◌+◌, ◌*◌, Bool, cond, not, ◌==◌, ◌&&◌, nat_lt, nat_le, List, [], ◌∷◌, ◌++◌, length, take, drop, map, fold, Option, Some, None, codes, bytes_eq}
+use Rattle.std.specs.Prelude.{ℕ, ◌+◌, ◌*◌, Bool, if◌then◌else◌, not, ◌==◌, ◌&&◌, nat_lt, nat_le, List, [], ◌∷◌, ◌++◌, length, take, drop, map, fold, Option, Some, None, codes, bytes_eq}
 use Rattle.std.specs.List.{list_all}
 use Rattle.std.specs.Char.{to_ascii_lowercase, digit_value}
 use Rattle.keymap_text.specs.Lexical.{leading}
@@ -46,7 +46,7 @@ table = characters_from 0 control_names ++ more_names
 -- what the first of these names means that is the word
 unfoldable pub named : List (List ℕ × Meaning) → List ℕ → Option Meaning
 named [] w = None
-named (entry ∷ entries) w = cond (same_name entry.0 w) (Some entry.1) (named entries w)
+named (entry ∷ entries) w = if same_name entry.0 w then Some entry.1 else named entries w
 
 -- no blank
 abbrev pub is_letter : ℕ → Bool
@@ -62,7 +62,7 @@ sense_meaning (senses.Char c) = Char c
 sense_meaning (senses.Letter f) = Letter f
 sense_meaning (senses.Mod m) = Act (actions.Mod m)
 sense_meaning (senses.Lock l) = Act (actions.Lock l)
-sense_meaning (senses.DeadKey n) = cond (nat_lt n 15) (Act (actions.DeadKey n)) Unknown
+sense_meaning (senses.DeadKey n) = if nat_lt n 15 then Act (actions.DeadKey n) else Unknown
 sense_meaning senses.Nop = Act actions.Nop
 sense_meaning senses.BackTab = Act actions.BackTab
 sense_meaning senses.NextScreen = Act actions.NextScreen
@@ -80,7 +80,7 @@ sense_meaning senses.Paste = Act actions.Paste
 -- the same as named, of the names as the code has them
 unfoldable pub look : List Name → List ℕ → Option Meaning
 look [] w = None
-look (name ∷ names) w = cond (same_name (letters name.0) w) (Some (sense_meaning name.1)) (look names w)
+look (name ∷ names) w = if same_name (letters name.0) w then Some (sense_meaning name.1) else look names w
 
 abbrev pub is_digit : ℕ → ℕ → Bool
 is_digit base c = nat_lt (digit_value c) base
@@ -90,11 +90,11 @@ number base digits = fold (λ n c. n * base + digit_value c) 0 digits
 
 -- the number that one or more digits spell
 unfoldable pub digits_of : ℕ → List ℕ → Option ℕ
-digits_of base w = cond (nat_lt 0 (length w) && list_all (is_digit base) w) (Some (number base w)) None
+digits_of base w = if nat_lt 0 (length w) && list_all (is_digit base) w then Some (number base w) else None
 
 -- the number after a prefix
 abbrev pub number_after : List ℕ → ℕ → List ℕ → Option ℕ
-number_after prefix base w = cond (nat_le (length prefix) (length w) && same_name prefix (take (length prefix) w)) (digits_of base (drop (length prefix) w)) None
+number_after prefix base w = if nat_le (length prefix) (length w) && same_name prefix (take (length prefix) w) then digits_of base (drop (length prefix) w) else None
 
 -- what a name of the actions means
 abbrev pub of_action : Named → Meaning

@@ -1,5 +1,5 @@
 //! Definitions, token by token.
-ghost use Rattle.std.specs.Prelude.{◌≡◌, ◌<◌, Ok, Err, Result, OnOk, length, cond, IfSome, ◌≢◌};
+ghost use Rattle.std.specs.Prelude.{◌≡◌, ◌<◌, Ok, Err, Result, OnOk, length, if◌then◌else◌, IfSome, ◌≢◌};
 ghost use lib.Utf8.{scalar};
 ghost use Rattle.keymap_core.specs.Maps.{with_accent};
 ghost use Rattle.keymap_text.specs.Views.{Steps, Leads, state_view, place_view, IsPlace};
@@ -50,7 +50,7 @@ fn refusal(item: &Item) -> TextFaultKind
 }
 
 fn scalar_of(n: u128) -> Result<char, TextFaultKind>
-    ensures { result ≡ cond (scalar n) (Ok n) (Err TextFaultKind.BadChar) }
+    ensures { result ≡ if scalar n then Ok n else Err TextFaultKind.BadChar }
 {
     if n < 0xD800 || (n >= 0xE000 && n < 0x110000) {
         Ok(char::from_u32(n as u32).unwrap())

@@ -13,14 +13,17 @@ ghost use Rattle.keymap_text.specs.declared.fault.TextFaultKind.{TextFaultKind a
 
 /// The places accept tokens up to a place where a text may end exactly if these are a row of definitions.
 pub fn rows_are_accepted()
-    ensures row { (ts : List Token) (p : Place) → leads AtDefinition ts ≡ Ok p → may_end p ≡ true → (ds : List Definition) × IsRow (map item_of ts) ds }
-    ensures accepted { (ts : List Token) (ds : List Definition) → IsRow (map item_of ts) ds → (p : Place) × (leads AtDefinition ts ≡ Ok p) × (may_end p ≡ true) }
+    ensures row { (ts : List Token) (p : Place) → leads AtDefinition ts ≡ Ok p → may_end p ≡ true
+        → (ds : List Definition) × IsRow (map item_of ts) ds }
+    ensures accepted { (ts : List Token) (ds : List Definition) → IsRow (map item_of ts) ds → (p : Place)
+        × (leads AtDefinition ts ≡ Ok p) × (may_end p ≡ true) }
 {}
 
 /// A text spells one map, or has one fault.
 pub fn one_meaning()
     ensures one_map { (text : List ℕ) (m n : MapValue) → Spells text m → Spells text n → m ≡ n }
-    ensures one_fault { (text : List ℕ) (f g : Found) → Fault text f → Fault text g → (f.kind ≡ g.kind) × (f.offset ≡ g.offset) × (f.line ≡ g.line) }
+    ensures one_fault { (text : List ℕ) (f g : Found) → Fault text f → Fault text g → (f.kind ≡ g.kind)
+        × (f.offset ≡ g.offset) × (f.line ≡ g.line) }
     ensures not_both { (text : List ℕ) (m : MapValue) (f : Found) → Spells text m → Fault text f → ⊥ }
     ensures one_of_them { (text : List ℕ) → ((m : MapValue) × Spells text m) ⊎ ((f : Found) × Fault text f) }
 {}
@@ -32,12 +35,15 @@ pub fn early_faults_stay()
 
 /// Each token of a text, but for a word of at most 32 bytes at its end, is one of every text that begins with it.
 pub fn settled_tokens_stay()
-    ensures { (text more : List ℕ) (i : ℕ) (d : Token) → i < length (tokens text) → is_settled (slice_index_or (tokens text) i d) ≡ true → (i < length (tokens (text ++ more))) × IsSameToken (slice_index_or (tokens text) i d) (slice_index_or (tokens (text ++ more)) i d) }
+    ensures { (text more : List ℕ) (i : ℕ) (d : Token) → i < length (tokens text)
+        → is_settled (slice_index_or (tokens text) i d) ≡ true → (i < length (tokens (text ++ more)))
+        × IsSameToken (slice_index_or (tokens text) i d) (slice_index_or (tokens (text ++ more)) i d) }
 {}
 
 /// A place where no token stands, and not for want of bytes alone, is that of every text that begins with this one.
 pub fn broken_tokens_stay()
-    ensures { (text more : List ℕ) (f : Kind) (q : ℕ) → ending text ≡ Err (f, q) → is_end_inside f ≡ false → ending (text ++ more) ≡ Err (f, q) }
+    ensures { (text more : List ℕ) (f : Kind) (q : ℕ) → ending text ≡ Err (f, q) → is_end_inside f ≡ false
+        → ending (text ++ more) ≡ Err (f, q) }
 {}
 
 /// The printed form of a map spells it, so reading it gives that map and no fault.

@@ -9,8 +9,8 @@ use keymap_core::KeyMap;
 use std::alloc::{AllocError, Global};
 use std::marker::Model;
 
-/// Reads a text that comes in pieces. It keeps the map, at most 32 bytes of an unfinished token and its place, never the
-/// text, and allocates only the map.
+/// Reads a text that comes in pieces. It keeps the map, at most 32 bytes of an unfinished token and its place, never
+/// the text, and allocates only the map.
 #[derive(Drop)]
 pub struct MapReader {
     scanner: Scanner,

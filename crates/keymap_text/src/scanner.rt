@@ -1,5 +1,5 @@
 //! Reading a text byte by byte.
-ghost use Rattle.std.specs.Prelude.{◌≡◌, ℕ, ◌+◌, ◌<◌, ◌≤◌, ◌^◌, ◌∷◌, ◌++◌, [], List, length, take, OnOk, IfSome, IfErr, Ok, Err, drop, cond, ◌==◌};
+ghost use Rattle.std.specs.Prelude.{◌≡◌, ℕ, ◌+◌, ◌<◌, ◌≤◌, ◌^◌, ◌∷◌, ◌++◌, [], List, length, take, OnOk, IfSome, IfErr, Ok, Err, drop, if◌then◌else◌, ◌==◌};
 ghost use Rattle.keymap_text.specs.Lexical.{literal, leading, is_word};
 ghost use Rattle.keymap_text.specs.Reading.{verdict, ended, line};
 ghost use Rattle.keymap_text.specs.Words.{item, meaning};
@@ -105,7 +105,7 @@ fn whole_token(rest: &[u8]) -> Option<(Item, usize)>
 }
 
 fn mode_in_comment(c: u8) -> Mode
-    ensures { result ≡ cond (c == 10) Mode.Between Mode.Comment }
+    ensures { result ≡ if c == 10 then Mode.Between else Mode.Comment }
 {
     if c == b'\n' {
         Mode::Between
@@ -115,6 +115,193 @@ fn mode_in_comment(c: u8) -> Mode
 }
 
 impl Scanner {
+    /// A reader that stands at the beginning of a text. The map is one without definitions.
+    pub(crate) fn new(map: KeyMap) -> Self
+        requires { map ≡ spec.empty_map }
+        ensures start { (x : List ℕ) → resume result x ≡ verdict x }
+        ensures reader { IsReader result }
+        ensures fed { result.offset + length result.pending.items ≡ 0 }
+        ensures line { result.line ≡ 1 }
+    {
+        Scanner {
+            grammar: Grammar::new(map),
+            mode: Mode::Between,
+            pending: ArrayVec::new(),
+            offset: 0,
+            line: 1,
+        }
+    }
+
+    /// Takes the next piece of the text.
+    pub(crate) fn feed(&mut self, piece: &[u8]) -> Result<(), TextFault>
+        requires reader { IsReader self.old }
+        requires room { self.old.offset + length self.old.pending.items + length piece.now < 2 ^ 63 }
+        ensures takes { Takes result (λ x. resume self.old (piece.now ++ x)) self.new }
+        ensures reader { OnOk result (IsReader self.new) }
+        ensures fed { OnOk result (self.new.offset + length self.new.pending.items ≡ self.old.offset + length self.old.pending.items + length piece.now) }
+        ensures line { (b : List ℕ) → Lined self.old b → OnOk result (Lined self.new (b ++ piece.now)) }
+        ensures fault_line { (b : List ℕ) → Lined self.old b
+            → IfErr result (λ e. e.line ≡ line (b ++ piece.now) e.offset) }
+    {
+        let mut i = 0;
+        while i < piece.len() {
+            match self.front(&piece[i..]) {
+                Err(kind) => return Err(fault(kind, self.offset, self.line)),
+                Ok(0) => match self.take(piece[i]) {
+                    Ok(()) => i += 1,
+                    Err(fault) => return Err(fault),
+                },
+                Ok(n) => i += n,
+            }
+        }
+        Ok(())
+    }
+
+    /// The text ends here.
+    pub(crate) fn finish(mut self) -> Result<KeyMap, TextFault>
+        requires reader { IsReader self }
+        requires room { self.offset + length self.pending.items < 2 ^ 63 }
+        ensures says { Says result (resume self []) }
+        ensures place { IfErr result (λ e. IsPending e self) }
+    {
+        match self.mode {
+            Mode::Between => self.end(),
+            Mode::Comment => self.end(),
+            Mode::Word => match self.end_word() {
+                Ok(()) => self.end(),
+                Err(f) => Err(f),
+            },
+            Mode::Literal => Err(fault(
+                TextFaultKind::EndInside,
+                self.offset + self.pending.len() as u64,
+                self.line,
+            )),
+        }
+    }
+
+    /// Takes as much in front as is seen at once, where that is anything. A fault is one at the place that is reached.
+    #[inline(always)]
+    fn front(&mut self, rest: &[u8]) -> Result<usize, TextFaultKind>
+        requires reader { IsReader self.old }
+        requires room { self.old.offset + length self.old.pending.items + length rest.now < 2 ^ 63 }
+        ensures { Took result self.old self.new rest.now }
+    {
+        match self.mode {
+            Mode::Between => self.between(rest),
+            _ => Ok(0),
+        }
+    }
+
+    /// Takes blanks and what is behind them, as far as that is the end of a line or a whole token.
+    #[inline(always)]
+    fn between(&mut self, rest: &[u8]) -> Result<usize, TextFaultKind>
+        requires reader { IsReader self.old }
+        requires mode { self.old.mode ≡ Mode.Between }
+        requires room { self.old.offset + length self.old.pending.items + length rest.now < 2 ^ 63 }
+        ensures { Took result self.old self.new rest.now }
+    {
+        let n = self.spaces(rest);
+        if n == rest.len() {
+            return Ok(n);
+        }
+        match self.after_spaces(&rest[n..]) {
+            Ok(m) => Ok(n + m),
+            Err(kind) => Err(kind),
+        }
+    }
+
+    /// Takes the blanks in front, of which none ends the line; there may be none.
+    #[inline(always)]
+    fn spaces(&mut self, rest: &[u8]) -> usize
+        requires reader { IsReader self.old }
+        requires mode { self.old.mode ≡ Mode.Between }
+        requires room { self.old.offset + length self.old.pending.items + length rest.now < 2 ^ 63 }
+        ensures advances { Advances self.old self.new rest.now result }
+        ensures mode { self.new.mode ≡ Mode.Between }
+    {
+        let n = space_len(rest);
+        self.offset += n as u64;
+        n
+    }
+
+    /// Takes the end of a line or a whole token in front.
+    #[inline(always)]
+    fn after_spaces(&mut self, rest: &[u8]) -> Result<usize, TextFaultKind>
+        requires reader { IsReader self.old }
+        requires mode { self.old.mode ≡ Mode.Between }
+        requires some { 0 < length rest.now }
+        requires room { self.old.offset + length self.old.pending.items + length rest.now < 2 ^ 63 }
+        ensures { Took result self.old self.new rest.now }
+    {
+        if rest[0] == b'\n' {
+            self.end_line();
+            return Ok(1);
+        }
+        match self.grammar.place {
+            Place::Cell { slot, index } => self.cell(slot, index, rest),
+            _ => self.token(rest),
+        }
+    }
+
+    /// Takes the end of a line between tokens.
+    #[inline(always)]
+    fn end_line(&mut self)
+        requires reader { IsReader self.old }
+        requires mode { self.old.mode ≡ Mode.Between }
+        requires room { self.old.offset + length self.old.pending.items + 1 < 2 ^ 63 }
+        ensures takes { (x : List ℕ) → resume self.old (10 ∷ x) ≡ resume self.new x }
+        ensures reader { IsReader self.new }
+        ensures fed { self.new.offset + length self.new.pending.items ≡ self.old.offset + length self.old.pending.items + 1 }
+        ensures line { Forward self.old self.new 10 }
+    {
+        self.line += 1;
+        self.offset += 1;
+    }
+
+    /// The same as `token` where a cell is wanted, as for most tokens, so that the place is asked for once.
+    #[inline(always)]
+    fn cell(&mut self, slot: u8, index: u8, rest: &[u8]) -> Result<usize, TextFaultKind>
+        requires reader { IsReader self.old }
+        requires mode { self.old.mode ≡ Mode.Between }
+        requires place { self.old.grammar.place ≡ Place.Cell slot index }
+        requires index { index < 8 }
+        requires some { 0 < length rest.now }
+        requires room { self.old.offset + length self.old.pending.items + length rest.now < 2 ^ 63 }
+        ensures { Took result self.old self.new rest.now }
+    {
+        match whole_token(rest) {
+            None => Ok(0),
+            Some((item, n)) => match self.grammar.cell(slot, index, &item) {
+                Ok(()) => {
+                    self.offset += n as u64;
+                    Ok(n)
+                }
+                Err(kind) => Err(kind),
+            },
+        }
+    }
+
+    /// Takes the whole token in front. Answers how many bytes it has, and 0 where the bytes show none that is whole.
+    #[inline(always)]
+    fn token(&mut self, rest: &[u8]) -> Result<usize, TextFaultKind>
+        requires reader { IsReader self.old }
+        requires mode { self.old.mode ≡ Mode.Between }
+        requires some { 0 < length rest.now }
+        requires room { self.old.offset + length self.old.pending.items + length rest.now < 2 ^ 63 }
+        ensures { Took result self.old self.new rest.now }
+    {
+        match whole_token(rest) {
+            None => Ok(0),
+            Some((item, n)) => match self.grammar.accept(&item) {
+                Ok(()) => {
+                    self.offset += n as u64;
+                    Ok(n)
+                }
+                Err(kind) => Err(kind),
+            },
+        }
+    }
+
     /// Takes the next byte.
     #[inline(never)]
     fn take(&mut self, c: u8) -> Result<(), TextFault>
@@ -314,192 +501,6 @@ impl Scanner {
                 let n = self.pending.len() as u64;
                 self.accept(item, n)
             }
-        }
-    }
-
-    /// A reader that stands at the beginning of a text. The map is one without definitions.
-    pub(crate) fn new(map: KeyMap) -> Self
-        requires { map ≡ spec.empty_map }
-        ensures start { (x : List ℕ) → resume result x ≡ verdict x }
-        ensures reader { IsReader result }
-        ensures fed { result.offset + length result.pending.items ≡ 0 }
-        ensures line { result.line ≡ 1 }
-    {
-        Scanner {
-            grammar: Grammar::new(map),
-            mode: Mode::Between,
-            pending: ArrayVec::new(),
-            offset: 0,
-            line: 1,
-        }
-    }
-
-    /// Takes the blanks in front, of which none ends the line; there may be none.
-    #[inline(always)]
-    fn spaces(&mut self, rest: &[u8]) -> usize
-        requires reader { IsReader self.old }
-        requires mode { self.old.mode ≡ Mode.Between }
-        requires room { self.old.offset + length self.old.pending.items + length rest.now < 2 ^ 63 }
-        ensures advances { Advances self.old self.new rest.now result }
-        ensures mode { self.new.mode ≡ Mode.Between }
-    {
-        let n = space_len(rest);
-        self.offset += n as u64;
-        n
-    }
-
-    /// Takes the end of a line between tokens.
-    #[inline(always)]
-    fn end_line(&mut self)
-        requires reader { IsReader self.old }
-        requires mode { self.old.mode ≡ Mode.Between }
-        requires room { self.old.offset + length self.old.pending.items + 1 < 2 ^ 63 }
-        ensures takes { (x : List ℕ) → resume self.old (10 ∷ x) ≡ resume self.new x }
-        ensures reader { IsReader self.new }
-        ensures fed { self.new.offset + length self.new.pending.items ≡ self.old.offset + length self.old.pending.items + 1 }
-        ensures line { Forward self.old self.new 10 }
-    {
-        self.line += 1;
-        self.offset += 1;
-    }
-
-    /// Takes the token in front, where the bytes show that it is whole. Answers how many bytes it has, else 0.
-    #[inline(always)]
-    fn token(&mut self, rest: &[u8]) -> Result<usize, TextFaultKind>
-        requires reader { IsReader self.old }
-        requires mode { self.old.mode ≡ Mode.Between }
-        requires some { 0 < length rest.now }
-        requires room { self.old.offset + length self.old.pending.items + length rest.now < 2 ^ 63 }
-        ensures { Took result self.old self.new rest.now }
-    {
-        match whole_token(rest) {
-            None => Ok(0),
-            Some((item, n)) => match self.grammar.accept(&item) {
-                Ok(()) => {
-                    self.offset += n as u64;
-                    Ok(n)
-                }
-                Err(kind) => Err(kind),
-            },
-        }
-    }
-
-    /// The same where the token is wanted as a cell, as most are.
-    #[inline(always)]
-    fn cell(&mut self, slot: u8, index: u8, rest: &[u8]) -> Result<usize, TextFaultKind>
-        requires reader { IsReader self.old }
-        requires mode { self.old.mode ≡ Mode.Between }
-        requires place { self.old.grammar.place ≡ Place.Cell slot index }
-        requires index { index < 8 }
-        requires some { 0 < length rest.now }
-        requires room { self.old.offset + length self.old.pending.items + length rest.now < 2 ^ 63 }
-        ensures { Took result self.old self.new rest.now }
-    {
-        match whole_token(rest) {
-            None => Ok(0),
-            Some((item, n)) => match self.grammar.cell(slot, index, &item) {
-                Ok(()) => {
-                    self.offset += n as u64;
-                    Ok(n)
-                }
-                Err(kind) => Err(kind),
-            },
-        }
-    }
-
-    /// Takes the end of a line or a whole token in front.
-    #[inline(always)]
-    fn after_spaces(&mut self, rest: &[u8]) -> Result<usize, TextFaultKind>
-        requires reader { IsReader self.old }
-        requires mode { self.old.mode ≡ Mode.Between }
-        requires some { 0 < length rest.now }
-        requires room { self.old.offset + length self.old.pending.items + length rest.now < 2 ^ 63 }
-        ensures { Took result self.old self.new rest.now }
-    {
-        if rest[0] == b'\n' {
-            self.end_line();
-            return Ok(1);
-        }
-        match self.grammar.place {
-            Place::Cell { slot, index } => self.cell(slot, index, rest),
-            _ => self.token(rest),
-        }
-    }
-
-    /// Takes blanks and what is behind them, as far as that is the end of a line or a whole token.
-    #[inline(always)]
-    fn between(&mut self, rest: &[u8]) -> Result<usize, TextFaultKind>
-        requires reader { IsReader self.old }
-        requires mode { self.old.mode ≡ Mode.Between }
-        requires room { self.old.offset + length self.old.pending.items + length rest.now < 2 ^ 63 }
-        ensures { Took result self.old self.new rest.now }
-    {
-        let n = self.spaces(rest);
-        if n == rest.len() {
-            return Ok(n);
-        }
-        match self.after_spaces(&rest[n..]) {
-            Ok(m) => Ok(n + m),
-            Err(kind) => Err(kind),
-        }
-    }
-
-    /// Takes as much in front as is seen at once, where that is anything. A fault is one at the place that is reached.
-    #[inline(always)]
-    fn front(&mut self, rest: &[u8]) -> Result<usize, TextFaultKind>
-        requires reader { IsReader self.old }
-        requires room { self.old.offset + length self.old.pending.items + length rest.now < 2 ^ 63 }
-        ensures { Took result self.old self.new rest.now }
-    {
-        match self.mode {
-            Mode::Between => self.between(rest),
-            _ => Ok(0),
-        }
-    }
-
-    /// Takes the next piece of the text.
-    pub(crate) fn feed(&mut self, piece: &[u8]) -> Result<(), TextFault>
-        requires reader { IsReader self.old }
-        requires room { self.old.offset + length self.old.pending.items + length piece.now < 2 ^ 63 }
-        ensures takes { Takes result (λ x. resume self.old (piece.now ++ x)) self.new }
-        ensures reader { OnOk result (IsReader self.new) }
-        ensures fed { OnOk result (self.new.offset + length self.new.pending.items ≡ self.old.offset + length self.old.pending.items + length piece.now) }
-        ensures line { (b : List ℕ) → Lined self.old b → OnOk result (Lined self.new (b ++ piece.now)) }
-        ensures fault_line { (b : List ℕ) → Lined self.old b → IfErr result (λ e. e.line ≡ line (b ++ piece.now) e.offset) }
-    {
-        let mut i = 0;
-        while i < piece.len() {
-            match self.front(&piece[i..]) {
-                Err(kind) => return Err(fault(kind, self.offset, self.line)),
-                Ok(0) => match self.take(piece[i]) {
-                    Ok(()) => i += 1,
-                    Err(fault) => return Err(fault),
-                },
-                Ok(n) => i += n,
-            }
-        }
-        Ok(())
-    }
-
-    /// The text ends here.
-    pub(crate) fn finish(mut self) -> Result<KeyMap, TextFault>
-        requires reader { IsReader self }
-        requires room { self.offset + length self.pending.items < 2 ^ 63 }
-        ensures says { Says result (resume self []) }
-        ensures place { IfErr result (λ e. IsPending e self) }
-    {
-        match self.mode {
-            Mode::Between => self.end(),
-            Mode::Comment => self.end(),
-            Mode::Word => match self.end_word() {
-                Ok(()) => self.end(),
-                Err(f) => Err(f),
-            },
-            Mode::Literal => Err(fault(
-                TextFaultKind::EndInside,
-                self.offset + self.pending.len() as u64,
-                self.line,
-            )),
         }
     }
 

@@ -1,11 +1,13 @@
 //! Tokens of a text.
-ghost use Rattle.std.specs.Prelude.{◌≡◌, ◌+◌, ◌<◌, ◌≤◌, ◌==◌, length, drop, slice_index, cond, IsFalse, IfOk, IfSome, IfErr};
+ghost use Rattle.std.specs.Prelude.{◌≡◌, ◌+◌, ◌<◌, ◌≤◌, ◌==◌, length, drop, slice_index, if◌then◌else◌, IsFalse, IfOk, IfSome, IfErr};
 ghost use Rattle.keymap_text.specs.Lexical as lexical;
+ghost use Rattle.keymap_text.specs.Keys.{first_of_sixteen};
 ghost use Rattle.keymap_text.specs.Lexical.{is_blank, is_space, is_word, stays_on_line, separates, leading, is_lone, literal, word, front, split, first};
 ghost use Rattle.keymap_text.specs.Reading.{line};
 ghost use Rattle.keymap_text.specs.Views.{front_view, FoundFits, result_view};
 
 use crate::fault::{TextFault, TextFaultKind};
+use std::simd::prelude::*;
 
 /// What a token is.
 #[derive(Clone, Copy, Debug, PartialEq, Eq)]
@@ -101,12 +103,31 @@ pub(crate) fn is_space_byte(c: u8) -> bool
     SPACE_BYTES[c as usize]
 }
 
+/// How many of the first sixteen bytes are blanks that end no line, up to one that isn't: all are compared at once.
+#[inline(always)]
+fn space_run(bytes: &[u8]) -> usize
+    requires { 16 ≤ length bytes.now }
+    ensures { result < 16 → result ≡ leading is_space bytes.now }
+{
+    let v = u8x16::from_slice(bytes);
+    let others = v.simd_ne(u8x16::splat(b' '))
+        & v.simd_ne(u8x16::splat(b'\t'))
+        & v.simd_ne(u8x16::splat(b'\r'));
+    first_set(others.to_bitmask())
+}
+
 /// How many blanks that end no line stand in front.
 #[tactic(auto, using(crate::proofs::Leading::leading_rules))]
 pub(crate) fn space_len(bytes: &[u8]) -> usize
     ensures length { result ≤ length bytes.now }
     ensures value { result ≡ leading is_space bytes.now }
 {
+    if bytes.len() >= 16 {
+        let run = space_run(bytes);
+        if run < 16 {
+            return run;
+        }
+    }
     let mut i: usize = 0;
     while i < bytes.len() && is_space_byte(bytes[i]) {
         i += 1;
@@ -121,12 +142,43 @@ pub(crate) fn is_word_byte(c: u8) -> bool
     WORD_BYTES[c as usize]
 }
 
+/// How many of the first sixteen bytes are word bytes, up to one that isn't: all are compared at once.
+#[inline(always)]
+fn word_run(bytes: &[u8]) -> usize
+    requires { 16 ≤ length bytes.now }
+    ensures { result < 16 → result ≡ leading is_word bytes.now }
+{
+    let v = u8x16::from_slice(bytes);
+    let from_a = (v | u8x16::splat(0x20)) - u8x16::splat(b'a');
+    let from_0 = v - u8x16::splat(b'0');
+    let others = from_a.simd_ge(u8x16::splat(26)) & from_0.simd_ge(u8x16::splat(10));
+    first_set(others.to_bitmask())
+}
+
+/// The place of the lowest bit that is set, 16 where none is.
+#[inline(always)]
+fn first_set(mask: u64) -> usize
+    ensures { result ≡ first_of_sixteen mask }
+{
+    if mask == 0 {
+        16
+    } else {
+        mask.trailing_zeros() as usize
+    }
+}
+
 /// How many word bytes stand in front.
 #[tactic(auto, using(crate::proofs::Leading::leading_rules))]
 pub(crate) fn word_len(bytes: &[u8]) -> usize
     ensures length { result ≤ length bytes.now }
     ensures value { result ≡ leading is_word bytes.now }
 {
+    if bytes.len() >= 16 {
+        let run = word_run(bytes);
+        if run < 16 {
+            return run;
+        }
+    }
     let mut i: usize = 0;
     while i < bytes.len() && is_word_byte(bytes[i]) {
         i += 1;
@@ -206,7 +258,7 @@ fn token_front(bytes: &[u8]) -> Front
 
 #[tactic(auto, unfolding(crate::specs::Lexical::front))]
 fn word_front(c: u8, rest: &[u8]) -> Front
-    ensures value { front_view result ≡ cond (is_word c) (word (leading is_word rest.now)) (lexical.Refused TextFaultKind.BadByte) }
+    ensures value { front_view result ≡ if is_word c then word (leading is_word rest.now) else lexical.Refused TextFaultKind.BadByte }
     ensures fits { FoundFits result (length rest.now) }
 {
     if !is_word_byte(c) {

@@ -12,6 +12,7 @@ pub mod OneMore
 pub mod Places
 pub mod PlainLooks
 pub mod Prefixes
+pub mod Reaching
 pub mod Readings
 pub mod Runs
 pub mod Scripts

@@ -11,6 +11,9 @@ use Rattle.keymap_core.specs.declared.action.Lock.{Lock}
 use Rattle.keymap_core.specs.declared.action.Lock.TheVariants.{Caps, Num, Scroll, Alt}
 use Rattle.keymap_core.specs.Actions.{same_lock, modifiers, modifier_index, lock_index}
 use Rattle.keymap_core.specs.Maps.{MapValue}
+use Rattle.keymap_core.specs.declared.action.Action.TheVariants as act
+use Rattle.keymap_core.specs.declared.entry.Cell.{Cell}
+use Rattle.keymap_core.specs.declared.entry.Cell.TheVariants.{Act}
 use Rattle.console_core.specs.declared.event.Event.{Event}
 use Rattle.console_core.specs.declared.event.Event.TheVariants.{Press}
 use Rattle.console_core.specs.declared.held.Held.{Held}
@@ -233,6 +236,24 @@ within-grows m s place n p es now added within j x at =
       | inl old ↦ within j x old
       | inr (after, from) ↦ let e : x.1.presses ≡ p = from.1 in omega (arith, e)
     ]
+
+-- what a press of a key that looks up a modifier, or a lock, leads to
+look_mod : (i j : Modifier) (x : Cell) → x ≡ Act (act.Mod i) → x ≡ Act (act.Mod j) → i ≡ j
+look_mod i j x e f = let g : Act (act.Mod i) ≡ Act (act.Mod j) = sym e ∙ f in cc
+
+look_lock : (l n : Lock) (x : Cell) → x ≡ Act (act.Lock l) → x ≡ Act (act.Lock n) → l ≡ n
+look_lock l n x e f = let g : Act (act.Lock l) ≡ Act (act.Lock n) = sym e ∙ f in cc
+
+look_either : (i : Modifier) (l : Lock) (x : Cell) → x ≡ Act (act.Mod i) → x ≡ Act (act.Lock l) → ⊥
+look_either i l x e f = let g : Act (act.Mod i) ≡ Act (act.Lock l) = sym e ∙ f in cc
+
+pub pressed-mod : (m : MapValue) (es : Entries) (p : ℕ) (s : State) (k : ℕ) (i : Modifier) → look_in m s k ≡ Act (act.Mod i) → IsMetBy es p (with_holder s i (Some k)) → ArePressesMet m es p s k
+pressed-mod m es p s k i seen met idle =
+    ((λ j f free. subst (λ n. IsMetBy es p (with_holder s n (Some k))) (look_mod i j (look_in m s k) seen f) met), (λ l other f. absurd (look_either i l (look_in m s k) seen f)))
+
+pub pressed-lock : (m : MapValue) (es : Entries) (p : ℕ) (s : State) (k : ℕ) (l : Lock) → look_in m s k ≡ Act (act.Lock l) → IsMetBy es p (with_turned s l) → ArePressesMet m es p s k
+pressed-lock m es p s k l seen met idle =
+    ((λ j f free. absurd (look_either j l (look_in m s k) f seen)), (λ n other f. subst (λ q. IsMetBy es p (with_turned s q)) (look_lock l n (look_in m s k) seen f) met))
 
 -- what a call of `meet` adds
 pub meet-new : (es now : Entries) (place p : ℕ) (x : Step) → now ≡ es ++ (x.to, record { presses = p; last = Some (place, x.by) }) ∷ [] → AreWithin es p

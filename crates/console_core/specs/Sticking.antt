@@ -10,7 +10,7 @@ use Rattle.console_core.specs.Positions.{count_where}
 use Rattle.console_core.specs.History.{Maps, On, HasKeys, HasNoLoads, IsQuiet}
 use Rattle.console_core.specs.Headline.{IsOnOnlyWhilePressed, IsOffOnceQuiet}
 use Rattle.console_core.specs.declared.held.Move.{Move}
-use Rattle.console_core.specs.Moves.{IsPath, state_after, IsForgetful, Forgets, script}
+use Rattle.console_core.specs.Moves.{State, IsPath, state_after, IsForgetful, Forgets, script}
 
 -- Sticks: no key is pressed after the list, and the modifier is on.
 abbrev pub SticksAfter : MapValue → List Event → Modifier → Type 0
@@ -40,18 +40,25 @@ abbrev pub HasFewestPresses : MapValue → List Event → Type 0
 HasFewestPresses m h =
     (g : List Event) → HasKeys g → HasNoLoads g → (i : Modifier) → SticksAfter m g i → presses h ≤ presses g
 
--- After each list without loads a modifier is on only while a key that bears it is pressed, so none is on once no key
--- is.
+-- After each list without loads a modifier is on only while a key that bears it is pressed. So none is on once no key
+-- is pressed.
 abbrev pub NeverSticks : MapValue → Type 0
 NeverSticks m =
     (ms : Maps) (h : List Event) → ms.first ≡ m → HasKeys h → HasNoLoads h
     → IsOnOnlyWhilePressed m h (λ i. On ms i h) × IsOffOnceQuiet h (λ i. On ms i h)
 
--- what each answer says of the keymap: nothing where the search gave up
+-- paths of presses and releases lead to more than n distinct states
+abbrev pub ReachesMoreThan : MapValue → ℕ → Type 0
+ReachesMoreThan m n =
+    (states : ℕ → State)
+    × ((j : ℕ) → j ≤ n → (path : List Move) × IsPath m path × (state_after path ≡ states j))
+    × ((j k : ℕ) → j ≤ n → k ≤ n → states j ≡ states k → j ≡ k)
+
+-- what each answer says of the keymap
 abbrev pub IsAnswer : MapValue → Sticking → Type 0
 IsAnswer m (Sticks events) = LeavesOn m (reverse events.items) × HasFewestPresses m (reverse events.items)
 IsAnswer m Never = NeverSticks m
-IsAnswer m Undecided = Unit {0}
+IsAnswer m Undecided = ReachesMoreThan m 65536
 
 -- If no path leads to where a holder looks up a character, no modifier sticks.
 abbrev pub NeverSticksUnlessReached : Type 0

@@ -9,6 +9,6 @@ pub enum Sticking {
     Sticks(Vec<Event>),
     /// After each list of presses, releases and resets a modifier is on only while a key that bears it is pressed.
     Never,
-    /// The search met more than 65,536 states and gave up.
+    /// More than 65,536 states can be reached, so the search gave up.
     Undecided,
 }

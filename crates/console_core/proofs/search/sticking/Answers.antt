@@ -1,8 +1,10 @@
-use Rattle.std.proofs.Common.{◌≡◌, ◌≤◌, ◌+◌, [], ◌∷◌, length, None, IfSome, reverse, subst, sym, arith}
+use Rattle.std.proofs.Common.{◌≡◌, ◌≤◌, ◌+◌, [], ◌∷◌, refl, ◌<◌, length, None, IfSome, reverse, ap, subst, sym, ◌∙◌, arith}
+use Rattle.std.proofs.lemmas.Bool.{eq-eqb}
 use Rattle.std.proofs.lemmas.Option.{slice_get_within}
 use Rattle.console_core.specs.declared.search.Origin.{Origin}
 use Rattle.console_core.specs.Searching.{Searched, AreInOrder, IsStuck}
 use Rattle.console_core.proofs.Searching.{added-longer, start-entries, searched-start, searched-never, searched-back, stuck-sticks}
+use Rattle.console_core.proofs.Reaching.{tables-test, reaches-more, beq-self}
 use Rattle.console_core.proofs.search.sticking.Goals as goal
 
 pub loop-level-init : goal.loop-level-init
@@ -39,6 +41,18 @@ returns-in-Some c =
     let stuck : IsStuck c.args.map.now es c.in-Some.stuck.place c.in-Some.stuck.key = subst (λ o. IfSome o (λ x. IsStuck c.args.map.now es x.place x.key)) c.in-Some.is c.in_ok-stuck.ensures.stuck in
     stuck-sticks c.args.map.now es c.loop-level.level c.loop-level.presses c.in-Some.stuck.place c.in-Some.stuck.key c.in_ok-stuck.ensures.order c.in_ok-stuck.ensures.searched stuck
     (reverse c.in_ok-script.field-0.items) c.in_ok-script.ensures
+
+pub returns-then-len-gt-BOUND : goal.returns-then-len-gt-BOUND
+returns-then-len-gt-BOUND c =
+    let es = c.close.new.met.entries in
+    let more : 65536 < length es = omega (arith, c.if-len-gt-BOUND.true, c.len-in-loop-level.ensures.len) in
+    reaches-more _ (λ x y e. tables-test _ _ (λ a. eq-eqb a a refl) (λ b. beq-self b) x y e) c.args.map.now es c.loop-level.level c.loop-level.level 65536 c.in_ok-stuck.ensures.searched more c.len-in-loop-level.ensures.unique
+
+pub returns-then-len-gt-BOUND-2 : goal.returns-then-len-gt-BOUND-2
+returns-then-len-gt-BOUND-2 c =
+    let es = c.press.new.met.entries in
+    let more : 65536 < length es = omega (arith, c.if-len-gt-BOUND-2.true, c.len-in-loop-level-2.ensures.len) in
+    reaches-more _ (λ x y e. tables-test _ _ (λ a. eq-eqb a a refl) (λ b. beq-self b) x y e) c.args.map.now es c.loop-level.level c.loop-level.level 65536 c.in_ok-press.ensures.reached more c.len-in-loop-level-2.ensures.unique
 
 pub loop-level-preserved : goal.loop-level-preserved
 loop-level-preserved c =

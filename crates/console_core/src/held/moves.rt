@@ -1,0 +1,263 @@
+//! Where presses and releases lead from a state of the search, and what they are as events.
+ghost use Rattle.std.specs.Prelude.{◌≡◌, ◌≢◌, ◌<◌, ℕ, List, false, true, None, ◌||◌, ◌++◌, OnOk, MatchOption, IfSome};
+ghost use Rattle.keymap_core.specs.Maps.{MapValue};
+ghost use Rattle.keymap_core.specs.Actions.{modifiers};
+ghost use Rattle.keymap_core.specs.declared.action.Modifier.{Modifier as ModifierValue};
+ghost use Rattle.console_core.specs.Columns.{slot_of, is_upper};
+ghost use Rattle.console_core.specs.Moves.{start as start_state, is_held as is_held_in, look_in, IsIdle, with_holder as with_holder_in, with_turned as with_turned_in, Forgets, IsForgetful, events_of, presses_of, releases};
+ghost use Rattle.console_core.specs.Searching.{state_of, Entries, IsMetBy, IsLetGoMet, ArePressesMet, IsStep};
+ghost use Rattle.console_core.specs.HeldBytes.{number_of, bytes_of, held-equal, bool_equal, same-bytes};
+
+use super::{Held, Move, Step};
+use crate::event::Event;
+use crate::rules::{column, flips};
+use keymap_core::{Action, Cell, KeyCode, KeyMap, Lock, MODIFIERS, Modifier};
+use std::alloc::AllocError;
+use std::hash::{Hash, Hasher};
+
+impl Move {
+    /// Adds the events of the move, the newest first.
+    pub fn push_events(self, events: &mut Vec<Event>) -> Result<(), AllocError>
+        ensures { OnOk result (events.new.items ≡ events.old.items ++ events_of self) }
+    {
+        match self {
+            Move::Hold(key, _) => events.push(Event::Press(key))?,
+            Move::Turn(key, _) => {
+                events.push(Event::Release(key))?;
+                events.push(Event::Press(key))?;
+            }
+            Move::LetGo(key, _) => events.push(Event::Release(key))?,
+        }
+        Ok(())
+    }
+}
+
+#[tactic(auto, using(crate::proofs::Places::places))]
+impl Held {
+    pub fn start() -> Held
+        ensures { state_of result ≡ start_state }
+    {
+        Held {
+            holders: [None; 8],
+            locks: [false; 4],
+        }
+    }
+
+    fn holder(&self, modifier: Modifier) -> Option<KeyCode>
+        ensures { result ≡ (state_of self.now).holder modifier }
+    {
+        self.holders[modifier.index()]
+    }
+
+    fn is_held(&self, modifier: Modifier) -> bool
+        ensures { result ≡ is_held_in (state_of self.now) modifier }
+    {
+        self.holder(modifier).is_some()
+    }
+
+    fn is_locked(&self, lock: Lock) -> bool
+        ensures { result ≡ (state_of self.now).is_locked lock }
+    {
+        self.locks[lock.index()]
+    }
+
+    fn with_holder(&self, modifier: Modifier, holder: Option<KeyCode>) -> Held
+        ensures { state_of result ≡ with_holder_in (state_of self.now) modifier holder }
+    {
+        let mut next = *self;
+        next.holders[modifier.index()] = holder;
+        next
+    }
+
+    fn with_turned(&self, lock: Lock) -> Held
+        ensures { state_of result ≡ with_turned_in (state_of self.now) lock }
+    {
+        let mut next = *self;
+        let place = lock.index();
+        next.locks[place] = !next.locks[place];
+        next
+    }
+
+    fn is_either_held(&self, left: Modifier, right: Modifier) -> bool
+        ensures { result ≡ (is_held_in (state_of self.now) left || is_held_in (state_of self.now) right) }
+    {
+        self.is_held(left) || self.is_held(right)
+    }
+
+    fn slot(&self, key: KeyCode) -> u8
+        ensures in_range { key < 128 }
+        ensures value { result ≡ slot_of key (is_upper (λ i. is_held_in (state_of self.now) i) (λ l. (state_of self.now).is_locked l)) }
+    {
+        let upper = self.is_held(Modifier::AltShift) != self.is_locked(Lock::Alt);
+        if upper { key.get() + 128 } else { key.get() }
+    }
+
+    /// What a press of the key looks up.
+    fn look(&self, map: &KeyMap, key: KeyCode) -> Cell
+        ensures in_range { key < 128 }
+        ensures value { result ≡ look_in map.now (state_of self.now) key }
+    {
+        let entry = map.entry(self.slot(key));
+        let flipped = flips(
+            entry.flag,
+            self.is_locked(Lock::Caps),
+            self.is_locked(Lock::Num),
+        );
+        let shift = self.is_either_held(Modifier::LeftShift, Modifier::RightShift) != flipped;
+        let control = self.is_either_held(Modifier::LeftControl, Modifier::RightControl);
+        let alt = self.is_either_held(Modifier::LeftAlt, Modifier::RightAlt);
+        entry.cells[column(shift, control, alt)]
+    }
+
+    /// Whether the key holds a modifier.
+    fn holds(&self, key: KeyCode) -> bool
+        ensures idle { result ≡ false → IsIdle (state_of self.now) key }
+        ensures busy { result ≡ true → IsIdle (state_of self.now) key → ⊥ }
+    {
+        for modifier in MODIFIERS {
+            if let Some(holder) = self.holder(modifier) {
+                if holder.get() == key.get() {
+                    return true;
+                }
+            }
+        }
+        false
+    }
+
+    /// The holder of the modifier, if it looks up a character.
+    fn forgets(&self, map: &KeyMap, modifier: Modifier) -> Option<KeyCode>
+        ensures { MatchOption result ((k : ℕ) → Forgets map.now (state_of self.now) modifier k
+            → ⊥) (λ k. Forgets map.now (state_of self.now) modifier k) }
+    {
+        match self.holder(modifier) {
+            Some(key) => match self.look(map, key) {
+                Cell::Char(_) => Some(key),
+                Cell::Act(_) => None,
+            },
+            None => None,
+        }
+    }
+
+    /// A key that holds a modifier and looks up a character.
+    pub fn forgetful(&self, map: &KeyMap) -> Option<KeyCode>
+        ensures { MatchOption result (IsForgetful map.now (state_of self.now) → ⊥) (λ k. (i : ModifierValue)
+            × Forgets map.now (state_of self.now) i k) }
+    {
+        for modifier in MODIFIERS {
+            match self.forgets(map, modifier) {
+                Some(key) => return Some(key),
+                None => {}
+            }
+        }
+        None
+    }
+
+    /// Where letting go of the modifier leads.
+    pub fn let_go(&self, modifier: Modifier) -> Option<Step>
+        ensures met { (es : Entries) (p : ℕ) → IfSome result (λ x. IsMetBy es p (state_of x.to))
+            → IsLetGoMet es p (state_of self.now) modifier }
+        ensures step { (m : MapValue) → IfSome result (IsStep m (state_of self.now) 0) }
+    {
+        match self.holder(modifier) {
+            Some(key) => Some(Step {
+                by: Move::LetGo(key, modifier),
+                to: self.with_holder(modifier, None),
+            }),
+            None => None,
+        }
+    }
+
+    /// Where a press of the key leads, with its release if it turns a lock.
+    pub fn pressed(&self, map: &KeyMap, key: KeyCode) -> Option<Step>
+        ensures met { (es : Entries) (p : ℕ) → IfSome result (λ x. IsMetBy es p (state_of x.to))
+            → ArePressesMet map.now es p (state_of self.now) key }
+        ensures step { IfSome result (IsStep map.now (state_of self.now) 1) }
+    {
+        match self.look(map, key) {
+            Cell::Act(Action::Mod(modifier)) => {
+                if self.is_held(modifier) {
+                    None
+                } else if self.holds(key) {
+                    None
+                } else {
+                    Some(Step {
+                        by: Move::Hold(key, modifier),
+                        to: self.with_holder(modifier, Some(key)),
+                    })
+                }
+            }
+            Cell::Act(Action::Lock(lock)) => {
+                if lock == Lock::Scroll {
+                    None
+                } else if self.holds(key) {
+                    None
+                } else {
+                    Some(Step {
+                        by: Move::Turn(key, lock),
+                        to: self.with_turned(lock),
+                    })
+                }
+            }
+            _ => None,
+        }
+    }
+
+    /// Adds the releases of the keys that hold modifiers, in the order of the modifiers.
+    pub fn push_releases(&self, events: &mut Vec<Event>) -> Result<(), AllocError>
+        ensures { OnOk result (events.new.items ≡ events.old.items ++ releases (state_of self.now) modifiers) }
+    {
+        for modifier in MODIFIERS {
+            if let Some(key) = self.holder(modifier) {
+                events.push(Event::Release(key))?;
+            }
+        }
+        Ok(())
+    }
+}
+
+/// The number of the key, or 128 for none.
+fn number(holder: Option<KeyCode>) -> u8
+    ensures { result ≡ number_of holder }
+{
+    match holder {
+        Some(key) => key.get(),
+        None => 128,
+    }
+}
+
+#[tactic(auto, using(crate::proofs::Places::places))]
+impl Held {
+    /// What a hasher is fed: the numbers of the holders, then 1 for each lock that is on.
+    fn bytes(&self) -> [u8; 12]
+        ensures { result ≡ bytes_of self.now }
+    {
+        [
+            number(self.holder(Modifier::LeftShift)),
+            number(self.holder(Modifier::RightShift)),
+            number(self.holder(Modifier::LeftControl)),
+            number(self.holder(Modifier::RightControl)),
+            number(self.holder(Modifier::LeftAlt)),
+            number(self.holder(Modifier::RightAlt)),
+            number(self.holder(Modifier::AltShift)),
+            number(self.holder(Modifier::Meta)),
+            u8::from(self.is_locked(Lock::Caps)),
+            u8::from(self.is_locked(Lock::Num)),
+            u8::from(self.is_locked(Lock::Scroll)),
+            u8::from(self.is_locked(Lock::Alt)),
+        ]
+    }
+}
+
+impl Hash for Held {
+    ghost use Rattle.std.specs.Prelude.{◌∷◌, []};
+    ghost use Rattle.std.proofs.Common.{ap};
+    ghost use Rattle.std.proofs.lemmas.Bool.{eqb-true};
+
+    ghost hash_input = { λ h. bytes_of h ∷ [] };
+
+    ghost respects_eq = { λ x y e. ap (λ bytes. bytes ∷ []) (same-bytes x y (held-equal _ _ (λ a b f. eqb-true a b f) (λ a b f. bool_equal a b f) x y e)) };
+
+    fn hash<H: Hasher>(&self, state: &mut H) {
+        state.write(&self.bytes());
+    }
+}

@@ -24,9 +24,9 @@ use Rattle.console_core.specs.Columns.{look_with}
 use Rattle.console_core.specs.Resolved.{ResolvedEvent, held, locked, on, remembered, taken_over, is_action, look, resolve, resolve_press}
 use Rattle.console_core.specs.Resolved.ResolvedEvent.{PressedCharacter, PressedAction, ReleasedKey, WasReset}
 use Rattle.console_core.specs.Reading.{is_some}
-use Rattle.console_core.specs.History.{Maps, between, in_force, loaded, resolved, On, pressed, HasKey, HasKeys, IsNoLoad, HasNoLoads, IsQuiet}
+use Rattle.console_core.specs.History.{Maps, between, in_force, loaded, resolved, On, pressed, HasKey, HasKeys, IsNoLoad, HasNoLoads}
 use Rattle.console_core.specs.Moves.{State, start, is_held, look_in, Holds, IsIdle, with_holder, with_turned, IsMove, IsForgetful}
-use Rattle.console_core.specs.declared.held.Move.TheVariants.{Hold, Turn, LetGo}
+use Rattle.console_core.specs.declared.held.Move.TheVariants.{Hold, Turn}
 use Rattle.console_core.specs.Sticking.{NeverSticks, SticksAfter, presses}
 use Rattle.console_core.specs.Headline.{IsOnOnlyWhilePressed, IsOffOnceQuiet}
 use Rattle.console_core.proofs.OneMore.{resolved-start, resolved-more, held-start, held-character, held-action, held-release, held-reset, locked-start, locked-character, locked-action, locked-release, locked-reset, remembered-character, remembered-action, remembered-release}

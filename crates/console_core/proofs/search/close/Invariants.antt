@@ -1,5 +1,5 @@
 -- the states of the level below the place are closed
-use Rattle.std.proofs.Common.{◌≤◌, ◌-◌, length}
+use Rattle.std.proofs.Common.{◌≤◌, ◌-◌}
 use Rattle.console_core.specs.Searching.{Searched, AreInOrder, Grows}
 use Rattle.console_core.proofs.search.close.Given as goal
 

@@ -1,5 +1,5 @@
 -- the events so far are the script but for the moves that are left
-use Rattle.std.proofs.Common.{◌≡◌, ◌<◌, ◌+◌, ℕ, List, ◌++◌, length, slice_get, Option, Some, None, IfSome}
+use Rattle.std.proofs.Common.{◌≡◌, ◌<◌, List, ◌++◌, length, slice_get, Some, IfSome}
 use Rattle.console_core.specs.declared.held.Move.{Move}
 use Rattle.console_core.specs.Moves.{state_after, script, events_along}
 use Rattle.console_core.specs.Searching.{state_of, Entry, IsTrail}

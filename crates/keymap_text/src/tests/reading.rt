@@ -21,7 +21,7 @@ pub(crate) fn settled(
     }
 }
 
-/// The map or fault of a text in pieces of a size. Where a growth is refused, the reader is made again.
+/// The map or fault of a text in pieces of a size.
 pub(crate) fn read_pieces(
     rt: &impl Abort,
     alloc: Global,
@@ -30,10 +30,7 @@ pub(crate) fn read_pieces(
 ) -> Result<KeyMap, TextError>
     requires { 0 < size }
 {
-    let mut reader = match MapReader::new(alloc) {
-        Ok(reader) => reader,
-        Err(_) => MapReader::new(alloc).map_err(|_| TextError::Memory)?,
-    };
+    let mut reader = MapReader::new(alloc).map_err(|_| TextError::Memory)?;
     for piece in text.chunks(size) {
         let before = reader.fed();
         assert!(rt; before <= 1 << 40 && piece.len() <= 1 << 20);
@@ -50,20 +47,11 @@ pub(crate) fn read_pieces(
 
 #[test]
 fn the_empty_text_is_the_map_of_no_keys(rt: HostRuntime) -> Result<(), Fail> {
-    let map = match read_map(rt.alloc(), b"") {
-        Err(TextError::Memory) => read_map(rt.alloc(), b"")?,
-        other => other?,
-    };
+    let map = read_map(rt.alloc(), b"")?;
     assert_eq!(rt; (map.n_keys(), map.n_accs()), (0, 0));
-    let empty = match KeyMap::new(rt.alloc()) {
-        Ok(empty) => empty,
-        Err(_) => KeyMap::new(rt.alloc())?,
-    };
+    let empty = KeyMap::new(rt.alloc())?;
     assert!(rt; map == empty);
-    let copy = match map.try_clone(rt.alloc()) {
-        Ok(copy) => copy,
-        Err(_) => map.try_clone(rt.alloc())?,
-    };
+    let copy = map.try_clone(rt.alloc())?;
     assert!(rt; copy == map);
     let mut page = [b'x'; 1];
     let mut writer = ToStd::new(page.as_mut_slice());

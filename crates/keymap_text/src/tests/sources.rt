@@ -5,8 +5,6 @@ ghost use Rattle.std.specs.Prelude.{None};
 use crate::tests::maps::LETTER_AND_SHIFT;
 use crate::{TextError, TextFault, TextFaultKind, read_from, read_map};
 use keymap_core::{Failed, FromStd, Read, ReadFault, ReadFaultKind};
-use std::alloc::Global;
-use std::process::Abort;
 use std::test::Fail;
 
 /// A reader that gives a text and then blanks, and fails at one of the bytes.
@@ -67,32 +65,12 @@ impl Read for Tape<'_> {
     }
 }
 
-/// Why a tape gave no map, where memory sufficed. Where it was refused, nothing may have been read.
-fn stop_of(
-    rt: &impl Abort,
-    alloc: Global,
-    tape: &mut Tape<'_>,
-) -> Result<Option<TextError>, TextError> {
-    let answer = read_from(alloc, tape).err();
-    if answer == Some(TextError::Memory) {
-        assert_eq!(rt; tape.reads, 0);
-        return Err(TextError::Memory);
-    }
-    Ok(answer)
-}
-
 const LIMIT: usize = 1_048_576;
 
 #[test]
 fn a_text_of_the_limit_is_read(rt: HostRuntime) -> Result<(), Fail> {
     let mut tape = tape_of(b"", LIMIT, 1);
-    let map = match read_from(rt.alloc(), &mut tape) {
-        Err(TextError::Memory) => {
-            assert_eq!(rt; tape.reads, 0);
-            read_from(rt.alloc(), &mut tape)?
-        }
-        other => other?,
-    };
+    let map = read_from(rt.alloc(), &mut tape)?;
     assert_eq!(rt; map.n_keys(), 0);
     assert!(rt; tape.reads <= 1_048_578 && tape.given == LIMIT);
     Ok(())
@@ -106,7 +84,7 @@ fn a_longer_text_is_endless(rt: HostRuntime) -> Result<(), Fail> {
     });
     for (size, pace) in [(LIMIT + 1, 1), (usize::MAX, 1), (usize::MAX, 512)] {
         let mut tape = tape_of(b"", size, pace);
-        assert_eq!(rt; stop_of(&rt, rt.alloc(), &mut tape)?, Some(wanted));
+        assert_eq!(rt; read_from(rt.alloc(), &mut tape).err(), Some(wanted));
         assert!(rt; tape.reads <= 1_048_578 && tape.given == LIMIT + 1);
         assert!(rt; !tape.failed());
     }
@@ -122,7 +100,7 @@ fn a_fault_ends_the_reading(rt: HostRuntime) -> Result<(), Fail> {
     });
     for pace in [1, 512] {
         let mut tape = tape_of(b"1 'ab'", usize::MAX, pace);
-        assert_eq!(rt; stop_of(&rt, rt.alloc(), &mut tape)?, Some(wanted));
+        assert_eq!(rt; read_from(rt.alloc(), &mut tape).err(), Some(wanted));
         assert!(rt; tape.given <= 512 && tape.reads <= 6);
     }
     Ok(())
@@ -152,7 +130,7 @@ fn a_device_that_fails_after_each_number_of_bytes_is_a_fault(rt: HostRuntime) ->
             offset: fails as u64,
             kind: ReadFaultKind::Device,
         });
-        assert_eq!(rt; stop_of(&rt, rt.alloc(), &mut tape)?, Some(wanted));
+        assert_eq!(rt; read_from(rt.alloc(), &mut tape).err(), Some(wanted));
         assert!(rt; tape.failed());
     }
     Ok(())
@@ -168,7 +146,7 @@ fn a_device_that_fails_at_the_limit_is_a_fault(rt: HostRuntime) -> Result<(), Fa
     for pace in [1, 512] {
         let mut tape = tape_of(b"", usize::MAX, pace);
         tape.fails = LIMIT;
-        assert_eq!(rt; stop_of(&rt, rt.alloc(), &mut tape)?, Some(wanted));
+        assert_eq!(rt; read_from(rt.alloc(), &mut tape).err(), Some(wanted));
         assert!(rt; tape.reads <= 1_048_578 && tape.given == LIMIT && tape.failed());
     }
     Ok(())

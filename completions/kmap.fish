@@ -12,6 +12,7 @@ end
 
 complete -c kmap -n '__kmap_after' -f
 complete -c kmap -n '__kmap_after' -a check -d 'Accepts a keymap only if no key can leave a modifier on'
+complete -c kmap -n '__kmap_after' -a search -d 'Decides whether key presses can leave a modifier on'
 complete -c kmap -n '__kmap_after' -a play -d 'Prints what the console answers to a script of key presses'
 complete -c kmap -n '__kmap_after' -a compile -d 'Writes the table file of a keymap text'
 complete -c kmap -n '__kmap_after' -a dump -d 'Prints a table file as keymap text'
@@ -21,6 +22,8 @@ complete -c kmap -n '__kmap_after' -s V -l version -d 'Print version'
 
 complete -c kmap -n '__kmap_after check' -l show -d 'Also prints key presses that leave a modifier on, if found'
 complete -c kmap -n '__kmap_after check' -s h -l help -d 'Print help'
+
+complete -c kmap -n '__kmap_after search' -s h -l help -d 'Print help'
 
 complete -c kmap -n '__kmap_after play' -l typed -d 'Prints the typed bytes instead'
 complete -c kmap -n '__kmap_after play' -l next -r -F -d 'The keymap text that a load puts in force'
@@ -34,6 +37,7 @@ complete -c kmap -n '__kmap_after dump' -s h -l help -d 'Print help'
 
 complete -c kmap -n '__kmap_after help' -f
 complete -c kmap -n '__kmap_after help' -a check
+complete -c kmap -n '__kmap_after help' -a search
 complete -c kmap -n '__kmap_after help' -a play
 complete -c kmap -n '__kmap_after help' -a compile
 complete -c kmap -n '__kmap_after help' -a dump

@@ -197,6 +197,48 @@ release 42: none; mods lshift; locks alock
 release 58: released alock; mods lshift; locks alock
 " '' play half half.script
 
+# Searching.
+ran 'an accepted keymap never sticks' 0 "# never sticks$line" '' search "$examples/us.kbd"
+ran 'a trap sticks' 1 "# sticks: lshift
+down 42
+down 29
+down 42
+up 29
+up 42
+" '' search "$examples/trap.kbd"
+ran 'an undefined upper half sticks' 1 "# sticks: lshift
+down 42
+down 58
+up 58
+down 42
+up 42
+" '' search half
+printf "042 lshift lshift lshift lshift lshift lshift lshift lshift O\n058 clock nop nop nop nop nop nop nop O\n" > caps
+printf "093 alock alock alock alock alock alock alock alock O\n170 lshift lshift lshift lshift lshift lshift lshift lshift O\n" >> caps
+ran 'refuses a lock beside an undefined slot' 1 "refused
+key 58: clock at slot 58 column 0, character at slot 186 column 0
+key 93: alock at slot 93 column 0, character at slot 221 column 0
+$(bearers 'throughout 42' nobody | sed 's/^clock.*/clock sole 58/; s/^alock.*/alock sole 93/')
+" '' check caps
+ran 'which never sticks' 0 "# never sticks$line" '' search caps
+awk 'BEGIN {
+    split("lshift rshift lctrl rctrl lalt ralt", name, " ")
+    for (key = 0; key < 48; key++) {
+        cell = name[key % 6 + 1]
+        print key, cell, cell, cell, cell, cell, cell, cell, cell, "O"
+    }
+}' > many
+ran 'too many states to decide' 1 "# undecided: more than 65536 states$line" '' search many
+ran 'a faulty text is not searched' 1 '' "kmap: text line 1 offset 3: EndInside$line" search cut
+ran 'no text to search' 1 '' "kmap: cannot open none1$line" search none1
+"$program" search half > found
+ran 'plays what was found' 0 "press 42: lshift; mods lshift; locks none
+press 58: alock; mods lshift; locks alock
+release 58: released alock; mods lshift; locks alock
+press 42: char 0; mods lshift; locks alock
+release 42: none; mods lshift; locks alock
+" '' play half found
+
 # fails_to_write NAME ARGS..: on a full device and on a closed standard output the fault is told
 fails_to_write() {
     label=$1

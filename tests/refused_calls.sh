@@ -61,6 +61,12 @@ refuses read_tables-faulty fault
 takes_none read_tables-short fault
 takes_none read_tables-long fault
 refuses read_tables_from
+refuses read_narrow
+refuses read_narrow-faulty fault
+takes_none read_narrow-long fault
+refuses read_narrow_from
+refuses sticking-never
+refuses sticking-sticks
 refuses replay-plain
 refuses replay-word
 refuses read_script

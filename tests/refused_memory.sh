@@ -40,6 +40,7 @@ down 42' | head -n 1000 > script
     head -c 1048576 /dev/zero | tr '\000' ' '
 } | head -c 1048576 > large
 "$program" compile letter tables || exit 1
+"$program" compile letter small --narrow || exit 1
 echo 'kmap: out of memory' > said
 
 passed=0
@@ -105,8 +106,12 @@ refuses 0 check letter
 refuses 1 check trap --show
 refuses 0 play letter script
 refuses 0 play letter script --typed --next shift
+refuses 0 search letter
+refuses 1 search trap
 refuses 0 dump tables
+refuses 0 dump small --narrow
 refuses 0 compile shift made
+refuses 0 compile shift made --narrow
 
 # allocations ARGS..: how often the program allocates
 allocations() {

@@ -1,3 +1,4 @@
 pub mod FaultLine
 pub mod Report
 pub mod Runs
+pub mod Search

@@ -1,5 +1,5 @@
 -- What the runs of the program do to the devices that they are lent.
-use Rattle.std.specs.Prelude.{◌↔◌, IsTrue, ℕ, ◌<◌, Bool, true, false, List, Option, Result, Ok, Err, length, take}
+use Rattle.std.specs.Prelude.{◌≡◌, ◌↔◌, IsTrue, ℕ, ◌<◌, Bool, true, false, List, Option, Result, Ok, Err, length, take}
 use Rattle.std.specs.Io.KnownBytes.{Appends, Keeps}
 use Rattle.keymap_core.specs.Maps.{MapValue}
 use Rattle.keymap_text.specs.declared.fault.TextError.{TextError}
@@ -17,7 +17,10 @@ use Rattle.play_core.specs.declared.player.Source.TheVariants.{Text, Next, Scrip
 use Rattle.console_core.specs.Safety.{IsSafe}
 use Rattle.kmap.specs.declared.fault_line.RunError.{RunError}
 use Rattle.kmap.specs.declared.fault_line.RunError.TheVariants as error
+use Rattle.console_core.specs.declared.outcome.Sticking.{Sticking}
+use Rattle.console_core.specs.Sticking.{IsAnswer}
 use Rattle.kmap.specs.Report.{report}
+use Rattle.kmap.specs.Search.{found_text, is_never}
 
 abbrev pub of_text_error : TextError → RunError
 of_text_error text.Memory = error.Memory
@@ -54,6 +57,21 @@ ChecksText show before after old new (Err (error.Text f)) = ReadsMap before afte
 ChecksText show before after old new (Err (error.ReadText f)) = ReadsMap before after (Err (text.Read f)) × Keeps old new
 ChecksText show before after old new (Err error.Memory) = ReadsMap before after (Err text.Memory) × Keeps old new
 ChecksText show before after old new (Err _) = ⊥
+
+-- The text that was read spells a map, the search answered so, and what it found was written, or its first `written`
+-- bytes; the answer is whether no modifier ever sticks. After any other refusal nothing was written, and a fault is that
+-- of the bytes taken.
+abbrev pub SearchesText : Option (List ℕ) → Option (List ℕ) → Option (List ℕ) → Option (List ℕ) → Result Bool RunError → Type 0
+SearchesText before after old new (Ok never) =
+    (m : MapValue) × (found : Sticking) × ReadsMap before after (Ok m) × IsAnswer m found × (never ≡ is_never found)
+    × Appends old new (found_text m found)
+SearchesText before after old new (Err (error.Write f)) =
+    (m : MapValue) × (found : Sticking) × ReadsMap before after (Ok m) × IsAnswer m found
+    × (f.written < length (found_text m found)) × Appends old new (take f.written (found_text m found))
+SearchesText before after old new (Err (error.Text f)) = ReadsMap before after (Err (text.Fault f)) × Keeps old new
+SearchesText before after old new (Err (error.ReadText f)) = ReadsMap before after (Err (text.Read f)) × Keeps old new
+SearchesText before after old new (Err error.Memory) = Keeps old new
+SearchesText before after old new (Err _) = ⊥
 
 -- The bytes that were read are a map, and its printed form was written, or its first `written` bytes. After any other
 -- refusal nothing was written, and a fault is that of the bytes taken. `Reads` says what reading the file answers.

@@ -31,6 +31,13 @@ fn check<'a>(alloc: Global) -> Result<Command<'a>, AllocError> {
         ))
 }
 
+fn search<'a>(alloc: Global) -> Result<Command<'a>, AllocError> {
+    Command::new(alloc, "search")
+        .about("Decides whether key presses can leave a modifier on")
+        .after_help("Example: kmap search de.kbd{n}{n}kmap(1) tells how to read the answer.")
+        .arg(file(alloc, "TEXT", "The keymap text"))
+}
+
 fn next<'a>(alloc: Global) -> Arg<'a> {
     Arg::new(alloc, "next")
         .long("next")
@@ -83,6 +90,7 @@ pub(crate) fn command<'a>(alloc: Global) -> Result<Command<'a>, AllocError> {
         .subcommand_required(true)
         .arg_required_else_help(true)
         .subcommand(check(alloc)?)?
+        .subcommand(search(alloc)?)?
         .subcommand(play(alloc)?)?
         .subcommand(compile(alloc)?)?
         .subcommand(dump(alloc)?)
@@ -103,6 +111,9 @@ pub(crate) enum Request<'a> {
     Check {
         text: &'a str,
         show: bool,
+    },
+    Search {
+        text: &'a str,
     },
     Play {
         text: &'a str,
@@ -128,6 +139,9 @@ pub(crate) fn request_of<'a>(matches: &ArgMatches<'a>) -> Option<Request<'a>> {
         "check" => Some(Request::Check {
             text: words.get_str("TEXT")?,
             show: words.get_flag("show"),
+        }),
+        "search" => Some(Request::Search {
+            text: words.get_str("TEXT")?,
         }),
         "play" => Some(Request::Play {
             text: words.get_str("TEXT")?,

@@ -4,7 +4,7 @@ ghost use Rattle.arrayvec.specs.ArrayVec.{array_vec_len};
 ghost use Rattle.keymap_core.specs.Devices.{WritesText};
 ghost use Rattle.kmap.specs.FaultLine.{fault_line, message, read_fault, script_fault, table_fault, table_kind, text_fault, text_kind, too_wide, write_fault};
 
-use crate::text::{append, append_number};
+use crate::text::{append, append_byte, append_number};
 use arrayvec::ArrayVec;
 use keymap_core::{ReadFault, ReadFaultKind, Write, WriteFault, write_text};
 use keymap_tables::{TableFault, TableFaultKind, Wide};
@@ -140,22 +140,22 @@ fn append_read_fault(line: &mut Line, source: &[u8], fault: &ReadFault)
 }
 
 fn append_wide(line: &mut Line, wide: &Wide)
-    requires { array_vec_len line.old + 80 ≤ 96 }
+    requires { array_vec_len line.old + 50 ≤ 96 }
     ensures text { line.new.items ≡ line.old.items ++ too_wide wide.now }
-    ensures bound { array_vec_len line.new ≤ array_vec_len line.old + 80 }
+    ensures bound { array_vec_len line.new ≤ array_vec_len line.old + 50 }
 {
     match wide {
         Wide::Cell { slot, column } => {
             append(line, b"cell too wide at slot ");
-            append_number(line, u64::from(*slot));
+            append_byte(line, *slot);
             append(line, b" column ");
-            append_number(line, u64::from(*column));
+            append_byte(line, *column);
         }
         Wide::Accent { accent, number } => {
             append(line, b"accent too wide at accent ");
-            append_number(line, u64::from(*accent));
+            append_byte(line, *accent);
             append(line, b" number ");
-            append_number(line, u64::from(*number));
+            append_byte(line, *number);
         }
     }
 }

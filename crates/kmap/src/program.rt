@@ -2,7 +2,7 @@
 use crate::command_line::{Request, command, request_of};
 use crate::fault_line::{RunError, write_run_error};
 use crate::runs::{
-    check_run, dump_narrow_run, dump_run, narrow_failure, play_failure, text_failure,
+    check_run, dump_narrow_run, dump_run, narrow_failure, play_failure, search_run, text_failure,
 };
 use clap::error::ErrorKind;
 use keymap_core::{FromStd, KeyMap, ToStd, Write, write_text};
@@ -106,7 +106,7 @@ fn report_name<W: Write>(front: &[u8], name: &str, faults: &mut W) {
     }
 }
 
-/// Answers a request: whether all is well, which only a refused map denies.
+/// Answers a request: whether all is well, which only a refused map denies, or one that isn't known never to stick.
 fn answer<'a, R>(rt: &R, request: Request<'a>) -> Result<bool, Failure<'a>>
 where
     R: AllocGlobal + Files + Print,
@@ -124,6 +124,11 @@ where
             let mut source = opened(rt, text)?;
             let mut out = ToStd::new(io::writer(rt));
             run_outcome(check_run(rt.alloc(), &mut source, show, &mut out))
+        }
+        Request::Search { text } => {
+            let mut source = opened(rt, text)?;
+            let mut out = ToStd::new(io::writer(rt));
+            run_outcome(search_run(rt.alloc(), &mut source, &mut out))
         }
         Request::Play {
             text,

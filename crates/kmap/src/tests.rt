@@ -5,4 +5,5 @@ mod devices;
 mod fault_lines;
 mod maps;
 mod reports;
+mod searches;
 mod tables;

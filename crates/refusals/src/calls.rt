@@ -1,11 +1,14 @@
 //! The calls, each on inputs that are made before.
 use crate::devices::{Counting, reader_of};
 use crate::outcome::{Answer, Outcome};
-use console_core::{Event, PlainConsole, Translator, WordConsole, replay};
+use console_core::{Event, PlainConsole, Sticking, Translator, WordConsole, replay, sticking};
 use keymap_core::{
     KeyCode, KeyMap, Lock, Modifier, ReadError, ToStd, Write, read_up_to, write_text,
 };
-use keymap_tables::{TableError, read_tables, read_tables_from, write_tables};
+use keymap_tables::{
+    TableError, read_narrow, read_narrow_from, read_tables, read_tables_from, write_narrow,
+    write_tables,
+};
 use keymap_text::{MapReader, TextError, read_from, read_map};
 use play_core::{PlayError, ScriptError, Show, play, play_next, read_script};
 use std::alloc::{AllocError, Global};
@@ -16,6 +19,11 @@ const TEXT: &[u8] = b"026 dacu dacu dacu dacu dacu dacu dacu dacu O
 042 lshift lshift lshift lshift lshift lshift lshift lshift O
 058 clock clock clock clock clock clock clock clock O
 dacu 180 ( 'e' 0xe9 )
+";
+
+/// A shift that is a character where control is on.
+const TRAP: &[u8] = b"029 lctrl lctrl lctrl lctrl lctrl lctrl lctrl lctrl O
+042 lshift lshift 'x' 'x' lshift lshift lshift lshift O
 ";
 
 /// A text with a fault in its first byte.
@@ -41,6 +49,12 @@ pub fn outcome_of<W: Write>(
         "read_tables-short" => reads_tables(alloc, TEXT, marks),
         "read_tables-long" => reads_tables(alloc, &[0; TABLES + 1], marks),
         "read_tables_from" => reads_tables_from(alloc, tables(alloc)?.as_slice(), marks),
+        "read_narrow" => reads_narrow(alloc, narrow(alloc)?.as_slice(), marks),
+        "read_narrow-faulty" => reads_narrow(alloc, &[0xff; NARROW], marks),
+        "read_narrow-long" => reads_narrow(alloc, &[0; NARROW + 1], marks),
+        "read_narrow_from" => reads_narrow_from(alloc, narrow(alloc)?.as_slice(), marks),
+        "sticking-never" => searches(alloc, TEXT, marks)?,
+        "sticking-sticks" => searches(alloc, TRAP, marks)?,
         "replay-plain" => replays_plainly(alloc, marks)?,
         "replay-word" => replays_in_a_word(alloc, marks)?,
         "read_script" => reads_script(alloc, marks),
@@ -80,6 +94,15 @@ const TABLES: usize = 15_524;
 fn tables(alloc: Global) -> Result<Vec<u8>, AllocError> {
     let mut bytes = Vec::from_array(alloc, [0; TABLES])?;
     let _ = write_tables(&sample(alloc)?, &mut ToStd::new(bytes.as_mut_slice()));
+    Ok(bytes)
+}
+
+/// How many bytes the narrow file of a map has.
+const NARROW: usize = 4_139;
+
+fn narrow(alloc: Global) -> Result<Vec<u8>, AllocError> {
+    let mut bytes = Vec::from_array(alloc, [0; NARROW])?;
+    let _ = write_narrow(&sample(alloc)?, &mut ToStd::new(bytes.as_mut_slice()));
     Ok(bytes)
 }
 
@@ -191,6 +214,37 @@ fn reads_tables_from<W: Write>(alloc: Global, bytes: &[u8], marks: &mut W) -> Ou
     let answer = read_tables_from(alloc, &mut reader);
     mark(marks);
     Outcome::of(table_answer(answer))
+}
+
+fn reads_narrow<W: Write>(alloc: Global, bytes: &[u8], marks: &mut W) -> Outcome {
+    mark(marks);
+    let answer = read_narrow(alloc, bytes);
+    mark(marks);
+    Outcome::of(table_answer(answer))
+}
+
+fn reads_narrow_from<W: Write>(alloc: Global, bytes: &[u8], marks: &mut W) -> Outcome {
+    let mut reader = reader_of(bytes);
+    mark(marks);
+    let answer = read_narrow_from(alloc, &mut reader);
+    mark(marks);
+    Outcome::of(table_answer(answer))
+}
+
+/// Searches the map of a text. It sticks exactly where the text is the one with a trap.
+fn searches<W: Write>(alloc: Global, text: &[u8], marks: &mut W) -> Result<Outcome, AllocError> {
+    let Ok(map) = read_map(alloc, text) else {
+        return Err(AllocError);
+    };
+    mark(marks);
+    let answer = sticking(alloc, &map);
+    mark(marks);
+    Ok(Outcome::of(match answer {
+        Ok(Sticking::Sticks(events)) => done(text == TRAP && events.len() == 5),
+        Ok(Sticking::Never) => done(text == TEXT),
+        Ok(Sticking::Undecided) => Answer::Fault,
+        Err(AllocError) => Answer::Memory,
+    }))
 }
 
 /// The key with this code is pressed.

@@ -30,7 +30,7 @@ const TRAP: &[u8] = b"029 lctrl lctrl lctrl lctrl lctrl lctrl lctrl lctrl O
 const FAULTY: &[u8] = b")";
 
 /// Makes the call of this name. There is none where no call has the name.
-pub fn outcome_of<W: Write>(
+pub(crate) fn outcome_of<W: Write>(
     alloc: Global,
     name: &str,
     marks: &mut W,

@@ -11,7 +11,7 @@ pub struct Given<'a> {
     pub reads: u32,
 }
 
-pub fn reader_of(bytes: &[u8]) -> Given<'_> {
+pub(crate) fn reader_of(bytes: &[u8]) -> Given<'_> {
     Given {
         bytes,
         given: 0,

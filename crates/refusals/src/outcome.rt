@@ -20,7 +20,7 @@ pub struct Outcome {
 
 impl Outcome {
     /// A call that was lent nothing which it has to leave alone.
-    pub fn of(answer: Answer) -> Outcome {
+    pub(crate) fn of(answer: Answer) -> Outcome {
         Outcome { answer, kept: true }
     }
 }

@@ -1,4 +1,5 @@
 pub mod Lexical
+pub mod Quoted
 pub mod Words
 pub mod Keys
 pub mod Items

@@ -77,15 +77,17 @@ pending_line old b more e l p =
     let here : feeds (drop e.offset b) ≡ 0 = feeds_behind old.offset e.offset b p.from none in
     p.line ∙ l.line ∙ line_all b old.offset none ∙ sym (line_all b e.offset here) ∙ sym (ap (λ (t : List ℕ). 1 + count_by (λ c. c == 10) t) (take-append-le e.offset b more (omega (arith, p.to, l.fed))))
 
--- the same over a piece
-pub lined_more : (old new : Scanner) (b piece : List ℕ) (i : ℕ) → i < length piece → Lined old (b ++ take i piece) → Forward old new (get_or piece i 0) → new.offset + length new.pending.items ≡ old.offset + length old.pending.items + 1 → Lined new (b ++ take (i + 1) piece)
-lined_more old new b piece i h l f n = subst (λ (t : List ℕ). Lined new t) (append_assoc b (take i piece) (get_or piece i 0 ∷ []) ∙ ap (λ t. b ++ t) (sym (take_more piece i 0 h))) (lined_on old new (b ++ take i piece) (get_or piece i 0) l f n)
-
-pub lined_all : (r : Scanner) (b piece : List ℕ) (i : ℕ) → length piece ≤ i → Lined r (b ++ take i piece) → Lined r (b ++ piece)
-lined_all r b piece i h l = subst (λ (t : List ℕ). Lined r (b ++ t)) (take_all i piece h) l
-
-pub pending_line_in : (old : Scanner) (b piece : List ℕ) (i : ℕ) (e : TextFault) → Lined old (b ++ take i piece) → IsPending e old → e.line ≡ line (b ++ piece) e.offset
-pending_line_in old b piece i e l p = pending_line old (b ++ take i piece) (drop i piece) e l p ∙ ap (λ t. line t e.offset) (append_assoc b (take i piece) (drop i piece) ∙ ap (λ t. b ++ t) (take-append-drop i piece))
+-- a whole token was taken, on one line
+pub lined_whole : (old new : Scanner) (b : List ℕ) → Lined old b → new.line ≡ old.line → new.pending.items ≡ []
+    → new.offset ≡ old.offset + length old.pending.items → Lined new b
+lined_whole old new b l e p o =
+    let none : feeds (drop old.offset b) ≡ 0 = feeds_are _ ∙ l.none in
+    let here : feeds (drop new.offset b) ≡ 0 = feeds_behind old.offset new.offset b (omega (arith, o)) none in
+    record {
+      fed = omega (arith, o, l.fed, ap length p);
+      line = e ∙ l.line ∙ line_all b old.offset none ∙ sym (line_all b new.offset here);
+      none = sym (feeds_are _) ∙ here;
+    }
 
 -- Bytes without a line feed, where nothing was pending and nothing is.
 pub lined_run : (old new : Scanner) (b w : List ℕ) → old.pending.items ≡ [] → new.pending.items ≡ [] → new.line ≡ old.line → new.offset ≡ old.offset + length w → feeds w ≡ 0 → Lined old b → Lined new (b ++ w)

@@ -1,8 +1,10 @@
 -- What taking a whole token or a row of blanks makes of the rest of a text.
-use Rattle.std.proofs.Common.{◌≡◌, ℕ, zero, suc, ◌+◌, ◌<◌, ◌≤◌, Bool, true, false, List, [], ◌∷◌, ◌++◌, length, take, drop, get_or, refl, sym, ◌∙◌, ap, subst, arith, Ok, Err, ne_eqb, ◌-◌, ap₂, append_assoc, append-nil, length-drop, drop-cons}
+use Rattle.std.proofs.Common.{◌≡◌, ◌≢◌, ℕ, zero, suc, ◌+◌, ◌<◌, ◌≤◌, Bool, true, false, List, [], ◌∷◌, ◌++◌, length, take, drop, get_or, refl, sym, ◌∙◌, ap, subst, arith, Result, Ok, Err, OnOk, ne_eqb, ◌-◌, ap₂, append_assoc, append-nil, length-drop, drop-cons, take_all}
 use Rattle.std.proofs.lemmas.List.{drop-drop, take-append-drop, drop_all}
 use Rattle.std.proofs.Math.Seq.{take-add}
 use Rattle.std.proofs.lemmas.Bool.Decides.{nat_tests}
+use Rattle.std.specs.Prelude.{IfErr}
+use Rattle.keymap_text.specs.declared.fault.TextFaultKind.{TextFaultKind}
 use Rattle.keymap_text.specs.declared.fault.TextFault.{TextFault}
 use Rattle.keymap_text.specs.declared.token.TokenKind.TheVariants.{Word, Literal, ParenL, ParenR}
 use Rattle.keymap_text.specs.declared.words.Item.{Item}
@@ -16,11 +18,11 @@ use Rattle.keymap_text.specs.Words.{meaning}
 use Rattle.keymap_text.specs.Grammar.{State, accept}
 use Rattle.keymap_text.specs.Reading.{judge, Faulty, line}
 use Rattle.keymap_text.specs.Views.{state_view}
-use Rattle.keymap_text.specs.Resuming.{tokens_of, resume, KeepsMode, line_feed, IsReader, Lined, Forward, IsPending, Advances, Refuses, Fronts}
+use Rattle.keymap_text.specs.Resuming.{tokens_of, resume, KeepsMode, line_feed, IsReader, Lined, Forward, IsPending, Goes, Accepts, Takes, Advances, Refuses, Fronts}
 use Rattle.keymap_text.proofs.Leading.{leading_pass, leading_fail, leading_none}
-use Rattle.keymap_text.proofs.Lines.{feeds, feeds_are, feeds_run, no_feed, lined_run, lined_on, lined_all, pending_line}
+use Rattle.keymap_text.proofs.Lines.{feeds, feeds_are, feeds_run, no_feed, lined_run, lined_on, lined_whole, pending_line}
 use Rattle.keymap_text.proofs.Splitting.{split_blank, to_end}
-use Rattle.keymap_text.proofs.Steps.{judge_then, judge_refused, word_ended, found_whole, front_quote, front_left, front_right}
+use Rattle.keymap_text.proofs.Steps.{judge_then, judge_refused, word_ended, found_whole, front_quote, front_left, front_right, stays_in_line}
 
 -- blanks
 space_blank : (c : ℕ) → is_space c ≡ true → is_blank c ≡ true
@@ -198,7 +200,7 @@ token_refuses old rest i n e f m a o l =
           ∙ ap (judge s) (f.splits old.offset x)
           ∙ judge_refused s e.kind (f.token old.offset x) _ (ap (accept s) (f.item old.offset x) ∙ a)
           ∙ ap₂ (Faulty e.kind) (f.start old.offset x ∙ sym o) (f.settled old.offset x);
-      line = λ b h. pending_line old b rest e h (record { line = l; from = omega (arith, o); to = omega (arith, o) });
+      line = λ b x h. pending_line old b (rest ++ x) e h (record { line = l; from = omega (arith, o); to = omega (arith, o) });
     }
 
 -- one byte
@@ -220,10 +222,67 @@ byte_advances old new rest c h e t r f l =
       line = λ b k. subst (λ (t : List ℕ). Lined new (b ++ t)) (ap (λ n. n ∷ []) e ∙ sym (one rest h)) (lined_on old new b c k l f);
     }
 
-pub byte_refuses : (old : Scanner) (rest : List ℕ) (c : ℕ) (e : TextFault) → 0 < length rest → c ≡ get_or rest 0 0 → ((x : List ℕ) → resume old (c ∷ x) ≡ Faulty e.kind e.offset true) → IsPending e old → Refuses old rest e
+pub byte_refuses : (old : Scanner) (rest : List ℕ) (c : ℕ) (e : TextFault) → 0 < length rest → c ≡ get_or rest 0 0
+    → ((x : List ℕ) → resume old (c ∷ x) ≡ Faulty e.kind e.offset true) → IsPending e old → Refuses old rest e
 byte_refuses old rest c e h k t p = record {
   takes = λ x. ap (λ (t : List ℕ). resume old (t ++ x)) (first rest h ∙ sym (ap (λ n. n ∷ drop 1 rest) k)) ∙ t (drop 1 rest ++ x);
-  line = λ b l. pending_line old b rest e l p;
+  line = λ b x l. pending_line old b (rest ++ x) e l p;
+}
+
+-- all of one byte
+pub takes_byte : (old new : Scanner) (c : ℕ) → ((x : List ℕ) → resume old (c ∷ x) ≡ resume new x) → IsReader new
+    → new.offset + length new.pending.items ≡ old.offset + length old.pending.items + 1 → Forward old new c
+    → Advances old new (c ∷ []) 1
+takes_byte old new c t r f l = byte_advances old new (c ∷ []) c (omega arith) refl t r f l
+
+pub refuses_byte : (old : Scanner) (c : ℕ) (e : TextFault)
+    → ((x : List ℕ) → resume old (c ∷ x) ≡ Faulty e.kind e.offset true) → IsPending e old → Refuses old (c ∷ []) e
+refuses_byte old c e t p = byte_refuses old (c ∷ []) c e (omega arith) refl t p
+
+-- one byte ends a token of n bytes
+pub takes_last : (result : Result (Unit {0}) TextFault) (old new : Scanner) (c n : ℕ) (next : Result State TextFaultKind)
+    → c ≢ 10 → n ≡ length old.pending.items + 1 → Accepts result next old.offset new (old.offset + n)
+    → OnOk result (IsReader new) → OnOk result (new.pending.items ≡ []) → OnOk result (new.line ≡ old.line)
+    → IfErr result (λ e. e.line ≡ old.line) → Goes result (λ x. resume old (c ∷ x)) (resume new)
+    → Takes result old new (c ∷ [])
+takes_last (Ok u) old new c n next other s a r p l f g =
+    takes_byte old new c g r (omega (arith, a.2, s, ap length p)) (stays_in_line old new c other l (omega (arith, a.2)))
+takes_last (Err e) old new c n next other s a r p l f g =
+    refuses_byte old c e g (record { line = f; from = omega (arith, a.1); to = omega (arith, a.1) })
+
+-- a byte after a word
+pub takes_after : (result : Result (Unit {0}) TextFault) (old mid new : Scanner) (c : ℕ) → Takes result mid new (c ∷ [])
+    → ((x : List ℕ) → resume old (c ∷ x) ≡ resume mid (c ∷ x)) → mid.line ≡ old.line → mid.pending.items ≡ []
+    → mid.offset ≡ old.offset + length old.pending.items → Takes result old new (c ∷ [])
+takes_after (Ok u) old mid new c a g l p o = record {
+  takes = λ x. g x ∙ a.takes x;
+  reader = a.reader;
+  fed = omega (arith, a.fed, o, ap length p);
+  inside = a.inside;
+  line = λ b h. a.line b (lined_whole old mid b h l p o);
+}
+takes_after (Err e) old mid new c a g l p o = record {
+  takes = λ x. g x ∙ a.takes x;
+  line = λ b x h. a.line b x (lined_whole old mid b h l p o);
+}
+
+-- the same in front of other bytes
+pub byte_in_front : (old new : Scanner) (rest : List ℕ) → 0 < length rest → Advances old new (get_or rest 0 0 ∷ []) 1
+    → Advances old new rest 1
+byte_in_front old new rest h a = record {
+  takes = λ x. ap (λ (t : List ℕ). resume old (t ++ x)) (first rest h) ∙ a.takes (drop 1 rest ++ x);
+  reader = a.reader;
+  fed = a.fed;
+  inside = h;
+  line = λ b k. subst (λ (t : List ℕ). Lined new (b ++ t)) (sym (one rest h)) (a.line b k);
+}
+
+fault_in_front : (old : Scanner) (rest : List ℕ) (e : TextFault) → 0 < length rest
+    → Refuses old (get_or rest 0 0 ∷ []) e → Refuses old rest e
+fault_in_front old rest e h r = record {
+  takes = λ x. ap (λ (t : List ℕ). resume old (t ++ x)) (first rest h) ∙ r.takes (drop 1 rest ++ x);
+  line = λ b x k.
+      r.line b (drop 1 rest ++ x) k ∙ ap (λ (t : List ℕ). line (b ++ (t ++ x)) e.offset) (sym (first rest h));
 }
 
 -- How far a reader has come in a piece.
@@ -253,14 +312,27 @@ stands_refused start old piece rest i e s k r0 =
     let r = subst (λ (t : List ℕ). Refuses old t e) (k ∙ to_end piece i) r0 in
     record {
       takes = λ x. s.rest x ∙ r.takes x;
-      line = λ b h. r.line (b ++ take i piece) (s.line b h) ∙ ap (λ t. line t e.offset) (append_assoc b (take i piece) (drop i piece) ∙ ap (λ t. b ++ t) (take-append-drop i piece));
+      line = λ b x h.
+          r.line (b ++ take i piece) x (s.line b h)
+          ∙ ap (λ t. line t e.offset) (append_assoc b (take i piece) (drop i piece ++ x)
+          ∙ ap (λ t. b ++ t) (sym (append_assoc (take i piece) (drop i piece) x)
+          ∙ ap (λ t. t ++ x) (take-append-drop i piece)));
     }
 
-pub stands_takes : (start now : Scanner) (piece : List ℕ) (i : ℕ) → Stands start now piece i → length piece ≤ i → (x : List ℕ) → resume start (piece ++ x) ≡ resume now x
-stands_takes start now piece i s h x = s.rest x ∙ ap (λ (t : List ℕ). resume now (t ++ x)) (drop_all i piece h)
+pub stands_all : (start now : Scanner) (piece : List ℕ) (i : ℕ) → Stands start now piece i → length piece ≤ i
+    → Advances start now piece (length piece)
+stands_all start now piece i s h =
+    subst (λ n. Advances start now piece n) (omega (arith, h, s.inside))
+    (record { takes = s.rest; reader = s.reader; fed = s.fed; inside = s.inside; line = s.line })
 
-pub stands_line : (start now : Scanner) (piece : List ℕ) (i : ℕ) → Stands start now piece i → length piece ≤ i → (b : List ℕ) → Lined start b → Lined now (b ++ piece)
-stands_line start now piece i s h b l = lined_all now b piece i h (s.line b l)
+-- all bytes were taken
+pub all_taken : (old new : Scanner) (bytes : List ℕ) → Advances old new bytes (length bytes)
+    → (x : List ℕ) → resume old (bytes ++ x) ≡ resume new x
+all_taken old new bytes a x = a.takes x ∙ ap (λ (t : List ℕ). resume new (t ++ x)) (drop_all (length bytes) bytes (omega arith))
+
+pub all_lined : (old new : Scanner) (bytes : List ℕ) → Advances old new bytes (length bytes) → (b : List ℕ) → Lined old b
+    → Lined new (b ++ bytes)
+all_lined old new bytes a b h = subst (λ (t : List ℕ). Lined new (b ++ t)) (take_all (length bytes) bytes (omega arith)) (a.line b h)
 
 -- the same with one byte
 behind_first : (piece : List ℕ) (i : ℕ) → i < length piece → get_or piece i 0 ≡ get_or (take (length piece - i) (drop i piece)) 0 0
@@ -269,14 +341,17 @@ behind_first piece i h = sym (ap (λ (t : List ℕ). get_or t 0 0) (to_end piece
 behind_some : (piece : List ℕ) (i : ℕ) → i < length piece → 0 < length (take (length piece - i) (drop i piece))
 behind_some piece i h = omega (arith, ap length (to_end piece i), length-drop i piece, h)
 
-pub stands_byte : (start old new : Scanner) (piece : List ℕ) (i : ℕ) → Stands start old piece i × (i < length piece) → ((x : List ℕ) → resume old (get_or piece i 0 ∷ x) ≡ resume new x) → IsReader new → new.offset + length new.pending.items ≡ old.offset + length old.pending.items + 1 → Forward old new (get_or piece i 0) → Stands start new piece (i + 1)
-stands_byte start old new piece i s t r f l = stands_more start old new piece _ i 1 s.0 refl (byte_advances old new _ (get_or piece i 0) (behind_some piece i s.1) (behind_first piece i s.1) t r f l)
+pub stands_byte : (start old new : Scanner) (piece : List ℕ) (i : ℕ) → Stands start old piece i × (i < length piece)
+    → Advances old new (get_or piece i 0 ∷ []) 1 → Stands start new piece (i + 1)
+stands_byte start old new piece i s a =
+    stands_more start old new piece _ i 1 s.0 refl
+    (byte_in_front old new _ (behind_some piece i s.1) (subst (λ c. Advances old new (c ∷ []) 1) (behind_first piece i s.1) a))
 
-pub byte_refused : (start old : Scanner) (piece : List ℕ) (i : ℕ) (e : TextFault) → Stands start old piece i × (i < length piece) → ((x : List ℕ) → resume old (get_or piece i 0 ∷ x) ≡ Faulty e.kind e.offset true) → IsPending e old → Refuses start piece e
-byte_refused start old piece i e s t p = stands_refused start old piece _ i e s.0 refl (byte_refuses old _ (get_or piece i 0) e (behind_some piece i s.1) (behind_first piece i s.1) t p)
-
-pub byte_in_front : (old new : Scanner) (rest : List ℕ) → 0 < length rest → ((x : List ℕ) → resume old (get_or rest 0 0 ∷ x) ≡ resume new x) → IsReader new → new.offset + length new.pending.items ≡ old.offset + length old.pending.items + 1 → Forward old new (get_or rest 0 0) → Advances old new rest 1
-byte_in_front old new rest h t r f l = byte_advances old new rest (get_or rest 0 0) h refl t r f l
+pub byte_refused : (start old : Scanner) (piece : List ℕ) (i : ℕ) (e : TextFault)
+    → Stands start old piece i × (i < length piece) → Refuses old (get_or piece i 0 ∷ []) e → Refuses start piece e
+byte_refused start old piece i e s r =
+    stands_refused start old piece _ i e s.0 refl
+    (fault_in_front old _ e (behind_some piece i s.1) (subst (λ c. Refuses old (c ∷ []) e) (behind_first piece i s.1) r))
 
 -- nothing was taken
 pub stays : (r : Scanner) (rest : List ℕ) → IsReader r → Advances r r rest 0

@@ -1,5 +1,5 @@
 -- What one byte more makes of the rest of a text.
-use Rattle.std.proofs.Common.{◌≡◌, ◌≢◌, ℕ, suc, ◌+◌, ◌<◌, ◌≤◌, ◌==◌, ◌&&◌, ◌||◌, Bool, true, false, not, cond, List, [], ◌∷◌, ◌++◌, length, take, drop, get_or, slice_index, refl, sym, ◌∙◌, ap, ap₂, subst, arith, add-one, add-zero, Result, Ok, Err, Option, Some, None, ne_eqb, length-append, append_assoc, take_at, drop_at, append-nil, OnOk}
+use Rattle.std.proofs.Common.{◌≡◌, ◌≢◌, ℕ, suc, ◌+◌, ◌<◌, ◌≤◌, ◌==◌, ◌&&◌, ◌||◌, Bool, true, false, not, cond, List, [], ◌∷◌, ◌++◌, length, take, drop, get_or, slice_index, refl, sym, ◌∙◌, ap, ap₂, subst, arith, add-one, add-zero, Result, Ok, Err, Option, Some, None, ne_eqb, true≢false, length-append, append_assoc, take_at, drop_at, append-nil, OnOk}
 use Rattle.std.proofs.lemmas.Bool.Decides.{nat_tests}
 use Rattle.keymap_text.specs.declared.fault.TextFaultKind.{TextFaultKind}
 use Rattle.keymap_text.specs.declared.fault.TextFaultKind.TheVariants.{BadByte, BadWord, EndInside}
@@ -16,7 +16,7 @@ use Rattle.keymap_text.specs.Words.{item, meaning}
 use Rattle.keymap_core.specs.Maps.{MapValue}
 use Rattle.keymap_text.specs.Grammar.{State, accept, at_end}
 use Rattle.keymap_text.specs.Reading.{judge, Verdict, Faulty, ended, is_settled, is_end_inside, is_word_kind}
-use Rattle.keymap_text.specs.Resuming.{tokens_of, resume, Goes, Takes, Accepts, HasNoRole, KeepsMode, Says, Forward}
+use Rattle.keymap_text.specs.Resuming.{tokens_of, resume, Goes, Accepts, HasNoRole, KeepsMode, Says, Forward, line_feed}
 use Rattle.keymap_text.specs.Views.{state_view}
 use Rattle.keymap_text.proofs.Leading.{leading_pass, leading_fail, leading_append, leading_tail, leading_push, leading_none}
 use Rattle.keymap_text.proofs.Splitting.{split_one, split_after, split_blank, split_comment, split_found, split_refused, split_none, split_unfinished}
@@ -92,11 +92,11 @@ front_right x = refl
 paren_token : TokenKind → ℕ → ℕ → List ℕ → Token
 paren_token kind c q x = record { kind = kind; bytes = c ∷ take 0 x; start = q; last = is_empty (drop 0 x) }
 
-pub take_left : (result : Result (Unit {0}) TextFault) (s : State) (m : Mode) (p : List ℕ) (q : ℕ) (r : Scanner) → m ≡ modes.Between → Accepts result (accept s Open) q r (q + 1) → Takes result (λ x. judge s (tokens_of m p q (40 ∷ x))) r
+pub take_left : (result : Result (Unit {0}) TextFault) (s : State) (m : Mode) (p : List ℕ) (q : ℕ) (r : Scanner) → m ≡ modes.Between → Accepts result (accept s Open) q r (q + 1) → Goes result (λ x. judge s (tokens_of m p q (40 ∷ x))) (resume r)
 unfolding paren_token
 take_left result s m p q r h a = take_token result s Open q (q + 1) r _ (λ x. x) (λ x. paren_token ParenL 40 q x) a (λ x. ap (λ m. judge s (tokens_of m p q (40 ∷ x))) h ∙ ap (judge s) (split_found q 40 0 ParenL x (front_left x))) (λ x. refl) (λ x. refl) (λ x. refl)
 
-pub take_right : (result : Result (Unit {0}) TextFault) (s : State) (m : Mode) (p : List ℕ) (q : ℕ) (r : Scanner) → m ≡ modes.Between → Accepts result (accept s Close) q r (q + 1) → Takes result (λ x. judge s (tokens_of m p q (41 ∷ x))) r
+pub take_right : (result : Result (Unit {0}) TextFault) (s : State) (m : Mode) (p : List ℕ) (q : ℕ) (r : Scanner) → m ≡ modes.Between → Accepts result (accept s Close) q r (q + 1) → Goes result (λ x. judge s (tokens_of m p q (41 ∷ x))) (resume r)
 unfolding paren_token
 take_right result s m p q r h a = take_token result s Close q (q + 1) r _ (λ x. x) (λ x. paren_token ParenR 41 q x) a (λ x. ap (λ m. judge s (tokens_of m p q (41 ∷ x))) h ∙ ap (judge s) (split_found q 41 0 ParenR x (front_right x))) (λ x. refl) (λ x. refl) (λ x. refl)
 
@@ -175,7 +175,7 @@ pub settled : (k : TokenKind) (b : Bool) → is_word_kind k ≡ false → not (i
 settled k b h = ap (λ c. not (c && b)) h
 
 pub take_literal_found : (result : Result (Unit {0}) TextFault) (s : State) (m : Mode) (l : List ℕ) (q c : ℕ) (k : TokenKind) (n : ℕ) (r : Scanner) → m ≡ modes.Literal → literal l ≡ Unfinished → literal (l ++ c ∷ []) ≡ Found k n → n ≤ length (l ++ c ∷ [])
-    → Accepts result (accept s (item k (39 ∷ (l ++ c ∷ [])))) q r (q + suc (length (l ++ c ∷ []))) → Takes result (λ x. judge s (tokens_of m (39 ∷ l) q (c ∷ x))) r
+    → Accepts result (accept s (item k (39 ∷ (l ++ c ∷ [])))) q r (q + suc (length (l ++ c ∷ []))) → Goes result (λ x. judge s (tokens_of m (39 ∷ l) q (c ∷ x))) (resume r)
 take_literal_found result s m l q c k n r h u e g a =
     let w : List ℕ = l ++ c ∷ [] in
     let whole : n ≡ length w = omega (arith, g, unfinished_longer l (c ∷ []) k n u e, length-append l (c ∷ [])) in
@@ -209,7 +209,7 @@ literal_refused_at s m [] p' q c f h k e g x = absurd (omega (arith, k.0))
 literal_refused_at s m (a ∷ l) p' q c f h k e g x = ap (λ a. judge s (tokens_of m (a ∷ l) q (c ∷ x))) k.1 ∙ take_literal_refused s m l q c f h (sym (g ∙ ap (λ p. literal (drop 1 p)) e)) x
 
 pub literal_found_at : (result : Result (Unit {0}) TextFault) (s : State) (m : Mode) (p p' : List ℕ) (q c : ℕ) (k : TokenKind) (n : ℕ) (r : Scanner) (i : Item) (len : ℕ) → m ≡ modes.Literal → KeepsMode modes.Literal p → p' ≡ p ++ c ∷ [] → Found k n ≡ literal (drop 1 p') → n ≤ length (drop 1 p')
-    → i ≡ item k p' → len ≡ length p' → Accepts result (accept s i) q r (q + len) → Takes result (λ x. judge s (tokens_of m p q (c ∷ x))) r
+    → i ≡ item k p' → len ≡ length p' → Accepts result (accept s i) q r (q + len) → Goes result (λ x. judge s (tokens_of m p q (c ∷ x))) (resume r)
 literal_found_at result s m [] p' q c k n r i len h w e g b it le a = absurd (omega (arith, w.0))
 literal_found_at result s m (z ∷ l) p' q c k n r i len h w e g b it le a =
     let whole : p' ≡ 39 ∷ (l ++ c ∷ []) = e ∙ ap (λ n. n ∷ (l ++ c ∷ [])) w.1 in
@@ -287,6 +287,55 @@ pub open_no_feed : (p p' : List ℕ) (c : ℕ) → KeepsMode modes.Literal p →
 open_no_feed [] p' c w e h z = omega (arith, w.0)
 open_no_feed (a ∷ l) p' c w e h z = lf_closes l (ap (λ c. literal (l ++ c ∷ [])) (sym z) ∙ sym (h ∙ ap (λ p. literal (drop 1 p)) e))
 
-pub feed_line : (result : Result (Unit {0}) TextFault) (old new : Scanner) (c n : ℕ) (next : Result State TextFaultKind) → c ≢ 10 → OnOk result (new.line ≡ old.line) → OnOk result (new.pending.items ≡ []) → Accepts result next old.offset new (old.offset + n) → OnOk result (Forward old new c)
-feed_line (Ok u) old new c n next other l p a = record { line = l ∙ sym (ap {B = ℕ} (λ b. old.line + cond b 1 0) (ne_eqb c 10 other) ∙ add-zero old.line); on = omega (arith, a.2); past = λ e. absurd (other e) }
-feed_line (Err e) old new c n next other l p a = tt
+-- a byte that is put to the pending ones
+pub begun_literal : (s : State) (m : Mode) (p p' : List ℕ) (q c : ℕ) → m ≡ modes.Between → p ≡ [] → p' ≡ p ++ c ∷ []
+    → (x : List ℕ) → judge s (tokens_of m p q (c ∷ x)) ≡ judge s (tokens_of modes.Literal p' q x)
+begun_literal s m p p' q c h z e x =
+    ap (λ m. judge s (tokens_of m p q (c ∷ x))) h
+    ∙ ap (λ (t : List ℕ). judge s (split 0 q (t ++ x))) (sym (e ∙ ap (λ (p : List ℕ). p ++ c ∷ []) z))
+
+pub begun_word : (s : State) (m : Mode) (p p' : List ℕ) (q c : ℕ) → m ≡ modes.Between → p ≡ [] → p' ≡ p ++ c ∷ []
+    → (x : List ℕ) → judge s (tokens_of m p q (c ∷ x)) ≡ judge s (tokens_of modes.Word p' q x)
+begun_word s m p p' q c h z e x =
+    ap (λ m. judge s (tokens_of m p q (c ∷ x))) h
+    ∙ ap (λ (t : List ℕ). judge s (split 0 q (t ++ x))) (sym (e ∙ ap (λ (p : List ℕ). p ++ c ∷ []) z))
+
+longer : (s : State) (p p' : List ℕ) (q c : ℕ) → p' ≡ p ++ c ∷ [] → (x : List ℕ)
+    → judge s (split 0 q (p ++ c ∷ x)) ≡ judge s (split 0 q (p' ++ x))
+longer s p p' q c e x =
+    ap (λ (t : List ℕ). judge s (split 0 q t)) (sym (ap (λ (t : List ℕ). t ++ x) e ∙ append_assoc p (c ∷ []) x))
+
+pub longer_word : (s : State) (m : Mode) (p p' : List ℕ) (q c : ℕ) → m ≡ modes.Word → p' ≡ p ++ c ∷ [] → (x : List ℕ)
+    → judge s (tokens_of m p q (c ∷ x)) ≡ judge s (tokens_of m p' q x)
+longer_word s m p p' q c h e x =
+    ap (λ m. judge s (tokens_of m p q (c ∷ x))) h ∙ longer s p p' q c e x
+    ∙ sym (ap (λ m. judge s (tokens_of m p' q x)) h)
+
+pub longer_literal : (s : State) (m : Mode) (p p' : List ℕ) (q c : ℕ) → m ≡ modes.Literal → p' ≡ p ++ c ∷ []
+    → (x : List ℕ) → judge s (tokens_of m p q (c ∷ x)) ≡ judge s (tokens_of m p' q x)
+longer_literal s m p p' q c h e x =
+    ap (λ m. judge s (tokens_of m p q (c ∷ x))) h ∙ longer s p p' q c e x
+    ∙ sym (ap (λ m. judge s (tokens_of m p' q x)) h)
+
+-- nothing is pending between tokens and in a comment
+pub keeps_nothing : (b : Bool) (p : List ℕ) → p ≡ [] → KeepsMode (cond b modes.Between modes.Comment) p
+keeps_nothing true p h = h
+keeps_nothing false p h = h
+
+-- a byte that ends no line
+pub stays_in_line : (old new : Scanner) (c : ℕ) → c ≢ 10 → new.line ≡ old.line → old.offset ≤ new.offset
+    → Forward old new c
+stays_in_line old new c other l on = record {
+  line = l ∙ sym (ap {B = ℕ} (λ b. old.line + cond b 1 0) (ne_eqb c 10 other) ∙ add-zero old.line);
+  on = on;
+  past = λ e. absurd (other e);
+}
+
+pub word_no_feed : (c : ℕ) → is_word c ≡ true → c ≢ 10
+word_no_feed c h e = true≢false (sym h ∙ ap is_word e)
+
+pub feed_small : (c : ℕ) → line_feed c ≤ 1
+feed_small c = grind (arith, nat_tests)
+
+pub pushed : (p p' : List ℕ) (c : ℕ) → p' ≡ p ++ c ∷ [] → length p' ≡ length p + 1
+pushed p p' c e = ap length e ∙ length-append p (c ∷ [])

@@ -41,9 +41,6 @@ abbrev pub Goes : Result (Unit {0}) TextFault → (List ℕ → Verdict) → (Li
 Goes (Ok u) f g = (x : List ℕ) → f x ≡ g x
 Goes (Err e) f g = (x : List ℕ) → f x ≡ Faulty e.kind e.offset true
 
-abbrev pub Takes : Result (Unit {0}) TextFault → (List ℕ → Verdict) → Scanner → Type 0
-Takes result f r = Goes result f (resume r)
-
 -- What a whole token did.
 abbrev pub Accepts : Result (Unit {0}) TextFault → Result State TextFaultKind → ℕ → Scanner → ℕ → Type 0
 Accepts (Ok u) s q r end = (s ≡ Ok (state_view r.grammar)) × (r.mode ≡ modes.Between) × (r.offset ≡ end)
@@ -95,7 +92,7 @@ pub record Advances (old new : Scanner) (rest : List ℕ) (n : ℕ) : Type 0 whe
 -- These bytes have a fault that stands whatever follows them.
 pub record Refuses (old : Scanner) (rest : List ℕ) (e : TextFault) : Type 0 where
   pub takes : (x : List ℕ) → resume old (rest ++ x) ≡ Faulty e.kind e.offset true
-  pub line : (b : List ℕ) → Lined old b → e.line ≡ line (b ++ rest) e.offset
+  pub line : (b x : List ℕ) → Lined old b → e.line ≡ line (b ++ (rest ++ x)) e.offset
 
 -- A whole token of n bytes, which stands for i, is in front, whatever follows.
 pub record Fronts (rest : List ℕ) (i : Item) (n : ℕ) : Type 0 where
@@ -107,6 +104,11 @@ pub record Fronts (rest : List ℕ) (i : Item) (n : ℕ) : Type 0 where
   pub some : 0 < n
   pub inside : n ≤ length rest
   pub one_line : count_by (λ c. c == 10) (take n rest) ≡ 0
+
+-- What taking all of some bytes did: they were taken, or they have a fault.
+abbrev pub Takes : Result (Unit {0}) TextFault → Scanner → Scanner → List ℕ → Type 0
+Takes (Ok u) old new bytes = Advances old new bytes (length bytes)
+Takes (Err e) old new bytes = Refuses old bytes e
 
 -- What taking bytes in front did: so many were taken, or there is a fault at the place that was reached.
 abbrev pub Took : Result ℕ TextFaultKind → Scanner → Scanner → List ℕ → Type 0

@@ -1,10 +1,10 @@
 //! Reading a text byte by byte.
 ghost use Rattle.std.specs.Prelude.{◌≡◌, ℕ, ◌+◌, ◌<◌, ◌≤◌, ◌^◌, ◌∷◌, ◌++◌, [], List, length, take, OnOk, IfSome, IfErr, Ok, Err, drop, if◌then◌else◌, ◌==◌};
 ghost use Rattle.keymap_text.specs.Lexical.{literal, leading, is_word};
-ghost use Rattle.keymap_text.specs.Reading.{verdict, ended, line};
+ghost use Rattle.keymap_text.specs.Reading.{verdict, ended};
 ghost use Rattle.keymap_text.specs.Words.{item, meaning};
 ghost use Rattle.keymap_text.specs.Views.{state_view, front_view, FoundFits, IsPlace};
-ghost use Rattle.keymap_text.specs.Resuming.{resume, Takes, Advances, Fronts, IsReader, Accepts, HasNoRole, Says, Forward, IsPending, Lined, Took, line_feed};
+ghost use Rattle.keymap_text.specs.Resuming.{resume, Takes, Advances, Fronts, IsReader, Accepts, HasNoRole, Says, IsPending, Took, line_feed};
 ghost use Rattle.keymap_text.specs.Grammar as spec;
 
 use crate::fault::{TextFault, TextFaultKind};
@@ -136,12 +136,7 @@ impl Scanner {
     pub(crate) fn feed(&mut self, piece: &[u8]) -> Result<(), TextFault>
         requires reader { IsReader self.old }
         requires room { self.old.offset + length self.old.pending.items + length piece.now < 2 ^ 63 }
-        ensures takes { Takes result (λ x. resume self.old (piece.now ++ x)) self.new }
-        ensures reader { OnOk result (IsReader self.new) }
-        ensures fed { OnOk result (self.new.offset + length self.new.pending.items ≡ self.old.offset + length self.old.pending.items + length piece.now) }
-        ensures line { (b : List ℕ) → Lined self.old b → OnOk result (Lined self.new (b ++ piece.now)) }
-        ensures fault_line { (b : List ℕ) → Lined self.old b
-            → IfErr result (λ e. e.line ≡ line (b ++ piece.now) e.offset) }
+        ensures { Takes result self.old self.new piece.now }
     {
         let mut i = 0;
         while i < piece.len() {
@@ -249,10 +244,7 @@ impl Scanner {
         requires reader { IsReader self.old }
         requires mode { self.old.mode ≡ Mode.Between }
         requires room { self.old.offset + length self.old.pending.items + 1 < 2 ^ 63 }
-        ensures takes { (x : List ℕ) → resume self.old (10 ∷ x) ≡ resume self.new x }
-        ensures reader { IsReader self.new }
-        ensures fed { self.new.offset + length self.new.pending.items ≡ self.old.offset + length self.old.pending.items + 1 }
-        ensures line { Forward self.old self.new 10 }
+        ensures { Advances self.old self.new (10 ∷ []) 1 }
     {
         self.line += 1;
         self.offset += 1;
@@ -307,11 +299,7 @@ impl Scanner {
     fn take(&mut self, c: u8) -> Result<(), TextFault>
         requires reader { IsReader self.old }
         requires room { self.old.offset + length self.old.pending.items + 1 < 2 ^ 63 }
-        ensures takes { Takes result (λ x. resume self.old (c ∷ x)) self.new }
-        ensures reader { OnOk result (IsReader self.new) }
-        ensures fed { OnOk result (self.new.offset + length self.new.pending.items ≡ self.old.offset + length self.old.pending.items + 1) }
-        ensures line { OnOk result (Forward self.old self.new c) }
-        ensures place { IfErr result (λ e. IsPending e self.old) }
+        ensures { Takes result self.old self.new (c ∷ []) }
     {
         match self.mode {
             Mode::Between => self.begin(c),
@@ -329,10 +317,7 @@ impl Scanner {
         requires reader { IsReader self.old }
         requires mode { self.old.mode ≡ Mode.Comment }
         requires room { self.old.offset + length self.old.pending.items + 1 < 2 ^ 63 }
-        ensures takes { (x : List ℕ) → resume self.old (c ∷ x) ≡ resume self.new x }
-        ensures reader { IsReader self.new }
-        ensures fed { self.new.offset + length self.new.pending.items ≡ self.old.offset + length self.old.pending.items + 1 }
-        ensures line { Forward self.old self.new c }
+        ensures { Advances self.old self.new (c ∷ []) 1 }
     {
         self.mode = mode_in_comment(c);
         self.line = next_line(self.line, c);
@@ -344,11 +329,7 @@ impl Scanner {
         requires reader { IsReader self.old }
         requires mode { self.old.mode ≡ Mode.Between }
         requires room { self.old.offset + length self.old.pending.items + 1 < 2 ^ 63 }
-        ensures takes { Takes result (λ x. resume self.old (c ∷ x)) self.new }
-        ensures reader { OnOk result (IsReader self.new) }
-        ensures fed { OnOk result (self.new.offset + length self.new.pending.items ≡ self.old.offset + length self.old.pending.items + 1) }
-        ensures line { OnOk result (Forward self.old self.new c) }
-        ensures place { IfErr result (λ e. IsPending e self.old) }
+        ensures { Takes result self.old self.new (c ∷ []) }
     {
         if is_blank_byte(c) {
             self.line = next_line(self.line, c);
@@ -361,8 +342,8 @@ impl Scanner {
                 self.offset += 1;
                 Ok(())
             }
-            b'(' => self.paren(Item::Open),
-            b')' => self.paren(Item::Close),
+            b'(' => self.accept(Item::Open, 1),
+            b')' => self.accept(Item::Close, 1),
             b'\'' => {
                 self.mode = Mode::Literal;
                 self.pending.push(c);
@@ -376,11 +357,7 @@ impl Scanner {
         requires reader { IsReader self.old }
         requires mode { self.old.mode ≡ Mode.Between }
         requires byte { HasNoRole c }
-        ensures takes { Takes result (λ x. resume self.old (c ∷ x)) self.new }
-        ensures reader { OnOk result (IsReader self.new) }
-        ensures fed { OnOk result (self.new.offset + length self.new.pending.items ≡ self.old.offset + length self.old.pending.items + 1) }
-        ensures line { OnOk result (Forward self.old self.new c) }
-        ensures place { IfErr result (λ e. IsPending e self.old) }
+        ensures { Takes result self.old self.new (c ∷ []) }
     {
         if !is_word_byte(c) {
             return Err(fault(TextFaultKind::BadByte, self.offset, self.line));
@@ -388,19 +365,6 @@ impl Scanner {
         self.mode = Mode::Word;
         self.pending.push(c);
         Ok(())
-    }
-
-    fn paren(&mut self, item: Item) -> Result<(), TextFault>
-        requires reader { IsReader self.old }
-        requires mode { self.old.mode ≡ Mode.Between }
-        requires room { self.old.offset + length self.old.pending.items + 1 < 2 ^ 63 }
-        ensures accepts { Accepts result (spec.accept (state_view self.old.grammar) item) self.old.offset self.new (self.old.offset + 1) }
-        ensures reader { OnOk result (IsReader self.new) }
-        ensures fed { OnOk result (self.new.offset + length self.new.pending.items ≡ self.old.offset + length self.old.pending.items + 1) }
-        ensures line { OnOk result (self.new.line ≡ self.old.line) }
-        ensures place { IfErr result (λ e. IsPending e self.old) }
-    {
-        self.accept(item, 1)
     }
 
     fn pending_item(&self, kind: TokenKind) -> Item
@@ -446,11 +410,7 @@ impl Scanner {
         requires reader { IsReader self.old }
         requires mode { self.old.mode ≡ Mode.Word }
         requires room { self.old.offset + length self.old.pending.items + 1 < 2 ^ 63 }
-        ensures takes { Takes result (λ x. resume self.old (c ∷ x)) self.new }
-        ensures reader { OnOk result (IsReader self.new) }
-        ensures fed { OnOk result (self.new.offset + length self.new.pending.items ≡ self.old.offset + length self.old.pending.items + 1) }
-        ensures line { OnOk result (Forward self.old self.new c) }
-        ensures place { IfErr result (λ e. IsPending e self.old) }
+        ensures { Takes result self.old self.new (c ∷ []) }
     {
         if !is_word_byte(c) {
             return match self.end_word() {
@@ -486,11 +446,7 @@ impl Scanner {
         requires reader { IsReader self.old }
         requires mode { self.old.mode ≡ Mode.Literal }
         requires room { self.old.offset + length self.old.pending.items + 1 < 2 ^ 63 }
-        ensures takes { Takes result (λ x. resume self.old (c ∷ x)) self.new }
-        ensures reader { OnOk result (IsReader self.new) }
-        ensures fed { OnOk result (self.new.offset + length self.new.pending.items ≡ self.old.offset + length self.old.pending.items + 1) }
-        ensures line { OnOk result (Forward self.old self.new c) }
-        ensures place { IfErr result (λ e. IsPending e self.old) }
+        ensures { Takes result self.old self.new (c ∷ []) }
     {
         self.pending.push(c);
         match self.pending_literal() {

@@ -1,5 +1,6 @@
 //! Laws of the definitions. No function here does anything.
-ghost use Rattle.std.specs.Prelude.{◌≡◌, ℕ, ◌<◌, List, ◌∷◌, ◌++◌, ◌+◌, true, false, length, slice_index_or, map, Some, Ok, Err, ◌⊎◌};
+ghost use Rattle.std.specs.Prelude.{◌≡◌, ℕ, ◌<◌, List, ◌∷◌, ◌++◌, ◌+◌, true, false, length, slice_index_or, map, Some};
+ghost use Rattle.std.specs.Prelude.{Ok, Err, ◌⊎◌};
 ghost use Rattle.keymap_text.specs.Lexical.{Token, first, split};
 ghost use Rattle.keymap_text.specs.Quoted.{IsQuoted, BeginsQuoted, IsUnfinished, IsReason, quoted_token};
 ghost use Rattle.keymap_text.specs.Meaning.{Spells, Fault, Early, item_of, leads, tokens, ending, IsSameToken};
@@ -8,7 +9,7 @@ ghost use Rattle.keymap_text.specs.Rows.{Definition, IsRow};
 ghost use Rattle.keymap_core.specs.Bounds.{IsMap};
 ghost use Rattle.keymap_text.specs.Printed.{printed};
 ghost use Rattle.keymap_text.specs.Places.{Place, AtDefinition, may_end};
-ghost use Rattle.keymap_text.specs.Reading.{is_settled, is_end_inside};
+ghost use Rattle.keymap_text.specs.Meaning.{is_settled, is_end_inside};
 ghost use Rattle.keymap_text.specs.declared.fault.TextFault.{TextFault as Found};
 ghost use Rattle.keymap_text.specs.declared.fault.TextFaultKind.{TextFaultKind as Kind};
 

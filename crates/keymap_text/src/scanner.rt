@@ -1,11 +1,13 @@
 //! Reading a text byte by byte.
-ghost use Rattle.std.specs.Prelude.{◌≡◌, ℕ, ◌+◌, ◌<◌, ◌≤◌, ◌^◌, ◌∷◌, ◌++◌, [], List, length, take, OnOk, IfSome, IfErr, Ok, Err, drop, if◌then◌else◌, ◌==◌};
+ghost use Rattle.std.specs.Prelude.{◌≡◌, ℕ, ◌+◌, ◌<◌, ◌≤◌, ◌^◌, ◌∷◌, ◌++◌, [], List, length, take, OnOk, IfSome, IfErr};
+ghost use Rattle.std.specs.Prelude.{Ok, Err, drop, if◌then◌else◌, ◌==◌};
 ghost use Rattle.keymap_text.specs.Lexical.{literal, leading, is_word};
-ghost use Rattle.keymap_text.specs.Reading.{verdict, ended};
+ghost use Rattle.keymap_text.specs.Inner.Judging.{verdict, ended};
 ghost use Rattle.keymap_text.specs.Words.{item, meaning};
-ghost use Rattle.keymap_text.specs.Views.{state_view, front_view, FoundFits, IsPlace};
-ghost use Rattle.keymap_text.specs.Resuming.{resume, Takes, Advances, Fronts, IsReader, Accepts, HasNoRole, Says, IsPending, Took, line_feed};
-ghost use Rattle.keymap_text.specs.Grammar as spec;
+ghost use Rattle.keymap_text.specs.Inner.Views.{state_view, front_view, FoundFits, IsPlace};
+ghost use Rattle.keymap_text.specs.Inner.Resuming.{resume, Takes, Advances, Fronts, IsReader, Accepts, HasNoRole, Says};
+ghost use Rattle.keymap_text.specs.Inner.Resuming.{IsPending, Took, line_feed};
+ghost use Rattle.keymap_text.specs.Inner.Grammar as spec;
 
 use crate::fault::{TextFault, TextFaultKind};
 use crate::grammar::{Grammar, Place};
@@ -383,12 +385,13 @@ impl Scanner {
 
     /// Takes a whole token of n bytes, of which none is pending then.
     #[inline(never)]
-    #[tactic(auto, unfolding(crate::specs::Grammar::accept))]
+    #[tactic(auto, unfolding(crate::specs::Inner::Grammar::accept))]
     fn accept(&mut self, item: Item, n: u64) -> Result<(), TextFault>
         requires place { IsPlace self.old.grammar.place self.old.grammar.accent }
         requires low { self.old.line ≤ self.old.offset + 1 }
         requires room { self.old.offset + n < 2 ^ 63 }
-        ensures accepts { Accepts result (spec.accept (state_view self.old.grammar) item) self.old.offset self.new (self.old.offset + n) }
+        ensures accepts { Accepts result (spec.accept (state_view self.old.grammar) item) self.old.offset self.new
+            (self.old.offset + n) }
         ensures reader { OnOk result (IsReader self.new) }
         ensures fed { OnOk result (self.new.pending.items ≡ []) }
         ensures line { OnOk result (self.new.line ≡ self.old.line) }
@@ -430,7 +433,9 @@ impl Scanner {
         requires reader { IsReader self.old }
         requires mode { self.old.mode ≡ Mode.Word }
         requires room { self.old.offset + length self.old.pending.items < 2 ^ 63 }
-        ensures accepts { Accepts result (spec.accept (state_view self.old.grammar) (Item.Value (meaning self.old.pending.items))) self.old.offset self.new (self.old.offset + length self.old.pending.items) }
+        ensures accepts { Accepts result (spec.accept (state_view self.old.grammar)
+            (Item.Value (meaning self.old.pending.items))) self.old.offset self.new
+            (self.old.offset + length self.old.pending.items) }
         ensures reader { OnOk result (IsReader self.new) }
         ensures fed { OnOk result (self.new.pending.items ≡ []) }
         ensures line { OnOk result (self.new.line ≡ self.old.line) }
@@ -461,7 +466,7 @@ impl Scanner {
     }
 
     /// The text ends between two tokens.
-    #[tactic(auto, unfolding(crate::specs::Grammar::at_end))]
+    #[tactic(auto, unfolding(crate::specs::Inner::Grammar::at_end))]
     fn end(mut self) -> Result<KeyMap, TextFault>
         requires { IsPlace self.grammar.place self.grammar.accent }
         ensures says { Says result (ended (spec.at_end (state_view self.grammar)) self.offset) }

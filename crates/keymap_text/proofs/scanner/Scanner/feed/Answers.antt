@@ -11,14 +11,19 @@ returns-in-Err c =
     (c.in-Err.ensures c.fault.result c.fault.ensures.kind c.fault.ensures.offset c.fault.ensures.line)
 
 pub loop-i-preserved : goal.loop-i-preserved
-loop-i-preserved c = stands_more c.args.self.now c.loop-i.self c.front.new.self c.args.piece.now _ c.loop-i.i c.in-Ok.n c.loop-i.invariant refl c.in-Ok.ensures
+loop-i-preserved c =
+    stands_more c.args.self.now c.loop-i.self c.front.new.self c.args.piece.now _ c.loop-i.i c.in-Ok.n
+    c.loop-i.invariant refl c.in-Ok.ensures
 
 pub loop-i-preserved-in-Ok-take : goal.loop-i-preserved-in-Ok-take
 loop-i-preserved-in-Ok-take c =
-    let here = stands_still c.args.self.now c.loop-i.self c.front.new.self c.args.piece.now _ c.loop-i.i c.in-Ok-eq0.field-0 c.loop-i.invariant refl c.in-Ok-eq0.ensures c.in-Ok-eq0.field-0-test c.loop-i-test.true in
+    let here = stands_still c.args.self.now c.loop-i.self c.front.new.self c.args.piece.now _ c.loop-i.i
+    c.in-Ok-eq0.field-0 c.loop-i.invariant refl c.in-Ok-eq0.ensures c.in-Ok-eq0.field-0-test c.loop-i-test.true in
     stands_byte c.args.self.now c.front.new.self c.take.new.self c.args.piece.now c.loop-i.i here c.in-Ok-take.ensures
 
 pub returns-in-Err-take : goal.returns-in-Err-take
 returns-in-Err-take c =
-    let here = stands_still c.args.self.now c.loop-i.self c.front.new.self c.args.piece.now _ c.loop-i.i c.in-Ok-eq0.field-0 c.loop-i.invariant refl c.in-Ok-eq0.ensures c.in-Ok-eq0.field-0-test c.loop-i-test.true in
-    byte_refused c.args.self.now c.front.new.self c.args.piece.now c.loop-i.i c.in-Err-take.fault here c.in-Err-take.ensures
+    let here = stands_still c.args.self.now c.loop-i.self c.front.new.self c.args.piece.now _ c.loop-i.i
+    c.in-Ok-eq0.field-0 c.loop-i.invariant refl c.in-Ok-eq0.ensures c.in-Ok-eq0.field-0-test c.loop-i-test.true in
+    byte_refused c.args.self.now c.front.new.self c.args.piece.now c.loop-i.i c.in-Err-take.fault here
+    c.in-Err-take.ensures

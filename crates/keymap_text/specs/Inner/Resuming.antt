@@ -1,17 +1,21 @@
--- What a reader that stands in a text makes of the bytes to come. Inner: private contracts alone speak of it.
+-- What a reader that stands in a text makes of the bytes to come. Mirrors `Scanner` of src/scanner.rt, whose `take` and
+-- `front` go on byte by byte and token by token.
 use Rattle.keymap_core.specs.Maps.{MapValue}
-use Rattle.std.specs.Prelude.{◌≡◌, ◌≢◌, ℕ, ◌+◌, ◌<◌, ◌≤◌, Bool, true, false, List, [], ◌++◌, length, take, drop, slice_index, Result, Ok, Err, if◌then◌else◌, ◌==◌, count_by}
+use Rattle.std.specs.Prelude.{◌≡◌, ◌≢◌, ℕ, ◌+◌, ◌<◌, ◌≤◌, Bool, true, false, List, [], ◌++◌, length, take, drop}
+use Rattle.std.specs.Prelude.{slice_index, Result, Ok, Err, if◌then◌else◌, ◌==◌, count_by}
 use Rattle.keymap_text.specs.declared.fault.TextFaultKind.{TextFaultKind}
 use Rattle.keymap_text.specs.declared.fault.TextFault.{TextFault}
 use Rattle.keymap_text.specs.declared.scanner.Mode.{Mode}
 use Rattle.keymap_text.specs.declared.scanner.Mode.TheVariants as modes
 use Rattle.keymap_text.specs.declared.scanner.Scanner.{Scanner}
-use Rattle.keymap_text.specs.Lexical.{split, Tokens, Token, Then, leading, stays_on_line, is_word, is_blank, literal, Unfinished}
-use Rattle.keymap_text.specs.Reading.{judge, line, Verdict, Spelled, Faulty, is_settled}
+use Rattle.keymap_text.specs.Lexical.{split, Tokens, Token, Then, leading, stays_on_line, is_word, is_blank, literal}
+use Rattle.keymap_text.specs.Lexical.{Unfinished}
+use Rattle.keymap_text.specs.Meaning.{line, is_settled}
+use Rattle.keymap_text.specs.Inner.Judging.{judge, Verdict, Spelled, Faulty}
 use Rattle.keymap_text.specs.Words.{item}
 use Rattle.keymap_text.specs.declared.words.Item.{Item}
-use Rattle.keymap_text.specs.Grammar.{State}
-use Rattle.keymap_text.specs.Views.{state_view, IsPlace}
+use Rattle.keymap_text.specs.Inner.Grammar.{State}
+use Rattle.keymap_text.specs.Inner.Views.{state_view, IsPlace}
 
 -- the tokens from the pending bytes on, where the bytes x are to come
 abbrev pub tokens_of : Mode → List ℕ → ℕ → List ℕ → Tokens

@@ -23,6 +23,7 @@ use Rattle.keymap_text.proofs.PrintedLines.{PrintsCharacter}
 head_is : {A : Type 0} (x y : A) (xs ys : List A) → x ∷ xs ≡ y ∷ ys → x ≡ y
 head_is x y xs ys h = cc
 
+-- lists that are equal have equal tails
 tail_is : {A : Type 0} (x y : A) (xs ys : List A) → x ∷ xs ≡ y ∷ ys → xs ≡ ys
 tail_is x y xs ys h = cc
 
@@ -62,11 +63,13 @@ control_words : map (λ c. is_one_word (slice_index_or control_names c [])) (ran
 unfolding leading
 control_words = refl
 
+-- each control name means its character
 control_meanings : map (λ c. meaning (slice_index_or control_names c [])) (range_with_len 0 32)
     ≡ map (λ c. Char c) (range_with_len 0 32)
 unfolding meaning digits_of named
 control_meanings = refl
 
+-- a control character is printed as its name
 control_text : (c : ℕ) → c < 32 → character_text c ≡ slice_index_or control_names c []
 unfolding character_text
 control_text c h = rw (low c h, ne_eqb c 127 (apart c h)) refl
@@ -88,14 +91,17 @@ prints_control c h = record {
   reads = refl;
 }
 
+-- del is one word
 delete_word : is_one_word (codes "del") ≡ true
 unfolding leading
 delete_word = refl
 
+-- and means the character 127
 delete_meaning : meaning (codes "del") ≡ Char 127
 unfolding meaning digits_of named
 delete_meaning = refl
 
+-- which is printed so
 delete_text : character_text 127 ≡ codes "del"
 unfolding character_text
 delete_text = refl
@@ -137,9 +143,11 @@ prints_quoted c h k =
 hex_value : (d : ℕ) → d < 16 → digit_value (hex_digit d) ≡ d
 hex_value d h = grind (arith, nat_tests)
 
+-- a hexadecimal digit is a letter or digit
 hex_word : (d : ℕ) → d < 16 → is_word (hex_digit d) ≡ true
 hex_word d h = grind (arith, nat_tests)
 
+-- and passes the test of digits
 hex_test : (d : ℕ) → d < 16 → is_digit 16 (hex_digit d) ≡ true
 hex_test d h = rw (hex_value d h) (below d h)
   where
@@ -154,10 +162,12 @@ abbrev pub horner : ℕ → List ℕ → ℕ
 horner n [] = n
 horner n (d ∷ ds) = horner (n * 16 + d) ds
 
+-- so do all of them
 hex_tests : (ds : List ℕ) → AreSmall ds → list_all (is_digit 16) (map hex_digit ds) ≡ true
 hex_tests [] h = refl
 hex_tests (d ∷ ds) (h, k) = ap (λ b. b && list_all (is_digit 16) (map hex_digit ds)) (hex_test d h) ∙ hex_tests ds k
 
+-- digits spell the number of their values
 hex_number : (n : ℕ) (ds : List ℕ) → AreSmall ds
     → fold (λ n c. n * 16 + digit_value c) n (map hex_digit ds) ≡ horner n ds
 hex_number n [] h = refl
@@ -165,33 +175,40 @@ hex_number n (d ∷ ds) (h, k) =
     ap (λ v. fold (λ n c. n * 16 + digit_value c) (n * 16 + v) (map hex_digit ds)) (hex_value d h)
     ∙ hex_number (n * 16 + d) ds k
 
+-- digits are one word
 hex_leads : (ds : List ℕ) → AreSmall ds → leading is_word (map hex_digit ds) ≡ length ds
 hex_leads [] h = leading_none is_word
 hex_leads (d ∷ ds) (h, k) =
     leading_pass is_word (hex_digit d) (map hex_digit ds) (hex_word d h) ∙ omega (arith, hex_leads ds k)
 
+-- one byte a digit
 hex_length : (ds : List ℕ) → length (map hex_digit ds) ≡ length ds
 hex_length [] = refl
 hex_length (d ∷ ds) = ap suc (hex_length ds)
 
+-- digits spell a number
 hex_digits : (ds : List ℕ) → 0 < length ds → AreSmall ds → digits_of 16 (map hex_digit ds) ≡ Some (horner 0 ds)
 hex_digits ds h k =
     digits_good 16 (map hex_digit ds) (omega (arith, hex_length ds)) (hex_tests ds k) ∙ ap Some (hex_number 0 ds k)
 
+-- a word that is no decimal number, with digits after 0x
 meaning_hex : (w : List ℕ) (n : ℕ) → digits_of 10 (48 ∷ 120 ∷ w) ≡ None
     → number_after (codes "0x") 16 (48 ∷ 120 ∷ w) ≡ Some n → meaning (48 ∷ 120 ∷ w) ≡ Number n
 unfolding meaning
 meaning_hex w n h k = rw (h, k, meaning) refl
 
+-- a word with 0x is no decimal number
 no_decimal : (w : List ℕ) → digits_of 10 (48 ∷ 120 ∷ w) ≡ None
 no_decimal w = digits_bad 10 (48 ∷ 120 ∷ w) 1 (omega arith) (omega arith)
 
+-- digits after 0x are the number
 after_prefix : (w : List ℕ) (n : ℕ) → digits_of 16 w ≡ Some n → number_after (codes "0x") 16 (48 ∷ 120 ∷ w) ≡ Some n
 after_prefix w n h = ap (λ b. cond (b && true) (digits_of 16 w) None) (long (length w)) ∙ h
   where
     long : (n : ℕ) → nat_le 2 (suc (suc n)) ≡ true
     long n = grind (arith, nat_tests)
 
+-- digits after 0x are one token
 lexes_hex : (c : ℕ) (ds : List ℕ) → 0 < length ds → length ds ≤ 30 → AreSmall ds → horner 0 ds ≡ c
     → Lexes NoWord (48 ∷ 120 ∷ map hex_digit ds) (Value (Number c) ∷ [])
 lexes_hex c ds z l h e =
@@ -202,6 +219,7 @@ lexes_hex c ds z l h e =
     (leading_pass is_word 48 _ refl ∙ ap (λ n. n + 1) (leading_pass is_word 120 _ refl)
     ∙ omega (arith, hex_leads ds h, hex_length ds)))
 
+-- a character above 127 is printed as a number
 hex_text : (c : ℕ) → 127 < c → character_text c ≡ 48 ∷ 120 ∷ hex c
 unfolding character_text
 hex_text c h = rw (low c h, ne_eqb c 127 (apart c h), high c h) refl
@@ -219,33 +237,43 @@ hex_text c h = rw (low c h, ne_eqb c 127 (apart c h), high c h) refl
 abbrev pub four : ℕ → List ℕ
 four c = c / 4096 % 16 ∷ c / 256 % 16 ∷ c / 16 % 16 ∷ c / 1 % 16 ∷ []
 
+-- the last digit, and those before it
 digit_1 : (c : ℕ) → c / 16 * 16 + c / 1 % 16 ≡ c
 digit_1 c = omega arith
 
+-- the same of the second digit from the right
 digit_16 : (c : ℕ) → c / 256 * 16 + c / 16 % 16 ≡ c / 16
 digit_16 c = omega arith
 
+-- of the third
 digit_256 : (c : ℕ) → c / 4096 * 16 + c / 256 % 16 ≡ c / 256
 digit_256 c = omega arith
 
+-- of the fourth
 digit_4096 : (c : ℕ) → c / 65536 * 16 + c / 4096 % 16 ≡ c / 4096
 digit_4096 c = omega arith
 
+-- of the fifth
 digit_65536 : (c : ℕ) → c / 1048576 * 16 + c / 65536 % 16 ≡ c / 65536
 digit_65536 c = omega arith
 
+-- a digit is below 16
 is_mod : (n : ℕ) → n % 16 < 16
 is_mod n = omega arith
 
+-- a number below 16 is its digit
 same_below : (n : ℕ) → n < 16 → n % 16 ≡ n
 same_below n h = omega arith
 
+-- four digits behind a number
 four_of : (c n : ℕ) → n ≡ c / 65536 → horner n (four c) ≡ c
 four_of c n e = omega (arith, e, digit_1 c, digit_16 c, digit_256 c, digit_4096 c)
 
+-- four digits are digits
 small_four : (c : ℕ) → AreSmall (four c)
 small_four c = (is_mod (c / 4096), (is_mod (c / 256), (is_mod (c / 16), (is_mod (c / 1), tt))))
 
+-- a number of four digits is printed with them
 hex_four : (c : ℕ) → c < 65536 → hex c ≡ map hex_digit (four c)
 unfolding hex
 hex_four c h =
@@ -255,9 +283,11 @@ hex_four c h =
     below : (c : ℕ) → c < 65536 → nat_lt c 65536 ≡ true
     below c h = grind (arith, nat_tests)
 
+-- a number of five digits isn't one of four
 not_four : (c : ℕ) → 65536 ≤ c → nat_lt c 65536 ≡ false
 not_four c h = grind (arith, nat_tests)
 
+-- five digits
 hex_five : (c : ℕ) → 65536 ≤ c → c < 1048576 → hex c ≡ map hex_digit (c / 65536 % 16 ∷ four c)
 unfolding hex
 hex_five c h k = rw (not_four c h, below c k) refl
@@ -265,6 +295,7 @@ hex_five c h k = rw (not_four c h, below c k) refl
     below : (c : ℕ) → c < 1048576 → nat_lt c 1048576 ≡ true
     below c h = grind (arith, nat_tests)
 
+-- six digits
 hex_six : (c : ℕ) → 1048576 ≤ c → hex c ≡ map hex_digit (c / 1048576 % 16 ∷ c / 65536 % 16 ∷ four c)
 unfolding hex
 hex_six c h = rw (not_four c (omega arith), not_five c h) refl
@@ -272,6 +303,7 @@ hex_six c h = rw (not_four c (omega arith), not_five c h) refl
     not_five : (c : ℕ) → 1048576 ≤ c → nat_lt c 1048576 ≡ false
     not_five c h = grind (arith, nat_tests)
 
+-- a character that is printed in digits is one token
 prints_digits : (c : ℕ) (ds : List ℕ) → 127 < c → scalar c ≡ true → hex c ≡ map hex_digit ds → 0 < length ds
     → length ds ≤ 30 → AreSmall ds → horner 0 ds ≡ c → PrintsCharacter c
 prints_digits c ds h s e z l k n = record {

@@ -11,6 +11,7 @@ use Rattle.keymap_text.proofs.Characters.{along}
 spaces : map (λ c. get_or SPACE_BYTES c false) (range_with_len 0 256) ≡ map is_space (range_with_len 0 256)
 spaces = refl
 
+-- the table of letters and digits, by computation
 words : map (λ c. get_or WORD_BYTES c false) (range_with_len 0 256) ≡ map is_word (range_with_len 0 256)
 words = refl
 
@@ -22,6 +23,7 @@ space_class c h = along (λ c. get_or SPACE_BYTES c false) is_space 0 256 spaces
 pub word_class : (c : ℕ) → c < 256 → get_or WORD_BYTES c false ≡ is_word c
 word_class c h = along (λ c. get_or WORD_BYTES c false) is_word 0 256 words c (omega arith) h
 
+-- the table of digits, by computation
 digits : map (λ c. get_or DIGITS c 0) (range_with_len 0 256) ≡ map digit_value (range_with_len 0 256)
 digits = refl
 

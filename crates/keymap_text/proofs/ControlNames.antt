@@ -16,6 +16,7 @@ low_letters : (d : Name) → map (λ c. letters (get_or NAMES (cond (c == 127) 3
 unfolding leading
 low_letters d = refl
 
+-- the row of del
 delete_letters : (d : Name) → letters (get_or NAMES 32 d).0 ≡ control_name 127
 unfolding leading
 delete_letters d = refl
@@ -28,6 +29,7 @@ control_letters c d (inl h) =
 control_letters c d (inr e) =
     subst (λ (c : ℕ). letters (get_or NAMES (cond (c == 127) 32 c) d).0 ≡ control_name c) (sym e) (delete_letters d)
 
+-- the names' lengths, by computation
 short_names : map (λ c. nat_le (length (control_name c)) 3) (range_with_len 0 32)
     ≡ map (λ c. true) (range_with_len 0 32)
 short_names = refl

@@ -71,6 +71,7 @@ leading_grows p (c ∷ b) x = go (p c) refl (leading_grows p b x)
     go true e k = omega (arith, k, leading_pass p c b e, leading_pass p c (b ++ x) e)
     go false e k = omega (arith, leading_fail p c b e)
 
+-- a fault that stays
 same_fault : (g f : TextFaultKind) (q o : ℕ) (a b : Bool) → a ≡ true → Faulty g q b ≡ Faulty f o true
     → Faulty g q a ≡ Faulty f o true
 same_fault g f q o a b w h = cc
@@ -95,6 +96,7 @@ unfolding split
 split_nil zero q = refl
 split_nil (suc k) q = refl
 
+-- an early fault of b is that of b and x
 Stays : List ℕ → List ℕ → TextFaultKind → ℕ → Type 0
 Stays b x f o =
     (s : State) (k q : ℕ) → judge s (split k q b) ≡ Faulty f o true → judge s (split k q (b ++ x)) ≡ Faulty f o true
@@ -106,6 +108,7 @@ no_fault_at_end s n q b f o e h =
     late (at_end s) _ f o (sym (judge_ends s _) ∙ sym (ap (judge s)
     (split_after n q b (omega arith) ∙ ap (split 0 (q + n)) (drop_all n b (le_of_eq (sym e))) ∙ split_none _)) ∙ h)
 
+-- behind a comment
 comment_stays : (b x : List ℕ) (f : TextFaultKind) (o : ℕ) → Stays b x f o → (s : State) (q : ℕ)
     → judge s (split (leading stays_on_line b) q b) ≡ Faulty f o true
     → judge s (split (leading stays_on_line (b ++ x)) q (b ++ x)) ≡ Faulty f o true
@@ -115,6 +118,7 @@ comment_stays b x f o k s q h = ⊎_elim
     (λ l. ap (λ n. judge s (split n q (b ++ x))) (leading_short stays_on_line b x l) ∙ k s _ q h)
     (eq-or-lt_of_le (leading_le stays_on_line b))
 
+-- behind a token
 found_stays : (b x : List ℕ) (f : TextFaultKind) (o : ℕ) → Stays b x f o → (s : State) (q c n : ℕ) (kind : TokenKind)
     → front c b ≡ Found kind n → front c (b ++ x) ≡ Found kind n → n ≤ length b
     → is_settled (record { kind = kind; bytes = c ∷ take n (b ++ x); start = q; last = is_empty (drop n (b ++ x)) })
@@ -129,12 +133,14 @@ found_stays b x f o k s q c n kind e e' l w h =
     (ap (λ t. item kind (c ∷ t)) (sym (take-append-le n b x l))) refl w (λ s'. k s' n (q + 1))
     (sym (ap (judge s) (split_found q c n kind b e)) ∙ h)
 
+-- at a fault
 refused_stays : (b x : List ℕ) (f : TextFaultKind) (o : ℕ) (s : State) (q c : ℕ) (g : TextFaultKind)
     → front c b ≡ Refused g → front c (b ++ x) ≡ Refused g → judge s (split 0 q (c ∷ b)) ≡ Faulty f o true
     → judge s (split 0 q (c ∷ (b ++ x))) ≡ Faulty f o true
 refused_stays b x f o s q c g e e' h =
     ap (judge s) (split_refused q c g (b ++ x) e' ∙ sym (split_refused q c g b e)) ∙ h
 
+-- at an apostrophe
 quote_stays : (b x : List ℕ) (f : TextFaultKind) (o : ℕ) → Stays b x f o → (s : State) (q : ℕ)
     → judge s (split 0 q (39 ∷ b)) ≡ Faulty f o true → judge s (split 0 q (39 ∷ (b ++ x))) ≡ Faulty f o true
 quote_stays b x f o k s q h = go (literal b) refl
@@ -154,6 +160,7 @@ quote_stays b x f o k s q h = go (literal b) refl
         absurd (late_fault EndInside f _ o (sym (judge_stops s EndInside _)
         ∙ sym (ap (judge s) (split_unfinished q 39 b (front_quote b ∙ e))) ∙ h))
 
+-- at a word
 word_stays : (b x : List ℕ) (f : TextFaultKind) (o : ℕ) → Stays b x f o → (s : State) (q c : ℕ) → is_word c ≡ true
     → judge s (split 0 q (c ∷ b)) ≡ Faulty f o true → judge s (split 0 q (c ∷ (b ++ x))) ≡ Faulty f o true
 word_stays b x f o k s q c w h = go (nat_lt (leading is_word b) 32) refl
@@ -197,6 +204,7 @@ word_stays b x f o k s q c w h = go (nat_lt (leading is_word b) 32) refl
         refused_stays b x f o s q c BadWord (front_word c b w ∙ is_long _ e)
         (front_word c (b ++ x) w ∙ is_long _ (long_too _ _ e (leading_grows is_word b x))) h
 
+-- by the first byte
 early_stays : (b x : List ℕ) (f : TextFaultKind) (o : ℕ) → Stays b x f o
 unfolding Stays
 early_stays [] x f o =

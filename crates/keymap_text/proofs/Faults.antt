@@ -36,6 +36,7 @@ abbrev pub led : Result State TextFaultKind → Result Place TextFaultKind
 led (Ok s) = Ok (place_of s.place)
 led (Err f) = Err f
 
+-- the first token of a definition
 first_led : (m : MapValue) (t : Item) → definition t ≡ led (full.◌>>=◌ (first_of t) (λ p. Ok (at m p)))
 first_led m Open = refl
 first_led m Close = refl
@@ -141,6 +142,7 @@ abbrev pub found_of : Verdict → Option Found
 found_of (Spelled m) = None
 found_of (Faulty f q e) = Some (record { kind = f; offset = q; early = e })
 
+-- the end of the text
 ends : (m : MapValue) (p : full.Place) (q : ℕ)
     → found_of (ended (at_end (at m p)) q) ≡ found_in (Ok (place_of p)) (Ok q)
 unfolding at_end
@@ -153,10 +155,12 @@ ends m (full.PairBase i a) q = refl
 ends m (full.PairResult i a b) q = refl
 ends m (full.PairEnd i a b r) q = refl
 
+-- no token at the end
 list_ends : (q : ℕ) → list_of (Ends q) ≡ []
 unfolding list_of
 list_ends q = refl
 
+-- no token at a fault
 list_stops : (f : TextFaultKind) (q : ℕ) → list_of (Stops f q) ≡ []
 unfolding list_of
 list_stops f q = refl
@@ -166,10 +170,12 @@ pub list_then : (t : Token) (ts : Tokens) → list_of (Then t ts) ≡ t ∷ list
 unfolding list_of
 list_then t ts = refl
 
+-- the end stands behind all tokens
 behind_ends : (q : ℕ) → behind (Ends q) ≡ Ok q
 unfolding behind
 behind_ends q = refl
 
+-- so does a fault
 behind_stops : (f : TextFaultKind) (q : ℕ) → behind (Stops f q) ≡ Err (f, q)
 unfolding behind
 behind_stops f q = refl

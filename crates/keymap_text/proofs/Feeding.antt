@@ -29,10 +29,12 @@ pub record IsFed (old new : Option (List ℕ)) (reader : Progress) (taken : ℕ)
   pub stands : StandsAfter reader text
   pub sound : HasNoEarlyFault text
 
+-- no bytes spell the empty map
 empty_verdict : verdict [] ≡ Spelled empty_map
 unfolding judge split at_end
 empty_verdict = refl
 
+-- no bytes have no early fault
 none_early : HasNoEarlyFault []
 none_early f e = never _ (sym (fault_or_map [] empty_map (spells_from [] empty_map empty_verdict)) ∙ e.0)
   where
@@ -76,6 +78,7 @@ fed_early {a = a} {b = b} {c = c} {n = n} r' buffer fed h l few k = (
   ),
 )
 
+-- the whole text was read
 concluded : (a c : Option (List ℕ)) (result : Result MapValue TextError) (text : List ℕ) → Concludes result text
     → TakesWhole a c text → ReadsMap a c result
 concluded a c (Ok m) text h w = (text, w, h)
@@ -83,6 +86,7 @@ concluded a c (Err errors.Memory) text h w = absurd h
 concluded a c (Err (errors.Read f)) text h w = absurd h
 concluded a c (Err (errors.Fault f)) text h w = (text, inr (w, h))
 
+-- a read of no bytes took none
 none_taken : (b c : Option (List ℕ)) (n : ℕ) (buffer : List ℕ) → n ≡ 0 → Consumes b c (take n buffer) → Consumes b c []
 none_taken b c n buffer z h = subst (λ (n : ℕ). Consumes b c (take n buffer)) z h
 
@@ -120,6 +124,7 @@ fed_fails {a = a} {b = b} c offset fed e few k =
       sound = fed.sound;
     }
 
+-- a buffer of one byte that is full
 one_byte : (n : ℕ) (buffer : List ℕ) → 0 < n → n ≤ length buffer → length buffer ≡ 1
     → (next : ℕ) × (take n buffer ≡ next ∷ [])
 one_byte zero buffer z l s = absurd (omega (arith, z))

@@ -26,6 +26,7 @@ pub puts_push : (m : MapValue) (ds : List Definition) (d : Definition) → puts 
 puts_push m [] d = refl
 puts_push m (x ∷ ds) d = puts_push (put m x) ds d
 
+-- lists of one length with the same elements are equal
 list_ext : {X : Type 0} (xs ys : List X) (d : X) → length xs ≡ length ys
     → ((i : ℕ) → i < length xs → get_or xs i d ≡ get_or ys i d) → xs ≡ ys
 list_ext [] [] d h e = refl
@@ -35,6 +36,7 @@ list_ext (x ∷ xs) (y ∷ ys) d h e =
     ap (λ z. z ∷ xs) (e 0 (omega arith)) ∙ ap (λ zs. y ∷ zs) (list_ext xs ys d (omega (arith, h))
     (λ i l. e (suc i) (omega (arith, l))))
 
+-- an element that was filled in
 get_replicate : {X : Type 0} (n i : ℕ) (u : X) → get_or (replicate n u) i u ≡ u
 get_replicate zero i u = refl
 get_replicate (suc n) zero u = refl
@@ -66,23 +68,28 @@ greatest_more f d ds = refl
 max_of : (a b c : ℕ) → max (max a b) c ≡ max a (max b c)
 max_of a b c = omega arith
 
+-- how many were filled in
 length_replicate : {X : Type 0} (n : ℕ) (u : X) → length (replicate n u) ≡ n
 length_replicate zero u = refl
 length_replicate (suc n) u = ap suc (length_replicate n u)
 
+-- how long a list is after a place was set
 placed_length : {X : Type 0} (u : X) (xs : List X) (i : ℕ) (x : X) → length (placed u xs i x) ≡ max (length xs) (i + 1)
 placed_length u xs i x =
     length-set (xs ++ replicate (i + 1 - length xs) u) i x ∙ length-append xs (replicate (i + 1 - length xs) u)
     ∙ ap (λ n. length xs + n) (length_replicate (i + 1 - length xs) u) ∙ omega arith
 
+-- how many entries there are after a definition
 entries_put : (m : MapValue) (d : Definition) → length (put m d).entries ≡ max (length m.entries) (slots d)
 entries_put m (KeyDefinition s e) = placed_length undefined m.entries s e
 entries_put m (AccentDefinition i a) = omega arith
 
+-- how many accents
 accents_put : (m : MapValue) (d : Definition) → length (put m d).accents ≡ max (length m.accents) (indices d)
 accents_put m (KeyDefinition s e) = omega arith
 accents_put m (AccentDefinition i a) = placed_length blank m.accents i a
 
+-- how many entries there are after all definitions
 entries_length : (m : MapValue) (ds : List Definition)
     → length (puts m ds).entries ≡ max (length m.entries) (greatest slots ds)
 entries_length m [] = rw greatest_none (omega arith)
@@ -91,6 +98,7 @@ entries_length m (d ∷ ds) =
     ∙ max_of (length m.entries) (slots d) (greatest slots ds)
     ∙ ap (λ n. max (length m.entries) n) (sym (greatest_more slots d ds))
 
+-- how many accents
 accents_length : (m : MapValue) (ds : List Definition)
     → length (puts m ds).accents ≡ max (length m.accents) (greatest indices ds)
 accents_length m [] = rw greatest_none (omega arith)
@@ -105,6 +113,7 @@ padded [] n j u = get_replicate n j u
 padded (x ∷ xs) n zero u = refl
 padded (x ∷ xs) n (suc j) u = padded xs n j u
 
+-- what stands at a place after one was set
 placed_says : {X : Type 0} (u : X) (xs : List X) (s i : ℕ) (x : X)
     → get_or (placed u xs s x) i u ≡ or_else (cond (s == i) (Some x) None) (get_or xs i u)
 placed_says u xs s i x = go (s == i) refl
@@ -119,15 +128,18 @@ placed_says u xs s i x = go (s == i) refl
         get_or-set_other (xs ++ replicate (s + 1 - length xs) u) s i x u
         (λ k. true≢false (sym (eq-eqb s i (sym k)) ∙ e)) ∙ padded xs (s + 1 - length xs) i u
 
+-- a later answer wins
 later : {A : Type 0} (o p : Option A) (x y : A) → x ≡ or_else p y → or_else o x ≡ or_else (option_or o p) y
 later (Some z) p x y h = refl
 later None p x y h = h
 
+-- the entry of a slot after a definition
 entry_put : (m : MapValue) (d : Definition) (slot : ℕ)
     → get_or (put m d).entries slot undefined ≡ or_else (of_slot slot d) (get_or m.entries slot undefined)
 entry_put m (KeyDefinition s e) slot = placed_says undefined m.entries s slot e
 entry_put m (AccentDefinition i a) slot = refl
 
+-- the entry of a slot after all definitions
 entries_of : (m : MapValue) (ds : List Definition) (slot : ℕ)
     → get_or (puts m ds).entries slot undefined ≡ or_else (last (of_slot slot) ds) (get_or m.entries slot undefined)
 entries_of m [] slot = rw last_none refl
@@ -135,11 +147,13 @@ entries_of m (d ∷ ds) slot =
     entries_of (put m d) ds slot ∙ later (last (of_slot slot) ds) (of_slot slot d) _ _ (entry_put m d slot)
     ∙ ap (λ o. or_else o (get_or m.entries slot undefined)) (sym (last_more (of_slot slot) d ds))
 
+-- an accent after a definition
 accent_put : (m : MapValue) (d : Definition) (i : ℕ)
     → get_or (put m d).accents i blank ≡ or_else (of_index i d) (get_or m.accents i blank)
 accent_put m (KeyDefinition s e) i = refl
 accent_put m (AccentDefinition j a) i = placed_says blank m.accents j i a
 
+-- an accent after all definitions
 accents_of : (m : MapValue) (ds : List Definition) (i : ℕ)
     → get_or (puts m ds).accents i blank ≡ or_else (last (of_index i) ds) (get_or m.accents i blank)
 accents_of m [] i = rw last_none refl

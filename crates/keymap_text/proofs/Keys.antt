@@ -17,9 +17,11 @@ use Rattle.keymap_text.proofs.Leading.{leading_pass, leading_fail, leading_none}
 pub word_byte : (c : ℕ) → is_word c ≡ true → c < 256
 word_byte c h = grind (arith, nat_tests)
 
+-- a letter or digit in lower case is above 47
 lower_from : (c : ℕ) → is_word c ≡ true → 47 < to_ascii_lowercase c
 lower_from c h = grind (arith, nat_tests)
 
+-- and is a byte
 lower_to : (c : ℕ) → is_word c ≡ true → to_ascii_lowercase c < 256
 lower_to c h = grind (arith, nat_tests)
 
@@ -40,14 +42,17 @@ low zero w = 0
 low (suc k) [] = 0
 low (suc k) (c ∷ w) = low k w * 256 + c
 
+-- the number with so many bytes of ones
 ones : ℕ → ℕ
 ones zero = 0
 ones (suc n) = ones n * 256 + 255
 
+-- the bit 32 makes lower case of letters and leaves digits, by computation
 raised : map (λ c. cond (is_word c) (bit_or (bit_and c 255) 32) 0) (range_with_len 0 256)
     ≡ map (λ c. cond (is_word c) (to_ascii_lowercase c) 0) (range_with_len 0 256)
 raised = refl
 
+-- the same of a byte
 raised_byte : (c : ℕ) → is_word c ≡ true → bit_or (bit_and c 255) 32 ≡ to_ascii_lowercase c
 raised_byte c h =
     sym (ap (λ b. cond b (bit_or (bit_and c 255) 32) 0) h)
@@ -55,12 +60,14 @@ raised_byte c h =
     (λ c. cond (is_word c) (to_ascii_lowercase c) 0) 0 256 raised c (omega arith) (word_byte c h)
     ∙ ap (λ b. cond b (to_ascii_lowercase c) 0) h
 
+-- a mask of zero leaves nothing
 and_none : (x p : ℕ) → bit_or (bit_and x 0) p ≡ p
 and_none x p =
     let z : bit_and x 0 ≡ 0 = omega (arith, and_le_r x 0) in
     let y : bit_and 0 p ≡ 0 = omega (arith, and_le_l 0 p) in
     ap (λ z. bit_or z p) z ∙ or_disjoint 0 p y ∙ omega arith
 
+-- the first bytes in lower case, blanks behind them
 packed_low : (k n : ℕ) (w : List ℕ) → n ≤ k → k ≤ length w → Letters (take n w)
     → bit_or (bit_and (low k w) (ones n)) (pack k []) ≡ pack k (map to_ascii_lowercase (take n w))
 unfolding ones low
@@ -73,13 +80,16 @@ packed_low (suc k) (suc n) (c ∷ w) h l s =
     (omega (arith, and_le_l c 255, word_byte c s.0)) (omega arith)
     ∙ ap₂ (λ x y. x * 256 + y) (packed_low k n w (omega (arith, h)) (omega (arith, l)) s.1) (raised_byte c s.0)
 
+-- the table of masks, by computation
 masks : map (λ n. get_or LOW_BYTES n 0) (range_with_len 0 9) ≡ map ones (range_with_len 0 9)
 unfolding ones
 masks = refl
 
+-- a mask of the table
 mask : (n : ℕ) → n ≤ 8 → get_or LOW_BYTES n 0 ≡ ones n
 mask n h = along (λ n. get_or LOW_BYTES n 0) ones 0 9 masks n (omega arith) (omega (arith, h))
 
+-- eight bytes as a number
 low_front : (w : List ℕ) → 8 ≤ length w → from_le_bytes w64 (take 8 w) ≡ low 8 w
 unfolding low
 low_front [] h = absurd (omega (arith, h))
@@ -106,6 +116,7 @@ unpacked_end n p =
     ap (λ b. cond b [] ((p * 256 + 32) % 256 ∷ unpacked n ((p * 256 + 32) / 256)))
     (eq-eqb ((p * 256 + 32) % 256) 32 (omega arith))
 
+-- the lowest byte of a key
 unpacked_byte : (n p c : ℕ) → 47 < c → c < 256 → unpacked (suc n) (p * 256 + c) ≡ c ∷ unpacked n p
 unpacked_byte n p c h l =
     let m : (p * 256 + c) % 256 ≡ c = omega (arith, l) in

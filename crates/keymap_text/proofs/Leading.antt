@@ -34,6 +34,7 @@ leading_fail_at p xs i h e = ap (leading p) (drop-cons xs i 0 h) ∙ leading_fai
 pub leading_end : (p : ℕ → Bool) (xs : List ℕ) (i : ℕ) → length xs ≤ i → leading p (drop i xs) ≡ 0
 leading_end p xs i h = at_drop_all (leading p) xs i h ∙ leading_none p
 
+-- one more at most
 le_case : (b : Bool) (n m : ℕ) → n ≤ m → cond b (n + 1) 0 ≤ suc m
 le_case true n m h = omega arith
 le_case false n m h = omega arith
@@ -76,9 +77,11 @@ leading_tail p c w h = go (p c) refl
 same_head : (a c : ℕ) (v w : List ℕ) → a ∷ v ≡ c ∷ w → a ≡ c
 same_head a c v w h = cc
 
+-- lists that are equal have equal tails
 same_tail : (a c : ℕ) (v w : List ℕ) → a ∷ v ≡ c ∷ w → v ≡ w
 same_tail a c v w h = cc
 
+-- no bytes are not some
 not_none : (c : ℕ) (w : List ℕ) → [] ≡ c ∷ w → ⊥
 not_none c w h = cc
 

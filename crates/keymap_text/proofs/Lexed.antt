@@ -49,6 +49,7 @@ lexes_both {t = t} {u = u} {is = is} {js = js} a b s = record {
     far : (q : ℕ) → q + length t + length u ≡ q + length (t ++ u)
     far q = omega (arith, length-append t u)
 
+-- a blank is no letter or digit
 blank_word : (c : ℕ) → is_blank c ≡ true → is_word c ≡ false
 blank_word c h = grind (arith, nat_tests)
 
@@ -69,6 +70,7 @@ one t k i q y tok n h e l =
     ap items_of h ∙ ap (map item_of) (list_then tok (split 0 n y)) ∙ ap (λ (i : Item). i ∷ items_of (split 0 n y)) e
     ∙ ap (λ n. i ∷ items_of (split 0 n y)) l
 
+-- behind one token
 last : (t : List ℕ) (q : ℕ) (y : List ℕ) (tok : Token) (n : ℕ) → split 0 q (t ++ y) ≡ Then tok (split 0 n y)
     → n ≡ q + length t → behind (split 0 q (t ++ y)) ≡ behind (split 0 (q + length t) y)
 last t q y tok n h l = ap behind h ∙ behind_then tok (split 0 n y) ∙ ap (λ n. behind (split 0 n y)) l

@@ -15,6 +15,7 @@ abbrev pub feeds : List ℕ → ℕ
 feeds [] = 0
 feeds (c ∷ b) = line_feed c + feeds b
 
+-- one byte more in front
 feeds_one : (c : ℕ) (b : List ℕ) → feeds (c ∷ b) ≡ line_feed c + feeds b
 feeds_one c b = refl
 
@@ -26,18 +27,22 @@ feeds_are b = is_count_by feeds (λ c. c == 10) refl (λ c b. one (c == 10) (fee
     one true n = refl
     one false n = omega arith
 
+-- the line of a place by the line feeds before it
 line_is : (b : List ℕ) (n : ℕ) → line b n ≡ 1 + feeds (take n b)
 line_is b n = ap (λ k. 1 + k) (sym (feeds_are (take n b)))
 
+-- the line feeds of two texts
 feeds_append : (a b : List ℕ) → feeds (a ++ b) ≡ feeds a + feeds b
 feeds_append [] b = omega arith
 feeds_append (c ∷ a) b = feeds_one c (a ++ b) ∙ omega (arith, feeds_append a b, feeds_one c a)
 
+-- the line feeds before a place and from it on
 feeds_split : (n : ℕ) (b : List ℕ) → feeds (take n b) + feeds (drop n b) ≡ feeds b
 feeds_split zero b = omega arith
 feeds_split (suc n) [] = refl
 feeds_split (suc n) (c ∷ b) = omega (arith, feeds_one c (take n b), feeds_one c b, feeds_split n b)
 
+-- none from a place on, none from a later one on
 feeds_behind : (n m : ℕ) (b : List ℕ) → n ≤ m → feeds (drop n b) ≡ 0 → feeds (drop m b) ≡ 0
 feeds_behind n m b l h =
     let e : drop (m - n) (drop n b) ≡ drop m b = drop-drop (m - n) n b ∙ ap (λ k. drop k b) (omega (arith, l)) in
@@ -47,6 +52,7 @@ feeds_behind n m b l h =
 line_all : (b : List ℕ) (n : ℕ) → feeds (drop n b) ≡ 0 → line b n ≡ 1 + feeds b
 line_all b n h = omega (arith, line_is b n, feeds_split n b, h)
 
+-- a line feed is one
 feed_is : (c : ℕ) → (c ≡ 10) → line_feed c ≡ 1
 feed_is c h = ap (λ b. cond b 1 0) (eq-eqb c 10 h)
 

@@ -23,6 +23,7 @@ use Rattle.keymap_text.specs.Lexical.{is_lone}
 not_zero : (n : ℕ) → 0 < n → (n == 0) ≡ false
 not_zero n h = grind (arith, nat_tests)
 
+-- a number that is not below another
 not_below : (n m : ℕ) → m ≤ n → nat_lt n m ≡ false
 not_below n m h = grind (arith, nat_tests)
 
@@ -37,11 +38,13 @@ unfolding Grows
 under k true g y z h = inl refl
 under k false g y z h = h
 
+-- the same in the other branch
 over : (k : ℕ) (p : Bool) (g y z : Decoded) → Grows k y z → Grows k (cond p y g) (cond p z g)
 unfolding Grows
 over k true g y z h = h
 over k false g y z h = inl refl
 
+-- a size that both branches have
 at_least : (k : ℕ) (p : Bool) (y z : Decoded) → k ≤ y.size → k ≤ z.size → k ≤ (cond p y z).size
 at_least k true y z g h = g
 at_least k false y z g h = h
@@ -60,6 +63,7 @@ by_1 n b c d e h =
           (omega arith)))) (omega arith),
     )))))
 
+-- two bytes
 by_2 : (n b c d e : ℕ) → 2 < n → Grows 2 (decoded_by n b c d e) (decoded_by 2 b c 0 0)
 unfolding Grows
 by_2 n b c d e h =
@@ -78,6 +82,7 @@ by_2 n b c d e h =
               (omega arith),
         )
 
+-- three bytes
 by_3 : (n b c d e : ℕ) → 3 < n → Grows 3 (decoded_by n b c d e) (decoded_by 3 b c d 0)
 unfolding Grows
 by_3 n b c d e h =
@@ -89,11 +94,13 @@ by_3 n b c d e h =
     last : (b c d e : ℕ) → Grows 3 (cond (continues e) (good (code_of_4 b c d e) 4) (bad 3)) (bad 3)
     last b c d e = inr (refl, at_least 3 (continues e) _ _ (omega arith) (omega arith))
 
+-- four bytes decide
 by_4 : (n b c d e : ℕ) → 3 < n → decoded_by n b c d e ≡ decoded_by 4 b c d e
 by_4 n b c d e h =
     rw (not_zero n (omega arith), not_below n 2 (omega arith), not_below n 3 (omega arith), not_below n 4 (omega arith))
     refl
 
+-- any bytes
 decoded_grows : (s x : List ℕ) → Grows (length s) (decoded (s ++ x)) (decoded s)
 unfolding Grows
 decoded_grows [] x = inr (refl, omega arith)
@@ -112,16 +119,19 @@ LiteralFront (Found k n) = is_word_kind k ≡ false
 LiteralFront (Refused f) = f ≡ BadLiteral
 LiteralFront Unfinished = Unit {0}
 
+-- by both branches
 either : (b : Bool) (f g : Front) → LiteralFront f → LiteralFront g → LiteralFront (cond b f g)
 either true f g h k = h
 either false f g h k = k
 
+-- of a decoded character
 quoted_shape : (o : Option ℕ) (n : ℕ) (s : List ℕ) → LiteralFront (quoted (record { char = o; size = n }) s)
 unfolding LiteralFront
 quoted_shape (Some c) n s =
     either (c == 10) _ _ refl (either (nat_le (length s) n) _ _ tt (either (slice_index s n == 39) _ _ refl refl))
 quoted_shape None n s = either (length s == n) _ _ tt refl
 
+-- of what stands at an apostrophe
 literal_shape : (s : List ℕ) → LiteralFront (literal s)
 unfolding LiteralFront literal
 literal_shape s = either (is_lone s) _ _ refl (quoted_shape (decoded s).char (decoded s).size s)
@@ -140,9 +150,11 @@ literal_found s k n h = subst LiteralFront h (literal_shape s)
 closing_stable : (c n : ℕ) (s x : List ℕ) → closing c n s ≢ Unfinished → closing c n (s ++ x) ≡ closing c n s
 closing_stable c n s x h = grind (arith, nat_tests, length-append, get_or_append_left)
 
+-- where no character stands first
 unclosed_stable : (n : ℕ) (s x : List ℕ) → n ≤ length s → unclosed n s ≢ Unfinished → unclosed n (s ++ x) ≡ unclosed n s
 unclosed_stable n s x l h = grind (arith, nat_tests, length-append)
 
+-- in both cases
 char_stable : (o : Option ℕ) (n : ℕ) (s x : List ℕ) → n ≤ length s
     → quoted (record { char = o; size = n }) s ≢ Unfinished
     → quoted (record { char = o; size = n }) (s ++ x) ≡ quoted (record { char = o; size = n }) s
@@ -154,9 +166,11 @@ size_le : (s : List ℕ) → (decoded s).size ≤ length s
 size_le [] = omega arith
 size_le (b ∷ s) = (size-bounds (length (b ∷ s)) b (get_or s 0 0) (get_or s 1 0) (get_or s 2 0) (omega arith)).2
 
+-- bytes that may all begin a character are unfinished
 open_all : (s : List ℕ) → quoted (bad (length s)) s ≡ Unfinished
 open_all s = rw (eq-eqb (length s) (length s) refl) refl
 
+-- by how the bytes decode
 quoted_stable : (s x : List ℕ) → quoted (decoded s) s ≢ Unfinished
     → quoted (decoded (s ++ x)) (s ++ x) ≡ quoted (decoded s) s
 unfolding Grows
@@ -165,10 +179,12 @@ quoted_stable s x h = ⊎_elim
     (λ e. absurd (h (ap (λ d. quoted d s) e.0 ∙ open_all s)))
     (decoded_grows s x)
 
+-- a choice that is not unfinished
 chosen : (p : Bool) (l q r : Front) → cond p l q ≢ Unfinished → (q ≢ Unfinished → r ≡ q) → cond p l r ≡ cond p l q
 chosen true l q r h k = refl
 chosen false l q r h k = k h
 
+-- whether a lone byte is quoted, two bytes tell
 lone_same : (b c : ℕ) (s x : List ℕ) → is_lone (b ∷ c ∷ (s ++ x)) ≡ is_lone (b ∷ c ∷ s)
 lone_same b c s x = rw (above (length (b ∷ c ∷ (s ++ x))) (omega arith), above (length (b ∷ c ∷ s)) (omega arith)) refl
   where
@@ -188,13 +204,16 @@ literal_stable (b ∷ c ∷ s) x h =
 closing_open : (c n : ℕ) (s : List ℕ) → closing c n s ≡ Unfinished → length s ≤ n
 closing_open c n s h = grind (arith, nat_tests)
 
+-- where no character stands first
 unclosed_open : (n : ℕ) (s : List ℕ) → unclosed n s ≡ Unfinished → length s ≤ n
 unclosed_open n s h = grind (arith, nat_tests)
 
+-- in both cases
 quoted_open : (o : Option ℕ) (n : ℕ) (s : List ℕ) → quoted (record { char = o; size = n }) s ≡ Unfinished → length s ≤ n
 quoted_open (Some c) n s h = closing_open c n s h
 quoted_open None n s h = unclosed_open n s h
 
+-- an unfinished one is no quoted lone byte
 not_lone : (s : List ℕ) (q : Front) → cond (is_lone s) (Found (Literal (slice_index s 0)) 2) q ≡ Unfinished
     → (is_lone s ≡ false) × (q ≡ Unfinished)
 not_lone s q h = go (is_lone s) h
@@ -203,6 +222,7 @@ not_lone s q h = go (is_lone s) h
     go true e = absurd (cc)
     go false e = (refl, e)
 
+-- a character has at most four bytes
 size_4 : (s : List ℕ) → (decoded s).size ≤ 4
 size_4 [] = omega arith
 size_4 (b ∷ s) = (size-bounds (length (b ∷ s)) b (get_or s 0 0) (get_or s 1 0) (get_or s 2 0) (omega arith)).1
@@ -213,17 +233,21 @@ unfolding literal
 unfinished_short s h =
     omega (arith, quoted_open (decoded s).char (decoded s).size s (not_lone s (quoted (decoded s) s) h).1, size_4 s)
 
+-- a found one has the bytes of its character and an apostrophe
 closing_found : (c n m : ℕ) (k : TokenKind) (s : List ℕ) → closing c n s ≡ Found k m → m ≡ n + 1
 closing_found c n m k s h = grind (arith, nat_tests)
 
+-- where no character stands first
 unclosed_found : (n m : ℕ) (k : TokenKind) (s : List ℕ) → unclosed n s ≡ Found k m → m ≡ n + 1
 unclosed_found n m k s h = grind (arith, nat_tests)
 
+-- in both cases
 quoted_found : (o : Option ℕ) (n m : ℕ) (k : TokenKind) (s : List ℕ)
     → quoted (record { char = o; size = n }) s ≡ Found k m → m ≡ n + 1
 quoted_found (Some c) n m k s h = closing_found c n m k s h
 quoted_found None n m k s h = unclosed_found n m k s h
 
+-- by how the bytes decode
 longer_quoted : (s x : List ℕ) (k : TokenKind) (n : ℕ) → quoted (decoded s) s ≡ Unfinished
     → quoted (decoded (s ++ x)) (s ++ x) ≡ Found k n → length s < n
 unfolding Grows
@@ -233,17 +257,20 @@ longer_quoted s x k n u h = let e =
     (λ g. omega (arith, e, g.1))
     (decoded_grows s x)
 
+-- with two bytes or more
 longer_long : (b c : ℕ) (s x : List ℕ) (k : TokenKind) (n : ℕ) (p : Bool) (l q r : Front)
     → (q ≡ Unfinished → r ≡ Found k n → suc (suc (length s)) < n) → cond p l q ≡ Unfinished → l ≢ Unfinished
     → cond p l r ≡ Found k n → suc (suc (length s)) < n
 longer_long b c s x k n true l q r g u f h = absurd (f u)
 longer_long b c s x k n false l q r g u f h = g u h
 
+-- with one byte
 longer_one : (n : ℕ) (k : TokenKind) (b : Bool) (ch : ℕ) (q : Front) → (q ≡ Found k n → 1 < n)
     → cond b (Found (Literal ch) 2) q ≡ Found k n → 1 < n
 longer_one n k true ch q g h = grind arith
 longer_one n k false ch q g h = g h
 
+-- with none
 positive : (n : ℕ) (k : TokenKind) (b : Bool) (ch : ℕ) (q : Front) → (q ≡ Found k n → 0 < n)
     → cond b (Found (Literal ch) 2) q ≡ Found k n → 0 < n
 positive n k true ch q g h = grind arith
@@ -273,14 +300,17 @@ literal_empty = refl
 closing_fits : (c n m : ℕ) (k : TokenKind) (s : List ℕ) → closing c n s ≡ Found k m → m ≤ length s
 closing_fits c n m k s h = grind (arith, nat_tests)
 
+-- where no character stands first
 unclosed_fits : (n m : ℕ) (k : TokenKind) (s : List ℕ) → unclosed n s ≡ Found k m → m ≤ length s
 unclosed_fits n m k s h = grind (arith, nat_tests)
 
+-- in both cases
 quoted_fits : (o : Option ℕ) (n m : ℕ) (k : TokenKind) (s : List ℕ)
     → quoted (record { char = o; size = n }) s ≡ Found k m → m ≤ length s
 quoted_fits (Some c) n m k s h = closing_fits c n m k s h
 quoted_fits None n m k s h = unclosed_fits n m k s h
 
+-- a quoted lone byte has an apostrophe behind it
 lone_long : (s : List ℕ) → is_lone s ≡ true → 2 ≤ length s
 lone_long [] h = absurd (true≢false (sym h))
 lone_long (b ∷ []) h = absurd (true≢false (sym h))
@@ -315,12 +345,14 @@ no_second b = go (b == 0xE0) (b == 0xED) (b == 0xF0) (b == 0xF4)
     go false false false true = refl
     go false false false false = refl
 
+-- a byte that no other follows begins no character
 no_char : (p q r : Bool) (a z : Decoded) → r ≡ false → (cond p (bad 1) (cond q (bad 1) (cond r a (bad 1)))).char ≡ None
 no_char true q r a z h = refl
 no_char false true r a z h = refl
 no_char false false true a z h = absurd (true≢false h)
 no_char false false false a z h = refl
 
+-- a quoted lone byte is no UTF-8
 lone_decodes : (s : List ℕ) → is_lone s ≡ true → (decoded s).char ≡ None
 lone_decodes [] h = absurd (true≢false (sym h))
 lone_decodes (b ∷ []) h = absurd (true≢false (sym h))
@@ -331,6 +363,7 @@ lone_decodes (b ∷ d ∷ s) h =
     rw (not_zero n (omega arith), not_below n 2 (omega arith), high)
     (no_char (nat_lt b 0xC2) (nat_lt 0xF4 b) (second b d) _ (bad 1) (ap (second b) close ∙ no_second b))
 
+-- an apostrophe behind the character closes it
 closing_spelled : (c : ℕ) (e rest : List ℕ) → c ≢ 10
     → closing c (length e) (e ++ 39 ∷ rest) ≡ Found (Literal c) (length e + 1)
 closing_spelled c e rest h = rw (ne_eqb c 10 h, longer_than e rest, get_or-append_seam e 39 rest 0) refl
@@ -362,6 +395,7 @@ at_most : (k : ℕ) (p : Bool) (y z : Decoded) → y.size ≤ k → z.size ≤ k
 at_most k true y z g h = g
 at_most k false y z g h = h
 
+-- no LF stands second in a character
 no_second_lf : (b : ℕ) → second b 10 ≡ false
 no_second_lf b = go (b == 0xE0) (b == 0xED) (b == 0xF0) (b == 0xF4)
   where
@@ -372,6 +406,7 @@ no_second_lf b = go (b == 0xE0) (b == 0xED) (b == 0xF0) (b == 0xF4)
     go false false false true = refl
     go false false false false = refl
 
+-- nor does any character go past one
 size_before_lf : (l : List ℕ) → 0 < length l → (decoded (l ++ 10 ∷ [])).size ≤ length l
 size_before_lf [] h = absurd (omega (arith, h))
 size_before_lf (b ∷ []) h =
@@ -411,6 +446,7 @@ lf_closes (b ∷ l) u =
 closing_ends : (c n m : ℕ) (k : TokenKind) (s : List ℕ) → closing c n s ≡ Found k m → get_or s (m - 1) 0 ≡ 39
 closing_ends c n m k s h = grind (arith, nat_tests)
 
+-- in both cases
 quoted_ends : (o : Option ℕ) (n m : ℕ) (k : TokenKind) (s : List ℕ)
     → quoted (record { char = o; size = n }) s ≡ Found k m → get_or s (m - 1) 0 ≡ 39
 quoted_ends (Some c) n m k s h = closing_ends c n m k s h
@@ -420,6 +456,7 @@ quoted_ends None n m k s h = never (length s == n) h
     never true h = cc
     never false h = cc
 
+-- a quoted lone byte ends so
 lone_ends : (s : List ℕ) → is_lone s ≡ true → get_or s 1 0 ≡ 39
 lone_ends [] h = absurd (true≢false (sym h))
 lone_ends (b ∷ []) h = absurd (true≢false (sym h))

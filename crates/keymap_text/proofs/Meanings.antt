@@ -29,13 +29,16 @@ idem : (w : List ℕ) → map to_ascii_lowercase (map to_ascii_lowercase w) ≡ 
 idem [] = refl
 idem (c ∷ w) = ap₂ (λ (x : ℕ) (xs : List ℕ). x ∷ xs) (lowercase-lowercase c) (idem w)
 
+-- a digit has no case
 digit_lower : (c : ℕ) → digit_value (to_ascii_lowercase c) ≡ digit_value c
 digit_lower c = grind (arith, nat_tests)
 
+-- nor have digits
 all_lower : (base : ℕ) (w : List ℕ) → list_all (is_digit base) (map to_ascii_lowercase w) ≡ list_all (is_digit base) w
 all_lower base [] = refl
 all_lower base (c ∷ w) = ap₂ (λ d b. nat_lt d base && b) (digit_lower c) (all_lower base w)
 
+-- nor has a number
 number_lower : (base n : ℕ) (w : List ℕ)
     → fold (λ n c. n * base + digit_value c) n (map to_ascii_lowercase w) ≡ fold (λ n c. n * base + digit_value c) n w
 number_lower base n [] = refl
@@ -43,10 +46,12 @@ number_lower base n (c ∷ w) =
     number_lower base (n * base + digit_value (to_ascii_lowercase c)) w
     ∙ ap (λ d. fold (λ n c. n * base + digit_value c) (n * base + d) w) (digit_lower c)
 
+-- nor has what digits spell
 digits_lower : (base : ℕ) (w : List ℕ) → digits_of base (map to_ascii_lowercase w) ≡ digits_of base w
 unfolding digits_of
 digits_lower base w = rw (length-map, all_lower base w, number_lower base 0 w) refl
 
+-- nor has the number after a prefix
 after_lower : (prefix : List ℕ) (base : ℕ) (w : List ℕ)
     → number_after prefix base (map to_ascii_lowercase w) ≡ number_after prefix base w
 after_lower prefix base w =
@@ -56,12 +61,14 @@ after_lower prefix base w =
     (ap (map to_ascii_lowercase) (take-map to_ascii_lowercase n w) ∙ idem (take n w)))
     (ap (digits_of base) (drop-map to_ascii_lowercase n w) ∙ digits_lower base (drop n w))
 
+-- nor has a name
 named_lower : (t : List (List ℕ × Meaning)) (w : List ℕ) → named t (map to_ascii_lowercase w) ≡ named t w
 unfolding named
 named_lower [] w = refl
 named_lower (e ∷ t) w =
     ap₂ (λ l o. cond (bytes_eq (map to_ascii_lowercase e.0) l) (Some e.1) o) (idem w) (named_lower t w)
 
+-- the first of the meanings that a word may have
 pick : Option ℕ → Option ℕ → Option Meaning → Named → Meaning
 pick a b c d =
     elim a [
@@ -69,11 +76,13 @@ pick a b c d =
       | None ↦ elim b [ Some n ↦ Number n | None ↦ elim c [ Some m ↦ m | None ↦ of_action d ] ]
     ]
 
+-- which is the meaning of a word
 meaning_picks : (w : List ℕ) → meaning w ≡ pick (digits_of 10 w) (number_after (codes "0x") 16 w) (named table w)
     (named_of w)
 unfolding meaning pick
 meaning_picks w = refl
 
+-- by equal parts
 same_pick : (a a' b b' : Option ℕ) (c c' : Option Meaning) (d d' : Named) → a ≡ a' → b ≡ b' → c ≡ c' → d ≡ d'
     → pick a b c d ≡ pick a' b' c' d'
 same_pick a a' b b' c c' d d' e f g h = cc
@@ -90,22 +99,27 @@ unfolding pick
 decimal_meaning w n h =
     ap (λ o. pick o (number_after (codes "0x") 16 w) (named table w) (named_of w)) h ∙ sym (meaning_picks w)
 
+-- no digits, whatever the other test says
 none_of : (b : Bool) (x : Option ℕ) → cond (b && false) x None ≡ None
 none_of true x = refl
 none_of false x = refl
 
+-- a word with 0x is no decimal number
 not_decimal : (b : ℕ) (w : List ℕ) → nat_lt (digit_value b) 10 ≡ false → digits_of 10 (48 ∷ b ∷ w) ≡ None
 unfolding digits_of
 not_decimal b w h = rw (h, digits_of) (none_of _ _)
 
+-- two bytes are enough for a prefix
 some_length : (n : ℕ) → nat_le 2 (suc (suc n)) ≡ true
 some_length n = grind (arith, nat_tests)
 
+-- the digits behind 0x
 behind_prefix : (b : ℕ) (w : List ℕ) → to_ascii_lowercase b ≡ 120
     → number_after (codes "0x") 16 (48 ∷ b ∷ w) ≡ digits_of 16 w
 behind_prefix b w l =
     ap₂ (λ m c. cond (m && bytes_eq (codes "0x") (48 ∷ c ∷ [])) (digits_of 16 w) None) (some_length (length w)) l
 
+-- they spell the number
 hexadecimal : (b n : ℕ) (w : List ℕ) → nat_lt (digit_value b) 10 ≡ false → to_ascii_lowercase b ≡ 120
     → Some n ≡ digits_of 16 w → Number n ≡ meaning (48 ∷ b ∷ w)
 unfolding pick
@@ -146,16 +160,19 @@ name_meanings : map (λ r. sense_meaning r.1) NAMES ≡ map (λ r. meaning (unpa
 unfolding meaning digits_of named
 name_meanings = refl
 
+-- each function key's key means it, by computation
 functions : map (λ n. Act (a.Function n)) (range_with_len 1 96)
     ≡ map (λ n. meaning (unpacked 8 (function_name n))) (range_with_len 1 96)
 unfolding meaning digits_of named
 functions = refl
 
+-- each screen's key means it, by computation
 screens : map (λ n. Act (a.Screen n)) (range_with_len 1 16)
     ≡ map (λ n. meaning (unpacked 8 (screen_name n))) (range_with_len 1 16)
 unfolding meaning digits_of named
 screens = refl
 
+-- two readings of the table agree at each row
 at_name : {X : Type 0} (f g : Name → X) → map f NAMES ≡ map g NAMES → (k : ℕ) (d : Name) → k < length NAMES
     → f (get_or NAMES k d) ≡ g (get_or NAMES k d)
 at_name f g h k d l =
@@ -194,12 +211,14 @@ some_means None key n w h s l e = tt
 sense_entry : Name → List ℕ × Meaning
 sense_entry name = (letters name.0, sense_meaning name.1)
 
+-- rows as the code has them, and as the definitions do
 look_named : (names : List Name) (w : List ℕ) → look names w ≡ named (map sense_entry names) w
 unfolding look named sense_entry
 look_named [] w = refl
 look_named (name ∷ names) w =
     ap (λ o. cond (same_name (letters name.0) w) (Some (sense_meaning name.1)) o) (look_named names w)
 
+-- the first forty rows, by computation
 first_names : map sense_entry (take 40 NAMES) ≡ table
 unfolding sense_entry leading
 first_names = refl

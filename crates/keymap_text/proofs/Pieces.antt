@@ -18,6 +18,7 @@ pieces_on f n =
     ap (λ k. flat_map f (range_with_len 0 k)) (add-one n) ∙ pieces_more f 0 n
     ∙ ap (λ k. flat_map f (range_with_len 0 n) ++ f k) (omega arith)
 
+-- the text of more numbers begins with that of fewer
 pieces_after : (f : ℕ → List ℕ) (n k : ℕ)
     → (rest : List ℕ) × (flat_map f (range_with_len 0 (n + k)) ≡ flat_map f (range_with_len 0 n) ++ rest)
 pieces_after f n zero = ([], ap (λ k. flat_map f (range_with_len 0 k)) (omega arith) ∙ sym (append-nil _))

@@ -28,10 +28,12 @@ data Continues : Tokens → Tokens → Type 0 where
   open_word : {t : Token} {q : ℕ} {us : Tokens} → is_settled t ≡ false → Continues (Then t (Ends q)) us
   same : {t u : Token} {ts us : Tokens} → IsSameToken t u → Continues ts us → Continues (Then t ts) (Then u us)
 
+-- by equal tokens
 move : {ts ts' us us' : Tokens} → ts ≡ ts' → us ≡ us' → Continues ts' us' → Continues ts us
 move {ts = ts} {ts' = ts'} {us = us} {us' = us'} e f h =
     subst (λ ts. Continues ts us) (sym e) (subst (λ us. Continues ts' us) (sym f) h)
 
+-- the tokens of b go on as those of b and x
 Keeps : List ℕ → List ℕ → Type 0
 Keeps b x = (k q : ℕ) → Continues (split k q b) (split k q (b ++ x))
 
@@ -40,6 +42,7 @@ ends_there : (n q : ℕ) (b : List ℕ) → n ≡ length b → split n q b ≡ E
 ends_there n q b e =
     split_after n q b (le_of_eq e) ∙ ap (split 0 (q + n)) (drop_all n b (le_of_eq (sym e))) ∙ split_none (q + n)
 
+-- behind a comment
 comment_keeps : (b x : List ℕ) → Keeps b x → (q : ℕ)
     → Continues (split (leading stays_on_line b) q b) (split (leading stays_on_line (b ++ x)) q (b ++ x))
 unfolding Keeps
@@ -48,6 +51,7 @@ comment_keeps b x k q = ⊎_elim
     (λ l. move refl (ap (λ n. split n q (b ++ x)) (leading_short stays_on_line b x l)) (k _ q))
     (eq-or-lt_of_le (leading_le stays_on_line b))
 
+-- behind a token
 found_keeps : (b x : List ℕ) → Keeps b x → (q c n : ℕ) (kind : TokenKind) → front c b ≡ Found kind n
     → front c (b ++ x) ≡ Found kind n → n ≤ length b → Continues (split 0 q (c ∷ b)) (split 0 q (c ∷ (b ++ x)))
 unfolding Keeps
@@ -55,10 +59,12 @@ found_keeps b x k q c n kind e e' l =
     move (split_found q c n kind b e) (split_found q c n kind (b ++ x) e')
     (same (refl, ap (λ t. c ∷ t) (sym (take-append-le n b x l)), refl) (k n (q + 1)))
 
+-- at a fault
 refused_keeps : (b x : List ℕ) (q c : ℕ) (g : TextFaultKind) → front c b ≡ Refused g → front c (b ++ x) ≡ Refused g
     → Continues (split 0 q (c ∷ b)) (split 0 q (c ∷ (b ++ x)))
 refused_keeps b x q c g e e' = move (split_refused q c g b e) (split_refused q c g (b ++ x) e') stopped
 
+-- at an apostrophe
 quote_keeps : (b x : List ℕ) → Keeps b x → (q : ℕ) → Continues (split 0 q (39 ∷ b)) (split 0 q (39 ∷ (b ++ x)))
 quote_keeps b x k q = go (literal b) refl
   where
@@ -74,6 +80,7 @@ quote_keeps b x k q = go (literal b) refl
         refused_keeps b x q 39 g (front_quote b ∙ e) (front_quote (b ++ x) ∙ apart (Refused g) e (λ u. cc))
     go Unfinished e = move (split_unfinished q 39 b (front_quote b ∙ e)) refl unfinished
 
+-- at a word
 word_keeps : (b x : List ℕ) → Keeps b x → (q c : ℕ) → is_word c ≡ true
     → Continues (split 0 q (c ∷ b)) (split 0 q (c ∷ (b ++ x)))
 word_keeps b x k q c w = go (nat_lt (leading is_word b) 32) refl
@@ -111,6 +118,7 @@ word_keeps b x k q c w = go (nat_lt (leading is_word b) 32) refl
         refused_keeps b x q c BadWord (front_word c b w ∙ is_long _ e)
         (front_word c (b ++ x) w ∙ is_long _ (long_too _ _ e (leading_grows is_word b x)))
 
+-- by the first byte
 keeps : (b x : List ℕ) → Keeps b x
 unfolding Keeps
 keeps [] x = λ k q. move (split_nil k q) refl at_end
@@ -160,6 +168,7 @@ pub tokens_stay : (text more : List ℕ) (i : ℕ) (d : Token) → i < length (t
 unfolding Keeps
 tokens_stay text more i d l h = tokens_on (keeps text more 0 0) i d l h
 
+-- what stands behind all tokens
 endings_on : {ts us : Tokens} → Continues ts us → (f : TextFaultKind) (q : ℕ) → behind ts ≡ Err (f, q)
     → is_end_inside f ≡ false → behind us ≡ Err (f, q)
 unfolding behind

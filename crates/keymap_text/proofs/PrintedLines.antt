@@ -28,6 +28,7 @@ use Rattle.keymap_text.specs.Meaning.{behind}
 use Rattle.keymap_text.proofs.Lexed.{Lexes, NoWord, Any, lexes_none, lexes_both, lexes_blank, lexes_word, lexes_left}
 use Rattle.keymap_text.proofs.Lexed.{lexes_right}
 
+-- a blank in front changes nothing
 lexes_behind_blank : {P : List ℕ → Type 0} {t : List ℕ} {is : List Item} → Lexes P t is → Lexes P (32 ∷ t) is
 lexes_behind_blank {t = t} {is = is} a = record {
   items = λ q y h. ap items_of (split_blank q 32 (t ++ y) refl) ∙ a.items (q + 1) y h
@@ -36,14 +37,17 @@ lexes_behind_blank {t = t} {is = is} a = record {
       ∙ ap (λ n. behind (split 0 n y)) (omega arith);
 }
 
+-- blanks begin with no letter or digit
 pad_first : (n : ℕ) (y : List ℕ) → leading is_word y ≡ 0 → leading is_word (replicate n 32 ++ y) ≡ 0
 pad_first zero y h = h
 pad_first (suc n) y h = leading_fail is_word 32 (replicate n 32 ++ y) refl
 
+-- blanks are no token
 lexes_pad : (n : ℕ) → Lexes NoWord (replicate n 32) []
 lexes_pad zero = lexes_none NoWord
 lexes_pad (suc n) = lexes_behind_blank (lexes_pad n)
 
+-- a column is its token
 lexes_column : {t : List ℕ} {i : Item} → Lexes NoWord t (i ∷ []) → Lexes NoWord (column t) (i ∷ [])
 lexes_column {t = t} h = lexes_behind_blank (lexes_both h (lexes_pad (6 - length t)) (pad_first (6 - length t)))
 
@@ -66,16 +70,19 @@ abbrev pub EachPair : List (ℕ × ℕ) → Type 0
 EachPair [] = Unit {0}
 EachPair (p ∷ ps) = (p.0 ≢ 0) × PrintsCharacter p.0 × PrintsCharacter p.1 × EachPair ps
 
+-- columns begin with no letter or digit
 columns_first : (cs : List Cell) (u y : List ℕ)
     → leading is_word ((flat_map (λ c. column (cell_text c)) cs ++ 32 ∷ u) ++ y) ≡ 0
 columns_first [] u y = leading_fail is_word 32 (u ++ y) refl
 columns_first (c ∷ cs) u y = leading_fail is_word 32 _ refl
 
+-- so do columns with another text behind them
 more_columns : (cs : List Cell) (y : List ℕ) → leading is_word y ≡ 0
     → leading is_word (flat_map (λ c. column (cell_text c)) cs ++ y) ≡ 0
 more_columns [] y h = h
 more_columns (c ∷ cs) y h = leading_fail is_word 32 _ refl
 
+-- the columns of cells are their tokens
 columns : (cs : List Cell) → EachCell cs
     → (ts : List Item) × Lexes NoWord (flat_map (λ c. column (cell_text c)) cs) ts × AreCells ts cs
 columns [] h = ([], lexes_none NoWord, no_cells)
@@ -87,23 +94,28 @@ meaning_digits : (w : List ℕ) (n : ℕ) → digits_of 10 w ≡ Some n → mean
 unfolding meaning
 meaning_digits w n h = rw (h, meaning) refl
 
+-- a decimal digit has its value
 decimal : (d : ℕ) → d < 10 → digit_value (48 + d) ≡ d
 decimal d h = grind (arith, nat_tests)
 
+-- and is a letter or digit
 decimal_word : (d : ℕ) → d < 10 → is_word (48 + d) ≡ true
 decimal_word d h = grind (arith, nat_tests)
 
+-- and passes the test of digits
 decimal_digit : (d : ℕ) → d < 10 → is_digit 10 (48 + d) ≡ true
 decimal_digit d h = rw (decimal d h) (below d h)
   where
     below : (d : ℕ) → d < 10 → nat_lt d 10 ≡ true
     below d h = grind (arith, nat_tests)
 
+-- three digits are one word
 three_word : (a b c : ℕ) → is_word a ≡ true → is_word b ≡ true → is_word c ≡ true → leading is_word (a ∷ b ∷ c ∷ []) ≡ 3
 three_word a b c h k l =
     leading_pass is_word a _ h ∙ ap (λ n. n + 1) (leading_pass is_word b _ k
     ∙ ap (λ n. n + 1) (leading_pass is_word c [] l ∙ ap (λ n. n + 1) (leading_none is_word)))
 
+-- and spell their number
 three_number : (a b c : ℕ) → a < 10 → b < 10 → c < 10
     → digits_of 10 ((48 + a) ∷ (48 + b) ∷ (48 + c) ∷ []) ≡ Some (100 * a + 10 * b + c)
 three_number a b c h k l =
@@ -116,6 +128,7 @@ three_number a b c h k l =
     value : (x y z : ℕ) → x ≡ a → y ≡ b → z ≡ c → ((0 * 10 + x) * 10 + y) * 10 + z ≡ 100 * a + 10 * b + c
     value x y z e f g = omega arith
 
+-- a printed slot is its number
 lexes_slot : (s : ℕ) → s < 256 → Lexes NoWord (slot_text s) (Value (Number s) ∷ [])
 lexes_slot s h =
     let a : s / 100 < 10 = omega arith in
@@ -127,6 +140,7 @@ lexes_slot s h =
     (lexes_word (slot_text s) (omega arith) (omega arith)
     (three_word _ _ _ (decimal_word _ a) (decimal_word _ b) (decimal_word _ c)))
 
+-- a printed lock letter is that letter
 lexes_letter : (f : LockFlag) → Lexes NoWord (flag_letter f ∷ []) (Value (Letter f) ∷ [])
 unfolding meaning digits_of named leading
 lexes_letter flags.O = lexes_word (79 ∷ []) (omega arith) (omega arith) refl
@@ -155,6 +169,7 @@ unfolding pair_text
 pairs_first [] y h = h
 pairs_first (p ∷ ps) y h = leading_fail is_word 32 _ refl
 
+-- a printed pair is four tokens
 lexes_pair : (p : (ℕ × ℕ)) (b : PrintsCharacter p.0) (r : PrintsCharacter p.1)
     → Lexes NoWord (pair_text p) (Open ∷ b.token ∷ r.token ∷ Close ∷ [])
 unfolding pair_text
@@ -164,6 +179,7 @@ lexes_pair p b r =
     (λ y k. leading_fail is_word 32 _ refl))) (λ y k. leading_fail is_word 32 _ refl)))
     (λ y k. leading_fail is_word 32 _ refl))
 
+-- printed pairs are pairs
 pairs_printed : (ps : List (ℕ × ℕ)) → EachPair ps
     → (ts : List Item) × Lexes NoWord (flat_map pair_text ps) ts × ArePairs ts ps
 pairs_printed [] h = ([], lexes_none NoWord, no_pairs)
@@ -174,6 +190,7 @@ pairs_printed (p ∷ ps) (z, b, r, h) = let m =
       one_pair b.reads z r.reads m.2,
     )
 
+-- the end of an accent's line begins with no letter or digit
 pairs_end : (ps : List (ℕ × ℕ)) (y : List ℕ) → leading is_word ((flat_map pair_text ps ++ 10 ∷ []) ++ y) ≡ 0
 unfolding pair_text
 pairs_end [] y = leading_fail is_word 10 y refl

@@ -18,36 +18,43 @@ screen_words : map (λ k. is_one_word (name_of (a.Screen k))) (range_with_len 1 
 unfolding leading
 screen_words = refl
 
+-- the screens, by computation
 screen_meanings : map (λ k. meaning (name_of (a.Screen k))) (range_with_len 1 16)
     ≡ map (λ k. Act (a.Screen k)) (range_with_len 1 16)
 unfolding meaning digits_of named
 screen_meanings = refl
 
+-- the function keys' names are words, by computation
 function_words : map (λ k. is_one_word (name_of (a.Function k))) (range_with_len 1 96)
     ≡ map (λ k. true) (range_with_len 1 96)
 unfolding leading
 function_words = refl
 
+-- the function keys up to 48, by computation
 low_function_meanings : map (λ k. meaning (name_of (a.Function k))) (range_with_len 1 48)
     ≡ map (λ k. Act (a.Function k)) (range_with_len 1 48)
 unfolding meaning digits_of named
 low_function_meanings = refl
 
+-- and those above
 high_function_meanings : map (λ k. meaning (name_of (a.Function k))) (range_with_len 49 48)
     ≡ map (λ k. Act (a.Function k)) (range_with_len 49 48)
 unfolding meaning digits_of named
 high_function_meanings = refl
 
+-- the dead keys' names are words, by computation
 dead_key_words : map (λ k. is_one_word (name_of (a.DeadKey k))) (range_with_len 0 15)
     ≡ map (λ k. true) (range_with_len 0 15)
 unfolding leading
 dead_key_words = refl
 
+-- and mean them, by computation
 dead_key_meanings : map (λ k. meaning (name_of (a.DeadKey k))) (range_with_len 0 15)
     ≡ map (λ k. Act (a.DeadKey k)) (range_with_len 0 15)
 unfolding meaning digits_of named
 dead_key_meanings = refl
 
+-- a number up to 48 or above
 low_or_high : (k : ℕ) → (k ≤ 48) ⊎ (48 < k)
 low_or_high k = go (nat_le k 48) refl
   where
@@ -61,6 +68,7 @@ low_or_high k = go (nat_le k 48) refl
     go true t = inl (is_le t)
     go false t = inr (not_le t)
 
+-- each function key
 function_meaning : (k : ℕ) → 1 ≤ k → k ≤ 96 → meaning (name_of (a.Function k)) ≡ Act (a.Function k)
 function_meaning k low high = elim (low_or_high k) [
   | inl h ↦ along (λ k. meaning (name_of (a.Function k))) (λ k. Act (a.Function k)) 1 48 low_function_meanings k low

@@ -78,6 +78,7 @@ cell_of_character (Value OutOfRange) c h = absurd (cc)
 cell_of_character (Value (Letter f)) c h = absurd (cc)
 cell_of_character (Value Unknown) c h = absurd (cc)
 
+-- a cell is printed as one token
 prints_cell : (c : Cell) → IsCell c → PrintsCell c
 prints_cell (cells.Char c) h = let p =
     prints_character c h in record { token = p.token; lexes = p.lexes; reads = cell_of_character p.token c p.reads }
@@ -88,11 +89,13 @@ prints_cell (cells.Act a) h =
       reads = refl;
     }
 
+-- so is each cell
 prints_cells : (cs : List Cell) → All IsCell cs → EachCell cs
 prints_cells [] h = tt
 prints_cells (c ∷ cs) h =
     (prints_cell c (h 0 c (omega arith)), prints_cells cs (λ k d l. h (suc k) d (omega (arith, l))))
 
+-- so are the characters of pairs
 prints_pairs : (ps : List (ℕ × ℕ)) → All IsPair ps → EachPair ps
 prints_pairs [] h = tt
 prints_pairs (p ∷ ps) h = let one =
@@ -103,6 +106,7 @@ prints_pairs (p ∷ ps) h = let one =
       prints_pairs ps (λ k d l. h (suc k) d (omega (arith, l))),
     )
 
+-- so is the name of an accent
 prints_name : (i : ℕ) → i < 15 → PrintsName i
 prints_name i h =
     record {
@@ -112,6 +116,7 @@ prints_name i h =
       reads = refl;
     }
 
+-- two rows are one
 row_append : {ts us : List Item} {ds es : List Definition} → IsRow ts ds → IsRow us es → IsRow (ts ++ us) (ds ++ es)
 row_append no_definition s = s
 row_append {us = vs} {es = es} (one_definition {ts = ts} {us = us} {d = d} {ds = ds} k r) s =
@@ -165,6 +170,7 @@ last_not says def a (suc n) e =
     ∙ ap₂ option_or (last_not says def (a + 1) n (λ s l h. e s (omega (arith, l)) (omega (arith, h))))
     (e a (omega arith) (omega arith))
 
+-- what the last says in two rows
 last_append : {A : Type 0} (says : Definition → Option A) (ds es : List Definition)
     → last says (ds ++ es) ≡ option_or (last says es) (last says ds)
 last_append {A = A} says [] es = sym (ap (λ o. option_or (last says es) o) (last_none says) ∙ or_none (last says es))
@@ -180,18 +186,21 @@ last_append {A = A} says (d ∷ ds) es =
     or_assoc None p q = refl
     or_assoc (Some x) p q = refl
 
+-- the greatest in two rows
 greatest_append : (f : Definition → ℕ) (ds es : List Definition)
     → greatest f (ds ++ es) ≡ max (greatest f ds) (greatest f es)
 greatest_append f [] es = rw greatest_none (omega arith)
 greatest_append f (d ∷ ds) es =
     greatest_more f d (ds ++ es) ∙ omega (arith, greatest_append f ds es, greatest_more f d ds)
 
+-- definitions of the other kind
 greatest_zero : (f : Definition → ℕ) (def : ℕ → Definition) (a n : ℕ) → ((s : ℕ) → f (def s) ≡ 0)
     → greatest f (map def (range_with_len a n)) ≡ 0
 greatest_zero f def a zero e = greatest_none f
 greatest_zero f def a (suc n) e =
     greatest_more f (def a) (map def (range_with_len (a + 1) n)) ∙ omega (arith, e a, greatest_zero f def (a + 1) n e)
 
+-- definitions of all numbers from one on
 greatest_of : (f : Definition → ℕ) (def : ℕ → Definition) (a n : ℕ) → ((s : ℕ) → f (def s) ≡ s + 1)
     → greatest f (map def (range_with_len a (suc n))) ≡ a + suc n
 greatest_of f def a zero e = greatest_more f (def a) [] ∙ omega (arith, e a, greatest_none f)
@@ -199,6 +208,7 @@ greatest_of f def a (suc n) e =
     greatest_more f (def a) (map def (range_with_len (a + 1) (suc n)))
     ∙ omega (arith, e a, greatest_of f def (a + 1) n e)
 
+-- definitions of all numbers below one
 greatest_to : (f : Definition → ℕ) (def : ℕ → Definition) (n : ℕ) → ((s : ℕ) → f (def s) ≡ s + 1)
     → greatest f (map def (range_with_len 0 n)) ≡ n
 greatest_to f def zero e = greatest_none f

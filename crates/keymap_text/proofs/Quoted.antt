@@ -67,6 +67,7 @@ record Closes (c n : ℕ) (s : List ℕ) (k : TokenKind) (m : ℕ) : Type 0 wher
   kind : k ≡ Literal c
   size : m ≡ n + 1
 
+-- a found character is closed
 closing_closes : (c n m : ℕ) (k : TokenKind) (s : List ℕ) → closing c n s ≡ Found k m → Closes c n s k m
 closing_closes c n m k s h = record {
   other = grind (arith, nat_tests);
@@ -76,6 +77,7 @@ closing_closes c n m k s h = record {
   size = grind (arith, nat_tests);
 }
 
+-- nothing is found where no character stands first
 unclosed_finds : (n m : ℕ) (k : TokenKind) (s : List ℕ) → unclosed n s ≡ Found k m → ⊥
 unclosed_finds n m k s h = never (length s == n) h
   where
@@ -83,6 +85,7 @@ unclosed_finds n m k s h = never (length s == n) h
     never true h = cc
     never false h = cc
 
+-- by how the bytes decode
 decoded_finds : (s : List ℕ) (o : Option ℕ) (k : TokenKind) (m : ℕ) → (decoded s).char ≡ o
     → quoted (record { char = o; size = (decoded s).size }) s ≡ Found k m → Finds s k m
 decoded_finds s None k m e h = absurd (unclosed_finds (decoded s).size m k s h)
@@ -100,6 +103,7 @@ decoded_finds s (Some c) k m e h =
           ∙ ap (λ b. b ∷ drop (n + 1) s) q.close ∙ ap (λ i. 39 ∷ drop i s) (sym q.size));
     }
 
+-- by both cases
 literal_finds : (s : List ℕ) (k : TokenKind) (n : ℕ) → literal s ≡ Found k n → Finds s k n
 unfolding literal
 literal_finds s k n h = go (is_lone s) refl h
@@ -132,6 +136,7 @@ not_lf t c e l h =
     let one : length (encode_utf8 10) ≡ 1 = refl in
     omega (arith, p.width, ap (λ c. length (encode_utf8 c)) h, one)
 
+-- bytes that decode as one character are that character
 long_character : (t : List ℕ) (c : ℕ) → decoded t ≡ good c (length t) → 1 < length t → IsCharacter c t
 long_character t c e l =
     let char = ap (λ (d : Decoded). d.char) e in
@@ -164,6 +169,7 @@ two_begin b c low high ok = go (nat_lt b 0xF0) refl
         (long_character (b ∷ c ∷ 0x80 ∷ 0x80 ∷ []) (code_of_4 b c 0x80 0x80)
         (value-12 4 b c 0x80 0x80 (omega arith, grind (arith, nat_tests), high, ok, refl, refl)) (omega arith))
 
+-- three bytes
 three_begin : (b c d : ℕ) → 0xF0 ≤ b → b ≤ 0xF4 → second b c ≡ true → continues d ≡ true
     → IsUnfinished (39 ∷ b ∷ c ∷ d ∷ [])
 three_begin b c d low high ok more =
@@ -175,15 +181,18 @@ three_begin b c d low high ok more =
 Opens : List ℕ → Type 0
 Opens s = (decoded s).size ≡ length s → (decoded s).char ≡ None → IsUnfinished (39 ∷ s)
 
+-- one byte from 0x80 on
 high_begins : (s : List ℕ) → length s ≡ 1 → 0x80 ≤ slice_index s 0 → IsUnfinished (39 ∷ s)
 high_begins [] l h = absurd (omega (arith, l))
 high_begins (b ∷ []) l h = needs (b ∷ []) [] b (inr (h, refl))
 high_begins (b ∷ c ∷ s) l h = absurd (omega (arith, l))
 
+-- no byte
 nothing_begins : (s : List ℕ) → length s ≡ 0 → IsUnfinished (39 ∷ s)
 nothing_begins [] l = needs [] (0x80 ∷ []) 0x80 (inr (omega arith, refl))
 nothing_begins (b ∷ s) l = absurd (omega (arith, l))
 
+-- two bytes of a list
 two_of : (s : List ℕ) → length s ≡ 2 → 0xE0 ≤ slice_index s 0 → slice_index s 0 ≤ 0xF4
     → second (slice_index s 0) (slice_index s 1) ≡ true → IsUnfinished (39 ∷ s)
 two_of [] l = absurd (omega (arith, l))
@@ -191,6 +200,7 @@ two_of (b ∷ []) l = absurd (omega (arith, l))
 two_of (b ∷ c ∷ []) l = two_begin b c
 two_of (b ∷ c ∷ d ∷ s) l = absurd (omega (arith, l))
 
+-- three bytes of a list
 three_of : (s : List ℕ) → length s ≡ 3 → 0xF0 ≤ slice_index s 0 → slice_index s 0 ≤ 0xF4
     → second (slice_index s 0) (slice_index s 1) ≡ true → continues (slice_index s 2) ≡ true → IsUnfinished (39 ∷ s)
 three_of [] l = absurd (omega (arith, l))
@@ -199,6 +209,7 @@ three_of (b ∷ c ∷ []) l = absurd (omega (arith, l))
 three_of (b ∷ c ∷ d ∷ []) l = three_begin b c d
 three_of (b ∷ c ∷ d ∷ e ∷ s) l = absurd (omega (arith, l))
 
+-- by how the bytes decode
 none_begins : (s : List ℕ) → (decoded s).char ≡ None → (decoded s).size ≡ length s → IsUnfinished (39 ∷ s)
 none_begins s e l =
     let b = slice_index s 0 in let c = slice_index s 1 in let d = slice_index s 2 in
@@ -224,12 +235,15 @@ record Open (c n : ℕ) (s : List ℕ) : Type 0 where
   other : c ≢ 10
   all : length s ≤ n
 
+-- an unfinished character isn't closed
 closing_unfinished : (c n : ℕ) (s : List ℕ) → closing c n s ≡ Unfinished → Open c n s
 closing_unfinished c n s h = record { other = grind (arith, nat_tests); all = grind (arith, nat_tests) }
 
+-- all bytes may begin one
 unclosed_unfinished : (n : ℕ) (s : List ℕ) → unclosed n s ≡ Unfinished → n ≡ length s
 unclosed_unfinished n s h = grind (arith, nat_tests)
 
+-- in both cases
 quoted_unfinished : (s : List ℕ) (o : Option ℕ) → (decoded s).char ≡ o
     → quoted (record { char = o; size = (decoded s).size }) s ≡ Unfinished → IsUnfinished (39 ∷ s)
 quoted_unfinished s None e h = none_begins s e (unclosed_unfinished (decoded s).size s h)
@@ -247,6 +261,7 @@ literal_unfinished s h = go (is_lone s) h
     go true e = absurd (cc)
     go false e = quoted_unfinished s (decoded s).char refl e
 
+-- lists that are equal have equal tails
 tail_same : (a b : ℕ) (s t : List ℕ) → a ∷ s ≡ b ∷ t → s ≡ t
 tail_same a b s t e = cc
 
@@ -317,6 +332,7 @@ begins rest k n f = record {
   front = ap (λ l. 39 ∷ l) (f.bytes ∙ sym (append_assoc f.between (39 ∷ []) (drop n rest)));
 }
 
+-- a quoted character in front is found
 begun_found : (rest : List ℕ) → BeginsQuoted (39 ∷ rest) → (k : TokenKind) × (n : ℕ) × (literal rest ≡ Found k n)
 begun_found rest h =
     let b = h.quoted.between in
@@ -325,6 +341,7 @@ begun_found rest h =
     ∙ ap (λ l. 39 ∷ l) (append_assoc b (39 ∷ []) h.more)) in
     (Literal h.character, length b + 1, ap literal whole ∙ character_found h.character b h.more h.quoted.character)
 
+-- what is refused is neither found nor unfinished
 refused_not : (rest : List ℕ) (f : TextFaultKind) → literal rest ≡ Refused f
     → (BeginsQuoted (39 ∷ rest) → ⊥) × (IsUnfinished (39 ∷ rest) → ⊥)
 refused_not rest f e = (λ h. let g = (begun_found rest h).2 in cc, λ u. let g = unfinished_literal rest u in cc)

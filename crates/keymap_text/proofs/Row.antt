@@ -26,20 +26,25 @@ use Rattle.keymap_text.specs.Rows.{KeyDefinition, AccentDefinition, AreCells, no
 use Rattle.keymap_text.specs.Rows.{one_pair, Defines, of_key, of_accent, IsRow, no_definition, one_definition}
 use Rattle.keymap_text.proofs.Folded.{put, puts, puts_push}
 
+-- a fault is no answer
 err_ok : {A : Type 0} (e : TextFaultKind) (y : A) → ◌≡◌ {A = Result A TextFaultKind} (Err e) (Ok y) → ⊥
 err_ok e y h = cc
 
+-- an answer of two steps is one of the first
 bind_ok : {A B : Type 0} (r : Result A TextFaultKind) (f : A → Result B TextFaultKind) (y : B) → (r >>= f) ≡ Ok y
     → (x : A) × (r ≡ Ok x) × (f x ≡ Ok y)
 bind_ok (Ok x) f y h = (x, refl, h)
 bind_ok (Err e) f y h = absurd (err_ok e y h)
 
+-- equal answers
 ok_is : {A : Type 0} (x y : A) → ◌≡◌ {A = Result A TextFaultKind} (Ok x) (Ok y) → x ≡ y
 ok_is x y h = cc
 
+-- a test of numbers
 below : (n k : ℕ) → nat_lt n k ≡ true → n < k
 below n k h = grind (arith, nat_tests)
 
+-- numbers that differ
 differ : (a b : ℕ) → (a == b) ≡ false → a ≢ b
 differ a b h e = true≢false (sym (eq-eqb a b e) ∙ h)
 
@@ -49,11 +54,13 @@ cells_push : {ts : List Item} {cs : List Cell} (t : Item) (c : Cell) → AreCell
 cells_push t c no_cells h = one_cell h no_cells
 cells_push t c (one_cell k r) h = one_cell k (cells_push t c r h)
 
+-- one pair more
 pairs_push : {ts : List Item} {ps : List (ℕ × ℕ)} (t u : Item) (b r : ℕ) → ArePairs ts ps → character t ≡ Ok b → b ≢ 0
     → character u ≡ Ok r → ArePairs (ts ++ Open ∷ t ∷ u ∷ Close ∷ []) (ps ++ (b, r) ∷ [])
 pairs_push t u b r no_pairs h z k = one_pair h z k no_pairs
 pairs_push t u b r (one_pair f g e more) h z k = one_pair f g e (pairs_push t u b r more h z k)
 
+-- one definition more
 row_push : {ts us : List Item} {ds : List rows.Definition} {d : rows.Definition} → IsRow ts ds → Defines us d
     → IsRow (ts ++ us) (ds ++ d ∷ [])
 row_push {us = us} {d = d} no_definition h =
@@ -87,6 +94,7 @@ data Moves (part : List Item) (m : MapValue) (t : Item) (s : State) : Type 0 whe
   Done : (d : rows.Definition) → Defines (part ++ t ∷ []) d → s ≡ at (put m d) Definition → Moves part m t s
   Begins : (d : rows.Definition) → Defines part d → s.map ≡ put m d → Part (t ∷ []) s.place → Moves part m t s
 
+-- the first token of a definition
 begins : (t : Item) (p : Place) → first_of t ≡ Ok p → Part (t ∷ []) p
 begins Open p h = absurd (err_ok _ _ h)
 begins Close p h = absurd (err_ok _ _ h)
@@ -113,6 +121,7 @@ begins (Value OutOfRange) p h = absurd (err_ok _ _ h)
 begins (Value (Letter f)) p h = absurd (err_ok _ _ h)
 begins (Value Unknown) p h = absurd (err_ok _ _ h)
 
+-- a lock letter
 lock_is : (t : Item) (f : LockFlag) → lock t ≡ Ok f → t ≡ Value (Letter f)
 lock_is Open f h = absurd (err_ok _ _ h)
 lock_is Close f h = absurd (err_ok _ _ h)
@@ -124,19 +133,23 @@ lock_is (Value OutOfRange) f h = absurd (err_ok _ _ h)
 lock_is (Value (Letter g)) f h = ap (λ g. Value (Letter g)) (ok_is _ _ h)
 lock_is (Value Unknown) f h = absurd (err_ok _ _ h)
 
+-- the front of a list where the next element was set
 set_take_suc : {X : Type 0} (xs : List X) (i : ℕ) (x : X) → i < length xs
     → take (suc i) (set xs i x) ≡ take i xs ++ x ∷ []
 set_take_suc [] i x h = absurd (omega (arith, h))
 set_take_suc (y ∷ xs) zero x h = refl
 set_take_suc (y ∷ xs) (suc i) x h = ap (λ zs. y ∷ zs) (set_take_suc xs i x (omega (arith, h)))
 
+-- the same
 set_take : {X : Type 0} (xs : List X) (i : ℕ) (x : X) → i < length xs → take (i + 1) (set xs i x) ≡ take i xs ++ x ∷ []
 set_take xs i x h = ap (λ n. take n (set xs i x)) (add-one i) ∙ set_take_suc xs i x h
 
+-- the whole list where the last element was set
 set_last : {X : Type 0} (xs : List X) (i : ℕ) (x : X) → length xs ≡ i + 1 → set xs i x ≡ take i xs ++ x ∷ []
 set_last xs i x h =
     sym (take_all (i + 1) (set xs i x) (rw length-set (omega (arith, h)))) ∙ set_take xs i x (omega (arith, h))
 
+-- one cell more
 cell_part : (ts : List Item) (t : Item) (slot i : ℕ) (e : Entry) (c : Cell) → Part ts (CellAt slot i e) → cell t ≡ Ok c
     → Part (ts ++ t ∷ []) (after_cell slot i (with_cell e i c))
 cell_part ts t slot i e c (cs, is, fits, lt, l, cells) h = go (i == 7) refl
@@ -165,17 +178,20 @@ cell_part ts t slot i e c (cs, is, fits, lt, l, cells) h = go (i == 7) refl
               (cells_push t c cells h),
         )
 
+-- a pair ends
 pair_done : (us : List Item) (t u : Item) (i : ℕ) (a : AccentValue) (b r : ℕ) → Defines us (AccentDefinition i a)
     → length a.pairs < 52 → character t ≡ Ok b → b ≢ 0 → character u ≡ Ok r
     → Defines (us ++ Open ∷ t ∷ u ∷ Close ∷ []) (AccentDefinition i (with_pair a b r))
 pair_done us t u i a b r (of_accent name idx own le ps) l h z k =
     of_accent name idx own (rw length-append (omega (arith, l))) (pairs_push t u b r ps h z k)
 
+-- a step inside a definition
 on : (part : List Item) (m : MapValue) (t : Item) (p : Place) (s : State)
     → ◌≡◌ {A = Result State TextFaultKind} (Ok (at m p)) (Ok s) → Part (part ++ t ∷ []) p → Moves part m t s
 on part m t p s h k =
     On (sym (ap (λ s. s.map) (ok_is _ _ h))) (subst (λ (s : State). Part (part ++ t ∷ []) s.place) (ok_is _ _ h) k)
 
+-- a definition ends where another begins
 begin_behind : (part : List Item) (m : MapValue) (i : ℕ) (a : AccentValue) (t : Item) (s : State)
     → (first_of t >>= (λ p. Ok (at (with_accent m i a) p))) ≡ Ok s → Defines part (AccentDefinition i a)
     → Moves part m t s
@@ -184,6 +200,7 @@ begin_behind part m i a t s h d =
     Begins (AccentDefinition i a) d (sym (ap (λ s. s.map) (ok_is _ _ b.2)))
     (subst (λ (s : State). Part (t ∷ []) s.place) (ok_is _ _ b.2) (begins t b.0 b.1))
 
+-- each step
 moves : (part : List Item) (m : MapValue) (p : Place) (t : Item) (s : State) → step m p t ≡ Ok s → Part part p
     → Moves part m t s
 moves part m Definition t s h k =
@@ -263,6 +280,7 @@ pub record Stands (ts : List Item) (s : State) : Type 0 where
   pub map : s.map ≡ puts empty_map definitions
   pub part : Part rest s.place
 
+-- each step of a row
 moved : (ts : List Item) (t : Item) (s s' : State) → (k : Stands ts s) → Moves k.rest s.map t s'
     → Stands (ts ++ t ∷ []) s'
 moved ts t s s' k (On same part) = record {
@@ -293,6 +311,7 @@ moved ts t s s' k (Begins d def same part) = record {
   part = part;
 }
 
+-- a step by its place
 accept_is : (s : State) (t : Item) → accept s t ≡ step s.map s.place t
 unfolding accept
 accept_is s t = refl
@@ -317,9 +336,11 @@ pub stands_first : Stands [] start
 stands_first =
     record { definitions = []; row = []; rest = []; tokens = refl; is_row = no_definition; map = refl; part = refl }
 
+-- equal values
 some_is : {A : Type 0} (x y : A) → Some x ≡ Some y → x ≡ y
 some_is x y h = cc
 
+-- no value is not some
 none_some : {A : Type 0} (y : A) → None ≡ Some y → ⊥
 none_some y h = cc
 
@@ -374,14 +395,17 @@ ready m (PairBase i a) m' t q h k = absurd (none_some _ h)
 ready m (PairResult i a b) m' t q h k = absurd (none_some _ h)
 ready m (PairEnd i a b r) m' t q h k = absurd (none_some _ h)
 
+-- a cell is taken
 take_cell : (m : MapValue) (slot i : ℕ) (e : Entry) (t : Item) (c : Cell) → cell t ≡ Ok c
     → accept (at m (CellAt slot i e)) t ≡ Ok (at m (after_cell slot i (with_cell e i c)))
 unfolding accept
 take_cell m slot i e t c h = ap (λ r. r >>= (λ c. Ok (at m (after_cell slot i (with_cell e i c))))) h
 
+-- an entry by its parts
 entry_of : List Cell → LockFlag → Entry
 entry_of cells flag = record { cells = cells; flag = flag }
 
+-- all cells of an entry are taken
 cells_done : (m : MapValue) (slot i : ℕ) (e : Entry) (ts : List Item) (cs : List Cell) (us : List Item) → AreCells ts cs
     → i + length cs ≡ 8 → 0 < length cs → length e.cells ≡ 8
     → steps (at m (CellAt slot i e)) (ts ++ us) ≡ steps (at m (LockAt slot (entry_of (take i e.cells ++ cs) e.flag))) us
@@ -406,17 +430,20 @@ cells_done m slot i e ts cs us (one_cell {t = t} {c = c} h (one_cell {t = t'} {c
     (ap (λ xs. xs ++ c' ∷ cs') (set_take e.cells i c (omega (arith, l, n)))
     ∙ append_assoc (take i e.cells) (c ∷ []) (c' ∷ cs'))
 
+-- a lock letter is taken
 lock_taken : (m : MapValue) (slot : ℕ) (e : Entry) (f : LockFlag)
     → steps (at m (LockAt slot e)) (Value (Letter f) ∷ [])
     ≡ Ok (at (with_entry m slot (record { cells = e.cells; flag = f })) Definition)
 unfolding accept
 lock_taken m slot e f = refl
 
+-- an accent's character is taken
 own_taken : (m : MapValue) (i c : ℕ) (t : Item) → character t ≡ Ok c
     → accept (at m (AccentCharacter i)) t ≡ Ok (at m (AfterAccent i (record { own = c; pairs = [] })))
 unfolding accept
 own_taken m i c t h = ap (λ r. r >>= (λ c. Ok (at m (AfterAccent i (record { own = c; pairs = [] }))))) h
 
+-- a left parenthesis is taken
 open_taken : (m : MapValue) (i : ℕ) (a : AccentValue) → length a.pairs < 52
     → accept (at m (AfterAccent i a)) Open ≡ Ok (at m (PairBase i a))
 unfolding accept
@@ -425,6 +452,7 @@ open_taken m i a h = ap (λ b. cond b (Ok (at m (PairBase i a))) (Err faults.Too
     is_below : (n : ℕ) → n < 52 → nat_lt n 52 ≡ true
     is_below n h = grind (arith, nat_tests)
 
+-- a base is taken
 base_taken : (m : MapValue) (i : ℕ) (a : AccentValue) (t : Item) (b : ℕ) → character t ≡ Ok b → b ≢ 0
     → accept (at m (PairBase i a)) t ≡ Ok (at m (PairResult i a b))
 unfolding accept
@@ -432,16 +460,19 @@ base_taken m i a t b h z =
     ap (λ r. r >>= (λ c. base_at m i a c)) h
     ∙ ap (λ z. cond z (Err faults.ZeroBase) (Ok (at m (PairResult i a b)))) (ne_eqb b 0 z)
 
+-- a result is taken
 result_taken : (m : MapValue) (i : ℕ) (a : AccentValue) (t : Item) (b r : ℕ) → character t ≡ Ok r
     → accept (at m (PairResult i a b)) t ≡ Ok (at m (PairEnd i a b r))
 unfolding accept
 result_taken m i a t b r h = ap (λ r. r >>= (λ c. Ok (at m (PairEnd i a b c)))) h
 
+-- a right parenthesis is taken
 close_taken : (m : MapValue) (i : ℕ) (a : AccentValue) (b r : ℕ)
     → accept (at m (PairEnd i a b r)) Close ≡ Ok (at m (AfterAccent i (with_pair a b r)))
 unfolding accept
 close_taken m i a b r = refl
 
+-- all pairs of an accent are taken
 pairs_done : (m : MapValue) (i : ℕ) (a : AccentValue) (ts : List Item) (ps : List (ℕ × ℕ)) → ArePairs ts ps
     → length a.pairs + length ps ≤ 52 → steps (at m (AfterAccent i a)) ts
     ≡ Ok (at m (AfterAccent i (record { own = a.own; pairs = a.pairs ++ ps })))
@@ -457,10 +488,12 @@ pairs_done m i a ts ps (one_pair {t = t} {u = u} {base = b} {result = r} {ts = t
     ∙ ap (λ (ps : List (ℕ × ℕ)). Ok (at m (AfterAccent i (record { own = a.own; pairs = ps }))))
     (append_assoc a.pairs ((b, r) ∷ []) ps')
 
+-- the text may end after a lock letter
 ends_lock : (m : MapValue) → at_end (at m Definition) ≡ Some m
 unfolding at_end
 ends_lock m = refl
 
+-- and after an accent's character or pair
 ends_accent : (m : MapValue) (i : ℕ) (a : AccentValue) → at_end (at m (AfterAccent i a)) ≡ Some (with_accent m i a)
 unfolding at_end
 ends_accent m i a = refl

@@ -35,6 +35,7 @@ use Rattle.keymap_text.proofs.Steps.{front_right, stays_in_line}
 space_blank : (c : ℕ) → is_space c ≡ true → is_blank c ≡ true
 space_blank c h = grind (arith, nat_tests)
 
+-- blanks are passed
 split_spaces : (n q : ℕ) (xs y : List ℕ) → n ≤ leading is_space xs
     → split 0 q (xs ++ y) ≡ split 0 (q + n) (drop n xs ++ y)
 split_spaces zero q xs y h = ap (λ k. split 0 k (xs ++ y)) (omega arith)
@@ -70,6 +71,7 @@ leading_front p (suc n) (c ∷ w) h = go (p c) refl (leading_front p n w)
     go true e k = omega (arith, leading_pass p c (take n w) e, k (omega (arith, h, leading_pass p c w e)))
     go false e k = absurd (omega (arith, h, leading_fail p c w e))
 
+-- behind a word no letter or digit stands
 leading_behind : (p : ℕ → Bool) (n : ℕ) (w y : List ℕ) → leading p w ≡ n → n < length w → leading p (drop n w ++ y) ≡ 0
 leading_behind p n [] y h l = absurd (omega (arith, l))
 leading_behind p zero (c ∷ w) y h l = go (p c) refl
@@ -84,6 +86,7 @@ leading_behind p (suc n) (c ∷ w) y h l = go (p c) refl (leading_behind p n w y
     go true e k = k (omega (arith, h, leading_pass p c w e)) (omega (arith, l))
     go false e k = absurd (omega (arith, h, leading_fail p c w e))
 
+-- some bytes are left
 not_empty : (n : ℕ) (w x : List ℕ) → n < length w → is_empty (drop n w ++ x) ≡ false
 not_empty n [] x h = absurd (omega (arith, h))
 not_empty zero (c ∷ w) x h = refl
@@ -95,11 +98,13 @@ front_length zero w h = refl
 front_length (suc n) [] h = absurd (omega (arith, h))
 front_length (suc n) (c ∷ w) h = ap suc (front_length n w (omega (arith, h)))
 
+-- a front and what is behind it
 front_behind : (n : ℕ) (w x : List ℕ) → w ++ x ≡ take n w ++ (drop n w ++ x)
 front_behind zero w x = refl
 front_behind (suc n) [] x = refl
 front_behind (suc n) (c ∷ w) x = ap (λ t. c ∷ t) (front_behind n w x)
 
+-- a word in front is one token
 word_split : (a q k : ℕ) (w x : List ℕ) → is_word a ≡ true → leading is_word w ≡ k → k < length w → k < 32
     → split 0 q (a ∷ (w ++ x)) ≡ Then (record { kind = Word; bytes = a ∷ take k w; start = q; last = false })
     (split 0 (q + suc k) (drop k w ++ x))
@@ -135,6 +140,7 @@ printable : (c : ℕ) (y : List ℕ) → 31 < c → c < 127 → literal (c ∷ 3
 unfolding literal
 printable c y h k = grind (arith, nat_tests)
 
+-- so is a quoted printable character
 quote_split : (c q : ℕ) (y : List ℕ) → 31 < c → c < 127
     → split 0 q (39 ∷ c ∷ 39 ∷ y) ≡ Then (record {
       kind = Literal c;
@@ -144,15 +150,18 @@ quote_split : (c q : ℕ) (y : List ℕ) → 31 < c → c < 127
     }) (split 0 (q + 3) y)
 quote_split c q y h k = found_whole (Literal c) q 39 (c ∷ 39 ∷ []) y (front_quote (c ∷ 39 ∷ y) ∙ printable c y h k)
 
+-- its apostrophes
 quotes : (a b c : ℕ) (z : List ℕ) → a ≡ 39 → b ≡ 39 → a ∷ c ∷ b ∷ z ≡ 39 ∷ c ∷ 39 ∷ z
 quotes a b c z e f = ap (λ n. n ∷ c ∷ b ∷ z) e ∙ ap (λ n. 39 ∷ c ∷ n ∷ z) f
 
+-- no line feed is in it
 quoted_feeds : (c : ℕ) → 31 < c → feeds (39 ∷ c ∷ 39 ∷ []) ≡ 0
 quoted_feeds c h = middle (no_feed c (ne_eqb c 10 (λ n. omega (arith, h, n))))
   where
     middle : line_feed c ≡ 0 → feeds (39 ∷ c ∷ 39 ∷ []) ≡ 0
     middle h = omega (arith, h)
 
+-- it stands in front
 quoted_here : (c : ℕ) (z : List ℕ) → 31 < c → c < 127 → Fronts (39 ∷ c ∷ 39 ∷ z) (Value (Char c)) 3
 quoted_here c z f g = record {
   token = λ q x. record { kind = Literal c; bytes = 39 ∷ c ∷ 39 ∷ []; start = q; last = is_empty (z ++ x) };
@@ -192,6 +201,7 @@ pub left_fronts : (rest : List ℕ) → 0 < length rest → get_or rest 0 0 ≡ 
 left_fronts [] l e = absurd (omega (arith, l))
 left_fronts (c ∷ z) l e = subst (λ (n : ℕ). Fronts (n ∷ z) Open 1) (sym e) (left_here z)
 
+-- a right parenthesis stands in front
 right_here : (z : List ℕ) → Fronts (41 ∷ z) Close 1
 right_here z = record {
   token = λ q x. record { kind = ParenR; bytes = 41 ∷ []; start = q; last = is_empty (z ++ x) };
@@ -256,6 +266,7 @@ first : (xs : List ℕ) → 0 < length xs → xs ≡ get_or xs 0 0 ∷ drop 1 xs
 first [] h = absurd (omega (arith, h))
 first (c ∷ xs) h = refl
 
+-- the first byte
 one : (xs : List ℕ) → 0 < length xs → take 1 xs ≡ get_or xs 0 0 ∷ []
 one [] h = absurd (omega (arith, h))
 one (c ∷ xs) h = refl
@@ -335,6 +346,7 @@ byte_in_front old new rest h a = record {
   line = λ b k. subst (λ (t : List ℕ). Lined new (b ++ t)) (sym (one rest h)) (a.line b k);
 }
 
+-- a fault of the first byte is one of the bytes
 fault_in_front : (old : Scanner) (rest : List ℕ) (e : TextFault) → 0 < length rest
     → Refuses old (get_or rest 0 0 ∷ []) e → Refuses old rest e
 fault_in_front old rest e h r = record {
@@ -351,6 +363,7 @@ pub record Stands (start now : Scanner) (piece : List ℕ) (i : ℕ) : Type 0 wh
   pub fed : now.offset + length now.pending.items ≡ start.offset + length start.pending.items + i
   pub line : (b : List ℕ) → Lined start b → Lined now (b ++ take i piece)
 
+-- two fronts, one after the other
 further : (b piece : List ℕ) (i n : ℕ) → (b ++ take i piece) ++ take n (drop i piece) ≡ b ++ take (i + n) piece
 further b piece i n =
     append_assoc b (take i piece) (take n (drop i piece)) ∙ ap (λ (t : List ℕ). b ++ t) (sym (take-add i n piece))
@@ -407,6 +420,7 @@ behind_first : (piece : List ℕ) (i : ℕ) → i < length piece
     → get_or piece i 0 ≡ get_or (take (length piece - i) (drop i piece)) 0 0
 behind_first piece i h = sym (ap (λ (t : List ℕ). get_or t 0 0) (to_end piece i ∙ drop-cons piece i 0 h))
 
+-- bytes are left in a piece
 behind_some : (piece : List ℕ) (i : ℕ) → i < length piece → 0 < length (take (length piece - i) (drop i piece))
 behind_some piece i h = omega (arith, ap length (to_end piece i), length-drop i piece, h)
 

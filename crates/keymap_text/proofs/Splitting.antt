@@ -61,6 +61,7 @@ front_blank : (c : ℕ) (bytes : List ℕ) → is_blank c ≡ true → front c b
 unfolding front
 front_blank c bytes h = rw (h, front) refl
 
+-- a comment in front
 front_comment : (bytes : List ℕ) → front 35 bytes ≡ Skipped (leading stays_on_line bytes)
 unfolding front
 front_comment bytes = refl
@@ -100,13 +101,16 @@ shape : (xs : List ℕ) → 0 < length xs → xs ≡ get_or xs 0 0 ∷ drop 1 xs
 shape [] h = absurd (omega (arith, h))
 shape (x ∷ xs) h = refl
 
+-- bytes are left at a place
 room : (xs : List ℕ) (i : ℕ) → i < length xs → 0 < length (drop i xs)
 room xs i h = rw length-drop (omega arith)
 
+-- the bytes of a token
 front_bytes : (s : List ℕ) (i n : ℕ) → 0 < length s → take (i + 1 + n - i) s ≡ get_or s 0 0 ∷ take n (drop 1 s)
 front_bytes [] i n h = absurd (omega (arith, h))
 front_bytes (x ∷ xs) i n h = let e : i + 1 + n - i ≡ suc n = omega arith in rw e refl
 
+-- the bytes behind a token
 behind : (xs : List ℕ) (i n : ℕ) → drop n (drop 1 (drop i xs)) ≡ drop (i + 1 + n) xs
 behind xs i n = ap (drop n) (drop-drop 1 i xs) ∙ drop-drop n (i + 1) xs
 

@@ -55,6 +55,7 @@ or_true false true c = refl
 or_true false false true = refl
 or_true false false false = refl
 
+-- a byte of a comment, or the end of its line
 same_line : (c : ℕ) (b : Bool) → (c == 10) ≡ b → (q : ℕ) (x : List ℕ)
     → split (leading stays_on_line (c ∷ x)) q (c ∷ x) ≡ tokens_of (cond b modes.Between modes.Comment) [] (q + 1) x
 same_line c true h q x =
@@ -63,6 +64,7 @@ same_line c true h q x =
 same_line c false h q x =
     ap (λ n. split n q (c ∷ x)) (leading_pass stays_on_line c x (ap not h) ∙ add-one _) ∙ split_one _ q c x
 
+-- nothing is pending then
 no_pending : (b : Bool) (p : List ℕ) (q : ℕ) (x : List ℕ)
     → tokens_of (cond b modes.Between modes.Comment) [] q x ≡ tokens_of (cond b modes.Between modes.Comment) p q x
 no_pending true p q x = refl
@@ -132,6 +134,7 @@ pub front_right : (x : List ℕ) → front 41 x ≡ Found ParenR 0
 unfolding front
 front_right x = refl
 
+-- the token of a parenthesis
 paren_token : TokenKind → ℕ → ℕ → List ℕ → Token
 paren_token kind c q x = record { kind = kind; bytes = c ∷ take 0 x; start = q; last = is_empty (drop 0 x) }
 
@@ -188,6 +191,7 @@ take_word_full s m (a ∷ p) q c h l w e x =
     too_long : (n : ℕ) → 32 ≤ n → word n ≡ Refused BadWord
     too_long n h = grind (arith, nat_tests)
 
+-- the token of a word
 word_token : ℕ → ℕ → List ℕ → List ℕ → Token
 word_token a q p y =
     record { kind = Word; bytes = a ∷ take (length p) (p ++ y); start = q; last = is_empty (drop (length p) (p ++ y)) }
@@ -243,6 +247,7 @@ pub front_quote : (y : List ℕ) → front 39 y ≡ literal y
 unfolding front
 front_quote y = refl
 
+-- bytes that begin with an apostrophe
 quote_from : (p : List ℕ) → 0 < length p → get_or p 0 0 ≡ 39 → p ≡ 39 ∷ drop 1 p
 quote_from [] z e = absurd (omega (arith, z))
 quote_from (a ∷ p) z e = ap (λ n. n ∷ p) e
@@ -384,6 +389,7 @@ end_comment s m p q h =
     ap (λ m. judge s (tokens_of m p q [])) h ∙ ap (λ n. judge s (split n q [])) (leading_none stays_on_line)
     ∙ ap (judge s) (split_none q) ∙ judge_ends s q
 
+-- a word at the end of the text
 last_word : (s : State) (m : Mode) (a : ℕ) (p : List ℕ) (q : ℕ) → m ≡ modes.Word → KeepsMode modes.Word (a ∷ p)
     → judge s (tokens_of m (a ∷ p) q []) ≡ judge s (Then (record { kind = Word; bytes = a ∷ p; start = q; last = true })
     (split 0 (q + suc (length p)) []))
@@ -479,6 +485,7 @@ begun_word s m p p' q c h z e x =
     ap (λ m. judge s (tokens_of m p q (c ∷ x))) h
     ∙ ap (λ (t : List ℕ). judge s (split 0 q (t ++ x))) (sym (e ∙ ap (λ (p : List ℕ). p ++ c ∷ []) z))
 
+-- one byte more is pending
 longer : (s : State) (p p' : List ℕ) (q c : ℕ) → p' ≡ p ++ c ∷ [] → (x : List ℕ)
     → judge s (split 0 q (p ++ c ∷ x)) ≡ judge s (split 0 q (p' ++ x))
 longer s p p' q c e x =

@@ -28,6 +28,7 @@ pub splat_is : (v : List ℕ) (n y : ℕ) → length v ≡ n → replicate n y �
 splat_is [] n y e = ap (λ k. replicate k y) (sym e)
 splat_is (x ∷ v) n y e = ap (λ k. replicate k y) (sym e) ∙ ap (λ r. y ∷ r) (splat_is v (length v) y refl)
 
+-- the place of the lowest bit is how many bytes pass
 run_is : (p : ℕ → Bool) (v : List ℕ) → length v ≡ 16
     → first_of_sixteen (mask_l (map p v)) ≡ prefix_len (λ x. not (p x)) v
 run_is p v long =
@@ -36,6 +37,7 @@ run_is p v long =
       | inr some ↦ cond-false _ _ _ (ne_eqb _ _ some) ∙ trailing_mask_l p 64 v (omega arith) (omega arith)
     ]
 
+-- so many bytes in front pass
 leading_is : (q : ℕ → Bool) (d : List ℕ) (r : ℕ) → r < length d → ((k : ℕ) → k < r → q (get_or d k 0) ≡ true)
     → q (get_or d r 0) ≡ false → leading q d ≡ r
 leading_is q [] r l f s = absurd (omega (arith, l))
@@ -44,6 +46,7 @@ leading_is q (c ∷ d) (suc r) l f s =
     leading_pass q c d (f 0 (omega arith)) ∙ ap (λ n. n + 1) (leading_is q d r (omega (arith, l))
     (λ k h. f (suc k) (omega (arith, h))) s) ∙ omega arith
 
+-- the bytes of a vector are the first sixteen
 in_chunk : (d : List ℕ) (k : ℕ) → k < 16 → get_or (chunk 0 16 d) k 0 ≡ get_or d k 0
 in_chunk d k h =
     let same : 0 + k ≡ k = omega arith in

@@ -28,12 +28,15 @@ use Rattle.keymap_text.proofs.Row.{steps, stands_after, stands_first, row_at_end
 abbrev pub items_of : Tokens → List Item
 items_of ts = map item_of (list_of ts)
 
+-- a fault is no map
 faulty : (f : TextFaultKind) (q : ℕ) (e : Bool) (m : MapValue) → Faulty f q e ≡ Spelled m → ⊥
 faulty f q e m h = cc
 
+-- equal maps
 spelled_is : (m m' : MapValue) → Spelled m ≡ Spelled m' → m ≡ m'
 spelled_is m m' h = cc
 
+-- the text ends with this map
 ended_is : (o : Option MapValue) (q : ℕ) (m : MapValue) → ended o q ≡ Spelled m → o ≡ Some m
 ended_is (Some x) q m h = ap Some (spelled_is x m h)
 ended_is None q m h = absurd (faulty _ _ _ _ h)
@@ -46,6 +49,7 @@ record Runs (s : State) (ts : Tokens) (m : MapValue) : Type 0 where
   whole : behind ts ≡ Ok end
   map : at_end last ≡ Some m
 
+-- what the machine spells it went through
 runs : (s : State) (ts : Tokens) (m : MapValue) → judge s ts ≡ Spelled m → Runs s ts m
 unfolding list_of behind
 runs s (Ends q) m h =
@@ -60,6 +64,7 @@ runs s (Then t ts) m h = go (accept s (item_of t)) refl (λ s'. runs s' ts m)
         record { last = r.last; end = r.end; steps = rw e r.steps; whole = r.whole; map = r.map }
     go (Err f) e ih = absurd (faulty _ _ _ _ (sym (judge_refused s f t ts e) ∙ h))
 
+-- what the machine goes through it spells
 judged : (s : State) (ts : Tokens) (m : MapValue) → Runs s ts m → judge s ts ≡ Spelled m
 unfolding list_of behind
 judged s (Ends q) m r = judge_ends s q ∙ ap (λ o. ended o q) (ap at_end (ok_is _ _ r.steps) ∙ r.map)
@@ -87,6 +92,7 @@ judged s (Then t ts) m r = go (accept s (item_of t)) refl (λ s'. judged s' ts m
         })
     go (Err f) e ih = absurd (never f r.last (rw e at r.steps))
 
+-- a text begins with the empty map
 starts : at_end start ≡ Some empty_map
 unfolding at_end
 starts = refl
@@ -146,16 +152,19 @@ tokens_then : List Token → Tokens
 tokens_then [] = Ends 0
 tokens_then (t ∷ ts) = Then t (tokens_then ts)
 
+-- tokens of a list
 listed : (ts : List Token) → list_of (tokens_then ts) ≡ ts
 unfolding tokens_then list_of
 listed [] = refl
 listed (t ∷ ts) = ap (λ ts. t ∷ ts) (listed ts)
 
+-- nothing stands behind them
 behind_is : (ts : List Token) → behind (tokens_then ts) ≡ Ok 0
 unfolding tokens_then behind
 behind_is [] = refl
 behind_is (t ∷ ts) = behind_is ts
 
+-- the end of such tokens
 ended_at : (ts : List Token) → found_of (judge start (tokens_then ts)) ≡ found_in (leads AtDefinition ts) (Ok 0)
 ended_at ts =
     same_fault start (tokens_then ts) ∙ ap₂ (λ ts r. found_in (leads AtDefinition ts) r) (listed ts) (behind_is ts)
@@ -258,14 +267,17 @@ within None q r f o' e l h = subst (λ n. n ≤ r) (offset_of _ _ _ _ _ _ h) l
     offset_of : (f f' : TextFaultKind) (o o' : ℕ) (e e' : Bool) → Faulty f o e ≡ Faulty f' o' e' → o ≡ o'
     offset_of f f' o o' e e' h = cc
 
+-- equal faults have one place
 same_offset : (f f' : TextFaultKind) (o o' : ℕ) (e e' : Bool) → Faulty f o e ≡ Faulty f' o' e' → o ≡ o'
 same_offset f f' o o' e e' h = cc
 
+-- no bytes have no tokens
 split_empty : (k q : ℕ) → split k q [] ≡ Ends q
 unfolding split
 split_empty zero q = refl
 split_empty (suc k) q = refl
 
+-- a fault stands in the bytes or at their end
 fits : (bytes : List ℕ) (s : State) (k q : ℕ) (f : TextFaultKind) (o : ℕ) (e : Bool)
     → judge s (split k q bytes) ≡ Faulty f o e → o ≤ q + length bytes
 fits [] s k q f o e h =

@@ -1,5 +1,7 @@
 -- The printed text of a character, and of an action, is one token, which is that character or action.
-use Rattle.std.proofs.Common.{◌≡◌, ◌≢◌, ℕ, zero, suc, ◌+◌, ◌*◌, ◌/◌, ◌%◌, ◌<◌, ◌≤◌, ◌==◌, ◌&&◌, Bool, true, false, cond, List, [], ◌∷◌, length, map, fold, refl, sym, ◌∙◌, ap, subst, arith, Ok, Err, Some, None, ne_eqb, nat_lt, nat_le, codes, inl, inr, slice_index_or}
+use Rattle.std.proofs.Common.{◌≡◌, ◌≢◌, ℕ, zero, suc, ◌+◌, ◌*◌, ◌/◌, ◌%◌, ◌<◌, ◌≤◌, ◌==◌, ◌&&◌, Bool, true, false, cond}
+use Rattle.std.proofs.Common.{List, [], ◌∷◌, length, map, fold, refl, sym, ◌∙◌, ap, subst, arith, Ok, Err, Some, None}
+use Rattle.std.proofs.Common.{ne_eqb, nat_lt, nat_le, codes, inl, inr, slice_index_or}
 use Rattle.std.specs.List.{list_all, range_with_len}
 use Rattle.std.specs.Char.{digit_value}
 use lib.Utf8.{scalar}
@@ -21,10 +23,13 @@ use Rattle.keymap_text.proofs.PrintedLines.{PrintsCharacter}
 head_is : {A : Type 0} (x y : A) (xs ys : List A) → x ∷ xs ≡ y ∷ ys → x ≡ y
 head_is x y xs ys h = cc
 
+-- lists that are equal have equal tails
 tail_is : {A : Type 0} (x y : A) (xs ys : List A) → x ∷ xs ≡ y ∷ ys → xs ≡ ys
 tail_is x y xs ys h = cc
 
-pub along : {A : Type 0} (f g : ℕ → A) (from n : ℕ) → map f (range_with_len from n) ≡ map g (range_with_len from n) → (k : ℕ) → from ≤ k → k < from + n → f k ≡ g k
+-- two tables that are equal up to a length are equal at each place below it
+pub along : {A : Type 0} (f g : ℕ → A) (from n : ℕ) → map f (range_with_len from n) ≡ map g (range_with_len from n)
+    → (k : ℕ) → from ≤ k → k < from + n → f k ≡ g k
 along f g from zero h k low high = absurd (omega arith)
 along f g from (suc n) h k low high =
     elim (eq-or-lt_of_le low) [
@@ -36,8 +41,12 @@ along f g from (suc n) h k low high =
 abbrev pub is_one_word : List ℕ → Bool
 is_one_word w = nat_lt 0 (length w) && (nat_le (length w) 32 && (leading is_word w == length w))
 
+-- one word is one token with its meaning
 pub lexes_as : (w : List ℕ) (m : Meaning) → is_one_word w ≡ true → meaning w ≡ m → Lexes NoWord w (Value m ∷ [])
-lexes_as w m h e = subst (λ (m : Meaning). Lexes NoWord w (Value m ∷ [])) e (lexes_word w (some (length w) (leading is_word w) h) (short (length w) (leading is_word w) h) (whole (length w) (leading is_word w) h))
+lexes_as w m h e =
+    subst (λ (m : Meaning). Lexes NoWord w (Value m ∷ [])) e
+    (lexes_word w (some (length w) (leading is_word w) h) (short (length w) (leading is_word w) h)
+    (whole (length w) (leading is_word w) h))
   where
     some : (n k : ℕ) → (nat_lt 0 n && (nat_le n 32 && (k == n))) ≡ true → 0 < n
     some n k h = grind (arith, nat_tests)
@@ -49,14 +58,18 @@ lexes_as w m h e = subst (λ (m : Meaning). Lexes NoWord w (Value m ∷ [])) e (
     whole n k h = grind (arith, nat_tests)
 
 -- a control character, computed over the names
-control_words : map (λ c. is_one_word (slice_index_or control_names c [])) (range_with_len 0 32) ≡ map (λ c. true) (range_with_len 0 32)
+control_words : map (λ c. is_one_word (slice_index_or control_names c [])) (range_with_len 0 32)
+    ≡ map (λ c. true) (range_with_len 0 32)
 unfolding leading
 control_words = refl
 
-control_meanings : map (λ c. meaning (slice_index_or control_names c [])) (range_with_len 0 32) ≡ map (λ c. Char c) (range_with_len 0 32)
+-- each control name means its character
+control_meanings : map (λ c. meaning (slice_index_or control_names c [])) (range_with_len 0 32)
+    ≡ map (λ c. Char c) (range_with_len 0 32)
 unfolding meaning digits_of named
 control_meanings = refl
 
+-- a control character is printed as its name
 control_text : (c : ℕ) → c < 32 → character_text c ≡ slice_index_or control_names c []
 unfolding character_text
 control_text c h = rw (low c h, ne_eqb c 127 (apart c h)) refl
@@ -67,29 +80,38 @@ control_text c h = rw (low c h, ne_eqb c 127 (apart c h)) refl
     apart : (c : ℕ) → c < 32 → c ≢ 127
     apart c h = omega arith
 
+-- a control character is printed as its name
 pub prints_control : (c : ℕ) → c < 32 → PrintsCharacter c
 prints_control c h = record {
   token = Value (Char c);
-  lexes = subst (λ (t : List ℕ). Lexes NoWord t (Value (Char c) ∷ [])) (sym (control_text c h)) (lexes_as (slice_index_or control_names c []) (Char c) (along (λ c. is_one_word (slice_index_or control_names c [])) (λ c. true) 0 32 control_words c (omega arith) h) (along (λ c. meaning (slice_index_or control_names c [])) (λ c. Char c) 0 32 control_meanings c (omega arith) h));
+  lexes = subst (λ (t : List ℕ). Lexes NoWord t (Value (Char c) ∷ [])) (sym (control_text c h))
+      (lexes_as (slice_index_or control_names c []) (Char c)
+      (along (λ c. is_one_word (slice_index_or control_names c [])) (λ c. true) 0 32 control_words c (omega arith) h)
+      (along (λ c. meaning (slice_index_or control_names c [])) (λ c. Char c) 0 32 control_meanings c (omega arith) h));
   reads = refl;
 }
 
+-- del is one word
 delete_word : is_one_word (codes "del") ≡ true
 unfolding leading
 delete_word = refl
 
+-- and means the character 127
 delete_meaning : meaning (codes "del") ≡ Char 127
 unfolding meaning digits_of named
 delete_meaning = refl
 
+-- which is printed so
 delete_text : character_text 127 ≡ codes "del"
 unfolding character_text
 delete_text = refl
 
+-- so is the character 127
 pub prints_delete : PrintsCharacter 127
 prints_delete = record {
   token = Value (Char 127);
-  lexes = subst (λ (t : List ℕ). Lexes NoWord t (Value (Char 127) ∷ [])) (sym delete_text) (lexes_as (codes "del") (Char 127) delete_word delete_meaning);
+  lexes = subst (λ (t : List ℕ). Lexes NoWord t (Value (Char 127) ∷ [])) (sym delete_text)
+      (lexes_as (codes "del") (Char 127) delete_word delete_meaning);
   reads = refl;
 }
 
@@ -107,16 +129,25 @@ quoted_text c h k = rw (low c h, ne_eqb c 127 (apart c k), high c k) refl
     apart : (c : ℕ) → c < 127 → c ≢ 127
     apart c h = omega arith
 
+-- a printable ASCII character is printed between apostrophes
 pub prints_quoted : (c : ℕ) → 31 < c → c < 127 → PrintsCharacter c
-prints_quoted c h k = record { token = Value (Char c); lexes = subst (λ (t : List ℕ). Lexes NoWord t (Value (Char c) ∷ [])) (sym (quoted_text c h k)) (lexes_quoted c h k); reads = refl }
+prints_quoted c h k =
+    record {
+      token = Value (Char c);
+      lexes = subst (λ (t : List ℕ). Lexes NoWord t (Value (Char c) ∷ []))
+          (sym (quoted_text c h k)) (lexes_quoted c h k);
+      reads = refl;
+    }
 
 -- hexadecimal digits
 hex_value : (d : ℕ) → d < 16 → digit_value (hex_digit d) ≡ d
 hex_value d h = grind (arith, nat_tests)
 
+-- a hexadecimal digit is a letter or digit
 hex_word : (d : ℕ) → d < 16 → is_word (hex_digit d) ≡ true
 hex_word d h = grind (arith, nat_tests)
 
+-- and passes the test of digits
 hex_test : (d : ℕ) → d < 16 → is_digit 16 (hex_digit d) ≡ true
 hex_test d h = rw (hex_value d h) (below d h)
   where
@@ -131,44 +162,64 @@ abbrev pub horner : ℕ → List ℕ → ℕ
 horner n [] = n
 horner n (d ∷ ds) = horner (n * 16 + d) ds
 
+-- so do all of them
 hex_tests : (ds : List ℕ) → AreSmall ds → list_all (is_digit 16) (map hex_digit ds) ≡ true
 hex_tests [] h = refl
 hex_tests (d ∷ ds) (h, k) = ap (λ b. b && list_all (is_digit 16) (map hex_digit ds)) (hex_test d h) ∙ hex_tests ds k
 
-hex_number : (n : ℕ) (ds : List ℕ) → AreSmall ds → fold (λ n c. n * 16 + digit_value c) n (map hex_digit ds) ≡ horner n ds
+-- digits spell the number of their values
+hex_number : (n : ℕ) (ds : List ℕ) → AreSmall ds
+    → fold (λ n c. n * 16 + digit_value c) n (map hex_digit ds) ≡ horner n ds
 hex_number n [] h = refl
-hex_number n (d ∷ ds) (h, k) = ap (λ v. fold (λ n c. n * 16 + digit_value c) (n * 16 + v) (map hex_digit ds)) (hex_value d h) ∙ hex_number (n * 16 + d) ds k
+hex_number n (d ∷ ds) (h, k) =
+    ap (λ v. fold (λ n c. n * 16 + digit_value c) (n * 16 + v) (map hex_digit ds)) (hex_value d h)
+    ∙ hex_number (n * 16 + d) ds k
 
+-- digits are one word
 hex_leads : (ds : List ℕ) → AreSmall ds → leading is_word (map hex_digit ds) ≡ length ds
 hex_leads [] h = leading_none is_word
-hex_leads (d ∷ ds) (h, k) = leading_pass is_word (hex_digit d) (map hex_digit ds) (hex_word d h) ∙ omega (arith, hex_leads ds k)
+hex_leads (d ∷ ds) (h, k) =
+    leading_pass is_word (hex_digit d) (map hex_digit ds) (hex_word d h) ∙ omega (arith, hex_leads ds k)
 
+-- one byte a digit
 hex_length : (ds : List ℕ) → length (map hex_digit ds) ≡ length ds
 hex_length [] = refl
 hex_length (d ∷ ds) = ap suc (hex_length ds)
 
+-- digits spell a number
 hex_digits : (ds : List ℕ) → 0 < length ds → AreSmall ds → digits_of 16 (map hex_digit ds) ≡ Some (horner 0 ds)
-hex_digits ds h k = digits_good 16 (map hex_digit ds) (omega (arith, hex_length ds)) (hex_tests ds k) ∙ ap Some (hex_number 0 ds k)
+hex_digits ds h k =
+    digits_good 16 (map hex_digit ds) (omega (arith, hex_length ds)) (hex_tests ds k) ∙ ap Some (hex_number 0 ds k)
 
-meaning_hex : (w : List ℕ) (n : ℕ) → digits_of 10 (48 ∷ 120 ∷ w) ≡ None → number_after (codes "0x") 16 (48 ∷ 120 ∷ w) ≡ Some n → meaning (48 ∷ 120 ∷ w) ≡ Number n
+-- a word that is no decimal number, with digits after 0x
+meaning_hex : (w : List ℕ) (n : ℕ) → digits_of 10 (48 ∷ 120 ∷ w) ≡ None
+    → number_after (codes "0x") 16 (48 ∷ 120 ∷ w) ≡ Some n → meaning (48 ∷ 120 ∷ w) ≡ Number n
 unfolding meaning
 meaning_hex w n h k = rw (h, k, meaning) refl
 
+-- a word with 0x is no decimal number
 no_decimal : (w : List ℕ) → digits_of 10 (48 ∷ 120 ∷ w) ≡ None
 no_decimal w = digits_bad 10 (48 ∷ 120 ∷ w) 1 (omega arith) (omega arith)
 
+-- digits after 0x are the number
 after_prefix : (w : List ℕ) (n : ℕ) → digits_of 16 w ≡ Some n → number_after (codes "0x") 16 (48 ∷ 120 ∷ w) ≡ Some n
 after_prefix w n h = ap (λ b. cond (b && true) (digits_of 16 w) None) (long (length w)) ∙ h
   where
     long : (n : ℕ) → nat_le 2 (suc (suc n)) ≡ true
     long n = grind (arith, nat_tests)
 
-lexes_hex : (c : ℕ) (ds : List ℕ) → 0 < length ds → length ds ≤ 30 → AreSmall ds → horner 0 ds ≡ c → Lexes NoWord (48 ∷ 120 ∷ map hex_digit ds) (Value (Number c) ∷ [])
+-- digits after 0x are one token
+lexes_hex : (c : ℕ) (ds : List ℕ) → 0 < length ds → length ds ≤ 30 → AreSmall ds → horner 0 ds ≡ c
+    → Lexes NoWord (48 ∷ 120 ∷ map hex_digit ds) (Value (Number c) ∷ [])
 lexes_hex c ds z l h e =
     subst (λ (m : Meaning). Lexes NoWord (48 ∷ 120 ∷ map hex_digit ds) (Value m ∷ []))
-    (meaning_hex (map hex_digit ds) c (no_decimal (map hex_digit ds)) (after_prefix (map hex_digit ds) c (hex_digits ds z h ∙ ap Some e)))
-    (lexes_word (48 ∷ 120 ∷ map hex_digit ds) (omega arith) (omega (arith, hex_length ds, l)) (leading_pass is_word 48 _ refl ∙ ap (λ n. n + 1) (leading_pass is_word 120 _ refl) ∙ omega (arith, hex_leads ds h, hex_length ds)))
+    (meaning_hex (map hex_digit ds) c (no_decimal (map hex_digit ds))
+    (after_prefix (map hex_digit ds) c (hex_digits ds z h ∙ ap Some e)))
+    (lexes_word (48 ∷ 120 ∷ map hex_digit ds) (omega arith) (omega (arith, hex_length ds, l))
+    (leading_pass is_word 48 _ refl ∙ ap (λ n. n + 1) (leading_pass is_word 120 _ refl)
+    ∙ omega (arith, hex_leads ds h, hex_length ds)))
 
+-- a character above 127 is printed as a number
 hex_text : (c : ℕ) → 127 < c → character_text c ≡ 48 ∷ 120 ∷ hex c
 unfolding character_text
 hex_text c h = rw (low c h, ne_eqb c 127 (apart c h), high c h) refl
@@ -186,43 +237,57 @@ hex_text c h = rw (low c h, ne_eqb c 127 (apart c h), high c h) refl
 abbrev pub four : ℕ → List ℕ
 four c = c / 4096 % 16 ∷ c / 256 % 16 ∷ c / 16 % 16 ∷ c / 1 % 16 ∷ []
 
+-- the last digit, and those before it
 digit_1 : (c : ℕ) → c / 16 * 16 + c / 1 % 16 ≡ c
 digit_1 c = omega arith
 
+-- the same of the second digit from the right
 digit_16 : (c : ℕ) → c / 256 * 16 + c / 16 % 16 ≡ c / 16
 digit_16 c = omega arith
 
+-- of the third
 digit_256 : (c : ℕ) → c / 4096 * 16 + c / 256 % 16 ≡ c / 256
 digit_256 c = omega arith
 
+-- of the fourth
 digit_4096 : (c : ℕ) → c / 65536 * 16 + c / 4096 % 16 ≡ c / 4096
 digit_4096 c = omega arith
 
+-- of the fifth
 digit_65536 : (c : ℕ) → c / 1048576 * 16 + c / 65536 % 16 ≡ c / 65536
 digit_65536 c = omega arith
 
+-- a digit is below 16
 is_mod : (n : ℕ) → n % 16 < 16
 is_mod n = omega arith
 
+-- a number below 16 is its digit
 same_below : (n : ℕ) → n < 16 → n % 16 ≡ n
 same_below n h = omega arith
 
+-- four digits behind a number
 four_of : (c n : ℕ) → n ≡ c / 65536 → horner n (four c) ≡ c
 four_of c n e = omega (arith, e, digit_1 c, digit_16 c, digit_256 c, digit_4096 c)
 
+-- four digits are digits
 small_four : (c : ℕ) → AreSmall (four c)
 small_four c = (is_mod (c / 4096), (is_mod (c / 256), (is_mod (c / 16), (is_mod (c / 1), tt))))
 
+-- a number of four digits is printed with them
 hex_four : (c : ℕ) → c < 65536 → hex c ≡ map hex_digit (four c)
 unfolding hex
-hex_four c h = ap (λ b. cond b (hex4 c) (cond (nat_lt c 1048576) (hex_at c 65536 ∷ hex4 c) (hex_at c 1048576 ∷ hex_at c 65536 ∷ hex4 c))) (below c h)
+hex_four c h =
+    ap (λ b. cond b (hex4 c) (cond (nat_lt c 1048576) (hex_at c 65536 ∷ hex4 c)
+    (hex_at c 1048576 ∷ hex_at c 65536 ∷ hex4 c))) (below c h)
   where
     below : (c : ℕ) → c < 65536 → nat_lt c 65536 ≡ true
     below c h = grind (arith, nat_tests)
 
+-- a number of five digits isn't one of four
 not_four : (c : ℕ) → 65536 ≤ c → nat_lt c 65536 ≡ false
 not_four c h = grind (arith, nat_tests)
 
+-- five digits
 hex_five : (c : ℕ) → 65536 ≤ c → c < 1048576 → hex c ≡ map hex_digit (c / 65536 % 16 ∷ four c)
 unfolding hex
 hex_five c h k = rw (not_four c h, below c k) refl
@@ -230,6 +295,7 @@ hex_five c h k = rw (not_four c h, below c k) refl
     below : (c : ℕ) → c < 1048576 → nat_lt c 1048576 ≡ true
     below c h = grind (arith, nat_tests)
 
+-- six digits
 hex_six : (c : ℕ) → 1048576 ≤ c → hex c ≡ map hex_digit (c / 1048576 % 16 ∷ c / 65536 % 16 ∷ four c)
 unfolding hex
 hex_six c h = rw (not_four c (omega arith), not_five c h) refl
@@ -237,18 +303,31 @@ hex_six c h = rw (not_four c (omega arith), not_five c h) refl
     not_five : (c : ℕ) → 1048576 ≤ c → nat_lt c 1048576 ≡ false
     not_five c h = grind (arith, nat_tests)
 
-prints_digits : (c : ℕ) (ds : List ℕ) → 127 < c → scalar c ≡ true → hex c ≡ map hex_digit ds → 0 < length ds → length ds ≤ 30 → AreSmall ds → horner 0 ds ≡ c → PrintsCharacter c
+-- a character that is printed in digits is one token
+prints_digits : (c : ℕ) (ds : List ℕ) → 127 < c → scalar c ≡ true → hex c ≡ map hex_digit ds → 0 < length ds
+    → length ds ≤ 30 → AreSmall ds → horner 0 ds ≡ c → PrintsCharacter c
 prints_digits c ds h s e z l k n = record {
   token = Value (Number c);
-  lexes = subst (λ (t : List ℕ). Lexes NoWord t (Value (Number c) ∷ [])) (sym (hex_text c h ∙ ap (λ t. 48 ∷ 120 ∷ t) e)) (lexes_hex c ds z l k n);
+  lexes = subst (λ (t : List ℕ). Lexes NoWord t (Value (Number c) ∷ [])) (sym (hex_text c h ∙ ap (λ t. 48 ∷ 120 ∷ t) e))
+      (lexes_hex c ds z l k n);
   reads = ap (λ b. cond b (Ok c) (Err faults.BadChar)) s;
 }
 
+-- a number of four digits
 pub prints_four : (c : ℕ) → 127 < c → c < 65536 → scalar c ≡ true → PrintsCharacter c
-prints_four c h k s = prints_digits c (four c) h s (hex_four c k) (omega arith) (omega arith) (small_four c) (four_of c 0 (omega arith))
+prints_four c h k s =
+    prints_digits c (four c) h s (hex_four c k) (omega arith) (omega arith) (small_four c) (four_of c 0 (omega arith))
 
+-- a number of five digits
 pub prints_five : (c : ℕ) → 65536 ≤ c → c < 1048576 → scalar c ≡ true → PrintsCharacter c
-prints_five c h k s = prints_digits c (c / 65536 % 16 ∷ four c) (omega arith) s (hex_five c h k) (omega arith) (omega arith) (is_mod (c / 65536), small_four c) (four_of c (0 * 16 + c / 65536 % 16) (omega (arith, digit_65536 c)))
+prints_five c h k s =
+    prints_digits c (c / 65536 % 16 ∷ four c) (omega arith) s (hex_five c h k) (omega arith) (omega arith)
+    (is_mod (c / 65536), small_four c) (four_of c (0 * 16 + c / 65536 % 16) (omega (arith, digit_65536 c)))
 
+-- a number of six digits
 pub prints_six : (c : ℕ) → 1048576 ≤ c → c < 16777216 → scalar c ≡ true → PrintsCharacter c
-prints_six c h k s = prints_digits c (c / 1048576 % 16 ∷ c / 65536 % 16 ∷ four c) (omega arith) s (hex_six c h) (omega arith) (omega arith) (is_mod (c / 1048576), (is_mod (c / 65536), small_four c)) (four_of c ((0 * 16 + c / 1048576 % 16) * 16 + c / 65536 % 16) (omega (arith, digit_65536 c, same_below (c / 1048576) (omega arith))))
+prints_six c h k s =
+    prints_digits c (c / 1048576 % 16 ∷ c / 65536 % 16 ∷ four c) (omega arith) s (hex_six c h) (omega arith)
+    (omega arith) (is_mod (c / 1048576), (is_mod (c / 65536), small_four c))
+    (four_of c ((0 * 16 + c / 1048576 % 16) * 16 + c / 65536 % 16)
+    (omega (arith, digit_65536 c, same_below (c / 1048576) (omega arith))))

@@ -1,5 +1,6 @@
 -- The table of names begins with the names of the control characters.
-use Rattle.std.proofs.Common.{◌≡◌, ℕ, ◌<◌, ◌≤◌, ◌==◌, ◌⊎◌, inl, inr, true, cond, length, map, refl, sym, subst, arith, nat_le, get_or}
+use Rattle.std.proofs.Common.{◌≡◌, ℕ, ◌<◌, ◌≤◌, ◌==◌, ◌⊎◌, inl, inr, true, cond, length, map, refl, sym, subst, arith}
+use Rattle.std.proofs.Common.{nat_le, get_or}
 use Rattle.std.specs.List.{range_with_len}
 use Rattle.std.proofs.lemmas.Bool.Decides.{nat_tests}
 use Rattle.keymap_text.specs.Lexical.{leading}
@@ -10,23 +11,34 @@ use Rattle.keymap_text.specs.declared.names.TheConstants.{NAMES}
 use Rattle.keymap_text.proofs.Characters.{along}
 
 -- computed over the table
-low_letters : (d : Name) → map (λ c. letters (get_or NAMES (cond (c == 127) 32 c) d).0) (range_with_len 0 32) ≡ map control_name (range_with_len 0 32)
+low_letters : (d : Name) → map (λ c. letters (get_or NAMES (cond (c == 127) 32 c) d).0) (range_with_len 0 32)
+    ≡ map control_name (range_with_len 0 32)
 unfolding leading
 low_letters d = refl
 
+-- the row of del
 delete_letters : (d : Name) → letters (get_or NAMES 32 d).0 ≡ control_name 127
 unfolding leading
 delete_letters d = refl
 
-pub control_letters : (c : ℕ) (d : Name) → (c < 32) ⊎ (c ≡ 127) → letters (get_or NAMES (cond (c == 127) 32 c) d).0 ≡ control_name c
-control_letters c d (inl h) = along (λ c. letters (get_or NAMES (cond (c == 127) 32 c) d).0) control_name 0 32 (low_letters d) c (omega arith) h
-control_letters c d (inr e) = subst (λ (c : ℕ). letters (get_or NAMES (cond (c == 127) 32 c) d).0 ≡ control_name c) (sym e) (delete_letters d)
+-- the row of a control character has its name
+pub control_letters : (c : ℕ) (d : Name) → (c < 32) ⊎ (c ≡ 127)
+    → letters (get_or NAMES (cond (c == 127) 32 c) d).0 ≡ control_name c
+control_letters c d (inl h) =
+    along (λ c. letters (get_or NAMES (cond (c == 127) 32 c) d).0) control_name 0 32 (low_letters d) c (omega arith) h
+control_letters c d (inr e) =
+    subst (λ (c : ℕ). letters (get_or NAMES (cond (c == 127) 32 c) d).0 ≡ control_name c) (sym e) (delete_letters d)
 
-short_names : map (λ c. nat_le (length (control_name c)) 3) (range_with_len 0 32) ≡ map (λ c. true) (range_with_len 0 32)
+-- the names' lengths, by computation
+short_names : map (λ c. nat_le (length (control_name c)) 3) (range_with_len 0 32)
+    ≡ map (λ c. true) (range_with_len 0 32)
 short_names = refl
 
+-- the name of a control character has at most three letters
 pub short_name : (c : ℕ) → (c < 32) ⊎ (c ≡ 127) → length (control_name c) ≤ 3
-short_name c (inl h) = is_le (length (control_name c)) (along (λ c. nat_le (length (control_name c)) 3) (λ c. true) 0 32 short_names c (omega arith) h)
+short_name c (inl h) =
+    is_le (length (control_name c)) (along (λ c. nat_le (length (control_name c)) 3) (λ c. true) 0 32 short_names c
+    (omega arith) h)
   where
     is_le : (n : ℕ) → nat_le n 3 ≡ true → n ≤ 3
     is_le n h = grind (arith, nat_tests)

@@ -1,5 +1,7 @@
 -- A text that is read from a device, piece by piece.
-use Rattle.std.proofs.Common.{◌≡◌, ℕ, zero, suc, ◌+◌, ◌≤◌, ◌<◌, ◌||◌, Bool, List, [], ◌∷◌, ◌++◌, length, take, refl, sym, ◌∙◌, ap, subst, arith, Option, Some, None, Result, Ok, Err, length-append, append-nil, IfErr}
+use Rattle.std.proofs.Common.{◌≡◌, ℕ, zero, suc, ◌+◌, ◌≤◌, ◌<◌, ◌||◌, Bool, List, [], ◌∷◌, ◌++◌, length, take, refl}
+use Rattle.std.proofs.Common.{sym, ◌∙◌, ap, subst, arith, Option, Some, None, Result, Ok, Err, length-append}
+use Rattle.std.proofs.Common.{append-nil, IfErr}
 use mathlib.Core.Logic.{inl, inr}
 use Rattle.std.specs.Io.KnownBytes.{Consumes, IsAtEnd, Keeps}
 use Rattle.std.proofs.KnownBytes.{Consumes-trans, Consumes-kept, Consumes-nil}
@@ -10,11 +12,13 @@ use Rattle.keymap_text.specs.declared.fault.TextError.{TextError}
 use Rattle.keymap_text.specs.declared.fault.TextError.TheVariants as errors
 use Rattle.keymap_text.specs.declared.fault.TextFault.{TextFault}
 use Rattle.keymap_text.specs.Progress.{Progress}
-use Rattle.keymap_text.specs.Reading.{verdict, judge, Spelled}
+use Rattle.keymap_text.specs.Inner.Judging.{verdict, judge, Spelled}
 use Rattle.keymap_text.specs.Lexical.{split}
-use Rattle.keymap_text.specs.Grammar.{empty_map, at_end}
-use Rattle.keymap_text.specs.Standing.{StandsAfter, FedAfter, Concludes}
-use Rattle.keymap_text.specs.Sources.{limit, HasNoEarlyFault, TakesWhole, FailsInside, GoesPast, ReadsMap, StopsAtOnce, names_device}
+use Rattle.keymap_text.specs.Inner.Grammar.{empty_map, at_end}
+use Rattle.keymap_text.specs.Meaning.{Concludes}
+use Rattle.keymap_text.specs.Standing.{StandsAfter, FedAfter}
+use Rattle.keymap_text.specs.Sources.{limit, HasNoEarlyFault, TakesWhole, FailsInside, GoesPast, ReadsMap, StopsAtOnce}
+use Rattle.keymap_text.specs.Sources.{names_device}
 use Rattle.keymap_text.proofs.Verdicts.{spells_from, fault_or_map}
 
 -- The reader stands after the bytes that the device gave, which have no early fault.
@@ -25,25 +29,32 @@ pub record IsFed (old new : Option (List ℕ)) (reader : Progress) (taken : ℕ)
   pub stands : StandsAfter reader text
   pub sound : HasNoEarlyFault text
 
+-- no bytes spell the empty map
 empty_verdict : verdict [] ≡ Spelled empty_map
 unfolding judge split at_end
 empty_verdict = refl
 
+-- no bytes have no early fault
 none_early : HasNoEarlyFault []
 none_early f e = never _ (sym (fault_or_map [] empty_map (spells_from [] empty_map empty_verdict)) ∙ e.0)
   where
     never : {A : Type 0} (x : A) → None ≡ Some x → ⊥
     never x h = cc
 
+-- a reader that was fed nothing
 pub fed_none : (old : Option (List ℕ)) (r : Progress) → StandsAfter r [] → IsFed old old r 0
 fed_none old r h = record { text = []; consumed = Consumes-nil old; size = refl; stands = h; sound = none_early }
 
+-- a front has as many bytes as were asked for
 pub piece_length : (n : ℕ) (buffer : List ℕ) → n ≤ length buffer → length (take n buffer) ≡ n
 piece_length zero buffer h = refl
 piece_length (suc n) [] h = absurd (omega (arith, h))
 piece_length (suc n) (c ∷ buffer) h = ap suc (piece_length n buffer (omega (arith, h)))
 
-pub fed_more : {a b c : Option (List ℕ)} {r r' : Progress} {taken n : ℕ} → (buffer : List ℕ) → (fed : IsFed a b r taken) → Consumes b c (take n buffer) → n ≤ length buffer → FedAfter (Ok tt) r' (fed.text ++ take n buffer) → IsFed a c r' (taken + n)
+-- one piece more was fed, and has no early fault
+pub fed_more : {a b c : Option (List ℕ)} {r r' : Progress} {taken n : ℕ} → (buffer : List ℕ) → (fed : IsFed a b r taken)
+    → Consumes b c (take n buffer) → n ≤ length buffer → FedAfter (Ok tt) r' (fed.text ++ take n buffer)
+    → IsFed a c r' (taken + n)
 fed_more {a = a} {b = b} {c = c} {n = n} buffer fed h l k = record {
   text = fed.text ++ take n buffer;
   consumed = Consumes-trans a b c _ _ fed.consumed h;
@@ -52,41 +63,79 @@ fed_more {a = a} {b = b} {c = c} {n = n} buffer fed h l k = record {
   sound = k.1;
 }
 
-pub fed_early : {a b c : Option (List ℕ)} {r : Progress} {taken n : ℕ} {f : TextFault} → (r' : Progress) → (buffer : List ℕ) → (fed : IsFed a b r taken) → Consumes b c (take n buffer) → n ≤ length buffer → taken + n ≤ limit → FedAfter (Err f) r' (fed.text ++ take n buffer) → ReadsMap a c (Err (errors.Fault f))
-fed_early {a = a} {b = b} {c = c} {n = n} r' buffer fed h l few k = (fed.text ++ take n buffer, inl (record { taken = Consumes-trans a b c _ _ fed.consumed h; few = omega (arith, length-append fed.text (take n buffer), piece_length n buffer l, fed.size, few) }, k.0))
+-- the piece has an early fault
+pub fed_early : {a b c : Option (List ℕ)} {r : Progress} {taken n : ℕ} {f : TextFault} → (r' : Progress)
+    → (buffer : List ℕ) → (fed : IsFed a b r taken) → Consumes b c (take n buffer) → n ≤ length buffer
+    → taken + n ≤ limit → FedAfter (Err f) r' (fed.text ++ take n buffer) → ReadsMap a c (Err (errors.Fault f))
+fed_early {a = a} {b = b} {c = c} {n = n} r' buffer fed h l few k = (
+  fed.text ++ take n buffer,
+  inl (
+    record {
+      taken = Consumes-trans a b c _ _ fed.consumed h;
+      few = omega (arith, length-append fed.text (take n buffer), piece_length n buffer l, fed.size, few);
+    },
+    k.0,
+  ),
+)
 
-concluded : (a c : Option (List ℕ)) (result : Result MapValue TextError) (text : List ℕ) → Concludes result text → TakesWhole a c text → ReadsMap a c result
+-- the whole text was read
+concluded : (a c : Option (List ℕ)) (result : Result MapValue TextError) (text : List ℕ) → Concludes result text
+    → TakesWhole a c text → ReadsMap a c result
 concluded a c (Ok m) text h w = (text, w, h)
 concluded a c (Err errors.Memory) text h w = absurd h
 concluded a c (Err (errors.Read f)) text h w = absurd h
 concluded a c (Err (errors.Fault f)) text h w = (text, inr (w, h))
 
+-- a read of no bytes took none
 none_taken : (b c : Option (List ℕ)) (n : ℕ) (buffer : List ℕ) → n ≡ 0 → Consumes b c (take n buffer) → Consumes b c []
 none_taken b c n buffer z h = subst (λ (n : ℕ). Consumes b c (take n buffer)) z h
 
-pub fed_whole : {a b : Option (List ℕ)} {r : Progress} {taken n : ℕ} → (c : Option (List ℕ)) → (buffer : List ℕ) → (result : Result MapValue TextError) → (fed : IsFed a b r taken) → taken ≤ limit → n ≡ 0 → Consumes b c (take n buffer) → IsAtEnd c → Concludes result fed.text → ReadsMap a c result
+-- the device has no more bytes, so the text is whole
+pub fed_whole : {a b : Option (List ℕ)} {r : Progress} {taken n : ℕ} → (c : Option (List ℕ)) → (buffer : List ℕ)
+    → (result : Result MapValue TextError) → (fed : IsFed a b r taken) → taken ≤ limit → n ≡ 0
+    → Consumes b c (take n buffer) → IsAtEnd c → Concludes result fed.text → ReadsMap a c result
 fed_whole {a = a} {b = b} {n = n} c buffer result fed few z h e k = concluded a c result fed.text k (record {
-  taken = subst (λ (t : List ℕ). Consumes a c t) (append-nil fed.text) (Consumes-trans a b c _ _ fed.consumed (none_taken b c n buffer z h));
+  taken = subst (λ (t : List ℕ). Consumes a c t) (append-nil fed.text)
+      (Consumes-trans a b c _ _ fed.consumed (none_taken b c n buffer z h));
   few = omega (arith, fed.size, few);
   end = e;
 })
 
-pub no_device : (result : Result MapValue TextError) (text : List ℕ) (b : Bool) → Concludes result text → (names_device result || b) ≡ b
+-- the end of a text blames no device
+pub no_device : (result : Result MapValue TextError) (text : List ℕ) (b : Bool) → Concludes result text
+    → (names_device result || b) ≡ b
 no_device (Ok m) text b h = refl
 no_device (Err errors.Memory) text b h = absurd h
 no_device (Err (errors.Read f)) text b h = absurd h
 no_device (Err (errors.Fault f)) text b h = refl
 
-pub fed_fails : {a b : Option (List ℕ)} {r : Progress} {taken : ℕ} → (c : Option (List ℕ)) → (offset : ℕ) → (fed : IsFed a b r taken) → taken ≡ offset → taken ≤ limit → Keeps b c → FailsInside a c (record { offset = offset; kind = kinds.Device })
-fed_fails {a = a} {b = b} c offset fed e few k = record { text = fed.text; takes = record { taken = Consumes-kept a b c fed.text fed.consumed k; few = omega (arith, fed.size, few) }; offset = fed.size ∙ e; sound = fed.sound }
+-- the device fails after these bytes
+pub fed_fails : {a b : Option (List ℕ)} {r : Progress} {taken : ℕ} → (c : Option (List ℕ)) → (offset : ℕ)
+    → (fed : IsFed a b r taken) → taken ≡ offset → taken ≤ limit → Keeps b c
+    → FailsInside a c (record { offset = offset; kind = kinds.Device })
+fed_fails {a = a} {b = b} c offset fed e few k =
+    record {
+      text = fed.text;
+      takes = record {
+        taken = Consumes-kept a b c fed.text fed.consumed k;
+        few = omega (arith, fed.size, few);
+      };
+      offset = fed.size ∙ e;
+      sound = fed.sound;
+    }
 
-one_byte : (n : ℕ) (buffer : List ℕ) → 0 < n → n ≤ length buffer → length buffer ≡ 1 → (next : ℕ) × (take n buffer ≡ next ∷ [])
+-- a buffer of one byte that is full
+one_byte : (n : ℕ) (buffer : List ℕ) → 0 < n → n ≤ length buffer → length buffer ≡ 1
+    → (next : ℕ) × (take n buffer ≡ next ∷ [])
 one_byte zero buffer z l s = absurd (omega (arith, z))
 one_byte (suc n) [] z l s = absurd (omega (arith, l))
 one_byte (suc zero) (c ∷ buffer) z l s = (c, refl)
 one_byte (suc (suc n)) (c ∷ buffer) z l s = absurd (omega (arith, l, s))
 
-pub fed_past : {a b : Option (List ℕ)} {r : Progress} {taken n : ℕ} → (c : Option (List ℕ)) → (buffer : List ℕ) → (fed : IsFed a b r taken) → taken ≡ limit → 0 < n → n ≤ length buffer → length buffer ≡ 1 → Consumes b c (take n buffer) → GoesPast a c (record { offset = limit; kind = kinds.Endless })
+-- the device has a byte more than the limit
+pub fed_past : {a b : Option (List ℕ)} {r : Progress} {taken n : ℕ} → (c : Option (List ℕ)) → (buffer : List ℕ)
+    → (fed : IsFed a b r taken) → taken ≡ limit → 0 < n → n ≤ length buffer → length buffer ≡ 1
+    → Consumes b c (take n buffer) → GoesPast a c (record { offset = limit; kind = kinds.Endless })
 fed_past {a = a} {b = b} {n = n} c buffer fed full z l s h =
     let one = one_byte n buffer z l s in
     record {
@@ -99,14 +148,34 @@ fed_past {a = a} {b = b} {n = n} c buffer fed full z l s h =
     }
 
 -- nothing is read after a fault
-pub at_once_more : {a b c : Option (List ℕ)} {r : Progress} {taken n : ℕ} → (f : TextFault) → (buffer : List ℕ) → (fed : IsFed a b r taken) → Consumes b c (take n buffer) → n ≤ length buffer → n ≤ 512 → StopsAtOnce a c (errors.Fault f)
-at_once_more {a = a} {b = b} {c = c} {n = n} f buffer fed h l few = record { before = fed.text; last = take n buffer; taken = Consumes-trans a b c _ _ fed.consumed h; few = omega (arith, piece_length n buffer l, few); sound = fed.sound }
+pub at_once_more : {a b c : Option (List ℕ)} {r : Progress} {taken n : ℕ} → (f : TextFault) → (buffer : List ℕ)
+    → (fed : IsFed a b r taken) → Consumes b c (take n buffer) → n ≤ length buffer → n ≤ 512
+    → StopsAtOnce a c (errors.Fault f)
+at_once_more {a = a} {b = b} {c = c} {n = n} f buffer fed h l few =
+    record {
+      before = fed.text;
+      last = take n buffer;
+      taken = Consumes-trans a b c _ _ fed.consumed h;
+      few = omega (arith, piece_length n buffer l, few);
+      sound = fed.sound;
+    }
 
-pub at_once_whole : {a b : Option (List ℕ)} {r : Progress} {taken n : ℕ} → (c : Option (List ℕ)) → (buffer : List ℕ) → (result : Result MapValue TextError) → (fed : IsFed a b r taken) → n ≡ 0 → Consumes b c (take n buffer) → IfErr result (StopsAtOnce a c)
+-- nothing was read after the end
+pub at_once_whole : {a b : Option (List ℕ)} {r : Progress} {taken n : ℕ} → (c : Option (List ℕ)) → (buffer : List ℕ)
+    → (result : Result MapValue TextError) → (fed : IsFed a b r taken) → n ≡ 0 → Consumes b c (take n buffer)
+    → IfErr result (StopsAtOnce a c)
 at_once_whole c buffer (Ok m) fed z h = tt
 at_once_whole c buffer (Err errors.Memory) fed z h = tt
 at_once_whole c buffer (Err (errors.Read f)) fed z h = tt
-at_once_whole {a = a} {b = b} {n = n} c buffer (Err (errors.Fault f)) fed z h = record { before = fed.text; last = []; taken = Consumes-trans a b c _ _ fed.consumed (none_taken b c n buffer z h); few = omega arith; sound = fed.sound }
+at_once_whole {a = a} {b = b} {n = n} c buffer (Err (errors.Fault f)) fed z h =
+    record {
+      before = fed.text;
+      last = [];
+      taken = Consumes-trans a b c _ _ fed.consumed (none_taken b c n buffer z h);
+      few = omega arith;
+      sound = fed.sound;
+    }
 
+-- a fault of the device says nothing more
 pub at_once_read : (a c : Option (List ℕ)) (e : TextError) (f : ReadFault) → e ≡ errors.Read f → StopsAtOnce a c e
 at_once_read a c e f h = subst (λ (e : TextError). StopsAtOnce a c e) (sym h) tt

@@ -1,5 +1,7 @@
 -- Definitions put into a map one by one, and the last ones.
-use Rattle.std.proofs.Common.{◌≡◌, ℕ, zero, suc, ◌+◌, ◌<◌, ◌==◌, Bool, true, false, cond, max, List, [], ◌∷◌, ◌++◌, length, get_or, replicate, map, refl, sym, ◌∙◌, ap, arith, Option, Some, None, eqb-true, eq-eqb, true≢false, length-set, length-append, ◌-◌}
+use Rattle.std.proofs.Common.{◌≡◌, ℕ, zero, suc, ◌+◌, ◌<◌, ◌==◌, Bool, true, false, cond, max, List, [], ◌∷◌, ◌++◌}
+use Rattle.std.proofs.Common.{length, get_or, replicate, map, refl, sym, ◌∙◌, ap, arith, Option, Some, None, eqb-true}
+use Rattle.std.proofs.Common.{eq-eqb, true≢false, length-set, length-append, ◌-◌}
 use Rattle.std.specs.List.{range_with_len}
 use Rattle.std.specs.Option.{option_or}
 use Rattle.std.proofs.lemmas.List.{get_or-set_same, get_or-set_other, length-map}
@@ -7,8 +9,9 @@ use Rattle.std.proofs.lemmas.List.FromFn.{get_or-map-range_with_len, length-rang
 use Rattle.keymap_core.specs.declared.entry.Entry.{Entry}
 use Rattle.keymap_core.specs.Accents.{AccentValue, blank}
 use Rattle.keymap_core.specs.Maps.{MapValue, with_entry, with_accent, undefined, placed}
-use Rattle.keymap_text.specs.Grammar.{empty_map}
-use Rattle.keymap_text.specs.Rows.{Definition, KeyDefinition, AccentDefinition, last, of_slot, of_index, greatest, slots, indices, or_else, map_of}
+use Rattle.keymap_text.specs.Inner.Grammar.{empty_map}
+use Rattle.keymap_text.specs.Rows.{Definition, KeyDefinition, AccentDefinition, last, of_slot, of_index, greatest}
+use Rattle.keymap_text.specs.Rows.{slots, indices, or_else, map_of}
 
 abbrev pub put : MapValue → Definition → MapValue
 put m (KeyDefinition s e) = with_entry m s e
@@ -18,34 +21,46 @@ abbrev pub puts : MapValue → List Definition → MapValue
 puts m [] = m
 puts m (d ∷ ds) = puts (put m d) ds
 
+-- the last definition is put last
 pub puts_push : (m : MapValue) (ds : List Definition) (d : Definition) → puts m (ds ++ d ∷ []) ≡ put (puts m ds) d
 puts_push m [] d = refl
 puts_push m (x ∷ ds) d = puts_push (put m x) ds d
 
-list_ext : {X : Type 0} (xs ys : List X) (d : X) → length xs ≡ length ys → ((i : ℕ) → i < length xs → get_or xs i d ≡ get_or ys i d) → xs ≡ ys
+-- lists of one length with the same elements are equal
+list_ext : {X : Type 0} (xs ys : List X) (d : X) → length xs ≡ length ys
+    → ((i : ℕ) → i < length xs → get_or xs i d ≡ get_or ys i d) → xs ≡ ys
 list_ext [] [] d h e = refl
 list_ext [] (y ∷ ys) d h e = absurd (omega (arith, h))
 list_ext (x ∷ xs) [] d h e = absurd (omega (arith, h))
-list_ext (x ∷ xs) (y ∷ ys) d h e = ap (λ z. z ∷ xs) (e 0 (omega arith)) ∙ ap (λ zs. y ∷ zs) (list_ext xs ys d (omega (arith, h)) (λ i l. e (suc i) (omega (arith, l))))
+list_ext (x ∷ xs) (y ∷ ys) d h e =
+    ap (λ z. z ∷ xs) (e 0 (omega arith)) ∙ ap (λ zs. y ∷ zs) (list_ext xs ys d (omega (arith, h))
+    (λ i l. e (suc i) (omega (arith, l))))
 
+-- an element that was filled in
 get_replicate : {X : Type 0} (n i : ℕ) (u : X) → get_or (replicate n u) i u ≡ u
 get_replicate zero i u = refl
 get_replicate (suc n) zero u = refl
 get_replicate (suc n) (suc i) u = get_replicate n i u
 
+-- no definition says nothing
 pub last_none : {A : Type 0} (says : Definition → Option A) → last says [] ≡ None
 unfolding last
 last_none says = refl
 
-pub last_more : {A : Type 0} (says : Definition → Option A) (d : Definition) (ds : List Definition) → last says (d ∷ ds) ≡ option_or (last says ds) (says d)
+-- what the later ones say wins
+pub last_more : {A : Type 0} (says : Definition → Option A) (d : Definition) (ds : List Definition)
+    → last says (d ∷ ds) ≡ option_or (last says ds) (says d)
 unfolding last
 last_more says d ds = refl
 
+-- no definition has the greatest number 0
 pub greatest_none : (f : Definition → ℕ) → greatest f [] ≡ 0
 unfolding greatest
 greatest_none f = refl
 
-pub greatest_more : (f : Definition → ℕ) (d : Definition) (ds : List Definition) → greatest f (d ∷ ds) ≡ max (f d) (greatest f ds)
+-- the greatest of one definition and more
+pub greatest_more : (f : Definition → ℕ) (d : Definition) (ds : List Definition)
+    → greatest f (d ∷ ds) ≡ max (f d) (greatest f ds)
 unfolding greatest
 greatest_more f d ds = refl
 
@@ -53,28 +68,44 @@ greatest_more f d ds = refl
 max_of : (a b c : ℕ) → max (max a b) c ≡ max a (max b c)
 max_of a b c = omega arith
 
+-- how many were filled in
 length_replicate : {X : Type 0} (n : ℕ) (u : X) → length (replicate n u) ≡ n
 length_replicate zero u = refl
 length_replicate (suc n) u = ap suc (length_replicate n u)
 
+-- how long a list is after a place was set
 placed_length : {X : Type 0} (u : X) (xs : List X) (i : ℕ) (x : X) → length (placed u xs i x) ≡ max (length xs) (i + 1)
-placed_length u xs i x = length-set (xs ++ replicate (i + 1 - length xs) u) i x ∙ length-append xs (replicate (i + 1 - length xs) u) ∙ ap (λ n. length xs + n) (length_replicate (i + 1 - length xs) u) ∙ omega arith
+placed_length u xs i x =
+    length-set (xs ++ replicate (i + 1 - length xs) u) i x ∙ length-append xs (replicate (i + 1 - length xs) u)
+    ∙ ap (λ n. length xs + n) (length_replicate (i + 1 - length xs) u) ∙ omega arith
 
+-- how many entries there are after a definition
 entries_put : (m : MapValue) (d : Definition) → length (put m d).entries ≡ max (length m.entries) (slots d)
 entries_put m (KeyDefinition s e) = placed_length undefined m.entries s e
 entries_put m (AccentDefinition i a) = omega arith
 
+-- how many accents
 accents_put : (m : MapValue) (d : Definition) → length (put m d).accents ≡ max (length m.accents) (indices d)
 accents_put m (KeyDefinition s e) = omega arith
 accents_put m (AccentDefinition i a) = placed_length blank m.accents i a
 
-entries_length : (m : MapValue) (ds : List Definition) → length (puts m ds).entries ≡ max (length m.entries) (greatest slots ds)
+-- how many entries there are after all definitions
+entries_length : (m : MapValue) (ds : List Definition)
+    → length (puts m ds).entries ≡ max (length m.entries) (greatest slots ds)
 entries_length m [] = rw greatest_none (omega arith)
-entries_length m (d ∷ ds) = entries_length (put m d) ds ∙ ap (λ n. max n (greatest slots ds)) (entries_put m d) ∙ max_of (length m.entries) (slots d) (greatest slots ds) ∙ ap (λ n. max (length m.entries) n) (sym (greatest_more slots d ds))
+entries_length m (d ∷ ds) =
+    entries_length (put m d) ds ∙ ap (λ n. max n (greatest slots ds)) (entries_put m d)
+    ∙ max_of (length m.entries) (slots d) (greatest slots ds)
+    ∙ ap (λ n. max (length m.entries) n) (sym (greatest_more slots d ds))
 
-accents_length : (m : MapValue) (ds : List Definition) → length (puts m ds).accents ≡ max (length m.accents) (greatest indices ds)
+-- how many accents
+accents_length : (m : MapValue) (ds : List Definition)
+    → length (puts m ds).accents ≡ max (length m.accents) (greatest indices ds)
 accents_length m [] = rw greatest_none (omega arith)
-accents_length m (d ∷ ds) = accents_length (put m d) ds ∙ ap (λ n. max n (greatest indices ds)) (accents_put m d) ∙ max_of (length m.accents) (indices d) (greatest indices ds) ∙ ap (λ n. max (length m.accents) n) (sym (greatest_more indices d ds))
+accents_length m (d ∷ ds) =
+    accents_length (put m d) ds ∙ ap (λ n. max n (greatest indices ds)) (accents_put m d)
+    ∙ max_of (length m.accents) (indices d) (greatest indices ds)
+    ∙ ap (λ n. max (length m.accents) n) (sym (greatest_more indices d ds))
 
 -- one of a list in which another is placed
 padded : {X : Type 0} (xs : List X) (n j : ℕ) (u : X) → get_or (xs ++ replicate n u) j u ≡ get_or xs j u
@@ -82,45 +113,71 @@ padded [] n j u = get_replicate n j u
 padded (x ∷ xs) n zero u = refl
 padded (x ∷ xs) n (suc j) u = padded xs n j u
 
-placed_says : {X : Type 0} (u : X) (xs : List X) (s i : ℕ) (x : X) → get_or (placed u xs s x) i u ≡ or_else (cond (s == i) (Some x) None) (get_or xs i u)
+-- what stands at a place after one was set
+placed_says : {X : Type 0} (u : X) (xs : List X) (s i : ℕ) (x : X)
+    → get_or (placed u xs s x) i u ≡ or_else (cond (s == i) (Some x) None) (get_or xs i u)
 placed_says u xs s i x = go (s == i) refl
   where
     room : s < length (xs ++ replicate (s + 1 - length xs) u)
     room = omega (arith, length-append xs (replicate (s + 1 - length xs) u), length_replicate (s + 1 - length xs) u)
 
     go : (b : Bool) → (s == i) ≡ b → get_or (placed u xs s x) i u ≡ or_else (cond b (Some x) None) (get_or xs i u)
-    go true e = ap (λ k. get_or (placed u xs s x) k u) (sym (eqb-true s i e)) ∙ get_or-set_same (xs ++ replicate (s + 1 - length xs) u) s x u room
-    go false e = get_or-set_other (xs ++ replicate (s + 1 - length xs) u) s i x u (λ k. true≢false (sym (eq-eqb s i (sym k)) ∙ e)) ∙ padded xs (s + 1 - length xs) i u
+    go true e = ap (λ k. get_or (placed u xs s x) k u) (sym (eqb-true s i e))
+        ∙ get_or-set_same (xs ++ replicate (s + 1 - length xs) u) s x u room
+    go false e =
+        get_or-set_other (xs ++ replicate (s + 1 - length xs) u) s i x u
+        (λ k. true≢false (sym (eq-eqb s i (sym k)) ∙ e)) ∙ padded xs (s + 1 - length xs) i u
 
+-- a later answer wins
 later : {A : Type 0} (o p : Option A) (x y : A) → x ≡ or_else p y → or_else o x ≡ or_else (option_or o p) y
 later (Some z) p x y h = refl
 later None p x y h = h
 
-entry_put : (m : MapValue) (d : Definition) (slot : ℕ) → get_or (put m d).entries slot undefined ≡ or_else (of_slot slot d) (get_or m.entries slot undefined)
+-- the entry of a slot after a definition
+entry_put : (m : MapValue) (d : Definition) (slot : ℕ)
+    → get_or (put m d).entries slot undefined ≡ or_else (of_slot slot d) (get_or m.entries slot undefined)
 entry_put m (KeyDefinition s e) slot = placed_says undefined m.entries s slot e
 entry_put m (AccentDefinition i a) slot = refl
 
-entries_of : (m : MapValue) (ds : List Definition) (slot : ℕ) → get_or (puts m ds).entries slot undefined ≡ or_else (last (of_slot slot) ds) (get_or m.entries slot undefined)
+-- the entry of a slot after all definitions
+entries_of : (m : MapValue) (ds : List Definition) (slot : ℕ)
+    → get_or (puts m ds).entries slot undefined ≡ or_else (last (of_slot slot) ds) (get_or m.entries slot undefined)
 entries_of m [] slot = rw last_none refl
-entries_of m (d ∷ ds) slot = entries_of (put m d) ds slot ∙ later (last (of_slot slot) ds) (of_slot slot d) _ _ (entry_put m d slot) ∙ ap (λ o. or_else o (get_or m.entries slot undefined)) (sym (last_more (of_slot slot) d ds))
+entries_of m (d ∷ ds) slot =
+    entries_of (put m d) ds slot ∙ later (last (of_slot slot) ds) (of_slot slot d) _ _ (entry_put m d slot)
+    ∙ ap (λ o. or_else o (get_or m.entries slot undefined)) (sym (last_more (of_slot slot) d ds))
 
-accent_put : (m : MapValue) (d : Definition) (i : ℕ) → get_or (put m d).accents i blank ≡ or_else (of_index i d) (get_or m.accents i blank)
+-- an accent after a definition
+accent_put : (m : MapValue) (d : Definition) (i : ℕ)
+    → get_or (put m d).accents i blank ≡ or_else (of_index i d) (get_or m.accents i blank)
 accent_put m (KeyDefinition s e) i = refl
 accent_put m (AccentDefinition j a) i = placed_says blank m.accents j i a
 
-accents_of : (m : MapValue) (ds : List Definition) (i : ℕ) → get_or (puts m ds).accents i blank ≡ or_else (last (of_index i) ds) (get_or m.accents i blank)
+-- an accent after all definitions
+accents_of : (m : MapValue) (ds : List Definition) (i : ℕ)
+    → get_or (puts m ds).accents i blank ≡ or_else (last (of_index i) ds) (get_or m.accents i blank)
 accents_of m [] i = rw last_none refl
-accents_of m (d ∷ ds) i = accents_of (put m d) ds i ∙ later (last (of_index i) ds) (of_index i d) _ _ (accent_put m d i) ∙ ap (λ o. or_else o (get_or m.accents i blank)) (sym (last_more (of_index i) d ds))
+accents_of m (d ∷ ds) i =
+    accents_of (put m d) ds i ∙ later (last (of_index i) ds) (of_index i d) _ _ (accent_put m d i)
+    ∙ ap (λ o. or_else o (get_or m.accents i blank)) (sym (last_more (of_index i) d ds))
 
 -- a list is its elements
-pub by_range : {X : Type 0} (xs : List X) (f : ℕ → X) (n : ℕ) (u : X) → length xs ≡ n → ((i : ℕ) → i < n → get_or xs i u ≡ f i) → xs ≡ map f (range_with_len 0 n)
-by_range xs f n u l h = list_ext xs (map f (range_with_len 0 n)) u (l ∙ sym (length-range_with_len 0 n) ∙ sym (length-map (range_with_len 0 n) f))
+pub by_range : {X : Type 0} (xs : List X) (f : ℕ → X) (n : ℕ) (u : X) → length xs ≡ n
+    → ((i : ℕ) → i < n → get_or xs i u ≡ f i) → xs ≡ map f (range_with_len 0 n)
+by_range xs f n u l h =
+    list_ext xs (map f (range_with_len 0 n)) u
+    (l ∙ sym (length-range_with_len 0 n) ∙ sym (length-map (range_with_len 0 n) f))
     (λ i k. h i (omega (arith, k, l)) ∙ sym (get_or-map-range_with_len f 0 n i i u (omega (arith, k, l)) (omega arith)))
 
-pub same_map : (es es' : List Entry) (bs bs' : List AccentValue) → es ≡ es' → bs ≡ bs' → ◌≡◌ {A = MapValue} (record { entries = es; accents = bs }) (record { entries = es'; accents = bs' })
+-- maps with the same entries and accents are one
+pub same_map : (es es' : List Entry) (bs bs' : List AccentValue) → es ≡ es' → bs ≡ bs'
+    → ◌≡◌ {A = MapValue} (record { entries = es; accents = bs }) (record { entries = es'; accents = bs' })
 same_map es es' bs bs' a b = cc
 
+-- definitions put into the empty map one by one make the map of the last ones
 pub puts_are : (ds : List Definition) → puts empty_map ds ≡ map_of ds
 puts_are ds = same_map _ _ _ _
-    (by_range _ _ (greatest slots ds) undefined (entries_length empty_map ds ∙ omega arith) (λ i h. entries_of empty_map ds i))
-    (by_range _ _ (greatest indices ds) blank (accents_length empty_map ds ∙ omega arith) (λ i h. accents_of empty_map ds i))
+    (by_range _ _ (greatest slots ds) undefined (entries_length empty_map ds ∙ omega arith)
+    (λ i h. entries_of empty_map ds i))
+    (by_range _ _ (greatest indices ds) blank (accents_length empty_map ds ∙ omega arith)
+    (λ i h. accents_of empty_map ds i))

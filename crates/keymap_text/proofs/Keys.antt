@@ -1,5 +1,6 @@
 -- The keys of words.
-use Rattle.std.proofs.Common.{◌≡◌, ◌≢◌, ℕ, zero, suc, ◌+◌, ◌*◌, ◌/◌, ◌%◌, ◌^◌, ◌<◌, ◌≤◌, Bool, true, false, cond, ◌==◌, List, [], ◌∷◌, length, take, get_or, map, refl, sym, ◌∙◌, ap, ap₂, arith, eq-eqb, ne_eqb}
+use Rattle.std.proofs.Common.{◌≡◌, ℕ, zero, suc, ◌+◌, ◌*◌, ◌/◌, ◌%◌, ◌<◌, ◌≤◌, Bool, true, false, cond}
+use Rattle.std.proofs.Common.{List, [], ◌∷◌, length, take, get_or, map, refl, sym, ◌∙◌, ap, ap₂, arith, eq-eqb, ne_eqb}
 use Rattle.std.proofs.lemmas.Nat.{and_block, or_block, or_disjoint, and_le_l, and_le_r}
 use Rattle.std.proofs.lemmas.Bool.Decides.{nat_tests}
 use lib.Bits.{bit_and, bit_or}
@@ -7,7 +8,7 @@ use Rattle.std.specs.List.{range_with_len}
 use Rattle.std.specs.Int.{from_le_bytes, w64}
 use Rattle.std.specs.Char.{to_ascii_lowercase}
 use Rattle.keymap_text.specs.Lexical.{leading, is_word}
-use Rattle.keymap_text.specs.Keys.{pack, unpacked, Letters}
+use Rattle.keymap_text.specs.Inner.Keys.{pack, unpacked, Letters}
 use Rattle.keymap_text.specs.declared.names.TheConstants.{LOW_BYTES}
 use Rattle.keymap_text.proofs.Characters.{along}
 use Rattle.keymap_text.proofs.Leading.{leading_pass, leading_fail, leading_none}
@@ -16,18 +17,22 @@ use Rattle.keymap_text.proofs.Leading.{leading_pass, leading_fail, leading_none}
 pub word_byte : (c : ℕ) → is_word c ≡ true → c < 256
 word_byte c h = grind (arith, nat_tests)
 
+-- a letter or digit in lower case is above 47
 lower_from : (c : ℕ) → is_word c ≡ true → 47 < to_ascii_lowercase c
 lower_from c h = grind (arith, nat_tests)
 
+-- and is a byte
 lower_to : (c : ℕ) → is_word c ≡ true → to_ascii_lowercase c < 256
 lower_to c h = grind (arith, nat_tests)
 
+-- a front of word bytes has letters and digits alone
 pub letters_front : (n : ℕ) (w : List ℕ) → n ≤ leading is_word w → Letters (take n w)
 letters_front zero w h = tt
 letters_front (suc n) [] h = absurd (omega (arith, h, leading_none is_word))
 letters_front (suc n) (c ∷ w) h = go (is_word c) refl (letters_front n w)
   where
-    go : (b : Bool) → is_word c ≡ b → (n ≤ leading is_word w → Letters (take n w)) → (is_word c ≡ true) × Letters (take n w)
+    go : (b : Bool) → is_word c ≡ b → (n ≤ leading is_word w → Letters (take n w))
+        → (is_word c ≡ true) × Letters (take n w)
     go true e k = (e, k (omega (arith, h, leading_pass is_word c w e)))
     go false e k = absurd (omega (arith, h, leading_fail is_word c w e))
 
@@ -37,42 +42,54 @@ low zero w = 0
 low (suc k) [] = 0
 low (suc k) (c ∷ w) = low k w * 256 + c
 
+-- the number with so many bytes of ones
 ones : ℕ → ℕ
 ones zero = 0
 ones (suc n) = ones n * 256 + 255
 
-raised : map (λ c. cond (is_word c) (bit_or (bit_and c 255) 32) 0) (range_with_len 0 256) ≡ map (λ c. cond (is_word c) (to_ascii_lowercase c) 0) (range_with_len 0 256)
+-- the bit 32 makes lower case of letters and leaves digits, by computation
+raised : map (λ c. cond (is_word c) (bit_or (bit_and c 255) 32) 0) (range_with_len 0 256)
+    ≡ map (λ c. cond (is_word c) (to_ascii_lowercase c) 0) (range_with_len 0 256)
 raised = refl
 
+-- the same of a byte
 raised_byte : (c : ℕ) → is_word c ≡ true → bit_or (bit_and c 255) 32 ≡ to_ascii_lowercase c
 raised_byte c h =
     sym (ap (λ b. cond b (bit_or (bit_and c 255) 32) 0) h)
-    ∙ along (λ c. cond (is_word c) (bit_or (bit_and c 255) 32) 0) (λ c. cond (is_word c) (to_ascii_lowercase c) 0) 0 256 raised c (omega arith) (word_byte c h)
+    ∙ along (λ c. cond (is_word c) (bit_or (bit_and c 255) 32) 0)
+    (λ c. cond (is_word c) (to_ascii_lowercase c) 0) 0 256 raised c (omega arith) (word_byte c h)
     ∙ ap (λ b. cond b (to_ascii_lowercase c) 0) h
 
+-- a mask of zero leaves nothing
 and_none : (x p : ℕ) → bit_or (bit_and x 0) p ≡ p
 and_none x p =
     let z : bit_and x 0 ≡ 0 = omega (arith, and_le_r x 0) in
     let y : bit_and 0 p ≡ 0 = omega (arith, and_le_l 0 p) in
     ap (λ z. bit_or z p) z ∙ or_disjoint 0 p y ∙ omega arith
 
-packed_low : (k n : ℕ) (w : List ℕ) → n ≤ k → k ≤ length w → Letters (take n w) → bit_or (bit_and (low k w) (ones n)) (pack k []) ≡ pack k (map to_ascii_lowercase (take n w))
+-- the first bytes in lower case, blanks behind them
+packed_low : (k n : ℕ) (w : List ℕ) → n ≤ k → k ≤ length w → Letters (take n w)
+    → bit_or (bit_and (low k w) (ones n)) (pack k []) ≡ pack k (map to_ascii_lowercase (take n w))
 unfolding ones low
 packed_low k zero w h l s = and_none (low k w) (pack k [])
 packed_low zero (suc n) w h l s = absurd (omega (arith, h))
 packed_low (suc k) (suc n) [] h l s = absurd (omega (arith, l))
 packed_low (suc k) (suc n) (c ∷ w) h l s =
     ap (λ x. bit_or x (pack k [] * 256 + 32)) (and_block 8 (low k w) (ones n) c 255 (word_byte c s.0) (omega arith))
-    ∙ or_block 8 (bit_and (low k w) (ones n)) (pack k []) (bit_and c 255) 32 (omega (arith, and_le_l c 255, word_byte c s.0)) (omega arith)
+    ∙ or_block 8 (bit_and (low k w) (ones n)) (pack k []) (bit_and c 255) 32
+    (omega (arith, and_le_l c 255, word_byte c s.0)) (omega arith)
     ∙ ap₂ (λ x y. x * 256 + y) (packed_low k n w (omega (arith, h)) (omega (arith, l)) s.1) (raised_byte c s.0)
 
+-- the table of masks, by computation
 masks : map (λ n. get_or LOW_BYTES n 0) (range_with_len 0 9) ≡ map ones (range_with_len 0 9)
 unfolding ones
 masks = refl
 
+-- a mask of the table
 mask : (n : ℕ) → n ≤ 8 → get_or LOW_BYTES n 0 ≡ ones n
 mask n h = along (λ n. get_or LOW_BYTES n 0) ones 0 9 masks n (omega arith) (omega (arith, h))
 
+-- eight bytes as a number
 low_front : (w : List ℕ) → 8 ≤ length w → from_le_bytes w64 (take 8 w) ≡ low 8 w
 unfolding low
 low_front [] h = absurd (omega (arith, h))
@@ -85,23 +102,32 @@ low_front (a ∷ b ∷ c ∷ d ∷ e ∷ f ∷ []) h = absurd (omega (arith, h))
 low_front (a ∷ b ∷ c ∷ d ∷ e ∷ f ∷ g ∷ []) h = absurd (omega (arith, h))
 low_front (a ∷ b ∷ c ∷ d ∷ e ∷ f ∷ g ∷ i ∷ w) h = omega arith
 
-pub packed_front : (w : List ℕ) (n x : ℕ) (eight : List ℕ) → n ≤ 8 → 8 ≤ length w → n ≤ leading is_word w → eight ≡ take 8 w → x ≡ from_le_bytes w64 eight → bit_or (bit_and x (get_or LOW_BYTES n 0)) 0x2020202020202020 ≡ pack 8 (map to_ascii_lowercase (take n w))
+-- the first bytes in lower case, and blanks behind them, are the key of the word
+pub packed_front : (w : List ℕ) (n x : ℕ) (eight : List ℕ) → n ≤ 8 → 8 ≤ length w → n ≤ leading is_word w
+    → eight ≡ take 8 w → x ≡ from_le_bytes w64 eight
+    → bit_or (bit_and x (get_or LOW_BYTES n 0)) 0x2020202020202020 ≡ pack 8 (map to_ascii_lowercase (take n w))
 packed_front w n x eight h l s a e =
     ap₂ (λ x m. bit_or (bit_and x m) 0x2020202020202020) (e ∙ ap (from_le_bytes w64) a ∙ low_front w l) (mask n h)
     ∙ packed_low 8 n w h l (letters_front n w s)
 
 -- what is packed can be unpacked
 unpacked_end : (n p : ℕ) → unpacked (suc n) (p * 256 + 32) ≡ []
-unpacked_end n p = ap (λ b. cond b [] ((p * 256 + 32) % 256 ∷ unpacked n ((p * 256 + 32) / 256))) (eq-eqb ((p * 256 + 32) % 256) 32 (omega arith))
+unpacked_end n p =
+    ap (λ b. cond b [] ((p * 256 + 32) % 256 ∷ unpacked n ((p * 256 + 32) / 256)))
+    (eq-eqb ((p * 256 + 32) % 256) 32 (omega arith))
 
+-- the lowest byte of a key
 unpacked_byte : (n p c : ℕ) → 47 < c → c < 256 → unpacked (suc n) (p * 256 + c) ≡ c ∷ unpacked n p
 unpacked_byte n p c h l =
     let m : (p * 256 + c) % 256 ≡ c = omega (arith, l) in
     let d : (p * 256 + c) / 256 ≡ p = omega (arith, l) in
-    ap (λ b. cond b [] ((p * 256 + c) % 256 ∷ unpacked n ((p * 256 + c) / 256))) (ne_eqb ((p * 256 + c) % 256) 32 (λ e. omega (arith, m, e, h)))
+    ap (λ b. cond b [] ((p * 256 + c) % 256 ∷ unpacked n ((p * 256 + c) / 256)))
+    (ne_eqb ((p * 256 + c) % 256) 32 (λ e. omega (arith, m, e, h)))
     ∙ ap₂ (λ (x y : ℕ). x ∷ unpacked n y) m d
 
-pub unpack_packed : (n : ℕ) (w : List ℕ) → length w ≤ n → Letters w → unpacked n (pack n (map to_ascii_lowercase w)) ≡ map to_ascii_lowercase w
+-- the key of a word gives the word back, in lower case
+pub unpack_packed : (n : ℕ) (w : List ℕ) → length w ≤ n → Letters w
+    → unpacked n (pack n (map to_ascii_lowercase w)) ≡ map to_ascii_lowercase w
 unpack_packed zero [] h s = refl
 unpack_packed zero (c ∷ w) h s = absurd (omega (arith, h))
 unpack_packed (suc n) [] h s = unpacked_end n (pack n [])

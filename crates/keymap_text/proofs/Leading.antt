@@ -1,5 +1,6 @@
 -- How many bytes at the front pass a test.
-use Rattle.std.proofs.Common.{◌≡◌, ℕ, zero, suc, ◌+◌, ◌<◌, ◌≤◌, Bool, true, false, cond, List, [], ◌∷◌, ◌++◌, length, take, drop, get_or, refl, sym, ◌∙◌, ap, arith, add-one, drop-cons, length-append}
+use Rattle.std.proofs.Common.{◌≡◌, ℕ, zero, suc, ◌+◌, ◌<◌, ◌≤◌, Bool, true, false, cond, List, [], ◌∷◌, ◌++◌, length}
+use Rattle.std.proofs.Common.{take, drop, get_or, refl, sym, ◌∙◌, ap, arith, add-one, drop-cons, length-append}
 use Rattle.std.proofs.lemmas.List.{at_drop_all}
 use Rattle.keymap_text.specs.Lexical.{leading}
 
@@ -8,46 +9,64 @@ pub leading_pass : (p : ℕ → Bool) (c : ℕ) (cs : List ℕ) → p c ≡ true
 unfolding leading
 leading_pass p c cs h = ap (λ b. cond b (leading p cs + 1) 0) h
 
+-- a byte that fails the test has nothing in front
 pub leading_fail : (p : ℕ → Bool) (c : ℕ) (cs : List ℕ) → p c ≡ false → leading p (c ∷ cs) ≡ 0
 unfolding leading
 leading_fail p c cs h = ap (λ b. cond b (leading p cs + 1) 0) h
 
+-- no bytes have nothing in front
 pub leading_none : (p : ℕ → Bool) → leading p [] ≡ 0
 unfolding leading
 leading_none p = refl
 
 -- the same at an index of a list
-pub leading_pass_at : (p : ℕ → Bool) (xs : List ℕ) (i : ℕ) → i < length xs → p (get_or xs i 0) ≡ true → leading p (drop i xs) ≡ leading p (drop (i + 1) xs) + 1
-leading_pass_at p xs i h e = ap (leading p) (drop-cons xs i 0 h) ∙ leading_pass p _ _ e ∙ ap (λ n. leading p (drop n xs) + 1) (sym (add-one i))
+pub leading_pass_at : (p : ℕ → Bool) (xs : List ℕ) (i : ℕ) → i < length xs → p (get_or xs i 0) ≡ true
+    → leading p (drop i xs) ≡ leading p (drop (i + 1) xs) + 1
+leading_pass_at p xs i h e =
+    ap (leading p) (drop-cons xs i 0 h) ∙ leading_pass p _ _ e ∙ ap (λ n. leading p (drop n xs) + 1) (sym (add-one i))
 
-pub leading_fail_at : (p : ℕ → Bool) (xs : List ℕ) (i : ℕ) → i < length xs → p (get_or xs i 0) ≡ false → leading p (drop i xs) ≡ 0
+-- the same at a place
+pub leading_fail_at : (p : ℕ → Bool) (xs : List ℕ) (i : ℕ) → i < length xs → p (get_or xs i 0) ≡ false
+    → leading p (drop i xs) ≡ 0
 leading_fail_at p xs i h e = ap (leading p) (drop-cons xs i 0 h) ∙ leading_fail p _ _ e
 
+-- nor is anything in front at the end
 pub leading_end : (p : ℕ → Bool) (xs : List ℕ) (i : ℕ) → length xs ≤ i → leading p (drop i xs) ≡ 0
 leading_end p xs i h = at_drop_all (leading p) xs i h ∙ leading_none p
 
+-- one more at most
 le_case : (b : Bool) (n m : ℕ) → n ≤ m → cond b (n + 1) 0 ≤ suc m
 le_case true n m h = omega arith
 le_case false n m h = omega arith
 
+-- a front is no longer than the bytes
 pub leading_le : (p : ℕ → Bool) (xs : List ℕ) → leading p xs ≤ length xs
 unfolding leading
 leading_le p [] = omega arith
 leading_le p (x ∷ xs) = le_case (p x) _ _ (leading_le p xs)
 
 -- bytes that all pass, and others behind them
-pub leading_append : (p : ℕ → Bool) (w y : List ℕ) → leading p w ≡ length w → leading p (w ++ y) ≡ length w + leading p y
+pub leading_append : (p : ℕ → Bool) (w y : List ℕ) → leading p w ≡ length w
+    → leading p (w ++ y) ≡ length w + leading p y
 leading_append p [] y h = omega arith
 leading_append p (c ∷ w) y h = go (p c) refl (leading_append p w y)
   where
-    go : (b : Bool) → p c ≡ b → (leading p w ≡ length w → leading p (w ++ y) ≡ length w + leading p y) → leading p (c ∷ (w ++ y)) ≡ suc (length w) + leading p y
-    go true e k = leading_pass p c (w ++ y) e ∙ ap (λ n. n + 1) (k (omega (arith, leading_pass p c w e, h))) ∙ omega arith
+    go : (b : Bool) → p c ≡ b → (leading p w ≡ length w → leading p (w ++ y) ≡ length w + leading p y)
+        → leading p (c ∷ (w ++ y)) ≡ suc (length w) + leading p y
+    go true e k =
+        leading_pass p c (w ++ y) e ∙ ap (λ n. n + 1) (k (omega (arith, leading_pass p c w e, h))) ∙ omega arith
     go false e k = absurd (omega (arith, leading_fail p c w e, h))
 
-pub leading_push : (p : ℕ → Bool) (w : List ℕ) (c : ℕ) → leading p w ≡ length w → p c ≡ true → leading p (w ++ c ∷ []) ≡ length (w ++ c ∷ [])
-leading_push p w c h e = leading_append p w (c ∷ []) h ∙ ap (λ n. length w + n) (leading_pass p c [] e ∙ ap (λ n. n + 1) (leading_none p)) ∙ sym (length-append w (c ∷ []))
+-- one byte more that passes
+pub leading_push : (p : ℕ → Bool) (w : List ℕ) (c : ℕ) → leading p w ≡ length w → p c ≡ true
+    → leading p (w ++ c ∷ []) ≡ length (w ++ c ∷ [])
+leading_push p w c h e =
+    leading_append p w (c ∷ []) h ∙ ap (λ n. length w + n) (leading_pass p c [] e ∙ ap (λ n. n + 1) (leading_none p))
+    ∙ sym (length-append w (c ∷ []))
 
-pub leading_tail : (p : ℕ → Bool) (c : ℕ) (w : List ℕ) → leading p (c ∷ w) ≡ suc (length w) → (p c ≡ true) × (leading p w ≡ length w)
+-- where all bytes pass, the first does, and the others do
+pub leading_tail : (p : ℕ → Bool) (c : ℕ) (w : List ℕ) → leading p (c ∷ w) ≡ suc (length w)
+    → (p c ≡ true) × (leading p w ≡ length w)
 leading_tail p c w h = go (p c) refl
   where
     go : (b : Bool) → p c ≡ b → (p c ≡ true) × (leading p w ≡ length w)
@@ -58,20 +77,29 @@ leading_tail p c w h = go (p c) refl
 same_head : (a c : ℕ) (v w : List ℕ) → a ∷ v ≡ c ∷ w → a ≡ c
 same_head a c v w h = cc
 
+-- lists that are equal have equal tails
 same_tail : (a c : ℕ) (v w : List ℕ) → a ∷ v ≡ c ∷ w → v ≡ w
 same_tail a c v w h = cc
 
+-- no bytes are not some
 not_none : (c : ℕ) (w : List ℕ) → [] ≡ c ∷ w → ⊥
 not_none c w h = cc
 
+-- a front counts its own bytes alone
 pub leading_same : (p : ℕ → Bool) (n : ℕ) (v w : List ℕ) → take n v ≡ take n w → n ≤ leading p w → n ≤ leading p v
 leading_same p zero v w e h = omega arith
 leading_same p (suc n) v [] e h = absurd (omega (arith, h, leading_none p))
 leading_same p (suc n) [] (c ∷ w) e h = absurd (not_none c (take n w) e)
-leading_same p (suc n) (a ∷ v) (c ∷ w) e h = go (p c) refl (leading_same p n v w (same_tail a c (take n v) (take n w) e))
+leading_same p (suc n) (a ∷ v) (c ∷ w) e h =
+    go (p c) refl (leading_same p n v w (same_tail a c (take n v) (take n w) e))
   where
     go : (b : Bool) → p c ≡ b → (n ≤ leading p w → n ≤ leading p v) → suc n ≤ leading p (a ∷ v)
-    go true t k = omega (arith, leading_pass p a v (ap p (same_head a c (take n v) (take n w) e) ∙ t), k (omega (arith, h, leading_pass p c w t)))
+    go true t k =
+        omega (
+          arith,
+          leading_pass p a v (ap p (same_head a c (take n v) (take n w) e) ∙ t),
+          k (omega (arith, h, leading_pass p c w t)),
+        )
     go false t k = absurd (omega (arith, h, leading_fail p c w t))
 
 pub ruleset leading_rules = (leading_pass_at, leading_fail_at, leading_end, leading_le)

@@ -1,5 +1,6 @@
 -- Texts whose tokens are known, whatever stands behind them.
-use Rattle.std.proofs.Common.{◌≡◌, ℕ, ◌+◌, ◌<◌, ◌≤◌, true, false, List, [], ◌∷◌, ◌++◌, length, map, refl, sym, ◌∙◌, ap, arith, append_assoc, length-append, add-zero}
+use Rattle.std.proofs.Common.{◌≡◌, ℕ, ◌+◌, ◌<◌, ◌≤◌, true, false, List, [], ◌∷◌, ◌++◌, length, map, refl, sym, ◌∙◌, ap}
+use Rattle.std.proofs.Common.{arith, append_assoc, length-append, add-zero}
 use Rattle.std.proofs.lemmas.Bool.Decides.{nat_tests}
 use Rattle.keymap_text.specs.declared.token.TokenKind.TheVariants.{ParenL, ParenR, Literal}
 use Rattle.keymap_text.specs.declared.words.Item.{Item}
@@ -26,41 +27,63 @@ pub record Lexes (P : List ℕ → Type 0) (t : List ℕ) (is : List Item) : Typ
   pub items : (q : ℕ) (y : List ℕ) → P y → items_of (split 0 q (t ++ y)) ≡ is ++ items_of (split 0 (q + length t) y)
   pub end : (q : ℕ) (y : List ℕ) → P y → behind (split 0 q (t ++ y)) ≡ behind (split 0 (q + length t) y)
 
+-- no bytes are no tokens
 pub lexes_none : (P : List ℕ → Type 0) → Lexes P [] []
-lexes_none P = record { items = λ q y h. ap (λ n. items_of (split 0 n y)) (sym (add-zero q)); end = λ q y h. ap (λ n. behind (split 0 n y)) (sym (add-zero q)) }
+lexes_none P =
+    record {
+      items = λ q y h. ap (λ n. items_of (split 0 n y)) (sym (add-zero q));
+      end = λ q y h. ap (λ n. behind (split 0 n y)) (sym (add-zero q));
+    }
 
-pub lexes_both : {P Q : List ℕ → Type 0} {t u : List ℕ} {is js : List Item} → Lexes P t is → Lexes Q u js → ((y : List ℕ) → Q y → P (u ++ y)) → Lexes Q (t ++ u) (is ++ js)
+-- tokens of two texts, one after the other
+pub lexes_both : {P Q : List ℕ → Type 0} {t u : List ℕ} {is js : List Item} → Lexes P t is → Lexes Q u js
+    → ((y : List ℕ) → Q y → P (u ++ y)) → Lexes Q (t ++ u) (is ++ js)
 lexes_both {t = t} {u = u} {is = is} {js = js} a b s = record {
-  items = λ q y h. ap (λ x. items_of (split 0 q x)) (append_assoc t u y) ∙ a.items q (u ++ y) (s y h) ∙ ap (λ (l : List Item). is ++ l) (b.items (q + length t) y h ∙ ap (λ n. js ++ items_of (split 0 n y)) (far q)) ∙ sym (append_assoc is js _);
-  end = λ q y h. ap (λ x. behind (split 0 q x)) (append_assoc t u y) ∙ a.end q (u ++ y) (s y h) ∙ b.end (q + length t) y h ∙ ap (λ n. behind (split 0 n y)) (far q);
+  items = λ q y h. ap (λ x. items_of (split 0 q x)) (append_assoc t u y) ∙ a.items q (u ++ y) (s y h)
+      ∙ ap (λ (l : List Item). is ++ l) (b.items (q + length t) y h ∙ ap (λ n. js ++ items_of (split 0 n y)) (far q))
+      ∙ sym (append_assoc is js _);
+  end = λ q y h. ap (λ x. behind (split 0 q x)) (append_assoc t u y) ∙ a.end q (u ++ y) (s y h)
+      ∙ b.end (q + length t) y h ∙ ap (λ n. behind (split 0 n y)) (far q);
 }
   where
     far : (q : ℕ) → q + length t + length u ≡ q + length (t ++ u)
     far q = omega (arith, length-append t u)
 
+-- a blank is no letter or digit
 blank_word : (c : ℕ) → is_blank c ≡ true → is_word c ≡ false
 blank_word c h = grind (arith, nat_tests)
 
+-- a blank is no token
 pub lexes_blank : (P : List ℕ → Type 0) (c : ℕ) → is_blank c ≡ true → Lexes P (c ∷ []) []
-lexes_blank P c h = record { items = λ q y k. ap items_of (split_blank q c y h); end = λ q y k. ap behind (split_blank q c y h) }
+lexes_blank P c h =
+    record { items = λ q y k. ap items_of (split_blank q c y h); end = λ q y k. ap behind (split_blank q c y h) }
 
 -- a text that begins with a blank, and others that begin with no letter or digit
 pub blank_first : (c : ℕ) (u y : List ℕ) → is_word c ≡ false → leading is_word ((c ∷ u) ++ y) ≡ 0
 blank_first c u y h = leading_fail is_word c (u ++ y) h
 
 -- one token
-one : (t : List ℕ) (k : Token → Item) (i : Item) (q : ℕ) (y : List ℕ) (tok : Token) (n : ℕ) → split 0 q (t ++ y) ≡ Then tok (split 0 n y) → item_of tok ≡ i → n ≡ q + length t → items_of (split 0 q (t ++ y)) ≡ i ∷ items_of (split 0 (q + length t) y)
-one t k i q y tok n h e l = ap items_of h ∙ ap (map item_of) (list_then tok (split 0 n y)) ∙ ap (λ (i : Item). i ∷ items_of (split 0 n y)) e ∙ ap (λ n. i ∷ items_of (split 0 n y)) l
+one : (t : List ℕ) (k : Token → Item) (i : Item) (q : ℕ) (y : List ℕ) (tok : Token) (n : ℕ)
+    → split 0 q (t ++ y) ≡ Then tok (split 0 n y) → item_of tok ≡ i → n ≡ q + length t
+    → items_of (split 0 q (t ++ y)) ≡ i ∷ items_of (split 0 (q + length t) y)
+one t k i q y tok n h e l =
+    ap items_of h ∙ ap (map item_of) (list_then tok (split 0 n y)) ∙ ap (λ (i : Item). i ∷ items_of (split 0 n y)) e
+    ∙ ap (λ n. i ∷ items_of (split 0 n y)) l
 
-last : (t : List ℕ) (q : ℕ) (y : List ℕ) (tok : Token) (n : ℕ) → split 0 q (t ++ y) ≡ Then tok (split 0 n y) → n ≡ q + length t → behind (split 0 q (t ++ y)) ≡ behind (split 0 (q + length t) y)
+-- behind one token
+last : (t : List ℕ) (q : ℕ) (y : List ℕ) (tok : Token) (n : ℕ) → split 0 q (t ++ y) ≡ Then tok (split 0 n y)
+    → n ≡ q + length t → behind (split 0 q (t ++ y)) ≡ behind (split 0 (q + length t) y)
 last t q y tok n h l = ap behind h ∙ behind_then tok (split 0 n y) ∙ ap (λ n. behind (split 0 n y)) l
 
-pub lexes_word : (w : List ℕ) → 0 < length w → length w ≤ 32 → leading is_word w ≡ length w → Lexes NoWord w (Value (meaning w) ∷ [])
+-- a word is one token where no letter or digit follows
+pub lexes_word : (w : List ℕ) → 0 < length w → length w ≤ 32 → leading is_word w ≡ length w
+    → Lexes NoWord w (Value (meaning w) ∷ [])
 lexes_word [] z l h = absurd (omega (arith, z))
 lexes_word (a ∷ w) z l h =
     let t = leading_tail is_word a w h in
     record {
-      items = λ q y k. one (a ∷ w) item_of (Value (meaning (a ∷ w))) q y _ _ (word_ended a q w y t.0 t.1 k (omega (arith, l))) refl refl;
+      items = λ q y k. one (a ∷ w) item_of (Value (meaning (a ∷ w))) q y _ _
+          (word_ended a q w y t.0 t.1 k (omega (arith, l))) refl refl;
       end = λ q y k. last (a ∷ w) q y _ _ (word_ended a q w y t.0 t.1 k (omega (arith, l))) refl;
     }
 
@@ -69,21 +92,25 @@ printable : (c : ℕ) (y : List ℕ) → 31 < c → c < 127 → literal (c ∷ 3
 unfolding literal
 printable c y h k = grind (arith, nat_tests)
 
+-- a printed quoted character is one token
 pub lexes_quoted : (c : ℕ) → 31 < c → c < 127 → Lexes NoWord (39 ∷ c ∷ 39 ∷ []) (Value (Char c) ∷ [])
 lexes_quoted c h k = record {
   items = λ q y e. one (39 ∷ c ∷ 39 ∷ []) item_of (Value (Char c)) q y _ _ (whole q y) refl refl;
   end = λ q y e. last (39 ∷ c ∷ 39 ∷ []) q y _ _ (whole q y) refl;
 }
   where
-    whole : (q : ℕ) (y : List ℕ) → split 0 q (39 ∷ c ∷ 39 ∷ y) ≡ Then (record { kind = Literal c; bytes = 39 ∷ c ∷ 39 ∷ []; start = q; last = is_empty y }) (split 0 (q + 3) y)
+    whole : (q : ℕ) (y : List ℕ) → split 0 q (39 ∷ c ∷ 39 ∷ y) ≡ Then
+        (record { kind = Literal c; bytes = 39 ∷ c ∷ 39 ∷ []; start = q; last = is_empty y }) (split 0 (q + 3) y)
     whole q y = found_whole (Literal c) q 39 (c ∷ 39 ∷ []) y (front_quote (c ∷ 39 ∷ y) ∙ printable c y h k)
 
+-- so is a left parenthesis
 pub lexes_left : Lexes NoWord (40 ∷ []) (Open ∷ [])
 lexes_left = record {
   items = λ q y e. one (40 ∷ []) item_of Open q y _ _ (found_whole ParenL q 40 [] y (front_left y)) refl refl;
   end = λ q y e. last (40 ∷ []) q y _ _ (found_whole ParenL q 40 [] y (front_left y)) refl;
 }
 
+-- and a right one
 pub lexes_right : Lexes NoWord (41 ∷ []) (Close ∷ [])
 lexes_right = record {
   items = λ q y e. one (41 ∷ []) item_of Close q y _ _ (found_whole ParenR q 41 [] y (front_right y)) refl refl;

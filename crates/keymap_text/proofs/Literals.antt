@@ -1,5 +1,7 @@
 -- A quoted character that is complete stays so, whatever follows.
-use Rattle.std.proofs.Common.{◌≡◌, ◌≢◌, ◌⊎◌, inl, inr, ℕ, suc, ◌+◌, ◌-◌, ◌<◌, ◌≤◌, ◌==◌, Bool, true, false, cond, List, [], ◌∷◌, ◌++◌, length, get_or, refl, sym, ◌∙◌, ap, subst, arith, nat_lt, nat_le, slice_index, Option, Some, None, length-append, ⊎_elim, eq-eqb, true≢false}
+use Rattle.std.proofs.Common.{◌≡◌, ◌≢◌, ◌⊎◌, inl, inr, ℕ, suc, ◌+◌, ◌-◌, ◌<◌, ◌≤◌, ◌==◌, Bool, true, false, cond, List}
+use Rattle.std.proofs.Common.{[], ◌∷◌, ◌++◌, length, get_or, refl, sym, ◌∙◌, ap, subst, arith, nat_lt, nat_le}
+use Rattle.std.proofs.Common.{slice_index, Option, Some, None, length-append, ⊎_elim, eq-eqb, true≢false}
 use Rattle.std.proofs.lemmas.Bool.Decides.{nat_tests}
 use Rattle.std.proofs.lemmas.List.{get_or_append_left}
 use Rattle.bstr.specs.Utf8.{decoded, decoded_by, Decoded, bad, good, second, continues, code_of_3, code_of_4}
@@ -12,18 +14,21 @@ use lib.Utf8.{scalar}
 use Rattle.keymap_text.specs.declared.fault.TextFaultKind.{TextFaultKind}
 use Rattle.keymap_text.specs.declared.fault.TextFaultKind.TheVariants.{BadLiteral}
 use Rattle.keymap_text.specs.declared.token.TokenKind.{TokenKind}
-use Rattle.keymap_text.specs.Reading.{is_word_kind}
+use Rattle.keymap_text.specs.Meaning.{is_word_kind}
 use Rattle.keymap_text.specs.declared.token.TokenKind.TheVariants.{Literal}
-use Rattle.keymap_text.specs.Lexical.{Front, Skipped, Found, Refused, Unfinished, literal, quoted, closing, unclosed, is_lone}
+use Rattle.keymap_text.specs.Lexical.{Front, Skipped, Found, Refused, Unfinished, literal, quoted, closing, unclosed}
+use Rattle.keymap_text.specs.Lexical.{is_lone}
 
 -- tests of a number
 not_zero : (n : ℕ) → 0 < n → (n == 0) ≡ false
 not_zero n h = grind (arith, nat_tests)
 
+-- a number that is not below another
 not_below : (n m : ℕ) → m ≤ n → nat_lt n m ≡ false
 not_below n m h = grind (arith, nat_tests)
 
--- z, and y that has more bytes to go by: they are the same, or all k bytes of z may begin a character, and y has them all
+-- z, and y that has more bytes to go by: they are the same, or all k bytes of z may begin a character, and y has them
+-- all
 Grows : ℕ → Decoded → Decoded → Type 0
 Grows k y z = (y ≡ z) ⊎ ((z ≡ bad k) × (k ≤ y.size))
 
@@ -33,11 +38,13 @@ unfolding Grows
 under k true g y z h = inl refl
 under k false g y z h = h
 
+-- the same in the other branch
 over : (k : ℕ) (p : Bool) (g y z : Decoded) → Grows k y z → Grows k (cond p y g) (cond p z g)
 unfolding Grows
 over k true g y z h = h
 over k false g y z h = inl refl
 
+-- a size that both branches have
 at_least : (k : ℕ) (p : Bool) (y z : Decoded) → k ≤ y.size → k ≤ z.size → k ≤ (cond p y z).size
 at_least k true y z g h = g
 at_least k false y z g h = h
@@ -45,28 +52,55 @@ at_least k false y z g h = h
 -- with more bytes behind them, the first bytes decode alike, or all of them may begin a character
 by_1 : (n b c d e : ℕ) → 1 < n → Grows 1 (decoded_by n b c d e) (decoded_by 1 b 0 0 0)
 unfolding Grows
-by_1 n b c d e h = rw (not_zero n (omega arith), not_below n 2 (omega arith)) (under 1 (nat_lt b 0x80) _ _ _ (under 1 (nat_lt b 0xC2) _ _ _ (under 1 (nat_lt 0xF4 b) _ _ _ (inr (
-  refl,
-  at_least 1 (second b c) _ _ (at_least 1 (nat_lt b 0xE0) _ _ (omega arith) (at_least 1 (nat_lt n 3) _ _ (omega arith) (at_least 1 (continues d) _ _ (at_least 1 (nat_lt b 0xF0) _ _ (omega arith) (at_least 1 (nat_lt n 4) _ _ (omega arith) (at_least 1 (continues e) _ _ (omega arith) (omega arith)))) (omega arith)))) (omega arith),
-)))))
+by_1 n b c d e h =
+    rw (not_zero n (omega arith), not_below n 2 (omega arith))
+    (under 1 (nat_lt b 0x80) _ _ _ (under 1 (nat_lt b 0xC2) _ _ _ (under 1 (nat_lt 0xF4 b) _ _ _ (inr (
+      refl,
+      at_least 1 (second b c) _ _ (at_least 1 (nat_lt b 0xE0) _ _ (omega arith)
+          (at_least 1 (nat_lt n 3) _ _ (omega arith)
+          (at_least 1 (continues d) _ _ (at_least 1 (nat_lt b 0xF0) _ _ (omega arith)
+          (at_least 1 (nat_lt n 4) _ _ (omega arith) (at_least 1 (continues e) _ _ (omega arith) (omega arith))))
+          (omega arith)))) (omega arith),
+    )))))
 
+-- two bytes
 by_2 : (n b c d e : ℕ) → 2 < n → Grows 2 (decoded_by n b c d e) (decoded_by 2 b c 0 0)
 unfolding Grows
-by_2 n b c d e h = rw (not_zero n (omega arith), not_below n 2 (omega arith), not_below n 3 (omega arith)) (under 2 (nat_lt b 0x80) _ _ _ (under 2 (nat_lt b 0xC2) _ _ _ (under 2 (nat_lt 0xF4 b) _ _ _ (over 2 (second b c) _ _ _ (under 2 (nat_lt b 0xE0) _ _ _ (last n b c d e))))))
+by_2 n b c d e h =
+    rw (not_zero n (omega arith), not_below n 2 (omega arith), not_below n 3 (omega arith))
+    (under 2 (nat_lt b 0x80) _ _ _ (under 2 (nat_lt b 0xC2) _ _ _
+    (under 2 (nat_lt 0xF4 b) _ _ _ (over 2 (second b c) _ _ _ (under 2 (nat_lt b 0xE0) _ _ _ (last n b c d e))))))
   where
-    last : (n b c d e : ℕ) → Grows 2 (cond (continues d) (cond (nat_lt b 0xF0) (good (code_of_3 b c d) 3) (cond (nat_lt n 4) (bad 3) (cond (continues e) (good (code_of_4 b c d e) 4) (bad 3)))) (bad 2)) (bad 2)
-    last n b c d e = inr (refl, at_least 2 (continues d) _ _ (at_least 2 (nat_lt b 0xF0) _ _ (omega arith) (at_least 2 (nat_lt n 4) _ _ (omega arith) (at_least 2 (continues e) _ _ (omega arith) (omega arith)))) (omega arith))
+    last : (n b c d e : ℕ) → Grows 2 (cond (continues d) (cond (nat_lt b 0xF0) (good (code_of_3 b c d) 3)
+        (cond (nat_lt n 4) (bad 3) (cond (continues e) (good (code_of_4 b c d e) 4) (bad 3)))) (bad 2)) (bad 2)
+    last n b c d e =
+        inr (
+          refl,
+          at_least 2 (continues d) _ _
+              (at_least 2 (nat_lt b 0xF0) _ _ (omega arith)
+              (at_least 2 (nat_lt n 4) _ _ (omega arith) (at_least 2 (continues e) _ _ (omega arith) (omega arith))))
+              (omega arith),
+        )
 
+-- three bytes
 by_3 : (n b c d e : ℕ) → 3 < n → Grows 3 (decoded_by n b c d e) (decoded_by 3 b c d 0)
 unfolding Grows
-by_3 n b c d e h = rw (not_zero n (omega arith), not_below n 2 (omega arith), not_below n 3 (omega arith), not_below n 4 (omega arith)) (under 3 (nat_lt b 0x80) _ _ _ (under 3 (nat_lt b 0xC2) _ _ _ (under 3 (nat_lt 0xF4 b) _ _ _ (over 3 (second b c) _ _ _ (under 3 (nat_lt b 0xE0) _ _ _ (over 3 (continues d) _ _ _ (under 3 (nat_lt b 0xF0) _ _ _ (last b c d e))))))))
+by_3 n b c d e h =
+    rw (not_zero n (omega arith), not_below n 2 (omega arith), not_below n 3 (omega arith), not_below n 4 (omega arith))
+    (under 3 (nat_lt b 0x80) _ _ _ (under 3 (nat_lt b 0xC2) _ _ _
+    (under 3 (nat_lt 0xF4 b) _ _ _ (over 3 (second b c) _ _ _ (under 3 (nat_lt b 0xE0) _ _ _
+    (over 3 (continues d) _ _ _ (under 3 (nat_lt b 0xF0) _ _ _ (last b c d e))))))))
   where
     last : (b c d e : ℕ) → Grows 3 (cond (continues e) (good (code_of_4 b c d e) 4) (bad 3)) (bad 3)
     last b c d e = inr (refl, at_least 3 (continues e) _ _ (omega arith) (omega arith))
 
+-- four bytes decide
 by_4 : (n b c d e : ℕ) → 3 < n → decoded_by n b c d e ≡ decoded_by 4 b c d e
-by_4 n b c d e h = rw (not_zero n (omega arith), not_below n 2 (omega arith), not_below n 3 (omega arith), not_below n 4 (omega arith)) refl
+by_4 n b c d e h =
+    rw (not_zero n (omega arith), not_below n 2 (omega arith), not_below n 3 (omega arith), not_below n 4 (omega arith))
+    refl
 
+-- any bytes
 decoded_grows : (s x : List ℕ) → Grows (length s) (decoded (s ++ x)) (decoded s)
 unfolding Grows
 decoded_grows [] x = inr (refl, omega arith)
@@ -85,23 +119,29 @@ LiteralFront (Found k n) = is_word_kind k ≡ false
 LiteralFront (Refused f) = f ≡ BadLiteral
 LiteralFront Unfinished = Unit {0}
 
+-- by both branches
 either : (b : Bool) (f g : Front) → LiteralFront f → LiteralFront g → LiteralFront (cond b f g)
 either true f g h k = h
 either false f g h k = k
 
+-- of a decoded character
 quoted_shape : (o : Option ℕ) (n : ℕ) (s : List ℕ) → LiteralFront (quoted (record { char = o; size = n }) s)
 unfolding LiteralFront
-quoted_shape (Some c) n s = either (c == 10) _ _ refl (either (nat_le (length s) n) _ _ tt (either (slice_index s n == 39) _ _ refl refl))
+quoted_shape (Some c) n s =
+    either (c == 10) _ _ refl (either (nat_le (length s) n) _ _ tt (either (slice_index s n == 39) _ _ refl refl))
 quoted_shape None n s = either (length s == n) _ _ tt refl
 
+-- of what stands at an apostrophe
 literal_shape : (s : List ℕ) → LiteralFront (literal s)
 unfolding LiteralFront literal
 literal_shape s = either (is_lone s) _ _ refl (quoted_shape (decoded s).char (decoded s).size s)
 
+-- what is refused at an apostrophe is BadLiteral
 pub literal_refused : (s : List ℕ) (f : TextFaultKind) → literal s ≡ Refused f → f ≡ BadLiteral
 unfolding LiteralFront
 literal_refused s f h = subst LiteralFront h (literal_shape s)
 
+-- what is found at an apostrophe is no word
 pub literal_found : (s : List ℕ) (k : TokenKind) (n : ℕ) → literal s ≡ Found k n → is_word_kind k ≡ false
 unfolding LiteralFront
 literal_found s k n h = subst LiteralFront h (literal_shape s)
@@ -110,10 +150,14 @@ literal_found s k n h = subst LiteralFront h (literal_shape s)
 closing_stable : (c n : ℕ) (s x : List ℕ) → closing c n s ≢ Unfinished → closing c n (s ++ x) ≡ closing c n s
 closing_stable c n s x h = grind (arith, nat_tests, length-append, get_or_append_left)
 
+-- where no character stands first
 unclosed_stable : (n : ℕ) (s x : List ℕ) → n ≤ length s → unclosed n s ≢ Unfinished → unclosed n (s ++ x) ≡ unclosed n s
 unclosed_stable n s x l h = grind (arith, nat_tests, length-append)
 
-char_stable : (o : Option ℕ) (n : ℕ) (s x : List ℕ) → n ≤ length s → quoted (record { char = o; size = n }) s ≢ Unfinished → quoted (record { char = o; size = n }) (s ++ x) ≡ quoted (record { char = o; size = n }) s
+-- in both cases
+char_stable : (o : Option ℕ) (n : ℕ) (s x : List ℕ) → n ≤ length s
+    → quoted (record { char = o; size = n }) s ≢ Unfinished
+    → quoted (record { char = o; size = n }) (s ++ x) ≡ quoted (record { char = o; size = n }) s
 char_stable (Some c) n s x l h = closing_stable c n s x h
 char_stable None n s x l h = unclosed_stable n s x l h
 
@@ -122,93 +166,132 @@ size_le : (s : List ℕ) → (decoded s).size ≤ length s
 size_le [] = omega arith
 size_le (b ∷ s) = (size-bounds (length (b ∷ s)) b (get_or s 0 0) (get_or s 1 0) (get_or s 2 0) (omega arith)).2
 
+-- bytes that may all begin a character are unfinished
 open_all : (s : List ℕ) → quoted (bad (length s)) s ≡ Unfinished
 open_all s = rw (eq-eqb (length s) (length s) refl) refl
 
-quoted_stable : (s x : List ℕ) → quoted (decoded s) s ≢ Unfinished → quoted (decoded (s ++ x)) (s ++ x) ≡ quoted (decoded s) s
+-- by how the bytes decode
+quoted_stable : (s x : List ℕ) → quoted (decoded s) s ≢ Unfinished
+    → quoted (decoded (s ++ x)) (s ++ x) ≡ quoted (decoded s) s
 unfolding Grows
 quoted_stable s x h = ⊎_elim
     (λ e. ap (λ d. quoted d (s ++ x)) e ∙ char_stable (decoded s).char (decoded s).size s x (size_le s) h)
     (λ e. absurd (h (ap (λ d. quoted d s) e.0 ∙ open_all s)))
     (decoded_grows s x)
 
+-- a choice that is not unfinished
 chosen : (p : Bool) (l q r : Front) → cond p l q ≢ Unfinished → (q ≢ Unfinished → r ≡ q) → cond p l r ≡ cond p l q
 chosen true l q r h k = refl
 chosen false l q r h k = k h
 
+-- whether a lone byte is quoted, two bytes tell
 lone_same : (b c : ℕ) (s x : List ℕ) → is_lone (b ∷ c ∷ (s ++ x)) ≡ is_lone (b ∷ c ∷ s)
 lone_same b c s x = rw (above (length (b ∷ c ∷ (s ++ x))) (omega arith), above (length (b ∷ c ∷ s)) (omega arith)) refl
   where
     above : (n : ℕ) → 1 < n → nat_lt 1 n ≡ true
     above n h = grind (arith, nat_tests)
 
+-- what is not unfinished stays whatever follows
 pub literal_stable : (s x : List ℕ) → literal s ≢ Unfinished → literal (s ++ x) ≡ literal s
 unfolding literal
 literal_stable [] x h = absurd (h refl)
 literal_stable (b ∷ []) x h = grind arith
-literal_stable (b ∷ c ∷ s) x h = ap (λ p. cond p (Found (Literal b) 2) (quoted (decoded (b ∷ c ∷ (s ++ x))) (b ∷ c ∷ (s ++ x)))) (lone_same b c s x) ∙ chosen (is_lone (b ∷ c ∷ s)) _ _ _ h (quoted_stable (b ∷ c ∷ s) x)
+literal_stable (b ∷ c ∷ s) x h =
+    ap (λ p. cond p (Found (Literal b) 2) (quoted (decoded (b ∷ c ∷ (s ++ x))) (b ∷ c ∷ (s ++ x)))) (lone_same b c s x)
+    ∙ chosen (is_lone (b ∷ c ∷ s)) _ _ _ h (quoted_stable (b ∷ c ∷ s) x)
 
 -- an unfinished one is short, and a longer one that begins so is longer than it
 closing_open : (c n : ℕ) (s : List ℕ) → closing c n s ≡ Unfinished → length s ≤ n
 closing_open c n s h = grind (arith, nat_tests)
 
+-- where no character stands first
 unclosed_open : (n : ℕ) (s : List ℕ) → unclosed n s ≡ Unfinished → length s ≤ n
 unclosed_open n s h = grind (arith, nat_tests)
 
+-- in both cases
 quoted_open : (o : Option ℕ) (n : ℕ) (s : List ℕ) → quoted (record { char = o; size = n }) s ≡ Unfinished → length s ≤ n
 quoted_open (Some c) n s h = closing_open c n s h
 quoted_open None n s h = unclosed_open n s h
 
-not_lone : (s : List ℕ) (q : Front) → cond (is_lone s) (Found (Literal (slice_index s 0)) 2) q ≡ Unfinished → (is_lone s ≡ false) × (q ≡ Unfinished)
+-- an unfinished one is no quoted lone byte
+not_lone : (s : List ℕ) (q : Front) → cond (is_lone s) (Found (Literal (slice_index s 0)) 2) q ≡ Unfinished
+    → (is_lone s ≡ false) × (q ≡ Unfinished)
 not_lone s q h = go (is_lone s) h
   where
     go : (b : Bool) → cond b (Found (Literal (slice_index s 0)) 2) q ≡ Unfinished → (b ≡ false) × (q ≡ Unfinished)
     go true e = absurd (cc)
     go false e = (refl, e)
 
+-- a character has at most four bytes
 size_4 : (s : List ℕ) → (decoded s).size ≤ 4
 size_4 [] = omega arith
 size_4 (b ∷ s) = (size-bounds (length (b ∷ s)) b (get_or s 0 0) (get_or s 1 0) (get_or s 2 0) (omega arith)).1
 
+-- an unfinished one has at most four bytes after the apostrophe
 pub unfinished_short : (s : List ℕ) → literal s ≡ Unfinished → length s ≤ 4
 unfolding literal
-unfinished_short s h = omega (arith, quoted_open (decoded s).char (decoded s).size s (not_lone s (quoted (decoded s) s) h).1, size_4 s)
+unfinished_short s h =
+    omega (arith, quoted_open (decoded s).char (decoded s).size s (not_lone s (quoted (decoded s) s) h).1, size_4 s)
 
+-- a found one has the bytes of its character and an apostrophe
 closing_found : (c n m : ℕ) (k : TokenKind) (s : List ℕ) → closing c n s ≡ Found k m → m ≡ n + 1
 closing_found c n m k s h = grind (arith, nat_tests)
 
+-- where no character stands first
 unclosed_found : (n m : ℕ) (k : TokenKind) (s : List ℕ) → unclosed n s ≡ Found k m → m ≡ n + 1
 unclosed_found n m k s h = grind (arith, nat_tests)
 
-quoted_found : (o : Option ℕ) (n m : ℕ) (k : TokenKind) (s : List ℕ) → quoted (record { char = o; size = n }) s ≡ Found k m → m ≡ n + 1
+-- in both cases
+quoted_found : (o : Option ℕ) (n m : ℕ) (k : TokenKind) (s : List ℕ)
+    → quoted (record { char = o; size = n }) s ≡ Found k m → m ≡ n + 1
 quoted_found (Some c) n m k s h = closing_found c n m k s h
 quoted_found None n m k s h = unclosed_found n m k s h
 
-longer_quoted : (s x : List ℕ) (k : TokenKind) (n : ℕ) → quoted (decoded s) s ≡ Unfinished → quoted (decoded (s ++ x)) (s ++ x) ≡ Found k n → length s < n
+-- by how the bytes decode
+longer_quoted : (s x : List ℕ) (k : TokenKind) (n : ℕ) → quoted (decoded s) s ≡ Unfinished
+    → quoted (decoded (s ++ x)) (s ++ x) ≡ Found k n → length s < n
 unfolding Grows
-longer_quoted s x k n u h = let e = quoted_found (decoded (s ++ x)).char (decoded (s ++ x)).size n k (s ++ x) h in ⊎_elim
+longer_quoted s x k n u h = let e =
+    quoted_found (decoded (s ++ x)).char (decoded (s ++ x)).size n k (s ++ x) h in ⊎_elim
     (λ g. omega (arith, e, ap (λ d. d.size) g, quoted_open (decoded s).char (decoded s).size s u))
     (λ g. omega (arith, e, g.1))
     (decoded_grows s x)
 
-longer_long : (b c : ℕ) (s x : List ℕ) (k : TokenKind) (n : ℕ) (p : Bool) (l q r : Front) → (q ≡ Unfinished → r ≡ Found k n → suc (suc (length s)) < n) → cond p l q ≡ Unfinished → l ≢ Unfinished → cond p l r ≡ Found k n → suc (suc (length s)) < n
+-- with two bytes or more
+longer_long : (b c : ℕ) (s x : List ℕ) (k : TokenKind) (n : ℕ) (p : Bool) (l q r : Front)
+    → (q ≡ Unfinished → r ≡ Found k n → suc (suc (length s)) < n) → cond p l q ≡ Unfinished → l ≢ Unfinished
+    → cond p l r ≡ Found k n → suc (suc (length s)) < n
 longer_long b c s x k n true l q r g u f h = absurd (f u)
 longer_long b c s x k n false l q r g u f h = g u h
 
-longer_one : (n : ℕ) (k : TokenKind) (b : Bool) (ch : ℕ) (q : Front) → (q ≡ Found k n → 1 < n) → cond b (Found (Literal ch) 2) q ≡ Found k n → 1 < n
+-- with one byte
+longer_one : (n : ℕ) (k : TokenKind) (b : Bool) (ch : ℕ) (q : Front) → (q ≡ Found k n → 1 < n)
+    → cond b (Found (Literal ch) 2) q ≡ Found k n → 1 < n
 longer_one n k true ch q g h = grind arith
 longer_one n k false ch q g h = g h
 
-positive : (n : ℕ) (k : TokenKind) (b : Bool) (ch : ℕ) (q : Front) → (q ≡ Found k n → 0 < n) → cond b (Found (Literal ch) 2) q ≡ Found k n → 0 < n
+-- with none
+positive : (n : ℕ) (k : TokenKind) (b : Bool) (ch : ℕ) (q : Front) → (q ≡ Found k n → 0 < n)
+    → cond b (Found (Literal ch) 2) q ≡ Found k n → 0 < n
 positive n k true ch q g h = grind arith
 positive n k false ch q g h = g h
 
-pub unfinished_longer : (s x : List ℕ) (k : TokenKind) (n : ℕ) → literal s ≡ Unfinished → literal (s ++ x) ≡ Found k n → length s < n
+-- one that is found later has more bytes
+pub unfinished_longer : (s x : List ℕ) (k : TokenKind) (n : ℕ) → literal s ≡ Unfinished → literal (s ++ x) ≡ Found k n
+    → length s < n
 unfolding literal
-unfinished_longer [] x k n u h = positive n k (is_lone x) (slice_index x 0) (quoted (decoded x) x) (λ e. omega (arith, quoted_found (decoded x).char (decoded x).size n k x e)) h
-unfinished_longer (b ∷ []) x k n u h = longer_one n k (is_lone (b ∷ x)) b _ (longer_quoted (b ∷ []) x k n (not_lone (b ∷ []) _ u).1) h
-unfinished_longer (b ∷ c ∷ s) x k n u h = longer_long b c s x k n (is_lone (b ∷ c ∷ s)) _ _ (quoted (decoded (b ∷ c ∷ (s ++ x))) (b ∷ c ∷ (s ++ x))) (longer_quoted (b ∷ c ∷ s) x k n) u (λ e. cc) (ap (λ p. cond p (Found (Literal b) 2) (quoted (decoded (b ∷ c ∷ (s ++ x))) (b ∷ c ∷ (s ++ x)))) (sym (lone_same b c s x)) ∙ h)
+unfinished_longer [] x k n u h =
+    positive n k (is_lone x) (slice_index x 0) (quoted (decoded x) x)
+    (λ e. omega (arith, quoted_found (decoded x).char (decoded x).size n k x e)) h
+unfinished_longer (b ∷ []) x k n u h =
+    longer_one n k (is_lone (b ∷ x)) b _ (longer_quoted (b ∷ []) x k n (not_lone (b ∷ []) _ u).1) h
+unfinished_longer (b ∷ c ∷ s) x k n u h =
+    longer_long b c s x k n (is_lone (b ∷ c ∷ s)) _ _ (quoted (decoded (b ∷ c ∷ (s ++ x))) (b ∷ c ∷ (s ++ x)))
+    (longer_quoted (b ∷ c ∷ s) x k n) u (λ e. cc)
+    (ap (λ p. cond p (Found (Literal b) 2) (quoted (decoded (b ∷ c ∷ (s ++ x))) (b ∷ c ∷ (s ++ x))))
+    (sym (lone_same b c s x)) ∙ h)
 
+-- an apostrophe alone is unfinished
 pub literal_empty : literal [] ≡ Unfinished
 unfolding literal
 literal_empty = refl
@@ -217,18 +300,23 @@ literal_empty = refl
 closing_fits : (c n m : ℕ) (k : TokenKind) (s : List ℕ) → closing c n s ≡ Found k m → m ≤ length s
 closing_fits c n m k s h = grind (arith, nat_tests)
 
+-- where no character stands first
 unclosed_fits : (n m : ℕ) (k : TokenKind) (s : List ℕ) → unclosed n s ≡ Found k m → m ≤ length s
 unclosed_fits n m k s h = grind (arith, nat_tests)
 
-quoted_fits : (o : Option ℕ) (n m : ℕ) (k : TokenKind) (s : List ℕ) → quoted (record { char = o; size = n }) s ≡ Found k m → m ≤ length s
+-- in both cases
+quoted_fits : (o : Option ℕ) (n m : ℕ) (k : TokenKind) (s : List ℕ)
+    → quoted (record { char = o; size = n }) s ≡ Found k m → m ≤ length s
 quoted_fits (Some c) n m k s h = closing_fits c n m k s h
 quoted_fits None n m k s h = unclosed_fits n m k s h
 
+-- a quoted lone byte has an apostrophe behind it
 lone_long : (s : List ℕ) → is_lone s ≡ true → 2 ≤ length s
 lone_long [] h = absurd (true≢false (sym h))
 lone_long (b ∷ []) h = absurd (true≢false (sym h))
 lone_long (b ∷ c ∷ s) h = omega arith
 
+-- a found one has no more bytes than there are
 pub literal_fits : (s : List ℕ) (k : TokenKind) (n : ℕ) → literal s ≡ Found k n → n ≤ length s
 unfolding literal
 literal_fits s k n h = go (is_lone s) refl h
@@ -236,10 +324,12 @@ literal_fits s k n h = go (is_lone s) refl h
     two : (b m : ℕ) → Found (Literal b) 2 ≡ Found k m → m ≡ 2
     two b m e = cc
 
-    go : (b : Bool) → is_lone s ≡ b → cond b (Found (Literal (slice_index s 0)) 2) (quoted (decoded s) s) ≡ Found k n → n ≤ length s
+    go : (b : Bool) → is_lone s ≡ b → cond b (Found (Literal (slice_index s 0)) 2) (quoted (decoded s) s) ≡ Found k n
+        → n ≤ length s
     go true l e = omega (arith, two (slice_index s 0) n e, lone_long s l)
     go false l e = quoted_fits (decoded s).char (decoded s).size n k s e
 
+-- no blank stands at an apostrophe
 pub literal_no_skip : (s : List ℕ) (n : ℕ) → literal s ≡ Skipped n → ⊥
 unfolding LiteralFront
 literal_no_skip s n h = subst LiteralFront h (literal_shape s)
@@ -255,12 +345,14 @@ no_second b = go (b == 0xE0) (b == 0xED) (b == 0xF0) (b == 0xF4)
     go false false false true = refl
     go false false false false = refl
 
+-- a byte that no other follows begins no character
 no_char : (p q r : Bool) (a z : Decoded) → r ≡ false → (cond p (bad 1) (cond q (bad 1) (cond r a (bad 1)))).char ≡ None
 no_char true q r a z h = refl
 no_char false true r a z h = refl
 no_char false false true a z h = absurd (true≢false h)
 no_char false false false a z h = refl
 
+-- a quoted lone byte is no UTF-8
 lone_decodes : (s : List ℕ) → is_lone s ≡ true → (decoded s).char ≡ None
 lone_decodes [] h = absurd (true≢false (sym h))
 lone_decodes (b ∷ []) h = absurd (true≢false (sym h))
@@ -268,30 +360,42 @@ lone_decodes (b ∷ d ∷ s) h =
     let high : nat_lt b 0x80 ≡ false = grind (arith, nat_tests) in
     let close : d ≡ 39 = grind (arith, nat_tests) in
     let n = length (b ∷ d ∷ s) in
-    rw (not_zero n (omega arith), not_below n 2 (omega arith), high) (no_char (nat_lt b 0xC2) (nat_lt 0xF4 b) (second b d) _ (bad 1) (ap (second b) close ∙ no_second b))
+    rw (not_zero n (omega arith), not_below n 2 (omega arith), high)
+    (no_char (nat_lt b 0xC2) (nat_lt 0xF4 b) (second b d) _ (bad 1) (ap (second b) close ∙ no_second b))
 
-closing_spelled : (c : ℕ) (e rest : List ℕ) → c ≢ 10 → closing c (length e) (e ++ 39 ∷ rest) ≡ Found (Literal c) (length e + 1)
+-- an apostrophe behind the character closes it
+closing_spelled : (c : ℕ) (e rest : List ℕ) → c ≢ 10
+    → closing c (length e) (e ++ 39 ∷ rest) ≡ Found (Literal c) (length e + 1)
 closing_spelled c e rest h = rw (ne_eqb c 10 h, longer_than e rest, get_or-append_seam e 39 rest 0) refl
   where
     longer_than : (e rest : List ℕ) → nat_le (length (e ++ 39 ∷ rest)) (length e) ≡ false
     longer_than e rest = grind (arith, nat_tests, length-append)
 
-pub literal_spelled : (c : ℕ) (rest : List ℕ) → scalar c ≡ true → c ≢ 10 → literal (encode_utf8 c ++ 39 ∷ rest) ≡ Found (Literal c) (length (encode_utf8 c) + 1)
+-- the UTF-8 of a character other than LF, and an apostrophe, are found
+pub literal_spelled : (c : ℕ) (rest : List ℕ) → scalar c ≡ true → c ≢ 10
+    → literal (encode_utf8 c ++ 39 ∷ rest) ≡ Found (Literal c) (length (encode_utf8 c) + 1)
 unfolding literal
 literal_spelled c rest v h = go (is_lone (encode_utf8 c ++ 39 ∷ rest)) refl
   where
     clash : (n : Option ℕ) → n ≡ None → n ≡ Some c → ⊥
     clash n a b = cc
 
-    go : (b : Bool) → is_lone (encode_utf8 c ++ 39 ∷ rest) ≡ b → cond b (Found (Literal (slice_index (encode_utf8 c ++ 39 ∷ rest) 0)) 2) (quoted (decoded (encode_utf8 c ++ 39 ∷ rest)) (encode_utf8 c ++ 39 ∷ rest)) ≡ Found (Literal c) (length (encode_utf8 c) + 1)
-    go true l = absurd (clash (decoded (encode_utf8 c ++ 39 ∷ rest)).char (lone_decodes (encode_utf8 c ++ 39 ∷ rest) l) (ap (λ (x : Decoded). x.char) (decoded-encode c (39 ∷ rest) v)))
-    go false l = ap (λ d. quoted d (encode_utf8 c ++ 39 ∷ rest)) (decoded-encode c (39 ∷ rest) v) ∙ closing_spelled c (encode_utf8 c) rest h
+    go : (b : Bool) → is_lone (encode_utf8 c ++ 39 ∷ rest) ≡ b
+        → cond b (Found (Literal (slice_index (encode_utf8 c ++ 39 ∷ rest) 0)) 2)
+        (quoted (decoded (encode_utf8 c ++ 39 ∷ rest)) (encode_utf8 c ++ 39 ∷ rest))
+        ≡ Found (Literal c) (length (encode_utf8 c) + 1)
+    go true l = absurd (clash (decoded (encode_utf8 c ++ 39 ∷ rest)).char (lone_decodes (encode_utf8 c ++ 39 ∷ rest) l)
+        (ap (λ (x : Decoded). x.char) (decoded-encode c (39 ∷ rest) v)))
+    go false l =
+        ap (λ d. quoted d (encode_utf8 c ++ 39 ∷ rest)) (decoded-encode c (39 ∷ rest) v)
+        ∙ closing_spelled c (encode_utf8 c) rest h
 
 -- no LF stands in an unfinished one
 at_most : (k : ℕ) (p : Bool) (y z : Decoded) → y.size ≤ k → z.size ≤ k → (cond p y z).size ≤ k
 at_most k true y z g h = g
 at_most k false y z g h = h
 
+-- no LF stands second in a character
 no_second_lf : (b : ℕ) → second b 10 ≡ false
 no_second_lf b = go (b == 0xE0) (b == 0xED) (b == 0xF0) (b == 0xF4)
   where
@@ -302,13 +406,27 @@ no_second_lf b = go (b == 0xE0) (b == 0xED) (b == 0xF0) (b == 0xF4)
     go false false false true = refl
     go false false false false = refl
 
+-- nor does any character go past one
 size_before_lf : (l : List ℕ) → 0 < length l → (decoded (l ++ 10 ∷ [])).size ≤ length l
 size_before_lf [] h = absurd (omega (arith, h))
-size_before_lf (b ∷ []) h = rw no_second_lf (at_most 1 (nat_lt b 0x80) _ _ (omega arith) (at_most 1 (nat_lt b 0xC2) _ _ (omega arith) (at_most 1 (nat_lt 0xF4 b) _ _ (omega arith) (omega arith))))
-size_before_lf (b ∷ c ∷ []) h = at_most 2 (nat_lt b 0x80) _ _ (omega arith) (at_most 2 (nat_lt b 0xC2) _ _ (omega arith) (at_most 2 (nat_lt 0xF4 b) _ _ (omega arith) (at_most 2 (second b c) _ _ (at_most 2 (nat_lt b 0xE0) _ _ (omega arith) (omega arith)) (omega arith))))
-size_before_lf (b ∷ c ∷ d ∷ []) h = at_most 3 (nat_lt b 0x80) _ _ (omega arith) (at_most 3 (nat_lt b 0xC2) _ _ (omega arith) (at_most 3 (nat_lt 0xF4 b) _ _ (omega arith) (at_most 3 (second b c) _ _ (at_most 3 (nat_lt b 0xE0) _ _ (omega arith) (at_most 3 (continues d) _ _ (at_most 3 (nat_lt b 0xF0) _ _ (omega arith) (omega arith)) (omega arith))) (omega arith))))
+size_before_lf (b ∷ []) h =
+    rw no_second_lf (at_most 1 (nat_lt b 0x80) _ _ (omega arith)
+    (at_most 1 (nat_lt b 0xC2) _ _ (omega arith) (at_most 1 (nat_lt 0xF4 b) _ _ (omega arith) (omega arith))))
+size_before_lf (b ∷ c ∷ []) h =
+    at_most 2 (nat_lt b 0x80) _ _ (omega arith)
+    (at_most 2 (nat_lt b 0xC2) _ _ (omega arith)
+    (at_most 2 (nat_lt 0xF4 b) _ _ (omega arith)
+    (at_most 2 (second b c) _ _ (at_most 2 (nat_lt b 0xE0) _ _ (omega arith) (omega arith)) (omega arith))))
+size_before_lf (b ∷ c ∷ d ∷ []) h =
+    at_most 3 (nat_lt b 0x80) _ _ (omega arith)
+    (at_most 3 (nat_lt b 0xC2) _ _ (omega arith)
+    (at_most 3 (nat_lt 0xF4 b) _ _ (omega arith)
+    (at_most 3 (second b c) _ _ (at_most 3 (nat_lt b 0xE0) _ _ (omega arith)
+    (at_most 3 (continues d) _ _ (at_most 3 (nat_lt b 0xF0) _ _ (omega arith) (omega arith)) (omega arith)))
+    (omega arith))))
 size_before_lf (b ∷ c ∷ d ∷ e ∷ l) h = omega (arith, size_4 (b ∷ c ∷ d ∷ e ∷ (l ++ 10 ∷ [])))
 
+-- no LF ends an unfinished one
 pub lf_closes : (l : List ℕ) → literal (l ++ 10 ∷ []) ≡ Unfinished → ⊥
 unfolding literal
 lf_closes [] u = absurd (lf_alone u)
@@ -317,13 +435,20 @@ lf_closes [] u = absurd (lf_alone u)
     lf_alone u = cc
 lf_closes (b ∷ l) u =
     let s = (b ∷ l) ++ 10 ∷ [] in
-    omega (arith, size_before_lf (b ∷ l) (omega arith), length-append (b ∷ l) (10 ∷ []), quoted_open (decoded s).char (decoded s).size s (not_lone s (quoted (decoded s) s) u).1)
+    omega (
+      arith,
+      size_before_lf (b ∷ l) (omega arith),
+      length-append (b ∷ l) (10 ∷ []),
+      quoted_open (decoded s).char (decoded s).size s (not_lone s (quoted (decoded s) s) u).1,
+    )
 
 -- the last byte of one is an apostrophe
 closing_ends : (c n m : ℕ) (k : TokenKind) (s : List ℕ) → closing c n s ≡ Found k m → get_or s (m - 1) 0 ≡ 39
 closing_ends c n m k s h = grind (arith, nat_tests)
 
-quoted_ends : (o : Option ℕ) (n m : ℕ) (k : TokenKind) (s : List ℕ) → quoted (record { char = o; size = n }) s ≡ Found k m → get_or s (m - 1) 0 ≡ 39
+-- in both cases
+quoted_ends : (o : Option ℕ) (n m : ℕ) (k : TokenKind) (s : List ℕ)
+    → quoted (record { char = o; size = n }) s ≡ Found k m → get_or s (m - 1) 0 ≡ 39
 quoted_ends (Some c) n m k s h = closing_ends c n m k s h
 quoted_ends None n m k s h = never (length s == n) h
   where
@@ -331,11 +456,13 @@ quoted_ends None n m k s h = never (length s == n) h
     never true h = cc
     never false h = cc
 
+-- a quoted lone byte ends so
 lone_ends : (s : List ℕ) → is_lone s ≡ true → get_or s 1 0 ≡ 39
 lone_ends [] h = absurd (true≢false (sym h))
 lone_ends (b ∷ []) h = absurd (true≢false (sym h))
 lone_ends (b ∷ c ∷ s) h = grind (arith, nat_tests)
 
+-- a found one ends with an apostrophe
 pub literal_ends : (s : List ℕ) (k : TokenKind) (n : ℕ) → literal s ≡ Found k n → get_or s (n - 1) 0 ≡ 39
 unfolding literal
 literal_ends s k n h = go (is_lone s) refl h
@@ -343,11 +470,20 @@ literal_ends s k n h = go (is_lone s) refl h
     two : (b m : ℕ) → Found (Literal b) 2 ≡ Found k m → m ≡ 2
     two b m e = cc
 
-    go : (b : Bool) → is_lone s ≡ b → cond b (Found (Literal (slice_index s 0)) 2) (quoted (decoded s) s) ≡ Found k n → get_or s (n - 1) 0 ≡ 39
+    go : (b : Bool) → is_lone s ≡ b → cond b (Found (Literal (slice_index s 0)) 2) (quoted (decoded s) s) ≡ Found k n
+        → get_or s (n - 1) 0 ≡ 39
     go true l e = ap (λ m. get_or s (m - 1) 0) (two (slice_index s 0) n e) ∙ lone_ends s l
     go false l e = quoted_ends (decoded s).char (decoded s).size n k s e
 
-pub found_last : (l : List ℕ) (c : ℕ) (k : TokenKind) (n : ℕ) → literal l ≡ Unfinished → literal (l ++ c ∷ []) ≡ Found k n → c ≡ 39
+-- the byte that completes one is an apostrophe
+pub found_last : (l : List ℕ) (c : ℕ) (k : TokenKind) (n : ℕ) → literal l ≡ Unfinished
+    → literal (l ++ c ∷ []) ≡ Found k n → c ≡ 39
 found_last l c k n u h =
-    let e : n - 1 ≡ length l = omega (arith, unfinished_longer l (c ∷ []) k n u h, literal_fits (l ++ c ∷ []) k n h, length-append l (c ∷ [])) in
+    let e : n - 1 ≡ length l =
+    omega (
+      arith,
+      unfinished_longer l (c ∷ []) k n u h,
+      literal_fits (l ++ c ∷ []) k n h,
+      length-append l (c ∷ []),
+    ) in
     sym (get_or-append_seam l c [] 0) ∙ sym (ap (λ i. get_or (l ++ c ∷ []) i 0) e) ∙ literal_ends (l ++ c ∷ []) k n h

@@ -1,5 +1,7 @@
 -- Each row of the table of names says what its name means.
-use Rattle.std.proofs.Common.{◌≡◌, ℕ, zero, suc, ◌+◌, ◌*◌, ◌/◌, ◌%◌, ◌<◌, Bool, true, false, cond, ◌&&◌, List, [], ◌∷◌, length, take, drop, get_or, map, fold, All, refl, sym, ◌∙◌, ap, ap₂, arith, nat_lt, nat_le, Option, Some, None, IfSome, codes, bytes_eq}
+use Rattle.std.proofs.Common.{◌≡◌, ℕ, suc, ◌+◌, ◌*◌, ◌<◌, Bool, true, false, cond, ◌&&◌, List, [], ◌∷◌}
+use Rattle.std.proofs.Common.{length, take, drop, get_or, map, fold, All, refl, sym, ◌∙◌, ap, ap₂, arith, nat_lt}
+use Rattle.std.proofs.Common.{nat_le, Option, Some, None, IfSome, codes, bytes_eq}
 use Rattle.std.proofs.lemmas.Str.Ascii.{lowercase-lowercase}
 use Rattle.std.proofs.lemmas.List.{get_or-map, take-map, drop-map, length-map}
 use Rattle.std.proofs.lemmas.Bool.Decides.{nat_tests}
@@ -11,7 +13,7 @@ use Rattle.keymap_text.specs.declared.words.Meaning.TheVariants.{Number, Act}
 use Rattle.keymap_text.specs.declared.names.TheConstants.{NAMES}
 use Rattle.keymap_text.specs.declared.names.Name.{Name}
 use Rattle.keymap_text.specs.declared.words.Meaning.{Meaning}
-use Rattle.keymap_text.specs.Keys.{pack, unpacked, Means, IsTrueName, Letters, function_name, screen_name}
+use Rattle.keymap_text.specs.Inner.Keys.{pack, unpacked, Means, IsTrueName, function_name, screen_name}
 use Rattle.keymap_text.proofs.Keys.{unpack_packed, letters_front}
 use Rattle.keymap_text.proofs.Characters.{along}
 use Rattle.keymap_text.specs.Lexical.{leading, is_word}
@@ -19,123 +21,186 @@ use Rattle.keymap_core.specs.declared.action.Action.TheVariants as a
 use Rattle.std.specs.Int.{from_le_bytes, w64}
 use Rattle.std.specs.List.{range_with_len}
 use Rattle.std.proofs.Common.{◌≤◌, length-take, take_all}
-use Rattle.keymap_text.specs.Words.{meaning, same_name, sense_meaning, letters, look, named, table, digits_of, number_after, is_digit, of_action}
+use Rattle.keymap_text.specs.Words.{meaning, same_name, sense_meaning, letters, look, named, table, digits_of}
+use Rattle.keymap_text.specs.Words.{number_after, is_digit, of_action}
 
 -- case has no effect
 idem : (w : List ℕ) → map to_ascii_lowercase (map to_ascii_lowercase w) ≡ map to_ascii_lowercase w
 idem [] = refl
 idem (c ∷ w) = ap₂ (λ (x : ℕ) (xs : List ℕ). x ∷ xs) (lowercase-lowercase c) (idem w)
 
+-- a digit has no case
 digit_lower : (c : ℕ) → digit_value (to_ascii_lowercase c) ≡ digit_value c
 digit_lower c = grind (arith, nat_tests)
 
+-- nor have digits
 all_lower : (base : ℕ) (w : List ℕ) → list_all (is_digit base) (map to_ascii_lowercase w) ≡ list_all (is_digit base) w
 all_lower base [] = refl
 all_lower base (c ∷ w) = ap₂ (λ d b. nat_lt d base && b) (digit_lower c) (all_lower base w)
 
-number_lower : (base n : ℕ) (w : List ℕ) → fold (λ n c. n * base + digit_value c) n (map to_ascii_lowercase w) ≡ fold (λ n c. n * base + digit_value c) n w
+-- nor has a number
+number_lower : (base n : ℕ) (w : List ℕ)
+    → fold (λ n c. n * base + digit_value c) n (map to_ascii_lowercase w) ≡ fold (λ n c. n * base + digit_value c) n w
 number_lower base n [] = refl
-number_lower base n (c ∷ w) = number_lower base (n * base + digit_value (to_ascii_lowercase c)) w ∙ ap (λ d. fold (λ n c. n * base + digit_value c) (n * base + d) w) (digit_lower c)
+number_lower base n (c ∷ w) =
+    number_lower base (n * base + digit_value (to_ascii_lowercase c)) w
+    ∙ ap (λ d. fold (λ n c. n * base + digit_value c) (n * base + d) w) (digit_lower c)
 
+-- nor has what digits spell
 digits_lower : (base : ℕ) (w : List ℕ) → digits_of base (map to_ascii_lowercase w) ≡ digits_of base w
 unfolding digits_of
 digits_lower base w = rw (length-map, all_lower base w, number_lower base 0 w) refl
 
-after_lower : (prefix : List ℕ) (base : ℕ) (w : List ℕ) → number_after prefix base (map to_ascii_lowercase w) ≡ number_after prefix base w
+-- nor has the number after a prefix
+after_lower : (prefix : List ℕ) (base : ℕ) (w : List ℕ)
+    → number_after prefix base (map to_ascii_lowercase w) ≡ number_after prefix base w
 after_lower prefix base w =
     let n = length prefix in
     ap₂ (λ b o. cond b o None)
-    (ap₂ (λ m l. nat_le n m && bytes_eq (map to_ascii_lowercase prefix) l) (length-map w to_ascii_lowercase) (ap (map to_ascii_lowercase) (take-map to_ascii_lowercase n w) ∙ idem (take n w)))
+    (ap₂ (λ m l. nat_le n m && bytes_eq (map to_ascii_lowercase prefix) l) (length-map w to_ascii_lowercase)
+    (ap (map to_ascii_lowercase) (take-map to_ascii_lowercase n w) ∙ idem (take n w)))
     (ap (digits_of base) (drop-map to_ascii_lowercase n w) ∙ digits_lower base (drop n w))
 
+-- nor has a name
 named_lower : (t : List (List ℕ × Meaning)) (w : List ℕ) → named t (map to_ascii_lowercase w) ≡ named t w
 unfolding named
 named_lower [] w = refl
-named_lower (e ∷ t) w = ap₂ (λ l o. cond (bytes_eq (map to_ascii_lowercase e.0) l) (Some e.1) o) (idem w) (named_lower t w)
+named_lower (e ∷ t) w =
+    ap₂ (λ l o. cond (bytes_eq (map to_ascii_lowercase e.0) l) (Some e.1) o) (idem w) (named_lower t w)
 
+-- the first of the meanings that a word may have
 pick : Option ℕ → Option ℕ → Option Meaning → Named → Meaning
-pick a b c d = elim a [ Some n ↦ Number n | None ↦ elim b [ Some n ↦ Number n | None ↦ elim c [ Some m ↦ m | None ↦ of_action d ] ] ]
+pick a b c d =
+    elim a [
+      | Some n ↦ Number n
+      | None ↦ elim b [ Some n ↦ Number n | None ↦ elim c [ Some m ↦ m | None ↦ of_action d ] ]
+    ]
 
-meaning_picks : (w : List ℕ) → meaning w ≡ pick (digits_of 10 w) (number_after (codes "0x") 16 w) (named table w) (named_of w)
+-- which is the meaning of a word
+meaning_picks : (w : List ℕ) → meaning w ≡ pick (digits_of 10 w) (number_after (codes "0x") 16 w) (named table w)
+    (named_of w)
 unfolding meaning pick
 meaning_picks w = refl
 
-same_pick : (a a' b b' : Option ℕ) (c c' : Option Meaning) (d d' : Named) → a ≡ a' → b ≡ b' → c ≡ c' → d ≡ d' → pick a b c d ≡ pick a' b' c' d'
+-- by equal parts
+same_pick : (a a' b b' : Option ℕ) (c c' : Option Meaning) (d d' : Named) → a ≡ a' → b ≡ b' → c ≡ c' → d ≡ d'
+    → pick a b c d ≡ pick a' b' c' d'
 same_pick a a' b b' c c' d d' e f g h = cc
 
+-- the meaning of a word has no case
 pub meaning_lower : (w : List ℕ) → meaning (map to_ascii_lowercase w) ≡ meaning w
-meaning_lower w = meaning_picks _ ∙ same_pick _ _ _ _ _ _ _ _ (digits_lower 10 w) (after_lower (codes "0x") 16 w) (named_lower table w) (ap meaning_of (idem w)) ∙ sym (meaning_picks w)
+meaning_lower w =
+    meaning_picks _ ∙ same_pick _ _ _ _ _ _ _ _ (digits_lower 10 w) (after_lower (codes "0x") 16 w)
+    (named_lower table w) (ap meaning_of (idem w)) ∙ sym (meaning_picks w)
 
 -- numbers
 pub decimal_meaning : (w : List ℕ) (n : ℕ) → Some n ≡ digits_of 10 w → Number n ≡ meaning w
 unfolding pick
-decimal_meaning w n h = ap (λ o. pick o (number_after (codes "0x") 16 w) (named table w) (named_of w)) h ∙ sym (meaning_picks w)
+decimal_meaning w n h =
+    ap (λ o. pick o (number_after (codes "0x") 16 w) (named table w) (named_of w)) h ∙ sym (meaning_picks w)
 
+-- no digits, whatever the other test says
 none_of : (b : Bool) (x : Option ℕ) → cond (b && false) x None ≡ None
 none_of true x = refl
 none_of false x = refl
 
+-- a word with 0x is no decimal number
 not_decimal : (b : ℕ) (w : List ℕ) → nat_lt (digit_value b) 10 ≡ false → digits_of 10 (48 ∷ b ∷ w) ≡ None
 unfolding digits_of
 not_decimal b w h = rw (h, digits_of) (none_of _ _)
 
+-- two bytes are enough for a prefix
 some_length : (n : ℕ) → nat_le 2 (suc (suc n)) ≡ true
 some_length n = grind (arith, nat_tests)
 
-behind_prefix : (b : ℕ) (w : List ℕ) → to_ascii_lowercase b ≡ 120 → number_after (codes "0x") 16 (48 ∷ b ∷ w) ≡ digits_of 16 w
-behind_prefix b w l = ap₂ (λ m c. cond (m && bytes_eq (codes "0x") (48 ∷ c ∷ [])) (digits_of 16 w) None) (some_length (length w)) l
+-- the digits behind 0x
+behind_prefix : (b : ℕ) (w : List ℕ) → to_ascii_lowercase b ≡ 120
+    → number_after (codes "0x") 16 (48 ∷ b ∷ w) ≡ digits_of 16 w
+behind_prefix b w l =
+    ap₂ (λ m c. cond (m && bytes_eq (codes "0x") (48 ∷ c ∷ [])) (digits_of 16 w) None) (some_length (length w)) l
 
-hexadecimal : (b n : ℕ) (w : List ℕ) → nat_lt (digit_value b) 10 ≡ false → to_ascii_lowercase b ≡ 120 → Some n ≡ digits_of 16 w → Number n ≡ meaning (48 ∷ b ∷ w)
+-- they spell the number
+hexadecimal : (b n : ℕ) (w : List ℕ) → nat_lt (digit_value b) 10 ≡ false → to_ascii_lowercase b ≡ 120
+    → Some n ≡ digits_of 16 w → Number n ≡ meaning (48 ∷ b ∷ w)
 unfolding pick
 hexadecimal b n w d l h =
     let e : number_after (codes "0x") 16 (48 ∷ b ∷ w) ≡ digits_of 16 w = behind_prefix b w l in
     ap (λ o. pick None o (named table (48 ∷ b ∷ w)) (named_of (48 ∷ b ∷ w))) (h ∙ sym e)
-    ∙ ap (λ o. pick o (number_after (codes "0x") 16 (48 ∷ b ∷ w)) (named table (48 ∷ b ∷ w)) (named_of (48 ∷ b ∷ w))) (sym (not_decimal b w d))
+    ∙ ap (λ o. pick o (number_after (codes "0x") 16 (48 ∷ b ∷ w)) (named table (48 ∷ b ∷ w)) (named_of (48 ∷ b ∷ w)))
+    (sym (not_decimal b w d))
     ∙ sym (meaning_picks (48 ∷ b ∷ w))
 
-pub hexadecimal_meaning : (w : List ℕ) (b n : ℕ) → nat_lt (digit_value b) 10 ≡ false → to_ascii_lowercase b ≡ 120 → 2 < length w → get_or w 0 0 ≡ 48 → get_or w 1 0 ≡ b → Some n ≡ digits_of 16 (drop 2 w) → Number n ≡ meaning w
+-- digits after 0x mean their number
+pub hexadecimal_meaning : (w : List ℕ) (b n : ℕ) → nat_lt (digit_value b) 10 ≡ false → to_ascii_lowercase b ≡ 120
+    → 2 < length w → get_or w 0 0 ≡ 48 → get_or w 1 0 ≡ b → Some n ≡ digits_of 16 (drop 2 w) → Number n ≡ meaning w
 hexadecimal_meaning [] b n d l s x y h = absurd (omega (arith, s))
 hexadecimal_meaning (c ∷ []) b n d l s x y h = absurd (omega (arith, s))
-hexadecimal_meaning (c ∷ e ∷ w) b n d l s x y h = hexadecimal b n w d l h ∙ ap₂ (λ (x y : ℕ). meaning (x ∷ y ∷ w)) (sym x) (sym y)
+hexadecimal_meaning (c ∷ e ∷ w) b n d l s x y h =
+    hexadecimal b n w d l h ∙ ap₂ (λ (x y : ℕ). meaning (x ∷ y ∷ w)) (sym x) (sym y)
 
+-- decimal digits mean their number
 pub decimal_means : (r : Option ℕ) (w : List ℕ) → r ≡ digits_of 10 w → IfSome r (λ n. Number n ≡ meaning w)
 decimal_means (Some n) w h = decimal_meaning w n h
 decimal_means None w h = tt
 
-pub hexadecimal_means : (r : Option ℕ) (w : List ℕ) (b : ℕ) → nat_lt (digit_value b) 10 ≡ false → to_ascii_lowercase b ≡ 120 → 2 < length w → get_or w 0 0 ≡ 48 → get_or w 1 0 ≡ b → r ≡ digits_of 16 (drop 2 w) → IfSome r (λ n. Number n ≡ meaning w)
+-- the same where the code may have found none
+pub hexadecimal_means : (r : Option ℕ) (w : List ℕ) (b : ℕ) → nat_lt (digit_value b) 10 ≡ false
+    → to_ascii_lowercase b ≡ 120 → 2 < length w → get_or w 0 0 ≡ 48 → get_or w 1 0 ≡ b → r ≡ digits_of 16 (drop 2 w)
+    → IfSome r (λ n. Number n ≡ meaning w)
 hexadecimal_means (Some n) w b d l s x y h = hexadecimal_meaning w b n d l s x y h
 hexadecimal_means None w b d l s x y h = tt
 
 -- a name is true if the word with its key means so
 pub means_of : (key : ℕ) (m : Meaning) → m ≡ meaning (unpacked 8 key) → Means key m
-means_of key m e = λ w short letters h. e ∙ ap meaning (ap (unpacked 8) (sym h) ∙ unpack_packed 8 w short letters) ∙ meaning_lower w
+means_of key m e =
+    λ w short letters h. e ∙ ap meaning (ap (unpacked 8) (sym h) ∙ unpack_packed 8 w short letters) ∙ meaning_lower w
 
 -- computed over the names
 name_meanings : map (λ r. sense_meaning r.1) NAMES ≡ map (λ r. meaning (unpacked 8 (from_le_bytes w64 r.0))) NAMES
 unfolding meaning digits_of named
 name_meanings = refl
 
-functions : map (λ n. Act (a.Function n)) (range_with_len 1 96) ≡ map (λ n. meaning (unpacked 8 (function_name n))) (range_with_len 1 96)
+-- each function key's key means it, by computation
+functions : map (λ n. Act (a.Function n)) (range_with_len 1 96)
+    ≡ map (λ n. meaning (unpacked 8 (function_name n))) (range_with_len 1 96)
 unfolding meaning digits_of named
 functions = refl
 
-screens : map (λ n. Act (a.Screen n)) (range_with_len 1 16) ≡ map (λ n. meaning (unpacked 8 (screen_name n))) (range_with_len 1 16)
+-- each screen's key means it, by computation
+screens : map (λ n. Act (a.Screen n)) (range_with_len 1 16)
+    ≡ map (λ n. meaning (unpacked 8 (screen_name n))) (range_with_len 1 16)
 unfolding meaning digits_of named
 screens = refl
 
-at_name : {X : Type 0} (f g : Name → X) → map f NAMES ≡ map g NAMES → (k : ℕ) (d : Name) → k < length NAMES → f (get_or NAMES k d) ≡ g (get_or NAMES k d)
-at_name f g h k d l = sym (get_or-map f NAMES k d (f d) l) ∙ ap (λ xs. get_or xs k (f d)) h ∙ get_or-map g NAMES k d (f d) l
+-- two readings of the table agree at each row
+at_name : {X : Type 0} (f g : Name → X) → map f NAMES ≡ map g NAMES → (k : ℕ) (d : Name) → k < length NAMES
+    → f (get_or NAMES k d) ≡ g (get_or NAMES k d)
+at_name f g h k d l =
+    sym (get_or-map f NAMES k d (f d) l) ∙ ap (λ xs. get_or xs k (f d)) h ∙ get_or-map g NAMES k d (f d) l
 
+-- each row of the table of names says what its name means
 pub names_true : All IsTrueName NAMES
-names_true = λ k d h. means_of (from_le_bytes w64 (get_or NAMES k d).0) (sense_meaning (get_or NAMES k d).1) (at_name (λ r. sense_meaning r.1) (λ r. meaning (unpacked 8 (from_le_bytes w64 r.0))) name_meanings k d h)
+names_true =
+    λ k d h. means_of (from_le_bytes w64 (get_or NAMES k d).0) (sense_meaning (get_or NAMES k d).1)
+    (at_name (λ r. sense_meaning r.1) (λ r. meaning (unpacked 8 (from_le_bytes w64 r.0))) name_meanings k d h)
 
+-- the key of a function key's name means that key
 pub function_means : (n key : ℕ) → 0 < n → n ≤ 96 → key ≡ function_name n → Means key (Act (a.Function n))
-function_means n key l h e = means_of key (Act (a.Function n)) (along (λ n. Act (a.Function n)) (λ n. meaning (unpacked 8 (function_name n))) 1 96 functions n (omega (arith, l)) (omega (arith, h)) ∙ ap (λ k. meaning (unpacked 8 k)) (sym e))
+function_means n key l h e =
+    means_of key (Act (a.Function n)) (along (λ n. Act (a.Function n))
+    (λ n. meaning (unpacked 8 (function_name n))) 1 96 functions n (omega (arith, l)) (omega (arith, h))
+    ∙ ap (λ k. meaning (unpacked 8 k)) (sym e))
 
+-- the key of a screen's name means that screen
 pub screen_means : (n key : ℕ) → 0 < n → n ≤ 16 → key ≡ screen_name n → Means key (Act (a.Screen n))
-screen_means n key l h e = means_of key (Act (a.Screen n)) (along (λ n. Act (a.Screen n)) (λ n. meaning (unpacked 8 (screen_name n))) 1 16 screens n (omega (arith, l)) (omega (arith, h)) ∙ ap (λ k. meaning (unpacked 8 k)) (sym e))
+screen_means n key l h e =
+    means_of key (Act (a.Screen n)) (along (λ n. Act (a.Screen n))
+    (λ n. meaning (unpacked 8 (screen_name n))) 1 16 screens n (omega (arith, l)) (omega (arith, h))
+    ∙ ap (λ k. meaning (unpacked 8 k)) (sym e))
 
-pub some_means : (r : Option Meaning) (key n : ℕ) (w : List ℕ) → IfSome r (Means key) → n ≤ 8 → n ≤ leading is_word w → key ≡ pack 8 (map to_ascii_lowercase (take n w)) → IfSome r (λ m. m ≡ meaning (take n w))
+-- what the code found by the key is the meaning of the word in front
+pub some_means : (r : Option Meaning) (key n : ℕ) (w : List ℕ) → IfSome r (Means key) → n ≤ 8 → n ≤ leading is_word w
+    → key ≡ pack 8 (map to_ascii_lowercase (take n w)) → IfSome r (λ m. m ≡ meaning (take n w))
 some_means (Some m) key n w h s l e = h (take n w) (short n w s) (letters_front n w l) (sym e)
   where
     short : (n : ℕ) (w : List ℕ) → n ≤ 8 → length (take n w) ≤ 8
@@ -146,18 +211,24 @@ some_means None key n w h s l e = tt
 sense_entry : Name → List ℕ × Meaning
 sense_entry name = (letters name.0, sense_meaning name.1)
 
+-- rows as the code has them, and as the definitions do
 look_named : (names : List Name) (w : List ℕ) → look names w ≡ named (map sense_entry names) w
 unfolding look named sense_entry
 look_named [] w = refl
-look_named (name ∷ names) w = ap (λ o. cond (same_name (letters name.0) w) (Some (sense_meaning name.1)) o) (look_named names w)
+look_named (name ∷ names) w =
+    ap (λ o. cond (same_name (letters name.0) w) (Some (sense_meaning name.1)) o) (look_named names w)
 
+-- the first forty rows, by computation
 first_names : map sense_entry (take 40 NAMES) ≡ table
 unfolding sense_entry leading
 first_names = refl
 
+-- the first forty rows are the table of characters and lock letters
 pub look_in_table : (w : List ℕ) → look (take 40 NAMES) w ≡ named table w
 look_in_table w = look_named (take 40 NAMES) w ∙ ap (λ t. named t w) first_names
 
-pub whole_means : (r : Option Meaning) (w : List ℕ) → IfSome r (λ m. m ≡ meaning (take (length w) w)) → IfSome r (λ m. m ≡ meaning w)
+-- the same of a whole word
+pub whole_means : (r : Option Meaning) (w : List ℕ) → IfSome r (λ m. m ≡ meaning (take (length w) w))
+    → IfSome r (λ m. m ≡ meaning w)
 whole_means (Some m) w h = h ∙ ap meaning (take_all (length w) w (omega arith))
 whole_means None w h = tt

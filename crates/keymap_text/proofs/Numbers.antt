@@ -1,5 +1,7 @@
 -- Names and numbers.
-use Rattle.std.proofs.Common.{◌≡◌, ℕ, suc, ◌+◌, ◌*◌, ◌^◌, ◌<◌, ◌≤◌, Bool, true, false, cond, ◌&&◌, List, [], ◌∷◌, length, take, drop, get_or, refl, sym, ◌∙◌, ap, arith, add-one, drop-cons, pow_mono, pow-add, nat_lt, Some, None, Option}
+use Rattle.std.proofs.Common.{◌≡◌, ℕ, suc, ◌+◌, ◌*◌, ◌^◌, ◌<◌, ◌≤◌, Bool, true, false, cond, ◌&&◌, List, [], ◌∷◌}
+use Rattle.std.proofs.Common.{length, take, drop, get_or, refl, sym, ◌∙◌, ap, arith, add-one, drop-cons, pow_mono}
+use Rattle.std.proofs.Common.{pow-add, nat_lt, Some, None, Option}
 use Rattle.std.proofs.Common.{mul-le-mul_left, ap₂}
 use Rattle.std.proofs.lemmas.List.{at_drop_all}
 use Rattle.std.proofs.lemmas.List.Sums.{fold_more}
@@ -10,29 +12,42 @@ use Rattle.std.specs.Char.{digit_value}
 use Rattle.keymap_text.specs.declared.names.Name.{Name}
 use Rattle.keymap_text.specs.Words.{look, letters, sense_meaning, same_name, digits_of, number, is_digit}
 
+-- no row has no name
 pub look_none : (w : List ℕ) → look [] w ≡ None
 unfolding look
 look_none w = refl
 
-pub look_here : (name : Name) (names : List Name) (w : List ℕ) → same_name (letters name.0) w ≡ true → look (name ∷ names) w ≡ Some (sense_meaning name.1)
+-- the first row has the name
+pub look_here : (name : Name) (names : List Name) (w : List ℕ) → same_name (letters name.0) w ≡ true
+    → look (name ∷ names) w ≡ Some (sense_meaning name.1)
 unfolding look
 look_here name names w h = ap (λ b. cond b (Some (sense_meaning name.1)) (look names w)) h
 
-pub look_on : (name : Name) (names : List Name) (w : List ℕ) → same_name (letters name.0) w ≡ false → look (name ∷ names) w ≡ look names w
+-- the first row has another name
+pub look_on : (name : Name) (names : List Name) (w : List ℕ) → same_name (letters name.0) w ≡ false
+    → look (name ∷ names) w ≡ look names w
 unfolding look
 look_on name names w h = ap (λ b. cond b (Some (sense_meaning name.1)) (look names w)) h
 
+-- past the last row there is no name
 pub look_end : (names : List Name) (i : ℕ) (w : List ℕ) → length names ≤ i → look (drop i names) w ≡ None
 look_end names i w h = at_drop_all (λ n. look n w) names i h ∙ look_none w
 
-pub look_here_at : (names : List Name) (i : ℕ) (d : Name) (w : List ℕ) → i < length names → same_name (letters (get_or names i d).0) w ≡ true → look (drop i names) w ≡ Some (sense_meaning (get_or names i d).1)
+-- the row at a place has the name
+pub look_here_at : (names : List Name) (i : ℕ) (d : Name) (w : List ℕ) → i < length names
+    → same_name (letters (get_or names i d).0) w ≡ true
+    → look (drop i names) w ≡ Some (sense_meaning (get_or names i d).1)
 look_here_at names i d w h e = ap (λ n. look n w) (drop-cons names i d h) ∙ look_here _ _ w e
 
-pub look_on_at : (names : List Name) (i : ℕ) (d : Name) (w : List ℕ) → i < length names → same_name (letters (get_or names i d).0) w ≡ false → look (drop i names) w ≡ look (drop (i + 1) names) w
-look_on_at names i d w h e = ap (λ n. look n w) (drop-cons names i d h) ∙ look_on _ _ w e ∙ ap (λ k. look (drop k names) w) (sym (add-one i))
+-- the row at a place has another name
+pub look_on_at : (names : List Name) (i : ℕ) (d : Name) (w : List ℕ) → i < length names
+    → same_name (letters (get_or names i d).0) w ≡ false → look (drop i names) w ≡ look (drop (i + 1) names) w
+look_on_at names i d w h e =
+    ap (λ n. look n w) (drop-cons names i d h) ∙ look_on _ _ w e ∙ ap (λ k. look (drop k names) w) (sym (add-one i))
 
 pub ruleset look_rules = (look_end, look_here_at, look_on_at)
 
+-- one digit more makes a number four bits longer at most
 pub bound_step : (n base d i : ℕ) → n < 2 ^ (4 * i) → base ≤ 16 → d < base → n * base + d < 2 ^ (4 * (i + 1))
 bound_step n base d i h b e =
     let k = mul-le-mul_left n b in
@@ -42,9 +57,11 @@ bound_step n base d i h b e =
     four : (i : ℕ) → 4 * (i + 1) ≡ 4 * i + 4
     four i = omega arith
 
+-- 32 digits fit in 128 bits
 pub room : (i : ℕ) → i < 32 → 2 ^ (4 * (i + 1)) ≤ 2 ^ 128
 room i h = pow_mono {i = 4 * (i + 1)} {j = 128} (omega arith)
 
+-- so does the product on the way
 pub product_fits : (n base i : ℕ) → n < 2 ^ (4 * i) → base ≤ 16 → i < 32 → n * base < 2 ^ 128
 product_fits n base i h b l =
     let k = mul-le-mul_left n b in
@@ -54,9 +71,11 @@ product_fits n base i h b l =
     four : (i : ℕ) → 4 * (i + 1) ≡ 4 * i + 4
     four i = omega arith
 
+-- 15 digits fit in 60 bits
 pub short_room : (i : ℕ) → i < 15 → 2 ^ (4 * (i + 1)) ≤ 2 ^ 60
 short_room i h = pow_mono {i = 4 * (i + 1)} {j = 60} (omega arith)
 
+-- so does the product on the way
 pub short_product_fits : (n base i : ℕ) → n < 2 ^ (4 * i) → base ≤ 16 → i < 15 → n * base < 2 ^ 60
 short_product_fits n base i h b l =
     let k = mul-le-mul_left n b in
@@ -66,14 +85,19 @@ short_product_fits n base i h b l =
     four : (i : ℕ) → 4 * (i + 1) ≡ 4 * i + 4
     four i = omega arith
 
+-- no digit spells no number
 pub digits_none : (base : ℕ) (w : List ℕ) → length w ≡ 0 → digits_of base w ≡ None
 unfolding digits_of
 digits_none base [] h = refl
 digits_none base (x ∷ w) h = absurd (omega (arith, h))
 
-pub digits_bad : (base : ℕ) (w : List ℕ) (i : ℕ) → i < length w → base ≤ digit_value (get_or w i 0) → digits_of base w ≡ None
+-- a byte that is no digit spells no number
+pub digits_bad : (base : ℕ) (w : List ℕ) (i : ℕ) → i < length w → base ≤ digit_value (get_or w i 0)
+    → digits_of base w ≡ None
 unfolding digits_of
-digits_bad base w i h e = ap (λ b. cond (nat_lt 0 (length w) && b) (Some (number base w)) None) (list_all_at (is_digit base) w i 0 h (le-nltb base _ e)) ∙ never (nat_lt 0 (length w)) (Some (number base w))
+digits_bad base w i h e =
+    ap (λ b. cond (nat_lt 0 (length w) && b) (Some (number base w)) None)
+    (list_all_at (is_digit base) w i 0 h (le-nltb base _ e)) ∙ never (nat_lt 0 (length w)) (Some (number base w))
   where
     never : (b : Bool) (x : Option ℕ) → cond (b && false) x None ≡ None
     never true x = refl
@@ -82,7 +106,9 @@ digits_bad base w i h e = ap (λ b. cond (nat_lt 0 (length w) && b) (Some (numbe
     le-nltb : (n d : ℕ) → n ≤ d → nat_lt d n ≡ false
     le-nltb n d h = grind (arith, nat_tests)
 
-pub digits_good : (base : ℕ) (w : List ℕ) → 0 < length w → list_all (is_digit base) w ≡ true → digits_of base w ≡ Some (number base w)
+-- digits alone spell their number
+pub digits_good : (base : ℕ) (w : List ℕ) → 0 < length w → list_all (is_digit base) w ≡ true
+    → digits_of base w ≡ Some (number base w)
 unfolding digits_of
 digits_good base [] h e = absurd (omega (arith, h))
 digits_good base (x ∷ w) h e = rw (some (length w), e) refl
@@ -90,10 +116,14 @@ digits_good base (x ∷ w) h e = rw (some (length w), e) refl
     some : (n : ℕ) → nat_lt 0 (suc n) ≡ true
     some n = grind (arith, nat_tests)
 
-pub number_more : (base : ℕ) (w : List ℕ) (i : ℕ) → i < length w → number base (take (i + 1) w) ≡ number base (take i w) * base + digit_value (get_or w i 0)
+-- the number of one digit more
+pub number_more : (base : ℕ) (w : List ℕ) (i : ℕ) → i < length w
+    → number base (take (i + 1) w) ≡ number base (take i w) * base + digit_value (get_or w i 0)
 number_more base w i h = fold_more (λ n c. n * base + digit_value c) 0 w i 0 h
 
-pub digits_more : (base : ℕ) (w : List ℕ) (i : ℕ) → i < length w → list_all (is_digit base) (take i w) ≡ true → digit_value (get_or w i 0) < base → list_all (is_digit base) (take (i + 1) w) ≡ true
+-- one digit more
+pub digits_more : (base : ℕ) (w : List ℕ) (i : ℕ) → i < length w → list_all (is_digit base) (take i w) ≡ true
+    → digit_value (get_or w i 0) < base → list_all (is_digit base) (take (i + 1) w) ≡ true
 digits_more base w i h e d = list_all_more (is_digit base) w i 0 h ∙ ap₂ (λ a b. a && b) e (lt-test _ _ d)
   where
     lt-test : (d n : ℕ) → d < n → nat_lt d n ≡ true

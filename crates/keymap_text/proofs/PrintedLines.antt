@@ -1,5 +1,6 @@
 -- The printed lines are definitions.
-use Rattle.std.proofs.Common.{◌≡◌, ◌≢◌, ℕ, zero, suc, ◌+◌, ◌-◌, ◌*◌, ◌/◌, ◌%◌, ◌<◌, ◌≤◌, true, List, [], ◌∷◌, ◌++◌, length, replicate, refl, ◌∙◌, ap, subst, arith, Ok, Some, append-nil, nat_lt}
+use Rattle.std.proofs.Common.{◌≡◌, ◌≢◌, ℕ, zero, suc, ◌+◌, ◌-◌, ◌*◌, ◌/◌, ◌%◌, ◌<◌, ◌≤◌, true, List, [], ◌∷◌, ◌++◌}
+use Rattle.std.proofs.Common.{length, replicate, refl, ◌∙◌, ap, subst, arith, Ok, Some, append-nil, nat_lt}
 use Rattle.std.specs.List.{flat_map, list_all}
 use Rattle.std.specs.Char.{digit_value}
 use Rattle.std.proofs.lemmas.Bool.Decides.{nat_tests}
@@ -15,29 +16,38 @@ use Rattle.keymap_text.specs.Lexical.{split, leading, is_word}
 use Rattle.keymap_text.specs.Words.{meaning, digits_of, named, is_digit}
 use Rattle.keymap_core.specs.Accents.{AccentValue}
 use Rattle.keymap_text.specs.Items.{character, cell, accent_index}
-use Rattle.keymap_text.specs.Rows.{KeyDefinition, AccentDefinition, AreCells, no_cells, one_cell, ArePairs, no_pairs, one_pair, Defines, of_key, of_accent}
-use Rattle.keymap_text.specs.Printed.{key_line, accent_line, slot_text, column, cell_text, flag_letter, pair_text, character_text, accent_name}
+use Rattle.keymap_text.specs.Rows.{KeyDefinition, AccentDefinition, AreCells, no_cells, one_cell, ArePairs, no_pairs}
+use Rattle.keymap_text.specs.Rows.{one_pair, Defines, of_key, of_accent}
+use Rattle.keymap_text.specs.Printed.{key_line, accent_line, slot_text, column, cell_text, flag_letter, pair_text}
+use Rattle.keymap_text.specs.Printed.{character_text, accent_name}
 use Rattle.keymap_text.proofs.Leading.{leading_pass, leading_fail, leading_none}
 use Rattle.keymap_text.proofs.Numbers.{digits_good}
 use Rattle.keymap_text.proofs.Splitting.{split_blank}
 use Rattle.keymap_text.proofs.Verdicts.{items_of}
 use Rattle.keymap_text.specs.Meaning.{behind}
-use Rattle.keymap_text.proofs.Lexed.{Lexes, NoWord, Any, lexes_none, lexes_both, lexes_blank, lexes_word, lexes_left, lexes_right}
+use Rattle.keymap_text.proofs.Lexed.{Lexes, NoWord, Any, lexes_none, lexes_both, lexes_blank, lexes_word, lexes_left}
+use Rattle.keymap_text.proofs.Lexed.{lexes_right}
 
+-- a blank in front changes nothing
 lexes_behind_blank : {P : List ℕ → Type 0} {t : List ℕ} {is : List Item} → Lexes P t is → Lexes P (32 ∷ t) is
 lexes_behind_blank {t = t} {is = is} a = record {
-  items = λ q y h. ap items_of (split_blank q 32 (t ++ y) refl) ∙ a.items (q + 1) y h ∙ ap (λ n. is ++ items_of (split 0 n y)) (omega arith);
-  end = λ q y h. ap behind (split_blank q 32 (t ++ y) refl) ∙ a.end (q + 1) y h ∙ ap (λ n. behind (split 0 n y)) (omega arith);
+  items = λ q y h. ap items_of (split_blank q 32 (t ++ y) refl) ∙ a.items (q + 1) y h
+      ∙ ap (λ n. is ++ items_of (split 0 n y)) (omega arith);
+  end = λ q y h. ap behind (split_blank q 32 (t ++ y) refl) ∙ a.end (q + 1) y h
+      ∙ ap (λ n. behind (split 0 n y)) (omega arith);
 }
 
+-- blanks begin with no letter or digit
 pad_first : (n : ℕ) (y : List ℕ) → leading is_word y ≡ 0 → leading is_word (replicate n 32 ++ y) ≡ 0
 pad_first zero y h = h
 pad_first (suc n) y h = leading_fail is_word 32 (replicate n 32 ++ y) refl
 
+-- blanks are no token
 lexes_pad : (n : ℕ) → Lexes NoWord (replicate n 32) []
 lexes_pad zero = lexes_none NoWord
 lexes_pad (suc n) = lexes_behind_blank (lexes_pad n)
 
+-- a column is its token
 lexes_column : {t : List ℕ} {i : Item} → Lexes NoWord t (i ∷ []) → Lexes NoWord (column t) (i ∷ [])
 lexes_column {t = t} h = lexes_behind_blank (lexes_both h (lexes_pad (6 - length t)) (pad_first (6 - length t)))
 
@@ -60,40 +70,57 @@ abbrev pub EachPair : List (ℕ × ℕ) → Type 0
 EachPair [] = Unit {0}
 EachPair (p ∷ ps) = (p.0 ≢ 0) × PrintsCharacter p.0 × PrintsCharacter p.1 × EachPair ps
 
-columns_first : (cs : List Cell) (u y : List ℕ) → leading is_word ((flat_map (λ c. column (cell_text c)) cs ++ 32 ∷ u) ++ y) ≡ 0
+-- columns begin with no letter or digit
+columns_first : (cs : List Cell) (u y : List ℕ)
+    → leading is_word ((flat_map (λ c. column (cell_text c)) cs ++ 32 ∷ u) ++ y) ≡ 0
 columns_first [] u y = leading_fail is_word 32 (u ++ y) refl
 columns_first (c ∷ cs) u y = leading_fail is_word 32 _ refl
 
-more_columns : (cs : List Cell) (y : List ℕ) → leading is_word y ≡ 0 → leading is_word (flat_map (λ c. column (cell_text c)) cs ++ y) ≡ 0
+-- so do columns with another text behind them
+more_columns : (cs : List Cell) (y : List ℕ) → leading is_word y ≡ 0
+    → leading is_word (flat_map (λ c. column (cell_text c)) cs ++ y) ≡ 0
 more_columns [] y h = h
 more_columns (c ∷ cs) y h = leading_fail is_word 32 _ refl
 
-columns : (cs : List Cell) → EachCell cs → (ts : List Item) × Lexes NoWord (flat_map (λ c. column (cell_text c)) cs) ts × AreCells ts cs
+-- the columns of cells are their tokens
+columns : (cs : List Cell) → EachCell cs
+    → (ts : List Item) × Lexes NoWord (flat_map (λ c. column (cell_text c)) cs) ts × AreCells ts cs
 columns [] h = ([], lexes_none NoWord, no_cells)
-columns (c ∷ cs) (p, h) = let r = columns cs h in (p.token ∷ r.0, lexes_both (lexes_column p.lexes) r.1 (more_columns cs), one_cell p.reads r.2)
+columns (c ∷ cs) (p, h) = let r =
+    columns cs h in (p.token ∷ r.0, lexes_both (lexes_column p.lexes) r.1 (more_columns cs), one_cell p.reads r.2)
 
 -- the slot
 meaning_digits : (w : List ℕ) (n : ℕ) → digits_of 10 w ≡ Some n → meaning w ≡ Number n
 unfolding meaning
 meaning_digits w n h = rw (h, meaning) refl
 
+-- a decimal digit has its value
 decimal : (d : ℕ) → d < 10 → digit_value (48 + d) ≡ d
 decimal d h = grind (arith, nat_tests)
 
+-- and is a letter or digit
 decimal_word : (d : ℕ) → d < 10 → is_word (48 + d) ≡ true
 decimal_word d h = grind (arith, nat_tests)
 
+-- and passes the test of digits
 decimal_digit : (d : ℕ) → d < 10 → is_digit 10 (48 + d) ≡ true
 decimal_digit d h = rw (decimal d h) (below d h)
   where
     below : (d : ℕ) → d < 10 → nat_lt d 10 ≡ true
     below d h = grind (arith, nat_tests)
 
+-- three digits are one word
 three_word : (a b c : ℕ) → is_word a ≡ true → is_word b ≡ true → is_word c ≡ true → leading is_word (a ∷ b ∷ c ∷ []) ≡ 3
-three_word a b c h k l = leading_pass is_word a _ h ∙ ap (λ n. n + 1) (leading_pass is_word b _ k ∙ ap (λ n. n + 1) (leading_pass is_word c [] l ∙ ap (λ n. n + 1) (leading_none is_word)))
+three_word a b c h k l =
+    leading_pass is_word a _ h ∙ ap (λ n. n + 1) (leading_pass is_word b _ k
+    ∙ ap (λ n. n + 1) (leading_pass is_word c [] l ∙ ap (λ n. n + 1) (leading_none is_word)))
 
-three_number : (a b c : ℕ) → a < 10 → b < 10 → c < 10 → digits_of 10 ((48 + a) ∷ (48 + b) ∷ (48 + c) ∷ []) ≡ Some (100 * a + 10 * b + c)
-three_number a b c h k l = digits_good 10 _ (omega arith) all ∙ ap Some (value (digit_value (48 + a)) (digit_value (48 + b)) (digit_value (48 + c)) (decimal a h) (decimal b k) (decimal c l))
+-- and spell their number
+three_number : (a b c : ℕ) → a < 10 → b < 10 → c < 10
+    → digits_of 10 ((48 + a) ∷ (48 + b) ∷ (48 + c) ∷ []) ≡ Some (100 * a + 10 * b + c)
+three_number a b c h k l =
+    digits_good 10 _ (omega arith) all ∙ ap Some (value (digit_value (48 + a)) (digit_value (48 + b))
+    (digit_value (48 + c)) (decimal a h) (decimal b k) (decimal c l))
   where
     all : list_all (is_digit 10) ((48 + a) ∷ (48 + b) ∷ (48 + c) ∷ []) ≡ true
     all = rw (decimal_digit a h, decimal_digit b k, decimal_digit c l) refl
@@ -101,15 +128,19 @@ three_number a b c h k l = digits_good 10 _ (omega arith) all ∙ ap Some (value
     value : (x y z : ℕ) → x ≡ a → y ≡ b → z ≡ c → ((0 * 10 + x) * 10 + y) * 10 + z ≡ 100 * a + 10 * b + c
     value x y z e f g = omega arith
 
+-- a printed slot is its number
 lexes_slot : (s : ℕ) → s < 256 → Lexes NoWord (slot_text s) (Value (Number s) ∷ [])
 lexes_slot s h =
     let a : s / 100 < 10 = omega arith in
     let b : s / 10 % 10 < 10 = omega arith in
     let c : s % 10 < 10 = omega arith in
     let n : 100 * (s / 100) + 10 * (s / 10 % 10) + s % 10 ≡ s = omega arith in
-    subst (λ (i : Item). Lexes NoWord (slot_text s) (i ∷ [])) (ap Value (meaning_digits (slot_text s) s (three_number (s / 100) (s / 10 % 10) (s % 10) a b c ∙ ap Some n)))
-    (lexes_word (slot_text s) (omega arith) (omega arith) (three_word _ _ _ (decimal_word _ a) (decimal_word _ b) (decimal_word _ c)))
+    subst (λ (i : Item). Lexes NoWord (slot_text s) (i ∷ []))
+    (ap Value (meaning_digits (slot_text s) s (three_number (s / 100) (s / 10 % 10) (s % 10) a b c ∙ ap Some n)))
+    (lexes_word (slot_text s) (omega arith) (omega arith)
+    (three_word _ _ _ (decimal_word _ a) (decimal_word _ b) (decimal_word _ c)))
 
+-- a printed lock letter is that letter
 lexes_letter : (f : LockFlag) → Lexes NoWord (flag_letter f ∷ []) (Value (Letter f) ∷ [])
 unfolding meaning digits_of named leading
 lexes_letter flags.O = lexes_word (79 ∷ []) (omega arith) (omega arith) refl
@@ -117,31 +148,49 @@ lexes_letter flags.C = lexes_word (67 ∷ []) (omega arith) (omega arith) refl
 lexes_letter flags.N = lexes_word (78 ∷ []) (omega arith) (omega arith) refl
 lexes_letter flags.B = lexes_word (66 ∷ []) (omega arith) (omega arith) refl
 
-pub key_printed : (slot : ℕ) (e : Entry) → slot < 256 → length e.cells ≡ 8 → EachCell e.cells → (ts : List Item) × Lexes Any (key_line slot e) ts × Defines ts (KeyDefinition slot e)
+-- the line of an entry is its definition
+pub key_printed : (slot : ℕ) (e : Entry) → slot < 256 → length e.cells ≡ 8 → EachCell e.cells
+    → (ts : List Item) × Lexes Any (key_line slot e) ts × Defines ts (KeyDefinition slot e)
 unfolding key_line
 key_printed slot e h l p =
     let r = columns e.cells p in (
       Value (Number slot) ∷ (r.0 ++ Value (Letter e.flag) ∷ []),
       lexes_both (lexes_slot slot h)
-          (lexes_both r.1 (lexes_behind_blank (lexes_both (lexes_letter e.flag) (lexes_blank Any 10 refl) (λ y k. leading_fail is_word 10 y refl))) (λ y k. leading_fail is_word 32 _ refl))
+          (lexes_both r.1 (lexes_behind_blank (lexes_both (lexes_letter e.flag) (lexes_blank Any 10 refl)
+          (λ y k. leading_fail is_word 10 y refl))) (λ y k. leading_fail is_word 32 _ refl))
           (λ y k. columns_first e.cells _ y),
       of_key h l r.2,
     )
 
 -- an accent's line
-pairs_first : (ps : List (ℕ × ℕ)) (y : List ℕ) → leading is_word y ≡ 0 → leading is_word (flat_map pair_text ps ++ y) ≡ 0
+pairs_first : (ps : List (ℕ × ℕ)) (y : List ℕ) → leading is_word y ≡ 0
+    → leading is_word (flat_map pair_text ps ++ y) ≡ 0
 unfolding pair_text
 pairs_first [] y h = h
 pairs_first (p ∷ ps) y h = leading_fail is_word 32 _ refl
 
-lexes_pair : (p : (ℕ × ℕ)) (b : PrintsCharacter p.0) (r : PrintsCharacter p.1) → Lexes NoWord (pair_text p) (Open ∷ b.token ∷ r.token ∷ Close ∷ [])
+-- a printed pair is four tokens
+lexes_pair : (p : (ℕ × ℕ)) (b : PrintsCharacter p.0) (r : PrintsCharacter p.1)
+    → Lexes NoWord (pair_text p) (Open ∷ b.token ∷ r.token ∷ Close ∷ [])
 unfolding pair_text
-lexes_pair p b r = lexes_behind_blank (lexes_both lexes_left (lexes_behind_blank (lexes_both b.lexes (lexes_behind_blank (lexes_both r.lexes (lexes_behind_blank lexes_right) (λ y k. leading_fail is_word 32 _ refl))) (λ y k. leading_fail is_word 32 _ refl))) (λ y k. leading_fail is_word 32 _ refl))
+lexes_pair p b r =
+    lexes_behind_blank (lexes_both lexes_left (lexes_behind_blank
+    (lexes_both b.lexes (lexes_behind_blank (lexes_both r.lexes (lexes_behind_blank lexes_right)
+    (λ y k. leading_fail is_word 32 _ refl))) (λ y k. leading_fail is_word 32 _ refl)))
+    (λ y k. leading_fail is_word 32 _ refl))
 
-pairs_printed : (ps : List (ℕ × ℕ)) → EachPair ps → (ts : List Item) × Lexes NoWord (flat_map pair_text ps) ts × ArePairs ts ps
+-- printed pairs are pairs
+pairs_printed : (ps : List (ℕ × ℕ)) → EachPair ps
+    → (ts : List Item) × Lexes NoWord (flat_map pair_text ps) ts × ArePairs ts ps
 pairs_printed [] h = ([], lexes_none NoWord, no_pairs)
-pairs_printed (p ∷ ps) (z, b, r, h) = let m = pairs_printed ps h in (Open ∷ b.token ∷ r.token ∷ Close ∷ m.0, lexes_both (lexes_pair p b r) m.1 (pairs_first ps), one_pair b.reads z r.reads m.2)
+pairs_printed (p ∷ ps) (z, b, r, h) = let m =
+    pairs_printed ps h in (
+      Open ∷ b.token ∷ r.token ∷ Close ∷ m.0,
+      lexes_both (lexes_pair p b r) m.1 (pairs_first ps),
+      one_pair b.reads z r.reads m.2,
+    )
 
+-- the end of an accent's line begins with no letter or digit
 pairs_end : (ps : List (ℕ × ℕ)) (y : List ℕ) → leading is_word ((flat_map pair_text ps ++ 10 ∷ []) ++ y) ≡ 0
 unfolding pair_text
 pairs_end [] y = leading_fail is_word 10 y refl
@@ -153,11 +202,16 @@ pub record PrintsName (i : ℕ) : Type 0 where
   pub lexes : Lexes NoWord (accent_name i) (Value (Act action) ∷ [])
   pub reads : accent_index action ≡ Some i
 
-pub accent_printed : (i : ℕ) (a : AccentValue) → PrintsName i → PrintsCharacter a.own → length a.pairs ≤ 52 → EachPair a.pairs → (ts : List Item) × Lexes Any (accent_line i a) ts × Defines ts (AccentDefinition i a)
+-- the line of an accent is its definition
+pub accent_printed : (i : ℕ) (a : AccentValue) → PrintsName i → PrintsCharacter a.own → length a.pairs ≤ 52
+    → EachPair a.pairs → (ts : List Item) × Lexes Any (accent_line i a) ts × Defines ts (AccentDefinition i a)
 unfolding accent_line
 accent_printed i a n o l p =
     let m = pairs_printed a.pairs p in (
       Value (Act n.action) ∷ o.token ∷ m.0,
-      lexes_both n.lexes (lexes_behind_blank (lexes_both o.lexes (subst (λ (is : List Item). Lexes Any (flat_map pair_text a.pairs ++ 10 ∷ []) is) (append-nil m.0) (lexes_both m.1 (lexes_blank Any 10 refl) (λ y k. leading_fail is_word 10 y refl))) (λ y k. pairs_end a.pairs y))) (λ y k. leading_fail is_word 32 _ refl),
+      lexes_both n.lexes (lexes_behind_blank (lexes_both o.lexes (subst
+          (λ (is : List Item). Lexes Any (flat_map pair_text a.pairs ++ 10 ∷ []) is) (append-nil m.0)
+          (lexes_both m.1 (lexes_blank Any 10 refl) (λ y k. leading_fail is_word 10 y refl)))
+          (λ y k. pairs_end a.pairs y))) (λ y k. leading_fail is_word 32 _ refl),
       of_accent n.action n.reads o.reads l m.2,
     )

@@ -13,34 +13,48 @@ use Rattle.keymap_text.specs.Words.{meaning, digits_of, named}
 use Rattle.keymap_text.proofs.Characters.{along, is_one_word}
 
 -- computed over the names
-screen_words : map (λ k. is_one_word (name_of (a.Screen k))) (range_with_len 1 16) ≡ map (λ k. true) (range_with_len 1 16)
+screen_words : map (λ k. is_one_word (name_of (a.Screen k))) (range_with_len 1 16)
+    ≡ map (λ k. true) (range_with_len 1 16)
 unfolding leading
 screen_words = refl
 
-screen_meanings : map (λ k. meaning (name_of (a.Screen k))) (range_with_len 1 16) ≡ map (λ k. Act (a.Screen k)) (range_with_len 1 16)
+-- the screens, by computation
+screen_meanings : map (λ k. meaning (name_of (a.Screen k))) (range_with_len 1 16)
+    ≡ map (λ k. Act (a.Screen k)) (range_with_len 1 16)
 unfolding meaning digits_of named
 screen_meanings = refl
 
-function_words : map (λ k. is_one_word (name_of (a.Function k))) (range_with_len 1 96) ≡ map (λ k. true) (range_with_len 1 96)
+-- the function keys' names are words, by computation
+function_words : map (λ k. is_one_word (name_of (a.Function k))) (range_with_len 1 96)
+    ≡ map (λ k. true) (range_with_len 1 96)
 unfolding leading
 function_words = refl
 
-low_function_meanings : map (λ k. meaning (name_of (a.Function k))) (range_with_len 1 48) ≡ map (λ k. Act (a.Function k)) (range_with_len 1 48)
+-- the function keys up to 48, by computation
+low_function_meanings : map (λ k. meaning (name_of (a.Function k))) (range_with_len 1 48)
+    ≡ map (λ k. Act (a.Function k)) (range_with_len 1 48)
 unfolding meaning digits_of named
 low_function_meanings = refl
 
-high_function_meanings : map (λ k. meaning (name_of (a.Function k))) (range_with_len 49 48) ≡ map (λ k. Act (a.Function k)) (range_with_len 49 48)
+-- and those above
+high_function_meanings : map (λ k. meaning (name_of (a.Function k))) (range_with_len 49 48)
+    ≡ map (λ k. Act (a.Function k)) (range_with_len 49 48)
 unfolding meaning digits_of named
 high_function_meanings = refl
 
-dead_key_words : map (λ k. is_one_word (name_of (a.DeadKey k))) (range_with_len 0 15) ≡ map (λ k. true) (range_with_len 0 15)
+-- the dead keys' names are words, by computation
+dead_key_words : map (λ k. is_one_word (name_of (a.DeadKey k))) (range_with_len 0 15)
+    ≡ map (λ k. true) (range_with_len 0 15)
 unfolding leading
 dead_key_words = refl
 
-dead_key_meanings : map (λ k. meaning (name_of (a.DeadKey k))) (range_with_len 0 15) ≡ map (λ k. Act (a.DeadKey k)) (range_with_len 0 15)
+-- and mean them, by computation
+dead_key_meanings : map (λ k. meaning (name_of (a.DeadKey k))) (range_with_len 0 15)
+    ≡ map (λ k. Act (a.DeadKey k)) (range_with_len 0 15)
 unfolding meaning digits_of named
 dead_key_meanings = refl
 
+-- a number up to 48 or above
 low_or_high : (k : ℕ) → (k ≤ 48) ⊎ (48 < k)
 low_or_high k = go (nat_le k 48) refl
   where
@@ -54,17 +68,24 @@ low_or_high k = go (nat_le k 48) refl
     go true t = inl (is_le t)
     go false t = inr (not_le t)
 
+-- each function key
 function_meaning : (k : ℕ) → 1 ≤ k → k ≤ 96 → meaning (name_of (a.Function k)) ≡ Act (a.Function k)
 function_meaning k low high = elim (low_or_high k) [
-  | inl h ↦ along (λ k. meaning (name_of (a.Function k))) (λ k. Act (a.Function k)) 1 48 low_function_meanings k low (omega (arith, h))
-  | inr h ↦ along (λ k. meaning (name_of (a.Function k))) (λ k. Act (a.Function k)) 49 48 high_function_meanings k (omega (arith, h)) (omega (arith, high))
+  | inl h ↦ along (λ k. meaning (name_of (a.Function k))) (λ k. Act (a.Function k)) 1 48 low_function_meanings k low
+      (omega (arith, h))
+  | inr h ↦ along (λ k. meaning (name_of (a.Function k))) (λ k. Act (a.Function k)) 49 48 high_function_meanings k
+      (omega (arith, h)) (omega (arith, high))
 ]
 
+-- the name of an action is one word
 pub action_word : (action : Action) → IsAction action → is_one_word (name_of action) ≡ true
 unfolding leading
-action_word (a.Screen k) known = along (λ k. is_one_word (name_of (a.Screen k))) (λ k. true) 1 16 screen_words k (omega arith) (omega arith)
-action_word (a.Function k) known = along (λ k. is_one_word (name_of (a.Function k))) (λ k. true) 1 96 function_words k (omega arith) (omega arith)
-action_word (a.DeadKey k) known = along (λ k. is_one_word (name_of (a.DeadKey k))) (λ k. true) 0 15 dead_key_words k (omega arith) (omega arith)
+action_word (a.Screen k) known =
+    along (λ k. is_one_word (name_of (a.Screen k))) (λ k. true) 1 16 screen_words k (omega arith) (omega arith)
+action_word (a.Function k) known =
+    along (λ k. is_one_word (name_of (a.Function k))) (λ k. true) 1 96 function_words k (omega arith) (omega arith)
+action_word (a.DeadKey k) known =
+    along (λ k. is_one_word (name_of (a.DeadKey k))) (λ k. true) 0 15 dead_key_words k (omega arith) (omega arith)
 action_word a.Nop known = refl
 action_word (a.Mod m.LeftShift) known = refl
 action_word (a.Mod m.RightShift) known = refl
@@ -91,11 +112,16 @@ action_word a.Halt known = refl
 action_word a.PowerDown known = refl
 action_word a.Paste known = refl
 
+-- the name of an action means that action
 pub action_meaning : (action : Action) → IsAction action → meaning (name_of action) ≡ Act action
 unfolding meaning digits_of named
-action_meaning (a.Screen k) known = along (λ k. meaning (name_of (a.Screen k))) (λ k. Act (a.Screen k)) 1 16 screen_meanings k (omega arith) (omega arith)
+action_meaning (a.Screen k) known =
+    along (λ k. meaning (name_of (a.Screen k))) (λ k. Act (a.Screen k)) 1 16 screen_meanings k (omega arith)
+    (omega arith)
 action_meaning (a.Function k) known = function_meaning k (omega arith) (omega arith)
-action_meaning (a.DeadKey k) known = along (λ k. meaning (name_of (a.DeadKey k))) (λ k. Act (a.DeadKey k)) 0 15 dead_key_meanings k (omega arith) (omega arith)
+action_meaning (a.DeadKey k) known =
+    along (λ k. meaning (name_of (a.DeadKey k))) (λ k. Act (a.DeadKey k)) 0 15 dead_key_meanings k (omega arith)
+    (omega arith)
 action_meaning a.Nop known = refl
 action_meaning (a.Mod m.LeftShift) known = refl
 action_meaning (a.Mod m.RightShift) known = refl

@@ -1,5 +1,8 @@
 -- A printed map spells the map.
-use Rattle.std.proofs.Common.{◌≡◌, ◌≢◌, ℕ, zero, suc, ◌+◌, ◌<◌, ◌≤◌, ◌==◌, Bool, true, false, cond, max, List, [], ◌∷◌, ◌++◌, length, get_or, map, refl, sym, ◌∙◌, ap, ap₂, subst, arith, Result, Ok, Err, Option, Some, None, append_assoc, append-nil, eqb-true, eq-eqb, ne_eqb, true≢false, nat_lt, All, inl, inr}
+use Rattle.std.proofs.Common.{◌≡◌, ◌≢◌, ℕ, zero, suc, ◌+◌, ◌<◌, ◌≤◌, ◌==◌, Bool, true, false, cond, max, List, [], ◌∷◌}
+use Rattle.std.proofs.Common.{◌++◌, length, get_or, map, refl, sym, ◌∙◌, ap, ap₂, subst, arith, Result, Ok, Err, Option}
+use Rattle.std.proofs.Common.{Some, None, append_assoc, append-nil, eqb-true, eq-eqb, ne_eqb, true≢false, nat_lt, All}
+use Rattle.std.proofs.Common.{inl, inr}
 use Rattle.std.specs.List.{flat_map, range_with_len}
 use Rattle.std.specs.Option.{option_or}
 use Rattle.std.proofs.Math.Nat.{eq-or-lt_of_le}
@@ -13,11 +16,13 @@ use Rattle.keymap_core.specs.declared.entry.Cell.{Cell}
 use Rattle.keymap_core.specs.declared.entry.Cell.TheVariants as cells
 use Rattle.keymap_text.specs.declared.words.Item.{Item}
 use Rattle.keymap_text.specs.declared.words.Item.TheVariants.{Open, Close, Value}
-use Rattle.keymap_text.specs.declared.words.Meaning.TheVariants.{Number, Char, Act, Combined, OutOfRange, Letter, Unknown}
+use Rattle.keymap_text.specs.declared.words.Meaning.TheVariants.{Number, Char, Act, Combined, OutOfRange, Letter}
+use Rattle.keymap_text.specs.declared.words.Meaning.TheVariants.{Unknown}
 use Rattle.keymap_text.specs.declared.fault.TextFaultKind.{TextFaultKind}
 use Rattle.keymap_text.specs.Items.{character, cell}
 use Rattle.keymap_text.specs.Lexical.{split}
-use Rattle.keymap_text.specs.Rows.{Definition, KeyDefinition, AccentDefinition, Defines, IsRow, no_definition, one_definition, last, of_slot, of_index, greatest, slots, indices, or_else, map_of}
+use Rattle.keymap_text.specs.Rows.{Definition, KeyDefinition, AccentDefinition, Defines, IsRow, no_definition}
+use Rattle.keymap_text.specs.Rows.{one_definition, last, of_slot, of_index, greatest, slots, indices, or_else, map_of}
 use Rattle.keymap_core.specs.Bounds.{IsMap, IsCell, IsPair}
 use Rattle.keymap_text.specs.Printed.{key_line, accent_line, printed, key_lines, accent_lines}
 use Rattle.keymap_text.specs.Meaning.{Spells, behind, list_of}
@@ -25,8 +30,10 @@ use Rattle.keymap_text.proofs.Splitting.{split_none}
 use Rattle.keymap_text.proofs.Verdicts.{items_of}
 use Rattle.keymap_text.proofs.Folded.{last_none, last_more, greatest_none, greatest_more, by_range, same_map}
 use Rattle.keymap_text.proofs.Lexed.{Lexes, Any, lexes_none, lexes_both}
-use Rattle.keymap_text.proofs.PrintedLines.{EachCell, EachPair, PrintsCell, PrintsName, PrintsCharacter, key_printed, accent_printed}
-use Rattle.keymap_text.proofs.Characters.{lexes_as, prints_control, prints_delete, prints_quoted, prints_four, prints_five, prints_six}
+use Rattle.keymap_text.proofs.PrintedLines.{EachCell, EachPair, PrintsCell, PrintsName, PrintsCharacter, key_printed}
+use Rattle.keymap_text.proofs.PrintedLines.{accent_printed}
+use Rattle.keymap_text.proofs.Characters.{lexes_as, prints_control, prints_delete, prints_quoted, prints_four}
+use Rattle.keymap_text.proofs.Characters.{prints_five, prints_six}
 use Rattle.keymap_text.proofs.PrintedNames.{action_word, action_meaning}
 
 -- each character prints
@@ -35,7 +42,8 @@ prints_character c s = below 32 (λ h. prints_control c h)
     (λ h. below 127 (λ k. prints_quoted c (omega (arith, h)) k)
     (λ k. elim (eq-or-lt_of_le k) [
       | inl e ↦ subst PrintsCharacter e prints_delete
-      | inr l ↦ below 65536 (λ b. prints_four c l b s) (λ b. below 1048576 (λ d. prints_five c b d s) (λ d. prints_six c d (omega (arith, bound)) s))
+      | inr l ↦ below 65536 (λ b. prints_four c l b s)
+          (λ b. below 1048576 (λ d. prints_five c b d s) (λ d. prints_six c d (omega (arith, bound)) s))
     ]))
   where
     bound : c < 16777216
@@ -58,35 +66,67 @@ prints_character c s = below 32 (λ h. prints_control c h)
 cell_of_character : (t : Item) (c : ℕ) → character t ≡ Ok c → cell t ≡ Ok (cells.Char c)
 cell_of_character Open c h = absurd (cc)
 cell_of_character Close c h = absurd (cc)
-cell_of_character (Value (Number n)) c h = ap (λ (r : Result ℕ TextFaultKind). elim r as (λ r. Result Cell TextFaultKind) [ Ok c ↦ Ok (cells.Char c) | Err f ↦ Err f ]) h
-cell_of_character (Value (Char d)) c h = ap (λ (r : Result ℕ TextFaultKind). elim r as (λ r. Result Cell TextFaultKind) [ Ok c ↦ Ok (cells.Char c) | Err f ↦ Err f ]) h
+cell_of_character (Value (Number n)) c h =
+    ap (λ (r : Result ℕ TextFaultKind). elim r as
+    (λ r. Result Cell TextFaultKind) [ Ok c ↦ Ok (cells.Char c) | Err f ↦ Err f ]) h
+cell_of_character (Value (Char d)) c h =
+    ap (λ (r : Result ℕ TextFaultKind). elim r as
+    (λ r. Result Cell TextFaultKind) [ Ok c ↦ Ok (cells.Char c) | Err f ↦ Err f ]) h
 cell_of_character (Value (Act a)) c h = absurd (cc)
 cell_of_character (Value Combined) c h = absurd (cc)
 cell_of_character (Value OutOfRange) c h = absurd (cc)
 cell_of_character (Value (Letter f)) c h = absurd (cc)
 cell_of_character (Value Unknown) c h = absurd (cc)
 
+-- a cell is printed as one token
 prints_cell : (c : Cell) → IsCell c → PrintsCell c
-prints_cell (cells.Char c) h = let p = prints_character c h in record { token = p.token; lexes = p.lexes; reads = cell_of_character p.token c p.reads }
-prints_cell (cells.Act a) h = record { token = Value (Act a); lexes = lexes_as (name_of a) (Act a) (action_word a h) (action_meaning a h); reads = refl }
+prints_cell (cells.Char c) h = let p =
+    prints_character c h in record { token = p.token; lexes = p.lexes; reads = cell_of_character p.token c p.reads }
+prints_cell (cells.Act a) h =
+    record {
+      token = Value (Act a);
+      lexes = lexes_as (name_of a) (Act a) (action_word a h) (action_meaning a h);
+      reads = refl;
+    }
 
+-- so is each cell
 prints_cells : (cs : List Cell) → All IsCell cs → EachCell cs
 prints_cells [] h = tt
-prints_cells (c ∷ cs) h = (prints_cell c (h 0 c (omega arith)), prints_cells cs (λ k d l. h (suc k) d (omega (arith, l))))
+prints_cells (c ∷ cs) h =
+    (prints_cell c (h 0 c (omega arith)), prints_cells cs (λ k d l. h (suc k) d (omega (arith, l))))
 
+-- so are the characters of pairs
 prints_pairs : (ps : List (ℕ × ℕ)) → All IsPair ps → EachPair ps
 prints_pairs [] h = tt
-prints_pairs (p ∷ ps) h = let one = h 0 p (omega arith) in (one.1, prints_character p.0 one.0, prints_character p.1 one.2, prints_pairs ps (λ k d l. h (suc k) d (omega (arith, l))))
+prints_pairs (p ∷ ps) h = let one =
+    h 0 p (omega arith) in (
+      one.1,
+      prints_character p.0 one.0,
+      prints_character p.1 one.2,
+      prints_pairs ps (λ k d l. h (suc k) d (omega (arith, l))),
+    )
 
+-- so is the name of an accent
 prints_name : (i : ℕ) → i < 15 → PrintsName i
-prints_name i h = record { action = DeadKey i; lexes = lexes_as (name_of (DeadKey i)) (Act (DeadKey i)) (action_word (DeadKey i) h) (action_meaning (DeadKey i) h); reads = refl }
+prints_name i h =
+    record {
+      action = DeadKey i;
+      lexes = lexes_as (name_of (DeadKey i)) (Act (DeadKey i)) (action_word (DeadKey i) h)
+          (action_meaning (DeadKey i) h);
+      reads = refl;
+    }
 
+-- two rows are one
 row_append : {ts us : List Item} {ds es : List Definition} → IsRow ts ds → IsRow us es → IsRow (ts ++ us) (ds ++ es)
 row_append no_definition s = s
-row_append {us = vs} {es = es} (one_definition {ts = ts} {us = us} {d = d} {ds = ds} k r) s = subst (λ (ts : List Item). IsRow ts (d ∷ (ds ++ es))) (sym (append_assoc ts us vs)) (one_definition k (row_append r s))
+row_append {us = vs} {es = es} (one_definition {ts = ts} {us = us} {d = d} {ds = ds} k r) s =
+    subst (λ (ts : List Item). IsRow ts (d ∷ (ds ++ es))) (sym (append_assoc ts us vs))
+    (one_definition k (row_append r s))
 
 -- lines, each of which is a definition
-lines : (line : ℕ → List ℕ) (def : ℕ → Definition) (a n : ℕ) → ((s : ℕ) → a ≤ s → s < a + n → (ts : List Item) × Lexes Any (line s) ts × Defines ts (def s)) → (ts : List Item) × Lexes Any (flat_map line (range_with_len a n)) ts × IsRow ts (map def (range_with_len a n))
+lines : (line : ℕ → List ℕ) (def : ℕ → Definition) (a n : ℕ)
+    → ((s : ℕ) → a ≤ s → s < a + n → (ts : List Item) × Lexes Any (line s) ts × Defines ts (def s))
+    → (ts : List Item) × Lexes Any (flat_map line (range_with_len a n)) ts × IsRow ts (map def (range_with_len a n))
 lines line def a zero h = ([], lexes_none Any, no_definition)
 lines line def a (suc n) h =
     let one = h a (omega arith) (omega arith) in
@@ -94,51 +134,83 @@ lines line def a (suc n) h =
     (one.0 ++ more.0, lexes_both one.1 more.1 (λ y k. tt), one_definition one.2 more.2)
 
 -- definitions of greater numbers
-beyond : {A : Type 0} (says : Definition → Option A) (def : ℕ → Definition) (value : ℕ → A) (i b k : ℕ) → ((s : ℕ) → says (def s) ≡ cond (s == i) (Some (value s)) None) → i < b → last says (map def (range_with_len b k)) ≡ None
+beyond : {A : Type 0} (says : Definition → Option A) (def : ℕ → Definition) (value : ℕ → A) (i b k : ℕ)
+    → ((s : ℕ) → says (def s) ≡ cond (s == i) (Some (value s)) None) → i < b
+    → last says (map def (range_with_len b k)) ≡ None
 beyond says def value i b zero e g = last_none says
-beyond says def value i b (suc k) e g = last_more says (def b) (map def (range_with_len (b + 1) k)) ∙ ap₂ option_or (beyond says def value i (b + 1) k e (omega (arith, g))) (e b ∙ ap (λ t. cond t (Some (value b)) None) (ne_eqb b i (omega (arith, g))))
+beyond says def value i b (suc k) e g =
+    last_more says (def b) (map def (range_with_len (b + 1) k))
+    ∙ ap₂ option_or (beyond says def value i (b + 1) k e (omega (arith, g)))
+    (e b ∙ ap (λ t. cond t (Some (value b)) None) (ne_eqb b i (omega (arith, g))))
 
 -- the last of definitions one of which is of each number from a on
-last_of : {A : Type 0} (says : Definition → Option A) (def : ℕ → Definition) (value : ℕ → A) (i a n : ℕ) → ((s : ℕ) → says (def s) ≡ cond (s == i) (Some (value s)) None) → a ≤ i → i < a + n → last says (map def (range_with_len a n)) ≡ Some (value i)
+last_of : {A : Type 0} (says : Definition → Option A) (def : ℕ → Definition) (value : ℕ → A) (i a n : ℕ)
+    → ((s : ℕ) → says (def s) ≡ cond (s == i) (Some (value s)) None) → a ≤ i → i < a + n
+    → last says (map def (range_with_len a n)) ≡ Some (value i)
 last_of says def value i a zero e l h = absurd (omega (arith, l, h))
-last_of says def value i a (suc n) e l h = last_more says (def a) (map def (range_with_len (a + 1) n)) ∙ go (a == i) refl (λ k. last_of says def value i (a + 1) n e k (omega (arith, h)))
+last_of says def value i a (suc n) e l h =
+    last_more says (def a) (map def (range_with_len (a + 1) n))
+    ∙ go (a == i) refl (λ k. last_of says def value i (a + 1) n e k (omega (arith, h)))
   where
-    go : (t : Bool) → (a == i) ≡ t → (a + 1 ≤ i → last says (map def (range_with_len (a + 1) n)) ≡ Some (value i)) → option_or (last says (map def (range_with_len (a + 1) n))) (says (def a)) ≡ Some (value i)
-    go true t ih = ap₂ option_or (beyond says def value i (a + 1) n e (omega (arith, eqb-true a i t))) (e a ∙ ap (λ b. cond b (Some (value a)) None) t ∙ ap (λ k. Some (value k)) (eqb-true a i t))
+    go : (t : Bool) → (a == i) ≡ t → (a + 1 ≤ i → last says (map def (range_with_len (a + 1) n)) ≡ Some (value i))
+        → option_or (last says (map def (range_with_len (a + 1) n))) (says (def a)) ≡ Some (value i)
+    go true t ih =
+        ap₂ option_or (beyond says def value i (a + 1) n e (omega (arith, eqb-true a i t)))
+        (e a ∙ ap (λ b. cond b (Some (value a)) None) t ∙ ap (λ k. Some (value k)) (eqb-true a i t))
     go false t ih =
         let apart : a ≢ i = λ k. true≢false (sym (eq-eqb a i k) ∙ t) in
         ap (λ o. option_or o (says (def a))) (ih (omega (arith, l, apart)))
 
 -- none of them is
-last_not : {A : Type 0} (says : Definition → Option A) (def : ℕ → Definition) (a n : ℕ) → ((s : ℕ) → a ≤ s → s < a + n → says (def s) ≡ None) → last says (map def (range_with_len a n)) ≡ None
+last_not : {A : Type 0} (says : Definition → Option A) (def : ℕ → Definition) (a n : ℕ)
+    → ((s : ℕ) → a ≤ s → s < a + n → says (def s) ≡ None) → last says (map def (range_with_len a n)) ≡ None
 last_not says def a zero e = last_none says
-last_not says def a (suc n) e = last_more says (def a) (map def (range_with_len (a + 1) n)) ∙ ap₂ option_or (last_not says def (a + 1) n (λ s l h. e s (omega (arith, l)) (omega (arith, h)))) (e a (omega arith) (omega arith))
+last_not says def a (suc n) e =
+    last_more says (def a) (map def (range_with_len (a + 1) n))
+    ∙ ap₂ option_or (last_not says def (a + 1) n (λ s l h. e s (omega (arith, l)) (omega (arith, h))))
+    (e a (omega arith) (omega arith))
 
-last_append : {A : Type 0} (says : Definition → Option A) (ds es : List Definition) → last says (ds ++ es) ≡ option_or (last says es) (last says ds)
+-- what the last says in two rows
+last_append : {A : Type 0} (says : Definition → Option A) (ds es : List Definition)
+    → last says (ds ++ es) ≡ option_or (last says es) (last says ds)
 last_append {A = A} says [] es = sym (ap (λ o. option_or (last says es) o) (last_none says) ∙ or_none (last says es))
   where
     or_none : (o : Option A) → option_or o None ≡ o
     or_none None = refl
     or_none (Some x) = refl
-last_append {A = A} says (d ∷ ds) es = last_more says d (ds ++ es) ∙ ap (λ o. option_or o (says d)) (last_append says ds es) ∙ or_assoc (last says es) (last says ds) (says d) ∙ sym (ap (λ o. option_or (last says es) o) (last_more says d ds))
+last_append {A = A} says (d ∷ ds) es =
+    last_more says d (ds ++ es) ∙ ap (λ o. option_or o (says d)) (last_append says ds es)
+    ∙ or_assoc (last says es) (last says ds) (says d) ∙ sym (ap (λ o. option_or (last says es) o) (last_more says d ds))
   where
     or_assoc : (o p q : Option A) → option_or (option_or o p) q ≡ option_or o (option_or p q)
     or_assoc None p q = refl
     or_assoc (Some x) p q = refl
 
-greatest_append : (f : Definition → ℕ) (ds es : List Definition) → greatest f (ds ++ es) ≡ max (greatest f ds) (greatest f es)
+-- the greatest in two rows
+greatest_append : (f : Definition → ℕ) (ds es : List Definition)
+    → greatest f (ds ++ es) ≡ max (greatest f ds) (greatest f es)
 greatest_append f [] es = rw greatest_none (omega arith)
-greatest_append f (d ∷ ds) es = greatest_more f d (ds ++ es) ∙ omega (arith, greatest_append f ds es, greatest_more f d ds)
+greatest_append f (d ∷ ds) es =
+    greatest_more f d (ds ++ es) ∙ omega (arith, greatest_append f ds es, greatest_more f d ds)
 
-greatest_zero : (f : Definition → ℕ) (def : ℕ → Definition) (a n : ℕ) → ((s : ℕ) → f (def s) ≡ 0) → greatest f (map def (range_with_len a n)) ≡ 0
+-- definitions of the other kind
+greatest_zero : (f : Definition → ℕ) (def : ℕ → Definition) (a n : ℕ) → ((s : ℕ) → f (def s) ≡ 0)
+    → greatest f (map def (range_with_len a n)) ≡ 0
 greatest_zero f def a zero e = greatest_none f
-greatest_zero f def a (suc n) e = greatest_more f (def a) (map def (range_with_len (a + 1) n)) ∙ omega (arith, e a, greatest_zero f def (a + 1) n e)
+greatest_zero f def a (suc n) e =
+    greatest_more f (def a) (map def (range_with_len (a + 1) n)) ∙ omega (arith, e a, greatest_zero f def (a + 1) n e)
 
-greatest_of : (f : Definition → ℕ) (def : ℕ → Definition) (a n : ℕ) → ((s : ℕ) → f (def s) ≡ s + 1) → greatest f (map def (range_with_len a (suc n))) ≡ a + suc n
+-- definitions of all numbers from one on
+greatest_of : (f : Definition → ℕ) (def : ℕ → Definition) (a n : ℕ) → ((s : ℕ) → f (def s) ≡ s + 1)
+    → greatest f (map def (range_with_len a (suc n))) ≡ a + suc n
 greatest_of f def a zero e = greatest_more f (def a) [] ∙ omega (arith, e a, greatest_none f)
-greatest_of f def a (suc n) e = greatest_more f (def a) (map def (range_with_len (a + 1) (suc n))) ∙ omega (arith, e a, greatest_of f def (a + 1) n e)
+greatest_of f def a (suc n) e =
+    greatest_more f (def a) (map def (range_with_len (a + 1) (suc n)))
+    ∙ omega (arith, e a, greatest_of f def (a + 1) n e)
 
-greatest_to : (f : Definition → ℕ) (def : ℕ → Definition) (n : ℕ) → ((s : ℕ) → f (def s) ≡ s + 1) → greatest f (map def (range_with_len 0 n)) ≡ n
+-- definitions of all numbers below one
+greatest_to : (f : Definition → ℕ) (def : ℕ → Definition) (n : ℕ) → ((s : ℕ) → f (def s) ≡ s + 1)
+    → greatest f (map def (range_with_len 0 n)) ≡ n
 greatest_to f def zero e = greatest_none f
 greatest_to f def (suc n) e = greatest_of f def 0 n e ∙ omega arith
 
@@ -157,44 +229,73 @@ module _ (m : MapValue) (h : IsMap m) where
 
   key_rows : (ts : List Item) × Lexes Any (key_lines m) ts × IsRow ts keys
   unfolding keys key
-  key_rows = lines (λ s. key_line s (get_or m.entries s undefined)) (λ s. KeyDefinition s (get_or m.entries s undefined)) 0 (length m.entries)
-      (λ s l k. let lt : s < length m.entries = omega (arith, k) in let p = h.entries s undefined lt in key_printed s (get_or m.entries s undefined) (omega (arith, lt, h.few_entries)) p.eight (prints_cells (get_or m.entries s undefined).cells p.cells))
+  key_rows = lines (λ s. key_line s (get_or m.entries s undefined))
+      (λ s. KeyDefinition s (get_or m.entries s undefined)) 0 (length m.entries)
+      (λ s l k. let lt : s < length m.entries = omega (arith, k) in let p = h.entries s undefined lt in
+      key_printed s (get_or m.entries s undefined) (omega (arith, lt, h.few_entries)) p.eight
+      (prints_cells (get_or m.entries s undefined).cells p.cells))
 
   dead_key_rows : (ts : List Item) × Lexes Any (accent_lines m) ts × IsRow ts dead_keys
   unfolding dead_keys dead_key
-  dead_key_rows = lines (λ i. accent_line i (get_or m.accents i blank)) (λ i. AccentDefinition i (get_or m.accents i blank)) 0 (length m.accents)
-      (λ i l k. let lt : i < length m.accents = omega (arith, k) in let p = h.accents i blank lt in accent_printed i (get_or m.accents i blank) (prints_name i (omega (arith, lt, h.few_accents))) (prints_character (get_or m.accents i blank).own p.own) p.few (prints_pairs (get_or m.accents i blank).pairs p.pairs))
+  dead_key_rows =
+      lines (λ i. accent_line i (get_or m.accents i blank)) (λ i. AccentDefinition i (get_or m.accents i blank)) 0
+      (length m.accents)
+      (λ i l k. let lt : i < length m.accents = omega (arith, k) in let p = h.accents i blank lt in
+      accent_printed i (get_or m.accents i blank) (prints_name i (omega (arith, lt, h.few_accents)))
+      (prints_character (get_or m.accents i blank).own p.own) p.few
+      (prints_pairs (get_or m.accents i blank).pairs p.pairs))
 
   both : (ts : List Item) × Lexes Any (printed m) ts × IsRow ts (keys ++ dead_keys)
   both = let k = key_rows in let d = dead_key_rows in (k.0 ++ d.0, lexes_both k.1 d.1 (λ y e. tt), row_append k.2 d.2)
 
   keys_are : greatest slots (keys ++ dead_keys) ≡ length m.entries
   unfolding keys dead_keys key dead_key
-  keys_are = greatest_append slots keys dead_keys ∙ omega (arith, greatest_to slots key (length m.entries) (λ s. refl), greatest_zero slots dead_key 0 (length m.accents) (λ i. refl))
+  keys_are = greatest_append slots keys dead_keys
+      ∙ omega (
+        arith,
+        greatest_to slots key (length m.entries) (λ s. refl),
+        greatest_zero slots dead_key 0 (length m.accents) (λ i. refl),
+      )
 
   accents_are : greatest indices (keys ++ dead_keys) ≡ length m.accents
   unfolding keys dead_keys key dead_key
-  accents_are = greatest_append indices keys dead_keys ∙ omega (arith, greatest_to indices dead_key (length m.accents) (λ s. refl), greatest_zero indices key 0 (length m.entries) (λ i. refl))
+  accents_are =
+      greatest_append indices keys dead_keys ∙ omega (
+        arith,
+        greatest_to indices dead_key (length m.accents)
+            (λ s. refl),
+        greatest_zero indices key 0 (length m.entries) (λ i. refl),
+      )
 
-  entry_is : (s : ℕ) → s < length m.entries → get_or m.entries s undefined ≡ or_else (last (of_slot s) (keys ++ dead_keys)) undefined
+  entry_is : (s : ℕ) → s < length m.entries
+      → get_or m.entries s undefined ≡ or_else (last (of_slot s) (keys ++ dead_keys)) undefined
   unfolding keys dead_keys key dead_key
-  entry_is s l = sym (ap (λ o. or_else o undefined) (last_append (of_slot s) keys dead_keys ∙ ap (λ p. option_or p (last (of_slot s) keys)) accents ∙ found))
+  entry_is s l =
+      sym (ap (λ o. or_else o undefined) (last_append (of_slot s) keys dead_keys
+      ∙ ap (λ p. option_or p (last (of_slot s) keys)) accents ∙ found))
     where
       accents : last (of_slot s) dead_keys ≡ None
       accents = last_not (of_slot s) dead_key 0 (length m.accents) (λ i a b. refl)
 
       found : last (of_slot s) keys ≡ Some (get_or m.entries s undefined)
-      found = last_of (of_slot s) key (λ s. get_or m.entries s undefined) s 0 (length m.entries) (λ k. refl) (omega arith) (omega (arith, l))
+      found = last_of (of_slot s) key (λ s. get_or m.entries s undefined) s 0 (length m.entries) (λ k. refl)
+          (omega arith) (omega (arith, l))
 
-  accent_is : (i : ℕ) → i < length m.accents → get_or m.accents i blank ≡ or_else (last (of_index i) (keys ++ dead_keys)) blank
+  accent_is : (i : ℕ) → i < length m.accents
+      → get_or m.accents i blank ≡ or_else (last (of_index i) (keys ++ dead_keys)) blank
   unfolding keys dead_keys key dead_key
-  accent_is i l = sym (ap (λ o. or_else o blank) (last_append (of_index i) keys dead_keys ∙ ap (λ p. option_or p (last (of_index i) keys)) found))
+  accent_is i l =
+      sym (ap (λ o. or_else o blank) (last_append (of_index i) keys dead_keys
+      ∙ ap (λ p. option_or p (last (of_index i) keys)) found))
     where
       found : last (of_index i) dead_keys ≡ Some (get_or m.accents i blank)
-      found = last_of (of_index i) dead_key (λ i. get_or m.accents i blank) i 0 (length m.accents) (λ k. refl) (omega arith) (omega (arith, l))
+      found = last_of (of_index i) dead_key (λ i. get_or m.accents i blank) i 0 (length m.accents) (λ k. refl)
+          (omega arith) (omega (arith, l))
 
   same : m ≡ map_of (keys ++ dead_keys)
-  same = same_map _ _ _ _ (by_range m.entries _ _ undefined (sym keys_are) (λ i k. entry_is i (omega (arith, k, keys_are)))) (by_range m.accents _ _ blank (sym accents_are) (λ i k. accent_is i (omega (arith, k, accents_are))))
+  same = same_map _ _ _ _ (by_range m.entries _ _ undefined (sym keys_are)
+      (λ i k. entry_is i (omega (arith, k, keys_are))))
+      (by_range m.accents _ _ blank (sym accents_are) (λ i k. accent_is i (omega (arith, k, accents_are))))
 
   nothing : (q : ℕ) → items_of (split 0 q []) ≡ []
   unfolding list_of
@@ -207,7 +308,9 @@ module _ (m : MapValue) (h : IsMap m) where
   pub printed_spells : Spells (printed m) m
   printed_spells = record {
     definitions = keys ++ dead_keys;
-    row = subst (λ (ts : List Item). IsRow ts (keys ++ dead_keys)) (sym (ap (λ t. items_of (split 0 0 t)) (sym (append-nil (printed m))) ∙ both.1.items 0 [] tt ∙ ap (λ (r : List Item). both.0 ++ r) (nothing _) ∙ append-nil both.0)) both.2;
+    row = subst (λ (ts : List Item). IsRow ts (keys ++ dead_keys))
+        (sym (ap (λ t. items_of (split 0 0 t)) (sym (append-nil (printed m))) ∙ both.1.items 0 [] tt
+        ∙ ap (λ (r : List Item). both.0 ++ r) (nothing _) ∙ append-nil both.0)) both.2;
     end = 0 + length (printed m);
     whole = ap (λ t. behind (split 0 0 t)) (sym (append-nil (printed m))) ∙ both.1.end 0 [] tt ∙ ends _;
     map = same;

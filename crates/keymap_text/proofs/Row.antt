@@ -1,5 +1,8 @@
 -- The reader's machine accepts exactly the rows of definitions.
-use Rattle.std.proofs.Common.{◌≡◌, ◌≢◌, ℕ, zero, suc, ◌+◌, ◌<◌, ◌≤◌, ◌==◌, Bool, true, false, cond, List, [], ◌∷◌, ◌++◌, length, take, set, refl, sym, ◌∙◌, ap, subst, arith, Result, Ok, Err, Option, Some, None, length-append, length-set, append_assoc, append-nil, nat_lt, eqb-true, ne_eqb, eq-eqb, true≢false, take_all, add-one}
+use Rattle.std.proofs.Common.{◌≡◌, ◌≢◌, ℕ, zero, suc, ◌+◌, ◌<◌, ◌≤◌, ◌==◌, Bool, true, false, cond, List, [], ◌∷◌, ◌++◌}
+use Rattle.std.proofs.Common.{length, take, set, refl, sym, ◌∙◌, ap, subst, arith, Result, Ok, Err, Option, Some, None}
+use Rattle.std.proofs.Common.{length-append, length-set, append_assoc, append-nil, nat_lt, eqb-true, ne_eqb, eq-eqb}
+use Rattle.std.proofs.Common.{true≢false, take_all, add-one}
 use Rattle.std.proofs.lemmas.Bool.Decides.{nat_tests}
 use Rattle.keymap_text.specs.declared.fault.TextFaultKind.{TextFaultKind}
 use Rattle.keymap_text.specs.declared.fault.TextFaultKind.TheVariants as faults
@@ -9,54 +12,81 @@ use Rattle.keymap_core.specs.declared.entry.LockFlag.{LockFlag}
 use Rattle.keymap_core.specs.declared.action.Action.{Action}
 use Rattle.keymap_text.specs.declared.words.Item.{Item}
 use Rattle.keymap_text.specs.declared.words.Item.TheVariants.{Open, Close, Value}
-use Rattle.keymap_text.specs.declared.words.Meaning.TheVariants.{Number, Char, Act, Combined, OutOfRange, Letter, Unknown}
+use Rattle.keymap_text.specs.declared.words.Meaning.TheVariants.{Number, Char, Act, Combined, OutOfRange, Letter}
+use Rattle.keymap_text.specs.declared.words.Meaning.TheVariants.{Unknown}
 use Rattle.keymap_core.specs.Accents.{AccentValue}
 use Rattle.keymap_core.specs.Maps.{MapValue, undefined, with_entry, with_accent}
 use Rattle.keymap_text.specs.Items.{character, cell, lock, accent_index}
-use Rattle.keymap_text.specs.Grammar.{State, Place, Definition, CellAt, LockAt, AccentCharacter, AfterAccent, PairBase, PairResult, PairEnd, accept, at, at_end, start, step, first_of, empty_map, with_cell, with_pair, after_cell, base_at, ◌>>=◌}
+use Rattle.keymap_text.specs.Inner.Grammar.{State, Place, Definition, CellAt, LockAt, AccentCharacter, AfterAccent}
+use Rattle.keymap_text.specs.Inner.Grammar.{PairBase}
+use Rattle.keymap_text.specs.Inner.Grammar.{PairResult, PairEnd, accept, at, at_end, start, step, first_of, empty_map}
+use Rattle.keymap_text.specs.Inner.Grammar.{with_cell, with_pair, after_cell, base_at, ◌>>=◌}
 use Rattle.keymap_text.specs.Rows as rows
-use Rattle.keymap_text.specs.Rows.{KeyDefinition, AccentDefinition, AreCells, no_cells, one_cell, ArePairs, no_pairs, one_pair, Defines, of_key, of_accent, IsRow, no_definition, one_definition}
+use Rattle.keymap_text.specs.Rows.{KeyDefinition, AccentDefinition, AreCells, no_cells, one_cell, ArePairs, no_pairs}
+use Rattle.keymap_text.specs.Rows.{one_pair, Defines, of_key, of_accent, IsRow, no_definition, one_definition}
 use Rattle.keymap_text.proofs.Folded.{put, puts, puts_push}
 
+-- a fault is no answer
 err_ok : {A : Type 0} (e : TextFaultKind) (y : A) → ◌≡◌ {A = Result A TextFaultKind} (Err e) (Ok y) → ⊥
 err_ok e y h = cc
 
-bind_ok : {A B : Type 0} (r : Result A TextFaultKind) (f : A → Result B TextFaultKind) (y : B) → (r >>= f) ≡ Ok y → (x : A) × (r ≡ Ok x) × (f x ≡ Ok y)
+-- an answer of two steps is one of the first
+bind_ok : {A B : Type 0} (r : Result A TextFaultKind) (f : A → Result B TextFaultKind) (y : B) → (r >>= f) ≡ Ok y
+    → (x : A) × (r ≡ Ok x) × (f x ≡ Ok y)
 bind_ok (Ok x) f y h = (x, refl, h)
 bind_ok (Err e) f y h = absurd (err_ok e y h)
 
+-- equal answers
 ok_is : {A : Type 0} (x y : A) → ◌≡◌ {A = Result A TextFaultKind} (Ok x) (Ok y) → x ≡ y
 ok_is x y h = cc
 
+-- a test of numbers
 below : (n k : ℕ) → nat_lt n k ≡ true → n < k
 below n k h = grind (arith, nat_tests)
 
+-- numbers that differ
 differ : (a b : ℕ) → (a == b) ≡ false → a ≢ b
 differ a b h e = true≢false (sym (eq-eqb a b e) ∙ h)
 
 -- one more at the end
-cells_push : {ts : List Item} {cs : List Cell} (t : Item) (c : Cell) → AreCells ts cs → cell t ≡ Ok c → AreCells (ts ++ t ∷ []) (cs ++ c ∷ [])
+cells_push : {ts : List Item} {cs : List Cell} (t : Item) (c : Cell) → AreCells ts cs → cell t ≡ Ok c
+    → AreCells (ts ++ t ∷ []) (cs ++ c ∷ [])
 cells_push t c no_cells h = one_cell h no_cells
 cells_push t c (one_cell k r) h = one_cell k (cells_push t c r h)
 
-pairs_push : {ts : List Item} {ps : List (ℕ × ℕ)} (t u : Item) (b r : ℕ) → ArePairs ts ps → character t ≡ Ok b → b ≢ 0 → character u ≡ Ok r → ArePairs (ts ++ Open ∷ t ∷ u ∷ Close ∷ []) (ps ++ (b, r) ∷ [])
+-- one pair more
+pairs_push : {ts : List Item} {ps : List (ℕ × ℕ)} (t u : Item) (b r : ℕ) → ArePairs ts ps → character t ≡ Ok b → b ≢ 0
+    → character u ≡ Ok r → ArePairs (ts ++ Open ∷ t ∷ u ∷ Close ∷ []) (ps ++ (b, r) ∷ [])
 pairs_push t u b r no_pairs h z k = one_pair h z k no_pairs
 pairs_push t u b r (one_pair f g e more) h z k = one_pair f g e (pairs_push t u b r more h z k)
 
-row_push : {ts us : List Item} {ds : List rows.Definition} {d : rows.Definition} → IsRow ts ds → Defines us d → IsRow (ts ++ us) (ds ++ d ∷ [])
-row_push {us = us} {d = d} no_definition h = subst (λ (us : List Item). IsRow us (d ∷ [])) (append-nil us) (one_definition h no_definition)
-row_push {us = vs} {d = last} (one_definition {ts = ts} {us = us} {d = d} {ds = ds} k r) h = subst (λ (ts : List Item). IsRow ts (d ∷ (ds ++ last ∷ []))) (sym (append_assoc ts us vs)) (one_definition k (row_push r h))
+-- one definition more
+row_push : {ts us : List Item} {ds : List rows.Definition} {d : rows.Definition} → IsRow ts ds → Defines us d
+    → IsRow (ts ++ us) (ds ++ d ∷ [])
+row_push {us = us} {d = d} no_definition h =
+    subst (λ (us : List Item). IsRow us (d ∷ [])) (append-nil us) (one_definition h no_definition)
+row_push {us = vs} {d = last} (one_definition {ts = ts} {us = us} {d = d} {ds = ds} k r) h =
+    subst (λ (ts : List Item). IsRow ts (d ∷ (ds ++ last ∷ []))) (sym (append_assoc ts us vs))
+    (one_definition k (row_push r h))
 
 -- the tokens of the definition that a place is in
 abbrev pub Part : List Item → Place → Type 0
 Part ts Definition = ts ≡ []
-Part ts (CellAt slot i e) = (cs : List Item) × (ts ≡ Value (Number slot) ∷ cs) × (slot < 256) × (i < 8) × (length e.cells ≡ 8) × AreCells cs (take i e.cells)
-Part ts (LockAt slot e) = (cs : List Item) × (ts ≡ Value (Number slot) ∷ cs) × (slot < 256) × (length e.cells ≡ 8) × AreCells cs e.cells
+Part ts (CellAt slot i e) =
+    (cs : List Item) × (ts ≡ Value (Number slot) ∷ cs) × (slot < 256) × (i < 8) × (length e.cells ≡ 8)
+    × AreCells cs (take i e.cells)
+Part ts (LockAt slot e) =
+    (cs : List Item) × (ts ≡ Value (Number slot) ∷ cs) × (slot < 256) × (length e.cells ≡ 8) × AreCells cs e.cells
 Part ts (AccentCharacter i) = (name : Action) × (ts ≡ Value (Act name) ∷ []) × (accent_index name ≡ Some i)
 Part ts (AfterAccent i a) = Defines ts (AccentDefinition i a)
-Part ts (PairBase i a) = (us : List Item) × (ts ≡ us ++ Open ∷ []) × Defines us (AccentDefinition i a) × (length a.pairs < 52)
-Part ts (PairResult i a b) = (us : List Item) × (t : Item) × (ts ≡ us ++ Open ∷ t ∷ []) × Defines us (AccentDefinition i a) × (length a.pairs < 52) × (character t ≡ Ok b) × (b ≢ 0)
-Part ts (PairEnd i a b r) = (us : List Item) × (t : Item) × (u : Item) × (ts ≡ us ++ Open ∷ t ∷ u ∷ []) × Defines us (AccentDefinition i a) × (length a.pairs < 52) × (character t ≡ Ok b) × (b ≢ 0) × (character u ≡ Ok r)
+Part ts (PairBase i a) =
+    (us : List Item) × (ts ≡ us ++ Open ∷ []) × Defines us (AccentDefinition i a) × (length a.pairs < 52)
+Part ts (PairResult i a b) =
+    (us : List Item) × (t : Item) × (ts ≡ us ++ Open ∷ t ∷ []) × Defines us (AccentDefinition i a)
+    × (length a.pairs < 52) × (character t ≡ Ok b) × (b ≢ 0)
+Part ts (PairEnd i a b r) =
+    (us : List Item) × (t : Item) × (u : Item) × (ts ≡ us ++ Open ∷ t ∷ u ∷ []) × Defines us (AccentDefinition i a)
+    × (length a.pairs < 52) × (character t ≡ Ok b) × (b ≢ 0) × (character u ≡ Ok r)
 
 -- what a token does: it goes on with a definition, ends one, or begins one behind an accent
 data Moves (part : List Item) (m : MapValue) (t : Item) (s : State) : Type 0 where
@@ -64,18 +94,26 @@ data Moves (part : List Item) (m : MapValue) (t : Item) (s : State) : Type 0 whe
   Done : (d : rows.Definition) → Defines (part ++ t ∷ []) d → s ≡ at (put m d) Definition → Moves part m t s
   Begins : (d : rows.Definition) → Defines part d → s.map ≡ put m d → Part (t ∷ []) s.place → Moves part m t s
 
+-- the first token of a definition
 begins : (t : Item) (p : Place) → first_of t ≡ Ok p → Part (t ∷ []) p
 begins Open p h = absurd (err_ok _ _ h)
 begins Close p h = absurd (err_ok _ _ h)
 begins (Value (Number n)) p h = go (nat_lt n 256) refl h
   where
-    go : (b : Bool) → nat_lt n 256 ≡ b → cond b (Ok (CellAt n 0 undefined)) (Err faults.KeyTooLarge) ≡ Ok p → Part (Value (Number n) ∷ []) p
-    go true e h = subst (Part (Value (Number n) ∷ [])) (ok_is _ _ h) ([], refl, below n 256 e, omega arith, refl, no_cells)
+    go : (b : Bool) → nat_lt n 256 ≡ b → cond b (Ok (CellAt n 0 undefined)) (Err faults.KeyTooLarge) ≡ Ok p
+        → Part (Value (Number n) ∷ []) p
+    go true e h =
+        subst (Part (Value (Number n) ∷ [])) (ok_is _ _ h) ([], refl, below n 256 e, omega arith, refl, no_cells)
     go false e h = absurd (err_ok _ _ h)
 begins (Value (Char c)) p h = absurd (err_ok _ _ h)
 begins (Value (Act a)) p h = go (accent_index a) refl h
   where
-    go : (o : Option ℕ) → accent_index a ≡ o → (elim o as (λ o. Result Place TextFaultKind) [ Some i ↦ Ok (AccentCharacter i) | None ↦ Err faults.Unexpected ]) ≡ Ok p → Part (Value (Act a) ∷ []) p
+    go : (o : Option ℕ) → accent_index a ≡ o
+        → (elim o as (λ o. Result Place TextFaultKind) [
+          | Some i ↦ Ok
+              (AccentCharacter i)
+          | None ↦ Err faults.Unexpected
+        ]) ≡ Ok p → Part (Value (Act a) ∷ []) p
     go (Some i) e h = subst (Part (Value (Act a) ∷ [])) (ok_is _ _ h) (a, refl, e)
     go None e h = absurd (err_ok _ _ h)
 begins (Value Combined) p h = absurd (err_ok _ _ h)
@@ -83,6 +121,7 @@ begins (Value OutOfRange) p h = absurd (err_ok _ _ h)
 begins (Value (Letter f)) p h = absurd (err_ok _ _ h)
 begins (Value Unknown) p h = absurd (err_ok _ _ h)
 
+-- a lock letter
 lock_is : (t : Item) (f : LockFlag) → lock t ≡ Ok f → t ≡ Value (Letter f)
 lock_is Open f h = absurd (err_ok _ _ h)
 lock_is Close f h = absurd (err_ok _ _ h)
@@ -94,40 +133,76 @@ lock_is (Value OutOfRange) f h = absurd (err_ok _ _ h)
 lock_is (Value (Letter g)) f h = ap (λ g. Value (Letter g)) (ok_is _ _ h)
 lock_is (Value Unknown) f h = absurd (err_ok _ _ h)
 
-set_take_suc : {X : Type 0} (xs : List X) (i : ℕ) (x : X) → i < length xs → take (suc i) (set xs i x) ≡ take i xs ++ x ∷ []
+-- the front of a list where the next element was set
+set_take_suc : {X : Type 0} (xs : List X) (i : ℕ) (x : X) → i < length xs
+    → take (suc i) (set xs i x) ≡ take i xs ++ x ∷ []
 set_take_suc [] i x h = absurd (omega (arith, h))
 set_take_suc (y ∷ xs) zero x h = refl
 set_take_suc (y ∷ xs) (suc i) x h = ap (λ zs. y ∷ zs) (set_take_suc xs i x (omega (arith, h)))
 
+-- the same
 set_take : {X : Type 0} (xs : List X) (i : ℕ) (x : X) → i < length xs → take (i + 1) (set xs i x) ≡ take i xs ++ x ∷ []
 set_take xs i x h = ap (λ n. take n (set xs i x)) (add-one i) ∙ set_take_suc xs i x h
 
+-- the whole list where the last element was set
 set_last : {X : Type 0} (xs : List X) (i : ℕ) (x : X) → length xs ≡ i + 1 → set xs i x ≡ take i xs ++ x ∷ []
-set_last xs i x h = sym (take_all (i + 1) (set xs i x) (rw length-set (omega (arith, h)))) ∙ set_take xs i x (omega (arith, h))
+set_last xs i x h =
+    sym (take_all (i + 1) (set xs i x) (rw length-set (omega (arith, h)))) ∙ set_take xs i x (omega (arith, h))
 
-cell_part : (ts : List Item) (t : Item) (slot i : ℕ) (e : Entry) (c : Cell) → Part ts (CellAt slot i e) → cell t ≡ Ok c → Part (ts ++ t ∷ []) (after_cell slot i (with_cell e i c))
+-- one cell more
+cell_part : (ts : List Item) (t : Item) (slot i : ℕ) (e : Entry) (c : Cell) → Part ts (CellAt slot i e) → cell t ≡ Ok c
+    → Part (ts ++ t ∷ []) (after_cell slot i (with_cell e i c))
 cell_part ts t slot i e c (cs, is, fits, lt, l, cells) h = go (i == 7) refl
   where
-    go : (b : Bool) → (i == 7) ≡ b → Part (ts ++ t ∷ []) (cond b (LockAt slot (with_cell e i c)) (CellAt slot (i + 1) (with_cell e i c)))
+    go : (b : Bool) → (i == 7) ≡ b → Part (ts ++ t ∷ []) (cond b (LockAt slot (with_cell e i c))
+        (CellAt slot (i + 1) (with_cell e i c)))
     go true k =
-        let i7 : i ≡ 7 = eqb-true _ _ k in
-        (cs ++ t ∷ [], ap (λ ts. ts ++ t ∷ []) is, fits, length-set e.cells i c ∙ l, subst (AreCells (cs ++ t ∷ [])) (sym (set_last e.cells i c (omega (arith, l, i7)))) (cells_push t c cells h))
+        let i7 : i ≡ 7 = eqb-true _ _ k in (
+          cs ++ t ∷ [],
+          ap (λ ts. ts ++ t ∷ []) is,
+          fits,
+          length-set e.cells i c
+              ∙ l,
+          subst (AreCells (cs ++ t ∷ [])) (sym (set_last e.cells i c (omega (arith, l, i7))))
+              (cells_push t c cells h),
+        )
     go false k =
-        let n7 : i ≢ 7 = differ i 7 k in
-        (cs ++ t ∷ [], ap (λ ts. ts ++ t ∷ []) is, fits, omega (arith, lt, n7), length-set e.cells i c ∙ l, subst (AreCells (cs ++ t ∷ [])) (sym (set_take e.cells i c (omega (arith, l, lt)))) (cells_push t c cells h))
+        let n7 : i ≢ 7 = differ i 7 k in (
+          cs ++ t ∷ [],
+          ap (λ ts. ts ++ t ∷ []) is,
+          fits,
+          omega (arith, lt, n7),
+          length-set e.cells i c
+              ∙ l,
+          subst (AreCells (cs ++ t ∷ [])) (sym (set_take e.cells i c (omega (arith, l, lt))))
+              (cells_push t c cells h),
+        )
 
-pair_done : (us : List Item) (t u : Item) (i : ℕ) (a : AccentValue) (b r : ℕ) → Defines us (AccentDefinition i a) → length a.pairs < 52 → character t ≡ Ok b → b ≢ 0 → character u ≡ Ok r → Defines (us ++ Open ∷ t ∷ u ∷ Close ∷ []) (AccentDefinition i (with_pair a b r))
-pair_done us t u i a b r (of_accent name idx own le ps) l h z k = of_accent name idx own (rw length-append (omega (arith, l))) (pairs_push t u b r ps h z k)
+-- a pair ends
+pair_done : (us : List Item) (t u : Item) (i : ℕ) (a : AccentValue) (b r : ℕ) → Defines us (AccentDefinition i a)
+    → length a.pairs < 52 → character t ≡ Ok b → b ≢ 0 → character u ≡ Ok r
+    → Defines (us ++ Open ∷ t ∷ u ∷ Close ∷ []) (AccentDefinition i (with_pair a b r))
+pair_done us t u i a b r (of_accent name idx own le ps) l h z k =
+    of_accent name idx own (rw length-append (omega (arith, l))) (pairs_push t u b r ps h z k)
 
-on : (part : List Item) (m : MapValue) (t : Item) (p : Place) (s : State) → ◌≡◌ {A = Result State TextFaultKind} (Ok (at m p)) (Ok s) → Part (part ++ t ∷ []) p → Moves part m t s
-on part m t p s h k = On (sym (ap (λ s. s.map) (ok_is _ _ h))) (subst (λ (s : State). Part (part ++ t ∷ []) s.place) (ok_is _ _ h) k)
+-- a step inside a definition
+on : (part : List Item) (m : MapValue) (t : Item) (p : Place) (s : State)
+    → ◌≡◌ {A = Result State TextFaultKind} (Ok (at m p)) (Ok s) → Part (part ++ t ∷ []) p → Moves part m t s
+on part m t p s h k =
+    On (sym (ap (λ s. s.map) (ok_is _ _ h))) (subst (λ (s : State). Part (part ++ t ∷ []) s.place) (ok_is _ _ h) k)
 
-begin_behind : (part : List Item) (m : MapValue) (i : ℕ) (a : AccentValue) (t : Item) (s : State) → (first_of t >>= (λ p. Ok (at (with_accent m i a) p))) ≡ Ok s → Defines part (AccentDefinition i a) → Moves part m t s
+-- a definition ends where another begins
+begin_behind : (part : List Item) (m : MapValue) (i : ℕ) (a : AccentValue) (t : Item) (s : State)
+    → (first_of t >>= (λ p. Ok (at (with_accent m i a) p))) ≡ Ok s → Defines part (AccentDefinition i a)
+    → Moves part m t s
 begin_behind part m i a t s h d =
     let b = bind_ok (first_of t) (λ p. Ok (at (with_accent m i a) p)) s h in
-    Begins (AccentDefinition i a) d (sym (ap (λ s. s.map) (ok_is _ _ b.2))) (subst (λ (s : State). Part (t ∷ []) s.place) (ok_is _ _ b.2) (begins t b.0 b.1))
+    Begins (AccentDefinition i a) d (sym (ap (λ s. s.map) (ok_is _ _ b.2)))
+    (subst (λ (s : State). Part (t ∷ []) s.place) (ok_is _ _ b.2) (begins t b.0 b.1))
 
-moves : (part : List Item) (m : MapValue) (p : Place) (t : Item) (s : State) → step m p t ≡ Ok s → Part part p → Moves part m t s
+-- each step
+moves : (part : List Item) (m : MapValue) (p : Place) (t : Item) (s : State) → step m p t ≡ Ok s → Part part p
+    → Moves part m t s
 moves part m Definition t s h k =
     let b = bind_ok (first_of t) (λ p. Ok (at m p)) s h in
     on part m t b.0 s b.2 (subst (λ (ts : List Item). Part (ts ++ t ∷ []) b.0) (sym k) (begins t b.0 b.1))
@@ -137,14 +212,19 @@ moves part m (CellAt slot i e) t s h k =
 moves part m (LockAt slot e) t s h (cs, is, fits, l, cells) =
     let b = bind_ok (lock t) (λ f. Ok (at (with_entry m slot (record { cells = e.cells; flag = f })) Definition)) s h in
     Done (KeyDefinition slot (record { cells = e.cells; flag = b.0 }))
-    (subst (λ (ts : List Item). Defines ts (KeyDefinition slot (record { cells = e.cells; flag = b.0 }))) (sym (ap (λ ts. ts ++ t ∷ []) is ∙ ap (λ t. Value (Number slot) ∷ (cs ++ t ∷ [])) (lock_is t b.0 b.1))) (of_key fits l cells))
+    (subst (λ (ts : List Item). Defines ts (KeyDefinition slot (record { cells = e.cells; flag = b.0 })))
+    (sym (ap (λ ts. ts ++ t ∷ []) is ∙ ap (λ t. Value (Number slot) ∷ (cs ++ t ∷ [])) (lock_is t b.0 b.1)))
+    (of_key fits l cells))
     (sym (ok_is _ _ b.2))
 moves part m (AccentCharacter i) t s h (name, is, idx) =
     let b = bind_ok (character t) (λ c. Ok (at m (AfterAccent i (record { own = c; pairs = [] })))) s h in
-    on part m t _ s b.2 (subst (λ (ts : List Item). Defines (ts ++ t ∷ []) (AccentDefinition i (record { own = b.0; pairs = [] }))) (sym is) (of_accent name idx b.1 (omega arith) no_pairs))
+    on part m t _ s b.2 (subst (λ (ts : List Item). Defines (ts ++ t ∷ [])
+    (AccentDefinition i (record { own = b.0; pairs = [] }))) (sym is)
+    (of_accent name idx b.1 (omega arith) no_pairs))
 moves part m (AfterAccent i a) Open s h k = go (nat_lt (length a.pairs) 52) refl h
   where
-    go : (b : Bool) → nat_lt (length a.pairs) 52 ≡ b → cond b (Ok (at m (PairBase i a))) (Err faults.TooManyPairs) ≡ Ok s → Moves part m Open s
+    go : (b : Bool) → nat_lt (length a.pairs) 52 ≡ b
+        → cond b (Ok (at m (PairBase i a))) (Err faults.TooManyPairs) ≡ Ok s → Moves part m Open s
     go true e h = on part m Open (PairBase i a) s h (part, refl, k, below _ _ e)
     go false e h = absurd (err_ok _ _ h)
 moves part m (AfterAccent i a) Close s h k = begin_behind part m i a Close s h k
@@ -156,15 +236,38 @@ moves part m (PairBase i a) t s h (us, is, d, l) =
     go : (c : ℕ) → character t ≡ Ok c → base_at m i a c ≡ Ok s → Moves part m t s
     go c e h = at_zero (c == 0) refl h
       where
-        at_zero : (z : Bool) → (c == 0) ≡ z → cond z (Err faults.ZeroBase) (Ok (at m (PairResult i a c))) ≡ Ok s → Moves part m t s
+        at_zero : (z : Bool) → (c == 0) ≡ z → cond z (Err faults.ZeroBase) (Ok (at m (PairResult i a c))) ≡ Ok s
+            → Moves part m t s
         at_zero true k h = absurd (err_ok _ _ h)
-        at_zero false k h = on part m t (PairResult i a c) s h (us, t, ap (λ ts. ts ++ t ∷ []) is ∙ append_assoc us (Open ∷ []) (t ∷ []), d, l, e, differ c 0 k)
+        at_zero false k h =
+            on part m t (PairResult i a c) s h (
+              us,
+              t,
+              ap (λ ts. ts ++ t ∷ []) is
+                  ∙ append_assoc us (Open ∷ []) (t ∷ []),
+              d,
+              l,
+              e,
+              differ c 0 k,
+            )
 moves part m (PairResult i a b) t s h (us, u, is, d, l, e, z) =
     let r = bind_ok (character t) (λ c. Ok (at m (PairEnd i a b c))) s h in
-    on part m t _ s r.2 (us, u, t, ap (λ ts. ts ++ t ∷ []) is ∙ append_assoc us (Open ∷ u ∷ []) (t ∷ []), d, l, e, z, r.1)
+    on part m t _ s r.2 (
+      us,
+      u,
+      t,
+      ap (λ ts. ts ++ t ∷ []) is ∙ append_assoc us (Open ∷ u ∷ []) (t ∷ []),
+      d,
+      l,
+      e,
+      z,
+      r.1,
+    )
 moves part m (PairEnd i a b r) Open s h k = absurd (err_ok _ _ h)
 moves part m (PairEnd i a b r) Close s h (us, t, u, is, d, l, e, z, f) =
-    on part m Close _ s h (subst (λ (ts : List Item). Defines ts (AccentDefinition i (with_pair a b r))) (sym (ap (λ ts. ts ++ Close ∷ []) is ∙ append_assoc us (Open ∷ t ∷ u ∷ []) (Close ∷ []))) (pair_done us t u i a b r d l e z f))
+    on part m Close _ s h (subst (λ (ts : List Item). Defines ts (AccentDefinition i (with_pair a b r)))
+    (sym (ap (λ ts. ts ++ Close ∷ []) is ∙ append_assoc us (Open ∷ t ∷ u ∷ []) (Close ∷ [])))
+    (pair_done us t u i a b r d l e z f))
 moves part m (PairEnd i a b r) (Value v) s h k = absurd (err_ok _ _ h)
 
 -- The tokens so far are a row of definitions, and a part of the next one.
@@ -177,7 +280,9 @@ pub record Stands (ts : List Item) (s : State) : Type 0 where
   pub map : s.map ≡ puts empty_map definitions
   pub part : Part rest s.place
 
-moved : (ts : List Item) (t : Item) (s s' : State) → (k : Stands ts s) → Moves k.rest s.map t s' → Stands (ts ++ t ∷ []) s'
+-- each step of a row
+moved : (ts : List Item) (t : Item) (s s' : State) → (k : Stands ts s) → Moves k.rest s.map t s'
+    → Stands (ts ++ t ∷ []) s'
 moved ts t s s' k (On same part) = record {
   definitions = k.definitions;
   row = k.row;
@@ -206,6 +311,7 @@ moved ts t s s' k (Begins d def same part) = record {
   part = part;
 }
 
+-- a step by its place
 accept_is : (s : State) (t : Item) → accept s t ≡ step s.map s.place t
 unfolding accept
 accept_is s t = refl
@@ -215,32 +321,48 @@ abbrev pub steps : State → List Item → Result State TextFaultKind
 steps s [] = Ok s
 steps s (t ∷ ts) = accept s t >>= (λ s. steps s ts)
 
+-- tokens that are accepted lead on in a row
 pub stands_after : (ts us : List Item) (s s' : State) → Stands ts s → steps s us ≡ Ok s' → Stands (ts ++ us) s'
-stands_after ts [] s s' k h = subst (λ (ts : List Item). Stands ts s') (sym (append-nil ts)) (subst (Stands ts) (ok_is s s' h) k)
+stands_after ts [] s s' k h =
+    subst (λ (ts : List Item). Stands ts s') (sym (append-nil ts)) (subst (Stands ts) (ok_is s s' h) k)
 stands_after ts (u ∷ us) s s' k h =
     let b = bind_ok (accept s u) (λ s. steps s us) s' h in
-    subst (λ (ts : List Item). Stands ts s') (append_assoc ts (u ∷ []) us) (stands_after (ts ++ u ∷ []) us b.0 s' (moved ts u s b.0 k (moves k.rest s.map s.place u b.0 (sym (accept_is s u) ∙ b.1) k.part)) b.2)
+    subst (λ (ts : List Item). Stands ts s') (append_assoc ts (u ∷ []) us)
+    (stands_after (ts ++ u ∷ []) us b.0 s' (moved ts u s b.0 k (moves k.rest s.map s.place u b.0
+    (sym (accept_is s u) ∙ b.1) k.part)) b.2)
 
+-- a text begins in no definition
 pub stands_first : Stands [] start
-stands_first = record { definitions = []; row = []; rest = []; tokens = refl; is_row = no_definition; map = refl; part = refl }
+stands_first =
+    record { definitions = []; row = []; rest = []; tokens = refl; is_row = no_definition; map = refl; part = refl }
 
+-- equal values
 some_is : {A : Type 0} (x y : A) → Some x ≡ Some y → x ≡ y
 some_is x y h = cc
 
+-- no value is not some
 none_some : {A : Type 0} (y : A) → None ≡ Some y → ⊥
 none_some y h = cc
 
 -- where the text may end, the tokens are a row
-pub row_at_end : (ts : List Item) (m : MapValue) (p : Place) (m' : MapValue) → Stands ts (at m p) → at_end (at m p) ≡ Some m' → (ds : List rows.Definition) × IsRow ts ds × (m' ≡ puts empty_map ds)
+pub row_at_end : (ts : List Item) (m : MapValue) (p : Place) (m' : MapValue) → Stands ts (at m p)
+    → at_end (at m p) ≡ Some m' → (ds : List rows.Definition) × IsRow ts ds × (m' ≡ puts empty_map ds)
 unfolding at_end
-row_at_end ts m Definition m' k h = (k.definitions, subst (λ (ts : List Item). IsRow ts k.definitions) (sym (k.tokens ∙ ap (λ r. k.row ++ r) k.part ∙ append-nil k.row)) k.is_row, sym (some_is _ _ h) ∙ k.map)
+row_at_end ts m Definition m' k h = (
+  k.definitions,
+  subst (λ (ts : List Item). IsRow ts k.definitions)
+      (sym (k.tokens ∙ ap (λ r. k.row ++ r) k.part ∙ append-nil k.row)) k.is_row,
+  sym (some_is _ _ h) ∙ k.map,
+)
 row_at_end ts m (CellAt slot i e) m' k h = absurd (none_some _ h)
 row_at_end ts m (LockAt slot e) m' k h = absurd (none_some _ h)
 row_at_end ts m (AccentCharacter i) m' k h = absurd (none_some _ h)
 row_at_end ts m (AfterAccent i a) m' k h = (
   k.definitions ++ AccentDefinition i a ∷ [],
-  subst (λ (ts : List Item). IsRow ts (k.definitions ++ AccentDefinition i a ∷ [])) (sym k.tokens) (row_push k.is_row k.part),
-  sym (some_is _ _ h) ∙ ap (λ m. with_accent m i a) k.map ∙ sym (puts_push empty_map k.definitions (AccentDefinition i a)),
+  subst (λ (ts : List Item). IsRow ts (k.definitions ++ AccentDefinition i a ∷ [])) (sym k.tokens)
+      (row_push k.is_row k.part),
+  sym (some_is _ _ h) ∙ ap (λ m. with_accent m i a) k.map
+      ∙ sym (puts_push empty_map k.definitions (AccentDefinition i a)),
 )
 row_at_end ts m (PairBase i a) m' k h = absurd (none_some _ h)
 row_at_end ts m (PairResult i a b) m' k h = absurd (none_some _ h)
@@ -250,6 +372,7 @@ row_at_end ts m (PairEnd i a b r) m' k h = absurd (none_some _ h)
 steps_on : (s s' : State) (t : Item) (ts : List Item) → accept s t ≡ Ok s' → steps s (t ∷ ts) ≡ steps s' ts
 steps_on s s' t ts h = ap (λ r. r >>= (λ s. steps s ts)) h
 
+-- the steps of two lists, one after the other
 pub steps_append : (s s' : State) (ts us : List Item) → steps s ts ≡ Ok s' → steps s (ts ++ us) ≡ steps s' us
 steps_append s s' [] us h = ap (λ s. steps s us) (ok_is s s' h)
 steps_append s s' (t ∷ ts) us h =
@@ -257,7 +380,8 @@ steps_append s s' (t ∷ ts) us h =
     steps_on s b.0 t (ts ++ us) b.1 ∙ steps_append b.0 s' ts us b.2
 
 -- the first token of a definition, where a text may end
-ready : (m : MapValue) (p : Place) (m' : MapValue) (t : Item) (q : Place) → at_end (at m p) ≡ Some m' → first_of t ≡ Ok q → accept (at m p) t ≡ Ok (at m' q)
+ready : (m : MapValue) (p : Place) (m' : MapValue) (t : Item) (q : Place) → at_end (at m p) ≡ Some m'
+    → first_of t ≡ Ok q → accept (at m p) t ≡ Ok (at m' q)
 unfolding at_end accept
 ready m Definition m' t q h k = ap (λ r. r >>= (λ p. Ok (at m p))) k ∙ ap (λ m. Ok (at m q)) (some_is _ _ h)
 ready m (CellAt slot i e) m' t q h k = absurd (none_some _ h)
@@ -265,84 +389,125 @@ ready m (LockAt slot e) m' t q h k = absurd (none_some _ h)
 ready m (AccentCharacter i) m' t q h k = absurd (none_some _ h)
 ready m (AfterAccent i a) m' Open q h k = absurd (err_ok _ _ k)
 ready m (AfterAccent i a) m' Close q h k = absurd (err_ok _ _ k)
-ready m (AfterAccent i a) m' (Value v) q h k = ap (λ r. r >>= (λ p. Ok (at (with_accent m i a) p))) k ∙ ap (λ m. Ok (at m q)) (some_is _ _ h)
+ready m (AfterAccent i a) m' (Value v) q h k =
+    ap (λ r. r >>= (λ p. Ok (at (with_accent m i a) p))) k ∙ ap (λ m. Ok (at m q)) (some_is _ _ h)
 ready m (PairBase i a) m' t q h k = absurd (none_some _ h)
 ready m (PairResult i a b) m' t q h k = absurd (none_some _ h)
 ready m (PairEnd i a b r) m' t q h k = absurd (none_some _ h)
 
-take_cell : (m : MapValue) (slot i : ℕ) (e : Entry) (t : Item) (c : Cell) → cell t ≡ Ok c → accept (at m (CellAt slot i e)) t ≡ Ok (at m (after_cell slot i (with_cell e i c)))
+-- a cell is taken
+take_cell : (m : MapValue) (slot i : ℕ) (e : Entry) (t : Item) (c : Cell) → cell t ≡ Ok c
+    → accept (at m (CellAt slot i e)) t ≡ Ok (at m (after_cell slot i (with_cell e i c)))
 unfolding accept
 take_cell m slot i e t c h = ap (λ r. r >>= (λ c. Ok (at m (after_cell slot i (with_cell e i c))))) h
 
+-- an entry by its parts
 entry_of : List Cell → LockFlag → Entry
 entry_of cells flag = record { cells = cells; flag = flag }
 
-cells_done : (m : MapValue) (slot i : ℕ) (e : Entry) (ts : List Item) (cs : List Cell) (us : List Item) → AreCells ts cs → i + length cs ≡ 8 → 0 < length cs → length e.cells ≡ 8 → steps (at m (CellAt slot i e)) (ts ++ us) ≡ steps (at m (LockAt slot (entry_of (take i e.cells ++ cs) e.flag))) us
+-- all cells of an entry are taken
+cells_done : (m : MapValue) (slot i : ℕ) (e : Entry) (ts : List Item) (cs : List Cell) (us : List Item) → AreCells ts cs
+    → i + length cs ≡ 8 → 0 < length cs → length e.cells ≡ 8
+    → steps (at m (CellAt slot i e)) (ts ++ us) ≡ steps (at m (LockAt slot (entry_of (take i e.cells ++ cs) e.flag))) us
 unfolding entry_of
 cells_done m slot i e ts cs us no_cells n z l = absurd (omega (arith, z))
 cells_done m slot i e ts cs us (one_cell {t = t} {c = c} h no_cells) n z l =
     let i7 : i ≡ 7 = omega (arith, n) in
     steps_on _ _ t us (take_cell m slot i e t c h)
-    ∙ ap (λ b. steps (at m (cond b (LockAt slot (with_cell e i c)) (CellAt slot (i + 1) (with_cell e i c)))) us) (eq-eqb i 7 i7)
-    ∙ ap (λ (cells : List Cell). steps (at m (LockAt slot (record { cells = cells; flag = e.flag }))) us) (set_last e.cells i c (omega (arith, l, i7)))
-cells_done m slot i e ts cs us (one_cell {t = t} {c = c} h (one_cell {t = t'} {c = c'} {ts = ts'} {cs = cs'} k r)) n z l =
+    ∙ ap (λ b. steps (at m (cond b (LockAt slot (with_cell e i c)) (CellAt slot (i + 1) (with_cell e i c)))) us)
+    (eq-eqb i 7 i7)
+    ∙ ap (λ (cells : List Cell). steps (at m (LockAt slot (record { cells = cells; flag = e.flag }))) us)
+    (set_last e.cells i c (omega (arith, l, i7)))
+cells_done m slot i e ts cs us (one_cell {t = t} {c = c} h (one_cell {t = t'} {c = c'} {ts = ts'} {cs = cs'} k r)) n z
+    l =
     let n7 : i ≢ 7 = omega (arith, n) in
     steps_on _ _ t (t' ∷ (ts' ++ us)) (take_cell m slot i e t c h)
-    ∙ ap (λ b. steps (at m (cond b (LockAt slot (with_cell e i c)) (CellAt slot (i + 1) (with_cell e i c)))) (t' ∷ (ts' ++ us))) (ne_eqb i 7 n7)
-    ∙ cells_done m slot (i + 1) (with_cell e i c) (t' ∷ ts') (c' ∷ cs') us (one_cell k r) (omega (arith, n)) (omega arith) (length-set e.cells i c ∙ l)
-    ∙ ap (λ (cells : List Cell). steps (at m (LockAt slot (record { cells = cells; flag = e.flag }))) us) (ap (λ xs. xs ++ c' ∷ cs') (set_take e.cells i c (omega (arith, l, n))) ∙ append_assoc (take i e.cells) (c ∷ []) (c' ∷ cs'))
+    ∙ ap (λ b. steps (at m (cond b (LockAt slot (with_cell e i c)) (CellAt slot (i + 1) (with_cell e i c))))
+    (t' ∷ (ts' ++ us))) (ne_eqb i 7 n7)
+    ∙ cells_done m slot (i + 1) (with_cell e i c) (t' ∷ ts') (c' ∷ cs') us (one_cell k r) (omega (arith, n))
+    (omega arith) (length-set e.cells i c ∙ l)
+    ∙ ap (λ (cells : List Cell). steps (at m (LockAt slot (record { cells = cells; flag = e.flag }))) us)
+    (ap (λ xs. xs ++ c' ∷ cs') (set_take e.cells i c (omega (arith, l, n)))
+    ∙ append_assoc (take i e.cells) (c ∷ []) (c' ∷ cs'))
 
-lock_taken : (m : MapValue) (slot : ℕ) (e : Entry) (f : LockFlag) → steps (at m (LockAt slot e)) (Value (Letter f) ∷ []) ≡ Ok (at (with_entry m slot (record { cells = e.cells; flag = f })) Definition)
+-- a lock letter is taken
+lock_taken : (m : MapValue) (slot : ℕ) (e : Entry) (f : LockFlag)
+    → steps (at m (LockAt slot e)) (Value (Letter f) ∷ [])
+    ≡ Ok (at (with_entry m slot (record { cells = e.cells; flag = f })) Definition)
 unfolding accept
 lock_taken m slot e f = refl
 
-own_taken : (m : MapValue) (i c : ℕ) (t : Item) → character t ≡ Ok c → accept (at m (AccentCharacter i)) t ≡ Ok (at m (AfterAccent i (record { own = c; pairs = [] })))
+-- an accent's character is taken
+own_taken : (m : MapValue) (i c : ℕ) (t : Item) → character t ≡ Ok c
+    → accept (at m (AccentCharacter i)) t ≡ Ok (at m (AfterAccent i (record { own = c; pairs = [] })))
 unfolding accept
 own_taken m i c t h = ap (λ r. r >>= (λ c. Ok (at m (AfterAccent i (record { own = c; pairs = [] }))))) h
 
-open_taken : (m : MapValue) (i : ℕ) (a : AccentValue) → length a.pairs < 52 → accept (at m (AfterAccent i a)) Open ≡ Ok (at m (PairBase i a))
+-- a left parenthesis is taken
+open_taken : (m : MapValue) (i : ℕ) (a : AccentValue) → length a.pairs < 52
+    → accept (at m (AfterAccent i a)) Open ≡ Ok (at m (PairBase i a))
 unfolding accept
 open_taken m i a h = ap (λ b. cond b (Ok (at m (PairBase i a))) (Err faults.TooManyPairs)) (is_below (length a.pairs) h)
   where
     is_below : (n : ℕ) → n < 52 → nat_lt n 52 ≡ true
     is_below n h = grind (arith, nat_tests)
 
-base_taken : (m : MapValue) (i : ℕ) (a : AccentValue) (t : Item) (b : ℕ) → character t ≡ Ok b → b ≢ 0 → accept (at m (PairBase i a)) t ≡ Ok (at m (PairResult i a b))
+-- a base is taken
+base_taken : (m : MapValue) (i : ℕ) (a : AccentValue) (t : Item) (b : ℕ) → character t ≡ Ok b → b ≢ 0
+    → accept (at m (PairBase i a)) t ≡ Ok (at m (PairResult i a b))
 unfolding accept
-base_taken m i a t b h z = ap (λ r. r >>= (λ c. base_at m i a c)) h ∙ ap (λ z. cond z (Err faults.ZeroBase) (Ok (at m (PairResult i a b)))) (ne_eqb b 0 z)
+base_taken m i a t b h z =
+    ap (λ r. r >>= (λ c. base_at m i a c)) h
+    ∙ ap (λ z. cond z (Err faults.ZeroBase) (Ok (at m (PairResult i a b)))) (ne_eqb b 0 z)
 
-result_taken : (m : MapValue) (i : ℕ) (a : AccentValue) (t : Item) (b r : ℕ) → character t ≡ Ok r → accept (at m (PairResult i a b)) t ≡ Ok (at m (PairEnd i a b r))
+-- a result is taken
+result_taken : (m : MapValue) (i : ℕ) (a : AccentValue) (t : Item) (b r : ℕ) → character t ≡ Ok r
+    → accept (at m (PairResult i a b)) t ≡ Ok (at m (PairEnd i a b r))
 unfolding accept
 result_taken m i a t b r h = ap (λ r. r >>= (λ c. Ok (at m (PairEnd i a b c)))) h
 
-close_taken : (m : MapValue) (i : ℕ) (a : AccentValue) (b r : ℕ) → accept (at m (PairEnd i a b r)) Close ≡ Ok (at m (AfterAccent i (with_pair a b r)))
+-- a right parenthesis is taken
+close_taken : (m : MapValue) (i : ℕ) (a : AccentValue) (b r : ℕ)
+    → accept (at m (PairEnd i a b r)) Close ≡ Ok (at m (AfterAccent i (with_pair a b r)))
 unfolding accept
 close_taken m i a b r = refl
 
-pairs_done : (m : MapValue) (i : ℕ) (a : AccentValue) (ts : List Item) (ps : List (ℕ × ℕ)) → ArePairs ts ps → length a.pairs + length ps ≤ 52 → steps (at m (AfterAccent i a)) ts ≡ Ok (at m (AfterAccent i (record { own = a.own; pairs = a.pairs ++ ps })))
-pairs_done m i a ts ps no_pairs l = ap (λ (ps : List (ℕ × ℕ)). Ok (at m (AfterAccent i (record { own = a.own; pairs = ps })))) (sym (append-nil a.pairs))
+-- all pairs of an accent are taken
+pairs_done : (m : MapValue) (i : ℕ) (a : AccentValue) (ts : List Item) (ps : List (ℕ × ℕ)) → ArePairs ts ps
+    → length a.pairs + length ps ≤ 52 → steps (at m (AfterAccent i a)) ts
+    ≡ Ok (at m (AfterAccent i (record { own = a.own; pairs = a.pairs ++ ps })))
+pairs_done m i a ts ps no_pairs l =
+    ap (λ (ps : List (ℕ × ℕ)). Ok (at m (AfterAccent i (record { own = a.own; pairs = ps }))))
+    (sym (append-nil a.pairs))
 pairs_done m i a ts ps (one_pair {t = t} {u = u} {base = b} {result = r} {ts = ts'} {ps = ps'} h z k more) l =
     steps_on _ _ Open (t ∷ u ∷ Close ∷ ts') (open_taken m i a (omega (arith, l)))
     ∙ steps_on _ _ t (u ∷ Close ∷ ts') (base_taken m i a t b h z)
     ∙ steps_on _ _ u (Close ∷ ts') (result_taken m i a u b r k)
     ∙ steps_on _ _ Close ts' (close_taken m i a b r)
     ∙ pairs_done m i (with_pair a b r) ts' ps' more (rw length-append (omega (arith, l)))
-    ∙ ap (λ (ps : List (ℕ × ℕ)). Ok (at m (AfterAccent i (record { own = a.own; pairs = ps })))) (append_assoc a.pairs ((b, r) ∷ []) ps')
+    ∙ ap (λ (ps : List (ℕ × ℕ)). Ok (at m (AfterAccent i (record { own = a.own; pairs = ps }))))
+    (append_assoc a.pairs ((b, r) ∷ []) ps')
 
+-- the text may end after a lock letter
 ends_lock : (m : MapValue) → at_end (at m Definition) ≡ Some m
 unfolding at_end
 ends_lock m = refl
 
+-- and after an accent's character or pair
 ends_accent : (m : MapValue) (i : ℕ) (a : AccentValue) → at_end (at m (AfterAccent i a)) ≡ Some (with_accent m i a)
 unfolding at_end
 ends_accent m i a = refl
 
-pub defined : (s : State) (m : MapValue) (ts : List Item) (d : rows.Definition) → Defines ts d → at_end s ≡ Some m → (s' : State) × (steps s ts ≡ Ok s') × (at_end s' ≡ Some (put m d))
+-- the tokens of a definition put it into the map
+pub defined : (s : State) (m : MapValue) (ts : List Item) (d : rows.Definition) → Defines ts d → at_end s ≡ Some m
+    → (s' : State) × (steps s ts ≡ Ok s') × (at_end s' ≡ Some (put m d))
 unfolding entry_of
 defined s m ts d (of_key {slot = slot} {e = e} {ts = cs} fits l cells) h = (
   at (with_entry m slot e) Definition,
-  steps_on s _ _ _ (ready s.map s.place m (Value (Number slot)) (CellAt slot 0 undefined) h (ap (λ b. cond b (Ok (CellAt slot 0 undefined)) (Err faults.KeyTooLarge)) (is_below slot fits)))
-      ∙ cells_done m slot 0 undefined cs e.cells (Value (Letter e.flag) ∷ []) cells (omega (arith, l)) (omega (arith, l)) refl
+  steps_on s _ _ _ (ready s.map s.place m (Value (Number slot)) (CellAt slot 0 undefined) h
+      (ap (λ b. cond b (Ok (CellAt slot 0 undefined)) (Err faults.KeyTooLarge)) (is_below slot fits)))
+      ∙ cells_done m slot 0 undefined cs e.cells (Value (Letter e.flag) ∷ []) cells (omega (arith, l))
+      (omega (arith, l)) refl
       ∙ lock_taken m slot _ e.flag,
   ends_lock _,
 )
@@ -351,13 +516,17 @@ defined s m ts d (of_key {slot = slot} {e = e} {ts = cs} fits l cells) h = (
     is_below n h = grind (arith, nat_tests)
 defined s m ts d (of_accent {i = i} {a = a} {t = t} {ts = us} name idx own le pairs) h = (
   at m (AfterAccent i a),
-  steps_on s _ _ (t ∷ us) (ready s.map s.place m (Value (Act name)) (AccentCharacter i) h (ap (λ (o : Option ℕ). elim o as (λ o. Result Place TextFaultKind) [ Some i ↦ Ok (AccentCharacter i) | None ↦ Err faults.Unexpected ]) idx))
+  steps_on s _ _ (t ∷ us) (ready s.map s.place m (Value (Act name)) (AccentCharacter i) h
+      (ap (λ (o : Option ℕ). elim o as (λ o. Result Place TextFaultKind)
+      [ Some i ↦ Ok (AccentCharacter i) | None ↦ Err faults.Unexpected ]) idx))
       ∙ steps_on _ _ t us (own_taken m i a.own t own)
       ∙ pairs_done m i (record { own = a.own; pairs = [] }) us a.pairs pairs (omega (arith, le)),
   ends_accent m i a,
 )
 
-pub row_defined : (s : State) (m : MapValue) (ts : List Item) (ds : List rows.Definition) → IsRow ts ds → at_end s ≡ Some m → (s' : State) × (steps s ts ≡ Ok s') × (at_end s' ≡ Some (puts m ds))
+-- the tokens of a row put its definitions into the map
+pub row_defined : (s : State) (m : MapValue) (ts : List Item) (ds : List rows.Definition) → IsRow ts ds
+    → at_end s ≡ Some m → (s' : State) × (steps s ts ≡ Ok s') × (at_end s' ≡ Some (puts m ds))
 row_defined s m ts ds no_definition h = (s, refl, h)
 row_defined s m ts ds (one_definition {ts = front} {us = rest} {d = d} {ds = more} k r) h =
     let one = defined s m front d k h in

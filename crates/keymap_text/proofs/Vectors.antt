@@ -1,13 +1,16 @@
 -- From the mask of sixteen bytes to the bytes in front that pass a test.
-use Rattle.std.proofs.Common.{◌≡◌, ℕ, zero, suc, ◌+◌, ◌%◌, ◌^◌, ◌<◌, ◌≤◌, Bool, true, false, not, List, [], ◌∷◌, map, length, get_or, replicate, Fits, w8, refl, sym, ap, ap₂, ◌∙◌, subst, arith, inl, inr}
-use Rattle.std.proofs.lemmas.Bool.{agree_below, agree_below_at, not-true, not-false, cases_eq, eq-eqb, ne_eqb, cond-true, cond-false}
-use Rattle.std.proofs.lemmas.Simd.{map-map, mask_l-mod, length-chunk, get_or-chunk, leading_from_mask_l, trailing_mask_l}
+use Rattle.std.proofs.Common.{◌≡◌, ℕ, zero, suc, ◌+◌, ◌%◌, ◌^◌, ◌<◌, ◌≤◌, Bool, true, false, not, List, [], ◌∷◌, map}
+use Rattle.std.proofs.Common.{length, get_or, replicate, Fits, w8, refl, sym, ap, ap₂, ◌∙◌, subst, arith, inl, inr}
+use Rattle.std.proofs.lemmas.Bool.{agree_below, agree_below_at, not-true, not-false, cases_eq, eq-eqb, ne_eqb}
+use Rattle.std.proofs.lemmas.Bool.{cond-true, cond-false}
+use Rattle.std.proofs.lemmas.Simd.{map-map, mask_l-mod, length-chunk, get_or-chunk, leading_from_mask_l}
+use Rattle.std.proofs.lemmas.Simd.{trailing_mask_l}
 use Rattle.std.proofs.lemmas.List.{length-map}
 use Rattle.std.proofs.lemmas.List.Sums.{prefix_len-le-length, prefix_len_passes, prefix_len_stops}
 use Rattle.std.specs.List.{prefix_len}
 use lib.Lanes.{chunk, zip2, mask_l, top}
 use Rattle.keymap_text.specs.Lexical.{leading}
-use Rattle.keymap_text.specs.Keys.{first_of_sixteen}
+use Rattle.keymap_text.specs.Inner.Keys.{first_of_sixteen}
 use Rattle.keymap_text.proofs.Leading.{leading_pass, leading_fail}
 
 -- vectors that were computed lane by lane from v
@@ -15,25 +18,35 @@ zip2-map : (h : ℕ → ℕ → ℕ) (f g : ℕ → ℕ) (v : List ℕ) → zip2
 zip2-map h f g [] = refl
 zip2-map h f g (x ∷ v) = ap (λ r. h (f x) (g x) ∷ r) (zip2-map h f g v)
 
-pub joined : (h : ℕ → ℕ → ℕ) (f g : ℕ → ℕ) (v : List ℕ) {a b : List ℕ} → a ≡ map f v → b ≡ map g v → zip2 h a b ≡ map (λ x. h (f x) (g x)) v
+-- two masks of the same bytes, joined byte by byte
+pub joined : (h : ℕ → ℕ → ℕ) (f g : ℕ → ℕ) (v : List ℕ) {a b : List ℕ} → a ≡ map f v → b ≡ map g v
+    → zip2 h a b ≡ map (λ x. h (f x) (g x)) v
 joined h f g v p q = ap₂ (zip2 h) p q ∙ zip2-map h f g v
 
+-- the same byte in each place
 pub splat_is : (v : List ℕ) (n y : ℕ) → length v ≡ n → replicate n y ≡ map (λ _. y) v
 splat_is [] n y e = ap (λ k. replicate k y) (sym e)
 splat_is (x ∷ v) n y e = ap (λ k. replicate k y) (sym e) ∙ ap (λ r. y ∷ r) (splat_is v (length v) y refl)
 
-run_is : (p : ℕ → Bool) (v : List ℕ) → length v ≡ 16 → first_of_sixteen (mask_l (map p v)) ≡ prefix_len (λ x. not (p x)) v
+-- the place of the lowest bit is how many bytes pass
+run_is : (p : ℕ → Bool) (v : List ℕ) → length v ≡ 16
+    → first_of_sixteen (mask_l (map p v)) ≡ prefix_len (λ x. not (p x)) v
 run_is p v long =
     elim (cases_eq (mask_l (map p v)) 0) [
       | inl none ↦ cond-true _ _ _ (eq-eqb _ _ none) ∙ sym (leading_from_mask_l p v none ∙ long)
       | inr some ↦ cond-false _ _ _ (ne_eqb _ _ some) ∙ trailing_mask_l p 64 v (omega arith) (omega arith)
     ]
 
-leading_is : (q : ℕ → Bool) (d : List ℕ) (r : ℕ) → r < length d → ((k : ℕ) → k < r → q (get_or d k 0) ≡ true) → q (get_or d r 0) ≡ false → leading q d ≡ r
+-- so many bytes in front pass
+leading_is : (q : ℕ → Bool) (d : List ℕ) (r : ℕ) → r < length d → ((k : ℕ) → k < r → q (get_or d k 0) ≡ true)
+    → q (get_or d r 0) ≡ false → leading q d ≡ r
 leading_is q [] r l f s = absurd (omega (arith, l))
 leading_is q (c ∷ d) zero l f s = leading_fail q c d s
-leading_is q (c ∷ d) (suc r) l f s = leading_pass q c d (f 0 (omega arith)) ∙ ap (λ n. n + 1) (leading_is q d r (omega (arith, l)) (λ k h. f (suc k) (omega (arith, h))) s) ∙ omega arith
+leading_is q (c ∷ d) (suc r) l f s =
+    leading_pass q c d (f 0 (omega arith)) ∙ ap (λ n. n + 1) (leading_is q d r (omega (arith, l))
+    (λ k h. f (suc k) (omega (arith, h))) s) ∙ omega arith
 
+-- the bytes of a vector are the first sixteen
 in_chunk : (d : List ℕ) (k : ℕ) → k < 16 → get_or (chunk 0 16 d) k 0 ≡ get_or d k 0
 in_chunk d k h =
     let same : 0 + k ≡ k = omega arith in
@@ -51,22 +64,27 @@ module _ (q : ℕ → Bool) (d : List ℕ) (r : ℕ) (z : List ℕ) (room : 16 �
   counted : r ≡ prefix_len (λ x. not (stops x)) (chunk 0 16 d)
   counted =
       let v = chunk 0 16 d in
-      let mask = ap (λ l. mask_l l % 2 ^ 64) (ap (map (top 7)) lanes ∙ map-map (top 7) f v) ∙ mask_l-mod (map stops v) 64 (omega (arith, length-map v stops, long)) in
+      let mask = ap (λ l. mask_l l % 2 ^ 64) (ap (map (top 7)) lanes ∙ map-map (top 7) f v)
+      ∙ mask_l-mod (map stops v) 64 (omega (arith, length-map v stops, long)) in
       found ∙ ap first_of_sixteen mask ∙ run_is stops v long
 
   goes_on : (k : ℕ) → k < r → stops (get_or d k 0) ≡ false
   goes_on k to =
       let bound = prefix_len-le-length (λ x. not (stops x)) (chunk 0 16 d) in
       let at = in_chunk d k (omega (arith, counted, long, bound, to)) in
-      subst (λ x. stops x ≡ false) at (not-true _ (prefix_len_passes (λ x. not (stops x)) (chunk 0 16 d) k 0 (omega (arith, counted, to))))
+      subst (λ x. stops x ≡ false) at (not-true _ (prefix_len_passes (λ x. not (stops x)) (chunk 0 16 d) k 0
+      (omega (arith, counted, to))))
 
   -- a lane stops just where q fails
   pub run_in : agree_below stops (λ x. not (q x)) 256 ≡ true → r < 16 → leading q d ≡ r
   run_in all short =
       leading_is q d r (omega (arith, room, short))
-      (λ k to. not-false _ (sym (agree_below_at stops (λ x. not (q x)) 256 (get_or d k 0) all (fits k).fits) ∙ goes_on k to))
+      (λ k to. not-false _ (sym (agree_below_at stops (λ x. not (q x)) 256 (get_or d k 0) all (fits k).fits)
+      ∙ goes_on k to))
       (
       let at = ap (λ j. get_or (chunk 0 16 d) j 0) (sym counted) ∙ in_chunk d r short in
-      let set = subst (λ x. stops x ≡ true) at (not-false _ (prefix_len_stops (λ x. not (stops x)) (chunk 0 16 d) 0 (omega (arith, counted, long, short)))) in
+      let set = subst (λ x. stops x ≡ true) at
+      (not-false _ (prefix_len_stops (λ x. not (stops x)) (chunk 0 16 d) 0
+      (omega (arith, counted, long, short)))) in
       not-true _ (sym (agree_below_at stops (λ x. not (q x)) 256 (get_or d r 0) all (fits r).fits) ∙ set)
       )

@@ -1,20 +1,25 @@
 -- The verdict of the reader's machine is what the definitions say.
 use Rattle.std.proofs.lemmas.List.{take-append-le}
-use Rattle.std.proofs.Common.{◌≡◌, ◌⊎◌, inl, inr, ℕ, Bool, true, false, cond, ap₂, zero, suc, ◌+◌, ◌≤◌, ◌==◌, length, take, drop, arith, count_by, List, [], ◌∷◌, ◌++◌, map, refl, sym, ◌∙◌, ap, subst, Result, Ok, Err, Option, Some, None}
+use Rattle.std.proofs.Common.{◌≡◌, ◌⊎◌, inl, inr, ℕ, Bool, true, false, cond, ap₂, zero, suc, ◌+◌, ◌≤◌, ◌==◌, length}
+use Rattle.std.proofs.Common.{take, drop, arith, count_by, List, [], ◌∷◌, ◌++◌, map, refl, sym, ◌∙◌, ap, subst, Result}
+use Rattle.std.proofs.Common.{Ok, Err, Option, Some, None}
 use Rattle.keymap_text.specs.declared.fault.TextFaultKind.{TextFaultKind}
 use Rattle.keymap_text.specs.declared.fault.TextFaultKind.TheVariants as faults
 use Rattle.keymap_text.specs.declared.words.Item.{Item}
-use Rattle.keymap_text.specs.Lexical.{Token, Tokens, Ends, Stops, Then, split, front, Front, Skipped, Refused, Unfinished, is_empty}
+use Rattle.keymap_text.specs.Lexical.{Token, Tokens, Ends, Stops, Then, split, front, Front, Skipped, Refused}
+use Rattle.keymap_text.specs.Lexical.{Unfinished, is_empty}
 use Rattle.keymap_text.specs.Lexical as lexical
 use Rattle.keymap_core.specs.Maps.{MapValue}
-use Rattle.keymap_text.specs.Grammar.{State, accept, at_end, start, empty_map}
+use Rattle.keymap_text.specs.Inner.Grammar.{State, accept, at_end, start, empty_map}
 use Rattle.keymap_text.specs.declared.fault.TextFault.{TextFault}
 use Rattle.keymap_text.specs.Places.{Place, AtDefinition, may_end}
 use Rattle.keymap_text.specs.Rows.{Definition, IsRow}
-use Rattle.keymap_text.specs.Reading.{judge, verdict, Verdict, Spelled, Faulty, ended, line}
+use Rattle.keymap_text.specs.Meaning.{line}
+use Rattle.keymap_text.specs.Inner.Judging.{judge, verdict, Verdict, Spelled, Faulty, ended}
 use Rattle.keymap_text.proofs.Splitting.{split_one, split_skipped, split_found, split_refused, split_unfinished}
 use Rattle.keymap_text.proofs.Early.{early_from}
-use Rattle.keymap_text.specs.Meaning.{list_of, behind, item_of, items, Found, fault_of, Spells, Fault, Early, found_in, leads}
+use Rattle.keymap_text.specs.Meaning.{list_of, behind, item_of, items, Found, fault_of, Spells, Fault, Early, found_in}
+use Rattle.keymap_text.specs.Meaning.{leads}
 use Rattle.keymap_text.proofs.Steps.{judge_then, judge_refused, judge_stops, judge_ends}
 use Rattle.keymap_text.proofs.Faults.{found_of, fault_is, same_fault}
 use Rattle.keymap_text.proofs.Folded.{puts, puts_are}
@@ -23,12 +28,15 @@ use Rattle.keymap_text.proofs.Row.{steps, stands_after, stands_first, row_at_end
 abbrev pub items_of : Tokens → List Item
 items_of ts = map item_of (list_of ts)
 
+-- a fault is no map
 faulty : (f : TextFaultKind) (q : ℕ) (e : Bool) (m : MapValue) → Faulty f q e ≡ Spelled m → ⊥
 faulty f q e m h = cc
 
+-- equal maps
 spelled_is : (m m' : MapValue) → Spelled m ≡ Spelled m' → m ≡ m'
 spelled_is m m' h = cc
 
+-- the text ends with this map
 ended_is : (o : Option MapValue) (q : ℕ) (m : MapValue) → ended o q ≡ Spelled m → o ≡ Some m
 ended_is (Some x) q m h = ap Some (spelled_is x m h)
 ended_is None q m h = absurd (faulty _ _ _ _ h)
@@ -41,18 +49,22 @@ record Runs (s : State) (ts : Tokens) (m : MapValue) : Type 0 where
   whole : behind ts ≡ Ok end
   map : at_end last ≡ Some m
 
+-- what the machine spells it went through
 runs : (s : State) (ts : Tokens) (m : MapValue) → judge s ts ≡ Spelled m → Runs s ts m
 unfolding list_of behind
-runs s (Ends q) m h = record { last = s; end = q; steps = refl; whole = refl; map = ended_is (at_end s) q m (sym (judge_ends s q) ∙ h) }
+runs s (Ends q) m h =
+    record { last = s; end = q; steps = refl; whole = refl; map = ended_is (at_end s) q m (sym (judge_ends s q) ∙ h) }
 runs s (Stops f q) m h = absurd (faulty _ _ _ _ (sym (judge_stops s f q) ∙ h))
 runs s (Then t ts) m h = go (accept s (item_of t)) refl (λ s'. runs s' ts m)
   where
-    go : (r : Result State TextFaultKind) → accept s (item_of t) ≡ r → ((s' : State) → judge s' ts ≡ Spelled m → Runs s' ts m) → Runs s (Then t ts) m
+    go : (r : Result State TextFaultKind) → accept s (item_of t) ≡ r
+        → ((s' : State) → judge s' ts ≡ Spelled m → Runs s' ts m) → Runs s (Then t ts) m
     go (Ok s') e ih =
         let r = ih s' (sym (judge_then s s' t ts e) ∙ h) in
         record { last = r.last; end = r.end; steps = rw e r.steps; whole = r.whole; map = r.map }
     go (Err f) e ih = absurd (faulty _ _ _ _ (sym (judge_refused s f t ts e) ∙ h))
 
+-- what the machine goes through it spells
 judged : (s : State) (ts : Tokens) (m : MapValue) → Runs s ts m → judge s ts ≡ Spelled m
 unfolding list_of behind
 judged s (Ends q) m r = judge_ends s q ∙ ap (λ o. ended o q) (ap at_end (ok_is _ _ r.steps) ∙ r.map)
@@ -68,29 +80,52 @@ judged s (Then t ts) m r = go (accept s (item_of t)) refl (λ s'. judged s' ts m
     never : (f : TextFaultKind) (y : State) → ◌≡◌ {A = Result State TextFaultKind} (Err f) (Ok y) → ⊥
     never f y h = cc
 
-    go : (a : Result State TextFaultKind) → accept s (item_of t) ≡ a → ((s' : State) → Runs s' ts m → judge s' ts ≡ Spelled m) → judge s (Then t ts) ≡ Spelled m
-    go (Ok s') e ih = judge_then s s' t ts e ∙ ih s' (record { last = r.last; end = r.end; steps = rw e at r.steps; whole = r.whole; map = r.map })
+    go : (a : Result State TextFaultKind) → accept s (item_of t) ≡ a
+        → ((s' : State) → Runs s' ts m → judge s' ts ≡ Spelled m) → judge s (Then t ts) ≡ Spelled m
+    go (Ok s') e ih =
+        judge_then s s' t ts e ∙ ih s' (record {
+          last = r.last;
+          end = r.end;
+          steps = rw e at r.steps;
+          whole = r.whole;
+          map = r.map;
+        })
     go (Err f) e ih = absurd (never f r.last (rw e at r.steps))
 
+-- a text begins with the empty map
 starts : at_end start ≡ Some empty_map
 unfolding at_end
 starts = refl
 
+-- what the machine spells is what the definitions spell
 pub spells_from : (text : List ℕ) (m : MapValue) → verdict text ≡ Spelled m → Spells text m
 spells_from text m h =
     let r = runs start (split 0 0 text) m h in
-    let row = row_at_end (items text) r.last.map r.last.place m (stands_after [] (items text) start r.last stands_first r.steps) r.map in
+    let row = row_at_end (items text) r.last.map r.last.place m
+    (stands_after [] (items text) start r.last stands_first r.steps) r.map in
     record { definitions = row.0; row = row.1; end = r.end; whole = r.whole; map = row.2 ∙ puts_are row.0 }
 
+-- and the other way
 pub spells_to : (text : List ℕ) (m : MapValue) → Spells text m → verdict text ≡ Spelled m
 spells_to text m s =
     let r = row_defined start empty_map (items text) s.definitions s.row starts in
-    judged start (split 0 0 text) m (record { last = r.0; end = s.end; steps = r.1; whole = s.whole; map = r.2 ∙ ap Some (puts_are s.definitions ∙ sym s.map) })
+    judged start (split 0 0 text) m (record {
+      last = r.0;
+      end = s.end;
+      steps = r.1;
+      whole = s.whole;
+      map = r.2
+          ∙ ap Some (puts_are s.definitions ∙ sym s.map);
+    })
 
-pub fault_from : (text : List ℕ) (f : TextFaultKind) (q : ℕ) (e : Bool) → verdict text ≡ Faulty f q e → fault_of text ≡ Some (record { kind = f; offset = q; early = e })
+-- the machine's fault is that of the definitions
+pub fault_from : (text : List ℕ) (f : TextFaultKind) (q : ℕ) (e : Bool) → verdict text ≡ Faulty f q e
+    → fault_of text ≡ Some (record { kind = f; offset = q; early = e })
 fault_from text f q e h = sym (fault_is text) ∙ ap found_of h
 
-pub fault_to : (text : List ℕ) (f : TextFaultKind) (q : ℕ) (e : Bool) → fault_of text ≡ Some (record { kind = f; offset = q; early = e }) → verdict text ≡ Faulty f q e
+-- and the other way
+pub fault_to : (text : List ℕ) (f : TextFaultKind) (q : ℕ) (e : Bool)
+    → fault_of text ≡ Some (record { kind = f; offset = q; early = e }) → verdict text ≡ Faulty f q e
 fault_to text f q e h = go (verdict text) (fault_is text ∙ h)
   where
     go : (v : Verdict) → found_of v ≡ Some (record { kind = f; offset = q; early = e }) → v ≡ Faulty f q e
@@ -100,7 +135,9 @@ fault_to text f q e h = go (verdict text) (fault_is text ∙ h)
         never x h = cc
     go (Faulty f' q' e') k = same f' q' e' k
       where
-        same : (f' : TextFaultKind) (q' : ℕ) (e' : Bool) → ◌≡◌ {A = Option Found} (Some (record { kind = f'; offset = q'; early = e' })) (Some (record { kind = f; offset = q; early = e })) → Faulty f' q' e' ≡ Faulty f q e
+        same : (f' : TextFaultKind) (q' : ℕ) (e' : Bool)
+            → ◌≡◌ {A = Option Found} (Some (record { kind = f'; offset = q'; early = e' }))
+            (Some (record { kind = f; offset = q; early = e })) → Faulty f' q' e' ≡ Faulty f q e
         same f' q' e' k = ap (λ (x : Found). Faulty x.kind x.offset x.early) (some_is _ _ k)
           where
             some_is : (x y : Found) → Some x ≡ Some y → x ≡ y
@@ -115,45 +152,67 @@ tokens_then : List Token → Tokens
 tokens_then [] = Ends 0
 tokens_then (t ∷ ts) = Then t (tokens_then ts)
 
+-- tokens of a list
 listed : (ts : List Token) → list_of (tokens_then ts) ≡ ts
 unfolding tokens_then list_of
 listed [] = refl
 listed (t ∷ ts) = ap (λ ts. t ∷ ts) (listed ts)
 
+-- nothing stands behind them
 behind_is : (ts : List Token) → behind (tokens_then ts) ≡ Ok 0
 unfolding tokens_then behind
 behind_is [] = refl
 behind_is (t ∷ ts) = behind_is ts
 
+-- the end of such tokens
 ended_at : (ts : List Token) → found_of (judge start (tokens_then ts)) ≡ found_in (leads AtDefinition ts) (Ok 0)
-ended_at ts = same_fault start (tokens_then ts) ∙ ap₂ (λ ts r. found_in (leads AtDefinition ts) r) (listed ts) (behind_is ts)
+ended_at ts =
+    same_fault start (tokens_then ts) ∙ ap₂ (λ ts r. found_in (leads AtDefinition ts) r) (listed ts) (behind_is ts)
 
-pub row_of : (ts : List Token) (p : Place) → leads AtDefinition ts ≡ Ok p → may_end p ≡ true → (ds : List Definition) × IsRow (map item_of ts) ds
+-- tokens that lead to a place where a text may end are a row
+pub row_of : (ts : List Token) (p : Place) → leads AtDefinition ts ≡ Ok p → may_end p ≡ true
+    → (ds : List Definition) × IsRow (map item_of ts) ds
 row_of ts p h e = go (judge start (tokens_then ts)) refl
   where
     none : found_of (judge start (tokens_then ts)) ≡ None
-    none = ended_at ts ∙ ap (λ r. found_in r (Ok 0)) h ∙ ap (λ b. cond {A = Option Found} b None (Some (record { kind = faults.EndInside; offset = 0; early = false }))) e
+    none = ended_at ts ∙ ap (λ r. found_in r (Ok 0)) h
+        ∙ ap (λ b. cond {A = Option Found} b None
+        (Some (record { kind = faults.EndInside; offset = 0; early = false }))) e
 
     go : (v : Verdict) → judge start (tokens_then ts) ≡ v → (ds : List Definition) × IsRow (map item_of ts) ds
     go (Spelled m) k =
         let r = runs start (tokens_then ts) m k in
-        let row = row_at_end (items_of (tokens_then ts)) r.last.map r.last.place m (stands_after [] (items_of (tokens_then ts)) start r.last stands_first r.steps) r.map in
+        let row = row_at_end (items_of (tokens_then ts)) r.last.map r.last.place m
+        (stands_after [] (items_of (tokens_then ts)) start r.last stands_first r.steps) r.map in
         (row.0, subst (λ (ts : List Token). IsRow (map item_of ts) row.0) (listed ts) row.1)
     go (Faulty f q b) k = absurd (never _ (sym (ap found_of k) ∙ none))
       where
         never : (x : Found) → Some x ≡ None → ⊥
         never x h = cc
 
-pub accepted_of : (ts : List Token) (ds : List Definition) → IsRow (map item_of ts) ds → (p : Place) × (leads AtDefinition ts ≡ Ok p) × (may_end p ≡ true)
+-- a row leads to a place where a text may end
+pub accepted_of : (ts : List Token) (ds : List Definition) → IsRow (map item_of ts) ds
+    → (p : Place) × (leads AtDefinition ts ≡ Ok p) × (may_end p ≡ true)
 accepted_of ts ds row =
     let r = row_defined start empty_map (map item_of ts) ds row starts in
-    let m : judge start (tokens_then ts) ≡ Spelled (puts empty_map ds) = judged start (tokens_then ts) (puts empty_map ds) (record { last = r.0; end = 0; steps = subst (λ (ts : List Token). steps start (map item_of ts) ≡ Ok r.0) (sym (listed ts)) r.1; whole = behind_is ts; map = r.2 }) in
+    let m : judge start (tokens_then ts) ≡ Spelled (puts empty_map ds) =
+    judged start (tokens_then ts) (puts empty_map ds)
+    (record {
+      last = r.0;
+      end = 0;
+      steps = subst (λ (ts : List Token). steps start (map item_of ts) ≡ Ok r.0)
+          (sym (listed ts)) r.1;
+      whole = behind_is ts;
+      map = r.2;
+    }) in
     go (leads AtDefinition ts) refl (sym (ended_at ts) ∙ ap found_of m)
   where
-    go : (l : Result Place (TextFaultKind × Token)) → leads AtDefinition ts ≡ l → found_in l (Ok 0) ≡ None → (p : Place) × (leads AtDefinition ts ≡ Ok p) × (may_end p ≡ true)
+    go : (l : Result Place (TextFaultKind × Token)) → leads AtDefinition ts ≡ l → found_in l (Ok 0) ≡ None
+        → (p : Place) × (leads AtDefinition ts ≡ Ok p) × (may_end p ≡ true)
     go (Ok p) e h = (p, e, ends (may_end p) h)
       where
-        ends : (b : Bool) → cond {A = Option Found} b None (Some (record { kind = faults.EndInside; offset = 0; early = false })) ≡ None → b ≡ true
+        ends : (b : Bool) → cond {A = Option Found} b None (Some (record
+            { kind = faults.EndInside; offset = 0; early = false })) ≡ None → b ≡ true
         ends true h = refl
         ends false h = absurd (never _ h)
           where
@@ -168,50 +227,69 @@ accepted_of ts ds row =
 pub one_map : (text : List ℕ) (m n : MapValue) → Spells text m → Spells text n → m ≡ n
 one_map text m n s t = spelled_is m n (sym (spells_to text m s) ∙ spells_to text n t)
 
+-- no text spells a map and has a fault
 pub not_both : (text : List ℕ) (m : MapValue) (f : TextFault) → Spells text m → Fault text f → ⊥
 not_both text m f s (e, h) = never _ (sym (fault_or_map text m s) ∙ h.0)
   where
     never : (x : Found) → None ≡ Some x → ⊥
     never x h = cc
 
-pub one_fault : (text : List ℕ) (f g : TextFault) → Fault text f → Fault text g → (f.kind ≡ g.kind) × (f.offset ≡ g.offset) × (f.line ≡ g.line)
+-- a text has one fault at most
+pub one_fault : (text : List ℕ) (f g : TextFault) → Fault text f → Fault text g
+    → (f.kind ≡ g.kind) × (f.offset ≡ g.offset) × (f.line ≡ g.line)
 one_fault text f g (e, h) (d, k) =
-    let same : record { kind = f.kind; offset = f.offset; early = e } ≡ record { kind = g.kind; offset = g.offset; early = d } = some_is _ _ (sym h.0 ∙ k.0) in
-    (ap (λ (x : Found). x.kind) same, ap (λ (x : Found). x.offset) same, h.1 ∙ ap (λ (x : Found). line text x.offset) same ∙ sym k.1)
+    let same : record { kind = f.kind; offset = f.offset; early = e }
+    ≡ record { kind = g.kind; offset = g.offset; early = d } = some_is _ _ (sym h.0 ∙ k.0) in (
+      ap (λ (x : Found). x.kind) same,
+      ap (λ (x : Found). x.offset) same,
+      h.1
+          ∙ ap (λ (x : Found). line text x.offset) same ∙ sym k.1,
+    )
   where
     some_is : (x y : Found) → Some x ≡ Some y → x ≡ y
     some_is x y h = cc
 
+-- a text spells a map or has a fault
 pub one_of_them : (text : List ℕ) → ((m : MapValue) × Spells text m) ⊎ ((f : TextFault) × Fault text f)
 one_of_them text = go (verdict text) refl
   where
     go : (v : Verdict) → verdict text ≡ v → ((m : MapValue) × Spells text m) ⊎ ((f : TextFault) × Fault text f)
     go (Spelled m) h = inl (m, spells_from text m h)
-    go (Faulty f q e) h = inr (record { offset = q; line = line text q; kind = f }, (e, (fault_from text f q e h, refl)))
+    go (Faulty f q e) h =
+        inr (record { offset = q; line = line text q; kind = f }, (e, (fault_from text f q e h, refl)))
 
 -- a fault stands within the text
-within : (o : Option MapValue) (q r : ℕ) (f : TextFaultKind) (o' : ℕ) (e : Bool) → q ≤ r → ended o q ≡ Faulty f o' e → o' ≤ r
+within : (o : Option MapValue) (q r : ℕ) (f : TextFaultKind) (o' : ℕ) (e : Bool) → q ≤ r → ended o q ≡ Faulty f o' e
+    → o' ≤ r
 within (Some m) q r f o' e l h = absurd (faulty f o' e m (sym h))
 within None q r f o' e l h = subst (λ n. n ≤ r) (offset_of _ _ _ _ _ _ h) l
   where
     offset_of : (f f' : TextFaultKind) (o o' : ℕ) (e e' : Bool) → Faulty f o e ≡ Faulty f' o' e' → o ≡ o'
     offset_of f f' o o' e e' h = cc
 
+-- equal faults have one place
 same_offset : (f f' : TextFaultKind) (o o' : ℕ) (e e' : Bool) → Faulty f o e ≡ Faulty f' o' e' → o ≡ o'
 same_offset f f' o o' e e' h = cc
 
+-- no bytes have no tokens
 split_empty : (k q : ℕ) → split k q [] ≡ Ends q
 unfolding split
 split_empty zero q = refl
 split_empty (suc k) q = refl
 
-fits : (bytes : List ℕ) (s : State) (k q : ℕ) (f : TextFaultKind) (o : ℕ) (e : Bool) → judge s (split k q bytes) ≡ Faulty f o e → o ≤ q + length bytes
-fits [] s k q f o e h = within (at_end s) q (q + 0) f o e (omega arith) (sym (judge_ends s q) ∙ sym (ap (judge s) (split_empty k q)) ∙ h)
-fits (c ∷ bytes) s (suc k) q f o e h = let i = fits bytes s k (q + 1) f o e (sym (ap (judge s) (split_one k q c bytes)) ∙ h) in omega (arith, i)
+-- a fault stands in the bytes or at their end
+fits : (bytes : List ℕ) (s : State) (k q : ℕ) (f : TextFaultKind) (o : ℕ) (e : Bool)
+    → judge s (split k q bytes) ≡ Faulty f o e → o ≤ q + length bytes
+fits [] s k q f o e h =
+    within (at_end s) q (q + 0) f o e (omega arith) (sym (judge_ends s q) ∙ sym (ap (judge s) (split_empty k q)) ∙ h)
+fits (c ∷ bytes) s (suc k) q f o e h = let i =
+    fits bytes s k (q + 1) f o e (sym (ap (judge s) (split_one k q c bytes)) ∙ h) in omega (arith, i)
 fits (c ∷ bytes) s zero q f o e h = go (front c bytes) refl (fits bytes)
   where
-    go : (r : Front) → front c bytes ≡ r → ((s : State) (k q : ℕ) (f : TextFaultKind) (o : ℕ) (e : Bool) → judge s (split k q bytes) ≡ Faulty f o e → o ≤ q + length bytes) → o ≤ q + suc (length bytes)
-    go (Skipped n) a ih = let i = ih s n (q + 1) f o e (sym (ap (judge s) (split_skipped q c n bytes a)) ∙ h) in omega (arith, i)
+    go : (r : Front) → front c bytes ≡ r → ((s : State) (k q : ℕ) (f : TextFaultKind) (o : ℕ) (e : Bool)
+        → judge s (split k q bytes) ≡ Faulty f o e → o ≤ q + length bytes) → o ≤ q + suc (length bytes)
+    go (Skipped n) a ih = let i =
+        ih s n (q + 1) f o e (sym (ap (judge s) (split_skipped q c n bytes a)) ∙ h) in omega (arith, i)
     go (lexical.Found kind n) a ih = token (accept s (item_of t)) refl
       where
         t : Token
@@ -222,17 +300,30 @@ fits (c ∷ bytes) s zero q f o e h = go (front c bytes) refl (fits bytes)
 
         token : (r : Result State TextFaultKind) → accept s (item_of t) ≡ r → o ≤ q + suc (length bytes)
         token (Ok s') b = let i = ih s' n (q + 1) f o e (sym (judge_then s s' t _ b) ∙ here) in omega (arith, i)
-        token (Err g) b = let i : q ≡ o = same_offset _ _ _ _ _ _ (sym (judge_refused s g t _ b) ∙ here) in omega (arith, i)
-    go (Refused g) a ih = let i : q ≡ o = same_offset _ _ _ _ _ _ (sym (judge_stops s g q) ∙ sym (ap (judge s) (split_refused q c g bytes a)) ∙ h) in omega (arith, i)
-    go Unfinished a ih = let i : q + 1 + length bytes ≡ o = same_offset _ _ _ _ _ _ (sym (judge_stops s faults.EndInside (q + 1 + length bytes)) ∙ sym (ap (judge s) (split_unfinished q c bytes a)) ∙ h) in omega (arith, i)
+        token (Err g) b = let i : q ≡ o =
+            same_offset _ _ _ _ _ _ (sym (judge_refused s g t _ b) ∙ here) in omega (arith, i)
+    go (Refused g) a ih = let i : q ≡ o =
+        same_offset _ _ _ _ _ _ (sym (judge_stops s g q) ∙ sym (ap (judge s) (split_refused q c g bytes a)) ∙ h) in
+        omega (arith, i)
+    go Unfinished a ih = let i : q + 1 + length bytes ≡ o =
+        same_offset _ _ _ _ _ _ (sym (judge_stops s faults.EndInside (q + 1 + length bytes))
+        ∙ sym (ap (judge s) (split_unfinished q c bytes a)) ∙ h) in omega (arith, i)
 
-pub fault_within : (text : List ℕ) (f : TextFaultKind) (o : ℕ) (e : Bool) → verdict text ≡ Faulty f o e → o ≤ length text
+-- a fault stands in the text or at its end
+pub fault_within : (text : List ℕ) (f : TextFaultKind) (o : ℕ) (e : Bool) → verdict text ≡ Faulty f o e
+    → o ≤ length text
 fault_within text f o e h = omega (arith, fits text start 0 0 f o e h)
 
+-- more bytes behind change no line before
 pub line_stays : (text more : List ℕ) (o : ℕ) → o ≤ length text → line text o ≡ line (text ++ more) o
-line_stays text more o h = ap (λ (bytes : List ℕ). 1 + count_by (λ c. c == 10) bytes) (sym (take-append-le o text more h))
+line_stays text more o h =
+    ap (λ (bytes : List ℕ). 1 + count_by (λ c. c == 10) bytes) (sym (take-append-le o text more h))
 
+-- an early fault stays in every text that begins so
 pub early_stays_in : (text more : List ℕ) (f : TextFault) → Early text f → Early (text ++ more) f
 early_stays_in text more f (h, l) =
-    let v : verdict text ≡ Faulty f.kind f.offset true = fault_to text f.kind f.offset true h in
-    (fault_from (text ++ more) f.kind f.offset true (early_from text more f.kind f.offset v), l ∙ line_stays text more f.offset (fault_within text f.kind f.offset true v))
+    let v : verdict text ≡ Faulty f.kind f.offset true = fault_to text f.kind f.offset true h in (
+      fault_from (text ++ more) f.kind f.offset true (early_from text more f.kind f.offset v),
+      l
+          ∙ line_stays text more f.offset (fault_within text f.kind f.offset true v),
+    )

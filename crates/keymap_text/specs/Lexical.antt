@@ -1,6 +1,8 @@
 -- How bytes are split into tokens. Blanks and comments separate; a parenthesis, a quoted character and a word are
 -- tokens.
-use Rattle.std.specs.Prelude.{ℕ, zero, suc, ◌+◌, Bool, true, false, if◌then◌else◌, not, ◌==◌, ◌&&◌, ◌||◌, nat_lt, nat_le, List, [], ◌∷◌, length, take, drop, Option, Some, None, Result, Ok, Err, slice_index}
+use Rattle.std.specs.Prelude.{ℕ, zero, suc, ◌+◌, Bool, true, false, if◌then◌else◌, not, ◌==◌, ◌&&◌, ◌||◌, nat_lt}
+use Rattle.std.specs.Prelude.{nat_le, List, [], ◌∷◌, length, take, drop, Option, Some, None, Result, Ok, Err}
+use Rattle.std.specs.Prelude.{slice_index}
 use Rattle.std.specs.Char.{is_ascii_alphanumeric}
 use Rattle.bstr.specs.Utf8.{decoded, Decoded}
 use Rattle.keymap_text.specs.declared.fault.TextFaultKind.{TextFaultKind}
@@ -44,7 +46,11 @@ pub data Front : Type 0 where
 
 -- the quoted character, where these bytes stand after the first apostrophe; c is their first character, of n bytes
 abbrev pub closing : ℕ → ℕ → List ℕ → Front
-closing c n bytes = if c == 10 then Refused BadLiteral else if nat_le (length bytes) n then Unfinished else if slice_index bytes n == 39 then Found (Literal c) (n + 1) else Refused BadLiteral
+closing c n bytes =
+    if c == 10 then Refused BadLiteral
+    else if nat_le (length bytes) n then Unfinished
+    else if slice_index bytes n == 39 then Found (Literal c) (n + 1)
+    else Refused BadLiteral
 
 -- the same where no character stands first, though the first n bytes may begin one
 abbrev pub unclosed : ℕ → List ℕ → Front
@@ -66,7 +72,13 @@ word n = if nat_lt n 32 then Found Word n else Refused BadWord
 
 unfoldable pub front : ℕ → List ℕ → Front
 front c bytes =
-    if is_blank c then Skipped 0 else if c == 35 then Skipped (leading stays_on_line bytes) else if c == 40 then Found ParenL 0 else if c == 41 then Found ParenR 0 else if c == 39 then literal bytes else if is_word c then word (leading is_word bytes) else Refused BadByte
+    if is_blank c then Skipped 0
+    else if c == 35 then Skipped (leading stays_on_line bytes)
+    else if c == 40 then Found ParenL 0
+    else if c == 41 then Found ParenR 0
+    else if c == 39 then literal bytes
+    else if is_word c then word (leading is_word bytes)
+    else Refused BadByte
 
 -- a token, with its bytes and its place in the text, and whether the text ends after it
 pub record Token : Type 0 where
@@ -91,7 +103,8 @@ split k q [] = Ends q
 split (suc k) q (c ∷ bytes) = split k (q + 1) bytes
 split zero q (c ∷ bytes) = elim (front c bytes) [
   | Skipped n ↦ split n (q + 1) bytes
-  | Found kind n ↦ Then (record { kind = kind; bytes = c ∷ take n bytes; start = q; last = is_empty (drop n bytes) }) (split n (q + 1) bytes)
+  | Found kind n ↦ Then (record { kind = kind; bytes = c ∷ take n bytes; start = q; last = is_empty (drop n bytes) })
+      (split n (q + 1) bytes)
   | Refused f ↦ Stops f q
   | Unfinished ↦ Stops EndInside (q + 1 + length bytes)
 ]

@@ -1,15 +1,35 @@
 -- What a text says: the map that it spells, or its fault.
-use Rattle.std.specs.Prelude.{◌≡◌, ℕ, Bool, true, false, if◌then◌else◌, not, List, [], ◌∷◌, map, Option, Some, None, Result, Ok, Err}
+use Rattle.std.specs.Prelude.{◌≡◌, ℕ, ◌+◌, ◌==◌, Bool, true, false, if◌then◌else◌, not, ◌&&◌, List, [], ◌∷◌, map, take}
+use Rattle.std.specs.Prelude.{count_by, Option, Some, None, Result, Ok, Err, ⊤}
 use Rattle.keymap_text.specs.declared.fault.TextFaultKind.{TextFaultKind}
 use Rattle.keymap_text.specs.declared.fault.TextFaultKind.TheVariants as faults
 use Rattle.keymap_text.specs.declared.fault.TextFault.{TextFault}
+use Rattle.keymap_text.specs.declared.fault.TextError.{TextError}
+use Rattle.keymap_text.specs.declared.fault.TextError.TheVariants as errors
+use Rattle.keymap_text.specs.declared.token.TokenKind.{TokenKind}
+use Rattle.keymap_text.specs.declared.token.TokenKind.TheVariants as kinds
 use Rattle.keymap_text.specs.declared.words.Item.{Item}
 use Rattle.keymap_text.specs.Lexical.{Token, Tokens, Ends, Stops, Then, split}
 use Rattle.keymap_text.specs.Words.{item}
 use Rattle.keymap_core.specs.Maps.{MapValue}
 use Rattle.keymap_text.specs.Rows.{Definition, IsRow, map_of}
 use Rattle.keymap_text.specs.Places.{Place, AtDefinition, next, may_end}
-use Rattle.keymap_text.specs.Reading.{line, is_settled, is_end_inside}
+
+-- the line of a place: 1, and the LF bytes before it
+abbrev pub line : List ℕ → ℕ → ℕ
+line bytes place = 1 + count_by (λ c. c == 10) (take place bytes)
+
+abbrev pub is_word_kind : TokenKind → Bool
+is_word_kind kinds.Word = true
+is_word_kind _ = false
+
+abbrev pub is_end_inside : TextFaultKind → Bool
+is_end_inside faults.EndInside = true
+is_end_inside _ = false
+
+-- may more bytes change this token? those of a last word may
+abbrev pub is_settled : Token → Bool
+is_settled t = not (is_word_kind t.kind && t.last)
 
 -- the tokens in order, and what stands after them: the end of the text, or a fault with its place
 unfoldable pub list_of : Tokens → List Token
@@ -58,7 +78,8 @@ found_in (Err (f, t)) end = Some (record { kind = f; offset = t.start; early = i
 -- no token stands after the last
 found_in (Ok p) (Err (f, q)) = Some (record { kind = f; offset = q; early = not (is_end_inside f) })
 -- the text ends inside a definition
-found_in (Ok p) (Ok q) = if may_end p then None else Some (record { kind = faults.EndInside; offset = q; early = false })
+found_in (Ok p) (Ok q) =
+    if may_end p then None else Some (record { kind = faults.EndInside; offset = q; early = false })
 
 abbrev pub fault_of : List ℕ → Option Found
 fault_of text = found_in (leads AtDefinition (tokens text)) (ending text)
@@ -76,3 +97,22 @@ Early text f = FaultAt text f true
 -- the same token, but for whether the text ends after it
 abbrev pub IsSameToken : Token → Token → Type 0
 IsSameToken t u = (t.kind ≡ u.kind) × (t.bytes ≡ u.bytes) × (t.start ≡ u.start)
+
+-- what reading a text to its end answers
+abbrev pub Means : Result MapValue TextFault → List ℕ → Type 0
+Means (Ok m) text = Spells text m
+Means (Err f) text = Fault text f
+
+-- the same as an error of reading
+abbrev pub Concludes : Result MapValue TextError → List ℕ → Type 0
+Concludes (Ok m) text = Spells text m
+Concludes (Err errors.Memory) text = ⊥
+Concludes (Err (errors.Read f)) text = ⊥
+Concludes (Err (errors.Fault f)) text = Fault text f
+
+-- the same where the map may have been refused its memory
+abbrev pub Reads : Result MapValue TextError → List ℕ → Type 0
+Reads (Ok m) text = Spells text m
+Reads (Err errors.Memory) text = ⊤
+Reads (Err (errors.Read f)) text = ⊥
+Reads (Err (errors.Fault f)) text = Fault text f

@@ -1,5 +1,6 @@
 -- A text's row of definitions, and the map that the last definitions make.
-use Rattle.std.specs.Prelude.{◌≡◌, ◌≢◌, ℕ, ◌+◌, ◌<◌, ◌≤◌, if◌then◌else◌, ◌==◌, max, List, [], ◌∷◌, ◌++◌, length, map, Option, Some, None, Ok}
+use Rattle.std.specs.Prelude.{◌≡◌, ◌≢◌, ℕ, ◌+◌, ◌<◌, ◌≤◌, if◌then◌else◌, ◌==◌, max, List, [], ◌∷◌, ◌++◌, length, map}
+use Rattle.std.specs.Prelude.{Option, Some, None, Ok}
 use Rattle.std.specs.List.{range_with_len}
 use Rattle.std.specs.Option.{option_or}
 use Rattle.keymap_core.specs.declared.entry.Entry.{Entry}

@@ -1,5 +1,6 @@
 -- What a word means.
-use Rattle.std.specs.Prelude.{ℕ, ◌+◌, ◌*◌, Bool, if◌then◌else◌, not, ◌==◌, ◌&&◌, nat_lt, nat_le, List, [], ◌∷◌, ◌++◌, length, take, drop, map, fold, Option, Some, None, codes, bytes_eq}
+use Rattle.std.specs.Prelude.{ℕ, ◌+◌, ◌*◌, Bool, if◌then◌else◌, not, ◌==◌, ◌&&◌, nat_lt, nat_le, List, [], ◌∷◌, ◌++◌}
+use Rattle.std.specs.Prelude.{length, take, drop, map, fold, Option, Some, None, codes, bytes_eq}
 use Rattle.std.specs.List.{list_all}
 use Rattle.std.specs.Char.{to_ascii_lowercase, digit_value}
 use Rattle.keymap_text.specs.Lexical.{leading}
@@ -14,7 +15,8 @@ use Rattle.keymap_text.specs.declared.names.Name.{Name}
 use Rattle.keymap_text.specs.declared.names.Sense.{Sense}
 use Rattle.keymap_text.specs.declared.names.Sense.TheVariants as senses
 use Rattle.keymap_text.specs.declared.words.Meaning.{Meaning}
-use Rattle.keymap_text.specs.declared.words.Meaning.TheVariants.{Number, Char, Act, Combined, OutOfRange, Letter, Unknown}
+use Rattle.keymap_text.specs.declared.words.Meaning.TheVariants.{Number, Char, Act, Combined, OutOfRange, Letter}
+use Rattle.keymap_text.specs.declared.words.Meaning.TheVariants.{Unknown}
 use Rattle.keymap_text.specs.declared.words.Item.{Item}
 use Rattle.keymap_text.specs.declared.words.Item.TheVariants.{Open, Close, Value}
 
@@ -38,7 +40,8 @@ characters_from c (name ∷ names) = (name, Char c) ∷ characters_from (c + 1) 
 abbrev pub more_names : List (List ℕ × Meaning)
 more_names =
     (codes "del", Char 127) ∷ (codes "lf", Char 10) ∷ (codes "np", Char 12) ∷ (codes "us", Char 31)
-    ∷ (codes "o", Letter flags.O) ∷ (codes "c", Letter flags.C) ∷ (codes "n", Letter flags.N) ∷ (codes "b", Letter flags.B) ∷ []
+    ∷ (codes "o", Letter flags.O) ∷ (codes "c", Letter flags.C) ∷ (codes "n", Letter flags.N)
+    ∷ (codes "b", Letter flags.B) ∷ []
 
 abbrev pub table : List (List ℕ × Meaning)
 table = characters_from 0 control_names ++ more_names
@@ -94,7 +97,10 @@ digits_of base w = if nat_lt 0 (length w) && list_all (is_digit base) w then Som
 
 -- the number after a prefix
 abbrev pub number_after : List ℕ → ℕ → List ℕ → Option ℕ
-number_after prefix base w = if nat_le (length prefix) (length w) && same_name prefix (take (length prefix) w) then digits_of base (drop (length prefix) w) else None
+number_after prefix base w =
+    if nat_le (length prefix) (length w) && same_name prefix (take (length prefix) w)
+    then digits_of base (drop (length prefix) w)
+    else None
 
 -- what a name of the actions means
 abbrev pub of_action : Named → Meaning
@@ -107,7 +113,10 @@ of_action n.Unknown = Unknown
 unfoldable pub meaning : List ℕ → Meaning
 meaning w = elim (digits_of 10 w) [
   | Some n ↦ Number n
-  | None ↦ elim (number_after (codes "0x") 16 w) [ Some n ↦ Number n | None ↦ elim (named table w) [ Some m ↦ m | None ↦ of_action (named_of w) ] ]
+  | None ↦ elim (number_after (codes "0x") 16 w) [
+    | Some n ↦ Number n
+    | None ↦ elim (named table w) [ Some m ↦ m | None ↦ of_action (named_of w) ]
+  ]
 ]
 
 -- what a token means

@@ -2,9 +2,9 @@
 ghost use Rattle.std.specs.Prelude.{◌≡◌, ◌<◌, Ok, Err, Result, OnOk, length, if◌then◌else◌, IfSome, ◌≢◌};
 ghost use lib.Utf8.{scalar};
 ghost use Rattle.keymap_core.specs.Maps.{with_accent};
-ghost use Rattle.keymap_text.specs.Views.{Steps, Leads, state_view, place_view, IsPlace};
+ghost use Rattle.keymap_text.specs.Inner.Views.{Steps, Leads, state_view, place_view, IsPlace};
 ghost use Rattle.keymap_text.specs.Items as items;
-ghost use Rattle.keymap_text.specs.Grammar as spec;
+ghost use Rattle.keymap_text.specs.Inner.Grammar as spec;
 
 use crate::fault::TextFaultKind;
 use crate::words::{Item, Meaning};
@@ -141,7 +141,8 @@ impl Grammar {
     #[inline(always)]
     pub(crate) fn accept(&mut self, item: &Item) -> Result<(), TextFaultKind>
         requires { IsPlace self.old.place self.old.accent }
-        ensures steps { Steps result (spec.step self.old.map (place_view self.old.place self.old.entry self.old.accent) item.now) (state_view self.new) }
+        ensures steps { Steps result (spec.step self.old.map (place_view self.old.place self.old.entry self.old.accent)
+            item.now) (state_view self.new) }
         ensures place { OnOk result (IsPlace self.new.place self.new.accent) }
     {
         match self.place {
@@ -175,7 +176,8 @@ impl Grammar {
     #[inline(always)]
     pub(crate) fn cell(&mut self, slot: u8, index: u8, item: &Item) -> Result<(), TextFaultKind>
         requires { index < 8 }
-        ensures steps { Steps result (spec.step self.old.map (spec.CellAt slot index self.old.entry) item.now) (state_view self.new) }
+        ensures steps { Steps result (spec.step self.old.map (spec.CellAt slot index self.old.entry) item.now)
+            (state_view self.new) }
         ensures place { OnOk result (IsPlace self.new.place self.new.accent) }
     {
         let cell = cell_of(item)?;
@@ -193,7 +195,8 @@ impl Grammar {
 
     #[inline(always)]
     fn lock(&mut self, slot: u8, item: &Item) -> Result<(), TextFaultKind>
-        ensures steps { Steps result (spec.step self.old.map (spec.LockAt slot self.old.entry) item.now) (state_view self.new) }
+        ensures steps { Steps result (spec.step self.old.map (spec.LockAt slot self.old.entry) item.now)
+            (state_view self.new) }
         ensures place { OnOk result (IsPlace self.new.place self.new.accent) }
     {
         let flag = lock_of(item)?;
@@ -206,7 +209,8 @@ impl Grammar {
     #[inline(always)]
     fn accent_character(&mut self, index: u8, item: &Item) -> Result<(), TextFaultKind>
         requires { index < 15 }
-        ensures steps { Steps result (spec.step self.old.map (spec.AccentCharacter index) item.now) (state_view self.new) }
+        ensures steps { Steps result (spec.step self.old.map (spec.AccentCharacter index) item.now)
+            (state_view self.new) }
         ensures place { OnOk result (IsPlace self.new.place self.new.accent) }
     {
         let own = character_of(item)?;
@@ -218,7 +222,8 @@ impl Grammar {
     #[inline(always)]
     fn after_accent(&mut self, index: u8, item: &Item) -> Result<(), TextFaultKind>
         requires { index < 15 }
-        ensures steps { Steps result (spec.step self.old.map (spec.AfterAccent index self.old.accent) item.now) (state_view self.new) }
+        ensures steps { Steps result (spec.step self.old.map (spec.AfterAccent index self.old.accent) item.now)
+            (state_view self.new) }
         ensures place { OnOk result (IsPlace self.new.place self.new.accent) }
     {
         if let Item::Open = item {
@@ -249,7 +254,8 @@ impl Grammar {
     fn pair_base(&mut self, index: u8, item: &Item) -> Result<(), TextFaultKind>
         requires index { index < 15 }
         requires room { length self.old.accent.pairs < 52 }
-        ensures steps { Steps result (spec.step self.old.map (spec.PairBase index self.old.accent) item.now) (state_view self.new) }
+        ensures steps { Steps result (spec.step self.old.map (spec.PairBase index self.old.accent) item.now)
+            (state_view self.new) }
         ensures place { OnOk result (IsPlace self.new.place self.new.accent) }
     {
         let base = character_of(item)?;
@@ -265,7 +271,8 @@ impl Grammar {
         requires index { index < 15 }
         requires room { length self.old.accent.pairs < 52 }
         requires base { base ≢ 0 }
-        ensures steps { Steps result (spec.step self.old.map (spec.PairResult index self.old.accent base) item.now) (state_view self.new) }
+        ensures steps { Steps result (spec.step self.old.map (spec.PairResult index self.old.accent base) item.now)
+            (state_view self.new) }
         ensures place { OnOk result (IsPlace self.new.place self.new.accent) }
     {
         let result = character_of(item)?;
@@ -288,7 +295,8 @@ impl Grammar {
         requires index { index < 15 }
         requires room { length self.old.accent.pairs < 52 }
         requires base { base ≢ 0 }
-        ensures steps { Steps result (spec.step self.old.map (spec.PairEnd index self.old.accent base composed) item.now) (state_view self.new) }
+        ensures steps { Steps result (spec.step self.old.map (spec.PairEnd index self.old.accent base composed)
+            item.now) (state_view self.new) }
         ensures place { OnOk result (IsPlace self.new.place self.new.accent) }
     {
         let Item::Close = item else {

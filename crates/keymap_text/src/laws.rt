@@ -1,15 +1,30 @@
 //! Laws of the definitions. No function here does anything.
-ghost use Rattle.std.specs.Prelude.{◌≡◌, ℕ, ◌<◌, List, ◌++◌, true, false, length, slice_index_or, map, Ok, Err, ◌⊎◌};
-ghost use Rattle.keymap_text.specs.Lexical.{Token};
+ghost use Rattle.std.specs.Prelude.{◌≡◌, ℕ, ◌<◌, List, ◌∷◌, ◌++◌, ◌+◌, true, false, length, slice_index_or, map, Some};
+ghost use Rattle.std.specs.Prelude.{Ok, Err, ◌⊎◌};
+ghost use Rattle.keymap_text.specs.Lexical.{Token, first, split};
+ghost use Rattle.keymap_text.specs.Quoted.{IsQuoted, BeginsQuoted, IsUnfinished, IsReason, quoted_token};
 ghost use Rattle.keymap_text.specs.Meaning.{Spells, Fault, Early, item_of, leads, tokens, ending, IsSameToken};
 ghost use Rattle.keymap_core.specs.Maps.{MapValue};
 ghost use Rattle.keymap_text.specs.Rows.{Definition, IsRow};
 ghost use Rattle.keymap_core.specs.Bounds.{IsMap};
 ghost use Rattle.keymap_text.specs.Printed.{printed};
 ghost use Rattle.keymap_text.specs.Places.{Place, AtDefinition, may_end};
-ghost use Rattle.keymap_text.specs.Reading.{is_settled, is_end_inside};
+ghost use Rattle.keymap_text.specs.Meaning.{is_settled, is_end_inside};
 ghost use Rattle.keymap_text.specs.declared.fault.TextFault.{TextFault as Found};
 ghost use Rattle.keymap_text.specs.declared.fault.TextFaultKind.{TextFaultKind as Kind};
+
+/// A quoted character is an apostrophe, one character, and an apostrophe. The character is the UTF-8 of one other than
+/// LF, or one byte from 0x80 on. It is found exactly if such bytes stand in front; it is unfinished, a fault at the end
+/// of the bytes, exactly if all bytes from the apostrophe on are the beginning of one; and it is refused else.
+pub fn quoted_characters()
+    ensures found { (q c : ℕ) (bytes more : List ℕ) → IsQuoted c bytes
+        → first (split 0 q (bytes ++ more)) ≡ Ok (Some (quoted_token q c bytes more)) }
+    ensures unfinished { (q : ℕ) (bytes : List ℕ) → 0 < length bytes → IsUnfinished bytes
+        → first (split 0 q bytes) ≡ Err (Kind.EndInside, q + length bytes) }
+    ensures refused { (q : ℕ) (rest : List ℕ) → ¬ BeginsQuoted (39 ∷ rest) → ¬ IsUnfinished (39 ∷ rest)
+        → first (split 0 q (39 ∷ rest)) ≡ Err (Kind.BadLiteral, q) }
+    ensures only_then { (q : ℕ) (rest : List ℕ) → IsReason (39 ∷ rest) (first (split 0 q (39 ∷ rest))) }
+{}
 
 /// The places accept tokens up to a place where a text may end exactly if these are a row of definitions.
 pub fn rows_are_accepted()

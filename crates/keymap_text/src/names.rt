@@ -1,10 +1,11 @@
 //! The names of characters, lock letters and actions: one table, by which words are read and control characters are
 //! printed.
-ghost use Rattle.std.specs.Prelude.{◌≡◌, ◌==◌, ◌⊎◌, ◌≤◌, ◌<◌, if◌then◌else◌, All, IfSome, length, map, take, Some, None};
+ghost use Rattle.std.specs.Prelude.{◌≡◌, ◌==◌, ◌⊎◌, ◌≤◌, ◌<◌, if◌then◌else◌, All, IfSome, length, map, take, Some};
+ghost use Rattle.std.specs.Prelude.{None};
 ghost use Rattle.std.specs.Char.{to_ascii_lowercase};
 ghost use Rattle.keymap_text.specs.Lexical.{leading, is_word};
 ghost use Rattle.keymap_text.specs.Words.{meaning, is_letter, letters, same_name, sense_meaning, look, named, table};
-ghost use Rattle.keymap_text.specs.Keys.{pack, Means, IsTrueName, function_name, screen_name};
+ghost use Rattle.keymap_text.specs.Inner.Keys.{pack, Means, IsTrueName, function_name, screen_name};
 ghost use Rattle.keymap_text.specs.Printed as printed;
 
 use crate::words::Meaning;

@@ -10,7 +10,8 @@ use keymap_core::{KeyMap, Stream, Write, WriteFault};
 /// Pushes a line for each defined slot.
 fn print_keys<W: Write>(map: &KeyMap, stream: &mut Stream, writer: &mut W) -> Result<(), WriteFault>
     requires { size_of stream.old < 2 ^ 62 }
-    ensures bytes { Pushes (W.contents writer.old) (W.contents writer.new) stream.old stream.new (key_lines map.now) result }
+    ensures bytes { Pushes (W.contents writer.old) (W.contents writer.new) stream.old stream.new
+        (key_lines map.now) result }
     ensures few { OnOk result (size_of stream.new ≤ size_of stream.old + 2 ^ 32) }
     ensures failed { W.has_failed writer.new ≡ (is_err result || W.has_failed writer.old) }
 {
@@ -28,7 +29,8 @@ fn print_accents<W: Write>(
     writer: &mut W,
 ) -> Result<(), WriteFault>
     requires { size_of stream.old < 2 ^ 62 }
-    ensures bytes { Pushes (W.contents writer.old) (W.contents writer.new) stream.old stream.new (accent_lines map.now) result }
+    ensures bytes { Pushes (W.contents writer.old) (W.contents writer.new) stream.old stream.new
+        (accent_lines map.now) result }
     ensures few { OnOk result (size_of stream.new ≤ size_of stream.old + 2 ^ 32) }
     ensures failed { W.has_failed writer.new ≡ (is_err result || W.has_failed writer.old) }
 {
@@ -42,7 +44,8 @@ fn print_accents<W: Write>(
 /// Writes the printed form of a map: a line for each slot up to the last defined one, then one for each accent. Lines
 /// are gathered, so that a map costs few writes.
 pub fn print_map<W: Write>(map: &KeyMap, writer: &mut W) -> Result<(), WriteFault>
-    ensures bytes { WritesText (λ f. f.written) (W.contents writer.old) (W.contents writer.new) (printed map.now) result }
+    ensures bytes { WritesText (λ f. f.written) (W.contents writer.old) (W.contents writer.new)
+        (printed map.now) result }
     ensures failed { W.has_failed writer.new ≡ (is_err result || W.has_failed writer.old) }
 {
     let mut stream = Stream::new();

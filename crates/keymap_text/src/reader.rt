@@ -1,6 +1,7 @@
 //! Reading a text, whole or in pieces.
 ghost use Rattle.std.specs.Prelude.{◌≡◌, ℕ, ◌+◌, ◌<◌, ◌^◌, ◌++◌, [], List, IfOk, length, MatchResult, Some, Err};
-ghost use Rattle.keymap_text.specs.Standing.{StandsAfter, FedAfter, Means, Concludes, Reads};
+ghost use Rattle.keymap_text.specs.Meaning.{Means, Concludes, Reads};
+ghost use Rattle.keymap_text.specs.Standing.{StandsAfter, FedAfter};
 ghost use Rattle.keymap_text.specs.declared.fault.TextFault.{TextFault as Found};
 
 use crate::fault::{TextError, TextFault};
@@ -23,7 +24,7 @@ impl Model for MapReader {
 
     ghost Value = { Progress };
 
-    ghost use Rattle.keymap_text.specs.Inner.{progress, IsSound};
+    ghost use Rattle.keymap_text.specs.Inner.Fields.{progress, IsSound};
 
     ghost view = { progress };
 
@@ -47,15 +48,15 @@ impl MapReader {
     pub fn fed(&self) -> u64
         ensures { result ≡ self.now.fed }
     {
-        let count = self.fed;
-        count
+        self.fed
     }
 
     /// Takes the next piece: a fault exactly if the bytes so far have an early one, and then ever after.
     pub fn feed(&mut self, piece: &[u8]) -> Result<(), TextFault>
         requires room { self.old.fed + length piece.now < 2 ^ 63 }
         ensures stands { (b : List ℕ) → StandsAfter self.old b → FedAfter result self.new (b ++ piece.now) }
-        ensures fed { MatchResult result (λ _. self.new.fed ≡ self.old.fed + length piece.now) (λ _. self.new.fed ≡ self.old.fed) }
+        ensures fed { MatchResult result (λ _. self.new.fed ≡ self.old.fed + length piece.now)
+            (λ _. self.new.fed ≡ self.old.fed) }
         ensures stays { (f : Found) → self.old.fault ≡ Some f → (result ≡ Err f) × (self.new.fault ≡ Some f) }
     {
         if let Some(f) = self.fault {

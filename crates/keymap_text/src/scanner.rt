@@ -1,11 +1,13 @@
 //! Reading a text byte by byte.
-ghost use Rattle.std.specs.Prelude.{◌≡◌, ℕ, ◌+◌, ◌<◌, ◌≤◌, ◌^◌, ◌∷◌, ◌++◌, [], List, length, take, OnOk, IfSome, IfErr, Ok, Err, drop, if◌then◌else◌, ◌==◌};
+ghost use Rattle.std.specs.Prelude.{◌≡◌, ℕ, ◌+◌, ◌<◌, ◌≤◌, ◌^◌, ◌∷◌, ◌++◌, [], List, length, take, OnOk, IfSome, IfErr};
+ghost use Rattle.std.specs.Prelude.{Ok, Err, drop, if◌then◌else◌, ◌==◌};
 ghost use Rattle.keymap_text.specs.Lexical.{literal, leading, is_word};
-ghost use Rattle.keymap_text.specs.Reading.{verdict, ended, line};
+ghost use Rattle.keymap_text.specs.Inner.Judging.{verdict, ended};
 ghost use Rattle.keymap_text.specs.Words.{item, meaning};
-ghost use Rattle.keymap_text.specs.Views.{state_view, front_view, FoundFits, IsPlace};
-ghost use Rattle.keymap_text.specs.Resuming.{resume, Takes, Advances, Fronts, IsReader, Accepts, HasNoRole, Says, Forward, IsPending, Lined, Took, line_feed};
-ghost use Rattle.keymap_text.specs.Grammar as spec;
+ghost use Rattle.keymap_text.specs.Inner.Views.{state_view, front_view, FoundFits, IsPlace};
+ghost use Rattle.keymap_text.specs.Inner.Resuming.{resume, Takes, Advances, Fronts, IsReader, Accepts, HasNoRole, Says};
+ghost use Rattle.keymap_text.specs.Inner.Resuming.{IsPending, Took, line_feed};
+ghost use Rattle.keymap_text.specs.Inner.Grammar as spec;
 
 use crate::fault::{TextFault, TextFaultKind};
 use crate::grammar::{Grammar, Place};
@@ -136,12 +138,7 @@ impl Scanner {
     pub(crate) fn feed(&mut self, piece: &[u8]) -> Result<(), TextFault>
         requires reader { IsReader self.old }
         requires room { self.old.offset + length self.old.pending.items + length piece.now < 2 ^ 63 }
-        ensures takes { Takes result (λ x. resume self.old (piece.now ++ x)) self.new }
-        ensures reader { OnOk result (IsReader self.new) }
-        ensures fed { OnOk result (self.new.offset + length self.new.pending.items ≡ self.old.offset + length self.old.pending.items + length piece.now) }
-        ensures line { (b : List ℕ) → Lined self.old b → OnOk result (Lined self.new (b ++ piece.now)) }
-        ensures fault_line { (b : List ℕ) → Lined self.old b
-            → IfErr result (λ e. e.line ≡ line (b ++ piece.now) e.offset) }
+        ensures { Takes result self.old self.new piece.now }
     {
         let mut i = 0;
         while i < piece.len() {
@@ -249,10 +246,7 @@ impl Scanner {
         requires reader { IsReader self.old }
         requires mode { self.old.mode ≡ Mode.Between }
         requires room { self.old.offset + length self.old.pending.items + 1 < 2 ^ 63 }
-        ensures takes { (x : List ℕ) → resume self.old (10 ∷ x) ≡ resume self.new x }
-        ensures reader { IsReader self.new }
-        ensures fed { self.new.offset + length self.new.pending.items ≡ self.old.offset + length self.old.pending.items + 1 }
-        ensures line { Forward self.old self.new 10 }
+        ensures { Advances self.old self.new (10 ∷ []) 1 }
     {
         self.line += 1;
         self.offset += 1;
@@ -307,11 +301,7 @@ impl Scanner {
     fn take(&mut self, c: u8) -> Result<(), TextFault>
         requires reader { IsReader self.old }
         requires room { self.old.offset + length self.old.pending.items + 1 < 2 ^ 63 }
-        ensures takes { Takes result (λ x. resume self.old (c ∷ x)) self.new }
-        ensures reader { OnOk result (IsReader self.new) }
-        ensures fed { OnOk result (self.new.offset + length self.new.pending.items ≡ self.old.offset + length self.old.pending.items + 1) }
-        ensures line { OnOk result (Forward self.old self.new c) }
-        ensures place { IfErr result (λ e. IsPending e self.old) }
+        ensures { Takes result self.old self.new (c ∷ []) }
     {
         match self.mode {
             Mode::Between => self.begin(c),
@@ -329,10 +319,7 @@ impl Scanner {
         requires reader { IsReader self.old }
         requires mode { self.old.mode ≡ Mode.Comment }
         requires room { self.old.offset + length self.old.pending.items + 1 < 2 ^ 63 }
-        ensures takes { (x : List ℕ) → resume self.old (c ∷ x) ≡ resume self.new x }
-        ensures reader { IsReader self.new }
-        ensures fed { self.new.offset + length self.new.pending.items ≡ self.old.offset + length self.old.pending.items + 1 }
-        ensures line { Forward self.old self.new c }
+        ensures { Advances self.old self.new (c ∷ []) 1 }
     {
         self.mode = mode_in_comment(c);
         self.line = next_line(self.line, c);
@@ -344,11 +331,7 @@ impl Scanner {
         requires reader { IsReader self.old }
         requires mode { self.old.mode ≡ Mode.Between }
         requires room { self.old.offset + length self.old.pending.items + 1 < 2 ^ 63 }
-        ensures takes { Takes result (λ x. resume self.old (c ∷ x)) self.new }
-        ensures reader { OnOk result (IsReader self.new) }
-        ensures fed { OnOk result (self.new.offset + length self.new.pending.items ≡ self.old.offset + length self.old.pending.items + 1) }
-        ensures line { OnOk result (Forward self.old self.new c) }
-        ensures place { IfErr result (λ e. IsPending e self.old) }
+        ensures { Takes result self.old self.new (c ∷ []) }
     {
         if is_blank_byte(c) {
             self.line = next_line(self.line, c);
@@ -361,8 +344,8 @@ impl Scanner {
                 self.offset += 1;
                 Ok(())
             }
-            b'(' => self.paren(Item::Open),
-            b')' => self.paren(Item::Close),
+            b'(' => self.accept(Item::Open, 1),
+            b')' => self.accept(Item::Close, 1),
             b'\'' => {
                 self.mode = Mode::Literal;
                 self.pending.push(c);
@@ -376,11 +359,7 @@ impl Scanner {
         requires reader { IsReader self.old }
         requires mode { self.old.mode ≡ Mode.Between }
         requires byte { HasNoRole c }
-        ensures takes { Takes result (λ x. resume self.old (c ∷ x)) self.new }
-        ensures reader { OnOk result (IsReader self.new) }
-        ensures fed { OnOk result (self.new.offset + length self.new.pending.items ≡ self.old.offset + length self.old.pending.items + 1) }
-        ensures line { OnOk result (Forward self.old self.new c) }
-        ensures place { IfErr result (λ e. IsPending e self.old) }
+        ensures { Takes result self.old self.new (c ∷ []) }
     {
         if !is_word_byte(c) {
             return Err(fault(TextFaultKind::BadByte, self.offset, self.line));
@@ -388,19 +367,6 @@ impl Scanner {
         self.mode = Mode::Word;
         self.pending.push(c);
         Ok(())
-    }
-
-    fn paren(&mut self, item: Item) -> Result<(), TextFault>
-        requires reader { IsReader self.old }
-        requires mode { self.old.mode ≡ Mode.Between }
-        requires room { self.old.offset + length self.old.pending.items + 1 < 2 ^ 63 }
-        ensures accepts { Accepts result (spec.accept (state_view self.old.grammar) item) self.old.offset self.new (self.old.offset + 1) }
-        ensures reader { OnOk result (IsReader self.new) }
-        ensures fed { OnOk result (self.new.offset + length self.new.pending.items ≡ self.old.offset + length self.old.pending.items + 1) }
-        ensures line { OnOk result (self.new.line ≡ self.old.line) }
-        ensures place { IfErr result (λ e. IsPending e self.old) }
-    {
-        self.accept(item, 1)
     }
 
     fn pending_item(&self, kind: TokenKind) -> Item
@@ -419,12 +385,13 @@ impl Scanner {
 
     /// Takes a whole token of n bytes, of which none is pending then.
     #[inline(never)]
-    #[tactic(auto, unfolding(crate::specs::Grammar::accept))]
+    #[tactic(auto, unfolding(crate::specs::Inner::Grammar::accept))]
     fn accept(&mut self, item: Item, n: u64) -> Result<(), TextFault>
         requires place { IsPlace self.old.grammar.place self.old.grammar.accent }
         requires low { self.old.line ≤ self.old.offset + 1 }
         requires room { self.old.offset + n < 2 ^ 63 }
-        ensures accepts { Accepts result (spec.accept (state_view self.old.grammar) item) self.old.offset self.new (self.old.offset + n) }
+        ensures accepts { Accepts result (spec.accept (state_view self.old.grammar) item) self.old.offset self.new
+            (self.old.offset + n) }
         ensures reader { OnOk result (IsReader self.new) }
         ensures fed { OnOk result (self.new.pending.items ≡ []) }
         ensures line { OnOk result (self.new.line ≡ self.old.line) }
@@ -446,11 +413,7 @@ impl Scanner {
         requires reader { IsReader self.old }
         requires mode { self.old.mode ≡ Mode.Word }
         requires room { self.old.offset + length self.old.pending.items + 1 < 2 ^ 63 }
-        ensures takes { Takes result (λ x. resume self.old (c ∷ x)) self.new }
-        ensures reader { OnOk result (IsReader self.new) }
-        ensures fed { OnOk result (self.new.offset + length self.new.pending.items ≡ self.old.offset + length self.old.pending.items + 1) }
-        ensures line { OnOk result (Forward self.old self.new c) }
-        ensures place { IfErr result (λ e. IsPending e self.old) }
+        ensures { Takes result self.old self.new (c ∷ []) }
     {
         if !is_word_byte(c) {
             return match self.end_word() {
@@ -470,7 +433,9 @@ impl Scanner {
         requires reader { IsReader self.old }
         requires mode { self.old.mode ≡ Mode.Word }
         requires room { self.old.offset + length self.old.pending.items < 2 ^ 63 }
-        ensures accepts { Accepts result (spec.accept (state_view self.old.grammar) (Item.Value (meaning self.old.pending.items))) self.old.offset self.new (self.old.offset + length self.old.pending.items) }
+        ensures accepts { Accepts result (spec.accept (state_view self.old.grammar)
+            (Item.Value (meaning self.old.pending.items))) self.old.offset self.new
+            (self.old.offset + length self.old.pending.items) }
         ensures reader { OnOk result (IsReader self.new) }
         ensures fed { OnOk result (self.new.pending.items ≡ []) }
         ensures line { OnOk result (self.new.line ≡ self.old.line) }
@@ -486,11 +451,7 @@ impl Scanner {
         requires reader { IsReader self.old }
         requires mode { self.old.mode ≡ Mode.Literal }
         requires room { self.old.offset + length self.old.pending.items + 1 < 2 ^ 63 }
-        ensures takes { Takes result (λ x. resume self.old (c ∷ x)) self.new }
-        ensures reader { OnOk result (IsReader self.new) }
-        ensures fed { OnOk result (self.new.offset + length self.new.pending.items ≡ self.old.offset + length self.old.pending.items + 1) }
-        ensures line { OnOk result (Forward self.old self.new c) }
-        ensures place { IfErr result (λ e. IsPending e self.old) }
+        ensures { Takes result self.old self.new (c ∷ []) }
     {
         self.pending.push(c);
         match self.pending_literal() {
@@ -505,7 +466,7 @@ impl Scanner {
     }
 
     /// The text ends between two tokens.
-    #[tactic(auto, unfolding(crate::specs::Grammar::at_end))]
+    #[tactic(auto, unfolding(crate::specs::Inner::Grammar::at_end))]
     fn end(mut self) -> Result<KeyMap, TextFault>
         requires { IsPlace self.grammar.place self.grammar.accent }
         ensures says { Says result (ended (spec.at_end (state_view self.grammar)) self.offset) }

@@ -1,10 +1,13 @@
 //! Tokens of a text.
-ghost use Rattle.std.specs.Prelude.{◌≡◌, ◌+◌, ◌<◌, ◌≤◌, ◌==◌, length, drop, slice_index, if◌then◌else◌, IsFalse, IfOk, IfSome, IfErr};
+ghost use Rattle.std.specs.Prelude.{◌≡◌, ◌+◌, ◌<◌, ◌≤◌, ◌==◌, length, drop, slice_index, if◌then◌else◌, IsFalse, IfOk};
+ghost use Rattle.std.specs.Prelude.{IfSome, IfErr};
 ghost use Rattle.keymap_text.specs.Lexical as lexical;
-ghost use Rattle.keymap_text.specs.Keys.{first_of_sixteen};
-ghost use Rattle.keymap_text.specs.Lexical.{is_blank, is_space, is_word, stays_on_line, separates, leading, is_lone, literal, word, front, split, first};
-ghost use Rattle.keymap_text.specs.Reading.{line};
-ghost use Rattle.keymap_text.specs.Views.{front_view, FoundFits, result_view};
+ghost use Rattle.keymap_text.specs.Inner.Keys.{first_of_sixteen};
+ghost use Rattle.keymap_text.specs.Lexical.{is_blank, is_space, is_word, stays_on_line, separates, leading, is_lone};
+ghost use Rattle.keymap_text.specs.Lexical.{literal, word, front, split, first};
+ghost use Rattle.keymap_text.specs.Meaning.{line};
+ghost use Rattle.keymap_text.specs.Tokens.{result_view};
+ghost use Rattle.keymap_text.specs.Inner.Views.{front_view, FoundFits};
 
 use crate::fault::{TextFault, TextFaultKind};
 use std::simd::prelude::*;
@@ -258,7 +261,8 @@ fn token_front(bytes: &[u8]) -> Front
 
 #[tactic(auto, unfolding(crate::specs::Lexical::front))]
 fn word_front(c: u8, rest: &[u8]) -> Front
-    ensures value { front_view result ≡ if is_word c then word (leading is_word rest.now) else lexical.Refused TextFaultKind.BadByte }
+    ensures value { front_view result ≡ if is_word c then word (leading is_word rest.now)
+        else lexical.Refused TextFaultKind.BadByte }
     ensures fits { FoundFits result (length rest.now) }
 {
     if !is_word_byte(c) {

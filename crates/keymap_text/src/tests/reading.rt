@@ -147,6 +147,29 @@ fn the_last_of_two_definitions_counts(rt: HostRuntime) -> Result<(), Fail> {
     Ok(())
 }
 
+/// The same on lines of their own.
+#[test]
+fn the_last_of_two_lines_counts(rt: HostRuntime) -> Result<(), Fail> {
+    let text = b"1 'a' 'a' 'a' 'a' 'a' 'a' 'a' 'a' O\n001 'b' 'b' 'b' 'b' 'b' 'b' 'b' 'b' C\n";
+    let map = read_map(rt.alloc(), text)?;
+    let wanted = Entry {
+        cells: [Cell::Char('b'); 8],
+        flag: LockFlag::C,
+    };
+    assert_eq!(rt; map.n_keys(), 2);
+    assert_eq!(rt; *map.entry(1), wanted);
+    let text = b"dacu 96 ( 'a' 'b' )\n( 'E' 'c' )\ndacu 180\n( 'e' 0xe9 )\n( 'E' 0xc9 )\n";
+    let map = read_map(rt.alloc(), text)?;
+    let accent = map.accent(1).ok_or("no accent")?;
+    assert_eq!(rt; map.n_accs(), 2);
+    assert_eq!(rt; accent.own(), '\u{b4}');
+    assert_eq!(rt;
+        accent.pairs(),
+        [('e', '\u{e9}'), ('E', '\u{c9}')].as_slice()
+    );
+    Ok(())
+}
+
 /// A text, and a further one so many times.
 fn repeated(
     alloc: Global,

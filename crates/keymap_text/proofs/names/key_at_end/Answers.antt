@@ -1,8 +1,8 @@
-use Rattle.std.proofs.Common.{ℕ, List, ◌≡◌, ◌≤◌, ◌∷◌, ◌++◌, [], take, get_or, set, map, sym, ap, subst, ◌∙◌, arith}
+use Rattle.std.proofs.Common.{ℕ, List, ◌≡◌, ◌≤◌, ◌∷◌, ◌++◌, [], take, get_or, map, sym, ap, subst, ◌∙◌, arith}
 use Rattle.std.proofs.lemmas.List.{take_more_set, take_more, length-set}
 use Rattle.std.specs.Char.{to_ascii_lowercase}
 use Rattle.keymap_text.specs.Lexical.{is_word}
-use Rattle.keymap_text.specs.Keys.{pack}
+use Rattle.keymap_text.specs.Inner.Keys.{pack}
 use Rattle.keymap_text.proofs.Leading.{leading_same}
 use Rattle.keymap_text.proofs.names.key_at_end.Goals as goal
 
@@ -10,10 +10,15 @@ copied : (eight bytes : List ℕ) (i n : ℕ) → i ≤ n → n ≤ i → take i
 copied eight bytes i n h k e = subst (λ (m : ℕ). take m eight ≡ take m bytes) (omega (arith, h, k)) e
 
 pub key_of_eight-requires-clause-word : goal.key_of_eight-requires-clause-word
-key_of_eight-requires-clause-word c = leading_same is_word c.args.n c.loop-i.eight c.args.bytes.now (copied c.loop-i.eight c.args.bytes.now c.loop-i.i c.args.n c.loop-i.invariant.within (omega arith) c.loop-i.invariant.same) c.requires.word
+key_of_eight-requires-clause-word c =
+    leading_same is_word c.args.n c.loop-i.eight c.args.bytes.now
+    (copied c.loop-i.eight c.args.bytes.now c.loop-i.i c.args.n c.loop-i.invariant.within
+    (omega arith) c.loop-i.invariant.same) c.requires.word
 
 pub returns : goal.returns
-returns c = c.key_of_eight.ensures ∙ ap (λ (w : List ℕ). pack 8 (map to_ascii_lowercase w)) (copied c.loop-i.eight c.args.bytes.now c.loop-i.i c.args.n c.loop-i.invariant.within (omega arith) c.loop-i.invariant.same)
+returns c = c.key_of_eight.ensures ∙ ap (λ (w : List ℕ). pack 8 (map to_ascii_lowercase w))
+    (copied c.loop-i.eight c.args.bytes.now c.loop-i.i c.args.n c.loop-i.invariant.within
+    (omega arith) c.loop-i.invariant.same)
 
 pub loop-i-preserved : goal.loop-i-preserved
 loop-i-preserved c = record {

@@ -1,15 +1,23 @@
-use Rattle.std.proofs.Common.{◌≡◌, ℕ, List, true, false, cond, length, None, refl, sym, ◌∙◌, ap, ◌==◌, eq-eqb, slice_index}
+use Rattle.std.proofs.Common.{◌≡◌, ℕ, List, true, false, cond, length, None, refl, sym, ◌∙◌, ap, ◌==◌, eq-eqb}
+use Rattle.std.proofs.Common.{slice_index}
 use Rattle.bstr.specs.Utf8.{decoded, Decoded}
 use Rattle.keymap_text.specs.declared.token.TokenKind.TheVariants.{Literal}
 use Rattle.keymap_text.specs.Lexical.{literal, is_lone, quoted, Unfinished, Found}
 use Rattle.keymap_text.proofs.token.literal_front.Goals as goal
 
-open_quote : (d : Decoded) (bytes : List ℕ) → d.char ≡ None → (length bytes == d.size) ≡ true → quoted d bytes ≡ Unfinished
+open_quote : (d : Decoded) (bytes : List ℕ) → d.char ≡ None → (length bytes == d.size) ≡ true
+    → quoted d bytes ≡ Unfinished
 open_quote d bytes e f = rw e (rw f refl)
 
-open_literal : (bytes : List ℕ) → is_lone bytes ≡ false → (decoded bytes).char ≡ None → (length bytes == (decoded bytes).size) ≡ true → Unfinished ≡ literal bytes
+open_literal : (bytes : List ℕ) → is_lone bytes ≡ false → (decoded bytes).char ≡ None
+    → (length bytes == (decoded bytes).size) ≡ true → Unfinished ≡ literal bytes
 unfolding literal
-open_literal bytes a e f = sym (ap (λ b. cond b (Found (Literal (slice_index bytes 0)) 2) (quoted (decoded bytes) bytes)) a ∙ open_quote (decoded bytes) bytes e f)
+open_literal bytes a e f =
+    sym (ap (λ b. cond b (Found (Literal (slice_index bytes 0)) 2) (quoted (decoded bytes) bytes)) a
+    ∙ open_quote (decoded bytes) bytes e f)
 
 pub returns-then-bytes-size-2-clause-value : goal.returns-then-bytes-size-2-clause-value
-returns-then-bytes-size-2-clause-value c = open_literal c.args.bytes.now (sym c.is_lone_byte.ensures ∙ c.if-is_lone_byte.false) (sym c.decode-character.ensures.char ∙ c.in-None.is) (eq-eqb _ _ (c.if-bytes-size-2.true ∙ c.decode-character.ensures.size))
+returns-then-bytes-size-2-clause-value c =
+    open_literal c.args.bytes.now (sym c.is_lone_byte.ensures ∙ c.if-is_lone_byte.false)
+    (sym c.decode-character.ensures.char ∙ c.in-None.is)
+    (eq-eqb _ _ (c.if-bytes-size-2.true ∙ c.decode-character.ensures.size))

@@ -6,11 +6,13 @@ use Rattle.keymap_text.proofs.token.token_start.Goals as goal
 pub loop-i-preserved-then-text-i-eq35 : goal.loop-i-preserved-then-text-i-eq35
 loop-i-preserved-then-text-i-eq35 c = record {
   within = c.line_end-i.ensures.length;
-  same = c.loop-i.invariant.same ∙ split_line_at c.args.text.now c.loop-i.i c.loop-i-test.true c.if-text-i-eq35.true ∙ ap (λ n. split 0 n (drop n c.args.text.now)) (sym c.line_end-i.ensures.value);
+  same = c.loop-i.invariant.same ∙ split_line_at c.args.text.now c.loop-i.i c.loop-i-test.true c.if-text-i-eq35.true
+      ∙ ap (λ n. split 0 n (drop n c.args.text.now)) (sym c.line_end-i.ensures.value);
 }
 
 pub loop-i-preserved : goal.loop-i-preserved
 loop-i-preserved c = record {
   within = omega arith;
-  same = c.loop-i.invariant.same ∙ split_blank_at c.args.text.now c.loop-i.i c.loop-i-test.true (sym c.is_blank_byte.ensures ∙ c.if-is_blank_byte.true);
+  same = c.loop-i.invariant.same ∙ split_blank_at c.args.text.now c.loop-i.i c.loop-i-test.true
+      (sym c.is_blank_byte.ensures ∙ c.if-is_blank_byte.true);
 }

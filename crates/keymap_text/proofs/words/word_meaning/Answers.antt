@@ -4,16 +4,22 @@ use Rattle.keymap_text.specs.declared.words.Meaning.{Meaning}
 use Rattle.keymap_text.specs.Words.{meaning, named, table, digits_of, number_after, of_action}
 use Rattle.keymap_text.proofs.words.word_meaning.Goals as goal
 
-by_name : (w : List ℕ) (m : Meaning) → None ≡ digits_of 10 w → None ≡ number_after (codes "0x") 16 w → Some m ≡ named table w → m ≡ meaning w
+by_name : (w : List ℕ) (m : Meaning) → None ≡ digits_of 10 w → None ≡ number_after (codes "0x") 16 w
+    → Some m ≡ named table w → m ≡ meaning w
 unfolding meaning
 by_name w m a b h = rw (sym a, meaning) (rw (sym b) (rw (sym h) refl))
 
-by_action : (w : List ℕ) (m : Meaning) → None ≡ digits_of 10 w → None ≡ number_after (codes "0x") 16 w → None ≡ named table w → m ≡ of_action (named_of w) → m ≡ meaning w
+by_action : (w : List ℕ) (m : Meaning) → None ≡ digits_of 10 w → None ≡ number_after (codes "0x") 16 w
+    → None ≡ named table w → m ≡ of_action (named_of w) → m ≡ meaning w
 unfolding meaning
 by_action w m a b d h = rw (sym a, meaning) (rw (sym b) (rw (sym d) h))
 
 pub returns-in-Some-character_or_letter : goal.returns-in-Some-character_or_letter
-returns-in-Some-character_or_letter c = by_name c.args.word.now c.in-Some-character_or_letter.meaning c.in_default.ensures c.in_default-prefixed_number.ensures c.in-Some-character_or_letter.ensures
+returns-in-Some-character_or_letter c =
+    by_name c.args.word.now c.in-Some-character_or_letter.meaning c.in_default.ensures
+    c.in_default-prefixed_number.ensures c.in-Some-character_or_letter.ensures
 
 pub returns-in-None : goal.returns-in-None
-returns-in-None c = by_action c.args.word.now c.action_meaning.result c.in_default.ensures c.in_default-prefixed_number.ensures c.in-None.ensures (c.action_meaning.ensures ∙ ap of_action c.named.ensures)
+returns-in-None c =
+    by_action c.args.word.now c.action_meaning.result c.in_default.ensures c.in_default-prefixed_number.ensures
+    c.in-None.ensures (c.action_meaning.ensures ∙ ap of_action c.named.ensures)

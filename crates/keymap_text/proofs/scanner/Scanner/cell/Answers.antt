@@ -1,6 +1,6 @@
 use Rattle.std.proofs.Common.{refl, sym, ap, ◌∙◌, arith, Err}
-use Rattle.keymap_text.specs.Grammar.{accept, step}
-use Rattle.keymap_text.specs.Views.{place_view}
+use Rattle.keymap_text.specs.Inner.Grammar.{accept, step}
+use Rattle.keymap_text.specs.Inner.Views.{place_view}
 use Rattle.keymap_text.proofs.Runs.{stays, token_advances, token_refuses}
 use Rattle.keymap_text.proofs.scanner.Scanner.cell.Goals as goal
 
@@ -11,10 +11,19 @@ pub returns-in-Ok : goal.returns-in-Ok
 unfolding accept
 returns-in-Ok c =
     let r = c.args.self.now in
-    token_advances r _ c.args.rest.now c.in-Some.item c.in-Some.n c.in-Some.ensures c.requires.reader c.requires.mode (ap (λ p. step r.grammar.map (place_view p r.grammar.entry r.grammar.accent) c.in-Some.item) c.requires.place ∙ c.in-Ok.ensures.steps) (record { place = c.in-Ok.ensures.place; keeps = c.requires.reader.keeps; low = omega (arith, c.requires.reader.low) }) (omega arith) refl refl refl
+    token_advances r _ c.args.rest.now c.in-Some.item c.in-Some.n c.in-Some.ensures c.requires.reader c.requires.mode
+    (ap (λ p. step r.grammar.map (place_view p r.grammar.entry r.grammar.accent) c.in-Some.item) c.requires.place
+    ∙ c.in-Ok.ensures.steps)
+    (record {
+      place = c.in-Ok.ensures.place;
+      keeps = c.requires.reader.keeps;
+      low = omega (arith, c.requires.reader.low);
+    }) (omega arith) refl refl refl
 
 pub returns-in-Err : goal.returns-in-Err
 unfolding accept
 returns-in-Err c = λ e kind offset line.
     let r = c.args.self.now in
-    token_refuses r c.args.rest.now c.in-Some.item c.in-Some.n e c.in-Some.ensures c.requires.mode (ap (λ p. step r.grammar.map (place_view p r.grammar.entry r.grammar.accent) c.in-Some.item) c.requires.place ∙ c.in-Err.ensures.steps ∙ ap Err (sym kind)) offset line
+    token_refuses r c.args.rest.now c.in-Some.item c.in-Some.n e c.in-Some.ensures c.requires.mode
+    (ap (λ p. step r.grammar.map (place_view p r.grammar.entry r.grammar.accent) c.in-Some.item) c.requires.place
+    ∙ c.in-Err.ensures.steps ∙ ap Err (sym kind)) offset line

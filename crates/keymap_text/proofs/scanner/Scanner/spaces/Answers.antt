@@ -1,7 +1,7 @@
 use Rattle.std.proofs.Common.{refl, subst, arith}
 use Rattle.keymap_text.specs.Lexical.{is_space}
-use Rattle.keymap_text.specs.Resuming.{KeepsMode}
-use Rattle.keymap_text.specs.Views.{state_view}
+use Rattle.keymap_text.specs.Inner.Resuming.{KeepsMode}
+use Rattle.keymap_text.specs.Inner.Views.{state_view}
 use Rattle.keymap_text.proofs.Lines.{lined_run, feeds_run}
 use Rattle.keymap_text.proofs.Runs.{take_spaces, front_length}
 use Rattle.keymap_text.proofs.scanner.Scanner.spaces.Goals as goal
@@ -13,9 +13,15 @@ returns-clause-advances c =
     let n = c.space_len-n.result in
     let none = subst (λ m. KeepsMode m r.pending.items) c.requires.mode c.requires.reader.keeps in
     record {
-      takes = take_spaces (state_view r.grammar) r.mode r.pending.items r.offset n rest c.requires.mode c.space_len-n.ensures.value;
-      reader = record { place = c.requires.reader.place; keeps = c.requires.reader.keeps; low = omega (arith, c.requires.reader.low) };
+      takes = take_spaces (state_view r.grammar) r.mode r.pending.items r.offset n rest c.requires.mode
+          c.space_len-n.ensures.value;
+      reader = record {
+        place = c.requires.reader.place;
+        keeps = c.requires.reader.keeps;
+        low = omega (arith, c.requires.reader.low);
+      };
       fed = omega arith;
       inside = c.space_len-n.ensures.length;
-      line = λ b h. lined_run r _ b _ none none refl (omega (arith, front_length n rest c.space_len-n.ensures.length)) (feeds_run is_space refl n rest (omega (arith, c.space_len-n.ensures.value))) h;
+      line = λ b h. lined_run r _ b _ none none refl (omega (arith, front_length n rest c.space_len-n.ensures.length))
+          (feeds_run is_space refl n rest (omega (arith, c.space_len-n.ensures.value))) h;
     }

@@ -1,5 +1,5 @@
 use Rattle.std.proofs.Common.{refl, sym, ap, ◌∙◌, arith, Err}
-use Rattle.keymap_text.specs.Grammar.{accept}
+use Rattle.keymap_text.specs.Inner.Grammar.{accept}
 use Rattle.keymap_text.proofs.Runs.{stays, token_advances, token_refuses}
 use Rattle.keymap_text.proofs.scanner.Scanner.token.Goals as goal
 
@@ -10,10 +10,16 @@ pub returns-in-Ok : goal.returns-in-Ok
 unfolding accept
 returns-in-Ok c =
     let r = c.args.self.now in
-    token_advances r _ c.args.rest.now c.in-Some.item c.in-Some.n c.in-Some.ensures c.requires.reader c.requires.mode (c.in-Ok.ensures.steps) (record { place = c.in-Ok.ensures.place; keeps = c.requires.reader.keeps; low = omega (arith, c.requires.reader.low) }) (omega arith) refl refl refl
+    token_advances r _ c.args.rest.now c.in-Some.item c.in-Some.n c.in-Some.ensures c.requires.reader c.requires.mode
+    (c.in-Ok.ensures.steps) (record {
+      place = c.in-Ok.ensures.place;
+      keeps = c.requires.reader.keeps;
+      low = omega (arith, c.requires.reader.low);
+    }) (omega arith) refl refl refl
 
 pub returns-in-Err : goal.returns-in-Err
 unfolding accept
 returns-in-Err c = λ e kind offset line.
     let r = c.args.self.now in
-    token_refuses r c.args.rest.now c.in-Some.item c.in-Some.n e c.in-Some.ensures c.requires.mode (c.in-Err.ensures.steps ∙ ap Err (sym kind)) offset line
+    token_refuses r c.args.rest.now c.in-Some.item c.in-Some.n e c.in-Some.ensures c.requires.mode
+    (c.in-Err.ensures.steps ∙ ap Err (sym kind)) offset line

@@ -1,17 +1,21 @@
--- What a reader that stands in a text makes of the bytes to come. Inner: private contracts alone speak of it.
+-- What a reader that stands in a text makes of the bytes to come. Mirrors `Scanner` of src/scanner.rt, whose `take` and
+-- `front` go on byte by byte and token by token.
 use Rattle.keymap_core.specs.Maps.{MapValue}
-use Rattle.std.specs.Prelude.{◌≡◌, ◌≢◌, ℕ, ◌+◌, ◌<◌, ◌≤◌, Bool, true, false, List, [], ◌++◌, length, take, drop, slice_index, Result, Ok, Err, if◌then◌else◌, ◌==◌, count_by}
+use Rattle.std.specs.Prelude.{◌≡◌, ◌≢◌, ℕ, ◌+◌, ◌<◌, ◌≤◌, Bool, true, false, List, [], ◌++◌, length, take, drop}
+use Rattle.std.specs.Prelude.{slice_index, Result, Ok, Err, if◌then◌else◌, ◌==◌, count_by}
 use Rattle.keymap_text.specs.declared.fault.TextFaultKind.{TextFaultKind}
 use Rattle.keymap_text.specs.declared.fault.TextFault.{TextFault}
 use Rattle.keymap_text.specs.declared.scanner.Mode.{Mode}
 use Rattle.keymap_text.specs.declared.scanner.Mode.TheVariants as modes
 use Rattle.keymap_text.specs.declared.scanner.Scanner.{Scanner}
-use Rattle.keymap_text.specs.Lexical.{split, Tokens, Token, Then, leading, stays_on_line, is_word, is_blank, literal, Unfinished}
-use Rattle.keymap_text.specs.Reading.{judge, line, Verdict, Spelled, Faulty, is_settled}
+use Rattle.keymap_text.specs.Lexical.{split, Tokens, Token, Then, leading, stays_on_line, is_word, is_blank, literal}
+use Rattle.keymap_text.specs.Lexical.{Unfinished}
+use Rattle.keymap_text.specs.Meaning.{line, is_settled}
+use Rattle.keymap_text.specs.Inner.Judging.{judge, Verdict, Spelled, Faulty}
 use Rattle.keymap_text.specs.Words.{item}
 use Rattle.keymap_text.specs.declared.words.Item.{Item}
-use Rattle.keymap_text.specs.Grammar.{State}
-use Rattle.keymap_text.specs.Views.{state_view, IsPlace}
+use Rattle.keymap_text.specs.Inner.Grammar.{State}
+use Rattle.keymap_text.specs.Inner.Views.{state_view, IsPlace}
 
 -- the tokens from the pending bytes on, where the bytes x are to come
 abbrev pub tokens_of : Mode → List ℕ → ℕ → List ℕ → Tokens
@@ -40,9 +44,6 @@ pub record IsReader (r : Scanner) : Type 0 where
 abbrev pub Goes : Result (Unit {0}) TextFault → (List ℕ → Verdict) → (List ℕ → Verdict) → Type 0
 Goes (Ok u) f g = (x : List ℕ) → f x ≡ g x
 Goes (Err e) f g = (x : List ℕ) → f x ≡ Faulty e.kind e.offset true
-
-abbrev pub Takes : Result (Unit {0}) TextFault → (List ℕ → Verdict) → Scanner → Type 0
-Takes result f r = Goes result f (resume r)
 
 -- What a whole token did.
 abbrev pub Accepts : Result (Unit {0}) TextFault → Result State TextFaultKind → ℕ → Scanner → ℕ → Type 0
@@ -95,7 +96,7 @@ pub record Advances (old new : Scanner) (rest : List ℕ) (n : ℕ) : Type 0 whe
 -- These bytes have a fault that stands whatever follows them.
 pub record Refuses (old : Scanner) (rest : List ℕ) (e : TextFault) : Type 0 where
   pub takes : (x : List ℕ) → resume old (rest ++ x) ≡ Faulty e.kind e.offset true
-  pub line : (b : List ℕ) → Lined old b → e.line ≡ line (b ++ rest) e.offset
+  pub line : (b x : List ℕ) → Lined old b → e.line ≡ line (b ++ (rest ++ x)) e.offset
 
 -- A whole token of n bytes, which stands for i, is in front, whatever follows.
 pub record Fronts (rest : List ℕ) (i : Item) (n : ℕ) : Type 0 where
@@ -107,6 +108,11 @@ pub record Fronts (rest : List ℕ) (i : Item) (n : ℕ) : Type 0 where
   pub some : 0 < n
   pub inside : n ≤ length rest
   pub one_line : count_by (λ c. c == 10) (take n rest) ≡ 0
+
+-- What taking all of some bytes did: they were taken, or they have a fault.
+abbrev pub Takes : Result (Unit {0}) TextFault → Scanner → Scanner → List ℕ → Type 0
+Takes (Ok u) old new bytes = Advances old new bytes (length bytes)
+Takes (Err e) old new bytes = Refuses old bytes e
 
 -- What taking bytes in front did: so many were taken, or there is a fault at the place that was reached.
 abbrev pub Took : Result ℕ TextFaultKind → Scanner → Scanner → List ℕ → Type 0

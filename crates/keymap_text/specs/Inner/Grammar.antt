@@ -1,6 +1,7 @@
--- The reader's machine over tokens: the map so far, and the part of a definition that it has read.
--- Inner: private contracts alone speak of it. What a text means is said in Meaning.
-use Rattle.std.specs.Prelude.{ℕ, ◌+◌, if◌then◌else◌, ◌==◌, nat_lt, [], ◌∷◌, ◌++◌, length, set, Option, Some, None, Result, Ok, Err}
+-- The reader's machine over tokens: the map so far, and the part of a definition that it has read. Mirrors
+-- `Grammar::accept` of src/grammar.rt and the functions of the places; what a text means is said in Meaning.
+use Rattle.std.specs.Prelude.{ℕ, ◌+◌, if◌then◌else◌, ◌==◌, nat_lt, [], ◌∷◌, ◌++◌, length, set, Option, Some, None}
+use Rattle.std.specs.Prelude.{Result, Ok, Err}
 use Rattle.keymap_core.specs.Accents.{AccentValue}
 use Rattle.keymap_core.specs.Maps.{MapValue, undefined, with_entry, with_accent}
 use Rattle.keymap_core.specs.declared.entry.Entry.{Entry}

@@ -1,10 +1,9 @@
--- How values of the code are seen by the definitions. Inner, but for what a token and its search give.
-use Rattle.std.specs.Prelude.{◌≡◌, ◌≢◌, ℕ, ◌≤◌, List, length, drop, Option, Some, None, Result, Ok, Err, ◌<◌}
+-- How values of the code are seen by the definitions. Mirrors the types `Front` of src/token.rt, and `Place` and
+-- `Grammar` of src/grammar.rt.
+use Rattle.std.specs.Prelude.{◌≡◌, ◌≢◌, ℕ, ◌≤◌, ◌<◌, length, Result, Ok, Err}
 use Rattle.keymap_text.specs.declared.fault.TextFaultKind.{TextFaultKind}
-use Rattle.keymap_text.specs.declared.fault.TextFault.{TextFault}
 use Rattle.keymap_text.specs.declared.token.Front.{Front}
 use Rattle.keymap_text.specs.declared.token.Front.TheVariants as fronts
-use Rattle.keymap_text.specs.declared.token.Token.{Token}
 use Rattle.keymap_text.specs.Lexical as lexical
 use Rattle.keymap_core.specs.declared.entry.Entry.{Entry}
 use Rattle.keymap_text.specs.declared.grammar.Place.{Place}
@@ -12,7 +11,7 @@ use Rattle.keymap_text.specs.declared.grammar.Place.TheVariants as places
 use Rattle.keymap_text.specs.declared.grammar.Grammar.{Grammar}
 use Rattle.keymap_core.specs.Accents.{AccentValue}
 use Rattle.keymap_core.specs.Maps.{undefined}
-use Rattle.keymap_text.specs.Grammar as spec
+use Rattle.keymap_text.specs.Inner.Grammar as spec
 
 abbrev pub front_view : Front → lexical.Front
 front_view (fronts.Found kind n) = lexical.Found kind n
@@ -23,14 +22,6 @@ front_view fronts.Unfinished = lexical.Unfinished
 abbrev pub FoundFits : Front → ℕ → Type 0
 FoundFits (fronts.Found kind n) m = n ≤ m
 FoundFits _ m = Unit {0}
-
-abbrev pub token_view : List ℕ → Token → lexical.Token
-token_view text t = record { kind = t.kind; bytes = t.slice.now; start = t.span.start; last = lexical.is_empty (drop t.span.end text) }
-
-abbrev pub result_view : List ℕ → Result (Option Token) TextFault → Result (Option lexical.Token) (TextFaultKind × ℕ)
-result_view text (Ok None) = Ok None
-result_view text (Ok (Some t)) = Ok (Some (token_view text t))
-result_view text (Err f) = Err (f.kind, f.offset)
 
 -- a place, with the entry and the accent that are being defined
 abbrev pub place_view : Place → Entry → AccentValue → spec.Place

@@ -1,5 +1,7 @@
--- The keys of words: their bytes as one number. Inner: private contracts alone speak of them.
-use Rattle.std.specs.Prelude.{◌≡◌, ℕ, zero, suc, ◌+◌, ◌*◌, ◌/◌, ◌%◌, ◌≤◌, Bool, true, if◌then◌else◌, ◌==◌, nat_lt, ◌&&◌, List, [], ◌∷◌, length, map, if◌then◌else◌}
+-- The keys of words: their bytes as one number. Mirrors `key_of`, `function_key` and `screen_key` of src/names.rt, and
+-- `first_set` of src/token.rt.
+use Rattle.std.specs.Prelude.{◌≡◌, ℕ, zero, suc, ◌+◌, ◌*◌, ◌/◌, ◌%◌, ◌≤◌, true, if◌then◌else◌, ◌==◌}
+use Rattle.std.specs.Prelude.{List, [], ◌∷◌, length, map}
 use Rattle.std.specs.Int.{from_le_bytes, trailing_zeros, w64}
 use Rattle.keymap_text.specs.Lexical.{is_word}
 use Rattle.std.specs.Char.{to_ascii_lowercase}

@@ -21,8 +21,8 @@ pub fn start_kept() -> WordStore
     WordStore::new()
 }
 
-/// Delivers an event to what a packed console of the two keymaps keeps. Where that is what a list of events leaves, it is
-/// afterwards what the list with the event leaves, and the answer is the one that a console gives.
+/// Delivers an event to what a packed console of the two keymaps keeps. Where that is what a list of events leaves, it
+/// is afterwards what the list with the event leaves, and the answer is the one that a console gives.
 #[inline(always)]
 pub fn step_kept<K: Keymap>(kept: &mut WordStore, first: &K, second: &K, event: Event) -> Answer
     ensures answer { (ms : Maps) (h : List EventValue) → K.shows first.now ms.first → K.shows second.now ms.second

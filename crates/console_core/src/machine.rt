@@ -119,7 +119,8 @@ fn press_action<K: Keymap, S: Store>(store: &mut S, map: &K, key: KeyCode, actio
         → result ≡ answer_action_of m old.pending (old.mark (Holding.Mod Modifier.Meta))
         (taken_over (old.memory key) action) }
     ensures in_range { key < 128 }
-    ensures kept { (m : MapValue) → K.shows map.now m → S.kept store.new ≡ after_action m key action (S.kept store.old) }
+    ensures kept { (m : MapValue) → K.shows map.now m
+        → S.kept store.new ≡ after_action m key action (S.kept store.old) }
 {
     let pending = store.pending();
     let meta = is_on(store, Modifier::Meta);

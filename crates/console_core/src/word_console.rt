@@ -34,8 +34,8 @@ impl<'m> WordConsole<'m> {
 }
 
 impl<'m, K: Keymap> WordConsole<'m, K> {
-    /// A console of two keymaps, however they are kept, the first one in force. All modifiers and locks are off and nothing
-    /// is pending.
+    /// A console of two keymaps, however they are kept, the first one in force. All modifiers and locks are off and
+    /// nothing is pending.
     pub fn over(first: &'m K, second: &'m K) -> WordConsole<'m, K>
         ensures { (m n : MapValue) → K.shows first.now m → K.shows second.now n
             → ⟦<WordConsole<'m, K> as Translator>⟧.stands result (between m n) [] }

@@ -1,7 +1,9 @@
-# make               proves and builds the program, and leaves it at crates/kmap/out/kmap; at once where nothing changed
+# make               proves and builds the program and the C library, and leaves them at crates/kmap/out/kmap and
+#                    crates/kmap_c/out/libkmap_c.a, with the header include/kmap.h; at once where nothing changed
 # make check         proves every crate from nothing, tries the edits that must be refused, and runs all tests
 # make bench         measures the program on large inputs
-# make install       installs the program, manual pages, completions, examples and documents in $(DESTDIR)$(PREFIX)
+# make install       installs the program, the C library with its header, manual pages, completions, examples and
+#                    documents in $(DESTDIR)$(PREFIX)
 # make uninstall     removes what this version installs
 # make clean         removes what was made
 #
@@ -12,8 +14,11 @@ DESTDIR =
 RT = rt
 INSTALL = install
 PROGRAM = crates/kmap/out/kmap
+LIBRARY = crates/kmap_c/out/libkmap_c.a
 REFUSALS = crates/refusals/out/refusals
 
+LIB = $(DESTDIR)$(PREFIX)/lib
+INCLUDE = $(DESTDIR)$(PREFIX)/include
 SHARE = $(DESTDIR)$(PREFIX)/share
 MAN = $(SHARE)/man
 BASH_COMPLETIONS = $(SHARE)/bash-completion/completions
@@ -24,11 +29,13 @@ DOC = $(SHARE)/doc/kmap
 
 all:
 	cd crates/kmap && $(RT) run -- --version > /dev/null
+	cd crates/kmap_c && $(RT) lib > /dev/null
 
 # `rt ci` builds both programs anew, and the scripts take what it leaves.
 check:
 	$(RT) ci
 	sh tests/program.sh $(PROGRAM)
+	sh tests/c_library.sh $(PROGRAM) $(LIBRARY)
 	sh tests/completions.sh $(PROGRAM)
 	sh tests/manual.sh $(PROGRAM)
 	sh tests/install.sh
@@ -39,10 +46,15 @@ bench: all
 	sh bench/run.sh $(PROGRAM)
 
 install: all
-	$(INSTALL) -d "$(DESTDIR)$(PREFIX)/bin" "$(MAN)/man1" "$(MAN)/man5" "$(EXAMPLES)" "$(DOC)/docs" \
-	    "$(BASH_COMPLETIONS)" "$(FISH_COMPLETIONS)" "$(ZSH_COMPLETIONS)"
+	$(INSTALL) -d "$(DESTDIR)$(PREFIX)/bin" "$(LIB)/pkgconfig" "$(INCLUDE)" "$(MAN)/man1" "$(MAN)/man3" \
+	    "$(MAN)/man5" "$(EXAMPLES)" "$(DOC)/docs" "$(BASH_COMPLETIONS)" \
+	    "$(FISH_COMPLETIONS)" "$(ZSH_COMPLETIONS)"
 	$(INSTALL) -m 755 $(PROGRAM) "$(DESTDIR)$(PREFIX)/bin/kmap"
-	for page in 1 5; do \
+	$(INSTALL) -m 644 $(LIBRARY) "$(LIB)/libkmap.a"
+	$(INSTALL) -m 644 include/kmap.h "$(INCLUDE)"
+	sed 's,/usr/local,$(PREFIX),g' include/kmap.pc > "$(LIB)/pkgconfig/kmap.pc"
+	chmod 644 "$(LIB)/pkgconfig/kmap.pc"
+	for page in 1 3 5; do \
 	    sed 's,/usr/local,$(PREFIX),g' man/kmap.$$page > "$(MAN)/man$$page/kmap.$$page" && \
 	    chmod 644 "$(MAN)/man$$page/kmap.$$page" || exit 1; \
 	done
@@ -55,7 +67,8 @@ install: all
 
 # Folders that other programs share stay, and so does what a user put into the program's own.
 uninstall:
-	rm -f "$(DESTDIR)$(PREFIX)/bin/kmap" "$(MAN)/man1/kmap.1" "$(MAN)/man5/kmap.5"
+	rm -f "$(DESTDIR)$(PREFIX)/bin/kmap" "$(LIB)/libkmap.a" "$(INCLUDE)/kmap.h" "$(LIB)/pkgconfig/kmap.pc"
+	rm -f "$(MAN)/man1/kmap.1" "$(MAN)/man3/kmap.3" "$(MAN)/man5/kmap.5"
 	rm -f "$(BASH_COMPLETIONS)/kmap" "$(FISH_COMPLETIONS)/kmap.fish" "$(ZSH_COMPLETIONS)/_kmap"
 	for file in examples/*; do rm -f "$(EXAMPLES)/$${file#examples/}"; done
 	for file in README.md CHANGELOG.md LICENSE docs/*.md; do rm -f "$(DOC)/$$file"; done

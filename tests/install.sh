@@ -2,7 +2,7 @@
 # Installs the program into an empty folder and takes it away again, with GNU make and with BSD make. In place of the
 # kit's rt stands a program that notes that it was asked to build, or one that fails.
 #
-# usage: install.sh, with the program already built
+# usage: install.sh, with the program and the C library already built
 # The last line is 'N passed, M failed'; the status is 0 where none failed.
 
 top=$(cd "$(dirname "$0")/.." && pwd)
@@ -12,7 +12,7 @@ trap 'rm -rf "$folder"' EXIT
 cd "$top" || exit 1
 # What a make that runs this script was told is not for the ones below.
 unset MAKEFLAGS MFLAGS MAKELEVEL
-printf '#!/bin/sh\necho "${PWD##*/} $*" > "%s/asked"\n' "$folder" > "$folder/built"
+printf '#!/bin/sh\necho "${PWD##*/} $*" >> "%s/asked"\n' "$folder" > "$folder/built"
 printf '#!/bin/sh\nexit 1\n' > "$folder/not built"
 chmod +x "$folder/built" "$folder/not built"
 place="$folder/a place"
@@ -20,6 +20,9 @@ own=$place/opt/kmap
 
 cat > "$folder/wanted" << 'END'
 bin/kmap
+include/kmap.h
+lib/libkmap.a
+lib/pkgconfig/kmap.pc
 share/bash-completion/completions/kmap
 share/doc/kmap/CHANGELOG.md
 share/doc/kmap/LICENSE
@@ -30,11 +33,14 @@ share/doc/kmap/docs/FORMATS.md
 share/doc/kmap/docs/TRANSLATION.md
 share/examples/kmap/de.kbd
 share/examples/kmap/de.script
+share/examples/kmap/line.numbers
 share/examples/kmap/line.script
 share/examples/kmap/trap.kbd
+share/examples/kmap/type.c
 share/examples/kmap/us.kbd
 share/fish/vendor_completions.d/kmap.fish
 share/man/man1/kmap.1
+share/man/man3/kmap.3
 share/man/man5/kmap.5
 share/zsh/site-functions/_kmap
 END
@@ -52,12 +58,15 @@ refused() {
 # installs MAKE: installing and taking away with this make
 installs() {
     holds "$1 installs" made "$1" "$folder/built" install
-    holds "$1 asks for the build first" grep -qx 'kmap run -- --version' "$folder/asked"
+    holds "$1 asks for the build of the program first" grep -qx 'kmap run -- --version' "$folder/asked"
+    holds "$1 asks for the build of the library first" grep -qx 'kmap_c lib' "$folder/asked"
     (cd "$own" && find . -type f) | sed 's/^\.\///' | LC_ALL=C sort > "$folder/got"
     same_text "$1 installs these files" "$folder/wanted" "$folder/got"
     holds "$1 installs nothing elsewhere" [ "$(find "$place" -type f | wc -l)" -eq "$(wc -l < "$folder/wanted")" ]
     holds "$1 installs the program" cmp -s crates/kmap/out/kmap "$own/bin/kmap"
     holds "$1 installs a program that runs" "$own/bin/kmap" check "$own/share/examples/kmap/de.kbd" > "$folder/said"
+    holds "$1 installs the library" cmp -s crates/kmap_c/out/libkmap_c.a "$own/lib/libkmap.a"
+    holds "$1 installs a kmap.pc that names this place" grep -qx 'prefix=/opt/kmap' "$own/lib/pkgconfig/kmap.pc"
     holds "$1 installs pages that name this place" grep -q '^\.It Pa /opt/kmap/share/doc' "$own/share/man/man1/kmap.1"
     holds "$1 installs again" made "$1" "$folder/built" install
 

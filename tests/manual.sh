@@ -19,7 +19,7 @@ cd "$top" || exit 1
 version=$("$program" --version | sed -n 's/^kmap \([0-9.]*\)$/\1/p')
 holds 'the program has a version' [ -n "$version" ]
 holds 'the newest change is of this version' [ "$(sed -n 's/^## //p' CHANGELOG.md | head -n 1)" = "$version" ]
-for page in man/kmap.1 man/kmap.5; do
+for page in man/kmap.1 man/kmap.3 man/kmap.5; do
     holds "$page is of this version" grep -qx "This page is that of version $version\." "$page"
 done
 
@@ -44,9 +44,19 @@ for kind in $kinds Short Long BadLine BadKey; do
     holds "kmap(1) tells of $kind" grep -qw "$kind" man/kmap.1
 done
 
+# Functions of the header stand in the page as `Fn`.
+functions=$(sed -n 's/^[a-z0-9_]* \(kmap_[a-z_]*\)(.*/\1/p' include/kmap.h)
+holds 'the header has functions' [ "$(echo "$functions" | wc -l)" -ge 8 ]
+for function in $functions; do
+    holds "kmap(3) tells of $function" grep -q "^\.F[on] $function" man/kmap.3
+done
+for status in $(sed -n 's/^#define \(KMAP_[A-Z_]*\) (-.*/\1/p' include/kmap.h); do
+    holds "kmap(3) tells of $status" grep -qw "$status" man/kmap.3
+done
+
 # Pages of FreeBSD needn't be installed where this runs.
 if is_there mandoc; then
-    for page in man/kmap.1 man/kmap.5; do
+    for page in man/kmap.1 man/kmap.3 man/kmap.5; do
         said=$(mandoc -Tlint "$page" | grep -v 'STYLE: referenced manual not found: Xr ')
         holds "mandoc on $page: $said" [ -z "$said" ]
     done

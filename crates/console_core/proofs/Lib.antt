@@ -1,6 +1,7 @@
 pub mod Agreeing
 pub mod Bearing
 pub mod Borne
+pub mod Bytes
 pub mod Codes
 pub mod Deliveries
 pub mod Facts

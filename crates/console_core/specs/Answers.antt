@@ -1,8 +1,8 @@
 -- What is answered: to a character, to an action that is taken, and to a release.
-use Rattle.std.specs.Prelude.{ℕ, ◌==◌, Bool, false, not, List, [], ◌∷◌, Option, None, Some, if◌then◌else◌}
+use Rattle.std.specs.Prelude.{ℕ, ◌==◌, Bool, false, not, Option, None, Some, if◌then◌else◌}
 use Rattle.keymap_core.specs.declared.action.Action.{Action}
 use Rattle.keymap_core.specs.declared.action.Action.TheVariants as act
-use Rattle.keymap_core.specs.Accents.{AccentValue}
+use Rattle.keymap_core.specs.Accents.{AccentValue, first_result, own_of}
 use Rattle.keymap_core.specs.Maps.{MapValue, accent_at}
 use Rattle.console_core.specs.declared.event.Answer.{Answer}
 use Rattle.console_core.specs.declared.event.Answer.TheVariants as answer
@@ -15,11 +15,6 @@ has_own (Some a) = not (a.own == 0)
 abbrev pub usable : MapValue → ℕ → Bool
 usable m i = has_own (accent_at m i)
 
--- the result of the first pair with this base
-abbrev pub first_result : List (ℕ × ℕ) → ℕ → Option ℕ
-first_result [] c = None
-first_result (p ∷ rest) c = if p.0 == c then Some p.1 else first_result rest c
-
 -- an accent with the character c: its own character for 32
 abbrev pub composed : AccentValue → ℕ → Option ℕ
 composed a c = if c == 32 then Some a.own else first_result a.pairs c
@@ -27,10 +22,6 @@ composed a c = if c == 32 then Some a.own else first_result a.pairs c
 abbrev pub composed_by : Option AccentValue → ℕ → Option ℕ
 composed_by None c = None
 composed_by (Some a) c = composed a c
-
-abbrev pub own_of : Option AccentValue → Option ℕ
-own_of None = None
-own_of (Some a) = Some a.own
 
 abbrev pub char_or_error : Bool → Option ℕ → Answer
 char_or_error meta None = answer.Error

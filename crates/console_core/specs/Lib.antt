@@ -8,6 +8,7 @@ pub mod History
 pub mod Kept
 pub mod Loads
 pub mod Moves
+pub mod Packed
 pub mod Plain
 pub mod Positions
 pub mod Raw

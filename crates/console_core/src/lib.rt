@@ -7,6 +7,9 @@
 //! `laws` has what follows for all lists: in a keymap where no key bears a modifier or lock beside a character, a modifier is
 //! on only while a key that bears it is pressed, and once every key is released the console goes on as after a reset.
 //!
+//! `step_kept` is the step of `WordConsole` over a `WordStore` that the caller keeps, for who calls from C. Each of them runs
+//! over a keymap however it is kept (`keymap_core::Keymap`).
+//!
 //! `sticking` decides by a search whether a keymap can leave a modifier on while no key is pressed.
 //!
 //! No call takes memory but `replay` and `sticking`, and no call fails but for want of memory there.
@@ -14,6 +17,7 @@
 
 mod event;
 mod held;
+mod kept;
 pub mod laws;
 mod machine;
 mod outcome;
@@ -30,9 +34,11 @@ mod word_console;
 mod word_store;
 
 pub use event::{Answer, Event};
+pub use kept::{locks_kept, modifiers_kept, pending_kept, start_kept, step_kept};
 pub use outcome::Sticking;
 pub use plain_console::PlainConsole;
 pub use replays::replay;
 pub use search::sticking;
 pub use translator::Translator;
 pub use word_console::WordConsole;
+pub use word_store::WordStore;

@@ -1,11 +1,12 @@
 //! The machine that both consoles run: how an event changes what a store keeps, and the answer to it. It follows
 //! genkbd_keyaction of sys/dev/kbd/kbd.c.
 ghost use Rattle.std.specs.Prelude.{◌≡◌, ◌<◌, List, ◌∷◌, [], ◌||◌};
+ghost use Rattle.keymap_core.specs.Maps.{MapValue};
 ghost use Rattle.console_core.specs.declared.event.Event.{Event as EventValue};
 ghost use Rattle.console_core.specs.Columns.{look_with, slot_of, is_upper};
 ghost use Rattle.console_core.specs.Answers.{answer_char, answer_action as answer_action_of, answer_release};
 ghost use Rattle.console_core.specs.Resolved.{taken_over};
-ghost use Rattle.console_core.specs.History.{Maps, between, in_force, loaded, AnswerTo};
+ghost use Rattle.console_core.specs.History.{Maps, in_force, loaded, AnswerTo};
 ghost use Rattle.console_core.specs.Kept.{nothing_kept, with_offered, with_lock_taken, with_taken, with_released};
 ghost use Rattle.console_core.specs.Kept.{with_lock_borne};
 ghost use Rattle.console_core.specs.Kept.{after_character, after_action, after_release, after_load};
@@ -15,7 +16,7 @@ use crate::event::{Answer, Event};
 use crate::rules::{answer_action, column, compose, flips, next_pending};
 use crate::store::Store;
 use crate::translator::Translator;
-use keymap_core::{Action, Cell, Holding, KeyCode, KeyMap, Lock, Modifier};
+use keymap_core::{Action, Cell, Holding, KeyCode, Keymap, Lock, Modifier, is_borne_in};
 
 fn is_on<S: Store>(store: &S, modifier: Modifier) -> bool
     ensures { result ≡ (S.kept store.now).mark (Holding.Mod modifier) }
@@ -36,19 +37,20 @@ fn slot<S: Store>(store: &S, key: KeyCode) -> u8
     if upper { key.get() + 128 } else { key.get() }
 }
 
-fn look<S: Store>(store: &S, map: &KeyMap, key: KeyCode) -> Cell
-    ensures { result ≡ look_with map.now (λ i. (S.kept store.now).mark (Holding.Mod i)) (S.kept store.now).lock key }
+fn look<K: Keymap, S: Store>(store: &S, map: &K, key: KeyCode) -> Cell
+    ensures { (m : MapValue) → K.shows map.now m
+        → result ≡ look_with m (λ i. (S.kept store.now).mark (Holding.Mod i)) (S.kept store.now).lock key }
 {
-    let entry = map.entry(slot(store, key));
+    let slot = slot(store, key);
     let flipped = flips(
-        entry.flag,
+        map.flag(slot),
         store.is_locked(Lock::Caps),
         store.is_locked(Lock::Num),
     );
     let shift = is_either_on(store, Modifier::LeftShift, Modifier::RightShift) != flipped;
     let control = is_either_on(store, Modifier::LeftControl, Modifier::RightControl);
     let alt = is_either_on(store, Modifier::LeftAlt, Modifier::RightAlt);
-    entry.cells[column(shift, control, alt)]
+    map.cell(slot, column(shift, control, alt))
 }
 
 /// The action that a press takes, and what it leaves remembered.
@@ -100,9 +102,9 @@ fn let_go<S: Store>(store: &mut S, released: &Action)
 }
 
 #[tactic(auto, using(crate::proofs::Keeping::keeping))]
-fn press_character<S: Store>(store: &mut S, map: &KeyMap, key: KeyCode, c: char) -> Answer
-    ensures answer { let old = S.kept store.old in
-        result ≡ answer_char map.now old.pending (old.mark (Holding.Mod Modifier.Meta)) c }
+fn press_character<K: Keymap, S: Store>(store: &mut S, map: &K, key: KeyCode, c: char) -> Answer
+    ensures answer { let old = S.kept store.old in (m : MapValue) → K.shows map.now m
+        → result ≡ answer_char m old.pending (old.mark (Holding.Mod Modifier.Meta)) c }
     ensures kept { S.kept store.new ≡ after_character key (S.kept store.old) }
 {
     let answer = compose(map, store.pending(), c, is_on(store, Modifier::Meta));
@@ -112,12 +114,13 @@ fn press_character<S: Store>(store: &mut S, map: &KeyMap, key: KeyCode, c: char)
 }
 
 #[inline(always)]
-fn press_action<S: Store>(store: &mut S, map: &KeyMap, key: KeyCode, action: Action) -> Answer
-    ensures answer { let old = S.kept store.old in
-        result ≡ answer_action_of map.now old.pending (old.mark (Holding.Mod Modifier.Meta))
+fn press_action<K: Keymap, S: Store>(store: &mut S, map: &K, key: KeyCode, action: Action) -> Answer
+    ensures answer { let old = S.kept store.old in (m : MapValue) → K.shows map.now m
+        → result ≡ answer_action_of m old.pending (old.mark (Holding.Mod Modifier.Meta))
         (taken_over (old.memory key) action) }
     ensures in_range { key < 128 }
-    ensures kept { S.kept store.new ≡ after_action map.now key action (S.kept store.old) }
+    ensures kept { (m : MapValue) → K.shows map.now m
+        → S.kept store.new ≡ after_action m key action (S.kept store.old) }
 {
     let pending = store.pending();
     let meta = is_on(store, Modifier::Meta);
@@ -145,11 +148,11 @@ fn release<S: Store>(store: &mut S, key: KeyCode) -> Answer
 }
 
 /// Turns the lock off if no key of the map bears it.
-fn keep_if_borne<S: Store>(store: &mut S, map: &KeyMap, lock: Lock)
-    ensures { S.kept store.new ≡ with_lock_borne map.now lock (S.kept store.old) }
+fn keep_if_borne<K: Keymap, S: Store>(store: &mut S, map: &K, lock: Lock)
+    ensures { (m : MapValue) → K.shows map.now m → S.kept store.new ≡ with_lock_borne m lock (S.kept store.old) }
 {
     if store.is_locked(lock) {
-        if !map.is_borne(Holding::Lock(lock)) {
+        if !is_borne_in(map, Holding::Lock(lock)) {
             store.turn(lock);
         }
     }
@@ -158,8 +161,8 @@ fn keep_if_borne<S: Store>(store: &mut S, map: &KeyMap, lock: Lock)
 /// Forgets what a reset forgets, puts the other map in force and turns off each lock that no key of it bears.
 #[inline(never)]
 #[tactic(auto, using(crate::proofs::Keeping::keeping))]
-fn load<S: Store>(store: &mut S, next: &KeyMap)
-    ensures { S.kept store.new ≡ after_load next.now (S.kept store.old) }
+fn load<K: Keymap, S: Store>(store: &mut S, next: &K)
+    ensures { (m : MapValue) → K.shows next.now m → S.kept store.new ≡ after_load m (S.kept store.old) }
 {
     store.reset();
     store.exchange();
@@ -171,11 +174,11 @@ fn load<S: Store>(store: &mut S, next: &KeyMap)
 
 /// The answer to an event, and the store after it, under a map in force and the one that a load puts in force.
 #[inline(always)]
-fn step<S: Store>(store: &mut S, map: &KeyMap, next: &KeyMap, event: Event) -> Answer
-    ensures answer { (ms : Maps) (h : List EventValue) → map.now ≡ in_force ms h → next.now ≡ loaded ms h
+fn step<K: Keymap, S: Store>(store: &mut S, map: &K, next: &K, event: Event) -> Answer
+    ensures answer { (ms : Maps) (h : List EventValue) → K.shows map.now (in_force ms h) → K.shows next.now (loaded ms h)
         → StandsAt ms h (S.kept store.old)
         → result ≡ AnswerTo ms h event }
-    ensures next { (ms : Maps) (h : List EventValue) → map.now ≡ in_force ms h → next.now ≡ loaded ms h
+    ensures next { (ms : Maps) (h : List EventValue) → K.shows map.now (in_force ms h) → K.shows next.now (loaded ms h)
         → StandsAt ms h (S.kept store.old)
         → StandsAt ms (event ∷ h) (S.kept store.new) }
 {
@@ -196,19 +199,36 @@ fn step<S: Store>(store: &mut S, map: &KeyMap, next: &KeyMap, event: Event) -> A
     }
 }
 
+/// The answer to an event, and the store after it, between two maps.
+#[inline(always)]
+pub fn deliver<K: Keymap, S: Store>(store: &mut S, first: &K, second: &K, event: Event) -> Answer
+    ensures answer { (ms : Maps) (h : List EventValue) → K.shows first.now ms.first → K.shows second.now ms.second
+        → StandsAt ms h (S.kept store.old)
+        → result ≡ AnswerTo ms h event }
+    ensures next { (ms : Maps) (h : List EventValue) → K.shows first.now ms.first → K.shows second.now ms.second
+        → StandsAt ms h (S.kept store.old)
+        → StandsAt ms (event ∷ h) (S.kept store.new) }
+{
+    let is_second = store.is_second();
+    let map = if is_second { second } else { first };
+    let next = if is_second { first } else { second };
+    step(store, map, next, event)
+}
+
 /// A console between two maps, which keeps its state in the store.
 #[derive(Drop)]
-pub struct Console<'m, S: Drop> {
-    first: &'m KeyMap,
-    second: &'m KeyMap,
+pub struct Console<'m, K, S: Drop> {
+    first: &'m K,
+    second: &'m K,
     store: S,
 }
 
-impl<'m, S: Store + Drop> Console<'m, S> {
+impl<'m, K: Keymap, S: Store + Drop> Console<'m, K, S> {
     /// A console that keeps its state in a store of nothing, the first map in force.
-    pub fn over(first: &'m KeyMap, second: &'m KeyMap, store: S) -> Console<'m, S>
+    pub fn over(first: &'m K, second: &'m K, store: S) -> Console<'m, K, S>
         requires { S.kept store ≡ nothing_kept }
-        ensures { ⟦<Console<'m, S> as Translator>⟧.stands result (between first.now second.now) [] }
+        ensures { (ms : Maps) → K.shows first.now ms.first → K.shows second.now ms.second
+            → ⟦<Console<'m, K, S> as Translator>⟧.stands result ms [] }
     {
         Console {
             first,
@@ -218,7 +238,7 @@ impl<'m, S: Store + Drop> Console<'m, S> {
     }
 }
 
-impl<'m, S: Drop> Console<'m, S> {
+impl<'m, K, S: Drop> Console<'m, K, S> {
     /// What the state is kept in.
     pub fn store(&self) -> &S
         ensures { result.now ≡ self.now.store }
@@ -227,7 +247,7 @@ impl<'m, S: Drop> Console<'m, S> {
     }
 
     /// A console between the same maps, which keeps its state in this store.
-    pub fn with_store(&self, store: S) -> Console<'m, S>
+    pub fn with_store(&self, store: S) -> Console<'m, K, S>
         ensures first { result.first ≡ self.now.first }
         ensures second { result.second ≡ self.now.second }
         ensures store { result.store ≡ store }
@@ -240,13 +260,13 @@ impl<'m, S: Drop> Console<'m, S> {
     }
 }
 
-impl<'m, S: Store + Drop> Translator for Console<'m, S> {
+impl<'m, K: Keymap, S: Store + Drop> Translator for Console<'m, K, S> {
     ghost use Rattle.std.specs.Prelude.{◌≡◌};
     ghost use Rattle.keymap_core.specs.declared.action.Holding.TheVariants.{Mod};
     ghost use Rattle.console_core.specs.Agrees.{StandsAt};
     ghost use Rattle.console_core.specs.History.{HasKeys};
 
-    ghost stands = { λ c ms h. (c.first.now ≡ ms.first) × (c.second.now ≡ ms.second) × HasKeys h
+    ghost stands = { λ c ms h. K.shows c.first.now ms.first × K.shows c.second.now ms.second × HasKeys h
         × StandsAt ms h (S.kept c.store) };
 
     ghost shows_on = { λ c i. (S.kept c.store).mark (Mod i) };
@@ -265,10 +285,7 @@ impl<'m, S: Store + Drop> Translator for Console<'m, S> {
 
     #[inline(always)]
     fn step(&mut self, event: Event) -> Answer {
-        let is_second = self.store.is_second();
-        let map = if is_second { self.second } else { self.first };
-        let next = if is_second { self.first } else { self.second };
-        step(&mut self.store, map, next, event)
+        deliver(&mut self.store, self.first, self.second, event)
     }
 
     fn on(&self, modifier: Modifier) -> bool {

@@ -1,18 +1,19 @@
 //! The console with a truth value for each modifier, lock and down mark.
 ghost use Rattle.std.specs.Prelude.{[]};
+ghost use Rattle.keymap_core.specs.Maps.{MapValue};
 ghost use Rattle.console_core.specs.History.{between};
 
 use crate::event::{Answer, Event};
 use crate::machine::Console;
 use crate::plain_store::PlainStore;
 use crate::translator::Translator;
-use keymap_core::{KeyMap, Lock, Modifier};
+use keymap_core::{KeyMap, Keymap, Lock, Modifier};
 
 /// A console that keeps a truth value for each modifier, lock and down mark, an optional action for each key, an optional
 /// pending accent, and a truth value for the map in force.
 #[derive(Drop)]
-pub struct PlainConsole<'m> {
-    console: Console<'m, PlainStore>,
+pub struct PlainConsole<'m, K = KeyMap> {
+    console: Console<'m, K, PlainStore>,
 }
 
 impl<'m> PlainConsole<'m> {
@@ -27,22 +28,33 @@ impl<'m> PlainConsole<'m> {
     pub fn between(first: &'m KeyMap, second: &'m KeyMap) -> PlainConsole<'m>
         ensures { ⟦<PlainConsole<'m> as Translator>⟧.stands result (between first.now second.now) [] }
     {
+        PlainConsole::over(first, second)
+    }
+}
+
+impl<'m, K: Keymap> PlainConsole<'m, K> {
+    /// A console of two keymaps, however they are kept, the first one in force. All modifiers and locks are off and
+    /// nothing is pending.
+    pub fn over(first: &'m K, second: &'m K) -> PlainConsole<'m, K>
+        ensures { (m n : MapValue) → K.shows first.now m → K.shows second.now n
+            → ⟦<PlainConsole<'m, K> as Translator>⟧.stands result (between m n) [] }
+    {
         PlainConsole {
             console: Console::over(first, second, PlainStore::new()),
         }
     }
 }
 
-impl<'m> Translator for PlainConsole<'m> {
+impl<'m, K: Keymap> Translator for PlainConsole<'m, K> {
     ghost use Rattle.keymap_core.specs.declared.action.Holding.TheVariants.{Mod};
 
-    ghost stands = { λ c. ⟦<Console<'m, PlainStore> as Translator>⟧.stands c.console };
+    ghost stands = { λ c. ⟦<Console<'m, K, PlainStore> as Translator>⟧.stands c.console };
 
-    ghost shows_on = { λ c. ⟦<Console<'m, PlainStore> as Translator>⟧.shows_on c.console };
+    ghost shows_on = { λ c. ⟦<Console<'m, K, PlainStore> as Translator>⟧.shows_on c.console };
 
-    ghost shows_locked = { λ c. ⟦<Console<'m, PlainStore> as Translator>⟧.shows_locked c.console };
+    ghost shows_locked = { λ c. ⟦<Console<'m, K, PlainStore> as Translator>⟧.shows_locked c.console };
 
-    ghost shows_pending = { λ c. ⟦<Console<'m, PlainStore> as Translator>⟧.shows_pending c.console };
+    ghost shows_pending = { λ c. ⟦<Console<'m, K, PlainStore> as Translator>⟧.shows_pending c.console };
 
     ghost on_where_it_stands = { λ c ms h at i. at.3.agrees.marks (Mod i) };
 

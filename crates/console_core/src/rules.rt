@@ -2,45 +2,29 @@
 //! press takes.
 ghost use Rattle.std.specs.Prelude.{◌≡◌, ◌<◌, IfSome, if◌then◌else◌};
 ghost use Rattle.console_core.specs.Columns.{flips as flips_by, column_of};
-ghost use Rattle.console_core.specs.Answers.{first_result as first_result_of, answer_char, usable};
+ghost use Rattle.keymap_core.specs.Maps.{MapValue};
+ghost use Rattle.console_core.specs.Answers.{answer_char, usable};
 ghost use Rattle.console_core.specs.Answers.{answer_dead_key as answer_dead_key_of};
 ghost use Rattle.console_core.specs.Answers.{answer_action as answer_action_of};
 ghost use Rattle.console_core.specs.Kept.{next_pending as next_pending_of, toggled as toggled_of};
 
 use crate::event::Answer;
-use keymap_core::{Action, KeyMap, LockFlag};
-
-/// The result of the accent's first pair with this base.
-#[inline(never)]
-fn first_result(pairs: &[(char, char)], base: char) -> Option<char>
-    ensures { result ≡ first_result_of pairs.now base }
-{
-    for (from, to) in pairs {
-        if *from == base {
-            return Some(*to);
-        }
-    }
-    None
-}
+use keymap_core::{Action, Keymap, LockFlag};
 
 /// What a character becomes under the pending accent, if one is pending.
 #[inline(always)]
-pub fn compose(map: &KeyMap, pending: Option<u8>, c: char, meta: bool) -> Answer
-    ensures { result ≡ answer_char map.now pending meta c }
+pub fn compose<K: Keymap>(map: &K, pending: Option<u8>, c: char, meta: bool) -> Answer
+    ensures { (m : MapValue) → K.shows map.now m → result ≡ answer_char m pending meta c }
 {
     let Some(index) = pending else {
         return Answer::Char { c, meta };
     };
-    let Some(accent) = map.accent(index) else {
-        return Answer::Error;
+    let found = if c == ' ' {
+        map.own(index)
+    } else {
+        map.composed(index, c)
     };
-    if c == ' ' {
-        return Answer::Char {
-            c: accent.own(),
-            meta,
-        };
-    }
-    match first_result(accent.pairs(), c) {
+    match found {
         Some(c) => Answer::Char { c, meta },
         None => Answer::Error,
     }
@@ -66,18 +50,18 @@ pub fn column(shift: bool, control: bool, alt: bool) -> usize
 }
 
 /// Whether the dead key is in the accent map.
-fn is_usable(map: &KeyMap, index: u8) -> bool
-    ensures { result ≡ usable map.now index }
+fn is_usable<K: Keymap>(map: &K, index: u8) -> bool
+    ensures { (m : MapValue) → K.shows map.now m → result ≡ usable m index }
 {
-    match map.accent(index) {
-        Some(accent) => accent.own() != '\0',
+    match map.own(index) {
+        Some(own) => own != '\0',
         None => false,
     }
 }
 
 /// What is pending after a press that takes the action.
-pub fn next_pending(map: &KeyMap, pending: Option<u8>, taken: &Action) -> Option<u8>
-    ensures value { result ≡ next_pending_of map.now pending taken.now }
+pub fn next_pending<K: Keymap>(map: &K, pending: Option<u8>, taken: &Action) -> Option<u8>
+    ensures value { (m : MapValue) → K.shows map.now m → result ≡ next_pending_of m pending taken.now }
     ensures in_range { IfSome pending (λ i. i < 15) → IfSome result (λ i. i < 15) }
 {
     match taken {
@@ -88,9 +72,10 @@ pub fn next_pending(map: &KeyMap, pending: Option<u8>, taken: &Action) -> Option
 }
 
 /// What is pending after a press that takes the dead key.
-fn toggled(map: &KeyMap, pending: Option<u8>, index: u8) -> Option<u8>
+fn toggled<K: Keymap>(map: &K, pending: Option<u8>, index: u8) -> Option<u8>
     requires { index < 15 }
-    ensures value { result ≡ toggled_of (if usable map.now index then Some index else None) pending }
+    ensures value { (m : MapValue) → K.shows map.now m
+        → result ≡ toggled_of (if usable m index then Some index else None) pending }
     ensures in_range { IfSome result (λ i. i < 15) }
 {
     if is_usable(map, index) && pending != Some(index) {
@@ -102,16 +87,13 @@ fn toggled(map: &KeyMap, pending: Option<u8>, index: u8) -> Option<u8>
 
 /// The answer to a dead key.
 #[inline(never)]
-fn answer_dead_key(map: &KeyMap, pending: Option<u8>, meta: bool, index: u8) -> Answer
-    ensures { result ≡ answer_dead_key_of map.now pending meta index }
+fn answer_dead_key<K: Keymap>(map: &K, pending: Option<u8>, meta: bool, index: u8) -> Answer
+    ensures { (m : MapValue) → K.shows map.now m → result ≡ answer_dead_key_of m pending meta index }
 {
-    match map.accent(index) {
-        Some(accent) if accent.own() != '\0' => {
+    match map.own(index) {
+        Some(own) if own != '\0' => {
             if pending == Some(index) {
-                Answer::Char {
-                    c: accent.own(),
-                    meta,
-                }
+                Answer::Char { c: own, meta }
             } else {
                 Answer::None
             }
@@ -122,8 +104,8 @@ fn answer_dead_key(map: &KeyMap, pending: Option<u8>, meta: bool, index: u8) -> 
 
 /// The answer to a press that takes the action.
 #[inline(always)]
-pub fn answer_action(map: &KeyMap, pending: Option<u8>, meta: bool, taken: Action) -> Answer
-    ensures { result ≡ answer_action_of map.now pending meta taken }
+pub fn answer_action<K: Keymap>(map: &K, pending: Option<u8>, meta: bool, taken: Action) -> Answer
+    ensures { (m : MapValue) → K.shows map.now m → result ≡ answer_action_of m pending meta taken }
 {
     match &taken {
         Action::Nop => Answer::None,

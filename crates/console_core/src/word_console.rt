@@ -1,5 +1,6 @@
 //! The console that is packed into a word and a byte for each key.
 ghost use Rattle.std.specs.Prelude.{List, []};
+ghost use Rattle.keymap_core.specs.Maps.{MapValue};
 ghost use Rattle.console_core.specs.declared.event.Event.{Event as EventValue};
 ghost use Rattle.console_core.specs.History.{Maps, between};
 
@@ -7,13 +8,13 @@ use crate::event::{Answer, Event};
 use crate::machine::Console;
 use crate::translator::Translator;
 use crate::word_store::WordStore;
-use keymap_core::{KeyMap, Lock, Modifier};
+use keymap_core::{KeyMap, Keymap, Lock, Modifier};
 
 /// A console that keeps one word of 32 bits, for the modifiers, the locks, the down marks, the pending accent and the map
 /// in force, and a byte for each key, the code of its remembered action.
 #[derive(Drop)]
-pub struct WordConsole<'m> {
-    console: Console<'m, WordStore>,
+pub struct WordConsole<'m, K = KeyMap> {
+    console: Console<'m, K, WordStore>,
 }
 
 impl<'m> WordConsole<'m> {
@@ -28,15 +29,26 @@ impl<'m> WordConsole<'m> {
     pub fn between(first: &'m KeyMap, second: &'m KeyMap) -> WordConsole<'m>
         ensures { ⟦<WordConsole<'m> as Translator>⟧.stands result (between first.now second.now) [] }
     {
+        WordConsole::over(first, second)
+    }
+}
+
+impl<'m, K: Keymap> WordConsole<'m, K> {
+    /// A console of two keymaps, however they are kept, the first one in force. All modifiers and locks are off and
+    /// nothing is pending.
+    pub fn over(first: &'m K, second: &'m K) -> WordConsole<'m, K>
+        ensures { (m n : MapValue) → K.shows first.now m → K.shows second.now n
+            → ⟦<WordConsole<'m, K> as Translator>⟧.stands result (between m n) [] }
+    {
         WordConsole {
             console: Console::over(first, second, WordStore::new()),
         }
     }
 
     /// A console of the same maps that was delivered the same events.
-    pub fn copied(&self) -> WordConsole<'m>
-        ensures { (ms : Maps) (h : List EventValue) → ⟦<WordConsole<'m> as Translator>⟧.stands self.now ms h
-            → ⟦<WordConsole<'m> as Translator>⟧.stands result ms h }
+    pub fn copied(&self) -> WordConsole<'m, K>
+        ensures { (ms : Maps) (h : List EventValue) → ⟦<WordConsole<'m, K> as Translator>⟧.stands self.now ms h
+            → ⟦<WordConsole<'m, K> as Translator>⟧.stands result ms h }
     {
         WordConsole {
             console: self.console.with_store(self.console.store().copied()),
@@ -44,16 +56,16 @@ impl<'m> WordConsole<'m> {
     }
 }
 
-impl<'m> Translator for WordConsole<'m> {
+impl<'m, K: Keymap> Translator for WordConsole<'m, K> {
     ghost use Rattle.keymap_core.specs.declared.action.Holding.TheVariants.{Mod};
 
-    ghost stands = { λ c. ⟦<Console<'m, WordStore> as Translator>⟧.stands c.console };
+    ghost stands = { λ c. ⟦<Console<'m, K, WordStore> as Translator>⟧.stands c.console };
 
-    ghost shows_on = { λ c. ⟦<Console<'m, WordStore> as Translator>⟧.shows_on c.console };
+    ghost shows_on = { λ c. ⟦<Console<'m, K, WordStore> as Translator>⟧.shows_on c.console };
 
-    ghost shows_locked = { λ c. ⟦<Console<'m, WordStore> as Translator>⟧.shows_locked c.console };
+    ghost shows_locked = { λ c. ⟦<Console<'m, K, WordStore> as Translator>⟧.shows_locked c.console };
 
-    ghost shows_pending = { λ c. ⟦<Console<'m, WordStore> as Translator>⟧.shows_pending c.console };
+    ghost shows_pending = { λ c. ⟦<Console<'m, K, WordStore> as Translator>⟧.shows_pending c.console };
 
     ghost on_where_it_stands = { λ c ms h at i. at.3.agrees.marks (Mod i) };
 

@@ -1,20 +1,13 @@
 //! Which slots of a keymap are live, and which holding actions its keys bear.
 ghost use Rattle.std.specs.Prelude.{◌≡◌, ◌<◌, ◌≤◌};
-ghost use Rattle.keymap_core.specs.Maps.{cell_at};
+ghost use Rattle.keymap_core.specs.Maps.{MapValue};
 ghost use Rattle.keymap_core.specs.Actions.{holding_action};
 ghost use Rattle.keymap_core.specs.Borne.{is_cell_of_action, has_in_slot as has_in_slot_of, has_in_half as has_in_half_of, is_upper_live as is_upper_live_of, is_borne as is_borne_of};
 
 use crate::action::{Holding, Lock, Modifier};
 use crate::entry::Cell;
+use crate::keymap::Keymap;
 use crate::map::KeyMap;
-
-/// The cell of the slot in the column.
-fn cell(map: &KeyMap, slot: u8, column: usize) -> Cell
-    requires { column < 8 }
-    ensures { result ≡ cell_at map.now slot column }
-{
-    map.entry(slot).cells[column]
-}
 
 /// Whether the cell is the holding action.
 fn is_held(cell: Cell, holding: Holding) -> bool
@@ -27,11 +20,11 @@ fn is_held(cell: Cell, holding: Holding) -> bool
 }
 
 /// Whether some cell of the slot is the holding action.
-fn has_in_slot(map: &KeyMap, holding: Holding, slot: u8) -> bool
-    ensures { result ≡ has_in_slot_of map.now (holding_action holding) slot }
+fn has_in_slot<K: Keymap>(map: &K, holding: Holding, slot: u8) -> bool
+    ensures { (m : MapValue) → K.shows map.now m → result ≡ has_in_slot_of m (holding_action holding) slot }
 {
     for column in 0..8usize {
-        if is_held(cell(map, slot, column), holding) {
+        if is_held(map.cell(slot, column), holding) {
             return true;
         }
     }
@@ -39,9 +32,9 @@ fn has_in_slot(map: &KeyMap, holding: Holding, slot: u8) -> bool
 }
 
 /// Whether some cell of the 128 slots from this one on is the holding action.
-fn has_in_half(map: &KeyMap, holding: Holding, from: u8) -> bool
+fn has_in_half<K: Keymap>(map: &K, holding: Holding, from: u8) -> bool
     requires { from ≤ 128 }
-    ensures { result ≡ has_in_half_of map.now (holding_action holding) from }
+    ensures { (m : MapValue) → K.shows map.now m → result ≡ has_in_half_of m (holding_action holding) from }
 {
     for key in 0..128u8 {
         if has_in_slot(map, holding, key + from) {
@@ -51,13 +44,28 @@ fn has_in_half(map: &KeyMap, holding: Holding, from: u8) -> bool
     false
 }
 
+/// Whether the slots 128 to 255 are live: some cell of the slots 0 to 127 is ashift or alock.
+fn is_upper_live_in<K: Keymap>(map: &K) -> bool
+    ensures { (m : MapValue) → K.shows map.now m → result ≡ is_upper_live_of m }
+{
+    has_in_half(map, Holding::Mod(Modifier::AltShift), 0)
+        || has_in_half(map, Holding::Lock(Lock::Alt), 0)
+}
+
+/// Whether some key bears the holding action, in a cell of its slot or, where the slots 128 to 255 are live, of the slot
+/// 128 higher.
+pub fn is_borne_in<K: Keymap>(map: &K, holding: Holding) -> bool
+    ensures { (m : MapValue) → K.shows map.now m → result ≡ is_borne_of m holding }
+{
+    has_in_half(map, holding, 0) || (is_upper_live_in(map) && has_in_half(map, holding, 128))
+}
+
 impl KeyMap {
     /// Whether the slots 128 to 255 are live: some cell of the slots 0 to 127 is ashift or alock.
     pub fn is_upper_live(&self) -> bool
         ensures { result ≡ is_upper_live_of self.now }
     {
-        has_in_half(self, Holding::Mod(Modifier::AltShift), 0)
-            || has_in_half(self, Holding::Lock(Lock::Alt), 0)
+        is_upper_live_in(self)
     }
 
     /// Whether some key bears the holding action, in a cell of its slot or, where the slots 128 to 255 are live, of the slot
@@ -65,6 +73,6 @@ impl KeyMap {
     pub fn is_borne(&self, holding: Holding) -> bool
         ensures { result ≡ is_borne_of self.now holding }
     {
-        has_in_half(self, holding, 0) || (self.is_upper_live() && has_in_half(self, holding, 128))
+        is_borne_in(self, holding)
     }
 }

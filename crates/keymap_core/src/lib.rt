@@ -20,6 +20,7 @@ mod device;
 mod entry;
 mod from_std;
 mod key_code;
+mod keymap;
 pub mod laws;
 mod map;
 mod named;
@@ -35,10 +36,12 @@ pub use action::{
     AccentIndex, Action, FunctionNumber, HOLDINGS, Holding, LOCKS, Lock, MODIFIERS, Modifier, Name,
     ScreenNumber,
 };
+pub use bearers::is_borne_in;
 pub use device::{Failed, Read, Write};
 pub use entry::{Cell, Entry, LockFlag};
 pub use from_std::FromStd;
 pub use key_code::KeyCode;
+pub use keymap::Keymap;
 pub use map::{BadAccent, KeyMap};
 pub use named::Named;
 pub use stream::Stream;

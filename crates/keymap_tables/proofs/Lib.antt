@@ -2,6 +2,7 @@ pub mod AccentImages
 pub mod Cells
 pub mod Contents
 pub mod Images
+pub mod InPlace
 pub mod Lifting
 pub mod Outcomes
 pub mod Pads

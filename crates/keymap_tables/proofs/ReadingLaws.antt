@@ -28,13 +28,13 @@ cell-wide : (cell : Cell) → IsCell cell → CellFits wide cell
 cell-wide (Char c) known = scalar-small c known
 cell-wide (Act a) known = tt
 
-entry-wide : (entry : Entry) → IsEntry entry → EntryFits wide entry
+pub entry-wide : (entry : Entry) → IsEntry entry → EntryFits wide entry
 entry-wide entry known = All-weaker IsCell (CellFits wide) cell-wide entry.cells known.cells
 
-pair-wide : (pair : ℕ × ℕ) → IsPair pair → PairFits wide pair
+pub pair-wide : (pair : ℕ × ℕ) → IsPair pair → PairFits wide pair
 pair-wide pair known = (scalar-small pair.0 known.0, scalar-small pair.1 known.2)
 
-accent-wide : (accent : AccentValue) → IsAccent accent → AccentFits wide accent
+pub accent-wide : (accent : AccentValue) → IsAccent accent → AccentFits wide accent
 accent-wide accent known = (scalar-small accent.own known.own, All-weaker IsPair (PairFits wide) pair-wide accent.pairs known.pairs)
 
 pub map-wide : (m : MapValue) → IsMap m → FitsIn wide m

@@ -8,12 +8,16 @@
 //! `read_narrow` and `read_narrow_from` are the same calls for it. A map fits if no character is above 255; `write_narrow`
 //! names the first that is, and writes nothing.
 //!
-//! Both are one format at two widths (`Layout`): images, faults, writers and readers are said once.
+//! `Tables` is a keymap that is read in place, from the bytes of a table file: a console runs over it without a map and
+//! without memory.
+//!
+//! Both files are one format at two widths (`Layout`): images, faults, writers and readers are said once.
 //!
 //! It stands on keymap_core, which has the maps and the devices.
 #![tactic(auto)]
 
 mod accent;
+mod check;
 mod count;
 mod fault;
 pub mod laws;
@@ -25,12 +29,15 @@ mod read_accent;
 mod read_slot;
 mod slot;
 mod source;
+mod tables;
 #[cfg(test)]
 mod tests;
 mod write;
 
+pub use check::check_tables;
 pub use fault::{TableError, TableFault, TableFaultKind};
 pub use narrow::{NarrowError, Wide, write_narrow};
 pub use read::{read_narrow, read_tables};
 pub use source::{read_narrow_from, read_tables_from};
+pub use tables::Tables;
 pub use write::write_tables;

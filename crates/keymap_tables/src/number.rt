@@ -89,7 +89,7 @@ pub(crate) fn check_zeros(bytes: &[u8], from: usize, kind: TableFaultKind) -> Re
 }
 
 /// The first two bytes, as a number.
-fn read_half(bytes: &[u8]) -> u16
+pub(crate) fn read_half(bytes: &[u8]) -> u16
     requires { 2 ≤ length bytes.now }
     ensures { result ≡ count_at bytes.now 0 }
 {

@@ -13,7 +13,7 @@ use crate::number::{cell_of, check_zeros, read_number};
 use keymap_core::{Cell, Entry, LockFlag};
 
 /// The flag of a byte.
-fn flag_of(byte: u8) -> Option<LockFlag>
+pub(crate) fn flag_of(byte: u8) -> Option<LockFlag>
     ensures { MatchOption result (3 < byte) (λ flag. flag_number flag ≡ byte) }
 {
     match byte {

@@ -2,6 +2,7 @@
 //! which take memory succeed where there is memory.
 
 mod devices;
+mod in_place;
 mod maps;
 mod narrow;
 mod tables;

@@ -1,7 +1,9 @@
 use Rattle.std.proofs.Common.{◌≡◌, ◌+◌, false}
 use Rattle.keymap_core.specs.Actions.{holding_action}
+use Rattle.keymap_core.specs.Maps.{MapValue}
 use Rattle.keymap_core.specs.Borne.{any_below, has_in_slot}
 use Rattle.keymap_core.proofs.bearers.has_in_half.Given as goal
 
 abbrev pub invariant-loop-key : goal.invariant-loop-key
-invariant-loop-key l = (any_below (λ k. has_in_slot l.map (holding_action l.holding) (k + l.from)) l.key ≡ false)
+invariant-loop-key g l =
+    (m : MapValue) → g.K.Keymap.shows l.map m → any_below (λ k. has_in_slot m (holding_action l.holding) (k + l.from)) l.key ≡ false

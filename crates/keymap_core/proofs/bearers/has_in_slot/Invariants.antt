@@ -1,8 +1,9 @@
 use Rattle.std.proofs.Common.{◌≡◌, false}
 use Rattle.keymap_core.specs.Actions.{holding_action}
-use Rattle.keymap_core.specs.Maps.{cell_at}
+use Rattle.keymap_core.specs.Maps.{MapValue, cell_at}
 use Rattle.keymap_core.specs.Borne.{any_below, is_cell_of_action}
 use Rattle.keymap_core.proofs.bearers.has_in_slot.Given as goal
 
 abbrev pub invariant-loop-column : goal.invariant-loop-column
-invariant-loop-column l = (any_below (λ i. is_cell_of_action (holding_action l.holding) (cell_at l.map l.slot i)) l.column ≡ false)
+invariant-loop-column g l =
+    (m : MapValue) → g.K.Keymap.shows l.map m → any_below (λ i. is_cell_of_action (holding_action l.holding) (cell_at m l.slot i)) l.column ≡ false

@@ -1,0 +1,5 @@
+use Rattle.console_core.specs.History.{between}
+use Rattle.console_core.proofs.plain_console.PlainConsole.over.Goals as goal
+
+pub returns : goal.returns
+returns g c = λ m n first second. c.over.ensures (between m n) first second

@@ -1,0 +1,19 @@
+use Rattle.std.proofs.Common.{◌≡◌, ◌++◌, List, length, take, drop}
+use Rattle.std.specs.Prelude.{map, reverse}
+use Rattle.console_core.specs.declared.event.Event.{Event}
+use Rattle.console_core.specs.History.{Maps, AnswersTo}
+use Rattle.console_core.specs.Packed.{KeptAt}
+use Rattle.console_core.specs.Raw.{raw_of}
+use Rattle.kmap_c.specs.Numbers.{event_of}
+use Rattle.kmap_c.proofs.deliver_all.Given as goal
+
+-- The events so far are delivered, and their answers in place; the places past the events are as they were.
+abbrev pub invariant-loop-index : goal.invariant-loop-index
+invariant-loop-index g l = record {
+  long : length l.answers ≡ length l.fn.answers;
+  rest : drop (length l.events) l.answers ≡ drop (length l.events) l.fn.answers;
+  stands : (ms : Maps) (h : List Event) → g.K.Keymap.shows l.first ms.first → g.K.Keymap.shows l.second ms.second
+      → KeptAt ms h l.fn.store → KeptAt ms (reverse (map event_of (take l.index l.events)) ++ h) l.store;
+  answers : (ms : Maps) (h : List Event) → g.K.Keymap.shows l.first ms.first → g.K.Keymap.shows l.second ms.second
+      → KeptAt ms h l.fn.store → take l.index l.answers ≡ map raw_of (AnswersTo ms h (map event_of (take l.index l.events)));
+}

@@ -1,0 +1,178 @@
+/*
+ * Calls each function of the C library, with the tables of examples/us.kbd, and compares what it answers. What is
+ * wanted was put together by hand from keymap(5), sys/kbio.h and sys/dev/kbd/kbdreg.h.
+ *
+ * usage: c_library TABLES
+ */
+#include <kmap.h>
+#include <stdio.h>
+#include <string.h>
+
+static uint8_t tables[KMAP_TABLES_SIZE + 1];
+static unsigned passed, failed;
+
+static void holds(const char *name, int is)
+{
+	if (is) {
+		passed++;
+	} else {
+		failed++;
+		printf("failed: %s\n", name);
+	}
+}
+
+/* An event with its answer and what is on after it. */
+struct step {
+	uint16_t event;
+	uint32_t answer;
+	uint8_t modifiers, locks;
+	int32_t pending;
+};
+
+/* Left shift is code 2, caps lock 4, left alt 7, left control 9, f25 51 and dgra 137. */
+static const struct step steps[] = {
+	{ KMAP_PRESS(30), 'a', 0, 0, -1 },
+	{ KMAP_RELEASE(30), KMAP_NOKEY, 0, 0, -1 },
+	{ KMAP_PRESS(42), KMAP_SPCLKEY + 2, KMAP_LSHIFT, 0, -1 },
+	{ KMAP_PRESS(30), 'A', KMAP_LSHIFT, 0, -1 },
+	{ KMAP_RELEASE(42), KMAP_SPCLKEY + KMAP_RELKEY + 2, 0, 0, -1 },
+	{ KMAP_PRESS(56), KMAP_SPCLKEY + 7, KMAP_LALT, 0, -1 },
+	{ KMAP_PRESS(41), KMAP_NOKEY, KMAP_LALT, 0, 0 },
+	{ KMAP_RELEASE(41), KMAP_SPCLKEY + KMAP_RELKEY + 137, KMAP_LALT, 0, 0 },
+	{ KMAP_RELEASE(56), KMAP_SPCLKEY + KMAP_RELKEY + 7, 0, 0, 0 },
+	{ KMAP_PRESS(30), 0xe0, 0, 0, -1 },
+	{ KMAP_PRESS(58), KMAP_SPCLKEY + 4, 0, KMAP_CLOCK, -1 },
+	{ KMAP_RELEASE(58), KMAP_SPCLKEY + KMAP_RELKEY + 4, 0, KMAP_CLOCK, -1 },
+	{ KMAP_PRESS(30), 'A', 0, KMAP_CLOCK, -1 },
+	{ KMAP_PRESS(29), KMAP_SPCLKEY + 9, KMAP_LCTRL, KMAP_CLOCK, -1 },
+	{ KMAP_PRESS(59), KMAP_SPCLKEY + KMAP_FKEY + 51, KMAP_LCTRL, KMAP_CLOCK, -1 },
+	{ KMAP_RESET, KMAP_NOKEY, 0, KMAP_CLOCK, -1 },
+	{ KMAP_LOAD, KMAP_NOKEY, 0, KMAP_CLOCK, -1 },
+	{ KMAP_PRESS(30), 'A', 0, KMAP_CLOCK, -1 },
+};
+
+#define STEPS (sizeof steps / sizeof steps[0])
+
+static void check_steps(void)
+{
+	struct kmap_console console, between, all;
+	uint16_t events[STEPS];
+	uint32_t answer, answers[STEPS + 1];
+	char name[64];
+	size_t i;
+
+	kmap_start(&console);
+	kmap_start(&between);
+	kmap_start(&all);
+	for (i = 0; i < STEPS; i++) {
+		snprintf(name, sizeof name, "step %lu", (unsigned long)i);
+		holds(name, kmap_step(tables, KMAP_TABLES_SIZE, &console, steps[i].event, &answer) == KMAP_OK
+		    && answer == steps[i].answer && kmap_modifiers(&console) == steps[i].modifiers
+		    && kmap_locks(&console) == steps[i].locks && kmap_pending(&console) == steps[i].pending);
+		holds(name, kmap_step_between(tables, KMAP_TABLES_SIZE, tables, KMAP_TABLES_SIZE, &between,
+		    steps[i].event, &answer) == KMAP_OK && answer == steps[i].answer);
+		events[i] = steps[i].event;
+	}
+	answers[STEPS] = 77;
+	holds("all at once", kmap_deliver(tables, KMAP_TABLES_SIZE, tables, KMAP_TABLES_SIZE, &all, events, STEPS,
+	    answers, STEPS + 1) == KMAP_OK);
+	for (i = 0; i < STEPS; i++)
+		holds("an answer of all at once", answers[i] == steps[i].answer);
+	holds("the place past them stays", answers[STEPS] == 77);
+	holds("the consoles are one", memcmp(&all, &between, sizeof all) == 0);
+	holds("characters are told from marks", KMAP_IS_CHAR(KMAP_MKEY + 'a') && KMAP_CHAR(KMAP_MKEY + 'a') == 'a'
+	    && !KMAP_IS_CHAR(KMAP_NOKEY) && !KMAP_IS_CHAR(KMAP_ERRKEY) && !KMAP_IS_CHAR(KMAP_SPCLKEY));
+}
+
+static void check_refusals(void)
+{
+	struct kmap_console console, before;
+	uint16_t events[2] = { KMAP_PRESS(30), 258 };
+	uint32_t answer = 77, answers[2] = { 77, 77 };
+
+	memset(&console, 0x5a, sizeof console);
+	before = console;
+	holds("258 is no event", kmap_step(tables, KMAP_TABLES_SIZE, &console, 258, &answer) == KMAP_BAD_EVENT);
+	holds("one byte too few", kmap_step(tables, KMAP_TABLES_SIZE - 1, &console, 30, &answer) == KMAP_BAD_LENGTH);
+	holds("one byte too many", kmap_step_between(tables, KMAP_TABLES_SIZE, tables, KMAP_TABLES_SIZE + 1, &console,
+	    30, &answer) == KMAP_BAD_LENGTH);
+	holds("an event of two is none", kmap_deliver(tables, KMAP_TABLES_SIZE, tables, KMAP_TABLES_SIZE, &console,
+	    events, 2, answers, 2) == KMAP_BAD_EVENT);
+	events[1] = KMAP_LOAD;
+	holds("a place for one of two", kmap_deliver(tables, KMAP_TABLES_SIZE, tables, KMAP_TABLES_SIZE, &console,
+	    events, 2, answers, 1) == KMAP_NO_ROOM);
+	holds("nothing was changed", memcmp(&console, &before, sizeof console) == 0 && answer == 77
+	    && answers[0] == 77 && answers[1] == 77);
+}
+
+/* The fault of the tables with this byte in place of the one there. */
+static int faulty_at(size_t place, uint8_t byte, uint32_t kind, size_t offset)
+{
+	struct kmap_fault fault = { 0, 0 };
+	uint8_t there = tables[place];
+	int32_t status;
+
+	tables[place] = byte;
+	status = kmap_check(tables, KMAP_TABLES_SIZE, &fault);
+	tables[place] = there;
+	return status == KMAP_FAULTY && fault.kind == kind && fault.offset == offset;
+}
+
+static void check_faults(void)
+{
+	struct kmap_fault fault = { 7, 7 };
+
+	holds("the tables are good", kmap_check(tables, KMAP_TABLES_SIZE, &fault) == KMAP_OK && fault.offset == 7
+	    && fault.kind == 7);
+	holds("short", kmap_check(tables, 100, &fault) == KMAP_FAULTY && fault.offset == 100
+	    && fault.kind == KMAP_SHORT);
+	holds("empty", kmap_check(tables, 0, &fault) == KMAP_FAULTY && fault.offset == 0 && fault.kind == KMAP_SHORT);
+	holds("long", kmap_check(tables, KMAP_TABLES_SIZE + 1, &fault) == KMAP_FAULTY
+	    && fault.offset == KMAP_TABLES_SIZE && fault.kind == KMAP_LONG);
+	holds("a count", faulty_at(1, 2, KMAP_BAD_COUNT, 0));
+	holds("a pad", faulty_at(3, 1, KMAP_BAD_PAD, 3));
+	/* Slot 30 stands at 4 + 36 * 30, its marks 32 bytes on, its flag 33; slot 42 is left shift throughout. */
+	holds("a flag", faulty_at(1084 + 33, 4, KMAP_BAD_FLAG, 1084 + 33));
+	holds("a character", faulty_at(1084 + 2, 0x11, KMAP_BAD_CHAR, 1084));
+	holds("an action", faulty_at(1516, 0xff, KMAP_BAD_ACTION, 1516));
+	holds("a combined action", faulty_at(1516, 0x9b, KMAP_COMBINED, 1516));
+	holds("the last byte", faulty_at(KMAP_TABLES_SIZE - 1, 1, KMAP_NOT_EMPTY, KMAP_TABLES_SIZE - 1));
+}
+
+/* Any bytes are safe: this only has to come back. */
+static void check_noise(void)
+{
+	static uint8_t noise[KMAP_TABLES_SIZE];
+	struct kmap_console console;
+	uint32_t answer, number = 1;
+	size_t i, round;
+
+	for (round = 0; round < 20; round++) {
+		for (i = 0; i < sizeof noise; i++) {
+			number = number * 1664525 + 1013904223;
+			noise[i] = (uint8_t)(number >> 24);
+		}
+		memcpy(&console, noise, sizeof console);
+		for (i = 0; i < 1000; i++) {
+			number = number * 1664525 + 1013904223;
+			kmap_step(noise, sizeof noise, &console, (uint16_t)(number >> 16) % 258, &answer);
+		}
+	}
+	holds("noise comes back", kmap_pending(&console) >= -1 && kmap_pending(&console) < 15);
+}
+
+int main(int argc, char **argv)
+{
+	FILE *file;
+
+	if (argc != 2 || (file = fopen(argv[1], "rb")) == NULL)
+		return 2;
+	holds("the tables are whole", fread(tables, 1, sizeof tables, file) == KMAP_TABLES_SIZE);
+	fclose(file);
+	check_steps();
+	check_refusals();
+	check_faults();
+	check_noise();
+	printf("%u passed, %u failed\n", passed, failed);
+	return failed != 0;
+}

@@ -38,11 +38,20 @@ pub fn plain_line(text: &[u8]) -> Option<(What, &[u8])>
     }
 }
 
+/// The letters of `down` as one number, the first the least.
+const DOWN: u32 = 0x6e77_6f64;
+
+fn is_down(letters: [u8; 4]) -> bool
+    ensures { IsTrue result → letters ≡ codes "down" }
+{
+    u32::from_le_bytes(letters) == DOWN
+}
+
 fn begins_with_down(text: &[u8]) -> bool
     requires { 11 ≤ length text.now }
     ensures { IsTrue result → text.now ≡ codes "down " ++ drop 5 text.now }
 {
-    text[0] == b'd' && text[1] == b'o' && text[2] == b'w' && text[3] == b'n' && text[4] == b' '
+    is_down([text[0], text[1], text[2], text[3]]) && text[4] == b' '
 }
 
 fn begins_with_up(text: &[u8]) -> bool

@@ -111,13 +111,32 @@ fn play_on<S: Read, W: Write>(
 {
     let sent = read_whole_script(alloc, script)?;
     let mut console = WordConsole::between(first, second);
-    match play_events(show, &mut console, sent.as_slice(), out) {
+    match play_shown(show, &mut console, sent.as_slice(), out) {
         Ok(()) => Ok(()),
         Err(fault) => Err(PlayError::Write(fault)),
     }
 }
 
+/// As `play_events`, of which there is one for each show, so that no event asks what is shown.
+fn play_shown<T: Translator, W: Write>(
+    show: Show,
+    console: &mut T,
+    sent: &[Sent],
+    out: &mut W,
+) -> Result<(), WriteFault>
+    requires { length sent.now < 2 ^ 50 }
+    ensures bytes { (ms : Maps) (h : List EventValue) → T.stands console.old ms h
+        → WritesText (λ f. f.written) (W.contents out.old) (W.contents out.new) (text_after show ms h (delivered sent.now)) result }
+    ensures failed { W.has_failed out.new ≡ (is_err result || W.has_failed out.old) }
+{
+    match show {
+        Show::Lines => play_events(Show::Lines, console, sent, out),
+        Show::Typed => play_events(Show::Typed, console, sent, out),
+    }
+}
+
 /// Delivers what is sent to the console, but for what is lost, and writes what the show has of it.
+#[inline(always)]
 fn play_events<T: Translator, W: Write>(
     show: Show,
     console: &mut T,

@@ -31,9 +31,10 @@ all:
 	cd crates/kmap && $(RT) run -- --version > /dev/null
 	cd crates/kmap_c && $(RT) lib > /dev/null
 
-# `rt ci` builds both programs anew, and the scripts take what it leaves.
+# `rt ci` builds both programs anew, and the scripts take what it leaves. It proves the C library and leaves none.
 check:
 	$(RT) ci
+	cd crates/kmap_c && $(RT) lib > /dev/null
 	sh tests/program.sh $(PROGRAM)
 	sh tests/c_library.sh $(PROGRAM) $(LIBRARY)
 	sh tests/completions.sh $(PROGRAM)

@@ -16,6 +16,7 @@ INSTALL = install
 PROGRAM = crates/kmap/out/kmap
 LIBRARY = crates/kmap_c/out/libkmap_c.a
 REFUSALS = crates/refusals/out/refusals
+STEPS = crates/step_costs/out/step_costs
 
 LIB = $(DESTDIR)$(PREFIX)/lib
 INCLUDE = $(DESTDIR)$(PREFIX)/include
@@ -44,7 +45,8 @@ check:
 	sh tests/refused_calls.sh $(REFUSALS)
 
 bench: all
-	sh bench/run.sh $(PROGRAM)
+	cd crates/step_costs && $(RT) run -- map 1 > /dev/null
+	sh bench/run.sh $(PROGRAM) $(STEPS)
 
 install: all
 	$(INSTALL) -d "$(DESTDIR)$(PREFIX)/bin" "$(LIB)/pkgconfig" "$(INCLUDE)" "$(MAN)/man1" "$(MAN)/man3" \

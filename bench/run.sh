@@ -1,16 +1,22 @@
 #!/bin/sh
 # Measures the program on large inputs: what a byte of text and an event of a script cost, how these costs grow from a
-# tenth of the largest size to the whole, how many system calls a run makes, and what the longest search for a
-# demonstration costs.
+# tenth of the largest size to the whole, how many system calls a run makes, what the longest search for a
+# demonstration costs, and what an event costs over a keymap in memory and over its tables.
 #
-# usage: run.sh PROGRAM
+# usage: run.sh PROGRAM STEPS
+# STEPS is the program of crates/step_costs.
 # Costs are instructions, counted by perf(1) or else by callgrind of valgrind(1), or else microseconds of processor
 # time. System calls are counted by strace(1), or else by `valgrind --trace-syscalls=yes`.
 
 program=${1:-crates/kmap/out/kmap}
+steps=${2:-crates/step_costs/out/step_costs}
 case $program in
 /*) ;;
 *) program=$PWD/$program ;;
+esac
+case $steps in
+/*) ;;
+*) steps=$PWD/$steps ;;
 esac
 keymap=$(cd "$(dirname "$0")/../examples" && pwd)/us.kbd
 folder=$(mktemp -d) || exit 1
@@ -168,3 +174,10 @@ plain=$(cost check refused)
 shown=$(cost check --show refused)
 echo "map of $("$program" check refused | grep -c '^key ') findings, checked: $plain $unit; with --show: $shown $unit," \
     "times $(per "$shown" 0 "$plain"); $("$program" check --show refused | tail -n 1)"
+
+# Ten thousand rounds of eight events, without one round.
+program=$steps
+over_map=$(per "$(cost map 10000)" "$(cost map 1)" 79992)
+over_tables=$(per "$(cost tables 10000)" "$(cost tables 1)" 79992)
+echo "an event over a keymap: $over_map $unit; over its tables: $over_tables $unit, times" \
+    "$(awk -v a="$over_tables" -v b="$over_map" 'BEGIN { printf "%.2f", a / b }')"

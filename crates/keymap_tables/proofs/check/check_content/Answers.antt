@@ -110,8 +110,7 @@ returns-in-Ok-check_accents-clause-image c =
       entries = entries.3;
       few_accents = omega (arith, accents.1, c.in-Ok-read_count.ensures.few);
       accents = accents.3;
-    } in
-    (
+    } in (
       m,
       known,
       same-parts bytes _ _ _ _ _ _ _ _ (parts-of bytes (slots_place l) (slots_size l) (count_size l) (accents_size l) c.requires.whole) n_keys slots n_accs rows

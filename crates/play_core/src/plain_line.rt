@@ -1,6 +1,6 @@
 //! Lines in their plainest spelling, which are read at sight: a command, a blank, the number of a key in at most three
 //! digits, and a line feed.
-ghost use Rattle.std.specs.Prelude.{◌≡◌, ◌<◌, ◌≤◌, ◌++◌, length, codes, drop, IfSome, IsTrue};
+ghost use Rattle.std.specs.Prelude.{◌≡◌, ◌<◌, ◌≤◌, ◌++◌, [], ◌∷◌, length, codes, drop, IfSome, IsTrue};
 ghost use Rattle.std.specs.Char.{digit_value};
 ghost use Rattle.play_core.specs.Readings.{BeginsWithKey, BeginsWithEvent};
 
@@ -38,13 +38,25 @@ pub fn plain_line(text: &[u8]) -> Option<(What, &[u8])>
     }
 }
 
-/// The letters of `down` as one number, the first the least.
-const DOWN: u32 = 0x6e77_6f64;
-
+/// Whether these are the letters of `down`. Four letters are compared at once, as a number, the first the least.
 fn is_down(letters: [u8; 4]) -> bool
     ensures { IsTrue result → letters ≡ codes "down" }
 {
-    u32::from_le_bytes(letters) == DOWN
+    u32::from_le_bytes(letters) == 0x6e77_6f64
+}
+
+/// Whether these are the letters of `up`, a blank and 0.
+fn is_up(letters: [u8; 4]) -> bool
+    ensures { IsTrue result → letters ≡ codes "up " ++ 0 ∷ [] }
+{
+    u32::from_le_bytes(letters) == 0x0020_7075
+}
+
+/// Whether these are the first letters of `repeat`.
+fn is_repe(letters: [u8; 4]) -> bool
+    ensures { IsTrue result → letters ≡ codes "repe" }
+{
+    u32::from_le_bytes(letters) == 0x6570_6572
 }
 
 fn begins_with_down(text: &[u8]) -> bool
@@ -58,17 +70,14 @@ fn begins_with_up(text: &[u8]) -> bool
     requires { 11 ≤ length text.now }
     ensures { IsTrue result → text.now ≡ codes "up " ++ drop 3 text.now }
 {
-    text[0] == b'u' && text[1] == b'p' && text[2] == b' '
+    is_up([text[0], text[1], text[2], 0])
 }
 
 fn begins_with_repeat(text: &[u8]) -> bool
     requires { 11 ≤ length text.now }
     ensures { IsTrue result → text.now ≡ codes "repeat " ++ drop 7 text.now }
 {
-    text[0] == b'r'
-        && text[1] == b'e'
-        && text[2] == b'p'
-        && text[3] == b'e'
+    is_repe([text[0], text[1], text[2], text[3]])
         && text[4] == b'a'
         && text[5] == b't'
         && text[6] == b' '

@@ -12,6 +12,8 @@
 #![tactic(auto)]
 
 mod answer_line;
+mod effect;
+mod held_keys;
 pub mod laws;
 mod number;
 mod output;
@@ -21,17 +23,22 @@ mod player;
 mod script;
 mod script_line;
 mod sent;
+mod sentence;
 mod show;
 mod sources;
 mod tail;
+mod type_error;
 mod typed_bytes;
+mod ways;
 mod words;
 
 pub use player::{PlayError, Source, play, play_next};
 pub use script::{ScriptError, ScriptFault, read_script};
 pub use sent::{Sent, What};
 pub use show::Show;
+pub use type_error::TypeError;
 pub use typed_bytes::typed;
+pub use ways::Ways;
 
 #[cfg(test)]
 mod tests;

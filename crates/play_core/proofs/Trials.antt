@@ -1,0 +1,316 @@
+-- What a way does to a new console, from what is seen of a console that was delivered it.
+use Rattle.std.proofs.Common.{◌≡◌, ℕ, ◌<◌, Bool, true, false, ◌&&◌, ◌||◌, not, List, [], ◌∷◌, ◌++◌, Option, Some, None, refl, ap, sym, subst, ◌∙◌, inl, inr}
+use Rattle.std.specs.Prelude.{reverse, filter}
+use Rattle.std.specs.List.{list_any}
+use Rattle.std.proofs.Math.Path.{fun_ext}
+use Rattle.std.specs.Option.{is_some}
+use Rattle.std.proofs.lemmas.Bool.{cases_Bool, true≢false, and_parts}
+use Rattle.std.proofs.lemmas.List.{reverse-append}
+use Rattle.std.proofs.lemmas.List.Elements.{filter-append}
+use Rattle.keymap_core.specs.declared.action.Action.{Action}
+use Rattle.keymap_core.specs.declared.action.Modifier.{Modifier}
+use Rattle.keymap_core.specs.declared.action.Modifier.TheVariants as modifier
+use Rattle.keymap_core.specs.declared.action.Lock.{Lock}
+use Rattle.keymap_core.specs.declared.action.Lock.TheVariants as lock
+use Rattle.keymap_core.specs.declared.action.Holding.TheVariants as holding
+use Rattle.keymap_core.specs.Actions.{locks, modifiers}
+use Rattle.keymap_core.specs.Maps.{MapValue}
+use Rattle.keymap_core.specs.Borne.{any_below}
+use Rattle.keymap_core.proofs.BorneTests.{some-any, any-some}
+use Rattle.console_core.specs.declared.event.Event.{Event}
+use Rattle.console_core.specs.declared.event.Answer.{Answer}
+use Rattle.console_core.specs.declared.event.Answer.TheVariants as answer
+use Rattle.console_core.specs.Resolved.{held, down, locked}
+use Rattle.console_core.proofs.OneMore.{pressed-start, resolved-start, held-start, locked-start, remembered-start}
+use Rattle.console_core.specs.History.{Maps, resolved, pressed, IsQuiet, On, Locked, Pending}
+use Rattle.console_core.specs.Reading.{Remembered}
+use Rattle.console_core.proofs.Bearing.{remembered-pressed}
+use Rattle.play_core.specs.declared.effect.Typed.{Typed}
+use Rattle.play_core.specs.declared.effect.Typed.TheVariants as typed
+use Rattle.play_core.specs.HeldKeys.{combination}
+use Rattle.play_core.specs.Typing.{alone, is_at_rest, types, lone_character, typing_answers, unless_some, unless_any, character_of, accent_of}
+use Rattle.play_core.specs.Effects.{IsTrial, typed_by_one, typed_by_all, after_typing, one_more, character_in, accent_in, effect_by}
+use Rattle.play_core.proofs.Resting.{combination-quiet, combination-down, DownOnlyIfLocked}
+
+-- ---- what answers type
+
+typed_twice : (a b : Answer) → after_typing (typed_by_one a) b ≡ typed.Other
+typed_twice answer.None b = refl
+typed_twice answer.Error b = refl
+typed_twice (answer.Char c false) b = refl
+typed_twice (answer.Char c true) b = refl
+typed_twice (answer.Special x) b = refl
+typed_twice answer.BackTab b = refl
+typed_twice (answer.Released x) b = refl
+
+typed-push : (xs : List Answer) (b : Answer) → typed_by_all (xs ++ b ∷ []) ≡ after_typing (typed_by_all xs) b
+typed-push [] b = refl
+typed-push (a ∷ []) b = sym (typed_twice a b)
+typed-push (a ∷ c ∷ rest) b = refl
+
+same-after : (t : Typed) (xs : List Answer) → t ≡ typed_by_all xs → t ≡ typed_by_all (xs ++ [])
+same-after t xs e = e ∙ ap typed_by_all (sym (nil-right xs))
+  where
+    nil-right : (xs : List Answer) → xs ++ [] ≡ xs
+    nil-right [] = refl
+    nil-right (x ∷ xs) = ap (λ y. x ∷ y) (nil-right xs)
+
+more-with : (xs : List Answer) (b : Answer) → typed_by_all (xs ++ filter types (b ∷ [])) ≡ one_more (typed_by_all xs) b
+more-with xs answer.None = sym (same-after _ xs refl)
+more-with xs answer.Error = sym (same-after _ xs refl)
+more-with xs (answer.Char c meta) = typed-push xs (answer.Char c meta)
+more-with xs (answer.Special x) = sym (same-after _ xs refl)
+more-with xs answer.BackTab = typed-push xs answer.BackTab
+more-with xs (answer.Released x) = sym (same-after _ xs refl)
+
+pub typed-more : (xs : List Answer) (b : Answer)
+    → typed_by_all (filter types (xs ++ b ∷ [])) ≡ one_more (typed_by_all (filter types xs)) b
+typed-more xs b = ap typed_by_all (filter-append types xs (b ∷ [])) ∙ more-with (filter types xs) b
+
+-- ---- at rest
+
+or-false : (a b : Bool) → (a || b) ≡ false → (a ≡ false) × (b ≡ false)
+or-false true b e = absurd (true≢false e)
+or-false false b e = (refl, e)
+
+not-true : (a : Bool) → not a ≡ true → a ≡ false
+not-true true e = absurd (true≢false (sym e))
+not-true false e = refl
+
+no-modifier : (f : Modifier → Bool) → list_any f modifiers ≡ false → (i : Modifier) → f i ≡ false
+no-modifier f e =
+    let a = or-false _ _ e in
+    let b = or-false _ _ a.1 in
+    let c = or-false _ _ b.1 in
+    let d = or-false _ _ c.1 in
+    let g = or-false _ _ d.1 in
+    let h = or-false _ _ g.1 in
+    let k = or-false _ _ h.1 in
+    let n = or-false _ _ k.1 in
+    λ i. by i a.0 b.0 c.0 d.0 g.0 h.0 k.0 n.0
+  where
+    by : (i : Modifier) → f modifier.LeftShift ≡ false → f modifier.RightShift ≡ false → f modifier.LeftControl ≡ false
+        → f modifier.RightControl ≡ false → f modifier.LeftAlt ≡ false → f modifier.RightAlt ≡ false
+        → f modifier.AltShift ≡ false → f modifier.Meta ≡ false → f i ≡ false
+    by modifier.LeftShift a b c d g h k n = a
+    by modifier.RightShift a b c d g h k n = b
+    by modifier.LeftControl a b c d g h k n = c
+    by modifier.RightControl a b c d g h k n = d
+    by modifier.LeftAlt a b c d g h k n = g
+    by modifier.RightAlt a b c d g h k n = h
+    by modifier.AltShift a b c d g h k n = k
+    by modifier.Meta a b c d g h k n = n
+
+no-lock : (f : Lock → Bool) → list_any f locks ≡ false → (l : Lock) → f l ≡ false
+no-lock f e =
+    let a = or-false _ _ e in
+    let b = or-false _ _ a.1 in
+    let c = or-false _ _ b.1 in
+    let d = or-false _ _ c.1 in
+    λ l. by l a.0 b.0 c.0 d.0
+  where
+    by : (l : Lock) → f lock.Caps ≡ false → f lock.Num ≡ false → f lock.Scroll ≡ false → f lock.Alt ≡ false → f l ≡ false
+    by lock.Caps a b c d = a
+    by lock.Num a b c d = b
+    by lock.Scroll a b c d = c
+    by lock.Alt a b c d = d
+
+no-modifiers : (f : Modifier → Bool) → ((i : Modifier) → f i ≡ false) → list_any f modifiers ≡ false
+no-modifiers f none =
+    rw (
+      none modifier.LeftShift,
+      none modifier.RightShift,
+      none modifier.LeftControl,
+      none modifier.RightControl,
+      none modifier.LeftAlt,
+      none modifier.RightAlt,
+      none modifier.AltShift,
+      none modifier.Meta,
+    ) refl
+
+no-locks : (f : Lock → Bool) → ((l : Lock) → f l ≡ false) → list_any f locks ≡ false
+no-locks f none = rw (none lock.Caps, none lock.Num, none lock.Scroll, none lock.Alt) refl
+
+none-below : (test : ℕ → Bool) (n : ℕ) → ((k : ℕ) → k < n → test k ≡ false) → any_below test n ≡ false
+none-below test n none =
+    elim (cases_Bool (any_below test n)) [
+      | inl e ↦ let s = some-any test n e in absurd (true≢false (sym s.2 ∙ none s.0 s.1))
+      | inr e ↦ e
+    ]
+
+each-below : (test : ℕ → Bool) (n : ℕ) → any_below test n ≡ false → (k : ℕ) → k < n → test k ≡ false
+each-below test n none k lt =
+    elim (cases_Bool (test k)) [
+      | inl e ↦ absurd (true≢false (sym (any-some test k n lt e) ∙ none))
+      | inr e ↦ e
+    ]
+
+pub record Rests (m : MapValue) (h : List Event) : Type 0 where
+  pub quiet : IsQuiet h
+  pub remembered : (k : ℕ) → k < 128 → is_some (Remembered (alone m) k h) ≡ false
+  pub on : (i : Modifier) → On (alone m) i h ≡ false
+  pub down : (l : Lock) → held (holding.Lock l) (resolved (alone m) h) ≡ false
+  pub locked : (l : Lock) → Locked (alone m) l h ≡ false
+
+pub rests : (m : MapValue) (h : List Event) → is_at_rest m h ≡ true → Rests m h
+unfolding is_at_rest
+rests m h e =
+    let a = and_parts _ _ e in
+    let b = and_parts _ _ a.0 in
+    let c = and_parts _ _ b.0 in
+    let d = and_parts _ _ c.0 in
+    record {
+      quiet = each-below (λ k. pressed k h) 128 (not-true _ d.0);
+      remembered = each-below (λ k. is_some (Remembered (alone m) k h)) 128 (not-true _ d.1);
+      on = no-modifier (λ i. On (alone m) i h) (not-true _ c.1);
+      down = no-lock (λ l. down l (resolved (alone m) h)) (not-true _ b.1);
+      locked = no-lock (λ l. Locked (alone m) l h) (not-true _ a.1);
+    }
+
+pub at-rest : (m : MapValue) (h : List Event) → Rests m h → is_at_rest m h ≡ true
+unfolding is_at_rest
+at-rest m h r =
+    rw (
+      none-below (λ k. pressed k h) 128 r.quiet,
+      none-below (λ k. is_some (Remembered (alone m) k h)) 128 r.remembered,
+      no-modifiers (λ i. On (alone m) i h) r.on,
+      no-locks (λ l. down l (resolved (alone m) h)) r.down,
+      no-locks (λ l. Locked (alone m) l h) r.locked,
+    ) refl
+
+pub rests-start : (m : MapValue) → is_at_rest m [] ≡ true
+rests-start m = at-rest m [] (record {
+  quiet = λ k _. pressed-start k;
+  remembered = λ k _. rw (resolved-start (alone m), remembered-start k) refl;
+  on = λ i. ap (held (holding.Mod i)) (resolved-start (alone m)) ∙ held-start (holding.Mod i);
+  down = λ l. ap (held (holding.Lock l)) (resolved-start (alone m)) ∙ held-start (holding.Lock l);
+  locked = λ l. ap (locked l) (resolved-start (alone m)) ∙ locked-start l;
+})
+
+nothing_there : (o : Option Action) → ((a : Action) → o ≡ Some a → ⊥) → is_some o ≡ false
+nothing_there None f = refl
+nothing_there (Some a) f = absurd (f a refl)
+
+pub quiet-remembers : (ms : Maps) (h : List Event) → IsQuiet h → (k : ℕ) → k < 128 → is_some (Remembered ms k h) ≡ false
+quiet-remembers ms h quiet k lt =
+    nothing_there (Remembered ms k h) (λ a e. true≢false (sym (remembered-pressed ms h k a e) ∙ quiet k lt))
+
+seen-with : (a d l : Bool) → (l ≡ false → d ≡ false) → ((not a && not d) && not l) ≡ (not a && not l)
+seen-with a d true f = grind-and (not a && not d) ∙ sym (grind-and (not a))
+  where
+    grind-and : (x : Bool) → (x && false) ≡ false
+    grind-and true = refl
+    grind-and false = refl
+seen-with a d false f = ap (λ y. (not a && not y) && true) (f refl) ∙ ap (λ y. y && true) (keep a)
+  where
+    keep : (a : Bool) → (not a && true) ≡ not a
+    keep true = refl
+    keep false = refl
+
+pub way-rests : (m : MapValue) (way : List Event) → IsTrial m way
+    → is_at_rest m (reverse way)
+    ≡ (not (list_any (λ i. On (alone m) i (reverse way)) modifiers) && not (list_any (λ l. Locked (alone m) l (reverse way)) locks))
+unfolding is_at_rest
+way-rests m way trial =
+    let ms = alone m in
+    let before = Rests-of in
+    let is : reverse (combination trial.held trial.key) ++ reverse trial.before ≡ reverse way =
+    sym (ap reverse trial.is ∙ reverse-append trial.before (combination trial.held trial.key)) in
+    let quiet : IsQuiet (reverse way) =
+    subst IsQuiet is (combination-quiet trial.held trial.key (reverse trial.before) before.quiet) in
+    let down : DownOnlyIfLocked (resolved ms (reverse way)) =
+    subst (λ h. DownOnlyIfLocked (resolved ms h)) is
+    (combination-down ms trial.held trial.key (reverse trial.before) (λ l. before.locked l ∙ sym (before.down l))) in
+    let p : any_below (λ k. pressed k (reverse way)) 128 ≡ false = none-below _ 128 quiet in
+    let r : any_below (λ k. is_some (Remembered ms k (reverse way))) 128 ≡ false =
+    none-below _ 128 (quiet-remembers ms (reverse way) quiet) in
+    let d : list_any (λ l. Locked ms l (reverse way)) locks ≡ false → list_any (λ l. held (holding.Lock l) (resolved ms (reverse way))) locks ≡ false =
+    λ off. no-locks (λ l. held (holding.Lock l) (resolved ms (reverse way))) (λ l. down l (no-lock (λ l. Locked ms l (reverse way)) off l)) in
+    rw (p, r) (seen-with _ _ _ d)
+  where
+    Rests-of : Rests m (reverse trial.before)
+    Rests-of = rests m (reverse trial.before) trial.rests
+
+-- ---- effects
+
+abbrev AreEffects : List Answer → Option ℕ → Type 0
+AreEffects xs p =
+    (unless_some p (lone_character xs) ≡ character_in (effect_by (typed_by_all xs) p))
+    × (unless_any xs p ≡ accent_in (effect_by (typed_by_all xs) p))
+
+one-effect : (a : Answer) (p : Option ℕ) → AreEffects (a ∷ []) p
+one-effect answer.None None = (refl, refl)
+one-effect answer.None (Some i) = (refl, refl)
+one-effect answer.Error None = (refl, refl)
+one-effect answer.Error (Some i) = (refl, refl)
+one-effect (answer.Char c false) None = (refl, refl)
+one-effect (answer.Char c false) (Some i) = (refl, refl)
+one-effect (answer.Char c true) None = (refl, refl)
+one-effect (answer.Char c true) (Some i) = (refl, refl)
+one-effect (answer.Special x) None = (refl, refl)
+one-effect (answer.Special x) (Some i) = (refl, refl)
+one-effect answer.BackTab None = (refl, refl)
+one-effect answer.BackTab (Some i) = (refl, refl)
+one-effect (answer.Released x) None = (refl, refl)
+one-effect (answer.Released x) (Some i) = (refl, refl)
+
+effects-by : (xs : List Answer) (p : Option ℕ) → AreEffects xs p
+effects-by [] None = (refl, refl)
+effects-by [] (Some i) = (refl, refl)
+effects-by (a ∷ []) p = one-effect a p
+effects-by (a ∷ b ∷ rest) None = (refl, refl)
+effects-by (a ∷ b ∷ rest) (Some i) = (refl, refl)
+
+-- what is seen of a console that was delivered the way
+pub record IsSeen (m : MapValue) (way : List Event) (on locked : Bool) : Type 0 where
+  pub on_is : on ≡ list_any (λ i. On (alone m) i (reverse way)) modifiers
+  pub locked_is : locked ≡ list_any (λ l. Locked (alone m) l (reverse way)) locks
+
+seen-rest : (m : MapValue) (way : List Event) (on locked : Bool) → IsTrial m way → IsSeen m way on locked
+    → is_at_rest m (reverse way) ≡ (not on && not locked)
+seen-rest m way on locked trial seen =
+    way-rests m way trial ∙ ap (λ x. not x && not (list_any (λ l. Locked (alone m) l (reverse way)) locks)) (sym seen.on_is)
+    ∙ ap (λ x. not on && not x) (sym seen.locked_is)
+
+pub no-effect : (m : MapValue) (way : List Event) (on locked : Bool) → IsTrial m way → IsSeen m way on locked
+    → (not on && not locked) ≡ false → (character_of m way ≡ None) × (accent_of m way ≡ None)
+unfolding character_of accent_of
+no-effect m way on locked trial seen e =
+    let f = seen-rest m way on locked trial seen ∙ e in (rw f refl, rw f refl)
+
+and-false : (x : Bool) → (x && false) ≡ false
+and-false true = refl
+and-false false = refl
+
+pub no-effect-on : (m : MapValue) (way : List Event) (shown : Modifier → Bool) (b : Bool) → IsTrial m way
+    → ((i : Modifier) → shown i ≡ On (alone m) i (reverse way)) → b ≡ list_any shown modifiers → b ≡ true
+    → (character_of m way ≡ None) × (accent_of m way ≡ None)
+no-effect-on m way shown b trial is e t =
+    no-effect m way b (list_any (λ l. Locked (alone m) l (reverse way)) locks) trial
+    (record { on_is = e ∙ ap (λ f. list_any f modifiers) (fun_ext is); locked_is = refl })
+    (ap (λ x. not x && not (list_any (λ l. Locked (alone m) l (reverse way)) locks)) t)
+
+pub no-effect-locked : (m : MapValue) (way : List Event) (shown : Lock → Bool) (b : Bool) → IsTrial m way
+    → ((l : Lock) → shown l ≡ Locked (alone m) l (reverse way)) → b ≡ list_any shown locks → b ≡ true
+    → (character_of m way ≡ None) × (accent_of m way ≡ None)
+no-effect-locked m way shown b trial is e t =
+    no-effect m way (list_any (λ i. On (alone m) i (reverse way)) modifiers) b trial
+    (record { on_is = refl; locked_is = e ∙ ap (λ f. list_any f locks) (fun_ext is) })
+    (ap (λ x. not (list_any (λ i. On (alone m) i (reverse way)) modifiers) && not x) t ∙ and-false _)
+
+pub nothing-seen : (m : MapValue) (way : List Event) (on : Modifier → Bool) (locked : Lock → Bool) (a b : Bool)
+    → ((i : Modifier) → on i ≡ On (alone m) i (reverse way)) → ((l : Lock) → locked l ≡ Locked (alone m) l (reverse way))
+    → a ≡ list_any on modifiers → b ≡ list_any locked locks → a ≡ false → b ≡ false → IsSeen m way false false
+nothing-seen m way on locked a b on_is locked_is e f p q = record {
+  on_is = sym p ∙ e ∙ ap (λ g. list_any g modifiers) (fun_ext on_is);
+  locked_is = sym q ∙ f ∙ ap (λ g. list_any g locks) (fun_ext locked_is);
+}
+
+pub effect-is : (m : MapValue) (way : List Event) (t : Typed) (p : Option ℕ) → IsTrial m way → IsSeen m way false false
+    → t ≡ typed_by_all (typing_answers m way) → p ≡ Pending (alone m) (reverse way)
+    → (character_of m way ≡ character_in (effect_by t p)) × (accent_of m way ≡ accent_in (effect_by t p))
+unfolding character_of accent_of
+effect-is m way t p trial seen e f =
+    let r = seen-rest m way false false trial seen in
+    let s = effects-by (typing_answers m way) (Pending (alone m) (reverse way)) in
+    (rw (r, e, f) s.0, rw (r, e, f) s.1)

@@ -1,0 +1,14 @@
+use Rattle.std.proofs.Common.{◌≡◌, ◌∙◌, sym, ap, subst, rules}
+use Rattle.std.specs.Str.{IsUtf8, chars, encode_utf8_all}
+use Rattle.std.proofs.lemmas.Str.{chars_from_encodes, encodes-chars}
+use Rattle.play_core.specs.Typing.{HaveWays}
+use Rattle.play_core.proofs.Sentences.{typed-sentence}
+use Rattle.play_core.proofs.ways.Ways.characters.Goals as goal
+
+pub returns-in-None-clause-ok : goal.returns-in-None-clause-ok
+returns-in-None-clause-ok c =
+    let u : IsUtf8 c.in-Ok.text.now = subst IsUtf8 (sym c.in-Ok.ensures.cases.0) c.in-Ok.ensures.cases.1 in
+    let is : c.in_ok-characters.characters.items ≡ chars c.in-Ok.text.now = search (rules, chars_from_encodes) in
+    typed-sentence c.args.self.now c.args.sentence.now c.in_ok-characters.characters.items
+    (ap encode_utf8_all is ∙ encodes-chars c.in-Ok.text.now u ∙ c.in-Ok.ensures.cases.0)
+    (subst (HaveWays c.args.self.now) c.as_slice.ensures.value c.in-None.ensures)

@@ -1,0 +1,86 @@
+-- The ways to press one key: by itself, or while the keys of a set of modifiers are held.
+use Prim.Native.Nat.{zero, suc}
+use Rattle.std.specs.Prelude.{ℕ, ◌+◌, ◌/◌, ◌%◌, ◌^◌, ◌==◌, Bool, ◌&&◌, ◌||◌, not, List, [], ◌∷◌, ◌++◌, map, Option, None, Some, if◌then◌else◌, slice_index_or}
+use Rattle.keymap_core.specs.declared.action.Modifier.{Modifier}
+use Rattle.keymap_core.specs.declared.action.Modifier.TheVariants.{LeftShift, RightShift, LeftControl, RightControl, LeftAlt, RightAlt, AltShift}
+use Rattle.keymap_core.specs.declared.action.Action.TheVariants as act
+use Rattle.keymap_core.specs.Maps.{MapValue}
+use Rattle.keymap_core.specs.Borne.{has_in_slot, is_upper_live}
+use Rattle.console_core.specs.declared.event.Event.{Event}
+use Rattle.console_core.specs.declared.event.Event.TheVariants.{Press, Release}
+use Rattle.console_core.specs.Positions.{first_of_two}
+use Rattle.std.specs.Option.{is_some}
+
+-- the least number below n that passes the test
+unfoldable pub first_below : (ℕ → Bool) → ℕ → Option ℕ
+first_below test zero = None
+first_below test (suc n) = first_of_two (first_below test n) (if test n then Some n else None)
+
+-- the lists of the numbers below n, in their order
+unfoldable pub gathered : {A : Type 0} → (ℕ → List A) → ℕ → List A
+gathered f zero = []
+gathered f (suc n) = gathered f n ++ f n
+
+-- one of the key's cells is the modifier
+abbrev pub bears : MapValue → Modifier → ℕ → Bool
+bears m i k = has_in_slot m (act.Mod i) k || (is_upper_live m && has_in_slot m (act.Mod i) (k + 128))
+
+-- bit 0 of a set is shift, bit 1 control, bit 2 alt, bit 3 ashift; the left and the right one count alike
+unfoldable pub bears_bit : MapValue → ℕ → ℕ → Bool
+bears_bit m bit k =
+    if bit == 0 then bears m LeftShift k || bears m RightShift k
+    else if bit == 1 then bears m LeftControl k || bears m RightControl k
+    else if bit == 2 then bears m LeftAlt k || bears m RightAlt k
+    else bears m AltShift k
+
+abbrev pub has_bit : ℕ → ℕ → Bool
+has_bit set bit = ((set / 2 ^ bit) % 2) == 1
+
+-- the key j can be held for the bit while the key k is pressed
+abbrev pub is_bit_key : MapValue → ℕ → ℕ → ℕ → Bool
+is_bit_key m bit k j = not (j == k) && bears_bit m bit j
+
+-- the key that is held for a bit while the key k is pressed: the least that can be held
+unfoldable pub bit_key : MapValue → ℕ → ℕ → Option ℕ
+bit_key m k bit = first_below (is_bit_key m bit k) 128
+
+abbrev pub bit_keys : MapValue → ℕ → List (Option ℕ)
+bit_keys m k = bit_key m k 0 ∷ bit_key m k 1 ∷ bit_key m k 2 ∷ bit_key m k 3 ∷ []
+
+abbrev pub listed : Option ℕ → List ℕ
+listed None = []
+listed (Some k) = k ∷ []
+
+abbrev pub key_at : List (Option ℕ) → ℕ → Option ℕ
+key_at keys bit = slice_index_or keys bit None
+
+abbrev pub held_for : List (Option ℕ) → ℕ → ℕ → List ℕ
+held_for keys set bit = if has_bit set bit then listed (key_at keys bit) else []
+
+-- the keys that are held for a set, in the order of its bits
+abbrev pub held_keys : List (Option ℕ) → ℕ → List ℕ
+held_keys keys set = held_for keys set 0 ++ held_for keys set 1 ++ held_for keys set 2 ++ held_for keys set 3
+
+-- the set has the bit, and no key can be held for it
+abbrev pub is_lacking : List (Option ℕ) → ℕ → ℕ → Bool
+is_lacking keys set bit = has_bit set bit && not (is_some (key_at keys bit))
+
+abbrev pub lacks_key : List (Option ℕ) → ℕ → Bool
+lacks_key keys set = is_lacking keys set 0 || is_lacking keys set 1 || is_lacking keys set 2 || is_lacking keys set 3
+
+-- press the held keys, press the key; release the key, release the held keys
+abbrev pub combination : List ℕ → ℕ → List Event
+combination held k = map Press (held ++ k ∷ []) ++ map Release (k ∷ held)
+
+abbrev pub combination_with : List (Option ℕ) → ℕ → ℕ → List (List Event)
+combination_with keys set k = if lacks_key keys set then [] else combination (held_keys keys set) k ∷ []
+
+abbrev pub combinations_of : MapValue → ℕ → ℕ → List (List Event)
+combinations_of m set k = combination_with (bit_keys m k) set k
+
+abbrev pub combinations_with : MapValue → ℕ → List (List Event)
+combinations_with m set = gathered (combinations_of m set) 128
+
+-- all combinations of the 16 sets and a key: by set, then by key
+unfoldable pub combinations : MapValue → List (List Event)
+combinations m = gathered (combinations_with m) 16

@@ -1,0 +1,259 @@
+//! The ways to press one key: by itself, or while the keys of a set of modifiers are held.
+ghost use Rattle.std.specs.Prelude.{◌≡◌, ℕ, ◌<◌, ◌≤◌, ◌+◌, ◌++◌, [], ◌∷◌, map, length, MatchOption, slice_index_or, false, None};
+ghost use Rattle.arrayvec.specs.ArrayVec.{array_vec_len};
+ghost use Rattle.keymap_core.specs.Maps.{MapValue, cell_at};
+ghost use Rattle.keymap_core.specs.Borne.{is_cell_of_action, has_in_slot as has_in_slot_of, is_upper_live as is_upper_live_of};
+ghost use Rattle.play_core.specs.HeldKeys as spec;
+ghost use Rattle.play_core.specs.HeldTables.{AreHeldKeys};
+
+use arrayvec::ArrayVec;
+use console_core::Event;
+use keymap_core::{Action, Cell, KeyCode, KeyMap, Modifier};
+
+/// The events that type a character: a key, and before it perhaps a dead key, each with at most four held keys.
+pub type Way = ArrayVec<Event, 20>;
+
+/// The keys that are held for the four bits of a set: shift, control, alt and ashift.
+pub(crate) type BitKeys = [Option<KeyCode>; 4];
+
+fn cell(map: &KeyMap, slot: u8, column: usize) -> Cell
+    requires { column < 8 }
+    ensures { result ≡ cell_at map.now slot column }
+{
+    map.entry(slot).cells()[column]
+}
+
+fn is_modifier(cell: Cell, modifier: Modifier) -> bool
+    ensures { result ≡ is_cell_of_action (Action.Mod modifier) cell }
+{
+    match cell {
+        Cell::Char(_) => false,
+        Cell::Act(action) => action == Action::Mod(modifier),
+    }
+}
+
+/// Whether some cell of the slot is the modifier.
+fn has_in_slot(map: &KeyMap, modifier: Modifier, slot: u8) -> bool
+    ensures { result ≡ has_in_slot_of map.now (Action.Mod modifier) slot }
+{
+    for column in 0..8usize {
+        if is_modifier(cell(map, slot, column), modifier) {
+            return true;
+        }
+    }
+    false
+}
+
+/// Whether some cell of the key is the modifier.
+fn bears(map: &KeyMap, is_upper_live: bool, modifier: Modifier, key: u8) -> bool
+    requires live { is_upper_live ≡ is_upper_live_of map.now }
+    requires is_key { key < 128 }
+    ensures { result ≡ spec.bears map.now modifier key }
+{
+    has_in_slot(map, modifier, key) || (is_upper_live && has_in_slot(map, modifier, key + 128))
+}
+
+/// Whether some cell of the key is a modifier of the bit.
+#[tactic(auto, unfolding(crate::specs::HeldKeys::bears_bit))]
+fn bears_bit(map: &KeyMap, is_upper_live: bool, bit: u8, key: u8) -> bool
+    requires live { is_upper_live ≡ is_upper_live_of map.now }
+    requires is_key { key < 128 }
+    ensures { result ≡ spec.bears_bit map.now bit key }
+{
+    match bit {
+        0 => {
+            bears(map, is_upper_live, Modifier::LeftShift, key)
+                || bears(map, is_upper_live, Modifier::RightShift, key)
+        }
+        1 => {
+            bears(map, is_upper_live, Modifier::LeftControl, key)
+                || bears(map, is_upper_live, Modifier::RightControl, key)
+        }
+        2 => {
+            bears(map, is_upper_live, Modifier::LeftAlt, key)
+                || bears(map, is_upper_live, Modifier::RightAlt, key)
+        }
+        _ => bears(map, is_upper_live, Modifier::AltShift, key),
+    }
+}
+
+/// For each key, whether it bears a modifier of the bit.
+fn bearers(map: &KeyMap, is_upper_live: bool, bit: u8) -> [bool; 128]
+    requires { is_upper_live ≡ is_upper_live_of map.now }
+    ensures { (k : ℕ) → k < 128 → slice_index_or result k false ≡ spec.bears_bit map.now bit k }
+{
+    let mut bearers = [false; 128];
+    for key in 0..128u8 {
+        bearers[key as usize] = bears_bit(map, is_upper_live, bit, key);
+    }
+    bearers
+}
+
+/// The key with this code.
+fn key_with(code: u8) -> KeyCode
+    requires { code < 128 }
+    ensures { result ≡ code }
+{
+    match KeyCode::new(code) {
+        Some(key) => key,
+        None => unreachable!(),
+    }
+}
+
+/// Whether the key can be held for the bit while the other one is pressed.
+fn is_bit_key(map: &KeyMap, bearers: &[bool; 128], bit: u8, pressed: u8, key: u8) -> bool
+    requires bearers { (k : ℕ) → k < 128 → slice_index_or bearers.now k false ≡ spec.bears_bit map.now bit k }
+    requires is_key { key < 128 }
+    ensures { result ≡ spec.is_bit_key map.now bit pressed key }
+{
+    let _ = map;
+    key != pressed && bearers[key as usize]
+}
+
+/// The least key, other than the pressed one, that bears a modifier of the bit.
+fn bit_key(map: &KeyMap, bearers: &[bool; 128], bit: u8, pressed: u8) -> Option<KeyCode>
+    requires { (k : ℕ) → k < 128 → slice_index_or bearers.now k false ≡ spec.bears_bit map.now bit k }
+    ensures { result ≡ spec.bit_key map.now pressed bit }
+{
+    for key in 0..128u8 {
+        if is_bit_key(map, bearers, bit, pressed, key) {
+            return Some(key_with(key));
+        }
+    }
+    None
+}
+
+/// For each key, the key that is held for the bit while it is pressed.
+fn keys_of_bit(map: &KeyMap, is_upper_live: bool, bit: u8) -> [Option<KeyCode>; 128]
+    requires { is_upper_live ≡ is_upper_live_of map.now }
+    ensures { (k : ℕ) → k < 128 → slice_index_or result k None ≡ spec.bit_key map.now k bit }
+{
+    let bearers = bearers(map, is_upper_live, bit);
+    let mut keys = [None; 128];
+    for pressed in 0..128u8 {
+        keys[pressed as usize] = bit_key(map, &bearers, bit, pressed);
+    }
+    keys
+}
+
+/// For each key, the keys that are held for the four bits while it is pressed.
+#[derive(Drop)]
+pub(crate) struct HeldKeys {
+    shift: [Option<KeyCode>; 128],
+    control: [Option<KeyCode>; 128],
+    alt: [Option<KeyCode>; 128],
+    alt_shift: [Option<KeyCode>; 128],
+}
+
+impl HeldKeys {
+    /// The keys of a keymap.
+    pub(crate) fn of(map: &KeyMap) -> HeldKeys
+        ensures { AreHeldKeys map.now result }
+    {
+        let is_upper_live = map.is_upper_live();
+        HeldKeys {
+            shift: keys_of_bit(map, is_upper_live, 0),
+            control: keys_of_bit(map, is_upper_live, 1),
+            alt: keys_of_bit(map, is_upper_live, 2),
+            alt_shift: keys_of_bit(map, is_upper_live, 3),
+        }
+    }
+
+    /// The keys that are held while this key is pressed.
+    pub(crate) fn at(&self, key: u8) -> BitKeys
+        requires { key < 128 }
+        ensures { (m : MapValue) → AreHeldKeys m self.now → result ≡ spec.bit_keys m key }
+    {
+        let at = key as usize;
+        [
+            self.shift[at],
+            self.control[at],
+            self.alt[at],
+            self.alt_shift[at],
+        ]
+    }
+}
+
+fn has_bit(set: u8, bit: u8) -> bool
+    requires { bit < 4 }
+    ensures { result ≡ spec.has_bit set bit }
+{
+    (set >> bit) % 2 == 1
+}
+
+/// Whether the set has the bit and no key can be held for it.
+fn is_lacking(keys: &BitKeys, set: u8, bit: u8) -> bool
+    requires { bit < 4 }
+    ensures { result ≡ spec.is_lacking keys.now set bit }
+{
+    has_bit(set, bit) && keys[bit as usize].is_none()
+}
+
+/// Whether the set has a bit for which no key can be held.
+fn lacks_key(keys: &BitKeys, set: u8) -> bool
+    ensures { result ≡ spec.lacks_key keys.now set }
+{
+    is_lacking(keys, set, 0)
+        || is_lacking(keys, set, 1)
+        || is_lacking(keys, set, 2)
+        || is_lacking(keys, set, 3)
+}
+
+/// Adds the press of the key that is held for the bit, if the set has it.
+fn press_held(way: &mut Way, keys: &BitKeys, set: u8, bit: u8)
+    requires room { array_vec_len way.old < 20 }
+    requires is_bit { bit < 4 }
+    ensures items { way.new.items ≡ way.old.items ++ map (λ k. Event.Press k) (spec.held_for keys.now set bit) }
+    ensures len { array_vec_len way.new ≤ array_vec_len way.old + 1 }
+{
+    if has_bit(set, bit) {
+        if let Some(key) = keys[bit as usize] {
+            way.push(Event::Press(key));
+        }
+    }
+}
+
+/// Adds the release of the key that is held for the bit, if the set has it.
+fn release_held(way: &mut Way, keys: &BitKeys, set: u8, bit: u8)
+    requires room { array_vec_len way.old < 20 }
+    requires is_bit { bit < 4 }
+    ensures items { way.new.items ≡ way.old.items ++ map (λ k. Event.Release k) (spec.held_for keys.now set bit) }
+    ensures len { array_vec_len way.new ≤ array_vec_len way.old + 1 }
+{
+    if has_bit(set, bit) {
+        if let Some(key) = keys[bit as usize] {
+            way.push(Event::Release(key));
+        }
+    }
+}
+
+/// Presses the keys that are held for the set, and the key, and releases them.
+fn pressed_with(keys: &BitKeys, set: u8, key: KeyCode) -> Way
+    ensures { result.items ≡ spec.combination (spec.held_keys keys.now set) key }
+{
+    let mut way = ArrayVec::new();
+    press_held(&mut way, keys, set, 0);
+    press_held(&mut way, keys, set, 1);
+    press_held(&mut way, keys, set, 2);
+    press_held(&mut way, keys, set, 3);
+    way.push(Event::Press(key));
+    way.push(Event::Release(key));
+    release_held(&mut way, keys, set, 0);
+    release_held(&mut way, keys, set, 1);
+    release_held(&mut way, keys, set, 2);
+    release_held(&mut way, keys, set, 3);
+    way
+}
+
+/// The combination of the set and the key, if a key can be held for each of the set's bits.
+pub(crate) fn combination(keys: &BitKeys, set: u8, key: u8) -> Option<Way>
+    requires { key < 128 }
+    ensures { MatchOption result (spec.combination_with keys.now set key ≡ [])
+        (λ way. spec.combination_with keys.now set key ≡ way.items ∷ []) }
+{
+    if lacks_key(keys, set) {
+        None
+    } else {
+        Some(pressed_with(keys, set, key_with(key)))
+    }
+}

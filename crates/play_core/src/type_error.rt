@@ -1,0 +1,27 @@
+//! Why a sentence isn't typed.
+use std::alloc::{AllocError, AllocFailed};
+use thiserror::Error;
+
+/// Why a sentence isn't typed.
+#[derive(Clone, Copy, Debug, PartialEq, Eq, Error)]
+pub enum TypeError {
+    #[error("out of memory")]
+    Memory,
+    /// The sentence isn't UTF-8: the offset of its first byte that belongs to no character.
+    #[error("not UTF-8 at offset {offset}")]
+    NotText { offset: u64 },
+    /// No way types the character, the first such in the sentence, at the offset of its first byte.
+    #[error("no key types the character at offset {offset}")]
+    NoWay { offset: u64, c: char },
+}
+
+impl From<AllocError> for TypeError {
+    ghost use Rattle.std.specs.Prelude.{◌≡◌};
+    ghost use Rattle.play_core.specs.declared.type_error.TypeError.TheVariants.{Memory};
+
+    ghost from_gives = { λ _ e. e ≡ Memory };
+
+    fn from(_e: AllocError) -> TypeError {
+        TypeError::Memory
+    }
+}

@@ -175,6 +175,13 @@ shown=$(cost check --show refused)
 echo "map of $("$program" check refused | grep -c '^key ') findings, checked: $plain $unit; with --show: $shown $unit," \
     "times $(per "$shown" 0 "$plain"); $("$program" check --show refused | tail -n 1)"
 
+tr -dc '\012a-zA-Z0-9 ,.;:!?' < text.whole | tr '\012' ' ' | head -c 32768 > sentence
+"$program" type "$keymap" sentence > typing.script || exit 1
+typing=$(cost type "$keymap" sentence)
+playing=$(cost play --typed "$keymap" typing.script)
+echo "sentence of $(wc -c < sentence) bytes: $typing $unit for its script of $(wc -c < typing.script) bytes," \
+    "times $(per "$typing" 0 "$playing") of what playing that costs"
+
 # Ten thousand rounds of eight events, without one round.
 program=$steps
 over_map=$(per "$(cost map 10000)" "$(cost map 1)" 79992)

@@ -14,6 +14,7 @@ complete -c kmap -n '__kmap_after' -f
 complete -c kmap -n '__kmap_after' -a check -d 'Accepts a keymap only if no key can leave a modifier on'
 complete -c kmap -n '__kmap_after' -a search -d 'Decides whether key presses can leave a modifier on'
 complete -c kmap -n '__kmap_after' -a play -d 'Prints what the console answers to a script of key presses'
+complete -c kmap -n '__kmap_after' -a type -d 'Prints a script of key presses that types a sentence'
 complete -c kmap -n '__kmap_after' -a compile -d 'Writes the table file of a keymap text'
 complete -c kmap -n '__kmap_after' -a dump -d 'Prints a table file as keymap text'
 complete -c kmap -n '__kmap_after' -a help -d 'Print this message or the help of the given subcommand(s)'
@@ -29,6 +30,8 @@ complete -c kmap -n '__kmap_after play' -l typed -d 'Prints the typed bytes inst
 complete -c kmap -n '__kmap_after play' -l next -r -F -d 'The keymap text that a load puts in force'
 complete -c kmap -n '__kmap_after play' -s h -l help -d 'Print help'
 
+complete -c kmap -n '__kmap_after type' -s h -l help -d 'Print help'
+
 complete -c kmap -n '__kmap_after compile' -l narrow -d 'Writes a narrow file, one byte a character'
 complete -c kmap -n '__kmap_after compile' -s h -l help -d 'Print help'
 
@@ -39,6 +42,7 @@ complete -c kmap -n '__kmap_after help' -f
 complete -c kmap -n '__kmap_after help' -a check
 complete -c kmap -n '__kmap_after help' -a search
 complete -c kmap -n '__kmap_after help' -a play
+complete -c kmap -n '__kmap_after help' -a type
 complete -c kmap -n '__kmap_after help' -a compile
 complete -c kmap -n '__kmap_after help' -a dump
 complete -c kmap -n '__kmap_after help' -a help

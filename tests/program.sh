@@ -78,6 +78,51 @@ ran 'types the German example' 0 "$german$line" '' play "$examples/de.kbd" "$exa
 ran 'types the example' 0 "$(printf 'Hello, FREEBSD caf\303\251!')$line" '' \
     play "$examples/us.kbd" "$examples/line.script" --typed
 
+# Typing: what a script is printed for comes back from it.
+printf 'aA' > sentence
+ran 'prints the events of a sentence' 0 "# aA
+down 30
+up 30
+down 42
+down 30
+up 30
+up 42
+" '' type shift sentence
+printf '\001' > control
+printf "016 soh soh soh soh soh soh soh soh O\n" > controls
+ran 'shows what a terminal does not' 0 "# U+0001
+down 16
+up 16
+" '' type controls control
+: > nothing
+ran 'prints nothing of no sentence' 0 '' '' type shift nothing
+for name in us de; do
+    case $name in
+    us) words=$(printf 'Hello, FREEBSD caf\303\251! ~{|}\\') ;;
+    de) words=$(printf 'Gr\303\274\303\237e, caf\303\251: 5^\342\202\254\303\226Y+') ;;
+    esac
+    printf %s "$words" > sentence
+    "$program" type "$examples/$name.kbd" sentence > typing.script
+    ran "types what $name.kbd was asked for" 0 "$words" '' play --typed "$examples/$name.kbd" typing.script
+    same_lines=$(grep '^#' typing.script)
+    holds "a comment shows the sentence of $name.kbd" [ "$same_lines" = "# $words" ]
+done
+printf 'a\r\rb\r' > sentence
+"$program" type "$examples/us.kbd" sentence > typing.script
+ran 'types carriage returns' 0 "$(printf 'a\r\rb\r')" '' play --typed "$examples/us.kbd" typing.script
+printf 'ab' > sentence
+ran 'a character that no key types' 1 '' "kmap: sentence offset 1: no key types U+0062$line" type shift sentence
+printf '\360\237\230\200' > sentence
+ran 'a character of many digits' 1 '' "kmap: sentence offset 0: no key types U+1f600$line" type shift sentence
+printf 'a\303(' > sentence
+ran 'a sentence that is no text' 1 '' "kmap: sentence offset 1: not UTF-8$line" type shift sentence
+printf 'b\303' > sentence
+ran 'no text comes before no key' 1 '' "kmap: sentence offset 1: not UTF-8$line" type shift sentence
+ran 'a faulty text types nothing' 1 '' "kmap: text line 1 offset 3: EndInside$line" type cut sentence
+ran 'a sentence that is too long' 1 '' "kmap: sentence: more than 1048576 bytes$line" type shift blanks
+ran 'a directory as sentence' 1 '' "kmap: sentence: read fault at offset 0$line" type shift folder
+ran 'no sentence' 1 '' "kmap: cannot open none1$line" type cut none1
+
 # Faults of what was read.
 ran 'a fault of the text' 1 '' "kmap: text line 1 offset 3: EndInside$line" play cut bad.script
 ran 'a fault of the next text' 1 '' "kmap: next line 1 offset 3: EndInside$line" play caps bad.script --next cut

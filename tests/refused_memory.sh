@@ -34,6 +34,7 @@ lost up 30
 repeat 30
 load
 down 42' | head -n 1000 > script
+printf 'aaa' > sentence
 : > empty
 {
     yes "$(cat letter)" | head -n 25000
@@ -108,6 +109,7 @@ refuses 0 play letter script
 refuses 0 play letter script --typed --next shift
 refuses 0 search letter
 refuses 1 search trap
+refuses 0 type letter sentence
 refuses 0 dump tables
 refuses 0 dump small --narrow
 refuses 0 compile shift made

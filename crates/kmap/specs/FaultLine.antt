@@ -14,6 +14,7 @@ use Rattle.keymap_tables.specs.declared.narrow.Wide.{Wide}
 use Rattle.keymap_tables.specs.declared.narrow.Wide.TheVariants as wide
 use Rattle.play_core.specs.declared.script.ScriptFault.{ScriptFault}
 use Rattle.play_core.specs.declared.script.ScriptFault.TheVariants.{BadLine, BadKey}
+use Rattle.kmap.specs.CodePoints.{code_text}
 use Rattle.kmap.specs.declared.fault_line.RunError.{RunError}
 use Rattle.kmap.specs.declared.fault_line.RunError.TheVariants as error
 
@@ -79,6 +80,9 @@ message (error.ReadText f) = read_fault (codes "text") f
 message (error.ReadNext f) = read_fault (codes "next") f
 message (error.ReadScript f) = read_fault (codes "script") f
 message (error.ReadTables f) = read_fault (codes "tables") f
+message (error.ReadSentence f) = read_fault (codes "sentence") f
+message (error.NotText offset) = codes "sentence offset " ++ decimal offset ++ codes ": not UTF-8"
+message (error.NoWay offset c) = codes "sentence offset " ++ decimal offset ++ codes ": no key types " ++ code_text c
 message (error.TooWide w) = too_wide w
 message (error.Write f) = write_fault f
 

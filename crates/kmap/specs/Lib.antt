@@ -1,4 +1,7 @@
+pub mod CodePoints
 pub mod FaultLine
 pub mod Report
 pub mod Runs
 pub mod Search
+pub mod TypeRuns
+pub mod Typing

@@ -58,6 +58,16 @@ fn play<'a>(alloc: Global) -> Result<Command<'a>, AllocError> {
         .arg(next(alloc))
 }
 
+fn type_sentence<'a>(alloc: Global) -> Result<Command<'a>, AllocError> {
+    Command::new(alloc, "type")
+        .about("Prints a script of key presses that types a sentence")
+        .after_help(
+            "Example: kmap type de.kbd sentence > script{n}{n}kmap(1) tells which ways are tried.",
+        )
+        .arg(file(alloc, "TEXT", "The keymap text"))?
+        .arg(file(alloc, "SENTENCE", "The sentence, in UTF-8"))
+}
+
 fn compile<'a>(alloc: Global) -> Result<Command<'a>, AllocError> {
     Command::new(alloc, "compile")
         .about("Writes the table file of a keymap text")
@@ -92,6 +102,7 @@ pub(crate) fn command<'a>(alloc: Global) -> Result<Command<'a>, AllocError> {
         .subcommand(check(alloc)?)?
         .subcommand(search(alloc)?)?
         .subcommand(play(alloc)?)?
+        .subcommand(type_sentence(alloc)?)?
         .subcommand(compile(alloc)?)?
         .subcommand(dump(alloc)?)
 }
@@ -121,6 +132,10 @@ pub(crate) enum Request<'a> {
         script: &'a str,
         typed: bool,
     },
+    Type {
+        text: &'a str,
+        sentence: &'a str,
+    },
 }
 
 /// The request of words that `clap` took.
@@ -148,6 +163,10 @@ pub(crate) fn request_of<'a>(matches: &ArgMatches<'a>) -> Option<Request<'a>> {
             next: words.get_str("next"),
             script: words.get_str("SCRIPT")?,
             typed: words.get_flag("typed"),
+        }),
+        "type" => Some(Request::Type {
+            text: words.get_str("TEXT")?,
+            sentence: words.get_str("SENTENCE")?,
         }),
         _ => None,
     }

@@ -4,6 +4,7 @@ ghost use Rattle.arrayvec.specs.ArrayVec.{array_vec_len};
 ghost use Rattle.keymap_core.specs.Devices.{WritesText};
 ghost use Rattle.kmap.specs.FaultLine.{fault_line, message, read_fault, script_fault, table_fault, table_kind, text_fault, text_kind, too_wide, write_fault};
 
+use crate::code_point::code_of;
 use crate::text::{append, append_byte, append_number};
 use arrayvec::ArrayVec;
 use keymap_core::{ReadFault, ReadFaultKind, Write, WriteFault, write_text};
@@ -33,6 +34,12 @@ pub enum RunError {
     ReadScript(ReadFault),
     #[error("the tables cannot be read")]
     ReadTables(ReadFault),
+    #[error("the sentence cannot be read")]
+    ReadSentence(ReadFault),
+    #[error("the sentence is not UTF-8")]
+    NotText { offset: u64 },
+    #[error("no key types a character of the sentence")]
+    NoWay { offset: u64, c: char },
     #[error("a character is too wide for a narrow file")]
     TooWide(Wide),
     #[error("the output cannot be written")]
@@ -160,6 +167,27 @@ fn append_wide(line: &mut Line, wide: &Wide)
     }
 }
 
+fn append_not_text(line: &mut Line, offset: u64)
+    requires { array_vec_len line.old + 50 ≤ 96 }
+    ensures text { line.new.items ≡ line.old.items ++ message (RunError.NotText offset) }
+    ensures bound { array_vec_len line.new ≤ array_vec_len line.old + 50 }
+{
+    append(line, b"sentence offset ");
+    append_number(line, offset);
+    append(line, b": not UTF-8");
+}
+
+fn append_no_way(line: &mut Line, offset: u64, c: char)
+    requires { array_vec_len line.old + 60 ≤ 96 }
+    ensures text { line.new.items ≡ line.old.items ++ message (RunError.NoWay offset c) }
+    ensures bound { array_vec_len line.new ≤ array_vec_len line.old + 60 }
+{
+    append(line, b"sentence offset ");
+    append_number(line, offset);
+    append(line, b": no key types ");
+    append(line, code_of(c).as_slice());
+}
+
 fn append_write_fault(line: &mut Line, fault: &WriteFault)
     requires { array_vec_len line.old + 50 ≤ 96 }
     ensures text { line.new.items ≡ line.old.items ++ write_fault fault.now }
@@ -185,6 +213,9 @@ fn append_message(line: &mut Line, error: &RunError)
         RunError::ReadNext(fault) => append_read_fault(line, b"next", fault),
         RunError::ReadScript(fault) => append_read_fault(line, b"script", fault),
         RunError::ReadTables(fault) => append_read_fault(line, b"tables", fault),
+        RunError::ReadSentence(fault) => append_read_fault(line, b"sentence", fault),
+        RunError::NotText { offset } => append_not_text(line, *offset),
+        RunError::NoWay { offset, c } => append_no_way(line, *offset, *c),
         RunError::TooWide(wide) => append_wide(line, wide),
         RunError::Write(fault) => append_write_fault(line, fault),
     }

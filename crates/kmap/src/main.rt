@@ -8,6 +8,7 @@
 //! It stands on all other crates of the workspace.
 #![tactic(auto)]
 
+mod code_point;
 mod command_line;
 mod fault_line;
 mod program;
@@ -17,6 +18,8 @@ mod search;
 #[cfg(test)]
 mod tests;
 mod text;
+mod type_run;
+mod typing;
 
 use keymap_core::ToStd;
 use std::process::ExitCode;

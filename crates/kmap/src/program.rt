@@ -4,6 +4,7 @@ use crate::fault_line::{RunError, write_run_error};
 use crate::runs::{
     check_run, dump_narrow_run, dump_run, narrow_failure, play_failure, search_run, text_failure,
 };
+use crate::type_run::type_run;
 use clap::error::ErrorKind;
 use keymap_core::{FromStd, KeyMap, ToStd, Write, write_text};
 use keymap_tables::{write_narrow, write_tables};
@@ -143,6 +144,10 @@ where
             }
             Ok(true)
         }
+        Request::Type { text, sentence } => {
+            type_sentence(rt, text, sentence)?;
+            Ok(true)
+        }
     }
 }
 
@@ -230,6 +235,16 @@ where
         &mut script,
         &mut out,
     ))
+}
+
+fn type_sentence<'a, R>(rt: &R, text: &'a str, sentence: &'a str) -> Result<(), Failure<'a>>
+where
+    R: AllocGlobal + Files + Print,
+{
+    let mut text = opened(rt, text)?;
+    let mut sentence = opened(rt, sentence)?;
+    let mut out = ToStd::new(io::writer(rt));
+    run_outcome(type_run(rt.alloc(), &mut text, &mut sentence, &mut out))
 }
 
 fn opened<'a, R: Files>(rt: &R, name: &'a str) -> Result<FromStd<R::File>, Failure<'a>> {

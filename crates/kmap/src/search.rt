@@ -24,7 +24,7 @@ fn event_line(event: Event) -> ArrayVec<u8, LINE>
     line
 }
 
-fn push_events(text: &mut Vec<u8>, events: &[Event]) -> Result<(), AllocError>
+pub(crate) fn push_events(text: &mut Vec<u8>, events: &[Event]) -> Result<(), AllocError>
     ensures { OnOk result (text.new.items ≡ text.old.items ++ flat_map event_line_of events.now) }
 {
     for event in events {

@@ -7,3 +7,4 @@ mod maps;
 mod reports;
 mod searches;
 mod tables;
+mod typings;

@@ -220,3 +220,42 @@ fn each_place_that_is_too_wide_has_its_line(rt: HostRuntime) {
         assert!(rt; writes_line(&RunError::TooWide(wide), line), "{wide:?}");
     }
 }
+
+#[test]
+fn each_fault_of_a_sentence_has_its_line(rt: HostRuntime) {
+    let rows: [(RunError, &[u8]); 6] = [
+        (
+            RunError::ReadSentence(DEVICE),
+            b"kmap: sentence: read fault at offset 0\n",
+        ),
+        (
+            RunError::ReadSentence(ENDLESS),
+            b"kmap: sentence: more than 1048576 bytes\n",
+        ),
+        (
+            RunError::NotText { offset: 7 },
+            b"kmap: sentence offset 7: not UTF-8\n",
+        ),
+        (
+            RunError::NoWay { offset: 0, c: '\n' },
+            b"kmap: sentence offset 0: no key types U+000a\n",
+        ),
+        (
+            RunError::NoWay {
+                offset: u64::MAX,
+                c: '\u{1f600}',
+            },
+            b"kmap: sentence offset 18446744073709551615: no key types U+1f600\n",
+        ),
+        (
+            RunError::NoWay {
+                offset: 1,
+                c: '\u{10ffff}',
+            },
+            b"kmap: sentence offset 1: no key types U+10ffff\n",
+        ),
+    ];
+    for (error, line) in rows {
+        assert!(rt; writes_line(&error, line), "{error:?}");
+    }
+}

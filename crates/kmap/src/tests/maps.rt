@@ -36,3 +36,12 @@ pub const DUMPED_LINE: &[u8] = b"#                                              
 pub const CAPS_WITH_NOPS: &[u8] = b"042 lshift lshift lshift lshift lshift lshift lshift lshift O
 058 nop clock nop clock nop clock nop clock O
 ";
+
+pub const SHIFT_AND_LINE_FEED: &[u8] = b"001 esc esc esc esc esc esc esc esc O
+002 0x202e 0x202e 0x202e 0x202e 0x202e 0x202e 0x202e 0x202e O
+003 '#' '#' '#' '#' '#' '#' '#' '#' O
+004 0xe9 0xe9 0xe9 0xe9 0xe9 0xe9 0xe9 0xe9 O
+028 nl nl nl nl nl nl nl nl O
+030 'a' 'A' soh soh 'a' 'A' soh soh C
+042 lshift lshift lshift lshift lshift lshift lshift lshift O
+";

@@ -1,0 +1,20 @@
+-- The number of a character as people write it.
+use Rattle.std.specs.Prelude.{ℕ, ◌+◌, ◌/◌, ◌%◌, nat_lt, List, [], ◌∷◌, ◌++◌, codes, if◌then◌else◌}
+
+abbrev pub hex_digit : ℕ → ℕ
+hex_digit n = if nat_lt n 10 then 48 + n else 87 + n
+
+abbrev pub digit_at : ℕ → ℕ → ℕ
+digit_at c unit = hex_digit ((c / unit) % 16)
+
+abbrev pub upper_digits : ℕ → List ℕ
+upper_digits c =
+    if nat_lt c 0x10000 then []
+    else if nat_lt c 0x100000 then digit_at c 0x10000 ∷ []
+    else digit_at c 0x100000 ∷ digit_at c 0x10000 ∷ []
+
+-- U+ and the number of the character in hexadecimal digits, four at least
+unfoldable pub code_text : ℕ → List ℕ
+code_text c =
+    codes "U+" ++ upper_digits c
+    ++ digit_at c 0x1000 ∷ digit_at c 0x100 ∷ digit_at c 0x10 ∷ digit_at c 1 ∷ []

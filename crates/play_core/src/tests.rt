@@ -8,3 +8,4 @@ mod maps;
 mod output;
 mod scripts;
 mod stops;
+mod ways;

@@ -39,3 +39,16 @@ pub const SHIFT_AND_CAPS: &str = "042 lshift lshift lshift lshift lshift lshift 
 ";
 
 pub const NOP_UNDER_CONTROL: &str = "030 'a' 'A' nop nop 'a' 'A' nop nop C";
+
+/// An acute accent, and a grave one under shift, on one key, and a third level under ashift.
+pub const TWO_DEAD_KEYS: &str = "016 'q' 'Q' dc1 dc1 'q' 'Q' dc1 dc1 C
+029 lctrl lctrl lctrl lctrl lctrl lctrl lctrl lctrl O
+030 'a' 'A' soh soh 'a' 'A' soh soh C
+040 dacu dgra nop nop nop nop nop nop O
+042 lshift lshift lshift lshift lshift lshift lshift lshift O
+057 ' ' ' ' nul ' ' ' ' ' ' ' ' ' ' O
+100 ashift ashift ashift ashift ashift ashift ashift ashift O
+144 '@' '@' 0x3a9 0x3a9 '@' '@' 0x3a9 0x3a9 O
+dacu 180 ( 'a' 0xe1 )
+dgra '`' ( 'a' 0xe0 )
+";

@@ -107,6 +107,46 @@ for name in us de; do
     same_lines=$(grep '^#' typing.script)
     holds "a comment shows the sentence of $name.kbd" [ "$same_lines" = "# $words" ]
 done
+# utf8 NUMBER: the character with this number
+utf8() {
+    LC_ALL=C awk -v c="$1" 'BEGIN {
+        if (c < 128) printf "%c", c
+        else if (c < 2048) printf "%c%c", 192 + int(c / 64), 128 + c % 64
+        else printf "%c%c%c", 224 + int(c / 4096), 128 + int(c / 64) % 64, 128 + c % 64
+    }'
+}
+# Two dead keys, of which one stands under shift, and a third level under ashift.
+cat > levels << 'END'
+016 'q' 'Q' dc1 dc1 'q' 'Q' dc1 dc1 C
+029 lctrl lctrl lctrl lctrl lctrl lctrl lctrl lctrl O
+030 'a' 'A' soh soh 'a' 'A' soh soh C
+040 dacu dgra nop nop nop nop nop nop O
+042 lshift lshift lshift lshift lshift lshift lshift lshift O
+057 ' ' ' ' nul ' ' ' ' ' ' ' ' ' ' O
+100 ashift ashift ashift ashift ashift ashift ashift ashift O
+144 '@' '@' 0x3a9 0x3a9 '@' '@' 0x3a9 0x3a9 O
+dacu 180 ( 'a' 0xe1 )
+dgra '`' ( 'a' 0xe0 )
+END
+for keymap in "$examples/us.kbd" "$examples/de.kbd" levels; do
+    : > sentence
+    for number in $(seq 0 399) 937 8364; do
+        utf8 "$number" > character
+        "$program" type "$keymap" character > /dev/null 2>&1 && cat character >> sentence
+    done
+    "$program" type "$keymap" sentence > typing.script
+    "$program" play --typed "$keymap" typing.script > got
+    holds "each character of ${keymap##*/} comes back" cmp -s sentence got
+    cp sentence "${keymap##*/}.characters"
+done
+# A key that isn't defined types the character 0, which no word of the shell can hold.
+tr -d '\000' < levels.characters > got
+holds 'the characters of two dead keys and two levels' \
+    same_bytes got "$(printf '\001\021 @AQ`aq\302\264\303\240\303\241\316\251')"
+for keymap in us de; do
+    LC_ALL=C awk 'BEGIN { for (i = 32; i < 127; i++) printf "%c", i }' > sentence
+    holds "$keymap.kbd types all of ASCII" "$program" type "$examples/$keymap.kbd" sentence > typing.script
+done
 printf 'a\r\rb\r' > sentence
 "$program" type "$examples/us.kbd" sentence > typing.script
 ran 'types carriage returns' 0 "$(printf 'a\r\rb\r')" '' play --typed "$examples/us.kbd" typing.script

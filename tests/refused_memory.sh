@@ -46,6 +46,8 @@ echo 'kmap: out of memory' > said
 
 passed=0
 failed=0
+# Where it isn't empty, a refusal may be told or have no effect.
+goes_on=
 
 # same_file: the file that was made, if any, is the one that ample memory makes
 same_file() {
@@ -88,7 +90,7 @@ refuses() {
         if [ $got -eq 1 ] && [ ! -s stdout ] && [ ! -e made ] && cmp -s said stderr; then
             told=$((told + 1))
             passed=$((passed + 1))
-        elif [ $number -le "$before" ] &&
+        elif { [ $number -le "$before" ] || [ -n "$goes_on" ]; } &&
             [ $got -eq "$status" ] && cmp -s wanted stdout && [ ! -s stderr ] && same_file; then
             passed=$((passed + 1))
         else
@@ -109,7 +111,10 @@ refuses 0 play letter script
 refuses 0 play letter script --typed --next shift
 refuses 0 search letter
 refuses 1 search trap
+# A hash map that is refused room to grow asks for what it needs now, so this may go on and write the same.
+goes_on=yes
 refuses 0 type letter sentence
+goes_on=
 refuses 0 dump tables
 refuses 0 dump small --narrow
 refuses 0 compile shift made

@@ -1,7 +1,8 @@
 #!/bin/sh
 # Measures the program on large inputs: what a byte of text and an event of a script cost, how these costs grow from a
 # tenth of the largest size to the whole, how many system calls a run makes, what the longest search for a
-# demonstration costs, and what an event costs over a keymap in memory and over its tables.
+# demonstration costs, what the script of a sentence costs, and what an event costs over a keymap in memory and over its
+# tables.
 #
 # usage: run.sh PROGRAM STEPS
 # STEPS is the program of crates/step_costs.
@@ -178,9 +179,10 @@ echo "map of $("$program" check refused | grep -c '^key ') findings, checked: $p
 tr -dc '\012a-zA-Z0-9 ,.;:!?' < text.whole | tr '\012' ' ' | head -c 32768 > sentence
 "$program" type "$keymap" sentence > typing.script || exit 1
 typing=$(cost type "$keymap" sentence)
-playing=$(cost play --typed "$keymap" typing.script)
-echo "sentence of $(wc -c < sentence) bytes: $typing $unit for its script of $(wc -c < typing.script) bytes," \
-    "times $(per "$typing" 0 "$playing") of what playing that costs"
+playing=$(cost play "$keymap" typing.script)
+typed=$(cost play --typed "$keymap" typing.script)
+echo "sentence of $(wc -c < sentence) bytes: $typing $unit for its script of $(wc -c < typing.script) bytes, which is" \
+    "$(per "$typing" 0 "$playing") times what playing that costs, and $(per "$typing" 0 "$typed") times with --typed"
 
 # Ten thousand rounds of eight events, without one round.
 program=$steps

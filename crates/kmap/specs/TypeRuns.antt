@@ -1,5 +1,5 @@
 -- What the run that types a sentence does to the devices that it is lent.
-use Rattle.std.specs.Prelude.{◌≡◌, ℕ, ◌<◌, Bool, false, List, Result, Ok, Err, length, take, ⊤}
+use Rattle.std.specs.Prelude.{ℕ, ◌<◌, Bool, false, List, Result, Ok, Err, length, take, ⊤}
 use Rattle.std.specs.Io.KnownBytes.{Appends}
 use Rattle.keymap_core.specs.Maps.{MapValue}
 use Rattle.keymap_text.specs.declared.fault.TextError.TheVariants as text_errors

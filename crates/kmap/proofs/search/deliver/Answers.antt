@@ -1,5 +1,4 @@
 use Rattle.std.proofs.Common.{◌≡◌, ◌+◌, ◌∷◌, ◌++◌, [], take, arith}
-use Rattle.std.specs.Prelude.{reverse}
 use Rattle.std.proofs.lemmas.Grind.{common_steps}
 use Rattle.console_core.proofs.Deliveries.{take_event, reverse-push}
 use Rattle.kmap.proofs.search.deliver.Goals as goal

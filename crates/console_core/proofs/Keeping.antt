@@ -13,8 +13,9 @@ use Rattle.keymap_core.specs.Actions.{holding_action, holding_index, holding_of}
 use Rattle.keymap_core.specs.Borne.{is_borne}
 use Rattle.keymap_core.specs.Maps.{MapValue}
 use Rattle.console_core.specs.Resolved.{is_action}
-use Rattle.console_core.specs.Kept.{Kept, with_mark, with_memory, with_released, with_lock_borne}
-use Rattle.console_core.specs.Kept.{after_release, after_reset, exchanged, after_load}
+use Rattle.console_core.specs.Agrees.{Kept}
+use Rattle.console_core.specs.Inner.Kept.{with_mark, with_memory, with_released, with_lock_borne}
+use Rattle.console_core.specs.Inner.Kept.{after_release, after_reset, exchanged, after_load}
 use Rattle.console_core.proofs.Places.{holding_of-some, same_place}
 
 -- what is kept is known by its parts

@@ -20,7 +20,7 @@ use Rattle.console_core.specs.Resolved.{unlocks, resolve_press, ResolvedEvent, r
 use Rattle.console_core.specs.Resolved.{taken_over, unless_nop, is_action, pending, pending_after, dead_keys}
 use Rattle.console_core.specs.Resolved.{keeps_taken, usable_dead_key, run_length}
 use Rattle.console_core.specs.History.{Maps, resolved_event, pressed, resolved, is_press, concerns}
-use Rattle.console_core.specs.Kept.{toggled, next_pending}
+use Rattle.console_core.specs.Inner.Kept.{toggled, next_pending}
 use Rattle.std.proofs.lemmas.Bool.{eqb-true, eq-eqb}
 use Rattle.console_core.specs.Resolved.ResolvedEvent.{PressedCharacter, PressedAction, ReleasedKey, WasReset, WasLoaded}
 

@@ -15,7 +15,7 @@ use Rattle.keymap_core.specs.declared.action.Lock.TheVariants.{Caps}
 use Rattle.keymap_core.specs.Actions.{modifiers, locks, modifier_index, lock_index}
 use Rattle.keymap_core.specs.Maps.{MapValue}
 use Rattle.console_core.specs.declared.held.Held.{Held}
-use Rattle.console_core.specs.Searching.{state_of, Entry, Entries, Searched, IsReached}
+use Rattle.console_core.specs.Inner.Searching.{state_of, Entry, Entries, Searched, IsReached}
 use Rattle.console_core.specs.Sticking.{ReachesMoreThan}
 use Rattle.console_core.proofs.Searching.{none_entry, some_entries}
 

@@ -25,7 +25,10 @@ use Rattle.console_core.specs.Reading.{is_some}
 use Rattle.console_core.specs.History.{Maps, between, resolved, On, pressed, HasKey, HasKeys, IsNoLoad, HasNoLoads, IsQuiet}
 use Rattle.console_core.specs.declared.held.Move.{Move}
 use Rattle.console_core.specs.declared.held.Move.TheVariants.{Hold, Turn, LetGo}
-use Rattle.console_core.specs.Moves.{State, start, look_in, Holds, IsIdle, with_holder, with_turned, IsMove, moved, Forgets, state_after, IsPath, presses_of, presses_along, events_of, events_along, release_of, releases, script, IsForgetful}
+use Rattle.console_core.specs.Moves.{State, start, look_in, Holds, IsIdle, with_holder, with_turned, IsMove, moved}
+use Rattle.console_core.specs.Moves.{Forgets, state_after, IsPath, events_of, events_along, release_of, releases}
+use Rattle.console_core.specs.Moves.{script, IsForgetful}
+use Rattle.console_core.specs.Inner.Searching.{presses_of, presses_along}
 use Rattle.console_core.specs.Sticking.{IsPressOrRelease, presses, SticksIfReached, NeverSticksUnlessReached}
 use Rattle.console_core.proofs.OneMore.{resolved-start, resolved-more, held-start, held-character, held-action, held-release, remembered-start, remembered-character, remembered-action, remembered-release, pressed-start, pressed-press, pressed-release}
 use Rattle.console_core.proofs.Bearing.{none_some}

@@ -24,8 +24,12 @@ use Rattle.std.specs.Option.{is_some}
 use Rattle.std.specs.Map.{lookup}
 use Rattle.indexmap.specs.IndexMap.{insert_entry}
 use Rattle.console_core.specs.declared.held.Move.TheVariants.{Hold, Turn, LetGo}
-use Rattle.console_core.specs.Moves.{State, start, look_in, Holds, with_holder, with_turned, IsMove, moved, IsForgetful, state_after, presses_of, Forgets, script, events_of, events_along, release_of, releases}
-use Rattle.console_core.specs.Searching.{state_of, Entry, Entries, Grows, IsStep, IsMetBy, IsLetGoMet, ArePressesMet, AreWithin, IsFrom, AreAdded, IsTrail, IsReached, IsClosed, IsPressed, Searched, AreInOrder, IsStuck, GoBack, IsScriptTo}
+use Rattle.console_core.specs.Moves.{State, start, look_in, Holds, with_holder, with_turned, IsMove, moved, IsForgetful}
+use Rattle.console_core.specs.Moves.{state_after, Forgets, script, events_of, events_along, release_of, releases}
+use Rattle.console_core.specs.Inner.Searching.{presses_of}
+use Rattle.console_core.specs.Inner.Searching.{state_of, Entry, Entries, Grows, IsStep, IsMetBy, IsLetGoMet}
+use Rattle.console_core.specs.Inner.Searching.{ArePressesMet, AreWithin, IsFrom, AreAdded, IsTrail, IsReached, IsClosed}
+use Rattle.console_core.specs.Inner.Searching.{IsPressed, Searched, AreInOrder, IsStuck, GoBack, IsScriptTo}
 use Rattle.console_core.specs.Sticking.{NeverSticks, LeavesOn, HasFewestPresses, presses}
 use Rattle.console_core.proofs.Staying.{IsSafeBelow, never-sticks, sticks-late}
 use Rattle.console_core.proofs.Scripts.{sticks_if_reached, presses-script}

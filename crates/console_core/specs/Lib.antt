@@ -3,9 +3,8 @@ pub mod Answers
 pub mod Columns
 pub mod Facts
 pub mod Headline
-pub mod HeldBytes
 pub mod History
-pub mod Kept
+pub mod Inner
 pub mod Loads
 pub mod Moves
 pub mod Packed
@@ -15,8 +14,6 @@ pub mod Raw
 pub mod Reading
 pub mod Resolved
 pub mod Safety
-pub mod Searching
 pub mod Sticking
-pub mod Tables
 pub mod Traps
 pub mod Words

@@ -1,6 +1,6 @@
 -- What the search for sticking modifiers goes over: the states, and the moves between them. It mirrors
 -- src/held/moves.rt.
-use Rattle.std.specs.Prelude.{◌≡◌, ℕ, ◌<◌, ◌+◌, Bool, false, not, List, [], ◌∷◌, ◌++◌, Option, None, Some, if◌then◌else◌}
+use Rattle.std.specs.Prelude.{◌≡◌, ℕ, ◌<◌, Bool, false, not, List, [], ◌∷◌, ◌++◌, Option, None, Some, if◌then◌else◌}
 use Rattle.keymap_core.specs.declared.action.Modifier.{Modifier}
 use Rattle.keymap_core.specs.declared.action.Lock.{Lock}
 use Rattle.keymap_core.specs.declared.action.Action.TheVariants as act
@@ -73,16 +73,6 @@ state_after (move ∷ path) = moved (state_after path) move
 abbrev pub IsPath : MapValue → List Move → Type 0
 IsPath m [] = Unit {0}
 IsPath m (move ∷ path) = IsMove m (state_after path) move × IsPath m path
-
--- how many presses a move takes
-abbrev pub presses_of : Move → ℕ
-presses_of (Hold k i) = 1
-presses_of (Turn k l) = 1
-presses_of (LetGo k i) = 0
-
-abbrev pub presses_along : List Move → ℕ
-presses_along [] = 0
-presses_along (move ∷ path) = presses_along path + presses_of move
 
 -- the events of the moves, with the newest first
 abbrev pub events_of : Move → List Event

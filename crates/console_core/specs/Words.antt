@@ -8,7 +8,7 @@ use Rattle.keymap_core.specs.declared.action.Holding.{Holding}
 use Rattle.keymap_core.specs.declared.action.Holding.TheVariants as holding
 use Rattle.keymap_core.specs.declared.action.Lock.{Lock}
 use Rattle.keymap_core.specs.Actions.{action_of, modifier_index, lock_index}
-use Rattle.console_core.specs.Kept.{Kept}
+use Rattle.console_core.specs.Agrees.{Kept}
 
 abbrev pub bit_is_set : ℕ → ℕ → Bool
 bit_is_set word i = bit_at word i == 1

@@ -7,9 +7,10 @@ ghost use Rattle.console_core.specs.Columns.{look_with, slot_of, is_upper};
 ghost use Rattle.console_core.specs.Answers.{answer_char, answer_action as answer_action_of, answer_release};
 ghost use Rattle.console_core.specs.Resolved.{taken_over};
 ghost use Rattle.console_core.specs.History.{Maps, in_force, loaded, AnswerTo};
-ghost use Rattle.console_core.specs.Kept.{nothing_kept, with_offered, with_lock_taken, with_taken, with_released};
-ghost use Rattle.console_core.specs.Kept.{with_lock_borne};
-ghost use Rattle.console_core.specs.Kept.{after_character, after_action, after_release, after_load};
+ghost use Rattle.console_core.specs.Agrees.{nothing_kept};
+ghost use Rattle.console_core.specs.Inner.Kept.{with_offered, with_lock_taken, with_taken, with_released};
+ghost use Rattle.console_core.specs.Inner.Kept.{with_lock_borne};
+ghost use Rattle.console_core.specs.Inner.Kept.{after_character, after_action, after_release, after_load};
 ghost use Rattle.console_core.specs.Agrees.{StandsAt};
 
 use crate::event::{Answer, Event};

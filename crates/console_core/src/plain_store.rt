@@ -1,8 +1,8 @@
 //! A store with a truth value for each modifier, lock and down mark, and an optional action for each key.
 ghost use Rattle.std.specs.Prelude.{◌≡◌, ◌<◌, length, IfSome};
 ghost use Rattle.std.proofs.Props.{props};
-ghost use Rattle.console_core.specs.Kept.{nothing_kept};
-ghost use Rattle.console_core.specs.Tables.{kept_in_tables};
+ghost use Rattle.console_core.specs.Agrees.{nothing_kept};
+ghost use Rattle.console_core.specs.Inner.Tables.{kept_in_tables};
 
 use crate::store::Store;
 use keymap_core::{Action, Holding, KeyCode, Lock};

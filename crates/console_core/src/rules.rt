@@ -6,7 +6,7 @@ ghost use Rattle.keymap_core.specs.Maps.{MapValue};
 ghost use Rattle.console_core.specs.Answers.{answer_char, usable};
 ghost use Rattle.console_core.specs.Answers.{answer_dead_key as answer_dead_key_of};
 ghost use Rattle.console_core.specs.Answers.{answer_action as answer_action_of};
-ghost use Rattle.console_core.specs.Kept.{next_pending as next_pending_of, toggled as toggled_of};
+ghost use Rattle.console_core.specs.Inner.Kept.{next_pending as next_pending_of, toggled as toggled_of};
 
 use crate::event::Answer;
 use keymap_core::{Action, Keymap, LockFlag};

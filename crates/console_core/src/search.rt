@@ -3,7 +3,9 @@ ghost use Rattle.std.specs.Prelude.{◌≡◌, ◌+◌, ◌<◌, ◌≤◌, ◌�
 ghost use Rattle.keymap_core.specs.Maps.{MapValue};
 ghost use Rattle.keymap_core.specs.declared.action.Modifier.{Modifier as ModifierValue};
 ghost use Rattle.console_core.specs.declared.held.Held.{Held as HeldValue};
-ghost use Rattle.console_core.specs.Searching.{state_of, IsMetBy, AreWithin, Grows, IsStep, IsLetGoMet, ArePressesMet, AreAdded, Searched, AreInOrder, IsStuck, GoBack, IsScriptTo};
+ghost use Rattle.console_core.specs.Inner.Searching.{state_of, IsMetBy, AreWithin, Grows, IsStep, IsLetGoMet};
+ghost use Rattle.console_core.specs.Inner.Searching.{ArePressesMet, AreAdded, Searched, AreInOrder, IsStuck, GoBack};
+ghost use Rattle.console_core.specs.Inner.Searching.{IsScriptTo};
 ghost use Rattle.console_core.specs.Sticking.{IsAnswer};
 
 use crate::event::Event;

@@ -1,8 +1,9 @@
 //! What a console keeps between two events.
 ghost use Rattle.std.specs.Prelude.{◌≡◌, ◌<◌, false, option_map, IfSome};
 ghost use Rattle.keymap_core.specs.Actions.{same_action};
-ghost use Rattle.console_core.specs.Kept.{Kept, with_mark, with_turned, with_memory, with_pending, after_reset};
-ghost use Rattle.console_core.specs.Kept.{exchanged};
+ghost use Rattle.console_core.specs.Agrees.{Kept};
+ghost use Rattle.console_core.specs.Inner.Kept.{with_mark, with_turned, with_memory, with_pending, after_reset};
+ghost use Rattle.console_core.specs.Inner.Kept.{exchanged};
 
 use keymap_core::{Action, Holding, KeyCode, Lock};
 

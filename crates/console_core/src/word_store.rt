@@ -1,7 +1,7 @@
 //! A store with one word of 32 bits and a byte for each key.
 ghost use Rattle.std.specs.Prelude.{◌≡◌, ◌≢◌, ◌<◌, ◌≤◌, false, None, option_map, length, IfSome};
 ghost use Rattle.keymap_core.specs.Actions.{same_action};
-ghost use Rattle.console_core.specs.Kept.{nothing_kept};
+ghost use Rattle.console_core.specs.Agrees.{nothing_kept};
 ghost use Rattle.console_core.specs.Words.{kept_in_word, mark_bit as mark_bit_of, lock_bit as lock_bit_of};
 ghost use Rattle.console_core.specs.Words.{pending_from, pending_code as pending_code_of, coded};
 

@@ -26,7 +26,7 @@ use Rattle.keymap_check.specs.declared.kind.Kind.TheVariants as kind
 use Rattle.console_core.specs.Positions.{first_of_two}
 use Rattle.keymap_check.specs.Below.{first_below}
 use Rattle.keymap_check.specs.Cells.{fits, is_holding, is_of_group, cell_of, first_place, place_count}
-use Rattle.keymap_check.specs.CellBits.{cell_bit, is_set, bits_below, bits_of, mask_of}
+use Rattle.keymap_check.specs.Inner.CellBits.{cell_bit, is_set, bits_below, bits_of, mask_of}
 use Rattle.keymap_check.specs.Computed.{is_there}
 
 -- one bit of a power of two

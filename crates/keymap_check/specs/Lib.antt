@@ -1,8 +1,8 @@
 pub mod Below
-pub mod CellBits
 pub mod Cells
 pub mod Computed
 pub mod Findings
+pub mod Inner
 pub mod Promises
 pub mod Report
 pub mod Scripts

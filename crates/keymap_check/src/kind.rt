@@ -1,7 +1,7 @@
 //! What is looked for among the cells of a key.
 ghost use Rattle.std.specs.Prelude.{◌≡◌};
 ghost use Rattle.keymap_check.specs.Cells.{fits as fits_kind, is_of_group};
-ghost use Rattle.keymap_check.specs.CellBits.{mask_of};
+ghost use Rattle.keymap_check.specs.Inner.CellBits.{mask_of};
 
 use keymap_core::{Action, Cell, Holding, Modifier};
 

@@ -1,7 +1,7 @@
 //! A keymap whose cells were gone over once: which sorts of cells each key has.
 ghost use Rattle.std.specs.Prelude.{◌≡◌, ◌^◌, ◌<◌, ◌≤◌, IfSome};
 ghost use Rattle.keymap_check.specs.Cells.{place_count as place_count_of, cell_of as cell_of_key, first_place as first_place_of};
-ghost use Rattle.keymap_check.specs.CellBits.{cell_bit, bits_of};
+ghost use Rattle.keymap_check.specs.Inner.CellBits.{cell_bit, bits_of};
 ghost use Rattle.keymap_check.specs.Computed.{is_there};
 
 use crate::cells::{cell_of, first_place, place_count};
@@ -21,7 +21,7 @@ impl<'m> Model for Survey<'m> {
     ghost use Rattle.std.specs.Prelude.{◌≡◌, ◌≤◌};
     ghost use Rattle.keymap_core.specs.Maps.{MapValue};
     ghost use Rattle.keymap_check.specs.Cells.{place_count as place_count_of};
-    ghost use Rattle.keymap_check.specs.CellBits.{HasBits};
+    ghost use Rattle.keymap_check.specs.Inner.CellBits.{HasBits};
 
     ghost Value = { MapValue };
 

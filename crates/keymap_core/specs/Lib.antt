@@ -4,7 +4,7 @@ pub mod Bearers
 pub mod Borne
 pub mod Bounds
 pub mod Devices
-pub mod Inside
+pub mod Inner
 pub mod Maps
 pub mod Names
 pub mod Streams

@@ -30,7 +30,7 @@ impl Model for KeyMap {
 
     ghost Value = { MapValue };
 
-    ghost use Rattle.keymap_core.specs.Inside.{IsSound};
+    ghost use Rattle.keymap_core.specs.Inner.Inside.{IsSound};
 
     ghost view = { λ m. record { entries = m.entries.items; accents = m.accents.items } };
 

@@ -14,8 +14,8 @@ use Rattle.console_core.specs.declared.event.Event.{Event}
 use Rattle.console_core.specs.History.{Pending}
 use Rattle.play_core.specs.HeldKeys.{held_keys, lacks_key, combination_with, combinations}
 use Rattle.play_core.specs.Typing.{alone, is_at_rest, character_of, accent_of, first_with, is_now, direct_way, dead_way, typing_answers, unless_any, way_for, accented, accented_by, bases_of, joined}
-use Rattle.play_core.specs.Effects.{IsTrial}
-use Rattle.play_core.specs.Tables.{Entries, IsTableOf, AreTablesOf}
+use Rattle.play_core.specs.Inner.Effects.{IsTrial}
+use Rattle.play_core.specs.Inner.Tables.{Entries, IsTableOf, AreTablesOf}
 use Rattle.play_core.proofs.Trials.{rests-start}
 use Rattle.play_core.proofs.Tables.{find-true, find-All}
 use Rattle.play_core.proofs.Combinations.{IsCombination, all-combinations, short-combination, combination-of}

@@ -9,7 +9,7 @@ use Rattle.std.proofs.lemmas.Bool.{ne_eqb}
 use Rattle.std.proofs.lemmas.Str.Parse.{digit_from_value}
 use Rattle.play_core.specs.declared.sent.What.TheVariants.{Down, Repeat, Up}
 use Rattle.play_core.specs.Scripts.{is_blank, is_there, parts_of, words_in, without_comment}
-use Rattle.play_core.specs.Readings.{BeginsWithKey, BeginsWithEvent}
+use Rattle.play_core.specs.Inner.Readings.{BeginsWithKey, BeginsWithEvent}
 
 -- the byte at a place, and what stands behind it
 pub byte_at : (text : List ℕ) (n b : ℕ) → n < length text → get_or text n 0 ≡ b → drop n text ≡ b ∷ drop (suc n) text

@@ -12,7 +12,8 @@ use Rattle.play_core.specs.declared.sent.What.{What}
 use Rattle.play_core.specs.declared.sent.What.TheVariants.{Down, Repeat, Up, Reset, Load}
 use Rattle.play_core.specs.declared.sent.Sent.{Sent}
 use Rattle.play_core.specs.Scripts.{IsNumber, Tells, Sends, mark_of, key_of, IsEvent, HasBadKey, HasBadForm}
-use Rattle.play_core.specs.Readings.{are_digits, key_in, of_key, what_with_key, what_alone, what_of, sent_by, reading_of_lost, reading}
+use Rattle.play_core.specs.Inner.Readings.{are_digits, key_in, of_key, what_with_key, what_alone, what_of, sent_by}
+use Rattle.play_core.specs.Inner.Readings.{reading_of_lost, reading}
 
 digits_pass : (word : List ℕ) → AllDigits 10 word → are_digits word ≡ true
 digits_pass [] h = refl

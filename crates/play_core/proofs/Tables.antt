@@ -9,7 +9,7 @@ use Rattle.std.proofs.lemmas.List.Elements.{All-head, All-tail}
 use Rattle.arrayvec.specs.ArrayVec.{ArrayVec}
 use Rattle.console_core.specs.declared.event.Event.{Event}
 use Rattle.play_core.specs.Typing.{first_with, is_now}
-use Rattle.play_core.specs.Tables.{Entries, way_at, IsTableOf}
+use Rattle.play_core.specs.Inner.Tables.{Entries, way_at, IsTableOf}
 
 none-some : {X : Type 0} (x : X) → None ≡ Some x → ⊥
 none-some x e = cc

@@ -9,7 +9,7 @@ use Rattle.keymap_core.specs.Actions.{modifiers, locks}
 use Rattle.console_core.specs.declared.event.Event.{Event}
 use Rattle.console_core.specs.declared.event.Answer.{Answer}
 use Rattle.play_core.specs.Written.{event_text, answer_text, line_of, name_if, or_none, names_of_modifiers, names_of_locks}
-use Rattle.play_core.specs.Tails.{tail_of, number_with, shown_number, IsTail}
+use Rattle.play_core.specs.Inner.Tails.{tail_of, number_with, shown_number, IsTail}
 
 same_bits : (xs ys : List Bool) → length xs ≡ length ys → number_with xs ≡ number_with ys → xs ≡ ys
 same_bits [] [] l e = refl

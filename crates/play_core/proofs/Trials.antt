@@ -29,7 +29,8 @@ use Rattle.play_core.specs.declared.effect.Typed.{Typed}
 use Rattle.play_core.specs.declared.effect.Typed.TheVariants as typed
 use Rattle.play_core.specs.HeldKeys.{combination}
 use Rattle.play_core.specs.Typing.{alone, is_at_rest, types, lone_character, typing_answers, unless_some, unless_any, character_of, accent_of}
-use Rattle.play_core.specs.Effects.{IsTrial, typed_by_one, typed_by_all, after_typing, one_more, character_in, accent_in, effect_by}
+use Rattle.play_core.specs.Inner.Effects.{IsTrial, typed_by_one, typed_by_all, after_typing, one_more, character_in}
+use Rattle.play_core.specs.Inner.Effects.{accent_in, effect_by}
 use Rattle.play_core.proofs.Resting.{combination-quiet, combination-down, DownOnlyIfLocked}
 
 -- ---- what answers type

@@ -1,12 +1,7 @@
 pub mod Delivery
-pub mod Effects
 pub mod HeldKeys
-pub mod HeldTables
-pub mod Pieces
+pub mod Inner
 pub mod Playing
-pub mod Readings
 pub mod Scripts
-pub mod Tables
-pub mod Tails
 pub mod Typing
 pub mod Written

@@ -6,8 +6,8 @@ ghost use Rattle.console_core.specs.declared.event.Event.{Event as EventValue};
 ghost use Rattle.console_core.specs.History.{Maps, AnswersTo};
 ghost use Rattle.keymap_core.specs.Maps.{MapValue};
 ghost use Rattle.play_core.specs.Typing.{character_of, accent_of, types, alone};
-ghost use Rattle.play_core.specs.Effects.{IsTrial, typed_by_all, one_more, effect_by as effect_by_of};
-ghost use Rattle.play_core.specs.Effects.{character_in, accent_in};
+ghost use Rattle.play_core.specs.Inner.Effects.{IsTrial, typed_by_all, one_more, effect_by as effect_by_of};
+ghost use Rattle.play_core.specs.Inner.Effects.{character_in, accent_in};
 
 use console_core::{Answer, Event, Translator, WordConsole};
 use keymap_core::{KeyMap, Lock, Modifier};

@@ -4,7 +4,7 @@ ghost use Rattle.arrayvec.specs.ArrayVec.{array_vec_len};
 ghost use Rattle.keymap_core.specs.Maps.{MapValue, cell_at};
 ghost use Rattle.keymap_core.specs.Borne.{is_cell_of_action, has_in_slot as has_in_slot_of, is_upper_live as is_upper_live_of};
 ghost use Rattle.play_core.specs.HeldKeys as spec;
-ghost use Rattle.play_core.specs.HeldTables.{AreHeldKeys};
+ghost use Rattle.play_core.specs.Inner.HeldTables.{AreHeldKeys};
 
 use arrayvec::ArrayVec;
 use console_core::Event;

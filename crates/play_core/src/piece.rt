@@ -15,7 +15,7 @@ pub(crate) struct Piece {
 
 impl Model for Piece {
     ghost use Rattle.std.specs.Prelude.{◌≡◌, ◌≤◌, length, take};
-    ghost use Rattle.play_core.specs.Pieces.{PieceValue};
+    ghost use Rattle.play_core.specs.Inner.Pieces.{PieceValue};
 
     ghost Value = { PieceValue };
 

@@ -2,7 +2,7 @@
 //! digits, and a line feed.
 ghost use Rattle.std.specs.Prelude.{◌≡◌, ◌<◌, ◌≤◌, ◌++◌, [], ◌∷◌, length, codes, drop, IfSome, IsTrue};
 ghost use Rattle.std.specs.Char.{digit_value};
-ghost use Rattle.play_core.specs.Readings.{BeginsWithKey, BeginsWithEvent};
+ghost use Rattle.play_core.specs.Inner.Readings.{BeginsWithKey, BeginsWithEvent};
 
 use crate::sent::What;
 use keymap_core::KeyCode;

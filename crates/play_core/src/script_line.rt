@@ -1,7 +1,7 @@
 //! One line of a script.
 ghost use Rattle.std.specs.Prelude.{◌≡◌};
 ghost use Rattle.play_core.specs.Scripts.{words_of, words_in};
-ghost use Rattle.play_core.specs.Readings.{reading, sent_by, what_of, what_alone, what_with_key, key_in};
+ghost use Rattle.play_core.specs.Inner.Readings.{reading, sent_by, what_of, what_alone, what_with_key, key_in};
 
 use crate::sent::{Sent, What};
 use crate::words::{next_word, number_of, without_comment};
@@ -28,7 +28,7 @@ const RESET: &[u8] = b"reset";
 const LOAD: &[u8] = b"load";
 
 /// The event of a line, of which there is none without a word.
-#[tactic(auto, unfolding(crate::specs::Readings::reading))]
+#[tactic(auto, unfolding(crate::specs::Inner::Readings::reading))]
 pub fn read_line(line: &[u8]) -> Result<Option<Sent>, LineFault>
     ensures { result ≡ reading (words_of line.now) }
 {
@@ -45,7 +45,7 @@ pub fn read_line(line: &[u8]) -> Result<Option<Sent>, LineFault>
 }
 
 /// The event of a line, by the word of its command and what follows that.
-#[tactic(auto, unfolding(crate::specs::Readings::sent_by))]
+#[tactic(auto, unfolding(crate::specs::Inner::Readings::sent_by))]
 fn read_sent(lost: bool, word: &[u8], rest: &[u8]) -> Result<Option<Sent>, LineFault>
     ensures { result ≡ sent_by lost (what_of word.now (words_in rest.now)) }
 {
@@ -53,7 +53,7 @@ fn read_sent(lost: bool, word: &[u8], rest: &[u8]) -> Result<Option<Sent>, LineF
     Ok(Some(Sent { lost, what }))
 }
 
-#[tactic(auto, unfolding(crate::specs::Readings::what_of))]
+#[tactic(auto, unfolding(crate::specs::Inner::Readings::what_of))]
 fn read_what(word: &[u8], rest: &[u8]) -> Result<What, LineFault>
     ensures { result ≡ what_of word.now (words_in rest.now) }
 {
@@ -67,7 +67,7 @@ fn read_what(word: &[u8], rest: &[u8]) -> Result<What, LineFault>
 }
 
 /// A command of one word.
-#[tactic(auto, unfolding(crate::specs::Readings::what_alone))]
+#[tactic(auto, unfolding(crate::specs::Inner::Readings::what_alone))]
 fn read_alone(word: &[u8]) -> Result<What, LineFault>
     ensures { result ≡ what_alone word.now }
 {
@@ -81,7 +81,7 @@ fn read_alone(word: &[u8]) -> Result<What, LineFault>
 }
 
 /// A command with the number of a key.
-#[tactic(auto, unfolding(crate::specs::Readings::what_with_key))]
+#[tactic(auto, unfolding(crate::specs::Inner::Readings::what_with_key))]
 fn read_with_key(word: &[u8], number: &[u8]) -> Result<What, LineFault>
     ensures { result ≡ what_with_key word.now number.now }
 {

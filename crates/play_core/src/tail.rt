@@ -3,7 +3,7 @@
 ghost use Rattle.std.specs.Prelude.{◌≡◌, ◌+◌, ◌*◌, ◌^◌, ◌<◌, ◌≤◌, ◌++◌, [], length, if◌then◌else◌};
 ghost use Rattle.keymap_core.specs.Actions.{modifiers, locks};
 ghost use Rattle.play_core.specs.Written.{names_of_modifiers, names_of_locks, or_none};
-ghost use Rattle.play_core.specs.Tails.{IsTail, shown_number, tail_of};
+ghost use Rattle.play_core.specs.Inner.Tails.{IsTail, shown_number, tail_of};
 
 use crate::piece::Piece;
 use console_core::Translator;
@@ -26,7 +26,7 @@ pub(crate) struct Tail {
 
 impl Model for Tail {
     ghost use Rattle.std.specs.Prelude.{ℕ, List, ◌≡◌, ◌≤◌, length, take};
-    ghost use Rattle.play_core.specs.Tails.{TailValue, IsTail};
+    ghost use Rattle.play_core.specs.Inner.Tails.{TailValue, IsTail};
 
     ghost Value = { TailValue };
 

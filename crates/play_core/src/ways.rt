@@ -4,9 +4,9 @@ ghost use Rattle.arrayvec.specs.ArrayVec.{array_vec_len};
 ghost use Rattle.keymap_core.specs.Maps.{MapValue};
 ghost use Rattle.console_core.specs.declared.event.Event.{Event as EventValue};
 ghost use Rattle.play_core.specs.HeldKeys.{combinations_of, combinations_with, combinations, gathered, combination_with};
-ghost use Rattle.play_core.specs.HeldTables.{AreHeldKeys};
+ghost use Rattle.play_core.specs.Inner.HeldTables.{AreHeldKeys};
 ghost use Rattle.play_core.specs.Typing.{character_of, accent_of, direct_way, dead_way, joined, accented_by, accented, way_for};
-ghost use Rattle.play_core.specs.Tables.{IsTableOf, AreTablesOf};
+ghost use Rattle.play_core.specs.Inner.Tables.{IsTableOf, AreTablesOf};
 
 use crate::effect::effect_of;
 use crate::held_keys::{HeldKeys, Way, combination};
@@ -194,7 +194,7 @@ impl<'m> Model for Ways<'m> {
     ghost use Rattle.keymap_core.specs.Maps.{MapValue};
     ghost use Rattle.play_core.specs.HeldKeys.{combinations};
     ghost use Rattle.play_core.specs.Typing.{character_of, accented};
-    ghost use Rattle.play_core.specs.Tables.{IsTableOf};
+    ghost use Rattle.play_core.specs.Inner.Tables.{IsTableOf};
 
     ghost Value = { MapValue };
 

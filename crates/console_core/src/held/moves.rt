@@ -4,9 +4,12 @@ ghost use Rattle.keymap_core.specs.Maps.{MapValue};
 ghost use Rattle.keymap_core.specs.Actions.{modifiers};
 ghost use Rattle.keymap_core.specs.declared.action.Modifier.{Modifier as ModifierValue};
 ghost use Rattle.console_core.specs.Columns.{slot_of, is_upper};
-ghost use Rattle.console_core.specs.Moves.{start as start_state, is_held as is_held_in, look_in, IsIdle, with_holder as with_holder_in, with_turned as with_turned_in, Forgets, IsForgetful, events_of, presses_of, releases};
-ghost use Rattle.console_core.specs.Searching.{state_of, Entries, IsMetBy, IsLetGoMet, ArePressesMet, IsStep};
-ghost use Rattle.console_core.specs.HeldBytes.{number_of, bytes_of, held-equal, bool_equal, same-bytes};
+ghost use Rattle.console_core.specs.Moves.{start as start_state, is_held as is_held_in, look_in, IsIdle};
+ghost use Rattle.console_core.specs.Moves.{with_holder as with_holder_in, with_turned as with_turned_in, Forgets};
+ghost use Rattle.console_core.specs.Moves.{IsForgetful, events_of, releases};
+ghost use Rattle.console_core.specs.Inner.Searching.{presses_of};
+ghost use Rattle.console_core.specs.Inner.Searching.{state_of, Entries, IsMetBy, IsLetGoMet, ArePressesMet, IsStep};
+ghost use Rattle.console_core.specs.Inner.HeldBytes.{number_of, bytes_of, held-equal, bool_equal, same-bytes};
 
 use super::{Held, Move, Step};
 use crate::event::Event;

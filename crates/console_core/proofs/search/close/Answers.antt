@@ -1,5 +1,5 @@
 use Rattle.std.proofs.Common.{◌+◌, arith}
-use Rattle.console_core.specs.Searching.{state_of, AreAdded, Searched, AreInOrder}
+use Rattle.console_core.specs.Inner.Searching.{state_of, AreAdded, Searched, AreInOrder}
 use Rattle.console_core.proofs.Searching.{close-step, grows-again, searched-fewer}
 use Rattle.console_core.proofs.search.close.Goals as goal
 

@@ -1,6 +1,6 @@
 -- the states of the level below the place are closed
 use Rattle.std.proofs.Common.{◌≤◌, ◌-◌}
-use Rattle.console_core.specs.Searching.{Searched, AreInOrder, Grows}
+use Rattle.console_core.specs.Inner.Searching.{Searched, AreInOrder, Grows}
 use Rattle.console_core.proofs.search.close.Given as goal
 
 abbrev pub invariant-loop-place : goal.invariant-loop-place

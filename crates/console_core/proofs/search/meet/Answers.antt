@@ -1,8 +1,8 @@
 use Rattle.std.proofs.Common.{◌≡◌, [], ◌∷◌, ◌++◌, Some, subst, sym, ◌∙◌, IfSome}
 use Rattle.std.proofs.lemmas.Bool.{eqb-true}
 use Rattle.indexmap.proofs.CallerLemmas.{insert_entry-new}
-use Rattle.console_core.specs.HeldBytes.{held-equal, bool_equal}
-use Rattle.console_core.specs.Searching.{state_of, IsStep, IsMetBy}
+use Rattle.console_core.specs.Inner.HeldBytes.{held-equal, bool_equal}
+use Rattle.console_core.specs.Inner.Searching.{state_of, IsStep, IsMetBy}
 use Rattle.console_core.proofs.Searching.{meet-new, meet-old, not_some, same-state}
 use Rattle.console_core.proofs.search.meet.Goals as goal
 

@@ -1,6 +1,6 @@
 use Rattle.std.proofs.Common.{◌<◌, subst, refl, arith, below_more}
 use Rattle.keymap_core.specs.Actions.{modifier_index}
-use Rattle.console_core.specs.Searching.{state_of, IsLetGoMet}
+use Rattle.console_core.specs.Inner.Searching.{state_of, IsLetGoMet}
 use Rattle.console_core.proofs.Places.{modifier_index-lt}
 use Rattle.console_core.proofs.Searching.{added-again, let_go-grows, modifier-at}
 use Rattle.console_core.proofs.search.meet_let_gos.Goals as goal

@@ -3,7 +3,7 @@ use Rattle.std.proofs.Common.{◌≡◌, ◌<◌, ℕ}
 use Rattle.keymap_core.specs.declared.action.Modifier.{Modifier}
 use Rattle.keymap_core.specs.Actions.{modifier_index}
 use Rattle.keymap_core.specs.Maps.{MapValue}
-use Rattle.console_core.specs.Searching.{state_of, AreWithin, AreAdded, IsLetGoMet}
+use Rattle.console_core.specs.Inner.Searching.{state_of, AreWithin, AreAdded, IsLetGoMet}
 use Rattle.console_core.proofs.search.meet_let_gos.Given as goal
 
 abbrev pub invariant-loop-modifier : goal.invariant-loop-modifier

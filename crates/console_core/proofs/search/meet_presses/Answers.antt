@@ -1,5 +1,5 @@
 use Rattle.std.proofs.Common.{subst, below_more}
-use Rattle.console_core.specs.Searching.{state_of, ArePressesMet}
+use Rattle.console_core.specs.Inner.Searching.{state_of, ArePressesMet}
 use Rattle.console_core.proofs.Searching.{added-again, presses-grow}
 use Rattle.console_core.proofs.search.meet_presses.Goals as goal
 

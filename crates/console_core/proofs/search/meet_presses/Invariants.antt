@@ -1,6 +1,6 @@
 -- what presses of the keys below the code lead to was met
 use Rattle.std.proofs.Common.{◌<◌, ℕ}
-use Rattle.console_core.specs.Searching.{state_of, AreWithin, AreAdded, ArePressesMet}
+use Rattle.console_core.specs.Inner.Searching.{state_of, AreWithin, AreAdded, ArePressesMet}
 use Rattle.console_core.proofs.search.meet_presses.Given as goal
 
 abbrev pub invariant-loop-code : goal.invariant-loop-code

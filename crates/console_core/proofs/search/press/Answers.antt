@@ -1,6 +1,6 @@
 use Rattle.std.proofs.Common.{◌≤◌, ◌<◌, ◌+◌, [], length, sym, arith}
 use Rattle.std.proofs.lemmas.List.{append-nil}
-use Rattle.console_core.specs.Searching.{Searched, AreInOrder, Grows}
+use Rattle.console_core.specs.Inner.Searching.{Searched, AreInOrder, Grows}
 use Rattle.console_core.proofs.Searching.{press-step, order-next, searched-fewer}
 use Rattle.console_core.proofs.search.press.Goals as goal
 

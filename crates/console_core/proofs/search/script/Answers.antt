@@ -4,7 +4,7 @@ use Rattle.keymap_core.specs.Actions.{modifiers}
 use Rattle.console_core.specs.declared.event.Event.TheVariants.{Press}
 use Rattle.console_core.specs.declared.held.Move.{Move}
 use Rattle.console_core.specs.Moves.{releases, events_of, events_along, script}
-use Rattle.console_core.specs.Searching.{state_of}
+use Rattle.console_core.specs.Inner.Searching.{state_of}
 use Rattle.console_core.proofs.Searching.{LeadsBy, script-begin, trail-leads, leads-next, leads-end, left-smaller, within-last, same-place}
 use Rattle.console_core.proofs.search.script.Goals as goal
 

@@ -2,7 +2,7 @@
 use Rattle.std.proofs.Common.{◌≡◌, ◌<◌, List, ◌++◌, length, slice_get, Some, IfSome}
 use Rattle.console_core.specs.declared.held.Move.{Move}
 use Rattle.console_core.specs.Moves.{state_after, script, events_along}
-use Rattle.console_core.specs.Searching.{state_of, Entry, IsTrail}
+use Rattle.console_core.specs.Inner.Searching.{state_of, Entry, IsTrail}
 use Rattle.console_core.proofs.Searching.{LeadsBy, places_left}
 use Rattle.console_core.proofs.search.script.Given as goal
 

@@ -1,6 +1,6 @@
 -- the states below the level are pressed and closed, and as many presses lead to the others
 use Rattle.std.proofs.Common.{◌≤◌, ◌-◌, length}
-use Rattle.console_core.specs.Searching.{Searched, AreInOrder}
+use Rattle.console_core.specs.Inner.Searching.{Searched, AreInOrder}
 use Rattle.console_core.proofs.search.sticking.Given as goal
 
 abbrev pub invariant-loop-level : goal.invariant-loop-level

@@ -1,5 +1,5 @@
 use Rattle.std.proofs.Common.{◌≡◌}
-use Rattle.keymap_check.specs.CellBits.{bits_below}
+use Rattle.keymap_check.specs.Inner.CellBits.{bits_below}
 use Rattle.keymap_check.proofs.survey.key_bits.Given as goal
 
 abbrev pub invariant-loop-place : goal.invariant-loop-place

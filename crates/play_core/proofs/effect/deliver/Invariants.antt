@@ -3,7 +3,7 @@ use Rattle.std.specs.Prelude.{reverse, filter}
 use Rattle.console_core.specs.declared.event.Event.{Event}
 use Rattle.console_core.specs.History.{Maps, AnswersTo}
 use Rattle.play_core.specs.Typing.{types}
-use Rattle.play_core.specs.Effects.{typed_by_all}
+use Rattle.play_core.specs.Inner.Effects.{typed_by_all}
 use Rattle.play_core.proofs.effect.deliver.Given as goal
 
 abbrev pub invariant-loop-event : goal.invariant-loop-event

@@ -1,7 +1,7 @@
 use Rattle.std.proofs.Common.{◌≡◌, arith, subst}
 use Rattle.play_core.specs.HeldKeys.{gathered}
 use Rattle.play_core.specs.Typing.{character_of, accented_by, accented}
-use Rattle.play_core.specs.Tables.{IsTableOf}
+use Rattle.play_core.specs.Inner.Tables.{IsTableOf}
 use Rattle.play_core.proofs.Found.{table-empty}
 use Rattle.play_core.proofs.Counting.{gathered-none, gathered-more}
 use Rattle.play_core.proofs.ways.accented_table.Goals as goal

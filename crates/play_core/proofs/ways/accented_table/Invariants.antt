@@ -1,6 +1,6 @@
 use Rattle.play_core.specs.HeldKeys.{gathered}
 use Rattle.play_core.specs.Typing.{character_of, accented_by}
-use Rattle.play_core.specs.Tables.{IsTableOf}
+use Rattle.play_core.specs.Inner.Tables.{IsTableOf}
 use Rattle.play_core.proofs.ways.accented_table.Given as goal
 
 abbrev pub invariant-loop-index : goal.invariant-loop-index

@@ -1,6 +1,6 @@
 use Rattle.std.proofs.Common.{◌≡◌, ◌∷◌, [], ◌++◌, sym, ◌∙◌, refl, subst}
 use Rattle.indexmap.proofs.CallerLemmas.{insert_entry-new}
-use Rattle.play_core.specs.Tables.{IsTableOf}
+use Rattle.play_core.specs.Inner.Tables.{IsTableOf}
 use Rattle.play_core.proofs.Tables.{table-new, table-old-there, not-there}
 use Rattle.play_core.proofs.ways.note.Goals as goal
 

@@ -1,5 +1,5 @@
 use Rattle.std.proofs.Common.{◌≡◌, ◌∷◌, [], ◌∙◌, ap, subst, ◌++◌}
-use Rattle.play_core.specs.Tables.{IsTableOf}
+use Rattle.play_core.specs.Inner.Tables.{IsTableOf}
 use Rattle.play_core.proofs.Tables.{table-none, number-none}
 use Rattle.play_core.proofs.ways.note_if.Goals as goal
 

@@ -2,7 +2,7 @@ use Rattle.std.proofs.Common.{◌≡◌, ◌∙◌, sym, subst, ◌++◌, take, 
 use Rattle.std.proofs.lemmas.Grind.{common_steps}
 use Rattle.std.specs.List.{flat_map}
 use Rattle.play_core.specs.Typing.{character_of, joined, dead_way, direct_way}
-use Rattle.play_core.specs.Tables.{IsTableOf}
+use Rattle.play_core.specs.Inner.Tables.{IsTableOf}
 use Rattle.play_core.proofs.Found.{dead-found, no-dead-found, accented-none, accented-all, accented-more}
 use Rattle.play_core.proofs.ways.try_accent.Goals as goal
 

@@ -2,7 +2,7 @@ use Rattle.std.proofs.Common.{List, ◌++◌, take}
 use Rattle.std.specs.List.{flat_map}
 use Rattle.console_core.specs.declared.event.Event.{Event}
 use Rattle.play_core.specs.Typing.{character_of, joined, dead_way, direct_way}
-use Rattle.play_core.specs.Tables.{IsTableOf}
+use Rattle.play_core.specs.Inner.Tables.{IsTableOf}
 use Rattle.play_core.proofs.ways.try_accent.Given as goal
 
 abbrev pub invariant-loop-pair : goal.invariant-loop-pair

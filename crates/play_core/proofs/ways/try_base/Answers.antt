@@ -1,7 +1,7 @@
 use Rattle.std.proofs.Common.{◌∷◌, [], ◌∙◌, sym, ap, subst, ◌++◌}
 use Rattle.play_core.specs.Typing.{character_of}
-use Rattle.play_core.specs.Tables.{IsTableOf}
-use Rattle.play_core.specs.Effects.{IsTrial}
+use Rattle.play_core.specs.Inner.Tables.{IsTableOf}
+use Rattle.play_core.specs.Inner.Effects.{IsTrial}
 use Rattle.play_core.proofs.Found.{trial-joined, short-joined, base-more, base-none, direct-found, no-direct-found}
 use Rattle.play_core.proofs.ways.try_base.Goals as goal
 

@@ -3,7 +3,7 @@ use Rattle.std.proofs.Common.{◌≡◌, ◌<◌, ℕ}
 use Rattle.keymap_core.specs.declared.action.Modifier.{Modifier}
 use Rattle.keymap_core.specs.Actions.{modifier_index}
 use Rattle.console_core.specs.Moves.{Holds}
-use Rattle.console_core.specs.Searching.{state_of}
+use Rattle.console_core.specs.Inner.Searching.{state_of}
 use Rattle.console_core.proofs.held.Held.holds.Given as goal
 
 abbrev pub invariant-loop-modifier : goal.invariant-loop-modifier

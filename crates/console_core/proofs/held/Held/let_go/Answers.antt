@@ -1,5 +1,5 @@
 use Rattle.std.proofs.Common.{subst}
-use Rattle.console_core.specs.Searching.{IsMetBy}
+use Rattle.console_core.specs.Inner.Searching.{IsMetBy}
 use Rattle.console_core.proofs.held.Held.let_go.Goals as goal
 
 pub returns-in-Some-clause-met : goal.returns-in-Some-clause-met

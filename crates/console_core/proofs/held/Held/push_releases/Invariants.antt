@@ -2,7 +2,7 @@
 use Rattle.std.proofs.Common.{◌≡◌, ◌++◌, take}
 use Rattle.keymap_core.specs.Actions.{modifiers}
 use Rattle.console_core.specs.Moves.{releases}
-use Rattle.console_core.specs.Searching.{state_of}
+use Rattle.console_core.specs.Inner.Searching.{state_of}
 use Rattle.console_core.proofs.held.Held.push_releases.Given as goal
 
 abbrev pub invariant-loop-modifier : goal.invariant-loop-modifier

@@ -1,5 +1,5 @@
 use Rattle.std.proofs.Common.{◌≡◌, arith, subst}
-use Rattle.keymap_check.specs.CellBits.{HasBitsBelow}
+use Rattle.keymap_check.specs.Inner.CellBits.{HasBitsBelow}
 use Rattle.keymap_check.proofs.survey.Survey.of.Goals as goal
 
 pub invariant_of-result : goal.invariant_of-result

@@ -1,5 +1,5 @@
 use Rattle.std.proofs.Common.{◌≡◌, length}
-use Rattle.keymap_check.specs.CellBits.{HasBitsBelow}
+use Rattle.keymap_check.specs.Inner.CellBits.{HasBitsBelow}
 use Rattle.keymap_check.proofs.survey.Survey.of.Given as goal
 
 abbrev pub invariant-loop-key : goal.invariant-loop-key

@@ -1,5 +1,5 @@
 use Rattle.play_core.specs.HeldKeys.{gathered, combinations_with}
-use Rattle.play_core.specs.Tables.{AreTablesOf}
+use Rattle.play_core.specs.Inner.Tables.{AreTablesOf}
 use Rattle.play_core.proofs.ways.Found.of.Given as goal
 
 abbrev pub invariant-loop-set : goal.invariant-loop-set

@@ -1,7 +1,7 @@
 use Rattle.std.proofs.Common.{◌∙◌, sym, ap, subst}
 use Rattle.play_core.specs.HeldKeys.{combination_with, combinations_of}
 use Rattle.play_core.specs.Typing.{character_of, accent_of}
-use Rattle.play_core.specs.Effects.{IsTrial}
+use Rattle.play_core.specs.Inner.Effects.{IsTrial}
 use Rattle.play_core.proofs.Found.{trial-of, tables-more, tables-none}
 use Rattle.play_core.proofs.ways.Found.try_key.Goals as goal
 

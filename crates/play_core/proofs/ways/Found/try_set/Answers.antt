@@ -1,6 +1,6 @@
 use Rattle.std.proofs.Common.{◌≡◌, ◌++◌, arith, subst, append_assoc, append-nil}
 use Rattle.play_core.specs.HeldKeys.{gathered, combinations_of}
-use Rattle.play_core.specs.Tables.{AreTablesOf}
+use Rattle.play_core.specs.Inner.Tables.{AreTablesOf}
 use Rattle.play_core.proofs.Counting.{gathered-none, gathered-more}
 use Rattle.play_core.proofs.ways.Found.try_set.Goals as goal
 

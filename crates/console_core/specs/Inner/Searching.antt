@@ -12,9 +12,21 @@ use Rattle.keymap_core.specs.Maps.{MapValue}
 use Rattle.console_core.specs.declared.event.Event.{Event}
 use Rattle.console_core.specs.declared.held.Held.{Held}
 use Rattle.console_core.specs.declared.held.Move.{Move}
+use Rattle.console_core.specs.declared.held.Move.TheVariants.{Hold, Turn, LetGo}
 use Rattle.console_core.specs.declared.held.Step.{Step}
 use Rattle.console_core.specs.declared.search.Origin.{Origin}
-use Rattle.console_core.specs.Moves.{State, start, look_in, Holds, IsIdle, Forgets, IsForgetful, IsMove, moved, IsPath, state_after, presses_of, presses_along, script, with_holder, with_turned}
+use Rattle.console_core.specs.Moves.{State, start, look_in, Holds, IsIdle, Forgets, IsForgetful, IsMove, moved, IsPath}
+use Rattle.console_core.specs.Moves.{state_after, script, with_holder, with_turned}
+
+-- how many presses a move takes
+abbrev pub presses_of : Move → ℕ
+presses_of (Hold k i) = 1
+presses_of (Turn k l) = 1
+presses_of (LetGo k i) = 0
+
+abbrev pub presses_along : List Move → ℕ
+presses_along [] = 0
+presses_along (move ∷ path) = presses_along path + presses_of move
 
 -- the state that the tables are
 abbrev pub state_of : Held → State

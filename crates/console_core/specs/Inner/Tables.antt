@@ -4,7 +4,7 @@ use Rattle.keymap_core.specs.declared.action.Action.{Action}
 use Rattle.keymap_core.specs.declared.action.Holding.{Holding}
 use Rattle.keymap_core.specs.declared.action.Lock.{Lock}
 use Rattle.keymap_core.specs.Actions.{holding_index, lock_index}
-use Rattle.console_core.specs.Kept.{Kept}
+use Rattle.console_core.specs.Agrees.{Kept}
 
 -- the mark of a holding action
 abbrev pub mark_at : List Bool → Holding → Bool

@@ -1,5 +1,5 @@
--- What a console keeps between two events, as one record, and what writing a part of it leaves. Mirrors the methods of
--- `Store`.
+-- What writing a part of what a console keeps leaves, and what each kind of event leaves. Mirrors the methods of
+-- `Store` of src/store.rt, `next_pending` and `toggled` of src/rules.rt, and the steps of src/machine.rt.
 use Rattle.std.specs.Prelude.{ℕ, ◌==◌, Bool, false, not, Option, None, Some, ◌&&◌, ◌||◌, if◌then◌else◌}
 use Rattle.keymap_core.specs.declared.action.Action.{Action}
 use Rattle.keymap_core.specs.declared.action.Holding.{Holding}
@@ -9,30 +9,9 @@ use Rattle.keymap_core.specs.Actions.{same_lock, same_action, holding_index, hol
 use Rattle.keymap_core.specs.Borne.{is_borne}
 use Rattle.keymap_core.specs.Maps.{MapValue}
 use Rattle.console_core.specs.Positions.{first_of_two}
+use Rattle.console_core.specs.Agrees.{Kept}
 use Rattle.console_core.specs.Answers.{is_pending}
 use Rattle.console_core.specs.Resolved.{unless_nop, taken_over, is_action, keeps_taken, usable_dead_key}
-
-pub record Kept : Type 0 where
-  -- which modifiers are on, and which locks are down
-  pub mark : Holding → Bool
-  -- which locks are on
-  pub lock : Lock → Bool
-  -- the action that is remembered for a key
-  pub memory : ℕ → Option Action
-  -- the index of the pending accent
-  pub pending : Option ℕ
-  -- the second map is in force
-  pub is_second : Bool
-
--- what a new console keeps
-abbrev pub nothing_kept : Kept
-nothing_kept = record {
-  mark = λ a. false;
-  lock = λ l. false;
-  memory = λ j. None;
-  pending = None;
-  is_second = false;
-}
 
 abbrev pub with_mark : Holding → Bool → Kept → Kept
 with_mark a on k = record k { mark = λ b. if holding_index a == holding_index b then on else k.mark b }

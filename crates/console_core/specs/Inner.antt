@@ -1,0 +1,5 @@
+-- What mirrors functions of the code, or tells of private fields. Private contracts cite it; no public clause does.
+pub mod HeldBytes
+pub mod Kept
+pub mod Searching
+pub mod Tables

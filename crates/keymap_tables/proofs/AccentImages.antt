@@ -7,7 +7,8 @@ use Rattle.std.proofs.lemmas.List.{take_at, take-take, drop-take, drop-drop, tak
 use Rattle.std.proofs.lemmas.List.Elements.{All-get_or}
 use Rattle.keymap_core.specs.Accents.{AccentValue}
 use Rattle.keymap_core.specs.Bounds.{IsPair, IsAccent}
-use Rattle.keymap_tables.specs.Faults.{number_at, base_at, pairs_in, char_fault, accent_fault, HasNoFault}
+use Rattle.keymap_tables.specs.Faults.{number_at, base_at, pairs_in, char_fault, accent_fault}
+use Rattle.keymap_tables.specs.Inner.Firsts.{HasNoFault}
 use Rattle.keymap_tables.specs.Fits.{PairFits, AccentFits}
 use Rattle.keymap_tables.specs.Image.{number_bytes, pair_bytes, accent_bytes, zeros}
 use Rattle.keymap_tables.specs.Layouts.{number_width, number_size, number_limit, pair_size, accent_size}

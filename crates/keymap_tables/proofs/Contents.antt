@@ -3,7 +3,9 @@ use Rattle.std.proofs.Common.{◌≡◌, ℕ, ◌+◌, ◌-◌, ◌<◌, ◌≤�
 use Rattle.std.proofs.lemmas.Bool.Decides.{nat_tests}
 use Rattle.std.proofs.lemmas.List.{take-take, length-take-le}
 use Rattle.std.specs.Int.{from_le_bytes, w16}
-use Rattle.keymap_tables.specs.Faults.{count_at, count_fault, row_fault, slot_fault, accent_fault, content_fault, fault_at, IsFirstFault, HasNoFault}
+use Rattle.keymap_tables.specs.Faults.{count_at, count_fault, row_fault, slot_fault, accent_fault, content_fault}
+use Rattle.keymap_tables.specs.Faults.{fault_at, IsFirstFault}
+use Rattle.keymap_tables.specs.Inner.Firsts.{HasNoFault}
 use Rattle.keymap_tables.proofs.Lifting.{none-after}
 use Rattle.keymap_tables.specs.Layouts.{part, count_size, slot_size, slots_place, slots_size, n_accs_place, accents_place, accent_size, accents_size, file_size}
 use Rattle.keymap_tables.specs.declared.layout.Layout.{Layout}

@@ -11,7 +11,9 @@ use Rattle.keymap_core.specs.Accents.{AccentValue, blank}
 use Rattle.keymap_core.specs.Maps.{MapValue, undefined}
 use Rattle.keymap_core.specs.declared.entry.Entry.{Entry}
 use Rattle.keymap_core.specs.Bounds.{IsEntry, IsAccent, IsMap}
-use Rattle.keymap_tables.specs.Faults.{count_at, count_fault, slot_fault, accent_fault, row_fault, content_fault, fault_at, HasNoFault}
+use Rattle.keymap_tables.specs.Faults.{count_at, count_fault, slot_fault, accent_fault, row_fault, content_fault}
+use Rattle.keymap_tables.specs.Faults.{fault_at}
+use Rattle.keymap_tables.specs.Inner.Firsts.{HasNoFault}
 use Rattle.keymap_tables.specs.Fits.{EntryFits, AccentFits, FitsIn}
 use Rattle.keymap_tables.specs.Image.{image_in, count_bytes, slot_bytes, slots_bytes, accent_bytes, accents_bytes, zeros}
 use Rattle.keymap_tables.specs.Layouts.{part, pad_size, count_size, slot_size, slots_place, slots_size, n_accs_place, accents_place, accent_size, accents_size, file_size}

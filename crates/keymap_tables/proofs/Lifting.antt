@@ -4,7 +4,8 @@ use Rattle.std.specs.Prelude.{slice_index, Option}
 use Rattle.std.proofs.lemmas.Bool.Decides.{nat_tests}
 use Rattle.std.proofs.lemmas.Bool.{cases_lt}
 use Rattle.std.proofs.lemmas.Nat.{div-mul-add, mod-mul-add, le-div}
-use Rattle.keymap_tables.specs.Faults.{zero_fault, row_fault, IsFirstFault, IsFirstFilled, HasNoFault}
+use Rattle.keymap_tables.specs.Faults.{zero_fault, row_fault, IsFirstFault}
+use Rattle.keymap_tables.specs.Inner.Firsts.{IsFirstFilled, HasNoFault}
 use Rattle.keymap_tables.specs.Layouts.{part}
 use Rattle.keymap_tables.specs.declared.fault.TableFault.{TableFault}
 use Rattle.keymap_tables.specs.declared.fault.TableFaultKind.{TableFaultKind}

@@ -7,7 +7,8 @@ use Rattle.std.proofs.lemmas.Bool.{cases_lt}
 use Rattle.std.specs.Int.{to_le_bytes, w16}
 use Rattle.std.proofs.lemmas.List.{take-append-drop, length-take-le, get_or-take, get_or-drop, same_lists, get_or-replicate, length-replicate, get_or_default}
 use Rattle.std.proofs.lemmas.Nat.{le_bytes_2}
-use Rattle.keymap_tables.specs.Faults.{zero_fault, count_fault, count_at, HasNoFault}
+use Rattle.keymap_tables.specs.Faults.{zero_fault, count_fault, count_at}
+use Rattle.keymap_tables.specs.Inner.Firsts.{HasNoFault}
 use Rattle.keymap_tables.specs.Image.{zeros, count_bytes}
 use Rattle.keymap_tables.specs.declared.layout.Layout.{Layout}
 use Rattle.keymap_tables.specs.Layouts.{pad_size}

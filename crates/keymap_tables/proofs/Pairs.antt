@@ -11,7 +11,8 @@ use Rattle.std.specs.Prelude.{Bool, true, false, not, nat_lt}
 use Rattle.std.specs.List.{flat_map, range_with_len, prefix_len}
 use Rattle.keymap_core.specs.Accents.{AccentValue}
 use Rattle.keymap_tables.proofs.Sizes.{pair-next, pairs-rest}
-use Rattle.keymap_tables.specs.Faults.{base_at, number_at, char_fault, zero_fault, accent_fault, pairs_in, IsFirstFault, HasNoFault}
+use Rattle.keymap_tables.specs.Faults.{base_at, number_at, char_fault, zero_fault, accent_fault, pairs_in, IsFirstFault}
+use Rattle.keymap_tables.specs.Inner.Firsts.{HasNoFault}
 use Rattle.keymap_tables.specs.Image.{number_bytes, pair_bytes, accent_bytes, zeros}
 use Rattle.keymap_tables.specs.declared.layout.Layout.{Layout}
 use Rattle.keymap_tables.specs.declared.layout.Layout.TheVariants.{Wide, Narrow}

@@ -9,7 +9,8 @@ use Rattle.std.proofs.Math.Nat.{mul-le-mul_left, mul-div-le, div-add-mod}
 use Rattle.std.specs.List.{flat_map}
 use Rattle.keymap_tables.proofs.Lifting.{FaultOf, row-at, row-past}
 use Rattle.keymap_tables.proofs.Pads.{zero-none}
-use Rattle.keymap_tables.specs.Faults.{row_fault, HasNoFault}
+use Rattle.keymap_tables.specs.Faults.{row_fault}
+use Rattle.keymap_tables.specs.Inner.Firsts.{HasNoFault}
 use Rattle.keymap_tables.specs.Image.{zeros}
 use Rattle.keymap_tables.specs.Layouts.{part}
 use Rattle.keymap_tables.specs.declared.fault.TableFaultKind.TheVariants.{NotEmpty}

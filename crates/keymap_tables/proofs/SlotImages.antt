@@ -19,7 +19,8 @@ use Rattle.keymap_core.specs.declared.entry.Entry.{Entry}
 use Rattle.keymap_core.specs.declared.entry.LockFlag.{LockFlag}
 use Rattle.keymap_core.specs.declared.entry.LockFlag.TheVariants as flag
 use Rattle.keymap_core.specs.Bounds.{IsCell, IsEntry}
-use Rattle.keymap_tables.specs.Faults.{number_at, mark_at, char_fault, cell_fault, slot_fault, HasNoFault}
+use Rattle.keymap_tables.specs.Faults.{number_at, mark_at, char_fault, cell_fault, slot_fault}
+use Rattle.keymap_tables.specs.Inner.Firsts.{HasNoFault}
 use Rattle.keymap_tables.specs.Image.{cell_bytes, number_bytes, number_of, is_act, marks_of, flag_number, slot_bytes, zeros}
 use Rattle.keymap_tables.specs.Fits.{CellFits, EntryFits}
 use Rattle.keymap_tables.specs.Layouts.{number_width, number_size, number_limit, pad_size, slot_size}

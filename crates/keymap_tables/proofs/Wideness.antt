@@ -11,7 +11,9 @@ use Rattle.keymap_core.specs.Maps.{MapValue, undefined, entry_at, cell_at, accen
 use Rattle.keymap_core.specs.declared.entry.Cell.{Cell}
 use Rattle.keymap_core.specs.declared.entry.Cell.TheVariants.{Char, Act}
 use Rattle.keymap_core.specs.declared.entry.Entry.{Entry}
-use Rattle.keymap_tables.specs.Fits.{CellFits, EntryFits, PairFits, AccentFits, FitsIn, character_of, IsWide, IsFirstColumn, IsFirstNumber, IsFirstWide, numbers_of, place_of}
+use Rattle.keymap_tables.specs.Fits.{CellFits, EntryFits, PairFits, AccentFits, FitsIn, character_of, IsWide}
+use Rattle.keymap_tables.specs.Fits.{IsFirstWide, numbers_of, place_of}
+use Rattle.keymap_tables.specs.Inner.Firsts.{IsFirstColumn, IsFirstNumber}
 use Rattle.keymap_tables.specs.Layouts.{narrow}
 use Rattle.keymap_tables.specs.declared.narrow.Wide.{Wide}
 use Rattle.keymap_tables.specs.declared.narrow.Wide.TheVariants as at

@@ -103,14 +103,3 @@ IsTableFault bytes f = IsFirstFault (fault_at wide bytes) f
 
 abbrev pub IsNarrowFault : List ℕ → TableFault → Type 0
 IsNarrowFault bytes f = IsFirstFault (fault_at narrow bytes) f
-
--- the first n places have no fault
-abbrev pub HasNoFault : (ℕ → Option TableFaultKind) → ℕ → Type 0
-HasNoFault fault_of n = (p : ℕ) → p < n → fault_of p ≡ None
-
--- of the bytes from a place on, which have to be 0, the fault at the first that isn't
-pub record IsFirstFilled (bytes : List ℕ) (from : ℕ) (kind : TableFaultKind) (f : TableFault) : Type 0 where
-  pub here : zero_fault kind bytes f.offset ≡ Some f.kind
-  pub past : from ≤ f.offset
-  pub inside : f.offset < length bytes
-  pub before : (p : ℕ) → from ≤ p → p < f.offset → zero_fault kind bytes p ≡ None

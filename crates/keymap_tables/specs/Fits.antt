@@ -61,13 +61,3 @@ place_of (at.Accent accent number) = accents_place narrow + accent_size narrow *
 pub record IsFirstWide (m : MapValue) (w : Wide) : Type 0 where
   pub here : IsWide m w
   pub first : (v : Wide) → IsWide m v → place_of w ≤ place_of v
-
--- the first column of a slot with such a character
-pub record IsFirstColumn (entry : Entry) (column : ℕ) : Type 0 where
-  pub here : 255 < character_of (slice_index_or entry.cells column (Char 0))
-  pub before : (k : ℕ) → k < column → character_of (slice_index_or entry.cells k (Char 0)) ≤ 255
-
--- the first number of an accent that is above 255
-pub record IsFirstNumber (accent : AccentValue) (number : ℕ) : Type 0 where
-  pub here : 255 < slice_index_or (numbers_of accent) number 0
-  pub before : (k : ℕ) → k < number → slice_index_or (numbers_of accent) k 0 ≤ 255

@@ -1,6 +1,7 @@
 pub mod Faults
 pub mod Fits
 pub mod Image
+pub mod Inner
 pub mod Layouts
 pub mod Readings
 pub mod Sources

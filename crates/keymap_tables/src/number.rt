@@ -2,7 +2,9 @@
 ghost use Rattle.std.specs.Prelude.{◌≡◌, ℕ, ◌+◌, ◌-◌, ◌<◌, ◌≤◌, length, slice_index, IfOk, IfErr, OnOk, None, Some, MatchResult};
 ghost use Rattle.std.specs.Char.{IsScalar};
 ghost use Rattle.keymap_core.specs.Bounds.{IsCell};
-ghost use Rattle.keymap_tables.specs.Faults.{number_at, count_at, char_fault, action_fault, cell_fault, count_fault, IsFirstFault, IsFirstFilled, HasNoFault};
+ghost use Rattle.keymap_tables.specs.Faults.{number_at, count_at, char_fault, action_fault, cell_fault, count_fault};
+ghost use Rattle.keymap_tables.specs.Faults.{IsFirstFault};
+ghost use Rattle.keymap_tables.specs.Inner.Firsts.{IsFirstFilled, HasNoFault};
 ghost use Rattle.keymap_tables.specs.Image.{number_of, is_act, count_bytes};
 ghost use Rattle.keymap_tables.specs.Layouts.{number_size, count_size};
 ghost use Rattle.keymap_tables.specs.declared.layout.Layout.{Layout};

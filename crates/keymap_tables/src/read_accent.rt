@@ -1,7 +1,8 @@
 //! Reading of an accent: its own character, its pairs, and zeros.
 ghost use Rattle.std.specs.Prelude.{◌≡◌, ◌≢◌, ℕ, ◌+◌, ◌*◌, ◌<◌, ◌≤◌, length, IfOk, IfErr, OnOk};
 ghost use Rattle.keymap_core.specs.Bounds.{IsAccent};
-ghost use Rattle.keymap_tables.specs.Faults.{accent_fault, base_at, pairs_in, IsFirstFault, HasNoFault};
+ghost use Rattle.keymap_tables.specs.Faults.{accent_fault, base_at, pairs_in, IsFirstFault};
+ghost use Rattle.keymap_tables.specs.Inner.Firsts.{HasNoFault};
 ghost use Rattle.keymap_tables.specs.Fits.{AccentFits};
 ghost use Rattle.keymap_tables.specs.Image.{accent_bytes};
 ghost use Rattle.keymap_tables.specs.Layouts.{accent_size};

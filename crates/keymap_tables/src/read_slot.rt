@@ -2,7 +2,8 @@
 ghost use Rattle.std.specs.Prelude.{◌≡◌, ◌*◌, ◌<◌, length, take, IfOk, IfErr, OnOk, None, Some, All, slice_index, MatchOption};
 ghost use Rattle.std.specs.List.{flat_map};
 ghost use Rattle.keymap_core.specs.Bounds.{IsCell, IsEntry};
-ghost use Rattle.keymap_tables.specs.Faults.{slot_fault, IsFirstFault, HasNoFault};
+ghost use Rattle.keymap_tables.specs.Faults.{slot_fault, IsFirstFault};
+ghost use Rattle.keymap_tables.specs.Inner.Firsts.{HasNoFault};
 ghost use Rattle.keymap_tables.specs.Fits.{CellFits, EntryFits};
 ghost use Rattle.keymap_tables.specs.Image.{slot_bytes, cell_bytes, marks_of, flag_number};
 ghost use Rattle.keymap_tables.specs.Layouts.{number_size, slot_size};

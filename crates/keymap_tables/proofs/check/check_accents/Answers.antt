@@ -2,7 +2,8 @@ use Rattle.std.proofs.Common.{arith, ◌≡◌, ◌<◌, ◌+◌, ◌-◌, ◌*�
 use Rattle.std.proofs.lemmas.List.Elements.{All-push}
 use Rattle.std.proofs.lemmas.List.{length_push}
 use Rattle.keymap_core.specs.Bounds.{IsAccent}
-use Rattle.keymap_tables.specs.Faults.{row_fault, accent_fault, IsFirstFault, HasNoFault}
+use Rattle.keymap_tables.specs.Faults.{row_fault, accent_fault, IsFirstFault}
+use Rattle.keymap_tables.specs.Inner.Firsts.{HasNoFault}
 use Rattle.keymap_tables.specs.Image.{accent_bytes}
 use Rattle.keymap_tables.specs.Layouts.{part, accent_size, accents_size}
 use Rattle.keymap_tables.specs.declared.fault.TableFault.{TableFault}

@@ -3,7 +3,8 @@ use Rattle.std.specs.Prelude.{All}
 use Rattle.std.specs.List.{flat_map}
 use Rattle.keymap_core.specs.Bounds.{IsAccent}
 use Rattle.keymap_core.specs.Accents.{AccentValue}
-use Rattle.keymap_tables.specs.Faults.{row_fault, accent_fault, HasNoFault}
+use Rattle.keymap_tables.specs.Faults.{row_fault, accent_fault}
+use Rattle.keymap_tables.specs.Inner.Firsts.{HasNoFault}
 use Rattle.keymap_tables.specs.Image.{accent_bytes}
 use Rattle.keymap_tables.specs.Layouts.{accent_size}
 use Rattle.keymap_tables.proofs.check.check_accents.Given as goal

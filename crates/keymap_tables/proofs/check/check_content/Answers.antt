@@ -3,7 +3,9 @@ use Rattle.keymap_core.specs.Accents.{AccentValue}
 use Rattle.keymap_core.specs.Bounds.{IsMap}
 use Rattle.keymap_core.specs.Maps.{MapValue}
 use Rattle.keymap_core.specs.declared.entry.Entry.{Entry}
-use Rattle.keymap_tables.specs.Faults.{count_at, count_fault, row_fault, slot_fault, accent_fault, content_fault, IsFirstFault, HasNoFault}
+use Rattle.keymap_tables.specs.Faults.{count_at, count_fault, row_fault, slot_fault, accent_fault, content_fault}
+use Rattle.keymap_tables.specs.Faults.{IsFirstFault}
+use Rattle.keymap_tables.specs.Inner.Firsts.{HasNoFault}
 use Rattle.keymap_tables.specs.Image.{count_bytes}
 use Rattle.keymap_tables.specs.Layouts.{part, count_size, slot_size, accent_size, slots_place, slots_size, n_accs_place, accents_place, accents_size}
 use Rattle.keymap_tables.proofs.Contents.{count-part, content-n_keys, content-slots, content-n_accs, content-accents, sound-n_keys, sound-slots, sound-n_accs, length-part, cut-part, count-clean, count-first, placed-after}

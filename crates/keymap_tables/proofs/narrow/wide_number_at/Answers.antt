@@ -2,7 +2,8 @@ use Rattle.std.proofs.Common.{◌<◌, ap, ◌∙◌, sym, subst}
 use Rattle.std.specs.Prelude.{MatchOption, Option, unwrap_or}
 use Rattle.std.proofs.lemmas.Option.{get_or_from_slice_get, unwrap_or-slice_get}
 use Rattle.keymap_core.specs.Accents.{AccentValue, blank}
-use Rattle.keymap_tables.specs.Fits.{AccentFits, IsFirstNumber}
+use Rattle.keymap_tables.specs.Fits.{AccentFits}
+use Rattle.keymap_tables.specs.Inner.Firsts.{IsFirstNumber}
 use Rattle.keymap_tables.specs.Layouts.{narrow}
 use Rattle.keymap_tables.proofs.Wideness.{blank-fits}
 use Rattle.keymap_tables.proofs.narrow.wide_number_at.Goals as goal

@@ -5,7 +5,8 @@ use Rattle.std.specs.List.{flat_map}
 use Rattle.keymap_core.specs.Accents.{blank}
 use Rattle.keymap_core.specs.Maps.{MapValue}
 use Rattle.keymap_core.specs.Bounds.{IsAccent}
-use Rattle.keymap_tables.specs.Faults.{row_fault, accent_fault, IsFirstFault, HasNoFault}
+use Rattle.keymap_tables.specs.Faults.{row_fault, accent_fault, IsFirstFault}
+use Rattle.keymap_tables.specs.Inner.Firsts.{HasNoFault}
 use Rattle.keymap_tables.specs.Fits.{AccentFits}
 use Rattle.keymap_tables.specs.Image.{accent_bytes, accents_bytes}
 use Rattle.keymap_tables.specs.Layouts.{part, accent_size, accents_size}

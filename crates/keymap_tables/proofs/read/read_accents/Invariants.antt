@@ -2,7 +2,8 @@ use Rattle.std.proofs.Common.{◌≡◌, ◌*◌, length, take}
 use Rattle.std.specs.Prelude.{All}
 use Rattle.std.specs.List.{flat_map}
 use Rattle.keymap_core.specs.Bounds.{IsAccent}
-use Rattle.keymap_tables.specs.Faults.{row_fault, accent_fault, HasNoFault}
+use Rattle.keymap_tables.specs.Faults.{row_fault, accent_fault}
+use Rattle.keymap_tables.specs.Inner.Firsts.{HasNoFault}
 use Rattle.keymap_tables.specs.Fits.{AccentFits}
 use Rattle.keymap_tables.specs.Image.{accent_bytes}
 use Rattle.keymap_tables.specs.Layouts.{accent_size}

@@ -1,7 +1,9 @@
 use Rattle.std.proofs.Common.{arith, ◌∙◌, ℕ, List, sym, ap, subst, take, length}
 use Rattle.std.proofs.lemmas.List.Elements.{All-same}
 use Rattle.keymap_core.specs.Bounds.{IsEntry}
-use Rattle.keymap_tables.specs.Faults.{count_at, count_fault, row_fault, slot_fault, accent_fault, content_fault, IsFirstFault, HasNoFault}
+use Rattle.keymap_tables.specs.Faults.{count_at, count_fault, row_fault, slot_fault, accent_fault, content_fault}
+use Rattle.keymap_tables.specs.Faults.{IsFirstFault}
+use Rattle.keymap_tables.specs.Inner.Firsts.{HasNoFault}
 use Rattle.keymap_tables.specs.Fits.{EntryFits}
 use Rattle.keymap_tables.specs.Image.{count_bytes, slots_bytes}
 use Rattle.keymap_tables.specs.Layouts.{part, count_size, slot_size, accent_size, slots_place, slots_size, n_accs_place, accents_place, accents_size}

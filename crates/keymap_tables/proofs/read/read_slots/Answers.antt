@@ -4,7 +4,8 @@ use Rattle.std.proofs.lemmas.List.{length_push}
 use Rattle.std.specs.List.{flat_map}
 use Rattle.keymap_core.specs.Maps.{MapValue, undefined}
 use Rattle.keymap_core.specs.Bounds.{IsEntry}
-use Rattle.keymap_tables.specs.Faults.{row_fault, slot_fault, IsFirstFault, HasNoFault}
+use Rattle.keymap_tables.specs.Faults.{row_fault, slot_fault, IsFirstFault}
+use Rattle.keymap_tables.specs.Inner.Firsts.{HasNoFault}
 use Rattle.keymap_tables.specs.Fits.{EntryFits}
 use Rattle.keymap_tables.specs.Image.{slot_bytes, slots_bytes}
 use Rattle.keymap_tables.specs.Layouts.{part, slot_size, slots_size}

@@ -2,7 +2,8 @@ use Rattle.std.proofs.Common.{◌≡◌, ◌*◌, length, take}
 use Rattle.std.specs.Prelude.{All}
 use Rattle.std.specs.List.{flat_map}
 use Rattle.keymap_core.specs.Bounds.{IsEntry}
-use Rattle.keymap_tables.specs.Faults.{row_fault, slot_fault, HasNoFault}
+use Rattle.keymap_tables.specs.Faults.{row_fault, slot_fault}
+use Rattle.keymap_tables.specs.Inner.Firsts.{HasNoFault}
 use Rattle.keymap_tables.specs.Fits.{EntryFits}
 use Rattle.keymap_tables.specs.Image.{slot_bytes}
 use Rattle.keymap_tables.specs.Layouts.{slot_size}

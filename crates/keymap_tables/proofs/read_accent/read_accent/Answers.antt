@@ -12,7 +12,8 @@ use Rattle.keymap_tables.proofs.Cells.{number_bytes-at, number-fits}
 use Rattle.keymap_tables.proofs.Outcomes.{err_passed, OnOk-at}
 use Rattle.keymap_tables.proofs.Pads.{drop-zeros}
 use Rattle.keymap_tables.proofs.Lifting.{first-past, none-past}
-use Rattle.keymap_tables.specs.Faults.{accent_fault, number_at, char_fault, HasNoFault}
+use Rattle.keymap_tables.specs.Faults.{accent_fault, number_at, char_fault}
+use Rattle.keymap_tables.specs.Inner.Firsts.{HasNoFault}
 use Rattle.keymap_tables.specs.declared.fault.TableFaultKind.TheVariants.{NotEmpty}
 use Rattle.keymap_tables.proofs.Pairs.{accent-past, accent-more, accent-first, pairs-more, accent-whole}
 use Rattle.keymap_tables.proofs.Sizes.{some-number, pair-begins, pair-below, result-begins, result-below, pair-next, pair-inside, pairs-inside, none-read, none-over, at-pair}

@@ -3,7 +3,8 @@ use Rattle.std.specs.Prelude.{All}
 use Rattle.std.specs.Char.{IsScalar}
 use Rattle.std.specs.List.{flat_map}
 use Rattle.keymap_core.specs.Bounds.{IsPair}
-use Rattle.keymap_tables.specs.Faults.{accent_fault, HasNoFault}
+use Rattle.keymap_tables.specs.Faults.{accent_fault}
+use Rattle.keymap_tables.specs.Inner.Firsts.{HasNoFault}
 use Rattle.keymap_tables.specs.Fits.{PairFits}
 use Rattle.keymap_tables.specs.Image.{number_bytes, pair_bytes}
 use Rattle.keymap_tables.specs.Layouts.{number_size, number_limit, pair_size}

@@ -1,5 +1,5 @@
 -- What the search for sticking modifiers goes over: the states, and the moves between them. It mirrors
--- src/held/moves.rt.
+-- src/held/moves.rt, and stands outside of Inner since the answer `Undecided` is said by states and paths.
 use Rattle.std.specs.Prelude.{◌≡◌, ℕ, ◌<◌, Bool, false, not, List, [], ◌∷◌, ◌++◌, Option, None, Some, if◌then◌else◌}
 use Rattle.keymap_core.specs.declared.action.Modifier.{Modifier}
 use Rattle.keymap_core.specs.declared.action.Lock.{Lock}

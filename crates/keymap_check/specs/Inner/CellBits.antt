@@ -1,5 +1,5 @@
 -- A bit for each sort of cell, so that one number tells which sorts a key has: the holding actions by their indices,
--- then a character, nop, and any other action.
+-- then a character, nop, and any other action. Mirrors `Survey` of src/survey.rt and `Kind::mask` of src/kind.rt.
 use Prim.Native.Nat.{zero, suc}
 use Rattle.std.specs.Prelude.{◌≡◌, ℕ, ◌+◌, ◌^◌, ◌<◌, ◌==◌, Bool, List, length, slice_index_or, bit_or, bit_xor}
 use Rattle.std.specs.Int.{bit_at}

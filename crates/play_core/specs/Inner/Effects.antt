@@ -1,4 +1,4 @@
--- What a way does to a new console, as it is computed. It mirrors src/effect.rt.
+-- What a way does to a new console, as it is computed. Mirrors `effect_of` of src/effect.rt and what it calls.
 use Rattle.std.specs.Prelude.{◌≡◌, ℕ, true, false, List, [], ◌∷◌, ◌++◌, Option, None, Some, reverse}
 use Rattle.keymap_core.specs.Maps.{MapValue}
 use Rattle.console_core.specs.declared.event.Event.{Event}

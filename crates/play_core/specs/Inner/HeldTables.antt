@@ -1,4 +1,4 @@
--- The tables of the keys that are held for each bit.
+-- The tables of the keys that are held for each bit. Mirrors `HeldKeys` of src/held_keys.rt.
 use Rattle.std.specs.Prelude.{◌≡◌, ℕ, ◌<◌, None, slice_index_or}
 use Rattle.keymap_core.specs.Maps.{MapValue}
 use Rattle.play_core.specs.declared.held_keys.HeldKeys.{HeldKeys}

@@ -1,4 +1,4 @@
--- Tables of ways, each under the number that it is found by.
+-- Tables of ways, each under the number that it is found by. Mirrors the tables of `Found` and `Ways` of src/ways.rt.
 use Rattle.std.specs.Prelude.{◌≡◌, ℕ, ◌==◌, List, Option, option_map}
 use Rattle.std.specs.Map.{lookup}
 use Rattle.arrayvec.specs.ArrayVec.{ArrayVec}

@@ -1,4 +1,5 @@
--- The tail of a line, which is kept for the next line, and the number that tells whether it has changed.
+-- The tail of a line, which is kept for the next line, and the number that tells whether it has changed. Mirrors `Tail`
+-- and `push_tail` of src/tail.rt.
 use Rattle.std.specs.Prelude.{◌≡◌, ℕ, ◌+◌, ◌*◌, Bool, List, [], ◌∷◌, ◌++◌, map, codes, if◌then◌else◌}
 use Rattle.keymap_core.specs.declared.action.Modifier.{Modifier}
 use Rattle.keymap_core.specs.declared.action.Lock.{Lock}

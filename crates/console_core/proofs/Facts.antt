@@ -20,7 +20,7 @@ use Rattle.console_core.specs.declared.event.Event.TheVariants.{Press, Release, 
 use Rattle.console_core.specs.Resolved.{ResolvedEvent, remembered, is_action, look, resolve_press}
 use Rattle.console_core.specs.History.{Maps, in_force, pressed, resolved, On, Locked, HasKey, HasKeys}
 use Rattle.console_core.specs.Reading.{Remembered, Raises, Lowers, NoneOf, SomeSince, taken_of}
-use Rattle.console_core.specs.Safety.{IsSafe}
+use Rattle.console_core.specs.Headline.{IsSafe}
 use Rattle.console_core.specs.Facts.{LooksAreCells, DeadUpperHalfIsNotLookedAt, lets_go, HoldingIsRemembered, IsRaisedByPressed, OnByPressedKey}
 use Rattle.console_core.proofs.OneMore.{resolved-more, remembered-character, remembered-action, remembered-release}
 use Rattle.keymap_core.proofs.SameActions.{same_action-refl}

@@ -22,7 +22,7 @@ use Rattle.console_core.specs.Resolved.{ResolvedEvent, held, locked, remembered,
 use Rattle.console_core.specs.History.{Maps, in_force, loaded, is_second_in_force, is_load, resolved_event, resolved, pressed, Pending, AnswersTo, AnswerTo, HasKey, HasKeys, IsQuiet}
 use Rattle.console_core.specs.Resolved.ResolvedEvent.{PressedCharacter, PressedAction, ReleasedKey, WasReset, WasLoaded}
 use Rattle.keymap_core.specs.Bearers.{IsCellOf, BearsThroughout}
-use Rattle.console_core.specs.Safety.{IsSafe, IsSteady, IsActing}
+use Rattle.console_core.specs.Headline.{IsSafe, IsSteady, IsActing}
 use Rattle.console_core.specs.Headline.{AreRepeats, OnOnlyWhilePressed, OnExactlyWhilePressed, RepeatsTurnNoSteadyLock, OffOnceQuiet, GoesOnAsAfterReset}
 use Rattle.console_core.specs.declared.event.Event.{Event}
 use Rattle.console_core.specs.declared.event.Event.TheVariants.{Press, Release, Reset, Load}

@@ -10,7 +10,7 @@ use Rattle.console_core.specs.declared.event.Event.TheVariants.{Press, Release, 
 use Rattle.console_core.specs.Columns.{is_upper}
 use Rattle.console_core.specs.History.{Maps, in_force, On, Locked, pressed, HasKeys}
 use Rattle.console_core.specs.Reading.{Look, Remembered, Raises, NoneOf}
-use Rattle.console_core.specs.Safety.{IsSafe}
+use Rattle.console_core.specs.Headline.{IsSafe}
 
 -- What a key looks up is one of its cells.
 abbrev pub LooksAreCells : Type 0

@@ -1,17 +1,65 @@
--- The clauses of the main theorem: when modifiers are on, when a repeat turns no lock, and what a reset changes once every
--- key is released.
+-- The theorem on stuck modifiers, to be read from the top: what holds of the modifiers and locks of a console after
+-- every list of delivered events, however long. A list has the newest event first: in `e ∷ h` the events before e are
+-- h.
+--
+-- The notions in their order, each with the file that defines it. Those of a list of events:
+--   event        src/event.rt: a press or a release of a key, a reset, or a load.
+--   in force     History: a console has two keymaps; each load exchanges them, and the first is in force before any.
+--   pressed      History: the last event that is about the key, or is a reset or a load, is a press of the key.
+--   quiet        History: no key is pressed.
+-- Those of a keymap:
+--   cell of      keymap_core Bearers: a key has the cells of its slot, and those of its upper slot where upper slots
+--                are live.
+--   bears        keymap_core Bearers: one of the key's cells is the modifier or lock. It bears it throughout if no
+--                other key does and all its cells are it.
+--   safe         here: no key has both a modifier or lock and a character among its cells.
+--   steady       here: one key alone bears the lock, and all its cells are actions other than nop.
+-- Those of a console, each a statement on the events so far. Resolved says them of events together with what their keys
+-- looked up, and Reading says the same of the plain events; History has the last four under the names that stand here.
+--   look         Columns: the cell that a press of a key looks up, by which modifiers and locks are on.
+--   remembered   Resolved: the first action other than nop that a key looked up since it was released, looked up a
+--                character, or a reset or a load came.
+--   taken        Resolved: what a press acts as: the action that is looked up, or nop where another one is remembered.
+--   on           Resolved: some press took the modifier, and no later event was a reset, a load, or a release of a key
+--                that remembers it.
+--   locked       Resolved: an odd number of presses turned the lock since the last load of a keymap in which nobody
+--                bears it.
+--   pending      Resolved: the dead key of the presses at the end, where they are odd in number; releases, and presses
+--                that take nop, a modifier or a lock, don't count.
+--   answered     Answers: what a console says to an event, by what is looked up, taken, remembered, pending and on.
+--
+-- The last lines tell which public calls promise the clauses. Facts has the steps by which they are proved.
 use Rattle.std.specs.Prelude.{◌≡◌, ℕ, ◌<◌, ◌⊎◌, ◌==◌, ◌&&◌, not, List, [], ◌∷◌, ◌++◌, None, Bool, true, false, reverse}
+use Rattle.std.specs.Prelude.{◌≢◌}
 use Rattle.keymap_core.specs.declared.action.Modifier.{Modifier}
 use Rattle.keymap_core.specs.declared.action.Lock.{Lock}
+use Rattle.keymap_core.specs.declared.action.Action.TheVariants as act
+use Rattle.keymap_core.specs.declared.action.Holding.{Holding}
 use Rattle.keymap_core.specs.declared.action.Holding.TheVariants as holding
+use Rattle.keymap_core.specs.declared.entry.Cell.{Cell}
+use Rattle.keymap_core.specs.declared.entry.Cell.TheVariants.{Char, Act}
 use Rattle.keymap_core.specs.Maps.{MapValue}
-use Rattle.keymap_core.specs.Bearers.{Bears, BearsThroughout}
+use Rattle.keymap_core.specs.Bearers.{IsCellOf, Bears, IsAlone, BearsThroughout}
 use Rattle.console_core.specs.declared.event.Event.{Event}
 use Rattle.console_core.specs.declared.event.Event.TheVariants.{Press, Reset}
 use Rattle.console_core.specs.Positions.{count_where, is_odd}
 use Rattle.console_core.specs.Reading.{Turns}
 use Rattle.console_core.specs.History.{Maps, in_force, On, Locked, Pending, AnswersTo, pressed, HasKeys, HasNoLoads, IsQuiet}
-use Rattle.console_core.specs.Safety.{IsSafe, IsSteady}
+
+-- Safe: a key with a modifier or a lock among its cells has no character among them.
+abbrev pub IsSafe : MapValue → Type 0
+IsSafe m = (k : ℕ) → k < 128 → (a : Holding) → Bears m k a → (c : ℕ) → IsCellOf m k (Char c) → ⊥
+
+-- the cell is an action other than nop
+abbrev pub IsActing : Cell → Type 0
+IsActing (Char c) = ⊥
+IsActing (Act a) = a ≢ act.Nop
+
+-- Steady: exactly one key bears the lock, and all its cells are actions other than nop.
+abbrev pub IsSteady : MapValue → Lock → Type 0
+IsSteady m l =
+    (k : ℕ) × (k < 128) × Bears m k (holding.Lock l) × IsAlone m k (holding.Lock l)
+    × ((x : Cell) → IsCellOf m k x → IsActing x)
 
 -- A modifier is on only while a key that bears it is pressed, where `is_on` are the modifiers after h.
 abbrev pub IsOnOnlyWhilePressed : MapValue → List Event → (Modifier → Bool) → Type 0
@@ -90,3 +138,8 @@ LockedByFreshPresses = (ms : Maps) (h : List Event) → HasKeys h → IsLockedBy
 abbrev pub Afterwards : (Maps → List Event → Type 0) → List Event → (Maps → List Event → Type 0) → Type 0
 Afterwards stood events P =
     (ms : Maps) (h : List Event) → stood ms h → P ms (reverse events ++ h)
+
+-- Who promises these. `replay` of src/replays.rt, of any console after a list of events, with Afterwards for the lists
+-- where it stood before. `check` of keymap_check, of each keymap and every list that leaves it in force, once it knows
+-- which keymaps are safe and which locks are steady (its specs/Promises.antt). `laws` of this crate, of all lists, with
+-- no console. `sticking` of src/search.rt decides whether a keymap can leave a modifier on at all (Sticking).

@@ -13,7 +13,6 @@ pub mod Positions
 pub mod Raw
 pub mod Reading
 pub mod Resolved
-pub mod Safety
 pub mod Sticking
 pub mod Traps
 pub mod Words

@@ -3,7 +3,7 @@ ghost use Rattle.std.specs.Prelude.{◌≡◌, ◌++◌, ◌∷◌, List, None, 
 ghost use Rattle.console_core.specs.declared.event.Event.{Event as EventValue};
 ghost use Rattle.console_core.specs.declared.event.Event.TheVariants as event;
 ghost use Rattle.console_core.specs.History.{Maps, in_force, AnswersTo, IsQuiet};
-ghost use Rattle.console_core.specs.Safety.{IsSafe};
+ghost use Rattle.console_core.specs.Headline.{IsSafe};
 ghost use Rattle.console_core.specs.Headline.{Afterwards, IsOnOnlyWhilePressed, IsOnExactlyWhilePressed, LastRepeatsTurnNoSteadyLock, IsOffOnceQuiet, GoesOnAs, IsLockedByFreshPresses};
 ghost use Rattle.console_core.specs.Plain.{IsPlainAfter};
 ghost use Rattle.console_core.specs.Traps.{IsOnOnlyWhilePressedWithoutTraps};

@@ -13,7 +13,7 @@ use Rattle.keymap_core.specs.Actions.{holding_action}
 use Rattle.keymap_core.specs.Maps.{MapValue}
 use Rattle.keymap_core.specs.Bearers.{IsCellOf, Bears, IsAlone, BearsThroughout}
 use Rattle.console_core.specs.Plain.{IsPlainFor, IsPlain}
-use Rattle.console_core.specs.Safety.{IsSteady, IsActing}
+use Rattle.console_core.specs.Headline.{IsSteady, IsActing}
 use Rattle.keymap_check.specs.declared.kind.Kind.TheVariants as kind
 use Rattle.keymap_check.specs.declared.bearer.Bearer.{Bearer}
 use Rattle.keymap_check.specs.declared.bearer.Bearer.TheVariants.{Nobody, Throughout, Sole, Several}

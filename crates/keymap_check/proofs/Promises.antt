@@ -8,7 +8,7 @@ use Rattle.keymap_core.specs.Maps.{MapValue}
 use Rattle.keymap_core.specs.Bearers.{BearsThroughout}
 use Rattle.console_core.specs.declared.event.Event.TheVariants.{Press}
 use Rattle.console_core.specs.History.{Maps, HasKey, On}
-use Rattle.console_core.specs.Safety.{IsSafe, IsSteady}
+use Rattle.console_core.specs.Headline.{IsSafe, IsSteady}
 use Rattle.console_core.specs.Plain.{IsPlain, PlainLook, LooksPlainly}
 use Rattle.console_core.specs.Headline.{OnOnlyWhilePressed, OnExactlyWhilePressed, RepeatsTurnNoSteadyLock, OffOnceQuiet, GoesOnAsAfterReset, LockedByFreshPresses, IsOnOnlyWhilePressed}
 use Rattle.keymap_check.specs.Promises.{ModifiersAreOnOnlyWhilePressed, IsOnExactlyWhilePressed, NoRepeatTurns, ModifiersAreOffOnceQuiet, GoesOnAsAfterResetOnceQuiet, IsOnAfterOddFreshPresses, LooksPlainlyIn}

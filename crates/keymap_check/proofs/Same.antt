@@ -7,7 +7,7 @@ use Rattle.keymap_core.specs.declared.action.Holding.TheVariants as holding
 use Rattle.keymap_core.specs.declared.entry.Cell.{Cell}
 use Rattle.keymap_core.specs.declared.entry.Cell.TheVariants.{Char, Act}
 use Rattle.keymap_core.specs.Actions.{holding_action}
-use Rattle.console_core.specs.Safety.{IsActing}
+use Rattle.console_core.specs.Headline.{IsActing}
 use Rattle.keymap_core.proofs.SameActions.{same_action-true, same_action-refl}
 use Rattle.keymap_check.specs.Cells.{is_holding, is_character, is_any_holding, is_character_or_nop}
 use Rattle.keymap_check.specs.Computed.{held_by}

@@ -8,7 +8,7 @@ use Rattle.keymap_core.specs.declared.action.Holding.TheVariants as holding
 use Rattle.keymap_core.specs.Actions.{holdings, locks, holding_index, lock_index}
 use Rattle.keymap_core.specs.Maps.{MapValue}
 use Rattle.keymap_core.specs.Bearers.{NobodyBears, BearsThroughout, BearsNotThroughout, SeveralBear}
-use Rattle.console_core.specs.Safety.{IsSafe, IsSteady}
+use Rattle.console_core.specs.Headline.{IsSafe, IsSteady}
 use Rattle.keymap_check.specs.declared.bearer.Bearer.{Bearer}
 use Rattle.keymap_check.specs.declared.bearer.Bearer.TheVariants.{Nobody, Throughout, Sole, Several}
 use Rattle.keymap_check.specs.declared.finding.Finding.{Finding}

@@ -14,7 +14,7 @@ use Rattle.keymap_tables.specs.Sources.{ReadsTables, ReadsNarrow}
 use Rattle.play_core.specs.declared.player.PlayError.{PlayError}
 use Rattle.play_core.specs.declared.player.PlayError.TheVariants as play
 use Rattle.play_core.specs.declared.player.Source.TheVariants.{Text, Next, Script}
-use Rattle.console_core.specs.Safety.{IsSafe}
+use Rattle.console_core.specs.Headline.{IsSafe}
 use Rattle.kmap.specs.declared.fault_line.RunError.{RunError}
 use Rattle.kmap.specs.declared.fault_line.RunError.TheVariants as error
 use Rattle.console_core.specs.declared.outcome.Sticking.{Sticking}

@@ -1,7 +1,7 @@
 //! The runs of the program over any reader and writer.
 ghost use Rattle.std.specs.Prelude.{◌≡◌, ◌↔◌, ◌||◌, IfOk, IsTrue, is_err};
 ghost use Rattle.keymap_core.specs.Devices.{WritesText};
-ghost use Rattle.console_core.specs.Safety.{IsSafe};
+ghost use Rattle.console_core.specs.Headline.{IsSafe};
 ghost use Rattle.console_core.specs.Sticking.{IsAnswer};
 ghost use Rattle.keymap_core.specs.Maps.{MapValue};
 ghost use Rattle.kmap.specs.Report.{report};

@@ -36,6 +36,7 @@ all:
 check:
 	$(RT) ci
 	cd crates/kmap_c && $(RT) lib > /dev/null
+	sh tests/statements.sh
 	sh tests/program.sh $(PROGRAM)
 	sh tests/c_library.sh $(PROGRAM) $(LIBRARY)
 	sh tests/completions.sh $(PROGRAM)

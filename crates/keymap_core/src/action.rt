@@ -1,6 +1,7 @@
 //! Actions and their codes: `u_char` values with a bit of `spcl` set in sys/kbio.h. The table of codes and names stands
 //! in specs/Actions.
 ghost use Rattle.std.specs.Prelude.{◌≡◌, ◌<◌, ◌≤◌, ◌==◌, find};
+ghost use Rattle.keymap_core.specs.Numbers.{accent_limit};
 
 use arrayvec::ArrayVec;
 use std::marker::Model;
@@ -217,12 +218,13 @@ pub struct AccentIndex {
 
 impl Model for AccentIndex {
     ghost use Rattle.std.specs.Prelude.{ℕ, ◌<◌};
+    ghost use Rattle.keymap_core.specs.Numbers.{accent_limit};
 
     ghost Value = { ℕ };
 
     ghost view = { λ accent. accent.index };
 
-    ghost invariant = { λ accent. accent.index < 15 };
+    ghost invariant = { λ accent. accent.index < accent_limit };
 
     ghost inverse = { λ n. record { index = n } };
 }
@@ -230,7 +232,7 @@ impl Model for AccentIndex {
 impl AccentIndex {
     /// The accent with this index.
     pub fn new(index: u8) -> Self
-        requires { index < 15 }
+        requires { index < accent_limit }
         ensures { result ≡ index }
     {
         AccentIndex { index }
@@ -239,7 +241,7 @@ impl AccentIndex {
     /// The index.
     pub fn get(self) -> u8
         ensures value { result ≡ self }
-        ensures high { result < 15 }
+        ensures high { result < accent_limit }
     {
         self.index
     }

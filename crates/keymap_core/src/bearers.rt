@@ -1,6 +1,7 @@
 //! Which slots of a keymap are live, and which holding actions its keys bear.
 ghost use Rattle.std.specs.Prelude.{◌≡◌, ◌<◌, ◌≤◌};
 ghost use Rattle.keymap_core.specs.Maps.{MapValue};
+ghost use Rattle.keymap_core.specs.Numbers.{key_count};
 ghost use Rattle.keymap_core.specs.Actions.{holding_action};
 ghost use Rattle.keymap_core.specs.Borne.{is_cell_of_action, has_in_slot as has_in_slot_of, has_in_half as has_in_half_of, is_upper_live as is_upper_live_of, is_borne as is_borne_of};
 
@@ -33,7 +34,7 @@ fn has_in_slot<K: Keymap>(map: &K, holding: Holding, slot: u8) -> bool
 
 /// Whether some cell of the 128 slots from this one on is the holding action.
 fn has_in_half<K: Keymap>(map: &K, holding: Holding, from: u8) -> bool
-    requires { from ≤ 128 }
+    requires { from ≤ key_count }
     ensures { (m : MapValue) → K.shows map.now m → result ≡ has_in_half_of m (holding_action holding) from }
 {
     for key in 0..128u8 {

@@ -1,5 +1,6 @@
 //! The cells of a slot and its lock flag: `struct keyent_t` of sys/kbio.h.
 ghost use Rattle.std.specs.Prelude.{◌≡◌, length};
+ghost use Rattle.keymap_core.specs.Numbers.{column_count};
 
 use crate::action::Action;
 
@@ -45,7 +46,7 @@ impl Entry {
     /// The eight cells, as a slice.
     pub fn cells(&self) -> &[Cell]
         ensures cells { result.now ≡ self.now.cells }
-        ensures eight { length result.now ≡ 8 }
+        ensures eight { length result.now ≡ column_count }
     {
         let cells = &self.cells;
         for cell in cells {

@@ -1,5 +1,6 @@
 //! The keymap: `struct keymap` and `struct accentmap` of sys/kbio.h.
 ghost use Rattle.std.specs.Prelude.{◌≡◌, ◌<◌, ◌≤◌, ◌↔◌, [], IfOk, IfSome, OnOk, OnErr, IsErr, option_copied, slice_get};
+ghost use Rattle.keymap_core.specs.Numbers.{slot_limit, accent_limit};
 
 use crate::accent::Accent;
 use crate::entry::{Entry, UNDEFINED};
@@ -57,7 +58,7 @@ impl KeyMap {
     /// How many slots there are up to the last defined one, 0 to 256.
     pub fn n_keys(&self) -> u16
         ensures value { result ≡ n_keys_of self.now }
-        ensures bounded { result ≤ 256 }
+        ensures bounded { result ≤ slot_limit }
     {
         self.entries.len() as u16
     }
@@ -83,7 +84,7 @@ impl KeyMap {
     /// How many accents there are up to the last defined one, 0 to 15.
     pub fn n_accs(&self) -> u8
         ensures value { result ≡ n_accs_of self.now }
-        ensures bounded { result ≤ 15 }
+        ensures bounded { result ≤ accent_limit }
     {
         self.accents.len() as u8
     }
@@ -91,7 +92,7 @@ impl KeyMap {
     /// The accent, if its index is below the number of accents.
     pub fn accent(&self, index: u8) -> Option<&Accent>
         ensures value { option_copied result ≡ slice_get self.now.accents index }
-        ensures in_range { IfSome result (λ _. index < 15) }
+        ensures in_range { IfSome result (λ _. index < accent_limit) }
     {
         self.accents.get(index as usize)
     }
@@ -99,7 +100,7 @@ impl KeyMap {
     /// Defines the accent. Where the index is above 14 the accent is dropped.
     pub fn set_accent(&mut self, index: u8, accent: Accent) -> Result<(), BadAccent>
         ensures ok { OnOk result (self.new ≡ with_accent self.old index accent) }
-        ensures refused { IsErr result ↔ (14 < index) }
+        ensures refused { IsErr result ↔ (accent_limit ≤ index) }
         ensures err { OnErr result (self.new ≡ self.old) }
     {
         let index = index as usize;
@@ -136,7 +137,7 @@ impl KeyMap {
     ghost use Rattle.keymap_core.specs.Bounds.{IsEntry, IsAccent, IsMap};
 
     fn entries_have_bounds(&self)
-        ensures few { length self.now.entries ≤ 256 }
+        ensures few { length self.now.entries ≤ slot_limit }
         ensures all { All IsEntry self.now.entries }
     {
         for entry in &self.entries {
@@ -145,7 +146,7 @@ impl KeyMap {
     }
 
     fn accents_have_bounds(&self)
-        ensures few { length self.now.accents ≤ 15 }
+        ensures few { length self.now.accents ≤ accent_limit }
         ensures all { All IsAccent self.now.accents }
     {
         for accent in &self.accents {

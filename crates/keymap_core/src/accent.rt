@@ -4,6 +4,7 @@ ghost use Rattle.std.specs.Char.{IsScalar};
 ghost use Rattle.keymap_core.specs.Accents.{AreScalars};
 ghost use Rattle.keymap_core.specs.Numbers.{pair_limit};
 
+use crate::numbers::PAIR_LIMIT;
 use arrayvec::ArrayVec;
 use std::marker::Model;
 
@@ -16,14 +17,11 @@ pub enum PairFault {
     TooManyPairs,
 }
 
-/// How many pairs an accent has room for: `NUM_ACCENTCHARS` of sys/kbio.h.
-pub const PAIRS: usize = 52;
-
 /// An accent: its own character, and 0 to 52 pairs of a base and the result. No base is character 0.
 #[derive(Debug, Drop, PartialEq, Eq)]
 pub struct Accent {
     own: char,
-    pairs: ArrayVec<(char, char), PAIRS>,
+    pairs: ArrayVec<(char, char), PAIR_LIMIT>,
 }
 
 impl Model for Accent {

@@ -3,6 +3,7 @@
 ghost use Rattle.std.specs.Prelude.{◌≡◌, ◌<◌, ◌≤◌, ◌==◌, find};
 ghost use Rattle.keymap_core.specs.Numbers.{accent_limit};
 
+use crate::numbers::ACCENT_LIMIT;
 use arrayvec::ArrayVec;
 use std::marker::Model;
 
@@ -375,6 +376,6 @@ pub(crate) static PLAIN_CODES: [u8; 25] = [
 ];
 
 /// The codes of the dead keys, in the order of their accents.
-pub(crate) static DEAD_KEY_CODES: [u8; 15] = [
+pub(crate) static DEAD_KEY_CODES: [u8; ACCENT_LIMIT] = [
     0x89, 0x8a, 0x8b, 0x8c, 0x8d, 0x8e, 0x8f, 0x90, 0x91, 0x92, 0x93, 0x94, 0x95, 0x96, 0x97,
 ];

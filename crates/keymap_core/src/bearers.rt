@@ -9,6 +9,7 @@ use crate::action::{Holding, Lock, Modifier};
 use crate::entry::Cell;
 use crate::keymap::Keymap;
 use crate::map::KeyMap;
+use crate::numbers::{COLUMN_COUNT, KEY_COUNT};
 
 /// Whether the cell is the holding action.
 fn is_held(cell: Cell, holding: Holding) -> bool
@@ -24,7 +25,7 @@ fn is_held(cell: Cell, holding: Holding) -> bool
 fn has_in_slot<K: Keymap>(map: &K, holding: Holding, slot: u8) -> bool
     ensures { (m : MapValue) → K.shows map.now m → result ≡ has_in_slot_of m (holding_action holding) slot }
 {
-    for column in 0..8usize {
+    for column in 0..COLUMN_COUNT {
         if is_held(map.cell(slot, column), holding) {
             return true;
         }
@@ -37,7 +38,7 @@ fn has_in_half<K: Keymap>(map: &K, holding: Holding, from: u8) -> bool
     requires { from ≤ key_count }
     ensures { (m : MapValue) → K.shows map.now m → result ≡ has_in_half_of m (holding_action holding) from }
 {
-    for key in 0..128u8 {
+    for key in 0..KEY_COUNT as u8 {
         if has_in_slot(map, holding, key + from) {
             return true;
         }
@@ -58,7 +59,8 @@ fn is_upper_live_in<K: Keymap>(map: &K) -> bool
 pub fn is_borne_in<K: Keymap>(map: &K, holding: Holding) -> bool
     ensures { (m : MapValue) → K.shows map.now m → result ≡ is_borne_of m holding }
 {
-    has_in_half(map, holding, 0) || (is_upper_live_in(map) && has_in_half(map, holding, 128))
+    has_in_half(map, holding, 0)
+        || (is_upper_live_in(map) && has_in_half(map, holding, KEY_COUNT as u8))
 }
 
 impl KeyMap {

@@ -3,6 +3,7 @@ ghost use Rattle.std.specs.Prelude.{◌≡◌, length};
 ghost use Rattle.keymap_core.specs.Numbers.{column_count};
 
 use crate::action::Action;
+use crate::numbers::COLUMN_COUNT;
 
 /// What a key gives in one column. The character 0 isn't the action `nop`.
 #[derive(Clone, Copy, Debug, PartialEq, Eq)]
@@ -23,12 +24,12 @@ pub enum LockFlag {
 /// The cells of a slot. The column is shift + 2 times control + 4 times alt.
 #[derive(Clone, Copy, Debug, PartialEq, Eq)]
 pub struct Entry {
-    pub cells: [Cell; 8],
+    pub cells: [Cell; COLUMN_COUNT],
     pub flag: LockFlag,
 }
 
 pub(crate) const UNDEFINED: Entry = Entry {
-    cells: [Cell::Char('\0'); 8],
+    cells: [Cell::Char('\0'); COLUMN_COUNT],
     flag: LockFlag::O,
 };
 

@@ -2,6 +2,7 @@
 ghost use Rattle.std.specs.Prelude.{◌≡◌, ◌<◌, ◌↔◌, IfSome, IsSome};
 ghost use Rattle.keymap_core.specs.Numbers.{key_count};
 
+use crate::numbers::KEY_COUNT;
 use std::marker::Model;
 
 /// The code of a key, 0 to 127.
@@ -29,7 +30,7 @@ impl KeyCode {
         ensures some { IsSome result ↔ (code < key_count) }
         ensures same { IfSome result (λ key. key ≡ code) }
     {
-        if code < 128 {
+        if code < KEY_COUNT as u8 {
             Some(KeyCode { code })
         } else {
             None

@@ -25,6 +25,7 @@ pub mod laws;
 mod map;
 mod named;
 mod names;
+mod numbers;
 mod stream;
 #[cfg(test)]
 mod tests;
@@ -44,6 +45,7 @@ pub use key_code::KeyCode;
 pub use keymap::Keymap;
 pub use map::{BadAccent, KeyMap};
 pub use named::Named;
+pub use numbers::{ACCENT_LIMIT, COLUMN_COUNT, KEY_COUNT, PAIR_LIMIT, SLOT_LIMIT};
 pub use stream::Stream;
 pub use to_std::ToStd;
 pub use transfer::{ReadError, ReadFault, ReadFaultKind, WriteFault, put, read_up_to, write_text};

@@ -4,18 +4,13 @@ ghost use Rattle.keymap_core.specs.Numbers.{slot_limit, accent_limit};
 
 use crate::accent::Accent;
 use crate::entry::{Entry, UNDEFINED};
+use crate::numbers::{ACCENT_LIMIT, SLOT_LIMIT};
 use std::alloc::{AllocError, Global};
 use std::marker::Model;
 
 /// No accent has this index: it is above 14.
 #[derive(Clone, Copy, Debug, PartialEq, Eq)]
 pub struct BadAccent;
-
-/// `NUM_KEYS` of sys/kbio.h.
-const SLOTS: usize = 256;
-
-/// `NUM_DEADKEYS` of sys/kbio.h.
-const ACCENTS: usize = 15;
 
 /// A keymap: its defined entries and accents.
 #[derive(Debug, Drop)]
@@ -46,8 +41,8 @@ impl KeyMap {
         ensures entries { IfOk result (λ m. m.entries ≡ []) }
         ensures accents { IfOk result (λ m. m.accents ≡ []) }
     {
-        let entries = Vec::with_capacity(alloc, SLOTS)?;
-        let accents = Vec::with_capacity(alloc, ACCENTS)?;
+        let entries = Vec::with_capacity(alloc, SLOT_LIMIT)?;
+        let accents = Vec::with_capacity(alloc, ACCENT_LIMIT)?;
         Ok(KeyMap {
             entries,
             accents,
@@ -104,7 +99,7 @@ impl KeyMap {
         ensures err { OnErr result (self.new ≡ self.old) }
     {
         let index = index as usize;
-        if index >= ACCENTS {
+        if index >= ACCENT_LIMIT {
             return Err(BadAccent);
         }
         while self.accents.len() <= index {
@@ -118,8 +113,8 @@ impl KeyMap {
     pub fn try_clone(&self, alloc: Global) -> Result<KeyMap, AllocError>
         ensures { IfOk result (λ m. m ≡ self.now) }
     {
-        let mut entries = Vec::with_capacity(alloc, SLOTS)?;
-        let mut accents = Vec::with_capacity(alloc, ACCENTS)?;
+        let mut entries = Vec::with_capacity(alloc, SLOT_LIMIT)?;
+        let mut accents = Vec::with_capacity(alloc, ACCENT_LIMIT)?;
         entries.extend_from_slice(&self.entries)?;
         for accent in &self.accents {
             accents.push_reserved(accent.copied());

@@ -1,4 +1,4 @@
--- The numbers of the format, each named once. src/numbers.rt has the same as constants.
+-- The numbers of the format, each named once. src/limits.rt has the same as constants.
 use Rattle.std.specs.Prelude.{ℕ}
 
 -- the key codes, from 0 on

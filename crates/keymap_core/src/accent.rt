@@ -4,7 +4,7 @@ ghost use Rattle.std.specs.Char.{IsScalar};
 ghost use Rattle.keymap_core.specs.Accents.{AreScalars};
 ghost use Rattle.keymap_core.specs.Numbers.{pair_limit};
 
-use crate::numbers::PAIR_LIMIT;
+use crate::limits::PAIR_LIMIT;
 use arrayvec::ArrayVec;
 use std::marker::Model;
 

@@ -3,7 +3,7 @@
 ghost use Rattle.std.specs.Prelude.{◌≡◌, ◌<◌, ◌≤◌, ◌==◌, find};
 ghost use Rattle.keymap_core.specs.Numbers.{accent_limit};
 
-use crate::numbers::ACCENT_LIMIT;
+use crate::limits::ACCENT_LIMIT;
 use arrayvec::ArrayVec;
 use std::marker::Model;
 

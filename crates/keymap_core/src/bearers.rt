@@ -8,8 +8,8 @@ ghost use Rattle.keymap_core.specs.Borne.{is_cell_of_action, has_in_slot as has_
 use crate::action::{Holding, Lock, Modifier};
 use crate::entry::Cell;
 use crate::keymap::Keymap;
+use crate::limits::{COLUMN_COUNT, KEY_COUNT};
 use crate::map::KeyMap;
-use crate::numbers::{COLUMN_COUNT, KEY_COUNT};
 
 /// Whether the cell is the holding action.
 fn is_held(cell: Cell, holding: Holding) -> bool

@@ -3,7 +3,7 @@ ghost use Rattle.std.specs.Prelude.{◌≡◌, length};
 ghost use Rattle.keymap_core.specs.Numbers.{column_count};
 
 use crate::action::Action;
-use crate::numbers::COLUMN_COUNT;
+use crate::limits::COLUMN_COUNT;
 
 /// What a key gives in one column. The character 0 isn't the action `nop`.
 #[derive(Clone, Copy, Debug, PartialEq, Eq)]

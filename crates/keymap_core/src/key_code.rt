@@ -2,7 +2,7 @@
 ghost use Rattle.std.specs.Prelude.{◌≡◌, ◌<◌, ◌↔◌, IfSome, IsSome};
 ghost use Rattle.keymap_core.specs.Numbers.{key_count};
 
-use crate::numbers::KEY_COUNT;
+use crate::limits::KEY_COUNT;
 use std::marker::Model;
 
 /// The code of a key, 0 to 127.

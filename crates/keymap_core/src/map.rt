@@ -4,7 +4,7 @@ ghost use Rattle.keymap_core.specs.Numbers.{slot_limit, accent_limit};
 
 use crate::accent::Accent;
 use crate::entry::{Entry, UNDEFINED};
-use crate::numbers::{ACCENT_LIMIT, SLOT_LIMIT};
+use crate::limits::{ACCENT_LIMIT, SLOT_LIMIT};
 use std::alloc::{AllocError, Global};
 use std::marker::Model;
 

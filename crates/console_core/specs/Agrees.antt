@@ -3,6 +3,7 @@ use Rattle.std.specs.Prelude.{◌≡◌, ℕ, ◌<◌, List}
 use Rattle.keymap_core.specs.declared.action.Lock.{Lock}
 use Rattle.keymap_core.specs.declared.action.Holding.{Holding}
 use Rattle.keymap_core.specs.Maps.{MapValue}
+use Rattle.keymap_core.specs.Numbers.{key_count}
 use Rattle.console_core.specs.declared.event.Event.{Event}
 use Rattle.console_core.specs.Kept.{Kept}
 use Rattle.console_core.specs.Resolved.{ResolvedEvent, held, locked, remembered, pending}
@@ -11,7 +12,7 @@ use Rattle.console_core.specs.History.{Maps, in_force, is_second_in_force, resol
 pub record Agrees (m : MapValue) (h : List ResolvedEvent) (k : Kept) : Type 0 where
   pub marks : (a : Holding) → k.mark a ≡ held a h
   pub locks : (l : Lock) → k.lock l ≡ locked l h
-  pub memories : (j : ℕ) → j < 128 → k.memory j ≡ remembered j h
+  pub memories : (j : ℕ) → j < key_count → k.memory j ≡ remembered j h
   pub pending : k.pending ≡ pending m h
 
 -- the same after a list of events under the two maps

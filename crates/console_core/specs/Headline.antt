@@ -6,6 +6,7 @@ use Rattle.keymap_core.specs.declared.action.Lock.{Lock}
 use Rattle.keymap_core.specs.declared.action.Holding.TheVariants as holding
 use Rattle.keymap_core.specs.Maps.{MapValue}
 use Rattle.keymap_core.specs.Bearers.{Bears, BearsThroughout}
+use Rattle.keymap_core.specs.Numbers.{key_count}
 use Rattle.console_core.specs.declared.event.Event.{Event}
 use Rattle.console_core.specs.declared.event.Event.TheVariants.{Press, Reset}
 use Rattle.console_core.specs.Positions.{count_where, is_odd}
@@ -16,7 +17,7 @@ use Rattle.console_core.specs.Safety.{IsSafe, IsSteady}
 -- A modifier is on only while a key that bears it is pressed, where `is_on` are the modifiers after h.
 abbrev pub IsOnOnlyWhilePressed : MapValue → List Event → (Modifier → Bool) → Type 0
 IsOnOnlyWhilePressed m h is_on =
-    (i : Modifier) → is_on i ≡ true → (k : ℕ) × (k < 128) × Bears m k (holding.Mod i) × (pressed k h ≡ true)
+    (i : Modifier) → is_on i ≡ true → (k : ℕ) × (k < key_count) × Bears m k (holding.Mod i) × (pressed k h ≡ true)
 
 abbrev pub OnOnlyWhilePressed : Type 0
 OnOnlyWhilePressed =

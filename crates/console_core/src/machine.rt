@@ -2,6 +2,7 @@
 //! genkbd_keyaction of sys/dev/kbd/kbd.c.
 ghost use Rattle.std.specs.Prelude.{◌≡◌, ◌<◌, List, ◌∷◌, [], ◌||◌};
 ghost use Rattle.keymap_core.specs.Maps.{MapValue};
+ghost use Rattle.keymap_core.specs.Numbers.{key_count};
 ghost use Rattle.console_core.specs.declared.event.Event.{Event as EventValue};
 ghost use Rattle.console_core.specs.Columns.{look_with, slot_of, is_upper};
 ghost use Rattle.console_core.specs.Answers.{answer_char, answer_action as answer_action_of, answer_release};
@@ -55,7 +56,7 @@ fn look<K: Keymap, S: Store>(store: &S, map: &K, key: KeyCode) -> Cell
 
 /// The action that a press takes, and what it leaves remembered.
 fn take_over<S: Store>(store: &mut S, key: KeyCode, action: Action) -> Action
-    ensures in_range { key < 128 }
+    ensures in_range { key < key_count }
     ensures taken { result ≡ taken_over ((S.kept store.old).memory key) action }
     ensures kept { S.kept store.new ≡ with_offered key action (S.kept store.old) }
 {
@@ -118,7 +119,7 @@ fn press_action<K: Keymap, S: Store>(store: &mut S, map: &K, key: KeyCode, actio
     ensures answer { let old = S.kept store.old in (m : MapValue) → K.shows map.now m
         → result ≡ answer_action_of m old.pending (old.mark (Holding.Mod Modifier.Meta))
         (taken_over (old.memory key) action) }
-    ensures in_range { key < 128 }
+    ensures in_range { key < key_count }
     ensures kept { (m : MapValue) → K.shows map.now m
         → S.kept store.new ≡ after_action m key action (S.kept store.old) }
 {
@@ -134,7 +135,7 @@ fn press_action<K: Keymap, S: Store>(store: &mut S, map: &K, key: KeyCode, actio
 #[tactic(auto, using(crate::proofs::Keeping::keeping))]
 fn release<S: Store>(store: &mut S, key: KeyCode) -> Answer
     ensures answer { result ≡ answer_release ((S.kept store.old).memory key) }
-    ensures in_range { key < 128 }
+    ensures in_range { key < key_count }
     ensures kept { S.kept store.new ≡ after_release key (S.kept store.old) }
 {
     match store.remembered(key) {

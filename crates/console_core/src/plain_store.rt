@@ -3,6 +3,7 @@ ghost use Rattle.std.specs.Prelude.{◌≡◌, ◌<◌, length, IfSome};
 ghost use Rattle.std.proofs.Props.{props};
 ghost use Rattle.console_core.specs.Kept.{nothing_kept};
 ghost use Rattle.console_core.specs.Tables.{kept_in_tables};
+ghost use Rattle.keymap_core.specs.Numbers.{key_count, accent_limit};
 
 use crate::store::Store;
 use keymap_core::{Action, Holding, KeyCode, Lock};
@@ -17,8 +18,8 @@ pub struct PlainStore {
     is_second: bool,
     ghost marks_len: { length marks ≡ 12 },
     ghost locks_len: { length locks ≡ 4 },
-    ghost actions_len: { length actions ≡ 128 },
-    ghost pending_in_range: { IfSome pending (λ i. i < 15) } by { Prim.hlevel props },
+    ghost actions_len: { length actions ≡ key_count },
+    ghost pending_in_range: { IfSome pending (λ i. i < accent_limit) } by { Prim.hlevel props },
 }
 
 #[tactic(auto, using(crate::proofs::Places::places))]

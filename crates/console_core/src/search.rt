@@ -1,6 +1,7 @@
 //! The search for sticking modifiers over the states that presses and releases lead to, by the number of presses.
 ghost use Rattle.std.specs.Prelude.{◌≡◌, ◌+◌, ◌<◌, ◌≤◌, ◌⊎◌, ◌++◌, ◌∷◌, ℕ, List, [], None, Some, All, length, reverse, slice_get, OnOk, IfOk, IfSome};
 ghost use Rattle.keymap_core.specs.Maps.{MapValue};
+ghost use Rattle.keymap_core.specs.Numbers.{key_count};
 ghost use Rattle.keymap_core.specs.declared.action.Modifier.{Modifier as ModifierValue};
 ghost use Rattle.console_core.specs.declared.held.Held.{Held as HeldValue};
 ghost use Rattle.console_core.specs.Searching.{state_of, IsMetBy, AreWithin, Grows, IsStep, IsLetGoMet, ArePressesMet, AreAdded, Searched, AreInOrder, IsStuck, GoBack, IsScriptTo};
@@ -80,7 +81,7 @@ fn meet_let_gos(met: &mut Met, place: usize, held: &Held, presses: usize) -> Res
 }
 
 fn key_with(code: u8) -> KeyCode
-    requires { code < 128 }
+    requires { code < key_count }
     ensures { result ≡ code }
 {
     match KeyCode::new(code) {
@@ -98,7 +99,7 @@ fn meet_presses(
     presses: usize,
 ) -> Result<(), AllocError>
     requires { AreWithin met.old.entries presses }
-    ensures met { OnOk result ((k : ℕ) → k < 128
+    ensures met { OnOk result ((k : ℕ) → k < key_count
         → ArePressesMet map.now met.new.entries presses (state_of held.now) k) }
     ensures added { OnOk result (AreAdded map.now (state_of held.now) place 1 presses met.old.entries met.new.entries) }
 {

@@ -1,6 +1,7 @@
 //! A store with one word of 32 bits and a byte for each key.
 ghost use Rattle.std.specs.Prelude.{◌≡◌, ◌≢◌, ◌<◌, ◌≤◌, false, None, option_map, length, IfSome};
 ghost use Rattle.keymap_core.specs.Actions.{same_action};
+ghost use Rattle.keymap_core.specs.Numbers.{key_count, accent_limit};
 ghost use Rattle.console_core.specs.Kept.{nothing_kept};
 ghost use Rattle.console_core.specs.Words.{kept_in_word, mark_bit as mark_bit_of, lock_bit as lock_bit_of};
 ghost use Rattle.console_core.specs.Words.{pending_from, pending_code as pending_code_of, coded};
@@ -36,9 +37,9 @@ fn lock_bit(lock: Lock) -> usize
 
 /// The number by which the pending accent is kept.
 fn pending_code(index: Option<u8>) -> u32
-    requires { IfSome index (λ i. i < 15) }
+    requires { IfSome index (λ i. i < accent_limit) }
     ensures code { result ≡ pending_code_of index }
-    ensures in_range { result ≤ 15 }
+    ensures in_range { result ≤ accent_limit }
     ensures back { pending_from result ≡ index }
 {
     match index {
@@ -88,7 +89,7 @@ fn is_code_of(code: u8, expected: Action) -> Option<bool>
 pub struct WordStore {
     pub word: u32,
     pub codes: [u8; 128],
-    ghost keys: { length codes ≡ 128 },
+    ghost keys: { length codes ≡ key_count },
 }
 
 impl WordStore {

@@ -2,6 +2,7 @@
 ghost use Rattle.std.specs.Prelude.{◌≡◌, ℕ, ◌<◌, ◌++◌, List, IfSome, IsNone, IsSome, reverse, find, option_map};
 ghost use Rattle.keymap_core.specs.declared.action.Modifier.{Modifier as ModifierValue};
 ghost use Rattle.keymap_core.specs.Maps.{MapValue};
+ghost use Rattle.keymap_core.specs.Numbers.{key_count};
 ghost use Rattle.console_core.specs.declared.event.Event.{Event as EventValue};
 ghost use Rattle.console_core.specs.History.{Maps, between, IsQuiet};
 ghost use Rattle.console_core.specs.Traps.{HasNoLocks, HasNoTrap};
@@ -130,7 +131,7 @@ fn try_key(map: &KeyMap, keys: &BitKeys, key: KeyCode) -> Option<Script>
 
 /// The first script of the key that leaves a modifier on, where the key has a finding.
 fn try_if_found(survey: &Survey, key: u8) -> Option<Script>
-    requires { key < 128 }
+    requires { key < key_count }
     ensures { option_map (λ s. s.items) result ≡ find (leaves_modifier_on_in survey.now) (tried_at survey.now key) }
 {
     if is_found(survey, key) {

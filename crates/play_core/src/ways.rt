@@ -2,6 +2,7 @@
 ghost use Rattle.std.specs.Prelude.{◌≡◌, ℕ, ◌+◌, ◌<◌, ◌≤◌, ◌++◌, List, [], ◌∷◌, Option, OnOk, IfOk, MatchOption, None, Some, option_map, length};
 ghost use Rattle.arrayvec.specs.ArrayVec.{array_vec_len};
 ghost use Rattle.keymap_core.specs.Maps.{MapValue};
+ghost use Rattle.keymap_core.specs.Numbers.{key_count};
 ghost use Rattle.console_core.specs.declared.event.Event.{Event as EventValue};
 ghost use Rattle.play_core.specs.HeldKeys.{combinations_of, combinations_with, combinations, gathered, combination_with};
 ghost use Rattle.play_core.specs.HeldTables.{AreHeldKeys};
@@ -53,7 +54,7 @@ impl Found {
     /// Tries the combination of a set and a key.
     fn try_key(&mut self, map: &KeyMap, keys: &HeldKeys, set: u8, key: u8) -> Result<(), AllocError>
         requires keys { AreHeldKeys map.now keys.now }
-        requires is_key { key < 128 }
+        requires is_key { key < key_count }
         ensures { OnOk result ((ways : List (List EventValue))
             → AreTablesOf map.now ways self.old.characters.entries self.old.accents.entries
             → AreTablesOf map.now (ways ++ combinations_of map.now set key) self.new.characters.entries self.new.accents.entries) }

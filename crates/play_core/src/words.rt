@@ -2,6 +2,7 @@
 ghost use Rattle.std.specs.Prelude.{◌≡◌, ◌<◌, ◌==◌, not, position, [], ◌∷◌, length, min, IfSome, IfNone, MatchOption};
 ghost use Rattle.std.specs.Str.Parse.{AllDigits, digits_value};
 ghost use Rattle.play_core.specs.Scripts.{is_blank, words_in, parts_of, without_comment as without_comment_of};
+ghost use Rattle.keymap_core.specs.Numbers.{key_count};
 
 /// The first line of a text, and what follows its line feed, if it has one.
 pub fn split_line(text: &[u8]) -> (&[u8], Option<&[u8]>)
@@ -71,7 +72,7 @@ fn is_blank_byte(b: u8) -> bool
 
 /// The number that decimal digits spell, 128 for each above 127.
 pub fn number_of(word: &[u8]) -> Option<u8>
-    ensures some { IfSome result (λ n. AllDigits 10 word.now × (n ≡ min 128 (digits_value 10 word.now))) }
+    ensures some { IfSome result (λ n. AllDigits 10 word.now × (n ≡ min key_count (digits_value 10 word.now))) }
     ensures none { IfNone result (AllDigits 10 word.now → ⊥) }
 {
     let mut value: u16 = 0;

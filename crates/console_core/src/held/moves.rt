@@ -2,6 +2,7 @@
 ghost use Rattle.std.specs.Prelude.{◌≡◌, ◌≢◌, ◌<◌, ℕ, List, false, true, None, ◌||◌, ◌++◌, OnOk, MatchOption, IfSome};
 ghost use Rattle.keymap_core.specs.Maps.{MapValue};
 ghost use Rattle.keymap_core.specs.Actions.{modifiers};
+ghost use Rattle.keymap_core.specs.Numbers.{key_count};
 ghost use Rattle.keymap_core.specs.declared.action.Modifier.{Modifier as ModifierValue};
 ghost use Rattle.console_core.specs.Columns.{slot_of, is_upper};
 ghost use Rattle.console_core.specs.Moves.{start as start_state, is_held as is_held_in, look_in, IsIdle, with_holder as with_holder_in, with_turned as with_turned_in, Forgets, IsForgetful, events_of, presses_of, releases};
@@ -85,7 +86,7 @@ impl Held {
     }
 
     fn slot(&self, key: KeyCode) -> u8
-        ensures in_range { key < 128 }
+        ensures in_range { key < key_count }
         ensures value { result ≡ slot_of key (is_upper (λ i. is_held_in (state_of self.now) i) (λ l. (state_of self.now).is_locked l)) }
     {
         let upper = self.is_held(Modifier::AltShift) != self.is_locked(Lock::Alt);
@@ -94,7 +95,7 @@ impl Held {
 
     /// What a press of the key looks up.
     fn look(&self, map: &KeyMap, key: KeyCode) -> Cell
-        ensures in_range { key < 128 }
+        ensures in_range { key < key_count }
         ensures value { result ≡ look_in map.now (state_of self.now) key }
     {
         let entry = map.entry(self.slot(key));

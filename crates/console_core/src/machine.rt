@@ -17,7 +17,7 @@ use crate::event::{Answer, Event};
 use crate::rules::{answer_action, column, compose, flips, next_pending};
 use crate::store::Store;
 use crate::translator::Translator;
-use keymap_core::{Action, Cell, Holding, KeyCode, Keymap, Lock, Modifier, is_borne_in};
+use keymap_core::{Action, Cell, Holding, KEY_COUNT, KeyCode, Keymap, Lock, Modifier, is_borne_in};
 
 fn is_on<S: Store>(store: &S, modifier: Modifier) -> bool
     ensures { result ≡ (S.kept store.now).mark (Holding.Mod modifier) }
@@ -35,7 +35,11 @@ fn slot<S: Store>(store: &S, key: KeyCode) -> u8
     ensures { result ≡ slot_of key (is_upper (λ i. (S.kept store.now).mark (Holding.Mod i)) (S.kept store.now).lock) }
 {
     let upper = is_on(store, Modifier::AltShift) != store.is_locked(Lock::Alt);
-    if upper { key.get() + 128 } else { key.get() }
+    if upper {
+        key.get() + KEY_COUNT as u8
+    } else {
+        key.get()
+    }
 }
 
 fn look<K: Keymap, S: Store>(store: &S, map: &K, key: KeyCode) -> Cell

@@ -6,14 +6,14 @@ ghost use Rattle.console_core.specs.Tables.{kept_in_tables};
 ghost use Rattle.keymap_core.specs.Numbers.{key_count, accent_limit};
 
 use crate::store::Store;
-use keymap_core::{Action, Holding, KeyCode, Lock};
+use keymap_core::{Action, Holding, KEY_COUNT, KeyCode, Lock};
 
 /// The marks are those of the modifiers and the down marks of the locks, in the order of the holding actions.
 #[derive(Drop)]
 pub struct PlainStore {
     marks: [bool; 12],
     locks: [bool; 4],
-    actions: [Option<Action>; 128],
+    actions: [Option<Action>; KEY_COUNT],
     pending: Option<u8>,
     is_second: bool,
     ghost marks_len: { length marks ≡ 12 },
@@ -31,7 +31,7 @@ impl PlainStore {
         PlainStore {
             marks: [false; 12],
             locks: [false; 4],
-            actions: [None; 128],
+            actions: [None; KEY_COUNT],
             pending: None,
             is_second: false,
         }
@@ -88,7 +88,7 @@ impl Store for PlainStore {
 
     fn reset(&mut self) {
         self.marks = [false; 12];
-        let nothing = [None; 128];
+        let nothing = [None; KEY_COUNT];
         self.actions = nothing;
         self.pending = None;
     }

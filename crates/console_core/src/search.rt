@@ -11,7 +11,7 @@ use crate::event::Event;
 use crate::held::{Held, Move, Step};
 use crate::outcome::Sticking;
 use indexmap::IndexMap;
-use keymap_core::{KeyCode, KeyMap, MODIFIERS};
+use keymap_core::{KEY_COUNT, KeyCode, KeyMap, MODIFIERS};
 use std::alloc::{AllocError, Global};
 
 /// How many states the search goes over.
@@ -103,7 +103,7 @@ fn meet_presses(
         → ArePressesMet map.now met.new.entries presses (state_of held.now) k) }
     ensures added { OnOk result (AreAdded map.now (state_of held.now) place 1 presses met.old.entries met.new.entries) }
 {
-    for code in 0..128 {
+    for code in 0..KEY_COUNT as u8 {
         meet(met, place, held.pressed(map, key_with(code)), presses)?;
     }
     Ok(())

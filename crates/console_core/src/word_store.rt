@@ -8,7 +8,7 @@ ghost use Rattle.console_core.specs.Words.{pending_from, pending_code as pending
 
 use crate::store::Store;
 use keymap_core::laws::{every_action_has_its_code, every_code_is_read};
-use keymap_core::{Action, Holding, KeyCode, Lock};
+use keymap_core::{Action, Holding, KEY_COUNT, KeyCode, Lock};
 
 /// The bits that a reset leaves: the locks and the map in force.
 const KEPT: u32 = 0x0010_0f00;
@@ -88,7 +88,7 @@ fn is_code_of(code: u8, expected: Action) -> Option<bool>
 #[derive(Clone, Copy, Drop)]
 pub struct WordStore {
     pub word: u32,
-    pub codes: [u8; 128],
+    pub codes: [u8; KEY_COUNT],
     ghost keys: { length codes ≡ key_count },
 }
 
@@ -98,7 +98,7 @@ impl WordStore {
     {
         WordStore {
             word: 0,
-            codes: [0; 128],
+            codes: [0; KEY_COUNT],
         }
     }
 
@@ -180,7 +180,7 @@ impl Store for WordStore {
 
     fn reset(&mut self) {
         self.word &= KEPT;
-        self.codes = [0; 128];
+        self.codes = [0; KEY_COUNT];
     }
 
     fn exchange(&mut self) {

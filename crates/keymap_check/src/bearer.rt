@@ -5,7 +5,7 @@ ghost use Rattle.keymap_core.specs.Numbers.{key_count};
 
 use crate::kind::Kind;
 use crate::survey::Survey;
-use keymap_core::{Holding, KeyCode, Lock};
+use keymap_core::{Holding, KEY_COUNT, KeyCode, Lock};
 
 /// Which key bears a holding action.
 #[derive(Clone, Copy, Debug, PartialEq, Eq)]
@@ -58,7 +58,7 @@ pub(crate) fn bearer_of(survey: &Survey, holding: Holding) -> Bearer
     ensures { result ≡ bearer_in survey.now holding }
 {
     let mut bearer = Bearer::Nobody;
-    for key in 0..128 {
+    for key in 0..KEY_COUNT as u8 {
         if survey.has(key, Kind::Holding(holding)) {
             bearer = with_one_more(bearer, bearer_if_alone(survey, key, holding));
         }

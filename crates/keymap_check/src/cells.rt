@@ -6,14 +6,18 @@ ghost use Rattle.keymap_core.specs.Numbers.{key_count, column_count};
 ghost use Rattle.keymap_check.specs.Cells.{slot_at, column_at, cell_of as cell_of_key, first_place as first_place_of, place_count as place_count_of};
 
 use crate::kind::Kind;
-use keymap_core::{Cell, KeyMap};
+use keymap_core::{COLUMN_COUNT, Cell, KEY_COUNT, KeyMap};
 
 /// The slot of a key's cell at the place.
 pub(crate) fn slot(key: u8, place: u8) -> u8
     requires is_key { key < key_count }
     ensures { result ≡ slot_at key place }
 {
-    if place < 8 { key } else { key + 128 }
+    if place < COLUMN_COUNT as u8 {
+        key
+    } else {
+        key + KEY_COUNT as u8
+    }
 }
 
 /// The column of a key's cell at the place.
@@ -22,7 +26,11 @@ pub(crate) fn column(place: u8) -> u8
     ensures value { result ≡ column_at place }
     ensures in_range { result < column_count }
 {
-    if place < 8 { place } else { place - 8 }
+    if place < COLUMN_COUNT as u8 {
+        place
+    } else {
+        place - COLUMN_COUNT as u8
+    }
 }
 
 /// The key's cell at the place.

@@ -15,7 +15,7 @@ use crate::finding::is_found;
 use crate::script::{BitKeys, Script, bit_keys, event_at, lacks_key, make_script};
 use crate::survey::Survey;
 use console_core::{Event, Translator, WordConsole};
-use keymap_core::{KeyCode, KeyMap, Modifier};
+use keymap_core::{KEY_COUNT, KeyCode, KeyMap, Modifier};
 
 /// Delivers presses or releases of the keys of the bits that are in the set and not in the other one.
 fn deliver<T: Translator>(console: &mut T, keys: &BitKeys, set: u8, except: u8, is_press: bool)
@@ -145,7 +145,7 @@ fn try_if_found(survey: &Survey, key: u8) -> Option<Script>
 fn first_script(survey: &Survey) -> Option<Script>
     ensures { option_map (λ s. s.items) result ≡ demonstration_of survey.now }
 {
-    for key in 0..128 {
+    for key in 0..KEY_COUNT as u8 {
         match try_if_found(survey, key) {
             Some(script) => return Some(script),
             None => {}

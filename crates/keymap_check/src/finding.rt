@@ -11,7 +11,7 @@ use crate::cells::{column, slot};
 use crate::kind::Kind;
 use crate::survey::Survey;
 use arrayvec::ArrayVec;
-use keymap_core::{Cell, Holding, KeyCode, Modifier};
+use keymap_core::{Cell, Holding, KEY_COUNT, KeyCode, Modifier};
 use std::default::MadeWith;
 
 /// Where a cell stands: its slot, 0 to 255, and its column, 0 to 7.
@@ -90,11 +90,11 @@ fn find_at(survey: &Survey, key: u8) -> Option<Finding>
 }
 
 /// The findings in the order of their keys.
-pub(crate) fn findings(survey: &Survey) -> ArrayVec<Finding, 128>
+pub(crate) fn findings(survey: &Survey) -> ArrayVec<Finding, KEY_COUNT>
     ensures { result.items ≡ findings_of survey.now }
 {
     let mut findings = ArrayVec::new_in(());
-    for key in 0..128 {
+    for key in 0..KEY_COUNT as u8 {
         match find_at(survey, key) {
             Some(finding) => findings.push(finding),
             None => {}

@@ -9,7 +9,7 @@ use crate::kind::{Group, Kind};
 use crate::survey::Survey;
 use arrayvec::ArrayVec;
 use console_core::Event;
-use keymap_core::KeyCode;
+use keymap_core::{KEY_COUNT, KeyCode};
 
 /// The events that a demonstration delivers, in their order.
 pub type Script = ArrayVec<Event, 11>;
@@ -55,7 +55,7 @@ fn is_bit_key(survey: &Survey, tried: u8, bit: u8, key: u8) -> bool
 fn bit_key(survey: &Survey, tried: u8, bit: u8) -> Option<KeyCode>
     ensures { result ≡ bit_key_of survey.now tried bit }
 {
-    for key in 0..128 {
+    for key in 0..KEY_COUNT as u8 {
         if is_bit_key(survey, tried, bit, key) {
             return Some(key_with(key));
         }

@@ -7,7 +7,7 @@ ghost use Rattle.keymap_core.specs.Numbers.{key_count};
 
 use crate::cells::{cell_of, first_place, place_count};
 use crate::kind::Kind;
-use keymap_core::{Action, Cell, KeyMap};
+use keymap_core::{Action, Cell, KEY_COUNT, KeyMap};
 use std::marker::Model;
 
 /// A keymap with a number for each key, whose bits tell which sorts of cells the key has.
@@ -15,7 +15,7 @@ use std::marker::Model;
 pub(crate) struct Survey<'m> {
     map: &'m KeyMap,
     places: u8,
-    bits: [u16; 128],
+    bits: [u16; KEY_COUNT],
 }
 
 impl<'m> Model for Survey<'m> {
@@ -65,8 +65,8 @@ impl<'m> Survey<'m> {
         ensures { result ≡ map.now }
     {
         let places = place_count(map);
-        let mut bits = [0; 128];
-        for key in 0..128u8 {
+        let mut bits = [0; KEY_COUNT];
+        for key in 0..KEY_COUNT as u8 {
             bits[key as usize] = key_bits(map, places, key);
         }
         Survey { map, places, bits }

@@ -9,7 +9,7 @@ ghost use Rattle.keymap_text.specs.Inner.Grammar as spec;
 
 use crate::fault::TextFaultKind;
 use crate::words::{Item, Meaning};
-use keymap_core::{Accent, Action, Cell, Entry, KeyMap, LockFlag};
+use keymap_core::{Accent, Action, Cell, Entry, KeyMap, LockFlag, PAIR_LIMIT, SLOT_LIMIT};
 use std::mem::replace;
 
 /// Where a text stands in its row of definitions.
@@ -108,7 +108,7 @@ fn first_place(item: &Item) -> Result<Place, TextFaultKind>
 {
     match item {
         Item::Value(Meaning::Number(n)) => {
-            if *n < 256 {
+            if *n < SLOT_LIMIT as u128 {
                 Ok(Place::Cell {
                     slot: *n as u8,
                     index: 0,
@@ -228,7 +228,7 @@ impl Grammar {
         ensures place { OnOk result (IsPlace self.new.place self.new.accent) }
     {
         if let Item::Open = item {
-            if self.accent.pairs().len() == 52 {
+            if self.accent.pairs().len() == PAIR_LIMIT {
                 return Err(TextFaultKind::TooManyPairs);
             }
             self.place = Place::PairBase { index };

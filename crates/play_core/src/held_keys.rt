@@ -9,7 +9,7 @@ ghost use Rattle.play_core.specs.HeldTables.{AreHeldKeys};
 
 use arrayvec::ArrayVec;
 use console_core::Event;
-use keymap_core::{Action, Cell, KeyCode, KeyMap, Modifier};
+use keymap_core::{Action, Cell, KEY_COUNT, KeyCode, KeyMap, Modifier};
 
 /// The events that type a character: a key, and before it perhaps a dead key, each with at most four held keys.
 pub type Way = ArrayVec<Event, 20>;
@@ -51,7 +51,8 @@ fn bears(map: &KeyMap, is_upper_live: bool, modifier: Modifier, key: u8) -> bool
     requires is_key { key < key_count }
     ensures { result ≡ spec.bears map.now modifier key }
 {
-    has_in_slot(map, modifier, key) || (is_upper_live && has_in_slot(map, modifier, key + 128))
+    has_in_slot(map, modifier, key)
+        || (is_upper_live && has_in_slot(map, modifier, key + KEY_COUNT as u8))
 }
 
 /// Whether some cell of the key is a modifier of the bit.
@@ -79,12 +80,12 @@ fn bears_bit(map: &KeyMap, is_upper_live: bool, bit: u8, key: u8) -> bool
 }
 
 /// For each key, whether it bears a modifier of the bit.
-fn bearers(map: &KeyMap, is_upper_live: bool, bit: u8) -> [bool; 128]
+fn bearers(map: &KeyMap, is_upper_live: bool, bit: u8) -> [bool; KEY_COUNT]
     requires { is_upper_live ≡ is_upper_live_of map.now }
     ensures { (k : ℕ) → k < key_count → slice_index_or result k false ≡ spec.bears_bit map.now bit k }
 {
-    let mut bearers = [false; 128];
-    for key in 0..128u8 {
+    let mut bearers = [false; KEY_COUNT];
+    for key in 0..KEY_COUNT as u8 {
         bearers[key as usize] = bears_bit(map, is_upper_live, bit, key);
     }
     bearers
@@ -102,7 +103,7 @@ fn key_with(code: u8) -> KeyCode
 }
 
 /// Whether the key can be held for the bit while the other one is pressed.
-fn is_bit_key(map: &KeyMap, bearers: &[bool; 128], bit: u8, pressed: u8, key: u8) -> bool
+fn is_bit_key(map: &KeyMap, bearers: &[bool; KEY_COUNT], bit: u8, pressed: u8, key: u8) -> bool
     requires bearers { (k : ℕ) → k < key_count → slice_index_or bearers.now k false ≡ spec.bears_bit map.now bit k }
     requires is_key { key < key_count }
     ensures { result ≡ spec.is_bit_key map.now bit pressed key }
@@ -112,11 +113,11 @@ fn is_bit_key(map: &KeyMap, bearers: &[bool; 128], bit: u8, pressed: u8, key: u8
 }
 
 /// The least key, other than the pressed one, that bears a modifier of the bit.
-fn bit_key(map: &KeyMap, bearers: &[bool; 128], bit: u8, pressed: u8) -> Option<KeyCode>
+fn bit_key(map: &KeyMap, bearers: &[bool; KEY_COUNT], bit: u8, pressed: u8) -> Option<KeyCode>
     requires { (k : ℕ) → k < key_count → slice_index_or bearers.now k false ≡ spec.bears_bit map.now bit k }
     ensures { result ≡ spec.bit_key map.now pressed bit }
 {
-    for key in 0..128u8 {
+    for key in 0..KEY_COUNT as u8 {
         if is_bit_key(map, bearers, bit, pressed, key) {
             return Some(key_with(key));
         }
@@ -125,13 +126,13 @@ fn bit_key(map: &KeyMap, bearers: &[bool; 128], bit: u8, pressed: u8) -> Option<
 }
 
 /// For each key, the key that is held for the bit while it is pressed.
-fn keys_of_bit(map: &KeyMap, is_upper_live: bool, bit: u8) -> [Option<KeyCode>; 128]
+fn keys_of_bit(map: &KeyMap, is_upper_live: bool, bit: u8) -> [Option<KeyCode>; KEY_COUNT]
     requires { is_upper_live ≡ is_upper_live_of map.now }
     ensures { (k : ℕ) → k < key_count → slice_index_or result k None ≡ spec.bit_key map.now k bit }
 {
     let bearers = bearers(map, is_upper_live, bit);
-    let mut keys = [None; 128];
-    for pressed in 0..128u8 {
+    let mut keys = [None; KEY_COUNT];
+    for pressed in 0..KEY_COUNT as u8 {
         keys[pressed as usize] = bit_key(map, &bearers, bit, pressed);
     }
     keys
@@ -140,10 +141,10 @@ fn keys_of_bit(map: &KeyMap, is_upper_live: bool, bit: u8) -> [Option<KeyCode>; 
 /// For each key, the keys that are held for the four bits while it is pressed.
 #[derive(Drop)]
 pub(crate) struct HeldKeys {
-    shift: [Option<KeyCode>; 128],
-    control: [Option<KeyCode>; 128],
-    alt: [Option<KeyCode>; 128],
-    alt_shift: [Option<KeyCode>; 128],
+    shift: [Option<KeyCode>; KEY_COUNT],
+    control: [Option<KeyCode>; KEY_COUNT],
+    alt: [Option<KeyCode>; KEY_COUNT],
+    alt_shift: [Option<KeyCode>; KEY_COUNT],
 }
 
 impl HeldKeys {

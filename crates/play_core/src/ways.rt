@@ -14,7 +14,7 @@ use crate::held_keys::{HeldKeys, Way, combination};
 use arrayvec::ArrayVec;
 use console_core::Event;
 use indexmap::IndexMap;
-use keymap_core::{Accent, KeyMap};
+use keymap_core::{Accent, KEY_COUNT, KeyMap};
 use std::alloc::{AllocError, Global};
 use std::marker::Model;
 
@@ -74,7 +74,7 @@ impl Found {
             → AreTablesOf map.now ways self.old.characters.entries self.old.accents.entries
             → AreTablesOf map.now (ways ++ combinations_with map.now set) self.new.characters.entries self.new.accents.entries) }
     {
-        for key in 0..128u8 {
+        for key in 0..KEY_COUNT as u8 {
             self.try_key(map, keys, set, key)?;
         }
         Ok(())

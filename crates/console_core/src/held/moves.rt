@@ -12,7 +12,7 @@ ghost use Rattle.console_core.specs.HeldBytes.{number_of, bytes_of, held-equal, 
 use super::{Held, Move, Step};
 use crate::event::Event;
 use crate::rules::{column, flips};
-use keymap_core::{Action, Cell, KeyCode, KeyMap, Lock, MODIFIERS, Modifier};
+use keymap_core::{Action, Cell, KEY_COUNT, KeyCode, KeyMap, Lock, MODIFIERS, Modifier};
 use std::alloc::AllocError;
 use std::hash::{Hash, Hasher};
 
@@ -90,7 +90,11 @@ impl Held {
         ensures value { result ≡ slot_of key (is_upper (λ i. is_held_in (state_of self.now) i) (λ l. (state_of self.now).is_locked l)) }
     {
         let upper = self.is_held(Modifier::AltShift) != self.is_locked(Lock::Alt);
-        if upper { key.get() + 128 } else { key.get() }
+        if upper {
+            key.get() + KEY_COUNT as u8
+        } else {
+            key.get()
+        }
     }
 
     /// What a press of the key looks up.
@@ -216,13 +220,13 @@ impl Held {
     }
 }
 
-/// The number of the key, or 128 for none.
+/// The number of the key, or the count of keys for none.
 fn number(holder: Option<KeyCode>) -> u8
     ensures { result ≡ number_of holder }
 {
     match holder {
         Some(key) => key.get(),
-        None => 128,
+        None => KEY_COUNT as u8,
     }
 }
 

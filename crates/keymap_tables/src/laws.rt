@@ -6,7 +6,8 @@ ghost use Rattle.keymap_core.specs.Numbers.{slot_limit, column_count, accent_lim
 ghost use Rattle.keymap_tables.specs.Faults.{IsTableFault, IsNarrowFault, number_at, mark_at};
 ghost use Rattle.keymap_tables.specs.Fits.{Fits, IsWide};
 ghost use Rattle.keymap_tables.specs.Image.{image, narrow_image, count_bytes, slot_bytes, accent_bytes, number_of, is_act, flag_number};
-ghost use Rattle.keymap_tables.specs.Layouts.{wide, narrow, part, number_size, count_size, cells_size, slot_size, accent_size};
+ghost use Rattle.keymap_tables.specs.Layouts.{wide, narrow, part};
+ghost use Rattle.keymap_tables.specs.Layouts.{number_size, count_size, cells_size, slot_size, accent_size};
 ghost use Rattle.keymap_tables.specs.Layouts.{slot_place, n_accs_place, accent_place, file_size};
 ghost use Rattle.keymap_tables.specs.Readings.{IsReading, IsNarrowReading, AnswersMap, AnswersFault};
 ghost use Rattle.keymap_tables.specs.declared.fault.TableError.{TableError};
@@ -88,9 +89,11 @@ pub fn a_narrow_image_is_by_position()
         → mark_at narrow (part (narrow_image m) (slot_place narrow s) (slot_size narrow)) column
         ≡ is_act (cell_at m s column) }
     ensures flags { (m : MapValue) → IsMap m → Fits m → (s : ℕ) → s < slot_limit
-        → slice_index (narrow_image m) (slot_place narrow s + (cells_size narrow + 1)) ≡ flag_number (entry_at m s).flag }
+        → slice_index (narrow_image m) (slot_place narrow s + (cells_size narrow + 1))
+        ≡ flag_number (entry_at m s).flag }
     ensures n_accs { (m : MapValue) → IsMap m → Fits m
         → part (narrow_image m) (n_accs_place narrow) (count_size narrow) ≡ count_bytes narrow (n_accs_of m) }
     ensures accents { (m : MapValue) → IsMap m → Fits m → (i : ℕ) → i < accent_limit
-        → part (narrow_image m) (accent_place narrow i) (accent_size narrow) ≡ accent_bytes narrow (accent_or_blank m i) }
+        → part (narrow_image m) (accent_place narrow i) (accent_size narrow)
+        ≡ accent_bytes narrow (accent_or_blank m i) }
 {}

@@ -4,6 +4,7 @@ use Rattle.keymap_core.specs.declared.action.Action.{Action}
 use Rattle.keymap_core.specs.declared.action.Lock.{Lock}
 use Rattle.keymap_core.specs.declared.action.Holding.{Holding}
 use Rattle.keymap_core.specs.Maps.{MapValue}
+use Rattle.keymap_core.specs.Numbers.{key_count}
 use Rattle.console_core.specs.declared.event.Event.{Event}
 use Rattle.console_core.specs.Resolved.{ResolvedEvent, held, locked, remembered, pending}
 use Rattle.console_core.specs.History.{Maps, in_force, is_second_in_force, resolved}
@@ -34,7 +35,7 @@ nothing_kept = record {
 pub record Agrees (m : MapValue) (h : List ResolvedEvent) (k : Kept) : Type 0 where
   pub marks : (a : Holding) → k.mark a ≡ held a h
   pub locks : (l : Lock) → k.lock l ≡ locked l h
-  pub memories : (j : ℕ) → j < 128 → k.memory j ≡ remembered j h
+  pub memories : (j : ℕ) → j < key_count → k.memory j ≡ remembered j h
   pub pending : k.pending ≡ pending m h
 
 -- the same after a list of events under the two maps

@@ -8,6 +8,7 @@ use Rattle.keymap_core.specs.declared.entry.Cell.{Cell}
 use Rattle.keymap_core.specs.declared.entry.LockFlag.{LockFlag}
 use Rattle.keymap_core.specs.declared.entry.LockFlag.TheVariants as flag
 use Rattle.keymap_core.specs.Maps.{MapValue, entry_at, cell_at}
+use Rattle.keymap_core.specs.Numbers.{key_count}
 
 abbrev pub bit : Bool → ℕ
 bit false = 0
@@ -38,7 +39,7 @@ flips f caps num = (flips_with_caps f && caps) || (flips_with_num f && num)
 
 -- the slot of a key in the lower or the upper half
 abbrev pub slot_of : ℕ → Bool → ℕ
-slot_of k upper = if upper then k + 128 else k
+slot_of k upper = if upper then k + key_count else k
 
 abbrev pub column_of : Bool → Bool → Bool → ℕ
 column_of shift control alt = bit shift + 2 * bit control + 4 * bit alt

@@ -40,6 +40,7 @@ use Rattle.keymap_core.specs.declared.entry.Cell.{Cell}
 use Rattle.keymap_core.specs.declared.entry.Cell.TheVariants.{Char, Act}
 use Rattle.keymap_core.specs.Maps.{MapValue}
 use Rattle.keymap_core.specs.Bearers.{IsCellOf, Bears, IsAlone, BearsThroughout}
+use Rattle.keymap_core.specs.Numbers.{key_count}
 use Rattle.console_core.specs.declared.event.Event.{Event}
 use Rattle.console_core.specs.declared.event.Event.TheVariants.{Press, Reset}
 use Rattle.console_core.specs.Positions.{count_where, is_odd}
@@ -48,7 +49,7 @@ use Rattle.console_core.specs.History.{Maps, in_force, On, Locked, Pending, Answ
 
 -- Safe: a key with a modifier or a lock among its cells has no character among them.
 abbrev pub IsSafe : MapValue → Type 0
-IsSafe m = (k : ℕ) → k < 128 → (a : Holding) → Bears m k a → (c : ℕ) → IsCellOf m k (Char c) → ⊥
+IsSafe m = (k : ℕ) → k < key_count → (a : Holding) → Bears m k a → (c : ℕ) → IsCellOf m k (Char c) → ⊥
 
 -- the cell is an action other than nop
 abbrev pub IsActing : Cell → Type 0
@@ -58,13 +59,13 @@ IsActing (Act a) = a ≢ act.Nop
 -- Steady: exactly one key bears the lock, and all its cells are actions other than nop.
 abbrev pub IsSteady : MapValue → Lock → Type 0
 IsSteady m l =
-    (k : ℕ) × (k < 128) × Bears m k (holding.Lock l) × IsAlone m k (holding.Lock l)
+    (k : ℕ) × (k < key_count) × Bears m k (holding.Lock l) × IsAlone m k (holding.Lock l)
     × ((x : Cell) → IsCellOf m k x → IsActing x)
 
 -- A modifier is on only while a key that bears it is pressed, where `is_on` are the modifiers after h.
 abbrev pub IsOnOnlyWhilePressed : MapValue → List Event → (Modifier → Bool) → Type 0
 IsOnOnlyWhilePressed m h is_on =
-    (i : Modifier) → is_on i ≡ true → (k : ℕ) × (k < 128) × Bears m k (holding.Mod i) × (pressed k h ≡ true)
+    (i : Modifier) → is_on i ≡ true → (k : ℕ) × (k < key_count) × Bears m k (holding.Mod i) × (pressed k h ≡ true)
 
 abbrev pub OnOnlyWhilePressed : Type 0
 OnOnlyWhilePressed =

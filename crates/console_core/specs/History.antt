@@ -4,6 +4,7 @@ use Rattle.std.specs.Prelude.{◌≡◌, ℕ, ◌<◌, ◌==◌, Bool, false, tr
 use Rattle.keymap_core.specs.declared.action.Modifier.{Modifier}
 use Rattle.keymap_core.specs.declared.action.Lock.{Lock}
 use Rattle.keymap_core.specs.Maps.{MapValue}
+use Rattle.keymap_core.specs.Numbers.{key_count}
 use Rattle.console_core.specs.declared.event.Event.{Event}
 use Rattle.console_core.specs.declared.event.Event.TheVariants.{Press, Release, Reset, Load}
 use Rattle.console_core.specs.declared.event.Answer.{Answer}
@@ -20,8 +21,8 @@ between m n = record { first = m; second = n }
 
 -- The events are about keys 0 to 127.
 abbrev pub HasKey : Event → Type 0
-HasKey (Press k) = k < 128
-HasKey (Release k) = k < 128
+HasKey (Press k) = k < key_count
+HasKey (Release k) = k < key_count
 HasKey Reset = Unit {0}
 HasKey Load = Unit {0}
 
@@ -65,7 +66,7 @@ pressed k h = is_press (last_where (concerns k) h)
 
 -- Quiet: no key is pressed.
 abbrev pub IsQuiet : List Event → Type 0
-IsQuiet h = (k : ℕ) → k < 128 → pressed k h ≡ false
+IsQuiet h = (k : ℕ) → k < key_count → pressed k h ≡ false
 
 -- The events with what each looked up at its prefix, resolved in their order.
 unfoldable pub resolved : Maps → List Event → List ResolvedEvent

@@ -8,6 +8,7 @@ use Rattle.keymap_core.specs.declared.entry.Cell.{Cell}
 use Rattle.keymap_core.specs.declared.entry.Cell.TheVariants.{Char, Act}
 use Rattle.keymap_core.specs.Actions.{same_modifier, same_lock, modifiers}
 use Rattle.keymap_core.specs.Maps.{MapValue}
+use Rattle.keymap_core.specs.Numbers.{key_count}
 use Rattle.console_core.specs.declared.event.Event.{Event}
 use Rattle.console_core.specs.declared.event.Event.TheVariants.{Press, Release}
 use Rattle.console_core.specs.declared.held.Move.{Move}
@@ -49,8 +50,8 @@ with_turned s l = record s { is_locked = λ j. if same_lock l j then not (s.is_l
 -- none,
 -- or turns the lock that it looks up. A holder lets go.
 abbrev pub IsMove : MapValue → State → Move → Type 0
-IsMove m s (Hold k i) = (k < 128) × IsIdle s k × (look_in m s k ≡ Act (act.Mod i)) × (s.holder i ≡ None)
-IsMove m s (Turn k l) = (k < 128) × IsIdle s k × (look_in m s k ≡ Act (act.Lock l))
+IsMove m s (Hold k i) = (k < key_count) × IsIdle s k × (look_in m s k ≡ Act (act.Mod i)) × (s.holder i ≡ None)
+IsMove m s (Turn k l) = (k < key_count) × IsIdle s k × (look_in m s k ≡ Act (act.Lock l))
 IsMove m s (LetGo k i) = Holds s k i
 
 abbrev pub moved : State → Move → State

@@ -12,6 +12,7 @@ use Rattle.keymap_core.specs.Actions.{holding_action}
 use Rattle.keymap_core.specs.Maps.{MapValue}
 use Rattle.keymap_core.specs.Bearers.{Bears, BearsThroughout, NobodyBears}
 use Rattle.keymap_core.specs.Borne.{any_below, has_in_slot, is_upper_live}
+use Rattle.keymap_core.specs.Numbers.{key_count}
 use Rattle.console_core.specs.declared.event.Event.{Event}
 use Rattle.console_core.specs.Positions.{count_where, is_odd}
 use Rattle.console_core.specs.Columns.{look_with}
@@ -37,26 +38,27 @@ pub record IsPlain (m : MapValue) : Type 0 where
 
 -- the key bears the holding action, as a test
 abbrev pub bears : MapValue → Holding → ℕ → Bool
-bears m a k = has_in_slot m (holding_action a) k || (is_upper_live m && has_in_slot m (holding_action a) (k + 128))
+bears m a k =
+    has_in_slot m (holding_action a) k || (is_upper_live m && has_in_slot m (holding_action a) (k + key_count))
 
 -- a key that bears the modifier is pressed: false where nobody bears it
 unfoldable pub plain_on : MapValue → List Event → Modifier → Bool
-plain_on m h i = any_below (λ k. bears m (holding.Mod i) k && pressed k h) 128
+plain_on m h i = any_below (λ k. bears m (holding.Mod i) k && pressed k h) key_count
 
 -- a key that bears the lock has an odd number of fresh presses: false where nobody bears it
 unfoldable pub plain_locked : MapValue → List Event → Lock → Bool
-plain_locked m h l = any_below (λ k. bears m (holding.Lock l) k && is_odd (count_where (is_fresh_press k) h)) 128
+plain_locked m h l = any_below (λ k. bears m (holding.Lock l) k && is_odd (count_where (is_fresh_press k) h)) key_count
 
 -- these two, in words
 abbrev pub PlainOnByKeys : Type 0
 PlainOnByKeys =
     (m : MapValue) (h : List Event) (i : Modifier)
-    → (plain_on m h i ≡ true) ↔ ((k : ℕ) × (k < 128) × Bears m k (holding.Mod i) × (pressed k h ≡ true))
+    → (plain_on m h i ≡ true) ↔ ((k : ℕ) × (k < key_count) × Bears m k (holding.Mod i) × (pressed k h ≡ true))
 
 abbrev pub PlainLockedByKeys : Type 0
 PlainLockedByKeys =
     (m : MapValue) (h : List Event) (l : Lock)
-    → (plain_locked m h l ≡ true) ↔ ((k : ℕ) × (k < 128) × Bears m k (holding.Lock l) × (is_odd (count_where (is_fresh_press k) h) ≡ true))
+    → (plain_locked m h l ≡ true) ↔ ((k : ℕ) × (k < key_count) × Bears m k (holding.Lock l) × (is_odd (count_where (is_fresh_press k) h) ≡ true))
 
 abbrev pub PlainLook : MapValue → ℕ → List Event → Cell
 PlainLook m k h = look_with m (plain_on m h) (plain_locked m h) k

@@ -9,6 +9,7 @@ use Rattle.keymap_core.specs.declared.entry.Cell.{Cell}
 use Rattle.keymap_core.specs.declared.entry.Cell.TheVariants.{Char}
 use Rattle.keymap_core.specs.Maps.{MapValue, cell_at}
 use Rattle.keymap_core.specs.Bearers.{Bears, IsUpperLive, NobodyBears}
+use Rattle.keymap_core.specs.Numbers.{key_count}
 use Rattle.console_core.specs.declared.event.Event.{Event}
 use Rattle.console_core.specs.Columns.{slot_of, column_of}
 use Rattle.console_core.specs.History.{Maps, in_force, On, pressed, HasKeys}
@@ -41,7 +42,7 @@ HasTrap m i k =
     × ((bits : Bits) × (c : ℕ) × (bits.upper ≡ true → IsUpperLive m) × (group_bit i bits ≡ true) × (cell_with m k bits ≡ Char c))
 
 abbrev pub HasNoTrap : MapValue → Modifier → Type 0
-HasNoTrap m i = (k : ℕ) → k < 128 → HasTrap m i k → ⊥
+HasNoTrap m i = (k : ℕ) → k < key_count → HasTrap m i k → ⊥
 
 -- nobody bears a lock that picks a cell
 abbrev pub HasNoLocks : MapValue → Type 0
@@ -53,7 +54,7 @@ HasNoLocks m =
 abbrev pub IsOnOnlyWhilePressedWithoutTraps : MapValue → List Event → (Modifier → Bool) → Type 0
 IsOnOnlyWhilePressedWithoutTraps m h is_on =
     HasNoLocks m → (i : Modifier) → HasNoTrap m i → is_on i ≡ true
-    → (k : ℕ) × (k < 128) × Bears m k (holding.Mod i) × (pressed k h ≡ true)
+    → (k : ℕ) × (k < key_count) × Bears m k (holding.Mod i) × (pressed k h ≡ true)
 
 abbrev pub OnOnlyWhilePressedWithoutTraps : Type 0
 OnOnlyWhilePressedWithoutTraps =

@@ -1,6 +1,7 @@
 //! The packed console over what its caller keeps, for who has no place for a console or calls from C.
 ghost use Rattle.std.specs.Prelude.{◌≡◌, ◌<◌, List, [], ◌∷◌, IfSome};
 ghost use Rattle.keymap_core.specs.Actions.{modifier_index, lock_index};
+ghost use Rattle.keymap_core.specs.Numbers.{accent_limit};
 ghost use Rattle.keymap_core.specs.declared.action.Modifier.{Modifier as ModifierValue};
 ghost use Rattle.keymap_core.specs.declared.action.Lock.{Lock as LockValue};
 ghost use Rattle.console_core.specs.declared.event.Event.{Event as EventValue};
@@ -52,7 +53,7 @@ pub fn locks_kept(kept: &WordStore) -> u8
 /// The index of the pending accent, if there is one.
 pub fn pending_kept(kept: &WordStore) -> Option<u8>
     ensures value { (ms : Maps) (h : List EventValue) → KeptAt ms h kept.now → result ≡ Pending ms h }
-    ensures in_range { IfSome result (λ i. i < 15) }
+    ensures in_range { IfSome result (λ i. i < accent_limit) }
 {
     kept.pending()
 }

@@ -2,6 +2,7 @@
 //! genkbd_keyaction of sys/dev/kbd/kbd.c.
 ghost use Rattle.std.specs.Prelude.{◌≡◌, ◌<◌, List, ◌∷◌, [], ◌||◌};
 ghost use Rattle.keymap_core.specs.Maps.{MapValue};
+ghost use Rattle.keymap_core.specs.Numbers.{key_count};
 ghost use Rattle.console_core.specs.declared.event.Event.{Event as EventValue};
 ghost use Rattle.console_core.specs.Columns.{look_with, slot_of, is_upper};
 ghost use Rattle.console_core.specs.Answers.{answer_char, answer_action as answer_action_of, answer_release};
@@ -17,7 +18,7 @@ use crate::event::{Answer, Event};
 use crate::rules::{answer_action, column, compose, flips, next_pending};
 use crate::store::Store;
 use crate::translator::Translator;
-use keymap_core::{Action, Cell, Holding, KeyCode, Keymap, Lock, Modifier, is_borne_in};
+use keymap_core::{Action, Cell, Holding, KEY_COUNT, KeyCode, Keymap, Lock, Modifier, is_borne_in};
 
 fn is_on<S: Store>(store: &S, modifier: Modifier) -> bool
     ensures { result ≡ (S.kept store.now).mark (Holding.Mod modifier) }
@@ -35,7 +36,11 @@ fn slot<S: Store>(store: &S, key: KeyCode) -> u8
     ensures { result ≡ slot_of key (is_upper (λ i. (S.kept store.now).mark (Holding.Mod i)) (S.kept store.now).lock) }
 {
     let upper = is_on(store, Modifier::AltShift) != store.is_locked(Lock::Alt);
-    if upper { key.get() + 128 } else { key.get() }
+    if upper {
+        key.get() + KEY_COUNT as u8
+    } else {
+        key.get()
+    }
 }
 
 fn look<K: Keymap, S: Store>(store: &S, map: &K, key: KeyCode) -> Cell
@@ -56,7 +61,7 @@ fn look<K: Keymap, S: Store>(store: &S, map: &K, key: KeyCode) -> Cell
 
 /// The action that a press takes, and what it leaves remembered.
 fn take_over<S: Store>(store: &mut S, key: KeyCode, action: Action) -> Action
-    ensures in_range { key < 128 }
+    ensures in_range { key < key_count }
     ensures taken { result ≡ taken_over ((S.kept store.old).memory key) action }
     ensures kept { S.kept store.new ≡ with_offered key action (S.kept store.old) }
 {
@@ -119,7 +124,7 @@ fn press_action<K: Keymap, S: Store>(store: &mut S, map: &K, key: KeyCode, actio
     ensures answer { let old = S.kept store.old in (m : MapValue) → K.shows map.now m
         → result ≡ answer_action_of m old.pending (old.mark (Holding.Mod Modifier.Meta))
         (taken_over (old.memory key) action) }
-    ensures in_range { key < 128 }
+    ensures in_range { key < key_count }
     ensures kept { (m : MapValue) → K.shows map.now m
         → S.kept store.new ≡ after_action m key action (S.kept store.old) }
 {
@@ -135,7 +140,7 @@ fn press_action<K: Keymap, S: Store>(store: &mut S, map: &K, key: KeyCode, actio
 #[tactic(auto, using(crate::proofs::Keeping::keeping))]
 fn release<S: Store>(store: &mut S, key: KeyCode) -> Answer
     ensures answer { result ≡ answer_release ((S.kept store.old).memory key) }
-    ensures in_range { key < 128 }
+    ensures in_range { key < key_count }
     ensures kept { S.kept store.new ≡ after_release key (S.kept store.old) }
 {
     match store.remembered(key) {

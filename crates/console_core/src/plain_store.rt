@@ -1,24 +1,25 @@
 //! A store with a truth value for each modifier, lock and down mark, and an optional action for each key.
 ghost use Rattle.std.specs.Prelude.{◌≡◌, ◌<◌, length, IfSome};
 ghost use Rattle.std.proofs.Props.{props};
+ghost use Rattle.keymap_core.specs.Numbers.{key_count, accent_limit};
 ghost use Rattle.console_core.specs.Agrees.{nothing_kept};
 ghost use Rattle.console_core.specs.Inner.Tables.{kept_in_tables};
 
 use crate::store::Store;
-use keymap_core::{Action, Holding, KeyCode, Lock};
+use keymap_core::{Action, Holding, KEY_COUNT, KeyCode, Lock};
 
 /// The marks are those of the modifiers and the down marks of the locks, in the order of the holding actions.
 #[derive(Drop)]
 pub struct PlainStore {
     marks: [bool; 12],
     locks: [bool; 4],
-    actions: [Option<Action>; 128],
+    actions: [Option<Action>; KEY_COUNT],
     pending: Option<u8>,
     is_second: bool,
     ghost marks_len: { length marks ≡ 12 },
     ghost locks_len: { length locks ≡ 4 },
-    ghost actions_len: { length actions ≡ 128 },
-    ghost pending_in_range: { IfSome pending (λ i. i < 15) } by { Prim.hlevel props },
+    ghost actions_len: { length actions ≡ key_count },
+    ghost pending_in_range: { IfSome pending (λ i. i < accent_limit) } by { Prim.hlevel props },
 }
 
 #[tactic(auto, using(crate::proofs::Places::places))]
@@ -30,7 +31,7 @@ impl PlainStore {
         PlainStore {
             marks: [false; 12],
             locks: [false; 4],
-            actions: [None; 128],
+            actions: [None; KEY_COUNT],
             pending: None,
             is_second: false,
         }
@@ -87,7 +88,7 @@ impl Store for PlainStore {
 
     fn reset(&mut self) {
         self.marks = [false; 12];
-        let nothing = [None; 128];
+        let nothing = [None; KEY_COUNT];
         self.actions = nothing;
         self.pending = None;
     }

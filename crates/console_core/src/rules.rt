@@ -3,6 +3,7 @@
 ghost use Rattle.std.specs.Prelude.{◌≡◌, ◌<◌, IfSome, if◌then◌else◌};
 ghost use Rattle.console_core.specs.Columns.{flips as flips_by, column_of};
 ghost use Rattle.keymap_core.specs.Maps.{MapValue};
+ghost use Rattle.keymap_core.specs.Numbers.{accent_limit};
 ghost use Rattle.console_core.specs.Answers.{answer_char, usable};
 ghost use Rattle.console_core.specs.Answers.{answer_dead_key as answer_dead_key_of};
 ghost use Rattle.console_core.specs.Answers.{answer_action as answer_action_of};
@@ -62,7 +63,7 @@ fn is_usable<K: Keymap>(map: &K, index: u8) -> bool
 /// What is pending after a press that takes the action.
 pub fn next_pending<K: Keymap>(map: &K, pending: Option<u8>, taken: &Action) -> Option<u8>
     ensures value { (m : MapValue) → K.shows map.now m → result ≡ next_pending_of m pending taken.now }
-    ensures in_range { IfSome pending (λ i. i < 15) → IfSome result (λ i. i < 15) }
+    ensures in_range { IfSome pending (λ i. i < accent_limit) → IfSome result (λ i. i < accent_limit) }
 {
     match taken {
         Action::Nop | Action::Mod(_) | Action::Lock(_) => pending,
@@ -73,10 +74,10 @@ pub fn next_pending<K: Keymap>(map: &K, pending: Option<u8>, taken: &Action) -> 
 
 /// What is pending after a press that takes the dead key.
 fn toggled<K: Keymap>(map: &K, pending: Option<u8>, index: u8) -> Option<u8>
-    requires { index < 15 }
+    requires { index < accent_limit }
     ensures value { (m : MapValue) → K.shows map.now m
         → result ≡ toggled_of (if usable m index then Some index else None) pending }
-    ensures in_range { IfSome result (λ i. i < 15) }
+    ensures in_range { IfSome result (λ i. i < accent_limit) }
 {
     if is_usable(map, index) && pending != Some(index) {
         Some(index)

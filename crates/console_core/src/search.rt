@@ -1,6 +1,7 @@
 //! The search for sticking modifiers over the states that presses and releases lead to, by the number of presses.
 ghost use Rattle.std.specs.Prelude.{◌≡◌, ◌+◌, ◌<◌, ◌≤◌, ◌⊎◌, ◌++◌, ◌∷◌, ℕ, List, [], None, Some, All, length, reverse, slice_get, OnOk, IfOk, IfSome};
 ghost use Rattle.keymap_core.specs.Maps.{MapValue};
+ghost use Rattle.keymap_core.specs.Numbers.{key_count};
 ghost use Rattle.keymap_core.specs.declared.action.Modifier.{Modifier as ModifierValue};
 ghost use Rattle.console_core.specs.declared.held.Held.{Held as HeldValue};
 ghost use Rattle.console_core.specs.Inner.Searching.{state_of, IsMetBy, AreWithin, Grows, IsStep, IsLetGoMet};
@@ -12,7 +13,7 @@ use crate::event::Event;
 use crate::held::{Held, Move, Step};
 use crate::outcome::Sticking;
 use indexmap::IndexMap;
-use keymap_core::{KeyCode, KeyMap, MODIFIERS};
+use keymap_core::{KEY_COUNT, KeyCode, KeyMap, MODIFIERS};
 use std::alloc::{AllocError, Global};
 
 /// How many states the search goes over.
@@ -82,7 +83,7 @@ fn meet_let_gos(met: &mut Met, place: usize, held: &Held, presses: usize) -> Res
 }
 
 fn key_with(code: u8) -> KeyCode
-    requires { code < 128 }
+    requires { code < key_count }
     ensures { result ≡ code }
 {
     match KeyCode::new(code) {
@@ -100,11 +101,11 @@ fn meet_presses(
     presses: usize,
 ) -> Result<(), AllocError>
     requires { AreWithin met.old.entries presses }
-    ensures met { OnOk result ((k : ℕ) → k < 128
+    ensures met { OnOk result ((k : ℕ) → k < key_count
         → ArePressesMet map.now met.new.entries presses (state_of held.now) k) }
     ensures added { OnOk result (AreAdded map.now (state_of held.now) place 1 presses met.old.entries met.new.entries) }
 {
-    for code in 0..128 {
+    for code in 0..KEY_COUNT as u8 {
         meet(met, place, held.pressed(map, key_with(code)), presses)?;
     }
     Ok(())

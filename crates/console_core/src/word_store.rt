@@ -1,13 +1,14 @@
 //! A store with one word of 32 bits and a byte for each key.
 ghost use Rattle.std.specs.Prelude.{◌≡◌, ◌≢◌, ◌<◌, ◌≤◌, false, None, option_map, length, IfSome};
 ghost use Rattle.keymap_core.specs.Actions.{same_action};
+ghost use Rattle.keymap_core.specs.Numbers.{key_count, accent_limit};
 ghost use Rattle.console_core.specs.Agrees.{nothing_kept};
 ghost use Rattle.console_core.specs.Words.{kept_in_word, mark_bit as mark_bit_of, lock_bit as lock_bit_of};
 ghost use Rattle.console_core.specs.Words.{pending_from, pending_code as pending_code_of, coded};
 
 use crate::store::Store;
 use keymap_core::laws::{every_action_has_its_code, every_code_is_read};
-use keymap_core::{Action, Holding, KeyCode, Lock};
+use keymap_core::{Action, Holding, KEY_COUNT, KeyCode, Lock};
 
 /// The bits that a reset leaves: the locks and the map in force.
 const KEPT: u32 = 0x0010_0f00;
@@ -36,9 +37,9 @@ fn lock_bit(lock: Lock) -> usize
 
 /// The number by which the pending accent is kept.
 fn pending_code(index: Option<u8>) -> u32
-    requires { IfSome index (λ i. i < 15) }
+    requires { IfSome index (λ i. i < accent_limit) }
     ensures code { result ≡ pending_code_of index }
-    ensures in_range { result ≤ 15 }
+    ensures in_range { result ≤ accent_limit }
     ensures back { pending_from result ≡ index }
 {
     match index {
@@ -87,8 +88,8 @@ fn is_code_of(code: u8, expected: Action) -> Option<bool>
 #[derive(Clone, Copy, Drop)]
 pub struct WordStore {
     pub word: u32,
-    pub codes: [u8; 128],
-    ghost keys: { length codes ≡ 128 },
+    pub codes: [u8; KEY_COUNT],
+    ghost keys: { length codes ≡ key_count },
 }
 
 impl WordStore {
@@ -97,7 +98,7 @@ impl WordStore {
     {
         WordStore {
             word: 0,
-            codes: [0; 128],
+            codes: [0; KEY_COUNT],
         }
     }
 
@@ -179,7 +180,7 @@ impl Store for WordStore {
 
     fn reset(&mut self) {
         self.word &= KEPT;
-        self.codes = [0; 128];
+        self.codes = [0; KEY_COUNT];
     }
 
     fn exchange(&mut self) {

@@ -14,6 +14,7 @@ use Rattle.keymap_check.specs.declared.kind.Kind.{Kind}
 use Rattle.keymap_check.specs.declared.kind.Kind.TheVariants as kind
 use Rattle.keymap_check.specs.declared.finding.Place.{Place}
 use Rattle.keymap_core.specs.Borne.{is_upper_live}
+use Rattle.keymap_core.specs.Numbers.{key_count, column_count}
 use Rattle.keymap_check.specs.Below.{first_below}
 
 abbrev pub is_of_group : Group → Modifier → Bool
@@ -58,13 +59,13 @@ fits kind.CharacterOrNop x = is_character_or_nop x
 fits (kind.Of g) x = is_group_cell g x
 
 unfoldable pub place_count : MapValue → ℕ
-place_count m = if is_upper_live m then 16 else 8
+place_count m = if is_upper_live m then 2 * column_count else column_count
 
 abbrev pub slot_at : ℕ → ℕ → ℕ
-slot_at k place = if nat_lt place 8 then k else k + 128
+slot_at k place = if nat_lt place column_count then k else k + key_count
 
 abbrev pub column_at : ℕ → ℕ
-column_at place = if nat_lt place 8 then place else place - 8
+column_at place = if nat_lt place column_count then place else place - column_count
 
 abbrev pub cell_of : MapValue → ℕ → ℕ → Cell
 cell_of m k place = cell_at m (slot_at k place) (column_at place)

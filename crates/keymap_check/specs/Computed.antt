@@ -8,6 +8,7 @@ use Rattle.keymap_core.specs.declared.entry.Cell.{Cell}
 use Rattle.keymap_core.specs.declared.entry.Cell.TheVariants.{Char, Act}
 use Rattle.keymap_core.specs.Actions.{holding_of}
 use Rattle.keymap_core.specs.Maps.{MapValue}
+use Rattle.keymap_core.specs.Numbers.{key_count}
 use Rattle.keymap_check.specs.declared.kind.Kind.TheVariants as kind
 use Rattle.keymap_check.specs.declared.bearer.Bearer.{Bearer}
 use Rattle.keymap_check.specs.declared.bearer.Bearer.TheVariants.{Nobody, Throughout, Sole, Several}
@@ -45,7 +46,7 @@ bearer_below m a (suc k) =
     if bears m k a then next_bearer (bearer_below m a k) (bearer_with m a k) else bearer_below m a k
 
 abbrev pub bearer_of : MapValue → Holding → Bearer
-bearer_of m a = bearer_below m a 128
+bearer_of m a = bearer_below m a key_count
 
 -- all cells of the key are actions other than nop
 abbrev pub steady_by : MapValue → ℕ → Bool
@@ -79,4 +80,4 @@ abbrev pub findings_at : MapValue → ℕ → List Finding
 findings_at m k = finding_by m k (first_place m kind.AnyHolding k) (first_place m kind.Character k)
 
 abbrev pub findings_of : MapValue → List Finding
-findings_of m = gathered (findings_at m) 128
+findings_of m = gathered (findings_at m) key_count

@@ -6,12 +6,13 @@ use Rattle.keymap_core.specs.declared.entry.Cell.TheVariants.{Char, Act}
 use Rattle.keymap_core.specs.Actions.{holding_action}
 use Rattle.keymap_core.specs.Maps.{MapValue, cell_at}
 use Rattle.keymap_core.specs.Bearers.{IsUpperLive, IsCellOf, Bears}
+use Rattle.keymap_core.specs.Numbers.{key_count, column_count}
 use Rattle.keymap_check.specs.declared.finding.Finding.{Finding}
 use Rattle.keymap_check.specs.declared.finding.Place.{Place}
 
 -- the place is that of one of the key's cells
 abbrev pub IsPlaceOf : MapValue → ℕ → Place → Type 0
-IsPlaceOf m k p = (p.column < 8) × ((p.slot ≡ k) ⊎ (IsUpperLive m × (p.slot ≡ k + 128)))
+IsPlaceOf m k p = (p.column < column_count) × ((p.slot ≡ k) ⊎ (IsUpperLive m × (p.slot ≡ k + key_count)))
 
 -- the lower slot comes first, then the lesser column
 abbrev pub NotAfter : Place → Place → Type 0
@@ -31,7 +32,7 @@ IsCharacterCell x = (c : ℕ) × (x ≡ Char c)
 
 -- a finding names a key, its first holding action and its first character
 pub record IsFinding (m : MapValue) (f : Finding) : Type 0 where
-  pub key : f.key < 128
+  pub key : f.key < key_count
   pub holding : cell_at m f.holding_at.slot f.holding_at.column ≡ Act (holding_action f.holding)
   pub first_holding : IsFirstOf m f.key IsHoldingCell f.holding_at
   pub first_character : IsFirstOf m f.key IsCharacterCell f.character_at
@@ -44,4 +45,4 @@ IsUnsafeKey m k = (a : Holding) × Bears m k a × ((c : ℕ) × IsCellOf m k (Ch
 pub record AreFindings (m : MapValue) (fs : List Finding) : Type 0 where
   pub each : All (IsFinding m) fs
   pub in_order : AllPairs (λ f g. f.key < g.key) fs
-  pub complete : (k : ℕ) → k < 128 → IsUnsafeKey m k → Any (λ f. f.key ≡ k) fs
+  pub complete : (k : ℕ) → k < key_count → IsUnsafeKey m k → Any (λ f. f.key ≡ k) fs

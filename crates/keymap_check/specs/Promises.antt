@@ -4,6 +4,7 @@ use Rattle.std.specs.Prelude.{◌≡◌, ℕ, ◌<◌, ◌⊎◌, List, ◌∷�
 use Rattle.keymap_core.specs.declared.action.Modifier.{Modifier}
 use Rattle.keymap_core.specs.declared.action.Lock.{Lock}
 use Rattle.keymap_core.specs.Maps.{MapValue}
+use Rattle.keymap_core.specs.Numbers.{key_count}
 use Rattle.console_core.specs.declared.event.Event.{Event}
 use Rattle.console_core.specs.declared.event.Event.TheVariants.{Press, Reset}
 use Rattle.console_core.specs.History.{Maps, in_force, HasKeys, HasNoLoads, IsQuiet, On, Locked, Pending, pressed}
@@ -27,7 +28,7 @@ IsOnExactlyWhilePressed m i k = AfterEveryList m (λ ms h. On ms i h ≡ pressed
 -- no repeat turns the lock, which stays as it was
 abbrev pub NoRepeatTurns : MapValue → Lock → Type 0
 NoRepeatTurns m l =
-    AfterEveryList m (λ ms h. (k : ℕ) → k < 128 → pressed k h ≡ true
+    AfterEveryList m (λ ms h. (k : ℕ) → k < key_count → pressed k h ≡ true
     → (Turns ms l (Press k) h ≡ false) × (Locked ms l (Press k ∷ h) ≡ Locked ms l h))
 
 -- once no key is pressed, no modifier is on

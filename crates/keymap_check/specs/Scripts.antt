@@ -2,6 +2,7 @@
 use Rattle.std.specs.Prelude.{ℕ, ◌/◌, ◌%◌, ◌^◌, ◌==◌, Bool, true, false, ◌&&◌, ◌||◌, not, List, [], ◌∷◌, ◌++◌, Option, None, Some, if◌then◌else◌, reverse, slice_index_or, find}
 use Rattle.keymap_core.specs.declared.action.Modifier.TheVariants.{LeftShift, RightShift, LeftControl, RightControl, LeftAlt, RightAlt, AltShift, Meta}
 use Rattle.keymap_core.specs.Maps.{MapValue}
+use Rattle.keymap_core.specs.Numbers.{key_count}
 use Rattle.console_core.specs.declared.event.Event.{Event}
 use Rattle.console_core.specs.declared.event.Event.TheVariants.{Press, Release}
 use Rattle.console_core.specs.History.{Maps, between, On}
@@ -27,7 +28,7 @@ is_bit_key m k bit j = not (j == k) && is_there (first_place m (kind.Of (group_a
 
 -- the key of a bit: the least one, other than the tried key k, that bears an action of its group
 unfoldable pub bit_key : MapValue → ℕ → ℕ → Option ℕ
-bit_key m k bit = first_below (is_bit_key m k bit) 128
+bit_key m k bit = first_below (is_bit_key m k bit) key_count
 
 abbrev pub bit_keys : MapValue → ℕ → List (Option ℕ)
 bit_keys m k = bit_key m k 0 ∷ bit_key m k 1 ∷ bit_key m k 2 ∷ bit_key m k 3 ∷ []
@@ -89,7 +90,7 @@ tried_at m k = if has_some (findings_at m k) then scripts_for (bit_keys m k) k e
 
 -- the scripts in the order in which they are tried: by key with a finding, then by set A, then by set B
 abbrev pub tried : MapValue → List (List Event)
-tried m = gathered (tried_at m) 128
+tried m = gathered (tried_at m) key_count
 
 -- some modifier is on after the events, newest first
 abbrev pub is_some_on : Maps → List Event → Bool

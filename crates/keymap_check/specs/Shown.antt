@@ -8,6 +8,7 @@ use Rattle.keymap_core.specs.declared.entry.Cell.{Cell}
 use Rattle.keymap_core.specs.declared.entry.Cell.TheVariants.{Char, Act}
 use Rattle.keymap_core.specs.Maps.{MapValue, cell_at}
 use Rattle.keymap_core.specs.Bearers.{IsCellOf, IsUpperLive}
+use Rattle.keymap_core.specs.Numbers.{key_count}
 use Rattle.console_core.specs.Traps.{Bits, cell_with}
 use Rattle.keymap_check.specs.declared.kind.Group.{Group}
 use Rattle.keymap_check.specs.declared.kind.Group.TheVariants as group
@@ -62,5 +63,5 @@ HasFurtherKey m k i (Some g) = (group_of i ≢ Some g) × ((j : ℕ) × (bit_key
 -- column 0 of the key's slot is the modifier, and a character cell has the bit of its group and at most one bit more
 abbrev pub HasShownTrap : MapValue → Modifier → ℕ → Type 0
 HasShownTrap m i k =
-    (k < 128) × (cell_at m k 0 ≡ Act (act.Mod i))
+    (k < key_count) × (cell_at m k 0 ≡ Act (act.Mod i))
     × ((further : Option Group) × HasCharacterWith m k (bits_with i further) × HasFurtherKey m k i further)

@@ -4,6 +4,7 @@ use Rattle.keymap_core.specs.declared.action.Modifier.{Modifier}
 use Rattle.keymap_core.specs.declared.action.Holding.TheVariants as holding
 use Rattle.keymap_core.specs.Maps.{MapValue}
 use Rattle.keymap_core.specs.Bearers.{Bears}
+use Rattle.keymap_core.specs.Numbers.{key_count}
 use Rattle.keymap_check.specs.declared.kind.Group.{Group}
 use Rattle.keymap_check.specs.Computed.{findings_at}
 use Rattle.keymap_check.specs.Findings.{IsUnsafeKey}
@@ -16,8 +17,9 @@ BearsGroup m j g = (i : Modifier) × (group_of i ≡ Some g) × Bears m j (holdi
 
 -- the least key other than k that bears a modifier of the group, if there is one
 abbrev pub IsBitKey : MapValue → ℕ → Group → Option ℕ → Type 0
-IsBitKey m k g None = (j : ℕ) → j < 128 → j ≢ k → BearsGroup m j g → ⊥
-IsBitKey m k g (Some j) = (j < 128) × (j ≢ k) × BearsGroup m j g × ((i : ℕ) → i < j → i ≢ k → BearsGroup m i g → ⊥)
+IsBitKey m k g None = (j : ℕ) → j < key_count → j ≢ k → BearsGroup m j g → ⊥
+IsBitKey m k g (Some j) =
+    (j < key_count) × (j ≢ k) × BearsGroup m j g × ((i : ℕ) → i < j → i ≢ k → BearsGroup m i g → ⊥)
 
 abbrev pub BitKeysAreLeast : Type 0
 BitKeysAreLeast = (m : MapValue) (k : ℕ) (g : Group) → IsBitKey m k g (bit_key m k (bit_of g))

@@ -1,10 +1,11 @@
 //! Which key bears a modifier or a lock.
 ghost use Rattle.std.specs.Prelude.{◌≡◌, ◌<◌};
 ghost use Rattle.keymap_check.specs.Computed.{bearer_with, next_bearer, bearer_of as bearer_in, is_steady_by, steady_by};
+ghost use Rattle.keymap_core.specs.Numbers.{key_count};
 
 use crate::kind::Kind;
 use crate::survey::Survey;
-use keymap_core::{Holding, KeyCode, Lock};
+use keymap_core::{Holding, KEY_COUNT, KeyCode, Lock};
 
 /// Which key bears a holding action.
 #[derive(Clone, Copy, Debug, PartialEq, Eq)]
@@ -21,7 +22,7 @@ pub enum Bearer {
 
 /// The key with this code.
 pub(crate) fn key_with(code: u8) -> KeyCode
-    requires { code < 128 }
+    requires { code < key_count }
     ensures { result ≡ code }
 {
     match KeyCode::new(code) {
@@ -32,7 +33,7 @@ pub(crate) fn key_with(code: u8) -> KeyCode
 
 /// The key that bears the action, if no other key does.
 fn bearer_if_alone(survey: &Survey, key: u8, holding: Holding) -> Bearer
-    requires { key < 128 }
+    requires { key < key_count }
     ensures { result ≡ bearer_with survey.now holding key }
 {
     if survey.has(key, Kind::OtherThan(holding)) {
@@ -57,7 +58,7 @@ pub(crate) fn bearer_of(survey: &Survey, holding: Holding) -> Bearer
     ensures { result ≡ bearer_in survey.now holding }
 {
     let mut bearer = Bearer::Nobody;
-    for key in 0..128 {
+    for key in 0..KEY_COUNT as u8 {
         if survey.has(key, Kind::Holding(holding)) {
             bearer = with_one_more(bearer, bearer_if_alone(survey, key, holding));
         }
@@ -67,7 +68,7 @@ pub(crate) fn bearer_of(survey: &Survey, holding: Holding) -> Bearer
 
 /// Whether all cells of the key are actions other than `nop`.
 fn is_acting(survey: &Survey, key: u8) -> bool
-    requires { key < 128 }
+    requires { key < key_count }
     ensures { result ≡ steady_by survey.now key }
 {
     !survey.has(key, Kind::CharacterOrNop)

@@ -2,6 +2,7 @@
 ghost use Rattle.std.specs.Prelude.{◌≡◌, ℕ, ◌<◌, ◌++◌, List, IfSome, IsNone, IsSome, reverse, find, option_map};
 ghost use Rattle.keymap_core.specs.declared.action.Modifier.{Modifier as ModifierValue};
 ghost use Rattle.keymap_core.specs.Maps.{MapValue};
+ghost use Rattle.keymap_core.specs.Numbers.{key_count};
 ghost use Rattle.console_core.specs.declared.event.Event.{Event as EventValue};
 ghost use Rattle.console_core.specs.History.{Maps, between, IsQuiet};
 ghost use Rattle.console_core.specs.Traps.{HasNoLocks, HasNoTrap};
@@ -14,7 +15,7 @@ use crate::finding::is_found;
 use crate::script::{BitKeys, Script, bit_keys, event_at, lacks_key, make_script};
 use crate::survey::Survey;
 use console_core::{Event, Translator, WordConsole};
-use keymap_core::{KeyCode, KeyMap, Modifier};
+use keymap_core::{KEY_COUNT, KeyCode, KeyMap, Modifier};
 
 /// Delivers presses or releases of the keys of the bits that are in the set and not in the other one.
 fn deliver<T: Translator>(console: &mut T, keys: &BitKeys, set: u8, except: u8, is_press: bool)
@@ -130,7 +131,7 @@ fn try_key(map: &KeyMap, keys: &BitKeys, key: KeyCode) -> Option<Script>
 
 /// The first script of the key that leaves a modifier on, where the key has a finding.
 fn try_if_found(survey: &Survey, key: u8) -> Option<Script>
-    requires { key < 128 }
+    requires { key < key_count }
     ensures { option_map (λ s. s.items) result ≡ find (leaves_modifier_on_in survey.now) (tried_at survey.now key) }
 {
     if is_found(survey, key) {
@@ -144,7 +145,7 @@ fn try_if_found(survey: &Survey, key: u8) -> Option<Script>
 fn first_script(survey: &Survey) -> Option<Script>
     ensures { option_map (λ s. s.items) result ≡ demonstration_of survey.now }
 {
-    for key in 0..128 {
+    for key in 0..KEY_COUNT as u8 {
         match try_if_found(survey, key) {
             Some(script) => return Some(script),
             None => {}

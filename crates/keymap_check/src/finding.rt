@@ -4,13 +4,14 @@ ghost use Rattle.keymap_check.specs.Cells.{place_at as place_of};
 ghost use Rattle.keymap_check.specs.Computed.{findings_at, findings_of};
 ghost use Rattle.keymap_check.specs.Scripts.{has_some};
 ghost use Rattle.arrayvec.specs.ArrayVec.{array_vec_len};
+ghost use Rattle.keymap_core.specs.Numbers.{key_count};
 
 use crate::bearer::key_with;
 use crate::cells::{column, slot};
 use crate::kind::Kind;
 use crate::survey::Survey;
 use arrayvec::ArrayVec;
-use keymap_core::{Cell, Holding, KeyCode, Modifier};
+use keymap_core::{Cell, Holding, KEY_COUNT, KeyCode, Modifier};
 use std::default::MadeWith;
 
 /// Where a cell stands: its slot, 0 to 255, and its column, 0 to 7.
@@ -47,7 +48,7 @@ impl MadeWith<()> for Finding {
 }
 
 fn place_at(key: u8, place: u8) -> Place
-    requires is_key { key < 128 }
+    requires is_key { key < key_count }
     requires is_place { place < 16 }
     ensures { result ≡ place_of key place }
 {
@@ -59,7 +60,7 @@ fn place_at(key: u8, place: u8) -> Place
 
 /// Whether the key has a finding.
 pub(crate) fn is_found(survey: &Survey, key: u8) -> bool
-    requires { key < 128 }
+    requires { key < key_count }
     ensures { result ≡ has_some (findings_at survey.now key) }
 {
     survey.has(key, Kind::AnyHolding) && survey.has(key, Kind::Character)
@@ -67,7 +68,7 @@ pub(crate) fn is_found(survey: &Survey, key: u8) -> bool
 
 /// The finding of the key, if it has one.
 fn find_at(survey: &Survey, key: u8) -> Option<Finding>
-    requires { key < 128 }
+    requires { key < key_count }
     ensures { MatchOption result (findings_at survey.now key ≡ []) (λ f. findings_at survey.now key ≡ f ∷ []) }
 {
     if !is_found(survey, key) {
@@ -89,11 +90,11 @@ fn find_at(survey: &Survey, key: u8) -> Option<Finding>
 }
 
 /// The findings in the order of their keys.
-pub(crate) fn findings(survey: &Survey) -> ArrayVec<Finding, 128>
+pub(crate) fn findings(survey: &Survey) -> ArrayVec<Finding, KEY_COUNT>
     ensures { result.items ≡ findings_of survey.now }
 {
     let mut findings = ArrayVec::new_in(());
-    for key in 0..128 {
+    for key in 0..KEY_COUNT as u8 {
         match find_at(survey, key) {
             Some(finding) => findings.push(finding),
             None => {}

@@ -17,13 +17,13 @@ use console_core::laws::{
     locks_count_fresh_presses, looks_plainly, modifiers_follow_keys, quiet_is_a_reset,
     repeats_turn_no_steady_lock,
 };
-use keymap_core::{Holding, KeyMap, Lock, Modifier};
+use keymap_core::{Holding, KEY_COUNT, KeyMap, Lock, Modifier};
 use std::marker::Model;
 
 /// What the check says of a keymap.
 #[derive(Drop)]
 pub struct Report {
-    findings: ArrayVec<Finding, 128>,
+    findings: ArrayVec<Finding, KEY_COUNT>,
     bearers: [Bearer; 12],
     steady: [bool; 4],
 }
@@ -52,7 +52,7 @@ impl Report {
     }
 
     /// The keys that make the keymap refused, in their order.
-    pub fn findings(&self) -> &ArrayVec<Finding, 128>
+    pub fn findings(&self) -> &ArrayVec<Finding, KEY_COUNT>
         ensures { result.now.items ≡ self.now.findings }
     {
         &self.findings

@@ -2,13 +2,14 @@
 ghost use Rattle.std.specs.Prelude.{◌≡◌, ◌<◌, ◌≤◌, ◌+◌, ◌++◌, MatchOption, length, true, false, [], ◌∷◌};
 ghost use Rattle.arrayvec.specs.ArrayVec.{array_vec_len};
 ghost use Rattle.keymap_check.specs.Scripts.{group_at as group_in, has_bit as has_bit_in, is_bit_key as is_bit_key_of, bit_key as bit_key_of, bit_keys as bit_keys_of, event_of as event_by, event_at as event_in, is_lacking as is_lacking_of, is_chosen as is_chosen_of, events_of, script as script_of, lacks_key as lacks_key_of};
+ghost use Rattle.keymap_core.specs.Numbers.{key_count};
 
 use crate::bearer::key_with;
 use crate::kind::{Group, Kind};
 use crate::survey::Survey;
 use arrayvec::ArrayVec;
 use console_core::Event;
-use keymap_core::KeyCode;
+use keymap_core::{KEY_COUNT, KeyCode};
 
 /// The events that a demonstration delivers, in their order.
 pub type Script = ArrayVec<Event, 11>;
@@ -44,7 +45,7 @@ fn is_chosen(set: u8, except: u8, bit: u8) -> bool
 }
 
 fn is_bit_key(survey: &Survey, tried: u8, bit: u8, key: u8) -> bool
-    requires { key < 128 }
+    requires { key < key_count }
     ensures { result ≡ is_bit_key_of survey.now tried bit key }
 {
     key != tried && survey.has(key, Kind::Of(group_at(bit)))
@@ -54,7 +55,7 @@ fn is_bit_key(survey: &Survey, tried: u8, bit: u8, key: u8) -> bool
 fn bit_key(survey: &Survey, tried: u8, bit: u8) -> Option<KeyCode>
     ensures { result ≡ bit_key_of survey.now tried bit }
 {
-    for key in 0..128 {
+    for key in 0..KEY_COUNT as u8 {
         if is_bit_key(survey, tried, bit, key) {
             return Some(key_with(key));
         }

@@ -3,10 +3,11 @@ ghost use Rattle.std.specs.Prelude.{◌≡◌, ◌^◌, ◌<◌, ◌≤◌, IfSo
 ghost use Rattle.keymap_check.specs.Cells.{place_count as place_count_of, cell_of as cell_of_key, first_place as first_place_of};
 ghost use Rattle.keymap_check.specs.Inner.CellBits.{cell_bit, bits_of};
 ghost use Rattle.keymap_check.specs.Computed.{is_there};
+ghost use Rattle.keymap_core.specs.Numbers.{key_count};
 
 use crate::cells::{cell_of, first_place, place_count};
 use crate::kind::Kind;
-use keymap_core::{Action, Cell, KeyMap};
+use keymap_core::{Action, Cell, KEY_COUNT, KeyMap};
 use std::marker::Model;
 
 /// A keymap with a number for each key, whose bits tell which sorts of cells the key has.
@@ -14,7 +15,7 @@ use std::marker::Model;
 pub(crate) struct Survey<'m> {
     map: &'m KeyMap,
     places: u8,
-    bits: [u16; 128],
+    bits: [u16; KEY_COUNT],
 }
 
 impl<'m> Model for Survey<'m> {
@@ -48,7 +49,7 @@ fn bit_of(cell: Cell) -> usize
 fn key_bits(map: &KeyMap, places: u8, key: u8) -> u16
     requires is_count { places ≡ place_count_of map.now }
     requires is_bounded { places ≤ 16 }
-    requires is_key { key < 128 }
+    requires is_key { key < key_count }
     ensures { result ≡ bits_of map.now key }
 {
     let mut bits = 0;
@@ -64,8 +65,8 @@ impl<'m> Survey<'m> {
         ensures { result ≡ map.now }
     {
         let places = place_count(map);
-        let mut bits = [0; 128];
-        for key in 0..128u8 {
+        let mut bits = [0; KEY_COUNT];
+        for key in 0..KEY_COUNT as u8 {
             bits[key as usize] = key_bits(map, places, key);
         }
         Survey { map, places, bits }
@@ -80,7 +81,7 @@ impl<'m> Survey<'m> {
 
     /// Whether the key has a cell of the kind.
     pub(crate) fn has(&self, key: u8, kind: Kind) -> bool
-        requires { key < 128 }
+        requires { key < key_count }
         ensures { result ≡ is_there (first_place_of self.now kind key) }
     {
         self.bits[key as usize] & kind.mask() != 0
@@ -88,7 +89,7 @@ impl<'m> Survey<'m> {
 
     /// The first place of the key that has a cell of the kind.
     pub(crate) fn first_place(&self, key: u8, kind: Kind) -> Option<u8>
-        requires { key < 128 }
+        requires { key < key_count }
         ensures value { result ≡ first_place_of self.now kind key }
         ensures in_range { IfSome result (λ place. place < 16) }
     {
@@ -97,7 +98,7 @@ impl<'m> Survey<'m> {
 
     /// The key's cell at the place.
     pub(crate) fn cell(&self, key: u8, place: u8) -> Cell
-        requires is_key { key < 128 }
+        requires is_key { key < key_count }
         requires is_place { place < 16 }
         ensures { result ≡ cell_of_key self.now key place }
     {

@@ -1,6 +1,7 @@
 -- The actions of a keymap: each with its code in a table and its name.
 use Rattle.std.specs.Prelude.{◌≡◌, ℕ, ◌+◌, ◌-◌, ◌/◌, ◌%◌, ◌<◌, ◌≤◌, ◌==◌, nat_le, List, [], ◌∷◌, ◌++◌, codes, map, Option, Some, None, slice_index_or, if◌then◌else◌, ◌&&◌, ◌⊎◌, Bool}
 use Rattle.std.specs.List.{find}
+use Rattle.keymap_core.specs.Numbers.{accent_limit}
 use Rattle.keymap_core.specs.declared.action.Action.{Action}
 use Rattle.keymap_core.specs.declared.action.Action.TheVariants as a
 use Rattle.keymap_core.specs.declared.action.Modifier.{Modifier}
@@ -74,7 +75,7 @@ letters_of a = name_of a
 abbrev pub IsAction : Action → Type 0
 IsAction (a.Screen n) = (0 < n) × (n ≤ 16)
 IsAction (a.Function n) = (0 < n) × (n ≤ 96)
-IsAction (a.DeadKey i) = i < 15
+IsAction (a.DeadKey i) = i < accent_limit
 IsAction _ = Unit {0}
 
 -- the actions without a number

@@ -9,19 +9,21 @@ use Rattle.keymap_core.specs.declared.entry.Cell.{Cell}
 use Rattle.keymap_core.specs.declared.entry.Cell.TheVariants.{Act}
 use Rattle.keymap_core.specs.Actions.{holding_action}
 use Rattle.keymap_core.specs.Maps.{MapValue, cell_at}
+use Rattle.keymap_core.specs.Numbers.{key_count, column_count}
 
 -- the cell stands in the slot
 abbrev pub StandsIn : MapValue → ℕ → Cell → Type 0
-StandsIn m slot x = (column : ℕ) × (column < 8) × (cell_at m slot column ≡ x)
+StandsIn m slot x = (column : ℕ) × (column < column_count) × (cell_at m slot column ≡ x)
 
 -- the slots 128 to 255 are live: some cell of the slots 0 to 127 is ashift or alock
 abbrev pub IsUpperLive : MapValue → Type 0
 IsUpperLive m =
-    (slot : ℕ) × (slot < 128) × (StandsIn m slot (Act (act.Mod modifier.AltShift)) ⊎ StandsIn m slot (Act (act.Lock lock.Alt)))
+    (slot : ℕ) × (slot < key_count)
+    × (StandsIn m slot (Act (act.Mod modifier.AltShift)) ⊎ StandsIn m slot (Act (act.Lock lock.Alt)))
 
 -- the cell is one of the key's
 abbrev pub IsCellOf : MapValue → ℕ → Cell → Type 0
-IsCellOf m k x = StandsIn m k x ⊎ (IsUpperLive m × StandsIn m (k + 128) x)
+IsCellOf m k x = StandsIn m k x ⊎ (IsUpperLive m × StandsIn m (k + key_count) x)
 
 -- one of the key's cells is the holding action
 abbrev pub Bears : MapValue → ℕ → Holding → Type 0
@@ -29,21 +31,21 @@ Bears m k a = IsCellOf m k (Act (holding_action a))
 
 -- no other key bears it
 abbrev pub IsAlone : MapValue → ℕ → Holding → Type 0
-IsAlone m k a = (j : ℕ) → j < 128 → Bears m j a → j ≡ k
+IsAlone m k a = (j : ℕ) → j < key_count → Bears m j a → j ≡ k
 
 -- the key alone bears it, in all its cells
 abbrev pub BearsThroughout : MapValue → ℕ → Holding → Type 0
-BearsThroughout m k a = (k < 128) × IsAlone m k a × ((x : Cell) → IsCellOf m k x → x ≡ Act (holding_action a))
+BearsThroughout m k a = (k < key_count) × IsAlone m k a × ((x : Cell) → IsCellOf m k x → x ≡ Act (holding_action a))
 
 -- one key alone bears it, and has another cell too
 abbrev pub BearsNotThroughout : MapValue → ℕ → Holding → Type 0
 BearsNotThroughout m k a =
-    (k < 128) × Bears m k a × IsAlone m k a × ((x : Cell) × IsCellOf m k x × (x ≢ Act (holding_action a)))
+    (k < key_count) × Bears m k a × IsAlone m k a × ((x : Cell) × IsCellOf m k x × (x ≢ Act (holding_action a)))
 
 -- no key bears it
 abbrev pub NobodyBears : MapValue → Holding → Type 0
-NobodyBears m a = (k : ℕ) → k < 128 → ¬ (Bears m k a)
+NobodyBears m a = (k : ℕ) → k < key_count → ¬ (Bears m k a)
 
 -- two keys or more bear it
 abbrev pub SeveralBear : MapValue → Holding → Type 0
-SeveralBear m a = (j : ℕ) × (k : ℕ) × (j < 128) × (k < 128) × (j ≢ k) × Bears m j a × Bears m k a
+SeveralBear m a = (j : ℕ) × (k : ℕ) × (j < key_count) × (k < key_count) × (j ≢ k) × Bears m j a × Bears m k a

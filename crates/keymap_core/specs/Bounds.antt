@@ -4,6 +4,7 @@ use Rattle.std.specs.Char.{IsScalar}
 use Rattle.keymap_core.specs.Accents.{AccentValue}
 use Rattle.keymap_core.specs.Actions.{IsAction}
 use Rattle.keymap_core.specs.Maps.{MapValue}
+use Rattle.keymap_core.specs.Numbers.{slot_limit, column_count, accent_limit, pair_limit}
 use Rattle.keymap_core.specs.declared.entry.Cell.{Cell}
 use Rattle.keymap_core.specs.declared.entry.Cell.TheVariants.{Char, Act}
 use Rattle.keymap_core.specs.declared.entry.Entry.{Entry}
@@ -14,7 +15,7 @@ IsCell (Char c) = IsScalar c
 IsCell (Act a) = IsAction a
 
 pub record IsEntry (entry : Entry) : Type 0 where
-  pub eight : length entry.cells ≡ 8
+  pub eight : length entry.cells ≡ column_count
   pub cells : All IsCell entry.cells
 
 -- characters, the base not 0
@@ -23,11 +24,11 @@ IsPair pair = IsScalar pair.0 × (pair.0 ≢ 0) × IsScalar pair.1
 
 pub record IsAccent (accent : AccentValue) : Type 0 where
   pub own : IsScalar accent.own
-  pub few : length accent.pairs ≤ 52
+  pub few : length accent.pairs ≤ pair_limit
   pub pairs : All IsPair accent.pairs
 
 pub record IsMap (m : MapValue) : Type 0 where
-  pub few_entries : length m.entries ≤ 256
+  pub few_entries : length m.entries ≤ slot_limit
   pub entries : All IsEntry m.entries
-  pub few_accents : length m.accents ≤ 15
+  pub few_accents : length m.accents ≤ accent_limit
   pub accents : All IsAccent m.accents

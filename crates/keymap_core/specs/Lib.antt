@@ -7,5 +7,6 @@ pub mod Devices
 pub mod Inner
 pub mod Maps
 pub mod Names
+pub mod Numbers
 pub mod Streams
 pub mod Transfers

@@ -2,6 +2,7 @@
 -- is undefined, and past the last defined accent each is blank.
 use Rattle.std.specs.Prelude.{ℕ, ◌+◌, ◌-◌, List, ◌++◌, length, replicate, slice_get, slice_set, slice_index_or, Option}
 use Rattle.keymap_core.specs.Accents.{AccentValue, blank}
+use Rattle.keymap_core.specs.Numbers.{column_count}
 use Rattle.keymap_core.specs.declared.entry.Entry.{Entry}
 use Rattle.keymap_core.specs.declared.entry.Cell.{Cell}
 use Rattle.keymap_core.specs.declared.entry.Cell.TheVariants as cell
@@ -14,7 +15,7 @@ pub record MapValue : Type 0 where
 
 -- eight characters 0 and flag O
 abbrev pub undefined : Entry
-undefined = record { cells = replicate 8 (cell.Char 0); flag = flag.O }
+undefined = record { cells = replicate column_count (cell.Char 0); flag = flag.O }
 
 abbrev pub n_keys_of : MapValue → ℕ
 n_keys_of m = length m.entries

@@ -2,7 +2,9 @@
 ghost use Rattle.std.specs.Prelude.{◌≡◌, ◌≢◌, ◌≤◌, ◌↔◌, ◌++◌, [], ◌∷◌, length, OnOk, OnErr, IsErrOf};
 ghost use Rattle.std.specs.Char.{IsScalar};
 ghost use Rattle.keymap_core.specs.Accents.{AreScalars};
+ghost use Rattle.keymap_core.specs.Numbers.{pair_limit};
 
+use crate::limits::PAIR_LIMIT;
 use arrayvec::ArrayVec;
 use std::marker::Model;
 
@@ -15,14 +17,11 @@ pub enum PairFault {
     TooManyPairs,
 }
 
-/// How many pairs an accent has room for: `NUM_ACCENTCHARS` of sys/kbio.h.
-pub const PAIRS: usize = 52;
-
 /// An accent: its own character, and 0 to 52 pairs of a base and the result. No base is character 0.
 #[derive(Debug, Drop, PartialEq, Eq)]
 pub struct Accent {
     own: char,
-    pairs: ArrayVec<(char, char), PAIRS>,
+    pairs: ArrayVec<(char, char), PAIR_LIMIT>,
 }
 
 impl Model for Accent {
@@ -63,7 +62,7 @@ impl Accent {
     /// The pairs of a base and the result, in the order in which they were pushed.
     pub fn pairs(&self) -> &[(char, char)]
         ensures value { result.now ≡ self.now.pairs }
-        ensures few { length result.now ≤ 52 }
+        ensures few { length result.now ≤ pair_limit }
         ensures bases { AllBasesNotZero result.now }
     {
         self.pairs.as_slice()
@@ -73,7 +72,7 @@ impl Accent {
     pub fn push_pair(&mut self, base: char, composed: char) -> Result<(), PairFault>
         ensures ok { OnOk result (self.new ≡ record self.old { pairs = self.old.pairs ++ (base, composed) ∷ [] }) }
         ensures zero { IsErrOf result PairFault.ZeroBase ↔ (base ≡ 0) }
-        ensures full { IsErrOf result PairFault.TooManyPairs ↔ ((base ≢ 0) × (length self.old.pairs ≡ 52)) }
+        ensures full { IsErrOf result PairFault.TooManyPairs ↔ ((base ≢ 0) × (length self.old.pairs ≡ pair_limit)) }
         ensures err { OnErr result (self.new ≡ self.old) }
     {
         if base == '\0' {

@@ -1,7 +1,9 @@
 //! Actions and their codes: `u_char` values with a bit of `spcl` set in sys/kbio.h. The table of codes and names stands
 //! in specs/Actions.
 ghost use Rattle.std.specs.Prelude.{◌≡◌, ◌<◌, ◌≤◌, ◌==◌, find};
+ghost use Rattle.keymap_core.specs.Numbers.{accent_limit};
 
+use crate::limits::ACCENT_LIMIT;
 use arrayvec::ArrayVec;
 use std::marker::Model;
 
@@ -217,12 +219,13 @@ pub struct AccentIndex {
 
 impl Model for AccentIndex {
     ghost use Rattle.std.specs.Prelude.{ℕ, ◌<◌};
+    ghost use Rattle.keymap_core.specs.Numbers.{accent_limit};
 
     ghost Value = { ℕ };
 
     ghost view = { λ accent. accent.index };
 
-    ghost invariant = { λ accent. accent.index < 15 };
+    ghost invariant = { λ accent. accent.index < accent_limit };
 
     ghost inverse = { λ n. record { index = n } };
 }
@@ -230,7 +233,7 @@ impl Model for AccentIndex {
 impl AccentIndex {
     /// The accent with this index.
     pub fn new(index: u8) -> Self
-        requires { index < 15 }
+        requires { index < accent_limit }
         ensures { result ≡ index }
     {
         AccentIndex { index }
@@ -239,7 +242,7 @@ impl AccentIndex {
     /// The index.
     pub fn get(self) -> u8
         ensures value { result ≡ self }
-        ensures high { result < 15 }
+        ensures high { result < accent_limit }
     {
         self.index
     }
@@ -373,6 +376,6 @@ pub(crate) static PLAIN_CODES: [u8; 25] = [
 ];
 
 /// The codes of the dead keys, in the order of their accents.
-pub(crate) static DEAD_KEY_CODES: [u8; 15] = [
+pub(crate) static DEAD_KEY_CODES: [u8; ACCENT_LIMIT] = [
     0x89, 0x8a, 0x8b, 0x8c, 0x8d, 0x8e, 0x8f, 0x90, 0x91, 0x92, 0x93, 0x94, 0x95, 0x96, 0x97,
 ];

@@ -1,12 +1,14 @@
 //! Which slots of a keymap are live, and which holding actions its keys bear.
 ghost use Rattle.std.specs.Prelude.{◌≡◌, ◌<◌, ◌≤◌};
 ghost use Rattle.keymap_core.specs.Maps.{MapValue};
+ghost use Rattle.keymap_core.specs.Numbers.{key_count};
 ghost use Rattle.keymap_core.specs.Actions.{holding_action};
 ghost use Rattle.keymap_core.specs.Borne.{is_cell_of_action, has_in_slot as has_in_slot_of, has_in_half as has_in_half_of, is_upper_live as is_upper_live_of, is_borne as is_borne_of};
 
 use crate::action::{Holding, Lock, Modifier};
 use crate::entry::Cell;
 use crate::keymap::Keymap;
+use crate::limits::{COLUMN_COUNT, KEY_COUNT};
 use crate::map::KeyMap;
 
 /// Whether the cell is the holding action.
@@ -23,7 +25,7 @@ fn is_held(cell: Cell, holding: Holding) -> bool
 fn has_in_slot<K: Keymap>(map: &K, holding: Holding, slot: u8) -> bool
     ensures { (m : MapValue) → K.shows map.now m → result ≡ has_in_slot_of m (holding_action holding) slot }
 {
-    for column in 0..8usize {
+    for column in 0..COLUMN_COUNT {
         if is_held(map.cell(slot, column), holding) {
             return true;
         }
@@ -33,10 +35,10 @@ fn has_in_slot<K: Keymap>(map: &K, holding: Holding, slot: u8) -> bool
 
 /// Whether some cell of the 128 slots from this one on is the holding action.
 fn has_in_half<K: Keymap>(map: &K, holding: Holding, from: u8) -> bool
-    requires { from ≤ 128 }
+    requires { from ≤ key_count }
     ensures { (m : MapValue) → K.shows map.now m → result ≡ has_in_half_of m (holding_action holding) from }
 {
-    for key in 0..128u8 {
+    for key in 0..KEY_COUNT as u8 {
         if has_in_slot(map, holding, key + from) {
             return true;
         }
@@ -57,7 +59,8 @@ fn is_upper_live_in<K: Keymap>(map: &K) -> bool
 pub fn is_borne_in<K: Keymap>(map: &K, holding: Holding) -> bool
     ensures { (m : MapValue) → K.shows map.now m → result ≡ is_borne_of m holding }
 {
-    has_in_half(map, holding, 0) || (is_upper_live_in(map) && has_in_half(map, holding, 128))
+    has_in_half(map, holding, 0)
+        || (is_upper_live_in(map) && has_in_half(map, holding, KEY_COUNT as u8))
 }
 
 impl KeyMap {

@@ -1,7 +1,9 @@
 //! The cells of a slot and its lock flag: `struct keyent_t` of sys/kbio.h.
 ghost use Rattle.std.specs.Prelude.{◌≡◌, length};
+ghost use Rattle.keymap_core.specs.Numbers.{column_count};
 
 use crate::action::Action;
+use crate::limits::COLUMN_COUNT;
 
 /// What a key gives in one column. The character 0 isn't the action `nop`.
 #[derive(Clone, Copy, Debug, PartialEq, Eq)]
@@ -22,12 +24,12 @@ pub enum LockFlag {
 /// The cells of a slot. The column is shift + 2 times control + 4 times alt.
 #[derive(Clone, Copy, Debug, PartialEq, Eq)]
 pub struct Entry {
-    pub cells: [Cell; 8],
+    pub cells: [Cell; COLUMN_COUNT],
     pub flag: LockFlag,
 }
 
 pub(crate) const UNDEFINED: Entry = Entry {
-    cells: [Cell::Char('\0'); 8],
+    cells: [Cell::Char('\0'); COLUMN_COUNT],
     flag: LockFlag::O,
 };
 
@@ -45,7 +47,7 @@ impl Entry {
     /// The eight cells, as a slice.
     pub fn cells(&self) -> &[Cell]
         ensures cells { result.now ≡ self.now.cells }
-        ensures eight { length result.now ≡ 8 }
+        ensures eight { length result.now ≡ column_count }
     {
         let cells = &self.cells;
         for cell in cells {

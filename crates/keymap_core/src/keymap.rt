@@ -2,6 +2,7 @@
 ghost use Rattle.std.specs.Prelude.{◌≡◌, ◌<◌};
 ghost use Rattle.keymap_core.specs.Accents.{own_of, result_of, first_result as first_result_of};
 ghost use Rattle.keymap_core.specs.Maps.{MapValue, entry_at, cell_at, accent_at};
+ghost use Rattle.keymap_core.specs.Numbers.{column_count};
 
 use crate::entry::{Cell, LockFlag};
 use crate::map::KeyMap;
@@ -13,7 +14,7 @@ pub trait Keymap {
 
     /// The cell of the slot in the column.
     fn cell(&self, slot: u8, column: usize) -> Cell
-        requires { column < 8 }
+        requires { column < column_count }
         ensures { (m : MapValue) → shows self.now m → result ≡ cell_at m slot column };
 
     /// The lock flag of the slot.

@@ -8,6 +8,7 @@ ghost use Rattle.keymap_core.specs.Bounds.{IsMap};
 ghost use Rattle.keymap_core.specs.Borne.{is_borne, is_upper_live};
 ghost use Rattle.keymap_core.specs.Maps.{MapValue, undefined, n_keys_of, n_accs_of, entry_at, accent_or_blank, with_entry, with_accent};
 ghost use Rattle.keymap_core.specs.Names.{named_of, combined_names};
+ghost use Rattle.keymap_core.specs.Numbers.{key_count};
 ghost use Rattle.keymap_core.specs.declared.action.Action.{Action};
 ghost use Rattle.keymap_core.specs.declared.action.Holding.{Holding};
 ghost use Rattle.keymap_core.specs.declared.entry.Cell.{Cell};
@@ -81,7 +82,7 @@ pub fn the_upper_half_is_live_by_test()
 
 /// The test tells whether some key bears a holding action.
 pub fn holding_actions_are_borne_by_test()
-    ensures { (map : MapValue) (action : Holding) → IsTrue (is_borne map action) ↔ ((key : ℕ) × (key < 128) × Bears map key action) }
+    ensures { (map : MapValue) (action : Holding) → IsTrue (is_borne map action) ↔ ((key : ℕ) × (key < key_count) × Bears map key action) }
 {}
 
 /// The test for one action tells whether two are the same.

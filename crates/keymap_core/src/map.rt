@@ -1,20 +1,16 @@
 //! The keymap: `struct keymap` and `struct accentmap` of sys/kbio.h.
 ghost use Rattle.std.specs.Prelude.{◌≡◌, ◌<◌, ◌≤◌, ◌↔◌, [], IfOk, IfSome, OnOk, OnErr, IsErr, option_copied, slice_get};
+ghost use Rattle.keymap_core.specs.Numbers.{slot_limit, accent_limit};
 
 use crate::accent::Accent;
 use crate::entry::{Entry, UNDEFINED};
+use crate::limits::{ACCENT_LIMIT, SLOT_LIMIT};
 use std::alloc::{AllocError, Global};
 use std::marker::Model;
 
 /// No accent has this index: it is above 14.
 #[derive(Clone, Copy, Debug, PartialEq, Eq)]
 pub struct BadAccent;
-
-/// `NUM_KEYS` of sys/kbio.h.
-const SLOTS: usize = 256;
-
-/// `NUM_DEADKEYS` of sys/kbio.h.
-const ACCENTS: usize = 15;
 
 /// A keymap: its defined entries and accents.
 #[derive(Debug, Drop)]
@@ -45,8 +41,8 @@ impl KeyMap {
         ensures entries { IfOk result (λ m. m.entries ≡ []) }
         ensures accents { IfOk result (λ m. m.accents ≡ []) }
     {
-        let entries = Vec::with_capacity(alloc, SLOTS)?;
-        let accents = Vec::with_capacity(alloc, ACCENTS)?;
+        let entries = Vec::with_capacity(alloc, SLOT_LIMIT)?;
+        let accents = Vec::with_capacity(alloc, ACCENT_LIMIT)?;
         Ok(KeyMap {
             entries,
             accents,
@@ -57,7 +53,7 @@ impl KeyMap {
     /// How many slots there are up to the last defined one, 0 to 256.
     pub fn n_keys(&self) -> u16
         ensures value { result ≡ n_keys_of self.now }
-        ensures bounded { result ≤ 256 }
+        ensures bounded { result ≤ slot_limit }
     {
         self.entries.len() as u16
     }
@@ -83,7 +79,7 @@ impl KeyMap {
     /// How many accents there are up to the last defined one, 0 to 15.
     pub fn n_accs(&self) -> u8
         ensures value { result ≡ n_accs_of self.now }
-        ensures bounded { result ≤ 15 }
+        ensures bounded { result ≤ accent_limit }
     {
         self.accents.len() as u8
     }
@@ -91,7 +87,7 @@ impl KeyMap {
     /// The accent, if its index is below the number of accents.
     pub fn accent(&self, index: u8) -> Option<&Accent>
         ensures value { option_copied result ≡ slice_get self.now.accents index }
-        ensures in_range { IfSome result (λ _. index < 15) }
+        ensures in_range { IfSome result (λ _. index < accent_limit) }
     {
         self.accents.get(index as usize)
     }
@@ -99,11 +95,11 @@ impl KeyMap {
     /// Defines the accent. Where the index is above 14 the accent is dropped.
     pub fn set_accent(&mut self, index: u8, accent: Accent) -> Result<(), BadAccent>
         ensures ok { OnOk result (self.new ≡ with_accent self.old index accent) }
-        ensures refused { IsErr result ↔ (14 < index) }
+        ensures refused { IsErr result ↔ (accent_limit ≤ index) }
         ensures err { OnErr result (self.new ≡ self.old) }
     {
         let index = index as usize;
-        if index >= ACCENTS {
+        if index >= ACCENT_LIMIT {
             return Err(BadAccent);
         }
         while self.accents.len() <= index {
@@ -117,8 +113,8 @@ impl KeyMap {
     pub fn try_clone(&self, alloc: Global) -> Result<KeyMap, AllocError>
         ensures { IfOk result (λ m. m ≡ self.now) }
     {
-        let mut entries = Vec::with_capacity(alloc, SLOTS)?;
-        let mut accents = Vec::with_capacity(alloc, ACCENTS)?;
+        let mut entries = Vec::with_capacity(alloc, SLOT_LIMIT)?;
+        let mut accents = Vec::with_capacity(alloc, ACCENT_LIMIT)?;
         entries.extend_from_slice(&self.entries)?;
         for accent in &self.accents {
             accents.push_reserved(accent.copied());
@@ -136,7 +132,7 @@ impl KeyMap {
     ghost use Rattle.keymap_core.specs.Bounds.{IsEntry, IsAccent, IsMap};
 
     fn entries_have_bounds(&self)
-        ensures few { length self.now.entries ≤ 256 }
+        ensures few { length self.now.entries ≤ slot_limit }
         ensures all { All IsEntry self.now.entries }
     {
         for entry in &self.entries {
@@ -145,7 +141,7 @@ impl KeyMap {
     }
 
     fn accents_have_bounds(&self)
-        ensures few { length self.now.accents ≤ 15 }
+        ensures few { length self.now.accents ≤ accent_limit }
         ensures all { All IsAccent self.now.accents }
     {
         for accent in &self.accents {

@@ -3,6 +3,8 @@ use Rattle.std.specs.Prelude.{◌≡◌, ℕ, ◌+◌, ◌-◌, ◌*◌, ◌/◌
 use Rattle.std.specs.Int.{from_le_bytes, w16}
 use Rattle.std.specs.List.{range_with_len}
 use Rattle.keymap_core.specs.Actions.{action_of, within}
+use Rattle.keymap_core.specs.Numbers.{slot_limit, accent_limit, pair_limit}
+use Rattle.keymap_tables.specs.Layouts.{cells_size}
 use Rattle.keymap_tables.specs.Layouts.{wide, narrow, part, number_width, number_size, count_size, slot_size, pair_size, accent_size, slots_place, slots_size, n_accs_place, accents_place, accents_size, file_size}
 use Rattle.keymap_tables.specs.declared.layout.Layout.{Layout}
 use Rattle.keymap_tables.specs.declared.fault.TableFaultKind.{TableFaultKind}
@@ -42,24 +44,24 @@ count_fault most bytes p =
 
 -- whether the cell of a column is marked as an action: bit 0x80 >> column of the byte after the cells
 abbrev pub mark_at : Layout → List ℕ → ℕ → Bool
-mark_at l bytes column = (slice_index bytes (8 * number_size l) / 2 ^ (7 - column)) % 2 == 1
+mark_at l bytes column = (slice_index bytes (cells_size l) / 2 ^ (7 - column)) % 2 == 1
 
 -- The places of a slot below n_keys, from 0: the cells, the marks, the flag, the pads.
 abbrev pub slot_fault : Layout → List ℕ → ℕ → Option TableFaultKind
 slot_fault l bytes p =
-    if nat_lt p (8 * number_size l) then
+    if nat_lt p (cells_size l) then
     (if p % number_size l == 0 then cell_fault (number_at l bytes p) (mark_at l bytes (p / number_size l)) else None)
-    else if p == 8 * number_size l then None
-    else if p == 8 * number_size l + 1 then (if nat_le (slice_index bytes p) 3 then None else Some BadFlag)
+    else if p == cells_size l then None
+    else if p == cells_size l + 1 then (if nat_le (slice_index bytes p) 3 then None else Some BadFlag)
     else zero_fault BadPad bytes p
 
 -- the base of a pair of an accent
 abbrev pub base_at : Layout → List ℕ → ℕ → ℕ
 base_at l bytes pair = number_at l bytes (number_size l + pair_size l * pair)
 
--- how many of the 52 pairs stand before the first base 0
+-- how many of the pairs stand before the first base 0
 unfoldable pub pairs_in : Layout → List ℕ → ℕ
-pairs_in l bytes = length (take_while (λ pair. not (base_at l bytes pair == 0)) (range_with_len 0 52))
+pairs_in l bytes = length (take_while (λ pair. not (base_at l bytes pair == 0)) (range_with_len 0 pair_limit))
 
 -- The places of an accent below n_accs, from 0: the own character and the pairs, and what follows the pairs.
 abbrev pub accent_fault : Layout → List ℕ → ℕ → Option TableFaultKind
@@ -76,11 +78,11 @@ row_fault fault_in size count bytes p =
 -- The places of a file of the right length.
 abbrev pub content_fault : Layout → List ℕ → ℕ → Option TableFaultKind
 content_fault l bytes p =
-    if nat_lt p (slots_place l) then count_fault 256 (part bytes 0 (count_size l)) p
+    if nat_lt p (slots_place l) then count_fault slot_limit (part bytes 0 (count_size l)) p
     else if nat_lt p (n_accs_place l) then
     row_fault (slot_fault l) (slot_size l) (count_at bytes 0) (part bytes (slots_place l) (slots_size l)) (p - slots_place l)
     else if nat_lt p (accents_place l) then
-    count_fault 15 (part bytes (n_accs_place l) (count_size l)) (p - n_accs_place l)
+    count_fault accent_limit (part bytes (n_accs_place l) (count_size l)) (p - n_accs_place l)
     else if nat_lt p (file_size l) then
     row_fault (accent_fault l) (accent_size l) (count_at bytes (n_accs_place l)) (part bytes (accents_place l) (accents_size l)) (p - accents_place l)
     else None

@@ -10,7 +10,7 @@ use Rattle.keymap_core.specs.declared.entry.Entry.{Entry}
 use Rattle.keymap_tables.specs.declared.layout.Layout.{Layout}
 use Rattle.keymap_tables.specs.declared.narrow.Wide.{Wide}
 use Rattle.keymap_tables.specs.declared.narrow.Wide.TheVariants as at
-use Rattle.keymap_tables.specs.Layouts.{narrow, number_limit, number_size, slot_size, accent_size, slots_place, accents_place}
+use Rattle.keymap_tables.specs.Layouts.{narrow, number_limit, number_size, slot_place, accent_place}
 
 -- the code of an action always fits
 abbrev pub CellFits : Layout → Cell → Type 0
@@ -54,8 +54,8 @@ IsWide m w = 255 < number_of_place m w
 
 -- its place in a narrow file
 abbrev pub place_of : Wide → ℕ
-place_of (at.Cell slot column) = slots_place narrow + slot_size narrow * slot + number_size narrow * column
-place_of (at.Accent accent number) = accents_place narrow + accent_size narrow * accent + number_size narrow * number
+place_of (at.Cell slot column) = slot_place narrow slot + number_size narrow * column
+place_of (at.Accent accent number) = accent_place narrow accent + number_size narrow * number
 
 -- the character above 255 that comes first in the file
 pub record IsFirstWide (m : MapValue) (w : Wide) : Type 0 where

@@ -5,6 +5,7 @@ use Rattle.std.specs.Int.{to_le_bytes, w16}
 use Rattle.keymap_core.specs.Accents.{AccentValue}
 use Rattle.keymap_core.specs.Actions.{code_of}
 use Rattle.keymap_core.specs.Maps.{MapValue}
+use Rattle.keymap_core.specs.Numbers.{slot_limit, accent_limit, pair_limit}
 use Rattle.keymap_core.specs.declared.entry.Cell.{Cell}
 use Rattle.keymap_core.specs.declared.entry.Cell.TheVariants.{Char, Act}
 use Rattle.keymap_core.specs.declared.entry.Entry.{Entry}
@@ -52,18 +53,19 @@ slot_bytes l entry = flat_map (cell_bytes l) entry.cells ++ marks_of entry.cells
 abbrev pub pair_bytes : Layout → ℕ × ℕ → List ℕ
 pair_bytes l pair = number_bytes l pair.0 ++ number_bytes l pair.1
 
--- an accent: its own character, its pairs, and zeros in place of those up to 52
+-- an accent: its own character, its pairs, and zeros in place of those up to the limit
 abbrev pub accent_bytes : Layout → AccentValue → List ℕ
 accent_bytes l accent =
-    number_bytes l accent.own ++ flat_map (pair_bytes l) accent.pairs ++ zeros (pair_size l * (52 - length accent.pairs))
+    number_bytes l accent.own ++ flat_map (pair_bytes l) accent.pairs
+    ++ zeros (pair_size l * (pair_limit - length accent.pairs))
 
--- the slots, zeros in place of those up to 256
+-- the slots, zeros in place of those up to the limit
 abbrev pub slots_bytes : Layout → List Entry → List ℕ
-slots_bytes l entries = flat_map (slot_bytes l) entries ++ zeros (slot_size l * (256 - length entries))
+slots_bytes l entries = flat_map (slot_bytes l) entries ++ zeros (slot_size l * (slot_limit - length entries))
 
--- the accents, zeros in place of those up to 15
+-- the accents, zeros in place of those up to the limit
 abbrev pub accents_bytes : Layout → List AccentValue → List ℕ
-accents_bytes l accents = flat_map (accent_bytes l) accents ++ zeros (accent_size l * (15 - length accents))
+accents_bytes l accents = flat_map (accent_bytes l) accents ++ zeros (accent_size l * (accent_limit - length accents))
 
 -- the slots, and then the accents, each after its count
 unfoldable pub image_in : Layout → MapValue → List ℕ

@@ -1,6 +1,7 @@
 -- Where the parts of a table file stand: one format at two widths.
 use Rattle.std.specs.Prelude.{ℕ, ◌+◌, ◌*◌, ◌^◌, List, take, drop}
 use Rattle.std.specs.Int.{Width, w8, w32}
+use Rattle.keymap_core.specs.Numbers.{slot_limit, column_count, accent_limit, pair_limit}
 use Rattle.keymap_tables.specs.declared.layout.Layout.{Layout}
 use Rattle.keymap_tables.specs.declared.layout.Layout.TheVariants.{Wide, Narrow}
 
@@ -36,9 +37,13 @@ pad_size Narrow = 0
 abbrev pub count_size : Layout → ℕ
 count_size l = 2 + pad_size l
 
--- eight cells, the marks, the flag, the pads: 36, narrow 10
+-- the eight cells of a slot: 32, narrow 8
+abbrev pub cells_size : Layout → ℕ
+cells_size l = column_count * number_size l
+
+-- the cells, the marks, the flag, the pads: 36, narrow 10
 abbrev pub slot_size : Layout → ℕ
-slot_size l = 8 * number_size l + 2 + pad_size l
+slot_size l = cells_size l + 2 + pad_size l
 
 -- a base and a result: 8, narrow 2
 abbrev pub pair_size : Layout → ℕ
@@ -46,14 +51,18 @@ pair_size l = 2 * number_size l
 
 -- the own character and 52 pairs: 420, narrow 105
 abbrev pub accent_size : Layout → ℕ
-accent_size l = number_size l + 52 * pair_size l
+accent_size l = number_size l + pair_limit * pair_size l
 
 -- n_keys stands at 0, the slots at 4, narrow 2
 abbrev pub slots_place : Layout → ℕ
 slots_place l = count_size l
 
+-- where a slot stands in the file
+abbrev pub slot_place : Layout → ℕ → ℕ
+slot_place l slot = slots_place l + slot_size l * slot
+
 abbrev pub slots_size : Layout → ℕ
-slots_size l = 256 * slot_size l
+slots_size l = slot_limit * slot_size l
 
 -- 9220, narrow 2562
 abbrev pub n_accs_place : Layout → ℕ
@@ -63,8 +72,12 @@ n_accs_place l = slots_place l + slots_size l
 abbrev pub accents_place : Layout → ℕ
 accents_place l = n_accs_place l + count_size l
 
+-- where an accent stands in the file
+abbrev pub accent_place : Layout → ℕ → ℕ
+accent_place l accent = accents_place l + accent_size l * accent
+
 abbrev pub accents_size : Layout → ℕ
-accents_size l = 15 * accent_size l
+accents_size l = accent_limit * accent_size l
 
 -- 15524, narrow 4139
 abbrev pub file_size : Layout → ℕ

@@ -6,7 +6,7 @@ use Rattle.keymap_core.specs.Bounds.{IsMap}
 use Rattle.keymap_tables.specs.Faults.{IsTableFault, IsFirstFault, fault_at}
 use Rattle.keymap_tables.specs.Fits.{FitsIn}
 use Rattle.keymap_tables.specs.Image.{image, image_in}
-use Rattle.keymap_tables.specs.Layouts.{narrow, file_size}
+use Rattle.keymap_tables.specs.Layouts.{wide, narrow, file_size}
 use Rattle.keymap_tables.specs.declared.fault.TableError.{TableError}
 use Rattle.keymap_tables.specs.declared.fault.TableFault.{TableFault}
 use Rattle.keymap_tables.specs.declared.fault.TableError.TheVariants.{Memory, Read, Fault}
@@ -14,7 +14,7 @@ use Rattle.keymap_tables.specs.declared.fault.TableError.TheVariants.{Memory, Re
 -- The map whose image the bytes are, or their fault. Memory is wanted only for bytes of the right length.
 abbrev pub IsReading : List ℕ → Result MapValue TableError → Type 0
 IsReading bytes (Ok m) = IsMap m × (bytes ≡ image m)
-IsReading bytes (Err Memory) = length bytes ≡ 15524
+IsReading bytes (Err Memory) = length bytes ≡ file_size wide
 IsReading bytes (Err (Read f)) = ⊥
 IsReading bytes (Err (Fault f)) = IsTableFault bytes f
 

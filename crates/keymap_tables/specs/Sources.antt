@@ -1,18 +1,19 @@
 -- What the reading of tables from a reader answers.
-use Rattle.std.specs.Prelude.{ℕ, List, ⊤, Bool, true, false, Option, Result, Ok, Err}
+use Rattle.std.specs.Prelude.{ℕ, ◌+◌, List, ⊤, Bool, true, false, Option, Result, Ok, Err}
 use Rattle.keymap_core.specs.Maps.{MapValue}
 use Rattle.keymap_core.specs.Transfers.{ReadsUpTo, IsDeviceFault}
 use Rattle.keymap_core.specs.declared.transfer.ReadError.TheVariants as read
+use Rattle.keymap_tables.specs.Layouts.{wide, narrow, file_size}
 use Rattle.keymap_tables.specs.Readings.{IsReading, IsNarrowReading}
 use Rattle.keymap_tables.specs.declared.fault.TableError.{TableError}
 use Rattle.keymap_tables.specs.declared.fault.TableError.TheVariants.{Memory, Read, Fault}
 
 -- one byte more than a table file has, and than a narrow one has
 abbrev pub limit : ℕ
-limit = 15525
+limit = file_size wide + 1
 
 abbrev pub narrow_limit : ℕ
-narrow_limit = 4140
+narrow_limit = file_size narrow + 1
 
 -- The bytes that were read, up to a limit, are read so.
 abbrev pub ReadsBytes : ℕ → (List ℕ → Result MapValue TableError → Type 0) → Option (List ℕ) → Option (List ℕ) → Result MapValue TableError → Type 0

@@ -4,7 +4,7 @@ ghost use Rattle.std.specs.Char.{IsScalar};
 ghost use Rattle.arrayvec.specs.ArrayVec.{array_vec_len};
 ghost use Rattle.keymap_core.specs.Bounds.{IsAccent};
 ghost use Rattle.keymap_tables.specs.Image.{accent_bytes, number_bytes};
-ghost use Rattle.keymap_tables.specs.Layouts.{number_size, accent_size};
+ghost use Rattle.keymap_tables.specs.Layouts.{wide, number_size, accent_size};
 
 use crate::layout::{ACCENT, Layout};
 use crate::slot::{push_number, push_zeros};
@@ -13,7 +13,7 @@ use keymap_core::Accent;
 
 /// Appends the bytes of a character.
 fn push_char(image: &mut ArrayVec<u8, ACCENT>, layout: Layout, character: char)
-    requires { array_vec_len image.old + number_size layout ≤ 420 }
+    requires { array_vec_len image.old + number_size layout ≤ accent_size wide }
     ensures bytes { image.new.items ≡ image.old.items ++ number_bytes layout character }
     ensures count { array_vec_len image.new ≡ array_vec_len image.old + number_size layout }
     ensures known { IsScalar character }

@@ -3,6 +3,7 @@ ghost use Rattle.std.specs.Prelude.{◌≡◌, ◌<◌, ◌≤◌, List, length,
 ghost use Rattle.keymap_core.specs.Accents.{AccentValue};
 ghost use Rattle.keymap_core.specs.Bounds.{IsEntry, IsAccent, IsMap};
 ghost use Rattle.keymap_core.specs.Maps.{MapValue};
+ghost use Rattle.keymap_core.specs.Numbers.{slot_limit, accent_limit};
 ghost use Rattle.keymap_core.specs.declared.entry.Entry.{Entry as EntryValue};
 ghost use Rattle.keymap_tables.specs.Faults.{row_fault, slot_fault, accent_fault, content_fault, IsFirstFault};
 ghost use Rattle.keymap_tables.specs.Faults.{IsTableFault};
@@ -15,11 +16,12 @@ use crate::layout::Layout;
 use crate::number::{check_zeros, read_count};
 use crate::read_accent::read_accent;
 use crate::read_slot::read_slot;
+use keymap_core::{ACCENT_LIMIT, SLOT_LIMIT};
 
 /// Checks so many slots, and zeros in place of the others.
 fn check_slots(layout: Layout, bytes: &[u8], n_keys: u16) -> Result<(), TableFault>
     requires whole { length bytes.now ≡ slots_size layout }
-    requires few { n_keys ≤ 256 }
+    requires few { n_keys ≤ slot_limit }
     ensures image { OnOk result ((entries : List EntryValue) × (length entries ≡ n_keys)
         × (bytes.now ≡ slots_bytes layout entries) × All IsEntry entries) }
     ensures sound { OnOk result (HasNoFault (row_fault (slot_fault layout) (slot_size layout) n_keys bytes.now)
@@ -44,7 +46,7 @@ fn check_slots(layout: Layout, bytes: &[u8], n_keys: u16) -> Result<(), TableFau
 /// Checks so many accents, and zeros in place of the others.
 fn check_accents(layout: Layout, bytes: &[u8], n_accs: u16) -> Result<(), TableFault>
     requires whole { length bytes.now ≡ accents_size layout }
-    requires few { n_accs ≤ 15 }
+    requires few { n_accs ≤ accent_limit }
     ensures image { OnOk result ((accents : List AccentValue) × (length accents ≡ n_accs)
         × (bytes.now ≡ accents_bytes layout accents) × All IsAccent accents) }
     ensures sound { OnOk result (HasNoFault (row_fault (accent_fault layout) (accent_size layout) n_accs bytes.now)
@@ -75,12 +77,12 @@ fn check_content(layout: Layout, bytes: &[u8]) -> Result<(), TableFault>
     let slots_at = layout.slots_at();
     let n_accs_at = layout.n_accs_at();
     let accents_at = layout.accents_at();
-    let n_keys = read_count(&bytes[..slots_at], 256)?;
+    let n_keys = read_count(&bytes[..slots_at], SLOT_LIMIT as u16)?;
     match check_slots(layout, &bytes[slots_at..n_accs_at], n_keys) {
         Ok(()) => {}
         Err(fault) => return Err(fault.after(slots_at)),
     }
-    let n_accs = match read_count(&bytes[n_accs_at..accents_at], 15) {
+    let n_accs = match read_count(&bytes[n_accs_at..accents_at], ACCENT_LIMIT as u16) {
         Ok(count) => count,
         Err(fault) => return Err(fault.after(n_accs_at)),
     };

@@ -2,10 +2,13 @@
 ghost use Rattle.std.specs.Prelude.{◌≡◌, ℕ, ◌+◌, ◌*◌, ◌<◌, List, length, slice_index, Result};
 ghost use Rattle.keymap_core.specs.Maps.{MapValue, n_keys_of, n_accs_of, entry_at, cell_at, accent_or_blank};
 ghost use Rattle.keymap_core.specs.Bounds.{IsMap};
+ghost use Rattle.keymap_core.specs.Numbers.{slot_limit, column_count, accent_limit};
 ghost use Rattle.keymap_tables.specs.Faults.{IsTableFault, IsNarrowFault, number_at, mark_at};
 ghost use Rattle.keymap_tables.specs.Fits.{Fits, IsWide};
 ghost use Rattle.keymap_tables.specs.Image.{image, narrow_image, count_bytes, slot_bytes, accent_bytes, number_of, is_act, flag_number};
 ghost use Rattle.keymap_tables.specs.Layouts.{wide, narrow, part};
+ghost use Rattle.keymap_tables.specs.Layouts.{number_size, count_size, cells_size, slot_size, accent_size};
+ghost use Rattle.keymap_tables.specs.Layouts.{slot_place, n_accs_place, accent_place, file_size};
 ghost use Rattle.keymap_tables.specs.Readings.{IsReading, IsNarrowReading, AnswersMap, AnswersFault};
 ghost use Rattle.keymap_tables.specs.declared.fault.TableError.{TableError};
 ghost use Rattle.keymap_tables.specs.declared.fault.TableFault.{TableFault};
@@ -13,8 +16,8 @@ ghost use Rattle.keymap_tables.specs.declared.narrow.Wide.{Wide};
 
 /// The image of each map has the length of a table file, and the narrow image of each that fits that of a narrow file.
 pub fn images_are_whole()
-    ensures tables { (m : MapValue) → IsMap m → length (image m) ≡ 15524 }
-    ensures narrow { (m : MapValue) → IsMap m → Fits m → length (narrow_image m) ≡ 4139 }
+    ensures tables { (m : MapValue) → IsMap m → length (image m) ≡ file_size wide }
+    ensures narrow { (m : MapValue) → IsMap m → Fits m → length (narrow_image m) ≡ file_size narrow }
 {}
 
 /// No image has a fault.
@@ -59,33 +62,38 @@ pub fn a_map_that_fits_has_no_wide_character()
 /// What stands at each place of an image: the counts with their pads, each slot and accent, also past the last defined
 /// one, and each cell.
 pub fn an_image_is_by_position()
-    ensures n_keys { (m : MapValue) → IsMap m → part (image m) 0 4 ≡ count_bytes wide (n_keys_of m) }
-    ensures slots { (m : MapValue) → IsMap m → (s : ℕ) → s < 256 → part (image m) (4 + 36 * s) 36
-        ≡ slot_bytes wide (entry_at m s) }
-    ensures cells { (m : MapValue) → IsMap m → (s column : ℕ) → s < 256 → column < 8
-        → number_at wide (image m) (4 + 36 * s + 4 * column) ≡ number_of (cell_at m s column) }
-    ensures marks { (m : MapValue) → IsMap m → (s column : ℕ) → s < 256 → column < 8
-        → mark_at wide (part (image m) (4 + 36 * s) 36) column ≡ is_act (cell_at m s column) }
-    ensures flags { (m : MapValue) → IsMap m → (s : ℕ) → s < 256 → slice_index (image m) (4 + 36 * s + 33)
-        ≡ flag_number (entry_at m s).flag }
-    ensures n_accs { (m : MapValue) → IsMap m → part (image m) 9220 4 ≡ count_bytes wide (n_accs_of m) }
-    ensures accents { (m : MapValue) → IsMap m → (i : ℕ) → i < 15 → part (image m) (9224 + 420 * i) 420
-        ≡ accent_bytes wide (accent_or_blank m i) }
+    ensures n_keys { (m : MapValue) → IsMap m → part (image m) 0 (count_size wide) ≡ count_bytes wide (n_keys_of m) }
+    ensures slots { (m : MapValue) → IsMap m → (s : ℕ) → s < slot_limit
+        → part (image m) (slot_place wide s) (slot_size wide) ≡ slot_bytes wide (entry_at m s) }
+    ensures cells { (m : MapValue) → IsMap m → (s column : ℕ) → s < slot_limit → column < column_count
+        → number_at wide (image m) (slot_place wide s + number_size wide * column) ≡ number_of (cell_at m s column) }
+    ensures marks { (m : MapValue) → IsMap m → (s column : ℕ) → s < slot_limit → column < column_count
+        → mark_at wide (part (image m) (slot_place wide s) (slot_size wide)) column ≡ is_act (cell_at m s column) }
+    ensures flags { (m : MapValue) → IsMap m → (s : ℕ) → s < slot_limit
+        → slice_index (image m) (slot_place wide s + (cells_size wide + 1)) ≡ flag_number (entry_at m s).flag }
+    ensures n_accs { (m : MapValue) → IsMap m
+        → part (image m) (n_accs_place wide) (count_size wide) ≡ count_bytes wide (n_accs_of m) }
+    ensures accents { (m : MapValue) → IsMap m → (i : ℕ) → i < accent_limit
+        → part (image m) (accent_place wide i) (accent_size wide) ≡ accent_bytes wide (accent_or_blank m i) }
 {}
 
 /// The same of the narrow image of a map that fits, where a cell is one byte.
 pub fn a_narrow_image_is_by_position()
-    ensures n_keys { (m : MapValue) → IsMap m → Fits m → part (narrow_image m) 0 2 ≡ count_bytes narrow (n_keys_of m) }
-    ensures slots { (m : MapValue) → IsMap m → Fits m → (s : ℕ) → s < 256 → part (narrow_image m) (2 + 10 * s) 10
-        ≡ slot_bytes narrow (entry_at m s) }
-    ensures cells { (m : MapValue) → IsMap m → Fits m → (s column : ℕ) → s < 256 → column < 8
-        → slice_index (narrow_image m) (2 + 10 * s + column) ≡ number_of (cell_at m s column) }
-    ensures marks { (m : MapValue) → IsMap m → Fits m → (s column : ℕ) → s < 256 → column < 8
-        → mark_at narrow (part (narrow_image m) (2 + 10 * s) 10) column ≡ is_act (cell_at m s column) }
-    ensures flags { (m : MapValue) → IsMap m → Fits m → (s : ℕ) → s < 256
-        → slice_index (narrow_image m) (2 + 10 * s + 9) ≡ flag_number (entry_at m s).flag }
-    ensures n_accs { (m : MapValue) → IsMap m → Fits m → part (narrow_image m) 2562 2
-        ≡ count_bytes narrow (n_accs_of m) }
-    ensures accents { (m : MapValue) → IsMap m → Fits m → (i : ℕ) → i < 15
-        → part (narrow_image m) (2564 + 105 * i) 105 ≡ accent_bytes narrow (accent_or_blank m i) }
+    ensures n_keys { (m : MapValue) → IsMap m → Fits m
+        → part (narrow_image m) 0 (count_size narrow) ≡ count_bytes narrow (n_keys_of m) }
+    ensures slots { (m : MapValue) → IsMap m → Fits m → (s : ℕ) → s < slot_limit
+        → part (narrow_image m) (slot_place narrow s) (slot_size narrow) ≡ slot_bytes narrow (entry_at m s) }
+    ensures cells { (m : MapValue) → IsMap m → Fits m → (s column : ℕ) → s < slot_limit → column < column_count
+        → slice_index (narrow_image m) (slot_place narrow s + column) ≡ number_of (cell_at m s column) }
+    ensures marks { (m : MapValue) → IsMap m → Fits m → (s column : ℕ) → s < slot_limit → column < column_count
+        → mark_at narrow (part (narrow_image m) (slot_place narrow s) (slot_size narrow)) column
+        ≡ is_act (cell_at m s column) }
+    ensures flags { (m : MapValue) → IsMap m → Fits m → (s : ℕ) → s < slot_limit
+        → slice_index (narrow_image m) (slot_place narrow s + (cells_size narrow + 1))
+        ≡ flag_number (entry_at m s).flag }
+    ensures n_accs { (m : MapValue) → IsMap m → Fits m
+        → part (narrow_image m) (n_accs_place narrow) (count_size narrow) ≡ count_bytes narrow (n_accs_of m) }
+    ensures accents { (m : MapValue) → IsMap m → Fits m → (i : ℕ) → i < accent_limit
+        → part (narrow_image m) (accent_place narrow i) (accent_size narrow)
+        ≡ accent_bytes narrow (accent_or_blank m i) }
 {}

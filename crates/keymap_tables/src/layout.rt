@@ -1,5 +1,6 @@
 //! Where the parts of a table file stand, in bytes from its start, and how long they are: one format at two widths.
-ghost use Rattle.std.specs.Prelude.{◌≡◌, ◌*◌};
+ghost use Rattle.std.specs.Prelude.{◌≡◌};
+ghost use Rattle.keymap_tables.specs.Layouts.{cells_size};
 ghost use Rattle.keymap_tables.specs.Layouts.{number_size, count_size, slot_size, pair_size, accent_size, slots_place, n_accs_place, accents_place, file_size};
 
 /// How wide the numbers of a table file are.
@@ -21,21 +22,15 @@ pub(crate) const SLOT: usize = 36;
 
 pub(crate) const ACCENT: usize = 420;
 
-/// How many slots, accents and pairs of an accent there are in each file.
-pub(crate) const SLOTS: usize = 256;
-
-pub(crate) const ACCENTS: usize = 15;
-
-pub(crate) const PAIRS: usize = 52;
-
-/// Where slot 0, the number of accents and accent 0 stand in a table file, and how long it is.
+/// Where slot 0, the number of accents and accent 0 stand in a table file.
 pub(crate) const WIDE_SLOTS_AT: usize = 4;
 
 pub(crate) const WIDE_N_ACCS_AT: usize = 9220;
 
 pub(crate) const WIDE_ACCENTS_AT: usize = 9224;
 
-pub(crate) const WIDE_FILE: usize = 15524;
+/// How many bytes a table file has: `struct keymap` and `struct accentmap` of sys/kbio.h.
+pub const WIDE_FILE: usize = 15524;
 
 /// The same in a narrow file.
 pub(crate) const NARROW_SLOTS_AT: usize = 2;
@@ -44,7 +39,8 @@ pub(crate) const NARROW_N_ACCS_AT: usize = 2562;
 
 pub(crate) const NARROW_ACCENTS_AT: usize = 2564;
 
-pub(crate) const NARROW_FILE: usize = 4139;
+/// How many bytes a narrow file has.
+pub const NARROW_FILE: usize = 4139;
 
 impl Layout {
     /// A cell, or an accent's character.
@@ -69,7 +65,7 @@ impl Layout {
 
     /// The eight cells of a slot. The marks, the flag and the pads follow them.
     pub(crate) fn cells(self) -> usize
-        ensures { result ≡ 8 * number_size self }
+        ensures { result ≡ cells_size self }
     {
         match self {
             Layout::Wide => 32,

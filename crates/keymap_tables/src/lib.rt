@@ -36,6 +36,7 @@ mod write;
 
 pub use check::check_tables;
 pub use fault::{TableError, TableFault, TableFaultKind};
+pub use layout::{NARROW_FILE, WIDE_FILE};
 pub use narrow::{NarrowError, Wide, write_narrow};
 pub use read::{read_narrow, read_tables};
 pub use source::{read_narrow_from, read_tables_from};

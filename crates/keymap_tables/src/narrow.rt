@@ -2,6 +2,7 @@
 ghost use Rattle.std.specs.Prelude.{◌≡◌, ◌<◌, ◌||◌, All, OnOk, MatchOption};
 ghost use Rattle.keymap_core.specs.Bounds.{IsMap};
 ghost use Rattle.keymap_core.specs.Maps.{accent_or_blank};
+ghost use Rattle.keymap_core.specs.Numbers.{column_count};
 ghost use Rattle.keymap_tables.specs.Fits.{character_of, Fits, EntryFits, AccentFits, IsFirstWide};
 ghost use Rattle.keymap_tables.specs.Inner.Firsts.{IsFirstColumn, IsFirstNumber};
 ghost use Rattle.keymap_tables.specs.Layouts.{narrow};
@@ -9,7 +10,7 @@ ghost use Rattle.keymap_tables.specs.Writing.{WritesNarrow, names_writer};
 
 use crate::layout::Layout;
 use crate::write::write_image;
-use keymap_core::{Accent, Cell, Entry, KeyMap, Write, WriteFault};
+use keymap_core::{Accent, COLUMN_COUNT, Cell, Entry, KeyMap, Write, WriteFault};
 use thiserror::Error;
 
 /// The place of a character that doesn't fit in one byte.
@@ -46,10 +47,10 @@ fn character(cell: &Cell) -> u32
 /// The column of the first character of a slot that doesn't fit.
 fn wide_column(entry: &Entry) -> Option<u8>
     ensures { MatchOption result (EntryFits narrow entry.now) (λ column. IsFirstColumn entry.now column
-        × (column < 8)) }
+        × (column < column_count)) }
 {
     let cells = entry.cells();
-    for column in 0..8 {
+    for column in 0..COLUMN_COUNT as u8 {
         if character(&cells[column as usize]) > LAST {
             return Some(column);
         }

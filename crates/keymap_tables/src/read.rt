@@ -9,19 +9,20 @@ ghost use Rattle.keymap_tables.specs.Layouts.{slot_size, slots_size, accent_size
 ghost use Rattle.keymap_tables.specs.Fits.{Fits, FitsIn, EntryFits, AccentFits};
 ghost use Rattle.keymap_tables.specs.Readings.{IsReading, IsNarrowReading, IsReadingIn, AnswersMap, AnswersFault};
 ghost use Rattle.keymap_core.specs.Maps.{MapValue};
+ghost use Rattle.keymap_core.specs.Numbers.{slot_limit, accent_limit};
 
 use crate::fault::{TableError, TableFault, TableFaultKind};
 use crate::layout::Layout;
 use crate::number::{check_zeros, read_count};
 use crate::read_accent::read_accent;
 use crate::read_slot::read_slot;
-use keymap_core::KeyMap;
+use keymap_core::{ACCENT_LIMIT, KeyMap, SLOT_LIMIT};
 use std::alloc::Global;
 
 /// Reads so many slots, and zeros in place of the others, into a map of no keys.
 fn read_slots(layout: Layout, bytes: &[u8], n_keys: u16, map: &mut KeyMap) -> Result<(), TableFault>
     requires whole { length bytes.now ≡ slots_size layout }
-    requires few { n_keys ≤ 256 }
+    requires few { n_keys ≤ slot_limit }
     requires empty { map.old.entries ≡ [] }
     ensures image { OnOk result (bytes.now ≡ slots_bytes layout map.new.entries) }
     ensures count { OnOk result (length map.new.entries ≡ n_keys) }
@@ -55,7 +56,7 @@ fn read_accents(
     map: &mut KeyMap,
 ) -> Result<(), TableFault>
     requires whole { length bytes.now ≡ accents_size layout }
-    requires few { n_accs ≤ 15 }
+    requires few { n_accs ≤ accent_limit }
     requires empty { map.old.accents ≡ [] }
     ensures image { OnOk result (bytes.now ≡ accents_bytes layout map.new.accents) }
     ensures count { OnOk result (length map.new.accents ≡ n_accs) }
@@ -94,12 +95,12 @@ fn read_content(layout: Layout, bytes: &[u8], map: &mut KeyMap) -> Result<(), Ta
     let slots_at = layout.slots_at();
     let n_accs_at = layout.n_accs_at();
     let accents_at = layout.accents_at();
-    let n_keys = read_count(&bytes[..slots_at], 256)?;
+    let n_keys = read_count(&bytes[..slots_at], SLOT_LIMIT as u16)?;
     match read_slots(layout, &bytes[slots_at..n_accs_at], n_keys, map) {
         Ok(()) => {}
         Err(fault) => return Err(fault.after(slots_at)),
     }
-    let n_accs = match read_count(&bytes[n_accs_at..accents_at], 15) {
+    let n_accs = match read_count(&bytes[n_accs_at..accents_at], ACCENT_LIMIT as u16) {
         Ok(count) => count,
         Err(fault) => return Err(fault.after(n_accs_at)),
     };

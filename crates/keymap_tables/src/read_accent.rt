@@ -1,6 +1,7 @@
 //! Reading of an accent: its own character, its pairs, and zeros.
 ghost use Rattle.std.specs.Prelude.{◌≡◌, ◌≢◌, ℕ, ◌+◌, ◌*◌, ◌<◌, ◌≤◌, length, IfOk, IfErr, OnOk};
 ghost use Rattle.keymap_core.specs.Bounds.{IsAccent};
+ghost use Rattle.keymap_core.specs.Numbers.{pair_limit};
 ghost use Rattle.keymap_tables.specs.Faults.{accent_fault, base_at, pairs_in, IsFirstFault};
 ghost use Rattle.keymap_tables.specs.Inner.Firsts.{HasNoFault};
 ghost use Rattle.keymap_tables.specs.Fits.{AccentFits};
@@ -8,23 +9,23 @@ ghost use Rattle.keymap_tables.specs.Image.{accent_bytes};
 ghost use Rattle.keymap_tables.specs.Layouts.{accent_size};
 
 use crate::fault::{TableFault, TableFaultKind};
-use crate::layout::{Layout, PAIRS};
+use crate::layout::Layout;
 use crate::number::{check_zeros, read_char, read_number};
-use keymap_core::Accent;
+use keymap_core::{Accent, PAIR_LIMIT};
 
 /// How many pairs stand before the first base 0.
 fn count_pairs(layout: Layout, bytes: &[u8]) -> usize
     requires { length bytes.now ≡ accent_size layout }
     ensures value { result ≡ pairs_in layout bytes.now }
-    ensures few { result ≤ 52 }
+    ensures few { result ≤ pair_limit }
     ensures bases { (pair : ℕ) → pair < result → base_at layout bytes.now pair ≢ 0 }
 {
-    for pair in 0..PAIRS {
+    for pair in 0..PAIR_LIMIT {
         if read_number(layout, bytes, layout.number() + layout.pair() * pair) == 0 {
             return pair;
         }
     }
-    PAIRS
+    PAIR_LIMIT
 }
 
 /// The accent whose image the bytes are, or their first fault.

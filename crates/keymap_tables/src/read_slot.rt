@@ -1,17 +1,18 @@
 //! Reading of a slot: eight cells, the marks, the lock flag and the pads.
-ghost use Rattle.std.specs.Prelude.{◌≡◌, ◌*◌, ◌<◌, length, take, IfOk, IfErr, OnOk, None, Some, All, slice_index, MatchOption};
+ghost use Rattle.std.specs.Prelude.{◌≡◌, ◌<◌, length, take, IfOk, IfErr, OnOk, None, Some, All, slice_index, MatchOption};
 ghost use Rattle.std.specs.List.{flat_map};
 ghost use Rattle.keymap_core.specs.Bounds.{IsCell, IsEntry};
+ghost use Rattle.keymap_core.specs.Numbers.{column_count};
 ghost use Rattle.keymap_tables.specs.Faults.{slot_fault, IsFirstFault};
 ghost use Rattle.keymap_tables.specs.Inner.Firsts.{HasNoFault};
 ghost use Rattle.keymap_tables.specs.Fits.{CellFits, EntryFits};
 ghost use Rattle.keymap_tables.specs.Image.{slot_bytes, cell_bytes, marks_of, flag_number};
-ghost use Rattle.keymap_tables.specs.Layouts.{number_size, slot_size};
+ghost use Rattle.keymap_tables.specs.Layouts.{cells_size, slot_size};
 
 use crate::fault::{TableFault, TableFaultKind};
 use crate::layout::Layout;
 use crate::number::{cell_of, check_zeros, read_number};
-use keymap_core::{Cell, Entry, LockFlag};
+use keymap_core::{COLUMN_COUNT, Cell, Entry, LockFlag};
 
 /// The flag of a byte.
 pub(crate) fn flag_of(byte: u8) -> Option<LockFlag>
@@ -27,21 +28,21 @@ pub(crate) fn flag_of(byte: u8) -> Option<LockFlag>
 }
 
 /// The cells of a slot.
-fn read_cells(layout: Layout, bytes: &[u8]) -> Result<[Cell; 8], TableFault>
+fn read_cells(layout: Layout, bytes: &[u8]) -> Result<[Cell; COLUMN_COUNT], TableFault>
     requires { length bytes.now ≡ slot_size layout }
-    ensures eight { IfOk result (λ cells. length cells ≡ 8) }
+    ensures eight { IfOk result (λ cells. length cells ≡ column_count) }
     ensures known { IfOk result (All IsCell) }
     ensures fits { IfOk result (All (CellFits layout)) }
-    ensures bytes { IfOk result (λ cells. take (8 * number_size layout) bytes.now
+    ensures bytes { IfOk result (λ cells. take (cells_size layout) bytes.now
         ≡ flat_map (cell_bytes layout) cells) }
-    ensures marks { IfOk result (λ cells. slice_index bytes.now (8 * number_size layout) ≡ marks_of cells) }
-    ensures sound { OnOk result (HasNoFault (slot_fault layout bytes.now) (8 * number_size layout)) }
+    ensures marks { IfOk result (λ cells. slice_index bytes.now (cells_size layout) ≡ marks_of cells) }
+    ensures sound { OnOk result (HasNoFault (slot_fault layout bytes.now) (cells_size layout)) }
     ensures fault { IfErr result (λ f. IsFirstFault (slot_fault layout bytes.now) f
-        × (f.offset < 8 * number_size layout)) }
+        × (f.offset < cells_size layout)) }
 {
     let marks = bytes[layout.cells()];
-    let mut cells = [Cell::Char('\0'); 8];
-    for column in 0..8 {
+    let mut cells = [Cell::Char('\0'); COLUMN_COUNT];
+    for column in 0..COLUMN_COUNT {
         let at = layout.number() * column;
         let is_marked = (marks >> (7 - column)) % 2 == 1;
         match cell_of(read_number(layout, bytes, at), is_marked) {

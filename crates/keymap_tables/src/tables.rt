@@ -3,16 +3,17 @@ ghost use Rattle.std.specs.Prelude.{◌≡◌, ℕ, ◌+◌, ◌*◌, ◌<◌, �
 ghost use Rattle.keymap_core.specs.Accents.{AccentValue, first_result};
 ghost use Rattle.keymap_core.specs.Maps.{MapValue, n_accs_of, entry_at, accent_or_blank};
 ghost use Rattle.keymap_core.specs.Bounds.{IsEntry, IsAccent, IsMap};
+ghost use Rattle.keymap_core.specs.Numbers.{column_count};
 ghost use Rattle.keymap_core.specs.declared.entry.Entry.{Entry as EntryValue};
 ghost use Rattle.keymap_tables.specs.Image.{image, slot_bytes, accent_bytes};
-ghost use Rattle.keymap_tables.specs.Layouts.{wide};
+ghost use Rattle.keymap_tables.specs.Layouts.{wide, slot_size, accent_size, file_size};
 
 use crate::layout::{
-    ACCENT, ACCENTS, Layout, PAIRS, SLOT, WIDE_ACCENTS_AT, WIDE_FILE, WIDE_N_ACCS_AT, WIDE_SLOTS_AT,
+    ACCENT, Layout, SLOT, WIDE_ACCENTS_AT, WIDE_FILE, WIDE_N_ACCS_AT, WIDE_SLOTS_AT,
 };
 use crate::number::{cell_of, read_char, read_half, read_number};
 use crate::read_slot::flag_of;
-use keymap_core::{Cell, Keymap, LockFlag};
+use keymap_core::{ACCENT_LIMIT, Cell, Keymap, LockFlag, PAIR_LIMIT};
 
 /// The bytes of a number, and of a pair of an accent.
 const NUMBER: usize = 4;
@@ -24,10 +25,10 @@ const MARKS_AT: usize = 32;
 
 const FLAG_AT: usize = 33;
 
-/// The cell of a slot's 36 bytes in the column, the character 0 where none stands there.
+/// The cell of a slot's bytes in the column, the character 0 where none stands there.
 fn cell_in(bytes: &[u8], column: usize) -> Cell
-    requires whole { length bytes.now ≡ 36 }
-    requires inside { column < 8 }
+    requires whole { length bytes.now ≡ slot_size wide }
+    requires inside { column < column_count }
     ensures { (e : EntryValue) → IsEntry e → bytes.now ≡ slot_bytes wide e
         → result ≡ slice_index_or e.cells column (Cell.Char 0) }
 {
@@ -38,9 +39,9 @@ fn cell_in(bytes: &[u8], column: usize) -> Cell
     }
 }
 
-/// The flag of a slot's 36 bytes, O where none stands there.
+/// The flag of a slot's bytes, O where none stands there.
 fn flag_in(bytes: &[u8]) -> LockFlag
-    requires { length bytes.now ≡ 36 }
+    requires { length bytes.now ≡ slot_size wide }
     ensures { (e : EntryValue) → IsEntry e → bytes.now ≡ slot_bytes wide e → result ≡ e.flag }
 {
     match flag_of(bytes[FLAG_AT]) {
@@ -49,9 +50,9 @@ fn flag_in(bytes: &[u8]) -> LockFlag
     }
 }
 
-/// The own character of an accent's 420 bytes.
+/// The own character of an accent's bytes.
 fn own_in(bytes: &[u8]) -> Option<char>
-    requires { length bytes.now ≡ 420 }
+    requires { length bytes.now ≡ accent_size wide }
     ensures { (a : AccentValue) → IsAccent a → bytes.now ≡ accent_bytes wide a → result ≡ Some a.own }
 {
     match read_char(Layout::Wide, bytes, 0) {
@@ -60,12 +61,12 @@ fn own_in(bytes: &[u8]) -> Option<char>
     }
 }
 
-/// The result of the first pair with this base in an accent's 420 bytes.
+/// The result of the first pair with this base in an accent's bytes.
 fn composed_in(bytes: &[u8], base: char) -> Option<char>
-    requires { length bytes.now ≡ 420 }
+    requires { length bytes.now ≡ accent_size wide }
     ensures { (a : AccentValue) → IsAccent a → bytes.now ≡ accent_bytes wide a → result ≡ first_result a.pairs base }
 {
-    for pair in 0..PAIRS {
+    for pair in 0..PAIR_LIMIT {
         let from = read_number(Layout::Wide, bytes, NUMBER + PAIR * pair);
         if from == 0 {
             return None;
@@ -85,13 +86,13 @@ fn composed_in(bytes: &[u8], base: char) -> Option<char>
 #[derive(Clone, Copy, Drop)]
 pub struct Tables<'a> {
     bytes: &'a [u8],
-    ghost whole: { length bytes.now ≡ 15524 },
+    ghost whole: { length bytes.now ≡ file_size wide },
 }
 
 impl<'a> Tables<'a> {
     /// The tables of 15,524 bytes. Nothing is read.
     pub fn new(bytes: &'a [u8]) -> Option<Tables<'a>>
-        ensures whole { IsSome result ↔ (length bytes.now ≡ 15524) }
+        ensures whole { IsSome result ↔ (length bytes.now ≡ file_size wide) }
         ensures of_image { (m : MapValue) → IsMap m → bytes.now ≡ image m → IsSome result }
         ensures shows { IfSome result (λ t. (m : MapValue) → IsMap m → bytes.now ≡ image m
             → ⟦<Tables<'a> as Keymap>⟧.shows t m) }
@@ -105,7 +106,7 @@ impl<'a> Tables<'a> {
 
     /// The bytes of the slot.
     fn slot(&self, slot: u8) -> &[u8]
-        ensures whole { length result.now ≡ 36 }
+        ensures whole { length result.now ≡ slot_size wide }
         ensures bytes { (m : MapValue) → IsMap m → self.now.bytes.now ≡ image m
             → result.now ≡ slot_bytes wide (entry_at m slot) }
     {
@@ -115,7 +116,7 @@ impl<'a> Tables<'a> {
 
     /// The bytes of the accent, if it is below their count.
     fn accent(&self, index: u8) -> Option<&[u8]>
-        ensures whole { IfSome result (λ bytes. length bytes.now ≡ 420) }
+        ensures whole { IfSome result (λ bytes. length bytes.now ≡ accent_size wide) }
         ensures defined { (m : MapValue) → IsMap m → self.now.bytes.now ≡ image m
             → IsSome result ↔ (index < n_accs_of m) }
         ensures bytes { (m : MapValue) → IsMap m → self.now.bytes.now ≡ image m
@@ -123,7 +124,7 @@ impl<'a> Tables<'a> {
     {
         let n_accs = read_half(&self.bytes[WIDE_N_ACCS_AT..WIDE_ACCENTS_AT]);
         let index = index as usize;
-        if index < ACCENTS && index < n_accs as usize {
+        if index < ACCENT_LIMIT && index < n_accs as usize {
             let at = WIDE_ACCENTS_AT + ACCENT * index;
             Some(&self.bytes[at..at + ACCENT])
         } else {

@@ -3,16 +3,17 @@ ghost use Rattle.std.specs.Prelude.{◌≡◌, ◌+◌, ◌^◌, ◌<◌, ◌≤
 ghost use Rattle.keymap_core.specs.Accents.{blank};
 ghost use Rattle.keymap_core.specs.Devices.{WritesText};
 ghost use Rattle.keymap_core.specs.Bounds.{IsAccent, IsEntry, IsMap};
+ghost use Rattle.keymap_core.specs.Numbers.{slot_limit, accent_limit};
 ghost use Rattle.keymap_tables.specs.Image.{image, image_in, accent_bytes, slots_bytes, accents_bytes};
 ghost use Rattle.keymap_tables.specs.Layouts.{accent_size, slots_size, accents_size};
 ghost use Rattle.keymap_core.specs.Streams.{Pushes, size_of};
 
 use crate::accent::accent_image;
 use crate::count::count_image;
-use crate::layout::{ACCENT, ACCENTS, Layout, SLOTS};
+use crate::layout::{ACCENT, Layout};
 use crate::slot::slot_image;
 use arrayvec::ArrayVec;
-use keymap_core::{Accent, KeyMap, Stream, Write, WriteFault};
+use keymap_core::{ACCENT_LIMIT, Accent, KeyMap, SLOT_LIMIT, Stream, Write, WriteFault};
 
 fn push_slots<W: Write>(
     stream: &mut Stream,
@@ -20,7 +21,7 @@ fn push_slots<W: Write>(
     layout: Layout,
     map: &KeyMap,
 ) -> Result<(), WriteFault>
-    requires few { length map.now.entries ≤ 256 }
+    requires few { length map.now.entries ≤ slot_limit }
     requires counted { size_of stream.old + slots_size layout < 2 ^ 64 }
     ensures bytes { Pushes (W.contents writer.old) (W.contents writer.new) stream.old stream.new
         (slots_bytes layout map.now.entries) result }
@@ -28,7 +29,7 @@ fn push_slots<W: Write>(
     ensures failed { W.has_failed writer.new ≡ (is_err result || W.has_failed writer.old) }
     ensures known { OnOk result (All IsEntry map.now.entries) }
 {
-    for slot in 0..SLOTS {
+    for slot in 0..SLOT_LIMIT {
         stream.push(writer, slot_image(layout, map.entry(slot as u8)).as_slice())?;
     }
     Ok(())
@@ -52,7 +53,7 @@ fn push_accents<W: Write>(
     layout: Layout,
     map: &KeyMap,
 ) -> Result<(), WriteFault>
-    requires few { length map.now.accents ≤ 15 }
+    requires few { length map.now.accents ≤ accent_limit }
     requires counted { size_of stream.old + accents_size layout < 2 ^ 64 }
     ensures bytes { Pushes (W.contents writer.old) (W.contents writer.new) stream.old stream.new
         (accents_bytes layout map.now.accents) result }
@@ -60,7 +61,7 @@ fn push_accents<W: Write>(
     ensures failed { W.has_failed writer.new ≡ (is_err result || W.has_failed writer.old) }
     ensures known { OnOk result (All IsAccent map.now.accents) }
 {
-    for index in 0..ACCENTS {
+    for index in 0..ACCENT_LIMIT {
         stream.push(writer, accent_piece(layout, map, index as u8).as_slice())?;
     }
     Ok(())

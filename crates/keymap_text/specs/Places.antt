@@ -6,6 +6,7 @@ use Rattle.keymap_text.specs.declared.words.Meaning.TheVariants.{Number, Act}
 use Rattle.keymap_text.specs.declared.words.Item.{Item}
 use Rattle.keymap_text.specs.declared.words.Item.TheVariants.{Open, Close, Value}
 use Rattle.keymap_text.specs.Items.{refusal, character, cell, lock, accent_index}
+use Rattle.keymap_core.specs.Numbers.{slot_limit, pair_limit}
 
 pub data Place : Type 0 where
   AtDefinition : Place
@@ -25,7 +26,7 @@ to (Ok x) f = f x
 to (Err e) f = Err e
 
 abbrev pub definition : Item → Result Place TextFaultKind
-definition (Value (Number n)) = if nat_lt n 256 then Ok (AtCell 0) else Err faults.KeyTooLarge
+definition (Value (Number n)) = if nat_lt n slot_limit then Ok (AtCell 0) else Err faults.KeyTooLarge
 definition (Value (Act a)) = elim (accent_index a) [ Some i ↦ Ok AtAccentCharacter | None ↦ Err faults.Unexpected ]
 definition other = Err (refusal other)
 
@@ -34,7 +35,7 @@ next AtDefinition t = definition t
 next (AtCell n) t = to (cell t) (λ c. Ok (if n == 7 then AtLock else AtCell (n + 1)))
 next AtLock t = to (lock t) (λ f. Ok AtDefinition)
 next AtAccentCharacter t = to (character t) (λ c. Ok (AfterPairs 0))
-next (AfterPairs n) Open = if nat_lt n 52 then Ok (AtBase n) else Err faults.TooManyPairs
+next (AfterPairs n) Open = if nat_lt n pair_limit then Ok (AtBase n) else Err faults.TooManyPairs
 next (AfterPairs n) other = definition other
 next (AtBase n) t = to (character t) (λ c. if c == 0 then Err faults.ZeroBase else Ok (AtResult n))
 next (AtResult n) t = to (character t) (λ c. Ok (AtPairEnd n))

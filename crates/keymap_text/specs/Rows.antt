@@ -11,6 +11,7 @@ use Rattle.keymap_text.specs.declared.words.Item.{Item}
 use Rattle.keymap_text.specs.declared.words.Item.TheVariants.{Open, Close, Value}
 use Rattle.keymap_core.specs.Accents.{AccentValue, blank}
 use Rattle.keymap_core.specs.Maps.{MapValue, undefined}
+use Rattle.keymap_core.specs.Numbers.{slot_limit, column_count, pair_limit}
 use Rattle.keymap_text.specs.Items.{character, cell, accent_index}
 
 pub data Definition : Type 0 where
@@ -33,10 +34,11 @@ pub data ArePairs : List Item → List (ℕ × ℕ) → Type 0 where
 -- The tokens of one definition: a slot, eight cells and a lock letter; or an accent's name, its character and up to
 -- 52 pairs.
 pub data Defines : List Item → Definition → Type 0 where
-  of_key : {slot : ℕ} {e : Entry} {ts : List Item} → slot < 256 → length e.cells ≡ 8 → AreCells ts e.cells
+  of_key : {slot : ℕ} {e : Entry} {ts : List Item} → slot < slot_limit
+      → length e.cells ≡ column_count → AreCells ts e.cells
       → Defines (Value (Number slot) ∷ (ts ++ Value (Letter e.flag) ∷ [])) (KeyDefinition slot e)
   of_accent : {i : ℕ} {a : AccentValue} {t : Item} {ts : List Item} → (name : Action) → accent_index name ≡ Some i
-      → character t ≡ Ok a.own → length a.pairs ≤ 52 → ArePairs ts a.pairs
+      → character t ≡ Ok a.own → length a.pairs ≤ pair_limit → ArePairs ts a.pairs
       → Defines (Value (Act name) ∷ t ∷ ts) (AccentDefinition i a)
 
 -- the tokens of definitions, one after the other

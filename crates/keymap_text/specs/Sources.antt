@@ -15,6 +15,10 @@ use Rattle.keymap_text.specs.Meaning.{Spells, Fault, Early}
 abbrev pub limit : ℕ
 limit = 1048576
 
+-- how many bytes one read asks for at most
+abbrev pub piece : ℕ
+piece = 512
+
 -- These bytes were taken.
 pub record TakesText (old new : Option (List ℕ)) (text : List ℕ) : Type 0 where
   pub taken : Consumes old new text
@@ -63,7 +67,7 @@ pub record TakesOneMore (old new : Option (List ℕ)) : Type 0 where
   pub before : List ℕ
   pub last : List ℕ
   pub taken : Consumes old new (before ++ last)
-  pub few : length last ≤ 512
+  pub few : length last ≤ piece
   pub sound : HasNoEarlyFault before
 
 -- After a read that showed a fault nothing was read.

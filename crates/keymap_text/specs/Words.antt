@@ -5,6 +5,7 @@ use Rattle.std.specs.List.{list_all}
 use Rattle.std.specs.Char.{to_ascii_lowercase, digit_value}
 use Rattle.keymap_text.specs.Lexical.{leading}
 use Rattle.keymap_core.specs.Names.{named_of}
+use Rattle.keymap_core.specs.Numbers.{accent_limit}
 use Rattle.keymap_core.specs.declared.named.Named.{Named}
 use Rattle.keymap_core.specs.declared.named.Named.TheVariants as n
 use Rattle.keymap_core.specs.declared.action.Action.TheVariants as actions
@@ -65,7 +66,7 @@ sense_meaning (senses.Char c) = Char c
 sense_meaning (senses.Letter f) = Letter f
 sense_meaning (senses.Mod m) = Act (actions.Mod m)
 sense_meaning (senses.Lock l) = Act (actions.Lock l)
-sense_meaning (senses.DeadKey n) = if nat_lt n 15 then Act (actions.DeadKey n) else Unknown
+sense_meaning (senses.DeadKey n) = if nat_lt n accent_limit then Act (actions.DeadKey n) else Unknown
 sense_meaning senses.Nop = Act actions.Nop
 sense_meaning senses.BackTab = Act actions.BackTab
 sense_meaning senses.NextScreen = Act actions.NextScreen

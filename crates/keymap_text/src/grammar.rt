@@ -2,13 +2,14 @@
 ghost use Rattle.std.specs.Prelude.{◌≡◌, ◌<◌, Ok, Err, Result, OnOk, length, if◌then◌else◌, IfSome, ◌≢◌};
 ghost use lib.Utf8.{scalar};
 ghost use Rattle.keymap_core.specs.Maps.{with_accent};
+ghost use Rattle.keymap_core.specs.Numbers.{column_count, accent_limit, pair_limit};
 ghost use Rattle.keymap_text.specs.Inner.Views.{Steps, Leads, state_view, place_view, IsPlace};
 ghost use Rattle.keymap_text.specs.Items as items;
 ghost use Rattle.keymap_text.specs.Inner.Grammar as spec;
 
 use crate::fault::TextFaultKind;
 use crate::words::{Item, Meaning};
-use keymap_core::{Accent, Action, Cell, Entry, KeyMap, LockFlag};
+use keymap_core::{Accent, Action, Cell, Entry, KeyMap, LockFlag, PAIR_LIMIT, SLOT_LIMIT};
 use std::mem::replace;
 
 /// Where a text stands in its row of definitions.
@@ -93,7 +94,7 @@ fn lock_of(item: &Item) -> Result<LockFlag, TextFaultKind>
 /// The index of the accent that an action names.
 fn accent_index(action: &Action) -> Option<u8>
     ensures value { result ≡ items.accent_index action.now }
-    ensures bound { IfSome result (λ index. index < 15) }
+    ensures bound { IfSome result (λ index. index < accent_limit) }
 {
     match action {
         Action::DeadKey(accent) => Some(accent.get()),
@@ -107,7 +108,7 @@ fn first_place(item: &Item) -> Result<Place, TextFaultKind>
 {
     match item {
         Item::Value(Meaning::Number(n)) => {
-            if *n < 256 {
+            if *n < SLOT_LIMIT as u128 {
                 Ok(Place::Cell {
                     slot: *n as u8,
                     index: 0,
@@ -175,7 +176,7 @@ impl Grammar {
     /// Takes the next token, where a cell is wanted. After an `Err` the value is of no use.
     #[inline(always)]
     pub(crate) fn cell(&mut self, slot: u8, index: u8, item: &Item) -> Result<(), TextFaultKind>
-        requires { index < 8 }
+        requires { index < column_count }
         ensures steps { Steps result (spec.step self.old.map (spec.CellAt slot index self.old.entry) item.now)
             (state_view self.new) }
         ensures place { OnOk result (IsPlace self.new.place self.new.accent) }
@@ -208,7 +209,7 @@ impl Grammar {
 
     #[inline(always)]
     fn accent_character(&mut self, index: u8, item: &Item) -> Result<(), TextFaultKind>
-        requires { index < 15 }
+        requires { index < accent_limit }
         ensures steps { Steps result (spec.step self.old.map (spec.AccentCharacter index) item.now)
             (state_view self.new) }
         ensures place { OnOk result (IsPlace self.new.place self.new.accent) }
@@ -221,13 +222,13 @@ impl Grammar {
 
     #[inline(always)]
     fn after_accent(&mut self, index: u8, item: &Item) -> Result<(), TextFaultKind>
-        requires { index < 15 }
+        requires { index < accent_limit }
         ensures steps { Steps result (spec.step self.old.map (spec.AfterAccent index self.old.accent) item.now)
             (state_view self.new) }
         ensures place { OnOk result (IsPlace self.new.place self.new.accent) }
     {
         if let Item::Open = item {
-            if self.accent.pairs().len() == 52 {
+            if self.accent.pairs().len() == PAIR_LIMIT {
                 return Err(TextFaultKind::TooManyPairs);
             }
             self.place = Place::PairBase { index };
@@ -243,7 +244,7 @@ impl Grammar {
     /// Puts the accent that is complete into the map.
     #[inline(never)]
     pub(crate) fn close_accent(&mut self, index: u8)
-        requires { index < 15 }
+        requires { index < accent_limit }
         ensures { self.new.map ≡ with_accent self.old.map index self.old.accent }
     {
         let accent = replace(&mut self.accent, Accent::new('\0'));
@@ -252,8 +253,8 @@ impl Grammar {
 
     #[inline(always)]
     fn pair_base(&mut self, index: u8, item: &Item) -> Result<(), TextFaultKind>
-        requires index { index < 15 }
-        requires room { length self.old.accent.pairs < 52 }
+        requires index { index < accent_limit }
+        requires room { length self.old.accent.pairs < pair_limit }
         ensures steps { Steps result (spec.step self.old.map (spec.PairBase index self.old.accent) item.now)
             (state_view self.new) }
         ensures place { OnOk result (IsPlace self.new.place self.new.accent) }
@@ -268,8 +269,8 @@ impl Grammar {
 
     #[inline(always)]
     fn pair_result(&mut self, index: u8, base: char, item: &Item) -> Result<(), TextFaultKind>
-        requires index { index < 15 }
-        requires room { length self.old.accent.pairs < 52 }
+        requires index { index < accent_limit }
+        requires room { length self.old.accent.pairs < pair_limit }
         requires base { base ≢ 0 }
         ensures steps { Steps result (spec.step self.old.map (spec.PairResult index self.old.accent base) item.now)
             (state_view self.new) }
@@ -292,8 +293,8 @@ impl Grammar {
         composed: char,
         item: &Item,
     ) -> Result<(), TextFaultKind>
-        requires index { index < 15 }
-        requires room { length self.old.accent.pairs < 52 }
+        requires index { index < accent_limit }
+        requires room { length self.old.accent.pairs < pair_limit }
         requires base { base ≢ 0 }
         ensures steps { Steps result (spec.step self.old.map (spec.PairEnd index self.old.accent base composed)
             item.now) (state_view self.new) }

@@ -1,6 +1,7 @@
 //! The lines of a printed map.
 ghost use Rattle.std.specs.Prelude.{◌≡◌, ◌+◌, ◌<◌, ◌≤◌, ◌++◌, length, codes};
 ghost use Rattle.keymap_text.specs.Printed as spec;
+ghost use Rattle.keymap_core.specs.Numbers.{accent_limit};
 
 use crate::names::control_name;
 use arrayvec::ArrayVec;
@@ -141,7 +142,7 @@ fn push_pair(line: &mut Line, base: char, composed: char)
 /// The line of an accent.
 #[tactic(auto, unfolding(crate::specs::Printed::accent_line))]
 pub(crate) fn accent_line(index: u8, accent: &Accent) -> Line
-    requires { index < 15 }
+    requires { index < accent_limit }
     ensures { result.items ≡ spec.accent_line index accent.now }
 {
     let mut line = Line::new();

@@ -22,6 +22,6 @@ mod words;
 pub use fault::{TextError, TextFault, TextFaultKind};
 pub use printer::print_map;
 pub use reader::{MapReader, read_map};
-pub use source::read_from;
+pub use source::{LIMIT, read_from};
 pub use token::{Span, Token, TokenKind, next_token};
 pub use words::{Meaning, word_meaning};

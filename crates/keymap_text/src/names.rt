@@ -9,7 +9,9 @@ ghost use Rattle.keymap_text.specs.Inner.Keys.{pack, Means, IsTrueName, function
 ghost use Rattle.keymap_text.specs.Printed as printed;
 
 use crate::words::Meaning;
-use keymap_core::{AccentIndex, Action, FunctionNumber, Lock, LockFlag, Modifier, ScreenNumber};
+use keymap_core::{
+    ACCENT_LIMIT, AccentIndex, Action, FunctionNumber, Lock, LockFlag, Modifier, ScreenNumber,
+};
 
 /// What a name means, as plain data, since a static can't hold a value that has a model of its own.
 #[derive(Clone, Copy, Debug)]
@@ -84,7 +86,7 @@ fn meaning_of(sense: Sense) -> Meaning
         Sense::Mod(modifier) => Meaning::Act(Action::Mod(modifier)),
         Sense::Lock(lock) => Meaning::Act(Action::Lock(lock)),
         Sense::DeadKey(n) => {
-            if n >= 15 {
+            if n >= ACCENT_LIMIT as u8 {
                 Meaning::Unknown
             } else {
                 Meaning::Act(Action::DeadKey(AccentIndex::new(n)))

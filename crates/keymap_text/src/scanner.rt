@@ -8,6 +8,7 @@ ghost use Rattle.keymap_text.specs.Inner.Views.{state_view, front_view, FoundFit
 ghost use Rattle.keymap_text.specs.Inner.Resuming.{resume, Takes, Advances, Fronts, IsReader, Accepts, HasNoRole, Says};
 ghost use Rattle.keymap_text.specs.Inner.Resuming.{IsPending, Took, line_feed};
 ghost use Rattle.keymap_text.specs.Inner.Grammar as spec;
+ghost use Rattle.keymap_core.specs.Numbers.{column_count};
 
 use crate::fault::{TextFault, TextFaultKind};
 use crate::grammar::{Grammar, Place};
@@ -258,7 +259,7 @@ impl Scanner {
         requires reader { IsReader self.old }
         requires mode { self.old.mode ≡ Mode.Between }
         requires place { self.old.grammar.place ≡ Place.Cell slot index }
-        requires index { index < 8 }
+        requires index { index < column_count }
         requires some { 0 < length rest.now }
         requires room { self.old.offset + length self.old.pending.items + length rest.now < 2 ^ 63 }
         ensures { Took result self.old self.new rest.now }

@@ -11,7 +11,7 @@ use std::alloc::Global;
 const PIECE: usize = 512;
 
 /// How many bytes of a text are read at most.
-const LIMIT: usize = 1_048_576;
+pub const LIMIT: usize = 1_048_576;
 
 fn read_fault(offset: usize, kind: ReadFaultKind) -> TextError
     ensures { result ≡ TextError.Read (record { offset = offset; kind = kind }) }

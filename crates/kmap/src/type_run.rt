@@ -13,12 +13,9 @@ use crate::typing::typing_script;
 use keymap_core::{
     KeyMap, Read, ReadError, ReadFault, ReadFaultKind, Write, read_up_to, write_text,
 };
-use keymap_text::read_from;
+use keymap_text::{LIMIT, read_from};
 use play_core::{TypeError, Ways};
 use std::alloc::{AllocError, Global};
-
-/// The most bytes that are read of a sentence.
-const LIMIT: usize = 1_048_576;
 
 /// The bytes of a sentence that is read whole. One byte more than the limit is asked for, and none of it is judged if
 /// that came.

@@ -1,5 +1,6 @@
 -- The numbers by which a caller in C names events, and what a call answers to them.
 use Rattle.std.specs.Prelude.{ℕ, ◌-◌, ◌==◌, nat_le, ℤ, pos, negsuc, List, [], ◌∷◌, length, Bool, true, ◌&&◌, Option, Some, None, if◌then◌else◌}
+use Rattle.keymap_tables.specs.Layouts.{wide, file_size}
 use Rattle.keymap_tables.specs.declared.fault.TableFaultKind.{TableFaultKind}
 use Rattle.keymap_tables.specs.declared.fault.TableFaultKind.TheVariants.{Short, Long, BadCount, BadPad, BadFlag, BadAction, Combined, BadChar, NotEmpty}
 use Rattle.console_core.specs.declared.event.Event.{Event}
@@ -21,11 +22,11 @@ abbrev pub are_events : List ℕ → Bool
 are_events [] = true
 are_events (n ∷ rest) = is_event n && are_events rest
 
--- 0 where the call is done, -1 where a table file isn't 15,524 bytes, -2 where a number names no event, -3 where there
+-- 0 where the call is done, -1 where a table file hasn't its length, -2 where a number names no event, -3 where there
 -- are fewer places for answers than events; the first of these
 abbrev pub status_of : List ℕ → List ℕ → List ℕ → ℕ → ℤ
 status_of first second numbers places =
-    if (length first == 15524) && (length second == 15524)
+    if (length first == file_size wide) && (length second == file_size wide)
     then (if are_events numbers then (if nat_le (length numbers) places then pos 0 else negsuc 2) else negsuc 1)
     else negsuc 0
 

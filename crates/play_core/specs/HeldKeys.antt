@@ -6,6 +6,7 @@ use Rattle.keymap_core.specs.declared.action.Modifier.TheVariants.{LeftShift, Ri
 use Rattle.keymap_core.specs.declared.action.Action.TheVariants as act
 use Rattle.keymap_core.specs.Maps.{MapValue}
 use Rattle.keymap_core.specs.Borne.{has_in_slot, is_upper_live}
+use Rattle.keymap_core.specs.Numbers.{key_count}
 use Rattle.console_core.specs.declared.event.Event.{Event}
 use Rattle.console_core.specs.declared.event.Event.TheVariants.{Press, Release}
 use Rattle.console_core.specs.Positions.{first_of_two}
@@ -23,7 +24,7 @@ gathered f (suc n) = gathered f n ++ f n
 
 -- one of the key's cells is the modifier
 abbrev pub bears : MapValue → Modifier → ℕ → Bool
-bears m i k = has_in_slot m (act.Mod i) k || (is_upper_live m && has_in_slot m (act.Mod i) (k + 128))
+bears m i k = has_in_slot m (act.Mod i) k || (is_upper_live m && has_in_slot m (act.Mod i) (k + key_count))
 
 -- bit 0 of a set is shift, bit 1 control, bit 2 alt, bit 3 ashift; the left and the right one count alike
 unfoldable pub bears_bit : MapValue → ℕ → ℕ → Bool
@@ -42,7 +43,7 @@ is_bit_key m bit k j = not (j == k) && bears_bit m bit j
 
 -- the key that is held for a bit while the key k is pressed: the least that can be held
 unfoldable pub bit_key : MapValue → ℕ → ℕ → Option ℕ
-bit_key m k bit = first_below (is_bit_key m bit k) 128
+bit_key m k bit = first_below (is_bit_key m bit k) key_count
 
 abbrev pub bit_keys : MapValue → ℕ → List (Option ℕ)
 bit_keys m k = bit_key m k 0 ∷ bit_key m k 1 ∷ bit_key m k 2 ∷ bit_key m k 3 ∷ []
@@ -79,7 +80,7 @@ abbrev pub combinations_of : MapValue → ℕ → ℕ → List (List Event)
 combinations_of m set k = combination_with (bit_keys m k) set k
 
 abbrev pub combinations_with : MapValue → ℕ → List (List Event)
-combinations_with m set = gathered (combinations_of m set) 128
+combinations_with m set = gathered (combinations_of m set) key_count
 
 -- all combinations of the 16 sets and a key: by set, then by key
 unfoldable pub combinations : MapValue → List (List Event)

@@ -2,6 +2,7 @@
 use Rattle.std.specs.Prelude.{◌≡◌, ◌≢◌, ℕ, ◌+◌, ◌<◌, ◌||◌, ◌==◌, Bool, true, false, List, [], ◌∷◌, ◌++◌, length, map, codes}
 use Rattle.std.specs.List.{slice_split, filter, before_first, AllZip}
 use Rattle.std.specs.Str.Parse.{AllDigits, digits_value}
+use Rattle.keymap_core.specs.Numbers.{key_count}
 use Rattle.play_core.specs.declared.sent.What.{What}
 use Rattle.play_core.specs.declared.sent.What.TheVariants.{Down, Repeat, Up, Reset, Load}
 use Rattle.play_core.specs.declared.sent.Sent.{Sent}
@@ -66,7 +67,7 @@ key_of Load = 0
 
 -- the line is this event
 abbrev pub IsEvent : List (List ℕ) → Sent → Type 0
-IsEvent words s = Sends words s × (key_of s.what < 128)
+IsEvent words s = Sends words s × (key_of s.what < key_count)
 
 -- the line has the form of an event, with a number above 127
 abbrev pub HasBadKey : List (List ℕ) → Type 0

@@ -6,6 +6,7 @@ use Rattle.keymap_core.specs.Actions.{modifiers, locks}
 use Rattle.keymap_core.specs.Accents.{AccentValue}
 use Rattle.keymap_core.specs.Maps.{MapValue, accent_at}
 use Rattle.keymap_core.specs.Borne.{any_below}
+use Rattle.keymap_core.specs.Numbers.{key_count, accent_limit}
 use Rattle.console_core.specs.declared.event.Event.{Event}
 use Rattle.console_core.specs.declared.event.Answer.{Answer}
 use Rattle.console_core.specs.declared.event.Answer.TheVariants as answer
@@ -25,8 +26,8 @@ alone m = between m m
 -- After the events, newest first, no key is pressed, nothing is remembered, no modifier is on, and no lock is down or on.
 unfoldable pub is_at_rest : MapValue → List Event → Bool
 is_at_rest m h =
-    not (any_below (λ k. pressed k h) 128)
-    && not (any_below (λ k. is_some (Remembered (alone m) k h)) 128)
+    not (any_below (λ k. pressed k h) key_count)
+    && not (any_below (λ k. is_some (Remembered (alone m) k h)) key_count)
     && not (list_any (λ i. On (alone m) i h) modifiers)
     && not (list_any (λ l. down l (resolved (alone m) h)) locks)
     && not (list_any (λ l. Locked (alone m) l h) locks)
@@ -102,7 +103,7 @@ abbrev pub accented_by : MapValue → ℕ → List (List Event)
 accented_by m i = flat_map (λ base. joined (dead_way m i) (direct_way m base)) (bases_of (accent_at m i))
 
 unfoldable pub accented : MapValue → List (List Event)
-accented m = gathered (accented_by m) 15
+accented m = gathered (accented_by m) accent_limit
 
 -- the first way that types the character: a combination, or else an accented way
 abbrev pub way_for : MapValue → ℕ → Option (List Event)

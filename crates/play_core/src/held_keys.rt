@@ -3,12 +3,13 @@ ghost use Rattle.std.specs.Prelude.{◌≡◌, ℕ, ◌<◌, ◌≤◌, ◌+◌,
 ghost use Rattle.arrayvec.specs.ArrayVec.{array_vec_len};
 ghost use Rattle.keymap_core.specs.Maps.{MapValue, cell_at};
 ghost use Rattle.keymap_core.specs.Borne.{is_cell_of_action, has_in_slot as has_in_slot_of, is_upper_live as is_upper_live_of};
+ghost use Rattle.keymap_core.specs.Numbers.{key_count, column_count};
 ghost use Rattle.play_core.specs.HeldKeys as spec;
 ghost use Rattle.play_core.specs.Inner.HeldTables.{AreHeldKeys};
 
 use arrayvec::ArrayVec;
 use console_core::Event;
-use keymap_core::{Action, Cell, KeyCode, KeyMap, Modifier};
+use keymap_core::{Action, Cell, KEY_COUNT, KeyCode, KeyMap, Modifier};
 
 /// The events that type a character: a key, and before it perhaps a dead key, each with at most four held keys.
 pub type Way = ArrayVec<Event, 20>;
@@ -17,7 +18,7 @@ pub type Way = ArrayVec<Event, 20>;
 pub(crate) type BitKeys = [Option<KeyCode>; 4];
 
 fn cell(map: &KeyMap, slot: u8, column: usize) -> Cell
-    requires { column < 8 }
+    requires { column < column_count }
     ensures { result ≡ cell_at map.now slot column }
 {
     map.entry(slot).cells()[column]
@@ -47,17 +48,18 @@ fn has_in_slot(map: &KeyMap, modifier: Modifier, slot: u8) -> bool
 /// Whether some cell of the key is the modifier.
 fn bears(map: &KeyMap, is_upper_live: bool, modifier: Modifier, key: u8) -> bool
     requires live { is_upper_live ≡ is_upper_live_of map.now }
-    requires is_key { key < 128 }
+    requires is_key { key < key_count }
     ensures { result ≡ spec.bears map.now modifier key }
 {
-    has_in_slot(map, modifier, key) || (is_upper_live && has_in_slot(map, modifier, key + 128))
+    has_in_slot(map, modifier, key)
+        || (is_upper_live && has_in_slot(map, modifier, key + KEY_COUNT as u8))
 }
 
 /// Whether some cell of the key is a modifier of the bit.
 #[tactic(auto, unfolding(crate::specs::HeldKeys::bears_bit))]
 fn bears_bit(map: &KeyMap, is_upper_live: bool, bit: u8, key: u8) -> bool
     requires live { is_upper_live ≡ is_upper_live_of map.now }
-    requires is_key { key < 128 }
+    requires is_key { key < key_count }
     ensures { result ≡ spec.bears_bit map.now bit key }
 {
     match bit {
@@ -78,12 +80,12 @@ fn bears_bit(map: &KeyMap, is_upper_live: bool, bit: u8, key: u8) -> bool
 }
 
 /// For each key, whether it bears a modifier of the bit.
-fn bearers(map: &KeyMap, is_upper_live: bool, bit: u8) -> [bool; 128]
+fn bearers(map: &KeyMap, is_upper_live: bool, bit: u8) -> [bool; KEY_COUNT]
     requires { is_upper_live ≡ is_upper_live_of map.now }
-    ensures { (k : ℕ) → k < 128 → slice_index_or result k false ≡ spec.bears_bit map.now bit k }
+    ensures { (k : ℕ) → k < key_count → slice_index_or result k false ≡ spec.bears_bit map.now bit k }
 {
-    let mut bearers = [false; 128];
-    for key in 0..128u8 {
+    let mut bearers = [false; KEY_COUNT];
+    for key in 0..KEY_COUNT as u8 {
         bearers[key as usize] = bears_bit(map, is_upper_live, bit, key);
     }
     bearers
@@ -91,7 +93,7 @@ fn bearers(map: &KeyMap, is_upper_live: bool, bit: u8) -> [bool; 128]
 
 /// The key with this code.
 fn key_with(code: u8) -> KeyCode
-    requires { code < 128 }
+    requires { code < key_count }
     ensures { result ≡ code }
 {
     match KeyCode::new(code) {
@@ -101,9 +103,9 @@ fn key_with(code: u8) -> KeyCode
 }
 
 /// Whether the key can be held for the bit while the other one is pressed.
-fn is_bit_key(map: &KeyMap, bearers: &[bool; 128], bit: u8, pressed: u8, key: u8) -> bool
-    requires bearers { (k : ℕ) → k < 128 → slice_index_or bearers.now k false ≡ spec.bears_bit map.now bit k }
-    requires is_key { key < 128 }
+fn is_bit_key(map: &KeyMap, bearers: &[bool; KEY_COUNT], bit: u8, pressed: u8, key: u8) -> bool
+    requires bearers { (k : ℕ) → k < key_count → slice_index_or bearers.now k false ≡ spec.bears_bit map.now bit k }
+    requires is_key { key < key_count }
     ensures { result ≡ spec.is_bit_key map.now bit pressed key }
 {
     let _ = map;
@@ -111,11 +113,11 @@ fn is_bit_key(map: &KeyMap, bearers: &[bool; 128], bit: u8, pressed: u8, key: u8
 }
 
 /// The least key, other than the pressed one, that bears a modifier of the bit.
-fn bit_key(map: &KeyMap, bearers: &[bool; 128], bit: u8, pressed: u8) -> Option<KeyCode>
-    requires { (k : ℕ) → k < 128 → slice_index_or bearers.now k false ≡ spec.bears_bit map.now bit k }
+fn bit_key(map: &KeyMap, bearers: &[bool; KEY_COUNT], bit: u8, pressed: u8) -> Option<KeyCode>
+    requires { (k : ℕ) → k < key_count → slice_index_or bearers.now k false ≡ spec.bears_bit map.now bit k }
     ensures { result ≡ spec.bit_key map.now pressed bit }
 {
-    for key in 0..128u8 {
+    for key in 0..KEY_COUNT as u8 {
         if is_bit_key(map, bearers, bit, pressed, key) {
             return Some(key_with(key));
         }
@@ -124,13 +126,13 @@ fn bit_key(map: &KeyMap, bearers: &[bool; 128], bit: u8, pressed: u8) -> Option<
 }
 
 /// For each key, the key that is held for the bit while it is pressed.
-fn keys_of_bit(map: &KeyMap, is_upper_live: bool, bit: u8) -> [Option<KeyCode>; 128]
+fn keys_of_bit(map: &KeyMap, is_upper_live: bool, bit: u8) -> [Option<KeyCode>; KEY_COUNT]
     requires { is_upper_live ≡ is_upper_live_of map.now }
-    ensures { (k : ℕ) → k < 128 → slice_index_or result k None ≡ spec.bit_key map.now k bit }
+    ensures { (k : ℕ) → k < key_count → slice_index_or result k None ≡ spec.bit_key map.now k bit }
 {
     let bearers = bearers(map, is_upper_live, bit);
-    let mut keys = [None; 128];
-    for pressed in 0..128u8 {
+    let mut keys = [None; KEY_COUNT];
+    for pressed in 0..KEY_COUNT as u8 {
         keys[pressed as usize] = bit_key(map, &bearers, bit, pressed);
     }
     keys
@@ -139,10 +141,10 @@ fn keys_of_bit(map: &KeyMap, is_upper_live: bool, bit: u8) -> [Option<KeyCode>; 
 /// For each key, the keys that are held for the four bits while it is pressed.
 #[derive(Drop)]
 pub(crate) struct HeldKeys {
-    shift: [Option<KeyCode>; 128],
-    control: [Option<KeyCode>; 128],
-    alt: [Option<KeyCode>; 128],
-    alt_shift: [Option<KeyCode>; 128],
+    shift: [Option<KeyCode>; KEY_COUNT],
+    control: [Option<KeyCode>; KEY_COUNT],
+    alt: [Option<KeyCode>; KEY_COUNT],
+    alt_shift: [Option<KeyCode>; KEY_COUNT],
 }
 
 impl HeldKeys {
@@ -161,7 +163,7 @@ impl HeldKeys {
 
     /// The keys that are held while this key is pressed.
     pub(crate) fn at(&self, key: u8) -> BitKeys
-        requires { key < 128 }
+        requires { key < key_count }
         ensures { (m : MapValue) → AreHeldKeys m self.now → result ≡ spec.bit_keys m key }
     {
         let at = key as usize;
@@ -247,7 +249,7 @@ fn pressed_with(keys: &BitKeys, set: u8, key: KeyCode) -> Way
 
 /// The combination of the set and the key, if a key can be held for each of the set's bits.
 pub(crate) fn combination(keys: &BitKeys, set: u8, key: u8) -> Option<Way>
-    requires { key < 128 }
+    requires { key < key_count }
     ensures { MatchOption result (spec.combination_with keys.now set key ≡ [])
         (λ way. spec.combination_with keys.now set key ≡ way.items ∷ []) }
 {

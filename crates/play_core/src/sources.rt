@@ -6,11 +6,8 @@ use crate::player::{PlayError, Source};
 use crate::script::{ScriptError, read_script};
 use crate::sent::Sent;
 use keymap_core::{Read, ReadError, ReadFault, ReadFaultKind, read_up_to};
-use keymap_text::TextError;
+use keymap_text::{LIMIT, TextError};
 use std::alloc::Global;
-
-/// The most bytes that are read of a script.
-const LIMIT: usize = 1_048_576;
 
 /// The error of the text.
 pub(crate) fn text_error(error: TextError) -> PlayError

@@ -2,6 +2,7 @@
 ghost use Rattle.std.specs.Prelude.{◌≡◌, ℕ, ◌+◌, ◌<◌, ◌≤◌, ◌++◌, List, [], ◌∷◌, Option, OnOk, IfOk, MatchOption, None, Some, option_map, length};
 ghost use Rattle.arrayvec.specs.ArrayVec.{array_vec_len};
 ghost use Rattle.keymap_core.specs.Maps.{MapValue};
+ghost use Rattle.keymap_core.specs.Numbers.{key_count};
 ghost use Rattle.console_core.specs.declared.event.Event.{Event as EventValue};
 ghost use Rattle.play_core.specs.HeldKeys.{combinations_of, combinations_with, combinations, gathered, combination_with};
 ghost use Rattle.play_core.specs.Inner.HeldTables.{AreHeldKeys};
@@ -13,7 +14,7 @@ use crate::held_keys::{HeldKeys, Way, combination};
 use arrayvec::ArrayVec;
 use console_core::Event;
 use indexmap::IndexMap;
-use keymap_core::{Accent, KeyMap};
+use keymap_core::{Accent, KEY_COUNT, KeyMap};
 use std::alloc::{AllocError, Global};
 use std::marker::Model;
 
@@ -53,7 +54,7 @@ impl Found {
     /// Tries the combination of a set and a key.
     fn try_key(&mut self, map: &KeyMap, keys: &HeldKeys, set: u8, key: u8) -> Result<(), AllocError>
         requires keys { AreHeldKeys map.now keys.now }
-        requires is_key { key < 128 }
+        requires is_key { key < key_count }
         ensures { OnOk result ((ways : List (List EventValue))
             → AreTablesOf map.now ways self.old.characters.entries self.old.accents.entries
             → AreTablesOf map.now (ways ++ combinations_of map.now set key) self.new.characters.entries self.new.accents.entries) }
@@ -73,7 +74,7 @@ impl Found {
             → AreTablesOf map.now ways self.old.characters.entries self.old.accents.entries
             → AreTablesOf map.now (ways ++ combinations_with map.now set) self.new.characters.entries self.new.accents.entries) }
     {
-        for key in 0..128u8 {
+        for key in 0..KEY_COUNT as u8 {
             self.try_key(map, keys, set, key)?;
         }
         Ok(())

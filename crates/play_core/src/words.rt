@@ -2,6 +2,9 @@
 ghost use Rattle.std.specs.Prelude.{◌≡◌, ◌<◌, ◌==◌, not, position, [], ◌∷◌, length, min, IfSome, IfNone, MatchOption};
 ghost use Rattle.std.specs.Str.Parse.{AllDigits, digits_value};
 ghost use Rattle.play_core.specs.Scripts.{is_blank, words_in, parts_of, without_comment as without_comment_of};
+ghost use Rattle.keymap_core.specs.Numbers.{key_count};
+
+use keymap_core::KEY_COUNT;
 
 /// The first line of a text, and what follows its line feed, if it has one.
 pub fn split_line(text: &[u8]) -> (&[u8], Option<&[u8]>)
@@ -69,9 +72,9 @@ fn is_blank_byte(b: u8) -> bool
     b == b' ' || b == b'\t' || b == b'\r'
 }
 
-/// The number that decimal digits spell, 128 for each above 127.
+/// The number that decimal digits spell, the count of keys for each that is greater.
 pub fn number_of(word: &[u8]) -> Option<u8>
-    ensures some { IfSome result (λ n. AllDigits 10 word.now × (n ≡ min 128 (digits_value 10 word.now))) }
+    ensures some { IfSome result (λ n. AllDigits 10 word.now × (n ≡ min key_count (digits_value 10 word.now))) }
     ensures none { IfNone result (AllDigits 10 word.now → ⊥) }
 {
     let mut value: u16 = 0;
@@ -79,7 +82,7 @@ pub fn number_of(word: &[u8]) -> Option<u8>
         if !digit.is_ascii_digit() {
             return None;
         }
-        value = (value * 10 + u16::from(*digit - b'0')).min(128);
+        value = (value * 10 + u16::from(*digit - b'0')).min(KEY_COUNT as u16);
     }
     Some(value as u8)
 }

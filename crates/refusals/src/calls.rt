@@ -6,8 +6,8 @@ use keymap_core::{
     KeyCode, KeyMap, Lock, Modifier, ReadError, ToStd, Write, read_up_to, write_text,
 };
 use keymap_tables::{
-    TableError, read_narrow, read_narrow_from, read_tables, read_tables_from, write_narrow,
-    write_tables,
+    NARROW_FILE, TableError, WIDE_FILE, read_narrow, read_narrow_from, read_tables,
+    read_tables_from, write_narrow, write_tables,
 };
 use keymap_text::{MapReader, TextError, read_from, read_map};
 use play_core::{PlayError, ScriptError, Show, play, play_next, read_script};
@@ -45,13 +45,13 @@ pub(crate) fn outcome_of<W: Write>(
         "read_from" => reads_from(alloc, TEXT, marks),
         "read_from-faulty" => reads_from(alloc, FAULTY, marks),
         "read_tables" => reads_tables(alloc, tables(alloc)?.as_slice(), marks),
-        "read_tables-faulty" => reads_tables(alloc, &[0xff; TABLES], marks),
+        "read_tables-faulty" => reads_tables(alloc, &[0xff; WIDE_FILE], marks),
         "read_tables-short" => reads_tables(alloc, TEXT, marks),
-        "read_tables-long" => reads_tables(alloc, &[0; TABLES + 1], marks),
+        "read_tables-long" => reads_tables(alloc, &[0; WIDE_FILE + 1], marks),
         "read_tables_from" => reads_tables_from(alloc, tables(alloc)?.as_slice(), marks),
         "read_narrow" => reads_narrow(alloc, narrow(alloc)?.as_slice(), marks),
-        "read_narrow-faulty" => reads_narrow(alloc, &[0xff; NARROW], marks),
-        "read_narrow-long" => reads_narrow(alloc, &[0; NARROW + 1], marks),
+        "read_narrow-faulty" => reads_narrow(alloc, &[0xff; NARROW_FILE], marks),
+        "read_narrow-long" => reads_narrow(alloc, &[0; NARROW_FILE + 1], marks),
         "read_narrow_from" => reads_narrow_from(alloc, narrow(alloc)?.as_slice(), marks),
         "sticking-never" => searches(alloc, TEXT, marks)?,
         "sticking-sticks" => searches(alloc, TRAP, marks)?,
@@ -88,20 +88,14 @@ fn sample(alloc: Global) -> Result<KeyMap, AllocError> {
     }
 }
 
-/// How many bytes the tables of a map have.
-const TABLES: usize = 15_524;
-
 fn tables(alloc: Global) -> Result<Vec<u8>, AllocError> {
-    let mut bytes = Vec::from_array(alloc, [0; TABLES])?;
+    let mut bytes = Vec::from_array(alloc, [0; WIDE_FILE])?;
     let _ = write_tables(&sample(alloc)?, &mut ToStd::new(bytes.as_mut_slice()));
     Ok(bytes)
 }
 
-/// How many bytes the narrow file of a map has.
-const NARROW: usize = 4_139;
-
 fn narrow(alloc: Global) -> Result<Vec<u8>, AllocError> {
-    let mut bytes = Vec::from_array(alloc, [0; NARROW])?;
+    let mut bytes = Vec::from_array(alloc, [0; NARROW_FILE])?;
     let _ = write_narrow(&sample(alloc)?, &mut ToStd::new(bytes.as_mut_slice()));
     Ok(bytes)
 }

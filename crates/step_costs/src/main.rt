@@ -5,7 +5,7 @@
 
 use console_core::{Event, Translator, WordConsole};
 use keymap_core::{KeyCode, KeyMap, Keymap, ToStd};
-use keymap_tables::{Tables, write_tables};
+use keymap_tables::{Tables, WIDE_FILE, write_tables};
 use keymap_text::read_map;
 use std::alloc::{AllocError, Global};
 use std::{env, io};
@@ -17,9 +17,6 @@ const TEXT: &[u8] = b"026 dacu dacu dacu dacu dacu dacu dacu dacu O
 058 clock clock clock clock clock clock clock clock O
 dacu 180 ( 'a' 0xe1 )
 ";
-
-/// How many bytes the tables of a map have.
-const TABLES: usize = 15_524;
 
 /// Presses (1) and releases (0) of keys: a letter, and a letter under shift and after a dead key.
 const ROUND: [(u8, bool); 8] = [
@@ -66,7 +63,7 @@ fn sum_of<K: Keymap>(map: &K, rounds: u32) -> u64 {
 
 /// The sum over the tables of a map.
 fn sum_of_tables(alloc: Global, map: &KeyMap, rounds: u32) -> Result<u64, AllocError> {
-    let mut bytes = Vec::from_array(alloc, [0; TABLES])?;
+    let mut bytes = Vec::from_array(alloc, [0; WIDE_FILE])?;
     let _ = write_tables(map, &mut ToStd::new(bytes.as_mut_slice()));
     Ok(match Tables::new(bytes.as_slice()) {
         Some(tables) => sum_of(&tables, rounds),

@@ -5,11 +5,12 @@ use Rattle.std.specs.Prelude.{slice_index_or}
 use Rattle.std.specs.Option.{option_eq}
 use Rattle.std.specs.Cmp.Lexicographic.{pointwise}
 use Rattle.std.proofs.lemmas.Bool.{and_parts, true≢false}
+use Rattle.keymap_core.specs.Numbers.{key_count}
 use mathlib.Core.Bool.{beq}
 use Rattle.console_core.specs.declared.held.Held.{Held}
 
 abbrev pub number_of : Option ℕ → ℕ
-number_of None = 128
+number_of None = key_count
 number_of (Some k) = k
 
 abbrev pub bit_of : Bool → ℕ

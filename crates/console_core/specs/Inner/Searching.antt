@@ -8,6 +8,7 @@ use Rattle.keymap_core.specs.declared.action.Action.TheVariants as act
 use Rattle.keymap_core.specs.declared.entry.Cell.TheVariants.{Act}
 use Rattle.keymap_core.specs.Actions.{modifier_index, lock_index}
 use Rattle.keymap_core.specs.Maps.{MapValue}
+use Rattle.keymap_core.specs.Numbers.{key_count}
 use Rattle.console_core.specs.declared.event.Event.{Event}
 use Rattle.console_core.specs.declared.held.Held.{Held}
 use Rattle.console_core.specs.declared.held.Move.{Move}
@@ -97,7 +98,7 @@ IsClosed m es x = ((i : Modifier) → IsLetGoMet es x.1.presses (state_of x.0) i
 
 -- where presses lead was met by one press more
 abbrev pub IsPressed : MapValue → Entries → Entry → Type 0
-IsPressed m es x = (k : ℕ) → k < 128 → ArePressesMet m es (x.1.presses + 1) (state_of x.0) k
+IsPressed m es x = (k : ℕ) → k < key_count → ArePressesMet m es (x.1.presses + 1) (state_of x.0) k
 
 -- The start was met and what was met is reached; those below `pressed_to` are pressed, and those below `closed_to`
 -- are closed.

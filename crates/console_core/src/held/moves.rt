@@ -2,6 +2,7 @@
 ghost use Rattle.std.specs.Prelude.{◌≡◌, ◌≢◌, ◌<◌, ℕ, List, false, true, None, ◌||◌, ◌++◌, OnOk, MatchOption, IfSome};
 ghost use Rattle.keymap_core.specs.Maps.{MapValue};
 ghost use Rattle.keymap_core.specs.Actions.{modifiers};
+ghost use Rattle.keymap_core.specs.Numbers.{key_count};
 ghost use Rattle.keymap_core.specs.declared.action.Modifier.{Modifier as ModifierValue};
 ghost use Rattle.console_core.specs.Columns.{slot_of, is_upper};
 ghost use Rattle.console_core.specs.Moves.{start as start_state, is_held as is_held_in, look_in, IsIdle};
@@ -14,7 +15,7 @@ ghost use Rattle.console_core.specs.Inner.HeldBytes.{number_of, bytes_of, held-e
 use super::{Held, Move, Step};
 use crate::event::Event;
 use crate::rules::{column, flips};
-use keymap_core::{Action, Cell, KeyCode, KeyMap, Lock, MODIFIERS, Modifier};
+use keymap_core::{Action, Cell, KEY_COUNT, KeyCode, KeyMap, Lock, MODIFIERS, Modifier};
 use std::alloc::AllocError;
 use std::hash::{Hash, Hasher};
 
@@ -88,16 +89,20 @@ impl Held {
     }
 
     fn slot(&self, key: KeyCode) -> u8
-        ensures in_range { key < 128 }
+        ensures in_range { key < key_count }
         ensures value { result ≡ slot_of key (is_upper (λ i. is_held_in (state_of self.now) i) (λ l. (state_of self.now).is_locked l)) }
     {
         let upper = self.is_held(Modifier::AltShift) != self.is_locked(Lock::Alt);
-        if upper { key.get() + 128 } else { key.get() }
+        if upper {
+            key.get() + KEY_COUNT as u8
+        } else {
+            key.get()
+        }
     }
 
     /// What a press of the key looks up.
     fn look(&self, map: &KeyMap, key: KeyCode) -> Cell
-        ensures in_range { key < 128 }
+        ensures in_range { key < key_count }
         ensures value { result ≡ look_in map.now (state_of self.now) key }
     {
         let entry = map.entry(self.slot(key));
@@ -218,13 +223,13 @@ impl Held {
     }
 }
 
-/// The number of the key, or 128 for none.
+/// The number of the key, or the count of keys for none.
 fn number(holder: Option<KeyCode>) -> u8
     ensures { result ≡ number_of holder }
 {
     match holder {
         Some(key) => key.get(),
-        None => 128,
+        None => KEY_COUNT as u8,
     }
 }
 

@@ -8,6 +8,7 @@ use Rattle.keymap_core.specs.declared.entry.Cell.{Cell}
 use Rattle.keymap_core.specs.declared.entry.Cell.TheVariants.{Char, Act}
 use Rattle.keymap_core.specs.Actions.{modifier_index, lock_index, holding_index}
 use Rattle.keymap_core.specs.Maps.{MapValue}
+use Rattle.keymap_core.specs.Numbers.{key_count}
 use Rattle.keymap_check.specs.declared.kind.Group.TheVariants as group
 use Rattle.keymap_check.specs.declared.kind.Kind.{Kind}
 use Rattle.keymap_check.specs.declared.kind.Kind.TheVariants as kind
@@ -49,4 +50,4 @@ abbrev pub HasBitsBelow : MapValue → List ℕ → ℕ → Type 0
 HasBitsBelow m bits n = (k : ℕ) → k < n → slice_index_or bits k 0 ≡ bits_of m k
 
 abbrev pub HasBits : MapValue → List ℕ → Type 0
-HasBits m bits = (length bits ≡ 128) × HasBitsBelow m bits 128
+HasBits m bits = (length bits ≡ key_count) × HasBitsBelow m bits key_count

@@ -4,6 +4,7 @@ use Rattle.std.specs.Prelude.{ℕ, ◌+◌, if◌then◌else◌, ◌==◌, nat_l
 use Rattle.std.specs.Prelude.{Result, Ok, Err}
 use Rattle.keymap_core.specs.Accents.{AccentValue}
 use Rattle.keymap_core.specs.Maps.{MapValue, undefined, with_entry, with_accent}
+use Rattle.keymap_core.specs.Numbers.{slot_limit, pair_limit}
 use Rattle.keymap_core.specs.declared.entry.Entry.{Entry}
 use Rattle.keymap_core.specs.declared.entry.Cell.{Cell}
 use Rattle.keymap_text.specs.declared.fault.TextFaultKind.{TextFaultKind}
@@ -29,7 +30,7 @@ pub data Place : Type 0 where
 
 -- the first token of a definition
 abbrev pub first_of : Item → Result Place TextFaultKind
-first_of (Value (Number n)) = if nat_lt n 256 then Ok (CellAt n 0 undefined) else Err faults.KeyTooLarge
+first_of (Value (Number n)) = if nat_lt n slot_limit then Ok (CellAt n 0 undefined) else Err faults.KeyTooLarge
 first_of (Value (Act a)) = elim (accent_index a) [ Some i ↦ Ok (AccentCharacter i) | None ↦ Err faults.Unexpected ]
 first_of other = Err (refusal other)
 
@@ -70,7 +71,8 @@ step m (LockAt slot e) t = do
 step m (AccentCharacter i) t = do
   c ← character t
   Ok (at m (AfterAccent i (record { own = c; pairs = [] })))
-step m (AfterAccent i a) Open = if nat_lt (length a.pairs) 52 then Ok (at m (PairBase i a)) else Err faults.TooManyPairs
+step m (AfterAccent i a) Open =
+    if nat_lt (length a.pairs) pair_limit then Ok (at m (PairBase i a)) else Err faults.TooManyPairs
 step m (AfterAccent i a) t = do
   p ← first_of t
   Ok (at (with_accent m i a) p)

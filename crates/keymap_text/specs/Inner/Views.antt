@@ -11,6 +11,7 @@ use Rattle.keymap_text.specs.declared.grammar.Place.TheVariants as places
 use Rattle.keymap_text.specs.declared.grammar.Grammar.{Grammar}
 use Rattle.keymap_core.specs.Accents.{AccentValue}
 use Rattle.keymap_core.specs.Maps.{undefined}
+use Rattle.keymap_core.specs.Numbers.{column_count, accent_limit, pair_limit}
 use Rattle.keymap_text.specs.Inner.Grammar as spec
 
 abbrev pub front_view : Front → lexical.Front
@@ -40,13 +41,13 @@ state_view g = spec.at g.map (place_view g.place g.entry g.accent)
 -- the indices that places may have
 abbrev pub IsPlace : Place → AccentValue → Type 0
 IsPlace places.Definition a = Unit {0}
-IsPlace (places.Cell slot i) a = i < 8
+IsPlace (places.Cell slot i) a = i < column_count
 IsPlace (places.Lock slot) a = Unit {0}
-IsPlace (places.AccentCharacter i) a = i < 15
-IsPlace (places.AfterAccent i) a = i < 15
-IsPlace (places.PairBase i) a = (i < 15) × (length a.pairs < 52)
-IsPlace (places.PairResult i b) a = (i < 15) × (length a.pairs < 52) × (b ≢ 0)
-IsPlace (places.PairEnd i b r) a = (i < 15) × (length a.pairs < 52) × (b ≢ 0)
+IsPlace (places.AccentCharacter i) a = i < accent_limit
+IsPlace (places.AfterAccent i) a = i < accent_limit
+IsPlace (places.PairBase i) a = (i < accent_limit) × (length a.pairs < pair_limit)
+IsPlace (places.PairResult i b) a = (i < accent_limit) × (length a.pairs < pair_limit) × (b ≢ 0)
+IsPlace (places.PairEnd i b r) a = (i < accent_limit) × (length a.pairs < pair_limit) × (b ≢ 0)
 
 -- what a step of the code did, by the step of the definitions
 abbrev pub Steps : Result (Unit {0}) TextFaultKind → Result spec.State TextFaultKind → spec.State → Type 0

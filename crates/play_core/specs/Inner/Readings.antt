@@ -10,6 +10,7 @@ use Rattle.play_core.specs.declared.sent.What.{What}
 use Rattle.play_core.specs.declared.sent.What.TheVariants.{Down, Repeat, Up, Reset, Load}
 use Rattle.play_core.specs.declared.sent.Sent.{Sent}
 use Rattle.play_core.specs.Scripts.{is_there, parts_of, words_of, IsNumber, IsEvent}
+use Rattle.keymap_core.specs.Numbers.{key_count}
 
 abbrev pub are_digits : List ℕ → Bool
 are_digits [] = true
@@ -18,7 +19,7 @@ are_digits (b ∷ bs) = nat_lt (digit_value b) 10 && are_digits bs
 unfoldable pub key_in : List ℕ → Result ℕ LineFault
 key_in number =
     if are_digits number
-    then (if nat_lt (digits_value 10 number) 128 then Ok (digits_value 10 number) else Err Key)
+    then (if nat_lt (digits_value 10 number) key_count then Ok (digits_value 10 number) else Err Key)
     else Err Form
 
 abbrev pub of_key : (ℕ → What) → Result ℕ LineFault → Result What LineFault
@@ -59,7 +60,8 @@ reading (word ∷ rest) =
 -- the text begins with the number of this key and a line feed, behind which the rest stands
 abbrev pub BeginsWithKey : List ℕ → ℕ → List ℕ → Type 0
 BeginsWithKey text key rest =
-    (number : List ℕ) × (text ≡ number ++ 10 ∷ rest) × IsNumber number key × (is_there number ≡ true) × (key < 128)
+    (number : List ℕ) × (text ≡ number ++ 10 ∷ rest) × IsNumber number key × (is_there number ≡ true)
+    × (key < key_count)
 
 -- the first line of the text is this event, and the rest follows that line
 abbrev pub BeginsWithEvent : List ℕ → What → List ℕ → Type 0

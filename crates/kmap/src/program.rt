@@ -1,14 +1,13 @@
 //! One run of the program: the words, the files that they name, and the exit status.
 use crate::command_line::{Request, command, request_of};
-use crate::fault_line::{RunError, write_run_error};
-use crate::runs::{
-    check_run, dump_narrow_run, dump_run, narrow_failure, play_failure, search_run, text_failure,
-};
-use crate::type_run::type_run;
 use clap::error::ErrorKind;
 use keymap_core::{FromStd, KeyMap, ToStd, Write, write_text};
 use keymap_tables::{write_narrow, write_tables};
 use keymap_text::read_from;
+use kmap_runs::{
+    RunError, check_run, dump_narrow_run, dump_run, narrow_failure, play_failure, search_run,
+    text_failure, type_run, write_run_error,
+};
 use play_core::{PlayError, Show, play, play_next};
 use std::alloc::AllocError;
 use std::process::ExitCode;

@@ -1,0 +1,10 @@
+use Rattle.std.proofs.Common.{◌≡◌, ◌+◌, ◌*◌, ◌≤◌, ◌++◌, take}
+use Rattle.std.specs.List.{flat_map}
+use Rattle.arrayvec.specs.ArrayVec.{array_vec_len}
+use Rattle.kmap_runs.specs.Report.{event_line}
+use Rattle.kmap_runs.proofs.report.append_events.Given as goal
+
+abbrev pub invariant-loop-event : goal.invariant-loop-event
+invariant-loop-event l =
+    (l.text.items ≡ l.fn.text.items ++ flat_map event_line (take l.event-index l.events))
+    × (array_vec_len l.text ≤ array_vec_len l.fn.text + 9 * l.event-index)

@@ -1,0 +1,32 @@
+-- What the search for sticking modifiers found, as a script.
+use Rattle.std.specs.Prelude.{ℕ, Bool, true, false, List, [], ◌∷◌, ◌++◌, codes, reverse, if◌then◌else◌}
+use Rattle.std.specs.List.{flat_map}
+use Rattle.keymap_core.specs.declared.action.Modifier.{Modifier}
+use Rattle.keymap_core.specs.declared.action.Holding.TheVariants as holding
+use Rattle.keymap_core.specs.Actions.{modifiers}
+use Rattle.keymap_core.specs.Maps.{MapValue}
+use Rattle.console_core.specs.declared.event.Event.{Event}
+use Rattle.console_core.specs.declared.outcome.Sticking.{Sticking}
+use Rattle.console_core.specs.declared.outcome.Sticking.TheVariants.{Sticks, Never, Undecided}
+use Rattle.console_core.specs.History.{On, between}
+use Rattle.kmap_runs.specs.Report.{holding_name, event_line}
+
+-- the name of a modifier that is on, after a blank
+abbrev pub name_if_on : (Modifier → Bool) → Modifier → List ℕ
+name_if_on is_on i = if is_on i then 32 ∷ holding_name (holding.Mod i) else []
+
+-- which modifiers are on after the events, and a line for each event
+abbrev pub script_text : MapValue → List Event → List ℕ
+script_text m events =
+    codes "# sticks:" ++ flat_map (name_if_on (λ i. On (between m m) i (reverse events))) modifiers ++ codes "\n"
+    ++ flat_map event_line events
+
+abbrev pub found_text : MapValue → Sticking → List ℕ
+found_text m (Sticks events) = script_text m events.items
+found_text m Never = codes "# never sticks\n"
+found_text m Undecided = codes "# undecided: more than 65536 states\n"
+
+abbrev pub is_never : Sticking → Bool
+is_never (Sticks events) = false
+is_never Never = true
+is_never Undecided = false

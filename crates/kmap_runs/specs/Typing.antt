@@ -1,0 +1,40 @@
+-- The script that types a sentence.
+use Rattle.std.specs.Prelude.{ℕ, ◌==◌, nat_lt, Bool, true, false, ◌||◌, List, [], ◌∷◌, ◌++◌, codes, encode_utf8, if◌then◌else◌}
+use Rattle.std.specs.List.{flat_map, before_first}
+use Rattle.keymap_core.specs.Actions.{within}
+use Rattle.keymap_core.specs.Maps.{MapValue}
+use Rattle.play_core.specs.Typing.{way_for, events_in}
+use Rattle.kmap_runs.specs.CodePoints.{code_text}
+use Rattle.kmap_runs.specs.Report.{event_line}
+
+-- a character that a terminal doesn't show as it is: a control, a mark that can't be seen, or one that turns the direction
+abbrev pub is_hidden : ℕ → Bool
+is_hidden c =
+    nat_lt c 32 || within 127 159 c || (c == 173) || within 0x200b 0x200f c || within 0x2028 0x202e c
+    || within 0x2060 0x206f c || (c == 0xfeff)
+
+unfoldable pub shown : ℕ → List ℕ
+shown c = if is_hidden c then code_text c else encode_utf8 c
+
+abbrev pub is_line_feed : ℕ → Bool
+is_line_feed c = c == 10
+
+-- a comment that shows the first line of the characters
+abbrev pub comment : List ℕ → List ℕ
+comment cs = codes "# " ++ flat_map shown (before_first is_line_feed cs) ++ codes "\n"
+
+abbrev pub comment_if : Bool → List ℕ → List ℕ
+comment_if true cs = comment cs
+comment_if false cs = []
+
+-- a line for each event of the character's way
+abbrev pub event_lines : MapValue → ℕ → List ℕ
+event_lines m c = flat_map event_line (events_in (way_for m c))
+
+-- the event lines of the characters, and before those of each line of the sentence a comment that shows it
+unfoldable pub lines_from : MapValue → Bool → List ℕ → List ℕ
+lines_from m starts [] = []
+lines_from m starts (c ∷ cs) = comment_if starts (c ∷ cs) ++ event_lines m c ++ lines_from m (is_line_feed c) cs
+
+abbrev pub typing_script : MapValue → List ℕ → List ℕ
+typing_script m cs = lines_from m true cs

@@ -1,0 +1,51 @@
+//! The number of a character as people write it.
+ghost use Rattle.std.specs.Prelude.{◌≡◌, ◌<◌, ◌∷◌, []};
+ghost use Rattle.kmap_runs.specs.CodePoints as spec;
+
+use crate::text::append;
+use arrayvec::ArrayVec;
+
+fn hex_digit(digit: u32) -> u8
+    requires { digit < 16 }
+    ensures { result ≡ spec.hex_digit digit }
+{
+    if digit < 10 {
+        b'0' + digit as u8
+    } else {
+        b'a' + (digit - 10) as u8
+    }
+}
+
+/// The number of a character in hexadecimal digits, six of them.
+fn hex_digits(number: u32) -> [u8; 6]
+    ensures { result ≡ spec.digit_at number 0x100000 ∷ spec.digit_at number 0x10000 ∷ spec.digit_at number 0x1000
+        ∷ spec.digit_at number 0x100 ∷ spec.digit_at number 0x10 ∷ spec.digit_at number 1 ∷ [] }
+{
+    [
+        hex_digit(number / 0x10_0000 % 16),
+        hex_digit(number / 0x1_0000 % 16),
+        hex_digit(number / 0x1000 % 16),
+        hex_digit(number / 0x100 % 16),
+        hex_digit(number / 0x10 % 16),
+        hex_digit(number % 16),
+    ]
+}
+
+/// The number of a character behind `U+`, in four hexadecimal digits or more.
+#[tactic(auto, unfolding(crate::specs::CodePoints::code_text))]
+pub(crate) fn code_of(c: char) -> ArrayVec<u8, 8>
+    ensures { result.items ≡ spec.code_text c }
+{
+    let number = u32::from(c);
+    let digits = hex_digits(number);
+    let mut text = ArrayVec::new();
+    append(&mut text, b"U+");
+    if number < 0x1_0000 {
+        append(&mut text, &digits[2..]);
+    } else if number < 0x10_0000 {
+        append(&mut text, &digits[1..]);
+    } else {
+        append(&mut text, &digits);
+    }
+    text
+}

@@ -1,0 +1,168 @@
+//! The runs of the program over any reader and writer.
+ghost use Rattle.std.specs.Prelude.{◌≡◌, ◌↔◌, ◌||◌, IfOk, IsTrue, is_err};
+ghost use Rattle.keymap_core.specs.Devices.{WritesText};
+ghost use Rattle.console_core.specs.Headline.{IsSafe};
+ghost use Rattle.console_core.specs.Sticking.{IsAnswer};
+ghost use Rattle.keymap_core.specs.Maps.{MapValue};
+ghost use Rattle.kmap_runs.specs.Report.{report};
+ghost use Rattle.kmap_runs.specs.Search.{found_text as found_text_of};
+ghost use Rattle.kmap_runs.specs.Runs.{ChecksText, DumpsTables, DumpsNarrow, SearchesText, blames_reader, blames_writer};
+ghost use Rattle.kmap_runs.specs.Runs.{of_narrow_error, of_play_error, of_table_error, of_text_error};
+
+use crate::fault_line::RunError;
+use crate::report::report_on;
+use crate::search::found_text;
+use console_core::{Sticking, sticking};
+use keymap_check::check;
+use keymap_core::{KeyMap, Read, Write, WriteFault, write_text};
+use keymap_tables::{NarrowError, TableError, read_narrow_from, read_tables_from};
+use keymap_text::{TextError, print_map, read_from};
+use play_core::{PlayError, Source};
+use std::alloc::{AllocError, Global};
+
+/// Why a run failed that reads a text.
+pub fn text_failure(error: TextError) -> RunError
+    ensures { result ≡ of_text_error error }
+{
+    match error {
+        TextError::Memory => RunError::Memory,
+        TextError::Read(fault) => RunError::ReadText(fault),
+        TextError::Fault(fault) => RunError::Text(fault),
+    }
+}
+
+fn table_failure(error: TableError) -> RunError
+    ensures { result ≡ of_table_error error }
+{
+    match error {
+        TableError::Memory => RunError::Memory,
+        TableError::Read(fault) => RunError::ReadTables(fault),
+        TableError::Fault(fault) => RunError::Tables(fault),
+    }
+}
+
+/// Why a run failed that writes a narrow file.
+pub fn narrow_failure(error: NarrowError) -> RunError
+    ensures { result ≡ of_narrow_error error }
+{
+    match error {
+        NarrowError::TooWide(wide) => RunError::TooWide(wide),
+        NarrowError::Write(fault) => RunError::Write(fault),
+    }
+}
+
+/// Why a run failed that plays a script.
+pub fn play_failure(error: PlayError) -> RunError
+    ensures { result ≡ of_play_error error }
+{
+    match error {
+        PlayError::Memory => RunError::Memory,
+        PlayError::Text(fault) => RunError::Text(fault),
+        PlayError::Next(fault) => RunError::Next(fault),
+        PlayError::Script(fault) => RunError::Script(fault),
+        PlayError::Read(Source::Text, fault) => RunError::ReadText(fault),
+        PlayError::Read(Source::Next, fault) => RunError::ReadNext(fault),
+        PlayError::Read(Source::Script, fault) => RunError::ReadScript(fault),
+        PlayError::Write(fault) => RunError::Write(fault),
+    }
+}
+
+/// Checks a map and writes the report. Answers whether the map was accepted.
+fn write_report<W: Write>(map: &KeyMap, show: bool, writer: &mut W) -> Result<bool, WriteFault>
+    ensures accepted { IfOk result (λ accepted. IsTrue accepted ↔ IsSafe map.now) }
+    ensures bytes { WritesText (λ f. f.written) (W.contents writer.old) (W.contents writer.new) (report map.now show) result }
+    ensures failed { W.has_failed writer.new ≡ (is_err result || W.has_failed writer.old) }
+{
+    let report = check(map);
+    write_text(writer, report_on(map, &report, show).as_slice())?;
+    Ok(report.accepted())
+}
+
+/// Reads a text, checks its map and writes the report, with a demonstration where it is asked for.
+/// Answers whether the map was accepted.
+pub fn check_run<R: Read, W: Write>(
+    alloc: Global,
+    reader: &mut R,
+    show: bool,
+    writer: &mut W,
+) -> Result<bool, RunError>
+    ensures run { ChecksText show (R.remaining reader.old) (R.remaining reader.new) (W.contents writer.old) (W.contents writer.new) result }
+    ensures reader_failed { R.has_failed reader.new ≡ (blames_reader result || R.has_failed reader.old) }
+    ensures writer_failed { W.has_failed writer.new ≡ (blames_writer result || W.has_failed writer.old) }
+{
+    let map = match read_from(alloc, reader) {
+        Ok(map) => map,
+        Err(error) => return Err(text_failure(error)),
+    };
+    match write_report(&map, show, writer) {
+        Ok(accepted) => Ok(accepted),
+        Err(fault) => Err(RunError::Write(fault)),
+    }
+}
+
+/// Searches a map and gives what was found, and the script that tells it.
+fn searched(alloc: Global, map: &KeyMap) -> Result<(Sticking, Vec<u8>), AllocError>
+    ensures { IfOk result (λ r. IsAnswer map.now r.0 × (r.1.items ≡ found_text_of map.now r.0)) }
+{
+    let found = sticking(alloc, map)?;
+    let text = found_text(alloc, map, &found)?;
+    Ok((found, text))
+}
+
+/// Reads a text, searches its map for presses and releases that leave a modifier on, and writes what was found.
+/// Answers whether no modifier ever sticks.
+pub fn search_run<R: Read, W: Write>(
+    alloc: Global,
+    reader: &mut R,
+    writer: &mut W,
+) -> Result<bool, RunError>
+    ensures run { SearchesText (R.remaining reader.old) (R.remaining reader.new) (W.contents writer.old) (W.contents writer.new) result }
+    ensures reader_failed { R.has_failed reader.new ≡ (blames_reader result || R.has_failed reader.old) }
+    ensures writer_failed { W.has_failed writer.new ≡ (blames_writer result || W.has_failed writer.old) }
+{
+    let searched_map = match read_from(alloc, reader) {
+        Ok(map) => map,
+        Err(error) => return Err(text_failure(error)),
+    };
+    let Ok((found, text)) = searched(alloc, &searched_map) else {
+        return Err(RunError::Memory);
+    };
+    match write_text(writer, &text).map_err(RunError::Write) {
+        Ok(()) => Ok(matches!(found, Sticking::Never)),
+        Err(error) => Err(error),
+    }
+}
+
+/// Reads tables and prints their map as text.
+pub fn dump_run<R: Read, W: Write>(
+    alloc: Global,
+    reader: &mut R,
+    writer: &mut W,
+) -> Result<(), RunError>
+    ensures run { DumpsTables (R.remaining reader.old) (R.remaining reader.new) (W.contents writer.old) (W.contents writer.new) result }
+    ensures reader_failed { R.has_failed reader.new ≡ (blames_reader result || R.has_failed reader.old) }
+    ensures writer_failed { W.has_failed writer.new ≡ (blames_writer result || W.has_failed writer.old) }
+{
+    let map = match read_tables_from(alloc, reader) {
+        Ok(map) => map,
+        Err(error) => return Err(table_failure(error)),
+    };
+    print_map(&map, writer).map_err(RunError::Write)
+}
+
+/// Reads a narrow file and prints its map as text.
+pub fn dump_narrow_run<R: Read, W: Write>(
+    alloc: Global,
+    reader: &mut R,
+    writer: &mut W,
+) -> Result<(), RunError>
+    ensures run { DumpsNarrow (R.remaining reader.old) (R.remaining reader.new) (W.contents writer.old) (W.contents writer.new) result }
+    ensures reader_failed { R.has_failed reader.new ≡ (blames_reader result || R.has_failed reader.old) }
+    ensures writer_failed { W.has_failed writer.new ≡ (blames_writer result || W.has_failed writer.old) }
+{
+    let narrow = match read_narrow_from(alloc, reader) {
+        Ok(map) => map,
+        Err(error) => return Err(table_failure(error)),
+    };
+    print_map(&narrow, writer).map_err(RunError::Write)
+}

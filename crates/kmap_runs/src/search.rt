@@ -1,0 +1,110 @@
+//! What the search for sticking modifiers found, as a script that `kmap play` reads.
+ghost use Rattle.std.specs.Prelude.{◌≡◌, ◌++◌, [], ◌∷◌, List, reverse, IfOk, OnOk};
+ghost use Rattle.std.specs.List.{flat_map};
+ghost use Rattle.console_core.specs.declared.event.Event.{Event as EventValue};
+ghost use Rattle.console_core.specs.History.{Maps, On, between};
+ghost use Rattle.kmap_runs.specs.Report.{event_line as event_line_of};
+ghost use Rattle.kmap_runs.specs.Search as spec;
+
+use crate::report::append_event;
+use arrayvec::ArrayVec;
+use console_core::{Event, Sticking, Translator, WordConsole};
+use keymap_core::{Holding, KeyMap, MODIFIERS, Modifier};
+use std::alloc::{AllocError, Global};
+
+/// How many bytes the line of an event has at most.
+const LINE: usize = 16;
+
+/// The line of a script that delivers the event.
+fn event_line(event: Event) -> ArrayVec<u8, LINE>
+    ensures { result.items ≡ event_line_of event }
+{
+    let mut line = ArrayVec::new();
+    append_event(&mut line, event);
+    line
+}
+
+pub(crate) fn push_events(text: &mut Vec<u8>, events: &[Event]) -> Result<(), AllocError>
+    ensures { OnOk result (text.new.items ≡ text.old.items ++ flat_map event_line_of events.now) }
+{
+    for event in events {
+        text.extend_from_slice(event_line(*event).as_slice())?;
+    }
+    Ok(())
+}
+
+/// Delivers the events in their order.
+fn deliver<T: Translator>(console: &mut T, events: &[Event])
+    ensures { (ms : Maps) (h : List EventValue) → T.stands console.old ms h
+        → T.stands console.new ms (reverse events.now ++ h) }
+{
+    for event in events {
+        let _ = console.step(*event);
+    }
+}
+
+/// A new console of the map that was delivered the events.
+fn console_after<'m>(map: &'m KeyMap, events: &[Event]) -> WordConsole<'m>
+    ensures { ⟦<WordConsole<'m> as Translator>⟧.stands result (between map.now map.now) (reverse events.now) }
+{
+    let mut console = WordConsole::new(map);
+    deliver(&mut console, events);
+    console
+}
+
+/// The name of the modifier after a blank, if it is on.
+fn push_name<T: Translator>(
+    text: &mut Vec<u8>,
+    console: &T,
+    modifier: Modifier,
+) -> Result<(), AllocError>
+    ensures { OnOk result ((ms : Maps) (h : List EventValue) → T.stands console.now ms h
+        → text.new.items ≡ text.old.items ++ spec.name_if_on (λ i. On ms i h) modifier) }
+{
+    if console.on(modifier) {
+        text.push(b' ')?;
+        text.extend_from_slice(Holding::Mod(modifier).action().name().as_slice())?;
+    }
+    Ok(())
+}
+
+/// The names of the modifiers that are on, in their order.
+fn push_names<T: Translator>(
+    text: &mut Vec<u8>,
+    console: &T,
+    modifiers: &[Modifier],
+) -> Result<(), AllocError>
+    ensures { OnOk result ((ms : Maps) (h : List EventValue) → T.stands console.now ms h
+        → text.new.items ≡ text.old.items ++ flat_map (spec.name_if_on (λ i. On ms i h)) modifiers.now) }
+{
+    for modifier in modifiers {
+        push_name(text, console, *modifier)?;
+    }
+    Ok(())
+}
+
+fn push_script(text: &mut Vec<u8>, map: &KeyMap, events: &[Event]) -> Result<(), AllocError>
+    ensures { OnOk result (text.new.items ≡ text.old.items ++ spec.script_text map.now events.now) }
+{
+    text.extend_from_slice(b"# sticks:")?;
+    push_names(text, &console_after(map, events), &MODIFIERS)?;
+    text.push(b'\n')?;
+    push_events(text, events)
+}
+
+/// The script that tells what was found.
+pub(crate) fn found_text(
+    alloc: Global,
+    map: &KeyMap,
+    found: &Sticking,
+) -> Result<Vec<u8>, AllocError>
+    ensures { IfOk result (λ text. text.items ≡ spec.found_text map.now found.now) }
+{
+    let mut text = Vec::new(alloc);
+    match found {
+        Sticking::Sticks(events) => push_script(&mut text, map, events)?,
+        Sticking::Never => text.extend_from_slice(b"# never sticks\n")?,
+        Sticking::Undecided => { text.extend_from_slice(b"# undecided: more than 65536 states\n")? }
+    }
+    Ok(text)
+}

@@ -1,0 +1,135 @@
+//! The scripts that type sentences.
+
+use crate::fault_line::RunError;
+use crate::tests::devices::{Blanks, reader_of, settled, stopped, writer_of, written};
+use crate::tests::maps::{LETTER_AND_SHIFT, SHIFT_AND_LINE_FEED};
+use crate::type_runs::type_run;
+use keymap_core::{Read, ReadFault, ReadFaultKind, Write};
+use keymap_text::{TextFault, TextFaultKind};
+use std::test::Fail;
+
+/// A keymap, a sentence, and the script that types it.
+const TYPED: [(&[u8], &[u8], &[u8]); 4] = [
+    (LETTER_AND_SHIFT, b"", b""),
+    (
+        LETTER_AND_SHIFT,
+        b"aA",
+        b"# aA\ndown 30\nup 30\ndown 42\ndown 30\nup 30\nup 42\n",
+    ),
+    (
+        SHIFT_AND_LINE_FEED,
+        b"a\n\nA",
+        b"# a\ndown 30\nup 30\ndown 28\nup 28\n# \ndown 28\nup 28\n# A\ndown 42\ndown 30\nup 30\nup 42\n",
+    ),
+    (
+        SHIFT_AND_LINE_FEED,
+        b"\x1b\xe2\x80\xae#\xc3\xa9",
+        b"# U+001bU+202e#\xc3\xa9\ndown 1\nup 1\ndown 2\nup 2\ndown 3\nup 3\ndown 4\nup 4\n",
+    ),
+];
+
+#[test]
+fn a_sentence_is_written_as_a_script(rt: HostRuntime) -> Result<(), Fail> {
+    for (text, sentence, script) in TYPED {
+        for most in 0..=script.len() {
+            let mut reader = reader_of(text, 7, usize::MAX);
+            let mut bytes = reader_of(sentence, 1, usize::MAX);
+            let mut writer = writer_of(most);
+            let answer = type_run(rt.alloc(), &mut reader, &mut bytes, &mut writer);
+            assert_eq!(rt; settled(answer, &writer)?, written((), most, script.len()));
+            assert_eq!(rt; writer.taken.as_slice(), &script[..most]);
+            assert_eq!(rt; writer.failed(), most < script.len());
+        }
+    }
+    Ok(())
+}
+
+/// A sentence, and what keeps the letter and shift from typing it.
+const UNTYPED: [(&[u8], RunError); 4] = [
+    (b"ab", RunError::NoWay { offset: 1, c: 'b' }),
+    (b"A\xc3\xa9a", RunError::NoWay { offset: 1, c: 'é' }),
+    (b"b\xe2\x82", RunError::NotText { offset: 1 }),
+    (b"\xff", RunError::NotText { offset: 0 }),
+];
+
+#[test]
+fn a_sentence_that_no_key_types_is_a_fault(rt: HostRuntime) -> Result<(), Fail> {
+    for (sentence, fault) in UNTYPED {
+        let mut reader = reader_of(LETTER_AND_SHIFT, 64, usize::MAX);
+        let mut bytes = reader_of(sentence, 64, usize::MAX);
+        let mut writer = writer_of(usize::MAX);
+        let answer = type_run(rt.alloc(), &mut reader, &mut bytes, &mut writer);
+        assert_eq!(rt; settled(answer, &writer)?, Err(fault));
+        assert!(rt; writer.taken.is_empty() && !writer.failed());
+    }
+    Ok(())
+}
+
+#[test]
+fn a_faulty_text_types_nothing(rt: HostRuntime) -> Result<(), Fail> {
+    let fault = TextFault {
+        offset: 3,
+        line: 1,
+        kind: TextFaultKind::EndInside,
+    };
+    let mut bytes = reader_of(b"\xff", 1, 0);
+    let mut writer = writer_of(usize::MAX);
+    let answer = type_run(
+        rt.alloc(),
+        &mut reader_of(b"1 '", 1, usize::MAX),
+        &mut bytes,
+        &mut writer,
+    );
+    assert_eq!(rt; settled(answer, &writer)?, Err(RunError::Text(fault)));
+    assert!(rt; !bytes.failed() && writer.taken.is_empty() && !writer.failed());
+    Ok(())
+}
+
+#[test]
+fn a_sentence_that_stops_types_nothing(rt: HostRuntime) -> Result<(), Fail> {
+    for most in 0..=3 {
+        let mut reader = reader_of(LETTER_AND_SHIFT, 64, usize::MAX);
+        let mut bytes = reader_of(b"aAa", usize::MAX, most);
+        let mut writer = writer_of(usize::MAX);
+        let answer = type_run(rt.alloc(), &mut reader, &mut bytes, &mut writer);
+        let wanted = Err(RunError::ReadSentence(stopped(most)));
+        assert_eq!(rt; settled(answer, &writer)?, wanted);
+        assert!(rt; bytes.failed() && !reader.failed() && writer.taken.is_empty());
+    }
+    Ok(())
+}
+
+#[test]
+fn a_text_that_stops_types_nothing(rt: HostRuntime) -> Result<(), Fail> {
+    for most in 0..=LETTER_AND_SHIFT.len() {
+        let mut reader = reader_of(LETTER_AND_SHIFT, usize::MAX, most);
+        let mut bytes = reader_of(b"a", 1, 0);
+        let mut writer = writer_of(usize::MAX);
+        let answer = type_run(rt.alloc(), &mut reader, &mut bytes, &mut writer);
+        let wanted = Err(RunError::ReadText(stopped(most)));
+        assert_eq!(rt; settled(answer, &writer)?, wanted);
+        assert!(rt; reader.failed() && !bytes.failed() && writer.taken.is_empty());
+    }
+    Ok(())
+}
+
+#[test]
+fn a_sentence_is_read_to_its_limit(rt: HostRuntime) -> Result<(), Fail> {
+    let fault = ReadFault {
+        offset: 1_048_576,
+        kind: ReadFaultKind::Endless,
+    };
+    let mut writer = writer_of(usize::MAX);
+    let answer = type_run(
+        rt.alloc(),
+        &mut reader_of(LETTER_AND_SHIFT, 64, usize::MAX),
+        &mut Blanks,
+        &mut writer,
+    );
+    assert_eq!(rt;
+        settled(answer, &writer)?,
+        Err(RunError::ReadSentence(fault))
+    );
+    assert!(rt; writer.taken.is_empty() && !writer.failed());
+    Ok(())
+}

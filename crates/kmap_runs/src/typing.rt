@@ -1,0 +1,123 @@
+//! The script that types a sentence.
+ghost use Rattle.std.specs.Prelude.{◌≡◌, ◌<◌, ◌++◌, length, position, OnOk, IfOk, IfSome};
+ghost use Rattle.std.specs.List.{flat_map, before_first};
+ghost use Rattle.kmap_runs.specs.Typing as spec;
+
+use crate::code_point::code_of;
+use crate::search::push_events;
+use play_core::Ways;
+use std::alloc::{AllocError, Global};
+
+/// Whether a terminal doesn't show the character as it is: it is a control, a mark that can't be seen, or one that
+/// turns the direction.
+fn is_hidden(c: char) -> bool
+    ensures { result ≡ spec.is_hidden c }
+{
+    let number = u32::from(c);
+    number < 32
+        || (127 <= number && number <= 159)
+        || number == 0xad
+        || (0x200b <= number && number <= 0x200f)
+        || (0x2028 <= number && number <= 0x202e)
+        || (0x2060 <= number && number <= 0x206f)
+        || number == 0xfeff
+}
+
+/// Adds a character as it is, or its number where a terminal wouldn't show it.
+#[tactic(auto, unfolding(crate::specs::Typing::shown))]
+fn push_shown(text: &mut Vec<u8>, c: char) -> Result<(), AllocError>
+    ensures { OnOk result (text.new.items ≡ text.old.items ++ spec.shown c) }
+{
+    if is_hidden(c) {
+        text.extend_from_slice(code_of(c).as_slice())
+    } else {
+        let mut bytes = [0; 4];
+        text.extend_from_slice(c.encode_utf8(&mut bytes).as_bytes())
+    }
+}
+
+fn first_line_feed(characters: &[char]) -> Option<usize>
+    ensures place { result ≡ position spec.is_line_feed characters.now }
+    ensures bound { IfSome result (λ i. i < length characters.now) }
+{
+    characters.iter().position(|c| *c == '\n')
+}
+
+/// The first line of the characters.
+fn first_line(characters: &[char]) -> &[char]
+    ensures { result.now ≡ before_first spec.is_line_feed characters.now }
+{
+    let end = first_line_feed(characters).unwrap_or(characters.len());
+    &characters[..end]
+}
+
+/// Adds what is shown of characters.
+fn push_all_shown(text: &mut Vec<u8>, characters: &[char]) -> Result<(), AllocError>
+    ensures { OnOk result (text.new.items ≡ text.old.items ++ flat_map spec.shown characters.now) }
+{
+    for c in characters {
+        push_shown(text, *c)?;
+    }
+    Ok(())
+}
+
+/// Adds a comment that shows the first line of the characters.
+fn push_comment(text: &mut Vec<u8>, characters: &[char]) -> Result<(), AllocError>
+    ensures { OnOk result (text.new.items ≡ text.old.items ++ spec.comment characters.now) }
+{
+    text.extend_from_slice(b"# ")?;
+    push_all_shown(text, first_line(characters))?;
+    text.push(b'\n')?;
+    Ok(())
+}
+
+/// Adds a line for each event of the character's way.
+fn push_way(text: &mut Vec<u8>, ways: &Ways, c: char) -> Result<(), AllocError>
+    ensures { OnOk result (text.new.items ≡ text.old.items ++ spec.event_lines ways.now c) }
+{
+    match ways.way(c) {
+        Some(events) => push_events(text, events),
+        None => Ok(()),
+    }
+}
+
+/// Adds a comment that shows the first line of the characters, where it is asked for.
+fn push_comment_if(text: &mut Vec<u8>, starts: bool, characters: &[char]) -> Result<(), AllocError>
+    ensures { OnOk result (text.new.items ≡ text.old.items ++ spec.comment_if starts characters.now) }
+{
+    if starts {
+        push_comment(text, characters)
+    } else {
+        Ok(())
+    }
+}
+
+/// Adds the script that types the characters.
+fn push_script(text: &mut Vec<u8>, ways: &Ways, characters: &[char]) -> Result<(), AllocError>
+    ensures { OnOk result (text.new.items ≡ text.old.items ++ spec.typing_script ways.now characters.now) }
+{
+    let mut starts = true;
+    let mut i = 0;
+    while i < characters.len() {
+        let character = characters[i];
+        push_comment_if(text, starts, &characters[i..])?;
+        push_way(text, ways, character)?;
+        starts = character == '\n';
+        i += 1;
+    }
+    Ok(())
+}
+
+/// The script that types the characters: the lines of their events, and before those of each line of the sentence a
+/// comment that shows it.
+pub(crate) fn typing_script(
+    alloc: Global,
+    ways: &Ways,
+    characters: &[char],
+) -> Result<Vec<u8>, AllocError>
+    ensures { IfOk result (λ text. text.items ≡ spec.typing_script ways.now characters.now) }
+{
+    let mut text = Vec::new(alloc);
+    push_script(&mut text, ways, characters)?;
+    Ok(text)
+}

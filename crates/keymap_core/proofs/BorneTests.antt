@@ -1,6 +1,7 @@
 -- The test whether some key bears a holding action, in words.
 use Prim.Native.Nat.{zero, suc}
-use Rattle.std.proofs.Common.{◌↔◌, ◌≡◌, ℕ, ◌+◌, ◌<◌, Bool, true, false, ◌||◌, ◌&&◌, refl, ap, sym, ◌∙◌, inl, inr, arith, eqb}
+use Rattle.std.proofs.Common.{◌↔◌, ◌≡◌, ℕ, ◌+◌, ◌<◌, Bool, true, false, ◌||◌, ◌&&◌, refl, ap, sym, ◌∙◌, inl, inr, arith}
+use Rattle.std.proofs.Common.{eqb}
 use Rattle.std.proofs.lemmas.Bool.{or_cases, and_parts, true≢false, cases_Bool, eqb-true, eq-eqb}
 use Rattle.keymap_core.specs.declared.action.Modifier.TheVariants as modifier
 use Rattle.keymap_core.specs.declared.action.Lock.TheVariants as lock
@@ -85,13 +86,15 @@ pub stands-lower : (m : MapValue) (a : Action) (k : ℕ) → k < 128 → StandsI
 unfolding has_in_half
 stands-lower m a k lt s = any-some _ k 128 lt (ap (λ x. has_in_slot m a x) (plus-zero k) ∙ stands-slot m a k s)
 
-pub upper-stands : (m : MapValue) (a : Action) → has_in_half m a 128 ≡ true → (k : ℕ) × (k < 128) × StandsIn m (k + 128) (Act a)
+pub upper-stands : (m : MapValue) (a : Action) → has_in_half m a 128 ≡ true
+    → (k : ℕ) × (k < 128) × StandsIn m (k + 128) (Act a)
 unfolding has_in_half
 upper-stands m a e =
     let s : (i : ℕ) × (i < 128) × (has_in_slot m a (i + 128) ≡ true) = some-any _ 128 e in
     (s.0, s.1, slot-stands m a (s.0 + 128) s.2)
 
-pub stands-upper : (m : MapValue) (a : Action) (k : ℕ) → k < 128 → StandsIn m (k + 128) (Act a) → has_in_half m a 128 ≡ true
+pub stands-upper : (m : MapValue) (a : Action) (k : ℕ) → k < 128 → StandsIn m (k + 128) (Act a)
+    → has_in_half m a 128 ≡ true
 unfolding has_in_half
 stands-upper m a k lt s = any-some _ k 128 lt (stands-slot m a (k + 128) s)
 
@@ -99,8 +102,12 @@ pub live-upper : (m : MapValue) → is_upper_live m ≡ true → IsUpperLive m
 unfolding is_upper_live
 live-upper m e =
     elim (or_cases (has_in_half m (act.Mod modifier.AltShift) 0) _ e) [
-      | inl s ↦ let t : (k : ℕ) × (k < 128) × StandsIn m k (Act (act.Mod modifier.AltShift)) = lower-stands m _ s in (t.0, t.1, inl t.2)
-      | inr s ↦ let t : (k : ℕ) × (k < 128) × StandsIn m k (Act (act.Lock lock.Alt)) = lower-stands m _ s in (t.0, t.1, inr t.2)
+      | inl s ↦
+          let t : (k : ℕ) × (k < 128) × StandsIn m k (Act (act.Mod modifier.AltShift)) = lower-stands m _ s in
+          (t.0, t.1, inl t.2)
+      | inr s ↦
+          let t : (k : ℕ) × (k < 128) × StandsIn m k (Act (act.Lock lock.Alt)) = lower-stands m _ s in
+          (t.0, t.1, inr t.2)
     ]
 
 pub upper-is_live : (m : MapValue) → IsUpperLive m → is_upper_live m ≡ true
@@ -116,16 +123,23 @@ pub borne-bears : (m : MapValue) (a : Holding) → is_borne m a ≡ true → (k 
 unfolding is_borne
 borne-bears m a e =
     elim (or_cases (has_in_half m (holding_action a) 0) _ e) [
-      | inl s ↦ let t : (k : ℕ) × (k < 128) × StandsIn m k (Act (holding_action a)) = lower-stands m _ s in (t.0, t.1, inl t.2)
+      | inl s ↦
+          let t : (k : ℕ) × (k < 128) × StandsIn m k (Act (holding_action a)) = lower-stands m _ s in
+          (t.0, t.1, inl t.2)
       | inr s ↦
           let p : (is_upper_live m ≡ true) × (has_in_half m (holding_action a) 128 ≡ true) = and_parts _ _ s in
-          let t : (k : ℕ) × (k < 128) × StandsIn m (k + 128) (Act (holding_action a)) = upper-stands m _ p.1 in (t.0, t.1, inr (live-upper m p.0, t.2))
+          let t : (k : ℕ) × (k < 128) × StandsIn m (k + 128) (Act (holding_action a)) = upper-stands m _ p.1 in
+          (t.0, t.1, inr (live-upper m p.0, t.2))
     ]
 
 bears-borne_by : (m : MapValue) (a : Holding) (k : ℕ) → k < 128 → Bears m k a → is_borne m a ≡ true
 unfolding is_borne
-bears-borne_by m a k lt (inl s) = or-left (has_in_half m (holding_action a) 0) (is_upper_live m && has_in_half m (holding_action a) 128) (stands-lower m (holding_action a) k lt s)
-bears-borne_by m a k lt (inr s) = or-right (has_in_half m (holding_action a) 0) (is_upper_live m && has_in_half m (holding_action a) 128) (rw (upper-is_live m s.0, stands-upper m (holding_action a) k lt s.1) refl)
+bears-borne_by m a k lt (inl s) =
+    or-left (has_in_half m (holding_action a) 0) (is_upper_live m && has_in_half m (holding_action a) 128)
+    (stands-lower m (holding_action a) k lt s)
+bears-borne_by m a k lt (inr s) =
+    or-right (has_in_half m (holding_action a) 0) (is_upper_live m && has_in_half m (holding_action a) 128)
+    (rw (upper-is_live m s.0, stands-upper m (holding_action a) k lt s.1) refl)
 
 pub bears-borne : (m : MapValue) (a : Holding) (k : ℕ) → k < 128 → Bears m k a → is_borne m a ≡ true
 bears-borne m a k lt s = bears-borne_by m a k lt s
@@ -143,33 +157,43 @@ borne_upper_by m k lt (inr s) = s.0
 -- the upper slots are live where some key bears alock
 pub borne-upper : (m : MapValue) → is_borne m (holding.Lock lock.Alt) ≡ true → IsUpperLive m
 borne-upper m e =
-    let s : (k : ℕ) × (k < 128) × Bears m k (holding.Lock lock.Alt) = borne-bears m (holding.Lock lock.Alt) e in borne_upper_by m s.0 s.1 s.2
+    let s : (k : ℕ) × (k < 128) × Bears m k (holding.Lock lock.Alt) = borne-bears m (holding.Lock lock.Alt) e in
+    borne_upper_by m s.0 s.1 s.2
 
 -- what the loops keep
-pub slot-none : (m : MapValue) (a : Action) (slot column : ℕ) → any_below (λ i. is_cell_of_action a (cell_at m slot i)) column ≡ false → is_cell_of_action a (cell_at m slot column) ≡ false → any_below (λ i. is_cell_of_action a (cell_at m slot i)) (column + 1) ≡ false
+pub slot-none : (m : MapValue) (a : Action) (slot column : ℕ)
+    → any_below (λ i. is_cell_of_action a (cell_at m slot i)) column ≡ false
+    → is_cell_of_action a (cell_at m slot column) ≡ false
+    → any_below (λ i. is_cell_of_action a (cell_at m slot i)) (column + 1) ≡ false
 slot-none m a slot column e f = any-none _ column e f
 
-pub slot-some : (m : MapValue) (a : Action) (slot column : ℕ) → column < 8 → is_cell_of_action a (cell_at m slot column) ≡ true → has_in_slot m a slot ≡ true
+pub slot-some : (m : MapValue) (a : Action) (slot column : ℕ) → column < 8
+    → is_cell_of_action a (cell_at m slot column) ≡ true → has_in_slot m a slot ≡ true
 unfolding has_in_slot
 slot-some m a slot column lt e = any-some _ column 8 lt e
 
-pub slot-end : (m : MapValue) (a : Action) (slot column : ℕ) → column ≡ 8 → any_below (λ i. is_cell_of_action a (cell_at m slot i)) column ≡ false → has_in_slot m a slot ≡ false
+pub slot-end : (m : MapValue) (a : Action) (slot column : ℕ) → column ≡ 8
+    → any_below (λ i. is_cell_of_action a (cell_at m slot i)) column ≡ false → has_in_slot m a slot ≡ false
 unfolding has_in_slot
 slot-end m a slot column e f = ap (λ n. any_below (λ i. is_cell_of_action a (cell_at m slot i)) n) (sym e) ∙ f
 
-pub half-some : (m : MapValue) (a : Action) (from key : ℕ) → key < 128 → has_in_slot m a (key + from) ≡ true → has_in_half m a from ≡ true
+pub half-some : (m : MapValue) (a : Action) (from key : ℕ) → key < 128 → has_in_slot m a (key + from) ≡ true
+    → has_in_half m a from ≡ true
 unfolding has_in_half
 half-some m a from key lt e = any-some _ key 128 lt e
 
-pub half-end : (m : MapValue) (a : Action) (from key : ℕ) → key ≡ 128 → any_below (λ k. has_in_slot m a (k + from)) key ≡ false → has_in_half m a from ≡ false
+pub half-end : (m : MapValue) (a : Action) (from key : ℕ) → key ≡ 128
+    → any_below (λ k. has_in_slot m a (k + from)) key ≡ false → has_in_half m a from ≡ false
 unfolding has_in_half
 half-end m a from key e f = ap (λ n. any_below (λ k. has_in_slot m a (k + from)) n) (sym e) ∙ f
 
 -- the tests, as the code makes them
-pub live-by : (m : MapValue) → is_upper_live m ≡ (has_in_half m (act.Mod modifier.AltShift) 0 || has_in_half m (act.Lock lock.Alt) 0)
+pub live-by : (m : MapValue)
+    → is_upper_live m ≡ (has_in_half m (act.Mod modifier.AltShift) 0 || has_in_half m (act.Lock lock.Alt) 0)
 unfolding is_upper_live
 live-by m = refl
 
-pub borne-by : (m : MapValue) (a : Holding) → is_borne m a ≡ (has_in_half m (holding_action a) 0 || (is_upper_live m && has_in_half m (holding_action a) 128))
+pub borne-by : (m : MapValue) (a : Holding)
+    → is_borne m a ≡ (has_in_half m (holding_action a) 0 || (is_upper_live m && has_in_half m (holding_action a) 128))
 unfolding is_borne
 borne-by m a = refl

@@ -1,5 +1,6 @@
 -- The code of each action is that action's alone.
-use Rattle.std.proofs.Common.{◌↔◌, ◌∙◌, nat_lt, ◌≡◌, ℕ, ◌-◌, ◌<◌, ◌≤◌, ◌==◌, nat_le, List, [], ◌∷◌, Bool, true, false, refl, arith, sym, ap, subst, inl, inr}
+use Rattle.std.proofs.Common.{◌↔◌, ◌∙◌, nat_lt, ◌≡◌, ℕ, ◌-◌, ◌<◌, ◌≤◌, ◌==◌, nat_le, List, [], ◌∷◌, Bool, true, false}
+use Rattle.std.proofs.Common.{refl, arith, sym, ap, subst, inl, inr}
 use Rattle.std.specs.Prelude.{◌||◌, is_none, Some, None, Option, cond}
 use Rattle.std.specs.List.{find, list_all, range_with_len}
 use Rattle.std.proofs.lemmas.Bool.{and_parts, cases_lt, eqb-true, leb-true}
@@ -89,13 +90,16 @@ range-has_code c low high numbered action rest false test inside later h = later
 -- the action of a code has the code
 pub action-has_code : (c : ℕ) (action : Action) → action_of c ≡ Some action → HasCode c action
 action-has_code c action =
-    range-has_code c 0x0b 0x1a (a.Screen (c - 0x0a)) action _ _ refl (λ low high. (omega arith, (omega arith, omega arith)))
-    (range-has_code c 0x1b 0x7a (a.Function (c - 0x1a)) action _ _ refl (λ low high. (omega arith, (omega arith, omega arith)))
+    range-has_code c 0x0b 0x1a (a.Screen (c - 0x0a)) action _ _ refl
+    (λ low high. (omega arith, (omega arith, omega arith)))
+    (range-has_code c 0x1b 0x7a (a.Function (c - 0x1a)) action _ _ refl
+    (λ low high. (omega arith, (omega arith, omega arith)))
     (range-has_code c 0x89 0x97 (a.DeadKey (c - 0x89)) action _ _ refl (λ low high. (omega arith, omega arith))
     (find-has_code c plain_actions action refl)))
 
 -- a code past those of the table is that of no action
-beyond-find : (c : ℕ) (xs : List Action) → list_all (λ x. nat_lt (code_of x) 0xa4) xs ≡ true → 0xa4 ≤ c → find (λ x. code_of x == c) xs ≡ None
+beyond-find : (c : ℕ) (xs : List Action) → list_all (λ x. nat_lt (code_of x) 0xa4) xs ≡ true → 0xa4 ≤ c
+    → find (λ x. code_of x == c) xs ≡ None
 beyond-find c [] below h = refl
 beyond-find c (x ∷ xs) below h =
     let parts = and_parts (nat_lt (code_of x) 0xa4) (list_all (λ y. nat_lt (code_of y) 0xa4) xs) below in
@@ -129,7 +133,9 @@ all-codes = refl
 -- what the test says of each code
 same-as_test : (c : ℕ) → is_none (action_of c) ≡ is_unused_code c
 same-as_test c = elim (cases_lt c 0xa4) [
-  | inl below ↦ (booleans_Decides _ _).0 (all-in (λ c. beq (is_none (action_of c)) (is_unused_code c)) 0 0xa4 all-codes c (omega arith) (omega (arith, below)))
+  | inl below ↦
+      (booleans_Decides _ _).0 (all-in (λ c. beq (is_none (action_of c)) (is_unused_code c)) 0 0xa4 all-codes c
+      (omega arith) (omega (arith, below)))
   | inr above ↦ ap is_none (beyond-none c above) ∙ sym (unused-as_test c (inr (inr (inr above))))
 ]
 
@@ -138,5 +144,7 @@ is_none-None None h = refl
 is_none-None (Some x) h = absurd (cc)
 
 pub unused-codes : (c : ℕ) → (action_of c ≡ None) ↔ IsUnusedCode c
-unused-codes c =
-    (λ e. unused-from_test c (sym (same-as_test c) ∙ ap is_none e), λ u. is_none-None (action_of c) (same-as_test c ∙ unused-as_test c u))
+unused-codes c = (
+  λ e. unused-from_test c (sym (same-as_test c) ∙ ap is_none e),
+  λ u. is_none-None (action_of c) (same-as_test c ∙ unused-as_test c u),
+)

@@ -43,9 +43,12 @@ accent-same a b =
     )
 
 pub map-same : (a b : MapValue)
-    → Decides (pointwise entry.eq-value.it a.entries b.entries && pointwise accent.eq-value.it a.accents b.accents) (a ≡ b)
+    → Decides (pointwise entry.eq-value.it a.entries b.entries && pointwise accent.eq-value.it a.accents b.accents)
+    (a ≡ b)
 map-same a b =
-    let d = both-Decides _ _ _ _ (pointwise_decides entry-same a.entries b.entries) (pointwise_decides accent-same a.accents b.accents) in (
+    let d =
+    both-Decides _ _ _ _ (pointwise_decides entry-same a.entries b.entries)
+    (pointwise_decides accent-same a.accents b.accents) in (
       λ h. let e = d.0 h in λ i. record { entries = e.0 i; accents = e.1 i },
       λ e. d.1 (ap (λ (x : MapValue). x.entries) e, ap (λ (x : MapValue). x.accents) e),
     )

@@ -1,5 +1,6 @@
 -- What a word means, by the tests that are made in turn.
-use Rattle.std.proofs.Common.{◌≡◌, ℕ, ◌<◌, min, Bool, true, false, cond, List, [], ◌∷◌, ◌++◌, map, refl, sym, ◌∙◌, ap, arith, codes, Option, Some, None}
+use Rattle.std.proofs.Common.{◌≡◌, ℕ, ◌<◌, min, Bool, true, false, cond, List, [], ◌∷◌, ◌++◌, map, refl, sym, ◌∙◌, ap}
+use Rattle.std.proofs.Common.{arith, codes, Option, Some, None}
 use Rattle.std.specs.List.{find, list_any}
 use Rattle.std.specs.Option.{option_map, option_map_or, option_or}
 use Rattle.std.specs.Str.{bytes_eq}
@@ -20,20 +21,24 @@ abbrev pub cut_at_255 : Option ℕ → Option ℕ
 cut_at_255 = option_map (λ n. min n 255)
 
 -- a number that is cut at 255 is in the range exactly where it was before
-cut-numbered : (most : ℕ) (action : ℕ → Action) (n : ℕ) → most < 255 → numbered most action (min n 255) ≡ numbered most action n
+cut-numbered : (most : ℕ) (action : ℕ → Action) (n : ℕ) → most < 255
+    → numbered most action (min n 255) ≡ numbered most action n
 cut-numbered most action n h = grind (arith, nat_tests)
 
-numbered-found : (most : ℕ) (action : ℕ → Action) (o : Option ℕ) (k : ℕ) (rest : Named) → most < 255 → Some k ≡ cut_at_255 o
+numbered-found : (most : ℕ) (action : ℕ → Action) (o : Option ℕ) (k : ℕ) (rest : Named) → most < 255
+    → Some k ≡ cut_at_255 o
     → numbered most action k ≡ option_map_or (numbered most action) o rest
 numbered-found most action None k rest h e = absurd (none-some k (sym e))
-numbered-found most action (Some n) k rest h e = ap (numbered most action) (same_Some k (min n 255) e) ∙ cut-numbered most action n h
+numbered-found most action (Some n) k rest h e =
+    ap (numbered most action) (same_Some k (min n 255) e) ∙ cut-numbered most action n h
 
 numbered-not_found : (most : ℕ) (action : ℕ → Action) (o : Option ℕ) (rest : Named) → None ≡ cut_at_255 o
     → rest ≡ option_map_or (numbered most action) o rest
 numbered-not_found most action None rest e = refl
 numbered-not_found most action (Some n) rest e = absurd (none-some (min n 255) e)
 
-pub meaning-screen : (low : List ℕ) (k : ℕ) → Some k ≡ cut_at_255 (number_behind (codes "scr") low) → numbered 16 a.Screen k ≡ meaning_of low
+pub meaning-screen : (low : List ℕ) (k : ℕ) → Some k ≡ cut_at_255 (number_behind (codes "scr") low)
+    → numbered 16 a.Screen k ≡ meaning_of low
 meaning-screen low k e = numbered-found 16 a.Screen (number_behind (codes "scr") low) k _ (omega arith) e
 
 pub meaning-function : (low : List ℕ) (k : ℕ) → None ≡ cut_at_255 (number_behind (codes "scr") low)
@@ -61,7 +66,8 @@ action-entry None p = refl
 -- the look-up among all names, in three turns
 pub find-names : (low : List ℕ)
     → option_map (λ name. name.1) (find (λ name. bytes_eq low name.0) names)
-    ≡ option_or (option_or (find (λ action. bytes_eq low (name_of action)) plain_actions) (find (λ action. bytes_eq low (name_of action)) dead_keys))
+    ≡ option_or (option_or (find (λ action. bytes_eq low (name_of action)) plain_actions)
+    (find (λ action. bytes_eq low (name_of action)) dead_keys))
     (option_map (λ name. name.1) (find (λ name. bytes_eq low name.0) aliases))
 find-names low =
     ap (option_map (λ name. name.1))
@@ -72,7 +78,8 @@ find-names low =
     ∙ action-entry _ (find (λ name. bytes_eq low name.0) aliases)
 
 meaning-of_action : (o : Option (List ℕ × Action))
-    → option_map_or n.Action (option_map (λ name. name.1) o) n.Unknown ≡ option_map_or (λ name. n.Action name.1) o n.Unknown
+    → option_map_or n.Action (option_map (λ name. name.1) o) n.Unknown
+    ≡ option_map_or (λ name. n.Action name.1) o n.Unknown
 meaning-of_action None = refl
 meaning-of_action (Some name) = refl
 
@@ -83,13 +90,18 @@ pub meaning-named : (low : List ℕ) (found : Option Action) → None ≡ cut_at
 meaning-named low found screen function combined e =
     ap (λ o. option_map_or n.Action o n.Unknown) e
     ∙ meaning-of_action (find (λ name. bytes_eq low name.0) names)
-    ∙ ap (λ b. cond b n.Combined (option_map_or (λ name. n.Action name.1) (find (λ name. bytes_eq low name.0) names) n.Unknown)) (sym combined)
+    ∙ ap (λ b. cond b n.Combined
+    (option_map_or (λ name. n.Action name.1) (find (λ name. bytes_eq low name.0) names) n.Unknown))
+    (sym combined)
     ∙ numbered-not_found 96 a.Function (number_behind (codes "fkey") low) _ function
     ∙ numbered-not_found 16 a.Screen (number_behind (codes "scr") low) _ screen
 
 pub meaning-combined : (low : List ℕ) → None ≡ cut_at_255 (number_behind (codes "scr") low)
-    → None ≡ cut_at_255 (number_behind (codes "fkey") low) → list_any (bytes_eq low) combined_names ≡ true → n.Combined ≡ meaning_of low
+    → None ≡ cut_at_255 (number_behind (codes "fkey") low) → list_any (bytes_eq low) combined_names ≡ true
+    → n.Combined ≡ meaning_of low
 meaning-combined low screen function combined =
-    ap (λ b. cond b n.Combined (option_map_or (λ name. n.Action name.1) (find (λ name. bytes_eq low name.0) names) n.Unknown)) (sym combined)
+    ap (λ b. cond b n.Combined
+    (option_map_or (λ name. n.Action name.1) (find (λ name. bytes_eq low name.0) names) n.Unknown))
+    (sym combined)
     ∙ numbered-not_found 96 a.Function (number_behind (codes "fkey") low) _ function
     ∙ numbered-not_found 16 a.Screen (number_behind (codes "scr") low) _ screen

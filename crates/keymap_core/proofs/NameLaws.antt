@@ -1,5 +1,6 @@
 -- The name of each action, read again, gives the action.
-use Rattle.std.proofs.Common.{List, All, map, ◌≡◌, ℕ, ◌+◌, ◌<◌, ◌≤◌, ◌==◌, suc, zero, Bool, true, false, refl, arith, sym, ap, subst, inl, inr}
+use Rattle.std.proofs.Common.{List, All, map, ◌≡◌, ℕ, ◌+◌, ◌<◌, ◌≤◌, ◌==◌, suc, zero, Bool, true, false, refl, arith}
+use Rattle.std.proofs.Common.{sym, ap, subst, inl, inr}
 use Rattle.std.specs.Prelude.{◌&&◌}
 use Rattle.std.specs.List.{list_all, range_with_len}
 use Rattle.std.specs.Char.{to_ascii_lowercase}
@@ -23,7 +24,8 @@ and-right true q h = h
 and-right false q h = absurd (cc)
 
 -- a test that holds along a range holds at each number of it
-pub all-in : (test : ℕ → Bool) (from n : ℕ) → list_all test (range_with_len from n) ≡ true → (k : ℕ) → from ≤ k → k < from + n → test k ≡ true
+pub all-in : (test : ℕ → Bool) (from n : ℕ) → list_all test (range_with_len from n) ≡ true → (k : ℕ) → from ≤ k
+    → k < from + n → test k ≡ true
 all-in test from zero all k low high = absurd (omega arith)
 all-in test from (suc n) all k low high =
     elim (eq-or-lt_of_le low) [
@@ -74,9 +76,15 @@ unfolding is_dead
 all-dead = refl
 
 pub name-read : (action : Action) → IsAction action → named_of (name_of action) ≡ n.Action action
-name-read (a.Screen k) known = is-screen k _ (all-in (λ k. is_screen k (named_of (name_of (a.Screen k)))) 1 16 all-screen k (omega arith) (omega arith))
-name-read (a.Function k) known = is-function k _ (all-in (λ k. is_function k (named_of (name_of (a.Function k)))) 1 96 all-function k (omega arith) (omega arith))
-name-read (a.DeadKey k) known = is-dead k _ (all-in (λ k. is_dead k (named_of (name_of (a.DeadKey k)))) 0 15 all-dead k (omega arith) (omega arith))
+name-read (a.Screen k) known =
+    is-screen k _
+    (all-in (λ k. is_screen k (named_of (name_of (a.Screen k)))) 1 16 all-screen k (omega arith) (omega arith))
+name-read (a.Function k) known =
+    is-function k _
+    (all-in (λ k. is_function k (named_of (name_of (a.Function k)))) 1 96 all-function k (omega arith)
+    (omega arith))
+name-read (a.DeadKey k) known =
+    is-dead k _ (all-in (λ k. is_dead k (named_of (name_of (a.DeadKey k)))) 0 15 all-dead k (omega arith) (omega arith))
 name-read a.Nop known = refl
 name-read (a.Mod m.LeftShift) known = refl
 name-read (a.Mod m.RightShift) known = refl

@@ -1,5 +1,6 @@
 -- The number behind the letters of a name.
-use Rattle.std.proofs.Common.{◌≡◌, ℕ, ◌<◌, min, Bool, true, false, cond, List, [], ◌∷◌, length, take, drop, map, refl, sym, ◌∙◌, ap, ap₂, arith, length-take}
+use Rattle.std.proofs.Common.{◌≡◌, ℕ, ◌<◌, min, Bool, true, false, cond, List, [], ◌∷◌, length, take, drop, map, refl}
+use Rattle.std.proofs.Common.{sym, ◌∙◌, ap, ap₂, arith, length-take}
 use Rattle.std.specs.Prelude.{◌&&◌, Option, Some, None}
 use Rattle.std.specs.List.{list_all}
 use Rattle.std.specs.Option.{option_map}
@@ -50,22 +51,27 @@ spelled-lower xs = spelled_at (list_all is_ascii_digit xs) xs refl
 -- the number, once the letters are known to stand in front or not
 behind_at : (b : Bool) (letters word : List ℕ) → bytes_eq (take (length letters) (lower word)) letters ≡ b
     → number_behind letters (lower word) ≡ cond b (spelled (drop (length letters) word)) None
-behind_at true letters word h = rw (h, drop-map to_ascii_lowercase (length letters) word) (spelled-lower (drop (length letters) word))
+behind_at true letters word h =
+    rw (h, drop-map to_ascii_lowercase (length letters) word) (spelled-lower (drop (length letters) word))
 behind_at false letters word h = rw h refl
 
 pub number-behind : (letters word : List ℕ) → bytes_eq (lower (take (length letters) word)) letters ≡ true
     → number_behind letters (lower word) ≡ spelled (drop (length letters) word)
-number-behind letters word h = behind_at true letters word (ap (λ xs. bytes_eq xs letters) (take-map to_ascii_lowercase (length letters) word) ∙ h)
+number-behind letters word h =
+    behind_at true letters word (ap (λ xs. bytes_eq xs letters) (take-map to_ascii_lowercase (length letters) word) ∙ h)
 
 pub none-behind : (letters word : List ℕ) → bytes_eq (lower (take (length letters) word)) letters ≡ false
     → number_behind letters (lower word) ≡ None
-none-behind letters word h = behind_at false letters word (ap (λ xs. bytes_eq xs letters) (take-map to_ascii_lowercase (length letters) word) ∙ h)
+none-behind letters word h =
+    behind_at false letters word
+    (ap (λ xs. bytes_eq xs letters) (take-map to_ascii_lowercase (length letters) word) ∙ h)
 
 -- a word shorter than the letters
 pub none-shorter : (letters word : List ℕ) → length word < length letters → number_behind letters (lower word) ≡ None
 none-shorter letters word h = behind_at _ letters word refl ∙ at _ refl
   where
-    at : (b : Bool) → bytes_eq (take (length letters) (lower word)) letters ≡ b → cond b (spelled (drop (length letters) word)) None ≡ None
+    at : (b : Bool) → bytes_eq (take (length letters) (lower word)) letters ≡ b
+        → cond b (spelled (drop (length letters) word)) None ≡ None
     at false e = refl
     at true e =
         let same = ap length ((bytes_eq-Decides (take (length letters) (lower word)) letters).0 e) in

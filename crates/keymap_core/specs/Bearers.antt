@@ -17,7 +17,8 @@ StandsIn m slot x = (column : ℕ) × (column < 8) × (cell_at m slot column ≡
 -- the slots 128 to 255 are live: some cell of the slots 0 to 127 is ashift or alock
 abbrev pub IsUpperLive : MapValue → Type 0
 IsUpperLive m =
-    (slot : ℕ) × (slot < 128) × (StandsIn m slot (Act (act.Mod modifier.AltShift)) ⊎ StandsIn m slot (Act (act.Lock lock.Alt)))
+    (slot : ℕ) × (slot < 128)
+    × (StandsIn m slot (Act (act.Mod modifier.AltShift)) ⊎ StandsIn m slot (Act (act.Lock lock.Alt)))
 
 -- the cell is one of the key's
 abbrev pub IsCellOf : MapValue → ℕ → Cell → Type 0

@@ -35,7 +35,8 @@ pub pair-wide : (pair : ℕ × ℕ) → IsPair pair → PairFits wide pair
 pair-wide pair known = (scalar-small pair.0 known.0, scalar-small pair.1 known.2)
 
 pub accent-wide : (accent : AccentValue) → IsAccent accent → AccentFits wide accent
-accent-wide accent known = (scalar-small accent.own known.own, All-weaker IsPair (PairFits wide) pair-wide accent.pairs known.pairs)
+accent-wide accent known =
+    (scalar-small accent.own known.own, All-weaker IsPair (PairFits wide) pair-wide accent.pairs known.pairs)
 
 pub map-wide : (m : MapValue) → IsMap m → FitsIn wide m
 map-wide m is = record {
@@ -47,8 +48,10 @@ some_none : (kind : TableFaultKind) (o : Option TableFaultKind) → o ≡ Some k
 some_none kind o some none = cc
 
 -- No image has a fault.
-pub no-fault : (l : Layout) (m : MapValue) (f : TableFault) → IsMap m → FitsIn l m → IsFirstFault (fault_at l (image_in l m)) f → ⊥
-no-fault l m f is fits fault = some_none f.kind (fault_at l (image_in l m) f.offset) fault.here (image-sound l m is fits f.offset)
+pub no-fault : (l : Layout) (m : MapValue) (f : TableFault) → IsMap m → FitsIn l m
+    → IsFirstFault (fault_at l (image_in l m)) f → ⊥
+no-fault l m f is fits fault =
+    some_none f.kind (fault_at l (image_in l m) f.offset) fault.here (image-sound l m is fits f.offset)
 
 fault_of : ℕ → TableFaultKind → TableFault
 fault_of offset kind = record { offset = offset; kind = kind }
@@ -67,19 +70,24 @@ one-fault at f g first second =
         | inr after ↦ absurd (some_none g.kind (at g.offset) second.here (first.before g.offset after))
       ]
     ] in
-    let kind : f.kind ≡ g.kind = same-kind (at g.offset) f.kind g.kind (subst (λ (p : ℕ). at p ≡ Some f.kind) place first.here) second.here in
+    let kind : f.kind ≡ g.kind =
+    same-kind (at g.offset) f.kind g.kind (subst (λ (p : ℕ). at p ≡ Some f.kind) place first.here) second.here in
     ap (λ (p : ℕ). fault_of p f.kind) place ∙ ap (λ (k : TableFaultKind). fault_of g.offset k) kind
 
 -- Reading the image of a map that fits gives the map.
-pub reading-image : (l : Layout) (bytes : List ℕ) (r : Result MapValue TableError) → IsReadingIn l bytes r → (m : MapValue) → IsMap m → FitsIn l m → bytes ≡ image_in l m → AnswersMap r m
+pub reading-image : (l : Layout) (bytes : List ℕ) (r : Result MapValue TableError) → IsReadingIn l bytes r
+    → (m : MapValue) → IsMap m → FitsIn l m → bytes ≡ image_in l m → AnswersMap r m
 reading-image l bytes (Ok n) reading m is fits same = same-map l n m reading.0 reading.2 is fits (sym reading.1 ∙ same)
 reading-image l bytes (Err Memory) reading m is fits same = tt
 reading-image l bytes (Err (Read f)) reading m is fits same = absurd reading
-reading-image l bytes (Err (Fault f)) reading m is fits same = no-fault l m f is fits (subst (λ (v : List ℕ). IsFirstFault (fault_at l v) f) same reading)
+reading-image l bytes (Err (Fault f)) reading m is fits same =
+    no-fault l m f is fits (subst (λ (v : List ℕ). IsFirstFault (fault_at l v) f) same reading)
 
 -- Reading bytes with a fault gives the fault.
-pub reading-fault : (l : Layout) (bytes : List ℕ) (r : Result MapValue TableError) → IsReadingIn l bytes r → (f : TableFault) → IsFirstFault (fault_at l bytes) f → AnswersFault r f
-reading-fault l bytes (Ok n) reading f fault = no-fault l n f reading.0 reading.2 (subst (λ (v : List ℕ). IsFirstFault (fault_at l v) f) reading.1 fault)
+pub reading-fault : (l : Layout) (bytes : List ℕ) (r : Result MapValue TableError) → IsReadingIn l bytes r
+    → (f : TableFault) → IsFirstFault (fault_at l bytes) f → AnswersFault r f
+reading-fault l bytes (Ok n) reading f fault =
+    no-fault l n f reading.0 reading.2 (subst (λ (v : List ℕ). IsFirstFault (fault_at l v) f) reading.1 fault)
 reading-fault l bytes (Err Memory) reading f fault = tt
 reading-fault l bytes (Err (Read g)) reading f fault = absurd reading
 reading-fault l bytes (Err (Fault g)) reading f fault = one-fault (fault_at l bytes) g f reading fault

@@ -51,7 +51,8 @@ pairs-inside Wide i few = omega arith
 pairs-inside Narrow i few = omega arith
 
 -- where pair i stands, by what the methods answer
-pub at-pair : (l : Layout) (i number pair : ℕ) → number ≡ number_size l → pair ≡ pair_size l → number + pair * i ≡ number_size l + pair_size l * i
+pub at-pair : (l : Layout) (i number pair : ℕ) → number ≡ number_size l → pair ≡ pair_size l
+    → number + pair * i ≡ number_size l + pair_size l * i
 at-pair l i number pair one two = ap (λ (k : ℕ). k + pair * i) one ∙ ap (λ (k : ℕ). number_size l + k * i) two
 
 pub none-read : (l : Layout) → pair_size l * 0 ≡ 0
@@ -74,16 +75,19 @@ pub pair-below : (l : Layout) (n i : ℕ) → i < n → number_size l + pair_siz
 pair-below Wide n i below = omega arith
 pair-below Narrow n i below = omega arith
 
-pub result-below : (l : Layout) (n i : ℕ) → i < n → number_size l + pair_size l * i + number_size l < number_size l + pair_size l * n
+pub result-below : (l : Layout) (n i : ℕ) → i < n
+    → number_size l + pair_size l * i + number_size l < number_size l + pair_size l * n
 result-below Wide n i below = omega arith
 result-below Narrow n i below = omega arith
 
 -- what the pairs leave
-pub pairs-rest : (l : Layout) (n : ℕ) → n ≤ 52 → accent_size l - (number_size l + pair_size l * n) ≡ pair_size l * (52 - n)
+pub pairs-rest : (l : Layout) (n : ℕ) → n ≤ 52
+    → accent_size l - (number_size l + pair_size l * n) ≡ pair_size l * (52 - n)
 pairs-rest Wide n few = omega arith
 pairs-rest Narrow n few = omega arith
 
-pub accent-whole-size : (l : Layout) (n : ℕ) → n ≤ 52 → number_size l + (pair_size l * n + pair_size l * (52 - n)) ≡ accent_size l
+pub accent-whole-size : (l : Layout) (n : ℕ) → n ≤ 52
+    → number_size l + (pair_size l * n + pair_size l * (52 - n)) ≡ accent_size l
 accent-whole-size Wide n few = omega arith
 accent-whole-size Narrow n few = omega arith
 

@@ -10,7 +10,8 @@ use Rattle.keymap_core.specs.declared.entry.Entry.{Entry}
 use Rattle.keymap_tables.specs.declared.layout.Layout.{Layout}
 use Rattle.keymap_tables.specs.declared.narrow.Wide.{Wide}
 use Rattle.keymap_tables.specs.declared.narrow.Wide.TheVariants as at
-use Rattle.keymap_tables.specs.Layouts.{narrow, number_limit, number_size, slot_size, accent_size, slots_place, accents_place}
+use Rattle.keymap_tables.specs.Layouts.{narrow, number_limit, number_size, slot_size, accent_size, slots_place}
+use Rattle.keymap_tables.specs.Layouts.{accents_place}
 
 -- the code of an action always fits
 abbrev pub CellFits : Layout → Cell → Type 0

@@ -4,7 +4,8 @@ ghost use Rattle.keymap_core.specs.Accents.{AccentValue};
 ghost use Rattle.keymap_core.specs.Bounds.{IsEntry, IsAccent, IsMap};
 ghost use Rattle.keymap_core.specs.Maps.{MapValue};
 ghost use Rattle.keymap_core.specs.declared.entry.Entry.{Entry as EntryValue};
-ghost use Rattle.keymap_tables.specs.Faults.{row_fault, slot_fault, accent_fault, content_fault, IsFirstFault, IsTableFault, HasNoFault};
+ghost use Rattle.keymap_tables.specs.Faults.{row_fault, slot_fault, accent_fault, content_fault, IsFirstFault};
+ghost use Rattle.keymap_tables.specs.Faults.{IsTableFault, HasNoFault};
 ghost use Rattle.keymap_tables.specs.Image.{image, image_in, slots_bytes, accents_bytes};
 ghost use Rattle.keymap_tables.specs.Layouts.{slot_size, slots_size, accent_size, accents_size, file_size};
 

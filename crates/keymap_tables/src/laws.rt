@@ -4,7 +4,8 @@ ghost use Rattle.keymap_core.specs.Maps.{MapValue, n_keys_of, n_accs_of, entry_a
 ghost use Rattle.keymap_core.specs.Bounds.{IsMap};
 ghost use Rattle.keymap_tables.specs.Faults.{IsTableFault, IsNarrowFault, number_at, mark_at};
 ghost use Rattle.keymap_tables.specs.Fits.{Fits, IsWide};
-ghost use Rattle.keymap_tables.specs.Image.{image, narrow_image, count_bytes, slot_bytes, accent_bytes, number_of, is_act, flag_number};
+ghost use Rattle.keymap_tables.specs.Image.{image, narrow_image, count_bytes, slot_bytes, accent_bytes, number_of};
+ghost use Rattle.keymap_tables.specs.Image.{is_act, flag_number};
 ghost use Rattle.keymap_tables.specs.Layouts.{wide, narrow, part};
 ghost use Rattle.keymap_tables.specs.Readings.{IsReading, IsNarrowReading, AnswersMap, AnswersFault};
 ghost use Rattle.keymap_tables.specs.declared.fault.TableError.{TableError};

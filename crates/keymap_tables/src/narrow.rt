@@ -2,7 +2,8 @@
 ghost use Rattle.std.specs.Prelude.{◌≡◌, ◌<◌, ◌||◌, All, OnOk, MatchOption};
 ghost use Rattle.keymap_core.specs.Bounds.{IsMap};
 ghost use Rattle.keymap_core.specs.Maps.{accent_or_blank};
-ghost use Rattle.keymap_tables.specs.Fits.{character_of, Fits, EntryFits, AccentFits, IsFirstWide, IsFirstColumn, IsFirstNumber};
+ghost use Rattle.keymap_tables.specs.Fits.{character_of, Fits, EntryFits, AccentFits, IsFirstWide, IsFirstColumn};
+ghost use Rattle.keymap_tables.specs.Fits.{IsFirstNumber};
 ghost use Rattle.keymap_tables.specs.Layouts.{narrow};
 ghost use Rattle.keymap_tables.specs.Writing.{WritesNarrow, names_writer};
 

@@ -1,7 +1,8 @@
 //! Reading of tables.
 ghost use Rattle.std.specs.Prelude.{◌≡◌, ◌+◌, ◌-◌, ◌*◌, ◌<◌, ◌≤◌, [], length, All, IfErr, OnOk};
 ghost use Rattle.keymap_core.specs.Bounds.{IsEntry, IsAccent, IsMap};
-ghost use Rattle.keymap_tables.specs.Faults.{row_fault, slot_fault, accent_fault, content_fault, IsFirstFault, IsTableFault, IsNarrowFault, HasNoFault};
+ghost use Rattle.keymap_tables.specs.Faults.{row_fault, slot_fault, accent_fault, content_fault, IsFirstFault};
+ghost use Rattle.keymap_tables.specs.Faults.{IsTableFault, IsNarrowFault, HasNoFault};
 ghost use Rattle.keymap_tables.specs.Image.{image, narrow_image, image_in, slots_bytes, accents_bytes};
 ghost use Rattle.keymap_tables.specs.Layouts.{slot_size, slots_size, accent_size, accents_size, file_size};
 ghost use Rattle.keymap_tables.specs.Fits.{Fits, FitsIn, EntryFits, AccentFits};

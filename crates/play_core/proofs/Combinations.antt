@@ -1,13 +1,16 @@
 -- What the combinations of a keymap are.
 use Prim.Native.Nat.{zero, suc}
-use Rattle.std.proofs.Common.{◌≡◌, ℕ, ◌<◌, ◌≤◌, ◌+◌, Bool, true, false, List, [], ◌∷◌, ◌++◌, Option, Some, None, refl, ap, if◌then◌else◌, map, length, arith, length-append}
+use Rattle.std.proofs.Common.{◌≡◌, ℕ, ◌<◌, ◌≤◌, ◌+◌, Bool, true, false, List, [], ◌∷◌, ◌++◌, Option, Some, None, refl}
+use Rattle.std.proofs.Common.{ap, if◌then◌else◌, map, length, arith, length-append}
 use Rattle.std.specs.Prelude.{All}
 use Rattle.std.proofs.lemmas.List.Elements.{All-nil, All-cons, All-append, All-head, All-tail}
 use Rattle.keymap_core.specs.Maps.{MapValue}
 use Rattle.console_core.specs.declared.event.Event.{Event}
 use Rattle.console_core.specs.declared.event.Event.TheVariants.{Press, Release}
 use Rattle.console_core.specs.History.{HasKey, HasKeys}
-use Rattle.play_core.specs.HeldKeys.{gathered, first_below, is_bit_key, bit_key, bit_keys, listed, has_bit, held_for, held_keys, lacks_key, combination, combinations_of, combinations_with, combinations}
+use Rattle.play_core.specs.HeldKeys.{gathered, first_below, is_bit_key, bit_key, bit_keys, listed, has_bit, held_for}
+use Rattle.play_core.specs.HeldKeys.{held_keys, lacks_key, combination, combinations_of, combinations_with}
+use Rattle.play_core.specs.HeldKeys.{combinations}
 use Rattle.play_core.proofs.Counting.{first_below-some, IsFirstBelow}
 
 -- keys that are held, and a key, are pressed and released
@@ -24,10 +27,12 @@ IsKey k = k < 128
 abbrev AreKeys : List ℕ → Type 0
 AreKeys ks = All IsKey ks
 
-pub gathered-All : {A : Type 0} (P : A → Type 0) (f : ℕ → List A) (n : ℕ) → ((i : ℕ) → i < n → All P (f i)) → All P (gathered f n)
+pub gathered-All : {A : Type 0} (P : A → Type 0) (f : ℕ → List A) (n : ℕ) → ((i : ℕ) → i < n → All P (f i))
+    → All P (gathered f n)
 unfolding gathered
 gathered-All P f zero each = All-nil P
-gathered-All P f (suc n) each = All-append P (gathered f n) (f n) (gathered-All P f n (λ i lt. each i (omega arith))) (each n (omega arith))
+gathered-All P f (suc n) each =
+    All-append P (gathered f n) (f n) (gathered-All P f n (λ i lt. each i (omega arith))) (each n (omega arith))
 
 listed-keys : (o : Option ℕ) → ((k : ℕ) → o ≡ Some k → k < 128) → AreKeys (listed o)
 listed-keys None lt = All-nil IsKey
@@ -40,7 +45,8 @@ held-keys false ks keys = All-nil IsKey
 bit-keys : (m : MapValue) (k bit : ℕ) → AreKeys (listed (bit_key m k bit))
 unfolding bit_key
 bit-keys m k bit =
-    listed-keys (first_below (is_bit_key m bit k) 128) (λ j e. let s : IsFirstBelow (is_bit_key m bit k) 128 j = first_below-some (is_bit_key m bit k) 128 j e in s.0)
+    listed-keys (first_below (is_bit_key m bit k) 128)
+    (λ j e. let s : IsFirstBelow (is_bit_key m bit k) 128 j = first_below-some (is_bit_key m bit k) 128 j e in s.0)
 
 all-held : (m : MapValue) (set k : ℕ) → AreKeys (held_keys (bit_keys m k) set)
 all-held m set k =
@@ -57,17 +63,21 @@ few-listed o false = omega arith
 few-listed None true = omega arith
 few-listed (Some k) true = omega arith
 
-few-held : (a b c d : List ℕ) → length a ≤ 1 → length b ≤ 1 → length c ≤ 1 → length d ≤ 1 → length (a ++ b ++ c ++ d) ≤ 4
+few-held : (a b c d : List ℕ) → length a ≤ 1 → length b ≤ 1 → length c ≤ 1 → length d ≤ 1
+    → length (a ++ b ++ c ++ d) ≤ 4
 few-held a b c d e f g h =
     omega (arith, length-append ((a ++ b) ++ c) d, length-append (a ++ b) c, length-append a b)
 
 presses-keys : (ks : List ℕ) → AreKeys ks → HasKeys (map Press ks)
 presses-keys [] keys = All-nil HasKey
-presses-keys (k ∷ ks) keys = All-cons HasKey (Press k) (map Press ks) (All-head IsKey k ks keys) (presses-keys ks (All-tail IsKey k ks keys))
+presses-keys (k ∷ ks) keys =
+    All-cons HasKey (Press k) (map Press ks) (All-head IsKey k ks keys) (presses-keys ks (All-tail IsKey k ks keys))
 
 releases-keys : (ks : List ℕ) → AreKeys ks → HasKeys (map Release ks)
 releases-keys [] keys = All-nil HasKey
-releases-keys (k ∷ ks) keys = All-cons HasKey (Release k) (map Release ks) (All-head IsKey k ks keys) (releases-keys ks (All-tail IsKey k ks keys))
+releases-keys (k ∷ ks) keys =
+    All-cons HasKey (Release k) (map Release ks) (All-head IsKey k ks keys)
+    (releases-keys ks (All-tail IsKey k ks keys))
 
 combination-keys : (held : List ℕ) (k : ℕ) → AreKeys held → k < 128 → HasKeys (combination held k)
 combination-keys held k keys lt =
@@ -80,7 +90,9 @@ one-combination m set k lt = record {
   held = held_keys (bit_keys m k) set;
   key = k;
   is = refl;
-  few = few-held (held_for (bit_keys m k) set 0) (held_for (bit_keys m k) set 1) (held_for (bit_keys m k) set 2) (held_for (bit_keys m k) set 3)
+  few =
+      few-held (held_for (bit_keys m k) set 0) (held_for (bit_keys m k) set 1) (held_for (bit_keys m k) set 2)
+      (held_for (bit_keys m k) set 3)
       (few-listed (bit_key m k 0) (has_bit set 0)) (few-listed (bit_key m k 1) (has_bit set 1))
       (few-listed (bit_key m k 2) (has_bit set 2)) (few-listed (bit_key m k 3) (has_bit set 3));
   keys = combination-keys (held_keys (bit_keys m k) set) k (all-held m set k) lt;
@@ -105,7 +117,8 @@ pub short-combination : (way : List Event) → IsCombination way → length way 
 short-combination way is =
     let few = is.few in
     let e : length way ≡ length (combination is.held is.key) = ap length is.is in
-    let a : length (combination is.held is.key) ≡ length (map Press (is.held ++ is.key ∷ [])) + length (map Release (is.key ∷ is.held)) =
+    let a : length (combination is.held is.key)
+    ≡ length (map Press (is.held ++ is.key ∷ [])) + length (map Release (is.key ∷ is.held)) =
     length-append (map Press (is.held ++ is.key ∷ [])) (map Release (is.key ∷ is.held)) in
     let p = length-map-events Press (is.held ++ is.key ∷ []) in
     let q = length-map-events Release (is.key ∷ is.held) in

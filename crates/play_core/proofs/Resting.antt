@@ -1,5 +1,6 @@
 -- After a combination of keys no key is pressed, and a lock that isn't on isn't down.
-use Rattle.std.proofs.Common.{◌≡◌, ℕ, Bool, true, false, ◌&&◌, ◌||◌, not, List, [], ◌∷◌, ◌++◌, refl, ap, sym, ◌∙◌, if◌then◌else◌, map}
+use Rattle.std.proofs.Common.{◌≡◌, ℕ, Bool, true, false, ◌&&◌, ◌||◌, not, List, [], ◌∷◌, ◌++◌, refl, ap, sym, ◌∙◌}
+use Rattle.std.proofs.Common.{if◌then◌else◌, map}
 use Rattle.std.specs.Prelude.{◌==◌, reverse}
 use Rattle.std.specs.List.{list_any}
 use Rattle.keymap_core.specs.declared.action.Lock.{Lock}
@@ -11,7 +12,8 @@ use Rattle.console_core.specs.declared.event.Event.{Event}
 use Rattle.console_core.specs.declared.event.Event.TheVariants.{Press, Release}
 use Rattle.console_core.specs.Resolved.{ResolvedEvent, resolve_press, look, held, locked, remembered, taken_over}
 use Rattle.console_core.specs.History.{Maps, in_force, resolved, pressed, IsQuiet}
-use Rattle.console_core.proofs.OneMore.{resolved-more, held-character, held-action, held-release, locked-character, locked-action, locked-release, pressed-press, pressed-release}
+use Rattle.console_core.proofs.OneMore.{resolved-more, held-character, held-action, held-release, locked-character}
+use Rattle.console_core.proofs.OneMore.{locked-action, locked-release, pressed-press, pressed-release}
 use Rattle.console_core.proofs.Deliveries.{reverse-cons, reverse-joined}
 use Rattle.play_core.specs.HeldKeys.{combination}
 
@@ -46,7 +48,8 @@ presses-as_down ms (k ∷ ks) h same =
 abbrev pub DownOnlyIfLocked : List ResolvedEvent → Type 0
 DownOnlyIfLocked r = (l : Lock) → locked l r ≡ false → held (holding.Lock l) r ≡ false
 
-release-down : (ms : Maps) (k : ℕ) (h : List Event) → DownOnlyIfLocked (resolved ms h) → DownOnlyIfLocked (resolved ms (Release k ∷ h))
+release-down : (ms : Maps) (k : ℕ) (h : List Event) → DownOnlyIfLocked (resolved ms h)
+    → DownOnlyIfLocked (resolved ms (Release k ∷ h))
 release-down ms k h only l e =
     let off : held (holding.Lock l) (resolved ms h) ≡ false =
     only l (sym (ap (locked l) (resolved-more ms h (Release k)) ∙ locked-release l k (resolved ms h)) ∙ e) in

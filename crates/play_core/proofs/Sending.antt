@@ -1,5 +1,6 @@
 -- What the reading of a line means: it is an event exactly where its words say so.
-use Rattle.std.proofs.Common.{◌≡◌, ◌≢◌, ℕ, ◌<◌, ◌≤◌, min, Bool, true, false, not, cond, ltb, List, [], ◌∷◌, ◌++◌, Option, None, Some, Result, Ok, Err, refl, sym, ap, subst, ◌∙◌, arith, ◌↔◌, ⊎_elim, lit<}
+use Rattle.std.proofs.Common.{◌≡◌, ◌≢◌, ℕ, ◌<◌, ◌≤◌, min, Bool, true, false, not, cond, ltb, List, [], ◌∷◌, ◌++◌}
+use Rattle.std.proofs.Common.{Option, None, Some, Result, Ok, Err, refl, sym, ap, subst, ◌∙◌, arith, ◌↔◌, ⊎_elim, lit<}
 use Rattle.std.specs.Prelude.{codes, IsSome, IfSome, ⊤}
 use Rattle.std.specs.Option.{ok_or}
 use Rattle.std.specs.Str.{bytes_eq}
@@ -12,7 +13,8 @@ use Rattle.play_core.specs.declared.sent.What.{What}
 use Rattle.play_core.specs.declared.sent.What.TheVariants.{Down, Repeat, Up, Reset, Load}
 use Rattle.play_core.specs.declared.sent.Sent.{Sent}
 use Rattle.play_core.specs.Scripts.{IsNumber, Tells, Sends, mark_of, key_of, IsEvent, HasBadKey, HasBadForm}
-use Rattle.play_core.specs.Readings.{are_digits, key_in, of_key, what_with_key, what_alone, what_of, sent_by, reading_of_lost, reading}
+use Rattle.play_core.specs.Readings.{are_digits, key_in, of_key, what_with_key, what_alone, what_of, sent_by}
+use Rattle.play_core.specs.Readings.{reading_of_lost, reading}
 
 digits_pass : (word : List ℕ) → AllDigits 10 word → are_digits word ≡ true
 digits_pass [] h = refl
@@ -66,7 +68,8 @@ judged_what w = cond (ltb (key_of w) 128) (Ok w) (Err Key)
 abbrev judged : Sent → Result (Option Sent) LineFault
 judged s = cond (ltb (key_of s.what) 128) (Ok (Some s)) (Err Key)
 
-of_key_judged : (what : ℕ → What) (b : Bool) (k : ℕ) → of_key what (cond b (Ok k) (Err Key)) ≡ cond b (Ok (what k)) (Err Key)
+of_key_judged : (what : ℕ → What) (b : Bool) (k : ℕ)
+    → of_key what (cond b (Ok k) (Err Key)) ≡ cond b (Ok (what k)) (Err Key)
 of_key_judged what true k = refl
 of_key_judged what false k = refl
 
@@ -74,7 +77,8 @@ read_down : (number : List ℕ) (k : ℕ) → IsNumber number k → what_of (cod
 unfolding what_of what_with_key
 read_down number k h = rw (key_of_number number h.0, ← h.1) (of_key_judged (λ k. Down k) (ltb k 128) k)
 
-read_repeat : (number : List ℕ) (k : ℕ) → IsNumber number k → what_of (codes "repeat") (number ∷ []) ≡ judged_what (Repeat k)
+read_repeat : (number : List ℕ) (k : ℕ) → IsNumber number k
+    → what_of (codes "repeat") (number ∷ []) ≡ judged_what (Repeat k)
 unfolding what_of what_with_key
 read_repeat number k h = rw (key_of_number number h.0, ← h.1) (of_key_judged (λ k. Repeat k) (ltb k 128) k)
 
@@ -96,7 +100,8 @@ lost_read [] = refl
 lost_read (word ∷ rest) = refl
 
 -- a line that begins with `lost`
-pub lost_line : (words : List (List ℕ)) (word : List ℕ) (rest : List (List ℕ)) → words ≡ word ∷ rest → false ≡ not (bytes_eq word (codes "lost"))
+pub lost_line : (words : List (List ℕ)) (word : List ℕ) (rest : List (List ℕ)) → words ≡ word ∷ rest
+    → false ≡ not (bytes_eq word (codes "lost"))
     → reading words ≡ reading_of_lost rest
 unfolding reading
 lost_line words word rest e lost = rw (e, not-false _ (sym lost)) refl
@@ -105,7 +110,8 @@ pub lost_alone : reading_of_lost [] ≡ Err Form
 unfolding reading_of_lost
 lost_alone = refl
 
-pub lost_command : (word : List ℕ) (rest : List (List ℕ)) → reading_of_lost (word ∷ rest) ≡ sent_by true (what_of word rest)
+pub lost_command : (word : List ℕ) (rest : List (List ℕ))
+    → reading_of_lost (word ∷ rest) ≡ sent_by true (what_of word rest)
 unfolding reading_of_lost
 lost_command word rest = refl
 
@@ -118,7 +124,8 @@ not_lost words (Up k) h = rw h.1 refl
 not_lost words Reset h = rw h refl
 not_lost words Load h = rw h refl
 
-sent_judged : (lost : Bool) (w : What) (b : Bool) → sent_by lost (cond b (Ok w) (Err Key)) ≡ cond b (Ok (Some (record { lost = lost; what = w }))) (Err Key)
+sent_judged : (lost : Bool) (w : What) (b : Bool)
+    → sent_by lost (cond b (Ok w) (Err Key)) ≡ cond b (Ok (Some (record { lost = lost; what = w }))) (Err Key)
 unfolding sent_by
 sent_judged lost w true = refl
 sent_judged lost w false = refl
@@ -136,13 +143,15 @@ event_read words s h =
 
 -- ---- what is read as an event tells of it
 
-choice : {A : Type 0} (P : A → Type 0) (word name : List ℕ) (x y : A) (b : Bool) → bytes_eq word name ≡ b → (word ≡ name → P x) → P y
+choice : {A : Type 0} (P : A → Type 0) (word name : List ℕ) (x y : A) (b : Bool) → bytes_eq word name ≡ b
+    → (word ≡ name → P x) → P y
     → P (cond b x y)
 choice P word name x y true e is other = is ((bytes_eq-Decides word name).0 e)
 choice P word name x y false e is other = other
 
 -- by whether the word is this one
-chosen : {A : Type 0} (P : A → Type 0) (word name : List ℕ) (x y : A) → (word ≡ name → P x) → P y → P (cond (bytes_eq word name) x y)
+chosen : {A : Type 0} (P : A → Type 0) (word name : List ℕ) (x y : A) → (word ≡ name → P x) → P y
+    → P (cond (bytes_eq word name) x y)
 chosen P word name x y is other = choice P word name x y (bytes_eq word name) refl is other
 
 -- what a reading says of the words, but that a bad form is one
@@ -173,7 +182,8 @@ IsWhat words (Err Key) = (w : What) × Tells words w × (127 < key_of w)
 IsWhat words (Err Form) = ⊤
 
 keyed : (words : List (List ℕ)) (number : List ℕ) (what : ℕ → What) (r : Result ℕ LineFault) → IsKey number r
-    → ((k : ℕ) → IsNumber number k → Tells words (what k)) → ((k : ℕ) → key_of (what k) ≡ k) → IsWhat words (of_key what r)
+    → ((k : ℕ) → IsNumber number k → Tells words (what k)) → ((k : ℕ) → key_of (what k) ≡ k)
+    → IsWhat words (of_key what r)
 keyed words number what (Ok k) h tells key = (tells k h.0, subst (λ n. n < 128) (sym (key k)) h.1)
 keyed words number what (Err Key) h tells key = (what h.0, tells h.0 h.1, subst (λ n. 127 < n) (sym (key h.0)) h.2)
 keyed words number what (Err Form) h tells key = tt
@@ -183,11 +193,14 @@ unfolding what_with_key
 with_key word number =
     let words = word ∷ number ∷ [] in
     chosen (IsWhat words) word (codes "down") _ _
-    (λ e. keyed words number (λ k. Down k) (key_in number) (key_is number) (λ k n. (number, ap (λ w. w ∷ number ∷ []) e, n)) (λ k. refl))
+    (λ e. keyed words number (λ k. Down k) (key_in number) (key_is number)
+    (λ k n. (number, ap (λ w. w ∷ number ∷ []) e, n)) (λ k. refl))
     (chosen (IsWhat words) word (codes "repeat") _ _
-    (λ e. keyed words number (λ k. Repeat k) (key_in number) (key_is number) (λ k n. (number, ap (λ w. w ∷ number ∷ []) e, n)) (λ k. refl))
+    (λ e. keyed words number (λ k. Repeat k) (key_in number) (key_is number)
+    (λ k n. (number, ap (λ w. w ∷ number ∷ []) e, n)) (λ k. refl))
     (chosen (IsWhat words) word (codes "up") _ _
-    (λ e. keyed words number (λ k. Up k) (key_in number) (key_is number) (λ k n. (number, ap (λ w. w ∷ number ∷ []) e, n)) (λ k. refl))
+    (λ e. keyed words number (λ k. Up k) (key_in number) (key_is number)
+    (λ k n. (number, ap (λ w. w ∷ number ∷ []) e, n)) (λ k. refl))
     tt))
 
 alone : (word : List ℕ) → IsWhat (word ∷ []) (what_alone word)
@@ -210,7 +223,8 @@ IsSentOrBad words (Ok (Some s)) = IsEvent words s
 IsSentOrBad words (Err Key) = HasBadKey words
 IsSentOrBad words (Err Form) = words ≢ []
 
-sent_is : (words command : List (List ℕ)) (lost : Bool) (r : Result What LineFault) → words ≡ mark_of lost ++ command → words ≢ []
+sent_is : (words command : List (List ℕ)) (lost : Bool) (r : Result What LineFault) → words ≡ mark_of lost ++ command
+    → words ≢ []
     → IsWhat command r → IsSentOrBad words (sent_by lost r)
 unfolding sent_by
 sent_is words command lost (Ok w) e some h = ((command, e, h.0), h.1)
@@ -239,11 +253,13 @@ not_judged : (s : Sent) (b : Bool) → Err Form ≡ cond b (Ok (Some s)) (Err Ke
 not_judged s true e = cc
 not_judged s false e = cc
 
-is_reading : (words : List (List ℕ)) (r : Result (Option Sent) LineFault) → reading words ≡ r → IsSentOrBad words r → IsReading words r
+is_reading : (words : List (List ℕ)) (r : Result (Option Sent) LineFault) → reading words ≡ r → IsSentOrBad words r
+    → IsReading words r
 is_reading words (Ok None) e h = h
 is_reading words (Ok (Some s)) e h = h
 is_reading words (Err Key) e h = h
-is_reading words (Err Form) e h = (h, λ s sends. not_judged s (ltb (key_of s.what) 128) (sym e ∙ event_read words s sends))
+is_reading words (Err Form) e h =
+    (h, λ s sends. not_judged s (ltb (key_of s.what) 128) (sym e ∙ event_read words s sends))
 
 pub reading_is : (words : List (List ℕ)) (r : Result (Option Sent) LineFault) → r ≡ reading words → IsReading words r
 reading_is words r e = is_reading words r (sym e) (subst (IsSentOrBad words) (sym e) (sent_or_bad words))

@@ -1,5 +1,6 @@
 -- Tables of ways: one more way.
-use Rattle.std.proofs.Common.{◌≡◌, ℕ, Bool, true, false, List, [], ◌∷◌, ◌++◌, Option, Some, None, refl, ap, sym, subst, ◌∙◌, cond}
+use Rattle.std.proofs.Common.{◌≡◌, ℕ, Bool, true, false, List, [], ◌∷◌, ◌++◌, Option, Some, None, refl, ap, sym, subst}
+use Rattle.std.proofs.Common.{◌∙◌, cond}
 use Rattle.std.specs.Prelude.{◌==◌, find, option_map, All}
 use Rattle.std.specs.Option.{option_or, is_some}
 use Rattle.std.specs.Map.{lookup}
@@ -21,7 +22,8 @@ or-none : {X : Type 0} (o : Option X) → option_or o None ≡ o
 or-none None = refl
 or-none (Some x) = refl
 
-map-or : (a b : Option (ArrayVec Event)) → option_map (λ w. w.items) (option_or a b) ≡ option_or (option_map (λ w. w.items) a) (option_map (λ w. w.items) b)
+map-or : (a b : Option (ArrayVec Event))
+    → option_map (λ w. w.items) (option_or a b) ≡ option_or (option_map (λ w. w.items) a) (option_map (λ w. w.items) b)
 map-or None b = refl
 map-or (Some x) b = refl
 
@@ -30,16 +32,21 @@ lookup-step : (b : Bool) (v : ArrayVec Event) (l r o : Option (ArrayVec Event)) 
 lookup-step true v l r o e = refl
 lookup-step false v l r o e = e
 
-lookup-append : (test : ℕ → Bool) (es fs : Entries) → lookup test (es ++ fs) ≡ option_or (lookup test es) (lookup test fs)
+lookup-append : (test : ℕ → Bool) (es fs : Entries)
+    → lookup test (es ++ fs) ≡ option_or (lookup test es) (lookup test fs)
 lookup-append test [] fs = refl
 lookup-append test (e ∷ es) fs = lookup-step (test e.0) e.1 _ _ _ (lookup-append test es fs)
 
-module _ (f : List Event → Option ℕ) (ways : List (List Event)) (way : List Event) (es : Entries) (table : IsTableOf f ways es) where
-  one-more : (c : ℕ) → first_with f (ways ++ way ∷ []) c ≡ option_or (first_with f ways c) (cond (is_now c (f way)) (Some way) None)
+module _ (f : List Event → Option ℕ) (ways : List (List Event)) (way : List Event) (es : Entries)
+    (table : IsTableOf f ways es) where
+  one-more : (c : ℕ)
+      → first_with f (ways ++ way ∷ []) c ≡ option_or (first_with f ways c) (cond (is_now c (f way)) (Some way) None)
   one-more c = find-append (λ w. is_now c (f w)) ways (way ∷ [])
 
   pub table-none : f way ≡ None → IsTableOf f (ways ++ way ∷ []) es
-  table-none e c = table c ∙ sym (one-more c ∙ ap (λ o. option_or (first_with f ways c) (cond (is_now c o) (Some way) None)) e ∙ or-none _)
+  table-none e c =
+      table c
+      ∙ sym (one-more c ∙ ap (λ o. option_or (first_with f ways c) (cond (is_now c o) (Some way) None)) e ∙ or-none _)
 
   old-by : (n c : ℕ) (b : Bool) (v : List Event) → c == n ≡ b → way_at es n ≡ Some v
       → option_or (first_with f ways c) (cond (c == n) (Some way) None) ≡ first_with f ways c
@@ -59,7 +66,8 @@ module _ (f : List Event → Option ℕ) (ways : List (List Event)) (way : List 
   new-by n c v false is e = rw e refl
 
   -- it is put behind the others
-  pub table-new : (n : ℕ) (v : ArrayVec Event) → way ≡ v.items → f way ≡ Some n → IsTableOf f (ways ++ way ∷ []) (es ++ (n, v) ∷ [])
+  pub table-new : (n : ℕ) (v : ArrayVec Event) → way ≡ v.items → f way ≡ Some n
+      → IsTableOf f (ways ++ way ∷ []) (es ++ (n, v) ∷ [])
   table-new n v is e c =
       ap (option_map (λ w. w.items)) (lookup-append (λ x. c == x) es ((n, v) ∷ [])) ∙ map-or _ _
       ∙ ap (λ o. option_or o (option_map (λ w. w.items) (cond (c == n) (Some v) None))) (table c)
@@ -81,7 +89,8 @@ one-by : {X : Type 0} (P : X → Type 0) (y x : X) (b : Bool) (o : Option X) →
 one-by P y x true o p s f = let q : y ≡ x = some-same y x s in subst P q p
 one-by P y x false o p s f = f s
 
-pub find-All : {X : Type 0} (P : X → Type 0) (test : X → Bool) (xs : List X) (x : X) → All P xs → find test xs ≡ Some x → P x
+pub find-All : {X : Type 0} (P : X → Type 0) (test : X → Bool) (xs : List X) (x : X) → All P xs → find test xs ≡ Some x
+    → P x
 find-All P test [] x all e = absurd (none-some x e)
 find-All P test (y ∷ ys) x all e =
     one-by P y x (test y) (find test ys) (All-head P y ys all) e (find-All P test ys x (All-tail P y ys all))
@@ -90,9 +99,11 @@ pub not-there : {X : Type 0} (o : Option X) → is_some o ≡ false → o ≡ No
 not-there None e = refl
 not-there (Some x) e = absurd (true≢false e)
 
-module _ (f : List Event → Option ℕ) (ways : List (List Event)) (way : List Event) (es : Entries) (table : IsTableOf f ways es)
+module _ (f : List Event → Option ℕ) (ways : List (List Event)) (way : List Event) (es : Entries)
+    (table : IsTableOf f ways es)
     (n : ℕ) (is : f way ≡ Some n) where
-  there-by : (o : Option (ArrayVec Event)) → lookup (λ x. n == x) es ≡ o → is_some o ≡ true → IsTableOf f (ways ++ way ∷ []) es
+  there-by : (o : Option (ArrayVec Event)) → lookup (λ x. n == x) es ≡ o → is_some o ≡ true
+      → IsTableOf f (ways ++ way ∷ []) es
   there-by None e t = absurd (true≢false (sym t))
   there-by (Some v) e t = table-old f ways way es table n v.items is (ap (option_map (λ w. w.items)) e)
 

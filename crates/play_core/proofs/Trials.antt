@@ -1,5 +1,6 @@
 -- What a way does to a new console, from what is seen of a console that was delivered it.
-use Rattle.std.proofs.Common.{◌≡◌, ℕ, ◌<◌, Bool, true, false, ◌&&◌, ◌||◌, not, List, [], ◌∷◌, ◌++◌, Option, Some, None, refl, ap, sym, subst, ◌∙◌, inl, inr}
+use Rattle.std.proofs.Common.{◌≡◌, ℕ, ◌<◌, Bool, true, false, ◌&&◌, ◌||◌, not, List, [], ◌∷◌, ◌++◌, Option, Some, None}
+use Rattle.std.proofs.Common.{refl, ap, sym, subst, ◌∙◌, inl, inr}
 use Rattle.std.specs.Prelude.{reverse, filter}
 use Rattle.std.specs.List.{list_any}
 use Rattle.std.proofs.Math.Path.{fun_ext}
@@ -28,8 +29,10 @@ use Rattle.console_core.proofs.Bearing.{remembered-pressed}
 use Rattle.play_core.specs.declared.effect.Typed.{Typed}
 use Rattle.play_core.specs.declared.effect.Typed.TheVariants as typed
 use Rattle.play_core.specs.HeldKeys.{combination}
-use Rattle.play_core.specs.Typing.{alone, is_at_rest, types, lone_character, typing_answers, unless_some, unless_any, character_of, accent_of}
-use Rattle.play_core.specs.Effects.{IsTrial, typed_by_one, typed_by_all, after_typing, one_more, character_in, accent_in, effect_by}
+use Rattle.play_core.specs.Typing.{alone, is_at_rest, types, lone_character, typing_answers, unless_some, unless_any}
+use Rattle.play_core.specs.Typing.{character_of, accent_of}
+use Rattle.play_core.specs.Effects.{IsTrial, typed_by_one, typed_by_all, after_typing, one_more, character_in}
+use Rattle.play_core.specs.Effects.{accent_in, effect_by}
 use Rattle.play_core.proofs.Resting.{combination-quiet, combination-down, DownOnlyIfLocked}
 
 -- ---- what answers type
@@ -109,7 +112,8 @@ no-lock f e =
     let d = or-false _ _ c.1 in
     λ l. by l a.0 b.0 c.0 d.0
   where
-    by : (l : Lock) → f lock.Caps ≡ false → f lock.Num ≡ false → f lock.Scroll ≡ false → f lock.Alt ≡ false → f l ≡ false
+    by : (l : Lock) → f lock.Caps ≡ false → f lock.Num ≡ false → f lock.Scroll ≡ false → f lock.Alt ≡ false
+        → f l ≡ false
     by lock.Caps a b c d = a
     by lock.Num a b c d = b
     by lock.Scroll a b c d = c
@@ -209,7 +213,8 @@ seen-with a d false f = ap (λ y. (not a && not y) && true) (f refl) ∙ ap (λ 
 
 pub way-rests : (m : MapValue) (way : List Event) → IsTrial m way
     → is_at_rest m (reverse way)
-    ≡ (not (list_any (λ i. On (alone m) i (reverse way)) modifiers) && not (list_any (λ l. Locked (alone m) l (reverse way)) locks))
+    ≡ (not (list_any (λ i. On (alone m) i (reverse way)) modifiers)
+    && not (list_any (λ l. Locked (alone m) l (reverse way)) locks))
 unfolding is_at_rest
 way-rests m way trial =
     let ms = alone m in
@@ -224,8 +229,10 @@ way-rests m way trial =
     let p : any_below (λ k. pressed k (reverse way)) 128 ≡ false = none-below _ 128 quiet in
     let r : any_below (λ k. is_some (Remembered ms k (reverse way))) 128 ≡ false =
     none-below _ 128 (quiet-remembers ms (reverse way) quiet) in
-    let d : list_any (λ l. Locked ms l (reverse way)) locks ≡ false → list_any (λ l. held (holding.Lock l) (resolved ms (reverse way))) locks ≡ false =
-    λ off. no-locks (λ l. held (holding.Lock l) (resolved ms (reverse way))) (λ l. down l (no-lock (λ l. Locked ms l (reverse way)) off l)) in
+    let d : list_any (λ l. Locked ms l (reverse way)) locks ≡ false
+    → list_any (λ l. held (holding.Lock l) (resolved ms (reverse way))) locks ≡ false =
+    λ off. no-locks (λ l. held (holding.Lock l) (resolved ms (reverse way)))
+    (λ l. down l (no-lock (λ l. Locked ms l (reverse way)) off l)) in
     rw (p, r) (seen-with _ _ _ d)
   where
     Rests-of : Rests m (reverse trial.before)
@@ -269,7 +276,8 @@ pub record IsSeen (m : MapValue) (way : List Event) (on locked : Bool) : Type 0 
 seen-rest : (m : MapValue) (way : List Event) (on locked : Bool) → IsTrial m way → IsSeen m way on locked
     → is_at_rest m (reverse way) ≡ (not on && not locked)
 seen-rest m way on locked trial seen =
-    way-rests m way trial ∙ ap (λ x. not x && not (list_any (λ l. Locked (alone m) l (reverse way)) locks)) (sym seen.on_is)
+    way-rests m way trial
+    ∙ ap (λ x. not x && not (list_any (λ l. Locked (alone m) l (reverse way)) locks)) (sym seen.on_is)
     ∙ ap (λ x. not on && not x) (sym seen.locked_is)
 
 pub no-effect : (m : MapValue) (way : List Event) (on locked : Bool) → IsTrial m way → IsSeen m way on locked
@@ -299,7 +307,8 @@ no-effect-locked m way shown b trial is e t =
     (ap (λ x. not (list_any (λ i. On (alone m) i (reverse way)) modifiers) && not x) t ∙ and-false _)
 
 pub nothing-seen : (m : MapValue) (way : List Event) (on : Modifier → Bool) (locked : Lock → Bool) (a b : Bool)
-    → ((i : Modifier) → on i ≡ On (alone m) i (reverse way)) → ((l : Lock) → locked l ≡ Locked (alone m) l (reverse way))
+    → ((i : Modifier) → on i ≡ On (alone m) i (reverse way))
+    → ((l : Lock) → locked l ≡ Locked (alone m) l (reverse way))
     → a ≡ list_any on modifiers → b ≡ list_any locked locks → a ≡ false → b ≡ false → IsSeen m way false false
 nothing-seen m way on locked a b on_is locked_is e f p q = record {
   on_is = sym p ∙ e ∙ ap (λ g. list_any g modifiers) (fun_ext on_is);

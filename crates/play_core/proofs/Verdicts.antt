@@ -1,5 +1,7 @@
--- A script has one reading: its lines, read one after another, are events up to the end, or one is the first that is none.
-use Rattle.std.proofs.Common.{◌≡◌, ℕ, ◌+◌, List, [], ◌∷◌, ◌++◌, length, Option, None, Some, Result, Ok, Err, refl, ap, subst, ◌∙◌, arith, ◌⊎◌, inl, inr}
+-- A script has one reading: its lines, read one after another, are events up to the end, or one is the first that is
+-- none.
+use Rattle.std.proofs.Common.{◌≡◌, ℕ, ◌+◌, List, [], ◌∷◌, ◌++◌, length, Option, None, Some, Result, Ok, Err, refl, ap}
+use Rattle.std.proofs.Common.{subst, ◌∙◌, arith, ◌⊎◌, inl, inr}
 use Rattle.std.proofs.lemmas.Bool.{lt-ltb, le-ltb}
 use Rattle.play_core.specs.declared.script_line.LineFault.{LineFault}
 use Rattle.play_core.specs.declared.script_line.LineFault.TheVariants.{Form, Key}
@@ -7,7 +9,8 @@ use Rattle.play_core.specs.declared.script.ScriptFault.{ScriptFault}
 use Rattle.play_core.specs.declared.script.ScriptFault.TheVariants.{BadLine, BadKey}
 use Rattle.play_core.specs.declared.sent.Sent.{Sent}
 use Rattle.play_core.specs.Readings.{reading}
-use Rattle.play_core.specs.Scripts.{lines_of, key_of, AreEvents, IsEvent, HasBadKey, HasBadForm, IsScript, IsScriptFault, IsFaultOf}
+use Rattle.play_core.specs.Scripts.{lines_of, key_of, AreEvents, IsEvent, HasBadKey, HasBadForm, IsScript}
+use Rattle.play_core.specs.Scripts.{IsScriptFault, IsFaultOf}
 use Rattle.play_core.proofs.Sending.{event_read, reading_is, IsReading}
 
 -- ---- a line
@@ -16,9 +19,11 @@ event_line : (words : List (List ℕ)) (s : Sent) → IsEvent words s → readin
 event_line words s h = event_read words s h.0 ∙ rw (lt-ltb _ _ h.1) refl
 
 bad_key_line : (words : List (List ℕ)) → HasBadKey words → reading words ≡ Err Key
-bad_key_line words (s, sends, large) = event_read words s sends ∙ rw (le-ltb (key_of s.what) 128 (omega (arith, large))) refl
+bad_key_line words (s, sends, large) =
+    event_read words s sends ∙ rw (le-ltb (key_of s.what) 128 (omega (arith, large))) refl
 
-bad_form_at : (words : List (List ℕ)) (r : Result (Option Sent) LineFault) → IsReading words r → HasBadForm words → r ≡ Err Form
+bad_form_at : (words : List (List ℕ)) (r : Result (Option Sent) LineFault) → IsReading words r → HasBadForm words
+    → r ≡ Err Form
 bad_form_at words (Ok None) h bad = absurd (bad.0 h)
 bad_form_at words (Ok (Some s)) h bad = absurd (bad.1 s h.0)
 bad_form_at words (Err Key) h bad = absurd (bad.1 h.0 h.1)
@@ -40,7 +45,8 @@ unfoldable verdict : ℕ → List (List (List ℕ)) → Result (List Sent) Scrip
 verdict n [] = Ok []
 verdict n (words ∷ lines) = after (reading words) (n + 1) (verdict (n + 1) lines)
 
-events_verdict : (lines : List (List (List ℕ))) (n : ℕ) (sent : List Sent) → AreEvents lines sent → verdict n lines ≡ Ok sent
+events_verdict : (lines : List (List (List ℕ))) (n : ℕ) (sent : List Sent) → AreEvents lines sent
+    → verdict n lines ≡ Ok sent
 unfolding verdict reading
 events_verdict [] n [] h = refl
 events_verdict [] n (s ∷ sent) h = absurd h
@@ -49,15 +55,18 @@ events_verdict ((word ∷ words) ∷ lines) n [] h = absurd h
 events_verdict ((word ∷ words) ∷ lines) n (s ∷ sent) h =
     rw (event_line (word ∷ words) s h.0, events_verdict lines (n + 1) sent h.1) refl
 
-fault_line : (line : List (List ℕ)) (n : ℕ) (f : ScriptFault) (rest : Result (List Sent) ScriptFault) → IsFaultOf line n f
+fault_line : (line : List (List ℕ)) (n : ℕ) (f : ScriptFault) (rest : Result (List Sent) ScriptFault)
+    → IsFaultOf line n f
     → after (reading line) n rest ≡ Err f
 fault_line line n (BadLine m) rest h = rw (bad_form_line line h.1, h.0) refl
 fault_line line n (BadKey m) rest h = rw (bad_key_line line h.1, h.0) refl
 
-fault_verdict : (before : List (List (List ℕ))) (n : ℕ) (sent : List Sent) (line : List (List ℕ)) (behind : List (List (List ℕ))) (f : ScriptFault)
+fault_verdict : (before : List (List (List ℕ))) (n : ℕ) (sent : List Sent) (line : List (List ℕ))
+    (behind : List (List (List ℕ))) (f : ScriptFault)
     → AreEvents before sent → IsFaultOf line (n + length before + 1) f → verdict n (before ++ line ∷ behind) ≡ Err f
 unfolding verdict reading
-fault_verdict [] n sent line behind f events first = fault_line line (n + 1) f (verdict (n + 1) behind) (subst (λ k. IsFaultOf line k f) (omega arith) first)
+fault_verdict [] n sent line behind f events first =
+    fault_line line (n + 1) f (verdict (n + 1) behind) (subst (λ k. IsFaultOf line k f) (omega arith) first)
 fault_verdict ([] ∷ before) n sent line behind f events first =
     fault_verdict before (n + 1) sent line behind f events (subst (λ k. IsFaultOf line k f) (omega arith) first)
 fault_verdict ((word ∷ words) ∷ before) n [] line behind f events first = absurd events
@@ -73,7 +82,10 @@ script_verdict : (script : List ℕ) (sent : List Sent) → IsScript script sent
 script_verdict script sent h = events_verdict (lines_of script) 0 sent h
 
 fault_of_script : (script : List ℕ) (f : ScriptFault) → IsScriptFault script f → verdict 0 (lines_of script) ≡ Err f
-fault_of_script script f h = rw h.split (fault_verdict h.before 0 h.sent h.line h.after f h.events (subst (λ k. IsFaultOf h.line k f) (omega arith) h.first))
+fault_of_script script f h =
+    rw h.split
+    (fault_verdict h.before 0 h.sent h.line h.after f h.events
+    (subst (λ k. IsFaultOf h.line k f) (omega arith) h.first))
 
 one_ok : (r : Result (List Sent) ScriptFault) (xs ys : List Sent) → r ≡ Ok xs → r ≡ Ok ys → xs ≡ ys
 one_ok r xs ys e d = cc
@@ -85,13 +97,17 @@ one_way : (r : Result (List Sent) ScriptFault) (xs : List Sent) (f : ScriptFault
 one_way r xs f e d = cc
 
 pub one_list : (script : List ℕ) (xs ys : List Sent) → IsScript script xs → IsScript script ys → xs ≡ ys
-one_list script xs ys h k = one_ok (verdict 0 (lines_of script)) xs ys (script_verdict script xs h) (script_verdict script ys k)
+one_list script xs ys h k =
+    one_ok (verdict 0 (lines_of script)) xs ys (script_verdict script xs h) (script_verdict script ys k)
 
 pub one_fault : (script : List ℕ) (f g : ScriptFault) → IsScriptFault script f → IsScriptFault script g → f ≡ g
-one_fault script f g h k = one_err (verdict 0 (lines_of script)) f g (fault_of_script script f h) (fault_of_script script g k)
+one_fault script f g h k =
+    one_err (verdict 0 (lines_of script)) f g (fault_of_script script f h) (fault_of_script script g k)
 
-pub not_both : (script : List ℕ) (sent : List Sent) (f : ScriptFault) → IsScript script sent → IsScriptFault script f → ⊥
-not_both script sent f h k = one_way (verdict 0 (lines_of script)) sent f (script_verdict script sent h) (fault_of_script script f k)
+pub not_both : (script : List ℕ) (sent : List Sent) (f : ScriptFault) → IsScript script sent → IsScriptFault script f
+    → ⊥
+not_both script sent f h k =
+    one_way (verdict 0 (lines_of script)) sent f (script_verdict script sent h) (fault_of_script script f k)
 
 -- ---- each script has one
 
@@ -110,7 +126,8 @@ abbrev Judged : ℕ → List (List (List ℕ)) → Type 0
 Judged n lines = ((sent : List Sent) × AreEvents lines sent) ⊎ HasFault n lines
 
 -- a line that is none
-here : (n : ℕ) (words : List (List ℕ)) (lines : List (List (List ℕ))) (f : ScriptFault) → IsFaultOf words (n + 1) f → HasFault n (words ∷ lines)
+here : (n : ℕ) (words : List (List ℕ)) (lines : List (List (List ℕ))) (f : ScriptFault) → IsFaultOf words (n + 1) f
+    → HasFault n (words ∷ lines)
 here n words lines f h = record {
   fault = f;
   before = [];
@@ -136,7 +153,8 @@ skip n lines (inr h) = inr (record {
   first = subst (λ k. IsFaultOf h.line k h.fault) (omega arith) h.first;
 })
 
-step : (n : ℕ) (word : List ℕ) (words : List (List ℕ)) (lines : List (List (List ℕ))) (s : Sent) → IsEvent (word ∷ words) s
+step : (n : ℕ) (word : List ℕ) (words : List (List ℕ)) (lines : List (List (List ℕ))) (s : Sent)
+    → IsEvent (word ∷ words) s
     → Judged (n + 1) lines → Judged n ((word ∷ words) ∷ lines)
 step n word words lines s e (inl (sent, h)) = inl (s ∷ sent, (e, h))
 step n word words lines s e (inr h) = inr (record {
@@ -150,7 +168,8 @@ step n word words lines s e (inr h) = inr (record {
   first = subst (λ k. IsFaultOf h.line k h.fault) (omega arith) h.first;
 })
 
-judged_by : (n : ℕ) (word : List ℕ) (words : List (List ℕ)) (lines : List (List (List ℕ))) (r : Result (Option Sent) LineFault)
+judged_by : (n : ℕ) (word : List ℕ) (words : List (List ℕ)) (lines : List (List (List ℕ)))
+    (r : Result (Option Sent) LineFault)
     → IsReading (word ∷ words) r → Judged (n + 1) lines → Judged n ((word ∷ words) ∷ lines)
 judged_by n word words lines (Ok None) h rest = absurd (cons_not word words h)
   where
@@ -164,9 +183,11 @@ judged : (lines : List (List (List ℕ))) (n : ℕ) → Judged n lines
 judged [] n = inl ([], tt)
 judged ([] ∷ lines) n = skip n lines (judged lines (n + 1))
 judged ((word ∷ words) ∷ lines) n =
-    judged_by n word words lines (reading (word ∷ words)) (reading_is (word ∷ words) (reading (word ∷ words)) refl) (judged lines (n + 1))
+    judged_by n word words lines (reading (word ∷ words)) (reading_is (word ∷ words) (reading (word ∷ words)) refl)
+    (judged lines (n + 1))
 
-found : (script : List ℕ) → Judged 0 (lines_of script) → ((sent : List Sent) × IsScript script sent) ⊎ ((f : ScriptFault) × IsScriptFault script f)
+found : (script : List ℕ) → Judged 0 (lines_of script)
+    → ((sent : List Sent) × IsScript script sent) ⊎ ((f : ScriptFault) × IsScriptFault script f)
 found script (inl h) = inl h
 found script (inr h) = inr (
   h.fault,
@@ -181,5 +202,6 @@ found script (inr h) = inr (
   },
 )
 
-pub one_of_them : (script : List ℕ) → ((sent : List Sent) × IsScript script sent) ⊎ ((f : ScriptFault) × IsScriptFault script f)
+pub one_of_them : (script : List ℕ)
+    → ((sent : List Sent) × IsScript script sent) ⊎ ((f : ScriptFault) × IsScriptFault script f)
 one_of_them script = found script (judged (lines_of script) 0)

@@ -76,7 +76,10 @@ unfolding locked
 locked-character l k c h = refl
 
 pub locked-action : (l : Lock) (k : ℕ) (b : Action) (h : List ResolvedEvent)
-    → locked l (PressedAction k b ∷ h) ≡ (if same_action (taken_over (remembered k h) b) (holding_action (holding.Lock l)) && not (held (holding.Lock l) h) then not (locked l h) else locked l h)
+    → locked l (PressedAction k b ∷ h)
+    ≡ (if same_action (taken_over (remembered k h) b) (holding_action (holding.Lock l))
+    && not (held (holding.Lock l) h)
+    then not (locked l h) else locked l h)
 unfolding locked
 locked-action l k b h = locked_step (turns l (PressedAction k b) h) _
 
@@ -207,7 +210,8 @@ unfolding pressed
 pressed-start k = refl
 
 press_step : (b : Bool) (k j : ℕ) (h : List Event)
-    → is_press (if b then Some (Press j) else last_where (concerns k) h) ≡ (if b then true else is_press (last_where (concerns k) h))
+    → is_press (if b then Some (Press j) else last_where (concerns k) h)
+    ≡ (if b then true else is_press (last_where (concerns k) h))
 press_step true k j h = refl
 press_step false k j h = refl
 
@@ -216,7 +220,8 @@ unfolding pressed
 pressed-press k j h = press_step (j == k) k j h
 
 release_step : (b : Bool) (k j : ℕ) (h : List Event)
-    → is_press (if b then Some (Release j) else last_where (concerns k) h) ≡ (if b then false else is_press (last_where (concerns k) h))
+    → is_press (if b then Some (Release j) else last_where (concerns k) h)
+    ≡ (if b then false else is_press (last_where (concerns k) h))
 release_step true k j h = refl
 release_step false k j h = refl
 
@@ -233,7 +238,8 @@ unfolding pressed
 pressed-load k h = refl
 
 locked_more : (b t : Bool) (n : ℕ)
-    → is_odd (if b then 0 else (if t then suc n else n)) ≡ (if b then false else (if t then not (is_odd n) else is_odd n))
+    → is_odd (if b then 0 else (if t then suc n else n))
+    ≡ (if b then false else (if t then not (is_odd n) else is_odd n))
 locked_more true t n = refl
 locked_more false t n = locked_step t n
 

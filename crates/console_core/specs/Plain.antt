@@ -1,5 +1,5 @@
--- Maps in which each modifier and lock that picks a cell is borne throughout by one key alone, or by nobody: there a look
--- follows from which keys are pressed, and from the fresh presses of the locks' keys.
+-- Maps in which each modifier and lock that picks a cell is borne throughout by one key alone, or by nobody: there a
+-- look follows from which keys are pressed, and from the fresh presses of the locks' keys.
 use Rattle.std.specs.Prelude.{◌≡◌, ℕ, ◌+◌, ◌<◌, ◌⊎◌, ◌↔◌, true, Bool, ◌&&◌, ◌||◌, List}
 use Rattle.keymap_core.specs.declared.action.Modifier.{Modifier}
 use Rattle.keymap_core.specs.declared.action.Modifier.TheVariants as modifier
@@ -56,7 +56,8 @@ PlainOnByKeys =
 abbrev pub PlainLockedByKeys : Type 0
 PlainLockedByKeys =
     (m : MapValue) (h : List Event) (l : Lock)
-    → (plain_locked m h l ≡ true) ↔ ((k : ℕ) × (k < 128) × Bears m k (holding.Lock l) × (is_odd (count_where (is_fresh_press k) h) ≡ true))
+    → (plain_locked m h l ≡ true)
+    ↔ ((k : ℕ) × (k < 128) × Bears m k (holding.Lock l) × (is_odd (count_where (is_fresh_press k) h) ≡ true))
 
 abbrev pub PlainLook : MapValue → ℕ → List Event → Cell
 PlainLook m k h = look_with m (plain_on m h) (plain_locked m h) k

@@ -21,4 +21,5 @@ IsActing (Act a) = a ≢ act.Nop
 -- exactly one key bears the lock, and all its cells are actions other than nop
 abbrev pub IsSteady : MapValue → Lock → Type 0
 IsSteady m l =
-    (k : ℕ) × (k < 128) × Bears m k (holding.Lock l) × IsAlone m k (holding.Lock l) × ((x : Cell) → IsCellOf m k x → IsActing x)
+    (k : ℕ) × (k < 128) × Bears m k (holding.Lock l) × IsAlone m k (holding.Lock l)
+    × ((x : Cell) → IsCellOf m k x → IsActing x)

@@ -1,7 +1,8 @@
 -- What the search keeps: the states that it has met, in their order, each with how it was come to, and which of them
 -- are
 -- done. It mirrors src/search.rt.
-use Rattle.std.specs.Prelude.{◌≡◌, ◌≢◌, ℕ, ◌+◌, ◌<◌, ◌≤◌, false, List, [], ◌∷◌, ◌++◌, All, None, Some, slice_get, slice_index_or}
+use Rattle.std.specs.Prelude.{◌≡◌, ◌≢◌, ℕ, ◌+◌, ◌<◌, ◌≤◌, false, List, [], ◌∷◌, ◌++◌, All, None, Some, slice_get}
+use Rattle.std.specs.Prelude.{slice_index_or}
 use Rattle.keymap_core.specs.declared.action.Modifier.{Modifier}
 use Rattle.keymap_core.specs.declared.action.Lock.{Lock}
 use Rattle.keymap_core.specs.declared.action.Lock.TheVariants.{Scroll}
@@ -14,7 +15,8 @@ use Rattle.console_core.specs.declared.held.Held.{Held}
 use Rattle.console_core.specs.declared.held.Move.{Move}
 use Rattle.console_core.specs.declared.held.Step.{Step}
 use Rattle.console_core.specs.declared.search.Origin.{Origin}
-use Rattle.console_core.specs.Moves.{State, start, look_in, Holds, IsIdle, Forgets, IsForgetful, IsMove, moved, IsPath, state_after, presses_of, presses_along, script, with_holder, with_turned}
+use Rattle.console_core.specs.Moves.{State, start, look_in, Holds, IsIdle, Forgets, IsForgetful, IsMove, moved, IsPath}
+use Rattle.console_core.specs.Moves.{state_after, presses_of, presses_along, script, with_holder, with_turned}
 
 -- the state that the tables are
 abbrev pub state_of : Held → State

@@ -4,7 +4,9 @@ ghost use Rattle.console_core.specs.declared.event.Event.{Event as EventValue};
 ghost use Rattle.console_core.specs.declared.event.Event.TheVariants as event;
 ghost use Rattle.console_core.specs.History.{Maps, in_force, AnswersTo, IsQuiet};
 ghost use Rattle.console_core.specs.Safety.{IsSafe};
-ghost use Rattle.console_core.specs.Headline.{Afterwards, IsOnOnlyWhilePressed, IsOnExactlyWhilePressed, LastRepeatsTurnNoSteadyLock, IsOffOnceQuiet, GoesOnAs, IsLockedByFreshPresses};
+ghost use Rattle.console_core.specs.Headline.{Afterwards, IsOnOnlyWhilePressed, IsOnExactlyWhilePressed};
+ghost use Rattle.console_core.specs.Headline.{LastRepeatsTurnNoSteadyLock, IsOffOnceQuiet, GoesOnAs};
+ghost use Rattle.console_core.specs.Headline.{IsLockedByFreshPresses};
 ghost use Rattle.console_core.specs.Plain.{IsPlainAfter};
 ghost use Rattle.console_core.specs.Traps.{IsOnOnlyWhilePressedWithoutTraps};
 
@@ -12,15 +14,19 @@ use crate::event::{Answer, Event};
 use crate::translator::Translator;
 use std::alloc::{AllocError, Global};
 
-/// Delivers the events in their order and collects the answers, one for each event. The vector is reserved first: if that is
-/// refused, no event was delivered.
+/// Delivers the events in their order and collects the answers, one for each event. The vector is reserved first: if
+/// that is refused, no event was delivered.
 pub fn replay<T: Translator>(
     alloc: Global,
     console: &mut T,
     events: &[Event],
 ) -> Result<Vec<Answer>, AllocError>
-    ensures answers { IfOk result (λ answers. (ms : Maps) (h : List EventValue) → T.stands console.old ms h → answers.items ≡ AnswersTo ms h events.now) }
-    ensures next { OnOk result ((ms : Maps) (h : List EventValue) → T.stands console.old ms h → T.stands console.new ms (reverse events.now ++ h)) }
+    ensures answers { IfOk result
+        (λ answers. (ms : Maps) (h : List EventValue) → T.stands console.old ms h
+        → answers.items ≡ AnswersTo ms h events.now) }
+    ensures next { OnOk result
+        ((ms : Maps) (h : List EventValue) → T.stands console.old ms h
+        → T.stands console.new ms (reverse events.now ++ h)) }
     ensures refused { OnErr result (console.new ≡ console.old) }
 
     // In a safe map a modifier is on only while a key that bears it is pressed.
@@ -41,8 +47,8 @@ pub fn replay<T: Translator>(
     ensures goes_on_as_after_reset { OnOk result (Afterwards (T.stands console.old) events.now (λ ms h.
         IsSafe (in_force ms h) → IsQuiet h → T.shows_pending console.new ≡ None → GoesOnAs ms h (event.Reset ∷ h))) }
 
-    // A lock that one key alone bears throughout, where there are loads in both maps, is on exactly after an odd number of
-    // fresh presses of that key.
+    // A lock that one key alone bears throughout, where there are loads in both maps, is on exactly after an odd number
+    // of fresh presses of that key.
     ensures locked_by_fresh_presses { OnOk result (Afterwards (T.stands console.old) events.now (λ ms h.
         IsLockedByFreshPresses ms h (T.shows_locked console.new))) }
 

@@ -1,9 +1,11 @@
 //! The search for sticking modifiers over the states that presses and releases lead to, by the number of presses.
-ghost use Rattle.std.specs.Prelude.{◌≡◌, ◌+◌, ◌<◌, ◌≤◌, ◌⊎◌, ◌++◌, ◌∷◌, ℕ, List, [], None, Some, All, length, reverse, slice_get, OnOk, IfOk, IfSome};
+ghost use Rattle.std.specs.Prelude.{◌≡◌, ◌+◌, ◌<◌, ◌≤◌, ◌⊎◌, ◌++◌, ◌∷◌, ℕ, List, [], None, Some, All, length, reverse};
+ghost use Rattle.std.specs.Prelude.{slice_get, OnOk, IfOk, IfSome};
 ghost use Rattle.keymap_core.specs.Maps.{MapValue};
 ghost use Rattle.keymap_core.specs.declared.action.Modifier.{Modifier as ModifierValue};
 ghost use Rattle.console_core.specs.declared.held.Held.{Held as HeldValue};
-ghost use Rattle.console_core.specs.Searching.{state_of, IsMetBy, AreWithin, Grows, IsStep, IsLetGoMet, ArePressesMet, AreAdded, Searched, AreInOrder, IsStuck, GoBack, IsScriptTo};
+ghost use Rattle.console_core.specs.Searching.{state_of, IsMetBy, AreWithin, Grows, IsStep, IsLetGoMet, ArePressesMet};
+ghost use Rattle.console_core.specs.Searching.{AreAdded, Searched, AreInOrder, IsStuck, GoBack, IsScriptTo};
 ghost use Rattle.console_core.specs.Sticking.{IsAnswer};
 
 use crate::event::Event;

@@ -4,7 +4,9 @@ ghost use Rattle.keymap_core.specs.Maps.{MapValue};
 ghost use Rattle.keymap_core.specs.Actions.{modifiers};
 ghost use Rattle.keymap_core.specs.declared.action.Modifier.{Modifier as ModifierValue};
 ghost use Rattle.console_core.specs.Columns.{slot_of, is_upper};
-ghost use Rattle.console_core.specs.Moves.{start as start_state, is_held as is_held_in, look_in, IsIdle, with_holder as with_holder_in, with_turned as with_turned_in, Forgets, IsForgetful, events_of, presses_of, releases};
+ghost use Rattle.console_core.specs.Moves.{start as start_state, is_held as is_held_in, look_in, IsIdle};
+ghost use Rattle.console_core.specs.Moves.{with_holder as with_holder_in, with_turned as with_turned_in, Forgets};
+ghost use Rattle.console_core.specs.Moves.{IsForgetful, events_of, presses_of, releases};
 ghost use Rattle.console_core.specs.Searching.{state_of, Entries, IsMetBy, IsLetGoMet, ArePressesMet, IsStep};
 ghost use Rattle.console_core.specs.HeldBytes.{number_of, bytes_of, held-equal, bool_equal, same-bytes};
 
@@ -86,7 +88,8 @@ impl Held {
 
     fn slot(&self, key: KeyCode) -> u8
         ensures in_range { key < 128 }
-        ensures value { result ≡ slot_of key (is_upper (λ i. is_held_in (state_of self.now) i) (λ l. (state_of self.now).is_locked l)) }
+        ensures value { result
+            ≡ slot_of key (is_upper (λ i. is_held_in (state_of self.now) i) (λ l. (state_of self.now).is_locked l)) }
     {
         let upper = self.is_held(Modifier::AltShift) != self.is_locked(Lock::Alt);
         if upper { key.get() + 128 } else { key.get() }
@@ -255,7 +258,8 @@ impl Hash for Held {
 
     ghost hash_input = { λ h. bytes_of h ∷ [] };
 
-    ghost respects_eq = { λ x y e. ap (λ bytes. bytes ∷ []) (same-bytes x y (held-equal _ _ (λ a b f. eqb-true a b f) (λ a b f. bool_equal a b f) x y e)) };
+    ghost respects_eq = { λ x y e. ap (λ bytes. bytes ∷ [])
+        (same-bytes x y (held-equal _ _ (λ a b f. eqb-true a b f) (λ a b f. bool_equal a b f) x y e)) };
 
     fn hash<H: Hasher>(&self, state: &mut H) {
         state.write(&self.bytes());

@@ -1,6 +1,7 @@
 -- A map has no findings exactly if it is safe.
 use Prim.Native.Nat.{zero, suc}
-use Rattle.std.proofs.Common.{◌≡◌, ℕ, ◌<◌, ◌++◌, List, [], ◌∷◌, true, Option, Some, None, refl, ap, subst, sym, ◌∙◌, inl, inr, arith}
+use Rattle.std.proofs.Common.{◌≡◌, ℕ, ◌<◌, ◌++◌, List, [], ◌∷◌, true, Option, Some, None, refl, ap, subst, sym, ◌∙◌}
+use Rattle.std.proofs.Common.{inl, inr, arith}
 use Rattle.std.proofs.lemmas.Bool.{true≢false}
 use Rattle.keymap_core.specs.declared.action.Holding.{Holding}
 use Rattle.keymap_core.specs.declared.entry.Cell.TheVariants.{Char, Act}
@@ -42,26 +43,34 @@ finding-found : (k p q : ℕ) (o : Option Holding) (a : Holding) → o ≡ Some 
 finding-found k p q None a e f = cc
 finding-found k p q (Some b) a e f = cc
 
-pub safe_by : (m : MapValue) (k : ℕ) (o i : Option ℕ) → first_place m kind.AnyHolding k ≡ o → first_place m kind.Character k ≡ i → finding_by m k o i ≡ [] → IsSafeKey m k
-safe_by m k None i e f s a is c char = true≢false (sym (holding-any a) ∙ no_place-cell m kind.AnyHolding k e (Act (holding_action a)) is)
+pub safe_by : (m : MapValue) (k : ℕ) (o i : Option ℕ) → first_place m kind.AnyHolding k ≡ o
+    → first_place m kind.Character k ≡ i → finding_by m k o i ≡ [] → IsSafeKey m k
+safe_by m k None i e f s a is c char =
+    true≢false (sym (holding-any a) ∙ no_place-cell m kind.AnyHolding k e (Act (holding_action a)) is)
 safe_by m k (Some p) None e f s a is c char = true≢false (no_place-cell m kind.Character k f (Char c) char)
 safe_by m k (Some p) (Some q) e f s a is c char =
-    let r : IsCellOf m k (cell_of m k p) × (is_any_holding (cell_of m k p) ≡ true) = first_place-cell m kind.AnyHolding k p e in
+    let r : IsCellOf m k (cell_of m k p) × (is_any_holding (cell_of m k p) ≡ true) =
+    first_place-cell m kind.AnyHolding k p e in
     let h : IsHeldBy (cell_of m k p) = holding-cell (cell_of m k p) r.1 in
     finding-found k p q (held_by (cell_of m k p)) h.0 h.2 s
 
-by_safe : (m : MapValue) (k : ℕ) (o i : Option ℕ) → first_place m kind.AnyHolding k ≡ o → first_place m kind.Character k ≡ i → IsSafeKey m k → finding_by m k o i ≡ []
+by_safe : (m : MapValue) (k : ℕ) (o i : Option ℕ) → first_place m kind.AnyHolding k ≡ o
+    → first_place m kind.Character k ≡ i → IsSafeKey m k → finding_by m k o i ≡ []
 by_safe m k None i e f s = refl
 by_safe m k (Some p) None e f s = refl
 by_safe m k (Some p) (Some q) e f s =
-    let r : IsCellOf m k (cell_of m k p) × (is_any_holding (cell_of m k p) ≡ true) = first_place-cell m kind.AnyHolding k p e in
+    let r : IsCellOf m k (cell_of m k p) × (is_any_holding (cell_of m k p) ≡ true) =
+    first_place-cell m kind.AnyHolding k p e in
     let h : IsHeldBy (cell_of m k p) = holding-cell (cell_of m k p) r.1 in
-    let t : IsCellOf m k (cell_of m k q) × (is_character (cell_of m k q) ≡ true) = first_place-cell m kind.Character k q f in
+    let t : IsCellOf m k (cell_of m k q) × (is_character (cell_of m k q) ≡ true) =
+    first_place-cell m kind.Character k q f in
     let c : (c : ℕ) × (cell_of m k q ≡ Char c) = character-cell (cell_of m k q) t.1 in
     absurd (s h.0 (subst (λ x. IsCellOf m k x) h.1 r.0) c.0 (subst (λ x. IsCellOf m k x) c.1 t.0))
 
 pub no_findings_exactly_if_safe : NoFindingsExactlyIfSafe
 no_findings_exactly_if_safe m = (
-  (λ e k lt. safe_by m k (first_place m kind.AnyHolding k) (first_place m kind.Character k) refl refl (gathered-all (findings_at m) 128 e k lt)),
-  (λ safe. all-gathered (findings_at m) 128 (λ k lt. by_safe m k (first_place m kind.AnyHolding k) (first_place m kind.Character k) refl refl (safe k lt))),
+  (λ e k lt. safe_by m k (first_place m kind.AnyHolding k) (first_place m kind.Character k) refl refl
+      (gathered-all (findings_at m) 128 e k lt)),
+  (λ safe. all-gathered (findings_at m) 128
+      (λ k lt. by_safe m k (first_place m kind.AnyHolding k) (first_place m kind.Character k) refl refl (safe k lt))),
 )

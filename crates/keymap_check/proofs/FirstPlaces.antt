@@ -1,6 +1,7 @@
 -- The findings, read as statements on the map.
 use Prim.Native.Nat.{zero, suc}
-use Rattle.std.proofs.Common.{◌≡◌, ℕ, ◌<◌, ◌≤◌, ◌+◌, ◌-◌, ◌⊎◌, Bool, true, false, List, [], ◌∷◌, ◌++◌, Option, Some, None, refl, ap, subst, sym, ◌∙◌, inl, inr, arith}
+use Rattle.std.proofs.Common.{◌≡◌, ℕ, ◌<◌, ◌≤◌, ◌+◌, ◌-◌, ◌⊎◌, Bool, true, false, List, [], ◌∷◌, ◌++◌, Option, Some}
+use Rattle.std.proofs.Common.{None, refl, ap, subst, sym, ◌∙◌, inl, inr, arith}
 use Rattle.std.specs.Prelude.{nat_lt}
 use Rattle.std.proofs.lemmas.Bool.{cases_Bool, true≢false, ltb-true, ltb-false, lt-ltb, le-ltb}
 use Rattle.keymap_core.specs.declared.action.Holding.{Holding}
@@ -15,12 +16,14 @@ use Rattle.keymap_check.specs.declared.finding.Finding.{Finding}
 use Rattle.keymap_check.specs.declared.finding.Place.{Place}
 use Rattle.keymap_check.specs.Below.{gathered}
 use Rattle.keymap_core.specs.Borne.{is_upper_live}
-use Rattle.keymap_check.specs.Cells.{fits, cell_of, slot_at, column_at, place_at, place_count, first_place, is_character, is_any_holding}
+use Rattle.keymap_check.specs.Cells.{fits, cell_of, slot_at, column_at, place_at, place_count, first_place}
+use Rattle.keymap_check.specs.Cells.{is_character, is_any_holding}
 use Rattle.keymap_check.specs.Computed.{findings_at, findings_of, finding_by, finding_with, held_by}
 use Rattle.std.specs.Prelude.{All, AllPairs, Any}
 use Rattle.std.proofs.lemmas.List.Elements.{All-cons, All-nil}
 use Rattle.std.proofs.lemmas.List.Kept.{AllPairs-cons}
-use Rattle.keymap_check.specs.Findings.{IsPlaceOf, NotAfter, IsFirstOf, IsHoldingCell, IsCharacterCell, IsFinding, IsUnsafeKey}
+use Rattle.keymap_check.specs.Findings.{IsPlaceOf, NotAfter, IsFirstOf, IsHoldingCell, IsCharacterCell, IsFinding}
+use Rattle.keymap_check.specs.Findings.{IsUnsafeKey}
 use Rattle.keymap_check.specs.Report.{FindingsAreComputed}
 use Rattle.keymap_check.proofs.Counting.{IsFirstBelow, below-suc}
 use Rattle.keymap_check.proofs.Same.{character-cell, holding-cell, IsHeldBy, holding-any}
@@ -45,12 +48,14 @@ number m k q is =
       | inl s ↦
           let least : 8 ≤ place_count m = count_least m _ refl in
           let lt : q.column < 8 = is.0 in
-          let p : (slot_at k q.column ≡ k) × (column_at q.column ≡ q.column) = place_low k q.column (nat_lt q.column 8) refl (lt-ltb q.column 8 lt) in
+          let p : (slot_at k q.column ≡ k) × (column_at q.column ≡ q.column) =
+          place_low k q.column (nat_lt q.column 8) refl (lt-ltb q.column 8 lt) in
           (q.column, omega (arith, least, lt), p.0 ∙ sym s, p.1)
       | inr s ↦
           let c : place_count m ≡ 16 = count_if m true (upper-is_live m s.0) in
           let lt : q.column < 8 = is.0 in
-          let p : (slot_at k (q.column + 8) ≡ k + 128) × (column_at (q.column + 8) ≡ (q.column + 8) - 8) = place_high k (q.column + 8) (nat_lt (q.column + 8) 8) refl (le-ltb (q.column + 8) 8 (omega arith)) in
+          let p : (slot_at k (q.column + 8) ≡ k + 128) × (column_at (q.column + 8) ≡ (q.column + 8) - 8) =
+          place_high k (q.column + 8) (nat_lt (q.column + 8) 8) refl (le-ltb (q.column + 8) 8 (omega arith)) in
           let back : (q.column + 8) - 8 ≡ q.column = omega arith in
           (q.column + 8, omega (arith, c, lt), p.0 ∙ sym s.1, p.1 ∙ back)
     ]
@@ -85,7 +90,8 @@ not_after k p q le lt =
       | inl s ↦
           let l : q < 8 = ltb-true q 8 s in
           let c : (slot_at k q ≡ k) × (column_at q ≡ q) = place_low k q (nat_lt q 8) refl s in
-          let d : (slot_at k p ≡ k) × (column_at p ≡ p) = place_low k p (nat_lt p 8) refl (lt-ltb p 8 (omega (arith, l, le))) in
+          let d : (slot_at k p ≡ k) × (column_at p ≡ p) =
+          place_low k p (nat_lt p 8) refl (lt-ltb p 8 (omega (arith, l, le))) in
           let x : column_at q ≡ q = c.1 in
           let y : column_at p ≡ p = d.1 in
           inr (d.0 ∙ sym c.0, omega (arith, x, y, le))
@@ -113,18 +119,21 @@ at_least test p n none e =
     ]
 
 -- the first place of a kind is the first of the key's places with a cell of it
-first-of : (m : MapValue) (x : Kind) (P : Cell → Type 0) (k p : ℕ) → k < 128 → ((y : Cell) → fits x y ≡ true → P y) → ((y : Cell) → P y → fits x y ≡ true) → first_place m x k ≡ Some p → IsFirstOf m k P (place_at k p)
+first-of : (m : MapValue) (x : Kind) (P : Cell → Type 0) (k p : ℕ) → k < 128 → ((y : Cell) → fits x y ≡ true → P y)
+    → ((y : Cell) → P y → fits x y ≡ true) → first_place m x k ≡ Some p → IsFirstOf m k P (place_at k p)
 first-of m x P k p lt is has e =
     let s : IsFirstBelow (λ q. fits x (cell_of m k q)) (place_count m) p = first_place-some m x k p e in (
       is_place m k p s.0,
       is (cell_of m k p) s.1,
       λ q place holds.
           let n : HasNumber m k q = number m k q place in
-          let here : cell_of m k n.0 ≡ cell_at m q.slot q.column = ap (λ t. cell_at m t (column_at n.0)) n.2 ∙ ap (λ t. cell_at m q.slot t) n.3 in
+          let here : cell_of m k n.0 ≡ cell_at m q.slot q.column =
+          ap (λ t. cell_at m t (column_at n.0)) n.2 ∙ ap (λ t. cell_at m q.slot t) n.3 in
           let fit : fits x (cell_of m k n.0) ≡ true = ap (λ y. fits x y) here ∙ has (cell_at m q.slot q.column) holds in
           let le : p ≤ n.0 = at_least (λ q. fits x (cell_of m k q)) p n.0 s.2 fit in
           let after : NotAfter (place_at k p) (place_at k n.0) = not_after k p n.0 le lt in
-          let P1 : NotAfter (place_at k p) (record { slot = q.slot; column = column_at n.0 }) = subst (λ t. NotAfter (place_at k p) (record { slot = t; column = column_at n.0 })) n.2 after in
+          let P1 : NotAfter (place_at k p) (record { slot = q.slot; column = column_at n.0 }) =
+          subst (λ t. NotAfter (place_at k p) (record { slot = t; column = column_at n.0 })) n.2 after in
           subst (λ t. NotAfter (place_at k p) (record { slot = q.slot; column = t })) n.3 P1,
     )
 
@@ -142,23 +151,28 @@ abbrev AreOf : MapValue → ℕ → List Finding → Type 0
 AreOf m k [] = Unit {0}
 AreOf m k (f ∷ fs) = (f.key ≡ k) × IsFinding m f × (fs ≡ [])
 
-finding-held : (m : MapValue) (k p q : ℕ) (o : Option Holding) → k < 128 → first_place m kind.AnyHolding k ≡ Some p → first_place m kind.Character k ≡ Some q → held_by (cell_of m k p) ≡ o → AreOf m k (finding_with k p q o)
+finding-held : (m : MapValue) (k p q : ℕ) (o : Option Holding) → k < 128 → first_place m kind.AnyHolding k ≡ Some p
+    → first_place m kind.Character k ≡ Some q → held_by (cell_of m k p) ≡ o → AreOf m k (finding_with k p q o)
 finding-held m k p q None lt e f h = tt
 finding-held m k p q (Some a) lt e f h =
-    let s : IsFirstBelow (λ j. fits kind.AnyHolding (cell_of m k j)) (place_count m) p = first_place-some m kind.AnyHolding k p e in
+    let s : IsFirstBelow (λ j. fits kind.AnyHolding (cell_of m k j)) (place_count m) p =
+    first_place-some m kind.AnyHolding k p e in
     let b : IsHeldBy (cell_of m k p) = holding-cell (cell_of m k p) s.1 in
     let same : b.0 ≡ a = some_same b.0 a (sym b.2 ∙ h) in (
       refl,
       record {
         key = lt;
         holding = b.1 ∙ ap (λ x. Act (holding_action x)) same;
-        first_holding = first-of m kind.AnyHolding IsHoldingCell k p lt (λ y t. let c : IsHeldBy y = holding-cell y t in (c.0, c.1)) holding-fits e;
+        first_holding =
+            first-of m kind.AnyHolding IsHoldingCell k p lt (λ y t. let c : IsHeldBy y = holding-cell y t in (c.0, c.1))
+            holding-fits e;
         first_character = first-of m kind.Character IsCharacterCell k q lt character-cell character-fits f;
       },
       refl,
     )
 
-finding-of : (m : MapValue) (k : ℕ) (o i : Option ℕ) → k < 128 → first_place m kind.AnyHolding k ≡ o → first_place m kind.Character k ≡ i → AreOf m k (finding_by m k o i)
+finding-of : (m : MapValue) (k : ℕ) (o i : Option ℕ) → k < 128 → first_place m kind.AnyHolding k ≡ o
+    → first_place m kind.Character k ≡ i → AreOf m k (finding_by m k o i)
 finding-of m k None i lt e f = tt
 finding-of m k (Some p) None lt e f = tt
 finding-of m k (Some p) (Some q) lt e f = finding-held m k p q (held_by (cell_of m k p)) lt e f refl
@@ -181,7 +195,8 @@ weaker : (m : MapValue) (n b : ℕ) (fs : List Finding) → n ≤ b → AreInOrd
 weaker m n b [] le o = tt
 weaker m n b (f ∷ fs) le o = let l : b ≤ f.key = o.0 in (omega (arith, l, le), o.1, o.2)
 
-order-append : (m : MapValue) (n b : ℕ) (xs ys : List Finding) → n ≤ b → KeysBelow b xs → AreInOrder m n xs → AreInOrder m b ys → AreInOrder m n (xs ++ ys)
+order-append : (m : MapValue) (n b : ℕ) (xs ys : List Finding) → n ≤ b → KeysBelow b xs → AreInOrder m n xs
+    → AreInOrder m b ys → AreInOrder m n (xs ++ ys)
 order-append m n b [] ys le below o p = weaker m n b ys le p
 order-append m n b (f ∷ xs) ys le below o p =
     let l : f.key < b = below.0 in
@@ -202,7 +217,8 @@ one-below m k (x ∷ fs) f = let e : x.key ≡ k = f.0 in (omega (arith, e), sub
 
 one-order : (m : MapValue) (k : ℕ) (fs : List Finding) → AreOf m k fs → AreInOrder m k fs
 one-order m k [] f = tt
-one-order m k (x ∷ fs) f = let e : x.key ≡ k = f.0 in (omega (arith, e), f.1, subst (λ t. AreInOrder m (x.key + 1) t) (sym f.2) tt)
+one-order m k (x ∷ fs) f =
+    let e : x.key ≡ k = f.0 in (omega (arith, e), f.1, subst (λ t. AreInOrder m (x.key + 1) t) (sym f.2) tt)
 
 all-of : (m : MapValue) (k : ℕ) → k < 128 → AreOf m k (findings_at m k)
 all-of m k lt = finding-of m k (first_place m kind.AnyHolding k) (first_place m kind.Character k) lt refl refl
@@ -211,13 +227,16 @@ all-below : (m : MapValue) (n : ℕ) → n ≤ 128 → KeysBelow n (gathered (fi
 unfolding gathered
 all-below m zero le = tt
 all-below m (suc n) le =
-    below-append (suc n) (gathered (findings_at m) n) (findings_at m n) (below-more n (suc n) (gathered (findings_at m) n) (omega arith) (all-below m n (omega (arith, le)))) (one-below m n (findings_at m n) (all-of m n (omega (arith, le))))
+    below-append (suc n) (gathered (findings_at m) n) (findings_at m n)
+    (below-more n (suc n) (gathered (findings_at m) n) (omega arith) (all-below m n (omega (arith, le))))
+    (one-below m n (findings_at m n) (all-of m n (omega (arith, le))))
 
 all-order : (m : MapValue) (n : ℕ) → n ≤ 128 → AreInOrder m 0 (gathered (findings_at m) n)
 unfolding gathered
 all-order m zero le = tt
 all-order m (suc n) le =
-    order-append m 0 n (gathered (findings_at m) n) (findings_at m n) (omega arith) (all-below m n (omega (arith, le))) (all-order m n (omega (arith, le))) (one-order m n (findings_at m n) (all-of m n (omega (arith, le))))
+    order-append m 0 n (gathered (findings_at m) n) (findings_at m n) (omega arith) (all-below m n (omega (arith, le)))
+    (all-order m n (omega (arith, le))) (one-order m n (findings_at m n) (all-of m n (omega (arith, le))))
 
 key-left : (k : ℕ) (xs ys : List Finding) → IsKeyOfOne k xs → IsKeyOfOne k (xs ++ ys)
 key-left k [] ys s = absurd s
@@ -241,7 +260,8 @@ key-found m k (suc n) lt in_range is =
       | inr q ↦
           key-right k (gathered (findings_at m) n) (findings_at m n)
           (subst (λ j. IsKeyOfOne k (findings_at m j)) q (some-key m k (findings_at m k) (all-of m k in_range)
-          (λ e. safe_by m k (first_place m kind.AnyHolding k) (first_place m kind.Character k) refl refl e is.0 is.1 is.2.0 is.2.1)))
+          (λ e. safe_by m k (first_place m kind.AnyHolding k) (first_place m kind.Character k) refl refl e is.0 is.1
+          is.2.0 is.2.1)))
     ]
 
 -- the same in the words of the report
@@ -258,7 +278,8 @@ order-above m b n (f ∷ fs) lt o =
 order-pairs : (m : MapValue) (n : ℕ) (fs : List Finding) → AreInOrder m n fs → AllPairs (λ f g. f.key < g.key) fs
 order-pairs m n [] o = λ i j d before lt. absurd (omega (arith, lt))
 order-pairs m n (f ∷ fs) o =
-    AllPairs-cons (λ f g. f.key < g.key) f fs (order-above m f.key (f.key + 1) fs (omega arith) o.2) (order-pairs m (f.key + 1) fs o.2)
+    AllPairs-cons (λ f g. f.key < g.key) f fs (order-above m f.key (f.key + 1) fs (omega arith) o.2)
+    (order-pairs m (f.key + 1) fs o.2)
 
 one-any : (k : ℕ) (fs : List Finding) → IsKeyOfOne k fs → Any (λ f. f.key ≡ k) fs
 one-any k [] is = absurd is

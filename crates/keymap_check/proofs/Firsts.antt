@@ -1,6 +1,7 @@
 -- The first of a gathered list that passes a test.
 use Prim.Native.Nat.{zero, suc}
-use Rattle.std.proofs.Common.{◌≡◌, ℕ, ◌<◌, ◌+◌, Bool, true, false, List, [], ◌∷◌, ◌++◌, Option, Some, None, refl, ap, subst, ◌∙◌, inl, inr, arith, if◌then◌else◌}
+use Rattle.std.proofs.Common.{◌≡◌, ℕ, ◌<◌, ◌+◌, Bool, true, false, List, [], ◌∷◌, ◌++◌, Option, Some, None, refl, ap}
+use Rattle.std.proofs.Common.{subst, ◌∙◌, inl, inr, arith, if◌then◌else◌}
 use Rattle.keymap_check.specs.Below.{gathered}
 use Rattle.std.specs.Prelude.{find}
 use Rattle.keymap_check.specs.Scripts.{}
@@ -24,7 +25,8 @@ module _ {A : Type 0} (test : A → Bool) where
       let r : (find test xs ≡ None) × (find test ys ≡ None) = none-both xs ys s.1 in
       (ap (λ t. if t then Some x else find test xs) s.0 ∙ r.0, r.1)
 
-  found_by : (t : Bool) (x s : A) (o p : Option A) → (if t then Some x else o) ≡ Some s → (o ≡ Some s → p ≡ Some s) → (if t then Some x else p) ≡ Some s
+  found_by : (t : Bool) (x s : A) (o p : Option A) → (if t then Some x else o) ≡ Some s → (o ≡ Some s → p ≡ Some s)
+      → (if t then Some x else p) ≡ Some s
   found_by true x s o p e f = e
   found_by false x s o p e f = f e
 
@@ -35,10 +37,12 @@ module _ {A : Type 0} (test : A → Bool) where
   pub try-start : (f : ℕ → List A) → find test (gathered f 0) ≡ None
   try-start f = ap (find test) (gathered-none f)
 
-  pub try-more : (f : ℕ → List A) (n : ℕ) → find test (gathered f n) ≡ None → find test (f n) ≡ None → find test (gathered f (n + 1)) ≡ None
+  pub try-more : (f : ℕ → List A) (n : ℕ) → find test (gathered f n) ≡ None → find test (f n) ≡ None
+      → find test (gathered f (n + 1)) ≡ None
   try-more f n e g = ap (find test) (gathered-more f n) ∙ find-append (gathered f n) (f n) e ∙ g
 
-  pub try-found : (f : ℕ → List A) (i n : ℕ) (s : A) → i < n → find test (gathered f i) ≡ None → find test (f i) ≡ Some s → find test (gathered f n) ≡ Some s
+  pub try-found : (f : ℕ → List A) (i n : ℕ) (s : A) → i < n → find test (gathered f i) ≡ None
+      → find test (f i) ≡ Some s → find test (gathered f n) ≡ Some s
   unfolding gathered
   try-found f i zero s lt e g = absurd (omega (arith, lt))
   try-found f i (suc n) s lt e g =

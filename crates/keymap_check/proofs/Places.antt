@@ -1,5 +1,6 @@
 -- The places of a key's cells, and the cells that it has.
-use Rattle.std.proofs.Common.{◌≡◌, ℕ, ◌<◌, ◌≤◌, ◌+◌, ◌-◌, Bool, true, false, Some, None, refl, ap, subst, sym, ◌∙◌, inl, inr, if◌then◌else◌, arith}
+use Rattle.std.proofs.Common.{◌≡◌, ℕ, ◌<◌, ◌≤◌, ◌+◌, ◌-◌, Bool, true, false, Some, None, refl, ap, subst, sym, ◌∙◌, inl}
+use Rattle.std.proofs.Common.{inr, if◌then◌else◌, arith}
 use Rattle.std.specs.Prelude.{nat_lt}
 use Rattle.std.proofs.lemmas.Bool.{cases_Bool, ltb-true, ltb-false, lt-ltb, le-ltb}
 use Rattle.keymap_core.specs.declared.entry.Cell.{Cell}
@@ -18,7 +19,8 @@ count_if m t e = ap (λ x. if x then 16 else 8) e
 low-cell : (m : MapValue) (k p : ℕ) (t : Bool) → nat_lt p 8 ≡ t → t ≡ true → cell_of m k p ≡ cell_at m k p
 low-cell m k p t e f = rw (e, f) refl
 
-high-cell : (m : MapValue) (k p : ℕ) (t : Bool) → nat_lt p 8 ≡ t → t ≡ false → cell_of m k p ≡ cell_at m (k + 128) (p - 8)
+high-cell : (m : MapValue) (k p : ℕ) (t : Bool) → nat_lt p 8 ≡ t → t ≡ false
+    → cell_of m k p ≡ cell_at m (k + 128) (p - 8)
 high-cell m k p t e f = rw (e, f) refl
 
 place_by : (m : MapValue) (k p : ℕ) (t : Bool) → is_upper_live m ≡ t → p < place_count m → IsCellOf m k (cell_of m k p)
@@ -26,7 +28,11 @@ place_by m k p true live lt =
     let lt16 : p < 16 = subst (λ n. p < n) (count_if m true live) lt in
     elim (cases_Bool (nat_lt p 8)) [
       | inl s ↦ inl (p, ltb-true p 8 s, sym (low-cell m k p (nat_lt p 8) refl s))
-      | inr s ↦ inr (live-upper m live, (p - 8, omega (arith, lt16, ltb-false p 8 s), sym (high-cell m k p (nat_lt p 8) refl s)))
+      | inr s ↦
+          inr (
+            live-upper m live,
+            (p - 8, omega (arith, lt16, ltb-false p 8 s), sym (high-cell m k p (nat_lt p 8) refl s)),
+          )
     ]
 place_by m k p false live lt =
     let lt8 : p < 8 = subst (λ n. p < n) (count_if m false live) lt in
@@ -54,24 +60,32 @@ cell-place m k x (inr s) =
     let c : place_count m ≡ 16 = count_if m true (upper-is_live m s.0) in
     let s1 : StandsIn m (k + 128) x = s.1 in
     let e : (s1.0 + 8) - 8 ≡ s1.0 = omega arith in
-    let lt : s1.0 + 8 < 16 = omega (arith, s1.1) in
-    (s1.0 + 8, omega (arith, c, lt), high-cell m k (s1.0 + 8) (nat_lt (s1.0 + 8) 8) refl (le-ltb (s1.0 + 8) 8 (omega arith)) ∙ ap (λ j. cell_at m (k + 128) j) e ∙ s1.2)
+    let lt : s1.0 + 8 < 16 = omega (arith, s1.1) in (
+      s1.0 + 8,
+      omega (arith, c, lt),
+      high-cell m k (s1.0 + 8) (nat_lt (s1.0 + 8) 8) refl (le-ltb (s1.0 + 8) 8 (omega arith))
+          ∙ ap (λ j. cell_at m (k + 128) j) e ∙ s1.2,
+    )
 
 -- the first place of a kind
-pub first_place-some : (m : MapValue) (x : Kind) (k p : ℕ) → first_place m x k ≡ Some p → IsFirstBelow (λ q. fits x (cell_of m k q)) (place_count m) p
+pub first_place-some : (m : MapValue) (x : Kind) (k p : ℕ) → first_place m x k ≡ Some p
+    → IsFirstBelow (λ q. fits x (cell_of m k q)) (place_count m) p
 unfolding first_place
 first_place-some m x k p e = first_below-some (λ q. fits x (cell_of m k q)) (place_count m) p e
 
-pub first_place-cell : (m : MapValue) (x : Kind) (k p : ℕ) → first_place m x k ≡ Some p → IsCellOf m k (cell_of m k p) × (fits x (cell_of m k p) ≡ true)
+pub first_place-cell : (m : MapValue) (x : Kind) (k p : ℕ) → first_place m x k ≡ Some p
+    → IsCellOf m k (cell_of m k p) × (fits x (cell_of m k p) ≡ true)
 first_place-cell m x k p e =
     let s : IsFirstBelow (λ q. fits x (cell_of m k q)) (place_count m) p = first_place-some m x k p e in
     (place-cell m k p s.0, s.1)
 
-first_place-no : (m : MapValue) (x : Kind) (k : ℕ) → first_place m x k ≡ None → NoneBelow (λ q. fits x (cell_of m k q)) (place_count m)
+first_place-no : (m : MapValue) (x : Kind) (k : ℕ) → first_place m x k ≡ None
+    → NoneBelow (λ q. fits x (cell_of m k q)) (place_count m)
 unfolding first_place
 first_place-no m x k e = first_below-no (λ q. fits x (cell_of m k q)) (place_count m) e
 
-pub no_place-cell : (m : MapValue) (x : Kind) (k : ℕ) → first_place m x k ≡ None → (y : Cell) → IsCellOf m k y → fits x y ≡ false
+pub no_place-cell : (m : MapValue) (x : Kind) (k : ℕ) → first_place m x k ≡ None → (y : Cell) → IsCellOf m k y
+    → fits x y ≡ false
 no_place-cell m x k e y is =
     let p : HasPlace m k y = cell-place m k y is in
     ap (λ z. fits x z) (sym p.2) ∙ first_place-no m x k e p.0 p.1

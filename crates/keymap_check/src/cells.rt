@@ -2,7 +2,8 @@
 //! count only where the upper slots are live.
 ghost use Rattle.std.specs.Prelude.{◌≡◌, ◌<◌, ◌≤◌, IfSome};
 ghost use Rattle.keymap_core.specs.Maps.{cell_at};
-ghost use Rattle.keymap_check.specs.Cells.{slot_at, column_at, cell_of as cell_of_key, first_place as first_place_of, place_count as place_count_of};
+ghost use Rattle.keymap_check.specs.Cells.{slot_at, column_at, cell_of as cell_of_key, first_place as first_place_of};
+ghost use Rattle.keymap_check.specs.Cells.{place_count as place_count_of};
 
 use crate::kind::Kind;
 use keymap_core::{Cell, KeyMap};

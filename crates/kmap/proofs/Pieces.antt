@@ -2,5 +2,6 @@
 use Rattle.std.proofs.Common.{◌≡◌, ℕ, List, ◌++◌, append_assoc}
 
 pub eight_pieces : (all a b c d e f g h : List ℕ)
-    → (((((((all ++ a) ++ b) ++ c) ++ d) ++ e) ++ f) ++ g) ++ h ≡ all ++ (((((((a ++ b) ++ c) ++ d) ++ e) ++ f) ++ g) ++ h)
+    → (((((((all ++ a) ++ b) ++ c) ++ d) ++ e) ++ f) ++ g) ++ h
+    ≡ all ++ (((((((a ++ b) ++ c) ++ d) ++ e) ++ f) ++ g) ++ h)
 eight_pieces all a b c d e f g h = simp append_assoc

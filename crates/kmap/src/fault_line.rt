@@ -2,7 +2,8 @@
 ghost use Rattle.std.specs.Prelude.{◌≡◌, ◌+◌, ◌≤◌, ◌++◌, ◌||◌, length, is_err};
 ghost use Rattle.arrayvec.specs.ArrayVec.{array_vec_len};
 ghost use Rattle.keymap_core.specs.Devices.{WritesText};
-ghost use Rattle.kmap.specs.FaultLine.{fault_line, message, read_fault, script_fault, table_fault, table_kind, text_fault, text_kind, too_wide, write_fault};
+ghost use Rattle.kmap.specs.FaultLine.{fault_line, message, read_fault, script_fault, table_fault, table_kind};
+ghost use Rattle.kmap.specs.FaultLine.{text_fault, text_kind, too_wide, write_fault};
 
 use crate::code_point::code_of;
 use crate::text::{append, append_byte, append_number};
@@ -234,7 +235,8 @@ fn line_of(error: &RunError) -> Line
 
 /// Writes the line of an error, or after a fault of the writer its first `written` bytes.
 pub fn write_run_error<W: Write>(error: &RunError, writer: &mut W) -> Result<(), WriteFault>
-    ensures bytes { WritesText (λ f. f.written) (W.contents writer.old) (W.contents writer.new) (fault_line error.now) result }
+    ensures bytes { WritesText (λ f. f.written) (W.contents writer.old) (W.contents writer.new) (fault_line error.now)
+        result }
     ensures failed { W.has_failed writer.new ≡ (is_err result || W.has_failed writer.old) }
 {
     write_text(writer, line_of(error).as_slice())

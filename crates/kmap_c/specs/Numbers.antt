@@ -1,7 +1,9 @@
 -- The numbers by which a caller in C names events, and what a call answers to them.
-use Rattle.std.specs.Prelude.{ℕ, ◌-◌, ◌==◌, nat_le, ℤ, pos, negsuc, List, [], ◌∷◌, length, Bool, true, ◌&&◌, Option, Some, None, if◌then◌else◌}
+use Rattle.std.specs.Prelude.{ℕ, ◌-◌, ◌==◌, nat_le, ℤ, pos, negsuc, List, [], ◌∷◌, length, Bool, true, ◌&&◌, Option}
+use Rattle.std.specs.Prelude.{Some, None, if◌then◌else◌}
 use Rattle.keymap_tables.specs.declared.fault.TableFaultKind.{TableFaultKind}
-use Rattle.keymap_tables.specs.declared.fault.TableFaultKind.TheVariants.{Short, Long, BadCount, BadPad, BadFlag, BadAction, Combined, BadChar, NotEmpty}
+use Rattle.keymap_tables.specs.declared.fault.TableFaultKind.TheVariants.{Short, Long, BadCount, BadPad, BadFlag}
+use Rattle.keymap_tables.specs.declared.fault.TableFaultKind.TheVariants.{BadAction, Combined, BadChar, NotEmpty}
 use Rattle.console_core.specs.declared.event.Event.{Event}
 use Rattle.console_core.specs.declared.event.Event.TheVariants as event
 

@@ -151,7 +151,8 @@ answers_as_resets m h (e ∷ later) keys later_keys =
 
 pub loads_of_one_map : LoadsOfOneMapAreResets
 loads_of_one_map m h keys =
-    let same : Same m (resolved (between m m) h) (resolved (between m m) (loads_as_resets h)) = same_resets m h keys in (
+    let same : Same m (resolved (between m m) h) (resolved (between m m) (loads_as_resets h)) =
+    same_resets m h keys in (
       (λ i. same.held (holding.Mod i)),
       same.locked,
       ap (λ x. pending x (resolved (between m m) h)) (one_in_force m h) ∙ same.pending

@@ -16,6 +16,7 @@ use Rattle.keymap_core.specs.declared.action.Action.TheVariants as a
 use Rattle.keymap_core.specs.declared.action.Modifier.TheVariants as m
 use Rattle.keymap_core.specs.declared.action.Lock.TheVariants as l
 
+-- the code of a known action, read again, gives the action
 pub code-read : (action : Action) → IsAction action → action_of (code_of action) ≡ Some action
 code-read (a.Screen k) known = grind (arith, nat_tests, common_steps)
 code-read (a.Function k) known = grind (arith, nat_tests, common_steps)
@@ -53,12 +54,14 @@ is_plain (a.Function k) = false
 is_plain (a.DeadKey k) = false
 is_plain _ = true
 
+-- each plain action is known
 plain-known : (action : Action) → is_plain action ≡ true → IsAction action
 plain-known (a.Screen k) h = absurd (cc)
 plain-known (a.Function k) h = absurd (cc)
 plain-known (a.DeadKey k) h = absurd (cc)
 plain-known _ h = tt
 
+-- the code is the action's
 abbrev HasCode : ℕ → Action → Type 0
 HasCode c action = (code_of action ≡ c) × IsAction action
 
@@ -108,6 +111,7 @@ beyond-find c (x ∷ xs) below h =
     differ : (a c : ℕ) → nat_lt a 0xa4 ≡ true → 0xa4 ≤ c → a == c ≡ false
     differ a c low high = grind (arith, nat_tests)
 
+-- codes from 0xa4 on have no action
 beyond-none : (c : ℕ) → 0xa4 ≤ c → action_of c ≡ None
 beyond-none c h =
     rw (beyond 0x0b 0x1a c h (omega arith), beyond 0x1b 0x7a c h (omega arith), beyond 0x89 0x97 c h (omega arith))
@@ -120,9 +124,11 @@ beyond-none c h =
 abbrev is_unused_code : ℕ → Bool
 is_unused_code c = (c == 0x01) || within 0x7b 0x7f c || within 0x9b 0xa0 c || nat_le 0xa4 c
 
+-- a code that the test takes for unused is unused
 unused-from_test : (c : ℕ) → is_unused_code c ≡ true → IsUnusedCode c
 unused-from_test c h = grind (arith, nat_tests)
 
+-- an unused code passes the test
 unused-as_test : (c : ℕ) → IsUnusedCode c → is_unused_code c ≡ true
 unused-as_test c h = grind (arith, nat_tests)
 
@@ -143,6 +149,7 @@ is_none-None : (o : Option Action) → is_none o ≡ true → o ≡ None
 is_none-None None h = refl
 is_none-None (Some x) h = absurd (cc)
 
+-- a code has no action exactly if it is unused
 pub unused-codes : (c : ℕ) → (action_of c ≡ None) ↔ IsUnusedCode c
 unused-codes c = (
   λ e. unused-from_test c (sym (same-as_test c) ∙ ap is_none e),

@@ -10,16 +10,19 @@ use Rattle.std.proofs.lemmas.List.Folds.{find-append}
 use Rattle.keymap_core.specs.declared.action.Action.{Action}
 use Rattle.keymap_core.specs.Actions.{action_of}
 
+-- an action that fails the test changes nothing of the search
 passed_over : (p : Action → Bool) (o : Option Action) (xs : List Action) → option_map_or p o false ≡ false
     → find p (cons_option o xs) ≡ find p xs
 passed_over p None xs e = refl
 passed_over p (Some x) xs e = rw e refl
 
+-- an action that passes the test is what the search finds
 found : (p : Action → Bool) (o : Option Action) (xs : List Action) → option_map_or p o false ≡ true
     → find p (cons_option o xs) ≡ o
 found p None xs e = cc
 found p (Some x) xs e = rw e refl
 
+-- where nothing in front passes, the search finds what it finds behind
 behind : (p : Action → Bool) (front rest : List ℕ) → find p (filter_map action_of front) ≡ None
     → find p (filter_map action_of (front ++ rest)) ≡ find p (filter_map action_of rest)
 behind p front rest e =
@@ -27,6 +30,7 @@ behind p front rest e =
     ∙ find-append p (filter_map action_of front) (filter_map action_of rest)
     ∙ ap (λ o. option_or o (find p (filter_map action_of rest))) e
 
+-- one more code whose action fails: still nothing is found
 pub none-more : (p : Action → Bool) (codes : List ℕ) (i : ℕ) → i < length codes
     → find p (filter_map action_of (take i codes)) ≡ None
     → option_map_or p (action_of (get_or codes i 0)) false ≡ false
@@ -36,6 +40,7 @@ none-more p codes i h e misses =
     ∙ behind p (take i codes) (get_or codes i 0 ∷ []) e
     ∙ passed_over p (action_of (get_or codes i 0)) [] misses
 
+-- the first code whose action passes is what the whole search finds
 pub first-found : (p : Action → Bool) (codes : List ℕ) (i : ℕ) → i < length codes
     → find p (filter_map action_of (take i codes)) ≡ None
     → option_map_or p (action_of (get_or codes i 0)) false ≡ true

@@ -12,6 +12,7 @@ use Rattle.std.proofs.lemmas.List.{take-map, drop-map, length-map}
 use Rattle.std.proofs.lemmas.Slice.Eq.{bytes_eq-Decides}
 use Rattle.keymap_core.specs.Names.{are_digits, digits_value, number_behind}
 
+-- a word in lower case
 abbrev lower : List ℕ → List ℕ
 lower = map to_ascii_lowercase
 
@@ -19,13 +20,16 @@ lower = map to_ascii_lowercase
 lower-digit : (c : ℕ) → is_ascii_digit (to_ascii_lowercase c) ≡ is_ascii_digit c
 lower-digit c = grind (arith, nat_tests)
 
+-- a digit is its own lower case
 digit-lower : (c : ℕ) → is_ascii_digit c ≡ true → to_ascii_lowercase c ≡ c
 digit-lower c h = grind (arith, nat_tests)
 
+-- lower case makes no digit and loses none
 lower-digits : (xs : List ℕ) → list_all is_ascii_digit (lower xs) ≡ list_all is_ascii_digit xs
 lower-digits [] = refl
 lower-digits (x ∷ xs) = ap₂ (λ a b. a && b) (lower-digit x) (lower-digits xs)
 
+-- digits are their own lower case
 digits-lower : (xs : List ℕ) → list_all is_ascii_digit xs ≡ true → lower xs ≡ xs
 digits-lower [] h = refl
 digits-lower (x ∷ xs) h =
@@ -45,6 +49,7 @@ spelled_at false xs h = rw (lower-digits xs, h) (none _ _ ∙ sym (none _ _))
     none true x = refl
     none false x = refl
 
+-- lower case spells the same number
 pub spelled-lower : (xs : List ℕ) → spelled (lower xs) ≡ spelled xs
 spelled-lower xs = spelled_at (list_all is_ascii_digit xs) xs refl
 
@@ -55,11 +60,13 @@ behind_at true letters word h =
     rw (h, drop-map to_ascii_lowercase (length letters) word) (spelled-lower (drop (length letters) word))
 behind_at false letters word h = rw h refl
 
+-- behind the letters, in either case, stands the number that the rest of the word spells
 pub number-behind : (letters word : List ℕ) → bytes_eq (lower (take (length letters) word)) letters ≡ true
     → number_behind letters (lower word) ≡ spelled (drop (length letters) word)
 number-behind letters word h =
     behind_at true letters word (ap (λ xs. bytes_eq xs letters) (take-map to_ascii_lowercase (length letters) word) ∙ h)
 
+-- a word that begins with other letters has no number behind them
 pub none-behind : (letters word : List ℕ) → bytes_eq (lower (take (length letters) word)) letters ≡ false
     → number_behind letters (lower word) ≡ None
 none-behind letters word h =

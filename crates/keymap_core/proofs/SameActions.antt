@@ -10,6 +10,7 @@ use Rattle.keymap_core.specs.declared.action.Action.{Action}
 use Rattle.keymap_core.specs.declared.action.Action.TheVariants as act
 use Rattle.keymap_core.specs.Actions.{modifier_index, lock_index, action_kind, action_number, same_action}
 
+-- the modifier of an index
 abbrev modifier_of : ℕ → Modifier
 modifier_of i =
     cond (eqb i 0) LeftShift
@@ -28,6 +29,7 @@ modifier_of-index RightAlt = refl
 modifier_of-index AltShift = refl
 modifier_of-index Meta = refl
 
+-- the lock of an index
 abbrev lock_of : ℕ → Lock
 lock_of i = cond (eqb i 0) Caps (cond (eqb i 1) Num (cond (eqb i 2) Scroll (Alt)))
 
@@ -37,6 +39,7 @@ lock_of-index Num = refl
 lock_of-index Scroll = refl
 lock_of-index Alt = refl
 
+-- the action of a kind and a number
 abbrev action_of : ℕ → ℕ → Action
 action_of i n =
     cond (eqb i 0) act.Nop
@@ -58,6 +61,7 @@ action_of i n =
     (cond (eqb i 16) act.PowerDown
     act.Paste))))))))))))))))
 
+-- an action is that of its kind and number
 action_of-parts : (a : Action) → action_of (action_kind a) (action_number a) ≡ a
 action_of-parts act.Nop = refl
 action_of-parts (act.Mod m) = ap act.Mod (modifier_of-index m)
@@ -78,6 +82,7 @@ action_of-parts act.Halt = refl
 action_of-parts act.PowerDown = refl
 action_of-parts act.Paste = refl
 
+-- where the test passes, the actions are the same
 pub same_action-true : (a b : Action) → same_action a b ≡ true → a ≡ b
 same_action-true a b e =
     let p : (eqb (action_kind a) (action_kind b) ≡ true) × (eqb (action_number a) (action_number b) ≡ true) =
@@ -87,6 +92,7 @@ same_action-true a b e =
     sym (action_of-parts a) ∙ ap (λ x. action_of x (action_number a)) i ∙ ap (λ x. action_of (action_kind b) x) n
     ∙ action_of-parts b
 
+-- each action passes the test with itself
 pub same_action-refl : (a : Action) → same_action a a ≡ true
 same_action-refl a =
     rw (eq-eqb (action_kind a) (action_kind a) refl, eq-eqb (action_number a) (action_number a) refl) refl

@@ -27,6 +27,7 @@ use Rattle.keymap_tables.proofs.SlotImages.{number-back, char-sound}
 abbrev tail_of : Layout → AccentValue → List ℕ
 tail_of l accent = flat_map (pair_bytes l) accent.pairs ++ zeros (pair_size l * (52 - length accent.pairs))
 
+-- the bytes of an accent are its own number and its tail
 accent-parts : (l : Layout) (accent : AccentValue)
     → accent_bytes l accent ≡ number_bytes l accent.own ++ tail_of l accent
 accent-parts l accent =
@@ -37,12 +38,14 @@ length-pair : (l : Layout) (pair : ℕ × ℕ) → length (pair_bytes l pair) �
 length-pair Wide pair = refl
 length-pair Narrow pair = refl
 
+-- the bytes of each pair have the size of a pair
 pairs-sized : (l : Layout) (pairs : List (ℕ × ℕ)) → All (λ pair. length (pair_bytes l pair) ≡ pair_size l) pairs
 pairs-sized l pairs k d below = length-pair l (get_or pairs k d)
 
 length-pairs : (l : Layout) (pairs : List (ℕ × ℕ)) → length (flat_map (pair_bytes l) pairs) ≡ pair_size l * length pairs
 length-pairs l pairs = length-rows (pair_bytes l) (pair_size l) pairs (pairs-sized l pairs)
 
+-- the bytes of an accent have the size of an accent
 pub length-accent_bytes : (l : Layout) (accent : AccentValue) → IsAccent accent
     → length (accent_bytes l accent) ≡ accent_size l
 length-accent_bytes l accent known =
@@ -66,12 +69,14 @@ from-own l accent =
     ap (drop (number_size l)) (accent-parts l accent)
     ∙ drop_at (number_bytes l accent.own) (tail_of l accent) (number_size l) (length-number l accent.own)
 
+-- from the pair i on, the bytes of an accent are those of its tail
 from-pair : (l : Layout) (accent : AccentValue) (i : ℕ)
     → drop (number_size l + pair_size l * i) (accent_bytes l accent) ≡ drop (pair_size l * i) (tail_of l accent)
 from-pair l accent i =
     sym (drop-drop (pair_size l * i) (number_size l) (accent_bytes l accent))
     ∙ ap (drop (pair_size l * i)) (from-own l accent)
 
+-- the bytes at the place of the pair i are those of that pair
 pair-at : (l : Layout) (accent : AccentValue) (i : ℕ) (d : ℕ × ℕ) → i < length accent.pairs
     → take (pair_size l) (drop (number_size l + pair_size l * i) (accent_bytes l accent))
     ≡ pair_bytes l (get_or accent.pairs i d)
@@ -80,9 +85,11 @@ pair-at l accent i d below =
     ∙ row-in (pair_bytes l) (pair_size l) accent.pairs (zeros (pair_size l * (52 - length accent.pairs))) i d
     (pairs-sized l accent.pairs) below
 
+-- a pair has two numbers
 twice : (l : Layout) → pair_size l ≡ number_size l + number_size l
 twice l = omega arith
 
+-- the base read at the place of the pair i is the pair's base
 pub base-in : (l : Layout) (accent : AccentValue) (i : ℕ) (d : ℕ × ℕ) → i < length accent.pairs
     → PairFits l (get_or accent.pairs i d) → base_at l (accent_bytes l accent) i ≡ (get_or accent.pairs i d).0
 base-in l accent i d below fits =
@@ -94,6 +101,7 @@ base-in l accent i d below fits =
     ∙ take_at (number_bytes l pair.0) (number_bytes l pair.1) s (length-number l pair.0) in
     ap (from_le_bytes (number_width l)) first ∙ number-back l pair.0 fits.0
 
+-- the number read behind that base is the pair's result
 pub result-in : (l : Layout) (accent : AccentValue) (i : ℕ) (d : ℕ × ℕ) → i < length accent.pairs
     → PairFits l (get_or accent.pairs i d)
     → number_at l (accent_bytes l accent) (number_size l + pair_size l * i + number_size l)
@@ -110,6 +118,7 @@ result-in l accent i d below fits =
     ∙ drop_at (number_bytes l pair.0) (number_bytes l pair.1) s (length-number l pair.0) in
     ap (from_le_bytes (number_width l)) second ∙ number-back l pair.1 fits.1
 
+-- the number read at the start is the accent's own character
 pub own-in : (l : Layout) (accent : AccentValue) → accent.own < number_limit l
     → number_at l (accent_bytes l accent) 0 ≡ accent.own
 own-in l accent fits =
@@ -123,10 +132,12 @@ zero-number : (l : Layout) → from_le_bytes (number_width l) (zeros (number_siz
 zero-number Wide = refl
 zero-number Narrow = refl
 
+-- where fewer than 52 pairs are used, there is room for a number
 room-left : (l : Layout) (n : ℕ) → n < 52 → number_size l ≤ pair_size l * (52 - n)
 room-left Wide n room = omega arith
 room-left Narrow n room = omega arith
 
+-- the base read behind the last pair is 0
 pub no-base : (l : Layout) (accent : AccentValue) → length accent.pairs < 52
     → base_at l (accent_bytes l accent) (length accent.pairs) ≡ 0
 no-base l accent room =
@@ -142,6 +153,7 @@ no-base l accent room =
     ∙ take-replicate (number_size l) left 0 (room-left l n room) in
     ap (from_le_bytes (number_width l)) first ∙ zero-number l
 
+-- the pairs found in the bytes of an accent are as many as it has
 pairs-of : (l : Layout) (accent : AccentValue) → IsAccent accent → AccentFits l accent
     → length accent.pairs ≡ pairs_in l (accent_bytes l accent)
 pairs-of l accent known fits =
@@ -182,6 +194,7 @@ sound-upto l accent known fits (suc i) few =
     composed in
     λ p inside. second p (omega (arith, inside, next))
 
+-- the bytes of an accent that fits have no fault
 pub accent_bytes-sound : (l : Layout) (accent : AccentValue) → IsAccent accent → AccentFits l accent
     → HasNoFault (accent_fault l (accent_bytes l accent)) (accent_size l)
 accent_bytes-sound l accent known fits =
@@ -197,12 +210,15 @@ accent_bytes-sound l accent known fits =
     (sound-upto l accent known fits n (omega arith))
     (λ p past. zeros-behind front (pair_size l * (52 - length accent.pairs)) p (omega (arith, long, past)))
 
+-- an accent of its character and pairs
 accent_of : ℕ → List (ℕ × ℕ) → AccentValue
 accent_of own pairs = record { own = own; pairs = pairs }
 
+-- pairs are the same where their parts are
 same-pair : (p q : ℕ × ℕ) → p.0 ≡ q.0 → p.1 ≡ q.1 → p ≡ q
 same-pair p q first second = ap (λ (v : ℕ). (v, p.1)) first ∙ ap (λ (v : ℕ). (q.0, v)) second
 
+-- accents that fit are the same where their bytes are
 pub same-accent : (l : Layout) (x y : AccentValue) → IsAccent x × AccentFits l x → IsAccent y × AccentFits l y
     → accent_bytes l x ≡ accent_bytes l y → x ≡ y
 unfolding accent_of

@@ -52,14 +52,17 @@ pub take-more : {X : Type 0} (xs : List X) (i : ℕ) (x : X) → i < length xs
     → take (i + 1) (set xs i x) ≡ take i xs ++ x ∷ []
 take-more xs i x below = rw add-one (take-suc-set xs i x below)
 
+-- what holds for the elements below i, and for one set at i, holds for those below i + 1
 pub All-more_set : {X : Type 0} (P : X → Type 0) (xs : List X) (i : ℕ) (x : X) → i < length xs → All P (take i xs) → P x
     → All P (take (i + 1) (set xs i x))
 All-more_set P xs i x below so_far is = rw (take-more xs i x below) (All-push P (take i xs) x so_far is)
 
+-- a number that lies in the bytes has the bytes of a number
 pub number-long : (l : Layout) (bytes : List ℕ) (at : ℕ) → at + number_size l ≤ length bytes
     → length (take (number_size l) (drop at bytes)) ≡ number_size l
 number-long l bytes at fits = length-take-le (number_size l) (drop at bytes) (omega (arith, length-drop at bytes))
 
+-- each byte of a part is below 256
 pub part-small : (n : ℕ) (bytes : List ℕ) (at : ℕ) → ((i : ℕ) → get_or bytes i 0 < 256) → (i : ℕ)
     → get_or (take n (drop at bytes)) i 0 < 256
 part-small n bytes at small i = grind (arith, common_steps, get_or-take, get_or-drop, small (at + i))
@@ -87,18 +90,22 @@ number_bytes-at Narrow bytes at number small fits is =
 below_256 : (bytes : List ℕ) → get_or bytes 0 0 < 256 → from_le_bytes w8 bytes < 256
 below_256 bytes small = omega (arith, small)
 
+-- a wide number is below 2 to the 32
 below_2_32 : (bytes : List ℕ) → ((i : ℕ) → get_or bytes i 0 < 256) → from_le_bytes w32 bytes < 2 ^ 32
 below_2_32 bytes small = omega (arith, small 0, small 1, small 2, small 3)
 
+-- each number that is read fits its size
 pub number-fits : (l : Layout) (bytes : List ℕ) (at : ℕ) → ((i : ℕ) → get_or bytes i 0 < 256)
     → number_at l bytes at < number_limit l
 number-fits Wide bytes at small = below_2_32 (take 4 (drop at bytes)) (part-small 4 bytes at small)
 number-fits Narrow bytes at small = below_256 (take 1 (drop at bytes)) (part-small 1 bytes at small 0)
 
+-- a cell whose number fits, fits
 pub cell-fits : (l : Layout) (cell : Cell) (n : ℕ) → number_of cell ≡ n → n < number_limit l → CellFits l cell
 cell-fits l (Char c) n is small = rw is small
 cell-fits l (Act a) n is small = tt
 
+-- one more cell is read: the cells so far have the bytes so far
 pub bytes-more : (l : Layout) (bytes : List ℕ) (cells : List Cell) (i : ℕ) (cell : Cell)
     → ((k : ℕ) → get_or bytes k 0 < 256) → number_size l * i + number_size l ≤ length bytes → i < length cells
     → flat_map (cell_bytes l) (take i cells) ≡ take (number_size l * i) bytes
@@ -117,11 +124,13 @@ bytes-more l bytes cells i cell small fits below so_far number =
 pub halves : (y : ℕ) → 2 * (y / 2) + cond (y % 2 == 1) 1 0 ≡ y
 halves y = grind (arith, nat_tests)
 
+-- one mark fewer is cut off
 pub half-of : (marks i : ℕ) → i < 8 → marks / 2 ^ (8 - i) ≡ marks / 2 ^ (7 - i) / 2
 half-of marks i small =
     let more : 8 - i ≡ suc (7 - i) = omega arith in
     rw (more, pow-suc 2 (7 - i)) (sym (div-div-eq-div-mul marks (2 ^ (7 - i)) 2))
 
+-- one more cell is read: the cells so far have the marks so far
 pub marks-more : (marks : ℕ) (cells : List Cell) (i : ℕ) (cell : Cell) → i < 8 → i < length cells
     → marks_of (take i cells) ≡ marks / 2 ^ (8 - i) → is_act cell ≡ ((marks / 2 ^ (7 - i)) % 2 == 1)
     → marks_of (take (i + 1) (set cells i cell)) ≡ marks / 2 ^ (8 - (i + 1))
@@ -135,18 +144,22 @@ begins : (l : Layout) (i : ℕ) → ((number_size l * i) % number_size l == 0) �
 begins Wide i = let none : (4 * i) % 4 ≡ 0 = omega arith in rw none refl
 begins Narrow i = let none : (1 * i) % 1 ≡ 0 = omega arith in rw none refl
 
+-- the cell that begins at a place is that column's
 column-of : (l : Layout) (i : ℕ) → number_size l * i / number_size l ≡ i
 column-of Wide i = omega arith
 column-of Narrow i = omega arith
 
+-- the numbers of the first cells stand before the marks
 among-cells : (l : Layout) (i p : ℕ) → i < 8 → p < number_size l * (i + 1) → nat_lt p (8 * number_size l) ≡ true
 among-cells Wide i p small below = is_below p 32 (omega arith)
 among-cells Narrow i p small below = is_below p 8 (omega arith)
 
+-- a cell has some byte
 starts : (l : Layout) (i : ℕ) → number_size l * i < number_size l * (i + 1)
 starts Wide i = omega arith
 starts Narrow i = omega arith
 
+-- the fault where a cell begins is the cell's
 pub fault-here : (l : Layout) (bytes : List ℕ) (i : ℕ) → i < 8
     → slot_fault l bytes (number_size l * i) ≡ cell_fault (number_at l bytes (number_size l * i)) (mark_at l bytes i)
 fault-here l bytes i small =
@@ -171,11 +184,13 @@ within-cell : (l : Layout) (i p : ℕ) → number_size l * i < p → p < number_
 within-cell Wide i p above below = let off : p % 4 ≢ 0 = omega arith in grind (arith, nat_tests)
 within-cell Narrow i p above below = absurd (omega arith)
 
+-- inside the number of a cell is no fault
 pub none-between : (l : Layout) (bytes : List ℕ) (i p : ℕ) → i < 8 → number_size l * i < p → p < number_size l * (i + 1)
     → slot_fault l bytes p ≡ None
 none-between l bytes i p small above below =
     rw (among-cells l i p small below, within-cell l i p above below) refl
 
+-- one more cell without a fault: there is none up to its end
 pub sound-more : (l : Layout) (bytes : List ℕ) (i : ℕ) → i < 8
     → ((p : ℕ) → p < number_size l * i → slot_fault l bytes p ≡ None)
     → cell_fault (number_at l bytes (number_size l * i)) (mark_at l bytes i) ≡ None → (p : ℕ)
@@ -198,6 +213,7 @@ bytes-all l bytes cells i end whole so_far =
     let last : number_size l * i ≡ 8 * number_size l = ap (λ (k : ℕ). number_size l * k) end ∙ cells-end l in
     ap (λ (n : ℕ). take n bytes) (sym last) ∙ sym so_far ∙ ap (flat_map (cell_bytes l)) all
 
+-- after eight cells without a fault there is none before the marks
 pub sound-all : (l : Layout) (bytes : List ℕ) (i : ℕ) → i ≡ 8
     → ((p : ℕ) → p < number_size l * i → slot_fault l bytes p ≡ None) → (p : ℕ) → p < 8 * number_size l
     → slot_fault l bytes p ≡ None
@@ -205,6 +221,7 @@ sound-all l bytes i end so_far p below =
     let last : number_size l * i ≡ 8 * number_size l = ap (λ (k : ℕ). number_size l * k) end ∙ cells-end l in
     so_far p (omega (arith, last))
 
+-- after eight cells the marks are those of the cells
 pub marks-all : (marks : ℕ) (cells : List Cell) (i : ℕ) → i ≡ 8 → length cells ≡ 8
     → marks_of (take i cells) ≡ marks / 2 ^ (8 - i) → marks ≡ marks_of cells
 marks-all marks cells i end whole so_far =
@@ -256,10 +273,12 @@ slot-pad l bytes p past =
     )
     refl
 
+-- the marks are no fault, whatever they are
 pub slot-marks : (l : Layout) (bytes : List ℕ) → slot_fault l bytes (8 * number_size l) ≡ None
 slot-marks Wide bytes = refl
 slot-marks Narrow bytes = refl
 
+-- a flag of at most 3 is no fault
 pub slot-flag : (l : Layout) (bytes : List ℕ) → slice_index bytes (8 * number_size l + 1) ≤ 3
     → slot_fault l bytes (8 * number_size l + 1) ≡ None
 slot-flag Wide bytes small =
@@ -306,6 +325,7 @@ large-flag Wide bytes large =
 large-flag Narrow bytes large =
     let many : nat_le (slice_index bytes 9) 3 ≡ false = isnt_few (slice_index bytes 9) 3 large in rw many refl
 
+-- after cells without a fault, a flag above 3 is the first fault
 pub slot-bad_flag : (l : Layout) (bytes : List ℕ) (f : TableFault) → f.offset ≡ 8 * number_size l + 1 → f.kind ≡ BadFlag
     → ((p : ℕ) → p < 8 * number_size l → slot_fault l bytes p ≡ None) → 3 < slice_index bytes (8 * number_size l + 1)
     → IsFirstFault (slot_fault l bytes) f

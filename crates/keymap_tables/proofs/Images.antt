@@ -35,6 +35,7 @@ count-again : (l : Layout) (n : ℕ) → n ≤ 256 → count_at (count_bytes l n
 count-again Wide n few = from_le_bytes-to_le_bytes_2 n (omega arith)
 count-again Narrow n few = from_le_bytes-to_le_bytes_2 n (omega arith)
 
+-- the bytes of a count within its bound have no fault
 count-sound : (l : Layout) (most n : ℕ) → n ≤ most → most ≤ 256
     → HasNoFault (count_fault most (count_bytes l n)) (count_size l)
 count-sound l most n few small =
@@ -45,27 +46,33 @@ count-sound l most n few small =
 abbrev pub IsGoodEntry : Layout → Entry → Type 0
 IsGoodEntry l entry = IsEntry entry × EntryFits l entry
 
+-- an accent of known characters that fits
 abbrev pub IsGoodAccent : Layout → AccentValue → Type 0
 IsGoodAccent l accent = IsAccent accent × AccentFits l accent
 
+-- each entry of a map that fits is known and fits
 good-entries : (l : Layout) (m : MapValue) → IsMap m → FitsIn l m → All (IsGoodEntry l) m.entries
 good-entries l m is fits k d below =
     (All-get_or IsEntry m.entries k d below is.entries, All-get_or (EntryFits l) m.entries k d below fits.entries)
 
+-- each accent of a map that fits is known and fits
 good-accents : (l : Layout) (m : MapValue) → IsMap m → FitsIn l m → All (IsGoodAccent l) m.accents
 good-accents l m is fits k d below =
     (All-get_or IsAccent m.accents k d below is.accents, All-get_or (AccentFits l) m.accents k d below fits.accents)
 
+-- the bytes of each entry have the size of a slot
 pub slots-sized : (l : Layout) (entries : List Entry) → All IsEntry entries
     → IsSized (slot_bytes l) (slot_size l) entries
 slots-sized l entries known k d below =
     length-slot_bytes l (get_or entries k d) (All-get_or IsEntry entries k d below known)
 
+-- the bytes of each accent have the size of an accent
 pub accents-sized : (l : Layout) (accents : List AccentValue) → All IsAccent accents
     → IsSized (accent_bytes l) (accent_size l) accents
 accents-sized l accents known k d below =
     length-accent_bytes l (get_or accents k d) (All-get_or IsAccent accents k d below known)
 
+-- the slots of a map have their size
 length-slots : (l : Layout) (m : MapValue) → IsMap m → length (slots_bytes l m.entries) ≡ slots_size l
 length-slots l m is =
     length-append (flat_map (slot_bytes l) m.entries) (zeros (slot_size l * (256 - length m.entries)))
@@ -76,6 +83,7 @@ length-slots l m is =
       length-replicate {A = ℕ} (slot_size l * (256 - length m.entries)) 0,
     )
 
+-- the accents of a map have their size
 length-accents : (l : Layout) (m : MapValue) → IsMap m → length (accents_bytes l m.accents) ≡ accents_size l
 length-accents l m is =
     length-append (flat_map (accent_bytes l) m.accents) (zeros (accent_size l * (15 - length m.accents)))
@@ -90,14 +98,17 @@ length-accents l m is =
 four : (a b c d : List ℕ) → a ++ b ++ c ++ d ≡ a ++ (b ++ (c ++ d))
 four a b c d = simp append_assoc
 
+-- the first of four parts, cut out by its length
 part-1 : (a b c d : List ℕ) (i : ℕ) → length a ≡ i → take i (a ++ b ++ c ++ d) ≡ a
 part-1 a b c d i first = ap (take i) (four a b c d) ∙ take_at a (b ++ (c ++ d)) i first
 
+-- the second part, cut out by the lengths of the first two
 part-2 : (a b c d : List ℕ) (i j : ℕ) → length a ≡ i → length b ≡ j → part (a ++ b ++ c ++ d) i j ≡ b
 part-2 a b c d i j first second =
     ap (λ (v : List ℕ). take j (drop i v)) (four a b c d) ∙ ap (take j) (drop_at a (b ++ (c ++ d)) i first)
     ∙ take_at b (c ++ d) j second
 
+-- the third part, cut out by the lengths of the first three
 part-3 : (a b c d : List ℕ) (i j k : ℕ) → length a ≡ i → length b ≡ j → length c ≡ k
     → part (a ++ b ++ c ++ d) (i + j) k ≡ c
 part-3 a b c d i j k first second third =
@@ -106,10 +117,12 @@ part-3 a b c d i j k first second third =
     ∙ drop_at b (c ++ d) j second in
     ap (λ (v : List ℕ). take k (drop (i + j) v)) (four a b c d) ∙ ap (take k) behind ∙ take_at c d k third
 
+-- the fourth part, cut out behind the other three
 part-4 : (a b c d : List ℕ) (i l : ℕ) → length (a ++ b ++ c) ≡ i → length d ≡ l → part (a ++ b ++ c ++ d) i l ≡ d
 part-4 a b c d i l front last =
     ap (take l) (drop_at (a ++ b ++ c) d i front) ∙ take_all l d (omega arith)
 
+-- the parts before the accents reach to the accents' place
 front-long : (l : Layout) (m : MapValue) → IsMap m
     → length (count_bytes l (length m.entries) ++ slots_bytes l m.entries ++ count_bytes l (length m.accents))
     ≡ accents_place l
@@ -123,6 +136,7 @@ front-long l m is =
       length-count l (length m.accents),
     )
 
+-- an image has the size of a file
 pub length-image : (l : Layout) (m : MapValue) → IsMap m → length (image_in l m) ≡ file_size l
 length-image l m is =
     ap length (image-parts l m)
@@ -138,6 +152,7 @@ image-n_keys l m is =
     ∙ part-1 (count_bytes l (length m.entries)) (slots_bytes l m.entries) (count_bytes l (length m.accents))
     (accents_bytes l m.accents) (slots_place l) (length-count l (length m.entries))
 
+-- the bytes at the place of the slots are the map's slots
 pub image-slots : (l : Layout) (m : MapValue) → IsMap m
     → part (image_in l m) (slots_place l) (slots_size l) ≡ slots_bytes l m.entries
 image-slots l m is =
@@ -146,6 +161,7 @@ image-slots l m is =
     (accents_bytes l m.accents) (slots_place l) (slots_size l) (length-count l (length m.entries))
     (length-slots l m is)
 
+-- the bytes at the place of the second count are the number of accents
 pub image-n_accs : (l : Layout) (m : MapValue) → IsMap m
     → part (image_in l m) (n_accs_place l) (count_size l) ≡ count_bytes l (length m.accents)
 image-n_accs l m is =
@@ -154,6 +170,7 @@ image-n_accs l m is =
     (accents_bytes l m.accents) (slots_place l) (slots_size l) (count_size l) (length-count l (length m.entries))
     (length-slots l m is) (length-count l (length m.accents))
 
+-- the bytes at the place of the accents are the map's accents
 pub image-accents : (l : Layout) (m : MapValue) → IsMap m
     → part (image_in l m) (accents_place l) (accents_size l) ≡ accents_bytes l m.accents
 image-accents l m is =
@@ -161,11 +178,13 @@ image-accents l m is =
     ∙ part-4 (count_bytes l (length m.entries)) (slots_bytes l m.entries) (count_bytes l (length m.accents))
     (accents_bytes l m.accents) (accents_place l) (accents_size l) (front-long l m is) (length-accents l m is)
 
+-- the first count read from an image is the number of entries
 pub n_keys-of : (l : Layout) (m : MapValue) → IsMap m → length m.entries ≡ count_at (image_in l m) 0
 n_keys-of l m is =
     sym (sym (count-part (image_in l m) 0 (slots_place l) (omega arith))
     ∙ ap (λ (v : List ℕ). count_at v 0) (image-n_keys l m is) ∙ count-again l (length m.entries) is.few_entries)
 
+-- the second count read from an image is the number of accents
 pub n_accs-of : (l : Layout) (m : MapValue) → IsMap m → length m.accents ≡ count_at (image_in l m) (n_accs_place l)
 n_accs-of l m is =
     sym (sym (count-part (image_in l m) (n_accs_place l) (count_size l) (omega arith))
@@ -203,6 +222,7 @@ content-sound l m is fits =
     HasNoFault (row_fault (accent_fault l) (accent_size l) (length m.accents) v) (accents_size l))
     (sym (image-accents l m is)) accents)
 
+-- the image of a map that fits has no fault
 pub image-sound : (l : Layout) (m : MapValue) → IsMap m → FitsIn l m → (p : ℕ) → fault_at l (image_in l m) p ≡ None
 image-sound l m is fits p =
     elim (cases_lt p (file_size l)) [
@@ -214,6 +234,7 @@ image-sound l m is fits p =
 map_of : List Entry → List AccentValue → MapValue
 map_of entries accents = record { entries = entries; accents = accents }
 
+-- maps that fit are the same where their images are
 pub same-map : (l : Layout) (m n : MapValue) → IsMap m → FitsIn l m → IsMap n → FitsIn l n → image_in l m ≡ image_in l n
     → m ≡ n
 unfolding map_of

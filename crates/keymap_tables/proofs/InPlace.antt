@@ -27,6 +27,7 @@ cut bytes at n =
     let size : at + n - at ≡ n = omega arith in
     ap (λ (k : ℕ). take k (drop at bytes)) size
 
+-- each accent of a map is known
 pub accent-known : (m : MapValue) → IsMap m → (i : ℕ) → i < length m.accents → IsAccent (accent_or_blank m i)
 accent-known m is i below = All-get_or IsAccent m.accents i blank below is.accents
 
@@ -35,6 +36,7 @@ base-wide : (accent : AccentValue) (i : ℕ) → i < length accent.pairs → IsP
     → base_at wide (accent_bytes wide accent) i ≡ (get_or accent.pairs i (0, 0)).0
 base-wide accent i below is = base-in wide accent i (0, 0) below (pair-wide (get_or accent.pairs i (0, 0)) is)
 
+-- the number read behind a base is the pair's result
 pub result-wide : (accent : AccentValue) (i : ℕ) → i < length accent.pairs → IsPair (get_or accent.pairs i (0, 0))
     → number_at wide (accent_bytes wide accent) (4 + 8 * i + 4) ≡ (get_or accent.pairs i (0, 0)).1
 result-wide accent i below is = result-in wide accent i (0, 0) below (pair-wide (get_or accent.pairs i (0, 0)) is)
@@ -75,6 +77,7 @@ result-here accent i base below is =
     let test : ((get_or accent.pairs i (0, 0)).0 == base) ≡ true = grind (arith, nat_tests) in
     ap (λ (v : List (ℕ × ℕ)). first_result v base) (pairs-from accent i below) ∙ rw test refl
 
+-- a pair of another base is passed over
 pub result-later : (accent : AccentValue) (i base : ℕ) → i < length accent.pairs
     → (get_or accent.pairs i (0, 0)).0 ≢ base
     → first_result (drop i accent.pairs) base ≡ first_result (drop (i + 1) accent.pairs) base
@@ -82,6 +85,7 @@ result-later accent i base below other =
     let test : ((get_or accent.pairs i (0, 0)).0 == base) ≡ false = grind (arith, nat_tests) in
     ap (λ (v : List (ℕ × ℕ)). first_result v base) (pairs-from accent i below) ∙ rw test refl
 
+-- behind the last pair no base is left
 pub result-none : (accent : AccentValue) (i base : ℕ) → length accent.pairs ≤ i
     → first_result (drop i accent.pairs) base ≡ None
 result-none accent i base past = ap (λ (v : List (ℕ × ℕ)). first_result v base) (drop_all i accent.pairs past)
@@ -97,11 +101,13 @@ pub below-of : (bytes : List ℕ) (a : AccentValue) (i n : ℕ) → IsAccent a �
 below-of bytes a i n is room few same read filled =
     pair-here a is i room few (λ none. filled (read-base bytes a i n same read ∙ none))
 
+-- a base that is read in the bytes of an accent is the pair's
 pub base-of : (bytes : List ℕ) (a : AccentValue) (i n : ℕ) → IsAccent a → i < length a.pairs
     → bytes ≡ accent_bytes wide a → n ≡ number_at wide bytes (4 + 8 * i) → (get_or a.pairs i (0, 0)).0 ≡ n
 base-of bytes a i n is below same read =
     sym (read-base bytes a i n same read ∙ base-wide a i below (All-get_or IsPair a.pairs i (0, 0) below is.pairs))
 
+-- a result that is read in the bytes of an accent is the pair's
 pub result-of : (bytes : List ℕ) (a : AccentValue) (i : ℕ) → IsAccent a → i < length a.pairs
     → bytes ≡ accent_bytes wide a → number_at wide bytes (4 + 8 * i + 4) ≡ (get_or a.pairs i (0, 0)).1
 result-of bytes a i is below same =
@@ -112,6 +118,7 @@ result-of bytes a i is below same =
 pub place : (size i n : ℕ) → n ≡ size → n * i ≡ size * i
 place size i n is = ap (λ (k : ℕ). k * i) is
 
+-- a row that code cuts out by two products is the part of its index
 pub row : (bytes : List ℕ) (size i n m : ℕ) → n ≡ size → m ≡ size
     → take (n * i + m - n * i) (drop (n * i) bytes) ≡ part bytes (size * i) size
 row bytes size i n m one two =

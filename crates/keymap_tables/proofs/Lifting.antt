@@ -11,6 +11,7 @@ use Rattle.keymap_tables.specs.declared.fault.TableFault.{TableFault}
 use Rattle.keymap_tables.specs.declared.fault.TableFaultKind.{TableFaultKind}
 use Rattle.keymap_tables.specs.declared.fault.TableFaultKind.TheVariants.{NotEmpty}
 
+-- the kind of fault at each place, if there is one
 abbrev pub FaultOf : Type 0
 FaultOf = ℕ → Option TableFaultKind
 
@@ -70,6 +71,7 @@ row-at fault_in size count bytes i q used inside =
     let test : nat_lt i count ≡ true = grind (arith, nat_tests) in
     rw (whole, rest, test) refl
 
+-- behind the rows that are in use, a fault is a byte that isn't 0
 pub row-past : (fault_in : List ℕ → FaultOf) (size count : ℕ) (bytes : List ℕ) (p : ℕ) → 0 < size → size * count ≤ p
     → row_fault fault_in size count bytes p ≡ zero_fault NotEmpty bytes p
 row-past fault_in size count bytes p some past =

@@ -16,10 +16,12 @@ use Rattle.keymap_tables.specs.Layouts.{pad_size}
 use Rattle.keymap_tables.specs.declared.fault.TableFaultKind.{TableFaultKind}
 use Rattle.keymap_tables.specs.declared.fault.TableFaultKind.TheVariants.{BadPad}
 
+-- a byte that isn't 0 is a fault of the given kind
 pub zero-here : (kind : TableFaultKind) (bytes : List ℕ) (p : ℕ) → slice_index bytes p ≢ 0
     → zero_fault kind bytes p ≡ Some kind
 zero-here kind bytes p filled = grind (arith, nat_tests)
 
+-- a byte that is 0 is no fault
 pub zero-none : (kind : TableFaultKind) (bytes : List ℕ) (p : ℕ) → slice_index bytes p ≡ 0
     → zero_fault kind bytes p ≡ None
 zero-none kind bytes p empty = rw empty refl
@@ -39,12 +41,14 @@ drop-zeros bytes from empty =
 pub count-pad : (most : ℕ) (bytes : List ℕ) (p : ℕ) → 2 ≤ p → count_fault most bytes p ≡ zero_fault BadPad bytes p
 count-pad most bytes p past = grind (arith, nat_tests)
 
+-- a count within its bound has no fault in its two bytes
 pub count-front : (most : ℕ) (bytes : List ℕ) → count_at bytes 0 ≤ most → (p : ℕ) → p < 2
     → count_fault most bytes p ≡ None
 count-front most bytes few zero below = grind (arith, nat_tests)
 count-front most bytes few (suc zero) below = refl
 count-front most bytes few (suc (suc p)) below = absurd (omega arith)
 
+-- a count within its bound, and pads of 0, have no fault
 pub count-none : (most : ℕ) (bytes : List ℕ) (n : ℕ) → count_at bytes 0 ≤ most
     → ((p : ℕ) → 2 ≤ p → p < n → slice_index bytes p ≡ 0) → HasNoFault (count_fault most bytes) n
 count-none most bytes n few empty p below =
@@ -53,6 +57,7 @@ count-none most bytes n few empty p below =
       | inr past ↦ count-pad most bytes p past ∙ zero-none BadPad bytes p (empty p past below)
     ]
 
+-- two bytes of a count and pads of 0 are the bytes of that count
 pub count-whole : (l : Layout) (bytes : List ℕ) (n : ℕ) → length bytes ≡ 2 + pad_size l
     → ((i : ℕ) → get_or bytes i 0 < 256) → n ≡ count_at bytes 0 → ((p : ℕ) → 2 ≤ p → slice_index bytes p ≡ 0)
     → bytes ≡ count_bytes l n

@@ -82,6 +82,7 @@ accent-number l bytes n at counted below begins =
     let first : (at % number_size l == 0) ≡ true = is_zero (at % number_size l) begins in
     rw (inside, first) refl
 
+-- inside the numbers of an accent that are in use is no fault
 pub accent-within : (l : Layout) (bytes : List ℕ) (n p : ℕ) → n ≡ pairs_in l bytes → p < number_size l + pair_size l * n
     → p % number_size l ≢ 0 → accent_fault l bytes p ≡ None
 accent-within l bytes n p counted below within =
@@ -90,6 +91,7 @@ accent-within l bytes n p counted below within =
     let other : (p % number_size l == 0) ≡ false = isnt_zero (p % number_size l) within in
     rw (inside, other) refl
 
+-- behind the numbers that are in use, a fault is a byte that isn't 0
 pub accent-past : (l : Layout) (bytes : List ℕ) (n p : ℕ) → n ≡ pairs_in l bytes → number_size l + pair_size l * n ≤ p
     → accent_fault l bytes p ≡ zero_fault NotEmpty bytes p
 accent-past l bytes n p counted past =
@@ -103,6 +105,7 @@ before-end : (l : Layout) (n at p : ℕ) → at < number_size l + pair_size l * 
 before-end Wide n at p below begins inside = omega arith
 before-end Narrow n at p below begins inside = omega arith
 
+-- a place inside a number is no number's start
 within-number : (l : Layout) (at p : ℕ) → at % number_size l ≡ 0 → at < p → p < at + number_size l
     → p % number_size l ≢ 0
 within-number Wide at p begins above inside = omega arith

@@ -34,6 +34,7 @@ part-part bytes a n b k inside =
     (drop-take b (n - b) (drop a bytes)) in
     ap (take k) cut ∙ take-take k (n - b) (drop b (drop a bytes)) (omega arith) ∙ ap (take k) (drop-drop b a bytes)
 
+-- a byte of a part is the byte of the whole at the part's place
 pub byte-in-part : (bytes : List ℕ) (a n i : ℕ) → i < n → slice_index (part bytes a n) i ≡ slice_index bytes (a + i)
 byte-in-part bytes a n i inside = get_or-take n (drop a bytes) i 0 inside ∙ get_or-drop a bytes i 0
 
@@ -49,6 +50,7 @@ filled-sized {X = X} f size n blank xs sized empty few k d below =
       | inr past ↦ ap (λ (x : X). length (f x)) (get_or_past xs k blank past) ∙ empty
     ]
 
+-- a row of rows that are filled up with blanks is the element's, or blank
 filled-row : {X : Type 0} (f : X → List ℕ) (size n : ℕ) (blank : X) (xs : List X) (i : ℕ) → IsSized f size xs
     → f blank ≡ zeros size → length (f blank) ≡ size → length xs ≤ n → i < n
     → part (flat_map f xs ++ zeros (size * (n - length xs))) (size * i) size ≡ f (get_or xs i blank)
@@ -78,6 +80,7 @@ slot-part l m is s below =
     ∙ filled-row (slot_bytes l) (slot_size l) 256 undefined m.entries s (slots-sized l m.entries is.entries)
     (slot-blank l) (length-blank-slot l) is.few_entries below
 
+-- the bytes at the place of the accent i are that accent's
 pub accent-part : (l : Layout) (m : MapValue) → IsMap m → (i : ℕ) → i < 15
     → part (image_in l m) (accents_place l + accent_size l * i) (accent_size l) ≡ accent_bytes l (accent_or_blank m i)
 accent-part l m is i below =
@@ -90,6 +93,7 @@ accent-part l m is i below =
 zero-known : IsCell (Char 0)
 zero-known = search rules
 
+-- an undefined entry is known
 undefined-known : IsEntry undefined
 undefined-known = record {
   eight = refl;
@@ -100,9 +104,11 @@ zero-fits : (l : Layout) → CellFits l (Char 0)
 zero-fits Wide = omega arith
 zero-fits Narrow = omega arith
 
+-- an undefined entry fits
 pub undefined-fits : (l : Layout) → EntryFits l undefined
 undefined-fits l k d below = subst (CellFits l) (sym (get_or-replicate 8 k (Char 0) d below)) (zero-fits l)
 
+-- each entry of a map is known
 pub entry-known : (m : MapValue) → IsMap m → (s : ℕ) → IsEntry (entry_at m s)
 entry-known m is s =
     elim (cases_lt s (length m.entries)) [
@@ -110,6 +116,7 @@ entry-known m is s =
       | inr past ↦ subst IsEntry (sym (get_or_past m.entries s undefined past)) undefined-known
     ]
 
+-- each entry of a map that fits, fits
 pub entry-fits : (l : Layout) (m : MapValue) → FitsIn l m → (s : ℕ) → EntryFits l (entry_at m s)
 entry-fits l m fits s =
     elim (cases_lt s (length m.entries)) [
@@ -117,6 +124,7 @@ entry-fits l m fits s =
       | inr past ↦ subst (EntryFits l) (sym (get_or_past m.entries s undefined past)) (undefined-fits l)
     ]
 
+-- the number of each column lies in its slot
 cell-in-slot : (l : Layout) (column : ℕ) → column < 8 → number_size l * column + number_size l ≤ slot_size l
 cell-in-slot l column inside = omega (arith, cell-inside l column inside)
 
@@ -131,6 +139,7 @@ cell-number l m is fits s column below inside =
     ∙ ap (λ (v : List ℕ). number_at l v (number_size l * column)) (slot-part l m is s below)
     ∙ number-in l (entry_at m s) (Char 0) column (entry-known m is s) (entry-fits l m fits s) inside
 
+-- the mark read at a slot's place tells whether the cell is an action
 pub cell-mark : (l : Layout) (m : MapValue) → IsMap m → (s column : ℕ) → s < 256 → column < 8
     → mark_at l (part (image_in l m) (slots_place l + slot_size l * s) (slot_size l)) column
     ≡ is_act (cell_at m s column)
@@ -138,6 +147,7 @@ cell-mark l m is s column below inside =
     ap (λ (v : List ℕ). mark_at l v column) (slot-part l m is s below)
     ∙ mark-in l (entry_at m s) (Char 0) column (entry-known m is s) inside
 
+-- the flag read at a slot's place is the entry's
 pub slot-flag-at : (l : Layout) (m : MapValue) → IsMap m → (s : ℕ) → s < 256
     → slice_index (image_in l m) (slots_place l + slot_size l * s + (8 * number_size l + 1))
     ≡ flag_number (entry_at m s).flag
@@ -151,6 +161,7 @@ slot-flag-at l m is s below =
 first-byte : (bytes : List ℕ) → from_le_bytes w8 bytes ≡ get_or bytes 0 0
 first-byte bytes = omega arith
 
+-- a narrow number is one byte
 pub number-byte : (bytes : List ℕ) (at : ℕ) → number_at narrow bytes at ≡ slice_index bytes at
 number-byte bytes at =
     first-byte (take 1 (drop at bytes)) ∙ get_or-take 1 (drop at bytes) 0 0 (omega arith) ∙ get_or-drop at bytes 0 0

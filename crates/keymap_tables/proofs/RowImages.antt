@@ -21,6 +21,7 @@ use Rattle.keymap_tables.specs.declared.fault.TableFaultKind.TheVariants.{NotEmp
 abbrev pub IsSized : {X : Type 0} → (X → List ℕ) → ℕ → List X → Type 0
 IsSized f size xs = All (λ x. length (f x) ≡ size) xs
 
+-- rows of one size have that size times their number
 pub length-rows : {X : Type 0} (f : X → List ℕ) (size : ℕ) (xs : List X) → IsSized f size xs
     → length (flat_map f xs) ≡ size * length xs
 length-rows f size [] sized = rw mul-zero refl
@@ -52,6 +53,7 @@ zeros-at n p =
       | inr past ↦ get_or_past (zeros n) p 0 (omega (arith, length-replicate {A = ℕ} n 0))
     ]
 
+-- behind the front stand zeros
 pub zeros-behind : (front : List ℕ) (n p : ℕ) → length front ≤ p → slice_index (front ++ zeros n) p ≡ 0
 zeros-behind front n p past =
     get_or-append_right front (zeros n) (length front) p 0 refl past ∙ zeros-at n (p - length front)

@@ -16,10 +16,12 @@ use Rattle.keymap_tables.specs.Image.{zeros}
 abbrev pub filled : {X : Type 0} → X → ℕ → List X → List X
 filled blank n xs = xs ++ replicate (n - length xs) blank
 
+-- what is filled up to n has the length n
 pub length-filled : {X : Type 0} (blank : X) (n : ℕ) (xs : List X) → length xs ≤ n → length (filled blank n xs) ≡ n
 length-filled blank n xs few =
     rw (length-append xs (replicate (n - length xs) blank), length-replicate (n - length xs) blank) (omega arith)
 
+-- filling up with blanks changes no element
 pub get_or-filled : {X : Type 0} (blank : X) (n : ℕ) (xs : List X) (i : ℕ) → i < n
     → get_or (filled blank n xs) i blank ≡ get_or xs i blank
 get_or-filled blank n xs i inside =
@@ -30,6 +32,7 @@ get_or-filled blank n xs i inside =
           ∙ sym (get_or_past xs i blank past)
     ]
 
+-- rows of blanks are zeros
 pub flat_map-replicate : {X : Type 0} (f : X → List ℕ) (x : X) (size n : ℕ) → f x ≡ zeros size
     → flat_map f (replicate n x) ≡ zeros (size * n)
 flat_map-replicate f x size zero blank = rw mul-zero refl
@@ -37,6 +40,7 @@ flat_map-replicate f x size (suc n) blank =
     let grown : size * suc n ≡ size + size * n = mul-suc size n ∙ omega arith in
     rw (blank, flat_map-replicate f x size n blank, grown) (replicate-append-replicate size (size * n) 0)
 
+-- the bytes of what is filled up are those of the rows, and then zeros
 pub flat_map-filled : {X : Type 0} (f : X → List ℕ) (blank : X) (size n : ℕ) (xs : List X) → f blank ≡ zeros size
     → flat_map f (filled blank n xs) ≡ flat_map f xs ++ zeros (size * (n - length xs))
 flat_map-filled f blank size n xs empty =

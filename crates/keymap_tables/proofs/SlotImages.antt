@@ -38,6 +38,7 @@ screen-of n low high =
     let back : 0x0a + n - 0x0a ≡ n = omega arith in
     rw (yes, back) refl
 
+-- the codes of the function keys
 function-of : (n : ℕ) → 0 < n → n ≤ 96 → action_of (0x1a + n) ≡ Some (a.Function n)
 function-of n low high =
     let no : within 0x0b 0x1a (0x1a + n) ≡ false = grind (arith, nat_tests) in
@@ -45,6 +46,7 @@ function-of n low high =
     let back : 0x1a + n - 0x1a ≡ n = omega arith in
     rw (no, yes, back) refl
 
+-- the codes of the dead keys
 dead-of : (n : ℕ) → n < 15 → action_of (0x89 + n) ≡ Some (a.DeadKey n)
 dead-of n high =
     let no : within 0x0b 0x1a (0x89 + n) ≡ false = grind (arith, nat_tests) in
@@ -53,6 +55,7 @@ dead-of n high =
     let back : 0x89 + n - 0x89 ≡ n = omega arith in
     rw (no, nor, yes, back) refl
 
+-- the code of a known action, read again, gives the action
 pub action-of-code : (action : Action) → IsAction action → action_of (code_of action) ≡ Some action
 action-of-code a.Nop known = refl
 action-of-code (a.Mod m.LeftShift) known = refl
@@ -119,9 +122,11 @@ code-bounds a.Paste known = (omega arith, refl)
 pub scalar-small : (c : ℕ) → IsScalar c → c < 2 ^ 32
 scalar-small c known = grind (arith, nat_tests)
 
+-- a scalar value is no fault
 pub char-sound : (c : ℕ) → IsScalar c → char_fault c ≡ None
 char-sound c known = grind (arith, nat_tests)
 
+-- the number and mark of a known cell are no fault
 pub cell-sound : (cell : Cell) → IsCell cell → cell_fault (number_of cell) (is_act cell) ≡ None
 cell-sound (Char c) known = char-sound c known
 cell-sound (Act action) known = rw ((code-bounds action known).1, action-of-code action known) refl
@@ -131,6 +136,7 @@ pub cell_of : ℕ → Bool → Cell
 cell_of number true = Act (unwrap_or (action_of number) a.Nop)
 cell_of number false = Char number
 
+-- the number and mark of a known cell, read again, give the cell
 pub cell-again : (cell : Cell) → IsCell cell → cell_of (number_of cell) (is_act cell) ≡ cell
 unfolding cell_of
 cell-again (Char c) known = refl
@@ -140,10 +146,12 @@ cell-again (Act action) known = rw (action-of-code action known) refl
 abbrev bit : Cell → ℕ
 bit cell = cond (is_act cell) 1 0
 
+-- a mark is a bit
 bit-small : (cell : Cell) → bit cell < 2
 bit-small (Char c) = omega arith
 bit-small (Act action) = omega arith
 
+-- a mark is set exactly for an action
 bit-test : (cell : Cell) → (bit cell == 1) ≡ is_act cell
 bit-test (Char c) = refl
 bit-test (Act action) = refl
@@ -153,6 +161,7 @@ abbrev eight_bits : ℕ → ℕ → ℕ → ℕ → ℕ → ℕ → ℕ → ℕ 
 eight_bits b0 b1 b2 b3 b4 b5 b6 b7 =
     2 * (2 * (2 * (2 * (2 * (2 * (2 * (2 * 0 + b0) + b1) + b2) + b3) + b4) + b5) + b6) + b7
 
+-- each of eight bits, cut out of their number again
 bit-0 : (b0 b1 b2 b3 b4 b5 b6 b7 : ℕ) → b0 < 2 → b1 < 2 → b2 < 2 → b3 < 2 → b4 < 2 → b5 < 2 → b6 < 2 → b7 < 2
     → eight_bits b0 b1 b2 b3 b4 b5 b6 b7 / 2 ^ (7 - 0) % 2 ≡ b0
 bit-0 b0 b1 b2 b3 b4 b5 b6 b7 s0 s1 s2 s3 s4 s5 s6 s7 = omega arith
@@ -237,6 +246,7 @@ mark-column c0 c1 c2 c3 c4 c5 c6 c7 d (suc (suc (suc (suc (suc (suc (suc zero)))
     ∙ bit-test c7
 mark-column c0 c1 c2 c3 c4 c5 c6 c7 d (suc (suc (suc (suc (suc (suc (suc (suc i)))))))) below = absurd (omega arith)
 
+-- the mark of a column, cut out of the marks of eight cells
 mark-bit : (cells : List Cell) → length cells ≡ 8 → (d : Cell) (i : ℕ) → i < 8
     → (marks_of cells / 2 ^ (7 - i) % 2 == 1) ≡ is_act (get_or cells i d)
 mark-bit cells eight =
@@ -249,14 +259,17 @@ pub number-back : (l : Layout) (n : ℕ) → n < number_limit l → from_le_byte
 number-back Wide n small = from_le_bytes-to_le_bytes_4 n small
 number-back Narrow n small = omega arith
 
+-- the number of a known cell that fits is within its size
 pub number-small : (l : Layout) (cell : Cell) → IsCell cell → CellFits l cell → number_of cell < number_limit l
 number-small l (Char c) known fits = fits
 number-small Wide (Act action) known fits = omega (arith, (code-bounds action known).0)
 number-small Narrow (Act action) known fits = (code-bounds action known).0
 
+-- the bytes of each cell have the size of a number
 cells-sized : (l : Layout) (cells : List Cell) → IsSized (cell_bytes l) (number_size l) cells
 cells-sized l cells k d below = length-number l (number_of (get_or cells k d))
 
+-- the cells of a known entry have eight numbers
 cells-long : (l : Layout) (entry : Entry) → IsEntry entry
     → length (flat_map (cell_bytes l) entry.cells) ≡ 8 * number_size l
 cells-long l entry known =
@@ -278,6 +291,7 @@ number-in l entry d i known fits below =
     (number-small l (get_or entry.cells i d) (All-get_or IsCell entry.cells i d inside known.cells)
     (All-get_or (CellFits l) entry.cells i d inside fits))
 
+-- behind the cells of a slot stand their marks
 marks-in : (l : Layout) (entry : Entry) → IsEntry entry
     → slice_index (slot_bytes l entry) (8 * number_size l) ≡ marks_of entry.cells
 marks-in l entry known =
@@ -286,11 +300,13 @@ marks-in l entry known =
     0 (cells-long l entry known) (omega arith)
     ∙ ap (λ (k : ℕ). get_or (tail_of l entry) k 0) none
 
+-- the mark read in a slot tells whether the cell is an action
 pub mark-in : (l : Layout) (entry : Entry) (d : Cell) (i : ℕ) → IsEntry entry → i < 8
     → mark_at l (slot_bytes l entry) i ≡ is_act (get_or entry.cells i d)
 mark-in l entry d i known below =
     ap (λ (m : ℕ). m / 2 ^ (7 - i) % 2 == 1) (marks-in l entry known) ∙ mark-bit entry.cells known.eight d i below
 
+-- behind the marks of a slot stands the entry's flag
 pub flag-in : (l : Layout) (entry : Entry) → IsEntry entry
     → slice_index (slot_bytes l entry) (8 * number_size l + 1) ≡ flag_number entry.flag
 flag-in l entry known =
@@ -299,6 +315,7 @@ flag-in l entry known =
     (8 * number_size l + 1) 0 (cells-long l entry known) (omega arith)
     ∙ ap (λ (k : ℕ). get_or (tail_of l entry) k 0) one
 
+-- behind the flag stand zeros
 pads-in : (l : Layout) (entry : Entry) (p : ℕ) → IsEntry entry → 8 * number_size l + 2 ≤ p
     → slice_index (slot_bytes l entry) p ≡ 0
 pads-in l entry p known past =
@@ -314,6 +331,7 @@ pads-in l entry p known past =
     ∙ ap (λ (n : ℕ). n + 2) (cells-long l entry known) in
     ap (λ (v : List ℕ). slice_index v p) (sym whole) ∙ zeros-behind front (pad_size l) p (omega (arith, long, past))
 
+-- the bytes of a known entry have the size of a slot
 pub length-slot_bytes : (l : Layout) (entry : Entry) → IsEntry entry → length (slot_bytes l entry) ≡ slot_size l
 length-slot_bytes l entry known =
     length-append (flat_map (cell_bytes l) entry.cells) (tail_of l entry)
@@ -335,6 +353,7 @@ cells-sound l entry known fits (suc i) few p below =
     sound-more l bytes i (omega arith) (cells-sound l entry known fits i (omega arith)) here p
     (omega (arith, below, next))
 
+-- the bytes of a known entry that fits have no fault
 pub slot_bytes-sound : (l : Layout) (entry : Entry) → IsEntry entry → EntryFits l entry
     → HasNoFault (slot_fault l (slot_bytes l entry)) (slot_size l)
 slot_bytes-sound l entry known fits =
@@ -344,12 +363,14 @@ slot_bytes-sound l entry known fits =
     (small-flag (slice_index (slot_bytes l entry) (8 * number_size l + 1)) entry.flag (sym (flag-in l entry known)))
     (λ p past below. pads-in l entry p known past)
 
+-- the lock flag of a number
 flag_of : ℕ → LockFlag
 flag_of zero = flag.O
 flag_of (suc zero) = flag.C
 flag_of (suc (suc zero)) = flag.N
 flag_of (suc (suc (suc n))) = flag.B
 
+-- the number of a lock flag, read again, gives the flag
 flag-again : (k : LockFlag) → flag_of (flag_number k) ≡ k
 unfolding flag_of
 flag-again flag.O = refl
@@ -357,17 +378,21 @@ flag-again flag.C = refl
 flag-again flag.N = refl
 flag-again flag.B = refl
 
+-- lock flags are the same where their numbers are
 pub same-flag : (x y : LockFlag) → flag_number x ≡ flag_number y → x ≡ y
 same-flag x y same = sym (flag-again x) ∙ ap flag_of same ∙ flag-again y
 
+-- known cells are the same where their numbers and marks are
 pub same-cell : (x y : Cell) → IsCell x → IsCell y → number_of x ≡ number_of y → is_act x ≡ is_act y → x ≡ y
 same-cell x y known also same marked =
     sym (cell-again x known) ∙ ap (λ (n : ℕ). cell_of n (is_act x)) same
     ∙ ap (λ (t : Bool). cell_of (number_of y) t) marked ∙ cell-again y also
 
+-- an entry of its cells and flag
 entry_of : List Cell → LockFlag → Entry
 entry_of cells k = record { cells = cells; flag = k }
 
+-- known entries that fit are the same where their bytes are
 pub same-entry : (l : Layout) (x y : Entry) → IsEntry x × EntryFits l x → IsEntry y × EntryFits l y
     → slot_bytes l x ≡ slot_bytes l y → x ≡ y
 unfolding entry_of

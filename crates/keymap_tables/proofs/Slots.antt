@@ -29,11 +29,13 @@ cells-more l cells i cell old new below here so_far grown =
     (grown ∙ ap (λ (v : List ℕ). v ++ cell_bytes l cell) so_far
     ∙ ap (λ (v : List ℕ). flat_map (cell_bytes l) (take i cells) ++ v) (sym (append-nil (cell_bytes l cell))))
 
+-- one more bit behind the marks so far is the mark of the next cell
 pub marks-next : (cells : List Cell) (i : ℕ) (cell : Cell) (old bit : ℕ) → i < length cells → cell ≡ get_or cells i cell
     → old ≡ marks_of (take i cells) → bit ≡ cond (is_act cell) 1 0 → 2 * old + bit ≡ marks_of (take (i + 1) cells)
 marks-next cells i cell old bit below here so_far mark =
     rw (add-one, take-suc cells i cell below, ← here, fold-append, mark, so_far) refl
 
+-- one more bit behind a number of i bits gives one of i + 1
 pub small-next : (i old bit : ℕ) → old < 2 ^ i → bit < 2 → 2 * old + bit < 2 ^ (i + 1)
 small-next i old bit small two = rw (add-one, pow-suc 2 i) (omega arith)
 

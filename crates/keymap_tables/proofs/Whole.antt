@@ -8,6 +8,7 @@ use Rattle.std.proofs.lemmas.List.{take_all}
 use Rattle.std.proofs.Math.Seq.{take-add}
 use Rattle.keymap_tables.specs.Layouts.{part}
 
+-- an image is its four parts
 pub image-parts : (l : Layout) (m : MapValue)
     → image_in l m
     ≡ count_bytes l (length m.entries) ++ slots_bytes l m.entries ++ count_bytes l (length m.accents)
@@ -19,12 +20,15 @@ image-parts l m = refl
 cut-1 : (a b c d p : List ℕ) → p ≡ a → a ++ b ++ c ++ d ≡ ([] ++ p) ++ (b ++ c ++ d)
 cut-1 a b c d p is = rw is (simp append_assoc)
 
+-- four parts, of which the first was pushed
 cut-2 : (a b c d p : List ℕ) → p ≡ a → a ++ b ++ c ++ d ≡ (([] ++ p) ++ b) ++ (c ++ d)
 cut-2 a b c d p is = rw is (simp append_assoc)
 
+-- four parts, of which the first three were pushed
 cut-3 : (a b c d p q : List ℕ) → p ≡ a → q ≡ c → a ++ b ++ c ++ d ≡ ((([] ++ p) ++ b) ++ q) ++ d
 cut-3 a b c d p q is also = rw (is, also) refl
 
+-- four parts that were pushed
 cut-4 : (a b c d p q : List ℕ) → p ≡ a → q ≡ c → a ++ b ++ c ++ d ≡ (((([] ++ p) ++ b) ++ q) ++ d) ++ []
 cut-4 a b c d p q is also = rw (is, also) (sym (append-nil (a ++ b ++ c ++ d)))
 
@@ -37,6 +41,7 @@ after-n_keys l m n_keys is =
     ∙ cut-1 (count_bytes l (length m.entries)) (slots_bytes l m.entries) (count_bytes l (length m.accents))
     (accents_bytes l m.accents) n_keys is
 
+-- the image, once the first count and the slots were pushed
 pub after-slots : (l : Layout) (m : MapValue) (n_keys : List ℕ) → n_keys ≡ count_bytes l (length m.entries)
     → image_in l m
     ≡ (([] ++ n_keys) ++ slots_bytes l m.entries) ++ (count_bytes l (length m.accents) ++ accents_bytes l m.accents)
@@ -45,6 +50,7 @@ after-slots l m n_keys is =
     ∙ cut-2 (count_bytes l (length m.entries)) (slots_bytes l m.entries) (count_bytes l (length m.accents))
     (accents_bytes l m.accents) n_keys is
 
+-- the image, once the second count was pushed
 pub after-n_accs : (l : Layout) (m : MapValue) (n_keys n_accs : List ℕ) → n_keys ≡ count_bytes l (length m.entries)
     → n_accs ≡ count_bytes l (length m.accents)
     → image_in l m ≡ ((([] ++ n_keys) ++ slots_bytes l m.entries) ++ n_accs) ++ accents_bytes l m.accents
@@ -53,6 +59,7 @@ after-n_accs l m n_keys n_accs is also =
     ∙ cut-3 (count_bytes l (length m.entries)) (slots_bytes l m.entries) (count_bytes l (length m.accents))
     (accents_bytes l m.accents) n_keys n_accs is also
 
+-- the image, once the accents were pushed: nothing is left
 pub after-accents : (l : Layout) (m : MapValue) (n_keys n_accs : List ℕ) → n_keys ≡ count_bytes l (length m.entries)
     → n_accs ≡ count_bytes l (length m.accents)
     → image_in l m ≡ (((([] ++ n_keys) ++ slots_bytes l m.entries) ++ n_accs) ++ accents_bytes l m.accents) ++ []
@@ -69,6 +76,7 @@ parts-of bytes a b c d whole =
     ∙ ap (λ (v : List ℕ). v ++ part bytes (a + b + c) d)
     (take-add (a + b) c bytes ∙ ap (λ (v : List ℕ). v ++ part bytes (a + b) c) (take-add a b bytes))
 
+-- bytes of four parts are those of four parts that are the same
 pub same-parts : (bytes a b c d e f g h : List ℕ) → bytes ≡ a ++ b ++ c ++ d → a ≡ e → b ≡ f → c ≡ g → d ≡ h
     → bytes ≡ e ++ f ++ g ++ h
 same-parts bytes a b c d e f g h whole first second third fourth = whole ∙ rw (first, second, third, fourth) refl

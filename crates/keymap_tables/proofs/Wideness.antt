@@ -24,6 +24,7 @@ pub small-fits : (cell : Cell) → character_of cell ≤ 255 → CellFits narrow
 small-fits (Char c) small = omega arith
 small-fits (Act a) small = tt
 
+-- a cell that fits one byte has no character above 255
 pub fits-small : (cell : Cell) → CellFits narrow cell → character_of cell ≤ 255
 fits-small (Char c) fits = omega (arith, fits)
 fits-small (Act a) fits = omega arith
@@ -38,6 +39,7 @@ entry-small entry k fits =
           subst (λ (cell : Cell). character_of cell ≤ 255) (sym (get_or_past entry.cells k (Char 0) past)) (omega arith)
     ]
 
+-- an entry whose characters are at most 255 fits
 pub small-entry : (entry : Entry) (n : ℕ) → length entry.cells ≤ n
     → ((k : ℕ) → k < n → character_of (get_or entry.cells k (Char 0)) ≤ 255) → EntryFits narrow entry
 small-entry entry n few small k d below =
@@ -53,6 +55,7 @@ slot-fits m s fits =
       | inr past ↦ subst (EntryFits narrow) (sym (get_or_past m.entries s undefined past)) (undefined-fits narrow)
     ]
 
+-- where all entries fit, the entry of each slot does
 pub all-slots-fit : (m : MapValue) (s : ℕ) → All (EntryFits narrow) m.entries → EntryFits narrow (entry_at m s)
 all-slots-fit m s fits = slot-fits m s (λ used. All-get_or (EntryFits narrow) m.entries s undefined used fits)
 
@@ -60,6 +63,7 @@ all-slots-fit m s fits = slot-fits m s (λ used. All-get_or (EntryFits narrow) m
 abbrev flat : List (ℕ × ℕ) → List ℕ
 flat pairs = flat_map (λ pair. pair.0 ∷ pair.1 ∷ []) pairs
 
+-- the odd numbers of an accent are its bases
 pub number-base : (own : ℕ) (pairs : List (ℕ × ℕ)) (i : ℕ)
     → get_or (own ∷ flat pairs) (2 * i + 1) 0 ≡ (get_or pairs i (0, 0)).0
 number-base own [] i = get_or_past (own ∷ []) (2 * i + 1) 0 (omega arith)
@@ -68,6 +72,7 @@ number-base own (p ∷ pairs) (suc i) =
     let further : 2 * suc i + 1 ≡ suc (suc (2 * i + 1)) = omega arith in
     ap (λ (k : ℕ). get_or (own ∷ flat (p ∷ pairs)) k 0) further ∙ number-base p.1 pairs i
 
+-- the even numbers behind its own are its results
 pub number-result : (own : ℕ) (pairs : List (ℕ × ℕ)) (i : ℕ)
     → get_or (own ∷ flat pairs) (2 * i + 2) 0 ≡ (get_or pairs i (0, 0)).1
 number-result own [] i = get_or_past (own ∷ []) (2 * i + 2) 0 (omega arith)
@@ -96,6 +101,7 @@ numbers-small accent n (suc k) own pairs below =
 pair-blank : PairFits narrow (0, 0)
 pair-blank = (omega arith, omega arith)
 
+-- each number of an accent that fits is at most 255
 pub accent-small : (accent : AccentValue) (k : ℕ) → AccentFits narrow accent → get_or (numbers_of accent) k 0 ≤ 255
 accent-small accent k fits =
     numbers-small accent (k + 1) k fits.0
@@ -108,6 +114,7 @@ accent-small accent k fits =
 pub first-own : (accent : AccentValue) → 255 < accent.own → IsFirstNumber accent 0
 first-own accent wide = record { here = wide; before = λ k below. absurd (omega arith) }
 
+-- a base above 255 behind pairs that fit is the first number above 255
 pub first-base : (accent : AccentValue) (i n : ℕ) → n ≡ 1 + 2 * i → accent.own < 256
     → ((j : ℕ) → j < i → PairFits narrow (get_or accent.pairs j (0, 0))) → 255 < (get_or accent.pairs i (0, 0)).0
     → IsFirstNumber accent n
@@ -120,6 +127,7 @@ first-base accent i n is own pairs wide =
       before = λ k below. numbers-small accent i k own pairs (omega arith);
     }
 
+-- a result above 255 behind a base and pairs that fit is the first number above 255
 pub first-result : (accent : AccentValue) (i n : ℕ) → n ≡ 2 + 2 * i → accent.own < 256
     → ((j : ℕ) → j < i → PairFits narrow (get_or accent.pairs j (0, 0))) → (get_or accent.pairs i (0, 0)).0 < 256
     → 255 < (get_or accent.pairs i (0, 0)).1 → IsFirstNumber accent n
@@ -148,6 +156,7 @@ pairs-fit-more pairs i before base composed j below =
           subst (λ (v : ℕ). PairFits narrow (get_or pairs v (0, 0))) last (base, composed)
     ]
 
+-- where each pair fits, all do
 pub pairs-fit : (pairs : List (ℕ × ℕ)) (n : ℕ) → length pairs ≤ n
     → ((j : ℕ) → j < n → PairFits narrow (get_or pairs j (0, 0))) → All (PairFits narrow) pairs
 pairs-fit pairs n few fits k d below =
@@ -173,6 +182,7 @@ cell-least m s column small few before first (at.Cell t k) wide =
       ]
     ]
 
+-- the first cell above 255 of the first entry that doesn't fit is the first of the map
 pub first-cell : (m : MapValue) (s column : ℕ) → s < 256 → column < 8
     → ((t : ℕ) → t < s → t < length m.entries → EntryFits narrow (get_or m.entries t undefined))
     → IsFirstColumn (entry_at m s) column → IsFirstWide m (at.Cell s column)
@@ -185,6 +195,7 @@ first-cell m s column small few before first = record {
 pub blank-fits : AccentFits narrow blank
 blank-fits = (omega arith, λ k d below. absurd (omega arith))
 
+-- each accent that the map has fits: so does each that is blank
 accent-fits-at : (m : MapValue) (i : ℕ) → (i < length m.accents → AccentFits narrow (get_or m.accents i blank))
     → AccentFits narrow (accent_or_blank m i)
 accent-fits-at m i fits =
@@ -193,6 +204,7 @@ accent-fits-at m i fits =
       | inr past ↦ subst (AccentFits narrow) (sym (get_or_past m.accents i blank past)) blank-fits
     ]
 
+-- each character above 255 stands at that accent's number or behind
 accent-least : (m : MapValue) (i number : ℕ) → number < 105 → All (EntryFits narrow) m.entries
     → ((j : ℕ) → j < i → j < length m.accents → AccentFits narrow (get_or m.accents j blank))
     → IsFirstNumber (accent_or_blank m i) number → (v : Wide) → IsWide m v → place_of (at.Accent i number) ≤ place_of v
@@ -214,6 +226,7 @@ accent-least m i number few cells before first (at.Accent j k) wide =
       ]
     ]
 
+-- the first number above 255 of the first accent that doesn't fit is the first of the map
 pub first-number : (m : MapValue) (i number : ℕ) → number < 105 → All (EntryFits narrow) m.entries
     → ((j : ℕ) → j < i → j < length m.accents → AccentFits narrow (get_or m.accents j blank))
     → IsFirstNumber (accent_or_blank m i) number → IsFirstWide m (at.Accent i number)

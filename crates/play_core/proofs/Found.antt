@@ -48,14 +48,17 @@ tables-more m ways more way cs is ds js f g e t =
       by_accent = g (accent_of m) ways refl t.by_accent;
     })
 
+-- no further ways change no table
 pub tables-none : (m : MapValue) (ways more : List (List Event)) (cs is : Entries) → more ≡ []
     → AreTablesOf m ways cs is → AreTablesOf m (ways ++ more) cs is
 tables-none m ways more cs is e t =
     subst (λ x. AreTablesOf m (ways ++ x) cs is) (sym e) (subst (λ x. AreTablesOf m x cs is) (sym (append-nil ways)) t)
 
+-- an empty table is that of no ways
 pub table-empty : (f : List Event → Option ℕ) (es : Entries) → es ≡ [] → IsTableOf f [] es
 table-empty f es e = subst (IsTableOf f []) (sym e) (λ c. refl)
 
+-- empty tables are those of no ways
 pub tables-empty : (m : MapValue) (cs is : Entries) → cs ≡ [] → is ≡ [] → AreTablesOf m [] cs is
 tables-empty m cs is e f =
     record { by_character = table-empty (character_of m) cs e; by_accent = table-empty (accent_of m) is f }
@@ -65,10 +68,12 @@ pub direct-combination : (m : MapValue) (c : ℕ) (way : List Event) → direct_
 direct-combination m c way e =
     find-All IsCombination (λ w. is_now c (character_of m w)) (combinations m) way (all-combinations m) e
 
+-- the way to a dead key is a combination
 pub dead-combination : (m : MapValue) (i : ℕ) (way : List Event) → dead_way m i ≡ Some way → IsCombination way
 dead-combination m i way e =
     find-All IsCombination (λ w. is_now i (accent_of m w)) (combinations m) way (all-combinations m) e
 
+-- the way to a dead key ends at rest
 dead-rests : (m : MapValue) (i : ℕ) (way : List Event) → dead_way m i ≡ Some way → is_at_rest m (reverse way) ≡ true
 unfolding accent_of
 dead-rests m i way e =
@@ -77,6 +82,7 @@ dead-rests m i way e =
     (when-rests (is_at_rest m (reverse way)) (unless_any (typing_answers m way) (Pending (alone m) (reverse way))) i
     is).0
 
+-- a dead key and a base are a way that is tried
 pub trial-joined : (m : MapValue) (i c : ℕ) (dead base way : List Event) → dead_way m i ≡ Some dead
     → direct_way m c ≡ Some base
     → way ≡ dead ++ base → IsTrial m way
@@ -90,6 +96,7 @@ trial-joined m i c dead base way e f is =
       is = is ∙ ap (λ x. dead ++ x) b.is;
     }
 
+-- a dead key and a base have at most 20 events
 pub short-joined : (m : MapValue) (i c : ℕ) (dead base : List Event) → dead_way m i ≡ Some dead
     → direct_way m c ≡ Some base
     → length dead + length base ≤ 20
@@ -117,6 +124,7 @@ pub found-first : (f : List Event → Option ℕ) (ways : List (List Event)) (es
     → IsTableOf f ways es → o ≡ lookup (λ x. n == x) es → first_with f ways n ≡ option_map (λ w. w.items) o
 found-first f ways es n o table e = sym (table n) ∙ ap (option_map (λ w. w.items)) (sym e)
 
+-- a base without a way adds no way
 pub base-none : (m : MapValue) (c : ℕ) (dead : List Event) (ways : List (List Event)) (es : Entries)
     → direct_way m c ≡ None
     → IsTableOf (character_of m) ways es → IsTableOf (character_of m) (ways ++ joined (Some dead) (direct_way m c)) es
@@ -124,6 +132,7 @@ base-none m c dead ways es e table =
     subst (λ o. IsTableOf (character_of m) (ways ++ joined (Some dead) o) es) (sym e)
     (subst (λ x. IsTableOf (character_of m) x es) (sym (append-nil ways)) table)
 
+-- a base with a way adds the dead key and that way
 pub base-more : (m : MapValue) (c : ℕ) (dead base : List Event) (ways : List (List Event)) (es : Entries)
     → direct_way m c ≡ Some base
     → IsTableOf (character_of m) (ways ++ (dead ++ base) ∷ []) es
@@ -138,17 +147,20 @@ pub dead-found : (m : MapValue) (n i : ℕ) (es : Entries) (w : ArrayVec Event)
 dead-found m n i es w table e is =
     subst (λ x. dead_way m x ≡ Some w.items) is (found-first (accent_of m) (combinations m) es n (Some w) table e)
 
+-- an index that isn't in the table of dead keys has no way
 pub no-dead-found : (m : MapValue) (n i : ℕ) (es : Entries) → IsTableOf (accent_of m) (combinations m) es
     → None ≡ lookup (λ x. n == x) es → n ≡ i → dead_way m i ≡ None
 no-dead-found m n i es table e is =
     subst (λ x. dead_way m x ≡ None) is (found-first (accent_of m) (combinations m) es n None table e)
 
+-- the way in the table is the first combination that types the character
 pub direct-found : (m : MapValue) (n c : ℕ) (es : Entries) (w : ArrayVec Event)
     → IsTableOf (character_of m) (combinations m) es
     → Some w ≡ lookup (λ x. n == x) es → n ≡ c → direct_way m c ≡ Some w.items
 direct-found m n c es w table e is =
     subst (λ x. direct_way m x ≡ Some w.items) is (found-first (character_of m) (combinations m) es n (Some w) table e)
 
+-- a character that isn't in the table is typed by no combination
 pub no-direct-found : (m : MapValue) (n c : ℕ) (es : Entries) → IsTableOf (character_of m) (combinations m) es
     → None ≡ lookup (λ x. n == x) es → n ≡ c → direct_way m c ≡ None
 no-direct-found m n c es table e is =
@@ -170,6 +182,7 @@ flat-map-bases f [] = append-nil (f 32)
 flat-map-bases f (p ∷ pairs) =
     ap (λ x. f p.0 ++ x) (flat-map-bases f pairs) ∙ sym (append_assoc (f p.0) (flat_map (λ p. f p.0) pairs) (f 32))
 
+-- the ways over a dead key are those of its pairs, and of the accent's own character
 pub accented-all : (m : MapValue) (i : ℕ) (a : AccentValue) (dead : List Event) (ways : List (List Event))
     (es : Entries)
     → accent_at m i ≡ Some a → dead_way m i ≡ Some dead
@@ -194,6 +207,7 @@ flat-map-more f pairs k lt =
     ap (flat_map f) (take_more pairs k (0, 0) lt) ∙ flat_map-append f (take k pairs) (get_or pairs k (0, 0) ∷ [])
     ∙ ap (λ x. flat_map f (take k pairs) ++ x) (append-nil (f (get_or pairs k (0, 0))))
 
+-- one more pair of a dead key
 pub accented-more : (m : MapValue) (i : ℕ) (dead : List Event) (ways : List (List Event)) (es : Entries)
     (pairs : List (ℕ × ℕ)) (k : ℕ)
     → dead_way m i ≡ Some dead → k < length pairs
@@ -215,6 +229,7 @@ pub way-first : (m : MapValue) (n c : ℕ) (es : Entries) (w : ArrayVec Event)
     → Some w ≡ lookup (λ x. n == x) es → n ≡ c → way_for m c ≡ Some w.items
 way-first m n c es w table e is = first-way m c (Some w.items) _ (direct-found m n c es w table e is) refl
 
+-- a character that no combination types has the way of the table over dead keys
 pub way-second : (m : MapValue) (n c : ℕ) (es fs : Entries) (o : Option (ArrayVec Event))
     → IsTableOf (character_of m) (combinations m) es
     → IsTableOf (character_of m) (accented m) fs → None ≡ lookup (λ x. n == x) es → o ≡ lookup (λ x. n == x) fs → n ≡ c

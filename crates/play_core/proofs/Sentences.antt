@@ -42,17 +42,21 @@ use Rattle.play_core.proofs.Combinations.{IsCombination, all-combinations, gathe
 
 -- ---- events of keys alone
 
+-- events of keys without a load
 abbrev AreOfKeys : List Event → Type 0
 AreOfKeys way = HasKeys way × HasNoLoads way
 
+-- presses are no loads
 of-presses : (ks : List ℕ) → HasNoLoads (map Press ks)
 of-presses [] = All-nil IsNoLoad
 of-presses (k ∷ ks) = All-cons IsNoLoad (Press k) (map Press ks) refl (of-presses ks)
 
+-- releases are no loads
 of-releases : (ks : List ℕ) → HasNoLoads (map Release ks)
 of-releases [] = All-nil IsNoLoad
 of-releases (k ∷ ks) = All-cons IsNoLoad (Release k) (map Release ks) refl (of-releases ks)
 
+-- a combination is events of keys
 of-combination : (way : List Event) → IsCombination way → AreOfKeys way
 of-combination way is = (
   is.keys,
@@ -61,16 +65,19 @@ of-combination way is = (
       (of-presses (is.held ++ is.key ∷ [])) (of-releases (is.key ∷ is.held))),
 )
 
+-- a way that is found among the combinations is events of keys
 found-combination : (m : MapValue) (test : List Event → Bool) (way : List Event) → find test (combinations m) ≡ Some way
     → AreOfKeys way
 found-combination m test way e =
     of-combination way (find-All IsCombination test (combinations m) way (all-combinations m) e)
 
+-- what holds for the parts of each element holds for all parts
 All-flat : {X A : Type 0} (P : A → Type 0) (f : X → List A) (xs : List X) → ((x : X) → All P (f x))
     → All P (flat_map f xs)
 All-flat P f [] each = All-nil P
 All-flat P f (x ∷ xs) each = All-append P (f x) (flat_map f xs) (each x) (All-flat P f xs each)
 
+-- a dead key's way and a base's are events of keys
 of-joined : (d b : Option (List Event)) → ((w : List Event) → d ≡ Some w → AreOfKeys w)
     → ((w : List Event) → b ≡ Some w → AreOfKeys w)
     → All AreOfKeys (joined d b)
@@ -81,6 +88,7 @@ of-joined (Some d) (Some b) f g =
     let y = g b refl in
     All-cons AreOfKeys (d ++ b) [] (All-append HasKey d b x.0 y.0, All-append IsNoLoad d b x.1 y.1) (All-nil AreOfKeys)
 
+-- all ways that are tried are events of keys
 pub all-of-keys : (m : MapValue) → All AreOfKeys (combinations m ++ accented m)
 unfolding accented
 all-of-keys m =
@@ -93,6 +101,7 @@ all-of-keys m =
 
 -- ---- what a way does
 
+-- what holds for a list holds for it reversed
 All-reversed : {X : Type 0} (P : X → Type 0) (xs : List X) → All P xs → All P (reverse xs)
 All-reversed P [] all = All-nil P
 All-reversed P (x ∷ xs) all =
@@ -107,18 +116,22 @@ pub record TypesAlone (m : MapValue) (c : ℕ) (way : List Event) : Type 0 where
   pub pending : Pending (alone m) (reverse way) ≡ None
   pub typed : lone_character (typing_answers m way) ≡ Some c
 
+-- the test finds the character
 pub is-now : (c : ℕ) (o : Option ℕ) → is_now c o ≡ true → o ≡ Some c
 is-now c None e = absurd (true≢false (sym e))
 is-now c (Some d) e = ap (λ x. Some x) (sym (eqb-true c d e))
 
+-- what is found at rest is found, and at rest
 pub when-rests : (b : Bool) (o : Option ℕ) (c : ℕ) → (if b then o else None) ≡ Some c → (b ≡ true) × (o ≡ Some c)
 when-rests true o c e = (refl, e)
 when-rests false o c e = absurd (none-some c e)
 
+-- what is found where nothing is pending is found, and nothing is pending
 when-none : (p o : Option ℕ) (c : ℕ) → unless_some p o ≡ Some c → (p ≡ None) × (o ≡ Some c)
 when-none None o c e = (refl, e)
 when-none (Some i) o c e = absurd (none-some c e)
 
+-- the way for a character types it on a new console, and ends at rest
 pub way-types : (m : MapValue) (c : ℕ) (way : List Event) → way_for m c ≡ Some way → TypesAlone m c way
 unfolding character_of
 way-types m c way e =
@@ -135,6 +148,7 @@ no-memory : (o : Option Action) → is_some o ≡ false → o ≡ None
 no-memory None e = refl
 no-memory (Some a) e = absurd (true≢false e)
 
+-- at rest nothing is held
 held-none : (m : MapValue) (h : List Event) → Rests m h → (a : Holding) → held a (resolved (alone m) h) ≡ false
 held-none m h r (holding.Mod i) = r.on i
 held-none m h r (holding.Lock l) = r.down l
@@ -152,6 +166,7 @@ as-new m h none r p = record {
   });
 }
 
+-- to go on as one list of events goes on is transitive
 after-all : (ms : Maps) (h g k : List Event) → SameAfter ms h g → SameAfter ms g k → SameAfter ms h k
 after-all ms h g k a b =
     let f : in_force ms h ≡ in_force ms g = ap (λ x. if x then ms.second else ms.first) a.force in
@@ -192,6 +207,7 @@ pressed-both k (Load ∷ xs) h e f = pressed-load k (xs ++ h)
 
 -- ---- what is typed
 
+-- answers that type nothing add no text
 typing-alone : (xs : List Answer) → flat_map typed_by xs ≡ flat_map typed_by (filter types xs)
 unfolding typed_by
 typing-alone [] = refl
@@ -202,6 +218,7 @@ typing-alone (answer.Special a ∷ xs) = typing-alone xs
 typing-alone (answer.BackTab ∷ xs) = ap (λ t. typed_by answer.BackTab ++ t) (typing-alone xs)
 typing-alone (answer.Released a ∷ xs) = typing-alone xs
 
+-- an answer of a plain character types it
 plain-types : (a : Answer) (c : ℕ) → plain_character a ≡ Some c → typed_by a ≡ encode_utf8 c
 unfolding typed_by
 plain-types answer.None c e = absurd (none-some c e)
@@ -212,16 +229,19 @@ plain-types (answer.Special a) c e = absurd (none-some c e)
 plain-types answer.BackTab c e = absurd (none-some c e)
 plain-types (answer.Released a) c e = absurd (none-some c e)
 
+-- a lone plain character among the answers is what they type
 lone-types : (xs : List Answer) (c : ℕ) → lone_character xs ≡ Some c → flat_map typed_by xs ≡ encode_utf8 c
 lone-types [] c e = absurd (none-some c e)
 lone-types (a ∷ []) c e = append-nil (typed_by a) ∙ plain-types a c e
 lone-types (a ∷ b ∷ rest) c e = absurd (none-some c e)
 
+-- a way that types a character on a new console has that text
 typed-alone : (m : MapValue) (c : ℕ) (way : List Event) → TypesAlone m c way
     → typed_text (AnswersTo (alone m) [] way) ≡ encode_utf8 c
 unfolding typed_text
 typed-alone m c way t = typing-alone (AnswersTo (alone m) [] way) ∙ lone-types (typing_answers m way) c t.typed
 
+-- the answers to events, and then to the events behind them
 answers-joined : (ms : Maps) (h xs ys : List Event)
     → AnswersTo ms h (xs ++ ys) ≡ AnswersTo ms h xs ++ AnswersTo ms (reverse xs ++ h) ys
 answers-joined ms h [] ys = refl
@@ -230,6 +250,7 @@ answers-joined ms h (e ∷ xs) ys =
     (answers-joined ms (e ∷ h) xs ys
     ∙ ap (λ g. AnswersTo ms (e ∷ h) xs ++ AnswersTo ms g ys) (sym (reverse-cons e xs h)))
 
+-- no answers type nothing
 typed-nothing : typed_text [] ≡ []
 unfolding typed_text
 typed-nothing = refl
@@ -240,6 +261,7 @@ pub record TypesFrom (m : MapValue) (h : List Event) (cs : List ℕ) : Type 0 wh
   pub new : SameAfter (alone m) (reverse (events_for m cs) ++ h) []
   pub quiet : IsQuiet (reverse (events_for m cs) ++ h)
 
+-- one more character, from a state that goes on as a new console
 one-from : (m : MapValue) (h : List Event) (c : ℕ) (cs : List ℕ) (way : List Event) → TypesAlone m c way
     → SameAfter (alone m) h [] → IsQuiet h
     → ((g : List Event) → SameAfter (alone m) g [] → IsQuiet g → TypesFrom m g cs)
@@ -265,6 +287,7 @@ one-from m h c cs way t same quiet later =
       subst IsQuiet (sym (reverse-joined way (events_for m cs) h)) rest.quiet,
     )
 
+-- one more character, by its way
 way-by : (m : MapValue) (h : List Event) (c : ℕ) (cs : List ℕ) (o : Option (List Event)) → way_for m c ≡ o → IsSome o
     → SameAfter (alone m) h [] → IsQuiet h
     → ((g : List Event) → SameAfter (alone m) g [] → IsQuiet g → TypesFrom m g cs)
@@ -274,6 +297,7 @@ way-by : (m : MapValue) (h : List Event) (c : ℕ) (cs : List ℕ) (o : Option (
 way-by m h c cs None e is same quiet later = absurd (true≢false (sym is))
 way-by m h c cs (Some way) e is same quiet later = one-from m h c cs way (way-types m c way e) same quiet later
 
+-- characters that have ways are typed from a state that goes on as a new console
 pub types-from : (m : MapValue) (cs : List ℕ) (h : List Event) → HaveWays m cs → SameAfter (alone m) h [] → IsQuiet h
     → TypesFrom m h cs
 types-from m [] h have same quiet = record { typed = typed-nothing; new = same; quiet = quiet }
@@ -284,12 +308,14 @@ types-from m (c ∷ cs) h have same quiet =
 
 -- ---- whole sentences
 
+-- a new console goes on as a new console
 same-as-itself : (m : MapValue) → SameAfter (alone m) [] []
 same-as-itself m = record {
   force = refl;
   same = record { held = λ a. refl; locked = λ l. refl; remembered = λ k lt. refl; pending = refl };
 }
 
+-- a quiet state that goes on as a new console is at rest
 new-rests : (m : MapValue) (h : List Event) → SameAfter (alone m) h [] → IsQuiet h → Rests m h
 new-rests m h same quiet = record {
   quiet = quiet;
@@ -303,6 +329,7 @@ new-rests m h same quiet = record {
   locked = λ l. same.same.locked l ∙ ap (locked l) (resolved-start (alone m)) ∙ locked-start l;
 }
 
+-- characters that have ways are typed by them, one after another
 pub typed-sentence : (m : MapValue) (bytes cs : List ℕ) → encode_utf8_all cs ≡ bytes → HaveWays m cs
     → IsTyped m bytes cs
 typed-sentence m bytes cs text have =
@@ -322,15 +349,18 @@ typed-sentence m bytes cs text have =
 
 -- ---- a character without a way
 
+-- a list is the elements before an index, the one there, and those behind
 split-at : {X : Type 0} (xs : List X) (k : ℕ) (d : X) → k < length xs
     → xs ≡ take k xs ++ get_or xs k d ∷ drop (suc k) xs
 split-at [] k d lt = absurd (omega arith)
 split-at (x ∷ xs) zero d lt = refl
 split-at (x ∷ xs) (suc k) d lt = ap (λ y. x ∷ y) (split-at xs k d (omega arith))
 
+-- characters are those before an index, the one there, and those behind
 pub split-item : (cs : List ℕ) (k c : ℕ) → k < length cs → c ≡ get_or cs k c → cs ≡ take k cs ++ c ∷ drop (suc k) cs
 split-item cs k c lt is = split-at cs k c lt ∙ ap (λ y. take k cs ++ y ∷ drop (suc k) cs) (sym is)
 
+-- a character's bytes fit where the text has room for all
 pub room-for : (cs : List ℕ) (k c : ℕ) → k < length cs → c ≡ get_or cs k c
     → length (encode_utf8_all (take k cs)) + len_utf8 c ≤ length (encode_utf8_all cs)
 room-for cs k c lt is =
@@ -342,6 +372,7 @@ room-for cs k c lt is =
     let l = length-encode c in
     omega arith
 
+-- the text up to the next character is that up to this one, and its bytes
 pub one-further : (cs : List ℕ) (k c : ℕ) → k < length cs → c ≡ get_or cs k c
     → length (encode_utf8_all (take k cs)) + len_utf8 c ≡ length (encode_utf8_all (take (k + 1) cs))
 one-further cs k c lt is =

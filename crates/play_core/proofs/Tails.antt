@@ -13,6 +13,7 @@ use Rattle.play_core.specs.Written.{event_text, answer_text, line_of, name_if, o
 use Rattle.play_core.specs.Written.{names_of_locks}
 use Rattle.play_core.specs.Tails.{tail_of, number_with, shown_number, IsTail}
 
+-- truth values of the same number are the same
 same_bits : (xs ys : List Bool) → length xs ≡ length ys → number_with xs ≡ number_with ys → xs ≡ ys
 same_bits [] [] l e = refl
 same_bits [] (y ∷ ys) l e = absurd (omega arith)
@@ -22,6 +23,7 @@ same_bits (false ∷ xs) (false ∷ ys) l e = ap (λ bits. false ∷ bits) (same
 same_bits (true ∷ xs) (false ∷ ys) l e = absurd (omega arith)
 same_bits (false ∷ xs) (true ∷ ys) l e = absurd (omega arith)
 
+-- the same modifiers and locks on have the same tail
 same_tail : (on still_on : Modifier → Bool) (locked still_locked : Lock → Bool)
     → map on modifiers ++ map locked locks ≡ map still_on modifiers ++ map still_locked locks
     → tail_of on locked ≡ tail_of still_on still_locked
@@ -50,10 +52,12 @@ tail_by_number on locked number text n t = λ still_on still_locked e.
     (same_bits (map on modifiers ++ map locked locks) (map still_on modifiers ++ map still_locked locks) refl
     (sym n ∙ sym e))
 
+-- the tail where nothing is on
 nothing_tail : tail_of (λ m. false) (λ l. false) ≡ codes "; mods none; locks none\n"
 unfolding tail_of names_of_modifiers names_of_locks
 nothing_tail = refl
 
+-- 0 is the number of nothing on
 pub nothing_is_on : IsTail 0 (codes "; mods none; locks none\n")
 nothing_is_on = tail_by_number (λ m. false) (λ l. false) 0 _ refl (sym nothing_tail)
 
@@ -83,6 +87,7 @@ pub line_spelled : (event : Event) (answer : Answer) (on : Modifier → Bool) (l
 unfolding tail_of line_of
 line_spelled event answer on locked start a b c d pa pb pc pd = rw (pd, pc, pb, pa) (simp append_assoc)
 
+-- a name is printed exactly if it is on
 if_on : (is_on : Bool) (name : List ℕ) → cond is_on (32 ∷ name) [] ≡ name_if is_on name
 if_on true name = refl
 if_on false name = refl

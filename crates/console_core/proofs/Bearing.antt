@@ -36,6 +36,7 @@ kept_if : (t : Bool) (o : Option Action) (a : Action) → (if t then None else o
 kept_if true o a h = absurd (none_some a h)
 kept_if false o a h = (refl, h)
 
+-- an action that is offered is the one looked up
 unless_nop-some : (t : Bool) (b a : Action) → (if t then None else Some b) ≡ Some a → b ≡ a
 unless_nop-some true b a h = absurd (none_some a h)
 unless_nop-some false b a h = some_some b a h
@@ -47,6 +48,7 @@ remembered_from t (Some c) b a h = inl h
 remembered_from true None b a h = inr (refl, refl, unless_nop-some (same_action b act.Nop) b a h)
 remembered_from false None b a h = absurd (none_some a h)
 
+-- the first of two stays where it is there
 pub first_kept : (o p : Option Action) (a : Action) → o ≡ Some a → first_of_two o p ≡ Some a
 first_kept o p a h = rw h refl
 
@@ -74,6 +76,7 @@ pressed_if : (t : Bool) (x : Bool) → x ≡ true → (if t then true else x) �
 pressed_if true x h = refl
 pressed_if false x h = h
 
+-- the step of the next lemma at a press, by the key's test
 press-remembered : (ms : Maps) (h : List Event) (k j : ℕ) (a : Action) (x : Cell)
     → (remembered k (resolved ms h) ≡ Some a → pressed k h ≡ true)
     → remembered k (resolve_press j x ∷ resolved ms h) ≡ Some a → (if j == k then true else pressed k h) ≡ true
@@ -87,6 +90,7 @@ press-remembered ms h k j a (Act b) f r =
       | inr s ↦ rw s.1 refl
     ]
 
+-- a key for which an action is remembered is pressed
 pub remembered-pressed : (ms : Maps) (h : List Event) (k : ℕ) (a : Action) → remembered k (resolved ms h) ≡ Some a
     → pressed k h ≡ true
 remembered-pressed ms [] k a r = absurd (none_some a (sym (remembered-start k) ∙ (rw resolved-start at r)))
@@ -112,6 +116,7 @@ not_false : (x : Bool) → not x ≡ true → x ≡ true → ⊥
 not_false true h e = true≢false (sym h)
 not_false false h e = true≢false (sym e)
 
+-- a holding action whose keys have no character beside it is held only while it is remembered
 pub held-remembered : (m : MapValue) (a : Holding)
     → ((k : ℕ) → k < 128 → Bears m k a → (c : ℕ) → IsCellOf m k (Char c) → ⊥) → (r : List ResolvedEvent) → AllLooked m r
     → held a r ≡ true → RememberedBySome a r
@@ -161,6 +166,7 @@ not_other_by m a k alone r j all ne b true is e =
     absurd (true≢false (sym (eq-eqb j k (alone j c.0 c.1)) ∙ ne))
 not_other_by m a k alone r j all ne b false is e = refl
 
+-- a key other than the one that bears a holding action alone remembers another
 not_other : (m : MapValue) (a : Holding) (k : ℕ) → IsAlone m k a → (r : List ResolvedEvent) (j : ℕ) → AllLooked m r
     → eqb j k ≡ false → (o : Option Action) → remembered j r ≡ o → not (is_action o (holding_action a)) ≡ true
 not_other m a k alone r j all ne None is = refl

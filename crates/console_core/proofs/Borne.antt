@@ -50,10 +50,12 @@ holding-not_nop : (a : Holding) → same_action (holding_action a) act.Nop ≡ f
 holding-not_nop (holding.Mod i) = refl
 holding-not_nop (holding.Lock l) = refl
 
+-- nop is no holding action
 nop-not_holding : (a : Holding) → same_action act.Nop (holding_action a) ≡ false
 nop-not_holding (holding.Mod i) = refl
 nop-not_holding (holding.Lock l) = refl
 
+-- a holding action that is looked up is offered
 pub offers-holding : (a : Holding) → unless_nop (holding_action a) ≡ Some (holding_action a)
 offers-holding a = rw (holding-not_nop a) refl
 
@@ -66,6 +68,7 @@ taken_over-same held b a true e h =
     (f, ap (λ x. Some x) (same_action-true held b e ∙ f))
 taken_over-same held b a false e h = absurd (true≢false (sym h ∙ nop-not_holding a))
 
+-- a holding action is taken exactly where it is looked up, and then remembered
 pub taken-holding : (o : Option Action) (b : Action) (a : Holding)
     → same_action (taken_over o b) (holding_action a) ≡ true
     → (b ≡ holding_action a) × (first_of_two o (unless_nop b) ≡ Some (holding_action a))
@@ -81,6 +84,7 @@ pub upper-live_by : (m : MapValue) (k : ℕ) (a : Holding)
 upper-live_by m k a f lt (inl s) = f (Act (holding_action a)) s refl
 upper-live_by m k a f lt (inr s) = s.0
 
+-- what is held makes the upper half live, where each of its cells does
 pub held-upper : (m : MapValue) (a : Holding)
     → ((k : ℕ) → k < 128 → StandsIn m k (Act (holding_action a)) → IsUpperLive m) → (r : List ResolvedEvent)
     → AllLooked m r → held a r ≡ true → IsUpperLive m
@@ -99,6 +103,7 @@ held-upper m a f (ReleasedKey k ∷ r) all h = held-upper m a f r all.1 (and_par
 held-upper m a f (WasReset ∷ r) all h = absurd (true≢false (sym h ∙ held-reset a r))
 held-upper m a f (WasLoaded n ∷ r) all h = absurd (true≢false (sym h ∙ held-load a n r))
 
+-- a lock that is on was turned, or was on before
 locked_turned : (t x : Bool) → (if t then not x else x) ≡ true → (t ≡ true) ⊎ (x ≡ true)
 locked_turned true x h = inl refl
 locked_turned false x h = inr h
@@ -120,9 +125,11 @@ locked-borne m l (WasReset ∷ r) all h = locked-borne m l r all.1 (sym (locked-
 locked-borne m l (WasLoaded n ∷ r) all h =
     ap (λ x. is_borne x (holding.Lock l)) (sym all) ∙ (and_parts _ _ (sym (locked-load l n r) ∙ h)).0
 
+-- an alt lock that is on makes the upper half live
 pub locked-upper : (m : MapValue) (r : List ResolvedEvent) → AllLooked m r → locked lock.Alt r ≡ true → IsUpperLive m
 locked-upper m r all h = borne-upper m (locked-borne m lock.Alt r all h)
 
+-- a column is one of eight
 column_of-lt : (a b c : Bool) → column_of a b c < 8
 column_of-lt false false false = lit< tt
 column_of-lt false false true = lit< tt
@@ -133,6 +140,7 @@ column_of-lt true false true = lit< tt
 column_of-lt true true false = lit< tt
 column_of-lt true true true = lit< tt
 
+-- a cell of the looked-up slot is one of the key's, where the upper half is live if it is looked at
 slot_stands : (m : MapValue) (k : ℕ) (p q : Bool) (column : ℕ) → column < 8 → ((p ≡ true) ⊎ (q ≡ true) → IsUpperLive m)
     → IsCellOf m k (cell_at m (slot_of k (xor p q)) column)
 slot_stands m k false false column lt f = inl (column, lt, refl)
@@ -150,11 +158,13 @@ look-cell m r k all =
       | inr h ↦ locked-upper m r all h
     ])
 
+-- one more press looks up a cell of its key
 more-looked : (m : MapValue) (k : ℕ) (x : Cell) (r : List ResolvedEvent) → k < 128 → IsCellOf m k x → AllLooked m r
     → AllLooked m (resolve_press k x ∷ r)
 more-looked m k (Char c) r lt s all = ((lt, s), all)
 more-looked m k (Act a) r lt s all = ((lt, s), all)
 
+-- all presses look up cells of their keys in the map in force
 pub resolved-looked : (ms : Maps) (h : List Event) → HasKeys h → AllLooked (in_force ms h) (resolved ms h)
 resolved-looked ms [] keys = subst (λ r. AllLooked ms.first r) (sym (resolved-start ms)) tt
 resolved-looked ms (Press k ∷ h) keys =

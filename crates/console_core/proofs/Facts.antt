@@ -30,6 +30,7 @@ use Rattle.console_core.proofs.Borne.{AllLooked, taken-holding, held-upper, lock
 use Rattle.console_core.proofs.Bearing.{remembered-cell, remembered-pressed, first_kept}
 use Rattle.console_core.proofs.Readings.{held-positions}
 
+-- what a key looks up is one of its cells
 pub looks_are_cells : LooksAreCells
 looks_are_cells ms h keys k = look-cell (in_force ms h) (resolved ms h) k (resolved-looked ms h keys)
 
@@ -37,6 +38,7 @@ not_true : (x : Bool) → (x ≡ true → ⊥) → x ≡ false
 not_true true f = absurd (f refl)
 not_true false f = refl
 
+-- a dead upper half is never looked at
 pub dead_upper_half : DeadUpperHalfIsNotLookedAt
 dead_upper_half ms h keys dead =
     let all : AllLooked (in_force ms h) (resolved ms h) = resolved-looked ms h keys in
@@ -56,6 +58,7 @@ kept_by_character : (t : Bool) (o : Option Action) (a : Action) → t ≡ false 
 kept_by_character true o a e r = absurd (true≢false e)
 kept_by_character false o a e r = r
 
+-- a press keeps a remembered holding action, unless it looks up a character for that key
 kept-press : (m : MapValue) (k j : ℕ) (a : Holding) (r : List ResolvedEvent) (x : Cell)
     → ((c : ℕ) → x ≡ Char c → j == k ≡ true → ⊥) → remembered k r ≡ Some (holding_action a)
     → remembered k (resolve_press j x ∷ r) ≡ Some (holding_action a)
@@ -64,6 +67,7 @@ kept-press m k j a r (Char c) apart e =
     ∙ kept_by_character (j == k) (remembered k r) (holding_action a) (not_true (j == k) (λ s. apart c refl s)) e
 kept-press m k j a r (Act b) apart e = remembered-action k j b r ∙ first_kept (remembered k r) _ (holding_action a) e
 
+-- in a safe map a holding action is remembered until its key is released
 pub holding_is_remembered : HoldingIsRemembered
 holding_is_remembered ms h (Press j) safe keys k a e kept =
     let all : AllLooked (in_force ms h) (resolved ms h) = resolved-looked ms h (All-tail HasKey (Press j) h keys) in
@@ -93,6 +97,7 @@ Kept ms k a later before =
     (Remembered ms k (later ++ Press k ∷ before) ≡ Some (holding_action a))
     × NoneOf (lets_go k) later (Press k ∷ before)
 
+-- a key that remembers another action isn't the one that remembers this
 not_let_go : (ms : Maps) (k j : ℕ) (a : Holding) (t : List Event) → Remembered ms k t ≡ Some (holding_action a)
     → is_action (Remembered ms j t) (holding_action a) ≡ false → j == k ≡ false
 not_let_go ms k j a t e low =
@@ -102,6 +107,7 @@ not_let_go ms k j a t e low =
     ∙ same_action-refl (holding_action a))
     ∙ low))
 
+-- a holding action is remembered from the press that raises it, while nothing lowers it
 kept : (ms : Maps) (k : ℕ) (a : Holding) (later before : List Event) → IsSafe (in_force ms (later ++ Press k ∷ before))
     → HasKeys (later ++ Press k ∷ before) → Raises ms a (Press k) before ≡ true
     → NoneOf (Lowers ms a) later (Press k ∷ before) → Kept ms k a later before
@@ -122,6 +128,7 @@ kept ms k a (Release j ∷ later) before safe keys raised none =
 kept ms k a (Reset ∷ later) before safe keys raised none = absurd (true≢false none.0)
 kept ms k a (Load ∷ later) before safe keys raised none = absurd (true≢false none.0)
 
+-- a modifier that some press raised and nothing lowered is on by a pressed key
 raised_by : (ms : Maps) (h : List Event) (i : Modifier) (later : List Event) (x : Event) (before : List Event)
     → IsSafe (in_force ms h) → HasKeys h → h ≡ later ++ x ∷ before → Raises ms (holding.Mod i) x before ≡ true
     → NoneOf (Lowers ms (holding.Mod i)) later (x ∷ before) → IsRaisedByPressed ms i h
@@ -141,6 +148,7 @@ raised_by ms h i later (Release k) before safe keys is raised none = absurd (tru
 raised_by ms h i later Reset before safe keys is raised none = absurd (true≢false (sym raised))
 raised_by ms h i later Load before safe keys is raised none = absurd (true≢false (sym raised))
 
+-- in a safe map a modifier that is on was raised by a press of a key that is still pressed
 pub on_by_pressed_key : OnByPressedKey
 on_by_pressed_key ms h safe keys i on =
     let s : SomeSince (Raises ms (holding.Mod i)) (Lowers ms (holding.Mod i)) h =

@@ -45,6 +45,7 @@ takes m k l r bears all (Some b) e =
     let s : b ≡ act.Lock l = act_act b (act.Lock l) (bears.2 (Act b) (remembered-cell m r k b all e).1) in
     rw (s, same_action-refl (act.Lock l), same_action-refl (act.Lock l)) refl
 
+-- a press turns the lock exactly if it is a fresh press of the bearer, by the cell looked up
 turns-bearer : (ms : Maps) (k j : ℕ) (l : Lock) (h : List Event) (t : Bool) (x : Cell)
     → BearsThroughout (in_force ms h) k (holding.Lock l) → HasKeys h → j < 128 → (j == k) ≡ t
     → IsCellOf (in_force ms h) j x → turns l (resolve_press j x) (resolved ms h) ≡ (t && not (pressed k h))
@@ -69,6 +70,7 @@ turns-bearer ms k j l h false (Act b) bears keys lt e is =
     let s : j ≡ k = bears.1 j lt (subst (λ y. IsCellOf (in_force ms h) j (Act y)) f is) in
     true≢false (sym (eq-eqb j k s) ∙ e)))
 
+-- an event turns the lock exactly if it is a fresh press of the bearer
 turns-fresh : (ms : Maps) (k : ℕ) (l : Lock) (e : Event) (h : List Event)
     → BearsThroughout (in_force ms h) k (holding.Lock l) → HasKeys (e ∷ h)
     → turns l (resolved_event ms h e) (resolved ms h) ≡ is_fresh_press k e h
@@ -81,10 +83,12 @@ turns-fresh ms k l (Release j) h bears keys = refl
 turns-fresh ms k l Reset h bears keys = refl
 turns-fresh ms k l Load h bears keys = refl
 
+-- one more press turns odd to even
 odd_step : (b : Bool) (n : ℕ) → (if b then not (is_odd n) else is_odd n) ≡ is_odd (if b then suc n else n)
 odd_step true n = refl
 odd_step false n = refl
 
+-- without loads the first map is in force
 pub no_loads-first : (h : List Event) → HasNoLoads h → is_second_in_force h ≡ false
 no_loads-first [] none = refl
 no_loads-first (Press k ∷ h) none = no_loads-first h (All-tail IsNoLoad (Press k) h none)
@@ -92,25 +96,30 @@ no_loads-first (Release k ∷ h) none = no_loads-first h (All-tail IsNoLoad (Rel
 no_loads-first (Reset ∷ h) none = no_loads-first h (All-tail IsNoLoad Reset h none)
 no_loads-first (Load ∷ h) none = absurd (true≢false (All-head IsNoLoad Load h none))
 
+-- what a key bears throughout is borne
 throughout-borne : (m : MapValue) (a : Holding) (k : ℕ) → BearsThroughout m k a → is_borne m a ≡ true
 throughout-borne m a k bears =
     bears-borne m a k bears.0 (inl (0, lit< tt, bears.2 (cell_at m k 0) (inl (0, lit< tt, refl))))
 
+-- the key bears the lock throughout wherever the second map may be in force
 abbrev Bearer : Maps → Lock → ℕ → List Event → Type 0
 Bearer ms l k h = HasNoLoads h ⊎ BearsThroughout ms.second k (holding.Lock l)
 
+-- the key bears the lock throughout in whichever of the maps it is
 either_bears : (b : Bool) (ms : Maps) (l : Lock) (k : ℕ) → BearsThroughout ms.first k (holding.Lock l)
     → (b ≡ true → BearsThroughout ms.second k (holding.Lock l))
     → BearsThroughout (if b then ms.second else ms.first) k (holding.Lock l)
 either_bears true ms l k first f = f refl
 either_bears false ms l k first f = first
 
+-- the key bears the lock throughout in the map in force
 bears-in_force : (ms : Maps) (l : Lock) (k : ℕ) (h : List Event) → BearsThroughout ms.first k (holding.Lock l)
     → Bearer ms l k h → BearsThroughout (in_force ms h) k (holding.Lock l)
 bears-in_force ms l k h first (inl none) =
     either_bears (is_second_in_force h) ms l k first (λ e. absurd (true≢false (sym e ∙ no_loads-first h none)))
 bears-in_force ms l k h first (inr second) = either_bears (is_second_in_force h) ms l k first (λ e. second)
 
+-- the same held before the last event
 bearer-before : (ms : Maps) (l : Lock) (k : ℕ) (e : Event) (h : List Event) → Bearer ms l k (e ∷ h) → Bearer ms l k h
 bearer-before ms l k e h (inl none) = inl (All-tail IsNoLoad e h none)
 bearer-before ms l k e h (inr second) = inr second
@@ -124,6 +133,7 @@ keeps-lock ms l k Reset h first bearer = refl
 keeps-lock ms l k Load h first bearer =
     ap not (throughout-borne (loaded ms h) (holding.Lock l) k (bears-in_force ms l k (Load ∷ h) first bearer))
 
+-- a lock that one key alone bears throughout is on after an odd number of its fresh presses
 pub locked_by_fresh_presses : LockedByFreshPresses
 locked_by_fresh_presses ms [] keys l k first bearer = ap (λ r. locked l r) (resolved-start ms) ∙ locked-start l
 locked_by_fresh_presses ms (e ∷ h) keys l k first bearer =

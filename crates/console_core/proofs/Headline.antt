@@ -51,11 +51,13 @@ act_char a c e = cc
 pub act_act : (a b : Action) → Act a ≡ Act b → a ≡ b
 act_act a b e = cc
 
+-- truth values that follow from each other are the same
 pub same_by : (x y : Bool) → (x ≡ true → y ≡ true) → (y ≡ true → x ≡ true) → x ≡ y
 same_by true y f g = sym (f refl)
 same_by false true f g = g refl
 same_by false false f g = refl
 
+-- in a safe map a modifier is on only while a key that bears it is pressed
 pub on_only_while_pressed : OnOnlyWhilePressed
 on_only_while_pressed ms h safe keys i on =
     let all : AllLooked (in_force ms h) (resolved ms h) = resolved-looked ms h keys in
@@ -70,19 +72,23 @@ on_only_while_pressed ms h safe keys i on =
 abbrev Remembers : ℕ → List ResolvedEvent → Type 0
 Remembers k r = (a : Action) × (remembered k r ≡ Some a)
 
+-- an action other than nop is offered
 offers_some : (t : Bool) (b : Action) → same_action b act.Nop ≡ t → b ≢ act.Nop
     → (a : Action) × ((if t then None else Some b) ≡ Some a)
 offers_some true b e ne = absurd (ne (same_action-true b act.Nop e))
 offers_some false b e ne = (b, refl)
 
+-- where the second is there, one of two is
 first_some_of : (o p : Option Action) → ((a : Action) × (p ≡ Some a)) → (a : Action) × (first_of_two o p ≡ Some a)
 first_some_of None p s = s
 first_some_of (Some a) p s = (a, refl)
 
+-- where the first is there, one of two is
 first_some_kept : (o p : Option Action) → ((a : Action) × (o ≡ Some a)) → (a : Action) × (first_of_two o p ≡ Some a)
 first_some_kept None p s = absurd (none_some s.0 s.1)
 first_some_kept (Some a) p s = (a, refl)
 
+-- a press of a key that looks up an action other than nop leaves the key something to remember
 press-remembers : (m : MapValue) (k j : ℕ) (r : List ResolvedEvent) (t : Bool) (x : Cell) → (j == k) ≡ t
     → (t ≡ true → IsActing x) → (t ≡ false → Remembers k r) → Remembers k (resolve_press j x ∷ r)
 press-remembers m k j r true (Char c) e f g = absurd (f refl)
@@ -100,6 +106,7 @@ press-remembers m k j r false (Act b) e f g =
     first_some_kept (remembered k r) _ (g refl) in
     (s.0, remembered-action k j b r ∙ s.1)
 
+-- a key whose cells all act remembers an action while it is pressed
 pub pressed-remembers : (ms : Maps) (k : ℕ) (h : List Event) → ((x : Cell) → IsCellOf (in_force ms h) k x → IsActing x)
     → HasKeys h → pressed k h ≡ true → Remembers k (resolved ms h)
 pressed-remembers ms k [] acting keys p = absurd (true≢false (sym p ∙ pressed-start k))
@@ -127,6 +134,7 @@ pressed-remembers ms k (Release j ∷ h) acting keys p =
 pressed-remembers ms k (Reset ∷ h) acting keys p = absurd (true≢false (sym p ∙ pressed-reset k h))
 pressed-remembers ms k (Load ∷ h) acting keys p = absurd (true≢false (sym p ∙ pressed-load k h))
 
+-- no holding action is nop
 acting-holding : (a : Holding) → holding_action a ≡ act.Nop → ⊥
 acting-holding (holding.Mod i) e = cc
 acting-holding (holding.Lock l) e = cc
@@ -154,6 +162,7 @@ throughout_held ms h keys a k bears =
     remembered-held (in_force ms h) a k bears.1 (resolved ms h) all
     (s.1 ∙ ap (λ x. Some x) (act_act s.0 (holding_action a) (bears.2 (Act s.0) b.1))))
 
+-- a modifier that a key bears throughout is on exactly while that key is pressed
 pub on_exactly_while_pressed : OnExactlyWhilePressed
 on_exactly_while_pressed ms h keys i k bears = throughout_held ms h keys (holding.Mod i) k bears
 
@@ -162,6 +171,7 @@ turned-false : (t d : Bool) → (t ≡ true → d ≡ true) → (t && not d) ≡
 turned-false true d f = rw (f refl) refl
 turned-false false d f = refl
 
+-- a repeat turns no steady lock, by the cell looked up
 repeat-turns : (ms : Maps) (h : List Event) (l : Lock) (k : ℕ) (x : Cell) → IsSteady (in_force ms h) l
     → HasKeys (Press k ∷ h) → pressed k h ≡ true → IsCellOf (in_force ms h) k x
     → turns l (resolve_press k x) (resolved ms h) ≡ false
@@ -182,6 +192,7 @@ repeat-turns ms h l k (Act b) steady keys p is =
     remembered-held (in_force ms h) (holding.Lock l) k (λ j lt bears. steady.3 j lt bears ∙ sym e) (resolved ms h)
     (resolved-looked ms h (All-tail HasKey (Press k) h keys)) f)
 
+-- a repeat turns no steady lock
 pub repeats_turn_no_steady_lock : RepeatsTurnNoSteadyLock
 repeats_turn_no_steady_lock ms h l steady k keys p =
     let still : turns l (resolve_press k (look (in_force ms h) (resolved ms h) k)) (resolved ms h) ≡ false =
@@ -212,13 +223,16 @@ held-quiet ms h safe keys quiet a =
     remembered-cell (in_force ms h) (resolved ms h) s.0 _ all s.1 in
     true≢false (sym (remembered-pressed ms h s.0 _ s.1) ∙ quiet s.0 b.0))
 
+-- in a safe map no modifier is on once every key is released
 pub off_once_quiet : OffOnceQuiet
 off_once_quiet ms h safe keys quiet i = held-quiet ms h safe keys quiet (holding.Mod i)
 
+-- what is none of all actions is nothing
 none_unless : (o : Option Action) → ((a : Action) → o ≡ Some a → ⊥) → o ≡ None
 none_unless None f = refl
 none_unless (Some a) f = absurd (f a refl)
 
+-- once every key is released nothing is remembered
 remembered-quiet : (ms : Maps) (h : List Event) → IsQuiet h → (k : ℕ) → k < 128 → remembered k (resolved ms h) ≡ None
 remembered-quiet ms h quiet k lt =
     none_unless (remembered k (resolved ms h)) (λ a e. true≢false (sym (remembered-pressed ms h k a e) ∙ quiet k lt))
@@ -230,6 +244,7 @@ pub record Same (m : MapValue) (r s : List ResolvedEvent) : Type 0 where
   pub remembered : (k : ℕ) → k < 128 → remembered k r ≡ remembered k s
   pub pending : pending m r ≡ pending m s
 
+-- states that are the same look up the same
 same-look : (m : MapValue) (r s : List ResolvedEvent) (k : ℕ) → Same m r s → look m r k ≡ look m s k
 unfolding look
 same-look m r s k same =
@@ -245,16 +260,19 @@ HasResolvedKey (ReleasedKey k) = k < 128
 HasResolvedKey WasReset = Unit {0}
 HasResolvedKey (WasLoaded m) = Unit {0}
 
+-- a press of a key is resolved to one of a key
 press-key : (k : ℕ) (x : Cell) → k < 128 → HasResolvedKey (resolve_press k x)
 press-key k (Char c) lt = lt
 press-key k (Act a) lt = lt
 
+-- an event of a key is resolved to one of a key
 pub resolve-key : (m n : MapValue) (r : List ResolvedEvent) (e : Event) → HasKey e → HasResolvedKey (resolve m n r e)
 resolve-key m n r (Press k) key = press-key k (look m r k) key
 resolve-key m n r (Release k) key = key
 resolve-key m n r Reset key = tt
 resolve-key m n r Load key = tt
 
+-- states that are the same resolve an event alike
 pub same-resolve : (m n : MapValue) (r s : List ResolvedEvent) (e : Event) → Same m r s
     → resolve m n r e ≡ resolve m n s e
 same-resolve m n r s (Press k) same = ap (λ x. resolve_press k x) (same-look m r s k same)
@@ -262,6 +280,7 @@ same-resolve m n r s (Release k) same = refl
 same-resolve m n r s Reset same = refl
 same-resolve m n r s Load same = refl
 
+-- states that are the same are so after one more resolved event
 pub same-step : (m : MapValue) (r s : List ResolvedEvent) (x : ResolvedEvent) → HasResolvedKey x → Same m r s
     → Same m (x ∷ r) (x ∷ s)
 same-step m r s (PressedCharacter k c) lt same = record {
@@ -308,6 +327,7 @@ same-step m r s (WasLoaded n) lt same = record {
   pending = pending-load m n r ∙ sym (pending-load m n s);
 }
 
+-- states that are the same answer a resolved event alike
 pub same-answer_resolved : (m : MapValue) (r s : List ResolvedEvent) (x : ResolvedEvent) → HasResolvedKey x → Same m r s
     → answer_resolved m x r ≡ answer_resolved m x s
 same-answer_resolved m r s (PressedCharacter k c) lt same =
@@ -323,12 +343,15 @@ pub record SameAfter (ms : Maps) (h g : List Event) : Type 0 where
   pub force : is_second_in_force h ≡ is_second_in_force g
   pub same : Same (in_force ms h) (resolved ms h) (resolved ms g)
 
+-- events that go on alike have the same map in force
 same_force : (ms : Maps) (h g : List Event) → SameAfter ms h g → in_force ms h ≡ in_force ms g
 same_force ms h g s = ap (λ b. if b then ms.second else ms.first) s.force
 
+-- events that go on alike load the same map
 same_loaded : (ms : Maps) (h g : List Event) → SameAfter ms h g → loaded ms h ≡ loaded ms g
 same_loaded ms h g s = ap (λ b. if not b then ms.second else ms.first) s.force
 
+-- events that go on alike resolve an event alike
 pub same-resolved_event : (ms : Maps) (h g : List Event) (e : Event) → SameAfter ms h g
     → resolved_event ms h e ≡ resolved_event ms g e
 same-resolved_event ms h g e s =
@@ -346,6 +369,7 @@ same_under m n r s p same = record {
   pending = pending-load n p r ∙ sym (pending-load n p s);
 }
 
+-- one more event that is a load in both, or in neither, leaves the same map in force
 more_force : (b c : Bool) (h g : List Event) → b ≡ c → is_second_in_force h ≡ is_second_in_force g
     → is_odd (if b then suc (count_where is_load h) else count_where is_load h)
     ≡ is_odd (if c then suc (count_where is_load g) else count_where is_load g)
@@ -354,12 +378,14 @@ more_force false false h g e f = f
 more_force true false h g e f = absurd (true≢false e)
 more_force false true h g e f = absurd (true≢false (sym e))
 
+-- whether an event is a load doesn't depend on those before
 load_anywhere : (e : Event) (h g : List Event) → is_load e h ≡ is_load e g
 load_anywhere (Press k) h g = refl
 load_anywhere (Release k) h g = refl
 load_anywhere Reset h g = refl
 load_anywhere Load h g = refl
 
+-- one more event, under the map in force before it
 same_more : (ms : Maps) (h g : List Event) (e : Event) → HasKey e → SameAfter ms h g
     → Same (in_force ms h) (resolved ms (e ∷ h)) (resolved ms (e ∷ g))
 same_more ms h g e key s =
@@ -367,6 +393,7 @@ same_more ms h g e key s =
     (same-step (in_force ms h) (resolved ms h) (resolved ms g) (resolved_event ms h e)
     (resolve-key (in_force ms h) (loaded ms h) (resolved ms h) e key) s.same)
 
+-- one more load, under the map that it loads
 same_load : (ms : Maps) (h g : List Event) → SameAfter ms h g
     → Same (loaded ms h) (resolved ms (Load ∷ h)) (resolved ms (Load ∷ g))
 same_load ms h g s =
@@ -377,6 +404,7 @@ same_load ms h g s =
     (same_under (in_force ms h) (loaded ms h) (resolved ms h) (resolved ms g) (loaded ms h)
     (same-step (in_force ms h) (resolved ms h) (resolved ms g) (WasLoaded (loaded ms h)) tt s.same)))
 
+-- one more event, under the map in force after it
 same_events : (ms : Maps) (h g : List Event) (e : Event) → HasKey e → SameAfter ms h g
     → Same (in_force ms (e ∷ h)) (resolved ms (e ∷ h)) (resolved ms (e ∷ g))
 same_events ms h g (Press k) key s = same_more ms h g (Press k) key s
@@ -384,6 +412,7 @@ same_events ms h g (Release k) key s = same_more ms h g (Release k) key s
 same_events ms h g Reset key s = same_more ms h g Reset key s
 same_events ms h g Load key s = same_load ms h g s
 
+-- events that go on alike do so after one more event
 pub same-events : (ms : Maps) (h g : List Event) (e : Event) → HasKey e → SameAfter ms h g
     → SameAfter ms (e ∷ h) (e ∷ g)
 same-events ms h g e key s = record {
@@ -391,6 +420,7 @@ same-events ms h g e key s = record {
   same = same_events ms h g e key s;
 }
 
+-- events that go on alike answer an event alike
 pub same-answer : (ms : Maps) (h g : List Event) (e : Event) → HasKey e → SameAfter ms h g
     → AnswerTo ms h e ≡ AnswerTo ms g e
 same-answer ms h g e key s =
@@ -399,6 +429,7 @@ same-answer ms h g e key s =
     ∙ ap (λ x. answer_resolved x (resolved_event ms h e) (resolved ms g)) (same_force ms h g s)
     ∙ ap (λ x. answer_resolved (in_force ms g) x (resolved ms g)) (same-resolved_event ms h g e s)
 
+-- events that go on alike do so after any events
 pub same-later : (ms : Maps) (h g later : List Event) → HasKeys later → SameAfter ms h g
     → SameAfter ms (reverse later ++ h) (reverse later ++ g)
 same-later ms h g [] keys s = s
@@ -407,6 +438,7 @@ same-later ms h g (e ∷ later) keys s =
     (same-later ms (e ∷ h) (e ∷ g) later (All-tail HasKey e later keys)
     (same-events ms h g e (All-head HasKey e later keys) s))
 
+-- events that go on alike answer any events alike
 pub same-answers : (ms : Maps) (h g later : List Event) → HasKeys later → SameAfter ms h g
     → AnswersTo ms h later ≡ AnswersTo ms g later
 same-answers ms h g [] keys s = refl
@@ -418,9 +450,11 @@ same-answers ms h g (e ∷ later) keys s =
     )
     refl
 
+-- events that go on alike have the same pending accent
 pub same-pending : (ms : Maps) (h g : List Event) → SameAfter ms h g → Pending ms h ≡ Pending ms g
 same-pending ms h g s = s.same.pending ∙ ap (λ x. pending x (resolved ms g)) (same_force ms h g s)
 
+-- in a safe map a quiet console with nothing pending goes on as after a reset
 same-reset : (ms : Maps) (h : List Event) → IsSafe (in_force ms h) → HasKeys h → IsQuiet h → Pending ms h ≡ None
     → SameAfter ms h (Reset ∷ h)
 same-reset ms h safe keys quiet p = record {
@@ -433,6 +467,7 @@ same-reset ms h safe keys quiet p = record {
   });
 }
 
+-- in a safe map a console goes on as after a reset, once every key is released and nothing is pending
 pub goes_on_as_after_reset : GoesOnAsAfterReset
 goes_on_as_after_reset ms h safe keys quiet p later later_keys =
     let base : SameAfter ms h (Reset ∷ h) = same-reset ms h safe keys quiet p in
@@ -451,6 +486,7 @@ keys-before (e ∷ later) h keys =
     let rest : HasKeys (e ∷ h) = keys-before later (e ∷ h) (subst HasKeys (reverse-cons e later h) keys) in
     All-tail HasKey e h rest
 
+-- repeats leave a steady lock as it was
 pub repeats-kept : (ms : Maps) (l : Lock) (h later : List Event) → IsSteady (in_force ms h) l
     → HasKeys (reverse later ++ h) → AreRepeats h later
     → locked l (resolved ms (reverse later ++ h)) ≡ locked l (resolved ms h)

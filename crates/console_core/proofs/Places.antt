@@ -15,11 +15,13 @@ use Rattle.keymap_core.specs.declared.action.Action.TheVariants as act
 use Rattle.keymap_core.specs.Actions.{holding_of, modifier_index, lock_index, holding_index, same_action}
 use Rattle.keymap_core.specs.Actions.{holding_action}
 
+-- an element after a write, by the test of its index
 place_cases : {X : Type 0} (xs : List X) (i j : ℕ) (v d : X) (b : Bool) → eqb i j ≡ b → i < length xs
     → get_or (set xs i v) j d ≡ cond b v (get_or xs j d)
 place_cases xs i j v d true e h = let s : i ≡ j = eqb-true i j e in rw (← s) (get_or-set_same xs i v d h)
 place_cases xs i j v d false e h = get_or-set_other xs i j v d (λ s. eqb-false i j e (sym s))
 
+-- an element after a write
 pub get_or-set_if : {X : Type 0} (xs : List X) (i j : ℕ) (v d : X) → i < length xs
     → get_or (set xs i v) j d ≡ cond (eqb i j) v (get_or xs j d)
 get_or-set_if xs i j v d h = place_cases xs i j v d (eqb i j) refl h
@@ -34,12 +36,15 @@ modifier_index-lt RightAlt = lit< tt
 modifier_index-lt AltShift = lit< tt
 modifier_index-lt Meta = lit< tt
 
+-- the index of a modifier is that of no lock
 mod_lock : (m : Modifier) (l : Lock) → eqb (modifier_index m) (8 + lock_index l) ≡ false
 mod_lock m l = let h : modifier_index m < 8 = modifier_index-lt m in ne_eqb _ _ (λ e. omega arith)
 
+-- the index of a lock is that of no modifier
 lock_mod : (m : Modifier) (l : Lock) → eqb (8 + lock_index l) (modifier_index m) ≡ false
 lock_mod m l = let h : modifier_index m < 8 = modifier_index-lt m in ne_eqb _ _ (λ e. omega arith)
 
+-- holding actions are the same exactly where their indices are
 pub same_place : (a b : Holding)
     → same_action (holding_action a) (holding_action b) ≡ eqb (holding_index a) (holding_index b)
 same_place (holding.Mod m) (holding.Mod n) = refl
@@ -62,6 +67,7 @@ same_place (holding.Lock Alt) (holding.Lock Alt) = refl
 same_place (holding.Mod m) (holding.Lock l) = sym (mod_lock m l)
 same_place (holding.Lock l) (holding.Mod m) = sym (lock_mod m l)
 
+-- the index of a holding action is one of twelve
 pub holding_index-lt : (a : Holding) → holding_index a < 12
 holding_index-lt (holding.Mod m) = let h : modifier_index m < 8 = modifier_index-lt m in omega arith
 holding_index-lt (holding.Lock Caps) = lit< tt
@@ -81,6 +87,7 @@ cleared_by true false = refl
 cleared_by false true = refl
 cleared_by false false = refl
 
+-- after the mark of an action was cleared, the others are as before
 pub mark-cleared : (marks : List Bool) (action : Action) (a b : Holding) → length marks ≡ 12
     → holding_of action ≡ Some a
     → get_or (set marks (holding_index a) false) (holding_index b) false

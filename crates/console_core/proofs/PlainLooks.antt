@@ -44,6 +44,7 @@ bears-is m a k e =
           inr (live-upper m p.0, slot-stands m (holding_action a) (k + 128) p.1)
     ]
 
+-- a key that bears a holding action passes the test
 pub is-bears : (m : MapValue) (a : Holding) (k : ℕ) → Bears m k a → bears m a k ≡ true
 is-bears m a k (inl s) = or-left _ _ (stands-slot m (holding_action a) k s)
 is-bears m a k (inr s) =
@@ -74,10 +75,12 @@ bearer-some m a fact e =
     let p : (bears m a t.0 ≡ true) × (fact t.0 ≡ true) = and_parts _ _ t.2 in
     (t.0, t.1, bears-is m a t.0 p.0, p.1)
 
+-- a bearer for which a fact holds is found
 some-bearer : (m : MapValue) (a : Holding) (fact : ℕ → Bool) (k : ℕ) → k < 128 → Bears m k a → fact k ≡ true
     → any_below (λ j. bears m a j && fact j) 128 ≡ true
 some-bearer m a fact k lt b e = any-some (λ j. bears m a j && fact j) k 128 lt (rw (is-bears m a k b, e) refl)
 
+-- a modifier is on by the test exactly if a key that bears it is pressed
 pub plain_on_by_keys : PlainOnByKeys
 unfolding plain_on
 plain_on_by_keys m h i = (
@@ -85,6 +88,7 @@ plain_on_by_keys m h i = (
   λ s. some-bearer m (holding.Mod i) (λ k. pressed k h) s.0 s.1 s.2 s.3,
 )
 
+-- a lock is on by the test exactly if a key that bears it had an odd number of fresh presses
 pub plain_locked_by_keys : PlainLockedByKeys
 unfolding plain_locked
 plain_locked_by_keys m h l = (
@@ -92,6 +96,7 @@ plain_locked_by_keys m h l = (
   λ s. some-bearer m (holding.Lock l) (λ k. is_odd (count_where (is_fresh_press k) h)) s.0 s.1 s.2 s.3,
 )
 
+-- where nobody bears a holding action, no bearer is found
 no_bearer : (m : MapValue) (a : Holding) (fact : ℕ → Bool) → NobodyBears m a
     → any_below (λ j. bears m a j && fact j) 128 ≡ false
 no_bearer m a fact nobody =
@@ -120,9 +125,11 @@ never-locked m l nobody r all =
 
 -- without loads, under the first map
 module _ (ms : Maps) (h : List Event) (none : HasNoLoads h) (keys : HasKeys h) where
+  -- all presses look up cells of their keys in the first map
   looked : AllLooked ms.first (resolved ms h)
   looked = subst (λ m. AllLooked m (resolved ms h)) (first_in_force ms h none) (resolved-looked ms h keys)
 
+  -- a modifier that is plain is on by the test
   on-plain : (i : Modifier) → IsPlainFor ms.first (holding.Mod i) → On ms i h ≡ plain_on ms.first h i
   unfolding plain_on
   on-plain i (inl nobody) =
@@ -133,6 +140,7 @@ module _ (ms : Maps) (h : List Event) (none : HasNoLoads h) (keys : HasKeys h) w
       (subst (λ m. BearsThroughout m s.0 (holding.Mod i)) (sym (first_in_force ms h none)) s.1)
       ∙ sym (one_bearer ms.first (holding.Mod i) s.0 (λ k. pressed k h) s.1)
 
+  -- a lock that is plain is on by the test
   locked-plain : (l : Lock) → IsPlainFor ms.first (holding.Lock l) → Locked ms l h ≡ plain_locked ms.first h l
   unfolding plain_locked
   locked-plain l (inl nobody) =
@@ -142,11 +150,13 @@ module _ (ms : Maps) (h : List Event) (none : HasNoLoads h) (keys : HasKeys h) w
       locked_by_fresh_presses ms h keys l s.0 s.1 (inl none)
       ∙ sym (one_bearer ms.first (holding.Lock l) s.0 (λ k. is_odd (count_where (is_fresh_press k) h)) s.1)
 
+  -- a look in the map in force is one in the first map
   pub looks-first : (k : ℕ)
       → look (in_force ms h) (resolved ms h) k ≡ look_with ms.first (λ i. On ms i h) (λ l. Locked ms l h) k
   unfolding look
   looks-first k = ap (λ m. look_with m (λ i. On ms i h) (λ l. Locked ms l h) k) (first_in_force ms h none)
 
+  -- in a plain map a look follows from the keys
   pub look-plain : IsPlain ms.first → (k : ℕ)
       → look_with ms.first (λ i. On ms i h) (λ l. Locked ms l h) k ≡ PlainLook ms.first k h
   look-plain plain k =
@@ -163,6 +173,7 @@ module _ (ms : Maps) (h : List Event) (none : HasNoLoads h) (keys : HasKeys h) w
         locked-plain lock.Alt plain.alt_lock,
       ) refl
 
+-- in a plain map each look follows from which keys are pressed and the fresh presses of the locks' keys
 pub looks_plainly : LooksPlainly
 looks_plainly ms h plain none keys k = looks-first ms h none keys k ∙ look-plain ms h none keys plain k
 

@@ -32,6 +32,7 @@ modifier_place (suc (suc (suc (suc (suc (suc zero)))))) lt = refl
 modifier_place (suc (suc (suc (suc (suc (suc (suc zero))))))) lt = refl
 modifier_place (suc (suc (suc (suc (suc (suc (suc (suc n)))))))) lt = absurd (omega (arith, lt))
 
+-- the index of each lock in their list
 lock_place : (n : ℕ) → n < 4 → lock_index (get_or locks n Caps) ≡ n
 lock_place zero lt = refl
 lock_place (suc zero) lt = refl
@@ -39,6 +40,7 @@ lock_place (suc (suc zero)) lt = refl
 lock_place (suc (suc (suc zero))) lt = refl
 lock_place (suc (suc (suc (suc n)))) lt = absurd (omega (arith, lt))
 
+-- lists of one length are equal where all their elements are
 same_at : {A : Type 0} (xs ys : List A) (n : ℕ) (d : A) → length xs ≡ n → length ys ≡ n
     → ((k : ℕ) → k < n → get_or xs k d ≡ get_or ys k d) → xs ≡ ys
 same_at xs ys n d e f at =
@@ -47,6 +49,7 @@ same_at xs ys n d e f at =
     let other : k < length ys = omega (arith, below, f) in
     get_or_default xs k c d lt ∙ at k below ∙ sym (get_or_default ys k c d other))
 
+-- tables of the same state are the same
 same_tables : (x y : Held) → state_of x ≡ state_of y → (x.holders ≡ y.holders) × (x.locks ≡ y.locks)
 same_tables x y e = (
   same_at x.holders y.holders 8 None x.holders_len y.holders_len
@@ -62,10 +65,12 @@ pointwise_self : {X : Type 0} (E : X → X → Bool) → ((a : X) → E a a ≡ 
 pointwise_self E f [] = refl
 pointwise_self E f (x ∷ xs) = ap (λ b. b && pointwise E xs xs) (f x) ∙ pointwise_self E f xs
 
+-- an option is equal to itself, where what it holds is
 option_self : (E : ℕ → ℕ → Bool) → ((a : ℕ) → E a a ≡ true) → (o : Option ℕ) → option_eq E o o ≡ true
 option_self E f None = refl
 option_self E f (Some a) = f a
 
+-- tables of the same state pass the test for equality
 pub tables-test : (E : ℕ → ℕ → Bool) (F : Bool → Bool → Bool) → ((a : ℕ) → E a a ≡ true) → ((b : Bool) → F b b ≡ true)
     → (x y : Held) → state_of x ≡ state_of y
     → (pointwise (option_eq E) x.holders y.holders && pointwise F x.locks y.locks) ≡ true
@@ -89,6 +94,7 @@ rec-at P [] all k y at = absurd (none_entry y at)
 rec-at P (e ∷ es) all zero y at = subst (λ z. P z.0) (some_entries e y at) all.0
 rec-at P (e ∷ es) all (suc k) y at = rec-at P es all.1 k y at
 
+-- entries at two places of distinct ones are distinct
 distinct-at : (E : Held → Held → Bool) (es : Entries) → IsDistinct E (keys_of es) → (j k : ℕ) (x y : Entry) → j < k
     → slice_get es j ≡ Some x → slice_get es k ≡ Some y → E x.0 y.0 ≡ false
 distinct-at E [] d j k x y lt at_j at_k = absurd (none_entry x at_j)
@@ -100,6 +106,7 @@ distinct-at E (e ∷ es) d (suc j) zero x y lt at_j at_k = absurd (omega (arith,
 distinct-at E (e ∷ es) d (suc j) (suc k) x y lt at_j at_k =
     distinct-at E es (IsDistinct-tail E e.0 (keys_of es) d) j k x y (omega (arith, lt)) at_j at_k
 
+-- more than n distinct entries are more than n states that paths lead to
 pub reaches-more : (E : Held → Held → Bool) → ((x y : Held) → state_of x ≡ state_of y → E x y ≡ true)
     → (m : MapValue) (es : Entries) (a b n : ℕ) → Searched m es a b → n < length es → IsDistinct E (keys_of es)
     → ReachesMoreThan m n

@@ -14,22 +14,26 @@ use Rattle.console_core.specs.History.{Maps, in_force, resolved, resolved_event}
 use Rattle.console_core.specs.Reading.{Keeps, TakesDeadKey, AllTake, LastTakesNot, PendingByRun, keeps_option}
 use Rattle.console_core.specs.Reading.{dead_key_of, taken_of, Remembered}
 
+-- the step of the next lemma at a press, by the cell looked up
 keeps_press : (ms : Maps) (k : ℕ) (h : List Event) (x : Cell)
     → keeps (resolve_press k x) (resolved ms h) ≡ keeps_option (taken_of (Remembered ms k h) x)
 keeps_press ms k h (Char c) = refl
 keeps_press ms k h (Act a) = refl
 
+-- what an event is resolved to keeps what is pending exactly if the event does
 keeps-event : (ms : Maps) (e : Event) (h : List Event) → keeps (resolved_event ms h e) (resolved ms h) ≡ Keeps ms e h
 keeps-event ms (Press k) h = keeps_press ms k h (look (in_force ms h) (resolved ms h) k)
 keeps-event ms (Release k) h = refl
 keeps-event ms Reset h = refl
 keeps-event ms Load h = refl
 
+-- the step of the next lemma at a press, by the cell looked up
 takes_press : (ms : Maps) (m : MapValue) (k : ℕ) (h : List Event) (x : Cell)
     → dead_key m (resolve_press k x) (resolved ms h) ≡ dead_key_of m (taken_of (Remembered ms k h) x)
 takes_press ms m k h (Char c) = refl
 takes_press ms m k h (Act a) = refl
 
+-- what an event is resolved to takes the dead key that the event takes
 takes-event : (ms : Maps) (m : MapValue) (e : Event) (h : List Event)
     → dead_key m (resolved_event ms h e) (resolved ms h) ≡ TakesDeadKey ms m e h
 takes-event ms m (Press k) h = takes_press ms m k h (look (in_force ms h) (resolved ms h) k)
@@ -42,6 +46,7 @@ abbrev takings : Maps → MapValue → List (Event × List Event) → List (Opti
 takings ms m [] = []
 takings ms m (p ∷ positions) = TakesDeadKey ms m p.0 p.1 ∷ takings ms m positions
 
+-- one more event, which is left out or not
 left_out : (ms : Maps) (m : MapValue) (b : Bool) (e : Event) (h : List Event)
     → (if b then takings ms m (positions_without (Keeps ms) h)
     else TakesDeadKey ms m e h ∷ takings ms m (positions_without (Keeps ms) h))
@@ -49,6 +54,7 @@ left_out : (ms : Maps) (m : MapValue) (b : Bool) (e : Event) (h : List Event)
 left_out ms m true e h = refl
 left_out ms m false e h = refl
 
+-- the dead keys taken, by the positions that keep nothing
 dead_keys-events : (ms : Maps) (m : MapValue) (h : List Event)
     → dead_keys m (resolved ms h) ≡ takings ms m (positions_without (Keeps ms) h)
 unfolding dead_keys resolved
@@ -67,6 +73,7 @@ odd_some : (b : Bool) (i j : ℕ) → (if b then Some j else None) ≡ Some i �
 odd_some true i j e = (refl, some_some j i e)
 odd_some false i j e = absurd (none_some i e)
 
+-- what is pending has a run of odd length at the end
 pending-odd : (xs : List (Option ℕ)) (i : ℕ) → pending_after xs ≡ Some i → is_odd (run_length i xs) ≡ true
 unfolding pending_after
 pending-odd [] i e = absurd (none_some i e)
@@ -76,6 +83,7 @@ pending-odd (Some j ∷ rest) i e =
     odd_some (is_odd (run_length j (Some j ∷ rest))) i j e in
     subst (λ x. is_odd (run_length x (Some j ∷ rest)) ≡ true) s.1 s.0
 
+-- the step of the next lemma, by whether the dead key before is the same
 odd_pending : (rest : List (Option ℕ)) (i j : ℕ) (b : Bool) → eqb j i ≡ b → is_odd (run_length i (Some j ∷ rest)) ≡ true
     → pending_after (Some j ∷ rest) ≡ Some i
 unfolding pending_after
@@ -87,6 +95,7 @@ odd_pending rest i j true e odd =
 odd_pending rest i j false e odd =
     absurd (true≢false (sym odd ∙ ap (λ b. is_odd (if b then suc (run_length i rest) else 0)) e))
 
+-- a run of odd length at the end leaves its dead key pending
 odd-pending : (xs : List (Option ℕ)) (i : ℕ) → is_odd (run_length i xs) ≡ true → pending_after xs ≡ Some i
 odd-pending [] i odd = absurd (true≢false (sym odd))
 odd-pending (None ∷ rest) i odd = absurd (true≢false (sym odd))
@@ -98,6 +107,7 @@ Split ms m i positions =
     (run : List (Event × List Event)) × (rest : List (Event × List Event)) × (positions ≡ run ++ rest)
     × AllTake ms m i run × LastTakesNot ms m i rest × (length run ≡ run_length i (takings ms m positions))
 
+-- one more position, by whether it takes the dead key
 split_by : (ms : Maps) (m : MapValue) (i : ℕ) (p : Event × List Event) (positions : List (Event × List Event))
     (o : Option ℕ) (b : Bool)
     → TakesDeadKey ms m p.0 p.1 ≡ o → ((j : ℕ) → o ≡ Some j → eqb j i ≡ b) → Split ms m i positions
@@ -130,30 +140,36 @@ split_by ms m i p positions (Some j) false e f s = (
       ∙ ap (λ x. run_length i (x ∷ takings ms m positions)) (sym e),
 )
 
+-- whether the dead key is this one
 abbrev same_number : ℕ → Option ℕ → Bool
 same_number i None = false
 same_number i (Some j) = eqb j i
 
+-- positions are a run of the dead key at the end, and the rest
 split : (ms : Maps) (m : MapValue) (i : ℕ) (positions : List (Event × List Event)) → Split ms m i positions
 split ms m i [] = ([], [], refl, tt, tt, refl)
 split ms m i (p ∷ positions) =
     split_by ms m i p positions (TakesDeadKey ms m p.0 p.1) (same_number i (TakesDeadKey ms m p.0 p.1)) refl
     (λ j e. ap (λ o. same_number i o) (sym e)) (split ms m i positions)
 
+-- a run ends where another dead key is taken, or none
 stops : (i : ℕ) (o : Option ℕ) (xs : List (Option ℕ)) → (o ≡ Some i → ⊥) → run_length i (o ∷ xs) ≡ 0
 stops i None xs f = refl
 stops i (Some j) xs f = ap (λ t. if t then suc (run_length i xs) else 0) (ne_eqb j i (λ e. f (ap (λ x. Some x) e)))
 
+-- the rest has no run of the dead key at its end
 run-rest : (ms : Maps) (m : MapValue) (i : ℕ) (rest : List (Event × List Event)) → LastTakesNot ms m i rest
     → run_length i (takings ms m rest) ≡ 0
 run-rest ms m i [] f = refl
 run-rest ms m i (p ∷ rest) f = stops i (TakesDeadKey ms m p.0 p.1) (takings ms m rest) f
 
+-- a run and a rest have a run of that length
 run-all : (ms : Maps) (m : MapValue) (i : ℕ) (run rest : List (Event × List Event)) → AllTake ms m i run
     → LastTakesNot ms m i rest → run_length i (takings ms m (run ++ rest)) ≡ length run
 run-all ms m i [] rest all f = run-rest ms m i rest f
 run-all ms m i (p ∷ run) rest all f = rw (all.0, eq-eqb i i refl, run-all ms m i run rest all.1 f) refl
 
+-- a dead key is pending exactly after an odd run of its presses
 pub pending-run : PendingByRun
 pending-run ms h i = (
   (λ e.

@@ -41,6 +41,7 @@ use Rattle.console_core.proofs.Staying.{Follows, follows-look, follows-start, fo
 use Rattle.console_core.proofs.Staying.{follows-let_go, follows-release, takes, same_mods, some_mods, some_none}
 use Rattle.console_core.proofs.Staying.{some_keys, not_true, IsSafeBelow, never-sticks}
 
+-- the key holds some modifier
 abbrev pub HoldsSome : State → ℕ → Type 0
 HoldsSome s k = (i : Modifier) × Holds s k i
 
@@ -58,6 +59,7 @@ none_unless : (o : Option Action) → ((a : Action) → o ≡ Some a → ⊥) �
 none_unless None f = refl
 none_unless (Some a) f = absurd (f a refl)
 
+-- a key that is idle remembers nothing
 idle-none : (r : List ResolvedEvent) (s : State) (k : ℕ) → Exact r s → IsIdle s k → remembered k r ≡ None
 idle-none r s k x idle = none_unless (remembered k r) (λ a e. let p : HoldsSome s k = x.only k a e in idle p.0 p.1)
 
@@ -70,16 +72,19 @@ other-remembered r k j b e = rw (remembered-action j k b r, e) (first_none (reme
 hold-self : (s : State) (i : Modifier) (k : ℕ) → Holds (with_holder s i (Some k)) k i
 hold-self s i k = ap (λ t. if t then Some k else s.holder i) (same_action-refl (act.Mod i))
 
+-- the step of the next lemma, by whether the modifiers are the same
 hold_other : (s : State) (i j : Modifier) (k n : ℕ) (t : Bool) → same_modifier i j ≡ t → s.holder i ≡ None → Holds s n j
     → (if t then Some k else s.holder j) ≡ Some n
 hold_other s i j k n true t free h =
     absurd (some_none n (s.holder j) h (ap (λ x. s.holder x) (sym (same_mods i j t)) ∙ free))
 hold_other s i j k n false t free h = h
 
+-- a key that takes a modifier leaves each other holder as it was
 hold-other : (s : State) (i : Modifier) (k n : ℕ) → s.holder i ≡ None → HoldsSome s n
     → HoldsSome (with_holder s i (Some k)) n
 hold-other s i k n free p = (p.0, hold_other s i p.0 k n (same_modifier i p.0) refl free p.1)
 
+-- the step of the next lemma, by whether the modifiers are the same
 let_go_other : (s : State) (i j : Modifier) (k n : ℕ) (t : Bool) → same_modifier i j ≡ t → Holds s k i → k == n ≡ false
     → Holds s n j → (if t then None else s.holder j) ≡ Some n
 let_go_other s i j k n true t holds ne h =
@@ -87,6 +92,7 @@ let_go_other s i j k n true t holds ne h =
     absurd (true≢false (sym (eq-eqb k n e) ∙ ne))
 let_go_other s i j k n false t holds ne h = h
 
+-- a key that lets go leaves each other holder as it was
 let_go-other : (s : State) (i : Modifier) (k n : ℕ) → Holds s k i → k == n ≡ false → HoldsSome s n
     → HoldsSome (with_holder s i None) n
 let_go-other s i k n holds ne p = (p.0, let_go_other s i p.0 k n (same_modifier i p.0) refl holds ne p.1)
@@ -108,10 +114,12 @@ exact-hold r s k i x idle free =
           ∙ ap (λ a. same_action a (act.Lock l) || held (holding.Lock l) r) e ∙ x.up l;
     }
 
+-- a mark that a press sets and the release clears is clear
 up_again : (t x : Bool) → x ≡ false → ((t || x) && not t) ≡ false
 up_again true x e = refl
 up_again false x e = rw e refl
 
+-- a press and release of an idle key that turns a lock
 exact-turn : (r : List ResolvedEvent) (s : State) (k : ℕ) (l : Lock) → Exact r s → IsIdle s k
     → Exact (ReleasedKey k ∷ (PressedAction k (act.Lock l) ∷ r)) (with_turned s l)
 exact-turn r s k l x idle =
@@ -144,6 +152,7 @@ exact-turn r s k l x idle =
           ∙ up_again (same_lock l j) (held (holding.Lock j) r) (x.up j);
     }
 
+-- a release of a holder
 exact-let_go : (r : List ResolvedEvent) (s : State) (k : ℕ) (i : Modifier) → Exact r s → Holds s k i
     → Exact (ReleasedKey k ∷ r) (with_holder s i None)
 exact-let_go r s k i x holds = record {
@@ -174,16 +183,19 @@ pressed-look ms h s k x f no_loads seen =
     (ap (λ m. look m (resolved ms h) k) (first_in_force ms h no_loads) ∙ follows-look ms.first (resolved ms h) s k f
     ∙ seen)
 
+-- a holder is a key after one more hold
 key_hold : (s : State) (i j : Modifier) (k n : ℕ) (t : Bool) → k < 128 → (Holds s n j → n < 128)
     → (if t then Some k else s.holder j) ≡ Some n → n < 128
 key_hold s i j k n true lt f h = subst (λ x. x < 128) (some_keys k n h) lt
 key_hold s i j k n false lt f h = f h
 
+-- a holder is a key after one lets go
 key_let_go : (s : State) (j : Modifier) (n : ℕ) (t : Bool) → (Holds s n j → n < 128)
     → (if t then None else s.holder j) ≡ Some n → n < 128
 key_let_go s j n true f h = absurd (some_none n None h refl)
 key_let_go s j n false f h = f h
 
+-- the events of a move lead from a state to the next
 stands-move : (ms : Maps) (h : List Event) (s : State) (move : Move) → IsMove ms.first s move → Stands ms h s
     → Stands ms (events_of move ++ h) (moved s move)
 stands-move ms h s (Hold k i) (lt, idle, seen, free) x = record {
@@ -234,6 +246,7 @@ stands-move ms h s (LetGo k i) holds x = record {
   no_loads = All-cons IsNoLoad (Release k) h refl x.no_loads;
 }
 
+-- no events lead to the start
 stands-start : (ms : Maps) → Stands ms [] start
 stands-start ms = record {
   exact = rw (resolved-start ms) (record {
@@ -259,10 +272,12 @@ pub record IsLeft (ms : Maps) (h : List Event) (i : Modifier) : Type 0 where
   pub keys : HasKeys h
   pub no_loads : HasNoLoads h
 
+-- an option that isn't the action fails the test
 is_not : (o : Option Action) (a : Action) → (o ≡ Some a → ⊥) → is_action o a ≡ false
 is_not None a f = refl
 is_not (Some b) a f = not_true (same_action b a) (λ e. f (ap (λ x. Some x) (same_action-true b a e)))
 
+-- a holder that looks up a character leaves its modifier on
 left-character : (ms : Maps) (h : List Event) (s : State) (i : Modifier) (k : ℕ) → Stands ms h s
     → Forgets ms.first s i k → IsLeft ms (Press k ∷ h) i
 left-character ms h s i k x (holds, (c, seen)) =
@@ -292,9 +307,11 @@ left-character ms h s i k x (holds, (c, seen)) =
       no_loads = All-cons IsNoLoad (Press k) h refl x.no_loads;
     }
 
+-- what is on and isn't lowered stays on
 kept_on : (x t : Bool) → x ≡ true → t ≡ false → (x && not t) ≡ true
 kept_on x t e f = rw (e, f) refl
 
+-- a release keeps a modifier on that is left so
 left-release : (ms : Maps) (h : List Event) (i : Modifier) (k : ℕ) → k < 128 → IsLeft ms h i
     → IsLeft ms (Release k ∷ h) i
 left-release ms h i k lt x =
@@ -319,15 +336,18 @@ left-release ms h i k lt x =
       no_loads = All-cons IsNoLoad (Release k) h refl x.no_loads;
     }
 
+-- the release of a holder, if there is one, keeps it so
 left_more : (ms : Maps) (h : List Event) (i : Modifier) (o : Option ℕ) → ((k : ℕ) → o ≡ Some k → k < 128)
     → IsLeft ms h i → IsLeft ms (release_of o ++ h) i
 left_more ms h i None f x = x
 left_more ms h i (Some k) f x = left-release ms h i k (f k refl) x
 
+-- the release of a holder, if there is one, stands behind the others
 apart : (o : Option ℕ) (g h : List Event) → (release_of o ++ g) ++ h ≡ release_of o ++ (g ++ h)
 apart None g h = refl
 apart (Some k) g h = refl
 
+-- the releases of all holders keep it so
 left-releases : (ms : Maps) (h : List Event) (s : State) (i : Modifier) (more : List Modifier)
     → ((j : Modifier) (k : ℕ) → Holds s k j → k < 128) → IsLeft ms h i → IsLeft ms (releases s more ++ h) i
 left-releases ms h s i [] key x = x
@@ -340,6 +360,7 @@ abbrev HoldsNone : State → ℕ → List Modifier → Type 0
 HoldsNone s k [] = Unit {0}
 HoldsNone s k (i ∷ more) = (Holds s k i → ⊥) × HoldsNone s k more
 
+-- a key that is pressed after the release of a holder isn't that holder
 released_more : (k : ℕ) (h : List Event) (o : Option ℕ) → pressed k (release_of o ++ h) ≡ true
     → (o ≡ Some k → ⊥) × (pressed k h ≡ true)
 released_more k h None p = ((λ e. some_none k None e refl), p)
@@ -352,6 +373,7 @@ released_more k h (Some j) p =
       )
     ]
 
+-- a key that is pressed after the releases of all holders is none of them
 released : (k : ℕ) (h : List Event) (s : State) (more : List Modifier) → pressed k (releases s more ++ h) ≡ true
     → HoldsNone s k more × (pressed k h ≡ true)
 released k h s [] p = (tt, p)
@@ -361,6 +383,7 @@ released k h s (i ∷ more) p =
     let rest : HoldsNone s k more × (pressed k h ≡ true) = released k h s more q.1 in
     ((q.0, rest.0), rest.1)
 
+-- a key that is no holder of any modifier holds none
 holds-none : (s : State) (k : ℕ) (i : Modifier) → HoldsNone s k modifiers → Holds s k i → ⊥
 holds-none s k LeftShift n = n.0
 holds-none s k RightShift n = n.1.0
@@ -371,6 +394,7 @@ holds-none s k RightAlt n = n.1.1.1.1.1.0
 holds-none s k AltShift n = n.1.1.1.1.1.1.0
 holds-none s k Meta n = n.1.1.1.1.1.1.1.0
 
+-- after the releases of all holders no key is pressed
 quiet-after : (ms : Maps) (h : List Event) (s : State) (i : Modifier) (k : ℕ) → Stands ms h s → Holds s k i
     → IsQuiet (releases s modifiers ++ (Press k ∷ h))
 quiet-after ms h s i k x holds n lt =
@@ -389,6 +413,7 @@ of_keys-release : (o : Option ℕ) (h : List Event) → All IsPressOrRelease h �
 of_keys-release None h x = x
 of_keys-release (Some k) h x = All-cons IsPressOrRelease (Release k) h tt x
 
+-- releases of holders are presses or releases
 of_keys-releases : (s : State) (more : List Modifier) (h : List Event) → All IsPressOrRelease h
     → All IsPressOrRelease (releases s more ++ h)
 of_keys-releases s [] h x = x
@@ -396,12 +421,14 @@ of_keys-releases s (i ∷ more) h x =
     rw (apart (s.holder i) (releases s more) h)
     (of_keys-release (s.holder i) (releases s more ++ h) (of_keys-releases s more h x))
 
+-- the events of a move are presses or releases
 of_keys-move : (move : Move) (h : List Event) → All IsPressOrRelease h → All IsPressOrRelease (events_of move ++ h)
 of_keys-move (Hold k i) h x = All-cons IsPressOrRelease (Press k) h tt x
 of_keys-move (Turn k l) h x =
     All-cons IsPressOrRelease (Release k) (Press k ∷ h) tt (All-cons IsPressOrRelease (Press k) h tt x)
 of_keys-move (LetGo k i) h x = All-cons IsPressOrRelease (Release k) h tt x
 
+-- the events along a path are presses or releases
 of_keys-along : (path : List Move) → All IsPressOrRelease (events_along path)
 of_keys-along [] = All-nil IsPressOrRelease
 of_keys-along (move ∷ path) = of_keys-move move (events_along path) (of_keys-along path)
@@ -411,25 +438,30 @@ presses-release : (o : Option ℕ) (h : List Event) → presses (release_of o ++
 presses-release None h = refl
 presses-release (Some k) h = refl
 
+-- releases of holders have no presses
 presses-releases : (s : State) (more : List Modifier) (h : List Event) → presses (releases s more ++ h) ≡ presses h
 presses-releases s [] h = refl
 presses-releases s (i ∷ more) h =
     ap presses (apart (s.holder i) (releases s more) h) ∙ presses-release (s.holder i) (releases s more ++ h)
     ∙ presses-releases s more h
 
+-- the events of a move have as many presses as the move
 presses-move : (move : Move) (h : List Event) → presses (events_of move ++ h) ≡ presses h + presses_of move
 presses-move (Hold k i) h = omega arith
 presses-move (Turn k l) h = omega arith
 presses-move (LetGo k i) h = omega arith
 
+-- the events along a path have as many presses as the path
 presses-along : (path : List Move) → presses (events_along path) ≡ presses_along path
 presses-along [] = refl
 presses-along (move ∷ path) = presses-move move (events_along path) ∙ ap (λ n. n + presses_of move) (presses-along path)
 
+-- a script has one press more than its path
 pub presses-script : (path : List Move) (k : ℕ) → presses (script path k) ≡ suc (presses_along path)
 presses-script path k =
     presses-releases (state_after path) modifiers (Press k ∷ events_along path) ∙ ap suc (presses-along path)
 
+-- the script to a state where a holder looks up a character leaves its modifier on
 left-after : (ms : Maps) (path : List Move) → IsPath ms.first path → (i : Modifier) (k : ℕ)
     → Forgets ms.first (state_after path) i k → IsLeft ms (script path k) i
 left-after ms path is i k forgets =
@@ -437,6 +469,7 @@ left-after ms path is i k forgets =
     left-releases ms (Press k ∷ events_along path) (state_after path) i modifiers x.key
     (left-character ms (events_along path) (state_after path) i k x forgets)
 
+-- a path to a state where a holder looks up a character makes a modifier stick
 pub sticks_if_reached : SticksIfReached
 sticks_if_reached m path is i k forgets =
     let ms : Maps = between m m in (
@@ -454,10 +487,12 @@ sticks_if_reached m path is i k forgets =
 abbrev Reached : MapValue → State → Type 0
 Reached m s = (path : List Move) × IsPath m path × (state_after path ≡ s)
 
+-- a move from a state that is reached reaches the next
 reached-more : (m : MapValue) (s : State) (move : Move) → Reached m s → IsMove m s move → Reached m (moved s move)
 reached-more m s move there is =
     (move ∷ there.0, (subst (λ x. IsMove m x move) (sym there.2) is, there.1), ap (λ x. moved x move) there.2)
 
+-- where no path leads to such a state, the states that are reached are safe
 reached-safe : (m : MapValue) → ((path : List Move) → IsPath m path → IsForgetful m (state_after path) → ⊥) → (n : ℕ)
     → IsSafeBelow m n (λ p s. Reached m s)
 reached-safe m never n = record {
@@ -469,5 +504,6 @@ reached-safe m never n = record {
   safe = λ p lt s there forgetful. never there.0 there.1 (subst (λ x. IsForgetful m x) (sym there.2) forgetful);
 }
 
+-- without such a path no modifier ever sticks
 pub never_sticks_unless_reached : NeverSticksUnlessReached
 never_sticks_unless_reached m never = never-sticks m (λ p s. Reached m s) (reached-safe m never)

@@ -59,30 +59,36 @@ none_entry x e = cc
 pub some_entries : (x y : Entry) → Some x ≡ Some y → x ≡ y
 some_entries x y e = cc
 
+-- an entry stays at its place when more are added
 at-append : (es more : Entries) (j : ℕ) (x : Entry) → slice_get es j ≡ Some x → slice_get (es ++ more) j ≡ Some x
 at-append [] more j x e = absurd (none_entry x e)
 at-append (y ∷ es) more zero x e = e
 at-append (y ∷ es) more (suc j) x e = at-append es more j x e
 
+-- an entry stays at its place when the entries grow
 at-now : (es now : Entries) (j : ℕ) (x : Entry) → Grows es now → slice_get es j ≡ Some x → slice_get now j ≡ Some x
 at-now es now j x g e = subst (λ y. slice_get y j ≡ Some x) (sym g.1) (at-append es g.0 j x e)
 
+-- an entry at an old place is an old one
 at_old : (es more : Entries) (j : ℕ) (x : Entry) → j < length es → slice_get (es ++ more) j ≡ Some x
     → slice_get es j ≡ Some x
 at_old [] more j x lt e = absurd (omega (arith, lt))
 at_old (y ∷ es) more zero x lt e = e
 at_old (y ∷ es) more (suc j) x lt e = at_old es more j x (omega (arith, lt)) e
 
+-- an entry at a new place is a new one
 at_new : (es more : Entries) (j : ℕ) (x : Entry) → length es ≤ j → slice_get (es ++ more) j ≡ Some x
     → (n : ℕ) × (slice_get more n ≡ Some x)
 at_new [] more j x le e = (j, e)
 at_new (y ∷ es) more zero x le e = absurd (omega (arith, le))
 at_new (y ∷ es) more (suc j) x le e = at_new es more j x (omega (arith, le)) e
 
+-- the last entry stands behind the others
 at_last : (es : Entries) (x : Entry) → slice_get (es ++ x ∷ []) (length es) ≡ Some x
 at_last [] x = refl
 at_last (y ∷ es) x = at_last es x
 
+-- what holds for all entries holds for that at a place
 all-at : (P : Entry → Type 0) (xs : Entries) (n : ℕ) (x : Entry) → All P xs → slice_get xs n ≡ Some x → P x
 all-at P xs n x all e = subst P (get_or_from_slice_get xs n x x e) (all n x (slice_get_within xs n x e))
 
@@ -99,13 +105,16 @@ from-cases m s place n p es now (more, e, all) j x at =
           inr (le, all-at (IsFrom m s place n p) more k.0 x all k.1)
     ]
 
+-- entries that are added make the list grow
 pub added-grows : (m : MapValue) (s : State) (place n p : ℕ) (es now : Entries) → AreAdded m s place n p es now
     → Grows es now
 added-grows m s place n p es now a = (a.0, a.1)
 
+-- nothing is added
 pub added-none : (m : MapValue) (s : State) (place n p : ℕ) (es : Entries) → AreAdded m s place n p es es
 added-none m s place n p es = ([], sym (append-nil es), All-nil (IsFrom m s place n p))
 
+-- what is added twice is added
 pub added-again : (m : MapValue) (s : State) (place n p : ℕ) (a b c : Entries) → AreAdded m s place n p a b
     → AreAdded m s place n p b c → AreAdded m s place n p a c
 added-again m s place n p a b c x y = (
@@ -114,6 +123,7 @@ added-again m s place n p a b c x y = (
   All-append (IsFrom m s place n p) x.0 y.0 x.2 y.2,
 )
 
+-- a list that grows gets no shorter
 pub added-longer : (es now : Entries) → Grows es now → length es ≤ length now
 added-longer es now g = subst (λ y. length es ≤ length y) (sym g.1) (longer es g.0)
   where
@@ -121,10 +131,12 @@ added-longer es now g = subst (λ y. length es ≤ length y) (sym g.1) (longer e
     longer [] ys = omega arith
     longer (x ∷ xs) ys = let l : length xs ≤ length (xs ++ ys) = longer xs ys in omega (arith, l)
 
+-- a list of one entry has it at place 0
 one_entry : (x : Entry) (j : ℕ) (y : Entry) → slice_get (x ∷ []) j ≡ Some y → (j ≡ 0) × (y ≡ x)
 one_entry x zero y e = (refl, sym (some_entries x y e))
 one_entry x (suc j) y e = absurd (none_entry y e)
 
+-- a list that grows twice grows
 pub grows-again : (a b c : Entries) → Grows a b → Grows b c → Grows a c
 grows-again a b c g h = (g.0 ++ h.0, h.1 ∙ ap (λ z. z ++ h.0) g.1 ∙ append_assoc a g.0 h.0)
 
@@ -132,13 +144,16 @@ grows-again a b c g h = (g.0 ++ h.0, h.1 ∙ ap (λ z. z ++ h.0) g.1 ∙ append_
 pub met-grows : (es now : Entries) (p : ℕ) (s : State) → Grows es now → IsMetBy es p s → IsMetBy now p s
 met-grows es now p s g (j, x, at, is, le) = (j, x, at-now es now j x g at, is, le)
 
+-- the state of the last entry is met
 pub met-last : (es : Entries) (p : ℕ) (x : Entry) → x.1.presses ≤ p → IsMetBy (es ++ x ∷ []) p (state_of x.0)
 met-last es p x le = (length es, x, at_last es x, refl, le)
 
+-- that letting go is met stays so when the entries grow
 pub let_go-grows : (es now : Entries) (p : ℕ) (s : State) (i : Modifier) → Grows es now → IsLetGoMet es p s i
     → IsLetGoMet now p s i
 let_go-grows es now p s i g met k h = met-grows es now p (with_holder s i None) g (met k h)
 
+-- that presses are met stays so when the entries grow
 pub presses-grow : (m : MapValue) (es now : Entries) (p : ℕ) (s : State) (k : ℕ) → Grows es now
     → ArePressesMet m es p s k → ArePressesMet m now p s k
 presses-grow m es now p s k g met idle = (
@@ -146,17 +161,21 @@ presses-grow m es now p s k g met idle = (
   (λ l other seen. met-grows es now p (with_turned s l) g ((met idle).1 l other seen)),
 )
 
+-- that an entry's releases are met stays so when the entries grow
 closed-grows : (m : MapValue) (es now : Entries) (x : Entry) → Grows es now → IsClosed m es x → IsClosed m now x
 closed-grows m es now x g (met, safe) = ((λ i. let_go-grows es now x.1.presses (state_of x.0) i g (met i)), safe)
 
+-- that an entry's presses are met stays so when the entries grow
 pressed-grows : (m : MapValue) (es now : Entries) (x : Entry) → Grows es now → IsPressed m es x → IsPressed m now x
 pressed-grows m es now x g met k lt = presses-grow m es now (x.1.presses + 1) (state_of x.0) k g (met k lt)
 
+-- a trail stays one when the entries grow
 trail-grows : (es now : Entries) (j : ℕ) (path : List Move) → Grows es now → IsTrail es j path → IsTrail now j path
 trail-grows es now j [] g (x, at, none) = (x, at-now es now j x g at, none)
 trail-grows es now j (move ∷ path) g (x, parent, at, last, lt, rest) =
     (x, parent, at-now es now j x g at, last, lt, trail-grows es now parent path g rest)
 
+-- that a trail leads to an entry stays so when the entries grow
 reached-grows : (m : MapValue) (es now : Entries) (j : ℕ) (x : Entry) → Grows es now → IsReached m es j x
     → IsReached m now j x
 reached-grows m es now j x g (path, trail, is, leads, count) =
@@ -175,6 +194,7 @@ reached-next m es now place n p y g (path, trail, is, leads, count) e j x at lt 
   ap (λ q. q + presses_of by) count ∙ ap (λ q. y.1.presses + q) by_n ∙ sym e ∙ sym by_p,
 )
 
+-- what was searched stays so when the entries grow
 pub searched-grows : (m : MapValue) (es now : Entries) (place n p a b : ℕ) (y : Entry) → slice_get es place ≡ Some y
     → p ≡ y.1.presses + n
     → AreAdded m (state_of y.0) place n p es now → a ≤ length es → b ≤ length es → Searched m es a b
@@ -216,9 +236,11 @@ searched-fewer m es a b c d le_c le_d s = record {
 place_last : (j n : ℕ) → j < n + 1 → (j < n) ⊎ (j ≡ n)
 place_last j n lt = elim (cases_lt j n) [ inl below ↦ inl below | inr le ↦ inr (omega (arith, lt, le)) ]
 
+-- entries at the same place are the same
 same_entry : (es : Entries) (j n : ℕ) (x y : Entry) → j ≡ n → slice_get es j ≡ Some x → slice_get es n ≡ Some y → y ≡ x
 same_entry es j n x y e at here = some_entries y x (sym here ∙ ap (λ k. slice_get es k) (sym e) ∙ at)
 
+-- one more entry whose releases are met
 pub searched-closed : (m : MapValue) (es : Entries) (a n : ℕ) (y : Entry) → slice_get es n ≡ Some y → IsClosed m es y
     → Searched m es a n → Searched m es a (n + 1)
 searched-closed m es a n y here closed s = record {
@@ -231,6 +253,7 @@ searched-closed m es a n y here closed s = record {
   ];
 }
 
+-- one more entry whose presses are met
 pub searched-pressed : (m : MapValue) (es : Entries) (n b : ℕ) (y : Entry) → slice_get es n ≡ Some y → IsPressed m es y
     → Searched m es n b → Searched m es (n + 1) b
 searched-pressed m es n b y here pressed s = record {
@@ -252,6 +275,7 @@ order-grows m s place n p level es now added le order j x at =
       | inr (after, from) ↦ ((λ lt. absurd (omega (arith, lt, le, after))), (λ le_j. from.1))
     ]
 
+-- entries in order are within the number of presses
 pub order-within : (es : Entries) (level p : ℕ) → AreInOrder es level p → AreWithin es p
 order-within es level p order j x at =
     elim (cases_lt j level) [
@@ -259,6 +283,7 @@ order-within es level p order j x at =
       | inr le ↦ let e : x.1.presses ≡ p = (order j x at).1 le in omega (arith, e)
     ]
 
+-- entries in order begin the next level
 pub order-next : (es : Entries) (level p : ℕ) → AreInOrder es level p → AreInOrder es (length es) (p + 1)
 order-next es level p order j x at =
     let lt : j < length es = slice_get_within es j x at in (
@@ -266,6 +291,7 @@ order-next es level p order j x at =
       (λ le. absurd (omega (arith, lt, le))),
     )
 
+-- entries that are added are within the number of presses
 pub within-grows : (m : MapValue) (s : State) (place n p : ℕ) (es now : Entries) → AreAdded m s place n p es now
     → AreWithin es p → AreWithin now p
 within-grows m s place n p es now added within j x at =
@@ -462,6 +488,7 @@ releases-append s (i ∷ xs) ys =
     ap (λ z. release_of (s.holder i) ++ z) (releases-append s xs ys)
     ∙ sym (append_assoc (release_of (s.holder i)) (releases s xs) (releases s ys))
 
+-- the releases of the holders so far, with one more
 pub releases-more : (s : State) (n : ℕ) (d : Modifier) → n < 8
     → releases s (take (n + 1) modifiers)
     ≡ releases s (take n modifiers) ++ release_of (s.holder (get_or modifiers n d))
@@ -470,6 +497,7 @@ releases-more s n d lt =
     ∙ releases-append s (take n modifiers) (get_or modifiers n d ∷ [])
     ∙ ap (λ z. releases s (take n modifiers) ++ z) (append-nil (release_of (s.holder (get_or modifiers n d))))
 
+-- an entry's parent is one of the entries
 pub within-last : (es : Entries) (j : ℕ) (x : Entry) → GoBack es → slice_get es j ≡ Some x
     → IfSome x.1.last (λ last. last.0 < length es)
 within-last es j x back at = by x.1.last refl
@@ -486,6 +514,7 @@ abbrev pub places_left : Option (ℕ × Move) → ℕ
 places_left None = 0
 places_left (Some last) = last.0 + 1
 
+-- the way back from an entry gets shorter
 pub left-smaller : (es : Entries) (parent : ℕ) (move : Move) (y : Entry) (last : Option (ℕ × Move)) → GoBack es
     → slice_get es parent ≡ Some y → last ≡ Some (parent, move)
     → places_left y.1.last < places_left last
@@ -496,6 +525,7 @@ left-smaller es parent move y last back at e =
     fewer None q = omega arith
     fewer (Some (p, by)) q = let lt : p < parent = back parent y p by at q in omega (arith, lt)
 
+-- a place has one entry
 pub same-place : (es : Entries) (j : ℕ) (x y : Entry) → slice_get es j ≡ Some x → slice_get es j ≡ Some y → x ≡ y
 same-place es j x y at here = some_entries x y (sym at ∙ here)
 
@@ -504,6 +534,7 @@ pub start-entries : (E : Held → Held → Bool) (es now : Entries) (x : Entry) 
     → now ≡ x ∷ []
 start-entries E es now x none e = e ∙ ap (λ z. insert_entry E z x.0 x.1) none
 
+-- a search begins with the start
 pub searched-start : (m : MapValue) (h : Held) → state_of h ≡ start → (es : Entries)
     → es ≡ (h, record { presses = 0; last = None }) ∷ []
     → Searched m es 0 0 × AreInOrder es 0 0
@@ -530,24 +561,29 @@ but_scroll on Num = on Num
 but_scroll on Scroll = false
 but_scroll on Alt = on Alt
 
+-- the state without the scroll lock, which no look asks for
 abbrev unscrolled : State → State
 unscrolled s = record { holder = s.holder; is_locked = but_scroll s.is_locked }
 
+-- a look doesn't depend on the scroll lock
 look-unscrolled : (m : MapValue) (s : State) (k : ℕ) → look_in m s k ≡ look_in m (unscrolled s) k
 look-unscrolled m s k = refl
 
+-- moves don't depend on the scroll lock
 moves-unscrolled : (m : MapValue) (s t : State) (move : Move) → unscrolled t ≡ unscrolled s → IsMove m s move
     → IsMove m t move
 moves-unscrolled m s t (Hold k i) e is = subst (λ x. IsMove m x (Hold k i)) (sym e) is
 moves-unscrolled m s t (Turn k l) e is = subst (λ x. IsMove m x (Turn k l)) (sym e) is
 moves-unscrolled m s t (LetGo k i) e is = subst (λ x. IsMove m x (LetGo k i)) (sym e) is
 
+-- to drop the scroll lock twice is to drop it
 but_twice : (on : Lock → Bool) (j : Lock) → but_scroll on j ≡ but_scroll (but_scroll on) j
 but_twice on Caps = refl
 but_twice on Num = refl
 but_twice on Scroll = refl
 but_twice on Alt = refl
 
+-- a lock turns alike without the scroll lock
 turned_twice : (on : Lock → Bool) (l j : Lock)
     → but_scroll (λ n. if same_lock l n then not (on n) else on n) j
     ≡ but_scroll (λ n. if same_lock l n then not (but_scroll on n) else but_scroll on n) j
@@ -556,6 +592,7 @@ turned_twice on l Num = refl
 turned_twice on l Scroll = refl
 turned_twice on l Alt = refl
 
+-- a move leads on alike without the scroll lock
 moved-unscrolled : (s : State) (move : Move) → unscrolled (moved s move) ≡ unscrolled (moved (unscrolled s) move)
 moved-unscrolled s (Hold k i) =
     ap (λ x. record { holder = (with_holder s i (Some k)).holder; is_locked = x })
@@ -565,6 +602,7 @@ moved-unscrolled s (Turn k l) =
 moved-unscrolled s (LetGo k i) =
     ap (λ x. record { holder = (with_holder s i None).holder; is_locked = x }) (fun_ext (λ j. but_twice s.is_locked j))
 
+-- states that differ in the scroll lock alone lead on alike
 same_moved : (s t : State) (move : Move) → unscrolled t ≡ unscrolled s
     → unscrolled (moved t move) ≡ unscrolled (moved s move)
 same_moved s t move e = moved-unscrolled t move ∙ ap (λ x. unscrolled (moved x move)) e ∙ sym (moved-unscrolled s move)
@@ -577,6 +615,7 @@ scroll_turned on Num = refl
 scroll_turned on Scroll = refl
 scroll_turned on Alt = refl
 
+-- the scroll lock changes nothing else
 scroll-moved : (s : State) (k : ℕ) → unscrolled s ≡ unscrolled (moved s (Turn k Scroll))
 scroll-moved s k = ap (λ x. record { holder = s.holder; is_locked = x }) (fun_ext (λ j. scroll_turned s.is_locked j))
 
@@ -584,9 +623,11 @@ scroll-moved s k = ap (λ x. record { holder = s.holder; is_locked = x }) (fun_e
 abbrev IsAmong : Entries → ℕ → State → Type 0
 IsAmong es p s = (t : State) × IsMetBy es p t × (unscrolled t ≡ unscrolled s)
 
+-- what is met by a number of presses is by one more
 met-more : (es : Entries) (p : ℕ) (s : State) → IsMetBy es p s → IsMetBy es (suc p) s
 met-more es p s (j, x, at, is, le) = (j, x, at, is, omega (arith, le))
 
+-- what is met by a number of presses is by each larger one
 met-up : (es : Entries) (p q : ℕ) (s : State) → p ≤ q → IsMetBy es p s → IsMetBy es q s
 met-up es p q s up (j, x, at, is, le) = (j, x, at, is, omega (arith, le, up))
 
@@ -596,6 +637,7 @@ record AreDone (m : MapValue) (es : Entries) (n : ℕ) : Type 0 where
   pressed : (j : ℕ) (x : Entry) → slice_get es j ≡ Some x → x.1.presses < n → IsPressed m es x
   closed : (j : ℕ) (x : Entry) → slice_get es j ≡ Some x → x.1.presses < n → IsClosed m es x
 
+-- a finished search met each state that a release leads to
 done-let_go : (m : MapValue) (es : Entries) (n p : ℕ) → AreDone m es n → p < n → (t : State) (k : ℕ) (i : Modifier)
     → IsMetBy es p t → Holds t k i → IsMetBy es p (with_holder t i None)
 done-let_go m es n p d lt t k i (j, x, at, is, le) h =
@@ -604,6 +646,7 @@ done-let_go m es n p d lt t k i (j, x, at, is, le) h =
     (met-up es x.1.presses p (with_holder (state_of x.0) i None) le
     (closed.0 i k (subst (λ s. Holds s k i) (sym is) h)))
 
+-- a finished search met each state that a hold leads to
 done-hold : (m : MapValue) (es : Entries) (n p : ℕ) → AreDone m es n → p < n → (t : State) (k : ℕ) (i : Modifier)
     → IsMetBy es p t → IsMove m t (Hold k i) → IsMetBy es (suc p) (with_holder t i (Some k))
 done-hold m es n p d lt t k i (j, x, at, is, le) move =
@@ -613,6 +656,7 @@ done-hold m es n p d lt t k i (j, x, at, is, le) move =
     subst (λ s. IsMetBy es (suc p) (with_holder s i (Some k))) is
     (met-up es (x.1.presses + 1) (suc p) (with_holder (state_of x.0) i (Some k)) (omega (arith, le)) met)
 
+-- a finished search met each state that a turned lock leads to
 done-turn : (m : MapValue) (es : Entries) (n p : ℕ) → AreDone m es n → p < n → (t : State) (k : ℕ) (l : Lock)
     → l ≢ Scroll → IsMetBy es p t → IsMove m t (Turn k l) → IsMetBy es (suc p) (with_turned t l)
 done-turn m es n p d lt t k l other (j, x, at, is, le) move =
@@ -622,11 +666,13 @@ done-turn m es n p d lt t k l other (j, x, at, is, le) move =
     subst (λ s. IsMetBy es (suc p) (with_turned s l)) is
     (met-up es (x.1.presses + 1) (suc p) (with_turned (state_of x.0) l) (omega (arith, le)) met)
 
+-- a finished search met no state where a holder looks up a character
 done-safe : (m : MapValue) (es : Entries) (n p : ℕ) → AreDone m es n → p < n → (t : State) → IsMetBy es p t
     → IsForgetful m t → ⊥
 done-safe m es n p d lt t (j, x, at, is, le) forgetful =
     (d.closed j x at (omega (arith, le, lt))).1 (subst (λ s. IsForgetful m s) (sym is) forgetful)
 
+-- the same for each lock, but for the scroll lock
 among-turn : (m : MapValue) (es : Entries) (n p : ℕ) → AreDone m es n → p < n → (s : State) (k : ℕ) (l : Lock)
     → IsAmong es p s → IsMove m s (Turn k l) → IsAmong es (suc p) (with_turned s l)
 among-turn m es n p d lt s k Scroll (t, there, e) is = (t, met-more es p t there, e ∙ scroll-moved s k)
@@ -646,6 +692,7 @@ among-turn m es n p d lt s k Alt (t, there, e) is = (
   same_moved s t (Turn k Alt) e,
 )
 
+-- after a finished search the states met are safe
 done-safe_below : (m : MapValue) (es : Entries) (n : ℕ) → AreDone m es n → IsSafeBelow m n (IsAmong es)
 done-safe_below m es n d = record {
   start = (start, d.start, refl);

@@ -21,17 +21,20 @@ none_after : (o : Option Action) → first_of_two o None ≡ o
 none_after None = refl
 none_after (Some a) = refl
 
+-- a looked-up character, by the test of its key
 press_char : (t : Bool) (o : Option Action)
     → (if t && true then None else first_of_two o (if t then None else None)) ≡ (if t then None else o)
 press_char true o = refl
 press_char false o = none_after o
 
+-- a looked-up action, by the test of its key
 press_act : (t : Bool) (o : Option Action) (b : Action)
     → (if t && false then None else first_of_two o (if t then unless_nop b else None))
     ≡ first_of_two o (if t then unless_nop b else None)
 press_act true o b = refl
 press_act false o b = refl
 
+-- the step of the next lemma at a press, by the cell looked up
 remembered_press : (ms : Maps) (k j : ℕ) (h : List Event) (y : Cell) (o : Option Action)
     → o ≡ remembered k (resolved ms h)
     → (if (j == k) && is_character y then None else first_of_two o (if j == k then offered y else None))
@@ -41,6 +44,7 @@ remembered_press ms k j h (Char c) o r =
 remembered_press ms k j h (Act b) o r =
     rw r (press_act (j == k) (remembered k (resolved ms h)) b ∙ sym (remembered-action k j b (resolved ms h)))
 
+-- what is remembered, by the events that offer and forget it
 pub remembered-events : (ms : Maps) (k : ℕ) (h : List Event)
     → first_since_at (Forgets ms k) (Offers ms k) h ≡ Remembered ms k h
 remembered-events ms k [] = sym (ap (λ r. remembered k r) (resolved-start ms) ∙ remembered-start k)
@@ -66,6 +70,7 @@ module _ {A B : Type 0} (ends : A → List A → Bool) (pick : A → List A → 
   more_since x recent [] e s = (e, s)
   more_since x recent (y ∷ old) e s = ((e, s.0), s.1)
 
+  -- the step of the next lemma, by whether the event ends
   nothing_by : (x : A) (h : List A) (t : Bool) (o p : Option B) → ends x h ≡ t → first_since_at ends pick h ≡ o
       → pick x h ≡ p → (first_since_at ends pick h ≡ None → NothingSince ends pick h)
       → (if t then None else first_of_two o p) ≡ None → NothingSince ends pick (x ∷ h)
@@ -81,11 +86,13 @@ module _ {A B : Type 0} (ends : A → List A → Bool) (pick : A → List A → 
         (ap (λ t. is_some (pick x t)) (sym s.2) ∙ ap (λ o. is_some o) g, s.4),
       )
 
+  -- where nothing is found since the last end, nothing was offered since
   pub nothing-since : (h : List A) → first_since_at ends pick h ≡ None → NothingSince ends pick h
   nothing-since [] is = ([], [], refl, tt, tt)
   nothing-since (x ∷ h) is =
       nothing_by x h (ends x h) (first_since_at ends pick h) (pick x h) refl refl refl (nothing-since h) is
 
+  -- the step of the next lemma, by whether the event ends
   first_by : (x : A) (h : List A) (b : B) (t : Bool) (o p : Option B) → ends x h ≡ t → first_since_at ends pick h ≡ o
       → pick x h ≡ p → ((c : B) → first_since_at ends pick h ≡ Some c → FirstSince ends pick h c)
       → (if t then None else first_of_two o p) ≡ Some b → FirstSince ends pick (x ∷ h) b
@@ -113,6 +120,7 @@ module _ {A B : Type 0} (ends : A → List A → Bool) (pick : A → List A → 
         s.4,
       )
 
+  -- what is found since the last end is the first that was offered
   pub first-since : (h : List A) (b : B) → first_since_at ends pick h ≡ Some b → FirstSince ends pick h b
   first-since [] b is = absurd (none_some b is)
   first-since (x ∷ h) b is =
@@ -123,6 +131,7 @@ module _ {A B : Type 0} (ends : A → List A → Bool) (pick : A → List A → 
   none_of recent [] s = s
   none_of recent (x ∷ old) s = s.0
 
+  -- nothing is found before the last end
   old_none : (recent old : List A) → IsSinceLast ends recent old → first_since_at ends pick old ≡ None
   old_none recent [] s = refl
   old_none recent (x ∷ old) s = rw s.1 refl
@@ -131,12 +140,14 @@ module _ {A B : Type 0} (ends : A → List A → Bool) (pick : A → List A → 
   none_if None e = refl
   none_if (Some b) e = absurd (true≢false e)
 
+  -- what offers nothing and doesn't end keeps that nothing is found
   since_nothing : (recent old : List A) → first_since_at ends pick old ≡ None → NoneOf ends recent old
       → NoneOf (λ y before. is_some (pick y before)) recent old → first_since_at ends pick (recent ++ old) ≡ None
   since_nothing [] old e none picked = e
   since_nothing (x ∷ recent) old e none picked =
       rw (none.0, since_nothing recent old e none.1 picked.1, none_if (pick x (recent ++ old)) picked.0) refl
 
+  -- what doesn't end keeps what was found
   since_kept : (later tail : List A) (b : B) → first_since_at ends pick tail ≡ Some b → NoneOf ends later tail
       → first_since_at ends pick (later ++ tail) ≡ Some b
   since_kept [] tail b e none = e
@@ -150,10 +161,12 @@ module _ {A B : Type 0} (ends : A → List A → Bool) (pick : A → List A → 
       let s : NoneOf ends later (rest ++ old) × NoneOf ends rest old = none_later later rest old none.1 in
       ((ap (λ t. ends x t) (sym (append_assoc later rest old)) ∙ none.0, s.0), s.1)
 
+  -- where nothing was offered since the last end, nothing is found
   pub since-nothing : (h : List A) → NothingSince ends pick h → first_since_at ends pick h ≡ None
   since-nothing h s =
       ap (λ t. first_since_at ends pick t) s.2 ∙ since_nothing s.0 s.1 (old_none s.0 s.1 s.3) (none_of s.0 s.1 s.3) s.4
 
+  -- what was first offered since the last end is found
   pub since-first : (h : List A) (b : B) → FirstSince ends pick h b → first_since_at ends pick h ≡ Some b
   since-first h b s =
       let none : NoneOf ends s.0 ((s.1 ∷ s.2) ++ s.3) × NoneOf ends (s.1 ∷ s.2) s.3 =
@@ -164,12 +177,14 @@ module _ {A B : Type 0} (ends : A → List A → Bool) (pick : A → List A → 
       ap (λ t. first_since_at ends pick t) (s.4 ∙ append_assoc s.0 (s.1 ∷ s.2) s.3)
       ∙ since_kept s.0 (s.1 ∷ (s.2 ++ s.3)) b here none.0
 
+-- what is remembered is the first action offered since the last event that forgets
 pub remembered-positions : RememberedByPositions
 remembered-positions ms k h a = (
   (λ e. first-since (Forgets ms k) (Offers ms k) h a (remembered-events ms k h ∙ e)),
   (λ s. sym (remembered-events ms k h) ∙ since-first (Forgets ms k) (Offers ms k) h a s),
 )
 
+-- nothing is remembered exactly if nothing was offered since the last event that forgets
 pub nothing_remembered-positions : NothingRememberedByPositions
 nothing_remembered-positions ms k h = (
   (λ e. nothing-since (Forgets ms k) (Offers ms k) h (remembered-events ms k h ∙ e)),

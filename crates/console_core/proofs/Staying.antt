@@ -49,6 +49,7 @@ pub record Follows (r : List ResolvedEvent) (s : State) : Type 0 where
   pub locked : (l : Lock) → locked l r ≡ s.is_locked l
   pub holds : (i : Modifier) (k : ℕ) → Holds s k i → remembered k r ≡ Some (act.Mod i)
 
+-- a look of the events is one in the state that they follow
 pub follows-look : (m : MapValue) (r : List ResolvedEvent) (s : State) (k : ℕ) → Follows r s
     → look m r k ≡ look_in m s k
 unfolding look
@@ -82,11 +83,13 @@ not_holding : (a : Action) (h : Holding) → eqb (action_kind a) 1 ≡ false →
 not_holding a (holding.Mod i) e f = rw e refl
 not_holding a (holding.Lock l) e f = rw f refl
 
+-- whether an action is a modifier, a lock or neither
 abbrev Kind : Action → Type 0
 Kind a =
     ((i : Modifier) × (a ≡ act.Mod i))
     ⊎ (((l : Lock) × (a ≡ act.Lock l)) ⊎ ((h : Holding) → same_action a (holding_action h) ≡ false))
 
+-- each action is a modifier, a lock or neither
 kind_of : (a : Action) → Kind a
 kind_of (act.Mod i) = inl (i, refl)
 kind_of (act.Lock l) = inr (inl (l, refl))
@@ -132,6 +135,7 @@ holder-takes : (r : List ResolvedEvent) (s : State) (k : ℕ) (b : Action) (a : 
 holder-takes r s k b a i f h e =
     sym (remembered-action k k b r ∙ first_kept (remembered k r) _ (act.Mod i) (f.holds i k h)) ∙ takes r k b a e
 
+-- a modifier is on exactly if it has a holder, after one more hold
 on_held : (t x : Bool) (k : ℕ) (o : Option ℕ) → x ≡ is_some o → (t || x) ≡ is_some (if t then Some k else o)
 on_held true x k o e = refl
 on_held false x k o e = e
@@ -161,6 +165,7 @@ follows-hold r s k b i f e = record {
   ];
 }
 
+-- a modifier that has a holder already stays on
 still_on : (i j : Modifier) (t : Bool) (x : Bool) (s : State) (n : ℕ) → same_modifier i j ≡ t → Holds s n i
     → x ≡ is_held s j → (t || x) ≡ is_held s j
 still_on i j true x s n t h e = sym (ap (λ y. is_held s y) (sym (same_mods i j t)) ∙ ap (λ o. is_some o) h)
@@ -182,11 +187,13 @@ follows-again r s k b i n f e h = record {
   holds = λ j p q. remembered-action p k b r ∙ first_kept (remembered p r) _ (act.Mod j) (f.holds j p q);
 }
 
+-- a lock turns where it isn't down
 turned_once : (t d x y : Bool) → d ≡ false → x ≡ y → (if t && not d then not x else x) ≡ (if t then not y else y)
 turned_once true true x y d e = absurd (true≢false d)
 turned_once true false x y d e = ap not e
 turned_once false d x y z e = e
 
+-- a lock doesn't turn where it is down
 turned_never : (t d x y : Bool) → (t ≡ true → d ≡ true) → x ≡ y → (if t && not d then not x else x) ≡ y
 turned_never true true x y f e = e
 turned_never true false x y f e = absurd (true≢false (sym (f refl)))
@@ -197,12 +204,14 @@ is_down : (l j : Lock) (r : List ResolvedEvent) (d : Bool) → held (holding.Loc
     → held (holding.Lock j) r ≡ d
 is_down l j r d e t = ap (λ x. held (holding.Lock x) r) (sym (same_locks l j t)) ∙ e
 
+-- the step of the next lemma, by whether the locks are the same
 turned_by : (l j : Lock) (r : List ResolvedEvent) (y : Bool) (t : Bool) → same_lock l j ≡ t
     → held (holding.Lock l) r ≡ false → locked j r ≡ y
     → (if t && not (held (holding.Lock j) r) then not (locked j r) else locked j r) ≡ (if t then not y else y)
 turned_by l j r y true t d e = turned_once true (held (holding.Lock j) r) (locked j r) y (is_down l j r false d t) e
 turned_by l j r y false t d e = e
 
+-- a press that turns a lock leads to the state with the lock turned
 pub follows-turn : (r : List ResolvedEvent) (s : State) (k : ℕ) (b : Action) (l : Lock) → Follows r s
     → taken_over (remembered k r) b ≡ act.Lock l → held (holding.Lock l) r ≡ false
     → Follows (PressedAction k b ∷ r) (with_turned s l)
@@ -306,6 +315,7 @@ same_holders : (s : State) (i : Modifier) → s.holder i ≡ None → (j : Modif
 same_holders s i e j true t = ap (λ x. s.holder x) (sym (same_mods i j t)) ∙ e
 same_holders s i e j false t = refl
 
+-- a modifier is let go, whether it has a holder or not
 without : (S : State → Type 0) → KeepsLetGo S → (s : State) (i : Modifier) (o : Option ℕ) → s.holder i ≡ o → S s
     → S (with_holder s i None)
 without S keeps s i None e there =
@@ -314,6 +324,7 @@ without S keeps s i None e there =
     subst (λ x. S (record { holder = x; is_locked = s.is_locked })) p there
 without S keeps s i (Some k) e there = keeps s k i there e
 
+-- a press that takes a modifier leads from a set to the next
 stays-mod : (m : MapValue) (S T : State → Type 0) → LeadsOn m S T → (r : List ResolvedEvent) (s : State) → S s
     → Follows r s → (k : ℕ) → k < 128 → (b : Action) → look_in m s k ≡ Act b → (i : Modifier)
     → taken_over (remembered k r) b ≡ act.Mod i → b ≡ act.Mod i → (o : Option ℕ) → s.holder i ≡ o
@@ -332,6 +343,7 @@ stays-mod m S T leads r s there f k lt b seen i e is None free = (
 stays-mod m S T leads r s there f k lt b seen i e is (Some n) free =
     (s, leads.stay s there, follows-again r s k b i n f e free)
 
+-- a press that takes a lock leads from a set to the next
 stays-lock : (m : MapValue) (S T : State → Type 0) → LeadsOn m S T → (r : List ResolvedEvent) (s : State) → S s
     → Follows r s → (k : ℕ) → k < 128 → (b : Action) → look_in m s k ≡ Act b → (l : Lock)
     → taken_over (remembered k r) b ≡ act.Lock l → b ≡ act.Lock l → (d : Bool) → held (holding.Lock l) r ≡ d
@@ -351,6 +363,7 @@ looked_up r k b a e =
     (taken-holding (remembered k r) b a
     (ap (λ x. same_action x (holding_action a)) e ∙ same_action-refl (holding_action a))).0
 
+-- a press leads from a set to the next
 stays-press : (m : MapValue) (S T : State → Type 0) → LeadsOn m S T → (r : List ResolvedEvent) (s : State) → S s
     → Follows r s → (k : ℕ) → k < 128 → (x : Cell) → look_in m s k ≡ x → Stays T (resolve_press k x ∷ r)
 stays-press m S T leads r s there f k lt (Char c) seen =
@@ -366,6 +379,7 @@ stays-press m S T leads r s there f k lt (Act b) seen =
       | inr (inr none) ↦ (s, leads.stay s there, follows-nothing r s k b f none)
     ]
 
+-- a release stays in a set that letting go keeps
 stays-release : (S : State → Type 0) → KeepsLetGo S → (r : List ResolvedEvent) (s : State) → S s → Follows r s
     → (k : ℕ) (o : Option Action) → remembered k r ≡ o → Stays S (ReleasedKey k ∷ r)
 stays-release S keeps r s there f k None e =
@@ -396,6 +410,7 @@ emptied s =
     AltShift None)
     Meta None
 
+-- an emptied state has no holders
 emptied-none : (s : State) (i : Modifier) → (emptied s).holder i ≡ None
 emptied-none s LeftShift = refl
 emptied-none s RightShift = refl
@@ -406,6 +421,7 @@ emptied-none s RightAlt = refl
 emptied-none s AltShift = refl
 emptied-none s Meta = refl
 
+-- a set that letting go keeps has the emptied state
 emptied-kept : (S : State → Type 0) → KeepsLetGo S → (s : State) → S s → S (emptied s)
 emptied-kept S keeps s there =
     let any : (t : State) (i : Modifier) → S t → S (with_holder t i None) =
@@ -415,6 +431,7 @@ emptied-kept S keeps s there =
     (any _ RightAlt
     (any _ LeftAlt (any _ RightControl (any _ LeftControl (any _ RightShift (any s LeftShift there)))))))
 
+-- a reset stays in a set that letting go keeps
 stays-reset : (S : State → Type 0) → KeepsLetGo S → (r : List ResolvedEvent) (s : State) → S s → Follows r s
     → Stays S (WasReset ∷ r)
 stays-reset S keeps r s there f = (
@@ -427,6 +444,7 @@ stays-reset S keeps r s there f = (
   },
 )
 
+-- no events lead to the start
 pub follows-start : Follows [] start
 follows-start = record {
   on = λ i. held-start (holding.Mod i);
@@ -450,9 +468,11 @@ pub record IsSafeBelow (m : MapValue) (n : ℕ) (S : ℕ → State → Type 0) :
 abbrev Below : ℕ → (ℕ → State → Type 0) → ℕ → State → Type 0
 Below n S p s = p < n → S p s
 
+-- letting go stays in the sets below n
 below-lets_go : (m : MapValue) (n : ℕ) (S : ℕ → State → Type 0) → IsSafeBelow m n S → (p : ℕ) → KeepsLetGo (Below n S p)
 below-lets_go m n S safe p s k i there h lt = safe.let_go p lt s k i (there lt) h
 
+-- below n a press leads from a set to the next
 below-leads_on : (m : MapValue) (n : ℕ) (S : ℕ → State → Type 0) → IsSafeBelow m n S → (p : ℕ) → p < n
     → LeadsOn m (S p) (Below n S (suc p))
 below-leads_on m n S safe p lt = record {
@@ -462,6 +482,7 @@ below-leads_on m n S safe p lt = record {
   safe = λ s there forgetful. safe.safe p lt s there forgetful;
 }
 
+-- an event stays in the set of the presses so far
 stays-event : (m other : MapValue) (n : ℕ) (S : ℕ → State → Type 0) → IsSafeBelow m n S
     → (r : List ResolvedEvent) (e : Event) (h : List Event) → HasKey e → IsNoLoad e → presses (e ∷ h) ≤ n
     → Stays (Below n S (presses h)) r → Stays (Below n S (presses (e ∷ h))) (resolve m other r e ∷ r)
@@ -475,6 +496,7 @@ stays-event m other n S safe r Reset h key no_load le (s, there, f) =
     stays-reset (Below n S (presses h)) (below-lets_go m n S safe (presses h)) r s there f
 stays-event m other n S safe r Load h key no_load le (s, there, f) = absurd (true≢false no_load)
 
+-- one event fewer has no more presses
 fewer : (e : Event) (h : List Event) (n : ℕ) → presses (e ∷ h) ≤ n → presses h ≤ n
 fewer (Press k) h n le = omega (arith, le)
 fewer (Release k) h n le = le
@@ -509,6 +531,7 @@ follows-on ms h s f keys no_loads i e =
       remembered-pressed ms h k.0 (act.Mod i) r,
     )
 
+-- where modifiers are on only while their keys are pressed, none is on once all are released
 follows-off : (ms : Maps) (h : List Event) → IsOnOnlyWhilePressed ms.first h (λ i. On ms i h)
     → IsOffOnceQuiet h (λ i. On ms i h)
 follows-off ms h on quiet i =
@@ -516,6 +539,7 @@ follows-off ms h on quiet i =
     let s : (k : ℕ) × (k < 128) × Bears ms.first k (holding.Mod i) × (pressed k h ≡ true) = on i e in
     true≢false (sym s.3 ∙ quiet s.0 s.1))
 
+-- below n presses a modifier is on only while a key that bears it is pressed
 within-on : (ms : Maps) (n : ℕ) (S : ℕ → State → Type 0) → IsSafeBelow ms.first n S → (h : List Event) → HasKeys h
     → HasNoLoads h → presses h ≤ n → IsOnOnlyWhilePressed ms.first h (λ i. On ms i h)
 within-on ms n S safe h keys no_loads le =

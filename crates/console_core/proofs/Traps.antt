@@ -42,6 +42,7 @@ bits_of r =
       alt = on LeftAlt r || on RightAlt r;
     }
 
+-- without caps and num no flag flips
 no_flip : (f : LockFlag) → flips f false false ≡ false
 no_flip flag.O = refl
 no_flip flag.C = refl
@@ -52,6 +53,7 @@ xor-false : (b : Bool) → xor b false ≡ b
 xor-false true = refl
 xor-false false = refl
 
+-- without locks a look follows from the modifiers alone
 pub look-bits : (m : MapValue) (r : List ResolvedEvent) (k : ℕ) → locked lock.Caps r ≡ false → locked lock.Num r ≡ false
     → locked lock.Alt r ≡ false → look m r k ≡ cell_with m k (bits_of r)
 unfolding look
@@ -70,6 +72,7 @@ or-true : (x : Bool) → (x || true) ≡ true
 or-true true = refl
 or-true false = refl
 
+-- a modifier that is on sets the bit of its group
 on-bit : (r : List ResolvedEvent) (i : Modifier) → on i r ≡ true → group_bit i (bits_of r) ≡ true
 on-bit r LeftShift e = ap (λ t. t || on RightShift r) e
 on-bit r RightShift e = ap (λ t. on LeftShift r || t) e ∙ or-true _
@@ -110,6 +113,7 @@ press-kept m i j r (Act b) all f trap h =
           (s.0, remembered-action s.0 j b r ∙ first_kept (remembered s.0 r) _ (act.Mod i) s.1)
     ]
 
+-- without locks and traps a modifier that is on is remembered
 pub on-remembered : (ms : Maps) (h : List Event) → HasNoLocks (in_force ms h) → (i : Modifier)
     → HasNoTrap (in_force ms h) i → HasKeys h → on i (resolved ms h) ≡ true
     → RememberedBySome (holding.Mod i) (resolved ms h)
@@ -162,6 +166,7 @@ on-remembered ms (Load ∷ h) locks i free keys e =
     absurd (true≢false (sym e ∙ ap (λ r. on i r) (resolved-more ms h Load)
     ∙ held-load (holding.Mod i) _ (resolved ms h)))
 
+-- without locks and traps a modifier is on only while a key that bears it is pressed
 pub on_only_while_pressed_without_traps : OnOnlyWhilePressedWithoutTraps
 on_only_while_pressed_without_traps ms h keys locks i free e =
     let s : RememberedBySome (holding.Mod i) (resolved ms h) = on-remembered ms h locks i free keys e in

@@ -22,6 +22,7 @@ or-true : (b : Bool) → (b || true) ≡ true
 or-true true = refl
 or-true false = refl
 
+-- one more modifier that is on sets the bit of its group
 bits-added : (y : Modifier) (r : List ResolvedEvent) → record {
   upper = same_modifier y AltShift || on AltShift r;
   shift = (same_modifier y LeftShift || on LeftShift r) || (same_modifier y RightShift || on RightShift r);
@@ -37,6 +38,7 @@ bits-added RightAlt r = ap (λ b. record (bits_of r) { alt = b }) (or-true (on L
 bits-added AltShift r = refl
 bits-added Meta r = refl
 
+-- a press of one more modifier sets the bit of its group
 pub bits-more : (y : Modifier) (j : ℕ) (r : List ResolvedEvent) → remembered j r ≡ None
     → bits_of (PressedAction j (act.Mod y) ∷ r) ≡ with_bit (group_of y) (bits_of r)
 bits-more y j r e =
@@ -51,6 +53,7 @@ bits-more y j r e =
     )
     (bits-added y r)
 
+-- no modifier is on at the start
 pub bits-start : bits_of [] ≡ no_bits
 bits-start =
     rw (
@@ -68,5 +71,6 @@ bit-le : (b : Bool) → bit b ≤ 1
 bit-le true = omega arith
 bit-le false = omega arith
 
+-- a column is one of eight
 pub column_of-lt : (shift control alt : Bool) → column_of shift control alt < 8
 column_of-lt shift control alt = omega (arith, bit-le shift, bit-le control, bit-le alt)

@@ -8,11 +8,13 @@ use Rattle.console_core.specs.Columns.{bit}
 use Rattle.keymap_check.specs.Below.{gathered}
 use Rattle.keymap_check.specs.Scripts.{event_if, event_at, events_of, has_bit, is_chosen, bit_key_at}
 
+-- a bit of a set gives at most one event
 one_each : (p t : Bool) (o : Option ℕ) → length (if t then event_if p o else []) ≤ bit t
 one_each p true None = omega arith
 one_each p true (Some k) = omega arith
 one_each p false o = omega arith
 
+-- a bit gives at most two events in all
 two_each : (a b z : Bool) → z ≡ false → bit (a && not z) + bit (a && not b) + bit (b && not a) + bit (b && not z) ≤ 2
 two_each true true true e = cc
 two_each true true false e = omega arith
@@ -23,9 +25,11 @@ two_each false true false e = omega arith
 two_each false false true e = cc
 two_each false false false e = omega arith
 
+-- the empty set has no bit
 pub no_bit : (i : ℕ) → has_bit 0 i ≡ false
 no_bit i = ap (λ n. (n % 2) == 1) (zero-div (2 ^ i))
 
+-- the bits below n give at most two events each
 pub lengths : (keys : List (Option ℕ)) (a b n : ℕ)
     → length (gathered (event_at true keys a 0) n) + length (gathered (event_at false keys a b) n)
     + length (gathered (event_at true keys b a) n) + length (gathered (event_at false keys b 0) n)
@@ -61,6 +65,7 @@ lengths keys a b (suc n) =
       length-append (gathered (event_at false keys b 0) n) (event_at false keys b 0 n),
     )
 
+-- the four bits give at most eight events
 pub room : (keys : List (Option ℕ)) (a b : ℕ)
     → length (events_of true keys a 0) + length (events_of false keys a b) + length (events_of true keys b a)
     + length (events_of false keys b 0)

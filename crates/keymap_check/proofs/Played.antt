@@ -38,6 +38,7 @@ played keys k a b =
     )
     )
 
+-- the presses so far, newest first
 pub start_played : (keys : List (Option ℕ)) (k a : ℕ)
     → Press k ∷ (reverse (events_of true keys a 0) ++ []) ≡ reverse (start_of keys k a)
 start_played keys k a =
@@ -52,6 +53,7 @@ one_more f n e h is =
     ∙ reverse-push e (gathered f n) h
     )
 
+-- one more bit that gives no event
 pub none_more : (f : ℕ → List Event) (n : ℕ) (h : List Event) → f n ≡ []
     → reverse (gathered f n) ++ h ≡ reverse (gathered f (n + 1)) ++ h
 none_more f n h is =
@@ -63,10 +65,12 @@ none_more f n h is =
 off_and : (b c : Bool) → b ≡ false → (b && c) ≡ false
 off_and b c e = rw e refl
 
+-- a release turns no modifier on
 stays-off : (ms : Maps) (h : List Event) (j : ℕ) (i : Modifier) → On ms i h ≡ false → On ms i (Release j ∷ h) ≡ false
 stays-off ms h j i e =
     rw (resolved-more ms h (Release j), held-release (holding.Mod i) j (resolved ms h)) (off_and (On ms i h) _ e)
 
+-- where one of eight would do, none is there
 none_of : (a b c d e f g h : Bool) → (a || b || c || d || e || f || g || h) ≡ false
     → (a ≡ false) × (b ≡ false) × (c ≡ false) × (d ≡ false) × (e ≡ false) × (f ≡ false) × (g ≡ false) × (h ≡ false)
 none_of true b c d e f g h q = absurd (true≢false q)
@@ -78,6 +82,7 @@ none_of false false false false false true g h q = absurd (true≢false q)
 none_of false false false false false false true h q = absurd (true≢false q)
 none_of false false false false false false false h q = (refl, refl, refl, refl, refl, refl, refl, q)
 
+-- a release leaves all modifiers off
 pub released : (ms : Maps) (h : List Event) (j : ℕ) → is_some_on ms h ≡ false → is_some_on ms (Release j ∷ h) ≡ false
 released ms h j e =
     let off = none_of (On ms LeftShift h) (On ms RightShift h) (On ms LeftControl h) (On ms RightControl h)
@@ -100,6 +105,7 @@ one_release ms xs h true None e = rw append-nil e
 one_release ms xs h true (Some j) e = rw (reverse-push (Release j) xs h) (released ms (reverse xs ++ h) j e)
 one_release ms xs h false o e = rw append-nil e
 
+-- the releases of the bits below n leave all modifiers off
 releases_below : (ms : Maps) (h : List Event) (keys : List (Option ℕ)) (set except n : ℕ) → is_some_on ms h ≡ false
     → is_some_on ms (reverse (gathered (event_at false keys set except) n) ++ h) ≡ false
 unfolding gathered
@@ -108,6 +114,7 @@ releases_below ms h keys set except (suc n) e =
     one_release ms (gathered (event_at false keys set except) n) h (is_chosen set except n) (bit_key_at keys n)
     (releases_below ms h keys set except n e)
 
+-- the releases of a set leave all modifiers off
 pub stays_off : (ms : Maps) (h : List Event) (keys : List (Option ℕ)) (set except : ℕ) → is_some_on ms h ≡ false
     → is_some_on ms (reverse (events_of false keys set except) ++ h) ≡ false
 stays_off ms h keys set except e = releases_below ms h keys set except 4 e

@@ -48,31 +48,38 @@ locked-none : (l : Lock) → locked l [] ≡ false
 unfolding locked
 locked-none l = refl
 
+-- a modifier turns no lock
 locked-one : (i : Modifier) (k : ℕ) (l : Lock) → locked l (PressedAction k (act.Mod i) ∷ []) ≡ false
 unfolding locked remembered
 locked-one i k l = refl
 
+-- two modifiers turn no lock
 locked-two : (i y : Modifier) (k j : ℕ) (l : Lock) → (k == j) ≡ false
     → locked l (PressedAction j (act.Mod y) ∷ PressedAction k (act.Mod i) ∷ []) ≡ false
 unfolding locked remembered
 locked-two i y k j l en = rw en refl
 
+-- nothing is remembered at the start
 remembered-none : (j : ℕ) → remembered j [] ≡ None
 unfolding remembered
 remembered-none j = refl
 
+-- another key remembers nothing
 remembered-other : (i : Modifier) (k j : ℕ) → (k == j) ≡ false → remembered j (PressedAction k (act.Mod i) ∷ []) ≡ None
 unfolding remembered
 remembered-other i k j en = rw en refl
 
+-- a look at the start is in the first cell
 look-none : (m : MapValue) (k : ℕ) → look m [] k ≡ cell_at m k 0
 look-none m k =
     look-bits m [] k (locked-none lock.Caps) (locked-none lock.Num) (locked-none lock.Alt)
     ∙ ap (λ b. cell_with m k b) bits-start
 
+-- the bits of one modifier
 bits-one : (i : Modifier) (k : ℕ) → bits_of (PressedAction k (act.Mod i) ∷ []) ≡ bits_with i None
 bits-one i k = bits-more i k [] (remembered-none k) ∙ ap (with_bit (group_of i)) bits-start
 
+-- a look under one modifier
 look-one : (m : MapValue) (i : Modifier) (k : ℕ)
     → look m (PressedAction k (act.Mod i) ∷ []) k ≡ cell_with m k (bits_with i None)
 look-one m i k =
@@ -80,6 +87,7 @@ look-one m i k =
     (locked-one i k lock.Alt)
     ∙ ap (λ b. cell_with m k b) (bits-one i k)
 
+-- a look under two modifiers
 look-two : (m : MapValue) (i y : Modifier) (k j : ℕ) → (k == j) ≡ false
     → look m (PressedAction j (act.Mod y) ∷ PressedAction k (act.Mod i) ∷ []) k
     ≡ cell_with m k (bits_with i (group_of y))
@@ -94,11 +102,13 @@ look-two m i y k j en =
 self : (i : Modifier) → (modifier_index i == modifier_index i) ≡ true
 self i = eq-eqb (modifier_index i) (modifier_index i) refl
 
+-- a modifier whose key looks up a character stays on
 on-alone : (i : Modifier) (k c : ℕ)
     → on i (ReleasedKey k ∷ PressedCharacter k c ∷ PressedAction k (act.Mod i) ∷ []) ≡ true
 unfolding held remembered
 on-alone i k c = rw (self i, eq-eqb k k refl) refl
 
+-- the same under a second modifier, which is let go
 on-further : (i y : Modifier) (k j c : ℕ) → (j == k) ≡ false → (k == j) ≡ false
     → (modifier_index y == modifier_index i) ≡ false
     → on i
@@ -108,11 +118,13 @@ on-further : (i y : Modifier) (k j c : ℕ) → (j == k) ≡ false → (k == j) 
 unfolding held remembered
 on-further i y k j c ne en other = rw (ne, en, eq-eqb k k refl, eq-eqb j j refl, other, self i) refl
 
+-- the first press of the key looks up its modifier
 first-press : (m : MapValue) (i : Modifier) (k : ℕ) → cell_at m k 0 ≡ Act (act.Mod i)
     → resolved (between m m) (Press k ∷ []) ≡ PressedAction k (act.Mod i) ∷ []
 unfolding resolved
 first-press m i k e = ap (λ x. resolve_press k x ∷ []) (look-none m k ∙ e)
 
+-- the script of the key alone looks up its character
 resolved-alone : (m : MapValue) (i : Modifier) (k c : ℕ) → cell_at m k 0 ≡ Act (act.Mod i)
     → cell_with m k (bits_with i None) ≡ Char c
     → resolved (between m m) (Release k ∷ Press k ∷ Press k ∷ [])
@@ -122,6 +134,7 @@ resolved-alone m i k c e f =
     ap (λ r. ReleasedKey k ∷ resolve_press k (look m r k) ∷ r) (first-press m i k e)
     ∙ ap (λ x. ReleasedKey k ∷ resolve_press k x ∷ PressedAction k (act.Mod i) ∷ []) (look-one m i k ∙ f)
 
+-- the script with a second key looks up the character
 resolved-further : (m : MapValue) (i y : Modifier) (k j c : ℕ) → (k == j) ≡ false → cell_at m k 0 ≡ Act (act.Mod i)
     → look m (PressedAction k (act.Mod i) ∷ []) j ≡ Act (act.Mod y)
     → cell_with m k (bits_with i (group_of y)) ≡ Char c
@@ -146,6 +159,7 @@ alone-script : (o p q r : Option ℕ) (k : ℕ) → script (o ∷ p ∷ q ∷ r 
 unfolding gathered
 alone-script o p q r k = refl
 
+-- no key is lacking for the empty set
 alone-complete : (o p q r : Option ℕ) → lacks_key (o ∷ p ∷ q ∷ r ∷ []) 0 0 ≡ false
 unfolding lacks_key any_below
 alone-complete o p q r = refl
@@ -156,22 +170,27 @@ HasSet keys k j =
     (b : ℕ) × (b < 16) × (lacks_key keys 0 b ≡ false)
     × (script keys k 0 b ≡ Press k ∷ Press j ∷ Press k ∷ Release k ∷ Release j ∷ [])
 
+-- the key of the first bit has a set
 set-0 : (p q r : Option ℕ) (k j : ℕ) → HasSet (Some j ∷ p ∷ q ∷ r ∷ []) k j
 unfolding gathered lacks_key any_below
 set-0 p q r k j = (1, lit< tt, refl, refl)
 
+-- the key of the second bit has a set
 set-1 : (p q r : Option ℕ) (k j : ℕ) → HasSet (p ∷ Some j ∷ q ∷ r ∷ []) k j
 unfolding gathered lacks_key any_below
 set-1 p q r k j = (2, lit< tt, refl, refl)
 
+-- the key of the third bit has a set
 set-2 : (p q r : Option ℕ) (k j : ℕ) → HasSet (p ∷ q ∷ Some j ∷ r ∷ []) k j
 unfolding gathered lacks_key any_below
 set-2 p q r k j = (4, lit< tt, refl, refl)
 
+-- the key of the fourth bit has a set
 set-3 : (p q r : Option ℕ) (k j : ℕ) → HasSet (p ∷ q ∷ r ∷ Some j ∷ []) k j
 unfolding gathered lacks_key any_below
 set-3 p q r k j = (8, lit< tt, refl, refl)
 
+-- the key of each bit has a set
 has-set : (m : MapValue) (k j : ℕ) (g : Group) → bit_key m k (bit_of g) ≡ Some j → HasSet (bit_keys m k) k j
 has-set m k j group.Shift e =
     subst (λ o. HasSet (o ∷ bit_key m k 1 ∷ bit_key m k 2 ∷ bit_key m k 3 ∷ []) k j) (sym e) (set-0 _ _ _ k j)
@@ -188,15 +207,18 @@ if_here : {A : Type 0} (test : A → Bool) (t : Bool) (xs ys : List A) → t ≡
 if_here test true xs ys e f = f
 if_here test false xs ys e f = cc
 
+-- what isn't found among all isn't among those behind
 if_there : {A : Type 0} (test : A → Bool) (t : Bool) (xs ys : List A) → t ≡ false
     → find test (if t then xs else ys) ≡ None → find test ys ≡ None
 if_there test true xs ys e f = cc
 if_there test false xs ys e f = f
 
+-- an element that isn't found fails the test
 alone_none : {A : Type 0} (t : Bool) (x : A) → (if t then Some x else None) ≡ None → t ≡ false
 alone_none true x e = cc
 alone_none false x e = refl
 
+-- where no demonstration is found, no script that is complete leaves a modifier on
 tried-none : (m : MapValue) (k b : ℕ) → k < 128 → b < 16 → has_some (findings_at m k) ≡ true
     → lacks_key (bit_keys m k) 0 b ≡ false → demonstration_of m ≡ None
     → leaves_modifier_on m (script (bit_keys m k) k 0 b) ≡ false
@@ -220,6 +242,7 @@ inr-true : (a b : Bool) → b ≡ true → (a || b) ≡ true
 inr-true true b e = refl
 inr-true false b e = e
 
+-- a modifier that is on is some
 some-on : (ms : Maps) (h : List Event) (i : Modifier) → On ms i h ≡ true → is_some_on ms h ≡ true
 some-on ms h LeftShift e =
     inl-true _ _ (inl-true _ _ (inl-true _ _ (inl-true _ _ (inl-true _ _ (inl-true _ _ (inl-true _ _ e))))))
@@ -237,6 +260,7 @@ pub some-finding : (fs : List Finding) → (fs ≡ [] → ⊥) → has_some fs �
 some-finding [] f = absurd (f refl)
 some-finding (x ∷ fs) f = refl
 
+-- a key with a modifier and a character has a finding
 found-key : (m : MapValue) (i : Modifier) (k c : ℕ) → IsCellOf m k (Act (act.Mod i)) → IsCellOf m k (Char c)
     → has_some (findings_at m k) ≡ true
 found-key m i k c is char =
@@ -263,9 +287,11 @@ slot-cell m k bits false e live =
       ap (λ t. cell_at m (slot_of k t) (column_of bits.shift bits.control bits.alt)) (sym e),
     )
 
+-- a character that is looked up with the bits is a cell of the key
 character-cell : (m : MapValue) (k : ℕ) (bits : Bits) (char : HasCharacterWith m k bits) → IsCellOf m k (Char char.1.0)
 character-cell m k bits char = subst (λ x. IsCellOf m k x) char.1.1 (slot-cell m k bits _ refl char.0)
 
+-- a trap under its own modifier alone is demonstrated
 shown-alone : (m : MapValue) (i : Modifier) (k : ℕ) → k < 128 → cell_at m k 0 ≡ Act (act.Mod i)
     → HasCharacterWith m k (bits_with i None) → demonstration_of m ≢ None
 shown-alone m i k lt e char none =
@@ -291,12 +317,14 @@ of-group group.Alt RightAlt e = refl
 of-group group.AltShift AltShift e = refl
 of-group g y e = absurd (true≢false (sym e))
 
+-- the group of a group's bit
 pub group-bit : (g : Group) → group_at (bit_of g) ≡ g
 group-bit group.Shift = refl
 group-bit group.Control = refl
 group-bit group.Alt = refl
 group-bit group.AltShift = refl
 
+-- a cell of a group is a modifier of that group
 pub group-cell : (g : Group) (c : Cell) → is_group_cell g c ≡ true
     → (y : Modifier) × (c ≡ Act (act.Mod y)) × (group_of y ≡ Some g)
 group-cell g (Act (act.Mod y)) e = (y, refl, of-group g y e)
@@ -311,6 +339,7 @@ pub not_eq : (b : Bool) → not b ≡ true → b ≡ false
 not_eq true e = sym e
 not_eq false e = refl
 
+-- the second key bears a modifier of the group, by the place that is found
 further_by : (m : MapValue) (k : ℕ) (g : Group) (j : ℕ) (o : Option ℕ) → (j == k) ≡ false → IsOneAction m j
     → first_place m (kind.Of g) j ≡ o → is_there o ≡ true → IsFurther m k g j
 further_by m k g j None ne one e t = absurd (true≢false (sym t))
@@ -322,6 +351,7 @@ further_by m k g j (Some p) ne one e t =
     let same : Act one.0 ≡ Act (act.Mod y.0) = sym (one.1 (cell_of m j p) s.0) ∙ y.1 in
     (ne, (y.0, y.2, λ c is. one.1 c is ∙ same))
 
+-- the second key bears a modifier of the group, in each of its cells
 further : (m : MapValue) (k : ℕ) (g : Group) (j : ℕ) → bit_key m k (bit_of g) ≡ Some j → IsOneAction m j
     → IsFurther m k g j
 unfolding bit_key
@@ -341,12 +371,14 @@ not_same false f = refl
 same-modifier : (y i : Modifier) → act.Mod y ≡ act.Mod i → y ≡ i
 same-modifier y i e = cc
 
+-- a modifier of another group is another modifier
 other_modifier : (i y : Modifier) (g : Group) → group_of i ≢ Some g → group_of y ≡ Some g
     → (modifier_index y == modifier_index i) ≡ false
 other_modifier i y g ne e =
     not_same (modifier_index y == modifier_index i)
     (λ s. ne (ap group_of (sym (same-modifier y i (same_action-true (act.Mod y) (act.Mod i) s))) ∙ e))
 
+-- a trap under one modifier more is demonstrated
 shown-further : (m : MapValue) (i : Modifier) (k : ℕ) (g : Group) (j : ℕ) → k < 128 → cell_at m k 0 ≡ Act (act.Mod i)
     → HasCharacterWith m k (bits_with i (Some g)) → group_of i ≢ Some g
     → bit_key m k (bit_of g) ≡ Some j → IsOneAction m j → demonstration_of m ≢ None
@@ -371,11 +403,13 @@ shown-further m i k g j lt e char other is_key one none =
     ∙ on-further i f.1.0 k j char.1.0 f.0 en (other_modifier i f.1.0 g other f.1.1) in
     true≢false (sym (some-on (between m m) _ i is_on) ∙ ap (λ x. is_some_on (between m m) x) (sym h) ∙ off)
 
+-- a trap under at most one modifier more is demonstrated
 shown_by : (m : MapValue) (i : Modifier) (k : ℕ) (further : Option Group) → k < 128 → cell_at m k 0 ≡ Act (act.Mod i)
     → HasCharacterWith m k (bits_with i further) → HasFurtherKey m k i further → demonstration_of m ≢ None
 shown_by m i k None lt e char more = shown-alone m i k lt e char
 shown_by m i k (Some g) lt e char more = shown-further m i k g more.1.0 lt e char more.0 more.1.1 more.1.2
 
+-- a trap that is shown is demonstrated
 pub shown_traps_are_demonstrated : (m : MapValue) (i : Modifier) (k : ℕ) → HasShownTrap m i k
     → demonstration_of m ≢ None
 shown_traps_are_demonstrated m i k trap = shown_by m i k trap.2.0 trap.0 trap.1 trap.2.1 trap.2.2

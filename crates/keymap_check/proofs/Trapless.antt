@@ -36,6 +36,7 @@ either : (m : MapValue) (b : Bool) → (if b then m else m) ≡ m
 either m true = refl
 either m false = refl
 
+-- between two maps that are the same, that map is in force
 one_in_force : (m : MapValue) (h : List Event) → in_force (between m m) h ≡ m
 one_in_force m h = either m (is_second_in_force h)
 
@@ -50,6 +51,7 @@ off-quiet m locks free h keys quiet i =
     (subst (λ n. HasNoTrap n i) same (free i)) e in
     true≢false (sym s.3 ∙ quiet s.0 s.1))
 
+-- without locks and traps no modifier is on once every key is released
 no_modifier_on : (m : MapValue) → HasNoLocks m → ((i : Modifier) → HasNoTrap m i) → (h : List Event) → HasKeys h
     → IsQuiet h → is_some_on (between m m) h ≡ false
 no_modifier_on m locks free h keys quiet =
@@ -70,10 +72,12 @@ no_modifier_on m locks free h keys quiet =
 abbrev AreKeys : List (Option ℕ) → Type 0
 AreKeys keys = (i j : ℕ) → bit_key_at keys i ≡ Some j → j < 128
 
+-- the key of a bit is a key
 bit_key-key : (m : MapValue) (k i j : ℕ) → bit_key m k i ≡ Some j → j < 128
 unfolding bit_key
 bit_key-key m k i j e = (first_below-some (is_bit_key m k i) 128 j e).0
 
+-- the keys of the bits are keys
 bit_keys-keys : (m : MapValue) (k : ℕ) → AreKeys (bit_keys m k)
 bit_keys-keys m k zero j e = bit_key-key m k 0 j e
 bit_keys-keys m k (suc zero) j e = bit_key-key m k 1 j e
@@ -81,10 +85,12 @@ bit_keys-keys m k (suc (suc zero)) j e = bit_key-key m k 2 j e
 bit_keys-keys m k (suc (suc (suc zero))) j e = bit_key-key m k 3 j e
 bit_keys-keys m k (suc (suc (suc (suc i)))) j e = cc
 
+-- a press or release of a key is an event of a key
 event-key : (p : Bool) (k : ℕ) → k < 128 → HasKey (if p then Press k else Release k)
 event-key true k lt = lt
 event-key false k lt = lt
 
+-- an optional event under a condition is of a key
 event_if-keys : (p t : Bool) (o : Option ℕ) → ((j : ℕ) → o ≡ Some j → j < 128)
     → HasKeys (if t then event_if p o else [])
 event_if-keys p true None f = All-nil HasKey
@@ -92,6 +98,7 @@ event_if-keys p true (Some k) f =
     All-cons HasKey (if p then Press k else Release k) [] (event-key p k (f k refl)) (All-nil HasKey)
 event_if-keys p false o f = All-nil HasKey
 
+-- the events of a set are of keys
 events-keys : (p : Bool) (keys : List (Option ℕ)) (s e n : ℕ) → AreKeys keys
     → HasKeys (gathered (event_at p keys s e) n)
 unfolding gathered
@@ -100,12 +107,14 @@ events-keys p keys s e (suc n) f =
     All-append HasKey (gathered (event_at p keys s e) n) (event_at p keys s e n) (events-keys p keys s e n f)
     (event_if-keys p (is_chosen s e n) (bit_key_at keys n) (f n))
 
+-- events of keys, newest first, are of keys
 reverse-keys : (es h : List Event) → HasKeys es → HasKeys h → HasKeys (reverse es ++ h)
 reverse-keys [] h f g = g
 reverse-keys (e ∷ es) h f g =
     subst HasKeys (sym (reverse-cons e es h))
     (reverse-keys es (e ∷ h) (All-tail HasKey e es f) (All-cons HasKey e h (All-head HasKey e es f) g))
 
+-- the events of a script are of keys
 pub script-keys : (keys : List (Option ℕ)) (k a b : ℕ) → AreKeys keys → k < 128 → HasKeys (reverse (script keys k a b))
 script-keys keys k a b f lt =
     let press : HasKeys (Press k ∷ []) = All-cons HasKey (Press k) [] lt (All-nil HasKey) in
@@ -125,10 +134,12 @@ script-keys keys k a b f lt =
     let s5 : HasKeys (script keys k a b) = All-append HasKey _ _ s4 (events-keys false keys b 0 4 f) in
     subst HasKeys (append-nil (reverse (script keys k a b))) (reverse-keys (script keys k a b) [] s5 (All-nil HasKey))
 
+-- the script leaves no modifier on
 abbrev Fails : MapValue → List Event → Type 0
 Fails m s = leaves_modifier_on m s ≡ false
 
 module _ (m : MapValue) (locks : HasNoLocks m) (free : (i : Modifier) → HasNoTrap m i) where
+  -- a script that isn't left out leaves no modifier on
   scripts-fail : (t : Bool) (k a b : ℕ) → k < 128 → Every (Fails m) (if t then [] else script (bit_keys m k) k a b ∷ [])
   scripts-fail true k a b lt = tt
   scripts-fail false k a b lt = (
@@ -137,6 +148,7 @@ module _ (m : MapValue) (locks : HasNoLocks m) (free : (i : Modifier) → HasNoT
     tt,
   )
 
+  -- the scripts of a key, if it has a finding, leave no modifier on
   tried_by : (t : Bool) (k : ℕ) → k < 128 → Every (Fails m) (if t then scripts_for (bit_keys m k) k else [])
   tried_by true k lt =
       every-gathered (Fails m) (scripts_with (bit_keys m k) k) 16
@@ -144,13 +156,16 @@ module _ (m : MapValue) (locks : HasNoLocks m) (free : (i : Modifier) → HasNoT
       (λ b. scripts-fail (lacks_key (bit_keys m k) a b) k a b lt))
   tried_by false k lt = tt
 
+  -- no script that is tried leaves a modifier on
   tried-fail : Every (Fails m) (tried m)
   tried-fail = every-below (Fails m) (tried_at m) 128 (λ k lt. tried_by (has_some (findings_at m k)) k lt)
 
+  -- where all fail the test, none is found
   none_first : (test : List Event → Bool) (xs : List (List Event)) → Every (λ s. test s ≡ false) xs
       → find test xs ≡ None
   none_first test [] f = refl
   none_first test (x ∷ xs) f = rw f.0 (none_first test xs f.1)
 
+  -- no demonstration is given
   pub none_given : demonstration_of m ≡ None
   none_given = none_first (leaves_modifier_on m) (tried m) tried-fail

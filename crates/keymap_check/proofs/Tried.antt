@@ -25,6 +25,7 @@ use Rattle.keymap_check.proofs.Findings.{safe_by}
 use Rattle.keymap_check.proofs.Same.{IsHeldBy, holding-cell, character-cell}
 use Rattle.keymap_check.proofs.Shown.{group-cell, group-bit, not_eq, not_same, some-finding}
 
+-- a modifier of the group passes its test
 group-of : (g : Group) (y : Modifier) → group_of y ≡ Some g → is_of_group g y ≡ true
 group-of group.Shift LeftShift e = refl
 group-of group.Shift RightShift e = refl
@@ -35,6 +36,7 @@ group-of group.Alt RightAlt e = refl
 group-of group.AltShift AltShift e = refl
 group-of g y e = cc
 
+-- a key with a place of the group bears it
 bears_by : (m : MapValue) (g : Group) (j : ℕ) (o : Option ℕ) → first_place m (kind.Of g) j ≡ o → is_there o ≡ true
     → BearsGroup m j g
 bears_by m g j None e t = absurd (true≢false (sym t))
@@ -45,12 +47,14 @@ bears_by m g j (Some p) e t =
     group-cell g (cell_of m j p) s.1 in
     (y.0, y.2, subst (λ x. IsCellOf m j x) y.1 s.0)
 
+-- a key that bears the group has a place of it
 there_by : (m : MapValue) (g : Group) (j : ℕ) (o : Option ℕ) → first_place m (kind.Of g) j ≡ o → BearsGroup m j g
     → is_there o ≡ true
 there_by m g j None e b =
     absurd (true≢false (sym (group-of g b.0 b.1) ∙ no_place-cell m (kind.Of g) j e (Act (act.Mod b.0)) b.2))
 there_by m g j (Some p) e b = refl
 
+-- a key that bears the group, and isn't the one tried, passes the test of its bit
 bit_key-true : (m : MapValue) (k : ℕ) (g : Group) (i : ℕ) → i ≢ k → BearsGroup m i g
     → is_bit_key m k (bit_of g) i ≡ true
 bit_key-true m k g i ne b =
@@ -60,10 +64,12 @@ bit_key-true m k g i ne b =
     let n : (i == k) ≡ false = not_same (i == k) (λ q. ne (eqb-true i k q)) in
     rw (n, t) refl
 
+-- a key that fails the test of a bit doesn't bear the group
 no_bit_key : (m : MapValue) (k : ℕ) (g : Group) (i : ℕ) → is_bit_key m k (bit_of g) i ≡ false → i ≢ k → BearsGroup m i g
     → ⊥
 no_bit_key m k g i e ne b = true≢false (sym (bit_key-true m k g i ne b) ∙ e)
 
+-- the key of a bit is the least that passes its test
 least_by : (m : MapValue) (k : ℕ) (g : Group) (o : Option ℕ) → first_below (is_bit_key m k (bit_of g)) 128 ≡ o
     → IsBitKey m k g o
 least_by m k g None e = λ j lt. no_bit_key m k g j (first_below-no (is_bit_key m k (bit_of g)) 128 e j lt)
@@ -79,6 +85,7 @@ least_by m k g (Some j) e =
       (λ i lt. no_bit_key m k g i (s.2 i lt)),
     )
 
+-- the key of a bit is the least other key that bears the group
 pub bit_keys_are_least : BitKeysAreLeast
 unfolding bit_key
 bit_keys_are_least m k g = least_by m k g (first_below (is_bit_key m k (bit_of g)) 128) refl
@@ -97,6 +104,7 @@ unsafe_by m k (Some p) (Some q) e f t =
     let c : (c : ℕ) × (cell_of m k q ≡ Char c) = character-cell (cell_of m k q) s.1 in
     (h.0, subst (λ x. IsCellOf m k x) h.1 r.0, (c.0, subst (λ x. IsCellOf m k x) c.1 s.0))
 
+-- the keys that scripts are tried for are the unsafe ones
 pub tried_keys_are_unsafe : TriedKeysAreUnsafe
 tried_keys_are_unsafe m k = (
   unsafe_by m k (first_place m kind.AnyHolding k) (first_place m kind.Character k) refl refl,

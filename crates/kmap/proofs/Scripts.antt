@@ -7,6 +7,7 @@ use Rattle.std.proofs.Math.ListN.{drop_of_length-le}
 use Rattle.keymap_core.specs.Maps.{MapValue}
 use Rattle.kmap.specs.Typing.{lines_from, comment_if, event_lines, is_line_feed}
 
+-- four pieces of which the middle ones belong together
 four_pieces : (a b c d : List ℕ) → ((a ++ b) ++ c) ++ d ≡ a ++ ((b ++ c) ++ d)
 four_pieces a b c d = simp append_assoc
 
@@ -39,6 +40,7 @@ line_more m starts cs i x old mid new all inside at comment lines before =
     ∙ ap (λ l. old ++ lines_from m starts l) (sym first)
     ∙ before
 
+-- no characters have no lines
 no_lines : (m : MapValue) (starts : Bool) → lines_from m starts [] ≡ []
 unfolding lines_from
 no_lines m starts = refl

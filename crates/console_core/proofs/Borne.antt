@@ -68,7 +68,7 @@ taken_over-same held b a true e h =
     (f, ap (λ x. Some x) (same_action-true held b e ∙ f))
 taken_over-same held b a false e h = absurd (true≢false (sym h ∙ nop-not_holding a))
 
--- a holding action is taken exactly where it is looked up, and then remembered
+-- a holding action that is taken was looked up, and is then remembered
 pub taken-holding : (o : Option Action) (b : Action) (a : Holding)
     → same_action (taken_over o b) (holding_action a) ≡ true
     → (b ≡ holding_action a) × (first_of_two o (unless_nop b) ≡ Some (holding_action a))

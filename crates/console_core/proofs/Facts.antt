@@ -67,7 +67,7 @@ kept-press m k j a r (Char c) apart e =
     ∙ kept_by_character (j == k) (remembered k r) (holding_action a) (not_true (j == k) (λ s. apart c refl s)) e
 kept-press m k j a r (Act b) apart e = remembered-action k j b r ∙ first_kept (remembered k r) _ (holding_action a) e
 
--- in a safe map a holding action is remembered until its key is released
+-- in a safe map a holding action is remembered until a release of its key, a reset or a load
 pub holding_is_remembered : HoldingIsRemembered
 holding_is_remembered ms h (Press j) safe keys k a e kept =
     let all : AllLooked (in_force ms h) (resolved ms h) = resolved-looked ms h (All-tail HasKey (Press j) h keys) in

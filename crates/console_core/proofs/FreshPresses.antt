@@ -83,7 +83,7 @@ turns-fresh ms k l (Release j) h bears keys = refl
 turns-fresh ms k l Reset h bears keys = refl
 turns-fresh ms k l Load h bears keys = refl
 
--- one more press turns odd to even
+-- one more press turns an odd number even and an even one odd
 odd_step : (b : Bool) (n : ℕ) → (if b then not (is_odd n) else is_odd n) ≡ is_odd (if b then suc n else n)
 odd_step true n = refl
 odd_step false n = refl

@@ -68,7 +68,7 @@ pub locked-start : (l : Lock) → locked l [] ≡ false
 unfolding locked
 locked-start l = refl
 
--- one more turn turns odd to even
+-- one more turn makes an odd number even and an even one odd
 locked_step : (b : Bool) (n : ℕ) → is_odd (if b then suc n else n) ≡ (if b then not (is_odd n) else is_odd n)
 locked_step true n = refl
 locked_step false n = refl

@@ -9,7 +9,9 @@ use Rattle.keymap_tables.proofs.Images.{n_accs-of}
 use Rattle.keymap_tables.proofs.InPlace.{cut}
 use Rattle.keymap_tables.proofs.Places.{accent-part}
 use Rattle.keymap_tables.proofs.tables.Tables.accent.Goals as goal
-use Rattle.keymap_tables.proofs.tables.Tables.accent.Goals.{else-index-lt-ACCENTS-via-then-index-lt-ACCENTS+else-index-n_accs}
+use Rattle.keymap_tables.proofs.tables.Tables.accent.Goals.{
+  else-index-lt-ACCENTS-via-then-index-lt-ACCENTS+else-index-n_accs,
+}
 use Rattle.keymap_tables.proofs.tables.Tables.accent.Goals.{else-index-lt-ACCENTS-via-else-index-lt-ACCENTS}
 
 counted : (bytes : List ℕ) (n : ℕ) → n ≡ count_at (part bytes 9220 4) 0 → (m : MapValue) → IsMap m → bytes ≡ image m

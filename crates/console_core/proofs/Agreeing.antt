@@ -35,6 +35,7 @@ use Rattle.console_core.proofs.OneMore.{pending-character, pending-action, pendi
 use Rattle.console_core.proofs.OneMore.{locked-load, remembered-load, pending-load}
 use mathlib.Core.Path.{fun_ext}
 
+-- a look by what is kept is the look of the events
 pub agrees-look : (m : MapValue) (h : List ResolvedEvent) (k : Kept) (key : ℕ) → Agrees m h k
     → look_with m (λ i. k.mark (holding.Mod i)) k.lock key ≡ look m h key
 unfolding look
@@ -45,6 +46,7 @@ agrees-look m h k key agrees =
 
 -- what is kept agrees with one more resolved event after what the machine does for it
 module _ (m : MapValue) (h : List ResolvedEvent) (k : Kept) (agrees : Agrees m h k) where
+  -- a looked-up character keeps the agreement
   pub agrees-character : (key c : ℕ)
       → Agrees m (PressedCharacter key c ∷ h) (after_character key k)
   agrees-character key c = record {
@@ -55,6 +57,7 @@ module _ (m : MapValue) (h : List ResolvedEvent) (k : Kept) (agrees : Agrees m h
     pending = sym (pending-character m key c h);
   }
 
+  -- a looked-up action keeps the agreement
   pub agrees-action : (key : ℕ) (b : Action) → key < 128
       → Agrees m (PressedAction key b ∷ h) (after_action m key b k)
   agrees-action key b lt =
@@ -67,6 +70,7 @@ module _ (m : MapValue) (h : List ResolvedEvent) (k : Kept) (agrees : Agrees m h
         pending = rw (e, agrees.pending) (sym (pending-action m key b h));
       }
 
+  -- a release keeps the agreement
   pub agrees-release : (key : ℕ) → key < 128 → Agrees m (ReleasedKey key ∷ h) (after_release key k)
   agrees-release key lt =
       let e : k.memory key ≡ remembered key h = agrees.memories key lt in
@@ -78,6 +82,7 @@ module _ (m : MapValue) (h : List ResolvedEvent) (k : Kept) (agrees : Agrees m h
         pending = agrees.pending ∙ sym (pending-release m key h);
       }
 
+  -- a reset keeps the agreement
   pub agrees-reset : Agrees m (WasReset ∷ h) (after_reset k)
   agrees-reset = record {
     marks = λ a. sym (held-reset a h);
@@ -100,20 +105,24 @@ module _ (m : MapValue) (h : List ResolvedEvent) (k : Kept) (agrees : Agrees m h
       → answer_char m k.pending (k.mark (holding.Mod Meta)) c ≡ answer_resolved m (PressedCharacter key c) h
   answers-character key c = rw (agrees.pending, agrees.marks (holding.Mod Meta)) refl
 
+  -- the answer to an action by what is kept is that of the events
   pub answers-action : (key : ℕ) (b : Action) → key < 128
       → answer_action m k.pending (k.mark (holding.Mod Meta)) (taken_over (k.memory key) b)
       ≡ answer_resolved m (PressedAction key b) h
   answers-action key b lt = rw (agrees.pending, agrees.marks (holding.Mod Meta), agrees.memories key lt) refl
 
+  -- the answer to a release by what is kept is that of the events
   pub answers-release : (key : ℕ) → key < 128 → answer_release (k.memory key) ≡ answer_resolved m (ReleasedKey key) h
   answers-release key lt = ap answer_release (agrees.memories key lt)
 
+-- where a console stands at events, what it keeps agrees with them under the map in force
 pub agrees-under : (ms : Maps) (h : List Event) (m : MapValue) (k : Kept) → m ≡ in_force ms h → StandsAt ms h k
     → Agrees m (resolved ms h) k
 agrees-under ms h m k force stands = subst (λ y. Agrees y (resolved ms h) k) (sym force) stands.agrees
 
 -- from resolved events to events, under the map m that is in force
 module _ (ms : Maps) (h : List Event) (m : MapValue) (force : m ≡ in_force ms h) (e : Event) where
+  -- a press that looks up a character by what is kept is resolved to it
   pub resolves-character : (kept : Kept) (k c : ℕ) (cell : Cell) → Agrees m (resolved ms h) kept → e ≡ Press k
       → cell ≡ look_with m (λ i. kept.mark (holding.Mod i)) kept.lock k → cell ≡ Char c
       → resolved_event ms h e ≡ PressedCharacter k c
@@ -123,6 +132,7 @@ module _ (ms : Maps) (h : List Event) (m : MapValue) (force : m ≡ in_force ms 
       ap (λ x. resolved_event ms h x) is ∙ ap (λ x. resolve_press k (look x (resolved ms h) k)) (sym force)
       ∙ ap (λ x. resolve_press k x) f
 
+  -- a press that looks up an action by what is kept is resolved to it
   pub resolves-action : (kept : Kept) (k : ℕ) (a : Action) (cell : Cell) → Agrees m (resolved ms h) kept → e ≡ Press k
       → cell ≡ look_with m (λ i. kept.mark (holding.Mod i)) kept.lock k → cell ≡ Act a
       → resolved_event ms h e ≡ PressedAction k a
@@ -132,6 +142,7 @@ module _ (ms : Maps) (h : List Event) (m : MapValue) (force : m ≡ in_force ms 
       ap (λ x. resolved_event ms h x) is ∙ ap (λ x. resolve_press k (look x (resolved ms h) k)) (sym force)
       ∙ ap (λ x. resolve_press k x) f
 
+  -- the answer to what an event is resolved to is the answer to the event
   pub answer-of : (x : ResolvedEvent) (r : Answer) → resolved_event ms h e ≡ x
       → r ≡ answer_resolved m x (resolved ms h) → r ≡ AnswerTo ms h e
   answer-of x r is answer =
@@ -164,6 +175,7 @@ stands-load ms h e m k is force stands = record {
       (agrees-load (in_force ms h) (resolved ms h) k stands.agrees m)));
 }
 
+-- where nothing is kept, a console stands at no events
 pub stands-start : (ms : Maps) → StandsAt ms [] nothing_kept
 stands-start ms = record {
   force = refl;

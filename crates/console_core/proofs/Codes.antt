@@ -14,13 +14,16 @@ use Rattle.console_core.proofs.Places.{get_or-set_if}
 some_some : (a b : Action) → Some a ≡ Some b → a ≡ b
 some_some a b e = cc
 
+-- a code other than 0 is that of its action, by the test for 0
 coded_some : (code : ℕ) (b : Bool) → eqb code 0 ≡ b → code ≢ 0 → coded code ≡ action_of code
 coded_some code true e not_zero = absurd (not_zero (eqb-true code 0 e))
 coded_some code false e not_zero = rw e refl
 
+-- a code other than 0 is that of its action
 coded-some : (code : ℕ) → code ≢ 0 → coded code ≡ action_of code
 coded-some code not_zero = coded_some code (eqb code 0) refl not_zero
 
+-- the code of an action other than nop gives the action, by the test for 0
 coded_by : (a : Action) (b : Bool) → eqb (code_of a) 0 ≡ b → same_action a act.Nop ≡ false
     → action_of (code_of a) ≡ Some a → coded (code_of a) ≡ Some a
 coded_by a true e not_nop read =
@@ -28,6 +31,7 @@ coded_by a true e not_nop read =
     absurd (true≢false (sym (ap (λ x. same_action x act.Nop) s) ∙ not_nop))
 coded_by a false e not_nop read = rw e read
 
+-- the code of an action other than nop gives the action
 pub coded-code : (a : Action) → same_action a act.Nop ≡ false → action_of (code_of a) ≡ Some a
     → coded (code_of a) ≡ Some a
 coded-code a not_nop read = coded_by a (eqb (code_of a) 0) refl not_nop read
@@ -38,6 +42,7 @@ other_code : (b : Bool) (held expected : Action) → same_action held expected �
 other_code true held expected e ne = absurd (ne (ap code_of (same_action-true held expected e)))
 other_code false held expected e ne = refl
 
+-- another code is that of another action
 pub coded-other : (code : ℕ) (held expected : Action) → code ≢ 0 → action_of code ≡ Some held → code_of held ≡ code
     → code ≢ code_of expected
     → Some false ≡ option_map (λ a. same_action a expected) (coded code)
@@ -55,11 +60,13 @@ get_or-replicate_default (suc n) (suc i) d = get_or-replicate_default n i d
 pub codes-start : (k : ℕ) → code_memory (replicate 128 0) k ≡ None
 codes-start k = ap coded (get_or-replicate_default 128 k 0)
 
+-- a code that is written under a condition
 kept_if : (b : Bool) (code old : ℕ) (a : Option Action) → coded code ≡ a
     → coded (if b then code else old) ≡ (if b then a else coded old)
 kept_if true code old a e = e
 kept_if false code old a e = refl
 
+-- after a code was written, its key has the action, and each other key its own
 pub codes-set : (codes : List ℕ) (i j k code : ℕ) (a : Option Action) → i ≡ j → i < length codes → coded code ≡ a
     → code_memory (set codes i code) k ≡ (if j == k then a else code_memory codes k)
 codes-set codes i j k code a s lt e =

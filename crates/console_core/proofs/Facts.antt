@@ -1,5 +1,6 @@
 -- The facts on which the main theorem stands.
-use Rattle.std.proofs.Common.{◌≡◌, ℕ, ◌<◌, Bool, true, false, List, [], ◌∷◌, ◌++◌, Option, Some, None, inl, inr, refl, ap, subst, sym, ◌∙◌, if◌then◌else◌}
+use Rattle.std.proofs.Common.{◌≡◌, ℕ, ◌<◌, Bool, true, false, List, [], ◌∷◌, ◌++◌, Option, Some, None, inl, inr, refl}
+use Rattle.std.proofs.Common.{ap, subst, sym, ◌∙◌, if◌then◌else◌}
 use Rattle.std.specs.Prelude.{◌==◌}
 use Rattle.std.proofs.lemmas.Bool.{eqb-true, eq-eqb, true≢false}
 use Rattle.std.proofs.lemmas.List.Elements.{All-tail}
@@ -28,6 +29,7 @@ use Rattle.console_core.proofs.Borne.{AllLooked, taken-holding, held-upper, lock
 use Rattle.console_core.proofs.Bearing.{remembered-cell, remembered-pressed, first_kept}
 use Rattle.console_core.proofs.Readings.{held-positions}
 
+-- what a key looks up is one of its cells
 pub looks_are_cells : LooksAreCells
 looks_are_cells ms h keys k = look-cell (in_force ms h) (resolved ms h) k (resolved-looked ms h keys)
 
@@ -35,72 +37,119 @@ not_true : (x : Bool) → (x ≡ true → ⊥) → x ≡ false
 not_true true f = absurd (f refl)
 not_true false f = refl
 
+-- a dead upper half is never looked at
 pub dead_upper_half : DeadUpperHalfIsNotLookedAt
 dead_upper_half ms h keys dead =
     let all : AllLooked (in_force ms h) (resolved ms h) = resolved-looked ms h keys in
     let shift : On ms modifier.AltShift h ≡ false =
-    not_true _ (λ e. dead (held-upper (in_force ms h) (holding.Mod modifier.AltShift) (λ j lt low. (j, lt, inl low)) (resolved ms h) all e)) in
-    let alt : Locked ms lock.Alt h ≡ false = not_true _ (λ e. dead (locked-upper (in_force ms h) (resolved ms h) all e)) in
-    (rw (shift, alt) refl, (λ k. elim (look-cell (in_force ms h) (resolved ms h) k all) [ inl s ↦ s | inr s ↦ absurd (dead s.0) ]))
+    not_true _
+    (λ e. dead (held-upper (in_force ms h) (holding.Mod modifier.AltShift) (λ j lt low. (j, lt, inl low))
+    (resolved ms h) all e)) in
+    let alt : Locked ms lock.Alt h ≡ false =
+    not_true _ (λ e. dead (locked-upper (in_force ms h) (resolved ms h) all e)) in (
+      rw (shift, alt) refl,
+      (λ k. elim (look-cell (in_force ms h) (resolved ms h) k all) [ inl s ↦ s | inr s ↦ absurd (dead s.0) ]),
+    )
 
 -- what a press leaves of a holding action that is remembered for a key without characters
-kept_by_character : (t : Bool) (o : Option Action) (a : Action) → t ≡ false → o ≡ Some a → (if t then None else o) ≡ Some a
+kept_by_character : (t : Bool) (o : Option Action) (a : Action) → t ≡ false → o ≡ Some a
+    → (if t then None else o) ≡ Some a
 kept_by_character true o a e r = absurd (true≢false e)
 kept_by_character false o a e r = r
 
-kept-press : (m : MapValue) (k j : ℕ) (a : Holding) (r : List ResolvedEvent) (x : Cell) → ((c : ℕ) → x ≡ Char c → j == k ≡ true → ⊥) → remembered k r ≡ Some (holding_action a) → remembered k (resolve_press j x ∷ r) ≡ Some (holding_action a)
-kept-press m k j a r (Char c) apart e = remembered-character k j c r ∙ kept_by_character (j == k) (remembered k r) (holding_action a) (not_true (j == k) (λ s. apart c refl s)) e
+-- a press keeps a remembered holding action, unless it looks up a character for that key
+kept-press : (m : MapValue) (k j : ℕ) (a : Holding) (r : List ResolvedEvent) (x : Cell)
+    → ((c : ℕ) → x ≡ Char c → j == k ≡ true → ⊥) → remembered k r ≡ Some (holding_action a)
+    → remembered k (resolve_press j x ∷ r) ≡ Some (holding_action a)
+kept-press m k j a r (Char c) apart e =
+    remembered-character k j c r
+    ∙ kept_by_character (j == k) (remembered k r) (holding_action a) (not_true (j == k) (λ s. apart c refl s)) e
 kept-press m k j a r (Act b) apart e = remembered-action k j b r ∙ first_kept (remembered k r) _ (holding_action a) e
 
+-- in a safe map a holding action is remembered until a release of its key, a reset or a load
 pub holding_is_remembered : HoldingIsRemembered
 holding_is_remembered ms h (Press j) safe keys k a e kept =
     let all : AllLooked (in_force ms h) (resolved ms h) = resolved-looked ms h (All-tail HasKey (Press j) h keys) in
-    let bears : (k < 128) × IsCellOf (in_force ms h) k (Act (holding_action a)) = remembered-cell (in_force ms h) (resolved ms h) k (holding_action a) all e in
+    let bears : (k < 128) × IsCellOf (in_force ms h) k (Act (holding_action a)) =
+    remembered-cell (in_force ms h) (resolved ms h) k (holding_action a) all e in
     ap (λ r. remembered k r) (resolved-more ms h (Press j))
     ∙ kept-press (in_force ms h) k j a (resolved ms h) (look (in_force ms h) (resolved ms h) j)
-    (λ c is s. safe k bears.0 a bears.1 c (subst (λ y. IsCellOf (in_force ms h) y (Char c)) (eqb-true j k s) (subst (λ x. IsCellOf (in_force ms h) j x) is (look-cell (in_force ms h) (resolved ms h) j all)))) e
+    (λ c is s. safe k bears.0 a bears.1 c
+    (subst (λ y. IsCellOf (in_force ms h) y (Char c)) (eqb-true j k s)
+    (subst (λ x. IsCellOf (in_force ms h) j x) is (look-cell (in_force ms h) (resolved ms h) j all)))) e
 holding_is_remembered ms h (Release j) safe keys k a e kept =
-    ap (λ r. remembered k r) (resolved-more ms h (Release j)) ∙ remembered-release k j (resolved ms h) ∙ kept_by_character (j == k) (remembered k (resolved ms h)) (holding_action a) kept e
+    ap (λ r. remembered k r) (resolved-more ms h (Release j)) ∙ remembered-release k j (resolved ms h)
+    ∙ kept_by_character (j == k) (remembered k (resolved ms h)) (holding_action a) kept e
 holding_is_remembered ms h Reset safe keys k a e kept = absurd (true≢false kept)
 holding_is_remembered ms h Load safe keys k a e kept = absurd (true≢false kept)
 
 -- a press that raises a holding action remembers it
-raised-press : (k : ℕ) (a : Holding) (r : List ResolvedEvent) (x : Cell) → is_action (taken_of (remembered k r) x) (holding_action a) ≡ true → remembered k (resolve_press k x ∷ r) ≡ Some (holding_action a)
+raised-press : (k : ℕ) (a : Holding) (r : List ResolvedEvent) (x : Cell)
+    → is_action (taken_of (remembered k r) x) (holding_action a) ≡ true
+    → remembered k (resolve_press k x ∷ r) ≡ Some (holding_action a)
 raised-press k a r (Char c) e = absurd (true≢false (sym e))
 raised-press k a r (Act b) e = rw (remembered-action k k b r, eq-eqb k k refl) (taken-holding (remembered k r) b a e).1
 
 -- it stays remembered as long as nothing lowers it, and the key isn't let go
 abbrev Kept : Maps → ℕ → Holding → List Event → List Event → Type 0
 Kept ms k a later before =
-    (Remembered ms k (later ++ Press k ∷ before) ≡ Some (holding_action a)) × NoneOf (lets_go k) later (Press k ∷ before)
+    (Remembered ms k (later ++ Press k ∷ before) ≡ Some (holding_action a))
+    × NoneOf (lets_go k) later (Press k ∷ before)
 
-not_let_go : (ms : Maps) (k j : ℕ) (a : Holding) (t : List Event) → Remembered ms k t ≡ Some (holding_action a) → is_action (Remembered ms j t) (holding_action a) ≡ false → j == k ≡ false
+-- a key that remembers another action isn't the one that remembers this
+not_let_go : (ms : Maps) (k j : ℕ) (a : Holding) (t : List Event) → Remembered ms k t ≡ Some (holding_action a)
+    → is_action (Remembered ms j t) (holding_action a) ≡ false → j == k ≡ false
 not_let_go ms k j a t e low =
-    not_true (j == k) (λ s. true≢false (sym (ap (λ o. is_action o (holding_action a)) (ap (λ x. Remembered ms x t) (eqb-true j k s) ∙ e) ∙ same_action-refl (holding_action a)) ∙ low))
+    not_true (j == k)
+    (λ s. true≢false (sym (ap (λ o. is_action o (holding_action a))
+    (ap (λ x. Remembered ms x t) (eqb-true j k s) ∙ e)
+    ∙ same_action-refl (holding_action a))
+    ∙ low))
 
-kept : (ms : Maps) (k : ℕ) (a : Holding) (later before : List Event) → IsSafe (in_force ms (later ++ Press k ∷ before)) → HasKeys (later ++ Press k ∷ before) → Raises ms a (Press k) before ≡ true → NoneOf (Lowers ms a) later (Press k ∷ before) → Kept ms k a later before
-kept ms k a [] before safe keys raised none =
-    (ap (λ r. remembered k r) (resolved-more ms before (Press k)) ∙ raised-press k a (resolved ms before) (look (in_force ms before) (resolved ms before) k) raised, tt)
+-- a holding action is remembered from the press that raises it, while nothing lowers it
+kept : (ms : Maps) (k : ℕ) (a : Holding) (later before : List Event) → IsSafe (in_force ms (later ++ Press k ∷ before))
+    → HasKeys (later ++ Press k ∷ before) → Raises ms a (Press k) before ≡ true
+    → NoneOf (Lowers ms a) later (Press k ∷ before) → Kept ms k a later before
+kept ms k a [] before safe keys raised none = (
+  ap (λ r. remembered k r) (resolved-more ms before (Press k))
+      ∙ raised-press k a (resolved ms before) (look (in_force ms before) (resolved ms before) k) raised,
+  tt,
+)
 kept ms k a (Press j ∷ later) before safe keys raised none =
-    let s : Kept ms k a later before = kept ms k a later before safe (All-tail HasKey (Press j) (later ++ Press k ∷ before) keys) raised none.1 in
+    let s : Kept ms k a later before =
+    kept ms k a later before safe (All-tail HasKey (Press j) (later ++ Press k ∷ before) keys) raised none.1 in
     (holding_is_remembered ms (later ++ Press k ∷ before) (Press j) safe keys k a s.0 refl, (refl, s.1))
 kept ms k a (Release j ∷ later) before safe keys raised none =
-    let s : Kept ms k a later before = kept ms k a later before safe (All-tail HasKey (Release j) (later ++ Press k ∷ before) keys) raised none.1 in
+    let s : Kept ms k a later before =
+    kept ms k a later before safe (All-tail HasKey (Release j) (later ++ Press k ∷ before) keys) raised none.1 in
     let other : j == k ≡ false = not_let_go ms k j a (later ++ Press k ∷ before) s.0 none.0 in
     (holding_is_remembered ms (later ++ Press k ∷ before) (Release j) safe keys k a s.0 other, (other, s.1))
 kept ms k a (Reset ∷ later) before safe keys raised none = absurd (true≢false none.0)
 kept ms k a (Load ∷ later) before safe keys raised none = absurd (true≢false none.0)
 
-raised_by : (ms : Maps) (h : List Event) (i : Modifier) (later : List Event) (x : Event) (before : List Event) → IsSafe (in_force ms h) → HasKeys h → h ≡ later ++ x ∷ before → Raises ms (holding.Mod i) x before ≡ true → NoneOf (Lowers ms (holding.Mod i)) later (x ∷ before) → IsRaisedByPressed ms i h
+-- a modifier that some press raised and nothing lowered is on by a pressed key
+raised_by : (ms : Maps) (h : List Event) (i : Modifier) (later : List Event) (x : Event) (before : List Event)
+    → IsSafe (in_force ms h) → HasKeys h → h ≡ later ++ x ∷ before → Raises ms (holding.Mod i) x before ≡ true
+    → NoneOf (Lowers ms (holding.Mod i)) later (x ∷ before) → IsRaisedByPressed ms i h
 raised_by ms h i later (Press k) before safe keys is raised none =
     let s : Kept ms k (holding.Mod i) later before =
-    kept ms k (holding.Mod i) later before (subst (λ t. IsSafe (in_force ms t)) is safe) (subst HasKeys is keys) raised none in
-    (k, later, before, ap (λ t. pressed k t) is ∙ remembered-pressed ms (later ++ Press k ∷ before) k (act.Mod i) s.0, is, raised, s.1)
+    kept ms k (holding.Mod i) later before (subst (λ t. IsSafe (in_force ms t)) is safe) (subst HasKeys is keys) raised
+    none in (
+      k,
+      later,
+      before,
+      ap (λ t. pressed k t) is ∙ remembered-pressed ms (later ++ Press k ∷ before) k (act.Mod i) s.0,
+      is,
+      raised,
+      s.1,
+    )
 raised_by ms h i later (Release k) before safe keys is raised none = absurd (true≢false (sym raised))
 raised_by ms h i later Reset before safe keys is raised none = absurd (true≢false (sym raised))
 raised_by ms h i later Load before safe keys is raised none = absurd (true≢false (sym raised))
 
+-- in a safe map a modifier that is on was raised by a press of a key that is still pressed
 pub on_by_pressed_key : OnByPressedKey
 on_by_pressed_key ms h safe keys i on =
-    let s : SomeSince (Raises ms (holding.Mod i)) (Lowers ms (holding.Mod i)) h = (held-positions ms (holding.Mod i) h).0 on in
+    let s : SomeSince (Raises ms (holding.Mod i)) (Lowers ms (holding.Mod i)) h =
+    (held-positions ms (holding.Mod i) h).0 on in
     raised_by ms h i s.0 s.1 s.2 safe keys s.3 s.4 s.5

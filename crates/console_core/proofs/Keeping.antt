@@ -31,10 +31,12 @@ kept-same j k marks locks memory pending second =
     ∙ ap (λ x. record k { pending = x; is_second = j.is_second }) pending
     ∙ ap (λ x. record k { is_second = x }) second
 
+-- what is kept is the same where all marks are
 same-marks : (k : Kept) (f g : Holding → Bool) → ((a : Holding) → f a ≡ g a)
     → record k { mark = f } ≡ record k { mark = g }
 same-marks k f g same = let e : f ≡ g = fun_ext same in ap (λ x. record k { mark = x }) e
 
+-- what is kept is the same where all locks are
 same-locks : (k : Kept) (f g : Lock → Bool) → ((l : Lock) → f l ≡ g l) → record k { lock = f } ≡ record k { lock = g }
 same-locks k f g same = let e : f ≡ g = fun_ext same in ap (λ x. record k { lock = x }) e
 
@@ -44,6 +46,7 @@ cleared true false = refl
 cleared false true = refl
 cleared false false = refl
 
+-- to clear the mark of a holding action is to release it
 pub released-cleared : (k : Kept) (b : Action) (a : Holding) → holding_of b ≡ Some a
     → with_mark a false k ≡ with_released b k
 released-cleared k b a e =
@@ -59,6 +62,7 @@ all_borne m k Num = refl
 all_borne m k Scroll = refl
 all_borne m k Alt = refl
 
+-- to exchange the maps, and clear the locks that nobody bears, is to load
 pub loaded-kept : (m : MapValue) (k : Kept)
     → with_lock_borne m Alt (with_lock_borne m Scroll
     (with_lock_borne m Num (with_lock_borne m Caps (exchanged (after_reset k)))))
@@ -69,6 +73,7 @@ and_kept : (x : Bool) → x ≡ (x && true)
 and_kept true = refl
 and_kept false = refl
 
+-- a key that remembers nothing may be forgotten
 forgotten : (k : Kept) (key j : ℕ) (t : Bool) → eqb key j ≡ t → k.memory key ≡ None
     → k.memory j ≡ (if t then None else k.memory j)
 forgotten k key j true is none = ap k.memory (sym (eqb-true key j is)) ∙ none

@@ -29,6 +29,7 @@ pub resolved-start : (ms : Maps) → resolved ms [] ≡ []
 unfolding resolved
 resolved-start ms = refl
 
+-- one more event is resolved by those before
 pub resolved-more : (ms : Maps) (h : List Event) (e : Event)
     → resolved ms (e ∷ h) ≡ resolved_event ms h e ∷ resolved ms h
 unfolding resolved
@@ -67,6 +68,7 @@ pub locked-start : (l : Lock) → locked l [] ≡ false
 unfolding locked
 locked-start l = refl
 
+-- one more turn makes an odd number even and an even one odd
 locked_step : (b : Bool) (n : ℕ) → is_odd (if b then suc n else n) ≡ (if b then not (is_odd n) else is_odd n)
 locked_step true n = refl
 locked_step false n = refl
@@ -76,7 +78,10 @@ unfolding locked
 locked-character l k c h = refl
 
 pub locked-action : (l : Lock) (k : ℕ) (b : Action) (h : List ResolvedEvent)
-    → locked l (PressedAction k b ∷ h) ≡ (if same_action (taken_over (remembered k h) b) (holding_action (holding.Lock l)) && not (held (holding.Lock l) h) then not (locked l h) else locked l h)
+    → locked l (PressedAction k b ∷ h)
+    ≡ (if same_action (taken_over (remembered k h) b) (holding_action (holding.Lock l))
+    && not (held (holding.Lock l) h)
+    then not (locked l h) else locked l h)
 unfolding locked
 locked-action l k b h = locked_step (turns l (PressedAction k b) h) _
 
@@ -88,6 +93,7 @@ pub locked-reset : (l : Lock) (h : List ResolvedEvent) → locked l (WasReset �
 unfolding locked
 locked-reset l h = refl
 
+-- a load counts turns anew where nobody bears the lock
 locked_load : (b : Bool) (n : ℕ) → is_odd (if not b then 0 else n) ≡ (b && is_odd n)
 locked_load true n = refl
 locked_load false n = refl
@@ -150,18 +156,22 @@ pub pending-load : (m n : MapValue) (h : List ResolvedEvent) → pending m (WasL
 unfolding dead_keys pending_after
 pending-load m n h = refl
 
+-- one more press of the same dead key makes the run longer
 run_length-same : (i : ℕ) (rest : List (Option ℕ)) → run_length i (Some i ∷ rest) ≡ suc (run_length i rest)
 run_length-same i rest = rw (eq-eqb i i refl) refl
 
+-- a dead key that is pressed again is no longer pending, or pending again
 toggle_again : (i n : ℕ) (b : Bool) → is_odd n ≡ b
     → (if is_odd (suc (suc n)) then Some i else None) ≡ toggled (Some i) (if is_odd (suc n) then Some i else None)
 toggle_again i n true e = rw e refl
 toggle_again i n false e = rw (e, eq-eqb i i refl) refl
 
+-- another dead key is pending in its place
 toggle_other : (i j : ℕ) (b : Bool) → eqb j i ≡ false → Some i ≡ toggled (Some i) (if b then Some j else None)
 toggle_other i j true e = rw e refl
 toggle_other i j false e = refl
 
+-- the step of the next lemma, where the dead key before is the same
 toggle_same : (i : ℕ) (r : List (Option ℕ))
     → pending_after (Some i ∷ (Some i ∷ r)) ≡ toggled (Some i) (pending_after (Some i ∷ r))
 unfolding pending_after
@@ -169,6 +179,7 @@ toggle_same i r =
     rw (run_length-same i (Some i ∷ r), run_length-same i r)
     (toggle_again i (run_length i r) (is_odd (run_length i r)) refl)
 
+-- the step of the next lemma, by whether the dead key before is the same
 toggle_cases : (i j : ℕ) (r : List (Option ℕ)) (b : Bool) → eqb j i ≡ b
     → pending_after (Some i ∷ (Some j ∷ r)) ≡ toggled (Some i) (pending_after (Some j ∷ r))
 unfolding pending_after
@@ -179,6 +190,7 @@ toggle_cases i j r true e =
 toggle_cases i j r false e =
     rw (run_length-same i (Some j ∷ r), e) (toggle_other i j (is_odd (run_length j (Some j ∷ r))) e)
 
+-- one more press of a dead key toggles it
 pub pending_after-toggles : (i : ℕ) (rest : List (Option ℕ))
     → pending_after (Some i ∷ rest) ≡ toggled (Some i) (pending_after rest)
 unfolding pending_after
@@ -186,11 +198,13 @@ pending_after-toggles i [] = rw (run_length-same i []) refl
 pending_after-toggles i (None ∷ rest) = rw (run_length-same i (None ∷ rest)) refl
 pending_after-toggles i (Some j ∷ rest) = toggle_cases i j rest (eqb j i) refl
 
+-- one more event that keeps nothing pending, or toggles a dead key
 toggles : (o : Option ℕ) (rest : List (Option ℕ)) → pending_after (o ∷ rest) ≡ toggled o (pending_after rest)
 unfolding pending_after
 toggles None rest = refl
 toggles (Some i) rest = pending_after-toggles i rest
 
+-- one more event, which keeps what is pending or doesn't
 pending_step : (b : Bool) (o : Option ℕ) (rest : List (Option ℕ))
     → pending_after (if b then rest else o ∷ rest) ≡ (if b then pending_after rest else toggled o (pending_after rest))
 pending_step true o rest = refl
@@ -206,8 +220,10 @@ pub pressed-start : (k : ℕ) → pressed k [] ≡ false
 unfolding pressed
 pressed-start k = refl
 
+-- one more press, by whether it is of the key
 press_step : (b : Bool) (k j : ℕ) (h : List Event)
-    → is_press (if b then Some (Press j) else last_where (concerns k) h) ≡ (if b then true else is_press (last_where (concerns k) h))
+    → is_press (if b then Some (Press j) else last_where (concerns k) h)
+    ≡ (if b then true else is_press (last_where (concerns k) h))
 press_step true k j h = refl
 press_step false k j h = refl
 
@@ -215,8 +231,10 @@ pub pressed-press : (k j : ℕ) (h : List Event) → pressed k (Press j ∷ h) �
 unfolding pressed
 pressed-press k j h = press_step (j == k) k j h
 
+-- one more release, by whether it is of the key
 release_step : (b : Bool) (k j : ℕ) (h : List Event)
-    → is_press (if b then Some (Release j) else last_where (concerns k) h) ≡ (if b then false else is_press (last_where (concerns k) h))
+    → is_press (if b then Some (Release j) else last_where (concerns k) h)
+    ≡ (if b then false else is_press (last_where (concerns k) h))
 release_step true k j h = refl
 release_step false k j h = refl
 
@@ -232,11 +250,14 @@ pub pressed-load : (k : ℕ) (h : List Event) → pressed k (Load ∷ h) ≡ fal
 unfolding pressed
 pressed-load k h = refl
 
+-- one more event of a lock, by whether it unlocks and whether it turns
 locked_more : (b t : Bool) (n : ℕ)
-    → is_odd (if b then 0 else (if t then suc n else n)) ≡ (if b then false else (if t then not (is_odd n) else is_odd n))
+    → is_odd (if b then 0 else (if t then suc n else n))
+    ≡ (if b then false else (if t then not (is_odd n) else is_odd n))
 locked_more true t n = refl
 locked_more false t n = locked_step t n
 
+-- one more event of a lock
 pub locked-more : (l : Lock) (x : ResolvedEvent) (h : List ResolvedEvent)
     → locked l (x ∷ h) ≡ (if unlocks l x h then false else (if turns l x h then not (locked l h) else locked l h))
 unfolding locked

@@ -1,22 +1,29 @@
 -- One place of a table after a write, by a test on the places.
-use Rattle.std.proofs.Common.{◌≡◌, ℕ, ◌<◌, Bool, true, false, cond, eqb, List, length, get_or, set, ◌+◌, ◌&&◌, not, Some, ap, lit<, refl, sym, arith}
+use Rattle.std.proofs.Common.{◌≡◌, ℕ, ◌<◌, Bool, true, false, cond, eqb, List, length, get_or, set, ◌+◌, ◌&&◌, not}
+use Rattle.std.proofs.Common.{Some, ap, lit<, refl, sym, arith}
 use Rattle.std.proofs.lemmas.List.{get_or-set_same, get_or-set_other, get_or-replicate}
 use Rattle.std.proofs.lemmas.Bool.{eqb-true, eqb-false, ne_eqb}
 use Rattle.keymap_core.specs.declared.action.Modifier.{Modifier}
-use Rattle.keymap_core.specs.declared.action.Modifier.TheVariants.{LeftShift, RightShift, LeftControl, RightControl, LeftAlt, RightAlt, AltShift, Meta}
+use Rattle.keymap_core.specs.declared.action.Modifier.TheVariants.{LeftShift, RightShift, LeftControl, RightControl}
+use Rattle.keymap_core.specs.declared.action.Modifier.TheVariants.{LeftAlt, RightAlt, AltShift, Meta}
 use Rattle.keymap_core.specs.declared.action.Lock.{Lock}
 use Rattle.keymap_core.specs.declared.action.Lock.TheVariants.{Caps, Num, Scroll, Alt}
 use Rattle.keymap_core.specs.declared.action.Holding.{Holding}
 use Rattle.keymap_core.specs.declared.action.Holding.TheVariants as holding
 use Rattle.keymap_core.specs.declared.action.Action.{Action}
 use Rattle.keymap_core.specs.declared.action.Action.TheVariants as act
-use Rattle.keymap_core.specs.Actions.{holding_of, modifier_index, lock_index, holding_index, same_action, holding_action}
+use Rattle.keymap_core.specs.Actions.{holding_of, modifier_index, lock_index, holding_index, same_action}
+use Rattle.keymap_core.specs.Actions.{holding_action}
 
-place_cases : {X : Type 0} (xs : List X) (i j : ℕ) (v d : X) (b : Bool) → eqb i j ≡ b → i < length xs → get_or (set xs i v) j d ≡ cond b v (get_or xs j d)
+-- an element after a write, by the test of its index
+place_cases : {X : Type 0} (xs : List X) (i j : ℕ) (v d : X) (b : Bool) → eqb i j ≡ b → i < length xs
+    → get_or (set xs i v) j d ≡ cond b v (get_or xs j d)
 place_cases xs i j v d true e h = let s : i ≡ j = eqb-true i j e in rw (← s) (get_or-set_same xs i v d h)
 place_cases xs i j v d false e h = get_or-set_other xs i j v d (λ s. eqb-false i j e (sym s))
 
-pub get_or-set_if : {X : Type 0} (xs : List X) (i j : ℕ) (v d : X) → i < length xs → get_or (set xs i v) j d ≡ cond (eqb i j) v (get_or xs j d)
+-- an element after a write
+pub get_or-set_if : {X : Type 0} (xs : List X) (i j : ℕ) (v d : X) → i < length xs
+    → get_or (set xs i v) j d ≡ cond (eqb i j) v (get_or xs j d)
 get_or-set_if xs i j v d h = place_cases xs i j v d (eqb i j) refl h
 
 pub modifier_index-lt : (m : Modifier) → modifier_index m < 8
@@ -29,13 +36,17 @@ modifier_index-lt RightAlt = lit< tt
 modifier_index-lt AltShift = lit< tt
 modifier_index-lt Meta = lit< tt
 
+-- the index of a modifier is that of no lock
 mod_lock : (m : Modifier) (l : Lock) → eqb (modifier_index m) (8 + lock_index l) ≡ false
 mod_lock m l = let h : modifier_index m < 8 = modifier_index-lt m in ne_eqb _ _ (λ e. omega arith)
 
+-- the index of a lock is that of no modifier
 lock_mod : (m : Modifier) (l : Lock) → eqb (8 + lock_index l) (modifier_index m) ≡ false
 lock_mod m l = let h : modifier_index m < 8 = modifier_index-lt m in ne_eqb _ _ (λ e. omega arith)
 
-pub same_place : (a b : Holding) → same_action (holding_action a) (holding_action b) ≡ eqb (holding_index a) (holding_index b)
+-- holding actions are the same exactly where their indices are
+pub same_place : (a b : Holding)
+    → same_action (holding_action a) (holding_action b) ≡ eqb (holding_index a) (holding_index b)
 same_place (holding.Mod m) (holding.Mod n) = refl
 same_place (holding.Lock Caps) (holding.Lock Caps) = refl
 same_place (holding.Lock Caps) (holding.Lock Num) = refl
@@ -56,6 +67,7 @@ same_place (holding.Lock Alt) (holding.Lock Alt) = refl
 same_place (holding.Mod m) (holding.Lock l) = sym (mod_lock m l)
 same_place (holding.Lock l) (holding.Mod m) = sym (lock_mod m l)
 
+-- the index of a holding action is one of twelve
 pub holding_index-lt : (a : Holding) → holding_index a < 12
 holding_index-lt (holding.Mod m) = let h : modifier_index m < 8 = modifier_index-lt m in omega arith
 holding_index-lt (holding.Lock Caps) = lit< tt
@@ -75,10 +87,19 @@ cleared_by true false = refl
 cleared_by false true = refl
 cleared_by false false = refl
 
-pub mark-cleared : (marks : List Bool) (action : Action) (a b : Holding) → length marks ≡ 12 → holding_of action ≡ Some a → get_or (set marks (holding_index a) false) (holding_index b) false ≡ (get_or marks (holding_index b) false && not (same_action action (holding_action b)))
+-- after the mark of an action was cleared, the others are as before
+pub mark-cleared : (marks : List Bool) (action : Action) (a b : Holding) → length marks ≡ 12
+    → holding_of action ≡ Some a
+    → get_or (set marks (holding_index a) false) (holding_index b) false
+    ≡ (get_or marks (holding_index b) false && not (same_action action (holding_action b)))
 mark-cleared marks action a b n e =
     let lt : holding_index a < length marks = let h : holding_index a < 12 = holding_index-lt a in omega arith in
-    rw (holding_of-some action a e, get_or-set_if marks (holding_index a) (holding_index b) false false lt, same_place a b) (cleared_by _ _)
+    rw (
+      holding_of-some action a e,
+      get_or-set_if marks (holding_index a) (holding_index b) false false lt,
+      same_place a b,
+    )
+    (cleared_by _ _)
 
 -- what a write to a place, and a list of one value, leave at each place
 pub ruleset places = (mark-cleared, get_or-set_if, get_or-replicate, same_place, holding_index-lt)

@@ -1,5 +1,6 @@
 -- Looks in plain maps.
-use Rattle.std.proofs.Common.{◌≡◌, ℕ, ◌+◌, ◌<◌, Bool, true, false, ◌&&◌, List, refl, ap, subst, sym, ◌∙◌, inl, inr, lit<}
+use Rattle.std.proofs.Common.{◌≡◌, ℕ, ◌+◌, ◌<◌, Bool, true, false, ◌&&◌, List, refl, ap, subst, sym, ◌∙◌, inl, inr}
+use Rattle.std.proofs.Common.{lit<}
 use Rattle.std.proofs.lemmas.Bool.{or_cases, and_parts}
 use Rattle.keymap_core.specs.declared.action.Lock.{Lock}
 use Rattle.keymap_core.specs.declared.action.Lock.TheVariants as lock
@@ -18,8 +19,10 @@ use Rattle.console_core.specs.Columns.{look_with}
 use Rattle.console_core.specs.Resolved.{ResolvedEvent, held, locked, look}
 use Rattle.console_core.specs.History.{Maps, in_force, resolved, pressed, On, Locked, HasKeys, HasNoLoads}
 use Rattle.console_core.specs.Headline.{is_fresh_press}
-use Rattle.console_core.specs.Plain.{IsPlainFor, IsPlain, bears, plain_on, plain_locked, PlainLook, LooksPlainly, PlainOnByKeys, PlainLockedByKeys}
-use Rattle.keymap_core.proofs.BorneTests.{any-some, some-any, slot-stands, stands-slot, live-upper, upper-is_live, borne-bears, or-left, or-right}
+use Rattle.console_core.specs.Plain.{IsPlainFor, IsPlain, bears, plain_on, plain_locked, PlainLook, LooksPlainly}
+use Rattle.console_core.specs.Plain.{PlainOnByKeys, PlainLockedByKeys}
+use Rattle.keymap_core.proofs.BorneTests.{any-some, some-any, slot-stands, stands-slot, live-upper, upper-is_live}
+use Rattle.keymap_core.proofs.BorneTests.{borne-bears, or-left, or-right}
 use Rattle.console_core.proofs.Borne.{AllLooked, locked-borne, resolved-looked}
 use Rattle.console_core.proofs.Bearing.{RememberedBySome, held-remembered, remembered-cell}
 use Rattle.console_core.proofs.Headline.{throughout_held, same_by}
@@ -41,17 +44,21 @@ bears-is m a k e =
           inr (live-upper m p.0, slot-stands m (holding_action a) (k + 128) p.1)
     ]
 
+-- a key that bears a holding action passes the test
 pub is-bears : (m : MapValue) (a : Holding) (k : ℕ) → Bears m k a → bears m a k ≡ true
 is-bears m a k (inl s) = or-left _ _ (stands-slot m (holding_action a) k s)
 is-bears m a k (inr s) =
-    or-right (has_in_slot m (holding_action a) k) _ (rw (upper-is_live m s.0, stands-slot m (holding_action a) (k + 128) s.1) refl)
+    or-right (has_in_slot m (holding_action a) k) _
+    (rw (upper-is_live m s.0, stands-slot m (holding_action a) (k + 128) s.1) refl)
 
 -- a key that bears the action throughout bears it
 pub throughout-bears : (m : MapValue) (k : ℕ) (a : Holding) → BearsThroughout m k a → Bears m k a
-throughout-bears m k a s = subst (λ x. IsCellOf m k x) (s.2 (cell_at m k 0) (inl (0, lit< tt, refl))) (inl (0, lit< tt, refl))
+throughout-bears m k a s =
+    subst (λ x. IsCellOf m k x) (s.2 (cell_at m k 0) (inl (0, lit< tt, refl))) (inl (0, lit< tt, refl))
 
 -- a fact about the one key that bears the action
-one_bearer : (m : MapValue) (a : Holding) (k : ℕ) (fact : ℕ → Bool) → BearsThroughout m k a → any_below (λ j. bears m a j && fact j) 128 ≡ fact k
+one_bearer : (m : MapValue) (a : Holding) (k : ℕ) (fact : ℕ → Bool) → BearsThroughout m k a
+    → any_below (λ j. bears m a j && fact j) 128 ≡ fact k
 one_bearer m a k fact s =
     same_by _ (fact k)
     (λ e.
@@ -68,15 +75,20 @@ bearer-some m a fact e =
     let p : (bears m a t.0 ≡ true) × (fact t.0 ≡ true) = and_parts _ _ t.2 in
     (t.0, t.1, bears-is m a t.0 p.0, p.1)
 
+-- a bearer for which a fact holds is found
 some-bearer : (m : MapValue) (a : Holding) (fact : ℕ → Bool) (k : ℕ) → k < 128 → Bears m k a → fact k ≡ true
     → any_below (λ j. bears m a j && fact j) 128 ≡ true
 some-bearer m a fact k lt b e = any-some (λ j. bears m a j && fact j) k 128 lt (rw (is-bears m a k b, e) refl)
 
+-- a modifier is on by the test exactly if a key that bears it is pressed
 pub plain_on_by_keys : PlainOnByKeys
 unfolding plain_on
-plain_on_by_keys m h i =
-    (bearer-some m (holding.Mod i) (λ k. pressed k h), λ s. some-bearer m (holding.Mod i) (λ k. pressed k h) s.0 s.1 s.2 s.3)
+plain_on_by_keys m h i = (
+  bearer-some m (holding.Mod i) (λ k. pressed k h),
+  λ s. some-bearer m (holding.Mod i) (λ k. pressed k h) s.0 s.1 s.2 s.3,
+)
 
+-- a lock is on by the test exactly if a key that bears it had an odd number of fresh presses
 pub plain_locked_by_keys : PlainLockedByKeys
 unfolding plain_locked
 plain_locked_by_keys m h l = (
@@ -84,53 +96,69 @@ plain_locked_by_keys m h l = (
   λ s. some-bearer m (holding.Lock l) (λ k. is_odd (count_where (is_fresh_press k) h)) s.0 s.1 s.2 s.3,
 )
 
-no_bearer : (m : MapValue) (a : Holding) (fact : ℕ → Bool) → NobodyBears m a → any_below (λ j. bears m a j && fact j) 128 ≡ false
+-- where nobody bears a holding action, no bearer is found
+no_bearer : (m : MapValue) (a : Holding) (fact : ℕ → Bool) → NobodyBears m a
+    → any_below (λ j. bears m a j && fact j) 128 ≡ false
 no_bearer m a fact nobody =
     not_true _ (λ e.
     let t : (j : ℕ) × (j < 128) × ((bears m a j && fact j) ≡ true) = some-any (λ j. bears m a j && fact j) 128 e in
     nobody t.0 t.1 (bears-is m a t.0 (and_parts _ _ t.2).0))
 
 -- what nobody bears is never held
-pub never-held : (m : MapValue) (a : Holding) → NobodyBears m a → (r : List ResolvedEvent) → AllLooked m r → held a r ≡ false
+pub never-held : (m : MapValue) (a : Holding) → NobodyBears m a → (r : List ResolvedEvent) → AllLooked m r
+    → held a r ≡ false
 never-held m a nobody r all =
     not_true _ (λ e.
     let s : RememberedBySome a r = held-remembered m a (λ k lt b c x. nobody k lt b) r all e in
-    let b : (s.0 < 128) × IsCellOf m s.0 (Act (holding_action a)) = remembered-cell m r s.0 (holding_action a) all s.1 in
+    let b : (s.0 < 128) × IsCellOf m s.0 (Act (holding_action a)) =
+    remembered-cell m r s.0 (holding_action a) all s.1 in
     nobody s.0 b.0 b.1)
 
 -- a lock that nobody bears is never on
-pub never-locked : (m : MapValue) (l : Lock) → NobodyBears m (holding.Lock l) → (r : List ResolvedEvent) → AllLooked m r → locked l r ≡ false
+pub never-locked : (m : MapValue) (l : Lock) → NobodyBears m (holding.Lock l) → (r : List ResolvedEvent) → AllLooked m r
+    → locked l r ≡ false
 never-locked m l nobody r all =
     not_true _ (λ e.
-    let s : (k : ℕ) × (k < 128) × Bears m k (holding.Lock l) = borne-bears m (holding.Lock l) (locked-borne m l r all e) in
+    let s : (k : ℕ) × (k < 128) × Bears m k (holding.Lock l) =
+    borne-bears m (holding.Lock l) (locked-borne m l r all e) in
     nobody s.0 s.1 s.2)
 
 -- without loads, under the first map
 module _ (ms : Maps) (h : List Event) (none : HasNoLoads h) (keys : HasKeys h) where
+  -- all presses look up cells of their keys in the first map
   looked : AllLooked ms.first (resolved ms h)
   looked = subst (λ m. AllLooked m (resolved ms h)) (first_in_force ms h none) (resolved-looked ms h keys)
 
+  -- a modifier that is plain is on by the test
   on-plain : (i : Modifier) → IsPlainFor ms.first (holding.Mod i) → On ms i h ≡ plain_on ms.first h i
   unfolding plain_on
   on-plain i (inl nobody) =
-      never-held ms.first (holding.Mod i) nobody (resolved ms h) looked ∙ sym (no_bearer ms.first (holding.Mod i) (λ k. pressed k h) nobody)
+      never-held ms.first (holding.Mod i) nobody (resolved ms h) looked
+      ∙ sym (no_bearer ms.first (holding.Mod i) (λ k. pressed k h) nobody)
   on-plain i (inr s) =
-      throughout_held ms h keys (holding.Mod i) s.0 (subst (λ m. BearsThroughout m s.0 (holding.Mod i)) (sym (first_in_force ms h none)) s.1)
+      throughout_held ms h keys (holding.Mod i) s.0
+      (subst (λ m. BearsThroughout m s.0 (holding.Mod i)) (sym (first_in_force ms h none)) s.1)
       ∙ sym (one_bearer ms.first (holding.Mod i) s.0 (λ k. pressed k h) s.1)
 
+  -- a lock that is plain is on by the test
   locked-plain : (l : Lock) → IsPlainFor ms.first (holding.Lock l) → Locked ms l h ≡ plain_locked ms.first h l
   unfolding plain_locked
   locked-plain l (inl nobody) =
-      never-locked ms.first l nobody (resolved ms h) looked ∙ sym (no_bearer ms.first (holding.Lock l) (λ k. is_odd (count_where (is_fresh_press k) h)) nobody)
+      never-locked ms.first l nobody (resolved ms h) looked
+      ∙ sym (no_bearer ms.first (holding.Lock l) (λ k. is_odd (count_where (is_fresh_press k) h)) nobody)
   locked-plain l (inr s) =
       locked_by_fresh_presses ms h keys l s.0 s.1 (inl none)
       ∙ sym (one_bearer ms.first (holding.Lock l) s.0 (λ k. is_odd (count_where (is_fresh_press k) h)) s.1)
 
-  pub looks-first : (k : ℕ) → look (in_force ms h) (resolved ms h) k ≡ look_with ms.first (λ i. On ms i h) (λ l. Locked ms l h) k
+  -- a look in the map in force is one in the first map
+  pub looks-first : (k : ℕ)
+      → look (in_force ms h) (resolved ms h) k ≡ look_with ms.first (λ i. On ms i h) (λ l. Locked ms l h) k
   unfolding look
   looks-first k = ap (λ m. look_with m (λ i. On ms i h) (λ l. Locked ms l h) k) (first_in_force ms h none)
 
-  pub look-plain : IsPlain ms.first → (k : ℕ) → look_with ms.first (λ i. On ms i h) (λ l. Locked ms l h) k ≡ PlainLook ms.first k h
+  -- in a plain map a look follows from the keys
+  pub look-plain : IsPlain ms.first → (k : ℕ)
+      → look_with ms.first (λ i. On ms i h) (λ l. Locked ms l h) k ≡ PlainLook ms.first k h
   look-plain plain k =
       rw (
         on-plain modifier.LeftShift plain.left_shift,
@@ -145,12 +173,16 @@ module _ (ms : Maps) (h : List Event) (none : HasNoLoads h) (keys : HasKeys h) w
         locked-plain lock.Alt plain.alt_lock,
       ) refl
 
+-- in a plain map each look follows from which keys are pressed and the fresh presses of the locks' keys
 pub looks_plainly : LooksPlainly
 looks_plainly ms h plain none keys k = looks-first ms h none keys k ∙ look-plain ms h none keys plain k
 
 -- the same of modifiers and locks that are shown
-pub shown-plain : (ms : Maps) (h : List Event) → HasNoLoads h → HasKeys h → IsPlain ms.first → (k : ℕ) (is_on : Modifier → Bool) (is_locked : Lock → Bool) → ((i : Modifier) → is_on i ≡ On ms i h) → ((l : Lock) → is_locked l ≡ Locked ms l h) → look_with ms.first is_on is_locked k ≡ PlainLook ms.first k h
+pub shown-plain : (ms : Maps) (h : List Event) → HasNoLoads h → HasKeys h → IsPlain ms.first
+    → (k : ℕ) (is_on : Modifier → Bool) (is_locked : Lock → Bool) → ((i : Modifier) → is_on i ≡ On ms i h)
+    → ((l : Lock) → is_locked l ≡ Locked ms l h) → look_with ms.first is_on is_locked k ≡ PlainLook ms.first k h
 shown-plain ms h none keys plain k is_on is_locked on_is locked_is =
     let e : is_on ≡ (λ i. On ms i h) = fun_ext on_is in
     let f : is_locked ≡ (λ l. Locked ms l h) = fun_ext locked_is in
-    ap (λ x. look_with ms.first x is_locked k) e ∙ ap (λ y. look_with ms.first (λ i. On ms i h) y k) f ∙ look-plain ms h none keys plain k
+    ap (λ x. look_with ms.first x is_locked k) e ∙ ap (λ y. look_with ms.first (λ i. On ms i h) y k) f
+    ∙ look-plain ms h none keys plain k

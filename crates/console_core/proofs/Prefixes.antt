@@ -1,6 +1,7 @@
 -- Pressed by positions, what an event is resolved to, and the answers by cases.
 use Prim.Native.Nat.{suc}
-use Rattle.std.proofs.Common.{◌≡◌, ℕ, Bool, true, false, List, [], ◌∷◌, ◌++◌, length, Some, refl, ap, sym, ◌∙◌, if◌then◌else◌}
+use Rattle.std.proofs.Common.{◌≡◌, ℕ, Bool, true, false, List, [], ◌∷◌, ◌++◌, length, Some, refl, ap, sym, ◌∙◌}
+use Rattle.std.proofs.Common.{if◌then◌else◌}
 use Rattle.std.proofs.lemmas.Bool.{eqb-true, eq-eqb, true≢false}
 use Rattle.keymap_core.specs.declared.entry.Cell.{Cell}
 use Rattle.keymap_core.specs.declared.entry.Cell.TheVariants.{Char, Act}
@@ -9,10 +10,14 @@ use Rattle.console_core.specs.declared.event.Event.TheVariants.{Press, Release, 
 use Rattle.console_core.specs.Positions.{last_where}
 use Rattle.console_core.specs.Resolved.{ResolvedEvent, resolve_press, answer_resolved}
 use Rattle.console_core.specs.History.{Maps, in_force, concerns, is_press, pressed, resolved, resolved_event}
-use Rattle.console_core.specs.Reading.{Look, NoneOf, LastPresses, PressedByPositions, ResolvedAtPrefix, answer_to_look, AnswersByCases}
+use Rattle.console_core.specs.Reading.{Look, NoneOf, LastPresses, PressedByPositions, ResolvedAtPrefix, answer_to_look}
+use Rattle.console_core.specs.Reading.{AnswersByCases}
 use Rattle.console_core.proofs.OneMore.{resolved-more}
 
-last_press_by : (k : ℕ) (e : Event) (h : List Event) (b : Bool) → concerns k e ≡ b → is_press (if b then Some e else last_where (concerns k) h) ≡ true → (is_press (last_where (concerns k) h) ≡ true → LastPresses k h) → LastPresses k (e ∷ h)
+-- one more event, by whether it concerns the key
+last_press_by : (k : ℕ) (e : Event) (h : List Event) (b : Bool) → concerns k e ≡ b
+    → is_press (if b then Some e else last_where (concerns k) h) ≡ true
+    → (is_press (last_where (concerns k) h) ≡ true → LastPresses k h) → LastPresses k (e ∷ h)
 last_press_by k (Press j) h true c p rec = ([], h, ap (λ x. Press x ∷ h) (eqb-true j k c), tt)
 last_press_by k (Release j) h true c p rec = absurd (true≢false (sym p))
 last_press_by k Reset h true c p rec = absurd (true≢false (sym p))
@@ -20,14 +25,18 @@ last_press_by k Load h true c p rec = absurd (true≢false (sym p))
 last_press_by k e h false c p rec =
     let s : LastPresses k h = rec p in (e ∷ s.0, s.1, ap (λ t. e ∷ t) s.2, (c, s.3))
 
+-- where the last event that concerns a key is a press, it stands at some position
 last_press : (k : ℕ) (h : List Event) → is_press (last_where (concerns k) h) ≡ true → LastPresses k h
 last_press k [] p = absurd (true≢false (sym p))
 last_press k (e ∷ h) p = last_press_by k e h (concerns k e) refl p (last_press k h)
 
-press_last : (k : ℕ) (later before : List Event) → NoneOf (λ e _. concerns k e) later (Press k ∷ before) → is_press (last_where (concerns k) (later ++ Press k ∷ before)) ≡ true
+-- a press behind which nothing concerns the key is the last event that does
+press_last : (k : ℕ) (later before : List Event) → NoneOf (λ e _. concerns k e) later (Press k ∷ before)
+    → is_press (last_where (concerns k) (later ++ Press k ∷ before)) ≡ true
 press_last k [] before none = rw (eq-eqb k k refl) refl
 press_last k (e ∷ later) before none = rw none.0 (press_last k later before none.1)
 
+-- a key is pressed exactly if a press of it has no later event that concerns it
 pub pressed_by_positions : PressedByPositions
 unfolding pressed
 pressed_by_positions k h = (
@@ -35,16 +44,24 @@ pressed_by_positions k h = (
   (λ s. ap (λ t. is_press (last_where (concerns k) t)) s.2 ∙ press_last k s.0 s.1 s.3),
 )
 
+-- each event is resolved by those before it
 pub resolved_at_prefix : ResolvedAtPrefix
 resolved_at_prefix ms [] e before = ([], refl, resolved-more ms before e)
 resolved_at_prefix ms (x ∷ later) e before =
-    let s : (newer : List ResolvedEvent) × (length newer ≡ length later) × (resolved ms (later ++ e ∷ before) ≡ newer ++ resolved_event ms before e ∷ resolved ms before) =
-    resolved_at_prefix ms later e before in
-    (resolved_event ms (later ++ e ∷ before) x ∷ s.0, ap suc s.1, resolved-more ms (later ++ e ∷ before) x ∙ ap (λ r. resolved_event ms (later ++ e ∷ before) x ∷ r) s.2)
+    let s : (newer : List ResolvedEvent) × (length newer ≡ length later)
+    × (resolved ms (later ++ e ∷ before) ≡ newer ++ resolved_event ms before e ∷ resolved ms before) =
+    resolved_at_prefix ms later e before in (
+      resolved_event ms (later ++ e ∷ before) x ∷ s.0,
+      ap suc s.1,
+      resolved-more ms (later ++ e ∷ before) x ∙ ap (λ r. resolved_event ms (later ++ e ∷ before) x ∷ r) s.2,
+    )
 
-answer_press : (ms : Maps) (k : ℕ) (h : List Event) (x : Cell) → answer_resolved (in_force ms h) (resolve_press k x) (resolved ms h) ≡ answer_to_look ms k h x
+-- the answer to a press, by the cell looked up
+answer_press : (ms : Maps) (k : ℕ) (h : List Event) (x : Cell)
+    → answer_resolved (in_force ms h) (resolve_press k x) (resolved ms h) ≡ answer_to_look ms k h x
 answer_press ms k h (Char c) = refl
 answer_press ms k h (Act a) = refl
 
+-- the answer to a press is that to its look, and to a release that to what is remembered
 pub answers_by_cases : AnswersByCases
 answers_by_cases ms k h = (answer_press ms k h (Look ms k h), refl, refl, refl)

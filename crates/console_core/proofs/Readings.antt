@@ -1,5 +1,6 @@
 -- That the notions by resolved events are those on the events.
-use Rattle.std.proofs.Common.{◌≡◌, ℕ, Bool, false, true, ◌&&◌, ◌||◌, not, List, [], ◌∷◌, ◌++◌, refl, ap, sym, ◌∙◌, inl, inr}
+use Rattle.std.proofs.Common.{◌≡◌, ℕ, Bool, false, true, ◌&&◌, ◌||◌, not, List, [], ◌∷◌, ◌++◌, refl, ap, sym, ◌∙◌, inl}
+use Rattle.std.proofs.Common.{inr}
 use Rattle.std.proofs.lemmas.Bool.{or_cases, and_parts, not-true, true≢false}
 use Rattle.keymap_core.specs.declared.action.Holding.{Holding}
 use Rattle.keymap_core.specs.declared.action.Holding.TheVariants as holding
@@ -12,47 +13,66 @@ use Rattle.console_core.specs.Positions.{holds_since, count_since, is_odd}
 use Rattle.console_core.specs.Resolved.{unlocks, look, resolve_press, held, locked, raises, lowers, turns}
 use Rattle.console_core.specs.History.{Maps, in_force, resolved_event, resolved}
 use Rattle.console_core.proofs.OneMore.{press-unlocks}
-use Rattle.console_core.specs.Reading.{Unlocks, Raises, Lowers, Turns, Held, NoneOf, SomeSince, HeldByPositions, LockedByCount}
+use Rattle.console_core.specs.Reading.{Unlocks, Raises, Lowers, Turns, Held, NoneOf, SomeSince, HeldByPositions}
+use Rattle.console_core.specs.Reading.{LockedByCount}
 
-raises_press : (ms : Maps) (a : Holding) (k : ℕ) (h : List Event) (x : Cell) → look (in_force ms h) (resolved ms h) k ≡ x → raises a (resolve_press k (look (in_force ms h) (resolved ms h) k)) (resolved ms h) ≡ Raises ms a (Press k) h
+-- the step of the next lemma at a press, by the cell looked up
+raises_press : (ms : Maps) (a : Holding) (k : ℕ) (h : List Event) (x : Cell)
+    → look (in_force ms h) (resolved ms h) k ≡ x
+    → raises a (resolve_press k (look (in_force ms h) (resolved ms h) k)) (resolved ms h) ≡ Raises ms a (Press k) h
 raises_press ms a k h (Char c) e = rw e refl
 raises_press ms a k h (Act b) e = rw e refl
 
-raises-event : (ms : Maps) (a : Holding) (e : Event) (h : List Event) → raises a (resolved_event ms h e) (resolved ms h) ≡ Raises ms a e h
+-- what an event is resolved to raises what the event raises
+raises-event : (ms : Maps) (a : Holding) (e : Event) (h : List Event)
+    → raises a (resolved_event ms h e) (resolved ms h) ≡ Raises ms a e h
 raises-event ms a (Press k) h = raises_press ms a k h (look (in_force ms h) (resolved ms h) k) refl
 raises-event ms a (Release k) h = refl
 raises-event ms a Reset h = refl
 raises-event ms a Load h = refl
 
-lowers_press : (ms : Maps) (a : Holding) (k : ℕ) (h : List Event) (x : Cell) → look (in_force ms h) (resolved ms h) k ≡ x → lowers a (resolve_press k (look (in_force ms h) (resolved ms h) k)) (resolved ms h) ≡ false
+-- no press lowers anything, by the cell looked up
+lowers_press : (ms : Maps) (a : Holding) (k : ℕ) (h : List Event) (x : Cell)
+    → look (in_force ms h) (resolved ms h) k ≡ x
+    → lowers a (resolve_press k (look (in_force ms h) (resolved ms h) k)) (resolved ms h) ≡ false
 lowers_press ms a k h (Char c) e = rw e refl
 lowers_press ms a k h (Act b) e = rw e refl
 
-lowers-event : (ms : Maps) (a : Holding) (e : Event) (h : List Event) → lowers a (resolved_event ms h e) (resolved ms h) ≡ Lowers ms a e h
+-- what an event is resolved to lowers what the event lowers
+lowers-event : (ms : Maps) (a : Holding) (e : Event) (h : List Event)
+    → lowers a (resolved_event ms h e) (resolved ms h) ≡ Lowers ms a e h
 lowers-event ms a (Press k) h = lowers_press ms a k h (look (in_force ms h) (resolved ms h) k) refl
 lowers-event ms a (Release k) h = refl
 lowers-event ms a Reset h = refl
 lowers-event ms a Load h = refl
 
+-- what is held, by the events that raise and lower it
 pub held-events : (ms : Maps) (a : Holding) (h : List Event) → Held ms a h ≡ holds_since (Raises ms a) (Lowers ms a) h
 unfolding held resolved
 held-events ms a [] = refl
 held-events ms a (e ∷ h) = rw (raises-event ms a e h, lowers-event ms a e h, held-events ms a h) refl
 
-pub turns-event : (ms : Maps) (l : Lock) (e : Event) (h : List Event) → turns l (resolved_event ms h e) (resolved ms h) ≡ Turns ms l e h
+-- what an event is resolved to turns what the event turns
+pub turns-event : (ms : Maps) (l : Lock) (e : Event) (h : List Event)
+    → turns l (resolved_event ms h e) (resolved ms h) ≡ Turns ms l e h
 turns-event ms l e h = ap (λ t. t && not (Held ms (holding.Lock l) h)) (raises-event ms (holding.Lock l) e h)
 
-unlocks-event : (ms : Maps) (l : Lock) (e : Event) (h : List Event) → unlocks l (resolved_event ms h e) (resolved ms h) ≡ Unlocks ms l e h
+-- what an event is resolved to unlocks what the event unlocks
+unlocks-event : (ms : Maps) (l : Lock) (e : Event) (h : List Event)
+    → unlocks l (resolved_event ms h e) (resolved ms h) ≡ Unlocks ms l e h
 unlocks-event ms l (Press k) h = press-unlocks l k (look (in_force ms h) (resolved ms h) k) (resolved ms h)
 unlocks-event ms l (Release k) h = refl
 unlocks-event ms l Reset h = refl
 unlocks-event ms l Load h = refl
 
-turns-count : (ms : Maps) (l : Lock) (h : List Event) → count_since (unlocks l) (turns l) (resolved ms h) ≡ count_since (Unlocks ms l) (Turns ms l) h
+-- the turns since the last unlock, counted on the events
+turns-count : (ms : Maps) (l : Lock) (h : List Event)
+    → count_since (unlocks l) (turns l) (resolved ms h) ≡ count_since (Unlocks ms l) (Turns ms l) h
 unfolding resolved
 turns-count ms l [] = refl
 turns-count ms l (e ∷ h) = rw (unlocks-event ms l e h, turns-event ms l e h, turns-count ms l h) refl
 
+-- a lock is on after an odd number of turns since the last unlock
 pub locked-count : LockedByCount
 unfolding locked
 locked-count ms l h = ap is_odd (turns-count ms l h)
@@ -63,6 +83,7 @@ or-true false = refl
 
 -- holds_since by positions
 module _ {A : Type 0} (starts ends : A → List A → Bool) where
+  -- what holds since some event: such an event, and no end behind it
   some-since : (h : List A) → holds_since starts ends h ≡ true → SomeSince starts ends h
   some-since [] e = absurd (true≢false (sym e))
   some-since (x ∷ h) e =
@@ -74,12 +95,17 @@ module _ {A : Type 0} (starts ends : A → List A → Bool) where
             (x ∷ q.0, q.1, q.2, ap (λ t. x ∷ t) q.3, q.4, (ap (λ t. ends x t) (sym q.3) ∙ not-true (ends x h) p.1, q.5))
       ]
 
-  since-some : (later : List A) (x : A) (before : List A) → starts x before ≡ true → NoneOf ends later (x ∷ before) → holds_since starts ends (later ++ x ∷ before) ≡ true
+  -- an event that starts, and no end behind it: what it starts holds
+  since-some : (later : List A) (x : A) (before : List A) → starts x before ≡ true → NoneOf ends later (x ∷ before)
+      → holds_since starts ends (later ++ x ∷ before) ≡ true
   since-some [] x before s none = rw s refl
-  since-some (y ∷ later) x before s none = rw (since-some later x before s none.1, none.0) (or-true (starts y (later ++ x ∷ before)))
+  since-some (y ∷ later) x before s none =
+      rw (since-some later x before s none.1, none.0) (or-true (starts y (later ++ x ∷ before)))
 
+-- a holding action is held exactly if some event raises it and no later event lowers it
 pub held-positions : HeldByPositions
 held-positions ms a h = (
   (λ e. some-since (Raises ms a) (Lowers ms a) h (sym (held-events ms a h) ∙ e)),
-  (λ p. held-events ms a h ∙ ap (λ t. holds_since (Raises ms a) (Lowers ms a) t) p.3 ∙ since-some (Raises ms a) (Lowers ms a) p.0 p.1 p.2 p.4 p.5),
+  (λ p. held-events ms a h ∙ ap (λ t. holds_since (Raises ms a) (Lowers ms a) t) p.3
+      ∙ since-some (Raises ms a) (Lowers ms a) p.0 p.1 p.2 p.4 p.5),
 )

@@ -1,7 +1,8 @@
 -- The events along a path lead a console to the path's state, and a holder that looks up a character there leaves its
 -- modifier on.
 use Prim.Native.Nat.{suc}
-use Rattle.std.proofs.Common.{◌≡◌, ℕ, ◌<◌, ◌+◌, All, arith, Bool, true, false, ◌&&◌, ◌||◌, not, List, [], ◌∷◌, ◌++◌, Option, Some, None, refl, ap, subst, sym, ◌∙◌, inl, inr, if◌then◌else◌}
+use Rattle.std.proofs.Common.{◌≡◌, ℕ, ◌<◌, ◌+◌, All, arith, Bool, true, false, ◌&&◌, ◌||◌, not, List, [], ◌∷◌, ◌++◌}
+use Rattle.std.proofs.Common.{Option, Some, None, refl, ap, subst, sym, ◌∙◌, inl, inr, if◌then◌else◌}
 use Rattle.std.specs.Prelude.{◌==◌}
 use Rattle.std.proofs.lemmas.Bool.{eqb-true, eq-eqb, cases_Bool, true≢false}
 use Rattle.std.proofs.lemmas.List.Elements.{All-nil, All-cons}
@@ -9,7 +10,8 @@ use Rattle.keymap_core.specs.declared.action.Action.{Action}
 use Rattle.keymap_core.specs.declared.action.Action.TheVariants as act
 use Rattle.keymap_core.specs.declared.action.Lock.{Lock}
 use Rattle.keymap_core.specs.declared.action.Modifier.{Modifier}
-use Rattle.keymap_core.specs.declared.action.Modifier.TheVariants.{LeftShift, RightShift, LeftControl, RightControl, LeftAlt, RightAlt, AltShift, Meta}
+use Rattle.keymap_core.specs.declared.action.Modifier.TheVariants.{LeftShift, RightShift, LeftControl, RightControl}
+use Rattle.keymap_core.specs.declared.action.Modifier.TheVariants.{LeftAlt, RightAlt, AltShift, Meta}
 use Rattle.keymap_core.specs.declared.action.Holding.TheVariants as holding
 use Rattle.keymap_core.specs.declared.entry.Cell.{Cell}
 use Rattle.keymap_core.specs.declared.entry.Cell.TheVariants.{Char, Act}
@@ -22,7 +24,8 @@ use Rattle.console_core.specs.Positions.{first_of_two}
 use Rattle.console_core.specs.Resolved.{ResolvedEvent, held, remembered, taken_over, is_action, look, resolve_press}
 use Rattle.console_core.specs.Resolved.ResolvedEvent.{PressedCharacter, PressedAction, ReleasedKey}
 use Rattle.console_core.specs.Reading.{is_some}
-use Rattle.console_core.specs.History.{Maps, between, resolved, On, pressed, HasKey, HasKeys, IsNoLoad, HasNoLoads, IsQuiet}
+use Rattle.console_core.specs.History.{Maps, between, resolved, On, pressed, HasKey, HasKeys, IsNoLoad, HasNoLoads}
+use Rattle.console_core.specs.History.{IsQuiet}
 use Rattle.console_core.specs.declared.held.Move.{Move}
 use Rattle.console_core.specs.declared.held.Move.TheVariants.{Hold, Turn, LetGo}
 use Rattle.console_core.specs.Moves.{State, start, look_in, Holds, IsIdle, with_holder, with_turned, IsMove, moved}
@@ -30,11 +33,16 @@ use Rattle.console_core.specs.Moves.{Forgets, state_after, IsPath, events_of, ev
 use Rattle.console_core.specs.Moves.{script, IsForgetful}
 use Rattle.console_core.specs.Inner.Searching.{presses_of, presses_along}
 use Rattle.console_core.specs.Sticking.{IsPressOrRelease, presses, SticksIfReached, NeverSticksUnlessReached}
-use Rattle.console_core.proofs.OneMore.{resolved-start, resolved-more, held-start, held-character, held-action, held-release, remembered-start, remembered-character, remembered-action, remembered-release, pressed-start, pressed-press, pressed-release}
+use Rattle.console_core.proofs.OneMore.{resolved-start, resolved-more, held-start, held-character, held-action}
+use Rattle.console_core.proofs.OneMore.{held-release, remembered-start, remembered-character, remembered-action}
+use Rattle.console_core.proofs.OneMore.{remembered-release, pressed-start, pressed-press, pressed-release}
 use Rattle.console_core.proofs.Bearing.{none_some}
 use Rattle.console_core.proofs.OneMap.{first_in_force}
-use Rattle.console_core.proofs.Staying.{Follows, follows-look, follows-start, follows-hold, follows-turn, follows-let_go, follows-release, takes, same_mods, some_mods, some_none, some_keys, not_true, IsSafeBelow, never-sticks}
+use Rattle.console_core.proofs.Staying.{Follows, follows-look, follows-start, follows-hold, follows-turn}
+use Rattle.console_core.proofs.Staying.{follows-let_go, follows-release, takes, same_mods, some_mods, some_none}
+use Rattle.console_core.proofs.Staying.{some_keys, not_true, IsSafeBelow, never-sticks}
 
+-- the key holds some modifier
 abbrev pub HoldsSome : State → ℕ → Type 0
 HoldsSome s k = (i : Modifier) × Holds s k i
 
@@ -52,72 +60,109 @@ none_unless : (o : Option Action) → ((a : Action) → o ≡ Some a → ⊥) �
 none_unless None f = refl
 none_unless (Some a) f = absurd (f a refl)
 
+-- a key that is idle remembers nothing
 idle-none : (r : List ResolvedEvent) (s : State) (k : ℕ) → Exact r s → IsIdle s k → remembered k r ≡ None
 idle-none r s k x idle = none_unless (remembered k r) (λ a e. let p : HoldsSome s k = x.only k a e in idle p.0 p.1)
 
 -- what another key remembers after a press
-other-remembered : (r : List ResolvedEvent) (k j : ℕ) (b : Action) → k == j ≡ false → remembered j (PressedAction k b ∷ r) ≡ remembered j r
+other-remembered : (r : List ResolvedEvent) (k j : ℕ) (b : Action) → k == j ≡ false
+    → remembered j (PressedAction k b ∷ r) ≡ remembered j r
 other-remembered r k j b e = rw (remembered-action j k b r, e) (first_none (remembered j r))
 
 -- the holders after a move
 hold-self : (s : State) (i : Modifier) (k : ℕ) → Holds (with_holder s i (Some k)) k i
 hold-self s i k = ap (λ t. if t then Some k else s.holder i) (same_action-refl (act.Mod i))
 
-hold_other : (s : State) (i j : Modifier) (k n : ℕ) (t : Bool) → same_modifier i j ≡ t → s.holder i ≡ None → Holds s n j → (if t then Some k else s.holder j) ≡ Some n
-hold_other s i j k n true t free h = absurd (some_none n (s.holder j) h (ap (λ x. s.holder x) (sym (same_mods i j t)) ∙ free))
+-- the step of the next lemma, by whether the modifiers are the same
+hold_other : (s : State) (i j : Modifier) (k n : ℕ) (t : Bool) → same_modifier i j ≡ t → s.holder i ≡ None → Holds s n j
+    → (if t then Some k else s.holder j) ≡ Some n
+hold_other s i j k n true t free h =
+    absurd (some_none n (s.holder j) h (ap (λ x. s.holder x) (sym (same_mods i j t)) ∙ free))
 hold_other s i j k n false t free h = h
 
-hold-other : (s : State) (i : Modifier) (k n : ℕ) → s.holder i ≡ None → HoldsSome s n → HoldsSome (with_holder s i (Some k)) n
+-- a key that takes a modifier leaves each other holder as it was
+hold-other : (s : State) (i : Modifier) (k n : ℕ) → s.holder i ≡ None → HoldsSome s n
+    → HoldsSome (with_holder s i (Some k)) n
 hold-other s i k n free p = (p.0, hold_other s i p.0 k n (same_modifier i p.0) refl free p.1)
 
-let_go_other : (s : State) (i j : Modifier) (k n : ℕ) (t : Bool) → same_modifier i j ≡ t → Holds s k i → k == n ≡ false → Holds s n j → (if t then None else s.holder j) ≡ Some n
+-- the step of the next lemma, by whether the modifiers are the same
+let_go_other : (s : State) (i j : Modifier) (k n : ℕ) (t : Bool) → same_modifier i j ≡ t → Holds s k i → k == n ≡ false
+    → Holds s n j → (if t then None else s.holder j) ≡ Some n
 let_go_other s i j k n true t holds ne h =
     let e : k ≡ n = some_keys k n (sym holds ∙ ap (λ x. s.holder x) (same_mods i j t) ∙ h) in
     absurd (true≢false (sym (eq-eqb k n e) ∙ ne))
 let_go_other s i j k n false t holds ne h = h
 
-let_go-other : (s : State) (i : Modifier) (k n : ℕ) → Holds s k i → k == n ≡ false → HoldsSome s n → HoldsSome (with_holder s i None) n
+-- a key that lets go leaves each other holder as it was
+let_go-other : (s : State) (i : Modifier) (k n : ℕ) → Holds s k i → k == n ≡ false → HoldsSome s n
+    → HoldsSome (with_holder s i None) n
 let_go-other s i k n holds ne p = (p.0, let_go_other s i p.0 k n (same_modifier i p.0) refl holds ne p.1)
 
 -- the moves
-exact-hold : (r : List ResolvedEvent) (s : State) (k : ℕ) (i : Modifier) → Exact r s → IsIdle s k → s.holder i ≡ None → Exact (PressedAction k (act.Mod i) ∷ r) (with_holder s i (Some k))
+exact-hold : (r : List ResolvedEvent) (s : State) (k : ℕ) (i : Modifier) → Exact r s → IsIdle s k → s.holder i ≡ None
+    → Exact (PressedAction k (act.Mod i) ∷ r) (with_holder s i (Some k))
 exact-hold r s k i x idle free =
-    let e : taken_over (remembered k r) (act.Mod i) ≡ act.Mod i = ap (λ o. taken_over o (act.Mod i)) (idle-none r s k x idle) in
+    let e : taken_over (remembered k r) (act.Mod i) ≡ act.Mod i =
+    ap (λ o. taken_over o (act.Mod i)) (idle-none r s k x idle) in
     record {
       follows = follows-hold r s k (act.Mod i) i x.follows e;
       only = λ n a q. elim (cases_Bool (k == n)) [
         | inl t ↦ (i, subst (λ y. Holds (with_holder s i (Some k)) y i) (eqb-true k n t) (hold-self s i k))
         | inr t ↦ hold-other s i k n free (x.only n a (sym (other-remembered r k n (act.Mod i) t) ∙ q))
       ];
-      up = λ l. held-action (holding.Lock l) k (act.Mod i) r ∙ ap (λ a. same_action a (act.Lock l) || held (holding.Lock l) r) e ∙ x.up l;
+      up =
+          λ l. held-action (holding.Lock l) k (act.Mod i) r
+          ∙ ap (λ a. same_action a (act.Lock l) || held (holding.Lock l) r) e ∙ x.up l;
     }
 
+-- a mark that a press sets and the release clears is clear
 up_again : (t x : Bool) → x ≡ false → ((t || x) && not t) ≡ false
 up_again true x e = refl
 up_again false x e = rw e refl
 
-exact-turn : (r : List ResolvedEvent) (s : State) (k : ℕ) (l : Lock) → Exact r s → IsIdle s k → Exact (ReleasedKey k ∷ (PressedAction k (act.Lock l) ∷ r)) (with_turned s l)
+-- a press and release of an idle key that turns a lock
+exact-turn : (r : List ResolvedEvent) (s : State) (k : ℕ) (l : Lock) → Exact r s → IsIdle s k
+    → Exact (ReleasedKey k ∷ (PressedAction k (act.Lock l) ∷ r)) (with_turned s l)
 exact-turn r s k l x idle =
-    let e : taken_over (remembered k r) (act.Lock l) ≡ act.Lock l = ap (λ o. taken_over o (act.Lock l)) (idle-none r s k x idle) in
-    let now : remembered k (PressedAction k (act.Lock l) ∷ r) ≡ Some (act.Lock l) = takes r k (act.Lock l) (holding.Lock l) e in
+    let e : taken_over (remembered k r) (act.Lock l) ≡ act.Lock l =
+    ap (λ o. taken_over o (act.Lock l)) (idle-none r s k x idle) in
+    let now : remembered k (PressedAction k (act.Lock l) ∷ r) ≡ Some (act.Lock l) =
+    takes r k (act.Lock l) (holding.Lock l) e in
     record {
-      follows = follows-release (PressedAction k (act.Lock l) ∷ r) (with_turned s l) k (follows-turn r s k (act.Lock l) l x.follows e (x.up l)) (λ i. ap (λ o. is_action o (act.Mod i)) now);
+      follows =
+          follows-release (PressedAction k (act.Lock l) ∷ r) (with_turned s l) k
+          (follows-turn r s k (act.Lock l) l x.follows e (x.up l)) (λ i. ap (λ o. is_action o (act.Mod i)) now);
       only = λ n a q. elim (cases_Bool (k == n)) [
-        | inl t ↦ absurd (none_some a (sym (remembered-release n k (PressedAction k (act.Lock l) ∷ r) ∙ ap (λ b. if b then None else remembered n (PressedAction k (act.Lock l) ∷ r)) t) ∙ q))
-        | inr t ↦ x.only n a (sym (remembered-release n k (PressedAction k (act.Lock l) ∷ r) ∙ ap (λ b. if b then None else remembered n (PressedAction k (act.Lock l) ∷ r)) t ∙ other-remembered r k n (act.Lock l) t) ∙ q)
+        | inl t ↦
+            absurd (none_some a
+            (sym (remembered-release n k (PressedAction k (act.Lock l) ∷ r)
+            ∙ ap (λ b. if b then None else remembered n (PressedAction k (act.Lock l) ∷ r)) t)
+            ∙ q))
+        | inr t ↦
+            x.only n a
+            (sym (remembered-release n k (PressedAction k (act.Lock l) ∷ r)
+            ∙ ap (λ b. if b then None else remembered n (PressedAction k (act.Lock l) ∷ r)) t
+            ∙ other-remembered r k n (act.Lock l) t)
+            ∙ q)
       ];
       up = λ j. held-release (holding.Lock j) k (PressedAction k (act.Lock l) ∷ r)
           ∙ ap (λ o. held (holding.Lock j) (PressedAction k (act.Lock l) ∷ r) && not (is_action o (act.Lock j))) now
-          ∙ ap (λ b. b && not (same_lock l j)) (held-action (holding.Lock j) k (act.Lock l) r ∙ ap (λ a. same_action a (act.Lock j) || held (holding.Lock j) r) e)
+          ∙ ap (λ b. b && not (same_lock l j))
+          (held-action (holding.Lock j) k (act.Lock l) r
+          ∙ ap (λ a. same_action a (act.Lock j) || held (holding.Lock j) r) e)
           ∙ up_again (same_lock l j) (held (holding.Lock j) r) (x.up j);
     }
 
-exact-let_go : (r : List ResolvedEvent) (s : State) (k : ℕ) (i : Modifier) → Exact r s → Holds s k i → Exact (ReleasedKey k ∷ r) (with_holder s i None)
+-- a release of a holder
+exact-let_go : (r : List ResolvedEvent) (s : State) (k : ℕ) (i : Modifier) → Exact r s → Holds s k i
+    → Exact (ReleasedKey k ∷ r) (with_holder s i None)
 exact-let_go r s k i x holds = record {
   follows = follows-let_go r s k i x.follows (x.follows.holds i k holds);
   only = λ n a q. elim (cases_Bool (k == n)) [
     | inl t ↦ absurd (none_some a (sym (remembered-release n k r ∙ ap (λ b. if b then None else remembered n r) t) ∙ q))
-    | inr t ↦ let_go-other s i k n holds t (x.only n a (sym (remembered-release n k r ∙ ap (λ b. if b then None else remembered n r) t) ∙ q))
+    | inr t ↦
+        let_go-other s i k n holds t
+        (x.only n a (sym (remembered-release n k r ∙ ap (λ b. if b then None else remembered n r) t) ∙ q))
   ];
   up = λ l. held-release (holding.Lock l) k r ∙ ap (λ b. b && not (is_action (remembered k r) (act.Lock l))) (x.up l);
 }
@@ -131,36 +176,60 @@ pub record Stands (ms : Maps) (h : List Event) (s : State) : Type 0 where
   pub no_loads : HasNoLoads h
 
 -- a press, by what is looked up
-pressed-look : (ms : Maps) (h : List Event) (s : State) (k : ℕ) (x : Cell) → Follows (resolved ms h) s → HasNoLoads h → look_in ms.first s k ≡ x → resolved ms (Press k ∷ h) ≡ resolve_press k x ∷ resolved ms h
+pressed-look : (ms : Maps) (h : List Event) (s : State) (k : ℕ) (x : Cell) → Follows (resolved ms h) s → HasNoLoads h
+    → look_in ms.first s k ≡ x → resolved ms (Press k ∷ h) ≡ resolve_press k x ∷ resolved ms h
 pressed-look ms h s k x f no_loads seen =
     resolved-more ms h (Press k)
-    ∙ ap (λ y. resolve_press k y ∷ resolved ms h) (ap (λ m. look m (resolved ms h) k) (first_in_force ms h no_loads) ∙ follows-look ms.first (resolved ms h) s k f ∙ seen)
+    ∙ ap (λ y. resolve_press k y ∷ resolved ms h)
+    (ap (λ m. look m (resolved ms h) k) (first_in_force ms h no_loads) ∙ follows-look ms.first (resolved ms h) s k f
+    ∙ seen)
 
-key_hold : (s : State) (i j : Modifier) (k n : ℕ) (t : Bool) → k < 128 → (Holds s n j → n < 128) → (if t then Some k else s.holder j) ≡ Some n → n < 128
+-- a holder is a key after one more hold
+key_hold : (s : State) (i j : Modifier) (k n : ℕ) (t : Bool) → k < 128 → (Holds s n j → n < 128)
+    → (if t then Some k else s.holder j) ≡ Some n → n < 128
 key_hold s i j k n true lt f h = subst (λ x. x < 128) (some_keys k n h) lt
 key_hold s i j k n false lt f h = f h
 
-key_let_go : (s : State) (j : Modifier) (n : ℕ) (t : Bool) → (Holds s n j → n < 128) → (if t then None else s.holder j) ≡ Some n → n < 128
+-- a holder is a key after one lets go
+key_let_go : (s : State) (j : Modifier) (n : ℕ) (t : Bool) → (Holds s n j → n < 128)
+    → (if t then None else s.holder j) ≡ Some n → n < 128
 key_let_go s j n true f h = absurd (some_none n None h refl)
 key_let_go s j n false f h = f h
 
-stands-move : (ms : Maps) (h : List Event) (s : State) (move : Move) → IsMove ms.first s move → Stands ms h s → Stands ms (events_of move ++ h) (moved s move)
+-- the events of a move lead from a state to the next
+stands-move : (ms : Maps) (h : List Event) (s : State) (move : Move) → IsMove ms.first s move → Stands ms h s
+    → Stands ms (events_of move ++ h) (moved s move)
 stands-move ms h s (Hold k i) (lt, idle, seen, free) x = record {
-  exact = rw (pressed-look ms h s k (Act (act.Mod i)) x.exact.follows x.no_loads seen) (exact-hold (resolved ms h) s k i x.exact idle free);
+  exact =
+      rw (pressed-look ms h s k (Act (act.Mod i)) x.exact.follows x.no_loads seen)
+      (exact-hold (resolved ms h) s k i x.exact idle free);
   key = λ j n p. key_hold s i j k n (same_modifier i j) lt (x.key j n) p;
   pressed = λ n p. elim (cases_Bool (k == n)) [
     | inl t ↦ (i, subst (λ y. Holds (with_holder s i (Some k)) y i) (eqb-true k n t) (hold-self s i k))
-    | inr t ↦ hold-other s i k n free (x.pressed n (sym (pressed-press n k h ∙ ap (λ b. if b then true else pressed n h) t) ∙ p))
+    | inr t ↦
+        hold-other s i k n free
+        (x.pressed n (sym (pressed-press n k h ∙ ap (λ b. if b then true else pressed n h) t) ∙ p))
   ];
   keys = All-cons HasKey (Press k) h lt x.keys;
   no_loads = All-cons IsNoLoad (Press k) h refl x.no_loads;
 }
 stands-move ms h s (Turn k l) (lt, idle, seen) x = record {
-  exact = rw (resolved-more ms (Press k ∷ h) (Release k), pressed-look ms h s k (Act (act.Lock l)) x.exact.follows x.no_loads seen) (exact-turn (resolved ms h) s k l x.exact idle);
+  exact =
+      rw (
+        resolved-more ms (Press k ∷ h) (Release k),
+        pressed-look ms h s k (Act (act.Lock l)) x.exact.follows x.no_loads seen,
+      )
+      (exact-turn (resolved ms h) s k l x.exact idle);
   key = x.key;
   pressed = λ n p. elim (cases_Bool (k == n)) [
-    | inl t ↦ absurd (true≢false (sym p ∙ pressed-release n k (Press k ∷ h) ∙ ap (λ b. if b then false else pressed n (Press k ∷ h)) t))
-    | inr t ↦ x.pressed n (sym (pressed-release n k (Press k ∷ h) ∙ ap (λ b. if b then false else pressed n (Press k ∷ h)) t ∙ pressed-press n k h ∙ ap (λ b. if b then true else pressed n h) t) ∙ p)
+    | inl t ↦
+        absurd (true≢false (sym p ∙ pressed-release n k (Press k ∷ h)
+        ∙ ap (λ b. if b then false else pressed n (Press k ∷ h)) t))
+    | inr t ↦
+        x.pressed n
+        (sym (pressed-release n k (Press k ∷ h) ∙ ap (λ b. if b then false else pressed n (Press k ∷ h)) t
+        ∙ pressed-press n k h ∙ ap (λ b. if b then true else pressed n h) t)
+        ∙ p)
   ];
   keys = All-cons HasKey (Release k) (Press k ∷ h) lt (All-cons HasKey (Press k) h lt x.keys);
   no_loads = All-cons IsNoLoad (Release k) (Press k ∷ h) refl (All-cons IsNoLoad (Press k) h refl x.no_loads);
@@ -170,12 +239,15 @@ stands-move ms h s (LetGo k i) holds x = record {
   key = λ j n p. key_let_go s j n (same_modifier i j) (x.key j n) p;
   pressed = λ n p. elim (cases_Bool (k == n)) [
     | inl t ↦ absurd (true≢false (sym p ∙ pressed-release n k h ∙ ap (λ b. if b then false else pressed n h) t))
-    | inr t ↦ let_go-other s i k n holds t (x.pressed n (sym (pressed-release n k h ∙ ap (λ b. if b then false else pressed n h) t) ∙ p))
+    | inr t ↦
+        let_go-other s i k n holds t
+        (x.pressed n (sym (pressed-release n k h ∙ ap (λ b. if b then false else pressed n h) t) ∙ p))
   ];
   keys = All-cons HasKey (Release k) h (x.key i k holds) x.keys;
   no_loads = All-cons IsNoLoad (Release k) h refl x.no_loads;
 }
 
+-- no events lead to the start
 stands-start : (ms : Maps) → Stands ms [] start
 stands-start ms = record {
   exact = rw (resolved-start ms) (record {
@@ -201,19 +273,32 @@ pub record IsLeft (ms : Maps) (h : List Event) (i : Modifier) : Type 0 where
   pub keys : HasKeys h
   pub no_loads : HasNoLoads h
 
+-- an option that isn't the action fails the test
 is_not : (o : Option Action) (a : Action) → (o ≡ Some a → ⊥) → is_action o a ≡ false
 is_not None a f = refl
 is_not (Some b) a f = not_true (same_action b a) (λ e. f (ap (λ x. Some x) (same_action-true b a e)))
 
-left-character : (ms : Maps) (h : List Event) (s : State) (i : Modifier) (k : ℕ) → Stands ms h s → Forgets ms.first s i k → IsLeft ms (Press k ∷ h) i
+-- a holder that looks up a character leaves its modifier on
+left-character : (ms : Maps) (h : List Event) (s : State) (i : Modifier) (k : ℕ) → Stands ms h s
+    → Forgets ms.first s i k → IsLeft ms (Press k ∷ h) i
 left-character ms h s i k x (holds, (c, seen)) =
-    let now : resolved ms (Press k ∷ h) ≡ PressedCharacter k c ∷ resolved ms h = pressed-look ms h s k (Char c) x.exact.follows x.no_loads seen in
+    let now : resolved ms (Press k ∷ h) ≡ PressedCharacter k c ∷ resolved ms h =
+    pressed-look ms h s k (Char c) x.exact.follows x.no_loads seen in
     record {
-      on = ap (λ r. held (holding.Mod i) r) now ∙ held-character (holding.Mod i) k c (resolved ms h) ∙ x.exact.follows.on i ∙ ap (λ o. is_some o) holds;
+      on =
+          ap (λ r. held (holding.Mod i) r) now ∙ held-character (holding.Mod i) k c (resolved ms h)
+          ∙ x.exact.follows.on i ∙ ap (λ o. is_some o) holds;
       nobody = λ n e. elim (cases_Bool (k == n)) [
-        | inl t ↦ none_some (act.Mod i) (sym (ap (λ r. remembered n r) now ∙ remembered-character n k c (resolved ms h) ∙ ap (λ b. if b then None else remembered n (resolved ms h)) t) ∙ e)
+        | inl t ↦
+            none_some (act.Mod i)
+            (sym (ap (λ r. remembered n r) now ∙ remembered-character n k c (resolved ms h)
+            ∙ ap (λ b. if b then None else remembered n (resolved ms h)) t)
+            ∙ e)
         | inr t ↦
-            let q : remembered n (resolved ms h) ≡ Some (act.Mod i) = sym (ap (λ r. remembered n r) now ∙ remembered-character n k c (resolved ms h) ∙ ap (λ b. if b then None else remembered n (resolved ms h)) t) ∙ e in
+            let q : remembered n (resolved ms h) ≡ Some (act.Mod i) =
+            sym (ap (λ r. remembered n r) now ∙ remembered-character n k c (resolved ms h)
+            ∙ ap (λ b. if b then None else remembered n (resolved ms h)) t)
+            ∙ e in
             let p : HoldsSome s n = x.exact.only n (act.Mod i) q in
             let same : p.0 ≡ i = some_mods p.0 i (sym (x.exact.follows.holds p.0 n p.1) ∙ q) in
             let key : k ≡ n = some_keys k n (sym holds ∙ ap (λ y. s.holder y) (sym same) ∙ p.1) in
@@ -223,56 +308,83 @@ left-character ms h s i k x (holds, (c, seen)) =
       no_loads = All-cons IsNoLoad (Press k) h refl x.no_loads;
     }
 
+-- what is on and isn't lowered stays on
 kept_on : (x t : Bool) → x ≡ true → t ≡ false → (x && not t) ≡ true
 kept_on x t e f = rw (e, f) refl
 
-left-release : (ms : Maps) (h : List Event) (i : Modifier) (k : ℕ) → k < 128 → IsLeft ms h i → IsLeft ms (Release k ∷ h) i
+-- a release keeps a modifier on that is left so
+left-release : (ms : Maps) (h : List Event) (i : Modifier) (k : ℕ) → k < 128 → IsLeft ms h i
+    → IsLeft ms (Release k ∷ h) i
 left-release ms h i k lt x =
     let now : resolved ms (Release k ∷ h) ≡ ReleasedKey k ∷ resolved ms h = resolved-more ms h (Release k) in
     record {
       on = ap (λ r. held (holding.Mod i) r) now ∙ held-release (holding.Mod i) k (resolved ms h)
-          ∙ kept_on (held (holding.Mod i) (resolved ms h)) (is_action (remembered k (resolved ms h)) (act.Mod i)) x.on (is_not (remembered k (resolved ms h)) (act.Mod i) (x.nobody k));
+          ∙ kept_on (held (holding.Mod i) (resolved ms h)) (is_action (remembered k (resolved ms h)) (act.Mod i)) x.on
+          (is_not (remembered k (resolved ms h)) (act.Mod i) (x.nobody k));
       nobody = λ n e. elim (cases_Bool (k == n)) [
-        | inl t ↦ none_some (act.Mod i) (sym (ap (λ r. remembered n r) now ∙ remembered-release n k (resolved ms h) ∙ ap (λ b. if b then None else remembered n (resolved ms h)) t) ∙ e)
-        | inr t ↦ x.nobody n (sym (ap (λ r. remembered n r) now ∙ remembered-release n k (resolved ms h) ∙ ap (λ b. if b then None else remembered n (resolved ms h)) t) ∙ e)
+        | inl t ↦
+            none_some (act.Mod i)
+            (sym (ap (λ r. remembered n r) now ∙ remembered-release n k (resolved ms h)
+            ∙ ap (λ b. if b then None else remembered n (resolved ms h)) t)
+            ∙ e)
+        | inr t ↦
+            x.nobody n
+            (sym (ap (λ r. remembered n r) now ∙ remembered-release n k (resolved ms h)
+            ∙ ap (λ b. if b then None else remembered n (resolved ms h)) t)
+            ∙ e)
       ];
       keys = All-cons HasKey (Release k) h lt x.keys;
       no_loads = All-cons IsNoLoad (Release k) h refl x.no_loads;
     }
 
-left_more : (ms : Maps) (h : List Event) (i : Modifier) (o : Option ℕ) → ((k : ℕ) → o ≡ Some k → k < 128) → IsLeft ms h i → IsLeft ms (release_of o ++ h) i
+-- the release of a holder, if there is one, keeps it so
+left_more : (ms : Maps) (h : List Event) (i : Modifier) (o : Option ℕ) → ((k : ℕ) → o ≡ Some k → k < 128)
+    → IsLeft ms h i → IsLeft ms (release_of o ++ h) i
 left_more ms h i None f x = x
 left_more ms h i (Some k) f x = left-release ms h i k (f k refl) x
 
+-- the release of a holder, if there is one, stands behind the others
 apart : (o : Option ℕ) (g h : List Event) → (release_of o ++ g) ++ h ≡ release_of o ++ (g ++ h)
 apart None g h = refl
 apart (Some k) g h = refl
 
-left-releases : (ms : Maps) (h : List Event) (s : State) (i : Modifier) (more : List Modifier) → ((j : Modifier) (k : ℕ) → Holds s k j → k < 128) → IsLeft ms h i → IsLeft ms (releases s more ++ h) i
+-- the releases of all holders keep it so
+left-releases : (ms : Maps) (h : List Event) (s : State) (i : Modifier) (more : List Modifier)
+    → ((j : Modifier) (k : ℕ) → Holds s k j → k < 128) → IsLeft ms h i → IsLeft ms (releases s more ++ h) i
 left-releases ms h s i [] key x = x
 left-releases ms h s i (j ∷ more) key x =
-    rw (apart (s.holder j) (releases s more) h) (left_more ms (releases s more ++ h) i (s.holder j) (key j) (left-releases ms h s i more key x))
+    rw (apart (s.holder j) (releases s more) h)
+    (left_more ms (releases s more ++ h) i (s.holder j) (key j) (left-releases ms h s i more key x))
 
 -- after the releases no holder of those modifiers is pressed
 abbrev HoldsNone : State → ℕ → List Modifier → Type 0
 HoldsNone s k [] = Unit {0}
 HoldsNone s k (i ∷ more) = (Holds s k i → ⊥) × HoldsNone s k more
 
-released_more : (k : ℕ) (h : List Event) (o : Option ℕ) → pressed k (release_of o ++ h) ≡ true → (o ≡ Some k → ⊥) × (pressed k h ≡ true)
+-- a key that is pressed after the release of a holder isn't that holder
+released_more : (k : ℕ) (h : List Event) (o : Option ℕ) → pressed k (release_of o ++ h) ≡ true
+    → (o ≡ Some k → ⊥) × (pressed k h ≡ true)
 released_more k h None p = ((λ e. some_none k None e refl), p)
 released_more k h (Some j) p =
     elim (cases_Bool (j == k)) [
       | inl t ↦ absurd (true≢false (sym p ∙ pressed-release k j h ∙ ap (λ b. if b then false else pressed k h) t))
-      | inr t ↦ ((λ e. true≢false (sym (eq-eqb j k (some_keys j k e)) ∙ t)), sym (pressed-release k j h ∙ ap (λ b. if b then false else pressed k h) t) ∙ p)
+      | inr t ↦ (
+        (λ e. true≢false (sym (eq-eqb j k (some_keys j k e)) ∙ t)),
+        sym (pressed-release k j h ∙ ap (λ b. if b then false else pressed k h) t) ∙ p,
+      )
     ]
 
-released : (k : ℕ) (h : List Event) (s : State) (more : List Modifier) → pressed k (releases s more ++ h) ≡ true → HoldsNone s k more × (pressed k h ≡ true)
+-- a key that is pressed after the releases of all holders is none of them
+released : (k : ℕ) (h : List Event) (s : State) (more : List Modifier) → pressed k (releases s more ++ h) ≡ true
+    → HoldsNone s k more × (pressed k h ≡ true)
 released k h s [] p = (tt, p)
 released k h s (i ∷ more) p =
-    let q : (Holds s k i → ⊥) × (pressed k (releases s more ++ h) ≡ true) = released_more k (releases s more ++ h) (s.holder i) (rw (apart (s.holder i) (releases s more) h) at p) in
+    let q : (Holds s k i → ⊥) × (pressed k (releases s more ++ h) ≡ true) =
+    released_more k (releases s more ++ h) (s.holder i) (rw (apart (s.holder i) (releases s more) h) at p) in
     let rest : HoldsNone s k more × (pressed k h ≡ true) = released k h s more q.1 in
     ((q.0, rest.0), rest.1)
 
+-- a key that is no holder of any modifier holds none
 holds-none : (s : State) (k : ℕ) (i : Modifier) → HoldsNone s k modifiers → Holds s k i → ⊥
 holds-none s k LeftShift n = n.0
 holds-none s k RightShift n = n.1.0
@@ -283,14 +395,17 @@ holds-none s k RightAlt n = n.1.1.1.1.1.0
 holds-none s k AltShift n = n.1.1.1.1.1.1.0
 holds-none s k Meta n = n.1.1.1.1.1.1.1.0
 
-quiet-after : (ms : Maps) (h : List Event) (s : State) (i : Modifier) (k : ℕ) → Stands ms h s → Holds s k i → IsQuiet (releases s modifiers ++ (Press k ∷ h))
+-- after the releases of all holders no key is pressed
+quiet-after : (ms : Maps) (h : List Event) (s : State) (i : Modifier) (k : ℕ) → Stands ms h s → Holds s k i
+    → IsQuiet (releases s modifiers ++ (Press k ∷ h))
 quiet-after ms h s i k x holds n lt =
     not_true (pressed n (releases s modifiers ++ (Press k ∷ h))) (λ p.
     let q : HoldsNone s n modifiers × (pressed n (Press k ∷ h) ≡ true) = released n (Press k ∷ h) s modifiers p in
     elim (cases_Bool (k == n)) [
       | inl t ↦ holds-none s n i q.0 (subst (λ y. Holds s y i) (eqb-true k n t) holds)
       | inr t ↦
-          let w : HoldsSome s n = x.pressed n (sym (pressed-press n k h ∙ ap (λ b. if b then true else pressed n h) t) ∙ q.1) in
+          let w : HoldsSome s n =
+          x.pressed n (sym (pressed-press n k h ∙ ap (λ b. if b then true else pressed n h) t) ∙ q.1) in
           holds-none s n w.0 q.0 w.1
     ])
 
@@ -299,15 +414,22 @@ of_keys-release : (o : Option ℕ) (h : List Event) → All IsPressOrRelease h �
 of_keys-release None h x = x
 of_keys-release (Some k) h x = All-cons IsPressOrRelease (Release k) h tt x
 
-of_keys-releases : (s : State) (more : List Modifier) (h : List Event) → All IsPressOrRelease h → All IsPressOrRelease (releases s more ++ h)
+-- releases of holders are presses or releases
+of_keys-releases : (s : State) (more : List Modifier) (h : List Event) → All IsPressOrRelease h
+    → All IsPressOrRelease (releases s more ++ h)
 of_keys-releases s [] h x = x
-of_keys-releases s (i ∷ more) h x = rw (apart (s.holder i) (releases s more) h) (of_keys-release (s.holder i) (releases s more ++ h) (of_keys-releases s more h x))
+of_keys-releases s (i ∷ more) h x =
+    rw (apart (s.holder i) (releases s more) h)
+    (of_keys-release (s.holder i) (releases s more ++ h) (of_keys-releases s more h x))
 
+-- the events of a move are presses or releases
 of_keys-move : (move : Move) (h : List Event) → All IsPressOrRelease h → All IsPressOrRelease (events_of move ++ h)
 of_keys-move (Hold k i) h x = All-cons IsPressOrRelease (Press k) h tt x
-of_keys-move (Turn k l) h x = All-cons IsPressOrRelease (Release k) (Press k ∷ h) tt (All-cons IsPressOrRelease (Press k) h tt x)
+of_keys-move (Turn k l) h x =
+    All-cons IsPressOrRelease (Release k) (Press k ∷ h) tt (All-cons IsPressOrRelease (Press k) h tt x)
 of_keys-move (LetGo k i) h x = All-cons IsPressOrRelease (Release k) h tt x
 
+-- the events along a path are presses or releases
 of_keys-along : (path : List Move) → All IsPressOrRelease (events_along path)
 of_keys-along [] = All-nil IsPressOrRelease
 of_keys-along (move ∷ path) = of_keys-move move (events_along path) (of_keys-along path)
@@ -317,35 +439,48 @@ presses-release : (o : Option ℕ) (h : List Event) → presses (release_of o ++
 presses-release None h = refl
 presses-release (Some k) h = refl
 
+-- releases of holders have no presses
 presses-releases : (s : State) (more : List Modifier) (h : List Event) → presses (releases s more ++ h) ≡ presses h
 presses-releases s [] h = refl
-presses-releases s (i ∷ more) h = ap presses (apart (s.holder i) (releases s more) h) ∙ presses-release (s.holder i) (releases s more ++ h) ∙ presses-releases s more h
+presses-releases s (i ∷ more) h =
+    ap presses (apart (s.holder i) (releases s more) h) ∙ presses-release (s.holder i) (releases s more ++ h)
+    ∙ presses-releases s more h
 
+-- the events of a move have as many presses as the move
 presses-move : (move : Move) (h : List Event) → presses (events_of move ++ h) ≡ presses h + presses_of move
 presses-move (Hold k i) h = omega arith
 presses-move (Turn k l) h = omega arith
 presses-move (LetGo k i) h = omega arith
 
+-- the events along a path have as many presses as the path
 presses-along : (path : List Move) → presses (events_along path) ≡ presses_along path
 presses-along [] = refl
 presses-along (move ∷ path) = presses-move move (events_along path) ∙ ap (λ n. n + presses_of move) (presses-along path)
 
+-- a script has one press more than its path
 pub presses-script : (path : List Move) (k : ℕ) → presses (script path k) ≡ suc (presses_along path)
-presses-script path k = presses-releases (state_after path) modifiers (Press k ∷ events_along path) ∙ ap suc (presses-along path)
+presses-script path k =
+    presses-releases (state_after path) modifiers (Press k ∷ events_along path) ∙ ap suc (presses-along path)
 
-left-after : (ms : Maps) (path : List Move) → IsPath ms.first path → (i : Modifier) (k : ℕ) → Forgets ms.first (state_after path) i k → IsLeft ms (script path k) i
+-- the script to a state where a holder looks up a character leaves its modifier on
+left-after : (ms : Maps) (path : List Move) → IsPath ms.first path → (i : Modifier) (k : ℕ)
+    → Forgets ms.first (state_after path) i k → IsLeft ms (script path k) i
 left-after ms path is i k forgets =
     let x : Stands ms (events_along path) (state_after path) = stands ms path is in
-    left-releases ms (Press k ∷ events_along path) (state_after path) i modifiers x.key (left-character ms (events_along path) (state_after path) i k x forgets)
+    left-releases ms (Press k ∷ events_along path) (state_after path) i modifiers x.key
+    (left-character ms (events_along path) (state_after path) i k x forgets)
 
+-- a path to a state where a holder looks up a character makes a modifier stick
 pub sticks_if_reached : SticksIfReached
 sticks_if_reached m path is i k forgets =
     let ms : Maps = between m m in (
       (left-after ms path is i k forgets).keys,
-      of_keys-releases (state_after path) modifiers (Press k ∷ events_along path) (All-cons IsPressOrRelease (Press k) (events_along path) tt (of_keys-along path)),
+      of_keys-releases (state_after path) modifiers (Press k ∷ events_along path)
+          (All-cons IsPressOrRelease (Press k) (events_along path) tt (of_keys-along path)),
       (
         quiet-after ms (events_along path) (state_after path) i k (stands ms path is) forgets.0,
-        (λ ns first. (left-after ns path (subst (λ x. IsPath x path) (sym first) is) i k (subst (λ x. Forgets x (state_after path) i k) (sym first) forgets)).on),
+        (λ ns first. (left-after ns path (subst (λ x. IsPath x path) (sym first) is) i k
+            (subst (λ x. Forgets x (state_after path) i k) (sym first) forgets)).on),
       ),
     )
 
@@ -353,10 +488,14 @@ sticks_if_reached m path is i k forgets =
 abbrev Reached : MapValue → State → Type 0
 Reached m s = (path : List Move) × IsPath m path × (state_after path ≡ s)
 
+-- a move from a state that is reached reaches the next
 reached-more : (m : MapValue) (s : State) (move : Move) → Reached m s → IsMove m s move → Reached m (moved s move)
-reached-more m s move there is = (move ∷ there.0, (subst (λ x. IsMove m x move) (sym there.2) is, there.1), ap (λ x. moved x move) there.2)
+reached-more m s move there is =
+    (move ∷ there.0, (subst (λ x. IsMove m x move) (sym there.2) is, there.1), ap (λ x. moved x move) there.2)
 
-reached-safe : (m : MapValue) → ((path : List Move) → IsPath m path → IsForgetful m (state_after path) → ⊥) → (n : ℕ) → IsSafeBelow m n (λ p s. Reached m s)
+-- where no path leads to such a state, the states that are reached are safe
+reached-safe : (m : MapValue) → ((path : List Move) → IsPath m path → IsForgetful m (state_after path) → ⊥) → (n : ℕ)
+    → IsSafeBelow m n (λ p s. Reached m s)
 reached-safe m never n = record {
   start = ([], tt, refl);
   let_go = λ p lt s k i there h. reached-more m s (LetGo k i) there h;
@@ -366,5 +505,6 @@ reached-safe m never n = record {
   safe = λ p lt s there forgetful. never there.0 there.1 (subst (λ x. IsForgetful m x) (sym there.2) forgetful);
 }
 
+-- without such a path no modifier ever sticks
 pub never_sticks_unless_reached : NeverSticksUnlessReached
 never_sticks_unless_reached m never = never-sticks m (λ p s. Reached m s) (reached-safe m never)

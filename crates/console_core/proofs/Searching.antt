@@ -1,12 +1,15 @@
 -- What was met stays met, and what the search concludes from it.
 use Prim.Native.Nat.{zero, suc}
-use Rattle.std.proofs.Common.{◌≡◌, ◌≢◌, ℕ, ◌+◌, ◌<◌, ◌≤◌, Bool, true, false, cond, ◌⊎◌, inl, inr, All, IfSome, not, List, [], ◌∷◌, ◌++◌, length, get_or, take, slice_get, slice_index_or, Option, Some, None, refl, ap, subst, sym, ◌∙◌, arith, append_assoc, if◌then◌else◌}
+use Rattle.std.proofs.Common.{◌≡◌, ◌≢◌, ℕ, ◌+◌, ◌<◌, ◌≤◌, Bool, true, false, cond, ◌⊎◌, inl, inr, All, IfSome, not}
+use Rattle.std.proofs.Common.{List, [], ◌∷◌, ◌++◌, length, get_or, take, slice_get, slice_index_or, Option, Some, None}
+use Rattle.std.proofs.Common.{refl, ap, subst, sym, ◌∙◌, arith, append_assoc, if◌then◌else◌}
 use Rattle.std.proofs.lemmas.Bool.{cases_lt, true≢false}
 use Rattle.std.proofs.lemmas.Option.{slice_get_within, get_or_from_slice_get}
 use Rattle.std.proofs.lemmas.List.{append-nil, take_more}
 use Rattle.std.proofs.lemmas.List.Elements.{All-nil, All-cons, All-append}
 use Rattle.keymap_core.specs.declared.action.Modifier.{Modifier}
-use Rattle.keymap_core.specs.declared.action.Modifier.TheVariants.{LeftShift, RightShift, LeftControl, RightControl, LeftAlt, RightAlt, AltShift, Meta}
+use Rattle.keymap_core.specs.declared.action.Modifier.TheVariants.{LeftShift, RightShift, LeftControl, RightControl}
+use Rattle.keymap_core.specs.declared.action.Modifier.TheVariants.{LeftAlt, RightAlt, AltShift, Meta}
 use Rattle.keymap_core.specs.declared.action.Lock.{Lock}
 use Rattle.keymap_core.specs.declared.action.Lock.TheVariants.{Caps, Num, Scroll, Alt}
 use Rattle.keymap_core.specs.Actions.{same_lock, modifiers, modifier_index, lock_index}
@@ -56,51 +59,71 @@ none_entry x e = cc
 pub some_entries : (x y : Entry) → Some x ≡ Some y → x ≡ y
 some_entries x y e = cc
 
+-- an entry stays at its place when more are added
 at-append : (es more : Entries) (j : ℕ) (x : Entry) → slice_get es j ≡ Some x → slice_get (es ++ more) j ≡ Some x
 at-append [] more j x e = absurd (none_entry x e)
 at-append (y ∷ es) more zero x e = e
 at-append (y ∷ es) more (suc j) x e = at-append es more j x e
 
+-- an entry stays at its place when the entries grow
 at-now : (es now : Entries) (j : ℕ) (x : Entry) → Grows es now → slice_get es j ≡ Some x → slice_get now j ≡ Some x
 at-now es now j x g e = subst (λ y. slice_get y j ≡ Some x) (sym g.1) (at-append es g.0 j x e)
 
-at_old : (es more : Entries) (j : ℕ) (x : Entry) → j < length es → slice_get (es ++ more) j ≡ Some x → slice_get es j ≡ Some x
+-- an entry at an old place is an old one
+at_old : (es more : Entries) (j : ℕ) (x : Entry) → j < length es → slice_get (es ++ more) j ≡ Some x
+    → slice_get es j ≡ Some x
 at_old [] more j x lt e = absurd (omega (arith, lt))
 at_old (y ∷ es) more zero x lt e = e
 at_old (y ∷ es) more (suc j) x lt e = at_old es more j x (omega (arith, lt)) e
 
-at_new : (es more : Entries) (j : ℕ) (x : Entry) → length es ≤ j → slice_get (es ++ more) j ≡ Some x → (n : ℕ) × (slice_get more n ≡ Some x)
+-- an entry at a new place is a new one
+at_new : (es more : Entries) (j : ℕ) (x : Entry) → length es ≤ j → slice_get (es ++ more) j ≡ Some x
+    → (n : ℕ) × (slice_get more n ≡ Some x)
 at_new [] more j x le e = (j, e)
 at_new (y ∷ es) more zero x le e = absurd (omega (arith, le))
 at_new (y ∷ es) more (suc j) x le e = at_new es more j x (omega (arith, le)) e
 
+-- the last entry stands behind the others
 at_last : (es : Entries) (x : Entry) → slice_get (es ++ x ∷ []) (length es) ≡ Some x
 at_last [] x = refl
 at_last (y ∷ es) x = at_last es x
 
+-- what holds for all entries holds for that at a place
 all-at : (P : Entry → Type 0) (xs : Entries) (n : ℕ) (x : Entry) → All P xs → slice_get xs n ≡ Some x → P x
 all-at P xs n x all e = subst P (get_or_from_slice_get xs n x x e) (all n x (slice_get_within xs n x e))
 
 -- an entry of the longer list is old or was added
-from-cases : (m : MapValue) (s : State) (place n p : ℕ) (es now : Entries) → AreAdded m s place n p es now → (j : ℕ) (x : Entry) → slice_get now j ≡ Some x
+from-cases : (m : MapValue) (s : State) (place n p : ℕ) (es now : Entries) → AreAdded m s place n p es now
+    → (j : ℕ) (x : Entry) → slice_get now j ≡ Some x
     → (slice_get es j ≡ Some x) ⊎ ((length es ≤ j) × IsFrom m s place n p x)
 from-cases m s place n p es now (more, e, all) j x at =
     let there : slice_get (es ++ more) j ≡ Some x = subst (λ y. slice_get y j ≡ Some x) e at in
     elim (cases_lt j (length es)) [
       | inl lt ↦ inl (at_old es more j x lt there)
-      | inr le ↦ let k : (i : ℕ) × (slice_get more i ≡ Some x) = at_new es more j x le there in inr (le, all-at (IsFrom m s place n p) more k.0 x all k.1)
+      | inr le ↦
+          let k : (i : ℕ) × (slice_get more i ≡ Some x) = at_new es more j x le there in
+          inr (le, all-at (IsFrom m s place n p) more k.0 x all k.1)
     ]
 
-pub added-grows : (m : MapValue) (s : State) (place n p : ℕ) (es now : Entries) → AreAdded m s place n p es now → Grows es now
+-- entries that are added make the list grow
+pub added-grows : (m : MapValue) (s : State) (place n p : ℕ) (es now : Entries) → AreAdded m s place n p es now
+    → Grows es now
 added-grows m s place n p es now a = (a.0, a.1)
 
+-- nothing is added
 pub added-none : (m : MapValue) (s : State) (place n p : ℕ) (es : Entries) → AreAdded m s place n p es es
 added-none m s place n p es = ([], sym (append-nil es), All-nil (IsFrom m s place n p))
 
-pub added-again : (m : MapValue) (s : State) (place n p : ℕ) (a b c : Entries) → AreAdded m s place n p a b → AreAdded m s place n p b c → AreAdded m s place n p a c
-added-again m s place n p a b c x y =
-    (x.0 ++ y.0, y.1 ∙ ap (λ z. z ++ y.0) x.1 ∙ append_assoc a x.0 y.0, All-append (IsFrom m s place n p) x.0 y.0 x.2 y.2)
+-- what is added twice is added
+pub added-again : (m : MapValue) (s : State) (place n p : ℕ) (a b c : Entries) → AreAdded m s place n p a b
+    → AreAdded m s place n p b c → AreAdded m s place n p a c
+added-again m s place n p a b c x y = (
+  x.0 ++ y.0,
+  y.1 ∙ ap (λ z. z ++ y.0) x.1 ∙ append_assoc a x.0 y.0,
+  All-append (IsFrom m s place n p) x.0 y.0 x.2 y.2,
+)
 
+-- a list that grows gets no shorter
 pub added-longer : (es now : Entries) → Grows es now → length es ≤ length now
 added-longer es now g = subst (λ y. length es ≤ length y) (sym g.1) (longer es g.0)
   where
@@ -108,10 +131,12 @@ added-longer es now g = subst (λ y. length es ≤ length y) (sym g.1) (longer e
     longer [] ys = omega arith
     longer (x ∷ xs) ys = let l : length xs ≤ length (xs ++ ys) = longer xs ys in omega (arith, l)
 
+-- a list of one entry has it at place 0
 one_entry : (x : Entry) (j : ℕ) (y : Entry) → slice_get (x ∷ []) j ≡ Some y → (j ≡ 0) × (y ≡ x)
 one_entry x zero y e = (refl, sym (some_entries x y e))
 one_entry x (suc j) y e = absurd (none_entry y e)
 
+-- a list that grows twice grows
 pub grows-again : (a b c : Entries) → Grows a b → Grows b c → Grows a c
 grows-again a b c g h = (g.0 ++ h.0, h.1 ∙ ap (λ z. z ++ h.0) g.1 ∙ append_assoc a g.0 h.0)
 
@@ -119,32 +144,48 @@ grows-again a b c g h = (g.0 ++ h.0, h.1 ∙ ap (λ z. z ++ h.0) g.1 ∙ append_
 pub met-grows : (es now : Entries) (p : ℕ) (s : State) → Grows es now → IsMetBy es p s → IsMetBy now p s
 met-grows es now p s g (j, x, at, is, le) = (j, x, at-now es now j x g at, is, le)
 
+-- the state of the last entry is met
 pub met-last : (es : Entries) (p : ℕ) (x : Entry) → x.1.presses ≤ p → IsMetBy (es ++ x ∷ []) p (state_of x.0)
 met-last es p x le = (length es, x, at_last es x, refl, le)
 
-pub let_go-grows : (es now : Entries) (p : ℕ) (s : State) (i : Modifier) → Grows es now → IsLetGoMet es p s i → IsLetGoMet now p s i
+-- that letting go is met stays so when the entries grow
+pub let_go-grows : (es now : Entries) (p : ℕ) (s : State) (i : Modifier) → Grows es now → IsLetGoMet es p s i
+    → IsLetGoMet now p s i
 let_go-grows es now p s i g met k h = met-grows es now p (with_holder s i None) g (met k h)
 
-pub presses-grow : (m : MapValue) (es now : Entries) (p : ℕ) (s : State) (k : ℕ) → Grows es now → ArePressesMet m es p s k → ArePressesMet m now p s k
-presses-grow m es now p s k g met idle =
-    ((λ i seen free. met-grows es now p (with_holder s i (Some k)) g ((met idle).0 i seen free)), (λ l other seen. met-grows es now p (with_turned s l) g ((met idle).1 l other seen)))
+-- that presses are met stays so when the entries grow
+pub presses-grow : (m : MapValue) (es now : Entries) (p : ℕ) (s : State) (k : ℕ) → Grows es now
+    → ArePressesMet m es p s k → ArePressesMet m now p s k
+presses-grow m es now p s k g met idle = (
+  (λ i seen free. met-grows es now p (with_holder s i (Some k)) g ((met idle).0 i seen free)),
+  (λ l other seen. met-grows es now p (with_turned s l) g ((met idle).1 l other seen)),
+)
 
+-- that an entry's releases are met stays so when the entries grow
 closed-grows : (m : MapValue) (es now : Entries) (x : Entry) → Grows es now → IsClosed m es x → IsClosed m now x
 closed-grows m es now x g (met, safe) = ((λ i. let_go-grows es now x.1.presses (state_of x.0) i g (met i)), safe)
 
+-- that an entry's presses are met stays so when the entries grow
 pressed-grows : (m : MapValue) (es now : Entries) (x : Entry) → Grows es now → IsPressed m es x → IsPressed m now x
 pressed-grows m es now x g met k lt = presses-grow m es now (x.1.presses + 1) (state_of x.0) k g (met k lt)
 
+-- a trail stays one when the entries grow
 trail-grows : (es now : Entries) (j : ℕ) (path : List Move) → Grows es now → IsTrail es j path → IsTrail now j path
 trail-grows es now j [] g (x, at, none) = (x, at-now es now j x g at, none)
-trail-grows es now j (move ∷ path) g (x, parent, at, last, lt, rest) = (x, parent, at-now es now j x g at, last, lt, trail-grows es now parent path g rest)
+trail-grows es now j (move ∷ path) g (x, parent, at, last, lt, rest) =
+    (x, parent, at-now es now j x g at, last, lt, trail-grows es now parent path g rest)
 
-reached-grows : (m : MapValue) (es now : Entries) (j : ℕ) (x : Entry) → Grows es now → IsReached m es j x → IsReached m now j x
-reached-grows m es now j x g (path, trail, is, leads, count) = (path, trail-grows es now j path g trail, is, leads, count)
+-- that a trail leads to an entry stays so when the entries grow
+reached-grows : (m : MapValue) (es now : Entries) (j : ℕ) (x : Entry) → Grows es now → IsReached m es j x
+    → IsReached m now j x
+reached-grows m es now j x g (path, trail, is, leads, count) =
+    (path, trail-grows es now j path g trail, is, leads, count)
 
 -- a move from where a path leads goes on with the path
-reached-next : (m : MapValue) (es now : Entries) (place n p : ℕ) (y : Entry) → Grows es now → IsReached m es place y → p ≡ y.1.presses + n
-    → (j : ℕ) (x : Entry) → slice_get now j ≡ Some x → place < j → IsFrom m (state_of y.0) place n p x → IsReached m now j x
+reached-next : (m : MapValue) (es now : Entries) (place n p : ℕ) (y : Entry) → Grows es now → IsReached m es place y
+    → p ≡ y.1.presses + n
+    → (j : ℕ) (x : Entry) → slice_get now j ≡ Some x → place < j → IsFrom m (state_of y.0) place n p x
+    → IsReached m now j x
 reached-next m es now place n p y g (path, trail, is, leads, count) e j x at lt (by, by_p, last, move, next, by_n) = (
   by ∷ path,
   (x, place, at, last, lt, trail-grows es now place path g trail),
@@ -153,17 +194,24 @@ reached-next m es now place n p y g (path, trail, is, leads, count) e j x at lt 
   ap (λ q. q + presses_of by) count ∙ ap (λ q. y.1.presses + q) by_n ∙ sym e ∙ sym by_p,
 )
 
-pub searched-grows : (m : MapValue) (es now : Entries) (place n p a b : ℕ) (y : Entry) → slice_get es place ≡ Some y → p ≡ y.1.presses + n
-    → AreAdded m (state_of y.0) place n p es now → a ≤ length es → b ≤ length es → Searched m es a b → Searched m now a b
+-- what was searched stays so when the entries grow
+pub searched-grows : (m : MapValue) (es now : Entries) (place n p a b : ℕ) (y : Entry) → slice_get es place ≡ Some y
+    → p ≡ y.1.presses + n
+    → AreAdded m (state_of y.0) place n p es now → a ≤ length es → b ≤ length es → Searched m es a b
+    → Searched m now a b
 searched-grows m es now place n p a b y here e added le_a le_b s =
     let g : Grows es now = (added.0, added.1) in
     let lt : place < length es = slice_get_within es place y here in
-    let either : (j : ℕ) (x : Entry) → slice_get now j ≡ Some x → (slice_get es j ≡ Some x) ⊎ ((length es ≤ j) × IsFrom m (state_of y.0) place n p x) = from-cases m (state_of y.0) place n p es now added in
+    let either : (j : ℕ) (x : Entry) → slice_get now j ≡ Some x
+    → (slice_get es j ≡ Some x) ⊎ ((length es ≤ j) × IsFrom m (state_of y.0) place n p x) =
+    from-cases m (state_of y.0) place n p es now added in
     record {
       start = met-grows es now 0 start g s.start;
       reached = λ j x at. elim (either j x at) [
         | inl old ↦ reached-grows m es now j x g (s.reached j x old)
-        | inr new ↦ reached-next m es now place n p y g (s.reached place y here) e j x at (let le : length es ≤ j = new.0 in omega (arith, lt, le)) new.1
+        | inr new ↦
+            reached-next m es now place n p y g (s.reached place y here) e j x
+            at (let le : length es ≤ j = new.0 in omega (arith, lt, le)) new.1
       ];
       pressed = λ j x at below. elim (either j x at) [
         | inl old ↦ pressed-grows m es now x g (s.pressed j x old below)
@@ -188,10 +236,13 @@ searched-fewer m es a b c d le_c le_d s = record {
 place_last : (j n : ℕ) → j < n + 1 → (j < n) ⊎ (j ≡ n)
 place_last j n lt = elim (cases_lt j n) [ inl below ↦ inl below | inr le ↦ inr (omega (arith, lt, le)) ]
 
+-- entries at the same place are the same
 same_entry : (es : Entries) (j n : ℕ) (x y : Entry) → j ≡ n → slice_get es j ≡ Some x → slice_get es n ≡ Some y → y ≡ x
 same_entry es j n x y e at here = some_entries y x (sym here ∙ ap (λ k. slice_get es k) (sym e) ∙ at)
 
-pub searched-closed : (m : MapValue) (es : Entries) (a n : ℕ) (y : Entry) → slice_get es n ≡ Some y → IsClosed m es y → Searched m es a n → Searched m es a (n + 1)
+-- one more entry whose releases are met
+pub searched-closed : (m : MapValue) (es : Entries) (a n : ℕ) (y : Entry) → slice_get es n ≡ Some y → IsClosed m es y
+    → Searched m es a n → Searched m es a (n + 1)
 searched-closed m es a n y here closed s = record {
   start = s.start;
   reached = s.reached;
@@ -202,7 +253,9 @@ searched-closed m es a n y here closed s = record {
   ];
 }
 
-pub searched-pressed : (m : MapValue) (es : Entries) (n b : ℕ) (y : Entry) → slice_get es n ≡ Some y → IsPressed m es y → Searched m es n b → Searched m es (n + 1) b
+-- one more entry whose presses are met
+pub searched-pressed : (m : MapValue) (es : Entries) (n b : ℕ) (y : Entry) → slice_get es n ≡ Some y → IsPressed m es y
+    → Searched m es n b → Searched m es (n + 1) b
 searched-pressed m es n b y here pressed s = record {
   start = s.start;
   reached = s.reached;
@@ -214,13 +267,15 @@ searched-pressed m es n b y here pressed s = record {
 }
 
 -- the order by presses
-pub order-grows : (m : MapValue) (s : State) (place n p level : ℕ) (es now : Entries) → AreAdded m s place n p es now → level ≤ length es → AreInOrder es level p → AreInOrder now level p
+pub order-grows : (m : MapValue) (s : State) (place n p level : ℕ) (es now : Entries) → AreAdded m s place n p es now
+    → level ≤ length es → AreInOrder es level p → AreInOrder now level p
 order-grows m s place n p level es now added le order j x at =
     elim (from-cases m s place n p es now added j x at) [
       | inl old ↦ order j x old
       | inr (after, from) ↦ ((λ lt. absurd (omega (arith, lt, le, after))), (λ le_j. from.1))
     ]
 
+-- entries in order are within the number of presses
 pub order-within : (es : Entries) (level p : ℕ) → AreInOrder es level p → AreWithin es p
 order-within es level p order j x at =
     elim (cases_lt j level) [
@@ -228,12 +283,17 @@ order-within es level p order j x at =
       | inr le ↦ let e : x.1.presses ≡ p = (order j x at).1 le in omega (arith, e)
     ]
 
+-- entries in order begin the next level
 pub order-next : (es : Entries) (level p : ℕ) → AreInOrder es level p → AreInOrder es (length es) (p + 1)
 order-next es level p order j x at =
-    let lt : j < length es = slice_get_within es j x at in
-    ((λ below. let le : x.1.presses ≤ p = order-within es level p order j x at in omega (arith, le)), (λ le. absurd (omega (arith, lt, le))))
+    let lt : j < length es = slice_get_within es j x at in (
+      (λ below. let le : x.1.presses ≤ p = order-within es level p order j x at in omega (arith, le)),
+      (λ le. absurd (omega (arith, lt, le))),
+    )
 
-pub within-grows : (m : MapValue) (s : State) (place n p : ℕ) (es now : Entries) → AreAdded m s place n p es now → AreWithin es p → AreWithin now p
+-- entries that are added are within the number of presses
+pub within-grows : (m : MapValue) (s : State) (place n p : ℕ) (es now : Entries) → AreAdded m s place n p es now
+    → AreWithin es p → AreWithin now p
 within-grows m s place n p es now added within j x at =
     elim (from-cases m s place n p es now added j x at) [
       | inl old ↦ within j x old
@@ -250,16 +310,23 @@ look_lock l n x e f = let g : Act (act.Lock l) ≡ Act (act.Lock n) = sym e ∙ 
 look_either : (i : Modifier) (l : Lock) (x : Cell) → x ≡ Act (act.Mod i) → x ≡ Act (act.Lock l) → ⊥
 look_either i l x e f = let g : Act (act.Mod i) ≡ Act (act.Lock l) = sym e ∙ f in cc
 
-pub pressed-mod : (m : MapValue) (es : Entries) (p : ℕ) (s : State) (k : ℕ) (i : Modifier) → look_in m s k ≡ Act (act.Mod i) → IsMetBy es p (with_holder s i (Some k)) → ArePressesMet m es p s k
-pressed-mod m es p s k i seen met idle =
-    ((λ j f free. subst (λ n. IsMetBy es p (with_holder s n (Some k))) (look_mod i j (look_in m s k) seen f) met), (λ l other f. absurd (look_either i l (look_in m s k) seen f)))
+pub pressed-mod : (m : MapValue) (es : Entries) (p : ℕ) (s : State) (k : ℕ) (i : Modifier)
+    → look_in m s k ≡ Act (act.Mod i) → IsMetBy es p (with_holder s i (Some k)) → ArePressesMet m es p s k
+pressed-mod m es p s k i seen met idle = (
+  (λ j f free. subst (λ n. IsMetBy es p (with_holder s n (Some k))) (look_mod i j (look_in m s k) seen f) met),
+  (λ l other f. absurd (look_either i l (look_in m s k) seen f)),
+)
 
-pub pressed-lock : (m : MapValue) (es : Entries) (p : ℕ) (s : State) (k : ℕ) (l : Lock) → look_in m s k ≡ Act (act.Lock l) → IsMetBy es p (with_turned s l) → ArePressesMet m es p s k
-pressed-lock m es p s k l seen met idle =
-    ((λ j f free. absurd (look_either j l (look_in m s k) f seen)), (λ n other f. subst (λ q. IsMetBy es p (with_turned s q)) (look_lock l n (look_in m s k) seen f) met))
+pub pressed-lock : (m : MapValue) (es : Entries) (p : ℕ) (s : State) (k : ℕ) (l : Lock)
+    → look_in m s k ≡ Act (act.Lock l) → IsMetBy es p (with_turned s l) → ArePressesMet m es p s k
+pressed-lock m es p s k l seen met idle = (
+  (λ j f free. absurd (look_either j l (look_in m s k) f seen)),
+  (λ n other f. subst (λ q. IsMetBy es p (with_turned s q)) (look_lock l n (look_in m s k) seen f) met),
+)
 
 -- what a call of `meet` adds
-pub meet-new : (es now : Entries) (place p : ℕ) (x : Step) → now ≡ es ++ (x.to, record { presses = p; last = Some (place, x.by) }) ∷ [] → AreWithin es p
+pub meet-new : (es now : Entries) (place p : ℕ) (x : Step)
+    → now ≡ es ++ (x.to, record { presses = p; last = Some (place, x.by) }) ∷ [] → AreWithin es p
     → IsMetBy now p (state_of x.to) × AreWithin now p × Grows es now
     × ((m : MapValue) (h : Held) (n : ℕ) → IsStep m (state_of h) n x → AreAdded m (state_of h) place n p es now)
 meet-new es now place p x e within =
@@ -268,22 +335,32 @@ meet-new es now place p x e within =
       (λ j y at. elim (cases_lt j (length es)) [
         | inl lt ↦ within j y (at_old es (entry ∷ []) j y lt (subst (λ z. slice_get z j ≡ Some y) e at))
         | inr le ↦
-            let k : (i : ℕ) × (slice_get (entry ∷ []) i ≡ Some y) = at_new es (entry ∷ []) j y le (subst (λ z. slice_get z j ≡ Some y) e at) in
-            all-at (λ z. z.1.presses ≤ p) (entry ∷ []) k.0 y (All-cons (λ z. z.1.presses ≤ p) entry [] (omega arith) (All-nil (λ z. z.1.presses ≤ p))) k.1
+            let k : (i : ℕ) × (slice_get (entry ∷ []) i ≡ Some y) =
+            at_new es (entry ∷ []) j y le (subst (λ z. slice_get z j ≡ Some y) e at) in
+            all-at (λ z. z.1.presses ≤ p) (entry ∷ []) k.0 y
+            (All-cons (λ z. z.1.presses ≤ p) entry [] (omega arith) (All-nil (λ z. z.1.presses ≤ p))) k.1
       ]),
       (entry ∷ [], e),
-      (λ m h n (is, to, by). (entry ∷ [], e, All-cons (IsFrom m (state_of h) place n p) entry [] (x.by, refl, refl, is, to, by) (All-nil (IsFrom m (state_of h) place n p)))),
+      (λ m h n (is, to, by). (
+        entry ∷ [],
+        e,
+        All-cons (IsFrom m (state_of h) place n p) entry [] (x.by, refl, refl, is, to, by)
+            (All-nil (IsFrom m (state_of h) place n p)),
+      )),
     )
 
 abbrev IsFound : Entries → Held → Type 0
 IsFound es k = (j : ℕ) × (x : Entry) × (slice_get es j ≡ Some x) × (state_of k ≡ state_of x.0)
 
-found_by : (E : Held → Held → Bool) → ((a b : Held) → E a b ≡ true → state_of a ≡ state_of b) → (y : Entry) (es : Entries) (k : Held) (b : Bool) → E k y.0 ≡ b
-    → is_some (cond b (Some y.1) (lookup (E k) es)) ≡ true → (is_some (lookup (E k) es) ≡ true → IsFound es k) → IsFound (y ∷ es) k
+found_by : (E : Held → Held → Bool) → ((a b : Held) → E a b ≡ true → state_of a ≡ state_of b)
+    → (y : Entry) (es : Entries) (k : Held) (b : Bool) → E k y.0 ≡ b
+    → is_some (cond b (Some y.1) (lookup (E k) es)) ≡ true → (is_some (lookup (E k) es) ≡ true → IsFound es k)
+    → IsFound (y ∷ es) k
 found_by E same y es k true q e rest = (0, y, refl, same k y.0 q)
 found_by E same y es k false q e rest = let r : IsFound es k = rest e in (suc r.0, r.1, r.2, r.3)
 
-found : (E : Held → Held → Bool) → ((a b : Held) → E a b ≡ true → state_of a ≡ state_of b) → (es : Entries) (k : Held) → is_some (lookup (E k) es) ≡ true → IsFound es k
+found : (E : Held → Held → Bool) → ((a b : Held) → E a b ≡ true → state_of a ≡ state_of b) → (es : Entries) (k : Held)
+    → is_some (lookup (E k) es) ≡ true → IsFound es k
 found E same [] k e = absurd (true≢false (sym e))
 found E same (y ∷ es) k e = found_by E same y es k (E k y.0) refl e (found E same es k)
 
@@ -297,7 +374,8 @@ state_from holders locks = record {
 pub same-state : (x y : Held) → (x.holders ≡ y.holders) × (x.locks ≡ y.locks) → state_of x ≡ state_of y
 same-state x y e = ap (λ z. state_from z x.locks) e.0 ∙ ap (λ z. state_from y.holders z) e.1
 
-pub meet-old : (E : Held → Held → Bool) → ((a b : Held) → E a b ≡ true → state_of a ≡ state_of b) → (es : Entries) (p : ℕ) (k : Held) → is_some (lookup (E k) es) ≡ true → AreWithin es p
+pub meet-old : (E : Held → Held → Bool) → ((a b : Held) → E a b ≡ true → state_of a ≡ state_of b)
+    → (es : Entries) (p : ℕ) (k : Held) → is_some (lookup (E k) es) ≡ true → AreWithin es p
     → IsMetBy es p (state_of k)
 meet-old E same es p k e within =
     let r : IsFound es k = found E same es k e in
@@ -308,19 +386,25 @@ not_some None e = refl
 not_some (Some x) e = absurd (true≢false e)
 
 -- one place of a level is closed
-pub close-step : (m : MapValue) (es now : Entries) (level p n : ℕ) (y : Entry) → Searched m es level n → AreInOrder es level p → level ≤ n → slice_get es n ≡ Some y
-    → (IsForgetful m (state_of y.0) → ⊥) → AreAdded m (state_of y.0) n 0 p es now → ((i : Modifier) → IsLetGoMet now p (state_of y.0) i)
+pub close-step : (m : MapValue) (es now : Entries) (level p n : ℕ) (y : Entry) → Searched m es level n
+    → AreInOrder es level p → level ≤ n → slice_get es n ≡ Some y
+    → (IsForgetful m (state_of y.0) → ⊥) → AreAdded m (state_of y.0) n 0 p es now
+    → ((i : Modifier) → IsLetGoMet now p (state_of y.0) i)
     → Searched m now level (n + 1) × AreInOrder now level p
 close-step m es now level p n y s order le here safe added met =
     let lt : n < length es = slice_get_within es n y here in
     let e : y.1.presses ≡ p = (order n y here).1 le in
     let below : level ≤ length es = omega (arith, le, lt) in
-    let grown : Searched m now level n = searched-grows m es now n 0 p level n y here (omega (arith, e)) added below (omega (arith, lt)) s in
-    let closed : IsClosed m now y = ((λ i. subst (λ q. IsLetGoMet now q (state_of y.0) i) (sym e) (met i)), safe) in
-    (searched-closed m now level n y (at-now es now n y (added.0, added.1) here) closed grown, order-grows m (state_of y.0) n 0 p level es now added below order)
+    let grown : Searched m now level n =
+    searched-grows m es now n 0 p level n y here (omega (arith, e)) added below (omega (arith, lt)) s in
+    let closed : IsClosed m now y = ((λ i. subst (λ q. IsLetGoMet now q (state_of y.0) i) (sym e) (met i)), safe) in (
+      searched-closed m now level n y (at-now es now n y (added.0, added.1) here) closed grown,
+      order-grows m (state_of y.0) n 0 p level es now added below order,
+    )
 
 -- one place of a level is pressed
-pub press-step : (m : MapValue) (old es now : Entries) (level p n : ℕ) (y : Entry) → Searched m es n (length old) → AreInOrder old level p → Grows old es
+pub press-step : (m : MapValue) (old es now : Entries) (level p n : ℕ) (y : Entry) → Searched m es n (length old)
+    → AreInOrder old level p → Grows old es
     → AreInOrder es (length old) (p + 1) → level ≤ n → n < length old → slice_get es n ≡ Some y
     → AreAdded m (state_of y.0) n 1 (p + 1) es now → ((k : ℕ) → k < 128 → ArePressesMet m now (p + 1) (state_of y.0) k)
     → Searched m now (n + 1) (length old) × AreInOrder now (length old) (p + 1) × Grows old now
@@ -328,8 +412,11 @@ press-step m old es now level p n y s before g order le lt here added met =
     let was : slice_get old n ≡ Some y = at_old old g.0 n y lt (subst (λ z. slice_get z n ≡ Some y) g.1 here) in
     let e : y.1.presses ≡ p = (before n y was).1 le in
     let longer : length old ≤ length es = added-longer old es g in
-    let grown : Searched m now n (length old) = searched-grows m es now n 1 (p + 1) n (length old) y here (omega (arith, e)) added (omega (arith, lt, longer)) longer s in
-    let pressed : IsPressed m now y = λ k below. subst (λ q. ArePressesMet m now (q + 1) (state_of y.0) k) (sym e) (met k below) in (
+    let grown : Searched m now n (length old) =
+    searched-grows m es now n 1 (p + 1) n (length old) y here (omega (arith, e)) added (omega (arith, lt, longer))
+    longer s in
+    let pressed : IsPressed m now y =
+    λ k below. subst (λ q. ArePressesMet m now (q + 1) (state_of y.0) k) (sym e) (met k below) in (
       searched-pressed m now n (length old) y (at-now es now n y (added.0, added.1) here) pressed grown,
       order-grows m (state_of y.0) n 1 (p + 1) (length old) es now added longer order,
       grows-again old es now g (added.0, added.1),
@@ -345,12 +432,14 @@ searched-back m es a b s j x parent by at last =
 
     back : (path : List Move) → IsTrail es j path → parent < j
     back [] (y, there, none) =
-        let e : Some (parent, by) ≡ None = sym last ∙ ap (λ z. z.1.last) (some_entries x y (sym at ∙ there)) ∙ none in absurd (no_last (parent, by) e)
+        let e : Some (parent, by) ≡ None = sym last ∙ ap (λ z. z.1.last) (some_entries x y (sym at ∙ there)) ∙ none in
+        absurd (no_last (parent, by) e)
       where
         no_last : (p : ℕ × Move) → Some p ≡ None → ⊥
         no_last p f = cc
     back (move ∷ path) (y, from, there, by_last, lt, rest) =
-        let e : Some (parent, by) ≡ Some (from, move) = sym last ∙ ap (λ z. z.1.last) (some_entries x y (sym at ∙ there)) ∙ by_last in
+        let e : Some (parent, by) ≡ Some (from, move) =
+        sym last ∙ ap (λ z. z.1.last) (some_entries x y (sym at ∙ there)) ∙ by_last in
         subst (λ n. n < j) (sym (ap (λ q. q.0) (some_last (parent, by) (from, move) e))) lt
 
 -- the moves that are left, where the last of them is told
@@ -360,26 +449,33 @@ LeadsBy es None (move ∷ path) = ⊥
 LeadsBy es (Some last) [] = ⊥
 LeadsBy es (Some last) (move ∷ path) = (last.1 ≡ move) × IsTrail es last.0 path
 
-pub trail-leads : (es : Entries) (j : ℕ) (path : List Move) (x : Entry) → slice_get es j ≡ Some x → IsTrail es j path → LeadsBy es x.1.last path
+pub trail-leads : (es : Entries) (j : ℕ) (path : List Move) (x : Entry) → slice_get es j ≡ Some x → IsTrail es j path
+    → LeadsBy es x.1.last path
 trail-leads es j [] x at (y, there, none) =
     subst (λ l. LeadsBy es l []) (sym (ap (λ z. z.1.last) (some_entries x y (sym at ∙ there)) ∙ none)) tt
 trail-leads es j (move ∷ path) x at (y, parent, there, last, lt, rest) =
-    subst (λ l. LeadsBy es l (move ∷ path)) (sym (ap (λ z. z.1.last) (some_entries x y (sym at ∙ there)) ∙ last)) (refl, rest)
+    subst (λ l. LeadsBy es l (move ∷ path)) (sym (ap (λ z. z.1.last) (some_entries x y (sym at ∙ there)) ∙ last))
+    (refl, rest)
 
-pub leads-next : (es : Entries) (last : ℕ × Move) (items : List Event) (rest : List Move) (target : List Event) → LeadsBy es (Some last) rest → items ++ events_along rest ≡ target
-    → (y : Entry) → slice_get es last.0 ≡ Some y → (more : List Move) × ((items ++ events_of last.1) ++ events_along more ≡ target) × LeadsBy es y.1.last more
+pub leads-next : (es : Entries) (last : ℕ × Move) (items : List Event) (rest : List Move) (target : List Event)
+    → LeadsBy es (Some last) rest → items ++ events_along rest ≡ target
+    → (y : Entry) → slice_get es last.0 ≡ Some y
+    → (more : List Move) × ((items ++ events_of last.1) ++ events_along more ≡ target) × LeadsBy es y.1.last more
 leads-next es last items [] target none e y at = absurd none
 leads-next es last items (move ∷ path) target (by, trail) e y at = (
   path,
-  append_assoc items (events_of last.1) (events_along path) ∙ ap (λ b. items ++ (events_of b ++ events_along path)) by ∙ e,
+  append_assoc items (events_of last.1) (events_along path) ∙ ap (λ b. items ++ (events_of b ++ events_along path)) by
+      ∙ e,
   trail-leads es last.0 path y at trail,
 )
 
-pub leads-end : (es : Entries) (items : List Event) (rest : List Move) (target : List Event) → LeadsBy es None rest → items ++ events_along rest ≡ target → items ≡ target
+pub leads-end : (es : Entries) (items : List Event) (rest : List Move) (target : List Event) → LeadsBy es None rest
+    → items ++ events_along rest ≡ target → items ≡ target
 leads-end es items [] target x e = sym (append-nil items) ∙ e
 leads-end es items (move ∷ path) target none e = absurd none
 
-pub script-begin : (path : List Move) (k : ℕ) (s : State) (items : List Event) → state_after path ≡ s → items ≡ releases s modifiers ++ Press k ∷ [] → items ++ events_along path ≡ script path k
+pub script-begin : (path : List Move) (k : ℕ) (s : State) (items : List Event) → state_after path ≡ s
+    → items ≡ releases s modifiers ++ Press k ∷ [] → items ++ events_along path ≡ script path k
 script-begin path k s items at e =
     ap (λ z. z ++ events_along path) e
     ∙ append_assoc (releases s modifiers) (Press k ∷ []) (events_along path)
@@ -388,15 +484,22 @@ script-begin path k s items at e =
 -- the releases of one holder more
 releases-append : (s : State) (xs ys : List Modifier) → releases s (xs ++ ys) ≡ releases s xs ++ releases s ys
 releases-append s [] ys = refl
-releases-append s (i ∷ xs) ys = ap (λ z. release_of (s.holder i) ++ z) (releases-append s xs ys) ∙ sym (append_assoc (release_of (s.holder i)) (releases s xs) (releases s ys))
+releases-append s (i ∷ xs) ys =
+    ap (λ z. release_of (s.holder i) ++ z) (releases-append s xs ys)
+    ∙ sym (append_assoc (release_of (s.holder i)) (releases s xs) (releases s ys))
 
-pub releases-more : (s : State) (n : ℕ) (d : Modifier) → n < 8 → releases s (take (n + 1) modifiers) ≡ releases s (take n modifiers) ++ release_of (s.holder (get_or modifiers n d))
+-- the releases of the holders so far, with one more
+pub releases-more : (s : State) (n : ℕ) (d : Modifier) → n < 8
+    → releases s (take (n + 1) modifiers)
+    ≡ releases s (take n modifiers) ++ release_of (s.holder (get_or modifiers n d))
 releases-more s n d lt =
     ap (λ z. releases s z) (take_more modifiers n d lt)
     ∙ releases-append s (take n modifiers) (get_or modifiers n d ∷ [])
     ∙ ap (λ z. releases s (take n modifiers) ++ z) (append-nil (release_of (s.holder (get_or modifiers n d))))
 
-pub within-last : (es : Entries) (j : ℕ) (x : Entry) → GoBack es → slice_get es j ≡ Some x → IfSome x.1.last (λ last. last.0 < length es)
+-- an entry's parent is one of the entries
+pub within-last : (es : Entries) (j : ℕ) (x : Entry) → GoBack es → slice_get es j ≡ Some x
+    → IfSome x.1.last (λ last. last.0 < length es)
 within-last es j x back at = by x.1.last refl
   where
     by : (o : Option (ℕ × Move)) → x.1.last ≡ o → IfSome o (λ last. last.0 < length es)
@@ -411,26 +514,34 @@ abbrev pub places_left : Option (ℕ × Move) → ℕ
 places_left None = 0
 places_left (Some last) = last.0 + 1
 
-pub left-smaller : (es : Entries) (parent : ℕ) (move : Move) (y : Entry) (last : Option (ℕ × Move)) → GoBack es → slice_get es parent ≡ Some y → last ≡ Some (parent, move)
+-- the way back from an entry gets shorter
+pub left-smaller : (es : Entries) (parent : ℕ) (move : Move) (y : Entry) (last : Option (ℕ × Move)) → GoBack es
+    → slice_get es parent ≡ Some y → last ≡ Some (parent, move)
     → places_left y.1.last < places_left last
-left-smaller es parent move y last back at e = subst (λ l. places_left y.1.last < places_left l) (sym e) (fewer y.1.last refl)
+left-smaller es parent move y last back at e =
+    subst (λ l. places_left y.1.last < places_left l) (sym e) (fewer y.1.last refl)
   where
     fewer : (o : Option (ℕ × Move)) → y.1.last ≡ o → places_left o < parent + 1
     fewer None q = omega arith
     fewer (Some (p, by)) q = let lt : p < parent = back parent y p by at q in omega (arith, lt)
 
+-- a place has one entry
 pub same-place : (es : Entries) (j : ℕ) (x y : Entry) → slice_get es j ≡ Some x → slice_get es j ≡ Some y → x ≡ y
 same-place es j x y at here = some_entries x y (sym at ∙ here)
 
 -- the search begins at the start
-pub start-entries : (E : Held → Held → Bool) (es now : Entries) (x : Entry) → es ≡ [] → now ≡ insert_entry E es x.0 x.1 → now ≡ x ∷ []
+pub start-entries : (E : Held → Held → Bool) (es now : Entries) (x : Entry) → es ≡ [] → now ≡ insert_entry E es x.0 x.1
+    → now ≡ x ∷ []
 start-entries E es now x none e = e ∙ ap (λ z. insert_entry E z x.0 x.1) none
 
-pub searched-start : (m : MapValue) (h : Held) → state_of h ≡ start → (es : Entries) → es ≡ (h, record { presses = 0; last = None }) ∷ []
+-- a search begins with the start
+pub searched-start : (m : MapValue) (h : Held) → state_of h ≡ start → (es : Entries)
+    → es ≡ (h, record { presses = 0; last = None }) ∷ []
     → Searched m es 0 0 × AreInOrder es 0 0
 searched-start m h is es e =
     let x : Entry = (h, record { presses = 0; last = None }) in
-    let only : (j : ℕ) (y : Entry) → slice_get es j ≡ Some y → (j ≡ 0) × (y ≡ x) = λ j y at. one_entry x j y (subst (λ z. slice_get z j ≡ Some y) e at) in
+    let only : (j : ℕ) (y : Entry) → slice_get es j ≡ Some y → (j ≡ 0) × (y ≡ x) =
+    λ j y at. one_entry x j y (subst (λ z. slice_get z j ≡ Some y) e at) in
     let first : slice_get es 0 ≡ Some x = ap (λ z. slice_get z 0) e in (
       record {
         start = (0, x, first, is, omega arith);
@@ -450,44 +561,61 @@ but_scroll on Num = on Num
 but_scroll on Scroll = false
 but_scroll on Alt = on Alt
 
+-- the state without the scroll lock, which no look asks for
 abbrev unscrolled : State → State
 unscrolled s = record { holder = s.holder; is_locked = but_scroll s.is_locked }
 
+-- a look doesn't depend on the scroll lock
 look-unscrolled : (m : MapValue) (s : State) (k : ℕ) → look_in m s k ≡ look_in m (unscrolled s) k
 look-unscrolled m s k = refl
 
-moves-unscrolled : (m : MapValue) (s t : State) (move : Move) → unscrolled t ≡ unscrolled s → IsMove m s move → IsMove m t move
+-- moves don't depend on the scroll lock
+moves-unscrolled : (m : MapValue) (s t : State) (move : Move) → unscrolled t ≡ unscrolled s → IsMove m s move
+    → IsMove m t move
 moves-unscrolled m s t (Hold k i) e is = subst (λ x. IsMove m x (Hold k i)) (sym e) is
 moves-unscrolled m s t (Turn k l) e is = subst (λ x. IsMove m x (Turn k l)) (sym e) is
 moves-unscrolled m s t (LetGo k i) e is = subst (λ x. IsMove m x (LetGo k i)) (sym e) is
 
+-- to drop the scroll lock twice is to drop it
 but_twice : (on : Lock → Bool) (j : Lock) → but_scroll on j ≡ but_scroll (but_scroll on) j
 but_twice on Caps = refl
 but_twice on Num = refl
 but_twice on Scroll = refl
 but_twice on Alt = refl
 
-turned_twice : (on : Lock → Bool) (l j : Lock) → but_scroll (λ n. if same_lock l n then not (on n) else on n) j ≡ but_scroll (λ n. if same_lock l n then not (but_scroll on n) else but_scroll on n) j
+-- a lock turns alike without the scroll lock
+turned_twice : (on : Lock → Bool) (l j : Lock)
+    → but_scroll (λ n. if same_lock l n then not (on n) else on n) j
+    ≡ but_scroll (λ n. if same_lock l n then not (but_scroll on n) else but_scroll on n) j
 turned_twice on l Caps = refl
 turned_twice on l Num = refl
 turned_twice on l Scroll = refl
 turned_twice on l Alt = refl
 
+-- a move leads on alike without the scroll lock
 moved-unscrolled : (s : State) (move : Move) → unscrolled (moved s move) ≡ unscrolled (moved (unscrolled s) move)
-moved-unscrolled s (Hold k i) = ap (λ x. record { holder = (with_holder s i (Some k)).holder; is_locked = x }) (fun_ext (λ j. but_twice s.is_locked j))
-moved-unscrolled s (Turn k l) = ap (λ x. record { holder = s.holder; is_locked = x }) (fun_ext (λ j. turned_twice s.is_locked l j))
-moved-unscrolled s (LetGo k i) = ap (λ x. record { holder = (with_holder s i None).holder; is_locked = x }) (fun_ext (λ j. but_twice s.is_locked j))
+moved-unscrolled s (Hold k i) =
+    ap (λ x. record { holder = (with_holder s i (Some k)).holder; is_locked = x })
+    (fun_ext (λ j. but_twice s.is_locked j))
+moved-unscrolled s (Turn k l) =
+    ap (λ x. record { holder = s.holder; is_locked = x }) (fun_ext (λ j. turned_twice s.is_locked l j))
+moved-unscrolled s (LetGo k i) =
+    ap (λ x. record { holder = (with_holder s i None).holder; is_locked = x }) (fun_ext (λ j. but_twice s.is_locked j))
 
-same_moved : (s t : State) (move : Move) → unscrolled t ≡ unscrolled s → unscrolled (moved t move) ≡ unscrolled (moved s move)
+-- states that differ in the scroll lock alone lead on alike
+same_moved : (s t : State) (move : Move) → unscrolled t ≡ unscrolled s
+    → unscrolled (moved t move) ≡ unscrolled (moved s move)
 same_moved s t move e = moved-unscrolled t move ∙ ap (λ x. unscrolled (moved x move)) e ∙ sym (moved-unscrolled s move)
 
 -- a turn of the scroll lock changes nothing else
-scroll_turned : (on : Lock → Bool) (j : Lock) → but_scroll on j ≡ but_scroll (λ n. if same_lock Scroll n then not (on n) else on n) j
+scroll_turned : (on : Lock → Bool) (j : Lock)
+    → but_scroll on j ≡ but_scroll (λ n. if same_lock Scroll n then not (on n) else on n) j
 scroll_turned on Caps = refl
 scroll_turned on Num = refl
 scroll_turned on Scroll = refl
 scroll_turned on Alt = refl
 
+-- the scroll lock changes nothing else
 scroll-moved : (s : State) (k : ℕ) → unscrolled s ≡ unscrolled (moved s (Turn k Scroll))
 scroll-moved s k = ap (λ x. record { holder = s.holder; is_locked = x }) (fun_ext (λ j. scroll_turned s.is_locked j))
 
@@ -495,9 +623,11 @@ scroll-moved s k = ap (λ x. record { holder = s.holder; is_locked = x }) (fun_e
 abbrev IsAmong : Entries → ℕ → State → Type 0
 IsAmong es p s = (t : State) × IsMetBy es p t × (unscrolled t ≡ unscrolled s)
 
+-- what is met by a number of presses is by one more
 met-more : (es : Entries) (p : ℕ) (s : State) → IsMetBy es p s → IsMetBy es (suc p) s
 met-more es p s (j, x, at, is, le) = (j, x, at, is, omega (arith, le))
 
+-- what is met by a number of presses is by each larger one
 met-up : (es : Entries) (p q : ℕ) (s : State) → p ≤ q → IsMetBy es p s → IsMetBy es q s
 met-up es p q s up (j, x, at, is, le) = (j, x, at, is, omega (arith, le, up))
 
@@ -507,45 +637,80 @@ record AreDone (m : MapValue) (es : Entries) (n : ℕ) : Type 0 where
   pressed : (j : ℕ) (x : Entry) → slice_get es j ≡ Some x → x.1.presses < n → IsPressed m es x
   closed : (j : ℕ) (x : Entry) → slice_get es j ≡ Some x → x.1.presses < n → IsClosed m es x
 
-done-let_go : (m : MapValue) (es : Entries) (n p : ℕ) → AreDone m es n → p < n → (t : State) (k : ℕ) (i : Modifier) → IsMetBy es p t → Holds t k i → IsMetBy es p (with_holder t i None)
+-- a finished search met each state that a release leads to
+done-let_go : (m : MapValue) (es : Entries) (n p : ℕ) → AreDone m es n → p < n → (t : State) (k : ℕ) (i : Modifier)
+    → IsMetBy es p t → Holds t k i → IsMetBy es p (with_holder t i None)
 done-let_go m es n p d lt t k i (j, x, at, is, le) h =
     let closed : IsClosed m es x = d.closed j x at (omega (arith, le, lt)) in
-    subst (λ s. IsMetBy es p (with_holder s i None)) is (met-up es x.1.presses p (with_holder (state_of x.0) i None) le (closed.0 i k (subst (λ s. Holds s k i) (sym is) h)))
+    subst (λ s. IsMetBy es p (with_holder s i None)) is
+    (met-up es x.1.presses p (with_holder (state_of x.0) i None) le
+    (closed.0 i k (subst (λ s. Holds s k i) (sym is) h)))
 
-done-hold : (m : MapValue) (es : Entries) (n p : ℕ) → AreDone m es n → p < n → (t : State) (k : ℕ) (i : Modifier) → IsMetBy es p t → IsMove m t (Hold k i) → IsMetBy es (suc p) (with_holder t i (Some k))
+-- a finished search met each state that a hold leads to
+done-hold : (m : MapValue) (es : Entries) (n p : ℕ) → AreDone m es n → p < n → (t : State) (k : ℕ) (i : Modifier)
+    → IsMetBy es p t → IsMove m t (Hold k i) → IsMetBy es (suc p) (with_holder t i (Some k))
 done-hold m es n p d lt t k i (j, x, at, is, le) move =
     let there : IsMove m (state_of x.0) (Hold k i) = subst (λ s. IsMove m s (Hold k i)) (sym is) move in
-    let met : IsMetBy es (x.1.presses + 1) (with_holder (state_of x.0) i (Some k)) = (d.pressed j x at (omega (arith, le, lt)) k there.0 there.1).0 i there.2 there.3 in
-    subst (λ s. IsMetBy es (suc p) (with_holder s i (Some k))) is (met-up es (x.1.presses + 1) (suc p) (with_holder (state_of x.0) i (Some k)) (omega (arith, le)) met)
+    let met : IsMetBy es (x.1.presses + 1) (with_holder (state_of x.0) i (Some k)) =
+    (d.pressed j x at (omega (arith, le, lt)) k there.0 there.1).0 i there.2 there.3 in
+    subst (λ s. IsMetBy es (suc p) (with_holder s i (Some k))) is
+    (met-up es (x.1.presses + 1) (suc p) (with_holder (state_of x.0) i (Some k)) (omega (arith, le)) met)
 
-done-turn : (m : MapValue) (es : Entries) (n p : ℕ) → AreDone m es n → p < n → (t : State) (k : ℕ) (l : Lock) → l ≢ Scroll → IsMetBy es p t → IsMove m t (Turn k l) → IsMetBy es (suc p) (with_turned t l)
+-- a finished search met each state that a turned lock leads to
+done-turn : (m : MapValue) (es : Entries) (n p : ℕ) → AreDone m es n → p < n → (t : State) (k : ℕ) (l : Lock)
+    → l ≢ Scroll → IsMetBy es p t → IsMove m t (Turn k l) → IsMetBy es (suc p) (with_turned t l)
 done-turn m es n p d lt t k l other (j, x, at, is, le) move =
     let there : IsMove m (state_of x.0) (Turn k l) = subst (λ s. IsMove m s (Turn k l)) (sym is) move in
-    let met : IsMetBy es (x.1.presses + 1) (with_turned (state_of x.0) l) = (d.pressed j x at (omega (arith, le, lt)) k there.0 there.1).1 l other there.2 in
-    subst (λ s. IsMetBy es (suc p) (with_turned s l)) is (met-up es (x.1.presses + 1) (suc p) (with_turned (state_of x.0) l) (omega (arith, le)) met)
+    let met : IsMetBy es (x.1.presses + 1) (with_turned (state_of x.0) l) =
+    (d.pressed j x at (omega (arith, le, lt)) k there.0 there.1).1 l other there.2 in
+    subst (λ s. IsMetBy es (suc p) (with_turned s l)) is
+    (met-up es (x.1.presses + 1) (suc p) (with_turned (state_of x.0) l) (omega (arith, le)) met)
 
-done-safe : (m : MapValue) (es : Entries) (n p : ℕ) → AreDone m es n → p < n → (t : State) → IsMetBy es p t → IsForgetful m t → ⊥
-done-safe m es n p d lt t (j, x, at, is, le) forgetful = (d.closed j x at (omega (arith, le, lt))).1 (subst (λ s. IsForgetful m s) (sym is) forgetful)
+-- a finished search met no state where a holder looks up a character
+done-safe : (m : MapValue) (es : Entries) (n p : ℕ) → AreDone m es n → p < n → (t : State) → IsMetBy es p t
+    → IsForgetful m t → ⊥
+done-safe m es n p d lt t (j, x, at, is, le) forgetful =
+    (d.closed j x at (omega (arith, le, lt))).1 (subst (λ s. IsForgetful m s) (sym is) forgetful)
 
-among-turn : (m : MapValue) (es : Entries) (n p : ℕ) → AreDone m es n → p < n → (s : State) (k : ℕ) (l : Lock) → IsAmong es p s → IsMove m s (Turn k l) → IsAmong es (suc p) (with_turned s l)
+-- the same for each lock, but for the scroll lock
+among-turn : (m : MapValue) (es : Entries) (n p : ℕ) → AreDone m es n → p < n → (s : State) (k : ℕ) (l : Lock)
+    → IsAmong es p s → IsMove m s (Turn k l) → IsAmong es (suc p) (with_turned s l)
 among-turn m es n p d lt s k Scroll (t, there, e) is = (t, met-more es p t there, e ∙ scroll-moved s k)
-among-turn m es n p d lt s k Caps (t, there, e) is =
-    (with_turned t Caps, done-turn m es n p d lt t k Caps (λ q. cc) there (moves-unscrolled m s t (Turn k Caps) e is), same_moved s t (Turn k Caps) e)
-among-turn m es n p d lt s k Num (t, there, e) is =
-    (with_turned t Num, done-turn m es n p d lt t k Num (λ q. cc) there (moves-unscrolled m s t (Turn k Num) e is), same_moved s t (Turn k Num) e)
-among-turn m es n p d lt s k Alt (t, there, e) is =
-    (with_turned t Alt, done-turn m es n p d lt t k Alt (λ q. cc) there (moves-unscrolled m s t (Turn k Alt) e is), same_moved s t (Turn k Alt) e)
+among-turn m es n p d lt s k Caps (t, there, e) is = (
+  with_turned t Caps,
+  done-turn m es n p d lt t k Caps (λ q. cc) there (moves-unscrolled m s t (Turn k Caps) e is),
+  same_moved s t (Turn k Caps) e,
+)
+among-turn m es n p d lt s k Num (t, there, e) is = (
+  with_turned t Num,
+  done-turn m es n p d lt t k Num (λ q. cc) there (moves-unscrolled m s t (Turn k Num) e is),
+  same_moved s t (Turn k Num) e,
+)
+among-turn m es n p d lt s k Alt (t, there, e) is = (
+  with_turned t Alt,
+  done-turn m es n p d lt t k Alt (λ q. cc) there (moves-unscrolled m s t (Turn k Alt) e is),
+  same_moved s t (Turn k Alt) e,
+)
 
+-- after a finished search the states met are safe
 done-safe_below : (m : MapValue) (es : Entries) (n : ℕ) → AreDone m es n → IsSafeBelow m n (IsAmong es)
 done-safe_below m es n d = record {
   start = (start, d.start, refl);
-  let_go = λ p lt s k i (t, there, e) h.
-      (with_holder t i None, done-let_go m es n p d lt t k i there (moves-unscrolled m s t (LetGo k i) e h), same_moved s t (LetGo k i) e);
+  let_go = λ p lt s k i (t, there, e) h. (
+    with_holder t i None,
+    done-let_go m es n p d lt t k i there (moves-unscrolled m s t (LetGo k i) e h),
+    same_moved s t (LetGo k i) e,
+  );
   more = λ p s (t, there, e). (t, met-more es p t there, e);
-  hold = λ p lt s k i (t, there, e) is.
-      (with_holder t i (Some k), done-hold m es n p d lt t k i there (moves-unscrolled m s t (Hold k i) e is), same_moved s t (Hold k i) e);
+  hold = λ p lt s k i (t, there, e) is. (
+    with_holder t i (Some k),
+    done-hold m es n p d lt t k i there (moves-unscrolled m s t (Hold k i) e is),
+    same_moved s t (Hold k i) e,
+  );
   turn = λ p lt s k l there is. among-turn m es n p d lt s k l there is;
-  safe = λ p lt s (t, there, e) forgetful. done-safe m es n p d lt t there (subst (λ y. IsForgetful m y) (sym e) forgetful);
+  safe =
+      λ p lt s (t, there, e) forgetful. done-safe m es n p d lt t there
+      (subst (λ y. IsForgetful m y) (sym e) forgetful);
 }
 
 -- all that was met is pressed and closed
@@ -553,12 +718,17 @@ pub searched-never : (m : MapValue) (es : Entries) (n : ℕ) → length es ≤ n
 searched-never m es n le s =
     never-sticks m (IsAmong es) (λ q. done-safe_below m es q (record {
       start = s.start;
-      pressed = λ j x at lt. let below : j < length es = slice_get_within es j x at in s.pressed j x at (omega (arith, below, le));
-      closed = λ j x at lt. let below : j < length es = slice_get_within es j x at in s.closed j x at (omega (arith, below, le));
+      pressed =
+          λ j x at lt. let below : j < length es = slice_get_within es j x at in
+          s.pressed j x at (omega (arith, below, le));
+      closed =
+          λ j x at lt. let below : j < length es = slice_get_within es j x at in
+          s.closed j x at (omega (arith, below, le));
     }))
 
 -- those met by fewer presses than the level are pressed and closed
-level-done : (m : MapValue) (es : Entries) (level p : ℕ) → AreInOrder es level p → Searched m es level level → AreDone m es p
+level-done : (m : MapValue) (es : Entries) (level p : ℕ) → AreInOrder es level p → Searched m es level level
+    → AreDone m es p
 level-done m es level p order s = record {
   start = s.start;
   pressed = λ j x at lt. s.pressed j x at (below j x at lt);
@@ -572,7 +742,8 @@ level-done m es level p order s = record {
     ]
 
 -- a holder at the place looks up a character: the script of a path to it leaves its modifier on, by the fewest presses
-pub stuck-sticks : (m : MapValue) (es : Entries) (level p j k : ℕ) → AreInOrder es level p → Searched m es level level → IsStuck m es j k
+pub stuck-sticks : (m : MapValue) (es : Entries) (level p j k : ℕ) → AreInOrder es level p → Searched m es level level
+    → IsStuck m es j k
     → (h : List Event) → IsScriptTo es j k h
     → LeavesOn m h × HasFewestPresses m h
 stuck-sticks m es level p j k order s (x, at, stuck) h is =
@@ -584,6 +755,8 @@ stuck-sticks m es level p j k order s (x, at, stuck) h is =
     let count : presses h ≡ suc x.1.presses = ap presses e ∙ presses-script r.0 k ∙ ap suc r.4 in (
       subst (λ y. LeavesOn m y) (sym e) (left.0, left.1, (i, left.2)),
       (λ g keys no_loads l sticks.
-          let late : p < presses g = sticks-late m p (IsAmong es) (done-safe_below m es p (level-done m es level p order s)) g keys no_loads l sticks in
+          let late : p < presses g =
+          sticks-late m p (IsAmong es) (done-safe_below m es p (level-done m es level p order s)) g keys no_loads l
+          sticks in
           omega (arith, within, count, late)),
     )

@@ -1,6 +1,7 @@
 -- A console stands in a state of sets that the moves keep, whatever presses, releases and resets come.
 use Prim.Native.Nat.{suc}
-use Rattle.std.proofs.Common.{◌≡◌, ℕ, ◌<◌, ◌≤◌, ◌⊎◌, Bool, true, false, ◌&&◌, ◌||◌, not, eqb, List, [], ◌∷◌, Option, Some, None, refl, ap, subst, sym, ◌∙◌, inl, inr, arith, if◌then◌else◌}
+use Rattle.std.proofs.Common.{◌≡◌, ℕ, ◌<◌, ◌≤◌, ◌⊎◌, Bool, true, false, ◌&&◌, ◌||◌, not, eqb, List, [], ◌∷◌, Option}
+use Rattle.std.proofs.Common.{Some, None, refl, ap, subst, sym, ◌∙◌, inl, inr, arith, if◌then◌else◌}
 use Rattle.std.specs.Prelude.{◌==◌}
 use Rattle.std.proofs.Math.Bool.{and-true, and-false}
 use Rattle.std.proofs.lemmas.Bool.{eqb-true, eq-eqb, cases_Bool, cases_lt, true≢false}
@@ -9,7 +10,8 @@ use Rattle.keymap_core.specs.declared.action.Action.{Action}
 use Rattle.keymap_core.specs.declared.action.Action.TheVariants as act
 use Rattle.keymap_core.specs.declared.action.Lock.{Lock}
 use Rattle.keymap_core.specs.declared.action.Modifier.{Modifier}
-use Rattle.keymap_core.specs.declared.action.Modifier.TheVariants.{LeftShift, RightShift, LeftControl, RightControl, LeftAlt, RightAlt, AltShift, Meta}
+use Rattle.keymap_core.specs.declared.action.Modifier.TheVariants.{LeftShift, RightShift, LeftControl, RightControl}
+use Rattle.keymap_core.specs.declared.action.Modifier.TheVariants.{LeftAlt, RightAlt, AltShift, Meta}
 use Rattle.keymap_core.specs.declared.action.Holding.{Holding}
 use Rattle.keymap_core.specs.declared.action.Holding.TheVariants as holding
 use Rattle.keymap_core.specs.declared.entry.Cell.{Cell}
@@ -21,15 +23,21 @@ use Rattle.keymap_core.proofs.SameActions.{same_action-true, same_action-refl}
 use Rattle.console_core.specs.declared.event.Event.{Event}
 use Rattle.console_core.specs.declared.event.Event.TheVariants.{Press, Release, Reset, Load}
 use Rattle.console_core.specs.Columns.{look_with}
-use Rattle.console_core.specs.Resolved.{ResolvedEvent, held, locked, on, remembered, taken_over, is_action, look, resolve, resolve_press}
+use Rattle.console_core.specs.Resolved.{ResolvedEvent, held, locked, on, remembered, taken_over, is_action, look}
+use Rattle.console_core.specs.Resolved.{resolve, resolve_press}
 use Rattle.console_core.specs.Resolved.ResolvedEvent.{PressedCharacter, PressedAction, ReleasedKey, WasReset}
 use Rattle.console_core.specs.Reading.{is_some}
-use Rattle.console_core.specs.History.{Maps, between, in_force, loaded, resolved, On, pressed, HasKey, HasKeys, IsNoLoad, HasNoLoads}
-use Rattle.console_core.specs.Moves.{State, start, is_held, look_in, Holds, IsIdle, with_holder, with_turned, IsMove, IsForgetful}
+use Rattle.console_core.specs.History.{Maps, between, in_force, loaded, resolved, On, pressed, HasKey, HasKeys}
+use Rattle.console_core.specs.History.{IsNoLoad, HasNoLoads}
+use Rattle.console_core.specs.Moves.{State, start, is_held, look_in, Holds, IsIdle, with_holder, with_turned, IsMove}
+use Rattle.console_core.specs.Moves.{IsForgetful}
 use Rattle.console_core.specs.declared.held.Move.TheVariants.{Hold, Turn}
 use Rattle.console_core.specs.Sticking.{NeverSticks, SticksAfter, presses}
 use Rattle.console_core.specs.Headline.{IsOnOnlyWhilePressed, IsOffOnceQuiet}
-use Rattle.console_core.proofs.OneMore.{resolved-start, resolved-more, held-start, held-character, held-action, held-release, held-reset, locked-start, locked-character, locked-action, locked-release, locked-reset, remembered-character, remembered-action, remembered-release}
+use Rattle.console_core.proofs.OneMore.{resolved-start, resolved-more, held-start, held-character, held-action}
+use Rattle.console_core.proofs.OneMore.{held-release, held-reset, locked-start, locked-character, locked-action}
+use Rattle.console_core.proofs.OneMore.{locked-release, locked-reset, remembered-character, remembered-action}
+use Rattle.console_core.proofs.OneMore.{remembered-release}
 use Rattle.console_core.proofs.Borne.{taken-holding, resolved-looked}
 use Rattle.console_core.proofs.Bearing.{first_kept, remembered-cell, remembered-pressed}
 use Rattle.console_core.proofs.OneMap.{first_in_force}
@@ -41,7 +49,9 @@ pub record Follows (r : List ResolvedEvent) (s : State) : Type 0 where
   pub locked : (l : Lock) → locked l r ≡ s.is_locked l
   pub holds : (i : Modifier) (k : ℕ) → Holds s k i → remembered k r ≡ Some (act.Mod i)
 
-pub follows-look : (m : MapValue) (r : List ResolvedEvent) (s : State) (k : ℕ) → Follows r s → look m r k ≡ look_in m s k
+-- a look of the events is one in the state that they follow
+pub follows-look : (m : MapValue) (r : List ResolvedEvent) (s : State) (k : ℕ) → Follows r s
+    → look m r k ≡ look_in m s k
 unfolding look
 follows-look m r s k f =
     let e : (λ (i : Modifier). on i r) ≡ (λ i. is_held s i) = fun_ext (λ i. f.on i) in
@@ -68,20 +78,26 @@ pub some_keys : (j k : ℕ) → Some j ≡ Some k → j ≡ k
 some_keys j k e = cc
 
 -- an action is a modifier, a lock, or no holding action
-not_holding : (a : Action) (h : Holding) → eqb (action_kind a) 1 ≡ false → eqb (action_kind a) 2 ≡ false → same_action a (holding_action h) ≡ false
+not_holding : (a : Action) (h : Holding) → eqb (action_kind a) 1 ≡ false → eqb (action_kind a) 2 ≡ false
+    → same_action a (holding_action h) ≡ false
 not_holding a (holding.Mod i) e f = rw e refl
 not_holding a (holding.Lock l) e f = rw f refl
 
+-- whether an action is a modifier, a lock or neither
 abbrev Kind : Action → Type 0
-Kind a = ((i : Modifier) × (a ≡ act.Mod i)) ⊎ (((l : Lock) × (a ≡ act.Lock l)) ⊎ ((h : Holding) → same_action a (holding_action h) ≡ false))
+Kind a =
+    ((i : Modifier) × (a ≡ act.Mod i))
+    ⊎ (((l : Lock) × (a ≡ act.Lock l)) ⊎ ((h : Holding) → same_action a (holding_action h) ≡ false))
 
+-- each action is a modifier, a lock or neither
 kind_of : (a : Action) → Kind a
 kind_of (act.Mod i) = inl (i, refl)
 kind_of (act.Lock l) = inr (inl (l, refl))
 kind_of a = inr (inr (λ h. not_holding a h refl refl))
 
 -- a press that looks up a character, of a key that holds nothing
-pub follows-character : (r : List ResolvedEvent) (s : State) (k c : ℕ) → Follows r s → IsIdle s k → Follows (PressedCharacter k c ∷ r) s
+pub follows-character : (r : List ResolvedEvent) (s : State) (k c : ℕ) → Follows r s → IsIdle s k
+    → Follows (PressedCharacter k c ∷ r) s
 follows-character r s k c f idle = record {
   on = λ i. held-character (holding.Mod i) k c r ∙ f.on i;
   locked = λ l. locked-character l k c r ∙ f.locked l;
@@ -92,82 +108,138 @@ follows-character r s k c f idle = record {
 }
 
 -- a press that takes no holding action
-follows-nothing : (r : List ResolvedEvent) (s : State) (k : ℕ) (b : Action) → Follows r s → ((h : Holding) → same_action (taken_over (remembered k r) b) (holding_action h) ≡ false) → Follows (PressedAction k b ∷ r) s
+follows-nothing : (r : List ResolvedEvent) (s : State) (k : ℕ) (b : Action) → Follows r s
+    → ((h : Holding) → same_action (taken_over (remembered k r) b) (holding_action h) ≡ false)
+    → Follows (PressedAction k b ∷ r) s
 follows-nothing r s k b f none = record {
   on = λ i. held-action (holding.Mod i) k b r ∙ ap (λ t. t || held (holding.Mod i) r) (none (holding.Mod i)) ∙ f.on i;
-  locked = λ l. locked-action l k b r ∙ ap (λ t. if t && not (held (holding.Lock l) r) then not (locked l r) else locked l r) (none (holding.Lock l)) ∙ f.locked l;
+  locked =
+      λ l. locked-action l k b r
+      ∙ ap (λ t. if t && not (held (holding.Lock l) r) then not (locked l r) else locked l r)
+      (none (holding.Lock l))
+      ∙ f.locked l;
   holds = λ i j h. remembered-action j k b r ∙ first_kept (remembered j r) _ (act.Mod i) (f.holds i j h);
 }
 
 -- a press that takes a holding action remembers it
-pub takes : (r : List ResolvedEvent) (k : ℕ) (b : Action) (a : Holding) → taken_over (remembered k r) b ≡ holding_action a → remembered k (PressedAction k b ∷ r) ≡ Some (holding_action a)
+pub takes : (r : List ResolvedEvent) (k : ℕ) (b : Action) (a : Holding)
+    → taken_over (remembered k r) b ≡ holding_action a → remembered k (PressedAction k b ∷ r) ≡ Some (holding_action a)
 takes r k b a e =
-    let t : same_action (taken_over (remembered k r) b) (holding_action a) ≡ true = ap (λ x. same_action x (holding_action a)) e ∙ same_action-refl (holding_action a) in
+    let t : same_action (taken_over (remembered k r) b) (holding_action a) ≡ true =
+    ap (λ x. same_action x (holding_action a)) e ∙ same_action-refl (holding_action a) in
     rw (remembered-action k k b r, eq-eqb k k refl) (taken-holding (remembered k r) b a t).1
 
 -- a holder that takes a holding action takes its own modifier
-holder-takes : (r : List ResolvedEvent) (s : State) (k : ℕ) (b : Action) (a : Holding) (i : Modifier) → Follows r s → Holds s k i → taken_over (remembered k r) b ≡ holding_action a → Some (act.Mod i) ≡ Some (holding_action a)
-holder-takes r s k b a i f h e = sym (remembered-action k k b r ∙ first_kept (remembered k r) _ (act.Mod i) (f.holds i k h)) ∙ takes r k b a e
+holder-takes : (r : List ResolvedEvent) (s : State) (k : ℕ) (b : Action) (a : Holding) (i : Modifier) → Follows r s
+    → Holds s k i → taken_over (remembered k r) b ≡ holding_action a → Some (act.Mod i) ≡ Some (holding_action a)
+holder-takes r s k b a i f h e =
+    sym (remembered-action k k b r ∙ first_kept (remembered k r) _ (act.Mod i) (f.holds i k h)) ∙ takes r k b a e
 
+-- a modifier is on exactly if it has a holder, after one more hold
 on_held : (t x : Bool) (k : ℕ) (o : Option ℕ) → x ≡ is_some o → (t || x) ≡ is_some (if t then Some k else o)
 on_held true x k o e = refl
 on_held false x k o e = e
 
 -- a press that takes a modifier, which is off
-pub follows-hold : (r : List ResolvedEvent) (s : State) (k : ℕ) (b : Action) (i : Modifier) → Follows r s → taken_over (remembered k r) b ≡ act.Mod i → Follows (PressedAction k b ∷ r) (with_holder s i (Some k))
+pub follows-hold : (r : List ResolvedEvent) (s : State) (k : ℕ) (b : Action) (i : Modifier) → Follows r s
+    → taken_over (remembered k r) b ≡ act.Mod i → Follows (PressedAction k b ∷ r) (with_holder s i (Some k))
 follows-hold r s k b i f e = record {
-  on = λ j. held-action (holding.Mod j) k b r ∙ ap (λ a. same_action a (act.Mod j) || held (holding.Mod j) r) e ∙ on_held (same_modifier i j) (held (holding.Mod j) r) k (s.holder j) (f.on j);
-  locked = λ l. locked-action l k b r ∙ ap (λ a. if same_action a (act.Lock l) && not (held (holding.Lock l) r) then not (locked l r) else locked l r) e ∙ f.locked l;
+  on =
+      λ j. held-action (holding.Mod j) k b r ∙ ap (λ a. same_action a (act.Mod j) || held (holding.Mod j) r) e
+      ∙ on_held (same_modifier i j) (held (holding.Mod j) r) k (s.holder j) (f.on j);
+  locked =
+      λ l. locked-action l k b r
+      ∙ ap (λ a.
+      if same_action a (act.Lock l) && not (held (holding.Lock l) r) then not (locked l r) else locked l r)
+      e
+      ∙ f.locked l;
   holds = λ j n h. elim (cases_Bool (same_modifier i j)) [
     | inl t ↦
         let p : k ≡ n = some_keys k n (sym (ap (λ x. if x then Some k else s.holder j) t) ∙ h) in
-        subst (λ x. remembered x (PressedAction k b ∷ r) ≡ Some (act.Mod j)) p (takes r k b (holding.Mod i) e ∙ ap (λ x. Some (act.Mod x)) (same_mods i j t))
-    | inr t ↦ remembered-action n k b r ∙ first_kept (remembered n r) _ (act.Mod j) (f.holds j n (sym (ap (λ x. if x then Some k else s.holder j) t) ∙ h))
+        subst (λ x. remembered x (PressedAction k b ∷ r) ≡ Some (act.Mod j)) p
+        (takes r k b (holding.Mod i) e ∙ ap (λ x. Some (act.Mod x)) (same_mods i j t))
+    | inr t ↦
+        remembered-action n k b r
+        ∙ first_kept (remembered n r) _ (act.Mod j)
+        (f.holds j n (sym (ap (λ x. if x then Some k else s.holder j) t) ∙ h))
   ];
 }
 
-still_on : (i j : Modifier) (t : Bool) (x : Bool) (s : State) (n : ℕ) → same_modifier i j ≡ t → Holds s n i → x ≡ is_held s j → (t || x) ≡ is_held s j
+-- a modifier that has a holder already stays on
+still_on : (i j : Modifier) (t : Bool) (x : Bool) (s : State) (n : ℕ) → same_modifier i j ≡ t → Holds s n i
+    → x ≡ is_held s j → (t || x) ≡ is_held s j
 still_on i j true x s n t h e = sym (ap (λ y. is_held s y) (sym (same_mods i j t)) ∙ ap (λ o. is_some o) h)
 still_on i j false x s n t h e = e
 
 -- a press that takes a modifier, which is on
-follows-again : (r : List ResolvedEvent) (s : State) (k : ℕ) (b : Action) (i : Modifier) (n : ℕ) → Follows r s → taken_over (remembered k r) b ≡ act.Mod i → Holds s n i → Follows (PressedAction k b ∷ r) s
+follows-again : (r : List ResolvedEvent) (s : State) (k : ℕ) (b : Action) (i : Modifier) (n : ℕ) → Follows r s
+    → taken_over (remembered k r) b ≡ act.Mod i → Holds s n i → Follows (PressedAction k b ∷ r) s
 follows-again r s k b i n f e h = record {
-  on = λ j. held-action (holding.Mod j) k b r ∙ ap (λ a. same_action a (act.Mod j) || held (holding.Mod j) r) e ∙ still_on i j (same_modifier i j) (held (holding.Mod j) r) s n refl h (f.on j);
-  locked = λ l. locked-action l k b r ∙ ap (λ a. if same_action a (act.Lock l) && not (held (holding.Lock l) r) then not (locked l r) else locked l r) e ∙ f.locked l;
+  on =
+      λ j. held-action (holding.Mod j) k b r ∙ ap (λ a. same_action a (act.Mod j) || held (holding.Mod j) r) e
+      ∙ still_on i j (same_modifier i j) (held (holding.Mod j) r) s n refl h (f.on j);
+  locked =
+      λ l. locked-action l k b r
+      ∙ ap (λ a.
+      if same_action a (act.Lock l) && not (held (holding.Lock l) r) then not (locked l r) else locked l r)
+      e
+      ∙ f.locked l;
   holds = λ j p q. remembered-action p k b r ∙ first_kept (remembered p r) _ (act.Mod j) (f.holds j p q);
 }
 
+-- a lock turns where it isn't down
 turned_once : (t d x y : Bool) → d ≡ false → x ≡ y → (if t && not d then not x else x) ≡ (if t then not y else y)
 turned_once true true x y d e = absurd (true≢false d)
 turned_once true false x y d e = ap not e
 turned_once false d x y z e = e
 
+-- a lock doesn't turn where it is down
 turned_never : (t d x y : Bool) → (t ≡ true → d ≡ true) → x ≡ y → (if t && not d then not x else x) ≡ y
 turned_never true true x y f e = e
 turned_never true false x y f e = absurd (true≢false (sym (f refl)))
 turned_never false d x y f e = e
 
 -- a press that takes a lock, which is up
-is_down : (l j : Lock) (r : List ResolvedEvent) (d : Bool) → held (holding.Lock l) r ≡ d → same_lock l j ≡ true → held (holding.Lock j) r ≡ d
+is_down : (l j : Lock) (r : List ResolvedEvent) (d : Bool) → held (holding.Lock l) r ≡ d → same_lock l j ≡ true
+    → held (holding.Lock j) r ≡ d
 is_down l j r d e t = ap (λ x. held (holding.Lock x) r) (sym (same_locks l j t)) ∙ e
 
-turned_by : (l j : Lock) (r : List ResolvedEvent) (y : Bool) (t : Bool) → same_lock l j ≡ t → held (holding.Lock l) r ≡ false → locked j r ≡ y → (if t && not (held (holding.Lock j) r) then not (locked j r) else locked j r) ≡ (if t then not y else y)
+-- the step of the next lemma, by whether the locks are the same
+turned_by : (l j : Lock) (r : List ResolvedEvent) (y : Bool) (t : Bool) → same_lock l j ≡ t
+    → held (holding.Lock l) r ≡ false → locked j r ≡ y
+    → (if t && not (held (holding.Lock j) r) then not (locked j r) else locked j r) ≡ (if t then not y else y)
 turned_by l j r y true t d e = turned_once true (held (holding.Lock j) r) (locked j r) y (is_down l j r false d t) e
 turned_by l j r y false t d e = e
 
-pub follows-turn : (r : List ResolvedEvent) (s : State) (k : ℕ) (b : Action) (l : Lock) → Follows r s → taken_over (remembered k r) b ≡ act.Lock l → held (holding.Lock l) r ≡ false → Follows (PressedAction k b ∷ r) (with_turned s l)
+-- a press that turns a lock leads to the state with the lock turned
+pub follows-turn : (r : List ResolvedEvent) (s : State) (k : ℕ) (b : Action) (l : Lock) → Follows r s
+    → taken_over (remembered k r) b ≡ act.Lock l → held (holding.Lock l) r ≡ false
+    → Follows (PressedAction k b ∷ r) (with_turned s l)
 follows-turn r s k b l f e d = record {
-  on = λ i. held-action (holding.Mod i) k b r ∙ ap (λ a. same_action a (act.Mod i) || held (holding.Mod i) r) e ∙ f.on i;
-  locked = λ j. locked-action j k b r ∙ ap (λ a. if same_action a (act.Lock j) && not (held (holding.Lock j) r) then not (locked j r) else locked j r) e ∙ turned_by l j r (s.is_locked j) (same_lock l j) refl d (f.locked j);
+  on =
+      λ i. held-action (holding.Mod i) k b r ∙ ap (λ a. same_action a (act.Mod i) || held (holding.Mod i) r) e ∙ f.on i;
+  locked =
+      λ j. locked-action j k b r
+      ∙ ap (λ a.
+      if same_action a (act.Lock j) && not (held (holding.Lock j) r) then not (locked j r) else locked j r)
+      e
+      ∙ turned_by l j r (s.is_locked j) (same_lock l j) refl d (f.locked j);
   holds = λ i j h. remembered-action j k b r ∙ first_kept (remembered j r) _ (act.Mod i) (f.holds i j h);
 }
 
 -- a press that takes a lock, which is down
-follows-down : (r : List ResolvedEvent) (s : State) (k : ℕ) (b : Action) (l : Lock) → Follows r s → taken_over (remembered k r) b ≡ act.Lock l → held (holding.Lock l) r ≡ true → Follows (PressedAction k b ∷ r) s
+follows-down : (r : List ResolvedEvent) (s : State) (k : ℕ) (b : Action) (l : Lock) → Follows r s
+    → taken_over (remembered k r) b ≡ act.Lock l → held (holding.Lock l) r ≡ true → Follows (PressedAction k b ∷ r) s
 follows-down r s k b l f e d = record {
-  on = λ i. held-action (holding.Mod i) k b r ∙ ap (λ a. same_action a (act.Mod i) || held (holding.Mod i) r) e ∙ f.on i;
-  locked = λ j. locked-action j k b r ∙ ap (λ a. if same_action a (act.Lock j) && not (held (holding.Lock j) r) then not (locked j r) else locked j r) e ∙ turned_never (same_lock l j) (held (holding.Lock j) r) (locked j r) (s.is_locked j) (λ t. is_down l j r true d t) (f.locked j);
+  on =
+      λ i. held-action (holding.Mod i) k b r ∙ ap (λ a. same_action a (act.Mod i) || held (holding.Mod i) r) e ∙ f.on i;
+  locked =
+      λ j. locked-action j k b r
+      ∙ ap (λ a.
+      if same_action a (act.Lock j) && not (held (holding.Lock j) r) then not (locked j r) else locked j r)
+      e
+      ∙ turned_never (same_lock l j) (held (holding.Lock j) r) (locked j r) (s.is_locked j)
+      (λ t. is_down l j r true d t) (f.locked j);
   holds = λ i j h. remembered-action j k b r ∙ first_kept (remembered j r) _ (act.Mod i) (f.holds i j h);
 }
 
@@ -177,14 +249,18 @@ off_held true x o e = and-false x
 off_held false x o e = and-true x ∙ e
 
 -- a release of a key that remembers a modifier
-pub follows-let_go : (r : List ResolvedEvent) (s : State) (k : ℕ) (i : Modifier) → Follows r s → remembered k r ≡ Some (act.Mod i) → Follows (ReleasedKey k ∷ r) (with_holder s i None)
+pub follows-let_go : (r : List ResolvedEvent) (s : State) (k : ℕ) (i : Modifier) → Follows r s
+    → remembered k r ≡ Some (act.Mod i) → Follows (ReleasedKey k ∷ r) (with_holder s i None)
 follows-let_go r s k i f e = record {
-  on = λ j. held-release (holding.Mod j) k r ∙ ap (λ o. held (holding.Mod j) r && not (is_action o (act.Mod j))) e ∙ off_held (same_modifier i j) (held (holding.Mod j) r) (s.holder j) (f.on j);
+  on =
+      λ j. held-release (holding.Mod j) k r ∙ ap (λ o. held (holding.Mod j) r && not (is_action o (act.Mod j))) e
+      ∙ off_held (same_modifier i j) (held (holding.Mod j) r) (s.holder j) (f.on j);
   locked = λ l. locked-release l k r ∙ f.locked l;
   holds = λ j n h. elim (cases_Bool (same_modifier i j)) [
     | inl t ↦ absurd (some_none n None (sym (ap (λ x. if x then None else s.holder j) t) ∙ h) refl)
     | inr t ↦
-        let q : remembered n r ≡ Some (act.Mod j) = f.holds j n (sym (ap (λ x. if x then None else s.holder j) t) ∙ h) in
+        let q : remembered n r ≡ Some (act.Mod j) =
+        f.holds j n (sym (ap (λ x. if x then None else s.holder j) t) ∙ h) in
         elim (cases_Bool (k == n)) [
           | inl u ↦
               let p : i ≡ j = some_mods i j (sym e ∙ ap (λ x. remembered x r) (eqb-true k n u) ∙ q) in
@@ -195,9 +271,12 @@ follows-let_go r s k i f e = record {
 }
 
 -- a release of a key that remembers no modifier
-pub follows-release : (r : List ResolvedEvent) (s : State) (k : ℕ) → Follows r s → ((i : Modifier) → is_action (remembered k r) (act.Mod i) ≡ false) → Follows (ReleasedKey k ∷ r) s
+pub follows-release : (r : List ResolvedEvent) (s : State) (k : ℕ) → Follows r s
+    → ((i : Modifier) → is_action (remembered k r) (act.Mod i) ≡ false) → Follows (ReleasedKey k ∷ r) s
 follows-release r s k f none = record {
-  on = λ j. held-release (holding.Mod j) k r ∙ ap (λ t. held (holding.Mod j) r && not t) (none j) ∙ and-true (held (holding.Mod j) r) ∙ f.on j;
+  on =
+      λ j. held-release (holding.Mod j) k r ∙ ap (λ t. held (holding.Mod j) r && not t) (none j)
+      ∙ and-true (held (holding.Mod j) r) ∙ f.on j;
   locked = λ l. locked-release l k r ∙ f.locked l;
   holds = λ j n h. elim (cases_Bool (k == n)) [
     | inl u ↦
@@ -231,53 +310,107 @@ record LeadsOn (m : MapValue) (S T : State → Type 0) : Type 0 where
   safe : (s : State) → S s → IsForgetful m s → ⊥
 
 -- a state without a holder for the modifier is as after letting go of it
-same_holders : (s : State) (i : Modifier) → s.holder i ≡ None → (j : Modifier) (t : Bool) → same_modifier i j ≡ t → s.holder j ≡ (if t then None else s.holder j)
+same_holders : (s : State) (i : Modifier) → s.holder i ≡ None → (j : Modifier) (t : Bool) → same_modifier i j ≡ t
+    → s.holder j ≡ (if t then None else s.holder j)
 same_holders s i e j true t = ap (λ x. s.holder x) (sym (same_mods i j t)) ∙ e
 same_holders s i e j false t = refl
 
-without : (S : State → Type 0) → KeepsLetGo S → (s : State) (i : Modifier) (o : Option ℕ) → s.holder i ≡ o → S s → S (with_holder s i None)
+-- a modifier is let go, whether it has a holder or not
+without : (S : State → Type 0) → KeepsLetGo S → (s : State) (i : Modifier) (o : Option ℕ) → s.holder i ≡ o → S s
+    → S (with_holder s i None)
 without S keeps s i None e there =
-    let p : (λ (j : Modifier). s.holder j) ≡ (λ j. if same_modifier i j then None else s.holder j) = fun_ext (λ j. same_holders s i e j (same_modifier i j) refl) in
+    let p : (λ (j : Modifier). s.holder j) ≡ (λ j. if same_modifier i j then None else s.holder j) =
+    fun_ext (λ j. same_holders s i e j (same_modifier i j) refl) in
     subst (λ x. S (record { holder = x; is_locked = s.is_locked })) p there
 without S keeps s i (Some k) e there = keeps s k i there e
 
-stays-mod : (m : MapValue) (S T : State → Type 0) → LeadsOn m S T → (r : List ResolvedEvent) (s : State) → S s → Follows r s → (k : ℕ) → k < 128 → (b : Action) → look_in m s k ≡ Act b → (i : Modifier) → taken_over (remembered k r) b ≡ act.Mod i → b ≡ act.Mod i → (o : Option ℕ) → s.holder i ≡ o → Stays T (PressedAction k b ∷ r)
-stays-mod m S T leads r s there f k lt b seen i e is None free =
-    (with_holder s i (Some k), leads.hold s k i there (lt, (λ j h. some_none k (s.holder i) (subst (λ x. Holds s k x) (some_mods j i (holder-takes r s k b (holding.Mod i) j f h e)) h) free), seen ∙ ap (λ x. Act x) is, free), follows-hold r s k b i f e)
-stays-mod m S T leads r s there f k lt b seen i e is (Some n) free = (s, leads.stay s there, follows-again r s k b i n f e free)
+-- a press that takes a modifier leads from a set to the next
+stays-mod : (m : MapValue) (S T : State → Type 0) → LeadsOn m S T → (r : List ResolvedEvent) (s : State) → S s
+    → Follows r s → (k : ℕ) → k < 128 → (b : Action) → look_in m s k ≡ Act b → (i : Modifier)
+    → taken_over (remembered k r) b ≡ act.Mod i → b ≡ act.Mod i → (o : Option ℕ) → s.holder i ≡ o
+    → Stays T (PressedAction k b ∷ r)
+stays-mod m S T leads r s there f k lt b seen i e is None free = (
+  with_holder s i (Some k),
+  leads.hold s k i there (
+    lt,
+    (λ j h. some_none k (s.holder i)
+        (subst (λ x. Holds s k x) (some_mods j i (holder-takes r s k b (holding.Mod i) j f h e)) h) free),
+    seen ∙ ap (λ x. Act x) is,
+    free,
+  ),
+  follows-hold r s k b i f e,
+)
+stays-mod m S T leads r s there f k lt b seen i e is (Some n) free =
+    (s, leads.stay s there, follows-again r s k b i n f e free)
 
-stays-lock : (m : MapValue) (S T : State → Type 0) → LeadsOn m S T → (r : List ResolvedEvent) (s : State) → S s → Follows r s → (k : ℕ) → k < 128 → (b : Action) → look_in m s k ≡ Act b → (l : Lock) → taken_over (remembered k r) b ≡ act.Lock l → b ≡ act.Lock l → (d : Bool) → held (holding.Lock l) r ≡ d → Stays T (PressedAction k b ∷ r)
+-- a press that takes a lock leads from a set to the next
+stays-lock : (m : MapValue) (S T : State → Type 0) → LeadsOn m S T → (r : List ResolvedEvent) (s : State) → S s
+    → Follows r s → (k : ℕ) → k < 128 → (b : Action) → look_in m s k ≡ Act b → (l : Lock)
+    → taken_over (remembered k r) b ≡ act.Lock l → b ≡ act.Lock l → (d : Bool) → held (holding.Lock l) r ≡ d
+    → Stays T (PressedAction k b ∷ r)
 stays-lock m S T leads r s there f k lt b seen l e is true d = (s, leads.stay s there, follows-down r s k b l f e d)
-stays-lock m S T leads r s there f k lt b seen l e is false d =
-    (with_turned s l, leads.turn s k l there (lt, (λ j h. some_mod_lock j l (holder-takes r s k b (holding.Lock l) j f h e)), seen ∙ ap (λ x. Act x) is), follows-turn r s k b l f e d)
+stays-lock m S T leads r s there f k lt b seen l e is false d = (
+  with_turned s l,
+  leads.turn s k l there
+      (lt, (λ j h. some_mod_lock j l (holder-takes r s k b (holding.Lock l) j f h e)), seen ∙ ap (λ x. Act x) is),
+  follows-turn r s k b l f e d,
+)
 
 -- a press that takes a holding action looked it up
-looked_up : (r : List ResolvedEvent) (k : ℕ) (b : Action) (a : Holding) → taken_over (remembered k r) b ≡ holding_action a → b ≡ holding_action a
-looked_up r k b a e = (taken-holding (remembered k r) b a (ap (λ x. same_action x (holding_action a)) e ∙ same_action-refl (holding_action a))).0
+looked_up : (r : List ResolvedEvent) (k : ℕ) (b : Action) (a : Holding)
+    → taken_over (remembered k r) b ≡ holding_action a → b ≡ holding_action a
+looked_up r k b a e =
+    (taken-holding (remembered k r) b a
+    (ap (λ x. same_action x (holding_action a)) e ∙ same_action-refl (holding_action a))).0
 
-stays-press : (m : MapValue) (S T : State → Type 0) → LeadsOn m S T → (r : List ResolvedEvent) (s : State) → S s → Follows r s → (k : ℕ) → k < 128 → (x : Cell) → look_in m s k ≡ x → Stays T (resolve_press k x ∷ r)
-stays-press m S T leads r s there f k lt (Char c) seen = (s, leads.stay s there, follows-character r s k c f (λ i h. leads.safe s there (i, k, (h, (c, seen)))))
+-- a press leads from a set to the next
+stays-press : (m : MapValue) (S T : State → Type 0) → LeadsOn m S T → (r : List ResolvedEvent) (s : State) → S s
+    → Follows r s → (k : ℕ) → k < 128 → (x : Cell) → look_in m s k ≡ x → Stays T (resolve_press k x ∷ r)
+stays-press m S T leads r s there f k lt (Char c) seen =
+    (s, leads.stay s there, follows-character r s k c f (λ i h. leads.safe s there (i, k, (h, (c, seen)))))
 stays-press m S T leads r s there f k lt (Act b) seen =
     elim (kind_of (taken_over (remembered k r) b)) [
-      | inl p ↦ stays-mod m S T leads r s there f k lt b seen p.0 p.1 (looked_up r k b (holding.Mod p.0) p.1) (s.holder p.0) refl
-      | inr (inl p) ↦ stays-lock m S T leads r s there f k lt b seen p.0 p.1 (looked_up r k b (holding.Lock p.0) p.1) (held (holding.Lock p.0) r) refl
+      | inl p ↦
+          stays-mod m S T leads r s there f k lt b seen p.0 p.1 (looked_up r k b (holding.Mod p.0) p.1) (s.holder p.0)
+          refl
+      | inr (inl p) ↦
+          stays-lock m S T leads r s there f k lt b seen p.0 p.1 (looked_up r k b (holding.Lock p.0) p.1)
+          (held (holding.Lock p.0) r) refl
       | inr (inr none) ↦ (s, leads.stay s there, follows-nothing r s k b f none)
     ]
 
-stays-release : (S : State → Type 0) → KeepsLetGo S → (r : List ResolvedEvent) (s : State) → S s → Follows r s → (k : ℕ) (o : Option Action) → remembered k r ≡ o → Stays S (ReleasedKey k ∷ r)
-stays-release S keeps r s there f k None e = (s, there, follows-release r s k f (λ i. ap (λ o. is_action o (act.Mod i)) e))
+-- a release stays in a set that letting go keeps
+stays-release : (S : State → Type 0) → KeepsLetGo S → (r : List ResolvedEvent) (s : State) → S s → Follows r s
+    → (k : ℕ) (o : Option Action) → remembered k r ≡ o → Stays S (ReleasedKey k ∷ r)
+stays-release S keeps r s there f k None e =
+    (s, there, follows-release r s k f (λ i. ap (λ o. is_action o (act.Mod i)) e))
 stays-release S keeps r s there f k (Some a) e =
     elim (kind_of a) [
-      | inl p ↦ (with_holder s p.0 None, without S keeps s p.0 (s.holder p.0) refl there, follows-let_go r s k p.0 f (e ∙ ap (λ x. Some x) p.1))
-      | inr (inl p) ↦ (s, there, follows-release r s k f (λ i. ap (λ o. is_action o (act.Mod i)) (e ∙ ap (λ x. Some x) p.1)))
-      | inr (inr none) ↦ (s, there, follows-release r s k f (λ i. ap (λ o. is_action o (act.Mod i)) e ∙ none (holding.Mod i)))
+      | inl p ↦ (
+        with_holder s p.0 None,
+        without S keeps s p.0 (s.holder p.0) refl there,
+        follows-let_go r s k p.0 f (e ∙ ap (λ x. Some x) p.1),
+      )
+      | inr (inl p) ↦
+          (s, there, follows-release r s k f (λ i. ap (λ o. is_action o (act.Mod i)) (e ∙ ap (λ x. Some x) p.1)))
+      | inr (inr none) ↦
+          (s, there, follows-release r s k f (λ i. ap (λ o. is_action o (act.Mod i)) e ∙ none (holding.Mod i)))
     ]
 
 -- a reset: all holders let go, one after another
 abbrev emptied : State → State
 emptied s =
-    with_holder (with_holder (with_holder (with_holder (with_holder (with_holder (with_holder (with_holder s LeftShift None) RightShift None) LeftControl None) RightControl None) LeftAlt None) RightAlt None) AltShift None) Meta None
+    with_holder (with_holder (with_holder (with_holder (with_holder (with_holder (with_holder (with_holder s LeftShift
+    None)
+    RightShift None)
+    LeftControl None)
+    RightControl None)
+    LeftAlt None)
+    RightAlt None)
+    AltShift None)
+    Meta None
 
+-- an emptied state has no holders
 emptied-none : (s : State) (i : Modifier) → (emptied s).holder i ≡ None
 emptied-none s LeftShift = refl
 emptied-none s RightShift = refl
@@ -288,12 +421,19 @@ emptied-none s RightAlt = refl
 emptied-none s AltShift = refl
 emptied-none s Meta = refl
 
+-- a set that letting go keeps has the emptied state
 emptied-kept : (S : State → Type 0) → KeepsLetGo S → (s : State) → S s → S (emptied s)
 emptied-kept S keeps s there =
-    let any : (t : State) (i : Modifier) → S t → S (with_holder t i None) = λ t i here. without S keeps t i (t.holder i) refl here in
-    any _ Meta (any _ AltShift (any _ RightAlt (any _ LeftAlt (any _ RightControl (any _ LeftControl (any _ RightShift (any s LeftShift there)))))))
+    let any : (t : State) (i : Modifier) → S t → S (with_holder t i None) =
+    λ t i here. without S keeps t i (t.holder i) refl here in
+    any _ Meta
+    (any _ AltShift
+    (any _ RightAlt
+    (any _ LeftAlt (any _ RightControl (any _ LeftControl (any _ RightShift (any s LeftShift there)))))))
 
-stays-reset : (S : State → Type 0) → KeepsLetGo S → (r : List ResolvedEvent) (s : State) → S s → Follows r s → Stays S (WasReset ∷ r)
+-- a reset stays in a set that letting go keeps
+stays-reset : (S : State → Type 0) → KeepsLetGo S → (r : List ResolvedEvent) (s : State) → S s → Follows r s
+    → Stays S (WasReset ∷ r)
 stays-reset S keeps r s there f = (
   emptied s,
   emptied-kept S keeps s there,
@@ -304,6 +444,7 @@ stays-reset S keeps r s there f = (
   },
 )
 
+-- no events lead to the start
 pub follows-start : Follows [] start
 follows-start = record {
   on = λ i. held-start (holding.Mod i);
@@ -311,24 +452,29 @@ follows-start = record {
   holds = λ i k h. absurd (some_none k None h refl);
 }
 
--- Sets of states by how many presses lead to them: below n letting go stays in a set, a press leads from a set to the next
--- one, and no holder looks up a character.
+-- Sets of states by how many presses lead to them: below n letting go stays in a set, a press leads from a set to the
+-- next one, and no holder looks up a character.
 pub record IsSafeBelow (m : MapValue) (n : ℕ) (S : ℕ → State → Type 0) : Type 0 where
   pub start : S 0 start
   pub let_go : (p : ℕ) → p < n → (s : State) (k : ℕ) (i : Modifier) → S p s → Holds s k i → S p (with_holder s i None)
   pub more : (p : ℕ) (s : State) → S p s → S (suc p) s
-  pub hold : (p : ℕ) → p < n → (s : State) (k : ℕ) (i : Modifier) → S p s → IsMove m s (Hold k i) → S (suc p) (with_holder s i (Some k))
-  pub turn : (p : ℕ) → p < n → (s : State) (k : ℕ) (l : Lock) → S p s → IsMove m s (Turn k l) → S (suc p) (with_turned s l)
+  pub hold : (p : ℕ) → p < n → (s : State) (k : ℕ) (i : Modifier) → S p s → IsMove m s (Hold k i)
+      → S (suc p) (with_holder s i (Some k))
+  pub turn : (p : ℕ) → p < n → (s : State) (k : ℕ) (l : Lock) → S p s → IsMove m s (Turn k l)
+      → S (suc p) (with_turned s l)
   pub safe : (p : ℕ) → p < n → (s : State) → S p s → IsForgetful m s → ⊥
 
 -- after p presses the state is in its set, where p is below n
 abbrev Below : ℕ → (ℕ → State → Type 0) → ℕ → State → Type 0
 Below n S p s = p < n → S p s
 
+-- letting go stays in the sets below n
 below-lets_go : (m : MapValue) (n : ℕ) (S : ℕ → State → Type 0) → IsSafeBelow m n S → (p : ℕ) → KeepsLetGo (Below n S p)
 below-lets_go m n S safe p s k i there h lt = safe.let_go p lt s k i (there lt) h
 
-below-leads_on : (m : MapValue) (n : ℕ) (S : ℕ → State → Type 0) → IsSafeBelow m n S → (p : ℕ) → p < n → LeadsOn m (S p) (Below n S (suc p))
+-- below n a press leads from a set to the next
+below-leads_on : (m : MapValue) (n : ℕ) (S : ℕ → State → Type 0) → IsSafeBelow m n S → (p : ℕ) → p < n
+    → LeadsOn m (S p) (Below n S (suc p))
 below-leads_on m n S safe p lt = record {
   stay = λ s there next. safe.more p s there;
   hold = λ s k i there is next. safe.hold p lt s k i there is;
@@ -336,17 +482,21 @@ below-leads_on m n S safe p lt = record {
   safe = λ s there forgetful. safe.safe p lt s there forgetful;
 }
 
-stays-event : (m other : MapValue) (n : ℕ) (S : ℕ → State → Type 0) → IsSafeBelow m n S → (r : List ResolvedEvent) (e : Event) (h : List Event) → HasKey e → IsNoLoad e → presses (e ∷ h) ≤ n
+-- an event stays in the set of the presses so far
+stays-event : (m other : MapValue) (n : ℕ) (S : ℕ → State → Type 0) → IsSafeBelow m n S
+    → (r : List ResolvedEvent) (e : Event) (h : List Event) → HasKey e → IsNoLoad e → presses (e ∷ h) ≤ n
     → Stays (Below n S (presses h)) r → Stays (Below n S (presses (e ∷ h))) (resolve m other r e ∷ r)
 stays-event m other n S safe r (Press k) h key no_load le (s, there, f) =
     let lt : presses h < n = omega (arith, le) in
-    stays-press m (S (presses h)) (Below n S (suc (presses h))) (below-leads_on m n S safe (presses h) lt) r s (there lt) f k key (look m r k) (sym (follows-look m r s k f))
+    stays-press m (S (presses h)) (Below n S (suc (presses h))) (below-leads_on m n S safe (presses h) lt) r s
+    (there lt) f k key (look m r k) (sym (follows-look m r s k f))
 stays-event m other n S safe r (Release k) h key no_load le (s, there, f) =
     stays-release (Below n S (presses h)) (below-lets_go m n S safe (presses h)) r s there f k (remembered k r) refl
 stays-event m other n S safe r Reset h key no_load le (s, there, f) =
     stays-reset (Below n S (presses h)) (below-lets_go m n S safe (presses h)) r s there f
 stays-event m other n S safe r Load h key no_load le (s, there, f) = absurd (true≢false no_load)
 
+-- one event fewer has no more presses
 fewer : (e : Event) (h : List Event) (n : ℕ) → presses (e ∷ h) ≤ n → presses h ≤ n
 fewer (Press k) h n le = omega (arith, le)
 fewer (Release k) h n le = le
@@ -354,30 +504,44 @@ fewer Reset h n le = le
 fewer Load h n le = le
 
 -- Whatever presses, releases and resets come, at most n presses, the console stands in a state of the sets.
-stays : (ms : Maps) (n : ℕ) (S : ℕ → State → Type 0) → IsSafeBelow ms.first n S → (h : List Event) → HasKeys h → HasNoLoads h → presses h ≤ n
+stays : (ms : Maps) (n : ℕ) (S : ℕ → State → Type 0) → IsSafeBelow ms.first n S → (h : List Event) → HasKeys h
+    → HasNoLoads h → presses h ≤ n
     → Stays (Below n S (presses h)) (resolved ms h)
-stays ms n S safe [] keys no_loads le = (start, (λ lt. safe.start), subst (λ r. Follows r start) (sym (resolved-start ms)) follows-start)
+stays ms n S safe [] keys no_loads le =
+    (start, (λ lt. safe.start), subst (λ r. Follows r start) (sym (resolved-start ms)) follows-start)
 stays ms n S safe (e ∷ h) keys no_loads le =
     let rest : HasNoLoads h = All-tail IsNoLoad e h no_loads in
-    let before : Stays (Below n S (presses h)) (resolved ms h) = stays ms n S safe h (All-tail HasKey e h keys) rest (fewer e h n le) in
+    let before : Stays (Below n S (presses h)) (resolved ms h) =
+    stays ms n S safe h (All-tail HasKey e h keys) rest (fewer e h n le) in
     rw (resolved-more ms h e, first_in_force ms h rest)
-    (stays-event ms.first (loaded ms h) n S safe (resolved ms h) e h (All-head HasKey e h keys) (All-head IsNoLoad e h no_loads) le before)
+    (stays-event ms.first (loaded ms h) n S safe (resolved ms h) e h (All-head HasKey e h keys)
+    (All-head IsNoLoad e h no_loads) le before)
 
 -- so a modifier is on only while a key that bears it is pressed
-follows-on : (ms : Maps) (h : List Event) (s : State) → Follows (resolved ms h) s → HasKeys h → HasNoLoads h → IsOnOnlyWhilePressed ms.first h (λ i. On ms i h)
+follows-on : (ms : Maps) (h : List Event) (s : State) → Follows (resolved ms h) s → HasKeys h → HasNoLoads h
+    → IsOnOnlyWhilePressed ms.first h (λ i. On ms i h)
 follows-on ms h s f keys no_loads i e =
     let k : (k : ℕ) × Holds s k i = some_of (s.holder i) (sym (f.on i) ∙ e) in
     let r : remembered k.0 (resolved ms h) ≡ Some (act.Mod i) = f.holds i k.0 k.1 in
-    let b : (k.0 < 128) × IsCellOf (in_force ms h) k.0 (Act (act.Mod i)) = remembered-cell (in_force ms h) (resolved ms h) k.0 (act.Mod i) (resolved-looked ms h keys) r in
-    (k.0, b.0, subst (λ m. IsCellOf m k.0 (Act (act.Mod i))) (first_in_force ms h no_loads) b.1, remembered-pressed ms h k.0 (act.Mod i) r)
+    let b : (k.0 < 128) × IsCellOf (in_force ms h) k.0 (Act (act.Mod i)) =
+    remembered-cell (in_force ms h) (resolved ms h) k.0 (act.Mod i) (resolved-looked ms h keys) r in (
+      k.0,
+      b.0,
+      subst (λ m. IsCellOf m k.0 (Act (act.Mod i))) (first_in_force ms h no_loads) b.1,
+      remembered-pressed ms h k.0 (act.Mod i) r,
+    )
 
-follows-off : (ms : Maps) (h : List Event) → IsOnOnlyWhilePressed ms.first h (λ i. On ms i h) → IsOffOnceQuiet h (λ i. On ms i h)
+-- where modifiers are on only while their keys are pressed, none is on once all are released
+follows-off : (ms : Maps) (h : List Event) → IsOnOnlyWhilePressed ms.first h (λ i. On ms i h)
+    → IsOffOnceQuiet h (λ i. On ms i h)
 follows-off ms h on quiet i =
     not_true (On ms i h) (λ e.
     let s : (k : ℕ) × (k < 128) × Bears ms.first k (holding.Mod i) × (pressed k h ≡ true) = on i e in
     true≢false (sym s.3 ∙ quiet s.0 s.1))
 
-within-on : (ms : Maps) (n : ℕ) (S : ℕ → State → Type 0) → IsSafeBelow ms.first n S → (h : List Event) → HasKeys h → HasNoLoads h → presses h ≤ n → IsOnOnlyWhilePressed ms.first h (λ i. On ms i h)
+-- below n presses a modifier is on only while a key that bears it is pressed
+within-on : (ms : Maps) (n : ℕ) (S : ℕ → State → Type 0) → IsSafeBelow ms.first n S → (h : List Event) → HasKeys h
+    → HasNoLoads h → presses h ≤ n → IsOnOnlyWhilePressed ms.first h (λ i. On ms i h)
 within-on ms n S safe h keys no_loads le =
     let s : Stays (Below n S (presses h)) (resolved ms h) = stays ms n S safe h keys no_loads le in
     follows-on ms h s.0 s.2 keys no_loads
@@ -385,15 +549,19 @@ within-on ms n S safe h keys no_loads le =
 -- sets that are safe below every number
 pub never-sticks : (m : MapValue) (S : ℕ → State → Type 0) → ((n : ℕ) → IsSafeBelow m n S) → NeverSticks m
 never-sticks m S safe ms h first keys no_loads =
-    let on : IsOnOnlyWhilePressed ms.first h (λ i. On ms i h) = within-on ms (presses h) S (subst (λ x. IsSafeBelow x (presses h) S) (sym first) (safe (presses h))) h keys no_loads (omega arith) in
+    let on : IsOnOnlyWhilePressed ms.first h (λ i. On ms i h) =
+    within-on ms (presses h) S (subst (λ x. IsSafeBelow x (presses h) S) (sym first) (safe (presses h))) h keys
+    no_loads (omega arith) in
     (subst (λ x. IsOnOnlyWhilePressed x h (λ i. On ms i h)) first on, follows-off ms h on)
 
 -- sets that are safe below n
-pub sticks-late : (m : MapValue) (n : ℕ) (S : ℕ → State → Type 0) → IsSafeBelow m n S → (h : List Event) → HasKeys h → HasNoLoads h → (i : Modifier) → SticksAfter m h i → n < presses h
+pub sticks-late : (m : MapValue) (n : ℕ) (S : ℕ → State → Type 0) → IsSafeBelow m n S → (h : List Event) → HasKeys h
+    → HasNoLoads h → (i : Modifier) → SticksAfter m h i → n < presses h
 sticks-late m n S safe h keys no_loads i (quiet, on) =
     elim (cases_lt n (presses h)) [
       | inl lt ↦ lt
       | inr le ↦
-          let off : On (between m m) i h ≡ false = follows-off (between m m) h (within-on (between m m) n S safe h keys no_loads le) quiet i in
+          let off : On (between m m) i h ≡ false =
+          follows-off (between m m) h (within-on (between m m) n S safe h keys no_loads le) quiet i in
           absurd (true≢false (sym (on (between m m) refl) ∙ off))
     ]

@@ -1,12 +1,14 @@
 -- A modifier without a trap is on only while a key that bears it is pressed.
-use Rattle.std.proofs.Common.{◌≡◌, ℕ, ◌<◌, Bool, true, false, ◌||◌, not, List, [], ◌∷◌, Some, refl, ap, subst, sym, ◌∙◌, inl, inr}
+use Rattle.std.proofs.Common.{◌≡◌, ℕ, ◌<◌, Bool, true, false, ◌||◌, not, List, [], ◌∷◌, Some, refl, ap, subst, sym, ◌∙◌}
+use Rattle.std.proofs.Common.{inl, inr}
 use Rattle.std.specs.Prelude.{◌==◌}
 use Rattle.std.proofs.lemmas.Bool.{eqb-true, eq-eqb, and_parts, or_cases, cases_Bool, true≢false}
 use Rattle.std.proofs.lemmas.List.Elements.{All-tail}
 use Rattle.keymap_core.specs.declared.action.Action.TheVariants as act
 use Rattle.keymap_core.specs.declared.action.Lock.TheVariants as lock
 use Rattle.keymap_core.specs.declared.action.Modifier.{Modifier}
-use Rattle.keymap_core.specs.declared.action.Modifier.TheVariants.{LeftShift, RightShift, LeftControl, RightControl, LeftAlt, RightAlt, AltShift, Meta}
+use Rattle.keymap_core.specs.declared.action.Modifier.TheVariants.{LeftShift, RightShift, LeftControl, RightControl}
+use Rattle.keymap_core.specs.declared.action.Modifier.TheVariants.{LeftAlt, RightAlt, AltShift, Meta}
 use Rattle.keymap_core.specs.declared.action.Holding.TheVariants as holding
 use Rattle.keymap_core.specs.declared.entry.Cell.{Cell}
 use Rattle.keymap_core.specs.declared.entry.Cell.TheVariants.{Char, Act}
@@ -18,10 +20,13 @@ use Rattle.keymap_core.specs.Bearers.{IsCellOf}
 use Rattle.console_core.specs.declared.event.Event.{Event}
 use Rattle.console_core.specs.declared.event.Event.TheVariants.{Press, Release, Reset, Load}
 use Rattle.console_core.specs.Columns.{xor, flips, slot_of}
-use Rattle.console_core.specs.Resolved.{ResolvedEvent, held, locked, on, remembered, taken_over, is_action, look, resolve_press}
+use Rattle.console_core.specs.Resolved.{ResolvedEvent, held, locked, on, remembered, taken_over, is_action, look}
+use Rattle.console_core.specs.Resolved.{resolve_press}
 use Rattle.console_core.specs.History.{Maps, in_force, resolved, HasKey, HasKeys}
 use Rattle.console_core.specs.Traps.{Bits, cell_with, group_bit, HasNoLocks, HasNoTrap, OnOnlyWhilePressedWithoutTraps}
-use Rattle.console_core.proofs.OneMore.{resolved-start, resolved-more, held-start, held-character, held-action, held-release, held-reset, held-load, remembered-character, remembered-action, remembered-release}
+use Rattle.console_core.proofs.OneMore.{resolved-start, resolved-more, held-start, held-character, held-action}
+use Rattle.console_core.proofs.OneMore.{held-release, held-reset, held-load, remembered-character, remembered-action}
+use Rattle.console_core.proofs.OneMore.{remembered-release}
 use Rattle.keymap_core.proofs.SameActions.{same_action-refl}
 use Rattle.console_core.proofs.Borne.{AllLooked, taken-holding, held-upper, resolved-looked}
 use Rattle.console_core.proofs.Bearing.{RememberedBySome, remembered-cell, remembered-pressed, first_kept}
@@ -30,8 +35,14 @@ use Rattle.console_core.proofs.PlainLooks.{never-locked}
 -- the bits of the cell that is looked up, where no lock is on
 abbrev pub bits_of : List ResolvedEvent → Bits
 bits_of r =
-    record { upper = on AltShift r; shift = on LeftShift r || on RightShift r; control = on LeftControl r || on RightControl r; alt = on LeftAlt r || on RightAlt r }
+    record {
+      upper = on AltShift r;
+      shift = on LeftShift r || on RightShift r;
+      control = on LeftControl r || on RightControl r;
+      alt = on LeftAlt r || on RightAlt r;
+    }
 
+-- without caps and num no flag flips
 no_flip : (f : LockFlag) → flips f false false ≡ false
 no_flip flag.O = refl
 no_flip flag.C = refl
@@ -42,15 +53,26 @@ xor-false : (b : Bool) → xor b false ≡ b
 xor-false true = refl
 xor-false false = refl
 
-pub look-bits : (m : MapValue) (r : List ResolvedEvent) (k : ℕ) → locked lock.Caps r ≡ false → locked lock.Num r ≡ false → locked lock.Alt r ≡ false → look m r k ≡ cell_with m k (bits_of r)
+-- without locks a look follows from the modifiers alone
+pub look-bits : (m : MapValue) (r : List ResolvedEvent) (k : ℕ) → locked lock.Caps r ≡ false → locked lock.Num r ≡ false
+    → locked lock.Alt r ≡ false → look m r k ≡ cell_with m k (bits_of r)
 unfolding look
 look-bits m r k caps num alt =
-    rw (alt, caps, num, xor-false (held (holding.Mod AltShift) r), no_flip (entry_at m (slot_of k (held (holding.Mod AltShift) r))).flag, xor-false (held (holding.Mod LeftShift) r || held (holding.Mod RightShift) r)) refl
+    rw (
+      alt,
+      caps,
+      num,
+      xor-false (held (holding.Mod AltShift) r),
+      no_flip (entry_at m (slot_of k (held (holding.Mod AltShift) r))).flag,
+      xor-false (held (holding.Mod LeftShift) r || held (holding.Mod RightShift) r),
+    )
+    refl
 
 or-true : (x : Bool) → (x || true) ≡ true
 or-true true = refl
 or-true false = refl
 
+-- a modifier that is on sets the bit of its group
 on-bit : (r : List ResolvedEvent) (i : Modifier) → on i r ≡ true → group_bit i (bits_of r) ≡ true
 on-bit r LeftShift e = ap (λ t. t || on RightShift r) e
 on-bit r RightShift e = ap (λ t. on LeftShift r || t) e ∙ or-true _
@@ -66,7 +88,10 @@ not_false true h e = true≢false (sym h)
 not_false false h e = true≢false (sym e)
 
 -- what a press adds, by its look
-press-kept : (m : MapValue) (i : Modifier) (j : ℕ) (r : List ResolvedEvent) (x : Cell) → AllLooked m r → (on i r ≡ true → RememberedBySome (holding.Mod i) r) → ((c : ℕ) → x ≡ Char c → on i r ≡ true → IsCellOf m j (Act (act.Mod i)) → j < 128 → ⊥) → on i (resolve_press j x ∷ r) ≡ true → RememberedBySome (holding.Mod i) (resolve_press j x ∷ r)
+press-kept : (m : MapValue) (i : Modifier) (j : ℕ) (r : List ResolvedEvent) (x : Cell) → AllLooked m r
+    → (on i r ≡ true → RememberedBySome (holding.Mod i) r)
+    → ((c : ℕ) → x ≡ Char c → on i r ≡ true → IsCellOf m j (Act (act.Mod i)) → j < 128 → ⊥)
+    → on i (resolve_press j x ∷ r) ≡ true → RememberedBySome (holding.Mod i) (resolve_press j x ∷ r)
 press-kept m i j r (Char c) all f trap h =
     let o : on i r ≡ true = sym (held-character (holding.Mod i) j c r) ∙ h in
     let s : RememberedBySome (holding.Mod i) r = f o in
@@ -74,46 +99,77 @@ press-kept m i j r (Char c) all f trap h =
     elim (cases_Bool (j == s.0)) [
       | inl e ↦
           let q : j ≡ s.0 = eqb-true j s.0 e in
-          absurd (trap c refl o (subst (λ y. IsCellOf m y (Act (act.Mod i))) (sym q) b.1) (subst (λ y. y < 128) (sym q) b.0))
+          absurd (trap c refl o (subst (λ y. IsCellOf m y (Act (act.Mod i))) (sym q) b.1)
+          (subst (λ y. y < 128) (sym q) b.0))
       | inr e ↦ (s.0, rw (remembered-character s.0 j c r, e) s.1)
     ]
 press-kept m i j r (Act b) all f trap h =
-    elim (or_cases (same_action (taken_over (remembered j r) b) (act.Mod i)) (on i r) (sym (held-action (holding.Mod i) j b r) ∙ h)) [
-      | inl t ↦ (j, rw (remembered-action j j b r, eq-eqb j j refl) (taken-holding (remembered j r) b (holding.Mod i) t).1)
+    elim (or_cases (same_action (taken_over (remembered j r) b) (act.Mod i)) (on i r)
+    (sym (held-action (holding.Mod i) j b r) ∙ h)) [
+      | inl t ↦
+          (j, rw (remembered-action j j b r, eq-eqb j j refl) (taken-holding (remembered j r) b (holding.Mod i) t).1)
       | inr t ↦
           let s : RememberedBySome (holding.Mod i) r = f t in
           (s.0, remembered-action s.0 j b r ∙ first_kept (remembered s.0 r) _ (act.Mod i) s.1)
     ]
 
-pub on-remembered : (ms : Maps) (h : List Event) → HasNoLocks (in_force ms h) → (i : Modifier) → HasNoTrap (in_force ms h) i → HasKeys h → on i (resolved ms h) ≡ true → RememberedBySome (holding.Mod i) (resolved ms h)
-on-remembered ms [] locks i free keys e = absurd (true≢false (sym e ∙ ap (λ r. on i r) (resolved-start ms) ∙ held-start (holding.Mod i)))
+-- without locks and traps a modifier that is on is remembered
+pub on-remembered : (ms : Maps) (h : List Event) → HasNoLocks (in_force ms h) → (i : Modifier)
+    → HasNoTrap (in_force ms h) i → HasKeys h → on i (resolved ms h) ≡ true
+    → RememberedBySome (holding.Mod i) (resolved ms h)
+on-remembered ms [] locks i free keys e =
+    absurd (true≢false (sym e ∙ ap (λ r. on i r) (resolved-start ms) ∙ held-start (holding.Mod i)))
 on-remembered ms (Press j ∷ h) locks i free keys e =
     let rest : HasKeys h = All-tail HasKey (Press j) h keys in
     let m : MapValue = in_force ms h in
     let all : AllLooked (in_force ms h) (resolved ms h) = resolved-looked ms h rest in
     let seen : look (in_force ms h) (resolved ms h) j ≡ cell_with (in_force ms h) j (bits_of (resolved ms h)) =
-    look-bits (in_force ms h) (resolved ms h) j (never-locked (in_force ms h) lock.Caps locks.0 (resolved ms h) all) (never-locked (in_force ms h) lock.Num locks.1 (resolved ms h) all) (never-locked (in_force ms h) lock.Alt locks.2 (resolved ms h) all) in
+    look-bits (in_force ms h) (resolved ms h) j (never-locked (in_force ms h) lock.Caps locks.0 (resolved ms h) all)
+    (never-locked (in_force ms h) lock.Num locks.1 (resolved ms h) all)
+    (never-locked (in_force ms h) lock.Alt locks.2 (resolved ms h) all) in
     rw (resolved-more ms h (Press j))
-    (press-kept (in_force ms h) i j (resolved ms h) (look (in_force ms h) (resolved ms h) j) all (on-remembered ms h locks i free rest)
+    (press-kept (in_force ms h) i j (resolved ms h) (look (in_force ms h) (resolved ms h) j) all
+    (on-remembered ms h locks i free rest)
     (λ c is o bears lt.
-    free j lt (bears, (bits_of (resolved ms h), c, (λ u. held-upper (in_force ms h) (holding.Mod AltShift) (λ k lt low. (k, lt, inl low)) (resolved ms h) all u), on-bit (resolved ms h) i o, sym seen ∙ is)))
+    free j lt (
+      bears,
+      (
+        bits_of (resolved ms h),
+        c,
+        (λ u. held-upper (in_force ms h) (holding.Mod AltShift) (λ k lt low. (k, lt, inl low)) (resolved ms h)
+            all u),
+        on-bit (resolved ms h) i o,
+        sym seen ∙ is,
+      ),
+    ))
     (subst (λ r. on i r ≡ true) (resolved-more ms h (Press j)) e))
 on-remembered ms (Release j ∷ h) locks i free keys e =
     let p : (on i (resolved ms h) ≡ true) × (not (is_action (remembered j (resolved ms h)) (act.Mod i)) ≡ true) =
-    and_parts _ _ (sym (held-release (holding.Mod i) j (resolved ms h)) ∙ ap (λ r. on i r) (sym (resolved-more ms h (Release j))) ∙ e) in
-    let s : RememberedBySome (holding.Mod i) (resolved ms h) = on-remembered ms h locks i free (All-tail HasKey (Release j) h keys) p.0 in
+    and_parts _ _
+    (sym (held-release (holding.Mod i) j (resolved ms h)) ∙ ap (λ r. on i r) (sym (resolved-more ms h (Release j)))
+    ∙ e) in
+    let s : RememberedBySome (holding.Mod i) (resolved ms h) =
+    on-remembered ms h locks i free (All-tail HasKey (Release j) h keys) p.0 in
     rw (resolved-more ms h (Release j))
     (elim (cases_Bool (j == s.0)) [
       | inl q ↦
-          let f : remembered j (resolved ms h) ≡ Some (act.Mod i) = ap (λ x. remembered x (resolved ms h)) (eqb-true j s.0 q) ∙ s.1 in
-          absurd (not_false (is_action (remembered j (resolved ms h)) (act.Mod i)) p.1 (ap (λ o. is_action o (act.Mod i)) f ∙ same_action-refl (act.Mod i)))
+          let f : remembered j (resolved ms h) ≡ Some (act.Mod i) =
+          ap (λ x. remembered x (resolved ms h)) (eqb-true j s.0 q) ∙ s.1 in
+          absurd (not_false (is_action (remembered j (resolved ms h)) (act.Mod i)) p.1
+          (ap (λ o. is_action o (act.Mod i)) f ∙ same_action-refl (act.Mod i)))
       | inr q ↦ (s.0, rw (remembered-release s.0 j (resolved ms h), q) s.1)
     ])
-on-remembered ms (Reset ∷ h) locks i free keys e = absurd (true≢false (sym e ∙ ap (λ r. on i r) (resolved-more ms h Reset) ∙ held-reset (holding.Mod i) (resolved ms h)))
-on-remembered ms (Load ∷ h) locks i free keys e = absurd (true≢false (sym e ∙ ap (λ r. on i r) (resolved-more ms h Load) ∙ held-load (holding.Mod i) _ (resolved ms h)))
+on-remembered ms (Reset ∷ h) locks i free keys e =
+    absurd (true≢false (sym e ∙ ap (λ r. on i r) (resolved-more ms h Reset)
+    ∙ held-reset (holding.Mod i) (resolved ms h)))
+on-remembered ms (Load ∷ h) locks i free keys e =
+    absurd (true≢false (sym e ∙ ap (λ r. on i r) (resolved-more ms h Load)
+    ∙ held-load (holding.Mod i) _ (resolved ms h)))
 
+-- without locks and traps a modifier is on only while a key that bears it is pressed
 pub on_only_while_pressed_without_traps : OnOnlyWhilePressedWithoutTraps
 on_only_while_pressed_without_traps ms h keys locks i free e =
     let s : RememberedBySome (holding.Mod i) (resolved ms h) = on-remembered ms h locks i free keys e in
-    let b : (s.0 < 128) × IsCellOf (in_force ms h) s.0 (Act (act.Mod i)) = remembered-cell (in_force ms h) (resolved ms h) s.0 (act.Mod i) (resolved-looked ms h keys) s.1 in
+    let b : (s.0 < 128) × IsCellOf (in_force ms h) s.0 (Act (act.Mod i)) =
+    remembered-cell (in_force ms h) (resolved ms h) s.0 (act.Mod i) (resolved-looked ms h keys) s.1 in
     (s.0, b.0, b.1, remembered-pressed ms h s.0 (act.Mod i) s.1)

@@ -1,7 +1,8 @@
 -- The cell that a press of a key looks up, by which modifiers and locks are on.
 use Rattle.std.specs.Prelude.{ℕ, ◌+◌, ◌*◌, Bool, false, true, ◌&&◌, ◌||◌, not, if◌then◌else◌}
 use Rattle.keymap_core.specs.declared.action.Modifier.{Modifier}
-use Rattle.keymap_core.specs.declared.action.Modifier.TheVariants.{LeftShift, RightShift, LeftControl, RightControl, LeftAlt, RightAlt, AltShift}
+use Rattle.keymap_core.specs.declared.action.Modifier.TheVariants.{LeftShift, RightShift, LeftControl, RightControl}
+use Rattle.keymap_core.specs.declared.action.Modifier.TheVariants.{LeftAlt, RightAlt, AltShift}
 use Rattle.keymap_core.specs.declared.action.Lock.{Lock}
 use Rattle.keymap_core.specs.declared.action.Lock.TheVariants.{Caps, Num, Alt}
 use Rattle.keymap_core.specs.declared.entry.Cell.{Cell}
@@ -52,5 +53,6 @@ is_upper is_on is_locked = xor (is_on AltShift) (is_locked Alt)
 abbrev pub look_with : MapValue → (Modifier → Bool) → (Lock → Bool) → ℕ → Cell
 look_with m is_on is_locked k =
     let slot = slot_of k (is_upper is_on is_locked) in
-    let shift = xor (is_on LeftShift || is_on RightShift) (flips (entry_at m slot).flag (is_locked Caps) (is_locked Num)) in
+    let shift =
+    xor (is_on LeftShift || is_on RightShift) (flips (entry_at m slot).flag (is_locked Caps) (is_locked Num)) in
     cell_at m slot (column_of shift (is_on LeftControl || is_on RightControl) (is_on LeftAlt || is_on RightAlt))

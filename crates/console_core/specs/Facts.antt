@@ -16,8 +16,8 @@ use Rattle.console_core.specs.Headline.{IsSafe}
 abbrev pub LooksAreCells : Type 0
 LooksAreCells = (ms : Maps) (h : List Event) → HasKeys h → (k : ℕ) → IsCellOf (in_force ms h) k (Look ms k h)
 
--- A dead upper half is never looked at: where no cell of the slots 0 to 127 is ashift or alock, neither is on, or both are,
--- and what a key looks up stands in its lower slot.
+-- A dead upper half is never looked at: where no cell of the slots 0 to 127 is ashift or alock, neither is on, or both
+-- are, and what a key looks up stands in its lower slot.
 abbrev pub DeadUpperHalfIsNotLookedAt : Type 0
 DeadUpperHalfIsNotLookedAt =
     (ms : Maps) (h : List Event) → HasKeys h → (IsUpperLive (in_force ms h) → ⊥)
@@ -30,7 +30,8 @@ lets_go k (Release j) before = j == k
 lets_go k Reset before = true
 lets_go k Load before = true
 
--- In a safe map a holding action that is remembered for a key is forgotten only by a release of the key, a reset or a load.
+-- In a safe map a holding action that is remembered for a key is forgotten only by a release of the key, a reset or a
+-- load.
 abbrev pub HoldingIsRemembered : Type 0
 HoldingIsRemembered =
     (ms : Maps) (h : List Event) (e : Event) → IsSafe (in_force ms h) → HasKeys (e ∷ h)
@@ -45,4 +46,5 @@ IsRaisedByPressed ms i h =
 
 abbrev pub OnByPressedKey : Type 0
 OnByPressedKey =
-    (ms : Maps) (h : List Event) → IsSafe (in_force ms h) → HasKeys h → (i : Modifier) → On ms i h ≡ true → IsRaisedByPressed ms i h
+    (ms : Maps) (h : List Event) → IsSafe (in_force ms h) → HasKeys h → (i : Modifier) → On ms i h ≡ true
+    → IsRaisedByPressed ms i h

@@ -6,7 +6,8 @@ use Rattle.keymap_core.specs.Maps.{MapValue}
 use Rattle.console_core.specs.declared.event.Event.{Event}
 use Rattle.console_core.specs.declared.event.Event.TheVariants.{Press, Release, Reset, Load}
 use Rattle.console_core.specs.Positions.{count_where, is_odd}
-use Rattle.console_core.specs.History.{Maps, between, in_force, resolved, On, Locked, Pending, AnswersTo, HasKeys, HasNoLoads}
+use Rattle.console_core.specs.History.{Maps, between, in_force, resolved, On, Locked, Pending, AnswersTo, HasKeys}
+use Rattle.console_core.specs.History.{HasNoLoads}
 use Rattle.console_core.specs.Reading.{Turns}
 
 -- a list without loads reads as under the first map alone, and a lock is on after an odd number of turns

@@ -1,5 +1,5 @@
--- Maps in which each modifier and lock that picks a cell is borne throughout by one key alone, or by nobody: there a look
--- follows from which keys are pressed, and from the fresh presses of the locks' keys.
+-- Maps in which each modifier and lock that picks a cell is borne throughout by one key alone, or by nobody: there a
+-- look follows from which keys are pressed, and from the fresh presses of the locks' keys.
 use Rattle.std.specs.Prelude.{◌≡◌, ℕ, ◌+◌, ◌<◌, ◌⊎◌, ◌↔◌, true, Bool, ◌&&◌, ◌||◌, List}
 use Rattle.keymap_core.specs.declared.action.Modifier.{Modifier}
 use Rattle.keymap_core.specs.declared.action.Modifier.TheVariants as modifier

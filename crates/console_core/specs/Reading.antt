@@ -1,5 +1,6 @@
 -- The notions of a history read on the events themselves, at a position (an event and the events before it).
-use Rattle.std.specs.Prelude.{◌≡◌, ◌≢◌, ℕ, ◌==◌, length, if◌then◌else◌, Bool, false, true, ◌&&◌, not, List, [], ◌∷◌, ◌++◌, Option, None, Some, ◌↔◌}
+use Rattle.std.specs.Prelude.{◌≡◌, ◌≢◌, ℕ, ◌==◌, length, if◌then◌else◌, Bool, false, true, ◌&&◌, not, List, [], ◌∷◌}
+use Rattle.std.specs.Prelude.{◌++◌, Option, None, Some, ◌↔◌}
 use Rattle.keymap_core.specs.declared.action.Action.{Action}
 use Rattle.keymap_core.specs.declared.action.Holding.{Holding}
 use Rattle.keymap_core.specs.declared.action.Holding.TheVariants as holding
@@ -15,9 +16,11 @@ use Rattle.console_core.specs.declared.event.Event.{Event}
 use Rattle.console_core.specs.declared.event.Event.TheVariants.{Press, Release, Reset, Load}
 use Rattle.keymap_core.specs.Borne.{is_borne}
 use Rattle.console_core.specs.Positions.{count_since, is_odd, positions_without}
-use Rattle.console_core.specs.Resolved.{ResolvedEvent, unless_nop, keeps_taken, usable_dead_key, look, remembered, taken_over, is_action, held, locked}
+use Rattle.console_core.specs.Resolved.{ResolvedEvent, unless_nop, keeps_taken, usable_dead_key, look, remembered}
+use Rattle.console_core.specs.Resolved.{taken_over, is_action, held, locked}
 use Rattle.console_core.specs.Answers.{answer_char, answer_action, answer_release}
-use Rattle.console_core.specs.History.{Maps, in_force, loaded, concerns, pressed, resolved, resolved_event, On, Pending, AnswerTo}
+use Rattle.console_core.specs.History.{Maps, in_force, loaded, concerns, pressed, resolved, resolved_event, On, Pending}
+use Rattle.console_core.specs.History.{AnswerTo}
 
 -- Look, Remembered and Taken, of a key after h
 abbrev pub Look : Maps → ℕ → List Event → Cell
@@ -63,7 +66,8 @@ NoneOf test (x ∷ later) tail = (test x (later ++ tail) ≡ false) × NoneOf te
 -- some element starts it, and no later one ends it
 abbrev pub SomeSince : {A : Type 0} → (A → List A → Bool) → (A → List A → Bool) → List A → Type 0
 SomeSince {A} starts ends h =
-    (later : List A) × (x : A) × (before : List A) × (h ≡ later ++ x ∷ before) × (starts x before ≡ true) × NoneOf ends later (x ∷ before)
+    (later : List A) × (x : A) × (before : List A) × (h ≡ later ++ x ∷ before) × (starts x before ≡ true)
+    × NoneOf ends later (x ∷ before)
 
 -- the elements `recent` are those after the last one that passes `ends`, the elements `old` that one and those before
 abbrev pub IsSinceLast : {A : Type 0} → (A → List A → Bool) → List A → List A → Type 0
@@ -108,10 +112,13 @@ Offers ms k (Press j) h = if j == k then offered (Look ms j h) else None
 Offers ms k _ h = None
 
 abbrev pub RememberedByPositions : Type 0
-RememberedByPositions = (ms : Maps) (k : ℕ) (h : List Event) (a : Action) → (Remembered ms k h ≡ Some a) ↔ FirstSince (Forgets ms k) (Offers ms k) h a
+RememberedByPositions =
+    (ms : Maps) (k : ℕ) (h : List Event) (a : Action)
+    → (Remembered ms k h ≡ Some a) ↔ FirstSince (Forgets ms k) (Offers ms k) h a
 
 abbrev pub NothingRememberedByPositions : Type 0
-NothingRememberedByPositions = (ms : Maps) (k : ℕ) (h : List Event) → (Remembered ms k h ≡ None) ↔ NothingSince (Forgets ms k) (Offers ms k) h
+NothingRememberedByPositions =
+    (ms : Maps) (k : ℕ) (h : List Event) → (Remembered ms k h ≡ None) ↔ NothingSince (Forgets ms k) (Offers ms k) h
 
 -- a release, or a press that takes nop, a modifier or a lock
 abbrev pub keeps_option : Option Action → Bool
@@ -151,18 +158,23 @@ EndsInOddRun ms m i positions =
 
 abbrev pub PendingByRun : Type 0
 PendingByRun =
-    (ms : Maps) (h : List Event) (i : ℕ) → (Pending ms h ≡ Some i) ↔ EndsInOddRun ms (in_force ms h) i (positions_without (Keeps ms) h)
+    (ms : Maps) (h : List Event) (i : ℕ)
+    → (Pending ms h ≡ Some i) ↔ EndsInOddRun ms (in_force ms h) i (positions_without (Keeps ms) h)
 
 abbrev pub HeldByPositions : Type 0
-HeldByPositions = (ms : Maps) (a : Holding) (h : List Event) → (Held ms a h ≡ true) ↔ SomeSince (Raises ms a) (Lowers ms a) h
+HeldByPositions =
+    (ms : Maps) (a : Holding) (h : List Event) → (Held ms a h ≡ true) ↔ SomeSince (Raises ms a) (Lowers ms a) h
 
 abbrev pub LockedByCount : Type 0
-LockedByCount = (ms : Maps) (l : Lock) (h : List Event) → locked l (resolved ms h) ≡ is_odd (count_since (Unlocks ms l) (Turns ms l) h)
+LockedByCount =
+    (ms : Maps) (l : Lock) (h : List Event)
+    → locked l (resolved ms h) ≡ is_odd (count_since (Unlocks ms l) (Turns ms l) h)
 
 -- the last event that is about the key, or is a reset or a load, is a press of the key
 abbrev pub LastPresses : ℕ → List Event → Type 0
 LastPresses k h =
-    (later : List Event) × (before : List Event) × (h ≡ later ++ Press k ∷ before) × NoneOf (λ e _. concerns k e) later (Press k ∷ before)
+    (later : List Event) × (before : List Event) × (h ≡ later ++ Press k ∷ before)
+    × NoneOf (λ e _. concerns k e) later (Press k ∷ before)
 
 abbrev pub PressedByPositions : Type 0
 PressedByPositions = (k : ℕ) (h : List Event) → (pressed k h ≡ true) ↔ LastPresses k h
@@ -177,10 +189,12 @@ ResolvedAtPrefix =
 -- The answer to a press, by the key's look, to a release, to a reset and to a load.
 abbrev pub answer_to_look : Maps → ℕ → List Event → Cell → Answer
 answer_to_look ms k h (Char c) = answer_char (in_force ms h) (Pending ms h) (On ms Meta h) c
-answer_to_look ms k h (Act a) = answer_action (in_force ms h) (Pending ms h) (On ms Meta h) (taken_over (Remembered ms k h) a)
+answer_to_look ms k h (Act a) =
+    answer_action (in_force ms h) (Pending ms h) (On ms Meta h) (taken_over (Remembered ms k h) a)
 
 abbrev pub AnswersByCases : Type 0
 AnswersByCases =
     (ms : Maps) (k : ℕ) (h : List Event)
-    → (AnswerTo ms h (Press k) ≡ answer_to_look ms k h (Look ms k h)) × (AnswerTo ms h (Release k) ≡ answer_release (Remembered ms k h))
+    → (AnswerTo ms h (Press k) ≡ answer_to_look ms k h (Look ms k h))
+    × (AnswerTo ms h (Release k) ≡ answer_release (Remembered ms k h))
     × (AnswerTo ms h Reset ≡ answer.None) × (AnswerTo ms h Load ≡ answer.None)

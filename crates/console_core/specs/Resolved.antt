@@ -114,8 +114,8 @@ resolve m other before (Release k) = ReleasedKey k
 resolve m other before Reset = WasReset
 resolve m other before Load = WasLoaded other
 
--- Pending: releases, and presses that take nop, a modifier or a lock, keep what is pending. Of the other events, look at
--- those at the end that are presses of one usable dead key: if they are odd in number, that dead key is pending.
+-- Pending: releases, and presses that take nop, a modifier or a lock, keep what is pending. Of the other events, look
+-- at those at the end that are presses of one usable dead key: if they are odd in number, that dead key is pending.
 abbrev pub keeps_taken : Action → Bool
 keeps_taken act.Nop = true
 keeps_taken (act.Mod i) = true

@@ -1,8 +1,9 @@
--- Keys that can leave a modifier on: one of their cells is the modifier, and another is a character that is looked up while
--- the modifier is on.
+-- Keys that can leave a modifier on: one of their cells is the modifier, and another is a character that is looked up
+-- while the modifier is on.
 use Rattle.std.specs.Prelude.{◌≡◌, ℕ, ◌<◌, Bool, true, List}
 use Rattle.keymap_core.specs.declared.action.Modifier.{Modifier}
-use Rattle.keymap_core.specs.declared.action.Modifier.TheVariants.{LeftShift, RightShift, LeftControl, RightControl, LeftAlt, RightAlt, AltShift, Meta}
+use Rattle.keymap_core.specs.declared.action.Modifier.TheVariants.{LeftShift, RightShift, LeftControl, RightControl}
+use Rattle.keymap_core.specs.declared.action.Modifier.TheVariants.{LeftAlt, RightAlt, AltShift, Meta}
 use Rattle.keymap_core.specs.declared.action.Lock.TheVariants as lock
 use Rattle.keymap_core.specs.declared.action.Holding.TheVariants as holding
 use Rattle.keymap_core.specs.declared.entry.Cell.{Cell}
@@ -39,7 +40,8 @@ group_bit Meta bits = true
 abbrev pub HasTrap : MapValue → Modifier → ℕ → Type 0
 HasTrap m i k =
     Bears m k (holding.Mod i)
-    × ((bits : Bits) × (c : ℕ) × (bits.upper ≡ true → IsUpperLive m) × (group_bit i bits ≡ true) × (cell_with m k bits ≡ Char c))
+    × ((bits : Bits) × (c : ℕ) × (bits.upper ≡ true → IsUpperLive m) × (group_bit i bits ≡ true)
+    × (cell_with m k bits ≡ Char c))
 
 abbrev pub HasNoTrap : MapValue → Modifier → Type 0
 HasNoTrap m i = (k : ℕ) → k < key_count → HasTrap m i k → ⊥
@@ -47,10 +49,11 @@ HasNoTrap m i = (k : ℕ) → k < key_count → HasTrap m i k → ⊥
 -- nobody bears a lock that picks a cell
 abbrev pub HasNoLocks : MapValue → Type 0
 HasNoLocks m =
-    NobodyBears m (holding.Lock lock.Caps) × NobodyBears m (holding.Lock lock.Num) × NobodyBears m (holding.Lock lock.Alt)
+    NobodyBears m (holding.Lock lock.Caps) × NobodyBears m (holding.Lock lock.Num)
+    × NobodyBears m (holding.Lock lock.Alt)
 
--- without those locks and without a trap for it, a modifier is on only while a key that bears it is pressed, also in a map
--- that isn't safe
+-- without those locks and without a trap for it, a modifier is on only while a key that bears it is pressed, also in a
+-- map that isn't safe
 abbrev pub IsOnOnlyWhilePressedWithoutTraps : MapValue → List Event → (Modifier → Bool) → Type 0
 IsOnOnlyWhilePressedWithoutTraps m h is_on =
     HasNoLocks m → (i : Modifier) → HasNoTrap m i → is_on i ≡ true

@@ -1,10 +1,14 @@
 //! Laws over histories: the headline for all lists of events, the facts on which it stands, and each notion read on the
 //! positions of a list of events.
-ghost use Rattle.console_core.specs.Headline.{OnOnlyWhilePressed, OnExactlyWhilePressed, RepeatsTurnNoSteadyLock, OffOnceQuiet, LockedByFreshPresses, GoesOnAsAfterReset};
-ghost use Rattle.console_core.specs.Facts.{LooksAreCells, DeadUpperHalfIsNotLookedAt, HoldingIsRemembered, OnByPressedKey};
+ghost use Rattle.console_core.specs.Headline.{OnOnlyWhilePressed, OnExactlyWhilePressed, RepeatsTurnNoSteadyLock};
+ghost use Rattle.console_core.specs.Headline.{OffOnceQuiet, LockedByFreshPresses, GoesOnAsAfterReset};
+ghost use Rattle.console_core.specs.Facts.{LooksAreCells, DeadUpperHalfIsNotLookedAt, HoldingIsRemembered};
+ghost use Rattle.console_core.specs.Facts.{OnByPressedKey};
 ghost use Rattle.console_core.specs.Loads.{WithoutLoads, LoadsOfOneMapAreResets};
 ghost use Rattle.console_core.specs.Plain.{LooksPlainly, PlainOnByKeys, PlainLockedByKeys};
-ghost use Rattle.console_core.specs.Reading.{HeldByPositions, LockedByCount, RememberedByPositions, NothingRememberedByPositions, PendingByRun, PressedByPositions, ResolvedAtPrefix, AnswersByCases};
+ghost use Rattle.console_core.specs.Reading.{HeldByPositions, LockedByCount, RememberedByPositions};
+ghost use Rattle.console_core.specs.Reading.{NothingRememberedByPositions, PendingByRun, PressedByPositions};
+ghost use Rattle.console_core.specs.Reading.{ResolvedAtPrefix, AnswersByCases};
 ghost use Rattle.console_core.specs.Sticking.{NeverSticksUnlessReached, SticksIfReached};
 ghost use Rattle.console_core.specs.Traps.{OnOnlyWhilePressedWithoutTraps};
 
@@ -42,14 +46,15 @@ pub fn looks_plainly()
     ensures locked { PlainLockedByKeys }
 {}
 
-/// A modifier for which no key has a trap is on only while a key that bears it is pressed, also in a map that isn't safe,
-/// if nobody bears clock, nlock or alock.
+/// A modifier for which no key has a trap is on only while a key that bears it is pressed, also in a map that isn't
+/// safe, if nobody bears clock, nlock or alock.
 pub fn modifiers_without_traps_follow_keys()
     ensures { OnOnlyWhilePressedWithoutTraps }
 {}
 
-/// A keymap can leave a modifier on while no key is pressed exactly if a path of moves leads to a state where a key that
-/// holds a modifier looks up a character: then the events along the path, a repeat of that key and the releases do so.
+/// A keymap can leave a modifier on while no key is pressed exactly if a path of moves leads to a state where a key
+/// that holds a modifier looks up a character: then the events along the path, a repeat of that key and the releases do
+/// so.
 pub fn modifiers_stick_where_paths_lead()
     ensures never { NeverSticksUnlessReached }
     ensures sticks { SticksIfReached }
@@ -71,15 +76,15 @@ pub fn modifiers_are_raised_by_pressed_keys()
     ensures { OnByPressedKey }
 {}
 
-/// On, down and locked on positions: some event raises it and no later event lowers it; the number of events that turn it
-/// is odd.
+/// On, down and locked on positions: some event raises it and no later event lowers it; the number of events that turn
+/// it is odd.
 pub fn held_by_positions()
     ensures held { HeldByPositions }
     ensures locked { LockedByCount }
 {}
 
-/// What is remembered, on positions: the first action other than nop that was looked up since the key was let go or looked
-/// up a character.
+/// What is remembered, on positions: the first action other than nop that was looked up since the key was let go or
+/// looked up a character.
 pub fn remembered_by_positions()
     ensures something { RememberedByPositions }
     ensures nothing { NothingRememberedByPositions }

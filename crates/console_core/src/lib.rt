@@ -1,14 +1,15 @@
-//! Consoles that translate presses and releases of keys into characters and actions under a keymap, as genkbd_keyaction of
-//! sys/dev/kbd/kbd.c does, with a reset and a load of a second keymap besides.
+//! Consoles that translate presses and releases of keys into characters and actions under a keymap, as genkbd_keyaction
+//! of sys/dev/kbd/kbd.c does, with a reset and a load of a second keymap besides.
 //!
-//! The crate stands on keymap_core alone. A console promises, of the whole list of events that it was delivered since it was
-//! made, the answer to each event and which modifiers and locks are on: `specs/History.antt` and `specs/Resolved.antt` define
-//! these by positions in that list. `PlainConsole` and `WordConsole` keep that promise in two layouts, `replay` delivers a list of events, and
-//! `laws` has what follows for all lists: in a keymap where no key bears a modifier or lock beside a character, a modifier is
-//! on only while a key that bears it is pressed, and once every key is released the console goes on as after a reset.
+//! The crate stands on keymap_core alone. A console promises, of the whole list of events that it was delivered since
+//! it was made, the answer to each event and which modifiers and locks are on: `specs/History.antt` and
+//! `specs/Resolved.antt` define these by positions in that list. `PlainConsole` and `WordConsole` keep that promise in
+//! two layouts, `replay` delivers a list of events, and `laws` has what follows for all lists: in a keymap where no key
+//! bears a modifier or lock beside a character, a modifier is on only while a key that bears it is pressed, and once
+//! every key is released the console goes on as after a reset.
 //!
-//! `step_kept` is the step of `WordConsole` over a `WordStore` that the caller keeps, for who calls from C. Each of them runs
-//! over a keymap however it is kept (`keymap_core::Keymap`).
+//! `step_kept` is the step of `WordConsole` over a `WordStore` that the caller keeps, for who calls from C. Each of
+//! them runs over a keymap however it is kept (`keymap_core::Keymap`).
 //!
 //! `sticking` decides by a search whether a keymap can leave a modifier on while no key is pressed.
 //!

@@ -181,7 +181,8 @@ fn load<K: Keymap, S: Store>(store: &mut S, next: &K)
 /// The answer to an event, and the store after it, under a map in force and the one that a load puts in force.
 #[inline(always)]
 fn step<K: Keymap, S: Store>(store: &mut S, map: &K, next: &K, event: Event) -> Answer
-    ensures answer { (ms : Maps) (h : List EventValue) → K.shows map.now (in_force ms h) → K.shows next.now (loaded ms h)
+    ensures answer { (ms : Maps) (h : List EventValue) → K.shows map.now (in_force ms h)
+        → K.shows next.now (loaded ms h)
         → StandsAt ms h (S.kept store.old)
         → result ≡ AnswerTo ms h event }
     ensures next { (ms : Maps) (h : List EventValue) → K.shows map.now (in_force ms h) → K.shows next.now (loaded ms h)

@@ -9,8 +9,8 @@ use crate::plain_store::PlainStore;
 use crate::translator::Translator;
 use keymap_core::{KeyMap, Keymap, Lock, Modifier};
 
-/// A console that keeps a truth value for each modifier, lock and down mark, an optional action for each key, an optional
-/// pending accent, and a truth value for the map in force.
+/// A console that keeps a truth value for each modifier, lock and down mark, an optional action for each key, an
+/// optional pending accent, and a truth value for the map in force.
 #[derive(Drop)]
 pub struct PlainConsole<'m, K = KeyMap> {
     console: Console<'m, K, PlainStore>,

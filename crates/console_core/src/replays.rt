@@ -12,15 +12,19 @@ use crate::event::{Answer, Event};
 use crate::translator::Translator;
 use std::alloc::{AllocError, Global};
 
-/// Delivers the events in their order and collects the answers, one for each event. The vector is reserved first: if that is
-/// refused, no event was delivered.
+/// Delivers the events in their order and collects the answers, one for each event. The vector is reserved first: if
+/// that is refused, no event was delivered.
 pub fn replay<T: Translator>(
     alloc: Global,
     console: &mut T,
     events: &[Event],
 ) -> Result<Vec<Answer>, AllocError>
-    ensures answers { IfOk result (λ answers. (ms : Maps) (h : List EventValue) → T.stands console.old ms h → answers.items ≡ AnswersTo ms h events.now) }
-    ensures next { OnOk result ((ms : Maps) (h : List EventValue) → T.stands console.old ms h → T.stands console.new ms (reverse events.now ++ h)) }
+    ensures answers { IfOk result
+        (λ answers. (ms : Maps) (h : List EventValue) → T.stands console.old ms h
+        → answers.items ≡ AnswersTo ms h events.now) }
+    ensures next { OnOk result
+        ((ms : Maps) (h : List EventValue) → T.stands console.old ms h
+        → T.stands console.new ms (reverse events.now ++ h)) }
     ensures refused { OnErr result (console.new ≡ console.old) }
 
     // In a safe map a modifier is on only while a key that bears it is pressed.
@@ -41,8 +45,8 @@ pub fn replay<T: Translator>(
     ensures goes_on_as_after_reset { OnOk result (Afterwards (T.stands console.old) events.now (λ ms h.
         IsSafe (in_force ms h) → IsQuiet h → T.shows_pending console.new ≡ None → GoesOnAs ms h (event.Reset ∷ h))) }
 
-    // A lock that one key alone bears throughout, where there are loads in both maps, is on exactly after an odd number of
-    // fresh presses of that key.
+    // A lock that one key alone bears throughout, where there are loads in both maps, is on exactly after an odd number
+    // of fresh presses of that key.
     ensures locked_by_fresh_presses { OnOk result (Afterwards (T.stands console.old) events.now (λ ms h.
         IsLockedByFreshPresses ms h (T.shows_locked console.new))) }
 

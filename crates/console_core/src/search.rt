@@ -1,5 +1,6 @@
 //! The search for sticking modifiers over the states that presses and releases lead to, by the number of presses.
-ghost use Rattle.std.specs.Prelude.{◌≡◌, ◌+◌, ◌<◌, ◌≤◌, ◌⊎◌, ◌++◌, ◌∷◌, ℕ, List, [], None, Some, All, length, reverse, slice_get, OnOk, IfOk, IfSome};
+ghost use Rattle.std.specs.Prelude.{◌≡◌, ◌+◌, ◌<◌, ◌≤◌, ◌⊎◌, ◌++◌, ◌∷◌, ℕ, List, [], None, Some, All, length, reverse};
+ghost use Rattle.std.specs.Prelude.{slice_get, OnOk, IfOk, IfSome};
 ghost use Rattle.keymap_core.specs.Maps.{MapValue};
 ghost use Rattle.keymap_core.specs.Numbers.{key_count};
 ghost use Rattle.keymap_core.specs.declared.action.Modifier.{Modifier as ModifierValue};

@@ -1,5 +1,5 @@
-//! Histories that were worked out by hand, on both consoles: the answer to each event, and what is on, locked and pending
-//! after it.
+//! Histories that were worked out by hand, on both consoles: the answer to each event, and what is on, locked and
+//! pending after it.
 mod maps;
 mod searches;
 

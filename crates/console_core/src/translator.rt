@@ -22,7 +22,8 @@ pub trait Translator {
     /// The index of the pending accent.
     ghost shows_pending: { Self → Option ℕ };
 
-    /// Delivers an event. Where the console stands at a list of events, it stands at that list with the event afterwards.
+    /// Delivers an event. Where the console stands at a list of events, it stands at that list with the event
+    /// afterwards.
     fn step(&mut self, event: Event) -> Answer
         ensures answer { (ms : Maps) (h : List EventValue) → stands self.old ms h → result ≡ AnswerTo ms h event }
         ensures next { (ms : Maps) (h : List EventValue) → stands self.old ms h → stands self.new ms (event ∷ h) };
@@ -39,11 +40,14 @@ pub trait Translator {
     fn pending(&self) -> Option<u8>
         ensures { result ≡ shows_pending self.now };
 
-    ghost on_where_it_stands: { (c : Self) (ms : Maps) (h : List EventValue) → stands c ms h → (i : ModifierValue) → shows_on c i ≡ On ms i h };
+    ghost on_where_it_stands: { (c : Self) (ms : Maps) (h : List EventValue) → stands c ms h → (i : ModifierValue)
+        → shows_on c i ≡ On ms i h };
 
-    ghost locked_where_it_stands: { (c : Self) (ms : Maps) (h : List EventValue) → stands c ms h → (l : LockValue) → shows_locked c l ≡ Locked ms l h };
+    ghost locked_where_it_stands: { (c : Self) (ms : Maps) (h : List EventValue) → stands c ms h → (l : LockValue)
+        → shows_locked c l ≡ Locked ms l h };
 
     ghost keys_where_it_stands: { (c : Self) (ms : Maps) (h : List EventValue) → stands c ms h → HasKeys h };
 
-    ghost pending_where_it_stands: { (c : Self) (ms : Maps) (h : List EventValue) → stands c ms h → shows_pending c ≡ Pending ms h };
+    ghost pending_where_it_stands: { (c : Self) (ms : Maps) (h : List EventValue) → stands c ms h
+        → shows_pending c ≡ Pending ms h };
 }

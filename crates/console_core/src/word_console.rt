@@ -10,8 +10,8 @@ use crate::translator::Translator;
 use crate::word_store::WordStore;
 use keymap_core::{KeyMap, Keymap, Lock, Modifier};
 
-/// A console that keeps one word of 32 bits, for the modifiers, the locks, the down marks, the pending accent and the map
-/// in force, and a byte for each key, the code of its remembered action.
+/// A console that keeps one word of 32 bits, for the modifiers, the locks, the down marks, the pending accent and the
+/// map in force, and a byte for each key, the code of its remembered action.
 #[derive(Drop)]
 pub struct WordConsole<'m, K = KeyMap> {
     console: Console<'m, K, WordStore>,

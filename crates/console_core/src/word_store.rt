@@ -82,8 +82,8 @@ fn is_code_of(code: u8, expected: Action) -> Option<bool>
 /// What a packed console keeps between two events: one word and a byte for each key. Any value of it is safe to step.
 ///
 /// The modifiers in bits 0 to 7 of the word, the locks in bits 8 to 11, the down marks in bits 12 to 15, the index of
-/// the pending accent plus 1, or 0, in bits 16 to 19, and bit 20 set where the second map is in force. The bytes are the
-/// codes of the remembered actions, 0 for nothing.
+/// the pending accent plus 1, or 0, in bits 16 to 19, and bit 20 set where the second map is in force. The bytes are
+/// the codes of the remembered actions, 0 for nothing.
 #[repr(C)]
 #[derive(Clone, Copy, Drop)]
 pub struct WordStore {

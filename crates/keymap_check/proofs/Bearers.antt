@@ -7,18 +7,34 @@ use Rattle.keymap_check.specs.declared.bearer.Bearer.{Bearer}
 use Rattle.keymap_check.specs.declared.bearer.Bearer.TheVariants.{Nobody}
 use Rattle.keymap_check.specs.Computed.{bearer_below, bearer_with, next_bearer, bears}
 
+-- among no keys nobody bears
 pub bearer_below-start : (m : MapValue) (a : Holding) → bearer_below m a 0 ≡ Nobody
 unfolding bearer_below
 bearer_below-start m a = refl
 
-pub bearer_below-more : (m : MapValue) (a : Holding) (k : ℕ) → bearer_below m a (suc k) ≡ (if bears m k a then next_bearer (bearer_below m a k) (bearer_with m a k) else bearer_below m a k)
+-- one more key joins the bearers if it bears
+pub bearer_below-more : (m : MapValue) (a : Holding) (k : ℕ)
+    → bearer_below m a (suc k)
+    ≡ (if bears m k a then next_bearer (bearer_below m a k) (bearer_with m a k) else bearer_below m a k)
 unfolding bearer_below
 bearer_below-more m a k = refl
 
-pub bearer-added : (m : MapValue) (a : Holding) (k : ℕ) (b c : Bearer) (r : Bool) → b ≡ bearer_below m a k → r ≡ bears m k a → r ≡ true → c ≡ next_bearer b (bearer_with m a k) → c ≡ bearer_below m a (k + 1)
+-- one more key that bears
+pub bearer-added : (m : MapValue) (a : Holding) (k : ℕ) (b c : Bearer) (r : Bool) → b ≡ bearer_below m a k
+    → r ≡ bears m k a → r ≡ true → c ≡ next_bearer b (bearer_with m a k) → c ≡ bearer_below m a (k + 1)
 bearer-added m a k b c r is by t new =
-    rw add-one (new ∙ ap (λ x. next_bearer x (bearer_with m a k)) is ∙ ap (λ x. if x then next_bearer (bearer_below m a k) (bearer_with m a k) else bearer_below m a k) (sym t ∙ by) ∙ sym (bearer_below-more m a k))
+    rw add-one
+    (new ∙ ap (λ x. next_bearer x (bearer_with m a k)) is
+    ∙ ap (λ x. if x then next_bearer (bearer_below m a k) (bearer_with m a k) else bearer_below m a k)
+    (sym t ∙ by)
+    ∙ sym (bearer_below-more m a k))
 
-pub bearer-kept : (m : MapValue) (a : Holding) (k : ℕ) (b : Bearer) (r : Bool) → b ≡ bearer_below m a k → r ≡ bears m k a → r ≡ false → b ≡ bearer_below m a (k + 1)
+-- one more key that doesn't bear
+pub bearer-kept : (m : MapValue) (a : Holding) (k : ℕ) (b : Bearer) (r : Bool) → b ≡ bearer_below m a k
+    → r ≡ bears m k a → r ≡ false → b ≡ bearer_below m a (k + 1)
 bearer-kept m a k b r is by t =
-    rw add-one (is ∙ ap (λ x. if x then next_bearer (bearer_below m a k) (bearer_with m a k) else bearer_below m a k) (sym t ∙ by) ∙ sym (bearer_below-more m a k))
+    rw add-one
+    (is
+    ∙ ap (λ x. if x then next_bearer (bearer_below m a k) (bearer_with m a k) else bearer_below m a k)
+    (sym t ∙ by)
+    ∙ sym (bearer_below-more m a k))

@@ -1,6 +1,7 @@
 -- The bearers that are found, and the keys that bear.
 use Prim.Native.Nat.{zero, suc}
-use Rattle.std.proofs.Common.{◌≡◌, ◌≢◌, ℕ, ◌<◌, Bool, true, false, not, Option, Some, None, refl, ap, subst, sym, ◌∙◌, inl, inr, if◌then◌else◌, arith}
+use Rattle.std.proofs.Common.{◌≡◌, ◌≢◌, ℕ, ◌<◌, Bool, true, false, not, Option, Some, None, refl, ap, subst, sym, ◌∙◌}
+use Rattle.std.proofs.Common.{inl, inr, if◌then◌else◌, arith}
 use Rattle.std.proofs.lemmas.Bool.{cases_Bool, true≢false}
 use Rattle.keymap_core.specs.declared.action.Modifier.TheVariants as modifier
 use Rattle.keymap_core.specs.declared.action.Lock.{Lock}
@@ -18,27 +19,36 @@ use Rattle.keymap_check.specs.declared.kind.Kind.TheVariants as kind
 use Rattle.keymap_check.specs.declared.bearer.Bearer.{Bearer}
 use Rattle.keymap_check.specs.declared.bearer.Bearer.TheVariants.{Nobody, Throughout, Sole, Several}
 use Rattle.keymap_check.specs.Cells.{first_place, cell_of, is_holding, is_character_or_nop}
-use Rattle.keymap_check.specs.Computed.{is_there, is_missing, bears, bearer_by, bearer_with, next_bearer, bearer_below, bearer_of, is_steady_by}
-use Rattle.keymap_check.specs.Report.{IsBearer, ReportValue, bearer_in, is_plain_bearer, picks_a_cell, HasPlainBearers, BearersAreComputed, SteadyLocksAreComputed}
+use Rattle.keymap_check.specs.Computed.{is_there, is_missing, bears, bearer_by, bearer_with, next_bearer, bearer_below}
+use Rattle.keymap_check.specs.Computed.{bearer_of, is_steady_by}
+use Rattle.keymap_check.specs.Report.{IsBearer, ReportValue, bearer_in, is_plain_bearer, picks_a_cell, HasPlainBearers}
+use Rattle.keymap_check.specs.Report.{BearersAreComputed, SteadyLocksAreComputed}
 use Rattle.keymap_check.proofs.Same.{is_holding-true, is_holding-refl, not_holding-false, not_acting, acting-not}
 use Rattle.keymap_check.proofs.Places.{first_place-cell, no_place-cell}
 use Rattle.keymap_check.proofs.Bearers.{bearer_below-start, bearer_below-more}
 use Rattle.keymap_check.proofs.Counting.{below-suc}
 
 -- a key bears an action exactly if the test says so
-bears_by : (m : MapValue) (k : ℕ) (a : Holding) (o : Option ℕ) → first_place m (kind.Holding a) k ≡ o → is_there o ≡ true → Bears m k a
+bears_by : (m : MapValue) (k : ℕ) (a : Holding) (o : Option ℕ) → first_place m (kind.Holding a) k ≡ o
+    → is_there o ≡ true → Bears m k a
 bears_by m k a None e t = absurd (true≢false (sym t))
 bears_by m k a (Some p) e t =
-    let s : IsCellOf m k (cell_of m k p) × (is_holding a (cell_of m k p) ≡ true) = first_place-cell m (kind.Holding a) k p e in
+    let s : IsCellOf m k (cell_of m k p) × (is_holding a (cell_of m k p) ≡ true) =
+    first_place-cell m (kind.Holding a) k p e in
     subst (λ x. IsCellOf m k x) (is_holding-true a (cell_of m k p) s.1) s.0
 
+-- a key that passes the test bears the holding action
 pub bears-true : (m : MapValue) (k : ℕ) (a : Holding) → bears m k a ≡ true → Bears m k a
 bears-true m k a e = bears_by m k a (first_place m (kind.Holding a) k) refl e
 
-borne_by : (m : MapValue) (k : ℕ) (a : Holding) (o : Option ℕ) → first_place m (kind.Holding a) k ≡ o → Bears m k a → is_there o ≡ true
-borne_by m k a None e b = absurd (true≢false (sym (is_holding-refl a) ∙ no_place-cell m (kind.Holding a) k e (Act (holding_action a)) b))
+-- where a key bears the holding action, a cell of it is found
+borne_by : (m : MapValue) (k : ℕ) (a : Holding) (o : Option ℕ) → first_place m (kind.Holding a) k ≡ o → Bears m k a
+    → is_there o ≡ true
+borne_by m k a None e b =
+    absurd (true≢false (sym (is_holding-refl a) ∙ no_place-cell m (kind.Holding a) k e (Act (holding_action a)) b))
 borne_by m k a (Some p) e b = refl
 
+-- a key that bears the holding action passes the test
 pub true-bears : (m : MapValue) (k : ℕ) (a : Holding) → Bears m k a → bears m k a ≡ true
 true-bears m k a b = borne_by m k a (first_place m (kind.Holding a) k) refl b
 
@@ -46,9 +56,11 @@ true-bears m k a b = borne_by m k a (first_place m (kind.Holding a) k) refl b
 abbrev pub NoneBears : MapValue → Holding → ℕ → Type 0
 NoneBears m a n = (j : ℕ) → j < n → Bears m j a → ⊥
 
+-- one key below n bears, and the bearer is that key, throughout or beside other cells
 abbrev pub OneBears : MapValue → Holding → ℕ → Bearer → Type 0
 OneBears m a n b = (k : ℕ) × (k < n) × Bears m k a × ((j : ℕ) → j < n → Bears m j a → j ≡ k) × (b ≡ bearer_with m a k)
 
+-- two keys below n bear
 abbrev pub TwoBear : MapValue → Holding → ℕ → Type 0
 TwoBear m a n = (i : ℕ) × (j : ℕ) × (i < n) × (j < n) × (i ≢ j) × Bears m i a × Bears m j a
 
@@ -63,66 +75,114 @@ if_true t b c e = rw e refl
 if_false : (t : Bool) (b c : Bearer) → t ≡ false → (if t then b else c) ≡ c
 if_false t b c e = rw e refl
 
+-- a key that fails the test doesn't bear
 no_bearer : (m : MapValue) (a : Holding) (k : ℕ) → bears m k a ≡ false → Bears m k a → ⊥
 no_bearer m a k e b = true≢false (sym (true-bears m k a b) ∙ e)
 
+-- one more key that doesn't bear leaves the bearer
 kept : (m : MapValue) (a : Holding) (n : ℕ) (b : Bearer) → bears m n a ≡ false → Found m a n b → Found m a (suc n) b
-kept m a n b e (Empty s f) = Empty s (λ j lt is. elim (below-suc j n lt) [ inl l ↦ f j l is | inr q ↦ no_bearer m a n e (subst (λ x. Bears m x a) q is) ])
+kept m a n b e (Empty s f) =
+    Empty s
+    (λ j lt is. elim (below-suc j n lt)
+    [ inl l ↦ f j l is | inr q ↦ no_bearer m a n e (subst (λ x. Bears m x a) q is) ])
 kept m a n b e (Single s) =
-    Single (s.0, omega (arith, s.1), s.2, (λ j lt is. elim (below-suc j n lt) [ inl l ↦ s.3 j l is | inr q ↦ absurd (no_bearer m a n e (subst (λ x. Bears m x a) q is)) ]), s.4)
+    Single (
+      s.0,
+      omega (arith, s.1),
+      s.2,
+      (λ j lt is. elim (below-suc j n lt)
+          [ inl l ↦ s.3 j l is | inr q ↦ absurd (no_bearer m a n e (subst (λ x. Bears m x a) q is)) ]),
+      s.4,
+    )
 kept m a n b e (Many s t) = Many s (t.0, t.1, omega (arith, t.2), omega (arith, t.3), t.4, t.5, t.6)
 
+-- a bearer and one more are several
 next_by : (k : ℕ) (o : Option ℕ) (c : Bearer) → next_bearer (bearer_by k o) c ≡ Several
 next_by k None c = refl
 next_by k (Some p) c = refl
 
-added : (m : MapValue) (a : Holding) (n : ℕ) (b : Bearer) → Bears m n a → Found m a n b → Found m a (suc n) (next_bearer b (bearer_with m a n))
+-- one more key that bears joins the bearer
+added : (m : MapValue) (a : Holding) (n : ℕ) (b : Bearer) → Bears m n a → Found m a n b
+    → Found m a (suc n) (next_bearer b (bearer_with m a n))
 added m a n b is (Empty s f) =
-    Single (n, omega arith, is, (λ j lt other. elim (below-suc j n lt) [ inl l ↦ absurd (f j l other) | inr q ↦ q ]), ap (λ x. next_bearer x (bearer_with m a n)) s)
+    Single (
+      n,
+      omega arith,
+      is,
+      (λ j lt other. elim (below-suc j n lt) [ inl l ↦ absurd (f j l other) | inr q ↦ q ]),
+      ap (λ x. next_bearer x (bearer_with m a n)) s,
+    )
 added m a n b is (Single s) =
     let ne : s.0 ≡ n → ⊥ = λ q. let lt : s.0 < n = s.1 in omega (arith, lt, q) in
-    Many (ap (λ x. next_bearer x (bearer_with m a n)) s.4 ∙ next_by s.0 (first_place m (kind.OtherThan a) s.0) (bearer_with m a n)) (s.0, n, omega (arith, s.1), omega arith, ne, s.2, is)
-added m a n b is (Many s t) = Many (ap (λ x. next_bearer x (bearer_with m a n)) s) (t.0, t.1, omega (arith, t.2), omega (arith, t.3), t.4, t.5, t.6)
+    Many (ap (λ x. next_bearer x (bearer_with m a n)) s.4
+    ∙ next_by s.0 (first_place m (kind.OtherThan a) s.0) (bearer_with m a n))
+    (s.0, n, omega (arith, s.1), omega arith, ne, s.2, is)
+added m a n b is (Many s t) =
+    Many (ap (λ x. next_bearer x (bearer_with m a n)) s)
+    (t.0, t.1, omega (arith, t.2), omega (arith, t.3), t.4, t.5, t.6)
 
+-- the bearer among the keys below n says which of them bear
 pub found : (m : MapValue) (a : Holding) (n : ℕ) → Found m a n (bearer_below m a n)
 found m a zero = Empty (bearer_below-start m a) (λ j lt is. omega (arith, lt))
 found m a (suc n) =
     elim (cases_Bool (bears m n a)) [
-      | inl e ↦ subst (λ x. Found m a (suc n) x) (sym (bearer_below-more m a n ∙ if_true (bears m n a) _ _ e)) (added m a n (bearer_below m a n) (bears-true m n a e) (found m a n))
-      | inr e ↦ subst (λ x. Found m a (suc n) x) (sym (bearer_below-more m a n ∙ if_false (bears m n a) _ _ e)) (kept m a n (bearer_below m a n) e (found m a n))
+      | inl e ↦
+          subst (λ x. Found m a (suc n) x) (sym (bearer_below-more m a n ∙ if_true (bears m n a) _ _ e))
+          (added m a n (bearer_below m a n) (bears-true m n a e) (found m a n))
+      | inr e ↦
+          subst (λ x. Found m a (suc n) x) (sym (bearer_below-more m a n ∙ if_false (bears m n a) _ _ e))
+          (kept m a n (bearer_below m a n) e (found m a n))
     ]
 
 -- the bearer of an action that one key alone bears
-single : (m : MapValue) (a : Holding) (k : ℕ) (o : Option ℕ) → first_place m (kind.OtherThan a) k ≡ o → k < 128 → Bears m k a → IsAlone m k a → IsBearer m a (bearer_by k o)
-single m a k None e lt is alone = (lt, alone, λ x cell. is_holding-true a x (not_holding-false a x (no_place-cell m (kind.OtherThan a) k e x cell)))
+single : (m : MapValue) (a : Holding) (k : ℕ) (o : Option ℕ) → first_place m (kind.OtherThan a) k ≡ o → k < 128
+    → Bears m k a → IsAlone m k a → IsBearer m a (bearer_by k o)
+single m a k None e lt is alone =
+    (lt, alone, λ x cell. is_holding-true a x (not_holding-false a x (no_place-cell m (kind.OtherThan a) k e x cell)))
 single m a k (Some p) e lt is alone =
-    let s : IsCellOf m k (cell_of m k p) × (not (is_holding a (cell_of m k p)) ≡ true) = first_place-cell m (kind.OtherThan a) k p e in
-    (lt, is, alone, (cell_of m k p, s.0, λ q. true≢false (sym s.1 ∙ ap (λ x. not (is_holding a x)) q ∙ ap not (is_holding-refl a))))
+    let s : IsCellOf m k (cell_of m k p) × (not (is_holding a (cell_of m k p)) ≡ true) =
+    first_place-cell m (kind.OtherThan a) k p e in (
+      lt,
+      is,
+      alone,
+      (cell_of m k p, s.0, λ q. true≢false (sym s.1 ∙ ap (λ x. not (is_holding a x)) q ∙ ap not (is_holding-refl a))),
+    )
 
+-- the bearer among all keys is the bearer
 bearer-of : (m : MapValue) (a : Holding) (b : Bearer) → Found m a 128 b → IsBearer m a b
 bearer-of m a b (Empty s f) = subst (λ x. IsBearer m a x) (sym s) f
-bearer-of m a b (Single s) = subst (λ x. IsBearer m a x) (sym s.4) (single m a s.0 (first_place m (kind.OtherThan a) s.0) refl s.1 s.2 s.3)
+bearer-of m a b (Single s) =
+    subst (λ x. IsBearer m a x) (sym s.4) (single m a s.0 (first_place m (kind.OtherThan a) s.0) refl s.1 s.2 s.3)
 bearer-of m a b (Many s t) = subst (λ x. IsBearer m a x) (sym s) t
 
+-- the bearers that are computed are the keys that bear
 pub bearers_are_computed : BearersAreComputed
 bearers_are_computed m a = bearer-of m a (bearer_of m a) (found m a 128)
 
 -- a lock is steady exactly if the test says so
-missing_by : (m : MapValue) (k : ℕ) (o : Option ℕ) → first_place m kind.CharacterOrNop k ≡ o → is_missing o ≡ true → (x : Cell) → IsCellOf m k x → IsActing x
+missing_by : (m : MapValue) (k : ℕ) (o : Option ℕ) → first_place m kind.CharacterOrNop k ≡ o → is_missing o ≡ true
+    → (x : Cell) → IsCellOf m k x → IsActing x
 missing_by m k None e t x is = not_acting x (no_place-cell m kind.CharacterOrNop k e x is)
 missing_by m k (Some p) e t x is = absurd (true≢false (sym t))
 
-acting_by : (m : MapValue) (k : ℕ) (o : Option ℕ) → first_place m kind.CharacterOrNop k ≡ o → ((x : Cell) → IsCellOf m k x → IsActing x) → is_missing o ≡ true
+-- where each cell of a key acts, no character and no nop is found
+acting_by : (m : MapValue) (k : ℕ) (o : Option ℕ) → first_place m kind.CharacterOrNop k ≡ o
+    → ((x : Cell) → IsCellOf m k x → IsActing x) → is_missing o ≡ true
 acting_by m k None e f = refl
 acting_by m k (Some p) e f =
-    let s : IsCellOf m k (cell_of m k p) × (is_character_or_nop (cell_of m k p) ≡ true) = first_place-cell m kind.CharacterOrNop k p e in
+    let s : IsCellOf m k (cell_of m k p) × (is_character_or_nop (cell_of m k p) ≡ true) =
+    first_place-cell m kind.CharacterOrNop k p e in
     absurd (true≢false (sym s.1 ∙ acting-not (cell_of m k p) (f (cell_of m k p) s.0)))
 
-steady_single : (m : MapValue) (k : ℕ) (o : Option ℕ) → is_steady_by m (bearer_by k o) ≡ is_missing (first_place m kind.CharacterOrNop k)
+-- a single bearer is steady exactly if no character and no nop is found on it
+steady_single : (m : MapValue) (k : ℕ) (o : Option ℕ)
+    → is_steady_by m (bearer_by k o) ≡ is_missing (first_place m kind.CharacterOrNop k)
 steady_single m k None = refl
 steady_single m k (Some p) = refl
 
-steady-true : (m : MapValue) (l : Lock) (b : Bearer) → Found m (holding.Lock l) 128 b → is_steady_by m b ≡ true → IsSteady m l
+-- a lock that passes the test is steady
+steady-true : (m : MapValue) (l : Lock) (b : Bearer) → Found m (holding.Lock l) 128 b → is_steady_by m b ≡ true
+    → IsSteady m l
 steady-true m l b (Empty s f) e = absurd (true≢false (sym e ∙ ap (λ x. is_steady_by m x) s))
 steady-true m l b (Many s t) e = absurd (true≢false (sym e ∙ ap (λ x. is_steady_by m x) s))
 steady-true m l b (Single s) e = (
@@ -131,31 +191,42 @@ steady-true m l b (Single s) e = (
   s.2,
   s.3,
   missing_by m s.0 (first_place m kind.CharacterOrNop s.0) refl
-      (sym (steady_single m s.0 (first_place m (kind.OtherThan (holding.Lock l)) s.0)) ∙ ap (λ x. is_steady_by m x) (sym s.4) ∙ e),
+      (sym (steady_single m s.0 (first_place m (kind.OtherThan (holding.Lock l)) s.0))
+      ∙ ap (λ x. is_steady_by m x) (sym s.4) ∙ e),
 )
 
-true-steady : (m : MapValue) (l : Lock) (b : Bearer) → Found m (holding.Lock l) 128 b → IsSteady m l → is_steady_by m b ≡ true
+-- a steady lock passes the test
+true-steady : (m : MapValue) (l : Lock) (b : Bearer) → Found m (holding.Lock l) 128 b → IsSteady m l
+    → is_steady_by m b ≡ true
 true-steady m l b (Empty s f) steady = absurd (f steady.0 steady.1 steady.2)
 true-steady m l b (Many s t) steady = absurd (t.4 (steady.3 t.0 t.2 t.5 ∙ sym (steady.3 t.1 t.3 t.6)))
 true-steady m l b (Single s) steady =
     let same : s.0 ≡ steady.0 = steady.3 s.0 s.1 s.2 in
     ap (λ x. is_steady_by m x) s.4 ∙ steady_single m s.0 (first_place m (kind.OtherThan (holding.Lock l)) s.0)
-    ∙ acting_by m s.0 (first_place m kind.CharacterOrNop s.0) refl (λ x is. steady.4 x (subst (λ j. IsCellOf m j x) same is))
+    ∙ acting_by m s.0 (first_place m kind.CharacterOrNop s.0) refl
+    (λ x is. steady.4 x (subst (λ j. IsCellOf m j x) same is))
 
+-- the locks that pass the test are the steady ones
 pub steady_locks_are_computed : SteadyLocksAreComputed
-steady_locks_are_computed m l = (steady-true m l (bearer_of m (holding.Lock l)) (found m (holding.Lock l) 128), true-steady m l (bearer_of m (holding.Lock l)) (found m (holding.Lock l) 128))
+steady_locks_are_computed m l = (
+  steady-true m l (bearer_of m (holding.Lock l)) (found m (holding.Lock l) 128),
+  true-steady m l (bearer_of m (holding.Lock l)) (found m (holding.Lock l) 128),
+)
 
 -- what a bearer that is reported says
 pub throughout-bears : (m : MapValue) (a : Holding) (k : ℕ) → bearer_of m a ≡ Throughout k → BearsThroughout m k a
 throughout-bears m a k e = subst (λ b. IsBearer m a b) e (bearers_are_computed m a)
 
+-- a holding action whose bearer is plain is borne throughout by one key alone, or by nobody
 plain_for : (m : MapValue) (a : Holding) (b : Bearer) → IsBearer m a b → is_plain_bearer b ≡ true → IsPlainFor m a
 plain_for m a Nobody is e = inl is
 plain_for m a (Throughout k) is e = inr (k, is)
 plain_for m a (Sole k) is e = absurd (true≢false (sym e))
 plain_for m a Several is e = absurd (true≢false (sym e))
 
-pub plain_bearers : (m : MapValue) (r : ReportValue) → ((a : Holding) → IsBearer m a (bearer_in r a)) → HasPlainBearers r → IsPlain m
+-- a map whose reported bearers are plain is plain
+pub plain_bearers : (m : MapValue) (r : ReportValue) → ((a : Holding) → IsBearer m a (bearer_in r a))
+    → HasPlainBearers r → IsPlain m
 plain_bearers m r are plain = record {
   left_shift = of (holding.Mod modifier.LeftShift) refl;
   right_shift = of (holding.Mod modifier.RightShift) refl;

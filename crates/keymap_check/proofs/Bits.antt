@@ -2,7 +2,8 @@
 use Rattle.std.proofs.Common.{◌≡◌, ℕ, Bool, true, false, ◌<◌, ◌≤◌, ◌||◌, List, [], ◌∷◌, None, refl, ap, ◌∙◌, arith}
 use Rattle.keymap_core.specs.declared.action.Action.TheVariants as act
 use Rattle.keymap_core.specs.declared.action.Modifier.{Modifier}
-use Rattle.keymap_core.specs.declared.action.Modifier.TheVariants.{LeftShift, RightShift, LeftControl, RightControl, LeftAlt, RightAlt, AltShift, Meta}
+use Rattle.keymap_core.specs.declared.action.Modifier.TheVariants.{LeftShift, RightShift, LeftControl, RightControl}
+use Rattle.keymap_core.specs.declared.action.Modifier.TheVariants.{LeftAlt, RightAlt, AltShift, Meta}
 use Rattle.keymap_core.specs.declared.action.Holding.TheVariants as holding
 use Rattle.keymap_core.specs.Actions.{same_modifier}
 use Rattle.console_core.specs.Resolved.{ResolvedEvent, on, remembered}
@@ -13,13 +14,15 @@ use Rattle.console_core.proofs.OneMore.{held-action, held-start}
 use Rattle.keymap_check.specs.Shown.{group_of, with_bit, no_bits}
 
 -- the bits after one more press that raises a modifier
-on-more : (i y : Modifier) (j : ℕ) (r : List ResolvedEvent) → remembered j r ≡ None → on i (PressedAction j (act.Mod y) ∷ r) ≡ (same_modifier y i || on i r)
+on-more : (i y : Modifier) (j : ℕ) (r : List ResolvedEvent) → remembered j r ≡ None
+    → on i (PressedAction j (act.Mod y) ∷ r) ≡ (same_modifier y i || on i r)
 on-more i y j r e = held-action (holding.Mod i) j (act.Mod y) r ∙ rw e refl
 
 or-true : (b : Bool) → (b || true) ≡ true
 or-true true = refl
 or-true false = refl
 
+-- one more modifier that is on sets the bit of its group
 bits-added : (y : Modifier) (r : List ResolvedEvent) → record {
   upper = same_modifier y AltShift || on AltShift r;
   shift = (same_modifier y LeftShift || on LeftShift r) || (same_modifier y RightShift || on RightShift r);
@@ -35,17 +38,39 @@ bits-added RightAlt r = ap (λ b. record (bits_of r) { alt = b }) (or-true (on L
 bits-added AltShift r = refl
 bits-added Meta r = refl
 
-pub bits-more : (y : Modifier) (j : ℕ) (r : List ResolvedEvent) → remembered j r ≡ None → bits_of (PressedAction j (act.Mod y) ∷ r) ≡ with_bit (group_of y) (bits_of r)
+-- a press of one more modifier sets the bit of its group
+pub bits-more : (y : Modifier) (j : ℕ) (r : List ResolvedEvent) → remembered j r ≡ None
+    → bits_of (PressedAction j (act.Mod y) ∷ r) ≡ with_bit (group_of y) (bits_of r)
 bits-more y j r e =
-    rw (on-more AltShift y j r e, on-more LeftShift y j r e, on-more RightShift y j r e, on-more LeftControl y j r e, on-more RightControl y j r e, on-more LeftAlt y j r e, on-more RightAlt y j r e) (bits-added y r)
+    rw (
+      on-more AltShift y j r e,
+      on-more LeftShift y j r e,
+      on-more RightShift y j r e,
+      on-more LeftControl y j r e,
+      on-more RightControl y j r e,
+      on-more LeftAlt y j r e,
+      on-more RightAlt y j r e,
+    )
+    (bits-added y r)
 
+-- no modifier is on at the start
 pub bits-start : bits_of [] ≡ no_bits
 bits-start =
-    rw (held-start (holding.Mod AltShift), held-start (holding.Mod LeftShift), held-start (holding.Mod RightShift), held-start (holding.Mod LeftControl), held-start (holding.Mod RightControl), held-start (holding.Mod LeftAlt), held-start (holding.Mod RightAlt)) refl
+    rw (
+      held-start (holding.Mod AltShift),
+      held-start (holding.Mod LeftShift),
+      held-start (holding.Mod RightShift),
+      held-start (holding.Mod LeftControl),
+      held-start (holding.Mod RightControl),
+      held-start (holding.Mod LeftAlt),
+      held-start (holding.Mod RightAlt),
+    )
+    refl
 
 bit-le : (b : Bool) → bit b ≤ 1
 bit-le true = omega arith
 bit-le false = omega arith
 
+-- a column is one of eight
 pub column_of-lt : (shift control alt : Bool) → column_of shift control alt < 8
 column_of-lt shift control alt = omega (arith, bit-le shift, bit-le control, bit-le alt)

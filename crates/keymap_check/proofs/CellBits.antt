@@ -1,6 +1,7 @@
 -- What the bits of a key tell of its cells.
 use Prim.Native.Nat.{zero, suc}
-use Rattle.std.proofs.Common.{◌≡◌, ℕ, ◌+◌, ◌*◌, ◌%◌, ◌^◌, ◌<◌, ◌≤◌, ◌≢◌, min, max, Bool, true, false, not, ◌||◌, Option, Some, None, eqb, refl, ap, sym, ◌∙◌, if◌then◌else◌, arith, add-one, ◌⊎◌, inl, inr}
+use Rattle.std.proofs.Common.{◌≡◌, ℕ, ◌+◌, ◌*◌, ◌%◌, ◌^◌, ◌<◌, ◌≤◌, ◌≢◌, min, max, Bool, true, false, not, ◌||◌, Option}
+use Rattle.std.proofs.Common.{Some, None, eqb, refl, ap, sym, ◌∙◌, if◌then◌else◌, arith, add-one, ◌⊎◌, inl, inr}
 use Rattle.std.specs.Prelude.{bit_and, bit_or, bit_xor}
 use Rattle.std.specs.Int.{bit_at}
 use Rattle.std.proofs.Math.Nat.{zero-mul, one-mul, mod-eq_of_lt}
@@ -8,10 +9,12 @@ use Rattle.std.proofs.Math.Pow.{pow-lt}
 use Rattle.std.proofs.lemmas.Bool.{cases_Bool, true≢false, eqb-true, eqb-false, eq-eqb, ne_eqb}
 use Rattle.std.proofs.lemmas.Nat.{and_or_apart, and_comm}
 use Rattle.std.specs.Int.Bits.{and_zero_l}
-use Rattle.std.proofs.lemmas.Nat.Bits.{bit_at_and, bit_at_or, bit_at_xor, bit_at-pow_same, bit_at-pow_other, bit_at-lt, bit_at-zero, bit_at_ones, and_pow}
+use Rattle.std.proofs.lemmas.Nat.Bits.{bit_at_and, bit_at_or, bit_at_xor, bit_at-pow_same, bit_at-pow_other, bit_at-lt}
+use Rattle.std.proofs.lemmas.Nat.Bits.{bit_at-zero, bit_at_ones, and_pow}
 use Rattle.keymap_core.specs.declared.action.Action.TheVariants as act
 use Rattle.keymap_core.specs.declared.action.Modifier.{Modifier}
-use Rattle.keymap_core.specs.declared.action.Modifier.TheVariants.{LeftShift, RightShift, LeftControl, RightControl, LeftAlt, RightAlt, AltShift, Meta}
+use Rattle.keymap_core.specs.declared.action.Modifier.TheVariants.{LeftShift, RightShift, LeftControl, RightControl}
+use Rattle.keymap_core.specs.declared.action.Modifier.TheVariants.{LeftAlt, RightAlt, AltShift, Meta}
 use Rattle.keymap_core.specs.declared.action.Lock.{Lock}
 use Rattle.keymap_core.specs.declared.action.Lock.TheVariants.{Caps, Num, Scroll, Alt}
 use Rattle.keymap_core.specs.declared.action.Holding.{Holding}
@@ -34,6 +37,7 @@ pow_by : (k i : ℕ) (b : Bool) → eqb i k ≡ b → is_set (2 ^ k) i ≡ b
 pow_by k i true e = let s : i ≡ k = eqb-true i k e in rw (s, bit_at-pow_same k) refl
 pow_by k i false e = ap (λ x. eqb x 1) (bit_at-pow_other k i (eqb-false i k e))
 
+-- a power of two has one bit
 is_set-pow : (k i : ℕ) → is_set (2 ^ k) i ≡ eqb i k
 is_set-pow k i = pow_by k i (eqb i k) refl
 
@@ -53,6 +57,7 @@ lock_index-lt Num = omega arith
 lock_index-lt Scroll = omega arith
 lock_index-lt Alt = omega arith
 
+-- the index of a holding action is one of twelve
 pub holding_index-lt : (a : Holding) → holding_index a < 12
 holding_index-lt (holding.Mod i) = let lt : modifier_index i < 8 = modifier_index-lt i in omega (arith, lt)
 holding_index-lt (holding.Lock l) = let lt : lock_index l < 4 = lock_index-lt l in omega (arith, lt)
@@ -73,6 +78,7 @@ modifier-bits RightAlt = (refl, refl, refl, refl, refl, refl, refl)
 modifier-bits AltShift = (refl, refl, refl, refl, refl, refl, refl)
 modifier-bits Meta = (refl, refl, refl, refl, refl, refl, refl)
 
+-- which masks have the bits of the locks
 lock-bits : (l : Lock)
     → (is_set 0x1000 (8 + lock_index l) ≡ false) × (is_set 0x0fff (8 + lock_index l) ≡ true)
     × (is_set 0x3000 (8 + lock_index l) ≡ false) × (is_set 0x0003 (8 + lock_index l) ≡ false)
@@ -87,10 +93,12 @@ lock-bits Alt = (refl, refl, refl, refl, refl, refl, refl)
 apart : (i k : ℕ) → i ≢ k → is_set (2 ^ k) i ≡ false
 apart i k ne = is_set-pow k i ∙ ne_eqb i k ne
 
+-- locks are the same exactly where their bits are
 high_same : (i j : ℕ) (b : Bool) → eqb i j ≡ b → eqb (8 + i) (8 + j) ≡ b
 high_same i j true e = let s : i ≡ j = eqb-true i j e in eq-eqb (8 + i) (8 + j) (ap (λ x. 8 + x) s)
 high_same i j false e = ne_eqb (8 + i) (8 + j) (λ s. eqb-false i j e (omega arith))
 
+-- a cell has the bit of a holding action exactly if it is that action
 holding-bit : (a : Holding) (x : Cell) → is_set (2 ^ holding_index a) (cell_bit x) ≡ is_holding a x
 holding-bit (holding.Mod i) (Char c) =
     let lt : modifier_index i < 8 = modifier_index-lt i in apart 12 (modifier_index i) (λ e. omega (arith, lt, e))
@@ -128,9 +136,11 @@ two_cases zero lt = inl refl
 two_cases (suc zero) lt = inr refl
 two_cases (suc (suc x)) lt = let e : ⊥ = omega arith in absurd e
 
+-- a bit is turned by another that is set
 turned : (x : ℕ) → x < 2 → eqb ((1 + x) % 2) 1 ≡ not (eqb x 1)
 turned x lt = elim (two_cases x lt) [ inl e ↦ rw e refl | inr e ↦ rw e refl ]
 
+-- the bits that are turned by the mask of all are the others
 other-bit : (n i : ℕ) → i < 15 → is_set (bit_xor 0x7fff n) i ≡ not (is_set n i)
 other-bit n i lt =
     let ones : bit_at 0x7fff i ≡ 1 = bit_at_ones 15 i lt in
@@ -160,6 +170,7 @@ mask-fits x y = refl
 abbrev pub meets : ℕ → ℕ → Bool
 meets bits mask = not (eqb (bit_and bits mask) 0)
 
+-- a bit that isn't set is 0
 set_zero : (n i : ℕ) → is_set n i ≡ false → bit_at n i ≡ 0
 set_zero n i e =
     elim (two_cases (bit_at n i) (bit_at-lt n i)) [
@@ -175,6 +186,7 @@ or_true : (b : Bool) → (b || true) ≡ true
 or_true true = refl
 or_true false = refl
 
+-- one more bit, by whether the mask has it
 meets_by : (n mask i : ℕ) (b : Bool) → is_set mask i ≡ b → meets (bit_or n (2 ^ i)) mask ≡ (meets n mask || b)
 meets_by n mask i false e =
     let z : bit_and (2 ^ i) mask ≡ 0 =
@@ -189,15 +201,18 @@ meets_by n mask i true e =
     omega (arith, here, none) in
     ap not (ne_eqb (bit_and (bit_or n (2 ^ i)) mask) 0 ne) ∙ sym (or_true (meets n mask))
 
+-- a number with one more bit meets the mask if it did or the mask has the bit
 meets-more : (n mask i : ℕ) → meets (bit_or n (2 ^ i)) mask ≡ (meets n mask || is_set mask i)
 meets-more n mask i = meets_by n mask i (is_set mask i) refl
 
+-- a first is found with one more number, or was before
 there-more : (o : Option ℕ) (n : ℕ) (t : Bool)
     → is_there (first_of_two o (if t then Some n else None)) ≡ (is_there o || t)
 there-more None n true = refl
 there-more None n false = refl
 there-more (Some i) n t = refl
 
+-- the bits of a key's cells tell whether a cell of a kind is among them
 tell_below : (m : MapValue) (k : ℕ) (x : Kind) (n : ℕ)
     → meets (bits_below m k n) (mask_of x) ≡ is_there (first_below (λ p. fits x (cell_of m k p)) n)
 unfolding bits_below first_below
@@ -213,15 +228,18 @@ pub bits_tell : (m : MapValue) (k : ℕ) (x : Kind)
 unfolding first_place
 bits_tell m k x = tell_below m k x (place_count m)
 
+-- no cells have no bits
 pub bits_below-start : (m : MapValue) (k : ℕ) → bits_below m k 0 ≡ 0
 unfolding bits_below
 bits_below-start m k = refl
 
+-- a bit of a word of 16 bits is a power of two
 shl-one : (i : ℕ) → i < 15 → 1 * 2 ^ i % 2 ^ 16 ≡ 2 ^ i
 shl-one i lt =
     let lt16 : i < 16 = omega (arith, lt) in
     let p : 2 ^ i < 2 ^ 16 = pow-lt lt16 in rw (one-mul (2 ^ i)) (mod-eq_of_lt p)
 
+-- one more cell sets its bit
 pub bits_below-more : (m : MapValue) (k n : ℕ)
     → bit_or (bits_below m k n) (1 * 2 ^ cell_bit (cell_of m k n) % 2 ^ 16) ≡ bits_below m k (n + 1)
 unfolding bits_below

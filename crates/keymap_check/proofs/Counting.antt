@@ -1,19 +1,25 @@
 -- One more number below a bound.
 use Prim.Native.Nat.{zero, suc}
-use Rattle.std.proofs.Common.{◌≡◌, ℕ, ◌<◌, ◌≤◌, length, length-append, ◌+◌, ◌-◌, Bool, true, false, List, [], ◌++◌, Option, Some, None, refl, ap, subst, sym, ◌∙◌, ◌⊎◌, inl, inr, if◌then◌else◌, arith, add-one}
+use Rattle.std.proofs.Common.{◌≡◌, ℕ, ◌<◌, ◌≤◌, length, length-append, ◌+◌, ◌-◌, Bool, true, false, List, [], ◌++◌}
+use Rattle.std.proofs.Common.{Option, Some, None, refl, ap, subst, sym, ◌∙◌, ◌⊎◌, inl, inr, if◌then◌else◌, arith}
+use Rattle.std.proofs.Common.{add-one}
 use Rattle.std.specs.Prelude.{◌==◌}
 use Rattle.std.proofs.lemmas.Bool.{cases_Bool, true≢false, eqb-true, eq-eqb}
 use Rattle.keymap_check.specs.Below.{first_below, gathered}
 use Rattle.console_core.specs.Positions.{first_of_two}
 
+-- no number is below 0
 pub first_below-none : (test : ℕ → Bool) → first_below test 0 ≡ None
 unfolding first_below
 first_below-none test = refl
 
-pub first_below-more : (test : ℕ → Bool) (n : ℕ) → first_below test n ≡ None → test n ≡ false → first_below test (n + 1) ≡ None
+-- where none below n passes, and n doesn't, none below n + 1 does
+pub first_below-more : (test : ℕ → Bool) (n : ℕ) → first_below test n ≡ None → test n ≡ false
+    → first_below test (n + 1) ≡ None
 unfolding first_below
 first_below-more test n e f = rw (add-one, e, f) refl
 
+-- the first number that passes is the same below each larger bound
 pub first_below-kept : (test : ℕ → Bool) (n i d : ℕ) → first_below test n ≡ Some i → first_below test (d + n) ≡ Some i
 unfolding first_below
 first_below-kept test n i zero e = let z : n ≡ 0 + n = omega arith in subst (λ x. first_below test x ≡ Some i) z e
@@ -21,23 +27,31 @@ first_below-kept test n i (suc d) e =
     let s : suc d + n ≡ suc (d + n) = omega arith in
     rw (s, first_below-kept test n i d e) refl
 
-first_below-here : (test : ℕ → Bool) (i : ℕ) → first_below test i ≡ None → test i ≡ true → first_below test (suc i) ≡ Some i
+-- where none below i passes, and i does, i is the first
+first_below-here : (test : ℕ → Bool) (i : ℕ) → first_below test i ≡ None → test i ≡ true
+    → first_below test (suc i) ≡ Some i
 unfolding first_below
 first_below-here test i e f = rw (e, f) refl
 
-pub first_below-found : (test : ℕ → Bool) (i n : ℕ) → i < n → first_below test i ≡ None → test i ≡ true → first_below test n ≡ Some i
+-- the first number that passes is found below each larger number
+pub first_below-found : (test : ℕ → Bool) (i n : ℕ) → i < n → first_below test i ≡ None → test i ≡ true
+    → first_below test n ≡ Some i
 first_below-found test i n lt e f =
     let z : (n - suc i) + suc i ≡ n = omega (arith, lt) in
-    subst (λ x. first_below test x ≡ Some i) z (first_below-kept test (suc i) i (n - suc i) (first_below-here test i e f))
+    subst (λ x. first_below test x ≡ Some i) z
+    (first_below-kept test (suc i) i (n - suc i) (first_below-here test i e f))
 
+-- nothing is gathered below 0
 pub gathered-none : {A : Type 0} (f : ℕ → List A) → gathered f 0 ≡ []
 unfolding gathered
 gathered-none f = refl
 
+-- what is gathered below n + 1 is that below n, and what n has
 pub gathered-more : {A : Type 0} (f : ℕ → List A) (n : ℕ) → gathered f (n + 1) ≡ gathered f n ++ f n
 unfolding gathered
 gathered-more f n = rw add-one refl
 
+-- a number below n + 1 is below n, or n
 pub below-suc : (i n : ℕ) → i < suc n → (i < n) ⊎ (i ≡ n)
 below-suc i n lt =
     elim (cases_Bool (i == n)) [
@@ -55,38 +69,50 @@ some_some x y e = cc
 abbrev pub IsFirstBelow : (ℕ → Bool) → ℕ → ℕ → Type 0
 IsFirstBelow test n i = (i < n) × (test i ≡ true) × ((j : ℕ) → j < i → test j ≡ false)
 
+-- no number below the bound passes the test
 abbrev pub NoneBelow : (ℕ → Bool) → ℕ → Type 0
 NoneBelow test n = (j : ℕ) → j < n → test j ≡ false
 
+-- where none below n passes, and n doesn't, none below n + 1 does
 one_more : (test : ℕ → Bool) (n : ℕ) → NoneBelow test n → test n ≡ false → NoneBelow test (suc n)
 one_more test n f e j lt =
     elim (below-suc j n lt) [ inl s ↦ f j s | inr s ↦ ap test s ∙ e ]
 
-mutual-none : (test : ℕ → Bool) (n : ℕ) (o : Option ℕ) (t : Bool) → first_below test n ≡ o → test n ≡ t → (o ≡ None → NoneBelow test n) → first_of_two o (if t then Some n else None) ≡ None → NoneBelow test (suc n)
+-- the step of the next lemma, by the first below n and the test of n
+mutual-none : (test : ℕ → Bool) (n : ℕ) (o : Option ℕ) (t : Bool) → first_below test n ≡ o → test n ≡ t
+    → (o ≡ None → NoneBelow test n) → first_of_two o (if t then Some n else None) ≡ None → NoneBelow test (suc n)
 mutual-none test n None true e f g h = absurd (none_some n (sym h))
 mutual-none test n None false e f g h = one_more test n (g refl) f
 mutual-none test n (Some i) t e f g h = absurd (none_some i (sym h))
 
+-- where no first number is found, none passes
 pub first_below-no : (test : ℕ → Bool) (n : ℕ) → first_below test n ≡ None → NoneBelow test n
 unfolding first_below
 first_below-no test zero e = λ j lt. absurd (omega (arith, lt))
 first_below-no test (suc n) e = mutual-none test n (first_below test n) (test n) refl refl (first_below-no test n) e
 
-first-some : (test : ℕ → Bool) (n i : ℕ) (o : Option ℕ) (t : Bool) → (o ≡ None → NoneBelow test n) → (o ≡ Some i → IsFirstBelow test n i) → test n ≡ t → first_of_two o (if t then Some n else None) ≡ Some i → IsFirstBelow test (suc n) i
+-- the step of the next lemma, by the first below n and the test of n
+first-some : (test : ℕ → Bool) (n i : ℕ) (o : Option ℕ) (t : Bool) → (o ≡ None → NoneBelow test n)
+    → (o ≡ Some i → IsFirstBelow test n i) → test n ≡ t → first_of_two o (if t then Some n else None) ≡ Some i
+    → IsFirstBelow test (suc n) i
 first-some test n i None true g f e h =
     let s : n ≡ i = some_some n i h in
     subst (λ x. IsFirstBelow test (suc n) x) s (omega arith, e, g refl)
 first-some test n i None false g f e h = absurd (none_some i h)
 first-some test n i (Some j) t g f e h = let r : IsFirstBelow test n i = f h in (omega (arith, r.0), r.1, r.2)
 
+-- the number that is found is the first that passes
 pub first_below-some : (test : ℕ → Bool) (n i : ℕ) → first_below test n ≡ Some i → IsFirstBelow test n i
 unfolding first_below
 first_below-some test zero i e = absurd (none_some i e)
-first_below-some test (suc n) i e = first-some test n i (first_below test n) (test n) (first_below-no test n) (first_below-some test n i) refl e
+first_below-some test (suc n) i e =
+    first-some test n i (first_below test n) (test n) (first_below-no test n) (first_below-some test n i) refl e
 
+-- more is gathered below a larger bound
 pub gathered-le : {A : Type 0} (f : ℕ → List A) (i n : ℕ) → i ≤ n → length (gathered f i) ≤ length (gathered f n)
 unfolding gathered
-gathered-le f i zero le = let e : i ≡ 0 = omega (arith, le) in subst (λ x. length (gathered f i) ≤ length (gathered f x)) e (omega arith)
+gathered-le f i zero le =
+    let e : i ≡ 0 = omega (arith, le) in subst (λ x. length (gathered f i) ≤ length (gathered f x)) e (omega arith)
 gathered-le f i (suc n) le =
     elim (below-suc i (suc n) (omega (arith, le))) [
       | inl lt ↦

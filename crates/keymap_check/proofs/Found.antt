@@ -8,6 +8,7 @@ use Rattle.keymap_check.specs.Scripts.{has_some}
 use Rattle.keymap_check.proofs.Places.{first_place-cell}
 use Rattle.keymap_check.proofs.Same.{IsHeldBy, holding-cell}
 
+-- a key has a finding exactly if both places are found
 found_by : (m : MapValue) (k : ℕ) (p q : Option ℕ) → first_place m kind.AnyHolding k ≡ p
     → has_some (finding_by m k p q) ≡ (is_there p && is_there q)
 found_by m k None q e = refl

@@ -16,15 +16,18 @@ none_some : {A : Type 0} (x : A) → None ≡ Some x → ⊥
 none_some x e = cc
 
 module _ {S : Type 0} (items : S → List Event) (m : MapValue) where
+  -- at the end of the demonstration no key is pressed
   pub is_quiet : (o : Option S) → option_map items o ≡ demonstration_of m → IfSome o (λ s. IsQuiet (reverse (items s)))
   is_quiet None e = tt
   is_quiet (Some s) e = given-quiet m (leaves_modifier_on m) (items s) (sym e)
 
+  -- where a trap is shown, there is a demonstration
   pub is_shown : (o : Option S) → option_map items o ≡ demonstration_of m → (i : Modifier) (k : ℕ)
       → HasShownTrap m i k → IsSome o
   is_shown None e i k trap = absurd (shown_traps_are_demonstrated m i k trap (sym e))
   is_shown (Some s) e i k trap = refl
 
+  -- without locks and traps there is none
   pub is_none : (o : Option S) → option_map items o ≡ demonstration_of m → HasNoLocks m
       → ((i : Modifier) → HasNoTrap m i) → IsNone o
   is_none None e locks free = refl

@@ -1,17 +1,20 @@
 -- How many events the sets of a script give.
 use Prim.Native.Nat.{zero, suc}
-use Rattle.std.proofs.Common.{◌≡◌, ℕ, ◌≤◌, ◌+◌, ◌*◌, Bool, true, false, ◌&&◌, not, List, [], length, length-append, Option, Some, None, ap, arith, if◌then◌else◌}
+use Rattle.std.proofs.Common.{◌≡◌, ℕ, ◌≤◌, ◌+◌, ◌*◌, Bool, true, false, ◌&&◌, not, List, [], length, length-append}
+use Rattle.std.proofs.Common.{Option, Some, None, ap, arith, if◌then◌else◌}
 use Rattle.std.proofs.Math.Nat.{zero-div}
 use Rattle.std.specs.Prelude.{◌==◌, ◌%◌, ◌^◌}
 use Rattle.console_core.specs.Columns.{bit}
 use Rattle.keymap_check.specs.Below.{gathered}
 use Rattle.keymap_check.specs.Scripts.{event_if, event_at, events_of, has_bit, is_chosen, bit_key_at}
 
+-- a bit of a set gives at most one event
 one_each : (p t : Bool) (o : Option ℕ) → length (if t then event_if p o else []) ≤ bit t
 one_each p true None = omega arith
 one_each p true (Some k) = omega arith
 one_each p false o = omega arith
 
+-- a bit gives at most two events in all
 two_each : (a b z : Bool) → z ≡ false → bit (a && not z) + bit (a && not b) + bit (b && not a) + bit (b && not z) ≤ 2
 two_each true true true e = cc
 two_each true true false e = omega arith
@@ -22,19 +25,32 @@ two_each false true false e = omega arith
 two_each false false true e = cc
 two_each false false false e = omega arith
 
+-- the empty set has no bit
 pub no_bit : (i : ℕ) → has_bit 0 i ≡ false
 no_bit i = ap (λ n. (n % 2) == 1) (zero-div (2 ^ i))
 
-pub lengths : (keys : List (Option ℕ)) (a b n : ℕ) → length (gathered (event_at true keys a 0) n) + length (gathered (event_at false keys a b) n) + length (gathered (event_at true keys b a) n) + length (gathered (event_at false keys b 0) n) ≤ 2 * n
+-- the bits below n give at most two events each
+pub lengths : (keys : List (Option ℕ)) (a b n : ℕ)
+    → length (gathered (event_at true keys a 0) n) + length (gathered (event_at false keys a b) n)
+    + length (gathered (event_at true keys b a) n) + length (gathered (event_at false keys b 0) n)
+    ≤ 2 * n
 unfolding gathered
 lengths keys a b zero = omega arith
 lengths keys a b (suc n) =
-    let h : length (gathered (event_at true keys a 0) n) + length (gathered (event_at false keys a b) n) + length (gathered (event_at true keys b a) n) + length (gathered (event_at false keys b 0) n) ≤ 2 * n = lengths keys a b n in
-    let two : bit (is_chosen a 0 n) + bit (is_chosen a b n) + bit (is_chosen b a n) + bit (is_chosen b 0 n) ≤ 2 = two_each (has_bit a n) (has_bit b n) (has_bit 0 n) (no_bit n) in
-    let p : length (event_at true keys a 0 n) ≤ bit (is_chosen a 0 n) = one_each true (is_chosen a 0 n) (bit_key_at keys n) in
-    let q : length (event_at false keys a b n) ≤ bit (is_chosen a b n) = one_each false (is_chosen a b n) (bit_key_at keys n) in
-    let r : length (event_at true keys b a n) ≤ bit (is_chosen b a n) = one_each true (is_chosen b a n) (bit_key_at keys n) in
-    let s : length (event_at false keys b 0 n) ≤ bit (is_chosen b 0 n) = one_each false (is_chosen b 0 n) (bit_key_at keys n) in
+    let h : length (gathered (event_at true keys a 0) n) + length (gathered (event_at false keys a b) n)
+    + length (gathered (event_at true keys b a) n) + length (gathered (event_at false keys b 0) n)
+    ≤ 2 * n =
+    lengths keys a b n in
+    let two : bit (is_chosen a 0 n) + bit (is_chosen a b n) + bit (is_chosen b a n) + bit (is_chosen b 0 n) ≤ 2 =
+    two_each (has_bit a n) (has_bit b n) (has_bit 0 n) (no_bit n) in
+    let p : length (event_at true keys a 0 n) ≤ bit (is_chosen a 0 n) =
+    one_each true (is_chosen a 0 n) (bit_key_at keys n) in
+    let q : length (event_at false keys a b n) ≤ bit (is_chosen a b n) =
+    one_each false (is_chosen a b n) (bit_key_at keys n) in
+    let r : length (event_at true keys b a n) ≤ bit (is_chosen b a n) =
+    one_each true (is_chosen b a n) (bit_key_at keys n) in
+    let s : length (event_at false keys b 0 n) ≤ bit (is_chosen b 0 n) =
+    one_each false (is_chosen b 0 n) (bit_key_at keys n) in
     omega (
       arith,
       h,
@@ -49,5 +65,9 @@ lengths keys a b (suc n) =
       length-append (gathered (event_at false keys b 0) n) (event_at false keys b 0 n),
     )
 
-pub room : (keys : List (Option ℕ)) (a b : ℕ) → length (events_of true keys a 0) + length (events_of false keys a b) + length (events_of true keys b a) + length (events_of false keys b 0) ≤ 8
+-- the four bits give at most eight events
+pub room : (keys : List (Option ℕ)) (a b : ℕ)
+    → length (events_of true keys a 0) + length (events_of false keys a b) + length (events_of true keys b a)
+    + length (events_of false keys b 0)
+    ≤ 8
 room keys a b = lengths keys a b 4

@@ -1,5 +1,6 @@
 -- The places of a key's cells, and the cells that it has.
-use Rattle.std.proofs.Common.{◌≡◌, ℕ, ◌<◌, ◌≤◌, ◌+◌, ◌-◌, Bool, true, false, Some, None, refl, ap, subst, sym, ◌∙◌, inl, inr, if◌then◌else◌, arith}
+use Rattle.std.proofs.Common.{◌≡◌, ℕ, ◌<◌, ◌≤◌, ◌+◌, ◌-◌, Bool, true, false, Some, None, refl, ap, subst, sym, ◌∙◌, inl}
+use Rattle.std.proofs.Common.{inr, if◌then◌else◌, arith}
 use Rattle.std.specs.Prelude.{nat_lt}
 use Rattle.std.proofs.lemmas.Bool.{cases_Bool, ltb-true, ltb-false, lt-ltb, le-ltb}
 use Rattle.keymap_core.specs.declared.entry.Cell.{Cell}
@@ -11,22 +12,31 @@ use Rattle.keymap_check.specs.declared.kind.Kind.{Kind}
 use Rattle.keymap_check.specs.Cells.{fits, place_count, cell_of, first_place}
 use Rattle.keymap_check.proofs.Counting.{first_below-no, first_below-some, IsFirstBelow, NoneBelow}
 
+-- a key has 16 places where the upper half is live, and else 8
 pub count_if : (m : MapValue) (t : Bool) → is_upper_live m ≡ t → place_count m ≡ (if t then 16 else 8)
 unfolding place_count
 count_if m t e = ap (λ x. if x then 16 else 8) e
 
+-- a place below 8 is in the lower slot
 low-cell : (m : MapValue) (k p : ℕ) (t : Bool) → nat_lt p 8 ≡ t → t ≡ true → cell_of m k p ≡ cell_at m k p
 low-cell m k p t e f = rw (e, f) refl
 
-high-cell : (m : MapValue) (k p : ℕ) (t : Bool) → nat_lt p 8 ≡ t → t ≡ false → cell_of m k p ≡ cell_at m (k + 128) (p - 8)
+-- a place from 8 on is in the upper slot
+high-cell : (m : MapValue) (k p : ℕ) (t : Bool) → nat_lt p 8 ≡ t → t ≡ false
+    → cell_of m k p ≡ cell_at m (k + 128) (p - 8)
 high-cell m k p t e f = rw (e, f) refl
 
+-- each place has a cell of the key, by whether the upper half is live
 place_by : (m : MapValue) (k p : ℕ) (t : Bool) → is_upper_live m ≡ t → p < place_count m → IsCellOf m k (cell_of m k p)
 place_by m k p true live lt =
     let lt16 : p < 16 = subst (λ n. p < n) (count_if m true live) lt in
     elim (cases_Bool (nat_lt p 8)) [
       | inl s ↦ inl (p, ltb-true p 8 s, sym (low-cell m k p (nat_lt p 8) refl s))
-      | inr s ↦ inr (live-upper m live, (p - 8, omega (arith, lt16, ltb-false p 8 s), sym (high-cell m k p (nat_lt p 8) refl s)))
+      | inr s ↦
+          inr (
+            live-upper m live,
+            (p - 8, omega (arith, lt16, ltb-false p 8 s), sym (high-cell m k p (nat_lt p 8) refl s)),
+          )
     ]
 place_by m k p false live lt =
     let lt8 : p < 8 = subst (λ n. p < n) (count_if m false live) lt in
@@ -35,6 +45,7 @@ place_by m k p false live lt =
       | inr s ↦ absurd (omega (arith, lt8, ltb-false p 8 s))
     ]
 
+-- each place has a cell of the key
 pub place-cell : (m : MapValue) (k p : ℕ) → p < place_count m → IsCellOf m k (cell_of m k p)
 place-cell m k p lt = place_by m k p (is_upper_live m) refl lt
 
@@ -42,10 +53,12 @@ place-cell m k p lt = place_by m k p (is_upper_live m) refl lt
 abbrev pub HasPlace : MapValue → ℕ → Cell → Type 0
 HasPlace m k x = (p : ℕ) × (p < place_count m) × (cell_of m k p ≡ x)
 
+-- a key has at least 8 places
 pub count_least : (m : MapValue) (t : Bool) → is_upper_live m ≡ t → 8 ≤ place_count m
 count_least m true e = let c : place_count m ≡ 16 = count_if m true e in omega (arith, c)
 count_least m false e = let c : place_count m ≡ 8 = count_if m false e in omega (arith, c)
 
+-- each cell of a key has a place
 pub cell-place : (m : MapValue) (k : ℕ) (x : Cell) → IsCellOf m k x → HasPlace m k x
 cell-place m k x (inl s) =
     let n : 8 ≤ place_count m = count_least m (is_upper_live m) refl in
@@ -54,24 +67,35 @@ cell-place m k x (inr s) =
     let c : place_count m ≡ 16 = count_if m true (upper-is_live m s.0) in
     let s1 : StandsIn m (k + 128) x = s.1 in
     let e : (s1.0 + 8) - 8 ≡ s1.0 = omega arith in
-    let lt : s1.0 + 8 < 16 = omega (arith, s1.1) in
-    (s1.0 + 8, omega (arith, c, lt), high-cell m k (s1.0 + 8) (nat_lt (s1.0 + 8) 8) refl (le-ltb (s1.0 + 8) 8 (omega arith)) ∙ ap (λ j. cell_at m (k + 128) j) e ∙ s1.2)
+    let lt : s1.0 + 8 < 16 = omega (arith, s1.1) in (
+      s1.0 + 8,
+      omega (arith, c, lt),
+      high-cell m k (s1.0 + 8) (nat_lt (s1.0 + 8) 8) refl (le-ltb (s1.0 + 8) 8 (omega arith))
+          ∙ ap (λ j. cell_at m (k + 128) j) e ∙ s1.2,
+    )
 
 -- the first place of a kind
-pub first_place-some : (m : MapValue) (x : Kind) (k p : ℕ) → first_place m x k ≡ Some p → IsFirstBelow (λ q. fits x (cell_of m k q)) (place_count m) p
+pub first_place-some : (m : MapValue) (x : Kind) (k p : ℕ) → first_place m x k ≡ Some p
+    → IsFirstBelow (λ q. fits x (cell_of m k q)) (place_count m) p
 unfolding first_place
 first_place-some m x k p e = first_below-some (λ q. fits x (cell_of m k q)) (place_count m) p e
 
-pub first_place-cell : (m : MapValue) (x : Kind) (k p : ℕ) → first_place m x k ≡ Some p → IsCellOf m k (cell_of m k p) × (fits x (cell_of m k p) ≡ true)
+-- the first place of a kind has a cell of the key of that kind
+pub first_place-cell : (m : MapValue) (x : Kind) (k p : ℕ) → first_place m x k ≡ Some p
+    → IsCellOf m k (cell_of m k p) × (fits x (cell_of m k p) ≡ true)
 first_place-cell m x k p e =
     let s : IsFirstBelow (λ q. fits x (cell_of m k q)) (place_count m) p = first_place-some m x k p e in
     (place-cell m k p s.0, s.1)
 
-first_place-no : (m : MapValue) (x : Kind) (k : ℕ) → first_place m x k ≡ None → NoneBelow (λ q. fits x (cell_of m k q)) (place_count m)
+-- where no place is found, none has a cell of the kind
+first_place-no : (m : MapValue) (x : Kind) (k : ℕ) → first_place m x k ≡ None
+    → NoneBelow (λ q. fits x (cell_of m k q)) (place_count m)
 unfolding first_place
 first_place-no m x k e = first_below-no (λ q. fits x (cell_of m k q)) (place_count m) e
 
-pub no_place-cell : (m : MapValue) (x : Kind) (k : ℕ) → first_place m x k ≡ None → (y : Cell) → IsCellOf m k y → fits x y ≡ false
+-- where no place is found, no cell of the key is of the kind
+pub no_place-cell : (m : MapValue) (x : Kind) (k : ℕ) → first_place m x k ≡ None → (y : Cell) → IsCellOf m k y
+    → fits x y ≡ false
 no_place-cell m x k e y is =
     let p : HasPlace m k y = cell-place m k y is in
     ap (λ z. fits x z) (sym p.2) ∙ first_place-no m x k e p.0 p.1

@@ -1,11 +1,13 @@
 -- What is left of a script once modifiers are off, and its events with the newest first.
 use Prim.Native.Nat.{zero, suc}
-use Rattle.std.proofs.Common.{◌≡◌, ℕ, ◌+◌, Bool, true, false, ◌&&◌, ◌||◌, not, List, [], ◌∷◌, ◌++◌, Option, Some, None, refl, ap, sym, ◌∙◌, if◌then◌else◌}
+use Rattle.std.proofs.Common.{◌≡◌, ℕ, ◌+◌, Bool, true, false, ◌&&◌, ◌||◌, not, List, [], ◌∷◌, ◌++◌, Option, Some, None}
+use Rattle.std.proofs.Common.{refl, ap, sym, ◌∙◌, if◌then◌else◌}
 use Rattle.std.specs.Prelude.{reverse}
 use Rattle.std.proofs.lemmas.Bool.{true≢false}
 use Rattle.std.proofs.lemmas.List.{reverse-append, append-nil}
 use Rattle.keymap_core.specs.declared.action.Modifier.{Modifier}
-use Rattle.keymap_core.specs.declared.action.Modifier.TheVariants.{LeftShift, RightShift, LeftControl, RightControl, LeftAlt, RightAlt, AltShift, Meta}
+use Rattle.keymap_core.specs.declared.action.Modifier.TheVariants.{LeftShift, RightShift, LeftControl, RightControl}
+use Rattle.keymap_core.specs.declared.action.Modifier.TheVariants.{LeftAlt, RightAlt, AltShift, Meta}
 use Rattle.keymap_core.specs.declared.action.Holding.TheVariants as holding
 use Rattle.console_core.specs.declared.event.Event.{Event}
 use Rattle.console_core.specs.declared.event.Event.TheVariants.{Press, Release}
@@ -13,7 +15,8 @@ use Rattle.console_core.specs.History.{Maps, On, resolved}
 use Rattle.console_core.proofs.OneMore.{resolved-more, held-release}
 use Rattle.console_core.proofs.Deliveries.{reverse-push}
 use Rattle.keymap_check.specs.Below.{gathered}
-use Rattle.keymap_check.specs.Scripts.{event_if, event_at, is_chosen, bit_key_at, events_of, start_of, script, is_some_on}
+use Rattle.keymap_check.specs.Scripts.{event_if, event_at, is_chosen, bit_key_at, events_of, start_of, script}
+use Rattle.keymap_check.specs.Scripts.{is_some_on}
 use Rattle.keymap_check.proofs.Counting.{gathered-none, gathered-more}
 
 -- the events of a script, the newest first
@@ -35,6 +38,7 @@ played keys k a b =
     )
     )
 
+-- the presses so far, newest first
 pub start_played : (keys : List (Option ℕ)) (k a : ℕ)
     → Press k ∷ (reverse (events_of true keys a 0) ++ []) ≡ reverse (start_of keys k a)
 start_played keys k a =
@@ -49,6 +53,7 @@ one_more f n e h is =
     ∙ reverse-push e (gathered f n) h
     )
 
+-- one more bit that gives no event
 pub none_more : (f : ℕ → List Event) (n : ℕ) (h : List Event) → f n ≡ []
     → reverse (gathered f n) ++ h ≡ reverse (gathered f (n + 1)) ++ h
 none_more f n h is =
@@ -60,10 +65,12 @@ none_more f n h is =
 off_and : (b c : Bool) → b ≡ false → (b && c) ≡ false
 off_and b c e = rw e refl
 
+-- a release turns no modifier on
 stays-off : (ms : Maps) (h : List Event) (j : ℕ) (i : Modifier) → On ms i h ≡ false → On ms i (Release j ∷ h) ≡ false
 stays-off ms h j i e =
     rw (resolved-more ms h (Release j), held-release (holding.Mod i) j (resolved ms h)) (off_and (On ms i h) _ e)
 
+-- where one of eight would do, none is there
 none_of : (a b c d e f g h : Bool) → (a || b || c || d || e || f || g || h) ≡ false
     → (a ≡ false) × (b ≡ false) × (c ≡ false) × (d ≡ false) × (e ≡ false) × (f ≡ false) × (g ≡ false) × (h ≡ false)
 none_of true b c d e f g h q = absurd (true≢false q)
@@ -75,6 +82,7 @@ none_of false false false false false true g h q = absurd (true≢false q)
 none_of false false false false false false true h q = absurd (true≢false q)
 none_of false false false false false false false h q = (refl, refl, refl, refl, refl, refl, refl, q)
 
+-- a release leaves all modifiers off
 pub released : (ms : Maps) (h : List Event) (j : ℕ) → is_some_on ms h ≡ false → is_some_on ms (Release j ∷ h) ≡ false
 released ms h j e =
     let off = none_of (On ms LeftShift h) (On ms RightShift h) (On ms LeftControl h) (On ms RightControl h)
@@ -97,6 +105,7 @@ one_release ms xs h true None e = rw append-nil e
 one_release ms xs h true (Some j) e = rw (reverse-push (Release j) xs h) (released ms (reverse xs ++ h) j e)
 one_release ms xs h false o e = rw append-nil e
 
+-- the releases of the bits below n leave all modifiers off
 releases_below : (ms : Maps) (h : List Event) (keys : List (Option ℕ)) (set except n : ℕ) → is_some_on ms h ≡ false
     → is_some_on ms (reverse (gathered (event_at false keys set except) n) ++ h) ≡ false
 unfolding gathered
@@ -105,6 +114,7 @@ releases_below ms h keys set except (suc n) e =
     one_release ms (gathered (event_at false keys set except) n) h (is_chosen set except n) (bit_key_at keys n)
     (releases_below ms h keys set except n e)
 
+-- the releases of a set leave all modifiers off
 pub stays_off : (ms : Maps) (h : List Event) (keys : List (Option ℕ)) (set except : ℕ) → is_some_on ms h ≡ false
     → is_some_on ms (reverse (events_of false keys set except) ++ h) ≡ false
 stays_off ms h keys set except e = releases_below ms h keys set except 4 e

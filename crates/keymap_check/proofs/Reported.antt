@@ -1,6 +1,7 @@
 -- What the report on a map says.
 use Rattle.std.proofs.Common.{◌≡◌, refl, ap, ◌∙◌}
-use Rattle.keymap_core.specs.declared.action.Modifier.TheVariants.{LeftShift, RightShift, LeftControl, RightControl, LeftAlt, RightAlt, AltShift, Meta}
+use Rattle.keymap_core.specs.declared.action.Modifier.TheVariants.{LeftShift, RightShift, LeftControl, RightControl}
+use Rattle.keymap_core.specs.declared.action.Modifier.TheVariants.{LeftAlt, RightAlt, AltShift, Meta}
 use Rattle.keymap_core.specs.declared.action.Lock.{Lock}
 use Rattle.keymap_core.specs.declared.action.Lock.TheVariants.{Caps, Num, Scroll, Alt}
 use Rattle.keymap_core.specs.declared.action.Holding.{Holding}
@@ -9,6 +10,7 @@ use Rattle.keymap_core.specs.Maps.{MapValue}
 use Rattle.keymap_check.specs.Computed.{bearer_of, is_steady}
 use Rattle.keymap_check.specs.Report.{ReportValue, report_of, bearer_in, is_steady_in}
 
+-- the reported bearer is that of the map
 bearer-of_map : (m : MapValue) (a : Holding) → bearer_in (report_of m) a ≡ bearer_of m a
 bearer-of_map m (holding.Mod LeftShift) = refl
 bearer-of_map m (holding.Mod RightShift) = refl
@@ -23,14 +25,17 @@ bearer-of_map m (holding.Lock Num) = refl
 bearer-of_map m (holding.Lock Scroll) = refl
 bearer-of_map m (holding.Lock Alt) = refl
 
+-- the reported steady locks are those of the map
 steady-of_map : (m : MapValue) (l : Lock) → is_steady_in (report_of m) l ≡ is_steady m l
 steady-of_map m Caps = refl
 steady-of_map m Num = refl
 steady-of_map m Scroll = refl
 steady-of_map m Alt = refl
 
+-- the bearer in what is the report on a map
 pub reported-bearer : (m : MapValue) (r : ReportValue) (a : Holding) → r ≡ report_of m → bearer_in r a ≡ bearer_of m a
 reported-bearer m r a e = ap (λ x. bearer_in x a) e ∙ bearer-of_map m a
 
+-- a steady lock in what is the report on a map
 pub reported-steady : (m : MapValue) (r : ReportValue) (l : Lock) → r ≡ report_of m → is_steady_in r l ≡ is_steady m l
 reported-steady m r l e = ap (λ x. is_steady_in x l) e ∙ steady-of_map m l

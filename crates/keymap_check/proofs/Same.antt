@@ -12,10 +12,12 @@ use Rattle.keymap_core.proofs.SameActions.{same_action-true, same_action-refl}
 use Rattle.keymap_check.specs.Cells.{is_holding, is_character, is_any_holding, is_character_or_nop}
 use Rattle.keymap_check.specs.Computed.{held_by}
 
+-- a cell that passes the test is the holding action
 pub is_holding-true : (a : Holding) (x : Cell) → is_holding a x ≡ true → x ≡ Act (holding_action a)
 is_holding-true a (Char c) e = absurd (true≢false (sym e))
 is_holding-true a (Act b) e = ap (λ y. Act y) (same_action-true b (holding_action a) e)
 
+-- each holding action passes its test
 pub is_holding-refl : (a : Holding) → is_holding a (Act (holding_action a)) ≡ true
 is_holding-refl a = same_action-refl (holding_action a)
 
@@ -23,6 +25,7 @@ false_not : (b : Bool) → not b ≡ false → b ≡ true
 false_not true e = refl
 false_not false e = sym e
 
+-- a cell that fails the opposite test passes the test
 pub not_holding-false : (a : Holding) (x : Cell) → not (is_holding a x) ≡ false → is_holding a x ≡ true
 not_holding-false a x e = false_not (is_holding a x) e
 
@@ -31,14 +34,17 @@ pub character-cell : (x : Cell) → is_character x ≡ true → (c : ℕ) × (x 
 character-cell (Char c) e = (c, refl)
 character-cell (Act a) e = absurd (true≢false (sym e))
 
+-- the cell is some holding action
 abbrev pub IsHeldBy : Cell → Type 0
 IsHeldBy x = (a : Holding) × (x ≡ Act (holding_action a)) × (held_by x ≡ Some a)
 
+-- a cell that passes the test is some holding action
 pub holding-cell : (x : Cell) → is_any_holding x ≡ true → IsHeldBy x
 holding-cell (Act (act.Mod i)) e = (holding.Mod i, refl, refl)
 holding-cell (Act (act.Lock l)) e = (holding.Lock l, refl, refl)
 holding-cell x e = absurd (true≢false (sym e))
 
+-- each holding action passes the test
 pub holding-any : (a : Holding) → is_any_holding (Act (holding_action a)) ≡ true
 holding-any (holding.Mod i) = refl
 holding-any (holding.Lock l) = refl
@@ -48,6 +54,7 @@ pub not_acting : (x : Cell) → is_character_or_nop x ≡ false → IsActing x
 not_acting (Char c) e = absurd (true≢false e)
 not_acting (Act a) e = λ s. true≢false (sym (ap (λ b. is_character_or_nop (Act b)) s) ∙ e)
 
+-- a cell that acts is no character and no nop
 pub acting-not : (x : Cell) → IsActing x → is_character_or_nop x ≡ false
 acting-not (Char c) e = absurd e
 acting-not (Act act.Nop) e = absurd (e refl)

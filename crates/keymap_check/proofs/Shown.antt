@@ -1,5 +1,6 @@
 -- A trap whose character cell has at most one bit more is demonstrated.
-use Rattle.std.proofs.Common.{◌≡◌, ◌≢◌, ℕ, ◌<◌, Bool, true, false, ◌||◌, not, List, [], ◌∷◌, Option, Some, None, refl, ap, subst, sym, ◌∙◌, inl, inr, lit<, if◌then◌else◌}
+use Rattle.std.proofs.Common.{◌≡◌, ◌≢◌, ℕ, ◌<◌, Bool, true, false, ◌||◌, not, List, [], ◌∷◌, Option, Some, None, refl}
+use Rattle.std.proofs.Common.{ap, subst, sym, ◌∙◌, inl, inr, lit<, if◌then◌else◌}
 use Rattle.std.specs.Prelude.{◌==◌, reverse, find}
 use Rattle.std.proofs.lemmas.Bool.{true≢false, eq-eqb, eqb-true, and_parts}
 use Rattle.keymap_core.specs.declared.action.Action.TheVariants as act
@@ -7,7 +8,8 @@ use Rattle.keymap_core.specs.declared.action.Lock.{Lock}
 use Rattle.keymap_core.specs.declared.action.Lock.TheVariants as lock
 use Rattle.keymap_core.specs.declared.action.Holding.TheVariants as holding
 use Rattle.keymap_core.specs.declared.action.Modifier.{Modifier}
-use Rattle.keymap_core.specs.declared.action.Modifier.TheVariants.{LeftShift, RightShift, LeftControl, RightControl, LeftAlt, RightAlt, AltShift, Meta}
+use Rattle.keymap_core.specs.declared.action.Modifier.TheVariants.{LeftShift, RightShift, LeftControl, RightControl}
+use Rattle.keymap_core.specs.declared.action.Modifier.TheVariants.{LeftAlt, RightAlt, AltShift, Meta}
 use Rattle.keymap_core.specs.declared.entry.Cell.{Cell}
 use Rattle.keymap_core.specs.declared.entry.Cell.TheVariants.{Char, Act}
 use Rattle.keymap_core.specs.Actions.{modifier_index}
@@ -29,8 +31,11 @@ use Rattle.keymap_check.specs.declared.finding.Finding.{Finding}
 use Rattle.keymap_check.specs.Below.{any_below, gathered}
 use Rattle.keymap_check.specs.Cells.{first_place, cell_of, is_of_group, is_group_cell}
 use Rattle.keymap_check.specs.Computed.{findings_at, is_there}
-use Rattle.keymap_check.specs.Scripts.{group_at, is_bit_key, bit_key, bit_keys, script, lacks_key, scripts_of, scripts_with, scripts_for, tried_at, has_some, is_some_on, leaves_modifier_on, demonstration_of}
-use Rattle.keymap_check.specs.Shown.{group_of, bit_of, with_bit, bits_with, HasCharacterWith, IsOneAction, HasFurtherKey, HasShownTrap}
+use Rattle.keymap_check.specs.Scripts.{group_at, is_bit_key, bit_key, bit_keys, script, lacks_key, scripts_of}
+use Rattle.keymap_check.specs.Scripts.{scripts_with, scripts_for, tried_at, has_some, is_some_on, leaves_modifier_on}
+use Rattle.keymap_check.specs.Scripts.{demonstration_of}
+use Rattle.keymap_check.specs.Shown.{group_of, bit_of, with_bit, bits_with, HasCharacterWith, IsOneAction}
+use Rattle.keymap_check.specs.Shown.{HasFurtherKey, HasShownTrap}
 use Rattle.console_core.proofs.Traps.{bits_of, look-bits}
 use Rattle.keymap_check.proofs.Bits.{bits-more, bits-start, column_of-lt}
 use Rattle.keymap_check.proofs.Counting.{first_below-some}
@@ -43,127 +48,191 @@ locked-none : (l : Lock) → locked l [] ≡ false
 unfolding locked
 locked-none l = refl
 
+-- a modifier turns no lock
 locked-one : (i : Modifier) (k : ℕ) (l : Lock) → locked l (PressedAction k (act.Mod i) ∷ []) ≡ false
 unfolding locked remembered
 locked-one i k l = refl
 
-locked-two : (i y : Modifier) (k j : ℕ) (l : Lock) → (k == j) ≡ false → locked l (PressedAction j (act.Mod y) ∷ PressedAction k (act.Mod i) ∷ []) ≡ false
+-- two modifiers turn no lock
+locked-two : (i y : Modifier) (k j : ℕ) (l : Lock) → (k == j) ≡ false
+    → locked l (PressedAction j (act.Mod y) ∷ PressedAction k (act.Mod i) ∷ []) ≡ false
 unfolding locked remembered
 locked-two i y k j l en = rw en refl
 
+-- nothing is remembered at the start
 remembered-none : (j : ℕ) → remembered j [] ≡ None
 unfolding remembered
 remembered-none j = refl
 
+-- another key remembers nothing
 remembered-other : (i : Modifier) (k j : ℕ) → (k == j) ≡ false → remembered j (PressedAction k (act.Mod i) ∷ []) ≡ None
 unfolding remembered
 remembered-other i k j en = rw en refl
 
+-- a look at the start is in the first cell
 look-none : (m : MapValue) (k : ℕ) → look m [] k ≡ cell_at m k 0
-look-none m k = look-bits m [] k (locked-none lock.Caps) (locked-none lock.Num) (locked-none lock.Alt) ∙ ap (λ b. cell_with m k b) bits-start
+look-none m k =
+    look-bits m [] k (locked-none lock.Caps) (locked-none lock.Num) (locked-none lock.Alt)
+    ∙ ap (λ b. cell_with m k b) bits-start
 
+-- the bits of one modifier
 bits-one : (i : Modifier) (k : ℕ) → bits_of (PressedAction k (act.Mod i) ∷ []) ≡ bits_with i None
 bits-one i k = bits-more i k [] (remembered-none k) ∙ ap (with_bit (group_of i)) bits-start
 
-look-one : (m : MapValue) (i : Modifier) (k : ℕ) → look m (PressedAction k (act.Mod i) ∷ []) k ≡ cell_with m k (bits_with i None)
+-- a look under one modifier
+look-one : (m : MapValue) (i : Modifier) (k : ℕ)
+    → look m (PressedAction k (act.Mod i) ∷ []) k ≡ cell_with m k (bits_with i None)
 look-one m i k =
-    look-bits m (PressedAction k (act.Mod i) ∷ []) k (locked-one i k lock.Caps) (locked-one i k lock.Num) (locked-one i k lock.Alt) ∙ ap (λ b. cell_with m k b) (bits-one i k)
+    look-bits m (PressedAction k (act.Mod i) ∷ []) k (locked-one i k lock.Caps) (locked-one i k lock.Num)
+    (locked-one i k lock.Alt)
+    ∙ ap (λ b. cell_with m k b) (bits-one i k)
 
-look-two : (m : MapValue) (i y : Modifier) (k j : ℕ) → (k == j) ≡ false → look m (PressedAction j (act.Mod y) ∷ PressedAction k (act.Mod i) ∷ []) k ≡ cell_with m k (bits_with i (group_of y))
+-- a look under two modifiers
+look-two : (m : MapValue) (i y : Modifier) (k j : ℕ) → (k == j) ≡ false
+    → look m (PressedAction j (act.Mod y) ∷ PressedAction k (act.Mod i) ∷ []) k
+    ≡ cell_with m k (bits_with i (group_of y))
 look-two m i y k j en =
-    look-bits m (PressedAction j (act.Mod y) ∷ PressedAction k (act.Mod i) ∷ []) k (locked-two i y k j lock.Caps en) (locked-two i y k j lock.Num en) (locked-two i y k j lock.Alt en)
-    ∙ ap (λ b. cell_with m k b) (bits-more y j (PressedAction k (act.Mod i) ∷ []) (remembered-other i k j en) ∙ ap (with_bit (group_of y)) (bits-one i k))
+    look-bits m (PressedAction j (act.Mod y) ∷ PressedAction k (act.Mod i) ∷ []) k (locked-two i y k j lock.Caps en)
+    (locked-two i y k j lock.Num en) (locked-two i y k j lock.Alt en)
+    ∙ ap (λ b. cell_with m k b)
+    (bits-more y j (PressedAction k (act.Mod i) ∷ []) (remembered-other i k j en)
+    ∙ ap (with_bit (group_of y)) (bits-one i k))
 
 -- the resolved events of the two scripts leave the modifier on
 self : (i : Modifier) → (modifier_index i == modifier_index i) ≡ true
 self i = eq-eqb (modifier_index i) (modifier_index i) refl
 
-on-alone : (i : Modifier) (k c : ℕ) → on i (ReleasedKey k ∷ PressedCharacter k c ∷ PressedAction k (act.Mod i) ∷ []) ≡ true
+-- a modifier whose key looks up a character stays on
+on-alone : (i : Modifier) (k c : ℕ)
+    → on i (ReleasedKey k ∷ PressedCharacter k c ∷ PressedAction k (act.Mod i) ∷ []) ≡ true
 unfolding held remembered
 on-alone i k c = rw (self i, eq-eqb k k refl) refl
 
-on-further : (i y : Modifier) (k j c : ℕ) → (j == k) ≡ false → (k == j) ≡ false → (modifier_index y == modifier_index i) ≡ false
-    → on i (ReleasedKey j ∷ ReleasedKey k ∷ PressedCharacter k c ∷ PressedAction j (act.Mod y) ∷ PressedAction k (act.Mod i) ∷ []) ≡ true
+-- the same under a second modifier, which is let go
+on-further : (i y : Modifier) (k j c : ℕ) → (j == k) ≡ false → (k == j) ≡ false
+    → (modifier_index y == modifier_index i) ≡ false
+    → on i
+    (ReleasedKey j ∷ ReleasedKey k ∷ PressedCharacter k c ∷ PressedAction j (act.Mod y)
+    ∷ PressedAction k (act.Mod i) ∷ [])
+    ≡ true
 unfolding held remembered
 on-further i y k j c ne en other = rw (ne, en, eq-eqb k k refl, eq-eqb j j refl, other, self i) refl
 
-first-press : (m : MapValue) (i : Modifier) (k : ℕ) → cell_at m k 0 ≡ Act (act.Mod i) → resolved (between m m) (Press k ∷ []) ≡ PressedAction k (act.Mod i) ∷ []
+-- the first press of the key looks up its modifier
+first-press : (m : MapValue) (i : Modifier) (k : ℕ) → cell_at m k 0 ≡ Act (act.Mod i)
+    → resolved (between m m) (Press k ∷ []) ≡ PressedAction k (act.Mod i) ∷ []
 unfolding resolved
 first-press m i k e = ap (λ x. resolve_press k x ∷ []) (look-none m k ∙ e)
 
-resolved-alone : (m : MapValue) (i : Modifier) (k c : ℕ) → cell_at m k 0 ≡ Act (act.Mod i) → cell_with m k (bits_with i None) ≡ Char c
-    → resolved (between m m) (Release k ∷ Press k ∷ Press k ∷ []) ≡ ReleasedKey k ∷ PressedCharacter k c ∷ PressedAction k (act.Mod i) ∷ []
+-- the script of the key alone looks up its character
+resolved-alone : (m : MapValue) (i : Modifier) (k c : ℕ) → cell_at m k 0 ≡ Act (act.Mod i)
+    → cell_with m k (bits_with i None) ≡ Char c
+    → resolved (between m m) (Release k ∷ Press k ∷ Press k ∷ [])
+    ≡ ReleasedKey k ∷ PressedCharacter k c ∷ PressedAction k (act.Mod i) ∷ []
 unfolding resolved
 resolved-alone m i k c e f =
     ap (λ r. ReleasedKey k ∷ resolve_press k (look m r k) ∷ r) (first-press m i k e)
     ∙ ap (λ x. ReleasedKey k ∷ resolve_press k x ∷ PressedAction k (act.Mod i) ∷ []) (look-one m i k ∙ f)
 
-resolved-further : (m : MapValue) (i y : Modifier) (k j c : ℕ) → (k == j) ≡ false → cell_at m k 0 ≡ Act (act.Mod i) → look m (PressedAction k (act.Mod i) ∷ []) j ≡ Act (act.Mod y)
+-- the script with a second key looks up the character
+resolved-further : (m : MapValue) (i y : Modifier) (k j c : ℕ) → (k == j) ≡ false → cell_at m k 0 ≡ Act (act.Mod i)
+    → look m (PressedAction k (act.Mod i) ∷ []) j ≡ Act (act.Mod y)
     → cell_with m k (bits_with i (group_of y)) ≡ Char c
     → resolved (between m m) (Release j ∷ Release k ∷ Press k ∷ Press j ∷ Press k ∷ [])
-    ≡ ReleasedKey j ∷ ReleasedKey k ∷ PressedCharacter k c ∷ PressedAction j (act.Mod y) ∷ PressedAction k (act.Mod i) ∷ []
+    ≡ ReleasedKey j ∷ ReleasedKey k ∷ PressedCharacter k c ∷ PressedAction j (act.Mod y) ∷ PressedAction k (act.Mod i)
+    ∷ []
 unfolding resolved
 resolved-further m i y k j c en e g f =
-    ap (λ r. ReleasedKey j ∷ ReleasedKey k ∷ resolve_press k (look m (resolve_press j (look m r j) ∷ r) k) ∷ resolve_press j (look m r j) ∷ r) (first-press m i k e)
-    ∙ ap (λ x. ReleasedKey j ∷ ReleasedKey k ∷ resolve_press k (look m (resolve_press j x ∷ PressedAction k (act.Mod i) ∷ []) k) ∷ resolve_press j x ∷ PressedAction k (act.Mod i) ∷ []) g
-    ∙ ap (λ x. ReleasedKey j ∷ ReleasedKey k ∷ resolve_press k x ∷ PressedAction j (act.Mod y) ∷ PressedAction k (act.Mod i) ∷ []) (look-two m i y k j en ∙ f)
+    ap (λ r. ReleasedKey j ∷ ReleasedKey k ∷ resolve_press k (look m (resolve_press j (look m r j) ∷ r) k)
+    ∷ resolve_press j (look m r j) ∷ r)
+    (first-press m i k e)
+    ∙ ap (λ x. ReleasedKey j ∷ ReleasedKey k
+    ∷ resolve_press k (look m (resolve_press j x ∷ PressedAction k (act.Mod i) ∷ []) k) ∷ resolve_press j x
+    ∷ PressedAction k (act.Mod i) ∷ [])
+    g
+    ∙ ap (λ x. ReleasedKey j ∷ ReleasedKey k ∷ resolve_press k x ∷ PressedAction j (act.Mod y)
+    ∷ PressedAction k (act.Mod i) ∷ [])
+    (look-two m i y k j en ∙ f)
 
 -- the two scripts are tried
 alone-script : (o p q r : Option ℕ) (k : ℕ) → script (o ∷ p ∷ q ∷ r ∷ []) k 0 0 ≡ Press k ∷ Press k ∷ Release k ∷ []
 unfolding gathered
 alone-script o p q r k = refl
 
+-- no key is lacking for the empty set
 alone-complete : (o p q r : Option ℕ) → lacks_key (o ∷ p ∷ q ∷ r ∷ []) 0 0 ≡ false
 unfolding lacks_key any_below
 alone-complete o p q r = refl
 
 -- a set that names the group's bit alone
 abbrev HasSet : List (Option ℕ) → ℕ → ℕ → Type 0
-HasSet keys k j = (b : ℕ) × (b < 16) × (lacks_key keys 0 b ≡ false) × (script keys k 0 b ≡ Press k ∷ Press j ∷ Press k ∷ Release k ∷ Release j ∷ [])
+HasSet keys k j =
+    (b : ℕ) × (b < 16) × (lacks_key keys 0 b ≡ false)
+    × (script keys k 0 b ≡ Press k ∷ Press j ∷ Press k ∷ Release k ∷ Release j ∷ [])
 
+-- the key of the first bit has a set
 set-0 : (p q r : Option ℕ) (k j : ℕ) → HasSet (Some j ∷ p ∷ q ∷ r ∷ []) k j
 unfolding gathered lacks_key any_below
 set-0 p q r k j = (1, lit< tt, refl, refl)
 
+-- the key of the second bit has a set
 set-1 : (p q r : Option ℕ) (k j : ℕ) → HasSet (p ∷ Some j ∷ q ∷ r ∷ []) k j
 unfolding gathered lacks_key any_below
 set-1 p q r k j = (2, lit< tt, refl, refl)
 
+-- the key of the third bit has a set
 set-2 : (p q r : Option ℕ) (k j : ℕ) → HasSet (p ∷ q ∷ Some j ∷ r ∷ []) k j
 unfolding gathered lacks_key any_below
 set-2 p q r k j = (4, lit< tt, refl, refl)
 
+-- the key of the fourth bit has a set
 set-3 : (p q r : Option ℕ) (k j : ℕ) → HasSet (p ∷ q ∷ r ∷ Some j ∷ []) k j
 unfolding gathered lacks_key any_below
 set-3 p q r k j = (8, lit< tt, refl, refl)
 
+-- the key of each bit has a set
 has-set : (m : MapValue) (k j : ℕ) (g : Group) → bit_key m k (bit_of g) ≡ Some j → HasSet (bit_keys m k) k j
-has-set m k j group.Shift e = subst (λ o. HasSet (o ∷ bit_key m k 1 ∷ bit_key m k 2 ∷ bit_key m k 3 ∷ []) k j) (sym e) (set-0 _ _ _ k j)
-has-set m k j group.Control e = subst (λ o. HasSet (bit_key m k 0 ∷ o ∷ bit_key m k 2 ∷ bit_key m k 3 ∷ []) k j) (sym e) (set-1 _ _ _ k j)
-has-set m k j group.Alt e = subst (λ o. HasSet (bit_key m k 0 ∷ bit_key m k 1 ∷ o ∷ bit_key m k 3 ∷ []) k j) (sym e) (set-2 _ _ _ k j)
-has-set m k j group.AltShift e = subst (λ o. HasSet (bit_key m k 0 ∷ bit_key m k 1 ∷ bit_key m k 2 ∷ o ∷ []) k j) (sym e) (set-3 _ _ _ k j)
+has-set m k j group.Shift e =
+    subst (λ o. HasSet (o ∷ bit_key m k 1 ∷ bit_key m k 2 ∷ bit_key m k 3 ∷ []) k j) (sym e) (set-0 _ _ _ k j)
+has-set m k j group.Control e =
+    subst (λ o. HasSet (bit_key m k 0 ∷ o ∷ bit_key m k 2 ∷ bit_key m k 3 ∷ []) k j) (sym e) (set-1 _ _ _ k j)
+has-set m k j group.Alt e =
+    subst (λ o. HasSet (bit_key m k 0 ∷ bit_key m k 1 ∷ o ∷ bit_key m k 3 ∷ []) k j) (sym e) (set-2 _ _ _ k j)
+has-set m k j group.AltShift e =
+    subst (λ o. HasSet (bit_key m k 0 ∷ bit_key m k 1 ∷ bit_key m k 2 ∷ o ∷ []) k j) (sym e) (set-3 _ _ _ k j)
 
 -- a script that is tried leaves no modifier on where none is given
-if_here : {A : Type 0} (test : A → Bool) (t : Bool) (xs ys : List A) → t ≡ true → find test (if t then xs else ys) ≡ None → find test xs ≡ None
+if_here : {A : Type 0} (test : A → Bool) (t : Bool) (xs ys : List A) → t ≡ true
+    → find test (if t then xs else ys) ≡ None → find test xs ≡ None
 if_here test true xs ys e f = f
 if_here test false xs ys e f = cc
 
-if_there : {A : Type 0} (test : A → Bool) (t : Bool) (xs ys : List A) → t ≡ false → find test (if t then xs else ys) ≡ None → find test ys ≡ None
+-- what isn't found among all isn't among those behind
+if_there : {A : Type 0} (test : A → Bool) (t : Bool) (xs ys : List A) → t ≡ false
+    → find test (if t then xs else ys) ≡ None → find test ys ≡ None
 if_there test true xs ys e f = cc
 if_there test false xs ys e f = f
 
+-- an element that isn't found fails the test
 alone_none : {A : Type 0} (t : Bool) (x : A) → (if t then Some x else None) ≡ None → t ≡ false
 alone_none true x e = cc
 alone_none false x e = refl
 
-tried-none : (m : MapValue) (k b : ℕ) → k < 128 → b < 16 → has_some (findings_at m k) ≡ true → lacks_key (bit_keys m k) 0 b ≡ false → demonstration_of m ≡ None
+-- where no demonstration is found, no script that is complete leaves a modifier on
+tried-none : (m : MapValue) (k b : ℕ) → k < 128 → b < 16 → has_some (findings_at m k) ≡ true
+    → lacks_key (bit_keys m k) 0 b ≡ false → demonstration_of m ≡ None
     → leaves_modifier_on m (script (bit_keys m k) k 0 b) ≡ false
 tried-none m k b lt le some lacks e =
-    let s1 : find (leaves_modifier_on m) (tried_at m k) ≡ None = none-each (leaves_modifier_on m) (tried_at m) k 128 lt e in
-    let s2 : find (leaves_modifier_on m) (scripts_for (bit_keys m k) k) ≡ None = if_here (leaves_modifier_on m) (has_some (findings_at m k)) (scripts_for (bit_keys m k) k) [] some s1 in
-    let s3 : find (leaves_modifier_on m) (scripts_with (bit_keys m k) k 0) ≡ None = none-each (leaves_modifier_on m) (scripts_with (bit_keys m k) k) 0 16 (lit< tt) s2 in
-    let s4 : find (leaves_modifier_on m) (scripts_of (bit_keys m k) k 0 b) ≡ None = none-each (leaves_modifier_on m) (scripts_of (bit_keys m k) k 0) b 16 le s3 in
-    let s5 : find (leaves_modifier_on m) (script (bit_keys m k) k 0 b ∷ []) ≡ None = if_there (leaves_modifier_on m) (lacks_key (bit_keys m k) 0 b) [] (script (bit_keys m k) k 0 b ∷ []) lacks s4 in
+    let s1 : find (leaves_modifier_on m) (tried_at m k) ≡ None =
+    none-each (leaves_modifier_on m) (tried_at m) k 128 lt e in
+    let s2 : find (leaves_modifier_on m) (scripts_for (bit_keys m k) k) ≡ None =
+    if_here (leaves_modifier_on m) (has_some (findings_at m k)) (scripts_for (bit_keys m k) k) [] some s1 in
+    let s3 : find (leaves_modifier_on m) (scripts_with (bit_keys m k) k 0) ≡ None =
+    none-each (leaves_modifier_on m) (scripts_with (bit_keys m k) k) 0 16 (lit< tt) s2 in
+    let s4 : find (leaves_modifier_on m) (scripts_of (bit_keys m k) k 0 b) ≡ None =
+    none-each (leaves_modifier_on m) (scripts_of (bit_keys m k) k 0) b 16 le s3 in
+    let s5 : find (leaves_modifier_on m) (script (bit_keys m k) k 0 b ∷ []) ≡ None =
+    if_there (leaves_modifier_on m) (lacks_key (bit_keys m k) 0 b) [] (script (bit_keys m k) k 0 b ∷ []) lacks s4 in
     alone_none (leaves_modifier_on m (script (bit_keys m k) k 0 b)) (script (bit_keys m k) k 0 b) s5
 
 inl-true : (a b : Bool) → a ≡ true → (a || b) ≡ true
@@ -173,9 +242,12 @@ inr-true : (a b : Bool) → b ≡ true → (a || b) ≡ true
 inr-true true b e = refl
 inr-true false b e = e
 
+-- a modifier that is on is some
 some-on : (ms : Maps) (h : List Event) (i : Modifier) → On ms i h ≡ true → is_some_on ms h ≡ true
-some-on ms h LeftShift e = inl-true _ _ (inl-true _ _ (inl-true _ _ (inl-true _ _ (inl-true _ _ (inl-true _ _ (inl-true _ _ e))))))
-some-on ms h RightShift e = inl-true _ _ (inl-true _ _ (inl-true _ _ (inl-true _ _ (inl-true _ _ (inl-true _ _ (inr-true _ _ e))))))
+some-on ms h LeftShift e =
+    inl-true _ _ (inl-true _ _ (inl-true _ _ (inl-true _ _ (inl-true _ _ (inl-true _ _ (inl-true _ _ e))))))
+some-on ms h RightShift e =
+    inl-true _ _ (inl-true _ _ (inl-true _ _ (inl-true _ _ (inl-true _ _ (inl-true _ _ (inr-true _ _ e))))))
 some-on ms h LeftControl e = inl-true _ _ (inl-true _ _ (inl-true _ _ (inl-true _ _ (inl-true _ _ (inr-true _ _ e)))))
 some-on ms h RightControl e = inl-true _ _ (inl-true _ _ (inl-true _ _ (inl-true _ _ (inr-true _ _ e))))
 some-on ms h LeftAlt e = inl-true _ _ (inl-true _ _ (inl-true _ _ (inr-true _ _ e)))
@@ -188,26 +260,50 @@ pub some-finding : (fs : List Finding) → (fs ≡ [] → ⊥) → has_some fs �
 some-finding [] f = absurd (f refl)
 some-finding (x ∷ fs) f = refl
 
-found-key : (m : MapValue) (i : Modifier) (k c : ℕ) → IsCellOf m k (Act (act.Mod i)) → IsCellOf m k (Char c) → has_some (findings_at m k) ≡ true
-found-key m i k c is char = some-finding (findings_at m k) (λ e. safe_by m k (first_place m kind.AnyHolding k) (first_place m kind.Character k) refl refl e (holding.Mod i) is c char)
+-- a key with a modifier and a character has a finding
+found-key : (m : MapValue) (i : Modifier) (k c : ℕ) → IsCellOf m k (Act (act.Mod i)) → IsCellOf m k (Char c)
+    → has_some (findings_at m k) ≡ true
+found-key m i k c is char =
+    some-finding (findings_at m k)
+    (λ e. safe_by m k (first_place m kind.AnyHolding k) (first_place m kind.Character k) refl refl e (holding.Mod i)
+    is c char)
 
 -- the character cell is one of the key's
-slot-cell : (m : MapValue) (k : ℕ) (bits : Bits) (u : Bool) → bits.upper ≡ u → (bits.upper ≡ true → IsUpperLive m) → IsCellOf m k (cell_with m k bits)
+slot-cell : (m : MapValue) (k : ℕ) (bits : Bits) (u : Bool) → bits.upper ≡ u → (bits.upper ≡ true → IsUpperLive m)
+    → IsCellOf m k (cell_with m k bits)
 slot-cell m k bits true e live =
-    inr (live e, (column_of bits.shift bits.control bits.alt, column_of-lt bits.shift bits.control bits.alt, ap (λ t. cell_at m (slot_of k t) (column_of bits.shift bits.control bits.alt)) (sym e)))
+    inr (
+      live e,
+      (
+        column_of bits.shift bits.control bits.alt,
+        column_of-lt bits.shift bits.control bits.alt,
+        ap (λ t. cell_at m (slot_of k t) (column_of bits.shift bits.control bits.alt)) (sym e),
+      ),
+    )
 slot-cell m k bits false e live =
-    inl (column_of bits.shift bits.control bits.alt, column_of-lt bits.shift bits.control bits.alt, ap (λ t. cell_at m (slot_of k t) (column_of bits.shift bits.control bits.alt)) (sym e))
+    inl (
+      column_of bits.shift bits.control bits.alt,
+      column_of-lt bits.shift bits.control bits.alt,
+      ap (λ t. cell_at m (slot_of k t) (column_of bits.shift bits.control bits.alt)) (sym e),
+    )
 
+-- a character that is looked up with the bits is a cell of the key
 character-cell : (m : MapValue) (k : ℕ) (bits : Bits) (char : HasCharacterWith m k bits) → IsCellOf m k (Char char.1.0)
 character-cell m k bits char = subst (λ x. IsCellOf m k x) char.1.1 (slot-cell m k bits _ refl char.0)
 
-shown-alone : (m : MapValue) (i : Modifier) (k : ℕ) → k < 128 → cell_at m k 0 ≡ Act (act.Mod i) → HasCharacterWith m k (bits_with i None) → demonstration_of m ≢ None
+-- a trap under its own modifier alone is demonstrated
+shown-alone : (m : MapValue) (i : Modifier) (k : ℕ) → k < 128 → cell_at m k 0 ≡ Act (act.Mod i)
+    → HasCharacterWith m k (bits_with i None) → demonstration_of m ≢ None
 shown-alone m i k lt e char none =
     let is : IsCellOf m k (Act (act.Mod i)) = inl (0, lit< tt, e) in
-    let finding : has_some (findings_at m k) ≡ true = found-key m i k char.1.0 is (character-cell m k (bits_with i None) char) in
-    let off : leaves_modifier_on m (script (bit_keys m k) k 0 0) ≡ false = tried-none m k 0 lt (lit< tt) finding (alone-complete _ _ _ _) none in
-    let h : reverse (script (bit_keys m k) k 0 0) ≡ Release k ∷ Press k ∷ Press k ∷ [] = ap reverse (alone-script _ _ _ _ k) in
-    let is_on : On (between m m) i (Release k ∷ Press k ∷ Press k ∷ []) ≡ true = ap (λ r. on i r) (resolved-alone m i k char.1.0 e char.1.1) ∙ on-alone i k char.1.0 in
+    let finding : has_some (findings_at m k) ≡ true =
+    found-key m i k char.1.0 is (character-cell m k (bits_with i None) char) in
+    let off : leaves_modifier_on m (script (bit_keys m k) k 0 0) ≡ false =
+    tried-none m k 0 lt (lit< tt) finding (alone-complete _ _ _ _) none in
+    let h : reverse (script (bit_keys m k) k 0 0) ≡ Release k ∷ Press k ∷ Press k ∷ [] =
+    ap reverse (alone-script _ _ _ _ k) in
+    let is_on : On (between m m) i (Release k ∷ Press k ∷ Press k ∷ []) ≡ true =
+    ap (λ r. on i r) (resolved-alone m i k char.1.0 e char.1.1) ∙ on-alone i k char.1.0 in
     true≢false (sym (some-on (between m m) _ i is_on) ∙ ap (λ x. is_some_on (between m m) x) (sym h) ∙ off)
 
 -- the modifiers of a group, and the cells that are one of them
@@ -221,38 +317,51 @@ of-group group.Alt RightAlt e = refl
 of-group group.AltShift AltShift e = refl
 of-group g y e = absurd (true≢false (sym e))
 
+-- the group of a group's bit
 pub group-bit : (g : Group) → group_at (bit_of g) ≡ g
 group-bit group.Shift = refl
 group-bit group.Control = refl
 group-bit group.Alt = refl
 group-bit group.AltShift = refl
 
-pub group-cell : (g : Group) (c : Cell) → is_group_cell g c ≡ true → (y : Modifier) × (c ≡ Act (act.Mod y)) × (group_of y ≡ Some g)
+-- a cell of a group is a modifier of that group
+pub group-cell : (g : Group) (c : Cell) → is_group_cell g c ≡ true
+    → (y : Modifier) × (c ≡ Act (act.Mod y)) × (group_of y ≡ Some g)
 group-cell g (Act (act.Mod y)) e = (y, refl, of-group g y e)
 group-cell g c e = absurd (true≢false (sym e))
 
 -- what the further bit's key is
 abbrev IsFurther : MapValue → ℕ → Group → ℕ → Type 0
-IsFurther m k g j = ((j == k) ≡ false) × ((y : Modifier) × (group_of y ≡ Some g) × ((c : Cell) → IsCellOf m j c → c ≡ Act (act.Mod y)))
+IsFurther m k g j =
+    ((j == k) ≡ false) × ((y : Modifier) × (group_of y ≡ Some g) × ((c : Cell) → IsCellOf m j c → c ≡ Act (act.Mod y)))
 
 pub not_eq : (b : Bool) → not b ≡ true → b ≡ false
 not_eq true e = sym e
 not_eq false e = refl
 
-further_by : (m : MapValue) (k : ℕ) (g : Group) (j : ℕ) (o : Option ℕ) → (j == k) ≡ false → IsOneAction m j → first_place m (kind.Of g) j ≡ o → is_there o ≡ true → IsFurther m k g j
+-- the second key bears a modifier of the group, by the place that is found
+further_by : (m : MapValue) (k : ℕ) (g : Group) (j : ℕ) (o : Option ℕ) → (j == k) ≡ false → IsOneAction m j
+    → first_place m (kind.Of g) j ≡ o → is_there o ≡ true → IsFurther m k g j
 further_by m k g j None ne one e t = absurd (true≢false (sym t))
 further_by m k g j (Some p) ne one e t =
-    let s : IsCellOf m j (cell_of m j p) × (is_group_cell g (cell_of m j p) ≡ true) = first_place-cell m (kind.Of g) j p e in
-    let y : (y : Modifier) × (cell_of m j p ≡ Act (act.Mod y)) × (group_of y ≡ Some g) = group-cell g (cell_of m j p) s.1 in
+    let s : IsCellOf m j (cell_of m j p) × (is_group_cell g (cell_of m j p) ≡ true) =
+    first_place-cell m (kind.Of g) j p e in
+    let y : (y : Modifier) × (cell_of m j p ≡ Act (act.Mod y)) × (group_of y ≡ Some g) =
+    group-cell g (cell_of m j p) s.1 in
     let same : Act one.0 ≡ Act (act.Mod y.0) = sym (one.1 (cell_of m j p) s.0) ∙ y.1 in
     (ne, (y.0, y.2, λ c is. one.1 c is ∙ same))
 
-further : (m : MapValue) (k : ℕ) (g : Group) (j : ℕ) → bit_key m k (bit_of g) ≡ Some j → IsOneAction m j → IsFurther m k g j
+-- the second key bears a modifier of the group, in each of its cells
+further : (m : MapValue) (k : ℕ) (g : Group) (j : ℕ) → bit_key m k (bit_of g) ≡ Some j → IsOneAction m j
+    → IsFurther m k g j
 unfolding bit_key
 further m k g j e one =
-    let s : (j < 128) × (is_bit_key m k (bit_of g) j ≡ true) × ((i : ℕ) → i < j → is_bit_key m k (bit_of g) i ≡ false) = first_below-some (is_bit_key m k (bit_of g)) 128 j e in
-    let t : (not (j == k) ≡ true) × (is_there (first_place m (kind.Of (group_at (bit_of g))) j) ≡ true) = and_parts _ _ s.1 in
-    let there : is_there (first_place m (kind.Of g) j) ≡ true = subst (λ x. is_there (first_place m (kind.Of x) j) ≡ true) (group-bit g) t.1 in
+    let s : (j < 128) × (is_bit_key m k (bit_of g) j ≡ true) × ((i : ℕ) → i < j → is_bit_key m k (bit_of g) i ≡ false) =
+    first_below-some (is_bit_key m k (bit_of g)) 128 j e in
+    let t : (not (j == k) ≡ true) × (is_there (first_place m (kind.Of (group_at (bit_of g))) j) ≡ true) =
+    and_parts _ _ s.1 in
+    let there : is_there (first_place m (kind.Of g) j) ≡ true =
+    subst (λ x. is_there (first_place m (kind.Of x) j) ≡ true) (group-bit g) t.1 in
     further_by m k g j (first_place m (kind.Of g) j) (not_eq (j == k) t.0) one refl there
 
 pub not_same : (b : Bool) → (b ≡ true → ⊥) → b ≡ false
@@ -262,30 +371,45 @@ not_same false f = refl
 same-modifier : (y i : Modifier) → act.Mod y ≡ act.Mod i → y ≡ i
 same-modifier y i e = cc
 
-other_modifier : (i y : Modifier) (g : Group) → group_of i ≢ Some g → group_of y ≡ Some g → (modifier_index y == modifier_index i) ≡ false
+-- a modifier of another group is another modifier
+other_modifier : (i y : Modifier) (g : Group) → group_of i ≢ Some g → group_of y ≡ Some g
+    → (modifier_index y == modifier_index i) ≡ false
 other_modifier i y g ne e =
-    not_same (modifier_index y == modifier_index i) (λ s. ne (ap group_of (sym (same-modifier y i (same_action-true (act.Mod y) (act.Mod i) s))) ∙ e))
+    not_same (modifier_index y == modifier_index i)
+    (λ s. ne (ap group_of (sym (same-modifier y i (same_action-true (act.Mod y) (act.Mod i) s))) ∙ e))
 
-shown-further : (m : MapValue) (i : Modifier) (k : ℕ) (g : Group) (j : ℕ) → k < 128 → cell_at m k 0 ≡ Act (act.Mod i) → HasCharacterWith m k (bits_with i (Some g)) → group_of i ≢ Some g
+-- a trap under one modifier more is demonstrated
+shown-further : (m : MapValue) (i : Modifier) (k : ℕ) (g : Group) (j : ℕ) → k < 128 → cell_at m k 0 ≡ Act (act.Mod i)
+    → HasCharacterWith m k (bits_with i (Some g)) → group_of i ≢ Some g
     → bit_key m k (bit_of g) ≡ Some j → IsOneAction m j → demonstration_of m ≢ None
 shown-further m i k g j lt e char other is_key one none =
     let is : IsCellOf m k (Act (act.Mod i)) = inl (0, lit< tt, e) in
-    let finding : has_some (findings_at m k) ≡ true = found-key m i k char.1.0 is (character-cell m k (bits_with i (Some g)) char) in
+    let finding : has_some (findings_at m k) ≡ true =
+    found-key m i k char.1.0 is (character-cell m k (bits_with i (Some g)) char) in
     let s : HasSet (bit_keys m k) k j = has-set m k j g is_key in
     let f : IsFurther m k g j = further m k g j is_key one in
     let en : (k == j) ≡ false = not_same (k == j) (λ q. true≢false (sym (eq-eqb j k (sym (eqb-true k j q))) ∙ f.0)) in
     let all : AllLooked m (PressedAction k (act.Mod i) ∷ []) = ((lt, is), tt) in
-    let seen : look m (PressedAction k (act.Mod i) ∷ []) j ≡ Act (act.Mod f.1.0) = f.1.2 _ (look-cell m (PressedAction k (act.Mod i) ∷ []) j all) in
-    let character : cell_with m k (bits_with i (group_of f.1.0)) ≡ Char char.1.0 = ap (λ o. cell_with m k (bits_with i o)) f.1.1 ∙ char.1.1 in
-    let off : leaves_modifier_on m (script (bit_keys m k) k 0 s.0) ≡ false = tried-none m k s.0 lt s.1 finding s.2 none in
-    let h : reverse (script (bit_keys m k) k 0 s.0) ≡ Release j ∷ Release k ∷ Press k ∷ Press j ∷ Press k ∷ [] = ap reverse s.3 in
+    let seen : look m (PressedAction k (act.Mod i) ∷ []) j ≡ Act (act.Mod f.1.0) =
+    f.1.2 _ (look-cell m (PressedAction k (act.Mod i) ∷ []) j all) in
+    let character : cell_with m k (bits_with i (group_of f.1.0)) ≡ Char char.1.0 =
+    ap (λ o. cell_with m k (bits_with i o)) f.1.1 ∙ char.1.1 in
+    let off : leaves_modifier_on m (script (bit_keys m k) k 0 s.0) ≡ false =
+    tried-none m k s.0 lt s.1 finding s.2 none in
+    let h : reverse (script (bit_keys m k) k 0 s.0) ≡ Release j ∷ Release k ∷ Press k ∷ Press j ∷ Press k ∷ [] =
+    ap reverse s.3 in
     let is_on : On (between m m) i (Release j ∷ Release k ∷ Press k ∷ Press j ∷ Press k ∷ []) ≡ true =
-    ap (λ r. on i r) (resolved-further m i f.1.0 k j char.1.0 en e seen character) ∙ on-further i f.1.0 k j char.1.0 f.0 en (other_modifier i f.1.0 g other f.1.1) in
+    ap (λ r. on i r) (resolved-further m i f.1.0 k j char.1.0 en e seen character)
+    ∙ on-further i f.1.0 k j char.1.0 f.0 en (other_modifier i f.1.0 g other f.1.1) in
     true≢false (sym (some-on (between m m) _ i is_on) ∙ ap (λ x. is_some_on (between m m) x) (sym h) ∙ off)
 
-shown_by : (m : MapValue) (i : Modifier) (k : ℕ) (further : Option Group) → k < 128 → cell_at m k 0 ≡ Act (act.Mod i) → HasCharacterWith m k (bits_with i further) → HasFurtherKey m k i further → demonstration_of m ≢ None
+-- a trap under at most one modifier more is demonstrated
+shown_by : (m : MapValue) (i : Modifier) (k : ℕ) (further : Option Group) → k < 128 → cell_at m k 0 ≡ Act (act.Mod i)
+    → HasCharacterWith m k (bits_with i further) → HasFurtherKey m k i further → demonstration_of m ≢ None
 shown_by m i k None lt e char more = shown-alone m i k lt e char
 shown_by m i k (Some g) lt e char more = shown-further m i k g more.1.0 lt e char more.0 more.1.1 more.1.2
 
-pub shown_traps_are_demonstrated : (m : MapValue) (i : Modifier) (k : ℕ) → HasShownTrap m i k → demonstration_of m ≢ None
+-- a trap that is shown is demonstrated
+pub shown_traps_are_demonstrated : (m : MapValue) (i : Modifier) (k : ℕ) → HasShownTrap m i k
+    → demonstration_of m ≢ None
 shown_traps_are_demonstrated m i k trap = shown_by m i k trap.2.0 trap.0 trap.1 trap.2.1 trap.2.2

@@ -1,12 +1,14 @@
 -- Where no key has a trap, no script that is tried leaves a modifier on.
 use Prim.Native.Nat.{zero, suc}
-use Rattle.std.proofs.Common.{◌≡◌, ℕ, ◌<◌, Bool, true, false, List, [], ◌∷◌, ◌++◌, Option, Some, None, refl, subst, sym, ◌∙◌, if◌then◌else◌}
+use Rattle.std.proofs.Common.{◌≡◌, ℕ, ◌<◌, Bool, true, false, List, [], ◌∷◌, ◌++◌, Option, Some, None, refl, subst, sym}
+use Rattle.std.proofs.Common.{◌∙◌, if◌then◌else◌}
 use Rattle.std.specs.Prelude.{reverse}
 use Rattle.std.proofs.lemmas.List.{append-nil}
 use Rattle.std.proofs.lemmas.List.Elements.{All-head, All-tail, All-append, All-nil, All-cons}
 use Rattle.std.proofs.lemmas.Bool.{true≢false}
 use Rattle.keymap_core.specs.declared.action.Modifier.{Modifier}
-use Rattle.keymap_core.specs.declared.action.Modifier.TheVariants.{LeftShift, RightShift, LeftControl, RightControl, LeftAlt, RightAlt, AltShift, Meta}
+use Rattle.keymap_core.specs.declared.action.Modifier.TheVariants.{LeftShift, RightShift, LeftControl, RightControl}
+use Rattle.keymap_core.specs.declared.action.Modifier.TheVariants.{LeftAlt, RightAlt, AltShift, Meta}
 use Rattle.keymap_core.specs.declared.action.Holding.TheVariants as holding
 use Rattle.keymap_core.specs.Maps.{MapValue}
 use Rattle.console_core.specs.declared.event.Event.{Event}
@@ -19,7 +21,9 @@ use Rattle.console_core.proofs.Traps.{on_only_while_pressed_without_traps}
 use Rattle.keymap_check.specs.Below.{gathered}
 use Rattle.keymap_check.specs.Computed.{findings_at}
 use Rattle.std.specs.Prelude.{find}
-use Rattle.keymap_check.specs.Scripts.{bit_key, is_bit_key, bit_key_at, bit_keys, event_if, event_at, events_of, script, scripts_of, scripts_with, scripts_for, lacks_key, has_some, tried_at, tried, leaves_modifier_on, is_some_on, is_chosen, demonstration_of}
+use Rattle.keymap_check.specs.Scripts.{bit_key, is_bit_key, bit_key_at, bit_keys, event_if, event_at, events_of, script}
+use Rattle.keymap_check.specs.Scripts.{scripts_of, scripts_with, scripts_for, lacks_key, has_some, tried_at, tried}
+use Rattle.keymap_check.specs.Scripts.{leaves_modifier_on, is_some_on, is_chosen, demonstration_of}
 use Rattle.keymap_check.proofs.Counting.{first_below-some}
 use Rattle.keymap_check.proofs.Quiet.{Every, every-gathered, every-below, script-quiet}
 
@@ -32,31 +36,48 @@ either : (m : MapValue) (b : Bool) → (if b then m else m) ≡ m
 either m true = refl
 either m false = refl
 
+-- between two maps that are the same, that map is in force
 one_in_force : (m : MapValue) (h : List Event) → in_force (between m m) h ≡ m
 one_in_force m h = either m (is_second_in_force h)
 
 -- a quiet list leaves no modifier on
-off-quiet : (m : MapValue) → HasNoLocks m → ((i : Modifier) → HasNoTrap m i) → (h : List Event) → HasKeys h → IsQuiet h → (i : Modifier) → On (between m m) i h ≡ false
+off-quiet : (m : MapValue) → HasNoLocks m → ((i : Modifier) → HasNoTrap m i) → (h : List Event) → HasKeys h → IsQuiet h
+    → (i : Modifier) → On (between m m) i h ≡ false
 off-quiet m locks free h keys quiet i =
     not_true (On (between m m) i h) (λ e.
     let same : m ≡ in_force (between m m) h = sym (one_in_force m h) in
     let s : (k : ℕ) × (k < 128) × Bears (in_force (between m m) h) k (holding.Mod i) × (pressed k h ≡ true) =
-    on_only_while_pressed_without_traps (between m m) h keys (subst HasNoLocks same locks) i (subst (λ n. HasNoTrap n i) same (free i)) e in
+    on_only_while_pressed_without_traps (between m m) h keys (subst HasNoLocks same locks) i
+    (subst (λ n. HasNoTrap n i) same (free i)) e in
     true≢false (sym s.3 ∙ quiet s.0 s.1))
 
-no_modifier_on : (m : MapValue) → HasNoLocks m → ((i : Modifier) → HasNoTrap m i) → (h : List Event) → HasKeys h → IsQuiet h → is_some_on (between m m) h ≡ false
+-- without locks and traps no modifier is on once every key is released
+no_modifier_on : (m : MapValue) → HasNoLocks m → ((i : Modifier) → HasNoTrap m i) → (h : List Event) → HasKeys h
+    → IsQuiet h → is_some_on (between m m) h ≡ false
 no_modifier_on m locks free h keys quiet =
     let off : (i : Modifier) → On (between m m) i h ≡ false = off-quiet m locks free h keys quiet in
-    rw (off LeftShift, off RightShift, off LeftControl, off RightControl, off LeftAlt, off RightAlt, off AltShift, off Meta) refl
+    rw (
+      off LeftShift,
+      off RightShift,
+      off LeftControl,
+      off RightControl,
+      off LeftAlt,
+      off RightAlt,
+      off AltShift,
+      off Meta,
+    )
+    refl
 
 -- the keys of a script are keys
 abbrev AreKeys : List (Option ℕ) → Type 0
 AreKeys keys = (i j : ℕ) → bit_key_at keys i ≡ Some j → j < 128
 
+-- the key of a bit is a key
 bit_key-key : (m : MapValue) (k i j : ℕ) → bit_key m k i ≡ Some j → j < 128
 unfolding bit_key
 bit_key-key m k i j e = (first_below-some (is_bit_key m k i) 128 j e).0
 
+-- the keys of the bits are keys
 bit_keys-keys : (m : MapValue) (k : ℕ) → AreKeys (bit_keys m k)
 bit_keys-keys m k zero j e = bit_key-key m k 0 j e
 bit_keys-keys m k (suc zero) j e = bit_key-key m k 1 j e
@@ -64,56 +85,87 @@ bit_keys-keys m k (suc (suc zero)) j e = bit_key-key m k 2 j e
 bit_keys-keys m k (suc (suc (suc zero))) j e = bit_key-key m k 3 j e
 bit_keys-keys m k (suc (suc (suc (suc i)))) j e = cc
 
+-- a press or release of a key is an event of a key
 event-key : (p : Bool) (k : ℕ) → k < 128 → HasKey (if p then Press k else Release k)
 event-key true k lt = lt
 event-key false k lt = lt
 
-event_if-keys : (p t : Bool) (o : Option ℕ) → ((j : ℕ) → o ≡ Some j → j < 128) → HasKeys (if t then event_if p o else [])
+-- an optional event under a condition is of a key
+event_if-keys : (p t : Bool) (o : Option ℕ) → ((j : ℕ) → o ≡ Some j → j < 128)
+    → HasKeys (if t then event_if p o else [])
 event_if-keys p true None f = All-nil HasKey
-event_if-keys p true (Some k) f = All-cons HasKey (if p then Press k else Release k) [] (event-key p k (f k refl)) (All-nil HasKey)
+event_if-keys p true (Some k) f =
+    All-cons HasKey (if p then Press k else Release k) [] (event-key p k (f k refl)) (All-nil HasKey)
 event_if-keys p false o f = All-nil HasKey
 
-events-keys : (p : Bool) (keys : List (Option ℕ)) (s e n : ℕ) → AreKeys keys → HasKeys (gathered (event_at p keys s e) n)
+-- the events of a set are of keys
+events-keys : (p : Bool) (keys : List (Option ℕ)) (s e n : ℕ) → AreKeys keys
+    → HasKeys (gathered (event_at p keys s e) n)
 unfolding gathered
 events-keys p keys s e zero f = All-nil HasKey
-events-keys p keys s e (suc n) f = All-append HasKey (gathered (event_at p keys s e) n) (event_at p keys s e n) (events-keys p keys s e n f) (event_if-keys p (is_chosen s e n) (bit_key_at keys n) (f n))
+events-keys p keys s e (suc n) f =
+    All-append HasKey (gathered (event_at p keys s e) n) (event_at p keys s e n) (events-keys p keys s e n f)
+    (event_if-keys p (is_chosen s e n) (bit_key_at keys n) (f n))
 
+-- events of keys, newest first, are of keys
 reverse-keys : (es h : List Event) → HasKeys es → HasKeys h → HasKeys (reverse es ++ h)
 reverse-keys [] h f g = g
 reverse-keys (e ∷ es) h f g =
-    subst HasKeys (sym (reverse-cons e es h)) (reverse-keys es (e ∷ h) (All-tail HasKey e es f) (All-cons HasKey e h (All-head HasKey e es f) g))
+    subst HasKeys (sym (reverse-cons e es h))
+    (reverse-keys es (e ∷ h) (All-tail HasKey e es f) (All-cons HasKey e h (All-head HasKey e es f) g))
 
+-- the events of a script are of keys
 pub script-keys : (keys : List (Option ℕ)) (k a b : ℕ) → AreKeys keys → k < 128 → HasKeys (reverse (script keys k a b))
 script-keys keys k a b f lt =
     let press : HasKeys (Press k ∷ []) = All-cons HasKey (Press k) [] lt (All-nil HasKey) in
-    let both : HasKeys (Press k ∷ Release k ∷ []) = All-cons HasKey (Press k) (Release k ∷ []) lt (All-cons HasKey (Release k) [] lt (All-nil HasKey)) in
-    let s1 : HasKeys (events_of true keys a 0 ++ Press k ∷ []) = All-append HasKey _ _ (events-keys true keys a 0 4 f) press in
-    let s2 : HasKeys ((events_of true keys a 0 ++ Press k ∷ []) ++ events_of false keys a b) = All-append HasKey _ _ s1 (events-keys false keys a b 4 f) in
-    let s3 : HasKeys (((events_of true keys a 0 ++ Press k ∷ []) ++ events_of false keys a b) ++ events_of true keys b a) = All-append HasKey _ _ s2 (events-keys true keys b a 4 f) in
-    let s4 : HasKeys ((((events_of true keys a 0 ++ Press k ∷ []) ++ events_of false keys a b) ++ events_of true keys b a) ++ Press k ∷ Release k ∷ []) = All-append HasKey _ _ s3 both in
+    let both : HasKeys (Press k ∷ Release k ∷ []) =
+    All-cons HasKey (Press k) (Release k ∷ []) lt (All-cons HasKey (Release k) [] lt (All-nil HasKey)) in
+    let s1 : HasKeys (events_of true keys a 0 ++ Press k ∷ []) =
+    All-append HasKey _ _ (events-keys true keys a 0 4 f) press in
+    let s2 : HasKeys ((events_of true keys a 0 ++ Press k ∷ []) ++ events_of false keys a b) =
+    All-append HasKey _ _ s1 (events-keys false keys a b 4 f) in
+    let s3 : HasKeys (((events_of true keys a 0 ++ Press k ∷ []) ++ events_of false keys a b)
+    ++ events_of true keys b a) =
+    All-append HasKey _ _ s2 (events-keys true keys b a 4 f) in
+    let s4 : HasKeys ((((events_of true keys a 0 ++ Press k ∷ []) ++ events_of false keys a b)
+    ++ events_of true keys b a)
+    ++ Press k ∷ Release k ∷ []) =
+    All-append HasKey _ _ s3 both in
     let s5 : HasKeys (script keys k a b) = All-append HasKey _ _ s4 (events-keys false keys b 0 4 f) in
     subst HasKeys (append-nil (reverse (script keys k a b))) (reverse-keys (script keys k a b) [] s5 (All-nil HasKey))
 
+-- the script leaves no modifier on
 abbrev Fails : MapValue → List Event → Type 0
 Fails m s = leaves_modifier_on m s ≡ false
 
 module _ (m : MapValue) (locks : HasNoLocks m) (free : (i : Modifier) → HasNoTrap m i) where
+  -- a script that isn't left out leaves no modifier on
   scripts-fail : (t : Bool) (k a b : ℕ) → k < 128 → Every (Fails m) (if t then [] else script (bit_keys m k) k a b ∷ [])
   scripts-fail true k a b lt = tt
-  scripts-fail false k a b lt =
-      (no_modifier_on m locks free (reverse (script (bit_keys m k) k a b)) (script-keys (bit_keys m k) k a b (bit_keys-keys m k) lt) (script-quiet (bit_keys m k) k a b), tt)
+  scripts-fail false k a b lt = (
+    no_modifier_on m locks free (reverse (script (bit_keys m k) k a b))
+        (script-keys (bit_keys m k) k a b (bit_keys-keys m k) lt) (script-quiet (bit_keys m k) k a b),
+    tt,
+  )
 
+  -- the scripts of a key, if it has a finding, leave no modifier on
   tried_by : (t : Bool) (k : ℕ) → k < 128 → Every (Fails m) (if t then scripts_for (bit_keys m k) k else [])
   tried_by true k lt =
-      every-gathered (Fails m) (scripts_with (bit_keys m k) k) 16 (λ a. every-gathered (Fails m) (scripts_of (bit_keys m k) k a) 16 (λ b. scripts-fail (lacks_key (bit_keys m k) a b) k a b lt))
+      every-gathered (Fails m) (scripts_with (bit_keys m k) k) 16
+      (λ a. every-gathered (Fails m) (scripts_of (bit_keys m k) k a) 16
+      (λ b. scripts-fail (lacks_key (bit_keys m k) a b) k a b lt))
   tried_by false k lt = tt
 
+  -- no script that is tried leaves a modifier on
   tried-fail : Every (Fails m) (tried m)
   tried-fail = every-below (Fails m) (tried_at m) 128 (λ k lt. tried_by (has_some (findings_at m k)) k lt)
 
-  none_first : (test : List Event → Bool) (xs : List (List Event)) → Every (λ s. test s ≡ false) xs → find test xs ≡ None
+  -- where all fail the test, none is found
+  none_first : (test : List Event → Bool) (xs : List (List Event)) → Every (λ s. test s ≡ false) xs
+      → find test xs ≡ None
   none_first test [] f = refl
   none_first test (x ∷ xs) f = rw f.0 (none_first test xs f.1)
 
+  -- no demonstration is given
   pub none_given : demonstration_of m ≡ None
   none_given = none_first (leaves_modifier_on m) (tried m) tried-fail

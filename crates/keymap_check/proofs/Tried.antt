@@ -4,7 +4,8 @@ use Rattle.std.specs.Prelude.{◌==◌}
 use Rattle.std.proofs.lemmas.Bool.{true≢false, eq-eqb, eqb-true, and_parts}
 use Rattle.keymap_core.specs.declared.action.Action.TheVariants as act
 use Rattle.keymap_core.specs.declared.action.Modifier.{Modifier}
-use Rattle.keymap_core.specs.declared.action.Modifier.TheVariants.{LeftShift, RightShift, LeftControl, RightControl, LeftAlt, RightAlt, AltShift}
+use Rattle.keymap_core.specs.declared.action.Modifier.TheVariants.{LeftShift, RightShift, LeftControl, RightControl}
+use Rattle.keymap_core.specs.declared.action.Modifier.TheVariants.{LeftAlt, RightAlt, AltShift}
 use Rattle.keymap_core.specs.declared.entry.Cell.TheVariants.{Char, Act}
 use Rattle.keymap_core.specs.Maps.{MapValue}
 use Rattle.keymap_core.specs.Bearers.{IsCellOf}
@@ -24,6 +25,7 @@ use Rattle.keymap_check.proofs.Findings.{safe_by}
 use Rattle.keymap_check.proofs.Same.{IsHeldBy, holding-cell, character-cell}
 use Rattle.keymap_check.proofs.Shown.{group-cell, group-bit, not_eq, not_same, some-finding}
 
+-- a modifier of the group passes its test
 group-of : (g : Group) (y : Modifier) → group_of y ≡ Some g → is_of_group g y ≡ true
 group-of group.Shift LeftShift e = refl
 group-of group.Shift RightShift e = refl
@@ -34,57 +36,80 @@ group-of group.Alt RightAlt e = refl
 group-of group.AltShift AltShift e = refl
 group-of g y e = cc
 
-bears_by : (m : MapValue) (g : Group) (j : ℕ) (o : Option ℕ) → first_place m (kind.Of g) j ≡ o → is_there o ≡ true → BearsGroup m j g
+-- a key with a place of the group bears it
+bears_by : (m : MapValue) (g : Group) (j : ℕ) (o : Option ℕ) → first_place m (kind.Of g) j ≡ o → is_there o ≡ true
+    → BearsGroup m j g
 bears_by m g j None e t = absurd (true≢false (sym t))
 bears_by m g j (Some p) e t =
-    let s : IsCellOf m j (cell_of m j p) × (is_group_cell g (cell_of m j p) ≡ true) = first_place-cell m (kind.Of g) j p e in
-    let y : (y : Modifier) × (cell_of m j p ≡ Act (act.Mod y)) × (group_of y ≡ Some g) = group-cell g (cell_of m j p) s.1 in
+    let s : IsCellOf m j (cell_of m j p) × (is_group_cell g (cell_of m j p) ≡ true) =
+    first_place-cell m (kind.Of g) j p e in
+    let y : (y : Modifier) × (cell_of m j p ≡ Act (act.Mod y)) × (group_of y ≡ Some g) =
+    group-cell g (cell_of m j p) s.1 in
     (y.0, y.2, subst (λ x. IsCellOf m j x) y.1 s.0)
 
-there_by : (m : MapValue) (g : Group) (j : ℕ) (o : Option ℕ) → first_place m (kind.Of g) j ≡ o → BearsGroup m j g → is_there o ≡ true
-there_by m g j None e b = absurd (true≢false (sym (group-of g b.0 b.1) ∙ no_place-cell m (kind.Of g) j e (Act (act.Mod b.0)) b.2))
+-- a key that bears the group has a place of it
+there_by : (m : MapValue) (g : Group) (j : ℕ) (o : Option ℕ) → first_place m (kind.Of g) j ≡ o → BearsGroup m j g
+    → is_there o ≡ true
+there_by m g j None e b =
+    absurd (true≢false (sym (group-of g b.0 b.1) ∙ no_place-cell m (kind.Of g) j e (Act (act.Mod b.0)) b.2))
 there_by m g j (Some p) e b = refl
 
-bit_key-true : (m : MapValue) (k : ℕ) (g : Group) (i : ℕ) → i ≢ k → BearsGroup m i g → is_bit_key m k (bit_of g) i ≡ true
+-- a key that bears the group, and isn't the one tried, passes the test of its bit
+bit_key-true : (m : MapValue) (k : ℕ) (g : Group) (i : ℕ) → i ≢ k → BearsGroup m i g
+    → is_bit_key m k (bit_of g) i ≡ true
 bit_key-true m k g i ne b =
     let t : is_there (first_place m (kind.Of (group_at (bit_of g))) i) ≡ true =
-    subst (λ x. is_there (first_place m (kind.Of x) i) ≡ true) (sym (group-bit g)) (there_by m g i (first_place m (kind.Of g) i) refl b) in
+    subst (λ x. is_there (first_place m (kind.Of x) i) ≡ true) (sym (group-bit g))
+    (there_by m g i (first_place m (kind.Of g) i) refl b) in
     let n : (i == k) ≡ false = not_same (i == k) (λ q. ne (eqb-true i k q)) in
     rw (n, t) refl
 
-no_bit_key : (m : MapValue) (k : ℕ) (g : Group) (i : ℕ) → is_bit_key m k (bit_of g) i ≡ false → i ≢ k → BearsGroup m i g → ⊥
+-- a key that fails the test of a bit doesn't bear the group
+no_bit_key : (m : MapValue) (k : ℕ) (g : Group) (i : ℕ) → is_bit_key m k (bit_of g) i ≡ false → i ≢ k → BearsGroup m i g
+    → ⊥
 no_bit_key m k g i e ne b = true≢false (sym (bit_key-true m k g i ne b) ∙ e)
 
-least_by : (m : MapValue) (k : ℕ) (g : Group) (o : Option ℕ) → first_below (is_bit_key m k (bit_of g)) 128 ≡ o → IsBitKey m k g o
+-- the key of a bit is the least that passes its test
+least_by : (m : MapValue) (k : ℕ) (g : Group) (o : Option ℕ) → first_below (is_bit_key m k (bit_of g)) 128 ≡ o
+    → IsBitKey m k g o
 least_by m k g None e = λ j lt. no_bit_key m k g j (first_below-no (is_bit_key m k (bit_of g)) 128 e j lt)
 least_by m k g (Some j) e =
     let s : IsFirstBelow (is_bit_key m k (bit_of g)) 128 j = first_below-some (is_bit_key m k (bit_of g)) 128 j e in
-    let t : (not (j == k) ≡ true) × (is_there (first_place m (kind.Of (group_at (bit_of g))) j) ≡ true) = and_parts _ _ s.1 in
-    let there : is_there (first_place m (kind.Of g) j) ≡ true = subst (λ x. is_there (first_place m (kind.Of x) j) ≡ true) (group-bit g) t.1 in (
+    let t : (not (j == k) ≡ true) × (is_there (first_place m (kind.Of (group_at (bit_of g))) j) ≡ true) =
+    and_parts _ _ s.1 in
+    let there : is_there (first_place m (kind.Of g) j) ≡ true =
+    subst (λ x. is_there (first_place m (kind.Of x) j) ≡ true) (group-bit g) t.1 in (
       s.0,
       (λ q. true≢false (sym (eq-eqb j k q) ∙ not_eq (j == k) t.0)),
       bears_by m g j (first_place m (kind.Of g) j) refl there,
       (λ i lt. no_bit_key m k g i (s.2 i lt)),
     )
 
+-- the key of a bit is the least other key that bears the group
 pub bit_keys_are_least : BitKeysAreLeast
 unfolding bit_key
 bit_keys_are_least m k g = least_by m k g (first_below (is_bit_key m k (bit_of g)) 128) refl
 
 -- a key is tried exactly if it has a finding
-unsafe_by : (m : MapValue) (k : ℕ) (o i : Option ℕ) → first_place m kind.AnyHolding k ≡ o → first_place m kind.Character k ≡ i → has_some (finding_by m k o i) ≡ true → IsUnsafeKey m k
+unsafe_by : (m : MapValue) (k : ℕ) (o i : Option ℕ) → first_place m kind.AnyHolding k ≡ o
+    → first_place m kind.Character k ≡ i → has_some (finding_by m k o i) ≡ true → IsUnsafeKey m k
 unsafe_by m k None i e f t = absurd (true≢false (sym t))
 unsafe_by m k (Some p) None e f t = absurd (true≢false (sym t))
 unsafe_by m k (Some p) (Some q) e f t =
-    let r : IsCellOf m k (cell_of m k p) × (is_any_holding (cell_of m k p) ≡ true) = first_place-cell m kind.AnyHolding k p e in
+    let r : IsCellOf m k (cell_of m k p) × (is_any_holding (cell_of m k p) ≡ true) =
+    first_place-cell m kind.AnyHolding k p e in
     let h : IsHeldBy (cell_of m k p) = holding-cell (cell_of m k p) r.1 in
-    let s : IsCellOf m k (cell_of m k q) × (is_character (cell_of m k q) ≡ true) = first_place-cell m kind.Character k q f in
+    let s : IsCellOf m k (cell_of m k q) × (is_character (cell_of m k q) ≡ true) =
+    first_place-cell m kind.Character k q f in
     let c : (c : ℕ) × (cell_of m k q ≡ Char c) = character-cell (cell_of m k q) s.1 in
     (h.0, subst (λ x. IsCellOf m k x) h.1 r.0, (c.0, subst (λ x. IsCellOf m k x) c.1 s.0))
 
+-- the keys that scripts are tried for are the unsafe ones
 pub tried_keys_are_unsafe : TriedKeysAreUnsafe
 tried_keys_are_unsafe m k = (
   unsafe_by m k (first_place m kind.AnyHolding k) (first_place m kind.Character k) refl refl,
   (λ is.
-      some-finding (findings_at m k) (λ e. safe_by m k (first_place m kind.AnyHolding k) (first_place m kind.Character k) refl refl e is.0 is.1 is.2.0 is.2.1)),
+      some-finding (findings_at m k)
+      (λ e. safe_by m k (first_place m kind.AnyHolding k) (first_place m kind.Character k) refl refl e is.0 is.1
+      is.2.0 is.2.1)),
 )

@@ -6,8 +6,9 @@ ghost use Rattle.keymap_core.specs.Numbers.{key_count};
 ghost use Rattle.console_core.specs.declared.event.Event.{Event as EventValue};
 ghost use Rattle.console_core.specs.History.{Maps, between, IsQuiet};
 ghost use Rattle.console_core.specs.Traps.{HasNoLocks, HasNoTrap};
-ghost use Rattle.keymap_check.specs.Scripts.{leaves_modifier_on as leaves_modifier_on_in, is_some_on, events_of, start_of};
-ghost use Rattle.keymap_check.specs.Scripts.{script as script_of, scripts_of, scripts_with, scripts_for, tried_at, demonstration_of};
+ghost use Rattle.keymap_check.specs.Scripts.{leaves_modifier_on as leaves_modifier_on_in, is_some_on, events_of};
+ghost use Rattle.keymap_check.specs.Scripts.{start_of, script as script_of, scripts_of, scripts_with, scripts_for};
+ghost use Rattle.keymap_check.specs.Scripts.{tried_at, demonstration_of};
 ghost use Rattle.keymap_check.specs.Shown.{HasShownTrap};
 
 use crate::bearer::key_with;

@@ -1,5 +1,6 @@
 //! What is computed of a keymap is what is said of it.
-ghost use Rattle.keymap_check.specs.Report.{FindingsAreComputed, BearersAreComputed, SteadyLocksAreComputed, NoFindingsExactlyIfSafe};
+ghost use Rattle.keymap_check.specs.Report.{FindingsAreComputed, BearersAreComputed, SteadyLocksAreComputed};
+ghost use Rattle.keymap_check.specs.Report.{NoFindingsExactlyIfSafe};
 ghost use Rattle.keymap_check.specs.Tried.{BitKeysAreLeast, TriedKeysAreUnsafe};
 
 /// The findings, bearers and steady locks that are computed of a map are those that the map has.

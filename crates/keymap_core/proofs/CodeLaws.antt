@@ -1,5 +1,6 @@
 -- The code of each action is that action's alone.
-use Rattle.std.proofs.Common.{◌↔◌, ◌∙◌, nat_lt, ◌≡◌, ℕ, ◌-◌, ◌<◌, ◌≤◌, ◌==◌, nat_le, List, [], ◌∷◌, Bool, true, false, refl, arith, sym, ap, subst, inl, inr}
+use Rattle.std.proofs.Common.{◌↔◌, ◌∙◌, nat_lt, ◌≡◌, ℕ, ◌-◌, ◌<◌, ◌≤◌, ◌==◌, nat_le, List, [], ◌∷◌, Bool, true, false}
+use Rattle.std.proofs.Common.{refl, arith, sym, ap, subst, inl, inr}
 use Rattle.std.specs.Prelude.{◌||◌, is_none, Some, None, Option, cond}
 use Rattle.std.specs.List.{find, list_all, range_with_len}
 use Rattle.std.proofs.lemmas.Bool.{and_parts, cases_lt, eqb-true, leb-true}
@@ -15,6 +16,7 @@ use Rattle.keymap_core.specs.declared.action.Action.TheVariants as a
 use Rattle.keymap_core.specs.declared.action.Modifier.TheVariants as m
 use Rattle.keymap_core.specs.declared.action.Lock.TheVariants as l
 
+-- the code of a known action, read again, gives the action
 pub code-read : (action : Action) → IsAction action → action_of (code_of action) ≡ Some action
 code-read (a.Screen k) known = grind (arith, nat_tests, common_steps)
 code-read (a.Function k) known = grind (arith, nat_tests, common_steps)
@@ -52,12 +54,14 @@ is_plain (a.Function k) = false
 is_plain (a.DeadKey k) = false
 is_plain _ = true
 
+-- each plain action is known
 plain-known : (action : Action) → is_plain action ≡ true → IsAction action
 plain-known (a.Screen k) h = absurd (cc)
 plain-known (a.Function k) h = absurd (cc)
 plain-known (a.DeadKey k) h = absurd (cc)
 plain-known _ h = tt
 
+-- the code is the action's
 abbrev HasCode : ℕ → Action → Type 0
 HasCode c action = (code_of action ≡ c) × IsAction action
 
@@ -89,13 +93,16 @@ range-has_code c low high numbered action rest false test inside later h = later
 -- the action of a code has the code
 pub action-has_code : (c : ℕ) (action : Action) → action_of c ≡ Some action → HasCode c action
 action-has_code c action =
-    range-has_code c 0x0b 0x1a (a.Screen (c - 0x0a)) action _ _ refl (λ low high. (omega arith, (omega arith, omega arith)))
-    (range-has_code c 0x1b 0x7a (a.Function (c - 0x1a)) action _ _ refl (λ low high. (omega arith, (omega arith, omega arith)))
+    range-has_code c 0x0b 0x1a (a.Screen (c - 0x0a)) action _ _ refl
+    (λ low high. (omega arith, (omega arith, omega arith)))
+    (range-has_code c 0x1b 0x7a (a.Function (c - 0x1a)) action _ _ refl
+    (λ low high. (omega arith, (omega arith, omega arith)))
     (range-has_code c 0x89 0x97 (a.DeadKey (c - 0x89)) action _ _ refl (λ low high. (omega arith, omega arith))
     (find-has_code c plain_actions action refl)))
 
 -- a code past those of the table is that of no action
-beyond-find : (c : ℕ) (xs : List Action) → list_all (λ x. nat_lt (code_of x) 0xa4) xs ≡ true → 0xa4 ≤ c → find (λ x. code_of x == c) xs ≡ None
+beyond-find : (c : ℕ) (xs : List Action) → list_all (λ x. nat_lt (code_of x) 0xa4) xs ≡ true → 0xa4 ≤ c
+    → find (λ x. code_of x == c) xs ≡ None
 beyond-find c [] below h = refl
 beyond-find c (x ∷ xs) below h =
     let parts = and_parts (nat_lt (code_of x) 0xa4) (list_all (λ y. nat_lt (code_of y) 0xa4) xs) below in
@@ -104,6 +111,7 @@ beyond-find c (x ∷ xs) below h =
     differ : (a c : ℕ) → nat_lt a 0xa4 ≡ true → 0xa4 ≤ c → a == c ≡ false
     differ a c low high = grind (arith, nat_tests)
 
+-- codes from 0xa4 on have no action
 beyond-none : (c : ℕ) → 0xa4 ≤ c → action_of c ≡ None
 beyond-none c h =
     rw (beyond 0x0b 0x1a c h (omega arith), beyond 0x1b 0x7a c h (omega arith), beyond 0x89 0x97 c h (omega arith))
@@ -116,9 +124,11 @@ beyond-none c h =
 abbrev is_unused_code : ℕ → Bool
 is_unused_code c = (c == 0x01) || within 0x7b 0x7f c || within 0x9b 0xa0 c || nat_le 0xa4 c
 
+-- a code that the test takes for unused is unused
 unused-from_test : (c : ℕ) → is_unused_code c ≡ true → IsUnusedCode c
 unused-from_test c h = grind (arith, nat_tests)
 
+-- an unused code passes the test
 unused-as_test : (c : ℕ) → IsUnusedCode c → is_unused_code c ≡ true
 unused-as_test c h = grind (arith, nat_tests)
 
@@ -129,7 +139,9 @@ all-codes = refl
 -- what the test says of each code
 same-as_test : (c : ℕ) → is_none (action_of c) ≡ is_unused_code c
 same-as_test c = elim (cases_lt c 0xa4) [
-  | inl below ↦ (booleans_Decides _ _).0 (all-in (λ c. beq (is_none (action_of c)) (is_unused_code c)) 0 0xa4 all-codes c (omega arith) (omega (arith, below)))
+  | inl below ↦
+      (booleans_Decides _ _).0 (all-in (λ c. beq (is_none (action_of c)) (is_unused_code c)) 0 0xa4 all-codes c
+      (omega arith) (omega (arith, below)))
   | inr above ↦ ap is_none (beyond-none c above) ∙ sym (unused-as_test c (inr (inr (inr above))))
 ]
 
@@ -137,6 +149,9 @@ is_none-None : (o : Option Action) → is_none o ≡ true → o ≡ None
 is_none-None None h = refl
 is_none-None (Some x) h = absurd (cc)
 
+-- a code has no action exactly if it is unused
 pub unused-codes : (c : ℕ) → (action_of c ≡ None) ↔ IsUnusedCode c
-unused-codes c =
-    (λ e. unused-from_test c (sym (same-as_test c) ∙ ap is_none e), λ u. is_none-None (action_of c) (same-as_test c ∙ unused-as_test c u))
+unused-codes c = (
+  λ e. unused-from_test c (sym (same-as_test c) ∙ ap is_none e),
+  λ u. is_none-None (action_of c) (same-as_test c ∙ unused-as_test c u),
+)

@@ -19,12 +19,15 @@ both-Decides : (p q : Bool) (P Q : Type 0) → Decides p P → Decides q Q → D
 both-Decides p q P Q d e =
     (λ h. let parts = and_parts p q h in (d.0 parts.0, e.0 parts.1), λ h. and_from p q (d.1 h.0) (e.1 h.1))
 
+-- `==` decides whether two cells are the same
 cell-same : (a b : Cell) → Decides (cell.eq-value.it a b) (a ≡ b)
 cell-same a b = search rules
 
+-- `==` decides whether two lock flags are the same
 flag-same : (a b : LockFlag) → Decides (flag.eq-value.it a b) (a ≡ b)
 flag-same a b = search rules
 
+-- `==` decides whether two entries are the same
 pub entry-same : (a b : Entry) → Decides (entry.eq-value.it a b) (a ≡ b)
 entry-same a b =
     let d = both-Decides _ _ _ _ (pointwise_decides cell-same a.cells b.cells) (flag-same a.flag b.flag) in (
@@ -32,9 +35,11 @@ entry-same a b =
       λ e. d.1 (ap (λ (x : Entry). x.cells) e, ap (λ (x : Entry). x.flag) e),
     )
 
+-- `==` decides whether two pairs are the same
 pair-same : (a b : ℕ × ℕ) → Decides ((a.0 == b.0) && (a.1 == b.1)) (a ≡ b)
 pair-same a b = search rules
 
+-- `==` decides whether two accents are the same
 pub accent-same : (a b : AccentValue) → Decides (accent.eq-value.it a b) (a ≡ b)
 accent-same a b =
     let d = both-Decides _ _ _ _ (search rules) (pointwise_decides pair-same a.pairs b.pairs) in (
@@ -42,10 +47,14 @@ accent-same a b =
       λ e. d.1 (ap (λ (x : AccentValue). x.own) e, ap (λ (x : AccentValue). x.pairs) e),
     )
 
+-- `==` decides whether two maps are the same
 pub map-same : (a b : MapValue)
-    → Decides (pointwise entry.eq-value.it a.entries b.entries && pointwise accent.eq-value.it a.accents b.accents) (a ≡ b)
+    → Decides (pointwise entry.eq-value.it a.entries b.entries && pointwise accent.eq-value.it a.accents b.accents)
+    (a ≡ b)
 map-same a b =
-    let d = both-Decides _ _ _ _ (pointwise_decides entry-same a.entries b.entries) (pointwise_decides accent-same a.accents b.accents) in (
+    let d =
+    both-Decides _ _ _ _ (pointwise_decides entry-same a.entries b.entries)
+    (pointwise_decides accent-same a.accents b.accents) in (
       λ h. let e = d.0 h in λ i. record { entries = e.0 i; accents = e.1 i },
       λ e. d.1 (ap (λ (x : MapValue). x.entries) e, ap (λ (x : MapValue). x.accents) e),
     )

@@ -1,5 +1,6 @@
 -- A text that goes to a writer through a buffer.
-use Rattle.std.proofs.Common.{◌≡◌, ℕ, ◌+◌, ◌<◌, ◌≤◌, List, [], ◌++◌, length, take, refl, sym, ap, ◌∙◌, append_assoc, append-nil, arith, length-append, subst}
+use Rattle.std.proofs.Common.{◌≡◌, ℕ, ◌+◌, ◌<◌, ◌≤◌, List, [], ◌++◌, length, take, refl, sym, ap, ◌∙◌, append_assoc}
+use Rattle.std.proofs.Common.{append-nil, arith, length-append, subst}
 use Rattle.std.specs.Prelude.{Option, None, Some, Result, Ok, Err, IsErrAnd, MatchResult}
 use Rattle.std.proofs.lemmas.List.{take-append-le}
 use Rattle.std.proofs.Math.Seq.{take-append-add}
@@ -7,7 +8,8 @@ use Rattle.std.specs.Io.KnownBytes.{Appends}
 use Rattle.keymap_core.specs.Streams.{StreamValue, Gathers, StopsIn}
 
 -- What is taken in two turns is taken in one.
-pub Appends-trans : (a b c : Option (List ℕ)) (xs ys : List ℕ) → Appends a b xs → Appends b c ys → Appends a c (xs ++ ys)
+pub Appends-trans : (a b c : Option (List ℕ)) (xs ys : List ℕ) → Appends a b xs → Appends b c ys
+    → Appends a c (xs ++ ys)
 Appends-trans None b c xs ys first second = tt
 Appends-trans (Some held) None c xs ys first second = absurd first
 Appends-trans (Some held) (Some mid) None xs ys first second = absurd second
@@ -15,7 +17,10 @@ Appends-trans (Some held) (Some mid) (Some last) xs ys first second =
     second ∙ ap (λ v. v ++ ys) first ∙ append_assoc held xs ys
 
 -- The buffer was taken.
-pub Gathers-flushed : {start mid : Option (List ℕ)} (new : Option (List ℕ)) {before : StreamValue} (after : StreamValue) {text : List ℕ} → Gathers start mid before text → after.written ≡ before.written + length before.waiting → Appends mid new before.waiting → after.waiting ≡ [] → Gathers start new after text
+pub Gathers-flushed : {start mid : Option (List ℕ)} (new : Option (List ℕ)) {before : StreamValue} (after : StreamValue)
+    {text : List ℕ}
+    → Gathers start mid before text → after.written ≡ before.written + length before.waiting
+    → Appends mid new before.waiting → after.waiting ≡ [] → Gathers start new after text
 Gathers-flushed {start = start} {mid = mid} new {before = before} after g counted taken empty = record {
   front = g.front ++ before.waiting;
   taken = Appends-trans start mid new g.front before.waiting g.taken taken;
@@ -24,7 +29,10 @@ Gathers-flushed {start = start} {mid = mid} new {before = before} after g counte
 }
 
 -- The buffer got a piece.
-pub Gathers-more : {start now : Option (List ℕ)} {before : StreamValue} (after : StreamValue) {text : List ℕ} (piece : List ℕ) → Gathers start now before text → after.written ≡ before.written → after.waiting ≡ before.waiting ++ piece → Gathers start now after (text ++ piece)
+pub Gathers-more : {start now : Option (List ℕ)} {before : StreamValue} (after : StreamValue) {text : List ℕ}
+    (piece : List ℕ)
+    → Gathers start now before text → after.written ≡ before.written → after.waiting ≡ before.waiting ++ piece
+    → Gathers start now after (text ++ piece)
 Gathers-more {before = before} after piece g counted grown = record {
   front = g.front;
   taken = g.taken;
@@ -33,7 +41,11 @@ Gathers-more {before = before} after piece g counted grown = record {
 }
 
 -- The writer failed within the buffer.
-pub Gathers-stops : {start mid : Option (List ℕ)} (new : Option (List ℕ)) {before : StreamValue} {text : List ℕ} (w : ℕ) (rest : List ℕ) → Gathers start mid before text → ((k : ℕ) × (k < length before.waiting) × (w ≡ before.written + k) × Appends mid new (take k before.waiting)) → StopsIn start new (text ++ rest) w
+pub Gathers-stops : {start mid : Option (List ℕ)} (new : Option (List ℕ)) {before : StreamValue} {text : List ℕ} (w : ℕ)
+    (rest : List ℕ)
+    → Gathers start mid before text
+    → ((k : ℕ) × (k < length before.waiting) × (w ≡ before.written + k) × Appends mid new (take k before.waiting))
+    → StopsIn start new (text ++ rest) w
 Gathers-stops {start = start} {mid = mid} new {before = before} {text = text} w rest g fault =
     let buffer = before.waiting in
     let k = fault.0 in
@@ -47,11 +59,14 @@ Gathers-stops {start = start} {mid = mid} new {before = before} {text = text} w 
     (omega (arith, fault.1, counted), rw front (Appends-trans start mid new g.front (take k buffer) g.taken fault.3))
 
 -- The same text, written in another way.
-pub Gathers-same : {start now : Option (List ℕ)} {stream : StreamValue} (text : List ℕ) {same : List ℕ} → text ≡ same → Gathers start now stream text → Gathers start now stream same
-Gathers-same text equal g = record { front = g.front; taken = g.taken; counted = g.counted; whole = sym equal ∙ g.whole }
+pub Gathers-same : {start now : Option (List ℕ)} {stream : StreamValue} (text : List ℕ) {same : List ℕ} → text ≡ same
+    → Gathers start now stream text → Gathers start now stream same
+Gathers-same text equal g =
+    record { front = g.front; taken = g.taken; counted = g.counted; whole = sym equal ∙ g.whole }
 
 -- The writer failed in a longer text.
-pub StopsIn-more : (start now : Option (List ℕ)) (text rest all : List ℕ) (w : ℕ) → all ≡ text ++ rest → StopsIn start now text w → StopsIn start now all w
+pub StopsIn-more : (start now : Option (List ℕ)) (text rest all : List ℕ) (w : ℕ) → all ≡ text ++ rest
+    → StopsIn start now text w → StopsIn start now all w
 StopsIn-more start now text rest all w parts stops =
     let short : w ≤ length text = omega (arith, stops.0) in
     let front : take w all ≡ take w text = rw (parts) (take-append-le w text rest short) in
@@ -59,12 +74,14 @@ StopsIn-more start now text rest all w parts stops =
     (omega (arith, stops.0), rw front stops.1)
 
 -- what a `?` passes on
-pub passed_on : {X E : Type 0} (r : Result X E) (e : E) (P : X → Type 0) (Q : E → Type 0) → IsErrAnd r (λ f. f ≡ e) → Q e → MatchResult r P Q
+pub passed_on : {X E : Type 0} (r : Result X E) (e : E) (P : X → Type 0) (Q : E → Type 0) → IsErrAnd r (λ f. f ≡ e)
+    → Q e → MatchResult r P Q
 passed_on (Ok x) e P Q is here = absurd is
 passed_on (Err f) e P Q is here = subst Q (sym is) here
 
 -- Nothing was written yet.
-pub Gathers-start : (now : Option (List ℕ)) (stream : StreamValue) → stream.waiting ≡ [] → stream.written ≡ 0 → Gathers now now stream []
+pub Gathers-start : (now : Option (List ℕ)) (stream : StreamValue) → stream.waiting ≡ [] → stream.written ≡ 0
+    → Gathers now now stream []
 Gathers-start now stream empty none = record {
   front = [];
   taken = Appends-nothing now;

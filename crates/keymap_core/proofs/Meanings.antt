@@ -1,5 +1,6 @@
 -- What a word means, by the tests that are made in turn.
-use Rattle.std.proofs.Common.{◌≡◌, ℕ, ◌<◌, min, Bool, true, false, cond, List, [], ◌∷◌, ◌++◌, map, refl, sym, ◌∙◌, ap, arith, codes, Option, Some, None}
+use Rattle.std.proofs.Common.{◌≡◌, ℕ, ◌<◌, min, Bool, true, false, cond, List, [], ◌∷◌, ◌++◌, map, refl, sym, ◌∙◌, ap}
+use Rattle.std.proofs.Common.{arith, codes, Option, Some, None}
 use Rattle.std.specs.List.{find, list_any}
 use Rattle.std.specs.Option.{option_map, option_map_or, option_or}
 use Rattle.std.specs.Str.{bytes_eq}
@@ -13,29 +14,39 @@ use Rattle.keymap_core.specs.declared.action.Action.TheVariants as a
 use Rattle.keymap_core.specs.declared.named.Named.{Named}
 use Rattle.keymap_core.specs.declared.named.Named.TheVariants as n
 
+-- the row of an action in the table of names
 abbrev named_entry : Action → List ℕ × Action
 named_entry action = entry (name_of action) action
 
+-- the number, where larger ones count as 255: what one byte keeps
 abbrev pub cut_at_255 : Option ℕ → Option ℕ
 cut_at_255 = option_map (λ n. min n 255)
 
 -- a number that is cut at 255 is in the range exactly where it was before
-cut-numbered : (most : ℕ) (action : ℕ → Action) (n : ℕ) → most < 255 → numbered most action (min n 255) ≡ numbered most action n
+cut-numbered : (most : ℕ) (action : ℕ → Action) (n : ℕ) → most < 255
+    → numbered most action (min n 255) ≡ numbered most action n
 cut-numbered most action n h = grind (arith, nat_tests)
 
-numbered-found : (most : ℕ) (action : ℕ → Action) (o : Option ℕ) (k : ℕ) (rest : Named) → most < 255 → Some k ≡ cut_at_255 o
+-- a number was found: it decides, also after the cut at 255
+numbered-found : (most : ℕ) (action : ℕ → Action) (o : Option ℕ) (k : ℕ) (rest : Named) → most < 255
+    → Some k ≡ cut_at_255 o
     → numbered most action k ≡ option_map_or (numbered most action) o rest
 numbered-found most action None k rest h e = absurd (none-some k (sym e))
-numbered-found most action (Some n) k rest h e = ap (numbered most action) (same_Some k (min n 255) e) ∙ cut-numbered most action n h
+numbered-found most action (Some n) k rest h e =
+    ap (numbered most action) (same_Some k (min n 255) e) ∙ cut-numbered most action n h
 
+-- no number was found: what is left decides
 numbered-not_found : (most : ℕ) (action : ℕ → Action) (o : Option ℕ) (rest : Named) → None ≡ cut_at_255 o
     → rest ≡ option_map_or (numbered most action) o rest
 numbered-not_found most action None rest e = refl
 numbered-not_found most action (Some n) rest e = absurd (none-some (min n 255) e)
 
-pub meaning-screen : (low : List ℕ) (k : ℕ) → Some k ≡ cut_at_255 (number_behind (codes "scr") low) → numbered 16 a.Screen k ≡ meaning_of low
+-- a word that is scr and a number means that screen
+pub meaning-screen : (low : List ℕ) (k : ℕ) → Some k ≡ cut_at_255 (number_behind (codes "scr") low)
+    → numbered 16 a.Screen k ≡ meaning_of low
 meaning-screen low k e = numbered-found 16 a.Screen (number_behind (codes "scr") low) k _ (omega arith) e
 
+-- a word that is fkey and a number, and no screen, means that function key
 pub meaning-function : (low : List ℕ) (k : ℕ) → None ≡ cut_at_255 (number_behind (codes "scr") low)
     → Some k ≡ cut_at_255 (number_behind (codes "fkey") low) → numbered 96 a.Function k ≡ meaning_of low
 meaning-function low k screen e =
@@ -48,11 +59,13 @@ step-entries : (b : Bool) (x : Action) (o : Option (List ℕ × Action)) (r : Op
 step-entries true x o r e = refl
 step-entries false x o r e = e
 
+-- a search of the rows by name is a search of the actions by their names
 find-entries : (p : List ℕ → Bool) (xs : List Action)
     → find (λ name. p name.0) (map named_entry xs) ≡ option_map named_entry (find (λ action. p (name_of action)) xs)
 find-entries p [] = refl
 find-entries p (x ∷ xs) = step-entries (p (name_of x)) x _ _ (find-entries p xs)
 
+-- the action of the first row found is the first action found
 action-entry : (o : Option Action) (p : Option (List ℕ × Action))
     → option_map (λ name. name.1) (option_or (option_map named_entry o) p) ≡ option_or o (option_map (λ name. name.1) p)
 action-entry (Some x) p = refl
@@ -61,7 +74,8 @@ action-entry None p = refl
 -- the look-up among all names, in three turns
 pub find-names : (low : List ℕ)
     → option_map (λ name. name.1) (find (λ name. bytes_eq low name.0) names)
-    ≡ option_or (option_or (find (λ action. bytes_eq low (name_of action)) plain_actions) (find (λ action. bytes_eq low (name_of action)) dead_keys))
+    ≡ option_or (option_or (find (λ action. bytes_eq low (name_of action)) plain_actions)
+    (find (λ action. bytes_eq low (name_of action)) dead_keys))
     (option_map (λ name. name.1) (find (λ name. bytes_eq low name.0) aliases))
 find-names low =
     ap (option_map (λ name. name.1))
@@ -71,11 +85,14 @@ find-names low =
     ∙ ap (option_map named_entry) (find-append (λ action. bytes_eq low (name_of action)) plain_actions dead_keys)))
     ∙ action-entry _ (find (λ name. bytes_eq low name.0) aliases)
 
+-- what the action found means is what the row found means
 meaning-of_action : (o : Option (List ℕ × Action))
-    → option_map_or n.Action (option_map (λ name. name.1) o) n.Unknown ≡ option_map_or (λ name. n.Action name.1) o n.Unknown
+    → option_map_or n.Action (option_map (λ name. name.1) o) n.Unknown
+    ≡ option_map_or (λ name. n.Action name.1) o n.Unknown
 meaning-of_action None = refl
 meaning-of_action (Some name) = refl
 
+-- a word that is no screen, function key or combined name means what the table of names says
 pub meaning-named : (low : List ℕ) (found : Option Action) → None ≡ cut_at_255 (number_behind (codes "scr") low)
     → None ≡ cut_at_255 (number_behind (codes "fkey") low) → list_any (bytes_eq low) combined_names ≡ false
     → found ≡ option_map (λ name. name.1) (find (λ name. bytes_eq low name.0) names)
@@ -83,13 +100,19 @@ pub meaning-named : (low : List ℕ) (found : Option Action) → None ≡ cut_at
 meaning-named low found screen function combined e =
     ap (λ o. option_map_or n.Action o n.Unknown) e
     ∙ meaning-of_action (find (λ name. bytes_eq low name.0) names)
-    ∙ ap (λ b. cond b n.Combined (option_map_or (λ name. n.Action name.1) (find (λ name. bytes_eq low name.0) names) n.Unknown)) (sym combined)
+    ∙ ap (λ b. cond b n.Combined
+    (option_map_or (λ name. n.Action name.1) (find (λ name. bytes_eq low name.0) names) n.Unknown))
+    (sym combined)
     ∙ numbered-not_found 96 a.Function (number_behind (codes "fkey") low) _ function
     ∙ numbered-not_found 16 a.Screen (number_behind (codes "scr") low) _ screen
 
+-- a word that is no screen or function key, but a combined name, means that
 pub meaning-combined : (low : List ℕ) → None ≡ cut_at_255 (number_behind (codes "scr") low)
-    → None ≡ cut_at_255 (number_behind (codes "fkey") low) → list_any (bytes_eq low) combined_names ≡ true → n.Combined ≡ meaning_of low
+    → None ≡ cut_at_255 (number_behind (codes "fkey") low) → list_any (bytes_eq low) combined_names ≡ true
+    → n.Combined ≡ meaning_of low
 meaning-combined low screen function combined =
-    ap (λ b. cond b n.Combined (option_map_or (λ name. n.Action name.1) (find (λ name. bytes_eq low name.0) names) n.Unknown)) (sym combined)
+    ap (λ b. cond b n.Combined
+    (option_map_or (λ name. n.Action name.1) (find (λ name. bytes_eq low name.0) names) n.Unknown))
+    (sym combined)
     ∙ numbered-not_found 96 a.Function (number_behind (codes "fkey") low) _ function
     ∙ numbered-not_found 16 a.Screen (number_behind (codes "scr") low) _ screen

@@ -1,5 +1,6 @@
 -- The name of each action, read again, gives the action.
-use Rattle.std.proofs.Common.{List, All, map, ◌≡◌, ℕ, ◌+◌, ◌<◌, ◌≤◌, ◌==◌, suc, zero, Bool, true, false, refl, arith, sym, ap, subst, inl, inr}
+use Rattle.std.proofs.Common.{List, All, map, ◌≡◌, ℕ, ◌+◌, ◌<◌, ◌≤◌, ◌==◌, suc, zero, Bool, true, false, refl, arith}
+use Rattle.std.proofs.Common.{sym, ap, subst, inl, inr}
 use Rattle.std.specs.Prelude.{◌&&◌}
 use Rattle.std.specs.List.{list_all, range_with_len}
 use Rattle.std.specs.Char.{to_ascii_lowercase}
@@ -23,7 +24,8 @@ and-right true q h = h
 and-right false q h = absurd (cc)
 
 -- a test that holds along a range holds at each number of it
-pub all-in : (test : ℕ → Bool) (from n : ℕ) → list_all test (range_with_len from n) ≡ true → (k : ℕ) → from ≤ k → k < from + n → test k ≡ true
+pub all-in : (test : ℕ → Bool) (from n : ℕ) → list_all test (range_with_len from n) ≡ true → (k : ℕ) → from ≤ k
+    → k < from + n → test k ≡ true
 all-in test from zero all k low high = absurd (omega arith)
 all-in test from (suc n) all k low high =
     elim (eq-or-lt_of_le low) [
@@ -31,10 +33,12 @@ all-in test from (suc n) all k low high =
       | inr above ↦ all-in test (from + 1) n (and-right _ _ all) k (omega arith) (omega arith)
     ]
 
+-- whether what a name means is the screen k
 is_screen : ℕ → Named → Bool
 is_screen k (n.Action (a.Screen j)) = k == j
 is_screen k _ = false
 
+-- where the test passes, it is the screen k
 is-screen : (k : ℕ) (x : Named) → is_screen k x ≡ true → x ≡ n.Action (a.Screen k)
 unfolding is_screen
 is-screen k (n.Action (a.Screen j)) h = ap (λ i. n.Action (a.Screen i)) (sym (eqb-true k j h))
@@ -45,10 +49,12 @@ all-screen : list_all (λ k. is_screen k (named_of (name_of (a.Screen k)))) (ran
 unfolding is_screen
 all-screen = refl
 
+-- whether what a name means is the function key k
 is_function : ℕ → Named → Bool
 is_function k (n.Action (a.Function j)) = k == j
 is_function k _ = false
 
+-- where the test passes, it is the function key k
 is-function : (k : ℕ) (x : Named) → is_function k x ≡ true → x ≡ n.Action (a.Function k)
 unfolding is_function
 is-function k (n.Action (a.Function j)) h = ap (λ i. n.Action (a.Function i)) (sym (eqb-true k j h))
@@ -59,10 +65,12 @@ all-function : list_all (λ k. is_function k (named_of (name_of (a.Function k)))
 unfolding is_function
 all-function = refl
 
+-- whether what a name means is the dead key k
 is_dead : ℕ → Named → Bool
 is_dead k (n.Action (a.DeadKey j)) = k == j
 is_dead k _ = false
 
+-- where the test passes, it is the dead key k
 is-dead : (k : ℕ) (x : Named) → is_dead k x ≡ true → x ≡ n.Action (a.DeadKey k)
 unfolding is_dead
 is-dead k (n.Action (a.DeadKey j)) h = ap (λ i. n.Action (a.DeadKey i)) (sym (eqb-true k j h))
@@ -73,10 +81,17 @@ all-dead : list_all (λ k. is_dead k (named_of (name_of (a.DeadKey k)))) (range_
 unfolding is_dead
 all-dead = refl
 
+-- the name of a known action means that action
 pub name-read : (action : Action) → IsAction action → named_of (name_of action) ≡ n.Action action
-name-read (a.Screen k) known = is-screen k _ (all-in (λ k. is_screen k (named_of (name_of (a.Screen k)))) 1 16 all-screen k (omega arith) (omega arith))
-name-read (a.Function k) known = is-function k _ (all-in (λ k. is_function k (named_of (name_of (a.Function k)))) 1 96 all-function k (omega arith) (omega arith))
-name-read (a.DeadKey k) known = is-dead k _ (all-in (λ k. is_dead k (named_of (name_of (a.DeadKey k)))) 0 15 all-dead k (omega arith) (omega arith))
+name-read (a.Screen k) known =
+    is-screen k _
+    (all-in (λ k. is_screen k (named_of (name_of (a.Screen k)))) 1 16 all-screen k (omega arith) (omega arith))
+name-read (a.Function k) known =
+    is-function k _
+    (all-in (λ k. is_function k (named_of (name_of (a.Function k)))) 1 96 all-function k (omega arith)
+    (omega arith))
+name-read (a.DeadKey k) known =
+    is-dead k _ (all-in (λ k. is_dead k (named_of (name_of (a.DeadKey k)))) 0 15 all-dead k (omega arith) (omega arith))
 name-read a.Nop known = refl
 name-read (a.Mod m.LeftShift) known = refl
 name-read (a.Mod m.RightShift) known = refl
@@ -113,5 +128,6 @@ combined-refused (suc (suc (suc (suc zero)))) d h = refl
 combined-refused (suc (suc (suc (suc (suc zero))))) d h = refl
 combined-refused (suc (suc (suc (suc (suc (suc k)))))) d h = absurd (omega (arith, h))
 
+-- words that differ in case alone mean the same
 pub same-meaning : (a b : List ℕ) → map to_ascii_lowercase a ≡ map to_ascii_lowercase b → named_of a ≡ named_of b
 same-meaning a b h = ap meaning_of h

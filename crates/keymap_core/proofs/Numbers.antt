@@ -1,5 +1,6 @@
 -- The number behind the letters of a name.
-use Rattle.std.proofs.Common.{◌≡◌, ℕ, ◌<◌, min, Bool, true, false, cond, List, [], ◌∷◌, length, take, drop, map, refl, sym, ◌∙◌, ap, ap₂, arith, length-take}
+use Rattle.std.proofs.Common.{◌≡◌, ℕ, ◌<◌, min, Bool, true, false, cond, List, [], ◌∷◌, length, take, drop, map, refl}
+use Rattle.std.proofs.Common.{sym, ◌∙◌, ap, ap₂, arith, length-take}
 use Rattle.std.specs.Prelude.{◌&&◌, Option, Some, None}
 use Rattle.std.specs.List.{list_all}
 use Rattle.std.specs.Option.{option_map}
@@ -11,6 +12,7 @@ use Rattle.std.proofs.lemmas.List.{take-map, drop-map, length-map}
 use Rattle.std.proofs.lemmas.Slice.Eq.{bytes_eq-Decides}
 use Rattle.keymap_core.specs.Names.{are_digits, digits_value, number_behind}
 
+-- a word in lower case
 abbrev lower : List ℕ → List ℕ
 lower = map to_ascii_lowercase
 
@@ -18,13 +20,16 @@ lower = map to_ascii_lowercase
 lower-digit : (c : ℕ) → is_ascii_digit (to_ascii_lowercase c) ≡ is_ascii_digit c
 lower-digit c = grind (arith, nat_tests)
 
+-- a digit is its own lower case
 digit-lower : (c : ℕ) → is_ascii_digit c ≡ true → to_ascii_lowercase c ≡ c
 digit-lower c h = grind (arith, nat_tests)
 
+-- lower case makes no digit and loses none
 lower-digits : (xs : List ℕ) → list_all is_ascii_digit (lower xs) ≡ list_all is_ascii_digit xs
 lower-digits [] = refl
 lower-digits (x ∷ xs) = ap₂ (λ a b. a && b) (lower-digit x) (lower-digits xs)
 
+-- digits are their own lower case
 digits-lower : (xs : List ℕ) → list_all is_ascii_digit xs ≡ true → lower xs ≡ xs
 digits-lower [] h = refl
 digits-lower (x ∷ xs) h =
@@ -44,28 +49,36 @@ spelled_at false xs h = rw (lower-digits xs, h) (none _ _ ∙ sym (none _ _))
     none true x = refl
     none false x = refl
 
+-- lower case spells the same number
 pub spelled-lower : (xs : List ℕ) → spelled (lower xs) ≡ spelled xs
 spelled-lower xs = spelled_at (list_all is_ascii_digit xs) xs refl
 
 -- the number, once the letters are known to stand in front or not
 behind_at : (b : Bool) (letters word : List ℕ) → bytes_eq (take (length letters) (lower word)) letters ≡ b
     → number_behind letters (lower word) ≡ cond b (spelled (drop (length letters) word)) None
-behind_at true letters word h = rw (h, drop-map to_ascii_lowercase (length letters) word) (spelled-lower (drop (length letters) word))
+behind_at true letters word h =
+    rw (h, drop-map to_ascii_lowercase (length letters) word) (spelled-lower (drop (length letters) word))
 behind_at false letters word h = rw h refl
 
+-- behind the letters, in either case, stands the number that the rest of the word spells
 pub number-behind : (letters word : List ℕ) → bytes_eq (lower (take (length letters) word)) letters ≡ true
     → number_behind letters (lower word) ≡ spelled (drop (length letters) word)
-number-behind letters word h = behind_at true letters word (ap (λ xs. bytes_eq xs letters) (take-map to_ascii_lowercase (length letters) word) ∙ h)
+number-behind letters word h =
+    behind_at true letters word (ap (λ xs. bytes_eq xs letters) (take-map to_ascii_lowercase (length letters) word) ∙ h)
 
+-- a word that begins with other letters has no number behind them
 pub none-behind : (letters word : List ℕ) → bytes_eq (lower (take (length letters) word)) letters ≡ false
     → number_behind letters (lower word) ≡ None
-none-behind letters word h = behind_at false letters word (ap (λ xs. bytes_eq xs letters) (take-map to_ascii_lowercase (length letters) word) ∙ h)
+none-behind letters word h =
+    behind_at false letters word
+    (ap (λ xs. bytes_eq xs letters) (take-map to_ascii_lowercase (length letters) word) ∙ h)
 
 -- a word shorter than the letters
 pub none-shorter : (letters word : List ℕ) → length word < length letters → number_behind letters (lower word) ≡ None
 none-shorter letters word h = behind_at _ letters word refl ∙ at _ refl
   where
-    at : (b : Bool) → bytes_eq (take (length letters) (lower word)) letters ≡ b → cond b (spelled (drop (length letters) word)) None ≡ None
+    at : (b : Bool) → bytes_eq (take (length letters) (lower word)) letters ≡ b
+        → cond b (spelled (drop (length letters) word)) None ≡ None
     at false e = refl
     at true e =
         let same = ap length ((bytes_eq-Decides (take (length letters) (lower word)) letters).0 e) in

@@ -2,15 +2,22 @@
 use Rattle.std.proofs.Common.{◌≡◌, ℕ, true, cond, eqb, refl, ap, sym, ◌∙◌}
 use Rattle.std.proofs.lemmas.Bool.{eqb-true, eq-eqb, and_parts}
 use Rattle.keymap_core.specs.declared.action.Modifier.{Modifier}
-use Rattle.keymap_core.specs.declared.action.Modifier.TheVariants.{LeftShift, RightShift, LeftControl, RightControl, LeftAlt, RightAlt, AltShift, Meta}
+use Rattle.keymap_core.specs.declared.action.Modifier.TheVariants.{LeftShift, RightShift, LeftControl, RightControl}
+use Rattle.keymap_core.specs.declared.action.Modifier.TheVariants.{LeftAlt, RightAlt, AltShift, Meta}
 use Rattle.keymap_core.specs.declared.action.Lock.{Lock}
 use Rattle.keymap_core.specs.declared.action.Lock.TheVariants.{Caps, Num, Scroll, Alt}
 use Rattle.keymap_core.specs.declared.action.Action.{Action}
 use Rattle.keymap_core.specs.declared.action.Action.TheVariants as act
 use Rattle.keymap_core.specs.Actions.{modifier_index, lock_index, action_kind, action_number, same_action}
 
+-- the modifier of an index
 abbrev modifier_of : ℕ → Modifier
-modifier_of i = cond (eqb i 0) LeftShift (cond (eqb i 1) RightShift (cond (eqb i 2) LeftControl (cond (eqb i 3) RightControl (cond (eqb i 4) LeftAlt (cond (eqb i 5) RightAlt (cond (eqb i 6) AltShift (Meta)))))))
+modifier_of i =
+    cond (eqb i 0) LeftShift
+    (cond (eqb i 1) RightShift
+    (cond (eqb i 2) LeftControl
+    (cond (eqb i 3) RightControl
+    (cond (eqb i 4) LeftAlt (cond (eqb i 5) RightAlt (cond (eqb i 6) AltShift (Meta)))))))
 
 modifier_of-index : (m : Modifier) → modifier_of (modifier_index m) ≡ m
 modifier_of-index LeftShift = refl
@@ -22,6 +29,7 @@ modifier_of-index RightAlt = refl
 modifier_of-index AltShift = refl
 modifier_of-index Meta = refl
 
+-- the lock of an index
 abbrev lock_of : ℕ → Lock
 lock_of i = cond (eqb i 0) Caps (cond (eqb i 1) Num (cond (eqb i 2) Scroll (Alt)))
 
@@ -31,9 +39,29 @@ lock_of-index Num = refl
 lock_of-index Scroll = refl
 lock_of-index Alt = refl
 
+-- the action of a kind and a number
 abbrev action_of : ℕ → ℕ → Action
-action_of i n = cond (eqb i 0) act.Nop (cond (eqb i 1) (act.Mod (modifier_of n)) (cond (eqb i 2) (act.Lock (lock_of n)) (cond (eqb i 3) act.BackTab (cond (eqb i 4) act.NextScreen (cond (eqb i 5) act.PreviousScreen (cond (eqb i 6) (act.Screen n) (cond (eqb i 7) (act.Function n) (cond (eqb i 8) (act.DeadKey n) (cond (eqb i 9) act.Boot (cond (eqb i 10) act.Debug (cond (eqb i 11) act.Suspend (cond (eqb i 12) act.Saver (cond (eqb i 13) act.Standby (cond (eqb i 14) act.Panic (cond (eqb i 15) act.Halt (cond (eqb i 16) act.PowerDown act.Paste))))))))))))))))
+action_of i n =
+    cond (eqb i 0) act.Nop
+    (cond (eqb i 1) (act.Mod (modifier_of n))
+    (cond (eqb i 2) (act.Lock (lock_of n))
+    (cond (eqb i 3) act.BackTab
+    (cond (eqb i 4) act.NextScreen
+    (cond (eqb i 5) act.PreviousScreen
+    (cond (eqb i 6) (act.Screen n)
+    (cond (eqb i 7) (act.Function n)
+    (cond (eqb i 8) (act.DeadKey n)
+    (cond (eqb i 9) act.Boot
+    (cond (eqb i 10) act.Debug
+    (cond (eqb i 11) act.Suspend
+    (cond (eqb i 12) act.Saver
+    (cond (eqb i 13) act.Standby
+    (cond (eqb i 14) act.Panic
+    (cond (eqb i 15) act.Halt
+    (cond (eqb i 16) act.PowerDown
+    act.Paste))))))))))))))))
 
+-- an action is that of its kind and number
 action_of-parts : (a : Action) → action_of (action_kind a) (action_number a) ≡ a
 action_of-parts act.Nop = refl
 action_of-parts (act.Mod m) = ap act.Mod (modifier_of-index m)
@@ -54,12 +82,17 @@ action_of-parts act.Halt = refl
 action_of-parts act.PowerDown = refl
 action_of-parts act.Paste = refl
 
+-- where the test passes, the actions are the same
 pub same_action-true : (a b : Action) → same_action a b ≡ true → a ≡ b
 same_action-true a b e =
-    let p : (eqb (action_kind a) (action_kind b) ≡ true) × (eqb (action_number a) (action_number b) ≡ true) = and_parts _ _ e in
+    let p : (eqb (action_kind a) (action_kind b) ≡ true) × (eqb (action_number a) (action_number b) ≡ true) =
+    and_parts _ _ e in
     let i : action_kind a ≡ action_kind b = eqb-true _ _ p.0 in
     let n : action_number a ≡ action_number b = eqb-true _ _ p.1 in
-    sym (action_of-parts a) ∙ ap (λ x. action_of x (action_number a)) i ∙ ap (λ x. action_of (action_kind b) x) n ∙ action_of-parts b
+    sym (action_of-parts a) ∙ ap (λ x. action_of x (action_number a)) i ∙ ap (λ x. action_of (action_kind b) x) n
+    ∙ action_of-parts b
 
+-- each action passes the test with itself
 pub same_action-refl : (a : Action) → same_action a a ≡ true
-same_action-refl a = rw (eq-eqb (action_kind a) (action_kind a) refl, eq-eqb (action_number a) (action_number a) refl) refl
+same_action-refl a =
+    rw (eq-eqb (action_kind a) (action_kind a) refl, eq-eqb (action_number a) (action_number a) refl) refl

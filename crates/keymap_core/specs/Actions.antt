@@ -1,5 +1,6 @@
 -- The actions of a keymap: each with its code in a table and its name.
-use Rattle.std.specs.Prelude.{◌≡◌, ℕ, ◌+◌, ◌-◌, ◌/◌, ◌%◌, ◌<◌, ◌≤◌, ◌==◌, nat_le, List, [], ◌∷◌, ◌++◌, codes, map, Option, Some, None, slice_index_or, if◌then◌else◌, ◌&&◌, ◌⊎◌, Bool}
+use Rattle.std.specs.Prelude.{◌≡◌, ℕ, ◌+◌, ◌-◌, ◌/◌, ◌%◌, ◌<◌, ◌≤◌, ◌==◌, nat_le, List, [], ◌∷◌, ◌++◌, codes, map}
+use Rattle.std.specs.Prelude.{Option, Some, None, slice_index_or, if◌then◌else◌, ◌&&◌, ◌⊎◌, Bool}
 use Rattle.std.specs.List.{find}
 use Rattle.keymap_core.specs.Numbers.{accent_limit}
 use Rattle.keymap_core.specs.declared.action.Action.{Action}
@@ -25,7 +26,8 @@ two_digits n = (48 + n / 10) ∷ (48 + n % 10) ∷ []
 -- the names of the accents, in the order of their index
 abbrev pub accent_names : List (List ℕ)
 accent_names =
-    codes "dgra" ∷ codes "dacu" ∷ codes "dcir" ∷ codes "dtil" ∷ codes "dmac" ∷ codes "dbre" ∷ codes "ddot" ∷ codes "duml"
+    codes "dgra" ∷ codes "dacu" ∷ codes "dcir" ∷ codes "dtil" ∷ codes "dmac" ∷ codes "dbre" ∷ codes "ddot"
+    ∷ codes "duml"
     ∷ codes "dsla" ∷ codes "drin" ∷ codes "dced" ∷ codes "dapo" ∷ codes "ddac" ∷ codes "dogo" ∷ codes "dcar" ∷ []
 
 -- the table of actions
@@ -89,7 +91,8 @@ plain_actions =
 -- the dead keys, in the order of their accents
 abbrev pub dead_keys : List Action
 dead_keys =
-    a.DeadKey 0 ∷ a.DeadKey 1 ∷ a.DeadKey 2 ∷ a.DeadKey 3 ∷ a.DeadKey 4 ∷ a.DeadKey 5 ∷ a.DeadKey 6 ∷ a.DeadKey 7 ∷ a.DeadKey 8
+    a.DeadKey 0 ∷ a.DeadKey 1 ∷ a.DeadKey 2 ∷ a.DeadKey 3 ∷ a.DeadKey 4 ∷ a.DeadKey 5 ∷ a.DeadKey 6 ∷ a.DeadKey 7
+    ∷ a.DeadKey 8
     ∷ a.DeadKey 9 ∷ a.DeadKey 10 ∷ a.DeadKey 11 ∷ a.DeadKey 12 ∷ a.DeadKey 13 ∷ a.DeadKey 14 ∷ []
 
 -- the number is in the range, both ends included

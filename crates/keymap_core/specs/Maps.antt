@@ -1,5 +1,5 @@
--- A keymap as the lists of its defined entries and accents: what a contract sees of it. Past the last defined entry each slot
--- is undefined, and past the last defined accent each is blank.
+-- A keymap as the lists of its defined entries and accents: what a contract sees of it. Past the last defined entry
+-- each slot is undefined, and past the last defined accent each is blank.
 use Rattle.std.specs.Prelude.{ℕ, ◌+◌, ◌-◌, List, ◌++◌, length, replicate, slice_get, slice_set, slice_index_or, Option}
 use Rattle.keymap_core.specs.Accents.{AccentValue, blank}
 use Rattle.keymap_core.specs.Numbers.{column_count}

@@ -23,7 +23,9 @@ abbrev pub StopsIn : Option (List ℕ) → Option (List ℕ) → List ℕ → �
 StopsIn start now text count = (count < length text) × Appends start now (take count text)
 
 -- Whatever text was gathered, that text with the piece is gathered now, or the writer failed within it.
-abbrev pub Pushes : {X : Type 0} → Option (List ℕ) → Option (List ℕ) → StreamValue → StreamValue → List ℕ → Result X WriteFault → Type 0
+abbrev pub Pushes : {X : Type 0} → Option (List ℕ) → Option (List ℕ) → StreamValue → StreamValue → List ℕ
+    → Result X WriteFault → Type 0
 Pushes old new before after piece r =
-    (start : Option (List ℕ)) (text : List ℕ) → Gathers start old before text → MatchResult r (λ _. Gathers start new after (text ++ piece))
+    (start : Option (List ℕ)) (text : List ℕ) → Gathers start old before text
+    → MatchResult r (λ _. Gathers start new after (text ++ piece))
     (λ f. StopsIn start new (text ++ piece) f.written)

@@ -248,7 +248,8 @@ impl AccentIndex {
     }
 }
 
-/// What a key does other than to give a character. The actions that join a modifier with the alt lock aren't among them.
+/// What a key does other than to give a character. The actions that join a modifier with the alt lock aren't among
+/// them.
 #[derive(Clone, Copy, Debug, PartialEq, Eq)]
 pub enum Action {
     Nop,

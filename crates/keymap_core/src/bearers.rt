@@ -3,7 +3,9 @@ ghost use Rattle.std.specs.Prelude.{◌≡◌, ◌<◌, ◌≤◌};
 ghost use Rattle.keymap_core.specs.Maps.{MapValue};
 ghost use Rattle.keymap_core.specs.Numbers.{key_count};
 ghost use Rattle.keymap_core.specs.Actions.{holding_action};
-ghost use Rattle.keymap_core.specs.Borne.{is_cell_of_action, has_in_slot as has_in_slot_of, has_in_half as has_in_half_of, is_upper_live as is_upper_live_of, is_borne as is_borne_of};
+ghost use Rattle.keymap_core.specs.Borne.{is_cell_of_action, has_in_slot as has_in_slot_of};
+ghost use Rattle.keymap_core.specs.Borne.{has_in_half as has_in_half_of, is_upper_live as is_upper_live_of};
+ghost use Rattle.keymap_core.specs.Borne.{is_borne as is_borne_of};
 
 use crate::action::{Holding, Lock, Modifier};
 use crate::entry::Cell;
@@ -54,8 +56,8 @@ fn is_upper_live_in<K: Keymap>(map: &K) -> bool
         || has_in_half(map, Holding::Lock(Lock::Alt), 0)
 }
 
-/// Whether some key bears the holding action, in a cell of its slot or, where the slots 128 to 255 are live, of the slot
-/// 128 higher.
+/// Whether some key bears the holding action, in a cell of its slot or, where the slots 128 to 255 are live, of the
+/// slot 128 higher.
 pub fn is_borne_in<K: Keymap>(map: &K, holding: Holding) -> bool
     ensures { (m : MapValue) → K.shows map.now m → result ≡ is_borne_of m holding }
 {
@@ -71,8 +73,8 @@ impl KeyMap {
         is_upper_live_in(self)
     }
 
-    /// Whether some key bears the holding action, in a cell of its slot or, where the slots 128 to 255 are live, of the slot
-    /// 128 higher.
+    /// Whether some key bears the holding action, in a cell of its slot or, where the slots 128 to 255 are live, of the
+    /// slot 128 higher.
     pub fn is_borne(&self, holding: Holding) -> bool
         ensures { result ≡ is_borne_of self.now holding }
     {

@@ -1,5 +1,5 @@
-//! The devices that bytes are read from and written to. Their failures are kept, so that one that was passed over can be
-//! seen afterwards.
+//! The devices that bytes are read from and written to. Their failures are kept, so that one that was passed over can
+//! be seen afterwards.
 ghost use Rattle.std.specs.Prelude.{◌≡◌, ℕ, ◌<◌, ◌≤◌, ◌||◌, Bool, List, length, take, IfOk, OnErr, OnOk, true, is_err};
 ghost use Rattle.std.specs.Io.KnownBytes.{Consumes, IsAtEnd, WriteAppends};
 ghost use Rattle.std.specs.Prelude.{Option};

@@ -6,7 +6,8 @@ ghost use Rattle.keymap_core.specs.Actions.{IsAction, IsUnusedCode, code_of, nam
 ghost use Rattle.keymap_core.specs.Bearers.{Bears, IsUpperLive};
 ghost use Rattle.keymap_core.specs.Bounds.{IsMap};
 ghost use Rattle.keymap_core.specs.Borne.{is_borne, is_upper_live};
-ghost use Rattle.keymap_core.specs.Maps.{MapValue, undefined, n_keys_of, n_accs_of, entry_at, accent_or_blank, with_entry, with_accent};
+ghost use Rattle.keymap_core.specs.Maps.{MapValue, undefined, n_keys_of, n_accs_of, entry_at, accent_or_blank};
+ghost use Rattle.keymap_core.specs.Maps.{with_entry, with_accent};
 ghost use Rattle.keymap_core.specs.Names.{named_of, combined_names};
 ghost use Rattle.keymap_core.specs.Numbers.{key_count};
 ghost use Rattle.keymap_core.specs.declared.action.Action.{Action};
@@ -104,19 +105,24 @@ pub fn accents_past_the_last_are_blank()
 /// slot plus one.
 pub fn an_entry_is_set_in_its_slot()
     ensures here { (map : MapValue) (slot : ℕ) (entry : Entry) → entry_at (with_entry map slot entry) slot ≡ entry }
-    ensures others { (map : MapValue) (slot other : ℕ) (entry : Entry) → other ≢ slot → entry_at (with_entry map slot entry) other ≡ entry_at map other }
-    ensures count { (map : MapValue) (slot : ℕ) (entry : Entry) → n_keys_of (with_entry map slot entry) ≡ max (n_keys_of map) (slot + 1) }
+    ensures others { (map : MapValue) (slot other : ℕ) (entry : Entry) → other ≢ slot
+        → entry_at (with_entry map slot entry) other ≡ entry_at map other }
+    ensures count { (map : MapValue) (slot : ℕ) (entry : Entry)
+        → n_keys_of (with_entry map slot entry) ≡ max (n_keys_of map) (slot + 1) }
 {}
 
 /// The same of an accent.
 pub fn an_accent_is_set_at_its_index()
-    ensures here { (map : MapValue) (index : ℕ) (accent : AccentValue) → accent_or_blank (with_accent map index accent) index ≡ accent }
-    ensures others { (map : MapValue) (index other : ℕ) (accent : AccentValue) → other ≢ index → accent_or_blank (with_accent map index accent) other ≡ accent_or_blank map other }
-    ensures count { (map : MapValue) (index : ℕ) (accent : AccentValue) → n_accs_of (with_accent map index accent) ≡ max (n_accs_of map) (index + 1) }
+    ensures here { (map : MapValue) (index : ℕ) (accent : AccentValue)
+        → accent_or_blank (with_accent map index accent) index ≡ accent }
+    ensures others { (map : MapValue) (index other : ℕ) (accent : AccentValue) → other ≢ index
+        → accent_or_blank (with_accent map index accent) other ≡ accent_or_blank map other }
+    ensures count { (map : MapValue) (index : ℕ) (accent : AccentValue)
+        → n_accs_of (with_accent map index accent) ≡ max (n_accs_of map) (index + 1) }
 {}
 
-/// Each map holds at most 256 entries of eight cells and 15 accents of 52 pairs, each cell a scalar value or an action of
-/// the table, and no base 0.
+/// Each map holds at most 256 entries of eight cells and 15 accents of 52 pairs, each cell a scalar value or an action
+/// of the table, and no base 0.
 pub fn every_keymap_is_within_the_bounds(map: &KeyMap)
     ensures { IsMap map.now }
 {

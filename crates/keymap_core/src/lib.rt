@@ -2,9 +2,9 @@
 //!
 //! A [`KeyMap`] is `struct keymap` and `struct accentmap` of sys/kbio.h: entries of eight cells and a lock flag, and
 //! accents with their pairs. A cell is a character or an [`Action`], which has a code in tables and a name in texts. A
-//! contract sees a map as the lists of its defined entries and accents, and specs/ states on these lists which slots are
-//! live and which keys bear which modifiers and locks. The crates for texts, tables and the translation stand on these
-//! values.
+//! contract sees a map as the lists of its defined entries and accents, and specs/ states on these lists which slots
+//! are live and which keys bear which modifiers and locks. The crates for texts, tables and the translation stand on
+//! these values.
 //!
 //! [`Read`] and [`Write`] are the devices of all calls that read or write: their laws say which bytes a call took, and
 //! that a failure is never taken for an end. A caller learns of each call how many bytes were taken before a fault.

@@ -165,9 +165,11 @@ impl PartialEq for KeyMap {
     ghost use Rattle.keymap_core.specs.contracts.entry.EntryPartialEq.TheImpl.Laws.{laws-law as entry-laws};
     ghost use Rattle.keymap_core.specs.contracts.accent.AccentPartialEq.TheImpl.Laws.{laws-law as accent-laws};
 
-    ghost eq = { eq_of_both (on (λ m. m.entries) (pointwise ⟦<Entry as PartialEq>⟧.eq)) (on (λ m. m.accents) (pointwise ⟦<Accent as PartialEq>⟧.eq)) };
+    ghost eq = { eq_of_both (on (λ m. m.entries) (pointwise ⟦<Entry as PartialEq>⟧.eq))
+        (on (λ m. m.accents) (pointwise ⟦<Accent as PartialEq>⟧.eq)) };
 
-    ghost laws = { and_per (on_per (λ m. m.entries) (lists_per entry-laws)) (on_per (λ m. m.accents) (lists_per accent-laws)) };
+    ghost laws = { and_per (on_per (λ m. m.entries) (lists_per entry-laws))
+        (on_per (λ m. m.accents) (lists_per accent-laws)) };
 
     fn eq(&self, other: &KeyMap) -> bool {
         self.entries == other.entries && self.accents == other.accents
@@ -180,5 +182,6 @@ impl Eq for KeyMap {
     ghost use Rattle.keymap_core.specs.contracts.entry.EntryEq.TheImpl.Laws.{laws-law as entry-laws};
     ghost use Rattle.keymap_core.specs.contracts.accent.AccentEq.TheImpl.Laws.{laws-law as accent-laws};
 
-    ghost laws = { and_equiv (on_equiv (λ m. m.entries) (lists_equiv entry-laws)) (on_equiv (λ m. m.accents) (lists_equiv accent-laws)) };
+    ghost laws = { and_equiv (on_equiv (λ m. m.entries) (lists_equiv entry-laws))
+        (on_equiv (λ m. m.accents) (lists_equiv accent-laws)) };
 }

@@ -1,5 +1,6 @@
 //! Writing through a buffer of fixed size, so that a text of many small pieces costs few writes.
-ghost use Rattle.std.specs.Prelude.{◌≡◌, ℕ, ◌+◌, ◌^◌, ◌<◌, ◌≤◌, ◌||◌, [], ◌++◌, List, Option, length, is_err, OnOk, OnErr};
+ghost use Rattle.std.specs.Prelude.{◌≡◌, ℕ, ◌+◌, ◌^◌, ◌<◌, ◌≤◌, ◌||◌, [], ◌++◌, List, Option, length, is_err, OnOk};
+ghost use Rattle.std.specs.Prelude.{OnErr};
 ghost use Rattle.keymap_core.specs.Devices.{WritesText, PutsPiece};
 ghost use Rattle.keymap_core.specs.Streams.{Gathers, Pushes, size_of};
 
@@ -72,7 +73,8 @@ impl Stream {
     /// Writes what waits. The answer is how many bytes were written by then.
     fn flush<W: Write>(&self, writer: &mut W) -> Result<u64, WriteFault>
         requires { size_of self.now < 2 ^ 64 }
-        ensures bytes { PutsPiece (λ f. f.written) (W.contents writer.old) (W.contents writer.new) self.now.written self.now.waiting result }
+        ensures bytes { PutsPiece (λ f. f.written) (W.contents writer.old) (W.contents writer.new) self.now.written
+            self.now.waiting result }
         ensures failed { W.has_failed writer.new ≡ (is_err result || W.has_failed writer.old) }
     {
         put(writer, self.written, &self.bytes[..self.waiting])
@@ -98,7 +100,8 @@ impl Stream {
     /// Writes what is left of the text.
     pub fn finish<W: Write>(&self, writer: &mut W) -> Result<(), WriteFault>
         requires { size_of self.now < 2 ^ 64 }
-        ensures bytes { (start : Option (List ℕ)) (text : List ℕ) → Gathers start (W.contents writer.old) self.now text → WritesText (λ f. f.written) start (W.contents writer.new) text result }
+        ensures bytes { (start : Option (List ℕ)) (text : List ℕ) → Gathers start (W.contents writer.old) self.now text
+            → WritesText (λ f. f.written) start (W.contents writer.new) text result }
         ensures failed { W.has_failed writer.new ≡ (is_err result || W.has_failed writer.old) }
     {
         self.flush(writer)?;

@@ -1,5 +1,6 @@
 -- The image of a map that fits: it has no fault, and gives the map.
-use Rattle.std.proofs.Common.{◌≡◌, ℕ, ◌+◌, ◌-◌, ◌*◌, ◌≤◌, List, ◌++◌, length, take, drop, get_or, None, sym, ap, ◌∙◌, subst, arith, inl, inr, append_assoc, length-append}
+use Rattle.std.proofs.Common.{◌≡◌, ℕ, ◌+◌, ◌-◌, ◌*◌, ◌≤◌, List, ◌++◌, length, take, drop, get_or, None, sym, ap, ◌∙◌}
+use Rattle.std.proofs.Common.{subst, arith, inl, inr, append_assoc, length-append}
 use Rattle.std.specs.Prelude.{All}
 use Rattle.std.specs.List.{flat_map}
 use Rattle.std.specs.Int.{to_le_bytes, w16}
@@ -15,12 +16,15 @@ use Rattle.keymap_tables.specs.Faults.{count_at, count_fault, slot_fault, accent
 use Rattle.keymap_tables.specs.Faults.{fault_at}
 use Rattle.keymap_tables.specs.Inner.Firsts.{HasNoFault}
 use Rattle.keymap_tables.specs.Fits.{EntryFits, AccentFits, FitsIn}
-use Rattle.keymap_tables.specs.Image.{image_in, count_bytes, slot_bytes, slots_bytes, accent_bytes, accents_bytes, zeros}
-use Rattle.keymap_tables.specs.Layouts.{part, pad_size, count_size, slot_size, slots_place, slots_size, n_accs_place, accents_place, accent_size, accents_size, file_size}
+use Rattle.keymap_tables.specs.Image.{image_in, count_bytes, slot_bytes, slots_bytes, accent_bytes, accents_bytes}
+use Rattle.keymap_tables.specs.Image.{zeros}
+use Rattle.keymap_tables.specs.Layouts.{part, pad_size, count_size, slot_size, slots_place, slots_size, n_accs_place}
+use Rattle.keymap_tables.specs.Layouts.{accents_place, accent_size, accents_size, file_size}
 use Rattle.keymap_tables.specs.declared.layout.Layout.{Layout}
 use Rattle.keymap_tables.specs.declared.layout.Layout.TheVariants.{Wide, Narrow}
 use Rattle.keymap_tables.proofs.AccentImages.{length-accent_bytes, accent_bytes-sound, same-accent}
-use Rattle.keymap_tables.proofs.Contents.{count-part, content-past, fault-content, sound-n_keys, sound-slots, sound-n_accs, sound-accents}
+use Rattle.keymap_tables.proofs.Contents.{count-part, content-past, fault-content, sound-n_keys, sound-slots}
+use Rattle.keymap_tables.proofs.Contents.{sound-n_accs, sound-accents}
 use Rattle.keymap_tables.proofs.Pads.{count-none}
 use Rattle.keymap_tables.proofs.RowImages.{IsSized, length-rows, sound-rows, same-rows, zeros-behind}
 use Rattle.keymap_tables.proofs.Sizes.{length-count, slot-some, accent-some, slots-whole, accents-whole}
@@ -32,115 +36,194 @@ count-again : (l : Layout) (n : ℕ) → n ≤ 256 → count_at (count_bytes l n
 count-again Wide n few = from_le_bytes-to_le_bytes_2 n (omega arith)
 count-again Narrow n few = from_le_bytes-to_le_bytes_2 n (omega arith)
 
-count-sound : (l : Layout) (most n : ℕ) → n ≤ most → most ≤ 256 → HasNoFault (count_fault most (count_bytes l n)) (count_size l)
+-- the bytes of a count within its bound have no fault
+count-sound : (l : Layout) (most n : ℕ) → n ≤ most → most ≤ 256
+    → HasNoFault (count_fault most (count_bytes l n)) (count_size l)
 count-sound l most n few small =
-    count-none most (count_bytes l n) (count_size l) (omega (arith, count-again l n (omega arith))) (λ p past below. zeros-behind (to_le_bytes w16 n) (pad_size l) p past)
+    count-none most (count_bytes l n) (count_size l) (omega (arith, count-again l n (omega arith)))
+    (λ p past below. zeros-behind (to_le_bytes w16 n) (pad_size l) p past)
 
 -- what is known of the entries and the accents of a map that fits
 abbrev pub IsGoodEntry : Layout → Entry → Type 0
 IsGoodEntry l entry = IsEntry entry × EntryFits l entry
 
+-- an accent of known characters that fits
 abbrev pub IsGoodAccent : Layout → AccentValue → Type 0
 IsGoodAccent l accent = IsAccent accent × AccentFits l accent
 
+-- each entry of a map that fits is known and fits
 good-entries : (l : Layout) (m : MapValue) → IsMap m → FitsIn l m → All (IsGoodEntry l) m.entries
-good-entries l m is fits k d below = (All-get_or IsEntry m.entries k d below is.entries, All-get_or (EntryFits l) m.entries k d below fits.entries)
+good-entries l m is fits k d below =
+    (All-get_or IsEntry m.entries k d below is.entries, All-get_or (EntryFits l) m.entries k d below fits.entries)
 
+-- each accent of a map that fits is known and fits
 good-accents : (l : Layout) (m : MapValue) → IsMap m → FitsIn l m → All (IsGoodAccent l) m.accents
-good-accents l m is fits k d below = (All-get_or IsAccent m.accents k d below is.accents, All-get_or (AccentFits l) m.accents k d below fits.accents)
+good-accents l m is fits k d below =
+    (All-get_or IsAccent m.accents k d below is.accents, All-get_or (AccentFits l) m.accents k d below fits.accents)
 
-pub slots-sized : (l : Layout) (entries : List Entry) → All IsEntry entries → IsSized (slot_bytes l) (slot_size l) entries
-slots-sized l entries known k d below = length-slot_bytes l (get_or entries k d) (All-get_or IsEntry entries k d below known)
+-- the bytes of each entry have the size of a slot
+pub slots-sized : (l : Layout) (entries : List Entry) → All IsEntry entries
+    → IsSized (slot_bytes l) (slot_size l) entries
+slots-sized l entries known k d below =
+    length-slot_bytes l (get_or entries k d) (All-get_or IsEntry entries k d below known)
 
-pub accents-sized : (l : Layout) (accents : List AccentValue) → All IsAccent accents → IsSized (accent_bytes l) (accent_size l) accents
-accents-sized l accents known k d below = length-accent_bytes l (get_or accents k d) (All-get_or IsAccent accents k d below known)
+-- the bytes of each accent have the size of an accent
+pub accents-sized : (l : Layout) (accents : List AccentValue) → All IsAccent accents
+    → IsSized (accent_bytes l) (accent_size l) accents
+accents-sized l accents known k d below =
+    length-accent_bytes l (get_or accents k d) (All-get_or IsAccent accents k d below known)
 
+-- the slots of a map have their size
 length-slots : (l : Layout) (m : MapValue) → IsMap m → length (slots_bytes l m.entries) ≡ slots_size l
 length-slots l m is =
     length-append (flat_map (slot_bytes l) m.entries) (zeros (slot_size l * (256 - length m.entries)))
-    ∙ omega (arith, slots-whole l (length m.entries) is.few_entries, length-rows (slot_bytes l) (slot_size l) m.entries (slots-sized l m.entries is.entries), length-replicate {A = ℕ} (slot_size l * (256 - length m.entries)) 0)
+    ∙ omega (
+      arith,
+      slots-whole l (length m.entries) is.few_entries,
+      length-rows (slot_bytes l) (slot_size l) m.entries (slots-sized l m.entries is.entries),
+      length-replicate {A = ℕ} (slot_size l * (256 - length m.entries)) 0,
+    )
 
+-- the accents of a map have their size
 length-accents : (l : Layout) (m : MapValue) → IsMap m → length (accents_bytes l m.accents) ≡ accents_size l
 length-accents l m is =
     length-append (flat_map (accent_bytes l) m.accents) (zeros (accent_size l * (15 - length m.accents)))
-    ∙ omega (arith, accents-whole l (length m.accents) is.few_accents, length-rows (accent_bytes l) (accent_size l) m.accents (accents-sized l m.accents is.accents), length-replicate {A = ℕ} (accent_size l * (15 - length m.accents)) 0)
+    ∙ omega (
+      arith,
+      accents-whole l (length m.accents) is.few_accents,
+      length-rows (accent_bytes l) (accent_size l) m.accents (accents-sized l m.accents is.accents),
+      length-replicate {A = ℕ} (accent_size l * (15 - length m.accents)) 0,
+    )
 
 -- Four parts, cut out of their whole.
 four : (a b c d : List ℕ) → a ++ b ++ c ++ d ≡ a ++ (b ++ (c ++ d))
 four a b c d = simp append_assoc
 
+-- the first of four parts, cut out by its length
 part-1 : (a b c d : List ℕ) (i : ℕ) → length a ≡ i → take i (a ++ b ++ c ++ d) ≡ a
 part-1 a b c d i first = ap (take i) (four a b c d) ∙ take_at a (b ++ (c ++ d)) i first
 
+-- the second part, cut out by the lengths of the first two
 part-2 : (a b c d : List ℕ) (i j : ℕ) → length a ≡ i → length b ≡ j → part (a ++ b ++ c ++ d) i j ≡ b
 part-2 a b c d i j first second =
-    ap (λ (v : List ℕ). take j (drop i v)) (four a b c d) ∙ ap (take j) (drop_at a (b ++ (c ++ d)) i first) ∙ take_at b (c ++ d) j second
+    ap (λ (v : List ℕ). take j (drop i v)) (four a b c d) ∙ ap (take j) (drop_at a (b ++ (c ++ d)) i first)
+    ∙ take_at b (c ++ d) j second
 
-part-3 : (a b c d : List ℕ) (i j k : ℕ) → length a ≡ i → length b ≡ j → length c ≡ k → part (a ++ b ++ c ++ d) (i + j) k ≡ c
+-- the third part, cut out by the lengths of the first three
+part-3 : (a b c d : List ℕ) (i j k : ℕ) → length a ≡ i → length b ≡ j → length c ≡ k
+    → part (a ++ b ++ c ++ d) (i + j) k ≡ c
 part-3 a b c d i j k first second third =
     let behind : drop (i + j) (a ++ (b ++ (c ++ d))) ≡ c ++ d =
-    sym (drop-drop j i (a ++ (b ++ (c ++ d)))) ∙ ap (drop j) (drop_at a (b ++ (c ++ d)) i first) ∙ drop_at b (c ++ d) j second in
+    sym (drop-drop j i (a ++ (b ++ (c ++ d)))) ∙ ap (drop j) (drop_at a (b ++ (c ++ d)) i first)
+    ∙ drop_at b (c ++ d) j second in
     ap (λ (v : List ℕ). take k (drop (i + j) v)) (four a b c d) ∙ ap (take k) behind ∙ take_at c d k third
 
+-- the fourth part, cut out behind the other three
 part-4 : (a b c d : List ℕ) (i l : ℕ) → length (a ++ b ++ c) ≡ i → length d ≡ l → part (a ++ b ++ c ++ d) i l ≡ d
 part-4 a b c d i l front last =
     ap (take l) (drop_at (a ++ b ++ c) d i front) ∙ take_all l d (omega arith)
 
-front-long : (l : Layout) (m : MapValue) → IsMap m → length (count_bytes l (length m.entries) ++ slots_bytes l m.entries ++ count_bytes l (length m.accents)) ≡ accents_place l
+-- the parts before the accents reach to the accents' place
+front-long : (l : Layout) (m : MapValue) → IsMap m
+    → length (count_bytes l (length m.entries) ++ slots_bytes l m.entries ++ count_bytes l (length m.accents))
+    ≡ accents_place l
 front-long l m is =
     length-append (count_bytes l (length m.entries) ++ slots_bytes l m.entries) (count_bytes l (length m.accents))
-    ∙ omega (arith, length-append (count_bytes l (length m.entries)) (slots_bytes l m.entries), length-slots l m is, length-count l (length m.entries), length-count l (length m.accents))
+    ∙ omega (
+      arith,
+      length-append (count_bytes l (length m.entries)) (slots_bytes l m.entries),
+      length-slots l m is,
+      length-count l (length m.entries),
+      length-count l (length m.accents),
+    )
 
+-- an image has the size of a file
 pub length-image : (l : Layout) (m : MapValue) → IsMap m → length (image_in l m) ≡ file_size l
 length-image l m is =
-    ap length (image-parts l m) ∙ length-append (count_bytes l (length m.entries) ++ slots_bytes l m.entries ++ count_bytes l (length m.accents)) (accents_bytes l m.accents)
+    ap length (image-parts l m)
+    ∙ length-append (count_bytes l (length m.entries) ++ slots_bytes l m.entries ++ count_bytes l (length m.accents))
+    (accents_bytes l m.accents)
     ∙ omega (arith, front-long l m is, length-accents l m is)
 
 -- The parts of an image.
-pub image-n_keys : (l : Layout) (m : MapValue) → IsMap m → take (slots_place l) (image_in l m) ≡ count_bytes l (length m.entries)
+pub image-n_keys : (l : Layout) (m : MapValue) → IsMap m
+    → take (slots_place l) (image_in l m) ≡ count_bytes l (length m.entries)
 image-n_keys l m is =
-    ap (take (slots_place l)) (image-parts l m) ∙ part-1 (count_bytes l (length m.entries)) (slots_bytes l m.entries) (count_bytes l (length m.accents)) (accents_bytes l m.accents) (slots_place l) (length-count l (length m.entries))
+    ap (take (slots_place l)) (image-parts l m)
+    ∙ part-1 (count_bytes l (length m.entries)) (slots_bytes l m.entries) (count_bytes l (length m.accents))
+    (accents_bytes l m.accents) (slots_place l) (length-count l (length m.entries))
 
-pub image-slots : (l : Layout) (m : MapValue) → IsMap m → part (image_in l m) (slots_place l) (slots_size l) ≡ slots_bytes l m.entries
+-- the bytes at the place of the slots are the map's slots
+pub image-slots : (l : Layout) (m : MapValue) → IsMap m
+    → part (image_in l m) (slots_place l) (slots_size l) ≡ slots_bytes l m.entries
 image-slots l m is =
     ap (λ (v : List ℕ). part v (slots_place l) (slots_size l)) (image-parts l m)
-    ∙ part-2 (count_bytes l (length m.entries)) (slots_bytes l m.entries) (count_bytes l (length m.accents)) (accents_bytes l m.accents) (slots_place l) (slots_size l) (length-count l (length m.entries)) (length-slots l m is)
+    ∙ part-2 (count_bytes l (length m.entries)) (slots_bytes l m.entries) (count_bytes l (length m.accents))
+    (accents_bytes l m.accents) (slots_place l) (slots_size l) (length-count l (length m.entries))
+    (length-slots l m is)
 
-pub image-n_accs : (l : Layout) (m : MapValue) → IsMap m → part (image_in l m) (n_accs_place l) (count_size l) ≡ count_bytes l (length m.accents)
+-- the bytes at the place of the second count are the number of accents
+pub image-n_accs : (l : Layout) (m : MapValue) → IsMap m
+    → part (image_in l m) (n_accs_place l) (count_size l) ≡ count_bytes l (length m.accents)
 image-n_accs l m is =
     ap (λ (v : List ℕ). part v (n_accs_place l) (count_size l)) (image-parts l m)
-    ∙ part-3 (count_bytes l (length m.entries)) (slots_bytes l m.entries) (count_bytes l (length m.accents)) (accents_bytes l m.accents) (slots_place l) (slots_size l) (count_size l) (length-count l (length m.entries)) (length-slots l m is) (length-count l (length m.accents))
+    ∙ part-3 (count_bytes l (length m.entries)) (slots_bytes l m.entries) (count_bytes l (length m.accents))
+    (accents_bytes l m.accents) (slots_place l) (slots_size l) (count_size l) (length-count l (length m.entries))
+    (length-slots l m is) (length-count l (length m.accents))
 
-pub image-accents : (l : Layout) (m : MapValue) → IsMap m → part (image_in l m) (accents_place l) (accents_size l) ≡ accents_bytes l m.accents
+-- the bytes at the place of the accents are the map's accents
+pub image-accents : (l : Layout) (m : MapValue) → IsMap m
+    → part (image_in l m) (accents_place l) (accents_size l) ≡ accents_bytes l m.accents
 image-accents l m is =
     ap (λ (v : List ℕ). part v (accents_place l) (accents_size l)) (image-parts l m)
-    ∙ part-4 (count_bytes l (length m.entries)) (slots_bytes l m.entries) (count_bytes l (length m.accents)) (accents_bytes l m.accents) (accents_place l) (accents_size l) (front-long l m is) (length-accents l m is)
+    ∙ part-4 (count_bytes l (length m.entries)) (slots_bytes l m.entries) (count_bytes l (length m.accents))
+    (accents_bytes l m.accents) (accents_place l) (accents_size l) (front-long l m is) (length-accents l m is)
 
+-- the first count read from an image is the number of entries
 pub n_keys-of : (l : Layout) (m : MapValue) → IsMap m → length m.entries ≡ count_at (image_in l m) 0
 n_keys-of l m is =
-    sym (sym (count-part (image_in l m) 0 (slots_place l) (omega arith)) ∙ ap (λ (v : List ℕ). count_at v 0) (image-n_keys l m is) ∙ count-again l (length m.entries) is.few_entries)
+    sym (sym (count-part (image_in l m) 0 (slots_place l) (omega arith))
+    ∙ ap (λ (v : List ℕ). count_at v 0) (image-n_keys l m is) ∙ count-again l (length m.entries) is.few_entries)
 
+-- the second count read from an image is the number of accents
 pub n_accs-of : (l : Layout) (m : MapValue) → IsMap m → length m.accents ≡ count_at (image_in l m) (n_accs_place l)
 n_accs-of l m is =
-    sym (sym (count-part (image_in l m) (n_accs_place l) (count_size l) (omega arith)) ∙ ap (λ (v : List ℕ). count_at v 0) (image-n_accs l m is) ∙ count-again l (length m.accents) (omega (arith, is.few_accents)))
+    sym (sym (count-part (image_in l m) (n_accs_place l) (count_size l) (omega arith))
+    ∙ ap (λ (v : List ℕ). count_at v 0) (image-n_accs l m is)
+    ∙ count-again l (length m.accents) (omega (arith, is.few_accents)))
 
 -- No image has a fault.
-content-sound : (l : Layout) (m : MapValue) → IsMap m → FitsIn l m → HasNoFault (content_fault l (image_in l m)) (file_size l)
+content-sound : (l : Layout) (m : MapValue) → IsMap m → FitsIn l m
+    → HasNoFault (content_fault l (image_in l m)) (file_size l)
 content-sound l m is fits =
-    let slots : HasNoFault (row_fault (slot_fault l) (slot_size l) (length m.entries) (slots_bytes l m.entries)) (slots_size l) =
-    λ p below. sound-rows (slot_bytes l) (slot_fault l) (slot_size l) m.entries (slot_size l * (256 - length m.entries)) undefined (slot-some l) (slots-sized l m.entries is.entries)
-    (λ k d inside. slot_bytes-sound l (get_or m.entries k d) (All-get_or IsEntry m.entries k d inside is.entries) (All-get_or (EntryFits l) m.entries k d inside fits.entries)) p in
-    let accents : HasNoFault (row_fault (accent_fault l) (accent_size l) (length m.accents) (accents_bytes l m.accents)) (accents_size l) =
-    λ p below. sound-rows (accent_bytes l) (accent_fault l) (accent_size l) m.accents (accent_size l * (15 - length m.accents)) blank (accent-some l) (accents-sized l m.accents is.accents)
-    (λ k d inside. accent_bytes-sound l (get_or m.accents k d) (All-get_or IsAccent m.accents k d inside is.accents) (All-get_or (AccentFits l) m.accents k d inside fits.accents)) p in
-    let upto_slots = sound-n_keys l (image_in l m) (subst (λ (v : List ℕ). HasNoFault (count_fault 256 v) (slots_place l)) (sym (image-n_keys l m is)) (count-sound l 256 (length m.entries) is.few_entries (omega arith))) in
+    let slots : HasNoFault (row_fault (slot_fault l) (slot_size l) (length m.entries) (slots_bytes l m.entries))
+    (slots_size l) =
+    λ p below. sound-rows (slot_bytes l) (slot_fault l) (slot_size l) m.entries (slot_size l * (256 - length m.entries))
+    undefined (slot-some l) (slots-sized l m.entries is.entries)
+    (λ k d inside. slot_bytes-sound l (get_or m.entries k d) (All-get_or IsEntry m.entries k d inside is.entries)
+    (All-get_or (EntryFits l) m.entries k d inside fits.entries)) p in
+    let accents : HasNoFault (row_fault (accent_fault l) (accent_size l) (length m.accents) (accents_bytes l m.accents))
+    (accents_size l) =
+    λ p below. sound-rows (accent_bytes l) (accent_fault l) (accent_size l) m.accents
+    (accent_size l * (15 - length m.accents)) blank (accent-some l) (accents-sized l m.accents is.accents)
+    (λ k d inside. accent_bytes-sound l (get_or m.accents k d) (All-get_or IsAccent m.accents k d inside is.accents)
+    (All-get_or (AccentFits l) m.accents k d inside fits.accents)) p in
+    let upto_slots =
+    sound-n_keys l (image_in l m)
+    (subst (λ (v : List ℕ). HasNoFault (count_fault 256 v) (slots_place l)) (sym (image-n_keys l m is))
+    (count-sound l 256 (length m.entries) is.few_entries (omega arith))) in
     let upto_n_accs = sound-slots l (image_in l m) (length m.entries) (n_keys-of l m is) upto_slots
-    (subst (λ (v : List ℕ). HasNoFault (row_fault (slot_fault l) (slot_size l) (length m.entries) v) (slots_size l)) (sym (image-slots l m is)) slots) in
+    (subst (λ (v : List ℕ). HasNoFault (row_fault (slot_fault l) (slot_size l) (length m.entries) v) (slots_size l))
+    (sym (image-slots l m is)) slots) in
     let upto_accents = sound-n_accs l (image_in l m) upto_n_accs
-    (subst (λ (v : List ℕ). HasNoFault (count_fault 15 v) (count_size l)) (sym (image-n_accs l m is)) (count-sound l 15 (length m.accents) is.few_accents (omega arith))) in
+    (subst (λ (v : List ℕ). HasNoFault (count_fault 15 v) (count_size l)) (sym (image-n_accs l m is))
+    (count-sound l 15 (length m.accents) is.few_accents (omega arith))) in
     sound-accents l (image_in l m) (length m.accents) (n_accs-of l m is) upto_accents
-    (subst (λ (v : List ℕ). HasNoFault (row_fault (accent_fault l) (accent_size l) (length m.accents) v) (accents_size l)) (sym (image-accents l m is)) accents)
+    (subst (λ (v : List ℕ).
+    HasNoFault (row_fault (accent_fault l) (accent_size l) (length m.accents) v) (accents_size l))
+    (sym (image-accents l m is)) accents)
 
+-- the image of a map that fits has no fault
 pub image-sound : (l : Layout) (m : MapValue) → IsMap m → FitsIn l m → (p : ℕ) → fault_at l (image_in l m) p ≡ None
 image-sound l m is fits p =
     elim (cases_lt p (file_size l)) [
@@ -152,15 +235,31 @@ image-sound l m is fits p =
 map_of : List Entry → List AccentValue → MapValue
 map_of entries accents = record { entries = entries; accents = accents }
 
-pub same-map : (l : Layout) (m n : MapValue) → IsMap m → FitsIn l m → IsMap n → FitsIn l n → image_in l m ≡ image_in l n → m ≡ n
+-- maps that fit are the same where their images are
+pub same-map : (l : Layout) (m n : MapValue) → IsMap m → FitsIn l m → IsMap n → FitsIn l n → image_in l m ≡ image_in l n
+    → m ≡ n
 unfolding map_of
 same-map l m n is fits also too same =
-    let n_keys : length m.entries ≡ length n.entries = n_keys-of l m is ∙ ap (λ (v : List ℕ). count_at v 0) same ∙ sym (n_keys-of l n also) in
-    let n_accs : length m.accents ≡ length n.accents = n_accs-of l m is ∙ ap (λ (v : List ℕ). count_at v (n_accs_place l)) same ∙ sym (n_accs-of l n also) in
-    let slots : slots_bytes l m.entries ≡ slots_bytes l n.entries = sym (image-slots l m is) ∙ ap (λ (v : List ℕ). part v (slots_place l) (slots_size l)) same ∙ image-slots l n also in
-    let accents : accents_bytes l m.accents ≡ accents_bytes l n.accents = sym (image-accents l m is) ∙ ap (λ (v : List ℕ). part v (accents_place l) (accents_size l)) same ∙ image-accents l n also in
-    let entries = same-rows (slot_bytes l) (slot_size l) (IsGoodEntry l) m.entries n.entries (zeros (slot_size l * (256 - length m.entries))) (zeros (slot_size l * (256 - length n.entries))) (same-entry l)
-    (slots-sized l m.entries is.entries) (slots-sized l n.entries also.entries) (good-entries l m is fits) (good-entries l n also too) n_keys slots in
-    let accented = same-rows (accent_bytes l) (accent_size l) (IsGoodAccent l) m.accents n.accents (zeros (accent_size l * (15 - length m.accents))) (zeros (accent_size l * (15 - length n.accents))) (same-accent l)
-    (accents-sized l m.accents is.accents) (accents-sized l n.accents also.accents) (good-accents l m is fits) (good-accents l n also too) n_accs accents in
+    let n_keys : length m.entries ≡ length n.entries =
+    n_keys-of l m is ∙ ap (λ (v : List ℕ). count_at v 0) same ∙ sym (n_keys-of l n also) in
+    let n_accs : length m.accents ≡ length n.accents =
+    n_accs-of l m is ∙ ap (λ (v : List ℕ). count_at v (n_accs_place l)) same ∙ sym (n_accs-of l n also) in
+    let slots : slots_bytes l m.entries ≡ slots_bytes l n.entries =
+    sym (image-slots l m is) ∙ ap (λ (v : List ℕ). part v (slots_place l) (slots_size l)) same
+    ∙ image-slots l n also in
+    let accents : accents_bytes l m.accents ≡ accents_bytes l n.accents =
+    sym (image-accents l m is) ∙ ap (λ (v : List ℕ). part v (accents_place l) (accents_size l)) same
+    ∙ image-accents l n also in
+    let entries =
+    same-rows (slot_bytes l) (slot_size l) (IsGoodEntry l) m.entries n.entries
+    (zeros (slot_size l * (256 - length m.entries))) (zeros (slot_size l * (256 - length n.entries)))
+    (same-entry l)
+    (slots-sized l m.entries is.entries) (slots-sized l n.entries also.entries) (good-entries l m is fits)
+    (good-entries l n also too) n_keys slots in
+    let accented =
+    same-rows (accent_bytes l) (accent_size l) (IsGoodAccent l) m.accents n.accents
+    (zeros (accent_size l * (15 - length m.accents))) (zeros (accent_size l * (15 - length n.accents)))
+    (same-accent l)
+    (accents-sized l m.accents is.accents) (accents-sized l n.accents also.accents) (good-accents l m is fits)
+    (good-accents l n also too) n_accs accents in
     ap (λ (v : List Entry). map_of v m.accents) entries ∙ ap (λ (v : List AccentValue). map_of n.entries v) accented

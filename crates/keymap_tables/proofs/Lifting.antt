@@ -1,5 +1,6 @@
 -- The faults of a part, in the whole.
-use Rattle.std.proofs.Common.{◌≡◌, ℕ, ◌+◌, ◌-◌, ◌*◌, ◌/◌, ◌%◌, ◌<◌, ◌≤◌, List, length, refl, ◌∙◌, subst, arith, None, inl, inr, nat_lt, true, false, mul_comm}
+use Rattle.std.proofs.Common.{◌≡◌, ℕ, ◌+◌, ◌-◌, ◌*◌, ◌/◌, ◌%◌, ◌<◌, ◌≤◌, List, length, refl, ◌∙◌, subst, arith, None}
+use Rattle.std.proofs.Common.{inl, inr, nat_lt, true, false, mul_comm}
 use Rattle.std.specs.Prelude.{slice_index, Option}
 use Rattle.std.proofs.lemmas.Bool.Decides.{nat_tests}
 use Rattle.std.proofs.lemmas.Bool.{cases_lt}
@@ -11,6 +12,7 @@ use Rattle.keymap_tables.specs.declared.fault.TableFault.{TableFault}
 use Rattle.keymap_tables.specs.declared.fault.TableFaultKind.{TableFaultKind}
 use Rattle.keymap_tables.specs.declared.fault.TableFaultKind.TheVariants.{NotEmpty}
 
+-- the kind of fault at each place, if there is one
 abbrev pub FaultOf : Type 0
 FaultOf = ℕ → Option TableFaultKind
 
@@ -19,7 +21,8 @@ within-part : (base p : ℕ) → base ≤ p → base + (p - base) ≡ p
 within-part base p past = omega arith
 
 -- The part has no fault, nor has what is before it.
-pub none-after : (whole inner : FaultOf) (base size : ℕ) → ((q : ℕ) → q < size → whole (base + q) ≡ inner q) → HasNoFault whole base → HasNoFault inner size → HasNoFault whole (base + size)
+pub none-after : (whole inner : FaultOf) (base size : ℕ) → ((q : ℕ) → q < size → whole (base + q) ≡ inner q)
+    → HasNoFault whole base → HasNoFault inner size → HasNoFault whole (base + size)
 none-after whole inner base size same before sound p below =
     elim (cases_lt p base) [
       | inl front ↦ before p front
@@ -29,14 +32,18 @@ none-after whole inner base size same before sound p below =
     ]
 
 -- The first fault of the part, where what is before it has none.
-pub first-after : (whole inner : FaultOf) (base size : ℕ) (f : TableFault) → ((q : ℕ) → q < size → whole (base + q) ≡ inner q) → HasNoFault whole base → IsFirstFault inner f → f.offset < size → IsFirstFault whole (record f { offset = base + f.offset })
+pub first-after : (whole inner : FaultOf) (base size : ℕ) (f : TableFault)
+    → ((q : ℕ) → q < size → whole (base + q) ≡ inner q) → HasNoFault whole base → IsFirstFault inner f → f.offset < size
+    → IsFirstFault whole (record f { offset = base + f.offset })
 first-after whole inner base size f same before first inside = record {
   here = same f.offset inside ∙ first.here;
   before = none-after whole inner base f.offset (λ q below. same q (omega arith)) before first.before;
 }
 
 -- What follows has to be zeros, and is.
-pub none-past : (kind : TableFaultKind) (whole : FaultOf) (bytes : List ℕ) (from n : ℕ) → ((p : ℕ) → from ≤ p → p < n → whole p ≡ zero_fault kind bytes p) → HasNoFault whole from → ((p : ℕ) → from ≤ p → slice_index bytes p ≡ 0) → HasNoFault whole n
+pub none-past : (kind : TableFaultKind) (whole : FaultOf) (bytes : List ℕ) (from n : ℕ)
+    → ((p : ℕ) → from ≤ p → p < n → whole p ≡ zero_fault kind bytes p) → HasNoFault whole from
+    → ((p : ℕ) → from ≤ p → slice_index bytes p ≡ 0) → HasNoFault whole n
 none-past kind whole bytes from n same before empty p below =
     elim (cases_lt p from) [
       | inl front ↦ before p front
@@ -45,7 +52,9 @@ none-past kind whole bytes from n same before empty p below =
     ]
 
 -- What follows has to be zeros, and isn't.
-pub first-past : (kind : TableFaultKind) (whole : FaultOf) (bytes : List ℕ) (from n : ℕ) (f : TableFault) → ((p : ℕ) → from ≤ p → p < n → whole p ≡ zero_fault kind bytes p) → HasNoFault whole from → length bytes ≤ n → IsFirstFilled bytes from kind f → IsFirstFault whole f
+pub first-past : (kind : TableFaultKind) (whole : FaultOf) (bytes : List ℕ) (from n : ℕ) (f : TableFault)
+    → ((p : ℕ) → from ≤ p → p < n → whole p ≡ zero_fault kind bytes p) → HasNoFault whole from → length bytes ≤ n
+    → IsFirstFilled bytes from kind f → IsFirstFault whole f
 first-past kind whole bytes from n f same before long first = record {
   here = same f.offset first.past (omega (arith, first.inside)) ∙ first.here;
   before = λ p below. elim (cases_lt p from) [
@@ -55,14 +64,17 @@ first-past kind whole bytes from n f same before long first = record {
 }
 
 -- A row in use, and the bytes after the rows in use.
-pub row-at : (fault_in : List ℕ → FaultOf) (size count : ℕ) (bytes : List ℕ) (i q : ℕ) → i < count → q < size → row_fault fault_in size count bytes (size * i + q) ≡ fault_in (part bytes (size * i) size) q
+pub row-at : (fault_in : List ℕ → FaultOf) (size count : ℕ) (bytes : List ℕ) (i q : ℕ) → i < count → q < size
+    → row_fault fault_in size count bytes (size * i + q) ≡ fault_in (part bytes (size * i) size) q
 row-at fault_in size count bytes i q used inside =
     let whole : (size * i + q) / size ≡ i = rw (mul_comm size i) (div-mul-add i size q inside) in
     let rest : (size * i + q) % size ≡ q = rw (mul_comm size i) (mod-mul-add i size q inside) in
     let test : nat_lt i count ≡ true = grind (arith, nat_tests) in
     rw (whole, rest, test) refl
 
-pub row-past : (fault_in : List ℕ → FaultOf) (size count : ℕ) (bytes : List ℕ) (p : ℕ) → 0 < size → size * count ≤ p → row_fault fault_in size count bytes p ≡ zero_fault NotEmpty bytes p
+-- behind the rows that are in use, a fault is a byte that isn't 0
+pub row-past : (fault_in : List ℕ → FaultOf) (size count : ℕ) (bytes : List ℕ) (p : ℕ) → 0 < size → size * count ≤ p
+    → row_fault fault_in size count bytes p ≡ zero_fault NotEmpty bytes p
 row-past fault_in size count bytes p some past =
     let whole : count ≤ p / size = le-div count p size some (rw (mul_comm count size) past) in
     let test : nat_lt (p / size) count ≡ false = grind (arith, nat_tests) in

@@ -28,31 +28,41 @@ cell-wide : (cell : Cell) → IsCell cell → CellFits wide cell
 cell-wide (Char c) known = scalar-small c known
 cell-wide (Act a) known = tt
 
+-- each known entry fits a wide slot
 pub entry-wide : (entry : Entry) → IsEntry entry → EntryFits wide entry
 entry-wide entry known = All-weaker IsCell (CellFits wide) cell-wide entry.cells known.cells
 
+-- each known pair fits two wide numbers
 pub pair-wide : (pair : ℕ × ℕ) → IsPair pair → PairFits wide pair
 pair-wide pair known = (scalar-small pair.0 known.0, scalar-small pair.1 known.2)
 
+-- each known accent fits wide numbers
 pub accent-wide : (accent : AccentValue) → IsAccent accent → AccentFits wide accent
-accent-wide accent known = (scalar-small accent.own known.own, All-weaker IsPair (PairFits wide) pair-wide accent.pairs known.pairs)
+accent-wide accent known =
+    (scalar-small accent.own known.own, All-weaker IsPair (PairFits wide) pair-wide accent.pairs known.pairs)
 
+-- each map fits a wide table
 pub map-wide : (m : MapValue) → IsMap m → FitsIn wide m
 map-wide m is = record {
   entries = All-weaker IsEntry (EntryFits wide) entry-wide m.entries is.entries;
   accents = All-weaker IsAccent (AccentFits wide) accent-wide m.accents is.accents;
 }
 
+-- there is no kind where there is none
 some_none : (kind : TableFaultKind) (o : Option TableFaultKind) → o ≡ Some kind → o ≡ None → ⊥
 some_none kind o some none = cc
 
 -- No image has a fault.
-pub no-fault : (l : Layout) (m : MapValue) (f : TableFault) → IsMap m → FitsIn l m → IsFirstFault (fault_at l (image_in l m)) f → ⊥
-no-fault l m f is fits fault = some_none f.kind (fault_at l (image_in l m) f.offset) fault.here (image-sound l m is fits f.offset)
+pub no-fault : (l : Layout) (m : MapValue) (f : TableFault) → IsMap m → FitsIn l m
+    → IsFirstFault (fault_at l (image_in l m)) f → ⊥
+no-fault l m f is fits fault =
+    some_none f.kind (fault_at l (image_in l m) f.offset) fault.here (image-sound l m is fits f.offset)
 
+-- a fault of a place and a kind
 fault_of : ℕ → TableFaultKind → TableFault
 fault_of offset kind = record { offset = offset; kind = kind }
 
+-- a place has one kind of fault
 same-kind : (o : Option TableFaultKind) (k l : TableFaultKind) → o ≡ Some k → o ≡ Some l → k ≡ l
 same-kind o k l first second = cc
 
@@ -67,19 +77,24 @@ one-fault at f g first second =
         | inr after ↦ absurd (some_none g.kind (at g.offset) second.here (first.before g.offset after))
       ]
     ] in
-    let kind : f.kind ≡ g.kind = same-kind (at g.offset) f.kind g.kind (subst (λ (p : ℕ). at p ≡ Some f.kind) place first.here) second.here in
+    let kind : f.kind ≡ g.kind =
+    same-kind (at g.offset) f.kind g.kind (subst (λ (p : ℕ). at p ≡ Some f.kind) place first.here) second.here in
     ap (λ (p : ℕ). fault_of p f.kind) place ∙ ap (λ (k : TableFaultKind). fault_of g.offset k) kind
 
 -- Reading the image of a map that fits gives the map.
-pub reading-image : (l : Layout) (bytes : List ℕ) (r : Result MapValue TableError) → IsReadingIn l bytes r → (m : MapValue) → IsMap m → FitsIn l m → bytes ≡ image_in l m → AnswersMap r m
+pub reading-image : (l : Layout) (bytes : List ℕ) (r : Result MapValue TableError) → IsReadingIn l bytes r
+    → (m : MapValue) → IsMap m → FitsIn l m → bytes ≡ image_in l m → AnswersMap r m
 reading-image l bytes (Ok n) reading m is fits same = same-map l n m reading.0 reading.2 is fits (sym reading.1 ∙ same)
 reading-image l bytes (Err Memory) reading m is fits same = tt
 reading-image l bytes (Err (Read f)) reading m is fits same = absurd reading
-reading-image l bytes (Err (Fault f)) reading m is fits same = no-fault l m f is fits (subst (λ (v : List ℕ). IsFirstFault (fault_at l v) f) same reading)
+reading-image l bytes (Err (Fault f)) reading m is fits same =
+    no-fault l m f is fits (subst (λ (v : List ℕ). IsFirstFault (fault_at l v) f) same reading)
 
 -- Reading bytes with a fault gives the fault.
-pub reading-fault : (l : Layout) (bytes : List ℕ) (r : Result MapValue TableError) → IsReadingIn l bytes r → (f : TableFault) → IsFirstFault (fault_at l bytes) f → AnswersFault r f
-reading-fault l bytes (Ok n) reading f fault = no-fault l n f reading.0 reading.2 (subst (λ (v : List ℕ). IsFirstFault (fault_at l v) f) reading.1 fault)
+pub reading-fault : (l : Layout) (bytes : List ℕ) (r : Result MapValue TableError) → IsReadingIn l bytes r
+    → (f : TableFault) → IsFirstFault (fault_at l bytes) f → AnswersFault r f
+reading-fault l bytes (Ok n) reading f fault =
+    no-fault l n f reading.0 reading.2 (subst (λ (v : List ℕ). IsFirstFault (fault_at l v) f) reading.1 fault)
 reading-fault l bytes (Err Memory) reading f fault = tt
 reading-fault l bytes (Err (Read g)) reading f fault = absurd reading
 reading-fault l bytes (Err (Fault g)) reading f fault = one-fault (fault_at l bytes) g f reading fault
@@ -91,6 +106,7 @@ reading-wide bytes (Err Memory) reading = reading
 reading-wide bytes (Err (Read f)) reading = reading
 reading-wide bytes (Err (Fault f)) reading = reading
 
+-- what is a reading of a table is one of the wide layout
 pub reading-in : (bytes : List ℕ) (r : Result MapValue TableError) → IsReading bytes r → IsReadingIn wide bytes r
 reading-in bytes (Ok m) reading = (reading.0, reading.1, map-wide m reading.0)
 reading-in bytes (Err Memory) reading = reading

@@ -1,5 +1,6 @@
 -- The image of a slot: it has no fault, and gives the entry.
-use Rattle.std.proofs.Common.{◌≡◌, ℕ, ◌+◌, ◌-◌, ◌*◌, ◌/◌, ◌%◌, ◌^◌, ◌<◌, ◌≤◌, ◌==◌, suc, zero, List, [], ◌∷◌, ◌++◌, length, get_or, cond, None, Some, refl, sym, ap, ◌∙◌, arith, append_assoc, length-append}
+use Rattle.std.proofs.Common.{◌≡◌, ℕ, ◌+◌, ◌-◌, ◌*◌, ◌/◌, ◌%◌, ◌^◌, ◌<◌, ◌≤◌, ◌==◌, suc, zero, List, [], ◌∷◌, ◌++◌}
+use Rattle.std.proofs.Common.{length, get_or, cond, None, Some, refl, sym, ap, ◌∙◌, arith, append_assoc, length-append}
 use Rattle.std.specs.Prelude.{slice_index, Bool, true, false, unwrap_or}
 use Rattle.std.specs.Char.{IsScalar}
 use Rattle.std.specs.Int.{from_le_bytes}
@@ -37,6 +38,7 @@ screen-of n low high =
     let back : 0x0a + n - 0x0a ≡ n = omega arith in
     rw (yes, back) refl
 
+-- the codes of the function keys
 function-of : (n : ℕ) → 0 < n → n ≤ 96 → action_of (0x1a + n) ≡ Some (a.Function n)
 function-of n low high =
     let no : within 0x0b 0x1a (0x1a + n) ≡ false = grind (arith, nat_tests) in
@@ -44,6 +46,7 @@ function-of n low high =
     let back : 0x1a + n - 0x1a ≡ n = omega arith in
     rw (no, yes, back) refl
 
+-- the codes of the dead keys
 dead-of : (n : ℕ) → n < 15 → action_of (0x89 + n) ≡ Some (a.DeadKey n)
 dead-of n high =
     let no : within 0x0b 0x1a (0x89 + n) ≡ false = grind (arith, nat_tests) in
@@ -52,6 +55,7 @@ dead-of n high =
     let back : 0x89 + n - 0x89 ≡ n = omega arith in
     rw (no, nor, yes, back) refl
 
+-- the code of a known action, read again, gives the action
 pub action-of-code : (action : Action) → IsAction action → action_of (code_of action) ≡ Some action
 action-of-code a.Nop known = refl
 action-of-code (a.Mod m.LeftShift) known = refl
@@ -83,7 +87,8 @@ action-of-code a.PowerDown known = refl
 action-of-code a.Paste known = refl
 
 -- The codes are small, and none is that of a combined action.
-pub code-bounds : (action : Action) → IsAction action → (code_of action < 256) × (within 0x9b 0xa0 (code_of action) ≡ false)
+pub code-bounds : (action : Action) → IsAction action
+    → (code_of action < 256) × (within 0x9b 0xa0 (code_of action) ≡ false)
 code-bounds a.Nop known = (omega arith, refl)
 code-bounds (a.Mod m.LeftShift) known = (omega arith, refl)
 code-bounds (a.Mod m.RightShift) known = (omega arith, refl)
@@ -117,9 +122,11 @@ code-bounds a.Paste known = (omega arith, refl)
 pub scalar-small : (c : ℕ) → IsScalar c → c < 2 ^ 32
 scalar-small c known = grind (arith, nat_tests)
 
+-- a scalar value is no fault
 pub char-sound : (c : ℕ) → IsScalar c → char_fault c ≡ None
 char-sound c known = grind (arith, nat_tests)
 
+-- the number and mark of a known cell are no fault
 pub cell-sound : (cell : Cell) → IsCell cell → cell_fault (number_of cell) (is_act cell) ≡ None
 cell-sound (Char c) known = char-sound c known
 cell-sound (Act action) known = rw ((code-bounds action known).1, action-of-code action known) refl
@@ -129,6 +136,7 @@ pub cell_of : ℕ → Bool → Cell
 cell_of number true = Act (unwrap_or (action_of number) a.Nop)
 cell_of number false = Char number
 
+-- the number and mark of a known cell, read again, give the cell
 pub cell-again : (cell : Cell) → IsCell cell → cell_of (number_of cell) (is_act cell) ≡ cell
 unfolding cell_of
 cell-again (Char c) known = refl
@@ -138,124 +146,200 @@ cell-again (Act action) known = rw (action-of-code action known) refl
 abbrev bit : Cell → ℕ
 bit cell = cond (is_act cell) 1 0
 
+-- a mark is a bit
 bit-small : (cell : Cell) → bit cell < 2
 bit-small (Char c) = omega arith
 bit-small (Act action) = omega arith
 
+-- a mark is set exactly for an action
 bit-test : (cell : Cell) → (bit cell == 1) ≡ is_act cell
 bit-test (Char c) = refl
 bit-test (Act action) = refl
 
 -- eight bits in one number
 abbrev eight_bits : ℕ → ℕ → ℕ → ℕ → ℕ → ℕ → ℕ → ℕ → ℕ
-eight_bits b0 b1 b2 b3 b4 b5 b6 b7 = 2 * (2 * (2 * (2 * (2 * (2 * (2 * (2 * 0 + b0) + b1) + b2) + b3) + b4) + b5) + b6) + b7
+eight_bits b0 b1 b2 b3 b4 b5 b6 b7 =
+    2 * (2 * (2 * (2 * (2 * (2 * (2 * (2 * 0 + b0) + b1) + b2) + b3) + b4) + b5) + b6) + b7
 
-bit-0 : (b0 b1 b2 b3 b4 b5 b6 b7 : ℕ) → b0 < 2 → b1 < 2 → b2 < 2 → b3 < 2 → b4 < 2 → b5 < 2 → b6 < 2 → b7 < 2 → eight_bits b0 b1 b2 b3 b4 b5 b6 b7 / 2 ^ (7 - 0) % 2 ≡ b0
+-- each of eight bits, cut out of their number again
+bit-0 : (b0 b1 b2 b3 b4 b5 b6 b7 : ℕ) → b0 < 2 → b1 < 2 → b2 < 2 → b3 < 2 → b4 < 2 → b5 < 2 → b6 < 2 → b7 < 2
+    → eight_bits b0 b1 b2 b3 b4 b5 b6 b7 / 2 ^ (7 - 0) % 2 ≡ b0
 bit-0 b0 b1 b2 b3 b4 b5 b6 b7 s0 s1 s2 s3 s4 s5 s6 s7 = omega arith
 
-bit-1 : (b0 b1 b2 b3 b4 b5 b6 b7 : ℕ) → b0 < 2 → b1 < 2 → b2 < 2 → b3 < 2 → b4 < 2 → b5 < 2 → b6 < 2 → b7 < 2 → eight_bits b0 b1 b2 b3 b4 b5 b6 b7 / 2 ^ (7 - 1) % 2 ≡ b1
+bit-1 : (b0 b1 b2 b3 b4 b5 b6 b7 : ℕ) → b0 < 2 → b1 < 2 → b2 < 2 → b3 < 2 → b4 < 2 → b5 < 2 → b6 < 2 → b7 < 2
+    → eight_bits b0 b1 b2 b3 b4 b5 b6 b7 / 2 ^ (7 - 1) % 2 ≡ b1
 bit-1 b0 b1 b2 b3 b4 b5 b6 b7 s0 s1 s2 s3 s4 s5 s6 s7 = omega arith
 
-bit-2 : (b0 b1 b2 b3 b4 b5 b6 b7 : ℕ) → b0 < 2 → b1 < 2 → b2 < 2 → b3 < 2 → b4 < 2 → b5 < 2 → b6 < 2 → b7 < 2 → eight_bits b0 b1 b2 b3 b4 b5 b6 b7 / 2 ^ (7 - 2) % 2 ≡ b2
+bit-2 : (b0 b1 b2 b3 b4 b5 b6 b7 : ℕ) → b0 < 2 → b1 < 2 → b2 < 2 → b3 < 2 → b4 < 2 → b5 < 2 → b6 < 2 → b7 < 2
+    → eight_bits b0 b1 b2 b3 b4 b5 b6 b7 / 2 ^ (7 - 2) % 2 ≡ b2
 bit-2 b0 b1 b2 b3 b4 b5 b6 b7 s0 s1 s2 s3 s4 s5 s6 s7 = omega arith
 
-bit-3 : (b0 b1 b2 b3 b4 b5 b6 b7 : ℕ) → b0 < 2 → b1 < 2 → b2 < 2 → b3 < 2 → b4 < 2 → b5 < 2 → b6 < 2 → b7 < 2 → eight_bits b0 b1 b2 b3 b4 b5 b6 b7 / 2 ^ (7 - 3) % 2 ≡ b3
+bit-3 : (b0 b1 b2 b3 b4 b5 b6 b7 : ℕ) → b0 < 2 → b1 < 2 → b2 < 2 → b3 < 2 → b4 < 2 → b5 < 2 → b6 < 2 → b7 < 2
+    → eight_bits b0 b1 b2 b3 b4 b5 b6 b7 / 2 ^ (7 - 3) % 2 ≡ b3
 bit-3 b0 b1 b2 b3 b4 b5 b6 b7 s0 s1 s2 s3 s4 s5 s6 s7 = omega arith
 
-bit-4 : (b0 b1 b2 b3 b4 b5 b6 b7 : ℕ) → b0 < 2 → b1 < 2 → b2 < 2 → b3 < 2 → b4 < 2 → b5 < 2 → b6 < 2 → b7 < 2 → eight_bits b0 b1 b2 b3 b4 b5 b6 b7 / 2 ^ (7 - 4) % 2 ≡ b4
+bit-4 : (b0 b1 b2 b3 b4 b5 b6 b7 : ℕ) → b0 < 2 → b1 < 2 → b2 < 2 → b3 < 2 → b4 < 2 → b5 < 2 → b6 < 2 → b7 < 2
+    → eight_bits b0 b1 b2 b3 b4 b5 b6 b7 / 2 ^ (7 - 4) % 2 ≡ b4
 bit-4 b0 b1 b2 b3 b4 b5 b6 b7 s0 s1 s2 s3 s4 s5 s6 s7 = omega arith
 
-bit-5 : (b0 b1 b2 b3 b4 b5 b6 b7 : ℕ) → b0 < 2 → b1 < 2 → b2 < 2 → b3 < 2 → b4 < 2 → b5 < 2 → b6 < 2 → b7 < 2 → eight_bits b0 b1 b2 b3 b4 b5 b6 b7 / 2 ^ (7 - 5) % 2 ≡ b5
+bit-5 : (b0 b1 b2 b3 b4 b5 b6 b7 : ℕ) → b0 < 2 → b1 < 2 → b2 < 2 → b3 < 2 → b4 < 2 → b5 < 2 → b6 < 2 → b7 < 2
+    → eight_bits b0 b1 b2 b3 b4 b5 b6 b7 / 2 ^ (7 - 5) % 2 ≡ b5
 bit-5 b0 b1 b2 b3 b4 b5 b6 b7 s0 s1 s2 s3 s4 s5 s6 s7 = omega arith
 
-bit-6 : (b0 b1 b2 b3 b4 b5 b6 b7 : ℕ) → b0 < 2 → b1 < 2 → b2 < 2 → b3 < 2 → b4 < 2 → b5 < 2 → b6 < 2 → b7 < 2 → eight_bits b0 b1 b2 b3 b4 b5 b6 b7 / 2 ^ (7 - 6) % 2 ≡ b6
+bit-6 : (b0 b1 b2 b3 b4 b5 b6 b7 : ℕ) → b0 < 2 → b1 < 2 → b2 < 2 → b3 < 2 → b4 < 2 → b5 < 2 → b6 < 2 → b7 < 2
+    → eight_bits b0 b1 b2 b3 b4 b5 b6 b7 / 2 ^ (7 - 6) % 2 ≡ b6
 bit-6 b0 b1 b2 b3 b4 b5 b6 b7 s0 s1 s2 s3 s4 s5 s6 s7 = omega arith
 
-bit-7 : (b0 b1 b2 b3 b4 b5 b6 b7 : ℕ) → b0 < 2 → b1 < 2 → b2 < 2 → b3 < 2 → b4 < 2 → b5 < 2 → b6 < 2 → b7 < 2 → eight_bits b0 b1 b2 b3 b4 b5 b6 b7 / 2 ^ (7 - 7) % 2 ≡ b7
+bit-7 : (b0 b1 b2 b3 b4 b5 b6 b7 : ℕ) → b0 < 2 → b1 < 2 → b2 < 2 → b3 < 2 → b4 < 2 → b5 < 2 → b6 < 2 → b7 < 2
+    → eight_bits b0 b1 b2 b3 b4 b5 b6 b7 / 2 ^ (7 - 7) % 2 ≡ b7
 bit-7 b0 b1 b2 b3 b4 b5 b6 b7 s0 s1 s2 s3 s4 s5 s6 s7 = omega arith
 
 -- a list of eight
-eight-of : {X : Type 0} (P : List X → Type 0) (xs : List X) → length xs ≡ 8 → ((c0 c1 c2 c3 c4 c5 c6 c7 : X) → P (c0 ∷ c1 ∷ c2 ∷ c3 ∷ c4 ∷ c5 ∷ c6 ∷ c7 ∷ [])) → P xs
+eight-of : {X : Type 0} (P : List X → Type 0) (xs : List X) → length xs ≡ 8
+    → ((c0 c1 c2 c3 c4 c5 c6 c7 : X) → P (c0 ∷ c1 ∷ c2 ∷ c3 ∷ c4 ∷ c5 ∷ c6 ∷ c7 ∷ [])) → P xs
 eight-of P (c0 ∷ c1 ∷ c2 ∷ c3 ∷ c4 ∷ c5 ∷ c6 ∷ c7 ∷ []) eight holds = holds c0 c1 c2 c3 c4 c5 c6 c7
 eight-of P _ eight holds = absurd (omega arith)
 
 -- the mark of a column
-mark-column : (c0 c1 c2 c3 c4 c5 c6 c7 : Cell) (d : Cell) (i : ℕ) → i < 8 → (marks_of (c0 ∷ c1 ∷ c2 ∷ c3 ∷ c4 ∷ c5 ∷ c6 ∷ c7 ∷ []) / 2 ^ (7 - i) % 2 == 1) ≡ is_act (get_or (c0 ∷ c1 ∷ c2 ∷ c3 ∷ c4 ∷ c5 ∷ c6 ∷ c7 ∷ []) i d)
-mark-column c0 c1 c2 c3 c4 c5 c6 c7 d zero below = ap (λ (n : ℕ). n == 1) (bit-0 (bit c0) (bit c1) (bit c2) (bit c3) (bit c4) (bit c5) (bit c6) (bit c7) (bit-small c0) (bit-small c1) (bit-small c2) (bit-small c3) (bit-small c4) (bit-small c5) (bit-small c6) (bit-small c7)) ∙ bit-test c0
-mark-column c0 c1 c2 c3 c4 c5 c6 c7 d (suc zero) below = ap (λ (n : ℕ). n == 1) (bit-1 (bit c0) (bit c1) (bit c2) (bit c3) (bit c4) (bit c5) (bit c6) (bit c7) (bit-small c0) (bit-small c1) (bit-small c2) (bit-small c3) (bit-small c4) (bit-small c5) (bit-small c6) (bit-small c7)) ∙ bit-test c1
-mark-column c0 c1 c2 c3 c4 c5 c6 c7 d (suc (suc zero)) below = ap (λ (n : ℕ). n == 1) (bit-2 (bit c0) (bit c1) (bit c2) (bit c3) (bit c4) (bit c5) (bit c6) (bit c7) (bit-small c0) (bit-small c1) (bit-small c2) (bit-small c3) (bit-small c4) (bit-small c5) (bit-small c6) (bit-small c7)) ∙ bit-test c2
-mark-column c0 c1 c2 c3 c4 c5 c6 c7 d (suc (suc (suc zero))) below = ap (λ (n : ℕ). n == 1) (bit-3 (bit c0) (bit c1) (bit c2) (bit c3) (bit c4) (bit c5) (bit c6) (bit c7) (bit-small c0) (bit-small c1) (bit-small c2) (bit-small c3) (bit-small c4) (bit-small c5) (bit-small c6) (bit-small c7)) ∙ bit-test c3
-mark-column c0 c1 c2 c3 c4 c5 c6 c7 d (suc (suc (suc (suc zero)))) below = ap (λ (n : ℕ). n == 1) (bit-4 (bit c0) (bit c1) (bit c2) (bit c3) (bit c4) (bit c5) (bit c6) (bit c7) (bit-small c0) (bit-small c1) (bit-small c2) (bit-small c3) (bit-small c4) (bit-small c5) (bit-small c6) (bit-small c7)) ∙ bit-test c4
-mark-column c0 c1 c2 c3 c4 c5 c6 c7 d (suc (suc (suc (suc (suc zero))))) below = ap (λ (n : ℕ). n == 1) (bit-5 (bit c0) (bit c1) (bit c2) (bit c3) (bit c4) (bit c5) (bit c6) (bit c7) (bit-small c0) (bit-small c1) (bit-small c2) (bit-small c3) (bit-small c4) (bit-small c5) (bit-small c6) (bit-small c7)) ∙ bit-test c5
-mark-column c0 c1 c2 c3 c4 c5 c6 c7 d (suc (suc (suc (suc (suc (suc zero)))))) below = ap (λ (n : ℕ). n == 1) (bit-6 (bit c0) (bit c1) (bit c2) (bit c3) (bit c4) (bit c5) (bit c6) (bit c7) (bit-small c0) (bit-small c1) (bit-small c2) (bit-small c3) (bit-small c4) (bit-small c5) (bit-small c6) (bit-small c7)) ∙ bit-test c6
-mark-column c0 c1 c2 c3 c4 c5 c6 c7 d (suc (suc (suc (suc (suc (suc (suc zero))))))) below = ap (λ (n : ℕ). n == 1) (bit-7 (bit c0) (bit c1) (bit c2) (bit c3) (bit c4) (bit c5) (bit c6) (bit c7) (bit-small c0) (bit-small c1) (bit-small c2) (bit-small c3) (bit-small c4) (bit-small c5) (bit-small c6) (bit-small c7)) ∙ bit-test c7
+mark-column : (c0 c1 c2 c3 c4 c5 c6 c7 : Cell) (d : Cell) (i : ℕ) → i < 8
+    → (marks_of (c0 ∷ c1 ∷ c2 ∷ c3 ∷ c4 ∷ c5 ∷ c6 ∷ c7 ∷ []) / 2 ^ (7 - i) % 2 == 1)
+    ≡ is_act (get_or (c0 ∷ c1 ∷ c2 ∷ c3 ∷ c4 ∷ c5 ∷ c6 ∷ c7 ∷ []) i d)
+mark-column c0 c1 c2 c3 c4 c5 c6 c7 d zero below =
+    ap (λ (n : ℕ). n == 1)
+    (bit-0 (bit c0) (bit c1) (bit c2) (bit c3) (bit c4) (bit c5) (bit c6) (bit c7) (bit-small c0) (bit-small c1)
+    (bit-small c2) (bit-small c3) (bit-small c4) (bit-small c5) (bit-small c6) (bit-small c7))
+    ∙ bit-test c0
+mark-column c0 c1 c2 c3 c4 c5 c6 c7 d (suc zero) below =
+    ap (λ (n : ℕ). n == 1)
+    (bit-1 (bit c0) (bit c1) (bit c2) (bit c3) (bit c4) (bit c5) (bit c6) (bit c7) (bit-small c0) (bit-small c1)
+    (bit-small c2) (bit-small c3) (bit-small c4) (bit-small c5) (bit-small c6) (bit-small c7))
+    ∙ bit-test c1
+mark-column c0 c1 c2 c3 c4 c5 c6 c7 d (suc (suc zero)) below =
+    ap (λ (n : ℕ). n == 1)
+    (bit-2 (bit c0) (bit c1) (bit c2) (bit c3) (bit c4) (bit c5) (bit c6) (bit c7) (bit-small c0) (bit-small c1)
+    (bit-small c2) (bit-small c3) (bit-small c4) (bit-small c5) (bit-small c6) (bit-small c7))
+    ∙ bit-test c2
+mark-column c0 c1 c2 c3 c4 c5 c6 c7 d (suc (suc (suc zero))) below =
+    ap (λ (n : ℕ). n == 1)
+    (bit-3 (bit c0) (bit c1) (bit c2) (bit c3) (bit c4) (bit c5) (bit c6) (bit c7) (bit-small c0) (bit-small c1)
+    (bit-small c2) (bit-small c3) (bit-small c4) (bit-small c5) (bit-small c6) (bit-small c7))
+    ∙ bit-test c3
+mark-column c0 c1 c2 c3 c4 c5 c6 c7 d (suc (suc (suc (suc zero)))) below =
+    ap (λ (n : ℕ). n == 1)
+    (bit-4 (bit c0) (bit c1) (bit c2) (bit c3) (bit c4) (bit c5) (bit c6) (bit c7) (bit-small c0) (bit-small c1)
+    (bit-small c2) (bit-small c3) (bit-small c4) (bit-small c5) (bit-small c6) (bit-small c7))
+    ∙ bit-test c4
+mark-column c0 c1 c2 c3 c4 c5 c6 c7 d (suc (suc (suc (suc (suc zero))))) below =
+    ap (λ (n : ℕ). n == 1)
+    (bit-5 (bit c0) (bit c1) (bit c2) (bit c3) (bit c4) (bit c5) (bit c6) (bit c7) (bit-small c0) (bit-small c1)
+    (bit-small c2) (bit-small c3) (bit-small c4) (bit-small c5) (bit-small c6) (bit-small c7))
+    ∙ bit-test c5
+mark-column c0 c1 c2 c3 c4 c5 c6 c7 d (suc (suc (suc (suc (suc (suc zero)))))) below =
+    ap (λ (n : ℕ). n == 1)
+    (bit-6 (bit c0) (bit c1) (bit c2) (bit c3) (bit c4) (bit c5) (bit c6) (bit c7) (bit-small c0) (bit-small c1)
+    (bit-small c2) (bit-small c3) (bit-small c4) (bit-small c5) (bit-small c6) (bit-small c7))
+    ∙ bit-test c6
+mark-column c0 c1 c2 c3 c4 c5 c6 c7 d (suc (suc (suc (suc (suc (suc (suc zero))))))) below =
+    ap (λ (n : ℕ). n == 1)
+    (bit-7 (bit c0) (bit c1) (bit c2) (bit c3) (bit c4) (bit c5) (bit c6) (bit c7) (bit-small c0) (bit-small c1)
+    (bit-small c2) (bit-small c3) (bit-small c4) (bit-small c5) (bit-small c6) (bit-small c7))
+    ∙ bit-test c7
 mark-column c0 c1 c2 c3 c4 c5 c6 c7 d (suc (suc (suc (suc (suc (suc (suc (suc i)))))))) below = absurd (omega arith)
 
-mark-bit : (cells : List Cell) → length cells ≡ 8 → (d : Cell) (i : ℕ) → i < 8 → (marks_of cells / 2 ^ (7 - i) % 2 == 1) ≡ is_act (get_or cells i d)
+-- the mark of a column, cut out of the marks of eight cells
+mark-bit : (cells : List Cell) → length cells ≡ 8 → (d : Cell) (i : ℕ) → i < 8
+    → (marks_of cells / 2 ^ (7 - i) % 2 == 1) ≡ is_act (get_or cells i d)
 mark-bit cells eight =
-    eight-of (λ (cells : List Cell). (d : Cell) (i : ℕ) → i < 8 → (marks_of cells / 2 ^ (7 - i) % 2 == 1) ≡ is_act (get_or cells i d)) cells eight mark-column
+    eight-of (λ (cells : List Cell).
+    (d : Cell) (i : ℕ) → i < 8 → (marks_of cells / 2 ^ (7 - i) % 2 == 1) ≡ is_act (get_or cells i d))
+    cells eight mark-column
 
 -- the number of its bytes
 pub number-back : (l : Layout) (n : ℕ) → n < number_limit l → from_le_bytes (number_width l) (number_bytes l n) ≡ n
 number-back Wide n small = from_le_bytes-to_le_bytes_4 n small
 number-back Narrow n small = omega arith
 
+-- the number of a known cell that fits is within its size
 pub number-small : (l : Layout) (cell : Cell) → IsCell cell → CellFits l cell → number_of cell < number_limit l
 number-small l (Char c) known fits = fits
 number-small Wide (Act action) known fits = omega (arith, (code-bounds action known).0)
 number-small Narrow (Act action) known fits = (code-bounds action known).0
 
+-- the bytes of each cell have the size of a number
 cells-sized : (l : Layout) (cells : List Cell) → IsSized (cell_bytes l) (number_size l) cells
 cells-sized l cells k d below = length-number l (number_of (get_or cells k d))
 
-cells-long : (l : Layout) (entry : Entry) → IsEntry entry → length (flat_map (cell_bytes l) entry.cells) ≡ 8 * number_size l
+-- the cells of a known entry have eight numbers
+cells-long : (l : Layout) (entry : Entry) → IsEntry entry
+    → length (flat_map (cell_bytes l) entry.cells) ≡ 8 * number_size l
 cells-long l entry known =
-    length-rows (cell_bytes l) (number_size l) entry.cells (cells-sized l entry.cells) ∙ ap (λ (n : ℕ). number_size l * n) known.eight ∙ cells-end l
+    length-rows (cell_bytes l) (number_size l) entry.cells (cells-sized l entry.cells)
+    ∙ ap (λ (n : ℕ). number_size l * n) known.eight ∙ cells-end l
 
 -- what follows the cells of a slot
 abbrev tail_of : Layout → Entry → List ℕ
 tail_of l entry = marks_of entry.cells ∷ flag_number entry.flag ∷ zeros (pad_size l)
 
 -- The cells, the marks and the flag stand in their places, and zeros behind them.
-pub number-in : (l : Layout) (entry : Entry) (d : Cell) (i : ℕ) → IsEntry entry → EntryFits l entry → i < 8 → number_at l (slot_bytes l entry) (number_size l * i) ≡ number_of (get_or entry.cells i d)
+pub number-in : (l : Layout) (entry : Entry) (d : Cell) (i : ℕ) → IsEntry entry → EntryFits l entry → i < 8
+    → number_at l (slot_bytes l entry) (number_size l * i) ≡ number_of (get_or entry.cells i d)
 number-in l entry d i known fits below =
     let inside : i < length entry.cells = omega (arith, known.eight) in
-    ap (from_le_bytes (number_width l)) (row-in (cell_bytes l) (number_size l) entry.cells (tail_of l entry) i d (cells-sized l entry.cells) inside)
+    ap (from_le_bytes (number_width l))
+    (row-in (cell_bytes l) (number_size l) entry.cells (tail_of l entry) i d (cells-sized l entry.cells) inside)
     ∙ number-back l (number_of (get_or entry.cells i d))
-    (number-small l (get_or entry.cells i d) (All-get_or IsCell entry.cells i d inside known.cells) (All-get_or (CellFits l) entry.cells i d inside fits))
+    (number-small l (get_or entry.cells i d) (All-get_or IsCell entry.cells i d inside known.cells)
+    (All-get_or (CellFits l) entry.cells i d inside fits))
 
-marks-in : (l : Layout) (entry : Entry) → IsEntry entry → slice_index (slot_bytes l entry) (8 * number_size l) ≡ marks_of entry.cells
+-- behind the cells of a slot stand their marks
+marks-in : (l : Layout) (entry : Entry) → IsEntry entry
+    → slice_index (slot_bytes l entry) (8 * number_size l) ≡ marks_of entry.cells
 marks-in l entry known =
     let none : 8 * number_size l - 8 * number_size l ≡ 0 = omega arith in
-    get_or-append_right (flat_map (cell_bytes l) entry.cells) (tail_of l entry) (8 * number_size l) (8 * number_size l) 0 (cells-long l entry known) (omega arith)
+    get_or-append_right (flat_map (cell_bytes l) entry.cells) (tail_of l entry) (8 * number_size l) (8 * number_size l)
+    0 (cells-long l entry known) (omega arith)
     ∙ ap (λ (k : ℕ). get_or (tail_of l entry) k 0) none
 
-pub mark-in : (l : Layout) (entry : Entry) (d : Cell) (i : ℕ) → IsEntry entry → i < 8 → mark_at l (slot_bytes l entry) i ≡ is_act (get_or entry.cells i d)
+-- the mark read in a slot tells whether the cell is an action
+pub mark-in : (l : Layout) (entry : Entry) (d : Cell) (i : ℕ) → IsEntry entry → i < 8
+    → mark_at l (slot_bytes l entry) i ≡ is_act (get_or entry.cells i d)
 mark-in l entry d i known below =
     ap (λ (m : ℕ). m / 2 ^ (7 - i) % 2 == 1) (marks-in l entry known) ∙ mark-bit entry.cells known.eight d i below
 
-pub flag-in : (l : Layout) (entry : Entry) → IsEntry entry → slice_index (slot_bytes l entry) (8 * number_size l + 1) ≡ flag_number entry.flag
+-- behind the marks of a slot stands the entry's flag
+pub flag-in : (l : Layout) (entry : Entry) → IsEntry entry
+    → slice_index (slot_bytes l entry) (8 * number_size l + 1) ≡ flag_number entry.flag
 flag-in l entry known =
     let one : 8 * number_size l + 1 - 8 * number_size l ≡ 1 = omega arith in
-    get_or-append_right (flat_map (cell_bytes l) entry.cells) (tail_of l entry) (8 * number_size l) (8 * number_size l + 1) 0 (cells-long l entry known) (omega arith)
+    get_or-append_right (flat_map (cell_bytes l) entry.cells) (tail_of l entry) (8 * number_size l)
+    (8 * number_size l + 1) 0 (cells-long l entry known) (omega arith)
     ∙ ap (λ (k : ℕ). get_or (tail_of l entry) k 0) one
 
-pads-in : (l : Layout) (entry : Entry) (p : ℕ) → IsEntry entry → 8 * number_size l + 2 ≤ p → slice_index (slot_bytes l entry) p ≡ 0
+-- behind the flag stand zeros
+pads-in : (l : Layout) (entry : Entry) (p : ℕ) → IsEntry entry → 8 * number_size l + 2 ≤ p
+    → slice_index (slot_bytes l entry) p ≡ 0
 pads-in l entry p known past =
     let front = flat_map (cell_bytes l) entry.cells ++ marks_of entry.cells ∷ flag_number entry.flag ∷ [] in
-    let whole : (flat_map (cell_bytes l) entry.cells ++ marks_of entry.cells ∷ flag_number entry.flag ∷ []) ++ zeros (pad_size l) ≡ slot_bytes l entry =
-    append_assoc (flat_map (cell_bytes l) entry.cells) (marks_of entry.cells ∷ flag_number entry.flag ∷ []) (zeros (pad_size l)) in
-    let long : length (flat_map (cell_bytes l) entry.cells ++ marks_of entry.cells ∷ flag_number entry.flag ∷ []) ≡ 8 * number_size l + 2 =
-    length-append (flat_map (cell_bytes l) entry.cells) (marks_of entry.cells ∷ flag_number entry.flag ∷ []) ∙ ap (λ (n : ℕ). n + 2) (cells-long l entry known) in
+    let whole : (flat_map (cell_bytes l) entry.cells ++ marks_of entry.cells ∷ flag_number entry.flag ∷ [])
+    ++ zeros (pad_size l)
+    ≡ slot_bytes l entry =
+    append_assoc (flat_map (cell_bytes l) entry.cells) (marks_of entry.cells ∷ flag_number entry.flag ∷ [])
+    (zeros (pad_size l)) in
+    let long : length (flat_map (cell_bytes l) entry.cells ++ marks_of entry.cells ∷ flag_number entry.flag ∷ [])
+    ≡ 8 * number_size l + 2 =
+    length-append (flat_map (cell_bytes l) entry.cells) (marks_of entry.cells ∷ flag_number entry.flag ∷ [])
+    ∙ ap (λ (n : ℕ). n + 2) (cells-long l entry known) in
     ap (λ (v : List ℕ). slice_index v p) (sym whole) ∙ zeros-behind front (pad_size l) p (omega (arith, long, past))
 
+-- the bytes of a known entry have the size of a slot
 pub length-slot_bytes : (l : Layout) (entry : Entry) → IsEntry entry → length (slot_bytes l entry) ≡ slot_size l
 length-slot_bytes l entry known =
     length-append (flat_map (cell_bytes l) entry.cells) (tail_of l entry)
     ∙ omega (arith, cells-long l entry known, length-replicate {A = ℕ} (pad_size l) 0)
 
 -- No fault up to a cell.
-cells-sound : (l : Layout) (entry : Entry) → IsEntry entry → EntryFits l entry → (i : ℕ) → i ≤ 8 → HasNoFault (slot_fault l (slot_bytes l entry)) (number_size l * i)
+cells-sound : (l : Layout) (entry : Entry) → IsEntry entry → EntryFits l entry → (i : ℕ) → i ≤ 8
+    → HasNoFault (slot_fault l (slot_bytes l entry)) (number_size l * i)
 cells-sound l entry known fits zero few p below = absurd (omega (arith, below, no-cells l))
 cells-sound l entry known fits (suc i) few p below =
     let bytes = slot_bytes l entry in
@@ -263,22 +347,30 @@ cells-sound l entry known fits (suc i) few p below =
     let next : number_size l * suc i ≡ number_size l * (i + 1) = ap (λ (n : ℕ). number_size l * n) (omega arith) in
     let here : cell_fault (number_at l bytes (number_size l * i)) (mark_at l bytes i) ≡ None =
     ap (λ (n : ℕ). cell_fault n (mark_at l bytes i)) (number-in l entry (Char 0) i known fits (omega arith))
-    ∙ ap (λ (t : Bool). cell_fault (number_of (get_or entry.cells i (Char 0))) t) (mark-in l entry (Char 0) i known (omega arith))
+    ∙ ap (λ (t : Bool). cell_fault (number_of (get_or entry.cells i (Char 0))) t)
+    (mark-in l entry (Char 0) i known (omega arith))
     ∙ cell-sound (get_or entry.cells i (Char 0)) (All-get_or IsCell entry.cells i (Char 0) inside known.cells) in
-    sound-more l bytes i (omega arith) (cells-sound l entry known fits i (omega arith)) here p (omega (arith, below, next))
+    sound-more l bytes i (omega arith) (cells-sound l entry known fits i (omega arith)) here p
+    (omega (arith, below, next))
 
-pub slot_bytes-sound : (l : Layout) (entry : Entry) → IsEntry entry → EntryFits l entry → HasNoFault (slot_fault l (slot_bytes l entry)) (slot_size l)
+-- the bytes of a known entry that fits have no fault
+pub slot_bytes-sound : (l : Layout) (entry : Entry) → IsEntry entry → EntryFits l entry
+    → HasNoFault (slot_fault l (slot_bytes l entry)) (slot_size l)
 slot_bytes-sound l entry known fits =
-    let cells : HasNoFault (slot_fault l (slot_bytes l entry)) (8 * number_size l) = λ p below. cells-sound l entry known fits 8 (omega arith) p (omega (arith, below, cells-end l)) in
-    slot-none l (slot_bytes l entry) (slot_size l) cells (small-flag (slice_index (slot_bytes l entry) (8 * number_size l + 1)) entry.flag (sym (flag-in l entry known)))
+    let cells : HasNoFault (slot_fault l (slot_bytes l entry)) (8 * number_size l) =
+    λ p below. cells-sound l entry known fits 8 (omega arith) p (omega (arith, below, cells-end l)) in
+    slot-none l (slot_bytes l entry) (slot_size l) cells
+    (small-flag (slice_index (slot_bytes l entry) (8 * number_size l + 1)) entry.flag (sym (flag-in l entry known)))
     (λ p past below. pads-in l entry p known past)
 
+-- the lock flag of a number
 flag_of : ℕ → LockFlag
 flag_of zero = flag.O
 flag_of (suc zero) = flag.C
 flag_of (suc (suc zero)) = flag.N
 flag_of (suc (suc (suc n))) = flag.B
 
+-- the number of a lock flag, read again, gives the flag
 flag-again : (k : LockFlag) → flag_of (flag_number k) ≡ k
 unfolding flag_of
 flag-again flag.O = refl
@@ -286,24 +378,35 @@ flag-again flag.C = refl
 flag-again flag.N = refl
 flag-again flag.B = refl
 
+-- lock flags are the same where their numbers are
 pub same-flag : (x y : LockFlag) → flag_number x ≡ flag_number y → x ≡ y
 same-flag x y same = sym (flag-again x) ∙ ap flag_of same ∙ flag-again y
 
+-- known cells are the same where their numbers and marks are
 pub same-cell : (x y : Cell) → IsCell x → IsCell y → number_of x ≡ number_of y → is_act x ≡ is_act y → x ≡ y
 same-cell x y known also same marked =
-    sym (cell-again x known) ∙ ap (λ (n : ℕ). cell_of n (is_act x)) same ∙ ap (λ (t : Bool). cell_of (number_of y) t) marked ∙ cell-again y also
+    sym (cell-again x known) ∙ ap (λ (n : ℕ). cell_of n (is_act x)) same
+    ∙ ap (λ (t : Bool). cell_of (number_of y) t) marked ∙ cell-again y also
 
+-- an entry of its cells and flag
 entry_of : List Cell → LockFlag → Entry
 entry_of cells k = record { cells = cells; flag = k }
 
-pub same-entry : (l : Layout) (x y : Entry) → IsEntry x × EntryFits l x → IsEntry y × EntryFits l y → slot_bytes l x ≡ slot_bytes l y → x ≡ y
+-- known entries that fit are the same where their bytes are
+pub same-entry : (l : Layout) (x y : Entry) → IsEntry x × EntryFits l x → IsEntry y × EntryFits l y
+    → slot_bytes l x ≡ slot_bytes l y → x ≡ y
 unfolding entry_of
 same-entry l x y known also same =
     let cells : x.cells ≡ y.cells = same_lists x.cells y.cells (known.0.eight ∙ sym also.0.eight) (λ k d below.
     let column : k < 8 = omega (arith, below, known.0.eight) in
     let within : k < length y.cells = omega (arith, column, also.0.eight) in
-    same-cell (get_or x.cells k d) (get_or y.cells k d) (All-get_or IsCell x.cells k d below known.0.cells) (All-get_or IsCell y.cells k d within also.0.cells)
-    (sym (number-in l x d k known.0 known.1 column) ∙ ap (λ (v : List ℕ). number_at l v (number_size l * k)) same ∙ number-in l y d k also.0 also.1 column)
+    same-cell (get_or x.cells k d) (get_or y.cells k d) (All-get_or IsCell x.cells k d below known.0.cells)
+    (All-get_or IsCell y.cells k d within also.0.cells)
+    (sym (number-in l x d k known.0 known.1 column) ∙ ap (λ (v : List ℕ). number_at l v (number_size l * k)) same
+    ∙ number-in l y d k also.0 also.1 column)
     (sym (mark-in l x d k known.0 column) ∙ ap (λ (v : List ℕ). mark_at l v k) same ∙ mark-in l y d k also.0 column)) in
-    let flags = same-flag x.flag y.flag (sym (flag-in l x known.0) ∙ ap (λ (v : List ℕ). slice_index v (8 * number_size l + 1)) same ∙ flag-in l y also.0) in
+    let flags =
+    same-flag x.flag y.flag
+    (sym (flag-in l x known.0) ∙ ap (λ (v : List ℕ). slice_index v (8 * number_size l + 1)) same
+    ∙ flag-in l y also.0) in
     ap (λ (xs : List Cell). entry_of xs x.flag) cells ∙ ap (λ (k : LockFlag). entry_of y.cells k) flags

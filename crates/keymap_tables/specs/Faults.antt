@@ -1,5 +1,6 @@
 -- Which fault stands at a place of a table file.
-use Rattle.std.specs.Prelude.{◌≡◌, ℕ, ◌+◌, ◌-◌, ◌*◌, ◌/◌, ◌%◌, ◌^◌, ◌<◌, ◌≤◌, ◌==◌, ◌||◌, nat_lt, nat_le, List, length, take_while, slice_index, Bool, not, is_some, Option, None, Some, if◌then◌else◌}
+use Rattle.std.specs.Prelude.{◌≡◌, ℕ, ◌+◌, ◌-◌, ◌*◌, ◌/◌, ◌%◌, ◌^◌, ◌<◌, ◌≤◌, ◌==◌, ◌||◌, nat_lt, nat_le, List, length}
+use Rattle.std.specs.Prelude.{take_while, slice_index, Bool, not, is_some, Option, None, Some, if◌then◌else◌}
 use Rattle.std.specs.Int.{from_le_bytes, w16}
 use Rattle.std.specs.List.{range_with_len}
 use Rattle.keymap_core.specs.Actions.{action_of, within}
@@ -8,7 +9,8 @@ use Rattle.keymap_tables.specs.Layouts.{cells_size}
 use Rattle.keymap_tables.specs.Layouts.{wide, narrow, part, number_width, number_size, count_size, slot_size, pair_size, accent_size, slots_place, slots_size, n_accs_place, accents_place, accents_size, file_size}
 use Rattle.keymap_tables.specs.declared.layout.Layout.{Layout}
 use Rattle.keymap_tables.specs.declared.fault.TableFaultKind.{TableFaultKind}
-use Rattle.keymap_tables.specs.declared.fault.TableFaultKind.TheVariants.{Short, Long, BadCount, BadPad, BadFlag, BadAction, Combined, BadChar, NotEmpty}
+use Rattle.keymap_tables.specs.declared.fault.TableFaultKind.TheVariants.{Short, Long, BadCount, BadPad, BadFlag}
+use Rattle.keymap_tables.specs.declared.fault.TableFaultKind.TheVariants.{BadAction, Combined, BadChar, NotEmpty}
 use Rattle.keymap_tables.specs.declared.fault.TableFault.{TableFault}
 
 -- The number of a cell or a character, and a count, from a place on.
@@ -73,18 +75,21 @@ accent_fault l bytes p =
 -- The places of a row of slots or of accents, of which the first `count` are in use.
 abbrev pub row_fault : (List ℕ → ℕ → Option TableFaultKind) → ℕ → ℕ → List ℕ → ℕ → Option TableFaultKind
 row_fault fault_in size count bytes p =
-    if nat_lt (p / size) count then fault_in (part bytes (size * (p / size)) size) (p % size) else zero_fault NotEmpty bytes p
+    if nat_lt (p / size) count then fault_in (part bytes (size * (p / size)) size) (p % size)
+    else zero_fault NotEmpty bytes p
 
 -- The places of a file of the right length.
 abbrev pub content_fault : Layout → List ℕ → ℕ → Option TableFaultKind
 content_fault l bytes p =
     if nat_lt p (slots_place l) then count_fault slot_limit (part bytes 0 (count_size l)) p
     else if nat_lt p (n_accs_place l) then
-    row_fault (slot_fault l) (slot_size l) (count_at bytes 0) (part bytes (slots_place l) (slots_size l)) (p - slots_place l)
+    row_fault (slot_fault l) (slot_size l) (count_at bytes 0) (part bytes (slots_place l) (slots_size l))
+    (p - slots_place l)
     else if nat_lt p (accents_place l) then
     count_fault accent_limit (part bytes (n_accs_place l) (count_size l)) (p - n_accs_place l)
     else if nat_lt p (file_size l) then
-    row_fault (accent_fault l) (accent_size l) (count_at bytes (n_accs_place l)) (part bytes (accents_place l) (accents_size l)) (p - accents_place l)
+    row_fault (accent_fault l) (accent_size l) (count_at bytes (n_accs_place l))
+    (part bytes (accents_place l) (accents_size l)) (p - accents_place l)
     else None
 
 -- The places of a file: a wrong length first.

@@ -1,5 +1,6 @@
 -- The bytes of a table file, as one list by its parts.
-use Rattle.std.specs.Prelude.{ℕ, ◌+◌, ◌-◌, ◌*◌, List, ◌∷◌, ◌++◌, length, replicate, fold, Bool, true, false, if◌then◌else◌}
+use Rattle.std.specs.Prelude.{ℕ, ◌+◌, ◌-◌, ◌*◌, List, ◌∷◌, ◌++◌, length, replicate, fold, Bool, true, false}
+use Rattle.std.specs.Prelude.{if◌then◌else◌}
 use Rattle.std.specs.List.{flat_map}
 use Rattle.std.specs.Int.{to_le_bytes, w16}
 use Rattle.keymap_core.specs.Accents.{AccentValue}
@@ -48,7 +49,8 @@ flag_number flag.B = 3
 
 -- a slot: its cells, the marks, the flag, and the pads
 abbrev pub slot_bytes : Layout → Entry → List ℕ
-slot_bytes l entry = flat_map (cell_bytes l) entry.cells ++ marks_of entry.cells ∷ flag_number entry.flag ∷ zeros (pad_size l)
+slot_bytes l entry =
+    flat_map (cell_bytes l) entry.cells ++ marks_of entry.cells ∷ flag_number entry.flag ∷ zeros (pad_size l)
 
 abbrev pub pair_bytes : Layout → ℕ × ℕ → List ℕ
 pair_bytes l pair = number_bytes l pair.0 ++ number_bytes l pair.1
@@ -70,7 +72,8 @@ accents_bytes l accents = flat_map (accent_bytes l) accents ++ zeros (accent_siz
 -- the slots, and then the accents, each after its count
 unfoldable pub image_in : Layout → MapValue → List ℕ
 image_in l m =
-    count_bytes l (length m.entries) ++ slots_bytes l m.entries ++ count_bytes l (length m.accents) ++ accents_bytes l m.accents
+    count_bytes l (length m.entries) ++ slots_bytes l m.entries ++ count_bytes l (length m.accents)
+    ++ accents_bytes l m.accents
 
 -- the one image of a map
 abbrev pub image : MapValue → List ℕ

@@ -16,11 +16,13 @@ abbrev pub narrow_limit : ℕ
 narrow_limit = file_size narrow + 1
 
 -- The bytes that were read, up to a limit, are read so.
-abbrev pub ReadsBytes : ℕ → (List ℕ → Result MapValue TableError → Type 0) → Option (List ℕ) → Option (List ℕ) → Result MapValue TableError → Type 0
+abbrev pub ReadsBytes : ℕ → (List ℕ → Result MapValue TableError → Type 0) → Option (List ℕ) → Option (List ℕ)
+    → Result MapValue TableError → Type 0
 ReadsBytes most IsRead old new r = (bytes : List ℕ) × ReadsUpTo most old new bytes × IsRead bytes r
 
 -- The map or the fault of the bytes that were read. After a fault of the reader nothing is said of the bytes.
-abbrev pub ReadsFile : ℕ → (List ℕ → Result MapValue TableError → Type 0) → Option (List ℕ) → Option (List ℕ) → Result MapValue TableError → Type 0
+abbrev pub ReadsFile : ℕ → (List ℕ → Result MapValue TableError → Type 0) → Option (List ℕ) → Option (List ℕ)
+    → Result MapValue TableError → Type 0
 ReadsFile most IsRead old new (Ok m) = ReadsBytes most IsRead old new (Ok m)
 ReadsFile most IsRead old new (Err Memory) = ⊤
 ReadsFile most IsRead old new (Err (Read f)) = IsDeviceFault most old new (read.Read f)

@@ -12,7 +12,8 @@ use Rattle.keymap_tables.specs.declared.narrow.NarrowError.TheVariants.{TooWide,
 abbrev pub WritesNarrow : {X : Type 0} → Option (List ℕ) → Option (List ℕ) → MapValue → Result X NarrowError → Type 0
 WritesNarrow old new m (Ok x) = Fits m × Appends old new (narrow_image m)
 WritesNarrow old new m (Err (TooWide w)) = IsFirstWide m w × Keeps old new
-WritesNarrow old new m (Err (Write f)) = Fits m × (f.written < length (narrow_image m)) × Appends old new (take f.written (narrow_image m))
+WritesNarrow old new m (Err (Write f)) =
+    Fits m × (f.written < length (narrow_image m)) × Appends old new (take f.written (narrow_image m))
 
 -- whether the answer names the writer as what failed
 abbrev pub names_writer : {X : Type 0} → Result X NarrowError → Bool

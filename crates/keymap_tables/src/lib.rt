@@ -1,12 +1,12 @@
-//! Binary keymap tables: the layout of `struct keymap` and `struct accentmap` of sys/kbio.h, 15,524 bytes, numbers little
-//! endian.
+//! Binary keymap tables: the layout of `struct keymap` and `struct accentmap` of sys/kbio.h, 15,524 bytes, numbers
+//! little endian.
 //!
 //! `write_tables` writes the one image of a map. `read_tables` answers the map whose image the bytes are, or else the
 //! fault of least offset. `read_tables_from` does so with the bytes of a reader.
 //!
-//! The narrow file is this project's own: the same parts with one byte a number and no pads, 4,139 bytes. `write_narrow`,
-//! `read_narrow` and `read_narrow_from` are the same calls for it. A map fits if no character is above 255; `write_narrow`
-//! names the first that is, and writes nothing.
+//! The narrow file is this project's own: the same parts with one byte a number and no pads, 4,139 bytes.
+//! `write_narrow`, `read_narrow` and `read_narrow_from` are the same calls for it. A map fits if no character is above
+//! 255; `write_narrow` names the first that is, and writes nothing.
 //!
 //! `Tables` is a keymap that is read in place, from the bytes of a table file: a console runs over it without a map and
 //! without memory.

@@ -1,5 +1,6 @@
 //! Reading of the numbers of a table.
-ghost use Rattle.std.specs.Prelude.{◌≡◌, ℕ, ◌+◌, ◌-◌, ◌<◌, ◌≤◌, length, slice_index, IfOk, IfErr, OnOk, None, Some, MatchResult};
+ghost use Rattle.std.specs.Prelude.{◌≡◌, ℕ, ◌+◌, ◌-◌, ◌<◌, ◌≤◌, length, slice_index, IfOk, IfErr, OnOk, None, Some};
+ghost use Rattle.std.specs.Prelude.{MatchResult};
 ghost use Rattle.std.specs.Char.{IsScalar};
 ghost use Rattle.keymap_core.specs.Bounds.{IsCell};
 ghost use Rattle.keymap_tables.specs.Faults.{number_at, count_at, char_fault, action_fault, cell_fault, count_fault};
@@ -61,7 +62,8 @@ pub(crate) fn cell_of(number: u32, is_marked: bool) -> Result<Cell, TableFaultKi
     ensures number { IfOk result (λ c. number_of c ≡ number) }
     ensures mark { IfOk result (λ c. is_act c ≡ is_marked) }
     ensures known { IfOk result IsCell }
-    ensures fault { MatchResult result (λ _. cell_fault number is_marked ≡ None) (λ kind. cell_fault number is_marked ≡ Some kind) }
+    ensures fault { MatchResult result (λ _. cell_fault number is_marked ≡ None)
+        (λ kind. cell_fault number is_marked ≡ Some kind) }
 {
     if is_marked {
         Ok(Cell::Act(action_of_number(number)?))

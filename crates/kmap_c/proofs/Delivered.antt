@@ -8,12 +8,18 @@ use Rattle.console_core.specs.Raw.{raw_of}
 use Rattle.console_core.proofs.Deliveries.{AnswersTo-push}
 use Rattle.kmap_c.specs.Numbers.{event_of}
 
-pub events-push : (numbers : List ℕ) (i : ℕ) (e : Event) → e ≡ event_of (get_or numbers i 0) → i < length numbers → map event_of (take (i + 1) numbers) ≡ map event_of (take i numbers) ++ e ∷ []
+-- the events delivered so far, with one more
+pub events-push : (numbers : List ℕ) (i : ℕ) (e : Event) → e ≡ event_of (get_or numbers i 0) → i < length numbers
+    → map event_of (take (i + 1) numbers) ≡ map event_of (take i numbers) ++ e ∷ []
 events-push numbers i e is below =
-    ap (λ (v : List ℕ). map event_of v) (take_more numbers i 0 below) ∙ map-append event_of (take i numbers) (get_or numbers i 0 ∷ [])
+    ap (λ (v : List ℕ). map event_of v) (take_more numbers i 0 below)
+    ∙ map-append event_of (take i numbers) (get_or numbers i 0 ∷ [])
     ∙ ap (λ (x : Event). map event_of (take i numbers) ++ x ∷ []) (sym is)
 
-pub answers-push : (ms : Maps) (h es : List Event) (e : Event) (n : ℕ) → n ≡ raw_of (AnswerTo ms (reverse es ++ h) e) → map raw_of (AnswersTo ms h es) ++ n ∷ [] ≡ map raw_of (AnswersTo ms h (es ++ e ∷ []))
+-- the answers so far, with that to one more event
+pub answers-push : (ms : Maps) (h es : List Event) (e : Event) (n : ℕ) → n ≡ raw_of (AnswerTo ms (reverse es ++ h) e)
+    → map raw_of (AnswersTo ms h es) ++ n ∷ [] ≡ map raw_of (AnswersTo ms h (es ++ e ∷ []))
 answers-push ms h es e n is =
     ap (λ (k : ℕ). map raw_of (AnswersTo ms h es) ++ k ∷ []) is
-    ∙ sym (ap (map raw_of) (AnswersTo-push ms h es e) ∙ map-append raw_of (AnswersTo ms h es) (AnswerTo ms (reverse es ++ h) e ∷ []))
+    ∙ sym (ap (map raw_of) (AnswersTo-push ms h es e)
+    ∙ map-append raw_of (AnswersTo ms h es) (AnswerTo ms (reverse es ++ h) e ∷ []))

@@ -27,7 +27,8 @@ place_text p = codes " at slot " ++ decimal p.slot ++ codes " column " ++ decima
 -- a key that bears a holding action and has a character
 abbrev pub finding_line : Finding → List ℕ
 finding_line f =
-    codes "key " ++ decimal f.key ++ codes ": " ++ holding_name f.holding ++ place_text f.holding_at ++ codes ", character"
+    codes "key " ++ decimal f.key ++ codes ": " ++ holding_name f.holding ++ place_text f.holding_at
+    ++ codes ", character"
     ++ place_text f.character_at ++ codes "\n"
 
 abbrev pub bearer_text : Bearer → List ℕ

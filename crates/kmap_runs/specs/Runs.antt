@@ -48,20 +48,24 @@ of_play_error (play.Write f) = error.Write f
 
 -- The text that was read spells a map, and the report on it was written, or its first `written` bytes; the answer is
 -- whether the map is safe. After any other refusal nothing was written, and a fault is that of the bytes taken.
-abbrev pub ChecksText : Bool → Option (List ℕ) → Option (List ℕ) → Option (List ℕ) → Option (List ℕ) → Result Bool RunError → Type 0
+abbrev pub ChecksText : Bool → Option (List ℕ) → Option (List ℕ) → Option (List ℕ) → Option (List ℕ)
+    → Result Bool RunError → Type 0
 ChecksText show before after old new (Ok accepted) =
     (m : MapValue) × ReadsMap before after (Ok m) × (IsTrue accepted ↔ IsSafe m) × Appends old new (report m show)
 ChecksText show before after old new (Err (error.Write f)) =
-    (m : MapValue) × ReadsMap before after (Ok m) × (f.written < length (report m show)) × Appends old new (take f.written (report m show))
+    (m : MapValue) × ReadsMap before after (Ok m) × (f.written < length (report m show))
+    × Appends old new (take f.written (report m show))
 ChecksText show before after old new (Err (error.Text f)) = ReadsMap before after (Err (text.Fault f)) × Keeps old new
-ChecksText show before after old new (Err (error.ReadText f)) = ReadsMap before after (Err (text.Read f)) × Keeps old new
+ChecksText show before after old new (Err (error.ReadText f)) =
+    ReadsMap before after (Err (text.Read f)) × Keeps old new
 ChecksText show before after old new (Err error.Memory) = ReadsMap before after (Err text.Memory) × Keeps old new
 ChecksText show before after old new (Err _) = ⊥
 
 -- The text that was read spells a map, the search answered so, and what it found was written, or its first `written`
--- bytes; the answer is whether no modifier ever sticks. After any other refusal nothing was written, and a fault is that
--- of the bytes taken.
-abbrev pub SearchesText : Option (List ℕ) → Option (List ℕ) → Option (List ℕ) → Option (List ℕ) → Result Bool RunError → Type 0
+-- bytes; the answer is whether no modifier ever sticks. After any other refusal nothing was written, and a fault is
+-- that of the bytes taken.
+abbrev pub SearchesText : Option (List ℕ) → Option (List ℕ) → Option (List ℕ) → Option (List ℕ) → Result Bool RunError
+    → Type 0
 SearchesText before after old new (Ok never) =
     (m : MapValue) × (found : Sticking) × ReadsMap before after (Ok m) × IsAnswer m found × (never ≡ is_never found)
     × Appends old new (found_text m found)
@@ -79,18 +83,22 @@ abbrev pub DumpsFile : {X : Type 0} → (Option (List ℕ) → Option (List ℕ)
     → Option (List ℕ) → Option (List ℕ) → Option (List ℕ) → Option (List ℕ) → Result X RunError → Type 0
 DumpsFile Reads before after old new (Ok _) = (m : MapValue) × Reads before after (Ok m) × Appends old new (printed m)
 DumpsFile Reads before after old new (Err (error.Write f)) =
-    (m : MapValue) × Reads before after (Ok m) × (f.written < length (printed m)) × Appends old new (take f.written (printed m))
+    (m : MapValue) × Reads before after (Ok m) × (f.written < length (printed m))
+    × Appends old new (take f.written (printed m))
 DumpsFile Reads before after old new (Err (error.Tables f)) = Reads before after (Err (tables.Fault f)) × Keeps old new
-DumpsFile Reads before after old new (Err (error.ReadTables f)) = Reads before after (Err (tables.Read f)) × Keeps old new
+DumpsFile Reads before after old new (Err (error.ReadTables f)) =
+    Reads before after (Err (tables.Read f)) × Keeps old new
 DumpsFile Reads before after old new (Err error.Memory) = Reads before after (Err tables.Memory) × Keeps old new
 DumpsFile Reads before after old new (Err _) = ⊥
 
 -- The tables that were read are the image of the map.
-abbrev pub DumpsTables : {X : Type 0} → Option (List ℕ) → Option (List ℕ) → Option (List ℕ) → Option (List ℕ) → Result X RunError → Type 0
+abbrev pub DumpsTables : {X : Type 0} → Option (List ℕ) → Option (List ℕ) → Option (List ℕ) → Option (List ℕ)
+    → Result X RunError → Type 0
 DumpsTables before after old new r = DumpsFile ReadsTables before after old new r
 
 -- The narrow file that was read is the narrow image of the map.
-abbrev pub DumpsNarrow : {X : Type 0} → Option (List ℕ) → Option (List ℕ) → Option (List ℕ) → Option (List ℕ) → Result X RunError → Type 0
+abbrev pub DumpsNarrow : {X : Type 0} → Option (List ℕ) → Option (List ℕ) → Option (List ℕ) → Option (List ℕ)
+    → Result X RunError → Type 0
 DumpsNarrow before after old new r = DumpsFile ReadsNarrow before after old new r
 
 -- the answer names the reader as what failed

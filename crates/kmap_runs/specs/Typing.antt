@@ -1,5 +1,6 @@
 -- The script that types a sentence.
-use Rattle.std.specs.Prelude.{ℕ, ◌==◌, nat_lt, Bool, true, false, ◌||◌, List, [], ◌∷◌, ◌++◌, codes, encode_utf8, if◌then◌else◌}
+use Rattle.std.specs.Prelude.{ℕ, ◌==◌, nat_lt, Bool, true, false, ◌||◌, List, [], ◌∷◌, ◌++◌, codes, encode_utf8}
+use Rattle.std.specs.Prelude.{if◌then◌else◌}
 use Rattle.std.specs.List.{flat_map, before_first}
 use Rattle.keymap_core.specs.Actions.{within}
 use Rattle.keymap_core.specs.Maps.{MapValue}
@@ -7,7 +8,8 @@ use Rattle.play_core.specs.Typing.{way_for, events_in}
 use Rattle.kmap_runs.specs.CodePoints.{code_text}
 use Rattle.kmap_runs.specs.Report.{event_line}
 
--- a character that a terminal doesn't show as it is: a control, a mark that can't be seen, or one that turns the direction
+-- a character that a terminal doesn't show as it is: a control, a mark that can't be seen, or one that turns the
+-- direction
 abbrev pub is_hidden : ℕ → Bool
 is_hidden c =
     nat_lt c 32 || within 127 159 c || (c == 173) || within 0x200b 0x200f c || within 0x2028 0x202e c

@@ -234,7 +234,8 @@ fn line_of(error: &RunError) -> Line
 
 /// Writes the line of an error, or after a fault of the writer its first `written` bytes.
 pub fn write_run_error<W: Write>(error: &RunError, writer: &mut W) -> Result<(), WriteFault>
-    ensures bytes { WritesText (λ f. f.written) (W.contents writer.old) (W.contents writer.new) (fault_line error.now) result }
+    ensures bytes { WritesText (λ f. f.written) (W.contents writer.old) (W.contents writer.new) (fault_line error.now)
+        result }
     ensures failed { W.has_failed writer.new ≡ (is_err result || W.has_failed writer.old) }
 {
     write_text(writer, line_of(error).as_slice())

@@ -12,8 +12,8 @@ use console_core::Event;
 use keymap_check::{Bearer, Finding, Place, Report, check, demonstrate};
 use keymap_core::{HOLDINGS, Holding, KeyMap};
 
-/// How many bytes a report has at most: the verdict, a line of 73 bytes for each of 128 findings, one of 29 for each of 12
-/// holding actions, and the demonstration, fit with room to spare.
+/// How many bytes a report has at most: the verdict, a line of 73 bytes for each of 128 findings, one of 29 for each of
+/// 12 holding actions, and the demonstration, fit with room to spare.
 const REPORT: usize = 10_240;
 
 pub(crate) type Text = ArrayVec<u8, REPORT>;

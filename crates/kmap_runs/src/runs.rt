@@ -70,7 +70,8 @@ pub fn play_failure(error: PlayError) -> RunError
 /// Checks a map and writes the report. Answers whether the map was accepted.
 fn write_report<W: Write>(map: &KeyMap, show: bool, writer: &mut W) -> Result<bool, WriteFault>
     ensures accepted { IfOk result (λ accepted. IsTrue accepted ↔ IsSafe map.now) }
-    ensures bytes { WritesText (λ f. f.written) (W.contents writer.old) (W.contents writer.new) (report map.now show) result }
+    ensures bytes { WritesText (λ f. f.written) (W.contents writer.old) (W.contents writer.new) (report map.now show)
+        result }
     ensures failed { W.has_failed writer.new ≡ (is_err result || W.has_failed writer.old) }
 {
     let report = check(map);
@@ -86,7 +87,8 @@ pub fn check_run<R: Read, W: Write>(
     show: bool,
     writer: &mut W,
 ) -> Result<bool, RunError>
-    ensures run { ChecksText show (R.remaining reader.old) (R.remaining reader.new) (W.contents writer.old) (W.contents writer.new) result }
+    ensures run { ChecksText show (R.remaining reader.old) (R.remaining reader.new) (W.contents writer.old)
+        (W.contents writer.new) result }
     ensures reader_failed { R.has_failed reader.new ≡ (blames_reader result || R.has_failed reader.old) }
     ensures writer_failed { W.has_failed writer.new ≡ (blames_writer result || W.has_failed writer.old) }
 {
@@ -116,7 +118,8 @@ pub fn search_run<R: Read, W: Write>(
     reader: &mut R,
     writer: &mut W,
 ) -> Result<bool, RunError>
-    ensures run { SearchesText (R.remaining reader.old) (R.remaining reader.new) (W.contents writer.old) (W.contents writer.new) result }
+    ensures run { SearchesText (R.remaining reader.old) (R.remaining reader.new) (W.contents writer.old)
+        (W.contents writer.new) result }
     ensures reader_failed { R.has_failed reader.new ≡ (blames_reader result || R.has_failed reader.old) }
     ensures writer_failed { W.has_failed writer.new ≡ (blames_writer result || W.has_failed writer.old) }
 {
@@ -139,7 +142,8 @@ pub fn dump_run<R: Read, W: Write>(
     reader: &mut R,
     writer: &mut W,
 ) -> Result<(), RunError>
-    ensures run { DumpsTables (R.remaining reader.old) (R.remaining reader.new) (W.contents writer.old) (W.contents writer.new) result }
+    ensures run { DumpsTables (R.remaining reader.old) (R.remaining reader.new) (W.contents writer.old)
+        (W.contents writer.new) result }
     ensures reader_failed { R.has_failed reader.new ≡ (blames_reader result || R.has_failed reader.old) }
     ensures writer_failed { W.has_failed writer.new ≡ (blames_writer result || W.has_failed writer.old) }
 {
@@ -156,7 +160,8 @@ pub fn dump_narrow_run<R: Read, W: Write>(
     reader: &mut R,
     writer: &mut W,
 ) -> Result<(), RunError>
-    ensures run { DumpsNarrow (R.remaining reader.old) (R.remaining reader.new) (W.contents writer.old) (W.contents writer.new) result }
+    ensures run { DumpsNarrow (R.remaining reader.old) (R.remaining reader.new) (W.contents writer.old)
+        (W.contents writer.new) result }
     ensures reader_failed { R.has_failed reader.new ≡ (blames_reader result || R.has_failed reader.old) }
     ensures writer_failed { W.has_failed writer.new ≡ (blames_writer result || W.has_failed writer.old) }
 {

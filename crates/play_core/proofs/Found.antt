@@ -1,5 +1,6 @@
 -- What was found by trying more ways.
-use Rattle.std.proofs.Common.{◌≡◌, ℕ, ◌<◌, ◌≤◌, ◌+◌, true, List, [], ◌∷◌, ◌++◌, Option, Some, None, refl, ap, sym, subst, ◌∙◌, append-nil, append_assoc, length, arith, map, take, get_or}
+use Rattle.std.proofs.Common.{◌≡◌, ℕ, ◌<◌, ◌≤◌, ◌+◌, true, List, [], ◌∷◌, ◌++◌, Option, Some, None, refl, ap, sym}
+use Rattle.std.proofs.Common.{subst, ◌∙◌, append-nil, append_assoc, length, arith, map, take, get_or}
 use Rattle.std.proofs.lemmas.List.{take_more}
 use Rattle.std.proofs.lemmas.Grind.{flat_map-append}
 use Rattle.keymap_core.specs.Accents.{AccentValue}
@@ -22,7 +23,8 @@ use Rattle.play_core.proofs.Combinations.{IsCombination, all-combinations, short
 use Rattle.play_core.proofs.Sentences.{when-rests, is-now}
 
 -- a combination is tried from a new console
-pub trial-of : (m : MapValue) (keys : List (Option ℕ)) (set k : ℕ) (way : List Event) → combination_with keys set k ≡ way ∷ [] → IsTrial m way
+pub trial-of : (m : MapValue) (keys : List (Option ℕ)) (set k : ℕ) (way : List Event)
+    → combination_with keys set k ≡ way ∷ [] → IsTrial m way
 trial-of m keys set k way e = record {
   before = [];
   rests = rests-start m;
@@ -33,36 +35,55 @@ trial-of m keys set k way e = record {
 
 -- one more combination, and none
 pub tables-more : (m : MapValue) (ways more : List (List Event)) (way : List Event) (cs is ds js : Entries)
-    → ((f : List Event → Option ℕ) (ways : List (List Event)) → f way ≡ character_of m way → IsTableOf f ways cs → IsTableOf f (ways ++ way ∷ []) ds)
-    → ((f : List Event → Option ℕ) (ways : List (List Event)) → f way ≡ accent_of m way → IsTableOf f ways is → IsTableOf f (ways ++ way ∷ []) js)
+    → ((f : List Event → Option ℕ) (ways : List (List Event)) → f way ≡ character_of m way → IsTableOf f ways cs
+    → IsTableOf f (ways ++ way ∷ []) ds)
+    → ((f : List Event → Option ℕ) (ways : List (List Event)) → f way ≡ accent_of m way → IsTableOf f ways is
+    → IsTableOf f (ways ++ way ∷ []) js)
     → more ≡ way ∷ [] → AreTablesOf m ways cs is → AreTablesOf m (ways ++ more) ds js
 tables-more m ways more way cs is ds js f g e t =
     subst (λ x. AreTablesOf m (ways ++ x) ds js) (sym e)
-    (record { by_character = f (character_of m) ways refl t.by_character; by_accent = g (accent_of m) ways refl t.by_accent })
+    (record {
+      by_character = f (character_of m) ways refl t.by_character;
+      by_accent = g (accent_of m) ways refl t.by_accent;
+    })
 
-pub tables-none : (m : MapValue) (ways more : List (List Event)) (cs is : Entries) → more ≡ [] → AreTablesOf m ways cs is → AreTablesOf m (ways ++ more) cs is
-tables-none m ways more cs is e t = subst (λ x. AreTablesOf m (ways ++ x) cs is) (sym e) (subst (λ x. AreTablesOf m x cs is) (sym (append-nil ways)) t)
+-- no further ways change no table
+pub tables-none : (m : MapValue) (ways more : List (List Event)) (cs is : Entries) → more ≡ []
+    → AreTablesOf m ways cs is → AreTablesOf m (ways ++ more) cs is
+tables-none m ways more cs is e t =
+    subst (λ x. AreTablesOf m (ways ++ x) cs is) (sym e) (subst (λ x. AreTablesOf m x cs is) (sym (append-nil ways)) t)
 
+-- an empty table is that of no ways
 pub table-empty : (f : List Event → Option ℕ) (es : Entries) → es ≡ [] → IsTableOf f [] es
 table-empty f es e = subst (IsTableOf f []) (sym e) (λ c. refl)
 
+-- empty tables are those of no ways
 pub tables-empty : (m : MapValue) (cs is : Entries) → cs ≡ [] → is ≡ [] → AreTablesOf m [] cs is
-tables-empty m cs is e f = record { by_character = table-empty (character_of m) cs e; by_accent = table-empty (accent_of m) is f }
+tables-empty m cs is e f =
+    record { by_character = table-empty (character_of m) cs e; by_accent = table-empty (accent_of m) is f }
 
 -- a dead key and a base
 pub direct-combination : (m : MapValue) (c : ℕ) (way : List Event) → direct_way m c ≡ Some way → IsCombination way
-direct-combination m c way e = find-All IsCombination (λ w. is_now c (character_of m w)) (combinations m) way (all-combinations m) e
+direct-combination m c way e =
+    find-All IsCombination (λ w. is_now c (character_of m w)) (combinations m) way (all-combinations m) e
 
+-- the way to a dead key is a combination
 pub dead-combination : (m : MapValue) (i : ℕ) (way : List Event) → dead_way m i ≡ Some way → IsCombination way
-dead-combination m i way e = find-All IsCombination (λ w. is_now i (accent_of m w)) (combinations m) way (all-combinations m) e
+dead-combination m i way e =
+    find-All IsCombination (λ w. is_now i (accent_of m w)) (combinations m) way (all-combinations m) e
 
+-- the way to a dead key ends at rest
 dead-rests : (m : MapValue) (i : ℕ) (way : List Event) → dead_way m i ≡ Some way → is_at_rest m (reverse way) ≡ true
 unfolding accent_of
 dead-rests m i way e =
-    let is : accent_of m way ≡ Some i = is-now i (accent_of m way) (find-true (λ w. is_now i (accent_of m w)) (combinations m) way e) in
-    (when-rests (is_at_rest m (reverse way)) (unless_any (typing_answers m way) (Pending (alone m) (reverse way))) i is).0
+    let is : accent_of m way ≡ Some i =
+    is-now i (accent_of m way) (find-true (λ w. is_now i (accent_of m w)) (combinations m) way e) in
+    (when-rests (is_at_rest m (reverse way)) (unless_any (typing_answers m way) (Pending (alone m) (reverse way))) i
+    is).0
 
-pub trial-joined : (m : MapValue) (i c : ℕ) (dead base way : List Event) → dead_way m i ≡ Some dead → direct_way m c ≡ Some base
+-- a dead key and a base are a way that is tried
+pub trial-joined : (m : MapValue) (i c : ℕ) (dead base way : List Event) → dead_way m i ≡ Some dead
+    → direct_way m c ≡ Some base
     → way ≡ dead ++ base → IsTrial m way
 trial-joined m i c dead base way e f is =
     let b : IsCombination base = direct-combination m c base f in
@@ -74,7 +95,9 @@ trial-joined m i c dead base way e f is =
       is = is ∙ ap (λ x. dead ++ x) b.is;
     }
 
-pub short-joined : (m : MapValue) (i c : ℕ) (dead base : List Event) → dead_way m i ≡ Some dead → direct_way m c ≡ Some base
+-- a dead key and a base have at most 20 events
+pub short-joined : (m : MapValue) (i c : ℕ) (dead base : List Event) → dead_way m i ≡ Some dead
+    → direct_way m c ≡ Some base
     → length dead + length base ≤ 20
 short-joined m i c dead base e f =
     let a = short-combination dead (dead-combination m i dead e) in
@@ -87,45 +110,60 @@ flat-none f [] none = refl
 flat-none f (x ∷ xs) none = rw (none x) (flat-none f xs none)
 
 -- the first of all ways
-pub first-way : (m : MapValue) (c : ℕ) (o p : Option (List Event)) → direct_way m c ≡ o → first_with (character_of m) (accented m) c ≡ p
+pub first-way : (m : MapValue) (c : ℕ) (o p : Option (List Event)) → direct_way m c ≡ o
+    → first_with (character_of m) (accented m) c ≡ p
     → way_for m c ≡ option_or o p
 first-way m c o p e f =
     find-append (λ w. is_now c (character_of m w)) (combinations m) (accented m)
     ∙ ap (λ x. option_or x (first_with (character_of m) (accented m) c)) e ∙ ap (option_or o) f
 
 -- what a look-up in a table finds is the first way under the number
-pub found-first : (f : List Event → Option ℕ) (ways : List (List Event)) (es : Entries) (n : ℕ) (o : Option (ArrayVec Event))
+pub found-first : (f : List Event → Option ℕ) (ways : List (List Event)) (es : Entries) (n : ℕ)
+    (o : Option (ArrayVec Event))
     → IsTableOf f ways es → o ≡ lookup (λ x. n == x) es → first_with f ways n ≡ option_map (λ w. w.items) o
 found-first f ways es n o table e = sym (table n) ∙ ap (option_map (λ w. w.items)) (sym e)
 
-pub base-none : (m : MapValue) (c : ℕ) (dead : List Event) (ways : List (List Event)) (es : Entries) → direct_way m c ≡ None
+-- a base without a way adds no way
+pub base-none : (m : MapValue) (c : ℕ) (dead : List Event) (ways : List (List Event)) (es : Entries)
+    → direct_way m c ≡ None
     → IsTableOf (character_of m) ways es → IsTableOf (character_of m) (ways ++ joined (Some dead) (direct_way m c)) es
 base-none m c dead ways es e table =
     subst (λ o. IsTableOf (character_of m) (ways ++ joined (Some dead) o) es) (sym e)
     (subst (λ x. IsTableOf (character_of m) x es) (sym (append-nil ways)) table)
 
-pub base-more : (m : MapValue) (c : ℕ) (dead base : List Event) (ways : List (List Event)) (es : Entries) → direct_way m c ≡ Some base
+-- a base with a way adds the dead key and that way
+pub base-more : (m : MapValue) (c : ℕ) (dead base : List Event) (ways : List (List Event)) (es : Entries)
+    → direct_way m c ≡ Some base
     → IsTableOf (character_of m) (ways ++ (dead ++ base) ∷ []) es
     → IsTableOf (character_of m) (ways ++ joined (Some dead) (direct_way m c)) es
 base-more m c dead base ways es e table =
     subst (λ o. IsTableOf (character_of m) (ways ++ joined (Some dead) o) es) (sym e) table
 
 -- the dead key that was found
-pub dead-found : (m : MapValue) (n i : ℕ) (es : Entries) (w : ArrayVec Event) → IsTableOf (accent_of m) (combinations m) es
+pub dead-found : (m : MapValue) (n i : ℕ) (es : Entries) (w : ArrayVec Event)
+    → IsTableOf (accent_of m) (combinations m) es
     → Some w ≡ lookup (λ x. n == x) es → n ≡ i → dead_way m i ≡ Some w.items
-dead-found m n i es w table e is = subst (λ x. dead_way m x ≡ Some w.items) is (found-first (accent_of m) (combinations m) es n (Some w) table e)
+dead-found m n i es w table e is =
+    subst (λ x. dead_way m x ≡ Some w.items) is (found-first (accent_of m) (combinations m) es n (Some w) table e)
 
+-- an index that isn't in the table of dead keys has no way
 pub no-dead-found : (m : MapValue) (n i : ℕ) (es : Entries) → IsTableOf (accent_of m) (combinations m) es
     → None ≡ lookup (λ x. n == x) es → n ≡ i → dead_way m i ≡ None
-no-dead-found m n i es table e is = subst (λ x. dead_way m x ≡ None) is (found-first (accent_of m) (combinations m) es n None table e)
+no-dead-found m n i es table e is =
+    subst (λ x. dead_way m x ≡ None) is (found-first (accent_of m) (combinations m) es n None table e)
 
-pub direct-found : (m : MapValue) (n c : ℕ) (es : Entries) (w : ArrayVec Event) → IsTableOf (character_of m) (combinations m) es
+-- the way in the table is the first combination that types the character
+pub direct-found : (m : MapValue) (n c : ℕ) (es : Entries) (w : ArrayVec Event)
+    → IsTableOf (character_of m) (combinations m) es
     → Some w ≡ lookup (λ x. n == x) es → n ≡ c → direct_way m c ≡ Some w.items
-direct-found m n c es w table e is = subst (λ x. direct_way m x ≡ Some w.items) is (found-first (character_of m) (combinations m) es n (Some w) table e)
+direct-found m n c es w table e is =
+    subst (λ x. direct_way m x ≡ Some w.items) is (found-first (character_of m) (combinations m) es n (Some w) table e)
 
+-- a character that isn't in the table is typed by no combination
 pub no-direct-found : (m : MapValue) (n c : ℕ) (es : Entries) → IsTableOf (character_of m) (combinations m) es
     → None ≡ lookup (λ x. n == x) es → n ≡ c → direct_way m c ≡ None
-no-direct-found m n c es table e is = subst (λ x. direct_way m x ≡ None) is (found-first (character_of m) (combinations m) es n None table e)
+no-direct-found m n c es table e is =
+    subst (λ x. direct_way m x ≡ None) is (found-first (character_of m) (combinations m) es n None table e)
 
 -- no dead key gives nothing
 pub accented-none : (m : MapValue) (i : ℕ) (ways : List (List Event)) (es : Entries) → dead_way m i ≡ None
@@ -140,18 +178,26 @@ accented-none m i ways es e table =
 flat-map-bases : {A : Type 0} (f : ℕ → List A) (pairs : List (ℕ × ℕ))
     → flat_map f (map (λ p. p.0) pairs ++ 32 ∷ []) ≡ flat_map (λ p. f p.0) pairs ++ f 32
 flat-map-bases f [] = append-nil (f 32)
-flat-map-bases f (p ∷ pairs) = ap (λ x. f p.0 ++ x) (flat-map-bases f pairs) ∙ sym (append_assoc (f p.0) (flat_map (λ p. f p.0) pairs) (f 32))
+flat-map-bases f (p ∷ pairs) =
+    ap (λ x. f p.0 ++ x) (flat-map-bases f pairs) ∙ sym (append_assoc (f p.0) (flat_map (λ p. f p.0) pairs) (f 32))
 
-pub accented-all : (m : MapValue) (i : ℕ) (a : AccentValue) (dead : List Event) (ways : List (List Event)) (es : Entries)
+-- the ways over a dead key are those of its pairs, and of the accent's own character
+pub accented-all : (m : MapValue) (i : ℕ) (a : AccentValue) (dead : List Event) (ways : List (List Event))
+    (es : Entries)
     → accent_at m i ≡ Some a → dead_way m i ≡ Some dead
-    → IsTableOf (character_of m) ((ways ++ flat_map (λ p. joined (dead_way m i) (direct_way m p.0)) a.pairs) ++ joined (Some dead) (direct_way m 32)) es
+    → IsTableOf (character_of m)
+    ((ways ++ flat_map (λ p. joined (dead_way m i) (direct_way m p.0)) a.pairs)
+    ++ joined (Some dead) (direct_way m 32))
+    es
     → IsTableOf (character_of m) (ways ++ accented_by m i) es
 accented-all m i a dead ways es e d table =
     let f : ℕ → List (List Event) = λ base. joined (dead_way m i) (direct_way m base) in
-    let g : accented_by m i ≡ flat_map (λ p. f p.0) a.pairs ++ f 32 = ap (λ o. flat_map f (bases_of o)) e ∙ flat-map-bases f a.pairs in
+    let g : accented_by m i ≡ flat_map (λ p. f p.0) a.pairs ++ f 32 =
+    ap (λ o. flat_map f (bases_of o)) e ∙ flat-map-bases f a.pairs in
     subst (λ x. IsTableOf (character_of m) (ways ++ x) es) (sym g)
     (subst (λ x. IsTableOf (character_of m) x es) (append_assoc ways (flat_map (λ p. f p.0) a.pairs) (f 32))
-    (subst (λ o. IsTableOf (character_of m) ((ways ++ flat_map (λ p. f p.0) a.pairs) ++ joined o (direct_way m 32)) es) (sym d) table))
+    (subst (λ o. IsTableOf (character_of m) ((ways ++ flat_map (λ p. f p.0) a.pairs) ++ joined o (direct_way m 32)) es)
+    (sym d) table))
 
 -- one pair more
 flat-map-more : {A : Type 0} (f : ℕ × ℕ → List A) (pairs : List (ℕ × ℕ)) (k : ℕ) → k < length pairs
@@ -160,24 +206,31 @@ flat-map-more f pairs k lt =
     ap (flat_map f) (take_more pairs k (0, 0) lt) ∙ flat_map-append f (take k pairs) (get_or pairs k (0, 0) ∷ [])
     ∙ ap (λ x. flat_map f (take k pairs) ++ x) (append-nil (f (get_or pairs k (0, 0))))
 
-pub accented-more : (m : MapValue) (i : ℕ) (dead : List Event) (ways : List (List Event)) (es : Entries) (pairs : List (ℕ × ℕ)) (k : ℕ)
+-- one more pair of a dead key
+pub accented-more : (m : MapValue) (i : ℕ) (dead : List Event) (ways : List (List Event)) (es : Entries)
+    (pairs : List (ℕ × ℕ)) (k : ℕ)
     → dead_way m i ≡ Some dead → k < length pairs
     → IsTableOf (character_of m) ((ways ++ flat_map (λ p. joined (dead_way m i) (direct_way m p.0)) (take k pairs))
     ++ joined (Some dead) (direct_way m (get_or pairs k (0, 0)).0)) es
-    → IsTableOf (character_of m) (ways ++ flat_map (λ p. joined (dead_way m i) (direct_way m p.0)) (take (k + 1) pairs)) es
+    → IsTableOf (character_of m) (ways ++ flat_map (λ p. joined (dead_way m i) (direct_way m p.0)) (take (k + 1) pairs))
+    es
 accented-more m i dead ways es pairs k d lt table =
     let f : ℕ × ℕ → List (List Event) = λ p. joined (dead_way m i) (direct_way m p.0) in
     let p : ℕ × ℕ = get_or pairs k (0, 0) in
     subst (λ x. IsTableOf (character_of m) (ways ++ x) es) (sym (flat-map-more f pairs k lt))
     (subst (λ x. IsTableOf (character_of m) x es) (append_assoc ways (flat_map f (take k pairs)) (f p))
-    (subst (λ o. IsTableOf (character_of m) ((ways ++ flat_map f (take k pairs)) ++ joined o (direct_way m p.0)) es) (sym d) table))
+    (subst (λ o. IsTableOf (character_of m) ((ways ++ flat_map f (take k pairs)) ++ joined o (direct_way m p.0)) es)
+    (sym d) table))
 
 -- the way that a look-up finds, in the first table or else in the second
-pub way-first : (m : MapValue) (n c : ℕ) (es : Entries) (w : ArrayVec Event) → IsTableOf (character_of m) (combinations m) es
+pub way-first : (m : MapValue) (n c : ℕ) (es : Entries) (w : ArrayVec Event)
+    → IsTableOf (character_of m) (combinations m) es
     → Some w ≡ lookup (λ x. n == x) es → n ≡ c → way_for m c ≡ Some w.items
 way-first m n c es w table e is = first-way m c (Some w.items) _ (direct-found m n c es w table e is) refl
 
-pub way-second : (m : MapValue) (n c : ℕ) (es fs : Entries) (o : Option (ArrayVec Event)) → IsTableOf (character_of m) (combinations m) es
+-- a character that no combination types has the way of the table over dead keys
+pub way-second : (m : MapValue) (n c : ℕ) (es fs : Entries) (o : Option (ArrayVec Event))
+    → IsTableOf (character_of m) (combinations m) es
     → IsTableOf (character_of m) (accented m) fs → None ≡ lookup (λ x. n == x) es → o ≡ lookup (λ x. n == x) fs → n ≡ c
     → way_for m c ≡ option_map (λ w. w.items) o
 way-second m n c es fs o table second e f is =

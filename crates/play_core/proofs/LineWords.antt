@@ -1,6 +1,7 @@
 -- The words of a line, one after another.
 use Prim.Native.Nat.{zero, suc}
-use Rattle.std.proofs.Common.{◌≡◌, ℕ, ◌+◌, ◌<◌, Bool, true, false, cond, not, List, [], ◌∷◌, length, take, drop, get_or, None, Some, refl, sym, ap, ◌∙◌, arith, ltb, drop-cons}
+use Rattle.std.proofs.Common.{◌≡◌, ℕ, ◌+◌, ◌<◌, Bool, true, false, cond, not, List, [], ◌∷◌, length, take, drop, get_or}
+use Rattle.std.proofs.Common.{None, Some, refl, sym, ap, ◌∙◌, arith, ltb, drop-cons}
 use Rattle.std.specs.Option.{unwrap_or}
 use Rattle.std.specs.List.{position_or_len, position, filter, slice_split, onto_first}
 use Rattle.std.specs.Char.{digit_value}
@@ -11,11 +12,14 @@ use Rattle.std.proofs.Math.Seq.{drop-length}
 use Rattle.std.proofs.lemmas.Bool.{ltb-false, not-true}
 use Rattle.play_core.specs.Scripts.{is_blank, is_there, words_in}
 
+-- a position that is found or not, under a condition
 at_cond : (b : Bool) (n len : ℕ) → (b ≡ false → len ≡ n) → unwrap_or (cond b (Some n) None) len ≡ n
 at_cond true n len h = refl
 at_cond false n len h = h refl
 
-pub unwrap_position : {A : Type 0} (p : A → Bool) (xs : List A) → unwrap_or (position p xs) (length xs) ≡ position_or_len p xs
+-- a position, or else the length, is where the front ends
+pub unwrap_position : {A : Type 0} (p : A → Bool) (xs : List A)
+    → unwrap_or (position p xs) (length xs) ≡ position_or_len p xs
 unwrap_position p xs =
     at_cond (ltb (position_or_len p xs) (length xs)) _ _
     (λ e. let low = prefix_len-le-length (λ x. not (p x)) xs in let high = ltb-false _ _ e in omega arith)
@@ -23,10 +27,12 @@ unwrap_position p xs =
 one_more : (n : ℕ) → 1 + n ≡ suc n
 one_more n = omega arith
 
+-- a blank in front is passed over
 blank_first : (b : ℕ) (bs : List ℕ) → is_blank b ≡ true → words_in (b ∷ bs) ≡ words_in bs
 unfolding words_in
 blank_first b bs e = rw e refl
 
+-- the step of passing over blanks, by the class of the first byte
 skipped : (t : Bool) (b : ℕ) (bs : List ℕ) → is_blank b ≡ t
     → words_in (drop (position_or_len (λ b. not (is_blank b)) bs) bs) ≡ words_in bs
     → words_in (drop (position_or_len (λ b. not (is_blank b)) (b ∷ bs)) (b ∷ bs)) ≡ words_in (b ∷ bs)
@@ -38,20 +44,25 @@ pub words_behind_blanks : (bs : List ℕ) → words_in (drop (position_or_len (�
 words_behind_blanks [] = refl
 words_behind_blanks (b ∷ bs) = skipped (is_blank b) b bs refl (words_behind_blanks bs)
 
+-- an empty line has no words
 pub no_words : words_in [] ≡ []
 unfolding words_in
 no_words = refl
 
 -- the parts of a list begin with the part up to the first blank
 abbrev HasFront : List ℕ → ℕ → Type 0
-HasFront bs n = (rest : List (List ℕ)) × (slice_split is_blank bs ≡ take n bs ∷ rest) × (filter is_there rest ≡ words_in (drop n bs))
+HasFront bs n =
+    (rest : List (List ℕ)) × (slice_split is_blank bs ≡ take n bs ∷ rest)
+    × (filter is_there rest ≡ words_in (drop n bs))
 
+-- one more byte of the front of a line, by its class
 front_more : (t : Bool) (b : ℕ) (bs : List ℕ) → is_blank b ≡ t → HasFront bs (position_or_len is_blank bs)
     → HasFront (b ∷ bs) (position_or_len is_blank (b ∷ bs))
 unfolding words_in
 front_more true b bs e rest = rw e (slice_split is_blank bs, refl, sym (blank_first b bs e))
 front_more false b bs e rest = rw (e, one_more) (rest.0, ap (onto_first b) rest.1, rest.2)
 
+-- each line has a front that ends at its first blank
 front : (bs : List ℕ) → HasFront bs (position_or_len is_blank bs)
 unfolding words_in
 front [] = ([], refl, refl)
@@ -59,27 +70,34 @@ front (b ∷ bs) = front_more (is_blank b) b bs refl (front bs)
 
 -- the first word ends at the first blank
 pub words_from_first : (b : ℕ) (bs : List ℕ) → is_blank b ≡ false
-    → words_in (b ∷ bs) ≡ take (position_or_len is_blank (b ∷ bs)) (b ∷ bs) ∷ words_in (drop (position_or_len is_blank (b ∷ bs)) (b ∷ bs))
+    → words_in (b ∷ bs)
+    ≡ take (position_or_len is_blank (b ∷ bs)) (b ∷ bs)
+    ∷ words_in (drop (position_or_len is_blank (b ∷ bs)) (b ∷ bs))
 unfolding words_in
 words_from_first b bs e =
     let parts = front bs in
-    rw (e, one_more) (ap (λ l. filter is_there (onto_first b l)) parts.1 ∙ ap (λ l. (b ∷ take (position_or_len is_blank bs) bs) ∷ l) parts.2)
+    rw (e, one_more)
+    (ap (λ l. filter is_there (onto_first b l)) parts.1
+    ∙ ap (λ l. (b ∷ take (position_or_len is_blank bs) bs) ∷ l) parts.2)
 
 -- a line of blanks alone
 pub no_word : (bs : List ℕ) → None ≡ position (λ b. not (is_blank b)) bs → words_in bs ≡ []
 no_word bs e =
     sym (words_behind_blanks bs)
-    ∙ ap (λ n. words_in (drop n bs)) (sym (unwrap_position (λ b. not (is_blank b)) bs) ∙ ap (λ o. unwrap_or o (length bs)) (sym e))
+    ∙ ap (λ n. words_in (drop n bs))
+    (sym (unwrap_position (λ b. not (is_blank b)) bs) ∙ ap (λ o. unwrap_or o (length bs)) (sym e))
     ∙ ap words_in (drop-length bs)
     ∙ no_words
 
+-- the words of a line begin where its first byte that is no blank stands
 word_at : (bs : List ℕ) (start : ℕ) → position (λ b. not (is_blank b)) bs ≡ Some start
     → words_in bs ≡ words_in (get_or bs start 0 ∷ drop (suc start) bs)
 word_at bs start e =
     let found = position-Some (λ b. not (is_blank b)) bs start 0 e in
     let same : start ≡ position_or_len (λ b. not (is_blank b)) bs =
     ap (λ o. unwrap_or o (length bs)) (sym e) ∙ unwrap_position (λ b. not (is_blank b)) bs in
-    sym (words_behind_blanks bs) ∙ ap (λ n. words_in (drop n bs)) (sym same) ∙ ap words_in (drop-cons bs start 0 found.0)
+    sym (words_behind_blanks bs) ∙ ap (λ n. words_in (drop n bs)) (sym same)
+    ∙ ap words_in (drop-cons bs start 0 found.0)
 
 -- the first word, and the words behind it
 pub next_words : (bs : List ℕ) (start end : ℕ) → position (λ b. not (is_blank b)) bs ≡ Some start

@@ -1,6 +1,8 @@
 -- The lines of a script, one after another.
 use Prim.Native.Nat.{zero, suc}
-use Rattle.std.proofs.Common.{◌≡◌, ℕ, ◌+◌, ◌<◌, ◌≤◌, true, false, Bool, eqb, ◌==◌, append-nil, List, [], ◌∷◌, ◌++◌, length, take, drop, get_or, map, Option, None, Some, Bor, refl, sym, ap, subst, ◌∙◌, arith, add-one, drop-cons, take-append-drop, length-take-le, take_all, length-drop}
+use Rattle.std.proofs.Common.{◌≡◌, ℕ, ◌+◌, ◌<◌, ◌≤◌, true, false, Bool, eqb, ◌==◌, append-nil, List, [], ◌∷◌, ◌++◌}
+use Rattle.std.proofs.Common.{length, take, drop, get_or, map, Option, None, Some, Bor, refl, sym, ap, subst, ◌∙◌}
+use Rattle.std.proofs.Common.{arith, add-one, drop-cons, take-append-drop, length-take-le, take_all, length-drop}
 use Rattle.std.specs.List.{AllZip, filter, slice_split, onto_first, position, position_or_len}
 use Rattle.std.proofs.lemmas.List.{take_more, get_or-map, length-map}
 use Rattle.std.proofs.lemmas.List.Elements.{filter-append}
@@ -13,44 +15,56 @@ use Rattle.play_core.specs.declared.sent.What.{What}
 use Rattle.play_core.specs.declared.sent.What.TheVariants.{Down, Repeat, Up, Reset, Load}
 use Rattle.play_core.specs.declared.sent.Sent.{Sent}
 use Rattle.play_core.specs.declared.script.ScriptFault.{ScriptFault}
-use Rattle.play_core.specs.Scripts.{is_there, parts_of, words_of, lines_of, AreEvents, IsEvent, Sends, Tells, mark_of, IsScriptFault, IsFaultOf, RunsOut}
+use Rattle.play_core.specs.Scripts.{is_there, parts_of, words_of, lines_of, AreEvents, IsEvent, Sends, Tells, mark_of}
+use Rattle.play_core.specs.Scripts.{IsScriptFault, IsFaultOf, RunsOut}
 
 -- the part at a place is the line there
 pub record IsPart (script text : List ℕ) (n : ℕ) : Type 0 where
   pub within : n < length (parts_of script)
   pub same : text ≡ get_or (parts_of script) n text
 
+-- a script has at most one line more than bytes
 pub few_lines : (script : List ℕ) → length (parts_of script) ≤ length script + 1
 unfolding parts_of
-few_lines script = rw (length-slice_split (λ b. eqb b 10) script) (omega (arith, count_by-le-length (λ b. eqb b 10) script))
+few_lines script =
+    rw (length-slice_split (λ b. eqb b 10) script) (omega (arith, count_by-le-length (λ b. eqb b 10) script))
 
 module _ {script text : List ℕ} {n : ℕ} (part : IsPart script text n) where
+  -- the line is one of the script's
   within_lines : n < length (lines_of script)
   unfolding lines_of
   within_lines = subst (λ k. n < k) (sym (length-map (parts_of script) words_of)) part.within
 
+  -- the line of that number has the words of the text
   line_is : get_or (lines_of script) n (words_of text) ≡ words_of text
   unfolding lines_of
   line_is = get_or-map words_of (parts_of script) n text (words_of text) part.within ∙ ap words_of (sym part.same)
 
+  -- the lines so far, with this line
   pub lines_more : take (n + 1) (lines_of script) ≡ take n (lines_of script) ++ words_of text ∷ []
-  lines_more = take_more (lines_of script) n (words_of text) within_lines ∙ ap (λ w. take n (lines_of script) ++ w ∷ []) line_is
+  lines_more =
+      take_more (lines_of script) n (words_of text) within_lines ∙ ap (λ w. take n (lines_of script) ++ w ∷ []) line_is
 
+  -- the lines before this one, this one, and those behind
   lines_split : lines_of script ≡ take n (lines_of script) ++ words_of text ∷ drop (suc n) (lines_of script)
   lines_split =
       sym (take-append-drop n (lines_of script))
       ∙ ap (λ l. take n (lines_of script) ++ l) (drop-cons (lines_of script) n (words_of text) within_lines)
       ∙ ap (λ w. take n (lines_of script) ++ w ∷ drop (suc n) (lines_of script)) line_is
 
+  -- as many lines stand before this one as its number
   length_before : length (take n (lines_of script)) ≡ n
   length_before = length-take-le n (lines_of script) (omega (arith, within_lines))
 
-zip_more : {A B : Type 0} (R : A → B → Type 0) (xs : List A) (ys : List B) (x : A) (y : B) → AllZip R xs ys → R x y → AllZip R (xs ++ x ∷ []) (ys ++ y ∷ [])
+-- one more pair of related elements
+zip_more : {A B : Type 0} (R : A → B → Type 0) (xs : List A) (ys : List B) (x : A) (y : B) → AllZip R xs ys → R x y
+    → AllZip R (xs ++ x ∷ []) (ys ++ y ∷ [])
 zip_more R [] [] x y h r = (r, tt)
 zip_more R [] (b ∷ ys) x y h r = absurd h
 zip_more R (a ∷ xs) [] x y h r = absurd h
 zip_more R (a ∷ xs) (b ∷ ys) x y h r = (h.0, zip_more R xs ys x y h.1 r)
 
+-- a command has a word
 command_there : (command : List (List ℕ)) (w : What) → Tells command w → is_there command ≡ true
 command_there command (Down k) h = ap is_there h.1
 command_there command (Repeat k) h = ap is_there h.1
@@ -58,29 +72,39 @@ command_there command (Up k) h = ap is_there h.1
 command_there command Reset h = ap is_there h
 command_there command Load h = ap is_there h
 
-marked_there : (s : Sent) (lost : Bool) (command : List (List ℕ)) → is_there command ≡ true → is_there (mark_of lost ++ command) ≡ true
+-- a command with its mark has a word
+marked_there : (s : Sent) (lost : Bool) (command : List (List ℕ)) → is_there command ≡ true
+    → is_there (mark_of lost ++ command) ≡ true
 marked_there s true command h = refl
 marked_there s false command h = h
 
+-- the words of an event have a word
 event_there : (words : List (List ℕ)) (s : Sent) → Sends words s → is_there words ≡ true
 event_there words s h = ap is_there h.1 ∙ marked_there s s.lost h.0 (command_there h.0 s.what h.2)
 
 -- a line without a word
-pub blank_more : (lines : List (List (List ℕ))) (words : List (List ℕ)) (sent : List Sent) → AreEvents lines sent → words ≡ []
+pub blank_more : (lines : List (List (List ℕ))) (words : List (List ℕ)) (sent : List Sent) → AreEvents lines sent
+    → words ≡ []
     → AreEvents (lines ++ words ∷ []) sent
 blank_more lines words sent h e =
-    subst (λ l. AllZip IsEvent l sent) (sym (filter-append is_there lines (words ∷ []) ∙ ap (λ w. filter is_there lines ++ filter is_there (w ∷ [])) e ∙ append-nil (filter is_there lines))) h
+    subst (λ l. AllZip IsEvent l sent)
+    (sym (filter-append is_there lines (words ∷ []) ∙ ap (λ w. filter is_there lines ++ filter is_there (w ∷ [])) e
+    ∙ append-nil (filter is_there lines)))
+    h
 
 -- a line that is an event
-pub event_more : (lines : List (List (List ℕ))) (words : List (List ℕ)) (sent : List Sent) (s : Sent) → AreEvents lines sent → IsEvent words s
+pub event_more : (lines : List (List (List ℕ))) (words : List (List ℕ)) (sent : List Sent) (s : Sent)
+    → AreEvents lines sent → IsEvent words s
     → AreEvents (lines ++ words ∷ []) (sent ++ s ∷ [])
 event_more lines words sent s h event =
     let there : filter is_there (words ∷ []) ≡ words ∷ [] = rw (event_there words s event.0) refl in
-    subst (λ l. AllZip IsEvent l (sent ++ s ∷ [])) (sym (filter-append is_there lines (words ∷ []) ∙ ap (λ l. filter is_there lines ++ l) there))
+    subst (λ l. AllZip IsEvent l (sent ++ s ∷ []))
+    (sym (filter-append is_there lines (words ∷ []) ∙ ap (λ l. filter is_there lines ++ l) there))
     (zip_more IsEvent (filter is_there lines) sent words s h event)
 
 -- the fault of a line whose lines before it are events
-pub fault_at : (script text : List ℕ) (n : ℕ) (sent : List Sent) (fault : ScriptFault) → IsPart script text n → AreEvents (take n (lines_of script)) sent
+pub fault_at : (script text : List ℕ) (n : ℕ) (sent : List Sent) (fault : ScriptFault) → IsPart script text n
+    → AreEvents (take n (lines_of script)) sent
     → IsFaultOf (words_of text) (n + 1) fault → IsScriptFault script fault
 fault_at script text n sent fault part events first = record {
   before = take n (lines_of script);
@@ -92,7 +116,9 @@ fault_at script text n sent fault part events first = record {
   first = subst (λ k. IsFaultOf (words_of text) (k + 1) fault) (sym (length_before part)) first;
 }
 
-pub out_at : (script text : List ℕ) (n : ℕ) (sent : List Sent) (unkept : Sent) → IsPart script text n → AreEvents (take n (lines_of script)) sent
+-- an event that can't be kept leaves a script that runs out of memory
+pub out_at : (script text : List ℕ) (n : ℕ) (sent : List Sent) (unkept : Sent) → IsPart script text n
+    → AreEvents (take n (lines_of script)) sent
     → IsEvent (words_of text) unkept → RunsOut script
 out_at script text n sent unkept part events event = record {
   before = take n (lines_of script);
@@ -107,14 +133,17 @@ out_at script text n sent unkept part events event = record {
 
 -- ---- the parts that are left
 
+-- the lines that are left
 abbrev pub parts_left : Option (Bor (List ℕ)) → List (List ℕ)
 parts_left None = []
 parts_left (Some rest) = parts_of rest.now
 
+-- the number of bytes that are left
 abbrev pub bytes_left : Option (Bor (List ℕ)) → ℕ
 bytes_left None = 0
 bytes_left (Some rest) = length rest.now + 1
 
+-- the step of the next lemma, by whether the first byte is a line feed
 whole_at : (t : Bool) (b : ℕ) (bs : List ℕ) → eqb b 10 ≡ t
     → (position_or_len (λ b. eqb b 10) bs ≡ length bs → slice_split (λ b. eqb b 10) bs ≡ bs ∷ [])
     → position_or_len (λ b. eqb b 10) (b ∷ bs) ≡ length (b ∷ bs) → slice_split (λ b. eqb b 10) (b ∷ bs) ≡ (b ∷ bs) ∷ []
@@ -125,7 +154,9 @@ whole_at false b bs e rest h =
     let more : 1 + position_or_len (λ b. eqb b 10) bs ≡ suc (length bs) = rw e at h in
     rw e (ap (onto_first b) (rest (omega arith)))
 
-whole_part : (text : List ℕ) → position_or_len (λ b. eqb b 10) text ≡ length text → slice_split (λ b. eqb b 10) text ≡ text ∷ []
+-- a text without a line feed is one line
+whole_part : (text : List ℕ) → position_or_len (λ b. eqb b 10) text ≡ length text
+    → slice_split (λ b. eqb b 10) text ≡ text ∷ []
 whole_part [] h = refl
 whole_part (b ∷ bs) h = whole_at (eqb b 10) b bs refl (whole_part bs) h
 
@@ -135,6 +166,7 @@ unfolding parts_of
 last_part text e =
     whole_part text (sym (unwrap_position (λ b. eqb b 10) text) ∙ ap (λ o. unwrap_or o (length text)) (sym e))
 
+-- one more byte is dropped from what is left
 drop_more : (text : List ℕ) (n : ℕ) → drop (n + 1) text ≡ drop 1 (drop n text)
 drop_more text n = rw add-one (dropped text n)
   where
@@ -156,6 +188,7 @@ first_part text end e =
     ∙ ap (λ n. take n text ∷ parts_of (drop (n + 1) text)) (sym same)
     ∙ ap (λ l. take end text ∷ parts_of l) (drop_more text end)
 
+-- what is left begins with the element of that index
 drop_is : {A : Type 0} (xs : List A) (n : ℕ) (y : A) (ys : List A) → drop n xs ≡ y ∷ ys
     → (n < length xs) × (y ≡ get_or xs n y) × (drop (suc n) xs ≡ ys)
 drop_is [] zero y ys e = cc

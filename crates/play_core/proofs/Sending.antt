@@ -1,5 +1,6 @@
 -- What the reading of a line means: it is an event exactly where its words say so.
-use Rattle.std.proofs.Common.{◌≡◌, ◌≢◌, ℕ, ◌<◌, ◌≤◌, min, Bool, true, false, not, cond, ltb, List, [], ◌∷◌, ◌++◌, Option, None, Some, Result, Ok, Err, refl, sym, ap, subst, ◌∙◌, arith, ◌↔◌, ⊎_elim, lit<}
+use Rattle.std.proofs.Common.{◌≡◌, ◌≢◌, ℕ, ◌<◌, ◌≤◌, min, Bool, true, false, not, cond, ltb, List, [], ◌∷◌, ◌++◌}
+use Rattle.std.proofs.Common.{Option, None, Some, Result, Ok, Err, refl, sym, ap, subst, ◌∙◌, arith, ◌↔◌, ⊎_elim, lit<}
 use Rattle.std.specs.Prelude.{codes, IsSome, IfSome, ⊤}
 use Rattle.std.specs.Option.{ok_or}
 use Rattle.std.specs.Str.{bytes_eq}
@@ -15,10 +16,12 @@ use Rattle.play_core.specs.Scripts.{IsNumber, Tells, Sends, mark_of, key_of, IsE
 use Rattle.play_core.specs.Inner.Readings.{are_digits, key_in, of_key, what_with_key, what_alone, what_of, sent_by}
 use Rattle.play_core.specs.Inner.Readings.{reading_of_lost, reading}
 
+-- digits pass the test for digits
 digits_pass : (word : List ℕ) → AllDigits 10 word → are_digits word ≡ true
 digits_pass [] h = refl
 digits_pass (b ∷ bs) h = and_from _ _ (lt-ltb _ _ h.0) (digits_pass bs h.1)
 
+-- what passes the test is digits
 digits_from_pass : (word : List ℕ) → are_digits word ≡ true → AllDigits 10 word
 digits_from_pass [] e = tt
 digits_from_pass (b ∷ bs) e = let both = and_parts _ _ e in (ltb-true _ _ both.0, digits_from_pass bs both.1)
@@ -27,15 +30,18 @@ digits_from_pass (b ∷ bs) e = let both = and_parts _ _ e in (ltb-true _ _ both
 abbrev judged_key : ℕ → Result ℕ LineFault
 judged_key k = cond (ltb k 128) (Ok k) (Err Key)
 
+-- digits are read as the key of their value
 key_of_number : (word : List ℕ) → AllDigits 10 word → key_in word ≡ judged_key (digits_value 10 word)
 unfolding key_in
 key_of_number word h = rw (digits_pass word h) refl
 
+-- a word that is no number is read as a fault, by the test for digits
 none_at : (word : List ℕ) (b : Bool) → are_digits word ≡ b → (AllDigits 10 word → ⊥) → key_in word ≡ Err Form
 unfolding key_in
 none_at word true e h = absurd (h (digits_from_pass word e))
 none_at word false e h = rw e refl
 
+-- a word that is no number is read as a fault
 pub key_of_none : (word : List ℕ) → (AllDigits 10 word → ⊥) → key_in word ≡ Err Form
 key_of_none word h = none_at word (are_digits word) refl h
 
@@ -57,32 +63,42 @@ key_of_some word n (Some k) h e small same =
 
 -- ---- what tells of an event is read so
 
+-- what a command's words are read as
 abbrev what_in : List (List ℕ) → Result What LineFault
 what_in [] = Err Form
 what_in (word ∷ rest) = what_of word rest
 
+-- what an event is read as, by whether its key is one
 abbrev judged_what : What → Result What LineFault
 judged_what w = cond (ltb (key_of w) 128) (Ok w) (Err Key)
 
+-- what a line's event is read as, by whether its key is one
 abbrev judged : Sent → Result (Option Sent) LineFault
 judged s = cond (ltb (key_of s.what) 128) (Ok (Some s)) (Err Key)
 
-of_key_judged : (what : ℕ → What) (b : Bool) (k : ℕ) → of_key what (cond b (Ok k) (Err Key)) ≡ cond b (Ok (what k)) (Err Key)
+-- a key that is judged, made an event
+of_key_judged : (what : ℕ → What) (b : Bool) (k : ℕ)
+    → of_key what (cond b (Ok k) (Err Key)) ≡ cond b (Ok (what k)) (Err Key)
 of_key_judged what true k = refl
 of_key_judged what false k = refl
 
+-- down and a number are read as that press
 read_down : (number : List ℕ) (k : ℕ) → IsNumber number k → what_of (codes "down") (number ∷ []) ≡ judged_what (Down k)
 unfolding what_of what_with_key
 read_down number k h = rw (key_of_number number h.0, ← h.1) (of_key_judged (λ k. Down k) (ltb k 128) k)
 
-read_repeat : (number : List ℕ) (k : ℕ) → IsNumber number k → what_of (codes "repeat") (number ∷ []) ≡ judged_what (Repeat k)
+-- repeat and a number are read as that repeat
+read_repeat : (number : List ℕ) (k : ℕ) → IsNumber number k
+    → what_of (codes "repeat") (number ∷ []) ≡ judged_what (Repeat k)
 unfolding what_of what_with_key
 read_repeat number k h = rw (key_of_number number h.0, ← h.1) (of_key_judged (λ k. Repeat k) (ltb k 128) k)
 
+-- up and a number are read as that release
 read_up : (number : List ℕ) (k : ℕ) → IsNumber number k → what_of (codes "up") (number ∷ []) ≡ judged_what (Up k)
 unfolding what_of what_with_key
 read_up number k h = rw (key_of_number number h.0, ← h.1) (of_key_judged (λ k. Up k) (ltb k 128) k)
 
+-- the words of a command are read as what they tell
 what_read : (words : List (List ℕ)) (w : What) → Tells words w → what_in words ≡ judged_what w
 unfolding what_of what_alone
 what_read words (Down k) h = ap what_in h.1 ∙ read_down h.0 k h.2
@@ -91,22 +107,27 @@ what_read words (Up k) h = ap what_in h.1 ∙ read_up h.0 k h.2
 what_read words Reset h = ap what_in h
 what_read words Load h = ap what_in h
 
+-- behind the mark of a lost event stands a command
 lost_read : (words : List (List ℕ)) → reading_of_lost words ≡ sent_by true (what_in words)
 unfolding reading_of_lost sent_by
 lost_read [] = refl
 lost_read (word ∷ rest) = refl
 
 -- a line that begins with `lost`
-pub lost_line : (words : List (List ℕ)) (word : List ℕ) (rest : List (List ℕ)) → words ≡ word ∷ rest → false ≡ not (bytes_eq word (codes "lost"))
+pub lost_line : (words : List (List ℕ)) (word : List ℕ) (rest : List (List ℕ)) → words ≡ word ∷ rest
+    → false ≡ not (bytes_eq word (codes "lost"))
     → reading words ≡ reading_of_lost rest
 unfolding reading
 lost_line words word rest e lost = rw (e, not-false _ (sym lost)) refl
 
+-- the mark of a lost event alone is a fault
 pub lost_alone : reading_of_lost [] ≡ Err Form
 unfolding reading_of_lost
 lost_alone = refl
 
-pub lost_command : (word : List ℕ) (rest : List (List ℕ)) → reading_of_lost (word ∷ rest) ≡ sent_by true (what_of word rest)
+-- the mark of a lost event and a command are that command, lost
+pub lost_command : (word : List ℕ) (rest : List (List ℕ))
+    → reading_of_lost (word ∷ rest) ≡ sent_by true (what_of word rest)
 unfolding reading_of_lost
 lost_command word rest = refl
 
@@ -119,17 +140,21 @@ not_lost words (Up k) h = rw h.1 refl
 not_lost words Reset h = rw h refl
 not_lost words Load h = rw h refl
 
-sent_judged : (lost : Bool) (w : What) (b : Bool) → sent_by lost (cond b (Ok w) (Err Key)) ≡ cond b (Ok (Some (record { lost = lost; what = w }))) (Err Key)
+-- an event that is judged, made a line's
+sent_judged : (lost : Bool) (w : What) (b : Bool)
+    → sent_by lost (cond b (Ok w) (Err Key)) ≡ cond b (Ok (Some (record { lost = lost; what = w }))) (Err Key)
 unfolding sent_by
 sent_judged lost w true = refl
 sent_judged lost w false = refl
 
+-- a command with its mark is read as the command
 marked : (lost : Bool) (command : List (List ℕ)) (w : What) → Tells command w
     → reading (mark_of lost ++ command) ≡ sent_by lost (what_in command)
 unfolding reading
 marked true command w h = lost_read command
 marked false command w h = not_lost command w h
 
+-- the words of an event are read as the event
 pub event_read : (words : List (List ℕ)) (s : Sent) → Sends words s → reading words ≡ judged s
 event_read words s h =
     ap reading h.1 ∙ marked s.lost h.0 s.what h.2 ∙ ap (sent_by s.lost) (what_read h.0 s.what h.2)
@@ -137,13 +162,16 @@ event_read words s h =
 
 -- ---- what is read as an event tells of it
 
-choice : {A : Type 0} (P : A → Type 0) (word name : List ℕ) (x y : A) (b : Bool) → bytes_eq word name ≡ b → (word ≡ name → P x) → P y
+-- what holds for both branches of a comparison with a name
+choice : {A : Type 0} (P : A → Type 0) (word name : List ℕ) (x y : A) (b : Bool) → bytes_eq word name ≡ b
+    → (word ≡ name → P x) → P y
     → P (cond b x y)
 choice P word name x y true e is other = is ((bytes_eq-Decides word name).0 e)
 choice P word name x y false e is other = other
 
 -- by whether the word is this one
-chosen : {A : Type 0} (P : A → Type 0) (word name : List ℕ) (x y : A) → (word ≡ name → P x) → P y → P (cond (bytes_eq word name) x y)
+chosen : {A : Type 0} (P : A → Type 0) (word name : List ℕ) (x y : A) → (word ≡ name → P x) → P y
+    → P (cond (bytes_eq word name) x y)
 chosen P word name x y is other = choice P word name x y (bytes_eq word name) refl is other
 
 -- what a reading says of the words, but that a bad form is one
@@ -152,6 +180,7 @@ IsKey number (Ok k) = IsNumber number k × (k < 128)
 IsKey number (Err Key) = (k : ℕ) × IsNumber number k × (127 < k)
 IsKey number (Err Form) = ⊤
 
+-- digits are read as a key, or as no key, by their value
 key_at : (number : List ℕ) (b : Bool) → are_digits number ≡ true → ltb (digits_value 10 number) 128 ≡ b
     → IsKey number (cond b (Ok (digits_value 10 number)) (Err Key))
 key_at number true d e = ((digits_from_pass number d, refl), ltb-true _ _ e)
@@ -159,44 +188,55 @@ key_at number false d e =
     let high = ltb-false _ _ e in
     (digits_value 10 number, (digits_from_pass number d, refl), omega arith)
 
+-- a word is a key, no key or no number, by the test for digits
 key_if : (number : List ℕ) (b : Bool) → are_digits number ≡ b
     → IsKey number (cond b (cond (ltb (digits_value 10 number) 128) (Ok (digits_value 10 number)) (Err Key)) (Err Form))
 key_if number true e = key_at number (ltb (digits_value 10 number) 128) e refl
 key_if number false e = tt
 
+-- what a word is read as is the key that it names, or its fault
 key_is : (number : List ℕ) → IsKey number (key_in number)
 unfolding key_in
 key_is number = key_if number (are_digits number) refl
 
+-- what a reading says of a command, but that a bad form is one
 abbrev IsWhat : List (List ℕ) → Result What LineFault → Type 0
 IsWhat words (Ok w) = Tells words w × (key_of w < 128)
 IsWhat words (Err Key) = (w : What) × Tells words w × (127 < key_of w)
 IsWhat words (Err Form) = ⊤
 
+-- a word and a key tell an event, or have the key's fault
 keyed : (words : List (List ℕ)) (number : List ℕ) (what : ℕ → What) (r : Result ℕ LineFault) → IsKey number r
-    → ((k : ℕ) → IsNumber number k → Tells words (what k)) → ((k : ℕ) → key_of (what k) ≡ k) → IsWhat words (of_key what r)
+    → ((k : ℕ) → IsNumber number k → Tells words (what k)) → ((k : ℕ) → key_of (what k) ≡ k)
+    → IsWhat words (of_key what r)
 keyed words number what (Ok k) h tells key = (tells k h.0, subst (λ n. n < 128) (sym (key k)) h.1)
 keyed words number what (Err Key) h tells key = (what h.0, tells h.0 h.1, subst (λ n. 127 < n) (sym (key h.0)) h.2)
 keyed words number what (Err Form) h tells key = tt
 
+-- a word and a number are what they are read as
 with_key : (word number : List ℕ) → IsWhat (word ∷ number ∷ []) (what_with_key word number)
 unfolding what_with_key
 with_key word number =
     let words = word ∷ number ∷ [] in
     chosen (IsWhat words) word (codes "down") _ _
-    (λ e. keyed words number (λ k. Down k) (key_in number) (key_is number) (λ k n. (number, ap (λ w. w ∷ number ∷ []) e, n)) (λ k. refl))
+    (λ e. keyed words number (λ k. Down k) (key_in number) (key_is number)
+    (λ k n. (number, ap (λ w. w ∷ number ∷ []) e, n)) (λ k. refl))
     (chosen (IsWhat words) word (codes "repeat") _ _
-    (λ e. keyed words number (λ k. Repeat k) (key_in number) (key_is number) (λ k n. (number, ap (λ w. w ∷ number ∷ []) e, n)) (λ k. refl))
+    (λ e. keyed words number (λ k. Repeat k) (key_in number) (key_is number)
+    (λ k n. (number, ap (λ w. w ∷ number ∷ []) e, n)) (λ k. refl))
     (chosen (IsWhat words) word (codes "up") _ _
-    (λ e. keyed words number (λ k. Up k) (key_in number) (key_is number) (λ k n. (number, ap (λ w. w ∷ number ∷ []) e, n)) (λ k. refl))
+    (λ e. keyed words number (λ k. Up k) (key_in number) (key_is number)
+    (λ k n. (number, ap (λ w. w ∷ number ∷ []) e, n)) (λ k. refl))
     tt))
 
+-- a word alone is what it is read as
 alone : (word : List ℕ) → IsWhat (word ∷ []) (what_alone word)
 unfolding what_alone
 alone word =
     chosen (IsWhat (word ∷ [])) word (codes "reset") _ _ (λ e. (ap (λ w. w ∷ []) e, lit< tt))
     (chosen (IsWhat (word ∷ [])) word (codes "load") _ _ (λ e. (ap (λ w. w ∷ []) e, lit< tt)) tt)
 
+-- each command is what it is read as
 what_is : (words : List (List ℕ)) → IsWhat words (what_in words)
 unfolding what_of
 what_is [] = tt
@@ -211,13 +251,16 @@ IsSentOrBad words (Ok (Some s)) = IsEvent words s
 IsSentOrBad words (Err Key) = HasBadKey words
 IsSentOrBad words (Err Form) = words ≢ []
 
-sent_is : (words command : List (List ℕ)) (lost : Bool) (r : Result What LineFault) → words ≡ mark_of lost ++ command → words ≢ []
+-- each command with its mark is what it is read as
+sent_is : (words command : List (List ℕ)) (lost : Bool) (r : Result What LineFault) → words ≡ mark_of lost ++ command
+    → words ≢ []
     → IsWhat command r → IsSentOrBad words (sent_by lost r)
 unfolding sent_by
 sent_is words command lost (Ok w) e some h = ((command, e, h.0), h.1)
 sent_is words command lost (Err Key) e some h = (record { lost = lost; what = h.0 }, (command, e, h.1), h.2)
 sent_is words command lost (Err Form) e some h = some
 
+-- each line is what it is read as
 sent_or_bad : (words : List (List ℕ)) → IsSentOrBad words (reading words)
 unfolding reading
 sent_or_bad [] = refl
@@ -236,15 +279,20 @@ IsReading words (Ok (Some s)) = IsEvent words s
 IsReading words (Err Key) = HasBadKey words
 IsReading words (Err Form) = HasBadForm words
 
+-- no event is read as a bad form
 not_judged : (s : Sent) (b : Bool) → Err Form ≡ cond b (Ok (Some s)) (Err Key) → ⊥
 not_judged s true e = cc
 not_judged s false e = cc
 
-is_reading : (words : List (List ℕ)) (r : Result (Option Sent) LineFault) → reading words ≡ r → IsSentOrBad words r → IsReading words r
+-- what a line is read as is its one reading
+is_reading : (words : List (List ℕ)) (r : Result (Option Sent) LineFault) → reading words ≡ r → IsSentOrBad words r
+    → IsReading words r
 is_reading words (Ok None) e h = h
 is_reading words (Ok (Some s)) e h = h
 is_reading words (Err Key) e h = h
-is_reading words (Err Form) e h = (h, λ s sends. not_judged s (ltb (key_of s.what) 128) (sym e ∙ event_read words s sends))
+is_reading words (Err Form) e h =
+    (h, λ s sends. not_judged s (ltb (key_of s.what) 128) (sym e ∙ event_read words s sends))
 
+-- what the code reads is the line's reading
 pub reading_is : (words : List (List ℕ)) (r : Result (Option Sent) LineFault) → r ≡ reading words → IsReading words r
 reading_is words r e = is_reading words r (sym e) (subst (IsSentOrBad words) (sym e) (sent_or_bad words))

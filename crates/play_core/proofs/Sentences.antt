@@ -1,5 +1,7 @@
 -- The ways of the characters of a sentence, one after another, type the sentence.
-use Rattle.std.proofs.Common.{◌≡◌, ℕ, ◌<◌, Bool, true, false, List, [], ◌∷◌, ◌++◌, Option, Some, None, refl, ap, sym, subst, ◌∙◌, if◌then◌else◌, map, append-nil, length, take, drop, get_or, ◌+◌, ◌≤◌, arith, length-append}
+use Rattle.std.proofs.Common.{◌≡◌, ℕ, ◌<◌, Bool, true, false, List, [], ◌∷◌, ◌++◌, Option, Some, None, refl, ap, sym}
+use Rattle.std.proofs.Common.{subst, ◌∙◌, if◌then◌else◌, map, append-nil, length, take, drop, get_or, ◌+◌, ◌≤◌, arith}
+use Rattle.std.proofs.Common.{length-append}
 use Prim.Native.Nat.{zero, suc}
 use Rattle.std.specs.Char.{len_utf8}
 use Rattle.std.proofs.lemmas.Str.{encodes-append, length-encode}
@@ -21,14 +23,18 @@ use Rattle.console_core.specs.declared.event.Event.TheVariants.{Press, Release, 
 use Rattle.console_core.specs.declared.event.Answer.{Answer}
 use Rattle.console_core.specs.declared.event.Answer.TheVariants as answer
 use Rattle.console_core.specs.Resolved.{held, locked, pending}
-use Rattle.console_core.specs.History.{Maps, in_force, resolved, pressed, IsQuiet, Pending, AnswerTo, AnswersTo, HasKey, HasKeys, IsNoLoad, HasNoLoads}
-use Rattle.console_core.proofs.OneMore.{pressed-start, pressed-press, pressed-release, pressed-reset, pressed-load, resolved-start, held-start, locked-start, remembered-start, pending-start}
+use Rattle.console_core.specs.History.{Maps, in_force, resolved, pressed, IsQuiet, Pending, AnswerTo, AnswersTo, HasKey}
+use Rattle.console_core.specs.History.{HasKeys, IsNoLoad, HasNoLoads}
+use Rattle.console_core.proofs.OneMore.{pressed-start, pressed-press, pressed-release, pressed-reset, pressed-load}
+use Rattle.console_core.proofs.OneMore.{resolved-start, held-start, locked-start, remembered-start, pending-start}
 use Rattle.console_core.proofs.FreshPresses.{no_loads-first}
 use Rattle.console_core.proofs.Deliveries.{reverse-cons, reverse-joined}
 use Rattle.console_core.proofs.Headline.{Same, SameAfter, same-later, same-answers, same-pending}
 use Rattle.play_core.specs.Written.{typed_by, typed_text}
 use Rattle.play_core.specs.HeldKeys.{combinations}
-use Rattle.play_core.specs.Typing.{alone, is_at_rest, types, plain_character, lone_character, typing_answers, unless_some, character_of, is_now, direct_way, dead_way, joined, bases_of, accented_by, accented, way_for, events_in, events_for, HaveWays, IsTyped}
+use Rattle.play_core.specs.Typing.{alone, is_at_rest, types, plain_character, lone_character, typing_answers}
+use Rattle.play_core.specs.Typing.{unless_some, character_of, is_now, direct_way, dead_way, joined, bases_of}
+use Rattle.play_core.specs.Typing.{accented_by, accented, way_for, events_in, events_for, HaveWays, IsTyped}
 use Rattle.play_core.proofs.Texts.{typed-append}
 use Rattle.play_core.proofs.Trials.{Rests, rests, at-rest, quiet-remembers}
 use Rattle.play_core.proofs.Tables.{find-true, find-All}
@@ -36,17 +42,21 @@ use Rattle.play_core.proofs.Combinations.{IsCombination, all-combinations, gathe
 
 -- ---- events of keys alone
 
+-- events of keys without a load
 abbrev AreOfKeys : List Event → Type 0
 AreOfKeys way = HasKeys way × HasNoLoads way
 
+-- presses are no loads
 of-presses : (ks : List ℕ) → HasNoLoads (map Press ks)
 of-presses [] = All-nil IsNoLoad
 of-presses (k ∷ ks) = All-cons IsNoLoad (Press k) (map Press ks) refl (of-presses ks)
 
+-- releases are no loads
 of-releases : (ks : List ℕ) → HasNoLoads (map Release ks)
 of-releases [] = All-nil IsNoLoad
 of-releases (k ∷ ks) = All-cons IsNoLoad (Release k) (map Release ks) refl (of-releases ks)
 
+-- a combination is events of keys
 of-combination : (way : List Event) → IsCombination way → AreOfKeys way
 of-combination way is = (
   is.keys,
@@ -55,14 +65,21 @@ of-combination way is = (
       (of-presses (is.held ++ is.key ∷ [])) (of-releases (is.key ∷ is.held))),
 )
 
-found-combination : (m : MapValue) (test : List Event → Bool) (way : List Event) → find test (combinations m) ≡ Some way → AreOfKeys way
-found-combination m test way e = of-combination way (find-All IsCombination test (combinations m) way (all-combinations m) e)
+-- a way that is found among the combinations is events of keys
+found-combination : (m : MapValue) (test : List Event → Bool) (way : List Event) → find test (combinations m) ≡ Some way
+    → AreOfKeys way
+found-combination m test way e =
+    of-combination way (find-All IsCombination test (combinations m) way (all-combinations m) e)
 
-All-flat : {X A : Type 0} (P : A → Type 0) (f : X → List A) (xs : List X) → ((x : X) → All P (f x)) → All P (flat_map f xs)
+-- what holds for the parts of each element holds for all parts
+All-flat : {X A : Type 0} (P : A → Type 0) (f : X → List A) (xs : List X) → ((x : X) → All P (f x))
+    → All P (flat_map f xs)
 All-flat P f [] each = All-nil P
 All-flat P f (x ∷ xs) each = All-append P (f x) (flat_map f xs) (each x) (All-flat P f xs each)
 
-of-joined : (d b : Option (List Event)) → ((w : List Event) → d ≡ Some w → AreOfKeys w) → ((w : List Event) → b ≡ Some w → AreOfKeys w)
+-- a dead key's way and a base's are events of keys
+of-joined : (d b : Option (List Event)) → ((w : List Event) → d ≡ Some w → AreOfKeys w)
+    → ((w : List Event) → b ≡ Some w → AreOfKeys w)
     → All AreOfKeys (joined d b)
 of-joined None b f g = All-nil AreOfKeys
 of-joined (Some d) None f g = All-nil AreOfKeys
@@ -71,21 +88,26 @@ of-joined (Some d) (Some b) f g =
     let y = g b refl in
     All-cons AreOfKeys (d ++ b) [] (All-append HasKey d b x.0 y.0, All-append IsNoLoad d b x.1 y.1) (All-nil AreOfKeys)
 
+-- all ways that are tried are events of keys
 pub all-of-keys : (m : MapValue) → All AreOfKeys (combinations m ++ accented m)
 unfolding accented
 all-of-keys m =
     All-append AreOfKeys (combinations m) (accented m)
     (All-weaker IsCombination AreOfKeys of-combination (combinations m) (all-combinations m))
-    (gathered-All AreOfKeys (accented_by m) 15 (λ i _. All-flat AreOfKeys (λ base. joined (dead_way m i) (direct_way m base)) (bases_of (accent_at m i))
-    (λ base. of-joined (dead_way m i) (direct_way m base) (λ w. found-combination m _ w) (λ w. found-combination m _ w))))
+    (gathered-All AreOfKeys (accented_by m) 15
+    (λ i _. All-flat AreOfKeys (λ base. joined (dead_way m i) (direct_way m base)) (bases_of (accent_at m i))
+    (λ base. of-joined (dead_way m i) (direct_way m base) (λ w. found-combination m _ w)
+    (λ w. found-combination m _ w))))
 
 -- ---- what a way does
 
+-- what holds for a list holds for it reversed
 All-reversed : {X : Type 0} (P : X → Type 0) (xs : List X) → All P xs → All P (reverse xs)
 All-reversed P [] all = All-nil P
 All-reversed P (x ∷ xs) all =
     subst (All P) (sym (reverse-append (x ∷ []) xs))
-    (All-append P (reverse xs) (x ∷ []) (All-reversed P xs (All-tail P x xs all)) (All-cons P x [] (All-head P x xs all) (All-nil P)))
+    (All-append P (reverse xs) (x ∷ []) (All-reversed P xs (All-tail P x xs all))
+    (All-cons P x [] (All-head P x xs all) (All-nil P)))
 
 pub record TypesAlone (m : MapValue) (c : ℕ) (way : List Event) : Type 0 where
   pub keys : HasKeys way
@@ -94,23 +116,30 @@ pub record TypesAlone (m : MapValue) (c : ℕ) (way : List Event) : Type 0 where
   pub pending : Pending (alone m) (reverse way) ≡ None
   pub typed : lone_character (typing_answers m way) ≡ Some c
 
+-- the test finds the character
 pub is-now : (c : ℕ) (o : Option ℕ) → is_now c o ≡ true → o ≡ Some c
 is-now c None e = absurd (true≢false (sym e))
 is-now c (Some d) e = ap (λ x. Some x) (sym (eqb-true c d e))
 
+-- what is found at rest is found, and at rest
 pub when-rests : (b : Bool) (o : Option ℕ) (c : ℕ) → (if b then o else None) ≡ Some c → (b ≡ true) × (o ≡ Some c)
 when-rests true o c e = (refl, e)
 when-rests false o c e = absurd (none-some c e)
 
+-- what is found where nothing is pending is found, and nothing is pending
 when-none : (p o : Option ℕ) (c : ℕ) → unless_some p o ≡ Some c → (p ≡ None) × (o ≡ Some c)
 when-none None o c e = (refl, e)
 when-none (Some i) o c e = absurd (none-some c e)
 
+-- the way for a character types it on a new console, and ends at rest
 pub way-types : (m : MapValue) (c : ℕ) (way : List Event) → way_for m c ≡ Some way → TypesAlone m c way
 unfolding character_of
 way-types m c way e =
-    let is : character_of m way ≡ Some c = is-now c (character_of m way) (find-true (λ w. is_now c (character_of m w)) (combinations m ++ accented m) way e) in
-    let k : AreOfKeys way = find-All AreOfKeys (λ w. is_now c (character_of m w)) (combinations m ++ accented m) way (all-of-keys m) e in
+    let is : character_of m way ≡ Some c =
+    is-now c (character_of m way)
+    (find-true (λ w. is_now c (character_of m w)) (combinations m ++ accented m) way e) in
+    let k : AreOfKeys way =
+    find-All AreOfKeys (λ w. is_now c (character_of m w)) (combinations m ++ accented m) way (all-of-keys m) e in
     let a = when-rests (is_at_rest m (reverse way)) _ c is in
     let b = when-none (Pending (alone m) (reverse way)) _ c a.1 in
     record { keys = k.0; no_loads = k.1; rests = a.0; pending = b.0; typed = b.1 }
@@ -119,12 +148,14 @@ no-memory : (o : Option Action) → is_some o ≡ false → o ≡ None
 no-memory None e = refl
 no-memory (Some a) e = absurd (true≢false e)
 
+-- at rest nothing is held
 held-none : (m : MapValue) (h : List Event) → Rests m h → (a : Holding) → held a (resolved (alone m) h) ≡ false
 held-none m h r (holding.Mod i) = r.on i
 held-none m h r (holding.Lock l) = r.down l
 
 -- the console goes on as a new one
-pub as-new : (m : MapValue) (h : List Event) → HasNoLoads h → Rests m h → Pending (alone m) h ≡ None → SameAfter (alone m) h []
+pub as-new : (m : MapValue) (h : List Event) → HasNoLoads h → Rests m h → Pending (alone m) h ≡ None
+    → SameAfter (alone m) h []
 as-new m h none r p = record {
   force = no_loads-first h none;
   same = subst (λ x. Same (in_force (alone m) h) (resolved (alone m) h) x) (sym (resolved-start (alone m))) (record {
@@ -135,6 +166,7 @@ as-new m h none r p = record {
   });
 }
 
+-- to go on as one list of events goes on is transitive
 after-all : (ms : Maps) (h g k : List Event) → SameAfter ms h g → SameAfter ms g k → SameAfter ms h k
 after-all ms h g k a b =
     let f : in_force ms h ≡ in_force ms g = ap (λ x. if x then ms.second else ms.first) a.force in
@@ -152,18 +184,22 @@ after-all ms h g k a b =
 -- a key that isn't pressed after either isn't pressed after both
 pressed-both : (k : ℕ) (xs h : List Event) → pressed k xs ≡ false → pressed k h ≡ false → pressed k (xs ++ h) ≡ false
 pressed-both k [] h e f = f
-pressed-both k (Press j ∷ xs) h e f = by (j == k) (sym (pressed-press k j xs) ∙ e) (pressed-press k j (xs ++ h)) (pressed-both k xs h)
+pressed-both k (Press j ∷ xs) h e f =
+    by (j == k) (sym (pressed-press k j xs) ∙ e) (pressed-press k j (xs ++ h)) (pressed-both k xs h)
   where
     by : (b : Bool) → (if b then true else pressed k xs) ≡ false
         → pressed k (Press j ∷ (xs ++ h)) ≡ (if b then true else pressed k (xs ++ h))
-        → (pressed k xs ≡ false → pressed k h ≡ false → pressed k (xs ++ h) ≡ false) → pressed k (Press j ∷ (xs ++ h)) ≡ false
+        → (pressed k xs ≡ false → pressed k h ≡ false → pressed k (xs ++ h) ≡ false)
+        → pressed k (Press j ∷ (xs ++ h)) ≡ false
     by true g i rest = absurd (true≢false g)
     by false g i rest = i ∙ rest g f
-pressed-both k (Release j ∷ xs) h e f = by (j == k) (sym (pressed-release k j xs) ∙ e) (pressed-release k j (xs ++ h)) (pressed-both k xs h)
+pressed-both k (Release j ∷ xs) h e f =
+    by (j == k) (sym (pressed-release k j xs) ∙ e) (pressed-release k j (xs ++ h)) (pressed-both k xs h)
   where
     by : (b : Bool) → (if b then false else pressed k xs) ≡ false
         → pressed k (Release j ∷ (xs ++ h)) ≡ (if b then false else pressed k (xs ++ h))
-        → (pressed k xs ≡ false → pressed k h ≡ false → pressed k (xs ++ h) ≡ false) → pressed k (Release j ∷ (xs ++ h)) ≡ false
+        → (pressed k xs ≡ false → pressed k h ≡ false → pressed k (xs ++ h) ≡ false)
+        → pressed k (Release j ∷ (xs ++ h)) ≡ false
     by true g i rest = i
     by false g i rest = i ∙ rest g f
 pressed-both k (Reset ∷ xs) h e f = pressed-reset k (xs ++ h)
@@ -171,6 +207,7 @@ pressed-both k (Load ∷ xs) h e f = pressed-load k (xs ++ h)
 
 -- ---- what is typed
 
+-- answers that type nothing add no text
 typing-alone : (xs : List Answer) → flat_map typed_by xs ≡ flat_map typed_by (filter types xs)
 unfolding typed_by
 typing-alone [] = refl
@@ -181,6 +218,7 @@ typing-alone (answer.Special a ∷ xs) = typing-alone xs
 typing-alone (answer.BackTab ∷ xs) = ap (λ t. typed_by answer.BackTab ++ t) (typing-alone xs)
 typing-alone (answer.Released a ∷ xs) = typing-alone xs
 
+-- an answer of a plain character types it
 plain-types : (a : Answer) (c : ℕ) → plain_character a ≡ Some c → typed_by a ≡ encode_utf8 c
 unfolding typed_by
 plain-types answer.None c e = absurd (none-some c e)
@@ -191,20 +229,28 @@ plain-types (answer.Special a) c e = absurd (none-some c e)
 plain-types answer.BackTab c e = absurd (none-some c e)
 plain-types (answer.Released a) c e = absurd (none-some c e)
 
+-- a lone plain character among the answers is what they type
 lone-types : (xs : List Answer) (c : ℕ) → lone_character xs ≡ Some c → flat_map typed_by xs ≡ encode_utf8 c
 lone-types [] c e = absurd (none-some c e)
 lone-types (a ∷ []) c e = append-nil (typed_by a) ∙ plain-types a c e
 lone-types (a ∷ b ∷ rest) c e = absurd (none-some c e)
 
-typed-alone : (m : MapValue) (c : ℕ) (way : List Event) → TypesAlone m c way → typed_text (AnswersTo (alone m) [] way) ≡ encode_utf8 c
+-- a way that types a character on a new console has that text
+typed-alone : (m : MapValue) (c : ℕ) (way : List Event) → TypesAlone m c way
+    → typed_text (AnswersTo (alone m) [] way) ≡ encode_utf8 c
 unfolding typed_text
 typed-alone m c way t = typing-alone (AnswersTo (alone m) [] way) ∙ lone-types (typing_answers m way) c t.typed
 
-answers-joined : (ms : Maps) (h xs ys : List Event) → AnswersTo ms h (xs ++ ys) ≡ AnswersTo ms h xs ++ AnswersTo ms (reverse xs ++ h) ys
+-- the answers to events, and then to the events behind them
+answers-joined : (ms : Maps) (h xs ys : List Event)
+    → AnswersTo ms h (xs ++ ys) ≡ AnswersTo ms h xs ++ AnswersTo ms (reverse xs ++ h) ys
 answers-joined ms h [] ys = refl
 answers-joined ms h (e ∷ xs) ys =
-    ap (λ l. AnswerTo ms h e ∷ l) (answers-joined ms (e ∷ h) xs ys ∙ ap (λ g. AnswersTo ms (e ∷ h) xs ++ AnswersTo ms g ys) (sym (reverse-cons e xs h)))
+    ap (λ l. AnswerTo ms h e ∷ l)
+    (answers-joined ms (e ∷ h) xs ys
+    ∙ ap (λ g. AnswersTo ms (e ∷ h) xs ++ AnswersTo ms g ys) (sym (reverse-cons e xs h)))
 
+-- no answers type nothing
 typed-nothing : typed_text [] ≡ []
 unfolding typed_text
 typed-nothing = refl
@@ -215,20 +261,25 @@ pub record TypesFrom (m : MapValue) (h : List Event) (cs : List ℕ) : Type 0 wh
   pub new : SameAfter (alone m) (reverse (events_for m cs) ++ h) []
   pub quiet : IsQuiet (reverse (events_for m cs) ++ h)
 
-one-from : (m : MapValue) (h : List Event) (c : ℕ) (cs : List ℕ) (way : List Event) → TypesAlone m c way → SameAfter (alone m) h [] → IsQuiet h
+-- one more character, from a state that goes on as a new console
+one-from : (m : MapValue) (h : List Event) (c : ℕ) (cs : List ℕ) (way : List Event) → TypesAlone m c way
+    → SameAfter (alone m) h [] → IsQuiet h
     → ((g : List Event) → SameAfter (alone m) g [] → IsQuiet g → TypesFrom m g cs)
     → (typed_text (AnswersTo (alone m) h (way ++ events_for m cs)) ≡ encode_utf8 c ++ encode_utf8_all cs)
     × SameAfter (alone m) (reverse (way ++ events_for m cs) ++ h) [] × IsQuiet (reverse (way ++ events_for m cs) ++ h)
 one-from m h c cs way t same quiet later =
     let ms = alone m in
     let r : Rests m (reverse way) = rests m (reverse way) t.rests in
-    let back : SameAfter ms (reverse way) [] = as-new m (reverse way) (All-reversed IsNoLoad way t.no_loads) r t.pending in
+    let back : SameAfter ms (reverse way) [] =
+    as-new m (reverse way) (All-reversed IsNoLoad way t.no_loads) r t.pending in
     let there : SameAfter ms (reverse way ++ h) (reverse way ++ []) = same-later ms h [] way t.keys same in
     let new : SameAfter ms (reverse way ++ h) [] =
-    after-all ms (reverse way ++ h) (reverse way ++ []) [] there (subst (λ x. SameAfter ms x []) (sym (append-nil (reverse way))) back) in
+    after-all ms (reverse way ++ h) (reverse way ++ []) [] there
+    (subst (λ x. SameAfter ms x []) (sym (append-nil (reverse way))) back) in
     let still : IsQuiet (reverse way ++ h) = λ k lt. pressed-both k (reverse way) h (r.quiet k lt) (quiet k lt) in
     let rest : TypesFrom m (reverse way ++ h) cs = later (reverse way ++ h) new still in
-    let e : typed_text (AnswersTo ms h way) ≡ encode_utf8 c = ap typed_text (same-answers ms h [] way t.keys same) ∙ typed-alone m c way t in (
+    let e : typed_text (AnswersTo ms h way) ≡ encode_utf8 c =
+    ap typed_text (same-answers ms h [] way t.keys same) ∙ typed-alone m c way t in (
       ap typed_text (answers-joined ms h way (events_for m cs)) ∙ typed-append (AnswersTo ms h way) _
           ∙ ap (λ x. x ++ typed_text (AnswersTo ms (reverse way ++ h) (events_for m cs))) e
           ∙ ap (λ x. encode_utf8 c ++ x) rest.typed,
@@ -236,14 +287,19 @@ one-from m h c cs way t same quiet later =
       subst IsQuiet (sym (reverse-joined way (events_for m cs) h)) rest.quiet,
     )
 
+-- one more character, by its way
 way-by : (m : MapValue) (h : List Event) (c : ℕ) (cs : List ℕ) (o : Option (List Event)) → way_for m c ≡ o → IsSome o
-    → SameAfter (alone m) h [] → IsQuiet h → ((g : List Event) → SameAfter (alone m) g [] → IsQuiet g → TypesFrom m g cs)
+    → SameAfter (alone m) h [] → IsQuiet h
+    → ((g : List Event) → SameAfter (alone m) g [] → IsQuiet g → TypesFrom m g cs)
     → (typed_text (AnswersTo (alone m) h (events_in o ++ events_for m cs)) ≡ encode_utf8 c ++ encode_utf8_all cs)
-    × SameAfter (alone m) (reverse (events_in o ++ events_for m cs) ++ h) [] × IsQuiet (reverse (events_in o ++ events_for m cs) ++ h)
+    × SameAfter (alone m) (reverse (events_in o ++ events_for m cs) ++ h) []
+    × IsQuiet (reverse (events_in o ++ events_for m cs) ++ h)
 way-by m h c cs None e is same quiet later = absurd (true≢false (sym is))
 way-by m h c cs (Some way) e is same quiet later = one-from m h c cs way (way-types m c way e) same quiet later
 
-pub types-from : (m : MapValue) (cs : List ℕ) (h : List Event) → HaveWays m cs → SameAfter (alone m) h [] → IsQuiet h → TypesFrom m h cs
+-- characters that have ways are typed from a state that goes on as a new console
+pub types-from : (m : MapValue) (cs : List ℕ) (h : List Event) → HaveWays m cs → SameAfter (alone m) h [] → IsQuiet h
+    → TypesFrom m h cs
 types-from m [] h have same quiet = record { typed = typed-nothing; new = same; quiet = quiet }
 types-from m (c ∷ cs) h have same quiet =
     let r = way-by m h c cs (way_for m c) refl (All-head (λ c. IsSome (way_for m c)) c cs have) same quiet
@@ -252,22 +308,30 @@ types-from m (c ∷ cs) h have same quiet =
 
 -- ---- whole sentences
 
+-- a new console goes on as a new console
 same-as-itself : (m : MapValue) → SameAfter (alone m) [] []
 same-as-itself m = record {
   force = refl;
   same = record { held = λ a. refl; locked = λ l. refl; remembered = λ k lt. refl; pending = refl };
 }
 
+-- a quiet state that goes on as a new console is at rest
 new-rests : (m : MapValue) (h : List Event) → SameAfter (alone m) h [] → IsQuiet h → Rests m h
 new-rests m h same quiet = record {
   quiet = quiet;
   remembered = quiet-remembers (alone m) h quiet;
-  on = λ i. same.same.held (holding.Mod i) ∙ ap (held (holding.Mod i)) (resolved-start (alone m)) ∙ held-start (holding.Mod i);
-  down = λ l. same.same.held (holding.Lock l) ∙ ap (held (holding.Lock l)) (resolved-start (alone m)) ∙ held-start (holding.Lock l);
+  on =
+      λ i. same.same.held (holding.Mod i) ∙ ap (held (holding.Mod i)) (resolved-start (alone m))
+      ∙ held-start (holding.Mod i);
+  down =
+      λ l. same.same.held (holding.Lock l) ∙ ap (held (holding.Lock l)) (resolved-start (alone m))
+      ∙ held-start (holding.Lock l);
   locked = λ l. same.same.locked l ∙ ap (locked l) (resolved-start (alone m)) ∙ locked-start l;
 }
 
-pub typed-sentence : (m : MapValue) (bytes cs : List ℕ) → encode_utf8_all cs ≡ bytes → HaveWays m cs → IsTyped m bytes cs
+-- characters that have ways are typed by them, one after another
+pub typed-sentence : (m : MapValue) (bytes cs : List ℕ) → encode_utf8_all cs ≡ bytes → HaveWays m cs
+    → IsTyped m bytes cs
 typed-sentence m bytes cs text have =
     let t : TypesFrom m [] cs = types-from m cs [] have (same-as-itself m) (λ k lt. pressed-start k) in
     let n : reverse (events_for m cs) ++ [] ≡ reverse (events_for m cs) = append-nil (reverse (events_for m cs)) in
@@ -285,24 +349,30 @@ typed-sentence m bytes cs text have =
 
 -- ---- a character without a way
 
-split-at : {X : Type 0} (xs : List X) (k : ℕ) (d : X) → k < length xs → xs ≡ take k xs ++ get_or xs k d ∷ drop (suc k) xs
+-- a list is the elements before an index, the one there, and those behind
+split-at : {X : Type 0} (xs : List X) (k : ℕ) (d : X) → k < length xs
+    → xs ≡ take k xs ++ get_or xs k d ∷ drop (suc k) xs
 split-at [] k d lt = absurd (omega arith)
 split-at (x ∷ xs) zero d lt = refl
 split-at (x ∷ xs) (suc k) d lt = ap (λ y. x ∷ y) (split-at xs k d (omega arith))
 
+-- characters are those before an index, the one there, and those behind
 pub split-item : (cs : List ℕ) (k c : ℕ) → k < length cs → c ≡ get_or cs k c → cs ≡ take k cs ++ c ∷ drop (suc k) cs
 split-item cs k c lt is = split-at cs k c lt ∙ ap (λ y. take k cs ++ y ∷ drop (suc k) cs) (sym is)
 
+-- a character's bytes fit where the text has room for all
 pub room-for : (cs : List ℕ) (k c : ℕ) → k < length cs → c ≡ get_or cs k c
     → length (encode_utf8_all (take k cs)) + len_utf8 c ≤ length (encode_utf8_all cs)
 room-for cs k c lt is =
-    let e : length (encode_utf8_all cs) ≡ length (encode_utf8_all (take k cs) ++ (encode_utf8 c ++ encode_utf8_all (drop (suc k) cs))) =
+    let e : length (encode_utf8_all cs)
+    ≡ length (encode_utf8_all (take k cs) ++ (encode_utf8 c ++ encode_utf8_all (drop (suc k) cs))) =
     ap length (ap encode_utf8_all (split-item cs k c lt is) ∙ encodes-append (take k cs) (c ∷ drop (suc k) cs)) in
     let a = length-append (encode_utf8_all (take k cs)) (encode_utf8 c ++ encode_utf8_all (drop (suc k) cs)) in
     let b = length-append (encode_utf8 c) (encode_utf8_all (drop (suc k) cs)) in
     let l = length-encode c in
     omega arith
 
+-- the text up to the next character is that up to this one, and its bytes
 pub one-further : (cs : List ℕ) (k c : ℕ) → k < length cs → c ≡ get_or cs k c
     → length (encode_utf8_all (take k cs)) + len_utf8 c ≡ length (encode_utf8_all (take (k + 1) cs))
 one-further cs k c lt is =

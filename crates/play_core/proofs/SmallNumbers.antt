@@ -1,5 +1,6 @@
 -- The table of the numbers 0 to 127 has the digits of each.
-use Rattle.std.proofs.Common.{◌≡◌, ℕ, zero, suc, ◌+◌, ◌/◌, ◌%◌, ◌<◌, ◌≤◌, Bool, true, false, ltb, List, [], ◌∷◌, ◌++◌, take, map, get_or, refl, sym, ap, ◌∙◌, subst, inl, inr, decimal, arith}
+use Rattle.std.proofs.Common.{◌≡◌, ℕ, zero, suc, ◌+◌, ◌/◌, ◌%◌, ◌<◌, ◌≤◌, Bool, true, false, ltb, List, [], ◌∷◌, ◌++◌}
+use Rattle.std.proofs.Common.{take, map, get_or, refl, sym, ap, ◌∙◌, subst, inl, inr, decimal, arith}
 use mir.Val.{bool_byte}
 use Rattle.std.proofs.Math.Nat.{eq-or-lt_of_le}
 use Rattle.std.specs.List.{range_with_len}
@@ -11,10 +12,13 @@ use Rattle.play_core.specs.declared.number.TheConstants.{SMALL_NUMBERS}
 head_is : {A : Type 0} (x y : A) (xs ys : List A) → x ∷ xs ≡ y ∷ ys → x ≡ y
 head_is x y xs ys h = cc
 
+-- lists that are equal have equal tails
 tail_is : {A : Type 0} (x y : A) (xs ys : List A) → x ∷ xs ≡ y ∷ ys → xs ≡ ys
 tail_is x y xs ys h = cc
 
-along : {A : Type 0} (f g : ℕ → A) (from n : ℕ) → map f (range_with_len from n) ≡ map g (range_with_len from n) → (k : ℕ) → from ≤ k → k < from + n → f k ≡ g k
+-- tables that are equal up to a length are equal at each place below it
+along : {A : Type 0} (f g : ℕ → A) (from n : ℕ) → map f (range_with_len from n) ≡ map g (range_with_len from n)
+    → (k : ℕ) → from ≤ k → k < from + n → f k ≡ g k
 along f g from zero h k low high = absurd (omega arith)
 along f g from (suc n) h k low high =
     elim (eq-or-lt_of_le low) [
@@ -28,27 +32,34 @@ digits_by n true b = (48 + n / 10 / 10) ∷ (48 + n / 10 % 10) ∷ (48 + n % 10)
 digits_by n false true = (48 + n / 10) ∷ (48 + n % 10) ∷ []
 digits_by n false false = (48 + n) ∷ []
 
+-- the table of digits, computed over the numbers below 128
 table : (d : List ℕ)
     → map (λ n. take (1 + bool_byte (ltb 9 n) + bool_byte (ltb 99 n)) (get_or SMALL_NUMBERS n d)) (range_with_len 0 128)
     ≡ map (λ n. digits_by n (ltb 99 n) (ltb 9 n)) (range_with_len 0 128)
 table d = refl
 
+-- the digits by the number of digits are those of the number
 digits_are : (n : ℕ) (a b : Bool) → n < 128 → ltb 99 n ≡ a → ltb 9 n ≡ b → digits_by n a b ≡ decimal n
 digits_are n true b small large more =
     let above : 99 < n = ltb-true _ _ large in
     let front : decimal (n / 10) ≡ (48 + n / 10 / 10) ∷ (48 + n / 10 % 10) ∷ [] =
-    decimal_step (n / 10) (omega arith) (omega arith) ∙ ap (λ l. l ++ (48 + n / 10 % 10) ∷ []) (decimal_digit (n / 10 / 10) (omega arith)) in
+    decimal_step (n / 10) (omega arith) (omega arith)
+    ∙ ap (λ l. l ++ (48 + n / 10 % 10) ∷ []) (decimal_digit (n / 10 / 10) (omega arith)) in
     sym (decimal_step n (omega arith) (omega arith) ∙ ap (λ l. l ++ (48 + n % 10) ∷ []) front)
 digits_are n false true small large more =
     let low : n ≤ 99 = ltb-false _ _ large in
     let above : 9 < n = ltb-true _ _ more in
-    sym (decimal_step n (omega arith) (omega arith) ∙ ap (λ l. l ++ (48 + n % 10) ∷ []) (decimal_digit (n / 10) (omega arith)))
+    sym (decimal_step n (omega arith) (omega arith)
+    ∙ ap (λ l. l ++ (48 + n % 10) ∷ []) (decimal_digit (n / 10) (omega arith)))
 digits_are n false false small large more =
     let low : n ≤ 9 = ltb-false _ _ more in
     sym (decimal_digit n (omega arith))
 
-pub small_number : (d : List ℕ) (n : ℕ) → n < 128 → take (1 + bool_byte (ltb 9 n) + bool_byte (ltb 99 n)) (get_or SMALL_NUMBERS n d) ≡ decimal n
+-- the row of a number, as long as it has digits, is the number
+pub small_number : (d : List ℕ) (n : ℕ) → n < 128
+    → take (1 + bool_byte (ltb 9 n) + bool_byte (ltb 99 n)) (get_or SMALL_NUMBERS n d) ≡ decimal n
 small_number d n h =
-    along (λ n. take (1 + bool_byte (ltb 9 n) + bool_byte (ltb 99 n)) (get_or SMALL_NUMBERS n d)) (λ n. digits_by n (ltb 99 n) (ltb 9 n)) 0 128 (table d) n
+    along (λ n. take (1 + bool_byte (ltb 9 n) + bool_byte (ltb 99 n)) (get_or SMALL_NUMBERS n d))
+    (λ n. digits_by n (ltb 99 n) (ltb 9 n)) 0 128 (table d) n
     (omega arith) (omega arith)
     ∙ digits_are n (ltb 99 n) (ltb 9 n) h refl refl

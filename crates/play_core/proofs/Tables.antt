@@ -1,5 +1,6 @@
 -- Tables of ways: one more way.
-use Rattle.std.proofs.Common.{◌≡◌, ℕ, Bool, true, false, List, [], ◌∷◌, ◌++◌, Option, Some, None, refl, ap, sym, subst, ◌∙◌, cond}
+use Rattle.std.proofs.Common.{◌≡◌, ℕ, Bool, true, false, List, [], ◌∷◌, ◌++◌, Option, Some, None, refl, ap, sym, subst}
+use Rattle.std.proofs.Common.{◌∙◌, cond}
 use Rattle.std.specs.Prelude.{◌==◌, find, option_map, All}
 use Rattle.std.specs.Option.{option_or, is_some}
 use Rattle.std.specs.Map.{lookup}
@@ -21,26 +22,38 @@ or-none : {X : Type 0} (o : Option X) → option_or o None ≡ o
 or-none None = refl
 or-none (Some x) = refl
 
-map-or : (a b : Option (ArrayVec Event)) → option_map (λ w. w.items) (option_or a b) ≡ option_or (option_map (λ w. w.items) a) (option_map (λ w. w.items) b)
+-- the events of the first of two ways that is there
+map-or : (a b : Option (ArrayVec Event))
+    → option_map (λ w. w.items) (option_or a b) ≡ option_or (option_map (λ w. w.items) a) (option_map (λ w. w.items) b)
 map-or None b = refl
 map-or (Some x) b = refl
 
+-- a look-up goes on behind the rows that are passed over
 lookup-step : (b : Bool) (v : ArrayVec Event) (l r o : Option (ArrayVec Event)) → l ≡ option_or r o
     → cond b (Some v) l ≡ option_or (cond b (Some v) r) o
 lookup-step true v l r o e = refl
 lookup-step false v l r o e = e
 
-lookup-append : (test : ℕ → Bool) (es fs : Entries) → lookup test (es ++ fs) ≡ option_or (lookup test es) (lookup test fs)
+-- a look-up goes on in the second list
+lookup-append : (test : ℕ → Bool) (es fs : Entries)
+    → lookup test (es ++ fs) ≡ option_or (lookup test es) (lookup test fs)
 lookup-append test [] fs = refl
 lookup-append test (e ∷ es) fs = lookup-step (test e.0) e.1 _ _ _ (lookup-append test es fs)
 
-module _ (f : List Event → Option ℕ) (ways : List (List Event)) (way : List Event) (es : Entries) (table : IsTableOf f ways es) where
-  one-more : (c : ℕ) → first_with f (ways ++ way ∷ []) c ≡ option_or (first_with f ways c) (cond (is_now c (f way)) (Some way) None)
+module _ (f : List Event → Option ℕ) (ways : List (List Event)) (way : List Event) (es : Entries)
+    (table : IsTableOf f ways es) where
+  -- the first way to a value, with one more way
+  one-more : (c : ℕ)
+      → first_with f (ways ++ way ∷ []) c ≡ option_or (first_with f ways c) (cond (is_now c (f way)) (Some way) None)
   one-more c = find-append (λ w. is_now c (f w)) ways (way ∷ [])
 
+  -- a way to no value changes no table
   pub table-none : f way ≡ None → IsTableOf f (ways ++ way ∷ []) es
-  table-none e c = table c ∙ sym (one-more c ∙ ap (λ o. option_or (first_with f ways c) (cond (is_now c o) (Some way) None)) e ∙ or-none _)
+  table-none e c =
+      table c
+      ∙ sym (one-more c ∙ ap (λ o. option_or (first_with f ways c) (cond (is_now c o) (Some way) None)) e ∙ or-none _)
 
+  -- a value that has a way keeps it
   old-by : (n c : ℕ) (b : Bool) (v : List Event) → c == n ≡ b → way_at es n ≡ Some v
       → option_or (first_with f ways c) (cond (c == n) (Some way) None) ≡ first_with f ways c
   old-by n c true v e there =
@@ -53,13 +66,15 @@ module _ (f : List Event → Option ℕ) (ways : List (List Event)) (way : List 
       table c ∙ sym (one-more c ∙ ap (λ o. option_or (first_with f ways c) (cond (is_now c o) (Some way) None)) e
       ∙ old-by n c (c == n) v refl there)
 
+  -- a value that has no way gets this one
   new-by : (n c : ℕ) (v : ArrayVec Event) (b : Bool) → way ≡ v.items → c == n ≡ b
       → option_map (λ w. w.items) (cond (c == n) (Some v) None) ≡ cond (c == n) (Some way) None
   new-by n c v true is e = rw (e, is) refl
   new-by n c v false is e = rw e refl
 
   -- it is put behind the others
-  pub table-new : (n : ℕ) (v : ArrayVec Event) → way ≡ v.items → f way ≡ Some n → IsTableOf f (ways ++ way ∷ []) (es ++ (n, v) ∷ [])
+  pub table-new : (n : ℕ) (v : ArrayVec Event) → way ≡ v.items → f way ≡ Some n
+      → IsTableOf f (ways ++ way ∷ []) (es ++ (n, v) ∷ [])
   table-new n v is e c =
       ap (option_map (λ w. w.items)) (lookup-append (λ x. c == x) es ((n, v) ∷ [])) ∙ map-or _ _
       ∙ ap (λ o. option_or o (option_map (λ w. w.items) (cond (c == n) (Some v) None))) (table c)
@@ -72,33 +87,43 @@ found-by : {X : Type 0} (test : X → Bool) (y x : X) (b : Bool) (o : Option X) 
 found-by test y x true o t s f = let q : y ≡ x = some-same y x s in ap test (sym q) ∙ t
 found-by test y x false o t s f = f s
 
+-- what is found passes the test
 pub find-true : {X : Type 0} (test : X → Bool) (xs : List X) (x : X) → find test xs ≡ Some x → test x ≡ true
 find-true test [] x e = absurd (none-some x e)
 find-true test (y ∷ ys) x e = found-by test y x (test y) (find test ys) refl e (find-true test ys x)
 
+-- the step of the next lemma, by the test of the first element
 one-by : {X : Type 0} (P : X → Type 0) (y x : X) (b : Bool) (o : Option X) → P y → cond b (Some y) o ≡ Some x
     → (o ≡ Some x → P x) → P x
 one-by P y x true o p s f = let q : y ≡ x = some-same y x s in subst P q p
 one-by P y x false o p s f = f s
 
-pub find-All : {X : Type 0} (P : X → Type 0) (test : X → Bool) (xs : List X) (x : X) → All P xs → find test xs ≡ Some x → P x
+-- what holds for all elements holds for the one that is found
+pub find-All : {X : Type 0} (P : X → Type 0) (test : X → Bool) (xs : List X) (x : X) → All P xs → find test xs ≡ Some x
+    → P x
 find-All P test [] x all e = absurd (none-some x e)
 find-All P test (y ∷ ys) x all e =
     one-by P y x (test y) (find test ys) (All-head P y ys all) e (find-All P test ys x (All-tail P y ys all))
 
+-- what isn't there is nothing
 pub not-there : {X : Type 0} (o : Option X) → is_some o ≡ false → o ≡ None
 not-there None e = refl
 not-there (Some x) e = absurd (true≢false e)
 
-module _ (f : List Event → Option ℕ) (ways : List (List Event)) (way : List Event) (es : Entries) (table : IsTableOf f ways es)
+module _ (f : List Event → Option ℕ) (ways : List (List Event)) (way : List Event) (es : Entries)
+    (table : IsTableOf f ways es)
     (n : ℕ) (is : f way ≡ Some n) where
-  there-by : (o : Option (ArrayVec Event)) → lookup (λ x. n == x) es ≡ o → is_some o ≡ true → IsTableOf f (ways ++ way ∷ []) es
+  -- the next lemma, by the look-up
+  there-by : (o : Option (ArrayVec Event)) → lookup (λ x. n == x) es ≡ o → is_some o ≡ true
+      → IsTableOf f (ways ++ way ∷ []) es
   there-by None e t = absurd (true≢false (sym t))
   there-by (Some v) e t = table-old f ways way es table n v.items is (ap (option_map (λ w. w.items)) e)
 
+  -- a way to a value that has one changes no table
   pub table-old-there : is_some (lookup (λ x. n == x) es) ≡ true → IsTableOf f (ways ++ way ∷ []) es
   table-old-there t = there-by (lookup (λ x. n == x) es) refl t
 
+-- a number that is none of all is nothing
 pub number-none : (o : Option ℕ) → ((n : ℕ) → o ≡ Some n → ⊥) → o ≡ None
 number-none None none = refl
 number-none (Some n) none = absurd (none n refl)

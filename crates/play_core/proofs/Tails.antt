@@ -1,5 +1,6 @@
 -- The tail of a line is known by the number of the modifiers and locks that are on.
-use Rattle.std.proofs.Common.{◌≡◌, ℕ, ◌-◌, codes, Bool, true, false, cond, List, [], ◌∷◌, ◌++◌, length, map, refl, sym, ap, ◌∙◌, append_assoc, length-append, arith, take, drop}
+use Rattle.std.proofs.Common.{◌≡◌, ℕ, ◌-◌, codes, Bool, true, false, cond, List, [], ◌∷◌, ◌++◌, length, map, refl, sym}
+use Rattle.std.proofs.Common.{ap, ◌∙◌, append_assoc, length-append, arith, take, drop}
 use Rattle.std.proofs.Math.Seq.{drop-append_seam, take-length}
 use Rattle.keymap_core.specs.declared.action.Modifier.{Modifier}
 use Rattle.keymap_core.specs.declared.action.Modifier.TheVariants as modifier
@@ -11,6 +12,7 @@ use Rattle.console_core.specs.declared.event.Answer.{Answer}
 use Rattle.play_core.specs.Written.{event_text, answer_text, line_of, name_if, or_none, names_of_modifiers, names_of_locks}
 use Rattle.play_core.specs.Inner.Tails.{tail_of, number_with, shown_number, IsTail}
 
+-- truth values of the same number are the same
 same_bits : (xs ys : List Bool) → length xs ≡ length ys → number_with xs ≡ number_with ys → xs ≡ ys
 same_bits [] [] l e = refl
 same_bits [] (y ∷ ys) l e = absurd (omega arith)
@@ -20,8 +22,10 @@ same_bits (false ∷ xs) (false ∷ ys) l e = ap (λ bits. false ∷ bits) (same
 same_bits (true ∷ xs) (false ∷ ys) l e = absurd (omega arith)
 same_bits (false ∷ xs) (true ∷ ys) l e = absurd (omega arith)
 
+-- the same modifiers and locks on have the same tail
 same_tail : (on still_on : Modifier → Bool) (locked still_locked : Lock → Bool)
-    → map on modifiers ++ map locked locks ≡ map still_on modifiers ++ map still_locked locks → tail_of on locked ≡ tail_of still_on still_locked
+    → map on modifiers ++ map locked locks ≡ map still_on modifiers ++ map still_locked locks
+    → tail_of on locked ≡ tail_of still_on still_locked
 unfolding tail_of names_of_modifiers names_of_locks
 same_tail on still_on locked still_locked e =
     let m1 : on modifier.LeftShift ≡ still_on modifier.LeftShift = cc in
@@ -39,45 +43,57 @@ same_tail on still_on locked still_locked e =
     rw (m1, m2, m3, m4, m5, m6, m7, m8, l1, l2, l3, l4) refl
 
 -- a tail is that of each line that tells of the same modifiers and locks
-pub tail_by_number : (on : Modifier → Bool) (locked : Lock → Bool) (number : ℕ) (text : List ℕ) → number ≡ shown_number on locked
+pub tail_by_number : (on : Modifier → Bool) (locked : Lock → Bool) (number : ℕ) (text : List ℕ)
+    → number ≡ shown_number on locked
     → text ≡ tail_of on locked → IsTail number text
 tail_by_number on locked number text n t = λ still_on still_locked e.
     t ∙ same_tail on still_on locked still_locked
-    (same_bits (map on modifiers ++ map locked locks) (map still_on modifiers ++ map still_locked locks) refl (sym n ∙ sym e))
+    (same_bits (map on modifiers ++ map locked locks) (map still_on modifiers ++ map still_locked locks) refl
+    (sym n ∙ sym e))
 
+-- the tail where nothing is on
 nothing_tail : tail_of (λ m. false) (λ l. false) ≡ codes "; mods none; locks none\n"
 unfolding tail_of names_of_modifiers names_of_locks
 nothing_tail = refl
 
+-- 0 is the number of nothing on
 pub nothing_is_on : IsTail 0 (codes "; mods none; locks none\n")
 nothing_is_on = tail_by_number (λ m. false) (λ l. false) 0 _ refl (sym nothing_tail)
 
 -- what stands behind a text that a tail was added to
-pub tail_behind : (before text tail : List ℕ) (n : ℕ) → n ≡ length before → text ≡ before ++ tail → take (length text - n) (drop n text) ≡ tail
+pub tail_behind : (before text tail : List ℕ) (n : ℕ) → n ≡ length before → text ≡ before ++ tail
+    → take (length text - n) (drop n text) ≡ tail
 tail_behind before text tail n e t =
     let behind : drop n text ≡ tail = rw (e, t) (drop-append_seam before tail) in
     let long : length text - n ≡ length tail = omega (arith, ap length t, length-append before tail) in
     rw (behind, long) (take-length tail)
 
 -- the parts of a tail, added in turn
-pub tail_spelled : (on : Modifier → Bool) (locked : Lock → Bool) (start a b c d e : List ℕ) → a ≡ start ++ codes "; mods"
-    → b ≡ a ++ or_none (names_of_modifiers on modifiers) → c ≡ b ++ codes "; locks" → d ≡ c ++ or_none (names_of_locks locked locks)
+pub tail_spelled : (on : Modifier → Bool) (locked : Lock → Bool) (start a b c d e : List ℕ)
+    → a ≡ start ++ codes "; mods"
+    → b ≡ a ++ or_none (names_of_modifiers on modifiers) → c ≡ b ++ codes "; locks"
+    → d ≡ c ++ or_none (names_of_locks locked locks)
     → e ≡ d ++ codes "\n" → e ≡ start ++ tail_of on locked
 unfolding tail_of
 tail_spelled on locked start a b c d e pa pb pc pd pe = rw (pe, pd, pc, pb, pa) (simp append_assoc)
 
 -- the parts of a line, added in turn
-pub line_spelled : (event : Event) (answer : Answer) (on : Modifier → Bool) (locked : Lock → Bool) (start a b c d : List ℕ) → a ≡ start ++ event_text event
-    → b ≡ a ++ codes ": " → c ≡ b ++ answer_text answer → d ≡ c ++ tail_of on locked → d ≡ start ++ line_of event answer on locked
+pub line_spelled : (event : Event) (answer : Answer) (on : Modifier → Bool) (locked : Lock → Bool)
+    (start a b c d : List ℕ)
+    → a ≡ start ++ event_text event
+    → b ≡ a ++ codes ": " → c ≡ b ++ answer_text answer → d ≡ c ++ tail_of on locked
+    → d ≡ start ++ line_of event answer on locked
 unfolding tail_of line_of
 line_spelled event answer on locked start a b c d pa pb pc pd = rw (pd, pc, pb, pa) (simp append_assoc)
 
+-- a name is printed exactly if it is on
 if_on : (is_on : Bool) (name : List ℕ) → cond is_on (32 ∷ name) [] ≡ name_if is_on name
 if_on true name = refl
 if_on false name = refl
 
 -- a name was added where it is on, and then the other names
-pub name_added : (text more all : List ℕ) (added is_on : Bool) (name names : List ℕ) → more ≡ text ++ cond added (32 ∷ name) [] → added ≡ is_on
+pub name_added : (text more all : List ℕ) (added is_on : Bool) (name names : List ℕ)
+    → more ≡ text ++ cond added (32 ∷ name) [] → added ≡ is_on
     → all ≡ more ++ names → all ≡ text ++ (name_if is_on name ++ names)
 name_added text more all added is_on name names m b a =
     a ∙ ap (λ l. l ++ names) (m ∙ ap (λ l. text ++ l) (ap (λ b. cond b (32 ∷ name) []) b ∙ if_on is_on name))

@@ -1,5 +1,7 @@
 -- What is written of events, one after another.
-use Rattle.std.proofs.Common.{◌≡◌, ℕ, ◌+◌, ◌<◌, ◌||◌, Bool, true, false, List, [], ◌∷◌, ◌++◌, length, take, drop, get_or, refl, sym, ap, ◌∙◌, append_assoc, append-nil, take-append-drop, length-append, arith}
+use Rattle.std.proofs.Common.{◌≡◌, ℕ, ◌+◌, ◌<◌, ◌||◌, Bool, true, false, List, [], ◌∷◌, ◌++◌, length, take, drop}
+use Rattle.std.proofs.Common.{get_or, refl, sym, ap, ◌∙◌, append_assoc, append-nil, take-append-drop, length-append}
+use Rattle.std.proofs.Common.{arith}
 use Rattle.std.specs.Prelude.{reverse, codes}
 use Rattle.std.specs.List.{filter_map}
 use Rattle.std.proofs.lemmas.List.{take_more, reverse-append}
@@ -14,15 +16,19 @@ use Rattle.play_core.specs.declared.sent.Sent.{Sent}
 use Rattle.play_core.specs.declared.show.Show.{Show}
 use Rattle.play_core.specs.declared.show.Show.TheVariants as show
 use Rattle.play_core.specs.Delivery.{event_of, delivered}
-use Rattle.play_core.specs.Written.{line_of, lines_after, line_after, typed_by, typed_text, text_after, event_output, name_if, or_none, names_of_modifiers, names_of_locks}
+use Rattle.play_core.specs.Written.{line_of, lines_after, line_after, typed_by, typed_text, text_after, event_output}
+use Rattle.play_core.specs.Written.{name_if, or_none, names_of_modifiers, names_of_locks}
 use Rattle.keymap_core.specs.declared.action.Action.TheVariants as action
 use Rattle.keymap_core.specs.declared.action.Modifier.TheVariants as modifier
 use Rattle.keymap_core.specs.Actions.{name_of, modifiers}
 
+-- the first event of a list is the oldest of it
 reverse-first : (e : Event) (xs h : List Event) → reverse (e ∷ xs) ++ h ≡ reverse xs ++ (e ∷ h)
 reverse-first e xs h = ap (λ l. l ++ h) (reverse-append (e ∷ []) xs) ∙ append_assoc (reverse xs) (e ∷ []) h
 
-lines-append : (ms : Maps) (h xs ys : List Event) → lines_after ms h (xs ++ ys) ≡ lines_after ms h xs ++ lines_after ms (reverse xs ++ h) ys
+-- the lines of events, and then of the events behind them
+lines-append : (ms : Maps) (h xs ys : List Event)
+    → lines_after ms h (xs ++ ys) ≡ lines_after ms h xs ++ lines_after ms (reverse xs ++ h) ys
 unfolding lines_after
 lines-append ms h [] ys = refl
 lines-append ms h (e ∷ xs) ys =
@@ -30,35 +36,47 @@ lines-append ms h (e ∷ xs) ys =
     ∙ sym (append_assoc (line_after ms h e) (lines_after ms (e ∷ h) xs) _)
     ∙ ap (λ g. (line_after ms h e ++ lines_after ms (e ∷ h) xs) ++ lines_after ms g ys) (sym (reverse-first e xs h))
 
-answers-append : (ms : Maps) (h xs ys : List Event) → AnswersTo ms h (xs ++ ys) ≡ AnswersTo ms h xs ++ AnswersTo ms (reverse xs ++ h) ys
+-- the answers to events, and then to the events behind them
+answers-append : (ms : Maps) (h xs ys : List Event)
+    → AnswersTo ms h (xs ++ ys) ≡ AnswersTo ms h xs ++ AnswersTo ms (reverse xs ++ h) ys
 answers-append ms h [] ys = refl
 answers-append ms h (e ∷ xs) ys =
-    ap (λ l. AnswerTo ms h e ∷ l) (answers-append ms (e ∷ h) xs ys ∙ ap (λ g. AnswersTo ms (e ∷ h) xs ++ AnswersTo ms g ys) (sym (reverse-first e xs h)))
+    ap (λ l. AnswerTo ms h e ∷ l)
+    (answers-append ms (e ∷ h) xs ys
+    ∙ ap (λ g. AnswersTo ms (e ∷ h) xs ++ AnswersTo ms g ys) (sym (reverse-first e xs h)))
 
+-- what answers type, and then the answers behind them
 pub typed-append : (xs ys : List Answer) → typed_text (xs ++ ys) ≡ typed_text xs ++ typed_text ys
 unfolding typed_text
 typed-append xs ys = flat_map-append typed_by xs ys
 
+-- no answers type nothing
 pub typed-nil : typed_text [] ≡ []
 unfolding typed_text
 typed-nil = refl
 
+-- one answer types its own text
 pub typed-one : (a : Answer) → typed_text (a ∷ []) ≡ typed_by a
 unfolding typed_text
 typed-one a = append-nil (typed_by a)
 
+-- the text of events, and then of the events behind them
 pub text-append : (shown : Show) (ms : Maps) (h xs ys : List Event)
     → text_after shown ms h (xs ++ ys) ≡ text_after shown ms h xs ++ text_after shown ms (reverse xs ++ h) ys
 unfolding text_after
 text-append show.Lines ms h xs ys = lines-append ms h xs ys
-text-append show.Typed ms h xs ys = ap typed_text (answers-append ms h xs ys) ∙ typed-append (AnswersTo ms h xs) (AnswersTo ms (reverse xs ++ h) ys)
+text-append show.Typed ms h xs ys =
+    ap typed_text (answers-append ms h xs ys) ∙ typed-append (AnswersTo ms h xs) (AnswersTo ms (reverse xs ++ h) ys)
 
+-- no events have no text
 pub text-nil : (shown : Show) (ms : Maps) (h : List Event) → text_after shown ms h [] ≡ []
 unfolding text_after lines_after
 text-nil show.Lines ms h = refl
 text-nil show.Typed ms h = typed-nil
 
-pub text-one : (shown : Show) (ms : Maps) (h : List Event) (e : Event) → text_after shown ms h (e ∷ []) ≡ event_output shown ms h e
+-- one event has its own output
+pub text-one : (shown : Show) (ms : Maps) (h : List Event) (e : Event)
+    → text_after shown ms h (e ∷ []) ≡ event_output shown ms h e
 unfolding text_after lines_after
 text-one show.Lines ms h e = append-nil (line_after ms h e)
 text-one show.Typed ms h e = typed-one (AnswerTo ms h e)
@@ -67,51 +85,71 @@ text-one show.Typed ms h e = typed-one (AnswerTo ms h e)
 pub delivered-more : (sent : List Sent) (i : ℕ) (one : Sent) → i < length sent → one ≡ get_or sent i one
     → delivered (take (i + 1) sent) ≡ delivered (take i sent) ++ delivered (one ∷ [])
 delivered-more sent i one h e =
-    ap (filter_map event_of) (take_more sent i one h ∙ ap (λ s. take i sent ++ s ∷ []) (sym e)) ∙ filter_map-append event_of (take i sent) (one ∷ [])
+    ap (filter_map event_of) (take_more sent i one h ∙ ap (λ s. take i sent ++ s ∷ []) (sym e))
+    ∙ filter_map-append event_of (take i sent) (one ∷ [])
 
+-- the events delivered so far, and those that are left
 pub delivered-rest : (sent : List Sent) (i : ℕ) → delivered (take i sent) ++ delivered (drop i sent) ≡ delivered sent
-delivered-rest sent i = sym (filter_map-append event_of (take i sent) (drop i sent)) ∙ ap delivered (take-append-drop i sent)
+delivered-rest sent i =
+    sym (filter_map-append event_of (take i sent) (drop i sent)) ∙ ap delivered (take-append-drop i sent)
 
+-- events behind events are the newer ones
 pub history-more : (xs ys h : List Event) → reverse (xs ++ ys) ++ h ≡ reverse ys ++ (reverse xs ++ h)
 history-more xs ys h = ap (λ l. l ++ h) (reverse-append xs ys) ∙ append_assoc (reverse ys) (reverse xs) h
 
-pub text-more : (shown : Show) (ms : Maps) (h : List Event) (sent : List Sent) (i : ℕ) (one : Sent) → i < length sent → one ≡ get_or sent i one
+-- the text so far, with that of one more line
+pub text-more : (shown : Show) (ms : Maps) (h : List Event) (sent : List Sent) (i : ℕ) (one : Sent) → i < length sent
+    → one ≡ get_or sent i one
     → text_after shown ms h (delivered (take (i + 1) sent))
-    ≡ text_after shown ms h (delivered (take i sent)) ++ text_after shown ms (reverse (delivered (take i sent)) ++ h) (delivered (one ∷ []))
+    ≡ text_after shown ms h (delivered (take i sent))
+    ++ text_after shown ms (reverse (delivered (take i sent)) ++ h) (delivered (one ∷ []))
 text-more shown ms h sent i one within e =
-    ap (text_after shown ms h) (delivered-more sent i one within e) ∙ text-append shown ms h (delivered (take i sent)) (delivered (one ∷ []))
+    ap (text_after shown ms h) (delivered-more sent i one within e)
+    ∙ text-append shown ms h (delivered (take i sent)) (delivered (one ∷ []))
 
+-- the text so far, and that of the lines that are left
 pub text-rest : (shown : Show) (ms : Maps) (h : List Event) (sent : List Sent) (i : ℕ)
-    → text_after shown ms h (delivered (take i sent)) ++ text_after shown ms (reverse (delivered (take i sent)) ++ h) (delivered (drop i sent))
+    → text_after shown ms h (delivered (take i sent))
+    ++ text_after shown ms (reverse (delivered (take i sent)) ++ h) (delivered (drop i sent))
     ≡ text_after shown ms h (delivered sent)
 text-rest shown ms h sent i =
-    sym (text-append shown ms h (delivered (take i sent)) (delivered (drop i sent))) ∙ ap (text_after shown ms h) (delivered-rest sent i)
+    sym (text-append shown ms h (delivered (take i sent)) (delivered (drop i sent)))
+    ∙ ap (text_after shown ms h) (delivered-rest sent i)
 
+-- what is typed so far, with one more answer
 pub typed-more : (answers : List Answer) (i : ℕ) (one : Answer) → i < length answers → one ≡ get_or answers i one
     → typed_text (take (i + 1) answers) ≡ typed_text (take i answers) ++ typed_by one
 typed-more answers i one h e =
-    ap typed_text (take_more answers i one h ∙ ap (λ a. take i answers ++ a ∷ []) (sym e)) ∙ typed-append (take i answers) (one ∷ [])
+    ap typed_text (take_more answers i one h ∙ ap (λ a. take i answers ++ a ∷ []) (sym e))
+    ∙ typed-append (take i answers) (one ∷ [])
     ∙ ap (λ l. typed_text (take i answers) ++ l) (typed-one one)
 
-pub typed-rest : (answers : List Answer) (i : ℕ) → typed_text (take i answers) ++ typed_text (drop i answers) ≡ typed_text answers
+-- what is typed so far, and what is left to type
+pub typed-rest : (answers : List Answer) (i : ℕ)
+    → typed_text (take i answers) ++ typed_text (drop i answers) ≡ typed_text answers
 typed-rest answers i = sym (typed-append (take i answers) (drop i answers)) ∙ ap typed_text (take-append-drop i answers)
 
 -- lines with the same answer, modifiers and locks
 pub same-line : (e : Event) {a b : Answer} {on on' : Modifier → Bool} {locked locked' : Lock → Bool} → a ≡ b
-    → ((m : Modifier) → on m ≡ on' m) → ((l : Lock) → locked l ≡ locked' l) → line_of e a on locked ≡ line_of e b on' locked'
+    → ((m : Modifier) → on m ≡ on' m) → ((l : Lock) → locked l ≡ locked' l)
+    → line_of e a on locked ≡ line_of e b on' locked'
 same-line e p q r = λ j. line_of e (p j) (λ m. q m j) (λ l. r l j)
 
 -- the names of one more
-pub modifiers-more : (is_on : Modifier → Bool) (ms : List Modifier) (i : ℕ) (m : Modifier) → i < length ms → m ≡ get_or ms i m
-    → names_of_modifiers is_on (take (i + 1) ms) ≡ names_of_modifiers is_on (take i ms) ++ name_if (is_on m) (name_of (action.Mod m))
+pub modifiers-more : (is_on : Modifier → Bool) (ms : List Modifier) (i : ℕ) (m : Modifier) → i < length ms
+    → m ≡ get_or ms i m
+    → names_of_modifiers is_on (take (i + 1) ms)
+    ≡ names_of_modifiers is_on (take i ms) ++ name_if (is_on m) (name_of (action.Mod m))
 unfolding names_of_modifiers
 modifiers-more is_on ms i m h e =
     ap (names_of_modifiers is_on) (take_more ms i m h ∙ ap (λ x. take i ms ++ x ∷ []) (sym e))
     ∙ flat_map-append (λ m. name_if (is_on m) (name_of (action.Mod m))) (take i ms) (m ∷ [])
     ∙ ap (λ l. names_of_modifiers is_on (take i ms) ++ l) (append-nil (name_if (is_on m) (name_of (action.Mod m))))
 
+-- the names of the locks so far, with one more
 pub locks-more : (is_locked : Lock → Bool) (ls : List Lock) (i : ℕ) (k : Lock) → i < length ls → k ≡ get_or ls i k
-    → names_of_locks is_locked (take (i + 1) ls) ≡ names_of_locks is_locked (take i ls) ++ name_if (is_locked k) (name_of (action.Lock k))
+    → names_of_locks is_locked (take (i + 1) ls)
+    ≡ names_of_locks is_locked (take i ls) ++ name_if (is_locked k) (name_of (action.Lock k))
 unfolding names_of_locks
 locks-more is_locked ls i k h e =
     ap (names_of_locks is_locked) (take_more ls i k h ∙ ap (λ x. take i ls ++ x ∷ []) (sym e))
@@ -119,11 +157,14 @@ locks-more is_locked ls i k h e =
     ∙ ap (λ l. names_of_locks is_locked (take i ls) ++ l) (append-nil (name_if (is_locked k) (name_of (action.Lock k))))
 
 -- nothing was added
-pub or_none-nothing : (before names : List ℕ) → length (before ++ names) ≡ length before → (before ++ names) ++ codes " none" ≡ before ++ or_none names
+pub or_none-nothing : (before names : List ℕ) → length (before ++ names) ≡ length before
+    → (before ++ names) ++ codes " none" ≡ before ++ or_none names
 or_none-nothing before [] h = ap (λ l. l ++ codes " none") (append-nil before)
 or_none-nothing before (b ∷ names) h = let size = length-append before (b ∷ names) in absurd (omega arith)
 
-pub or_none-some : (before names : List ℕ) → (length (before ++ names) ≡ length before → ⊥) → before ++ names ≡ before ++ or_none names
+-- names that were written aren't none
+pub or_none-some : (before names : List ℕ) → (length (before ++ names) ≡ length before → ⊥)
+    → before ++ names ≡ before ++ or_none names
 or_none-some before [] h = absurd (h (ap length (append-nil before)))
 or_none-some before (b ∷ names) h = refl
 
@@ -132,8 +173,10 @@ both_false true b e = cc
 both_false false b e = (refl, e)
 
 -- no modifier is on
-pub no_names : (is_on : Modifier → Bool) → is_on modifier.LeftShift ≡ false → is_on modifier.RightShift ≡ false → is_on modifier.LeftControl ≡ false
-    → is_on modifier.RightControl ≡ false → is_on modifier.LeftAlt ≡ false → is_on modifier.RightAlt ≡ false → is_on modifier.AltShift ≡ false
+pub no_names : (is_on : Modifier → Bool) → is_on modifier.LeftShift ≡ false → is_on modifier.RightShift ≡ false
+    → is_on modifier.LeftControl ≡ false
+    → is_on modifier.RightControl ≡ false → is_on modifier.LeftAlt ≡ false → is_on modifier.RightAlt ≡ false
+    → is_on modifier.AltShift ≡ false
     → is_on modifier.Meta ≡ false → names_of_modifiers is_on modifiers ≡ []
 unfolding names_of_modifiers
 no_names is_on p1 p2 p3 p4 p5 p6 p7 p8 = rw (p1, p2, p3, p4, p5, p6, p7, p8) refl

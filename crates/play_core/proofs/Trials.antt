@@ -1,5 +1,6 @@
 -- What a way does to a new console, from what is seen of a console that was delivered it.
-use Rattle.std.proofs.Common.{◌≡◌, ℕ, ◌<◌, Bool, true, false, ◌&&◌, ◌||◌, not, List, [], ◌∷◌, ◌++◌, Option, Some, None, refl, ap, sym, subst, ◌∙◌, inl, inr}
+use Rattle.std.proofs.Common.{◌≡◌, ℕ, ◌<◌, Bool, true, false, ◌&&◌, ◌||◌, not, List, [], ◌∷◌, ◌++◌, Option, Some, None}
+use Rattle.std.proofs.Common.{refl, ap, sym, subst, ◌∙◌, inl, inr}
 use Rattle.std.specs.Prelude.{reverse, filter}
 use Rattle.std.specs.List.{list_any}
 use Rattle.std.proofs.Math.Path.{fun_ext}
@@ -35,6 +36,7 @@ use Rattle.play_core.proofs.Resting.{combination-quiet, combination-down, DownOn
 
 -- ---- what answers type
 
+-- two answers that type are more than one character
 typed_twice : (a b : Answer) → after_typing (typed_by_one a) b ≡ typed.Other
 typed_twice answer.None b = refl
 typed_twice answer.Error b = refl
@@ -44,11 +46,13 @@ typed_twice (answer.Special x) b = refl
 typed_twice answer.BackTab b = refl
 typed_twice (answer.Released x) b = refl
 
+-- one more answer that types
 typed-push : (xs : List Answer) (b : Answer) → typed_by_all (xs ++ b ∷ []) ≡ after_typing (typed_by_all xs) b
 typed-push [] b = refl
 typed-push (a ∷ []) b = sym (typed_twice a b)
 typed-push (a ∷ c ∷ rest) b = refl
 
+-- no more answers type no more
 same-after : (t : Typed) (xs : List Answer) → t ≡ typed_by_all xs → t ≡ typed_by_all (xs ++ [])
 same-after t xs e = e ∙ ap typed_by_all (sym (nil-right xs))
   where
@@ -56,6 +60,7 @@ same-after t xs e = e ∙ ap typed_by_all (sym (nil-right xs))
     nil-right [] = refl
     nil-right (x ∷ xs) = ap (λ y. x ∷ y) (nil-right xs)
 
+-- one more answer, whether it types or not
 more-with : (xs : List Answer) (b : Answer) → typed_by_all (xs ++ filter types (b ∷ [])) ≡ one_more (typed_by_all xs) b
 more-with xs answer.None = sym (same-after _ xs refl)
 more-with xs answer.Error = sym (same-after _ xs refl)
@@ -64,6 +69,7 @@ more-with xs (answer.Special x) = sym (same-after _ xs refl)
 more-with xs answer.BackTab = typed-push xs answer.BackTab
 more-with xs (answer.Released x) = sym (same-after _ xs refl)
 
+-- what is typed so far, with one more answer
 pub typed-more : (xs : List Answer) (b : Answer)
     → typed_by_all (filter types (xs ++ b ∷ [])) ≡ one_more (typed_by_all (filter types xs)) b
 typed-more xs b = ap typed_by_all (filter-append types xs (b ∷ [])) ∙ more-with (filter types xs) b
@@ -78,6 +84,7 @@ not-true : (a : Bool) → not a ≡ true → a ≡ false
 not-true true e = absurd (true≢false (sym e))
 not-true false e = refl
 
+-- where the test of all finds none, no modifier passes
 no-modifier : (f : Modifier → Bool) → list_any f modifiers ≡ false → (i : Modifier) → f i ≡ false
 no-modifier f e =
     let a = or-false _ _ e in
@@ -102,6 +109,7 @@ no-modifier f e =
     by modifier.AltShift a b c d g h k n = k
     by modifier.Meta a b c d g h k n = n
 
+-- where the test of all finds none, no lock passes
 no-lock : (f : Lock → Bool) → list_any f locks ≡ false → (l : Lock) → f l ≡ false
 no-lock f e =
     let a = or-false _ _ e in
@@ -110,12 +118,14 @@ no-lock f e =
     let d = or-false _ _ c.1 in
     λ l. by l a.0 b.0 c.0 d.0
   where
-    by : (l : Lock) → f lock.Caps ≡ false → f lock.Num ≡ false → f lock.Scroll ≡ false → f lock.Alt ≡ false → f l ≡ false
+    by : (l : Lock) → f lock.Caps ≡ false → f lock.Num ≡ false → f lock.Scroll ≡ false → f lock.Alt ≡ false
+        → f l ≡ false
     by lock.Caps a b c d = a
     by lock.Num a b c d = b
     by lock.Scroll a b c d = c
     by lock.Alt a b c d = d
 
+-- where no modifier passes, the test of all finds none
 no-modifiers : (f : Modifier → Bool) → ((i : Modifier) → f i ≡ false) → list_any f modifiers ≡ false
 no-modifiers f none =
     rw (
@@ -129,9 +139,11 @@ no-modifiers f none =
       none modifier.Meta,
     ) refl
 
+-- where no lock passes, the test of all finds none
 no-locks : (f : Lock → Bool) → ((l : Lock) → f l ≡ false) → list_any f locks ≡ false
 no-locks f none = rw (none lock.Caps, none lock.Num, none lock.Scroll, none lock.Alt) refl
 
+-- where no key passes, the test of all finds none
 none-below : (test : ℕ → Bool) (n : ℕ) → ((k : ℕ) → k < n → test k ≡ false) → any_below test n ≡ false
 none-below test n none =
     elim (cases_Bool (any_below test n)) [
@@ -139,6 +151,7 @@ none-below test n none =
       | inr e ↦ e
     ]
 
+-- where the test of all finds none, no key passes
 each-below : (test : ℕ → Bool) (n : ℕ) → any_below test n ≡ false → (k : ℕ) → k < n → test k ≡ false
 each-below test n none k lt =
     elim (cases_Bool (test k)) [
@@ -153,6 +166,7 @@ pub record Rests (m : MapValue) (h : List Event) : Type 0 where
   pub down : (l : Lock) → held (holding.Lock l) (resolved (alone m) h) ≡ false
   pub locked : (l : Lock) → Locked (alone m) l h ≡ false
 
+-- where the test passes, the state is at rest
 pub rests : (m : MapValue) (h : List Event) → is_at_rest m h ≡ true → Rests m h
 unfolding is_at_rest
 rests m h e =
@@ -168,6 +182,7 @@ rests m h e =
       locked = no-lock (λ l. Locked (alone m) l h) (not-true _ a.1);
     }
 
+-- a state at rest passes the test
 pub at-rest : (m : MapValue) (h : List Event) → Rests m h → is_at_rest m h ≡ true
 unfolding is_at_rest
 at-rest m h r =
@@ -179,6 +194,7 @@ at-rest m h r =
       no-locks (λ l. Locked (alone m) l h) r.locked,
     ) refl
 
+-- a new console is at rest
 pub rests-start : (m : MapValue) → is_at_rest m [] ≡ true
 rests-start m = at-rest m [] (record {
   quiet = λ k _. pressed-start k;
@@ -188,14 +204,17 @@ rests-start m = at-rest m [] (record {
   locked = λ l. ap (locked l) (resolved-start (alone m)) ∙ locked-start l;
 })
 
+-- what is none of all actions is nothing
 nothing_there : (o : Option Action) → ((a : Action) → o ≡ Some a → ⊥) → is_some o ≡ false
 nothing_there None f = refl
 nothing_there (Some a) f = absurd (f a refl)
 
+-- where no key is pressed, nothing is remembered
 pub quiet-remembers : (ms : Maps) (h : List Event) → IsQuiet h → (k : ℕ) → k < 128 → is_some (Remembered ms k h) ≡ false
 quiet-remembers ms h quiet k lt =
     nothing_there (Remembered ms k h) (λ a e. true≢false (sym (remembered-pressed ms h k a e) ∙ quiet k lt))
 
+-- where locks down are on, it is enough to see those that are on
 seen-with : (a d l : Bool) → (l ≡ false → d ≡ false) → ((not a && not d) && not l) ≡ (not a && not l)
 seen-with a d true f = grind-and (not a && not d) ∙ sym (grind-and (not a))
   where
@@ -208,9 +227,11 @@ seen-with a d false f = ap (λ y. (not a && not y) && true) (f refl) ∙ ap (λ 
     keep true = refl
     keep false = refl
 
+-- a way that is tried ends at rest exactly if it leaves no modifier and no lock on
 pub way-rests : (m : MapValue) (way : List Event) → IsTrial m way
     → is_at_rest m (reverse way)
-    ≡ (not (list_any (λ i. On (alone m) i (reverse way)) modifiers) && not (list_any (λ l. Locked (alone m) l (reverse way)) locks))
+    ≡ (not (list_any (λ i. On (alone m) i (reverse way)) modifiers)
+    && not (list_any (λ l. Locked (alone m) l (reverse way)) locks))
 unfolding is_at_rest
 way-rests m way trial =
     let ms = alone m in
@@ -225,8 +246,10 @@ way-rests m way trial =
     let p : any_below (λ k. pressed k (reverse way)) 128 ≡ false = none-below _ 128 quiet in
     let r : any_below (λ k. is_some (Remembered ms k (reverse way))) 128 ≡ false =
     none-below _ 128 (quiet-remembers ms (reverse way) quiet) in
-    let d : list_any (λ l. Locked ms l (reverse way)) locks ≡ false → list_any (λ l. held (holding.Lock l) (resolved ms (reverse way))) locks ≡ false =
-    λ off. no-locks (λ l. held (holding.Lock l) (resolved ms (reverse way))) (λ l. down l (no-lock (λ l. Locked ms l (reverse way)) off l)) in
+    let d : list_any (λ l. Locked ms l (reverse way)) locks ≡ false
+    → list_any (λ l. held (holding.Lock l) (resolved ms (reverse way))) locks ≡ false =
+    λ off. no-locks (λ l. held (holding.Lock l) (resolved ms (reverse way)))
+    (λ l. down l (no-lock (λ l. Locked ms l (reverse way)) off l)) in
     rw (p, r) (seen-with _ _ _ d)
   where
     Rests-of : Rests m (reverse trial.before)
@@ -234,11 +257,13 @@ way-rests m way trial =
 
 -- ---- effects
 
+-- what a way does is its character, or the accent that it leaves pending
 abbrev AreEffects : List Answer → Option ℕ → Type 0
 AreEffects xs p =
     (unless_some p (lone_character xs) ≡ character_in (effect_by (typed_by_all xs) p))
     × (unless_any xs p ≡ accent_in (effect_by (typed_by_all xs) p))
 
+-- the effect of one answer that types
 one-effect : (a : Answer) (p : Option ℕ) → AreEffects (a ∷ []) p
 one-effect answer.None None = (refl, refl)
 one-effect answer.None (Some i) = (refl, refl)
@@ -255,6 +280,7 @@ one-effect answer.BackTab (Some i) = (refl, refl)
 one-effect (answer.Released x) None = (refl, refl)
 one-effect (answer.Released x) (Some i) = (refl, refl)
 
+-- the effect of any answers
 effects-by : (xs : List Answer) (p : Option ℕ) → AreEffects xs p
 effects-by [] None = (refl, refl)
 effects-by [] (Some i) = (refl, refl)
@@ -267,12 +293,15 @@ pub record IsSeen (m : MapValue) (way : List Event) (on locked : Bool) : Type 0 
   pub on_is : on ≡ list_any (λ i. On (alone m) i (reverse way)) modifiers
   pub locked_is : locked ≡ list_any (λ l. Locked (alone m) l (reverse way)) locks
 
+-- what is seen of the modifiers and locks tells whether a way ends at rest
 seen-rest : (m : MapValue) (way : List Event) (on locked : Bool) → IsTrial m way → IsSeen m way on locked
     → is_at_rest m (reverse way) ≡ (not on && not locked)
 seen-rest m way on locked trial seen =
-    way-rests m way trial ∙ ap (λ x. not x && not (list_any (λ l. Locked (alone m) l (reverse way)) locks)) (sym seen.on_is)
+    way-rests m way trial
+    ∙ ap (λ x. not x && not (list_any (λ l. Locked (alone m) l (reverse way)) locks)) (sym seen.on_is)
     ∙ ap (λ x. not on && not x) (sym seen.locked_is)
 
+-- a way that leaves something on gives no character and no accent
 pub no-effect : (m : MapValue) (way : List Event) (on locked : Bool) → IsTrial m way → IsSeen m way on locked
     → (not on && not locked) ≡ false → (character_of m way ≡ None) × (accent_of m way ≡ None)
 unfolding character_of accent_of
@@ -283,6 +312,7 @@ and-false : (x : Bool) → (x && false) ≡ false
 and-false true = refl
 and-false false = refl
 
+-- a way that leaves a modifier on gives no character and no accent
 pub no-effect-on : (m : MapValue) (way : List Event) (shown : Modifier → Bool) (b : Bool) → IsTrial m way
     → ((i : Modifier) → shown i ≡ On (alone m) i (reverse way)) → b ≡ list_any shown modifiers → b ≡ true
     → (character_of m way ≡ None) × (accent_of m way ≡ None)
@@ -291,6 +321,7 @@ no-effect-on m way shown b trial is e t =
     (record { on_is = e ∙ ap (λ f. list_any f modifiers) (fun_ext is); locked_is = refl })
     (ap (λ x. not x && not (list_any (λ l. Locked (alone m) l (reverse way)) locks)) t)
 
+-- a way that leaves a lock on gives no character and no accent
 pub no-effect-locked : (m : MapValue) (way : List Event) (shown : Lock → Bool) (b : Bool) → IsTrial m way
     → ((l : Lock) → shown l ≡ Locked (alone m) l (reverse way)) → b ≡ list_any shown locks → b ≡ true
     → (character_of m way ≡ None) × (accent_of m way ≡ None)
@@ -299,14 +330,17 @@ no-effect-locked m way shown b trial is e t =
     (record { on_is = refl; locked_is = e ∙ ap (λ f. list_any f locks) (fun_ext is) })
     (ap (λ x. not (list_any (λ i. On (alone m) i (reverse way)) modifiers) && not x) t ∙ and-false _)
 
+-- where neither test finds one, nothing is seen to be on
 pub nothing-seen : (m : MapValue) (way : List Event) (on : Modifier → Bool) (locked : Lock → Bool) (a b : Bool)
-    → ((i : Modifier) → on i ≡ On (alone m) i (reverse way)) → ((l : Lock) → locked l ≡ Locked (alone m) l (reverse way))
+    → ((i : Modifier) → on i ≡ On (alone m) i (reverse way))
+    → ((l : Lock) → locked l ≡ Locked (alone m) l (reverse way))
     → a ≡ list_any on modifiers → b ≡ list_any locked locks → a ≡ false → b ≡ false → IsSeen m way false false
 nothing-seen m way on locked a b on_is locked_is e f p q = record {
   on_is = sym p ∙ e ∙ ap (λ g. list_any g modifiers) (fun_ext on_is);
   locked_is = sym q ∙ f ∙ ap (λ g. list_any g locks) (fun_ext locked_is);
 }
 
+-- a way that leaves nothing on gives what its answers and what is pending tell
 pub effect-is : (m : MapValue) (way : List Event) (t : Typed) (p : Option ℕ) → IsTrial m way → IsSeen m way false false
     → t ≡ typed_by_all (typing_answers m way) → p ≡ Pending (alone m) (reverse way)
     → (character_of m way ≡ character_in (effect_by t p)) × (accent_of m way ≡ accent_in (effect_by t p))

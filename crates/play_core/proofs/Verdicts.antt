@@ -1,5 +1,7 @@
--- A script has one reading: its lines, read one after another, are events up to the end, or one is the first that is none.
-use Rattle.std.proofs.Common.{◌≡◌, ℕ, ◌+◌, List, [], ◌∷◌, ◌++◌, length, Option, None, Some, Result, Ok, Err, refl, ap, subst, ◌∙◌, arith, ◌⊎◌, inl, inr}
+-- A script has one reading: its lines, read one after another, are events up to the end, or one is the first that is
+-- none.
+use Rattle.std.proofs.Common.{◌≡◌, ℕ, ◌+◌, List, [], ◌∷◌, ◌++◌, length, Option, None, Some, Result, Ok, Err, refl, ap}
+use Rattle.std.proofs.Common.{subst, ◌∙◌, arith, ◌⊎◌, inl, inr}
 use Rattle.std.proofs.lemmas.Bool.{lt-ltb, le-ltb}
 use Rattle.play_core.specs.declared.script_line.LineFault.{LineFault}
 use Rattle.play_core.specs.declared.script_line.LineFault.TheVariants.{Form, Key}
@@ -12,23 +14,30 @@ use Rattle.play_core.proofs.Sending.{event_read, reading_is, IsReading}
 
 -- ---- a line
 
+-- a line that is an event is read as it
 event_line : (words : List (List ℕ)) (s : Sent) → IsEvent words s → reading words ≡ Ok (Some s)
 event_line words s h = event_read words s h.0 ∙ rw (lt-ltb _ _ h.1) refl
 
+-- a line with a bad key is read as that fault
 bad_key_line : (words : List (List ℕ)) → HasBadKey words → reading words ≡ Err Key
-bad_key_line words (s, sends, large) = event_read words s sends ∙ rw (le-ltb (key_of s.what) 128 (omega (arith, large))) refl
+bad_key_line words (s, sends, large) =
+    event_read words s sends ∙ rw (le-ltb (key_of s.what) 128 (omega (arith, large))) refl
 
-bad_form_at : (words : List (List ℕ)) (r : Result (Option Sent) LineFault) → IsReading words r → HasBadForm words → r ≡ Err Form
+-- the reading of a line of the wrong form is that fault
+bad_form_at : (words : List (List ℕ)) (r : Result (Option Sent) LineFault) → IsReading words r → HasBadForm words
+    → r ≡ Err Form
 bad_form_at words (Ok None) h bad = absurd (bad.0 h)
 bad_form_at words (Ok (Some s)) h bad = absurd (bad.1 s h.0)
 bad_form_at words (Err Key) h bad = absurd (bad.1 h.0 h.1)
 bad_form_at words (Err Form) h bad = refl
 
+-- a line of the wrong form is read as that fault
 bad_form_line : (words : List (List ℕ)) → HasBadForm words → reading words ≡ Err Form
 bad_form_line words bad = bad_form_at words (reading words) (reading_is words (reading words) refl) bad
 
 -- ---- the lines from one with a number on
 
+-- the verdict once a line was read: its fault, or its event in front of those of the rest
 abbrev after : Result (Option Sent) LineFault → ℕ → Result (List Sent) ScriptFault → Result (List Sent) ScriptFault
 after (Ok None) n rest = rest
 after (Ok (Some s)) n (Ok sent) = Ok (s ∷ sent)
@@ -36,11 +45,14 @@ after (Ok (Some s)) n (Err f) = Err f
 after (Err Form) n rest = Err (BadLine n)
 after (Err Key) n rest = Err (BadKey n)
 
+-- what the lines from number n on are read as: all events, or the first fault
 unfoldable verdict : ℕ → List (List (List ℕ)) → Result (List Sent) ScriptFault
 verdict n [] = Ok []
 verdict n (words ∷ lines) = after (reading words) (n + 1) (verdict (n + 1) lines)
 
-events_verdict : (lines : List (List (List ℕ))) (n : ℕ) (sent : List Sent) → AreEvents lines sent → verdict n lines ≡ Ok sent
+-- lines that are events are read as these
+events_verdict : (lines : List (List (List ℕ))) (n : ℕ) (sent : List Sent) → AreEvents lines sent
+    → verdict n lines ≡ Ok sent
 unfolding verdict reading
 events_verdict [] n [] h = refl
 events_verdict [] n (s ∷ sent) h = absurd h
@@ -49,15 +61,20 @@ events_verdict ((word ∷ words) ∷ lines) n [] h = absurd h
 events_verdict ((word ∷ words) ∷ lines) n (s ∷ sent) h =
     rw (event_line (word ∷ words) s h.0, events_verdict lines (n + 1) sent h.1) refl
 
-fault_line : (line : List (List ℕ)) (n : ℕ) (f : ScriptFault) (rest : Result (List Sent) ScriptFault) → IsFaultOf line n f
+-- a line with a fault ends the reading
+fault_line : (line : List (List ℕ)) (n : ℕ) (f : ScriptFault) (rest : Result (List Sent) ScriptFault)
+    → IsFaultOf line n f
     → after (reading line) n rest ≡ Err f
 fault_line line n (BadLine m) rest h = rw (bad_form_line line h.1, h.0) refl
 fault_line line n (BadKey m) rest h = rw (bad_key_line line h.1, h.0) refl
 
-fault_verdict : (before : List (List (List ℕ))) (n : ℕ) (sent : List Sent) (line : List (List ℕ)) (behind : List (List (List ℕ))) (f : ScriptFault)
+-- the first line with a fault, behind lines that are events, is the fault
+fault_verdict : (before : List (List (List ℕ))) (n : ℕ) (sent : List Sent) (line : List (List ℕ))
+    (behind : List (List (List ℕ))) (f : ScriptFault)
     → AreEvents before sent → IsFaultOf line (n + length before + 1) f → verdict n (before ++ line ∷ behind) ≡ Err f
 unfolding verdict reading
-fault_verdict [] n sent line behind f events first = fault_line line (n + 1) f (verdict (n + 1) behind) (subst (λ k. IsFaultOf line k f) (omega arith) first)
+fault_verdict [] n sent line behind f events first =
+    fault_line line (n + 1) f (verdict (n + 1) behind) (subst (λ k. IsFaultOf line k f) (omega arith) first)
 fault_verdict ([] ∷ before) n sent line behind f events first =
     fault_verdict before (n + 1) sent line behind f events (subst (λ k. IsFaultOf line k f) (omega arith) first)
 fault_verdict ((word ∷ words) ∷ before) n [] line behind f events first = absurd events
@@ -69,11 +86,16 @@ fault_verdict ((word ∷ words) ∷ before) n (s ∷ sent) line behind f events 
 
 -- ---- a script
 
+-- a script is read as its events
 script_verdict : (script : List ℕ) (sent : List Sent) → IsScript script sent → verdict 0 (lines_of script) ≡ Ok sent
 script_verdict script sent h = events_verdict (lines_of script) 0 sent h
 
+-- a text with a fault is read as that fault
 fault_of_script : (script : List ℕ) (f : ScriptFault) → IsScriptFault script f → verdict 0 (lines_of script) ≡ Err f
-fault_of_script script f h = rw h.split (fault_verdict h.before 0 h.sent h.line h.after f h.events (subst (λ k. IsFaultOf h.line k f) (omega arith) h.first))
+fault_of_script script f h =
+    rw h.split
+    (fault_verdict h.before 0 h.sent h.line h.after f h.events
+    (subst (λ k. IsFaultOf h.line k f) (omega arith) h.first))
 
 one_ok : (r : Result (List Sent) ScriptFault) (xs ys : List Sent) → r ≡ Ok xs → r ≡ Ok ys → xs ≡ ys
 one_ok r xs ys e d = cc
@@ -84,14 +106,21 @@ one_err r f g e d = cc
 one_way : (r : Result (List Sent) ScriptFault) (xs : List Sent) (f : ScriptFault) → r ≡ Ok xs → r ≡ Err f → ⊥
 one_way r xs f e d = cc
 
+-- a script has one list of events
 pub one_list : (script : List ℕ) (xs ys : List Sent) → IsScript script xs → IsScript script ys → xs ≡ ys
-one_list script xs ys h k = one_ok (verdict 0 (lines_of script)) xs ys (script_verdict script xs h) (script_verdict script ys k)
+one_list script xs ys h k =
+    one_ok (verdict 0 (lines_of script)) xs ys (script_verdict script xs h) (script_verdict script ys k)
 
+-- a text has one fault as a script
 pub one_fault : (script : List ℕ) (f g : ScriptFault) → IsScriptFault script f → IsScriptFault script g → f ≡ g
-one_fault script f g h k = one_err (verdict 0 (lines_of script)) f g (fault_of_script script f h) (fault_of_script script g k)
+one_fault script f g h k =
+    one_err (verdict 0 (lines_of script)) f g (fault_of_script script f h) (fault_of_script script g k)
 
-pub not_both : (script : List ℕ) (sent : List Sent) (f : ScriptFault) → IsScript script sent → IsScriptFault script f → ⊥
-not_both script sent f h k = one_way (verdict 0 (lines_of script)) sent f (script_verdict script sent h) (fault_of_script script f k)
+-- no script has a fault
+pub not_both : (script : List ℕ) (sent : List Sent) (f : ScriptFault) → IsScript script sent → IsScriptFault script f
+    → ⊥
+not_both script sent f h k =
+    one_way (verdict 0 (lines_of script)) sent f (script_verdict script sent h) (fault_of_script script f k)
 
 -- ---- each script has one
 
@@ -106,11 +135,13 @@ record HasFault (n : ℕ) (lines : List (List (List ℕ))) : Type 0 where
   events : AreEvents before sent
   first : IsFaultOf line (n + length before + 1) fault
 
+-- lines are events, or one is the first with a fault
 abbrev Judged : ℕ → List (List (List ℕ)) → Type 0
 Judged n lines = ((sent : List Sent) × AreEvents lines sent) ⊎ HasFault n lines
 
 -- a line that is none
-here : (n : ℕ) (words : List (List ℕ)) (lines : List (List (List ℕ))) (f : ScriptFault) → IsFaultOf words (n + 1) f → HasFault n (words ∷ lines)
+here : (n : ℕ) (words : List (List ℕ)) (lines : List (List (List ℕ))) (f : ScriptFault) → IsFaultOf words (n + 1) f
+    → HasFault n (words ∷ lines)
 here n words lines f h = record {
   fault = f;
   before = [];
@@ -136,7 +167,9 @@ skip n lines (inr h) = inr (record {
   first = subst (λ k. IsFaultOf h.line k h.fault) (omega arith) h.first;
 })
 
-step : (n : ℕ) (word : List ℕ) (words : List (List ℕ)) (lines : List (List (List ℕ))) (s : Sent) → IsEvent (word ∷ words) s
+-- one more line, that is an event
+step : (n : ℕ) (word : List ℕ) (words : List (List ℕ)) (lines : List (List (List ℕ))) (s : Sent)
+    → IsEvent (word ∷ words) s
     → Judged (n + 1) lines → Judged n ((word ∷ words) ∷ lines)
 step n word words lines s e (inl (sent, h)) = inl (s ∷ sent, (e, h))
 step n word words lines s e (inr h) = inr (record {
@@ -150,7 +183,9 @@ step n word words lines s e (inr h) = inr (record {
   first = subst (λ k. IsFaultOf h.line k h.fault) (omega arith) h.first;
 })
 
-judged_by : (n : ℕ) (word : List ℕ) (words : List (List ℕ)) (lines : List (List (List ℕ))) (r : Result (Option Sent) LineFault)
+-- one more line, by its reading
+judged_by : (n : ℕ) (word : List ℕ) (words : List (List ℕ)) (lines : List (List (List ℕ)))
+    (r : Result (Option Sent) LineFault)
     → IsReading (word ∷ words) r → Judged (n + 1) lines → Judged n ((word ∷ words) ∷ lines)
 judged_by n word words lines (Ok None) h rest = absurd (cons_not word words h)
   where
@@ -160,13 +195,17 @@ judged_by n word words lines (Ok (Some s)) h rest = step n word words lines s h 
 judged_by n word words lines (Err Key) h rest = inr (here n (word ∷ words) lines (BadKey (n + 1)) (refl, h))
 judged_by n word words lines (Err Form) h rest = inr (here n (word ∷ words) lines (BadLine (n + 1)) (refl, h))
 
+-- any lines are events, or one is the first with a fault
 judged : (lines : List (List (List ℕ))) (n : ℕ) → Judged n lines
 judged [] n = inl ([], tt)
 judged ([] ∷ lines) n = skip n lines (judged lines (n + 1))
 judged ((word ∷ words) ∷ lines) n =
-    judged_by n word words lines (reading (word ∷ words)) (reading_is (word ∷ words) (reading (word ∷ words)) refl) (judged lines (n + 1))
+    judged_by n word words lines (reading (word ∷ words)) (reading_is (word ∷ words) (reading (word ∷ words)) refl)
+    (judged lines (n + 1))
 
-found : (script : List ℕ) → Judged 0 (lines_of script) → ((sent : List Sent) × IsScript script sent) ⊎ ((f : ScriptFault) × IsScriptFault script f)
+-- what the lines are, a script is
+found : (script : List ℕ) → Judged 0 (lines_of script)
+    → ((sent : List Sent) × IsScript script sent) ⊎ ((f : ScriptFault) × IsScriptFault script f)
 found script (inl h) = inl h
 found script (inr h) = inr (
   h.fault,
@@ -181,5 +220,7 @@ found script (inr h) = inr (
   },
 )
 
-pub one_of_them : (script : List ℕ) → ((sent : List Sent) × IsScript script sent) ⊎ ((f : ScriptFault) × IsScriptFault script f)
+-- each text is a script or has a fault
+pub one_of_them : (script : List ℕ)
+    → ((sent : List Sent) × IsScript script sent) ⊎ ((f : ScriptFault) × IsScriptFault script f)
 one_of_them script = found script (judged (lines_of script) 0)

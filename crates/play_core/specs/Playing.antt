@@ -67,10 +67,12 @@ RefusesScript m (Write f) = ⊥
 -- Playing a script on two maps: all of the text of what is sent was written, or after a fault of the writer its first
 -- bytes, or nothing where the script was not read.
 abbrev pub PlaysOn : Show → Maps → Moves → Moves → Result (Unit {0}) PlayError → Type 0
-PlaysOn show ms script out (Ok _) = (sent : List Sent) × ReadsScript script sent × Appends out.old out.new (played_text show ms sent)
+PlaysOn show ms script out (Ok _) =
+    (sent : List Sent) × ReadsScript script sent × Appends out.old out.new (played_text show ms sent)
 PlaysOn show ms script out (Err (Write f)) =
     (sent : List Sent) × ReadsScript script sent
-    × (f.written < length (played_text show ms sent)) × Appends out.old out.new (take f.written (played_text show ms sent))
+    × (f.written < length (played_text show ms sent))
+    × Appends out.old out.new (take f.written (played_text show ms sent))
 PlaysOn show ms script out (Err e) = RefusesScript script e × Stays out
 
 -- why the text was not read

@@ -1,5 +1,6 @@
 -- What a script says: what is sent, one event a line, or the first line that is no event.
-use Rattle.std.specs.Prelude.{◌≡◌, ◌≢◌, ℕ, ◌+◌, ◌<◌, ◌||◌, ◌==◌, Bool, true, false, List, [], ◌∷◌, ◌++◌, length, map, codes}
+use Rattle.std.specs.Prelude.{◌≡◌, ◌≢◌, ℕ, ◌+◌, ◌<◌, ◌||◌, ◌==◌, Bool, true, false, List, [], ◌∷◌, ◌++◌, length, map}
+use Rattle.std.specs.Prelude.{codes}
 use Rattle.std.specs.List.{slice_split, filter, before_first, AllZip}
 use Rattle.std.specs.Str.Parse.{AllDigits, digits_value}
 use Rattle.keymap_core.specs.Numbers.{key_count}

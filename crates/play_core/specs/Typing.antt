@@ -1,5 +1,6 @@
 -- The events that type a character, and a sentence.
-use Rattle.std.specs.Prelude.{◌≡◌, ℕ, ◌==◌, Bool, true, false, ◌&&◌, not, List, [], ◌∷◌, ◌++◌, map, length, All, Option, None, Some, if◌then◌else◌, find, filter, reverse, IsSome, ⊤}
+use Rattle.std.specs.Prelude.{◌≡◌, ℕ, ◌==◌, Bool, true, false, ◌&&◌, not, List, [], ◌∷◌, ◌++◌, map, length, All, Option}
+use Rattle.std.specs.Prelude.{None, Some, if◌then◌else◌, find, filter, reverse, IsSome, ⊤}
 use Rattle.std.specs.List.{flat_map, list_any}
 use Rattle.std.specs.Str.{IsUtf8, IsValidUpTo, encode_utf8_all}
 use Rattle.keymap_core.specs.Actions.{modifiers, locks}
@@ -23,7 +24,8 @@ use Rattle.play_core.specs.Written.{typed_text}
 abbrev pub alone : MapValue → Maps
 alone m = between m m
 
--- After the events, newest first, no key is pressed, nothing is remembered, no modifier is on, and no lock is down or on.
+-- After the events, newest first, no key is pressed, nothing is remembered, no modifier is on, and no lock is down or
+-- on.
 unfoldable pub is_at_rest : MapValue → List Event → Bool
 is_at_rest m h =
     not (any_below (λ k. pressed k h) key_count)
@@ -63,10 +65,11 @@ unless_any (a ∷ xs) o = None
 -- that types, and stands then as a new one does.
 unfoldable pub character_of : MapValue → List Event → Option ℕ
 character_of m way =
-    if is_at_rest m (reverse way) then unless_some (Pending (alone m) (reverse way)) (lone_character (typing_answers m way)) else None
+    if is_at_rest m (reverse way)
+    then unless_some (Pending (alone m) (reverse way)) (lone_character (typing_answers m way)) else None
 
--- The accent that the way leaves pending: a new console that is delivered the way answers nothing that types, and stands
--- then as a new one does, but for this accent.
+-- The accent that the way leaves pending: a new console that is delivered the way answers nothing that types, and
+-- stands then as a new one does, but for this accent.
 unfoldable pub accent_of : MapValue → List Event → Option ℕ
 accent_of m way =
     if is_at_rest m (reverse way) then unless_any (typing_answers m way) (Pending (alone m) (reverse way)) else None
@@ -120,8 +123,8 @@ events_for m cs = flat_map (λ c. events_in (way_for m c)) cs
 abbrev pub HaveWays : MapValue → List ℕ → Type 0
 HaveWays m cs = All (λ c. IsSome (way_for m c)) cs
 
--- The bytes are the text of these characters. Each has a way; their ways, delivered to a new console, type the bytes, and
--- the console stands then as a new one does.
+-- The bytes are the text of these characters. Each has a way; their ways, delivered to a new console, type the bytes,
+-- and the console stands then as a new one does.
 pub record IsTyped (m : MapValue) (bytes cs : List ℕ) : Type 0 where
   pub text : encode_utf8_all cs ≡ bytes
   pub ways : HaveWays m cs

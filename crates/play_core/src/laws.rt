@@ -8,6 +8,8 @@ ghost use Rattle.play_core.specs.declared.sent.Sent.{Sent as SentValue};
 pub fn one_reading()
     ensures one_list { (script : List ℕ) (xs ys : List SentValue) → IsScript script xs → IsScript script ys → xs ≡ ys }
     ensures one_fault { (script : List ℕ) (f g : Fault) → IsScriptFault script f → IsScriptFault script g → f ≡ g }
-    ensures not_both { (script : List ℕ) (sent : List SentValue) (f : Fault) → IsScript script sent → IsScriptFault script f → ⊥ }
-    ensures one_of_them { (script : List ℕ) → ((sent : List SentValue) × IsScript script sent) ⊎ ((f : Fault) × IsScriptFault script f) }
+    ensures not_both { (script : List ℕ) (sent : List SentValue) (f : Fault) → IsScript script sent
+        → IsScriptFault script f → ⊥ }
+    ensures one_of_them { (script : List ℕ)
+        → ((sent : List SentValue) × IsScript script sent) ⊎ ((f : Fault) × IsScriptFault script f) }
 {}

@@ -1,5 +1,6 @@
 //! Bytes on their way to a writer, gathered into pieces of some KiB.
-ghost use Rattle.std.specs.Prelude.{◌≡◌, ◌+◌, ◌^◌, ◌≤◌, ◌<◌, ◌||◌, List, ℕ, Option, length, is_err, MatchResult, OnOk, IfOk};
+ghost use Rattle.std.specs.Prelude.{◌≡◌, ◌+◌, ◌^◌, ◌≤◌, ◌<◌, ◌||◌, List, ℕ, Option, length, is_err, MatchResult, OnOk};
+ghost use Rattle.std.specs.Prelude.{IfOk};
 ghost use Rattle.keymap_core.specs.Streams.{Gathers, StopsIn};
 ghost use Rattle.keymap_core.specs.Devices.{WritesText};
 
@@ -19,7 +20,8 @@ pub(crate) fn make_room<W: Write>(
     requires { written + length text.old.items < 2 ^ 64 }
     ensures bytes { (start : Option (List ℕ)) (t : List ℕ)
         → Gathers start (W.contents out.old) (record { written = written; waiting = text.old.items }) t
-        → MatchResult result (λ w. Gathers start (W.contents out.new) (record { written = w; waiting = text.new.items }) t)
+        → MatchResult result
+        (λ w. Gathers start (W.contents out.new) (record { written = w; waiting = text.new.items }) t)
         (λ f. StopsIn start (W.contents out.new) t f.written) }
     ensures room { OnOk result (length text.new.items + 140 ≤ 4096) }
     ensures count { IfOk result (λ w. w + length text.new.items ≡ written + length text.old.items) }

@@ -54,7 +54,8 @@ pub fn play<R: Read, S: Read, W: Write>(
     script: &mut S,
     out: &mut W,
 ) -> Result<(), PlayError>
-    ensures plays { Plays show (moves (R.remaining text.old) (R.remaining text.new)) (moves (S.remaining script.old) (S.remaining script.new))
+    ensures plays { Plays show (moves (R.remaining text.old) (R.remaining text.new))
+        (moves (S.remaining script.old) (S.remaining script.new))
         (moves (W.contents out.old) (W.contents out.new)) result }
     ensures text_failed { R.has_failed text.new ≡ (fails_reading Source.Text result || R.has_failed text.old) }
     ensures script_failed { S.has_failed script.new ≡ (fails_reading Source.Script result || S.has_failed script.old) }
@@ -77,8 +78,10 @@ pub fn play_next<R: Read, N: Read, S: Read, W: Write>(
     script: &mut S,
     out: &mut W,
 ) -> Result<(), PlayError>
-    ensures plays { PlaysBetween show (moves (R.remaining text.old) (R.remaining text.new)) (moves (N.remaining next.old) (N.remaining next.new))
-        (moves (S.remaining script.old) (S.remaining script.new)) (moves (W.contents out.old) (W.contents out.new)) result }
+    ensures plays { PlaysBetween show (moves (R.remaining text.old) (R.remaining text.new))
+        (moves (N.remaining next.old) (N.remaining next.new))
+        (moves (S.remaining script.old) (S.remaining script.new)) (moves (W.contents out.old) (W.contents out.new))
+        result }
     ensures text_failed { R.has_failed text.new ≡ (fails_reading Source.Text result || R.has_failed text.old) }
     ensures next_failed { N.has_failed next.new ≡ (fails_reading Source.Next result || N.has_failed next.old) }
     ensures script_failed { S.has_failed script.new ≡ (fails_reading Source.Script result || S.has_failed script.old) }
@@ -104,7 +107,8 @@ fn play_on<S: Read, W: Write>(
     script: &mut S,
     out: &mut W,
 ) -> Result<(), PlayError>
-    ensures plays { PlaysOn show (between first.now second.now) (moves (S.remaining script.old) (S.remaining script.new))
+    ensures plays { PlaysOn show (between first.now second.now)
+        (moves (S.remaining script.old) (S.remaining script.new))
         (moves (W.contents out.old) (W.contents out.new)) result }
     ensures script_failed { S.has_failed script.new ≡ (fails_reading Source.Script result || S.has_failed script.old) }
     ensures out_failed { W.has_failed out.new ≡ (fails_writing result || W.has_failed out.old) }
@@ -126,7 +130,8 @@ fn play_shown<T: Translator, W: Write>(
 ) -> Result<(), WriteFault>
     requires { length sent.now < 2 ^ 50 }
     ensures bytes { (ms : Maps) (h : List EventValue) → T.stands console.old ms h
-        → WritesText (λ f. f.written) (W.contents out.old) (W.contents out.new) (text_after show ms h (delivered sent.now)) result }
+        → WritesText (λ f. f.written) (W.contents out.old) (W.contents out.new)
+        (text_after show ms h (delivered sent.now)) result }
     ensures failed { W.has_failed out.new ≡ (is_err result || W.has_failed out.old) }
 {
     match show {
@@ -145,7 +150,8 @@ fn play_events<T: Translator, W: Write>(
 ) -> Result<(), WriteFault>
     requires { length sent.now < 2 ^ 50 }
     ensures bytes { (ms : Maps) (h : List EventValue) → T.stands console.old ms h
-        → WritesText (λ f. f.written) (W.contents out.old) (W.contents out.new) (text_after show ms h (delivered sent.now)) result }
+        → WritesText (λ f. f.written) (W.contents out.old) (W.contents out.new)
+        (text_after show ms h (delivered sent.now)) result }
     ensures failed { W.has_failed out.new ≡ (is_err result || W.has_failed out.old) }
 {
     let mut text = Piece::new();

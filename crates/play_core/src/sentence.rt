@@ -25,7 +25,8 @@ fn has_way(ways: &Ways, c: char) -> bool
 /// The first character that no way types.
 fn first_untyped(ways: &Ways, characters: &[char]) -> Option<Untyped>
     requires { length (encode_utf8_all characters.now) < 2 ^ 64 }
-    ensures { MatchOption result (HaveWays ways.now characters.now) (λ u. LacksWay ways.now characters.now u.offset u.c) }
+    ensures { MatchOption result (HaveWays ways.now characters.now)
+        (λ u. LacksWay ways.now characters.now u.offset u.c) }
 {
     let mut offset = 0;
     for c in characters {

@@ -1,6 +1,7 @@
 //! Reading what is played: the texts of keymaps, and the script.
 ghost use Rattle.std.specs.Prelude.{◌≡◌, ◌||◌, ◌^◌, ◌<◌, length, IfOk, MatchResult, Err};
-ghost use Rattle.play_core.specs.Playing.{ReadsScript, RefusesScript, moves, fails_reading, error_of_text, error_of_next};
+ghost use Rattle.play_core.specs.Playing.{ReadsScript, RefusesScript, moves, fails_reading, error_of_text};
+ghost use Rattle.play_core.specs.Playing.{error_of_next};
 
 use crate::player::{PlayError, Source};
 use crate::script::{ScriptError, read_script};
@@ -37,7 +38,8 @@ pub(crate) fn read_whole_script<S: Read>(
     alloc: Global,
     script: &mut S,
 ) -> Result<Vec<Sent>, PlayError>
-    ensures reads { MatchResult result (λ sent. ReadsScript (moves (S.remaining script.old) (S.remaining script.new)) sent.items)
+    ensures reads { MatchResult result
+        (λ sent. ReadsScript (moves (S.remaining script.old) (S.remaining script.new)) sent.items)
         (RefusesScript (moves (S.remaining script.old) (S.remaining script.new))) }
     ensures failed { MatchResult result (λ _. S.has_failed script.new ≡ S.has_failed script.old)
         (λ e. S.has_failed script.new ≡ (fails_reading Source.Script (Err e) || S.has_failed script.old)) }

@@ -12,7 +12,8 @@ use keymap_core::{Write, WriteFault};
 /// back tab.
 pub fn typed<W: Write>(answers: &[Answer], out: &mut W) -> Result<(), WriteFault>
     requires { length answers.now ≤ 2 ^ 60 }
-    ensures bytes { WritesText (λ f. f.written) (W.contents out.old) (W.contents out.new) (typed_text answers.now) result }
+    ensures bytes { WritesText (λ f. f.written) (W.contents out.old) (W.contents out.new) (typed_text answers.now)
+        result }
     ensures failed { W.has_failed out.new ≡ (is_err result || W.has_failed out.old) }
 {
     let mut text = Piece::new();

@@ -1,5 +1,6 @@
 //! The ways to type each character of a keymap.
-ghost use Rattle.std.specs.Prelude.{◌≡◌, ℕ, ◌+◌, ◌<◌, ◌≤◌, ◌++◌, List, [], ◌∷◌, Option, OnOk, IfOk, MatchOption, None, Some, option_map, length};
+ghost use Rattle.std.specs.Prelude.{◌≡◌, ℕ, ◌+◌, ◌<◌, ◌≤◌, ◌++◌, List, [], ◌∷◌, Option, OnOk, IfOk, MatchOption, None};
+ghost use Rattle.std.specs.Prelude.{Some, option_map, length};
 ghost use Rattle.arrayvec.specs.ArrayVec.{array_vec_len};
 ghost use Rattle.keymap_core.specs.Maps.{MapValue};
 ghost use Rattle.keymap_core.specs.Numbers.{key_count};
@@ -57,7 +58,8 @@ impl Found {
         requires is_key { key < key_count }
         ensures { OnOk result ((ways : List (List EventValue))
             → AreTablesOf map.now ways self.old.characters.entries self.old.accents.entries
-            → AreTablesOf map.now (ways ++ combinations_of map.now set key) self.new.characters.entries self.new.accents.entries) }
+            → AreTablesOf map.now (ways ++ combinations_of map.now set key) self.new.characters.entries
+            self.new.accents.entries) }
     {
         if let Some(way) = combination(&keys.at(key), set, key) {
             let effect = effect_of(map, way.as_slice());
@@ -72,7 +74,8 @@ impl Found {
         requires { AreHeldKeys map.now keys.now }
         ensures { OnOk result ((ways : List (List EventValue))
             → AreTablesOf map.now ways self.old.characters.entries self.old.accents.entries
-            → AreTablesOf map.now (ways ++ combinations_with map.now set) self.new.characters.entries self.new.accents.entries) }
+            → AreTablesOf map.now (ways ++ combinations_with map.now set) self.new.characters.entries
+            self.new.accents.entries) }
     {
         for key in 0..KEY_COUNT as u8 {
             self.try_key(map, keys, set, key)?;
@@ -82,7 +85,8 @@ impl Found {
 
     /// Tries all combinations.
     fn of(alloc: Global, map: &KeyMap) -> Result<Found, AllocError>
-        ensures { IfOk result (λ found. AreTablesOf map.now (combinations map.now) found.characters.entries found.accents.entries) }
+        ensures { IfOk result
+            (λ found. AreTablesOf map.now (combinations map.now) found.characters.entries found.accents.entries) }
     {
         let keys = HeldKeys::of(map);
         let mut found = Found {
@@ -137,7 +141,8 @@ fn try_base(
     requires found { AreTablesOf map.now (combinations map.now) found.now.characters.entries found.now.accents.entries }
     requires dead { (i : ℕ) × (dead_way map.now i ≡ Some dead.now.items) }
     ensures { OnOk result ((ways : List (List EventValue)) → IsTableOf (character_of map.now) ways accented.old.entries
-        → IsTableOf (character_of map.now) (ways ++ joined (Some dead.now.items) (direct_way map.now base)) accented.new.entries) }
+        → IsTableOf (character_of map.now) (ways ++ joined (Some dead.now.items) (direct_way map.now base))
+        accented.new.entries) }
 {
     let Some(direct) = found.characters.get(&u32::from(base)) else {
         return Ok(());

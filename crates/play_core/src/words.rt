@@ -8,7 +8,8 @@ use keymap_core::KEY_COUNT;
 
 /// The first line of a text, and what follows its line feed, if it has one.
 pub fn split_line(text: &[u8]) -> (&[u8], Option<&[u8]>)
-    ensures parts { MatchOption result.1 (parts_of text.now ≡ result.0.now ∷ []) (λ rest. parts_of text.now ≡ result.0.now ∷ parts_of rest.now) }
+    ensures parts { MatchOption result.1 (parts_of text.now ≡ result.0.now ∷ [])
+        (λ rest. parts_of text.now ≡ result.0.now ∷ parts_of rest.now) }
     ensures shorter { IfSome result.1 (λ rest. length rest.now < length text.now) }
 {
     match first_line_feed(text) {

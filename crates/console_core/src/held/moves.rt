@@ -263,7 +263,8 @@ impl Hash for Held {
 
     ghost hash_input = { λ h. bytes_of h ∷ [] };
 
-    ghost respects_eq = { λ x y e. ap (λ bytes. bytes ∷ []) (same-bytes x y (held-equal _ _ (λ a b f. eqb-true a b f) (λ a b f. bool_equal a b f) x y e)) };
+    ghost respects_eq = { λ x y e. ap (λ bytes. bytes ∷ [])
+        (same-bytes x y (held-equal _ _ (λ a b f. eqb-true a b f) (λ a b f. bool_equal a b f) x y e)) };
 
     fn hash<H: Hasher>(&self, state: &mut H) {
         state.write(&self.bytes());

@@ -15,5 +15,6 @@ invariant-loop-index g l = record {
   stands : (ms : Maps) (h : List Event) → g.K.Keymap.shows l.first ms.first → g.K.Keymap.shows l.second ms.second
       → KeptAt ms h l.fn.store → KeptAt ms (reverse (map event_of (take l.index l.events)) ++ h) l.store;
   answers : (ms : Maps) (h : List Event) → g.K.Keymap.shows l.first ms.first → g.K.Keymap.shows l.second ms.second
-      → KeptAt ms h l.fn.store → take l.index l.answers ≡ map raw_of (AnswersTo ms h (map event_of (take l.index l.events)));
+      → KeptAt ms h l.fn.store
+      → take l.index l.answers ≡ map raw_of (AnswersTo ms h (map event_of (take l.index l.events)));
 }

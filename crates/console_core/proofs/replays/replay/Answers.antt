@@ -1,7 +1,8 @@
 use Rattle.std.proofs.Common.{◌≡◌, ◌+◌, ◌∷◌, ◌++◌, [], take, ap, subst, sym, ◌∙◌, arith}
 use Rattle.std.specs.Prelude.{reverse}
 use Rattle.std.proofs.lemmas.Grind.{common_steps}
-use Rattle.console_core.proofs.Headline.{on_only_while_pressed, on_exactly_while_pressed, off_once_quiet, goes_on_as_after_reset, repeats-kept}
+use Rattle.console_core.proofs.Headline.{on_only_while_pressed, on_exactly_while_pressed, off_once_quiet}
+use Rattle.console_core.proofs.Headline.{goes_on_as_after_reset, repeats-kept}
 use Rattle.console_core.proofs.FreshPresses.{locked_by_fresh_presses}
 use Rattle.console_core.proofs.PlainLooks.{shown-plain}
 use Rattle.console_core.proofs.Traps.{on_only_while_pressed_without_traps}
@@ -11,37 +12,58 @@ use Rattle.console_core.proofs.replays.replay.Goals as goal
 
 pub loop-event-preserved : goal.loop-event-preserved
 loop-event-preserved g c =
-    let e : take (c.loop-event.event-index + 1) c.args.events.now ≡ take c.loop-event.event-index c.args.events.now ++ c.event-item.result ∷ [] = take_event _ _ _ c.event-item.is c.loop-event-test.true in
+    let e : take (c.loop-event.event-index + 1) c.args.events.now
+    ≡ take c.loop-event.event-index c.args.events.now ++ c.event-item.result ∷ [] =
+    take_event _ _ _ c.event-item.is c.loop-event-test.true in
     record {
       room = omega arith;
       count = omega arith;
-      answers = λ ms h s. rw (c.push_reserved.ensures.items, e, AnswersTo-push ms h (take c.loop-event.event-index c.args.events.now) c.event-item.result, c.loop-event.invariant.answers ms h s) (ap (λ a. AnswersTo ms h (take c.loop-event.event-index c.args.events.now) ++ a ∷ []) (c.step.ensures.answer ms _ (c.loop-event.invariant.stands ms h s)));
-      stands = λ ms h s. rw (e, reverse-push c.event-item.result (take c.loop-event.event-index c.args.events.now) h) (c.step.ensures.next ms _ (c.loop-event.invariant.stands ms h s));
+      answers =
+          λ ms h s. rw (
+            c.push_reserved.ensures.items,
+            e,
+            AnswersTo-push ms h (take c.loop-event.event-index c.args.events.now) c.event-item.result,
+            c.loop-event.invariant.answers ms h s,
+          )
+          (ap (λ a. AnswersTo ms h (take c.loop-event.event-index c.args.events.now) ++ a ∷ [])
+          (c.step.ensures.answer ms _ (c.loop-event.invariant.stands ms h s)));
+      stands =
+          λ ms h s. rw (e, reverse-push c.event-item.result (take c.loop-event.event-index c.args.events.now) h)
+          (c.step.ensures.next ms _ (c.loop-event.invariant.stands ms h s));
     }
 
 pub returns-clause-on_only_while_pressed : goal.returns-clause-on_only_while_pressed
 returns-clause-on_only_while_pressed g c =
     λ ms h s safe i on.
     let e : take c.loop-event.event-index c.args.events.now ≡ c.args.events.now = grind (arith, common_steps) in
-    let at : g.T.Translator.stands c.loop-event.console ms (reverse c.args.events.now ++ h) = rw e at (c.loop-event.invariant.stands ms h s) in
-    let keys : HasKeys (reverse c.args.events.now ++ h) = g.met.T.Translator.keys_where_it_stands c.loop-event.console ms (reverse c.args.events.now ++ h) at in
-    on_only_while_pressed ms (reverse c.args.events.now ++ h) safe keys i (sym (g.met.T.Translator.on_where_it_stands c.loop-event.console ms (reverse c.args.events.now ++ h) at i) ∙ on)
+    let at : g.T.Translator.stands c.loop-event.console ms (reverse c.args.events.now ++ h) =
+    rw e at (c.loop-event.invariant.stands ms h s) in
+    let keys : HasKeys (reverse c.args.events.now ++ h) =
+    g.met.T.Translator.keys_where_it_stands c.loop-event.console ms (reverse c.args.events.now ++ h) at in
+    on_only_while_pressed ms (reverse c.args.events.now ++ h) safe keys i
+    (sym (g.met.T.Translator.on_where_it_stands c.loop-event.console ms (reverse c.args.events.now ++ h) at i) ∙ on)
 
 pub returns-clause-on_exactly_while_pressed : goal.returns-clause-on_exactly_while_pressed
 returns-clause-on_exactly_while_pressed g c =
     λ ms h s i k bears.
     let e : take c.loop-event.event-index c.args.events.now ≡ c.args.events.now = grind (arith, common_steps) in
-    let at : g.T.Translator.stands c.loop-event.console ms (reverse c.args.events.now ++ h) = rw e at (c.loop-event.invariant.stands ms h s) in
-    let keys : HasKeys (reverse c.args.events.now ++ h) = g.met.T.Translator.keys_where_it_stands c.loop-event.console ms (reverse c.args.events.now ++ h) at in
-    g.met.T.Translator.on_where_it_stands c.loop-event.console ms (reverse c.args.events.now ++ h) at i ∙ on_exactly_while_pressed ms (reverse c.args.events.now ++ h) keys i k bears
+    let at : g.T.Translator.stands c.loop-event.console ms (reverse c.args.events.now ++ h) =
+    rw e at (c.loop-event.invariant.stands ms h s) in
+    let keys : HasKeys (reverse c.args.events.now ++ h) =
+    g.met.T.Translator.keys_where_it_stands c.loop-event.console ms (reverse c.args.events.now ++ h) at in
+    g.met.T.Translator.on_where_it_stands c.loop-event.console ms (reverse c.args.events.now ++ h) at i
+    ∙ on_exactly_while_pressed ms (reverse c.args.events.now ++ h) keys i k bears
 
 pub returns-clause-repeats_turn_no_steady_lock : goal.returns-clause-repeats_turn_no_steady_lock
 returns-clause-repeats_turn_no_steady_lock g c =
     λ ms h s earlier repeats split are l steady.
     let e : take c.loop-event.event-index c.args.events.now ≡ c.args.events.now = grind (arith, common_steps) in
-    let at : g.T.Translator.stands c.loop-event.console ms (reverse c.args.events.now ++ h) = rw e at (c.loop-event.invariant.stands ms h s) in
-    let keys : HasKeys (reverse c.args.events.now ++ h) = g.met.T.Translator.keys_where_it_stands c.loop-event.console ms (reverse c.args.events.now ++ h) at in
-    let joined : reverse c.args.events.now ++ h ≡ reverse repeats ++ (reverse earlier ++ h) = rw split (reverse-joined earlier repeats h) in
+    let at : g.T.Translator.stands c.loop-event.console ms (reverse c.args.events.now ++ h) =
+    rw e at (c.loop-event.invariant.stands ms h s) in
+    let keys : HasKeys (reverse c.args.events.now ++ h) =
+    g.met.T.Translator.keys_where_it_stands c.loop-event.console ms (reverse c.args.events.now ++ h) at in
+    let joined : reverse c.args.events.now ++ h ≡ reverse repeats ++ (reverse earlier ++ h) =
+    rw split (reverse-joined earlier repeats h) in
     g.met.T.Translator.locked_where_it_stands c.loop-event.console ms (reverse c.args.events.now ++ h) at l
     ∙ ap (λ x. Locked ms l x) joined
     ∙ repeats-kept ms l (reverse earlier ++ h) repeats steady (subst HasKeys joined keys) are
@@ -50,38 +72,56 @@ pub returns-clause-off_once_quiet : goal.returns-clause-off_once_quiet
 returns-clause-off_once_quiet g c =
     λ ms h s safe quiet i.
     let e : take c.loop-event.event-index c.args.events.now ≡ c.args.events.now = grind (arith, common_steps) in
-    let at : g.T.Translator.stands c.loop-event.console ms (reverse c.args.events.now ++ h) = rw e at (c.loop-event.invariant.stands ms h s) in
-    let keys : HasKeys (reverse c.args.events.now ++ h) = g.met.T.Translator.keys_where_it_stands c.loop-event.console ms (reverse c.args.events.now ++ h) at in
-    g.met.T.Translator.on_where_it_stands c.loop-event.console ms (reverse c.args.events.now ++ h) at i ∙ off_once_quiet ms (reverse c.args.events.now ++ h) safe keys quiet i
+    let at : g.T.Translator.stands c.loop-event.console ms (reverse c.args.events.now ++ h) =
+    rw e at (c.loop-event.invariant.stands ms h s) in
+    let keys : HasKeys (reverse c.args.events.now ++ h) =
+    g.met.T.Translator.keys_where_it_stands c.loop-event.console ms (reverse c.args.events.now ++ h) at in
+    g.met.T.Translator.on_where_it_stands c.loop-event.console ms (reverse c.args.events.now ++ h) at i
+    ∙ off_once_quiet ms (reverse c.args.events.now ++ h) safe keys quiet i
 
 pub returns-clause-goes_on_as_after_reset : goal.returns-clause-goes_on_as_after_reset
 returns-clause-goes_on_as_after_reset g c =
     λ ms h s safe quiet p.
     let e : take c.loop-event.event-index c.args.events.now ≡ c.args.events.now = grind (arith, common_steps) in
-    let at : g.T.Translator.stands c.loop-event.console ms (reverse c.args.events.now ++ h) = rw e at (c.loop-event.invariant.stands ms h s) in
-    let keys : HasKeys (reverse c.args.events.now ++ h) = g.met.T.Translator.keys_where_it_stands c.loop-event.console ms (reverse c.args.events.now ++ h) at in
-    goes_on_as_after_reset ms (reverse c.args.events.now ++ h) safe keys quiet (sym (g.met.T.Translator.pending_where_it_stands c.loop-event.console ms (reverse c.args.events.now ++ h) at) ∙ p)
+    let at : g.T.Translator.stands c.loop-event.console ms (reverse c.args.events.now ++ h) =
+    rw e at (c.loop-event.invariant.stands ms h s) in
+    let keys : HasKeys (reverse c.args.events.now ++ h) =
+    g.met.T.Translator.keys_where_it_stands c.loop-event.console ms (reverse c.args.events.now ++ h) at in
+    goes_on_as_after_reset ms (reverse c.args.events.now ++ h) safe keys quiet
+    (sym (g.met.T.Translator.pending_where_it_stands c.loop-event.console ms (reverse c.args.events.now ++ h) at)
+    ∙ p)
 
 pub returns-clause-locked_by_fresh_presses : goal.returns-clause-locked_by_fresh_presses
 returns-clause-locked_by_fresh_presses g c =
     λ ms h s l k first bearer.
     let e : take c.loop-event.event-index c.args.events.now ≡ c.args.events.now = grind (arith, common_steps) in
-    let at : g.T.Translator.stands c.loop-event.console ms (reverse c.args.events.now ++ h) = rw e at (c.loop-event.invariant.stands ms h s) in
-    let keys : HasKeys (reverse c.args.events.now ++ h) = g.met.T.Translator.keys_where_it_stands c.loop-event.console ms (reverse c.args.events.now ++ h) at in
-    g.met.T.Translator.locked_where_it_stands c.loop-event.console ms (reverse c.args.events.now ++ h) at l ∙ locked_by_fresh_presses ms (reverse c.args.events.now ++ h) keys l k first bearer
+    let at : g.T.Translator.stands c.loop-event.console ms (reverse c.args.events.now ++ h) =
+    rw e at (c.loop-event.invariant.stands ms h s) in
+    let keys : HasKeys (reverse c.args.events.now ++ h) =
+    g.met.T.Translator.keys_where_it_stands c.loop-event.console ms (reverse c.args.events.now ++ h) at in
+    g.met.T.Translator.locked_where_it_stands c.loop-event.console ms (reverse c.args.events.now ++ h) at l
+    ∙ locked_by_fresh_presses ms (reverse c.args.events.now ++ h) keys l k first bearer
 
 pub returns-clause-looks_plainly : goal.returns-clause-looks_plainly
 returns-clause-looks_plainly g c =
     λ ms h s plain none k.
     let e : take c.loop-event.event-index c.args.events.now ≡ c.args.events.now = grind (arith, common_steps) in
-    let at : g.T.Translator.stands c.loop-event.console ms (reverse c.args.events.now ++ h) = rw e at (c.loop-event.invariant.stands ms h s) in
-    let keys : HasKeys (reverse c.args.events.now ++ h) = g.met.T.Translator.keys_where_it_stands c.loop-event.console ms (reverse c.args.events.now ++ h) at in
-    shown-plain ms (reverse c.args.events.now ++ h) none keys plain k (g.T.Translator.shows_on c.loop-event.console) (g.T.Translator.shows_locked c.loop-event.console) (λ i. g.met.T.Translator.on_where_it_stands c.loop-event.console ms (reverse c.args.events.now ++ h) at i) (λ l. g.met.T.Translator.locked_where_it_stands c.loop-event.console ms (reverse c.args.events.now ++ h) at l)
+    let at : g.T.Translator.stands c.loop-event.console ms (reverse c.args.events.now ++ h) =
+    rw e at (c.loop-event.invariant.stands ms h s) in
+    let keys : HasKeys (reverse c.args.events.now ++ h) =
+    g.met.T.Translator.keys_where_it_stands c.loop-event.console ms (reverse c.args.events.now ++ h) at in
+    shown-plain ms (reverse c.args.events.now ++ h) none keys plain k (g.T.Translator.shows_on c.loop-event.console)
+    (g.T.Translator.shows_locked c.loop-event.console)
+    (λ i. g.met.T.Translator.on_where_it_stands c.loop-event.console ms (reverse c.args.events.now ++ h) at i)
+    (λ l. g.met.T.Translator.locked_where_it_stands c.loop-event.console ms (reverse c.args.events.now ++ h) at l)
 
 pub returns-clause-on_only_while_pressed_without_traps : goal.returns-clause-on_only_while_pressed_without_traps
 returns-clause-on_only_while_pressed_without_traps g c =
     λ ms h s locks i free on.
     let e : take c.loop-event.event-index c.args.events.now ≡ c.args.events.now = grind (arith, common_steps) in
-    let at : g.T.Translator.stands c.loop-event.console ms (reverse c.args.events.now ++ h) = rw e at (c.loop-event.invariant.stands ms h s) in
-    let keys : HasKeys (reverse c.args.events.now ++ h) = g.met.T.Translator.keys_where_it_stands c.loop-event.console ms (reverse c.args.events.now ++ h) at in
-    on_only_while_pressed_without_traps ms (reverse c.args.events.now ++ h) keys locks i free (sym (g.met.T.Translator.on_where_it_stands c.loop-event.console ms (reverse c.args.events.now ++ h) at i) ∙ on)
+    let at : g.T.Translator.stands c.loop-event.console ms (reverse c.args.events.now ++ h) =
+    rw e at (c.loop-event.invariant.stands ms h s) in
+    let keys : HasKeys (reverse c.args.events.now ++ h) =
+    g.met.T.Translator.keys_where_it_stands c.loop-event.console ms (reverse c.args.events.now ++ h) at in
+    on_only_while_pressed_without_traps ms (reverse c.args.events.now ++ h) keys locks i free
+    (sym (g.met.T.Translator.on_where_it_stands c.loop-event.console ms (reverse c.args.events.now ++ h) at i) ∙ on)

@@ -5,7 +5,8 @@ use Rattle.console_core.proofs.search.close.Goals as goal
 
 pub returns-in-Some-clause-searched : goal.returns-in-Some-clause-searched
 returns-in-Some-clause-searched c =
-    searched-fewer c.args.map.now c.loop-place.met.entries c.args.level c.loop-place.place c.args.level c.args.level (omega arith) c.loop-place.invariant.after c.loop-place.invariant.searched
+    searched-fewer c.args.map.now c.loop-place.met.entries c.args.level c.loop-place.place c.args.level c.args.level
+    (omega arith) c.loop-place.invariant.after c.loop-place.invariant.searched
 
 pub loop-place-preserved : goal.loop-place-preserved
 loop-place-preserved c =
@@ -16,7 +17,8 @@ loop-place-preserved c =
     let y = c.entry-held.result in
     let added : AreAdded m (state_of y.0) n 0 c.args.presses es now = c.in_ok-meet_let_gos.ensures.added m in
     let step : Searched m now c.args.level (n + 1) × AreInOrder now c.args.level c.args.presses =
-    close-step m es now c.args.level c.args.presses n y c.loop-place.invariant.searched c.loop-place.invariant.order c.loop-place.invariant.after c.entry-held.ensures c.in_default.ensures added c.in_ok-meet_let_gos.ensures.met in
+    close-step m es now c.args.level c.args.presses n y c.loop-place.invariant.searched c.loop-place.invariant.order
+    c.loop-place.invariant.after c.entry-held.ensures c.in_default.ensures added c.in_ok-meet_let_gos.ensures.met in
     record {
       searched = step.0;
       order = step.1;
@@ -26,4 +28,5 @@ loop-place-preserved c =
 
 pub returns-clause-searched : goal.returns-clause-searched
 returns-clause-searched c =
-    searched-fewer c.args.map.now c.loop-place.met.entries c.args.level c.loop-place.place c.args.level c.args.level (omega arith) c.loop-place.invariant.after c.loop-place.invariant.searched
+    searched-fewer c.args.map.now c.loop-place.met.entries c.args.level c.loop-place.place c.args.level c.args.level
+    (omega arith) c.loop-place.invariant.after c.loop-place.invariant.searched

@@ -12,9 +12,16 @@ loop-modifier-preserved c =
     let s = state_of c.args.held.now in
     record {
       within = c.in_ok-meet.ensures.within;
-      met = below_more _ _ (λ n lt i e. let_go-grows es now c.args.presses s i c.in_ok-meet.ensures.grown (c.loop-modifier.invariant.met n lt i e))
-          (λ i e. subst (λ j. IsLetGoMet now c.args.presses s j) (modifier-at i c.loop-modifier.modifier-index _ e) (c.let_go.ensures.met now c.args.presses c.in_ok-meet.ensures.met));
-      added = λ m. added-again m s c.args.place 0 c.args.presses c.args.met.now.entries es now (c.loop-modifier.invariant.added m) (c.in_ok-meet.ensures.added m c.args.held.now 0 (c.let_go.ensures.step m));
+      met =
+          below_more _ _
+          (λ n lt i e. let_go-grows es now c.args.presses s i c.in_ok-meet.ensures.grown
+          (c.loop-modifier.invariant.met n lt i e))
+          (λ i e. subst (λ j. IsLetGoMet now c.args.presses s j) (modifier-at i c.loop-modifier.modifier-index _ e)
+          (c.let_go.ensures.met now c.args.presses c.in_ok-meet.ensures.met));
+      added =
+          λ m. added-again m s c.args.place 0 c.args.presses c.args.met.now.entries es now
+          (c.loop-modifier.invariant.added m)
+          (c.in_ok-meet.ensures.added m c.args.held.now 0 (c.let_go.ensures.step m));
     }
 
 pub returns-clause-met : goal.returns-clause-met

@@ -9,6 +9,7 @@ use Rattle.console_core.proofs.search.meet_let_gos.Given as goal
 abbrev pub invariant-loop-modifier : goal.invariant-loop-modifier
 invariant-loop-modifier l = record {
   within : AreWithin l.met.entries l.presses;
-  met : (n : ℕ) → n < l.modifier-index → (i : Modifier) → modifier_index i ≡ n → IsLetGoMet l.met.entries l.presses (state_of l.held) i;
+  met : (n : ℕ) → n < l.modifier-index → (i : Modifier) → modifier_index i ≡ n
+      → IsLetGoMet l.met.entries l.presses (state_of l.held) i;
   added : (m : MapValue) → AreAdded m (state_of l.held) l.place 0 l.presses l.fn.met.entries l.met.entries;
 }

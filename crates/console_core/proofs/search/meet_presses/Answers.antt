@@ -10,7 +10,14 @@ loop-code-preserved c =
     let s = state_of c.args.held.now in
     record {
       within = c.in_ok-meet.ensures.within;
-      met = below_more _ _ (λ k lt. presses-grow c.args.map.now es now c.args.presses s k c.in_ok-meet.ensures.grown (c.loop-code.invariant.met k lt))
-          (subst (λ k. ArePressesMet c.args.map.now now c.args.presses s k) c.key_with.ensures (c.pressed.ensures.met now c.args.presses c.in_ok-meet.ensures.met));
-      added = added-again c.args.map.now s c.args.place 1 c.args.presses c.args.met.now.entries es now c.loop-code.invariant.added (c.in_ok-meet.ensures.added c.args.map.now c.args.held.now 1 c.pressed.ensures.step);
+      met =
+          below_more _ _
+          (λ k lt. presses-grow c.args.map.now es now c.args.presses s k c.in_ok-meet.ensures.grown
+          (c.loop-code.invariant.met k lt))
+          (subst (λ k. ArePressesMet c.args.map.now now c.args.presses s k) c.key_with.ensures
+          (c.pressed.ensures.met now c.args.presses c.in_ok-meet.ensures.met));
+      added =
+          added-again c.args.map.now s c.args.place 1 c.args.presses c.args.met.now.entries es now
+          c.loop-code.invariant.added
+          (c.in_ok-meet.ensures.added c.args.map.now c.args.held.now 1 c.pressed.ensures.step);
     }

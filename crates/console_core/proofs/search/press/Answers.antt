@@ -13,7 +13,9 @@ loop-place-init c = record {
 
 pub returns-then-len-gt-BOUND-clause-reached : goal.returns-then-len-gt-BOUND-clause-reached
 returns-then-len-gt-BOUND-clause-reached c =
-    searched-fewer c.args.map.now c.loop-place.met.entries c.loop-place.place (length c.args.met.now.entries) c.args.level c.args.level (omega (arith, c.loop-place.auto.place)) c.requires.below c.loop-place.invariant.searched
+    searched-fewer c.args.map.now c.loop-place.met.entries c.loop-place.place (length c.args.met.now.entries)
+    c.args.level c.args.level (omega (arith, c.loop-place.auto.place)) c.requires.below
+    c.loop-place.invariant.searched
 
 pub loop-place-preserved : goal.loop-place-preserved
 loop-place-preserved c =
@@ -26,7 +28,8 @@ loop-place-preserved c =
     let le : c.args.level ≤ n = omega (arith, c.loop-place.auto.place) in
     let lt : n < length old = omega (arith, c.loop-place-test.true, c.len-end.ensures.len) in
     let step : Searched m now (n + 1) (length old) × AreInOrder now (length old) (c.args.presses + 1) × Grows old now =
-    press-step m old es now c.args.level c.args.presses n y c.loop-place.invariant.searched c.requires.order c.loop-place.invariant.grown c.loop-place.invariant.order le lt c.entry-held.ensures
+    press-step m old es now c.args.level c.args.presses n y c.loop-place.invariant.searched c.requires.order
+    c.loop-place.invariant.grown c.loop-place.invariant.order le lt c.entry-held.ensures
     c.in_ok-meet_presses.ensures.added c.in_ok-meet_presses.ensures.met in
     record {
       searched = step.0;
@@ -37,9 +40,13 @@ loop-place-preserved c =
 pub returns-clause-searched : goal.returns-clause-searched
 returns-clause-searched c =
     λ small.
-    let le : length c.args.met.now.entries ≤ c.loop-place.place = omega (arith, c.loop-place-test.false, c.len-end.ensures.len) in
-    searched-fewer c.args.map.now c.loop-place.met.entries c.loop-place.place (length c.args.met.now.entries) (length c.args.met.now.entries) (length c.args.met.now.entries) le (omega arith) c.loop-place.invariant.searched
+    let le : length c.args.met.now.entries ≤ c.loop-place.place =
+    omega (arith, c.loop-place-test.false, c.len-end.ensures.len) in
+    searched-fewer c.args.map.now c.loop-place.met.entries c.loop-place.place (length c.args.met.now.entries)
+    (length c.args.met.now.entries) (length c.args.met.now.entries) le (omega arith) c.loop-place.invariant.searched
 
 pub returns-clause-reached : goal.returns-clause-reached
 returns-clause-reached c =
-    searched-fewer c.args.map.now c.loop-place.met.entries c.loop-place.place (length c.args.met.now.entries) c.args.level c.args.level (omega (arith, c.loop-place.auto.place)) c.requires.below c.loop-place.invariant.searched
+    searched-fewer c.args.map.now c.loop-place.met.entries c.loop-place.place (length c.args.met.now.entries)
+    c.args.level c.args.level (omega (arith, c.loop-place.auto.place)) c.requires.below
+    c.loop-place.invariant.searched

@@ -14,18 +14,23 @@ loop-last-init c =
     let y = c.entry-held.result in
     let s = state_of y.0 in
     let items : c.push.new.self.items ≡ releases s modifiers ++ Press c.args.stuck.key ∷ [] =
-    c.in_ok-push.ensures.items ∙ ap (λ z. z ++ Press c.args.stuck.key ∷ []) (c.in_ok-push_releases.ensures ∙ ap (λ z. z ++ releases s modifiers) c.new-events.ensures.items) in
+    c.in_ok-push.ensures.items
+    ∙ ap (λ z. z ++ Press c.args.stuck.key ∷ [])
+    (c.in_ok-push_releases.ensures ∙ ap (λ z. z ++ releases s modifiers) c.new-events.ensures.items) in
     record {
       within = within-last es c.args.stuck.place y c.requires.back c.entry-held.ensures;
       left = λ path x at trail state. (
         path,
-        script-begin path c.args.stuck.key s c.push.new.self.items (state ∙ ap (λ z. state_of z.0) (same-place es c.args.stuck.place x y at c.entry-held.ensures)) items,
+        script-begin path c.args.stuck.key s c.push.new.self.items
+            (state ∙ ap (λ z. state_of z.0) (same-place es c.args.stuck.place x y at c.entry-held.ensures)) items,
         trail-leads es c.args.stuck.place path y c.entry-held.ensures trail,
       );
     }
 
 pub loop-last-smaller : goal.loop-last-smaller
-loop-last-smaller c = left-smaller c.args.met.now.entries c.in-Some.parent c.in-Some.by c.entry-last.result c.loop-last.last c.requires.back c.entry-last.ensures c.in-Some.is
+loop-last-smaller c =
+    left-smaller c.args.met.now.entries c.in-Some.parent c.in-Some.by c.entry-last.result c.loop-last.last
+    c.requires.back c.entry-last.ensures c.in-Some.is
 
 pub loop-last-preserved : goal.loop-last-preserved
 loop-last-preserved c =
@@ -34,9 +39,14 @@ loop-last-preserved c =
     record {
       within = within-last es c.in-Some.parent c.entry-last.result c.requires.back c.entry-last.ensures;
       left = λ path x at trail state.
-          let p : (rest : List Move) × (items ++ events_along rest ≡ script path c.args.stuck.key) × LeadsBy es c.loop-last.last rest = c.loop-last.invariant.left path x at trail state in
-          let q : (more : List Move) × ((items ++ events_of c.in-Some.by) ++ events_along more ≡ script path c.args.stuck.key) × LeadsBy es c.entry-last.result.1.last more =
-          leads-next es (c.in-Some.parent, c.in-Some.by) items p.0 (script path c.args.stuck.key) (subst (λ o. LeadsBy es o p.0) c.in-Some.is p.2) p.1 c.entry-last.result c.entry-last.ensures in
+          let p : (rest : List Move) × (items ++ events_along rest ≡ script path c.args.stuck.key)
+          × LeadsBy es c.loop-last.last rest =
+          c.loop-last.invariant.left path x at trail state in
+          let q : (more : List Move)
+          × ((items ++ events_of c.in-Some.by) ++ events_along more ≡ script path c.args.stuck.key)
+          × LeadsBy es c.entry-last.result.1.last more =
+          leads-next es (c.in-Some.parent, c.in-Some.by) items p.0 (script path c.args.stuck.key)
+          (subst (λ o. LeadsBy es o p.0) c.in-Some.is p.2) p.1 c.entry-last.result c.entry-last.ensures in
           (q.0, ap (λ z. z ++ events_along q.0) c.in_ok-push_events.ensures ∙ q.1, q.2);
     }
 
@@ -45,6 +55,8 @@ returns c =
     λ path x at trail state.
     let es = c.args.met.now.entries in
     let items = c.loop-last.events.items in
-    let p : (rest : List Move) × (items ++ events_along rest ≡ script path c.args.stuck.key) × LeadsBy es c.loop-last.last rest = c.loop-last.invariant.left path x at trail state in
+    let p : (rest : List Move) × (items ++ events_along rest ≡ script path c.args.stuck.key)
+    × LeadsBy es c.loop-last.last rest =
+    c.loop-last.invariant.left path x at trail state in
     ap reverse c.reverse.ensures.items ∙ reverse-reverse items
     ∙ leads-end es items p.0 (script path c.args.stuck.key) (subst (λ o. LeadsBy es o p.0) c.in_default.is p.2) p.1

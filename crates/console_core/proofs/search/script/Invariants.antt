@@ -9,8 +9,10 @@ use Rattle.console_core.proofs.search.script.Given as goal
 abbrev pub invariant-loop-last : goal.invariant-loop-last
 invariant-loop-last l = record {
   within : IfSome l.last (λ last. last.0 < length l.met.entries);
-  left : (path : List Move) (x : Entry) → slice_get l.met.entries l.fn.stuck.place ≡ Some x → IsTrail l.met.entries l.fn.stuck.place path → state_after path ≡ state_of x.0
-      → (rest : List Move) × (l.events.items ++ events_along rest ≡ script path l.fn.stuck.key) × LeadsBy l.met.entries l.last rest;
+  left : (path : List Move) (x : Entry) → slice_get l.met.entries l.fn.stuck.place ≡ Some x
+      → IsTrail l.met.entries l.fn.stuck.place path → state_after path ≡ state_of x.0
+      → (rest : List Move) × (l.events.items ++ events_along rest ≡ script path l.fn.stuck.key)
+      × LeadsBy l.met.entries l.last rest;
 }
 
 abbrev pub decreases-loop-last : goal.decreases-loop-last

@@ -11,8 +11,10 @@ pub loop-level-init : goal.loop-level-init
 loop-level-init c =
     let origin : Origin = record { presses = 0; last = None } in
     let e : c.insert.new.self.entries ≡ (c.start.result, origin) ∷ [] =
-    start-entries _ c.new-met.result.entries c.insert.new.self.entries (c.start.result, origin) c.new-met.ensures.empty c.in_ok-insert.ensures.entries in
-    let s : Searched c.args.map.now c.insert.new.self.entries 0 0 × AreInOrder c.insert.new.self.entries 0 0 = searched-start c.args.map.now c.start.result c.start.ensures c.insert.new.self.entries e in
+    start-entries _ c.new-met.result.entries c.insert.new.self.entries (c.start.result, origin) c.new-met.ensures.empty
+    c.in_ok-insert.ensures.entries in
+    let s : Searched c.args.map.now c.insert.new.self.entries 0 0 × AreInOrder c.insert.new.self.entries 0 0 =
+    searched-start c.args.map.now c.start.result c.start.ensures c.insert.new.self.entries e in
     record {
       searched = s.0;
       order = s.1;
@@ -23,36 +25,46 @@ loop-level-init c =
 
 pub returns : goal.returns
 returns c =
-    let le : length c.loop-level.met.entries ≤ c.loop-level.level = omega (arith, c.loop-level-test.false, c.len.ensures.len) in
+    let le : length c.loop-level.met.entries ≤ c.loop-level.level =
+    omega (arith, c.loop-level-test.false, c.len.ensures.len) in
     searched-never c.args.map.now c.loop-level.met.entries c.loop-level.level le c.loop-level.invariant.searched
 
 pub script-requires-clause-place : goal.script-requires-clause-place
 script-requires-clause-place c =
     let es = c.close.new.met.entries in
-    let stuck : IsStuck c.args.map.now es c.in-Some.stuck.place c.in-Some.stuck.key = subst (λ o. IfSome o (λ x. IsStuck c.args.map.now es x.place x.key)) c.in-Some.is c.in_ok-stuck.ensures.stuck in
+    let stuck : IsStuck c.args.map.now es c.in-Some.stuck.place c.in-Some.stuck.key =
+    subst (λ o. IfSome o (λ x. IsStuck c.args.map.now es x.place x.key)) c.in-Some.is c.in_ok-stuck.ensures.stuck in
     slice_get_within es c.in-Some.stuck.place stuck.0 stuck.1
 
 pub script-requires-clause-back : goal.script-requires-clause-back
-script-requires-clause-back c = searched-back c.args.map.now c.close.new.met.entries c.loop-level.level c.loop-level.level c.in_ok-stuck.ensures.searched
+script-requires-clause-back c =
+    searched-back c.args.map.now c.close.new.met.entries c.loop-level.level c.loop-level.level
+    c.in_ok-stuck.ensures.searched
 
 pub returns-in-Some : goal.returns-in-Some
 returns-in-Some c =
     let es = c.close.new.met.entries in
-    let stuck : IsStuck c.args.map.now es c.in-Some.stuck.place c.in-Some.stuck.key = subst (λ o. IfSome o (λ x. IsStuck c.args.map.now es x.place x.key)) c.in-Some.is c.in_ok-stuck.ensures.stuck in
-    stuck-sticks c.args.map.now es c.loop-level.level c.loop-level.presses c.in-Some.stuck.place c.in-Some.stuck.key c.in_ok-stuck.ensures.order c.in_ok-stuck.ensures.searched stuck
+    let stuck : IsStuck c.args.map.now es c.in-Some.stuck.place c.in-Some.stuck.key =
+    subst (λ o. IfSome o (λ x. IsStuck c.args.map.now es x.place x.key)) c.in-Some.is c.in_ok-stuck.ensures.stuck in
+    stuck-sticks c.args.map.now es c.loop-level.level c.loop-level.presses c.in-Some.stuck.place c.in-Some.stuck.key
+    c.in_ok-stuck.ensures.order c.in_ok-stuck.ensures.searched stuck
     (reverse c.in_ok-script.field-0.items) c.in_ok-script.ensures
 
 pub returns-then-len-gt-BOUND : goal.returns-then-len-gt-BOUND
 returns-then-len-gt-BOUND c =
     let es = c.close.new.met.entries in
     let more : 65536 < length es = omega (arith, c.if-len-gt-BOUND.true, c.len-in-loop-level.ensures.len) in
-    reaches-more _ (λ x y e. tables-test _ _ (λ a. eq-eqb a a refl) (λ b. beq-self b) x y e) c.args.map.now es c.loop-level.level c.loop-level.level 65536 c.in_ok-stuck.ensures.searched more c.len-in-loop-level.ensures.unique
+    reaches-more _ (λ x y e. tables-test _ _ (λ a. eq-eqb a a refl) (λ b. beq-self b) x y e) c.args.map.now es
+    c.loop-level.level c.loop-level.level 65536 c.in_ok-stuck.ensures.searched more
+    c.len-in-loop-level.ensures.unique
 
 pub returns-then-len-gt-BOUND-2 : goal.returns-then-len-gt-BOUND-2
 returns-then-len-gt-BOUND-2 c =
     let es = c.press.new.met.entries in
     let more : 65536 < length es = omega (arith, c.if-len-gt-BOUND-2.true, c.len-in-loop-level-2.ensures.len) in
-    reaches-more _ (λ x y e. tables-test _ _ (λ a. eq-eqb a a refl) (λ b. beq-self b) x y e) c.args.map.now es c.loop-level.level c.loop-level.level 65536 c.in_ok-press.ensures.reached more c.len-in-loop-level-2.ensures.unique
+    reaches-more _ (λ x y e. tables-test _ _ (λ a. eq-eqb a a refl) (λ b. beq-self b) x y e) c.args.map.now es
+    c.loop-level.level c.loop-level.level 65536 c.in_ok-press.ensures.reached more
+    c.len-in-loop-level-2.ensures.unique
 
 pub loop-level-preserved : goal.loop-level-preserved
 loop-level-preserved c =
@@ -68,6 +80,7 @@ loop-level-preserved c =
       searched = subst (λ n. Searched m now n n) (sym e) (c.in_ok-press.ensures.searched small);
       order = subst (λ n. AreInOrder now n (c.loop-level.presses + 1)) (sym e) c.in_ok-press.ensures.order;
       below = omega (arith, e, pressed_longer);
-      levels = omega (arith, e, closed_longer, c.loop-level.invariant.levels, c.loop-level-test.true, c.len.ensures.len);
+      levels =
+          omega (arith, e, closed_longer, c.loop-level.invariant.levels, c.loop-level-test.true, c.len.ensures.len);
       small = small;
     }

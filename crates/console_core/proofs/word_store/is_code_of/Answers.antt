@@ -6,4 +6,5 @@ pub returns-in-Some : goal.returns-in-Some
 returns-in-Some c =
     let read = sym c.from_code.ensures ∙ c.in-Some.is in
     coded-other c.args.code c.in-Some.field-0 c.args.expected c.requires read
-    (c.every_action_has_its_code.ensures c.args.code c.in-Some.field-0 read).0 (λ e. c.if-code.false (e ∙ sym c.code.ensures.code))
+    (c.every_action_has_its_code.ensures c.args.code c.in-Some.field-0 read).0 (λ e.
+    c.if-code.false (e ∙ sym c.code.ensures.code))

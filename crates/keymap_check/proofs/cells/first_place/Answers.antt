@@ -8,17 +8,24 @@ pub loop-place-init : goal.loop-place-init
 loop-place-init c = first_below-none _
 
 pub loop-place-preserved : goal.loop-place-preserved
-loop-place-preserved c = first_below-more _ c.loop-place.place c.loop-place.invariant (ap (λ x. fits c.args.kind x) (sym c.cell_of.ensures) ∙ sym c.fits.ensures ∙ c.if-fits.false)
+loop-place-preserved c =
+    first_below-more _ c.loop-place.place c.loop-place.invariant
+    (ap (λ x. fits c.args.kind x) (sym c.cell_of.ensures) ∙ sym c.fits.ensures ∙ c.if-fits.false)
 
 pub returns-then-fits-clause-value : goal.returns-then-fits-clause-value
 unfolding first_place
 returns-then-fits-clause-value c =
-    let lt : c.loop-place.place < place_count c.args.map.now = omega (arith, c.loop-place-test.true, c.requires.is_count) in
-    let e : fits c.args.kind (cell_of c.args.map.now c.args.key c.loop-place.place) ≡ true = ap (λ x. fits c.args.kind x) (sym c.cell_of.ensures) ∙ sym c.fits.ensures ∙ c.if-fits.true in
-    sym (first_below-found (λ place. fits c.args.kind (cell_of c.args.map.now c.args.key place)) c.loop-place.place (place_count c.args.map.now) lt c.loop-place.invariant e)
+    let lt : c.loop-place.place < place_count c.args.map.now =
+    omega (arith, c.loop-place-test.true, c.requires.is_count) in
+    let e : fits c.args.kind (cell_of c.args.map.now c.args.key c.loop-place.place) ≡ true =
+    ap (λ x. fits c.args.kind x) (sym c.cell_of.ensures) ∙ sym c.fits.ensures ∙ c.if-fits.true in
+    sym (first_below-found (λ place. fits c.args.kind (cell_of c.args.map.now c.args.key place)) c.loop-place.place
+    (place_count c.args.map.now) lt c.loop-place.invariant e)
 
 pub returns-clause-value : goal.returns-clause-value
 unfolding first_place
 returns-clause-value c =
-    let e : c.loop-place.place ≡ place_count c.args.map.now = omega (arith, c.loop-place-test.false, c.loop-place.auto.place-end, c.requires.is_count) in
-    sym (subst (λ n. first_below (λ place. fits c.args.kind (cell_of c.args.map.now c.args.key place)) n ≡ None) e c.loop-place.invariant)
+    let e : c.loop-place.place ≡ place_count c.args.map.now =
+    omega (arith, c.loop-place-test.false, c.loop-place.auto.place-end, c.requires.is_count) in
+    sym (subst (λ n. first_below (λ place. fits c.args.kind (cell_of c.args.map.now c.args.key place)) n ≡ None) e
+    c.loop-place.invariant)

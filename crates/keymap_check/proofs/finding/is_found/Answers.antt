@@ -10,5 +10,6 @@ returns-then-has c =
     c.has-then-has.ensures
     ∙ sym (
     found c.args.survey.now c.args.key
-    ∙ ap (λ b. b && is_there (first_place c.args.survey.now kind.Character c.args.key)) (sym c.has.ensures ∙ c.if-has.true)
+    ∙ ap (λ b. b && is_there (first_place c.args.survey.now kind.Character c.args.key))
+    (sym c.has.ensures ∙ c.if-has.true)
     )

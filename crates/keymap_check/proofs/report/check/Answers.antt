@@ -14,16 +14,23 @@ returns-clause-accepted c = (
 )
 
 pub returns-clause-findings : goal.returns-clause-findings
-returns-clause-findings c = subst (λ r. AreFindings c.args.map.now r.findings) (sym c.make_report.ensures) (c.reports_are_computed.ensures.findings c.args.map.now)
+returns-clause-findings c =
+    subst (λ r. AreFindings c.args.map.now r.findings) (sym c.make_report.ensures)
+    (c.reports_are_computed.ensures.findings c.args.map.now)
 
 pub returns-clause-bearers : goal.returns-clause-bearers
 returns-clause-bearers c a =
-    subst (λ b. IsBearer c.args.map.now a b) (sym (reported-bearer c.args.map.now c.make_report.result a c.make_report.ensures)) (c.reports_are_computed.ensures.bearers c.args.map.now a)
+    subst (λ b. IsBearer c.args.map.now a b)
+    (sym (reported-bearer c.args.map.now c.make_report.result a c.make_report.ensures))
+    (c.reports_are_computed.ensures.bearers c.args.map.now a)
 
 pub returns-clause-steady : goal.returns-clause-steady
 returns-clause-steady c l = (
-  (λ e. (c.reports_are_computed.ensures.steady c.args.map.now l).0 (sym (reported-steady c.args.map.now c.make_report.result l c.make_report.ensures) ∙ e)),
-  (λ is. reported-steady c.args.map.now c.make_report.result l c.make_report.ensures ∙ (c.reports_are_computed.ensures.steady c.args.map.now l).1 is),
+  (λ e. (c.reports_are_computed.ensures.steady c.args.map.now l).0 (sym (reported-steady c.args.map.now
+      c.make_report.result l c.make_report.ensures)
+      ∙ e)),
+  (λ is. reported-steady c.args.map.now c.make_report.result l c.make_report.ensures
+      ∙ (c.reports_are_computed.ensures.steady c.args.map.now l).1 is),
 )
 
 pub returns-clause-only_while : goal.returns-clause-only_while
@@ -34,12 +41,15 @@ returns-clause-only_while c e =
 pub returns-clause-exactly_while : goal.returns-clause-exactly_while
 returns-clause-exactly_while c i k e =
     promise.exactly_while c.modifiers_follow_keys.ensures.exactly_while c.args.map.now i k
-    (throughout-bears c.args.map.now (holding.Mod i) k (sym (reported-bearer c.args.map.now c.make_report.result (holding.Mod i) c.make_report.ensures) ∙ e))
+    (throughout-bears c.args.map.now (holding.Mod i) k
+    (sym (reported-bearer c.args.map.now c.make_report.result (holding.Mod i) c.make_report.ensures) ∙ e))
 
 pub returns-clause-repeats : goal.returns-clause-repeats
 returns-clause-repeats c l e =
     promise.repeats c.repeats_turn_no_steady_lock.ensures c.args.map.now l
-    ((c.reports_are_computed.ensures.steady c.args.map.now l).0 (sym (reported-steady c.args.map.now c.make_report.result l c.make_report.ensures) ∙ e))
+    ((c.reports_are_computed.ensures.steady c.args.map.now l).0 (sym (reported-steady c.args.map.now
+    c.make_report.result l c.make_report.ensures)
+    ∙ e))
 
 pub returns-clause-off_once_quiet : goal.returns-clause-off_once_quiet
 returns-clause-off_once_quiet c e =
@@ -54,11 +64,14 @@ returns-clause-as_after_reset c e =
 pub returns-clause-fresh_presses : goal.returns-clause-fresh_presses
 returns-clause-fresh_presses c l k e =
     promise.fresh_presses c.locks_count_fresh_presses.ensures c.args.map.now l k
-    (throughout-bears c.args.map.now (holding.Lock l) k (sym (reported-bearer c.args.map.now c.make_report.result (holding.Lock l) c.make_report.ensures) ∙ e))
+    (throughout-bears c.args.map.now (holding.Lock l) k
+    (sym (reported-bearer c.args.map.now c.make_report.result (holding.Lock l) c.make_report.ensures) ∙ e))
 
 pub returns-clause-looks_plainly : goal.returns-clause-looks_plainly
 returns-clause-looks_plainly c plain =
     promise.looks_plainly c.looks_plainly.ensures.look c.args.map.now
     (plain_bearers c.args.map.now c.make_report.result
-    (λ a. subst (λ b. IsBearer c.args.map.now a b) (sym (reported-bearer c.args.map.now c.make_report.result a c.make_report.ensures)) (c.reports_are_computed.ensures.bearers c.args.map.now a))
+    (λ a. subst (λ b. IsBearer c.args.map.now a b)
+    (sym (reported-bearer c.args.map.now c.make_report.result a c.make_report.ensures))
+    (c.reports_are_computed.ensures.bearers c.args.map.now a))
     plain)

@@ -15,10 +15,13 @@ pub returns-then-is_bit_key : goal.returns-then-is_bit_key
 unfolding bit_key
 returns-then-is_bit_key c =
     let lt : c.loop-key.key < 128 = omega (arith, c.loop-key-test.true) in
-    rw c.key_with.ensures (sym (first_below-found (is_bit_key c.args.survey.now c.args.tried c.args.bit) c.loop-key.key 128 lt c.loop-key.invariant (sym c.is_bit_key.ensures ∙ c.if-is_bit_key.true)))
+    rw c.key_with.ensures
+    (sym (first_below-found (is_bit_key c.args.survey.now c.args.tried c.args.bit) c.loop-key.key 128 lt
+    c.loop-key.invariant (sym c.is_bit_key.ensures ∙ c.if-is_bit_key.true)))
 
 pub returns : goal.returns
 unfolding bit_key
 returns c =
     let e : c.loop-key.key ≡ 128 = omega (arith, c.loop-key-test.false, c.loop-key.auto.key-end) in
-    sym (subst (λ n. first_below (is_bit_key c.args.survey.now c.args.tried c.args.bit) n ≡ None) e c.loop-key.invariant)
+    sym (subst (λ n. first_below (is_bit_key c.args.survey.now c.args.tried c.args.bit) n ≡ None) e
+    c.loop-key.invariant)

@@ -11,7 +11,8 @@ push_events-requires c =
 pub push-requires : goal.push-requires
 push-requires c =
     let e : array_vec_len c.new-script.result ≡ 0 = ap length c.new-script.ensures in
-    let lt : array_vec_len c.push_events.new.script < 11 = omega (arith, e, room c.args.keys.now c.args.a c.args.b, c.push_events.ensures.len) in
+    let lt : array_vec_len c.push_events.new.script < 11 =
+    omega (arith, e, room c.args.keys.now c.args.a c.args.b, c.push_events.ensures.len) in
     (lit< tt, lt)
 
 pub push_events-requires-2 : goal.push_events-requires-2
@@ -22,21 +23,57 @@ push_events-requires-2 c =
 pub push_events-requires-3 : goal.push_events-requires-3
 push_events-requires-3 c =
     let e : array_vec_len c.new-script.result ≡ 0 = ap length c.new-script.ensures in
-    omega (arith, e, room c.args.keys.now c.args.a c.args.b, c.push_events.ensures.len, c.push.ensures.len, c.push_events-2.ensures.len)
+    omega (
+      arith,
+      e,
+      room c.args.keys.now c.args.a c.args.b,
+      c.push_events.ensures.len,
+      c.push.ensures.len,
+      c.push_events-2.ensures.len,
+    )
 
 pub push-requires-2 : goal.push-requires-2
 push-requires-2 c =
     let e : array_vec_len c.new-script.result ≡ 0 = ap length c.new-script.ensures in
-    let lt : array_vec_len c.push_events-3.new.script < 11 = omega (arith, e, room c.args.keys.now c.args.a c.args.b, c.push_events.ensures.len, c.push.ensures.len, c.push_events-2.ensures.len, c.push_events-3.ensures.len) in
+    let lt : array_vec_len c.push_events-3.new.script < 11 =
+    omega (
+      arith,
+      e,
+      room c.args.keys.now c.args.a c.args.b,
+      c.push_events.ensures.len,
+      c.push.ensures.len,
+      c.push_events-2.ensures.len,
+      c.push_events-3.ensures.len,
+    ) in
     (lit< tt, lt)
 
 pub push-requires-3 : goal.push-requires-3
 push-requires-3 c =
     let e : array_vec_len c.new-script.result ≡ 0 = ap length c.new-script.ensures in
-    let lt : array_vec_len c.push-2.new.self < 11 = omega (arith, e, room c.args.keys.now c.args.a c.args.b, c.push_events.ensures.len, c.push.ensures.len, c.push_events-2.ensures.len, c.push_events-3.ensures.len, c.push-2.ensures.len) in
+    let lt : array_vec_len c.push-2.new.self < 11 =
+    omega (
+      arith,
+      e,
+      room c.args.keys.now c.args.a c.args.b,
+      c.push_events.ensures.len,
+      c.push.ensures.len,
+      c.push_events-2.ensures.len,
+      c.push_events-3.ensures.len,
+      c.push-2.ensures.len,
+    ) in
     (lit< tt, lt)
 
 pub push_events-requires-4 : goal.push_events-requires-4
 push_events-requires-4 c =
     let e : array_vec_len c.new-script.result ≡ 0 = ap length c.new-script.ensures in
-    omega (arith, e, room c.args.keys.now c.args.a c.args.b, c.push_events.ensures.len, c.push.ensures.len, c.push_events-2.ensures.len, c.push_events-3.ensures.len, c.push-2.ensures.len, c.push-3.ensures.len)
+    omega (
+      arith,
+      e,
+      room c.args.keys.now c.args.a c.args.b,
+      c.push_events.ensures.len,
+      c.push.ensures.len,
+      c.push_events-2.ensures.len,
+      c.push_events-3.ensures.len,
+      c.push-2.ensures.len,
+      c.push-3.ensures.len,
+    )

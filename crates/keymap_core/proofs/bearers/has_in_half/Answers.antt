@@ -8,11 +8,15 @@ loop-key-init g c = λ m shows. any-start _
 
 pub returns-then-has_in_slot : goal.returns-then-has_in_slot
 returns-then-has_in_slot g c =
-    λ m shows. sym (half-some m (holding_action c.args.holding) c.args.from c.loop-key.key c.loop-key-test.true (sym (c.has_in_slot.ensures m shows) ∙ c.if-has_in_slot.true))
+    λ m shows. sym (half-some m (holding_action c.args.holding) c.args.from c.loop-key.key c.loop-key-test.true
+    (sym (c.has_in_slot.ensures m shows) ∙ c.if-has_in_slot.true))
 
 pub loop-key-preserved : goal.loop-key-preserved
 loop-key-preserved g c =
-    λ m shows. any-none _ c.loop-key.key (c.loop-key.invariant m shows) (sym (c.has_in_slot.ensures m shows) ∙ c.if-has_in_slot.false)
+    λ m shows. any-none _ c.loop-key.key (c.loop-key.invariant m shows)
+    (sym (c.has_in_slot.ensures m shows) ∙ c.if-has_in_slot.false)
 
 pub returns : goal.returns
-returns g c = λ m shows. sym (half-end m (holding_action c.args.holding) c.args.from c.loop-key.key (omega arith) (c.loop-key.invariant m shows))
+returns g c =
+    λ m shows. sym (half-end m (holding_action c.args.holding) c.args.from c.loop-key.key (omega arith)
+    (c.loop-key.invariant m shows))

@@ -6,4 +6,5 @@ use Rattle.keymap_core.proofs.bearers.has_in_half.Given as goal
 
 abbrev pub invariant-loop-key : goal.invariant-loop-key
 invariant-loop-key g l =
-    (m : MapValue) → g.K.Keymap.shows l.map m → any_below (λ k. has_in_slot m (holding_action l.holding) (k + l.from)) l.key ≡ false
+    (m : MapValue) → g.K.Keymap.shows l.map m
+    → any_below (λ k. has_in_slot m (holding_action l.holding) (k + l.from)) l.key ≡ false

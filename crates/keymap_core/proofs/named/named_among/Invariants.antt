@@ -7,4 +7,6 @@ use Rattle.keymap_core.proofs.named.named_among.Given as goal
 
 abbrev pub invariant-loop-code : goal.invariant-loop-code
 invariant-loop-code l =
-    find (λ action. bytes_eq (map to_ascii_lowercase l.word) (letters_of action)) (filter_map action_of (take l.code-index l.codes)) ≡ None
+    find (λ action. bytes_eq (map to_ascii_lowercase l.word) (letters_of action))
+    (filter_map action_of (take l.code-index l.codes))
+    ≡ None

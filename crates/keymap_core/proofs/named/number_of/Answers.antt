@@ -4,15 +4,19 @@ use Rattle.keymap_core.specs.Names.{are_digits, digits_value}
 use Rattle.keymap_core.proofs.Taking.{take-rest}
 use Rattle.keymap_core.proofs.Numbers.{number-behind, none-behind, none-shorter, cut}
 use Rattle.keymap_core.proofs.named.number_of.Goals as goal
-use Rattle.keymap_core.proofs.named.number_of.Goals.{then-word-letters-via-then-word-letters, then-word-letters-via-else-word-letters+then-not-is_name}
+use Rattle.keymap_core.proofs.named.number_of.Goals.{then-word-letters-via-then-word-letters}
+use Rattle.keymap_core.proofs.named.number_of.Goals.{then-word-letters-via-else-word-letters+then-not-is_name}
 
 abbrev cut_at_255 : Option ℕ → Option ℕ
 cut_at_255 = option_map (λ n. min n 255)
 
 pub returns-then-word-letters : goal.returns-then-word-letters
 returns-then-word-letters c = elim c.then-word-letters.branch [
-  | then-word-letters-via-then-word-letters w ↦ ap cut_at_255 (sym (none-shorter c.args.letters.now c.args.word.now w.if-word-letters.true))
-  | then-word-letters-via-else-word-letters+then-not-is_name w ↦ ap cut_at_255 (sym (none-behind c.args.letters.now c.args.word.now (sym w.is_name.ensures ∙ w.if-not-is_name.true)))
+  | then-word-letters-via-then-word-letters w ↦
+      ap cut_at_255 (sym (none-shorter c.args.letters.now c.args.word.now w.if-word-letters.true))
+  | then-word-letters-via-else-word-letters+then-not-is_name w ↦
+      ap cut_at_255
+      (sym (none-behind c.args.letters.now c.args.word.now (sym w.is_name.ensures ∙ w.if-not-is_name.true)))
 ]
 
 pub returns : goal.returns
@@ -21,4 +25,5 @@ returns c =
     c.decimal_of.ensures
     ∙ ap (λ xs. cond (are_digits xs) (Some (min (digits_value xs) 255)) None) rest
     ∙ sym (cut _ _)
-    ∙ ap cut_at_255 (sym (number-behind c.args.letters.now c.args.word.now (sym c.is_name.ensures ∙ c.if-not-is_name.false)))
+    ∙ ap cut_at_255
+    (sym (number-behind c.args.letters.now c.args.word.now (sym c.is_name.ensures ∙ c.if-not-is_name.false)))

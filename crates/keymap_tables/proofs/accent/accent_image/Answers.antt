@@ -10,10 +10,24 @@ use Rattle.keymap_tables.proofs.accent.accent_image.Goals as goal
 pub loop-pair-preserved : goal.loop-pair-preserved
 loop-pair-preserved c = record {
   few = search rules;
-  bytes = pairs-next c.args.layout (number_bytes c.args.layout c.args.accent.now.own) c.pairs-pairs.result.now c.loop-pair.pair-index (0, 0) _ _ _ (omega arith) c.loop-pair.invariant.bytes c.push_char-in-loop-pair.ensures.bytes c.push_char-in-loop-pair-2.ensures.bytes;
-  each = omega (arith, c.push_char-in-loop-pair.ensures.count, c.push_char-in-loop-pair-2.ensures.count, c.loop-pair.invariant.each, pair-next c.args.layout c.loop-pair.pair-index);
-  known = All-more IsPair c.pairs-pairs.result.now c.loop-pair.pair-index (0, 0) (omega arith) c.loop-pair.invariant.known
-      (c.push_char-in-loop-pair.ensures.known, c.pairs-pairs.ensures.bases c.loop-pair.pair-index (0, 0) (omega arith), c.push_char-in-loop-pair-2.ensures.known);
+  bytes =
+      pairs-next c.args.layout (number_bytes c.args.layout c.args.accent.now.own) c.pairs-pairs.result.now
+      c.loop-pair.pair-index (0, 0) _ _ _ (omega arith) c.loop-pair.invariant.bytes
+      c.push_char-in-loop-pair.ensures.bytes c.push_char-in-loop-pair-2.ensures.bytes;
+  each =
+      omega (
+        arith,
+        c.push_char-in-loop-pair.ensures.count,
+        c.push_char-in-loop-pair-2.ensures.count,
+        c.loop-pair.invariant.each,
+        pair-next c.args.layout c.loop-pair.pair-index,
+      );
+  known =
+      All-more IsPair c.pairs-pairs.result.now c.loop-pair.pair-index (0, 0) (omega arith) c.loop-pair.invariant.known (
+        c.push_char-in-loop-pair.ensures.known,
+        c.pairs-pairs.ensures.bases c.loop-pair.pair-index (0, 0) (omega arith),
+        c.push_char-in-loop-pair-2.ensures.known,
+      );
 }
 
 pub returns-clause-known : goal.returns-clause-known

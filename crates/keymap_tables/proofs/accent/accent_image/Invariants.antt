@@ -10,7 +10,8 @@ use Rattle.keymap_tables.proofs.accent.accent_image.Given as goal
 abbrev pub invariant-loop-pair : goal.invariant-loop-pair
 invariant-loop-pair l = record {
   few : length l.pairs ≤ 52;
-  bytes : l.image.items ≡ number_bytes l.layout l.accent.own ++ flat_map (pair_bytes l.layout) (take l.pair-index l.pairs);
+  bytes : l.image.items
+      ≡ number_bytes l.layout l.accent.own ++ flat_map (pair_bytes l.layout) (take l.pair-index l.pairs);
   known : All IsPair (take l.pair-index l.pairs);
   each : length l.image.items ≡ number_size l.layout + pair_size l.layout * l.pair-index;
 }

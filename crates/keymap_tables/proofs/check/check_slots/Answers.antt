@@ -24,11 +24,15 @@ returns-in-Err-clause-fault c =
     let size = slot_size layout in
     let whole = row_fault (slot_fault layout) size c.args.n_keys bytes in
     let cut = row bytes size i c.slot.result c.slot-in-loop-slot.result c.slot.ensures c.slot-in-loop-slot.ensures in
-    let first = subst (λ (v : List ℕ). IsFirstFault (slot_fault layout v) c.in-Err.fault) cut c.in-Err.ensures.fault.0 in
+    let first =
+    subst (λ (v : List ℕ). IsFirstFault (slot_fault layout v) c.in-Err.fault) cut c.in-Err.ensures.fault.0 in
     let lifted = first-after whole (slot_fault layout (part bytes (size * i) size)) (size * i) size c.in-Err.fault
-    (λ q inside. row-at (slot_fault layout) size c.args.n_keys bytes i q (omega arith) inside) c.loop-slot.invariant.sound first c.in-Err.ensures.fault.1 in
+    (λ q inside. row-at (slot_fault layout) size c.args.n_keys bytes i q (omega arith)
+    inside) c.loop-slot.invariant.sound
+    first c.in-Err.ensures.fault.1 in
     let at = place size i c.slot.result c.slot.ensures in
-    subst (λ (f : TableFault). IsFirstFault whole f × (f.offset < slots_size layout)) (sym (c.after.ensures ∙ ap (λ (k : ℕ). record c.in-Err.fault { offset = k + c.in-Err.fault.offset }) at))
+    subst (λ (f : TableFault). IsFirstFault whole f × (f.offset < slots_size layout))
+    (sym (c.after.ensures ∙ ap (λ (k : ℕ). record c.in-Err.fault { offset = k + c.in-Err.fault.offset }) at))
     (lifted, omega (arith, c.in-Err.ensures.fault.1, slot-inside layout i (omega arith)))
 
 pub loop-slot-preserved : goal.loop-slot-preserved
@@ -43,7 +47,9 @@ loop-slot-preserved c =
     let image = sym cut ∙ c.in-Ok.ensures.image in
     let clean = subst (λ (v : List ℕ). HasNoFault (slot_fault layout v) size) cut c.in-Ok.ensures.sound in
     let further = none-after whole (slot_fault layout (part bytes (size * i) size)) (size * i) size
-    (λ q inside. row-at (slot_fault layout) size c.args.n_keys bytes i q (omega arith) inside) c.loop-slot.invariant.sound clean in
+    (λ q inside. row-at (slot_fault layout) size c.args.n_keys bytes i q (omega arith)
+    inside) c.loop-slot.invariant.sound
+    clean in
     record {
       rows = (
         rows.0 ++ c.in-Ok._entry ∷ [],
@@ -63,13 +69,16 @@ returns-clause-image c =
     let end : c.loop-slot.slot ≡ c.args.n_keys = omega arith in
     let so_far = rows.2 ∙ ap (λ (n : ℕ). take (size * n) bytes) end in
     let counted = rows.1 ∙ end in
-    let rest = ap (λ (n : ℕ). n - size * c.args.n_keys) c.requires.whole ∙ slots-rest layout c.args.n_keys c.requires.few ∙ ap (λ (n : ℕ). size * (256 - n)) (sym counted) in
+    let rest =
+    ap (λ (n : ℕ). n - size * c.args.n_keys) c.requires.whole ∙ slots-rest layout c.args.n_keys c.requires.few
+    ∙ ap (λ (n : ℕ). size * (256 - n)) (sym counted) in
     let at = place size c.args.n_keys c.slot-2.result c.slot-2.ensures in
     OnOk-map c.check_zeros.result _ _ c.check_zeros.ensures.none
     (λ empty. (
       rows.0,
       counted,
-      rows-whole (slot_bytes layout) size 256 c.args.n_keys bytes rows.0 so_far (drop-zeros bytes (size * c.args.n_keys) (λ p past. empty p (omega (arith, past, at)))) rest,
+      rows-whole (slot_bytes layout) size 256 c.args.n_keys bytes rows.0 so_far
+          (drop-zeros bytes (size * c.args.n_keys) (λ p past. empty p (omega (arith, past, at)))) rest,
       rows.3,
     ))
 
@@ -83,7 +92,8 @@ returns-clause-sound c =
     let so_far = subst (λ (n : ℕ). HasNoFault whole (size * n)) end c.loop-slot.invariant.sound in
     let at = place size c.args.n_keys c.slot-2.result c.slot-2.ensures in
     OnOk-map c.check_zeros.result _ (HasNoFault whole (slots_size layout)) c.check_zeros.ensures.none
-    (λ empty. none-past NotEmpty whole bytes (size * c.args.n_keys) (slots_size layout) (λ p past inside. row-past (slot_fault layout) size c.args.n_keys bytes p (slot-some layout) past)
+    (λ empty. none-past NotEmpty whole bytes (size * c.args.n_keys) (slots_size layout)
+    (λ p past inside. row-past (slot_fault layout) size c.args.n_keys bytes p (slot-some layout) past)
     so_far (λ p past. empty p (omega (arith, past, at))))
 
 pub returns-clause-fault : goal.returns-clause-fault
@@ -95,9 +105,12 @@ returns-clause-fault c =
     let end : c.loop-slot.slot ≡ c.args.n_keys = omega arith in
     let so_far = subst (λ (n : ℕ). HasNoFault whole (size * n)) end c.loop-slot.invariant.sound in
     let at = place size c.args.n_keys c.slot-2.result c.slot-2.ensures in
-    IfErr-map c.check_zeros.result _ (λ f. IsFirstFault whole f × (f.offset < slots_size layout)) c.check_zeros.ensures.first
+    IfErr-map c.check_zeros.result _ (λ f. IsFirstFault whole f × (f.offset < slots_size layout))
+    c.check_zeros.ensures.first
     (λ f first. (
-      first-past NotEmpty whole bytes _ (slots_size layout) f (λ p past inside. row-past (slot_fault layout) size c.args.n_keys bytes p (slot-some layout) (omega (arith, past, at)))
+      first-past NotEmpty whole bytes _ (slots_size layout) f
+          (λ p past inside. row-past (slot_fault layout) size c.args.n_keys bytes p (slot-some layout)
+          (omega (arith, past, at)))
           (λ p below. so_far p (omega (arith, below, at))) (omega (arith, c.requires.whole)) first,
       omega (arith, first.inside, c.requires.whole),
     ))

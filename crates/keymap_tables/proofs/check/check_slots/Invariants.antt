@@ -12,6 +12,8 @@ use Rattle.keymap_tables.proofs.check.check_slots.Given as goal
 -- The bytes so far are those of so many entries, and no fault stands there.
 abbrev pub invariant-loop-slot : goal.invariant-loop-slot
 invariant-loop-slot l = record {
-  rows : (rows : List Entry) × (length rows ≡ l.slot) × (flat_map (slot_bytes l.layout) rows ≡ take (slot_size l.layout * l.slot) l.bytes) × All IsEntry rows;
-  sound : HasNoFault (row_fault (slot_fault l.layout) (slot_size l.layout) l.n_keys l.bytes) (slot_size l.layout * l.slot);
+  rows : (rows : List Entry) × (length rows ≡ l.slot)
+      × (flat_map (slot_bytes l.layout) rows ≡ take (slot_size l.layout * l.slot) l.bytes) × All IsEntry rows;
+  sound : HasNoFault (row_fault (slot_fault l.layout) (slot_size l.layout) l.n_keys l.bytes)
+      (slot_size l.layout * l.slot);
 }

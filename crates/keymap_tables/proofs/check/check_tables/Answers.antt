@@ -13,5 +13,6 @@ returns-then-bytes-length-2-clause-fault c = first-long wide c.args.bytes.now _ 
 
 pub returns-clause-fault : goal.returns-clause-fault
 returns-clause-fault c =
-    IfErr-map c.check_content.result (IsFirstFault (content_fault wide c.args.bytes.now)) (IsFirstFault (fault_at wide c.args.bytes.now)) c.check_content.ensures.fault
+    IfErr-map c.check_content.result (IsFirstFault (content_fault wide c.args.bytes.now))
+    (IsFirstFault (fault_at wide c.args.bytes.now)) c.check_content.ensures.fault
     (λ f first. first-content wide c.args.bytes.now f (omega arith) first)

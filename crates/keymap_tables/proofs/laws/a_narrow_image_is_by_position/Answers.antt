@@ -16,7 +16,10 @@ pub returns-clause-slots : goal.returns-clause-slots
 returns-clause-slots c = λ m is fits. slot-part narrow m is
 
 pub returns-clause-cells : goal.returns-clause-cells
-returns-clause-cells c = λ m is fits s column below inside. ap (slice_index (narrow_image m)) (column-place s column) ∙ sym (number-byte (narrow_image m) (2 + 10 * s + 1 * column)) ∙ cell-number narrow m is fits s column below inside
+returns-clause-cells c =
+    λ m is fits s column below inside. ap (slice_index (narrow_image m)) (column-place s column)
+    ∙ sym (number-byte (narrow_image m) (2 + 10 * s + 1 * column))
+    ∙ cell-number narrow m is fits s column below inside
 
 pub returns-clause-marks : goal.returns-clause-marks
 returns-clause-marks c = λ m is fits. cell-mark narrow m is

@@ -8,8 +8,10 @@ use Rattle.keymap_tables.proofs.narrow.wide_accent.Goals as goal
 
 pub returns-in-Some : goal.returns-in-Some
 returns-in-Some c =
-    first-number c.args.map.now c.loop-accent.accent c.in-Some.number c.in-Some.ensures.1 c.requires c.loop-accent.invariant c.in-Some.ensures.0
+    first-number c.args.map.now c.loop-accent.accent c.in-Some.number c.in-Some.ensures.1 c.requires
+    c.loop-accent.invariant c.in-Some.ensures.0
 
 pub returns : goal.returns
 returns c =
-    All-from_get_or (AccentFits narrow) c.args.map.now.accents blank (λ i below. c.loop-accent.invariant i (omega (arith, c.n_accs-accent-end.ensures.value)) below)
+    All-from_get_or (AccentFits narrow) c.args.map.now.accents blank
+    (λ i below. c.loop-accent.invariant i (omega (arith, c.n_accs-accent-end.ensures.value)) below)

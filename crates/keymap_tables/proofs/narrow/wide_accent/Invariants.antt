@@ -7,4 +7,5 @@ use Rattle.keymap_tables.proofs.narrow.wide_accent.Given as goal
 
 -- The accents so far fit.
 abbrev pub invariant-loop-accent : goal.invariant-loop-accent
-invariant-loop-accent l = (i : ℕ) → i < l.accent → i < length l.map.accents → AccentFits narrow (slice_index_or l.map.accents i blank)
+invariant-loop-accent l =
+    (i : ℕ) → i < l.accent → i < length l.map.accents → AccentFits narrow (slice_index_or l.map.accents i blank)

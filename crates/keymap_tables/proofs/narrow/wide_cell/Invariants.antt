@@ -7,4 +7,5 @@ use Rattle.keymap_tables.proofs.narrow.wide_cell.Given as goal
 
 -- The slots so far fit.
 abbrev pub invariant-loop-slot : goal.invariant-loop-slot
-invariant-loop-slot l = (i : ℕ) → i < l.slot → i < length l.map.entries → EntryFits narrow (slice_index_or l.map.entries i undefined)
+invariant-loop-slot l =
+    (i : ℕ) → i < l.slot → i < length l.map.entries → EntryFits narrow (slice_index_or l.map.entries i undefined)

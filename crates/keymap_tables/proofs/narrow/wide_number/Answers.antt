@@ -9,7 +9,8 @@ returns-then-base-gt-LAST c =
     let value = c.pairs-pairs.ensures.value in
     let i = c.loop-index.index in (
       first-base c.args.accent.now i (1 + 2 * i) refl (omega (arith, c.own.ensures, c.if-own-gt-LAST.false))
-          (subst (λ (ps : List (ℕ × ℕ)). (j : ℕ) → j < i → PairFits narrow (get_or ps j (0, 0))) value c.loop-index.invariant)
+          (subst (λ (ps : List (ℕ × ℕ)). (j : ℕ) → j < i → PairFits narrow (get_or ps j (0, 0))) value
+          c.loop-index.invariant)
           (subst (λ (ps : List (ℕ × ℕ)). 255 < (get_or ps i (0, 0)).0) value c.if-base-gt-LAST.true),
       omega (arith, c.pairs-pairs.ensures.few),
     )
@@ -20,7 +21,8 @@ returns-then-composed-gt-LAST c =
     let i = c.loop-index.index in
     let small : (get_or c.pairs-pairs.result.now i (0, 0)).0 < 256 = omega (arith, c.if-base-gt-LAST.false) in (
       first-result c.args.accent.now i (2 + 2 * i) refl (omega (arith, c.own.ensures, c.if-own-gt-LAST.false))
-          (subst (λ (ps : List (ℕ × ℕ)). (j : ℕ) → j < i → PairFits narrow (get_or ps j (0, 0))) value c.loop-index.invariant)
+          (subst (λ (ps : List (ℕ × ℕ)). (j : ℕ) → j < i → PairFits narrow (get_or ps j (0, 0))) value
+          c.loop-index.invariant)
           (subst (λ (ps : List (ℕ × ℕ)). (get_or ps i (0, 0)).0 < 256) value small)
           (subst (λ (ps : List (ℕ × ℕ)). 255 < (get_or ps i (0, 0)).1) value c.if-composed-gt-LAST.true),
       omega (arith, c.pairs-pairs.ensures.few),

@@ -11,8 +11,10 @@ returns-in_err-check_zeros-clause-fault c =
     let bytes = c.args.bytes.now in
     let few : count_at bytes 0 ≤ c.args.most = omega (arith, c.read_half-count.ensures) in
     err_passed _ _ _ c.from_residual.ensures.1 (
-      first-past BadPad (count_fault c.args.most bytes) bytes _ (length bytes) _ (λ p past inside. count-pad c.args.most bytes p (omega arith))
-          (λ p below. count-front c.args.most bytes few p (omega arith)) (omega arith) c.in_err-check_zeros.ensures.first,
+      first-past BadPad (count_fault c.args.most bytes) bytes _ (length bytes) _
+          (λ p past inside. count-pad c.args.most bytes p (omega arith))
+          (λ p below. count-front c.args.most bytes few p (omega arith)) (omega arith)
+          c.in_err-check_zeros.ensures.first,
       omega (arith, c.in_err-check_zeros.ensures.first.inside),
     )
 
@@ -25,5 +27,6 @@ pub returns-clause-sound : goal.returns-clause-sound
 returns-clause-sound c =
     let bytes = c.args.bytes.now in
     let few : count_at bytes 0 ≤ c.args.most = omega (arith, c.read_half-count.ensures) in
-    none-past BadPad (count_fault c.args.most bytes) bytes 2 (length bytes) (λ p past inside. count-pad c.args.most bytes p past)
+    none-past BadPad (count_fault c.args.most bytes) bytes 2 (length bytes)
+    (λ p past inside. count-pad c.args.most bytes p past)
     (count-front c.args.most bytes few) (λ p past. c.in_ok-check_zeros.ensures.none p (omega arith))

@@ -27,10 +27,12 @@ place : (size i n : ℕ) → n ≡ size → n * i ≡ size * i
 place size i n is = ap (λ (k : ℕ). k * i) is
 
 -- the slice that was read is the row
-row : (bytes : List ℕ) (size i n m : ℕ) → n ≡ size → m ≡ size → take (n * i + m - n * i) (drop (n * i) bytes) ≡ part bytes (size * i) size
+row : (bytes : List ℕ) (size i n m : ℕ) → n ≡ size → m ≡ size
+    → take (n * i + m - n * i) (drop (n * i) bytes) ≡ part bytes (size * i) size
 row bytes size i n m one two =
     let long : n * i + m - n * i ≡ m = omega arith in
-    ap (λ (k : ℕ). take k (drop (n * i) bytes)) (long ∙ two) ∙ ap (λ (k : ℕ). take size (drop k bytes)) (place size i n one)
+    ap (λ (k : ℕ). take k (drop (n * i) bytes)) (long ∙ two)
+    ∙ ap (λ (k : ℕ). take size (drop k bytes)) (place size i n one)
 
 pub returns-in-Err-clause-fault : goal.returns-in-Err-clause-fault
 returns-in-Err-clause-fault c =
@@ -39,12 +41,18 @@ returns-in-Err-clause-fault c =
     let i = c.loop-index.index in
     let size = accent_size layout in
     let whole = row_fault (accent_fault layout) size c.args.n_accs bytes in
-    let cut = row bytes size i c.accent.result c.accent-in-loop-index.result c.accent.ensures c.accent-in-loop-index.ensures in
-    let first = subst (λ (v : List ℕ). IsFirstFault (accent_fault layout v) c.in-Err.fault) cut c.in-Err.ensures.fault.0 in
+    let cut =
+    row bytes size i c.accent.result c.accent-in-loop-index.result c.accent.ensures
+    c.accent-in-loop-index.ensures in
+    let first =
+    subst (λ (v : List ℕ). IsFirstFault (accent_fault layout v) c.in-Err.fault) cut c.in-Err.ensures.fault.0 in
     let lifted = first-after whole (accent_fault layout (part bytes (size * i) size)) (size * i) size c.in-Err.fault
-    (λ q inside. row-at (accent_fault layout) size c.args.n_accs bytes i q (omega arith) inside) c.loop-index.invariant.sound first c.in-Err.ensures.fault.1 in
+    (λ q inside. row-at (accent_fault layout) size c.args.n_accs bytes i q (omega arith)
+    inside) c.loop-index.invariant.sound
+    first c.in-Err.ensures.fault.1 in
     let at = place size i c.accent.result c.accent.ensures in
-    subst (λ (f : TableFault). IsFirstFault whole f × (f.offset < accents_size layout)) (sym (c.after.ensures ∙ ap (λ (k : ℕ). record c.in-Err.fault { offset = k + c.in-Err.fault.offset }) at))
+    subst (λ (f : TableFault). IsFirstFault whole f × (f.offset < accents_size layout))
+    (sym (c.after.ensures ∙ ap (λ (k : ℕ). record c.in-Err.fault { offset = k + c.in-Err.fault.offset }) at))
     (lifted, omega (arith, c.in-Err.ensures.fault.1, accent-inside layout i (omega arith)))
 
 pub loop-index-preserved : goal.loop-index-preserved
@@ -55,18 +63,29 @@ loop-index-preserved c =
     let size = accent_size layout in
     let whole = row_fault (accent_fault layout) size c.args.n_accs bytes in
     let set = OnOk-at _ _ _ c.unwrap.ensures c.set_accent.ensures.ok in
-    let grown = ap (λ (m : MapValue). m.accents) set ∙ placed-end blank c.loop-index.map.accents i c.in-Ok.accent c.loop-index.invariant.count in
+    let grown =
+    ap (λ (m : MapValue). m.accents) set
+    ∙ placed-end blank c.loop-index.map.accents i c.in-Ok.accent c.loop-index.invariant.count in
     let same = ap (λ (m : MapValue). m.entries) set in
-    let cut = row bytes size i c.accent.result c.accent-in-loop-index.result c.accent.ensures c.accent-in-loop-index.ensures in
+    let cut =
+    row bytes size i c.accent.result c.accent-in-loop-index.result c.accent.ensures
+    c.accent-in-loop-index.ensures in
     let image = sym cut ∙ c.in-Ok.ensures.image in
     let clean = subst (λ (v : List ℕ). HasNoFault (accent_fault layout v) size) cut c.in-Ok.ensures.sound in
     let further = none-after whole (accent_fault layout (part bytes (size * i) size)) (size * i) size
-    (λ q inside. row-at (accent_fault layout) size c.args.n_accs bytes i q (omega arith) inside) c.loop-index.invariant.sound clean in
+    (λ q inside. row-at (accent_fault layout) size c.args.n_accs bytes i q (omega arith)
+    inside) c.loop-index.invariant.sound
+    clean in
     record {
       count = ap length grown ∙ length_push _ _ ∙ ap (λ (n : ℕ). n + 1) c.loop-index.invariant.count;
-      bytes = ap (flat_map (accent_bytes layout)) grown ∙ rows-read (accent_bytes layout) size bytes c.loop-index.map.accents i c.in-Ok.accent c.loop-index.invariant.bytes image;
+      bytes =
+          ap (flat_map (accent_bytes layout)) grown
+          ∙ rows-read (accent_bytes layout) size bytes c.loop-index.map.accents i c.in-Ok.accent
+          c.loop-index.invariant.bytes image;
       known = All-same IsAccent _ _ grown (All-push IsAccent _ _ c.loop-index.invariant.known c.in-Ok.ensures.known);
-      fits = All-same (AccentFits layout) _ _ grown (All-push (AccentFits layout) _ _ c.loop-index.invariant.fits c.in-Ok.ensures.fits);
+      fits =
+          All-same (AccentFits layout) _ _ grown
+          (All-push (AccentFits layout) _ _ c.loop-index.invariant.fits c.in-Ok.ensures.fits);
       entries = same ∙ c.loop-index.invariant.entries;
       sound = λ p below. further p (omega (arith, below, accent-next layout i));
     }
@@ -80,10 +99,13 @@ returns-clause-image c =
     let end : c.loop-index.index ≡ c.args.n_accs = omega arith in
     let so_far = c.loop-index.invariant.bytes ∙ ap (λ (n : ℕ). take (size * n) bytes) end in
     let counted = c.loop-index.invariant.count ∙ end in
-    let rest = ap (λ (n : ℕ). n - size * c.args.n_accs) c.requires.whole ∙ accents-rest layout c.args.n_accs c.requires.few ∙ ap (λ (n : ℕ). size * (15 - n)) (sym counted) in
+    let rest =
+    ap (λ (n : ℕ). n - size * c.args.n_accs) c.requires.whole ∙ accents-rest layout c.args.n_accs c.requires.few
+    ∙ ap (λ (n : ℕ). size * (15 - n)) (sym counted) in
     let at = place size c.args.n_accs c.accent-2.result c.accent-2.ensures in
     OnOk-map c.check_zeros.result _ (bytes ≡ accents_bytes layout rows) c.check_zeros.ensures.none
-    (λ empty. rows-whole (accent_bytes layout) size 15 c.args.n_accs bytes rows so_far (drop-zeros bytes (size * c.args.n_accs) (λ p past. empty p (omega (arith, past, at)))) rest)
+    (λ empty. rows-whole (accent_bytes layout) size 15 c.args.n_accs bytes rows so_far
+    (drop-zeros bytes (size * c.args.n_accs) (λ p past. empty p (omega (arith, past, at)))) rest)
 
 pub returns-clause-sound : goal.returns-clause-sound
 returns-clause-sound c =
@@ -95,7 +117,8 @@ returns-clause-sound c =
     let so_far = subst (λ (n : ℕ). HasNoFault whole (size * n)) end c.loop-index.invariant.sound in
     let at = place size c.args.n_accs c.accent-2.result c.accent-2.ensures in
     OnOk-map c.check_zeros.result _ (HasNoFault whole (accents_size layout)) c.check_zeros.ensures.none
-    (λ empty. none-past NotEmpty whole bytes (size * c.args.n_accs) (accents_size layout) (λ p past inside. row-past (accent_fault layout) size c.args.n_accs bytes p (accent-some layout) past)
+    (λ empty. none-past NotEmpty whole bytes (size * c.args.n_accs) (accents_size layout)
+    (λ p past inside. row-past (accent_fault layout) size c.args.n_accs bytes p (accent-some layout) past)
     so_far (λ p past. empty p (omega (arith, past, at))))
 
 pub returns-clause-fault : goal.returns-clause-fault
@@ -107,9 +130,12 @@ returns-clause-fault c =
     let end : c.loop-index.index ≡ c.args.n_accs = omega arith in
     let so_far = subst (λ (n : ℕ). HasNoFault whole (size * n)) end c.loop-index.invariant.sound in
     let at = place size c.args.n_accs c.accent-2.result c.accent-2.ensures in
-    IfErr-map c.check_zeros.result _ (λ f. IsFirstFault whole f × (f.offset < accents_size layout)) c.check_zeros.ensures.first
+    IfErr-map c.check_zeros.result _ (λ f. IsFirstFault whole f × (f.offset < accents_size layout))
+    c.check_zeros.ensures.first
     (λ f first. (
-      first-past NotEmpty whole bytes _ (accents_size layout) f (λ p past inside. row-past (accent_fault layout) size c.args.n_accs bytes p (accent-some layout) (omega (arith, past, at)))
+      first-past NotEmpty whole bytes _ (accents_size layout) f
+          (λ p past inside. row-past (accent_fault layout) size c.args.n_accs bytes p (accent-some layout)
+          (omega (arith, past, at)))
           (λ p below. so_far p (omega (arith, below, at))) (omega (arith, c.requires.whole)) first,
       omega (arith, first.inside, c.requires.whole),
     ))

@@ -17,5 +17,6 @@ invariant-loop-index l = record {
   fits : All (AccentFits l.layout) l.map.accents;
   known : All IsAccent l.map.accents;
   entries : l.map.entries ≡ l.fn.map.entries;
-  sound : HasNoFault (row_fault (accent_fault l.layout) (accent_size l.layout) l.n_accs l.bytes) (accent_size l.layout * l.index);
+  sound : HasNoFault (row_fault (accent_fault l.layout) (accent_size l.layout) l.n_accs l.bytes)
+      (accent_size l.layout * l.index);
 }

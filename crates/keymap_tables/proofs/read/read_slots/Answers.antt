@@ -26,10 +26,12 @@ place : (size i n : ℕ) → n ≡ size → n * i ≡ size * i
 place size i n is = ap (λ (k : ℕ). k * i) is
 
 -- the slice that was read is the row
-row : (bytes : List ℕ) (size i n m : ℕ) → n ≡ size → m ≡ size → take (n * i + m - n * i) (drop (n * i) bytes) ≡ part bytes (size * i) size
+row : (bytes : List ℕ) (size i n m : ℕ) → n ≡ size → m ≡ size
+    → take (n * i + m - n * i) (drop (n * i) bytes) ≡ part bytes (size * i) size
 row bytes size i n m one two =
     let long : n * i + m - n * i ≡ m = omega arith in
-    ap (λ (k : ℕ). take k (drop (n * i) bytes)) (long ∙ two) ∙ ap (λ (k : ℕ). take size (drop k bytes)) (place size i n one)
+    ap (λ (k : ℕ). take k (drop (n * i) bytes)) (long ∙ two)
+    ∙ ap (λ (k : ℕ). take size (drop k bytes)) (place size i n one)
 
 pub returns-in-Err-clause-fault : goal.returns-in-Err-clause-fault
 returns-in-Err-clause-fault c =
@@ -39,11 +41,15 @@ returns-in-Err-clause-fault c =
     let size = slot_size layout in
     let whole = row_fault (slot_fault layout) size c.args.n_keys bytes in
     let cut = row bytes size i c.slot.result c.slot-in-loop-slot.result c.slot.ensures c.slot-in-loop-slot.ensures in
-    let first = subst (λ (v : List ℕ). IsFirstFault (slot_fault layout v) c.in-Err.fault) cut c.in-Err.ensures.fault.0 in
+    let first =
+    subst (λ (v : List ℕ). IsFirstFault (slot_fault layout v) c.in-Err.fault) cut c.in-Err.ensures.fault.0 in
     let lifted = first-after whole (slot_fault layout (part bytes (size * i) size)) (size * i) size c.in-Err.fault
-    (λ q inside. row-at (slot_fault layout) size c.args.n_keys bytes i q (omega arith) inside) c.loop-slot.invariant.sound first c.in-Err.ensures.fault.1 in
+    (λ q inside. row-at (slot_fault layout) size c.args.n_keys bytes i q (omega arith)
+    inside) c.loop-slot.invariant.sound
+    first c.in-Err.ensures.fault.1 in
     let at = place size i c.slot.result c.slot.ensures in
-    subst (λ (f : TableFault). IsFirstFault whole f × (f.offset < slots_size layout)) (sym (c.after.ensures ∙ ap (λ (k : ℕ). record c.in-Err.fault { offset = k + c.in-Err.fault.offset }) at))
+    subst (λ (f : TableFault). IsFirstFault whole f × (f.offset < slots_size layout))
+    (sym (c.after.ensures ∙ ap (λ (k : ℕ). record c.in-Err.fault { offset = k + c.in-Err.fault.offset }) at))
     (lifted, omega (arith, c.in-Err.ensures.fault.1, slot-inside layout i (omega arith)))
 
 pub loop-slot-preserved : goal.loop-slot-preserved
@@ -53,18 +59,27 @@ loop-slot-preserved c =
     let i = c.loop-slot.slot in
     let size = slot_size layout in
     let whole = row_fault (slot_fault layout) size c.args.n_keys bytes in
-    let grown = ap (λ (m : MapValue). m.entries) c.set.ensures ∙ placed-end undefined c.loop-slot.map.entries i c.in-Ok.entry c.loop-slot.invariant.count in
+    let grown =
+    ap (λ (m : MapValue). m.entries) c.set.ensures
+    ∙ placed-end undefined c.loop-slot.map.entries i c.in-Ok.entry c.loop-slot.invariant.count in
     let same = ap (λ (m : MapValue). m.accents) c.set.ensures in
     let cut = row bytes size i c.slot.result c.slot-in-loop-slot.result c.slot.ensures c.slot-in-loop-slot.ensures in
     let image = sym cut ∙ c.in-Ok.ensures.image in
     let clean = subst (λ (v : List ℕ). HasNoFault (slot_fault layout v) size) cut c.in-Ok.ensures.sound in
     let further = none-after whole (slot_fault layout (part bytes (size * i) size)) (size * i) size
-    (λ q inside. row-at (slot_fault layout) size c.args.n_keys bytes i q (omega arith) inside) c.loop-slot.invariant.sound clean in
+    (λ q inside. row-at (slot_fault layout) size c.args.n_keys bytes i q (omega arith)
+    inside) c.loop-slot.invariant.sound
+    clean in
     record {
       count = ap length grown ∙ length_push _ _ ∙ ap (λ (n : ℕ). n + 1) c.loop-slot.invariant.count;
-      bytes = ap (flat_map (slot_bytes layout)) grown ∙ rows-read (slot_bytes layout) size bytes c.loop-slot.map.entries i c.in-Ok.entry c.loop-slot.invariant.bytes image;
+      bytes =
+          ap (flat_map (slot_bytes layout)) grown
+          ∙ rows-read (slot_bytes layout) size bytes c.loop-slot.map.entries i c.in-Ok.entry c.loop-slot.invariant.bytes
+          image;
       known = All-same IsEntry _ _ grown (All-push IsEntry _ _ c.loop-slot.invariant.known c.in-Ok.ensures.known);
-      fits = All-same (EntryFits layout) _ _ grown (All-push (EntryFits layout) _ _ c.loop-slot.invariant.fits c.in-Ok.ensures.fits);
+      fits =
+          All-same (EntryFits layout) _ _ grown
+          (All-push (EntryFits layout) _ _ c.loop-slot.invariant.fits c.in-Ok.ensures.fits);
       accents = same ∙ c.loop-slot.invariant.accents;
       sound = λ p below. further p (omega (arith, below, slot-next layout i));
     }
@@ -78,10 +93,13 @@ returns-clause-image c =
     let end : c.loop-slot.slot ≡ c.args.n_keys = omega arith in
     let so_far = c.loop-slot.invariant.bytes ∙ ap (λ (n : ℕ). take (size * n) bytes) end in
     let counted = c.loop-slot.invariant.count ∙ end in
-    let rest = ap (λ (n : ℕ). n - size * c.args.n_keys) c.requires.whole ∙ slots-rest layout c.args.n_keys c.requires.few ∙ ap (λ (n : ℕ). size * (256 - n)) (sym counted) in
+    let rest =
+    ap (λ (n : ℕ). n - size * c.args.n_keys) c.requires.whole ∙ slots-rest layout c.args.n_keys c.requires.few
+    ∙ ap (λ (n : ℕ). size * (256 - n)) (sym counted) in
     let at = place size c.args.n_keys c.slot-2.result c.slot-2.ensures in
     OnOk-map c.check_zeros.result _ (bytes ≡ slots_bytes layout rows) c.check_zeros.ensures.none
-    (λ empty. rows-whole (slot_bytes layout) size 256 c.args.n_keys bytes rows so_far (drop-zeros bytes (size * c.args.n_keys) (λ p past. empty p (omega (arith, past, at)))) rest)
+    (λ empty. rows-whole (slot_bytes layout) size 256 c.args.n_keys bytes rows so_far
+    (drop-zeros bytes (size * c.args.n_keys) (λ p past. empty p (omega (arith, past, at)))) rest)
 
 pub returns-clause-sound : goal.returns-clause-sound
 returns-clause-sound c =
@@ -93,7 +111,8 @@ returns-clause-sound c =
     let so_far = subst (λ (n : ℕ). HasNoFault whole (size * n)) end c.loop-slot.invariant.sound in
     let at = place size c.args.n_keys c.slot-2.result c.slot-2.ensures in
     OnOk-map c.check_zeros.result _ (HasNoFault whole (slots_size layout)) c.check_zeros.ensures.none
-    (λ empty. none-past NotEmpty whole bytes (size * c.args.n_keys) (slots_size layout) (λ p past inside. row-past (slot_fault layout) size c.args.n_keys bytes p (slot-some layout) past)
+    (λ empty. none-past NotEmpty whole bytes (size * c.args.n_keys) (slots_size layout)
+    (λ p past inside. row-past (slot_fault layout) size c.args.n_keys bytes p (slot-some layout) past)
     so_far (λ p past. empty p (omega (arith, past, at))))
 
 pub returns-clause-fault : goal.returns-clause-fault
@@ -105,9 +124,12 @@ returns-clause-fault c =
     let end : c.loop-slot.slot ≡ c.args.n_keys = omega arith in
     let so_far = subst (λ (n : ℕ). HasNoFault whole (size * n)) end c.loop-slot.invariant.sound in
     let at = place size c.args.n_keys c.slot-2.result c.slot-2.ensures in
-    IfErr-map c.check_zeros.result _ (λ f. IsFirstFault whole f × (f.offset < slots_size layout)) c.check_zeros.ensures.first
+    IfErr-map c.check_zeros.result _ (λ f. IsFirstFault whole f × (f.offset < slots_size layout))
+    c.check_zeros.ensures.first
     (λ f first. (
-      first-past NotEmpty whole bytes _ (slots_size layout) f (λ p past inside. row-past (slot_fault layout) size c.args.n_keys bytes p (slot-some layout) (omega (arith, past, at)))
+      first-past NotEmpty whole bytes _ (slots_size layout) f
+          (λ p past inside. row-past (slot_fault layout) size c.args.n_keys bytes p (slot-some layout)
+          (omega (arith, past, at)))
           (λ p below. so_far p (omega (arith, below, at))) (omega (arith, c.requires.whole)) first,
       omega (arith, first.inside, c.requires.whole),
     ))

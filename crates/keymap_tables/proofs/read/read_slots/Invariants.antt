@@ -17,5 +17,6 @@ invariant-loop-slot l = record {
   fits : All (EntryFits l.layout) l.map.entries;
   known : All IsEntry l.map.entries;
   accents : l.map.accents ≡ l.fn.map.accents;
-  sound : HasNoFault (row_fault (slot_fault l.layout) (slot_size l.layout) l.n_keys l.bytes) (slot_size l.layout * l.slot);
+  sound : HasNoFault (row_fault (slot_fault l.layout) (slot_size l.layout) l.n_keys l.bytes)
+      (slot_size l.layout * l.slot);
 }

@@ -6,7 +6,8 @@ pub returns-clause-reading : goal.returns-clause-reading
 returns-clause-reading c = reading-wide c.args.bytes.now c.read_file.result c.read_file.ensures
 
 pub returns-clause-map : goal.returns-clause-map
-returns-clause-map c = λ m is same. reading-image wide c.args.bytes.now c.read_file.result c.read_file.ensures m is (map-wide m is) same
+returns-clause-map c =
+    λ m is same. reading-image wide c.args.bytes.now c.read_file.result c.read_file.ensures m is (map-wide m is) same
 
 pub returns-clause-fault : goal.returns-clause-fault
 returns-clause-fault c = reading-fault wide c.args.bytes.now c.read_file.result c.read_file.ensures

@@ -15,4 +15,5 @@ returns-then-read_number-eq0-clause-value c =
 
 pub returns-clause-value : goal.returns-clause-value
 returns-clause-value c =
-    pairs-counted c.args.layout c.args.bytes.now 52 (omega arith) (λ pair below. c.loop-pair.invariant pair (omega arith)) (λ below. absurd (omega arith))
+    pairs-counted c.args.layout c.args.bytes.now 52 (omega arith)
+    (λ pair below. c.loop-pair.invariant pair (omega arith)) (λ below. absurd (omega arith))

@@ -15,7 +15,8 @@ abbrev pub invariant-loop-pair : goal.invariant-loop-pair
 invariant-loop-pair l = record {
   own : number_bytes l.layout l.accent.own ≡ take (number_size l.layout) l.bytes;
   character : IsScalar l.accent.own;
-  bytes : flat_map (pair_bytes l.layout) l.accent.pairs ≡ take (pair_size l.layout * l.pair) (drop (number_size l.layout) l.bytes);
+  bytes : flat_map (pair_bytes l.layout) l.accent.pairs
+      ≡ take (pair_size l.layout * l.pair) (drop (number_size l.layout) l.bytes);
   own_fits : l.accent.own < number_limit l.layout;
   fits : All (PairFits l.layout) l.accent.pairs;
   count : length l.accent.pairs ≡ l.pair;

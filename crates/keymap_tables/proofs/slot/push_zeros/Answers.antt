@@ -8,5 +8,7 @@ returns-clause-count g c = omega (arith, c.loop-image.invariant.short, c.loop-im
 
 pub returns-clause-bytes : goal.returns-clause-bytes
 returns-clause-bytes g c =
-    let whole : array_vec_len c.loop-image.image ≡ c.args.length = omega (arith, c.loop-image.invariant.short, c.loop-image-test.false, c.len.ensures.value) in
-    c.loop-image.invariant.zeros ∙ ap (λ (n : ℕ). c.args.image.now.items ++ zeros (n - array_vec_len c.args.image.now)) whole
+    let whole : array_vec_len c.loop-image.image ≡ c.args.length =
+    omega (arith, c.loop-image.invariant.short, c.loop-image-test.false, c.len.ensures.value) in
+    c.loop-image.invariant.zeros
+    ∙ ap (λ (n : ℕ). c.args.image.now.items ++ zeros (n - array_vec_len c.args.image.now)) whole

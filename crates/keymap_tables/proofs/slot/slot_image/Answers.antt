@@ -10,18 +10,30 @@ use Rattle.keymap_tables.proofs.slot.slot_image.Goals as goal
 pub loop-cell-preserved : goal.loop-cell-preserved
 loop-cell-preserved c = record {
   eight = search rules;
-  bytes = cells-more c.args.layout _ _ c.cell-item.result _ _ (omega arith) c.cell-item.is c.loop-cell.invariant.bytes (rw c.number.ensures.value at c.push_number.ensures.bytes);
-  four_each = c.push_number.ensures.count ∙ ap (λ (n : ℕ). n + number_size c.args.layout) c.loop-cell.invariant.four_each ∙ sym (cell-next c.args.layout c.loop-cell.cell-index);
-  marks = marks-next c.cells-cells.result.now _ c.cell-item.result _ _ (omega arith) c.cell-item.is c.loop-cell.invariant.marks c.mark.ensures.bit;
+  bytes =
+      cells-more c.args.layout _ _ c.cell-item.result _ _ (omega arith) c.cell-item.is c.loop-cell.invariant.bytes
+      (rw c.number.ensures.value at c.push_number.ensures.bytes);
+  four_each =
+      c.push_number.ensures.count ∙ ap (λ (n : ℕ). n + number_size c.args.layout) c.loop-cell.invariant.four_each
+      ∙ sym (cell-next c.args.layout c.loop-cell.cell-index);
+  marks =
+      marks-next c.cells-cells.result.now _ c.cell-item.result _ _ (omega arith) c.cell-item.is
+      c.loop-cell.invariant.marks c.mark.ensures.bit;
   small = small-next _ _ _ c.loop-cell.invariant.small c.mark.ensures.small;
-  known = All-next IsCell _ _ c.cell-item.result (omega arith) c.cell-item.is c.loop-cell.invariant.known c.number.ensures.known;
+  known =
+      All-next IsCell _ _ c.cell-item.result (omega arith) c.cell-item.is c.loop-cell.invariant.known
+      c.number.ensures.known;
 }
 
 pub returns-clause-bytes : goal.returns-clause-bytes
 returns-clause-bytes c =
     let last : c.loop-cell.cell-index ≡ 8 = omega arith in
-    let filled = c.loop-cell.invariant.four_each ∙ ap (λ (i : ℕ). number_size c.args.layout * i) last ∙ cells-end c.args.layout in
-    slot-written c.args.layout c.args.entry.now c.cells-cells.result.now c.loop-cell.cell-index _ _ _ _ _ _ _ c.cells-cells.ensures.cells (omega arith) c.loop-cell.invariant.bytes c.loop-cell.invariant.marks c.flag_byte.ensures
+    let filled =
+    c.loop-cell.invariant.four_each ∙ ap (λ (i : ℕ). number_size c.args.layout * i) last
+    ∙ cells-end c.args.layout in
+    slot-written c.args.layout c.args.entry.now c.cells-cells.result.now c.loop-cell.cell-index _ _ _ _ _ _ _
+    c.cells-cells.ensures.cells (omega arith) c.loop-cell.invariant.bytes c.loop-cell.invariant.marks
+    c.flag_byte.ensures
     c.push.ensures.items c.push-2.ensures.items c.push_zeros.ensures.bytes (omega (arith, filled))
 
 pub returns-clause-known : goal.returns-clause-known

@@ -14,15 +14,20 @@ returns-in-Ok c =
     λ e known same. let i = c.args.column in
     let cell = get_or e.cells i (Char 0) in
     let is = All-get_or IsCell e.cells i (Char 0) (omega (arith, known.eight, c.requires.inside)) known.cells in
-    let number = ap (λ (v : List ℕ). number_at wide v (4 * i)) same ∙ number-in wide e (Char 0) i known (entry-wide e known) c.requires.inside in
+    let number =
+    ap (λ (v : List ℕ). number_at wide v (4 * i)) same
+    ∙ number-in wide e (Char 0) i known (entry-wide e known) c.requires.inside in
     let mark = ap (λ (v : List ℕ). mark_at wide v i) same ∙ mark-in wide e (Char 0) i known c.requires.inside in
-    same-cell c.in-Ok.cell cell c.in-Ok.ensures.known is (c.in-Ok.ensures.number ∙ c.read_number.ensures ∙ number) (c.in-Ok.ensures.mark ∙ mark)
+    same-cell c.in-Ok.cell cell c.in-Ok.ensures.known is (c.in-Ok.ensures.number ∙ c.read_number.ensures ∙ number)
+    (c.in-Ok.ensures.mark ∙ mark)
 
 pub returns-in-Err : goal.returns-in-Err
 returns-in-Err c =
     λ e known same. let i = c.args.column in
     let cell = get_or e.cells i (Char 0) in
     let is = All-get_or IsCell e.cells i (Char 0) (omega (arith, known.eight, c.requires.inside)) known.cells in
-    let number = ap (λ (v : List ℕ). number_at wide v (4 * i)) same ∙ number-in wide e (Char 0) i known (entry-wide e known) c.requires.inside in
+    let number =
+    ap (λ (v : List ℕ). number_at wide v (4 * i)) same
+    ∙ number-in wide e (Char 0) i known (entry-wide e known) c.requires.inside in
     let mark = ap (λ (v : List ℕ). mark_at wide v i) same ∙ mark-in wide e (Char 0) i known c.requires.inside in
     absurd (some_none _ _ c.in-Err.ensures.fault (rw (c.read_number.ensures, number, mark) (cell-sound cell is)))

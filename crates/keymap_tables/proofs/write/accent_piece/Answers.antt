@@ -9,7 +9,9 @@ use Rattle.keymap_tables.proofs.write.accent_piece.Goals as goal
 
 pub returns-in-Some-clause-bytes : goal.returns-in-Some-clause-bytes
 returns-in-Some-clause-bytes c =
-    c.accent_image.ensures.bytes ∙ ap (accent_bytes c.args.layout) (sym (get_or_from_slice_get c.args.map.now.accents c.args.index _ blank (sym c.in-Some.ensures.value)))
+    c.accent_image.ensures.bytes
+    ∙ ap (accent_bytes c.args.layout)
+    (sym (get_or_from_slice_get c.args.map.now.accents c.args.index _ blank (sym c.in-Some.ensures.value)))
 
 none_some : (o : Option AccentValue) (a : AccentValue) → None ≡ o → o ≡ Some a → ⊥
 none_some o a none some = cc
@@ -23,13 +25,19 @@ blank-made a own none = ap (λ (v : ℕ). accent_of v a.pairs) own ∙ ap (λ (v
 
 pub returns-in-None-clause-bytes : goal.returns-in-None-clause-bytes
 returns-in-None-clause-bytes c =
-    let past = ap (λ (o : Option AccentValue). unwrap_or o blank) c.in-None.ensures.value ∙ unwrap_or-slice_get c.args.map.now.accents c.args.index blank in
-    c.accent_image-in-None.ensures.bytes ∙ ap (accent_bytes c.args.layout) (blank-made c.new.result c.new.ensures.own c.new.ensures.pairs ∙ past)
+    let past =
+    ap (λ (o : Option AccentValue). unwrap_or o blank) c.in-None.ensures.value
+    ∙ unwrap_or-slice_get c.args.map.now.accents c.args.index blank in
+    c.accent_image-in-None.ensures.bytes
+    ∙ ap (accent_bytes c.args.layout) (blank-made c.new.result c.new.ensures.own c.new.ensures.pairs ∙ past)
 
 pub returns-in-Some-clause-known : goal.returns-in-Some-clause-known
 returns-in-Some-clause-known c used =
-    subst IsAccent (sym (get_or_from_slice_get c.args.map.now.accents c.args.index _ blank (sym c.in-Some.ensures.value))) c.accent_image.ensures.known
+    subst IsAccent
+    (sym (get_or_from_slice_get c.args.map.now.accents c.args.index _ blank (sym c.in-Some.ensures.value)))
+    c.accent_image.ensures.known
 
 pub returns-in-None-clause-known : goal.returns-in-None-clause-known
 returns-in-None-clause-known c used =
-    absurd (none_some (slice_get c.args.map.now.accents c.args.index) _ c.in-None.ensures.value (slice_get-get_or c.args.map.now.accents c.args.index blank used))
+    absurd (none_some (slice_get c.args.map.now.accents c.args.index) _ c.in-None.ensures.value
+    (slice_get-get_or c.args.map.now.accents c.args.index blank used))

@@ -12,7 +12,9 @@ use Rattle.keymap_tables.proofs.write.push_accents.Given as goal
 -- The accents so far were pushed.
 abbrev pub invariant-loop-index : goal.invariant-loop-index
 invariant-loop-index g l = record {
-  pushed : (start : Option (List ℕ)) (text : List ℕ) → Gathers start (g.W.Write.contents l.fn.writer) l.fn.stream text → Gathers start (g.W.Write.contents l.writer) l.stream (text ++ flat_map (accent_bytes l.layout) (take l.index (filled blank 15 l.map.accents)));
+  pushed : (start : Option (List ℕ)) (text : List ℕ) → Gathers start (g.W.Write.contents l.fn.writer) l.fn.stream text
+      → Gathers start (g.W.Write.contents l.writer) l.stream
+      (text ++ flat_map (accent_bytes l.layout) (take l.index (filled blank 15 l.map.accents)));
   known : (i : ℕ) → i < l.index → i < length l.map.accents → IsAccent (slice_index_or l.map.accents i blank);
   count : size_of l.stream ≡ size_of l.fn.stream + accent_size l.layout * l.index;
   sound : g.W.Write.has_failed l.writer ≡ g.W.Write.has_failed l.fn.writer;

@@ -12,7 +12,9 @@ use Rattle.keymap_tables.proofs.write.push_slots.Given as goal
 -- The slots so far were pushed.
 abbrev pub invariant-loop-slot : goal.invariant-loop-slot
 invariant-loop-slot g l = record {
-  pushed : (start : Option (List ℕ)) (text : List ℕ) → Gathers start (g.W.Write.contents l.fn.writer) l.fn.stream text → Gathers start (g.W.Write.contents l.writer) l.stream (text ++ flat_map (slot_bytes l.layout) (take l.slot (filled undefined 256 l.map.entries)));
+  pushed : (start : Option (List ℕ)) (text : List ℕ) → Gathers start (g.W.Write.contents l.fn.writer) l.fn.stream text
+      → Gathers start (g.W.Write.contents l.writer) l.stream
+      (text ++ flat_map (slot_bytes l.layout) (take l.slot (filled undefined 256 l.map.entries)));
   known : (i : ℕ) → i < l.slot → i < length l.map.entries → IsEntry (slice_index_or l.map.entries i undefined);
   count : size_of l.stream ≡ size_of l.fn.stream + slot_size l.layout * l.slot;
   sound : g.W.Write.has_failed l.writer ≡ g.W.Write.has_failed l.fn.writer;

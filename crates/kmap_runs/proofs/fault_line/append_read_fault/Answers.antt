@@ -6,4 +6,5 @@ returns-in-Device-clause-text c =
     rw (c.append_number.ensures.text, c.append-in-Device.ensures, c.append.ensures, c.in-Device.is) (simp append_assoc)
 
 pub returns-in-Endless-clause-text : goal.returns-in-Endless-clause-text
-returns-in-Endless-clause-text c = rw (c.append-in-Endless.ensures, c.append.ensures, c.in-Endless.is) (simp append_assoc)
+returns-in-Endless-clause-text c =
+    rw (c.append-in-Endless.ensures, c.append.ensures, c.in-Endless.is) (simp append_assoc)

@@ -7,7 +7,8 @@ use Rattle.play_core.proofs.effect.effect_in.Goals as goal
 
 pub returns-then-is_any_on-clause-character : goal.returns-then-is_any_on-clause-character
 returns-then-is_any_on-clause-character g c = λ m trial s.
-    let at = subst (λ h. g.T.Translator.stands c.deliver-typed.new.console (alone m) h) (append-nil (reverse c.args.way.now))
+    let at =
+    subst (λ h. g.T.Translator.stands c.deliver-typed.new.console (alone m) h) (append-nil (reverse c.args.way.now))
     (c.deliver-typed.ensures.next (alone m) [] s) in
     (no-effect-on m c.args.way.now _ c.is_any_on.result trial
     (g.met.T.Translator.on_where_it_stands c.deliver-typed.new.console (alone m) (reverse c.args.way.now) at)
@@ -15,7 +16,8 @@ returns-then-is_any_on-clause-character g c = λ m trial s.
 
 pub returns-then-is_any_on-clause-accent : goal.returns-then-is_any_on-clause-accent
 returns-then-is_any_on-clause-accent g c = λ m trial s.
-    let at = subst (λ h. g.T.Translator.stands c.deliver-typed.new.console (alone m) h) (append-nil (reverse c.args.way.now))
+    let at =
+    subst (λ h. g.T.Translator.stands c.deliver-typed.new.console (alone m) h) (append-nil (reverse c.args.way.now))
     (c.deliver-typed.ensures.next (alone m) [] s) in
     (no-effect-on m c.args.way.now _ c.is_any_on.result trial
     (g.met.T.Translator.on_where_it_stands c.deliver-typed.new.console (alone m) (reverse c.args.way.now) at)
@@ -23,7 +25,8 @@ returns-then-is_any_on-clause-accent g c = λ m trial s.
 
 pub returns-then-is_any_locked-clause-character : goal.returns-then-is_any_locked-clause-character
 returns-then-is_any_locked-clause-character g c = λ m trial s.
-    let at = subst (λ h. g.T.Translator.stands c.deliver-typed.new.console (alone m) h) (append-nil (reverse c.args.way.now))
+    let at =
+    subst (λ h. g.T.Translator.stands c.deliver-typed.new.console (alone m) h) (append-nil (reverse c.args.way.now))
     (c.deliver-typed.ensures.next (alone m) [] s) in
     (no-effect-locked m c.args.way.now _ c.is_any_locked.result trial
     (g.met.T.Translator.locked_where_it_stands c.deliver-typed.new.console (alone m) (reverse c.args.way.now) at)
@@ -31,7 +34,8 @@ returns-then-is_any_locked-clause-character g c = λ m trial s.
 
 pub returns-then-is_any_locked-clause-accent : goal.returns-then-is_any_locked-clause-accent
 returns-then-is_any_locked-clause-accent g c = λ m trial s.
-    let at = subst (λ h. g.T.Translator.stands c.deliver-typed.new.console (alone m) h) (append-nil (reverse c.args.way.now))
+    let at =
+    subst (λ h. g.T.Translator.stands c.deliver-typed.new.console (alone m) h) (append-nil (reverse c.args.way.now))
     (c.deliver-typed.ensures.next (alone m) [] s) in
     (no-effect-locked m c.args.way.now _ c.is_any_locked.result trial
     (g.met.T.Translator.locked_where_it_stands c.deliver-typed.new.console (alone m) (reverse c.args.way.now) at)
@@ -39,24 +43,32 @@ returns-then-is_any_locked-clause-accent g c = λ m trial s.
 
 pub returns-clause-character : goal.returns-clause-character
 returns-clause-character g c = λ m trial s.
-    let at = subst (λ h. g.T.Translator.stands c.deliver-typed.new.console (alone m) h) (append-nil (reverse c.args.way.now))
+    let at =
+    subst (λ h. g.T.Translator.stands c.deliver-typed.new.console (alone m) h) (append-nil (reverse c.args.way.now))
     (c.deliver-typed.ensures.next (alone m) [] s) in
     let seen = nothing-seen m c.args.way.now _ _ c.is_any_on.result c.is_any_locked.result
     (g.met.T.Translator.on_where_it_stands c.deliver-typed.new.console (alone m) (reverse c.args.way.now) at)
     (g.met.T.Translator.locked_where_it_stands c.deliver-typed.new.console (alone m) (reverse c.args.way.now) at)
     c.is_any_on.ensures c.is_any_locked.ensures c.if-is_any_on.false c.if-is_any_locked.false in
     rw c.effect_by.ensures
-    (effect-is m c.args.way.now c.deliver-typed.result c.pending.result trial seen (c.deliver-typed.ensures.typed (alone m) [] s)
-    (c.pending.ensures ∙ g.met.T.Translator.pending_where_it_stands c.deliver-typed.new.console (alone m) (reverse c.args.way.now) at)).0
+    (effect-is m c.args.way.now c.deliver-typed.result c.pending.result trial seen
+    (c.deliver-typed.ensures.typed (alone m) [] s)
+    (c.pending.ensures
+    ∙ g.met.T.Translator.pending_where_it_stands c.deliver-typed.new.console (alone m) (reverse c.args.way.now)
+    at)).0
 
 pub returns-clause-accent : goal.returns-clause-accent
 returns-clause-accent g c = λ m trial s.
-    let at = subst (λ h. g.T.Translator.stands c.deliver-typed.new.console (alone m) h) (append-nil (reverse c.args.way.now))
+    let at =
+    subst (λ h. g.T.Translator.stands c.deliver-typed.new.console (alone m) h) (append-nil (reverse c.args.way.now))
     (c.deliver-typed.ensures.next (alone m) [] s) in
     let seen = nothing-seen m c.args.way.now _ _ c.is_any_on.result c.is_any_locked.result
     (g.met.T.Translator.on_where_it_stands c.deliver-typed.new.console (alone m) (reverse c.args.way.now) at)
     (g.met.T.Translator.locked_where_it_stands c.deliver-typed.new.console (alone m) (reverse c.args.way.now) at)
     c.is_any_on.ensures c.is_any_locked.ensures c.if-is_any_on.false c.if-is_any_locked.false in
     rw c.effect_by.ensures
-    (effect-is m c.args.way.now c.deliver-typed.result c.pending.result trial seen (c.deliver-typed.ensures.typed (alone m) [] s)
-    (c.pending.ensures ∙ g.met.T.Translator.pending_where_it_stands c.deliver-typed.new.console (alone m) (reverse c.args.way.now) at)).1
+    (effect-is m c.args.way.now c.deliver-typed.result c.pending.result trial seen
+    (c.deliver-typed.ensures.typed (alone m) [] s)
+    (c.pending.ensures
+    ∙ g.met.T.Translator.pending_where_it_stands c.deliver-typed.new.console (alone m) (reverse c.args.way.now)
+    at)).1

@@ -15,7 +15,8 @@ unfolding bit_key
 returns-then-is_bit_key c =
     let lt : c.loop-key.key < 128 = omega (arith, c.loop-key-test.true) in
     rw c.key_with.ensures
-    (sym (first_below-found (is_bit_key c.args.map.now c.args.bit c.args.pressed) c.loop-key.key 128 lt c.loop-key.invariant
+    (sym (first_below-found (is_bit_key c.args.map.now c.args.bit c.args.pressed) c.loop-key.key 128 lt
+    c.loop-key.invariant
     (sym c.is_bit_key.ensures ∙ c.if-is_bit_key.true)))
 
 pub returns : goal.returns

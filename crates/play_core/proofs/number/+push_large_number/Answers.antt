@@ -21,5 +21,7 @@ returns t c = elim c.if-number-gt9.branch [
   | then-number-gt9 w ↦
       one_more_digit c.args.text.now.items c.if-number-gt9.text.items _ c.args.number (omega arith) (omega arith)
       (rw w.text-is w.push_large_number.ensures) c.push.ensures.items
-  | else-number-gt9 w ↦ last_digit c.args.text.now.items c.if-number-gt9.text.items _ c.args.number (omega arith) (rw w.text-is refl) c.push.ensures.items
+  | else-number-gt9 w ↦
+      last_digit c.args.text.now.items c.if-number-gt9.text.items _ c.args.number (omega arith) (rw w.text-is refl)
+      c.push.ensures.items
 ]

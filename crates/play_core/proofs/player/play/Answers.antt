@@ -8,10 +8,12 @@ returns-in-Err-clause-plays g c =
     rw c.text_error.ensures (inl (text_refused _ _ c.in-Err.error c.in-Err.ensures.reads, Keeps-refl _, Keeps-refl _))
 
 pub returns-in-Err-clause-text_failed : goal.returns-in-Err-clause-text_failed
-returns-in-Err-clause-text_failed g c = let names = text_names c.in-Err.error in rw (c.text_error.ensures, names.0) c.in-Err.ensures.failed
+returns-in-Err-clause-text_failed g c =
+    let names = text_names c.in-Err.error in rw (c.text_error.ensures, names.0) c.in-Err.ensures.failed
 
 pub returns-in-Err-clause-script_failed : goal.returns-in-Err-clause-script_failed
-returns-in-Err-clause-script_failed g c = let names = text_names c.in-Err.error in rw (c.text_error.ensures, names.2) refl
+returns-in-Err-clause-script_failed g c =
+    let names = text_names c.in-Err.error in rw (c.text_error.ensures, names.2) refl
 
 pub returns-in-Err-clause-out_failed : goal.returns-in-Err-clause-out_failed
 returns-in-Err-clause-out_failed g c = let names = text_names c.in-Err.error in rw (c.text_error.ensures, names.3) refl

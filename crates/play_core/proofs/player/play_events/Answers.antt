@@ -22,7 +22,9 @@ loop-one-preserved g c =
       stands = λ ms h s.
           let before = delivered (take i sent) in
           let more = delivered-more sent i c.one-item.result c.loop-one-test.true c.one-item.is in
-          let same = ap (λ (d : List Event). reverse d ++ h) more ∙ history-more before (delivered (c.one-item.result ∷ [])) h in
+          let same =
+          ap (λ (d : List Event). reverse d ++ h) more
+          ∙ history-more before (delivered (c.one-item.result ∷ [])) h in
           subst (λ (l : List Event). g.T.Translator.stands c.play_sent.new.console ms l) (sym same)
           (c.play_sent.ensures.next ms (reverse before ++ h) (c.loop-one.invariant.stands ms h s));
       gathers = λ ms h s.
@@ -39,4 +41,5 @@ returns-in_err-written-clause-bytes g c = λ ms h s.
     let sent = c.args.sent.now in
     let i = c.loop-one.one-index in
     passed_on _ _ _ _ c.from_residual.ensures.1
-    (StopsIn-more _ _ _ _ _ _ (sym (text-rest c.args.show ms h sent i)) (c.in_err-written.ensures.bytes _ _ (c.loop-one.invariant.gathers ms h s)))
+    (StopsIn-more _ _ _ _ _ _ (sym (text-rest c.args.show ms h sent i))
+    (c.in_err-written.ensures.bytes _ _ (c.loop-one.invariant.gathers ms h s)))

@@ -22,10 +22,14 @@ returns-in_err-sent-clause-out_failed g c =
 
 pub returns-in-Ok-clause-plays : goal.returns-in-Ok-clause-plays
 returns-in-Ok-clause-plays g c =
-    let bytes = rw c.as_slice.ensures.value at (c.in-Ok.ensures.bytes (between c.args.first.now c.args.second.now) [] c.between-console.ensures) in
+    let bytes =
+    rw c.as_slice.ensures.value
+    at (c.in-Ok.ensures.bytes (between c.args.first.now c.args.second.now) [] c.between-console.ensures) in
     (c.in_ok-sent.sent.items, c.in_ok-sent.ensures.reads, bytes)
 
 pub returns-clause-plays : goal.returns-clause-plays
 returns-clause-plays g c =
-    let bytes = rw c.as_slice.ensures.value at (c.in-Err.ensures.bytes (between c.args.first.now c.args.second.now) [] c.between-console.ensures) in
+    let bytes =
+    rw c.as_slice.ensures.value
+    at (c.in-Err.ensures.bytes (between c.args.first.now c.args.second.now) [] c.between-console.ensures) in
     (c.in_ok-sent.sent.items, c.in_ok-sent.ensures.reads, bytes.0, bytes.1)

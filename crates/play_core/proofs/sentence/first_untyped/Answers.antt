@@ -29,7 +29,9 @@ loop-c-preserved c = record {
       ap (λ n. n + c.len_utf8.result) c.loop-c.invariant.at
       ∙ ap (λ n. length (encode_utf8_all (take c.loop-c.c-index c.args.characters.now)) + n) c.len_utf8.ensures.value
       ∙ one-further c.args.characters.now c.loop-c.c-index c.c-item.result c.loop-c-test.true c.c-item.is;
-  have = All-more (λ x. IsSome (way_for c.args.ways.now x)) c.args.characters.now c.loop-c.c-index c.c-item.result c.loop-c-test.true
+  have =
+      All-more (λ x. IsSome (way_for c.args.ways.now x)) c.args.characters.now c.loop-c.c-index c.c-item.result
+      c.loop-c-test.true
       c.loop-c.invariant.have
       (subst (λ x. IsSome (way_for c.args.ways.now x)) c.c-item.is (sym c.has_way.ensures ∙ c.if-not-has_way.false));
 }

@@ -10,9 +10,11 @@ new-requires-clause-tells g c =
     tail_by_number on locked c.args.number _ c.requires.number
     (tail_behind c.args.text.now.items _ (tail_of on locked) c.len-before.result c.len-before.ensures
     (c.as_slice.ensures.value
-    ∙ tail_spelled on locked _ _ _ _ _ _ c.add.ensures.items c.push_mods.ensures.text c.add-2.ensures.items c.push_locked.ensures.text c.add-3.ensures.items))
+    ∙ tail_spelled on locked _ _ _ _ _ _ c.add.ensures.items c.push_mods.ensures.text c.add-2.ensures.items
+    c.push_locked.ensures.text c.add-3.ensures.items))
 
 pub returns-clause-text : goal.returns-clause-text
 returns-clause-text g c =
-    tail_spelled (g.T.Translator.shows_on c.args.console.now) (g.T.Translator.shows_locked c.args.console.now) _ _ _ _ _ _
+    tail_spelled (g.T.Translator.shows_on c.args.console.now) (g.T.Translator.shows_locked c.args.console.now) _ _ _ _ _
+    _
     c.add.ensures.items c.push_mods.ensures.text c.add-2.ensures.items c.push_locked.ensures.text c.add-3.ensures.items

@@ -17,7 +17,10 @@ loop-answer-preserved g c =
     let i = c.loop-answer.answer-index in
     let more = typed-more answers i c.answer-item.result c.loop-answer-test.true c.answer-item.is in
     record {
-      gathers = Gathers-same _ (sym more) (Gathers-more _ _ (c.in_ok-written.ensures.bytes _ _ c.loop-answer.invariant.gathers) refl c.push_typed.ensures.text);
+      gathers =
+          Gathers-same _ (sym more)
+          (Gathers-more _ _ (c.in_ok-written.ensures.bytes _ _ c.loop-answer.invariant.gathers) refl
+          c.push_typed.ensures.text);
       few = omega (arith, c.in_ok-written.ensures.count, c.push_typed.ensures.size, c.loop-answer.invariant.few);
       failed = c.in_ok-written.ensures.failed ∙ c.loop-answer.invariant.failed;
     }
@@ -27,4 +30,5 @@ returns-in_err-written-clause-bytes g c =
     let answers = c.args.answers.now in
     let i = c.loop-answer.answer-index in
     passed_on _ _ _ _ c.from_residual.ensures.1
-    (StopsIn-more _ _ _ (typed_text (drop i answers)) _ _ (sym (typed-rest answers i)) (c.in_err-written.ensures.bytes _ _ c.loop-answer.invariant.gathers))
+    (StopsIn-more _ _ _ (typed_text (drop i answers)) _ _ (sym (typed-rest answers i))
+    (c.in_err-written.ensures.bytes _ _ c.loop-answer.invariant.gathers))

@@ -20,5 +20,7 @@ pub returns : goal.returns
 unfolding accented
 returns c =
     let e : c.loop-index.index ≡ 15 = omega (arith, c.loop-index-test.false, c.loop-index.auto.index-end) in
-    subst (λ n. IsTableOf (character_of c.args.map.now) (gathered (accented_by c.args.map.now) n) c.loop-index.table.entries) e
+    subst (λ n.
+    IsTableOf (character_of c.args.map.now) (gathered (accented_by c.args.map.now) n) c.loop-index.table.entries)
+    e
     c.loop-index.invariant

@@ -14,4 +14,5 @@ returns-in_ok-insert c = λ f ways is table.
 
 pub returns-else-not-contains_key : goal.returns-else-not-contains_key
 returns-else-not-contains_key c = λ f ways is table.
-    table-old-there f ways c.args.way.items c.args.table.now.entries table c.args.number is (sym c.if-not-contains_key.ensures)
+    table-old-there f ways c.args.way.items c.args.table.now.entries table c.args.number is
+    (sym c.if-not-contains_key.ensures)

@@ -11,4 +11,5 @@ returns-in_ok-note c = λ f ways is t.
 
 pub returns-in_default : goal.returns-in_default
 returns-in_default c = λ f ways is t.
-    table-none f ways c.args.way.now.items c.args.table.now.entries t (is ∙ number-none c.args.number c.in_default.not-Some)
+    table-none f ways c.args.way.now.items c.args.table.now.entries t
+    (is ∙ number-none c.args.number c.in_default.not-Some)

@@ -8,5 +8,7 @@ use Rattle.play_core.proofs.ways.try_accent.Given as goal
 abbrev pub invariant-loop-pair : goal.invariant-loop-pair
 invariant-loop-pair l =
     (ways : List (List Event)) → IsTableOf (character_of l.map) ways l.fn.accented.entries
-    → IsTableOf (character_of l.map) (ways ++ flat_map (λ p. joined (dead_way l.map l.index) (direct_way l.map p.0)) (take l.pair-index l.pair-items))
+    → IsTableOf (character_of l.map)
+    (ways
+    ++ flat_map (λ p. joined (dead_way l.map l.index) (direct_way l.map p.0)) (take l.pair-index l.pair-items))
     l.accented.entries

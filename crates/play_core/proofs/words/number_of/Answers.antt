@@ -19,5 +19,7 @@ loop-digit-preserved c =
     let word = c.args.word.now in
     let i = c.loop-digit.digit-index in
     let value = digit_value_digit _ c.if-not-is_ascii_digit.ensures.cases in
-    let more = digits_value_more 10 word i c.loop-digit-test.true in
-    (digits_more 10 word i c.loop-digit-test.true c.loop-digit.invariant.0 c.if-not-is_ascii_digit.ensures.bound, omega arith)
+    let more = digits_value_more 10 word i c.loop-digit-test.true in (
+      digits_more 10 word i c.loop-digit-test.true c.loop-digit.invariant.0 c.if-not-is_ascii_digit.ensures.bound,
+      omega arith,
+    )

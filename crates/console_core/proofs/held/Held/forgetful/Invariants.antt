@@ -7,4 +7,6 @@ use Rattle.console_core.specs.Inner.Searching.{state_of}
 use Rattle.console_core.proofs.held.Held.forgetful.Given as goal
 
 abbrev pub invariant-loop-modifier : goal.invariant-loop-modifier
-invariant-loop-modifier l = (n : ℕ) → n < l.modifier-index → (i : Modifier) → modifier_index i ≡ n → (k : ℕ) → Forgets l.map (state_of l.self) i k → ⊥
+invariant-loop-modifier l =
+    (n : ℕ) → n < l.modifier-index → (i : Modifier) → modifier_index i ≡ n → (k : ℕ)
+    → Forgets l.map (state_of l.self) i k → ⊥

@@ -7,4 +7,5 @@ use Rattle.console_core.specs.Inner.Searching.{state_of}
 use Rattle.console_core.proofs.held.Held.holds.Given as goal
 
 abbrev pub invariant-loop-modifier : goal.invariant-loop-modifier
-invariant-loop-modifier l = (n : ℕ) → n < l.modifier-index → (i : Modifier) → modifier_index i ≡ n → Holds (state_of l.self) l.key i → ⊥
+invariant-loop-modifier l =
+    (n : ℕ) → n < l.modifier-index → (i : Modifier) → modifier_index i ≡ n → Holds (state_of l.self) l.key i → ⊥

@@ -16,10 +16,14 @@ loop-modifier-preserved c =
     let old = releases s (take n modifiers) in
     elim c.match-holder.branch [
       | in-Some+in_ok-push w ↦
-          ap (λ v. v.items) w.events-is ∙ w.in_ok-push.ensures.items ∙ ap (λ z. z ++ Release w.in-Some.key ∷ []) c.loop-modifier.invariant
+          ap (λ v. v.items) w.events-is ∙ w.in_ok-push.ensures.items
+          ∙ ap (λ z. z ++ Release w.in-Some.key ∷ []) c.loop-modifier.invariant
           ∙ append_assoc c.args.events.now.items old (Release w.in-Some.key ∷ [])
-          ∙ ap (λ z. c.args.events.now.items ++ z) (sym (releases-more s n _ lt ∙ ap (λ o. old ++ release_of o) (sym c.holder.ensures ∙ w.in-Some.is)))
+          ∙ ap (λ z. c.args.events.now.items ++ z)
+          (sym (releases-more s n _ lt ∙ ap (λ o. old ++ release_of o) (sym c.holder.ensures ∙ w.in-Some.is)))
       | in_default w ↦
           ap (λ v. v.items) w.events-is ∙ c.loop-modifier.invariant
-          ∙ ap (λ z. c.args.events.now.items ++ z) (sym (releases-more s n _ lt ∙ ap (λ o. old ++ release_of o) (sym c.holder.ensures ∙ w.in_default.is) ∙ append-nil old))
+          ∙ ap (λ z. c.args.events.now.items ++ z)
+          (sym (releases-more s n _ lt ∙ ap (λ o. old ++ release_of o) (sym c.holder.ensures ∙ w.in_default.is)
+          ∙ append-nil old))
     ]

@@ -6,4 +6,5 @@ use Rattle.console_core.specs.Inner.Searching.{state_of}
 use Rattle.console_core.proofs.held.Held.push_releases.Given as goal
 
 abbrev pub invariant-loop-modifier : goal.invariant-loop-modifier
-invariant-loop-modifier l = l.events.items ≡ l.fn.events.items ++ releases (state_of l.self) (take l.modifier-index modifiers)
+invariant-loop-modifier l =
+    l.events.items ≡ l.fn.events.items ++ releases (state_of l.self) (take l.modifier-index modifiers)

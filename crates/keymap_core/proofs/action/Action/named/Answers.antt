@@ -4,12 +4,14 @@ use Rattle.keymap_core.proofs.Meanings.{meaning-screen, meaning-function, meanin
 use Rattle.keymap_core.proofs.action.Action.named.Goals as goal
 
 pub returns-in-Some : goal.returns-in-Some
-returns-in-Some c = c.screen.ensures ∙ meaning-screen (map to_ascii_lowercase c.args.word.now) c.in-Some.number c.in-Some.ensures
+returns-in-Some c =
+    c.screen.ensures ∙ meaning-screen (map to_ascii_lowercase c.args.word.now) c.in-Some.number c.in-Some.ensures
 
 pub returns-in-Some-number_of : goal.returns-in-Some-number_of
 returns-in-Some-number_of c =
     c.function.ensures
-    ∙ meaning-function (map to_ascii_lowercase c.args.word.now) c.in-Some-number_of.number c.in_default.ensures c.in-Some-number_of.ensures
+    ∙ meaning-function (map to_ascii_lowercase c.args.word.now) c.in-Some-number_of.number c.in_default.ensures
+    c.in-Some-number_of.ensures
 
 pub returns-in-Some-action_named : goal.returns-in-Some-action_named
 returns-in-Some-action_named c =

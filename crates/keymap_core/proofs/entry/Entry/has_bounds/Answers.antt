@@ -7,14 +7,18 @@ use Rattle.keymap_core.proofs.entry.Entry.has_bounds.Goals as goal
 
 pub loop-cell-preserved : goal.loop-cell-preserved
 loop-cell-preserved c =
-    All-more IsCell c.cells-cell-items.result.now c.loop-cell.cell-index c.cell-item.result c.loop-cell-test.true c.loop-cell.invariant
+    All-more IsCell c.cells-cell-items.result.now c.loop-cell.cell-index c.cell-item.result c.loop-cell-test.true
+    c.loop-cell.invariant
     (subst IsCell c.cell-item.is c.has_bounds.ensures)
 
 pub returns : goal.returns
 returns c =
     let cells = c.cells-cell-items.result.now in
-    let all : All IsCell cells = subst (λ (xs : List Cell). All IsCell xs) (take_all c.loop-cell.cell-index cells (omega arith)) c.loop-cell.invariant in
+    let all : All IsCell cells =
+    subst (λ (xs : List Cell). All IsCell xs) (take_all c.loop-cell.cell-index cells (omega arith))
+    c.loop-cell.invariant in
     record {
-      eight = subst (λ (xs : List Cell). length xs ≡ 8) c.cells-cell-items.ensures.cells c.cells-cell-items.ensures.eight;
+      eight =
+          subst (λ (xs : List Cell). length xs ≡ 8) c.cells-cell-items.ensures.cells c.cells-cell-items.ensures.eight;
       cells = subst (λ (xs : List Cell). All IsCell xs) c.cells-cell-items.ensures.cells all;
     }

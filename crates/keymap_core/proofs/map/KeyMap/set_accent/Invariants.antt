@@ -6,7 +6,8 @@ use Rattle.keymap_core.proofs.map.KeyMap.set_accent.Given as goal
 -- The accents are those at the start, and blank ones after them, up to the index.
 abbrev pub invariant-loop-self : goal.invariant-loop-self
 invariant-loop-self l = record {
-  grown : l.self-inside.accents.items ≡ l.fn.self.accents ++ replicate (vec_len l.self-inside.accents - length l.fn.self.accents) blank;
+  grown : l.self-inside.accents.items
+      ≡ l.fn.self.accents ++ replicate (vec_len l.self-inside.accents - length l.fn.self.accents) blank;
   longer : length l.fn.self.accents ≤ vec_len l.self-inside.accents;
   short : vec_len l.self-inside.accents - length l.fn.self.accents ≤ l.index + 1 - length l.fn.self.accents;
   few : vec_len l.self-inside.accents ≤ 15;

@@ -11,7 +11,8 @@ use Rattle.keymap_tables.proofs.Places.{accent-part}
 use Rattle.keymap_tables.proofs.tables.Tables.accent.Goals as goal
 use Rattle.keymap_tables.proofs.tables.Tables.accent.Goals.{else-index-lt-ACCENT_LIMIT-via-then-index-lt-ACCENT_LIMIT+else-index-n_accs, else-index-lt-ACCENT_LIMIT-via-else-index-lt-ACCENT_LIMIT}
 
-counted : (bytes : List ℕ) (n : ℕ) → n ≡ count_at (part bytes 9220 4) 0 → (m : MapValue) → IsMap m → bytes ≡ image m → n ≡ length m.accents
+counted : (bytes : List ℕ) (n : ℕ) → n ≡ count_at (part bytes 9220 4) 0 → (m : MapValue) → IsMap m → bytes ≡ image m
+    → n ≡ length m.accents
 counted bytes n read m is same =
     read ∙ count-part bytes 9220 4 (omega arith) ∙ ap (λ (v : List ℕ). count_at v 9220) same ∙ sym (n_accs-of wide m is)
 
@@ -27,7 +28,8 @@ pub returns-then-index-n_accs-clause-bytes : goal.returns-then-index-n_accs-clau
 returns-then-index-n_accs-clause-bytes c =
     λ m is same. let n = counted c.args.self.now.bytes.now _ c.read_half-n_accs.ensures m is same in
     let at = 9224 + 420 * c.args.index in
-    cut c.args.self.now.bytes.now at 420 ∙ ap (λ (v : List ℕ). part v at 420) same ∙ accent-part wide m is c.args.index (omega (arith, n, is.few_accents, c.if-index-n_accs.true))
+    cut c.args.self.now.bytes.now at 420 ∙ ap (λ (v : List ℕ). part v at 420) same
+    ∙ accent-part wide m is c.args.index (omega (arith, n, is.few_accents, c.if-index-n_accs.true))
 
 pub returns-else-index-lt-ACCENT_LIMIT-clause-defined : goal.returns-else-index-lt-ACCENT_LIMIT-clause-defined
 returns-else-index-lt-ACCENT_LIMIT-clause-defined c =

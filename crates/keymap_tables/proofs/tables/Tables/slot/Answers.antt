@@ -7,4 +7,5 @@ use Rattle.keymap_tables.proofs.tables.Tables.slot.Goals as goal
 pub returns-clause-bytes : goal.returns-clause-bytes
 returns-clause-bytes c =
     λ m is same. let at = 4 + 36 * c.args.slot in
-    cut c.args.self.now.bytes.now at 36 ∙ ap (λ (v : List ℕ). part v at 36) same ∙ slot-part wide m is c.args.slot (omega (arith, c.ranges.slot.fits))
+    cut c.args.self.now.bytes.now at 36 ∙ ap (λ (v : List ℕ). part v at 36) same
+    ∙ slot-part wide m is c.args.slot (omega (arith, c.ranges.slot.fits))

@@ -19,5 +19,7 @@ pub returns : goal.returns
 unfolding combinations
 returns c =
     let e : c.loop-set.set ≡ 16 = omega (arith, c.loop-set-test.false, c.loop-set.auto.set-end) in
-    subst (λ n. AreTablesOf c.args.map.now (gathered (combinations_with c.args.map.now) n) c.loop-set.found.characters.entries c.loop-set.found.accents.entries) e
+    subst (λ n. AreTablesOf c.args.map.now (gathered (combinations_with c.args.map.now) n)
+    c.loop-set.found.characters.entries c.loop-set.found.accents.entries)
+    e
     c.loop-set.invariant

@@ -3,4 +3,5 @@ use Rattle.play_core.specs.Inner.Tables.{AreTablesOf}
 use Rattle.play_core.proofs.ways.Found.of.Given as goal
 
 abbrev pub invariant-loop-set : goal.invariant-loop-set
-invariant-loop-set l = AreTablesOf l.map (gathered (combinations_with l.map) l.set) l.found.characters.entries l.found.accents.entries
+invariant-loop-set l =
+    AreTablesOf l.map (gathered (combinations_with l.map) l.set) l.found.characters.entries l.found.accents.entries

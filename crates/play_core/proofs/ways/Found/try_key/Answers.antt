@@ -14,12 +14,16 @@ pub returns-in_ok-note_if-2 : goal.returns-in_ok-note_if-2
 returns-in_ok-note_if-2 c = λ ways t.
     tables-more c.args.map.now ways (combinations_of c.args.map.now c.args.set c.args.key) c.in-Some.way.items _ _ _ _
     (λ f ws e x. c.in_ok-note_if.ensures f ws
-    (e ∙ ap (character_of c.args.map.now) (sym c.as_slice.ensures.value) ∙ c.effect_of-effect.ensures.character ∙ sym c.character.ensures) x)
+    (e ∙ ap (character_of c.args.map.now) (sym c.as_slice.ensures.value) ∙ c.effect_of-effect.ensures.character
+    ∙ sym c.character.ensures) x)
     (λ f ws e x. c.in_ok-note_if-2.ensures f ws
-    (e ∙ ap (accent_of c.args.map.now) (sym c.as_slice.ensures.value) ∙ c.effect_of-effect.ensures.accent ∙ sym c.accent.ensures) x)
-    (ap (λ keys. combination_with keys c.args.set c.args.key) (sym (c.at.ensures c.args.map.now c.requires.keys)) ∙ c.in-Some.ensures) t
+    (e ∙ ap (accent_of c.args.map.now) (sym c.as_slice.ensures.value) ∙ c.effect_of-effect.ensures.accent
+    ∙ sym c.accent.ensures) x)
+    (ap (λ keys. combination_with keys c.args.set c.args.key) (sym (c.at.ensures c.args.map.now c.requires.keys))
+    ∙ c.in-Some.ensures) t
 
 pub returns-in_default : goal.returns-in_default
 returns-in_default c = λ ways t.
     tables-none c.args.map.now ways (combinations_of c.args.map.now c.args.set c.args.key) _ _
-    (ap (λ keys. combination_with keys c.args.set c.args.key) (sym (c.at.ensures c.args.map.now c.requires.keys)) ∙ c.in_default.ensures) t
+    (ap (λ keys. combination_with keys c.args.set c.args.key) (sym (c.at.ensures c.args.map.now c.requires.keys))
+    ∙ c.in_default.ensures) t

@@ -10,10 +10,13 @@ loop-key-init c = λ ways t. rw (gathered-none (combinations_of c.args.map.now c
 pub loop-key-preserved : goal.loop-key-preserved
 loop-key-preserved c = λ ways t.
     rw (gathered-more (combinations_of c.args.map.now c.args.set) c.loop-key.key, ← append_assoc)
-    (c.in_ok-try_key.ensures (ways ++ gathered (combinations_of c.args.map.now c.args.set) c.loop-key.key) (c.loop-key.invariant ways t))
+    (c.in_ok-try_key.ensures (ways ++ gathered (combinations_of c.args.map.now c.args.set) c.loop-key.key)
+    (c.loop-key.invariant ways t))
 
 pub returns : goal.returns
 returns c = λ ways t.
     let e : c.loop-key.key ≡ 128 = omega (arith, c.loop-key-test.false, c.loop-key.auto.key-end) in
-    subst (λ n. AreTablesOf c.args.map.now (ways ++ gathered (combinations_of c.args.map.now c.args.set) n) c.loop-key.self.characters.entries c.loop-key.self.accents.entries) e
+    subst (λ n. AreTablesOf c.args.map.now (ways ++ gathered (combinations_of c.args.map.now c.args.set) n)
+    c.loop-key.self.characters.entries c.loop-key.self.accents.entries)
+    e
     (c.loop-key.invariant ways t)

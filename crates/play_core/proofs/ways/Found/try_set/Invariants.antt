@@ -7,4 +7,5 @@ use Rattle.play_core.proofs.ways.Found.try_set.Given as goal
 abbrev pub invariant-loop-key : goal.invariant-loop-key
 invariant-loop-key l =
     (ways : List (List Event)) → AreTablesOf l.map ways l.fn.self.characters.entries l.fn.self.accents.entries
-    → AreTablesOf l.map (ways ++ gathered (combinations_of l.map l.set) l.key) l.self.characters.entries l.self.accents.entries
+    → AreTablesOf l.map (ways ++ gathered (combinations_of l.map l.set) l.key) l.self.characters.entries
+    l.self.accents.entries

@@ -13,12 +13,16 @@ returns-in-Some c =
 pub returns-in-Some-get : goal.returns-in-Some-get
 returns-in-Some-get c =
     ap (λ w. Some w) c.as_slice-in-Some-get.ensures.value
-    ∙ sym (way-second c.self.inside.map.now c.from-number.result c.args.c c.self.inside.direct.entries c.self.inside.composed.entries
-    (Some c.in-Some-get.way.now) c.self.invariant.0 c.self.invariant.1 c.in-None.ensures.value c.in-Some-get.ensures.value c.from-number.ensures)
+    ∙ sym (way-second c.self.inside.map.now c.from-number.result c.args.c c.self.inside.direct.entries
+    c.self.inside.composed.entries
+    (Some c.in-Some-get.way.now) c.self.invariant.0 c.self.invariant.1 c.in-None.ensures.value
+    c.in-Some-get.ensures.value c.from-number.ensures)
     ∙ ap (λ m. way_for m c.args.c) c.self.view_is
 
 pub returns-in-None-get : goal.returns-in-None-get
 returns-in-None-get c =
-    sym (way-second c.self.inside.map.now c.from-number.result c.args.c c.self.inside.direct.entries c.self.inside.composed.entries
-    None c.self.invariant.0 c.self.invariant.1 c.in-None.ensures.value c.in-None-get.ensures.value c.from-number.ensures)
+    sym (way-second c.self.inside.map.now c.from-number.result c.args.c c.self.inside.direct.entries
+    c.self.inside.composed.entries
+    None c.self.invariant.0 c.self.invariant.1 c.in-None.ensures.value c.in-None-get.ensures.value
+    c.from-number.ensures)
     ∙ ap (λ m. way_for m c.args.c) c.self.view_is

@@ -13,7 +13,7 @@ use Rattle.keymap_core.specs.Borne.{is_borne}
 use Rattle.console_core.specs.Columns.{look_with}
 use Rattle.console_core.specs.Resolved.{answer_resolved, ResolvedEvent, locked, remembered, taken_over}
 use Rattle.console_core.specs.Resolved.{look, on, resolve_press}
-use Rattle.console_core.specs.History.{Maps, in_force, loaded, is_second_in_force, is_load, resolved_event, AnswerTo}
+use Rattle.console_core.specs.History.{Maps, in_force, loaded, is_second_in_force, is_load, resolved_event, answer_to}
 use Rattle.console_core.specs.History.{resolved}
 use Rattle.console_core.specs.Agrees.{Agrees, StandsAt}
 use Rattle.console_core.specs.Answers.{answer_char, answer_action, answer_release}
@@ -144,7 +144,7 @@ module _ (ms : Maps) (h : List Event) (m : MapValue) (force : m ≡ in_force ms 
 
   -- the answer to what an event is resolved to is the answer to the event
   pub answer-of : (x : ResolvedEvent) (r : Answer) → resolved_event ms h e ≡ x
-      → r ≡ answer_resolved m x (resolved ms h) → r ≡ AnswerTo ms h e
+      → r ≡ answer_resolved m x (resolved ms h) → r ≡ answer_to ms h e
   answer-of x r is answer =
       answer ∙ ap (λ n. answer_resolved n x (resolved ms h)) force
       ∙ ap (λ y. answer_resolved (in_force ms h) y (resolved ms h)) (sym is)
@@ -158,7 +158,7 @@ module _ (ms : Maps) (h : List Event) (m : MapValue) (force : m ≡ in_force ms 
       ∙ ap (λ b. is_odd (if b then suc (count_where is_load h) else count_where is_load h)) no_load in
       let t : in_force ms (e ∷ h) ≡ m = ap (λ b. if b then ms.second else ms.first) s ∙ sym force in
       record {
-        force = kept ∙ at ∙ sym s;
+        map_in_force = kept ∙ at ∙ sym s;
         agrees = subst (λ y. Agrees y (resolved ms (e ∷ h)) k2) (sym t)
             (subst (λ r. Agrees m r k2) (sym (resolved-more ms h e ∙ ap (λ y. y ∷ resolved ms h) is)) agrees);
       }
@@ -167,7 +167,7 @@ module _ (ms : Maps) (h : List Event) (m : MapValue) (force : m ≡ in_force ms 
 pub stands-load : (ms : Maps) (h : List Event) (e : Event) (m : MapValue) (k : Kept) → e ≡ Load → m ≡ loaded ms h
     → StandsAt ms h k → StandsAt ms (e ∷ h) (after_load m k)
 stands-load ms h e m k is force stands = record {
-  force = ap not stands.force ∙ ap (λ y. is_second_in_force (y ∷ h)) (sym is);
+  map_in_force = ap not stands.map_in_force ∙ ap (λ y. is_second_in_force (y ∷ h)) (sym is);
   agrees =
       subst (λ y. Agrees (in_force ms (y ∷ h)) (resolved ms (y ∷ h)) (after_load m k)) (sym is)
       (subst (λ r. Agrees (loaded ms h) r (after_load m k)) (sym (resolved-more ms h Load))
@@ -178,7 +178,7 @@ stands-load ms h e m k is force stands = record {
 -- where nothing is kept, a console stands at no events
 pub stands-start : (ms : Maps) → StandsAt ms [] nothing_kept
 stands-start ms = record {
-  force = refl;
+  map_in_force = refl;
   agrees = subst (λ r. Agrees ms.first r nothing_kept) (sym (resolved-start ms)) (record {
     marks = λ a. sym (held-start a);
     locks = λ l. sym (locked-start l);

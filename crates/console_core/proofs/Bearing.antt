@@ -11,7 +11,7 @@ use Rattle.keymap_core.specs.declared.entry.Cell.TheVariants.{Char, Act}
 use Rattle.keymap_core.specs.Actions.{same_action, holding_action}
 use Rattle.keymap_core.specs.Maps.{MapValue}
 use Rattle.console_core.specs.Positions.{first_of_two}
-use Rattle.console_core.specs.Resolved.{ResolvedEvent, held, remembered, taken_over, unless_nop, is_action, look}
+use Rattle.console_core.specs.Resolved.{ResolvedEvent, held, remembered, taken_over, unless_nop, is_this_action, look}
 use Rattle.console_core.specs.Resolved.{resolve_press}
 use Rattle.console_core.specs.History.{Maps, in_force, resolved, pressed}
 use Rattle.console_core.specs.Resolved.ResolvedEvent.{PressedCharacter, PressedAction, ReleasedKey, WasReset, WasLoaded}
@@ -138,14 +138,14 @@ held-remembered m a safe (PressedAction j b ∷ r) all h =
           (s.0, remembered-action s.0 j b r ∙ first_kept (remembered s.0 r) _ (holding_action a) s.1)
     ]
 held-remembered m a safe (ReleasedKey j ∷ r) all h =
-    let p : (held a r ≡ true) × (not (is_action (remembered j r) (holding_action a)) ≡ true) =
+    let p : (held a r ≡ true) × (not (is_this_action (remembered j r) (holding_action a)) ≡ true) =
     and_parts _ _ (sym (held-release a j r) ∙ h) in
     let s : RememberedBySome a r = held-remembered m a safe r all.1 p.0 in
     elim (cases_Bool (j == s.0)) [
       | inl e ↦
           let f : remembered j r ≡ Some (holding_action a) = ap (λ x. remembered x r) (eqb-true j s.0 e) ∙ s.1 in
-          absurd (not_false (is_action (remembered j r) (holding_action a)) p.1
-          (ap (λ o. is_action o (holding_action a)) f ∙ same_action-refl (holding_action a)))
+          absurd (not_false (is_this_action (remembered j r) (holding_action a)) p.1
+          (ap (λ o. is_this_action o (holding_action a)) f ∙ same_action-refl (holding_action a)))
       | inr e ↦ (s.0, rw (remembered-release s.0 j r, e) s.1)
     ]
 held-remembered m a safe (WasReset ∷ r) all h = absurd (true≢false (sym h ∙ held-reset a r))
@@ -168,7 +168,7 @@ not_other_by m a k alone r j all ne b false is e = refl
 
 -- a key other than the one that bears a holding action alone remembers another
 not_other : (m : MapValue) (a : Holding) (k : ℕ) → IsAlone m k a → (r : List ResolvedEvent) (j : ℕ) → AllLooked m r
-    → eqb j k ≡ false → (o : Option Action) → remembered j r ≡ o → not (is_action o (holding_action a)) ≡ true
+    → eqb j k ≡ false → (o : Option Action) → remembered j r ≡ o → not (is_this_action o (holding_action a)) ≡ true
 not_other m a k alone r j all ne None is = refl
 not_other m a k alone r j all ne (Some b) is =
     not_other_by m a k alone r j all ne b (same_action b (holding_action a)) is refl

@@ -16,7 +16,7 @@ use Rattle.keymap_core.specs.declared.entry.Cell.TheVariants.{Char, Act}
 use Rattle.keymap_core.specs.Actions.{same_action, holding_action}
 use Rattle.keymap_core.specs.Maps.{MapValue, cell_at}
 use Rattle.console_core.specs.Positions.{first_of_two}
-use Rattle.console_core.specs.Columns.{slot_of, column_of, xor}
+use Rattle.console_core.specs.Columns.{slot_of, column_of, exactly_one}
 use Rattle.console_core.specs.Resolved.{ResolvedEvent, held, locked, remembered, taken_over, unless_nop, look}
 use Rattle.console_core.specs.Resolved.{resolve_press}
 use Rattle.console_core.specs.History.{Maps, in_force, loaded, resolved, HasKey, HasKeys}
@@ -142,7 +142,7 @@ column_of-lt true true true = lit< tt
 
 -- a cell of the looked-up slot is one of the key's, where the upper half is live if it is looked at
 slot_stands : (m : MapValue) (k : ℕ) (p q : Bool) (column : ℕ) → column < 8 → ((p ≡ true) ⊎ (q ≡ true) → IsUpperLive m)
-    → IsCellOf m k (cell_at m (slot_of k (xor p q)) column)
+    → IsCellOf m k (cell_at m (slot_of k (exactly_one p q)) column)
 slot_stands m k false false column lt f = inl (column, lt, refl)
 slot_stands m k true true column lt f = inl (column, lt, refl)
 slot_stands m k true false column lt f = inr (f (inl refl), (column, lt, refl))

@@ -8,33 +8,33 @@ use Rattle.keymap_core.proofs.SameActions.{same_action-true}
 use Rattle.keymap_core.specs.declared.action.Action.{Action}
 use Rattle.keymap_core.specs.declared.action.Action.TheVariants as act
 use Rattle.keymap_core.specs.Actions.{same_action, code_of, action_of}
-use Rattle.console_core.specs.Words.{coded, code_memory}
+use Rattle.console_core.specs.Words.{action_of_byte, code_memory}
 use Rattle.console_core.proofs.Places.{get_or-set_if}
 
 some_some : (a b : Action) → Some a ≡ Some b → a ≡ b
 some_some a b e = cc
 
 -- a code other than 0 is that of its action, by the test for 0
-coded_some : (code : ℕ) (b : Bool) → eqb code 0 ≡ b → code ≢ 0 → coded code ≡ action_of code
-coded_some code true e not_zero = absurd (not_zero (eqb-true code 0 e))
-coded_some code false e not_zero = rw e refl
+action_of_byte_some : (code : ℕ) (b : Bool) → eqb code 0 ≡ b → code ≢ 0 → action_of_byte code ≡ action_of code
+action_of_byte_some code true e not_zero = absurd (not_zero (eqb-true code 0 e))
+action_of_byte_some code false e not_zero = rw e refl
 
 -- a code other than 0 is that of its action
-coded-some : (code : ℕ) → code ≢ 0 → coded code ≡ action_of code
-coded-some code not_zero = coded_some code (eqb code 0) refl not_zero
+action_of_byte-some : (code : ℕ) → code ≢ 0 → action_of_byte code ≡ action_of code
+action_of_byte-some code not_zero = action_of_byte_some code (eqb code 0) refl not_zero
 
 -- the code of an action other than nop gives the action, by the test for 0
-coded_by : (a : Action) (b : Bool) → eqb (code_of a) 0 ≡ b → same_action a act.Nop ≡ false
-    → action_of (code_of a) ≡ Some a → coded (code_of a) ≡ Some a
-coded_by a true e not_nop read =
+action_of_byte_by : (a : Action) (b : Bool) → eqb (code_of a) 0 ≡ b → same_action a act.Nop ≡ false
+    → action_of (code_of a) ≡ Some a → action_of_byte (code_of a) ≡ Some a
+action_of_byte_by a true e not_nop read =
     let s : a ≡ act.Nop = some_some a act.Nop (sym read ∙ ap action_of (eqb-true (code_of a) 0 e)) in
     absurd (true≢false (sym (ap (λ x. same_action x act.Nop) s) ∙ not_nop))
-coded_by a false e not_nop read = rw e read
+action_of_byte_by a false e not_nop read = rw e read
 
 -- the code of an action other than nop gives the action
-pub coded-code : (a : Action) → same_action a act.Nop ≡ false → action_of (code_of a) ≡ Some a
-    → coded (code_of a) ≡ Some a
-coded-code a not_nop read = coded_by a (eqb (code_of a) 0) refl not_nop read
+pub action_of_byte-code : (a : Action) → same_action a act.Nop ≡ false → action_of (code_of a) ≡ Some a
+    → action_of_byte (code_of a) ≡ Some a
+action_of_byte-code a not_nop read = action_of_byte_by a (eqb (code_of a) 0) refl not_nop read
 
 -- the byte of another action
 other_code : (b : Bool) (held expected : Action) → same_action held expected ≡ b → code_of held ≢ code_of expected
@@ -43,11 +43,12 @@ other_code true held expected e ne = absurd (ne (ap code_of (same_action-true he
 other_code false held expected e ne = refl
 
 -- another code is that of another action
-pub coded-other : (code : ℕ) (held expected : Action) → code ≢ 0 → action_of code ≡ Some held → code_of held ≡ code
+pub action_of_byte-other : (code : ℕ) (held expected : Action) → code ≢ 0 → action_of code ≡ Some held
+    → code_of held ≡ code
     → code ≢ code_of expected
-    → Some false ≡ option_map (λ a. same_action a expected) (coded code)
-coded-other code held expected not_zero read same ne =
-    let e : coded code ≡ Some held = coded-some code not_zero ∙ read in
+    → Some false ≡ option_map (λ a. same_action a expected) (action_of_byte code)
+action_of_byte-other code held expected not_zero read same ne =
+    let e : action_of_byte code ≡ Some held = action_of_byte-some code not_zero ∙ read in
     rw e (ap Some (sym (other_code (same_action held expected) held expected refl (λ f. ne (sym same ∙ f)))))
 
 -- a list of one value, read anywhere, with that value in place of what isn't there
@@ -58,17 +59,18 @@ get_or-replicate_default (suc n) (suc i) d = get_or-replicate_default n i d
 
 -- the bytes of all keys
 pub codes-start : (k : ℕ) → code_memory (replicate 128 0) k ≡ None
-codes-start k = ap coded (get_or-replicate_default 128 k 0)
+codes-start k = ap action_of_byte (get_or-replicate_default 128 k 0)
 
 -- a code that is written under a condition
-kept_if : (b : Bool) (code old : ℕ) (a : Option Action) → coded code ≡ a
-    → coded (if b then code else old) ≡ (if b then a else coded old)
+kept_if : (b : Bool) (code old : ℕ) (a : Option Action) → action_of_byte code ≡ a
+    → action_of_byte (if b then code else old) ≡ (if b then a else action_of_byte old)
 kept_if true code old a e = e
 kept_if false code old a e = refl
 
 -- after a code was written, its key has the action, and each other key its own
-pub codes-set : (codes : List ℕ) (i j k code : ℕ) (a : Option Action) → i ≡ j → i < length codes → coded code ≡ a
+pub codes-set : (codes : List ℕ) (i j k code : ℕ) (a : Option Action) → i ≡ j → i < length codes
+    → action_of_byte code ≡ a
     → code_memory (set codes i code) k ≡ (if j == k then a else code_memory codes k)
 codes-set codes i j k code a s lt e =
-    ap coded (get_or-set_if codes i k code 0 lt) ∙ kept_if (eqb i k) code _ a e
+    ap action_of_byte (get_or-set_if codes i k code 0 lt) ∙ kept_if (eqb i k) code _ a e
     ∙ ap (λ x. if x == k then a else code_memory codes k) s

@@ -18,9 +18,9 @@ use Rattle.keymap_core.specs.Maps.{MapValue}
 use Rattle.keymap_core.specs.Bearers.{IsCellOf}
 use Rattle.console_core.specs.declared.event.Event.{Event}
 use Rattle.console_core.specs.declared.event.Event.TheVariants.{Press, Release, Reset, Load}
-use Rattle.console_core.specs.Resolved.{ResolvedEvent, remembered, is_action, look, resolve_press}
-use Rattle.console_core.specs.History.{Maps, in_force, pressed, resolved, On, Locked, HasKey, HasKeys}
-use Rattle.console_core.specs.Reading.{Remembered, Raises, Lowers, NoneOf, SomeSince, taken_of}
+use Rattle.console_core.specs.Resolved.{ResolvedEvent, remembered, is_this_action, look, resolve_press}
+use Rattle.console_core.specs.History.{Maps, in_force, pressed, resolved, is_on_after, is_locked_after, HasKey, HasKeys}
+use Rattle.console_core.specs.Reading.{remembered_after, raises_at, lowers_at, NoneOf, SomeSince, taken_of}
 use Rattle.console_core.specs.Headline.{IsSafe}
 use Rattle.console_core.specs.Facts.{LooksAreCells, DeadUpperHalfIsNotLookedAt, lets_go, HoldingIsRemembered, IsRaisedByPressed, OnByPressedKey}
 use Rattle.console_core.proofs.OneMore.{resolved-more, remembered-character, remembered-action, remembered-release}
@@ -41,11 +41,11 @@ not_true false f = refl
 pub dead_upper_half : DeadUpperHalfIsNotLookedAt
 dead_upper_half ms h keys dead =
     let all : AllLooked (in_force ms h) (resolved ms h) = resolved-looked ms h keys in
-    let shift : On ms modifier.AltShift h ≡ false =
+    let shift : is_on_after ms modifier.AltShift h ≡ false =
     not_true _
     (λ e. dead (held-upper (in_force ms h) (holding.Mod modifier.AltShift) (λ j lt low. (j, lt, inl low))
     (resolved ms h) all e)) in
-    let alt : Locked ms lock.Alt h ≡ false =
+    let alt : is_locked_after ms lock.Alt h ≡ false =
     not_true _ (λ e. dead (locked-upper (in_force ms h) (resolved ms h) all e)) in (
       rw (shift, alt) refl,
       (λ k. elim (look-cell (in_force ms h) (resolved ms h) k all) [ inl s ↦ s | inr s ↦ absurd (dead s.0) ]),
@@ -85,7 +85,7 @@ holding_is_remembered ms h Load safe keys k a e kept = absurd (true≢false kept
 
 -- a press that raises a holding action remembers it
 raised-press : (k : ℕ) (a : Holding) (r : List ResolvedEvent) (x : Cell)
-    → is_action (taken_of (remembered k r) x) (holding_action a) ≡ true
+    → is_this_action (taken_of (remembered k r) x) (holding_action a) ≡ true
     → remembered k (resolve_press k x ∷ r) ≡ Some (holding_action a)
 raised-press k a r (Char c) e = absurd (true≢false (sym e))
 raised-press k a r (Act b) e = rw (remembered-action k k b r, eq-eqb k k refl) (taken-holding (remembered k r) b a e).1
@@ -93,23 +93,23 @@ raised-press k a r (Act b) e = rw (remembered-action k k b r, eq-eqb k k refl) (
 -- it stays remembered as long as nothing lowers it, and the key isn't let go
 abbrev Kept : Maps → ℕ → Holding → List Event → List Event → Type 0
 Kept ms k a later before =
-    (Remembered ms k (later ++ Press k ∷ before) ≡ Some (holding_action a))
+    (remembered_after ms k (later ++ Press k ∷ before) ≡ Some (holding_action a))
     × NoneOf (lets_go k) later (Press k ∷ before)
 
 -- a key that remembers another action isn't the one that remembers this
-not_let_go : (ms : Maps) (k j : ℕ) (a : Holding) (t : List Event) → Remembered ms k t ≡ Some (holding_action a)
-    → is_action (Remembered ms j t) (holding_action a) ≡ false → j == k ≡ false
+not_let_go : (ms : Maps) (k j : ℕ) (a : Holding) (t : List Event) → remembered_after ms k t ≡ Some (holding_action a)
+    → is_this_action (remembered_after ms j t) (holding_action a) ≡ false → j == k ≡ false
 not_let_go ms k j a t e low =
     not_true (j == k)
-    (λ s. true≢false (sym (ap (λ o. is_action o (holding_action a))
-    (ap (λ x. Remembered ms x t) (eqb-true j k s) ∙ e)
+    (λ s. true≢false (sym (ap (λ o. is_this_action o (holding_action a))
+    (ap (λ x. remembered_after ms x t) (eqb-true j k s) ∙ e)
     ∙ same_action-refl (holding_action a))
     ∙ low))
 
 -- a holding action is remembered from the press that raises it, while nothing lowers it
 kept : (ms : Maps) (k : ℕ) (a : Holding) (later before : List Event) → IsSafe (in_force ms (later ++ Press k ∷ before))
-    → HasKeys (later ++ Press k ∷ before) → Raises ms a (Press k) before ≡ true
-    → NoneOf (Lowers ms a) later (Press k ∷ before) → Kept ms k a later before
+    → HasKeys (later ++ Press k ∷ before) → raises_at ms a (Press k) before ≡ true
+    → NoneOf (lowers_at ms a) later (Press k ∷ before) → Kept ms k a later before
 kept ms k a [] before safe keys raised none = (
   ap (λ r. remembered k r) (resolved-more ms before (Press k))
       ∙ raised-press k a (resolved ms before) (look (in_force ms before) (resolved ms before) k) raised,
@@ -129,8 +129,8 @@ kept ms k a (Load ∷ later) before safe keys raised none = absurd (true≢false
 
 -- a modifier that some press raised and nothing lowered is on by a pressed key
 raised_by : (ms : Maps) (h : List Event) (i : Modifier) (later : List Event) (x : Event) (before : List Event)
-    → IsSafe (in_force ms h) → HasKeys h → h ≡ later ++ x ∷ before → Raises ms (holding.Mod i) x before ≡ true
-    → NoneOf (Lowers ms (holding.Mod i)) later (x ∷ before) → IsRaisedByPressed ms i h
+    → IsSafe (in_force ms h) → HasKeys h → h ≡ later ++ x ∷ before → raises_at ms (holding.Mod i) x before ≡ true
+    → NoneOf (lowers_at ms (holding.Mod i)) later (x ∷ before) → IsRaisedByPressed ms i h
 raised_by ms h i later (Press k) before safe keys is raised none =
     let s : Kept ms k (holding.Mod i) later before =
     kept ms k (holding.Mod i) later before (subst (λ t. IsSafe (in_force ms t)) is safe) (subst HasKeys is keys) raised
@@ -150,6 +150,6 @@ raised_by ms h i later Load before safe keys is raised none = absurd (true≢fal
 -- in a safe map a modifier that is on was raised by a press of a key that is still pressed
 pub on_by_pressed_key : OnByPressedKey
 on_by_pressed_key ms h safe keys i on =
-    let s : SomeSince (Raises ms (holding.Mod i)) (Lowers ms (holding.Mod i)) h =
+    let s : SomeSince (raises_at ms (holding.Mod i)) (lowers_at ms (holding.Mod i)) h =
     (held-positions ms (holding.Mod i) h).0 on in
     raised_by ms h i s.0 s.1 s.2 safe keys s.3 s.4 s.5

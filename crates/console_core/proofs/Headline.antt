@@ -22,7 +22,7 @@ use Rattle.console_core.specs.Columns.{look_with}
 use Rattle.console_core.specs.Resolved.{ResolvedEvent, held, locked, remembered, pending, taken_over, unless_nop, look}
 use Rattle.console_core.specs.Resolved.{resolve, resolve_press, turns, answer_resolved, on}
 use Rattle.console_core.specs.History.{Maps, in_force, loaded, is_second_in_force, is_load, resolved_event, resolved}
-use Rattle.console_core.specs.History.{pressed, Pending, AnswersTo, AnswerTo, HasKey, HasKeys, IsQuiet}
+use Rattle.console_core.specs.History.{pressed, accent_pending_after, answers_to, answer_to, HasKey, HasKeys, IsQuiet}
 use Rattle.console_core.specs.Resolved.ResolvedEvent.{PressedCharacter, PressedAction, ReleasedKey, WasReset, WasLoaded}
 use Rattle.keymap_core.specs.Bearers.{IsCellOf, BearsThroughout}
 use Rattle.console_core.specs.Headline.{IsSafe, IsSteady, IsActing}
@@ -339,16 +339,16 @@ same-answer_resolved m r s (WasLoaded n) lt same = refl
 
 -- two lists of events that leave the same map in force, and the same under it
 pub record SameAfter (ms : Maps) (h g : List Event) : Type 0 where
-  pub force : is_second_in_force h ≡ is_second_in_force g
+  pub map_in_force : is_second_in_force h ≡ is_second_in_force g
   pub same : Same (in_force ms h) (resolved ms h) (resolved ms g)
 
 -- events that go on alike have the same map in force
 same_force : (ms : Maps) (h g : List Event) → SameAfter ms h g → in_force ms h ≡ in_force ms g
-same_force ms h g s = ap (λ b. if b then ms.second else ms.first) s.force
+same_force ms h g s = ap (λ b. if b then ms.second else ms.first) s.map_in_force
 
 -- events that go on alike load the same map
 same_loaded : (ms : Maps) (h g : List Event) → SameAfter ms h g → loaded ms h ≡ loaded ms g
-same_loaded ms h g s = ap (λ b. if not b then ms.second else ms.first) s.force
+same_loaded ms h g s = ap (λ b. if not b then ms.second else ms.first) s.map_in_force
 
 -- events that go on alike resolve an event alike
 pub same-resolved_event : (ms : Maps) (h g : List Event) (e : Event) → SameAfter ms h g
@@ -415,13 +415,13 @@ same_events ms h g Load key s = same_load ms h g s
 pub same-events : (ms : Maps) (h g : List Event) (e : Event) → HasKey e → SameAfter ms h g
     → SameAfter ms (e ∷ h) (e ∷ g)
 same-events ms h g e key s = record {
-  force = more_force (is_load e h) (is_load e g) h g (load_anywhere e h g) s.force;
+  map_in_force = more_force (is_load e h) (is_load e g) h g (load_anywhere e h g) s.map_in_force;
   same = same_events ms h g e key s;
 }
 
 -- events that go on alike answer an event alike
 pub same-answer : (ms : Maps) (h g : List Event) (e : Event) → HasKey e → SameAfter ms h g
-    → AnswerTo ms h e ≡ AnswerTo ms g e
+    → answer_to ms h e ≡ answer_to ms g e
 same-answer ms h g e key s =
     same-answer_resolved (in_force ms h) (resolved ms h) (resolved ms g) (resolved_event ms h e)
     (resolve-key (in_force ms h) (loaded ms h) (resolved ms h) e key) s.same
@@ -439,7 +439,7 @@ same-later ms h g (e ∷ later) keys s =
 
 -- events that go on alike answer any events alike
 pub same-answers : (ms : Maps) (h g later : List Event) → HasKeys later → SameAfter ms h g
-    → AnswersTo ms h later ≡ AnswersTo ms g later
+    → answers_to ms h later ≡ answers_to ms g later
 same-answers ms h g [] keys s = refl
 same-answers ms h g (e ∷ later) keys s =
     rw (
@@ -450,14 +450,16 @@ same-answers ms h g (e ∷ later) keys s =
     refl
 
 -- events that go on alike have the same pending accent
-pub same-pending : (ms : Maps) (h g : List Event) → SameAfter ms h g → Pending ms h ≡ Pending ms g
+pub same-pending : (ms : Maps) (h g : List Event) → SameAfter ms h g
+    → accent_pending_after ms h ≡ accent_pending_after ms g
 same-pending ms h g s = s.same.pending ∙ ap (λ x. pending x (resolved ms g)) (same_force ms h g s)
 
 -- in a safe map a quiet console with nothing pending goes on as after a reset
-same-reset : (ms : Maps) (h : List Event) → IsSafe (in_force ms h) → HasKeys h → IsQuiet h → Pending ms h ≡ None
+same-reset : (ms : Maps) (h : List Event) → IsSafe (in_force ms h) → HasKeys h → IsQuiet h
+    → accent_pending_after ms h ≡ None
     → SameAfter ms h (Reset ∷ h)
 same-reset ms h safe keys quiet p = record {
-  force = refl;
+  map_in_force = refl;
   same = subst (λ r. Same (in_force ms h) (resolved ms h) r) (sym (resolved-more ms h Reset)) (record {
     held = λ a. held-quiet ms h safe keys quiet a ∙ sym (held-reset a (resolved ms h));
     locked = λ l. sym (locked-reset l (resolved ms h));

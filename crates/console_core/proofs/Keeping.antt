@@ -12,7 +12,7 @@ use Rattle.keymap_core.specs.declared.action.Lock.TheVariants.{Caps, Num, Scroll
 use Rattle.keymap_core.specs.Actions.{holding_action, holding_index, holding_of}
 use Rattle.keymap_core.specs.Borne.{is_borne}
 use Rattle.keymap_core.specs.Maps.{MapValue}
-use Rattle.console_core.specs.Resolved.{is_action}
+use Rattle.console_core.specs.Resolved.{is_this_action}
 use Rattle.console_core.specs.Agrees.{Kept}
 use Rattle.console_core.specs.Inner.Kept.{with_mark, with_memory, with_released, with_lock_borne}
 use Rattle.console_core.specs.Inner.Kept.{after_release, after_reset, exchanged, after_load}
@@ -83,13 +83,14 @@ forgotten k key j false is none = refl
 pub idle-released : (k : Kept) (key : ℕ) → k.memory key ≡ None → k ≡ after_release key k
 idle-released k key none =
     kept-same k (after_release key k)
-    (λ a. and_kept (k.mark a) ∙ ap (λ x. k.mark a && not (is_action x (holding_action a))) (sym none))
+    (λ a. and_kept (k.mark a) ∙ ap (λ x. k.mark a && not (is_this_action x (holding_action a))) (sym none))
     (λ l. refl) (λ j. forgotten k key j (eqb key j) refl none) refl refl
 
 -- a release of a key for which the action is remembered
 pub held-released : (k : Kept) (key : ℕ) (held : Action) → k.memory key ≡ Some held
     → with_released held (with_memory key None k) ≡ after_release key k
 held-released k key held is =
-    same-marks (with_memory key None k) _ _ (λ a. ap (λ x. k.mark a && not (is_action x (holding_action a))) (sym is))
+    same-marks (with_memory key None k) _ _
+        (λ a. ap (λ x. k.mark a && not (is_this_action x (holding_action a))) (sym is))
 
 pub ruleset keeping = (loaded-kept, idle-released, held-released)

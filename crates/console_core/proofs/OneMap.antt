@@ -11,9 +11,9 @@ use Rattle.console_core.specs.Positions.{count_where, count_since, is_odd}
 use Rattle.keymap_core.specs.Borne.{is_borne}
 use Rattle.console_core.specs.Resolved.{ResolvedEvent, resolve, locked, pending, answer_resolved}
 use Rattle.console_core.specs.History.{Maps, between, in_force, loaded, is_second_in_force, resolved, resolved_event}
-use Rattle.console_core.specs.History.{AnswerTo, AnswersTo, HasKey, HasKeys, IsNoLoad, HasNoLoads}
+use Rattle.console_core.specs.History.{answer_to, answers_to, HasKey, HasKeys, IsNoLoad, HasNoLoads}
 use Rattle.console_core.specs.Resolved.ResolvedEvent.{WasReset, WasLoaded}
-use Rattle.console_core.specs.Reading.{Turns, Unlocks}
+use Rattle.console_core.specs.Reading.{turns_at, unlocks_at}
 use Rattle.console_core.specs.Loads.{WithoutLoads, as_reset, loads_as_resets, LoadsOfOneMapAreResets}
 use Rattle.console_core.proofs.OneMore.{resolved-start, resolved-more, held-reset, held-load, locked-reset, locked-load}
 use Rattle.console_core.proofs.OneMore.{remembered-reset, remembered-load, pending-reset, pending-load}
@@ -49,7 +49,7 @@ resolved_first ms (e ∷ h) none =
     ∙ sym (resolved-more (between ms.first ms.first) h e)
 
 -- only a load unlocks
-never_unlocks : (ms : Maps) (l : Lock) (e : Event) (h : List Event) → IsNoLoad e → Unlocks ms l e h ≡ false
+never_unlocks : (ms : Maps) (l : Lock) (e : Event) (h : List Event) → IsNoLoad e → unlocks_at ms l e h ≡ false
 never_unlocks ms l (Press k) h no_load = refl
 never_unlocks ms l (Release k) h no_load = refl
 never_unlocks ms l Reset h no_load = refl
@@ -57,7 +57,7 @@ never_unlocks ms l Load h no_load = absurd (true≢false no_load)
 
 -- without loads all turns of a lock count
 all_turns : (ms : Maps) (l : Lock) (h : List Event) → HasNoLoads h
-    → count_since (Unlocks ms l) (Turns ms l) h ≡ count_where (Turns ms l) h
+    → count_since (unlocks_at ms l) (turns_at ms l) h ≡ count_where (turns_at ms l) h
 all_turns ms l [] none = refl
 all_turns ms l (e ∷ h) none =
     rw (never_unlocks ms l e h (All-head IsNoLoad e h none), all_turns ms l h (All-tail IsNoLoad e h none)) refl
@@ -134,7 +134,7 @@ same_resets m (e ∷ h) keys =
 
 -- the answer to an event in the one map
 answer_under_one : (m : MapValue) (h : List Event) (e : Event)
-    → AnswerTo (between m m) h e
+    → answer_to (between m m) h e
     ≡ answer_resolved m (resolve m m (resolved (between m m) h) e) (resolved (between m m) h)
 answer_under_one m h e =
     ap (λ x. answer_resolved x (resolved_event (between m m) h e) (resolved (between m m) h)) (one_in_force m h)
@@ -153,11 +153,11 @@ answer_as_reset m Load r s key same = refl
 
 -- the answers to events, where loads count as resets
 answers_as_resets : (m : MapValue) (h later : List Event) → HasKeys h → HasKeys later
-    → AnswersTo (between m m) h later ≡ AnswersTo (between m m) (loads_as_resets h) (loads_as_resets later)
+    → answers_to (between m m) h later ≡ answers_to (between m m) (loads_as_resets h) (loads_as_resets later)
 answers_as_resets m h [] keys later_keys = refl
 answers_as_resets m h (e ∷ later) keys later_keys =
     let key : HasKey e = All-head HasKey e later later_keys in
-    let first : AnswerTo (between m m) h e ≡ AnswerTo (between m m) (loads_as_resets h) (as_reset e) =
+    let first : answer_to (between m m) h e ≡ answer_to (between m m) (loads_as_resets h) (as_reset e) =
     answer_under_one m h e
     ∙ answer_as_reset m e (resolved (between m m) h) (resolved (between m m) (loads_as_resets h)) key
     (same_resets m h keys)

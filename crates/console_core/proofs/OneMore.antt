@@ -17,10 +17,11 @@ use Rattle.console_core.specs.declared.event.Event.TheVariants.{Press, Release, 
 use Rattle.keymap_core.specs.Borne.{is_borne}
 use Rattle.console_core.specs.Positions.{is_odd, first_of_two, last_where}
 use Rattle.console_core.specs.Resolved.{unlocks, resolve_press, ResolvedEvent, remembered, held, locked, turns, taken}
-use Rattle.console_core.specs.Resolved.{taken_over, unless_nop, is_action, pending, pending_after, dead_keys}
+use Rattle.console_core.specs.Resolved.{taken_over, unless_nop, is_this_action, pending, pending_by_dead_keys}
+use Rattle.console_core.specs.Resolved.{dead_keys_taken}
 use Rattle.console_core.specs.Resolved.{keeps_taken, usable_dead_key, run_length}
 use Rattle.console_core.specs.History.{Maps, resolved_event, pressed, resolved, is_press, concerns}
-use Rattle.console_core.specs.Inner.Kept.{toggled, next_pending}
+use Rattle.console_core.specs.Inner.Kept.{pending_after_dead_key, next_pending}
 use Rattle.std.proofs.lemmas.Bool.{eqb-true, eq-eqb}
 use Rattle.console_core.specs.Resolved.ResolvedEvent.{PressedCharacter, PressedAction, ReleasedKey, WasReset, WasLoaded}
 
@@ -51,7 +52,7 @@ held-action a k b h = ap (λ x. same_action (taken_over (remembered k h) b) (hol
     (and-true (held a h))
 
 pub held-release : (a : Holding) (k : ℕ) (h : List ResolvedEvent)
-    → held a (ReleasedKey k ∷ h) ≡ (held a h && not (is_action (remembered k h) (holding_action a)))
+    → held a (ReleasedKey k ∷ h) ≡ (held a h && not (is_this_action (remembered k h) (holding_action a)))
 unfolding held
 held-release a k h = refl
 
@@ -137,23 +138,23 @@ remembered-load k m h = refl
 
 -- pending
 pub pending-start : (m : MapValue) → pending m [] ≡ None
-unfolding dead_keys pending_after
+unfolding dead_keys_taken pending_by_dead_keys
 pending-start m = refl
 
 pub pending-character : (m : MapValue) (k c : ℕ) (h : List ResolvedEvent) → pending m (PressedCharacter k c ∷ h) ≡ None
-unfolding dead_keys pending_after
+unfolding dead_keys_taken pending_by_dead_keys
 pending-character m k c h = refl
 
 pub pending-release : (m : MapValue) (k : ℕ) (h : List ResolvedEvent) → pending m (ReleasedKey k ∷ h) ≡ pending m h
-unfolding dead_keys
+unfolding dead_keys_taken
 pending-release m k h = refl
 
 pub pending-reset : (m : MapValue) (h : List ResolvedEvent) → pending m (WasReset ∷ h) ≡ None
-unfolding dead_keys pending_after
+unfolding dead_keys_taken pending_by_dead_keys
 pending-reset m h = refl
 
 pub pending-load : (m n : MapValue) (h : List ResolvedEvent) → pending m (WasLoaded n ∷ h) ≡ None
-unfolding dead_keys pending_after
+unfolding dead_keys_taken pending_by_dead_keys
 pending-load m n h = refl
 
 -- one more press of the same dead key makes the run longer
@@ -162,58 +163,64 @@ run_length-same i rest = rw (eq-eqb i i refl) refl
 
 -- a dead key that is pressed again is no longer pending, or pending again
 toggle_again : (i n : ℕ) (b : Bool) → is_odd n ≡ b
-    → (if is_odd (suc (suc n)) then Some i else None) ≡ toggled (Some i) (if is_odd (suc n) then Some i else None)
+    → (if is_odd (suc (suc n)) then Some i else None)
+        ≡ pending_after_dead_key (Some i) (if is_odd (suc n) then Some i else None)
 toggle_again i n true e = rw e refl
 toggle_again i n false e = rw (e, eq-eqb i i refl) refl
 
 -- another dead key is pending in its place
-toggle_other : (i j : ℕ) (b : Bool) → eqb j i ≡ false → Some i ≡ toggled (Some i) (if b then Some j else None)
+toggle_other : (i j : ℕ) (b : Bool) → eqb j i ≡ false
+    → Some i ≡ pending_after_dead_key (Some i) (if b then Some j else None)
 toggle_other i j true e = rw e refl
 toggle_other i j false e = refl
 
 -- the step of the next lemma, where the dead key before is the same
 toggle_same : (i : ℕ) (r : List (Option ℕ))
-    → pending_after (Some i ∷ (Some i ∷ r)) ≡ toggled (Some i) (pending_after (Some i ∷ r))
-unfolding pending_after
+    → pending_by_dead_keys (Some i ∷ (Some i ∷ r)) ≡ pending_after_dead_key (Some i) (pending_by_dead_keys (Some i ∷ r))
+unfolding pending_by_dead_keys
 toggle_same i r =
     rw (run_length-same i (Some i ∷ r), run_length-same i r)
     (toggle_again i (run_length i r) (is_odd (run_length i r)) refl)
 
 -- the step of the next lemma, by whether the dead key before is the same
 toggle_cases : (i j : ℕ) (r : List (Option ℕ)) (b : Bool) → eqb j i ≡ b
-    → pending_after (Some i ∷ (Some j ∷ r)) ≡ toggled (Some i) (pending_after (Some j ∷ r))
-unfolding pending_after
+    → pending_by_dead_keys (Some i ∷ (Some j ∷ r)) ≡ pending_after_dead_key (Some i) (pending_by_dead_keys (Some j ∷ r))
+unfolding pending_by_dead_keys
 toggle_cases i j r true e =
     let s : i ≡ j = sym (eqb-true j i e) in
-    subst (λ x. pending_after (Some i ∷ (Some x ∷ r)) ≡ toggled (Some i) (pending_after (Some x ∷ r))) s
+    subst (λ x. pending_by_dead_keys (Some i ∷ (Some x ∷ r))
+        ≡ pending_after_dead_key (Some i) (pending_by_dead_keys (Some x ∷ r))) s
     (toggle_same i r)
 toggle_cases i j r false e =
     rw (run_length-same i (Some j ∷ r), e) (toggle_other i j (is_odd (run_length j (Some j ∷ r))) e)
 
 -- one more press of a dead key toggles it
 pub pending_after-toggles : (i : ℕ) (rest : List (Option ℕ))
-    → pending_after (Some i ∷ rest) ≡ toggled (Some i) (pending_after rest)
-unfolding pending_after
+    → pending_by_dead_keys (Some i ∷ rest) ≡ pending_after_dead_key (Some i) (pending_by_dead_keys rest)
+unfolding pending_by_dead_keys
 pending_after-toggles i [] = rw (run_length-same i []) refl
 pending_after-toggles i (None ∷ rest) = rw (run_length-same i (None ∷ rest)) refl
 pending_after-toggles i (Some j ∷ rest) = toggle_cases i j rest (eqb j i) refl
 
 -- one more event that keeps nothing pending, or toggles a dead key
-toggles : (o : Option ℕ) (rest : List (Option ℕ)) → pending_after (o ∷ rest) ≡ toggled o (pending_after rest)
-unfolding pending_after
+toggles : (o : Option ℕ) (rest : List (Option ℕ))
+    → pending_by_dead_keys (o ∷ rest) ≡ pending_after_dead_key o (pending_by_dead_keys rest)
+unfolding pending_by_dead_keys
 toggles None rest = refl
 toggles (Some i) rest = pending_after-toggles i rest
 
 -- one more event, which keeps what is pending or doesn't
 pending_step : (b : Bool) (o : Option ℕ) (rest : List (Option ℕ))
-    → pending_after (if b then rest else o ∷ rest) ≡ (if b then pending_after rest else toggled o (pending_after rest))
+    → pending_by_dead_keys (if b then rest else o ∷ rest)
+        ≡ (if b then pending_by_dead_keys rest else pending_after_dead_key o (pending_by_dead_keys rest))
 pending_step true o rest = refl
 pending_step false o rest = toggles o rest
 
 pub pending-action : (m : MapValue) (k : ℕ) (b : Action) (h : List ResolvedEvent)
     → pending m (PressedAction k b ∷ h) ≡ next_pending m (pending m h) (taken_over (remembered k h) b)
-unfolding dead_keys
-pending-action m k b h = pending_step (keeps_taken (taken k b h)) (usable_dead_key m (taken k b h)) (dead_keys m h)
+unfolding dead_keys_taken
+pending-action m k b h = pending_step (keeps_taken (taken k b h)) (usable_dead_key m (taken k b h))
+    (dead_keys_taken m h)
 
 -- pressed
 pub pressed-start : (k : ℕ) → pressed k [] ≡ false

@@ -17,9 +17,11 @@ use Rattle.console_core.specs.declared.event.Event.{Event}
 use Rattle.console_core.specs.Positions.{count_where, is_odd}
 use Rattle.console_core.specs.Columns.{look_with}
 use Rattle.console_core.specs.Resolved.{ResolvedEvent, held, locked, look}
-use Rattle.console_core.specs.History.{Maps, in_force, resolved, pressed, On, Locked, HasKeys, HasNoLoads}
+use Rattle.console_core.specs.History.{Maps, in_force, resolved, pressed, is_on_after, is_locked_after, HasKeys}
+use Rattle.console_core.specs.History.{HasNoLoads}
 use Rattle.console_core.specs.Headline.{is_fresh_press}
-use Rattle.console_core.specs.Plain.{IsPlainFor, IsPlain, bears, plain_on, plain_locked, PlainLook, LooksPlainly}
+use Rattle.console_core.specs.Plain.{IsPlainFor, IsPlain, bears_holding, plain_on, plain_locked, plain_look}
+use Rattle.console_core.specs.Plain.{LooksPlainly}
 use Rattle.console_core.specs.Plain.{PlainOnByKeys, PlainLockedByKeys}
 use Rattle.keymap_core.proofs.BorneTests.{any-some, some-any, slot-stands, stands-slot, live-upper, upper-is_live}
 use Rattle.keymap_core.proofs.BorneTests.{borne-bears, or-left, or-right}
@@ -35,7 +37,7 @@ not_true true f = absurd (f refl)
 not_true false f = refl
 
 -- the test whether a key bears a holding action
-pub bears-is : (m : MapValue) (a : Holding) (k : ℕ) → bears m a k ≡ true → Bears m k a
+pub bears-is : (m : MapValue) (a : Holding) (k : ℕ) → bears_holding m a k ≡ true → Bears m k a
 bears-is m a k e =
     elim (or_cases (has_in_slot m (holding_action a) k) _ e) [
       | inl s ↦ inl (slot-stands m (holding_action a) k s)
@@ -45,7 +47,7 @@ bears-is m a k e =
     ]
 
 -- a key that bears a holding action passes the test
-pub is-bears : (m : MapValue) (a : Holding) (k : ℕ) → Bears m k a → bears m a k ≡ true
+pub is-bears : (m : MapValue) (a : Holding) (k : ℕ) → Bears m k a → bears_holding m a k ≡ true
 is-bears m a k (inl s) = or-left _ _ (stands-slot m (holding_action a) k s)
 is-bears m a k (inr s) =
     or-right (has_in_slot m (holding_action a) k) _
@@ -58,27 +60,30 @@ throughout-bears m k a s =
 
 -- a fact about the one key that bears the action
 one_bearer : (m : MapValue) (a : Holding) (k : ℕ) (fact : ℕ → Bool) → BearsThroughout m k a
-    → any_below (λ j. bears m a j && fact j) 128 ≡ fact k
+    → any_below (λ j. bears_holding m a j && fact j) 128 ≡ fact k
 one_bearer m a k fact s =
     same_by _ (fact k)
     (λ e.
-    let t : (j : ℕ) × (j < 128) × ((bears m a j && fact j) ≡ true) = some-any (λ j. bears m a j && fact j) 128 e in
-    let p : (bears m a t.0 ≡ true) × (fact t.0 ≡ true) = and_parts _ _ t.2 in
+    let t : (j : ℕ) × (j < 128) × ((bears_holding m a j && fact j) ≡ true) = some-any
+        (λ j. bears_holding m a j && fact j) 128 e in
+    let p : (bears_holding m a t.0 ≡ true) × (fact t.0 ≡ true) = and_parts _ _ t.2 in
     subst (λ j. fact j ≡ true) (s.1 t.0 t.1 (bears-is m a t.0 p.0)) p.1)
-    (λ e. any-some (λ j. bears m a j && fact j) k 128 s.0 (rw (is-bears m a k (throughout-bears m k a s), e) refl))
+    (λ e. any-some (λ j. bears_holding m a j && fact j) k 128 s.0
+        (rw (is-bears m a k (throughout-bears m k a s), e) refl))
 
 -- some key that bears the action has a fact
-bearer-some : (m : MapValue) (a : Holding) (fact : ℕ → Bool) → any_below (λ j. bears m a j && fact j) 128 ≡ true
+bearer-some : (m : MapValue) (a : Holding) (fact : ℕ → Bool) → any_below (λ j. bears_holding m a j && fact j) 128 ≡ true
     → (k : ℕ) × (k < 128) × Bears m k a × (fact k ≡ true)
 bearer-some m a fact e =
-    let t : (j : ℕ) × (j < 128) × ((bears m a j && fact j) ≡ true) = some-any (λ j. bears m a j && fact j) 128 e in
-    let p : (bears m a t.0 ≡ true) × (fact t.0 ≡ true) = and_parts _ _ t.2 in
+    let t : (j : ℕ) × (j < 128) × ((bears_holding m a j && fact j) ≡ true) = some-any
+        (λ j. bears_holding m a j && fact j) 128 e in
+    let p : (bears_holding m a t.0 ≡ true) × (fact t.0 ≡ true) = and_parts _ _ t.2 in
     (t.0, t.1, bears-is m a t.0 p.0, p.1)
 
 -- a bearer for which a fact holds is found
 some-bearer : (m : MapValue) (a : Holding) (fact : ℕ → Bool) (k : ℕ) → k < 128 → Bears m k a → fact k ≡ true
-    → any_below (λ j. bears m a j && fact j) 128 ≡ true
-some-bearer m a fact k lt b e = any-some (λ j. bears m a j && fact j) k 128 lt (rw (is-bears m a k b, e) refl)
+    → any_below (λ j. bears_holding m a j && fact j) 128 ≡ true
+some-bearer m a fact k lt b e = any-some (λ j. bears_holding m a j && fact j) k 128 lt (rw (is-bears m a k b, e) refl)
 
 -- a modifier is on by the test exactly if a key that bears it is pressed
 pub plain_on_by_keys : PlainOnByKeys
@@ -98,10 +103,11 @@ plain_locked_by_keys m h l = (
 
 -- where nobody bears a holding action, no bearer is found
 no_bearer : (m : MapValue) (a : Holding) (fact : ℕ → Bool) → NobodyBears m a
-    → any_below (λ j. bears m a j && fact j) 128 ≡ false
+    → any_below (λ j. bears_holding m a j && fact j) 128 ≡ false
 no_bearer m a fact nobody =
     not_true _ (λ e.
-    let t : (j : ℕ) × (j < 128) × ((bears m a j && fact j) ≡ true) = some-any (λ j. bears m a j && fact j) 128 e in
+    let t : (j : ℕ) × (j < 128) × ((bears_holding m a j && fact j) ≡ true) = some-any
+        (λ j. bears_holding m a j && fact j) 128 e in
     nobody t.0 t.1 (bears-is m a t.0 (and_parts _ _ t.2).0))
 
 -- what nobody bears is never held
@@ -130,7 +136,7 @@ module _ (ms : Maps) (h : List Event) (none : HasNoLoads h) (keys : HasKeys h) w
   looked = subst (λ m. AllLooked m (resolved ms h)) (first_in_force ms h none) (resolved-looked ms h keys)
 
   -- a modifier that is plain is on by the test
-  on-plain : (i : Modifier) → IsPlainFor ms.first (holding.Mod i) → On ms i h ≡ plain_on ms.first h i
+  on-plain : (i : Modifier) → IsPlainFor ms.first (holding.Mod i) → is_on_after ms i h ≡ plain_on ms.first h i
   unfolding plain_on
   on-plain i (inl nobody) =
       never-held ms.first (holding.Mod i) nobody (resolved ms h) looked
@@ -141,7 +147,7 @@ module _ (ms : Maps) (h : List Event) (none : HasNoLoads h) (keys : HasKeys h) w
       ∙ sym (one_bearer ms.first (holding.Mod i) s.0 (λ k. pressed k h) s.1)
 
   -- a lock that is plain is on by the test
-  locked-plain : (l : Lock) → IsPlainFor ms.first (holding.Lock l) → Locked ms l h ≡ plain_locked ms.first h l
+  locked-plain : (l : Lock) → IsPlainFor ms.first (holding.Lock l) → is_locked_after ms l h ≡ plain_locked ms.first h l
   unfolding plain_locked
   locked-plain l (inl nobody) =
       never-locked ms.first l nobody (resolved ms h) looked
@@ -152,13 +158,15 @@ module _ (ms : Maps) (h : List Event) (none : HasNoLoads h) (keys : HasKeys h) w
 
   -- a look in the map in force is one in the first map
   pub looks-first : (k : ℕ)
-      → look (in_force ms h) (resolved ms h) k ≡ look_with ms.first (λ i. On ms i h) (λ l. Locked ms l h) k
+      → look (in_force ms h) (resolved ms h) k
+          ≡ look_with ms.first (λ i. is_on_after ms i h) (λ l. is_locked_after ms l h) k
   unfolding look
-  looks-first k = ap (λ m. look_with m (λ i. On ms i h) (λ l. Locked ms l h) k) (first_in_force ms h none)
+  looks-first k = ap (λ m. look_with m (λ i. is_on_after ms i h) (λ l. is_locked_after ms l h) k)
+      (first_in_force ms h none)
 
   -- in a plain map a look follows from the keys
   pub look-plain : IsPlain ms.first → (k : ℕ)
-      → look_with ms.first (λ i. On ms i h) (λ l. Locked ms l h) k ≡ PlainLook ms.first k h
+      → look_with ms.first (λ i. is_on_after ms i h) (λ l. is_locked_after ms l h) k ≡ plain_look ms.first k h
   look-plain plain k =
       rw (
         on-plain modifier.LeftShift plain.left_shift,
@@ -179,10 +187,11 @@ looks_plainly ms h plain none keys k = looks-first ms h none keys k ∙ look-pla
 
 -- the same of modifiers and locks that are shown
 pub shown-plain : (ms : Maps) (h : List Event) → HasNoLoads h → HasKeys h → IsPlain ms.first
-    → (k : ℕ) (is_on : Modifier → Bool) (is_locked : Lock → Bool) → ((i : Modifier) → is_on i ≡ On ms i h)
-    → ((l : Lock) → is_locked l ≡ Locked ms l h) → look_with ms.first is_on is_locked k ≡ PlainLook ms.first k h
+    → (k : ℕ) (is_on : Modifier → Bool) (is_locked : Lock → Bool) → ((i : Modifier) → is_on i ≡ is_on_after ms i h)
+    → ((l : Lock) → is_locked l ≡ is_locked_after ms l h)
+        → look_with ms.first is_on is_locked k ≡ plain_look ms.first k h
 shown-plain ms h none keys plain k is_on is_locked on_is locked_is =
-    let e : is_on ≡ (λ i. On ms i h) = fun_ext on_is in
-    let f : is_locked ≡ (λ l. Locked ms l h) = fun_ext locked_is in
-    ap (λ x. look_with ms.first x is_locked k) e ∙ ap (λ y. look_with ms.first (λ i. On ms i h) y k) f
+    let e : is_on ≡ (λ i. is_on_after ms i h) = fun_ext on_is in
+    let f : is_locked ≡ (λ l. is_locked_after ms l h) = fun_ext locked_is in
+    ap (λ x. look_with ms.first x is_locked k) e ∙ ap (λ y. look_with ms.first (λ i. is_on_after ms i h) y k) f
     ∙ look-plain ms h none keys plain k

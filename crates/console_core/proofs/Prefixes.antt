@@ -10,7 +10,8 @@ use Rattle.console_core.specs.declared.event.Event.TheVariants.{Press, Release, 
 use Rattle.console_core.specs.Positions.{last_where}
 use Rattle.console_core.specs.Resolved.{ResolvedEvent, resolve_press, answer_resolved}
 use Rattle.console_core.specs.History.{Maps, in_force, concerns, is_press, pressed, resolved, resolved_event}
-use Rattle.console_core.specs.Reading.{Look, NoneOf, LastPresses, PressedByPositions, ResolvedAtPrefix, answer_to_look}
+use Rattle.console_core.specs.Reading.{look_after, NoneOf, LastPresses, PressedByPositions, ResolvedAtPrefix}
+use Rattle.console_core.specs.Reading.{answer_to_look}
 use Rattle.console_core.specs.Reading.{AnswersByCases}
 use Rattle.console_core.proofs.OneMore.{resolved-more}
 
@@ -64,4 +65,4 @@ answer_press ms k h (Act a) = refl
 
 -- the answer to a press is that to its look, and to a release that to what is remembered
 pub answers_by_cases : AnswersByCases
-answers_by_cases ms k h = (answer_press ms k h (Look ms k h), refl, refl, refl)
+answers_by_cases ms k h = (answer_press ms k h (look_after ms k h), refl, refl, refl)

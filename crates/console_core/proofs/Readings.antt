@@ -13,19 +13,20 @@ use Rattle.console_core.specs.Positions.{holds_since, count_since, is_odd}
 use Rattle.console_core.specs.Resolved.{unlocks, look, resolve_press, held, locked, raises, lowers, turns}
 use Rattle.console_core.specs.History.{Maps, in_force, resolved_event, resolved}
 use Rattle.console_core.proofs.OneMore.{press-unlocks}
-use Rattle.console_core.specs.Reading.{Unlocks, Raises, Lowers, Turns, Held, NoneOf, SomeSince, HeldByPositions}
+use Rattle.console_core.specs.Reading.{unlocks_at, raises_at, lowers_at, turns_at, is_held_after, NoneOf, SomeSince}
+use Rattle.console_core.specs.Reading.{HeldByPositions}
 use Rattle.console_core.specs.Reading.{LockedByCount}
 
 -- the step of the next lemma at a press, by the cell looked up
 raises_press : (ms : Maps) (a : Holding) (k : ℕ) (h : List Event) (x : Cell)
     → look (in_force ms h) (resolved ms h) k ≡ x
-    → raises a (resolve_press k (look (in_force ms h) (resolved ms h) k)) (resolved ms h) ≡ Raises ms a (Press k) h
+    → raises a (resolve_press k (look (in_force ms h) (resolved ms h) k)) (resolved ms h) ≡ raises_at ms a (Press k) h
 raises_press ms a k h (Char c) e = rw e refl
 raises_press ms a k h (Act b) e = rw e refl
 
 -- what an event is resolved to raises what the event raises
 raises-event : (ms : Maps) (a : Holding) (e : Event) (h : List Event)
-    → raises a (resolved_event ms h e) (resolved ms h) ≡ Raises ms a e h
+    → raises a (resolved_event ms h e) (resolved ms h) ≡ raises_at ms a e h
 raises-event ms a (Press k) h = raises_press ms a k h (look (in_force ms h) (resolved ms h) k) refl
 raises-event ms a (Release k) h = refl
 raises-event ms a Reset h = refl
@@ -40,26 +41,27 @@ lowers_press ms a k h (Act b) e = rw e refl
 
 -- what an event is resolved to lowers what the event lowers
 lowers-event : (ms : Maps) (a : Holding) (e : Event) (h : List Event)
-    → lowers a (resolved_event ms h e) (resolved ms h) ≡ Lowers ms a e h
+    → lowers a (resolved_event ms h e) (resolved ms h) ≡ lowers_at ms a e h
 lowers-event ms a (Press k) h = lowers_press ms a k h (look (in_force ms h) (resolved ms h) k) refl
 lowers-event ms a (Release k) h = refl
 lowers-event ms a Reset h = refl
 lowers-event ms a Load h = refl
 
 -- what is held, by the events that raise and lower it
-pub held-events : (ms : Maps) (a : Holding) (h : List Event) → Held ms a h ≡ holds_since (Raises ms a) (Lowers ms a) h
+pub held-events : (ms : Maps) (a : Holding) (h : List Event)
+    → is_held_after ms a h ≡ holds_since (raises_at ms a) (lowers_at ms a) h
 unfolding held resolved
 held-events ms a [] = refl
 held-events ms a (e ∷ h) = rw (raises-event ms a e h, lowers-event ms a e h, held-events ms a h) refl
 
 -- what an event is resolved to turns what the event turns
 pub turns-event : (ms : Maps) (l : Lock) (e : Event) (h : List Event)
-    → turns l (resolved_event ms h e) (resolved ms h) ≡ Turns ms l e h
-turns-event ms l e h = ap (λ t. t && not (Held ms (holding.Lock l) h)) (raises-event ms (holding.Lock l) e h)
+    → turns l (resolved_event ms h e) (resolved ms h) ≡ turns_at ms l e h
+turns-event ms l e h = ap (λ t. t && not (is_held_after ms (holding.Lock l) h)) (raises-event ms (holding.Lock l) e h)
 
 -- what an event is resolved to unlocks what the event unlocks
 unlocks-event : (ms : Maps) (l : Lock) (e : Event) (h : List Event)
-    → unlocks l (resolved_event ms h e) (resolved ms h) ≡ Unlocks ms l e h
+    → unlocks l (resolved_event ms h e) (resolved ms h) ≡ unlocks_at ms l e h
 unlocks-event ms l (Press k) h = press-unlocks l k (look (in_force ms h) (resolved ms h) k) (resolved ms h)
 unlocks-event ms l (Release k) h = refl
 unlocks-event ms l Reset h = refl
@@ -67,7 +69,7 @@ unlocks-event ms l Load h = refl
 
 -- the turns since the last unlock, counted on the events
 turns-count : (ms : Maps) (l : Lock) (h : List Event)
-    → count_since (unlocks l) (turns l) (resolved ms h) ≡ count_since (Unlocks ms l) (Turns ms l) h
+    → count_since (unlocks l) (turns l) (resolved ms h) ≡ count_since (unlocks_at ms l) (turns_at ms l) h
 unfolding resolved
 turns-count ms l [] = refl
 turns-count ms l (e ∷ h) = rw (unlocks-event ms l e h, turns-event ms l e h, turns-count ms l h) refl
@@ -105,7 +107,7 @@ module _ {A : Type 0} (starts ends : A → List A → Bool) where
 -- a holding action is held exactly if some event raises it and no later event lowers it
 pub held-positions : HeldByPositions
 held-positions ms a h = (
-  (λ e. some-since (Raises ms a) (Lowers ms a) h (sym (held-events ms a h) ∙ e)),
-  (λ p. held-events ms a h ∙ ap (λ t. holds_since (Raises ms a) (Lowers ms a) t) p.3
-      ∙ since-some (Raises ms a) (Lowers ms a) p.0 p.1 p.2 p.4 p.5),
+  (λ e. some-since (raises_at ms a) (lowers_at ms a) h (sym (held-events ms a h) ∙ e)),
+  (λ p. held-events ms a h ∙ ap (λ t. holds_since (raises_at ms a) (lowers_at ms a) t) p.3
+      ∙ since-some (raises_at ms a) (lowers_at ms a) p.0 p.1 p.2 p.4 p.5),
 )

@@ -21,16 +21,19 @@ use Rattle.keymap_core.proofs.SameActions.{same_action-true, same_action-refl}
 use Rattle.console_core.specs.declared.event.Event.{Event}
 use Rattle.console_core.specs.declared.event.Event.TheVariants.{Press, Release}
 use Rattle.console_core.specs.Positions.{first_of_two}
-use Rattle.console_core.specs.Resolved.{ResolvedEvent, held, remembered, taken_over, is_action, look, resolve_press}
+use Rattle.console_core.specs.Resolved.{ResolvedEvent, held, remembered, taken_over, is_this_action, look}
+use Rattle.console_core.specs.Resolved.{resolve_press}
 use Rattle.console_core.specs.Resolved.ResolvedEvent.{PressedCharacter, PressedAction, ReleasedKey}
 use Rattle.console_core.specs.Reading.{is_some}
-use Rattle.console_core.specs.History.{Maps, between, resolved, On, pressed, HasKey, HasKeys, IsNoLoad, HasNoLoads}
+use Rattle.console_core.specs.History.{Maps, between, resolved, is_on_after, pressed, HasKey, HasKeys, IsNoLoad}
+use Rattle.console_core.specs.History.{HasNoLoads}
 use Rattle.console_core.specs.History.{IsQuiet}
 use Rattle.console_core.specs.declared.held.Move.{Move}
 use Rattle.console_core.specs.declared.held.Move.TheVariants.{Hold, Turn, LetGo}
-use Rattle.console_core.specs.Moves.{State, start, look_in, Holds, IsIdle, with_holder, with_turned, IsMove, moved}
-use Rattle.console_core.specs.Moves.{Forgets, state_after, IsPath, events_of, events_along, release_of, releases}
-use Rattle.console_core.specs.Moves.{script, IsForgetful}
+use Rattle.console_core.specs.Moves.{State, start, look_in, Holds, IsIdle, with_holder, with_lock_turned, IsMove, moved}
+use Rattle.console_core.specs.Moves.{HolderForgets, state_after, IsPath, events_of_move, events_along, release_of}
+use Rattle.console_core.specs.Moves.{releases}
+use Rattle.console_core.specs.Moves.{script_of_path, IsForgetful}
 use Rattle.console_core.specs.Inner.Searching.{presses_of, presses_along}
 use Rattle.console_core.specs.Sticking.{IsPressOrRelease, presses, SticksIfReached, NeverSticksUnlessReached}
 use Rattle.console_core.proofs.OneMore.{resolved-start, resolved-more, held-start, held-character, held-action}
@@ -122,7 +125,7 @@ up_again false x e = rw e refl
 
 -- a press and release of an idle key that turns a lock
 exact-turn : (r : List ResolvedEvent) (s : State) (k : ℕ) (l : Lock) → Exact r s → IsIdle s k
-    → Exact (ReleasedKey k ∷ (PressedAction k (act.Lock l) ∷ r)) (with_turned s l)
+    → Exact (ReleasedKey k ∷ (PressedAction k (act.Lock l) ∷ r)) (with_lock_turned s l)
 exact-turn r s k l x idle =
     let e : taken_over (remembered k r) (act.Lock l) ≡ act.Lock l =
     ap (λ o. taken_over o (act.Lock l)) (idle-none r s k x idle) in
@@ -130,8 +133,8 @@ exact-turn r s k l x idle =
     takes r k (act.Lock l) (holding.Lock l) e in
     record {
       follows =
-          follows-release (PressedAction k (act.Lock l) ∷ r) (with_turned s l) k
-          (follows-turn r s k (act.Lock l) l x.follows e (x.up l)) (λ i. ap (λ o. is_action o (act.Mod i)) now);
+          follows-release (PressedAction k (act.Lock l) ∷ r) (with_lock_turned s l) k
+          (follows-turn r s k (act.Lock l) l x.follows e (x.up l)) (λ i. ap (λ o. is_this_action o (act.Mod i)) now);
       only = λ n a q. elim (cases_Bool (k == n)) [
         | inl t ↦
             absurd (none_some a
@@ -146,7 +149,8 @@ exact-turn r s k l x idle =
             ∙ q)
       ];
       up = λ j. held-release (holding.Lock j) k (PressedAction k (act.Lock l) ∷ r)
-          ∙ ap (λ o. held (holding.Lock j) (PressedAction k (act.Lock l) ∷ r) && not (is_action o (act.Lock j))) now
+          ∙ ap (λ o. held (holding.Lock j) (PressedAction k (act.Lock l) ∷ r)
+              && not (is_this_action o (act.Lock j))) now
           ∙ ap (λ b. b && not (same_lock l j))
           (held-action (holding.Lock j) k (act.Lock l) r
           ∙ ap (λ a. same_action a (act.Lock j) || held (holding.Lock j) r) e)
@@ -164,7 +168,8 @@ exact-let_go r s k i x holds = record {
         let_go-other s i k n holds t
         (x.only n a (sym (remembered-release n k r ∙ ap (λ b. if b then None else remembered n r) t) ∙ q))
   ];
-  up = λ l. held-release (holding.Lock l) k r ∙ ap (λ b. b && not (is_action (remembered k r) (act.Lock l))) (x.up l);
+  up = λ l. held-release (holding.Lock l) k r
+      ∙ ap (λ b. b && not (is_this_action (remembered k r) (act.Lock l))) (x.up l);
 }
 
 -- The events lead to the state, and only holders are pressed after them.
@@ -198,7 +203,7 @@ key_let_go s j n false f h = f h
 
 -- the events of a move lead from a state to the next
 stands-move : (ms : Maps) (h : List Event) (s : State) (move : Move) → IsMove ms.first s move → Stands ms h s
-    → Stands ms (events_of move ++ h) (moved s move)
+    → Stands ms (events_of_move move ++ h) (moved s move)
 stands-move ms h s (Hold k i) (lt, idle, seen, free) x = record {
   exact =
       rw (pressed-look ms h s k (Act (act.Mod i)) x.exact.follows x.no_loads seen)
@@ -268,19 +273,19 @@ stands ms (move ∷ path) is = stands-move ms (events_along path) (state_after p
 
 -- The modifier is on, and no key remembers it.
 pub record IsLeft (ms : Maps) (h : List Event) (i : Modifier) : Type 0 where
-  pub on : On ms i h ≡ true
+  pub on : is_on_after ms i h ≡ true
   pub nobody : (k : ℕ) → remembered k (resolved ms h) ≡ Some (act.Mod i) → ⊥
   pub keys : HasKeys h
   pub no_loads : HasNoLoads h
 
 -- an option that isn't the action fails the test
-is_not : (o : Option Action) (a : Action) → (o ≡ Some a → ⊥) → is_action o a ≡ false
+is_not : (o : Option Action) (a : Action) → (o ≡ Some a → ⊥) → is_this_action o a ≡ false
 is_not None a f = refl
 is_not (Some b) a f = not_true (same_action b a) (λ e. f (ap (λ x. Some x) (same_action-true b a e)))
 
 -- a holder that looks up a character leaves its modifier on
 left-character : (ms : Maps) (h : List Event) (s : State) (i : Modifier) (k : ℕ) → Stands ms h s
-    → Forgets ms.first s i k → IsLeft ms (Press k ∷ h) i
+    → HolderForgets ms.first s i k → IsLeft ms (Press k ∷ h) i
 left-character ms h s i k x (holds, (c, seen)) =
     let now : resolved ms (Press k ∷ h) ≡ PressedCharacter k c ∷ resolved ms h =
     pressed-look ms h s k (Char c) x.exact.follows x.no_loads seen in
@@ -319,7 +324,8 @@ left-release ms h i k lt x =
     let now : resolved ms (Release k ∷ h) ≡ ReleasedKey k ∷ resolved ms h = resolved-more ms h (Release k) in
     record {
       on = ap (λ r. held (holding.Mod i) r) now ∙ held-release (holding.Mod i) k (resolved ms h)
-          ∙ kept_on (held (holding.Mod i) (resolved ms h)) (is_action (remembered k (resolved ms h)) (act.Mod i)) x.on
+          ∙ kept_on (held (holding.Mod i) (resolved ms h))
+              (is_this_action (remembered k (resolved ms h)) (act.Mod i)) x.on
           (is_not (remembered k (resolved ms h)) (act.Mod i) (x.nobody k));
       nobody = λ n e. elim (cases_Bool (k == n)) [
         | inl t ↦
@@ -423,7 +429,7 @@ of_keys-releases s (i ∷ more) h x =
     (of_keys-release (s.holder i) (releases s more ++ h) (of_keys-releases s more h x))
 
 -- the events of a move are presses or releases
-of_keys-move : (move : Move) (h : List Event) → All IsPressOrRelease h → All IsPressOrRelease (events_of move ++ h)
+of_keys-move : (move : Move) (h : List Event) → All IsPressOrRelease h → All IsPressOrRelease (events_of_move move ++ h)
 of_keys-move (Hold k i) h x = All-cons IsPressOrRelease (Press k) h tt x
 of_keys-move (Turn k l) h x =
     All-cons IsPressOrRelease (Release k) (Press k ∷ h) tt (All-cons IsPressOrRelease (Press k) h tt x)
@@ -447,7 +453,7 @@ presses-releases s (i ∷ more) h =
     ∙ presses-releases s more h
 
 -- the events of a move have as many presses as the move
-presses-move : (move : Move) (h : List Event) → presses (events_of move ++ h) ≡ presses h + presses_of move
+presses-move : (move : Move) (h : List Event) → presses (events_of_move move ++ h) ≡ presses h + presses_of move
 presses-move (Hold k i) h = omega arith
 presses-move (Turn k l) h = omega arith
 presses-move (LetGo k i) h = omega arith
@@ -458,13 +464,13 @@ presses-along [] = refl
 presses-along (move ∷ path) = presses-move move (events_along path) ∙ ap (λ n. n + presses_of move) (presses-along path)
 
 -- a script has one press more than its path
-pub presses-script : (path : List Move) (k : ℕ) → presses (script path k) ≡ suc (presses_along path)
+pub presses-script : (path : List Move) (k : ℕ) → presses (script_of_path path k) ≡ suc (presses_along path)
 presses-script path k =
     presses-releases (state_after path) modifiers (Press k ∷ events_along path) ∙ ap suc (presses-along path)
 
 -- the script to a state where a holder looks up a character leaves its modifier on
 left-after : (ms : Maps) (path : List Move) → IsPath ms.first path → (i : Modifier) (k : ℕ)
-    → Forgets ms.first (state_after path) i k → IsLeft ms (script path k) i
+    → HolderForgets ms.first (state_after path) i k → IsLeft ms (script_of_path path k) i
 left-after ms path is i k forgets =
     let x : Stands ms (events_along path) (state_after path) = stands ms path is in
     left-releases ms (Press k ∷ events_along path) (state_after path) i modifiers x.key
@@ -480,7 +486,7 @@ sticks_if_reached m path is i k forgets =
       (
         quiet-after ms (events_along path) (state_after path) i k (stands ms path is) forgets.0,
         (λ ns first. (left-after ns path (subst (λ x. IsPath x path) (sym first) is) i k
-            (subst (λ x. Forgets x (state_after path) i k) (sym first) forgets)).on),
+            (subst (λ x. HolderForgets x (state_after path) i k) (sym first) forgets)).on),
       ),
     )
 

@@ -27,8 +27,10 @@ use Rattle.std.specs.Option.{is_some}
 use Rattle.std.specs.Map.{lookup}
 use Rattle.indexmap.specs.IndexMap.{insert_entry}
 use Rattle.console_core.specs.declared.held.Move.TheVariants.{Hold, Turn, LetGo}
-use Rattle.console_core.specs.Moves.{State, start, look_in, Holds, with_holder, with_turned, IsMove, moved, IsForgetful}
-use Rattle.console_core.specs.Moves.{state_after, Forgets, script, events_of, events_along, release_of, releases}
+use Rattle.console_core.specs.Moves.{State, start, look_in, Holds, with_holder, with_lock_turned, IsMove, moved}
+use Rattle.console_core.specs.Moves.{IsForgetful}
+use Rattle.console_core.specs.Moves.{state_after, HolderForgets, script_of_path, events_of_move, events_along}
+use Rattle.console_core.specs.Moves.{release_of, releases}
 use Rattle.console_core.specs.Inner.Searching.{presses_of}
 use Rattle.console_core.specs.Inner.Searching.{state_of, Entry, Entries, Grows, IsStep, IsMetBy, IsLetGoMet}
 use Rattle.console_core.specs.Inner.Searching.{ArePressesMet, AreWithin, IsFrom, AreAdded, IsTrail, IsReached, IsClosed}
@@ -158,7 +160,7 @@ pub presses-grow : (m : MapValue) (es now : Entries) (p : ℕ) (s : State) (k : 
     → ArePressesMet m es p s k → ArePressesMet m now p s k
 presses-grow m es now p s k g met idle = (
   (λ i seen free. met-grows es now p (with_holder s i (Some k)) g ((met idle).0 i seen free)),
-  (λ l other seen. met-grows es now p (with_turned s l) g ((met idle).1 l other seen)),
+  (λ l other seen. met-grows es now p (with_lock_turned s l) g ((met idle).1 l other seen)),
 )
 
 -- that an entry's releases are met stays so when the entries grow
@@ -318,10 +320,10 @@ pressed-mod m es p s k i seen met idle = (
 )
 
 pub pressed-lock : (m : MapValue) (es : Entries) (p : ℕ) (s : State) (k : ℕ) (l : Lock)
-    → look_in m s k ≡ Act (act.Lock l) → IsMetBy es p (with_turned s l) → ArePressesMet m es p s k
+    → look_in m s k ≡ Act (act.Lock l) → IsMetBy es p (with_lock_turned s l) → ArePressesMet m es p s k
 pressed-lock m es p s k l seen met idle = (
   (λ j f free. absurd (look_either j l (look_in m s k) f seen)),
-  (λ n other f. subst (λ q. IsMetBy es p (with_turned s q)) (look_lock l n (look_in m s k) seen f) met),
+  (λ n other f. subst (λ q. IsMetBy es p (with_lock_turned s q)) (look_lock l n (look_in m s k) seen f) met),
 )
 
 -- what a call of `meet` adds
@@ -460,11 +462,12 @@ trail-leads es j (move ∷ path) x at (y, parent, there, last, lt, rest) =
 pub leads-next : (es : Entries) (last : ℕ × Move) (items : List Event) (rest : List Move) (target : List Event)
     → LeadsBy es (Some last) rest → items ++ events_along rest ≡ target
     → (y : Entry) → slice_get es last.0 ≡ Some y
-    → (more : List Move) × ((items ++ events_of last.1) ++ events_along more ≡ target) × LeadsBy es y.1.last more
+    → (more : List Move) × ((items ++ events_of_move last.1) ++ events_along more ≡ target) × LeadsBy es y.1.last more
 leads-next es last items [] target none e y at = absurd none
 leads-next es last items (move ∷ path) target (by, trail) e y at = (
   path,
-  append_assoc items (events_of last.1) (events_along path) ∙ ap (λ b. items ++ (events_of b ++ events_along path)) by
+  append_assoc items (events_of_move last.1) (events_along path)
+      ∙ ap (λ b. items ++ (events_of_move b ++ events_along path)) by
       ∙ e,
   trail-leads es last.0 path y at trail,
 )
@@ -475,7 +478,7 @@ leads-end es items [] target x e = sym (append-nil items) ∙ e
 leads-end es items (move ∷ path) target none e = absurd none
 
 pub script-begin : (path : List Move) (k : ℕ) (s : State) (items : List Event) → state_after path ≡ s
-    → items ≡ releases s modifiers ++ Press k ∷ [] → items ++ events_along path ≡ script path k
+    → items ≡ releases s modifiers ++ Press k ∷ [] → items ++ events_along path ≡ script_of_path path k
 script-begin path k s items at e =
     ap (λ z. z ++ events_along path) e
     ∙ append_assoc (releases s modifiers) (Press k ∷ []) (events_along path)
@@ -658,13 +661,13 @@ done-hold m es n p d lt t k i (j, x, at, is, le) move =
 
 -- a finished search met each state that a turned lock leads to
 done-turn : (m : MapValue) (es : Entries) (n p : ℕ) → AreDone m es n → p < n → (t : State) (k : ℕ) (l : Lock)
-    → l ≢ Scroll → IsMetBy es p t → IsMove m t (Turn k l) → IsMetBy es (suc p) (with_turned t l)
+    → l ≢ Scroll → IsMetBy es p t → IsMove m t (Turn k l) → IsMetBy es (suc p) (with_lock_turned t l)
 done-turn m es n p d lt t k l other (j, x, at, is, le) move =
     let there : IsMove m (state_of x.0) (Turn k l) = subst (λ s. IsMove m s (Turn k l)) (sym is) move in
-    let met : IsMetBy es (x.1.presses + 1) (with_turned (state_of x.0) l) =
+    let met : IsMetBy es (x.1.presses + 1) (with_lock_turned (state_of x.0) l) =
     (d.pressed j x at (omega (arith, le, lt)) k there.0 there.1).1 l other there.2 in
-    subst (λ s. IsMetBy es (suc p) (with_turned s l)) is
-    (met-up es (x.1.presses + 1) (suc p) (with_turned (state_of x.0) l) (omega (arith, le)) met)
+    subst (λ s. IsMetBy es (suc p) (with_lock_turned s l)) is
+    (met-up es (x.1.presses + 1) (suc p) (with_lock_turned (state_of x.0) l) (omega (arith, le)) met)
 
 -- a finished search met no state where a holder looks up a character
 done-safe : (m : MapValue) (es : Entries) (n p : ℕ) → AreDone m es n → p < n → (t : State) → IsMetBy es p t
@@ -674,20 +677,20 @@ done-safe m es n p d lt t (j, x, at, is, le) forgetful =
 
 -- the same for each lock, but for the scroll lock
 among-turn : (m : MapValue) (es : Entries) (n p : ℕ) → AreDone m es n → p < n → (s : State) (k : ℕ) (l : Lock)
-    → IsAmong es p s → IsMove m s (Turn k l) → IsAmong es (suc p) (with_turned s l)
+    → IsAmong es p s → IsMove m s (Turn k l) → IsAmong es (suc p) (with_lock_turned s l)
 among-turn m es n p d lt s k Scroll (t, there, e) is = (t, met-more es p t there, e ∙ scroll-moved s k)
 among-turn m es n p d lt s k Caps (t, there, e) is = (
-  with_turned t Caps,
+  with_lock_turned t Caps,
   done-turn m es n p d lt t k Caps (λ q. cc) there (moves-unscrolled m s t (Turn k Caps) e is),
   same_moved s t (Turn k Caps) e,
 )
 among-turn m es n p d lt s k Num (t, there, e) is = (
-  with_turned t Num,
+  with_lock_turned t Num,
   done-turn m es n p d lt t k Num (λ q. cc) there (moves-unscrolled m s t (Turn k Num) e is),
   same_moved s t (Turn k Num) e,
 )
 among-turn m es n p d lt s k Alt (t, there, e) is = (
-  with_turned t Alt,
+  with_lock_turned t Alt,
   done-turn m es n p d lt t k Alt (λ q. cc) there (moves-unscrolled m s t (Turn k Alt) e is),
   same_moved s t (Turn k Alt) e,
 )
@@ -749,8 +752,8 @@ pub stuck-sticks : (m : MapValue) (es : Entries) (level p j k : ℕ) → AreInOr
 stuck-sticks m es level p j k order s (x, at, stuck) h is =
     let i : Modifier = stuck.0 in
     let r : IsReached m es j x = s.reached j x at in
-    let e : h ≡ script r.0 k = is r.0 x at r.1 r.3 in
-    let left = sticks_if_reached m r.0 r.2 i k (subst (λ t. Forgets m t i k) (sym r.3) stuck.1) in
+    let e : h ≡ script_of_path r.0 k = is r.0 x at r.1 r.3 in
+    let left = sticks_if_reached m r.0 r.2 i k (subst (λ t. HolderForgets m t i k) (sym r.3) stuck.1) in
     let within : x.1.presses ≤ p = order-within es level p order j x at in
     let count : presses h ≡ suc x.1.presses = ap presses e ∙ presses-script r.0 k ∙ ap suc r.4 in (
       subst (λ y. LeavesOn m y) (sym e) (left.0, left.1, (i, left.2)),

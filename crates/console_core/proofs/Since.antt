@@ -12,7 +12,8 @@ use Rattle.console_core.specs.declared.event.Event.TheVariants.{Press, Release, 
 use Rattle.console_core.specs.Positions.{first_of_two, first_since_at}
 use Rattle.console_core.specs.Resolved.{resolve_press, remembered, look, unless_nop}
 use Rattle.console_core.specs.History.{Maps, in_force, resolved}
-use Rattle.console_core.specs.Reading.{Forgets, Offers, Remembered, NoneOf, IsSinceLast, is_some, is_character, offered}
+use Rattle.console_core.specs.Reading.{forgets_at, offers_at, remembered_after, NoneOf, IsSinceLast, is_some}
+use Rattle.console_core.specs.Reading.{is_character, offered}
 use Rattle.console_core.specs.Reading.{FirstSince, NothingSince, RememberedByPositions, NothingRememberedByPositions}
 use Rattle.console_core.proofs.OneMore.{resolved-start, resolved-more, remembered-start, remembered-character}
 use Rattle.console_core.proofs.OneMore.{remembered-action, remembered-release, remembered-reset, remembered-load}
@@ -46,10 +47,11 @@ remembered_press ms k j h (Act b) o r =
 
 -- what is remembered, by the events that offer and forget it
 pub remembered-events : (ms : Maps) (k : ℕ) (h : List Event)
-    → first_since_at (Forgets ms k) (Offers ms k) h ≡ Remembered ms k h
+    → first_since_at (forgets_at ms k) (offers_at ms k) h ≡ remembered_after ms k h
 remembered-events ms k [] = sym (ap (λ r. remembered k r) (resolved-start ms) ∙ remembered-start k)
 remembered-events ms k (Press j ∷ h) =
-    remembered_press ms k j h (look (in_force ms h) (resolved ms h) j) (first_since_at (Forgets ms k) (Offers ms k) h)
+    remembered_press ms k j h (look (in_force ms h) (resolved ms h) j)
+        (first_since_at (forgets_at ms k) (offers_at ms k) h)
     (remembered-events ms k h)
     ∙ sym (ap (λ r. remembered k r) (resolved-more ms h (Press j)))
 remembered-events ms k (Release j ∷ h) =
@@ -180,13 +182,13 @@ module _ {A B : Type 0} (ends : A → List A → Bool) (pick : A → List A → 
 -- what is remembered is the first action offered since the last event that forgets
 pub remembered-positions : RememberedByPositions
 remembered-positions ms k h a = (
-  (λ e. first-since (Forgets ms k) (Offers ms k) h a (remembered-events ms k h ∙ e)),
-  (λ s. sym (remembered-events ms k h) ∙ since-first (Forgets ms k) (Offers ms k) h a s),
+  (λ e. first-since (forgets_at ms k) (offers_at ms k) h a (remembered-events ms k h ∙ e)),
+  (λ s. sym (remembered-events ms k h) ∙ since-first (forgets_at ms k) (offers_at ms k) h a s),
 )
 
 -- nothing is remembered exactly if nothing was offered since the last event that forgets
 pub nothing_remembered-positions : NothingRememberedByPositions
 nothing_remembered-positions ms k h = (
-  (λ e. nothing-since (Forgets ms k) (Offers ms k) h (remembered-events ms k h ∙ e)),
-  (λ s. sym (remembered-events ms k h) ∙ since-nothing (Forgets ms k) (Offers ms k) h s),
+  (λ e. nothing-since (forgets_at ms k) (offers_at ms k) h (remembered-events ms k h ∙ e)),
+  (λ s. sym (remembered-events ms k h) ∙ since-nothing (forgets_at ms k) (offers_at ms k) h s),
 )

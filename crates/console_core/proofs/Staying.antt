@@ -23,13 +23,14 @@ use Rattle.keymap_core.proofs.SameActions.{same_action-true, same_action-refl}
 use Rattle.console_core.specs.declared.event.Event.{Event}
 use Rattle.console_core.specs.declared.event.Event.TheVariants.{Press, Release, Reset, Load}
 use Rattle.console_core.specs.Columns.{look_with}
-use Rattle.console_core.specs.Resolved.{ResolvedEvent, held, locked, on, remembered, taken_over, is_action, look}
+use Rattle.console_core.specs.Resolved.{ResolvedEvent, held, locked, on, remembered, taken_over, is_this_action, look}
 use Rattle.console_core.specs.Resolved.{resolve, resolve_press}
 use Rattle.console_core.specs.Resolved.ResolvedEvent.{PressedCharacter, PressedAction, ReleasedKey, WasReset}
 use Rattle.console_core.specs.Reading.{is_some}
-use Rattle.console_core.specs.History.{Maps, between, in_force, loaded, resolved, On, pressed, HasKey, HasKeys}
+use Rattle.console_core.specs.History.{Maps, between, in_force, loaded, resolved, is_on_after, pressed, HasKey, HasKeys}
 use Rattle.console_core.specs.History.{IsNoLoad, HasNoLoads}
-use Rattle.console_core.specs.Moves.{State, start, is_held, look_in, Holds, IsIdle, with_holder, with_turned, IsMove}
+use Rattle.console_core.specs.Moves.{State, start, is_held, look_in, Holds, IsIdle, with_holder, with_lock_turned}
+use Rattle.console_core.specs.Moves.{IsMove}
 use Rattle.console_core.specs.Moves.{IsForgetful}
 use Rattle.console_core.specs.declared.held.Move.TheVariants.{Hold, Turn}
 use Rattle.console_core.specs.Sticking.{NeverSticks, SticksAfter, presses}
@@ -214,7 +215,7 @@ turned_by l j r y false t d e = e
 -- a press that turns a lock leads to the state with the lock turned
 pub follows-turn : (r : List ResolvedEvent) (s : State) (k : ℕ) (b : Action) (l : Lock) → Follows r s
     → taken_over (remembered k r) b ≡ act.Lock l → held (holding.Lock l) r ≡ false
-    → Follows (PressedAction k b ∷ r) (with_turned s l)
+    → Follows (PressedAction k b ∷ r) (with_lock_turned s l)
 follows-turn r s k b l f e d = record {
   on =
       λ i. held-action (holding.Mod i) k b r ∙ ap (λ a. same_action a (act.Mod i) || held (holding.Mod i) r) e ∙ f.on i;
@@ -253,7 +254,7 @@ pub follows-let_go : (r : List ResolvedEvent) (s : State) (k : ℕ) (i : Modifie
     → remembered k r ≡ Some (act.Mod i) → Follows (ReleasedKey k ∷ r) (with_holder s i None)
 follows-let_go r s k i f e = record {
   on =
-      λ j. held-release (holding.Mod j) k r ∙ ap (λ o. held (holding.Mod j) r && not (is_action o (act.Mod j))) e
+      λ j. held-release (holding.Mod j) k r ∙ ap (λ o. held (holding.Mod j) r && not (is_this_action o (act.Mod j))) e
       ∙ off_held (same_modifier i j) (held (holding.Mod j) r) (s.holder j) (f.on j);
   locked = λ l. locked-release l k r ∙ f.locked l;
   holds = λ j n h. elim (cases_Bool (same_modifier i j)) [
@@ -272,7 +273,7 @@ follows-let_go r s k i f e = record {
 
 -- a release of a key that remembers no modifier
 pub follows-release : (r : List ResolvedEvent) (s : State) (k : ℕ) → Follows r s
-    → ((i : Modifier) → is_action (remembered k r) (act.Mod i) ≡ false) → Follows (ReleasedKey k ∷ r) s
+    → ((i : Modifier) → is_this_action (remembered k r) (act.Mod i) ≡ false) → Follows (ReleasedKey k ∷ r) s
 follows-release r s k f none = record {
   on =
       λ j. held-release (holding.Mod j) k r ∙ ap (λ t. held (holding.Mod j) r && not t) (none j)
@@ -281,7 +282,7 @@ follows-release r s k f none = record {
   holds = λ j n h. elim (cases_Bool (k == n)) [
     | inl u ↦
         let q : remembered k r ≡ Some (act.Mod j) = ap (λ x. remembered x r) (eqb-true k n u) ∙ f.holds j n h in
-        absurd (true≢false (sym (ap (λ o. is_action o (act.Mod j)) q ∙ same_action-refl (act.Mod j)) ∙ none j))
+        absurd (true≢false (sym (ap (λ o. is_this_action o (act.Mod j)) q ∙ same_action-refl (act.Mod j)) ∙ none j))
     | inr u ↦ rw (remembered-release n k r, u) (f.holds j n h)
   ];
 }
@@ -306,7 +307,7 @@ KeepsLetGo S = (s : State) (k : ℕ) (i : Modifier) → S s → Holds s k i → 
 record LeadsOn (m : MapValue) (S T : State → Type 0) : Type 0 where
   stay : (s : State) → S s → T s
   hold : (s : State) (k : ℕ) (i : Modifier) → S s → IsMove m s (Hold k i) → T (with_holder s i (Some k))
-  turn : (s : State) (k : ℕ) (l : Lock) → S s → IsMove m s (Turn k l) → T (with_turned s l)
+  turn : (s : State) (k : ℕ) (l : Lock) → S s → IsMove m s (Turn k l) → T (with_lock_turned s l)
   safe : (s : State) → S s → IsForgetful m s → ⊥
 
 -- a state without a holder for the modifier is as after letting go of it
@@ -350,7 +351,7 @@ stays-lock : (m : MapValue) (S T : State → Type 0) → LeadsOn m S T → (r : 
     → Stays T (PressedAction k b ∷ r)
 stays-lock m S T leads r s there f k lt b seen l e is true d = (s, leads.stay s there, follows-down r s k b l f e d)
 stays-lock m S T leads r s there f k lt b seen l e is false d = (
-  with_turned s l,
+  with_lock_turned s l,
   leads.turn s k l there
       (lt, (λ j h. some_mod_lock j l (holder-takes r s k b (holding.Lock l) j f h e)), seen ∙ ap (λ x. Act x) is),
   follows-turn r s k b l f e d,
@@ -383,7 +384,7 @@ stays-press m S T leads r s there f k lt (Act b) seen =
 stays-release : (S : State → Type 0) → KeepsLetGo S → (r : List ResolvedEvent) (s : State) → S s → Follows r s
     → (k : ℕ) (o : Option Action) → remembered k r ≡ o → Stays S (ReleasedKey k ∷ r)
 stays-release S keeps r s there f k None e =
-    (s, there, follows-release r s k f (λ i. ap (λ o. is_action o (act.Mod i)) e))
+    (s, there, follows-release r s k f (λ i. ap (λ o. is_this_action o (act.Mod i)) e))
 stays-release S keeps r s there f k (Some a) e =
     elim (kind_of a) [
       | inl p ↦ (
@@ -392,9 +393,9 @@ stays-release S keeps r s there f k (Some a) e =
         follows-let_go r s k p.0 f (e ∙ ap (λ x. Some x) p.1),
       )
       | inr (inl p) ↦
-          (s, there, follows-release r s k f (λ i. ap (λ o. is_action o (act.Mod i)) (e ∙ ap (λ x. Some x) p.1)))
+          (s, there, follows-release r s k f (λ i. ap (λ o. is_this_action o (act.Mod i)) (e ∙ ap (λ x. Some x) p.1)))
       | inr (inr none) ↦
-          (s, there, follows-release r s k f (λ i. ap (λ o. is_action o (act.Mod i)) e ∙ none (holding.Mod i)))
+          (s, there, follows-release r s k f (λ i. ap (λ o. is_this_action o (act.Mod i)) e ∙ none (holding.Mod i)))
     ]
 
 -- a reset: all holders let go, one after another
@@ -461,7 +462,7 @@ pub record IsSafeBelow (m : MapValue) (n : ℕ) (S : ℕ → State → Type 0) :
   pub hold : (p : ℕ) → p < n → (s : State) (k : ℕ) (i : Modifier) → S p s → IsMove m s (Hold k i)
       → S (suc p) (with_holder s i (Some k))
   pub turn : (p : ℕ) → p < n → (s : State) (k : ℕ) (l : Lock) → S p s → IsMove m s (Turn k l)
-      → S (suc p) (with_turned s l)
+      → S (suc p) (with_lock_turned s l)
   pub safe : (p : ℕ) → p < n → (s : State) → S p s → IsForgetful m s → ⊥
 
 -- after p presses the state is in its set, where p is below n
@@ -519,7 +520,7 @@ stays ms n S safe (e ∷ h) keys no_loads le =
 
 -- so a modifier is on only while a key that bears it is pressed
 follows-on : (ms : Maps) (h : List Event) (s : State) → Follows (resolved ms h) s → HasKeys h → HasNoLoads h
-    → IsOnOnlyWhilePressed ms.first h (λ i. On ms i h)
+    → IsOnOnlyWhilePressed ms.first h (λ i. is_on_after ms i h)
 follows-on ms h s f keys no_loads i e =
     let k : (k : ℕ) × Holds s k i = some_of (s.holder i) (sym (f.on i) ∙ e) in
     let r : remembered k.0 (resolved ms h) ≡ Some (act.Mod i) = f.holds i k.0 k.1 in
@@ -532,16 +533,16 @@ follows-on ms h s f keys no_loads i e =
     )
 
 -- where modifiers are on only while their keys are pressed, none is on once all are released
-follows-off : (ms : Maps) (h : List Event) → IsOnOnlyWhilePressed ms.first h (λ i. On ms i h)
-    → IsOffOnceQuiet h (λ i. On ms i h)
+follows-off : (ms : Maps) (h : List Event) → IsOnOnlyWhilePressed ms.first h (λ i. is_on_after ms i h)
+    → IsOffOnceQuiet h (λ i. is_on_after ms i h)
 follows-off ms h on quiet i =
-    not_true (On ms i h) (λ e.
+    not_true (is_on_after ms i h) (λ e.
     let s : (k : ℕ) × (k < 128) × Bears ms.first k (holding.Mod i) × (pressed k h ≡ true) = on i e in
     true≢false (sym s.3 ∙ quiet s.0 s.1))
 
 -- below n presses a modifier is on only while a key that bears it is pressed
 within-on : (ms : Maps) (n : ℕ) (S : ℕ → State → Type 0) → IsSafeBelow ms.first n S → (h : List Event) → HasKeys h
-    → HasNoLoads h → presses h ≤ n → IsOnOnlyWhilePressed ms.first h (λ i. On ms i h)
+    → HasNoLoads h → presses h ≤ n → IsOnOnlyWhilePressed ms.first h (λ i. is_on_after ms i h)
 within-on ms n S safe h keys no_loads le =
     let s : Stays (Below n S (presses h)) (resolved ms h) = stays ms n S safe h keys no_loads le in
     follows-on ms h s.0 s.2 keys no_loads
@@ -549,10 +550,10 @@ within-on ms n S safe h keys no_loads le =
 -- sets that are safe below every number
 pub never-sticks : (m : MapValue) (S : ℕ → State → Type 0) → ((n : ℕ) → IsSafeBelow m n S) → NeverSticks m
 never-sticks m S safe ms h first keys no_loads =
-    let on : IsOnOnlyWhilePressed ms.first h (λ i. On ms i h) =
+    let on : IsOnOnlyWhilePressed ms.first h (λ i. is_on_after ms i h) =
     within-on ms (presses h) S (subst (λ x. IsSafeBelow x (presses h) S) (sym first) (safe (presses h))) h keys
     no_loads (omega arith) in
-    (subst (λ x. IsOnOnlyWhilePressed x h (λ i. On ms i h)) first on, follows-off ms h on)
+    (subst (λ x. IsOnOnlyWhilePressed x h (λ i. is_on_after ms i h)) first on, follows-off ms h on)
 
 -- sets that are safe below n
 pub sticks-late : (m : MapValue) (n : ℕ) (S : ℕ → State → Type 0) → IsSafeBelow m n S → (h : List Event) → HasKeys h
@@ -561,7 +562,7 @@ sticks-late m n S safe h keys no_loads i (quiet, on) =
     elim (cases_lt n (presses h)) [
       | inl lt ↦ lt
       | inr le ↦
-          let off : On (between m m) i h ≡ false =
+          let off : is_on_after (between m m) i h ≡ false =
           follows-off (between m m) h (within-on (between m m) n S safe h keys no_loads le) quiet i in
           absurd (true≢false (sym (on (between m m) refl) ∙ off))
     ]

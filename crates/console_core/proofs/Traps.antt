@@ -19,11 +19,12 @@ use Rattle.keymap_core.specs.Maps.{MapValue, entry_at}
 use Rattle.keymap_core.specs.Bearers.{IsCellOf}
 use Rattle.console_core.specs.declared.event.Event.{Event}
 use Rattle.console_core.specs.declared.event.Event.TheVariants.{Press, Release, Reset, Load}
-use Rattle.console_core.specs.Columns.{xor, flips, slot_of}
-use Rattle.console_core.specs.Resolved.{ResolvedEvent, held, locked, on, remembered, taken_over, is_action, look}
+use Rattle.console_core.specs.Columns.{exactly_one, flips_shift, slot_of}
+use Rattle.console_core.specs.Resolved.{ResolvedEvent, held, locked, on, remembered, taken_over, is_this_action, look}
 use Rattle.console_core.specs.Resolved.{resolve_press}
 use Rattle.console_core.specs.History.{Maps, in_force, resolved, HasKey, HasKeys}
-use Rattle.console_core.specs.Traps.{Bits, cell_with, group_bit, HasNoLocks, HasNoTrap, OnOnlyWhilePressedWithoutTraps}
+use Rattle.console_core.specs.Traps.{Bits, cell_with, group_bit, NobodyBearsCellPickingLocks, HasNoTrap}
+use Rattle.console_core.specs.Traps.{OnOnlyWhilePressedWithoutTraps}
 use Rattle.console_core.proofs.OneMore.{resolved-start, resolved-more, held-start, held-character, held-action}
 use Rattle.console_core.proofs.OneMore.{held-release, held-reset, held-load, remembered-character, remembered-action}
 use Rattle.console_core.proofs.OneMore.{remembered-release}
@@ -43,15 +44,15 @@ bits_of r =
     }
 
 -- without caps and num no flag flips
-no_flip : (f : LockFlag) → flips f false false ≡ false
+no_flip : (f : LockFlag) → flips_shift f false false ≡ false
 no_flip flag.O = refl
 no_flip flag.C = refl
 no_flip flag.N = refl
 no_flip flag.B = refl
 
-xor-false : (b : Bool) → xor b false ≡ b
-xor-false true = refl
-xor-false false = refl
+exactly_one-false : (b : Bool) → exactly_one b false ≡ b
+exactly_one-false true = refl
+exactly_one-false false = refl
 
 -- without locks a look follows from the modifiers alone
 pub look-bits : (m : MapValue) (r : List ResolvedEvent) (k : ℕ) → locked lock.Caps r ≡ false → locked lock.Num r ≡ false
@@ -62,9 +63,9 @@ look-bits m r k caps num alt =
       alt,
       caps,
       num,
-      xor-false (held (holding.Mod AltShift) r),
+      exactly_one-false (held (holding.Mod AltShift) r),
       no_flip (entry_at m (slot_of k (held (holding.Mod AltShift) r))).flag,
-      xor-false (held (holding.Mod LeftShift) r || held (holding.Mod RightShift) r),
+      exactly_one-false (held (holding.Mod LeftShift) r || held (holding.Mod RightShift) r),
     )
     refl
 
@@ -114,7 +115,7 @@ press-kept m i j r (Act b) all f trap h =
     ]
 
 -- without locks and traps a modifier that is on is remembered
-pub on-remembered : (ms : Maps) (h : List Event) → HasNoLocks (in_force ms h) → (i : Modifier)
+pub on-remembered : (ms : Maps) (h : List Event) → NobodyBearsCellPickingLocks (in_force ms h) → (i : Modifier)
     → HasNoTrap (in_force ms h) i → HasKeys h → on i (resolved ms h) ≡ true
     → RememberedBySome (holding.Mod i) (resolved ms h)
 on-remembered ms [] locks i free keys e =
@@ -144,7 +145,7 @@ on-remembered ms (Press j ∷ h) locks i free keys e =
     ))
     (subst (λ r. on i r ≡ true) (resolved-more ms h (Press j)) e))
 on-remembered ms (Release j ∷ h) locks i free keys e =
-    let p : (on i (resolved ms h) ≡ true) × (not (is_action (remembered j (resolved ms h)) (act.Mod i)) ≡ true) =
+    let p : (on i (resolved ms h) ≡ true) × (not (is_this_action (remembered j (resolved ms h)) (act.Mod i)) ≡ true) =
     and_parts _ _
     (sym (held-release (holding.Mod i) j (resolved ms h)) ∙ ap (λ r. on i r) (sym (resolved-more ms h (Release j)))
     ∙ e) in
@@ -155,8 +156,8 @@ on-remembered ms (Release j ∷ h) locks i free keys e =
       | inl q ↦
           let f : remembered j (resolved ms h) ≡ Some (act.Mod i) =
           ap (λ x. remembered x (resolved ms h)) (eqb-true j s.0 q) ∙ s.1 in
-          absurd (not_false (is_action (remembered j (resolved ms h)) (act.Mod i)) p.1
-          (ap (λ o. is_action o (act.Mod i)) f ∙ same_action-refl (act.Mod i)))
+          absurd (not_false (is_this_action (remembered j (resolved ms h)) (act.Mod i)) p.1
+          (ap (λ o. is_this_action o (act.Mod i)) f ∙ same_action-refl (act.Mod i)))
       | inr q ↦ (s.0, rw (remembered-release s.0 j (resolved ms h), q) s.1)
     ])
 on-remembered ms (Reset ∷ h) locks i free keys e =

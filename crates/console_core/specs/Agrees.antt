@@ -40,5 +40,5 @@ pub record Agrees (m : MapValue) (h : List ResolvedEvent) (k : Kept) : Type 0 wh
 
 -- the same after a list of events under the two maps
 pub record StandsAt (ms : Maps) (h : List Event) (k : Kept) : Type 0 where
-  pub force : k.is_second ≡ is_second_in_force h
+  pub map_in_force : k.is_second ≡ is_second_in_force h
   pub agrees : Agrees (in_force ms h) (resolved ms h) k

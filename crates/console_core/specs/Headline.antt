@@ -44,8 +44,8 @@ use Rattle.keymap_core.specs.Numbers.{key_count}
 use Rattle.console_core.specs.declared.event.Event.{Event}
 use Rattle.console_core.specs.declared.event.Event.TheVariants.{Press, Reset}
 use Rattle.console_core.specs.Positions.{count_where, is_odd}
-use Rattle.console_core.specs.Reading.{Turns}
-use Rattle.console_core.specs.History.{Maps, in_force, On, Locked, Pending, AnswersTo, pressed, HasKeys, HasNoLoads, IsQuiet}
+use Rattle.console_core.specs.Reading.{turns_at}
+use Rattle.console_core.specs.History.{Maps, in_force, is_on_after, is_locked_after, accent_pending_after, answers_to, pressed, HasKeys, HasNoLoads, IsQuiet}
 
 -- Safe: a key with a modifier or a lock among its cells has no character among them.
 abbrev pub IsSafe : MapValue → Type 0
@@ -70,7 +70,7 @@ IsOnOnlyWhilePressed m h is_on =
 abbrev pub OnOnlyWhilePressed : Type 0
 OnOnlyWhilePressed =
     (ms : Maps) (h : List Event) → IsSafe (in_force ms h) → HasKeys h
-    → IsOnOnlyWhilePressed (in_force ms h) h (λ i. On ms i h)
+    → IsOnOnlyWhilePressed (in_force ms h) h (λ i. is_on_after ms i h)
 
 -- A modifier that one key alone bears throughout is on exactly while that key is pressed.
 abbrev pub IsOnExactlyWhilePressed : MapValue → List Event → (Modifier → Bool) → Type 0
@@ -78,14 +78,14 @@ IsOnExactlyWhilePressed m h is_on = (i : Modifier) (k : ℕ) → BearsThroughout
 
 abbrev pub OnExactlyWhilePressed : Type 0
 OnExactlyWhilePressed =
-    (ms : Maps) (h : List Event) → HasKeys h → IsOnExactlyWhilePressed (in_force ms h) h (λ i. On ms i h)
+    (ms : Maps) (h : List Event) → HasKeys h → IsOnExactlyWhilePressed (in_force ms h) h (λ i. is_on_after ms i h)
 
 -- A repeat doesn't turn a steady lock.
 abbrev pub RepeatsTurnNoSteadyLock : Type 0
 RepeatsTurnNoSteadyLock =
     (ms : Maps) (h : List Event) → (l : Lock) → IsSteady (in_force ms h) l → (k : ℕ) → HasKeys (Press k ∷ h)
     → pressed k h ≡ true
-    → (Turns ms l (Press k) h ≡ false) × (Locked ms l (Press k ∷ h) ≡ Locked ms l h)
+    → (turns_at ms l (Press k) h ≡ false) × (is_locked_after ms l (Press k ∷ h) ≡ is_locked_after ms l h)
 
 -- the events, in the order of their delivery, are all repeats after h
 abbrev pub AreRepeats : List Event → List Event → Type 0
@@ -99,29 +99,31 @@ abbrev pub LastRepeatsTurnNoSteadyLock : Maps → List Event → List Event → 
 LastRepeatsTurnNoSteadyLock ms h events is_locked =
     (earlier : List Event) (repeats : List Event) → events ≡ earlier ++ repeats
     → AreRepeats (reverse earlier ++ h) repeats
-    → (l : Lock) → IsSteady (in_force ms (reverse earlier ++ h)) l → is_locked l ≡ Locked ms l (reverse earlier ++ h)
+    → (l : Lock) → IsSteady (in_force ms (reverse earlier ++ h)) l
+        → is_locked l ≡ is_locked_after ms l (reverse earlier ++ h)
 
 -- Once no key is pressed, no modifier is on.
 abbrev pub IsOffOnceQuiet : List Event → (Modifier → Bool) → Type 0
 IsOffOnceQuiet h is_on = IsQuiet h → (i : Modifier) → is_on i ≡ false
 
 abbrev pub OffOnceQuiet : Type 0
-OffOnceQuiet = (ms : Maps) (h : List Event) → IsSafe (in_force ms h) → HasKeys h → IsOffOnceQuiet h (λ i. On ms i h)
+OffOnceQuiet = (ms : Maps) (h : List Event) → IsSafe (in_force ms h) → HasKeys h
+    → IsOffOnceQuiet h (λ i. is_on_after ms i h)
 
 -- Two lists of events after which a console goes on in the same way: the same answers to whatever comes, and the same
 -- modifiers, locks and pending accent after it.
 abbrev pub GoesOnAs : Maps → List Event → List Event → Type 0
 GoesOnAs ms h h' =
     (later : List Event) → HasKeys later
-    → (AnswersTo ms h later ≡ AnswersTo ms h' later)
-    × ((i : Modifier) → On ms i (reverse later ++ h) ≡ On ms i (reverse later ++ h'))
-    × ((l : Lock) → Locked ms l (reverse later ++ h) ≡ Locked ms l (reverse later ++ h'))
-    × (Pending ms (reverse later ++ h) ≡ Pending ms (reverse later ++ h'))
+    → (answers_to ms h later ≡ answers_to ms h' later)
+    × ((i : Modifier) → is_on_after ms i (reverse later ++ h) ≡ is_on_after ms i (reverse later ++ h'))
+    × ((l : Lock) → is_locked_after ms l (reverse later ++ h) ≡ is_locked_after ms l (reverse later ++ h'))
+    × (accent_pending_after ms (reverse later ++ h) ≡ accent_pending_after ms (reverse later ++ h'))
 
 -- Once no key is pressed and no accent is pending, a console goes on as after a reset.
 abbrev pub GoesOnAsAfterReset : Type 0
 GoesOnAsAfterReset =
-    (ms : Maps) (h : List Event) → IsSafe (in_force ms h) → HasKeys h → IsQuiet h → Pending ms h ≡ None
+    (ms : Maps) (h : List Event) → IsSafe (in_force ms h) → HasKeys h → IsQuiet h → accent_pending_after ms h ≡ None
     → GoesOnAs ms h (Reset ∷ h)
 
 -- a fresh press of the key
@@ -138,7 +140,8 @@ IsLockedByFreshPresses ms h is_locked =
     → is_locked l ≡ is_odd (count_where (is_fresh_press k) h)
 
 abbrev pub LockedByFreshPresses : Type 0
-LockedByFreshPresses = (ms : Maps) (h : List Event) → HasKeys h → IsLockedByFreshPresses ms h (λ l. Locked ms l h)
+LockedByFreshPresses = (ms : Maps) (h : List Event) → HasKeys h
+    → IsLockedByFreshPresses ms h (λ l. is_locked_after ms l h)
 
 -- What holds after events were delivered to a console, at the list of events where it then stands: `stood` are the
 -- lists where it stood before.

@@ -78,19 +78,19 @@ abbrev pub resolved_event : Maps → List Event → Event → ResolvedEvent
 resolved_event ms h e = resolve (in_force ms h) (loaded ms h) (resolved ms h) e
 
 -- Which modifiers and locks are on after h, which accent is pending, and the answer to the event e after h.
-abbrev pub On : Maps → Modifier → List Event → Bool
-On ms i h = on i (resolved ms h)
+abbrev pub is_on_after : Maps → Modifier → List Event → Bool
+is_on_after ms i h = on i (resolved ms h)
 
-abbrev pub Locked : Maps → Lock → List Event → Bool
-Locked ms l h = locked l (resolved ms h)
+abbrev pub is_locked_after : Maps → Lock → List Event → Bool
+is_locked_after ms l h = locked l (resolved ms h)
 
-abbrev pub Pending : Maps → List Event → Option ℕ
-Pending ms h = pending (in_force ms h) (resolved ms h)
+abbrev pub accent_pending_after : Maps → List Event → Option ℕ
+accent_pending_after ms h = pending (in_force ms h) (resolved ms h)
 
-abbrev pub AnswerTo : Maps → List Event → Event → Answer
-AnswerTo ms h e = answer_resolved (in_force ms h) (resolved_event ms h e) (resolved ms h)
+abbrev pub answer_to : Maps → List Event → Event → Answer
+answer_to ms h e = answer_resolved (in_force ms h) (resolved_event ms h e) (resolved ms h)
 
 -- the answers to a list of events in the order of their delivery, after h
-abbrev pub AnswersTo : Maps → List Event → List Event → List Answer
-AnswersTo ms h [] = []
-AnswersTo ms h (e ∷ later) = AnswerTo ms h e ∷ AnswersTo ms (e ∷ h) later
+abbrev pub answers_to : Maps → List Event → List Event → List Answer
+answers_to ms h [] = []
+answers_to ms h (e ∷ later) = answer_to ms h e ∷ answers_to ms (e ∷ h) later

@@ -6,9 +6,10 @@ use Rattle.keymap_core.specs.Maps.{MapValue}
 use Rattle.console_core.specs.declared.event.Event.{Event}
 use Rattle.console_core.specs.declared.event.Event.TheVariants.{Press, Release, Reset, Load}
 use Rattle.console_core.specs.Positions.{count_where, is_odd}
-use Rattle.console_core.specs.History.{Maps, between, in_force, resolved, On, Locked, Pending, AnswersTo, HasKeys}
+use Rattle.console_core.specs.History.{Maps, between, in_force, resolved, is_on_after, is_locked_after}
+use Rattle.console_core.specs.History.{accent_pending_after, answers_to, HasKeys}
 use Rattle.console_core.specs.History.{HasNoLoads}
-use Rattle.console_core.specs.Reading.{Turns}
+use Rattle.console_core.specs.Reading.{turns_at}
 
 -- a list without loads reads as under the first map alone, and a lock is on after an odd number of turns
 abbrev pub WithoutLoads : Type 0
@@ -16,7 +17,7 @@ WithoutLoads =
     (ms : Maps) (h : List Event) → HasNoLoads h
     → (in_force ms h ≡ ms.first)
     × (resolved ms h ≡ resolved (between ms.first ms.first) h)
-    × ((l : Lock) → Locked ms l h ≡ is_odd (count_where (Turns ms l) h))
+    × ((l : Lock) → is_locked_after ms l h ≡ is_odd (count_where (turns_at ms l) h))
 
 abbrev pub as_reset : Event → Event
 as_reset (Press k) = Press k
@@ -32,8 +33,8 @@ loads_as_resets (e ∷ h) = as_reset e ∷ loads_as_resets h
 abbrev pub LoadsOfOneMapAreResets : Type 0
 LoadsOfOneMapAreResets =
     (m : MapValue) (h : List Event) → HasKeys h
-    → ((i : Modifier) → On (between m m) i h ≡ On (between m m) i (loads_as_resets h))
-    × ((l : Lock) → Locked (between m m) l h ≡ Locked (between m m) l (loads_as_resets h))
-    × (Pending (between m m) h ≡ Pending (between m m) (loads_as_resets h))
+    → ((i : Modifier) → is_on_after (between m m) i h ≡ is_on_after (between m m) i (loads_as_resets h))
+    × ((l : Lock) → is_locked_after (between m m) l h ≡ is_locked_after (between m m) l (loads_as_resets h))
+    × (accent_pending_after (between m m) h ≡ accent_pending_after (between m m) (loads_as_resets h))
     × ((later : List Event) → HasKeys later
-    → AnswersTo (between m m) h later ≡ AnswersTo (between m m) (loads_as_resets h) (loads_as_resets later))
+    → answers_to (between m m) h later ≡ answers_to (between m m) (loads_as_resets h) (loads_as_resets later))

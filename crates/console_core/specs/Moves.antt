@@ -43,8 +43,8 @@ IsIdle s k = (i : Modifier) → Holds s k i → ⊥
 abbrev pub with_holder : State → Modifier → Option ℕ → State
 with_holder s i holder = record s { holder = λ j. if same_modifier i j then holder else s.holder j }
 
-abbrev pub with_turned : State → Lock → State
-with_turned s l = record s { is_locked = λ j. if same_lock l j then not (s.is_locked j) else s.is_locked j }
+abbrev pub with_lock_turned : State → Lock → State
+with_lock_turned s l = record s { is_locked = λ j. if same_lock l j then not (s.is_locked j) else s.is_locked j }
 
 -- The moves from a state. A key that holds nothing becomes the holder of the modifier that it looks up, if that has
 -- none,
@@ -56,15 +56,15 @@ IsMove m s (LetGo k i) = Holds s k i
 
 abbrev pub moved : State → Move → State
 moved s (Hold k i) = with_holder s i (Some k)
-moved s (Turn k l) = with_turned s l
+moved s (Turn k l) = with_lock_turned s l
 moved s (LetGo k i) = with_holder s i None
 
 -- the key holds the modifier and looks up a character, so a press of it forgets that it holds
-abbrev pub Forgets : MapValue → State → Modifier → ℕ → Type 0
-Forgets m s i k = Holds s k i × ((c : ℕ) × (look_in m s k ≡ Char c))
+abbrev pub HolderForgets : MapValue → State → Modifier → ℕ → Type 0
+HolderForgets m s i k = Holds s k i × ((c : ℕ) × (look_in m s k ≡ Char c))
 
 abbrev pub IsForgetful : MapValue → State → Type 0
-IsForgetful m s = (i : Modifier) × (k : ℕ) × Forgets m s i k
+IsForgetful m s = (i : Modifier) × (k : ℕ) × HolderForgets m s i k
 
 -- Paths from the start: moves with the newest first, each possible in the state where the moves before it lead.
 abbrev pub state_after : List Move → State
@@ -76,14 +76,14 @@ IsPath m [] = Unit {0}
 IsPath m (move ∷ path) = IsMove m (state_after path) move × IsPath m path
 
 -- the events of the moves, with the newest first
-abbrev pub events_of : Move → List Event
-events_of (Hold k i) = Press k ∷ []
-events_of (Turn k l) = Release k ∷ Press k ∷ []
-events_of (LetGo k i) = Release k ∷ []
+abbrev pub events_of_move : Move → List Event
+events_of_move (Hold k i) = Press k ∷ []
+events_of_move (Turn k l) = Release k ∷ Press k ∷ []
+events_of_move (LetGo k i) = Release k ∷ []
 
 abbrev pub events_along : List Move → List Event
 events_along [] = []
-events_along (move ∷ path) = events_of move ++ events_along path
+events_along (move ∷ path) = events_of_move move ++ events_along path
 
 -- the releases of the holders of these modifiers
 abbrev pub release_of : Option ℕ → List Event
@@ -95,5 +95,5 @@ releases s [] = []
 releases s (i ∷ more) = release_of (s.holder i) ++ releases s more
 
 -- the path, a repeat of the key, and the release of each key that holds a modifier, with the newest first
-abbrev pub script : List Move → ℕ → List Event
-script path k = releases (state_after path) modifiers ++ Press k ∷ events_along path
+abbrev pub script_of_path : List Move → ℕ → List Event
+script_of_path path k = releases (state_after path) modifiers ++ Press k ∷ events_along path

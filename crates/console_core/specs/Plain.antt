@@ -18,7 +18,7 @@ use Rattle.console_core.specs.Positions.{count_where, is_odd}
 use Rattle.console_core.specs.Columns.{look_with}
 use Rattle.console_core.specs.History.{Maps, pressed, HasKeys, HasNoLoads}
 use Rattle.console_core.specs.Headline.{is_fresh_press}
-use Rattle.console_core.specs.Reading.{Look}
+use Rattle.console_core.specs.Reading.{look_after}
 
 -- nobody bears it, or one key alone does, in all its cells
 abbrev pub IsPlainFor : MapValue → Holding → Type 0
@@ -37,17 +37,18 @@ pub record IsPlain (m : MapValue) : Type 0 where
   pub alt_lock : IsPlainFor m (holding.Lock lock.Alt)
 
 -- the key bears the holding action, as a test
-abbrev pub bears : MapValue → Holding → ℕ → Bool
-bears m a k =
+abbrev pub bears_holding : MapValue → Holding → ℕ → Bool
+bears_holding m a k =
     has_in_slot m (holding_action a) k || (is_upper_live m && has_in_slot m (holding_action a) (k + key_count))
 
 -- a key that bears the modifier is pressed: false where nobody bears it
 unfoldable pub plain_on : MapValue → List Event → Modifier → Bool
-plain_on m h i = any_below (λ k. bears m (holding.Mod i) k && pressed k h) key_count
+plain_on m h i = any_below (λ k. bears_holding m (holding.Mod i) k && pressed k h) key_count
 
 -- a key that bears the lock has an odd number of fresh presses: false where nobody bears it
 unfoldable pub plain_locked : MapValue → List Event → Lock → Bool
-plain_locked m h l = any_below (λ k. bears m (holding.Lock l) k && is_odd (count_where (is_fresh_press k) h)) key_count
+plain_locked m h l = any_below (λ k. bears_holding m (holding.Lock l) k
+    && is_odd (count_where (is_fresh_press k) h)) key_count
 
 -- these two, in words
 abbrev pub PlainOnByKeys : Type 0
@@ -60,15 +61,15 @@ PlainLockedByKeys =
     (m : MapValue) (h : List Event) (l : Lock)
     → (plain_locked m h l ≡ true) ↔ ((k : ℕ) × (k < key_count) × Bears m k (holding.Lock l) × (is_odd (count_where (is_fresh_press k) h) ≡ true))
 
-abbrev pub PlainLook : MapValue → ℕ → List Event → Cell
-PlainLook m k h = look_with m (plain_on m h) (plain_locked m h) k
+abbrev pub plain_look : MapValue → ℕ → List Event → Cell
+plain_look m k h = look_with m (plain_on m h) (plain_locked m h) k
 
 abbrev pub LooksPlainly : Type 0
 LooksPlainly =
     (ms : Maps) (h : List Event) → IsPlain ms.first → HasNoLoads h → HasKeys h
-    → (k : ℕ) → Look ms k h ≡ PlainLook ms.first k h
+    → (k : ℕ) → look_after ms k h ≡ plain_look ms.first k h
 
 -- the same of the modifiers and locks that a console shows after h
 abbrev pub IsPlainAfter : Maps → List Event → (Modifier → Bool) → (Lock → Bool) → Type 0
 IsPlainAfter ms h is_on is_locked =
-    IsPlain ms.first → HasNoLoads h → (k : ℕ) → look_with ms.first is_on is_locked k ≡ PlainLook ms.first k h
+    IsPlain ms.first → HasNoLoads h → (k : ℕ) → look_with ms.first is_on is_locked k ≡ plain_look ms.first k h

@@ -67,12 +67,12 @@ raises a (PressedAction k b) before = same_action (taken k b before) (holding_ac
 raises a _ before = false
 
 -- Lowers: a reset, a load, or a release of a key that remembers the holding action.
-abbrev pub is_action : Option Action → Action → Bool
-is_action None a = false
-is_action (Some b) a = same_action b a
+abbrev pub is_this_action : Option Action → Action → Bool
+is_this_action None a = false
+is_this_action (Some b) a = same_action b a
 
 abbrev pub lowers : Holding → ResolvedEvent → List ResolvedEvent → Bool
-lowers a (ReleasedKey k) before = is_action (remembered k before) (holding_action a)
+lowers a (ReleasedKey k) before = is_this_action (remembered k before) (holding_action a)
 lowers a WasReset before = true
 lowers a (WasLoaded m) before = true
 lowers a _ before = false
@@ -139,10 +139,10 @@ dead_key m (PressedAction k a) before = usable_dead_key m (taken k a before)
 dead_key m _ before = None
 
 -- the dead keys that are taken, one entry for each event that doesn't keep
-unfoldable pub dead_keys : MapValue → List ResolvedEvent → List (Option ℕ)
-dead_keys m [] = []
-dead_keys m (x ∷ before) =
-    if keeps x before then dead_keys m before else dead_key m x before ∷ dead_keys m before
+unfoldable pub dead_keys_taken : MapValue → List ResolvedEvent → List (Option ℕ)
+dead_keys_taken m [] = []
+dead_keys_taken m (x ∷ before) =
+    if keeps x before then dead_keys_taken m before else dead_key m x before ∷ dead_keys_taken m before
 
 -- how many of the newest entries are this dead key
 abbrev pub run_length : ℕ → List (Option ℕ) → ℕ
@@ -150,13 +150,13 @@ run_length i [] = 0
 run_length i (None ∷ rest) = 0
 run_length i (Some j ∷ rest) = if j == i then suc (run_length i rest) else 0
 
-unfoldable pub pending_after : List (Option ℕ) → Option ℕ
-pending_after [] = None
-pending_after (None ∷ rest) = None
-pending_after (Some i ∷ rest) = if is_odd (run_length i (Some i ∷ rest)) then Some i else None
+unfoldable pub pending_by_dead_keys : List (Option ℕ) → Option ℕ
+pending_by_dead_keys [] = None
+pending_by_dead_keys (None ∷ rest) = None
+pending_by_dead_keys (Some i ∷ rest) = if is_odd (run_length i (Some i ∷ rest)) then Some i else None
 
 abbrev pub pending : MapValue → List ResolvedEvent → Option ℕ
-pending m h = pending_after (dead_keys m h)
+pending m h = pending_by_dead_keys (dead_keys_taken m h)
 
 -- Answer, to a resolved event under the map in force.
 abbrev pub answer_resolved : MapValue → ResolvedEvent → List ResolvedEvent → Answer

@@ -7,14 +7,14 @@ use Rattle.console_core.specs.declared.event.Event.TheVariants.{Press, Release, 
 use Rattle.console_core.specs.declared.outcome.Sticking.{Sticking}
 use Rattle.console_core.specs.declared.outcome.Sticking.TheVariants.{Sticks, Never, Undecided}
 use Rattle.console_core.specs.Positions.{count_where}
-use Rattle.console_core.specs.History.{Maps, On, HasKeys, HasNoLoads, IsQuiet}
+use Rattle.console_core.specs.History.{Maps, is_on_after, HasKeys, HasNoLoads, IsQuiet}
 use Rattle.console_core.specs.Headline.{IsOnOnlyWhilePressed, IsOffOnceQuiet}
 use Rattle.console_core.specs.declared.held.Move.{Move}
-use Rattle.console_core.specs.Moves.{State, IsPath, state_after, IsForgetful, Forgets, script}
+use Rattle.console_core.specs.Moves.{State, IsPath, state_after, IsForgetful, HolderForgets, script_of_path}
 
 -- Sticks: no key is pressed after the list, and the modifier is on.
 abbrev pub SticksAfter : MapValue → List Event → Modifier → Type 0
-SticksAfter m h i = IsQuiet h × ((ms : Maps) → ms.first ≡ m → On ms i h ≡ true)
+SticksAfter m h i = IsQuiet h × ((ms : Maps) → ms.first ≡ m → is_on_after ms i h ≡ true)
 
 -- presses and releases of keys, without resets and loads
 abbrev pub IsPressOrRelease : Event → Type 0
@@ -45,7 +45,7 @@ HasFewestPresses m h =
 abbrev pub NeverSticks : MapValue → Type 0
 NeverSticks m =
     (ms : Maps) (h : List Event) → ms.first ≡ m → HasKeys h → HasNoLoads h
-    → IsOnOnlyWhilePressed m h (λ i. On ms i h) × IsOffOnceQuiet h (λ i. On ms i h)
+    → IsOnOnlyWhilePressed m h (λ i. is_on_after ms i h) × IsOffOnceQuiet h (λ i. is_on_after ms i h)
 
 -- paths of presses and releases lead to more than n distinct states
 abbrev pub ReachesMoreThan : MapValue → ℕ → Type 0
@@ -68,5 +68,6 @@ NeverSticksUnlessReached =
 -- If a path leads to where the holder of a modifier looks up a character, that modifier sticks after the path's script.
 abbrev pub SticksIfReached : Type 0
 SticksIfReached =
-    (m : MapValue) (path : List Move) → IsPath m path → (i : Modifier) (k : ℕ) → Forgets m (state_after path) i k
-    → HasKeys (script path k) × All IsPressOrRelease (script path k) × SticksAfter m (script path k) i
+    (m : MapValue) (path : List Move) → IsPath m path → (i : Modifier) (k : ℕ) → HolderForgets m (state_after path) i k
+    → HasKeys (script_of_path path k) × All IsPressOrRelease (script_of_path path k)
+        × SticksAfter m (script_of_path path k) i

@@ -13,7 +13,7 @@ use Rattle.keymap_core.specs.Bearers.{Bears, IsUpperLive, NobodyBears}
 use Rattle.keymap_core.specs.Numbers.{key_count}
 use Rattle.console_core.specs.declared.event.Event.{Event}
 use Rattle.console_core.specs.Columns.{slot_of, column_of}
-use Rattle.console_core.specs.History.{Maps, in_force, On, pressed, HasKeys}
+use Rattle.console_core.specs.History.{Maps, in_force, is_on_after, pressed, HasKeys}
 
 -- the bits of a cell: whether it is in the upper half, and which of shift, control and alt its column stands for
 pub record Bits : Type 0 where
@@ -47,8 +47,8 @@ abbrev pub HasNoTrap : MapValue → Modifier → Type 0
 HasNoTrap m i = (k : ℕ) → k < key_count → HasTrap m i k → ⊥
 
 -- nobody bears a lock that picks a cell
-abbrev pub HasNoLocks : MapValue → Type 0
-HasNoLocks m =
+abbrev pub NobodyBearsCellPickingLocks : MapValue → Type 0
+NobodyBearsCellPickingLocks m =
     NobodyBears m (holding.Lock lock.Caps) × NobodyBears m (holding.Lock lock.Num)
     × NobodyBears m (holding.Lock lock.Alt)
 
@@ -56,9 +56,10 @@ HasNoLocks m =
 -- map that isn't safe
 abbrev pub IsOnOnlyWhilePressedWithoutTraps : MapValue → List Event → (Modifier → Bool) → Type 0
 IsOnOnlyWhilePressedWithoutTraps m h is_on =
-    HasNoLocks m → (i : Modifier) → HasNoTrap m i → is_on i ≡ true
+    NobodyBearsCellPickingLocks m → (i : Modifier) → HasNoTrap m i → is_on i ≡ true
     → (k : ℕ) × (k < key_count) × Bears m k (holding.Mod i) × (pressed k h ≡ true)
 
 abbrev pub OnOnlyWhilePressedWithoutTraps : Type 0
 OnOnlyWhilePressedWithoutTraps =
-    (ms : Maps) (h : List Event) → HasKeys h → IsOnOnlyWhilePressedWithoutTraps (in_force ms h) h (λ i. On ms i h)
+    (ms : Maps) (h : List Event) → HasKeys h
+        → IsOnOnlyWhilePressedWithoutTraps (in_force ms h) h (λ i. is_on_after ms i h)

@@ -43,12 +43,12 @@ pending_code None = 0
 pending_code (Some i) = i + 1
 
 -- the action that is kept as a byte: none as 0, else by its code
-abbrev pub coded : ℕ → Option Action
-coded code = if code == 0 then None else action_of code
+abbrev pub action_of_byte : ℕ → Option Action
+action_of_byte code = if code == 0 then None else action_of code
 
 -- the action that is remembered for a key, by the bytes of all keys
 abbrev pub code_memory : List ℕ → ℕ → Option Action
-code_memory codes k = coded (slice_index_or codes k 0)
+code_memory codes k = action_of_byte (slice_index_or codes k 0)
 
 abbrev pub kept_in_word : ℕ → List ℕ → Kept
 kept_in_word word codes = record {

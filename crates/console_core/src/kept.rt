@@ -5,7 +5,7 @@ ghost use Rattle.keymap_core.specs.Numbers.{accent_limit};
 ghost use Rattle.keymap_core.specs.declared.action.Modifier.{Modifier as ModifierValue};
 ghost use Rattle.keymap_core.specs.declared.action.Lock.{Lock as LockValue};
 ghost use Rattle.console_core.specs.declared.event.Event.{Event as EventValue};
-ghost use Rattle.console_core.specs.History.{Maps, AnswerTo, On, Locked, Pending};
+ghost use Rattle.console_core.specs.History.{Maps, answer_to, is_on_after, is_locked_after, accent_pending_after};
 ghost use Rattle.console_core.specs.Packed.{KeptAt};
 ghost use Rattle.console_core.specs.Words.{bit_is_set};
 
@@ -27,7 +27,7 @@ pub fn start_kept() -> WordStore
 #[inline(always)]
 pub fn step_kept<K: Keymap>(kept: &mut WordStore, first: &K, second: &K, event: Event) -> Answer
     ensures answer { (ms : Maps) (h : List EventValue) → K.shows first.now ms.first → K.shows second.now ms.second
-        → KeptAt ms h kept.old → result ≡ AnswerTo ms h event }
+        → KeptAt ms h kept.old → result ≡ answer_to ms h event }
     ensures next { (ms : Maps) (h : List EventValue) → K.shows first.now ms.first → K.shows second.now ms.second
         → KeptAt ms h kept.old → KeptAt ms (event ∷ h) kept.new }
 {
@@ -37,7 +37,7 @@ pub fn step_kept<K: Keymap>(kept: &mut WordStore, first: &K, second: &K, event: 
 /// Which modifiers are on: bit `Modifier::index()` of each is set.
 pub fn modifiers_kept(kept: &WordStore) -> u8
     ensures { (ms : Maps) (h : List EventValue) → KeptAt ms h kept.now
-        → (i : ModifierValue) → bit_is_set result (modifier_index i) ≡ On ms i h }
+        → (i : ModifierValue) → bit_is_set result (modifier_index i) ≡ is_on_after ms i h }
 {
     (kept.word % 256) as u8
 }
@@ -45,14 +45,14 @@ pub fn modifiers_kept(kept: &WordStore) -> u8
 /// Which locks are on: bit `Lock::index()` of each is set.
 pub fn locks_kept(kept: &WordStore) -> u8
     ensures { (ms : Maps) (h : List EventValue) → KeptAt ms h kept.now
-        → (l : LockValue) → bit_is_set result (lock_index l) ≡ Locked ms l h }
+        → (l : LockValue) → bit_is_set result (lock_index l) ≡ is_locked_after ms l h }
 {
     ((kept.word >> 8) % 16) as u8
 }
 
 /// The index of the pending accent, if there is one.
 pub fn pending_kept(kept: &WordStore) -> Option<u8>
-    ensures value { (ms : Maps) (h : List EventValue) → KeptAt ms h kept.now → result ≡ Pending ms h }
+    ensures value { (ms : Maps) (h : List EventValue) → KeptAt ms h kept.now → result ≡ accent_pending_after ms h }
     ensures in_range { IfSome result (λ i. i < accent_limit) }
 {
     kept.pending()

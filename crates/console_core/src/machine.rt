@@ -7,7 +7,7 @@ ghost use Rattle.console_core.specs.declared.event.Event.{Event as EventValue};
 ghost use Rattle.console_core.specs.Columns.{look_with, slot_of, is_upper};
 ghost use Rattle.console_core.specs.Answers.{answer_char, answer_action as answer_action_of, answer_release};
 ghost use Rattle.console_core.specs.Resolved.{taken_over};
-ghost use Rattle.console_core.specs.History.{Maps, in_force, loaded, AnswerTo};
+ghost use Rattle.console_core.specs.History.{Maps, in_force, loaded, answer_to};
 ghost use Rattle.console_core.specs.Agrees.{nothing_kept};
 ghost use Rattle.console_core.specs.Inner.Kept.{with_offered, with_lock_taken, with_taken, with_released};
 ghost use Rattle.console_core.specs.Inner.Kept.{with_lock_borne};
@@ -184,7 +184,7 @@ fn step<K: Keymap, S: Store>(store: &mut S, map: &K, next: &K, event: Event) -> 
     ensures answer { (ms : Maps) (h : List EventValue) → K.shows map.now (in_force ms h)
         → K.shows next.now (loaded ms h)
         → StandsAt ms h (S.kept store.old)
-        → result ≡ AnswerTo ms h event }
+        → result ≡ answer_to ms h event }
     ensures next { (ms : Maps) (h : List EventValue) → K.shows map.now (in_force ms h) → K.shows next.now (loaded ms h)
         → StandsAt ms h (S.kept store.old)
         → StandsAt ms (event ∷ h) (S.kept store.new) }
@@ -211,7 +211,7 @@ fn step<K: Keymap, S: Store>(store: &mut S, map: &K, next: &K, event: Event) -> 
 pub fn deliver<K: Keymap, S: Store>(store: &mut S, first: &K, second: &K, event: Event) -> Answer
     ensures answer { (ms : Maps) (h : List EventValue) → K.shows first.now ms.first → K.shows second.now ms.second
         → StandsAt ms h (S.kept store.old)
-        → result ≡ AnswerTo ms h event }
+        → result ≡ answer_to ms h event }
     ensures next { (ms : Maps) (h : List EventValue) → K.shows first.now ms.first → K.shows second.now ms.second
         → StandsAt ms h (S.kept store.old)
         → StandsAt ms (event ∷ h) (S.kept store.new) }

@@ -2,7 +2,7 @@
 ghost use Rattle.std.specs.Prelude.{◌≡◌, ◌++◌, ◌∷◌, List, None, IfOk, OnOk, OnErr, reverse};
 ghost use Rattle.console_core.specs.declared.event.Event.{Event as EventValue};
 ghost use Rattle.console_core.specs.declared.event.Event.TheVariants as event;
-ghost use Rattle.console_core.specs.History.{Maps, in_force, AnswersTo, IsQuiet};
+ghost use Rattle.console_core.specs.History.{Maps, in_force, answers_to, IsQuiet};
 ghost use Rattle.console_core.specs.Headline.{IsSafe};
 ghost use Rattle.console_core.specs.Headline.{Afterwards, IsOnOnlyWhilePressed, IsOnExactlyWhilePressed, LastRepeatsTurnNoSteadyLock, IsOffOnceQuiet, GoesOnAs, IsLockedByFreshPresses};
 ghost use Rattle.console_core.specs.Plain.{IsPlainAfter};
@@ -21,7 +21,7 @@ pub fn replay<T: Translator>(
 ) -> Result<Vec<Answer>, AllocError>
     ensures answers { IfOk result
         (λ answers. (ms : Maps) (h : List EventValue) → T.stands console.old ms h
-        → answers.items ≡ AnswersTo ms h events.now) }
+        → answers.items ≡ answers_to ms h events.now) }
     ensures next { OnOk result
         ((ms : Maps) (h : List EventValue) → T.stands console.old ms h
         → T.stands console.new ms (reverse events.now ++ h)) }

@@ -1,13 +1,13 @@
 //! The rules of genkbd_keyaction of sys/dev/kbd/kbd.c that depend on the map, the pending accent and the action that a
 //! press takes.
 ghost use Rattle.std.specs.Prelude.{◌≡◌, ◌<◌, IfSome, if◌then◌else◌};
-ghost use Rattle.console_core.specs.Columns.{flips as flips_by, column_of};
+ghost use Rattle.console_core.specs.Columns.{flips_shift, column_of};
 ghost use Rattle.keymap_core.specs.Maps.{MapValue};
 ghost use Rattle.keymap_core.specs.Numbers.{accent_limit};
 ghost use Rattle.console_core.specs.Answers.{answer_char, usable};
 ghost use Rattle.console_core.specs.Answers.{answer_dead_key as answer_dead_key_of};
 ghost use Rattle.console_core.specs.Answers.{answer_action as answer_action_of};
-ghost use Rattle.console_core.specs.Inner.Kept.{next_pending as next_pending_of, toggled as toggled_of};
+ghost use Rattle.console_core.specs.Inner.Kept.{next_pending as next_pending_of, pending_after_dead_key};
 
 use crate::event::Answer;
 use keymap_core::{Action, Keymap, LockFlag};
@@ -33,7 +33,7 @@ pub fn compose<K: Keymap>(map: &K, pending: Option<u8>, c: char, meta: bool) -> 
 
 /// Whether the locks flip the shift of an entry with this flag.
 pub fn flips(flag: LockFlag, caps: bool, num: bool) -> bool
-    ensures { result ≡ flips_by flag caps num }
+    ensures { result ≡ flips_shift flag caps num }
 {
     match flag {
         LockFlag::O => false,
@@ -76,7 +76,7 @@ pub fn next_pending<K: Keymap>(map: &K, pending: Option<u8>, taken: &Action) -> 
 fn toggled<K: Keymap>(map: &K, pending: Option<u8>, index: u8) -> Option<u8>
     requires { index < accent_limit }
     ensures value { (m : MapValue) → K.shows map.now m
-        → result ≡ toggled_of (if usable m index then Some index else None) pending }
+        → result ≡ pending_after_dead_key (if usable m index then Some index else None) pending }
     ensures in_range { IfSome result (λ i. i < accent_limit) }
 {
     if is_usable(map, index) && pending != Some(index) {

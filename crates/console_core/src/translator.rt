@@ -3,7 +3,8 @@ ghost use Rattle.std.specs.Prelude.{◌≡◌, ℕ, Bool, List, ◌∷◌, [], O
 ghost use Rattle.keymap_core.specs.declared.action.Modifier.{Modifier as ModifierValue};
 ghost use Rattle.keymap_core.specs.declared.action.Lock.{Lock as LockValue};
 ghost use Rattle.console_core.specs.declared.event.Event.{Event as EventValue};
-ghost use Rattle.console_core.specs.History.{Maps, On, Locked, Pending, AnswerTo, HasKeys};
+ghost use Rattle.console_core.specs.History.{Maps, is_on_after, is_locked_after, accent_pending_after, answer_to};
+ghost use Rattle.console_core.specs.History.{HasKeys};
 
 use crate::event::{Answer, Event};
 use keymap_core::{Lock, Modifier};
@@ -25,7 +26,7 @@ pub trait Translator {
     /// Delivers an event. Where the console stands at a list of events, it stands at that list with the event
     /// afterwards.
     fn step(&mut self, event: Event) -> Answer
-        ensures answer { (ms : Maps) (h : List EventValue) → stands self.old ms h → result ≡ AnswerTo ms h event }
+        ensures answer { (ms : Maps) (h : List EventValue) → stands self.old ms h → result ≡ answer_to ms h event }
         ensures next { (ms : Maps) (h : List EventValue) → stands self.old ms h → stands self.new ms (event ∷ h) };
 
     /// Whether the modifier is on.
@@ -41,13 +42,13 @@ pub trait Translator {
         ensures { result ≡ shows_pending self.now };
 
     ghost on_where_it_stands: { (c : Self) (ms : Maps) (h : List EventValue) → stands c ms h → (i : ModifierValue)
-        → shows_on c i ≡ On ms i h };
+        → shows_on c i ≡ is_on_after ms i h };
 
     ghost locked_where_it_stands: { (c : Self) (ms : Maps) (h : List EventValue) → stands c ms h → (l : LockValue)
-        → shows_locked c l ≡ Locked ms l h };
+        → shows_locked c l ≡ is_locked_after ms l h };
 
     ghost keys_where_it_stands: { (c : Self) (ms : Maps) (h : List EventValue) → stands c ms h → HasKeys h };
 
     ghost pending_where_it_stands: { (c : Self) (ms : Maps) (h : List EventValue) → stands c ms h
-        → shows_pending c ≡ Pending ms h };
+        → shows_pending c ≡ accent_pending_after ms h };
 }

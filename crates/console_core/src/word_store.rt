@@ -4,7 +4,7 @@ ghost use Rattle.keymap_core.specs.Actions.{same_action};
 ghost use Rattle.keymap_core.specs.Numbers.{key_count, accent_limit};
 ghost use Rattle.console_core.specs.Agrees.{nothing_kept};
 ghost use Rattle.console_core.specs.Words.{kept_in_word, mark_bit as mark_bit_of, lock_bit as lock_bit_of};
-ghost use Rattle.console_core.specs.Words.{pending_from, pending_code as pending_code_of, coded};
+ghost use Rattle.console_core.specs.Words.{pending_from, pending_code as pending_code_of, action_of_byte};
 
 use crate::store::Store;
 use keymap_core::laws::{every_action_has_its_code, every_code_is_read};
@@ -51,7 +51,7 @@ fn pending_code(index: Option<u8>) -> u32
 /// The byte by which a remembered action is kept: its code, 0 for nothing.
 fn memory_code(action: &Option<Action>) -> u8
     requires { IfSome action.now (λ a. same_action a Action.Nop ≡ false) }
-    ensures { coded result ≡ action.now }
+    ensures { action_of_byte result ≡ action.now }
 {
     match action {
         Some(action) => {
@@ -65,7 +65,7 @@ fn memory_code(action: &Option<Action>) -> u8
 /// Whether the byte keeps this action, if it keeps one. Only the code of another action is decoded.
 fn is_code_of(code: u8, expected: Action) -> Option<bool>
     requires { code ≢ 0 }
-    ensures { result ≡ option_map (λ held. same_action held expected) (coded code) }
+    ensures { result ≡ option_map (λ held. same_action held expected) (action_of_byte code) }
 {
     every_code_is_read();
     every_action_has_its_code();

@@ -5,7 +5,7 @@ use Rattle.keymap_core.specs.declared.action.Holding.{Holding}
 use Rattle.keymap_core.specs.Maps.{MapValue}
 use Rattle.keymap_check.specs.declared.bearer.Bearer.{Bearer}
 use Rattle.keymap_check.specs.declared.bearer.Bearer.TheVariants.{Nobody}
-use Rattle.keymap_check.specs.Computed.{bearer_below, bearer_with, next_bearer, bears}
+use Rattle.keymap_check.specs.Computed.{bearer_below, bearer_with, next_bearer, bears_holding}
 
 -- among no keys nobody bears
 pub bearer_below-start : (m : MapValue) (a : Holding) → bearer_below m a 0 ≡ Nobody
@@ -15,13 +15,13 @@ bearer_below-start m a = refl
 -- one more key joins the bearers if it bears
 pub bearer_below-more : (m : MapValue) (a : Holding) (k : ℕ)
     → bearer_below m a (suc k)
-    ≡ (if bears m k a then next_bearer (bearer_below m a k) (bearer_with m a k) else bearer_below m a k)
+    ≡ (if bears_holding m k a then next_bearer (bearer_below m a k) (bearer_with m a k) else bearer_below m a k)
 unfolding bearer_below
 bearer_below-more m a k = refl
 
 -- one more key that bears
 pub bearer-added : (m : MapValue) (a : Holding) (k : ℕ) (b c : Bearer) (r : Bool) → b ≡ bearer_below m a k
-    → r ≡ bears m k a → r ≡ true → c ≡ next_bearer b (bearer_with m a k) → c ≡ bearer_below m a (k + 1)
+    → r ≡ bears_holding m k a → r ≡ true → c ≡ next_bearer b (bearer_with m a k) → c ≡ bearer_below m a (k + 1)
 bearer-added m a k b c r is by t new =
     rw add-one
     (new ∙ ap (λ x. next_bearer x (bearer_with m a k)) is
@@ -31,7 +31,7 @@ bearer-added m a k b c r is by t new =
 
 -- one more key that doesn't bear
 pub bearer-kept : (m : MapValue) (a : Holding) (k : ℕ) (b : Bearer) (r : Bool) → b ≡ bearer_below m a k
-    → r ≡ bears m k a → r ≡ false → b ≡ bearer_below m a (k + 1)
+    → r ≡ bears_holding m k a → r ≡ false → b ≡ bearer_below m a (k + 1)
 bearer-kept m a k b r is by t =
     rw add-one
     (is

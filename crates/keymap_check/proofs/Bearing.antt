@@ -19,7 +19,8 @@ use Rattle.keymap_check.specs.declared.kind.Kind.TheVariants as kind
 use Rattle.keymap_check.specs.declared.bearer.Bearer.{Bearer}
 use Rattle.keymap_check.specs.declared.bearer.Bearer.TheVariants.{Nobody, Throughout, Sole, Several}
 use Rattle.keymap_check.specs.Cells.{first_place, cell_of, is_holding, is_character_or_nop}
-use Rattle.keymap_check.specs.Computed.{is_there, is_missing, bears, bearer_by, bearer_with, next_bearer, bearer_below}
+use Rattle.keymap_check.specs.Computed.{is_there, is_missing, bears_holding, bearer_by, bearer_with, next_bearer}
+use Rattle.keymap_check.specs.Computed.{bearer_below}
 use Rattle.keymap_check.specs.Computed.{bearer_of, is_steady_by}
 use Rattle.keymap_check.specs.Report.{IsBearer, ReportValue, bearer_in, is_plain_bearer, picks_a_cell, HasPlainBearers}
 use Rattle.keymap_check.specs.Report.{BearersAreComputed, SteadyLocksAreComputed}
@@ -38,7 +39,7 @@ bears_by m k a (Some p) e t =
     subst (λ x. IsCellOf m k x) (is_holding-true a (cell_of m k p) s.1) s.0
 
 -- a key that passes the test bears the holding action
-pub bears-true : (m : MapValue) (k : ℕ) (a : Holding) → bears m k a ≡ true → Bears m k a
+pub bears-true : (m : MapValue) (k : ℕ) (a : Holding) → bears_holding m k a ≡ true → Bears m k a
 bears-true m k a e = bears_by m k a (first_place m (kind.Holding a) k) refl e
 
 -- where a key bears the holding action, a cell of it is found
@@ -49,7 +50,7 @@ borne_by m k a None e b =
 borne_by m k a (Some p) e b = refl
 
 -- a key that bears the holding action passes the test
-pub true-bears : (m : MapValue) (k : ℕ) (a : Holding) → Bears m k a → bears m k a ≡ true
+pub true-bears : (m : MapValue) (k : ℕ) (a : Holding) → Bears m k a → bears_holding m k a ≡ true
 true-bears m k a b = borne_by m k a (first_place m (kind.Holding a) k) refl b
 
 -- what is known of the keys below n
@@ -64,10 +65,10 @@ OneBears m a n b = (k : ℕ) × (k < n) × Bears m k a × ((j : ℕ) → j < n �
 abbrev pub TwoBear : MapValue → Holding → ℕ → Type 0
 TwoBear m a n = (i : ℕ) × (j : ℕ) × (i < n) × (j < n) × (i ≢ j) × Bears m i a × Bears m j a
 
-pub data Found (m : MapValue) (a : Holding) (n : ℕ) (b : Bearer) : Type 0 where
-  Empty : b ≡ Nobody → NoneBears m a n → Found m a n b
-  Single : OneBears m a n b → Found m a n b
-  Many : b ≡ Several → TwoBear m a n → Found m a n b
+pub data BearerAmong (m : MapValue) (a : Holding) (n : ℕ) (b : Bearer) : Type 0 where
+  Empty : b ≡ Nobody → NoneBears m a n → BearerAmong m a n b
+  Single : OneBears m a n b → BearerAmong m a n b
+  Many : b ≡ Several → TwoBear m a n → BearerAmong m a n b
 
 if_true : (t : Bool) (b c : Bearer) → t ≡ true → (if t then b else c) ≡ b
 if_true t b c e = rw e refl
@@ -76,11 +77,12 @@ if_false : (t : Bool) (b c : Bearer) → t ≡ false → (if t then b else c) �
 if_false t b c e = rw e refl
 
 -- a key that fails the test doesn't bear
-no_bearer : (m : MapValue) (a : Holding) (k : ℕ) → bears m k a ≡ false → Bears m k a → ⊥
+no_bearer : (m : MapValue) (a : Holding) (k : ℕ) → bears_holding m k a ≡ false → Bears m k a → ⊥
 no_bearer m a k e b = true≢false (sym (true-bears m k a b) ∙ e)
 
 -- one more key that doesn't bear leaves the bearer
-kept : (m : MapValue) (a : Holding) (n : ℕ) (b : Bearer) → bears m n a ≡ false → Found m a n b → Found m a (suc n) b
+kept : (m : MapValue) (a : Holding) (n : ℕ) (b : Bearer) → bears_holding m n a ≡ false → BearerAmong m a n b
+    → BearerAmong m a (suc n) b
 kept m a n b e (Empty s f) =
     Empty s
     (λ j lt is. elim (below-suc j n lt)
@@ -102,8 +104,8 @@ next_by k None c = refl
 next_by k (Some p) c = refl
 
 -- one more key that bears joins the bearer
-added : (m : MapValue) (a : Holding) (n : ℕ) (b : Bearer) → Bears m n a → Found m a n b
-    → Found m a (suc n) (next_bearer b (bearer_with m a n))
+added : (m : MapValue) (a : Holding) (n : ℕ) (b : Bearer) → Bears m n a → BearerAmong m a n b
+    → BearerAmong m a (suc n) (next_bearer b (bearer_with m a n))
 added m a n b is (Empty s f) =
     Single (
       n,
@@ -122,15 +124,15 @@ added m a n b is (Many s t) =
     (t.0, t.1, omega (arith, t.2), omega (arith, t.3), t.4, t.5, t.6)
 
 -- the bearer among the keys below n says which of them bear
-pub found : (m : MapValue) (a : Holding) (n : ℕ) → Found m a n (bearer_below m a n)
+pub found : (m : MapValue) (a : Holding) (n : ℕ) → BearerAmong m a n (bearer_below m a n)
 found m a zero = Empty (bearer_below-start m a) (λ j lt is. omega (arith, lt))
 found m a (suc n) =
-    elim (cases_Bool (bears m n a)) [
+    elim (cases_Bool (bears_holding m n a)) [
       | inl e ↦
-          subst (λ x. Found m a (suc n) x) (sym (bearer_below-more m a n ∙ if_true (bears m n a) _ _ e))
+          subst (λ x. BearerAmong m a (suc n) x) (sym (bearer_below-more m a n ∙ if_true (bears_holding m n a) _ _ e))
           (added m a n (bearer_below m a n) (bears-true m n a e) (found m a n))
       | inr e ↦
-          subst (λ x. Found m a (suc n) x) (sym (bearer_below-more m a n ∙ if_false (bears m n a) _ _ e))
+          subst (λ x. BearerAmong m a (suc n) x) (sym (bearer_below-more m a n ∙ if_false (bears_holding m n a) _ _ e))
           (kept m a n (bearer_below m a n) e (found m a n))
     ]
 
@@ -149,7 +151,7 @@ single m a k (Some p) e lt is alone =
     )
 
 -- the bearer among all keys is the bearer
-bearer-of : (m : MapValue) (a : Holding) (b : Bearer) → Found m a 128 b → IsBearer m a b
+bearer-of : (m : MapValue) (a : Holding) (b : Bearer) → BearerAmong m a 128 b → IsBearer m a b
 bearer-of m a b (Empty s f) = subst (λ x. IsBearer m a x) (sym s) f
 bearer-of m a b (Single s) =
     subst (λ x. IsBearer m a x) (sym s.4) (single m a s.0 (first_place m (kind.OtherThan a) s.0) refl s.1 s.2 s.3)
@@ -181,7 +183,7 @@ steady_single m k None = refl
 steady_single m k (Some p) = refl
 
 -- a lock that passes the test is steady
-steady-true : (m : MapValue) (l : Lock) (b : Bearer) → Found m (holding.Lock l) 128 b → is_steady_by m b ≡ true
+steady-true : (m : MapValue) (l : Lock) (b : Bearer) → BearerAmong m (holding.Lock l) 128 b → is_steady_by m b ≡ true
     → IsSteady m l
 steady-true m l b (Empty s f) e = absurd (true≢false (sym e ∙ ap (λ x. is_steady_by m x) s))
 steady-true m l b (Many s t) e = absurd (true≢false (sym e ∙ ap (λ x. is_steady_by m x) s))
@@ -196,7 +198,7 @@ steady-true m l b (Single s) e = (
 )
 
 -- a steady lock passes the test
-true-steady : (m : MapValue) (l : Lock) (b : Bearer) → Found m (holding.Lock l) 128 b → IsSteady m l
+true-steady : (m : MapValue) (l : Lock) (b : Bearer) → BearerAmong m (holding.Lock l) 128 b → IsSteady m l
     → is_steady_by m b ≡ true
 true-steady m l b (Empty s f) steady = absurd (f steady.0 steady.1 steady.2)
 true-steady m l b (Many s t) steady = absurd (t.4 (steady.3 t.0 t.2 t.5 ∙ sym (steady.3 t.1 t.3 t.6)))

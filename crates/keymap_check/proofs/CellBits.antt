@@ -28,7 +28,7 @@ use Rattle.keymap_check.specs.declared.kind.Kind.{Kind}
 use Rattle.keymap_check.specs.declared.kind.Kind.TheVariants as kind
 use Rattle.console_core.specs.Positions.{first_of_two}
 use Rattle.keymap_check.specs.Below.{first_below}
-use Rattle.keymap_check.specs.Cells.{fits, is_holding, is_of_group, cell_of, first_place, place_count}
+use Rattle.keymap_check.specs.Cells.{is_of_kind, is_holding, is_of_group, cell_of, first_place, place_count}
 use Rattle.keymap_check.specs.Inner.CellBits.{cell_bit, is_set, bits_below, bits_of, mask_of}
 use Rattle.keymap_check.specs.Computed.{is_there}
 
@@ -147,7 +147,7 @@ other-bit n i lt =
     rw (bit_at_xor 0x7fff n i, ones) (turned (bit_at n i) (bit_at-lt n i))
 
 -- the mask of a kind has the bits of the cells of that kind
-pub mask-fits : (x : Kind) (y : Cell) → is_set (mask_of x) (cell_bit y) ≡ fits x y
+pub mask-fits : (x : Kind) (y : Cell) → is_set (mask_of x) (cell_bit y) ≡ is_of_kind x y
 mask-fits (kind.Holding a) y = holding-bit a y
 mask-fits (kind.OtherThan a) y = other-bit (2 ^ holding_index a) (cell_bit y) (cell_bit-lt y) ∙ ap not (holding-bit a y)
 mask-fits kind.Character (Act (act.Mod i)) = (modifier-bits i).0
@@ -214,13 +214,13 @@ there-more (Some i) n t = refl
 
 -- the bits of a key's cells tell whether a cell of a kind is among them
 tell_below : (m : MapValue) (k : ℕ) (x : Kind) (n : ℕ)
-    → meets (bits_below m k n) (mask_of x) ≡ is_there (first_below (λ p. fits x (cell_of m k p)) n)
+    → meets (bits_below m k n) (mask_of x) ≡ is_there (first_below (λ p. is_of_kind x (cell_of m k p)) n)
 unfolding bits_below first_below
 tell_below m k x zero = ap (λ z. not (eqb z 0)) (and_zero_l (mask_of x))
 tell_below m k x (suc n) =
     meets-more (bits_below m k n) (mask_of x) (cell_bit (cell_of m k n))
     ∙ rw (tell_below m k x n, mask-fits x (cell_of m k n))
-    (sym (there-more (first_below (λ p. fits x (cell_of m k p)) n) n (fits x (cell_of m k n))))
+    (sym (there-more (first_below (λ p. is_of_kind x (cell_of m k p)) n) n (is_of_kind x (cell_of m k n))))
 
 -- the bits of a key tell whether it has a cell of the kind
 pub bits_tell : (m : MapValue) (k : ℕ) (x : Kind)

@@ -16,7 +16,7 @@ use Rattle.keymap_check.specs.declared.finding.Finding.{Finding}
 use Rattle.keymap_check.specs.declared.finding.Place.{Place}
 use Rattle.keymap_check.specs.Below.{gathered}
 use Rattle.keymap_core.specs.Borne.{is_upper_live}
-use Rattle.keymap_check.specs.Cells.{fits, cell_of, slot_at, column_at, place_at, place_count, first_place}
+use Rattle.keymap_check.specs.Cells.{is_of_kind, cell_of, slot_at, column_at, place_at, place_count, first_place}
 use Rattle.keymap_check.specs.Cells.{is_character, is_any_holding}
 use Rattle.keymap_check.specs.Computed.{findings_at, findings_of, finding_by, finding_with, held_by}
 use Rattle.std.specs.Prelude.{All, AllPairs, Any}
@@ -125,18 +125,20 @@ at_least test p n none e =
     ]
 
 -- the first place of a kind is the first of the key's places with a cell of it
-first-of : (m : MapValue) (x : Kind) (P : Cell → Type 0) (k p : ℕ) → k < 128 → ((y : Cell) → fits x y ≡ true → P y)
-    → ((y : Cell) → P y → fits x y ≡ true) → first_place m x k ≡ Some p → IsFirstOf m k P (place_at k p)
+first-of : (m : MapValue) (x : Kind) (P : Cell → Type 0) (k p : ℕ) → k < 128
+    → ((y : Cell) → is_of_kind x y ≡ true → P y)
+    → ((y : Cell) → P y → is_of_kind x y ≡ true) → first_place m x k ≡ Some p → IsFirstOf m k P (place_at k p)
 first-of m x P k p lt is has e =
-    let s : IsFirstBelow (λ q. fits x (cell_of m k q)) (place_count m) p = first_place-some m x k p e in (
+    let s : IsFirstBelow (λ q. is_of_kind x (cell_of m k q)) (place_count m) p = first_place-some m x k p e in (
       is_place m k p s.0,
       is (cell_of m k p) s.1,
       λ q place holds.
           let n : HasNumber m k q = number m k q place in
           let here : cell_of m k n.0 ≡ cell_at m q.slot q.column =
           ap (λ t. cell_at m t (column_at n.0)) n.2 ∙ ap (λ t. cell_at m q.slot t) n.3 in
-          let fit : fits x (cell_of m k n.0) ≡ true = ap (λ y. fits x y) here ∙ has (cell_at m q.slot q.column) holds in
-          let le : p ≤ n.0 = at_least (λ q. fits x (cell_of m k q)) p n.0 s.2 fit in
+          let fit : is_of_kind x (cell_of m k n.0)
+              ≡ true = ap (λ y. is_of_kind x y) here ∙ has (cell_at m q.slot q.column) holds in
+          let le : p ≤ n.0 = at_least (λ q. is_of_kind x (cell_of m k q)) p n.0 s.2 fit in
           let after : NotAfter (place_at k p) (place_at k n.0) = not_after k p n.0 le lt in
           let P1 : NotAfter (place_at k p) (record { slot = q.slot; column = column_at n.0 }) =
           subst (λ t. NotAfter (place_at k p) (record { slot = t; column = column_at n.0 })) n.2 after in
@@ -164,7 +166,7 @@ finding-held : (m : MapValue) (k p q : ℕ) (o : Option Holding) → k < 128 →
     → first_place m kind.Character k ≡ Some q → held_by (cell_of m k p) ≡ o → AreOf m k (finding_with k p q o)
 finding-held m k p q None lt e f h = tt
 finding-held m k p q (Some a) lt e f h =
-    let s : IsFirstBelow (λ j. fits kind.AnyHolding (cell_of m k j)) (place_count m) p =
+    let s : IsFirstBelow (λ j. is_of_kind kind.AnyHolding (cell_of m k j)) (place_count m) p =
     first_place-some m kind.AnyHolding k p e in
     let b : IsHeldBy (cell_of m k p) = holding-cell (cell_of m k p) s.1 in
     let same : b.0 ≡ a = some_same b.0 a (sym b.2 ∙ h) in (

@@ -5,7 +5,7 @@ use Rattle.keymap_core.specs.declared.action.Modifier.{Modifier}
 use Rattle.keymap_core.specs.Maps.{MapValue}
 use Rattle.console_core.specs.declared.event.Event.{Event}
 use Rattle.console_core.specs.History.{IsQuiet}
-use Rattle.console_core.specs.Traps.{HasNoLocks, HasNoTrap}
+use Rattle.console_core.specs.Traps.{NobodyBearsCellPickingLocks, HasNoTrap}
 use Rattle.keymap_check.specs.Scripts.{leaves_modifier_on, demonstration_of}
 use Rattle.keymap_check.specs.Shown.{HasShownTrap}
 use Rattle.keymap_check.proofs.Quiet.{given-quiet}
@@ -28,7 +28,7 @@ module _ {S : Type 0} (items : S → List Event) (m : MapValue) where
   is_shown (Some s) e i k trap = refl
 
   -- without locks and traps there is none
-  pub is_none : (o : Option S) → option_map items o ≡ demonstration_of m → HasNoLocks m
+  pub is_none : (o : Option S) → option_map items o ≡ demonstration_of m → NobodyBearsCellPickingLocks m
       → ((i : Modifier) → HasNoTrap m i) → IsNone o
   is_none None e locks free = refl
   is_none (Some s) e locks free = absurd (none_some (items s) (sym (none_given m locks free) ∙ sym e))

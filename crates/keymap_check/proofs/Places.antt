@@ -9,7 +9,7 @@ use Rattle.keymap_core.specs.Bearers.{StandsIn, IsCellOf}
 use Rattle.keymap_core.specs.Borne.{is_upper_live}
 use Rattle.keymap_core.proofs.BorneTests.{live-upper, upper-is_live}
 use Rattle.keymap_check.specs.declared.kind.Kind.{Kind}
-use Rattle.keymap_check.specs.Cells.{fits, place_count, cell_of, first_place}
+use Rattle.keymap_check.specs.Cells.{is_of_kind, place_count, cell_of, first_place}
 use Rattle.keymap_check.proofs.Counting.{first_below-no, first_below-some, IsFirstBelow, NoneBelow}
 
 -- a key has 16 places where the upper half is live, and else 8
@@ -76,26 +76,26 @@ cell-place m k x (inr s) =
 
 -- the first place of a kind
 pub first_place-some : (m : MapValue) (x : Kind) (k p : ℕ) → first_place m x k ≡ Some p
-    → IsFirstBelow (λ q. fits x (cell_of m k q)) (place_count m) p
+    → IsFirstBelow (λ q. is_of_kind x (cell_of m k q)) (place_count m) p
 unfolding first_place
-first_place-some m x k p e = first_below-some (λ q. fits x (cell_of m k q)) (place_count m) p e
+first_place-some m x k p e = first_below-some (λ q. is_of_kind x (cell_of m k q)) (place_count m) p e
 
 -- the first place of a kind has a cell of the key of that kind
 pub first_place-cell : (m : MapValue) (x : Kind) (k p : ℕ) → first_place m x k ≡ Some p
-    → IsCellOf m k (cell_of m k p) × (fits x (cell_of m k p) ≡ true)
+    → IsCellOf m k (cell_of m k p) × (is_of_kind x (cell_of m k p) ≡ true)
 first_place-cell m x k p e =
-    let s : IsFirstBelow (λ q. fits x (cell_of m k q)) (place_count m) p = first_place-some m x k p e in
+    let s : IsFirstBelow (λ q. is_of_kind x (cell_of m k q)) (place_count m) p = first_place-some m x k p e in
     (place-cell m k p s.0, s.1)
 
 -- where no place is found, none has a cell of the kind
 first_place-no : (m : MapValue) (x : Kind) (k : ℕ) → first_place m x k ≡ None
-    → NoneBelow (λ q. fits x (cell_of m k q)) (place_count m)
+    → NoneBelow (λ q. is_of_kind x (cell_of m k q)) (place_count m)
 unfolding first_place
-first_place-no m x k e = first_below-no (λ q. fits x (cell_of m k q)) (place_count m) e
+first_place-no m x k e = first_below-no (λ q. is_of_kind x (cell_of m k q)) (place_count m) e
 
 -- where no place is found, no cell of the key is of the kind
 pub no_place-cell : (m : MapValue) (x : Kind) (k : ℕ) → first_place m x k ≡ None → (y : Cell) → IsCellOf m k y
-    → fits x y ≡ false
+    → is_of_kind x y ≡ false
 no_place-cell m x k e y is =
     let p : HasPlace m k y = cell-place m k y is in
-    ap (λ z. fits x z) (sym p.2) ∙ first_place-no m x k e p.0 p.1
+    ap (λ z. is_of_kind x z) (sym p.2) ∙ first_place-no m x k e p.0 p.1

@@ -11,7 +11,7 @@ use Rattle.keymap_core.specs.declared.action.Modifier.TheVariants.{LeftAlt, Righ
 use Rattle.keymap_core.specs.declared.action.Holding.TheVariants as holding
 use Rattle.console_core.specs.declared.event.Event.{Event}
 use Rattle.console_core.specs.declared.event.Event.TheVariants.{Press, Release}
-use Rattle.console_core.specs.History.{Maps, On, resolved}
+use Rattle.console_core.specs.History.{Maps, is_on_after, resolved}
 use Rattle.console_core.proofs.OneMore.{resolved-more, held-release}
 use Rattle.console_core.proofs.Deliveries.{reverse-push}
 use Rattle.keymap_check.specs.Below.{gathered}
@@ -66,9 +66,11 @@ off_and : (b c : Bool) → b ≡ false → (b && c) ≡ false
 off_and b c e = rw e refl
 
 -- a release turns no modifier on
-stays-off : (ms : Maps) (h : List Event) (j : ℕ) (i : Modifier) → On ms i h ≡ false → On ms i (Release j ∷ h) ≡ false
+stays-off : (ms : Maps) (h : List Event) (j : ℕ) (i : Modifier) → is_on_after ms i h ≡ false
+    → is_on_after ms i (Release j ∷ h) ≡ false
 stays-off ms h j i e =
-    rw (resolved-more ms h (Release j), held-release (holding.Mod i) j (resolved ms h)) (off_and (On ms i h) _ e)
+    rw (resolved-more ms h (Release j), held-release (holding.Mod i) j (resolved ms h))
+        (off_and (is_on_after ms i h) _ e)
 
 -- where one of eight would do, none is there
 none_of : (a b c d e f g h : Bool) → (a || b || c || d || e || f || g || h) ≡ false
@@ -85,8 +87,9 @@ none_of false false false false false false false h q = (refl, refl, refl, refl,
 -- a release leaves all modifiers off
 pub released : (ms : Maps) (h : List Event) (j : ℕ) → is_some_on ms h ≡ false → is_some_on ms (Release j ∷ h) ≡ false
 released ms h j e =
-    let off = none_of (On ms LeftShift h) (On ms RightShift h) (On ms LeftControl h) (On ms RightControl h)
-    (On ms LeftAlt h) (On ms RightAlt h) (On ms AltShift h) (On ms Meta h) e in
+    let off = none_of (is_on_after ms LeftShift h) (is_on_after ms RightShift h) (is_on_after ms LeftControl h)
+        (is_on_after ms RightControl h)
+    (is_on_after ms LeftAlt h) (is_on_after ms RightAlt h) (is_on_after ms AltShift h) (is_on_after ms Meta h) e in
     rw (
       stays-off ms h j LeftShift off.0,
       stays-off ms h j RightShift off.1,

@@ -7,23 +7,23 @@ use Rattle.keymap_core.specs.declared.action.Holding.TheVariants as holding
 use Rattle.keymap_core.specs.Maps.{MapValue}
 use Rattle.keymap_core.specs.Bearers.{BearsThroughout}
 use Rattle.console_core.specs.declared.event.Event.TheVariants.{Press}
-use Rattle.console_core.specs.History.{Maps, HasKey, On}
+use Rattle.console_core.specs.History.{Maps, HasKey, is_on_after}
 use Rattle.console_core.specs.Headline.{IsSafe, IsSteady}
-use Rattle.console_core.specs.Plain.{IsPlain, PlainLook, LooksPlainly}
+use Rattle.console_core.specs.Plain.{IsPlain, plain_look, LooksPlainly}
 use Rattle.console_core.specs.Headline.{OnOnlyWhilePressed, OnExactlyWhilePressed, RepeatsTurnNoSteadyLock}
 use Rattle.console_core.specs.Headline.{OffOnceQuiet, GoesOnAsAfterReset, LockedByFreshPresses, IsOnOnlyWhilePressed}
-use Rattle.keymap_check.specs.Promises.{ModifiersAreOnOnlyWhilePressed, IsOnExactlyWhilePressed, NoRepeatTurns}
+use Rattle.keymap_check.specs.Promises.{ModifiersAreOnOnlyWhilePressed, ModifierFollowsKey, NoRepeatTurns}
 use Rattle.keymap_check.specs.Promises.{ModifiersAreOffOnceQuiet, GoesOnAsAfterResetOnceQuiet, IsOnAfterOddFreshPresses}
 use Rattle.keymap_check.specs.Promises.{LooksPlainlyIn}
 
 -- in a safe map modifiers are on only while their keys are pressed
 pub only_while : OnOnlyWhilePressed → (m : MapValue) → IsSafe m → ModifiersAreOnOnlyWhilePressed m
 only_while law m safe ms h e keys =
-    subst (λ n. IsOnOnlyWhilePressed n h (λ i. On ms i h)) e (law ms h (subst IsSafe (sym e) safe) keys)
+    subst (λ n. IsOnOnlyWhilePressed n h (λ i. is_on_after ms i h)) e (law ms h (subst IsSafe (sym e) safe) keys)
 
 -- a modifier that a key bears throughout is on exactly while that key is pressed
 pub exactly_while : OnExactlyWhilePressed → (m : MapValue) (i : Modifier) (k : ℕ) → BearsThroughout m k (holding.Mod i)
-    → IsOnExactlyWhilePressed m i k
+    → ModifierFollowsKey m i k
 exactly_while law m i k throughout ms h e keys =
     law ms h keys i k (subst (λ n. BearsThroughout n k (holding.Mod i)) (sym e) throughout)
 
@@ -56,4 +56,4 @@ fresh_presses law m l k throughout ms h e loads keys =
 -- in a plain map each look follows from the keys
 pub looks_plainly : LooksPlainly → (m : MapValue) → IsPlain m → LooksPlainlyIn m
 looks_plainly law m plain ms h e none keys k =
-    law ms h (subst IsPlain (sym e) plain) none keys k ∙ ap (λ n. PlainLook n k h) e
+    law ms h (subst IsPlain (sym e) plain) none keys k ∙ ap (λ n. plain_look n k h) e

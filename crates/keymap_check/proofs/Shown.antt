@@ -18,7 +18,7 @@ use Rattle.keymap_core.specs.Bearers.{IsCellOf, IsUpperLive}
 use Rattle.console_core.specs.declared.event.Event.{Event}
 use Rattle.console_core.specs.declared.event.Event.TheVariants.{Press, Release}
 use Rattle.console_core.specs.Resolved.{on, held, locked, remembered, look, resolve_press}
-use Rattle.console_core.specs.History.{Maps, between, On, resolved}
+use Rattle.console_core.specs.History.{Maps, between, is_on_after, resolved}
 use Rattle.console_core.specs.Columns.{slot_of, column_of}
 use Rattle.console_core.specs.Resolved.ResolvedEvent.{PressedCharacter, PressedAction, ReleasedKey}
 use Rattle.console_core.proofs.Borne.{AllLooked, look-cell}
@@ -34,7 +34,7 @@ use Rattle.keymap_check.specs.Computed.{findings_at, is_there}
 use Rattle.keymap_check.specs.Scripts.{group_at, is_bit_key, bit_key, bit_keys, script, lacks_key, scripts_of}
 use Rattle.keymap_check.specs.Scripts.{scripts_with, scripts_for, tried_at, has_some, is_some_on, leaves_modifier_on}
 use Rattle.keymap_check.specs.Scripts.{demonstration_of}
-use Rattle.keymap_check.specs.Shown.{group_of, bit_of, with_bit, bits_with, HasCharacterWith, IsOneAction}
+use Rattle.keymap_check.specs.Shown.{group_of, bit_of_group, with_bit, bits_with, HasCharacterWith, IsOneAction}
 use Rattle.keymap_check.specs.Shown.{HasFurtherKey, HasShownTrap}
 use Rattle.console_core.proofs.Traps.{bits_of, look-bits}
 use Rattle.keymap_check.proofs.Bits.{bits-more, bits-start, column_of-lt}
@@ -191,7 +191,7 @@ unfolding gathered lacks_key any_below
 set-3 p q r k j = (8, lit< tt, refl, refl)
 
 -- the key of each bit has a set
-has-set : (m : MapValue) (k j : ℕ) (g : Group) → bit_key m k (bit_of g) ≡ Some j → HasSet (bit_keys m k) k j
+has-set : (m : MapValue) (k j : ℕ) (g : Group) → bit_key m k (bit_of_group g) ≡ Some j → HasSet (bit_keys m k) k j
 has-set m k j group.Shift e =
     subst (λ o. HasSet (o ∷ bit_key m k 1 ∷ bit_key m k 2 ∷ bit_key m k 3 ∷ []) k j) (sym e) (set-0 _ _ _ k j)
 has-set m k j group.Control e =
@@ -243,7 +243,7 @@ inr-true true b e = refl
 inr-true false b e = e
 
 -- a modifier that is on is some
-some-on : (ms : Maps) (h : List Event) (i : Modifier) → On ms i h ≡ true → is_some_on ms h ≡ true
+some-on : (ms : Maps) (h : List Event) (i : Modifier) → is_on_after ms i h ≡ true → is_some_on ms h ≡ true
 some-on ms h LeftShift e =
     inl-true _ _ (inl-true _ _ (inl-true _ _ (inl-true _ _ (inl-true _ _ (inl-true _ _ (inl-true _ _ e))))))
 some-on ms h RightShift e =
@@ -302,7 +302,7 @@ shown-alone m i k lt e char none =
     tried-none m k 0 lt (lit< tt) finding (alone-complete _ _ _ _) none in
     let h : reverse (script (bit_keys m k) k 0 0) ≡ Release k ∷ Press k ∷ Press k ∷ [] =
     ap reverse (alone-script _ _ _ _ k) in
-    let is_on : On (between m m) i (Release k ∷ Press k ∷ Press k ∷ []) ≡ true =
+    let is_on : is_on_after (between m m) i (Release k ∷ Press k ∷ Press k ∷ []) ≡ true =
     ap (λ r. on i r) (resolved-alone m i k char.1.0 e char.1.1) ∙ on-alone i k char.1.0 in
     true≢false (sym (some-on (between m m) _ i is_on) ∙ ap (λ x. is_some_on (between m m) x) (sym h) ∙ off)
 
@@ -318,7 +318,7 @@ of-group group.AltShift AltShift e = refl
 of-group g y e = absurd (true≢false (sym e))
 
 -- the group of a group's bit
-pub group-bit : (g : Group) → group_at (bit_of g) ≡ g
+pub group-bit : (g : Group) → group_at (bit_of_group g) ≡ g
 group-bit group.Shift = refl
 group-bit group.Control = refl
 group-bit group.Alt = refl
@@ -352,13 +352,14 @@ further_by m k g j (Some p) ne one e t =
     (ne, (y.0, y.2, λ c is. one.1 c is ∙ same))
 
 -- the second key bears a modifier of the group, in each of its cells
-further : (m : MapValue) (k : ℕ) (g : Group) (j : ℕ) → bit_key m k (bit_of g) ≡ Some j → IsOneAction m j
+further : (m : MapValue) (k : ℕ) (g : Group) (j : ℕ) → bit_key m k (bit_of_group g) ≡ Some j → IsOneAction m j
     → IsFurther m k g j
 unfolding bit_key
 further m k g j e one =
-    let s : (j < 128) × (is_bit_key m k (bit_of g) j ≡ true) × ((i : ℕ) → i < j → is_bit_key m k (bit_of g) i ≡ false) =
-    first_below-some (is_bit_key m k (bit_of g)) 128 j e in
-    let t : (not (j == k) ≡ true) × (is_there (first_place m (kind.Of (group_at (bit_of g))) j) ≡ true) =
+    let s : (j < 128) × (is_bit_key m k (bit_of_group g) j ≡ true)
+        × ((i : ℕ) → i < j → is_bit_key m k (bit_of_group g) i ≡ false) =
+    first_below-some (is_bit_key m k (bit_of_group g)) 128 j e in
+    let t : (not (j == k) ≡ true) × (is_there (first_place m (kind.Of (group_at (bit_of_group g))) j) ≡ true) =
     and_parts _ _ s.1 in
     let there : is_there (first_place m (kind.Of g) j) ≡ true =
     subst (λ x. is_there (first_place m (kind.Of x) j) ≡ true) (group-bit g) t.1 in
@@ -381,7 +382,7 @@ other_modifier i y g ne e =
 -- a trap under one modifier more is demonstrated
 shown-further : (m : MapValue) (i : Modifier) (k : ℕ) (g : Group) (j : ℕ) → k < 128 → cell_at m k 0 ≡ Act (act.Mod i)
     → HasCharacterWith m k (bits_with i (Some g)) → group_of i ≢ Some g
-    → bit_key m k (bit_of g) ≡ Some j → IsOneAction m j → demonstration_of m ≢ None
+    → bit_key m k (bit_of_group g) ≡ Some j → IsOneAction m j → demonstration_of m ≢ None
 shown-further m i k g j lt e char other is_key one none =
     let is : IsCellOf m k (Act (act.Mod i)) = inl (0, lit< tt, e) in
     let finding : has_some (findings_at m k) ≡ true =
@@ -398,7 +399,7 @@ shown-further m i k g j lt e char other is_key one none =
     tried-none m k s.0 lt s.1 finding s.2 none in
     let h : reverse (script (bit_keys m k) k 0 s.0) ≡ Release j ∷ Release k ∷ Press k ∷ Press j ∷ Press k ∷ [] =
     ap reverse s.3 in
-    let is_on : On (between m m) i (Release j ∷ Release k ∷ Press k ∷ Press j ∷ Press k ∷ []) ≡ true =
+    let is_on : is_on_after (between m m) i (Release j ∷ Release k ∷ Press k ∷ Press j ∷ Press k ∷ []) ≡ true =
     ap (λ r. on i r) (resolved-further m i f.1.0 k j char.1.0 en e seen character)
     ∙ on-further i f.1.0 k j char.1.0 f.0 en (other_modifier i f.1.0 g other f.1.1) in
     true≢false (sym (some-on (between m m) _ i is_on) ∙ ap (λ x. is_some_on (between m m) x) (sym h) ∙ off)

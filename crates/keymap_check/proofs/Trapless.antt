@@ -14,8 +14,9 @@ use Rattle.keymap_core.specs.Maps.{MapValue}
 use Rattle.console_core.specs.declared.event.Event.{Event}
 use Rattle.console_core.specs.declared.event.Event.TheVariants.{Press, Release}
 use Rattle.keymap_core.specs.Bearers.{Bears}
-use Rattle.console_core.specs.History.{between, in_force, is_second_in_force, On, pressed, HasKey, HasKeys, IsQuiet}
-use Rattle.console_core.specs.Traps.{HasNoLocks, HasNoTrap}
+use Rattle.console_core.specs.History.{between, in_force, is_second_in_force, is_on_after, pressed, HasKey, HasKeys}
+use Rattle.console_core.specs.History.{IsQuiet}
+use Rattle.console_core.specs.Traps.{NobodyBearsCellPickingLocks, HasNoTrap}
 use Rattle.console_core.proofs.Deliveries.{reverse-cons}
 use Rattle.console_core.proofs.Traps.{on_only_while_pressed_without_traps}
 use Rattle.keymap_check.specs.Below.{gathered}
@@ -41,21 +42,23 @@ one_in_force : (m : MapValue) (h : List Event) → in_force (between m m) h ≡ 
 one_in_force m h = either m (is_second_in_force h)
 
 -- a quiet list leaves no modifier on
-off-quiet : (m : MapValue) → HasNoLocks m → ((i : Modifier) → HasNoTrap m i) → (h : List Event) → HasKeys h → IsQuiet h
-    → (i : Modifier) → On (between m m) i h ≡ false
+off-quiet : (m : MapValue) → NobodyBearsCellPickingLocks m → ((i : Modifier) → HasNoTrap m i) → (h : List Event)
+    → HasKeys h → IsQuiet h
+    → (i : Modifier) → is_on_after (between m m) i h ≡ false
 off-quiet m locks free h keys quiet i =
-    not_true (On (between m m) i h) (λ e.
+    not_true (is_on_after (between m m) i h) (λ e.
     let same : m ≡ in_force (between m m) h = sym (one_in_force m h) in
     let s : (k : ℕ) × (k < 128) × Bears (in_force (between m m) h) k (holding.Mod i) × (pressed k h ≡ true) =
-    on_only_while_pressed_without_traps (between m m) h keys (subst HasNoLocks same locks) i
+    on_only_while_pressed_without_traps (between m m) h keys (subst NobodyBearsCellPickingLocks same locks) i
     (subst (λ n. HasNoTrap n i) same (free i)) e in
     true≢false (sym s.3 ∙ quiet s.0 s.1))
 
 -- without locks and traps no modifier is on once every key is released
-no_modifier_on : (m : MapValue) → HasNoLocks m → ((i : Modifier) → HasNoTrap m i) → (h : List Event) → HasKeys h
+no_modifier_on : (m : MapValue) → NobodyBearsCellPickingLocks m → ((i : Modifier) → HasNoTrap m i) → (h : List Event)
+    → HasKeys h
     → IsQuiet h → is_some_on (between m m) h ≡ false
 no_modifier_on m locks free h keys quiet =
-    let off : (i : Modifier) → On (between m m) i h ≡ false = off-quiet m locks free h keys quiet in
+    let off : (i : Modifier) → is_on_after (between m m) i h ≡ false = off-quiet m locks free h keys quiet in
     rw (
       off LeftShift,
       off RightShift,
@@ -138,7 +141,7 @@ script-keys keys k a b f lt =
 abbrev Fails : MapValue → List Event → Type 0
 Fails m s = leaves_modifier_on m s ≡ false
 
-module _ (m : MapValue) (locks : HasNoLocks m) (free : (i : Modifier) → HasNoTrap m i) where
+module _ (m : MapValue) (locks : NobodyBearsCellPickingLocks m) (free : (i : Modifier) → HasNoTrap m i) where
   -- a script that isn't left out leaves no modifier on
   scripts-fail : (t : Bool) (k a b : ℕ) → k < 128 → Every (Fails m) (if t then [] else script (bit_keys m k) k a b ∷ [])
   scripts-fail true k a b lt = tt

@@ -17,7 +17,7 @@ use Rattle.keymap_check.specs.Cells.{first_place, cell_of, is_of_group, is_group
 use Rattle.keymap_check.specs.Computed.{findings_at, finding_by, is_there}
 use Rattle.keymap_check.specs.Findings.{IsUnsafeKey}
 use Rattle.keymap_check.specs.Scripts.{group_at, is_bit_key, bit_key, has_some}
-use Rattle.keymap_check.specs.Shown.{group_of, bit_of}
+use Rattle.keymap_check.specs.Shown.{group_of, bit_of_group}
 use Rattle.keymap_check.specs.Tried.{BearsGroup, IsBitKey, BitKeysAreLeast, TriedKeysAreUnsafe}
 use Rattle.keymap_check.proofs.Counting.{IsFirstBelow, first_below-some, first_below-no}
 use Rattle.keymap_check.proofs.Places.{first_place-cell, no_place-cell}
@@ -56,26 +56,28 @@ there_by m g j (Some p) e b = refl
 
 -- a key that bears the group, and isn't the one tried, passes the test of its bit
 bit_key-true : (m : MapValue) (k : ℕ) (g : Group) (i : ℕ) → i ≢ k → BearsGroup m i g
-    → is_bit_key m k (bit_of g) i ≡ true
+    → is_bit_key m k (bit_of_group g) i ≡ true
 bit_key-true m k g i ne b =
-    let t : is_there (first_place m (kind.Of (group_at (bit_of g))) i) ≡ true =
+    let t : is_there (first_place m (kind.Of (group_at (bit_of_group g))) i) ≡ true =
     subst (λ x. is_there (first_place m (kind.Of x) i) ≡ true) (sym (group-bit g))
     (there_by m g i (first_place m (kind.Of g) i) refl b) in
     let n : (i == k) ≡ false = not_same (i == k) (λ q. ne (eqb-true i k q)) in
     rw (n, t) refl
 
 -- a key that fails the test of a bit doesn't bear the group
-no_bit_key : (m : MapValue) (k : ℕ) (g : Group) (i : ℕ) → is_bit_key m k (bit_of g) i ≡ false → i ≢ k → BearsGroup m i g
+no_bit_key : (m : MapValue) (k : ℕ) (g : Group) (i : ℕ) → is_bit_key m k (bit_of_group g) i ≡ false → i ≢ k
+    → BearsGroup m i g
     → ⊥
 no_bit_key m k g i e ne b = true≢false (sym (bit_key-true m k g i ne b) ∙ e)
 
 -- the key of a bit is the least that passes its test
-least_by : (m : MapValue) (k : ℕ) (g : Group) (o : Option ℕ) → first_below (is_bit_key m k (bit_of g)) 128 ≡ o
+least_by : (m : MapValue) (k : ℕ) (g : Group) (o : Option ℕ) → first_below (is_bit_key m k (bit_of_group g)) 128 ≡ o
     → IsBitKey m k g o
-least_by m k g None e = λ j lt. no_bit_key m k g j (first_below-no (is_bit_key m k (bit_of g)) 128 e j lt)
+least_by m k g None e = λ j lt. no_bit_key m k g j (first_below-no (is_bit_key m k (bit_of_group g)) 128 e j lt)
 least_by m k g (Some j) e =
-    let s : IsFirstBelow (is_bit_key m k (bit_of g)) 128 j = first_below-some (is_bit_key m k (bit_of g)) 128 j e in
-    let t : (not (j == k) ≡ true) × (is_there (first_place m (kind.Of (group_at (bit_of g))) j) ≡ true) =
+    let s : IsFirstBelow (is_bit_key m k (bit_of_group g)) 128 j = first_below-some
+        (is_bit_key m k (bit_of_group g)) 128 j e in
+    let t : (not (j == k) ≡ true) × (is_there (first_place m (kind.Of (group_at (bit_of_group g))) j) ≡ true) =
     and_parts _ _ s.1 in
     let there : is_there (first_place m (kind.Of g) j) ≡ true =
     subst (λ x. is_there (first_place m (kind.Of x) j) ≡ true) (group-bit g) t.1 in (
@@ -88,7 +90,7 @@ least_by m k g (Some j) e =
 -- the key of a bit is the least other key that bears the group
 pub bit_keys_are_least : BitKeysAreLeast
 unfolding bit_key
-bit_keys_are_least m k g = least_by m k g (first_below (is_bit_key m k (bit_of g)) 128) refl
+bit_keys_are_least m k g = least_by m k g (first_below (is_bit_key m k (bit_of_group g)) 128) refl
 
 -- a key is tried exactly if it has a finding
 unsafe_by : (m : MapValue) (k : ℕ) (o i : Option ℕ) → first_place m kind.AnyHolding k ≡ o

@@ -50,13 +50,13 @@ abbrev pub is_group_cell : Group → Cell → Bool
 is_group_cell g (Act (act.Mod i)) = is_of_group g i
 is_group_cell g _ = false
 
-abbrev pub fits : Kind → Cell → Bool
-fits kind.Character x = is_character x
-fits kind.AnyHolding x = is_any_holding x
-fits (kind.Holding a) x = is_holding a x
-fits (kind.OtherThan a) x = not (is_holding a x)
-fits kind.CharacterOrNop x = is_character_or_nop x
-fits (kind.Of g) x = is_group_cell g x
+abbrev pub is_of_kind : Kind → Cell → Bool
+is_of_kind kind.Character x = is_character x
+is_of_kind kind.AnyHolding x = is_any_holding x
+is_of_kind (kind.Holding a) x = is_holding a x
+is_of_kind (kind.OtherThan a) x = not (is_holding a x)
+is_of_kind kind.CharacterOrNop x = is_character_or_nop x
+is_of_kind (kind.Of g) x = is_group_cell g x
 
 unfoldable pub place_count : MapValue → ℕ
 place_count m = if is_upper_live m then 2 * column_count else column_count
@@ -72,7 +72,7 @@ cell_of m k place = cell_at m (slot_at k place) (column_at place)
 
 -- the first place of the key that has a cell of the kind
 unfoldable pub first_place : MapValue → Kind → ℕ → Option ℕ
-first_place m x k = first_below (λ place. fits x (cell_of m k place)) (place_count m)
+first_place m x k = first_below (λ place. is_of_kind x (cell_of m k place)) (place_count m)
 
 abbrev pub place_at : ℕ → ℕ → Place
 place_at k place = record { slot = slot_at k place; column = column_at place }

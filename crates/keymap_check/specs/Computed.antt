@@ -24,8 +24,8 @@ abbrev pub is_missing : Option ℕ → Bool
 is_missing None = true
 is_missing (Some p) = false
 
-abbrev pub bears : MapValue → ℕ → Holding → Bool
-bears m k a = is_there (first_place m (kind.Holding a) k)
+abbrev pub bears_holding : MapValue → ℕ → Holding → Bool
+bears_holding m k a = is_there (first_place m (kind.Holding a) k)
 
 -- the bearer of the action if no key but k bears it
 abbrev pub bearer_by : ℕ → Option ℕ → Bearer
@@ -43,7 +43,7 @@ next_bearer _ alone = Several
 unfoldable pub bearer_below : MapValue → Holding → ℕ → Bearer
 bearer_below m a zero = Nobody
 bearer_below m a (suc k) =
-    if bears m k a then next_bearer (bearer_below m a k) (bearer_with m a k) else bearer_below m a k
+    if bears_holding m k a then next_bearer (bearer_below m a k) (bearer_with m a k) else bearer_below m a k
 
 abbrev pub bearer_of : MapValue → Holding → Bearer
 bearer_of m a = bearer_below m a key_count

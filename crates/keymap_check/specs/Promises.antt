@@ -7,10 +7,11 @@ use Rattle.keymap_core.specs.Maps.{MapValue}
 use Rattle.keymap_core.specs.Numbers.{key_count}
 use Rattle.console_core.specs.declared.event.Event.{Event}
 use Rattle.console_core.specs.declared.event.Event.TheVariants.{Press, Reset}
-use Rattle.console_core.specs.History.{Maps, in_force, HasKeys, HasNoLoads, IsQuiet, On, Locked, Pending, pressed}
+use Rattle.console_core.specs.History.{Maps, in_force, HasKeys, HasNoLoads, IsQuiet, is_on_after, is_locked_after}
+use Rattle.console_core.specs.History.{accent_pending_after, pressed}
 use Rattle.console_core.specs.Positions.{count_where, is_odd}
-use Rattle.console_core.specs.Plain.{PlainLook}
-use Rattle.console_core.specs.Reading.{Look, Turns}
+use Rattle.console_core.specs.Plain.{plain_look}
+use Rattle.console_core.specs.Reading.{look_after, turns_at}
 use Rattle.console_core.specs.Headline.{IsOnOnlyWhilePressed, GoesOnAs, is_fresh_press}
 
 -- P holds after every list of events about keys 0 to 127 that leaves the map in force
@@ -19,33 +20,35 @@ AfterEveryList m P = (ms : Maps) (h : List Event) → in_force ms h ≡ m → Ha
 
 -- a modifier is on only while a key that bears it is pressed
 abbrev pub ModifiersAreOnOnlyWhilePressed : MapValue → Type 0
-ModifiersAreOnOnlyWhilePressed m = AfterEveryList m (λ ms h. IsOnOnlyWhilePressed m h (λ i. On ms i h))
+ModifiersAreOnOnlyWhilePressed m = AfterEveryList m (λ ms h. IsOnOnlyWhilePressed m h (λ i. is_on_after ms i h))
 
 -- the modifier is on exactly while the key is pressed
-abbrev pub IsOnExactlyWhilePressed : MapValue → Modifier → ℕ → Type 0
-IsOnExactlyWhilePressed m i k = AfterEveryList m (λ ms h. On ms i h ≡ pressed k h)
+abbrev pub ModifierFollowsKey : MapValue → Modifier → ℕ → Type 0
+ModifierFollowsKey m i k = AfterEveryList m (λ ms h. is_on_after ms i h ≡ pressed k h)
 
 -- no repeat turns the lock, which stays as it was
 abbrev pub NoRepeatTurns : MapValue → Lock → Type 0
 NoRepeatTurns m l =
     AfterEveryList m (λ ms h. (k : ℕ) → k < key_count → pressed k h ≡ true
-    → (Turns ms l (Press k) h ≡ false) × (Locked ms l (Press k ∷ h) ≡ Locked ms l h))
+    → (turns_at ms l (Press k) h ≡ false) × (is_locked_after ms l (Press k ∷ h) ≡ is_locked_after ms l h))
 
 -- once no key is pressed, no modifier is on
 abbrev pub ModifiersAreOffOnceQuiet : MapValue → Type 0
-ModifiersAreOffOnceQuiet m = AfterEveryList m (λ ms h. IsQuiet h → (i : Modifier) → On ms i h ≡ false)
+ModifiersAreOffOnceQuiet m = AfterEveryList m (λ ms h. IsQuiet h → (i : Modifier) → is_on_after ms i h ≡ false)
 
 -- once no key is pressed and no accent is pending, the console goes on as after a reset
 abbrev pub GoesOnAsAfterResetOnceQuiet : MapValue → Type 0
-GoesOnAsAfterResetOnceQuiet m = AfterEveryList m (λ ms h. IsQuiet h → Pending ms h ≡ None → GoesOnAs ms h (Reset ∷ h))
+GoesOnAsAfterResetOnceQuiet m = AfterEveryList m
+    (λ ms h. IsQuiet h → accent_pending_after ms h ≡ None → GoesOnAs ms h (Reset ∷ h))
 
 -- where no other map is loaded, the lock is on exactly after an odd number of fresh presses of the key
 abbrev pub IsOnAfterOddFreshPresses : MapValue → Lock → ℕ → Type 0
 IsOnAfterOddFreshPresses m l k =
     (ms : Maps) (h : List Event) → ms.first ≡ m → HasNoLoads h ⊎ (ms.second ≡ m) → HasKeys h
-    → Locked ms l h ≡ is_odd (count_where (is_fresh_press k) h)
+    → is_locked_after ms l h ≡ is_odd (count_where (is_fresh_press k) h)
 
 -- without loads, what a key looks up follows from which keys are pressed, and from the fresh presses of the locks' keys
 abbrev pub LooksPlainlyIn : MapValue → Type 0
 LooksPlainlyIn m =
-    (ms : Maps) (h : List Event) → ms.first ≡ m → HasNoLoads h → HasKeys h → (k : ℕ) → Look ms k h ≡ PlainLook m k h
+    (ms : Maps) (h : List Event) → ms.first ≡ m → HasNoLoads h → HasKeys h → (k : ℕ)
+        → look_after ms k h ≡ plain_look m k h

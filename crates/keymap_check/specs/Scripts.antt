@@ -7,7 +7,7 @@ use Rattle.keymap_core.specs.Maps.{MapValue}
 use Rattle.keymap_core.specs.Numbers.{key_count}
 use Rattle.console_core.specs.declared.event.Event.{Event}
 use Rattle.console_core.specs.declared.event.Event.TheVariants.{Press, Release}
-use Rattle.console_core.specs.History.{Maps, between, On}
+use Rattle.console_core.specs.History.{Maps, between, is_on_after}
 use Rattle.keymap_check.specs.declared.kind.Group.{Group}
 use Rattle.keymap_check.specs.declared.kind.Group.TheVariants as group
 use Rattle.keymap_check.specs.declared.kind.Kind.TheVariants as kind
@@ -97,8 +97,9 @@ tried m = gathered (tried_at m) key_count
 -- some modifier is on after the events, newest first
 abbrev pub is_some_on : Maps → List Event → Bool
 is_some_on ms h =
-    On ms LeftShift h || On ms RightShift h || On ms LeftControl h || On ms RightControl h || On ms LeftAlt h
-    || On ms RightAlt h || On ms AltShift h || On ms Meta h
+    is_on_after ms LeftShift h || is_on_after ms RightShift h || is_on_after ms LeftControl h
+        || is_on_after ms RightControl h || is_on_after ms LeftAlt h
+    || is_on_after ms RightAlt h || is_on_after ms AltShift h || is_on_after ms Meta h
 
 -- some modifier is on after a new console was delivered the script
 abbrev pub leaves_modifier_on : MapValue → List Event → Bool

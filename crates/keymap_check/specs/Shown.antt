@@ -27,11 +27,11 @@ group_of AltShift = Some group.AltShift
 group_of Meta = None
 
 -- the group's place among the bits of a set
-abbrev pub bit_of : Group → ℕ
-bit_of group.Shift = 0
-bit_of group.Control = 1
-bit_of group.Alt = 2
-bit_of group.AltShift = 3
+abbrev pub bit_of_group : Group → ℕ
+bit_of_group group.Shift = 0
+bit_of_group group.Control = 1
+bit_of_group group.Alt = 2
+bit_of_group group.AltShift = 3
 
 abbrev pub no_bits : Bits
 no_bits = record { upper = false; shift = false; control = false; alt = false }
@@ -59,7 +59,8 @@ IsOneAction m j = (a : Action) × ((x : Cell) → IsCellOf m j x → x ≡ Act a
 -- where there is a further bit, it isn't that of the modifier's group, and its key exists and is one action
 abbrev pub HasFurtherKey : MapValue → ℕ → Modifier → Option Group → Type 0
 HasFurtherKey m k i None = Unit {0}
-HasFurtherKey m k i (Some g) = (group_of i ≢ Some g) × ((j : ℕ) × (bit_key m k (bit_of g) ≡ Some j) × IsOneAction m j)
+HasFurtherKey m k i (Some g) = (group_of i ≢ Some g)
+    × ((j : ℕ) × (bit_key m k (bit_of_group g) ≡ Some j) × IsOneAction m j)
 
 -- column 0 of the key's slot is the modifier, and a character cell has the bit of its group and at most one bit more
 abbrev pub HasShownTrap : MapValue → Modifier → ℕ → Type 0

@@ -9,7 +9,7 @@ use Rattle.keymap_check.specs.declared.kind.Group.{Group}
 use Rattle.keymap_check.specs.Computed.{findings_at}
 use Rattle.keymap_check.specs.Findings.{IsUnsafeKey}
 use Rattle.keymap_check.specs.Scripts.{bit_key, has_some}
-use Rattle.keymap_check.specs.Shown.{group_of, bit_of}
+use Rattle.keymap_check.specs.Shown.{group_of, bit_of_group}
 
 -- the key bears a modifier of the group
 abbrev pub BearsGroup : MapValue → ℕ → Group → Type 0
@@ -22,7 +22,7 @@ IsBitKey m k g (Some j) =
     (j < key_count) × (j ≢ k) × BearsGroup m j g × ((i : ℕ) → i < j → i ≢ k → BearsGroup m i g → ⊥)
 
 abbrev pub BitKeysAreLeast : Type 0
-BitKeysAreLeast = (m : MapValue) (k : ℕ) (g : Group) → IsBitKey m k g (bit_key m k (bit_of g))
+BitKeysAreLeast = (m : MapValue) (k : ℕ) (g : Group) → IsBitKey m k g (bit_key m k (bit_of_group g))
 
 -- the keys that are tried are those that make the map refused
 abbrev pub TriedKeysAreUnsafe : Type 0

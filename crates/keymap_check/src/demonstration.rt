@@ -5,7 +5,7 @@ ghost use Rattle.keymap_core.specs.Maps.{MapValue};
 ghost use Rattle.keymap_core.specs.Numbers.{key_count};
 ghost use Rattle.console_core.specs.declared.event.Event.{Event as EventValue};
 ghost use Rattle.console_core.specs.History.{Maps, between, IsQuiet};
-ghost use Rattle.console_core.specs.Traps.{HasNoLocks, HasNoTrap};
+ghost use Rattle.console_core.specs.Traps.{NobodyBearsCellPickingLocks, HasNoTrap};
 ghost use Rattle.keymap_check.specs.Scripts.{leaves_modifier_on as leaves_modifier_on_in, is_some_on, events_of};
 ghost use Rattle.keymap_check.specs.Scripts.{start_of, script as script_of, scripts_of, scripts_with, scripts_for};
 ghost use Rattle.keymap_check.specs.Scripts.{tried_at, demonstration_of};
@@ -167,7 +167,8 @@ pub fn demonstrate(map: &KeyMap) -> Option<Script>
     ensures first { option_map (λ s. s.items) result ≡ demonstration_of map.now }
     ensures quiet { IfSome result (λ s. IsQuiet (reverse s.items)) }
     ensures shown { (i : ModifierValue) (k : ℕ) → HasShownTrap map.now i k → IsSome result }
-    ensures without_traps { HasNoLocks map.now → ((i : ModifierValue) → HasNoTrap map.now i) → IsNone result }
+    ensures without_traps { NobodyBearsCellPickingLocks map.now → ((i : ModifierValue) → HasNoTrap map.now i)
+        → IsNone result }
 {
     first_script(&Survey::of(map))
 }

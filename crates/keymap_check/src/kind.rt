@@ -1,6 +1,6 @@
 //! What is looked for among the cells of a key.
 ghost use Rattle.std.specs.Prelude.{◌≡◌};
-ghost use Rattle.keymap_check.specs.Cells.{fits as fits_kind, is_of_group};
+ghost use Rattle.keymap_check.specs.Cells.{is_of_kind, is_of_group};
 ghost use Rattle.keymap_check.specs.Inner.CellBits.{mask_of};
 
 use keymap_core::{Action, Cell, Holding, Modifier};
@@ -27,7 +27,7 @@ pub enum Kind {
 }
 
 fn is_holding(cell: Cell, holding: Holding) -> bool
-    ensures { result ≡ fits_kind (Kind.Holding holding) cell }
+    ensures { result ≡ is_of_kind (Kind.Holding holding) cell }
 {
     match cell {
         Cell::Char(_) => false,
@@ -66,7 +66,7 @@ impl Kind {
 
     /// Whether the cell is of the kind.
     pub(crate) fn fits(self, cell: Cell) -> bool
-        ensures { result ≡ fits_kind self cell }
+        ensures { result ≡ is_of_kind self cell }
     {
         match self {
             Kind::Character => matches!(&cell, Cell::Char(_)),

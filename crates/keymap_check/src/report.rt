@@ -5,7 +5,7 @@ ghost use Rattle.keymap_core.specs.declared.action.Lock.{Lock as LockValue};
 ghost use Rattle.keymap_core.specs.declared.action.Holding.{Holding as HoldingValue};
 ghost use Rattle.console_core.specs.Headline.{IsSafe, IsSteady};
 ghost use Rattle.keymap_check.specs.Findings.{AreFindings};
-ghost use Rattle.keymap_check.specs.Promises.{ModifiersAreOnOnlyWhilePressed, IsOnExactlyWhilePressed, NoRepeatTurns};
+ghost use Rattle.keymap_check.specs.Promises.{ModifiersAreOnOnlyWhilePressed, ModifierFollowsKey, NoRepeatTurns};
 ghost use Rattle.keymap_check.specs.Promises.{ModifiersAreOffOnceQuiet, GoesOnAsAfterResetOnceQuiet};
 ghost use Rattle.keymap_check.specs.Promises.{IsOnAfterOddFreshPresses, LooksPlainlyIn};
 ghost use Rattle.keymap_check.specs.Report.{IsAccepted, IsBearer, HasPlainBearers, bearer_in, is_steady_in, report_of};
@@ -134,7 +134,7 @@ pub fn check(map: &KeyMap) -> Report
     ensures steady { (l : LockValue) → (is_steady_in result l ≡ true) ↔ IsSteady map.now l }
     ensures only_while { IsAccepted result → ModifiersAreOnOnlyWhilePressed map.now }
     ensures exactly_while { (i : ModifierValue) (k : ℕ) → bearer_in result (Holding.Mod i) ≡ Bearer.Throughout k
-        → IsOnExactlyWhilePressed map.now i k }
+        → ModifierFollowsKey map.now i k }
     ensures repeats { (l : LockValue) → is_steady_in result l ≡ true → NoRepeatTurns map.now l }
     ensures off_once_quiet { IsAccepted result → ModifiersAreOffOnceQuiet map.now }
     ensures as_after_reset { IsAccepted result → GoesOnAsAfterResetOnceQuiet map.now }

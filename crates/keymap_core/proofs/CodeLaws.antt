@@ -10,7 +10,7 @@ use Rattle.std.proofs.lemmas.Grind.{common_steps}
 use Rattle.std.specs.Cmp.{booleans_Decides}
 use Rattle.std.proofs.Math.Bool.{beq}
 use Rattle.keymap_core.proofs.NameLaws.{all-in}
-use Rattle.keymap_core.specs.Actions.{IsAction, IsUnusedCode, code_of, action_of, plain_actions, within}
+use Rattle.keymap_core.specs.Actions.{IsAction, IsCodeOfNoAction, code_of, action_of, plain_actions, within}
 use Rattle.keymap_core.specs.declared.action.Action.{Action}
 use Rattle.keymap_core.specs.declared.action.Action.TheVariants as a
 use Rattle.keymap_core.specs.declared.action.Modifier.TheVariants as m
@@ -121,26 +121,26 @@ beyond-none c h =
     beyond low high c h few = grind (arith, nat_tests)
 
 -- the same as a test
-abbrev is_unused_code : ℕ → Bool
-is_unused_code c = (c == 0x01) || within 0x7b 0x7f c || within 0x9b 0xa0 c || nat_le 0xa4 c
+abbrev is_code_of_no_action : ℕ → Bool
+is_code_of_no_action c = (c == 0x01) || within 0x7b 0x7f c || within 0x9b 0xa0 c || nat_le 0xa4 c
 
 -- a code that the test takes for unused is unused
-unused-from_test : (c : ℕ) → is_unused_code c ≡ true → IsUnusedCode c
+unused-from_test : (c : ℕ) → is_code_of_no_action c ≡ true → IsCodeOfNoAction c
 unused-from_test c h = grind (arith, nat_tests)
 
 -- an unused code passes the test
-unused-as_test : (c : ℕ) → IsUnusedCode c → is_unused_code c ≡ true
+unused-as_test : (c : ℕ) → IsCodeOfNoAction c → is_code_of_no_action c ≡ true
 unused-as_test c h = grind (arith, nat_tests)
 
 -- computed over the table
-all-codes : list_all (λ c. beq (is_none (action_of c)) (is_unused_code c)) (range_with_len 0 0xa4) ≡ true
+all-codes : list_all (λ c. beq (is_none (action_of c)) (is_code_of_no_action c)) (range_with_len 0 0xa4) ≡ true
 all-codes = refl
 
 -- what the test says of each code
-same-as_test : (c : ℕ) → is_none (action_of c) ≡ is_unused_code c
+same-as_test : (c : ℕ) → is_none (action_of c) ≡ is_code_of_no_action c
 same-as_test c = elim (cases_lt c 0xa4) [
   | inl below ↦
-      (booleans_Decides _ _).0 (all-in (λ c. beq (is_none (action_of c)) (is_unused_code c)) 0 0xa4 all-codes c
+      (booleans_Decides _ _).0 (all-in (λ c. beq (is_none (action_of c)) (is_code_of_no_action c)) 0 0xa4 all-codes c
       (omega arith) (omega (arith, below)))
   | inr above ↦ ap is_none (beyond-none c above) ∙ sym (unused-as_test c (inr (inr (inr above))))
 ]
@@ -150,7 +150,7 @@ is_none-None None h = refl
 is_none-None (Some x) h = absurd (cc)
 
 -- a code has no action exactly if it is unused
-pub unused-codes : (c : ℕ) → (action_of c ≡ None) ↔ IsUnusedCode c
+pub unused-codes : (c : ℕ) → (action_of c ≡ None) ↔ IsCodeOfNoAction c
 unused-codes c = (
   λ e. unused-from_test c (sym (same-as_test c) ∙ ap is_none e),
   λ u. is_none-None (action_of c) (same-as_test c ∙ unused-as_test c u),

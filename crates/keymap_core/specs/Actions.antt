@@ -108,8 +108,8 @@ action_of c =
     else find (λ a. code_of a == c) plain_actions
 
 -- the codes that no action has: those of the combined actions, 9b to a0, and the unused ones
-abbrev pub IsUnusedCode : ℕ → Type 0
-IsUnusedCode c =
+abbrev pub IsCodeOfNoAction : ℕ → Type 0
+IsCodeOfNoAction c =
     (c ≡ 0x01) ⊎ ((0x7b ≤ c) × (c ≤ 0x7f)) ⊎ ((0x9b ≤ c) × (c ≤ 0xa0)) ⊎ (0xa4 ≤ c)
 
 -- the modifiers, in their order

@@ -16,10 +16,10 @@ pub record ReadsUpTo (max : ℕ) (old new : Option (List ℕ)) (bytes : List ℕ
   pub first : IfSome old (λ all. bytes ≡ take max all)
 
 -- whether the answer names the reader as what failed
-abbrev pub fails_device : {X : Type 0} → Result X ReadError → Bool
-fails_device (Ok _) = false
-fails_device (Err Memory) = false
-fails_device (Err (Read _)) = true
+abbrev pub blames_reader : {X : Type 0} → Result X ReadError → Bool
+blames_reader (Ok _) = false
+blames_reader (Err Memory) = false
+blames_reader (Err (Read _)) = true
 
 -- The one fault is that of the device, after so many bytes taken.
 abbrev pub IsDeviceFault : ℕ → Option (List ℕ) → Option (List ℕ) → ReadError → Type 0

@@ -2,7 +2,7 @@
 ghost use Rattle.std.specs.Prelude.{◌≡◌, ◌≢◌, ◌↔◌, ◌<◌, ◌≤◌, ◌+◌, max, ℕ, List, All, map, Some, None, IsTrue};
 ghost use Rattle.std.specs.Char.{to_ascii_lowercase};
 ghost use Rattle.keymap_core.specs.Accents.{AccentValue, blank};
-ghost use Rattle.keymap_core.specs.Actions.{IsAction, IsUnusedCode, code_of, name_of, action_of, same_action};
+ghost use Rattle.keymap_core.specs.Actions.{IsAction, IsCodeOfNoAction, code_of, name_of, action_of, same_action};
 ghost use Rattle.keymap_core.specs.Bearers.{Bears, IsUpperLive};
 ghost use Rattle.keymap_core.specs.Bounds.{IsMap};
 ghost use Rattle.keymap_core.specs.Borne.{is_borne, is_upper_live};
@@ -38,7 +38,7 @@ pub fn every_action_has_its_code()
 
 /// No action has the codes of the combined actions and the unused codes, and each other code has one.
 pub fn unused_codes_have_no_action()
-    ensures { (code : ℕ) → (action_of code ≡ None) ↔ IsUnusedCode code }
+    ensures { (code : ℕ) → (action_of code ≡ None) ↔ IsCodeOfNoAction code }
 {}
 
 /// The names of the combined actions are refused as such.

@@ -4,7 +4,7 @@ ghost use Rattle.std.specs.Prelude.{◌≡◌, ℕ, ◌+◌, ◌^◌, ◌<◌, �
 ghost use Rattle.std.specs.Prelude.{OnOk, true, is_err, vec_len, MatchResult};
 ghost use Rattle.std.specs.Io.KnownBytes.{Consumes, IsAtEnd, Appends};
 ghost use Rattle.keymap_core.specs.Devices.{WritesText, PutsPiece};
-ghost use Rattle.keymap_core.specs.Transfers.{ReadsUpTo, IsDeviceFault, fails_device};
+ghost use Rattle.keymap_core.specs.Transfers.{ReadsUpTo, IsDeviceFault, blames_reader};
 
 use crate::device::{Failed, Read, Write};
 use std::alloc::Global;
@@ -46,7 +46,7 @@ const PIECE: usize = 4096;
 /// The bytes up to the end, or the first `max` of them, in at most `max` + 1 reads.
 pub fn read_up_to<R: Read>(alloc: Global, reader: &mut R, max: usize) -> Result<Vec<u8>, ReadError>
     ensures ok { IfOk result (λ bytes. ReadsUpTo max (R.remaining reader.old) (R.remaining reader.new) bytes.items) }
-    ensures failed { R.has_failed reader.new ≡ (fails_device result || R.has_failed reader.old) }
+    ensures failed { R.has_failed reader.new ≡ (blames_reader result || R.has_failed reader.old) }
     ensures fault { IfErr result (IsDeviceFault max (R.remaining reader.old) (R.remaining reader.new)) }
 {
     let mut bytes = Vec::new(alloc);

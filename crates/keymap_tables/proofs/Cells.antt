@@ -27,7 +27,7 @@ use Rattle.keymap_tables.specs.declared.layout.Layout.{Layout}
 use Rattle.keymap_tables.specs.declared.layout.Layout.TheVariants.{Wide, Narrow}
 use Rattle.keymap_tables.specs.Fits.{CellFits}
 use Rattle.keymap_tables.proofs.Sizes.{some-number, cell-inside, cell-next, cells-end}
-use Rattle.keymap_tables.specs.Faults.{number_at, mark_at, cell_fault, slot_fault, zero_fault, IsFirstFault}
+use Rattle.keymap_tables.specs.Faults.{number_at, is_marked_at, cell_fault, slot_fault, zero_fault, IsFirstFault}
 use Rattle.keymap_tables.specs.declared.fault.TableFaultKind.TheVariants.{BadPad, BadFlag}
 use Rattle.keymap_tables.specs.declared.fault.TableFault.{TableFault}
 use Rattle.keymap_tables.specs.declared.fault.TableFaultKind.{TableFaultKind}
@@ -161,13 +161,14 @@ starts Narrow i = omega arith
 
 -- the fault where a cell begins is the cell's
 pub fault-here : (l : Layout) (bytes : List ℕ) (i : ℕ) → i < 8
-    → slot_fault l bytes (number_size l * i) ≡ cell_fault (number_at l bytes (number_size l * i)) (mark_at l bytes i)
+    → slot_fault l bytes (number_size l * i)
+        ≡ cell_fault (number_at l bytes (number_size l * i)) (is_marked_at l bytes i)
 fault-here l bytes i small =
     rw (among-cells l i (number_size l * i) small (starts l i), begins l i, column-of l i) refl
 
 -- the first fault, at a cell
 pub first-cell : (l : Layout) (bytes : List ℕ) (i : ℕ) (f : TableFault) → i < 8 → f.offset ≡ number_size l * i
-    → cell_fault (number_at l bytes (number_size l * i)) (mark_at l bytes i) ≡ Some f.kind
+    → cell_fault (number_at l bytes (number_size l * i)) (is_marked_at l bytes i) ≡ Some f.kind
     → ((p : ℕ) → p < number_size l * i → slot_fault l bytes p ≡ None)
     → IsFirstFault (slot_fault l bytes) f × (f.offset < 8 * number_size l)
 first-cell l bytes i f small at fault before = (
@@ -193,7 +194,7 @@ none-between l bytes i p small above below =
 -- one more cell without a fault: there is none up to its end
 pub sound-more : (l : Layout) (bytes : List ℕ) (i : ℕ) → i < 8
     → ((p : ℕ) → p < number_size l * i → slot_fault l bytes p ≡ None)
-    → cell_fault (number_at l bytes (number_size l * i)) (mark_at l bytes i) ≡ None → (p : ℕ)
+    → cell_fault (number_at l bytes (number_size l * i)) (is_marked_at l bytes i) ≡ None → (p : ℕ)
     → p < number_size l * (i + 1) → slot_fault l bytes p ≡ None
 sound-more l bytes i small so_far here p below =
     elim (cases_lt p (number_size l * i)) [

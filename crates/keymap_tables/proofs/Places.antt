@@ -12,7 +12,7 @@ use Rattle.keymap_core.specs.Accents.{blank}
 use Rattle.keymap_core.specs.Maps.{MapValue, undefined, entry_at, cell_at, accent_or_blank}
 use Rattle.keymap_core.specs.Bounds.{IsCell, IsEntry, IsMap}
 use Rattle.keymap_core.specs.declared.entry.Cell.TheVariants.{Char}
-use Rattle.keymap_tables.specs.Faults.{number_at, mark_at}
+use Rattle.keymap_tables.specs.Faults.{number_at, is_marked_at}
 use Rattle.keymap_tables.specs.Fits.{CellFits, EntryFits, FitsIn}
 use Rattle.keymap_tables.specs.Image.{image_in, number_of, is_act, flag_number, slot_bytes, accent_bytes, zeros}
 use Rattle.keymap_tables.specs.Layouts.{narrow, part, number_width, number_size, slot_size, slots_place, slots_size}
@@ -141,10 +141,10 @@ cell-number l m is fits s column below inside =
 
 -- the mark read at a slot's place tells whether the cell is an action
 pub cell-mark : (l : Layout) (m : MapValue) → IsMap m → (s column : ℕ) → s < 256 → column < 8
-    → mark_at l (part (image_in l m) (slots_place l + slot_size l * s) (slot_size l)) column
+    → is_marked_at l (part (image_in l m) (slots_place l + slot_size l * s) (slot_size l)) column
     ≡ is_act (cell_at m s column)
 cell-mark l m is s column below inside =
-    ap (λ (v : List ℕ). mark_at l v column) (slot-part l m is s below)
+    ap (λ (v : List ℕ). is_marked_at l v column) (slot-part l m is s below)
     ∙ mark-in l (entry_at m s) (Char 0) column (entry-known m is s) inside
 
 -- the flag read at a slot's place is the entry's

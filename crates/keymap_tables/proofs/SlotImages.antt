@@ -20,7 +20,7 @@ use Rattle.keymap_core.specs.declared.entry.Entry.{Entry}
 use Rattle.keymap_core.specs.declared.entry.LockFlag.{LockFlag}
 use Rattle.keymap_core.specs.declared.entry.LockFlag.TheVariants as flag
 use Rattle.keymap_core.specs.Bounds.{IsCell, IsEntry}
-use Rattle.keymap_tables.specs.Faults.{number_at, mark_at, char_fault, cell_fault, slot_fault}
+use Rattle.keymap_tables.specs.Faults.{number_at, is_marked_at, char_fault, cell_fault, slot_fault}
 use Rattle.keymap_tables.specs.Inner.Firsts.{HasNoFault}
 use Rattle.keymap_tables.specs.Image.{cell_bytes, number_bytes, number_of, is_act, marks_of, flag_number, slot_bytes, zeros}
 use Rattle.keymap_tables.specs.Fits.{CellFits, EntryFits}
@@ -302,7 +302,7 @@ marks-in l entry known =
 
 -- the mark read in a slot tells whether the cell is an action
 pub mark-in : (l : Layout) (entry : Entry) (d : Cell) (i : ℕ) → IsEntry entry → i < 8
-    → mark_at l (slot_bytes l entry) i ≡ is_act (get_or entry.cells i d)
+    → is_marked_at l (slot_bytes l entry) i ≡ is_act (get_or entry.cells i d)
 mark-in l entry d i known below =
     ap (λ (m : ℕ). m / 2 ^ (7 - i) % 2 == 1) (marks-in l entry known) ∙ mark-bit entry.cells known.eight d i below
 
@@ -345,8 +345,8 @@ cells-sound l entry known fits (suc i) few p below =
     let bytes = slot_bytes l entry in
     let inside : i < length entry.cells = omega (arith, known.eight) in
     let next : number_size l * suc i ≡ number_size l * (i + 1) = ap (λ (n : ℕ). number_size l * n) (omega arith) in
-    let here : cell_fault (number_at l bytes (number_size l * i)) (mark_at l bytes i) ≡ None =
-    ap (λ (n : ℕ). cell_fault n (mark_at l bytes i)) (number-in l entry (Char 0) i known fits (omega arith))
+    let here : cell_fault (number_at l bytes (number_size l * i)) (is_marked_at l bytes i) ≡ None =
+    ap (λ (n : ℕ). cell_fault n (is_marked_at l bytes i)) (number-in l entry (Char 0) i known fits (omega arith))
     ∙ ap (λ (t : Bool). cell_fault (number_of (get_or entry.cells i (Char 0))) t)
     (mark-in l entry (Char 0) i known (omega arith))
     ∙ cell-sound (get_or entry.cells i (Char 0)) (All-get_or IsCell entry.cells i (Char 0) inside known.cells) in
@@ -404,7 +404,8 @@ same-entry l x y known also same =
     (All-get_or IsCell y.cells k d within also.0.cells)
     (sym (number-in l x d k known.0 known.1 column) ∙ ap (λ (v : List ℕ). number_at l v (number_size l * k)) same
     ∙ number-in l y d k also.0 also.1 column)
-    (sym (mark-in l x d k known.0 column) ∙ ap (λ (v : List ℕ). mark_at l v k) same ∙ mark-in l y d k also.0 column)) in
+    (sym (mark-in l x d k known.0 column) ∙ ap (λ (v : List ℕ). is_marked_at l v k) same
+        ∙ mark-in l y d k also.0 column)) in
     let flags =
     same-flag x.flag y.flag
     (sym (flag-in l x known.0) ∙ ap (λ (v : List ℕ). slice_index v (8 * number_size l + 1)) same

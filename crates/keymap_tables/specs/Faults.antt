@@ -45,14 +45,15 @@ count_fault most bytes p =
     else zero_fault BadPad bytes p
 
 -- whether the cell of a column is marked as an action: bit 0x80 >> column of the byte after the cells
-abbrev pub mark_at : Layout → List ℕ → ℕ → Bool
-mark_at l bytes column = (slice_index bytes (cells_size l) / 2 ^ (7 - column)) % 2 == 1
+abbrev pub is_marked_at : Layout → List ℕ → ℕ → Bool
+is_marked_at l bytes column = (slice_index bytes (cells_size l) / 2 ^ (7 - column)) % 2 == 1
 
 -- The places of a slot below n_keys, from 0: the cells, the marks, the flag, the pads.
 abbrev pub slot_fault : Layout → List ℕ → ℕ → Option TableFaultKind
 slot_fault l bytes p =
     if nat_lt p (cells_size l) then
-    (if p % number_size l == 0 then cell_fault (number_at l bytes p) (mark_at l bytes (p / number_size l)) else None)
+    (if p % number_size l == 0 then cell_fault (number_at l bytes p)
+        (is_marked_at l bytes (p / number_size l)) else None)
     else if p == cells_size l then None
     else if p == cells_size l + 1 then (if nat_le (slice_index bytes p) 3 then None else Some BadFlag)
     else zero_fault BadPad bytes p

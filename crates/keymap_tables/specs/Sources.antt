@@ -35,8 +35,8 @@ abbrev pub ReadsNarrow : Option (List ℕ) → Option (List ℕ) → Result MapV
 ReadsNarrow old new r = ReadsFile narrow_limit IsNarrowReading old new r
 
 -- whether the answer names the reader as what failed
-abbrev pub names_reader : {X : Type 0} → Result X TableError → Bool
-names_reader (Ok x) = false
-names_reader (Err Memory) = false
-names_reader (Err (Read f)) = true
-names_reader (Err (Fault f)) = false
+abbrev pub blames_reader : {X : Type 0} → Result X TableError → Bool
+blames_reader (Ok x) = false
+blames_reader (Err Memory) = false
+blames_reader (Err (Read f)) = true
+blames_reader (Err (Fault f)) = false

@@ -16,7 +16,7 @@ WritesNarrow old new m (Err (Write f)) =
     Fits m × (f.written < length (narrow_image m)) × Appends old new (take f.written (narrow_image m))
 
 -- whether the answer names the writer as what failed
-abbrev pub names_writer : {X : Type 0} → Result X NarrowError → Bool
-names_writer (Ok x) = false
-names_writer (Err (TooWide w)) = false
-names_writer (Err (Write f)) = true
+abbrev pub blames_writer : {X : Type 0} → Result X NarrowError → Bool
+blames_writer (Ok x) = false
+blames_writer (Err (TooWide w)) = false
+blames_writer (Err (Write f)) = true

@@ -3,7 +3,7 @@ ghost use Rattle.std.specs.Prelude.{◌≡◌, ℕ, ◌+◌, ◌*◌, ◌<◌, L
 ghost use Rattle.keymap_core.specs.Maps.{MapValue, n_keys_of, n_accs_of, entry_at, cell_at, accent_or_blank};
 ghost use Rattle.keymap_core.specs.Bounds.{IsMap};
 ghost use Rattle.keymap_core.specs.Numbers.{slot_limit, column_count, accent_limit};
-ghost use Rattle.keymap_tables.specs.Faults.{IsTableFault, IsNarrowFault, number_at, mark_at};
+ghost use Rattle.keymap_tables.specs.Faults.{IsTableFault, IsNarrowFault, number_at, is_marked_at};
 ghost use Rattle.keymap_tables.specs.Fits.{Fits, IsWide};
 ghost use Rattle.keymap_tables.specs.Image.{image, narrow_image, count_bytes, slot_bytes, accent_bytes, number_of};
 ghost use Rattle.keymap_tables.specs.Image.{is_act, flag_number};
@@ -69,7 +69,7 @@ pub fn an_image_is_by_position()
     ensures cells { (m : MapValue) → IsMap m → (s column : ℕ) → s < slot_limit → column < column_count
         → number_at wide (image m) (slot_place wide s + number_size wide * column) ≡ number_of (cell_at m s column) }
     ensures marks { (m : MapValue) → IsMap m → (s column : ℕ) → s < slot_limit → column < column_count
-        → mark_at wide (part (image m) (slot_place wide s) (slot_size wide)) column ≡ is_act (cell_at m s column) }
+        → is_marked_at wide (part (image m) (slot_place wide s) (slot_size wide)) column ≡ is_act (cell_at m s column) }
     ensures flags { (m : MapValue) → IsMap m → (s : ℕ) → s < slot_limit
         → slice_index (image m) (slot_place wide s + (cells_size wide + 1)) ≡ flag_number (entry_at m s).flag }
     ensures n_accs { (m : MapValue) → IsMap m
@@ -87,7 +87,7 @@ pub fn a_narrow_image_is_by_position()
     ensures cells { (m : MapValue) → IsMap m → Fits m → (s column : ℕ) → s < slot_limit → column < column_count
         → slice_index (narrow_image m) (slot_place narrow s + column) ≡ number_of (cell_at m s column) }
     ensures marks { (m : MapValue) → IsMap m → Fits m → (s column : ℕ) → s < slot_limit → column < column_count
-        → mark_at narrow (part (narrow_image m) (slot_place narrow s) (slot_size narrow)) column
+        → is_marked_at narrow (part (narrow_image m) (slot_place narrow s) (slot_size narrow)) column
         ≡ is_act (cell_at m s column) }
     ensures flags { (m : MapValue) → IsMap m → Fits m → (s : ℕ) → s < slot_limit
         → slice_index (narrow_image m) (slot_place narrow s + (cells_size narrow + 1))

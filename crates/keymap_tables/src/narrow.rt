@@ -6,7 +6,7 @@ ghost use Rattle.keymap_core.specs.Numbers.{column_count};
 ghost use Rattle.keymap_tables.specs.Fits.{character_of, Fits, EntryFits, AccentFits, IsFirstWide};
 ghost use Rattle.keymap_tables.specs.Inner.Firsts.{IsFirstColumn, IsFirstNumber};
 ghost use Rattle.keymap_tables.specs.Layouts.{narrow};
-ghost use Rattle.keymap_tables.specs.Writing.{WritesNarrow, names_writer};
+ghost use Rattle.keymap_tables.specs.Writing.{WritesNarrow, blames_writer};
 
 use crate::layout::Layout;
 use crate::write::write_image;
@@ -135,7 +135,7 @@ fn too_wide(map: &KeyMap) -> Option<Wide>
 /// written.
 pub fn write_narrow<W: Write>(map: &KeyMap, writer: &mut W) -> Result<(), NarrowError>
     ensures bytes { WritesNarrow (W.contents writer.old) (W.contents writer.new) map.now result }
-    ensures failed { W.has_failed writer.new ≡ (names_writer result || W.has_failed writer.old) }
+    ensures failed { W.has_failed writer.new ≡ (blames_writer result || W.has_failed writer.old) }
     ensures known { OnOk result (IsMap map.now) }
 {
     if let Some(wide) = too_wide(map) {

@@ -1,6 +1,6 @@
 //! Reading of tables from a reader.
 ghost use Rattle.std.specs.Prelude.{◌≡◌, ◌||◌};
-ghost use Rattle.keymap_tables.specs.Sources.{ReadsTables, ReadsNarrow, names_reader};
+ghost use Rattle.keymap_tables.specs.Sources.{ReadsTables, ReadsNarrow, blames_reader};
 
 use crate::fault::TableError;
 use crate::layout::{NARROW_FILE, WIDE_FILE};
@@ -11,7 +11,7 @@ use std::alloc::Global;
 /// Reads a table file from a reader, of which at most one byte more than a table file has is taken.
 pub fn read_tables_from<R: Read>(alloc: Global, reader: &mut R) -> Result<KeyMap, TableError>
     ensures tables { ReadsTables (R.remaining reader.old) (R.remaining reader.new) result }
-    ensures failed { R.has_failed reader.new ≡ (names_reader result || R.has_failed reader.old) }
+    ensures failed { R.has_failed reader.new ≡ (blames_reader result || R.has_failed reader.old) }
 {
     match read_up_to(alloc, reader, WIDE_FILE + 1) {
         Ok(bytes) => read_tables(alloc, &bytes),
@@ -23,7 +23,7 @@ pub fn read_tables_from<R: Read>(alloc: Global, reader: &mut R) -> Result<KeyMap
 /// Reads a narrow file from a reader, of which at most one byte more than a narrow file has is taken.
 pub fn read_narrow_from<R: Read>(alloc: Global, reader: &mut R) -> Result<KeyMap, TableError>
     ensures tables { ReadsNarrow (R.remaining reader.old) (R.remaining reader.new) result }
-    ensures failed { R.has_failed reader.new ≡ (names_reader result || R.has_failed reader.old) }
+    ensures failed { R.has_failed reader.new ≡ (blames_reader result || R.has_failed reader.old) }
 {
     match read_up_to(alloc, reader, NARROW_FILE + 1) {
         Ok(bytes) => read_narrow(alloc, &bytes),

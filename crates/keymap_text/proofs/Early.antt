@@ -9,9 +9,10 @@ use Rattle.keymap_text.specs.declared.fault.TextFaultKind.TheVariants.{BadByte, 
 use Rattle.keymap_text.specs.declared.token.TokenKind.{TokenKind}
 use Rattle.keymap_text.specs.declared.token.TokenKind.TheVariants.{ParenL, ParenR, Word}
 use Rattle.keymap_text.specs.Lexical.{leading, stays_on_line, is_blank, is_word, word, literal, Front, Skipped, Found}
-use Rattle.keymap_text.specs.Lexical.{Refused, Unfinished, front, split, Token, Tokens, Ends, Then, is_empty}
+use Rattle.keymap_text.specs.Lexical.{Refused, Unfinished, front_of, tokens_after, TokenValue, Tokens, Ends, Then}
+use Rattle.keymap_text.specs.Lexical.{is_empty}
 use Rattle.keymap_text.specs.Words.{item}
-use Rattle.keymap_text.specs.Inner.Grammar.{State, accept, at_end, start}
+use Rattle.keymap_text.specs.Inner.Grammar.{GrammarState, accept, at_end, start}
 use Rattle.keymap_text.specs.Meaning.{is_settled}
 use Rattle.keymap_text.specs.Inner.Judging.{judge, verdict, Faulty}
 use Rattle.keymap_text.specs.Inner.Resuming.{HasNoRole}
@@ -77,13 +78,14 @@ same_fault : (g f : TextFaultKind) (q o : ℕ) (a b : Bool) → a ≡ true → F
 same_fault g f q o a b w h = cc
 
 -- a token whose rest stays
-then_stays : (s : State) (t t' : Token) (ts ts' : Tokens) (f : TextFaultKind) (o : ℕ)
+then_stays : (s : GrammarState) (t t' : TokenValue) (ts ts' : Tokens) (f : TextFaultKind) (o : ℕ)
     → item t.kind t.bytes ≡ item t'.kind t'.bytes → t.start ≡ t'.start → is_settled t' ≡ true
-    → ((s' : State) → judge s' ts ≡ Faulty f o true → judge s' ts' ≡ Faulty f o true)
+    → ((s' : GrammarState) → judge s' ts ≡ Faulty f o true → judge s' ts' ≡ Faulty f o true)
     → judge s (Then t ts) ≡ Faulty f o true → judge s (Then t' ts') ≡ Faulty f o true
 then_stays s t t' ts ts' f o i q w k h = go (accept s (item t.kind t.bytes)) refl
   where
-    go : (r : Result State TextFaultKind) → accept s (item t.kind t.bytes) ≡ r → judge s (Then t' ts') ≡ Faulty f o true
+    go : (r : Result GrammarState TextFaultKind) → accept s (item t.kind t.bytes) ≡ r
+        → judge s (Then t' ts') ≡ Faulty f o true
     go (Ok s') a = judge_then s s' t' ts' (ap (accept s) (sym i) ∙ a) ∙ k s' (sym (judge_then s s' t ts a) ∙ h)
     go (Err g) a =
         judge_refused s g t' ts' (ap (accept s) (sym i) ∙ a)
@@ -91,64 +93,68 @@ then_stays s t t' ts ts' f o i q w k h = go (accept s (item t.kind t.bytes)) ref
         (ap (λ n. Faulty g n (is_settled t)) (sym q) ∙ sym (judge_refused s g t ts a) ∙ h)
 
 -- no bytes have no tokens
-pub split_nil : (k q : ℕ) → split k q [] ≡ Ends q
-unfolding split
+pub split_nil : (k q : ℕ) → tokens_after k q [] ≡ Ends q
+unfolding tokens_after
 split_nil zero q = refl
 split_nil (suc k) q = refl
 
 -- an early fault of b is that of b and x
 Stays : List ℕ → List ℕ → TextFaultKind → ℕ → Type 0
 Stays b x f o =
-    (s : State) (k q : ℕ) → judge s (split k q b) ≡ Faulty f o true → judge s (split k q (b ++ x)) ≡ Faulty f o true
+    (s : GrammarState) (k q : ℕ) → judge s (tokens_after k q b) ≡ Faulty f o true
+        → judge s (tokens_after k q (b ++ x)) ≡ Faulty f o true
 
 -- nothing is left
-no_fault_at_end : (s : State) (n q : ℕ) (b : List ℕ) (f : TextFaultKind) (o : ℕ) → n ≡ length b
-    → judge s (split n q b) ≡ Faulty f o true → ⊥
+no_fault_at_end : (s : GrammarState) (n q : ℕ) (b : List ℕ) (f : TextFaultKind) (o : ℕ) → n ≡ length b
+    → judge s (tokens_after n q b) ≡ Faulty f o true → ⊥
 no_fault_at_end s n q b f o e h =
     late (at_end s) _ f o (sym (judge_ends s _) ∙ sym (ap (judge s)
-    (split_after n q b (omega arith) ∙ ap (split 0 (q + n)) (drop_all n b (le_of_eq (sym e))) ∙ split_none _)) ∙ h)
+    (split_after n q b (omega arith) ∙ ap (tokens_after 0 (q + n)) (drop_all n b (le_of_eq (sym e)))
+        ∙ split_none _)) ∙ h)
 
 -- behind a comment
-comment_stays : (b x : List ℕ) (f : TextFaultKind) (o : ℕ) → Stays b x f o → (s : State) (q : ℕ)
-    → judge s (split (leading stays_on_line b) q b) ≡ Faulty f o true
-    → judge s (split (leading stays_on_line (b ++ x)) q (b ++ x)) ≡ Faulty f o true
+comment_stays : (b x : List ℕ) (f : TextFaultKind) (o : ℕ) → Stays b x f o → (s : GrammarState) (q : ℕ)
+    → judge s (tokens_after (leading stays_on_line b) q b) ≡ Faulty f o true
+    → judge s (tokens_after (leading stays_on_line (b ++ x)) q (b ++ x)) ≡ Faulty f o true
 unfolding Stays
 comment_stays b x f o k s q h = ⊎_elim
     (λ e. absurd (no_fault_at_end s _ q b f o e h))
-    (λ l. ap (λ n. judge s (split n q (b ++ x))) (leading_short stays_on_line b x l) ∙ k s _ q h)
+    (λ l. ap (λ n. judge s (tokens_after n q (b ++ x))) (leading_short stays_on_line b x l) ∙ k s _ q h)
     (eq-or-lt_of_le (leading_le stays_on_line b))
 
 -- behind a token
-found_stays : (b x : List ℕ) (f : TextFaultKind) (o : ℕ) → Stays b x f o → (s : State) (q c n : ℕ) (kind : TokenKind)
-    → front c b ≡ Found kind n → front c (b ++ x) ≡ Found kind n → n ≤ length b
+found_stays : (b x : List ℕ) (f : TextFaultKind) (o : ℕ) → Stays b x f o
+    → (s : GrammarState) (q c n : ℕ) (kind : TokenKind)
+    → front_of c b ≡ Found kind n → front_of c (b ++ x) ≡ Found kind n → n ≤ length b
     → is_settled (record { kind = kind; bytes = c ∷ take n (b ++ x); start = q; last = is_empty (drop n (b ++ x)) })
     ≡ true
-    → judge s (split 0 q (c ∷ b)) ≡ Faulty f o true → judge s (split 0 q (c ∷ (b ++ x))) ≡ Faulty f o true
+    → judge s (tokens_after 0 q (c ∷ b)) ≡ Faulty f o true → judge s (tokens_after 0 q (c ∷ (b ++ x))) ≡ Faulty f o true
 unfolding Stays
 found_stays b x f o k s q c n kind e e' l w h =
     ap (judge s) (split_found q c n kind (b ++ x) e')
     ∙ then_stays s (record { kind = kind; bytes = c ∷ take n b; start = q; last = is_empty (drop n b) })
     (record { kind = kind; bytes = c ∷ take n (b ++ x); start = q; last = is_empty (drop n (b ++ x)) })
-    (split n (q + 1) b) (split n (q + 1) (b ++ x)) f o
+    (tokens_after n (q + 1) b) (tokens_after n (q + 1) (b ++ x)) f o
     (ap (λ t. item kind (c ∷ t)) (sym (take-append-le n b x l))) refl w (λ s'. k s' n (q + 1))
     (sym (ap (judge s) (split_found q c n kind b e)) ∙ h)
 
 -- at a fault
-refused_stays : (b x : List ℕ) (f : TextFaultKind) (o : ℕ) (s : State) (q c : ℕ) (g : TextFaultKind)
-    → front c b ≡ Refused g → front c (b ++ x) ≡ Refused g → judge s (split 0 q (c ∷ b)) ≡ Faulty f o true
-    → judge s (split 0 q (c ∷ (b ++ x))) ≡ Faulty f o true
+refused_stays : (b x : List ℕ) (f : TextFaultKind) (o : ℕ) (s : GrammarState) (q c : ℕ) (g : TextFaultKind)
+    → front_of c b ≡ Refused g → front_of c (b ++ x) ≡ Refused g → judge s (tokens_after 0 q (c ∷ b)) ≡ Faulty f o true
+    → judge s (tokens_after 0 q (c ∷ (b ++ x))) ≡ Faulty f o true
 refused_stays b x f o s q c g e e' h =
     ap (judge s) (split_refused q c g (b ++ x) e' ∙ sym (split_refused q c g b e)) ∙ h
 
 -- at an apostrophe
-quote_stays : (b x : List ℕ) (f : TextFaultKind) (o : ℕ) → Stays b x f o → (s : State) (q : ℕ)
-    → judge s (split 0 q (39 ∷ b)) ≡ Faulty f o true → judge s (split 0 q (39 ∷ (b ++ x))) ≡ Faulty f o true
+quote_stays : (b x : List ℕ) (f : TextFaultKind) (o : ℕ) → Stays b x f o → (s : GrammarState) (q : ℕ)
+    → judge s (tokens_after 0 q (39 ∷ b)) ≡ Faulty f o true
+        → judge s (tokens_after 0 q (39 ∷ (b ++ x))) ≡ Faulty f o true
 quote_stays b x f o k s q h = go (literal b) refl
   where
     apart : (g : Front) → literal b ≡ g → (g ≡ Unfinished → ⊥) → literal (b ++ x) ≡ g
     apart g e n = literal_stable b x (λ u. n (sym e ∙ u)) ∙ e
 
-    go : (g : Front) → literal b ≡ g → judge s (split 0 q (39 ∷ (b ++ x))) ≡ Faulty f o true
+    go : (g : Front) → literal b ≡ g → judge s (tokens_after 0 q (39 ∷ (b ++ x))) ≡ Faulty f o true
     go (Skipped n) e = absurd (literal_no_skip b n e)
     go (Found kind n) e =
         found_stays b x f o k s q 39 n kind (front_quote b ∙ e)
@@ -161,8 +167,9 @@ quote_stays b x f o k s q h = go (literal b) refl
         ∙ sym (ap (judge s) (split_unfinished q 39 b (front_quote b ∙ e))) ∙ h))
 
 -- at a word
-word_stays : (b x : List ℕ) (f : TextFaultKind) (o : ℕ) → Stays b x f o → (s : State) (q c : ℕ) → is_word c ≡ true
-    → judge s (split 0 q (c ∷ b)) ≡ Faulty f o true → judge s (split 0 q (c ∷ (b ++ x))) ≡ Faulty f o true
+word_stays : (b x : List ℕ) (f : TextFaultKind) (o : ℕ) → Stays b x f o → (s : GrammarState) (q c : ℕ)
+    → is_word c ≡ true
+    → judge s (tokens_after 0 q (c ∷ b)) ≡ Faulty f o true → judge s (tokens_after 0 q (c ∷ (b ++ x))) ≡ Faulty f o true
 word_stays b x f o k s q c w h = go (nat_lt (leading is_word b) 32) refl
   where
     long_too : (n m : ℕ) → nat_lt n 32 ≡ false → n ≤ m → nat_lt m 32 ≡ false
@@ -186,10 +193,10 @@ word_stays b x f o k s q c w h = go (nat_lt (leading is_word b) 32) refl
         (q + 1 + n) f o (ap (λ l. not (is_empty l)) nil)
         (sym (ap (judge s) (split_found q c n Word b (front_word c b w ∙ is_short n t)
         ∙ ap (Then (record { kind = Word; bytes = c ∷ take n b; start = q; last = is_empty (drop n b) }))
-        (split_after n (q + 1) b (leading_le is_word b) ∙ ap (split 0 (q + 1 + n)) nil))) ∙ h)
+        (split_after n (q + 1) b (leading_le is_word b) ∙ ap (tokens_after 0 (q + 1 + n)) nil))) ∙ h)
 
     goes : leading is_word b < length b → nat_lt (leading is_word b) 32 ≡ true
-        → judge s (split 0 q (c ∷ (b ++ x))) ≡ Faulty f o true
+        → judge s (tokens_after 0 q (c ∷ (b ++ x))) ≡ Faulty f o true
     goes l t =
         let n = leading is_word b in
         let e : leading is_word (b ++ x) ≡ n = leading_short is_word b x l in
@@ -198,7 +205,7 @@ word_stays b x f o k s q c w h = go (nat_lt (leading is_word b) 32) refl
         (ap (λ t. not (is_empty t)) (drop-append-le n b x (leading_le is_word b))
         ∙ ap not (some (drop n b) (rw length-drop (omega arith)))) h
 
-    go : (t : Bool) → nat_lt (leading is_word b) 32 ≡ t → judge s (split 0 q (c ∷ (b ++ x))) ≡ Faulty f o true
+    go : (t : Bool) → nat_lt (leading is_word b) 32 ≡ t → judge s (tokens_after 0 q (c ∷ (b ++ x))) ≡ Faulty f o true
     go true e = ⊎_elim (λ z. absurd (ends z e)) (λ l. goes l e) (eq-or-lt_of_le (leading_le is_word b))
     go false e =
         refused_stays b x f o s q c BadWord (front_word c b w ∙ is_long _ e)
@@ -211,33 +218,33 @@ early_stays [] x f o =
     λ s k q h. absurd (late (at_end s) q f o (sym (judge_ends s q) ∙ sym (ap (judge s) (split_nil k q)) ∙ h))
 early_stays (c ∷ b) x f o = go (early_stays b x f o)
   where
-    first : Stays b x f o → (s : State) (q : ℕ) → Role c → judge s (split 0 q (c ∷ b)) ≡ Faulty f o true
-        → judge s (split 0 q (c ∷ (b ++ x))) ≡ Faulty f o true
+    first : Stays b x f o → (s : GrammarState) (q : ℕ) → Role c → judge s (tokens_after 0 q (c ∷ b)) ≡ Faulty f o true
+        → judge s (tokens_after 0 q (c ∷ (b ++ x))) ≡ Faulty f o true
     first k s q (Blank e) h =
         ap (judge s) (split_blank q c (b ++ x) e) ∙ k s 0 (q + 1) (sym (ap (judge s) (split_blank q c b e)) ∙ h)
     first k s q (Hash e) h =
-        ap (λ n. judge s (split 0 q (n ∷ (b ++ x)))) e ∙ ap (judge s) (split_comment q (b ++ x))
-        ∙ comment_stays b x f o k s (q + 1) (sym (ap (λ n. judge s (split 0 q (n ∷ b))) e
+        ap (λ n. judge s (tokens_after 0 q (n ∷ (b ++ x)))) e ∙ ap (judge s) (split_comment q (b ++ x))
+        ∙ comment_stays b x f o k s (q + 1) (sym (ap (λ n. judge s (tokens_after 0 q (n ∷ b))) e
         ∙ ap (judge s) (split_comment q b)) ∙ h)
     first k s q (Left e) h =
-        ap (λ n. judge s (split 0 q (n ∷ (b ++ x)))) e
+        ap (λ n. judge s (tokens_after 0 q (n ∷ (b ++ x)))) e
         ∙ found_stays b x f o k s q 40 0 ParenL (front_left b) (front_left (b ++ x)) (omega arith) refl
-        (sym (ap (λ n. judge s (split 0 q (n ∷ b))) e) ∙ h)
+        (sym (ap (λ n. judge s (tokens_after 0 q (n ∷ b))) e) ∙ h)
     first k s q (Right e) h =
-        ap (λ n. judge s (split 0 q (n ∷ (b ++ x)))) e
+        ap (λ n. judge s (tokens_after 0 q (n ∷ (b ++ x)))) e
         ∙ found_stays b x f o k s q 41 0 ParenR (front_right b) (front_right (b ++ x)) (omega arith) refl
-        (sym (ap (λ n. judge s (split 0 q (n ∷ b))) e) ∙ h)
+        (sym (ap (λ n. judge s (tokens_after 0 q (n ∷ b))) e) ∙ h)
     first k s q (Quote e) h =
-        ap (λ n. judge s (split 0 q (n ∷ (b ++ x)))) e
-        ∙ quote_stays b x f o k s q (sym (ap (λ n. judge s (split 0 q (n ∷ b))) e) ∙ h)
+        ap (λ n. judge s (tokens_after 0 q (n ∷ (b ++ x)))) e
+        ∙ quote_stays b x f o k s q (sym (ap (λ n. judge s (tokens_after 0 q (n ∷ b))) e) ∙ h)
     first k s q (Letter e) h = word_stays b x f o k s q c e h
     first k s q (Other r e) h =
         refused_stays b x f o s q c BadByte (front_no_role c b r ∙ ap
         (λ t. cond t (word (leading is_word b)) (Refused BadByte)) e)
         (front_no_role c (b ++ x) r ∙ ap (λ t. cond t (word (leading is_word (b ++ x))) (Refused BadByte)) e) h
 
-    go : Stays b x f o → (s : State) (k q : ℕ) → judge s (split k q (c ∷ b)) ≡ Faulty f o true
-        → judge s (split k q (c ∷ (b ++ x))) ≡ Faulty f o true
+    go : Stays b x f o → (s : GrammarState) (k q : ℕ) → judge s (tokens_after k q (c ∷ b)) ≡ Faulty f o true
+        → judge s (tokens_after k q (c ∷ (b ++ x))) ≡ Faulty f o true
     go i s zero q h = first i s q (role c) h
     go i s (suc k) q h =
         ap (judge s) (split_one k q c (b ++ x)) ∙ i s k (q + 1) (sym (ap (judge s) (split_one k q c b)) ∙ h)

@@ -13,12 +13,13 @@ use Rattle.keymap_text.specs.declared.fault.TextError.TheVariants as errors
 use Rattle.keymap_text.specs.declared.fault.TextFault.{TextFault}
 use Rattle.keymap_text.specs.Progress.{Progress}
 use Rattle.keymap_text.specs.Inner.Judging.{verdict, judge, Spelled}
-use Rattle.keymap_text.specs.Lexical.{split}
+use Rattle.keymap_text.specs.Lexical.{tokens_after}
 use Rattle.keymap_text.specs.Inner.Grammar.{empty_map, at_end}
 use Rattle.keymap_text.specs.Meaning.{Concludes}
 use Rattle.keymap_text.specs.Standing.{StandsAfter, FedAfter}
-use Rattle.keymap_text.specs.Sources.{limit, HasNoEarlyFault, TakesWhole, FailsInside, GoesPast, ReadsMap, StopsAtOnce}
-use Rattle.keymap_text.specs.Sources.{names_device}
+use Rattle.keymap_text.specs.Sources.{limit, HasNoEarlyFault, TakesWhole, FailsInside, TextGoesPast, ReadsMap}
+use Rattle.keymap_text.specs.Sources.{StopsAtOnce}
+use Rattle.keymap_text.specs.Sources.{blames_reader}
 use Rattle.keymap_text.proofs.Verdicts.{spells_from, fault_or_map}
 
 -- The reader stands after the bytes that the device gave, which have no early fault.
@@ -31,7 +32,7 @@ pub record IsFed (old new : Option (List ℕ)) (reader : Progress) (taken : ℕ)
 
 -- no bytes spell the empty map
 empty_verdict : verdict [] ≡ Spelled empty_map
-unfolding judge split at_end
+unfolding judge tokens_after at_end
 empty_verdict = refl
 
 -- no bytes have no early fault
@@ -103,7 +104,7 @@ fed_whole {a = a} {b = b} {n = n} c buffer result fed few z h e k = concluded a 
 
 -- the end of a text blames no device
 pub no_device : (result : Result MapValue TextError) (text : List ℕ) (b : Bool) → Concludes result text
-    → (names_device result || b) ≡ b
+    → (blames_reader result || b) ≡ b
 no_device (Ok m) text b h = refl
 no_device (Err errors.Memory) text b h = absurd h
 no_device (Err (errors.Read f)) text b h = absurd h
@@ -135,7 +136,7 @@ one_byte (suc (suc n)) (c ∷ buffer) z l s = absurd (omega (arith, l, s))
 -- the device has a byte more than the limit
 pub fed_past : {a b : Option (List ℕ)} {r : Progress} {taken n : ℕ} → (c : Option (List ℕ)) → (buffer : List ℕ)
     → (fed : IsFed a b r taken) → taken ≡ limit → 0 < n → n ≤ length buffer → length buffer ≡ 1
-    → Consumes b c (take n buffer) → GoesPast a c (record { offset = limit; kind = kinds.Endless })
+    → Consumes b c (take n buffer) → TextGoesPast a c (record { offset = limit; kind = kinds.Endless })
 fed_past {a = a} {b = b} {n = n} c buffer fed full z l s h =
     let one = one_byte n buffer z l s in
     record {

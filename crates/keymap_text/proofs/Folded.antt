@@ -11,7 +11,7 @@ use Rattle.keymap_core.specs.Accents.{AccentValue, blank}
 use Rattle.keymap_core.specs.Maps.{MapValue, with_entry, with_accent, undefined, placed}
 use Rattle.keymap_text.specs.Inner.Grammar.{empty_map}
 use Rattle.keymap_text.specs.Rows.{Definition, KeyDefinition, AccentDefinition, last, of_slot, of_index, greatest}
-use Rattle.keymap_text.specs.Rows.{slots, indices, or_else, map_of}
+use Rattle.keymap_text.specs.Rows.{slots_needed, accents_needed, or_default, map_of}
 
 abbrev pub put : MapValue → Definition → MapValue
 put m (KeyDefinition s e) = with_entry m s e
@@ -80,32 +80,32 @@ placed_length u xs i x =
     ∙ ap (λ n. length xs + n) (length_replicate (i + 1 - length xs) u) ∙ omega arith
 
 -- how many entries there are after a definition
-entries_put : (m : MapValue) (d : Definition) → length (put m d).entries ≡ max (length m.entries) (slots d)
+entries_put : (m : MapValue) (d : Definition) → length (put m d).entries ≡ max (length m.entries) (slots_needed d)
 entries_put m (KeyDefinition s e) = placed_length undefined m.entries s e
 entries_put m (AccentDefinition i a) = omega arith
 
 -- how many accents
-accents_put : (m : MapValue) (d : Definition) → length (put m d).accents ≡ max (length m.accents) (indices d)
+accents_put : (m : MapValue) (d : Definition) → length (put m d).accents ≡ max (length m.accents) (accents_needed d)
 accents_put m (KeyDefinition s e) = omega arith
 accents_put m (AccentDefinition i a) = placed_length blank m.accents i a
 
 -- how many entries there are after all definitions
 entries_length : (m : MapValue) (ds : List Definition)
-    → length (puts m ds).entries ≡ max (length m.entries) (greatest slots ds)
+    → length (puts m ds).entries ≡ max (length m.entries) (greatest slots_needed ds)
 entries_length m [] = rw greatest_none (omega arith)
 entries_length m (d ∷ ds) =
-    entries_length (put m d) ds ∙ ap (λ n. max n (greatest slots ds)) (entries_put m d)
-    ∙ max_of (length m.entries) (slots d) (greatest slots ds)
-    ∙ ap (λ n. max (length m.entries) n) (sym (greatest_more slots d ds))
+    entries_length (put m d) ds ∙ ap (λ n. max n (greatest slots_needed ds)) (entries_put m d)
+    ∙ max_of (length m.entries) (slots_needed d) (greatest slots_needed ds)
+    ∙ ap (λ n. max (length m.entries) n) (sym (greatest_more slots_needed d ds))
 
 -- how many accents
 accents_length : (m : MapValue) (ds : List Definition)
-    → length (puts m ds).accents ≡ max (length m.accents) (greatest indices ds)
+    → length (puts m ds).accents ≡ max (length m.accents) (greatest accents_needed ds)
 accents_length m [] = rw greatest_none (omega arith)
 accents_length m (d ∷ ds) =
-    accents_length (put m d) ds ∙ ap (λ n. max n (greatest indices ds)) (accents_put m d)
-    ∙ max_of (length m.accents) (indices d) (greatest indices ds)
-    ∙ ap (λ n. max (length m.accents) n) (sym (greatest_more indices d ds))
+    accents_length (put m d) ds ∙ ap (λ n. max n (greatest accents_needed ds)) (accents_put m d)
+    ∙ max_of (length m.accents) (accents_needed d) (greatest accents_needed ds)
+    ∙ ap (λ n. max (length m.accents) n) (sym (greatest_more accents_needed d ds))
 
 -- one of a list in which another is placed
 padded : {X : Type 0} (xs : List X) (n j : ℕ) (u : X) → get_or (xs ++ replicate n u) j u ≡ get_or xs j u
@@ -115,13 +115,13 @@ padded (x ∷ xs) n (suc j) u = padded xs n j u
 
 -- what stands at a place after one was set
 placed_says : {X : Type 0} (u : X) (xs : List X) (s i : ℕ) (x : X)
-    → get_or (placed u xs s x) i u ≡ or_else (cond (s == i) (Some x) None) (get_or xs i u)
+    → get_or (placed u xs s x) i u ≡ or_default (cond (s == i) (Some x) None) (get_or xs i u)
 placed_says u xs s i x = go (s == i) refl
   where
     room : s < length (xs ++ replicate (s + 1 - length xs) u)
     room = omega (arith, length-append xs (replicate (s + 1 - length xs) u), length_replicate (s + 1 - length xs) u)
 
-    go : (b : Bool) → (s == i) ≡ b → get_or (placed u xs s x) i u ≡ or_else (cond b (Some x) None) (get_or xs i u)
+    go : (b : Bool) → (s == i) ≡ b → get_or (placed u xs s x) i u ≡ or_default (cond b (Some x) None) (get_or xs i u)
     go true e = ap (λ k. get_or (placed u xs s x) k u) (sym (eqb-true s i e))
         ∙ get_or-set_same (xs ++ replicate (s + 1 - length xs) u) s x u room
     go false e =
@@ -129,37 +129,37 @@ placed_says u xs s i x = go (s == i) refl
         (λ k. true≢false (sym (eq-eqb s i (sym k)) ∙ e)) ∙ padded xs (s + 1 - length xs) i u
 
 -- a later answer wins
-later : {A : Type 0} (o p : Option A) (x y : A) → x ≡ or_else p y → or_else o x ≡ or_else (option_or o p) y
+later : {A : Type 0} (o p : Option A) (x y : A) → x ≡ or_default p y → or_default o x ≡ or_default (option_or o p) y
 later (Some z) p x y h = refl
 later None p x y h = h
 
 -- the entry of a slot after a definition
 entry_put : (m : MapValue) (d : Definition) (slot : ℕ)
-    → get_or (put m d).entries slot undefined ≡ or_else (of_slot slot d) (get_or m.entries slot undefined)
+    → get_or (put m d).entries slot undefined ≡ or_default (of_slot slot d) (get_or m.entries slot undefined)
 entry_put m (KeyDefinition s e) slot = placed_says undefined m.entries s slot e
 entry_put m (AccentDefinition i a) slot = refl
 
 -- the entry of a slot after all definitions
 entries_of : (m : MapValue) (ds : List Definition) (slot : ℕ)
-    → get_or (puts m ds).entries slot undefined ≡ or_else (last (of_slot slot) ds) (get_or m.entries slot undefined)
+    → get_or (puts m ds).entries slot undefined ≡ or_default (last (of_slot slot) ds) (get_or m.entries slot undefined)
 entries_of m [] slot = rw last_none refl
 entries_of m (d ∷ ds) slot =
     entries_of (put m d) ds slot ∙ later (last (of_slot slot) ds) (of_slot slot d) _ _ (entry_put m d slot)
-    ∙ ap (λ o. or_else o (get_or m.entries slot undefined)) (sym (last_more (of_slot slot) d ds))
+    ∙ ap (λ o. or_default o (get_or m.entries slot undefined)) (sym (last_more (of_slot slot) d ds))
 
 -- an accent after a definition
 accent_put : (m : MapValue) (d : Definition) (i : ℕ)
-    → get_or (put m d).accents i blank ≡ or_else (of_index i d) (get_or m.accents i blank)
+    → get_or (put m d).accents i blank ≡ or_default (of_index i d) (get_or m.accents i blank)
 accent_put m (KeyDefinition s e) i = refl
 accent_put m (AccentDefinition j a) i = placed_says blank m.accents j i a
 
 -- an accent after all definitions
 accents_of : (m : MapValue) (ds : List Definition) (i : ℕ)
-    → get_or (puts m ds).accents i blank ≡ or_else (last (of_index i) ds) (get_or m.accents i blank)
+    → get_or (puts m ds).accents i blank ≡ or_default (last (of_index i) ds) (get_or m.accents i blank)
 accents_of m [] i = rw last_none refl
 accents_of m (d ∷ ds) i =
     accents_of (put m d) ds i ∙ later (last (of_index i) ds) (of_index i d) _ _ (accent_put m d i)
-    ∙ ap (λ o. or_else o (get_or m.accents i blank)) (sym (last_more (of_index i) d ds))
+    ∙ ap (λ o. or_default o (get_or m.accents i blank)) (sym (last_more (of_index i) d ds))
 
 -- a list is its elements
 pub by_range : {X : Type 0} (xs : List X) (f : ℕ → X) (n : ℕ) (u : X) → length xs ≡ n
@@ -177,7 +177,7 @@ same_map es es' bs bs' a b = cc
 -- definitions put into the empty map one by one make the map of the last ones
 pub puts_are : (ds : List Definition) → puts empty_map ds ≡ map_of ds
 puts_are ds = same_map _ _ _ _
-    (by_range _ _ (greatest slots ds) undefined (entries_length empty_map ds ∙ omega arith)
+    (by_range _ _ (greatest slots_needed ds) undefined (entries_length empty_map ds ∙ omega arith)
     (λ i h. entries_of empty_map ds i))
-    (by_range _ _ (greatest indices ds) blank (accents_length empty_map ds ∙ omega arith)
+    (by_range _ _ (greatest accents_needed ds) blank (accents_length empty_map ds ∙ omega arith)
     (λ i h. accents_of empty_map ds i))

@@ -8,7 +8,7 @@ use Rattle.std.specs.List.{range_with_len}
 use Rattle.std.specs.Int.{from_le_bytes, w64}
 use Rattle.std.specs.Char.{to_ascii_lowercase}
 use Rattle.keymap_text.specs.Lexical.{leading, is_word}
-use Rattle.keymap_text.specs.Inner.Keys.{pack, unpacked, Letters}
+use Rattle.keymap_text.specs.Inner.Keys.{pack, unpacked, AreWordBytes}
 use Rattle.keymap_text.specs.declared.names.TheConstants.{LOW_BYTES}
 use Rattle.keymap_text.proofs.Characters.{along}
 use Rattle.keymap_text.proofs.Leading.{leading_pass, leading_fail, leading_none}
@@ -26,13 +26,13 @@ lower_to : (c : ℕ) → is_word c ≡ true → to_ascii_lowercase c < 256
 lower_to c h = grind (arith, nat_tests)
 
 -- a front of word bytes has letters and digits alone
-pub letters_front : (n : ℕ) (w : List ℕ) → n ≤ leading is_word w → Letters (take n w)
+pub letters_front : (n : ℕ) (w : List ℕ) → n ≤ leading is_word w → AreWordBytes (take n w)
 letters_front zero w h = tt
 letters_front (suc n) [] h = absurd (omega (arith, h, leading_none is_word))
 letters_front (suc n) (c ∷ w) h = go (is_word c) refl (letters_front n w)
   where
-    go : (b : Bool) → is_word c ≡ b → (n ≤ leading is_word w → Letters (take n w))
-        → (is_word c ≡ true) × Letters (take n w)
+    go : (b : Bool) → is_word c ≡ b → (n ≤ leading is_word w → AreWordBytes (take n w))
+        → (is_word c ≡ true) × AreWordBytes (take n w)
     go true e k = (e, k (omega (arith, h, leading_pass is_word c w e)))
     go false e k = absurd (omega (arith, h, leading_fail is_word c w e))
 
@@ -68,7 +68,7 @@ and_none x p =
     ap (λ z. bit_or z p) z ∙ or_disjoint 0 p y ∙ omega arith
 
 -- the first bytes in lower case, blanks behind them
-packed_low : (k n : ℕ) (w : List ℕ) → n ≤ k → k ≤ length w → Letters (take n w)
+packed_low : (k n : ℕ) (w : List ℕ) → n ≤ k → k ≤ length w → AreWordBytes (take n w)
     → bit_or (bit_and (low k w) (ones n)) (pack k []) ≡ pack k (map to_ascii_lowercase (take n w))
 unfolding ones low
 packed_low k zero w h l s = and_none (low k w) (pack k [])
@@ -126,7 +126,7 @@ unpacked_byte n p c h l =
     ∙ ap₂ (λ (x y : ℕ). x ∷ unpacked n y) m d
 
 -- the key of a word gives the word back, in lower case
-pub unpack_packed : (n : ℕ) (w : List ℕ) → length w ≤ n → Letters w
+pub unpack_packed : (n : ℕ) (w : List ℕ) → length w ≤ n → AreWordBytes w
     → unpacked n (pack n (map to_ascii_lowercase w)) ≡ map to_ascii_lowercase w
 unpack_packed zero [] h s = refl
 unpack_packed zero (c ∷ w) h s = absurd (omega (arith, h))

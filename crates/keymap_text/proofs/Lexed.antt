@@ -6,9 +6,10 @@ use Rattle.keymap_text.specs.declared.token.TokenKind.TheVariants.{ParenL, Paren
 use Rattle.keymap_text.specs.declared.words.Item.{Item}
 use Rattle.keymap_text.specs.declared.words.Item.TheVariants.{Open, Close, Value}
 use Rattle.keymap_text.specs.declared.words.Meaning.TheVariants.{Char}
-use Rattle.keymap_text.specs.Lexical.{split, leading, is_word, is_blank, literal, Found, Token, Then, is_empty}
+use Rattle.keymap_text.specs.Lexical.{tokens_after, leading, is_word, is_blank, literal, Found, TokenValue, Then}
+use Rattle.keymap_text.specs.Lexical.{is_empty}
 use Rattle.keymap_text.specs.Words.{meaning}
-use Rattle.keymap_text.specs.Meaning.{behind, item_of}
+use Rattle.keymap_text.specs.Meaning.{ending_of_tokens, item_of}
 use Rattle.keymap_text.proofs.Leading.{leading_tail, leading_fail}
 use Rattle.keymap_text.proofs.Splitting.{split_blank}
 use Rattle.keymap_text.proofs.Steps.{word_ended, found_whole, front_quote, front_left, front_right}
@@ -24,26 +25,29 @@ Any y = Unit {0}
 
 -- These tokens stand in front of whatever meets P.
 pub record Lexes (P : List ℕ → Type 0) (t : List ℕ) (is : List Item) : Type 0 where
-  pub items : (q : ℕ) (y : List ℕ) → P y → items_of (split 0 q (t ++ y)) ≡ is ++ items_of (split 0 (q + length t) y)
-  pub end : (q : ℕ) (y : List ℕ) → P y → behind (split 0 q (t ++ y)) ≡ behind (split 0 (q + length t) y)
+  pub items : (q : ℕ) (y : List ℕ) → P y
+      → items_of (tokens_after 0 q (t ++ y)) ≡ is ++ items_of (tokens_after 0 (q + length t) y)
+  pub end : (q : ℕ) (y : List ℕ) → P y
+      → ending_of_tokens (tokens_after 0 q (t ++ y)) ≡ ending_of_tokens (tokens_after 0 (q + length t) y)
 
 -- no bytes are no tokens
 pub lexes_none : (P : List ℕ → Type 0) → Lexes P [] []
 lexes_none P =
     record {
-      items = λ q y h. ap (λ n. items_of (split 0 n y)) (sym (add-zero q));
-      end = λ q y h. ap (λ n. behind (split 0 n y)) (sym (add-zero q));
+      items = λ q y h. ap (λ n. items_of (tokens_after 0 n y)) (sym (add-zero q));
+      end = λ q y h. ap (λ n. ending_of_tokens (tokens_after 0 n y)) (sym (add-zero q));
     }
 
 -- tokens of two texts, one after the other
 pub lexes_both : {P Q : List ℕ → Type 0} {t u : List ℕ} {is js : List Item} → Lexes P t is → Lexes Q u js
     → ((y : List ℕ) → Q y → P (u ++ y)) → Lexes Q (t ++ u) (is ++ js)
 lexes_both {t = t} {u = u} {is = is} {js = js} a b s = record {
-  items = λ q y h. ap (λ x. items_of (split 0 q x)) (append_assoc t u y) ∙ a.items q (u ++ y) (s y h)
-      ∙ ap (λ (l : List Item). is ++ l) (b.items (q + length t) y h ∙ ap (λ n. js ++ items_of (split 0 n y)) (far q))
+  items = λ q y h. ap (λ x. items_of (tokens_after 0 q x)) (append_assoc t u y) ∙ a.items q (u ++ y) (s y h)
+      ∙ ap (λ (l : List Item). is ++ l)
+          (b.items (q + length t) y h ∙ ap (λ n. js ++ items_of (tokens_after 0 n y)) (far q))
       ∙ sym (append_assoc is js _);
-  end = λ q y h. ap (λ x. behind (split 0 q x)) (append_assoc t u y) ∙ a.end q (u ++ y) (s y h)
-      ∙ b.end (q + length t) y h ∙ ap (λ n. behind (split 0 n y)) (far q);
+  end = λ q y h. ap (λ x. ending_of_tokens (tokens_after 0 q x)) (append_assoc t u y) ∙ a.end q (u ++ y) (s y h)
+      ∙ b.end (q + length t) y h ∙ ap (λ n. ending_of_tokens (tokens_after 0 n y)) (far q);
 }
   where
     far : (q : ℕ) → q + length t + length u ≡ q + length (t ++ u)
@@ -56,24 +60,29 @@ blank_word c h = grind (arith, nat_tests)
 -- a blank is no token
 pub lexes_blank : (P : List ℕ → Type 0) (c : ℕ) → is_blank c ≡ true → Lexes P (c ∷ []) []
 lexes_blank P c h =
-    record { items = λ q y k. ap items_of (split_blank q c y h); end = λ q y k. ap behind (split_blank q c y h) }
+    record { items = λ q y k. ap items_of (split_blank q c y h); end = λ q y k. ap ending_of_tokens
+        (split_blank q c y h) }
 
 -- a text that begins with a blank, and others that begin with no letter or digit
 pub blank_first : (c : ℕ) (u y : List ℕ) → is_word c ≡ false → leading is_word ((c ∷ u) ++ y) ≡ 0
 blank_first c u y h = leading_fail is_word c (u ++ y) h
 
 -- one token
-one : (t : List ℕ) (k : Token → Item) (i : Item) (q : ℕ) (y : List ℕ) (tok : Token) (n : ℕ)
-    → split 0 q (t ++ y) ≡ Then tok (split 0 n y) → item_of tok ≡ i → n ≡ q + length t
-    → items_of (split 0 q (t ++ y)) ≡ i ∷ items_of (split 0 (q + length t) y)
+one : (t : List ℕ) (k : TokenValue → Item) (i : Item) (q : ℕ) (y : List ℕ) (tok : TokenValue) (n : ℕ)
+    → tokens_after 0 q (t ++ y) ≡ Then tok (tokens_after 0 n y) → item_of tok ≡ i → n ≡ q + length t
+    → items_of (tokens_after 0 q (t ++ y)) ≡ i ∷ items_of (tokens_after 0 (q + length t) y)
 one t k i q y tok n h e l =
-    ap items_of h ∙ ap (map item_of) (list_then tok (split 0 n y)) ∙ ap (λ (i : Item). i ∷ items_of (split 0 n y)) e
-    ∙ ap (λ n. i ∷ items_of (split 0 n y)) l
+    ap items_of h ∙ ap (map item_of) (list_then tok (tokens_after 0 n y))
+        ∙ ap (λ (i : Item). i ∷ items_of (tokens_after 0 n y)) e
+    ∙ ap (λ n. i ∷ items_of (tokens_after 0 n y)) l
 
 -- behind one token
-last : (t : List ℕ) (q : ℕ) (y : List ℕ) (tok : Token) (n : ℕ) → split 0 q (t ++ y) ≡ Then tok (split 0 n y)
-    → n ≡ q + length t → behind (split 0 q (t ++ y)) ≡ behind (split 0 (q + length t) y)
-last t q y tok n h l = ap behind h ∙ behind_then tok (split 0 n y) ∙ ap (λ n. behind (split 0 n y)) l
+last : (t : List ℕ) (q : ℕ) (y : List ℕ) (tok : TokenValue) (n : ℕ)
+    → tokens_after 0 q (t ++ y) ≡ Then tok (tokens_after 0 n y)
+    → n ≡ q + length t → ending_of_tokens (tokens_after 0 q (t ++ y))
+        ≡ ending_of_tokens (tokens_after 0 (q + length t) y)
+last t q y tok n h l = ap ending_of_tokens h ∙ behind_then tok (tokens_after 0 n y)
+    ∙ ap (λ n. ending_of_tokens (tokens_after 0 n y)) l
 
 -- a word is one token where no letter or digit follows
 pub lexes_word : (w : List ℕ) → 0 < length w → length w ≤ 32 → leading is_word w ≡ length w
@@ -99,8 +108,8 @@ lexes_quoted c h k = record {
   end = λ q y e. last (39 ∷ c ∷ 39 ∷ []) q y _ _ (whole q y) refl;
 }
   where
-    whole : (q : ℕ) (y : List ℕ) → split 0 q (39 ∷ c ∷ 39 ∷ y) ≡ Then
-        (record { kind = Literal c; bytes = 39 ∷ c ∷ 39 ∷ []; start = q; last = is_empty y }) (split 0 (q + 3) y)
+    whole : (q : ℕ) (y : List ℕ) → tokens_after 0 q (39 ∷ c ∷ 39 ∷ y) ≡ Then
+        (record { kind = Literal c; bytes = 39 ∷ c ∷ 39 ∷ []; start = q; last = is_empty y }) (tokens_after 0 (q + 3) y)
     whole q y = found_whole (Literal c) q 39 (c ∷ 39 ∷ []) y (front_quote (c ∷ 39 ∷ y) ∙ printable c y h k)
 
 -- so is a left parenthesis

@@ -9,7 +9,7 @@ use Rattle.std.proofs.lemmas.List.Recursion.{is_count_by}
 use Rattle.keymap_text.specs.declared.fault.TextFault.{TextFault}
 use Rattle.keymap_text.specs.declared.scanner.Scanner.{Scanner}
 use Rattle.keymap_text.specs.Meaning.{line}
-use Rattle.keymap_text.specs.Inner.Resuming.{Forward, IsPending, Lined, line_feed}
+use Rattle.keymap_text.specs.Inner.Resuming.{Forward, IsFaultOfPending, Lined, line_feed}
 
 abbrev pub feeds : List ℕ → ℕ
 feeds [] = 0
@@ -91,7 +91,7 @@ lined_on old new b c l f n = go (c == 10) refl
         finish (feeds_behind old.offset new.offset (b ++ c ∷ []) f.on here)
 
 -- a fault at what is pending stands on the line of the reader
-pub pending_line : (old : Scanner) (b more : List ℕ) (e : TextFault) → Lined old b → IsPending e old
+pub pending_line : (old : Scanner) (b more : List ℕ) (e : TextFault) → Lined old b → IsFaultOfPending e old
     → e.line ≡ line (b ++ more) e.offset
 pending_line old b more e l p =
     let none : feeds (drop old.offset b) ≡ 0 = feeds_are _ ∙ l.none in

@@ -13,7 +13,7 @@ use Rattle.keymap_text.specs.declared.words.Meaning.TheVariants.{Number, Act}
 use Rattle.keymap_text.specs.declared.names.TheConstants.{NAMES}
 use Rattle.keymap_text.specs.declared.names.Name.{Name}
 use Rattle.keymap_text.specs.declared.words.Meaning.{Meaning}
-use Rattle.keymap_text.specs.Inner.Keys.{pack, unpacked, Means, IsTrueName, function_name, screen_name}
+use Rattle.keymap_text.specs.Inner.Keys.{pack, unpacked, KeyMeans, IsTrueName, function_name, screen_name}
 use Rattle.keymap_text.proofs.Keys.{unpack_packed, letters_front}
 use Rattle.keymap_text.proofs.Characters.{along}
 use Rattle.keymap_text.specs.Lexical.{leading, is_word}
@@ -21,7 +21,8 @@ use Rattle.keymap_core.specs.declared.action.Action.TheVariants as a
 use Rattle.std.specs.Int.{from_le_bytes, w64}
 use Rattle.std.specs.List.{range_with_len}
 use Rattle.std.proofs.Common.{◌≤◌, length-take, take_all}
-use Rattle.keymap_text.specs.Words.{meaning, same_name, sense_meaning, letters, look, named, table, digits_of}
+use Rattle.keymap_text.specs.Words.{meaning, same_name, sense_meaning, letters, meaning_by_names, named, table}
+use Rattle.keymap_text.specs.Words.{digits_of}
 use Rattle.keymap_text.specs.Words.{number_after, is_digit, of_action}
 
 -- case has no effect
@@ -151,7 +152,7 @@ hexadecimal_means (Some n) w b d l s x y h = hexadecimal_meaning w b n d l s x y
 hexadecimal_means None w b d l s x y h = tt
 
 -- a name is true if the word with its key means so
-pub means_of : (key : ℕ) (m : Meaning) → m ≡ meaning (unpacked 8 key) → Means key m
+pub means_of : (key : ℕ) (m : Meaning) → m ≡ meaning (unpacked 8 key) → KeyMeans key m
 means_of key m e =
     λ w short letters h. e ∙ ap meaning (ap (unpacked 8) (sym h) ∙ unpack_packed 8 w short letters) ∙ meaning_lower w
 
@@ -185,21 +186,21 @@ names_true =
     (at_name (λ r. sense_meaning r.1) (λ r. meaning (unpacked 8 (from_le_bytes w64 r.0))) name_meanings k d h)
 
 -- the key of a function key's name means that key
-pub function_means : (n key : ℕ) → 0 < n → n ≤ 96 → key ≡ function_name n → Means key (Act (a.Function n))
+pub function_means : (n key : ℕ) → 0 < n → n ≤ 96 → key ≡ function_name n → KeyMeans key (Act (a.Function n))
 function_means n key l h e =
     means_of key (Act (a.Function n)) (along (λ n. Act (a.Function n))
     (λ n. meaning (unpacked 8 (function_name n))) 1 96 functions n (omega (arith, l)) (omega (arith, h))
     ∙ ap (λ k. meaning (unpacked 8 k)) (sym e))
 
 -- the key of a screen's name means that screen
-pub screen_means : (n key : ℕ) → 0 < n → n ≤ 16 → key ≡ screen_name n → Means key (Act (a.Screen n))
+pub screen_means : (n key : ℕ) → 0 < n → n ≤ 16 → key ≡ screen_name n → KeyMeans key (Act (a.Screen n))
 screen_means n key l h e =
     means_of key (Act (a.Screen n)) (along (λ n. Act (a.Screen n))
     (λ n. meaning (unpacked 8 (screen_name n))) 1 16 screens n (omega (arith, l)) (omega (arith, h))
     ∙ ap (λ k. meaning (unpacked 8 k)) (sym e))
 
 -- what the code found by the key is the meaning of the word in front
-pub some_means : (r : Option Meaning) (key n : ℕ) (w : List ℕ) → IfSome r (Means key) → n ≤ 8 → n ≤ leading is_word w
+pub some_means : (r : Option Meaning) (key n : ℕ) (w : List ℕ) → IfSome r (KeyMeans key) → n ≤ 8 → n ≤ leading is_word w
     → key ≡ pack 8 (map to_ascii_lowercase (take n w)) → IfSome r (λ m. m ≡ meaning (take n w))
 some_means (Some m) key n w h s l e = h (take n w) (short n w s) (letters_front n w l) (sym e)
   where
@@ -212,8 +213,8 @@ sense_entry : Name → List ℕ × Meaning
 sense_entry name = (letters name.0, sense_meaning name.1)
 
 -- rows as the code has them, and as the definitions do
-look_named : (names : List Name) (w : List ℕ) → look names w ≡ named (map sense_entry names) w
-unfolding look named sense_entry
+look_named : (names : List Name) (w : List ℕ) → meaning_by_names names w ≡ named (map sense_entry names) w
+unfolding meaning_by_names named sense_entry
 look_named [] w = refl
 look_named (name ∷ names) w =
     ap (λ o. cond (same_name (letters name.0) w) (Some (sense_meaning name.1)) o) (look_named names w)
@@ -224,7 +225,7 @@ unfolding sense_entry leading
 first_names = refl
 
 -- the first forty rows are the table of characters and lock letters
-pub look_in_table : (w : List ℕ) → look (take 40 NAMES) w ≡ named table w
+pub look_in_table : (w : List ℕ) → meaning_by_names (take 40 NAMES) w ≡ named table w
 look_in_table w = look_named (take 40 NAMES) w ∙ ap (λ t. named t w) first_names
 
 -- the same of a whole word

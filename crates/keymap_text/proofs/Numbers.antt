@@ -10,40 +10,42 @@ use Rattle.std.proofs.lemmas.Bool.Decides.{nat_tests}
 use Rattle.std.specs.List.{list_all}
 use Rattle.std.specs.Char.{digit_value}
 use Rattle.keymap_text.specs.declared.names.Name.{Name}
-use Rattle.keymap_text.specs.Words.{look, letters, sense_meaning, same_name, digits_of, number, is_digit}
+use Rattle.keymap_text.specs.Words.{meaning_by_names, letters, sense_meaning, same_name, digits_of, number, is_digit}
 
 -- no row has no name
-pub look_none : (w : List ℕ) → look [] w ≡ None
-unfolding look
+pub look_none : (w : List ℕ) → meaning_by_names [] w ≡ None
+unfolding meaning_by_names
 look_none w = refl
 
 -- the first row has the name
 pub look_here : (name : Name) (names : List Name) (w : List ℕ) → same_name (letters name.0) w ≡ true
-    → look (name ∷ names) w ≡ Some (sense_meaning name.1)
-unfolding look
-look_here name names w h = ap (λ b. cond b (Some (sense_meaning name.1)) (look names w)) h
+    → meaning_by_names (name ∷ names) w ≡ Some (sense_meaning name.1)
+unfolding meaning_by_names
+look_here name names w h = ap (λ b. cond b (Some (sense_meaning name.1)) (meaning_by_names names w)) h
 
 -- the first row has another name
 pub look_on : (name : Name) (names : List Name) (w : List ℕ) → same_name (letters name.0) w ≡ false
-    → look (name ∷ names) w ≡ look names w
-unfolding look
-look_on name names w h = ap (λ b. cond b (Some (sense_meaning name.1)) (look names w)) h
+    → meaning_by_names (name ∷ names) w ≡ meaning_by_names names w
+unfolding meaning_by_names
+look_on name names w h = ap (λ b. cond b (Some (sense_meaning name.1)) (meaning_by_names names w)) h
 
 -- past the last row there is no name
-pub look_end : (names : List Name) (i : ℕ) (w : List ℕ) → length names ≤ i → look (drop i names) w ≡ None
-look_end names i w h = at_drop_all (λ n. look n w) names i h ∙ look_none w
+pub look_end : (names : List Name) (i : ℕ) (w : List ℕ) → length names ≤ i → meaning_by_names (drop i names) w ≡ None
+look_end names i w h = at_drop_all (λ n. meaning_by_names n w) names i h ∙ look_none w
 
 -- the row at a place has the name
 pub look_here_at : (names : List Name) (i : ℕ) (d : Name) (w : List ℕ) → i < length names
     → same_name (letters (get_or names i d).0) w ≡ true
-    → look (drop i names) w ≡ Some (sense_meaning (get_or names i d).1)
-look_here_at names i d w h e = ap (λ n. look n w) (drop-cons names i d h) ∙ look_here _ _ w e
+    → meaning_by_names (drop i names) w ≡ Some (sense_meaning (get_or names i d).1)
+look_here_at names i d w h e = ap (λ n. meaning_by_names n w) (drop-cons names i d h) ∙ look_here _ _ w e
 
 -- the row at a place has another name
 pub look_on_at : (names : List Name) (i : ℕ) (d : Name) (w : List ℕ) → i < length names
-    → same_name (letters (get_or names i d).0) w ≡ false → look (drop i names) w ≡ look (drop (i + 1) names) w
+    → same_name (letters (get_or names i d).0) w ≡ false
+        → meaning_by_names (drop i names) w ≡ meaning_by_names (drop (i + 1) names) w
 look_on_at names i d w h e =
-    ap (λ n. look n w) (drop-cons names i d h) ∙ look_on _ _ w e ∙ ap (λ k. look (drop k names) w) (sym (add-one i))
+    ap (λ n. meaning_by_names n w) (drop-cons names i d h) ∙ look_on _ _ w e
+        ∙ ap (λ k. meaning_by_names (drop k names) w) (sym (add-one i))
 
 pub ruleset look_rules = (look_end, look_here_at, look_on_at)
 

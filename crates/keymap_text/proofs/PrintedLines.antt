@@ -12,7 +12,7 @@ use Rattle.keymap_core.specs.declared.action.Action.{Action}
 use Rattle.keymap_text.specs.declared.words.Item.{Item}
 use Rattle.keymap_text.specs.declared.words.Item.TheVariants.{Open, Close, Value}
 use Rattle.keymap_text.specs.declared.words.Meaning.TheVariants.{Number, Act, Letter}
-use Rattle.keymap_text.specs.Lexical.{split, leading, is_word}
+use Rattle.keymap_text.specs.Lexical.{tokens_after, leading, is_word}
 use Rattle.keymap_text.specs.Words.{meaning, digits_of, named, is_digit}
 use Rattle.keymap_core.specs.Accents.{AccentValue}
 use Rattle.keymap_text.specs.Items.{character, cell, accent_index}
@@ -24,7 +24,7 @@ use Rattle.keymap_text.proofs.Leading.{leading_pass, leading_fail, leading_none}
 use Rattle.keymap_text.proofs.Numbers.{digits_good}
 use Rattle.keymap_text.proofs.Splitting.{split_blank}
 use Rattle.keymap_text.proofs.Verdicts.{items_of}
-use Rattle.keymap_text.specs.Meaning.{behind}
+use Rattle.keymap_text.specs.Meaning.{ending_of_tokens}
 use Rattle.keymap_text.proofs.Lexed.{Lexes, NoWord, Any, lexes_none, lexes_both, lexes_blank, lexes_word, lexes_left}
 use Rattle.keymap_text.proofs.Lexed.{lexes_right}
 
@@ -32,9 +32,9 @@ use Rattle.keymap_text.proofs.Lexed.{lexes_right}
 lexes_behind_blank : {P : List ℕ → Type 0} {t : List ℕ} {is : List Item} → Lexes P t is → Lexes P (32 ∷ t) is
 lexes_behind_blank {t = t} {is = is} a = record {
   items = λ q y h. ap items_of (split_blank q 32 (t ++ y) refl) ∙ a.items (q + 1) y h
-      ∙ ap (λ n. is ++ items_of (split 0 n y)) (omega arith);
-  end = λ q y h. ap behind (split_blank q 32 (t ++ y) refl) ∙ a.end (q + 1) y h
-      ∙ ap (λ n. behind (split 0 n y)) (omega arith);
+      ∙ ap (λ n. is ++ items_of (tokens_after 0 n y)) (omega arith);
+  end = λ q y h. ap ending_of_tokens (split_blank q 32 (t ++ y) refl) ∙ a.end (q + 1) y h
+      ∙ ap (λ n. ending_of_tokens (tokens_after 0 n y)) (omega arith);
 }
 
 -- blanks begin with no letter or digit

@@ -20,12 +20,13 @@ use Rattle.keymap_text.specs.declared.words.Meaning.TheVariants.{Number, Char, A
 use Rattle.keymap_text.specs.declared.words.Meaning.TheVariants.{Unknown}
 use Rattle.keymap_text.specs.declared.fault.TextFaultKind.{TextFaultKind}
 use Rattle.keymap_text.specs.Items.{character, cell}
-use Rattle.keymap_text.specs.Lexical.{split}
+use Rattle.keymap_text.specs.Lexical.{tokens_after}
 use Rattle.keymap_text.specs.Rows.{Definition, KeyDefinition, AccentDefinition, Defines, IsRow, no_definition}
-use Rattle.keymap_text.specs.Rows.{one_definition, last, of_slot, of_index, greatest, slots, indices, or_else, map_of}
+use Rattle.keymap_text.specs.Rows.{one_definition, last, of_slot, of_index, greatest, slots_needed, accents_needed}
+use Rattle.keymap_text.specs.Rows.{or_default, map_of}
 use Rattle.keymap_core.specs.Bounds.{IsMap, IsCell, IsPair}
 use Rattle.keymap_text.specs.Printed.{key_line, accent_line, printed, key_lines, accent_lines}
-use Rattle.keymap_text.specs.Meaning.{Spells, behind, list_of}
+use Rattle.keymap_text.specs.Meaning.{Spells, ending_of_tokens, list_of}
 use Rattle.keymap_text.proofs.Splitting.{split_none}
 use Rattle.keymap_text.proofs.Verdicts.{items_of}
 use Rattle.keymap_text.proofs.Folded.{last_none, last_more, greatest_none, greatest_more, by_range, same_map}
@@ -248,30 +249,30 @@ module _ (m : MapValue) (h : IsMap m) where
   both : (ts : List Item) × Lexes Any (printed m) ts × IsRow ts (keys ++ dead_keys)
   both = let k = key_rows in let d = dead_key_rows in (k.0 ++ d.0, lexes_both k.1 d.1 (λ y e. tt), row_append k.2 d.2)
 
-  keys_are : greatest slots (keys ++ dead_keys) ≡ length m.entries
+  keys_are : greatest slots_needed (keys ++ dead_keys) ≡ length m.entries
   unfolding keys dead_keys key dead_key
-  keys_are = greatest_append slots keys dead_keys
+  keys_are = greatest_append slots_needed keys dead_keys
       ∙ omega (
         arith,
-        greatest_to slots key (length m.entries) (λ s. refl),
-        greatest_zero slots dead_key 0 (length m.accents) (λ i. refl),
+        greatest_to slots_needed key (length m.entries) (λ s. refl),
+        greatest_zero slots_needed dead_key 0 (length m.accents) (λ i. refl),
       )
 
-  accents_are : greatest indices (keys ++ dead_keys) ≡ length m.accents
+  accents_are : greatest accents_needed (keys ++ dead_keys) ≡ length m.accents
   unfolding keys dead_keys key dead_key
   accents_are =
-      greatest_append indices keys dead_keys ∙ omega (
+      greatest_append accents_needed keys dead_keys ∙ omega (
         arith,
-        greatest_to indices dead_key (length m.accents)
+        greatest_to accents_needed dead_key (length m.accents)
             (λ s. refl),
-        greatest_zero indices key 0 (length m.entries) (λ i. refl),
+        greatest_zero accents_needed key 0 (length m.entries) (λ i. refl),
       )
 
   entry_is : (s : ℕ) → s < length m.entries
-      → get_or m.entries s undefined ≡ or_else (last (of_slot s) (keys ++ dead_keys)) undefined
+      → get_or m.entries s undefined ≡ or_default (last (of_slot s) (keys ++ dead_keys)) undefined
   unfolding keys dead_keys key dead_key
   entry_is s l =
-      sym (ap (λ o. or_else o undefined) (last_append (of_slot s) keys dead_keys
+      sym (ap (λ o. or_default o undefined) (last_append (of_slot s) keys dead_keys
       ∙ ap (λ p. option_or p (last (of_slot s) keys)) accents ∙ found))
     where
       accents : last (of_slot s) dead_keys ≡ None
@@ -282,10 +283,10 @@ module _ (m : MapValue) (h : IsMap m) where
           (omega arith) (omega (arith, l))
 
   accent_is : (i : ℕ) → i < length m.accents
-      → get_or m.accents i blank ≡ or_else (last (of_index i) (keys ++ dead_keys)) blank
+      → get_or m.accents i blank ≡ or_default (last (of_index i) (keys ++ dead_keys)) blank
   unfolding keys dead_keys key dead_key
   accent_is i l =
-      sym (ap (λ o. or_else o blank) (last_append (of_index i) keys dead_keys
+      sym (ap (λ o. or_default o blank) (last_append (of_index i) keys dead_keys
       ∙ ap (λ p. option_or p (last (of_index i) keys)) found))
     where
       found : last (of_index i) dead_keys ≡ Some (get_or m.accents i blank)
@@ -297,21 +298,22 @@ module _ (m : MapValue) (h : IsMap m) where
       (λ i k. entry_is i (omega (arith, k, keys_are))))
       (by_range m.accents _ _ blank (sym accents_are) (λ i k. accent_is i (omega (arith, k, accents_are))))
 
-  nothing : (q : ℕ) → items_of (split 0 q []) ≡ []
+  nothing : (q : ℕ) → items_of (tokens_after 0 q []) ≡ []
   unfolding list_of
   nothing q = ap items_of (split_none q)
 
-  ends : (q : ℕ) → behind (split 0 q []) ≡ Ok q
-  unfolding behind
-  ends q = ap behind (split_none q)
+  ends : (q : ℕ) → ending_of_tokens (tokens_after 0 q []) ≡ Ok q
+  unfolding ending_of_tokens
+  ends q = ap ending_of_tokens (split_none q)
 
   pub printed_spells : Spells (printed m) m
   printed_spells = record {
     definitions = keys ++ dead_keys;
     row = subst (λ (ts : List Item). IsRow ts (keys ++ dead_keys))
-        (sym (ap (λ t. items_of (split 0 0 t)) (sym (append-nil (printed m))) ∙ both.1.items 0 [] tt
+        (sym (ap (λ t. items_of (tokens_after 0 0 t)) (sym (append-nil (printed m))) ∙ both.1.items 0 [] tt
         ∙ ap (λ (r : List Item). both.0 ++ r) (nothing _) ∙ append-nil both.0)) both.2;
     end = 0 + length (printed m);
-    whole = ap (λ t. behind (split 0 0 t)) (sym (append-nil (printed m))) ∙ both.1.end 0 [] tt ∙ ends _;
+    whole = ap (λ t. ending_of_tokens (tokens_after 0 0 t)) (sym (append-nil (printed m))) ∙ both.1.end 0 [] tt
+        ∙ ends _;
     map = same;
   }

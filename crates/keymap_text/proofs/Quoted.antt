@@ -14,7 +14,7 @@ use Rattle.keymap_text.specs.declared.fault.TextFaultKind.TheVariants.{BadLitera
 use Rattle.keymap_text.specs.declared.token.TokenKind.{TokenKind}
 use Rattle.keymap_text.specs.declared.token.TokenKind.TheVariants.{Literal}
 use Rattle.keymap_text.specs.Lexical.{Front, Skipped, Found, Refused, Unfinished, literal, quoted, closing, unclosed}
-use Rattle.keymap_text.specs.Lexical.{is_lone, front, first, split}
+use Rattle.keymap_text.specs.Lexical.{is_lone, front_of, first, tokens_after}
 use Rattle.keymap_text.specs.Quoted.{IsCharacter, IsQuoted, BeginsQuoted, IsUnfinished, IsReason, quoted_token}
 use Rattle.keymap_text.proofs.Literals.{literal_stable, literal_refused, literal_fits, literal_no_skip, literal_spelled}
 use Rattle.keymap_text.proofs.Splitting.{split_found, split_refused, split_unfinished}
@@ -299,23 +299,23 @@ unfinished_literal s u = go (literal s) refl
 
 -- a quoted character is found
 pub quoted_found : (q c : ℕ) (bytes more : List ℕ) → IsQuoted c bytes
-    → first (split 0 q (bytes ++ more)) ≡ Ok (Some (quoted_token q c bytes more))
+    → first (tokens_after 0 q (bytes ++ more)) ≡ Ok (Some (quoted_token q c bytes more))
 quoted_found q c bytes more h =
     let w = h.between ++ 39 ∷ [] in
-    let one : front 39 (w ++ more) ≡ Found (Literal c) (length w) =
+    let one : front_of 39 (w ++ more) ≡ Found (Literal c) (length w) =
     front_quote (w ++ more) ∙ ap literal (append_assoc h.between (39 ∷ []) more)
     ∙ character_found c h.between more h.character
     ∙ ap (Found (Literal c)) (sym (length-append h.between (39 ∷ []))) in
-    subst (λ l. first (split 0 q (l ++ more)) ≡ Ok (Some (quoted_token q c l more))) (sym h.apostrophes)
+    subst (λ l. first (tokens_after 0 q (l ++ more)) ≡ Ok (Some (quoted_token q c l more))) (sym h.apostrophes)
     (ap first (found_whole (Literal c) q 39 w more one))
 
 -- bytes that need more of a quoted character are unfinished
 pub quoted_broken : (q : ℕ) (bytes : List ℕ) → 0 < length bytes → IsUnfinished bytes
-    → first (split 0 q bytes) ≡ Err (EndInside, q + length bytes)
+    → first (tokens_after 0 q bytes) ≡ Err (EndInside, q + length bytes)
 quoted_broken q [] l u = absurd (omega (arith, l))
 quoted_broken q (b ∷ s) l u =
     let quote : b ≡ 39 = head_same u.quoted.apostrophes in
-    subst (λ b. first (split 0 q (b ∷ s)) ≡ Err (EndInside, q + suc (length s))) (sym quote)
+    subst (λ b. first (tokens_after 0 q (b ∷ s)) ≡ Err (EndInside, q + suc (length s))) (sym quote)
     (ap first (split_unfinished q 39 s (front_quote s ∙ unfinished_literal s
     (subst (λ b. IsUnfinished (b ∷ s)) quote u))) ∙ ap (λ n. Err (EndInside, n)) (omega arith))
   where
@@ -348,10 +348,10 @@ refused_not rest f e = (λ h. let g = (begun_found rest h).2 in cc, λ u. let g 
 
 -- where no quoted character stands, and none begins, there is a fault at the apostrophe
 pub quoted_refused : (q : ℕ) (rest : List ℕ) → (BeginsQuoted (39 ∷ rest) → ⊥) → (IsUnfinished (39 ∷ rest) → ⊥)
-    → first (split 0 q (39 ∷ rest)) ≡ Err (BadLiteral, q)
+    → first (tokens_after 0 q (39 ∷ rest)) ≡ Err (BadLiteral, q)
 quoted_refused q rest n m = go (literal rest) refl
   where
-    go : (f : Front) → literal rest ≡ f → first (split 0 q (39 ∷ rest)) ≡ Err (BadLiteral, q)
+    go : (f : Front) → literal rest ≡ f → first (tokens_after 0 q (39 ∷ rest)) ≡ Err (BadLiteral, q)
     go Unfinished e = absurd (m (literal_unfinished rest e))
     go (Skipped k) e = absurd (literal_no_skip rest k e)
     go (Found k i) e = absurd (n (begins rest k i (literal_finds rest k i e)))
@@ -359,10 +359,10 @@ quoted_refused q rest n m = go (literal rest) refl
         ap first (split_refused q 39 f rest (front_quote rest ∙ e)) ∙ ap (λ f. Err (f, q)) (literal_refused rest f e)
 
 -- there is nothing else at an apostrophe
-pub quoted_reason : (q : ℕ) (rest : List ℕ) → IsReason (39 ∷ rest) (first (split 0 q (39 ∷ rest)))
+pub quoted_reason : (q : ℕ) (rest : List ℕ) → IsReason (39 ∷ rest) (first (tokens_after 0 q (39 ∷ rest)))
 quoted_reason q rest = go (literal rest) refl
   where
-    go : (f : Front) → literal rest ≡ f → IsReason (39 ∷ rest) (first (split 0 q (39 ∷ rest)))
+    go : (f : Front) → literal rest ≡ f → IsReason (39 ∷ rest) (first (tokens_after 0 q (39 ∷ rest)))
     go Unfinished e =
         subst (IsReason (39 ∷ rest)) (sym (ap first (split_unfinished q 39 rest (front_quote rest ∙ e))))
         (literal_unfinished rest e)

@@ -17,10 +17,11 @@ use Rattle.keymap_text.specs.declared.words.Meaning.TheVariants.{Unknown}
 use Rattle.keymap_core.specs.Accents.{AccentValue}
 use Rattle.keymap_core.specs.Maps.{MapValue, undefined, with_entry, with_accent}
 use Rattle.keymap_text.specs.Items.{character, cell, lock, accent_index}
-use Rattle.keymap_text.specs.Inner.Grammar.{State, Place, Definition, CellAt, LockAt, AccentCharacter, AfterAccent}
+use Rattle.keymap_text.specs.Inner.Grammar.{GrammarState, GrammarPlace, Definition, CellAt, LockAt, AccentCharacter}
+use Rattle.keymap_text.specs.Inner.Grammar.{AfterAccent}
 use Rattle.keymap_text.specs.Inner.Grammar.{PairBase}
 use Rattle.keymap_text.specs.Inner.Grammar.{PairResult, PairEnd, accept, at, at_end, start, step, first_of, empty_map}
-use Rattle.keymap_text.specs.Inner.Grammar.{with_cell, with_pair, after_cell, base_at, ◌>>=◌}
+use Rattle.keymap_text.specs.Inner.Grammar.{with_cell, with_pair, after_cell, after_base, ◌>>=◌}
 use Rattle.keymap_text.specs.Rows as rows
 use Rattle.keymap_text.specs.Rows.{KeyDefinition, AccentDefinition, AreCells, no_cells, one_cell, ArePairs, no_pairs}
 use Rattle.keymap_text.specs.Rows.{one_pair, Defines, of_key, of_accent, IsRow, no_definition, one_definition}
@@ -70,7 +71,7 @@ row_push {us = vs} {d = last} (one_definition {ts = ts} {us = us} {d = d} {ds = 
     (one_definition k (row_push r h))
 
 -- the tokens of the definition that a place is in
-abbrev pub Part : List Item → Place → Type 0
+abbrev pub Part : List Item → GrammarPlace → Type 0
 Part ts Definition = ts ≡ []
 Part ts (CellAt slot i e) =
     (cs : List Item) × (ts ≡ Value (Number slot) ∷ cs) × (slot < 256) × (i < 8) × (length e.cells ≡ 8)
@@ -89,13 +90,13 @@ Part ts (PairEnd i a b r) =
     × (length a.pairs < 52) × (character t ≡ Ok b) × (b ≢ 0) × (character u ≡ Ok r)
 
 -- what a token does: it goes on with a definition, ends one, or begins one behind an accent
-data Moves (part : List Item) (m : MapValue) (t : Item) (s : State) : Type 0 where
+data Moves (part : List Item) (m : MapValue) (t : Item) (s : GrammarState) : Type 0 where
   On : s.map ≡ m → Part (part ++ t ∷ []) s.place → Moves part m t s
   Done : (d : rows.Definition) → Defines (part ++ t ∷ []) d → s ≡ at (put m d) Definition → Moves part m t s
   Begins : (d : rows.Definition) → Defines part d → s.map ≡ put m d → Part (t ∷ []) s.place → Moves part m t s
 
 -- the first token of a definition
-begins : (t : Item) (p : Place) → first_of t ≡ Ok p → Part (t ∷ []) p
+begins : (t : Item) (p : GrammarPlace) → first_of t ≡ Ok p → Part (t ∷ []) p
 begins Open p h = absurd (err_ok _ _ h)
 begins Close p h = absurd (err_ok _ _ h)
 begins (Value (Number n)) p h = go (nat_lt n 256) refl h
@@ -109,7 +110,7 @@ begins (Value (Char c)) p h = absurd (err_ok _ _ h)
 begins (Value (Act a)) p h = go (accent_index a) refl h
   where
     go : (o : Option ℕ) → accent_index a ≡ o
-        → (elim o as (λ o. Result Place TextFaultKind) [
+        → (elim o as (λ o. Result GrammarPlace TextFaultKind) [
           | Some i ↦ Ok
               (AccentCharacter i)
           | None ↦ Err faults.Unexpected
@@ -186,22 +187,24 @@ pair_done us t u i a b r (of_accent name idx own le ps) l h z k =
     of_accent name idx own (rw length-append (omega (arith, l))) (pairs_push t u b r ps h z k)
 
 -- a step inside a definition
-on : (part : List Item) (m : MapValue) (t : Item) (p : Place) (s : State)
-    → ◌≡◌ {A = Result State TextFaultKind} (Ok (at m p)) (Ok s) → Part (part ++ t ∷ []) p → Moves part m t s
+on : (part : List Item) (m : MapValue) (t : Item) (p : GrammarPlace) (s : GrammarState)
+    → ◌≡◌ {A = Result GrammarState TextFaultKind} (Ok (at m p)) (Ok s) → Part (part ++ t ∷ []) p → Moves part m t s
 on part m t p s h k =
-    On (sym (ap (λ s. s.map) (ok_is _ _ h))) (subst (λ (s : State). Part (part ++ t ∷ []) s.place) (ok_is _ _ h) k)
+    On (sym (ap (λ s. s.map) (ok_is _ _ h)))
+        (subst (λ (s : GrammarState). Part (part ++ t ∷ []) s.place) (ok_is _ _ h) k)
 
 -- a definition ends where another begins
-begin_behind : (part : List Item) (m : MapValue) (i : ℕ) (a : AccentValue) (t : Item) (s : State)
+begin_behind : (part : List Item) (m : MapValue) (i : ℕ) (a : AccentValue) (t : Item) (s : GrammarState)
     → (first_of t >>= (λ p. Ok (at (with_accent m i a) p))) ≡ Ok s → Defines part (AccentDefinition i a)
     → Moves part m t s
 begin_behind part m i a t s h d =
     let b = bind_ok (first_of t) (λ p. Ok (at (with_accent m i a) p)) s h in
     Begins (AccentDefinition i a) d (sym (ap (λ s. s.map) (ok_is _ _ b.2)))
-    (subst (λ (s : State). Part (t ∷ []) s.place) (ok_is _ _ b.2) (begins t b.0 b.1))
+    (subst (λ (s : GrammarState). Part (t ∷ []) s.place) (ok_is _ _ b.2) (begins t b.0 b.1))
 
 -- each step
-moves : (part : List Item) (m : MapValue) (p : Place) (t : Item) (s : State) → step m p t ≡ Ok s → Part part p
+moves : (part : List Item) (m : MapValue) (p : GrammarPlace) (t : Item) (s : GrammarState) → step m p t ≡ Ok s
+    → Part part p
     → Moves part m t s
 moves part m Definition t s h k =
     let b = bind_ok (first_of t) (λ p. Ok (at m p)) s h in
@@ -230,10 +233,10 @@ moves part m (AfterAccent i a) Open s h k = go (nat_lt (length a.pairs) 52) refl
 moves part m (AfterAccent i a) Close s h k = begin_behind part m i a Close s h k
 moves part m (AfterAccent i a) (Value v) s h k = begin_behind part m i a (Value v) s h k
 moves part m (PairBase i a) t s h (us, is, d, l) =
-    let b = bind_ok (character t) (λ c. base_at m i a c) s h in
+    let b = bind_ok (character t) (λ c. after_base m i a c) s h in
     go b.0 b.1 b.2
   where
-    go : (c : ℕ) → character t ≡ Ok c → base_at m i a c ≡ Ok s → Moves part m t s
+    go : (c : ℕ) → character t ≡ Ok c → after_base m i a c ≡ Ok s → Moves part m t s
     go c e h = at_zero (c == 0) refl h
       where
         at_zero : (z : Bool) → (c == 0) ≡ z → cond z (Err faults.ZeroBase) (Ok (at m (PairResult i a c))) ≡ Ok s
@@ -271,7 +274,7 @@ moves part m (PairEnd i a b r) Close s h (us, t, u, is, d, l, e, z, f) =
 moves part m (PairEnd i a b r) (Value v) s h k = absurd (err_ok _ _ h)
 
 -- The tokens so far are a row of definitions, and a part of the next one.
-pub record Stands (ts : List Item) (s : State) : Type 0 where
+pub record Stands (ts : List Item) (s : GrammarState) : Type 0 where
   pub definitions : List rows.Definition
   pub row : List Item
   pub rest : List Item
@@ -281,7 +284,7 @@ pub record Stands (ts : List Item) (s : State) : Type 0 where
   pub part : Part rest s.place
 
 -- each step of a row
-moved : (ts : List Item) (t : Item) (s s' : State) → (k : Stands ts s) → Moves k.rest s.map t s'
+moved : (ts : List Item) (t : Item) (s s' : GrammarState) → (k : Stands ts s) → Moves k.rest s.map t s'
     → Stands (ts ++ t ∷ []) s'
 moved ts t s s' k (On same part) = record {
   definitions = k.definitions;
@@ -299,7 +302,7 @@ moved ts t s s' k (Done d def is) = record {
   tokens = ap (λ ts. ts ++ t ∷ []) k.tokens ∙ append_assoc k.row k.rest (t ∷ []) ∙ sym (append-nil _);
   is_row = row_push k.is_row def;
   map = ap (λ s. s.map) is ∙ ap (λ m. put m d) k.map ∙ sym (puts_push empty_map k.definitions d);
-  part = subst (λ (s : State). Part [] s.place) (sym is) refl;
+  part = subst (λ (s : GrammarState). Part [] s.place) (sym is) refl;
 }
 moved ts t s s' k (Begins d def same part) = record {
   definitions = k.definitions ++ d ∷ [];
@@ -312,17 +315,17 @@ moved ts t s s' k (Begins d def same part) = record {
 }
 
 -- a step by its place
-accept_is : (s : State) (t : Item) → accept s t ≡ step s.map s.place t
+accept_is : (s : GrammarState) (t : Item) → accept s t ≡ step s.map s.place t
 unfolding accept
 accept_is s t = refl
 
 -- the machine over a list of tokens
-abbrev pub steps : State → List Item → Result State TextFaultKind
+abbrev pub steps : GrammarState → List Item → Result GrammarState TextFaultKind
 steps s [] = Ok s
 steps s (t ∷ ts) = accept s t >>= (λ s. steps s ts)
 
 -- tokens that are accepted lead on in a row
-pub stands_after : (ts us : List Item) (s s' : State) → Stands ts s → steps s us ≡ Ok s' → Stands (ts ++ us) s'
+pub stands_after : (ts us : List Item) (s s' : GrammarState) → Stands ts s → steps s us ≡ Ok s' → Stands (ts ++ us) s'
 stands_after ts [] s s' k h =
     subst (λ (ts : List Item). Stands ts s') (sym (append-nil ts)) (subst (Stands ts) (ok_is s s' h) k)
 stands_after ts (u ∷ us) s s' k h =
@@ -345,7 +348,7 @@ none_some : {A : Type 0} (y : A) → None ≡ Some y → ⊥
 none_some y h = cc
 
 -- where the text may end, the tokens are a row
-pub row_at_end : (ts : List Item) (m : MapValue) (p : Place) (m' : MapValue) → Stands ts (at m p)
+pub row_at_end : (ts : List Item) (m : MapValue) (p : GrammarPlace) (m' : MapValue) → Stands ts (at m p)
     → at_end (at m p) ≡ Some m' → (ds : List rows.Definition) × IsRow ts ds × (m' ≡ puts empty_map ds)
 unfolding at_end
 row_at_end ts m Definition m' k h = (
@@ -369,18 +372,18 @@ row_at_end ts m (PairResult i a b) m' k h = absurd (none_some _ h)
 row_at_end ts m (PairEnd i a b r) m' k h = absurd (none_some _ h)
 
 -- each row is accepted
-steps_on : (s s' : State) (t : Item) (ts : List Item) → accept s t ≡ Ok s' → steps s (t ∷ ts) ≡ steps s' ts
+steps_on : (s s' : GrammarState) (t : Item) (ts : List Item) → accept s t ≡ Ok s' → steps s (t ∷ ts) ≡ steps s' ts
 steps_on s s' t ts h = ap (λ r. r >>= (λ s. steps s ts)) h
 
 -- the steps of two lists, one after the other
-pub steps_append : (s s' : State) (ts us : List Item) → steps s ts ≡ Ok s' → steps s (ts ++ us) ≡ steps s' us
+pub steps_append : (s s' : GrammarState) (ts us : List Item) → steps s ts ≡ Ok s' → steps s (ts ++ us) ≡ steps s' us
 steps_append s s' [] us h = ap (λ s. steps s us) (ok_is s s' h)
 steps_append s s' (t ∷ ts) us h =
     let b = bind_ok (accept s t) (λ s. steps s ts) s' h in
     steps_on s b.0 t (ts ++ us) b.1 ∙ steps_append b.0 s' ts us b.2
 
 -- the first token of a definition, where a text may end
-ready : (m : MapValue) (p : Place) (m' : MapValue) (t : Item) (q : Place) → at_end (at m p) ≡ Some m'
+ready : (m : MapValue) (p : GrammarPlace) (m' : MapValue) (t : Item) (q : GrammarPlace) → at_end (at m p) ≡ Some m'
     → first_of t ≡ Ok q → accept (at m p) t ≡ Ok (at m' q)
 unfolding at_end accept
 ready m Definition m' t q h k = ap (λ r. r >>= (λ p. Ok (at m p))) k ∙ ap (λ m. Ok (at m q)) (some_is _ _ h)
@@ -457,7 +460,7 @@ base_taken : (m : MapValue) (i : ℕ) (a : AccentValue) (t : Item) (b : ℕ) →
     → accept (at m (PairBase i a)) t ≡ Ok (at m (PairResult i a b))
 unfolding accept
 base_taken m i a t b h z =
-    ap (λ r. r >>= (λ c. base_at m i a c)) h
+    ap (λ r. r >>= (λ c. after_base m i a c)) h
     ∙ ap (λ z. cond z (Err faults.ZeroBase) (Ok (at m (PairResult i a b)))) (ne_eqb b 0 z)
 
 -- a result is taken
@@ -499,8 +502,9 @@ unfolding at_end
 ends_accent m i a = refl
 
 -- the tokens of a definition put it into the map
-pub defined : (s : State) (m : MapValue) (ts : List Item) (d : rows.Definition) → Defines ts d → at_end s ≡ Some m
-    → (s' : State) × (steps s ts ≡ Ok s') × (at_end s' ≡ Some (put m d))
+pub defined : (s : GrammarState) (m : MapValue) (ts : List Item) (d : rows.Definition) → Defines ts d
+    → at_end s ≡ Some m
+    → (s' : GrammarState) × (steps s ts ≡ Ok s') × (at_end s' ≡ Some (put m d))
 unfolding entry_of
 defined s m ts d (of_key {slot = slot} {e = e} {ts = cs} fits l cells) h = (
   at (with_entry m slot e) Definition,
@@ -517,7 +521,7 @@ defined s m ts d (of_key {slot = slot} {e = e} {ts = cs} fits l cells) h = (
 defined s m ts d (of_accent {i = i} {a = a} {t = t} {ts = us} name idx own le pairs) h = (
   at m (AfterAccent i a),
   steps_on s _ _ (t ∷ us) (ready s.map s.place m (Value (Act name)) (AccentCharacter i) h
-      (ap (λ (o : Option ℕ). elim o as (λ o. Result Place TextFaultKind)
+      (ap (λ (o : Option ℕ). elim o as (λ o. Result GrammarPlace TextFaultKind)
       [ Some i ↦ Ok (AccentCharacter i) | None ↦ Err faults.Unexpected ]) idx))
       ∙ steps_on _ _ t us (own_taken m i a.own t own)
       ∙ pairs_done m i (record { own = a.own; pairs = [] }) us a.pairs pairs (omega (arith, le)),
@@ -525,8 +529,8 @@ defined s m ts d (of_accent {i = i} {a = a} {t = t} {ts = us} name idx own le pa
 )
 
 -- the tokens of a row put its definitions into the map
-pub row_defined : (s : State) (m : MapValue) (ts : List Item) (ds : List rows.Definition) → IsRow ts ds
-    → at_end s ≡ Some m → (s' : State) × (steps s ts ≡ Ok s') × (at_end s' ≡ Some (puts m ds))
+pub row_defined : (s : GrammarState) (m : MapValue) (ts : List Item) (ds : List rows.Definition) → IsRow ts ds
+    → at_end s ≡ Some m → (s' : GrammarState) × (steps s ts ≡ Ok s') × (at_end s' ≡ Some (puts m ds))
 row_defined s m ts ds no_definition h = (s, refl, h)
 row_defined s m ts ds (one_definition {ts = front} {us = rest} {d = d} {ds = more} k r) h =
     let one = defined s m front d k h in

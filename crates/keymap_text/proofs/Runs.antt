@@ -15,14 +15,15 @@ use Rattle.keymap_text.specs.declared.words.Meaning.TheVariants.{Char}
 use Rattle.keymap_text.specs.declared.scanner.Mode.{Mode}
 use Rattle.keymap_text.specs.declared.scanner.Mode.TheVariants as modes
 use Rattle.keymap_text.specs.declared.scanner.Scanner.{Scanner}
-use Rattle.keymap_text.specs.Lexical.{leading, is_blank, is_space, is_word, literal, Found, split, Then, is_empty}
+use Rattle.keymap_text.specs.Lexical.{leading, is_blank, is_space, is_word, literal, Found, tokens_after, Then}
+use Rattle.keymap_text.specs.Lexical.{is_empty}
 use Rattle.keymap_text.specs.Words.{meaning}
-use Rattle.keymap_text.specs.Inner.Grammar.{State, accept}
+use Rattle.keymap_text.specs.Inner.Grammar.{GrammarState, accept}
 use Rattle.keymap_text.specs.Meaning.{line}
 use Rattle.keymap_text.specs.Inner.Judging.{judge, Faulty}
 use Rattle.keymap_text.specs.Inner.Views.{state_view}
 use Rattle.keymap_text.specs.Inner.Resuming.{tokens_of, resume, KeepsMode, line_feed, IsReader, Lined, Forward}
-use Rattle.keymap_text.specs.Inner.Resuming.{IsPending}
+use Rattle.keymap_text.specs.Inner.Resuming.{IsFaultOfPending}
 use Rattle.keymap_text.specs.Inner.Resuming.{Goes, Accepts, Takes, Advances, Refuses, Fronts}
 use Rattle.keymap_text.proofs.Leading.{leading_pass, leading_fail, leading_none}
 use Rattle.keymap_text.proofs.Lines.{feeds, feeds_are, feeds_run, no_feed, lined_run, lined_on, lined_whole}
@@ -37,24 +38,24 @@ space_blank c h = grind (arith, nat_tests)
 
 -- blanks are passed
 split_spaces : (n q : ℕ) (xs y : List ℕ) → n ≤ leading is_space xs
-    → split 0 q (xs ++ y) ≡ split 0 (q + n) (drop n xs ++ y)
-split_spaces zero q xs y h = ap (λ k. split 0 k (xs ++ y)) (omega arith)
+    → tokens_after 0 q (xs ++ y) ≡ tokens_after 0 (q + n) (drop n xs ++ y)
+split_spaces zero q xs y h = ap (λ k. tokens_after 0 k (xs ++ y)) (omega arith)
 split_spaces (suc n) q [] y h = absurd (omega (arith, h, leading_none is_space))
 split_spaces (suc n) q (c ∷ xs) y h = go (is_space c) refl (split_spaces n (q + 1) xs y)
   where
-    on : (k : ℕ) → q + 1 + n ≡ k → split 0 (q + 1 + n) (drop n xs ++ y) ≡ split 0 k (drop n xs ++ y)
-    on k e = ap (λ k. split 0 k (drop n xs ++ y)) e
+    on : (k : ℕ) → q + 1 + n ≡ k → tokens_after 0 (q + 1 + n) (drop n xs ++ y) ≡ tokens_after 0 k (drop n xs ++ y)
+    on k e = ap (λ k. tokens_after 0 k (drop n xs ++ y)) e
 
     go : (b : Bool) → is_space c ≡ b → (n ≤ leading is_space xs
-        → split 0 (q + 1) (xs ++ y) ≡ split 0 (q + 1 + n) (drop n xs ++ y))
-        → split 0 q (c ∷ (xs ++ y)) ≡ split 0 (q + suc n) (drop n xs ++ y)
+        → tokens_after 0 (q + 1) (xs ++ y) ≡ tokens_after 0 (q + 1 + n) (drop n xs ++ y))
+        → tokens_after 0 q (c ∷ (xs ++ y)) ≡ tokens_after 0 (q + suc n) (drop n xs ++ y)
     go true e k =
         split_blank q c (xs ++ y) (space_blank c e) ∙ k (omega (arith, h, leading_pass is_space c xs e))
         ∙ on (q + suc n) (omega arith)
     go false e k = absurd (omega (arith, h, leading_fail is_space c xs e))
 
 -- blanks in front change the offset alone
-pub take_spaces : (s : State) (m : Mode) (p : List ℕ) (q n : ℕ) (rest : List ℕ) → m ≡ modes.Between
+pub take_spaces : (s : GrammarState) (m : Mode) (p : List ℕ) (q n : ℕ) (rest : List ℕ) → m ≡ modes.Between
     → n ≡ leading is_space rest → (x : List ℕ)
     → judge s (tokens_of m p q (rest ++ x)) ≡ judge s (tokens_of m p (q + n) (drop n rest ++ x))
 take_spaces s m p q n rest h e x =
@@ -106,17 +107,17 @@ front_behind (suc n) (c ∷ w) x = ap (λ t. c ∷ t) (front_behind n w x)
 
 -- a word in front is one token
 word_split : (a q k : ℕ) (w x : List ℕ) → is_word a ≡ true → leading is_word w ≡ k → k < length w → k < 32
-    → split 0 q (a ∷ (w ++ x)) ≡ Then (record { kind = Word; bytes = a ∷ take k w; start = q; last = false })
-    (split 0 (q + suc k) (drop k w ++ x))
+    → tokens_after 0 q (a ∷ (w ++ x)) ≡ Then (record { kind = Word; bytes = a ∷ take k w; start = q; last = false })
+    (tokens_after 0 (q + suc k) (drop k w ++ x))
 word_split a q k w x h e l b =
     let n = front_length k w (omega (arith, l)) in
-    ap (λ t. split 0 q (a ∷ t)) (front_behind k w x)
+    ap (λ t. tokens_after 0 q (a ∷ t)) (front_behind k w x)
     ∙ word_ended a q (take k w) (drop k w ++ x) h (leading_front is_word k w e ∙ sym n)
     (leading_behind is_word k w x e l) (omega (arith, n, b))
     ∙ ap (λ last. Then (record { kind = Word; bytes = a ∷ take k w; start = q; last = last })
-    (split 0 (q + suc (length (take k w))) (drop k w ++ x))) (not_empty k w x l)
+    (tokens_after 0 (q + suc (length (take k w))) (drop k w ++ x))) (not_empty k w x l)
     ∙ ap (λ k'. Then (record { kind = Word; bytes = a ∷ take k w; start = q; last = false })
-    (split 0 (q + suc k') (drop k w ++ x))) n
+    (tokens_after 0 (q + suc k') (drop k w ++ x))) n
 
 -- a word that another byte ends is a whole token
 pub word_fronts : (n : ℕ) (rest : List ℕ) → n ≡ leading is_word rest → n < length rest
@@ -142,12 +143,12 @@ printable c y h k = grind (arith, nat_tests)
 
 -- so is a quoted printable character
 quote_split : (c q : ℕ) (y : List ℕ) → 31 < c → c < 127
-    → split 0 q (39 ∷ c ∷ 39 ∷ y) ≡ Then (record {
+    → tokens_after 0 q (39 ∷ c ∷ 39 ∷ y) ≡ Then (record {
       kind = Literal c;
       bytes = 39 ∷ c ∷ 39 ∷ [];
       start = q;
       last = is_empty y;
-    }) (split 0 (q + 3) y)
+    }) (tokens_after 0 (q + 3) y)
 quote_split c q y h k = found_whole (Literal c) q 39 (c ∷ 39 ∷ []) y (front_quote (c ∷ 39 ∷ y) ∙ printable c y h k)
 
 -- its apostrophes
@@ -289,7 +290,7 @@ byte_advances old new rest c h e t r f l =
 
 -- one byte in front shows a fault
 pub byte_refuses : (old : Scanner) (rest : List ℕ) (c : ℕ) (e : TextFault) → 0 < length rest → c ≡ get_or rest 0 0
-    → ((x : List ℕ) → resume old (c ∷ x) ≡ Faulty e.kind e.offset true) → IsPending e old → Refuses old rest e
+    → ((x : List ℕ) → resume old (c ∷ x) ≡ Faulty e.kind e.offset true) → IsFaultOfPending e old → Refuses old rest e
 byte_refuses old rest c e h k t p = record {
   takes = λ x. ap (λ (t : List ℕ). resume old (t ++ x)) (first rest h ∙ sym (ap (λ n. n ∷ drop 1 rest) k))
       ∙ t (drop 1 rest ++ x);
@@ -304,12 +305,13 @@ takes_byte old new c t r f l = byte_advances old new (c ∷ []) c (omega arith) 
 
 -- one byte is a fault
 pub refuses_byte : (old : Scanner) (c : ℕ) (e : TextFault)
-    → ((x : List ℕ) → resume old (c ∷ x) ≡ Faulty e.kind e.offset true) → IsPending e old → Refuses old (c ∷ []) e
+    → ((x : List ℕ) → resume old (c ∷ x) ≡ Faulty e.kind e.offset true) → IsFaultOfPending e old
+        → Refuses old (c ∷ []) e
 refuses_byte old c e t p = byte_refuses old (c ∷ []) c e (omega arith) refl t p
 
 -- one byte ends a token of n bytes
 pub takes_last : (result : Result (Unit {0}) TextFault) (old new : Scanner) (c n : ℕ)
-    (next : Result State TextFaultKind)
+    (next : Result GrammarState TextFaultKind)
     → c ≢ 10 → n ≡ length old.pending.items + 1 → Accepts result next old.offset new (old.offset + n)
     → OnOk result (IsReader new) → OnOk result (new.pending.items ≡ []) → OnOk result (new.line ≡ old.line)
     → IfErr result (λ e. e.line ≡ old.line) → Goes result (λ x. resume old (c ∷ x)) (resume new)

@@ -6,95 +6,98 @@ use Rattle.keymap_text.specs.declared.fault.TextFaultKind.{TextFaultKind}
 use Rattle.keymap_text.specs.declared.fault.TextFaultKind.TheVariants.{EndInside}
 use Rattle.keymap_text.specs.declared.token.TokenKind.{TokenKind}
 use Rattle.keymap_text.specs.Lexical.{leading, stays_on_line, is_blank, Front, Skipped, Found, Refused, Unfinished}
-use Rattle.keymap_text.specs.Lexical.{front, split, Ends, Stops, Then, is_empty}
+use Rattle.keymap_text.specs.Lexical.{front_of, tokens_after, Ends, Stops, Then, is_empty}
 use Rattle.keymap_text.proofs.Leading.{leading_le}
 
 -- a byte that is passed
-pub split_one : (n q c : ℕ) (bytes : List ℕ) → split (suc n) q (c ∷ bytes) ≡ split n (q + 1) bytes
-unfolding split
+pub split_one : (n q c : ℕ) (bytes : List ℕ) → tokens_after (suc n) q (c ∷ bytes) ≡ tokens_after n (q + 1) bytes
+unfolding tokens_after
 split_one n q c bytes = refl
 
 -- bytes that are passed
-pub split_after : (n q : ℕ) (bytes : List ℕ) → n ≤ length bytes → split n q bytes ≡ split 0 (q + n) (drop n bytes)
-split_after zero q bytes h = ap (λ k. split 0 k bytes) (sym (add-zero q))
+pub split_after : (n q : ℕ) (bytes : List ℕ) → n ≤ length bytes
+    → tokens_after n q bytes ≡ tokens_after 0 (q + n) (drop n bytes)
+split_after zero q bytes h = ap (λ k. tokens_after 0 k bytes) (sym (add-zero q))
 split_after (suc n) q [] h = absurd (omega (arith, h))
 split_after (suc n) q (c ∷ bytes) h =
     split_one n q c bytes ∙ split_after n (q + 1) bytes (omega (arith, h))
-    ∙ ap (λ k. split 0 k (drop n bytes)) (omega arith)
+    ∙ ap (λ k. tokens_after 0 k (drop n bytes)) (omega arith)
 
 -- by what stands in front
-pub split_none : (q : ℕ) → split 0 q [] ≡ Ends q
-unfolding split
+pub split_none : (q : ℕ) → tokens_after 0 q [] ≡ Ends q
+unfolding tokens_after
 split_none q = refl
 
 -- a blank or comment in front
-pub split_skipped : (q c n : ℕ) (bytes : List ℕ) → front c bytes ≡ Skipped n
-    → split 0 q (c ∷ bytes) ≡ split n (q + 1) bytes
-unfolding split
-split_skipped q c n bytes h = rw (h, split) refl
+pub split_skipped : (q c n : ℕ) (bytes : List ℕ) → front_of c bytes ≡ Skipped n
+    → tokens_after 0 q (c ∷ bytes) ≡ tokens_after n (q + 1) bytes
+unfolding tokens_after
+split_skipped q c n bytes h = rw (h, tokens_after) refl
 
 -- a token in front
-pub split_found : (q c n : ℕ) (kind : TokenKind) (bytes : List ℕ) → front c bytes ≡ Found kind n
-    → split 0 q (c ∷ bytes) ≡ Then (record {
+pub split_found : (q c n : ℕ) (kind : TokenKind) (bytes : List ℕ) → front_of c bytes ≡ Found kind n
+    → tokens_after 0 q (c ∷ bytes) ≡ Then (record {
       kind = kind;
       bytes = c ∷ take n bytes;
       start = q;
       last = is_empty (drop n bytes);
-    }) (split n (q + 1) bytes)
-unfolding split
-split_found q c n kind bytes h = rw (h, split) refl
+    }) (tokens_after n (q + 1) bytes)
+unfolding tokens_after
+split_found q c n kind bytes h = rw (h, tokens_after) refl
 
 -- a fault in front
-pub split_refused : (q c : ℕ) (f : TextFaultKind) (bytes : List ℕ) → front c bytes ≡ Refused f
-    → split 0 q (c ∷ bytes) ≡ Stops f q
-unfolding split
-split_refused q c f bytes h = rw (h, split) refl
+pub split_refused : (q c : ℕ) (f : TextFaultKind) (bytes : List ℕ) → front_of c bytes ≡ Refused f
+    → tokens_after 0 q (c ∷ bytes) ≡ Stops f q
+unfolding tokens_after
+split_refused q c f bytes h = rw (h, tokens_after) refl
 
 -- a token that the end of the bytes breaks off
-pub split_unfinished : (q c : ℕ) (bytes : List ℕ) → front c bytes ≡ Unfinished
-    → split 0 q (c ∷ bytes) ≡ Stops EndInside (q + 1 + length bytes)
-unfolding split
-split_unfinished q c bytes h = rw (h, split) refl
+pub split_unfinished : (q c : ℕ) (bytes : List ℕ) → front_of c bytes ≡ Unfinished
+    → tokens_after 0 q (c ∷ bytes) ≡ Stops EndInside (q + 1 + length bytes)
+unfolding tokens_after
+split_unfinished q c bytes h = rw (h, tokens_after) refl
 
 -- a blank, and a comment
-front_blank : (c : ℕ) (bytes : List ℕ) → is_blank c ≡ true → front c bytes ≡ Skipped 0
-unfolding front
-front_blank c bytes h = rw (h, front) refl
+front_blank : (c : ℕ) (bytes : List ℕ) → is_blank c ≡ true → front_of c bytes ≡ Skipped 0
+unfolding front_of
+front_blank c bytes h = rw (h, front_of) refl
 
 -- a comment in front
-front_comment : (bytes : List ℕ) → front 35 bytes ≡ Skipped (leading stays_on_line bytes)
-unfolding front
+front_comment : (bytes : List ℕ) → front_of 35 bytes ≡ Skipped (leading stays_on_line bytes)
+unfolding front_of
 front_comment bytes = refl
 
 -- a blank is passed
-pub split_blank : (q c : ℕ) (bytes : List ℕ) → is_blank c ≡ true → split 0 q (c ∷ bytes) ≡ split 0 (q + 1) bytes
+pub split_blank : (q c : ℕ) (bytes : List ℕ) → is_blank c ≡ true
+    → tokens_after 0 q (c ∷ bytes) ≡ tokens_after 0 (q + 1) bytes
 split_blank q c bytes h = split_skipped q c 0 bytes (front_blank c bytes h)
 
 -- a comment is passed to the end of its line
 pub split_comment : (q : ℕ) (bytes : List ℕ)
-    → split 0 q (35 ∷ bytes) ≡ split (leading stays_on_line bytes) (q + 1) bytes
+    → tokens_after 0 q (35 ∷ bytes) ≡ tokens_after (leading stays_on_line bytes) (q + 1) bytes
 split_comment q bytes = split_skipped q 35 _ bytes (front_comment bytes)
 
 -- the same at an index
 pub split_blank_at : (xs : List ℕ) (i : ℕ) → i < length xs → is_blank (get_or xs i 0) ≡ true
-    → split 0 i (drop i xs) ≡ split 0 (i + 1) (drop (i + 1) xs)
+    → tokens_after 0 i (drop i xs) ≡ tokens_after 0 (i + 1) (drop (i + 1) xs)
 split_blank_at xs i h e =
-    ap (split 0 i) (drop-cons xs i 0 h) ∙ split_blank i _ _ e ∙ ap (λ n. split 0 (i + 1) (drop n xs)) (sym (add-one i))
+    ap (tokens_after 0 i) (drop-cons xs i 0 h) ∙ split_blank i _ _ e
+        ∙ ap (λ n. tokens_after 0 (i + 1) (drop n xs)) (sym (add-one i))
 
 -- the same at a place
 pub split_comment_at : (xs : List ℕ) (i : ℕ) → i < length xs → get_or xs i 0 ≡ 35
-    → split 0 i (drop i xs) ≡ split (leading stays_on_line (drop (i + 1) xs)) (i + 1) (drop (i + 1) xs)
+    → tokens_after 0 i (drop i xs) ≡ tokens_after (leading stays_on_line (drop (i + 1) xs)) (i + 1) (drop (i + 1) xs)
 split_comment_at xs i h e =
-    ap (split 0 i) (drop-cons xs i 0 h) ∙ ap (λ c. split 0 i (c ∷ drop (suc i) xs)) e ∙ split_comment i _
-    ∙ ap (λ n. split (leading stays_on_line (drop n xs)) (i + 1) (drop n xs)) (sym (add-one i))
+    ap (tokens_after 0 i) (drop-cons xs i 0 h) ∙ ap (λ c. tokens_after 0 i (c ∷ drop (suc i) xs)) e ∙ split_comment i _
+    ∙ ap (λ n. tokens_after (leading stays_on_line (drop n xs)) (i + 1) (drop n xs)) (sym (add-one i))
 
 -- a comment to the end of its line
 pub split_line_at : (xs : List ℕ) (i : ℕ) → i < length xs → get_or xs i 0 ≡ 35
-    → split 0 i (drop i xs) ≡ split 0 (i + 1 + leading stays_on_line (drop (i + 1) xs))
+    → tokens_after 0 i (drop i xs) ≡ tokens_after 0 (i + 1 + leading stays_on_line (drop (i + 1) xs))
     (drop (i + 1 + leading stays_on_line (drop (i + 1) xs)) xs)
 split_line_at xs i h e =
     split_comment_at xs i h e ∙ split_after _ (i + 1) _ (leading_le stays_on_line (drop (i + 1) xs))
-    ∙ ap (split 0 (i + 1 + leading stays_on_line (drop (i + 1) xs))) (drop-drop _ _ xs)
+    ∙ ap (tokens_after 0 (i + 1 + leading stays_on_line (drop (i + 1) xs))) (drop-drop _ _ xs)
 
 -- the first token of what begins at i
 shape : (xs : List ℕ) → 0 < length xs → xs ≡ get_or xs 0 0 ∷ drop 1 xs
@@ -116,39 +119,39 @@ behind xs i n = ap (drop n) (drop-drop 1 i xs) ∙ drop-drop n (i + 1) xs
 
 -- a token at a place
 pub at_found : (xs : List ℕ) (i n : ℕ) (kind : TokenKind) → i < length xs
-    → front (get_or (drop i xs) 0 0) (drop 1 (drop i xs)) ≡ Found kind n
-    → split 0 i (drop i xs) ≡ Then (record {
+    → front_of (get_or (drop i xs) 0 0) (drop 1 (drop i xs)) ≡ Found kind n
+    → tokens_after 0 i (drop i xs) ≡ Then (record {
       kind = kind;
       bytes = take (i + 1 + n - i) (drop i xs);
       start = i;
       last = is_empty (drop (i + 1 + n) xs);
-    }) (split n (i + 1) (drop 1 (drop i xs)))
-at_found xs i n kind h e = ap (split 0 i) (shape (drop i xs) (room xs i h)) ∙ split_found i _ n kind _ e
+    }) (tokens_after n (i + 1) (drop 1 (drop i xs)))
+at_found xs i n kind h e = ap (tokens_after 0 i) (shape (drop i xs) (room xs i h)) ∙ split_found i _ n kind _ e
     ∙ ap (λ (b : List ℕ). Then (record {
       kind = kind;
       bytes = b;
       start = i;
       last = is_empty (drop n (drop 1 (drop i xs)));
-    }) (split n (i + 1) (drop 1 (drop i xs))))
+    }) (tokens_after n (i + 1) (drop 1 (drop i xs))))
     (sym (front_bytes (drop i xs) i n (room xs i h)))
     ∙ ap (λ (r : List ℕ). Then (record {
       kind = kind;
       bytes = take (i + 1 + n - i) (drop i xs);
       start = i;
       last = is_empty r;
-    }) (split n (i + 1) (drop 1 (drop i xs)))) (behind xs i n)
+    }) (tokens_after n (i + 1) (drop 1 (drop i xs)))) (behind xs i n)
 
 -- a fault at a place
 pub at_refused : (xs : List ℕ) (i : ℕ) (f : TextFaultKind) → i < length xs
-    → front (get_or (drop i xs) 0 0) (drop 1 (drop i xs)) ≡ Refused f → split 0 i (drop i xs) ≡ Stops f i
-at_refused xs i f h e = ap (split 0 i) (shape (drop i xs) (room xs i h)) ∙ split_refused i _ f _ e
+    → front_of (get_or (drop i xs) 0 0) (drop 1 (drop i xs)) ≡ Refused f → tokens_after 0 i (drop i xs) ≡ Stops f i
+at_refused xs i f h e = ap (tokens_after 0 i) (shape (drop i xs) (room xs i h)) ∙ split_refused i _ f _ e
 
 -- a token at a place that the end breaks off
 pub at_unfinished : (xs : List ℕ) (i : ℕ) → i < length xs
-    → front (get_or (drop i xs) 0 0) (drop 1 (drop i xs)) ≡ Unfinished
-    → split 0 i (drop i xs) ≡ Stops EndInside (length xs)
+    → front_of (get_or (drop i xs) 0 0) (drop 1 (drop i xs)) ≡ Unfinished
+    → tokens_after 0 i (drop i xs) ≡ Stops EndInside (length xs)
 at_unfinished xs i h e =
-    ap (split 0 i) (shape (drop i xs) (room xs i h)) ∙ split_unfinished i _ _ e
+    ap (tokens_after 0 i) (shape (drop i xs) (room xs i h)) ∙ split_unfinished i _ _ e
     ∙ ap (Stops EndInside) (rw (length-drop, length-drop) (omega arith))
 
 -- the same of the slice that begins at i
@@ -156,6 +159,6 @@ pub to_end : (xs : List ℕ) (i : ℕ) → take (length xs - i) (drop i xs) ≡ 
 to_end xs i = take_all (length xs - i) (drop i xs) (rw length-drop (omega arith))
 
 -- what the code finds in front is what stands at the place
-pub front_is : (xs s : List ℕ) (i : ℕ) (f g : Front) → s ≡ drop i xs → f ≡ g → f ≡ front (get_or s 0 0) (drop 1 s)
-    → front (get_or (drop i xs) 0 0) (drop 1 (drop i xs)) ≡ g
-front_is xs s i f g e k h = sym (sym k ∙ h ∙ ap (λ s. front (get_or s 0 0) (drop 1 s)) e)
+pub front_is : (xs s : List ℕ) (i : ℕ) (f g : Front) → s ≡ drop i xs → f ≡ g → f ≡ front_of (get_or s 0 0) (drop 1 s)
+    → front_of (get_or (drop i xs) 0 0) (drop 1 (drop i xs)) ≡ g
+front_is xs s i f g e k h = sym (sym k ∙ h ∙ ap (λ s. front_of (get_or s 0 0) (drop 1 s)) e)

@@ -7,7 +7,7 @@ use Rattle.keymap_text.specs.declared.fault.TextFault.{TextFault}
 use Rattle.keymap_text.specs.declared.scanner.Scanner.{Scanner}
 use Rattle.keymap_text.specs.Meaning.{line}
 use Rattle.keymap_text.specs.Inner.Judging.{verdict, Faulty}
-use Rattle.keymap_text.specs.Inner.Resuming.{resume, Says, IsReader, IsPending, Lined}
+use Rattle.keymap_text.specs.Inner.Resuming.{resume, Says, IsReader, IsFaultOfPending, Lined}
 use Rattle.keymap_text.specs.Inner.Views.{state_view}
 use Rattle.keymap_text.specs.Meaning.{Fault, Early}
 use Rattle.keymap_text.specs.Meaning.{Means}
@@ -42,7 +42,7 @@ early_after old b piece f g rest l = (
 
 -- where the text ends
 pub means_after : (result : Result MapValue TextFault) (old : Scanner) (b : List ℕ) → Says result (resume old [])
-    → IfErr result (λ e. IsPending e old) → ((x : List ℕ) → resume old x ≡ verdict (b ++ x)) → Lined old b
+    → IfErr result (λ e. IsFaultOfPending e old) → ((x : List ℕ) → resume old x ≡ verdict (b ++ x)) → Lined old b
     → Means result b
 means_after (Ok m) old b s p rest l = spells_from b m (sym (rest [] ∙ ap verdict (append-nil b)) ∙ s)
 means_after (Err f) old b (e, s) p rest l = (

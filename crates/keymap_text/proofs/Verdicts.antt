@@ -6,20 +6,22 @@ use Rattle.std.proofs.Common.{Ok, Err, Option, Some, None}
 use Rattle.keymap_text.specs.declared.fault.TextFaultKind.{TextFaultKind}
 use Rattle.keymap_text.specs.declared.fault.TextFaultKind.TheVariants as faults
 use Rattle.keymap_text.specs.declared.words.Item.{Item}
-use Rattle.keymap_text.specs.Lexical.{Token, Tokens, Ends, Stops, Then, split, front, Front, Skipped, Refused}
+use Rattle.keymap_text.specs.Lexical.{TokenValue, Tokens, Ends, Stops, Then, tokens_after, front_of, Front, Skipped}
+use Rattle.keymap_text.specs.Lexical.{Refused}
 use Rattle.keymap_text.specs.Lexical.{Unfinished, is_empty}
 use Rattle.keymap_text.specs.Lexical as lexical
 use Rattle.keymap_core.specs.Maps.{MapValue}
-use Rattle.keymap_text.specs.Inner.Grammar.{State, accept, at_end, start, empty_map}
+use Rattle.keymap_text.specs.Inner.Grammar.{GrammarState, accept, at_end, start, empty_map}
 use Rattle.keymap_text.specs.declared.fault.TextFault.{TextFault}
-use Rattle.keymap_text.specs.Places.{Place, AtDefinition, may_end}
+use Rattle.keymap_text.specs.Places.{RowPlace, AtDefinition, may_end}
 use Rattle.keymap_text.specs.Rows.{Definition, IsRow}
 use Rattle.keymap_text.specs.Meaning.{line}
 use Rattle.keymap_text.specs.Inner.Judging.{judge, verdict, Verdict, Spelled, Faulty, ended}
 use Rattle.keymap_text.proofs.Splitting.{split_one, split_skipped, split_found, split_refused, split_unfinished}
 use Rattle.keymap_text.proofs.Early.{early_from}
-use Rattle.keymap_text.specs.Meaning.{list_of, behind, item_of, items, Found, fault_of, Spells, Fault, Early, found_in}
-use Rattle.keymap_text.specs.Meaning.{leads}
+use Rattle.keymap_text.specs.Meaning.{list_of, ending_of_tokens, item_of, items, FaultInText, fault_of, Spells, Fault}
+use Rattle.keymap_text.specs.Meaning.{Early, found_in}
+use Rattle.keymap_text.specs.Meaning.{place_after}
 use Rattle.keymap_text.proofs.Steps.{judge_then, judge_refused, judge_stops, judge_ends}
 use Rattle.keymap_text.proofs.Faults.{found_of, fault_is, same_fault}
 use Rattle.keymap_text.proofs.Folded.{puts, puts_are}
@@ -42,34 +44,34 @@ ended_is (Some x) q m h = ap Some (spelled_is x m h)
 ended_is None q m h = absurd (faulty _ _ _ _ h)
 
 -- what a spelled map says of the machine
-record Runs (s : State) (ts : Tokens) (m : MapValue) : Type 0 where
-  last : State
+record Runs (s : GrammarState) (ts : Tokens) (m : MapValue) : Type 0 where
+  last : GrammarState
   end : ℕ
   steps : steps s (items_of ts) ≡ Ok last
-  whole : behind ts ≡ Ok end
+  whole : ending_of_tokens ts ≡ Ok end
   map : at_end last ≡ Some m
 
 -- what the machine spells it went through
-runs : (s : State) (ts : Tokens) (m : MapValue) → judge s ts ≡ Spelled m → Runs s ts m
-unfolding list_of behind
+runs : (s : GrammarState) (ts : Tokens) (m : MapValue) → judge s ts ≡ Spelled m → Runs s ts m
+unfolding list_of ending_of_tokens
 runs s (Ends q) m h =
     record { last = s; end = q; steps = refl; whole = refl; map = ended_is (at_end s) q m (sym (judge_ends s q) ∙ h) }
 runs s (Stops f q) m h = absurd (faulty _ _ _ _ (sym (judge_stops s f q) ∙ h))
 runs s (Then t ts) m h = go (accept s (item_of t)) refl (λ s'. runs s' ts m)
   where
-    go : (r : Result State TextFaultKind) → accept s (item_of t) ≡ r
-        → ((s' : State) → judge s' ts ≡ Spelled m → Runs s' ts m) → Runs s (Then t ts) m
+    go : (r : Result GrammarState TextFaultKind) → accept s (item_of t) ≡ r
+        → ((s' : GrammarState) → judge s' ts ≡ Spelled m → Runs s' ts m) → Runs s (Then t ts) m
     go (Ok s') e ih =
         let r = ih s' (sym (judge_then s s' t ts e) ∙ h) in
         record { last = r.last; end = r.end; steps = rw e r.steps; whole = r.whole; map = r.map }
     go (Err f) e ih = absurd (faulty _ _ _ _ (sym (judge_refused s f t ts e) ∙ h))
 
 -- what the machine goes through it spells
-judged : (s : State) (ts : Tokens) (m : MapValue) → Runs s ts m → judge s ts ≡ Spelled m
-unfolding list_of behind
+judged : (s : GrammarState) (ts : Tokens) (m : MapValue) → Runs s ts m → judge s ts ≡ Spelled m
+unfolding list_of ending_of_tokens
 judged s (Ends q) m r = judge_ends s q ∙ ap (λ o. ended o q) (ap at_end (ok_is _ _ r.steps) ∙ r.map)
   where
-    ok_is : (x y : State) → ◌≡◌ {A = Result State TextFaultKind} (Ok x) (Ok y) → x ≡ y
+    ok_is : (x y : GrammarState) → ◌≡◌ {A = Result GrammarState TextFaultKind} (Ok x) (Ok y) → x ≡ y
     ok_is x y h = cc
 judged s (Stops f q) m r = absurd (never _ _ r.whole)
   where
@@ -77,11 +79,11 @@ judged s (Stops f q) m r = absurd (never _ _ r.whole)
     never x y h = cc
 judged s (Then t ts) m r = go (accept s (item_of t)) refl (λ s'. judged s' ts m)
   where
-    never : (f : TextFaultKind) (y : State) → ◌≡◌ {A = Result State TextFaultKind} (Err f) (Ok y) → ⊥
+    never : (f : TextFaultKind) (y : GrammarState) → ◌≡◌ {A = Result GrammarState TextFaultKind} (Err f) (Ok y) → ⊥
     never f y h = cc
 
-    go : (a : Result State TextFaultKind) → accept s (item_of t) ≡ a
-        → ((s' : State) → Runs s' ts m → judge s' ts ≡ Spelled m) → judge s (Then t ts) ≡ Spelled m
+    go : (a : Result GrammarState TextFaultKind) → accept s (item_of t) ≡ a
+        → ((s' : GrammarState) → Runs s' ts m → judge s' ts ≡ Spelled m) → judge s (Then t ts) ≡ Spelled m
     go (Ok s') e ih =
         judge_then s s' t ts e ∙ ih s' (record {
           last = r.last;
@@ -100,7 +102,7 @@ starts = refl
 -- what the machine spells is what the definitions spell
 pub spells_from : (text : List ℕ) (m : MapValue) → verdict text ≡ Spelled m → Spells text m
 spells_from text m h =
-    let r = runs start (split 0 0 text) m h in
+    let r = runs start (tokens_after 0 0 text) m h in
     let row = row_at_end (items text) r.last.map r.last.place m
     (stands_after [] (items text) start r.last stands_first r.steps) r.map in
     record { definitions = row.0; row = row.1; end = r.end; whole = r.whole; map = row.2 ∙ puts_are row.0 }
@@ -109,7 +111,7 @@ spells_from text m h =
 pub spells_to : (text : List ℕ) (m : MapValue) → Spells text m → verdict text ≡ Spelled m
 spells_to text m s =
     let r = row_defined start empty_map (items text) s.definitions s.row starts in
-    judged start (split 0 0 text) m (record {
+    judged start (tokens_after 0 0 text) m (record {
       last = r.0;
       end = s.end;
       steps = r.1;
@@ -131,16 +133,16 @@ fault_to text f q e h = go (verdict text) (fault_is text ∙ h)
     go : (v : Verdict) → found_of v ≡ Some (record { kind = f; offset = q; early = e }) → v ≡ Faulty f q e
     go (Spelled m) k = absurd (never _ k)
       where
-        never : (x : Found) → None ≡ Some x → ⊥
+        never : (x : FaultInText) → None ≡ Some x → ⊥
         never x h = cc
     go (Faulty f' q' e') k = same f' q' e' k
       where
         same : (f' : TextFaultKind) (q' : ℕ) (e' : Bool)
-            → ◌≡◌ {A = Option Found} (Some (record { kind = f'; offset = q'; early = e' }))
+            → ◌≡◌ {A = Option FaultInText} (Some (record { kind = f'; offset = q'; early = e' }))
             (Some (record { kind = f; offset = q; early = e })) → Faulty f' q' e' ≡ Faulty f q e
-        same f' q' e' k = ap (λ (x : Found). Faulty x.kind x.offset x.early) (some_is _ _ k)
+        same f' q' e' k = ap (λ (x : FaultInText). Faulty x.kind x.offset x.early) (some_is _ _ k)
           where
-            some_is : (x y : Found) → Some x ≡ Some y → x ≡ y
+            some_is : (x y : FaultInText) → Some x ≡ Some y → x ≡ y
             some_is x y h = cc
 
 -- exactly one of the two
@@ -148,35 +150,37 @@ pub fault_or_map : (text : List ℕ) (m : MapValue) → Spells text m → fault_
 fault_or_map text m s = sym (fault_is text) ∙ ap found_of (spells_to text m s)
 
 -- tokens up to the end of a text
-tokens_then : List Token → Tokens
+tokens_then : List TokenValue → Tokens
 tokens_then [] = Ends 0
 tokens_then (t ∷ ts) = Then t (tokens_then ts)
 
 -- tokens of a list
-listed : (ts : List Token) → list_of (tokens_then ts) ≡ ts
+listed : (ts : List TokenValue) → list_of (tokens_then ts) ≡ ts
 unfolding tokens_then list_of
 listed [] = refl
 listed (t ∷ ts) = ap (λ ts. t ∷ ts) (listed ts)
 
 -- nothing stands behind them
-behind_is : (ts : List Token) → behind (tokens_then ts) ≡ Ok 0
-unfolding tokens_then behind
+behind_is : (ts : List TokenValue) → ending_of_tokens (tokens_then ts) ≡ Ok 0
+unfolding tokens_then ending_of_tokens
 behind_is [] = refl
 behind_is (t ∷ ts) = behind_is ts
 
 -- the end of such tokens
-ended_at : (ts : List Token) → found_of (judge start (tokens_then ts)) ≡ found_in (leads AtDefinition ts) (Ok 0)
+ended_at : (ts : List TokenValue)
+    → found_of (judge start (tokens_then ts)) ≡ found_in (place_after AtDefinition ts) (Ok 0)
 ended_at ts =
-    same_fault start (tokens_then ts) ∙ ap₂ (λ ts r. found_in (leads AtDefinition ts) r) (listed ts) (behind_is ts)
+    same_fault start (tokens_then ts)
+        ∙ ap₂ (λ ts r. found_in (place_after AtDefinition ts) r) (listed ts) (behind_is ts)
 
 -- tokens that lead to a place where a text may end are a row
-pub row_of : (ts : List Token) (p : Place) → leads AtDefinition ts ≡ Ok p → may_end p ≡ true
+pub row_of : (ts : List TokenValue) (p : RowPlace) → place_after AtDefinition ts ≡ Ok p → may_end p ≡ true
     → (ds : List Definition) × IsRow (map item_of ts) ds
 row_of ts p h e = go (judge start (tokens_then ts)) refl
   where
     none : found_of (judge start (tokens_then ts)) ≡ None
     none = ended_at ts ∙ ap (λ r. found_in r (Ok 0)) h
-        ∙ ap (λ b. cond {A = Option Found} b None
+        ∙ ap (λ b. cond {A = Option FaultInText} b None
         (Some (record { kind = faults.EndInside; offset = 0; early = false }))) e
 
     go : (v : Verdict) → judge start (tokens_then ts) ≡ v → (ds : List Definition) × IsRow (map item_of ts) ds
@@ -184,15 +188,15 @@ row_of ts p h e = go (judge start (tokens_then ts)) refl
         let r = runs start (tokens_then ts) m k in
         let row = row_at_end (items_of (tokens_then ts)) r.last.map r.last.place m
         (stands_after [] (items_of (tokens_then ts)) start r.last stands_first r.steps) r.map in
-        (row.0, subst (λ (ts : List Token). IsRow (map item_of ts) row.0) (listed ts) row.1)
+        (row.0, subst (λ (ts : List TokenValue). IsRow (map item_of ts) row.0) (listed ts) row.1)
     go (Faulty f q b) k = absurd (never _ (sym (ap found_of k) ∙ none))
       where
-        never : (x : Found) → Some x ≡ None → ⊥
+        never : (x : FaultInText) → Some x ≡ None → ⊥
         never x h = cc
 
 -- a row leads to a place where a text may end
-pub accepted_of : (ts : List Token) (ds : List Definition) → IsRow (map item_of ts) ds
-    → (p : Place) × (leads AtDefinition ts ≡ Ok p) × (may_end p ≡ true)
+pub accepted_of : (ts : List TokenValue) (ds : List Definition) → IsRow (map item_of ts) ds
+    → (p : RowPlace) × (place_after AtDefinition ts ≡ Ok p) × (may_end p ≡ true)
 accepted_of ts ds row =
     let r = row_defined start empty_map (map item_of ts) ds row starts in
     let m : judge start (tokens_then ts) ≡ Spelled (puts empty_map ds) =
@@ -200,27 +204,27 @@ accepted_of ts ds row =
     (record {
       last = r.0;
       end = 0;
-      steps = subst (λ (ts : List Token). steps start (map item_of ts) ≡ Ok r.0)
+      steps = subst (λ (ts : List TokenValue). steps start (map item_of ts) ≡ Ok r.0)
           (sym (listed ts)) r.1;
       whole = behind_is ts;
       map = r.2;
     }) in
-    go (leads AtDefinition ts) refl (sym (ended_at ts) ∙ ap found_of m)
+    go (place_after AtDefinition ts) refl (sym (ended_at ts) ∙ ap found_of m)
   where
-    go : (l : Result Place (TextFaultKind × Token)) → leads AtDefinition ts ≡ l → found_in l (Ok 0) ≡ None
-        → (p : Place) × (leads AtDefinition ts ≡ Ok p) × (may_end p ≡ true)
+    go : (l : Result RowPlace (TextFaultKind × TokenValue)) → place_after AtDefinition ts ≡ l → found_in l (Ok 0) ≡ None
+        → (p : RowPlace) × (place_after AtDefinition ts ≡ Ok p) × (may_end p ≡ true)
     go (Ok p) e h = (p, e, ends (may_end p) h)
       where
-        ends : (b : Bool) → cond {A = Option Found} b None (Some (record
+        ends : (b : Bool) → cond {A = Option FaultInText} b None (Some (record
             { kind = faults.EndInside; offset = 0; early = false })) ≡ None → b ≡ true
         ends true h = refl
         ends false h = absurd (never _ h)
           where
-            never : (x : Found) → Some x ≡ None → ⊥
+            never : (x : FaultInText) → Some x ≡ None → ⊥
             never x h = cc
     go (Err (f, t)) e h = absurd (never _ h)
       where
-        never : (x : Found) → Some x ≡ None → ⊥
+        never : (x : FaultInText) → Some x ≡ None → ⊥
         never x h = cc
 
 -- one map or one fault
@@ -231,7 +235,7 @@ one_map text m n s t = spelled_is m n (sym (spells_to text m s) ∙ spells_to te
 pub not_both : (text : List ℕ) (m : MapValue) (f : TextFault) → Spells text m → Fault text f → ⊥
 not_both text m f s (e, h) = never _ (sym (fault_or_map text m s) ∙ h.0)
   where
-    never : (x : Found) → None ≡ Some x → ⊥
+    never : (x : FaultInText) → None ≡ Some x → ⊥
     never x h = cc
 
 -- a text has one fault at most
@@ -240,13 +244,13 @@ pub one_fault : (text : List ℕ) (f g : TextFault) → Fault text f → Fault t
 one_fault text f g (e, h) (d, k) =
     let same : record { kind = f.kind; offset = f.offset; early = e }
     ≡ record { kind = g.kind; offset = g.offset; early = d } = some_is _ _ (sym h.0 ∙ k.0) in (
-      ap (λ (x : Found). x.kind) same,
-      ap (λ (x : Found). x.offset) same,
+      ap (λ (x : FaultInText). x.kind) same,
+      ap (λ (x : FaultInText). x.offset) same,
       h.1
-          ∙ ap (λ (x : Found). line text x.offset) same ∙ sym k.1,
+          ∙ ap (λ (x : FaultInText). line text x.offset) same ∙ sym k.1,
     )
   where
-    some_is : (x y : Found) → Some x ≡ Some y → x ≡ y
+    some_is : (x y : FaultInText) → Some x ≡ Some y → x ≡ y
     some_is x y h = cc
 
 -- a text spells a map or has a fault
@@ -272,33 +276,33 @@ same_offset : (f f' : TextFaultKind) (o o' : ℕ) (e e' : Bool) → Faulty f o e
 same_offset f f' o o' e e' h = cc
 
 -- no bytes have no tokens
-split_empty : (k q : ℕ) → split k q [] ≡ Ends q
-unfolding split
+split_empty : (k q : ℕ) → tokens_after k q [] ≡ Ends q
+unfolding tokens_after
 split_empty zero q = refl
 split_empty (suc k) q = refl
 
 -- a fault stands in the bytes or at their end
-fits : (bytes : List ℕ) (s : State) (k q : ℕ) (f : TextFaultKind) (o : ℕ) (e : Bool)
-    → judge s (split k q bytes) ≡ Faulty f o e → o ≤ q + length bytes
+fits : (bytes : List ℕ) (s : GrammarState) (k q : ℕ) (f : TextFaultKind) (o : ℕ) (e : Bool)
+    → judge s (tokens_after k q bytes) ≡ Faulty f o e → o ≤ q + length bytes
 fits [] s k q f o e h =
     within (at_end s) q (q + 0) f o e (omega arith) (sym (judge_ends s q) ∙ sym (ap (judge s) (split_empty k q)) ∙ h)
 fits (c ∷ bytes) s (suc k) q f o e h = let i =
     fits bytes s k (q + 1) f o e (sym (ap (judge s) (split_one k q c bytes)) ∙ h) in omega (arith, i)
-fits (c ∷ bytes) s zero q f o e h = go (front c bytes) refl (fits bytes)
+fits (c ∷ bytes) s zero q f o e h = go (front_of c bytes) refl (fits bytes)
   where
-    go : (r : Front) → front c bytes ≡ r → ((s : State) (k q : ℕ) (f : TextFaultKind) (o : ℕ) (e : Bool)
-        → judge s (split k q bytes) ≡ Faulty f o e → o ≤ q + length bytes) → o ≤ q + suc (length bytes)
+    go : (r : Front) → front_of c bytes ≡ r → ((s : GrammarState) (k q : ℕ) (f : TextFaultKind) (o : ℕ) (e : Bool)
+        → judge s (tokens_after k q bytes) ≡ Faulty f o e → o ≤ q + length bytes) → o ≤ q + suc (length bytes)
     go (Skipped n) a ih = let i =
         ih s n (q + 1) f o e (sym (ap (judge s) (split_skipped q c n bytes a)) ∙ h) in omega (arith, i)
     go (lexical.Found kind n) a ih = token (accept s (item_of t)) refl
       where
-        t : Token
+        t : TokenValue
         t = record { kind = kind; bytes = c ∷ take n bytes; start = q; last = is_empty (drop n bytes) }
 
-        here : judge s (Then t (split n (q + 1) bytes)) ≡ Faulty f o e
+        here : judge s (Then t (tokens_after n (q + 1) bytes)) ≡ Faulty f o e
         here = sym (ap (judge s) (split_found q c n kind bytes a)) ∙ h
 
-        token : (r : Result State TextFaultKind) → accept s (item_of t) ≡ r → o ≤ q + suc (length bytes)
+        token : (r : Result GrammarState TextFaultKind) → accept s (item_of t) ≡ r → o ≤ q + suc (length bytes)
         token (Ok s') b = let i = ih s' n (q + 1) f o e (sym (judge_then s s' t _ b) ∙ here) in omega (arith, i)
         token (Err g) b = let i : q ≡ o =
             same_offset _ _ _ _ _ _ (sym (judge_refused s g t _ b) ∙ here) in omega (arith, i)

@@ -70,8 +70,8 @@ literal bytes = if is_lone bytes then Found (Literal (slice_index bytes 0)) 2 el
 abbrev pub word : ℕ → Front
 word n = if nat_lt n 32 then Found Word n else Refused BadWord
 
-unfoldable pub front : ℕ → List ℕ → Front
-front c bytes =
+unfoldable pub front_of : ℕ → List ℕ → Front
+front_of c bytes =
     if is_blank c then Skipped 0
     else if c == 35 then Skipped (leading stays_on_line bytes)
     else if c == 40 then Found ParenL 0
@@ -81,7 +81,7 @@ front c bytes =
     else Refused BadByte
 
 -- a token, with its bytes and its place in the text, and whether the text ends after it
-pub record Token : Type 0 where
+pub record TokenValue : Type 0 where
   pub kind : TokenKind
   pub bytes : List ℕ
   pub start : ℕ
@@ -91,26 +91,26 @@ pub record Token : Type 0 where
 pub data Tokens : Type 0 where
   Ends : ℕ → Tokens
   Stops : TextFaultKind → ℕ → Tokens
-  Then : Token → Tokens → Tokens
+  Then : TokenValue → Tokens → Tokens
 
 abbrev pub is_empty : List ℕ → Bool
 is_empty [] = true
 is_empty (c ∷ cs) = false
 
 -- The tokens of the bytes after the first k of them, where these bytes stand at the place q of the text.
-unfoldable pub split : ℕ → ℕ → List ℕ → Tokens
-split k q [] = Ends q
-split (suc k) q (c ∷ bytes) = split k (q + 1) bytes
-split zero q (c ∷ bytes) = elim (front c bytes) [
-  | Skipped n ↦ split n (q + 1) bytes
+unfoldable pub tokens_after : ℕ → ℕ → List ℕ → Tokens
+tokens_after k q [] = Ends q
+tokens_after (suc k) q (c ∷ bytes) = tokens_after k (q + 1) bytes
+tokens_after zero q (c ∷ bytes) = elim (front_of c bytes) [
+  | Skipped n ↦ tokens_after n (q + 1) bytes
   | Found kind n ↦ Then (record { kind = kind; bytes = c ∷ take n bytes; start = q; last = is_empty (drop n bytes) })
-      (split n (q + 1) bytes)
+      (tokens_after n (q + 1) bytes)
   | Refused f ↦ Stops f q
   | Unfinished ↦ Stops EndInside (q + 1 + length bytes)
 ]
 
 -- the first token, none, or the fault with its place
-abbrev pub first : Tokens → Result (Option Token) (TextFaultKind × ℕ)
+abbrev pub first : Tokens → Result (Option TokenValue) (TextFaultKind × ℕ)
 first (Ends q) = Ok None
 first (Stops f q) = Err (f, q)
 first (Then t ts) = Ok (Some t)

@@ -9,11 +9,11 @@ use Rattle.keymap_text.specs.declared.fault.TextError.TheVariants as errors
 use Rattle.keymap_text.specs.declared.token.TokenKind.{TokenKind}
 use Rattle.keymap_text.specs.declared.token.TokenKind.TheVariants as kinds
 use Rattle.keymap_text.specs.declared.words.Item.{Item}
-use Rattle.keymap_text.specs.Lexical.{Token, Tokens, Ends, Stops, Then, split}
+use Rattle.keymap_text.specs.Lexical.{TokenValue, Tokens, Ends, Stops, Then, tokens_after}
 use Rattle.keymap_text.specs.Words.{item}
 use Rattle.keymap_core.specs.Maps.{MapValue}
 use Rattle.keymap_text.specs.Rows.{Definition, IsRow, map_of}
-use Rattle.keymap_text.specs.Places.{Place, AtDefinition, next, may_end}
+use Rattle.keymap_text.specs.Places.{RowPlace, AtDefinition, next, may_end}
 
 -- the line of a place: 1, and the LF bytes before it
 abbrev pub line : List ℕ → ℕ → ℕ
@@ -28,30 +28,30 @@ is_end_inside faults.EndInside = true
 is_end_inside _ = false
 
 -- may more bytes change this token? those of a last word may
-abbrev pub is_settled : Token → Bool
+abbrev pub is_settled : TokenValue → Bool
 is_settled t = not (is_word_kind t.kind && t.last)
 
 -- the tokens in order, and what stands after them: the end of the text, or a fault with its place
-unfoldable pub list_of : Tokens → List Token
+unfoldable pub list_of : Tokens → List TokenValue
 list_of (Then t ts) = t ∷ list_of ts
 list_of _ = []
 
-unfoldable pub behind : Tokens → Result ℕ (TextFaultKind × ℕ)
-behind (Then t ts) = behind ts
-behind (Ends q) = Ok q
-behind (Stops f q) = Err (f, q)
+unfoldable pub ending_of_tokens : Tokens → Result ℕ (TextFaultKind × ℕ)
+ending_of_tokens (Then t ts) = ending_of_tokens ts
+ending_of_tokens (Ends q) = Ok q
+ending_of_tokens (Stops f q) = Err (f, q)
 
-abbrev pub item_of : Token → Item
+abbrev pub item_of : TokenValue → Item
 item_of t = item t.kind t.bytes
 
-abbrev pub tokens : List ℕ → List Token
-tokens text = list_of (split 0 0 text)
+abbrev pub tokens : List ℕ → List TokenValue
+tokens text = list_of (tokens_after 0 0 text)
 
 abbrev pub items : List ℕ → List Item
 items text = map item_of (tokens text)
 
 abbrev pub ending : List ℕ → Result ℕ (TextFaultKind × ℕ)
-ending text = behind (split 0 0 text)
+ending text = ending_of_tokens (tokens_after 0 0 text)
 
 -- The text is a row of definitions up to its end, and the map is what the last ones say.
 pub record Spells (text : List ℕ) (m : MapValue) : Type 0 where
@@ -62,17 +62,17 @@ pub record Spells (text : List ℕ) (m : MapValue) : Type 0 where
   pub map : m ≡ map_of definitions
 
 -- the place to which tokens lead, or the first one that is refused, and why
-unfoldable pub leads : Place → List Token → Result Place (TextFaultKind × Token)
-leads p [] = Ok p
-leads p (t ∷ ts) = elim (next p (item_of t)) [ Ok p' ↦ leads p' ts | Err f ↦ Err (f, t) ]
+unfoldable pub place_after : RowPlace → List TokenValue → Result RowPlace (TextFaultKind × TokenValue)
+place_after p [] = Ok p
+place_after p (t ∷ ts) = elim (next p (item_of t)) [ Ok p' ↦ place_after p' ts | Err f ↦ Err (f, t) ]
 
 -- a fault, its offset, and whether it stays whatever follows the text
-pub record Found : Type 0 where
+pub record FaultInText : Type 0 where
   pub kind : TextFaultKind
   pub offset : ℕ
   pub early : Bool
 
-abbrev pub found_in : Result Place (TextFaultKind × Token) → Result ℕ (TextFaultKind × ℕ) → Option Found
+abbrev pub found_in : Result RowPlace (TextFaultKind × TokenValue) → Result ℕ (TextFaultKind × ℕ) → Option FaultInText
 -- a token is refused where it stands
 found_in (Err (f, t)) end = Some (record { kind = f; offset = t.start; early = is_settled t })
 -- no token stands after the last
@@ -81,8 +81,8 @@ found_in (Ok p) (Err (f, q)) = Some (record { kind = f; offset = q; early = not 
 found_in (Ok p) (Ok q) =
     if may_end p then None else Some (record { kind = faults.EndInside; offset = q; early = false })
 
-abbrev pub fault_of : List ℕ → Option Found
-fault_of text = found_in (leads AtDefinition (tokens text)) (ending text)
+abbrev pub fault_of : List ℕ → Option FaultInText
+fault_of text = found_in (place_after AtDefinition (tokens text)) (ending text)
 
 abbrev pub FaultAt : List ℕ → TextFault → Bool → Type 0
 FaultAt text f early = (fault_of text ≡ Some (record { kind = f.kind; offset = f.offset; early = early }))
@@ -95,7 +95,7 @@ abbrev pub Early : List ℕ → TextFault → Type 0
 Early text f = FaultAt text f true
 
 -- the same token, but for whether the text ends after it
-abbrev pub IsSameToken : Token → Token → Type 0
+abbrev pub IsSameToken : TokenValue → TokenValue → Type 0
 IsSameToken t u = (t.kind ≡ u.kind) × (t.bytes ≡ u.bytes) × (t.start ≡ u.start)
 
 -- what reading a text to its end answers

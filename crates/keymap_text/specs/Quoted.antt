@@ -5,7 +5,7 @@ use Rattle.std.specs.Char.{IsScalar}
 use Rattle.keymap_text.specs.declared.fault.TextFaultKind.{TextFaultKind}
 use Rattle.keymap_text.specs.declared.fault.TextFaultKind.TheVariants as faults
 use Rattle.keymap_text.specs.declared.token.TokenKind.TheVariants.{Literal}
-use Rattle.keymap_text.specs.Lexical.{Token, is_empty}
+use Rattle.keymap_text.specs.Lexical.{TokenValue, is_empty}
 
 -- The bytes between the apostrophes: the UTF-8 of a character other than LF, or one byte from 0x80 on, which stands for
 -- the character of its number.
@@ -34,11 +34,11 @@ pub record IsUnfinished (bytes : List ℕ) : Type 0 where
   pub quoted : IsQuoted character (bytes ++ more)
 
 -- the token of a quoted character at the place q, with more bytes behind it
-abbrev pub quoted_token : ℕ → ℕ → List ℕ → List ℕ → Token
+abbrev pub quoted_token : ℕ → ℕ → List ℕ → List ℕ → TokenValue
 quoted_token q c bytes more = record { kind = Literal c; bytes = bytes; start = q; last = is_empty more }
 
 -- Why the first token of these bytes, or the fault in its place, is what it is.
-abbrev pub IsReason : List ℕ → Result (Option Token) (TextFaultKind × ℕ) → Type 0
+abbrev pub IsReason : List ℕ → Result (Option TokenValue) (TextFaultKind × ℕ) → Type 0
 IsReason bytes (Ok (Some t)) = BeginsQuoted bytes
 IsReason bytes (Err (faults.EndInside, q)) = IsUnfinished bytes
 IsReason bytes (Err (faults.BadLiteral, q)) = (¬ BeginsQuoted bytes) × (¬ IsUnfinished bytes)

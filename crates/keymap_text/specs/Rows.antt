@@ -61,26 +61,26 @@ unfoldable pub last : {A : Type 0} → (Definition → Option A) → List Defini
 last says [] = None
 last says (d ∷ ds) = option_or (last says ds) (says d)
 
--- one more than the slot, and than the accent, that a definition is of
-abbrev pub slots : Definition → ℕ
-slots (KeyDefinition s e) = s + 1
-slots (AccentDefinition i a) = 0
+-- how many slots, and how many accents, the definition needs
+abbrev pub slots_needed : Definition → ℕ
+slots_needed (KeyDefinition s e) = s + 1
+slots_needed (AccentDefinition i a) = 0
 
-abbrev pub indices : Definition → ℕ
-indices (KeyDefinition s e) = 0
-indices (AccentDefinition i a) = i + 1
+abbrev pub accents_needed : Definition → ℕ
+accents_needed (KeyDefinition s e) = 0
+accents_needed (AccentDefinition i a) = i + 1
 
 unfoldable pub greatest : (Definition → ℕ) → List Definition → ℕ
 greatest f [] = 0
 greatest f (d ∷ ds) = max (f d) (greatest f ds)
 
-abbrev pub or_else : {A : Type 0} → Option A → A → A
-or_else (Some x) d = x
-or_else None d = d
+abbrev pub or_default : {A : Type 0} → Option A → A → A
+or_default (Some x) d = x
+or_default None d = d
 
 -- Each entry and accent is what its last definition says, else undefined, up to the greatest that is defined.
 abbrev pub map_of : List Definition → MapValue
 map_of ds = record {
-  entries = map (λ slot. or_else (last (of_slot slot) ds) undefined) (range_with_len 0 (greatest slots ds));
-  accents = map (λ i. or_else (last (of_index i) ds) blank) (range_with_len 0 (greatest indices ds));
+  entries = map (λ slot. or_default (last (of_slot slot) ds) undefined) (range_with_len 0 (greatest slots_needed ds));
+  accents = map (λ i. or_default (last (of_index i) ds) blank) (range_with_len 0 (greatest accents_needed ds));
 }

@@ -41,7 +41,7 @@ pub record FailsInside (old new : Option (List ℕ)) (f : ReadFault) : Type 0 wh
   pub sound : HasNoEarlyFault text
 
 -- One byte more than the limit was taken, and the bytes up to the limit have no early fault.
-pub record GoesPast (old new : Option (List ℕ)) (f : ReadFault) : Type 0 where
+pub record TextGoesPast (old new : Option (List ℕ)) (f : ReadFault) : Type 0 where
   pub text : List ℕ
   pub next : ℕ
   pub taken : Consumes old new (text ++ next ∷ [])
@@ -49,16 +49,16 @@ pub record GoesPast (old new : Option (List ℕ)) (f : ReadFault) : Type 0 where
   pub offset : f.offset ≡ limit
   pub sound : HasNoEarlyFault text
 
-abbrev pub StopsReading : Option (List ℕ) → Option (List ℕ) → ReadFault → ReadFaultKind → Type 0
-StopsReading old new f kinds.Device = FailsInside old new f
-StopsReading old new f kinds.Endless = GoesPast old new f
+abbrev pub StopsReadingText : Option (List ℕ) → Option (List ℕ) → ReadFault → ReadFaultKind → Type 0
+StopsReadingText old new f kinds.Device = FailsInside old new f
+StopsReadingText old new f kinds.Endless = TextGoesPast old new f
 
 -- The map of the whole text, or its fault, or an early fault of the bytes taken, or a fault of the device. Where the
 -- map got no memory nothing was read.
 abbrev pub ReadsMap : Option (List ℕ) → Option (List ℕ) → Result MapValue TextError → Type 0
 ReadsMap old new (Ok m) = (text : List ℕ) × TakesWhole old new text × Spells text m
 ReadsMap old new (Err errors.Memory) = Keeps old new
-ReadsMap old new (Err (errors.Read f)) = StopsReading old new f f.kind
+ReadsMap old new (Err (errors.Read f)) = StopsReadingText old new f f.kind
 ReadsMap old new (Err (errors.Fault f)) = (text : List ℕ) × ((TakesText old new text
     × Early text f) ⊎ (TakesWhole old new text × Fault text f))
 
@@ -81,8 +81,8 @@ abbrev pub is_device : ReadFaultKind → Bool
 is_device kinds.Device = true
 is_device kinds.Endless = false
 
-abbrev pub names_device : Result MapValue TextError → Bool
-names_device (Ok m) = false
-names_device (Err errors.Memory) = false
-names_device (Err (errors.Read f)) = is_device f.kind
-names_device (Err (errors.Fault f)) = false
+abbrev pub blames_reader : Result MapValue TextError → Bool
+blames_reader (Ok m) = false
+blames_reader (Err errors.Memory) = false
+blames_reader (Err (errors.Read f)) = is_device f.kind
+blames_reader (Err (errors.Fault f)) = false

@@ -82,9 +82,10 @@ sense_meaning senses.PowerDown = Act actions.PowerDown
 sense_meaning senses.Paste = Act actions.Paste
 
 -- the same as named, of the names as the code has them
-unfoldable pub look : List Name → List ℕ → Option Meaning
-look [] w = None
-look (name ∷ names) w = if same_name (letters name.0) w then Some (sense_meaning name.1) else look names w
+unfoldable pub meaning_by_names : List Name → List ℕ → Option Meaning
+meaning_by_names [] w = None
+meaning_by_names (name ∷ names) w =
+    if same_name (letters name.0) w then Some (sense_meaning name.1) else meaning_by_names names w
 
 abbrev pub is_digit : ℕ → ℕ → Bool
 is_digit base c = nat_lt (digit_value c) base

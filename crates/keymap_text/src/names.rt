@@ -4,8 +4,9 @@ ghost use Rattle.std.specs.Prelude.{◌≡◌, ◌==◌, ◌⊎◌, ◌≤◌, �
 ghost use Rattle.std.specs.Prelude.{None};
 ghost use Rattle.std.specs.Char.{to_ascii_lowercase};
 ghost use Rattle.keymap_text.specs.Lexical.{leading, is_word};
-ghost use Rattle.keymap_text.specs.Words.{meaning, is_letter, letters, same_name, sense_meaning, look, named, table};
-ghost use Rattle.keymap_text.specs.Inner.Keys.{pack, Means, IsTrueName, function_name, screen_name};
+ghost use Rattle.keymap_text.specs.Words.{meaning, is_letter, letters, same_name, sense_meaning, meaning_by_names};
+ghost use Rattle.keymap_text.specs.Words.{named, table};
+ghost use Rattle.keymap_text.specs.Inner.Keys.{pack, KeyMeans, IsTrueName, function_name, screen_name};
 ghost use Rattle.keymap_text.specs.Printed as printed;
 
 use crate::words::Meaning;
@@ -129,7 +130,7 @@ pub(crate) fn control_name(c: u8) -> &'static [u8]
 /// What the first of these names means that is the word, without regard to case.
 #[tactic(auto, using(crate::proofs::Numbers::look_rules))]
 fn lookup(names: &[Name], word: &[u8]) -> Option<Meaning>
-    ensures { result ≡ look names.now word.now }
+    ensures { result ≡ meaning_by_names names.now word.now }
 {
     for name in names {
         if is_name(name, word) {
@@ -205,7 +206,7 @@ fn key_at_end(bytes: &[u8], n: usize) -> u64
 #[inline(always)]
 fn key_meaning(names: &[Name], key: u64) -> Option<Meaning>
     requires { All IsTrueName names.now }
-    ensures { IfSome result (Means key) }
+    ensures { IfSome result (KeyMeans key) }
 {
     let place = PLACES[(key.wrapping_mul(SPREAD) / 0x100_0000_0000_0000) as usize] as usize;
     if place < names.len() && u64::from_le_bytes(names[place].0) == key {
@@ -236,7 +237,7 @@ fn screen_key(n: u64) -> u64
 /// The meaning of the words with this key, if they are the name of a function key or a screen, with two digits.
 #[inline(always)]
 fn numbered_meaning(key: u64) -> Option<Meaning>
-    ensures { IfSome result (Means key) }
+    ensures { IfSome result (KeyMeans key) }
 {
     let n = key / 0x1_0000_0000 % 16 * 10 + key / 0x100_0000_0000 % 16;
     if n > 0 && n <= 96 && key == function_key(n) {

@@ -2,7 +2,7 @@
 ghost use Rattle.std.specs.Prelude.{◌≡◌, ℕ, ◌+◌, ◌<◌, ◌^◌, ◌++◌, [], List, IfOk, length, MatchResult, Some, Err};
 ghost use Rattle.keymap_text.specs.Meaning.{Means, Concludes, Reads};
 ghost use Rattle.keymap_text.specs.Standing.{StandsAfter, FedAfter};
-ghost use Rattle.keymap_text.specs.declared.fault.TextFault.{TextFault as Found};
+ghost use Rattle.keymap_text.specs.declared.fault.TextFault.{TextFault as TextFaultValue};
 
 use crate::fault::{TextError, TextFault};
 use crate::scanner::Scanner;
@@ -57,7 +57,7 @@ impl MapReader {
         ensures stands { (b : List ℕ) → StandsAfter self.old b → FedAfter result self.new (b ++ piece.now) }
         ensures fed { MatchResult result (λ _. self.new.fed ≡ self.old.fed + length piece.now)
             (λ _. self.new.fed ≡ self.old.fed) }
-        ensures stays { (f : Found) → self.old.fault ≡ Some f → (result ≡ Err f) × (self.new.fault ≡ Some f) }
+        ensures stays { (f : TextFaultValue) → self.old.fault ≡ Some f → (result ≡ Err f) × (self.new.fault ≡ Some f) }
     {
         if let Some(f) = self.fault {
             return Err(f);
@@ -77,7 +77,7 @@ impl MapReader {
     /// The text ends here: the map that it spells, or its fault.
     pub fn finish(self) -> Result<KeyMap, TextFault>
         ensures means { (b : List ℕ) → StandsAfter self b → Means result b }
-        ensures stays { (f : Found) → self.fault ≡ Some f → result ≡ Err f }
+        ensures stays { (f : TextFaultValue) → self.fault ≡ Some f → result ≡ Err f }
     {
         match self.fault {
             Some(f) => Err(f),

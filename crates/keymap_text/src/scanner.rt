@@ -6,7 +6,7 @@ ghost use Rattle.keymap_text.specs.Inner.Judging.{verdict, ended};
 ghost use Rattle.keymap_text.specs.Words.{item, meaning};
 ghost use Rattle.keymap_text.specs.Inner.Views.{state_view, front_view, FoundFits, IsPlace};
 ghost use Rattle.keymap_text.specs.Inner.Resuming.{resume, Takes, Advances, Fronts, IsReader, Accepts, HasNoRole, Says};
-ghost use Rattle.keymap_text.specs.Inner.Resuming.{IsPending, Took, line_feed};
+ghost use Rattle.keymap_text.specs.Inner.Resuming.{IsFaultOfPending, Took, line_feed};
 ghost use Rattle.keymap_text.specs.Inner.Grammar as spec;
 ghost use Rattle.keymap_core.specs.Numbers.{column_count};
 
@@ -160,7 +160,7 @@ impl Scanner {
         requires reader { IsReader self }
         requires room { self.offset + length self.pending.items < 2 ^ 63 }
         ensures says { Says result (resume self []) }
-        ensures place { IfErr result (λ e. IsPending e self) }
+        ensures place { IfErr result (λ e. IsFaultOfPending e self) }
     {
         match self.mode {
             Mode::Between => self.end(),

@@ -1,6 +1,6 @@
 //! Reading a text from a device.
 ghost use Rattle.std.specs.Prelude.{◌≡◌, ◌||◌, IfErr};
-ghost use Rattle.keymap_text.specs.Sources.{ReadsMap, StopsAtOnce, names_device};
+ghost use Rattle.keymap_text.specs.Sources.{ReadsMap, StopsAtOnce, blames_reader};
 
 use crate::fault::TextError;
 use crate::reader::{MapReader, conclude};
@@ -27,7 +27,7 @@ fn read_fault(offset: usize, kind: ReadFaultKind) -> TextError
 pub fn read_from<R: Read>(alloc: Global, reader: &mut R) -> Result<KeyMap, TextError>
     ensures reads { ReadsMap (R.remaining reader.old) (R.remaining reader.new) result }
     ensures at_once { IfErr result (StopsAtOnce (R.remaining reader.old) (R.remaining reader.new)) }
-    ensures failed { R.has_failed reader.new ≡ (names_device result || R.has_failed reader.old) }
+    ensures failed { R.has_failed reader.new ≡ (blames_reader result || R.has_failed reader.old) }
 {
     let Ok(mut text) = MapReader::new(alloc) else {
         return Err(TextError::Memory);

@@ -4,7 +4,7 @@ ghost use Rattle.std.specs.Prelude.{IfSome, IfErr};
 ghost use Rattle.keymap_text.specs.Lexical as lexical;
 ghost use Rattle.keymap_text.specs.Inner.Keys.{first_of_sixteen};
 ghost use Rattle.keymap_text.specs.Lexical.{is_blank, is_space, is_word, stays_on_line, separates, leading, is_lone};
-ghost use Rattle.keymap_text.specs.Lexical.{literal, word, front, split, first};
+ghost use Rattle.keymap_text.specs.Lexical.{literal, word, front_of, tokens_after, first};
 ghost use Rattle.keymap_text.specs.Meaning.{line};
 ghost use Rattle.keymap_text.specs.Tokens.{result_view};
 ghost use Rattle.keymap_text.specs.Inner.Views.{front_view, FoundFits};
@@ -242,11 +242,11 @@ pub(crate) fn literal_front(bytes: &[u8]) -> Front
 }
 
 /// What stands at the front of some bytes that begin with neither a blank nor a comment.
-#[tactic(auto, unfolding(crate::specs::Lexical::front))]
+#[tactic(auto, unfolding(crate::specs::Lexical::front_of))]
 fn token_front(bytes: &[u8]) -> Front
     requires some { 0 < length bytes.now }
     requires stands { IsFalse (separates (slice_index bytes.now 0)) }
-    ensures value { front_view result ≡ front (slice_index bytes.now 0) (drop 1 bytes.now) }
+    ensures value { front_view result ≡ front_of (slice_index bytes.now 0) (drop 1 bytes.now) }
     ensures fits { FoundFits result (length (drop 1 bytes.now)) }
 {
     let c = bytes[0];
@@ -259,7 +259,7 @@ fn token_front(bytes: &[u8]) -> Front
     }
 }
 
-#[tactic(auto, unfolding(crate::specs::Lexical::front))]
+#[tactic(auto, unfolding(crate::specs::Lexical::front_of))]
 fn word_front(c: u8, rest: &[u8]) -> Front
     ensures value { front_view result ≡ if is_word c then word (leading is_word rest.now)
         else lexical.Refused TextFaultKind.BadByte }
@@ -280,7 +280,7 @@ fn word_front(c: u8, rest: &[u8]) -> Front
 fn token_start(text: &[u8], at: usize) -> usize
     requires { at ≤ length text.now }
     ensures length { result ≤ length text.now }
-    ensures same { split 0 at (drop at text.now) ≡ split 0 result (drop result text.now) }
+    ensures same { tokens_after 0 at (drop at text.now) ≡ tokens_after 0 result (drop result text.now) }
     ensures stands { result < length text.now → IsFalse (separates (slice_index text.now result)) }
 {
     let mut i = at;
@@ -320,7 +320,7 @@ fn fault_at(text: &[u8], place: usize, kind: TextFaultKind) -> TextFault
 /// The first token of the bytes from `at` on, after blanks and comments; none where the text ends there.
 pub fn next_token(text: &[u8], at: usize) -> Result<Option<Token<'_>>, TextFault>
     requires { at ≤ length text.now }
-    ensures exact { result_view text.now result ≡ first (split 0 at (drop at text.now)) }
+    ensures exact { result_view text.now result ≡ first (tokens_after 0 at (drop at text.now)) }
     ensures span { IfOk result (λ token. IfSome token (λ t. t.span.end ≡ t.span.start + length t.slice.now)) }
     ensures line { IfErr result (λ f. f.line ≡ line text.now f.offset) }
 {

@@ -3,9 +3,9 @@ use Rattle.std.proofs.Common.{◌≡◌, ℕ, ◌<◌, ◌+◌, List, [], ◌∷
 use Rattle.std.specs.Prelude.{map, reverse}
 use Rattle.std.proofs.lemmas.List.{take_more, map-append}
 use Rattle.console_core.specs.declared.event.Event.{Event}
-use Rattle.console_core.specs.History.{Maps, AnswerTo, AnswersTo}
+use Rattle.console_core.specs.History.{Maps, answer_to, answers_to}
 use Rattle.console_core.specs.Raw.{raw_of}
-use Rattle.console_core.proofs.Deliveries.{AnswersTo-push}
+use Rattle.console_core.proofs.Deliveries.{answers_to-push}
 use Rattle.kmap_c.specs.Numbers.{event_of}
 
 -- the events delivered so far, with one more
@@ -17,9 +17,9 @@ events-push numbers i e is below =
     ∙ ap (λ (x : Event). map event_of (take i numbers) ++ x ∷ []) (sym is)
 
 -- the answers so far, with that to one more event
-pub answers-push : (ms : Maps) (h es : List Event) (e : Event) (n : ℕ) → n ≡ raw_of (AnswerTo ms (reverse es ++ h) e)
-    → map raw_of (AnswersTo ms h es) ++ n ∷ [] ≡ map raw_of (AnswersTo ms h (es ++ e ∷ []))
+pub answers-push : (ms : Maps) (h es : List Event) (e : Event) (n : ℕ) → n ≡ raw_of (answer_to ms (reverse es ++ h) e)
+    → map raw_of (answers_to ms h es) ++ n ∷ [] ≡ map raw_of (answers_to ms h (es ++ e ∷ []))
 answers-push ms h es e n is =
-    ap (λ (k : ℕ). map raw_of (AnswersTo ms h es) ++ k ∷ []) is
-    ∙ sym (ap (map raw_of) (AnswersTo-push ms h es e)
-    ∙ map-append raw_of (AnswersTo ms h es) (AnswerTo ms (reverse es ++ h) e ∷ []))
+    ap (λ (k : ℕ). map raw_of (answers_to ms h es) ++ k ∷ []) is
+    ∙ sym (ap (map raw_of) (answers_to-push ms h es e)
+    ∙ map-append raw_of (answers_to ms h es) (answer_to ms (reverse es ++ h) e ∷ []))

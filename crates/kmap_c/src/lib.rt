@@ -15,7 +15,8 @@ ghost use Rattle.keymap_core.specs.declared.action.Lock.{Lock};
 ghost use Rattle.keymap_tables.specs.Faults.{IsTableFault};
 ghost use Rattle.keymap_tables.specs.Image.{image};
 ghost use Rattle.keymap_tables.specs.declared.fault.TableFault.{TableFault as TableFaultValue};
-ghost use Rattle.console_core.specs.History.{Maps, between, AnswerTo, AnswersTo, On, Locked, Pending};
+ghost use Rattle.console_core.specs.History.{Maps, between, answer_to, answers_to, is_on_after, is_locked_after};
+ghost use Rattle.console_core.specs.History.{accent_pending_after};
 ghost use Rattle.console_core.specs.Packed.{KeptAt};
 ghost use Rattle.console_core.specs.Raw.{raw_of};
 ghost use Rattle.console_core.specs.Words.{bit_is_set};
@@ -145,7 +146,7 @@ pub extern "C" fn kmap_step_between(
         → KeptAt (between m n) (event_of_number event ∷ h) console.new.store }
     ensures answer { (m n : MapValue) (h : List EventValue) → IsMap m → IsMap n → first.now ≡ image m
         → second.now ≡ image n → KeptAt (between m n) h console.old.store → result ≡ pos 0
-        → answer.new ≡ raw_of (AnswerTo (between m n) h (event_of_number event)) }
+        → answer.new ≡ raw_of (answer_to (between m n) h (event_of_number event)) }
 {
     let Some(first) = Tables::new(first) else {
         return BAD_LENGTH;
@@ -175,7 +176,7 @@ pub extern "C" fn kmap_step(
         → KeptAt (between m m) (event_of_number event ∷ h) console.new.store }
     ensures answer { (m : MapValue) (h : List EventValue) → IsMap m → tables.now ≡ image m
         → KeptAt (between m m) h console.old.store → result ≡ pos 0
-        → answer.new ≡ raw_of (AnswerTo (between m m) h (event_of_number event)) }
+        → answer.new ≡ raw_of (answer_to (between m m) h (event_of_number event)) }
 {
     kmap_step_between(tables, tables, console, event, answer)
 }
@@ -193,7 +194,7 @@ fn deliver_all<K: Keymap>(
         → KeptAt ms h store.old → KeptAt ms (reverse (map event_of_number events.now) ++ h) store.new }
     ensures answers { (ms : Maps) (h : List EventValue) → K.shows first.now ms.first → K.shows second.now ms.second
         → KeptAt ms h store.old
-        → take (length events.now) answers.new ≡ map raw_of (AnswersTo ms h (map event_of_number events.now)) }
+        → take (length events.now) answers.new ≡ map raw_of (answers_to ms h (map event_of_number events.now)) }
     ensures rest { drop (length events.now) answers.new ≡ drop (length events.now) answers.old }
 {
     for index in 0..events.len() {
@@ -218,7 +219,7 @@ pub extern "C" fn kmap_deliver(
     ensures answers { (m n : MapValue) (h : List EventValue) → IsMap m → IsMap n → first.now ≡ image m
         → second.now ≡ image n → KeptAt (between m n) h console.old.store → result ≡ pos 0
         → take (length events.now) answers.new
-        ≡ map raw_of (AnswersTo (between m n) h (map event_of_number events.now)) }
+        ≡ map raw_of (answers_to (between m n) h (map event_of_number events.now)) }
     ensures rest { drop (length events.now) answers.new ≡ drop (length events.now) answers.old }
 {
     let Some(first) = Tables::new(first) else {
@@ -241,7 +242,7 @@ pub extern "C" fn kmap_deliver(
 #[unsafe(no_mangle)]
 pub extern "C" fn kmap_modifiers(console: &KmapConsole) -> u8
     ensures { (ms : Maps) (h : List EventValue) → KeptAt ms h console.now.store
-        → (i : Modifier) → bit_is_set result (modifier_index i) ≡ On ms i h }
+        → (i : Modifier) → bit_is_set result (modifier_index i) ≡ is_on_after ms i h }
 {
     modifiers_kept(&console.store)
 }
@@ -250,7 +251,7 @@ pub extern "C" fn kmap_modifiers(console: &KmapConsole) -> u8
 #[unsafe(no_mangle)]
 pub extern "C" fn kmap_locks(console: &KmapConsole) -> u8
     ensures { (ms : Maps) (h : List EventValue) → KeptAt ms h console.now.store
-        → (l : Lock) → bit_is_set result (lock_index l) ≡ Locked ms l h }
+        → (l : Lock) → bit_is_set result (lock_index l) ≡ is_locked_after ms l h }
 {
     locks_kept(&console.store)
 }
@@ -259,7 +260,7 @@ pub extern "C" fn kmap_locks(console: &KmapConsole) -> u8
 #[unsafe(no_mangle)]
 pub extern "C" fn kmap_pending(console: &KmapConsole) -> i32
     ensures { (ms : Maps) (h : List EventValue) → KeptAt ms h console.now.store
-        → result ≡ accent_number (Pending ms h) }
+        → result ≡ accent_number (accent_pending_after ms h) }
 {
     match pending_kept(&console.store) {
         Some(index) => i32::from(index),

@@ -42,12 +42,12 @@ steady_text true = codes " steady"
 steady_text false = []
 
 -- only a lock can be steady
-abbrev pub is_steady : ReportValue → Holding → Bool
-is_steady r (holding.Mod m) = false
-is_steady r (holding.Lock l) = is_steady_in r l
+abbrev pub is_reported_steady : ReportValue → Holding → Bool
+is_reported_steady r (holding.Mod m) = false
+is_reported_steady r (holding.Lock l) = is_steady_in r l
 
 abbrev pub holding_line : ReportValue → Holding → List ℕ
-holding_line r a = holding_name a ++ bearer_text (bearer_in r a) ++ steady_text (is_steady r a) ++ codes "\n"
+holding_line r a = holding_name a ++ bearer_text (bearer_in r a) ++ steady_text (is_reported_steady r a) ++ codes "\n"
 
 abbrev pub check_text : ReportValue → List ℕ
 check_text r = verdict_line r.findings ++ flat_map finding_line r.findings ++ flat_map (holding_line r) holdings

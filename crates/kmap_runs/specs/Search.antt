@@ -8,7 +8,7 @@ use Rattle.keymap_core.specs.Maps.{MapValue}
 use Rattle.console_core.specs.declared.event.Event.{Event}
 use Rattle.console_core.specs.declared.outcome.Sticking.{Sticking}
 use Rattle.console_core.specs.declared.outcome.Sticking.TheVariants.{Sticks, Never, Undecided}
-use Rattle.console_core.specs.History.{On, between}
+use Rattle.console_core.specs.History.{is_on_after, between}
 use Rattle.kmap_runs.specs.Report.{holding_name, event_line}
 
 -- the name of a modifier that is on, after a blank
@@ -18,7 +18,8 @@ name_if_on is_on i = if is_on i then 32 ∷ holding_name (holding.Mod i) else []
 -- which modifiers are on after the events, and a line for each event
 abbrev pub script_text : MapValue → List Event → List ℕ
 script_text m events =
-    codes "# sticks:" ++ flat_map (name_if_on (λ i. On (between m m) i (reverse events))) modifiers ++ codes "\n"
+    codes "# sticks:" ++ flat_map (name_if_on
+        (λ i. is_on_after (between m m) i (reverse events))) modifiers ++ codes "\n"
     ++ flat_map event_line events
 
 abbrev pub found_text : MapValue → Sticking → List ℕ

@@ -32,7 +32,7 @@ pub record Types (text sentence : Moves) (m : MapValue) (cs : List ℕ) : Type 0
   pub typed : IsTyped m bytes cs
 
 -- The text spells a map, the sentence was read whole, and this keeps it from being typed.
-pub record Refuses (text sentence : Moves) (e : RunError) : Type 0 where
+pub record RefusesTyping (text sentence : Moves) (e : RunError) : Type 0 where
   pub map : MapValue
   pub reads : ReadsMap text.old text.new (Ok map)
   pub bytes : List ℕ
@@ -53,16 +53,18 @@ TypesSentence text sentence out (Err (error.ReadText f)) =
     ReadsMap text.old text.new (Err (text_errors.Read f)) × Stays sentence × Stays out
 TypesSentence text sentence out (Err (error.ReadSentence f)) =
     (m : MapValue) × ReadsMap text.old text.new (Ok m) × StopsReading sentence f f.kind × Stays out
-TypesSentence text sentence out (Err (error.NotText offset)) = Refuses text sentence (error.NotText offset) × Stays out
-TypesSentence text sentence out (Err (error.NoWay offset c)) = Refuses text sentence (error.NoWay offset c) × Stays out
+TypesSentence text sentence out (Err (error.NotText offset)) = RefusesTyping text sentence (error.NotText offset)
+    × Stays out
+TypesSentence text sentence out (Err (error.NoWay offset c)) = RefusesTyping text sentence (error.NoWay offset c)
+    × Stays out
 TypesSentence text sentence out (Err error.Memory) = Stays out
 TypesSentence text sentence out (Err _) = ⊥
 
 -- the error names the sentence's reader as what failed
-abbrev pub names_sentence : RunError → Bool
-names_sentence (error.ReadSentence f) = is_device f.kind
-names_sentence _ = false
+abbrev pub error_blames_sentence : RunError → Bool
+error_blames_sentence (error.ReadSentence f) = is_device f.kind
+error_blames_sentence _ = false
 
 abbrev pub blames_sentence : {X : Type 0} → Result X RunError → Bool
 blames_sentence (Ok _) = false
-blames_sentence (Err e) = names_sentence e
+blames_sentence (Err e) = error_blames_sentence e

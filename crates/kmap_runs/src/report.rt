@@ -83,7 +83,7 @@ fn append_bearer(text: &mut Text, bearer: Bearer)
 
 /// Whether the holding action is a steady lock.
 fn is_steady(report: &Report, holding: Holding) -> bool
-    ensures { result ≡ spec.is_steady report.now holding }
+    ensures { result ≡ spec.is_reported_steady report.now holding }
 {
     match holding {
         Holding::Mod(_) => false,

@@ -2,7 +2,7 @@
 ghost use Rattle.std.specs.Prelude.{◌≡◌, ◌++◌, [], ◌∷◌, List, reverse, IfOk, OnOk};
 ghost use Rattle.std.specs.List.{flat_map};
 ghost use Rattle.console_core.specs.declared.event.Event.{Event as EventValue};
-ghost use Rattle.console_core.specs.History.{Maps, On, between};
+ghost use Rattle.console_core.specs.History.{Maps, is_on_after, between};
 ghost use Rattle.kmap_runs.specs.Report.{event_line as event_line_of};
 ghost use Rattle.kmap_runs.specs.Search as spec;
 
@@ -59,7 +59,7 @@ fn push_name<T: Translator>(
     modifier: Modifier,
 ) -> Result<(), AllocError>
     ensures { OnOk result ((ms : Maps) (h : List EventValue) → T.stands console.now ms h
-        → text.new.items ≡ text.old.items ++ spec.name_if_on (λ i. On ms i h) modifier) }
+        → text.new.items ≡ text.old.items ++ spec.name_if_on (λ i. is_on_after ms i h) modifier) }
 {
     if console.on(modifier) {
         text.push(b' ')?;
@@ -75,7 +75,7 @@ fn push_names<T: Translator>(
     modifiers: &[Modifier],
 ) -> Result<(), AllocError>
     ensures { OnOk result ((ms : Maps) (h : List EventValue) → T.stands console.now ms h
-        → text.new.items ≡ text.old.items ++ flat_map (spec.name_if_on (λ i. On ms i h)) modifiers.now) }
+        → text.new.items ≡ text.old.items ++ flat_map (spec.name_if_on (λ i. is_on_after ms i h)) modifiers.now) }
 {
     for modifier in modifiers {
         push_name(text, console, *modifier)?;

@@ -5,7 +5,7 @@ ghost use Rattle.play_core.specs.Playing.{moves};
 ghost use Rattle.play_core.specs.Typing.{IsTyped};
 ghost use Rattle.kmap_runs.specs.Typing.{typing_script as typing_script_of};
 ghost use Rattle.kmap_runs.specs.Runs.{blames_reader, blames_writer};
-ghost use Rattle.kmap_runs.specs.TypeRuns.{TypesSentence, RefusesSentence, LacksScript, names_sentence, blames_sentence};
+ghost use Rattle.kmap_runs.specs.TypeRuns.{TypesSentence, RefusesSentence, LacksScript, error_blames_sentence, blames_sentence};
 
 use crate::fault_line::RunError;
 use crate::runs::text_failure;
@@ -24,7 +24,7 @@ fn read_sentence<S: Read>(alloc: Global, sentence: &mut S) -> Result<Vec<u8>, Ru
         (λ bytes. TakesWhole (S.remaining sentence.old) (S.remaining sentence.new) bytes.items)
         (RefusesSentence (moves (S.remaining sentence.old) (S.remaining sentence.new))) }
     ensures failed { MatchResult result (λ _. S.has_failed sentence.new ≡ S.has_failed sentence.old)
-        (λ e. S.has_failed sentence.new ≡ (names_sentence e || S.has_failed sentence.old)) }
+        (λ e. S.has_failed sentence.new ≡ (error_blames_sentence e || S.has_failed sentence.old)) }
 {
     let bytes = match read_up_to(alloc, sentence, LIMIT + 1) {
         Ok(bytes) => bytes,

@@ -10,7 +10,7 @@ use Rattle.std.proofs.lemmas.List.Sums.{prefix_len-le-length}
 use Rattle.std.proofs.lemmas.List.Quantifiers.{position-Some}
 use Rattle.std.proofs.Math.Seq.{drop-length}
 use Rattle.std.proofs.lemmas.Bool.{ltb-false, not-true}
-use Rattle.play_core.specs.Scripts.{is_blank, is_there, words_in}
+use Rattle.play_core.specs.Scripts.{separates_words, is_there, words_in}
 
 -- a position that is found or not, under a condition
 at_cond : (b : Bool) (n len : ℕ) → (b ≡ false → len ≡ n) → unwrap_or (cond b (Some n) None) len ≡ n
@@ -28,21 +28,22 @@ one_more : (n : ℕ) → 1 + n ≡ suc n
 one_more n = omega arith
 
 -- a blank in front is passed over
-blank_first : (b : ℕ) (bs : List ℕ) → is_blank b ≡ true → words_in (b ∷ bs) ≡ words_in bs
+blank_first : (b : ℕ) (bs : List ℕ) → separates_words b ≡ true → words_in (b ∷ bs) ≡ words_in bs
 unfolding words_in
 blank_first b bs e = rw e refl
 
 -- the step of passing over blanks, by the class of the first byte
-skipped : (t : Bool) (b : ℕ) (bs : List ℕ) → is_blank b ≡ t
-    → words_in (drop (position_or_len (λ b. not (is_blank b)) bs) bs) ≡ words_in bs
-    → words_in (drop (position_or_len (λ b. not (is_blank b)) (b ∷ bs)) (b ∷ bs)) ≡ words_in (b ∷ bs)
+skipped : (t : Bool) (b : ℕ) (bs : List ℕ) → separates_words b ≡ t
+    → words_in (drop (position_or_len (λ b. not (separates_words b)) bs) bs) ≡ words_in bs
+    → words_in (drop (position_or_len (λ b. not (separates_words b)) (b ∷ bs)) (b ∷ bs)) ≡ words_in (b ∷ bs)
 skipped true b bs e rest = rw (e, one_more) (rest ∙ sym (blank_first b bs e))
 skipped false b bs e rest = rw e refl
 
 -- the words begin behind the blanks
-pub words_behind_blanks : (bs : List ℕ) → words_in (drop (position_or_len (λ b. not (is_blank b)) bs) bs) ≡ words_in bs
+pub words_behind_blanks : (bs : List ℕ)
+    → words_in (drop (position_or_len (λ b. not (separates_words b)) bs) bs) ≡ words_in bs
 words_behind_blanks [] = refl
-words_behind_blanks (b ∷ bs) = skipped (is_blank b) b bs refl (words_behind_blanks bs)
+words_behind_blanks (b ∷ bs) = skipped (separates_words b) b bs refl (words_behind_blanks bs)
 
 -- an empty line has no words
 pub no_words : words_in [] ≡ []
@@ -52,63 +53,65 @@ no_words = refl
 -- the parts of a list begin with the part up to the first blank
 abbrev HasFront : List ℕ → ℕ → Type 0
 HasFront bs n =
-    (rest : List (List ℕ)) × (slice_split is_blank bs ≡ take n bs ∷ rest)
+    (rest : List (List ℕ)) × (slice_split separates_words bs ≡ take n bs ∷ rest)
     × (filter is_there rest ≡ words_in (drop n bs))
 
 -- one more byte of the front of a line, by its class
-front_more : (t : Bool) (b : ℕ) (bs : List ℕ) → is_blank b ≡ t → HasFront bs (position_or_len is_blank bs)
-    → HasFront (b ∷ bs) (position_or_len is_blank (b ∷ bs))
+front_more : (t : Bool) (b : ℕ) (bs : List ℕ) → separates_words b ≡ t → HasFront bs (position_or_len separates_words bs)
+    → HasFront (b ∷ bs) (position_or_len separates_words (b ∷ bs))
 unfolding words_in
-front_more true b bs e rest = rw e (slice_split is_blank bs, refl, sym (blank_first b bs e))
+front_more true b bs e rest = rw e (slice_split separates_words bs, refl, sym (blank_first b bs e))
 front_more false b bs e rest = rw (e, one_more) (rest.0, ap (onto_first b) rest.1, rest.2)
 
 -- each line has a front that ends at its first blank
-front : (bs : List ℕ) → HasFront bs (position_or_len is_blank bs)
+front : (bs : List ℕ) → HasFront bs (position_or_len separates_words bs)
 unfolding words_in
 front [] = ([], refl, refl)
-front (b ∷ bs) = front_more (is_blank b) b bs refl (front bs)
+front (b ∷ bs) = front_more (separates_words b) b bs refl (front bs)
 
 -- the first word ends at the first blank
-pub words_from_first : (b : ℕ) (bs : List ℕ) → is_blank b ≡ false
+pub words_from_first : (b : ℕ) (bs : List ℕ) → separates_words b ≡ false
     → words_in (b ∷ bs)
-    ≡ take (position_or_len is_blank (b ∷ bs)) (b ∷ bs)
-    ∷ words_in (drop (position_or_len is_blank (b ∷ bs)) (b ∷ bs))
+    ≡ take (position_or_len separates_words (b ∷ bs)) (b ∷ bs)
+    ∷ words_in (drop (position_or_len separates_words (b ∷ bs)) (b ∷ bs))
 unfolding words_in
 words_from_first b bs e =
     let parts = front bs in
     rw (e, one_more)
     (ap (λ l. filter is_there (onto_first b l)) parts.1
-    ∙ ap (λ l. (b ∷ take (position_or_len is_blank bs) bs) ∷ l) parts.2)
+    ∙ ap (λ l. (b ∷ take (position_or_len separates_words bs) bs) ∷ l) parts.2)
 
 -- a line of blanks alone
-pub no_word : (bs : List ℕ) → None ≡ position (λ b. not (is_blank b)) bs → words_in bs ≡ []
+pub no_word : (bs : List ℕ) → None ≡ position (λ b. not (separates_words b)) bs → words_in bs ≡ []
 no_word bs e =
     sym (words_behind_blanks bs)
     ∙ ap (λ n. words_in (drop n bs))
-    (sym (unwrap_position (λ b. not (is_blank b)) bs) ∙ ap (λ o. unwrap_or o (length bs)) (sym e))
+    (sym (unwrap_position (λ b. not (separates_words b)) bs) ∙ ap (λ o. unwrap_or o (length bs)) (sym e))
     ∙ ap words_in (drop-length bs)
     ∙ no_words
 
 -- the words of a line begin where its first byte that is no blank stands
-word_at : (bs : List ℕ) (start : ℕ) → position (λ b. not (is_blank b)) bs ≡ Some start
+word_at : (bs : List ℕ) (start : ℕ) → position (λ b. not (separates_words b)) bs ≡ Some start
     → words_in bs ≡ words_in (get_or bs start 0 ∷ drop (suc start) bs)
 word_at bs start e =
-    let found = position-Some (λ b. not (is_blank b)) bs start 0 e in
-    let same : start ≡ position_or_len (λ b. not (is_blank b)) bs =
-    ap (λ o. unwrap_or o (length bs)) (sym e) ∙ unwrap_position (λ b. not (is_blank b)) bs in
+    let found = position-Some (λ b. not (separates_words b)) bs start 0 e in
+    let same : start ≡ position_or_len (λ b. not (separates_words b)) bs =
+    ap (λ o. unwrap_or o (length bs)) (sym e) ∙ unwrap_position (λ b. not (separates_words b)) bs in
     sym (words_behind_blanks bs) ∙ ap (λ n. words_in (drop n bs)) (sym same)
     ∙ ap words_in (drop-cons bs start 0 found.0)
 
 -- the first word, and the words behind it
-pub next_words : (bs : List ℕ) (start end : ℕ) → position (λ b. not (is_blank b)) bs ≡ Some start
-    → end ≡ unwrap_or (position is_blank (drop start bs)) (length (drop start bs))
+pub next_words : (bs : List ℕ) (start end : ℕ) → position (λ b. not (separates_words b)) bs ≡ Some start
+    → end ≡ unwrap_or (position separates_words (drop start bs)) (length (drop start bs))
     → words_in bs ≡ take end (drop start bs) ∷ words_in (drop end (drop start bs))
 next_words bs start end e f =
-    let found = position-Some (λ b. not (is_blank b)) bs start 0 e in
+    let found = position-Some (λ b. not (separates_words b)) bs start 0 e in
     let rest = drop-cons bs start 0 found.0 in
-    let last : end ≡ position_or_len is_blank (drop start bs) = f ∙ unwrap_position is_blank (drop start bs) in
+    let last : end ≡ position_or_len separates_words (drop start bs) = f
+        ∙ unwrap_position separates_words (drop start bs) in
     word_at bs start e ∙ words_from_first _ _ (not-true _ found.1)
-    ∙ ap (λ l. take (position_or_len is_blank l) l ∷ words_in (drop (position_or_len is_blank l) l)) (sym rest)
+    ∙ ap (λ l. take (position_or_len separates_words l) l ∷ words_in (drop (position_or_len separates_words l) l))
+        (sym rest)
     ∙ ap (λ n. take n (drop start bs) ∷ words_in (drop n (drop start bs))) (sym last)
 
 -- each of the digits is one

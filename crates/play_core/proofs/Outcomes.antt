@@ -5,7 +5,7 @@ use Rattle.std.proofs.KnownBytes.{Keeps-refl}
 use Rattle.std.proofs.lemmas.List.Sums.{length-filter, count_by-le-length}
 use Rattle.keymap_text.specs.declared.fault.TextError.{TextError}
 use Rattle.keymap_text.specs.declared.fault.TextError.TheVariants as text_errors
-use Rattle.keymap_text.specs.Sources.{ReadsMap, names_device}
+use Rattle.keymap_text.specs.Sources.{ReadsMap, blames_reader}
 use Rattle.console_core.specs.History.{Maps}
 use Rattle.play_core.specs.declared.sent.Sent.{Sent}
 use Rattle.play_core.specs.declared.show.Show.{Show}
@@ -13,8 +13,8 @@ use Rattle.play_core.specs.declared.player.Source.TheVariants as source
 use Rattle.play_core.specs.declared.player.PlayError.{PlayError}
 use Rattle.play_core.specs.declared.player.PlayError.TheVariants.{Memory, Text, Next, Script, Read, Write}
 use Rattle.play_core.specs.Scripts.{is_there, lines_of, IsEvent, IsScript}
-use Rattle.play_core.specs.Playing.{Moves, moves, RefusesScript, PlaysOn, RefusesText, RefusesNext, fails_reading}
-use Rattle.play_core.specs.Playing.{fails_writing, error_of_text, error_of_next}
+use Rattle.play_core.specs.Playing.{Moves, moves, RefusesScript, PlaysOn, RefusesText, RefusesNext, blames_source}
+use Rattle.play_core.specs.Playing.{blames_writer, error_of_text, error_of_next}
 use Rattle.play_core.proofs.ScriptLines.{few_lines}
 use Rattle.std.proofs.lemmas.List.{length-map}
 
@@ -35,19 +35,19 @@ next_refused old new (text_errors.Read f) h = h
 next_refused old new (text_errors.Fault f) h = h
 
 -- which device a refused text names
-pub text_names : (e : TextError) → (fails_reading source.Text (Err (error_of_text e)) ≡ names_device (Err e))
-    × (fails_reading source.Next (Err (error_of_text e)) ≡ false)
-    × (fails_reading source.Script (Err (error_of_text e)) ≡ false)
-    × (fails_writing (Err (error_of_text e)) ≡ false)
+pub text_names : (e : TextError) → (blames_source source.Text (Err (error_of_text e)) ≡ blames_reader (Err e))
+    × (blames_source source.Next (Err (error_of_text e)) ≡ false)
+    × (blames_source source.Script (Err (error_of_text e)) ≡ false)
+    × (blames_writer (Err (error_of_text e)) ≡ false)
 text_names text_errors.Memory = (refl, refl, refl, refl)
 text_names (text_errors.Read f) = (refl, refl, refl, refl)
 text_names (text_errors.Fault f) = (refl, refl, refl, refl)
 
 -- a refusal of the next keymap names the devices that reading it names
-pub next_names : (e : TextError) → (fails_reading source.Next (Err (error_of_next e)) ≡ names_device (Err e))
-    × (fails_reading source.Text (Err (error_of_next e)) ≡ false)
-    × (fails_reading source.Script (Err (error_of_next e)) ≡ false)
-    × (fails_writing (Err (error_of_next e)) ≡ false)
+pub next_names : (e : TextError) → (blames_source source.Next (Err (error_of_next e)) ≡ blames_reader (Err e))
+    × (blames_source source.Text (Err (error_of_next e)) ≡ false)
+    × (blames_source source.Script (Err (error_of_next e)) ≡ false)
+    × (blames_writer (Err (error_of_next e)) ≡ false)
 next_names text_errors.Memory = (refl, refl, refl, refl)
 next_names (text_errors.Read f) = (refl, refl, refl, refl)
 next_names (text_errors.Fault f) = (refl, refl, refl, refl)
@@ -66,7 +66,7 @@ script_refused show ms script a (Next f) h = absurd h
 script_refused show ms script a (Write f) h = absurd h
 
 -- a refused script is no fault of the writer
-pub script_names : (script : Moves) (e : PlayError) → RefusesScript script e → fails_writing (Err e) ≡ false
+pub script_names : (script : Moves) (e : PlayError) → RefusesScript script e → blames_writer (Err e) ≡ false
 script_names script Memory h = refl
 script_names script (Script f) h = refl
 script_names script (Read s f) h = refl
@@ -76,7 +76,7 @@ script_names script (Write f) h = absurd h
 
 -- a refusal of a script names no device of a keymap
 refused_names : (script : Moves) (e : PlayError) → RefusesScript script e
-    → (fails_reading source.Text (Err e) ≡ false) × (fails_reading source.Next (Err e) ≡ false)
+    → (blames_source source.Text (Err e) ≡ false) × (blames_source source.Next (Err e) ≡ false)
 refused_names script Memory h = (refl, refl)
 refused_names script (Script f) h = (refl, refl)
 refused_names script (Read source.Text f) h = absurd (cc (h.0))
@@ -89,7 +89,7 @@ refused_names script (Write f) h = (refl, refl)
 -- what is played names no text as what failed
 pub played_names : (show : Show) (ms : Maps) (script out : Moves) (r : Result (Unit {0}) PlayError)
     → PlaysOn show ms script out r
-    → (fails_reading source.Text r ≡ false) × (fails_reading source.Next r ≡ false)
+    → (blames_source source.Text r ≡ false) × (blames_source source.Next r ≡ false)
 played_names show ms script out (Ok u) h = (refl, refl)
 played_names show ms script out (Err (Write f)) h = (refl, refl)
 played_names show ms script out (Err Memory) h = (refl, refl)

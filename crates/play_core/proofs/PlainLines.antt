@@ -9,7 +9,7 @@ use Rattle.std.specs.Str.Parse.{AllDigits}
 use Rattle.std.proofs.lemmas.Bool.{ne_eqb}
 use Rattle.std.proofs.lemmas.Str.Parse.{digit_from_value}
 use Rattle.play_core.specs.declared.sent.What.TheVariants.{Down, Repeat, Up}
-use Rattle.play_core.specs.Scripts.{is_blank, is_there, parts_of, words_in, without_comment}
+use Rattle.play_core.specs.Scripts.{separates_words, is_there, parts_of, words_in, without_comment}
 use Rattle.play_core.specs.Inner.Readings.{BeginsWithKey, BeginsWithEvent}
 
 -- the byte at a place, and what stands behind it
@@ -29,7 +29,7 @@ digits_part [] rest d = refl
 digits_part (b ∷ bs) rest d = rw (not_at b 10 d.0 (omega arith)) (ap (onto_first b) (digits_part bs rest d.1))
 
 -- a number is one word
-digits_word : (number : List ℕ) → AllDigits 10 number → slice_split is_blank number ≡ number ∷ []
+digits_word : (number : List ℕ) → AllDigits 10 number → slice_split separates_words number ≡ number ∷ []
 digits_word [] d = refl
 digits_word (b ∷ bs) d =
     rw (not_at b 32 d.0 (omega arith), not_at b 9 d.0 (omega arith), not_at b 13 d.0 (omega arith))
@@ -117,7 +117,7 @@ key_of_three text x y key long feed one value small value-2 small-2 same low = (
 
 -- a word of a command and a number, with a blank between
 line_words : (number : List ℕ) → AllDigits 10 number → is_there number ≡ true
-    → filter is_there (slice_split is_blank number) ≡ number ∷ []
+    → filter is_there (slice_split separates_words number) ≡ number ∷ []
 line_words number d there = rw (digits_word number d, there) refl
 
 -- a plain line that presses a key

@@ -13,16 +13,16 @@ use Rattle.play_core.specs.declared.sent.What.{What}
 use Rattle.play_core.specs.declared.sent.What.TheVariants.{Down, Repeat, Up, Reset, Load}
 use Rattle.play_core.specs.declared.sent.Sent.{Sent}
 use Rattle.play_core.specs.Scripts.{IsNumber, Tells, Sends, mark_of, key_of, IsEvent, HasBadKey, HasBadForm}
-use Rattle.play_core.specs.Inner.Readings.{are_digits, key_in, of_key, what_with_key, what_alone, what_of, sent_by}
+use Rattle.play_core.specs.Inner.Readings.{all_digits, key_in, of_key, what_with_key, what_alone, what_of, sent_by}
 use Rattle.play_core.specs.Inner.Readings.{reading_of_lost, reading}
 
 -- digits pass the test for digits
-digits_pass : (word : List ℕ) → AllDigits 10 word → are_digits word ≡ true
+digits_pass : (word : List ℕ) → AllDigits 10 word → all_digits word ≡ true
 digits_pass [] h = refl
 digits_pass (b ∷ bs) h = and_from _ _ (lt-ltb _ _ h.0) (digits_pass bs h.1)
 
 -- what passes the test is digits
-digits_from_pass : (word : List ℕ) → are_digits word ≡ true → AllDigits 10 word
+digits_from_pass : (word : List ℕ) → all_digits word ≡ true → AllDigits 10 word
 digits_from_pass [] e = tt
 digits_from_pass (b ∷ bs) e = let both = and_parts _ _ e in (ltb-true _ _ both.0, digits_from_pass bs both.1)
 
@@ -36,14 +36,14 @@ unfolding key_in
 key_of_number word h = rw (digits_pass word h) refl
 
 -- a word that is no number is read as a fault, by the test for digits
-none_at : (word : List ℕ) (b : Bool) → are_digits word ≡ b → (AllDigits 10 word → ⊥) → key_in word ≡ Err Form
+none_at : (word : List ℕ) (b : Bool) → all_digits word ≡ b → (AllDigits 10 word → ⊥) → key_in word ≡ Err Form
 unfolding key_in
 none_at word true e h = absurd (h (digits_from_pass word e))
 none_at word false e h = rw e refl
 
 -- a word that is no number is read as a fault
 pub key_of_none : (word : List ℕ) → (AllDigits 10 word → ⊥) → key_in word ≡ Err Form
-key_of_none word h = none_at word (are_digits word) refl h
+key_of_none word h = none_at word (all_digits word) refl h
 
 large : (n : ℕ) → (n < 128 → ⊥) → 128 ≤ n
 large n h = ⊎_elim (λ low. absurd (h low)) (λ high. high) (cases_lt n 128)
@@ -181,7 +181,7 @@ IsKey number (Err Key) = (k : ℕ) × IsNumber number k × (127 < k)
 IsKey number (Err Form) = ⊤
 
 -- digits are read as a key, or as no key, by their value
-key_at : (number : List ℕ) (b : Bool) → are_digits number ≡ true → ltb (digits_value 10 number) 128 ≡ b
+key_at : (number : List ℕ) (b : Bool) → all_digits number ≡ true → ltb (digits_value 10 number) 128 ≡ b
     → IsKey number (cond b (Ok (digits_value 10 number)) (Err Key))
 key_at number true d e = ((digits_from_pass number d, refl), ltb-true _ _ e)
 key_at number false d e =
@@ -189,7 +189,7 @@ key_at number false d e =
     (digits_value 10 number, (digits_from_pass number d, refl), omega arith)
 
 -- a word is a key, no key or no number, by the test for digits
-key_if : (number : List ℕ) (b : Bool) → are_digits number ≡ b
+key_if : (number : List ℕ) (b : Bool) → all_digits number ≡ b
     → IsKey number (cond b (cond (ltb (digits_value 10 number) 128) (Ok (digits_value 10 number)) (Err Key)) (Err Form))
 key_if number true e = key_at number (ltb (digits_value 10 number) 128) e refl
 key_if number false e = tt
@@ -197,7 +197,7 @@ key_if number false e = tt
 -- what a word is read as is the key that it names, or its fault
 key_is : (number : List ℕ) → IsKey number (key_in number)
 unfolding key_in
-key_is number = key_if number (are_digits number) refl
+key_is number = key_if number (all_digits number) refl
 
 -- what a reading says of a command, but that a bad form is one
 abbrev IsWhat : List (List ℕ) → Result What LineFault → Type 0

@@ -23,7 +23,8 @@ use Rattle.console_core.specs.declared.event.Event.TheVariants.{Press, Release, 
 use Rattle.console_core.specs.declared.event.Answer.{Answer}
 use Rattle.console_core.specs.declared.event.Answer.TheVariants as answer
 use Rattle.console_core.specs.Resolved.{held, locked, pending}
-use Rattle.console_core.specs.History.{Maps, in_force, resolved, pressed, IsQuiet, Pending, AnswerTo, AnswersTo, HasKey}
+use Rattle.console_core.specs.History.{Maps, in_force, resolved, pressed, IsQuiet, accent_pending_after, answer_to}
+use Rattle.console_core.specs.History.{answers_to, HasKey}
 use Rattle.console_core.specs.History.{HasKeys, IsNoLoad, HasNoLoads}
 use Rattle.console_core.proofs.OneMore.{pressed-start, pressed-press, pressed-release, pressed-reset, pressed-load}
 use Rattle.console_core.proofs.OneMore.{resolved-start, held-start, locked-start, remembered-start, pending-start}
@@ -32,8 +33,8 @@ use Rattle.console_core.proofs.Deliveries.{reverse-cons, reverse-joined}
 use Rattle.console_core.proofs.Headline.{Same, SameAfter, same-later, same-answers, same-pending}
 use Rattle.play_core.specs.Written.{typed_by, typed_text}
 use Rattle.play_core.specs.HeldKeys.{combinations}
-use Rattle.play_core.specs.Typing.{alone, is_at_rest, types, plain_character, lone_character, typing_answers}
-use Rattle.play_core.specs.Typing.{unless_some, character_of, is_now, direct_way, dead_way, joined, bases_of}
+use Rattle.play_core.specs.Typing.{alone, is_at_rest, types_something, plain_character, lone_character, typing_answers}
+use Rattle.play_core.specs.Typing.{unless_some, character_typed_by, is_now, direct_way, dead_way, joined, bases_of}
 use Rattle.play_core.specs.Typing.{accented_by, accented, way_for, events_in, events_for, HaveWays, IsTyped}
 use Rattle.play_core.proofs.Texts.{typed-append}
 use Rattle.play_core.proofs.Trials.{Rests, rests, at-rest, quiet-remembers}
@@ -113,7 +114,7 @@ pub record TypesAlone (m : MapValue) (c : ℕ) (way : List Event) : Type 0 where
   pub keys : HasKeys way
   pub no_loads : HasNoLoads way
   pub rests : is_at_rest m (reverse way) ≡ true
-  pub pending : Pending (alone m) (reverse way) ≡ None
+  pub pending : accent_pending_after (alone m) (reverse way) ≡ None
   pub typed : lone_character (typing_answers m way) ≡ Some c
 
 -- the test finds the character
@@ -133,15 +134,15 @@ when-none (Some i) o c e = absurd (none-some c e)
 
 -- the way for a character types it on a new console, and ends at rest
 pub way-types : (m : MapValue) (c : ℕ) (way : List Event) → way_for m c ≡ Some way → TypesAlone m c way
-unfolding character_of
+unfolding character_typed_by
 way-types m c way e =
-    let is : character_of m way ≡ Some c =
-    is-now c (character_of m way)
-    (find-true (λ w. is_now c (character_of m w)) (combinations m ++ accented m) way e) in
+    let is : character_typed_by m way ≡ Some c =
+    is-now c (character_typed_by m way)
+    (find-true (λ w. is_now c (character_typed_by m w)) (combinations m ++ accented m) way e) in
     let k : AreOfKeys way =
-    find-All AreOfKeys (λ w. is_now c (character_of m w)) (combinations m ++ accented m) way (all-of-keys m) e in
+    find-All AreOfKeys (λ w. is_now c (character_typed_by m w)) (combinations m ++ accented m) way (all-of-keys m) e in
     let a = when-rests (is_at_rest m (reverse way)) _ c is in
-    let b = when-none (Pending (alone m) (reverse way)) _ c a.1 in
+    let b = when-none (accent_pending_after (alone m) (reverse way)) _ c a.1 in
     record { keys = k.0; no_loads = k.1; rests = a.0; pending = b.0; typed = b.1 }
 
 no-memory : (o : Option Action) → is_some o ≡ false → o ≡ None
@@ -154,10 +155,10 @@ held-none m h r (holding.Mod i) = r.on i
 held-none m h r (holding.Lock l) = r.down l
 
 -- the console goes on as a new one
-pub as-new : (m : MapValue) (h : List Event) → HasNoLoads h → Rests m h → Pending (alone m) h ≡ None
+pub as-new : (m : MapValue) (h : List Event) → HasNoLoads h → Rests m h → accent_pending_after (alone m) h ≡ None
     → SameAfter (alone m) h []
 as-new m h none r p = record {
-  force = no_loads-first h none;
+  map_in_force = no_loads-first h none;
   same = subst (λ x. Same (in_force (alone m) h) (resolved (alone m) h) x) (sym (resolved-start (alone m))) (record {
     held = λ a. held-none m h r a ∙ sym (held-start a);
     locked = λ l. r.locked l ∙ sym (locked-start l);
@@ -169,9 +170,9 @@ as-new m h none r p = record {
 -- to go on as one list of events goes on is transitive
 after-all : (ms : Maps) (h g k : List Event) → SameAfter ms h g → SameAfter ms g k → SameAfter ms h k
 after-all ms h g k a b =
-    let f : in_force ms h ≡ in_force ms g = ap (λ x. if x then ms.second else ms.first) a.force in
+    let f : in_force ms h ≡ in_force ms g = ap (λ x. if x then ms.second else ms.first) a.map_in_force in
     record {
-      force = a.force ∙ b.force;
+      map_in_force = a.map_in_force ∙ b.map_in_force;
       same = record {
         held = λ x. a.same.held x ∙ b.same.held x;
         locked = λ x. a.same.locked x ∙ b.same.locked x;
@@ -208,7 +209,7 @@ pressed-both k (Load ∷ xs) h e f = pressed-load k (xs ++ h)
 -- ---- what is typed
 
 -- answers that type nothing add no text
-typing-alone : (xs : List Answer) → flat_map typed_by xs ≡ flat_map typed_by (filter types xs)
+typing-alone : (xs : List Answer) → flat_map typed_by xs ≡ flat_map typed_by (filter types_something xs)
 unfolding typed_by
 typing-alone [] = refl
 typing-alone (answer.None ∷ xs) = typing-alone xs
@@ -237,18 +238,18 @@ lone-types (a ∷ b ∷ rest) c e = absurd (none-some c e)
 
 -- a way that types a character on a new console has that text
 typed-alone : (m : MapValue) (c : ℕ) (way : List Event) → TypesAlone m c way
-    → typed_text (AnswersTo (alone m) [] way) ≡ encode_utf8 c
+    → typed_text (answers_to (alone m) [] way) ≡ encode_utf8 c
 unfolding typed_text
-typed-alone m c way t = typing-alone (AnswersTo (alone m) [] way) ∙ lone-types (typing_answers m way) c t.typed
+typed-alone m c way t = typing-alone (answers_to (alone m) [] way) ∙ lone-types (typing_answers m way) c t.typed
 
 -- the answers to events, and then to the events behind them
 answers-joined : (ms : Maps) (h xs ys : List Event)
-    → AnswersTo ms h (xs ++ ys) ≡ AnswersTo ms h xs ++ AnswersTo ms (reverse xs ++ h) ys
+    → answers_to ms h (xs ++ ys) ≡ answers_to ms h xs ++ answers_to ms (reverse xs ++ h) ys
 answers-joined ms h [] ys = refl
 answers-joined ms h (e ∷ xs) ys =
-    ap (λ l. AnswerTo ms h e ∷ l)
+    ap (λ l. answer_to ms h e ∷ l)
     (answers-joined ms (e ∷ h) xs ys
-    ∙ ap (λ g. AnswersTo ms (e ∷ h) xs ++ AnswersTo ms g ys) (sym (reverse-cons e xs h)))
+    ∙ ap (λ g. answers_to ms (e ∷ h) xs ++ answers_to ms g ys) (sym (reverse-cons e xs h)))
 
 -- no answers type nothing
 typed-nothing : typed_text [] ≡ []
@@ -257,7 +258,7 @@ typed-nothing = refl
 
 -- what is typed by the ways of characters from where a console goes on as a new one
 pub record TypesFrom (m : MapValue) (h : List Event) (cs : List ℕ) : Type 0 where
-  pub typed : typed_text (AnswersTo (alone m) h (events_for m cs)) ≡ encode_utf8_all cs
+  pub typed : typed_text (answers_to (alone m) h (events_for m cs)) ≡ encode_utf8_all cs
   pub new : SameAfter (alone m) (reverse (events_for m cs) ++ h) []
   pub quiet : IsQuiet (reverse (events_for m cs) ++ h)
 
@@ -265,7 +266,7 @@ pub record TypesFrom (m : MapValue) (h : List Event) (cs : List ℕ) : Type 0 wh
 one-from : (m : MapValue) (h : List Event) (c : ℕ) (cs : List ℕ) (way : List Event) → TypesAlone m c way
     → SameAfter (alone m) h [] → IsQuiet h
     → ((g : List Event) → SameAfter (alone m) g [] → IsQuiet g → TypesFrom m g cs)
-    → (typed_text (AnswersTo (alone m) h (way ++ events_for m cs)) ≡ encode_utf8 c ++ encode_utf8_all cs)
+    → (typed_text (answers_to (alone m) h (way ++ events_for m cs)) ≡ encode_utf8 c ++ encode_utf8_all cs)
     × SameAfter (alone m) (reverse (way ++ events_for m cs) ++ h) [] × IsQuiet (reverse (way ++ events_for m cs) ++ h)
 one-from m h c cs way t same quiet later =
     let ms = alone m in
@@ -278,10 +279,10 @@ one-from m h c cs way t same quiet later =
     (subst (λ x. SameAfter ms x []) (sym (append-nil (reverse way))) back) in
     let still : IsQuiet (reverse way ++ h) = λ k lt. pressed-both k (reverse way) h (r.quiet k lt) (quiet k lt) in
     let rest : TypesFrom m (reverse way ++ h) cs = later (reverse way ++ h) new still in
-    let e : typed_text (AnswersTo ms h way) ≡ encode_utf8 c =
+    let e : typed_text (answers_to ms h way) ≡ encode_utf8 c =
     ap typed_text (same-answers ms h [] way t.keys same) ∙ typed-alone m c way t in (
-      ap typed_text (answers-joined ms h way (events_for m cs)) ∙ typed-append (AnswersTo ms h way) _
-          ∙ ap (λ x. x ++ typed_text (AnswersTo ms (reverse way ++ h) (events_for m cs))) e
+      ap typed_text (answers-joined ms h way (events_for m cs)) ∙ typed-append (answers_to ms h way) _
+          ∙ ap (λ x. x ++ typed_text (answers_to ms (reverse way ++ h) (events_for m cs))) e
           ∙ ap (λ x. encode_utf8 c ++ x) rest.typed,
       subst (λ x. SameAfter ms x []) (sym (reverse-joined way (events_for m cs) h)) rest.new,
       subst IsQuiet (sym (reverse-joined way (events_for m cs) h)) rest.quiet,
@@ -291,7 +292,7 @@ one-from m h c cs way t same quiet later =
 way-by : (m : MapValue) (h : List Event) (c : ℕ) (cs : List ℕ) (o : Option (List Event)) → way_for m c ≡ o → IsSome o
     → SameAfter (alone m) h [] → IsQuiet h
     → ((g : List Event) → SameAfter (alone m) g [] → IsQuiet g → TypesFrom m g cs)
-    → (typed_text (AnswersTo (alone m) h (events_in o ++ events_for m cs)) ≡ encode_utf8 c ++ encode_utf8_all cs)
+    → (typed_text (answers_to (alone m) h (events_in o ++ events_for m cs)) ≡ encode_utf8 c ++ encode_utf8_all cs)
     × SameAfter (alone m) (reverse (events_in o ++ events_for m cs) ++ h) []
     × IsQuiet (reverse (events_in o ++ events_for m cs) ++ h)
 way-by m h c cs None e is same quiet later = absurd (true≢false (sym is))
@@ -311,7 +312,7 @@ types-from m (c ∷ cs) h have same quiet =
 -- a new console goes on as a new console
 same-as-itself : (m : MapValue) → SameAfter (alone m) [] []
 same-as-itself m = record {
-  force = refl;
+  map_in_force = refl;
   same = record { held = λ a. refl; locked = λ l. refl; remembered = λ k lt. refl; pending = refl };
 }
 

@@ -10,7 +10,7 @@ use Rattle.std.proofs.lemmas.List.Elements.{All-head, All-tail}
 use Rattle.arrayvec.specs.ArrayVec.{ArrayVec}
 use Rattle.console_core.specs.declared.event.Event.{Event}
 use Rattle.play_core.specs.Typing.{first_with, is_now}
-use Rattle.play_core.specs.Inner.Tables.{Entries, way_at, IsTableOf}
+use Rattle.play_core.specs.Inner.Tables.{WayEntries, way_at, IsTableOf}
 
 none-some : {X : Type 0} (x : X) → None ≡ Some x → ⊥
 none-some x e = cc
@@ -35,12 +35,12 @@ lookup-step true v l r o e = refl
 lookup-step false v l r o e = e
 
 -- a look-up goes on in the second list
-lookup-append : (test : ℕ → Bool) (es fs : Entries)
+lookup-append : (test : ℕ → Bool) (es fs : WayEntries)
     → lookup test (es ++ fs) ≡ option_or (lookup test es) (lookup test fs)
 lookup-append test [] fs = refl
 lookup-append test (e ∷ es) fs = lookup-step (test e.0) e.1 _ _ _ (lookup-append test es fs)
 
-module _ (f : List Event → Option ℕ) (ways : List (List Event)) (way : List Event) (es : Entries)
+module _ (f : List Event → Option ℕ) (ways : List (List Event)) (way : List Event) (es : WayEntries)
     (table : IsTableOf f ways es) where
   -- the first way to a value, with one more way
   one-more : (c : ℕ)
@@ -110,7 +110,7 @@ pub not-there : {X : Type 0} (o : Option X) → is_some o ≡ false → o ≡ No
 not-there None e = refl
 not-there (Some x) e = absurd (true≢false e)
 
-module _ (f : List Event → Option ℕ) (ways : List (List Event)) (way : List Event) (es : Entries)
+module _ (f : List Event → Option ℕ) (ways : List (List Event)) (way : List Event) (es : WayEntries)
     (table : IsTableOf f ways es)
     (n : ℕ) (is : f way ≡ Some n) where
   -- the next lemma, by the look-up

@@ -11,7 +11,7 @@ use Rattle.keymap_core.specs.declared.action.Modifier.{Modifier}
 use Rattle.keymap_core.specs.declared.action.Lock.{Lock}
 use Rattle.console_core.specs.declared.event.Event.{Event}
 use Rattle.console_core.specs.declared.event.Answer.{Answer}
-use Rattle.console_core.specs.History.{Maps, AnswerTo, AnswersTo}
+use Rattle.console_core.specs.History.{Maps, answer_to, answers_to}
 use Rattle.play_core.specs.declared.sent.Sent.{Sent}
 use Rattle.play_core.specs.declared.show.Show.{Show}
 use Rattle.play_core.specs.declared.show.Show.TheVariants as show
@@ -38,12 +38,12 @@ lines-append ms h (e ∷ xs) ys =
 
 -- the answers to events, and then to the events behind them
 answers-append : (ms : Maps) (h xs ys : List Event)
-    → AnswersTo ms h (xs ++ ys) ≡ AnswersTo ms h xs ++ AnswersTo ms (reverse xs ++ h) ys
+    → answers_to ms h (xs ++ ys) ≡ answers_to ms h xs ++ answers_to ms (reverse xs ++ h) ys
 answers-append ms h [] ys = refl
 answers-append ms h (e ∷ xs) ys =
-    ap (λ l. AnswerTo ms h e ∷ l)
+    ap (λ l. answer_to ms h e ∷ l)
     (answers-append ms (e ∷ h) xs ys
-    ∙ ap (λ g. AnswersTo ms (e ∷ h) xs ++ AnswersTo ms g ys) (sym (reverse-first e xs h)))
+    ∙ ap (λ g. answers_to ms (e ∷ h) xs ++ answers_to ms g ys) (sym (reverse-first e xs h)))
 
 -- what answers type, and then the answers behind them
 pub typed-append : (xs ys : List Answer) → typed_text (xs ++ ys) ≡ typed_text xs ++ typed_text ys
@@ -66,7 +66,7 @@ pub text-append : (shown : Show) (ms : Maps) (h xs ys : List Event)
 unfolding text_after
 text-append show.Lines ms h xs ys = lines-append ms h xs ys
 text-append show.Typed ms h xs ys =
-    ap typed_text (answers-append ms h xs ys) ∙ typed-append (AnswersTo ms h xs) (AnswersTo ms (reverse xs ++ h) ys)
+    ap typed_text (answers-append ms h xs ys) ∙ typed-append (answers_to ms h xs) (answers_to ms (reverse xs ++ h) ys)
 
 -- no events have no text
 pub text-nil : (shown : Show) (ms : Maps) (h : List Event) → text_after shown ms h [] ≡ []
@@ -79,7 +79,7 @@ pub text-one : (shown : Show) (ms : Maps) (h : List Event) (e : Event)
     → text_after shown ms h (e ∷ []) ≡ event_output shown ms h e
 unfolding text_after lines_after
 text-one show.Lines ms h e = append-nil (line_after ms h e)
-text-one show.Typed ms h e = typed-one (AnswerTo ms h e)
+text-one show.Typed ms h e = typed-one (answer_to ms h e)
 
 -- the events of one more
 pub delivered-more : (sent : List Sent) (i : ℕ) (one : Sent) → i < length sent → one ≡ get_or sent i one

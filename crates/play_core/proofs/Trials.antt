@@ -23,13 +23,14 @@ use Rattle.console_core.specs.declared.event.Answer.{Answer}
 use Rattle.console_core.specs.declared.event.Answer.TheVariants as answer
 use Rattle.console_core.specs.Resolved.{held, down, locked}
 use Rattle.console_core.proofs.OneMore.{pressed-start, resolved-start, held-start, locked-start, remembered-start}
-use Rattle.console_core.specs.History.{Maps, resolved, pressed, IsQuiet, On, Locked, Pending}
-use Rattle.console_core.specs.Reading.{Remembered}
+use Rattle.console_core.specs.History.{Maps, resolved, pressed, IsQuiet, is_on_after, is_locked_after}
+use Rattle.console_core.specs.History.{accent_pending_after}
+use Rattle.console_core.specs.Reading.{remembered_after}
 use Rattle.console_core.proofs.Bearing.{remembered-pressed}
 use Rattle.play_core.specs.declared.effect.Typed.{Typed}
 use Rattle.play_core.specs.declared.effect.Typed.TheVariants as typed
 use Rattle.play_core.specs.HeldKeys.{combination}
-use Rattle.play_core.specs.Typing.{alone, is_at_rest, types, lone_character, typing_answers, unless_some, unless_any, character_of, accent_of}
+use Rattle.play_core.specs.Typing.{alone, is_at_rest, types_something, lone_character, typing_answers, unless_some, unless_any, character_typed_by, accent_left_by}
 use Rattle.play_core.specs.Inner.Effects.{IsTrial, typed_by_one, typed_by_all, after_typing, one_more, character_in}
 use Rattle.play_core.specs.Inner.Effects.{accent_in, effect_by}
 use Rattle.play_core.proofs.Resting.{combination-quiet, combination-down, DownOnlyIfLocked}
@@ -61,7 +62,8 @@ same-after t xs e = e ∙ ap typed_by_all (sym (nil-right xs))
     nil-right (x ∷ xs) = ap (λ y. x ∷ y) (nil-right xs)
 
 -- one more answer, whether it types or not
-more-with : (xs : List Answer) (b : Answer) → typed_by_all (xs ++ filter types (b ∷ [])) ≡ one_more (typed_by_all xs) b
+more-with : (xs : List Answer) (b : Answer)
+    → typed_by_all (xs ++ filter types_something (b ∷ [])) ≡ one_more (typed_by_all xs) b
 more-with xs answer.None = sym (same-after _ xs refl)
 more-with xs answer.Error = sym (same-after _ xs refl)
 more-with xs (answer.Char c meta) = typed-push xs (answer.Char c meta)
@@ -71,8 +73,8 @@ more-with xs (answer.Released x) = sym (same-after _ xs refl)
 
 -- what is typed so far, with one more answer
 pub typed-more : (xs : List Answer) (b : Answer)
-    → typed_by_all (filter types (xs ++ b ∷ [])) ≡ one_more (typed_by_all (filter types xs)) b
-typed-more xs b = ap typed_by_all (filter-append types xs (b ∷ [])) ∙ more-with (filter types xs) b
+    → typed_by_all (filter types_something (xs ++ b ∷ [])) ≡ one_more (typed_by_all (filter types_something xs)) b
+typed-more xs b = ap typed_by_all (filter-append types_something xs (b ∷ [])) ∙ more-with (filter types_something xs) b
 
 -- ---- at rest
 
@@ -161,10 +163,10 @@ each-below test n none k lt =
 
 pub record Rests (m : MapValue) (h : List Event) : Type 0 where
   pub quiet : IsQuiet h
-  pub remembered : (k : ℕ) → k < 128 → is_some (Remembered (alone m) k h) ≡ false
-  pub on : (i : Modifier) → On (alone m) i h ≡ false
+  pub remembered : (k : ℕ) → k < 128 → is_some (remembered_after (alone m) k h) ≡ false
+  pub on : (i : Modifier) → is_on_after (alone m) i h ≡ false
   pub down : (l : Lock) → held (holding.Lock l) (resolved (alone m) h) ≡ false
-  pub locked : (l : Lock) → Locked (alone m) l h ≡ false
+  pub locked : (l : Lock) → is_locked_after (alone m) l h ≡ false
 
 -- where the test passes, the state is at rest
 pub rests : (m : MapValue) (h : List Event) → is_at_rest m h ≡ true → Rests m h
@@ -176,10 +178,10 @@ rests m h e =
     let d = and_parts _ _ c.0 in
     record {
       quiet = each-below (λ k. pressed k h) 128 (not-true _ d.0);
-      remembered = each-below (λ k. is_some (Remembered (alone m) k h)) 128 (not-true _ d.1);
-      on = no-modifier (λ i. On (alone m) i h) (not-true _ c.1);
+      remembered = each-below (λ k. is_some (remembered_after (alone m) k h)) 128 (not-true _ d.1);
+      on = no-modifier (λ i. is_on_after (alone m) i h) (not-true _ c.1);
       down = no-lock (λ l. down l (resolved (alone m) h)) (not-true _ b.1);
-      locked = no-lock (λ l. Locked (alone m) l h) (not-true _ a.1);
+      locked = no-lock (λ l. is_locked_after (alone m) l h) (not-true _ a.1);
     }
 
 -- a state at rest passes the test
@@ -188,10 +190,10 @@ unfolding is_at_rest
 at-rest m h r =
     rw (
       none-below (λ k. pressed k h) 128 r.quiet,
-      none-below (λ k. is_some (Remembered (alone m) k h)) 128 r.remembered,
-      no-modifiers (λ i. On (alone m) i h) r.on,
+      none-below (λ k. is_some (remembered_after (alone m) k h)) 128 r.remembered,
+      no-modifiers (λ i. is_on_after (alone m) i h) r.on,
       no-locks (λ l. down l (resolved (alone m) h)) r.down,
-      no-locks (λ l. Locked (alone m) l h) r.locked,
+      no-locks (λ l. is_locked_after (alone m) l h) r.locked,
     ) refl
 
 -- a new console is at rest
@@ -210,9 +212,10 @@ nothing_there None f = refl
 nothing_there (Some a) f = absurd (f a refl)
 
 -- where no key is pressed, nothing is remembered
-pub quiet-remembers : (ms : Maps) (h : List Event) → IsQuiet h → (k : ℕ) → k < 128 → is_some (Remembered ms k h) ≡ false
+pub quiet-remembers : (ms : Maps) (h : List Event) → IsQuiet h → (k : ℕ) → k < 128
+    → is_some (remembered_after ms k h) ≡ false
 quiet-remembers ms h quiet k lt =
-    nothing_there (Remembered ms k h) (λ a e. true≢false (sym (remembered-pressed ms h k a e) ∙ quiet k lt))
+    nothing_there (remembered_after ms k h) (λ a e. true≢false (sym (remembered-pressed ms h k a e) ∙ quiet k lt))
 
 -- where locks down are on, it is enough to see those that are on
 seen-with : (a d l : Bool) → (l ≡ false → d ≡ false) → ((not a && not d) && not l) ≡ (not a && not l)
@@ -230,8 +233,8 @@ seen-with a d false f = ap (λ y. (not a && not y) && true) (f refl) ∙ ap (λ 
 -- a way that is tried ends at rest exactly if it leaves no modifier and no lock on
 pub way-rests : (m : MapValue) (way : List Event) → IsTrial m way
     → is_at_rest m (reverse way)
-    ≡ (not (list_any (λ i. On (alone m) i (reverse way)) modifiers)
-    && not (list_any (λ l. Locked (alone m) l (reverse way)) locks))
+    ≡ (not (list_any (λ i. is_on_after (alone m) i (reverse way)) modifiers)
+    && not (list_any (λ l. is_locked_after (alone m) l (reverse way)) locks))
 unfolding is_at_rest
 way-rests m way trial =
     let ms = alone m in
@@ -244,12 +247,12 @@ way-rests m way trial =
     subst (λ h. DownOnlyIfLocked (resolved ms h)) is
     (combination-down ms trial.held trial.key (reverse trial.before) (λ l. before.locked l ∙ sym (before.down l))) in
     let p : any_below (λ k. pressed k (reverse way)) 128 ≡ false = none-below _ 128 quiet in
-    let r : any_below (λ k. is_some (Remembered ms k (reverse way))) 128 ≡ false =
+    let r : any_below (λ k. is_some (remembered_after ms k (reverse way))) 128 ≡ false =
     none-below _ 128 (quiet-remembers ms (reverse way) quiet) in
-    let d : list_any (λ l. Locked ms l (reverse way)) locks ≡ false
+    let d : list_any (λ l. is_locked_after ms l (reverse way)) locks ≡ false
     → list_any (λ l. held (holding.Lock l) (resolved ms (reverse way))) locks ≡ false =
     λ off. no-locks (λ l. held (holding.Lock l) (resolved ms (reverse way)))
-    (λ l. down l (no-lock (λ l. Locked ms l (reverse way)) off l)) in
+    (λ l. down l (no-lock (λ l. is_locked_after ms l (reverse way)) off l)) in
     rw (p, r) (seen-with _ _ _ d)
   where
     Rests-of : Rests m (reverse trial.before)
@@ -290,21 +293,21 @@ effects-by (a ∷ b ∷ rest) (Some i) = (refl, refl)
 
 -- what is seen of a console that was delivered the way
 pub record IsSeen (m : MapValue) (way : List Event) (on locked : Bool) : Type 0 where
-  pub on_is : on ≡ list_any (λ i. On (alone m) i (reverse way)) modifiers
-  pub locked_is : locked ≡ list_any (λ l. Locked (alone m) l (reverse way)) locks
+  pub on_is : on ≡ list_any (λ i. is_on_after (alone m) i (reverse way)) modifiers
+  pub locked_is : locked ≡ list_any (λ l. is_locked_after (alone m) l (reverse way)) locks
 
 -- what is seen of the modifiers and locks tells whether a way ends at rest
 seen-rest : (m : MapValue) (way : List Event) (on locked : Bool) → IsTrial m way → IsSeen m way on locked
     → is_at_rest m (reverse way) ≡ (not on && not locked)
 seen-rest m way on locked trial seen =
     way-rests m way trial
-    ∙ ap (λ x. not x && not (list_any (λ l. Locked (alone m) l (reverse way)) locks)) (sym seen.on_is)
+    ∙ ap (λ x. not x && not (list_any (λ l. is_locked_after (alone m) l (reverse way)) locks)) (sym seen.on_is)
     ∙ ap (λ x. not on && not x) (sym seen.locked_is)
 
 -- a way that leaves something on gives no character and no accent
 pub no-effect : (m : MapValue) (way : List Event) (on locked : Bool) → IsTrial m way → IsSeen m way on locked
-    → (not on && not locked) ≡ false → (character_of m way ≡ None) × (accent_of m way ≡ None)
-unfolding character_of accent_of
+    → (not on && not locked) ≡ false → (character_typed_by m way ≡ None) × (accent_left_by m way ≡ None)
+unfolding character_typed_by accent_left_by
 no-effect m way on locked trial seen e =
     let f = seen-rest m way on locked trial seen ∙ e in (rw f refl, rw f refl)
 
@@ -314,26 +317,26 @@ and-false false = refl
 
 -- a way that leaves a modifier on gives no character and no accent
 pub no-effect-on : (m : MapValue) (way : List Event) (shown : Modifier → Bool) (b : Bool) → IsTrial m way
-    → ((i : Modifier) → shown i ≡ On (alone m) i (reverse way)) → b ≡ list_any shown modifiers → b ≡ true
-    → (character_of m way ≡ None) × (accent_of m way ≡ None)
+    → ((i : Modifier) → shown i ≡ is_on_after (alone m) i (reverse way)) → b ≡ list_any shown modifiers → b ≡ true
+    → (character_typed_by m way ≡ None) × (accent_left_by m way ≡ None)
 no-effect-on m way shown b trial is e t =
-    no-effect m way b (list_any (λ l. Locked (alone m) l (reverse way)) locks) trial
+    no-effect m way b (list_any (λ l. is_locked_after (alone m) l (reverse way)) locks) trial
     (record { on_is = e ∙ ap (λ f. list_any f modifiers) (fun_ext is); locked_is = refl })
-    (ap (λ x. not x && not (list_any (λ l. Locked (alone m) l (reverse way)) locks)) t)
+    (ap (λ x. not x && not (list_any (λ l. is_locked_after (alone m) l (reverse way)) locks)) t)
 
 -- a way that leaves a lock on gives no character and no accent
 pub no-effect-locked : (m : MapValue) (way : List Event) (shown : Lock → Bool) (b : Bool) → IsTrial m way
-    → ((l : Lock) → shown l ≡ Locked (alone m) l (reverse way)) → b ≡ list_any shown locks → b ≡ true
-    → (character_of m way ≡ None) × (accent_of m way ≡ None)
+    → ((l : Lock) → shown l ≡ is_locked_after (alone m) l (reverse way)) → b ≡ list_any shown locks → b ≡ true
+    → (character_typed_by m way ≡ None) × (accent_left_by m way ≡ None)
 no-effect-locked m way shown b trial is e t =
-    no-effect m way (list_any (λ i. On (alone m) i (reverse way)) modifiers) b trial
+    no-effect m way (list_any (λ i. is_on_after (alone m) i (reverse way)) modifiers) b trial
     (record { on_is = refl; locked_is = e ∙ ap (λ f. list_any f locks) (fun_ext is) })
-    (ap (λ x. not (list_any (λ i. On (alone m) i (reverse way)) modifiers) && not x) t ∙ and-false _)
+    (ap (λ x. not (list_any (λ i. is_on_after (alone m) i (reverse way)) modifiers) && not x) t ∙ and-false _)
 
 -- where neither test finds one, nothing is seen to be on
 pub nothing-seen : (m : MapValue) (way : List Event) (on : Modifier → Bool) (locked : Lock → Bool) (a b : Bool)
-    → ((i : Modifier) → on i ≡ On (alone m) i (reverse way))
-    → ((l : Lock) → locked l ≡ Locked (alone m) l (reverse way))
+    → ((i : Modifier) → on i ≡ is_on_after (alone m) i (reverse way))
+    → ((l : Lock) → locked l ≡ is_locked_after (alone m) l (reverse way))
     → a ≡ list_any on modifiers → b ≡ list_any locked locks → a ≡ false → b ≡ false → IsSeen m way false false
 nothing-seen m way on locked a b on_is locked_is e f p q = record {
   on_is = sym p ∙ e ∙ ap (λ g. list_any g modifiers) (fun_ext on_is);
@@ -342,10 +345,10 @@ nothing-seen m way on locked a b on_is locked_is e f p q = record {
 
 -- a way that leaves nothing on gives what its answers and what is pending tell
 pub effect-is : (m : MapValue) (way : List Event) (t : Typed) (p : Option ℕ) → IsTrial m way → IsSeen m way false false
-    → t ≡ typed_by_all (typing_answers m way) → p ≡ Pending (alone m) (reverse way)
-    → (character_of m way ≡ character_in (effect_by t p)) × (accent_of m way ≡ accent_in (effect_by t p))
-unfolding character_of accent_of
+    → t ≡ typed_by_all (typing_answers m way) → p ≡ accent_pending_after (alone m) (reverse way)
+    → (character_typed_by m way ≡ character_in (effect_by t p)) × (accent_left_by m way ≡ accent_in (effect_by t p))
+unfolding character_typed_by accent_left_by
 effect-is m way t p trial seen e f =
     let r = seen-rest m way false false trial seen in
-    let s = effects-by (typing_answers m way) (Pending (alone m) (reverse way)) in
+    let s = effects-by (typing_answers m way) (accent_pending_after (alone m) (reverse way)) in
     (rw (r, e, f) s.0, rw (r, e, f) s.1)

@@ -25,16 +25,16 @@ gathered f zero = []
 gathered f (suc n) = gathered f n ++ f n
 
 -- one of the key's cells is the modifier
-abbrev pub bears : MapValue → Modifier → ℕ → Bool
-bears m i k = has_in_slot m (act.Mod i) k || (is_upper_live m && has_in_slot m (act.Mod i) (k + key_count))
+abbrev pub bears_modifier : MapValue → Modifier → ℕ → Bool
+bears_modifier m i k = has_in_slot m (act.Mod i) k || (is_upper_live m && has_in_slot m (act.Mod i) (k + key_count))
 
 -- bit 0 of a set is shift, bit 1 control, bit 2 alt, bit 3 ashift; the left and the right one count alike
 unfoldable pub bears_bit : MapValue → ℕ → ℕ → Bool
 bears_bit m bit k =
-    if bit == 0 then bears m LeftShift k || bears m RightShift k
-    else if bit == 1 then bears m LeftControl k || bears m RightControl k
-    else if bit == 2 then bears m LeftAlt k || bears m RightAlt k
-    else bears m AltShift k
+    if bit == 0 then bears_modifier m LeftShift k || bears_modifier m RightShift k
+    else if bit == 1 then bears_modifier m LeftControl k || bears_modifier m RightControl k
+    else if bit == 2 then bears_modifier m LeftAlt k || bears_modifier m RightAlt k
+    else bears_modifier m AltShift k
 
 abbrev pub has_bit : ℕ → ℕ → Bool
 has_bit set bit = ((set / 2 ^ bit) % 2) == 1

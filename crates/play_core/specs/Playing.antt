@@ -107,16 +107,16 @@ PlaysBetween show text next script out r =
     ⊎ ((n : MapValue) × ReadsText next n × PlaysOn show (between m n) script out r)))
 
 -- whether the answer is that this reader failed
-abbrev pub fails_reading : Source → Result (Unit {0}) PlayError → Bool
-fails_reading source.Text (Err (Read source.Text f)) = is_device f.kind
-fails_reading source.Next (Err (Read source.Next f)) = is_device f.kind
-fails_reading source.Script (Err (Read source.Script f)) = is_device f.kind
-fails_reading _ _ = false
+abbrev pub blames_source : Source → Result (Unit {0}) PlayError → Bool
+blames_source source.Text (Err (Read source.Text f)) = is_device f.kind
+blames_source source.Next (Err (Read source.Next f)) = is_device f.kind
+blames_source source.Script (Err (Read source.Script f)) = is_device f.kind
+blames_source _ _ = false
 
 -- whether the answer is that the writer failed
-abbrev pub fails_writing : Result (Unit {0}) PlayError → Bool
-fails_writing (Err (Write f)) = true
-fails_writing _ = false
+abbrev pub blames_writer : Result (Unit {0}) PlayError → Bool
+blames_writer (Err (Write f)) = true
+blames_writer _ = false
 
 -- the error of a text, as that of the first text and of the next
 abbrev pub error_of_text : TextError → PlayError

@@ -17,15 +17,15 @@ abbrev pub without_comment : List ℕ → List ℕ
 without_comment line = before_first (λ b. b == 35) line
 
 -- blank, tab and carriage return separate words
-abbrev pub is_blank : ℕ → Bool
-is_blank b = (b == 32) || (b == 9) || (b == 13)
+abbrev pub separates_words : ℕ → Bool
+separates_words b = (b == 32) || (b == 9) || (b == 13)
 
 abbrev pub is_there : {A : Type 0} → List A → Bool
 is_there [] = false
 is_there (x ∷ xs) = true
 
 unfoldable pub words_in : List ℕ → List (List ℕ)
-words_in bytes = filter is_there (slice_split is_blank bytes)
+words_in bytes = filter is_there (slice_split separates_words bytes)
 
 abbrev pub words_of : List ℕ → List (List ℕ)
 words_of line = words_in (without_comment line)

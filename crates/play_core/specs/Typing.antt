@@ -13,8 +13,9 @@ use Rattle.console_core.specs.declared.event.Answer.{Answer}
 use Rattle.console_core.specs.declared.event.Answer.TheVariants as answer
 use Rattle.console_core.specs.Resolved.{down}
 use Rattle.std.specs.Option.{is_some}
-use Rattle.console_core.specs.Reading.{Remembered}
-use Rattle.console_core.specs.History.{Maps, between, resolved, pressed, On, Locked, Pending, AnswersTo, IsQuiet}
+use Rattle.console_core.specs.Reading.{remembered_after}
+use Rattle.console_core.specs.History.{Maps, between, resolved, pressed, is_on_after, is_locked_after}
+use Rattle.console_core.specs.History.{accent_pending_after, answers_to, IsQuiet}
 use Rattle.play_core.specs.declared.type_error.TypeError.{TypeError}
 use Rattle.play_core.specs.declared.type_error.TypeError.TheVariants.{Memory, NotText, NoWay}
 use Rattle.play_core.specs.HeldKeys.{gathered, combinations}
@@ -29,16 +30,16 @@ alone m = between m m
 unfoldable pub is_at_rest : MapValue → List Event → Bool
 is_at_rest m h =
     not (any_below (λ k. pressed k h) key_count)
-    && not (any_below (λ k. is_some (Remembered (alone m) k h)) key_count)
-    && not (list_any (λ i. On (alone m) i h) modifiers)
+    && not (any_below (λ k. is_some (remembered_after (alone m) k h)) key_count)
+    && not (list_any (λ i. is_on_after (alone m) i h) modifiers)
     && not (list_any (λ l. down l (resolved (alone m) h)) locks)
-    && not (list_any (λ l. Locked (alone m) l h) locks)
+    && not (list_any (λ l. is_locked_after (alone m) l h) locks)
 
 -- the answers that type something
-abbrev pub types : Answer → Bool
-types (answer.Char c meta) = true
-types answer.BackTab = true
-types _ = false
+abbrev pub types_something : Answer → Bool
+types_something (answer.Char c meta) = true
+types_something answer.BackTab = true
+types_something _ = false
 
 abbrev pub plain_character : Answer → Option ℕ
 plain_character (answer.Char c false) = Some c
@@ -51,7 +52,7 @@ lone_character (a ∷ []) = plain_character a
 lone_character (a ∷ b ∷ rest) = None
 
 abbrev pub typing_answers : MapValue → List Event → List Answer
-typing_answers m way = filter types (AnswersTo (alone m) [] way)
+typing_answers m way = filter types_something (answers_to (alone m) [] way)
 
 abbrev pub unless_some : Option ℕ → Option ℕ → Option ℕ
 unless_some (Some i) o = None
@@ -63,16 +64,17 @@ unless_any (a ∷ xs) o = None
 
 -- The character that the way types: a new console that is delivered the way answers it, without meta, and nothing else
 -- that types, and stands then as a new one does.
-unfoldable pub character_of : MapValue → List Event → Option ℕ
-character_of m way =
+unfoldable pub character_typed_by : MapValue → List Event → Option ℕ
+character_typed_by m way =
     if is_at_rest m (reverse way)
-    then unless_some (Pending (alone m) (reverse way)) (lone_character (typing_answers m way)) else None
+    then unless_some (accent_pending_after (alone m) (reverse way)) (lone_character (typing_answers m way)) else None
 
 -- The accent that the way leaves pending: a new console that is delivered the way answers nothing that types, and
 -- stands then as a new one does, but for this accent.
-unfoldable pub accent_of : MapValue → List Event → Option ℕ
-accent_of m way =
-    if is_at_rest m (reverse way) then unless_any (typing_answers m way) (Pending (alone m) (reverse way)) else None
+unfoldable pub accent_left_by : MapValue → List Event → Option ℕ
+accent_left_by m way =
+    if is_at_rest m (reverse way) then unless_any (typing_answers m way)
+        (accent_pending_after (alone m) (reverse way)) else None
 
 abbrev pub is_now : ℕ → Option ℕ → Bool
 is_now c None = false
@@ -84,11 +86,11 @@ first_with f ways c = find (λ way. is_now c (f way)) ways
 
 -- the first combination that types the character
 abbrev pub direct_way : MapValue → ℕ → Option (List Event)
-direct_way m c = first_with (character_of m) (combinations m) c
+direct_way m c = first_with (character_typed_by m) (combinations m) c
 
 -- the first combination that leaves the accent pending
 abbrev pub dead_way : MapValue → ℕ → Option (List Event)
-dead_way m i = first_with (accent_of m) (combinations m) i
+dead_way m i = first_with (accent_left_by m) (combinations m) i
 
 -- one way after the other, where there are both
 abbrev pub joined : Option (List Event) → Option (List Event) → List (List Event)
@@ -110,7 +112,7 @@ accented m = gathered (accented_by m) accent_limit
 
 -- the first way that types the character: a combination, or else an accented way
 abbrev pub way_for : MapValue → ℕ → Option (List Event)
-way_for m c = first_with (character_of m) (combinations m ++ accented m) c
+way_for m c = first_with (character_typed_by m) (combinations m ++ accented m) c
 
 abbrev pub events_in : Option (List Event) → List Event
 events_in None = []
@@ -128,10 +130,10 @@ HaveWays m cs = All (λ c. IsSome (way_for m c)) cs
 pub record IsTyped (m : MapValue) (bytes cs : List ℕ) : Type 0 where
   pub text : encode_utf8_all cs ≡ bytes
   pub ways : HaveWays m cs
-  pub typed : typed_text (AnswersTo (alone m) [] (events_for m cs)) ≡ bytes
+  pub typed : typed_text (answers_to (alone m) [] (events_for m cs)) ≡ bytes
   pub quiet : IsQuiet (reverse (events_for m cs))
   pub rest : is_at_rest m (reverse (events_for m cs)) ≡ true
-  pub nothing_pending : Pending (alone m) (reverse (events_for m cs)) ≡ None
+  pub nothing_pending : accent_pending_after (alone m) (reverse (events_for m cs)) ≡ None
 
 -- The character at the offset of the text of these characters is the first that has no way.
 pub record LacksWay (m : MapValue) (cs : List ℕ) (offset c : ℕ) : Type 0 where

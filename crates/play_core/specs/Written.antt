@@ -9,7 +9,7 @@ use Rattle.console_core.specs.declared.event.Event.{Event}
 use Rattle.console_core.specs.declared.event.Event.TheVariants.{Press, Release, Reset, Load}
 use Rattle.console_core.specs.declared.event.Answer.{Answer}
 use Rattle.console_core.specs.declared.event.Answer.TheVariants as answer
-use Rattle.console_core.specs.History.{Maps, On, Locked, AnswerTo, AnswersTo}
+use Rattle.console_core.specs.History.{Maps, is_on_after, is_locked_after, answer_to, answers_to}
 use Rattle.play_core.specs.declared.sent.Sent.{Sent}
 use Rattle.play_core.specs.declared.show.Show.{Show}
 use Rattle.play_core.specs.declared.show.Show.TheVariants as show
@@ -55,7 +55,7 @@ line_of e a is_on is_locked =
 
 -- the line of the event e after the events h
 abbrev pub line_after : Maps → List Event → Event → List ℕ
-line_after ms h e = line_of e (AnswerTo ms h e) (λ m. On ms m (e ∷ h)) (λ l. Locked ms l (e ∷ h))
+line_after ms h e = line_of e (answer_to ms h e) (λ m. is_on_after ms m (e ∷ h)) (λ l. is_locked_after ms l (e ∷ h))
 
 -- the lines of later events in their order, after the events h, of which the newest is first
 unfoldable pub lines_after : Maps → List Event → List Event → List ℕ
@@ -74,12 +74,12 @@ typed_text answers = flat_map typed_by answers
 
 unfoldable pub text_after : Show → Maps → List Event → List Event → List ℕ
 text_after show.Lines ms h events = lines_after ms h events
-text_after show.Typed ms h events = typed_text (AnswersTo ms h events)
+text_after show.Typed ms h events = typed_text (answers_to ms h events)
 
 -- what is written of one event
 abbrev pub event_output : Show → Maps → List Event → Event → List ℕ
 event_output show.Lines ms h e = line_after ms h e
-event_output show.Typed ms h e = typed_by (AnswerTo ms h e)
+event_output show.Typed ms h e = typed_by (answer_to ms h e)
 
 -- what is written of a script on two maps
 abbrev pub played_text : Show → Maps → List Sent → List ℕ

@@ -3,9 +3,9 @@ ghost use Rattle.std.specs.Prelude.{◌≡◌, ◌++◌, List, [], None, filter,
 ghost use Rattle.std.specs.List.{list_any};
 ghost use Rattle.keymap_core.specs.Actions.{modifiers, locks};
 ghost use Rattle.console_core.specs.declared.event.Event.{Event as EventValue};
-ghost use Rattle.console_core.specs.History.{Maps, AnswersTo};
+ghost use Rattle.console_core.specs.History.{Maps, answers_to};
 ghost use Rattle.keymap_core.specs.Maps.{MapValue};
-ghost use Rattle.play_core.specs.Typing.{character_of, accent_of, types, alone};
+ghost use Rattle.play_core.specs.Typing.{character_typed_by, accent_left_by, types_something, alone};
 ghost use Rattle.play_core.specs.Inner.Effects.{IsTrial, typed_by_all, one_more, effect_by as effect_by_of};
 ghost use Rattle.play_core.specs.Inner.Effects.{character_in, accent_in};
 
@@ -71,7 +71,7 @@ fn with_answer(typed: Typed, answer: &Answer) -> Typed
 /// Delivers a way, and tells what its answers type.
 fn deliver<T: Translator>(console: &mut T, way: &[Event]) -> Typed
     ensures typed { (ms : Maps) (h : List EventValue) → T.stands console.old ms h
-        → result ≡ typed_by_all (filter types (AnswersTo ms h way.now)) }
+        → result ≡ typed_by_all (filter types_something (answers_to ms h way.now)) }
     ensures next { (ms : Maps) (h : List EventValue) → T.stands console.old ms h
         → T.stands console.new ms (reverse way.now ++ h) }
 {
@@ -121,9 +121,9 @@ fn effect_by(typed: Typed, pending: Option<u8>) -> Effect
 /// What the way does to a new console.
 fn effect_in<T: Translator>(console: &mut T, way: &[Event]) -> Effect
     ensures character { (m : MapValue) → IsTrial m way.now → T.stands console.old (alone m) []
-        → character_of m way.now ≡ character_in result }
+        → character_typed_by m way.now ≡ character_in result }
     ensures accent { (m : MapValue) → IsTrial m way.now → T.stands console.old (alone m) []
-        → accent_of m way.now ≡ accent_in result }
+        → accent_left_by m way.now ≡ accent_in result }
 {
     let typed = deliver(console, way);
     if is_any_on(console) {
@@ -138,8 +138,8 @@ fn effect_in<T: Translator>(console: &mut T, way: &[Event]) -> Effect
 /// What the way does to a new console of the keymap.
 pub(crate) fn effect_of(map: &KeyMap, way: &[Event]) -> Effect
     requires { IsTrial map.now way.now }
-    ensures character { character_of map.now way.now ≡ character_in result }
-    ensures accent { accent_of map.now way.now ≡ accent_in result }
+    ensures character { character_typed_by map.now way.now ≡ character_in result }
+    ensures accent { accent_left_by map.now way.now ≡ accent_in result }
 {
     effect_in(&mut WordConsole::new(map), way)
 }

@@ -50,7 +50,7 @@ fn has_in_slot(map: &KeyMap, modifier: Modifier, slot: u8) -> bool
 fn bears(map: &KeyMap, is_upper_live: bool, modifier: Modifier, key: u8) -> bool
     requires live { is_upper_live ≡ is_upper_live_of map.now }
     requires is_key { key < key_count }
-    ensures { result ≡ spec.bears map.now modifier key }
+    ensures { result ≡ spec.bears_modifier map.now modifier key }
 {
     has_in_slot(map, modifier, key)
         || (is_upper_live && has_in_slot(map, modifier, key + KEY_COUNT as u8))

@@ -5,7 +5,7 @@ ghost use Rattle.console_core.specs.declared.event.Event.{Event as EventValue};
 ghost use Rattle.console_core.specs.History.{Maps, between};
 ghost use Rattle.play_core.specs.Delivery.{delivered};
 ghost use Rattle.play_core.specs.Written.{text_after, event_output};
-ghost use Rattle.play_core.specs.Playing.{Plays, PlaysBetween, PlaysOn, moves, fails_reading, fails_writing};
+ghost use Rattle.play_core.specs.Playing.{Plays, PlaysBetween, PlaysOn, moves, blames_source, blames_writer};
 
 use crate::answer_line::push_line;
 use crate::output::{make_room, write_rest};
@@ -57,9 +57,9 @@ pub fn play<R: Read, S: Read, W: Write>(
     ensures plays { Plays show (moves (R.remaining text.old) (R.remaining text.new))
         (moves (S.remaining script.old) (S.remaining script.new))
         (moves (W.contents out.old) (W.contents out.new)) result }
-    ensures text_failed { R.has_failed text.new ≡ (fails_reading Source.Text result || R.has_failed text.old) }
-    ensures script_failed { S.has_failed script.new ≡ (fails_reading Source.Script result || S.has_failed script.old) }
-    ensures out_failed { W.has_failed out.new ≡ (fails_writing result || W.has_failed out.old) }
+    ensures text_failed { R.has_failed text.new ≡ (blames_source Source.Text result || R.has_failed text.old) }
+    ensures script_failed { S.has_failed script.new ≡ (blames_source Source.Script result || S.has_failed script.old) }
+    ensures out_failed { W.has_failed out.new ≡ (blames_writer result || W.has_failed out.old) }
 {
     let map = match read_from(alloc, text) {
         Ok(map) => map,
@@ -82,10 +82,10 @@ pub fn play_next<R: Read, N: Read, S: Read, W: Write>(
         (moves (N.remaining next.old) (N.remaining next.new))
         (moves (S.remaining script.old) (S.remaining script.new)) (moves (W.contents out.old) (W.contents out.new))
         result }
-    ensures text_failed { R.has_failed text.new ≡ (fails_reading Source.Text result || R.has_failed text.old) }
-    ensures next_failed { N.has_failed next.new ≡ (fails_reading Source.Next result || N.has_failed next.old) }
-    ensures script_failed { S.has_failed script.new ≡ (fails_reading Source.Script result || S.has_failed script.old) }
-    ensures out_failed { W.has_failed out.new ≡ (fails_writing result || W.has_failed out.old) }
+    ensures text_failed { R.has_failed text.new ≡ (blames_source Source.Text result || R.has_failed text.old) }
+    ensures next_failed { N.has_failed next.new ≡ (blames_source Source.Next result || N.has_failed next.old) }
+    ensures script_failed { S.has_failed script.new ≡ (blames_source Source.Script result || S.has_failed script.old) }
+    ensures out_failed { W.has_failed out.new ≡ (blames_writer result || W.has_failed out.old) }
 {
     let first = match read_from(alloc, text) {
         Ok(map) => map,
@@ -110,8 +110,8 @@ fn play_on<S: Read, W: Write>(
     ensures plays { PlaysOn show (between first.now second.now)
         (moves (S.remaining script.old) (S.remaining script.new))
         (moves (W.contents out.old) (W.contents out.new)) result }
-    ensures script_failed { S.has_failed script.new ≡ (fails_reading Source.Script result || S.has_failed script.old) }
-    ensures out_failed { W.has_failed out.new ≡ (fails_writing result || W.has_failed out.old) }
+    ensures script_failed { S.has_failed script.new ≡ (blames_source Source.Script result || S.has_failed script.old) }
+    ensures out_failed { W.has_failed out.new ≡ (blames_writer result || W.has_failed out.old) }
 {
     let sent = read_whole_script(alloc, script)?;
     let mut console = WordConsole::between(first, second);

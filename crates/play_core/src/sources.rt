@@ -1,6 +1,6 @@
 //! Reading what is played: the texts of keymaps, and the script.
 ghost use Rattle.std.specs.Prelude.{◌≡◌, ◌||◌, ◌^◌, ◌<◌, length, IfOk, MatchResult, Err};
-ghost use Rattle.play_core.specs.Playing.{ReadsScript, RefusesScript, moves, fails_reading, error_of_text};
+ghost use Rattle.play_core.specs.Playing.{ReadsScript, RefusesScript, moves, blames_source, error_of_text};
 ghost use Rattle.play_core.specs.Playing.{error_of_next};
 
 use crate::player::{PlayError, Source};
@@ -42,7 +42,7 @@ pub(crate) fn read_whole_script<S: Read>(
         (λ sent. ReadsScript (moves (S.remaining script.old) (S.remaining script.new)) sent.items)
         (RefusesScript (moves (S.remaining script.old) (S.remaining script.new))) }
     ensures failed { MatchResult result (λ _. S.has_failed script.new ≡ S.has_failed script.old)
-        (λ e. S.has_failed script.new ≡ (fails_reading Source.Script (Err e) || S.has_failed script.old)) }
+        (λ e. S.has_failed script.new ≡ (blames_source Source.Script (Err e) || S.has_failed script.old)) }
     ensures few { IfOk result (λ sent. length sent.items < 2 ^ 50) }
 {
     let bytes = match read_up_to(alloc, script, LIMIT + 1) {

@@ -7,7 +7,7 @@ ghost use Rattle.keymap_core.specs.Numbers.{key_count};
 ghost use Rattle.console_core.specs.declared.event.Event.{Event as EventValue};
 ghost use Rattle.play_core.specs.HeldKeys.{combinations_of, combinations_with, combinations, gathered, combination_with};
 ghost use Rattle.play_core.specs.Inner.HeldTables.{AreHeldKeys};
-ghost use Rattle.play_core.specs.Typing.{character_of, accent_of, direct_way, dead_way, joined, accented_by, accented, way_for};
+ghost use Rattle.play_core.specs.Typing.{character_typed_by, accent_left_by, direct_way, dead_way, joined, accented_by, accented, way_for};
 ghost use Rattle.play_core.specs.Inner.Tables.{IsTableOf, AreTablesOf};
 
 use crate::effect::effect_of;
@@ -140,8 +140,9 @@ fn try_base(
 ) -> Result<(), AllocError>
     requires found { AreTablesOf map.now (combinations map.now) found.now.characters.entries found.now.accents.entries }
     requires dead { (i : ℕ) × (dead_way map.now i ≡ Some dead.now.items) }
-    ensures { OnOk result ((ways : List (List EventValue)) → IsTableOf (character_of map.now) ways accented.old.entries
-        → IsTableOf (character_of map.now) (ways ++ joined (Some dead.now.items) (direct_way map.now base))
+    ensures { OnOk result ((ways : List (List EventValue))
+        → IsTableOf (character_typed_by map.now) ways accented.old.entries
+        → IsTableOf (character_typed_by map.now) (ways ++ joined (Some dead.now.items) (direct_way map.now base))
         accented.new.entries) }
 {
     let Some(direct) = found.characters.get(&u32::from(base)) else {
@@ -160,8 +161,9 @@ fn try_accent(
     index: u8,
 ) -> Result<(), AllocError>
     requires { AreTablesOf map.now (combinations map.now) found.now.characters.entries found.now.accents.entries }
-    ensures { OnOk result ((ways : List (List EventValue)) → IsTableOf (character_of map.now) ways accented.old.entries
-        → IsTableOf (character_of map.now) (ways ++ accented_by map.now index) accented.new.entries) }
+    ensures { OnOk result ((ways : List (List EventValue))
+        → IsTableOf (character_typed_by map.now) ways accented.old.entries
+        → IsTableOf (character_typed_by map.now) (ways ++ accented_by map.now index) accented.new.entries) }
 {
     let Some(accent) = map.accent(index) else {
         return Ok(());
@@ -179,7 +181,7 @@ fn try_accent(
 /// Tries the dead key of each accent before each base.
 fn accented_table(alloc: Global, map: &KeyMap, found: &Found) -> Result<Table, AllocError>
     requires { AreTablesOf map.now (combinations map.now) found.now.characters.entries found.now.accents.entries }
-    ensures { IfOk result (λ table. IsTableOf (character_of map.now) (accented map.now) table.entries) }
+    ensures { IfOk result (λ table. IsTableOf (character_typed_by map.now) (accented map.now) table.entries) }
 {
     let mut table = IndexMap::new(alloc);
     for index in 0..15u8 {
@@ -199,15 +201,15 @@ pub struct Ways<'m> {
 impl<'m> Model for Ways<'m> {
     ghost use Rattle.keymap_core.specs.Maps.{MapValue};
     ghost use Rattle.play_core.specs.HeldKeys.{combinations};
-    ghost use Rattle.play_core.specs.Typing.{character_of, accented};
+    ghost use Rattle.play_core.specs.Typing.{character_typed_by, accented};
     ghost use Rattle.play_core.specs.Inner.Tables.{IsTableOf};
 
     ghost Value = { MapValue };
 
     ghost view = { λ w. w.map.now };
 
-    ghost invariant = { λ w. IsTableOf (character_of w.map.now) (combinations w.map.now) w.direct.entries
-        × IsTableOf (character_of w.map.now) (accented w.map.now) w.composed.entries };
+    ghost invariant = { λ w. IsTableOf (character_typed_by w.map.now) (combinations w.map.now) w.direct.entries
+        × IsTableOf (character_typed_by w.map.now) (accented w.map.now) w.composed.entries };
 }
 
 impl<'m> Ways<'m> {

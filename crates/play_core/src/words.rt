@@ -1,7 +1,7 @@
 //! The words of a line of a script.
 ghost use Rattle.std.specs.Prelude.{◌≡◌, ◌<◌, ◌==◌, not, position, [], ◌∷◌, length, min, IfSome, IfNone, MatchOption};
 ghost use Rattle.std.specs.Str.Parse.{AllDigits, digits_value};
-ghost use Rattle.play_core.specs.Scripts.{is_blank, words_in, parts_of, without_comment as without_comment_of};
+ghost use Rattle.play_core.specs.Scripts.{separates_words, words_in, parts_of, without_comment as without_comment_of};
 ghost use Rattle.keymap_core.specs.Numbers.{key_count};
 
 use keymap_core::KEY_COUNT;
@@ -54,21 +54,21 @@ fn first_number_sign(line: &[u8]) -> Option<usize>
 }
 
 fn first_blank(line: &[u8]) -> Option<usize>
-    ensures place { result ≡ position is_blank line.now }
+    ensures place { result ≡ position separates_words line.now }
     ensures bound { IfSome result (λ i. i < length line.now) }
 {
     line.iter().position(|b| is_blank_byte(*b))
 }
 
 fn first_word_byte(line: &[u8]) -> Option<usize>
-    ensures place { result ≡ position (λ b. not (is_blank b)) line.now }
+    ensures place { result ≡ position (λ b. not (separates_words b)) line.now }
     ensures bound { IfSome result (λ i. i < length line.now) }
 {
     line.iter().position(|b| !is_blank_byte(*b))
 }
 
 fn is_blank_byte(b: u8) -> bool
-    ensures { result ≡ is_blank b }
+    ensures { result ≡ separates_words b }
 {
     b == b' ' || b == b'\t' || b == b'\r'
 }

@@ -9,25 +9,25 @@ use Rattle.keymap_core.specs.Numbers.{key_count}
 use mathlib.Core.Bool.{beq}
 use Rattle.console_core.specs.declared.held.Held.{Held}
 
-abbrev pub number_of : Option ℕ → ℕ
-number_of None = key_count
-number_of (Some k) = k
+abbrev pub holder_number : Option ℕ → ℕ
+holder_number None = key_count
+holder_number (Some k) = k
 
 abbrev pub bit_of : Bool → ℕ
 bit_of true = 1
 bit_of false = 0
 
 -- the numbers of the holders, and a bit for each lock
-abbrev pub number_at : List (Option ℕ) → ℕ → ℕ
-number_at holders n = number_of (slice_index_or holders n None)
+abbrev pub holder_number_at : List (Option ℕ) → ℕ → ℕ
+holder_number_at holders n = holder_number (slice_index_or holders n None)
 
 abbrev pub bit_at : List Bool → ℕ → ℕ
 bit_at locks n = bit_of (slice_index_or locks n false)
 
 abbrev pub bytes_from : List (Option ℕ) → List Bool → List ℕ
 bytes_from holders locks =
-    number_at holders 0 ∷ number_at holders 1 ∷ number_at holders 2 ∷ number_at holders 3
-    ∷ number_at holders 4 ∷ number_at holders 5 ∷ number_at holders 6 ∷ number_at holders 7
+    holder_number_at holders 0 ∷ holder_number_at holders 1 ∷ holder_number_at holders 2 ∷ holder_number_at holders 3
+    ∷ holder_number_at holders 4 ∷ holder_number_at holders 5 ∷ holder_number_at holders 6 ∷ holder_number_at holders 7
     ∷ bit_at locks 0 ∷ bit_at locks 1 ∷ bit_at locks 2 ∷ bit_at locks 3 ∷ []
 
 abbrev pub bytes_of : Held → List ℕ

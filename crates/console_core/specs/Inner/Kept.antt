@@ -1,5 +1,5 @@
 -- What writing a part of what a console keeps leaves, and what each kind of event leaves. Mirrors the methods of
--- `Store` of src/store.rt, `next_pending` and `toggled` of src/rules.rt, and the steps of src/machine.rt.
+-- `Store` of src/store.rt, `next_pending` and `pending_after_dead_key` of src/rules.rt, and the steps of src/machine.rt.
 use Rattle.std.specs.Prelude.{ℕ, ◌==◌, Bool, false, not, Option, None, Some, ◌&&◌, ◌||◌, if◌then◌else◌}
 use Rattle.keymap_core.specs.declared.action.Action.{Action}
 use Rattle.keymap_core.specs.declared.action.Holding.{Holding}
@@ -11,7 +11,7 @@ use Rattle.keymap_core.specs.Maps.{MapValue}
 use Rattle.console_core.specs.Positions.{first_of_two}
 use Rattle.console_core.specs.Agrees.{Kept}
 use Rattle.console_core.specs.Answers.{is_pending}
-use Rattle.console_core.specs.Resolved.{unless_nop, taken_over, is_action, keeps_taken, usable_dead_key}
+use Rattle.console_core.specs.Resolved.{unless_nop, taken_over, is_this_action, keeps_taken, usable_dead_key}
 
 abbrev pub with_mark : Holding → Bool → Kept → Kept
 with_mark a on k = record k { mark = λ b. if holding_index a == holding_index b then on else k.mark b }
@@ -59,12 +59,12 @@ abbrev pub with_released : Action → Kept → Kept
 with_released released k = record k { mark = λ a. k.mark a && not (same_action released (holding_action a)) }
 
 -- what is pending after a press that takes the action, by what was before
-abbrev pub toggled : Option ℕ → Option ℕ → Option ℕ
-toggled None p = None
-toggled (Some i) p = if is_pending i p then None else Some i
+abbrev pub pending_after_dead_key : Option ℕ → Option ℕ → Option ℕ
+pending_after_dead_key None p = None
+pending_after_dead_key (Some i) p = if is_pending i p then None else Some i
 
 abbrev pub next_pending : MapValue → Option ℕ → Action → Option ℕ
-next_pending m p a = if keeps_taken a then p else toggled (usable_dead_key m a) p
+next_pending m p a = if keeps_taken a then p else pending_after_dead_key (usable_dead_key m a) p
 
 -- what a press of the key leaves, where its look is a character
 abbrev pub after_character : ℕ → Kept → Kept
@@ -81,7 +81,7 @@ after_action m key action k = after_taken m key action (taken_over (k.memory key
 -- what a release of the key leaves
 abbrev pub after_release : ℕ → Kept → Kept
 after_release key k = record (with_memory key None k) {
-  mark = λ a. k.mark a && not (is_action (k.memory key) (holding_action a));
+  mark = λ a. k.mark a && not (is_this_action (k.memory key) (holding_action a));
 }
 
 -- the lock is off where no key of the map bears it

@@ -15,8 +15,9 @@ use Rattle.console_core.specs.declared.held.Move.{Move}
 use Rattle.console_core.specs.declared.held.Move.TheVariants.{Hold, Turn, LetGo}
 use Rattle.console_core.specs.declared.held.Step.{Step}
 use Rattle.console_core.specs.declared.search.Origin.{Origin}
-use Rattle.console_core.specs.Moves.{State, start, look_in, Holds, IsIdle, Forgets, IsForgetful, IsMove, moved, IsPath}
-use Rattle.console_core.specs.Moves.{state_after, script, with_holder, with_turned}
+use Rattle.console_core.specs.Moves.{State, start, look_in, Holds, IsIdle, HolderForgets, IsForgetful, IsMove, moved}
+use Rattle.console_core.specs.Moves.{IsPath}
+use Rattle.console_core.specs.Moves.{state_after, script_of_path, with_holder, with_lock_turned}
 
 -- how many presses a move takes
 abbrev pub presses_of : Move → ℕ
@@ -59,7 +60,7 @@ abbrev pub ArePressesMet : MapValue → Entries → ℕ → State → ℕ → Ty
 ArePressesMet m es p s k =
     IsIdle s k
     → ((i : Modifier) → look_in m s k ≡ Act (act.Mod i) → s.holder i ≡ None → IsMetBy es p (with_holder s i (Some k)))
-    × ((l : Lock) → l ≢ Scroll → look_in m s k ≡ Act (act.Lock l) → IsMetBy es p (with_turned s l))
+    × ((l : Lock) → l ≢ Scroll → look_in m s k ≡ Act (act.Lock l) → IsMetBy es p (with_lock_turned s l))
 
 -- more were met
 abbrev pub Grows : Entries → Entries → Type 0
@@ -122,8 +123,8 @@ GoBack es = (j : ℕ) (x : Entry) (parent : ℕ) (by : Move) → slice_get es j 
 abbrev pub IsScriptTo : Entries → ℕ → ℕ → List Event → Type 0
 IsScriptTo es j k h =
     (path : List Move) (x : Entry) → slice_get es j ≡ Some x → IsTrail es j path → state_after path ≡ state_of x.0
-    → h ≡ script path k
+    → h ≡ script_of_path path k
 
 -- at the place a modifier is held by the key, which looks up a character
 abbrev pub IsStuck : MapValue → Entries → ℕ → ℕ → Type 0
-IsStuck m es j k = (x : Entry) × (slice_get es j ≡ Some x) × ((i : Modifier) × Forgets m (state_of x.0) i k)
+IsStuck m es j k = (x : Entry) × (slice_get es j ≡ Some x) × ((i : Modifier) × HolderForgets m (state_of x.0) i k)

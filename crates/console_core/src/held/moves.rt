@@ -6,11 +6,11 @@ ghost use Rattle.keymap_core.specs.Numbers.{key_count};
 ghost use Rattle.keymap_core.specs.declared.action.Modifier.{Modifier as ModifierValue};
 ghost use Rattle.console_core.specs.Columns.{slot_of, is_upper};
 ghost use Rattle.console_core.specs.Moves.{start as start_state, is_held as is_held_in, look_in, IsIdle};
-ghost use Rattle.console_core.specs.Moves.{with_holder as with_holder_in, with_turned as with_turned_in, Forgets};
-ghost use Rattle.console_core.specs.Moves.{IsForgetful, events_of, releases};
+ghost use Rattle.console_core.specs.Moves.{with_holder as with_holder_in, with_lock_turned, HolderForgets};
+ghost use Rattle.console_core.specs.Moves.{IsForgetful, events_of_move, releases};
 ghost use Rattle.console_core.specs.Inner.Searching.{presses_of};
 ghost use Rattle.console_core.specs.Inner.Searching.{state_of, Entries, IsMetBy, IsLetGoMet, ArePressesMet, IsStep};
-ghost use Rattle.console_core.specs.Inner.HeldBytes.{number_of, bytes_of, held-equal, bool_equal, same-bytes};
+ghost use Rattle.console_core.specs.Inner.HeldBytes.{holder_number, bytes_of, held-equal, bool_equal, same-bytes};
 
 use super::{Held, Move, Step};
 use crate::event::Event;
@@ -22,7 +22,7 @@ use std::hash::{Hash, Hasher};
 impl Move {
     /// Adds the events of the move, the newest first.
     pub fn push_events(self, events: &mut Vec<Event>) -> Result<(), AllocError>
-        ensures { OnOk result (events.new.items ≡ events.old.items ++ events_of self) }
+        ensures { OnOk result (events.new.items ≡ events.old.items ++ events_of_move self) }
     {
         match self {
             Move::Hold(key, _) => events.push(Event::Press(key))?,
@@ -74,7 +74,7 @@ impl Held {
     }
 
     fn with_turned(&self, lock: Lock) -> Held
-        ensures { state_of result ≡ with_turned_in (state_of self.now) lock }
+        ensures { state_of result ≡ with_lock_turned (state_of self.now) lock }
     {
         let mut next = *self;
         let place = lock.index();
@@ -134,8 +134,8 @@ impl Held {
 
     /// The holder of the modifier, if it looks up a character.
     fn forgets(&self, map: &KeyMap, modifier: Modifier) -> Option<KeyCode>
-        ensures { MatchOption result ((k : ℕ) → Forgets map.now (state_of self.now) modifier k
-            → ⊥) (λ k. Forgets map.now (state_of self.now) modifier k) }
+        ensures { MatchOption result ((k : ℕ) → HolderForgets map.now (state_of self.now) modifier k
+            → ⊥) (λ k. HolderForgets map.now (state_of self.now) modifier k) }
     {
         match self.holder(modifier) {
             Some(key) => match self.look(map, key) {
@@ -149,7 +149,7 @@ impl Held {
     /// A key that holds a modifier and looks up a character.
     pub fn forgetful(&self, map: &KeyMap) -> Option<KeyCode>
         ensures { MatchOption result (IsForgetful map.now (state_of self.now) → ⊥) (λ k. (i : ModifierValue)
-            × Forgets map.now (state_of self.now) i k) }
+            × HolderForgets map.now (state_of self.now) i k) }
     {
         for modifier in MODIFIERS {
             match self.forgets(map, modifier) {
@@ -225,7 +225,7 @@ impl Held {
 
 /// The number of the key, or the count of keys for none.
 fn number(holder: Option<KeyCode>) -> u8
-    ensures { result ≡ number_of holder }
+    ensures { result ≡ holder_number holder }
 {
     match holder {
         Some(key) => key.get(),

@@ -18,27 +18,27 @@ abbrev pub empty_map : MapValue
 empty_map = record { entries = []; accents = [] }
 
 -- Where a text stands in its row of definitions, with the part of a definition that it is in.
-pub data Place : Type 0 where
-  Definition : Place
-  CellAt : ℕ → ℕ → Entry → Place
-  LockAt : ℕ → Entry → Place
-  AccentCharacter : ℕ → Place
-  AfterAccent : ℕ → AccentValue → Place
-  PairBase : ℕ → AccentValue → Place
-  PairResult : ℕ → AccentValue → ℕ → Place
-  PairEnd : ℕ → AccentValue → ℕ → ℕ → Place
+pub data GrammarPlace : Type 0 where
+  Definition : GrammarPlace
+  CellAt : ℕ → ℕ → Entry → GrammarPlace
+  LockAt : ℕ → Entry → GrammarPlace
+  AccentCharacter : ℕ → GrammarPlace
+  AfterAccent : ℕ → AccentValue → GrammarPlace
+  PairBase : ℕ → AccentValue → GrammarPlace
+  PairResult : ℕ → AccentValue → ℕ → GrammarPlace
+  PairEnd : ℕ → AccentValue → ℕ → ℕ → GrammarPlace
 
 -- the first token of a definition
-abbrev pub first_of : Item → Result Place TextFaultKind
+abbrev pub first_of : Item → Result GrammarPlace TextFaultKind
 first_of (Value (Number n)) = if nat_lt n slot_limit then Ok (CellAt n 0 undefined) else Err faults.KeyTooLarge
 first_of (Value (Act a)) = elim (accent_index a) [ Some i ↦ Ok (AccentCharacter i) | None ↦ Err faults.Unexpected ]
 first_of other = Err (refusal other)
 
-pub record State : Type 0 where
+pub record GrammarState : Type 0 where
   pub map : MapValue
-  pub place : Place
+  pub place : GrammarPlace
 
-abbrev pub at : MapValue → Place → State
+abbrev pub at : MapValue → GrammarPlace → GrammarState
 at m p = record { map = m; place = p }
 
 infixl 10 ◌>>=◌
@@ -49,16 +49,16 @@ abbrev pub ◌>>=◌ : {A B : Type 0} → Result A TextFaultKind → (A → Resu
 abbrev pub with_cell : Entry → ℕ → Cell → Entry
 with_cell e i c = record { cells = set e.cells i c; flag = e.flag }
 
-abbrev pub after_cell : ℕ → ℕ → Entry → Place
+abbrev pub after_cell : ℕ → ℕ → Entry → GrammarPlace
 after_cell slot i e = if i == 7 then LockAt slot e else CellAt slot (i + 1) e
 
 abbrev pub with_pair : AccentValue → ℕ → ℕ → AccentValue
 with_pair a b r = record { own = a.own; pairs = a.pairs ++ (b, r) ∷ [] }
 
-abbrev pub base_at : MapValue → ℕ → AccentValue → ℕ → Result State TextFaultKind
-base_at m i a c = if c == 0 then Err faults.ZeroBase else Ok (at m (PairResult i a c))
+abbrev pub after_base : MapValue → ℕ → AccentValue → ℕ → Result GrammarState TextFaultKind
+after_base m i a c = if c == 0 then Err faults.ZeroBase else Ok (at m (PairResult i a c))
 
-abbrev pub step : MapValue → Place → Item → Result State TextFaultKind
+abbrev pub step : MapValue → GrammarPlace → Item → Result GrammarState TextFaultKind
 step m Definition t = do
   p ← first_of t
   Ok (at m p)
@@ -78,23 +78,23 @@ step m (AfterAccent i a) t = do
   Ok (at (with_accent m i a) p)
 step m (PairBase i a) t = do
   c ← character t
-  base_at m i a c
+  after_base m i a c
 step m (PairResult i a b) t = do
   c ← character t
   Ok (at m (PairEnd i a b c))
 step m (PairEnd i a b r) Close = Ok (at m (AfterAccent i (with_pair a b r)))
 step m (PairEnd i a b r) t = Err (refusal t)
 
-unfoldable pub accept : State → Item → Result State TextFaultKind
+unfoldable pub accept : GrammarState → Item → Result GrammarState TextFaultKind
 accept s t = step s.map s.place t
 
 -- the map, where the text may end here
-unfoldable pub at_end : State → Option MapValue
+unfoldable pub at_end : GrammarState → Option MapValue
 at_end s = elim s.place [
   | Definition ↦ Some s.map
   | AfterAccent i a ↦ Some (with_accent s.map i a)
   | _ ↦ None
 ]
 
-abbrev pub start : State
+abbrev pub start : GrammarState
 start = at empty_map Definition

@@ -28,16 +28,16 @@ abbrev pub screen_name : ℕ → ℕ
 screen_name n = 0x2020203030726373 + n / 10 * 0x1000000 + n % 10 * 0x100000000
 
 -- each byte is a letter or a digit
-abbrev pub Letters : List ℕ → Type 0
-Letters [] = Unit {0}
-Letters (c ∷ w) = (is_word c ≡ true) × Letters w
+abbrev pub AreWordBytes : List ℕ → Type 0
+AreWordBytes [] = Unit {0}
+AreWordBytes (c ∷ w) = (is_word c ≡ true) × AreWordBytes w
 
 -- each word with this key, without regard to case, means m
-abbrev pub Means : ℕ → Meaning → Type 0
-Means key m = (w : List ℕ) → length w ≤ 8 → Letters w → pack 8 (map to_ascii_lowercase w) ≡ key → m ≡ meaning w
+abbrev pub KeyMeans : ℕ → Meaning → Type 0
+KeyMeans key m = (w : List ℕ) → length w ≤ 8 → AreWordBytes w → pack 8 (map to_ascii_lowercase w) ≡ key → m ≡ meaning w
 
 abbrev pub IsTrueName : Name → Type 0
-IsTrueName name = Means (from_le_bytes w64 name.0) (sense_meaning name.1)
+IsTrueName name = KeyMeans (from_le_bytes w64 name.0) (sense_meaning name.1)
 
 -- the place of the lowest bit that is set, 16 where none is
 abbrev pub first_of_sixteen : ℕ → ℕ

@@ -8,21 +8,22 @@ use Rattle.keymap_text.specs.declared.fault.TextFault.{TextFault}
 use Rattle.keymap_text.specs.declared.scanner.Mode.{Mode}
 use Rattle.keymap_text.specs.declared.scanner.Mode.TheVariants as modes
 use Rattle.keymap_text.specs.declared.scanner.Scanner.{Scanner}
-use Rattle.keymap_text.specs.Lexical.{split, Tokens, Token, Then, leading, stays_on_line, is_word, is_blank, literal}
+use Rattle.keymap_text.specs.Lexical.{tokens_after, Tokens, TokenValue, Then, leading, stays_on_line, is_word, is_blank}
+use Rattle.keymap_text.specs.Lexical.{literal}
 use Rattle.keymap_text.specs.Lexical.{Unfinished}
 use Rattle.keymap_text.specs.Meaning.{line, is_settled}
 use Rattle.keymap_text.specs.Inner.Judging.{judge, Verdict, Spelled, Faulty}
 use Rattle.keymap_text.specs.Words.{item}
 use Rattle.keymap_text.specs.declared.words.Item.{Item}
-use Rattle.keymap_text.specs.Inner.Grammar.{State}
+use Rattle.keymap_text.specs.Inner.Grammar.{GrammarState}
 use Rattle.keymap_text.specs.Inner.Views.{state_view, IsPlace}
 
 -- the tokens from the pending bytes on, where the bytes x are to come
 abbrev pub tokens_of : Mode → List ℕ → ℕ → List ℕ → Tokens
-tokens_of modes.Between p q x = split 0 q x
-tokens_of modes.Comment p q x = split (leading stays_on_line x) q x
-tokens_of modes.Word p q x = split 0 q (p ++ x)
-tokens_of modes.Literal p q x = split 0 q (p ++ x)
+tokens_of modes.Between p q x = tokens_after 0 q x
+tokens_of modes.Comment p q x = tokens_after (leading stays_on_line x) q x
+tokens_of modes.Word p q x = tokens_after 0 q (p ++ x)
+tokens_of modes.Literal p q x = tokens_after 0 q (p ++ x)
 
 abbrev pub resume : Scanner → List ℕ → Verdict
 resume r x = judge (state_view r.grammar) (tokens_of r.mode r.pending.items r.offset x)
@@ -46,7 +47,7 @@ Goes (Ok u) f g = (x : List ℕ) → f x ≡ g x
 Goes (Err e) f g = (x : List ℕ) → f x ≡ Faulty e.kind e.offset true
 
 -- What a whole token did.
-abbrev pub Accepts : Result (Unit {0}) TextFault → Result State TextFaultKind → ℕ → Scanner → ℕ → Type 0
+abbrev pub Accepts : Result (Unit {0}) TextFault → Result GrammarState TextFaultKind → ℕ → Scanner → ℕ → Type 0
 Accepts (Ok u) s q r end = (s ≡ Ok (state_view r.grammar)) × (r.mode ≡ modes.Between) × (r.offset ≡ end)
 Accepts (Err e) s q r end = (s ≡ Err e.kind) × (e.offset ≡ q)
 
@@ -74,7 +75,7 @@ pub record Forward (old new : Scanner) (c : ℕ) : Type 0 where
   pub past : c ≡ 10 → length new.pending.items ≡ 0
 
 -- A fault at what is pending, or after it.
-pub record IsPending (e : TextFault) (old : Scanner) : Type 0 where
+pub record IsFaultOfPending (e : TextFault) (old : Scanner) : Type 0 where
   pub line : e.line ≡ old.line
   pub from : old.offset ≤ e.offset
   pub to : e.offset ≤ old.offset + length old.pending.items
@@ -100,8 +101,9 @@ pub record Refuses (old : Scanner) (rest : List ℕ) (e : TextFault) : Type 0 wh
 
 -- A whole token of n bytes, which stands for i, is in front, whatever follows.
 pub record Fronts (rest : List ℕ) (i : Item) (n : ℕ) : Type 0 where
-  pub token : ℕ → List ℕ → Token
-  pub splits : (q : ℕ) (x : List ℕ) → split 0 q (rest ++ x) ≡ Then (token q x) (split 0 (q + n) (drop n rest ++ x))
+  pub token : ℕ → List ℕ → TokenValue
+  pub splits : (q : ℕ) (x : List ℕ)
+      → tokens_after 0 q (rest ++ x) ≡ Then (token q x) (tokens_after 0 (q + n) (drop n rest ++ x))
   pub item : (q : ℕ) (x : List ℕ) → item (token q x).kind (token q x).bytes ≡ i
   pub start : (q : ℕ) (x : List ℕ) → (token q x).start ≡ q
   pub settled : (q : ℕ) (x : List ℕ) → is_settled (token q x) ≡ true

@@ -25,7 +25,7 @@ FoundFits (fronts.Found kind n) m = n ≤ m
 FoundFits _ m = Unit {0}
 
 -- a place, with the entry and the accent that are being defined
-abbrev pub place_view : Place → Entry → AccentValue → spec.Place
+abbrev pub place_view : Place → Entry → AccentValue → spec.GrammarPlace
 place_view places.Definition e a = spec.Definition
 place_view (places.Cell slot i) e a = spec.CellAt slot i e
 place_view (places.Lock slot) e a = spec.LockAt slot e
@@ -35,7 +35,7 @@ place_view (places.PairBase i) e a = spec.PairBase i a
 place_view (places.PairResult i b) e a = spec.PairResult i a b
 place_view (places.PairEnd i b r) e a = spec.PairEnd i a b r
 
-abbrev pub state_view : Grammar → spec.State
+abbrev pub state_view : Grammar → spec.GrammarState
 state_view g = spec.at g.map (place_view g.place g.entry g.accent)
 
 -- the indices that places may have
@@ -50,11 +50,11 @@ IsPlace (places.PairResult i b) a = (i < accent_limit) × (length a.pairs < pair
 IsPlace (places.PairEnd i b r) a = (i < accent_limit) × (length a.pairs < pair_limit) × (b ≢ 0)
 
 -- what a step of the code did, by the step of the definitions
-abbrev pub Steps : Result (Unit {0}) TextFaultKind → Result spec.State TextFaultKind → spec.State → Type 0
+abbrev pub Steps : Result (Unit {0}) TextFaultKind → Result spec.GrammarState TextFaultKind → spec.GrammarState → Type 0
 Steps (Ok u) r s = r ≡ Ok s
 Steps (Err f) r s = r ≡ Err f
 
 -- where the first token of a definition leads
-abbrev pub Leads : Result Place TextFaultKind → Result spec.Place TextFaultKind → Type 0
+abbrev pub Leads : Result Place TextFaultKind → Result spec.GrammarPlace TextFaultKind → Type 0
 Leads (Ok p) r = ((a : AccentValue) → r ≡ Ok (place_view p undefined a)) × ((a : AccentValue) → IsPlace p a)
 Leads (Err f) r = r ≡ Err f

@@ -1,7 +1,7 @@
 use Rattle.std.proofs.Common.{◌≡◌, ◌++◌, List, length, take, drop}
 use Rattle.std.specs.Prelude.{map, reverse}
 use Rattle.console_core.specs.declared.event.Event.{Event}
-use Rattle.console_core.specs.History.{Maps, AnswersTo}
+use Rattle.console_core.specs.History.{Maps, answers_to}
 use Rattle.console_core.specs.Packed.{KeptAt}
 use Rattle.console_core.specs.Raw.{raw_of}
 use Rattle.kmap_c.specs.Numbers.{event_of}
@@ -16,5 +16,5 @@ invariant-loop-index g l = record {
       → KeptAt ms h l.fn.store → KeptAt ms (reverse (map event_of (take l.index l.events)) ++ h) l.store;
   answers : (ms : Maps) (h : List Event) → g.K.Keymap.shows l.first ms.first → g.K.Keymap.shows l.second ms.second
       → KeptAt ms h l.fn.store
-      → take l.index l.answers ≡ map raw_of (AnswersTo ms h (map event_of (take l.index l.events)));
+      → take l.index l.answers ≡ map raw_of (answers_to ms h (map event_of (take l.index l.events)));
 }

@@ -12,13 +12,13 @@ use Rattle.play_core.specs.declared.sent.Sent.{Sent}
 use Rattle.play_core.specs.Scripts.{is_there, parts_of, words_of, IsNumber, IsEvent}
 use Rattle.keymap_core.specs.Numbers.{key_count}
 
-abbrev pub are_digits : List ℕ → Bool
-are_digits [] = true
-are_digits (b ∷ bs) = nat_lt (digit_value b) 10 && are_digits bs
+abbrev pub all_digits : List ℕ → Bool
+all_digits [] = true
+all_digits (b ∷ bs) = nat_lt (digit_value b) 10 && all_digits bs
 
 unfoldable pub key_in : List ℕ → Result ℕ LineFault
 key_in number =
-    if are_digits number
+    if all_digits number
     then (if nat_lt (digits_value 10 number) key_count then Ok (digits_value 10 number) else Err Key)
     else Err Form
 

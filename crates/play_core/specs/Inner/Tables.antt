@@ -4,20 +4,20 @@ use Rattle.std.specs.Map.{lookup}
 use Rattle.arrayvec.specs.ArrayVec.{ArrayVec}
 use Rattle.console_core.specs.declared.event.Event.{Event}
 use Rattle.keymap_core.specs.Maps.{MapValue}
-use Rattle.play_core.specs.Typing.{first_with, character_of, accent_of}
+use Rattle.play_core.specs.Typing.{first_with, character_typed_by, accent_left_by}
 
-abbrev pub Entries : Type 0
-Entries = List (ℕ × ArrayVec Event)
+abbrev pub WayEntries : Type 0
+WayEntries = List (ℕ × ArrayVec Event)
 
 -- the way under the number
-abbrev pub way_at : Entries → ℕ → Option (List Event)
+abbrev pub way_at : WayEntries → ℕ → Option (List Event)
 way_at es c = option_map (λ w. w.items) (lookup (λ x. c == x) es)
 
 -- the table has for each number the first of the ways by which f gives it
-abbrev pub IsTableOf : (List Event → Option ℕ) → List (List Event) → Entries → Type 0
+abbrev pub IsTableOf : (List Event → Option ℕ) → List (List Event) → WayEntries → Type 0
 IsTableOf f ways es = (c : ℕ) → way_at es c ≡ first_with f ways c
 
 -- tables of the ways by the characters that they type, and by the accents that they leave pending
-pub record AreTablesOf (m : MapValue) (ways : List (List Event)) (characters accents : Entries) : Type 0 where
-  pub by_character : IsTableOf (character_of m) ways characters
-  pub by_accent : IsTableOf (accent_of m) ways accents
+pub record AreTablesOf (m : MapValue) (ways : List (List Event)) (characters accents : WayEntries) : Type 0 where
+  pub by_character : IsTableOf (character_typed_by m) ways characters
+  pub by_accent : IsTableOf (accent_left_by m) ways accents

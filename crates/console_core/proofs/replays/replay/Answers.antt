@@ -6,8 +6,8 @@ use Rattle.console_core.proofs.Headline.{goes_on_as_after_reset, repeats-kept}
 use Rattle.console_core.proofs.FreshPresses.{locked_by_fresh_presses}
 use Rattle.console_core.proofs.PlainLooks.{shown-plain}
 use Rattle.console_core.proofs.Traps.{on_only_while_pressed_without_traps}
-use Rattle.console_core.specs.History.{AnswersTo, HasKeys, Locked}
-use Rattle.console_core.proofs.Deliveries.{take_event, AnswersTo-push, reverse-push, reverse-joined}
+use Rattle.console_core.specs.History.{answers_to, HasKeys, is_locked_after}
+use Rattle.console_core.proofs.Deliveries.{take_event, answers_to-push, reverse-push, reverse-joined}
 use Rattle.console_core.proofs.replays.replay.Goals as goal
 
 pub loop-event-preserved : goal.loop-event-preserved
@@ -22,10 +22,10 @@ loop-event-preserved g c =
           λ ms h s. rw (
             c.push_reserved.ensures.items,
             e,
-            AnswersTo-push ms h (take c.loop-event.event-index c.args.events.now) c.event-item.result,
+            answers_to-push ms h (take c.loop-event.event-index c.args.events.now) c.event-item.result,
             c.loop-event.invariant.answers ms h s,
           )
-          (ap (λ a. AnswersTo ms h (take c.loop-event.event-index c.args.events.now) ++ a ∷ [])
+          (ap (λ a. answers_to ms h (take c.loop-event.event-index c.args.events.now) ++ a ∷ [])
           (c.step.ensures.answer ms _ (c.loop-event.invariant.stands ms h s)));
       stands =
           λ ms h s. rw (e, reverse-push c.event-item.result (take c.loop-event.event-index c.args.events.now) h)
@@ -65,7 +65,7 @@ returns-clause-repeats_turn_no_steady_lock g c =
     let joined : reverse c.args.events.now ++ h ≡ reverse repeats ++ (reverse earlier ++ h) =
     rw split (reverse-joined earlier repeats h) in
     g.met.T.Translator.locked_where_it_stands c.loop-event.console ms (reverse c.args.events.now ++ h) at l
-    ∙ ap (λ x. Locked ms l x) joined
+    ∙ ap (λ x. is_locked_after ms l x) joined
     ∙ repeats-kept ms l (reverse earlier ++ h) repeats steady (subst HasKeys joined keys) are
 
 pub returns-clause-off_once_quiet : goal.returns-clause-off_once_quiet

@@ -3,7 +3,7 @@ use Rattle.std.proofs.lemmas.List.{reverse-reverse}
 use Rattle.keymap_core.specs.Actions.{modifiers}
 use Rattle.console_core.specs.declared.event.Event.TheVariants.{Press}
 use Rattle.console_core.specs.declared.held.Move.{Move}
-use Rattle.console_core.specs.Moves.{releases, events_of, events_along, script}
+use Rattle.console_core.specs.Moves.{releases, events_of_move, events_along, script_of_path}
 use Rattle.console_core.specs.Inner.Searching.{state_of}
 use Rattle.console_core.proofs.Searching.{LeadsBy, script-begin, trail-leads, leads-next, leads-end, left-smaller, within-last, same-place}
 use Rattle.console_core.proofs.search.script.Goals as goal
@@ -39,13 +39,13 @@ loop-last-preserved c =
     record {
       within = within-last es c.in-Some.parent c.entry-last.result c.requires.back c.entry-last.ensures;
       left = λ path x at trail state.
-          let p : (rest : List Move) × (items ++ events_along rest ≡ script path c.args.stuck.key)
+          let p : (rest : List Move) × (items ++ events_along rest ≡ script_of_path path c.args.stuck.key)
           × LeadsBy es c.loop-last.last rest =
           c.loop-last.invariant.left path x at trail state in
           let q : (more : List Move)
-          × ((items ++ events_of c.in-Some.by) ++ events_along more ≡ script path c.args.stuck.key)
+          × ((items ++ events_of_move c.in-Some.by) ++ events_along more ≡ script_of_path path c.args.stuck.key)
           × LeadsBy es c.entry-last.result.1.last more =
-          leads-next es (c.in-Some.parent, c.in-Some.by) items p.0 (script path c.args.stuck.key)
+          leads-next es (c.in-Some.parent, c.in-Some.by) items p.0 (script_of_path path c.args.stuck.key)
           (subst (λ o. LeadsBy es o p.0) c.in-Some.is p.2) p.1 c.entry-last.result c.entry-last.ensures in
           (q.0, ap (λ z. z ++ events_along q.0) c.in_ok-push_events.ensures ∙ q.1, q.2);
     }
@@ -55,8 +55,9 @@ returns c =
     λ path x at trail state.
     let es = c.args.met.now.entries in
     let items = c.loop-last.events.items in
-    let p : (rest : List Move) × (items ++ events_along rest ≡ script path c.args.stuck.key)
+    let p : (rest : List Move) × (items ++ events_along rest ≡ script_of_path path c.args.stuck.key)
     × LeadsBy es c.loop-last.last rest =
     c.loop-last.invariant.left path x at trail state in
     ap reverse c.reverse.ensures.items ∙ reverse-reverse items
-    ∙ leads-end es items p.0 (script path c.args.stuck.key) (subst (λ o. LeadsBy es o p.0) c.in_default.is p.2) p.1
+    ∙ leads-end es items p.0 (script_of_path path c.args.stuck.key)
+        (subst (λ o. LeadsBy es o p.0) c.in_default.is p.2) p.1

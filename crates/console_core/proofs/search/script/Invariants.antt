@@ -1,7 +1,7 @@
 -- the events so far are the script but for the moves that are left
 use Rattle.std.proofs.Common.{◌≡◌, ◌<◌, List, ◌++◌, length, slice_get, Some, IfSome}
 use Rattle.console_core.specs.declared.held.Move.{Move}
-use Rattle.console_core.specs.Moves.{state_after, script, events_along}
+use Rattle.console_core.specs.Moves.{state_after, script_of_path, events_along}
 use Rattle.console_core.specs.Inner.Searching.{state_of, Entry, IsTrail}
 use Rattle.console_core.proofs.Searching.{LeadsBy, places_left}
 use Rattle.console_core.proofs.search.script.Given as goal
@@ -11,7 +11,7 @@ invariant-loop-last l = record {
   within : IfSome l.last (λ last. last.0 < length l.met.entries);
   left : (path : List Move) (x : Entry) → slice_get l.met.entries l.fn.stuck.place ≡ Some x
       → IsTrail l.met.entries l.fn.stuck.place path → state_after path ≡ state_of x.0
-      → (rest : List Move) × (l.events.items ++ events_along rest ≡ script path l.fn.stuck.key)
+      → (rest : List Move) × (l.events.items ++ events_along rest ≡ script_of_path path l.fn.stuck.key)
       × LeadsBy l.met.entries l.last rest;
 }
 

@@ -6,7 +6,7 @@ use Rattle.keymap_tables.proofs.Cells.{All-more_set, number-fits, cell-fits, byt
 use Rattle.keymap_tables.proofs.Cells.{first-cell, bytes-all, marks-all, sound-all}
 use Rattle.keymap_tables.proofs.Sizes.{cell-inside}
 use Rattle.keymap_core.specs.Bounds.{IsCell}
-use Rattle.keymap_tables.specs.Faults.{number_at, mark_at, cell_fault}
+use Rattle.keymap_tables.specs.Faults.{number_at, is_marked_at, cell_fault}
 use Rattle.keymap_tables.specs.Fits.{CellFits}
 use Rattle.keymap_tables.specs.Layouts.{number_size}
 use Rattle.keymap_tables.proofs.read_slot.read_cells.Goals as goal
@@ -22,7 +22,7 @@ loop-column-preserved c =
     let number = c.in-Ok.ensures.number ∙ read in
     let marked = ap (λ (at : ℕ). (slice_index bytes at / 2 ^ (7 - i)) % 2 == 1) c.cells.ensures in
     let clean =
-    ap (λ (n : ℕ). cell_fault n (mark_at layout bytes i)) (sym read)
+    ap (λ (n : ℕ). cell_fault n (is_marked_at layout bytes i)) (sym read)
     ∙ ap (λ (t : Bool). cell_fault c.read_number.result t) (sym marked) ∙ c.in-Ok.ensures.fault in
     record {
       known = All-more_set IsCell _ _ _ (omega arith) c.loop-column.invariant.known c.in-Ok.ensures.known;
@@ -46,7 +46,7 @@ returns-in-Err-clause-fault c =
     let read = c.read_number.ensures ∙ ap (number_at layout bytes) at in
     let marked = ap (λ (p : ℕ). (slice_index bytes p / 2 ^ (7 - i)) % 2 == 1) c.cells.ensures in
     let fault =
-    ap (λ (n : ℕ). cell_fault n (mark_at layout bytes i)) (sym read)
+    ap (λ (n : ℕ). cell_fault n (is_marked_at layout bytes i)) (sym read)
     ∙ ap (λ (t : Bool). cell_fault c.read_number.result t) (sym marked) ∙ c.in-Err.ensures.fault in
     first-cell layout bytes i _ (omega arith) at fault c.loop-column.invariant.sound
 

@@ -2,7 +2,7 @@ use Rattle.std.proofs.Common.{arith, ◌∙◌, ◌*◌, ap, List, ℕ, get_or}
 use Rattle.std.proofs.lemmas.List.Elements.{All-get_or}
 use Rattle.keymap_core.specs.declared.entry.Cell.TheVariants.{Char}
 use Rattle.keymap_core.specs.Bounds.{IsCell}
-use Rattle.keymap_tables.specs.Faults.{number_at, mark_at}
+use Rattle.keymap_tables.specs.Faults.{number_at, is_marked_at}
 use Rattle.keymap_tables.specs.Layouts.{wide}
 use Rattle.keymap_tables.proofs.InPlace.{some_none}
 use Rattle.keymap_tables.proofs.ReadingLaws.{entry-wide}
@@ -17,7 +17,7 @@ returns-in-Ok c =
     let number =
     ap (λ (v : List ℕ). number_at wide v (4 * i)) same
     ∙ number-in wide e (Char 0) i known (entry-wide e known) c.requires.inside in
-    let mark = ap (λ (v : List ℕ). mark_at wide v i) same ∙ mark-in wide e (Char 0) i known c.requires.inside in
+    let mark = ap (λ (v : List ℕ). is_marked_at wide v i) same ∙ mark-in wide e (Char 0) i known c.requires.inside in
     same-cell c.in-Ok.cell cell c.in-Ok.ensures.known is (c.in-Ok.ensures.number ∙ c.read_number.ensures ∙ number)
     (c.in-Ok.ensures.mark ∙ mark)
 
@@ -29,5 +29,5 @@ returns-in-Err c =
     let number =
     ap (λ (v : List ℕ). number_at wide v (4 * i)) same
     ∙ number-in wide e (Char 0) i known (entry-wide e known) c.requires.inside in
-    let mark = ap (λ (v : List ℕ). mark_at wide v i) same ∙ mark-in wide e (Char 0) i known c.requires.inside in
+    let mark = ap (λ (v : List ℕ). is_marked_at wide v i) same ∙ mark-in wide e (Char 0) i known c.requires.inside in
     absurd (some_none _ _ c.in-Err.ensures.fault (rw (c.read_number.ensures, number, mark) (cell-sound cell is)))

@@ -1,6 +1,6 @@
 use Rattle.std.proofs.Common.{◌<◌, length, refl, sym, ◌∙◌, ap, ap₂, arith, Err}
 use Rattle.std.proofs.lemmas.List.{at_drop_all}
-use Rattle.keymap_text.specs.Lexical.{split, first}
+use Rattle.keymap_text.specs.Lexical.{tokens_after, first}
 use Rattle.keymap_text.proofs.Splitting.{split_none, at_found, at_refused, at_unfinished, front_is, to_end}
 use Rattle.keymap_text.proofs.token.next_token.Goals as goal
 
@@ -8,7 +8,8 @@ pub returns-then-start-text-clause-exact : goal.returns-then-start-text-clause-e
 returns-then-start-text-clause-exact c =
     let i = c.token_start-start.result in
     let text = c.args.text.now in
-    sym (ap first (c.token_start-start.ensures.same ∙ at_drop_all (split 0 i) text i (omega arith) ∙ split_none i))
+    sym (ap first (c.token_start-start.ensures.same ∙ at_drop_all (tokens_after 0 i) text i (omega arith)
+        ∙ split_none i))
 
 pub returns-in-Found-clause-exact : goal.returns-in-Found-clause-exact
 returns-in-Found-clause-exact c =

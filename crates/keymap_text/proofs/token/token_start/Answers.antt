@@ -1,5 +1,5 @@
 use Rattle.std.proofs.Common.{drop, sym, ◌∙◌, ap, arith}
-use Rattle.keymap_text.specs.Lexical.{split}
+use Rattle.keymap_text.specs.Lexical.{tokens_after}
 use Rattle.keymap_text.proofs.Splitting.{split_blank_at, split_line_at}
 use Rattle.keymap_text.proofs.token.token_start.Goals as goal
 
@@ -7,7 +7,7 @@ pub loop-i-preserved-then-text-i-eq35 : goal.loop-i-preserved-then-text-i-eq35
 loop-i-preserved-then-text-i-eq35 c = record {
   within = c.line_end-i.ensures.length;
   same = c.loop-i.invariant.same ∙ split_line_at c.args.text.now c.loop-i.i c.loop-i-test.true c.if-text-i-eq35.true
-      ∙ ap (λ n. split 0 n (drop n c.args.text.now)) (sym c.line_end-i.ensures.value);
+      ∙ ap (λ n. tokens_after 0 n (drop n c.args.text.now)) (sym c.line_end-i.ensures.value);
 }
 
 pub loop-i-preserved : goal.loop-i-preserved

@@ -1,6 +1,6 @@
 use Rattle.std.proofs.Common.{◌≡◌, ◌+◌, ◌∷◌, ◌++◌, [], take}
-use Rattle.console_core.specs.History.{AnswersTo}
-use Rattle.console_core.proofs.Deliveries.{take_event, AnswersTo-push, reverse-push}
+use Rattle.console_core.specs.History.{answers_to}
+use Rattle.console_core.proofs.Deliveries.{take_event, answers_to-push, reverse-push}
 use Rattle.play_core.proofs.Trials.{typed-more}
 use Rattle.play_core.proofs.effect.deliver.Goals as goal
 
@@ -13,8 +13,8 @@ loop-event-preserved g c =
       typed = λ ms h s.
           rw (
             e,
-            AnswersTo-push ms h before c.event-item.result,
-            typed-more (AnswersTo ms h before) _,
+            answers_to-push ms h before c.event-item.result,
+            typed-more (answers_to ms h before) _,
             ← c.loop-event.invariant.typed ms h s,
             ← c.step-answer.ensures.answer ms _ (c.loop-event.invariant.stands ms h s),
           )

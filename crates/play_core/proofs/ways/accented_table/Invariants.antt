@@ -1,7 +1,7 @@
 use Rattle.play_core.specs.HeldKeys.{gathered}
-use Rattle.play_core.specs.Typing.{character_of, accented_by}
+use Rattle.play_core.specs.Typing.{character_typed_by, accented_by}
 use Rattle.play_core.specs.Inner.Tables.{IsTableOf}
 use Rattle.play_core.proofs.ways.accented_table.Given as goal
 
 abbrev pub invariant-loop-index : goal.invariant-loop-index
-invariant-loop-index l = IsTableOf (character_of l.map) (gathered (accented_by l.map) l.index) l.table.entries
+invariant-loop-index l = IsTableOf (character_typed_by l.map) (gathered (accented_by l.map) l.index) l.table.entries

@@ -1,7 +1,7 @@
 use Rattle.std.proofs.Common.{◌≡◌, ◌∙◌, sym, subst, ◌++◌, take, arith, append-nil}
 use Rattle.std.proofs.lemmas.Grind.{common_steps}
 use Rattle.std.specs.List.{flat_map}
-use Rattle.play_core.specs.Typing.{character_of, joined, dead_way, direct_way}
+use Rattle.play_core.specs.Typing.{character_typed_by, joined, dead_way, direct_way}
 use Rattle.play_core.specs.Inner.Tables.{IsTableOf}
 use Rattle.play_core.proofs.Found.{dead-found, no-dead-found, accented-none, accented-all, accented-more}
 use Rattle.play_core.proofs.ways.try_accent.Goals as goal
@@ -34,7 +34,8 @@ returns-in_default-get c = λ ways t.
 
 pub loop-pair-init : goal.loop-pair-init
 loop-pair-init c =
-    λ ways t. subst (λ x. IsTableOf (character_of c.args.map.now) x c.args.accented.now.entries) (sym (append-nil ways))
+    λ ways t. subst (λ x. IsTableOf (character_typed_by c.args.map.now) x c.args.accented.now.entries)
+        (sym (append-nil ways))
     t
 
 pub loop-pair-preserved : goal.loop-pair-preserved
@@ -57,7 +58,7 @@ returns c = λ ways t.
     (dead-found c.args.map.now c.from.result c.args.index _ c.in-Some-get.dead.now c.requires.by_accent
     c.in-Some-get.ensures.value c.from.ensures)
     (c.in_ok-try_base-2.ensures _
-    (subst (λ x. IsTableOf (character_of c.args.map.now)
+    (subst (λ x. IsTableOf (character_typed_by c.args.map.now)
     (ways ++ flat_map (λ p. joined (dead_way c.args.map.now c.args.index) (direct_way c.args.map.now p.0)) x)
     c.loop-pair.accented.entries)
     a (c.loop-pair.invariant ways t)))

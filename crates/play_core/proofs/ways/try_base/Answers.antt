@@ -1,5 +1,5 @@
 use Rattle.std.proofs.Common.{◌∷◌, [], ◌∙◌, sym, ap, subst, ◌++◌}
-use Rattle.play_core.specs.Typing.{character_of}
+use Rattle.play_core.specs.Typing.{character_typed_by}
 use Rattle.play_core.specs.Inner.Tables.{IsTableOf}
 use Rattle.play_core.specs.Inner.Effects.{IsTrial}
 use Rattle.play_core.proofs.Found.{trial-joined, short-joined, base-more, base-none, direct-found, no-direct-found}
@@ -27,10 +27,10 @@ returns c = λ ways t.
     c.note_if.new.table.entries
     (direct-found c.args.map.now c.from.result c.args.base _ c.in-Some.direct.now c.requires.found.by_character
     c.in-Some.ensures.value c.from.ensures)
-    (subst (λ w. IsTableOf (character_of c.args.map.now) (ways ++ w ∷ []) c.note_if.new.table.entries)
+    (subst (λ w. IsTableOf (character_typed_by c.args.map.now) (ways ++ w ∷ []) c.note_if.new.table.entries)
     c.join-way.ensures
-    (c.in_ok-note_if.ensures (character_of c.args.map.now) ways
-    (ap (character_of c.args.map.now) (sym c.as_slice.ensures.value) ∙ c.effect_of.ensures.character
+    (c.in_ok-note_if.ensures (character_typed_by c.args.map.now) ways
+    (ap (character_typed_by c.args.map.now) (sym c.as_slice.ensures.value) ∙ c.effect_of.ensures.character
     ∙ sym c.character.ensures) t))
 
 pub returns-in_default : goal.returns-in_default

@@ -1,6 +1,6 @@
 use Rattle.std.proofs.Common.{◌∙◌, sym, ap, subst}
 use Rattle.play_core.specs.HeldKeys.{combination_with, combinations_of}
-use Rattle.play_core.specs.Typing.{character_of, accent_of}
+use Rattle.play_core.specs.Typing.{character_typed_by, accent_left_by}
 use Rattle.play_core.specs.Inner.Effects.{IsTrial}
 use Rattle.play_core.proofs.Found.{trial-of, tables-more, tables-none}
 use Rattle.play_core.proofs.ways.Found.try_key.Goals as goal
@@ -14,10 +14,10 @@ pub returns-in_ok-note_if-2 : goal.returns-in_ok-note_if-2
 returns-in_ok-note_if-2 c = λ ways t.
     tables-more c.args.map.now ways (combinations_of c.args.map.now c.args.set c.args.key) c.in-Some.way.items _ _ _ _
     (λ f ws e x. c.in_ok-note_if.ensures f ws
-    (e ∙ ap (character_of c.args.map.now) (sym c.as_slice.ensures.value) ∙ c.effect_of-effect.ensures.character
+    (e ∙ ap (character_typed_by c.args.map.now) (sym c.as_slice.ensures.value) ∙ c.effect_of-effect.ensures.character
     ∙ sym c.character.ensures) x)
     (λ f ws e x. c.in_ok-note_if-2.ensures f ws
-    (e ∙ ap (accent_of c.args.map.now) (sym c.as_slice.ensures.value) ∙ c.effect_of-effect.ensures.accent
+    (e ∙ ap (accent_left_by c.args.map.now) (sym c.as_slice.ensures.value) ∙ c.effect_of-effect.ensures.accent
     ∙ sym c.accent.ensures) x)
     (ap (λ keys. combination_with keys c.args.set c.args.key) (sym (c.at.ensures c.args.map.now c.requires.keys))
     ∙ c.in-Some.ensures) t

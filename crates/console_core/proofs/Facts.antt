@@ -22,7 +22,8 @@ use Rattle.console_core.specs.Resolved.{ResolvedEvent, remembered, is_this_actio
 use Rattle.console_core.specs.History.{Maps, in_force, pressed, resolved, is_on_after, is_locked_after, HasKey, HasKeys}
 use Rattle.console_core.specs.Reading.{remembered_after, raises_at, lowers_at, NoneOf, SomeSince, taken_of}
 use Rattle.console_core.specs.Headline.{IsSafe}
-use Rattle.console_core.specs.Facts.{LooksAreCells, DeadUpperHalfIsNotLookedAt, lets_go, HoldingIsRemembered, IsRaisedByPressed, OnByPressedKey}
+use Rattle.console_core.specs.Facts.{LooksAreCells, DeadUpperHalfIsNotLookedAt, lets_go, HoldingIsRemembered}
+use Rattle.console_core.specs.Facts.{IsRaisedByPressed, OnByPressedKey}
 use Rattle.console_core.proofs.OneMore.{resolved-more, remembered-character, remembered-action, remembered-release}
 use Rattle.keymap_core.proofs.SameActions.{same_action-refl}
 use Rattle.console_core.proofs.Borne.{AllLooked, taken-holding, held-upper, locked-upper, look-cell, resolved-looked}

@@ -25,8 +25,9 @@ use Rattle.console_core.specs.History.{Maps, in_force, loaded, is_second_in_forc
 use Rattle.console_core.specs.History.{pressed, accent_pending_after, answers_to, answer_to, HasKey, HasKeys, IsQuiet}
 use Rattle.console_core.specs.Resolved.ResolvedEvent.{PressedCharacter, PressedAction, ReleasedKey, WasReset, WasLoaded}
 use Rattle.keymap_core.specs.Bearers.{IsCellOf, BearsThroughout}
-use Rattle.console_core.specs.Headline.{IsSafe, IsSteady, IsActing}
-use Rattle.console_core.specs.Headline.{AreRepeats, OnOnlyWhilePressed, OnExactlyWhilePressed, RepeatsTurnNoSteadyLock, OffOnceQuiet, GoesOnAsAfterReset}
+use Rattle.console_core.specs.Headline.{IsSafe, IsSteady, IsActing, AreRepeats, OnOnlyWhilePressed}
+use Rattle.console_core.specs.Headline.{OnExactlyWhilePressed, RepeatsTurnNoSteadyLock, OffOnceQuiet}
+use Rattle.console_core.specs.Headline.{GoesOnAsAfterReset}
 use Rattle.console_core.specs.declared.event.Event.{Event}
 use Rattle.console_core.specs.declared.event.Event.TheVariants.{Press, Release, Reset, Load}
 use Rattle.console_core.proofs.OneMore.{resolved-more, locked-more, held-character, held-action, held-release}

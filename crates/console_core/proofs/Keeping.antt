@@ -91,6 +91,6 @@ pub held-released : (k : Kept) (key : ℕ) (held : Action) → k.memory key ≡ 
     → with_released held (with_memory key None k) ≡ after_release key k
 held-released k key held is =
     same-marks (with_memory key None k) _ _
-        (λ a. ap (λ x. k.mark a && not (is_this_action x (holding_action a))) (sym is))
+    (λ a. ap (λ x. k.mark a && not (is_this_action x (holding_action a))) (sym is))
 
 pub ruleset keeping = (loaded-kept, idle-released, held-released)

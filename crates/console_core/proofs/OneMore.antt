@@ -164,7 +164,7 @@ run_length-same i rest = rw (eq-eqb i i refl) refl
 -- a dead key that is pressed again is no longer pending, or pending again
 toggle_again : (i n : ℕ) (b : Bool) → is_odd n ≡ b
     → (if is_odd (suc (suc n)) then Some i else None)
-        ≡ pending_after_dead_key (Some i) (if is_odd (suc n) then Some i else None)
+    ≡ pending_after_dead_key (Some i) (if is_odd (suc n) then Some i else None)
 toggle_again i n true e = rw e refl
 toggle_again i n false e = rw (e, eq-eqb i i refl) refl
 
@@ -189,7 +189,7 @@ unfolding pending_by_dead_keys
 toggle_cases i j r true e =
     let s : i ≡ j = sym (eqb-true j i e) in
     subst (λ x. pending_by_dead_keys (Some i ∷ (Some x ∷ r))
-        ≡ pending_after_dead_key (Some i) (pending_by_dead_keys (Some x ∷ r))) s
+    ≡ pending_after_dead_key (Some i) (pending_by_dead_keys (Some x ∷ r))) s
     (toggle_same i r)
 toggle_cases i j r false e =
     rw (run_length-same i (Some j ∷ r), e) (toggle_other i j (is_odd (run_length j (Some j ∷ r))) e)
@@ -212,7 +212,7 @@ toggles (Some i) rest = pending_after-toggles i rest
 -- one more event, which keeps what is pending or doesn't
 pending_step : (b : Bool) (o : Option ℕ) (rest : List (Option ℕ))
     → pending_by_dead_keys (if b then rest else o ∷ rest)
-        ≡ (if b then pending_by_dead_keys rest else pending_after_dead_key o (pending_by_dead_keys rest))
+    ≡ (if b then pending_by_dead_keys rest else pending_after_dead_key o (pending_by_dead_keys rest))
 pending_step true o rest = refl
 pending_step false o rest = toggles o rest
 

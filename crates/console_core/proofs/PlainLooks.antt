@@ -65,18 +65,18 @@ one_bearer m a k fact s =
     same_by _ (fact k)
     (λ e.
     let t : (j : ℕ) × (j < 128) × ((bears_holding m a j && fact j) ≡ true) = some-any
-        (λ j. bears_holding m a j && fact j) 128 e in
+    (λ j. bears_holding m a j && fact j) 128 e in
     let p : (bears_holding m a t.0 ≡ true) × (fact t.0 ≡ true) = and_parts _ _ t.2 in
     subst (λ j. fact j ≡ true) (s.1 t.0 t.1 (bears-is m a t.0 p.0)) p.1)
     (λ e. any-some (λ j. bears_holding m a j && fact j) k 128 s.0
-        (rw (is-bears m a k (throughout-bears m k a s), e) refl))
+    (rw (is-bears m a k (throughout-bears m k a s), e) refl))
 
 -- some key that bears the action has a fact
 bearer-some : (m : MapValue) (a : Holding) (fact : ℕ → Bool) → any_below (λ j. bears_holding m a j && fact j) 128 ≡ true
     → (k : ℕ) × (k < 128) × Bears m k a × (fact k ≡ true)
 bearer-some m a fact e =
     let t : (j : ℕ) × (j < 128) × ((bears_holding m a j && fact j) ≡ true) = some-any
-        (λ j. bears_holding m a j && fact j) 128 e in
+    (λ j. bears_holding m a j && fact j) 128 e in
     let p : (bears_holding m a t.0 ≡ true) × (fact t.0 ≡ true) = and_parts _ _ t.2 in
     (t.0, t.1, bears-is m a t.0 p.0, p.1)
 
@@ -107,7 +107,7 @@ no_bearer : (m : MapValue) (a : Holding) (fact : ℕ → Bool) → NobodyBears m
 no_bearer m a fact nobody =
     not_true _ (λ e.
     let t : (j : ℕ) × (j < 128) × ((bears_holding m a j && fact j) ≡ true) = some-any
-        (λ j. bears_holding m a j && fact j) 128 e in
+    (λ j. bears_holding m a j && fact j) 128 e in
     nobody t.0 t.1 (bears-is m a t.0 (and_parts _ _ t.2).0))
 
 -- what nobody bears is never held
@@ -159,7 +159,7 @@ module _ (ms : Maps) (h : List Event) (none : HasNoLoads h) (keys : HasKeys h) w
   -- a look in the map in force is one in the first map
   pub looks-first : (k : ℕ)
       → look (in_force ms h) (resolved ms h) k
-          ≡ look_with ms.first (λ i. is_on_after ms i h) (λ l. is_locked_after ms l h) k
+      ≡ look_with ms.first (λ i. is_on_after ms i h) (λ l. is_locked_after ms l h) k
   unfolding look
   looks-first k = ap (λ m. look_with m (λ i. is_on_after ms i h) (λ l. is_locked_after ms l h) k)
       (first_in_force ms h none)
@@ -189,7 +189,7 @@ looks_plainly ms h plain none keys k = looks-first ms h none keys k ∙ look-pla
 pub shown-plain : (ms : Maps) (h : List Event) → HasNoLoads h → HasKeys h → IsPlain ms.first
     → (k : ℕ) (is_on : Modifier → Bool) (is_locked : Lock → Bool) → ((i : Modifier) → is_on i ≡ is_on_after ms i h)
     → ((l : Lock) → is_locked l ≡ is_locked_after ms l h)
-        → look_with ms.first is_on is_locked k ≡ plain_look ms.first k h
+    → look_with ms.first is_on is_locked k ≡ plain_look ms.first k h
 shown-plain ms h none keys plain k is_on is_locked on_is locked_is =
     let e : is_on ≡ (λ i. is_on_after ms i h) = fun_ext on_is in
     let f : is_locked ≡ (λ l. is_locked_after ms l h) = fun_ext locked_is in

@@ -150,7 +150,7 @@ exact-turn r s k l x idle =
       ];
       up = λ j. held-release (holding.Lock j) k (PressedAction k (act.Lock l) ∷ r)
           ∙ ap (λ o. held (holding.Lock j) (PressedAction k (act.Lock l) ∷ r)
-              && not (is_this_action o (act.Lock j))) now
+          && not (is_this_action o (act.Lock j))) now
           ∙ ap (λ b. b && not (same_lock l j))
           (held-action (holding.Lock j) k (act.Lock l) r
           ∙ ap (λ a. same_action a (act.Lock j) || held (holding.Lock j) r) e)
@@ -325,7 +325,7 @@ left-release ms h i k lt x =
     record {
       on = ap (λ r. held (holding.Mod i) r) now ∙ held-release (holding.Mod i) k (resolved ms h)
           ∙ kept_on (held (holding.Mod i) (resolved ms h))
-              (is_this_action (remembered k (resolved ms h)) (act.Mod i)) x.on
+          (is_this_action (remembered k (resolved ms h)) (act.Mod i)) x.on
           (is_not (remembered k (resolved ms h)) (act.Mod i) (x.nobody k));
       nobody = λ n e. elim (cases_Bool (k == n)) [
         | inl t ↦

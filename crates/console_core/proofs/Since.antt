@@ -51,7 +51,7 @@ pub remembered-events : (ms : Maps) (k : ℕ) (h : List Event)
 remembered-events ms k [] = sym (ap (λ r. remembered k r) (resolved-start ms) ∙ remembered-start k)
 remembered-events ms k (Press j ∷ h) =
     remembered_press ms k j h (look (in_force ms h) (resolved ms h) j)
-        (first_since_at (forgets_at ms k) (offers_at ms k) h)
+    (first_since_at (forgets_at ms k) (offers_at ms k) h)
     (remembered-events ms k h)
     ∙ sym (ap (λ r. remembered k r) (resolved-more ms h (Press j)))
 remembered-events ms k (Release j ∷ h) =

@@ -55,5 +55,5 @@ look_with m is_on is_locked k =
     let slot = slot_of k (is_upper is_on is_locked) in
     let shift =
     exactly_one (is_on LeftShift || is_on RightShift)
-        (flips_shift (entry_at m slot).flag (is_locked Caps) (is_locked Num)) in
+    (flips_shift (entry_at m slot).flag (is_locked Caps) (is_locked Num)) in
     cell_at m slot (column_of shift (is_on LeftControl || is_on RightControl) (is_on LeftAlt || is_on RightAlt))

@@ -22,7 +22,7 @@ abbrev pub DeadUpperHalfIsNotLookedAt : Type 0
 DeadUpperHalfIsNotLookedAt =
     (ms : Maps) (h : List Event) → HasKeys h → (IsUpperLive (in_force ms h) → ⊥)
     → (is_upper (λ i. is_on_after ms i h) (λ l. is_locked_after ms l h) ≡ false)
-        × ((k : ℕ) → StandsIn (in_force ms h) k (look_after ms k h))
+    × ((k : ℕ) → StandsIn (in_force ms h) k (look_after ms k h))
 
 -- a release of the key, a reset or a load
 abbrev pub lets_go : ℕ → Event → List Event → Bool

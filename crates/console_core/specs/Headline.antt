@@ -45,7 +45,8 @@ use Rattle.console_core.specs.declared.event.Event.{Event}
 use Rattle.console_core.specs.declared.event.Event.TheVariants.{Press, Reset}
 use Rattle.console_core.specs.Positions.{count_where, is_odd}
 use Rattle.console_core.specs.Reading.{turns_at}
-use Rattle.console_core.specs.History.{Maps, in_force, is_on_after, is_locked_after, accent_pending_after, answers_to, pressed, HasKeys, HasNoLoads, IsQuiet}
+use Rattle.console_core.specs.History.{Maps, in_force, is_on_after, is_locked_after, accent_pending_after, answers_to}
+use Rattle.console_core.specs.History.{pressed, HasKeys, HasNoLoads, IsQuiet}
 
 -- Safe: a key with a modifier or a lock among its cells has no character among them.
 abbrev pub IsSafe : MapValue → Type 0
@@ -100,7 +101,7 @@ LastRepeatsTurnNoSteadyLock ms h events is_locked =
     (earlier : List Event) (repeats : List Event) → events ≡ earlier ++ repeats
     → AreRepeats (reverse earlier ++ h) repeats
     → (l : Lock) → IsSteady (in_force ms (reverse earlier ++ h)) l
-        → is_locked l ≡ is_locked_after ms l (reverse earlier ++ h)
+    → is_locked l ≡ is_locked_after ms l (reverse earlier ++ h)
 
 -- Once no key is pressed, no modifier is on.
 abbrev pub IsOffOnceQuiet : List Event → (Modifier → Bool) → Type 0

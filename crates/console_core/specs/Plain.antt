@@ -59,7 +59,8 @@ PlainOnByKeys =
 abbrev pub PlainLockedByKeys : Type 0
 PlainLockedByKeys =
     (m : MapValue) (h : List Event) (l : Lock)
-    → (plain_locked m h l ≡ true) ↔ ((k : ℕ) × (k < key_count) × Bears m k (holding.Lock l) × (is_odd (count_where (is_fresh_press k) h) ≡ true))
+    → (plain_locked m h l ≡ true)
+    ↔ ((k : ℕ) × (k < key_count) × Bears m k (holding.Lock l) × (is_odd (count_where (is_fresh_press k) h) ≡ true))
 
 abbrev pub plain_look : MapValue → ℕ → List Event → Cell
 plain_look m k h = look_with m (plain_on m h) (plain_locked m h) k

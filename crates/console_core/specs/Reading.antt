@@ -120,7 +120,7 @@ RememberedByPositions =
 abbrev pub NothingRememberedByPositions : Type 0
 NothingRememberedByPositions =
     (ms : Maps) (k : ℕ) (h : List Event)
-        → (remembered_after ms k h ≡ None) ↔ NothingSince (forgets_at ms k) (offers_at ms k) h
+    → (remembered_after ms k h ≡ None) ↔ NothingSince (forgets_at ms k) (offers_at ms k) h
 
 -- a release, or a press that takes nop, a modifier or a lock
 abbrev pub keeps_option : Option Action → Bool
@@ -166,7 +166,7 @@ PendingByRun =
 abbrev pub HeldByPositions : Type 0
 HeldByPositions =
     (ms : Maps) (a : Holding) (h : List Event)
-        → (is_held_after ms a h ≡ true) ↔ SomeSince (raises_at ms a) (lowers_at ms a) h
+    → (is_held_after ms a h ≡ true) ↔ SomeSince (raises_at ms a) (lowers_at ms a) h
 
 abbrev pub LockedByCount : Type 0
 LockedByCount =
@@ -194,7 +194,7 @@ abbrev pub answer_to_look : Maps → ℕ → List Event → Cell → Answer
 answer_to_look ms k h (Char c) = answer_char (in_force ms h) (accent_pending_after ms h) (is_on_after ms Meta h) c
 answer_to_look ms k h (Act a) =
     answer_action (in_force ms h) (accent_pending_after ms h) (is_on_after ms Meta h)
-        (taken_over (remembered_after ms k h) a)
+    (taken_over (remembered_after ms k h) a)
 
 abbrev pub AnswersByCases : Type 0
 AnswersByCases =

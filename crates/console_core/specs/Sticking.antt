@@ -70,4 +70,4 @@ abbrev pub SticksIfReached : Type 0
 SticksIfReached =
     (m : MapValue) (path : List Move) → IsPath m path → (i : Modifier) (k : ℕ) → HolderForgets m (state_after path) i k
     → HasKeys (script_of_path path k) × All IsPressOrRelease (script_of_path path k)
-        × SticksAfter m (script_of_path path k) i
+    × SticksAfter m (script_of_path path k) i

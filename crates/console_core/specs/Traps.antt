@@ -62,4 +62,4 @@ IsOnOnlyWhilePressedWithoutTraps m h is_on =
 abbrev pub OnOnlyWhilePressedWithoutTraps : Type 0
 OnOnlyWhilePressedWithoutTraps =
     (ms : Maps) (h : List Event) → HasKeys h
-        → IsOnOnlyWhilePressedWithoutTraps (in_force ms h) h (λ i. is_on_after ms i h)
+    → IsOnOnlyWhilePressedWithoutTraps (in_force ms h) h (λ i. is_on_after ms i h)

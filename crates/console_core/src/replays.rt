@@ -3,8 +3,9 @@ ghost use Rattle.std.specs.Prelude.{◌≡◌, ◌++◌, ◌∷◌, List, None, 
 ghost use Rattle.console_core.specs.declared.event.Event.{Event as EventValue};
 ghost use Rattle.console_core.specs.declared.event.Event.TheVariants as event;
 ghost use Rattle.console_core.specs.History.{Maps, in_force, answers_to, IsQuiet};
-ghost use Rattle.console_core.specs.Headline.{IsSafe};
-ghost use Rattle.console_core.specs.Headline.{Afterwards, IsOnOnlyWhilePressed, IsOnExactlyWhilePressed, LastRepeatsTurnNoSteadyLock, IsOffOnceQuiet, GoesOnAs, IsLockedByFreshPresses};
+ghost use Rattle.console_core.specs.Headline.{IsSafe, Afterwards, IsOnOnlyWhilePressed, IsOnExactlyWhilePressed};
+ghost use Rattle.console_core.specs.Headline.{LastRepeatsTurnNoSteadyLock, IsOffOnceQuiet, GoesOnAs};
+ghost use Rattle.console_core.specs.Headline.{IsLockedByFreshPresses};
 ghost use Rattle.console_core.specs.Plain.{IsPlainAfter};
 ghost use Rattle.console_core.specs.Traps.{IsOnOnlyWhilePressedWithoutTraps};
 

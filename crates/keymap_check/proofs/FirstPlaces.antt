@@ -137,7 +137,7 @@ first-of m x P k p lt is has e =
           let here : cell_of m k n.0 ≡ cell_at m q.slot q.column =
           ap (λ t. cell_at m t (column_at n.0)) n.2 ∙ ap (λ t. cell_at m q.slot t) n.3 in
           let fit : is_of_kind x (cell_of m k n.0)
-              ≡ true = ap (λ y. is_of_kind x y) here ∙ has (cell_at m q.slot q.column) holds in
+          ≡ true = ap (λ y. is_of_kind x y) here ∙ has (cell_at m q.slot q.column) holds in
           let le : p ≤ n.0 = at_least (λ q. is_of_kind x (cell_of m k q)) p n.0 s.2 fit in
           let after : NotAfter (place_at k p) (place_at k n.0) = not_after k p n.0 le lt in
           let P1 : NotAfter (place_at k p) (record { slot = q.slot; column = column_at n.0 }) =

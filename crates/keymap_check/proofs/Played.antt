@@ -70,7 +70,7 @@ stays-off : (ms : Maps) (h : List Event) (j : ℕ) (i : Modifier) → is_on_afte
     → is_on_after ms i (Release j ∷ h) ≡ false
 stays-off ms h j i e =
     rw (resolved-more ms h (Release j), held-release (holding.Mod i) j (resolved ms h))
-        (off_and (is_on_after ms i h) _ e)
+    (off_and (is_on_after ms i h) _ e)
 
 -- where one of eight would do, none is there
 none_of : (a b c d e f g h : Bool) → (a || b || c || d || e || f || g || h) ≡ false
@@ -88,7 +88,7 @@ none_of false false false false false false false h q = (refl, refl, refl, refl,
 pub released : (ms : Maps) (h : List Event) (j : ℕ) → is_some_on ms h ≡ false → is_some_on ms (Release j ∷ h) ≡ false
 released ms h j e =
     let off = none_of (is_on_after ms LeftShift h) (is_on_after ms RightShift h) (is_on_after ms LeftControl h)
-        (is_on_after ms RightControl h)
+    (is_on_after ms RightControl h)
     (is_on_after ms LeftAlt h) (is_on_after ms RightAlt h) (is_on_after ms AltShift h) (is_on_after ms Meta h) e in
     rw (
       stays-off ms h j LeftShift off.0,

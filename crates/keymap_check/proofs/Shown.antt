@@ -357,7 +357,7 @@ further : (m : MapValue) (k : ℕ) (g : Group) (j : ℕ) → bit_key m k (bit_of
 unfolding bit_key
 further m k g j e one =
     let s : (j < 128) × (is_bit_key m k (bit_of_group g) j ≡ true)
-        × ((i : ℕ) → i < j → is_bit_key m k (bit_of_group g) i ≡ false) =
+    × ((i : ℕ) → i < j → is_bit_key m k (bit_of_group g) i ≡ false) =
     first_below-some (is_bit_key m k (bit_of_group g)) 128 j e in
     let t : (not (j == k) ≡ true) × (is_there (first_place m (kind.Of (group_at (bit_of_group g))) j) ≡ true) =
     and_parts _ _ s.1 in

@@ -76,7 +76,7 @@ least_by : (m : MapValue) (k : ℕ) (g : Group) (o : Option ℕ) → first_below
 least_by m k g None e = λ j lt. no_bit_key m k g j (first_below-no (is_bit_key m k (bit_of_group g)) 128 e j lt)
 least_by m k g (Some j) e =
     let s : IsFirstBelow (is_bit_key m k (bit_of_group g)) 128 j = first_below-some
-        (is_bit_key m k (bit_of_group g)) 128 j e in
+    (is_bit_key m k (bit_of_group g)) 128 j e in
     let t : (not (j == k) ≡ true) × (is_there (first_place m (kind.Of (group_at (bit_of_group g))) j) ≡ true) =
     and_parts _ _ s.1 in
     let there : is_there (first_place m (kind.Of g) j) ≡ true =

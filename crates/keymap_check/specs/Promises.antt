@@ -51,4 +51,4 @@ IsOnAfterOddFreshPresses m l k =
 abbrev pub LooksPlainlyIn : MapValue → Type 0
 LooksPlainlyIn m =
     (ms : Maps) (h : List Event) → ms.first ≡ m → HasNoLoads h → HasKeys h → (k : ℕ)
-        → look_after ms k h ≡ plain_look m k h
+    → look_after ms k h ≡ plain_look m k h

@@ -98,7 +98,7 @@ tried m = gathered (tried_at m) key_count
 abbrev pub is_some_on : Maps → List Event → Bool
 is_some_on ms h =
     is_on_after ms LeftShift h || is_on_after ms RightShift h || is_on_after ms LeftControl h
-        || is_on_after ms RightControl h || is_on_after ms LeftAlt h
+    || is_on_after ms RightControl h || is_on_after ms LeftAlt h
     || is_on_after ms RightAlt h || is_on_after ms AltShift h || is_on_after ms Meta h
 
 -- some modifier is on after a new console was delivered the script

@@ -1,6 +1,7 @@
 //! Which key bears a modifier or a lock.
 ghost use Rattle.std.specs.Prelude.{◌≡◌, ◌<◌};
-ghost use Rattle.keymap_check.specs.Computed.{bearer_with, next_bearer, bearer_of as bearer_in, is_steady_by, steady_by};
+ghost use Rattle.keymap_check.specs.Computed.{bearer_with, next_bearer, bearer_of as bearer_in, is_steady_by};
+ghost use Rattle.keymap_check.specs.Computed.{steady_by};
 ghost use Rattle.keymap_core.specs.Numbers.{key_count};
 
 use crate::kind::Kind;

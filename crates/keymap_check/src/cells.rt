@@ -3,7 +3,8 @@
 ghost use Rattle.std.specs.Prelude.{◌≡◌, ◌<◌, ◌≤◌, IfSome};
 ghost use Rattle.keymap_core.specs.Maps.{cell_at};
 ghost use Rattle.keymap_core.specs.Numbers.{key_count, column_count};
-ghost use Rattle.keymap_check.specs.Cells.{slot_at, column_at, cell_of as cell_of_key, first_place as first_place_of, place_count as place_count_of};
+ghost use Rattle.keymap_check.specs.Cells.{slot_at, column_at, cell_of as cell_of_key, first_place as first_place_of};
+ghost use Rattle.keymap_check.specs.Cells.{place_count as place_count_of};
 
 use crate::kind::Kind;
 use keymap_core::{COLUMN_COUNT, Cell, KEY_COUNT, KeyMap};

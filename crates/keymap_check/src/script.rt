@@ -1,7 +1,11 @@
 //! The script that tries one key.
 ghost use Rattle.std.specs.Prelude.{◌≡◌, ◌<◌, ◌≤◌, ◌+◌, ◌++◌, MatchOption, length, true, false, [], ◌∷◌};
 ghost use Rattle.arrayvec.specs.ArrayVec.{array_vec_len};
-ghost use Rattle.keymap_check.specs.Scripts.{group_at as group_in, has_bit as has_bit_in, is_bit_key as is_bit_key_of, bit_key as bit_key_of, bit_keys as bit_keys_of, event_of as event_by, event_at as event_in, is_lacking as is_lacking_of, is_chosen as is_chosen_of, events_of, script as script_of, lacks_key as lacks_key_of};
+ghost use Rattle.keymap_check.specs.Scripts.{group_at as group_in, has_bit as has_bit_in, is_bit_key as is_bit_key_of};
+ghost use Rattle.keymap_check.specs.Scripts.{bit_key as bit_key_of, bit_keys as bit_keys_of, event_of as event_by};
+ghost use Rattle.keymap_check.specs.Scripts.{event_at as event_in, is_lacking as is_lacking_of};
+ghost use Rattle.keymap_check.specs.Scripts.{is_chosen as is_chosen_of, events_of, script as script_of};
+ghost use Rattle.keymap_check.specs.Scripts.{lacks_key as lacks_key_of};
 ghost use Rattle.keymap_core.specs.Numbers.{key_count};
 
 use crate::bearer::key_with;

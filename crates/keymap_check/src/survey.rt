@@ -1,6 +1,7 @@
 //! A keymap whose cells were gone over once: which sorts of cells each key has.
 ghost use Rattle.std.specs.Prelude.{◌≡◌, ◌^◌, ◌<◌, ◌≤◌, IfSome};
-ghost use Rattle.keymap_check.specs.Cells.{place_count as place_count_of, cell_of as cell_of_key, first_place as first_place_of};
+ghost use Rattle.keymap_check.specs.Cells.{place_count as place_count_of, cell_of as cell_of_key};
+ghost use Rattle.keymap_check.specs.Cells.{first_place as first_place_of};
 ghost use Rattle.keymap_check.specs.Inner.CellBits.{cell_bit, bits_of};
 ghost use Rattle.keymap_check.specs.Computed.{is_there};
 ghost use Rattle.keymap_core.specs.Numbers.{key_count};

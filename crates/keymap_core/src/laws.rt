@@ -83,7 +83,8 @@ pub fn the_upper_half_is_live_by_test()
 
 /// The test tells whether some key bears a holding action.
 pub fn holding_actions_are_borne_by_test()
-    ensures { (map : MapValue) (action : Holding) → IsTrue (is_borne map action) ↔ ((key : ℕ) × (key < key_count) × Bears map key action) }
+    ensures { (map : MapValue) (action : Holding)
+        → IsTrue (is_borne map action) ↔ ((key : ℕ) × (key < key_count) × Bears map key action) }
 {}
 
 /// The test for one action tells whether two are the same.

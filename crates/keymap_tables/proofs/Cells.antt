@@ -162,7 +162,7 @@ starts Narrow i = omega arith
 -- the fault where a cell begins is the cell's
 pub fault-here : (l : Layout) (bytes : List ℕ) (i : ℕ) → i < 8
     → slot_fault l bytes (number_size l * i)
-        ≡ cell_fault (number_at l bytes (number_size l * i)) (is_marked_at l bytes i)
+    ≡ cell_fault (number_at l bytes (number_size l * i)) (is_marked_at l bytes i)
 fault-here l bytes i small =
     rw (among-cells l i (number_size l * i) small (starts l i), begins l i, column-of l i) refl
 

@@ -22,7 +22,8 @@ use Rattle.keymap_core.specs.declared.entry.LockFlag.TheVariants as flag
 use Rattle.keymap_core.specs.Bounds.{IsCell, IsEntry}
 use Rattle.keymap_tables.specs.Faults.{number_at, is_marked_at, char_fault, cell_fault, slot_fault}
 use Rattle.keymap_tables.specs.Inner.Firsts.{HasNoFault}
-use Rattle.keymap_tables.specs.Image.{cell_bytes, number_bytes, number_of, is_act, marks_of, flag_number, slot_bytes, zeros}
+use Rattle.keymap_tables.specs.Image.{cell_bytes, number_bytes, number_of, is_act, marks_of, flag_number, slot_bytes}
+use Rattle.keymap_tables.specs.Image.{zeros}
 use Rattle.keymap_tables.specs.Fits.{CellFits, EntryFits}
 use Rattle.keymap_tables.specs.Layouts.{number_width, number_size, number_limit, pad_size, slot_size}
 use Rattle.keymap_tables.specs.declared.layout.Layout.{Layout}
@@ -405,7 +406,7 @@ same-entry l x y known also same =
     (sym (number-in l x d k known.0 known.1 column) ∙ ap (λ (v : List ℕ). number_at l v (number_size l * k)) same
     ∙ number-in l y d k also.0 also.1 column)
     (sym (mark-in l x d k known.0 column) ∙ ap (λ (v : List ℕ). is_marked_at l v k) same
-        ∙ mark-in l y d k also.0 column)) in
+    ∙ mark-in l y d k also.0 column)) in
     let flags =
     same-flag x.flag y.flag
     (sym (flag-in l x known.0) ∙ ap (λ (v : List ℕ). slice_index v (8 * number_size l + 1)) same

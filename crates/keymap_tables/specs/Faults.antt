@@ -5,8 +5,9 @@ use Rattle.std.specs.Int.{from_le_bytes, w16}
 use Rattle.std.specs.List.{range_with_len}
 use Rattle.keymap_core.specs.Actions.{action_of, within}
 use Rattle.keymap_core.specs.Numbers.{slot_limit, accent_limit, pair_limit}
-use Rattle.keymap_tables.specs.Layouts.{cells_size}
-use Rattle.keymap_tables.specs.Layouts.{wide, narrow, part, number_width, number_size, count_size, slot_size, pair_size, accent_size, slots_place, slots_size, n_accs_place, accents_place, accents_size, file_size}
+use Rattle.keymap_tables.specs.Layouts.{cells_size, wide, narrow, part, number_width, number_size, count_size}
+use Rattle.keymap_tables.specs.Layouts.{slot_size, pair_size, accent_size, slots_place, slots_size, n_accs_place}
+use Rattle.keymap_tables.specs.Layouts.{accents_place, accents_size, file_size}
 use Rattle.keymap_tables.specs.declared.layout.Layout.{Layout}
 use Rattle.keymap_tables.specs.declared.fault.TableFaultKind.{TableFaultKind}
 use Rattle.keymap_tables.specs.declared.fault.TableFaultKind.TheVariants.{Short, Long, BadCount, BadPad, BadFlag}
@@ -53,7 +54,7 @@ abbrev pub slot_fault : Layout → List ℕ → ℕ → Option TableFaultKind
 slot_fault l bytes p =
     if nat_lt p (cells_size l) then
     (if p % number_size l == 0 then cell_fault (number_at l bytes p)
-        (is_marked_at l bytes (p / number_size l)) else None)
+    (is_marked_at l bytes (p / number_size l)) else None)
     else if p == cells_size l then None
     else if p == cells_size l + 1 then (if nat_le (slice_index bytes p) 3 then None else Some BadFlag)
     else zero_fault BadPad bytes p

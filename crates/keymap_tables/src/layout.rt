@@ -1,7 +1,7 @@
 //! Where the parts of a table file stand, in bytes from its start, and how long they are: one format at two widths.
 ghost use Rattle.std.specs.Prelude.{◌≡◌};
-ghost use Rattle.keymap_tables.specs.Layouts.{cells_size};
-ghost use Rattle.keymap_tables.specs.Layouts.{number_size, count_size, slot_size, pair_size, accent_size, slots_place, n_accs_place, accents_place, file_size};
+ghost use Rattle.keymap_tables.specs.Layouts.{cells_size, number_size, count_size, slot_size, pair_size, accent_size};
+ghost use Rattle.keymap_tables.specs.Layouts.{slots_place, n_accs_place, accents_place, file_size};
 
 /// How wide the numbers of a table file are.
 #[derive(Clone, Copy, Debug, PartialEq, Eq)]

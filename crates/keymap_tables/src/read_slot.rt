@@ -1,5 +1,6 @@
 //! Reading of a slot: eight cells, the marks, the lock flag and the pads.
-ghost use Rattle.std.specs.Prelude.{◌≡◌, ◌<◌, length, take, IfOk, IfErr, OnOk, None, Some, All, slice_index, MatchOption};
+ghost use Rattle.std.specs.Prelude.{◌≡◌, ◌<◌, length, take, IfOk, IfErr, OnOk, None, Some, All, slice_index};
+ghost use Rattle.std.specs.Prelude.{MatchOption};
 ghost use Rattle.std.specs.List.{flat_map};
 ghost use Rattle.keymap_core.specs.Bounds.{IsCell, IsEntry};
 ghost use Rattle.keymap_core.specs.Numbers.{column_count};

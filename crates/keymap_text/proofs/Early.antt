@@ -102,7 +102,7 @@ split_nil (suc k) q = refl
 Stays : List ℕ → List ℕ → TextFaultKind → ℕ → Type 0
 Stays b x f o =
     (s : GrammarState) (k q : ℕ) → judge s (tokens_after k q b) ≡ Faulty f o true
-        → judge s (tokens_after k q (b ++ x)) ≡ Faulty f o true
+    → judge s (tokens_after k q (b ++ x)) ≡ Faulty f o true
 
 -- nothing is left
 no_fault_at_end : (s : GrammarState) (n q : ℕ) (b : List ℕ) (f : TextFaultKind) (o : ℕ) → n ≡ length b
@@ -110,7 +110,7 @@ no_fault_at_end : (s : GrammarState) (n q : ℕ) (b : List ℕ) (f : TextFaultKi
 no_fault_at_end s n q b f o e h =
     late (at_end s) _ f o (sym (judge_ends s _) ∙ sym (ap (judge s)
     (split_after n q b (omega arith) ∙ ap (tokens_after 0 (q + n)) (drop_all n b (le_of_eq (sym e)))
-        ∙ split_none _)) ∙ h)
+    ∙ split_none _)) ∙ h)
 
 -- behind a comment
 comment_stays : (b x : List ℕ) (f : TextFaultKind) (o : ℕ) → Stays b x f o → (s : GrammarState) (q : ℕ)
@@ -148,7 +148,7 @@ refused_stays b x f o s q c g e e' h =
 -- at an apostrophe
 quote_stays : (b x : List ℕ) (f : TextFaultKind) (o : ℕ) → Stays b x f o → (s : GrammarState) (q : ℕ)
     → judge s (tokens_after 0 q (39 ∷ b)) ≡ Faulty f o true
-        → judge s (tokens_after 0 q (39 ∷ (b ++ x))) ≡ Faulty f o true
+    → judge s (tokens_after 0 q (39 ∷ (b ++ x))) ≡ Faulty f o true
 quote_stays b x f o k s q h = go (literal b) refl
   where
     apart : (g : Front) → literal b ≡ g → (g ≡ Unfinished → ⊥) → literal (b ++ x) ≡ g

@@ -197,7 +197,7 @@ same_fault s (Then t ts) = go (accept s (item_of t)) refl (λ s'. same_fault s' 
   where
     go : (r : Result GrammarState TextFaultKind) → accept s (item_of t) ≡ r
         → ((s' : GrammarState) → found_of (judge s' ts)
-            ≡ found_in (place_after (place_of s'.place) (list_of ts)) (ending_of_tokens ts))
+        ≡ found_in (place_after (place_of s'.place) (list_of ts)) (ending_of_tokens ts))
         → found_of (judge s (Then t ts)) ≡ found_in (place_after (place_of s.place) (list_of (Then t ts)))
         (ending_of_tokens (Then t ts))
     go (Ok s') e ih =

@@ -44,7 +44,7 @@ pub lexes_both : {P Q : List ℕ → Type 0} {t u : List ℕ} {is js : List Item
 lexes_both {t = t} {u = u} {is = is} {js = js} a b s = record {
   items = λ q y h. ap (λ x. items_of (tokens_after 0 q x)) (append_assoc t u y) ∙ a.items q (u ++ y) (s y h)
       ∙ ap (λ (l : List Item). is ++ l)
-          (b.items (q + length t) y h ∙ ap (λ n. js ++ items_of (tokens_after 0 n y)) (far q))
+      (b.items (q + length t) y h ∙ ap (λ n. js ++ items_of (tokens_after 0 n y)) (far q))
       ∙ sym (append_assoc is js _);
   end = λ q y h. ap (λ x. ending_of_tokens (tokens_after 0 q x)) (append_assoc t u y) ∙ a.end q (u ++ y) (s y h)
       ∙ b.end (q + length t) y h ∙ ap (λ n. ending_of_tokens (tokens_after 0 n y)) (far q);
@@ -60,8 +60,11 @@ blank_word c h = grind (arith, nat_tests)
 -- a blank is no token
 pub lexes_blank : (P : List ℕ → Type 0) (c : ℕ) → is_blank c ≡ true → Lexes P (c ∷ []) []
 lexes_blank P c h =
-    record { items = λ q y k. ap items_of (split_blank q c y h); end = λ q y k. ap ending_of_tokens
-        (split_blank q c y h) }
+    record {
+      items = λ q y k. ap items_of (split_blank q c y h);
+      end = λ q y k. ap ending_of_tokens
+          (split_blank q c y h);
+    }
 
 -- a text that begins with a blank, and others that begin with no letter or digit
 pub blank_first : (c : ℕ) (u y : List ℕ) → is_word c ≡ false → leading is_word ((c ∷ u) ++ y) ≡ 0
@@ -73,14 +76,14 @@ one : (t : List ℕ) (k : TokenValue → Item) (i : Item) (q : ℕ) (y : List �
     → items_of (tokens_after 0 q (t ++ y)) ≡ i ∷ items_of (tokens_after 0 (q + length t) y)
 one t k i q y tok n h e l =
     ap items_of h ∙ ap (map item_of) (list_then tok (tokens_after 0 n y))
-        ∙ ap (λ (i : Item). i ∷ items_of (tokens_after 0 n y)) e
+    ∙ ap (λ (i : Item). i ∷ items_of (tokens_after 0 n y)) e
     ∙ ap (λ n. i ∷ items_of (tokens_after 0 n y)) l
 
 -- behind one token
 last : (t : List ℕ) (q : ℕ) (y : List ℕ) (tok : TokenValue) (n : ℕ)
     → tokens_after 0 q (t ++ y) ≡ Then tok (tokens_after 0 n y)
     → n ≡ q + length t → ending_of_tokens (tokens_after 0 q (t ++ y))
-        ≡ ending_of_tokens (tokens_after 0 (q + length t) y)
+    ≡ ending_of_tokens (tokens_after 0 (q + length t) y)
 last t q y tok n h l = ap ending_of_tokens h ∙ behind_then tok (tokens_after 0 n y)
     ∙ ap (λ n. ending_of_tokens (tokens_after 0 n y)) l
 

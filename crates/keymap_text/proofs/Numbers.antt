@@ -42,10 +42,10 @@ look_here_at names i d w h e = ap (λ n. meaning_by_names n w) (drop-cons names 
 -- the row at a place has another name
 pub look_on_at : (names : List Name) (i : ℕ) (d : Name) (w : List ℕ) → i < length names
     → same_name (letters (get_or names i d).0) w ≡ false
-        → meaning_by_names (drop i names) w ≡ meaning_by_names (drop (i + 1) names) w
+    → meaning_by_names (drop i names) w ≡ meaning_by_names (drop (i + 1) names) w
 look_on_at names i d w h e =
     ap (λ n. meaning_by_names n w) (drop-cons names i d h) ∙ look_on _ _ w e
-        ∙ ap (λ k. meaning_by_names (drop k names) w) (sym (add-one i))
+    ∙ ap (λ k. meaning_by_names (drop k names) w) (sym (add-one i))
 
 pub ruleset look_rules = (look_end, look_here_at, look_on_at)
 

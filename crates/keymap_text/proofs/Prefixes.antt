@@ -55,7 +55,7 @@ comment_keeps b x k q = ⊎_elim
 -- behind a token
 found_keeps : (b x : List ℕ) → Keeps b x → (q c n : ℕ) (kind : TokenKind) → front_of c b ≡ Found kind n
     → front_of c (b ++ x) ≡ Found kind n → n ≤ length b
-        → Continues (tokens_after 0 q (c ∷ b)) (tokens_after 0 q (c ∷ (b ++ x)))
+    → Continues (tokens_after 0 q (c ∷ b)) (tokens_after 0 q (c ∷ (b ++ x)))
 unfolding Keeps
 found_keeps b x k q c n kind e e' l =
     move (split_found q c n kind b e) (split_found q c n kind (b ++ x) e')

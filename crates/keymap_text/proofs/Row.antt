@@ -191,7 +191,7 @@ on : (part : List Item) (m : MapValue) (t : Item) (p : GrammarPlace) (s : Gramma
     → ◌≡◌ {A = Result GrammarState TextFaultKind} (Ok (at m p)) (Ok s) → Part (part ++ t ∷ []) p → Moves part m t s
 on part m t p s h k =
     On (sym (ap (λ s. s.map) (ok_is _ _ h)))
-        (subst (λ (s : GrammarState). Part (part ++ t ∷ []) s.place) (ok_is _ _ h) k)
+    (subst (λ (s : GrammarState). Part (part ++ t ∷ []) s.place) (ok_is _ _ h) k)
 
 -- a definition ends where another begins
 begin_behind : (part : List Item) (m : MapValue) (i : ℕ) (a : AccentValue) (t : Item) (s : GrammarState)

@@ -306,7 +306,7 @@ takes_byte old new c t r f l = byte_advances old new (c ∷ []) c (omega arith) 
 -- one byte is a fault
 pub refuses_byte : (old : Scanner) (c : ℕ) (e : TextFault)
     → ((x : List ℕ) → resume old (c ∷ x) ≡ Faulty e.kind e.offset true) → IsFaultOfPending e old
-        → Refuses old (c ∷ []) e
+    → Refuses old (c ∷ []) e
 refuses_byte old c e t p = byte_refuses old (c ∷ []) c e (omega arith) refl t p
 
 -- one byte ends a token of n bytes

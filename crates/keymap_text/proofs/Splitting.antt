@@ -82,7 +82,7 @@ pub split_blank_at : (xs : List ℕ) (i : ℕ) → i < length xs → is_blank (g
     → tokens_after 0 i (drop i xs) ≡ tokens_after 0 (i + 1) (drop (i + 1) xs)
 split_blank_at xs i h e =
     ap (tokens_after 0 i) (drop-cons xs i 0 h) ∙ split_blank i _ _ e
-        ∙ ap (λ n. tokens_after 0 (i + 1) (drop n xs)) (sym (add-one i))
+    ∙ ap (λ n. tokens_after 0 (i + 1) (drop n xs)) (sym (add-one i))
 
 -- the same at a place
 pub split_comment_at : (xs : List ℕ) (i : ℕ) → i < length xs → get_or xs i 0 ≡ 35

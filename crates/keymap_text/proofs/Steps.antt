@@ -61,7 +61,7 @@ or_true false false false = refl
 -- a byte of a comment, or the end of its line
 same_line : (c : ℕ) (b : Bool) → (c == 10) ≡ b → (q : ℕ) (x : List ℕ)
     → tokens_after (leading stays_on_line (c ∷ x)) q (c ∷ x)
-        ≡ tokens_of (cond b modes.Between modes.Comment) [] (q + 1) x
+    ≡ tokens_of (cond b modes.Between modes.Comment) [] (q + 1) x
 same_line c true h q x =
     ap (λ n. tokens_after n q (c ∷ x)) (leading_fail stays_on_line c x (ap not h))
     ∙ split_blank q c x (ap (λ b. c == 32 || (c == 9 || (c == 13 || b))) h ∙ or_true (c == 32) (c == 9) (c == 13))
@@ -230,7 +230,7 @@ word_ended a q p y h w e l =
     ∙ ap (λ (b : List ℕ). Then (record { kind = Word; bytes = a ∷ p; start = q; last = is_empty b })
     (tokens_after 0 (q + 1 + length p) b)) (drop_at p y (length p) refl)
     ∙ ap (λ k. Then (record { kind = Word; bytes = a ∷ p; start = q; last = is_empty y }) (tokens_after 0 k y))
-        (omega arith)
+    (omega arith)
   where
     short_word : (n : ℕ) → n < 32 → word n ≡ Found Word n
     short_word n h = grind (arith, nat_tests)
@@ -294,7 +294,7 @@ found_whole k q a w x h =
     ∙ ap (λ (b : List ℕ). Then (record { kind = k; bytes = a ∷ w; start = q; last = is_empty b })
     (tokens_after 0 (q + 1 + length w) b)) (drop_at w x (length w) refl)
     ∙ ap (λ n. Then (record { kind = k; bytes = a ∷ w; start = q; last = is_empty x }) (tokens_after 0 n x))
-        (omega arith)
+    (omega arith)
 
 -- a token that is no word is settled
 pub settled : (k : TokenKind) (b : Bool) → is_word_kind k ≡ false → not (is_word_kind k && b) ≡ true

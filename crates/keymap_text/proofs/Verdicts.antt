@@ -171,7 +171,7 @@ ended_at : (ts : List TokenValue)
     → found_of (judge start (tokens_then ts)) ≡ found_in (place_after AtDefinition ts) (Ok 0)
 ended_at ts =
     same_fault start (tokens_then ts)
-        ∙ ap₂ (λ ts r. found_in (place_after AtDefinition ts) r) (listed ts) (behind_is ts)
+    ∙ ap₂ (λ ts r. found_in (place_after AtDefinition ts) r) (listed ts) (behind_is ts)
 
 -- tokens that lead to a place where a text may end are a row
 pub row_of : (ts : List TokenValue) (p : RowPlace) → place_after AtDefinition ts ≡ Ok p → may_end p ≡ true

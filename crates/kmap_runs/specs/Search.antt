@@ -19,7 +19,7 @@ name_if_on is_on i = if is_on i then 32 ∷ holding_name (holding.Mod i) else []
 abbrev pub script_text : MapValue → List Event → List ℕ
 script_text m events =
     codes "# sticks:" ++ flat_map (name_if_on
-        (λ i. is_on_after (between m m) i (reverse events))) modifiers ++ codes "\n"
+    (λ i. is_on_after (between m m) i (reverse events))) modifiers ++ codes "\n"
     ++ flat_map event_line events
 
 abbrev pub found_text : MapValue → Sticking → List ℕ

@@ -2,7 +2,8 @@
 ghost use Rattle.std.specs.Prelude.{◌≡◌, ◌+◌, ◌≤◌, ◌++◌, ◌||◌, length, is_err};
 ghost use Rattle.arrayvec.specs.ArrayVec.{array_vec_len};
 ghost use Rattle.keymap_core.specs.Devices.{WritesText};
-ghost use Rattle.kmap_runs.specs.FaultLine.{fault_line, message, read_fault, script_fault, table_fault, table_kind, text_fault, text_kind, too_wide, write_fault};
+ghost use Rattle.kmap_runs.specs.FaultLine.{fault_line, message, read_fault, script_fault, table_fault, table_kind};
+ghost use Rattle.kmap_runs.specs.FaultLine.{text_fault, text_kind, too_wide, write_fault};
 
 use crate::code_point::code_of;
 use crate::text::{append, append_byte, append_number};

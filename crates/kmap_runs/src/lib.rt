@@ -1,9 +1,9 @@
 //! The runs of the program `kmap` over any reader and writer, and the line that tells why a run failed.
 //!
 //! `check_run` writes the report of the check on the map that a text spells, `search_run` what the search for sticking
-//! modifiers found, `type_run` a script that types a sentence; `dump_run` and `dump_narrow_run` print the map of a table
-//! file. `text_failure`, `narrow_failure` and `play_failure` make one `RunError` of what the libraries below answer,
-//! and `write_run_error` writes its line.
+//! modifiers found, `type_run` a script that types a sentence; `dump_run` and `dump_narrow_run` print the map of a
+//! table file. `text_failure`, `narrow_failure` and `play_failure` make one `RunError` of what the libraries below
+//! answer, and `write_run_error` writes its line.
 //!
 //! It stands on all other libraries of the workspace but that for C, and on nothing that opens files or reads a command
 //! line. Each contract is exact on the bytes that are taken and given (`specs/Runs.antt`, `specs/TypeRuns.antt`,

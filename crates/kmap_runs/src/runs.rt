@@ -6,8 +6,8 @@ ghost use Rattle.console_core.specs.Sticking.{IsAnswer};
 ghost use Rattle.keymap_core.specs.Maps.{MapValue};
 ghost use Rattle.kmap_runs.specs.Report.{report};
 ghost use Rattle.kmap_runs.specs.Search.{found_text as found_text_of};
-ghost use Rattle.kmap_runs.specs.Runs.{ChecksText, DumpsTables, DumpsNarrow, SearchesText, blames_reader, blames_writer};
-ghost use Rattle.kmap_runs.specs.Runs.{of_narrow_error, of_play_error, of_table_error, of_text_error};
+ghost use Rattle.kmap_runs.specs.Runs.{ChecksText, DumpsTables, DumpsNarrow, SearchesText, blames_reader};
+ghost use Rattle.kmap_runs.specs.Runs.{blames_writer, of_narrow_error, of_play_error, of_table_error, of_text_error};
 
 use crate::fault_line::RunError;
 use crate::report::report_on;

@@ -5,7 +5,8 @@ ghost use Rattle.play_core.specs.Playing.{moves};
 ghost use Rattle.play_core.specs.Typing.{IsTyped};
 ghost use Rattle.kmap_runs.specs.Typing.{typing_script as typing_script_of};
 ghost use Rattle.kmap_runs.specs.Runs.{blames_reader, blames_writer};
-ghost use Rattle.kmap_runs.specs.TypeRuns.{TypesSentence, RefusesSentence, LacksScript, error_blames_sentence, blames_sentence};
+ghost use Rattle.kmap_runs.specs.TypeRuns.{TypesSentence, RefusesSentence, LacksScript, error_blames_sentence};
+ghost use Rattle.kmap_runs.specs.TypeRuns.{blames_sentence};
 
 use crate::fault_line::RunError;
 use crate::runs::text_failure;

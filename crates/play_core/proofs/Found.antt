@@ -14,7 +14,9 @@ use Rattle.keymap_core.specs.Maps.{MapValue, accent_at}
 use Rattle.console_core.specs.declared.event.Event.{Event}
 use Rattle.console_core.specs.History.{accent_pending_after}
 use Rattle.play_core.specs.HeldKeys.{held_keys, lacks_key, combination_with, combinations}
-use Rattle.play_core.specs.Typing.{alone, is_at_rest, character_typed_by, accent_left_by, first_with, is_now, direct_way, dead_way, typing_answers, unless_any, way_for, accented, accented_by, bases_of, joined}
+use Rattle.play_core.specs.Typing.{alone, is_at_rest, character_typed_by, accent_left_by, first_with, is_now}
+use Rattle.play_core.specs.Typing.{direct_way, dead_way, typing_answers, unless_any, way_for, accented, accented_by}
+use Rattle.play_core.specs.Typing.{bases_of, joined}
 use Rattle.play_core.specs.Inner.Effects.{IsTrial}
 use Rattle.play_core.specs.Inner.Tables.{WayEntries, IsTableOf, AreTablesOf}
 use Rattle.play_core.proofs.Trials.{rests-start}
@@ -79,7 +81,7 @@ dead-rests m i way e =
     let is : accent_left_by m way ≡ Some i =
     is-now i (accent_left_by m way) (find-true (λ w. is_now i (accent_left_by m w)) (combinations m) way e) in
     (when-rests (is_at_rest m (reverse way))
-        (unless_any (typing_answers m way) (accent_pending_after (alone m) (reverse way))) i
+    (unless_any (typing_answers m way) (accent_pending_after (alone m) (reverse way))) i
     is).0
 
 -- a dead key and a base are a way that is tried
@@ -128,7 +130,7 @@ found-first f ways es n o table e = sym (table n) ∙ ap (option_map (λ w. w.it
 pub base-none : (m : MapValue) (c : ℕ) (dead : List Event) (ways : List (List Event)) (es : WayEntries)
     → direct_way m c ≡ None
     → IsTableOf (character_typed_by m) ways es
-        → IsTableOf (character_typed_by m) (ways ++ joined (Some dead) (direct_way m c)) es
+    → IsTableOf (character_typed_by m) (ways ++ joined (Some dead) (direct_way m c)) es
 base-none m c dead ways es e table =
     subst (λ o. IsTableOf (character_typed_by m) (ways ++ joined (Some dead) o) es) (sym e)
     (subst (λ x. IsTableOf (character_typed_by m) x es) (sym (append-nil ways)) table)
@@ -160,7 +162,7 @@ pub direct-found : (m : MapValue) (n c : ℕ) (es : WayEntries) (w : ArrayVec Ev
     → Some w ≡ lookup (λ x. n == x) es → n ≡ c → direct_way m c ≡ Some w.items
 direct-found m n c es w table e is =
     subst (λ x. direct_way m x ≡ Some w.items) is
-        (found-first (character_typed_by m) (combinations m) es n (Some w) table e)
+    (found-first (character_typed_by m) (combinations m) es n (Some w) table e)
 
 -- a character that isn't in the table is typed by no combination
 pub no-direct-found : (m : MapValue) (n c : ℕ) (es : WayEntries) → IsTableOf (character_typed_by m) (combinations m) es
@@ -200,7 +202,7 @@ accented-all m i a dead ways es e d table =
     subst (λ x. IsTableOf (character_typed_by m) (ways ++ x) es) (sym g)
     (subst (λ x. IsTableOf (character_typed_by m) x es) (append_assoc ways (flat_map (λ p. f p.0) a.pairs) (f 32))
     (subst (λ o. IsTableOf (character_typed_by m)
-        ((ways ++ flat_map (λ p. f p.0) a.pairs) ++ joined o (direct_way m 32)) es)
+    ((ways ++ flat_map (λ p. f p.0) a.pairs) ++ joined o (direct_way m 32)) es)
     (sym d) table))
 
 -- one pair more
@@ -215,10 +217,10 @@ pub accented-more : (m : MapValue) (i : ℕ) (dead : List Event) (ways : List (L
     (pairs : List (ℕ × ℕ)) (k : ℕ)
     → dead_way m i ≡ Some dead → k < length pairs
     → IsTableOf (character_typed_by m)
-        ((ways ++ flat_map (λ p. joined (dead_way m i) (direct_way m p.0)) (take k pairs))
+    ((ways ++ flat_map (λ p. joined (dead_way m i) (direct_way m p.0)) (take k pairs))
     ++ joined (Some dead) (direct_way m (get_or pairs k (0, 0)).0)) es
     → IsTableOf (character_typed_by m)
-        (ways ++ flat_map (λ p. joined (dead_way m i) (direct_way m p.0)) (take (k + 1) pairs))
+    (ways ++ flat_map (λ p. joined (dead_way m i) (direct_way m p.0)) (take (k + 1) pairs))
     es
 accented-more m i dead ways es pairs k d lt table =
     let f : ℕ × ℕ → List (List Event) = λ p. joined (dead_way m i) (direct_way m p.0) in
@@ -226,7 +228,7 @@ accented-more m i dead ways es pairs k d lt table =
     subst (λ x. IsTableOf (character_typed_by m) (ways ++ x) es) (sym (flat-map-more f pairs k lt))
     (subst (λ x. IsTableOf (character_typed_by m) x es) (append_assoc ways (flat_map f (take k pairs)) (f p))
     (subst (λ o. IsTableOf (character_typed_by m)
-        ((ways ++ flat_map f (take k pairs)) ++ joined o (direct_way m p.0)) es)
+    ((ways ++ flat_map f (take k pairs)) ++ joined o (direct_way m p.0)) es)
     (sym d) table))
 
 -- the way that a look-up finds, in the first table or else in the second
@@ -239,7 +241,7 @@ way-first m n c es w table e is = first-way m c (Some w.items) _ (direct-found m
 pub way-second : (m : MapValue) (n c : ℕ) (es fs : WayEntries) (o : Option (ArrayVec Event))
     → IsTableOf (character_typed_by m) (combinations m) es
     → IsTableOf (character_typed_by m) (accented m) fs → None ≡ lookup (λ x. n == x) es → o ≡ lookup (λ x. n == x) fs
-        → n ≡ c
+    → n ≡ c
     → way_for m c ≡ option_map (λ w. w.items) o
 way-second m n c es fs o table second e f is =
     first-way m c None (option_map (λ w. w.items) o) (no-direct-found m n c es table e is)

@@ -108,10 +108,10 @@ next_words bs start end e f =
     let found = position-Some (λ b. not (separates_words b)) bs start 0 e in
     let rest = drop-cons bs start 0 found.0 in
     let last : end ≡ position_or_len separates_words (drop start bs) = f
-        ∙ unwrap_position separates_words (drop start bs) in
+    ∙ unwrap_position separates_words (drop start bs) in
     word_at bs start e ∙ words_from_first _ _ (not-true _ found.1)
     ∙ ap (λ l. take (position_or_len separates_words l) l ∷ words_in (drop (position_or_len separates_words l) l))
-        (sym rest)
+    (sym rest)
     ∙ ap (λ n. take n (drop start bs) ∷ words_in (drop n (drop start bs))) (sym last)
 
 -- each of the digits is one

@@ -9,7 +9,8 @@ use Rattle.keymap_core.specs.declared.action.Lock.TheVariants as lock
 use Rattle.keymap_core.specs.Actions.{modifiers, locks}
 use Rattle.console_core.specs.declared.event.Event.{Event}
 use Rattle.console_core.specs.declared.event.Answer.{Answer}
-use Rattle.play_core.specs.Written.{event_text, answer_text, line_of, name_if, or_none, names_of_modifiers, names_of_locks}
+use Rattle.play_core.specs.Written.{event_text, answer_text, line_of, name_if, or_none, names_of_modifiers}
+use Rattle.play_core.specs.Written.{names_of_locks}
 use Rattle.play_core.specs.Inner.Tails.{tail_of, number_with, shown_number, IsTail}
 
 -- truth values of the same number are the same

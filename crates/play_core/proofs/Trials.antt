@@ -30,7 +30,8 @@ use Rattle.console_core.proofs.Bearing.{remembered-pressed}
 use Rattle.play_core.specs.declared.effect.Typed.{Typed}
 use Rattle.play_core.specs.declared.effect.Typed.TheVariants as typed
 use Rattle.play_core.specs.HeldKeys.{combination}
-use Rattle.play_core.specs.Typing.{alone, is_at_rest, types_something, lone_character, typing_answers, unless_some, unless_any, character_typed_by, accent_left_by}
+use Rattle.play_core.specs.Typing.{alone, is_at_rest, types_something, lone_character, typing_answers, unless_some}
+use Rattle.play_core.specs.Typing.{unless_any, character_typed_by, accent_left_by}
 use Rattle.play_core.specs.Inner.Effects.{IsTrial, typed_by_one, typed_by_all, after_typing, one_more, character_in}
 use Rattle.play_core.specs.Inner.Effects.{accent_in, effect_by}
 use Rattle.play_core.proofs.Resting.{combination-quiet, combination-down, DownOnlyIfLocked}

@@ -9,7 +9,8 @@ use Rattle.play_core.specs.declared.script.ScriptFault.{ScriptFault}
 use Rattle.play_core.specs.declared.script.ScriptFault.TheVariants.{BadLine, BadKey}
 use Rattle.play_core.specs.declared.sent.Sent.{Sent}
 use Rattle.play_core.specs.Inner.Readings.{reading}
-use Rattle.play_core.specs.Scripts.{lines_of, key_of, AreEvents, IsEvent, HasBadKey, HasBadForm, IsScript, IsScriptFault, IsFaultOf}
+use Rattle.play_core.specs.Scripts.{lines_of, key_of, AreEvents, IsEvent, HasBadKey, HasBadForm, IsScript}
+use Rattle.play_core.specs.Scripts.{IsScriptFault, IsFaultOf}
 use Rattle.play_core.proofs.Sending.{event_read, reading_is, IsReading}
 
 -- ---- a line

@@ -74,7 +74,7 @@ character_typed_by m way =
 unfoldable pub accent_left_by : MapValue → List Event → Option ℕ
 accent_left_by m way =
     if is_at_rest m (reverse way) then unless_any (typing_answers m way)
-        (accent_pending_after (alone m) (reverse way)) else None
+    (accent_pending_after (alone m) (reverse way)) else None
 
 abbrev pub is_now : ℕ → Option ℕ → Bool
 is_now c None = false

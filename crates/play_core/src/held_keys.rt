@@ -3,7 +3,8 @@ ghost use Rattle.std.specs.Prelude.{◌≡◌, ℕ, ◌<◌, ◌≤◌, ◌+◌,
 ghost use Rattle.std.specs.Prelude.{false, None};
 ghost use Rattle.arrayvec.specs.ArrayVec.{array_vec_len};
 ghost use Rattle.keymap_core.specs.Maps.{MapValue, cell_at};
-ghost use Rattle.keymap_core.specs.Borne.{is_cell_of_action, has_in_slot as has_in_slot_of, is_upper_live as is_upper_live_of};
+ghost use Rattle.keymap_core.specs.Borne.{is_cell_of_action, has_in_slot as has_in_slot_of};
+ghost use Rattle.keymap_core.specs.Borne.{is_upper_live as is_upper_live_of};
 ghost use Rattle.keymap_core.specs.Numbers.{key_count, column_count};
 ghost use Rattle.play_core.specs.HeldKeys as spec;
 ghost use Rattle.play_core.specs.Inner.HeldTables.{AreHeldKeys};

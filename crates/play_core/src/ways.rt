@@ -5,9 +5,11 @@ ghost use Rattle.arrayvec.specs.ArrayVec.{array_vec_len};
 ghost use Rattle.keymap_core.specs.Maps.{MapValue};
 ghost use Rattle.keymap_core.specs.Numbers.{key_count};
 ghost use Rattle.console_core.specs.declared.event.Event.{Event as EventValue};
-ghost use Rattle.play_core.specs.HeldKeys.{combinations_of, combinations_with, combinations, gathered, combination_with};
+ghost use Rattle.play_core.specs.HeldKeys.{combinations_of, combinations_with, combinations, gathered};
+ghost use Rattle.play_core.specs.HeldKeys.{combination_with};
 ghost use Rattle.play_core.specs.Inner.HeldTables.{AreHeldKeys};
-ghost use Rattle.play_core.specs.Typing.{character_typed_by, accent_left_by, direct_way, dead_way, joined, accented_by, accented, way_for};
+ghost use Rattle.play_core.specs.Typing.{character_typed_by, accent_left_by, direct_way, dead_way, joined, accented_by};
+ghost use Rattle.play_core.specs.Typing.{accented, way_for};
 ghost use Rattle.play_core.specs.Inner.Tables.{IsTableOf, AreTablesOf};
 
 use crate::effect::effect_of;

@@ -1,5 +1,6 @@
 -- What writing a part of what a console keeps leaves, and what each kind of event leaves. Mirrors the methods of
--- `Store` of src/store.rt, `next_pending` and `pending_after_dead_key` of src/rules.rt, and the steps of src/machine.rt.
+-- `Store` of src/store.rt, `next_pending` and `pending_after_dead_key` of src/rules.rt, and the steps of
+-- src/machine.rt.
 use Rattle.std.specs.Prelude.{ℕ, ◌==◌, Bool, false, not, Option, None, Some, ◌&&◌, ◌||◌, if◌then◌else◌}
 use Rattle.keymap_core.specs.declared.action.Action.{Action}
 use Rattle.keymap_core.specs.declared.action.Holding.{Holding}

@@ -90,7 +90,8 @@ impl Held {
 
     fn slot(&self, key: KeyCode) -> u8
         ensures in_range { key < key_count }
-        ensures value { result ≡ slot_of key (is_upper (λ i. is_held_in (state_of self.now) i) (λ l. (state_of self.now).is_locked l)) }
+        ensures value { result
+            ≡ slot_of key (is_upper (λ i. is_held_in (state_of self.now) i) (λ l. (state_of self.now).is_locked l)) }
     {
         let upper = self.is_held(Modifier::AltShift) != self.is_locked(Lock::Alt);
         if upper {

@@ -5,7 +5,8 @@ use Rattle.console_core.specs.declared.event.Event.TheVariants.{Press}
 use Rattle.console_core.specs.declared.held.Move.{Move}
 use Rattle.console_core.specs.Moves.{releases, events_of_move, events_along, script_of_path}
 use Rattle.console_core.specs.Inner.Searching.{state_of}
-use Rattle.console_core.proofs.Searching.{LeadsBy, script-begin, trail-leads, leads-next, leads-end, left-smaller, within-last, same-place}
+use Rattle.console_core.proofs.Searching.{LeadsBy, script-begin, trail-leads, leads-next, leads-end, left-smaller}
+use Rattle.console_core.proofs.Searching.{within-last, same-place}
 use Rattle.console_core.proofs.search.script.Goals as goal
 
 pub loop-last-init : goal.loop-last-init
@@ -60,4 +61,4 @@ returns c =
     c.loop-last.invariant.left path x at trail state in
     ap reverse c.reverse.ensures.items ∙ reverse-reverse items
     ∙ leads-end es items p.0 (script_of_path path c.args.stuck.key)
-        (subst (λ o. LeadsBy es o p.0) c.in_default.is p.2) p.1
+    (subst (λ o. LeadsBy es o p.0) c.in_default.is p.2) p.1

@@ -3,7 +3,8 @@ use Rattle.std.proofs.lemmas.Bool.{eq-eqb}
 use Rattle.std.proofs.lemmas.Option.{slice_get_within}
 use Rattle.console_core.specs.declared.search.Origin.{Origin}
 use Rattle.console_core.specs.Inner.Searching.{Searched, AreInOrder, IsStuck}
-use Rattle.console_core.proofs.Searching.{added-longer, start-entries, searched-start, searched-never, searched-back, stuck-sticks}
+use Rattle.console_core.proofs.Searching.{added-longer, start-entries, searched-start, searched-never, searched-back}
+use Rattle.console_core.proofs.Searching.{stuck-sticks}
 use Rattle.console_core.proofs.Reaching.{tables-test, reaches-more, beq-self}
 use Rattle.console_core.proofs.search.sticking.Goals as goal
 

@@ -20,7 +20,7 @@ returns-then-fits-clause-value c =
     let e : is_of_kind c.args.kind (cell_of c.args.map.now c.args.key c.loop-place.place) ≡ true =
     ap (λ x. is_of_kind c.args.kind x) (sym c.cell_of.ensures) ∙ sym c.fits.ensures ∙ c.if-fits.true in
     sym (first_below-found (λ place. is_of_kind c.args.kind
-        (cell_of c.args.map.now c.args.key place)) c.loop-place.place
+    (cell_of c.args.map.now c.args.key place)) c.loop-place.place
     (place_count c.args.map.now) lt c.loop-place.invariant e)
 
 pub returns-clause-value : goal.returns-clause-value

@@ -9,7 +9,7 @@ returns-then-start-text-clause-exact c =
     let i = c.token_start-start.result in
     let text = c.args.text.now in
     sym (ap first (c.token_start-start.ensures.same ∙ at_drop_all (tokens_after 0 i) text i (omega arith)
-        ∙ split_none i))
+    ∙ split_none i))
 
 pub returns-in-Found-clause-exact : goal.returns-in-Found-clause-exact
 returns-in-Found-clause-exact c =

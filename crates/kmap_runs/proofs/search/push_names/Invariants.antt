@@ -9,4 +9,4 @@ abbrev pub invariant-loop-modifier : goal.invariant-loop-modifier
 invariant-loop-modifier g l =
     (ms : Maps) (h : List Event) → g.T.Translator.stands l.console ms h
     → l.text.items ≡ l.fn.text.items ++ flat_map (name_if_on (λ i. is_on_after ms i h))
-        (take l.modifier-index l.modifiers)
+    (take l.modifier-index l.modifiers)

@@ -35,7 +35,7 @@ returns-in_default-get c = λ ways t.
 pub loop-pair-init : goal.loop-pair-init
 loop-pair-init c =
     λ ways t. subst (λ x. IsTableOf (character_typed_by c.args.map.now) x c.args.accented.now.entries)
-        (sym (append-nil ways))
+    (sym (append-nil ways))
     t
 
 pub loop-pair-preserved : goal.loop-pair-preserved

@@ -9,7 +9,10 @@ use Rattle.keymap_tables.proofs.Images.{n_accs-of}
 use Rattle.keymap_tables.proofs.InPlace.{cut}
 use Rattle.keymap_tables.proofs.Places.{accent-part}
 use Rattle.keymap_tables.proofs.tables.Tables.accent.Goals as goal
-use Rattle.keymap_tables.proofs.tables.Tables.accent.Goals.{else-index-lt-ACCENT_LIMIT-via-then-index-lt-ACCENT_LIMIT+else-index-n_accs, else-index-lt-ACCENT_LIMIT-via-else-index-lt-ACCENT_LIMIT}
+use Rattle.keymap_tables.proofs.tables.Tables.accent.Goals.{
+  else-index-lt-ACCENT_LIMIT-via-then-index-lt-ACCENT_LIMIT+else-index-n_accs,
+}
+use Rattle.keymap_tables.proofs.tables.Tables.accent.Goals.{else-index-lt-ACCENT_LIMIT-via-else-index-lt-ACCENT_LIMIT}
 
 counted : (bytes : List ℕ) (n : ℕ) → n ≡ count_at (part bytes 9220 4) 0 → (m : MapValue) → IsMap m → bytes ≡ image m
     → n ≡ length m.accents
@@ -36,7 +39,9 @@ returns-else-index-lt-ACCENT_LIMIT-clause-defined c =
     λ m is same. let n = counted c.args.self.now.bytes.now _ c.read_half-n_accs.ensures m is same in (
       λ t. absurd (not_true t),
       λ below. elim c.else-index-lt-ACCENT_LIMIT.branch [
-        | else-index-lt-ACCENT_LIMIT-via-then-index-lt-ACCENT_LIMIT+else-index-n_accs w ↦ absurd (omega (arith, n, w.if-index-n_accs.false))
-        | else-index-lt-ACCENT_LIMIT-via-else-index-lt-ACCENT_LIMIT w ↦ absurd (omega (arith, is.few_accents, w.if-index-lt-ACCENT_LIMIT.false))
+        | else-index-lt-ACCENT_LIMIT-via-then-index-lt-ACCENT_LIMIT+else-index-n_accs w ↦
+            absurd (omega (arith, n, w.if-index-n_accs.false))
+        | else-index-lt-ACCENT_LIMIT-via-else-index-lt-ACCENT_LIMIT w ↦
+            absurd (omega (arith, is.few_accents, w.if-index-lt-ACCENT_LIMIT.false))
       ],
     )

@@ -125,7 +125,7 @@ scalar-small c known = grind (arith, nat_tests)
 
 -- a scalar value is no fault
 pub char-sound : (c : ℕ) → IsScalar c → char_fault c ≡ None
-char-sound c known = grind (arith, nat_tests)
+char-sound c known = rw (known) refl
 
 -- the number and mark of a known cell are no fault
 pub cell-sound : (cell : Cell) → IsCell cell → cell_fault (number_of cell) (is_act cell) ≡ None

@@ -1,6 +1,7 @@
 -- Which fault stands at a place of a table file.
-use Rattle.std.specs.Prelude.{◌≡◌, ℕ, ◌+◌, ◌-◌, ◌*◌, ◌/◌, ◌%◌, ◌^◌, ◌<◌, ◌≤◌, ◌==◌, ◌||◌, nat_lt, nat_le, List, length}
+use Rattle.std.specs.Prelude.{◌≡◌, ℕ, ◌+◌, ◌-◌, ◌*◌, ◌/◌, ◌%◌, ◌^◌, ◌<◌, ◌≤◌, ◌==◌, nat_lt, nat_le, List, length}
 use Rattle.std.specs.Prelude.{take_while, slice_index, Bool, not, is_some, Option, None, Some, if◌then◌else◌}
+use lib.Utf8.{scalar}
 use Rattle.std.specs.Int.{from_le_bytes, w16}
 use Rattle.std.specs.List.{range_with_len}
 use Rattle.keymap_core.specs.Actions.{action_of, within}
@@ -21,11 +22,8 @@ number_at l bytes at = from_le_bytes (number_width l) (part bytes at (number_siz
 abbrev pub count_at : List ℕ → ℕ → ℕ
 count_at bytes at = from_le_bytes w16 (part bytes at 2)
 
-abbrev pub is_scalar : ℕ → Bool
-is_scalar c = nat_lt c 0xd800 || within 0xe000 0x10ffff c
-
 abbrev pub char_fault : ℕ → Option TableFaultKind
-char_fault number = if is_scalar number then None else Some BadChar
+char_fault number = if scalar number then None else Some BadChar
 
 abbrev pub action_fault : ℕ → Option TableFaultKind
 action_fault number =

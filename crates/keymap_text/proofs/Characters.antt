@@ -3,7 +3,7 @@ use Rattle.std.proofs.Common.{◌≡◌, ◌≢◌, ℕ, zero, suc, ◌+◌, ◌
 use Rattle.std.proofs.Common.{List, [], ◌∷◌, length, map, fold, refl, sym, ◌∙◌, ap, subst, arith, Ok, Err, Some, None}
 use Rattle.std.proofs.Common.{ne_eqb, nat_lt, nat_le, codes, inl, inr, slice_index_or}
 use Rattle.std.specs.List.{list_all, range_with_len}
-use Rattle.std.specs.Char.{digit_value}
+use Rattle.std.specs.Char.{digit_char, digit_value}
 use lib.Utf8.{scalar}
 use Rattle.std.proofs.lemmas.Bool.Decides.{nat_tests}
 use Rattle.std.proofs.Math.Nat.{eq-or-lt_of_le}
@@ -13,7 +13,7 @@ use Rattle.keymap_text.specs.declared.words.Meaning.{Meaning}
 use Rattle.keymap_text.specs.declared.words.Meaning.TheVariants.{Number, Char}
 use Rattle.keymap_text.specs.Lexical.{leading, is_word}
 use Rattle.keymap_text.specs.Words.{meaning, digits_of, number_after, is_digit, named, control_names}
-use Rattle.keymap_text.specs.Printed.{character_text, hex, hex4, hex_at, hex_digit}
+use Rattle.keymap_text.specs.Printed.{character_text, hex, hex4, hex_at}
 use Rattle.keymap_text.proofs.Leading.{leading_pass, leading_none}
 use Rattle.keymap_text.proofs.Numbers.{digits_good, digits_bad}
 use Rattle.keymap_text.proofs.Lexed.{Lexes, NoWord, lexes_word, lexes_quoted}
@@ -140,15 +140,15 @@ prints_quoted c h k =
     }
 
 -- hexadecimal digits
-hex_value : (d : ℕ) → d < 16 → digit_value (hex_digit d) ≡ d
+hex_value : (d : ℕ) → d < 16 → digit_value (digit_char d) ≡ d
 hex_value d h = grind (arith, nat_tests)
 
 -- a hexadecimal digit is a letter or digit
-hex_word : (d : ℕ) → d < 16 → is_word (hex_digit d) ≡ true
+hex_word : (d : ℕ) → d < 16 → is_word (digit_char d) ≡ true
 hex_word d h = grind (arith, nat_tests)
 
 -- and passes the test of digits
-hex_test : (d : ℕ) → d < 16 → is_digit 16 (hex_digit d) ≡ true
+hex_test : (d : ℕ) → d < 16 → is_digit 16 (digit_char d) ≡ true
 hex_test d h = rw (hex_value d h) (below d h)
   where
     below : (d : ℕ) → d < 16 → nat_lt d 16 ≡ true
@@ -163,33 +163,33 @@ horner n [] = n
 horner n (d ∷ ds) = horner (n * 16 + d) ds
 
 -- so do all of them
-hex_tests : (ds : List ℕ) → AreSmall ds → list_all (is_digit 16) (map hex_digit ds) ≡ true
+hex_tests : (ds : List ℕ) → AreSmall ds → list_all (is_digit 16) (map digit_char ds) ≡ true
 hex_tests [] h = refl
-hex_tests (d ∷ ds) (h, k) = ap (λ b. b && list_all (is_digit 16) (map hex_digit ds)) (hex_test d h) ∙ hex_tests ds k
+hex_tests (d ∷ ds) (h, k) = ap (λ b. b && list_all (is_digit 16) (map digit_char ds)) (hex_test d h) ∙ hex_tests ds k
 
 -- digits spell the number of their values
 hex_number : (n : ℕ) (ds : List ℕ) → AreSmall ds
-    → fold (λ n c. n * 16 + digit_value c) n (map hex_digit ds) ≡ horner n ds
+    → fold (λ n c. n * 16 + digit_value c) n (map digit_char ds) ≡ horner n ds
 hex_number n [] h = refl
 hex_number n (d ∷ ds) (h, k) =
-    ap (λ v. fold (λ n c. n * 16 + digit_value c) (n * 16 + v) (map hex_digit ds)) (hex_value d h)
+    ap (λ v. fold (λ n c. n * 16 + digit_value c) (n * 16 + v) (map digit_char ds)) (hex_value d h)
     ∙ hex_number (n * 16 + d) ds k
 
 -- digits are one word
-hex_leads : (ds : List ℕ) → AreSmall ds → leading is_word (map hex_digit ds) ≡ length ds
+hex_leads : (ds : List ℕ) → AreSmall ds → leading is_word (map digit_char ds) ≡ length ds
 hex_leads [] h = leading_none is_word
 hex_leads (d ∷ ds) (h, k) =
-    leading_pass is_word (hex_digit d) (map hex_digit ds) (hex_word d h) ∙ omega (arith, hex_leads ds k)
+    leading_pass is_word (digit_char d) (map digit_char ds) (hex_word d h) ∙ omega (arith, hex_leads ds k)
 
 -- one byte a digit
-hex_length : (ds : List ℕ) → length (map hex_digit ds) ≡ length ds
+hex_length : (ds : List ℕ) → length (map digit_char ds) ≡ length ds
 hex_length [] = refl
 hex_length (d ∷ ds) = ap suc (hex_length ds)
 
 -- digits spell a number
-hex_digits : (ds : List ℕ) → 0 < length ds → AreSmall ds → digits_of 16 (map hex_digit ds) ≡ Some (horner 0 ds)
+hex_digits : (ds : List ℕ) → 0 < length ds → AreSmall ds → digits_of 16 (map digit_char ds) ≡ Some (horner 0 ds)
 hex_digits ds h k =
-    digits_good 16 (map hex_digit ds) (omega (arith, hex_length ds)) (hex_tests ds k) ∙ ap Some (hex_number 0 ds k)
+    digits_good 16 (map digit_char ds) (omega (arith, hex_length ds)) (hex_tests ds k) ∙ ap Some (hex_number 0 ds k)
 
 -- a word that is no decimal number, with digits after 0x
 meaning_hex : (w : List ℕ) (n : ℕ) → digits_of 10 (48 ∷ 120 ∷ w) ≡ None
@@ -210,12 +210,12 @@ after_prefix w n h = ap (λ b. cond (b && true) (digits_of 16 w) None) (long (le
 
 -- digits after 0x are one token
 lexes_hex : (c : ℕ) (ds : List ℕ) → 0 < length ds → length ds ≤ 30 → AreSmall ds → horner 0 ds ≡ c
-    → Lexes NoWord (48 ∷ 120 ∷ map hex_digit ds) (Value (Number c) ∷ [])
+    → Lexes NoWord (48 ∷ 120 ∷ map digit_char ds) (Value (Number c) ∷ [])
 lexes_hex c ds z l h e =
-    subst (λ (m : Meaning). Lexes NoWord (48 ∷ 120 ∷ map hex_digit ds) (Value m ∷ []))
-    (meaning_hex (map hex_digit ds) c (no_decimal (map hex_digit ds))
-    (after_prefix (map hex_digit ds) c (hex_digits ds z h ∙ ap Some e)))
-    (lexes_word (48 ∷ 120 ∷ map hex_digit ds) (omega arith) (omega (arith, hex_length ds, l))
+    subst (λ (m : Meaning). Lexes NoWord (48 ∷ 120 ∷ map digit_char ds) (Value m ∷ []))
+    (meaning_hex (map digit_char ds) c (no_decimal (map digit_char ds))
+    (after_prefix (map digit_char ds) c (hex_digits ds z h ∙ ap Some e)))
+    (lexes_word (48 ∷ 120 ∷ map digit_char ds) (omega arith) (omega (arith, hex_length ds, l))
     (leading_pass is_word 48 _ refl ∙ ap (λ n. n + 1) (leading_pass is_word 120 _ refl)
     ∙ omega (arith, hex_leads ds h, hex_length ds)))
 
@@ -274,7 +274,7 @@ small_four : (c : ℕ) → AreSmall (four c)
 small_four c = (is_mod (c / 4096), (is_mod (c / 256), (is_mod (c / 16), (is_mod (c / 1), tt))))
 
 -- a number of four digits is printed with them
-hex_four : (c : ℕ) → c < 65536 → hex c ≡ map hex_digit (four c)
+hex_four : (c : ℕ) → c < 65536 → hex c ≡ map digit_char (four c)
 unfolding hex
 hex_four c h =
     ap (λ b. cond b (hex4 c) (cond (nat_lt c 1048576) (hex_at c 65536 ∷ hex4 c)
@@ -288,7 +288,7 @@ not_four : (c : ℕ) → 65536 ≤ c → nat_lt c 65536 ≡ false
 not_four c h = grind (arith, nat_tests)
 
 -- five digits
-hex_five : (c : ℕ) → 65536 ≤ c → c < 1048576 → hex c ≡ map hex_digit (c / 65536 % 16 ∷ four c)
+hex_five : (c : ℕ) → 65536 ≤ c → c < 1048576 → hex c ≡ map digit_char (c / 65536 % 16 ∷ four c)
 unfolding hex
 hex_five c h k = rw (not_four c h, below c k) refl
   where
@@ -296,7 +296,7 @@ hex_five c h k = rw (not_four c h, below c k) refl
     below c h = grind (arith, nat_tests)
 
 -- six digits
-hex_six : (c : ℕ) → 1048576 ≤ c → hex c ≡ map hex_digit (c / 1048576 % 16 ∷ c / 65536 % 16 ∷ four c)
+hex_six : (c : ℕ) → 1048576 ≤ c → hex c ≡ map digit_char (c / 1048576 % 16 ∷ c / 65536 % 16 ∷ four c)
 unfolding hex
 hex_six c h = rw (not_four c (omega arith), not_five c h) refl
   where
@@ -304,7 +304,7 @@ hex_six c h = rw (not_four c (omega arith), not_five c h) refl
     not_five c h = grind (arith, nat_tests)
 
 -- a character that is printed in digits is one token
-prints_digits : (c : ℕ) (ds : List ℕ) → 127 < c → scalar c ≡ true → hex c ≡ map hex_digit ds → 0 < length ds
+prints_digits : (c : ℕ) (ds : List ℕ) → 127 < c → scalar c ≡ true → hex c ≡ map digit_char ds → 0 < length ds
     → length ds ≤ 30 → AreSmall ds → horner 0 ds ≡ c → PrintsCharacter c
 prints_digits c ds h s e z l k n = record {
   token = Value (Number c);

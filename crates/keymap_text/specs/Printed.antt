@@ -1,6 +1,7 @@
 -- The printed form of a map.
 use Rattle.std.specs.Prelude.{ℕ, ◌+◌, ◌-◌, ◌/◌, ◌%◌, if◌then◌else◌, ◌==◌, ◌||◌, nat_lt, List, [], ◌∷◌, ◌++◌, length}
 use Rattle.std.specs.Prelude.{replicate, codes, slice_index_or}
+use Rattle.std.specs.Char.{digit_char}
 use Rattle.std.specs.List.{flat_map, range_with_len}
 use Rattle.keymap_core.specs.Accents.{AccentValue, blank}
 use Rattle.keymap_core.specs.Actions.{name_of, accent_names}
@@ -15,13 +16,9 @@ use Rattle.keymap_text.specs.Words.{control_names}
 abbrev pub control_name : ℕ → List ℕ
 control_name c = if c == 127 then codes "del" else slice_index_or control_names c []
 
--- a lower case hexadecimal digit
-abbrev pub hex_digit : ℕ → ℕ
-hex_digit d = if nat_lt d 10 then 48 + d else 87 + d
-
--- the digit of 16 ^ k, where p is 16 ^ k
+-- the lower case hexadecimal digit of 16 ^ k, where p is 16 ^ k
 abbrev pub hex_at : ℕ → ℕ → ℕ
-hex_at c p = hex_digit (c / p % 16)
+hex_at c p = digit_char (c / p % 16)
 
 abbrev pub hex4 : ℕ → List ℕ
 hex4 c = hex_at c 4096 ∷ hex_at c 256 ∷ hex_at c 16 ∷ hex_at c 1 ∷ []

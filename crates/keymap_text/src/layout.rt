@@ -1,5 +1,6 @@
 //! The lines of a printed map.
 ghost use Rattle.std.specs.Prelude.{◌≡◌, ◌+◌, ◌<◌, ◌≤◌, ◌++◌, length, codes};
+ghost use Rattle.std.specs.Char.{digit_char};
 ghost use Rattle.keymap_text.specs.Printed as spec;
 ghost use Rattle.keymap_core.specs.Numbers.{accent_limit};
 
@@ -26,7 +27,7 @@ fn text_of(bytes: &[u8]) -> Text
 
 fn hex_digit(d: u32) -> u8
     requires { d < 16 }
-    ensures { result ≡ spec.hex_digit d }
+    ensures { result ≡ digit_char d }
 {
     if d < 10 {
         b'0' + d as u8

@@ -1,11 +1,10 @@
 -- The number of a character as people write it.
-use Rattle.std.specs.Prelude.{ℕ, ◌+◌, ◌/◌, ◌%◌, nat_lt, List, [], ◌∷◌, ◌++◌, codes, if◌then◌else◌}
+use Rattle.std.specs.Prelude.{ℕ, ◌/◌, ◌%◌, nat_lt, List, [], ◌∷◌, ◌++◌, codes, if◌then◌else◌}
+use Rattle.std.specs.Char.{digit_char}
 
-abbrev pub hex_digit : ℕ → ℕ
-hex_digit n = if nat_lt n 10 then 48 + n else 87 + n
-
+-- the lower case hexadecimal digit of a unit, which is a power of 16
 abbrev pub digit_at : ℕ → ℕ → ℕ
-digit_at c unit = hex_digit ((c / unit) % 16)
+digit_at c unit = digit_char ((c / unit) % 16)
 
 abbrev pub upper_digits : ℕ → List ℕ
 upper_digits c =

@@ -1,5 +1,6 @@
 //! The number of a character as people write it.
 ghost use Rattle.std.specs.Prelude.{◌≡◌, ◌<◌, ◌∷◌, []};
+ghost use Rattle.std.specs.Char.{digit_char};
 ghost use Rattle.kmap_runs.specs.CodePoints as spec;
 
 use crate::text::append;
@@ -7,7 +8,7 @@ use arrayvec::ArrayVec;
 
 fn hex_digit(digit: u32) -> u8
     requires { digit < 16 }
-    ensures { result ≡ spec.hex_digit digit }
+    ensures { result ≡ digit_char digit }
 {
     if digit < 10 {
         b'0' + digit as u8

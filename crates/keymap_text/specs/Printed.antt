@@ -43,7 +43,7 @@ cell_text (cells.Act a) = name_of a
 
 -- filled on the right with blanks to six places
 abbrev pub column : List ℕ → List ℕ
-column text = 32 ∷ (text ++ replicate (6 - length text) 32)
+column text = codes " " ++ (text ++ replicate (6 - length text) 32)
 
 abbrev pub flag_letter : LockFlag → ℕ
 flag_letter flags.O = 79
@@ -56,17 +56,18 @@ abbrev pub slot_text : ℕ → List ℕ
 slot_text s = (48 + s / 100) ∷ (48 + s / 10 % 10) ∷ (48 + s % 10) ∷ []
 
 unfoldable pub key_line : ℕ → Entry → List ℕ
-key_line slot e = slot_text slot ++ (flat_map (λ c. column (cell_text c)) e.cells ++ 32 ∷ flag_letter e.flag ∷ 10 ∷ [])
+key_line slot e =
+    slot_text slot ++ (flat_map (λ c. column (cell_text c)) e.cells ++ (codes " " ++ flag_letter e.flag ∷ codes "\n"))
 
 abbrev pub accent_name : ℕ → List ℕ
 accent_name i = slice_index_or accent_names i []
 
 -- ` ( base result )`
 unfoldable pub pair_text : ℕ × ℕ → List ℕ
-pair_text p = 32 ∷ 40 ∷ 32 ∷ (character_text p.0 ++ 32 ∷ (character_text p.1 ++ 32 ∷ 41 ∷ []))
+pair_text p = codes " ( " ++ (character_text p.0 ++ (codes " " ++ (character_text p.1 ++ codes " )")))
 
 unfoldable pub accent_line : ℕ → AccentValue → List ℕ
-accent_line i a = accent_name i ++ 32 ∷ (character_text a.own ++ (flat_map pair_text a.pairs ++ 10 ∷ []))
+accent_line i a = accent_name i ++ (codes " " ++ (character_text a.own ++ (flat_map pair_text a.pairs ++ codes "\n")))
 
 -- a line for each slot
 abbrev pub key_lines : MapValue → List ℕ

@@ -1,5 +1,5 @@
 -- The line that tells why a run failed.
-use Rattle.std.specs.Prelude.{ℕ, List, [], ◌∷◌, ◌++◌, codes, decimal}
+use Rattle.std.specs.Prelude.{ℕ, List, ◌++◌, codes, decimal}
 use Rattle.keymap_core.specs.declared.transfer.ReadFault.{ReadFault}
 use Rattle.keymap_core.specs.declared.transfer.ReadFaultKind.{ReadFaultKind}
 use Rattle.keymap_core.specs.declared.transfer.ReadFaultKind.TheVariants.{Device, Endless}
@@ -88,4 +88,4 @@ message (error.Write f) = write_fault f
 
 -- the line, with its end
 abbrev pub fault_line : RunError → List ℕ
-fault_line e = codes "kmap: " ++ message e ++ 10 ∷ []
+fault_line e = codes "kmap: " ++ message e ++ codes "\n"

@@ -1,5 +1,5 @@
 -- What the search for sticking modifiers found, as a script.
-use Rattle.std.specs.Prelude.{ℕ, Bool, true, false, List, [], ◌∷◌, ◌++◌, codes, reverse, if◌then◌else◌}
+use Rattle.std.specs.Prelude.{ℕ, Bool, true, false, List, [], ◌++◌, codes, reverse, if◌then◌else◌}
 use Rattle.std.specs.List.{flat_map}
 use Rattle.keymap_core.specs.declared.action.Modifier.{Modifier}
 use Rattle.keymap_core.specs.declared.action.Holding.TheVariants as holding
@@ -13,7 +13,7 @@ use Rattle.kmap_runs.specs.Report.{holding_name, event_line}
 
 -- the name of a modifier that is on, after a blank
 abbrev pub name_if_on : (Modifier → Bool) → Modifier → List ℕ
-name_if_on is_on i = if is_on i then 32 ∷ holding_name (holding.Mod i) else []
+name_if_on is_on i = if is_on i then codes " " ++ holding_name (holding.Mod i) else []
 
 -- which modifiers are on after the events, and a line for each event
 abbrev pub script_text : MapValue → List Event → List ℕ

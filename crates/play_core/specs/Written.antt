@@ -32,7 +32,7 @@ answer_text (answer.Released a) = codes "released " ++ name_of a
 
 -- a name behind a blank, where it is on
 abbrev pub name_if : Bool → List ℕ → List ℕ
-name_if true name = 32 ∷ name
+name_if true name = codes " " ++ name
 name_if false name = []
 
 abbrev pub or_none : List ℕ → List ℕ

@@ -91,20 +91,41 @@ fn dump<'a>(alloc: Global) -> Result<Command<'a>, AllocError> {
         .arg(flag(alloc, "narrow", "Reads a narrow file"))
 }
 
-/// The subcommands of the program and their words.
-pub(crate) fn command<'a>(alloc: Global) -> Result<Command<'a>, AllocError> {
+/// The program itself, without its subcommands.
+fn without_subcommands<'a>(alloc: Global) -> Command<'a> {
     Command::new(alloc, "kmap")
         .version(VERSION)
         .about("Reads, checks, converts and plays console keymaps")
         .after_help("Example: kmap check de.kbd{n}{n}The manual pages are kmap(1) and kmap(5).")
         .subcommand_required(true)
         .arg_required_else_help(true)
+}
+
+/// Adds the subcommands that judge a keymap.
+fn with_checks<'a>(alloc: Global, program: Command<'a>) -> Result<Command<'a>, AllocError> {
+    program
         .subcommand(check(alloc)?)?
-        .subcommand(search(alloc)?)?
+        .subcommand(search(alloc)?)
+}
+
+/// Adds the subcommands on what a console answers.
+fn with_scripts<'a>(alloc: Global, program: Command<'a>) -> Result<Command<'a>, AllocError> {
+    program
         .subcommand(play(alloc)?)?
-        .subcommand(type_sentence(alloc)?)?
+        .subcommand(type_sentence(alloc)?)
+}
+
+/// Adds the subcommands for table files.
+fn with_tables<'a>(alloc: Global, program: Command<'a>) -> Result<Command<'a>, AllocError> {
+    program
         .subcommand(compile(alloc)?)?
         .subcommand(dump(alloc)?)
+}
+
+/// The subcommands of the program and their words.
+pub(crate) fn command<'a>(alloc: Global) -> Result<Command<'a>, AllocError> {
+    let judging = with_checks(alloc, without_subcommands(alloc))?;
+    with_tables(alloc, with_scripts(alloc, judging)?)
 }
 
 /// What the words ask for.
@@ -138,36 +159,60 @@ pub(crate) enum Request<'a> {
     },
 }
 
+fn dump_request<'a>(words: &ArgMatches<'a>) -> Option<Request<'a>> {
+    Some(Request::Dump {
+        tables: words.get_str("TABLES")?,
+        narrow: words.get_flag("narrow"),
+    })
+}
+
+fn compile_request<'a>(words: &ArgMatches<'a>) -> Option<Request<'a>> {
+    Some(Request::Compile {
+        text: words.get_str("TEXT")?,
+        out: words.get_str("OUT")?,
+        narrow: words.get_flag("narrow"),
+    })
+}
+
+fn check_request<'a>(words: &ArgMatches<'a>) -> Option<Request<'a>> {
+    Some(Request::Check {
+        text: words.get_str("TEXT")?,
+        show: words.get_flag("show"),
+    })
+}
+
+fn search_request<'a>(words: &ArgMatches<'a>) -> Option<Request<'a>> {
+    Some(Request::Search {
+        text: words.get_str("TEXT")?,
+    })
+}
+
+fn play_request<'a>(words: &ArgMatches<'a>) -> Option<Request<'a>> {
+    Some(Request::Play {
+        text: words.get_str("TEXT")?,
+        next: words.get_str("next"),
+        script: words.get_str("SCRIPT")?,
+        typed: words.get_flag("typed"),
+    })
+}
+
+fn type_request<'a>(words: &ArgMatches<'a>) -> Option<Request<'a>> {
+    Some(Request::Type {
+        text: words.get_str("TEXT")?,
+        sentence: words.get_str("SENTENCE")?,
+    })
+}
+
 /// The request of words that `clap` took.
 pub(crate) fn request_of<'a>(matches: &ArgMatches<'a>) -> Option<Request<'a>> {
     let (name, words) = matches.subcommand()?;
     match name {
-        "dump" => Some(Request::Dump {
-            tables: words.get_str("TABLES")?,
-            narrow: words.get_flag("narrow"),
-        }),
-        "compile" => Some(Request::Compile {
-            text: words.get_str("TEXT")?,
-            out: words.get_str("OUT")?,
-            narrow: words.get_flag("narrow"),
-        }),
-        "check" => Some(Request::Check {
-            text: words.get_str("TEXT")?,
-            show: words.get_flag("show"),
-        }),
-        "search" => Some(Request::Search {
-            text: words.get_str("TEXT")?,
-        }),
-        "play" => Some(Request::Play {
-            text: words.get_str("TEXT")?,
-            next: words.get_str("next"),
-            script: words.get_str("SCRIPT")?,
-            typed: words.get_flag("typed"),
-        }),
-        "type" => Some(Request::Type {
-            text: words.get_str("TEXT")?,
-            sentence: words.get_str("SENTENCE")?,
-        }),
+        "dump" => dump_request(words),
+        "compile" => compile_request(words),
+        "check" => check_request(words),
+        "search" => search_request(words),
+        "play" => play_request(words),
+        "type" => type_request(words),
         _ => None,
     }
 }

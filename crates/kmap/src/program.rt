@@ -1,6 +1,6 @@
 //! One run of the program: the words, the files that they name, and the exit status.
 use crate::command_line::{Request, command, request_of};
-use clap::error::ErrorKind;
+use clap::error::{Error, ErrorKind};
 use keymap_core::{FromStd, KeyMap, ToStd, Write, write_text};
 use keymap_tables::{write_narrow, write_tables};
 use keymap_text::read_from;
@@ -40,34 +40,52 @@ where
     }
 }
 
+/// The words of the command line, or none where one of them is no text.
+fn words_of<R: Env + AllocGlobal>(rt: &R) -> Result<Option<Vec<String>>, AllocError> {
+    match env::args(rt) {
+        Ok(words) => Ok(Some(words.collect(rt.alloc())?)),
+        Err(error) => {
+            if error.kind() == io::ErrorKind::OutOfMemory {
+                return Err(AllocError);
+            }
+            Ok(None)
+        }
+    }
+}
+
 fn words_run<R, W>(rt: &R, faults: &mut W) -> Result<ExitCode, AllocError>
 where
     R: Env + AllocGlobal + Files + Print + Eprint,
     W: Write,
 {
-    let alloc = rt.alloc();
-    let words: Vec<String> = match env::args(rt) {
-        Ok(words) => words.collect(alloc)?,
-        Err(error) => {
-            if error.kind() == io::ErrorKind::OutOfMemory {
-                return Err(AllocError);
-            }
-            return no_text(rt);
-        }
-    };
-    match command(alloc)?.try_get_matches_from(words.as_slice()) {
+    match words_of(rt)? {
+        Some(words) => text_run(rt, words.as_slice(), faults),
+        None => no_text(rt),
+    }
+}
+
+/// Does what words that are text ask for.
+fn text_run<R, W>(rt: &R, words: &[String], faults: &mut W) -> Result<ExitCode, AllocError>
+where
+    R: AllocGlobal + Files + Print + Eprint,
+    W: Write,
+{
+    match command(rt.alloc())?.try_get_matches_from(words) {
         Ok(matches) => match request_of(&matches) {
             Some(request) => Ok(status_of(answer(rt, request), faults)),
             None => no_text(rt),
         },
-        Err(error) => {
-            if error.kind() == ErrorKind::OutOfMemory {
-                return Err(AllocError);
-            }
-            let _ = error.print(rt);
-            Ok(ExitCode::from(if error.use_stderr() { WRONG_WORDS } else { 0 }))
-        }
+        Err(error) => refused(rt, error),
     }
+}
+
+/// Tells what `clap` says of the words: that they are wrong, or the help or version that they ask for.
+fn refused<R: Print + Eprint>(rt: &R, error: Error) -> Result<ExitCode, AllocError> {
+    if error.kind() == ErrorKind::OutOfMemory {
+        return Err(AllocError);
+    }
+    let _ = error.print(rt);
+    Ok(ExitCode::from(if error.use_stderr() { WRONG_WORDS } else { 0 }))
 }
 
 /// Tells that the words are no text.
@@ -112,24 +130,10 @@ where
     R: AllocGlobal + Files + Print,
 {
     match request {
-        Request::Dump { tables, narrow } => {
-            dump(rt, tables, narrow)?;
-            Ok(true)
-        }
-        Request::Compile { text, out, narrow } => {
-            compile(rt, text, out, narrow)?;
-            Ok(true)
-        }
-        Request::Check { text, show } => {
-            let mut source = opened(rt, text)?;
-            let mut out = ToStd::new(io::writer(rt));
-            run_outcome(check_run(rt.alloc(), &mut source, show, &mut out))
-        }
-        Request::Search { text } => {
-            let mut source = opened(rt, text)?;
-            let mut out = ToStd::new(io::writer(rt));
-            run_outcome(search_run(rt.alloc(), &mut source, &mut out))
-        }
+        Request::Check { text, show } => check(rt, text, show),
+        Request::Search { text } => search(rt, text),
+        Request::Dump { tables, narrow } => well(dump(rt, tables, narrow)),
+        Request::Compile { text, out, narrow } => well(compile(rt, text, out, narrow)),
         Request::Play {
             text,
             next,
@@ -137,17 +141,39 @@ where
             typed,
         } => {
             let show = if typed { Show::Typed } else { Show::Lines };
-            match next {
-                Some(next) => play_two(rt, show, text, next, script)?,
-                None => play_one(rt, show, text, script)?,
-            }
-            Ok(true)
+            well(match next {
+                Some(next) => play_two(rt, show, text, next, script),
+                None => play_one(rt, show, text, script),
+            })
         }
-        Request::Type { text, sentence } => {
-            type_sentence(rt, text, sentence)?;
-            Ok(true)
-        }
+        Request::Type { text, sentence } => well(type_sentence(rt, text, sentence)),
     }
+}
+
+/// All is well where nothing failed.
+fn well<'a>(outcome: Result<(), Failure<'a>>) -> Result<bool, Failure<'a>> {
+    match outcome {
+        Ok(()) => Ok(true),
+        Err(failure) => Err(failure),
+    }
+}
+
+fn check<'a, R>(rt: &R, text: &'a str, show: bool) -> Result<bool, Failure<'a>>
+where
+    R: AllocGlobal + Files + Print,
+{
+    let mut source = opened(rt, text)?;
+    let mut out = ToStd::new(io::writer(rt));
+    run_outcome(check_run(rt.alloc(), &mut source, show, &mut out))
+}
+
+fn search<'a, R>(rt: &R, text: &'a str) -> Result<bool, Failure<'a>>
+where
+    R: AllocGlobal + Files + Print,
+{
+    let mut source = opened(rt, text)?;
+    let mut out = ToStd::new(io::writer(rt));
+    run_outcome(search_run(rt.alloc(), &mut source, &mut out))
 }
 
 fn run_outcome<'a, T>(outcome: Result<T, RunError>) -> Result<T, Failure<'a>> {

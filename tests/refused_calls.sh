@@ -74,5 +74,9 @@ refuses play-lines
 refuses play-typed
 refuses play_next-lines
 refuses play_next-typed
+refuses Ways::of
+refuses characters
+refuses characters-untyped fault
+takes_none characters-not-text fault
 
 counted

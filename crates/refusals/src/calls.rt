@@ -10,7 +10,7 @@ use keymap_tables::{
     read_tables_from, write_narrow, write_tables,
 };
 use keymap_text::{MapReader, TextError, read_from, read_map};
-use play_core::{PlayError, ScriptError, Show, play, play_next, read_script};
+use play_core::{PlayError, ScriptError, Show, TypeError, Ways, play, play_next, read_script};
 use std::alloc::{AllocError, Global};
 
 /// A letter, a shift, a lock and a dead key with its accent.
@@ -25,6 +25,15 @@ dacu 180 ( 'e' 0xe9 )
 const TRAP: &[u8] = b"029 lctrl lctrl lctrl lctrl lctrl lctrl lctrl lctrl O
 042 lshift lshift 'x' 'x' lshift lshift lshift lshift O
 ";
+
+/// Letters, one of which takes the dead key before its base, often enough that their list outgrows its memory.
+const SENTENCE: &[u8] = "aAéAaAéAaAéAaAéA".as_bytes();
+
+/// A sentence that no keys of the map type.
+const UNTYPED: &[u8] = b"ab";
+
+/// A sentence that isn't text.
+const NOT_TEXT: &[u8] = b"a\xff";
 
 /// A text with a fault in its first byte.
 const FAULTY: &[u8] = b")";
@@ -62,6 +71,10 @@ pub(crate) fn outcome_of<W: Write>(
         "play-typed" => plays(alloc, Show::Typed, marks),
         "play_next-lines" => plays_next(alloc, Show::Lines, marks),
         "play_next-typed" => plays_next(alloc, Show::Typed, marks),
+        "Ways::of" => finds_ways(alloc, marks)?,
+        "characters" => types(alloc, SENTENCE, marks)?,
+        "characters-untyped" => types(alloc, UNTYPED, marks)?,
+        "characters-not-text" => types(alloc, NOT_TEXT, marks)?,
         _ => return Ok(None),
     };
     Ok(Some(outcome))
@@ -346,4 +359,36 @@ fn plays_next<W: Write>(alloc: Global, show: Show, marks: &mut W) -> Outcome {
     let answer = play_next(alloc, show, &mut text, &mut next, &mut events, &mut out);
     mark(marks);
     played(answer, &out)
+}
+
+fn finds_ways<W: Write>(alloc: Global, marks: &mut W) -> Result<Outcome, AllocError> {
+    let map = sample(alloc)?;
+    let twin = sample(alloc)?;
+    mark(marks);
+    let answer = Ways::of(alloc, &map);
+    mark(marks);
+    Ok(Outcome {
+        answer: match answer {
+            Ok(ways) => done(ways.way('é').is_some() && ways.way('b').is_none()),
+            Err(AllocError) => Answer::Memory,
+        },
+        kept: map == twin,
+    })
+}
+
+/// Types a sentence. Where memory is refused, the ways are what they were.
+fn types<W: Write>(alloc: Global, sentence: &[u8], marks: &mut W) -> Result<Outcome, AllocError> {
+    let map = sample(alloc)?;
+    let ways = Ways::of(alloc, &map)?;
+    mark(marks);
+    let answer = ways.characters(alloc, sentence);
+    mark(marks);
+    Ok(Outcome {
+        answer: match answer {
+            Ok(characters) => done(characters.len() == 16),
+            Err(TypeError::NotText { .. } | TypeError::NoWay { .. }) => Answer::Fault,
+            Err(TypeError::Memory) => Answer::Memory,
+        },
+        kept: ways.way('é').is_some() && ways.way('b').is_none(),
+    })
 }

@@ -28,8 +28,6 @@ mod replays;
 mod rules;
 mod search;
 mod store;
-#[cfg(test)]
-mod tests;
 mod translator;
 mod word_console;
 mod word_store;

@@ -36,6 +36,3 @@ pub use demonstration::demonstrate;
 pub use finding::{Finding, Place};
 pub use report::{Report, check};
 pub use script::Script;
-
-#[cfg(test)]
-mod tests;

@@ -27,8 +27,6 @@ mod map;
 mod named;
 mod names;
 mod stream;
-#[cfg(test)]
-mod tests;
 mod to_std;
 mod transfer;
 

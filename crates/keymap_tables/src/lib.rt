@@ -30,8 +30,6 @@ mod read_slot;
 mod slot;
 mod source;
 mod tables;
-#[cfg(test)]
-mod tests;
 mod write;
 
 pub use check::check_tables;

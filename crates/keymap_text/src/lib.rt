@@ -14,8 +14,6 @@ mod printer;
 mod reader;
 mod scanner;
 mod source;
-#[cfg(test)]
-mod tests;
 mod token;
 mod words;
 

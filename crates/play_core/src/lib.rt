@@ -39,6 +39,3 @@ pub use show::Show;
 pub use type_error::TypeError;
 pub use typed_bytes::typed;
 pub use ways::Ways;
-
-#[cfg(test)]
-mod tests;

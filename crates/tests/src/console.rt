@@ -1,0 +1,33 @@
+//! Consoles: what they answer and show after lists of events, and the search for sticking modifiers.
+
+mod histories;
+mod searches;
+
+use console_core::Translator;
+use keymap_core::{LOCKS, Lock, MODIFIERS, Modifier};
+use std::process::Abort;
+
+fn expect_on<T: Translator>(rt: &impl Abort, console: &T, on: &[Modifier]) {
+    for modifier in MODIFIERS {
+        assert_eq!(rt;
+            console.on(modifier),
+            on.contains(&modifier),
+            "{modifier:?}"
+        );
+    }
+}
+
+/// Asserts that just these modifiers and locks are on, and which accent is pending.
+pub fn expect_shown<T: Translator>(
+    rt: &impl Abort,
+    console: &T,
+    on: &[Modifier],
+    locked: &[Lock],
+    pending: Option<u8>,
+) {
+    expect_on(rt, console, on);
+    for lock in LOCKS {
+        assert_eq!(rt; console.locked(lock), locked.contains(&lock), "{lock:?}");
+    }
+    assert_eq!(rt; console.pending(), pending);
+}

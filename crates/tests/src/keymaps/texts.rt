@@ -1,0 +1,67 @@
+//! The keymaps as texts.
+
+pub const LETTER_AND_SHIFT: &[u8] = b"030 'a' 'A' soh soh 'a' 'A' soh soh C
+042 lshift lshift lshift lshift lshift lshift lshift lshift O
+";
+
+pub const TWO_SCROLL_LOCKS: &[u8] = b"070 slock slock slock slock slock slock slock slock O
+104 slock slock slock slock slock slock slock slock O
+";
+
+pub const SHIFT_WITH_TRAP: &[u8] = b"029 lctrl lctrl lctrl lctrl lctrl lctrl lctrl lctrl O
+042 lshift lshift 'x' 'x' lshift lshift lshift lshift O
+";
+
+pub const ALT_SHIFT_WITH_TRAP: &[u8] =
+    b"042 lshift lshift lshift lshift lshift lshift lshift lshift O
+093 ashift ashift ashift ashift ashift ashift ashift ashift O
+";
+
+pub const CAPS_AND_NUM: &[u8] = b"030 'a' 'A' soh soh 'a' 'A' soh soh B
+058 clock clock clock clock clock clock clock clock O
+069 nlock nlock nlock nlock nlock nlock nlock nlock O
+";
+
+pub const ACCENTS: &[u8] = b"015 ht btab ht ht ht btab ht ht O
+018 'e' 'E' enq enq 'e' 'E' enq enq C
+030 'a' 'A' soh soh 'a' 'A' soh soh C
+026 dacu dacu dacu dacu dacu dacu dacu dacu O
+041 dgra dgra dgra dgra dgra dgra dgra dgra O
+042 lshift lshift lshift lshift lshift lshift lshift lshift O
+056 meta meta meta meta meta meta meta meta O
+057 ' ' ' ' ' ' ' ' ' ' ' ' ' ' ' ' O
+059 fkey01 fkey01 fkey01 fkey01 fkey01 fkey01 fkey01 fkey01 O
+092 nscr nscr nscr nscr nscr nscr nscr nscr O
+dacu 180 ( 'e' 0xe9 ) ( 'E' 0xc9 ) ( 'e' 0xea )
+";
+
+pub const TWO_CONTROLS: &[u8] = b"029 lctrl rctrl lctrl rctrl lctrl rctrl lctrl rctrl O
+042 lshift lshift lshift lshift lshift lshift lshift lshift O
+";
+
+pub const UPPER_HALF: &[u8] = b"030 'a' 'A' soh soh 'a' 'A' soh soh C
+058 alock alock alock alock alock alock alock alock O
+093 ashift ashift ashift ashift ashift ashift ashift ashift O
+158 'b' 'B' stx stx 'b' 'B' stx stx C
+186 alock alock alock alock alock alock alock alock O
+221 ashift ashift ashift ashift ashift ashift ashift ashift O
+";
+
+pub const SHIFT_AND_CAPS: &[u8] = b"042 lshift lshift lshift lshift lshift lshift lshift lshift O
+058 clock clock clock clock clock clock clock clock O
+";
+
+pub const NOP_UNDER_CONTROL: &[u8] = b"030 'a' 'A' nop nop 'a' 'A' nop nop C";
+
+/// An acute accent, and a grave one under shift, on one key, and a third level under ashift.
+pub const TWO_DEAD_KEYS: &[u8] = b"016 'q' 'Q' dc1 dc1 'q' 'Q' dc1 dc1 C
+029 lctrl lctrl lctrl lctrl lctrl lctrl lctrl lctrl O
+030 'a' 'A' soh soh 'a' 'A' soh soh C
+040 dacu dgra nop nop nop nop nop nop O
+042 lshift lshift lshift lshift lshift lshift lshift lshift O
+057 ' ' ' ' nul ' ' ' ' ' ' ' ' ' ' O
+100 ashift ashift ashift ashift ashift ashift ashift ashift O
+144 '@' '@' 0x3a9 0x3a9 '@' '@' 0x3a9 0x3a9 O
+dacu 180 ( 'a' 0xe1 )
+dgra '`' ( 'a' 0xe0 )
+";

@@ -1,0 +1,55 @@
+//! Table files: wide, narrow and read in place.
+
+mod in_place;
+mod narrow;
+mod wide;
+
+use keymap_core::{KeyMap, ReadFault, ReadFaultKind};
+use keymap_tables::{TableError, TableFault, TableFaultKind};
+use std::alloc::{AllocError, Global};
+
+/// How long a table file and a narrow file are.
+pub const LENGTH: usize = 15_524;
+
+pub const NARROW_LENGTH: usize = 4_139;
+
+/// So many bytes 0. A growth that is refused is tried again.
+pub fn zero_bytes(alloc: Global, count: usize) -> Result<Vec<u8>, AllocError> {
+    let mut bytes = Vec::new(alloc);
+    for _ in 0..count {
+        if bytes.push(0u8).is_err() {
+            bytes.push(0u8)?;
+        }
+    }
+    Ok(bytes)
+}
+
+/// The fault of a reader that failed after so many bytes.
+pub fn stopped(most: usize) -> TableError {
+    TableError::Read(ReadFault {
+        offset: most as u64,
+        kind: ReadFaultKind::Device,
+    })
+}
+
+/// An answer for which memory sufficed; memory that was refused is an error of its own.
+pub fn settled(
+    answer: Result<KeyMap, TableError>,
+) -> Result<Result<KeyMap, TableError>, TableError> {
+    match answer {
+        Err(TableError::Memory) => Err(TableError::Memory),
+        answer => Ok(answer),
+    }
+}
+
+/// The fault of the bytes, where that is the answer.
+pub fn fault_of(answer: Result<KeyMap, TableError>) -> Option<TableFault> {
+    match answer {
+        Err(TableError::Fault(fault)) => Some(fault),
+        _ => None,
+    }
+}
+
+pub fn fault(offset: u64, kind: TableFaultKind) -> Option<TableFault> {
+    Some(TableFault { offset, kind })
+}

@@ -1,0 +1,126 @@
+//! Readers and writers of std that fail once, and would do their work if they were called again.
+
+ghost use Rattle.std.specs.Prelude.{◌≤◌, IfOk};
+
+use keymap_core::{
+    Failed, FromStd, Read, ReadError, ReadFault, ReadFaultKind, ToStd, Write, WriteFault,
+    read_up_to, write_text,
+};
+use std::io;
+use std::test::Fail;
+
+/// Fails at its first call, by an error or, with none, by doing nothing. Each later call gives or takes one byte.
+#[derive(Drop)]
+struct FailsOnce {
+    error: Option<io::ErrorKind>,
+    calls: u32,
+}
+
+fn failing_once(error: Option<io::ErrorKind>) -> FailsOnce {
+    FailsOnce { error, calls: 0 }
+}
+
+impl FailsOnce {
+    fn call(&mut self, room: usize) -> io::Result<usize>
+        ensures { IfOk result (λ n. n ≤ room) }
+    {
+        self.calls = self.calls.saturating_add(1);
+        if self.calls > 1 {
+            return Ok(room.min(1));
+        }
+        match self.error {
+            Some(kind) => Err(io::Error::from(kind)),
+            None => Ok(0),
+        }
+    }
+}
+
+impl io::Read for FailsOnce {
+    fn read(&mut self, buffer: &mut [u8]) -> io::Result<usize> {
+        self.call(buffer.len())
+    }
+}
+
+impl io::Write for FailsOnce {
+    fn write(&mut self, bytes: &[u8]) -> io::Result<usize> {
+        self.call(bytes.len())
+    }
+
+    fn flush(&mut self) -> io::Result<()> {
+        Ok(())
+    }
+}
+
+/// Kinds of errors. Those of an interruption are the ones that std's own loops try again.
+const KINDS: [io::ErrorKind; 4] = [
+    io::ErrorKind::Interrupted,
+    io::ErrorKind::WouldBlock,
+    io::ErrorKind::OutOfMemory,
+    io::ErrorKind::Other,
+];
+
+#[test]
+fn a_read_of_std_is_passed_on_once_and_the_flag_stays(rt: HostRuntime) {
+    for kind in KINDS {
+        let mut reader = failing_once(Some(kind));
+        let mut device = FromStd::new(&mut reader);
+        let mut buffer = [0; 4];
+        let first = device.read(&mut buffer);
+        let failed_first = device.failed();
+        let second = device.read(&mut buffer);
+        let failed_second = device.failed();
+        assert_eq!(rt; first, Err(Failed));
+        assert_eq!(rt; second, Ok(1));
+        assert!(rt; failed_first && failed_second);
+        assert_eq!(rt; reader.calls, 2);
+    }
+}
+
+#[test]
+fn a_write_of_std_is_passed_on_once_and_the_flag_stays(rt: HostRuntime) {
+    for kind in KINDS {
+        let mut writer = failing_once(Some(kind));
+        let mut device = ToStd::new(&mut writer);
+        let first = device.write(b"1234");
+        let failed_first = device.failed();
+        let second = device.write(b"1234");
+        let failed_second = device.failed();
+        assert_eq!(rt; first, Err(Failed));
+        assert_eq!(rt; second, Ok(1));
+        assert!(rt; failed_first && failed_second);
+        assert_eq!(rt; writer.calls, 2);
+    }
+}
+
+#[test]
+fn a_failed_read_of_std_is_not_tried_again(rt: HostRuntime) -> Result<(), Fail> {
+    for kind in KINDS {
+        let mut reader = failing_once(Some(kind));
+        let answer = read_up_to(rt.alloc(), &mut FromStd::new(&mut reader), 4).err();
+        let wanted = ReadFault {
+            offset: 0,
+            kind: ReadFaultKind::Device,
+        };
+        assert_eq!(rt; answer, Some(ReadError::Read(wanted)));
+        assert_eq!(rt; reader.calls, 1);
+    }
+    Ok(())
+}
+
+#[test]
+fn a_failed_write_of_std_is_not_tried_again(rt: HostRuntime) {
+    for kind in KINDS {
+        let mut writer = failing_once(Some(kind));
+        let answer = write_text(&mut ToStd::new(&mut writer), b"1234");
+        assert_eq!(rt; answer, Err(WriteFault { written: 0 }));
+        assert_eq!(rt; writer.calls, 1);
+    }
+}
+
+#[test]
+fn a_write_of_std_that_takes_nothing_is_not_tried_again(rt: HostRuntime) {
+    let mut writer = failing_once(None);
+    let answer = write_text(&mut ToStd::new(&mut writer), b"1234");
+    assert_eq!(rt; answer, Err(WriteFault { written: 0 }));
+    assert_eq!(rt; writer.calls, 1);
+}

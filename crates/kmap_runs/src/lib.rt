@@ -25,6 +25,3 @@ pub use runs::{
     check_run, dump_narrow_run, dump_run, narrow_failure, play_failure, search_run, text_failure,
 };
 pub use type_runs::type_run;
-
-#[cfg(test)]
-mod tests;

@@ -32,6 +32,11 @@ pub fn blanks_of(size: usize, pace: usize) -> Tape<'static> {
     tape_of(b"", b' ', size, pace, usize::MAX)
 }
 
+/// A reader of blanks without an end, as many as there is room for.
+pub fn endless_blanks() -> Tape<'static> {
+    blanks_of(usize::MAX, usize::MAX)
+}
+
 /// A reader of bytes 0 without an end, one at a time.
 pub fn endless_zeros() -> Tape<'static> {
     tape_of(b"", 0, usize::MAX, 1, usize::MAX)

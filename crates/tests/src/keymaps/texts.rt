@@ -65,3 +65,24 @@ pub const TWO_DEAD_KEYS: &[u8] = b"016 'q' 'Q' dc1 dc1 'q' 'Q' dc1 dc1 C
 dacu 180 ( 'a' 0xe1 )
 dgra '`' ( 'a' 0xe0 )
 ";
+
+pub const SHIFT_ALONE: &[u8] = b"042 lshift lshift lshift lshift lshift lshift lshift lshift O
+";
+
+/// A scroll lock key of the layout that kbdcontrol(1) dumps.
+pub const DUMPED_LINE: &[u8] = b"#                                                         alt
+  104   slock  saver  slock  saver  susp   nop    susp   nop     O
+";
+
+pub const CAPS_WITH_NOPS: &[u8] = b"042 lshift lshift lshift lshift lshift lshift lshift lshift O
+058 nop clock nop clock nop clock nop clock O
+";
+
+pub const SHIFT_AND_LINE_FEED: &[u8] = b"001 esc esc esc esc esc esc esc esc O
+002 0x202e 0x202e 0x202e 0x202e 0x202e 0x202e 0x202e 0x202e O
+003 '#' '#' '#' '#' '#' '#' '#' '#' O
+004 0xe9 0xe9 0xe9 0xe9 0xe9 0xe9 0xe9 0xe9 O
+028 nl nl nl nl nl nl nl nl O
+030 'a' 'A' soh soh 'a' 'A' soh soh C
+042 lshift lshift lshift lshift lshift lshift lshift lshift O
+";

@@ -1,14 +1,14 @@
 //! The reports of the check.
 
-use crate::fault_line::RunError;
-use crate::runs::check_run;
-use crate::tests::devices::{Blanks, reader_of, settled, stopped, writer_of, written};
-use crate::tests::maps::{
+use crate::devices::{endless_blanks, reader_of, slow_sheet_of};
+use crate::keymaps::texts::{
     ALT_SHIFT_WITH_TRAP, CAPS_WITH_NOPS, DUMPED_LINE, LETTER_AND_SHIFT, SHIFT_ALONE,
     SHIFT_WITH_TRAP, TWO_SCROLL_LOCKS, UPPER_HALF,
 };
+use crate::runs::{settled, stopped, written};
 use keymap_core::{Read, ReadFault, ReadFaultKind, Write};
 use keymap_text::{TextFault, TextFaultKind};
+use kmap_runs::{RunError, check_run};
 use std::test::Fail;
 
 const ACCEPTED: &[u8] = b"accepted
@@ -98,10 +98,10 @@ fn reports_are_as_published(rt: HostRuntime) -> Result<(), Fail> {
     ];
     for (text, show, accepted, report) in rows {
         let mut reader = reader_of(text, 1, usize::MAX);
-        let mut writer = writer_of(usize::MAX);
+        let mut writer = slow_sheet_of(1, usize::MAX);
         let answer = check_run(rt.alloc(), &mut reader, show, &mut writer);
         assert_eq!(rt; settled(answer, &writer)?, Ok(accepted));
-        assert_eq!(rt; writer.taken.as_slice(), report);
+        assert_eq!(rt; writer.bytes.as_slice(), report);
         assert!(rt; !reader.failed() && !writer.failed());
     }
     Ok(())
@@ -123,10 +123,10 @@ fn locks_are_steady_where_one_key_acts(rt: HostRuntime) -> Result<(), Fail> {
     ];
     for (text, line) in rows {
         let mut reader = reader_of(text, 1, usize::MAX);
-        let mut writer = writer_of(usize::MAX);
+        let mut writer = slow_sheet_of(1, usize::MAX);
         let answer = check_run(rt.alloc(), &mut reader, false, &mut writer);
         assert_eq!(rt; settled(answer, &writer)?, Ok(true));
-        assert!(rt; has_line(writer.taken.as_slice(), line), "{line:?}");
+        assert!(rt; has_line(writer.bytes.as_slice(), line), "{line:?}");
     }
     Ok(())
 }
@@ -139,10 +139,10 @@ fn faults_of_a_text_are_answered(rt: HostRuntime) -> Result<(), Fail> {
         kind: TextFaultKind::BadLiteral,
     };
     let mut reader = reader_of(b"1 'ab'", 1, usize::MAX);
-    let mut writer = writer_of(usize::MAX);
+    let mut writer = slow_sheet_of(1, usize::MAX);
     let answer = check_run(rt.alloc(), &mut reader, false, &mut writer);
     assert_eq!(rt; settled(answer, &writer)?, Err(RunError::Text(fault)));
-    assert!(rt; writer.taken.is_empty() && !writer.failed());
+    assert!(rt; writer.bytes.is_empty() && !writer.failed());
     Ok(())
 }
 
@@ -152,10 +152,10 @@ fn a_text_without_end_is_a_fault(rt: HostRuntime) -> Result<(), Fail> {
         offset: 1_048_576,
         kind: ReadFaultKind::Endless,
     };
-    let mut writer = writer_of(usize::MAX);
-    let answer = check_run(rt.alloc(), &mut Blanks, true, &mut writer);
+    let mut writer = slow_sheet_of(1, usize::MAX);
+    let answer = check_run(rt.alloc(), &mut endless_blanks(), true, &mut writer);
     assert_eq!(rt; settled(answer, &writer)?, Err(RunError::ReadText(fault)));
-    assert!(rt; writer.taken.is_empty() && !writer.failed());
+    assert!(rt; writer.bytes.is_empty() && !writer.failed());
     Ok(())
 }
 
@@ -163,11 +163,11 @@ fn a_text_without_end_is_a_fault(rt: HostRuntime) -> Result<(), Fail> {
 fn a_text_that_stops_is_a_fault(rt: HostRuntime) -> Result<(), Fail> {
     for most in 0..=LETTER_AND_SHIFT.len() {
         let mut reader = reader_of(LETTER_AND_SHIFT, 1, most);
-        let mut writer = writer_of(usize::MAX);
+        let mut writer = slow_sheet_of(1, usize::MAX);
         let answer = check_run(rt.alloc(), &mut reader, false, &mut writer);
         let wanted = Err(RunError::ReadText(stopped(most)));
         assert_eq!(rt; settled(answer, &writer)?, wanted);
-        assert!(rt; reader.failed() && writer.taken.is_empty() && !writer.failed());
+        assert!(rt; reader.failed() && writer.bytes.is_empty() && !writer.failed());
     }
     Ok(())
 }
@@ -177,10 +177,10 @@ fn a_report_that_stops_is_a_fault(rt: HostRuntime) -> Result<(), Fail> {
     let size = SHOWN_SHIFT_WITH_TRAP.len();
     for most in 0..=size {
         let mut reader = reader_of(SHIFT_WITH_TRAP, 1, usize::MAX);
-        let mut writer = writer_of(most);
+        let mut writer = slow_sheet_of(1, most);
         let answer = check_run(rt.alloc(), &mut reader, true, &mut writer);
         assert_eq!(rt; settled(answer, &writer)?, written(false, most, size));
-        assert_eq!(rt; writer.taken.as_slice(), &SHOWN_SHIFT_WITH_TRAP[..most]);
+        assert_eq!(rt; writer.bytes.as_slice(), &SHOWN_SHIFT_WITH_TRAP[..most]);
         assert_eq!(rt; writer.failed(), most < size);
     }
     Ok(())

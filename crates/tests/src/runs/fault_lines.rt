@@ -1,10 +1,11 @@
 //! The lines that tell why a run failed.
 
-use crate::fault_line::{RunError, write_run_error};
-use crate::tests::devices::{writer_of, written};
+use crate::devices::slow_sheet_of;
+use crate::runs::written;
 use keymap_core::{ReadFault, ReadFaultKind, Write, WriteFault};
 use keymap_tables::{TableFault, TableFaultKind, Wide};
 use keymap_text::{TextFault, TextFaultKind};
+use kmap_runs::{RunError, write_run_error};
 use play_core::ScriptFault;
 
 const TEXT_LINES: [(TextFaultKind, &[u8]); 11] = [
@@ -97,10 +98,10 @@ const ENDLESS: ReadFault = ReadFault {
 /// Whether the line is written, and its front where the writer takes no more.
 fn writes_line(error: &RunError, line: &[u8]) -> bool {
     for most in 0..=line.len() {
-        let mut writer = writer_of(most);
+        let mut writer = slow_sheet_of(1, most);
         let answer = write_run_error(error, &mut writer).map_err(RunError::Write);
         let is_right = answer == written((), most, line.len());
-        if !is_right || writer.taken.as_slice() != &line[..most] {
+        if !is_right || writer.bytes.as_slice() != &line[..most] {
             return false;
         }
         if writer.failed() != (most < line.len()) {

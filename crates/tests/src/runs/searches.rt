@@ -1,11 +1,11 @@
 //! What the search for sticking modifiers writes.
 
-use crate::fault_line::RunError;
-use crate::runs::search_run;
-use crate::tests::devices::{reader_of, settled, stopped, writer_of, written};
-use crate::tests::maps::{LETTER_AND_SHIFT, SHIFT_WITH_TRAP};
+use crate::devices::{reader_of, slow_sheet_of};
+use crate::keymaps::texts::{LETTER_AND_SHIFT, SHIFT_WITH_TRAP};
+use crate::runs::{settled, stopped, written};
 use keymap_core::{Read, Write};
 use keymap_text::{TextFault, TextFaultKind};
+use kmap_runs::{RunError, search_run};
 use std::test::Fail;
 
 /// Shift and the alt lock: what the text doesn't define in the upper half counts as characters.
@@ -33,13 +33,13 @@ fn what_is_found_is_written_as_a_script(rt: HostRuntime) -> Result<(), Fail> {
     for (text, never, script) in FOUND {
         for most in 0..=script.len() {
             let mut reader = reader_of(text, 7, usize::MAX);
-            let mut writer = writer_of(most);
+            let mut writer = slow_sheet_of(1, most);
             let answer = search_run(rt.alloc(), &mut reader, &mut writer);
             assert_eq!(rt;
                 settled(answer, &writer)?,
                 written(never, most, script.len())
             );
-            assert_eq!(rt; writer.taken.as_slice(), &script[..most]);
+            assert_eq!(rt; writer.bytes.as_slice(), &script[..most]);
             assert_eq!(rt; writer.failed(), most < script.len());
         }
     }
@@ -54,10 +54,10 @@ fn a_faulty_text_is_not_searched(rt: HostRuntime) -> Result<(), Fail> {
         kind: TextFaultKind::EndInside,
     };
     let mut reader = reader_of(b"1 '", 1, usize::MAX);
-    let mut writer = writer_of(usize::MAX);
+    let mut writer = slow_sheet_of(1, usize::MAX);
     let answer = search_run(rt.alloc(), &mut reader, &mut writer);
     assert_eq!(rt; settled(answer, &writer)?, Err(RunError::Text(fault)));
-    assert!(rt; writer.taken.is_empty() && !writer.failed());
+    assert!(rt; writer.bytes.is_empty() && !writer.failed());
     Ok(())
 }
 
@@ -65,11 +65,11 @@ fn a_faulty_text_is_not_searched(rt: HostRuntime) -> Result<(), Fail> {
 fn a_text_that_stops_is_not_searched(rt: HostRuntime) -> Result<(), Fail> {
     for most in 0..=LETTER_AND_SHIFT.len() {
         let mut reader = reader_of(LETTER_AND_SHIFT, usize::MAX, most);
-        let mut writer = writer_of(usize::MAX);
+        let mut writer = slow_sheet_of(1, usize::MAX);
         let answer = search_run(rt.alloc(), &mut reader, &mut writer);
         let wanted = Err(RunError::ReadText(stopped(most)));
         assert_eq!(rt; settled(answer, &writer)?, wanted);
-        assert!(rt; reader.failed() && writer.taken.is_empty() && !writer.failed());
+        assert!(rt; reader.failed() && writer.bytes.is_empty() && !writer.failed());
     }
     Ok(())
 }

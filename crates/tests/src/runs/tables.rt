@@ -1,12 +1,12 @@
 //! Tables that are printed.
 
-use crate::fault_line::RunError;
-use crate::runs::{dump_narrow_run, dump_run};
-use crate::tests::devices::{reader_of, settled, stopped, writer_of, written};
-use crate::tests::maps::LETTER_AND_SHIFT;
+use crate::devices::{reader_of, slow_sheet_of};
+use crate::keymaps::texts::LETTER_AND_SHIFT;
+use crate::runs::{settled, stopped, written};
 use keymap_core::{Read, Write};
 use keymap_tables::{TableFault, TableFaultKind, write_narrow, write_tables};
 use keymap_text::read_map;
+use kmap_runs::{RunError, dump_narrow_run, dump_run};
 use std::alloc::{AllocError, Global};
 use std::test::Fail;
 
@@ -23,10 +23,10 @@ fn faulty_tables() -> [u8; TABLES] {
 #[test]
 fn tables_of_zeros_print_as_nothing(rt: HostRuntime) -> Result<(), Fail> {
     let mut reader = reader_of(&[0; TABLES], 1, usize::MAX);
-    let mut writer = writer_of(0);
+    let mut writer = slow_sheet_of(1, 0);
     let answer = dump_run(rt.alloc(), &mut reader, &mut writer);
     assert_eq!(rt; settled(answer, &writer)?, Ok(()));
-    assert!(rt; writer.taken.is_empty() && !writer.failed());
+    assert!(rt; writer.bytes.is_empty() && !writer.failed());
     Ok(())
 }
 
@@ -38,10 +38,10 @@ fn faults_of_tables_are_answered(rt: HostRuntime) -> Result<(), Fail> {
     };
     let tables = faulty_tables();
     let mut reader = reader_of(&tables, 1, usize::MAX);
-    let mut writer = writer_of(usize::MAX);
+    let mut writer = slow_sheet_of(1, usize::MAX);
     let answer = dump_run(rt.alloc(), &mut reader, &mut writer);
     assert_eq!(rt; settled(answer, &writer)?, Err(RunError::Tables(fault)));
-    assert!(rt; writer.taken.is_empty() && !writer.failed());
+    assert!(rt; writer.bytes.is_empty() && !writer.failed());
     Ok(())
 }
 
@@ -50,11 +50,11 @@ fn tables_that_stop_are_a_fault(rt: HostRuntime) -> Result<(), Fail> {
     let tables = faulty_tables();
     for most in 0..=TABLES {
         let mut reader = reader_of(&tables, usize::MAX, most);
-        let mut writer = writer_of(usize::MAX);
+        let mut writer = slow_sheet_of(1, usize::MAX);
         let answer = dump_run(rt.alloc(), &mut reader, &mut writer);
         let wanted = Err(RunError::ReadTables(stopped(most)));
         assert_eq!(rt; settled(answer, &writer)?, wanted);
-        assert!(rt; reader.failed() && writer.taken.is_empty() && !writer.failed());
+        assert!(rt; reader.failed() && writer.bytes.is_empty() && !writer.failed());
     }
     Ok(())
 }
@@ -64,14 +64,14 @@ const PRINTED: &[u8] = b"000 'a'    'A'    soh    soh    fkey01 scr16  0x20ac de
 #[test]
 fn tables_print_as_their_map(rt: HostRuntime) -> Result<(), Fail> {
     let map = read_map(rt.alloc(), b"0 'a' 'A' SOH soh fkey1 scr16 0x20ac DEL b")?;
-    let mut tables = writer_of(usize::MAX);
+    let mut tables = slow_sheet_of(1, usize::MAX);
     write_tables(&map, &mut tables).map_err(RunError::Write)?;
     for most in 0..=PRINTED.len() {
-        let mut reader = reader_of(tables.taken.as_slice(), 1, usize::MAX);
-        let mut writer = writer_of(most);
+        let mut reader = reader_of(tables.bytes.as_slice(), 1, usize::MAX);
+        let mut writer = slow_sheet_of(1, most);
         let answer = dump_run(rt.alloc(), &mut reader, &mut writer);
         assert_eq!(rt; settled(answer, &writer)?, written((), most, PRINTED.len()));
-        assert_eq!(rt; writer.taken.as_slice(), &PRINTED[..most]);
+        assert_eq!(rt; writer.bytes.as_slice(), &PRINTED[..most]);
         assert_eq!(rt; writer.failed(), most < PRINTED.len());
     }
     Ok(())
@@ -99,16 +99,16 @@ fn letter_and_shift_printed(alloc: Global) -> Result<Vec<u8>, AllocError> {
 #[test]
 fn narrow_files_print_as_their_map(rt: HostRuntime) -> Result<(), Fail> {
     let map = read_map(rt.alloc(), LETTER_AND_SHIFT)?;
-    let mut narrow = writer_of(usize::MAX);
+    let mut narrow = slow_sheet_of(1, usize::MAX);
     write_narrow(&map, &mut narrow)?;
-    assert_eq!(rt; narrow.taken.len(), NARROW);
+    assert_eq!(rt; narrow.bytes.len(), NARROW);
     let printed = letter_and_shift_printed(rt.alloc())?;
     for most in 0..=printed.len() {
-        let mut reader = reader_of(narrow.taken.as_slice(), 512, usize::MAX);
-        let mut writer = writer_of(most);
+        let mut reader = reader_of(narrow.bytes.as_slice(), 512, usize::MAX);
+        let mut writer = slow_sheet_of(1, most);
         let answer = dump_narrow_run(rt.alloc(), &mut reader, &mut writer);
         assert_eq!(rt; settled(answer, &writer)?, written((), most, printed.len()));
-        assert_eq!(rt; writer.taken.as_slice(), &printed.as_slice()[..most]);
+        assert_eq!(rt; writer.bytes.as_slice(), &printed.as_slice()[..most]);
         assert_eq!(rt; writer.failed(), most < printed.len());
     }
     Ok(())
@@ -118,11 +118,11 @@ fn narrow_files_print_as_their_map(rt: HostRuntime) -> Result<(), Fail> {
 fn narrow_files_that_stop_are_a_fault(rt: HostRuntime) -> Result<(), Fail> {
     for most in 0..=NARROW {
         let mut reader = reader_of(&[0; NARROW], usize::MAX, most);
-        let mut writer = writer_of(usize::MAX);
+        let mut writer = slow_sheet_of(1, usize::MAX);
         let answer = dump_narrow_run(rt.alloc(), &mut reader, &mut writer);
         let wanted = Err(RunError::ReadTables(stopped(most)));
         assert_eq!(rt; settled(answer, &writer)?, wanted);
-        assert!(rt; reader.failed() && writer.taken.is_empty() && !writer.failed());
+        assert!(rt; reader.failed() && writer.bytes.is_empty() && !writer.failed());
     }
     Ok(())
 }
@@ -134,9 +134,9 @@ fn tables_are_no_narrow_file(rt: HostRuntime) -> Result<(), Fail> {
         kind: TableFaultKind::Long,
     };
     let mut reader = reader_of(&[0; TABLES], 512, usize::MAX);
-    let mut writer = writer_of(usize::MAX);
+    let mut writer = slow_sheet_of(1, usize::MAX);
     let answer = dump_narrow_run(rt.alloc(), &mut reader, &mut writer);
     assert_eq!(rt; settled(answer, &writer)?, Err(RunError::Tables(fault)));
-    assert!(rt; writer.taken.is_empty());
+    assert!(rt; writer.bytes.is_empty());
     Ok(())
 }

@@ -1,11 +1,11 @@
 //! The scripts that type sentences.
 
-use crate::fault_line::RunError;
-use crate::tests::devices::{Blanks, reader_of, settled, stopped, writer_of, written};
-use crate::tests::maps::{LETTER_AND_SHIFT, SHIFT_AND_LINE_FEED};
-use crate::type_runs::type_run;
+use crate::devices::{endless_blanks, reader_of, slow_sheet_of};
+use crate::keymaps::texts::{LETTER_AND_SHIFT, SHIFT_AND_LINE_FEED};
+use crate::runs::{settled, stopped, written};
 use keymap_core::{Read, ReadFault, ReadFaultKind, Write};
 use keymap_text::{TextFault, TextFaultKind};
+use kmap_runs::{RunError, type_run};
 use std::test::Fail;
 
 /// A keymap, a sentence, and the script that types it.
@@ -34,10 +34,10 @@ fn a_sentence_is_written_as_a_script(rt: HostRuntime) -> Result<(), Fail> {
         for most in 0..=script.len() {
             let mut reader = reader_of(text, 7, usize::MAX);
             let mut bytes = reader_of(sentence, 1, usize::MAX);
-            let mut writer = writer_of(most);
+            let mut writer = slow_sheet_of(1, most);
             let answer = type_run(rt.alloc(), &mut reader, &mut bytes, &mut writer);
             assert_eq!(rt; settled(answer, &writer)?, written((), most, script.len()));
-            assert_eq!(rt; writer.taken.as_slice(), &script[..most]);
+            assert_eq!(rt; writer.bytes.as_slice(), &script[..most]);
             assert_eq!(rt; writer.failed(), most < script.len());
         }
     }
@@ -57,10 +57,10 @@ fn a_sentence_that_no_key_types_is_a_fault(rt: HostRuntime) -> Result<(), Fail> 
     for (sentence, fault) in UNTYPED {
         let mut reader = reader_of(LETTER_AND_SHIFT, 64, usize::MAX);
         let mut bytes = reader_of(sentence, 64, usize::MAX);
-        let mut writer = writer_of(usize::MAX);
+        let mut writer = slow_sheet_of(1, usize::MAX);
         let answer = type_run(rt.alloc(), &mut reader, &mut bytes, &mut writer);
         assert_eq!(rt; settled(answer, &writer)?, Err(fault));
-        assert!(rt; writer.taken.is_empty() && !writer.failed());
+        assert!(rt; writer.bytes.is_empty() && !writer.failed());
     }
     Ok(())
 }
@@ -73,7 +73,7 @@ fn a_faulty_text_types_nothing(rt: HostRuntime) -> Result<(), Fail> {
         kind: TextFaultKind::EndInside,
     };
     let mut bytes = reader_of(b"\xff", 1, 0);
-    let mut writer = writer_of(usize::MAX);
+    let mut writer = slow_sheet_of(1, usize::MAX);
     let answer = type_run(
         rt.alloc(),
         &mut reader_of(b"1 '", 1, usize::MAX),
@@ -81,7 +81,7 @@ fn a_faulty_text_types_nothing(rt: HostRuntime) -> Result<(), Fail> {
         &mut writer,
     );
     assert_eq!(rt; settled(answer, &writer)?, Err(RunError::Text(fault)));
-    assert!(rt; !bytes.failed() && writer.taken.is_empty() && !writer.failed());
+    assert!(rt; !bytes.failed() && writer.bytes.is_empty() && !writer.failed());
     Ok(())
 }
 
@@ -90,11 +90,11 @@ fn a_sentence_that_stops_types_nothing(rt: HostRuntime) -> Result<(), Fail> {
     for most in 0..=3 {
         let mut reader = reader_of(LETTER_AND_SHIFT, 64, usize::MAX);
         let mut bytes = reader_of(b"aAa", usize::MAX, most);
-        let mut writer = writer_of(usize::MAX);
+        let mut writer = slow_sheet_of(1, usize::MAX);
         let answer = type_run(rt.alloc(), &mut reader, &mut bytes, &mut writer);
         let wanted = Err(RunError::ReadSentence(stopped(most)));
         assert_eq!(rt; settled(answer, &writer)?, wanted);
-        assert!(rt; bytes.failed() && !reader.failed() && writer.taken.is_empty());
+        assert!(rt; bytes.failed() && !reader.failed() && writer.bytes.is_empty());
     }
     Ok(())
 }
@@ -104,11 +104,11 @@ fn a_text_that_stops_types_nothing(rt: HostRuntime) -> Result<(), Fail> {
     for most in 0..=LETTER_AND_SHIFT.len() {
         let mut reader = reader_of(LETTER_AND_SHIFT, usize::MAX, most);
         let mut bytes = reader_of(b"a", 1, 0);
-        let mut writer = writer_of(usize::MAX);
+        let mut writer = slow_sheet_of(1, usize::MAX);
         let answer = type_run(rt.alloc(), &mut reader, &mut bytes, &mut writer);
         let wanted = Err(RunError::ReadText(stopped(most)));
         assert_eq!(rt; settled(answer, &writer)?, wanted);
-        assert!(rt; reader.failed() && !bytes.failed() && writer.taken.is_empty());
+        assert!(rt; reader.failed() && !bytes.failed() && writer.bytes.is_empty());
     }
     Ok(())
 }
@@ -119,17 +119,17 @@ fn a_sentence_is_read_to_its_limit(rt: HostRuntime) -> Result<(), Fail> {
         offset: 1_048_576,
         kind: ReadFaultKind::Endless,
     };
-    let mut writer = writer_of(usize::MAX);
+    let mut writer = slow_sheet_of(1, usize::MAX);
     let answer = type_run(
         rt.alloc(),
         &mut reader_of(LETTER_AND_SHIFT, 64, usize::MAX),
-        &mut Blanks,
+        &mut endless_blanks(),
         &mut writer,
     );
     assert_eq!(rt;
         settled(answer, &writer)?,
         Err(RunError::ReadSentence(fault))
     );
-    assert!(rt; writer.taken.is_empty() && !writer.failed());
+    assert!(rt; writer.bytes.is_empty() && !writer.failed());
     Ok(())
 }

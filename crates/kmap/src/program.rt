@@ -198,7 +198,10 @@ where
 
 fn write_file<W: Write>(map: &KeyMap, narrow: bool, out: &mut W) -> Result<(), RunError> {
     if narrow {
-        write_narrow(map, out).map_err(narrow_failure)
+        match write_narrow(map, out) {
+            Ok(()) => Ok(()),
+            Err(error) => Err(narrow_failure(error)),
+        }
     } else {
         write_tables(map, out).map_err(RunError::Write)
     }

@@ -1,7 +1,8 @@
 /*
- * Preloaded into a program, refuses one of its allocations: the one whose number REFUSE gives, counted from 1. Where
- * ALLOCATIONS names a file, the number of all of them is written there at the end. With MARKED set, only those between
- * the first and the second write to standard error are counted.
+ * Preloaded into a program, refuses one of its allocations: the one whose number REFUSE gives, counted from 1. With
+ * REFUSE_REST set, it refuses all later ones too: a growth that was refused may ask for less. Where ALLOCATIONS names a
+ * file, the number of all of them is written there at the end. With MARKED set, only those between the first and the
+ * second write to standard error are counted.
  */
 #define _GNU_SOURCE
 #include <dlfcn.h>
@@ -28,12 +29,17 @@ static int marks;
 static int refused(void) {
     static long wanted = -1;
     static int is_marked;
+    static int with_rest;
     if (wanted < 0) {
         const char *text = getenv("REFUSE");
         wanted = text ? atol(text) : 0;
         is_marked = getenv("MARKED") != NULL;
+        with_rest = getenv("REFUSE_REST") != NULL;
     }
-    if ((is_marked && marks != 1) || ++count != wanted)
+    if (is_marked && marks != 1)
+        return 0;
+    count++;
+    if (wanted == 0 || count < wanted || (count > wanted && !with_rest))
         return 0;
     errno = ENOMEM;
     return 1;

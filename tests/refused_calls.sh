@@ -19,10 +19,14 @@ if ! command -v "${CC:-cc}" > /dev/null; then
 fi
 "${CC:-cc}" -shared -fPIC -O1 -o "$folder/refuse.so" "$tests/refuse.c" -ldl || exit 1
 
+# REFUSE_REST=1 where all later allocations are refused too
+rest=
+
 # answers CALL NUMBER WANTED: the call answers so with this one of its own allocations refused, where it has that many
 answers() {
     rm -f "$folder/count"
-    got=$(ALLOCATIONS="$folder/count" MARKED=1 REFUSE=$2 LD_PRELOAD="$folder/refuse.so" \
+    # shellcheck disable=SC2086 # it is one word or none
+    got=$(env $rest ALLOCATIONS="$folder/count" MARKED=1 REFUSE="$2" LD_PRELOAD="$folder/refuse.so" \
         "$program" "$1" 2> "$folder/marks")
     status=$?
     holds "$1 with allocation $2 refused: '$got' in place of '$3', status $status" \
@@ -75,8 +79,11 @@ refuses play-typed
 refuses play_next-lines
 refuses play_next-typed
 refuses Ways::of
+# A vector that is refused room to grow asks for what it needs now, so a single refusal may have no effect.
+rest=REFUSE_REST=1
 refuses characters
 refuses characters-untyped fault
+rest=
 takes_none characters-not-text fault
 
 counted

@@ -13,8 +13,9 @@ use keymap_text::{MapReader, TextError, read_from, read_map};
 use play_core::{PlayError, ScriptError, Show, TypeError, Ways, play, play_next, read_script};
 use std::alloc::{AllocError, Global};
 
-/// A letter, a shift, a lock and a dead key with its accent.
-const TEXT: &[u8] = b"026 dacu dacu dacu dacu dacu dacu dacu dacu O
+/// Letters, a shift, a lock and a dead key with its accent.
+const TEXT: &[u8] = b"018 'e' 'E' nop nop 'e' 'E' nop nop C
+026 dacu dacu dacu dacu dacu dacu dacu dacu O
 030 'a' 'A' nop nop 'a' 'A' nop nop C
 042 lshift lshift lshift lshift lshift lshift lshift lshift O
 058 clock clock clock clock clock clock clock clock O
@@ -27,7 +28,7 @@ const TRAP: &[u8] = b"029 lctrl lctrl lctrl lctrl lctrl lctrl lctrl lctrl O
 ";
 
 /// Letters, one of which takes the dead key before its base, often enough that their list outgrows its memory.
-const SENTENCE: &[u8] = "aAéAaAéAaAéAaAéA".as_bytes();
+const SENTENCE: &[u8] = b"aA\xc3\xa9AaA\xc3\xa9AaA\xc3\xa9AaA\xc3\xa9A";
 
 /// A sentence that no keys of the map type.
 const UNTYPED: &[u8] = b"ab";

@@ -6,14 +6,14 @@ mod reports;
 use console_core::Event;
 use keymap_core::KeyCode;
 
-pub fn key(code: u8) -> Result<KeyCode, &'static str> {
+pub(crate) fn key(code: u8) -> Result<KeyCode, &'static str> {
     KeyCode::new(code).ok_or("no key has this code")
 }
 
-pub fn press(code: u8) -> Result<Event, &'static str> {
+pub(crate) fn press(code: u8) -> Result<Event, &'static str> {
     Ok(Event::Press(key(code)?))
 }
 
-pub fn release(code: u8) -> Result<Event, &'static str> {
+pub(crate) fn release(code: u8) -> Result<Event, &'static str> {
     Ok(Event::Release(key(code)?))
 }

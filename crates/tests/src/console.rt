@@ -18,7 +18,7 @@ fn expect_on<T: Translator>(rt: &impl Abort, console: &T, on: &[Modifier]) {
 }
 
 /// Asserts that just these modifiers and locks are on, and which accent is pending.
-pub fn expect_shown<T: Translator>(
+pub(crate) fn expect_shown<T: Translator>(
     rt: &impl Abort,
     console: &T,
     on: &[Modifier],

@@ -23,26 +23,26 @@ pub struct Tape<'a> {
 }
 
 /// A reader of the text, so many bytes at a time, that fails after so many.
-pub fn reader_of(text: &[u8], pace: usize, most: usize) -> Tape<'_> {
+pub(crate) fn reader_of(text: &[u8], pace: usize, most: usize) -> Tape<'_> {
     tape_of(text, b' ', text.len(), pace, most)
 }
 
 /// A reader of so many blanks that never fails.
-pub fn blanks_of(size: usize, pace: usize) -> Tape<'static> {
+pub(crate) fn blanks_of(size: usize, pace: usize) -> Tape<'static> {
     tape_of(b"", b' ', size, pace, usize::MAX)
 }
 
 /// A reader of blanks without an end, as many as there is room for.
-pub fn endless_blanks() -> Tape<'static> {
+pub(crate) fn endless_blanks() -> Tape<'static> {
     blanks_of(usize::MAX, usize::MAX)
 }
 
 /// A reader of bytes 0 without an end, one at a time.
-pub fn endless_zeros() -> Tape<'static> {
+pub(crate) fn endless_zeros() -> Tape<'static> {
     tape_of(b"", 0, usize::MAX, 1, usize::MAX)
 }
 
-pub fn tape_of(text: &[u8], filler: u8, size: usize, pace: usize, most: usize) -> Tape<'_> {
+pub(crate) fn tape_of(text: &[u8], filler: u8, size: usize, pace: usize, most: usize) -> Tape<'_> {
     Tape {
         text,
         filler,
@@ -97,12 +97,12 @@ pub struct Sheet {
 }
 
 /// A sheet of so many bytes at most.
-pub fn sheet_of(most: usize) -> Sheet {
+pub(crate) fn sheet_of(most: usize) -> Sheet {
     slow_sheet_of(usize::MAX, most)
 }
 
 /// A sheet that takes so many bytes at a time.
-pub fn slow_sheet_of(pace: usize, most: usize) -> Sheet {
+pub(crate) fn slow_sheet_of(pace: usize, most: usize) -> Sheet {
     Sheet {
         bytes: ArrayVec::new(),
         writes: 0,
@@ -146,7 +146,7 @@ pub struct Comparing<'a> {
     failed: bool,
 }
 
-pub fn comparing_with(wanted: &[u8], most: usize) -> Comparing<'_> {
+pub(crate) fn comparing_with(wanted: &[u8], most: usize) -> Comparing<'_> {
     Comparing {
         wanted,
         taken: 0,

@@ -36,7 +36,7 @@ pub const NAMED: [Named; 10] = [
     Named::ShiftAndCaps,
 ];
 
-pub fn text_of(name: Named) -> &'static [u8] {
+pub(crate) fn text_of(name: Named) -> &'static [u8] {
     match name {
         Named::Empty => b"",
         Named::LetterAndShift => texts::LETTER_AND_SHIFT,
@@ -51,7 +51,7 @@ pub fn text_of(name: Named) -> &'static [u8] {
     }
 }
 
-pub fn named_map(alloc: Global, name: Named) -> Result<KeyMap, Fail> {
+pub(crate) fn named_map(alloc: Global, name: Named) -> Result<KeyMap, Fail> {
     let map = match name {
         Named::Empty => empty_map(alloc)?,
         Named::LetterAndShift => map_of(alloc, &entries::LETTER_AND_SHIFT)?,
@@ -68,7 +68,7 @@ pub fn named_map(alloc: Global, name: Named) -> Result<KeyMap, Fail> {
 }
 
 /// The map of no keys. A growth that is refused is tried again.
-pub fn empty_map(alloc: Global) -> Result<KeyMap, AllocError> {
+pub(crate) fn empty_map(alloc: Global) -> Result<KeyMap, AllocError> {
     match KeyMap::new(alloc) {
         Err(_) => KeyMap::new(alloc),
         map => map,
@@ -76,7 +76,7 @@ pub fn empty_map(alloc: Global) -> Result<KeyMap, AllocError> {
 }
 
 /// The map of these entries.
-pub fn map_of(alloc: Global, lines: &[Line]) -> Result<KeyMap, AllocError> {
+pub(crate) fn map_of(alloc: Global, lines: &[Line]) -> Result<KeyMap, AllocError> {
     let mut map = empty_map(alloc)?;
     for (slot, entry) in lines {
         map.set(*slot, *entry);
@@ -85,7 +85,7 @@ pub fn map_of(alloc: Global, lines: &[Line]) -> Result<KeyMap, AllocError> {
 }
 
 /// The cell of an action's code.
-pub fn acting(code: u8) -> Result<Cell, &'static str> {
+pub(crate) fn acting(code: u8) -> Result<Cell, &'static str> {
     Ok(Cell::Act(Action::from_code(code).ok_or("no action has this code")?))
 }
 
@@ -100,7 +100,7 @@ fn set_action(map: &mut KeyMap, slot: u8, code: u8) -> Result<(), &'static str> 
 }
 
 /// A map with an acute accent, a grave one without a character, and the keys of `entries::ACCENTS`.
-pub fn map_with_accents(alloc: Global) -> Result<KeyMap, Fail> {
+pub(crate) fn map_with_accents(alloc: Global) -> Result<KeyMap, Fail> {
     let mut map = map_of(alloc, &entries::ACCENTS)?;
     set_action(&mut map, 26, 0x8a)?;
     set_action(&mut map, 41, 0x89)?;
@@ -114,7 +114,7 @@ pub fn map_with_accents(alloc: Global) -> Result<KeyMap, Fail> {
 }
 
 /// A map with an acute accent, and a macron without a character.
-pub fn map_with_blank_macron(alloc: Global) -> Result<KeyMap, Fail> {
+pub(crate) fn map_with_blank_macron(alloc: Global) -> Result<KeyMap, Fail> {
     let mut map = empty_map(alloc)?;
     set_action(&mut map, 26, 0x8a)?;
     set_action(&mut map, 40, 0x8d)?;
@@ -124,7 +124,7 @@ pub fn map_with_blank_macron(alloc: Global) -> Result<KeyMap, Fail> {
 }
 
 /// Six modifiers with eight keys each, so that there are more than 500,000 ways to hold some of them.
-pub fn map_of_many_modifiers(alloc: Global) -> Result<KeyMap, AllocError> {
+pub(crate) fn map_of_many_modifiers(alloc: Global) -> Result<KeyMap, AllocError> {
     let mut map = empty_map(alloc)?;
     for code in 0..48u8 {
         let modifier = MODIFIERS[(code / 8) as usize];

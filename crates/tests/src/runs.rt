@@ -11,7 +11,7 @@ use keymap_core::{ReadFault, ReadFaultKind, Write, WriteFault};
 use kmap_runs::RunError;
 
 /// The fault of a reader that failed after so many bytes.
-pub fn stopped(most: usize) -> ReadFault {
+pub(crate) fn stopped(most: usize) -> ReadFault {
     ReadFault {
         offset: most as u64,
         kind: ReadFaultKind::Device,
@@ -19,7 +19,7 @@ pub fn stopped(most: usize) -> ReadFault {
 }
 
 /// The answer where a writer takes so many bytes at most of so many.
-pub fn written<T: Drop>(answer: T, most: usize, size: usize) -> Result<T, RunError> {
+pub(crate) fn written<T: Drop>(answer: T, most: usize, size: usize) -> Result<T, RunError> {
     let fault = WriteFault {
         written: most as u64,
     };
@@ -31,7 +31,7 @@ pub fn written<T: Drop>(answer: T, most: usize, size: usize) -> Result<T, RunErr
 }
 
 /// An answer for which memory sufficed. Where it was refused, nothing may have been written.
-pub fn settled<T: Drop>(
+pub(crate) fn settled<T: Drop>(
     answer: Result<T, RunError>,
     writer: &Sheet,
 ) -> Result<Result<T, RunError>, &'static str> {

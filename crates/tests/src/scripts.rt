@@ -11,7 +11,7 @@ use crate::devices::Sheet;
 use play_core::PlayError;
 
 /// An answer for which memory sufficed. Where it was refused, nothing may have been written.
-pub fn settled(
+pub(crate) fn settled(
     answer: Result<(), PlayError>,
     out: &Sheet,
 ) -> Result<Result<(), PlayError>, &'static str> {

@@ -14,7 +14,7 @@ pub const LENGTH: usize = 15_524;
 pub const NARROW_LENGTH: usize = 4_139;
 
 /// So many bytes 0. A growth that is refused is tried again.
-pub fn zero_bytes(alloc: Global, count: usize) -> Result<Vec<u8>, AllocError> {
+pub(crate) fn zero_bytes(alloc: Global, count: usize) -> Result<Vec<u8>, AllocError> {
     let mut bytes = Vec::new(alloc);
     for _ in 0..count {
         if bytes.push(0u8).is_err() {
@@ -25,7 +25,7 @@ pub fn zero_bytes(alloc: Global, count: usize) -> Result<Vec<u8>, AllocError> {
 }
 
 /// The fault of a reader that failed after so many bytes.
-pub fn stopped(most: usize) -> TableError {
+pub(crate) fn stopped(most: usize) -> TableError {
     TableError::Read(ReadFault {
         offset: most as u64,
         kind: ReadFaultKind::Device,
@@ -33,7 +33,7 @@ pub fn stopped(most: usize) -> TableError {
 }
 
 /// An answer for which memory sufficed; memory that was refused is an error of its own.
-pub fn settled(
+pub(crate) fn settled(
     answer: Result<KeyMap, TableError>,
 ) -> Result<Result<KeyMap, TableError>, TableError> {
     match answer {
@@ -43,13 +43,13 @@ pub fn settled(
 }
 
 /// The fault of the bytes, where that is the answer.
-pub fn fault_of(answer: Result<KeyMap, TableError>) -> Option<TableFault> {
+pub(crate) fn fault_of(answer: Result<KeyMap, TableError>) -> Option<TableFault> {
     match answer {
         Err(TableError::Fault(fault)) => Some(fault),
         _ => None,
     }
 }
 
-pub fn fault(offset: u64, kind: TableFaultKind) -> Option<TableFault> {
+pub(crate) fn fault(offset: u64, kind: TableFaultKind) -> Option<TableFault> {
     Some(TableFault { offset, kind })
 }

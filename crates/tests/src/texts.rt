@@ -20,7 +20,9 @@ pub const DUMPED: &[u8] = b"#                                                   
 ";
 
 /// An answer for which memory sufficed; memory that was refused is an error of its own.
-pub fn settled(answer: Result<KeyMap, TextError>) -> Result<Result<KeyMap, TextError>, TextError> {
+pub(crate) fn settled(
+    answer: Result<KeyMap, TextError>,
+) -> Result<Result<KeyMap, TextError>, TextError> {
     match answer {
         Err(TextError::Memory) => Err(TextError::Memory),
         answer => Ok(answer),
@@ -28,7 +30,7 @@ pub fn settled(answer: Result<KeyMap, TextError>) -> Result<Result<KeyMap, TextE
 }
 
 /// The map or fault of a text in pieces of a size.
-pub fn read_pieces(
+pub(crate) fn read_pieces(
     rt: &impl Abort,
     alloc: Global,
     text: &[u8],

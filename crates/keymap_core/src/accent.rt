@@ -95,7 +95,7 @@ impl Accent {
         copy
     }
 
-    /// Reads each pair: so it is known what an accent holds.
+    /// Reads each pair, for the prover alone: so it is known what an accent holds.
     pub(crate) fn has_bounds(&self)
         ensures { IsAccent self.now }
     {

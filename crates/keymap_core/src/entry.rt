@@ -50,13 +50,15 @@ impl Entry {
         ensures eight { length result.now ≡ column_count }
     {
         let cells = &self.cells;
+        // For the prover alone: to go over an array tells how many elements it has. Nothing is left of it when built.
         for cell in cells {
             let _ = cell;
         }
         cells
     }
 
-    /// Reads each cell: so it is known what an entry holds.
+    /// For the prover alone, as `has_bounds` of a cell, an accent and a map are: to read a value tells the bounds of
+    /// its type, so to read each cell tells what an entry holds.
     pub(crate) fn has_bounds(&self)
         ensures { IsEntry self.now }
     {

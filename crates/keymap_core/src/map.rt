@@ -149,7 +149,7 @@ impl KeyMap {
         }
     }
 
-    /// Reads each entry and accent: so it is known what a map holds.
+    /// Reads each entry and accent, for the prover alone: so it is known what a map holds.
     pub(crate) fn has_bounds(&self)
         ensures { IsMap self.now }
     {

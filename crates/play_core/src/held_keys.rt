@@ -110,6 +110,7 @@ fn is_bit_key(map: &KeyMap, bearers: &[bool; KEY_COUNT], bit: u8, pressed: u8, k
     requires is_key { key < key_count }
     ensures { result ≡ spec.is_bit_key map.now bit pressed key }
 {
+    // Only the contract names the map.
     let _ = map;
     key != pressed && bearers[key as usize]
 }

@@ -180,7 +180,7 @@ fn load<K: Keymap, S: Store>(store: &mut S, next: &K)
 
 /// The answer to an event, and the store after it, under a map in force and the one that a load puts in force.
 #[inline(always)]
-fn step<K: Keymap, S: Store>(store: &mut S, map: &K, next: &K, event: Event) -> Answer
+fn step_under<K: Keymap, S: Store>(store: &mut S, map: &K, next: &K, event: Event) -> Answer
     ensures answer { (ms : Maps) (h : List EventValue) → K.shows map.now (in_force ms h)
         → K.shows next.now (loaded ms h)
         → StandsAt ms h (S.kept store.old)
@@ -219,7 +219,7 @@ pub fn deliver<K: Keymap, S: Store>(store: &mut S, first: &K, second: &K, event:
     let is_second = store.is_second();
     let map = if is_second { second } else { first };
     let next = if is_second { first } else { second };
-    step(store, map, next, event)
+    step_under(store, map, next, event)
 }
 
 /// A console between two maps, which keeps its state in the store.

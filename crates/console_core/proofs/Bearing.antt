@@ -3,6 +3,7 @@ use Rattle.std.proofs.Common.{◌≡◌, ℕ, ◌<◌, ◌⊎◌, Bool, true, fa
 use Rattle.std.proofs.Common.{refl, ap, subst, sym, ◌∙◌, inl, inr, if◌then◌else◌}
 use Rattle.std.specs.Prelude.{◌==◌}
 use Rattle.std.proofs.lemmas.Bool.{eqb-true, eq-eqb, and_parts, or_cases, cases_Bool, true≢false}
+use Rattle.std.specs.Option.{option_or}
 use Rattle.keymap_core.specs.declared.action.Action.{Action}
 use Rattle.keymap_core.specs.declared.action.Action.TheVariants as act
 use Rattle.keymap_core.specs.declared.action.Holding.{Holding}
@@ -10,7 +11,6 @@ use Rattle.keymap_core.specs.declared.entry.Cell.{Cell}
 use Rattle.keymap_core.specs.declared.entry.Cell.TheVariants.{Char, Act}
 use Rattle.keymap_core.specs.Actions.{same_action, holding_action}
 use Rattle.keymap_core.specs.Maps.{MapValue}
-use Rattle.console_core.specs.Positions.{first_of_two}
 use Rattle.console_core.specs.Resolved.{ResolvedEvent, held, remembered, taken_over, unless_nop, is_this_action, look}
 use Rattle.console_core.specs.Resolved.{resolve_press}
 use Rattle.console_core.specs.History.{Maps, in_force, resolved, pressed}
@@ -43,13 +43,13 @@ unless_nop-some false b a h = some_some b a h
 
 -- what is remembered after a press was so before, or is the key's look
 remembered_from : (t : Bool) (o : Option Action) (b a : Action)
-    → first_of_two o (if t then unless_nop b else None) ≡ Some a → (o ≡ Some a) ⊎ ((o ≡ None) × (t ≡ true) × (b ≡ a))
+    → option_or o (if t then unless_nop b else None) ≡ Some a → (o ≡ Some a) ⊎ ((o ≡ None) × (t ≡ true) × (b ≡ a))
 remembered_from t (Some c) b a h = inl h
 remembered_from true None b a h = inr (refl, refl, unless_nop-some (same_action b act.Nop) b a h)
 remembered_from false None b a h = absurd (none_some a h)
 
 -- the first of two stays where it is there
-pub first_kept : (o p : Option Action) (a : Action) → o ≡ Some a → first_of_two o p ≡ Some a
+pub first_kept : (o p : Option Action) (a : Action) → o ≡ Some a → option_or o p ≡ Some a
 first_kept o p a h = rw h refl
 
 -- what a key remembers is one of its cells

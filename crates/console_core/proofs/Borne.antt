@@ -4,6 +4,7 @@ use Rattle.std.proofs.Common.{◌≡◌, ℕ, ◌<◌, ◌⊎◌, Bool, true, fa
 use Rattle.std.proofs.Common.{subst, sym, ◌∙◌, inl, inr, if◌then◌else◌, lit<}
 use Rattle.std.proofs.lemmas.Bool.{and_parts, or_cases, true≢false}
 use Rattle.std.proofs.lemmas.List.Elements.{All-head, All-tail}
+use Rattle.std.specs.Option.{option_or}
 use Rattle.keymap_core.specs.declared.action.Action.{Action}
 use Rattle.keymap_core.specs.declared.action.Action.TheVariants as act
 use Rattle.keymap_core.specs.declared.action.Modifier.TheVariants as modifier
@@ -15,7 +16,6 @@ use Rattle.keymap_core.specs.declared.entry.Cell.{Cell}
 use Rattle.keymap_core.specs.declared.entry.Cell.TheVariants.{Char, Act}
 use Rattle.keymap_core.specs.Actions.{same_action, holding_action}
 use Rattle.keymap_core.specs.Maps.{MapValue, cell_at}
-use Rattle.console_core.specs.Positions.{first_of_two}
 use Rattle.console_core.specs.Columns.{slot_of, column_of, exactly_one}
 use Rattle.console_core.specs.Resolved.{ResolvedEvent, held, locked, remembered, taken_over, unless_nop, look}
 use Rattle.console_core.specs.Resolved.{resolve_press}
@@ -71,7 +71,7 @@ taken_over-same held b a false e h = absurd (true≢false (sym h ∙ nop-not_hol
 -- a holding action that is taken was looked up, and is then remembered
 pub taken-holding : (o : Option Action) (b : Action) (a : Holding)
     → same_action (taken_over o b) (holding_action a) ≡ true
-    → (b ≡ holding_action a) × (first_of_two o (unless_nop b) ≡ Some (holding_action a))
+    → (b ≡ holding_action a) × (option_or o (unless_nop b) ≡ Some (holding_action a))
 taken-holding None b a h =
     let f : b ≡ holding_action a = same_action-true b (holding_action a) h in
     (f, ap (λ x. unless_nop x) f ∙ offers-holding a)

@@ -6,7 +6,7 @@ use Rattle.keymap_core.specs.declared.action.Modifier.TheVariants.{LeftShift, Ri
 use Rattle.keymap_core.specs.declared.action.Modifier.TheVariants.{LeftAlt, RightAlt, AltShift, Meta}
 use Rattle.keymap_core.specs.declared.action.Lock.{Lock}
 use Rattle.keymap_core.specs.declared.action.Lock.TheVariants.{Caps, Num, Scroll, Alt}
-use Rattle.console_core.specs.Words.{bit_is_set, lock_bit}
+use Rattle.console_core.specs.PackedWord.{bit_is_set, lock_bit}
 
 -- the modifiers: the lowest eight bits
 pub modifier-bits : (word : ℕ) (i : Modifier)

@@ -8,7 +8,7 @@ use Rattle.keymap_core.proofs.SameActions.{same_action-true}
 use Rattle.keymap_core.specs.declared.action.Action.{Action}
 use Rattle.keymap_core.specs.declared.action.Action.TheVariants as act
 use Rattle.keymap_core.specs.Actions.{same_action, code_of, action_of}
-use Rattle.console_core.specs.Words.{action_of_byte, code_memory}
+use Rattle.console_core.specs.PackedWord.{action_of_byte, code_memory}
 use Rattle.console_core.proofs.Places.{get_or-set_if}
 
 some_some : (a b : Action) → Some a ≡ Some b → a ≡ b

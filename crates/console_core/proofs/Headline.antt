@@ -16,7 +16,7 @@ use Rattle.keymap_core.specs.declared.entry.Cell.{Cell}
 use Rattle.keymap_core.specs.declared.entry.Cell.TheVariants.{Char, Act}
 use Rattle.keymap_core.specs.Actions.{same_action, holding_action}
 use Rattle.keymap_core.specs.Maps.{MapValue}
-use Rattle.console_core.specs.Positions.{first_of_two, is_odd, count_where}
+use Rattle.console_core.specs.Positions.{is_odd, count_where}
 use Rattle.keymap_core.specs.Borne.{is_borne}
 use Rattle.console_core.specs.Columns.{look_with}
 use Rattle.console_core.specs.Resolved.{ResolvedEvent, held, locked, remembered, pending, taken_over, unless_nop, look}
@@ -43,6 +43,7 @@ use Rattle.console_core.proofs.Bearing.{remembered-cell, remembered-pressed, hel
 use Rattle.console_core.proofs.Bearing.{none_some, RememberedBySome}
 use Rattle.console_core.proofs.Deliveries.{reverse-cons}
 use mathlib.Core.Path.{fun_ext}
+use Rattle.std.specs.Option.{option_or}
 
 -- one cell is one cell
 act_char : (a : Action) (c : ℕ) → Char c ≡ Act a → ⊥
@@ -79,12 +80,12 @@ offers_some true b e ne = absurd (ne (same_action-true b act.Nop e))
 offers_some false b e ne = (b, refl)
 
 -- where the second is there, one of two is
-first_some_of : (o p : Option Action) → ((a : Action) × (p ≡ Some a)) → (a : Action) × (first_of_two o p ≡ Some a)
+first_some_of : (o p : Option Action) → ((a : Action) × (p ≡ Some a)) → (a : Action) × (option_or o p ≡ Some a)
 first_some_of None p s = s
 first_some_of (Some a) p s = (a, refl)
 
 -- where the first is there, one of two is
-first_some_kept : (o p : Option Action) → ((a : Action) × (o ≡ Some a)) → (a : Action) × (first_of_two o p ≡ Some a)
+first_some_kept : (o p : Option Action) → ((a : Action) × (o ≡ Some a)) → (a : Action) × (option_or o p ≡ Some a)
 first_some_kept None p s = absurd (none_some s.0 s.1)
 first_some_kept (Some a) p s = (a, refl)
 
@@ -96,13 +97,13 @@ press-remembers m k j r false (Char c) e f g =
     let s : Remembers k r = g refl in
     (s.0, remembered-character k j c r ∙ ap (λ t. if t then None else remembered k r) e ∙ s.1)
 press-remembers m k j r true (Act b) e f g =
-    let s : (a : Action) × (first_of_two (remembered k r) (unless_nop b) ≡ Some a) =
+    let s : (a : Action) × (option_or (remembered k r) (unless_nop b) ≡ Some a) =
     first_some_of (remembered k r) (unless_nop b) (offers_some (same_action b act.Nop) b refl (f refl)) in (
       s.0,
-      remembered-action k j b r ∙ ap (λ t. first_of_two (remembered k r) (if t then unless_nop b else None)) e ∙ s.1,
+      remembered-action k j b r ∙ ap (λ t. option_or (remembered k r) (if t then unless_nop b else None)) e ∙ s.1,
     )
 press-remembers m k j r false (Act b) e f g =
-    let s : (a : Action) × (first_of_two (remembered k r) (if j == k then unless_nop b else None) ≡ Some a) =
+    let s : (a : Action) × (option_or (remembered k r) (if j == k then unless_nop b else None) ≡ Some a) =
     first_some_kept (remembered k r) _ (g refl) in
     (s.0, remembered-action k j b r ∙ s.1)
 
@@ -180,7 +181,7 @@ repeat-turns ms h l k (Act b) steady keys p is =
     turned-false (same_action (taken_over (remembered k (resolved ms h)) b) (act.Lock l))
     (held (holding.Lock l) (resolved ms h))
     (λ t.
-    let t1 : (b ≡ act.Lock l) × (first_of_two (remembered k (resolved ms h)) (unless_nop b) ≡ Some (act.Lock l)) =
+    let t1 : (b ≡ act.Lock l) × (option_or (remembered k (resolved ms h)) (unless_nop b) ≡ Some (act.Lock l)) =
     taken-holding (remembered k (resolved ms h)) b (holding.Lock l) t in
     let e : k ≡ steady.0 =
     steady.3 k (All-head HasKey (Press k) h keys) (subst (λ y. IsCellOf (in_force ms h) k (Act y)) t1.0 is) in
@@ -188,7 +189,7 @@ repeat-turns ms h l k (Act b) steady keys p is =
     pressed-remembers ms k h (λ y cell. steady.4 y (subst (λ i. IsCellOf (in_force ms h) i y) e cell))
     (All-tail HasKey (Press k) h keys) p in
     let f : remembered k (resolved ms h) ≡ Some (act.Lock l) =
-    s.1 ∙ ap (λ o. first_of_two o (unless_nop b)) (sym s.1) ∙ t1.1 in
+    s.1 ∙ ap (λ o. option_or o (unless_nop b)) (sym s.1) ∙ t1.1 in
     remembered-held (in_force ms h) (holding.Lock l) k (λ j lt bears. steady.3 j lt bears ∙ sym e) (resolved ms h)
     (resolved-looked ms h (All-tail HasKey (Press k) h keys)) f)
 

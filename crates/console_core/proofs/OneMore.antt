@@ -15,7 +15,7 @@ use Rattle.keymap_core.specs.Maps.{MapValue}
 use Rattle.console_core.specs.declared.event.Event.{Event}
 use Rattle.console_core.specs.declared.event.Event.TheVariants.{Press, Release, Reset, Load}
 use Rattle.keymap_core.specs.Borne.{is_borne}
-use Rattle.console_core.specs.Positions.{is_odd, first_of_two, last_where}
+use Rattle.console_core.specs.Positions.{is_odd, last_where}
 use Rattle.console_core.specs.Resolved.{unlocks, resolve_press, ResolvedEvent, remembered, held, locked, turns, taken}
 use Rattle.console_core.specs.Resolved.{taken_over, unless_nop, is_this_action, pending, pending_by_dead_keys}
 use Rattle.console_core.specs.Resolved.{dead_keys_taken}
@@ -23,6 +23,7 @@ use Rattle.console_core.specs.Resolved.{keeps_taken, usable_dead_key, run_length
 use Rattle.console_core.specs.History.{Maps, resolved_event, pressed, resolved, is_press, concerns}
 use Rattle.console_core.specs.Inner.Kept.{pending_after_dead_key, next_pending}
 use Rattle.std.proofs.lemmas.Bool.{eqb-true, eq-eqb}
+use Rattle.std.specs.Option.{option_or}
 use Rattle.console_core.specs.Resolved.ResolvedEvent.{PressedCharacter, PressedAction, ReleasedKey, WasReset, WasLoaded}
 
 -- resolved events
@@ -109,7 +110,7 @@ pub remembered-start : (k : ℕ) → remembered k [] ≡ None
 unfolding remembered
 remembered-start k = refl
 
-none_after : (o : Option Action) → first_of_two o None ≡ o
+none_after : (o : Option Action) → option_or o None ≡ o
 none_after None = refl
 none_after (Some a) = refl
 
@@ -119,7 +120,7 @@ unfolding remembered
 remembered-character k j c h = ap (λ x. if j == k then None else x) (none_after (remembered k h))
 
 pub remembered-action : (k j : ℕ) (b : Action) (h : List ResolvedEvent)
-    → remembered k (PressedAction j b ∷ h) ≡ first_of_two (remembered k h) (if j == k then unless_nop b else None)
+    → remembered k (PressedAction j b ∷ h) ≡ option_or (remembered k h) (if j == k then unless_nop b else None)
 unfolding remembered
 remembered-action k j b h = refl
 

@@ -6,6 +6,7 @@ use Rattle.std.proofs.Common.{Option, Some, None, refl, ap, subst, sym, ◌∙�
 use Rattle.std.specs.Prelude.{◌==◌}
 use Rattle.std.proofs.lemmas.Bool.{eqb-true, eq-eqb, cases_Bool, true≢false}
 use Rattle.std.proofs.lemmas.List.Elements.{All-nil, All-cons}
+use Rattle.std.specs.Option.{option_or, is_some}
 use Rattle.keymap_core.specs.declared.action.Action.{Action}
 use Rattle.keymap_core.specs.declared.action.Action.TheVariants as act
 use Rattle.keymap_core.specs.declared.action.Lock.{Lock}
@@ -20,11 +21,9 @@ use Rattle.keymap_core.specs.Maps.{MapValue}
 use Rattle.keymap_core.proofs.SameActions.{same_action-true, same_action-refl}
 use Rattle.console_core.specs.declared.event.Event.{Event}
 use Rattle.console_core.specs.declared.event.Event.TheVariants.{Press, Release}
-use Rattle.console_core.specs.Positions.{first_of_two}
 use Rattle.console_core.specs.Resolved.{ResolvedEvent, held, remembered, taken_over, is_this_action, look}
 use Rattle.console_core.specs.Resolved.{resolve_press}
 use Rattle.console_core.specs.Resolved.ResolvedEvent.{PressedCharacter, PressedAction, ReleasedKey}
-use Rattle.console_core.specs.Reading.{is_some}
 use Rattle.console_core.specs.History.{Maps, between, resolved, is_on_after, pressed, HasKey, HasKeys, IsNoLoad}
 use Rattle.console_core.specs.History.{HasNoLoads}
 use Rattle.console_core.specs.History.{IsQuiet}
@@ -55,7 +54,7 @@ pub record Exact (r : List ResolvedEvent) (s : State) : Type 0 where
   pub only : (k : ℕ) (a : Action) → remembered k r ≡ Some a → HoldsSome s k
   pub up : (l : Lock) → held (holding.Lock l) r ≡ false
 
-first_none : (o : Option Action) → first_of_two o None ≡ o
+first_none : (o : Option Action) → option_or o None ≡ o
 first_none None = refl
 first_none (Some a) = refl
 

@@ -4,41 +4,42 @@ use Rattle.std.proofs.Common.{◌∙◌, if◌then◌else◌}
 use Rattle.std.specs.Prelude.{◌==◌}
 use Rattle.std.proofs.Common.{append_assoc}
 use Rattle.std.proofs.lemmas.Bool.{true≢false}
+use Rattle.std.specs.Option.{option_or, is_some}
 use Rattle.keymap_core.specs.declared.action.Action.{Action}
 use Rattle.keymap_core.specs.declared.entry.Cell.{Cell}
 use Rattle.keymap_core.specs.declared.entry.Cell.TheVariants.{Char, Act}
 use Rattle.console_core.specs.declared.event.Event.{Event}
 use Rattle.console_core.specs.declared.event.Event.TheVariants.{Press, Release, Reset, Load}
-use Rattle.console_core.specs.Positions.{first_of_two, first_since_at}
+use Rattle.console_core.specs.Positions.{first_since_at}
 use Rattle.console_core.specs.Resolved.{resolve_press, remembered, look, unless_nop}
 use Rattle.console_core.specs.History.{Maps, in_force, resolved}
-use Rattle.console_core.specs.Reading.{forgets_at, offers_at, remembered_after, NoneOf, IsSinceLast, is_some}
+use Rattle.console_core.specs.Reading.{forgets_at, offers_at, remembered_after, NoneOf, IsSinceLast}
 use Rattle.console_core.specs.Reading.{is_character, offered}
 use Rattle.console_core.specs.Reading.{FirstSince, NothingSince, RememberedByPositions, NothingRememberedByPositions}
 use Rattle.console_core.proofs.OneMore.{resolved-start, resolved-more, remembered-start, remembered-character}
 use Rattle.console_core.proofs.OneMore.{remembered-action, remembered-release, remembered-reset, remembered-load}
 
-none_after : (o : Option Action) → first_of_two o None ≡ o
+none_after : (o : Option Action) → option_or o None ≡ o
 none_after None = refl
 none_after (Some a) = refl
 
 -- a looked-up character, by the test of its key
 press_char : (t : Bool) (o : Option Action)
-    → (if t && true then None else first_of_two o (if t then None else None)) ≡ (if t then None else o)
+    → (if t && true then None else option_or o (if t then None else None)) ≡ (if t then None else o)
 press_char true o = refl
 press_char false o = none_after o
 
 -- a looked-up action, by the test of its key
 press_act : (t : Bool) (o : Option Action) (b : Action)
-    → (if t && false then None else first_of_two o (if t then unless_nop b else None))
-    ≡ first_of_two o (if t then unless_nop b else None)
+    → (if t && false then None else option_or o (if t then unless_nop b else None))
+    ≡ option_or o (if t then unless_nop b else None)
 press_act true o b = refl
 press_act false o b = refl
 
 -- the step of the next lemma at a press, by the cell looked up
 remembered_press : (ms : Maps) (k j : ℕ) (h : List Event) (y : Cell) (o : Option Action)
     → o ≡ remembered k (resolved ms h)
-    → (if (j == k) && is_character y then None else first_of_two o (if j == k then offered y else None))
+    → (if (j == k) && is_character y then None else option_or o (if j == k then offered y else None))
     ≡ remembered k (resolve_press j y ∷ resolved ms h)
 remembered_press ms k j h (Char c) o r =
     rw r (press_char (j == k) (remembered k (resolved ms h)) ∙ sym (remembered-character k j c (resolved ms h)))
@@ -75,7 +76,7 @@ module _ {A B : Type 0} (ends : A → List A → Bool) (pick : A → List A → 
   -- the step of the next lemma, by whether the event ends
   nothing_by : (x : A) (h : List A) (t : Bool) (o p : Option B) → ends x h ≡ t → first_since_at ends pick h ≡ o
       → pick x h ≡ p → (first_since_at ends pick h ≡ None → NothingSince ends pick h)
-      → (if t then None else first_of_two o p) ≡ None → NothingSince ends pick (x ∷ h)
+      → (if t then None else option_or o p) ≡ None → NothingSince ends pick (x ∷ h)
   nothing_by x h true o p e f g rec is = ([], x ∷ h, refl, (tt, e), tt)
   nothing_by x h false (Some b) p e f g rec is = absurd (none_some b (sym is))
   nothing_by x h false None (Some b) e f g rec is = absurd (none_some b (sym is))
@@ -97,7 +98,7 @@ module _ {A B : Type 0} (ends : A → List A → Bool) (pick : A → List A → 
   -- the step of the next lemma, by whether the event ends
   first_by : (x : A) (h : List A) (b : B) (t : Bool) (o p : Option B) → ends x h ≡ t → first_since_at ends pick h ≡ o
       → pick x h ≡ p → ((c : B) → first_since_at ends pick h ≡ Some c → FirstSince ends pick h c)
-      → (if t then None else first_of_two o p) ≡ Some b → FirstSince ends pick (x ∷ h) b
+      → (if t then None else option_or o p) ≡ Some b → FirstSince ends pick (x ∷ h) b
   first_by x h b true o p e f g rec is = absurd (none_some b is)
   first_by x h b false (Some c) p e f g rec is =
       let s : FirstSince ends pick h b = rec b (f ∙ is) in (

@@ -26,7 +26,6 @@ use Rattle.console_core.specs.Columns.{look_with}
 use Rattle.console_core.specs.Resolved.{ResolvedEvent, held, locked, on, remembered, taken_over, is_this_action, look}
 use Rattle.console_core.specs.Resolved.{resolve, resolve_press}
 use Rattle.console_core.specs.Resolved.ResolvedEvent.{PressedCharacter, PressedAction, ReleasedKey, WasReset}
-use Rattle.console_core.specs.Reading.{is_some}
 use Rattle.console_core.specs.History.{Maps, between, in_force, loaded, resolved, is_on_after, pressed, HasKey, HasKeys}
 use Rattle.console_core.specs.History.{IsNoLoad, HasNoLoads}
 use Rattle.console_core.specs.Moves.{State, start, is_held, look_in, Holds, IsIdle, with_holder, with_lock_turned}
@@ -43,6 +42,7 @@ use Rattle.console_core.proofs.Borne.{taken-holding, resolved-looked}
 use Rattle.console_core.proofs.Bearing.{first_kept, remembered-cell, remembered-pressed}
 use Rattle.console_core.proofs.OneMap.{first_in_force}
 use mathlib.Core.Path.{fun_ext}
+use Rattle.std.specs.Option.{is_some}
 
 -- The state is that of the console: the same modifiers and locks are on, and each holder remembers its modifier.
 pub record Follows (r : List ResolvedEvent) (s : State) : Type 0 where

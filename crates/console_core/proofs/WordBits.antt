@@ -22,7 +22,8 @@ use Rattle.keymap_core.specs.declared.action.Modifier.TheVariants.{LeftAlt, Righ
 use Rattle.keymap_core.specs.declared.action.Lock.TheVariants.{Caps, Num, Scroll, Alt}
 use Rattle.keymap_core.specs.declared.action.Holding.TheVariants as holding
 use Rattle.console_core.proofs.Places.{modifier_index-lt}
-use Rattle.console_core.specs.Words.{bit_is_set, word_mark, word_lock, word_second, pending_field, mark_bit, lock_bit}
+use Rattle.console_core.specs.PackedWord.{bit_is_set, word_mark, word_lock, word_second, pending_field, mark_bit}
+use Rattle.console_core.specs.PackedWord.{lock_bit}
 
 -- the step of the next lemma, by whether it is the same bit
 set_by : (n k i : ℕ) (b : Bool) → k < 32 → eqb k i ≡ b

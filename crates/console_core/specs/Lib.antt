@@ -8,6 +8,7 @@ pub mod Inner
 pub mod Loads
 pub mod Moves
 pub mod Packed
+pub mod PackedWord
 pub mod Plain
 pub mod Positions
 pub mod Raw
@@ -15,4 +16,3 @@ pub mod Reading
 pub mod Resolved
 pub mod Sticking
 pub mod Traps
-pub mod Words

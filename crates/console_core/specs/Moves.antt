@@ -1,6 +1,7 @@
 -- What the search for sticking modifiers goes over: the states, and the moves between them. It mirrors
 -- src/held/moves.rt, and stands outside of Inner since the answer `Undecided` is said by states and paths.
 use Rattle.std.specs.Prelude.{◌≡◌, ℕ, ◌<◌, Bool, false, not, List, [], ◌∷◌, ◌++◌, Option, None, Some, if◌then◌else◌}
+use Rattle.std.specs.Option.{is_some}
 use Rattle.keymap_core.specs.declared.action.Modifier.{Modifier}
 use Rattle.keymap_core.specs.declared.action.Lock.{Lock}
 use Rattle.keymap_core.specs.declared.action.Action.TheVariants as act
@@ -14,7 +15,6 @@ use Rattle.console_core.specs.declared.event.Event.TheVariants.{Press, Release}
 use Rattle.console_core.specs.declared.held.Move.{Move}
 use Rattle.console_core.specs.declared.held.Move.TheVariants.{Hold, Turn, LetGo}
 use Rattle.console_core.specs.Columns.{look_with}
-use Rattle.console_core.specs.Reading.{is_some}
 
 -- A state: for each modifier the key that holds it on, if one does, and which locks are on.
 pub record State : Type 0 where

@@ -4,7 +4,7 @@ use Rattle.console_core.specs.declared.event.Event.{Event}
 use Rattle.console_core.specs.declared.word_store.WordStore.{WordStore}
 use Rattle.console_core.specs.Agrees.{StandsAt}
 use Rattle.console_core.specs.History.{Maps}
-use Rattle.console_core.specs.Words.{kept_in_word}
+use Rattle.console_core.specs.PackedWord.{kept_in_word}
 
 abbrev pub KeptAt : Maps → List Event → WordStore → Type 0
 KeptAt ms h s = StandsAt ms h (kept_in_word s.word s.codes)

@@ -1,6 +1,7 @@
 -- The notions of a history read on the events themselves, at a position (an event and the events before it).
 use Rattle.std.specs.Prelude.{◌≡◌, ◌≢◌, ℕ, ◌==◌, length, if◌then◌else◌, Bool, false, true, ◌&&◌, not, List, [], ◌∷◌}
 use Rattle.std.specs.Prelude.{◌++◌, Option, None, Some, ◌↔◌}
+use Rattle.std.specs.Option.{is_some}
 use Rattle.keymap_core.specs.declared.action.Action.{Action}
 use Rattle.keymap_core.specs.declared.action.Holding.{Holding}
 use Rattle.keymap_core.specs.declared.action.Holding.TheVariants as holding
@@ -74,10 +75,6 @@ SomeSince {A} starts ends h =
 abbrev pub IsSinceLast : {A : Type 0} → (A → List A → Bool) → List A → List A → Type 0
 IsSinceLast ends recent [] = NoneOf ends recent []
 IsSinceLast ends recent (x ∷ old) = NoneOf ends recent (x ∷ old) × (ends x old ≡ true)
-
-abbrev pub is_some : {B : Type 0} → Option B → Bool
-is_some None = false
-is_some (Some b) = true
 
 -- of the elements since the last one that passes `ends`, the first at which `pick` gives something gives b
 abbrev pub FirstSince : {A B : Type 0} → (A → List A → Bool) → (A → List A → Option B) → List A → B → Type 0

@@ -7,7 +7,7 @@ ghost use Rattle.keymap_core.specs.declared.action.Lock.{Lock as LockValue};
 ghost use Rattle.console_core.specs.declared.event.Event.{Event as EventValue};
 ghost use Rattle.console_core.specs.History.{Maps, answer_to, is_on_after, is_locked_after, accent_pending_after};
 ghost use Rattle.console_core.specs.Packed.{KeptAt};
-ghost use Rattle.console_core.specs.Words.{bit_is_set};
+ghost use Rattle.console_core.specs.PackedWord.{bit_is_set};
 
 use crate::event::{Answer, Event};
 use crate::machine::deliver;

@@ -3,8 +3,8 @@ ghost use Rattle.std.specs.Prelude.{◌≡◌, ◌≢◌, ◌<◌, ◌≤◌, fa
 ghost use Rattle.keymap_core.specs.Actions.{same_action};
 ghost use Rattle.keymap_core.specs.Numbers.{key_count, accent_limit};
 ghost use Rattle.console_core.specs.Agrees.{nothing_kept};
-ghost use Rattle.console_core.specs.Words.{kept_in_word, mark_bit as mark_bit_of, lock_bit as lock_bit_of};
-ghost use Rattle.console_core.specs.Words.{pending_from, pending_code as pending_code_of, action_of_byte};
+ghost use Rattle.console_core.specs.PackedWord.{kept_in_word, mark_bit as mark_bit_of, lock_bit as lock_bit_of};
+ghost use Rattle.console_core.specs.PackedWord.{pending_from, pending_code as pending_code_of, action_of_byte};
 
 use crate::store::Store;
 use keymap_core::laws::{every_action_has_its_code, every_code_is_read};

@@ -3,6 +3,7 @@ use Prim.Native.Nat.{zero, suc}
 use Rattle.std.proofs.Common.{◌≡◌, ◌≢◌, ℕ, ◌<◌, Bool, true, false, not, Option, Some, None, refl, ap, subst, sym, ◌∙◌}
 use Rattle.std.proofs.Common.{inl, inr, if◌then◌else◌, arith}
 use Rattle.std.proofs.lemmas.Bool.{cases_Bool, true≢false}
+use Rattle.std.specs.Option.{is_some, is_none}
 use Rattle.keymap_core.specs.declared.action.Modifier.TheVariants as modifier
 use Rattle.keymap_core.specs.declared.action.Lock.{Lock}
 use Rattle.keymap_core.specs.declared.action.Lock.TheVariants as lock
@@ -19,7 +20,7 @@ use Rattle.keymap_check.specs.declared.kind.Kind.TheVariants as kind
 use Rattle.keymap_check.specs.declared.bearer.Bearer.{Bearer}
 use Rattle.keymap_check.specs.declared.bearer.Bearer.TheVariants.{Nobody, Throughout, Sole, Several}
 use Rattle.keymap_check.specs.Cells.{first_place, cell_of, is_holding, is_character_or_nop}
-use Rattle.keymap_check.specs.Computed.{is_there, is_missing, bears_holding, bearer_by, bearer_with, next_bearer}
+use Rattle.keymap_check.specs.Computed.{bears_holding, bearer_by, bearer_with, next_bearer}
 use Rattle.keymap_check.specs.Computed.{bearer_below}
 use Rattle.keymap_check.specs.Computed.{bearer_of, is_steady_by}
 use Rattle.keymap_check.specs.Report.{IsBearer, ReportValue, bearer_in, is_plain_bearer, picks_a_cell, HasPlainBearers}
@@ -31,7 +32,7 @@ use Rattle.keymap_check.proofs.Counting.{below-suc}
 
 -- a key bears an action exactly if the test says so
 bears_by : (m : MapValue) (k : ℕ) (a : Holding) (o : Option ℕ) → first_place m (kind.Holding a) k ≡ o
-    → is_there o ≡ true → Bears m k a
+    → is_some o ≡ true → Bears m k a
 bears_by m k a None e t = absurd (true≢false (sym t))
 bears_by m k a (Some p) e t =
     let s : IsCellOf m k (cell_of m k p) × (is_holding a (cell_of m k p) ≡ true) =
@@ -44,7 +45,7 @@ bears-true m k a e = bears_by m k a (first_place m (kind.Holding a) k) refl e
 
 -- where a key bears the holding action, a cell of it is found
 borne_by : (m : MapValue) (k : ℕ) (a : Holding) (o : Option ℕ) → first_place m (kind.Holding a) k ≡ o → Bears m k a
-    → is_there o ≡ true
+    → is_some o ≡ true
 borne_by m k a None e b =
     absurd (true≢false (sym (is_holding-refl a) ∙ no_place-cell m (kind.Holding a) k e (Act (holding_action a)) b))
 borne_by m k a (Some p) e b = refl
@@ -162,14 +163,14 @@ pub bearers_are_computed : BearersAreComputed
 bearers_are_computed m a = bearer-of m a (bearer_of m a) (found m a 128)
 
 -- a lock is steady exactly if the test says so
-missing_by : (m : MapValue) (k : ℕ) (o : Option ℕ) → first_place m kind.CharacterOrNop k ≡ o → is_missing o ≡ true
+missing_by : (m : MapValue) (k : ℕ) (o : Option ℕ) → first_place m kind.CharacterOrNop k ≡ o → is_none o ≡ true
     → (x : Cell) → IsCellOf m k x → IsActing x
 missing_by m k None e t x is = not_acting x (no_place-cell m kind.CharacterOrNop k e x is)
 missing_by m k (Some p) e t x is = absurd (true≢false (sym t))
 
 -- where each cell of a key acts, no character and no nop is found
 acting_by : (m : MapValue) (k : ℕ) (o : Option ℕ) → first_place m kind.CharacterOrNop k ≡ o
-    → ((x : Cell) → IsCellOf m k x → IsActing x) → is_missing o ≡ true
+    → ((x : Cell) → IsCellOf m k x → IsActing x) → is_none o ≡ true
 acting_by m k None e f = refl
 acting_by m k (Some p) e f =
     let s : IsCellOf m k (cell_of m k p) × (is_character_or_nop (cell_of m k p) ≡ true) =
@@ -178,7 +179,7 @@ acting_by m k (Some p) e f =
 
 -- a single bearer is steady exactly if no character and no nop is found on it
 steady_single : (m : MapValue) (k : ℕ) (o : Option ℕ)
-    → is_steady_by m (bearer_by k o) ≡ is_missing (first_place m kind.CharacterOrNop k)
+    → is_steady_by m (bearer_by k o) ≡ is_none (first_place m kind.CharacterOrNop k)
 steady_single m k None = refl
 steady_single m k (Some p) = refl
 

@@ -11,6 +11,7 @@ use Rattle.std.proofs.lemmas.Nat.{and_or_apart, and_comm}
 use Rattle.std.specs.Int.Bits.{and_zero_l}
 use Rattle.std.proofs.lemmas.Nat.Bits.{bit_at_and, bit_at_or, bit_at_xor, bit_at-pow_same, bit_at-pow_other, bit_at-lt}
 use Rattle.std.proofs.lemmas.Nat.Bits.{bit_at-zero, bit_at_ones, and_pow}
+use Rattle.std.specs.Option.{option_or, is_some}
 use Rattle.keymap_core.specs.declared.action.Action.TheVariants as act
 use Rattle.keymap_core.specs.declared.action.Modifier.{Modifier}
 use Rattle.keymap_core.specs.declared.action.Modifier.TheVariants.{LeftShift, RightShift, LeftControl, RightControl}
@@ -26,11 +27,9 @@ use Rattle.keymap_core.specs.Maps.{MapValue}
 use Rattle.keymap_check.specs.declared.kind.Group.TheVariants as group
 use Rattle.keymap_check.specs.declared.kind.Kind.{Kind}
 use Rattle.keymap_check.specs.declared.kind.Kind.TheVariants as kind
-use Rattle.console_core.specs.Positions.{first_of_two}
 use Rattle.keymap_check.specs.Below.{first_below}
 use Rattle.keymap_check.specs.Cells.{is_of_kind, is_holding, is_of_group, cell_of, first_place, place_count}
 use Rattle.keymap_check.specs.Inner.CellBits.{cell_bit, is_set, bits_below, bits_of, mask_of}
-use Rattle.keymap_check.specs.Computed.{is_there}
 
 -- one bit of a power of two
 pow_by : (k i : ℕ) (b : Bool) → eqb i k ≡ b → is_set (2 ^ k) i ≡ b
@@ -207,14 +206,14 @@ meets-more n mask i = meets_by n mask i (is_set mask i) refl
 
 -- a first is found with one more number, or was before
 there-more : (o : Option ℕ) (n : ℕ) (t : Bool)
-    → is_there (first_of_two o (if t then Some n else None)) ≡ (is_there o || t)
+    → is_some (option_or o (if t then Some n else None)) ≡ (is_some o || t)
 there-more None n true = refl
 there-more None n false = refl
 there-more (Some i) n t = refl
 
 -- the bits of a key's cells tell whether a cell of a kind is among them
 tell_below : (m : MapValue) (k : ℕ) (x : Kind) (n : ℕ)
-    → meets (bits_below m k n) (mask_of x) ≡ is_there (first_below (λ p. is_of_kind x (cell_of m k p)) n)
+    → meets (bits_below m k n) (mask_of x) ≡ is_some (first_below (λ p. is_of_kind x (cell_of m k p)) n)
 unfolding bits_below first_below
 tell_below m k x zero = ap (λ z. not (eqb z 0)) (and_zero_l (mask_of x))
 tell_below m k x (suc n) =
@@ -224,7 +223,7 @@ tell_below m k x (suc n) =
 
 -- the bits of a key tell whether it has a cell of the kind
 pub bits_tell : (m : MapValue) (k : ℕ) (x : Kind)
-    → not (eqb (bit_and (bits_of m k) (mask_of x)) 0) ≡ is_there (first_place m x k)
+    → not (eqb (bit_and (bits_of m k) (mask_of x)) 0) ≡ is_some (first_place m x k)
 unfolding first_place
 bits_tell m k x = tell_below m k x (place_count m)
 

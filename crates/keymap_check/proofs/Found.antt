@@ -1,16 +1,17 @@
 -- Which keys have a finding.
 use Rattle.std.proofs.Common.{◌≡◌, ℕ, Bool, ◌&&◌, Option, Some, None, refl}
+use Rattle.std.specs.Option.{is_some}
 use Rattle.keymap_core.specs.Maps.{MapValue}
 use Rattle.keymap_check.specs.declared.kind.Kind.TheVariants as kind
 use Rattle.keymap_check.specs.Cells.{first_place, cell_of}
-use Rattle.keymap_check.specs.Computed.{is_there, finding_by, findings_at}
+use Rattle.keymap_check.specs.Computed.{finding_by, findings_at}
 use Rattle.keymap_check.specs.Scripts.{has_some}
 use Rattle.keymap_check.proofs.Places.{first_place-cell}
 use Rattle.keymap_check.proofs.Same.{IsHeldBy, holding-cell}
 
 -- a key has a finding exactly if both places are found
 found_by : (m : MapValue) (k : ℕ) (p q : Option ℕ) → first_place m kind.AnyHolding k ≡ p
-    → has_some (finding_by m k p q) ≡ (is_there p && is_there q)
+    → has_some (finding_by m k p q) ≡ (is_some p && is_some q)
 found_by m k None q e = refl
 found_by m k (Some p) None e = refl
 found_by m k (Some p) (Some q) e =
@@ -20,5 +21,5 @@ found_by m k (Some p) (Some q) e =
 -- a key has a finding if it has a holding action and a character
 pub found : (m : MapValue) (k : ℕ)
     → has_some (findings_at m k)
-    ≡ (is_there (first_place m kind.AnyHolding k) && is_there (first_place m kind.Character k))
+    ≡ (is_some (first_place m kind.AnyHolding k) && is_some (first_place m kind.Character k))
 found m k = found_by m k (first_place m kind.AnyHolding k) (first_place m kind.Character k) refl

@@ -3,6 +3,7 @@ use Rattle.std.proofs.Common.{◌≡◌, ◌≢◌, ℕ, ◌<◌, Bool, true, fa
 use Rattle.std.proofs.Common.{ap, subst, sym, ◌∙◌, inl, inr, lit<, if◌then◌else◌}
 use Rattle.std.specs.Prelude.{◌==◌, reverse, find}
 use Rattle.std.proofs.lemmas.Bool.{true≢false, eq-eqb, eqb-true, and_parts}
+use Rattle.std.specs.Option.{is_some}
 use Rattle.keymap_core.specs.declared.action.Action.TheVariants as act
 use Rattle.keymap_core.specs.declared.action.Lock.{Lock}
 use Rattle.keymap_core.specs.declared.action.Lock.TheVariants as lock
@@ -30,7 +31,7 @@ use Rattle.keymap_check.specs.declared.kind.Kind.TheVariants as kind
 use Rattle.keymap_check.specs.declared.finding.Finding.{Finding}
 use Rattle.keymap_check.specs.Below.{any_below, gathered}
 use Rattle.keymap_check.specs.Cells.{first_place, cell_of, is_of_group, is_group_cell}
-use Rattle.keymap_check.specs.Computed.{findings_at, is_there}
+use Rattle.keymap_check.specs.Computed.{findings_at}
 use Rattle.keymap_check.specs.Scripts.{group_at, is_bit_key, bit_key, bit_keys, script, lacks_key, scripts_of}
 use Rattle.keymap_check.specs.Scripts.{scripts_with, scripts_for, tried_at, has_some, is_some_on, leaves_modifier_on}
 use Rattle.keymap_check.specs.Scripts.{demonstration_of}
@@ -341,7 +342,7 @@ not_eq false e = refl
 
 -- the second key bears a modifier of the group, by the place that is found
 further_by : (m : MapValue) (k : ℕ) (g : Group) (j : ℕ) (o : Option ℕ) → (j == k) ≡ false → IsOneAction m j
-    → first_place m (kind.Of g) j ≡ o → is_there o ≡ true → IsFurther m k g j
+    → first_place m (kind.Of g) j ≡ o → is_some o ≡ true → IsFurther m k g j
 further_by m k g j None ne one e t = absurd (true≢false (sym t))
 further_by m k g j (Some p) ne one e t =
     let s : IsCellOf m j (cell_of m j p) × (is_group_cell g (cell_of m j p) ≡ true) =
@@ -359,10 +360,10 @@ further m k g j e one =
     let s : (j < 128) × (is_bit_key m k (bit_of_group g) j ≡ true)
     × ((i : ℕ) → i < j → is_bit_key m k (bit_of_group g) i ≡ false) =
     first_below-some (is_bit_key m k (bit_of_group g)) 128 j e in
-    let t : (not (j == k) ≡ true) × (is_there (first_place m (kind.Of (group_at (bit_of_group g))) j) ≡ true) =
+    let t : (not (j == k) ≡ true) × (is_some (first_place m (kind.Of (group_at (bit_of_group g))) j) ≡ true) =
     and_parts _ _ s.1 in
-    let there : is_there (first_place m (kind.Of g) j) ≡ true =
-    subst (λ x. is_there (first_place m (kind.Of x) j) ≡ true) (group-bit g) t.1 in
+    let there : is_some (first_place m (kind.Of g) j) ≡ true =
+    subst (λ x. is_some (first_place m (kind.Of x) j) ≡ true) (group-bit g) t.1 in
     further_by m k g j (first_place m (kind.Of g) j) (not_eq (j == k) t.0) one refl there
 
 pub not_same : (b : Bool) → (b ≡ true → ⊥) → b ≡ false

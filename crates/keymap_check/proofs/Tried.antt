@@ -2,6 +2,7 @@
 use Rattle.std.proofs.Common.{◌≡◌, ◌≢◌, ℕ, true, false, not, Option, Some, None, refl, subst, sym, ◌∙◌}
 use Rattle.std.specs.Prelude.{◌==◌}
 use Rattle.std.proofs.lemmas.Bool.{true≢false, eq-eqb, eqb-true, and_parts}
+use Rattle.std.specs.Option.{is_some}
 use Rattle.keymap_core.specs.declared.action.Action.TheVariants as act
 use Rattle.keymap_core.specs.declared.action.Modifier.{Modifier}
 use Rattle.keymap_core.specs.declared.action.Modifier.TheVariants.{LeftShift, RightShift, LeftControl, RightControl}
@@ -14,7 +15,7 @@ use Rattle.keymap_check.specs.declared.kind.Group.TheVariants as group
 use Rattle.keymap_check.specs.declared.kind.Kind.TheVariants as kind
 use Rattle.keymap_check.specs.Below.{first_below}
 use Rattle.keymap_check.specs.Cells.{first_place, cell_of, is_of_group, is_group_cell, is_any_holding, is_character}
-use Rattle.keymap_check.specs.Computed.{findings_at, finding_by, is_there}
+use Rattle.keymap_check.specs.Computed.{findings_at, finding_by}
 use Rattle.keymap_check.specs.Findings.{IsUnsafeKey}
 use Rattle.keymap_check.specs.Scripts.{group_at, is_bit_key, bit_key, has_some}
 use Rattle.keymap_check.specs.Shown.{group_of, bit_of_group}
@@ -37,7 +38,7 @@ group-of group.AltShift AltShift e = refl
 group-of g y e = cc
 
 -- a key with a place of the group bears it
-bears_by : (m : MapValue) (g : Group) (j : ℕ) (o : Option ℕ) → first_place m (kind.Of g) j ≡ o → is_there o ≡ true
+bears_by : (m : MapValue) (g : Group) (j : ℕ) (o : Option ℕ) → first_place m (kind.Of g) j ≡ o → is_some o ≡ true
     → BearsGroup m j g
 bears_by m g j None e t = absurd (true≢false (sym t))
 bears_by m g j (Some p) e t =
@@ -49,7 +50,7 @@ bears_by m g j (Some p) e t =
 
 -- a key that bears the group has a place of it
 there_by : (m : MapValue) (g : Group) (j : ℕ) (o : Option ℕ) → first_place m (kind.Of g) j ≡ o → BearsGroup m j g
-    → is_there o ≡ true
+    → is_some o ≡ true
 there_by m g j None e b =
     absurd (true≢false (sym (group-of g b.0 b.1) ∙ no_place-cell m (kind.Of g) j e (Act (act.Mod b.0)) b.2))
 there_by m g j (Some p) e b = refl
@@ -58,8 +59,8 @@ there_by m g j (Some p) e b = refl
 bit_key-true : (m : MapValue) (k : ℕ) (g : Group) (i : ℕ) → i ≢ k → BearsGroup m i g
     → is_bit_key m k (bit_of_group g) i ≡ true
 bit_key-true m k g i ne b =
-    let t : is_there (first_place m (kind.Of (group_at (bit_of_group g))) i) ≡ true =
-    subst (λ x. is_there (first_place m (kind.Of x) i) ≡ true) (sym (group-bit g))
+    let t : is_some (first_place m (kind.Of (group_at (bit_of_group g))) i) ≡ true =
+    subst (λ x. is_some (first_place m (kind.Of x) i) ≡ true) (sym (group-bit g))
     (there_by m g i (first_place m (kind.Of g) i) refl b) in
     let n : (i == k) ≡ false = not_same (i == k) (λ q. ne (eqb-true i k q)) in
     rw (n, t) refl
@@ -77,10 +78,10 @@ least_by m k g None e = λ j lt. no_bit_key m k g j (first_below-no (is_bit_key 
 least_by m k g (Some j) e =
     let s : IsFirstBelow (is_bit_key m k (bit_of_group g)) 128 j = first_below-some
     (is_bit_key m k (bit_of_group g)) 128 j e in
-    let t : (not (j == k) ≡ true) × (is_there (first_place m (kind.Of (group_at (bit_of_group g))) j) ≡ true) =
+    let t : (not (j == k) ≡ true) × (is_some (first_place m (kind.Of (group_at (bit_of_group g))) j) ≡ true) =
     and_parts _ _ s.1 in
-    let there : is_there (first_place m (kind.Of g) j) ≡ true =
-    subst (λ x. is_there (first_place m (kind.Of x) j) ≡ true) (group-bit g) t.1 in (
+    let there : is_some (first_place m (kind.Of g) j) ≡ true =
+    subst (λ x. is_some (first_place m (kind.Of x) j) ≡ true) (group-bit g) t.1 in (
       s.0,
       (λ q. true≢false (sym (eq-eqb j k q) ∙ not_eq (j == k) t.0)),
       bears_by m g j (first_place m (kind.Of g) j) refl there,

@@ -1,13 +1,13 @@
 -- The numbers below a bound: the first that passes a test, and lists gathered from all.
 use Prim.Native.Nat.{zero, suc}
 use Rattle.std.specs.Prelude.{ℕ, Bool, List, [], ◌++◌, Option, None, Some, if◌then◌else◌}
-use Rattle.console_core.specs.Positions.{first_of_two}
+use Rattle.std.specs.Option.{option_or}
 unfoldable pub use Rattle.keymap_core.specs.Borne.{any_below}
 
 -- the least number below n that passes the test
 unfoldable pub first_below : (ℕ → Bool) → ℕ → Option ℕ
 first_below test zero = None
-first_below test (suc n) = first_of_two (first_below test n) (if test n then Some n else None)
+first_below test (suc n) = option_or (first_below test n) (if test n then Some n else None)
 
 -- the lists of the numbers below n, in their order
 unfoldable pub gathered : {A : Type 0} → (ℕ → List A) → ℕ → List A

@@ -1,6 +1,7 @@
 -- What the check reports, as a computation.
 use Prim.Native.Nat.{zero, suc}
 use Rattle.std.specs.Prelude.{ℕ, Bool, false, true, List, [], ◌∷◌, Option, None, Some, if◌then◌else◌}
+use Rattle.std.specs.Option.{is_some, is_none}
 use Rattle.keymap_core.specs.declared.action.Lock.{Lock}
 use Rattle.keymap_core.specs.declared.action.Holding.{Holding}
 use Rattle.keymap_core.specs.declared.action.Holding.TheVariants as holding
@@ -16,16 +17,8 @@ use Rattle.keymap_check.specs.declared.finding.Finding.{Finding}
 use Rattle.keymap_check.specs.Below.{gathered}
 use Rattle.keymap_check.specs.Cells.{cell_of, first_place, place_at}
 
-abbrev pub is_there : Option ℕ → Bool
-is_there None = false
-is_there (Some p) = true
-
-abbrev pub is_missing : Option ℕ → Bool
-is_missing None = true
-is_missing (Some p) = false
-
 abbrev pub bears_holding : MapValue → ℕ → Holding → Bool
-bears_holding m k a = is_there (first_place m (kind.Holding a) k)
+bears_holding m k a = is_some (first_place m (kind.Holding a) k)
 
 -- the bearer of the action if no key but k bears it
 abbrev pub bearer_by : ℕ → Option ℕ → Bearer
@@ -50,7 +43,7 @@ bearer_of m a = bearer_below m a key_count
 
 -- all cells of the key are actions other than nop
 abbrev pub steady_by : MapValue → ℕ → Bool
-steady_by m k = is_missing (first_place m kind.CharacterOrNop k)
+steady_by m k = is_none (first_place m kind.CharacterOrNop k)
 
 abbrev pub is_steady_by : MapValue → Bearer → Bool
 is_steady_by m Nobody = false

@@ -1,6 +1,7 @@
 -- The scripts that a demonstration tries, as events in the order of delivery.
 use Rattle.std.specs.Prelude.{ℕ, ◌/◌, ◌%◌, ◌^◌, ◌==◌, Bool, true, false, ◌&&◌, ◌||◌, not, List, [], ◌∷◌, ◌++◌, Option}
 use Rattle.std.specs.Prelude.{None, Some, if◌then◌else◌, reverse, slice_index_or, find}
+use Rattle.std.specs.Option.{is_some, is_none}
 use Rattle.keymap_core.specs.declared.action.Modifier.TheVariants.{LeftShift, RightShift, LeftControl, RightControl}
 use Rattle.keymap_core.specs.declared.action.Modifier.TheVariants.{LeftAlt, RightAlt, AltShift, Meta}
 use Rattle.keymap_core.specs.Maps.{MapValue}
@@ -14,7 +15,7 @@ use Rattle.keymap_check.specs.declared.kind.Kind.TheVariants as kind
 use Rattle.keymap_check.specs.declared.finding.Finding.{Finding}
 use Rattle.keymap_check.specs.Below.{first_below, any_below, gathered}
 use Rattle.keymap_check.specs.Cells.{first_place}
-use Rattle.keymap_check.specs.Computed.{is_there, is_missing, findings_at}
+use Rattle.keymap_check.specs.Computed.{findings_at}
 
 -- bit 0 is shift, bit 1 control, bit 2 alt, bit 3 ashift
 abbrev pub group_at : ℕ → Group
@@ -26,7 +27,7 @@ abbrev pub has_bit : ℕ → ℕ → Bool
 has_bit set bit = ((set / 2 ^ bit) % 2) == 1
 
 abbrev pub is_bit_key : MapValue → ℕ → ℕ → ℕ → Bool
-is_bit_key m k bit j = not (j == k) && is_there (first_place m (kind.Of (group_at bit)) j)
+is_bit_key m k bit j = not (j == k) && is_some (first_place m (kind.Of (group_at bit)) j)
 
 -- the key of a bit: the least one, other than the tried key k, that bears an action of its group
 unfoldable pub bit_key : MapValue → ℕ → ℕ → Option ℕ
@@ -69,7 +70,7 @@ script keys k a b =
 
 -- the sets name the bit, and it has no key
 abbrev pub is_lacking : List (Option ℕ) → ℕ → ℕ → ℕ → Bool
-is_lacking keys a b bit = (has_bit a bit || has_bit b bit) && is_missing (bit_key_at keys bit)
+is_lacking keys a b bit = (has_bit a bit || has_bit b bit) && is_none (bit_key_at keys bit)
 
 unfoldable pub lacks_key : List (Option ℕ) → ℕ → ℕ → Bool
 lacks_key keys a b = any_below (is_lacking keys a b) 4

@@ -1,9 +1,9 @@
 //! A keymap whose cells were gone over once: which sorts of cells each key has.
 ghost use Rattle.std.specs.Prelude.{◌≡◌, ◌^◌, ◌<◌, ◌≤◌, IfSome};
+ghost use Rattle.std.specs.Option.{is_some};
 ghost use Rattle.keymap_check.specs.Cells.{place_count as place_count_of, cell_of as cell_of_key};
 ghost use Rattle.keymap_check.specs.Cells.{first_place as first_place_of};
 ghost use Rattle.keymap_check.specs.Inner.CellBits.{cell_bit, bits_of};
-ghost use Rattle.keymap_check.specs.Computed.{is_there};
 ghost use Rattle.keymap_core.specs.Numbers.{key_count};
 
 use crate::cells::{cell_of, first_place, place_count};
@@ -83,7 +83,7 @@ impl<'m> Survey<'m> {
     /// Whether the key has a cell of the kind.
     pub(crate) fn has(&self, key: u8, kind: Kind) -> bool
         requires { key < key_count }
-        ensures { result ≡ is_there (first_place_of self.now kind key) }
+        ensures { result ≡ is_some (first_place_of self.now kind key) }
     {
         self.bits[key as usize] & kind.mask() != 0
     }

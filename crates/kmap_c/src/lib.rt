@@ -19,7 +19,7 @@ ghost use Rattle.console_core.specs.History.{Maps, between, answer_to, answers_t
 ghost use Rattle.console_core.specs.History.{accent_pending_after};
 ghost use Rattle.console_core.specs.Packed.{KeptAt};
 ghost use Rattle.console_core.specs.Raw.{raw_of};
-ghost use Rattle.console_core.specs.Words.{bit_is_set};
+ghost use Rattle.console_core.specs.PackedWord.{bit_is_set};
 ghost use Rattle.console_core.specs.declared.event.Event.{Event as EventValue};
 ghost use Rattle.kmap_c.specs.Numbers.{event_of as event_of_number, are_events as are_events_of, status_of};
 ghost use Rattle.kmap_c.specs.Numbers.{kind_number, accent_number};

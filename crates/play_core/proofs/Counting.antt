@@ -5,8 +5,8 @@ use Rattle.std.proofs.Common.{Option, Some, None, refl, ap, subst, sym, ◌∙�
 use Rattle.std.proofs.Common.{add-one}
 use Rattle.std.specs.Prelude.{◌==◌}
 use Rattle.std.proofs.lemmas.Bool.{cases_Bool, true≢false, eqb-true, eq-eqb}
+use Rattle.std.specs.Option.{option_or}
 use Rattle.play_core.specs.HeldKeys.{first_below, gathered}
-use Rattle.console_core.specs.Positions.{first_of_two}
 
 -- no number is below 0
 pub first_below-none : (test : ℕ → Bool) → first_below test 0 ≡ None
@@ -80,7 +80,7 @@ one_more test n f e j lt =
 
 -- the step of the next lemma, by the first below n and the test of n
 mutual-none : (test : ℕ → Bool) (n : ℕ) (o : Option ℕ) (t : Bool) → first_below test n ≡ o → test n ≡ t
-    → (o ≡ None → NoneBelow test n) → first_of_two o (if t then Some n else None) ≡ None → NoneBelow test (suc n)
+    → (o ≡ None → NoneBelow test n) → option_or o (if t then Some n else None) ≡ None → NoneBelow test (suc n)
 mutual-none test n None true e f g h = absurd (none_some n (sym h))
 mutual-none test n None false e f g h = one_more test n (g refl) f
 mutual-none test n (Some i) t e f g h = absurd (none_some i (sym h))
@@ -93,7 +93,7 @@ first_below-no test (suc n) e = mutual-none test n (first_below test n) (test n)
 
 -- the step of the next lemma, by the first below n and the test of n
 first-some : (test : ℕ → Bool) (n i : ℕ) (o : Option ℕ) (t : Bool) → (o ≡ None → NoneBelow test n)
-    → (o ≡ Some i → IsFirstBelow test n i) → test n ≡ t → first_of_two o (if t then Some n else None) ≡ Some i
+    → (o ≡ Some i → IsFirstBelow test n i) → test n ≡ t → option_or o (if t then Some n else None) ≡ Some i
     → IsFirstBelow test (suc n) i
 first-some test n i None true g f e h =
     let s : n ≡ i = some_some n i h in

@@ -11,13 +11,12 @@ use Rattle.keymap_core.specs.Borne.{has_in_slot, is_upper_live}
 use Rattle.keymap_core.specs.Numbers.{key_count}
 use Rattle.console_core.specs.declared.event.Event.{Event}
 use Rattle.console_core.specs.declared.event.Event.TheVariants.{Press, Release}
-use Rattle.console_core.specs.Positions.{first_of_two}
-use Rattle.std.specs.Option.{is_some}
+use Rattle.std.specs.Option.{is_some, option_or}
 
 -- the least number below n that passes the test
 unfoldable pub first_below : (ℕ → Bool) → ℕ → Option ℕ
 first_below test zero = None
-first_below test (suc n) = first_of_two (first_below test n) (if test n then Some n else None)
+first_below test (suc n) = option_or (first_below test n) (if test n then Some n else None)
 
 -- the lists of the numbers below n, in their order
 unfoldable pub gathered : {A : Type 0} → (ℕ → List A) → ℕ → List A

@@ -2,6 +2,7 @@
 -- `Store` of src/store.rt, `next_pending` and `pending_after_dead_key` of src/rules.rt, and the steps of
 -- src/machine.rt.
 use Rattle.std.specs.Prelude.{ℕ, ◌==◌, Bool, false, not, Option, None, Some, ◌&&◌, ◌||◌, if◌then◌else◌}
+use Rattle.std.specs.Option.{option_or}
 use Rattle.keymap_core.specs.declared.action.Action.{Action}
 use Rattle.keymap_core.specs.declared.action.Holding.{Holding}
 use Rattle.keymap_core.specs.declared.action.Holding.TheVariants as holding
@@ -9,7 +10,6 @@ use Rattle.keymap_core.specs.declared.action.Lock.{Lock}
 use Rattle.keymap_core.specs.Actions.{same_lock, same_action, holding_index, holding_action}
 use Rattle.keymap_core.specs.Borne.{is_borne}
 use Rattle.keymap_core.specs.Maps.{MapValue}
-use Rattle.console_core.specs.Positions.{first_of_two}
 use Rattle.console_core.specs.Agrees.{Kept}
 use Rattle.console_core.specs.Answers.{is_pending}
 use Rattle.console_core.specs.Resolved.{unless_nop, taken_over, is_this_action, keeps_taken, usable_dead_key}
@@ -41,7 +41,7 @@ exchanged k = record k { is_second = not k.is_second }
 -- the action is remembered for the key, where none was and it isn't nop
 abbrev pub with_offered : ℕ → Action → Kept → Kept
 with_offered key action k =
-    record k { memory = λ j. first_of_two (k.memory j) (if key == j then unless_nop action else None) }
+    record k { memory = λ j. option_or (k.memory j) (if key == j then unless_nop action else None) }
 
 -- the lock that the action is, if it is one, is turned where it isn't down
 abbrev pub with_lock_taken : Action → Kept → Kept

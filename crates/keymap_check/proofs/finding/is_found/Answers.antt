@@ -1,7 +1,7 @@
 use Rattle.std.proofs.Common.{◌&&◌, ap, sym, ◌∙◌}
+use Rattle.std.specs.Option.{is_some}
 use Rattle.keymap_check.specs.declared.kind.Kind.TheVariants as kind
 use Rattle.keymap_check.specs.Cells.{first_place}
-use Rattle.keymap_check.specs.Computed.{is_there}
 use Rattle.keymap_check.proofs.Found.{found}
 use Rattle.keymap_check.proofs.finding.is_found.Goals as goal
 
@@ -10,6 +10,6 @@ returns-then-has c =
     c.has-then-has.ensures
     ∙ sym (
     found c.args.survey.now c.args.key
-    ∙ ap (λ b. b && is_there (first_place c.args.survey.now kind.Character c.args.key))
+    ∙ ap (λ b. b && is_some (first_place c.args.survey.now kind.Character c.args.key))
     (sym c.has.ensures ∙ c.if-has.true)
     )

@@ -50,7 +50,6 @@ impl Entry {
         ensures eight { length result.now ≡ column_count }
     {
         let cells = &self.cells;
-        // For the prover alone: to go over an array tells how many elements it has. Nothing is left of it when built.
         for cell in cells {
             let _ = cell;
         }

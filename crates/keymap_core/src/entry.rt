@@ -49,11 +49,7 @@ impl Entry {
         ensures cells { result.now ≡ self.now.cells }
         ensures eight { length result.now ≡ column_count }
     {
-        let cells = &self.cells;
-        for cell in cells {
-            let _ = cell;
-        }
-        cells
+        &self.cells
     }
 
     /// For the prover alone, as `has_bounds` of a cell, an accent and a map are: to read a value tells the bounds of

@@ -34,7 +34,7 @@ all:
 
 # `rt ci` builds both programs anew, and the scripts take what it leaves. It proves the C library and leaves none.
 check:
-	$(RT) ci
+	RT_JOBS="$${RT_JOBS:-$$(sh .ci/jobs)}" $(RT) ci
 	cd crates/kmap_c && $(RT) lib > /dev/null
 	sh tests/statements.sh
 	sh tests/program.sh $(PROGRAM)

@@ -79,10 +79,17 @@ refuses play-typed
 refuses play_next-lines
 refuses play_next-typed
 refuses Ways::of
+refuses check_run
+refuses check_run-shown
+refuses search_run-never
+refuses search_run-sticks
+refuses dump_run
+refuses dump_narrow_run
 # A vector that is refused room to grow asks for what it needs now, so a single refusal may have no effect.
 rest=REFUSE_REST=1
 refuses characters
 refuses characters-untyped fault
+refuses type_run
 rest=
 takes_none characters-not-text fault
 

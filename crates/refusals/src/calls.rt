@@ -1,6 +1,7 @@
 //! The calls, each on inputs that are made before.
 use crate::devices::{Counting, reader_of};
 use crate::outcome::{Answer, Outcome};
+use crate::runs;
 use console_core::{Event, PlainConsole, Sticking, Translator, WordConsole, replay, sticking};
 use keymap_core::{
     KeyCode, KeyMap, Lock, Modifier, ReadError, ToStd, Write, read_up_to, write_text,
@@ -14,7 +15,7 @@ use play_core::{PlayError, ScriptError, Show, TypeError, Ways, play, play_next, 
 use std::alloc::{AllocError, Global};
 
 /// Letters, a shift, a lock and a dead key with its accent.
-const TEXT: &[u8] = b"018 'e' 'E' nop nop 'e' 'E' nop nop C
+pub(crate) const TEXT: &[u8] = b"018 'e' 'E' nop nop 'e' 'E' nop nop C
 026 dacu dacu dacu dacu dacu dacu dacu dacu O
 030 'a' 'A' nop nop 'a' 'A' nop nop C
 042 lshift lshift lshift lshift lshift lshift lshift lshift O
@@ -23,7 +24,7 @@ dacu 180 ( 'e' 0xe9 )
 ";
 
 /// A shift that is a character where control is on.
-const TRAP: &[u8] = b"029 lctrl lctrl lctrl lctrl lctrl lctrl lctrl lctrl O
+pub(crate) const TRAP: &[u8] = b"029 lctrl lctrl lctrl lctrl lctrl lctrl lctrl lctrl O
 042 lshift lshift 'x' 'x' lshift lshift lshift lshift O
 ";
 
@@ -76,13 +77,20 @@ pub(crate) fn outcome_of<W: Write>(
         "characters" => types(alloc, SENTENCE, marks)?,
         "characters-untyped" => types(alloc, UNTYPED, marks)?,
         "characters-not-text" => types(alloc, NOT_TEXT, marks)?,
+        "check_run" => runs::checks(alloc, TEXT, false, marks),
+        "check_run-shown" => runs::checks(alloc, TRAP, true, marks),
+        "search_run-never" => runs::searches(alloc, TEXT, marks),
+        "search_run-sticks" => runs::searches(alloc, TRAP, marks),
+        "dump_run" => runs::dumps(alloc, tables(alloc)?.as_slice(), marks),
+        "dump_narrow_run" => runs::dumps_narrowly(alloc, narrow(alloc)?.as_slice(), marks),
+        "type_run" => runs::types(alloc, SENTENCE, marks),
         _ => return Ok(None),
     };
     Ok(Some(outcome))
 }
 
 /// The answer of a call that came to an end, if it is the right one.
-fn done(is_right: bool) -> Answer {
+pub(crate) fn done(is_right: bool) -> Answer {
     if is_right {
         Answer::Done
     } else {
@@ -91,7 +99,7 @@ fn done(is_right: bool) -> Answer {
 }
 
 /// Tells that the call begins, or that it has ended.
-fn mark<W: Write>(marks: &mut W) {
+pub(crate) fn mark<W: Write>(marks: &mut W) {
     let _ = write_text(marks, b"call\n");
 }
 

@@ -9,6 +9,7 @@
 mod calls;
 mod devices;
 mod outcome;
+mod runs;
 
 use keymap_core::ToStd;
 use std::{env, io};

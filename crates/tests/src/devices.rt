@@ -5,12 +5,10 @@ ghost use Rattle.std.specs.Prelude.{None};
 use arrayvec::ArrayVec;
 use keymap_core::{Failed, Read, Write};
 
-/// A reader that gives a text and then one byte over and over, and fails after so many bytes.
+/// A reader that gives a text and then blanks, and fails after so many bytes.
 #[derive(Drop)]
 pub struct Tape<'a> {
     text: &'a [u8],
-    /// What comes after the text.
-    filler: u8,
     /// How many bytes there are.
     size: usize,
     /// How many bytes it gives at a time.
@@ -24,28 +22,22 @@ pub struct Tape<'a> {
 
 /// A reader of the text, so many bytes at a time, that fails after so many.
 pub(crate) fn reader_of(text: &[u8], pace: usize, most: usize) -> Tape<'_> {
-    tape_of(text, b' ', text.len(), pace, most)
+    tape_of(text, text.len(), pace, most)
 }
 
 /// A reader of so many blanks that never fails.
 pub(crate) fn blanks_of(size: usize, pace: usize) -> Tape<'static> {
-    tape_of(b"", b' ', size, pace, usize::MAX)
+    tape_of(b"", size, pace, usize::MAX)
 }
 
-/// A reader of blanks without an end, as many as there is room for.
+/// A reader of blanks without an end, one at a time.
 pub(crate) fn endless_blanks() -> Tape<'static> {
-    blanks_of(usize::MAX, usize::MAX)
+    blanks_of(usize::MAX, 1)
 }
 
-/// A reader of bytes 0 without an end, one at a time.
-pub(crate) fn endless_zeros() -> Tape<'static> {
-    tape_of(b"", 0, usize::MAX, 1, usize::MAX)
-}
-
-pub(crate) fn tape_of(text: &[u8], filler: u8, size: usize, pace: usize, most: usize) -> Tape<'_> {
+pub(crate) fn tape_of(text: &[u8], size: usize, pace: usize, most: usize) -> Tape<'_> {
     Tape {
         text,
-        filler,
         size,
         pace,
         most,
@@ -72,7 +64,7 @@ impl Read for Tape<'_> {
         let copied = text.len().min(count);
         buffer[..copied].copy_from_slice(&text[..copied]);
         for place in &mut buffer[copied..count] {
-            *place = self.filler;
+            *place = b' ';
         }
         self.given = self.given.saturating_add(count);
         Ok(count)

@@ -10,6 +10,15 @@ use crate::devices::Sheet;
 use keymap_core::{ReadFault, ReadFaultKind, Write, WriteFault};
 use kmap_runs::RunError;
 
+/// The most reads that are made of a text or a sentence.
+pub(crate) const READS: u32 = 1_048_578;
+
+/// The fault of a reader that gives more than the limit of a text or a sentence.
+pub(crate) const ENDLESS: ReadFault = ReadFault {
+    offset: 1_048_576,
+    kind: ReadFaultKind::Endless,
+};
+
 /// The fault of a reader that failed after so many bytes.
 pub(crate) fn stopped(most: usize) -> ReadFault {
     ReadFault {

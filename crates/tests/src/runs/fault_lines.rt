@@ -1,7 +1,7 @@
 //! The lines that tell why a run failed.
 
 use crate::devices::slow_sheet_of;
-use crate::runs::written;
+use crate::runs::{ENDLESS, written};
 use keymap_core::{ReadFault, ReadFaultKind, Write, WriteFault};
 use keymap_tables::{TableFault, TableFaultKind, Wide};
 use keymap_text::{TextFault, TextFaultKind};
@@ -88,11 +88,6 @@ const TABLE_LINES: [(TableFaultKind, &[u8]); 9] = [
 const DEVICE: ReadFault = ReadFault {
     offset: 0,
     kind: ReadFaultKind::Device,
-};
-
-const ENDLESS: ReadFault = ReadFault {
-    offset: 1_048_576,
-    kind: ReadFaultKind::Endless,
 };
 
 /// Whether the line is written, and its front where the writer takes no more.

@@ -5,8 +5,8 @@ use crate::keymaps::texts::{
     ALT_SHIFT_WITH_TRAP, CAPS_WITH_NOPS, DUMPED_LINE, LETTER_AND_SHIFT, SHIFT_ALONE,
     SHIFT_WITH_TRAP, TWO_SCROLL_LOCKS, UPPER_HALF,
 };
-use crate::runs::{settled, stopped, written};
-use keymap_core::{Read, ReadFault, ReadFaultKind, Write};
+use crate::runs::{ENDLESS, READS, settled, stopped, written};
+use keymap_core::{Read, Write};
 use keymap_text::{TextFault, TextFaultKind};
 use kmap_runs::{RunError, check_run};
 use std::test::Fail;
@@ -148,13 +148,12 @@ fn faults_of_a_text_are_answered(rt: HostRuntime) -> Result<(), Fail> {
 
 #[test]
 fn a_text_without_end_is_a_fault(rt: HostRuntime) -> Result<(), Fail> {
-    let fault = ReadFault {
-        offset: 1_048_576,
-        kind: ReadFaultKind::Endless,
-    };
+    let mut reader = endless_blanks();
     let mut writer = slow_sheet_of(1, usize::MAX);
-    let answer = check_run(rt.alloc(), &mut endless_blanks(), true, &mut writer);
-    assert_eq!(rt; settled(answer, &writer)?, Err(RunError::ReadText(fault)));
+    let answer = check_run(rt.alloc(), &mut reader, true, &mut writer);
+    let wanted = Err(RunError::ReadText(ENDLESS));
+    assert_eq!(rt; settled(answer, &writer)?, wanted);
+    assert!(rt; reader.reads <= READS && !reader.failed());
     assert!(rt; writer.bytes.is_empty() && !writer.failed());
     Ok(())
 }

@@ -1,8 +1,8 @@
 //! What the search for sticking modifiers writes.
 
-use crate::devices::{reader_of, slow_sheet_of};
+use crate::devices::{endless_blanks, reader_of, slow_sheet_of};
 use crate::keymaps::texts::{LETTER_AND_SHIFT, SHIFT_WITH_TRAP};
-use crate::runs::{settled, stopped, written};
+use crate::runs::{ENDLESS, READS, settled, stopped, written};
 use keymap_core::{Read, Write};
 use keymap_text::{TextFault, TextFaultKind};
 use kmap_runs::{RunError, search_run};
@@ -57,6 +57,18 @@ fn a_faulty_text_is_not_searched(rt: HostRuntime) -> Result<(), Fail> {
     let mut writer = slow_sheet_of(1, usize::MAX);
     let answer = search_run(rt.alloc(), &mut reader, &mut writer);
     assert_eq!(rt; settled(answer, &writer)?, Err(RunError::Text(fault)));
+    assert!(rt; writer.bytes.is_empty() && !writer.failed());
+    Ok(())
+}
+
+#[test]
+fn a_text_without_end_is_not_searched(rt: HostRuntime) -> Result<(), Fail> {
+    let mut reader = endless_blanks();
+    let mut writer = slow_sheet_of(1, usize::MAX);
+    let answer = search_run(rt.alloc(), &mut reader, &mut writer);
+    let wanted = Err(RunError::ReadText(ENDLESS));
+    assert_eq!(rt; settled(answer, &writer)?, wanted);
+    assert!(rt; reader.reads <= READS && !reader.failed());
     assert!(rt; writer.bytes.is_empty() && !writer.failed());
     Ok(())
 }

@@ -1,6 +1,6 @@
 //! Tables that are printed.
 
-use crate::devices::{reader_of, slow_sheet_of};
+use crate::devices::{endless_blanks, reader_of, slow_sheet_of};
 use crate::keymaps::texts::LETTER_AND_SHIFT;
 use crate::runs::{settled, stopped, written};
 use keymap_core::{Read, Write};
@@ -56,6 +56,21 @@ fn tables_that_stop_are_a_fault(rt: HostRuntime) -> Result<(), Fail> {
         assert_eq!(rt; settled(answer, &writer)?, wanted);
         assert!(rt; reader.failed() && writer.bytes.is_empty() && !writer.failed());
     }
+    Ok(())
+}
+
+#[test]
+fn tables_without_end_are_a_fault(rt: HostRuntime) -> Result<(), Fail> {
+    let fault = TableFault {
+        offset: 15_524,
+        kind: TableFaultKind::Long,
+    };
+    let mut reader = endless_blanks();
+    let mut writer = slow_sheet_of(1, usize::MAX);
+    let answer = dump_run(rt.alloc(), &mut reader, &mut writer);
+    assert_eq!(rt; settled(answer, &writer)?, Err(RunError::Tables(fault)));
+    assert!(rt; reader.reads <= 15_526 && !reader.failed());
+    assert!(rt; writer.bytes.is_empty() && !writer.failed());
     Ok(())
 }
 
@@ -124,6 +139,21 @@ fn narrow_files_that_stop_are_a_fault(rt: HostRuntime) -> Result<(), Fail> {
         assert_eq!(rt; settled(answer, &writer)?, wanted);
         assert!(rt; reader.failed() && writer.bytes.is_empty() && !writer.failed());
     }
+    Ok(())
+}
+
+#[test]
+fn narrow_files_without_end_are_a_fault(rt: HostRuntime) -> Result<(), Fail> {
+    let fault = TableFault {
+        offset: 4_139,
+        kind: TableFaultKind::Long,
+    };
+    let mut reader = endless_blanks();
+    let mut writer = slow_sheet_of(1, usize::MAX);
+    let answer = dump_narrow_run(rt.alloc(), &mut reader, &mut writer);
+    assert_eq!(rt; settled(answer, &writer)?, Err(RunError::Tables(fault)));
+    assert!(rt; reader.reads <= 4_141 && !reader.failed());
+    assert!(rt; writer.bytes.is_empty() && !writer.failed());
     Ok(())
 }
 

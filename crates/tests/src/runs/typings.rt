@@ -2,8 +2,8 @@
 
 use crate::devices::{endless_blanks, reader_of, slow_sheet_of};
 use crate::keymaps::texts::{LETTER_AND_SHIFT, SHIFT_AND_LINE_FEED};
-use crate::runs::{settled, stopped, written};
-use keymap_core::{Read, ReadFault, ReadFaultKind, Write};
+use crate::runs::{ENDLESS, READS, settled, stopped, written};
+use keymap_core::{Read, Write};
 use keymap_text::{TextFault, TextFaultKind};
 use kmap_runs::{RunError, type_run};
 use std::test::Fail;
@@ -114,22 +114,27 @@ fn a_text_that_stops_types_nothing(rt: HostRuntime) -> Result<(), Fail> {
 }
 
 #[test]
-fn a_sentence_is_read_to_its_limit(rt: HostRuntime) -> Result<(), Fail> {
-    let fault = ReadFault {
-        offset: 1_048_576,
-        kind: ReadFaultKind::Endless,
-    };
+fn a_sentence_without_end_types_nothing(rt: HostRuntime) -> Result<(), Fail> {
+    let mut reader = reader_of(LETTER_AND_SHIFT, 64, usize::MAX);
+    let mut sentence = endless_blanks();
     let mut writer = slow_sheet_of(1, usize::MAX);
-    let answer = type_run(
-        rt.alloc(),
-        &mut reader_of(LETTER_AND_SHIFT, 64, usize::MAX),
-        &mut endless_blanks(),
-        &mut writer,
-    );
-    assert_eq!(rt;
-        settled(answer, &writer)?,
-        Err(RunError::ReadSentence(fault))
-    );
+    let answer = type_run(rt.alloc(), &mut reader, &mut sentence, &mut writer);
+    let wanted = Err(RunError::ReadSentence(ENDLESS));
+    assert_eq!(rt; settled(answer, &writer)?, wanted);
+    assert!(rt; sentence.reads <= READS && !sentence.failed());
     assert!(rt; writer.bytes.is_empty() && !writer.failed());
+    Ok(())
+}
+
+#[test]
+fn a_text_without_end_types_nothing(rt: HostRuntime) -> Result<(), Fail> {
+    let mut reader = endless_blanks();
+    let mut sentence = reader_of(b"a", 1, 0);
+    let mut writer = slow_sheet_of(1, usize::MAX);
+    let answer = type_run(rt.alloc(), &mut reader, &mut sentence, &mut writer);
+    let wanted = Err(RunError::ReadText(ENDLESS));
+    assert_eq!(rt; settled(answer, &writer)?, wanted);
+    assert!(rt; reader.reads <= READS && !reader.failed());
+    assert!(rt; !sentence.failed() && writer.bytes.is_empty() && !writer.failed());
     Ok(())
 }

@@ -1,7 +1,7 @@
 //! The narrow file: its bytes and faults, what doesn't fit, devices that fail, and that old wide files become narrow
 //! ones and come back.
 
-use crate::devices::{comparing_with, endless_zeros, reader_of, sheet_of};
+use crate::devices::{comparing_with, endless_blanks, reader_of, sheet_of};
 use crate::keymaps::entries::LETTER_AND_SHIFT;
 use crate::keymaps::{NAMED, Named, acting, empty_map, map_of, named_map};
 use crate::tables::{LENGTH, NARROW_LENGTH, fault, fault_of, settled, stopped, zero_bytes};
@@ -255,7 +255,7 @@ fn wide_files_become_narrow_and_come_back(rt: HostRuntime) -> Result<(), Fail> {
 
 #[test]
 fn a_reader_without_end_is_left(rt: HostRuntime) -> Result<(), Fail> {
-    let mut reader = endless_zeros();
+    let mut reader = endless_blanks();
     let answer = settled(read_narrow_from(rt.alloc(), &mut reader))?;
     assert_eq!(rt; fault_of(answer), fault(4139, TableFaultKind::Long));
     assert!(rt; reader.reads <= 4141 && !reader.failed());

@@ -1,6 +1,6 @@
 //! The table file: its bytes and faults as they were published, and devices that fail.
 
-use crate::devices::{comparing_with, endless_zeros, reader_of, sheet_of};
+use crate::devices::{comparing_with, endless_blanks, reader_of, sheet_of};
 use crate::keymaps::entries::LETTER_AND_SHIFT;
 use crate::keymaps::{empty_map, map_of};
 use crate::tables::{LENGTH, fault, fault_of, settled, stopped, zero_bytes};
@@ -161,7 +161,7 @@ fn a_wrong_length_is_refused(rt: HostRuntime) -> Result<(), Fail> {
 
 #[test]
 fn a_reader_without_end_is_left(rt: HostRuntime) -> Result<(), Fail> {
-    let mut reader = endless_zeros();
+    let mut reader = endless_blanks();
     let answer = settled(read_tables_from(rt.alloc(), &mut reader))?;
     assert_eq!(rt; fault_of(answer), fault(15524, TableFaultKind::Long));
     assert!(rt; reader.reads <= 15526 && !reader.failed());

@@ -40,7 +40,7 @@ fn a_fault_ends_the_reading(rt: HostRuntime) -> Result<(), Fail> {
         kind: TextFaultKind::BadLiteral,
     });
     for pace in [1, 512] {
-        let mut tape = tape_of(b"1 'ab'", b' ', usize::MAX, pace, usize::MAX);
+        let mut tape = tape_of(b"1 'ab'", usize::MAX, pace, usize::MAX);
         assert_eq!(rt; read_from(rt.alloc(), &mut tape).err(), Some(wanted));
         assert!(rt; tape.given <= 512 && tape.reads <= 6);
     }
@@ -84,7 +84,7 @@ fn a_device_that_fails_at_the_limit_is_a_fault(rt: HostRuntime) -> Result<(), Fa
         kind: ReadFaultKind::Device,
     });
     for pace in [1, 512] {
-        let mut tape = tape_of(b"", b' ', usize::MAX, pace, LIMIT);
+        let mut tape = tape_of(b"", usize::MAX, pace, LIMIT);
         assert_eq!(rt; read_from(rt.alloc(), &mut tape).err(), Some(wanted));
         assert!(rt; tape.reads <= 1_048_578 && tape.given == LIMIT && tape.failed());
     }

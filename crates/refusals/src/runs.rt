@@ -1,0 +1,67 @@
+//! The runs of the program, each on inputs that are made before. Where memory is refused, nothing was written.
+use crate::calls::{TEXT, TRAP, done, mark};
+use crate::devices::{Counting, reader_of};
+use crate::outcome::{Answer, Outcome};
+use keymap_core::Write;
+use kmap_runs::{RunError, check_run, dump_narrow_run, dump_run, search_run, type_run};
+use std::alloc::Global;
+
+/// What a run came to, which answers whether it is the right one.
+fn ran(answer: Result<bool, RunError>, out: &Counting) -> Outcome {
+    match answer {
+        Ok(is_right) => Outcome::of(done(is_right)),
+        Err(RunError::Memory) => Outcome {
+            answer: Answer::Memory,
+            kept: out.writes == 0,
+        },
+        Err(_) => Outcome::of(Answer::Fault),
+    }
+}
+
+/// Checks the map of a text. It is refused exactly where the text is the one with a trap.
+pub(crate) fn checks<W: Write>(alloc: Global, text: &[u8], show: bool, marks: &mut W) -> Outcome {
+    let mut reader = reader_of(text);
+    let mut out = Counting { writes: 0 };
+    mark(marks);
+    let answer = check_run(alloc, &mut reader, show, &mut out);
+    mark(marks);
+    ran(answer.map(|accepted| accepted == (text != TRAP)), &out)
+}
+
+/// Searches the map of a text. It sticks exactly where the text is the one with a trap.
+pub(crate) fn searches<W: Write>(alloc: Global, text: &[u8], marks: &mut W) -> Outcome {
+    let mut reader = reader_of(text);
+    let mut out = Counting { writes: 0 };
+    mark(marks);
+    let answer = search_run(alloc, &mut reader, &mut out);
+    mark(marks);
+    ran(answer.map(|never| never == (text != TRAP)), &out)
+}
+
+pub(crate) fn dumps<W: Write>(alloc: Global, tables: &[u8], marks: &mut W) -> Outcome {
+    let mut reader = reader_of(tables);
+    let mut out = Counting { writes: 0 };
+    mark(marks);
+    let answer = dump_run(alloc, &mut reader, &mut out);
+    mark(marks);
+    ran(answer.map(|()| out.writes > 0), &out)
+}
+
+pub(crate) fn dumps_narrowly<W: Write>(alloc: Global, narrow: &[u8], marks: &mut W) -> Outcome {
+    let mut reader = reader_of(narrow);
+    let mut out = Counting { writes: 0 };
+    mark(marks);
+    let answer = dump_narrow_run(alloc, &mut reader, &mut out);
+    mark(marks);
+    ran(answer.map(|()| out.writes > 0), &out)
+}
+
+pub(crate) fn types<W: Write>(alloc: Global, sentence: &[u8], marks: &mut W) -> Outcome {
+    let mut text = reader_of(TEXT);
+    let mut characters = reader_of(sentence);
+    let mut out = Counting { writes: 0 };
+    mark(marks);
+    let answer = type_run(alloc, &mut text, &mut characters, &mut out);
+    mark(marks);
+    ran(answer.map(|()| out.writes > 0), &out)
+}

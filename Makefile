@@ -49,7 +49,7 @@ check:
 
 edits:
 	$(RT) must-fail
-	sh tests/private_edits.sh --try
+	RT="$(RT)" sh tests/private_edits.sh --try
 
 bench: all
 	cd crates/step_costs && $(RT) run -- map 1 > /dev/null

@@ -33,6 +33,12 @@ done
 counted || exit 1
 [ "${1:-}" = --try ] || exit 0
 shift
+# `rt must-fail` passes over a name that is no crate, and then nothing would be tried.
+for crate; do
+    [ -d "crates/$crate/must-fail-private" ] && continue
+    echo "private_edits.sh: there are no edits of private functions in crates/$crate" >&2
+    exit 1
+done
 
 folder=$(mktemp -d) || exit 1
 trap 'rm -rf "$folder"' EXIT
@@ -40,4 +46,4 @@ cp -R crates crates.txt HANDLES "$folder" && cd "$folder" && rm -rf crates/*/mus
 for private in crates/*/must-fail-private; do
     mv "$private" "${private%-private}"
 done
-rt must-fail "$@"
+"${RT:-rt}" must-fail "$@"

@@ -1,7 +1,6 @@
 # make               proves and builds the program and the C library, and leaves them at crates/kmap/out/kmap and
 #                    crates/kmap_c/out/libkmap_c.a, with the header include/kmap.h; at once where nothing changed
 # make check         proves every crate from nothing, tries the edits that must be refused, and runs all tests
-# make edits         tries every edit that must be refused, those of private functions too, which `make check` leaves out
 # make bench         measures the program on large inputs
 # make install       installs the program, the C library with its header, manual pages, completions, examples and
 #                    documents in $(DESTDIR)$(PREFIX)
@@ -38,7 +37,6 @@ check:
 	RT_JOBS="$${RT_JOBS:-$$(sh .ci/jobs)}" $(RT) ci
 	cd crates/kmap_c && $(RT) lib > /dev/null
 	sh tests/statements.sh
-	sh tests/private_edits.sh
 	sh tests/program.sh $(PROGRAM)
 	sh tests/c_library.sh $(PROGRAM) $(LIBRARY)
 	sh tests/completions.sh $(PROGRAM)
@@ -46,10 +44,6 @@ check:
 	sh tests/install.sh
 	sh tests/refused_memory.sh $(PROGRAM)
 	sh tests/refused_calls.sh $(REFUSALS)
-
-edits:
-	$(RT) must-fail
-	RT="$(RT)" sh tests/private_edits.sh --try
 
 bench: all
 	cd crates/step_costs && $(RT) run -- map 1 > /dev/null
@@ -87,4 +81,4 @@ uninstall:
 clean:
 	rm -rf crates/*/out
 
-.PHONY: all check edits bench install uninstall clean
+.PHONY: all check bench install uninstall clean

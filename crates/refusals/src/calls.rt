@@ -1,44 +1,19 @@
 //! The calls, each on inputs that are made before.
-use crate::devices::{Counting, reader_of};
-use crate::outcome::{Answer, Outcome};
+use crate::devices::{Counting, mark, reader_of};
+use crate::inputs::{
+    FAULTY, NOT_TEXT, SENTENCE, TEXT, TRAP, UNTYPED, narrow, sample, script, tables,
+};
+use crate::outcome::{Answer, Outcome, done};
 use crate::runs;
 use console_core::{Event, PlainConsole, Sticking, Translator, WordConsole, replay, sticking};
-use keymap_core::{
-    KeyCode, KeyMap, Lock, Modifier, ReadError, ToStd, Write, read_up_to, write_text,
-};
+use keymap_core::{KeyCode, KeyMap, Lock, Modifier, ReadError, Write, read_up_to};
 use keymap_tables::{
     NARROW_FILE, TableError, WIDE_FILE, read_narrow, read_narrow_from, read_tables,
-    read_tables_from, write_narrow, write_tables,
+    read_tables_from,
 };
 use keymap_text::{MapReader, TextError, read_from, read_map};
 use play_core::{PlayError, ScriptError, Show, TypeError, Ways, play, play_next, read_script};
 use std::alloc::{AllocError, Global};
-
-/// Letters, a shift, a lock and a dead key with its accent.
-pub(crate) const TEXT: &[u8] = b"018 'e' 'E' nop nop 'e' 'E' nop nop C
-026 dacu dacu dacu dacu dacu dacu dacu dacu O
-030 'a' 'A' nop nop 'a' 'A' nop nop C
-042 lshift lshift lshift lshift lshift lshift lshift lshift O
-058 clock clock clock clock clock clock clock clock O
-dacu 180 ( 'e' 0xe9 )
-";
-
-/// A shift that is a character where control is on.
-pub(crate) const TRAP: &[u8] = b"029 lctrl lctrl lctrl lctrl lctrl lctrl lctrl lctrl O
-042 lshift lshift 'x' 'x' lshift lshift lshift lshift O
-";
-
-/// Letters, one of which takes the dead key before its base, often enough that their list outgrows its memory.
-const SENTENCE: &[u8] = b"aA\xc3\xa9AaA\xc3\xa9AaA\xc3\xa9AaA\xc3\xa9A";
-
-/// A sentence that no keys of the map type.
-const UNTYPED: &[u8] = b"ab";
-
-/// A sentence that isn't text.
-const NOT_TEXT: &[u8] = b"a\xff";
-
-/// A text with a fault in its first byte.
-const FAULTY: &[u8] = b")";
 
 /// Makes the call of this name. There is none where no call has the name.
 pub(crate) fn outcome_of<W: Write>(
@@ -87,48 +62,6 @@ pub(crate) fn outcome_of<W: Write>(
         _ => return Ok(None),
     };
     Ok(Some(outcome))
-}
-
-/// The answer of a call that came to an end, if it is the right one.
-pub(crate) fn done(is_right: bool) -> Answer {
-    if is_right {
-        Answer::Done
-    } else {
-        Answer::Fault
-    }
-}
-
-/// Tells that the call begins, or that it has ended.
-pub(crate) fn mark<W: Write>(marks: &mut W) {
-    let _ = write_text(marks, b"call\n");
-}
-
-fn sample(alloc: Global) -> Result<KeyMap, AllocError> {
-    match read_map(alloc, TEXT) {
-        Ok(map) => Ok(map),
-        Err(_) => Err(AllocError),
-    }
-}
-
-fn tables(alloc: Global) -> Result<Vec<u8>, AllocError> {
-    let mut bytes = Vec::from_array(alloc, [0; WIDE_FILE])?;
-    let _ = write_tables(&sample(alloc)?, &mut ToStd::new(bytes.as_mut_slice()));
-    Ok(bytes)
-}
-
-fn narrow(alloc: Global) -> Result<Vec<u8>, AllocError> {
-    let mut bytes = Vec::from_array(alloc, [0; NARROW_FILE])?;
-    let _ = write_narrow(&sample(alloc)?, &mut ToStd::new(bytes.as_mut_slice()));
-    Ok(bytes)
-}
-
-/// More bytes than are read at once, so that they outgrow their memory, as the events do: a thousand lines.
-fn script() -> [u8; 8000] {
-    let mut script = [0; 8000];
-    for (index, byte) in script.iter_mut().enumerate() {
-        *byte = b"down 30\n"[index % 8];
-    }
-    script
 }
 
 fn new_map<W: Write>(alloc: Global, marks: &mut W) -> Outcome {

@@ -1,7 +1,7 @@
-//! Devices that count what was done to them.
+//! Devices that count what was done to them, and the line that tells where a call begins and ends.
 ghost use Rattle.std.specs.Prelude.{None, false};
 
-use keymap_core::{Failed, Read, Write};
+use keymap_core::{Failed, Read, Write, write_text};
 
 /// Gives bytes, and counts the reads.
 #[derive(Drop)]
@@ -60,4 +60,9 @@ impl Write for Counting {
     fn failed(&self) -> bool {
         false
     }
+}
+
+/// Tells that the call begins, or that it has ended.
+pub(crate) fn mark<W: Write>(marks: &mut W) {
+    let _ = write_text(marks, b"call\n");
 }

@@ -8,6 +8,7 @@
 
 mod calls;
 mod devices;
+mod inputs;
 mod outcome;
 mod runs;
 

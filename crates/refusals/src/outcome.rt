@@ -25,6 +25,15 @@ impl Outcome {
     }
 }
 
+/// The answer of a call that came to an end, if it is the right one.
+pub(crate) fn done(is_right: bool) -> Answer {
+    if is_right {
+        Answer::Done
+    } else {
+        Answer::Fault
+    }
+}
+
 impl fmt::Display for Outcome {
     fn fmt<W: fmt::Write>(&self, f: &mut fmt::Formatter<W>) -> fmt::Result {
         let answer = match self.answer {

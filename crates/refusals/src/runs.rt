@@ -1,7 +1,7 @@
 //! The runs of the program, each on inputs that are made before. Where memory is refused, nothing was written.
-use crate::calls::{TEXT, TRAP, done, mark};
-use crate::devices::{Counting, reader_of};
-use crate::outcome::{Answer, Outcome};
+use crate::devices::{Counting, mark, reader_of};
+use crate::inputs::{TEXT, TRAP};
+use crate::outcome::{Answer, Outcome, done};
 use keymap_core::Write;
 use kmap_runs::{RunError, check_run, dump_narrow_run, dump_run, search_run, type_run};
 use std::alloc::Global;

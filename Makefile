@@ -1,5 +1,8 @@
 # make               proves and builds the program and the C library, and leaves them at crates/kmap/out/kmap and
 #                    crates/kmap_c/out/libkmap_c.a, with the header include/kmap.h; at once where nothing changed
+# make quick         types a line without any proof, in about a minute: QUICK='check de.kbd' FILES=examples/de.kbd for
+#                    other arguments and files
+# make test          proves and builds what changed, and runs the scripts of tests/ on it: while working on a line
 # make check         proves every crate from nothing, tries the edits that must be refused, and runs all tests
 # make bench         measures the program on large inputs
 # make install       installs the program, the C library with its header, manual pages, completions, examples and
@@ -13,6 +16,8 @@ PREFIX = /usr/local
 DESTDIR =
 RT = rt
 INSTALL = install
+QUICK = play us.kbd line.script --typed
+FILES = examples/us.kbd examples/line.script
 PROGRAM = crates/kmap/out/kmap
 LIBRARY = crates/kmap_c/out/libkmap_c.a
 REFUSALS = crates/refusals/out/refusals
@@ -32,10 +37,27 @@ all:
 	cd crates/kmap && $(RT) run -- --version > /dev/null
 	cd crates/kmap_c && $(RT) lib > /dev/null
 
-# `rt ci` builds both programs anew, and the scripts take what it leaves. It proves the C library and leaves none.
+# What `rt try` builds is run once and not kept, so nothing else takes it.
+quick:
+	@top=$$(pwd); for file in $(FILES); do set -- "$$@" --data "$${file##*/}=$$top/$$file"; done; \
+	    cd crates/kmap && $(RT) try "$$@" -- $(QUICK)
+	@echo "nothing was proved, and no program is left: that is what make is for"
+
+test: all
+	cd crates/refusals && $(RT) run -- read_map > /dev/null
+	$(MAKE) scripts
+
+# `rt ci` builds both programs anew, and the scripts take what it leaves. It proves the C library and leaves none; what
+# its build proves once more, of the libraries below it, the edits go on with.
 check:
 	RT_JOBS="$${RT_JOBS:-$$(sh .ci/jobs)}" $(RT) ci
-	cd crates/kmap_c && $(RT) lib > /dev/null
+	cd crates/kmap_c && $(RT) lib
+	RT="$(RT)" RT_JOBS="$${RT_JOBS:-$$(sh .ci/jobs)}" python3 tests/edits
+	RT="$(RT)" sh tests/edits_driver.sh
+	$(MAKE) scripts
+
+# the tests of what is built
+scripts:
 	sh tests/statements.sh
 	sh tests/program.sh $(PROGRAM)
 	sh tests/c_library.sh $(PROGRAM) $(LIBRARY)
@@ -81,4 +103,4 @@ uninstall:
 clean:
 	rm -rf crates/*/out
 
-.PHONY: all check bench install uninstall clean
+.PHONY: all quick test check scripts bench install uninstall clean

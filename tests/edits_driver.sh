@@ -1,0 +1,68 @@
+#!/bin/sh
+# Tries tests/edits itself, on a small repository with edits that are good and edits that each show nothing in a way of
+# its own: each is told for what it is, the status says whether one failed, and the repository stays as it was.
+#
+# usage: edits_driver.sh
+# The last line is 'N passed, M failed'; the status is 0 where none failed. RT names the kit's command.
+
+tests=$(cd "$(dirname "$0")" && pwd)
+. "$tests/shared.sh"
+folder=$(mktemp -d) || exit 1
+trap 'rm -rf "$folder"' EXIT
+
+cp -R "$tests/tiny" "$folder/tiny"
+mkdir "$folder/tiny/tests"
+cp "$tests/edits" "$folder/tiny/tests"
+cd "$folder/tiny" || exit 1
+# The gate wants each source of the repository in a crate that crates.txt names, so these have other names there.
+for file in $(find . -name '*.text'); do mv "$file" "${file%.text}"; done
+cp -R crates "$folder/before"
+
+# edits WANTED: the driver ends so
+edits() {
+    RT_JOBS=1 python3 tests/edits -v > "$folder/said" 2>&1
+    got=$?
+    holds "it ends with $got and not with $1" [ $got -eq "$1" ]
+    [ $got -eq "$1" ] || cat "$folder/said"
+}
+
+# tells LINE: it says a line that begins so
+tells() {
+    holds "it does not say: $1" grep -qF "$1" "$folder/said"
+}
+
+edits 1
+# two edits of one function, and one that waits for its callee
+tells 'counter/half_of_more.edit: refused in half: returns'
+tells 'counter/half_of_less.edit: refused in half: returns'
+tells 'counter/quarter_from_a_half.edit: refused in quarter: returns'
+tells 'counter/a_count_that_starts_at_one.edit: refused in zeros: loop-index'
+# one of a constant
+tells 'counter/a_limit_above_the_top.edit: refused in bounded: returns'
+tells 'counter/same_half.edit: NOT REFUSED: proved with it: half'
+tells 'counter/another_function_is_refused.edit: NOT REFUSED: proved with it: half'
+tells 'counter/a_local_of_another_name.edit: refused only since a proof file names what is gone: zeros: '
+tells 'counter/a_name_that_is_not_there.edit: the prover cannot read it: src/lib.rt:'
+tells "counter/a_line_that_is_not_there.edit: an 'old:' text stands in src/lib.rt 0 times, and not once"
+tells "counter/a_line_that_is_there_three_times.edit: an 'old:' text stands in src/lib.rt 3 times, and not once"
+tells 'counter/a_definition.edit: it turns a definition, so it is one for must-fail/'
+tells 'counter/notes.txt: it is no edit'
+tells '5 passed, 8 failed'
+holds 'it changes no file' diff -r crates "$folder/before"
+
+# Without those that show nothing it succeeds.
+cd crates/counter/edits || exit 1
+rm same_half.edit another_function_is_refused.edit a_local_of_another_name.edit a_name_that_is_not_there.edit \
+    a_line_that_is_not_there.edit a_line_that_is_there_three_times.edit a_definition.edit notes.txt
+cd ../../.. || exit 1
+edits 0
+tells '5 passed, 0 failed'
+
+# A crate that is not proved as it stands shows nothing.
+sed 's,number / 2$,number / 3,' crates/counter/src/lib.rt > "$folder/turned"
+cp "$folder/turned" crates/counter/src/lib.rt
+rm crates/counter/edits/half_of_*.edit
+edits 1
+tells 'counter/quarter_from_a_half.edit: not tried, since the crate is not proved as it stands'
+
+counted

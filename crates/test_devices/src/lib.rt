@@ -1,0 +1,230 @@
+//! Readers and writers for tests: they fail in mid-stream, give or take so many bytes at a time, and count their calls.
+//!
+//! They stand on the devices of keymap_core, whose laws they keep; they tell no reader which bytes are left and no
+//! writer's caller which were taken, so a test looks at their fields.
+#![tactic(auto)]
+
+ghost use Rattle.std.specs.Prelude.{[], None, false, length, true, ◌-◌, ◌^◌, ◌≡◌};
+
+use arrayvec::ArrayVec;
+use keymap_core::{Failed, Read, Write};
+
+/// A reader that gives a text and then blanks, and fails after so many bytes.
+#[derive(Drop)]
+pub struct Tape<'a> {
+    pub text: &'a [u8],
+    /// How many bytes there are.
+    pub size: usize,
+    /// How many bytes it gives at a time.
+    pub pace: usize,
+    /// How many bytes it gives before it fails: in place of the end where these are all.
+    pub most: usize,
+    pub given: usize,
+    pub reads: u32,
+    pub failed: bool,
+}
+
+/// A reader of the text, so many bytes at a time, that fails after so many.
+pub fn reader_of(text: &[u8], pace: usize, most: usize) -> Tape<'_>
+    ensures text { result.text.now ≡ text.now }
+    ensures size { result.size ≡ length text.now }
+    ensures pace { result.pace ≡ pace }
+    ensures most { result.most ≡ most }
+    ensures given { result.given ≡ 0 }
+    ensures reads { result.reads ≡ 0 }
+    ensures failed { result.failed ≡ false }
+{
+    tape_of(text, text.len(), pace, most)
+}
+
+/// A reader of so many blanks that never fails.
+pub fn blanks_of(size: usize, pace: usize) -> Tape<'static>
+    ensures text { result.text.now ≡ [] }
+    ensures size { result.size ≡ size }
+    ensures pace { result.pace ≡ pace }
+    ensures most { result.most ≡ 2 ^ 64 - 1 }
+    ensures given { result.given ≡ 0 }
+    ensures reads { result.reads ≡ 0 }
+    ensures failed { result.failed ≡ false }
+{
+    tape_of(b"", size, pace, usize::MAX)
+}
+
+/// A reader of blanks without an end, one at a time.
+pub fn endless_blanks() -> Tape<'static>
+    ensures text { result.text.now ≡ [] }
+    ensures size { result.size ≡ 2 ^ 64 - 1 }
+    ensures pace { result.pace ≡ 1 }
+    ensures most { result.most ≡ 2 ^ 64 - 1 }
+    ensures given { result.given ≡ 0 }
+    ensures reads { result.reads ≡ 0 }
+    ensures failed { result.failed ≡ false }
+{
+    blanks_of(usize::MAX, 1)
+}
+
+pub fn tape_of(text: &[u8], size: usize, pace: usize, most: usize) -> Tape<'_>
+    ensures text { result.text.now ≡ text.now }
+    ensures size { result.size ≡ size }
+    ensures pace { result.pace ≡ pace }
+    ensures most { result.most ≡ most }
+    ensures given { result.given ≡ 0 }
+    ensures reads { result.reads ≡ 0 }
+    ensures failed { result.failed ≡ false }
+{
+    Tape {
+        text,
+        size,
+        pace,
+        most,
+        given: 0,
+        reads: 0,
+        failed: false,
+    }
+}
+
+impl Read for Tape<'_> {
+    ghost remaining = { λ _. None };
+
+    ghost has_failed = { λ tape. tape.failed };
+
+    fn read(&mut self, buffer: &mut [u8]) -> Result<usize, Failed> {
+        self.reads = self.reads.saturating_add(1);
+        if self.given >= self.most {
+            self.failed = true;
+            return Err(Failed);
+        }
+        let left = self.size.min(self.most).saturating_sub(self.given);
+        let count = left.min(self.pace).min(buffer.len());
+        let text = self.text.get(self.given..).unwrap_or(b"");
+        let copied = text.len().min(count);
+        buffer[..copied].copy_from_slice(&text[..copied]);
+        for place in &mut buffer[copied..count] {
+            *place = b' ';
+        }
+        self.given = self.given.saturating_add(count);
+        Ok(count)
+    }
+
+    fn failed(&self) -> bool {
+        self.failed
+    }
+}
+
+/// The most bytes that a sheet or a long text has.
+pub const ROOM: usize = 16_384;
+
+/// A writer that keeps what it takes, and fails when it is full.
+#[derive(Drop)]
+pub struct Sheet {
+    pub bytes: ArrayVec<u8, ROOM>,
+    pub writes: u32,
+    pub pace: usize,
+    pub most: usize,
+    pub failed: bool,
+}
+
+/// A sheet of so many bytes at most.
+pub fn sheet_of(most: usize) -> Sheet
+    ensures pace { result.pace ≡ 2 ^ 64 - 1 }
+    ensures most { result.most ≡ most }
+    ensures bytes { result.bytes.items ≡ [] }
+    ensures writes { result.writes ≡ 0 }
+    ensures failed { result.failed ≡ false }
+{
+    slow_sheet_of(usize::MAX, most)
+}
+
+/// A sheet that takes so many bytes at a time.
+pub fn slow_sheet_of(pace: usize, most: usize) -> Sheet
+    ensures pace { result.pace ≡ pace }
+    ensures most { result.most ≡ most }
+    ensures bytes { result.bytes.items ≡ [] }
+    ensures writes { result.writes ≡ 0 }
+    ensures failed { result.failed ≡ false }
+{
+    Sheet {
+        bytes: ArrayVec::new(),
+        writes: 0,
+        pace,
+        most,
+        failed: false,
+    }
+}
+
+impl Write for Sheet {
+    ghost contents = { λ _. None };
+
+    ghost has_failed = { λ sheet. sheet.failed };
+
+    fn write(&mut self, bytes: &[u8]) -> Result<usize, Failed> {
+        self.writes = self.writes.saturating_add(1);
+        if bytes.is_empty() {
+            return Ok(0);
+        }
+        let room = self.most.saturating_sub(self.bytes.len());
+        let count = bytes.len().min(room).min(self.pace);
+        if count == 0 || self.bytes.try_extend_from_slice(&bytes[..count]).is_err() {
+            self.failed = true;
+            return Err(Failed);
+        }
+        Ok(count)
+    }
+
+    fn failed(&self) -> bool {
+        self.failed
+    }
+}
+
+/// A writer that fails after so many bytes, and compares those that it took with the ones that are wanted.
+#[derive(Drop)]
+pub struct Comparing<'a> {
+    pub wanted: &'a [u8],
+    pub taken: usize,
+    pub most: usize,
+    pub is_same: bool,
+    pub failed: bool,
+}
+
+pub fn comparing_with(wanted: &[u8], most: usize) -> Comparing<'_>
+    ensures wanted { result.wanted.now ≡ wanted.now }
+    ensures most { result.most ≡ most }
+    ensures taken { result.taken ≡ 0 }
+    ensures is_same { result.is_same ≡ true }
+    ensures failed { result.failed ≡ false }
+{
+    Comparing {
+        wanted,
+        taken: 0,
+        most,
+        is_same: true,
+        failed: false,
+    }
+}
+
+impl Write for Comparing<'_> {
+    ghost contents = { λ _. None };
+
+    ghost has_failed = { λ writer. writer.failed };
+
+    fn write(&mut self, bytes: &[u8]) -> Result<usize, Failed> {
+        if bytes.is_empty() {
+            return Ok(0);
+        }
+        let left = self.wanted.len().min(self.most).saturating_sub(self.taken);
+        let count = left.min(bytes.len());
+        if count == 0 {
+            self.failed = true;
+            return Err(Failed);
+        }
+        if bytes[..count] != self.wanted[self.taken..self.taken + count] {
+            self.is_same = false;
+        }
+        self.taken += count;
+        Ok(count)
+    }
+
+    fn failed(&self) -> bool {
+        self.failed
+    }
+}

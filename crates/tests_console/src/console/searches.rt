@@ -1,0 +1,108 @@
+//! Keymaps that can leave a modifier on while no key is pressed, and keymaps that can't.
+
+use crate::console::expect_shown;
+use console_core::{Event, PlainConsole, Sticking, replay, sticking};
+use keymap_core::{KeyMap, Lock, Modifier};
+use std::alloc::Global;
+use std::process::Abort;
+use std::test::Fail;
+use test_keymaps::entries::{
+    ALT_LOCK_TO_NOTHING, ALT_SHIFT_WITH_TRAP, CAPS_AND_NUM, CAPS_LOCK_TO_NOTHING, LETTER_AND_SHIFT,
+    Line, REMEMBERED_BUT_HELD_BY_ANOTHER, SHIFT_AND_CAPS, SHIFT_WITH_TRAP, TWO_CONTROLS,
+    TWO_SCROLL_LOCKS, UPPER_HALF,
+};
+use test_keymaps::{map_of, map_of_many_modifiers, map_with_accents};
+
+/// Asserts that a shortest list that leaves a modifier on has so many presses and events, and what is on after it.
+fn expect_sticks(
+    rt: &impl Abort,
+    alloc: Global,
+    lines: &[Line],
+    counts: (usize, usize),
+    on: &[Modifier],
+    locked: &[Lock],
+) -> Result<(), Fail> {
+    let map = map_of(alloc, lines)?;
+    match sticking(alloc, &map)? {
+        Sticking::Sticks(events) => {
+            let presses = events.iter().filter(|event| is_press(**event)).count();
+            assert_eq!(rt; presses, counts.0);
+            assert_eq!(rt; events.len(), counts.1);
+            let mut console = PlainConsole::new(&map);
+            let _answers = replay(alloc, &mut console, events.as_slice())?;
+            expect_shown(rt, &console, on, locked, None);
+        }
+        Sticking::Never | Sticking::Undecided => assert!(rt; false),
+    }
+    Ok(())
+}
+
+fn is_press(event: Event) -> bool {
+    match event {
+        Event::Press(_) => true,
+        Event::Release(_) | Event::Reset | Event::Load => false,
+    }
+}
+
+/// Asserts that the map can't leave a modifier on.
+fn expect_never(rt: &impl Abort, alloc: Global, map: &KeyMap) -> Result<(), Fail> {
+    match sticking(alloc, map)? {
+        Sticking::Never => {}
+        Sticking::Sticks(_) | Sticking::Undecided => assert!(rt; false),
+    }
+    Ok(())
+}
+
+#[test]
+fn a_modifier_sticks_where_its_key_can_look_up_a_character(rt: HostRuntime) -> Result<(), Fail> {
+    let shift = [Modifier::LeftShift];
+    expect_sticks(&rt, rt.alloc(), &SHIFT_WITH_TRAP, (3, 5), &shift, &[])?;
+    let alt_shift = [Modifier::AltShift];
+    expect_sticks(
+        &rt,
+        rt.alloc(),
+        &ALT_SHIFT_WITH_TRAP,
+        (2, 3),
+        &alt_shift,
+        &[],
+    )?;
+    expect_sticks(
+        &rt,
+        rt.alloc(),
+        &ALT_LOCK_TO_NOTHING,
+        (3, 5),
+        &shift,
+        &[Lock::Alt],
+    )
+}
+
+#[test]
+fn refused_maps_without_a_stuck_modifier(rt: HostRuntime) -> Result<(), Fail> {
+    expect_never(&rt, rt.alloc(), &map_of(rt.alloc(), &CAPS_LOCK_TO_NOTHING)?)?;
+    expect_never(
+        &rt,
+        rt.alloc(),
+        &map_of(rt.alloc(), &REMEMBERED_BUT_HELD_BY_ANOTHER)?,
+    )
+}
+
+#[test]
+fn accepted_maps_never_stick(rt: HostRuntime) -> Result<(), Fail> {
+    expect_never(&rt, rt.alloc(), &KeyMap::new(rt.alloc())?)?;
+    expect_never(&rt, rt.alloc(), &map_of(rt.alloc(), &LETTER_AND_SHIFT)?)?;
+    expect_never(&rt, rt.alloc(), &map_of(rt.alloc(), &TWO_SCROLL_LOCKS)?)?;
+    expect_never(&rt, rt.alloc(), &map_of(rt.alloc(), &CAPS_AND_NUM)?)?;
+    expect_never(&rt, rt.alloc(), &map_with_accents(rt.alloc())?)?;
+    expect_never(&rt, rt.alloc(), &map_of(rt.alloc(), &TWO_CONTROLS)?)?;
+    expect_never(&rt, rt.alloc(), &map_of(rt.alloc(), &UPPER_HALF)?)?;
+    expect_never(&rt, rt.alloc(), &map_of(rt.alloc(), &SHIFT_AND_CAPS)?)
+}
+
+#[test]
+fn a_map_of_too_many_states_is_undecided(rt: HostRuntime) -> Result<(), Fail> {
+    match sticking(rt.alloc(), &map_of_many_modifiers(rt.alloc())?)? {
+        Sticking::Undecided => {}
+        Sticking::Sticks(_) | Sticking::Never => assert!(rt; false),
+    }
+    Ok(())
+}

@@ -1,0 +1,87 @@
+//! What the search for sticking modifiers writes.
+
+use crate::runs::{ENDLESS, READS, settled, stopped, written};
+use keymap_core::{Read, Write};
+use keymap_text::{TextFault, TextFaultKind};
+use kmap_runs::{RunError, search_run};
+use std::test::Fail;
+use test_devices::{endless_blanks, reader_of, slow_sheet_of};
+use test_keymaps::texts::{LETTER_AND_SHIFT, SHIFT_WITH_TRAP};
+
+/// Shift and the alt lock: what the text doesn't define in the upper half counts as characters.
+const UPPER_HALF_UNDEFINED: &[u8] = b"042 lshift lshift lshift lshift lshift lshift lshift lshift O
+058 alock alock alock alock alock alock alock alock O
+";
+
+/// A keymap, whether it never sticks, and what is written of it.
+const FOUND: [(&[u8], bool, &[u8]); 3] = [
+    (LETTER_AND_SHIFT, true, b"# never sticks\n"),
+    (
+        SHIFT_WITH_TRAP,
+        false,
+        b"# sticks: lshift\ndown 42\ndown 29\ndown 42\nup 29\nup 42\n",
+    ),
+    (
+        UPPER_HALF_UNDEFINED,
+        false,
+        b"# sticks: lshift\ndown 42\ndown 58\nup 58\ndown 42\nup 42\n",
+    ),
+];
+
+#[test]
+fn what_is_found_is_written_as_a_script(rt: HostRuntime) -> Result<(), Fail> {
+    for (text, never, script) in FOUND {
+        for most in 0..=script.len() {
+            let mut reader = reader_of(text, 7, usize::MAX);
+            let mut writer = slow_sheet_of(1, most);
+            let answer = search_run(rt.alloc(), &mut reader, &mut writer);
+            assert_eq!(rt;
+                settled(answer, &writer)?,
+                written(never, most, script.len())
+            );
+            assert_eq!(rt; writer.bytes.as_slice(), &script[..most]);
+            assert_eq!(rt; writer.failed(), most < script.len());
+        }
+    }
+    Ok(())
+}
+
+#[test]
+fn a_faulty_text_is_not_searched(rt: HostRuntime) -> Result<(), Fail> {
+    let fault = TextFault {
+        offset: 3,
+        line: 1,
+        kind: TextFaultKind::EndInside,
+    };
+    let mut reader = reader_of(b"1 '", 1, usize::MAX);
+    let mut writer = slow_sheet_of(1, usize::MAX);
+    let answer = search_run(rt.alloc(), &mut reader, &mut writer);
+    assert_eq!(rt; settled(answer, &writer)?, Err(RunError::Text(fault)));
+    assert!(rt; writer.bytes.is_empty() && !writer.failed());
+    Ok(())
+}
+
+#[test]
+fn a_text_without_end_is_not_searched(rt: HostRuntime) -> Result<(), Fail> {
+    let mut reader = endless_blanks();
+    let mut writer = slow_sheet_of(1, usize::MAX);
+    let answer = search_run(rt.alloc(), &mut reader, &mut writer);
+    let wanted = Err(RunError::ReadText(ENDLESS));
+    assert_eq!(rt; settled(answer, &writer)?, wanted);
+    assert!(rt; reader.reads <= READS && !reader.failed());
+    assert!(rt; writer.bytes.is_empty() && !writer.failed());
+    Ok(())
+}
+
+#[test]
+fn a_text_that_stops_is_not_searched(rt: HostRuntime) -> Result<(), Fail> {
+    for most in 0..=LETTER_AND_SHIFT.len() {
+        let mut reader = reader_of(LETTER_AND_SHIFT, usize::MAX, most);
+        let mut writer = slow_sheet_of(1, usize::MAX);
+        let answer = search_run(rt.alloc(), &mut reader, &mut writer);
+        let wanted = Err(RunError::ReadText(stopped(most)));
+        assert_eq!(rt; settled(answer, &writer)?, wanted);
+        assert!(rt; reader.failed() && writer.bytes.is_empty() && !writer.failed());
+    }
+    Ok(())
+}

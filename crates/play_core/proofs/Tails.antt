@@ -80,12 +80,12 @@ tail_spelled on locked start a b c d e pa pb pc pd pe = rw (pe, pd, pc, pb, pa) 
 
 -- the parts of a line, added in turn
 pub line_spelled : (event : Event) (answer : Answer) (on : Modifier → Bool) (locked : Lock → Bool)
-    (start a b c d : List ℕ)
-    → a ≡ start ++ event_text event
-    → b ≡ a ++ codes ": " → c ≡ b ++ answer_text answer → d ≡ c ++ tail_of on locked
-    → d ≡ start ++ line_of event answer on locked
+    (start head body whole : List ℕ)
+    → head ≡ start ++ (event_text event ++ codes ": ") → body ≡ head ++ answer_text answer
+    → whole ≡ body ++ tail_of on locked
+    → whole ≡ start ++ line_of event answer on locked
 unfolding tail_of line_of
-line_spelled event answer on locked start a b c d pa pb pc pd = rw (pd, pc, pb, pa) (simp append_assoc)
+line_spelled event answer on locked start head body whole h b w = rw (w, b, h) (simp append_assoc)
 
 -- a name is printed exactly if it is on
 if_on : (is_on : Bool) (name : List ℕ) → cond is_on (32 ∷ name) [] ≡ name_if is_on name

@@ -1,9 +1,9 @@
 //! The line of an event: what was delivered, the answer to it, and the modifiers and locks that are on after it.
-ghost use Rattle.std.specs.Prelude.{◌≡◌, ◌+◌, ◌<◌, ◌≤◌, ◌++◌, length};
+ghost use Rattle.std.specs.Prelude.{◌≡◌, ◌+◌, ◌<◌, ◌≤◌, ◌++◌, length, codes};
 ghost use Rattle.keymap_core.specs.Actions.{name_of, two_digits};
 ghost use Rattle.play_core.specs.Written as spec;
 
-use crate::number::push_number;
+use crate::number::{push_number, push_small_number};
 use crate::piece::Piece;
 use crate::tail::{Tails, push_tail};
 use console_core::{Answer, Event, Translator};
@@ -22,29 +22,24 @@ pub(crate) fn push_line<T: Translator>(
         ≡ text.old.items ++ spec.line_of event.now answer.now (T.shows_on console.now) (T.shows_locked console.now) }
     ensures size { length text.new.items ≤ length text.old.items + 140 }
 {
-    push_event(text, event);
-    text.add(b": ");
+    push_head(text, event);
     push_answer(text, answer);
     push_tail(text, tails, console);
 }
 
+/// Adds the head of a line: what was delivered, a colon and a blank.
+#[inline(always)]
 #[tactic(auto, unfolding(crate::specs::Written::event_text))]
-fn push_event(text: &mut Piece, event: &Event)
+fn push_head(text: &mut Piece, event: &Event)
     requires { length text.old.items + 22 ≤ 4096 }
-    ensures text { text.new.items ≡ text.old.items ++ spec.event_text event.now }
-    ensures size { length text.new.items ≤ length text.old.items + 18 }
+    ensures text { text.new.items ≡ text.old.items ++ (spec.event_text event.now ++ codes ": ") }
+    ensures size { length text.new.items ≤ length text.old.items + 20 }
 {
     match event {
-        Event::Press(key) => {
-            text.add(b"press ");
-            push_number(text, u32::from(key.get()));
-        }
-        Event::Release(key) => {
-            text.add(b"release ");
-            push_number(text, u32::from(key.get()));
-        }
-        Event::Reset => text.add(b"reset"),
-        Event::Load => text.add(b"load"),
+        Event::Press(key) => push_small_number(text, b"press ", key.get(), b": "),
+        Event::Release(key) => push_small_number(text, b"release ", key.get(), b": "),
+        Event::Reset => text.add(b"reset: "),
+        Event::Load => text.add(b"load: "),
     }
 }
 
@@ -57,14 +52,8 @@ fn push_answer(text: &mut Piece, answer: &Answer)
     match answer {
         Answer::None => text.add(b"none"),
         Answer::Error => text.add(b"error"),
-        Answer::Char { c, meta: false } => {
-            text.add(b"char ");
-            push_number(text, u32::from(*c));
-        }
-        Answer::Char { c, meta: true } => {
-            text.add(b"meta char ");
-            push_number(text, u32::from(*c));
-        }
+        Answer::Char { c, meta: false } => push_number(text, b"char ", u32::from(*c)),
+        Answer::Char { c, meta: true } => push_number(text, b"meta char ", u32::from(*c)),
         Answer::Special(action) => push_name(text, *action),
         Answer::BackTab => text.add(b"btab"),
         Answer::Released(action) => {

@@ -22,17 +22,34 @@ static SMALL_NUMBERS: [[u8; 4]; 128] = [
     *b"126 ", *b"127 ",
 ];
 
-/// Adds a number.
+/// Adds a number below 128 between two texts.
 #[inline(always)]
-pub(crate) fn push_number(text: &mut Piece, number: u32)
-    requires { length text.old.items + 14 ≤ 4096 }
-    ensures text { text.new.items ≡ text.old.items ++ decimal number }
-    ensures size { length text.new.items ≤ length text.old.items + 10 }
+pub(crate) fn push_small_number<const L: usize, const N: usize>(
+    text: &mut Piece,
+    before: &[u8; L],
+    number: u8,
+    after: &[u8; N],
+)
+    requires small { number < 128 }
+    requires room { length text.old.items + (L + 4 + N) ≤ 4096 }
+    ensures text { text.new.items ≡ text.old.items ++ (before.now ++ (decimal number ++ after.now)) }
+    ensures size { length text.new.items ≤ length text.old.items + (L + 3 + N) }
+{
+    let digits = 1 + (number > 9) as usize + (number > 99) as usize;
+    text.add_between::<L, 4, N>(before, &SMALL_NUMBERS[number as usize], digits, after);
+}
+
+/// Adds a number behind a text.
+#[inline(always)]
+pub(crate) fn push_number<const L: usize>(text: &mut Piece, before: &[u8; L], number: u32)
+    requires { length text.old.items + (L + 14) ≤ 4096 }
+    ensures text { text.new.items ≡ text.old.items ++ (before.now ++ decimal number) }
+    ensures size { length text.new.items ≤ length text.old.items + (L + 10) }
 {
     if number < 128 {
-        let digits = 1 + (number > 9) as usize + (number > 99) as usize;
-        text.add_front::<4, 4>(&SMALL_NUMBERS[number as usize], digits);
+        push_small_number(text, before, number as u8, b"");
     } else {
+        text.add(before);
         push_large_number(text, number);
     }
 }

@@ -24,6 +24,18 @@ impl Model for Piece {
     ghost invariant = { λ p. (p.len ≤ 4096) × (length p.bytes ≡ 4096) };
 }
 
+/// Stores the first `M` bytes of an array at a place.
+#[inline(always)]
+fn store<const M: usize, const N: usize>(bytes: &mut [u8; ROOM], at: usize, piece: &[u8; N])
+    requires room { at + M ≤ 4096 }
+    requires within { M ≤ N }
+    ensures { take (at + M) bytes.new ≡ take at bytes.old ++ take M piece.now }
+{
+    for i in 0..M {
+        bytes[at + i] = piece[i];
+    }
+}
+
 impl Piece {
     /// No bytes.
     pub fn new() -> Piece
@@ -75,10 +87,29 @@ impl Piece {
         ensures items { self.new.items ≡ self.old.items ++ take count piece.now }
     {
         let len = self.len;
-        for i in 0..M {
-            self.bytes[len + i] = piece[i];
-        }
+        store::<M, N>(&mut self.bytes, len, piece);
         self.len = len + count;
+    }
+
+    /// Adds an array, the first bytes of another, and a third array. The length is kept once for all three.
+    #[inline(always)]
+    pub fn add_between<const L: usize, const M: usize, const N: usize>(
+        &mut self,
+        before: &[u8; L],
+        piece: &[u8; M],
+        count: usize,
+        after: &[u8; N],
+    )
+        requires room { length self.old.items + (L + M + N) ≤ 4096 }
+        requires front { count ≤ M }
+        ensures items { self.new.items ≡ self.old.items ++ (before.now ++ (take count piece.now ++ after.now)) }
+    {
+        let middle = self.len + L;
+        let end = middle + count;
+        store::<L, L>(&mut self.bytes, self.len, before);
+        store::<M, M>(&mut self.bytes, middle, piece);
+        store::<N, N>(&mut self.bytes, end, after);
+        self.len = end + N;
     }
 
     /// Adds the bytes of an array.

@@ -7,9 +7,9 @@ use Rattle.play_core.proofs.piece.Piece.add_front.Goals as goal
 pub returns : goal.returns
 returns g c = record {
   items =
-      front_counted (take c.self.inside.len c.self.inside.bytes) c.loop-i.self-inside.bytes c.args.piece.now
-      c.self.inside.len c.loop-i.i c.args.count
+      front_counted (take c.self.inside.len c.self.inside.bytes) c.store.new.bytes c.args.piece.now
+      c.self.inside.len g.row.M c.args.count
       (sym (length-take-le c.self.inside.len c.self.inside.bytes (omega (arith, c.self.invariant)))) (omega arith)
-      c.loop-i.invariant.text
+      c.store.ensures
       ∙ ap (λ (v : PieceValue). v.items ++ take c.args.count c.args.piece.now) c.self.view_is;
 }

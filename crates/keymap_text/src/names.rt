@@ -181,9 +181,8 @@ fn key_of_eight(bytes: &[u8], n: usize) -> u64
     requires room { 8 ≤ length bytes.now }
     ensures { result ≡ pack 8 (map to_ascii_lowercase (take n bytes.now)) }
 {
-    let mut eight = [0; 8];
-    eight.copy_from_slice(&bytes[..8]);
-    (u64::from_le_bytes(eight) & LOW_BYTES[n]) | 0x2020_2020_2020_2020
+    let eight = bytes.first_chunk::<8>().unwrap();
+    (u64::from_le_bytes(*eight) & LOW_BYTES[n]) | 0x2020_2020_2020_2020
 }
 
 #[inline(never)]
@@ -260,10 +259,10 @@ pub(crate) fn name_meaning(bytes: &[u8], n: usize) -> Option<Meaning>
         return None;
     }
     let key = key_of(bytes, n);
-    if key % 0x1_0000_0000 == 0x7965_6b66 || key % 0x100_0000 == 0x72_6373 {
-        return numbered_meaning(key);
+    match key_meaning(&NAMES, key) {
+        Some(meaning) => Some(meaning),
+        None => numbered_meaning(key),
     }
-    key_meaning(&NAMES, key)
 }
 
 /// The control characters 0 to 31 in their order, del, further names of characters, the lock letters, and the actions

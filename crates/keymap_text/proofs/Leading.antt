@@ -2,7 +2,9 @@
 use Rattle.std.proofs.Common.{◌≡◌, ℕ, zero, suc, ◌+◌, ◌<◌, ◌≤◌, Bool, true, false, cond, List, [], ◌∷◌, ◌++◌, length}
 use Rattle.std.proofs.Common.{take, drop, get_or, refl, sym, ◌∙◌, ap, arith, add-one, drop-cons, length-append}
 use Rattle.std.proofs.lemmas.List.{at_drop_all}
-use Rattle.keymap_text.specs.Lexical.{leading}
+use Rattle.std.proofs.lemmas.Bool.Decides.{nat_tests}
+use Rattle.std.specs.Prelude.{◌==◌}
+use Rattle.keymap_text.specs.Lexical.{leading, is_space}
 
 -- the number, where the first byte passes and where it does not
 pub leading_pass : (p : ℕ → Bool) (c : ℕ) (cs : List ℕ) → p c ≡ true → leading p (c ∷ cs) ≡ leading p cs + 1
@@ -101,5 +103,25 @@ leading_same p (suc n) (a ∷ v) (c ∷ w) e h =
           k (omega (arith, h, leading_pass p c w t)),
         )
     go false t k = absurd (omega (arith, h, leading_fail p c w t))
+
+-- a space is a blank
+space_is_blank : (c : ℕ) → c == 32 ≡ true → is_space c ≡ true
+space_is_blank c h = grind (arith, nat_tests)
+
+-- so there are as many blanks in front as spaces
+pub plain_spaces : (xs : List ℕ) → leading (λ c. c == 32) xs ≤ leading is_space xs
+plain_spaces [] = omega (arith, leading_none (λ c. c == 32))
+plain_spaces (x ∷ xs) = go (x == 32) refl (plain_spaces xs)
+  where
+    go : (b : Bool) → x == 32 ≡ b → leading (λ c. c == 32) xs ≤ leading is_space xs
+        → leading (λ c. c == 32) (x ∷ xs) ≤ leading is_space (x ∷ xs)
+    go true e k =
+        omega (
+          arith,
+          leading_pass (λ c. c == 32) x xs e,
+          leading_pass is_space x xs (space_is_blank x e),
+          k,
+        )
+    go false e k = omega (arith, leading_fail (λ c. c == 32) x xs e)
 
 pub ruleset leading_rules = (leading_pass_at, leading_fail_at, leading_end, leading_le)

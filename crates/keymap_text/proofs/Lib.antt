@@ -25,3 +25,5 @@ pub mod Meanings
 pub mod Runs
 pub mod Classes
 pub mod Vectors
+pub mod Cells
+pub mod Pairs

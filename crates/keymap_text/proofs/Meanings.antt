@@ -14,6 +14,7 @@ use Rattle.keymap_text.specs.declared.names.TheConstants.{NAMES}
 use Rattle.keymap_text.specs.declared.names.Name.{Name}
 use Rattle.keymap_text.specs.declared.words.Meaning.{Meaning}
 use Rattle.keymap_text.specs.Inner.Keys.{pack, unpacked, KeyMeans, IsTrueName, function_name, screen_name}
+use Rattle.keymap_text.specs.Inner.Keys.{name_key, place_of, ArePlaced}
 use Rattle.keymap_text.proofs.Keys.{unpack_packed, letters_front}
 use Rattle.keymap_text.proofs.Characters.{along}
 use Rattle.keymap_text.specs.Lexical.{leading, is_word}
@@ -184,6 +185,15 @@ pub names_true : All IsTrueName NAMES
 names_true =
     λ k d h. means_of (from_le_bytes w64 (get_or NAMES k d).0) (sense_meaning (get_or NAMES k d).1)
     (at_name (λ r. sense_meaning r.1) (λ r. meaning (unpacked 8 (from_le_bytes w64 r.0))) name_meanings k d h)
+
+-- the key of each name leads to its row, by computation
+places : (d : Name) → map (λ i. place_of (name_key (get_or NAMES i d))) (range_with_len 0 84)
+    ≡ map (λ i. i) (range_with_len 0 84)
+places d = refl
+
+-- no name hides another
+pub names_placed : ArePlaced NAMES
+names_placed i d h = along (λ i. place_of (name_key (get_or NAMES i d))) (λ i. i) 0 84 (places d) i (omega arith) h
 
 -- the key of a function key's name means that key
 pub function_means : (n key : ℕ) → 0 < n → n ≤ 96 → key ≡ function_name n → KeyMeans key (Act (a.Function n))

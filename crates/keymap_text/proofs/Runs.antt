@@ -56,10 +56,10 @@ split_spaces (suc n) q (c ∷ xs) y h = go (is_space c) refl (split_spaces n (q 
 
 -- blanks in front change the offset alone
 pub take_spaces : (s : GrammarState) (m : Mode) (p : List ℕ) (q n : ℕ) (rest : List ℕ) → m ≡ modes.Between
-    → n ≡ leading is_space rest → (x : List ℕ)
+    → n ≤ leading is_space rest → (x : List ℕ)
     → judge s (tokens_of m p q (rest ++ x)) ≡ judge s (tokens_of m p (q + n) (drop n rest ++ x))
 take_spaces s m p q n rest h e x =
-    ap (λ m. judge s (tokens_of m p q (rest ++ x))) h ∙ ap (judge s) (split_spaces n q rest x (omega (arith, e)))
+    ap (λ m. judge s (tokens_of m p q (rest ++ x))) h ∙ ap (judge s) (split_spaces n q rest x e)
     ∙ sym (ap (λ m. judge s (tokens_of m p (q + n) (drop n rest ++ x))) h)
 
 -- a word
@@ -418,12 +418,12 @@ all_lined old new bytes a b h =
     subst (λ (t : List ℕ). Lined new (b ++ t)) (take_all (length bytes) bytes (omega arith)) (a.line b h)
 
 -- the same with one byte
-behind_first : (piece : List ℕ) (i : ℕ) → i < length piece
+pub behind_first : (piece : List ℕ) (i : ℕ) → i < length piece
     → get_or piece i 0 ≡ get_or (take (length piece - i) (drop i piece)) 0 0
 behind_first piece i h = sym (ap (λ (t : List ℕ). get_or t 0 0) (to_end piece i ∙ drop-cons piece i 0 h))
 
 -- bytes are left in a piece
-behind_some : (piece : List ℕ) (i : ℕ) → i < length piece → 0 < length (take (length piece - i) (drop i piece))
+pub behind_some : (piece : List ℕ) (i : ℕ) → i < length piece → 0 < length (take (length piece - i) (drop i piece))
 behind_some piece i h = omega (arith, ap length (to_end piece i), length-drop i piece, h)
 
 -- one byte of a piece was taken

@@ -1,7 +1,7 @@
 //! Definitions, token by token.
 ghost use Rattle.std.specs.Prelude.{◌≡◌, ◌<◌, Ok, Err, Result, OnOk, length, if◌then◌else◌, IfSome, ◌≢◌};
 ghost use lib.Utf8.{scalar};
-ghost use Rattle.keymap_core.specs.Maps.{with_accent};
+ghost use Rattle.keymap_core.specs.Maps.{with_accent, with_entry};
 ghost use Rattle.keymap_core.specs.Numbers.{column_count, accent_limit, pair_limit};
 ghost use Rattle.keymap_text.specs.Inner.Views.{Steps, Leads, state_view, place_view, IsPlace};
 ghost use Rattle.keymap_text.specs.Items as items;
@@ -50,17 +50,21 @@ fn refusal(item: &Item) -> TextFaultKind
     }
 }
 
+#[inline(always)]
 fn scalar_of(n: u128) -> Result<char, TextFaultKind>
     ensures { result ≡ if scalar n then Ok n else Err TextFaultKind.BadChar }
 {
-    if n < 0xD800 || (n >= 0xE000 && n < 0x110000) {
-        Ok(char::from_u32(n as u32).unwrap())
-    } else {
-        Err(TextFaultKind::BadChar)
+    if n >= 0x110000 {
+        return Err(TextFaultKind::BadChar);
+    }
+    match char::from_u32(n as u32) {
+        Some(c) => Ok(c),
+        None => Err(TextFaultKind::BadChar),
     }
 }
 
-fn character_of(item: &Item) -> Result<char, TextFaultKind>
+#[inline(always)]
+pub(crate) fn character_of(item: &Item) -> Result<char, TextFaultKind>
     ensures { result ≡ items.character item.now }
 {
     match item {
@@ -70,7 +74,8 @@ fn character_of(item: &Item) -> Result<char, TextFaultKind>
     }
 }
 
-fn cell_of(item: &Item) -> Result<Cell, TextFaultKind>
+#[inline(always)]
+pub(crate) fn cell_of(item: &Item) -> Result<Cell, TextFaultKind>
     ensures { result ≡ items.cell item.now }
 {
     match item {
@@ -82,7 +87,8 @@ fn cell_of(item: &Item) -> Result<Cell, TextFaultKind>
     }
 }
 
-fn lock_of(item: &Item) -> Result<LockFlag, TextFaultKind>
+#[inline(always)]
+pub(crate) fn lock_of(item: &Item) -> Result<LockFlag, TextFaultKind>
     ensures { result ≡ items.lock item.now }
 {
     match item {
@@ -123,6 +129,16 @@ fn first_place(item: &Item) -> Result<Place, TextFaultKind>
         },
         other => Err(refusal(other)),
     }
+}
+
+/// Adds a pair, for which there is room, to the accent.
+#[inline(always)]
+pub(crate) fn push_pair(accent: &mut Accent, base: char, composed: char)
+    requires room { length accent.old.pairs < pair_limit }
+    requires base { base ≢ 0 }
+    ensures { accent.new ≡ spec.with_pair accent.old base composed }
+{
+    accent.push_pair(base, composed).unwrap();
 }
 
 impl Grammar {
@@ -175,7 +191,7 @@ impl Grammar {
 
     /// Takes the next token, where a cell is wanted. After an `Err` the value is of no use.
     #[inline(always)]
-    pub(crate) fn cell(&mut self, slot: u8, index: u8, item: &Item) -> Result<(), TextFaultKind>
+    fn cell(&mut self, slot: u8, index: u8, item: &Item) -> Result<(), TextFaultKind>
         requires { index < column_count }
         ensures steps { Steps result (spec.step self.old.map (spec.CellAt slot index self.old.entry) item.now)
             (state_view self.new) }
@@ -201,10 +217,20 @@ impl Grammar {
         ensures place { OnOk result (IsPlace self.new.place self.new.accent) }
     {
         let flag = lock_of(item)?;
+        self.close_entry(slot, flag);
+        Ok(())
+    }
+
+    /// Puts the entry that is complete into the map.
+    #[inline(always)]
+    pub(crate) fn close_entry(&mut self, slot: u8, flag: LockFlag)
+        ensures map { self.new.map
+            ≡ with_entry self.old.map slot (record { cells = self.old.entry.cells; flag = flag }) }
+        ensures place { self.new.place ≡ Place.Definition }
+    {
         self.entry.flag = flag;
         self.map.set(slot, self.entry);
         self.place = Place::Definition;
-        Ok(())
     }
 
     #[inline(always)]
@@ -303,7 +329,7 @@ impl Grammar {
         let Item::Close = item else {
             return Err(refusal(item));
         };
-        self.accent.push_pair(base, composed).unwrap();
+        push_pair(&mut self.accent, base, composed);
         self.place = Place::AfterAccent { index };
         Ok(())
     }

@@ -1,12 +1,12 @@
 //! The names of characters, lock letters and actions: one table, by which words are read and control characters are
 //! printed.
 ghost use Rattle.std.specs.Prelude.{◌≡◌, ◌==◌, ◌⊎◌, ◌≤◌, ◌<◌, if◌then◌else◌, All, IfSome, length, map, take, Some};
-ghost use Rattle.std.specs.Prelude.{None};
+ghost use Rattle.std.specs.Prelude.{ℕ, ◌+◌, ◌*◌, ◌/◌, ◌%◌, None, IsSome, slice_index_or};
 ghost use Rattle.std.specs.Char.{to_ascii_lowercase};
 ghost use Rattle.keymap_text.specs.Lexical.{leading, is_word};
 ghost use Rattle.keymap_text.specs.Words.{meaning, is_letter, letters, same_name, sense_meaning, meaning_by_names};
 ghost use Rattle.keymap_text.specs.Words.{named, table};
-ghost use Rattle.keymap_text.specs.Inner.Keys.{pack, KeyMeans, IsTrueName, function_name, screen_name};
+ghost use Rattle.keymap_text.specs.Inner.Keys.{pack, KeyMeans, IsTrueName, ArePlaced, name_key};
 ghost use Rattle.keymap_text.specs.Printed as printed;
 
 use crate::words::Meaning;
@@ -181,9 +181,8 @@ fn key_of_eight(bytes: &[u8], n: usize) -> u64
     requires room { 8 ≤ length bytes.now }
     ensures { result ≡ pack 8 (map to_ascii_lowercase (take n bytes.now)) }
 {
-    let mut eight = [0; 8];
-    eight.copy_from_slice(&bytes[..8]);
-    (u64::from_le_bytes(eight) & LOW_BYTES[n]) | 0x2020_2020_2020_2020
+    let eight = bytes.first_chunk::<8>().unwrap();
+    (u64::from_le_bytes(*eight) & LOW_BYTES[n]) | 0x2020_2020_2020_2020
 }
 
 #[inline(never)]
@@ -202,11 +201,15 @@ fn key_at_end(bytes: &[u8], n: usize) -> u64
     key_of_eight(&eight, n)
 }
 
-/// The meaning of the words with this key, if they are a name.
+/// The meaning of the words with this key, if they are a name. A name that another one hid from it would break the
+/// requirement `placed`.
 #[inline(always)]
 fn key_meaning(names: &[Name], key: u64) -> Option<Meaning>
-    requires { All IsTrueName names.now }
-    ensures { IfSome result (KeyMeans key) }
+    requires means { All IsTrueName names.now }
+    requires placed { ArePlaced names.now }
+    ensures means { IfSome result (KeyMeans key) }
+    ensures found { (i : ℕ) (d : Name) → i < length names.now → name_key (slice_index_or names.now i d) ≡ key
+        → IsSome result }
 {
     let place = PLACES[(key.wrapping_mul(SPREAD) / 0x100_0000_0000_0000) as usize] as usize;
     if place < names.len() && u64::from_le_bytes(names[place].0) == key {
@@ -216,22 +219,24 @@ fn key_meaning(names: &[Name], key: u64) -> Option<Meaning>
     }
 }
 
-/// The key of the name of a function key.
-#[inline(always)]
-fn function_key(n: u64) -> u64
-    requires { n < 100 }
-    ensures { result ≡ function_name n }
-{
-    0x2020_3030_7965_6b66 + n / 10 * 0x1_0000_0000 + n % 10 * 0x100_0000_0000
-}
+/// The key of `fkey00`, which is no name, and which the keys of function keys exceed by their digits.
+const FUNCTION_ZERO: u64 = 0x2020_3030_7965_6b66;
 
-/// The key of the name of a screen.
+/// The key of `scr00`, for screens.
+const SCREEN_ZERO: u64 = 0x2020_2030_3072_6373;
+
+/// The number of two digits, whose values are bytes and of which the first is the lowest byte; 0 where one is none.
 #[inline(always)]
-fn screen_key(n: u64) -> u64
-    requires { n < 100 }
-    ensures { result ≡ screen_name n }
+fn two_digits(digits: u64) -> u64
+    ensures { 0 < result → (result < 100) × (digits ≡ result / 10 + result % 10 * 256) }
 {
-    0x2020_2030_3072_6373 + n / 10 * 0x100_0000 + n % 10 * 0x1_0000_0000
+    let tens = digits % 256;
+    let ones = digits / 256;
+    if tens < 10 && ones < 10 {
+        tens * 10 + ones
+    } else {
+        0
+    }
 }
 
 /// The meaning of the words with this key, if they are the name of a function key or a screen, with two digits.
@@ -239,13 +244,19 @@ fn screen_key(n: u64) -> u64
 fn numbered_meaning(key: u64) -> Option<Meaning>
     ensures { IfSome result (KeyMeans key) }
 {
-    let n = key / 0x1_0000_0000 % 16 * 10 + key / 0x100_0000_0000 % 16;
-    if n > 0 && n <= 96 && key == function_key(n) {
-        return Some(Meaning::Act(Action::Function(FunctionNumber::new(n as u8))));
+    let behind = key.wrapping_sub(FUNCTION_ZERO);
+    if behind % 0x1_0000_0000 == 0 {
+        let n = two_digits(behind / 0x1_0000_0000);
+        if n > 0 && n <= 96 {
+            return Some(Meaning::Act(Action::Function(FunctionNumber::new(n as u8))));
+        }
     }
-    let n = key / 0x100_0000 % 16 * 10 + key / 0x1_0000_0000 % 16;
-    if n > 0 && n <= 16 && key == screen_key(n) {
-        return Some(Meaning::Act(Action::Screen(ScreenNumber::new(n as u8))));
+    let behind = key.wrapping_sub(SCREEN_ZERO);
+    if behind % 0x100_0000 == 0 {
+        let n = two_digits(behind / 0x100_0000);
+        if n > 0 && n <= 16 {
+            return Some(Meaning::Act(Action::Screen(ScreenNumber::new(n as u8))));
+        }
     }
     None
 }
@@ -260,10 +271,10 @@ pub(crate) fn name_meaning(bytes: &[u8], n: usize) -> Option<Meaning>
         return None;
     }
     let key = key_of(bytes, n);
-    if key % 0x1_0000_0000 == 0x7965_6b66 || key % 0x100_0000 == 0x72_6373 {
-        return numbered_meaning(key);
+    match key_meaning(&NAMES, key) {
+        Some(meaning) => Some(meaning),
+        None => numbered_meaning(key),
     }
-    key_meaning(&NAMES, key)
 }
 
 /// The control characters 0 to 31 in their order, del, further names of characters, the lock letters, and the actions
@@ -355,22 +366,23 @@ static NAMES: [Name; 84] = [
     Name(*b"ddia    ", Sense::DeadKey(7)),
 ];
 
-/// It spreads the keys of the names, so that the high bytes of the products differ.
-const SPREAD: u64 = 0x7e90_c5c6_7771_b3ad;
+/// It keeps the keys of the names apart: no two of their products have the same high byte. Found by trying random odd
+/// numbers, as bench/find_spread.py does, which prints it and `PLACES` for the names above.
+const SPREAD: u64 = 0xebcb_a9e4_71cd_1edd;
 
 /// Where the name stands whose key times `SPREAD` has this high byte; 255 where none has.
 static PLACES: [u8; 256] = [
-    255, 255, 1, 255, 255, 0, 255, 32, 44, 255, 7, 255, 255, 48, 255, 255, 43, 66, 255, 255, 255,
-    255, 255, 18, 255, 76, 64, 255, 255, 56, 255, 255, 255, 255, 71, 255, 255, 255, 55, 30, 255,
-    255, 255, 255, 13, 31, 255, 50, 53, 68, 2, 75, 255, 63, 255, 10, 28, 255, 255, 255, 38, 255, 8,
-    255, 255, 255, 255, 255, 255, 255, 3, 23, 255, 255, 255, 255, 255, 22, 39, 255, 255, 17, 255,
-    72, 255, 25, 61, 42, 255, 255, 82, 255, 4, 78, 255, 41, 255, 255, 14, 255, 255, 255, 255, 255,
-    255, 255, 255, 255, 79, 255, 255, 255, 255, 255, 255, 255, 255, 255, 58, 255, 255, 5, 34, 255,
-    27, 255, 255, 70, 255, 255, 69, 255, 255, 255, 255, 255, 62, 83, 255, 255, 255, 255, 255, 255,
-    255, 255, 81, 255, 16, 255, 255, 255, 255, 255, 255, 255, 255, 255, 255, 255, 255, 255, 20, 35,
-    6, 255, 255, 255, 51, 74, 255, 255, 255, 255, 255, 80, 255, 255, 11, 255, 255, 255, 54, 29, 40,
-    255, 255, 36, 255, 255, 255, 49, 255, 255, 52, 255, 26, 60, 9, 255, 255, 255, 255, 255, 37,
-    255, 255, 46, 255, 24, 255, 255, 255, 33, 255, 255, 45, 255, 255, 255, 19, 77, 12, 255, 255,
-    255, 255, 255, 255, 255, 255, 59, 65, 255, 255, 255, 73, 255, 255, 47, 21, 255, 255, 255, 255,
-    255, 255, 255, 67, 255, 255, 255, 255, 255, 15, 57,
+    255, 64, 255, 255, 6, 13, 255, 255, 255, 32, 255, 255, 255, 255, 255, 255, 255, 255, 255, 255,
+    43, 255, 255, 22, 255, 71, 255, 255, 11, 255, 255, 27, 255, 255, 255, 255, 255, 255, 80, 1,
+    255, 76, 255, 66, 255, 61, 45, 79, 59, 7, 78, 255, 58, 255, 255, 9, 4, 255, 255, 255, 12, 255,
+    255, 60, 83, 23, 24, 255, 255, 255, 255, 255, 20, 255, 17, 255, 255, 255, 255, 255, 255, 67,
+    47, 255, 74, 255, 255, 255, 82, 255, 255, 255, 255, 255, 255, 14, 255, 10, 255, 255, 255, 35,
+    21, 255, 255, 255, 255, 255, 255, 70, 255, 5, 255, 255, 255, 255, 41, 255, 255, 255, 255, 255,
+    63, 255, 255, 255, 255, 77, 29, 255, 255, 255, 255, 255, 255, 255, 255, 255, 51, 255, 255, 255,
+    255, 34, 255, 75, 255, 255, 28, 69, 255, 255, 255, 15, 255, 44, 53, 73, 19, 255, 55, 30, 255,
+    48, 255, 255, 255, 255, 255, 255, 255, 255, 255, 255, 255, 255, 255, 255, 255, 255, 255, 46,
+    255, 255, 255, 68, 65, 54, 255, 255, 255, 2, 255, 255, 255, 33, 255, 255, 255, 255, 37, 255,
+    255, 255, 56, 49, 255, 255, 72, 255, 255, 255, 255, 255, 36, 255, 255, 81, 3, 40, 255, 39, 255,
+    255, 255, 255, 25, 57, 255, 8, 255, 255, 255, 255, 38, 255, 255, 255, 255, 50, 255, 26, 31,
+    255, 18, 16, 52, 255, 255, 0, 42, 255, 255, 62, 255, 255,
 ];

@@ -6,19 +6,20 @@ ghost use Rattle.keymap_text.specs.Inner.Judging.{verdict, ended};
 ghost use Rattle.keymap_text.specs.Words.{item, meaning};
 ghost use Rattle.keymap_text.specs.Inner.Views.{state_view, front_view, FoundFits, IsPlace};
 ghost use Rattle.keymap_text.specs.Inner.Resuming.{resume, Takes, Advances, Fronts, IsReader, Accepts, HasNoRole, Says};
-ghost use Rattle.keymap_text.specs.Inner.Resuming.{IsFaultOfPending, Took, line_feed};
+ghost use Rattle.keymap_text.specs.Inner.Resuming.{IsFaultOfPending, Took, TookCell, moved, cell_place, line_feed};
+ghost use Rattle.keymap_text.specs.Inner.Resuming.{FrontsBehind, FrontsCharacter};
 ghost use Rattle.keymap_text.specs.Inner.Grammar as spec;
 ghost use Rattle.keymap_core.specs.Numbers.{column_count};
 
 use crate::fault::{TextFault, TextFaultKind};
-use crate::grammar::{Grammar, Place};
+use crate::grammar::{Grammar, Place, cell_of, character_of, lock_of, push_pair};
 use crate::names::name_meaning;
 use crate::token::{
-    Front, TokenKind, is_blank_byte, is_word_byte, literal_front, space_len, word_len,
+    Front, TokenKind, is_blank_byte, is_word_byte, literal_front, short_word_len, space_len,
 };
 use crate::words::{Item, Meaning, item_of, short_number};
 use arrayvec::ArrayVec;
-use keymap_core::KeyMap;
+use keymap_core::{KeyMap, PAIR_LIMIT};
 
 /// What the bytes are part of that stand after the last whole token.
 #[derive(Clone, Copy)]
@@ -85,8 +86,8 @@ fn whole_token(rest: &[u8]) -> Option<(Item, usize)>
 {
     let c = rest[0];
     if is_word_byte(c) {
-        let n = word_len(rest);
-        if n == rest.len() || n > 15 {
+        let n = short_word_len(rest);
+        if n > 15 {
             return None;
         }
         return match front_meaning(rest, n) {
@@ -104,6 +105,37 @@ fn whole_token(rest: &[u8]) -> Option<(Item, usize)>
         b'(' => Some((Item::Open, 1)),
         b')' => Some((Item::Close, 1)),
         _ => None,
+    }
+}
+
+/// The character in front, behind blanks, and how many bytes these have, where the bytes show that it is whole.
+#[inline(always)]
+fn character_in_front(rest: &[u8]) -> Option<(char, usize)>
+    ensures { IfSome result (λ found. FrontsCharacter rest.now found.0 found.1) }
+{
+    let blanks = space_len(rest);
+    if blanks == rest.len() {
+        return None;
+    }
+    match whole_token(&rest[blanks..]) {
+        None => None,
+        Some((item, n)) => match character_of(&item) {
+            Ok(c) => Some((c, blanks + n)),
+            Err(_) => None,
+        },
+    }
+}
+
+/// How many bytes a right parenthesis in front has with the blanks before it, and 0 where there is none.
+#[inline(always)]
+fn close_in_front(rest: &[u8]) -> usize
+    ensures { 0 < result → FrontsBehind rest.now Item.Close result }
+{
+    let blanks = space_len(rest);
+    if blanks < rest.len() && rest[blanks] == b')' {
+        blanks + 1
+    } else {
+        0
     }
 }
 
@@ -235,10 +267,86 @@ impl Scanner {
             self.end_line();
             return Ok(1);
         }
+        let begun = self.before_cells(rest)?;
         match self.grammar.place {
-            Place::Cell { slot, index } => self.cell(slot, index, rest),
-            _ => self.token(rest),
+            Place::Cell { slot, index } => match self.cells(slot, index, &rest[begun..]) {
+                Ok(n) => Ok(begun + n),
+                Err(kind) => Err(kind),
+            },
+            _ => Ok(begun),
         }
+    }
+
+    /// Takes the pair or the whole token in front, unless a cell is wanted. Answers how many bytes it has, and 0 where
+    /// nothing was taken.
+    #[inline(always)]
+    fn before_cells(&mut self, rest: &[u8]) -> Result<usize, TextFaultKind>
+        requires reader { IsReader self.old }
+        requires mode { self.old.mode ≡ Mode.Between }
+        requires some { 0 < length rest.now }
+        requires room { self.old.offset + length self.old.pending.items + length rest.now < 2 ^ 63 }
+        ensures took { Took result self.old self.new rest.now }
+        ensures mode { OnOk result (self.new.mode ≡ Mode.Between) }
+    {
+        let paired = match self.grammar.place {
+            Place::Cell { .. } => return Ok(0),
+            Place::AfterAccent { index } => self.pair(index, rest),
+            _ => 0,
+        };
+        if paired > 0 {
+            return Ok(paired);
+        }
+        self.token(rest)
+    }
+
+    /// Takes the pair of an accent in front, where it is seen whole. Answers how many bytes it has, and 0 where nothing
+    /// was taken.
+    #[inline(always)]
+    fn pair(&mut self, index: u8, rest: &[u8]) -> usize
+        requires reader { IsReader self.old }
+        requires mode { self.old.mode ≡ Mode.Between }
+        requires place { self.old.grammar.place ≡ Place.AfterAccent index }
+        requires some { 0 < length rest.now }
+        requires room { self.old.offset + length self.old.pending.items + length rest.now < 2 ^ 63 }
+        ensures taken { 0 < result → Advances self.old self.new rest.now result }
+        ensures none { result ≡ 0 → self.new ≡ self.old }
+        ensures mode { self.new.mode ≡ Mode.Between }
+    {
+        if rest[0] != b'(' || self.grammar.accent.pairs().len() >= PAIR_LIMIT {
+            return 0;
+        }
+        let Some((base, i)) = character_in_front(&rest[1..]) else {
+            return 0;
+        };
+        if base == '\0' {
+            return 0;
+        }
+        let Some((composed, j)) = character_in_front(&rest[1 + i..]) else {
+            return 0;
+        };
+        let end = 1 + i + j;
+        let n = close_in_front(&rest[end..]);
+        if n == 0 {
+            return 0;
+        }
+        push_pair(&mut self.grammar.accent, base, composed);
+        self.offset += (end + n) as u64;
+        end + n
+    }
+
+    /// Takes the end of a line where it is in front. Answers how many bytes that has, which is 1 or 0.
+    #[inline(always)]
+    fn line_end(&mut self, rest: &[u8]) -> usize
+        requires reader { IsReader self.old }
+        requires mode { self.old.mode ≡ Mode.Between }
+        requires room { self.old.offset + length self.old.pending.items + length rest.now < 2 ^ 63 }
+        ensures { Advances self.old self.new rest.now result }
+    {
+        if rest.is_empty() || rest[0] != b'\n' {
+            return 0;
+        }
+        self.end_line();
+        1
     }
 
     /// Takes the end of a line between tokens.
@@ -253,25 +361,107 @@ impl Scanner {
         self.offset += 1;
     }
 
-    /// The same as `token` where a cell is wanted, as for most tokens, so that the place is asked for once.
+    /// The same as `token` where a cell is wanted, as for most tokens, and for the cells behind it. The place and the
+    /// offset are kept only behind the last of them.
     #[inline(always)]
-    fn cell(&mut self, slot: u8, index: u8, rest: &[u8]) -> Result<usize, TextFaultKind>
+    fn cells(&mut self, slot: u8, first: u8, rest: &[u8]) -> Result<usize, TextFaultKind>
         requires reader { IsReader self.old }
         requires mode { self.old.mode ≡ Mode.Between }
-        requires place { self.old.grammar.place ≡ Place.Cell slot index }
-        requires index { index < column_count }
-        requires some { 0 < length rest.now }
+        requires place { self.old.grammar.place ≡ Place.Cell slot first }
+        requires index { first < column_count }
         requires room { self.old.offset + length self.old.pending.items + length rest.now < 2 ^ 63 }
         ensures { Took result self.old self.new rest.now }
     {
-        match whole_token(rest) {
-            None => Ok(0),
-            Some((item, n)) => match self.grammar.cell(slot, index, &item) {
-                Ok(()) => {
-                    self.offset += n as u64;
-                    Ok(n)
+        let mut taken: usize = 0;
+        let mut index = first;
+        while index < 8 {
+            match self.next_cell(index, &rest[taken..]) {
+                Err(kind) => {
+                    self.offset += taken as u64;
+                    return Err(kind);
                 }
-                Err(kind) => Err(kind),
+                Ok(0) => {
+                    self.stop_at(slot, index, taken);
+                    return Ok(taken);
+                }
+                Ok(n) => {
+                    taken += n;
+                    index += 1;
+                }
+            }
+        }
+        self.stop_at(slot, index, taken);
+        taken += self.letter(slot, &rest[taken..]);
+        Ok(taken + self.line_end(&rest[taken..]))
+    }
+
+    /// Takes the lock letter in front, where it is seen whole. Answers how many bytes it has with the blanks before it,
+    /// and 0 where nothing was taken.
+    #[inline(always)]
+    fn letter(&mut self, slot: u8, rest: &[u8]) -> usize
+        requires reader { IsReader self.old }
+        requires mode { self.old.mode ≡ Mode.Between }
+        requires place { self.old.grammar.place ≡ Place.Lock slot }
+        requires room { self.old.offset + length self.old.pending.items + length rest.now < 2 ^ 63 }
+        ensures taken { 0 < result → Advances self.old self.new rest.now result }
+        ensures none { result ≡ 0 → self.new ≡ self.old }
+        ensures mode { self.new.mode ≡ Mode.Between }
+    {
+        let blanks = space_len(rest);
+        if blanks == rest.len() {
+            return 0;
+        }
+        match whole_token(&rest[blanks..]) {
+            None => 0,
+            Some((item, n)) => match lock_of(&item) {
+                Ok(flag) => {
+                    self.grammar.close_entry(slot, flag);
+                    self.offset += (blanks + n) as u64;
+                    blanks + n
+                }
+                Err(_) => 0,
+            },
+        }
+    }
+
+    /// Keeps the place of the next cell, or of the lock letter, and the offset so many bytes on.
+    #[inline(always)]
+    fn stop_at(&mut self, slot: u8, index: u8, taken: usize)
+        requires { self.old.offset + taken < 2 ^ 63 }
+        ensures { self.new ≡ moved self.old (cell_place slot index) (self.old.offset + taken) }
+    {
+        self.grammar.place = if index == 8 {
+            Place::Lock { slot }
+        } else {
+            Place::Cell { slot, index }
+        };
+        self.offset += taken as u64;
+    }
+
+    /// Takes the cell in front and the blanks before it, but for place and offset. Answers how many bytes these have,
+    /// and 0 where the bytes show none that is whole. At a fault the offset is as far on as the blanks.
+    #[inline(always)]
+    fn next_cell(&mut self, index: u8, rest: &[u8]) -> Result<usize, TextFaultKind>
+        requires index { index < column_count }
+        requires mode { self.old.mode ≡ Mode.Between }
+        requires room { self.old.offset + length rest.now < 2 ^ 63 }
+        ensures { TookCell result self.old self.new index rest.now }
+    {
+        let blanks = space_len(rest);
+        if blanks == rest.len() {
+            return Ok(0);
+        }
+        match whole_token(&rest[blanks..]) {
+            None => Ok(0),
+            Some((item, n)) => match cell_of(&item) {
+                Ok(cell) => {
+                    self.grammar.entry.cells[index as usize] = cell;
+                    Ok(blanks + n)
+                }
+                Err(kind) => {
+                    self.offset += blanks as u64;
+                    Err(kind)
+                }
             },
         }
     }
@@ -283,7 +473,8 @@ impl Scanner {
         requires mode { self.old.mode ≡ Mode.Between }
         requires some { 0 < length rest.now }
         requires room { self.old.offset + length self.old.pending.items + length rest.now < 2 ^ 63 }
-        ensures { Took result self.old self.new rest.now }
+        ensures took { Took result self.old self.new rest.now }
+        ensures mode { OnOk result (self.new.mode ≡ Mode.Between) }
     {
         match whole_token(rest) {
             None => Ok(0),

@@ -106,24 +106,22 @@ pub(crate) fn is_space_byte(c: u8) -> bool
     SPACE_BYTES[c as usize]
 }
 
-/// How many of the first sixteen bytes are blanks that end no line, up to one that isn't: all are compared at once.
+/// How many of the first sixteen bytes are spaces, up to one that isn't: all are compared at once.
 #[inline(always)]
 fn space_run(bytes: &[u8]) -> usize
     requires { 16 ≤ length bytes.now }
-    ensures { result < 16 → result ≡ leading is_space bytes.now }
+    ensures { result < 16 → result ≡ leading (λ c. c == 32) bytes.now }
 {
-    let v = u8x16::from_slice(bytes);
-    let others = v.simd_ne(u8x16::splat(b' '))
-        & v.simd_ne(u8x16::splat(b'\t'))
-        & v.simd_ne(u8x16::splat(b'\r'));
+    let others = u8x16::from_slice(bytes).simd_ne(u8x16::splat(b' '));
     first_set(others.to_bitmask())
 }
 
-/// How many blanks that end no line stand in front.
-#[tactic(auto, using(crate::proofs::Leading::leading_rules))]
+/// How many blanks that end no line stand in front, up to a tab or carriage return where that is seen at once.
+#[inline(always)]
+#[tactic(auto, using(crate::proofs::Leading::plain_spaces, crate::proofs::Leading::leading_le))]
 pub(crate) fn space_len(bytes: &[u8]) -> usize
     ensures length { result ≤ length bytes.now }
-    ensures value { result ≡ leading is_space bytes.now }
+    ensures blank { result ≤ leading is_space bytes.now }
 {
     if bytes.len() >= 16 {
         let run = space_run(bytes);
@@ -131,6 +129,16 @@ pub(crate) fn space_len(bytes: &[u8]) -> usize
             return run;
         }
     }
+    all_space_len(bytes)
+}
+
+/// How many blanks that end no line stand in front.
+#[inline(never)]
+#[tactic(auto, using(crate::proofs::Leading::leading_rules))]
+fn all_space_len(bytes: &[u8]) -> usize
+    ensures length { result ≤ length bytes.now }
+    ensures value { result ≡ leading is_space bytes.now }
+{
     let mut i: usize = 0;
     while i < bytes.len() && is_space_byte(bytes[i]) {
         i += 1;
@@ -168,6 +176,27 @@ fn first_set(mask: u64) -> usize
     } else {
         mask.trailing_zeros() as usize
     }
+}
+
+/// How many word bytes stand in front, where that is less than 16 and another byte stands behind them; else 16 or more.
+#[inline(always)]
+pub(crate) fn short_word_len(bytes: &[u8]) -> usize
+    ensures { result < 16 → (result < length bytes.now) × (result ≡ leading is_word bytes.now) }
+{
+    if bytes.len() >= 16 {
+        word_run(bytes)
+    } else {
+        short_word_len_at_end(bytes)
+    }
+}
+
+/// The same where few bytes are left.
+#[inline(never)]
+fn short_word_len_at_end(bytes: &[u8]) -> usize
+    ensures { result < 16 → (result < length bytes.now) × (result ≡ leading is_word bytes.now) }
+{
+    let n = word_len(bytes);
+    if n < bytes.len() { n } else { 16 }
 }
 
 /// How many word bytes stand in front.

@@ -1,11 +1,12 @@
--- The keys of words: their bytes as one number. Mirrors `key_of`, `function_key` and `screen_key` of src/names.rt, and
--- `first_set` of src/token.rt.
+-- The keys of words: their bytes as one number. Mirrors `key_of`, `key_meaning` and `numbered_meaning` of src/names.rt,
+-- and `first_set` of src/token.rt.
 use Rattle.std.specs.Prelude.{◌≡◌, ℕ, zero, suc, ◌+◌, ◌*◌, ◌/◌, ◌%◌, ◌≤◌, true, if◌then◌else◌, ◌==◌}
-use Rattle.std.specs.Prelude.{List, [], ◌∷◌, length, map}
+use Rattle.std.specs.Prelude.{List, [], ◌∷◌, length, map, ◌<◌, ◌^◌, slice_index, slice_index_or}
 use Rattle.std.specs.Int.{from_le_bytes, trailing_zeros, w64}
 use Rattle.keymap_text.specs.Lexical.{is_word}
 use Rattle.std.specs.Char.{to_ascii_lowercase}
 use Rattle.keymap_text.specs.declared.names.Name.{Name}
+use Rattle.keymap_text.specs.declared.names.TheConstants.{PLACES, SPREAD}
 use Rattle.keymap_text.specs.declared.words.Meaning.{Meaning}
 use Rattle.keymap_text.specs.Words.{meaning, sense_meaning}
 
@@ -38,6 +39,18 @@ KeyMeans key m = (w : List ℕ) → length w ≤ 8 → AreWordBytes w → pack 8
 
 abbrev pub IsTrueName : Name → Type 0
 IsTrueName name = KeyMeans (from_le_bytes w64 name.0) (sense_meaning name.1)
+
+-- the key of a name
+abbrev pub name_key : Name → ℕ
+name_key name = from_le_bytes w64 name.0
+
+-- where the table of places leads from a key
+abbrev pub place_of : ℕ → ℕ
+place_of key = slice_index PLACES (key * SPREAD % 2 ^ 64 / 2 ^ 56)
+
+-- the key of each name leads to it, so no two names have one place
+abbrev pub ArePlaced : List Name → Type 0
+ArePlaced names = (i : ℕ) (d : Name) → i < length names → place_of (name_key (slice_index_or names i d)) ≡ i
 
 -- the place of the lowest bit that is set, 16 where none is
 abbrev pub first_of_sixteen : ℕ → ℕ

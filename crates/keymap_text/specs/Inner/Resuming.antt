@@ -9,14 +9,19 @@ use Rattle.keymap_text.specs.declared.scanner.Mode.{Mode}
 use Rattle.keymap_text.specs.declared.scanner.Mode.TheVariants as modes
 use Rattle.keymap_text.specs.declared.scanner.Scanner.{Scanner}
 use Rattle.keymap_text.specs.Lexical.{tokens_after, Tokens, TokenValue, Then, leading, stays_on_line, is_word, is_blank}
+use Rattle.keymap_text.specs.Lexical.{is_space}
+use Rattle.std.specs.Prelude.{◌-◌}
 use Rattle.keymap_text.specs.Lexical.{literal}
 use Rattle.keymap_text.specs.Lexical.{Unfinished}
 use Rattle.keymap_text.specs.Meaning.{line, is_settled}
 use Rattle.keymap_text.specs.Inner.Judging.{judge, Verdict, Spelled, Faulty}
+use Rattle.keymap_text.specs.Items.{character}
 use Rattle.keymap_text.specs.Words.{item}
 use Rattle.keymap_text.specs.declared.words.Item.{Item}
 use Rattle.keymap_text.specs.Inner.Grammar.{GrammarState}
 use Rattle.keymap_text.specs.Inner.Views.{state_view, IsPlace}
+use Rattle.keymap_text.specs.declared.grammar.Place.{Place}
+use Rattle.keymap_text.specs.declared.grammar.Place.TheVariants as places
 
 -- the tokens from the pending bytes on, where the bytes x are to come
 abbrev pub tokens_of : Mode → List ℕ → ℕ → List ℕ → Tokens
@@ -111,6 +116,21 @@ pub record Fronts (rest : List ℕ) (i : Item) (n : ℕ) : Type 0 where
   pub inside : n ≤ length rest
   pub one_line : count_by (λ c. c == 10) (take n rest) ≡ 0
 
+-- A whole token, which stands for i, is in front behind blanks, of n bytes together, whatever follows.
+pub record FrontsBehind (rest : List ℕ) (i : Item) (n : ℕ) : Type 0 where
+  pub blanks : ℕ
+  pub size : ℕ
+  pub are_blank : blanks ≤ leading is_space rest
+  pub inside : blanks ≤ length rest
+  pub fronts : Fronts (take (length rest - blanks) (drop blanks rest)) i size
+  pub sum : n ≡ blanks + size
+
+-- So is one that stands for the character c.
+pub record FrontsCharacter (rest : List ℕ) (c : ℕ) (n : ℕ) : Type 0 where
+  pub item : Item
+  pub behind : FrontsBehind rest item n
+  pub is : character item ≡ Ok c
+
 -- What taking all of some bytes did: they were taken, or they have a fault.
 abbrev pub Takes : Result (Unit {0}) TextFault → Scanner → Scanner → List ℕ → Type 0
 Takes (Ok u) old new bytes = Advances old new bytes (length bytes)
@@ -121,3 +141,34 @@ abbrev pub Took : Result ℕ TextFaultKind → Scanner → Scanner → List ℕ 
 Took (Ok n) old new rest = Advances old new rest n
 Took (Err f) old new rest = (e : TextFault) → e.kind ≡ f → e.offset ≡ new.offset → e.line ≡ new.line
     → Refuses old rest e
+
+-- the place of the cell with this index, or of the lock letter behind the eight cells
+abbrev pub cell_place : ℕ → ℕ → Place
+cell_place slot i = if i == 8 then places.Lock slot else places.Cell slot i
+
+-- the scanner at another place and offset
+abbrev pub moved : Scanner → Place → ℕ → Scanner
+moved r p q = record {
+  grammar = record { map = r.grammar.map; place = p; entry = r.grammar.entry; accent = r.grammar.accent };
+  mode = r.mode;
+  pending = r.pending;
+  offset = q;
+  line = r.line;
+}
+
+-- What was done with a cell that is wanted, whatever the slot and the offset: it was taken with the blanks before it, or
+-- nothing was, or there is a fault behind the blanks.
+abbrev pub TookCell : Result ℕ TextFaultKind → Scanner → Scanner → ℕ → List ℕ → Type 0
+TookCell (Ok n) old new i rest = record {
+  mode : new.mode ≡ old.mode;
+  offset : new.offset ≡ old.offset;
+  inside : n ≤ length rest;
+  none : n ≡ 0 → new ≡ old;
+  some : 0 < n → (slot q : ℕ) → IsReader (moved old (places.Cell slot i) q)
+      → Advances (moved old (places.Cell slot i) q) (moved new (cell_place slot (i + 1)) (q + n)) rest n;
+}
+TookCell (Err f) old new i rest = record {
+  inside : new.offset ≤ old.offset + length rest;
+  refuses : (slot q : ℕ) (e : TextFault) → IsReader (moved old (places.Cell slot i) q) → e.kind ≡ f
+      → e.offset + old.offset ≡ q + new.offset → e.line ≡ new.line → Refuses (moved old (places.Cell slot i) q) rest e;
+}

@@ -7,9 +7,10 @@ use Rattle.keymap_text.proofs.scanner.whole_token.Goals as goal
 pub returns-in-Some : goal.returns-in-Some
 returns-in-Some c =
     let rest = c.args.rest.now in
-    let n = c.word_len-n.result in
+    let n = c.short_word_len-n.result in
+    let found = c.short_word_len-n.ensures (omega arith) in
     subst (λ m. Fronts rest (Value m) n) (sym c.in-Some.ensures)
-    (word_fronts n rest c.word_len-n.ensures.value (omega (arith, c.word_len-n.ensures.length))
+    (word_fronts n rest found.1 found.0
     (sym c.is_word_byte.ensures ∙ c.if-is_word_byte.true) (omega arith))
 
 pub returns-else-rest-ne39 : goal.returns-else-rest-ne39

@@ -14,7 +14,7 @@ returns-clause-advances c =
     let none = subst (λ m. KeepsMode m r.pending.items) c.requires.mode c.requires.reader.keeps in
     record {
       takes = take_spaces (state_view r.grammar) r.mode r.pending.items r.offset n rest c.requires.mode
-          c.space_len-n.ensures.value;
+          c.space_len-n.ensures.blank;
       reader = record {
         place = c.requires.reader.place;
         keeps = c.requires.reader.keeps;
@@ -23,5 +23,5 @@ returns-clause-advances c =
       fed = omega arith;
       inside = c.space_len-n.ensures.length;
       line = λ b h. lined_run r _ b _ none none refl (omega (arith, front_length n rest c.space_len-n.ensures.length))
-          (feeds_run is_space refl n rest (omega (arith, c.space_len-n.ensures.value))) h;
+          (feeds_run is_space refl n rest c.space_len-n.ensures.blank) h;
     }

@@ -16,7 +16,7 @@ use Rattle.keymap_core.specs.declared.action.Lock.TheVariants.{Caps}
 use Rattle.keymap_core.specs.Actions.{modifiers, locks, modifier_index, lock_index}
 use Rattle.keymap_core.specs.Maps.{MapValue}
 use Rattle.console_core.specs.declared.held.Held.{Held}
-use Rattle.console_core.specs.Inner.Searching.{state_of, Entry, Entries, Searched, IsReached}
+use Rattle.console_core.specs.Inner.Searching.{state_of, Entry, Entries, Searched, IsReached, AreWithin}
 use Rattle.console_core.specs.Sticking.{ReachesMoreThan}
 use Rattle.console_core.proofs.Searching.{none_entry, some_entries}
 
@@ -106,11 +106,12 @@ distinct-at E (e ∷ es) d (suc j) zero x y lt at_j at_k = absurd (omega (arith,
 distinct-at E (e ∷ es) d (suc j) (suc k) x y lt at_j at_k =
     distinct-at E es (IsDistinct-tail E e.0 (keys_of es) d) j k x y (omega (arith, lt)) at_j at_k
 
--- more than n distinct entries are more than n states that paths lead to
+-- more than n distinct entries are more than n states that paths of their presses lead to
 pub reaches-more : (E : Held → Held → Bool) → ((x y : Held) → state_of x ≡ state_of y → E x y ≡ true)
-    → (m : MapValue) (es : Entries) (a b n : ℕ) → Searched m es a b → n < length es → IsDistinct E (keys_of es)
-    → ReachesMoreThan m n
-reaches-more E test m es a b n s more distinct =
+    → (m : MapValue) (es : Entries) (a b n p : ℕ) → Searched m es a b → AreWithin es p → n < length es
+    → IsDistinct E (keys_of es)
+    → ReachesMoreThan m n p
+reaches-more E test m es a b n p s within more distinct =
     let d : Entry = s.start.1 in
     let at : (j : ℕ) → j ≤ n → slice_get es j ≡ Some (get_or es j d) =
     λ j le. slice_get-get_or es j d (omega (arith, le, more)) in
@@ -119,7 +120,11 @@ reaches-more E test m es a b n s more distinct =
     true≢false (sym (test (get_or es j d).0 (get_or es k d).0 e)
     ∙ distinct-at E es distinct j k (get_or es j d) (get_or es k d) lt (at j le_j) (at k le_k)) in (
       (λ j. state_of (get_or es j d).0),
-      (λ j le. let r : IsReached m es j (get_or es j d) = s.reached j (get_or es j d) (at j le) in (r.0, r.2, r.3)),
+      (λ j le. (s.reached j (get_or es j d) (at j le)).5),
+      (λ j le.
+          let r : IsReached m es j (get_or es j d) = s.reached j (get_or es j d) (at j le) in
+          let few : (get_or es j d).1.presses ≤ p = within j (get_or es j d) (at j le) in
+          (r.0, r.2, omega (arith, few, r.4), r.3)),
       (λ j k le_j le_k e. elim (cases_lt j k) [
         | inl lt ↦ absurd (apart j k le_j le_k lt e)
         | inr up ↦ elim (cases_lt k j) [

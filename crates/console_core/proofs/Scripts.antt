@@ -33,7 +33,7 @@ use Rattle.console_core.specs.Moves.{State, start, look_in, Holds, IsIdle, with_
 use Rattle.console_core.specs.Moves.{HolderForgets, state_after, IsPath, events_of_move, events_along, release_of}
 use Rattle.console_core.specs.Moves.{releases}
 use Rattle.console_core.specs.Moves.{script_of_path, IsForgetful}
-use Rattle.console_core.specs.Inner.Searching.{presses_of, presses_along}
+use Rattle.console_core.specs.Moves.{presses_of, presses_along}
 use Rattle.console_core.specs.Sticking.{IsPressOrRelease, presses, SticksIfReached, NeverSticksUnlessReached}
 use Rattle.console_core.proofs.OneMore.{resolved-start, resolved-more, held-start, held-character, held-action}
 use Rattle.console_core.proofs.OneMore.{held-release, remembered-start, remembered-character, remembered-action}

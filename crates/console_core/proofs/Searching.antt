@@ -31,11 +31,12 @@ use Rattle.console_core.specs.Moves.{State, start, look_in, Holds, with_holder, 
 use Rattle.console_core.specs.Moves.{IsForgetful}
 use Rattle.console_core.specs.Moves.{state_after, HolderForgets, script_of_path, events_of_move, events_along}
 use Rattle.console_core.specs.Moves.{release_of, releases}
-use Rattle.console_core.specs.Inner.Searching.{presses_of}
+use Rattle.console_core.specs.Moves.{presses_of}
 use Rattle.console_core.specs.Inner.Searching.{state_of, Entry, Entries, Grows, IsStep, IsMetBy, IsLetGoMet}
 use Rattle.console_core.specs.Inner.Searching.{ArePressesMet, AreWithin, IsFrom, AreAdded, IsTrail, IsReached, IsClosed}
 use Rattle.console_core.specs.Inner.Searching.{IsPressed, Searched, AreInOrder, IsStuck, GoBack, IsScriptTo}
-use Rattle.console_core.specs.Sticking.{NeverSticks, LeavesOn, HasFewestPresses, presses}
+use Rattle.console_core.specs.Inner.Searching.{LeavesScroll}
+use Rattle.console_core.specs.Sticking.{NeverSticks, LeavesOn, HasFewestPresses, NoneSticksBy, presses}
 use Rattle.console_core.proofs.Staying.{IsSafeBelow, never-sticks, sticks-late}
 use Rattle.console_core.proofs.Scripts.{sticks_if_reached, presses-script}
 use mathlib.Core.Path.{fun_ext}
@@ -180,21 +181,33 @@ trail-grows es now j (move ∷ path) g (x, parent, at, last, lt, rest) =
 -- that a trail leads to an entry stays so when the entries grow
 reached-grows : (m : MapValue) (es now : Entries) (j : ℕ) (x : Entry) → Grows es now → IsReached m es j x
     → IsReached m now j x
-reached-grows m es now j x g (path, trail, is, leads, count) =
-    (path, trail-grows es now j path g trail, is, leads, count)
+reached-grows m es now j x g (path, trail, is, leads, count, off) =
+    (path, trail-grows es now j path g trail, is, leads, count, off)
+
+-- a move that leaves the scroll lock leaves it off
+scroll-left : (s : State) (move : Move) → LeavesScroll move → s.is_locked Scroll ≡ false
+    → (moved s move).is_locked Scroll ≡ false
+scroll-left s (Hold k i) leaves off = off
+scroll-left s (Turn k Caps) leaves off = off
+scroll-left s (Turn k Num) leaves off = off
+scroll-left s (Turn k Scroll) leaves off = absurd (leaves refl)
+scroll-left s (Turn k Alt) leaves off = off
+scroll-left s (LetGo k i) leaves off = off
 
 -- a move from where a path leads goes on with the path
 reached-next : (m : MapValue) (es now : Entries) (place n p : ℕ) (y : Entry) → Grows es now → IsReached m es place y
     → p ≡ y.1.presses + n
     → (j : ℕ) (x : Entry) → slice_get now j ≡ Some x → place < j → IsFrom m (state_of y.0) place n p x
     → IsReached m now j x
-reached-next m es now place n p y g (path, trail, is, leads, count) e j x at lt (by, by_p, last, move, next, by_n) = (
-  by ∷ path,
-  (x, place, at, last, lt, trail-grows es now place path g trail),
-  (subst (λ s. IsMove m s by) (sym leads) move, is),
-  ap (λ s. moved s by) leads ∙ sym next,
-  ap (λ q. q + presses_of by) count ∙ ap (λ q. y.1.presses + q) by_n ∙ sym e ∙ sym by_p,
-)
+reached-next m es now place n p y g (path, trail, is, leads, count, off) e j x at lt
+    (by, by_p, last, move, next, by_n, leaves) = (
+      by ∷ path,
+      (x, place, at, last, lt, trail-grows es now place path g trail),
+      (subst (λ s. IsMove m s by) (sym leads) move, is),
+      ap (λ s. moved s by) leads ∙ sym next,
+      ap (λ q. q + presses_of by) count ∙ ap (λ q. y.1.presses + q) by_n ∙ sym e ∙ sym by_p,
+      subst (λ s. s.is_locked Scroll ≡ false) (sym next) (scroll-left (state_of y.0) by leaves off),
+    )
 
 -- what was searched stays so when the entries grow
 pub searched-grows : (m : MapValue) (es now : Entries) (place n p a b : ℕ) (y : Entry) → slice_get es place ≡ Some y
@@ -343,10 +356,10 @@ meet-new es now place p x e within =
             (All-cons (λ z. z.1.presses ≤ p) entry [] (omega arith) (All-nil (λ z. z.1.presses ≤ p))) k.1
       ]),
       (entry ∷ [], e),
-      (λ m h n (is, to, by). (
+      (λ m h n (is, to, by, leaves). (
         entry ∷ [],
         e,
-        All-cons (IsFrom m (state_of h) place n p) entry [] (x.by, refl, refl, is, to, by)
+        All-cons (IsFrom m (state_of h) place n p) entry [] (x.by, refl, refl, is, to, by, leaves)
             (All-nil (IsFrom m (state_of h) place n p)),
       )),
     )
@@ -550,7 +563,8 @@ searched-start m h is es e =
         start = (0, x, first, is, omega arith);
         reached = λ j y at.
             subst (λ z. IsReached m es j z) (sym (only j y at).1)
-            (subst (λ n. IsReached m es n x) (sym (only j y at).0) ([], (x, first, refl), tt, sym is, refl));
+            (subst (λ n. IsReached m es n x) (sym (only j y at).0)
+            ([], (x, first, refl), tt, sym is, refl, ap (λ s. s.is_locked Scroll) is));
         pressed = λ j y at lt. absurd (omega (arith, lt));
         closed = λ j y at lt. absurd (omega (arith, lt));
       },
@@ -634,25 +648,26 @@ met-more es p s (j, x, at, is, le) = (j, x, at, is, omega (arith, le))
 met-up : (es : Entries) (p q : ℕ) (s : State) → p ≤ q → IsMetBy es p s → IsMetBy es q s
 met-up es p q s up (j, x, at, is, le) = (j, x, at, is, omega (arith, le, up))
 
--- what is done of the states that were met by fewer presses than n
-record AreDone (m : MapValue) (es : Entries) (n : ℕ) : Type 0 where
+-- the states that were met by fewer presses than the first number are pressed, and those by fewer than the second are
+-- closed
+record AreDone (m : MapValue) (es : Entries) (n c : ℕ) : Type 0 where
   start : IsMetBy es 0 start
   pressed : (j : ℕ) (x : Entry) → slice_get es j ≡ Some x → x.1.presses < n → IsPressed m es x
-  closed : (j : ℕ) (x : Entry) → slice_get es j ≡ Some x → x.1.presses < n → IsClosed m es x
+  closed : (j : ℕ) (x : Entry) → slice_get es j ≡ Some x → x.1.presses < c → IsClosed m es x
 
 -- a finished search met each state that a release leads to
-done-let_go : (m : MapValue) (es : Entries) (n p : ℕ) → AreDone m es n → p < n → (t : State) (k : ℕ) (i : Modifier)
+done-let_go : (m : MapValue) (es : Entries) (n c p : ℕ) → AreDone m es n c → p < c → (t : State) (k : ℕ) (i : Modifier)
     → IsMetBy es p t → Holds t k i → IsMetBy es p (with_holder t i None)
-done-let_go m es n p d lt t k i (j, x, at, is, le) h =
+done-let_go m es n c p d lt t k i (j, x, at, is, le) h =
     let closed : IsClosed m es x = d.closed j x at (omega (arith, le, lt)) in
     subst (λ s. IsMetBy es p (with_holder s i None)) is
     (met-up es x.1.presses p (with_holder (state_of x.0) i None) le
     (closed.0 i k (subst (λ s. Holds s k i) (sym is) h)))
 
 -- a finished search met each state that a hold leads to
-done-hold : (m : MapValue) (es : Entries) (n p : ℕ) → AreDone m es n → p < n → (t : State) (k : ℕ) (i : Modifier)
+done-hold : (m : MapValue) (es : Entries) (n c p : ℕ) → AreDone m es n c → p < n → (t : State) (k : ℕ) (i : Modifier)
     → IsMetBy es p t → IsMove m t (Hold k i) → IsMetBy es (suc p) (with_holder t i (Some k))
-done-hold m es n p d lt t k i (j, x, at, is, le) move =
+done-hold m es n c p d lt t k i (j, x, at, is, le) move =
     let there : IsMove m (state_of x.0) (Hold k i) = subst (λ s. IsMove m s (Hold k i)) (sym is) move in
     let met : IsMetBy es (x.1.presses + 1) (with_holder (state_of x.0) i (Some k)) =
     (d.pressed j x at (omega (arith, le, lt)) k there.0 there.1).0 i there.2 there.3 in
@@ -660,9 +675,9 @@ done-hold m es n p d lt t k i (j, x, at, is, le) move =
     (met-up es (x.1.presses + 1) (suc p) (with_holder (state_of x.0) i (Some k)) (omega (arith, le)) met)
 
 -- a finished search met each state that a turned lock leads to
-done-turn : (m : MapValue) (es : Entries) (n p : ℕ) → AreDone m es n → p < n → (t : State) (k : ℕ) (l : Lock)
+done-turn : (m : MapValue) (es : Entries) (n c p : ℕ) → AreDone m es n c → p < n → (t : State) (k : ℕ) (l : Lock)
     → l ≢ Scroll → IsMetBy es p t → IsMove m t (Turn k l) → IsMetBy es (suc p) (with_lock_turned t l)
-done-turn m es n p d lt t k l other (j, x, at, is, le) move =
+done-turn m es n c p d lt t k l other (j, x, at, is, le) move =
     let there : IsMove m (state_of x.0) (Turn k l) = subst (λ s. IsMove m s (Turn k l)) (sym is) move in
     let met : IsMetBy es (x.1.presses + 1) (with_lock_turned (state_of x.0) l) =
     (d.pressed j x at (omega (arith, le, lt)) k there.0 there.1).1 l other there.2 in
@@ -670,50 +685,84 @@ done-turn m es n p d lt t k l other (j, x, at, is, le) move =
     (met-up es (x.1.presses + 1) (suc p) (with_lock_turned (state_of x.0) l) (omega (arith, le)) met)
 
 -- a finished search met no state where a holder looks up a character
-done-safe : (m : MapValue) (es : Entries) (n p : ℕ) → AreDone m es n → p < n → (t : State) → IsMetBy es p t
+done-safe : (m : MapValue) (es : Entries) (n c p : ℕ) → AreDone m es n c → p < c → (t : State) → IsMetBy es p t
     → IsForgetful m t → ⊥
-done-safe m es n p d lt t (j, x, at, is, le) forgetful =
+done-safe m es n c p d lt t (j, x, at, is, le) forgetful =
     (d.closed j x at (omega (arith, le, lt))).1 (subst (λ s. IsForgetful m s) (sym is) forgetful)
 
 -- the same for each lock, but for the scroll lock
-among-turn : (m : MapValue) (es : Entries) (n p : ℕ) → AreDone m es n → p < n → (s : State) (k : ℕ) (l : Lock)
+among-turn : (m : MapValue) (es : Entries) (n c p : ℕ) → AreDone m es n c → p < n → (s : State) (k : ℕ) (l : Lock)
     → IsAmong es p s → IsMove m s (Turn k l) → IsAmong es (suc p) (with_lock_turned s l)
-among-turn m es n p d lt s k Scroll (t, there, e) is = (t, met-more es p t there, e ∙ scroll-moved s k)
-among-turn m es n p d lt s k Caps (t, there, e) is = (
+among-turn m es n c p d lt s k Scroll (t, there, e) is = (t, met-more es p t there, e ∙ scroll-moved s k)
+among-turn m es n c p d lt s k Caps (t, there, e) is = (
   with_lock_turned t Caps,
-  done-turn m es n p d lt t k Caps (λ q. cc) there (moves-unscrolled m s t (Turn k Caps) e is),
+  done-turn m es n c p d lt t k Caps (λ q. cc) there (moves-unscrolled m s t (Turn k Caps) e is),
   same_moved s t (Turn k Caps) e,
 )
-among-turn m es n p d lt s k Num (t, there, e) is = (
+among-turn m es n c p d lt s k Num (t, there, e) is = (
   with_lock_turned t Num,
-  done-turn m es n p d lt t k Num (λ q. cc) there (moves-unscrolled m s t (Turn k Num) e is),
+  done-turn m es n c p d lt t k Num (λ q. cc) there (moves-unscrolled m s t (Turn k Num) e is),
   same_moved s t (Turn k Num) e,
 )
-among-turn m es n p d lt s k Alt (t, there, e) is = (
+among-turn m es n c p d lt s k Alt (t, there, e) is = (
   with_lock_turned t Alt,
-  done-turn m es n p d lt t k Alt (λ q. cc) there (moves-unscrolled m s t (Turn k Alt) e is),
+  done-turn m es n c p d lt t k Alt (λ q. cc) there (moves-unscrolled m s t (Turn k Alt) e is),
   same_moved s t (Turn k Alt) e,
 )
 
 -- after a finished search the states met are safe
-done-safe_below : (m : MapValue) (es : Entries) (n : ℕ) → AreDone m es n → IsSafeBelow m n (IsAmong es)
+done-safe_below : (m : MapValue) (es : Entries) (n : ℕ) → AreDone m es n n → IsSafeBelow m n (IsAmong es)
 done-safe_below m es n d = record {
   start = (start, d.start, refl);
   let_go = λ p lt s k i (t, there, e) h. (
     with_holder t i None,
-    done-let_go m es n p d lt t k i there (moves-unscrolled m s t (LetGo k i) e h),
+    done-let_go m es n n p d lt t k i there (moves-unscrolled m s t (LetGo k i) e h),
     same_moved s t (LetGo k i) e,
   );
   more = λ p s (t, there, e). (t, met-more es p t there, e);
   hold = λ p lt s k i (t, there, e) is. (
     with_holder t i (Some k),
-    done-hold m es n p d lt t k i there (moves-unscrolled m s t (Hold k i) e is),
+    done-hold m es n n p d lt t k i there (moves-unscrolled m s t (Hold k i) e is),
     same_moved s t (Hold k i) e,
   );
-  turn = λ p lt s k l there is. among-turn m es n p d lt s k l there is;
+  turn = λ p lt s k l there is. among-turn m es n n p d lt s k l there is;
   safe =
-      λ p lt s (t, there, e) forgetful. done-safe m es n p d lt t there
+      λ p lt s (t, there, e) forgetful. done-safe m es n n p d lt t there
       (subst (λ y. IsForgetful m y) (sym e) forgetful);
+}
+
+-- What is known of a state that n presses or fewer lead to; of those by more nothing is.
+abbrev IsAmongUpTo : Entries → ℕ → ℕ → State → Type 0
+IsAmongUpTo es n p s = p ≤ n → IsAmong es p s
+
+-- where the states by n presses are closed, the states up to them are safe, whatever a press more leads to
+closed-safe_below : (m : MapValue) (es : Entries) (n : ℕ) → AreDone m es n (n + 1)
+    → IsSafeBelow m (n + 1) (IsAmongUpTo es n)
+closed-safe_below m es n d = record {
+  start = λ le. (start, d.start, refl);
+  let_go = λ p lt s k i among h le.
+      let there : IsAmong es p s = among le in (
+        with_holder there.0 i None,
+        done-let_go m es n (n + 1) p d lt there.0 k i there.1 (moves-unscrolled m s there.0 (LetGo k i) there.2 h),
+        same_moved s there.0 (LetGo k i) there.2,
+      );
+  more = λ p s among le.
+      let there : IsAmong es p s = among (omega (arith, le)) in
+      (there.0, met-more es p there.0 there.1, there.2);
+  hold = λ p lt s k i among is le.
+      let there : IsAmong es p s = among (omega (arith, le)) in (
+        with_holder there.0 i (Some k),
+        done-hold m es n (n + 1) p d (omega (arith, le)) there.0 k i there.1
+            (moves-unscrolled m s there.0 (Hold k i) there.2 is),
+        same_moved s there.0 (Hold k i) there.2,
+      );
+  turn = λ p lt s k l among is le.
+      let there : IsAmong es p s = among (omega (arith, le)) in
+      among-turn m es n (n + 1) p d (omega (arith, le)) s k l there is;
+  safe = λ p lt s among forgetful.
+      let there : IsAmong es p s = among (omega (arith, lt)) in
+      done-safe m es n (n + 1) p d lt there.0 there.1
+      (subst (λ y. IsForgetful m y) (sym there.2) forgetful);
 }
 
 -- all that was met is pressed and closed
@@ -731,7 +780,7 @@ searched-never m es n le s =
 
 -- those met by fewer presses than the level are pressed and closed
 level-done : (m : MapValue) (es : Entries) (level p : ℕ) → AreInOrder es level p → Searched m es level level
-    → AreDone m es p
+    → AreDone m es p p
 level-done m es level p order s = record {
   start = s.start;
   pressed = λ j x at lt. s.pressed j x at (below j x at lt);
@@ -763,3 +812,34 @@ stuck-sticks m es level p j k order s (x, at, stuck) h is =
           sticks in
           omega (arith, within, count, late)),
     )
+
+-- no modifier sticks by the presses of the levels below a level
+pub level-late : (m : MapValue) (es : Entries) (level p : ℕ) → AreInOrder es level p → Searched m es level level
+    → NoneSticksBy m p
+level-late m es level p order s g keys no_loads i sticks =
+    sticks-late m p (IsAmong es) (done-safe_below m es p (level-done m es level p order s)) g keys no_loads i sticks
+
+-- no modifier sticks by one press more where that level was closed, and some of the next one was met
+pub closed-late : (m : MapValue) (old es : Entries) (level p : ℕ) → AreInOrder old level p → Grows old es
+    → AreInOrder es (length old) (p + 1) → Searched m es level (length old)
+    → NoneSticksBy m (p + 1)
+closed-late m old es level p before g order s g' keys no_loads i sticks =
+    sticks-late m (p + 1) (IsAmongUpTo es p) (closed-safe_below m es p (record {
+      start = s.start;
+      pressed = λ j x at lt. s.pressed j x at (earlier j x at (below j x at (omega (arith, lt))) lt);
+      closed = λ j x at lt. s.closed j x at (below j x at lt);
+    })) g' keys no_loads i sticks
+  where
+    below : (j : ℕ) (x : Entry) → slice_get es j ≡ Some x → x.1.presses < p + 1 → j < length old
+    below j x at lt = elim (cases_lt j (length old)) [
+      | inl less ↦ less
+      | inr le ↦ let e : x.1.presses ≡ p + 1 = (order j x at).1 le in absurd (omega (arith, e, lt))
+    ]
+
+    earlier : (j : ℕ) (x : Entry) → slice_get es j ≡ Some x → j < length old → x.1.presses < p → j < level
+    earlier j x at here lt =
+        let was : slice_get old j ≡ Some x = at_old old g.0 j x here (subst (λ z. slice_get z j ≡ Some x) g.1 at) in
+        elim (cases_lt j level) [
+          | inl less ↦ less
+          | inr le ↦ let e : x.1.presses ≡ p = (before j x was).1 le in absurd (omega (arith, e, lt))
+        ]

@@ -1,6 +1,7 @@
 -- What the search for sticking modifiers goes over: the states, and the moves between them. It mirrors
 -- src/held/moves.rt, and stands outside of Inner since the answer `Undecided` is said by states and paths.
-use Rattle.std.specs.Prelude.{◌≡◌, ℕ, ◌<◌, Bool, false, not, List, [], ◌∷◌, ◌++◌, Option, None, Some, if◌then◌else◌}
+use Rattle.std.specs.Prelude.{◌≡◌, ℕ, ◌+◌, ◌<◌, Bool, false, not, List, [], ◌∷◌, ◌++◌, Option, None, Some}
+use Rattle.std.specs.Prelude.{if◌then◌else◌}
 use Rattle.std.specs.Option.{is_some}
 use Rattle.keymap_core.specs.declared.action.Modifier.{Modifier}
 use Rattle.keymap_core.specs.declared.action.Lock.{Lock}
@@ -74,6 +75,16 @@ state_after (move ∷ path) = moved (state_after path) move
 abbrev pub IsPath : MapValue → List Move → Type 0
 IsPath m [] = Unit {0}
 IsPath m (move ∷ path) = IsMove m (state_after path) move × IsPath m path
+
+-- how many presses a move takes
+abbrev pub presses_of : Move → ℕ
+presses_of (Hold k i) = 1
+presses_of (Turn k l) = 1
+presses_of (LetGo k i) = 0
+
+abbrev pub presses_along : List Move → ℕ
+presses_along [] = 0
+presses_along (move ∷ path) = presses_along path + presses_of move
 
 -- the events of the moves, with the newest first
 abbrev pub events_of_move : Move → List Event

@@ -1,6 +1,7 @@
 -- Whether a keymap can leave a modifier on while no key is pressed.
-use Rattle.std.specs.Prelude.{◌≡◌, ℕ, ◌≤◌, Bool, false, true, List, All, reverse}
+use Rattle.std.specs.Prelude.{◌≡◌, ℕ, ◌<◌, ◌≤◌, Bool, false, true, List, All, reverse}
 use Rattle.keymap_core.specs.declared.action.Modifier.{Modifier}
+use Rattle.keymap_core.specs.declared.action.Lock.TheVariants.{Scroll}
 use Rattle.keymap_core.specs.Maps.{MapValue}
 use Rattle.console_core.specs.declared.event.Event.{Event}
 use Rattle.console_core.specs.declared.event.Event.TheVariants.{Press, Release, Reset, Load}
@@ -10,7 +11,8 @@ use Rattle.console_core.specs.Positions.{count_where}
 use Rattle.console_core.specs.History.{Maps, is_on_after, HasKeys, HasNoLoads, IsQuiet}
 use Rattle.console_core.specs.Headline.{IsOnOnlyWhilePressed, IsOffOnceQuiet}
 use Rattle.console_core.specs.declared.held.Move.{Move}
-use Rattle.console_core.specs.Moves.{State, IsPath, state_after, IsForgetful, HolderForgets, script_of_path}
+use Rattle.console_core.specs.Moves.{State, IsPath, state_after, presses_along, IsForgetful, HolderForgets}
+use Rattle.console_core.specs.Moves.{script_of_path}
 
 -- Sticks: no key is pressed after the list, and the modifier is on.
 abbrev pub SticksAfter : MapValue → List Event → Modifier → Type 0
@@ -47,18 +49,24 @@ NeverSticks m =
     (ms : Maps) (h : List Event) → ms.first ≡ m → HasKeys h → HasNoLoads h
     → IsOnOnlyWhilePressed m h (λ i. is_on_after ms i h) × IsOffOnceQuiet h (λ i. is_on_after ms i h)
 
--- paths of presses and releases lead to more than n distinct states
-abbrev pub ReachesMoreThan : MapValue → ℕ → Type 0
-ReachesMoreThan m n =
+-- Paths of at most p presses lead to more than n distinct states in which the scroll lock, which picks no cell, is off.
+abbrev pub ReachesMoreThan : MapValue → ℕ → ℕ → Type 0
+ReachesMoreThan m n p =
     (states : ℕ → State)
-    × ((j : ℕ) → j ≤ n → (path : List Move) × IsPath m path × (state_after path ≡ states j))
+    × ((j : ℕ) → j ≤ n → (states j).is_locked Scroll ≡ false)
+    × ((j : ℕ) → j ≤ n
+    → (path : List Move) × IsPath m path × (presses_along path ≤ p) × (state_after path ≡ states j))
     × ((j k : ℕ) → j ≤ n → k ≤ n → states j ≡ states k → j ≡ k)
+
+-- each list of presses, releases and resets after which a modifier sticks has more than p presses
+abbrev pub NoneSticksBy : MapValue → ℕ → Type 0
+NoneSticksBy m p = (g : List Event) → HasKeys g → HasNoLoads g → (i : Modifier) → SticksAfter m g i → p < presses g
 
 -- what each answer says of the keymap
 abbrev pub IsAnswer : MapValue → Sticking → Type 0
 IsAnswer m (Sticks events) = LeavesOn m (reverse events.items) × HasFewestPresses m (reverse events.items)
 IsAnswer m Never = NeverSticks m
-IsAnswer m Undecided = ReachesMoreThan m 65536
+IsAnswer m (Undecided p) = ReachesMoreThan m 65536 p × NoneSticksBy m p
 
 -- If no path leads to where a holder looks up a character, no modifier sticks.
 abbrev pub NeverSticksUnlessReached : Type 0

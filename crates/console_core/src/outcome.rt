@@ -9,6 +9,7 @@ pub enum Sticking {
     Sticks(Vec<Event>),
     /// After each list of presses, releases and resets a modifier is on only while a key that bears it is pressed.
     Never,
-    /// More than 65,536 states can be reached, so the search gave up.
-    Undecided,
+    /// More than 65,536 states can be reached by as many presses as are told here, so the search gave up. No list of
+    /// presses, releases and resets with at most that many presses leaves a modifier on.
+    Undecided(usize),
 }

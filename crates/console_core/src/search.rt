@@ -150,7 +150,7 @@ fn press(met: &mut Met, map: &KeyMap, level: usize, presses: usize) -> Result<()
     requires below { level ≤ length met.old.entries }
     ensures searched { OnOk result (length met.new.entries ≤ 65536
         → Searched map.now met.new.entries (length met.old.entries) (length met.old.entries)) }
-    ensures reached { OnOk result (Searched map.now met.new.entries level level) }
+    ensures closed { OnOk result (Searched map.now met.new.entries level (length met.old.entries)) }
     ensures order { OnOk result (AreInOrder met.new.entries (length met.old.entries) (presses + 1)) }
     ensures grown { OnOk result (Grows met.old.entries met.new.entries) }
 {
@@ -203,12 +203,12 @@ pub fn sticking(alloc: Global, map: &KeyMap) -> Result<Sticking, AllocError>
             return Ok(Sticking::Sticks(script(alloc, &met, stuck)?));
         }
         if met.len() > BOUND {
-            return Ok(Sticking::Undecided);
+            return Ok(Sticking::Undecided(presses));
         }
         let end = met.len();
         press(&mut met, map, level, presses)?;
         if met.len() > BOUND {
-            return Ok(Sticking::Undecided);
+            return Ok(Sticking::Undecided(presses + 1));
         }
         level = end;
         presses += 1;

@@ -3,6 +3,7 @@ pub mod Bearing
 pub mod Bits
 pub mod CellBits
 pub mod Counting
+pub mod Demonstrated
 pub mod Findings
 pub mod Found
 pub mod Given

@@ -14,7 +14,7 @@ use Rattle.console_core.specs.Headline.{OnOnlyWhilePressed, OnExactlyWhilePresse
 use Rattle.console_core.specs.Headline.{OffOnceQuiet, GoesOnAsAfterReset, LockedByFreshPresses, IsOnOnlyWhilePressed}
 use Rattle.keymap_check.specs.Promises.{ModifiersAreOnOnlyWhilePressed, ModifierFollowsKey, NoRepeatTurns}
 use Rattle.keymap_check.specs.Promises.{ModifiersAreOffOnceQuiet, GoesOnAsAfterResetOnceQuiet, IsOnAfterOddFreshPresses}
-use Rattle.keymap_check.specs.Promises.{LooksPlainlyIn}
+use Rattle.keymap_check.specs.Promises.{LooksPlainlyIn, KeepsPromise}
 
 -- in a safe map modifiers are on only while their keys are pressed
 pub only_while : OnOnlyWhilePressed → (m : MapValue) → IsSafe m → ModifiersAreOnOnlyWhilePressed m
@@ -39,6 +39,18 @@ off_once_quiet law m safe ms h e keys quiet i = law ms h (subst IsSafe (sym e) s
 -- in a safe map a console goes on as after a reset, once every key is released
 pub as_after_reset : GoesOnAsAfterReset → (m : MapValue) → IsSafe m → GoesOnAsAfterResetOnceQuiet m
 as_after_reset law m safe ms h e keys quiet none = law ms h (subst IsSafe (sym e) safe) keys quiet none
+
+-- a safe map keeps the whole promise
+pub keeps_promise : OnOnlyWhilePressed → OnExactlyWhilePressed → RepeatsTurnNoSteadyLock → OffOnceQuiet
+    → GoesOnAsAfterReset
+    → (m : MapValue) → IsSafe m → KeepsPromise m
+keeps_promise on_only on_exactly repeats_turn_none off goes_on m safe = record {
+  on_only_while_pressed = only_while on_only m safe;
+  on_exactly_while_pressed = λ i k throughout. exactly_while on_exactly m i k throughout;
+  repeats_turn_no_steady_lock = λ l steady. repeats repeats_turn_none m l steady;
+  off_once_quiet = off_once_quiet off m safe;
+  as_after_reset_once_quiet = as_after_reset goes_on m safe;
+}
 
 -- a key bears the lock throughout in the second map too, where that is the same
 same_map : (m : MapValue) (l : Lock) (k : ℕ) (ms : Maps) {P : Type 0} → BearsThroughout m k (holding.Lock l)

@@ -72,7 +72,7 @@ no_modifier_on m locks free h keys quiet =
     refl
 
 -- the keys of a script are keys
-abbrev AreKeys : List (Option ℕ) → Type 0
+abbrev pub AreKeys : List (Option ℕ) → Type 0
 AreKeys keys = (i j : ℕ) → bit_key_at keys i ≡ Some j → j < 128
 
 -- the key of a bit is a key
@@ -81,7 +81,7 @@ unfolding bit_key
 bit_key-key m k i j e = (first_below-some (is_bit_key m k i) 128 j e).0
 
 -- the keys of the bits are keys
-bit_keys-keys : (m : MapValue) (k : ℕ) → AreKeys (bit_keys m k)
+pub bit_keys-keys : (m : MapValue) (k : ℕ) → AreKeys (bit_keys m k)
 bit_keys-keys m k zero j e = bit_key-key m k 0 j e
 bit_keys-keys m k (suc zero) j e = bit_key-key m k 1 j e
 bit_keys-keys m k (suc (suc zero)) j e = bit_key-key m k 2 j e

@@ -1,9 +1,11 @@
 -- What the check promises for every list of delivered events, newest first. The list may hold loads of another map:
--- then the promises are those of the map that is in force after it.
+-- then the promises are those of the map that is in force after it. KeepsPromise is the one to read first.
 use Rattle.std.specs.Prelude.{◌≡◌, ℕ, ◌<◌, ◌⊎◌, List, ◌∷◌, None, true, false}
 use Rattle.keymap_core.specs.declared.action.Modifier.{Modifier}
 use Rattle.keymap_core.specs.declared.action.Lock.{Lock}
+use Rattle.keymap_core.specs.declared.action.Holding.TheVariants as holding
 use Rattle.keymap_core.specs.Maps.{MapValue}
+use Rattle.keymap_core.specs.Bearers.{BearsThroughout}
 use Rattle.keymap_core.specs.Numbers.{key_count}
 use Rattle.console_core.specs.declared.event.Event.{Event}
 use Rattle.console_core.specs.declared.event.Event.TheVariants.{Press, Reset}
@@ -12,7 +14,7 @@ use Rattle.console_core.specs.History.{accent_pending_after, pressed}
 use Rattle.console_core.specs.Positions.{count_where, is_odd}
 use Rattle.console_core.specs.Plain.{plain_look}
 use Rattle.console_core.specs.Reading.{look_after, turns_at}
-use Rattle.console_core.specs.Headline.{IsOnOnlyWhilePressed, GoesOnAs, is_fresh_press}
+use Rattle.console_core.specs.Headline.{IsSteady, IsOnOnlyWhilePressed, GoesOnAs, is_fresh_press}
 
 -- P holds after every list of events about keys 0 to 127 that leaves the map in force
 abbrev pub AfterEveryList : MapValue → (Maps → List Event → Type 0) → Type 0
@@ -40,6 +42,17 @@ ModifiersAreOffOnceQuiet m = AfterEveryList m (λ ms h. IsQuiet h → (i : Modif
 abbrev pub GoesOnAsAfterResetOnceQuiet : MapValue → Type 0
 GoesOnAsAfterResetOnceQuiet m = AfterEveryList m
     (λ ms h. IsQuiet h → accent_pending_after ms h ≡ None → GoesOnAs ms h (Reset ∷ h))
+
+-- What an accepted map keeps after every list of presses, repeats, releases, resets and loads that leaves it in force:
+-- a modifier is on only while a key that bears it is pressed, and exactly then if one key alone bears it in all its
+-- cells. A repeat never turns a steady lock. Once no key is pressed, no modifier is on and, if no accent is pending,
+-- the console goes on as after a reset. The fields stand in the order of these words.
+pub record KeepsPromise (m : MapValue) : Type 0 where
+  pub on_only_while_pressed : ModifiersAreOnOnlyWhilePressed m
+  pub on_exactly_while_pressed : (i : Modifier) (k : ℕ) → BearsThroughout m k (holding.Mod i) → ModifierFollowsKey m i k
+  pub repeats_turn_no_steady_lock : (l : Lock) → IsSteady m l → NoRepeatTurns m l
+  pub off_once_quiet : ModifiersAreOffOnceQuiet m
+  pub as_after_reset_once_quiet : GoesOnAsAfterResetOnceQuiet m
 
 -- where no other map is loaded, the lock is on exactly after an odd number of fresh presses of the key
 abbrev pub IsOnAfterOddFreshPresses : MapValue → Lock → ℕ → Type 0

@@ -1,5 +1,5 @@
 -- Traps that a demonstration shows.
-use Rattle.std.specs.Prelude.{◌≡◌, ◌≢◌, ℕ, ◌<◌, true, false, Option, None, Some}
+use Rattle.std.specs.Prelude.{◌≡◌, ◌≢◌, ℕ, ◌<◌, true, false, List, Option, None, Some, reverse}
 use Rattle.keymap_core.specs.declared.action.Action.{Action}
 use Rattle.keymap_core.specs.declared.action.Action.TheVariants as act
 use Rattle.keymap_core.specs.declared.action.Modifier.{Modifier}
@@ -10,10 +10,12 @@ use Rattle.keymap_core.specs.declared.entry.Cell.TheVariants.{Char, Act}
 use Rattle.keymap_core.specs.Maps.{MapValue, cell_at}
 use Rattle.keymap_core.specs.Bearers.{IsCellOf, IsUpperLive}
 use Rattle.keymap_core.specs.Numbers.{key_count}
+use Rattle.console_core.specs.declared.event.Event.{Event}
+use Rattle.console_core.specs.Sticking.{LeavesOn}
 use Rattle.console_core.specs.Traps.{Bits, cell_with}
 use Rattle.keymap_check.specs.declared.kind.Group.{Group}
 use Rattle.keymap_check.specs.declared.kind.Group.TheVariants as group
-use Rattle.keymap_check.specs.Scripts.{bit_key}
+use Rattle.keymap_check.specs.Scripts.{bit_key, demonstration_of}
 
 -- the group of the modifier; meta has none
 abbrev pub group_of : Modifier → Option Group
@@ -67,3 +69,9 @@ abbrev pub HasShownTrap : MapValue → Modifier → ℕ → Type 0
 HasShownTrap m i k =
     (k < key_count) × (cell_at m k 0 ≡ Act (act.Mod i))
     × ((further : Option Group) × HasCharacterWith m k (bits_with i further) × HasFurtherKey m k i further)
+
+-- A demonstration leaves a modifier on in the sense of the search: its events are presses and releases of keys, and
+-- after them no key is pressed and some modifier is on.
+abbrev pub DemonstrationsLeaveModifiersOn : Type 0
+DemonstrationsLeaveModifiersOn =
+    (m : MapValue) (events : List Event) → demonstration_of m ≡ Some events → LeavesOn m (reverse events)

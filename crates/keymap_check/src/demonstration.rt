@@ -19,6 +19,7 @@ use console_core::{Event, Translator, WordConsole};
 use keymap_core::{KEY_COUNT, KeyCode, KeyMap, Modifier};
 
 /// Delivers presses or releases of the keys of the bits that are in the set and not in the other one.
+#[inline(always)]
 fn deliver<T: Translator>(console: &mut T, keys: &BitKeys, set: u8, except: u8, is_press: bool)
     ensures { (ms : Maps) (h : List EventValue) → T.stands console.old ms h
         → T.stands console.new ms (reverse (events_of is_press keys.now set except) ++ h) }

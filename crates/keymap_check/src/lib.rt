@@ -3,7 +3,7 @@
 //!
 //! A keymap is accepted exactly if no key has both a modifier or lock and a character among its cells. The contract of
 //! [`check`] says what that gives, for every list of events, delivered to a console of `console_core`, that leaves the
-//! keymap in force:
+//! keymap in force. For an accepted keymap it is one record, `KeepsPromise` (`promise`). By what the report tells:
 //!
 //! - In an accepted keymap a modifier is on only while a key that bears it is pressed (`only_while`).
 //! - In every keymap a modifier that one key alone bears throughout is on exactly while that key is pressed

@@ -6,7 +6,8 @@
 //! `kmap_check` tells, and where the state is one that `kmap_start` and steps under the same tables left.
 #![tactic(auto)]
 
-ghost use Rattle.std.specs.Prelude.{◌≡◌, ◌≢◌, ◌≤◌, List, [], ◌∷◌, ◌++◌, length, take, drop, map, reverse, pos, negsuc};
+ghost use Rattle.std.specs.Prelude.{◌≡◌, ◌≢◌, ◌<◌, ◌≤◌, List, [], ◌∷◌, ◌++◌, length, take, drop, map, reverse};
+ghost use Rattle.std.specs.Prelude.{pos, negsuc};
 ghost use Rattle.keymap_core.specs.Actions.{modifier_index, lock_index};
 ghost use Rattle.keymap_core.specs.Bounds.{IsMap};
 ghost use Rattle.keymap_core.specs.Maps.{MapValue};
@@ -250,8 +251,10 @@ pub extern "C" fn kmap_modifiers(console: &KmapConsole) -> u8
 /// Which locks are on: bit 0 clock, 1 nlock, 2 slock, 3 alock.
 #[unsafe(no_mangle)]
 pub extern "C" fn kmap_locks(console: &KmapConsole) -> u8
-    ensures { (ms : Maps) (h : List EventValue) → KeptAt ms h console.now.store
+    ensures bits { (ms : Maps) (h : List EventValue) → KeptAt ms h console.now.store
         → (l : Lock) → bit_is_set result (lock_index l) ≡ is_locked_after ms l h }
+    // so no other bit is set
+    ensures in_range { result < 16 }
 {
     locks_kept(&console.store)
 }

@@ -25,9 +25,9 @@ script_text m events =
 abbrev pub found_text : MapValue → Sticking → List ℕ
 found_text m (Sticks events) = script_text m events.items
 found_text m Never = codes "# never sticks\n"
-found_text m Undecided = codes "# undecided: more than 65536 states\n"
+found_text m (Undecided p) = codes "# undecided: more than 65536 states\n"
 
 abbrev pub is_never : Sticking → Bool
 is_never (Sticks events) = false
 is_never Never = true
-is_never Undecided = false
+is_never (Undecided p) = false

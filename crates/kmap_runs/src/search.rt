@@ -104,7 +104,7 @@ pub(crate) fn found_text(
     match found {
         Sticking::Sticks(events) => push_script(&mut text, map, events)?,
         Sticking::Never => text.extend_from_slice(b"# never sticks\n")?,
-        Sticking::Undecided => { text.extend_from_slice(b"# undecided: more than 65536 states\n")? }
+        Sticking::Undecided(_) => { text.extend_from_slice(b"# undecided: more than 65536 states\n")? }
     }
     Ok(text)
 }

@@ -191,7 +191,7 @@ fn searches<W: Write>(alloc: Global, text: &[u8], marks: &mut W) -> Result<Outco
     Ok(Outcome::of(match answer {
         Ok(Sticking::Sticks(events)) => done(text == TRAP && events.len() == 5),
         Ok(Sticking::Never) => done(text == TEXT),
-        Ok(Sticking::Undecided) => Answer::Fault,
+        Ok(Sticking::Undecided(_)) => Answer::Fault,
         Err(AllocError) => Answer::Memory,
     }))
 }

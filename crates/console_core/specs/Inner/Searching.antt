@@ -17,18 +17,8 @@ use Rattle.console_core.specs.declared.held.Move.TheVariants.{Hold, Turn, LetGo}
 use Rattle.console_core.specs.declared.held.Step.{Step}
 use Rattle.console_core.specs.declared.search.Origin.{Origin}
 use Rattle.console_core.specs.Moves.{State, start, look_in, Holds, IsIdle, HolderForgets, IsForgetful, IsMove, moved}
-use Rattle.console_core.specs.Moves.{IsPath}
+use Rattle.console_core.specs.Moves.{IsPath, presses_of, presses_along}
 use Rattle.console_core.specs.Moves.{state_after, script_of_path, with_holder, with_lock_turned}
-
--- how many presses a move takes
-abbrev pub presses_of : Move → ℕ
-presses_of (Hold k i) = 1
-presses_of (Turn k l) = 1
-presses_of (LetGo k i) = 0
-
-abbrev pub presses_along : List Move → ℕ
-presses_along [] = 0
-presses_along (move ∷ path) = presses_along path + presses_of move
 
 -- the state that the tables are
 abbrev pub state_of : Held → State
@@ -44,9 +34,15 @@ Entry = Held × Origin
 abbrev pub Entries : Type 0
 Entries = List Entry
 
+-- the move leaves the scroll lock, which picks no cell, as it is
+abbrev pub LeavesScroll : Move → Type 0
+LeavesScroll (Hold k i) = Unit {0}
+LeavesScroll (Turn k l) = l ≢ Scroll
+LeavesScroll (LetGo k i) = Unit {0}
+
 -- the step is a move from the state, by so many presses
 abbrev pub IsStep : MapValue → State → ℕ → Step → Type 0
-IsStep m s n x = IsMove m s x.by × (state_of x.to ≡ moved s x.by) × (presses_of x.by ≡ n)
+IsStep m s n x = IsMove m s x.by × (state_of x.to ≡ moved s x.by) × (presses_of x.by ≡ n) × LeavesScroll x.by
 
 -- the state was met by at most p presses
 abbrev pub IsMetBy : Entries → ℕ → State → Type 0
@@ -75,7 +71,7 @@ AreWithin es p = (j : ℕ) (x : Entry) → slice_get es j ≡ Some x → x.1.pre
 abbrev pub IsFrom : MapValue → State → ℕ → ℕ → ℕ → Entry → Type 0
 IsFrom m s place n p x =
     (by : Move) × (x.1.presses ≡ p) × (x.1.last ≡ Some (place, by))
-    × IsMove m s by × (state_of x.0 ≡ moved s by) × (presses_of by ≡ n)
+    × IsMove m s by × (state_of x.0 ≡ moved s by) × (presses_of by ≡ n) × LeavesScroll by
 
 -- such entries were added
 abbrev pub AreAdded : MapValue → State → ℕ → ℕ → ℕ → Entries → Entries → Type 0
@@ -88,11 +84,11 @@ IsTrail es j (move ∷ path) =
     (x : Entry) × (parent : ℕ) × (slice_get es j ≡ Some x) × (x.1.last ≡ Some (parent, move)) × (parent < j)
     × IsTrail es parent path
 
--- a path leads to the entry, by as many presses as are told
+-- a path leads to the entry, by as many presses as are told, and the scroll lock is off there
 abbrev pub IsReached : MapValue → Entries → ℕ → Entry → Type 0
 IsReached m es j x =
     (path : List Move) × IsTrail es j path × IsPath m path × (state_after path ≡ state_of x.0)
-    × (presses_along path ≡ x.1.presses)
+    × (presses_along path ≡ x.1.presses) × ((state_of x.0).is_locked Scroll ≡ false)
 
 -- No holder looks up a character, and where letting go leads was met by as many presses.
 abbrev pub IsClosed : MapValue → Entries → Entry → Type 0

@@ -7,8 +7,7 @@ ghost use Rattle.keymap_core.specs.declared.action.Modifier.{Modifier as Modifie
 ghost use Rattle.console_core.specs.Columns.{slot_of, is_upper};
 ghost use Rattle.console_core.specs.Moves.{start as start_state, is_held as is_held_in, look_in, IsIdle};
 ghost use Rattle.console_core.specs.Moves.{with_holder as with_holder_in, with_lock_turned, HolderForgets};
-ghost use Rattle.console_core.specs.Moves.{IsForgetful, events_of_move, releases};
-ghost use Rattle.console_core.specs.Inner.Searching.{presses_of};
+ghost use Rattle.console_core.specs.Moves.{IsForgetful, presses_of, events_of_move, releases};
 ghost use Rattle.console_core.specs.Inner.Searching.{state_of, Entries, IsMetBy, IsLetGoMet, ArePressesMet, IsStep};
 ghost use Rattle.console_core.specs.Inner.HeldBytes.{holder_number, bytes_of, held-equal, bool_equal, same-bytes};
 

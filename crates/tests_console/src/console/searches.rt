@@ -32,7 +32,7 @@ fn expect_sticks(
             let _answers = replay(alloc, &mut console, events.as_slice())?;
             expect_shown(rt, &console, on, locked, None);
         }
-        Sticking::Never | Sticking::Undecided => assert!(rt; false),
+        Sticking::Never | Sticking::Undecided(_) => assert!(rt; false),
     }
     Ok(())
 }
@@ -48,7 +48,7 @@ fn is_press(event: Event) -> bool {
 fn expect_never(rt: &impl Abort, alloc: Global, map: &KeyMap) -> Result<(), Fail> {
     match sticking(alloc, map)? {
         Sticking::Never => {}
-        Sticking::Sticks(_) | Sticking::Undecided => assert!(rt; false),
+        Sticking::Sticks(_) | Sticking::Undecided(_) => assert!(rt; false),
     }
     Ok(())
 }
@@ -101,7 +101,7 @@ fn accepted_maps_never_stick(rt: HostRuntime) -> Result<(), Fail> {
 #[test]
 fn a_map_of_too_many_states_is_undecided(rt: HostRuntime) -> Result<(), Fail> {
     match sticking(rt.alloc(), &map_of_many_modifiers(rt.alloc())?)? {
-        Sticking::Undecided => {}
+        Sticking::Undecided(_) => {}
         Sticking::Sticks(_) | Sticking::Never => assert!(rt; false),
     }
     Ok(())

@@ -11,10 +11,10 @@ loop-place-init c = record {
   grown = ([], sym (append-nil c.args.met.now.entries));
 }
 
-pub returns-then-len-gt-BOUND-clause-reached : goal.returns-then-len-gt-BOUND-clause-reached
-returns-then-len-gt-BOUND-clause-reached c =
+pub returns-then-len-gt-BOUND-clause-closed : goal.returns-then-len-gt-BOUND-clause-closed
+returns-then-len-gt-BOUND-clause-closed c =
     searched-fewer c.args.map.now c.loop-place.met.entries c.loop-place.place (length c.args.met.now.entries)
-    c.args.level c.args.level (omega (arith, c.loop-place.auto.place)) c.requires.below
+    c.args.level (length c.args.met.now.entries) (omega (arith, c.loop-place.auto.place)) (omega arith)
     c.loop-place.invariant.searched
 
 pub loop-place-preserved : goal.loop-place-preserved
@@ -45,8 +45,8 @@ returns-clause-searched c =
     searched-fewer c.args.map.now c.loop-place.met.entries c.loop-place.place (length c.args.met.now.entries)
     (length c.args.met.now.entries) (length c.args.met.now.entries) le (omega arith) c.loop-place.invariant.searched
 
-pub returns-clause-reached : goal.returns-clause-reached
-returns-clause-reached c =
+pub returns-clause-closed : goal.returns-clause-closed
+returns-clause-closed c =
     searched-fewer c.args.map.now c.loop-place.met.entries c.loop-place.place (length c.args.met.now.entries)
-    c.args.level c.args.level (omega (arith, c.loop-place.auto.place)) c.requires.below
+    c.args.level (length c.args.met.now.entries) (omega (arith, c.loop-place.auto.place)) (omega arith)
     c.loop-place.invariant.searched

@@ -4,7 +4,7 @@ use Rattle.std.proofs.lemmas.Option.{slice_get_within}
 use Rattle.console_core.specs.declared.search.Origin.{Origin}
 use Rattle.console_core.specs.Inner.Searching.{Searched, AreInOrder, IsStuck}
 use Rattle.console_core.proofs.Searching.{added-longer, start-entries, searched-start, searched-never, searched-back}
-use Rattle.console_core.proofs.Searching.{stuck-sticks}
+use Rattle.console_core.proofs.Searching.{stuck-sticks, order-within, level-late, closed-late}
 use Rattle.console_core.proofs.Reaching.{tables-test, reaches-more, beq-self}
 use Rattle.console_core.proofs.search.sticking.Goals as goal
 
@@ -54,18 +54,27 @@ returns-in-Some c =
 pub returns-then-len-gt-BOUND : goal.returns-then-len-gt-BOUND
 returns-then-len-gt-BOUND c =
     let es = c.close.new.met.entries in
-    let more : 65536 < length es = omega (arith, c.if-len-gt-BOUND.true, c.len-in-loop-level.ensures.len) in
-    reaches-more _ (λ x y e. tables-test _ _ (λ a. eq-eqb a a refl) (λ b. beq-self b) x y e) c.args.map.now es
-    c.loop-level.level c.loop-level.level 65536 c.in_ok-stuck.ensures.searched more
-    c.len-in-loop-level.ensures.unique
+    let more : 65536 < length es = omega (arith, c.if-len-gt-BOUND.true, c.len-in-loop-level.ensures.len) in (
+      reaches-more _ (λ x y e. tables-test _ _ (λ a. eq-eqb a a refl) (λ b. beq-self b) x y e) c.args.map.now es
+          c.loop-level.level c.loop-level.level 65536 c.loop-level.presses c.in_ok-stuck.ensures.searched
+          (order-within es c.loop-level.level c.loop-level.presses c.in_ok-stuck.ensures.order) more
+          c.len-in-loop-level.ensures.unique,
+      level-late c.args.map.now es c.loop-level.level c.loop-level.presses c.in_ok-stuck.ensures.order
+          c.in_ok-stuck.ensures.searched,
+    )
 
 pub returns-then-len-gt-BOUND-2 : goal.returns-then-len-gt-BOUND-2
 returns-then-len-gt-BOUND-2 c =
     let es = c.press.new.met.entries in
     let more : 65536 < length es = omega (arith, c.if-len-gt-BOUND-2.true, c.len-in-loop-level-2.ensures.len) in
-    reaches-more _ (λ x y e. tables-test _ _ (λ a. eq-eqb a a refl) (λ b. beq-self b) x y e) c.args.map.now es
-    c.loop-level.level c.loop-level.level 65536 c.in_ok-press.ensures.reached more
-    c.len-in-loop-level-2.ensures.unique
+    let mid = c.close.new.met.entries in (
+      reaches-more _ (λ x y e. tables-test _ _ (λ a. eq-eqb a a refl) (λ b. beq-self b) x y e) c.args.map.now es
+          c.loop-level.level (length mid) 65536 (c.loop-level.presses + 1) c.in_ok-press.ensures.closed
+          (order-within es (length mid) (c.loop-level.presses + 1) c.in_ok-press.ensures.order) more
+          c.len-in-loop-level-2.ensures.unique,
+      closed-late c.args.map.now mid es c.loop-level.level c.loop-level.presses c.in_ok-stuck.ensures.order
+          c.in_ok-press.ensures.grown c.in_ok-press.ensures.order c.in_ok-press.ensures.closed,
+    )
 
 pub loop-level-preserved : goal.loop-level-preserved
 loop-level-preserved c =

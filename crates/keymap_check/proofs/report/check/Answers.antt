@@ -33,6 +33,13 @@ returns-clause-steady c l = (
       ∙ (c.reports_are_computed.ensures.steady c.args.map.now l).1 is),
 )
 
+pub returns-clause-promise : goal.returns-clause-promise
+returns-clause-promise c e =
+    promise.keeps_promise c.modifiers_follow_keys.ensures.only_while c.modifiers_follow_keys.ensures.exactly_while
+    c.repeats_turn_no_steady_lock.ensures c.quiet_is_a_reset.ensures.off c.quiet_is_a_reset.ensures.goes_on
+    c.args.map.now
+    ((c.reports_are_computed.ensures.safe c.args.map.now).0 (ap (λ r. r.findings) (sym c.make_report.ensures) ∙ e))
+
 pub returns-clause-only_while : goal.returns-clause-only_while
 returns-clause-only_while c e =
     promise.only_while c.modifiers_follow_keys.ensures.only_while c.args.map.now

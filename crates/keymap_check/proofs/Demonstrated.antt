@@ -1,0 +1,169 @@
+-- A demonstration leaves a modifier on in the sense of the search.
+use Prim.Native.Nat.{zero, suc}
+use Rattle.std.proofs.Common.{◌≡◌, ℕ, ◌<◌, Bool, true, false, List, [], ◌∷◌, ◌++◌, Option, Some, None, refl, ap, subst}
+use Rattle.std.proofs.Common.{sym, ◌∙◌, if◌then◌else◌, ◌||◌, inl, inr}
+use Rattle.std.specs.Prelude.{reverse, find, All}
+use Rattle.std.proofs.lemmas.Bool.{or_cases}
+use Rattle.std.proofs.lemmas.List.{reverse-append}
+use Rattle.std.proofs.lemmas.List.Elements.{All-head, All-tail, All-append, All-nil, All-cons, All-weaker}
+use Rattle.keymap_core.specs.declared.action.Modifier.{Modifier}
+use Rattle.keymap_core.specs.declared.action.Modifier.TheVariants.{LeftShift, RightShift, LeftControl, RightControl}
+use Rattle.keymap_core.specs.declared.action.Modifier.TheVariants.{LeftAlt, RightAlt, AltShift, Meta}
+use Rattle.keymap_core.specs.Maps.{MapValue}
+use Rattle.console_core.specs.declared.event.Event.{Event}
+use Rattle.console_core.specs.declared.event.Event.TheVariants.{Press, Release, Reset, Load}
+use Rattle.console_core.specs.Resolved.{on}
+use Rattle.console_core.specs.History.{Maps, between, is_on_after, HasKey, IsNoLoad, HasNoLoads}
+use Rattle.console_core.specs.Sticking.{IsPressOrRelease, LeavesOn}
+use Rattle.console_core.proofs.OneMap.{without_loads}
+use Rattle.keymap_check.specs.Below.{gathered}
+use Rattle.keymap_check.specs.Computed.{findings_at}
+use Rattle.keymap_check.specs.Scripts.{bit_key_at, bit_keys, event_if, event_at, events_of, script, is_chosen}
+use Rattle.keymap_check.specs.Scripts.{scripts_of, scripts_with, scripts_for, lacks_key, has_some, tried_at, tried}
+use Rattle.keymap_check.specs.Scripts.{leaves_modifier_on, is_some_on}
+use Rattle.keymap_check.specs.Shown.{DemonstrationsLeaveModifiersOn}
+use Rattle.keymap_check.proofs.Quiet.{Every, every-gathered, every-below, first-every, given-quiet}
+use Rattle.keymap_check.proofs.Trapless.{AreKeys, bit_keys-keys}
+
+-- a press or a release of a key
+abbrev IsKeyEvent : Event → Type 0
+IsKeyEvent e = HasKey e × IsPressOrRelease e
+
+by_key : (p : Bool) (k : ℕ) → k < 128 → IsKeyEvent (if p then Press k else Release k)
+by_key true k lt = (lt, tt)
+by_key false k lt = (lt, tt)
+
+-- an optional event under a condition
+by_keys-if : (p t : Bool) (o : Option ℕ) → ((j : ℕ) → o ≡ Some j → j < 128)
+    → All IsKeyEvent (if t then event_if p o else [])
+by_keys-if p true None f = All-nil IsKeyEvent
+by_keys-if p true (Some k) f =
+    All-cons IsKeyEvent (if p then Press k else Release k) [] (by_key p k (f k refl)) (All-nil IsKeyEvent)
+by_keys-if p false o f = All-nil IsKeyEvent
+
+-- the events of a set
+by_keys-set : (p : Bool) (keys : List (Option ℕ)) (s e n : ℕ) → AreKeys keys
+    → All IsKeyEvent (gathered (event_at p keys s e) n)
+unfolding gathered
+by_keys-set p keys s e zero f = All-nil IsKeyEvent
+by_keys-set p keys s e (suc n) f =
+    All-append IsKeyEvent (gathered (event_at p keys s e) n) (event_at p keys s e n) (by_keys-set p keys s e n f)
+    (by_keys-if p (is_chosen s e n) (bit_key_at keys n) (f n))
+
+-- the events of a script
+by_keys-script : (keys : List (Option ℕ)) (k a b : ℕ) → AreKeys keys → k < 128 → All IsKeyEvent (script keys k a b)
+by_keys-script keys k a b f lt =
+    let press : All IsKeyEvent (Press k ∷ []) = All-cons IsKeyEvent (Press k) [] (lt, tt) (All-nil IsKeyEvent) in
+    let release : All IsKeyEvent (Release k ∷ []) =
+    All-cons IsKeyEvent (Release k) [] (lt, tt) (All-nil IsKeyEvent) in
+    let both : All IsKeyEvent (Press k ∷ Release k ∷ []) =
+    All-cons IsKeyEvent (Press k) (Release k ∷ []) (lt, tt) release in
+    let s1 : All IsKeyEvent (events_of true keys a 0 ++ Press k ∷ []) =
+    All-append IsKeyEvent _ _ (by_keys-set true keys a 0 4 f) press in
+    let s2 : All IsKeyEvent ((events_of true keys a 0 ++ Press k ∷ []) ++ events_of false keys a b) =
+    All-append IsKeyEvent _ _ s1 (by_keys-set false keys a b 4 f) in
+    let s3 : All IsKeyEvent (((events_of true keys a 0 ++ Press k ∷ []) ++ events_of false keys a b)
+    ++ events_of true keys b a) =
+    All-append IsKeyEvent _ _ s2 (by_keys-set true keys b a 4 f) in
+    let s4 : All IsKeyEvent ((((events_of true keys a 0 ++ Press k ∷ []) ++ events_of false keys a b)
+    ++ events_of true keys b a)
+    ++ Press k ∷ Release k ∷ []) =
+    All-append IsKeyEvent _ _ s3 both in
+    All-append IsKeyEvent _ _ s4 (by_keys-set false keys b 0 4 f)
+
+-- a script that isn't left out
+by_keys-unless : (t : Bool) (keys : List (Option ℕ)) (k a b : ℕ) → AreKeys keys → k < 128
+    → Every (All IsKeyEvent) (if t then [] else script keys k a b ∷ [])
+by_keys-unless true keys k a b f lt = tt
+by_keys-unless false keys k a b f lt = (by_keys-script keys k a b f lt, tt)
+
+-- the scripts of a key, if it has a finding
+by_keys-tried : (t : Bool) (keys : List (Option ℕ)) (k : ℕ) → AreKeys keys → k < 128
+    → Every (All IsKeyEvent) (if t then scripts_for keys k else [])
+by_keys-tried true keys k f lt =
+    every-gathered (All IsKeyEvent) (scripts_with keys k) 16
+    (λ a. every-gathered (All IsKeyEvent) (scripts_of keys k a) 16
+    (λ b. by_keys-unless (lacks_key keys a b) keys k a b f lt))
+by_keys-tried false keys k f lt = tt
+
+-- each script that is tried is presses and releases of keys
+tried-by_keys : (m : MapValue) → Every (All IsKeyEvent) (tried m)
+tried-by_keys m =
+    every-below (All IsKeyEvent) (tried_at m) 128
+    (λ k lt. by_keys-tried (has_some (findings_at m k)) (bit_keys m k) k (bit_keys-keys m k) lt)
+
+-- what holds for a list holds for it reversed
+All-reversed : {X : Type 0} (P : X → Type 0) (xs : List X) → All P xs → All P (reverse xs)
+All-reversed P [] all = All-nil P
+All-reversed P (x ∷ xs) all =
+    subst (All P) (sym (reverse-append (x ∷ []) xs))
+    (All-append P (reverse xs) (x ∷ []) (All-reversed P xs (All-tail P x xs all))
+    (All-cons P x [] (All-head P x xs all) (All-nil P)))
+
+-- what is found passes the test
+found_by : {A : Type 0} (test : A → Bool) (t : Bool) (x s : A) (o : Option A) → test x ≡ t
+    → (o ≡ Some s → test s ≡ true) → (if t then Some x else o) ≡ Some s → test s ≡ true
+found_by test true x s o p f e = let q : x ≡ s = cc in subst (λ y. test y ≡ true) q p
+found_by test false x s o p f e = f e
+
+found-passes : {A : Type 0} (test : A → Bool) (xs : List A) (s : A) → find test xs ≡ Some s → test s ≡ true
+found-passes test [] s e = cc
+found-passes test (x ∷ xs) s e = found_by test (test x) x s (find test xs) refl (found-passes test xs s) e
+
+-- where some modifier is on, one is
+one_on : (ms : Maps) (h : List Event) → is_some_on ms h ≡ true → (i : Modifier) × (is_on_after ms i h ≡ true)
+one_on ms h e =
+    elim (or_cases _ (is_on_after ms Meta h) e) [
+      | inr y ↦ (Meta, y)
+      | inl e7 ↦ elim (or_cases _ (is_on_after ms AltShift h) e7) [
+        | inr y ↦ (AltShift, y)
+        | inl e6 ↦ elim (or_cases _ (is_on_after ms RightAlt h) e6) [
+          | inr y ↦ (RightAlt, y)
+          | inl e5 ↦ elim (or_cases _ (is_on_after ms LeftAlt h) e5) [
+            | inr y ↦ (LeftAlt, y)
+            | inl e4 ↦ elim (or_cases _ (is_on_after ms RightControl h) e4) [
+              | inr y ↦ (RightControl, y)
+              | inl e3 ↦ elim (or_cases _ (is_on_after ms LeftControl h) e3) [
+                | inr y ↦ (LeftControl, y)
+                | inl e2 ↦ elim (or_cases (is_on_after ms LeftShift h) (is_on_after ms RightShift h) e2) [
+                  | inl y ↦ (LeftShift, y)
+                  | inr y ↦ (RightShift, y)
+                ]
+              ]
+            ]
+          ]
+        ]
+      ]
+    ]
+
+-- presses and releases are no loads
+no_load : (e : Event) → IsKeyEvent e → IsNoLoad e
+no_load (Press k) x = refl
+no_load (Release k) x = refl
+no_load Reset x = refl
+no_load Load x = absurd x.1
+
+-- what is on in a console of the map twice is on in each console whose first map it is
+on-first : (m : MapValue) (h : List Event) (i : Modifier) → HasNoLoads h → is_on_after (between m m) i h ≡ true
+    → (ms : Maps) → ms.first ≡ m → is_on_after ms i h ≡ true
+on-first m h i none e ms first =
+    ap (on i) (without_loads ms h none).1 ∙ ap (λ x. is_on_after (between x x) i h) first ∙ e
+
+pub demonstrations_leave_modifiers_on : DemonstrationsLeaveModifiersOn
+demonstrations_leave_modifiers_on m events e =
+    let keys : All IsKeyEvent (reverse events) =
+    All-reversed IsKeyEvent events (first-every (All IsKeyEvent) (leaves_modifier_on m) (tried m) events
+    (tried-by_keys m) e) in
+    let one : (i : Modifier) × (is_on_after (between m m) i (reverse events) ≡ true) =
+    one_on (between m m) (reverse events) (found-passes (leaves_modifier_on m) (tried m) events e) in
+    let none : HasNoLoads (reverse events) = All-weaker IsKeyEvent IsNoLoad no_load (reverse events) keys in (
+      All-weaker IsKeyEvent HasKey (λ x y. y.0) (reverse events) keys,
+      All-weaker IsKeyEvent IsPressOrRelease (λ x y. y.1) (reverse events) keys,
+      (
+        one.0,
+        (
+          given-quiet m (leaves_modifier_on m) events e,
+          on-first m (reverse events) one.0 none one.1,
+        ),
+      ),
+    )

@@ -47,18 +47,22 @@ test: all
 	cd crates/refusals && $(RT) run -- read_map > /dev/null
 	$(MAKE) scripts
 
-# `rt ci` builds both programs anew, and the scripts take what it leaves. It proves the C library and leaves none; what
-# its build proves once more, of the libraries below it, the edits go on with.
+# `rt ci` builds both programs anew, each by LLVM and by Rattle's own compiler (.by-rattle), and the scripts take what it
+# leaves. It proves the C library and leaves none; what its build proves once more, of the libraries below it, the edits
+# go on with.
 check:
 	RT_JOBS="$${RT_JOBS:-$$(sh .ci/jobs)}" $(RT) ci
 	cd crates/kmap_c && $(RT) lib
 	RT="$(RT)" RT_JOBS="$${RT_JOBS:-$$(sh .ci/jobs)}" python3 tests/edits
 	RT="$(RT)" sh tests/edits_driver.sh
 	$(MAKE) scripts
+	sh tests/program.sh $(PROGRAM).by-rattle
+	sh tests/both_builds.sh $(PROGRAM) $(PROGRAM).by-rattle
 
 # the tests of what is built
 scripts:
 	sh tests/statements.sh
+	sh tests/names.sh
 	sh tests/program.sh $(PROGRAM)
 	sh tests/c_library.sh $(PROGRAM) $(LIBRARY)
 	sh tests/completions.sh $(PROGRAM)

@@ -254,7 +254,7 @@ impl Scanner {
         n
     }
 
-    /// Takes the end of a line or a whole token in front.
+    /// Takes the end of a line in front, or a whole token, and the cells where these are wanted then.
     #[inline(always)]
     fn after_spaces(&mut self, rest: &[u8]) -> Result<usize, TextFaultKind>
         requires reader { IsReader self.old }
@@ -361,8 +361,8 @@ impl Scanner {
         self.offset += 1;
     }
 
-    /// The same as `token` where a cell is wanted, as for most tokens, and for the cells behind it. The place and the
-    /// offset are kept only behind the last of them.
+    /// Takes the cells in front from this column on, each with the blanks before it, and behind the eighth the lock
+    /// letter and the end of the line. The place and the offset are kept only behind the last cell.
     #[inline(always)]
     fn cells(&mut self, slot: u8, first: u8, rest: &[u8]) -> Result<usize, TextFaultKind>
         requires reader { IsReader self.old }

@@ -1,6 +1,6 @@
 -- What was found by trying more ways.
 use Rattle.std.proofs.Common.{◌≡◌, ℕ, ◌<◌, ◌≤◌, ◌+◌, true, List, [], ◌∷◌, ◌++◌, Option, Some, None, refl, ap, sym}
-use Rattle.std.proofs.Common.{subst, ◌∙◌, append-nil, append_assoc, length, arith, map, take, get_or}
+use Rattle.std.proofs.Common.{subst, ◌∙◌, append-nil, append_assoc, length, arith, map, take, get_or, Bor}
 use Rattle.std.proofs.lemmas.List.{take_more}
 use Rattle.std.proofs.lemmas.Grind.{flat_map-append}
 use Rattle.keymap_core.specs.Accents.{AccentValue}
@@ -8,7 +8,7 @@ use Rattle.std.specs.Prelude.{reverse, option_map, ◌==◌}
 use Rattle.std.specs.Map.{lookup}
 use Rattle.arrayvec.specs.ArrayVec.{ArrayVec}
 use Rattle.std.specs.List.{flat_map}
-use Rattle.std.specs.Option.{option_or}
+use Rattle.std.specs.Option.{option_or, option_copied}
 use Rattle.std.proofs.lemmas.List.Folds.{find-append}
 use Rattle.keymap_core.specs.Maps.{MapValue, accent_at}
 use Rattle.console_core.specs.declared.event.Event.{Event}
@@ -247,3 +247,9 @@ way-second m n c es fs o table second e f is =
     first-way m c None (option_map (λ w. w.items) o) (no-direct-found m n c es table e is)
     (subst (λ x. first_with (character_typed_by m) (accented m) x ≡ option_map (λ w. w.items) o) is
     (found-first (character_typed_by m) (accented m) fs n o second f))
+
+-- the events of a way that is lent are those of the way
+pub copied-items : (o : Option (Bor (ArrayVec Event)))
+    → option_map (λ w. w.now.items) o ≡ option_map (λ w. w.items) (option_copied o)
+copied-items None = refl
+copied-items (Some w) = refl

@@ -1,7 +1,8 @@
 -- The lines of a script, one after another.
 use Prim.Native.Nat.{zero, suc}
-use Rattle.std.proofs.Common.{◌≡◌, ℕ, ◌+◌, ◌<◌, ◌≤◌, true, false, Bool, eqb, ◌==◌, append-nil, List, [], ◌∷◌, ◌++◌}
+use Rattle.std.proofs.Common.{◌≡◌, ℕ, ◌+◌, ◌<◌, ◌≤◌, true, false, Bool, cond, eqb, ◌==◌, List, [], ◌∷◌, ◌++◌}
 use Rattle.std.proofs.Common.{length, take, drop, get_or, map, Option, None, Some, Bor, refl, sym, ap, subst, ◌∙◌}
+use Rattle.std.proofs.Common.{append-nil, ◌-◌}
 use Rattle.std.proofs.Common.{arith, add-one, drop-cons, take-append-drop, length-take-le, take_all, length-drop}
 use Rattle.std.specs.List.{AllZip, filter, slice_split, onto_first, position, position_or_len}
 use Rattle.std.proofs.lemmas.List.{take_more, get_or-map, length-map}
@@ -17,6 +18,7 @@ use Rattle.play_core.specs.declared.sent.Sent.{Sent}
 use Rattle.play_core.specs.declared.script.ScriptFault.{ScriptFault}
 use Rattle.play_core.specs.Scripts.{is_there, parts_of, words_of, lines_of, AreEvents, IsEvent, Sends, Tells, mark_of}
 use Rattle.play_core.specs.Scripts.{IsScriptFault, IsFaultOf, RunsOut}
+use Rattle.play_core.specs.Inner.Readings.{IsReadTo, BeginsWithEvent}
 
 -- the part at a place is the line there
 pub record IsPart (script text : List ℕ) (n : ℕ) : Type 0 where
@@ -217,3 +219,64 @@ no_part script n e =
     take_all n (map words_of (parts_of script))
     (let none = ap length e in let cut = length-drop n (parts_of script) in
     subst (λ k. k ≤ n) (sym (length-map (parts_of script) words_of)) (omega arith))
+
+-- ---- lines that are read
+
+-- there are parts, whether the first byte separates or not
+parts_by : {X : Type 0} (t : Bool) (x : X) (parts : List (List X))
+    → is_there (cond t ([] ∷ parts) (onto_first x parts)) ≡ true
+parts_by true x parts = refl
+parts_by false x [] = refl
+parts_by false x (part ∷ parts) = refl
+
+-- a list has a part
+pub parts_there : {X : Type 0} (p : X → Bool) (xs : List X) → is_there (slice_split p xs) ≡ true
+parts_there p [] = refl
+parts_there p (x ∷ xs) = parts_by (p x) x (slice_split p xs)
+
+-- there is a line that is left
+read-within : {script rest : List ℕ} {number : ℕ} {sent : List Sent} → IsReadTo script number sent rest
+    → number < length (parts_of script)
+unfolding parts_of
+read-within {script} {rest} {number} read =
+    let left = ap length read.parts in
+    let cut = length-drop number (slice_split (λ b. eqb b 10) script) in
+    let some = some-part (slice_split (λ b. eqb b 10) rest) (parts_there (λ b. eqb b 10) rest) in
+    omega arith
+  where
+    some-part : (parts : List (List ℕ)) → is_there parts ≡ true → 0 < length parts
+    some-part [] e = cc
+    some-part (part ∷ parts) e = omega arith
+
+-- fewer lines were read than a number of 64 bits counts
+pub read-few : (script rest : List ℕ) (number : ℕ) (sent : List Sent) → IsReadTo script number sent rest
+    → number ≤ length script
+read-few script rest number sent read = omega (arith, read-within read, few_lines script)
+
+-- one more line was read
+pub read-more : (script text rest : List ℕ) (number : ℕ) (sent : List Sent) (what : What)
+    → IsReadTo script number sent text → BeginsWithEvent text what rest
+    → IsReadTo script (number + 1) (sent ++ (record { lost = false; what = what }) ∷ []) rest
+read-more script text rest number sent what read told =
+    let next = next_part script told.0 number (parts_of rest) (read.parts ∙ told.1) in
+    record {
+      events = rw (lines_more next.0)
+          (event_more (take number (lines_of script)) (words_of told.0) sent (record { lost = false; what = what })
+          read.events told.2);
+      parts = next.1;
+    }
+
+-- memory is refused for the next line
+pub read-out : (script text rest : List ℕ) (number : ℕ) (sent : List Sent) (what : What)
+    → IsReadTo script number sent text → BeginsWithEvent text what rest → RunsOut script
+read-out script text rest number sent what read told =
+    let next = next_part script told.0 number (parts_of rest) (read.parts ∙ told.1) in
+    out_at script told.0 number sent (record { lost = false; what = what }) next.0 read.events told.2
+
+-- what was read further, where the number of lines is counted by the events
+pub read-on : (script text rest : List ℕ) (number before after : ℕ) (sent sent' : List Sent)
+    → AreEvents (take number (lines_of script)) sent → drop number (parts_of script) ≡ parts_of text
+    → (IsReadTo script number sent text → IsReadTo script (number + (length sent' - length sent)) sent' rest)
+    → after ≡ length sent' → before ≡ length sent → IsReadTo script (number + (after - before)) sent' rest
+read-on script text rest number before after sent sent' events parts further a b =
+    rw (a, b) (further (record { events = events; parts = parts }))

@@ -19,24 +19,12 @@ use Rattle.play_core.specs.Delivery.{delivered}
 use Rattle.play_core.specs.Scripts.{separates_words, is_there, parts_of, words_in, words_of, lines_of}
 use Rattle.play_core.specs.Scripts.{IsNumber, Tells, key_of, IsEvent, IsScript}
 use Rattle.play_core.specs.Spelling.{command_text, mark_text, sent_text, Line, sends, says, line_text}
-use Rattle.play_core.specs.Spelling.{text_of, sent_by, sent_in, has_line_feed, IsWritable, AreWritable, what_of, sent_of}
-use Rattle.play_core.specs.Spelling.{event_line}
+use Rattle.play_core.specs.Spelling.{text_of, sent_by, sent_in, has_line_feed, IsWritable, AreWritable, what_of}
+use Rattle.play_core.specs.Spelling.{sent_of, event_line}
 use Rattle.play_core.proofs.PlainLines.{not_at, IsPlain, plain_digits, plain_more, no_comment, line_words}
-use Rattle.play_core.proofs.ScriptLines.{event_there}
+use Rattle.play_core.proofs.ScriptLines.{event_there, parts_there}
 
 -- ---- scripts that are joined
-
--- there are parts, whether the first byte separates or not
-parts_by : {X : Type 0} (t : Bool) (x : X) (parts : List (List X))
-    → is_there (cond t ([] ∷ parts) (onto_first x parts)) ≡ true
-parts_by true x parts = refl
-parts_by false x [] = refl
-parts_by false x (part ∷ parts) = refl
-
--- a list has a part
-parts_there : {X : Type 0} (p : X → Bool) (xs : List X) → is_there (slice_split p xs) ≡ true
-parts_there p [] = refl
-parts_there p (x ∷ xs) = parts_by (p x) x (slice_split p xs)
 
 -- an element in front of parts stands in front of the first of them
 onto-append : {X : Type 0} (x : X) (parts more : List (List X)) → is_there parts ≡ true

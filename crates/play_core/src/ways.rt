@@ -10,7 +10,7 @@ ghost use Rattle.play_core.specs.HeldKeys.{combination_with};
 ghost use Rattle.play_core.specs.Inner.HeldTables.{AreHeldKeys};
 ghost use Rattle.play_core.specs.Typing.{character_typed_by, accent_left_by, direct_way, dead_way, joined, accented_by};
 ghost use Rattle.play_core.specs.Typing.{accented, way_for};
-ghost use Rattle.play_core.specs.Inner.Tables.{IsTableOf, AreTablesOf};
+ghost use Rattle.play_core.specs.Inner.Tables.{IsTableOf, AreTablesOf, AreWaysBelow};
 
 use crate::effect::effect_of;
 use crate::held_keys::{HeldKeys, Way, combination};
@@ -20,6 +20,9 @@ use indexmap::IndexMap;
 use keymap_core::{Accent, KEY_COUNT, KeyMap};
 use std::alloc::{AllocError, Global};
 use std::marker::Model;
+
+/// How many characters have their ways in the places of their numbers.
+const ASCII: u32 = 128;
 
 /// Ways by the number of a character, or of an accent.
 type Table = IndexMap<u32, Way>;
@@ -192,26 +195,60 @@ fn accented_table(alloc: Global, map: &KeyMap, found: &Found) -> Result<Table, A
     Ok(table)
 }
 
+/// The way of a character: a combination, or else a dead key before a base.
+fn way_in<'t>(direct: &'t Table, composed: &'t Table, number: u32) -> Option<&'t Way>
+    ensures { (m : MapValue) → IsTableOf (character_typed_by m) (combinations m) direct.now.entries
+        → IsTableOf (character_typed_by m) (accented m) composed.now.entries
+        → option_map (λ way. way.now.items) result ≡ way_for m number }
+{
+    match direct.get(&number) {
+        Some(way) => Some(way),
+        None => composed.get(&number),
+    }
+}
+
+/// The ways of the characters below 128, each in the place of its number.
+fn ascii_ways(
+    alloc: Global,
+    direct: &Table,
+    composed: &Table,
+) -> Result<Vec<Option<Way>>, AllocError>
+    ensures { IfOk result (λ ways. (m : MapValue)
+        → IsTableOf (character_typed_by m) (combinations m) direct.now.entries
+        → IsTableOf (character_typed_by m) (accented m) composed.now.entries
+        → AreWaysBelow m 128 ways.items) }
+{
+    let mut ways = Vec::new(alloc);
+    for number in 0..ASCII {
+        let way = way_in(direct, composed, number);
+        ways.push(way.map(|way| way_of(way.as_slice())))?;
+    }
+    Ok(ways)
+}
+
 /// The ways to type the characters of a keymap. Each character's way is found once, and serves wherever it stands.
+/// Those of the characters below 128, of which most sentences consist, are found by their number.
 #[derive(Drop)]
 pub struct Ways<'m> {
     map: &'m KeyMap,
     direct: Table,
     composed: Table,
+    ascii: Vec<Option<Way>>,
 }
 
 impl<'m> Model for Ways<'m> {
     ghost use Rattle.keymap_core.specs.Maps.{MapValue};
     ghost use Rattle.play_core.specs.HeldKeys.{combinations};
     ghost use Rattle.play_core.specs.Typing.{character_typed_by, accented};
-    ghost use Rattle.play_core.specs.Inner.Tables.{IsTableOf};
+    ghost use Rattle.play_core.specs.Inner.Tables.{IsTableOf, AreWaysBelow};
 
     ghost Value = { MapValue };
 
     ghost view = { λ w. w.map.now };
 
     ghost invariant = { λ w. IsTableOf (character_typed_by w.map.now) (combinations w.map.now) w.direct.entries
-        × IsTableOf (character_typed_by w.map.now) (accented w.map.now) w.composed.entries };
+        × IsTableOf (character_typed_by w.map.now) (accented w.map.now) w.composed.entries
+        × AreWaysBelow w.map.now 128 w.ascii.items };
 }
 
 impl<'m> Ways<'m> {
@@ -223,10 +260,12 @@ impl<'m> Ways<'m> {
     {
         let found = Found::of(alloc, map)?;
         let composed = accented_table(alloc, map, &found)?;
+        let ascii = ascii_ways(alloc, &found.characters, &composed)?;
         Ok(Ways {
             map,
             direct: found.characters,
             composed,
+            ascii,
         })
     }
 
@@ -236,12 +275,14 @@ impl<'m> Ways<'m> {
         ensures { option_map (λ way. way.now) result ≡ way_for self.now c }
     {
         let number = u32::from(c);
-        match self.direct.get(&number) {
+        let way = if number < ASCII {
+            self.ascii[number as usize].as_ref()
+        } else {
+            way_in(&self.direct, &self.composed, number)
+        };
+        match way {
             Some(way) => Some(way.as_slice()),
-            None => match self.composed.get(&number) {
-                Some(way) => Some(way.as_slice()),
-                None => None,
-            },
+            None => None,
         }
     }
 }

@@ -1,7 +1,7 @@
 -- The reading of a line by tests in order. Mirrors `read_line` of src/script_line.rt and what it calls, and
 -- `plain_line` of src/plain_line.rt; `Scripts` says what a line means.
 use Rattle.std.specs.Prelude.{◌≡◌, ℕ, nat_lt, ◌<◌, Bool, true, false, ◌&&◌, List, [], ◌∷◌, ◌++◌, codes, Option, None}
-use Rattle.std.specs.Prelude.{Some, Result, Ok, Err, if◌then◌else◌}
+use Rattle.std.specs.Prelude.{Some, Result, Ok, Err, if◌then◌else◌, take, drop}
 use Rattle.std.specs.Str.{bytes_eq}
 use Rattle.std.specs.Char.{digit_value}
 use Rattle.std.specs.Str.Parse.{digits_value}
@@ -10,7 +10,7 @@ use Rattle.play_core.specs.declared.script_line.LineFault.TheVariants.{Form, Key
 use Rattle.play_core.specs.declared.sent.What.{What}
 use Rattle.play_core.specs.declared.sent.What.TheVariants.{Down, Repeat, Up, Reset, Load}
 use Rattle.play_core.specs.declared.sent.Sent.{Sent}
-use Rattle.play_core.specs.Scripts.{is_there, parts_of, words_of, IsNumber, IsEvent}
+use Rattle.play_core.specs.Scripts.{is_there, parts_of, lines_of, words_of, IsNumber, IsEvent, AreEvents}
 use Rattle.keymap_core.specs.Numbers.{key_count}
 
 abbrev pub all_digits : List ℕ → Bool
@@ -57,6 +57,11 @@ unfoldable pub reading : List (List ℕ) → Result (Option Sent) LineFault
 reading [] = Ok None
 reading (word ∷ rest) =
     if bytes_eq word (codes "lost") then reading_of_lost rest else sent_by false (what_of word rest)
+
+-- So many lines of the script were read, which are these events, and the rest is what follows them.
+pub record IsReadTo (script : List ℕ) (number : ℕ) (sent : List Sent) (rest : List ℕ) : Type 0 where
+  pub events : AreEvents (take number (lines_of script)) sent
+  pub parts : drop number (parts_of script) ≡ parts_of rest
 
 -- the text begins with the number of this key and a line feed, behind which the rest stands
 abbrev pub BeginsWithKey : List ℕ → ℕ → List ℕ → Type 0

@@ -1,0 +1,39 @@
+use Rattle.std.proofs.Common.{◌≡◌, ◌+◌, ◌++◌, ◌∷◌, [], false, length, subst, arith, length-append}
+use Rattle.std.proofs.lemmas.Result.{err_from_is_err_and}
+use Rattle.play_core.specs.declared.sent.Sent.{Sent}
+use Rattle.play_core.specs.Inner.Readings.{IsReadTo}
+use Rattle.play_core.proofs.ScriptLines.{read-more, read-out}
+use Rattle.play_core.proofs.script.read_plain_lines.Goals as goal
+
+pub loop-told-init : goal.loop-told-init
+loop-told-init c = record {
+  read =
+      λ script number read.
+      subst (λ n. IsReadTo script n c.args.events.now.items c.args.text.now) (omega arith) read;
+  more = omega arith;
+  shorter = omega arith;
+}
+
+pub returns-in_err-push-clause-err : goal.returns-in_err-push-clause-err
+returns-in_err-push-clause-err c =
+    let p = err_from_is_err_and c.from_residual.result c.from_residual.ensures.1 in
+    rw p.1
+    (λ script number read. read-out script _ _ _ _ _ (c.loop-told.invariant.read script number read)
+    c.in-Some.ensures.event)
+
+pub loop-told-preserved : goal.loop-told-preserved
+loop-told-preserved c =
+    let one : Sent = record { lost = false; what = c.in-Some.told.0 } in
+    let items : c.push.new.self.items ≡ c.loop-told.events.items ++ one ∷ [] = c.in_ok-push.ensures.items in
+    let long : length (c.loop-told.events.items ++ one ∷ []) ≡ length c.loop-told.events.items + 1 =
+    length-append c.loop-told.events.items (one ∷ []) in
+    let more = c.loop-told.invariant.more in
+    record {
+      read = λ script number read.
+          rw items
+          (subst (λ n. IsReadTo script n (c.loop-told.events.items ++ one ∷ []) c.in-Some.told.1.now) (omega arith)
+          (read-more script c.loop-told.rest.now c.in-Some.told.1.now _ c.loop-told.events.items c.in-Some.told.0
+          (c.loop-told.invariant.read script number read) c.in-Some.ensures.event));
+      more = rw items (omega arith);
+      shorter = omega (arith, c.in-Some.ensures.shorter, c.loop-told.invariant.shorter);
+    }

@@ -14,7 +14,7 @@ use Rattle.console_core.specs.declared.event.Event.{Event}
 use Rattle.console_core.specs.declared.event.Event.TheVariants.{Press, Release, Reset, Load}
 use Rattle.console_core.specs.Resolved.{on}
 use Rattle.console_core.specs.History.{Maps, between, is_on_after, HasKey, IsNoLoad, HasNoLoads}
-use Rattle.console_core.specs.Sticking.{IsPressOrRelease, LeavesOn}
+use Rattle.console_core.specs.Sticking.{IsPressOrRelease}
 use Rattle.console_core.proofs.OneMap.{without_loads}
 use Rattle.keymap_check.specs.Below.{gathered}
 use Rattle.keymap_check.specs.Computed.{findings_at}

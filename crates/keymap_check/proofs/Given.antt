@@ -4,11 +4,11 @@ use Rattle.std.specs.Prelude.{IfSome, IsSome, IsNone, option_map, reverse}
 use Rattle.keymap_core.specs.declared.action.Modifier.{Modifier}
 use Rattle.keymap_core.specs.Maps.{MapValue}
 use Rattle.console_core.specs.declared.event.Event.{Event}
-use Rattle.console_core.specs.History.{IsQuiet}
+use Rattle.console_core.specs.Sticking.{LeavesOn}
 use Rattle.console_core.specs.Traps.{NobodyBearsCellPickingLocks, HasNoTrap}
-use Rattle.keymap_check.specs.Scripts.{leaves_modifier_on, demonstration_of}
+use Rattle.keymap_check.specs.Scripts.{demonstration_of}
 use Rattle.keymap_check.specs.Shown.{HasShownTrap}
-use Rattle.keymap_check.proofs.Quiet.{given-quiet}
+use Rattle.keymap_check.proofs.Demonstrated.{demonstrations_leave_modifiers_on}
 use Rattle.keymap_check.proofs.Shown.{shown_traps_are_demonstrated}
 use Rattle.keymap_check.proofs.Trapless.{none_given}
 
@@ -16,10 +16,11 @@ none_some : {A : Type 0} (x : A) → None ≡ Some x → ⊥
 none_some x e = cc
 
 module _ {S : Type 0} (items : S → List Event) (m : MapValue) where
-  -- at the end of the demonstration no key is pressed
-  pub is_quiet : (o : Option S) → option_map items o ≡ demonstration_of m → IfSome o (λ s. IsQuiet (reverse (items s)))
-  is_quiet None e = tt
-  is_quiet (Some s) e = given-quiet m (leaves_modifier_on m) (items s) (sym e)
+  -- the demonstration leaves a modifier on
+  pub leaves_on : (o : Option S) → option_map items o ≡ demonstration_of m
+      → IfSome o (λ s. LeavesOn m (reverse (items s)))
+  leaves_on None e = tt
+  leaves_on (Some s) e = demonstrations_leave_modifiers_on m (items s) (sym e)
 
   -- where a trap is shown, there is a demonstration
   pub is_shown : (o : Option S) → option_map items o ≡ demonstration_of m → (i : Modifier) (k : ℕ)

@@ -4,7 +4,8 @@ ghost use Rattle.keymap_core.specs.declared.action.Modifier.{Modifier as Modifie
 ghost use Rattle.keymap_core.specs.Maps.{MapValue};
 ghost use Rattle.keymap_core.specs.Numbers.{key_count};
 ghost use Rattle.console_core.specs.declared.event.Event.{Event as EventValue};
-ghost use Rattle.console_core.specs.History.{Maps, between, IsQuiet};
+ghost use Rattle.console_core.specs.History.{Maps, between};
+ghost use Rattle.console_core.specs.Sticking.{LeavesOn};
 ghost use Rattle.console_core.specs.Traps.{NobodyBearsCellPickingLocks, HasNoTrap};
 ghost use Rattle.keymap_check.specs.Scripts.{leaves_modifier_on as leaves_modifier_on_in, is_some_on, events_of};
 ghost use Rattle.keymap_check.specs.Scripts.{start_of, script as script_of, scripts_of, scripts_with, scripts_for};
@@ -157,7 +158,7 @@ fn first_script(survey: &Survey) -> Option<Script>
 }
 
 /// Shows how the keymap can leave a modifier on: gives the first script, in the order in which they are tried, after
-/// which a new console has some modifier on though each key was released.
+/// which a new console has some modifier on though no key is pressed. It is presses and releases of keys.
 ///
 /// The keys with findings are tried in their order, each with the 256 pairs of sets of modifiers, all sets B for each
 /// set A. A script presses the keys of A, presses the tried key, goes on from A to B, presses the tried key again and
@@ -166,7 +167,7 @@ fn first_script(survey: &Survey) -> Option<Script>
 /// That there is none does not mean that a refused keymap cannot stick, since no other scripts are tried.
 pub fn demonstrate(map: &KeyMap) -> Option<Script>
     ensures first { option_map (λ s. s.items) result ≡ demonstration_of map.now }
-    ensures quiet { IfSome result (λ s. IsQuiet (reverse s.items)) }
+    ensures leaves_on { IfSome result (λ s. LeavesOn map.now (reverse s.items)) }
     ensures shown { (i : ModifierValue) (k : ℕ) → HasShownTrap map.now i k → IsSome result }
     ensures without_traps { NobodyBearsCellPickingLocks map.now → ((i : ModifierValue) → HasNoTrap map.now i)
         → IsNone result }

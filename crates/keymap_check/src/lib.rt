@@ -3,16 +3,16 @@
 //!
 //! A keymap is accepted exactly if no key has both a modifier or lock and a character among its cells. The contract of
 //! [`check`] says what that gives, for every list of events, delivered to a console of `console_core`, that leaves the
-//! keymap in force. For an accepted keymap it is one record, `KeepsPromise` (`promise`). By what the report tells:
+//! keymap in force:
 //!
-//! - In an accepted keymap a modifier is on only while a key that bears it is pressed (`only_while`).
+//! - In an accepted keymap all of the promise, as one record, `KeepsPromise` (`promise`): a modifier is on only while a
+//!   key that bears it is pressed; once no key is pressed, no modifier is on, and with no accent pending the console
+//!   goes on as after a reset; and what holds in every keymap.
 //! - In every keymap a modifier that one key alone bears throughout is on exactly while that key is pressed
 //!   (`exactly_while`). While no other keymap is loaded, such a lock is on exactly after an odd number of fresh
 //!   presses of its key (`fresh_presses`), and without loads, where all that picks a cell is borne so or by nobody,
 //!   what a key looks up follows from the pressed keys and those presses (`looks_plainly`).
 //! - In every keymap no repeat turns a steady lock (`repeats`).
-//! - In an accepted keymap, once no key is pressed, no modifier is on (`off_once_quiet`), and with no accent pending
-//!   the console goes on as after a reset (`as_after_reset`).
 //!
 //! [`demonstrate`] tries a fixed list of scripts. That it gives none for a refused keymap does not mean that the
 //! keymap cannot stick: only for some keymaps does it say so (`without_traps`), and only some traps are sure to be

@@ -5,9 +5,8 @@ ghost use Rattle.keymap_core.specs.declared.action.Lock.{Lock as LockValue};
 ghost use Rattle.keymap_core.specs.declared.action.Holding.{Holding as HoldingValue};
 ghost use Rattle.console_core.specs.Headline.{IsSafe, IsSteady};
 ghost use Rattle.keymap_check.specs.Findings.{AreFindings};
-ghost use Rattle.keymap_check.specs.Promises.{ModifiersAreOnOnlyWhilePressed, ModifierFollowsKey, NoRepeatTurns};
-ghost use Rattle.keymap_check.specs.Promises.{ModifiersAreOffOnceQuiet, GoesOnAsAfterResetOnceQuiet};
-ghost use Rattle.keymap_check.specs.Promises.{IsOnAfterOddFreshPresses, LooksPlainlyIn, KeepsPromise};
+ghost use Rattle.keymap_check.specs.Promises.{KeepsPromise, ModifierFollowsKey, NoRepeatTurns};
+ghost use Rattle.keymap_check.specs.Promises.{IsOnAfterOddFreshPresses, LooksPlainlyIn};
 ghost use Rattle.keymap_check.specs.Report.{IsAccepted, IsBearer, HasPlainBearers, bearer_in, is_steady_in, report_of};
 
 use crate::bearer::{Bearer, bearer_of, is_steady};
@@ -132,14 +131,11 @@ pub fn check(map: &KeyMap) -> Report
     ensures findings { AreFindings map.now result.findings }
     ensures bearers { (a : HoldingValue) → IsBearer map.now a (bearer_in result a) }
     ensures steady { (l : LockValue) → (is_steady_in result l ≡ true) ↔ IsSteady map.now l }
-    // the whole promise of an accepted keymap; the clauses after it say its parts by what the report tells
     ensures promise { IsAccepted result → KeepsPromise map.now }
-    ensures only_while { IsAccepted result → ModifiersAreOnOnlyWhilePressed map.now }
+    // what of it holds for every keymap, by what the report tells
     ensures exactly_while { (i : ModifierValue) (k : ℕ) → bearer_in result (Holding.Mod i) ≡ Bearer.Throughout k
         → ModifierFollowsKey map.now i k }
     ensures repeats { (l : LockValue) → is_steady_in result l ≡ true → NoRepeatTurns map.now l }
-    ensures off_once_quiet { IsAccepted result → ModifiersAreOffOnceQuiet map.now }
-    ensures as_after_reset { IsAccepted result → GoesOnAsAfterResetOnceQuiet map.now }
     ensures looks_plainly { HasPlainBearers result → LooksPlainlyIn map.now }
     ensures fresh_presses { (l : LockValue) (k : ℕ) → bearer_in result (Holding.Lock l) ≡ Bearer.Throughout k
         → IsOnAfterOddFreshPresses map.now l k }

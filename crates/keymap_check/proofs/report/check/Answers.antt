@@ -40,11 +40,6 @@ returns-clause-promise c e =
     c.args.map.now
     ((c.reports_are_computed.ensures.safe c.args.map.now).0 (ap (λ r. r.findings) (sym c.make_report.ensures) ∙ e))
 
-pub returns-clause-only_while : goal.returns-clause-only_while
-returns-clause-only_while c e =
-    promise.only_while c.modifiers_follow_keys.ensures.only_while c.args.map.now
-    ((c.reports_are_computed.ensures.safe c.args.map.now).0 (ap (λ r. r.findings) (sym c.make_report.ensures) ∙ e))
-
 pub returns-clause-exactly_while : goal.returns-clause-exactly_while
 returns-clause-exactly_while c i k e =
     promise.exactly_while c.modifiers_follow_keys.ensures.exactly_while c.args.map.now i k
@@ -57,16 +52,6 @@ returns-clause-repeats c l e =
     ((c.reports_are_computed.ensures.steady c.args.map.now l).0 (sym (reported-steady c.args.map.now
     c.make_report.result l c.make_report.ensures)
     ∙ e))
-
-pub returns-clause-off_once_quiet : goal.returns-clause-off_once_quiet
-returns-clause-off_once_quiet c e =
-    promise.off_once_quiet c.quiet_is_a_reset.ensures.off c.args.map.now
-    ((c.reports_are_computed.ensures.safe c.args.map.now).0 (ap (λ r. r.findings) (sym c.make_report.ensures) ∙ e))
-
-pub returns-clause-as_after_reset : goal.returns-clause-as_after_reset
-returns-clause-as_after_reset c e =
-    promise.as_after_reset c.quiet_is_a_reset.ensures.goes_on c.args.map.now
-    ((c.reports_are_computed.ensures.safe c.args.map.now).0 (ap (λ r. r.findings) (sym c.make_report.ensures) ∙ e))
 
 pub returns-clause-fresh_presses : goal.returns-clause-fresh_presses
 returns-clause-fresh_presses c l k e =

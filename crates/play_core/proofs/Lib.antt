@@ -12,6 +12,7 @@ pub mod ScriptLines
 pub mod Sending
 pub mod Sentences
 pub mod SmallNumbers
+pub mod Spelling
 pub mod Tables
 pub mod Tails
 pub mod Texts

@@ -19,7 +19,7 @@ byte_at text n b h e = drop-cons text n 0 h ∙ ap (λ x. x ∷ drop (suc n) tex
 -- ---- the digits of a line
 
 -- a digit is none of the bytes below the digits
-not_at : (b c : ℕ) → digit_value b < 10 → (c < 48) → eqb b c ≡ false
+pub not_at : (b c : ℕ) → digit_value b < 10 → (c < 48) → eqb b c ≡ false
 not_at b c d low = let range = digit_from_value b d in ne_eqb b c (λ e. omega arith)
 
 -- a number and a line feed are the first line
@@ -29,24 +29,24 @@ digits_part [] rest d = refl
 digits_part (b ∷ bs) rest d = rw (not_at b 10 d.0 (omega arith)) (ap (onto_first b) (digits_part bs rest d.1))
 
 -- a number is one word
-digits_word : (number : List ℕ) → AllDigits 10 number → slice_split separates_words number ≡ number ∷ []
+pub digits_word : (number : List ℕ) → AllDigits 10 number → slice_split separates_words number ≡ number ∷ []
 digits_word [] d = refl
 digits_word (b ∷ bs) d =
     rw (not_at b 32 d.0 (omega arith), not_at b 9 d.0 (omega arith), not_at b 13 d.0 (omega arith))
     (ap (onto_first b) (digits_word bs d.1))
 
 -- no byte begins a comment
-abbrev IsPlain : List ℕ → Type 0
+abbrev pub IsPlain : List ℕ → Type 0
 IsPlain [] = ⊤
 IsPlain (b ∷ bs) = (eqb b 35 ≡ false) × IsPlain bs
 
 -- digits are plain
-plain_digits : (number : List ℕ) → AllDigits 10 number → IsPlain number
+pub plain_digits : (number : List ℕ) → AllDigits 10 number → IsPlain number
 plain_digits [] d = tt
 plain_digits (b ∷ bs) d = (not_at b 35 d.0 (omega arith), plain_digits bs d.1)
 
 -- plain bytes behind plain bytes are plain
-plain_more : (xs ys : List ℕ) → IsPlain xs → IsPlain ys → IsPlain (xs ++ ys)
+pub plain_more : (xs ys : List ℕ) → IsPlain xs → IsPlain ys → IsPlain (xs ++ ys)
 plain_more [] ys p q = q
 plain_more (x ∷ xs) ys p q = (p.0, plain_more xs ys p.1 q)
 
@@ -54,7 +54,7 @@ one_more : (n : ℕ) → 1 + n ≡ suc n
 one_more n = omega arith
 
 -- plain bytes have no comment
-no_comment : (line : List ℕ) → IsPlain line → without_comment line ≡ line
+pub no_comment : (line : List ℕ) → IsPlain line → without_comment line ≡ line
 no_comment [] p = refl
 no_comment (b ∷ bs) p = rw (p.0, one_more) (ap (λ l. b ∷ l) (no_comment bs p.1))
 
@@ -116,7 +116,7 @@ key_of_three text x y key long feed one value small value-2 small-2 same low = (
 -- ---- the line
 
 -- a word of a command and a number, with a blank between
-line_words : (number : List ℕ) → AllDigits 10 number → is_there number ≡ true
+pub line_words : (number : List ℕ) → AllDigits 10 number → is_there number ≡ true
     → filter is_there (slice_split separates_words number) ≡ number ∷ []
 line_words number d there = rw (digits_word number d, there) refl
 

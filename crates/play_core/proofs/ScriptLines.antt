@@ -79,7 +79,7 @@ marked_there s true command h = refl
 marked_there s false command h = h
 
 -- the words of an event have a word
-event_there : (words : List (List ℕ)) (s : Sent) → Sends words s → is_there words ≡ true
+pub event_there : (words : List (List ℕ)) (s : Sent) → Sends words s → is_there words ≡ true
 event_there words s h = ap is_there h.1 ∙ marked_there s s.lost h.0 (command_there h.0 s.what h.2)
 
 -- a line without a word

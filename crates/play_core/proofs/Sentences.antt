@@ -103,7 +103,7 @@ all-of-keys m =
 -- ---- what a way does
 
 -- what holds for a list holds for it reversed
-All-reversed : {X : Type 0} (P : X → Type 0) (xs : List X) → All P xs → All P (reverse xs)
+pub All-reversed : {X : Type 0} (P : X → Type 0) (xs : List X) → All P xs → All P (reverse xs)
 All-reversed P [] all = All-nil P
 All-reversed P (x ∷ xs) all =
     subst (All P) (sym (reverse-append (x ∷ []) xs))

@@ -3,5 +3,6 @@ pub mod HeldKeys
 pub mod Inner
 pub mod Playing
 pub mod Scripts
+pub mod Spelling
 pub mod Typing
 pub mod Written

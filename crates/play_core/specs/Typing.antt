@@ -2,7 +2,7 @@
 use Rattle.std.specs.Prelude.{◌≡◌, ℕ, ◌==◌, Bool, true, false, ◌&&◌, not, List, [], ◌∷◌, ◌++◌, map, length, All, Option}
 use Rattle.std.specs.Prelude.{None, Some, if◌then◌else◌, find, filter, reverse, IsSome, ⊤}
 use Rattle.std.specs.List.{flat_map, list_any}
-use Rattle.std.specs.Str.{IsUtf8, IsValidUpTo, encode_utf8_all}
+use Rattle.std.specs.Str.{IsUtf8, IsValidUpTo, all_scalars, encode_utf8_all}
 use Rattle.keymap_core.specs.Actions.{modifiers, locks}
 use Rattle.keymap_core.specs.Accents.{AccentValue}
 use Rattle.keymap_core.specs.Maps.{MapValue, accent_at}
@@ -144,9 +144,10 @@ pub record LacksWay (m : MapValue) (cs : List ℕ) (offset c : ℕ) : Type 0 whe
   pub ways : HaveWays m before
   pub none : way_for m c ≡ None
 
--- The bytes are a text, and its character at the offset is the first that has no way.
+-- The bytes are the text of these scalars, and the one at the offset is the first that has no way.
 abbrev pub IsUntyped : MapValue → List ℕ → ℕ → ℕ → Type 0
-IsUntyped m bytes offset c = (cs : List ℕ) × (encode_utf8_all cs ≡ bytes) × LacksWay m cs offset c
+IsUntyped m bytes offset c =
+    (cs : List ℕ) × (all_scalars cs ≡ true) × (encode_utf8_all cs ≡ bytes) × LacksWay m cs offset c
 
 -- why a sentence isn't typed: the offset is that of the first byte that isn't text, or of the character
 abbrev pub IsTypeError : MapValue → List ℕ → TypeError → Type 0

@@ -1,6 +1,11 @@
 //! Laws of the definitions. No function here does anything.
-ghost use Rattle.std.specs.Prelude.{◌≡◌, ℕ, List, ◌⊎◌};
+ghost use Rattle.std.specs.Prelude.{◌≡◌, ℕ, List, ◌∷◌, ◌++◌, ◌⊎◌, map};
+ghost use Rattle.std.specs.List.{flat_map};
+ghost use Rattle.console_core.specs.declared.event.Event.{Event as EventValue};
+ghost use Rattle.console_core.specs.History.{HasKeys};
+ghost use Rattle.play_core.specs.Delivery.{delivered};
 ghost use Rattle.play_core.specs.Scripts.{IsScript, IsScriptFault};
+ghost use Rattle.play_core.specs.Spelling.{Line, AreWritable, text_of, sent_in, sent_of, event_line};
 ghost use Rattle.play_core.specs.declared.script.ScriptFault.{ScriptFault as Fault};
 ghost use Rattle.play_core.specs.declared.sent.Sent.{Sent as SentValue};
 
@@ -12,4 +17,29 @@ pub fn one_reading()
         → IsScriptFault script f → ⊥ }
     ensures one_of_them { (script : List ℕ)
         → ((sent : List SentValue) × IsScript script sent) ⊎ ((f : Fault) × IsScriptFault script f) }
+{}
+
+/// Two scripts with a line feed between them are a script of what the first sends and then of what the second sends.
+pub fn scripts_are_joined_by_a_line_feed()
+    ensures { (a b : List ℕ) (xs ys : List SentValue) → IsScript a xs → IsScript b ys
+        → IsScript (a ++ 10 ∷ b) (xs ++ ys) }
+{}
+
+/// Written lines, of what is sent and comments between, are a script of exactly what they send.
+pub fn written_lines_are_a_script()
+    ensures script { (lines : List Line) → AreWritable lines → IsScript (text_of lines) (sent_in lines) }
+    ensures nothing_else { (lines : List Line) (sent : List SentValue) → AreWritable lines
+        → IsScript (text_of lines) sent → sent ≡ sent_in lines }
+    ensures no_fault { (lines : List Line) (f : Fault) → AreWritable lines → IsScriptFault (text_of lines) f → ⊥ }
+{}
+
+/// The lines of events on keys are a script of what is sent of them, and so of nothing else.
+pub fn events_are_written_as_a_script()
+    ensures { (events : List EventValue) → HasKeys events
+        → IsScript (flat_map event_line events) (map sent_of events) }
+{}
+
+/// What is sent of events, a press by `down`, delivers them.
+pub fn events_are_delivered()
+    ensures { (events : List EventValue) → delivered (map sent_of events) ≡ events }
 {}

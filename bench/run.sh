@@ -1,13 +1,14 @@
 #!/bin/sh
 # Measures the program on large inputs: what a byte of text and an event of a script cost, how these costs grow from a
-# tenth of the largest size to the whole, how many system calls a run makes, what the longest search for a
+# tenth of the largest size to the whole, how many reads and writes a run makes, what the longest search for a
 # demonstration costs, what the script of a sentence costs, and what an event costs over a keymap in memory and over its
 # tables.
 #
 # usage: run.sh PROGRAM STEPS
 # STEPS is the program of crates/step_costs.
 # Costs are instructions, counted by perf(1) or else by callgrind of valgrind(1), or else microseconds of processor
-# time. System calls are counted by strace(1), or else by `valgrind --trace-syscalls=yes`.
+# time. Reads and writes are the system calls of these names, among them a few of the loader, counted by strace(1), or
+# else by `valgrind --trace-syscalls=yes`.
 
 program=${1:-crates/kmap/out/kmap}
 steps=${2:-crates/step_costs/out/step_costs}
@@ -108,20 +109,35 @@ else
     }
 fi
 
+# names ARGS..: the names of the system calls of a run, one a line
 if command -v strace > /dev/null; then
-    calls() {
-        strace -f -o calls.out "$program" "$@" > /dev/null
-        grep -c '(' calls.out
+    names() {
+        strace -f -o names.out "$program" "$@" > /dev/null
+        sed -n 's/^[0-9]* *\([a-z0-9_]*\)(.*/\1/p' names.out
     }
 elif command -v valgrind > /dev/null; then
-    calls() {
-        valgrind --trace-syscalls=yes "$program" "$@" 2>&1 > /dev/null | grep -c 'SYSCALL\['
+    names() {
+        valgrind --trace-syscalls=yes "$program" "$@" 2>&1 > /dev/null |
+            sed -n 's/.*SYSCALL\[[^ ]* *[^ ]* *sys_\([a-z0-9_]*\) .*/\1/p'
     }
 else
-    calls() {
-        echo unknown
+    echo "reads and writes are not counted: there is neither strace nor valgrind"
+    names() {
+        :
     }
 fi
+
+# transfers ARGS..: how often a run reads and writes
+transfers() {
+    names "$@" | awk '
+        { count[$1]++ }
+        END {
+            if (NR)
+                printf "reads %d, writes %d", count["read"], count["write"]
+            else
+                printf "reads and writes unknown"
+        }'
+}
 
 # per TOTAL FIXED COUNT: the cost of one
 per() {
@@ -152,7 +168,8 @@ for text in wide tight; do
     echo "$text text of $bytes_tenth and of $bytes_whole bytes, checked:"
     echo "  $(per "$tenth" "$fixed" "$bytes_tenth") and $(per "$whole" "$fixed" "$bytes_whole") $unit a byte;" \
         "$(growth "$tenth" "$whole" "$fixed" "$bytes_tenth" "$bytes_whole")"
-    echo "  $(calls check text.tenth) and $(calls check text.whole) system calls ($(calls check empty) on an empty text)"
+    echo "  $(transfers check text.tenth), and $(transfers check text.whole);" \
+        "$(transfers check empty) on an empty text"
 done
 
 for show in '' --typed; do
@@ -163,18 +180,20 @@ for show in '' --typed; do
     echo "script of $events_tenth and of $events_whole events, played${show:+ with $show}:"
     echo "  $(per "$tenth" "$fixed" "$events_tenth") and $(per "$whole" "$fixed" "$events_whole") $unit an event;" \
         "$(growth "$tenth" "$whole" "$fixed" "$events_tenth" "$events_whole")"
-    echo "  $(calls play $show "$keymap" script.tenth) and $(calls play $show "$keymap" script.whole) system calls" \
-        "($(calls play $show "$keymap" empty) on an empty script)"
+    echo "  $(transfers play $show "$keymap" script.tenth), and $(transfers play $show "$keymap" script.whole);" \
+        "$(transfers play $show "$keymap" empty) on an empty script"
 done
 
 "$program" compile "$keymap" tables || exit 1
-echo "dump of the tables of us.kbd: $(cost dump tables) $unit, $(calls dump tables) system calls"
+echo "dump of the tables of us.kbd: $(cost dump tables) $unit"
+echo "  $(transfers dump tables)"
 
 make_refused > refused
 plain=$(cost check refused)
 shown=$(cost check --show refused)
 echo "map of $("$program" check refused | grep -c '^key ') findings, checked: $plain $unit; with --show: $shown $unit," \
     "times $(per "$shown" 0 "$plain"); $("$program" check --show refused | tail -n 1)"
+echo "  $(transfers check refused); with --show: $(transfers check --show refused)"
 
 tr -dc '\012a-zA-Z0-9 ,.;:!?' < text.whole | tr '\012' ' ' | head -c 32768 > sentence
 "$program" type "$keymap" sentence > typing.script || exit 1
@@ -183,6 +202,7 @@ playing=$(cost play "$keymap" typing.script)
 typed=$(cost play --typed "$keymap" typing.script)
 echo "sentence of $(wc -c < sentence) bytes: $typing $unit for its script of $(wc -c < typing.script) bytes, which is" \
     "$(per "$typing" 0 "$playing") times what playing that costs, and $(per "$typing" 0 "$typed") times with --typed"
+echo "  $(transfers type "$keymap" sentence)"
 
 # Ten thousand rounds of eight events, without one round.
 program=$steps

@@ -176,6 +176,15 @@ ran 'a directory as next text' 1 '' "kmap: next: read fault at offset 0$line" pl
 ran 'a directory as script' 1 '' "kmap: script: read fault at offset 0$line" play letter folder
 ran 'a directory as tables' 1 '' "kmap: tables: read fault at offset 0$line" dump folder
 
+# What comes by a pipe is answered once its fault has come: the pipe stays open, so there is no end to wait for.
+mkfifo pipe
+exec 3<> pipe
+printf "030 'a' zz " >&3
+timeout 10 "$program" check pipe > stdout 2> stderr
+holds 'a fault in an open pipe: status' [ $? -eq 1 ]
+holds 'a fault in an open pipe: line' same_bytes stderr "kmap: text line 1 offset 8: BadWord$line"
+exec 3>&-
+
 # All files are opened before the first is read: TEXT, then TEXT2, then SCRIPT.
 ran 'no text' 1 '' "kmap: cannot open none1$line" play none1 none3 --next none2
 ran 'no next text' 1 '' "kmap: cannot open none2$line" play letter none3 --next none2

@@ -126,7 +126,7 @@ allocations() {
     ALLOCATIONS=count LD_PRELOAD=./refuse.so "$program" "$@" > /dev/null && cat count
 }
 
-# A text takes no memory but that of its map, which is the same for all.
+# A text takes no memory but that of its map and of the file's buffer, which are the same for all.
 few=$(allocations check empty)
 many=$(allocations check large)
 if [ -n "$few" ] && [ "$few" = "$many" ]; then

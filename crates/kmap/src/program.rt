@@ -10,6 +10,7 @@ use kmap_runs::{
 };
 use play_core::{PlayError, Show, play, play_next};
 use std::alloc::AllocError;
+use std::io::BufReader;
 use std::process::ExitCode;
 use std::rt::{Env, Files};
 use std::{env, fs, io};
@@ -24,6 +25,13 @@ enum Failure<'a> {
 
 /// The status where the words are wrong.
 const WRONG_WORDS: u8 = 2;
+
+/// How many bytes of a file are asked for at once.
+const READ_AHEAD: usize = 65_536;
+
+/// A file that is read. The libraries ask for few bytes at a time, and the buffer asks the file for many. It hands on
+/// what one read of the file gave before it reads again, so what comes by a pipe or a terminal isn't waited for.
+type Source<F> = FromStd<BufReader<F>>;
 
 /// Does what the words of the command line ask for. A fault is one line to `faults`.
 pub(crate) fn run<R, W>(rt: &R, faults: &mut W) -> ExitCode
@@ -275,9 +283,15 @@ where
     run_outcome(type_run(rt.alloc(), &mut text, &mut sentence, &mut out))
 }
 
-fn opened<'a, R: Files>(rt: &R, name: &'a str) -> Result<FromStd<R::File>, Failure<'a>> {
-    match fs::open(rt, name) {
-        Ok(file) => Ok(FromStd::new(file)),
-        Err(_) => Err(Failure::CannotOpen(name)),
+fn opened<'a, R: AllocGlobal + Files>(
+    rt: &R,
+    name: &'a str,
+) -> Result<Source<R::File>, Failure<'a>> {
+    let Ok(file) = fs::open(rt, name) else {
+        return Err(Failure::CannotOpen(name));
+    };
+    match BufReader::with_capacity(rt.alloc(), READ_AHEAD, file) {
+        Ok(buffered) => Ok(FromStd::new(buffered)),
+        Err(_) => Err(Failure::Run(RunError::Memory)),
     }
 }

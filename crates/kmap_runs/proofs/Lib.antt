@@ -1,3 +1,4 @@
 mod Pieces
+mod Replayed
 mod Scripts
 mod TypeRuns

@@ -1,5 +1,6 @@
 pub mod CodePoints
 pub mod FaultLine
+pub mod Replayed
 pub mod Report
 pub mod Runs
 pub mod Search

@@ -6,13 +6,13 @@ use Rattle.keymap_core.specs.declared.action.Holding.TheVariants as holding
 use Rattle.keymap_core.specs.Actions.{holding_action, holdings, name_of}
 use Rattle.keymap_core.specs.Maps.{MapValue}
 use Rattle.console_core.specs.declared.event.Event.{Event}
-use Rattle.console_core.specs.declared.event.Event.TheVariants.{Press, Release, Reset, Load}
 use Rattle.keymap_check.specs.declared.bearer.Bearer.{Bearer}
 use Rattle.keymap_check.specs.declared.bearer.Bearer.TheVariants.{Nobody, Throughout, Sole, Several}
 use Rattle.keymap_check.specs.declared.finding.Finding.{Finding}
 use Rattle.keymap_check.specs.declared.finding.Place.{Place}
 use Rattle.keymap_check.specs.Report.{ReportValue, report_of, bearer_in, is_steady_in}
 use Rattle.keymap_check.specs.Scripts.{demonstration_of}
+use Rattle.play_core.specs.Spelling.{event_line}
 
 abbrev pub holding_name : Holding → List ℕ
 holding_name a = name_of (holding_action a)
@@ -51,13 +51,6 @@ holding_line r a = holding_name a ++ bearer_text (bearer_in r a) ++ steady_text 
 
 abbrev pub check_text : ReportValue → List ℕ
 check_text r = verdict_line r.findings ++ flat_map finding_line r.findings ++ flat_map (holding_line r) holdings
-
--- the line of a script that delivers the event
-abbrev pub event_line : Event → List ℕ
-event_line (Press k) = codes "down " ++ decimal k ++ codes "\n"
-event_line (Release k) = codes "up " ++ decimal k ++ codes "\n"
-event_line Reset = codes "reset\n"
-event_line Load = codes "load\n"
 
 abbrev pub demonstration_text : Option (List Event) → List ℕ
 demonstration_text None = codes "demonstration: none\n"

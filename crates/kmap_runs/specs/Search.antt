@@ -9,7 +9,8 @@ use Rattle.console_core.specs.declared.event.Event.{Event}
 use Rattle.console_core.specs.declared.outcome.Sticking.{Sticking}
 use Rattle.console_core.specs.declared.outcome.Sticking.TheVariants.{Sticks, Never, Undecided}
 use Rattle.console_core.specs.History.{is_on_after, between}
-use Rattle.kmap_runs.specs.Report.{holding_name, event_line}
+use Rattle.play_core.specs.Spelling.{event_line}
+use Rattle.kmap_runs.specs.Report.{holding_name}
 
 -- the name of a modifier that is on, after a blank
 abbrev pub name_if_on : (Modifier → Bool) → Modifier → List ℕ

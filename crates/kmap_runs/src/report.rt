@@ -4,6 +4,7 @@ ghost use Rattle.std.specs.List.{flat_map};
 ghost use Rattle.arrayvec.specs.ArrayVec.{array_vec_len};
 ghost use Rattle.keymap_check.specs.Report.{report_of};
 ghost use Rattle.keymap_check.specs.Scripts.{demonstration_of};
+ghost use Rattle.play_core.specs.Spelling.{event_line};
 ghost use Rattle.kmap_runs.specs.Report as spec;
 
 use crate::text::{append, append_byte};
@@ -122,9 +123,9 @@ fn append_holdings(text: &mut Text, report: &Report, holdings: &[Holding])
     }
 }
 
-pub(crate) fn append_event<const N: usize>(text: &mut ArrayVec<u8, N>, event: Event)
-    requires { array_vec_len text.old + 9 ≤ N }
-    ensures text { text.new.items ≡ text.old.items ++ spec.event_line event }
+fn append_event(text: &mut Text, event: Event)
+    requires { array_vec_len text.old + 9 ≤ REPORT }
+    ensures text { text.new.items ≡ text.old.items ++ event_line event }
     ensures bound { array_vec_len text.new ≤ array_vec_len text.old + 9 }
 {
     match &event {
@@ -145,7 +146,7 @@ pub(crate) fn append_event<const N: usize>(text: &mut ArrayVec<u8, N>, event: Ev
 
 fn append_events(text: &mut Text, events: &[Event])
     requires { array_vec_len text.old + 9 * length events.now ≤ REPORT }
-    ensures text { text.new.items ≡ text.old.items ++ flat_map spec.event_line events.now }
+    ensures text { text.new.items ≡ text.old.items ++ flat_map event_line events.now }
     ensures bound { array_vec_len text.new ≤ array_vec_len text.old + 9 * length events.now }
 {
     for event in events {

@@ -1,6 +1,6 @@
 use Rattle.std.proofs.Common.{◌≡◌, ◌++◌, take}
 use Rattle.std.specs.List.{flat_map}
-use Rattle.kmap_runs.specs.Report.{event_line}
+use Rattle.play_core.specs.Spelling.{event_line}
 use Rattle.kmap_runs.proofs.search.push_events.Given as goal
 
 abbrev pub invariant-loop-event : goal.invariant-loop-event

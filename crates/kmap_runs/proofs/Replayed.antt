@@ -1,0 +1,291 @@
+-- The printed scripts are scripts, and what they do when they are played.
+use Prim.Native.Nat.{suc}
+use Rattle.std.proofs.Common.{◌≡◌, ℕ, ◌+◌, ◌<◌, Bool, true, false, cond, eqb, List, [], ◌∷◌, ◌++◌, length, map, get_or}
+use Rattle.std.proofs.Common.{Option, Some, None, refl, sym, ap, subst, ◌∙◌, arith, append_assoc, append-nil, lit<}
+use Rattle.std.proofs.Common.{if◌then◌else◌, ne_eqb, Ok, inl, inr}
+use Rattle.std.specs.Prelude.{codes, reverse, encode_utf8, ◌≢◌}
+use Rattle.std.specs.List.{flat_map, before_first}
+use Rattle.std.proofs.lemmas.Bool.{or_from, true≢false}
+use Rattle.std.proofs.lemmas.List.{map-append, reverse-reverse}
+use Rattle.std.proofs.lemmas.List.Elements.{All-nil, All-head, All-tail}
+use Rattle.std.proofs.lemmas.List.Folds.{list_any-append}
+use Rattle.std.proofs.lemmas.Str.{inside_one}
+use Rattle.keymap_core.specs.declared.action.Modifier.{Modifier}
+use Rattle.keymap_core.specs.declared.action.Modifier.TheVariants.{LeftShift, RightShift, LeftControl, RightControl}
+use Rattle.keymap_core.specs.declared.action.Modifier.TheVariants.{LeftAlt, RightAlt, AltShift, Meta}
+use Rattle.keymap_core.specs.declared.action.Holding.TheVariants as holding
+use Rattle.keymap_core.specs.Actions.{modifiers}
+use Rattle.keymap_core.specs.Maps.{MapValue}
+use Rattle.keymap_text.specs.Meaning.{Spells}
+use Rattle.keymap_text.specs.Sources.{TakesWhole, ReadsMap}
+use Rattle.keymap_text.proofs.Verdicts.{one_map}
+use Rattle.console_core.specs.declared.event.Event.{Event}
+use Rattle.console_core.specs.declared.event.Event.TheVariants as event
+use Rattle.console_core.specs.History.{HasKey, HasKeys, is_on_after, between, answers_to}
+use Rattle.console_core.specs.declared.outcome.Sticking.{Sticking}
+use Rattle.console_core.specs.declared.outcome.Sticking.TheVariants.{Sticks, Never, Undecided}
+use Rattle.console_core.specs.Sticking.{LeavesOn, IsAnswer}
+use Rattle.play_core.specs.declared.sent.Sent.{Sent}
+use Rattle.play_core.specs.declared.show.Show.TheVariants as show
+use Rattle.play_core.specs.Playing.{moves, ReadsScript, Plays}
+use Rattle.play_core.specs.Scripts.{IsScript}
+use Rattle.play_core.specs.Spelling.{sends, says, has_line_feed, IsWritable, sent_of, event_line}
+use Rattle.play_core.specs.Typing.{alone, way_for, events_in, events_for, IsTyped}
+use Rattle.play_core.specs.Written.{typed_text, text_after, played_text}
+use Rattle.play_core.proofs.Sentences.{All-reversed, way-types}
+use Rattle.play_core.proofs.Spelling.{script-nil, line-script, events-script, delivers}
+use Rattle.play_core.proofs.Verdicts.{one_list}
+use Rattle.kmap_runs.specs.CodePoints.{digit_at, upper_digits, code_text}
+use Rattle.kmap_runs.specs.Report.{holding_name}
+use Rattle.kmap_runs.specs.Search.{name_if_on, script_text}
+use Rattle.kmap_runs.specs.TypeRuns.{TypesSentence}
+use Rattle.kmap_runs.specs.Typing.{is_hidden, shown, is_line_feed, comment_if, event_lines, lines_from, typing_script}
+use Rattle.kmap_runs.specs.Replayed.{ScriptTypes, ScriptSticks, AnswerReplays}
+
+-- ---- comments stand in one line
+
+-- texts without a line feed, one behind the other
+feed-append : (xs ys : List ℕ) → has_line_feed xs ≡ false → has_line_feed ys ≡ false → has_line_feed (xs ++ ys) ≡ false
+feed-append xs ys e f =
+    list_any-append (λ b. eqb b 10) xs ys ∙ or_from (has_line_feed xs) (has_line_feed ys) e f
+
+-- texts without a line feed, one of each element
+feed-flat : {X : Type 0} (f : X → List ℕ) → ((x : X) → has_line_feed (f x) ≡ false) → (xs : List X)
+    → has_line_feed (flat_map f xs) ≡ false
+feed-flat f each [] = refl
+feed-flat f each (x ∷ xs) = feed-append (f x) (flat_map f xs) (each x) (feed-flat f each xs)
+
+-- a text of which no byte is a line feed
+feed-each : (xs : List ℕ) → ((k : ℕ) → k < length xs → get_or xs k 0 ≢ 10) → has_line_feed xs ≡ false
+feed-each [] each = refl
+feed-each (x ∷ xs) each =
+    or_from (eqb x 10) (has_line_feed xs) (ne_eqb x 10 (each 0 (omega arith)))
+    (feed-each xs (λ k lt. each (suc k) (omega arith)))
+
+-- the digit of a number, whether it is below ten
+feed-digit_by : (t : Bool) (d : ℕ) → has_line_feed (cond t (48 + d) (87 + d) ∷ []) ≡ false
+feed-digit_by true d = or_from (eqb (48 + d) 10) false (ne_eqb (48 + d) 10 (λ e. omega arith)) refl
+feed-digit_by false d = or_from (eqb (87 + d) 10) false (ne_eqb (87 + d) 10 (λ e. omega arith)) refl
+
+-- a digit of a character's number
+feed-digit : (c unit : ℕ) → has_line_feed (digit_at c unit ∷ []) ≡ false
+feed-digit c unit = feed-digit_by _ _
+
+-- the digits of a large number before the last four
+feed-upper : (s t : Bool) (c : ℕ)
+    → has_line_feed (if s then [] else if t then digit_at c 0x10000 ∷ []
+    else digit_at c 0x100000 ∷ digit_at c 0x10000 ∷ [])
+    ≡ false
+feed-upper true t c = refl
+feed-upper false true c = feed-digit c 0x10000
+feed-upper false false c =
+    feed-append (digit_at c 0x100000 ∷ []) (digit_at c 0x10000 ∷ []) (feed-digit c 0x100000) (feed-digit c 0x10000)
+
+-- the last four digits of a number
+feed-lower : (c : ℕ)
+    → has_line_feed (digit_at c 0x1000 ∷ digit_at c 0x100 ∷ digit_at c 0x10 ∷ digit_at c 1 ∷ []) ≡ false
+feed-lower c =
+    let units : has_line_feed (digit_at c 0x10 ∷ digit_at c 1 ∷ []) ≡ false =
+    feed-append (digit_at c 0x10 ∷ []) (digit_at c 1 ∷ []) (feed-digit c 0x10) (feed-digit c 1) in
+    feed-append (digit_at c 0x1000 ∷ []) (digit_at c 0x100 ∷ digit_at c 0x10 ∷ digit_at c 1 ∷ []) (feed-digit c 0x1000)
+    (feed-append (digit_at c 0x100 ∷ []) (digit_at c 0x10 ∷ digit_at c 1 ∷ []) (feed-digit c 0x100) units)
+
+-- the number of a character
+feed-code : (c : ℕ) → has_line_feed (code_text c) ≡ false
+unfolding code_text
+feed-code c =
+    feed-append (codes "U+" ++ upper_digits c)
+    (digit_at c 0x1000 ∷ digit_at c 0x100 ∷ digit_at c 0x10 ∷ digit_at c 1 ∷ [])
+    (feed-append (codes "U+") (upper_digits c) refl (feed-upper _ _ c)) (feed-lower c)
+
+-- a line feed is hidden
+not_feed : (c : ℕ) → is_hidden c ≡ false → c ≢ 10
+not_feed c h e = true≢false (subst (λ x. is_hidden x ≡ false) e h)
+
+-- the bytes of a character that is not hidden
+feed-encoded : (c : ℕ) → is_hidden c ≡ false → has_line_feed (encode_utf8 c) ≡ false
+feed-encoded c h =
+    let bytes : encode_utf8 c ≡ encode_utf8 c ++ [] = sym (append-nil (encode_utf8 c)) in
+    feed-each (encode_utf8 c)
+    (λ k lt e. not_feed c h (inside_one c [] (encode_utf8 c) k bytes lt (omega (arith, e)) ∙ e))
+
+-- what is shown of a character, whether it is hidden
+feed-shown_by : (t : Bool) (c : ℕ) → is_hidden c ≡ t
+    → has_line_feed (if t then code_text c else encode_utf8 c) ≡ false
+feed-shown_by true c e = feed-code c
+feed-shown_by false c e = feed-encoded c e
+
+-- what is shown of a character
+feed-shown : (c : ℕ) → has_line_feed (shown c) ≡ false
+unfolding shown
+feed-shown c = feed-shown_by (is_hidden c) c refl
+
+-- the name of a modifier
+feed-name : (i : Modifier) → has_line_feed (codes " " ++ holding_name (holding.Mod i)) ≡ false
+feed-name LeftShift = refl
+feed-name RightShift = refl
+feed-name LeftControl = refl
+feed-name RightControl = refl
+feed-name LeftAlt = refl
+feed-name RightAlt = refl
+feed-name AltShift = refl
+feed-name Meta = refl
+
+feed-name_if : (t : Bool) (i : Modifier)
+    → has_line_feed (if t then codes " " ++ holding_name (holding.Mod i) else []) ≡ false
+feed-name_if true i = feed-name i
+feed-name_if false i = refl
+
+-- ---- lines before a script
+
+-- a press or a release is of a key
+writable : (e : Event) → HasKey e → IsWritable (sends (sent_of e))
+writable (event.Press k) lt = lt
+writable (event.Release k) lt = lt
+writable event.Reset _ = lit< tt
+writable event.Load _ = lit< tt
+
+-- lines of events before a script
+events-before : (events : List Event) (rest : List ℕ) (sent : List Sent) → HasKeys events → IsScript rest sent
+    → IsScript (flat_map event_line events ++ rest) (map sent_of events ++ sent)
+events-before [] rest sent keys h = h
+events-before (e ∷ events) rest sent keys h =
+    subst (λ t. IsScript t (sent_of e ∷ (map sent_of events ++ sent)))
+    (sym (append_assoc (event_line e) (flat_map event_line events) rest))
+    (line-script (sends (sent_of e)) (flat_map event_line events ++ rest) (map sent_of events ++ sent)
+    (writable e (All-head HasKey e events keys))
+    (events-before events rest sent (All-tail HasKey e events keys) h))
+
+-- a comment before a script, if there is one
+comment-before : (starts : Bool) (cs rest : List ℕ) (sent : List Sent) → IsScript rest sent
+    → IsScript (comment_if starts cs ++ rest) sent
+comment-before true cs rest sent h =
+    let first : List ℕ = before_first is_line_feed cs in
+    line-script (says (codes " " ++ flat_map shown first)) rest sent
+    (feed-append (codes " ") (flat_map shown first) refl (feed-flat shown feed-shown first)) h
+comment-before false cs rest sent h = h
+
+-- ---- the script that types a sentence
+
+-- the events of a way are of keys
+way-keys : (m : MapValue) (c : ℕ) (way : Option (List Event)) → way_for m c ≡ way → HasKeys (events_in way)
+way-keys m c None e = All-nil HasKey
+way-keys m c (Some way) e = (way-types m c way e).keys
+
+-- the lines of characters are a script of their ways
+lines-typing : (m : MapValue) (starts : Bool) (cs : List ℕ)
+    → IsScript (lines_from m starts cs) (map sent_of (events_for m cs))
+unfolding lines_from
+lines-typing m starts [] = script-nil
+lines-typing m starts (c ∷ cs) =
+    let way : List Event = events_in (way_for m c) in
+    let rest : List ℕ = lines_from m (is_line_feed c) cs in
+    let sent : List Sent = map sent_of way ++ map sent_of (events_for m cs) in
+    let text = append_assoc (comment_if starts (c ∷ cs)) (event_lines m c) rest in
+    let both = map-append sent_of way (events_for m cs) in
+    let whole : IsScript (comment_if starts (c ∷ cs) ++ (event_lines m c ++ rest)) sent =
+    comment-before starts (c ∷ cs) (event_lines m c ++ rest) sent
+    (events-before way rest (map sent_of (events_for m cs)) (way-keys m c (way_for m c) refl)
+    (lines-typing m (is_line_feed c) cs)) in
+    subst (λ l. IsScript ((comment_if starts (c ∷ cs) ++ event_lines m c) ++ rest) l) (sym both)
+    (subst (λ t. IsScript t sent) (sym text) whole)
+
+pub typing-sends : (m : MapValue) (cs : List ℕ) → IsScript (typing_script m cs) (map sent_of (events_for m cs))
+typing-sends m cs = lines-typing m true cs
+
+-- events that type a text do so from a script that sends them
+typed-back : (m : MapValue) (events : List Event) (bytes : List ℕ)
+    → typed_text (answers_to (alone m) [] events) ≡ bytes
+    → played_text show.Typed (alone m) (map sent_of events) ≡ bytes
+unfolding text_after
+typed-back m events bytes e = ap (λ l. typed_text (answers_to (alone m) [] l)) (delivers events) ∙ e
+
+pub typing-types : (m : MapValue) (bytes cs : List ℕ) → IsTyped m bytes cs → ScriptTypes m (typing_script m cs) bytes
+typing-types m bytes cs t = record {
+  sent = map sent_of (events_for m cs);
+  is = typing-sends m cs;
+  typed = typed-back m (events_for m cs) bytes t.typed;
+}
+
+-- ---- scripts after which a modifier is on
+
+-- events after which a modifier is on, from a script that sends them
+sticks-by : (m : MapValue) (script : List ℕ) (events : List Event) → IsScript script (map sent_of events)
+    → LeavesOn m (reverse events) → ScriptSticks m script
+sticks-by m script events is on = record {
+  sent = map sent_of events;
+  is = is;
+  leaves_on = subst (λ l. LeavesOn m (reverse l)) (sym (delivers events)) on;
+}
+
+-- events after which a modifier is on are of keys
+keys-of : (m : MapValue) (events : List Event) → LeavesOn m (reverse events) → HasKeys events
+keys-of m events on = subst HasKeys (reverse-reverse events) (All-reversed HasKey (reverse events) on.0)
+
+-- the lines of such events
+pub lines-stick : (m : MapValue) (events : List Event) → LeavesOn m (reverse events)
+    → ScriptSticks m (flat_map event_line events)
+lines-stick m events on = sticks-by m _ events (events-script events (keys-of m events on)) on
+
+-- the same behind a comment with the names of modifiers
+script-sticks : (m : MapValue) (events : List Event) → LeavesOn m (reverse events)
+    → ScriptSticks m (script_text m events)
+script-sticks m events on =
+    let is_on : Modifier → Bool = λ i. is_on_after (between m m) i (reverse events) in
+    let names : List ℕ = flat_map (name_if_on is_on) modifiers in
+    sticks-by m (script_text m events) events
+    (line-script (says (codes " sticks:" ++ names)) (flat_map event_line events) (map sent_of events)
+    (feed-append (codes " sticks:") names refl
+    (feed-flat (name_if_on is_on) (λ i. feed-name_if (is_on i) i) modifiers))
+    (events-script events (keys-of m events on)))
+    on
+
+-- a comment alone is a script of no events
+said : (text : List ℕ) → has_line_feed text ≡ false → IsScript ((35 ∷ text) ++ 10 ∷ []) []
+said text feed =
+    subst (λ t. IsScript t []) (append-nil ((35 ∷ text) ++ 10 ∷ [])) (line-script (says text) [] [] feed script-nil)
+
+pub answer-replays : (m : MapValue) (found : Sticking) → IsAnswer m found → AnswerReplays m found
+answer-replays m (Sticks events) answer = script-sticks m events.items answer.0
+answer-replays m Never answer = said (codes " never sticks") refl
+answer-replays m Undecided answer = said (codes " undecided: more than 65536 states") refl
+
+-- ---- a sentence that was typed and played
+
+-- bytes that were taken up to the end are all that there were
+taken-whole : (all text : List ℕ) (new : Option (List ℕ)) → TakesWhole (Some all) new text → all ≡ text
+taken-whole all text None h = absurd h.taken
+taken-whole all text (Some rest) h = h.taken ∙ ap (λ r. text ++ r) h.end ∙ append-nil text
+
+-- the maps of two readings of one text are the same
+same-map : (text : List ℕ) (s t : Option (List ℕ)) (m n : MapValue) → ReadsMap (Some text) s (Ok m)
+    → ReadsMap (Some text) t (Ok n) → m ≡ n
+same-map text s t m n h k =
+    one_map text m n (subst (λ x. Spells x m) (sym (taken-whole text h.0 s h.1)) h.2)
+    (subst (λ x. Spells x n) (sym (taken-whole text k.0 t k.1)) k.2)
+
+-- what is typed by a script that has one reading
+typed-once : (m : MapValue) (cs bytes : List ℕ) (sent : List Sent) → IsTyped m bytes cs
+    → IsScript (typing_script m cs) sent → played_text show.Typed (alone m) sent ≡ bytes
+typed-once m cs bytes sent t h =
+    ap (λ l. played_text show.Typed (alone m) l)
+    (one_list (typing_script m cs) sent (map sent_of (events_for m cs)) h (typing-sends m cs))
+    ∙ typed-back m (events_for m cs) bytes t.typed
+
+pub comes-back : (text sentence script typed : List ℕ) (t s u v : Option (List ℕ))
+    → TypesSentence (moves (Some text) t) (moves (Some sentence) s) (moves (Some []) (Some script)) (Ok tt)
+    → Plays show.Typed (moves (Some text) u) (moves (Some script) v) (moves (Some []) (Some typed)) (Ok tt)
+    → typed ≡ sentence
+comes-back text sentence script typed t s u v types plays = elim plays [
+  | inl refused ↦ absurd refused.0
+  | inr played ↦
+      let m : MapValue = types.0 in
+      let cs : List ℕ = types.1 in
+      let run : ReadsScript (moves (Some script) v) played.2.0 = played.2.1 in
+      let printed : run.script ≡ typing_script m cs = sym (taken-whole script run.script v run.takes) ∙ types.3 in
+      let same : m ≡ played.0 = same-map text t u m played.0 types.2.reads played.1 in
+      played.2.2 ∙ ap (λ n. played_text show.Typed (alone n) played.2.0) (sym same)
+      ∙ typed-once m cs types.2.bytes played.2.0 types.2.typed
+      (subst (λ x. IsScript x played.2.0) printed run.events)
+      ∙ sym (taken-whole sentence types.2.bytes s types.2.takes)
+]

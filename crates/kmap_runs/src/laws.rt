@@ -1,0 +1,37 @@
+//! Laws of the definitions: what is printed as a script is one. No function here does anything.
+ghost use Rattle.std.specs.Prelude.{◌≡◌, List, [], ℕ, map, Option, Some, Ok};
+ghost use Rattle.keymap_core.specs.Maps.{MapValue};
+ghost use Rattle.console_core.specs.declared.outcome.Sticking.{Sticking as StickingValue};
+ghost use Rattle.console_core.specs.Sticking.{IsAnswer};
+ghost use Rattle.play_core.specs.Playing.{Plays, moves};
+ghost use Rattle.play_core.specs.Scripts.{IsScript};
+ghost use Rattle.play_core.specs.declared.show.Show.TheVariants as show;
+ghost use Rattle.play_core.specs.Spelling.{sent_of};
+ghost use Rattle.play_core.specs.Typing.{IsTyped, events_for};
+ghost use Rattle.kmap_runs.specs.Replayed.{ScriptTypes, AnswerReplays};
+ghost use Rattle.kmap_runs.specs.TypeRuns.{TypesSentence};
+ghost use Rattle.kmap_runs.specs.Typing.{typing_script};
+
+/// What is printed to type characters is a script of exactly the events of their ways.
+pub fn typing_scripts_send_the_ways()
+    ensures { (m : MapValue) (cs : List ℕ) → IsScript (typing_script m cs) (map sent_of (events_for m cs)) }
+{}
+
+/// What is printed to type a sentence is a script that types it, played on the keymap alone.
+pub fn typing_scripts_type_the_sentence()
+    ensures { (m : MapValue) (bytes cs : List ℕ) → IsTyped m bytes cs → ScriptTypes m (typing_script m cs) bytes }
+{}
+
+/// What is printed of an answer of the search is a script: where it found a list, one that leaves a modifier on while
+/// no key is pressed, and else one of no events.
+pub fn found_scripts_leave_a_modifier_on()
+    ensures { (m : MapValue) (found : StickingValue) → IsAnswer m found → AnswerReplays m found }
+{}
+
+/// What `play` types of the script that `type_run` printed for a sentence, over the same text, is that sentence.
+pub fn typed_sentences_come_back()
+    ensures { (text sentence script typed : List ℕ) (t s u v : Option (List ℕ))
+        → TypesSentence (moves (Some text) t) (moves (Some sentence) s) (moves (Some []) (Some script)) (Ok tt)
+        → Plays show.Typed (moves (Some text) u) (moves (Some script) v) (moves (Some []) (Some typed)) (Ok tt)
+        → typed ≡ sentence }
+{}

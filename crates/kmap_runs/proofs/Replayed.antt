@@ -222,12 +222,7 @@ sticks-by m script events is on = record {
 keys-of : (m : MapValue) (events : List Event) → LeavesOn m (reverse events) → HasKeys events
 keys-of m events on = subst HasKeys (reverse-reverse events) (All-reversed HasKey (reverse events) on.0)
 
--- the lines of such events
-pub lines-stick : (m : MapValue) (events : List Event) → LeavesOn m (reverse events)
-    → ScriptSticks m (flat_map event_line events)
-lines-stick m events on = sticks-by m _ events (events-script events (keys-of m events on)) on
-
--- the same behind a comment with the names of modifiers
+-- the lines of such events, behind a comment with the names of modifiers
 script-sticks : (m : MapValue) (events : List Event) → LeavesOn m (reverse events)
     → ScriptSticks m (script_text m events)
 script-sticks m events on =

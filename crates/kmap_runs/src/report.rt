@@ -123,8 +123,8 @@ fn append_holdings(text: &mut Text, report: &Report, holdings: &[Holding])
     }
 }
 
-fn append_event(text: &mut Text, event: Event)
-    requires { array_vec_len text.old + 9 ≤ REPORT }
+pub(crate) fn append_event<const N: usize>(text: &mut ArrayVec<u8, N>, event: Event)
+    requires { array_vec_len text.old + 9 ≤ N }
     ensures text { text.new.items ≡ text.old.items ++ event_line event }
     ensures bound { array_vec_len text.new ≤ array_vec_len text.old + 9 }
 {

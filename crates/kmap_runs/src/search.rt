@@ -1,44 +1,34 @@
 //! What the search for sticking modifiers found, as a script that `kmap play` reads.
-ghost use Rattle.std.specs.Prelude.{◌≡◌, ◌++◌, [], ◌∷◌, List, reverse, IfOk, OnOk, codes, decimal};
+ghost use Rattle.std.specs.Prelude.{◌≡◌, ◌++◌, [], ◌∷◌, List, reverse, IfOk, OnOk};
 ghost use Rattle.std.specs.List.{flat_map};
 ghost use Rattle.console_core.specs.declared.event.Event.{Event as EventValue};
 ghost use Rattle.console_core.specs.History.{Maps, is_on_after, between};
 ghost use Rattle.play_core.specs.Spelling.{event_line as event_line_of};
 ghost use Rattle.kmap_runs.specs.Search as spec;
 
+use crate::report::append_event;
+use arrayvec::ArrayVec;
 use console_core::{Event, Sticking, Translator, WordConsole};
-use itoa::Buffer;
-use keymap_core::{Holding, KeyCode, KeyMap, MODIFIERS, Modifier};
+use keymap_core::{Holding, KeyMap, MODIFIERS, Modifier};
 use std::alloc::{AllocError, Global};
 
-/// Adds the line of an event of a key.
-fn push_key_line(text: &mut Vec<u8>, command: &[u8], key: KeyCode) -> Result<(), AllocError>
-    ensures { OnOk result (text.new.items ≡ text.old.items ++ (command.now ++ decimal key ++ codes "\n")) }
-{
-    let mut digits = Buffer::new();
-    text.extend_from_slice(command)?;
-    text.extend_from_slice(digits.format(key.get()).as_bytes())?;
-    text.push(b'\n')?;
-    Ok(())
-}
+/// How many bytes the line of an event has at most.
+const LINE: usize = 16;
 
-/// Adds the line of a script that delivers the event.
-fn push_event(text: &mut Vec<u8>, event: Event) -> Result<(), AllocError>
-    ensures { OnOk result (text.new.items ≡ text.old.items ++ event_line_of event) }
+/// The line of a script that delivers the event.
+fn event_line(event: Event) -> ArrayVec<u8, LINE>
+    ensures { result.items ≡ event_line_of event }
 {
-    match event {
-        Event::Press(key) => push_key_line(text, b"down ", key),
-        Event::Release(key) => push_key_line(text, b"up ", key),
-        Event::Reset => text.extend_from_slice(b"reset\n"),
-        Event::Load => text.extend_from_slice(b"load\n"),
-    }
+    let mut line = ArrayVec::new();
+    append_event(&mut line, event);
+    line
 }
 
 pub(crate) fn push_events(text: &mut Vec<u8>, events: &[Event]) -> Result<(), AllocError>
     ensures { OnOk result (text.new.items ≡ text.old.items ++ flat_map event_line_of events.now) }
 {
     for event in events {
-        push_event(text, *event)?;
+        text.extend_from_slice(event_line(*event).as_slice())?;
     }
     Ok(())
 }

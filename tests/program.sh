@@ -322,7 +322,11 @@ awk 'BEGIN {
         print key, cell, cell, cell, cell, cell, cell, cell, cell, "O"
     }
 }' > many
-ran 'too many states to decide' 1 "# undecided: more than 65536 states$line" '' search many
+"$program" search many > stdout 2> stderr
+holds 'too many states to decide: status' [ $? -eq 1 ]
+holds 'too many states to decide: line' \
+    [ "$(sed 's/ [0-9][0-9]* / P /' stdout)" = '# undecided: no list of up to P presses sticks' ]
+holds 'too many states to decide: nothing else' [ ! -s stderr ]
 ran 'a faulty text is not searched' 1 '' "kmap: text line 1 offset 3: EndInside$line" search cut
 ran 'no text to search' 1 '' "kmap: cannot open none1$line" search none1
 "$program" search half > found

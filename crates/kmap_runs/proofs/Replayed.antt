@@ -2,9 +2,11 @@
 use Prim.Native.Nat.{suc}
 use Rattle.std.proofs.Common.{◌≡◌, ℕ, ◌+◌, ◌<◌, Bool, true, false, cond, eqb, List, [], ◌∷◌, ◌++◌, length, map, get_or}
 use Rattle.std.proofs.Common.{Option, Some, None, refl, sym, ap, subst, ◌∙◌, arith, append_assoc, append-nil, lit<}
-use Rattle.std.proofs.Common.{if◌then◌else◌, ne_eqb, Ok, inl, inr}
+use Rattle.std.proofs.Common.{if◌then◌else◌, ne_eqb, decimal, ◌^◌, Ok, inl, inr}
 use Rattle.std.specs.Prelude.{codes, reverse, encode_utf8, ◌≢◌}
 use Rattle.std.specs.List.{flat_map, before_first}
+use Rattle.std.specs.Str.Parse.{AllDigits}
+use Rattle.std.proofs.lemmas.Fmt.{decimal_is_IsNumeral}
 use Rattle.std.proofs.lemmas.Bool.{or_from, true≢false}
 use Rattle.std.proofs.lemmas.List.{map-append, reverse-reverse}
 use Rattle.std.proofs.lemmas.List.Elements.{All-nil, All-head, All-tail}
@@ -25,6 +27,9 @@ use Rattle.console_core.specs.History.{HasKey, HasKeys, is_on_after, between, an
 use Rattle.console_core.specs.declared.outcome.Sticking.{Sticking}
 use Rattle.console_core.specs.declared.outcome.Sticking.TheVariants.{Sticks, Never, Undecided}
 use Rattle.console_core.specs.Sticking.{LeavesOn, IsAnswer}
+use Rattle.keymap_check.specs.Report.{report_of}
+use Rattle.keymap_check.specs.Scripts.{demonstration_of}
+use Rattle.keymap_check.proofs.Demonstrated.{demonstrations_leave_modifiers_on}
 use Rattle.play_core.specs.declared.sent.Sent.{Sent}
 use Rattle.play_core.specs.declared.show.Show.TheVariants as show
 use Rattle.play_core.specs.Playing.{moves, ReadsScript, Plays}
@@ -32,15 +37,16 @@ use Rattle.play_core.specs.Scripts.{IsScript}
 use Rattle.play_core.specs.Spelling.{sends, says, has_line_feed, IsWritable, sent_of, event_line}
 use Rattle.play_core.specs.Typing.{alone, way_for, events_in, events_for, IsTyped}
 use Rattle.play_core.specs.Written.{typed_text, text_after, played_text}
+use Rattle.play_core.proofs.PlainLines.{not_at}
 use Rattle.play_core.proofs.Sentences.{All-reversed, way-types}
 use Rattle.play_core.proofs.Spelling.{script-nil, line-script, events-script, delivers}
 use Rattle.play_core.proofs.Verdicts.{one_list}
 use Rattle.kmap_runs.specs.CodePoints.{digit_at, upper_digits, code_text}
-use Rattle.kmap_runs.specs.Report.{holding_name}
+use Rattle.kmap_runs.specs.Report.{holding_name, check_text, demonstration_text, report}
 use Rattle.kmap_runs.specs.Search.{name_if_on, script_text}
 use Rattle.kmap_runs.specs.TypeRuns.{TypesSentence}
 use Rattle.kmap_runs.specs.Typing.{is_hidden, shown, is_line_feed, comment_if, event_lines, lines_from, typing_script}
-use Rattle.kmap_runs.specs.Replayed.{ScriptTypes, ScriptSticks, AnswerReplays}
+use Rattle.kmap_runs.specs.Replayed.{ScriptTypes, ScriptSticks, AnswerReplays, ShowsScript}
 
 -- ---- comments stand in one line
 
@@ -222,7 +228,12 @@ sticks-by m script events is on = record {
 keys-of : (m : MapValue) (events : List Event) → LeavesOn m (reverse events) → HasKeys events
 keys-of m events on = subst HasKeys (reverse-reverse events) (All-reversed HasKey (reverse events) on.0)
 
--- the lines of such events, behind a comment with the names of modifiers
+-- the lines of such events
+lines-stick : (m : MapValue) (events : List Event) → LeavesOn m (reverse events)
+    → ScriptSticks m (flat_map event_line events)
+lines-stick m events on = sticks-by m _ events (events-script events (keys-of m events on)) on
+
+-- the same behind a comment with the names of modifiers
 script-sticks : (m : MapValue) (events : List Event) → LeavesOn m (reverse events)
     → ScriptSticks m (script_text m events)
 script-sticks m events on =
@@ -240,10 +251,23 @@ said : (text : List ℕ) → has_line_feed text ≡ false → IsScript ((35 ∷ 
 said text feed =
     subst (λ t. IsScript t []) (append-nil ((35 ∷ text) ++ 10 ∷ [])) (line-script (says text) [] [] feed script-nil)
 
+-- digits are no line feeds
+feed-digits : (ds : List ℕ) → AllDigits 10 ds → has_line_feed ds ≡ false
+feed-digits [] all = refl
+feed-digits (d ∷ ds) all =
+    or_from (eqb d 10) (has_line_feed ds) (not_at d 10 all.0 (omega arith)) (feed-digits ds all.1)
+
+-- a number of 64 bits is written in digits
+number : (p : ℕ) → p < 2 ^ 64 → AllDigits 10 (decimal p)
+number p small = (decimal_is_IsNumeral p small).0.1
+
 pub answer-replays : (m : MapValue) (found : Sticking) → IsAnswer m found → AnswerReplays m found
 answer-replays m (Sticks events) answer = script-sticks m events.items answer.0
 answer-replays m Never answer = said (codes " never sticks") refl
-answer-replays m Undecided answer = said (codes " undecided: more than 65536 states") refl
+answer-replays m (Undecided p) answer =
+    λ small. said ((codes " undecided: no list of up to " ++ decimal p) ++ codes " presses sticks")
+    (feed-append (codes " undecided: no list of up to " ++ decimal p) (codes " presses sticks")
+    (feed-append (codes " undecided: no list of up to ") (decimal p) refl (feed-digits (decimal p) (number p small))) refl)
 
 -- ---- a sentence that was typed and played
 
@@ -284,3 +308,17 @@ comes-back text sentence script typed t s u v types plays = elim plays [
       (subst (λ x. IsScript x played.2.0) printed run.events)
       ∙ sym (taken-whole sentence types.2.bytes s types.2.takes)
 ]
+
+-- the report with its demonstration, whether there is one
+shows-by : (m : MapValue) (o : Option (List Event)) → demonstration_of m ≡ o
+    → ShowsScript m (check_text (report_of m) ++ demonstration_text o)
+shows-by m None e = inl refl
+shows-by m (Some events) e =
+    inr (
+      flat_map event_line events,
+      refl,
+      lines-stick m events (demonstrations_leave_modifiers_on m events e),
+    )
+
+pub shows-script : (m : MapValue) → ShowsScript m (report m true)
+shows-script m = shows-by m (demonstration_of m) refl

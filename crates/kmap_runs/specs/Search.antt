@@ -1,5 +1,5 @@
 -- What the search for sticking modifiers found, as a script.
-use Rattle.std.specs.Prelude.{ℕ, Bool, true, false, List, [], ◌++◌, codes, reverse, if◌then◌else◌}
+use Rattle.std.specs.Prelude.{ℕ, Bool, true, false, List, [], ◌++◌, codes, decimal, reverse, if◌then◌else◌}
 use Rattle.std.specs.List.{flat_map}
 use Rattle.keymap_core.specs.declared.action.Modifier.{Modifier}
 use Rattle.keymap_core.specs.declared.action.Holding.TheVariants as holding
@@ -23,10 +23,14 @@ script_text m events =
     (λ i. is_on_after (between m m) i (reverse events))) modifiers ++ codes "\n"
     ++ flat_map event_line events
 
+-- no list of up to so many presses leaves a modifier on, and more were not tried
+abbrev pub undecided_text : ℕ → List ℕ
+undecided_text p = codes "# undecided: no list of up to " ++ decimal p ++ codes " presses sticks"
+
 abbrev pub found_text : MapValue → Sticking → List ℕ
 found_text m (Sticks events) = script_text m events.items
 found_text m Never = codes "# never sticks\n"
-found_text m (Undecided p) = codes "# undecided: more than 65536 states\n"
+found_text m (Undecided p) = undecided_text p ++ codes "\n"
 
 abbrev pub is_never : Sticking → Bool
 is_never (Sticks events) = false

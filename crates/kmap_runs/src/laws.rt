@@ -1,5 +1,5 @@
 //! Laws of the definitions: what is printed as a script is one. No function here does anything.
-ghost use Rattle.std.specs.Prelude.{◌≡◌, List, [], ℕ, map, Option, Some, Ok};
+ghost use Rattle.std.specs.Prelude.{◌≡◌, List, [], ℕ, map, Option, Some, Ok, true};
 ghost use Rattle.keymap_core.specs.Maps.{MapValue};
 ghost use Rattle.console_core.specs.declared.outcome.Sticking.{Sticking as StickingValue};
 ghost use Rattle.console_core.specs.Sticking.{IsAnswer};
@@ -8,7 +8,8 @@ ghost use Rattle.play_core.specs.Scripts.{IsScript};
 ghost use Rattle.play_core.specs.declared.show.Show.TheVariants as show;
 ghost use Rattle.play_core.specs.Spelling.{sent_of};
 ghost use Rattle.play_core.specs.Typing.{IsTyped, events_for};
-ghost use Rattle.kmap_runs.specs.Replayed.{ScriptTypes, AnswerReplays};
+ghost use Rattle.kmap_runs.specs.Report.{report};
+ghost use Rattle.kmap_runs.specs.Replayed.{ScriptTypes, AnswerReplays, ShowsScript};
 ghost use Rattle.kmap_runs.specs.TypeRuns.{TypesSentence};
 ghost use Rattle.kmap_runs.specs.Typing.{typing_script};
 
@@ -34,4 +35,10 @@ pub fn typed_sentences_come_back()
         → TypesSentence (moves (Some text) t) (moves (Some sentence) s) (moves (Some []) (Some script)) (Ok tt)
         → Plays show.Typed (moves (Some text) u) (moves (Some script) v) (moves (Some []) (Some typed)) (Ok tt)
         → typed ≡ sentence }
+{}
+
+/// Behind the report of a keymap stands `demonstration: none`, or `demonstration:` and a script that leaves a modifier
+/// on while no key is pressed.
+pub fn demonstrations_leave_a_modifier_on()
+    ensures { (m : MapValue) → ShowsScript m (report m true) }
 {}

@@ -1,5 +1,5 @@
 //! What the search for sticking modifiers found, as a script that `kmap play` reads.
-ghost use Rattle.std.specs.Prelude.{◌≡◌, ◌++◌, [], ◌∷◌, List, reverse, IfOk, OnOk};
+ghost use Rattle.std.specs.Prelude.{◌≡◌, ◌++◌, [], ◌∷◌, List, reverse, IfOk, OnOk, codes};
 ghost use Rattle.std.specs.List.{flat_map};
 ghost use Rattle.console_core.specs.declared.event.Event.{Event as EventValue};
 ghost use Rattle.console_core.specs.History.{Maps, is_on_after, between};
@@ -9,6 +9,7 @@ ghost use Rattle.kmap_runs.specs.Search as spec;
 use crate::report::append_event;
 use arrayvec::ArrayVec;
 use console_core::{Event, Sticking, Translator, WordConsole};
+use itoa::Buffer;
 use keymap_core::{Holding, KeyMap, MODIFIERS, Modifier};
 use std::alloc::{AllocError, Global};
 
@@ -92,6 +93,18 @@ fn push_script(text: &mut Vec<u8>, map: &KeyMap, events: &[Event]) -> Result<(),
     push_events(text, events)
 }
 
+/// Adds that the search gave up, and up to how many presses no list leaves a modifier on.
+fn push_undecided(text: &mut Vec<u8>, presses: usize) -> Result<(), AllocError>
+    ensures { OnOk result (text.new.items ≡ text.old.items ++ (spec.undecided_text presses ++ codes "\n")) }
+{
+    let mut digits = Buffer::new();
+    text.extend_from_slice(b"# undecided: no list of up to ")?;
+    text.extend_from_slice(digits.format(presses).as_bytes())?;
+    text.extend_from_slice(b" presses sticks")?;
+    text.push(b'\n')?;
+    Ok(())
+}
+
 /// The script that tells what was found.
 pub(crate) fn found_text(
     alloc: Global,
@@ -104,7 +117,7 @@ pub(crate) fn found_text(
     match found {
         Sticking::Sticks(events) => push_script(&mut text, map, events)?,
         Sticking::Never => text.extend_from_slice(b"# never sticks\n")?,
-        Sticking::Undecided(_) => { text.extend_from_slice(b"# undecided: more than 65536 states\n")? }
+        Sticking::Undecided(presses) => push_undecided(&mut text, *presses)?,
     }
     Ok(text)
 }

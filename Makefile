@@ -1,32 +1,41 @@
 # make               proves and builds the program and the C library, and leaves them at crates/kmap/out/kmap and
-#                    crates/kmap_c/out/libkmap_c.a, with the header include/kmap.h; at once where nothing changed
+#                    crates/kmap_c/out/libkmap_c.a, libkmap.so beside it, with the header include/kmap.h; at once
+#                    where nothing changed
 # make quick         types a line without any proof, in about a minute: QUICK='check de.kbd' FILES=examples/de.kbd for
 #                    other arguments and files
 # make test          proves and builds what changed, and runs the scripts of tests/ on it: while working on a line
 # make check         proves every crate from nothing, tries the edits that must be refused, and runs all tests
 # make bench         measures the program on large inputs
 # make install       installs the program, the C library with its header, manual pages, completions, examples and
-#                    documents in $(DESTDIR)$(PREFIX)
+#                    documents below $(DESTDIR)$(PREFIX), and writes nothing here where all is built
+# make dist          puts what is installed into an archive, kmap-VERSION-x86_64-linux.tar.gz
 # make uninstall     removes what this version installs
 # make clean         removes what was made
 #
-# It is for any make: the kit's `rt` knows which sources the program is made of, so each target asks it.
+# It is for any make: build.sh sees whether a source is newer than what is made, and the kit's `rt` what that changes.
 
+VERSION = 0.1.0
 PREFIX = /usr/local
+LIBDIR = $(PREFIX)/lib
+INCLUDEDIR = $(PREFIX)/include
+MANDIR = $(PREFIX)/share/man
 DESTDIR =
 RT = rt
+CC = cc
 INSTALL = install
 QUICK = play us.kbd line.script --typed
 FILES = examples/us.kbd examples/line.script
 PROGRAM = crates/kmap/out/kmap
 LIBRARY = crates/kmap_c/out/libkmap_c.a
+SHARED = crates/kmap_c/out/libkmap.so
+SONAME = libkmap.so.0
 REFUSALS = crates/refusals/out/refusals
 STEPS = crates/step_costs/out/step_costs
 
-LIB = $(DESTDIR)$(PREFIX)/lib
-INCLUDE = $(DESTDIR)$(PREFIX)/include
+LIB = $(DESTDIR)$(LIBDIR)
+INCLUDE = $(DESTDIR)$(INCLUDEDIR)
 SHARE = $(DESTDIR)$(PREFIX)/share
-MAN = $(SHARE)/man
+MAN = $(DESTDIR)$(MANDIR)
 BASH_COMPLETIONS = $(SHARE)/bash-completion/completions
 FISH_COMPLETIONS = $(SHARE)/fish/vendor_completions.d
 ZSH_COMPLETIONS = $(SHARE)/zsh/site-functions
@@ -34,8 +43,11 @@ EXAMPLES = $(SHARE)/examples/kmap
 DOC = $(SHARE)/doc/kmap
 
 all:
-	cd crates/kmap && $(RT) run -- --version > /dev/null
-	cd crates/kmap_c && $(RT) lib > /dev/null
+	@RT=$(RT) sh build.sh kmap out/kmap run -- --version
+	@RT=$(RT) sh build.sh kmap_c out/libkmap_c.a lib
+	@if [ -z "$$(find $(SHARED) -newer $(LIBRARY) 2> /dev/null)" ]; then \
+	    $(CC) -shared -Wl,-soname,$(SONAME) -Wl,--whole-archive $(LIBRARY) -Wl,--no-whole-archive -o $(SHARED); \
+	fi
 
 # What `rt try` builds is run once and not kept, so nothing else takes it.
 quick:
@@ -44,7 +56,7 @@ quick:
 	@echo "nothing was proved, and no program is left: that is what make is for"
 
 test: all
-	cd crates/refusals && $(RT) run -- read_map > /dev/null
+	@RT=$(RT) sh build.sh refusals out/refusals run -- read_map
 	$(MAKE) scripts
 
 # `rt ci` builds both programs anew, each by LLVM and by Rattle's own compiler (.by-rattle), and the scripts take what it
@@ -68,11 +80,12 @@ scripts:
 	sh tests/completions.sh $(PROGRAM)
 	sh tests/manual.sh $(PROGRAM)
 	sh tests/install.sh
+	sh tests/guide.sh
 	sh tests/refused_memory.sh $(PROGRAM)
 	sh tests/refused_calls.sh $(REFUSALS)
 
 bench: all
-	cd crates/step_costs && $(RT) run -- map 1 > /dev/null
+	@RT=$(RT) sh build.sh step_costs out/step_costs run -- map 1
 	sh bench/run.sh $(PROGRAM) $(STEPS)
 
 install: all
@@ -81,8 +94,12 @@ install: all
 	    "$(FISH_COMPLETIONS)" "$(ZSH_COMPLETIONS)"
 	$(INSTALL) -m 755 $(PROGRAM) "$(DESTDIR)$(PREFIX)/bin/kmap"
 	$(INSTALL) -m 644 $(LIBRARY) "$(LIB)/libkmap.a"
+	$(INSTALL) -m 755 $(SHARED) "$(LIB)/libkmap.so.$(VERSION)"
+	ln -sf libkmap.so.$(VERSION) "$(LIB)/$(SONAME)"
+	ln -sf $(SONAME) "$(LIB)/libkmap.so"
 	$(INSTALL) -m 644 include/kmap.h "$(INCLUDE)"
-	sed 's,/usr/local,$(PREFIX),g' include/kmap.pc > "$(LIB)/pkgconfig/kmap.pc"
+	sed -e 's,^prefix=.*,prefix=$(PREFIX),' -e 's,^libdir=.*,libdir=$(LIBDIR),' \
+	    -e 's,^includedir=.*,includedir=$(INCLUDEDIR),' include/kmap.pc > "$(LIB)/pkgconfig/kmap.pc"
 	chmod 644 "$(LIB)/pkgconfig/kmap.pc"
 	for page in 1 3 5; do \
 	    sed 's,/usr/local,$(PREFIX),g' man/kmap.$$page > "$(MAN)/man$$page/kmap.$$page" && \
@@ -97,14 +114,23 @@ install: all
 
 # Folders that other programs share stay, and so does what a user put into the program's own.
 uninstall:
-	rm -f "$(DESTDIR)$(PREFIX)/bin/kmap" "$(LIB)/libkmap.a" "$(INCLUDE)/kmap.h" "$(LIB)/pkgconfig/kmap.pc"
+	rm -f "$(DESTDIR)$(PREFIX)/bin/kmap" "$(INCLUDE)/kmap.h" "$(LIB)/pkgconfig/kmap.pc"
+	rm -f "$(LIB)/libkmap.a" "$(LIB)/libkmap.so" "$(LIB)/$(SONAME)" "$(LIB)/libkmap.so.$(VERSION)"
 	rm -f "$(MAN)/man1/kmap.1" "$(MAN)/man3/kmap.3" "$(MAN)/man5/kmap.5"
 	rm -f "$(BASH_COMPLETIONS)/kmap" "$(FISH_COMPLETIONS)/kmap.fish" "$(ZSH_COMPLETIONS)/_kmap"
 	for file in examples/*; do rm -f "$(EXAMPLES)/$${file#examples/}"; done
 	for file in README.md CHANGELOG.md LICENSE docs/*.md; do rm -f "$(DOC)/$$file"; done
 	for folder in "$(EXAMPLES)" "$(DOC)/docs" "$(DOC)"; do rmdir "$$folder" 2> /dev/null || true; done
 
-clean:
-	rm -rf crates/*/out
+# The same bytes for the same files: names in order, and no time, owner or name of this machine.
+dist: all
+	@folder=$$(mktemp -d) && trap 'rm -rf "$$folder"' EXIT && name=kmap-$(VERSION) && \
+	    $(MAKE) DESTDIR="$$folder" PREFIX=/usr/local install > /dev/null && mv "$$folder/usr/local" "$$folder/$$name" && \
+	    (cd "$$folder" && find "$$name" ! -type d | LC_ALL=C sort | tar -c --no-recursion --format=ustar \
+	    --mtime=@0 --owner=0 --group=0 --numeric-owner -T - | gzip -9n) > $$name-x86_64-linux.tar.gz && \
+	    echo $$name-x86_64-linux.tar.gz
 
-.PHONY: all quick test check scripts bench install uninstall clean
+clean:
+	rm -rf crates/*/out kmap-*.tar.gz
+
+.PHONY: all quick test check scripts bench install uninstall dist clean

@@ -5,8 +5,11 @@
  * calls may run at once where neither writes what the other reads.
  *
  * No pointer may be null, also where the length with it is 0. What a call writes may not overlap anything else that it
- * is given. Any bytes are safe as tables and as a console. The answers are those of the keymap where the bytes are its
- * tables, which kmap_check tells, and where the console was begun by kmap_start and stepped with these tables only.
+ * is given. A pointer to const is only read. Tables are bytes and may begin anywhere; a console, events, answers and a
+ * fault are aligned as their C types are.
+ *
+ * Any bytes are safe as tables and as a console. The answers are those of the keymap where the bytes are its tables,
+ * which kmap_check tells, and where the console was begun by kmap_start and stepped with these tables only.
  *
  * Link with -lkmap. The library needs memcpy, memmove and memset.
  */
@@ -30,11 +33,26 @@ extern "C" {
 #define KMAP_NO_ROOM (-3) /* fewer places for answers than events */
 #define KMAP_FAULTY (-4) /* tables with a fault */
 
-/* The events: key codes are 0 to 127. A press of a key that is pressed already is a repeat. */
-#define KMAP_PRESS(key) ((uint16_t)(key))
-#define KMAP_RELEASE(key) ((uint16_t)(128 + (key)))
+/*
+ * The events. Key codes are 0 to 127; any other number gives KMAP_NO_EVENT, which each call refuses. A press of a key
+ * that is pressed already is a repeat. The macros are constants where the key is one, but evaluate it twice; the
+ * functions evaluate it once.
+ */
+#define KMAP_PRESS(key) ((uint16_t)((uintmax_t)(key) < 128 ? (uint16_t)(key) : KMAP_NO_EVENT))
+#define KMAP_RELEASE(key) ((uint16_t)((uintmax_t)(key) < 128 ? 128 + (uint16_t)(key) : KMAP_NO_EVENT))
 #define KMAP_RESET 256 /* modifiers off, nothing remembered and nothing pending; locks stay */
 #define KMAP_LOAD 257 /* a reset that also puts the other keymap in force */
+#define KMAP_NO_EVENT 0xffff
+
+static inline uint16_t kmap_press(uintmax_t key)
+{
+	return KMAP_PRESS(key);
+}
+
+static inline uint16_t kmap_release(uintmax_t key)
+{
+	return KMAP_RELEASE(key);
+}
 
 /*
  * The answers are the numbers of genkbd_keyaction of sys/dev/kbd/kbd.c: a character, or one of the marks below with
@@ -90,6 +108,15 @@ struct kmap_fault {
 	uint64_t offset;
 	uint32_t kind;
 };
+
+/* The sizes that the library takes these to have. */
+#if defined(__cplusplus) && __cplusplus >= 201103L
+static_assert(sizeof(struct kmap_console) == 132, "a console is 132 bytes");
+static_assert(sizeof(struct kmap_fault) == 16, "a fault is 16 bytes");
+#elif defined(__STDC_VERSION__) && __STDC_VERSION__ >= 201112L
+_Static_assert(sizeof(struct kmap_console) == 132, "a console is 132 bytes");
+_Static_assert(sizeof(struct kmap_fault) == 16, "a fault is 16 bytes");
+#endif
 
 /*
  * Checks a table file. KMAP_OK if it is the tables of a keymap, and `fault` stays as it was; else KMAP_FAULTY, and

@@ -92,6 +92,13 @@ static void check_refusals(void)
 
 	memset(&console, 0x5a, sizeof console);
 	before = console;
+	holds("a key above 127 gives no event", KMAP_PRESS(128) == KMAP_NO_EVENT && KMAP_RELEASE(128) == KMAP_NO_EVENT
+	    && KMAP_PRESS(-1) == KMAP_NO_EVENT && KMAP_RELEASE(4294967296 + 1) == KMAP_NO_EVENT
+	    && kmap_press(256) == KMAP_NO_EVENT && kmap_release((uintmax_t)-1) == KMAP_NO_EVENT);
+	holds("a key up to 127 gives its event", KMAP_PRESS(127u) == 127 && KMAP_RELEASE(0) == 128
+	    && KMAP_RELEASE(127) == 255 && kmap_press(0) == 0 && kmap_release(127) == 255);
+	holds("no event is refused", kmap_step(tables, KMAP_TABLES_SIZE, &console, KMAP_NO_EVENT, &answer)
+	    == KMAP_BAD_EVENT);
 	holds("258 is no event", kmap_step(tables, KMAP_TABLES_SIZE, &console, 258, &answer) == KMAP_BAD_EVENT);
 	holds("one byte too few", kmap_step(tables, KMAP_TABLES_SIZE - 1, &console, 30, &answer) == KMAP_BAD_LENGTH);
 	holds("one byte too many", kmap_step_between(tables, KMAP_TABLES_SIZE, tables, KMAP_TABLES_SIZE + 1, &console,

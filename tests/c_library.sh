@@ -65,6 +65,23 @@ if is_there "$cc"; then
     holds 'the example refuses an empty file' \
         [ "$(./type empty 2>&1 < /dev/null)" = 'type: tables offset 0: fault 1' ]
 
+    holds 'the library can be shared' "$cc" -shared -Wl,--whole-archive "$library" -Wl,--no-whole-archive -o libkmap.so
+    if is_there python3; then
+        for name in us:line de:de; do
+            keymap=$examples/${name%:*}.kbd
+            script=$examples/${name#*:}.script
+            "$program" compile "$keymap" tables
+            "$program" play --typed "$keymap" "$script" > wanted
+            numbers "$script" | KMAP_LIBRARY=./libkmap.so python3 "$examples/type.py" tables > got
+            same_text "the example for Python types ${script##*/} as the program does" wanted got
+        done
+        holds 'the example for Python refuses a number that is no event' \
+            [ "$(echo 258 | KMAP_LIBRARY=./libkmap.so python3 "$examples/type.py" tables 2>&1)" = 'type: no event: 258' ]
+        holds 'the example for Python refuses an empty file' \
+            [ "$(KMAP_LIBRARY=./libkmap.so python3 "$examples/type.py" empty 2>&1 < /dev/null)" = \
+            'type: these are no tables of a keymap' ]
+    fi
+
     "$program" compile "$examples/us.kbd" tables
     holds 'the calls compile' compiled "$top/tests/c_library.c" -o calls
     said=$(./calls tables)

@@ -1,6 +1,7 @@
 #!/bin/sh
 # Installs the program into an empty folder and takes it away again, with GNU make and with BSD make. In place of the
-# kit's rt stands a program that notes that it was asked to build, or one that fails.
+# kit's rt stands a program that notes that it was asked to build, or one that fails. The archive of `make dist` is
+# unpacked elsewhere, and its program run.
 #
 # usage: install.sh, with the program and the C library already built
 # The last line is 'N passed, M failed'; the status is 0 where none failed.
@@ -13,15 +14,19 @@ cd "$top" || exit 1
 # What a make that runs this script was told is not for the ones below.
 unset MAKEFLAGS MFLAGS MAKELEVEL
 printf '#!/bin/sh\necho "${PWD##*/} $*" >> "%s/asked"\n' "$folder" > "$folder/built"
-printf '#!/bin/sh\nexit 1\n' > "$folder/not built"
+printf '#!/bin/sh\necho why it fails\nexit 1\n' > "$folder/not built"
 chmod +x "$folder/built" "$folder/not built"
 place="$folder/a place"
 own=$place/opt/kmap
+version=$(sed -n 's/^VERSION = //p' Makefile)
 
-cat > "$folder/wanted" << 'END'
+cat > "$folder/wanted" << END
 bin/kmap
 include/kmap.h
 lib/libkmap.a
+lib/libkmap.so
+lib/libkmap.so.0
+lib/libkmap.so.$version
 lib/pkgconfig/kmap.pc
 share/bash-completion/completions/kmap
 share/doc/kmap/CHANGELOG.md
@@ -30,6 +35,8 @@ share/doc/kmap/README.md
 share/doc/kmap/docs/ARCHITECTURE.md
 share/doc/kmap/docs/DECISIONS.md
 share/doc/kmap/docs/FORMATS.md
+share/doc/kmap/docs/GUIDE.md
+share/doc/kmap/docs/PROOFS.md
 share/doc/kmap/docs/TRANSLATION.md
 share/examples/kmap/de.kbd
 share/examples/kmap/de.script
@@ -37,6 +44,7 @@ share/examples/kmap/line.numbers
 share/examples/kmap/line.script
 share/examples/kmap/trap.kbd
 share/examples/kmap/type.c
+share/examples/kmap/type.py
 share/examples/kmap/us.kbd
 share/fish/vendor_completions.d/kmap.fish
 share/man/man1/kmap.1
@@ -45,9 +53,11 @@ share/man/man5/kmap.5
 share/zsh/site-functions/_kmap
 END
 
-# made MAKE RT TARGET: runs a target with this build, below DESTDIR and PREFIX
+# made MAKE RT TARGET [VARIABLE=..]: runs a target with this build, below DESTDIR and PREFIX
 made() {
-    "$1" RT="'$2'" DESTDIR="$place" PREFIX=/opt/kmap "$3" > "$folder/said" 2>&1
+    tool=$1 kit=$2
+    shift 2
+    "$tool" RT="'$kit'" DESTDIR="$place" PREFIX=/opt/kmap "$@" > "$folder/said" 2>&1
 }
 
 # refused MAKE RT TARGET: as `made`, of a target that cannot be made
@@ -55,20 +65,31 @@ refused() {
     ! made "$@"
 }
 
+# changed SINCE: files of this repository that were written since then
+changed() {
+    find . -path ./.git -prune -o -newer "$1" -print
+}
+
 # installs MAKE: installing and taking away with this make
 installs() {
+    # a kit that is newer than what is built is asked for it
+    touch "$folder/built"
     holds "$1 installs" made "$1" "$folder/built" install
     holds "$1 asks for the build of the program first" grep -qx 'kmap run -- --version' "$folder/asked"
     holds "$1 asks for the build of the library first" grep -qx 'kmap_c lib' "$folder/asked"
-    (cd "$own" && find . -type f) | sed 's/^\.\///' | LC_ALL=C sort > "$folder/got"
+    (cd "$own" && find . ! -type d) | sed 's/^\.\///' | LC_ALL=C sort > "$folder/got"
     same_text "$1 installs these files" "$folder/wanted" "$folder/got"
-    holds "$1 installs nothing elsewhere" [ "$(find "$place" -type f | wc -l)" -eq "$(wc -l < "$folder/wanted")" ]
+    holds "$1 installs nothing elsewhere" [ "$(find "$place" ! -type d | wc -l)" -eq "$(wc -l < "$folder/wanted")" ]
     holds "$1 installs the program" cmp -s crates/kmap/out/kmap "$own/bin/kmap"
     holds "$1 installs a program that runs" "$own/bin/kmap" check "$own/share/examples/kmap/de.kbd" > "$folder/said"
     holds "$1 installs the library" cmp -s crates/kmap_c/out/libkmap_c.a "$own/lib/libkmap.a"
     holds "$1 installs a kmap.pc that names this place" grep -qx 'prefix=/opt/kmap' "$own/lib/pkgconfig/kmap.pc"
     holds "$1 installs pages that name this place" grep -q '^\.It Pa /opt/kmap/share/doc' "$own/share/man/man1/kmap.1"
+    touch "$folder/stamp"
+    : > "$folder/asked"
     holds "$1 installs again" made "$1" "$folder/built" install
+    holds "$1 then asks for nothing" [ ! -s "$folder/asked" ]
+    holds "$1 then writes nothing here" [ -z "$(changed "$folder/stamp")" ]
 
     : > "$own/share/examples/kmap/mine.kbd"
     holds "$1 uninstalls" made "$1" "$folder/built" uninstall
@@ -78,13 +99,42 @@ installs() {
     holds "$1 takes its own folders away" [ -z "$(find "$place" -name kmap ! -path "$own")" ]
     rm -rf "$place"
 
+    holds "$1 installs where it is told to" made "$1" "$folder/built" install LIBDIR=/opt/lib64 MANDIR=/opt/man \
+        INCLUDEDIR=/opt/inc
+    for file in opt/lib64/libkmap.a opt/lib64/pkgconfig/kmap.pc opt/man/man1/kmap.1 opt/inc/kmap.h; do
+        holds "$1 installs $file" [ -f "$place/$file" ]
+    done
+    holds "$1 tells pkg-config where" grep -qx 'libdir=/opt/lib64' "$place/opt/lib64/pkgconfig/kmap.pc"
+    rm -rf "$place"
+
+    touch "$folder/not built"
     holds "$1 stops where the build fails" refused "$1" "$folder/not built" install
+    holds "$1 then shows what the kit said" grep -qx 'why it fails' "$folder/said"
     holds "$1 then installs nothing" [ ! -e "$place" ]
     rm -f "$folder/asked"
 }
 
+# archives: what `make dist` puts together, twice the same, and run where it was unpacked
+archives() {
+    archive=kmap-$version-x86_64-linux.tar.gz
+    holds 'make dist puts an archive together' make RT="'$folder/built'" dist > "$folder/said"
+    holds 'it says its name' grep -qx "$archive" "$folder/said"
+    mv "$archive" "$folder"
+    sleep 1
+    holds 'make dist does it again' make RT="'$folder/built'" dist > "$folder/said"
+    holds 'the same bytes for the same files' cmp "$archive" "$folder/$archive"
+    rm -f "$archive"
+    (cd "$folder" && tar -xf "$archive")
+    (cd "$folder/kmap-$version" && find . ! -type d) | sed 's/^\.\///' | LC_ALL=C sort > "$folder/got"
+    same_text 'the archive holds what is installed' "$folder/wanted" "$folder/got"
+    "$folder/kmap-$version/bin/kmap" play --typed examples/us.kbd examples/line.script > "$folder/got"
+    crates/kmap/out/kmap play --typed examples/us.kbd examples/line.script > "$folder/typed"
+    same_text 'the program of the archive types the line' "$folder/typed" "$folder/got"
+}
+
 if is_there make; then
     installs make
+    archives
 fi
 if is_there bmake; then
     installs bmake

@@ -19,6 +19,7 @@ cd "$top" || exit 1
 version=$("$program" --version | sed -n 's/^kmap \([0-9.]*\)$/\1/p')
 holds 'the program has a version' [ -n "$version" ]
 holds 'the newest change is of this version' [ "$(sed -n 's/^## //p' CHANGELOG.md | head -n 1)" = "$version" ]
+holds 'the Makefile is of this version' grep -qx "VERSION = $version" Makefile
 for page in man/kmap.1 man/kmap.3 man/kmap.5; do
     holds "$page is of this version" grep -qx "This page is that of version $version\." "$page"
 done

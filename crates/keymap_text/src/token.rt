@@ -116,7 +116,7 @@ fn space_run(bytes: &[u8]) -> usize
     first_set(others.to_bitmask())
 }
 
-/// How many blanks that end no line stand in front, up to a tab or carriage return where that is seen at once.
+/// How many blanks that end no line stand in front. Where these are spaces before a token, it is seen at once.
 #[inline(always)]
 #[tactic(auto, using(crate::proofs::Leading::plain_spaces, crate::proofs::Leading::leading_le))]
 pub(crate) fn space_len(bytes: &[u8]) -> usize
@@ -125,7 +125,7 @@ pub(crate) fn space_len(bytes: &[u8]) -> usize
 {
     if bytes.len() >= 16 {
         let run = space_run(bytes);
-        if run < 16 {
+        if run < 16 && bytes[run] > b'\r' {
             return run;
         }
     }

@@ -140,7 +140,7 @@ entry_put m (KeyDefinition s e) slot = placed_says undefined m.entries s slot e
 entry_put m (AccentDefinition i a) slot = refl
 
 -- the entry of a slot after all definitions
-entries_of : (m : MapValue) (ds : List Definition) (slot : ℕ)
+pub entries_of : (m : MapValue) (ds : List Definition) (slot : ℕ)
     → get_or (puts m ds).entries slot undefined ≡ or_default (last (of_slot slot) ds) (get_or m.entries slot undefined)
 entries_of m [] slot = rw last_none refl
 entries_of m (d ∷ ds) slot =
@@ -154,7 +154,7 @@ accent_put m (KeyDefinition s e) i = refl
 accent_put m (AccentDefinition j a) i = placed_says blank m.accents j i a
 
 -- an accent after all definitions
-accents_of : (m : MapValue) (ds : List Definition) (i : ℕ)
+pub accents_of : (m : MapValue) (ds : List Definition) (i : ℕ)
     → get_or (puts m ds).accents i blank ≡ or_default (last (of_index i) ds) (get_or m.accents i blank)
 accents_of m [] i = rw last_none refl
 accents_of m (d ∷ ds) i =

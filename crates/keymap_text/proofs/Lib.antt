@@ -27,3 +27,10 @@ pub mod Classes
 pub mod Vectors
 pub mod Cells
 pub mod Pairs
+pub mod Placing
+pub mod RowPlaces
+pub mod Parts
+pub mod LastOf
+pub mod InForce
+pub mod WantedPlace
+pub mod OneRow

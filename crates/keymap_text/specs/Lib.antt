@@ -6,6 +6,9 @@ pub mod Items
 pub mod Rows
 pub mod Places
 pub mod Meaning
+pub mod Placed
+pub mod LineOf
+pub mod Wanted
 pub mod Progress
 pub mod Standing
 pub mod Sources

@@ -98,7 +98,7 @@ pub(crate) fn lock_of(item: &Item) -> Result<LockFlag, TextFaultKind>
 }
 
 /// The index of the accent that an action names.
-fn accent_index(action: &Action) -> Option<u8>
+pub(crate) fn accent_index(action: &Action) -> Option<u8>
     ensures value { result ≡ items.accent_index action.now }
     ensures bound { IfSome result (λ index. index < accent_limit) }
 {

@@ -7,19 +7,27 @@
 
 mod fault;
 mod grammar;
+mod last;
 pub mod laws;
 mod layout;
 mod names;
+mod placed;
 mod printer;
 mod reader;
 mod scanner;
 mod source;
+mod text_line;
 mod token;
+mod wanted;
 mod words;
 
 pub use fault::{TextError, TextFault, TextFaultKind};
+pub use last::{LastDefinitions, last_definitions};
+pub use placed::{Defined, Placed, PlacedText, definitions};
 pub use printer::print_map;
 pub use reader::{MapReader, read_map};
 pub use source::{LIMIT, read_from};
+pub use text_line::{TextLine, line_at};
 pub use token::{Span, Token, TokenKind, next_token};
+pub use wanted::{DefinitionStart, FaultPlace, Wanted, wanted_at_fault};
 pub use words::{Meaning, word_meaning};

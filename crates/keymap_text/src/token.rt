@@ -220,7 +220,7 @@ pub(crate) fn word_len(bytes: &[u8]) -> usize
 
 /// The place of the line's end, at `at` or after it.
 #[tactic(auto, using(crate::proofs::Leading::leading_rules))]
-fn line_end(text: &[u8], at: usize) -> usize
+pub(crate) fn line_end(text: &[u8], at: usize) -> usize
     requires { at ≤ length text.now }
     ensures length { result ≤ length text.now }
     ensures value { result ≡ at + leading stays_on_line (drop at text.now) }
@@ -326,7 +326,7 @@ fn token_start(text: &[u8], at: usize) -> usize
 }
 
 /// The line of a place, counted from 1.
-fn line_of(text: &[u8], place: usize) -> u64
+pub(crate) fn line_of(text: &[u8], place: usize) -> u64
     requires { place ≤ length text.now }
     ensures { result ≡ line text.now place }
 {

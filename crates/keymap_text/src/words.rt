@@ -1,6 +1,7 @@
 //! What words mean.
 ghost use Rattle.std.specs.Prelude.{◌≡◌, ◌+◌, ◌≤◌, ◌<◌, length, Some, None, IfSome};
 ghost use Rattle.std.specs.Char as char_spec;
+ghost use Rattle.keymap_text.specs.declared.token.TokenKind.TheVariants.{Word};
 ghost use Rattle.keymap_text.specs.declared.words.Meaning.TheVariants.{Number};
 ghost use Rattle.keymap_text.specs.Words.{meaning, item, digits_of, number_after, of_action};
 
@@ -183,7 +184,7 @@ pub(crate) fn short_number(word: &[u8]) -> Option<u64>
 
 #[inline(never)]
 pub(crate) fn item_of(kind: TokenKind, bytes: &[u8]) -> Item
-    requires { length bytes.now ≤ 32 }
+    requires { kind ≡ Word → length bytes.now ≤ 32 }
     ensures { result ≡ item kind bytes.now }
 {
     match kind {

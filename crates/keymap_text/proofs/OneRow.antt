@@ -1,0 +1,159 @@
+-- Tokens are the rows of one list at most.
+use Rattle.std.proofs.Common.{◌≡◌, ℕ, ◌+◌, List, [], ◌∷◌, ◌++◌, length, map, refl, sym, ◌∙◌, ap, ap₂, arith}
+use Rattle.std.proofs.Common.{Some, Result, Ok, append-nil}
+use Rattle.keymap_core.specs.declared.entry.Entry.{Entry}
+use Rattle.keymap_core.specs.declared.entry.Cell.{Cell}
+use Rattle.keymap_core.specs.declared.entry.LockFlag.{LockFlag}
+use Rattle.keymap_core.specs.declared.action.Action.{Action}
+use Rattle.keymap_core.specs.Accents.{AccentValue}
+use Rattle.keymap_text.specs.declared.fault.TextFaultKind.{TextFaultKind}
+use Rattle.keymap_text.specs.declared.placed.Placed.{Placed}
+use Rattle.keymap_text.specs.declared.words.Meaning.TheVariants.{Number, Act, Letter}
+use Rattle.keymap_text.specs.declared.words.Item.{Item}
+use Rattle.keymap_text.specs.declared.words.Item.TheVariants.{Open, Close, Value}
+use Rattle.keymap_text.specs.Items.{character, cell, accent_index}
+use Rattle.keymap_text.specs.Lexical.{TokenValue}
+use Rattle.keymap_text.specs.Meaning.{item_of}
+use Rattle.keymap_text.specs.Rows.{Definition, KeyDefinition, AccentDefinition, AreCells, no_cells, one_cell, ArePairs}
+use Rattle.keymap_text.specs.Rows.{no_pairs, one_pair, Defines, of_key, of_accent}
+use Rattle.keymap_text.specs.Placed.{Row, AreRows, no_row, one_row, places_after}
+use Rattle.keymap_text.proofs.RowPlaces.{places_are}
+
+head : {A : Type 0} (x y : A) (xs ys : List A) → x ∷ xs ≡ y ∷ ys → x ≡ y
+head x y xs ys h = cc
+
+tail : {A : Type 0} (x y : A) (xs ys : List A) → x ∷ xs ≡ y ∷ ys → xs ≡ ys
+tail x y xs ys h = cc
+
+empty_more : {A : Type 0} (x : A) (xs : List A) → [] ≡ x ∷ xs → ⊥
+empty_more x xs h = cc
+
+ok_is : {A : Type 0} (x y : A) → ◌≡◌ {A = Result A TextFaultKind} (Ok x) (Ok y) → x ≡ y
+ok_is x y h = cc
+
+some_is : (i j : ℕ) → Some i ≡ Some j → i ≡ j
+some_is i j h = cc
+
+-- the same cells, and the same tokens behind them
+cells_are : {ts us : List Item} {cs ds : List Cell} → AreCells ts cs → AreCells us ds → length cs ≡ length ds
+    → (vs ws : List Item) → ts ++ vs ≡ us ++ ws → (cs ≡ ds) × (vs ≡ ws)
+cells_are no_cells no_cells n vs ws e = (refl, e)
+cells_are no_cells (one_cell h r) n vs ws e = absurd (omega (arith, n))
+cells_are (one_cell h r) no_cells n vs ws e = absurd (omega (arith, n))
+cells_are (one_cell {t = t} {c = c} {ts = ts} h r) (one_cell {t = u} {c = d} {ts = us} k s) n vs ws e =
+    let m = cells_are r s (omega (arith, n)) vs ws (tail t u (ts ++ vs) (us ++ ws) e) in
+    let same : c ≡ d = ok_is c d (sym h ∙ ap cell (head t u (ts ++ vs) (us ++ ws) e) ∙ k) in
+    (ap₂ (λ c cs. c ∷ cs) same m.0, m.1)
+
+-- the same pairs
+pairs_are : {ts us : List Item} {ps qs : List (ℕ × ℕ)} → ArePairs ts ps → ArePairs us qs → ts ≡ us → ps ≡ qs
+pairs_are no_pairs no_pairs e = refl
+pairs_are no_pairs (one_pair h z k r) e = absurd (empty_more _ _ e)
+pairs_are (one_pair h z k r) no_pairs e = absurd (empty_more _ _ (sym e))
+pairs_are (one_pair {t = t} {u = u} {base = a} {result = b} {ts = ts} {ps = ps} h z k r)
+    (one_pair {t = t'} {u = u'} {base = a'} {result = b'} {ts = ts'} {ps = ps'} h' z' k' r') e =
+    let one : t ∷ u ∷ Close ∷ ts ≡ t' ∷ u' ∷ Close ∷ ts' = tail Open Open _ _ e in
+    let two : u ∷ Close ∷ ts ≡ u' ∷ Close ∷ ts' = tail t t' _ _ one in
+    let rest : ts ≡ ts' = tail Close Close _ _ (tail u u' _ _ two) in
+    let base : a ≡ a' = ok_is a a' (sym h ∙ ap character (head t t' _ _ one) ∙ h') in
+    let result : b ≡ b' = ok_is b b' (sym k ∙ ap character (head u u' _ _ two) ∙ k') in
+    ap₂ (λ p ps. p ∷ ps) (ap₂ (λ a b. (a, b)) base result) (pairs_are r r' rest)
+
+no_number : (n : ℕ) (a : Action) → Value (Number n) ≡ Value (Act a) → ⊥
+no_number n a h = cc
+
+number_is : (n m : ℕ) → Value (Number n) ≡ Value (Number m) → n ≡ m
+number_is n m h = cc
+
+action_is : (a b : Action) → Value (Act a) ≡ Value (Act b) → a ≡ b
+action_is a b h = cc
+
+letter_is : (f g : LockFlag) → Value (Letter f) ≡ Value (Letter g) → f ≡ g
+letter_is f g h = cc
+
+entry_is : (e f : Entry) → e.cells ≡ f.cells → e.flag ≡ f.flag → e ≡ f
+entry_is e f h k = ap₂ (λ cells flag. record { cells = cells; flag = flag }) h k
+
+accent_is : (a b : AccentValue) → a.own ≡ b.own → a.pairs ≡ b.pairs → a ≡ b
+accent_is a b h k = ap₂ (λ own pairs. record { own = own; pairs = pairs }) h k
+
+-- tokens define one thing
+defined_is : {ts us : List Item} {d e : Definition} → Defines ts d → Defines us e → ts ≡ us → d ≡ e
+defined_is (of_key {slot = s} {e = e} {ts = ts} l eight cells)
+    (of_key {slot = t} {e = f} {ts = us} l' eight' cells') h =
+    let slot : s ≡ t = number_is s t (head _ _ _ _ h) in
+    let m = cells_are cells cells' (eight ∙ sym eight') (Value (Letter e.flag) ∷ []) (Value (Letter f.flag) ∷ [])
+    (tail _ _ _ _ h) in
+    ap₂ (λ s e. KeyDefinition s e) slot (entry_is e f m.0 (letter_is e.flag f.flag (head _ _ [] [] m.1)))
+defined_is (of_key {slot = s} l eight cells) (of_accent name index own few pairs) h =
+    absurd (no_number s name (head _ _ _ _ h))
+defined_is (of_accent name index own few pairs) (of_key {slot = s} l eight cells) h =
+    absurd (no_number s name (sym (head _ _ _ _ h)))
+defined_is (of_accent {i = i} {a = a} {t = t} {ts = ts} name index own few pairs)
+    (of_accent {i = j} {a = b} {t = u} {ts = us} name' index' own' few' pairs') h =
+    let which : i ≡ j =
+    some_is i j (sym index ∙ ap accent_index (action_is name name' (head _ _ _ _ h)) ∙ index') in
+    let rest : t ∷ ts ≡ u ∷ us = tail _ _ _ _ h in
+    let same : a.own ≡ b.own = ok_is a.own b.own (sym own ∙ ap character (head t u ts us rest) ∙ own') in
+    ap₂ (λ i a. AccentDefinition i a) which (accent_is a b same (pairs_are pairs pairs' (tail t u ts us rest)))
+
+-- two lists whose first parts are as long
+parts_are : {A : Type 0} (xs ys us vs : List A) → length xs ≡ length ys → xs ++ us ≡ ys ++ vs
+    → (xs ≡ ys) × (us ≡ vs)
+parts_are [] [] us vs n e = (refl, e)
+parts_are [] (y ∷ ys) us vs n e = absurd (omega (arith, n))
+parts_are (x ∷ xs) [] us vs n e = absurd (omega (arith, n))
+parts_are (x ∷ xs) (y ∷ ys) us vs n e =
+    let m = parts_are xs ys us vs (omega (arith, n)) (tail x y (xs ++ us) (ys ++ vs) e) in
+    (ap₂ (λ x xs. x ∷ xs) (head x y (xs ++ us) (ys ++ vs) e) m.0, m.1)
+
+-- no rows have no tokens
+none : {ts : List TokenValue} {rows : List Row} → AreRows ts rows → rows ≡ [] → ts ≡ []
+none no_row h = refl
+none (one_row {rs = rs} r d more) h = absurd (empty_more r rs (sym h))
+
+next_place : (n m : ℕ) (a b : List Row) → places_after n a ≡ places_after m b
+    → (x : Row) (xs : List Row) → a ≡ x ∷ xs → n ≡ m
+unfolding places_after
+next_place n m a [] h x xs e = absurd (empty_more _ _ (sym h ∙ ap (places_after n) e))
+next_place n m a (y ∷ ys) h x xs e =
+    ap (λ (p : Placed). p.first) (head _ _ _ _ (ap (places_after n) (sym e) ∙ h))
+
+no_places : (n m : ℕ) (b : List Row) → places_after n [] ≡ places_after m b → b ≡ []
+unfolding places_after
+no_places n m [] h = refl
+no_places n m (y ∷ ys) h = absurd (empty_more _ _ h)
+
+-- rows behind which as many tokens stand, and begin at the same places
+as_long : (n : ℕ) (xs ys us vs : List TokenValue) (a b : List Row) → AreRows us a → AreRows vs b
+    → xs ++ us ≡ ys ++ vs → places_after (n + length xs) a ≡ places_after (n + length ys) b → length xs ≡ length ys
+as_long n xs ys us vs [] b f g e h =
+    let left : us ≡ [] = none f refl in
+    let right : vs ≡ [] = none g (no_places (n + length xs) (n + length ys) b h) in
+    ap length (sym (append-nil xs) ∙ ap (λ us. xs ++ us) (sym left) ∙ e ∙ ap (λ vs. ys ++ vs) right ∙ append-nil ys)
+as_long n xs ys us vs (x ∷ a) b f g e h =
+    let same : n + length xs ≡ n + length ys = next_place (n + length xs) (n + length ys) (x ∷ a) b h x a refl in
+    omega (arith, same)
+
+row_is : (r s : Row) → r.definition ≡ s.definition → r.tokens ≡ s.tokens → r ≡ s
+row_is r s h k = ap₂ (λ d ts. record { definition = d; tokens = ts }) h k
+
+more_places : (n : ℕ) (r s : Row) (a b : List Row) → places_after n (r ∷ a) ≡ places_after n (s ∷ b)
+    → places_after (n + length r.tokens) a ≡ places_after (n + length s.tokens) b
+unfolding places_after
+more_places n r s a b h = tail _ _ _ _ h
+
+rows_are : {ts us : List TokenValue} {a b : List Row} → AreRows ts a → AreRows us b → ts ≡ us → (n : ℕ)
+    → places_after n a ≡ places_after n b → a ≡ b
+rows_are {b = b} no_row g e n h = sym (no_places n n b h)
+rows_are {a = a} f no_row e n h = no_places n n a (sym h)
+rows_are (one_row {ts = us} {rs = a} r d f) (one_row {ts = vs} {rs = b} s c g) e n h =
+    let more = more_places n r s a b h in
+    let long = as_long n r.tokens s.tokens us vs a b f g e more in
+    let m = parts_are r.tokens s.tokens us vs long e in
+    let same : r ≡ s = row_is r s (defined_is d c (ap (map item_of) m.0)) m.0 in
+    ap₂ (λ r rs. r ∷ rs) same
+    (rows_are f g m.1 (n + length r.tokens) (more ∙ ap (λ k. places_after (n + k) b) (sym long)))
+
+pub one_row_list : (ts : List TokenValue) (a b : List Row) → AreRows ts a → AreRows ts b → a ≡ b
+one_row_list ts a b f g = rows_are f g refl 0 (sym (places_are f 0) ∙ places_are g 0)

@@ -1,0 +1,280 @@
+-- Where tokens and definitions stand in a text.
+use Rattle.std.proofs.Common.{◌≡◌, ℕ, zero, suc, ◌+◌, ◌<◌, ◌≤◌, ◌==◌, Bool, true, false, cond, List, [], ◌∷◌, ◌++◌}
+use Rattle.std.proofs.Common.{length, take, drop, map, refl, sym, ◌∙◌, ap, subst, arith, Option, Some, None, Ok, Err}
+use Rattle.std.proofs.Common.{IfSome, length-drop, append_assoc, nat_lt}
+use Rattle.std.proofs.lemmas.Bool.Decides.{nat_tests}
+use Rattle.std.proofs.lemmas.List.{drop-drop}
+use Rattle.keymap_text.specs.declared.fault.TextFaultKind.{TextFaultKind}
+use Rattle.keymap_text.specs.declared.fault.TextFaultKind.TheVariants.{BadByte, BadWord, EndInside}
+use Rattle.keymap_text.specs.declared.token.TokenKind.{TokenKind}
+use Rattle.keymap_text.specs.declared.token.TokenKind.TheVariants.{ParenL, ParenR, Word}
+use Rattle.keymap_text.specs.Lexical.{leading, stays_on_line, is_blank, is_word, literal, word, Front, Skipped, Found}
+use Rattle.keymap_text.specs.Lexical.{Refused, Unfinished, front_of, tokens_after, TokenValue, Tokens, Ends, Stops}
+use Rattle.keymap_text.specs.Lexical.{Then, first, is_empty}
+use Rattle.keymap_text.specs.declared.fault.TextFault.{TextFault}
+use Rattle.keymap_text.specs.declared.token.Token.{Token}
+use Rattle.keymap_text.specs.declared.token.Span.{Span}
+use Rattle.keymap_text.specs.declared.placed.Placed.{Placed}
+use Rattle.keymap_text.specs.Tokens.{token_view, result_view}
+use Rattle.keymap_text.specs.Placed.{span_of}
+use Rattle.keymap_text.specs.Inner.Placed.{begun, tokens_from, ComesNext}
+use Rattle.keymap_text.specs.Meaning.{list_of, is_word_kind}
+use Rattle.keymap_text.proofs.Leading.{leading_le}
+use Rattle.keymap_text.proofs.Literals.{literal_fits, literal_found}
+use Rattle.keymap_text.proofs.Splitting.{split_one, split_after, split_skipped, split_found, split_refused}
+use Rattle.keymap_text.proofs.Splitting.{split_unfinished}
+
+-- A token that stands in front ends within the bytes, and a word has at most 32 bytes.
+pub record Fits (kind : TokenKind) (n : ℕ) (bytes : List ℕ) : Type 0 where
+  pub within : n ≤ length bytes
+  pub short : kind ≡ Word → n < 32
+
+word_fits : (m : ℕ) (bytes : List ℕ) (kind : TokenKind) (n : ℕ) → m ≤ length bytes → word m ≡ Found kind n
+    → Fits kind n bytes
+word_fits m bytes kind n l h = go (nat_lt m 32) refl h
+  where
+    go : (b : Bool) → nat_lt m 32 ≡ b → cond b (Found Word m) (Refused BadWord) ≡ Found kind n → Fits kind n bytes
+    go true e h =
+        let same : m ≡ n = cc in
+        record { within = subst (λ k. k ≤ length bytes) same l; short = λ _. grind (arith, nat_tests) }
+    go false e h = absurd (cc)
+
+no_word : (kind : TokenKind) → is_word_kind kind ≡ false → kind ≡ Word → ⊥
+no_word kind h e = let k : is_word_kind kind ≡ true = ap is_word_kind e in cc
+
+-- what stands in front, by its first byte c, test by test
+abbrev by_word : ℕ → List ℕ → Front
+by_word c bytes = cond (is_word c) (word (leading is_word bytes)) (Refused BadByte)
+
+abbrev by_quote : ℕ → List ℕ → Front
+by_quote c bytes = cond (c == 39) (literal bytes) (by_word c bytes)
+
+abbrev by_right : ℕ → List ℕ → Front
+by_right c bytes = cond (c == 41) (Found ParenR 0) (by_quote c bytes)
+
+abbrev by_left : ℕ → List ℕ → Front
+by_left c bytes = cond (c == 40) (Found ParenL 0) (by_right c bytes)
+
+abbrev by_comment : ℕ → List ℕ → Front
+by_comment c bytes = cond (c == 35) (Skipped (leading stays_on_line bytes)) (by_left c bytes)
+
+pub front_fits : (c : ℕ) (bytes : List ℕ) (kind : TokenKind) (n : ℕ) → front_of c bytes ≡ Found kind n
+    → Fits kind n bytes
+unfolding front_of
+front_fits c bytes kind n h = blank (is_blank c) h
+  where
+    in_word : (b : Bool) → cond b (word (leading is_word bytes)) (Refused BadByte) ≡ Found kind n → Fits kind n bytes
+    in_word true h = word_fits (leading is_word bytes) bytes kind n (leading_le is_word bytes) h
+    in_word false h = absurd (cc)
+
+    quote : (b : Bool) → cond b (literal bytes) (by_word c bytes) ≡ Found kind n → Fits kind n bytes
+    quote true h = record {
+      within = literal_fits bytes kind n h;
+      short = λ e. absurd (no_word kind (literal_found bytes kind n h) e);
+    }
+    quote false h = in_word (is_word c) h
+
+    right : (b : Bool) → cond b (Found ParenR 0) (by_quote c bytes) ≡ Found kind n → Fits kind n bytes
+    right true h = let z : 0 ≡ n = cc in record { within = omega arith; short = λ _. omega arith }
+    right false h = quote (c == 39) h
+
+    left : (b : Bool) → cond b (Found ParenL 0) (by_right c bytes) ≡ Found kind n → Fits kind n bytes
+    left true h = let z : 0 ≡ n = cc in record { within = omega arith; short = λ _. omega arith }
+    left false h = right (c == 41) h
+
+    comment : (b : Bool) → cond b (Skipped (leading stays_on_line bytes)) (by_left c bytes) ≡ Found kind n
+        → Fits kind n bytes
+    comment true h = absurd (cc)
+    comment false h = left (c == 40) h
+
+    blank : (b : Bool) → cond b (Skipped 0) (by_comment c bytes) ≡ Found kind n → Fits kind n bytes
+    blank true h = absurd (cc)
+    blank false h = comment (c == 35) h
+
+-- The first token t of bytes at q stands after j of them, and the others stand behind it.
+pub record IsNext (q : ℕ) (bytes : List ℕ) (ts : Tokens) (t : TokenValue) (j : ℕ) : Type 0 where
+  pub start : t.start ≡ q + j
+  pub some : 0 < length t.bytes
+  pub within : j + length t.bytes ≤ length bytes
+  pub short : t.kind ≡ Word → length t.bytes ≤ 32
+  pub others : list_of ts ≡ t ∷ list_of (tokens_after 0 (q + j + length t.bytes) (drop (j + length t.bytes) bytes))
+
+none_first : (q : ℕ) (t : TokenValue) → first (Ends q) ≡ Ok (Some t) → ⊥
+none_first q t h = cc
+
+fault_first : (f : TextFaultKind) (q : ℕ) (t : TokenValue) → first (Stops f q) ≡ Ok (Some t) → ⊥
+fault_first f q t h = cc
+
+then_first : (u t : TokenValue) (ts : Tokens) → first (Then u ts) ≡ Ok (Some t) → u ≡ t
+then_first u t ts h = cc
+
+list_then : (t : TokenValue) (ts : Tokens) → list_of (Then t ts) ≡ t ∷ list_of ts
+unfolding list_of
+list_then t ts = refl
+
+-- as many are taken
+taken : (n : ℕ) (bytes : List ℕ) → n ≤ length bytes → length (take n bytes) ≡ n
+taken zero bytes h = refl
+taken (suc n) [] h = absurd (omega (arith, h))
+taken (suc n) (c ∷ bytes) h = ap suc (taken n bytes (omega (arith, h)))
+
+-- one byte more in front
+one_more : (q c : ℕ) (bytes : List ℕ) (ts : Tokens) (t : TokenValue) → (j : ℕ) × IsNext (q + 1) bytes ts t j
+    → (j : ℕ) × IsNext q (c ∷ bytes) ts t j
+one_more q c bytes ts t (j, h) =
+    let n = length t.bytes in
+    let place : q + 1 + j + n ≡ q + suc j + n = omega arith in
+    let index : suc (j + n) ≡ suc j + n = omega arith in (
+      suc j,
+      record {
+        start = omega (arith, h.start);
+        some = h.some;
+        within = omega (arith, h.within);
+        short = h.short;
+        others =
+            h.others ∙ ap (λ p. t ∷ list_of (tokens_after 0 p (drop (j + n) bytes))) place
+            ∙ ap (λ i. t ∷ list_of (tokens_after 0 (q + suc j + n) (drop i (c ∷ bytes)))) index;
+      },
+    )
+
+-- the first token in front
+found_next : (q c n : ℕ) (kind : TokenKind) (bytes : List ℕ) (t : TokenValue) → front_of c bytes ≡ Found kind n
+    → record { kind = kind; bytes = c ∷ take n bytes; start = q; last = is_empty (drop n bytes) } ≡ t
+    → IsNext q (c ∷ bytes) (tokens_after 0 q (c ∷ bytes)) t 0
+found_next q c n kind bytes t h e =
+    let f : Fits kind n bytes = front_fits c bytes kind n h in
+    let l : length (take n bytes) ≡ n = taken n bytes f.within in
+    let within : n ≤ length bytes = f.within in
+    let u : TokenValue = record { kind = kind; bytes = c ∷ take n bytes; start = q; last = is_empty (drop n bytes) } in
+    let place : q + 1 + n ≡ q + 0 + suc (length (take n bytes)) = omega (arith, l) in
+    let index : suc n ≡ 0 + suc (length (take n bytes)) = omega (arith, l) in
+    subst (λ (t : TokenValue). IsNext q (c ∷ bytes) (tokens_after 0 q (c ∷ bytes)) t 0) e (record {
+      start = omega arith;
+      some = omega arith;
+      within = omega (arith, l, within);
+      short = λ w. let s : n < 32 = f.short w in omega (arith, l, s);
+      others =
+          ap list_of (split_found q c n kind bytes h) ∙ list_then u _
+          ∙ ap (λ ts. u ∷ list_of ts) (split_after n (q + 1) bytes within)
+          ∙ ap (λ p. u ∷ list_of (tokens_after 0 p (drop n bytes))) place
+          ∙ ap (λ i. u ∷ list_of (tokens_after 0 (q + 0 + suc (length (take n bytes))) (drop i (c ∷ bytes)))) index;
+    })
+
+-- no bytes have no tokens
+empty_split : (k q : ℕ) → tokens_after k q [] ≡ Ends q
+unfolding tokens_after
+empty_split zero q = refl
+empty_split (suc k) q = refl
+
+pub next_is : (bytes : List ℕ) (k q : ℕ) (t : TokenValue) → first (tokens_after k q bytes) ≡ Ok (Some t)
+    → (j : ℕ) × IsNext q bytes (tokens_after k q bytes) t j
+next_is [] k q t h = absurd (none_first q t (sym (ap first (empty_split k q)) ∙ h))
+next_is (c ∷ bytes) (suc k) q t h =
+    subst (λ (ts : Tokens). (j : ℕ) × IsNext q (c ∷ bytes) ts t j) (sym (split_one k q c bytes))
+    (one_more q c bytes (tokens_after k (q + 1) bytes) t
+    (next_is bytes k (q + 1) t (sym (ap first (split_one k q c bytes)) ∙ h)))
+next_is (c ∷ bytes) zero q t h = go (front_of c bytes) refl (λ n. next_is bytes n (q + 1) t)
+  where
+    go : (f : Front) → front_of c bytes ≡ f
+        → ((n : ℕ) → first (tokens_after n (q + 1) bytes) ≡ Ok (Some t) → (j : ℕ)
+        × IsNext (q + 1) bytes (tokens_after n (q + 1) bytes) t j)
+        → (j : ℕ) × IsNext q (c ∷ bytes) (tokens_after 0 q (c ∷ bytes)) t j
+    go (Skipped n) e ih =
+        subst (λ (ts : Tokens). (j : ℕ) × IsNext q (c ∷ bytes) ts t j) (sym (split_skipped q c n bytes e))
+        (one_more q c bytes (tokens_after n (q + 1) bytes) t (ih n (sym (ap first (split_skipped q c n bytes e)) ∙ h)))
+    go (Found kind n) e ih = (
+      0,
+      found_next q c n kind bytes t e
+          (then_first (record { kind = kind; bytes = c ∷ take n bytes; start = q; last = is_empty (drop n bytes) }) t
+          (tokens_after n (q + 1) bytes) (sym (ap first (split_found q c n kind bytes e)) ∙ h)),
+    )
+    go (Refused f) e ih = absurd (fault_first f q t (sym (ap first (split_refused q c f bytes e)) ∙ h))
+    go Unfinished e ih =
+        absurd (fault_first EndInside (q + 1 + length bytes) t (sym (ap first (split_unfinished q c bytes e)) ∙ h))
+
+-- The first token from a place on, and the place behind it.
+pub record IsToken (text : List ℕ) (at : ℕ) (t : TokenValue) : Type 0 where
+  pub behind : at ≤ t.start
+  pub some : 0 < length t.bytes
+  pub within : t.start + length t.bytes ≤ length text
+  pub short : t.kind ≡ Word → length t.bytes ≤ 32
+  pub others : tokens_from text at ≡ t ∷ tokens_from text (t.start + length t.bytes)
+
+pub token_at : (text : List ℕ) (at : ℕ) (t : TokenValue) → at ≤ length text
+    → first (tokens_after 0 at (drop at text)) ≡ Ok (Some t) → IsToken text at t
+token_at text at t l h = go (next_is (drop at text) 0 at t h)
+  where
+    go : (j : ℕ) × IsNext at (drop at text) (tokens_after 0 at (drop at text)) t j → IsToken text at t
+    go (j, n) =
+        let len : length (drop at text) + at ≡ length text = rw length-drop (omega arith) in
+        let place : at + j + length t.bytes ≡ t.start + length t.bytes = omega (arith, n.start) in
+        let index : at + (j + length t.bytes) ≡ t.start + length t.bytes = omega (arith, n.start) in
+        record {
+          behind = omega (arith, n.start);
+          some = n.some;
+          within = omega (arith, n.start, n.within, len);
+          short = n.short;
+          others =
+              n.others ∙ ap (λ p. t ∷ list_of (tokens_after 0 p (drop (j + length t.bytes) (drop at text)))) place
+              ∙ ap (λ (b : List ℕ). t ∷ list_of (tokens_after 0 (t.start + length t.bytes) b))
+              (drop-drop (j + length t.bytes) at text)
+              ∙ ap (λ i. t ∷ list_of (tokens_after 0 (t.start + length t.bytes) (drop i text))) index;
+        }
+
+-- where no first token is, no tokens are
+pub no_tokens : (ts : Tokens) → first ts ≡ Ok None → list_of ts ≡ []
+unfolding list_of
+no_tokens (Ends q) h = refl
+no_tokens (Stops f q) h = absurd (cc)
+no_tokens (Then t ts) h = absurd (cc)
+
+pub no_more : (ts : Tokens) (f : TextFaultKind) (q : ℕ) → first ts ≡ Err (f, q) → list_of ts ≡ []
+unfolding list_of
+no_more (Ends p) f q h = absurd (cc)
+no_more (Stops g p) f q h = refl
+no_more (Then t ts) f q h = absurd (cc)
+
+-- what the search for a token found
+pub found_at : (text : List ℕ) (at : ℕ) (o : Option Token) → at ≤ length text
+    → result_view text (Ok o) ≡ first (tokens_after 0 at (drop at text))
+    → IfSome o (λ t. t.span.end ≡ t.span.start + length t.slice.now) → ComesNext text at o
+found_at text at None l h s = no_tokens (tokens_after 0 at (drop at text)) (sym h)
+found_at text at (Some t) l h e =
+    let f : IsToken text at (token_view text t) = token_at text at (token_view text t) l (sym h) in
+    record {
+      ends = omega (arith, e, f.behind, f.some);
+      within = omega (arith, e, f.within);
+      short = f.short;
+      span = ap (λ end. record { start = t.span.start; end = end }) (sym e);
+      others = f.others ∙ ap (λ end. token_view text t ∷ tokens_from text end) (sym e);
+    }
+
+-- no token stands at a fault
+pub fault_at : (text : List ℕ) (at : ℕ) (f : TextFault)
+    → result_view text (Err f) ≡ first (tokens_after 0 at (drop at text)) → tokens_from text at ≡ []
+fault_at text at f h = no_more (tokens_after 0 at (drop at text)) f.kind f.offset (sym h)
+
+-- the spans so far, and those to come
+pub spans_on : (xs ys all : List Span) (s : Span) (text : List ℕ) (at end : ℕ) (t : TokenValue) → ys ≡ xs ++ s ∷ []
+    → span_of t ≡ s → tokens_from text at ≡ t ∷ tokens_from text end → xs ++ map span_of (tokens_from text at) ≡ all
+    → ys ++ map span_of (tokens_from text end) ≡ all
+spans_on xs ys all s text at end t e i others h =
+    let more = map span_of (tokens_from text end) in
+    ap (λ ys. ys ++ more) e ∙ append_assoc xs (s ∷ []) more ∙ ap (λ s. xs ++ s ∷ more) (sym i)
+    ∙ ap (λ ts. xs ++ map span_of ts) (sym others) ∙ h
+
+-- the definitions so far, and those to come
+pub begun_on : (xs ys all : List Placed) (left rest n m k : ℕ) (text : List ℕ) (at end : ℕ) (t : TokenValue) → k ≡ n
+    → m ≡ n + 1 → tokens_from text at ≡ t ∷ tokens_from text end → xs ++ begun left n (tokens_from text at) ≡ all
+    → xs ++ begun left k (t ∷ tokens_from text end) ≡ ys ++ begun rest (k + 1) (tokens_from text end)
+    → ys ++ begun rest m (tokens_from text end) ≡ all
+begun_on xs ys all left rest n m k text at end t e f others h step =
+    let place : m ≡ k + 1 = omega (arith, e, f) in
+    ap (λ m. ys ++ begun rest m (tokens_from text end)) place ∙ sym step
+    ∙ ap (λ k. xs ++ begun left k (t ∷ tokens_from text end)) e ∙ ap (λ ts. xs ++ begun left n ts) (sym others) ∙ h
+
+-- where no tokens are, nothing begins
+pub begun_none : (left n : ℕ) → begun left n [] ≡ []
+unfolding begun
+begun_none zero n = refl
+begun_none (suc left) n = refl

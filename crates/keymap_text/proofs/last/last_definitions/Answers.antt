@@ -1,0 +1,27 @@
+use Rattle.std.proofs.Common.{take, refl, sym, subst, arith}
+use Rattle.std.proofs.lemmas.List.{take_all, take_more}
+use Rattle.keymap_text.specs.Inner.LastOf.{HasLast}
+use Rattle.keymap_text.proofs.LastOf.{none_yet, all_slots, all_accents}
+use Rattle.keymap_text.proofs.last.last_definitions.Goals as goal
+
+pub loop-definition-init : goal.loop-definition-init
+loop-definition-init c = none_yet _ refl refl
+
+pub loop-definition-preserved : goal.loop-definition-preserved
+loop-definition-preserved c =
+    let ds = c.args.definitions.now in
+    let i = c.loop-definition.definition-index in
+    subst (HasLast c.put.new.last) (sym (take_more ds i _ (omega arith)))
+    (c.put.ensures (take i ds) c.loop-definition.invariant)
+
+pub returns-clause-slots : goal.returns-clause-slots
+returns-clause-slots c =
+    all_slots c.loop-definition.last c.args.definitions.now
+    (subst (HasLast c.loop-definition.last)
+    (take_all c.loop-definition.definition-index c.args.definitions.now (omega arith)) c.loop-definition.invariant)
+
+pub returns-clause-accents : goal.returns-clause-accents
+returns-clause-accents c =
+    all_accents c.loop-definition.last c.args.definitions.now
+    (subst (HasLast c.loop-definition.last)
+    (take_all c.loop-definition.definition-index c.args.definitions.now (omega arith)) c.loop-definition.invariant)

@@ -1,0 +1,7 @@
+use Rattle.std.proofs.Common.{take}
+use Rattle.keymap_text.specs.Inner.LastOf.{HasLast}
+use Rattle.keymap_text.proofs.last.last_definitions.Given as goal
+
+-- the last ones of those that were passed
+abbrev pub invariant-loop-definition : goal.invariant-loop-definition
+invariant-loop-definition l = HasLast l.last (take l.definition-index l.definitions)

@@ -1,0 +1,19 @@
+use Rattle.std.proofs.Common.{◌≡◌, ◌≤◌, ◌-◌, length, None}
+use Rattle.keymap_text.specs.Meaning.{tokens}
+use Rattle.keymap_text.specs.Places.{AtDefinition}
+use Rattle.keymap_text.specs.Wanted.{row_place, first_refused}
+use Rattle.keymap_text.specs.Inner.Placed.{tokens_from}
+use Rattle.keymap_text.specs.Inner.Wanted.{IsWanted}
+use Rattle.keymap_text.proofs.wanted.wanted_at_fault.Given as goal
+
+-- what the tokens to come lead to is what all lead to
+abbrev pub invariant-loop-token : goal.invariant-loop-token
+invariant-loop-token l = record {
+  within : l.at ≤ length l.text;
+  wanted : IsWanted l.wanted;
+  reached : first_refused (row_place l.wanted) l.definition (tokens_from l.text l.at)
+      ≡ first_refused AtDefinition None (tokens l.text);
+}
+
+abbrev pub decreases-loop-token : goal.decreases-loop-token
+decreases-loop-token l = length l.text - l.at

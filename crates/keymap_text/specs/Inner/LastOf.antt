@@ -1,0 +1,14 @@
+-- The tables of the last definitions. Mirrors `LastDefinitions` of src/last.rt.
+use Rattle.std.specs.Prelude.{◌≡◌, ◌<◌, ℕ, List, length, slice_index_or, None}
+use Rattle.keymap_core.specs.Numbers.{slot_limit, accent_limit}
+use Rattle.keymap_text.specs.declared.placed.Placed.{Placed}
+use Rattle.keymap_text.specs.declared.placed.Defined.TheVariants.{Slot, Accent}
+use Rattle.keymap_text.specs.declared.last.LastDefinitions.{LastDefinitions}
+use Rattle.keymap_text.specs.Placed.{last_of}
+
+-- these are the last ones of the definitions
+pub record HasLast (last : LastDefinitions) (ds : List Placed) : Type 0 where
+  pub slots_length : length last.slots ≡ slot_limit
+  pub accents_length : length last.accents ≡ accent_limit
+  pub slots : (s : ℕ) → s < slot_limit → slice_index_or last.slots s None ≡ last_of (Slot s) ds
+  pub accents : (i : ℕ) → i < accent_limit → slice_index_or last.accents i None ≡ last_of (Accent i) ds

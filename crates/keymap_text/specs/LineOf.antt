@@ -1,0 +1,15 @@
+-- The line of a place in a text.
+use Rattle.std.specs.Prelude.{ℕ, ◌==◌, Bool, List, take, drop}
+use Rattle.std.specs.List.{after_last}
+use Rattle.keymap_text.specs.Lexical.{leading, stays_on_line}
+
+abbrev pub is_feed : ℕ → Bool
+is_feed c = c == 10
+
+-- the bytes of its line that stand before a place: what is behind the last LF
+abbrev pub before_in_line : List ℕ → ℕ → List ℕ
+before_in_line text place = after_last is_feed (take place text)
+
+-- those from the place on, up to the next LF
+abbrev pub rest_of_line : List ℕ → ℕ → List ℕ
+rest_of_line text place = take (leading stays_on_line (drop place text)) (drop place text)

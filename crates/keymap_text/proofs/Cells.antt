@@ -1,6 +1,6 @@
 -- What taking a cell makes of the rest of a text.
-use Rattle.std.proofs.Common.{◌≡◌, ℕ, zero, suc, ◌+◌, ◌-◌, ◌<◌, ◌≤◌, ◌==◌, Bool, true, false, cond, List, length, take, drop, refl}
-use Rattle.std.proofs.Common.{sym, ◌∙◌, ap, subst, arith, Ok, Err, eqb-true, eq-eqb, ne_eqb, true≢false}
+use Rattle.std.proofs.Common.{◌≡◌, ℕ, zero, suc, ◌+◌, ◌-◌, ◌<◌, ◌≤◌, ◌==◌, Bool, true, false, cond, List}
+use Rattle.std.proofs.Common.{length, take, drop, refl, sym, ◌∙◌, ap, subst, arith, Ok, Err, eqb-true, eq-eqb, ne_eqb, true≢false}
 use Rattle.keymap_core.specs.Accents.{AccentValue}
 use Rattle.keymap_core.specs.Maps.{MapValue}
 use Rattle.keymap_core.specs.declared.entry.Entry.{Entry}
@@ -105,7 +105,8 @@ cell_taken r slot i q b n rest t c h m l s k f e =
     let new = behind_cell r i c slot (q + (b + n)) in
     let before = blanks_advance old b rest h m s k in
     advances_on old mid new rest _ b n before refl
-    (token_advances mid new _ t n f before.reader m (accepted r.grammar.map slot i r.grammar.entry r.grammar.accent t c l e)
+    (token_advances mid new _ t n f before.reader m
+    (accepted r.grammar.map slot i r.grammar.entry r.grammar.accent t c l e)
     (record {
       place = is_place slot i r.grammar.accent l;
       keeps = h.keeps;

@@ -91,13 +91,13 @@ pair_taken r index b c i j n rest h m s e room z f g k =
     let h2 : IsReader r2 = record { place = (h.place, room, z); keeps = h.keeps; low = omega (arith, h.low) } in
     let h3 : IsReader r3 = record { place = (h.place, room, z); keeps = h.keeps; low = omega (arith, h.low) } in
     let h4 : IsReader r4 = record { place = h.place; keeps = h.keeps; low = omega (arith, h.low) } in
-    let a1 = token_advances r0 r1 rest Open 1 (left_fronts rest s e) h m (opened map index accent room) h1 refl refl refl
-    refl in
+    let a1 = token_advances r0 r1 rest Open 1 (left_fronts rest s e) h m (opened map index accent room) h1
+    refl refl refl refl in
     let a2 = advances_on r0 r1 r2 rest _ 1 i a1 refl
     (behind_advances r1 r2 _ f.item i f.behind h1 m (based map index accent f.item b f.is z) h2 (omega arith) refl refl
     refl) in
     let a3 = advances_on r0 r2 r3 rest _ (1 + i) j a2 refl
-    (behind_advances r2 r3 _ g.item j g.behind h2 m (resulted map index accent b g.item c g.is) h3 (omega arith) refl refl
-    refl) in
+    (behind_advances r2 r3 _ g.item j g.behind h2 m (resulted map index accent b g.item c g.is) h3 (omega arith)
+    refl refl refl) in
     advances_on r0 r3 r4 rest _ (1 + i + j) n a3 refl
     (behind_advances r3 r4 _ Close n k h3 m (closed map index accent b c) h4 (omega arith) refl refl refl)

@@ -116,7 +116,8 @@ fn space_run(bytes: &[u8]) -> usize
     first_set(others.to_bitmask())
 }
 
-/// How many blanks that end no line stand in front. Where these are spaces before a token, it is seen at once.
+/// How many blanks that end no line stand in front, up to a tab or carriage return behind spaces: spaces are seen at
+/// once, and what else stands in front is measured as a whole.
 #[inline(always)]
 #[tactic(auto, using(crate::proofs::Leading::plain_spaces, crate::proofs::Leading::leading_le))]
 pub(crate) fn space_len(bytes: &[u8]) -> usize
@@ -125,7 +126,7 @@ pub(crate) fn space_len(bytes: &[u8]) -> usize
 {
     if bytes.len() >= 16 {
         let run = space_run(bytes);
-        if run < 16 && bytes[run] > b'\r' {
+        if run > 0 && run < 16 {
             return run;
         }
     }

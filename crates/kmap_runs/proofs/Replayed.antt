@@ -267,7 +267,8 @@ answer-replays m Never answer = said (codes " never sticks") refl
 answer-replays m (Undecided p) answer =
     λ small. said ((codes " undecided: no list of up to " ++ decimal p) ++ codes " presses sticks")
     (feed-append (codes " undecided: no list of up to " ++ decimal p) (codes " presses sticks")
-    (feed-append (codes " undecided: no list of up to ") (decimal p) refl (feed-digits (decimal p) (number p small))) refl)
+    (feed-append (codes " undecided: no list of up to ") (decimal p) refl (feed-digits (decimal p) (number p small)))
+    refl)
 
 -- ---- a sentence that was typed and played
 

@@ -8,8 +8,8 @@
 //! It stands on all other libraries of the workspace but that for C, and on nothing that opens files or reads a command
 //! line. Each contract is exact on the bytes that are taken and given (`specs/Runs.antt`, `specs/TypeRuns.antt`,
 //! `specs/FaultLine.antt`): what is written is the defined text, or after a fault of the writer its first bytes, and
-//! nothing after any other refusal; a device is blamed only if it failed. The module `laws` says that what is printed as
-//! a script is one, and what it does when it is played.
+//! nothing after any other refusal; a device is blamed only if it failed. The module `laws` says that what is printed
+//! as a script is one, and what it does when it is played.
 #![tactic(auto)]
 
 mod code_point;

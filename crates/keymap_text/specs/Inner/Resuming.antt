@@ -156,8 +156,8 @@ moved r p q = record {
   line = r.line;
 }
 
--- What was done with a cell that is wanted, whatever the slot and the offset: it was taken with the blanks before it, or
--- nothing was, or there is a fault behind the blanks.
+-- What was done with a cell that is wanted, whatever the slot and the offset: it was taken with the blanks before it,
+-- or nothing was, or there is a fault behind the blanks.
 abbrev pub TookCell : Result ℕ TextFaultKind → Scanner → Scanner → ℕ → List ℕ → Type 0
 TookCell (Ok n) old new i rest = record {
   mode : new.mode ≡ old.mode;

@@ -48,5 +48,5 @@ returns c =
     let stands = subst (λ s. Advances start s rest taken) (sym c.stop_at-2.ensures)
     (stands_advances start _ rest taken c.loop-index.invariant.stands) in
     advances_on start letter c.line_end.new.self rest _ (taken + c.letter-taken.result) c.line_end.result
-    (letter_behind start c.stop_at-2.new.self letter rest taken c.letter-taken.result stands c.letter-taken.ensures.taken
-    c.letter-taken.ensures.none) refl c.line_end.ensures
+    (letter_behind start c.stop_at-2.new.self letter rest taken c.letter-taken.result stands
+    c.letter-taken.ensures.taken c.letter-taken.ensures.none) refl c.line_end.ensures

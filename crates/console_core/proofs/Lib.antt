@@ -3,6 +3,7 @@ pub mod Bearing
 pub mod Borne
 pub mod Bytes
 pub mod Codes
+pub mod Deciding
 pub mod Deliveries
 pub mod Facts
 pub mod FreshPresses
@@ -21,4 +22,5 @@ pub mod Searching
 pub mod Since
 pub mod Staying
 pub mod Traps
+pub mod Twice
 pub mod WordBits

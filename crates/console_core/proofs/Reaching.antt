@@ -14,9 +14,10 @@ use Rattle.std.proofs.lemmas.Option.{slice_get-get_or}
 use Rattle.keymap_core.specs.declared.action.Modifier.TheVariants.{LeftShift}
 use Rattle.keymap_core.specs.declared.action.Lock.TheVariants.{Caps}
 use Rattle.keymap_core.specs.Actions.{modifiers, locks, modifier_index, lock_index}
-use Rattle.keymap_core.specs.Maps.{MapValue}
 use Rattle.console_core.specs.declared.held.Held.{Held}
 use Rattle.console_core.specs.Inner.Searching.{state_of, Entry, Entries, Searched, IsReached, AreWithin}
+use Rattle.console_core.specs.Inner.HeldBytes.{AreSame}
+use Rattle.console_core.specs.Moves.{Under}
 use Rattle.console_core.specs.Sticking.{ReachesMoreThan}
 use Rattle.console_core.proofs.Searching.{none_entry, some_entries}
 
@@ -50,7 +51,7 @@ same_at xs ys n d e f at =
     get_or_default xs k c d lt ∙ at k below ∙ sym (get_or_default ys k c d other))
 
 -- tables of the same state are the same
-same_tables : (x y : Held) → state_of x ≡ state_of y → (x.holders ≡ y.holders) × (x.locks ≡ y.locks)
+same_tables : (x y : Held) → state_of x ≡ state_of y → AreSame x y
 same_tables x y e = (
   same_at x.holders y.holders 8 None x.holders_len y.holders_len
       (λ k lt. subst (λ n. get_or x.holders n None ≡ get_or y.holders n None) (modifier_place k lt)
@@ -58,6 +59,7 @@ same_tables x y e = (
   same_at x.locks y.locks 4 false x.locks_len y.locks_len
       (λ k lt. subst (λ n. get_or x.locks n false ≡ get_or y.locks n false) (lock_place k lt)
       (ap (λ s. s.is_locked (get_or locks k Caps)) e)),
+  ap (λ s. s.is_second) e,
 )
 
 -- equal tables test equal
@@ -73,15 +75,17 @@ option_self E f (Some a) = f a
 -- tables of the same state pass the test for equality
 pub tables-test : (E : ℕ → ℕ → Bool) (F : Bool → Bool → Bool) → ((a : ℕ) → E a a ≡ true) → ((b : Bool) → F b b ≡ true)
     → (x y : Held) → state_of x ≡ state_of y
-    → (pointwise (option_eq E) x.holders y.holders && pointwise F x.locks y.locks) ≡ true
+    → (pointwise (option_eq E) x.holders y.holders && (pointwise F x.locks y.locks && F x.is_second y.is_second)) ≡ true
 tables-test E F f g x y e =
-    let p : (x.holders ≡ y.holders) × (x.locks ≡ y.locks) = same_tables x y e in
+    let p : AreSame x y = same_tables x y e in
     let holders : pointwise (option_eq E) x.holders y.holders ≡ true =
     subst (λ z. pointwise (option_eq E) x.holders z ≡ true) p.0
     (pointwise_self (option_eq E) (option_self E f) x.holders) in
     let locked : pointwise F x.locks y.locks ≡ true =
     subst (λ z. pointwise F x.locks z ≡ true) p.1 (pointwise_self F g x.locks) in
-    ap (λ b. b && pointwise F x.locks y.locks) holders ∙ locked
+    let second : F x.is_second y.is_second ≡ true = subst (λ z. F x.is_second z ≡ true) p.2 (g x.is_second) in
+    ap (λ b. b && (pointwise F x.locks y.locks && F x.is_second y.is_second)) holders
+    ∙ ap (λ b. b && F x.is_second y.is_second) locked ∙ second
 
 pub beq-self : (b : Bool) → beq b b ≡ true
 beq-self true = refl
@@ -108,10 +112,10 @@ distinct-at E (e ∷ es) d (suc j) (suc k) x y lt at_j at_k =
 
 -- more than n distinct entries are more than n states that paths of their presses lead to
 pub reaches-more : (E : Held → Held → Bool) → ((x y : Held) → state_of x ≡ state_of y → E x y ≡ true)
-    → (m : MapValue) (es : Entries) (a b n p : ℕ) → Searched m es a b → AreWithin es p → n < length es
+    → (u : Under) (es : Entries) (a b n p : ℕ) → Searched u es a b → AreWithin es p → n < length es
     → IsDistinct E (keys_of es)
-    → ReachesMoreThan m n p
-reaches-more E test m es a b n p s within more distinct =
+    → ReachesMoreThan u n p
+reaches-more E test u es a b n p s within more distinct =
     let d : Entry = s.start.1 in
     let at : (j : ℕ) → j ≤ n → slice_get es j ≡ Some (get_or es j d) =
     λ j le. slice_get-get_or es j d (omega (arith, le, more)) in
@@ -122,7 +126,7 @@ reaches-more E test m es a b n p s within more distinct =
       (λ j. state_of (get_or es j d).0),
       (λ j le. (s.reached j (get_or es j d) (at j le)).5),
       (λ j le.
-          let r : IsReached m es j (get_or es j d) = s.reached j (get_or es j d) (at j le) in
+          let r : IsReached u es j (get_or es j d) = s.reached j (get_or es j d) (at j le) in
           let few : (get_or es j d).1.presses ≤ p = within j (get_or es j d) (at j le) in
           (r.0, r.2, omega (arith, few, r.4), r.3)),
       (λ j k le_j le_k e. elim (cases_lt j k) [

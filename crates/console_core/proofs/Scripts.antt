@@ -20,29 +20,28 @@ use Rattle.keymap_core.specs.Actions.{same_action, same_modifier, same_lock, mod
 use Rattle.keymap_core.specs.Maps.{MapValue}
 use Rattle.keymap_core.proofs.SameActions.{same_action-true, same_action-refl}
 use Rattle.console_core.specs.declared.event.Event.{Event}
-use Rattle.console_core.specs.declared.event.Event.TheVariants.{Press, Release}
+use Rattle.console_core.specs.declared.event.Event.TheVariants.{Press, Release, Load}
 use Rattle.console_core.specs.Resolved.{ResolvedEvent, held, remembered, taken_over, is_this_action, look}
 use Rattle.console_core.specs.Resolved.{resolve_press}
-use Rattle.console_core.specs.Resolved.ResolvedEvent.{PressedCharacter, PressedAction, ReleasedKey}
-use Rattle.console_core.specs.History.{Maps, between, resolved, is_on_after, pressed, HasKey, HasKeys, IsNoLoad}
-use Rattle.console_core.specs.History.{HasNoLoads}
-use Rattle.console_core.specs.History.{IsQuiet}
+use Rattle.console_core.specs.Resolved.ResolvedEvent.{PressedCharacter, PressedAction, ReleasedKey, WasLoaded}
+use Rattle.console_core.specs.History.{Maps, resolved, is_on_after, is_second_in_force, pressed, HasKey}
+use Rattle.console_core.specs.History.{HasKeys, IsQuiet}
 use Rattle.console_core.specs.declared.held.Move.{Move}
-use Rattle.console_core.specs.declared.held.Move.TheVariants.{Hold, Turn, LetGo}
-use Rattle.console_core.specs.Moves.{State, start, look_in, Holds, IsIdle, with_holder, with_lock_turned, IsMove, moved}
-use Rattle.console_core.specs.Moves.{HolderForgets, state_after, IsPath, events_of_move, events_along, release_of}
-use Rattle.console_core.specs.Moves.{releases}
-use Rattle.console_core.specs.Moves.{script_of_path, IsForgetful}
-use Rattle.console_core.specs.Moves.{presses_of, presses_along}
-use Rattle.console_core.specs.Sticking.{IsPressOrRelease, presses, SticksIfReached, NeverSticksUnlessReached}
+use Rattle.console_core.specs.declared.held.Move.TheVariants.{Hold, Turn, LetGo, Exchange}
+use Rattle.console_core.specs.Moves.{Under, State, start, map_of, look_in, Holds, IsIdle, with_holder}
+use Rattle.console_core.specs.Moves.{with_lock_turned, exchanged, IsFree, IsMove, moved, HolderForgets, state_after}
+use Rattle.console_core.specs.Moves.{IsPath, events_of_move, events_along, release_of, releases, script_of_path}
+use Rattle.console_core.specs.Moves.{presses_of, presses_along, IsForgetful}
+use Rattle.console_core.specs.Inner.Searching.{IsSent, NeverUnder}
+use Rattle.console_core.specs.Sticking.{presses, SticksBetween, NeverForgets}
 use Rattle.console_core.proofs.OneMore.{resolved-start, resolved-more, held-start, held-character, held-action}
-use Rattle.console_core.proofs.OneMore.{held-release, remembered-start, remembered-character, remembered-action}
-use Rattle.console_core.proofs.OneMore.{remembered-release, pressed-start, pressed-press, pressed-release}
+use Rattle.console_core.proofs.OneMore.{held-release, held-load, remembered-start, remembered-character}
+use Rattle.console_core.proofs.OneMore.{remembered-action, remembered-release, remembered-load, pressed-start}
+use Rattle.console_core.proofs.OneMore.{pressed-press, pressed-release, pressed-load}
 use Rattle.console_core.proofs.Bearing.{none_some}
-use Rattle.console_core.proofs.OneMap.{first_in_force}
 use Rattle.console_core.proofs.Staying.{Follows, follows-look, follows-start, follows-hold, follows-turn}
-use Rattle.console_core.proofs.Staying.{follows-let_go, follows-release, takes, same_mods, some_mods, some_none}
-use Rattle.console_core.proofs.Staying.{some_keys, not_true, IsSafeBelow, never-sticks}
+use Rattle.console_core.proofs.Staying.{follows-let_go, follows-release, follows-load, takes, same_mods, some_mods}
+use Rattle.console_core.proofs.Staying.{some_none, some_keys, not_true, IsSafeBelow, never-sticks}
 
 -- the key holds some modifier
 abbrev pub HoldsSome : State → ℕ → Type 0
@@ -171,22 +170,31 @@ exact-let_go r s k i x holds = record {
       ∙ ap (λ b. b && not (is_this_action (remembered k r) (act.Lock l))) (x.up l);
 }
 
+-- a load, where nothing is held
+exact-exchange : (m : MapValue) (r : List ResolvedEvent) (s : State) → Exact r s → IsFree s
+    → Exact (WasLoaded m ∷ r) (exchanged m s)
+exact-exchange m r s x free = record {
+  follows = follows-load m r s x.follows.locked free;
+  only = λ k a e. absurd (none_some a (sym (remembered-load k m r) ∙ e));
+  up = λ l. held-load (holding.Lock l) m r;
+}
+
 -- The events lead to the state, and only holders are pressed after them.
-pub record Stands (ms : Maps) (h : List Event) (s : State) : Type 0 where
-  pub exact : Exact (resolved ms h) s
+pub record Stands (u : Under) (h : List Event) (s : State) : Type 0 where
+  pub exact : Exact (resolved u.maps h) s
+  pub second : s.is_second ≡ is_second_in_force h
   pub key : (i : Modifier) (k : ℕ) → Holds s k i → k < 128
   pub pressed : (k : ℕ) → pressed k h ≡ true → HoldsSome s k
   pub keys : HasKeys h
-  pub no_loads : HasNoLoads h
 
 -- a press, by what is looked up
-pressed-look : (ms : Maps) (h : List Event) (s : State) (k : ℕ) (x : Cell) → Follows (resolved ms h) s → HasNoLoads h
-    → look_in ms.first s k ≡ x → resolved ms (Press k ∷ h) ≡ resolve_press k x ∷ resolved ms h
-pressed-look ms h s k x f no_loads seen =
-    resolved-more ms h (Press k)
-    ∙ ap (λ y. resolve_press k y ∷ resolved ms h)
-    (ap (λ m. look m (resolved ms h) k) (first_in_force ms h no_loads) ∙ follows-look ms.first (resolved ms h) s k f
-    ∙ seen)
+pressed-look : (u : Under) (h : List Event) (s : State) (k : ℕ) (x : Cell) → Follows (resolved u.maps h) s
+    → s.is_second ≡ is_second_in_force h → look_in u s k ≡ x
+    → resolved u.maps (Press k ∷ h) ≡ resolve_press k x ∷ resolved u.maps h
+pressed-look u h s k x f second seen =
+    resolved-more u.maps h (Press k)
+    ∙ ap (λ y. resolve_press k y ∷ resolved u.maps h)
+    (ap (λ b. look (map_of u b) (resolved u.maps h) k) (sym second) ∙ follows-look u (resolved u.maps h) s k f ∙ seen)
 
 -- a holder is a key after one more hold
 key_hold : (s : State) (i j : Modifier) (k n : ℕ) (t : Bool) → k < 128 → (Holds s n j → n < 128)
@@ -201,12 +209,13 @@ key_let_go s j n true f h = absurd (some_none n None h refl)
 key_let_go s j n false f h = f h
 
 -- the events of a move lead from a state to the next
-stands-move : (ms : Maps) (h : List Event) (s : State) (move : Move) → IsMove ms.first s move → Stands ms h s
-    → Stands ms (events_of_move move ++ h) (moved s move)
-stands-move ms h s (Hold k i) (lt, idle, seen, free) x = record {
+stands-move : (u : Under) (h : List Event) (s : State) (move : Move) → IsMove u s move → Stands u h s
+    → Stands u (events_of_move move ++ h) (moved u s move)
+stands-move u h s (Hold k i) (lt, idle, seen, free) x = record {
   exact =
-      rw (pressed-look ms h s k (Act (act.Mod i)) x.exact.follows x.no_loads seen)
-      (exact-hold (resolved ms h) s k i x.exact idle free);
+      rw (pressed-look u h s k (Act (act.Mod i)) x.exact.follows x.second seen)
+      (exact-hold (resolved u.maps h) s k i x.exact idle free);
+  second = x.second;
   key = λ j n p. key_hold s i j k n (same_modifier i j) lt (x.key j n) p;
   pressed = λ n p. elim (cases_Bool (k == n)) [
     | inl t ↦ (i, subst (λ y. Holds (with_holder s i (Some k)) y i) (eqb-true k n t) (hold-self s i k))
@@ -215,15 +224,15 @@ stands-move ms h s (Hold k i) (lt, idle, seen, free) x = record {
         (x.pressed n (sym (pressed-press n k h ∙ ap (λ b. if b then true else pressed n h) t) ∙ p))
   ];
   keys = All-cons HasKey (Press k) h lt x.keys;
-  no_loads = All-cons IsNoLoad (Press k) h refl x.no_loads;
 }
-stands-move ms h s (Turn k l) (lt, idle, seen) x = record {
+stands-move u h s (Turn k l) (lt, idle, seen) x = record {
   exact =
       rw (
-        resolved-more ms (Press k ∷ h) (Release k),
-        pressed-look ms h s k (Act (act.Lock l)) x.exact.follows x.no_loads seen,
+        resolved-more u.maps (Press k ∷ h) (Release k),
+        pressed-look u h s k (Act (act.Lock l)) x.exact.follows x.second seen,
       )
-      (exact-turn (resolved ms h) s k l x.exact idle);
+      (exact-turn (resolved u.maps h) s k l x.exact idle);
+  second = x.second;
   key = x.key;
   pressed = λ n p. elim (cases_Bool (k == n)) [
     | inl t ↦
@@ -236,10 +245,10 @@ stands-move ms h s (Turn k l) (lt, idle, seen) x = record {
         ∙ p)
   ];
   keys = All-cons HasKey (Release k) (Press k ∷ h) lt (All-cons HasKey (Press k) h lt x.keys);
-  no_loads = All-cons IsNoLoad (Release k) (Press k ∷ h) refl (All-cons IsNoLoad (Press k) h refl x.no_loads);
 }
-stands-move ms h s (LetGo k i) holds x = record {
-  exact = rw (resolved-more ms h (Release k)) (exact-let_go (resolved ms h) s k i x.exact holds);
+stands-move u h s (LetGo k i) holds x = record {
+  exact = rw (resolved-more u.maps h (Release k)) (exact-let_go (resolved u.maps h) s k i x.exact holds);
+  second = x.second;
   key = λ j n p. key_let_go s j n (same_modifier i j) (x.key j n) p;
   pressed = λ n p. elim (cases_Bool (k == n)) [
     | inl t ↦ absurd (true≢false (sym p ∙ pressed-release n k h ∙ ap (λ b. if b then false else pressed n h) t))
@@ -248,34 +257,42 @@ stands-move ms h s (LetGo k i) holds x = record {
         (x.pressed n (sym (pressed-release n k h ∙ ap (λ b. if b then false else pressed n h) t) ∙ p))
   ];
   keys = All-cons HasKey (Release k) h (x.key i k holds) x.keys;
-  no_loads = All-cons IsNoLoad (Release k) h refl x.no_loads;
+}
+stands-move u h s Exchange (free, loads) x = record {
+  exact =
+      rw (resolved-more u.maps h Load)
+      (subst (λ b. Exact (WasLoaded (map_of u (not b)) ∷ resolved u.maps h) (exchanged (map_of u (not s.is_second)) s))
+      x.second (exact-exchange (map_of u (not s.is_second)) (resolved u.maps h) s x.exact free));
+  second = ap not x.second;
+  key = x.key;
+  pressed = λ n p. absurd (true≢false (sym p ∙ pressed-load n h));
+  keys = All-cons HasKey Load h tt x.keys;
 }
 
 -- no events lead to the start
-stands-start : (ms : Maps) → Stands ms [] start
-stands-start ms = record {
-  exact = rw (resolved-start ms) (record {
+stands-start : (u : Under) → Stands u [] start
+stands-start u = record {
+  exact = rw (resolved-start u.maps) (record {
     follows = follows-start;
     only = λ k a e. absurd (none_some a (sym (remembered-start k) ∙ e));
     up = λ l. held-start (holding.Lock l);
   });
+  second = refl;
   key = λ i k h. absurd (some_none k None h refl);
   pressed = λ k p. absurd (true≢false (sym p ∙ pressed-start k));
   keys = All-nil HasKey;
-  no_loads = All-nil IsNoLoad;
 }
 
 -- A console stands in the state of a path after the events along it.
-pub stands : (ms : Maps) (path : List Move) → IsPath ms.first path → Stands ms (events_along path) (state_after path)
-stands ms [] is = stands-start ms
-stands ms (move ∷ path) is = stands-move ms (events_along path) (state_after path) move is.0 (stands ms path is.1)
+pub stands : (u : Under) (path : List Move) → IsPath u path → Stands u (events_along path) (state_after u path)
+stands u [] is = stands-start u
+stands u (move ∷ path) is = stands-move u (events_along path) (state_after u path) move is.0 (stands u path is.1)
 
 -- The modifier is on, and no key remembers it.
 pub record IsLeft (ms : Maps) (h : List Event) (i : Modifier) : Type 0 where
   pub on : is_on_after ms i h ≡ true
   pub nobody : (k : ℕ) → remembered k (resolved ms h) ≡ Some (act.Mod i) → ⊥
   pub keys : HasKeys h
-  pub no_loads : HasNoLoads h
 
 -- an option that isn't the action fails the test
 is_not : (o : Option Action) (a : Action) → (o ≡ Some a → ⊥) → is_this_action o a ≡ false
@@ -283,25 +300,25 @@ is_not None a f = refl
 is_not (Some b) a f = not_true (same_action b a) (λ e. f (ap (λ x. Some x) (same_action-true b a e)))
 
 -- a holder that looks up a character leaves its modifier on
-left-character : (ms : Maps) (h : List Event) (s : State) (i : Modifier) (k : ℕ) → Stands ms h s
-    → HolderForgets ms.first s i k → IsLeft ms (Press k ∷ h) i
-left-character ms h s i k x (holds, (c, seen)) =
-    let now : resolved ms (Press k ∷ h) ≡ PressedCharacter k c ∷ resolved ms h =
-    pressed-look ms h s k (Char c) x.exact.follows x.no_loads seen in
+left-character : (u : Under) (h : List Event) (s : State) (i : Modifier) (k : ℕ) → Stands u h s
+    → HolderForgets u s i k → IsLeft u.maps (Press k ∷ h) i
+left-character u h s i k x (holds, (c, seen)) =
+    let now : resolved u.maps (Press k ∷ h) ≡ PressedCharacter k c ∷ resolved u.maps h =
+    pressed-look u h s k (Char c) x.exact.follows x.second seen in
     record {
       on =
-          ap (λ r. held (holding.Mod i) r) now ∙ held-character (holding.Mod i) k c (resolved ms h)
+          ap (λ r. held (holding.Mod i) r) now ∙ held-character (holding.Mod i) k c (resolved u.maps h)
           ∙ x.exact.follows.on i ∙ ap (λ o. is_some o) holds;
       nobody = λ n e. elim (cases_Bool (k == n)) [
         | inl t ↦
             none_some (act.Mod i)
-            (sym (ap (λ r. remembered n r) now ∙ remembered-character n k c (resolved ms h)
-            ∙ ap (λ b. if b then None else remembered n (resolved ms h)) t)
+            (sym (ap (λ r. remembered n r) now ∙ remembered-character n k c (resolved u.maps h)
+            ∙ ap (λ b. if b then None else remembered n (resolved u.maps h)) t)
             ∙ e)
         | inr t ↦
-            let q : remembered n (resolved ms h) ≡ Some (act.Mod i) =
-            sym (ap (λ r. remembered n r) now ∙ remembered-character n k c (resolved ms h)
-            ∙ ap (λ b. if b then None else remembered n (resolved ms h)) t)
+            let q : remembered n (resolved u.maps h) ≡ Some (act.Mod i) =
+            sym (ap (λ r. remembered n r) now ∙ remembered-character n k c (resolved u.maps h)
+            ∙ ap (λ b. if b then None else remembered n (resolved u.maps h)) t)
             ∙ e in
             let p : HoldsSome s n = x.exact.only n (act.Mod i) q in
             let same : p.0 ≡ i = some_mods p.0 i (sym (x.exact.follows.holds p.0 n p.1) ∙ q) in
@@ -309,7 +326,6 @@ left-character ms h s i k x (holds, (c, seen)) =
             true≢false (sym (eq-eqb k n key) ∙ t)
       ];
       keys = All-cons HasKey (Press k) h (x.key i k holds) x.keys;
-      no_loads = All-cons IsNoLoad (Press k) h refl x.no_loads;
     }
 
 -- what is on and isn't lowered stays on
@@ -339,7 +355,6 @@ left-release ms h i k lt x =
             ∙ e)
       ];
       keys = All-cons HasKey (Release k) h lt x.keys;
-      no_loads = All-cons IsNoLoad (Release k) h refl x.no_loads;
     }
 
 -- the release of a holder, if there is one, keeps it so
@@ -401,9 +416,9 @@ holds-none s k AltShift n = n.1.1.1.1.1.1.0
 holds-none s k Meta n = n.1.1.1.1.1.1.1.0
 
 -- after the releases of all holders no key is pressed
-quiet-after : (ms : Maps) (h : List Event) (s : State) (i : Modifier) (k : ℕ) → Stands ms h s → Holds s k i
+quiet-after : (u : Under) (h : List Event) (s : State) (i : Modifier) (k : ℕ) → Stands u h s → Holds s k i
     → IsQuiet (releases s modifiers ++ (Press k ∷ h))
-quiet-after ms h s i k x holds n lt =
+quiet-after u h s i k x holds n lt =
     not_true (pressed n (releases s modifiers ++ (Press k ∷ h))) (λ p.
     let q : HoldsNone s n modifiers × (pressed n (Press k ∷ h) ≡ true) = released n (Press k ∷ h) s modifiers p in
     elim (cases_Bool (k == n)) [
@@ -414,30 +429,33 @@ quiet-after ms h s i k x holds n lt =
           holds-none s n w.0 q.0 w.1
     ])
 
--- presses and releases alone
-of_keys-release : (o : Option ℕ) (h : List Event) → All IsPressOrRelease h → All IsPressOrRelease (release_of o ++ h)
-of_keys-release None h x = x
-of_keys-release (Some k) h x = All-cons IsPressOrRelease (Release k) h tt x
+-- presses, releases and, where there are any, loads
+sent-release : (u : Under) (o : Option ℕ) (h : List Event) → All (IsSent u) h → All (IsSent u) (release_of o ++ h)
+sent-release u None h x = x
+sent-release u (Some k) h x = All-cons (IsSent u) (Release k) h tt x
 
--- releases of holders are presses or releases
-of_keys-releases : (s : State) (more : List Modifier) (h : List Event) → All IsPressOrRelease h
-    → All IsPressOrRelease (releases s more ++ h)
-of_keys-releases s [] h x = x
-of_keys-releases s (i ∷ more) h x =
+-- releases of holders are sent
+sent-releases : (u : Under) (s : State) (more : List Modifier) (h : List Event) → All (IsSent u) h
+    → All (IsSent u) (releases s more ++ h)
+sent-releases u s [] h x = x
+sent-releases u s (i ∷ more) h x =
     rw (apart (s.holder i) (releases s more) h)
-    (of_keys-release (s.holder i) (releases s more ++ h) (of_keys-releases s more h x))
+    (sent-release u (s.holder i) (releases s more ++ h) (sent-releases u s more h x))
 
--- the events of a move are presses or releases
-of_keys-move : (move : Move) (h : List Event) → All IsPressOrRelease h → All IsPressOrRelease (events_of_move move ++ h)
-of_keys-move (Hold k i) h x = All-cons IsPressOrRelease (Press k) h tt x
-of_keys-move (Turn k l) h x =
-    All-cons IsPressOrRelease (Release k) (Press k ∷ h) tt (All-cons IsPressOrRelease (Press k) h tt x)
-of_keys-move (LetGo k i) h x = All-cons IsPressOrRelease (Release k) h tt x
+-- the events of a move are sent
+sent-move : (u : Under) (s : State) (move : Move) (h : List Event) → IsMove u s move → All (IsSent u) h
+    → All (IsSent u) (events_of_move move ++ h)
+sent-move u s (Hold k i) h is x = All-cons (IsSent u) (Press k) h tt x
+sent-move u s (Turn k l) h is x =
+    All-cons (IsSent u) (Release k) (Press k ∷ h) tt (All-cons (IsSent u) (Press k) h tt x)
+sent-move u s (LetGo k i) h is x = All-cons (IsSent u) (Release k) h tt x
+sent-move u s Exchange h is x = All-cons (IsSent u) Load h is.1 x
 
--- the events along a path are presses or releases
-of_keys-along : (path : List Move) → All IsPressOrRelease (events_along path)
-of_keys-along [] = All-nil IsPressOrRelease
-of_keys-along (move ∷ path) = of_keys-move move (events_along path) (of_keys-along path)
+-- the events along a path are sent
+sent-along : (u : Under) (path : List Move) → IsPath u path → All (IsSent u) (events_along path)
+sent-along u [] is = All-nil (IsSent u)
+sent-along u (move ∷ path) is =
+    sent-move u (state_after u path) move (events_along path) is.0 (sent-along u path is.1)
 
 -- how many presses the script has
 presses-release : (o : Option ℕ) (h : List Event) → presses (release_of o ++ h) ≡ presses h
@@ -456,6 +474,7 @@ presses-move : (move : Move) (h : List Event) → presses (events_of_move move +
 presses-move (Hold k i) h = omega arith
 presses-move (Turn k l) h = omega arith
 presses-move (LetGo k i) h = omega arith
+presses-move Exchange h = omega arith
 
 -- the events along a path have as many presses as the path
 presses-along : (path : List Move) → presses (events_along path) ≡ presses_along path
@@ -463,53 +482,53 @@ presses-along [] = refl
 presses-along (move ∷ path) = presses-move move (events_along path) ∙ ap (λ n. n + presses_of move) (presses-along path)
 
 -- a script has one press more than its path
-pub presses-script : (path : List Move) (k : ℕ) → presses (script_of_path path k) ≡ suc (presses_along path)
-presses-script path k =
-    presses-releases (state_after path) modifiers (Press k ∷ events_along path) ∙ ap suc (presses-along path)
+pub presses-script : (u : Under) (path : List Move) (k : ℕ)
+    → presses (script_of_path u path k) ≡ suc (presses_along path)
+presses-script u path k =
+    presses-releases (state_after u path) modifiers (Press k ∷ events_along path) ∙ ap suc (presses-along path)
 
 -- the script to a state where a holder looks up a character leaves its modifier on
-left-after : (ms : Maps) (path : List Move) → IsPath ms.first path → (i : Modifier) (k : ℕ)
-    → HolderForgets ms.first (state_after path) i k → IsLeft ms (script_of_path path k) i
-left-after ms path is i k forgets =
-    let x : Stands ms (events_along path) (state_after path) = stands ms path is in
-    left-releases ms (Press k ∷ events_along path) (state_after path) i modifiers x.key
-    (left-character ms (events_along path) (state_after path) i k x forgets)
+left-after : (u : Under) (path : List Move) → IsPath u path → (i : Modifier) (k : ℕ)
+    → HolderForgets u (state_after u path) i k → IsLeft u.maps (script_of_path u path k) i
+left-after u path is i k forgets =
+    let x : Stands u (events_along path) (state_after u path) = stands u path is in
+    left-releases u.maps (Press k ∷ events_along path) (state_after u path) i modifiers x.key
+    (left-character u (events_along path) (state_after u path) i k x forgets)
 
 -- a path to a state where a holder looks up a character makes a modifier stick
-pub sticks_if_reached : SticksIfReached
-sticks_if_reached m path is i k forgets =
-    let ms : Maps = between m m in (
-      (left-after ms path is i k forgets).keys,
-      of_keys-releases (state_after path) modifiers (Press k ∷ events_along path)
-          (All-cons IsPressOrRelease (Press k) (events_along path) tt (of_keys-along path)),
-      (
-        quiet-after ms (events_along path) (state_after path) i k (stands ms path is) forgets.0,
-        (λ ns first. (left-after ns path (subst (λ x. IsPath x path) (sym first) is) i k
-            (subst (λ x. HolderForgets x (state_after path) i k) (sym first) forgets)).on),
-      ),
+pub script-sticks : (u : Under) (path : List Move) → IsPath u path → (i : Modifier) (k : ℕ)
+    → HolderForgets u (state_after u path) i k
+    → HasKeys (script_of_path u path k) × All (IsSent u) (script_of_path u path k)
+    × SticksBetween u.maps (script_of_path u path k) i
+script-sticks u path is i k forgets =
+    let left : IsLeft u.maps (script_of_path u path k) i = left-after u path is i k forgets in (
+      left.keys,
+      sent-releases u (state_after u path) modifiers (Press k ∷ events_along path)
+          (All-cons (IsSent u) (Press k) (events_along path) tt (sent-along u path is)),
+      (quiet-after u (events_along path) (state_after u path) i k (stands u path is) forgets.0, left.on),
     )
 
 -- the states that paths lead to
-abbrev Reached : MapValue → State → Type 0
-Reached m s = (path : List Move) × IsPath m path × (state_after path ≡ s)
+abbrev Reached : Under → State → Type 0
+Reached u s = (path : List Move) × IsPath u path × (state_after u path ≡ s)
 
 -- a move from a state that is reached reaches the next
-reached-more : (m : MapValue) (s : State) (move : Move) → Reached m s → IsMove m s move → Reached m (moved s move)
-reached-more m s move there is =
-    (move ∷ there.0, (subst (λ x. IsMove m x move) (sym there.2) is, there.1), ap (λ x. moved x move) there.2)
+reached-more : (u : Under) (s : State) (move : Move) → Reached u s → IsMove u s move → Reached u (moved u s move)
+reached-more u s move there is =
+    (move ∷ there.0, (subst (λ x. IsMove u x move) (sym there.2) is, there.1), ap (λ x. moved u x move) there.2)
 
 -- where no path leads to such a state, the states that are reached are safe
-reached-safe : (m : MapValue) → ((path : List Move) → IsPath m path → IsForgetful m (state_after path) → ⊥) → (n : ℕ)
-    → IsSafeBelow m n (λ p s. Reached m s)
-reached-safe m never n = record {
+reached-safe : (u : Under) → NeverForgets u → (n : ℕ) → IsSafeBelow u n (λ p s. Reached u s)
+reached-safe u never n = record {
   start = ([], tt, refl);
-  let_go = λ p lt s k i there h. reached-more m s (LetGo k i) there h;
+  let_go = λ p lt s k i there h. reached-more u s (LetGo k i) there h;
+  exchange = λ p lt s there is. reached-more u s Exchange there is;
   more = λ p s there. there;
-  hold = λ p lt s k i there is. reached-more m s (Hold k i) there is;
-  turn = λ p lt s k l there is. reached-more m s (Turn k l) there is;
-  safe = λ p lt s there forgetful. never there.0 there.1 (subst (λ x. IsForgetful m x) (sym there.2) forgetful);
+  hold = λ p lt s k i there is. reached-more u s (Hold k i) there is;
+  turn = λ p lt s k l there is. reached-more u s (Turn k l) there is;
+  safe = λ p lt s there forgetful. never there.0 there.1 (subst (λ x. IsForgetful u x) (sym there.2) forgetful);
 }
 
 -- without such a path no modifier ever sticks
-pub never_sticks_unless_reached : NeverSticksUnlessReached
-never_sticks_unless_reached m never = never-sticks m (λ p s. Reached m s) (reached-safe m never)
+pub never-unless_reached : (u : Under) → NeverForgets u → NeverUnder u
+never-unless_reached u never = never-sticks u (λ p s. Reached u s) (reached-safe u never)

@@ -1,8 +1,8 @@
 -- What was met stays met, and what the search concludes from it.
 use Prim.Native.Nat.{zero, suc}
-use Rattle.std.proofs.Common.{◌≡◌, ◌≢◌, ℕ, ◌+◌, ◌<◌, ◌≤◌, Bool, true, false, cond, ◌⊎◌, inl, inr, All, IfSome, not}
-use Rattle.std.proofs.Common.{List, [], ◌∷◌, ◌++◌, length, get_or, take, slice_get, slice_index_or, Option, Some, None}
-use Rattle.std.proofs.Common.{refl, ap, subst, sym, ◌∙◌, arith, append_assoc, if◌then◌else◌}
+use Rattle.std.proofs.Common.{◌≡◌, ◌≢◌, ℕ, ◌+◌, ◌<◌, ◌≤◌, Bool, true, false, ◌&&◌, cond, ◌⊎◌, inl, inr, All, IfSome}
+use Rattle.std.proofs.Common.{not, List, [], ◌∷◌, ◌++◌, length, get_or, take, slice_get, slice_index_or, Option}
+use Rattle.std.proofs.Common.{Some, None, refl, ap, subst, sym, ◌∙◌, arith, append_assoc, if◌then◌else◌}
 use Rattle.std.proofs.lemmas.Bool.{cases_lt, true≢false}
 use Rattle.std.proofs.lemmas.Option.{slice_get_within, get_or_from_slice_get}
 use Rattle.std.proofs.lemmas.List.{append-nil, take_more}
@@ -13,7 +13,9 @@ use Rattle.keymap_core.specs.declared.action.Modifier.TheVariants.{LeftAlt, Righ
 use Rattle.keymap_core.specs.declared.action.Lock.{Lock}
 use Rattle.keymap_core.specs.declared.action.Lock.TheVariants.{Caps, Num, Scroll, Alt}
 use Rattle.keymap_core.specs.Actions.{same_lock, modifiers, modifier_index, lock_index}
+use Rattle.keymap_core.specs.Borne.{is_borne}
 use Rattle.keymap_core.specs.Maps.{MapValue}
+use Rattle.keymap_core.specs.declared.action.Holding.TheVariants as holding
 use Rattle.keymap_core.specs.declared.action.Action.TheVariants as act
 use Rattle.keymap_core.specs.declared.entry.Cell.{Cell}
 use Rattle.keymap_core.specs.declared.entry.Cell.TheVariants.{Act}
@@ -26,19 +28,21 @@ use Rattle.console_core.specs.declared.search.Origin.{Origin}
 use Rattle.std.specs.Option.{is_some}
 use Rattle.std.specs.Map.{lookup}
 use Rattle.indexmap.specs.IndexMap.{insert_entry}
-use Rattle.console_core.specs.declared.held.Move.TheVariants.{Hold, Turn, LetGo}
-use Rattle.console_core.specs.Moves.{State, start, look_in, Holds, with_holder, with_lock_turned, IsMove, moved}
-use Rattle.console_core.specs.Moves.{IsForgetful}
+use Rattle.console_core.specs.declared.held.Move.TheVariants.{Hold, Turn, LetGo, Exchange}
+use Rattle.console_core.specs.Moves.{Under, State, start, look_in, Holds, with_holder, with_lock_turned}
+use Rattle.console_core.specs.Moves.{next_map, IsMove, moved, IsForgetful}
 use Rattle.console_core.specs.Moves.{state_after, HolderForgets, script_of_path, events_of_move, events_along}
 use Rattle.console_core.specs.Moves.{release_of, releases}
 use Rattle.console_core.specs.Moves.{presses_of}
 use Rattle.console_core.specs.Inner.Searching.{state_of, Entry, Entries, Grows, IsStep, IsMetBy, IsLetGoMet}
-use Rattle.console_core.specs.Inner.Searching.{ArePressesMet, AreWithin, IsFrom, AreAdded, IsTrail, IsReached, IsClosed}
+use Rattle.console_core.specs.Inner.Searching.{IsExchangeMet, ArePressesMet, AreWithin, IsFrom, AreAdded, IsTrail}
+use Rattle.console_core.specs.Inner.Searching.{IsReached, IsClosed, NeverUnder, LeavesOnUnder, HasFewestUnder}
 use Rattle.console_core.specs.Inner.Searching.{IsPressed, Searched, AreInOrder, IsStuck, GoBack, IsScriptTo}
-use Rattle.console_core.specs.Inner.Searching.{LeavesScroll}
-use Rattle.console_core.specs.Sticking.{NeverSticks, LeavesOn, HasFewestPresses, NoneSticksBy, presses}
+use Rattle.console_core.specs.Inner.Searching.{LeavesScroll, NoneUnderBy}
+use Rattle.console_core.specs.Inner.HeldBytes.{AreSame}
+use Rattle.console_core.specs.Sticking.{presses}
 use Rattle.console_core.proofs.Staying.{IsSafeBelow, never-sticks, sticks-late}
-use Rattle.console_core.proofs.Scripts.{sticks_if_reached, presses-script}
+use Rattle.console_core.proofs.Scripts.{script-sticks, presses-script}
 use mathlib.Core.Path.{fun_ext}
 
 -- the modifiers by their places
@@ -96,34 +100,34 @@ all-at : (P : Entry → Type 0) (xs : Entries) (n : ℕ) (x : Entry) → All P x
 all-at P xs n x all e = subst P (get_or_from_slice_get xs n x x e) (all n x (slice_get_within xs n x e))
 
 -- an entry of the longer list is old or was added
-from-cases : (m : MapValue) (s : State) (place n p : ℕ) (es now : Entries) → AreAdded m s place n p es now
+from-cases : (u : Under) (s : State) (place n p : ℕ) (es now : Entries) → AreAdded u s place n p es now
     → (j : ℕ) (x : Entry) → slice_get now j ≡ Some x
-    → (slice_get es j ≡ Some x) ⊎ ((length es ≤ j) × IsFrom m s place n p x)
-from-cases m s place n p es now (more, e, all) j x at =
+    → (slice_get es j ≡ Some x) ⊎ ((length es ≤ j) × IsFrom u s place n p x)
+from-cases u s place n p es now (more, e, all) j x at =
     let there : slice_get (es ++ more) j ≡ Some x = subst (λ y. slice_get y j ≡ Some x) e at in
     elim (cases_lt j (length es)) [
       | inl lt ↦ inl (at_old es more j x lt there)
       | inr le ↦
           let k : (i : ℕ) × (slice_get more i ≡ Some x) = at_new es more j x le there in
-          inr (le, all-at (IsFrom m s place n p) more k.0 x all k.1)
+          inr (le, all-at (IsFrom u s place n p) more k.0 x all k.1)
     ]
 
 -- entries that are added make the list grow
-pub added-grows : (m : MapValue) (s : State) (place n p : ℕ) (es now : Entries) → AreAdded m s place n p es now
+pub added-grows : (u : Under) (s : State) (place n p : ℕ) (es now : Entries) → AreAdded u s place n p es now
     → Grows es now
-added-grows m s place n p es now a = (a.0, a.1)
+added-grows u s place n p es now a = (a.0, a.1)
 
 -- nothing is added
-pub added-none : (m : MapValue) (s : State) (place n p : ℕ) (es : Entries) → AreAdded m s place n p es es
-added-none m s place n p es = ([], sym (append-nil es), All-nil (IsFrom m s place n p))
+pub added-none : (u : Under) (s : State) (place n p : ℕ) (es : Entries) → AreAdded u s place n p es es
+added-none u s place n p es = ([], sym (append-nil es), All-nil (IsFrom u s place n p))
 
 -- what is added twice is added
-pub added-again : (m : MapValue) (s : State) (place n p : ℕ) (a b c : Entries) → AreAdded m s place n p a b
-    → AreAdded m s place n p b c → AreAdded m s place n p a c
-added-again m s place n p a b c x y = (
+pub added-again : (u : Under) (s : State) (place n p : ℕ) (a b c : Entries) → AreAdded u s place n p a b
+    → AreAdded u s place n p b c → AreAdded u s place n p a c
+added-again u s place n p a b c x y = (
   x.0 ++ y.0,
   y.1 ∙ ap (λ z. z ++ y.0) x.1 ∙ append_assoc a x.0 y.0,
-  All-append (IsFrom m s place n p) x.0 y.0 x.2 y.2,
+  All-append (IsFrom u s place n p) x.0 y.0 x.2 y.2,
 )
 
 -- a list that grows gets no shorter
@@ -157,20 +161,29 @@ pub let_go-grows : (es now : Entries) (p : ℕ) (s : State) (i : Modifier) → G
 let_go-grows es now p s i g met k h = met-grows es now p (with_holder s i None) g (met k h)
 
 -- that presses are met stays so when the entries grow
-pub presses-grow : (m : MapValue) (es now : Entries) (p : ℕ) (s : State) (k : ℕ) → Grows es now
-    → ArePressesMet m es p s k → ArePressesMet m now p s k
-presses-grow m es now p s k g met idle = (
+pub presses-grow : (u : Under) (es now : Entries) (p : ℕ) (s : State) (k : ℕ) → Grows es now
+    → ArePressesMet u es p s k → ArePressesMet u now p s k
+presses-grow u es now p s k g met idle = (
   (λ i seen free. met-grows es now p (with_holder s i (Some k)) g ((met idle).0 i seen free)),
   (λ l other seen. met-grows es now p (with_lock_turned s l) g ((met idle).1 l other seen)),
 )
 
--- that an entry's releases are met stays so when the entries grow
-closed-grows : (m : MapValue) (es now : Entries) (x : Entry) → Grows es now → IsClosed m es x → IsClosed m now x
-closed-grows m es now x g (met, safe) = ((λ i. let_go-grows es now x.1.presses (state_of x.0) i g (met i)), safe)
+-- that a load is met stays so when the entries grow
+pub exchange-grows : (u : Under) (es now : Entries) (p : ℕ) (s : State) → Grows es now → IsExchangeMet u es p s
+    → IsExchangeMet u now p s
+exchange-grows u es now p s g met is = met-grows es now p (moved u s Exchange) g (met is)
+
+-- that an entry's releases and loads are met stays so when the entries grow
+closed-grows : (u : Under) (es now : Entries) (x : Entry) → Grows es now → IsClosed u es x → IsClosed u now x
+closed-grows u es now x g (met, load, safe) = (
+  (λ i. let_go-grows es now x.1.presses (state_of x.0) i g (met i)),
+  exchange-grows u es now x.1.presses (state_of x.0) g load,
+  safe,
+)
 
 -- that an entry's presses are met stays so when the entries grow
-pressed-grows : (m : MapValue) (es now : Entries) (x : Entry) → Grows es now → IsPressed m es x → IsPressed m now x
-pressed-grows m es now x g met k lt = presses-grow m es now (x.1.presses + 1) (state_of x.0) k g (met k lt)
+pressed-grows : (u : Under) (es now : Entries) (x : Entry) → Grows es now → IsPressed u es x → IsPressed u now x
+pressed-grows u es now x g met k lt = presses-grow u es now (x.1.presses + 1) (state_of x.0) k g (met k lt)
 
 -- a trail stays one when the entries grow
 trail-grows : (es now : Entries) (j : ℕ) (path : List Move) → Grows es now → IsTrail es j path → IsTrail now j path
@@ -179,68 +192,76 @@ trail-grows es now j (move ∷ path) g (x, parent, at, last, lt, rest) =
     (x, parent, at-now es now j x g at, last, lt, trail-grows es now parent path g rest)
 
 -- that a trail leads to an entry stays so when the entries grow
-reached-grows : (m : MapValue) (es now : Entries) (j : ℕ) (x : Entry) → Grows es now → IsReached m es j x
-    → IsReached m now j x
-reached-grows m es now j x g (path, trail, is, leads, count, off) =
+reached-grows : (u : Under) (es now : Entries) (j : ℕ) (x : Entry) → Grows es now → IsReached u es j x
+    → IsReached u now j x
+reached-grows u es now j x g (path, trail, is, leads, count, off) =
     (path, trail-grows es now j path g trail, is, leads, count, off)
 
+-- where the scroll lock is off a load leaves it off
+and-off : (a b : Bool) → b ≡ false → (a && b) ≡ false
+and-off a true off = absurd (true≢false off)
+and-off true false off = refl
+and-off false false off = refl
+
 -- a move that leaves the scroll lock leaves it off
-scroll-left : (s : State) (move : Move) → LeavesScroll move → s.is_locked Scroll ≡ false
-    → (moved s move).is_locked Scroll ≡ false
-scroll-left s (Hold k i) leaves off = off
-scroll-left s (Turn k Caps) leaves off = off
-scroll-left s (Turn k Num) leaves off = off
-scroll-left s (Turn k Scroll) leaves off = absurd (leaves refl)
-scroll-left s (Turn k Alt) leaves off = off
-scroll-left s (LetGo k i) leaves off = off
+scroll-left : (u : Under) (s : State) (move : Move) → LeavesScroll move → s.is_locked Scroll ≡ false
+    → (moved u s move).is_locked Scroll ≡ false
+scroll-left u s (Hold k i) leaves off = off
+scroll-left u s (Turn k Caps) leaves off = off
+scroll-left u s (Turn k Num) leaves off = off
+scroll-left u s (Turn k Scroll) leaves off = absurd (leaves refl)
+scroll-left u s (Turn k Alt) leaves off = off
+scroll-left u s (LetGo k i) leaves off = off
+scroll-left u s Exchange leaves off =
+    and-off (is_borne (next_map u s) (holding.Lock Scroll)) (s.is_locked Scroll) off
 
 -- a move from where a path leads goes on with the path
-reached-next : (m : MapValue) (es now : Entries) (place n p : ℕ) (y : Entry) → Grows es now → IsReached m es place y
+reached-next : (u : Under) (es now : Entries) (place n p : ℕ) (y : Entry) → Grows es now → IsReached u es place y
     → p ≡ y.1.presses + n
-    → (j : ℕ) (x : Entry) → slice_get now j ≡ Some x → place < j → IsFrom m (state_of y.0) place n p x
-    → IsReached m now j x
-reached-next m es now place n p y g (path, trail, is, leads, count, off) e j x at lt
+    → (j : ℕ) (x : Entry) → slice_get now j ≡ Some x → place < j → IsFrom u (state_of y.0) place n p x
+    → IsReached u now j x
+reached-next u es now place n p y g (path, trail, is, leads, count, off) e j x at lt
     (by, by_p, last, move, next, by_n, leaves) = (
       by ∷ path,
       (x, place, at, last, lt, trail-grows es now place path g trail),
-      (subst (λ s. IsMove m s by) (sym leads) move, is),
-      ap (λ s. moved s by) leads ∙ sym next,
+      (subst (λ s. IsMove u s by) (sym leads) move, is),
+      ap (λ s. moved u s by) leads ∙ sym next,
       ap (λ q. q + presses_of by) count ∙ ap (λ q. y.1.presses + q) by_n ∙ sym e ∙ sym by_p,
-      subst (λ s. s.is_locked Scroll ≡ false) (sym next) (scroll-left (state_of y.0) by leaves off),
+      subst (λ s. s.is_locked Scroll ≡ false) (sym next) (scroll-left u (state_of y.0) by leaves off),
     )
 
 -- what was searched stays so when the entries grow
-pub searched-grows : (m : MapValue) (es now : Entries) (place n p a b : ℕ) (y : Entry) → slice_get es place ≡ Some y
+pub searched-grows : (u : Under) (es now : Entries) (place n p a b : ℕ) (y : Entry) → slice_get es place ≡ Some y
     → p ≡ y.1.presses + n
-    → AreAdded m (state_of y.0) place n p es now → a ≤ length es → b ≤ length es → Searched m es a b
-    → Searched m now a b
-searched-grows m es now place n p a b y here e added le_a le_b s =
+    → AreAdded u (state_of y.0) place n p es now → a ≤ length es → b ≤ length es → Searched u es a b
+    → Searched u now a b
+searched-grows u es now place n p a b y here e added le_a le_b s =
     let g : Grows es now = (added.0, added.1) in
     let lt : place < length es = slice_get_within es place y here in
     let either : (j : ℕ) (x : Entry) → slice_get now j ≡ Some x
-    → (slice_get es j ≡ Some x) ⊎ ((length es ≤ j) × IsFrom m (state_of y.0) place n p x) =
-    from-cases m (state_of y.0) place n p es now added in
+    → (slice_get es j ≡ Some x) ⊎ ((length es ≤ j) × IsFrom u (state_of y.0) place n p x) =
+    from-cases u (state_of y.0) place n p es now added in
     record {
       start = met-grows es now 0 start g s.start;
       reached = λ j x at. elim (either j x at) [
-        | inl old ↦ reached-grows m es now j x g (s.reached j x old)
+        | inl old ↦ reached-grows u es now j x g (s.reached j x old)
         | inr new ↦
-            reached-next m es now place n p y g (s.reached place y here) e j x
+            reached-next u es now place n p y g (s.reached place y here) e j x
             at (let le : length es ≤ j = new.0 in omega (arith, lt, le)) new.1
       ];
       pressed = λ j x at below. elim (either j x at) [
-        | inl old ↦ pressed-grows m es now x g (s.pressed j x old below)
+        | inl old ↦ pressed-grows u es now x g (s.pressed j x old below)
         | inr new ↦ let le : length es ≤ j = new.0 in absurd (omega (arith, below, le_a, le))
       ];
       closed = λ j x at below. elim (either j x at) [
-        | inl old ↦ closed-grows m es now x g (s.closed j x old below)
+        | inl old ↦ closed-grows u es now x g (s.closed j x old below)
         | inr new ↦ let le : length es ≤ j = new.0 in absurd (omega (arith, below, le_b, le))
       ];
     }
 
 -- fewer of them are asked for
-pub searched-fewer : (m : MapValue) (es : Entries) (a b c d : ℕ) → c ≤ a → d ≤ b → Searched m es a b → Searched m es c d
-searched-fewer m es a b c d le_c le_d s = record {
+pub searched-fewer : (u : Under) (es : Entries) (a b c d : ℕ) → c ≤ a → d ≤ b → Searched u es a b → Searched u es c d
+searched-fewer u es a b c d le_c le_d s = record {
   start = s.start;
   reached = s.reached;
   pressed = λ j x at lt. s.pressed j x at (omega (arith, lt, le_c));
@@ -256,36 +277,36 @@ same_entry : (es : Entries) (j n : ℕ) (x y : Entry) → j ≡ n → slice_get 
 same_entry es j n x y e at here = some_entries y x (sym here ∙ ap (λ k. slice_get es k) (sym e) ∙ at)
 
 -- one more entry whose releases are met
-pub searched-closed : (m : MapValue) (es : Entries) (a n : ℕ) (y : Entry) → slice_get es n ≡ Some y → IsClosed m es y
-    → Searched m es a n → Searched m es a (n + 1)
-searched-closed m es a n y here closed s = record {
+pub searched-closed : (u : Under) (es : Entries) (a n : ℕ) (y : Entry) → slice_get es n ≡ Some y → IsClosed u es y
+    → Searched u es a n → Searched u es a (n + 1)
+searched-closed u es a n y here closed s = record {
   start = s.start;
   reached = s.reached;
   pressed = s.pressed;
   closed = λ j x at lt. elim (place_last j n lt) [
     | inl below ↦ s.closed j x at below
-    | inr e ↦ subst (λ z. IsClosed m es z) (same_entry es j n x y e at here) closed
+    | inr e ↦ subst (λ z. IsClosed u es z) (same_entry es j n x y e at here) closed
   ];
 }
 
 -- one more entry whose presses are met
-pub searched-pressed : (m : MapValue) (es : Entries) (n b : ℕ) (y : Entry) → slice_get es n ≡ Some y → IsPressed m es y
-    → Searched m es n b → Searched m es (n + 1) b
-searched-pressed m es n b y here pressed s = record {
+pub searched-pressed : (u : Under) (es : Entries) (n b : ℕ) (y : Entry) → slice_get es n ≡ Some y → IsPressed u es y
+    → Searched u es n b → Searched u es (n + 1) b
+searched-pressed u es n b y here pressed s = record {
   start = s.start;
   reached = s.reached;
   closed = s.closed;
   pressed = λ j x at lt. elim (place_last j n lt) [
     | inl below ↦ s.pressed j x at below
-    | inr e ↦ subst (λ z. IsPressed m es z) (same_entry es j n x y e at here) pressed
+    | inr e ↦ subst (λ z. IsPressed u es z) (same_entry es j n x y e at here) pressed
   ];
 }
 
 -- the order by presses
-pub order-grows : (m : MapValue) (s : State) (place n p level : ℕ) (es now : Entries) → AreAdded m s place n p es now
+pub order-grows : (u : Under) (s : State) (place n p level : ℕ) (es now : Entries) → AreAdded u s place n p es now
     → level ≤ length es → AreInOrder es level p → AreInOrder now level p
-order-grows m s place n p level es now added le order j x at =
-    elim (from-cases m s place n p es now added j x at) [
+order-grows u s place n p level es now added le order j x at =
+    elim (from-cases u s place n p es now added j x at) [
       | inl old ↦ order j x old
       | inr (after, from) ↦ ((λ lt. absurd (omega (arith, lt, le, after))), (λ le_j. from.1))
     ]
@@ -307,10 +328,10 @@ order-next es level p order j x at =
     )
 
 -- entries that are added are within the number of presses
-pub within-grows : (m : MapValue) (s : State) (place n p : ℕ) (es now : Entries) → AreAdded m s place n p es now
+pub within-grows : (u : Under) (s : State) (place n p : ℕ) (es now : Entries) → AreAdded u s place n p es now
     → AreWithin es p → AreWithin now p
-within-grows m s place n p es now added within j x at =
-    elim (from-cases m s place n p es now added j x at) [
+within-grows u s place n p es now added within j x at =
+    elim (from-cases u s place n p es now added j x at) [
       | inl old ↦ within j x old
       | inr (after, from) ↦ let e : x.1.presses ≡ p = from.1 in omega (arith, e)
     ]
@@ -325,25 +346,25 @@ look_lock l n x e f = let g : Act (act.Lock l) ≡ Act (act.Lock n) = sym e ∙ 
 look_either : (i : Modifier) (l : Lock) (x : Cell) → x ≡ Act (act.Mod i) → x ≡ Act (act.Lock l) → ⊥
 look_either i l x e f = let g : Act (act.Mod i) ≡ Act (act.Lock l) = sym e ∙ f in cc
 
-pub pressed-mod : (m : MapValue) (es : Entries) (p : ℕ) (s : State) (k : ℕ) (i : Modifier)
-    → look_in m s k ≡ Act (act.Mod i) → IsMetBy es p (with_holder s i (Some k)) → ArePressesMet m es p s k
-pressed-mod m es p s k i seen met idle = (
-  (λ j f free. subst (λ n. IsMetBy es p (with_holder s n (Some k))) (look_mod i j (look_in m s k) seen f) met),
-  (λ l other f. absurd (look_either i l (look_in m s k) seen f)),
+pub pressed-mod : (u : Under) (es : Entries) (p : ℕ) (s : State) (k : ℕ) (i : Modifier)
+    → look_in u s k ≡ Act (act.Mod i) → IsMetBy es p (with_holder s i (Some k)) → ArePressesMet u es p s k
+pressed-mod u es p s k i seen met idle = (
+  (λ j f free. subst (λ n. IsMetBy es p (with_holder s n (Some k))) (look_mod i j (look_in u s k) seen f) met),
+  (λ l other f. absurd (look_either i l (look_in u s k) seen f)),
 )
 
-pub pressed-lock : (m : MapValue) (es : Entries) (p : ℕ) (s : State) (k : ℕ) (l : Lock)
-    → look_in m s k ≡ Act (act.Lock l) → IsMetBy es p (with_lock_turned s l) → ArePressesMet m es p s k
-pressed-lock m es p s k l seen met idle = (
-  (λ j f free. absurd (look_either j l (look_in m s k) f seen)),
-  (λ n other f. subst (λ q. IsMetBy es p (with_lock_turned s q)) (look_lock l n (look_in m s k) seen f) met),
+pub pressed-lock : (u : Under) (es : Entries) (p : ℕ) (s : State) (k : ℕ) (l : Lock)
+    → look_in u s k ≡ Act (act.Lock l) → IsMetBy es p (with_lock_turned s l) → ArePressesMet u es p s k
+pressed-lock u es p s k l seen met idle = (
+  (λ j f free. absurd (look_either j l (look_in u s k) f seen)),
+  (λ n other f. subst (λ q. IsMetBy es p (with_lock_turned s q)) (look_lock l n (look_in u s k) seen f) met),
 )
 
 -- what a call of `meet` adds
 pub meet-new : (es now : Entries) (place p : ℕ) (x : Step)
     → now ≡ es ++ (x.to, record { presses = p; last = Some (place, x.by) }) ∷ [] → AreWithin es p
     → IsMetBy now p (state_of x.to) × AreWithin now p × Grows es now
-    × ((m : MapValue) (h : Held) (n : ℕ) → IsStep m (state_of h) n x → AreAdded m (state_of h) place n p es now)
+    × ((u : Under) (h : Held) (n : ℕ) → IsStep u (state_of h) n x → AreAdded u (state_of h) place n p es now)
 meet-new es now place p x e within =
     let entry : Entry = (x.to, record { presses = p; last = Some (place, x.by) }) in (
       subst (λ y. IsMetBy y p (state_of x.to)) (sym e) (met-last es p entry (omega arith)),
@@ -356,11 +377,11 @@ meet-new es now place p x e within =
             (All-cons (λ z. z.1.presses ≤ p) entry [] (omega arith) (All-nil (λ z. z.1.presses ≤ p))) k.1
       ]),
       (entry ∷ [], e),
-      (λ m h n (is, to, by, leaves). (
+      (λ u h n (is, to, by, leaves). (
         entry ∷ [],
         e,
-        All-cons (IsFrom m (state_of h) place n p) entry [] (x.by, refl, refl, is, to, by, leaves)
-            (All-nil (IsFrom m (state_of h) place n p)),
+        All-cons (IsFrom u (state_of h) place n p) entry [] (x.by, refl, refl, is, to, by, leaves)
+            (All-nil (IsFrom u (state_of h) place n p)),
       )),
     )
 
@@ -380,14 +401,17 @@ found E same [] k e = absurd (true≢false (sym e))
 found E same (y ∷ es) k e = found_by E same y es k (E k y.0) refl e (found E same es k)
 
 -- what the tables are says the state
-abbrev state_from : List (Option ℕ) → List Bool → State
-state_from holders locks = record {
+abbrev state_from : List (Option ℕ) → List Bool → Bool → State
+state_from holders locks is_second = record {
   holder = λ i. slice_index_or holders (modifier_index i) None;
   is_locked = λ l. slice_index_or locks (lock_index l) false;
+  is_second = is_second;
 }
 
-pub same-state : (x y : Held) → (x.holders ≡ y.holders) × (x.locks ≡ y.locks) → state_of x ≡ state_of y
-same-state x y e = ap (λ z. state_from z x.locks) e.0 ∙ ap (λ z. state_from y.holders z) e.1
+pub same-state : (x y : Held) → AreSame x y → state_of x ≡ state_of y
+same-state x y e =
+    ap (λ z. state_from z x.locks x.is_second) e.0 ∙ ap (λ z. state_from y.holders z x.is_second) e.1
+    ∙ ap (λ b. state_from y.holders y.locks b) e.2
 
 pub meet-old : (E : Held → Held → Bool) → ((a b : Held) → E a b ≡ true → state_of a ≡ state_of b)
     → (es : Entries) (p : ℕ) (k : Held) → is_some (lookup (E k) es) ≡ true → AreWithin es p
@@ -401,46 +425,50 @@ not_some None e = refl
 not_some (Some x) e = absurd (true≢false e)
 
 -- one place of a level is closed
-pub close-step : (m : MapValue) (es now : Entries) (level p n : ℕ) (y : Entry) → Searched m es level n
+pub close-step : (u : Under) (es now : Entries) (level p n : ℕ) (y : Entry) → Searched u es level n
     → AreInOrder es level p → level ≤ n → slice_get es n ≡ Some y
-    → (IsForgetful m (state_of y.0) → ⊥) → AreAdded m (state_of y.0) n 0 p es now
-    → ((i : Modifier) → IsLetGoMet now p (state_of y.0) i)
-    → Searched m now level (n + 1) × AreInOrder now level p
-close-step m es now level p n y s order le here safe added met =
+    → (IsForgetful u (state_of y.0) → ⊥) → AreAdded u (state_of y.0) n 0 p es now
+    → ((i : Modifier) → IsLetGoMet now p (state_of y.0) i) → IsExchangeMet u now p (state_of y.0)
+    → Searched u now level (n + 1) × AreInOrder now level p
+close-step u es now level p n y s order le here safe added met load =
     let lt : n < length es = slice_get_within es n y here in
     let e : y.1.presses ≡ p = (order n y here).1 le in
     let below : level ≤ length es = omega (arith, le, lt) in
-    let grown : Searched m now level n =
-    searched-grows m es now n 0 p level n y here (omega (arith, e)) added below (omega (arith, lt)) s in
-    let closed : IsClosed m now y = ((λ i. subst (λ q. IsLetGoMet now q (state_of y.0) i) (sym e) (met i)), safe) in (
-      searched-closed m now level n y (at-now es now n y (added.0, added.1) here) closed grown,
-      order-grows m (state_of y.0) n 0 p level es now added below order,
+    let grown : Searched u now level n =
+    searched-grows u es now n 0 p level n y here (omega (arith, e)) added below (omega (arith, lt)) s in
+    let closed : IsClosed u now y = (
+      (λ i. subst (λ q. IsLetGoMet now q (state_of y.0) i) (sym e) (met i)),
+      subst (λ q. IsExchangeMet u now q (state_of y.0)) (sym e) load,
+      safe,
+    ) in (
+      searched-closed u now level n y (at-now es now n y (added.0, added.1) here) closed grown,
+      order-grows u (state_of y.0) n 0 p level es now added below order,
     )
 
 -- one place of a level is pressed
-pub press-step : (m : MapValue) (old es now : Entries) (level p n : ℕ) (y : Entry) → Searched m es n (length old)
+pub press-step : (u : Under) (old es now : Entries) (level p n : ℕ) (y : Entry) → Searched u es n (length old)
     → AreInOrder old level p → Grows old es
     → AreInOrder es (length old) (p + 1) → level ≤ n → n < length old → slice_get es n ≡ Some y
-    → AreAdded m (state_of y.0) n 1 (p + 1) es now → ((k : ℕ) → k < 128 → ArePressesMet m now (p + 1) (state_of y.0) k)
-    → Searched m now (n + 1) (length old) × AreInOrder now (length old) (p + 1) × Grows old now
-press-step m old es now level p n y s before g order le lt here added met =
+    → AreAdded u (state_of y.0) n 1 (p + 1) es now → ((k : ℕ) → k < 128 → ArePressesMet u now (p + 1) (state_of y.0) k)
+    → Searched u now (n + 1) (length old) × AreInOrder now (length old) (p + 1) × Grows old now
+press-step u old es now level p n y s before g order le lt here added met =
     let was : slice_get old n ≡ Some y = at_old old g.0 n y lt (subst (λ z. slice_get z n ≡ Some y) g.1 here) in
     let e : y.1.presses ≡ p = (before n y was).1 le in
     let longer : length old ≤ length es = added-longer old es g in
-    let grown : Searched m now n (length old) =
-    searched-grows m es now n 1 (p + 1) n (length old) y here (omega (arith, e)) added (omega (arith, lt, longer))
+    let grown : Searched u now n (length old) =
+    searched-grows u es now n 1 (p + 1) n (length old) y here (omega (arith, e)) added (omega (arith, lt, longer))
     longer s in
-    let pressed : IsPressed m now y =
-    λ k below. subst (λ q. ArePressesMet m now (q + 1) (state_of y.0) k) (sym e) (met k below) in (
-      searched-pressed m now n (length old) y (at-now es now n y (added.0, added.1) here) pressed grown,
-      order-grows m (state_of y.0) n 1 (p + 1) (length old) es now added longer order,
+    let pressed : IsPressed u now y =
+    λ k below. subst (λ q. ArePressesMet u now (q + 1) (state_of y.0) k) (sym e) (met k below) in (
+      searched-pressed u now n (length old) y (at-now es now n y (added.0, added.1) here) pressed grown,
+      order-grows u (state_of y.0) n 1 (p + 1) (length old) es now added longer order,
       grows-again old es now g (added.0, added.1),
     )
 
 -- the way back from a place
-pub searched-back : (m : MapValue) (es : Entries) (a b : ℕ) → Searched m es a b → GoBack es
-searched-back m es a b s j x parent by at last =
-    let r : IsReached m es j x = s.reached j x at in back r.0 r.1
+pub searched-back : (u : Under) (es : Entries) (a b : ℕ) → Searched u es a b → GoBack es
+searched-back u es a b s j x parent by at last =
+    let r : IsReached u es j x = s.reached j x at in back r.0 r.1
   where
     some_last : (p q : ℕ × Move) → Some p ≡ Some q → p ≡ q
     some_last p q e = cc
@@ -490,9 +518,9 @@ pub leads-end : (es : Entries) (items : List Event) (rest : List Move) (target :
 leads-end es items [] target x e = sym (append-nil items) ∙ e
 leads-end es items (move ∷ path) target none e = absurd none
 
-pub script-begin : (path : List Move) (k : ℕ) (s : State) (items : List Event) → state_after path ≡ s
-    → items ≡ releases s modifiers ++ Press k ∷ [] → items ++ events_along path ≡ script_of_path path k
-script-begin path k s items at e =
+pub script-begin : (u : Under) (path : List Move) (k : ℕ) (s : State) (items : List Event) → state_after u path ≡ s
+    → items ≡ releases s modifiers ++ Press k ∷ [] → items ++ events_along path ≡ script_of_path u path k
+script-begin u path k s items at e =
     ap (λ z. z ++ events_along path) e
     ∙ append_assoc (releases s modifiers) (Press k ∷ []) (events_along path)
     ∙ ap (λ t. releases t modifiers ++ Press k ∷ events_along path) (sym at)
@@ -551,10 +579,10 @@ pub start-entries : (E : Held → Held → Bool) (es now : Entries) (x : Entry) 
 start-entries E es now x none e = e ∙ ap (λ z. insert_entry E z x.0 x.1) none
 
 -- a search begins with the start
-pub searched-start : (m : MapValue) (h : Held) → state_of h ≡ start → (es : Entries)
+pub searched-start : (u : Under) (h : Held) → state_of h ≡ start → (es : Entries)
     → es ≡ (h, record { presses = 0; last = None }) ∷ []
-    → Searched m es 0 0 × AreInOrder es 0 0
-searched-start m h is es e =
+    → Searched u es 0 0 × AreInOrder es 0 0
+searched-start u h is es e =
     let x : Entry = (h, record { presses = 0; last = None }) in
     let only : (j : ℕ) (y : Entry) → slice_get es j ≡ Some y → (j ≡ 0) × (y ≡ x) =
     λ j y at. one_entry x j y (subst (λ z. slice_get z j ≡ Some y) e at) in
@@ -562,8 +590,8 @@ searched-start m h is es e =
       record {
         start = (0, x, first, is, omega arith);
         reached = λ j y at.
-            subst (λ z. IsReached m es j z) (sym (only j y at).1)
-            (subst (λ n. IsReached m es n x) (sym (only j y at).0)
+            subst (λ z. IsReached u es j z) (sym (only j y at).1)
+            (subst (λ n. IsReached u es n x) (sym (only j y at).0)
             ([], (x, first, refl), tt, sym is, refl, ap (λ s. s.is_locked Scroll) is));
         pressed = λ j y at lt. absurd (omega (arith, lt));
         closed = λ j y at lt. absurd (omega (arith, lt));
@@ -580,18 +608,19 @@ but_scroll on Alt = on Alt
 
 -- the state without the scroll lock, which no look asks for
 abbrev unscrolled : State → State
-unscrolled s = record { holder = s.holder; is_locked = but_scroll s.is_locked }
+unscrolled s = record { holder = s.holder; is_locked = but_scroll s.is_locked; is_second = s.is_second }
 
 -- a look doesn't depend on the scroll lock
-look-unscrolled : (m : MapValue) (s : State) (k : ℕ) → look_in m s k ≡ look_in m (unscrolled s) k
-look-unscrolled m s k = refl
+look-unscrolled : (u : Under) (s : State) (k : ℕ) → look_in u s k ≡ look_in u (unscrolled s) k
+look-unscrolled u s k = refl
 
 -- moves don't depend on the scroll lock
-moves-unscrolled : (m : MapValue) (s t : State) (move : Move) → unscrolled t ≡ unscrolled s → IsMove m s move
-    → IsMove m t move
-moves-unscrolled m s t (Hold k i) e is = subst (λ x. IsMove m x (Hold k i)) (sym e) is
-moves-unscrolled m s t (Turn k l) e is = subst (λ x. IsMove m x (Turn k l)) (sym e) is
-moves-unscrolled m s t (LetGo k i) e is = subst (λ x. IsMove m x (LetGo k i)) (sym e) is
+moves-unscrolled : (u : Under) (s t : State) (move : Move) → unscrolled t ≡ unscrolled s → IsMove u s move
+    → IsMove u t move
+moves-unscrolled u s t (Hold k i) e is = subst (λ x. IsMove u x (Hold k i)) (sym e) is
+moves-unscrolled u s t (Turn k l) e is = subst (λ x. IsMove u x (Turn k l)) (sym e) is
+moves-unscrolled u s t (LetGo k i) e is = subst (λ x. IsMove u x (LetGo k i)) (sym e) is
+moves-unscrolled u s t Exchange e is = subst (λ x. IsMove u x Exchange) (sym e) is
 
 -- to drop the scroll lock twice is to drop it
 but_twice : (on : Lock → Bool) (j : Lock) → but_scroll on j ≡ but_scroll (but_scroll on) j
@@ -609,20 +638,36 @@ turned_twice on l Num = refl
 turned_twice on l Scroll = refl
 turned_twice on l Alt = refl
 
+-- a load keeps locks alike without the scroll lock
+kept_twice : (m : MapValue) (on : Lock → Bool) (j : Lock)
+    → but_scroll (λ n. is_borne m (holding.Lock n) && on n) j
+    ≡ but_scroll (λ n. is_borne m (holding.Lock n) && but_scroll on n) j
+kept_twice m on Caps = refl
+kept_twice m on Num = refl
+kept_twice m on Scroll = refl
+kept_twice m on Alt = refl
+
 -- a move leads on alike without the scroll lock
-moved-unscrolled : (s : State) (move : Move) → unscrolled (moved s move) ≡ unscrolled (moved (unscrolled s) move)
-moved-unscrolled s (Hold k i) =
-    ap (λ x. record { holder = (with_holder s i (Some k)).holder; is_locked = x })
+moved-unscrolled : (u : Under) (s : State) (move : Move)
+    → unscrolled (moved u s move) ≡ unscrolled (moved u (unscrolled s) move)
+moved-unscrolled u s (Hold k i) =
+    ap (λ x. record { holder = (with_holder s i (Some k)).holder; is_locked = x; is_second = s.is_second })
     (fun_ext (λ j. but_twice s.is_locked j))
-moved-unscrolled s (Turn k l) =
-    ap (λ x. record { holder = s.holder; is_locked = x }) (fun_ext (λ j. turned_twice s.is_locked l j))
-moved-unscrolled s (LetGo k i) =
-    ap (λ x. record { holder = (with_holder s i None).holder; is_locked = x }) (fun_ext (λ j. but_twice s.is_locked j))
+moved-unscrolled u s (Turn k l) =
+    ap (λ x. record { holder = s.holder; is_locked = x; is_second = s.is_second })
+    (fun_ext (λ j. turned_twice s.is_locked l j))
+moved-unscrolled u s (LetGo k i) =
+    ap (λ x. record { holder = (with_holder s i None).holder; is_locked = x; is_second = s.is_second })
+    (fun_ext (λ j. but_twice s.is_locked j))
+moved-unscrolled u s Exchange =
+    ap (λ x. record { holder = s.holder; is_locked = x; is_second = not s.is_second })
+    (fun_ext (λ j. kept_twice (next_map u s) s.is_locked j))
 
 -- states that differ in the scroll lock alone lead on alike
-same_moved : (s t : State) (move : Move) → unscrolled t ≡ unscrolled s
-    → unscrolled (moved t move) ≡ unscrolled (moved s move)
-same_moved s t move e = moved-unscrolled t move ∙ ap (λ x. unscrolled (moved x move)) e ∙ sym (moved-unscrolled s move)
+same_moved : (u : Under) (s t : State) (move : Move) → unscrolled t ≡ unscrolled s
+    → unscrolled (moved u t move) ≡ unscrolled (moved u s move)
+same_moved u s t move e =
+    moved-unscrolled u t move ∙ ap (λ x. unscrolled (moved u x move)) e ∙ sym (moved-unscrolled u s move)
 
 -- a turn of the scroll lock changes nothing else
 scroll_turned : (on : Lock → Bool) (j : Lock)
@@ -633,8 +678,10 @@ scroll_turned on Scroll = refl
 scroll_turned on Alt = refl
 
 -- the scroll lock changes nothing else
-scroll-moved : (s : State) (k : ℕ) → unscrolled s ≡ unscrolled (moved s (Turn k Scroll))
-scroll-moved s k = ap (λ x. record { holder = s.holder; is_locked = x }) (fun_ext (λ j. scroll_turned s.is_locked j))
+scroll-moved : (s : State) → unscrolled s ≡ unscrolled (with_lock_turned s Scroll)
+scroll-moved s =
+    ap (λ x. record { holder = s.holder; is_locked = x; is_second = s.is_second })
+    (fun_ext (λ j. scroll_turned s.is_locked j))
 
 -- The states met by at most p presses, but for the scroll lock.
 abbrev IsAmong : Entries → ℕ → State → Type 0
@@ -650,85 +697,99 @@ met-up es p q s up (j, x, at, is, le) = (j, x, at, is, omega (arith, le, up))
 
 -- the states that were met by fewer presses than the first number are pressed, and those by fewer than the second are
 -- closed
-record AreDone (m : MapValue) (es : Entries) (n c : ℕ) : Type 0 where
+record AreDone (u : Under) (es : Entries) (n c : ℕ) : Type 0 where
   start : IsMetBy es 0 start
-  pressed : (j : ℕ) (x : Entry) → slice_get es j ≡ Some x → x.1.presses < n → IsPressed m es x
-  closed : (j : ℕ) (x : Entry) → slice_get es j ≡ Some x → x.1.presses < c → IsClosed m es x
+  pressed : (j : ℕ) (x : Entry) → slice_get es j ≡ Some x → x.1.presses < n → IsPressed u es x
+  closed : (j : ℕ) (x : Entry) → slice_get es j ≡ Some x → x.1.presses < c → IsClosed u es x
 
 -- a finished search met each state that a release leads to
-done-let_go : (m : MapValue) (es : Entries) (n c p : ℕ) → AreDone m es n c → p < c → (t : State) (k : ℕ) (i : Modifier)
+done-let_go : (u : Under) (es : Entries) (n c p : ℕ) → AreDone u es n c → p < c → (t : State) (k : ℕ) (i : Modifier)
     → IsMetBy es p t → Holds t k i → IsMetBy es p (with_holder t i None)
-done-let_go m es n c p d lt t k i (j, x, at, is, le) h =
-    let closed : IsClosed m es x = d.closed j x at (omega (arith, le, lt)) in
+done-let_go u es n c p d lt t k i (j, x, at, is, le) h =
+    let closed : IsClosed u es x = d.closed j x at (omega (arith, le, lt)) in
     subst (λ s. IsMetBy es p (with_holder s i None)) is
     (met-up es x.1.presses p (with_holder (state_of x.0) i None) le
     (closed.0 i k (subst (λ s. Holds s k i) (sym is) h)))
 
+-- a finished search met each state that a load leads to
+done-exchange : (u : Under) (es : Entries) (n c p : ℕ) → AreDone u es n c → p < c → (t : State) → IsMetBy es p t
+    → IsMove u t Exchange → IsMetBy es p (moved u t Exchange)
+done-exchange u es n c p d lt t (j, x, at, is, le) move =
+    let closed : IsClosed u es x = d.closed j x at (omega (arith, le, lt)) in
+    subst (λ s. IsMetBy es p (moved u s Exchange)) is
+    (met-up es x.1.presses p (moved u (state_of x.0) Exchange) le
+    (closed.1 (subst (λ s. IsMove u s Exchange) (sym is) move)))
+
 -- a finished search met each state that a hold leads to
-done-hold : (m : MapValue) (es : Entries) (n c p : ℕ) → AreDone m es n c → p < n → (t : State) (k : ℕ) (i : Modifier)
-    → IsMetBy es p t → IsMove m t (Hold k i) → IsMetBy es (suc p) (with_holder t i (Some k))
-done-hold m es n c p d lt t k i (j, x, at, is, le) move =
-    let there : IsMove m (state_of x.0) (Hold k i) = subst (λ s. IsMove m s (Hold k i)) (sym is) move in
+done-hold : (u : Under) (es : Entries) (n c p : ℕ) → AreDone u es n c → p < n → (t : State) (k : ℕ) (i : Modifier)
+    → IsMetBy es p t → IsMove u t (Hold k i) → IsMetBy es (suc p) (with_holder t i (Some k))
+done-hold u es n c p d lt t k i (j, x, at, is, le) move =
+    let there : IsMove u (state_of x.0) (Hold k i) = subst (λ s. IsMove u s (Hold k i)) (sym is) move in
     let met : IsMetBy es (x.1.presses + 1) (with_holder (state_of x.0) i (Some k)) =
     (d.pressed j x at (omega (arith, le, lt)) k there.0 there.1).0 i there.2 there.3 in
     subst (λ s. IsMetBy es (suc p) (with_holder s i (Some k))) is
     (met-up es (x.1.presses + 1) (suc p) (with_holder (state_of x.0) i (Some k)) (omega (arith, le)) met)
 
 -- a finished search met each state that a turned lock leads to
-done-turn : (m : MapValue) (es : Entries) (n c p : ℕ) → AreDone m es n c → p < n → (t : State) (k : ℕ) (l : Lock)
-    → l ≢ Scroll → IsMetBy es p t → IsMove m t (Turn k l) → IsMetBy es (suc p) (with_lock_turned t l)
-done-turn m es n c p d lt t k l other (j, x, at, is, le) move =
-    let there : IsMove m (state_of x.0) (Turn k l) = subst (λ s. IsMove m s (Turn k l)) (sym is) move in
+done-turn : (u : Under) (es : Entries) (n c p : ℕ) → AreDone u es n c → p < n → (t : State) (k : ℕ) (l : Lock)
+    → l ≢ Scroll → IsMetBy es p t → IsMove u t (Turn k l) → IsMetBy es (suc p) (with_lock_turned t l)
+done-turn u es n c p d lt t k l other (j, x, at, is, le) move =
+    let there : IsMove u (state_of x.0) (Turn k l) = subst (λ s. IsMove u s (Turn k l)) (sym is) move in
     let met : IsMetBy es (x.1.presses + 1) (with_lock_turned (state_of x.0) l) =
     (d.pressed j x at (omega (arith, le, lt)) k there.0 there.1).1 l other there.2 in
     subst (λ s. IsMetBy es (suc p) (with_lock_turned s l)) is
     (met-up es (x.1.presses + 1) (suc p) (with_lock_turned (state_of x.0) l) (omega (arith, le)) met)
 
 -- a finished search met no state where a holder looks up a character
-done-safe : (m : MapValue) (es : Entries) (n c p : ℕ) → AreDone m es n c → p < c → (t : State) → IsMetBy es p t
-    → IsForgetful m t → ⊥
-done-safe m es n c p d lt t (j, x, at, is, le) forgetful =
-    (d.closed j x at (omega (arith, le, lt))).1 (subst (λ s. IsForgetful m s) (sym is) forgetful)
+done-safe : (u : Under) (es : Entries) (n c p : ℕ) → AreDone u es n c → p < c → (t : State) → IsMetBy es p t
+    → IsForgetful u t → ⊥
+done-safe u es n c p d lt t (j, x, at, is, le) forgetful =
+    (d.closed j x at (omega (arith, le, lt))).2 (subst (λ s. IsForgetful u s) (sym is) forgetful)
 
 -- the same for each lock, but for the scroll lock
-among-turn : (m : MapValue) (es : Entries) (n c p : ℕ) → AreDone m es n c → p < n → (s : State) (k : ℕ) (l : Lock)
-    → IsAmong es p s → IsMove m s (Turn k l) → IsAmong es (suc p) (with_lock_turned s l)
-among-turn m es n c p d lt s k Scroll (t, there, e) is = (t, met-more es p t there, e ∙ scroll-moved s k)
-among-turn m es n c p d lt s k Caps (t, there, e) is = (
+among-turn : (u : Under) (es : Entries) (n c p : ℕ) → AreDone u es n c → p < n → (s : State) (k : ℕ) (l : Lock)
+    → IsAmong es p s → IsMove u s (Turn k l) → IsAmong es (suc p) (with_lock_turned s l)
+among-turn u es n c p d lt s k Scroll (t, there, e) is = (t, met-more es p t there, e ∙ scroll-moved s)
+among-turn u es n c p d lt s k Caps (t, there, e) is = (
   with_lock_turned t Caps,
-  done-turn m es n c p d lt t k Caps (λ q. cc) there (moves-unscrolled m s t (Turn k Caps) e is),
-  same_moved s t (Turn k Caps) e,
+  done-turn u es n c p d lt t k Caps (λ q. cc) there (moves-unscrolled u s t (Turn k Caps) e is),
+  same_moved u s t (Turn k Caps) e,
 )
-among-turn m es n c p d lt s k Num (t, there, e) is = (
+among-turn u es n c p d lt s k Num (t, there, e) is = (
   with_lock_turned t Num,
-  done-turn m es n c p d lt t k Num (λ q. cc) there (moves-unscrolled m s t (Turn k Num) e is),
-  same_moved s t (Turn k Num) e,
+  done-turn u es n c p d lt t k Num (λ q. cc) there (moves-unscrolled u s t (Turn k Num) e is),
+  same_moved u s t (Turn k Num) e,
 )
-among-turn m es n c p d lt s k Alt (t, there, e) is = (
+among-turn u es n c p d lt s k Alt (t, there, e) is = (
   with_lock_turned t Alt,
-  done-turn m es n c p d lt t k Alt (λ q. cc) there (moves-unscrolled m s t (Turn k Alt) e is),
-  same_moved s t (Turn k Alt) e,
+  done-turn u es n c p d lt t k Alt (λ q. cc) there (moves-unscrolled u s t (Turn k Alt) e is),
+  same_moved u s t (Turn k Alt) e,
 )
 
 -- after a finished search the states met are safe
-done-safe_below : (m : MapValue) (es : Entries) (n : ℕ) → AreDone m es n n → IsSafeBelow m n (IsAmong es)
-done-safe_below m es n d = record {
+done-safe_below : (u : Under) (es : Entries) (n : ℕ) → AreDone u es n n → IsSafeBelow u n (IsAmong es)
+done-safe_below u es n d = record {
   start = (start, d.start, refl);
   let_go = λ p lt s k i (t, there, e) h. (
     with_holder t i None,
-    done-let_go m es n n p d lt t k i there (moves-unscrolled m s t (LetGo k i) e h),
-    same_moved s t (LetGo k i) e,
+    done-let_go u es n n p d lt t k i there (moves-unscrolled u s t (LetGo k i) e h),
+    same_moved u s t (LetGo k i) e,
+  );
+  exchange = λ p lt s (t, there, e) is. (
+    moved u t Exchange,
+    done-exchange u es n n p d lt t there (moves-unscrolled u s t Exchange e is),
+    same_moved u s t Exchange e,
   );
   more = λ p s (t, there, e). (t, met-more es p t there, e);
   hold = λ p lt s k i (t, there, e) is. (
     with_holder t i (Some k),
-    done-hold m es n n p d lt t k i there (moves-unscrolled m s t (Hold k i) e is),
-    same_moved s t (Hold k i) e,
+    done-hold u es n n p d lt t k i there (moves-unscrolled u s t (Hold k i) e is),
+    same_moved u s t (Hold k i) e,
   );
-  turn = λ p lt s k l there is. among-turn m es n n p d lt s k l there is;
+  turn = λ p lt s k l there is. among-turn u es n n p d lt s k l there is;
   safe =
-      λ p lt s (t, there, e) forgetful. done-safe m es n n p d lt t there
-      (subst (λ y. IsForgetful m y) (sym e) forgetful);
+      λ p lt s (t, there, e) forgetful. done-safe u es n n p d lt t there
+      (subst (λ y. IsForgetful u y) (sym e) forgetful);
 }
 
 -- What is known of a state that n presses or fewer lead to; of those by more nothing is.
@@ -736,15 +797,21 @@ abbrev IsAmongUpTo : Entries → ℕ → ℕ → State → Type 0
 IsAmongUpTo es n p s = p ≤ n → IsAmong es p s
 
 -- where the states by n presses are closed, the states up to them are safe, whatever a press more leads to
-closed-safe_below : (m : MapValue) (es : Entries) (n : ℕ) → AreDone m es n (n + 1)
-    → IsSafeBelow m (n + 1) (IsAmongUpTo es n)
-closed-safe_below m es n d = record {
+closed-safe_below : (u : Under) (es : Entries) (n : ℕ) → AreDone u es n (n + 1)
+    → IsSafeBelow u (n + 1) (IsAmongUpTo es n)
+closed-safe_below u es n d = record {
   start = λ le. (start, d.start, refl);
   let_go = λ p lt s k i among h le.
       let there : IsAmong es p s = among le in (
         with_holder there.0 i None,
-        done-let_go m es n (n + 1) p d lt there.0 k i there.1 (moves-unscrolled m s there.0 (LetGo k i) there.2 h),
-        same_moved s there.0 (LetGo k i) there.2,
+        done-let_go u es n (n + 1) p d lt there.0 k i there.1 (moves-unscrolled u s there.0 (LetGo k i) there.2 h),
+        same_moved u s there.0 (LetGo k i) there.2,
+      );
+  exchange = λ p lt s among is le.
+      let there : IsAmong es p s = among le in (
+        moved u there.0 Exchange,
+        done-exchange u es n (n + 1) p d lt there.0 there.1 (moves-unscrolled u s there.0 Exchange there.2 is),
+        same_moved u s there.0 Exchange there.2,
       );
   more = λ p s among le.
       let there : IsAmong es p s = among (omega (arith, le)) in
@@ -752,23 +819,23 @@ closed-safe_below m es n d = record {
   hold = λ p lt s k i among is le.
       let there : IsAmong es p s = among (omega (arith, le)) in (
         with_holder there.0 i (Some k),
-        done-hold m es n (n + 1) p d (omega (arith, le)) there.0 k i there.1
-            (moves-unscrolled m s there.0 (Hold k i) there.2 is),
-        same_moved s there.0 (Hold k i) there.2,
+        done-hold u es n (n + 1) p d (omega (arith, le)) there.0 k i there.1
+            (moves-unscrolled u s there.0 (Hold k i) there.2 is),
+        same_moved u s there.0 (Hold k i) there.2,
       );
   turn = λ p lt s k l among is le.
       let there : IsAmong es p s = among (omega (arith, le)) in
-      among-turn m es n (n + 1) p d (omega (arith, le)) s k l there is;
+      among-turn u es n (n + 1) p d (omega (arith, le)) s k l there is;
   safe = λ p lt s among forgetful.
       let there : IsAmong es p s = among (omega (arith, lt)) in
-      done-safe m es n (n + 1) p d lt there.0 there.1
-      (subst (λ y. IsForgetful m y) (sym there.2) forgetful);
+      done-safe u es n (n + 1) p d lt there.0 there.1
+      (subst (λ y. IsForgetful u y) (sym there.2) forgetful);
 }
 
 -- all that was met is pressed and closed
-pub searched-never : (m : MapValue) (es : Entries) (n : ℕ) → length es ≤ n → Searched m es n n → NeverSticks m
-searched-never m es n le s =
-    never-sticks m (IsAmong es) (λ q. done-safe_below m es q (record {
+pub searched-never : (u : Under) (es : Entries) (n : ℕ) → length es ≤ n → Searched u es n n → NeverUnder u
+searched-never u es n le s =
+    never-sticks u (IsAmong es) (λ q. done-safe_below u es q (record {
       start = s.start;
       pressed =
           λ j x at lt. let below : j < length es = slice_get_within es j x at in
@@ -779,9 +846,9 @@ searched-never m es n le s =
     }))
 
 -- those met by fewer presses than the level are pressed and closed
-level-done : (m : MapValue) (es : Entries) (level p : ℕ) → AreInOrder es level p → Searched m es level level
-    → AreDone m es p p
-level-done m es level p order s = record {
+level-done : (u : Under) (es : Entries) (level p : ℕ) → AreInOrder es level p → Searched u es level level
+    → AreDone u es p p
+level-done u es level p order s = record {
   start = s.start;
   pressed = λ j x at lt. s.pressed j x at (below j x at lt);
   closed = λ j x at lt. s.closed j x at (below j x at lt);
@@ -794,41 +861,41 @@ level-done m es level p order s = record {
     ]
 
 -- a holder at the place looks up a character: the script of a path to it leaves its modifier on, by the fewest presses
-pub stuck-sticks : (m : MapValue) (es : Entries) (level p j k : ℕ) → AreInOrder es level p → Searched m es level level
-    → IsStuck m es j k
-    → (h : List Event) → IsScriptTo es j k h
-    → LeavesOn m h × HasFewestPresses m h
-stuck-sticks m es level p j k order s (x, at, stuck) h is =
+pub stuck-sticks : (u : Under) (es : Entries) (level p j k : ℕ) → AreInOrder es level p → Searched u es level level
+    → IsStuck u es j k
+    → (h : List Event) → IsScriptTo u es j k h
+    → LeavesOnUnder u h × HasFewestUnder u h
+stuck-sticks u es level p j k order s (x, at, stuck) h is =
     let i : Modifier = stuck.0 in
-    let r : IsReached m es j x = s.reached j x at in
-    let e : h ≡ script_of_path r.0 k = is r.0 x at r.1 r.3 in
-    let left = sticks_if_reached m r.0 r.2 i k (subst (λ t. HolderForgets m t i k) (sym r.3) stuck.1) in
+    let r : IsReached u es j x = s.reached j x at in
+    let e : h ≡ script_of_path u r.0 k = is r.0 x at r.1 r.3 in
+    let left = script-sticks u r.0 r.2 i k (subst (λ t. HolderForgets u t i k) (sym r.3) stuck.1) in
     let within : x.1.presses ≤ p = order-within es level p order j x at in
-    let count : presses h ≡ suc x.1.presses = ap presses e ∙ presses-script r.0 k ∙ ap suc r.4 in (
-      subst (λ y. LeavesOn m y) (sym e) (left.0, left.1, (i, left.2)),
-      (λ g keys no_loads l sticks.
+    let count : presses h ≡ suc x.1.presses = ap presses e ∙ presses-script u r.0 k ∙ ap suc r.4 in (
+      subst (λ y. LeavesOnUnder u y) (sym e) (left.0, left.1, (i, left.2)),
+      (λ g keys admitted l sticks.
           let late : p < presses g =
-          sticks-late m p (IsAmong es) (done-safe_below m es p (level-done m es level p order s)) g keys no_loads l
+          sticks-late u p (IsAmong es) (done-safe_below u es p (level-done u es level p order s)) g keys admitted l
           sticks in
           omega (arith, within, count, late)),
     )
 
 -- no modifier sticks by the presses of the levels below a level
-pub level-late : (m : MapValue) (es : Entries) (level p : ℕ) → AreInOrder es level p → Searched m es level level
-    → NoneSticksBy m p
-level-late m es level p order s g keys no_loads i sticks =
-    sticks-late m p (IsAmong es) (done-safe_below m es p (level-done m es level p order s)) g keys no_loads i sticks
+pub level-late : (u : Under) (es : Entries) (level p : ℕ) → AreInOrder es level p → Searched u es level level
+    → NoneUnderBy u p
+level-late u es level p order s g keys admitted i sticks =
+    sticks-late u p (IsAmong es) (done-safe_below u es p (level-done u es level p order s)) g keys admitted i sticks
 
 -- no modifier sticks by one press more where that level was closed, and some of the next one was met
-pub closed-late : (m : MapValue) (old es : Entries) (level p : ℕ) → AreInOrder old level p → Grows old es
-    → AreInOrder es (length old) (p + 1) → Searched m es level (length old)
-    → NoneSticksBy m (p + 1)
-closed-late m old es level p before g order s g' keys no_loads i sticks =
-    sticks-late m (p + 1) (IsAmongUpTo es p) (closed-safe_below m es p (record {
+pub closed-late : (u : Under) (old es : Entries) (level p : ℕ) → AreInOrder old level p → Grows old es
+    → AreInOrder es (length old) (p + 1) → Searched u es level (length old)
+    → NoneUnderBy u (p + 1)
+closed-late u old es level p before g order s g' keys admitted i sticks =
+    sticks-late u (p + 1) (IsAmongUpTo es p) (closed-safe_below u es p (record {
       start = s.start;
       pressed = λ j x at lt. s.pressed j x at (earlier j x at (below j x at (omega (arith, lt))) lt);
       closed = λ j x at lt. s.closed j x at (below j x at lt);
-    })) g' keys no_loads i sticks
+    })) g' keys admitted i sticks
   where
     below : (j : ℕ) (x : Entry) → slice_get es j ≡ Some x → x.1.presses < p + 1 → j < length old
     below j x at lt = elim (cases_lt j (length old)) [

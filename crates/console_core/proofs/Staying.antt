@@ -1,4 +1,4 @@
--- A console stands in a state of sets that the moves keep, whatever presses, releases and resets come.
+-- A console stands in a state of sets that the moves keep, whatever presses, releases, resets and loads come.
 use Prim.Native.Nat.{suc}
 use Rattle.std.proofs.Common.{◌≡◌, ℕ, ◌<◌, ◌≤◌, ◌⊎◌, Bool, true, false, ◌&&◌, ◌||◌, not, eqb, List, [], ◌∷◌, Option}
 use Rattle.std.proofs.Common.{Some, None, refl, ap, subst, sym, ◌∙◌, inl, inr, arith, if◌then◌else◌}
@@ -17,6 +17,7 @@ use Rattle.keymap_core.specs.declared.action.Holding.TheVariants as holding
 use Rattle.keymap_core.specs.declared.entry.Cell.{Cell}
 use Rattle.keymap_core.specs.declared.entry.Cell.TheVariants.{Char, Act}
 use Rattle.keymap_core.specs.Actions.{same_action, same_modifier, same_lock, holding_action, action_kind}
+use Rattle.keymap_core.specs.Borne.{is_borne}
 use Rattle.keymap_core.specs.Maps.{MapValue}
 use Rattle.keymap_core.specs.Bearers.{IsCellOf, Bears}
 use Rattle.keymap_core.proofs.SameActions.{same_action-true, same_action-refl}
@@ -25,22 +26,21 @@ use Rattle.console_core.specs.declared.event.Event.TheVariants.{Press, Release, 
 use Rattle.console_core.specs.Columns.{look_with}
 use Rattle.console_core.specs.Resolved.{ResolvedEvent, held, locked, on, remembered, taken_over, is_this_action, look}
 use Rattle.console_core.specs.Resolved.{resolve, resolve_press}
-use Rattle.console_core.specs.Resolved.ResolvedEvent.{PressedCharacter, PressedAction, ReleasedKey, WasReset}
-use Rattle.console_core.specs.History.{Maps, between, in_force, loaded, resolved, is_on_after, pressed, HasKey, HasKeys}
-use Rattle.console_core.specs.History.{IsNoLoad, HasNoLoads}
-use Rattle.console_core.specs.Moves.{State, start, is_held, look_in, Holds, IsIdle, with_holder, with_lock_turned}
-use Rattle.console_core.specs.Moves.{IsMove}
-use Rattle.console_core.specs.Moves.{IsForgetful}
-use Rattle.console_core.specs.declared.held.Move.TheVariants.{Hold, Turn}
-use Rattle.console_core.specs.Sticking.{NeverSticks, SticksAfter, presses}
+use Rattle.console_core.specs.Resolved.ResolvedEvent.{PressedCharacter, PressedAction, ReleasedKey, WasReset, WasLoaded}
+use Rattle.console_core.specs.History.{Maps, in_force, resolved, is_on_after, is_second_in_force, pressed, HasKey}
+use Rattle.console_core.specs.History.{HasKeys, IsNoLoad}
+use Rattle.console_core.specs.Moves.{Under, State, start, is_held, map_of, map_in, look_in, Holds, IsIdle, with_holder}
+use Rattle.console_core.specs.Moves.{with_lock_turned, exchanged, next_map, IsFree, IsMove, IsForgetful}
+use Rattle.console_core.specs.declared.held.Move.TheVariants.{Hold, Turn, Exchange}
+use Rattle.console_core.specs.Sticking.{SticksBetween, presses}
+use Rattle.console_core.specs.Inner.Searching.{Admits, NeverUnder}
 use Rattle.console_core.specs.Headline.{IsOnOnlyWhilePressed, IsOffOnceQuiet}
 use Rattle.console_core.proofs.OneMore.{resolved-start, resolved-more, held-start, held-character, held-action}
-use Rattle.console_core.proofs.OneMore.{held-release, held-reset, locked-start, locked-character, locked-action}
-use Rattle.console_core.proofs.OneMore.{locked-release, locked-reset, remembered-character, remembered-action}
-use Rattle.console_core.proofs.OneMore.{remembered-release}
+use Rattle.console_core.proofs.OneMore.{held-release, held-reset, held-load, locked-start, locked-character}
+use Rattle.console_core.proofs.OneMore.{locked-action, locked-release, locked-reset, locked-load}
+use Rattle.console_core.proofs.OneMore.{remembered-character, remembered-action, remembered-release}
 use Rattle.console_core.proofs.Borne.{taken-holding, resolved-looked}
 use Rattle.console_core.proofs.Bearing.{first_kept, remembered-cell, remembered-pressed}
-use Rattle.console_core.proofs.OneMap.{first_in_force}
 use mathlib.Core.Path.{fun_ext}
 use Rattle.std.specs.Option.{is_some}
 
@@ -51,13 +51,13 @@ pub record Follows (r : List ResolvedEvent) (s : State) : Type 0 where
   pub holds : (i : Modifier) (k : ℕ) → Holds s k i → remembered k r ≡ Some (act.Mod i)
 
 -- a look of the events is one in the state that they follow
-pub follows-look : (m : MapValue) (r : List ResolvedEvent) (s : State) (k : ℕ) → Follows r s
-    → look m r k ≡ look_in m s k
+pub follows-look : (u : Under) (r : List ResolvedEvent) (s : State) (k : ℕ) → Follows r s
+    → look (map_in u s) r k ≡ look_in u s k
 unfolding look
-follows-look m r s k f =
+follows-look u r s k f =
     let e : (λ (i : Modifier). on i r) ≡ (λ i. is_held s i) = fun_ext (λ i. f.on i) in
     let g : (λ (l : Lock). locked l r) ≡ (λ l. s.is_locked l) = fun_ext (λ l. f.locked l) in
-    ap (λ x. look_with m x (λ l. locked l r) k) e ∙ ap (λ y. look_with m (λ i. is_held s i) y k) g
+    ap (λ x. look_with (map_in u s) x (λ l. locked l r) k) e ∙ ap (λ y. look_with (map_in u s) (λ i. is_held s i) y k) g
 
 -- equal actions
 pub same_mods : (i j : Modifier) → same_modifier i j ≡ true → i ≡ j
@@ -295,20 +295,20 @@ pub not_true : (x : Bool) → (x ≡ true → ⊥) → x ≡ false
 not_true true f = absurd (f refl)
 not_true false f = refl
 
--- the steps, where the moves keep the sets
-abbrev Stays : (State → Type 0) → List ResolvedEvent → Type 0
-Stays S r = (s : State) × S s × Follows r s
+-- the steps, where the moves keep the sets: `b` says whether the second map is in force
+abbrev Stays : (State → Type 0) → Bool → List ResolvedEvent → Type 0
+Stays S b r = (s : State) × S s × Follows r s × (s.is_second ≡ b)
 
 -- letting go doesn't leave the set
 abbrev KeepsLetGo : (State → Type 0) → Type 0
 KeepsLetGo S = (s : State) (k : ℕ) (i : Modifier) → S s → Holds s k i → S (with_holder s i None)
 
 -- A press leads from the one set to the other, and no holder looks up a character in the first.
-record LeadsOn (m : MapValue) (S T : State → Type 0) : Type 0 where
+record LeadsOn (u : Under) (S T : State → Type 0) : Type 0 where
   stay : (s : State) → S s → T s
-  hold : (s : State) (k : ℕ) (i : Modifier) → S s → IsMove m s (Hold k i) → T (with_holder s i (Some k))
-  turn : (s : State) (k : ℕ) (l : Lock) → S s → IsMove m s (Turn k l) → T (with_lock_turned s l)
-  safe : (s : State) → S s → IsForgetful m s → ⊥
+  hold : (s : State) (k : ℕ) (i : Modifier) → S s → IsMove u s (Hold k i) → T (with_holder s i (Some k))
+  turn : (s : State) (k : ℕ) (l : Lock) → S s → IsMove u s (Turn k l) → T (with_lock_turned s l)
+  safe : (s : State) → S s → IsForgetful u s → ⊥
 
 -- a state without a holder for the modifier is as after letting go of it
 same_holders : (s : State) (i : Modifier) → s.holder i ≡ None → (j : Modifier) (t : Bool) → same_modifier i j ≡ t
@@ -322,15 +322,15 @@ without : (S : State → Type 0) → KeepsLetGo S → (s : State) (i : Modifier)
 without S keeps s i None e there =
     let p : (λ (j : Modifier). s.holder j) ≡ (λ j. if same_modifier i j then None else s.holder j) =
     fun_ext (λ j. same_holders s i e j (same_modifier i j) refl) in
-    subst (λ x. S (record { holder = x; is_locked = s.is_locked })) p there
+    subst (λ x. S (record { holder = x; is_locked = s.is_locked; is_second = s.is_second })) p there
 without S keeps s i (Some k) e there = keeps s k i there e
 
 -- a press that takes a modifier leads from a set to the next
-stays-mod : (m : MapValue) (S T : State → Type 0) → LeadsOn m S T → (r : List ResolvedEvent) (s : State) → S s
-    → Follows r s → (k : ℕ) → k < 128 → (b : Action) → look_in m s k ≡ Act b → (i : Modifier)
+stays-mod : (u : Under) (S T : State → Type 0) → LeadsOn u S T → (r : List ResolvedEvent) (s : State) → S s
+    → Follows r s → (k : ℕ) → k < 128 → (b : Action) → look_in u s k ≡ Act b → (i : Modifier)
     → taken_over (remembered k r) b ≡ act.Mod i → b ≡ act.Mod i → (o : Option ℕ) → s.holder i ≡ o
-    → Stays T (PressedAction k b ∷ r)
-stays-mod m S T leads r s there f k lt b seen i e is None free = (
+    → Stays T s.is_second (PressedAction k b ∷ r)
+stays-mod u S T leads r s there f k lt b seen i e is None free = (
   with_holder s i (Some k),
   leads.hold s k i there (
     lt,
@@ -340,21 +340,24 @@ stays-mod m S T leads r s there f k lt b seen i e is None free = (
     free,
   ),
   follows-hold r s k b i f e,
+  refl,
 )
-stays-mod m S T leads r s there f k lt b seen i e is (Some n) free =
-    (s, leads.stay s there, follows-again r s k b i n f e free)
+stays-mod u S T leads r s there f k lt b seen i e is (Some n) free =
+    (s, leads.stay s there, follows-again r s k b i n f e free, refl)
 
 -- a press that takes a lock leads from a set to the next
-stays-lock : (m : MapValue) (S T : State → Type 0) → LeadsOn m S T → (r : List ResolvedEvent) (s : State) → S s
-    → Follows r s → (k : ℕ) → k < 128 → (b : Action) → look_in m s k ≡ Act b → (l : Lock)
+stays-lock : (u : Under) (S T : State → Type 0) → LeadsOn u S T → (r : List ResolvedEvent) (s : State) → S s
+    → Follows r s → (k : ℕ) → k < 128 → (b : Action) → look_in u s k ≡ Act b → (l : Lock)
     → taken_over (remembered k r) b ≡ act.Lock l → b ≡ act.Lock l → (d : Bool) → held (holding.Lock l) r ≡ d
-    → Stays T (PressedAction k b ∷ r)
-stays-lock m S T leads r s there f k lt b seen l e is true d = (s, leads.stay s there, follows-down r s k b l f e d)
-stays-lock m S T leads r s there f k lt b seen l e is false d = (
+    → Stays T s.is_second (PressedAction k b ∷ r)
+stays-lock u S T leads r s there f k lt b seen l e is true d =
+    (s, leads.stay s there, follows-down r s k b l f e d, refl)
+stays-lock u S T leads r s there f k lt b seen l e is false d = (
   with_lock_turned s l,
   leads.turn s k l there
       (lt, (λ j h. some_mod_lock j l (holder-takes r s k b (holding.Lock l) j f h e)), seen ∙ ap (λ x. Act x) is),
   follows-turn r s k b l f e d,
+  refl,
 )
 
 -- a press that takes a holding action looked it up
@@ -365,37 +368,47 @@ looked_up r k b a e =
     (ap (λ x. same_action x (holding_action a)) e ∙ same_action-refl (holding_action a))).0
 
 -- a press leads from a set to the next
-stays-press : (m : MapValue) (S T : State → Type 0) → LeadsOn m S T → (r : List ResolvedEvent) (s : State) → S s
-    → Follows r s → (k : ℕ) → k < 128 → (x : Cell) → look_in m s k ≡ x → Stays T (resolve_press k x ∷ r)
-stays-press m S T leads r s there f k lt (Char c) seen =
-    (s, leads.stay s there, follows-character r s k c f (λ i h. leads.safe s there (i, k, (h, (c, seen)))))
-stays-press m S T leads r s there f k lt (Act b) seen =
+stays-press : (u : Under) (S T : State → Type 0) → LeadsOn u S T → (r : List ResolvedEvent) (s : State) → S s
+    → Follows r s → (k : ℕ) → k < 128 → (x : Cell) → look_in u s k ≡ x
+    → Stays T s.is_second (resolve_press k x ∷ r)
+stays-press u S T leads r s there f k lt (Char c) seen =
+    (s, leads.stay s there, follows-character r s k c f (λ i h. leads.safe s there (i, k, (h, (c, seen)))), refl)
+stays-press u S T leads r s there f k lt (Act b) seen =
     elim (kind_of (taken_over (remembered k r) b)) [
       | inl p ↦
-          stays-mod m S T leads r s there f k lt b seen p.0 p.1 (looked_up r k b (holding.Mod p.0) p.1) (s.holder p.0)
+          stays-mod u S T leads r s there f k lt b seen p.0 p.1 (looked_up r k b (holding.Mod p.0) p.1) (s.holder p.0)
           refl
       | inr (inl p) ↦
-          stays-lock m S T leads r s there f k lt b seen p.0 p.1 (looked_up r k b (holding.Lock p.0) p.1)
+          stays-lock u S T leads r s there f k lt b seen p.0 p.1 (looked_up r k b (holding.Lock p.0) p.1)
           (held (holding.Lock p.0) r) refl
-      | inr (inr none) ↦ (s, leads.stay s there, follows-nothing r s k b f none)
+      | inr (inr none) ↦ (s, leads.stay s there, follows-nothing r s k b f none, refl)
     ]
 
 -- a release stays in a set that letting go keeps
 stays-release : (S : State → Type 0) → KeepsLetGo S → (r : List ResolvedEvent) (s : State) → S s → Follows r s
-    → (k : ℕ) (o : Option Action) → remembered k r ≡ o → Stays S (ReleasedKey k ∷ r)
+    → (k : ℕ) (o : Option Action) → remembered k r ≡ o → Stays S s.is_second (ReleasedKey k ∷ r)
 stays-release S keeps r s there f k None e =
-    (s, there, follows-release r s k f (λ i. ap (λ o. is_this_action o (act.Mod i)) e))
+    (s, there, follows-release r s k f (λ i. ap (λ o. is_this_action o (act.Mod i)) e), refl)
 stays-release S keeps r s there f k (Some a) e =
     elim (kind_of a) [
       | inl p ↦ (
         with_holder s p.0 None,
         without S keeps s p.0 (s.holder p.0) refl there,
         follows-let_go r s k p.0 f (e ∙ ap (λ x. Some x) p.1),
+        refl,
       )
-      | inr (inl p) ↦
-          (s, there, follows-release r s k f (λ i. ap (λ o. is_this_action o (act.Mod i)) (e ∙ ap (λ x. Some x) p.1)))
-      | inr (inr none) ↦
-          (s, there, follows-release r s k f (λ i. ap (λ o. is_this_action o (act.Mod i)) e ∙ none (holding.Mod i)))
+      | inr (inl p) ↦ (
+        s,
+        there,
+        follows-release r s k f (λ i. ap (λ o. is_this_action o (act.Mod i)) (e ∙ ap (λ x. Some x) p.1)),
+        refl,
+      )
+      | inr (inr none) ↦ (
+        s,
+        there,
+        follows-release r s k f (λ i. ap (λ o. is_this_action o (act.Mod i)) e ∙ none (holding.Mod i)),
+        refl,
+      )
     ]
 
 -- a reset: all holders let go, one after another
@@ -434,7 +447,7 @@ emptied-kept S keeps s there =
 
 -- a reset stays in a set that letting go keeps
 stays-reset : (S : State → Type 0) → KeepsLetGo S → (r : List ResolvedEvent) (s : State) → S s → Follows r s
-    → Stays S (WasReset ∷ r)
+    → Stays S s.is_second (WasReset ∷ r)
 stays-reset S keeps r s there f = (
   emptied s,
   emptied-kept S keeps s there,
@@ -443,6 +456,31 @@ stays-reset S keeps r s there f = (
     locked = λ l. locked-reset l r ∙ f.locked l;
     holds = λ i k h. absurd (some_none k ((emptied s).holder i) h (emptied-none s i));
   },
+  refl,
+)
+
+-- a load, where nothing is held
+pub follows-load : (m : MapValue) (r : List ResolvedEvent) (s : State) → ((l : Lock) → locked l r ≡ s.is_locked l)
+    → IsFree s → Follows (WasLoaded m ∷ r) (exchanged m s)
+follows-load m r s locks free = record {
+  on = λ i. held-load (holding.Mod i) m r ∙ ap (λ o. is_some o) (sym (free i));
+  locked = λ l. locked-load l m r ∙ ap (λ b. is_borne m (holding.Lock l) && b) (locks l);
+  holds = λ i k h. absurd (some_none k (s.holder i) h (free i));
+}
+
+-- exchanging the maps, where nothing is held, doesn't leave the set
+abbrev KeepsExchange : Under → (State → Type 0) → Type 0
+KeepsExchange u S = (s : State) → S s → IsMove u s Exchange → S (exchanged (next_map u s) s)
+
+-- A load stays in a set that letting go and exchanging the maps keep: it leads where it does once all have let go.
+stays-load : (u : Under) (S : State → Type 0) → KeepsLetGo S → KeepsExchange u S → u.has_loads ≡ true
+    → (r : List ResolvedEvent) (s : State) → S s → Follows r s
+    → Stays S (not s.is_second) (WasLoaded (next_map u s) ∷ r)
+stays-load u S keeps exchanges loads r s there f = (
+  exchanged (next_map u s) (emptied s),
+  exchanges (emptied s) (emptied-kept S keeps s there) (emptied-none s, loads),
+  follows-load (next_map u s) r (emptied s) f.locked (emptied-none s),
+  refl,
 )
 
 -- no events lead to the start
@@ -453,30 +491,36 @@ follows-start = record {
   holds = λ i k h. absurd (some_none k None h refl);
 }
 
--- Sets of states by how many presses lead to them: below n letting go stays in a set, a press leads from a set to the
--- next one, and no holder looks up a character.
-pub record IsSafeBelow (m : MapValue) (n : ℕ) (S : ℕ → State → Type 0) : Type 0 where
+-- Sets of states by how many presses lead to them: below n letting go and exchanging the maps stay in a set, a press
+-- leads from a set to the next one, and no holder looks up a character.
+pub record IsSafeBelow (u : Under) (n : ℕ) (S : ℕ → State → Type 0) : Type 0 where
   pub start : S 0 start
   pub let_go : (p : ℕ) → p < n → (s : State) (k : ℕ) (i : Modifier) → S p s → Holds s k i → S p (with_holder s i None)
+  pub exchange : (p : ℕ) → p < n → (s : State) → S p s → IsMove u s Exchange → S p (exchanged (next_map u s) s)
   pub more : (p : ℕ) (s : State) → S p s → S (suc p) s
-  pub hold : (p : ℕ) → p < n → (s : State) (k : ℕ) (i : Modifier) → S p s → IsMove m s (Hold k i)
+  pub hold : (p : ℕ) → p < n → (s : State) (k : ℕ) (i : Modifier) → S p s → IsMove u s (Hold k i)
       → S (suc p) (with_holder s i (Some k))
-  pub turn : (p : ℕ) → p < n → (s : State) (k : ℕ) (l : Lock) → S p s → IsMove m s (Turn k l)
+  pub turn : (p : ℕ) → p < n → (s : State) (k : ℕ) (l : Lock) → S p s → IsMove u s (Turn k l)
       → S (suc p) (with_lock_turned s l)
-  pub safe : (p : ℕ) → p < n → (s : State) → S p s → IsForgetful m s → ⊥
+  pub safe : (p : ℕ) → p < n → (s : State) → S p s → IsForgetful u s → ⊥
 
 -- after p presses the state is in its set, where p is below n
 abbrev Below : ℕ → (ℕ → State → Type 0) → ℕ → State → Type 0
 Below n S p s = p < n → S p s
 
 -- letting go stays in the sets below n
-below-lets_go : (m : MapValue) (n : ℕ) (S : ℕ → State → Type 0) → IsSafeBelow m n S → (p : ℕ) → KeepsLetGo (Below n S p)
-below-lets_go m n S safe p s k i there h lt = safe.let_go p lt s k i (there lt) h
+below-lets_go : (u : Under) (n : ℕ) (S : ℕ → State → Type 0) → IsSafeBelow u n S → (p : ℕ) → KeepsLetGo (Below n S p)
+below-lets_go u n S safe p s k i there h lt = safe.let_go p lt s k i (there lt) h
+
+-- exchanging the maps stays in the sets below n
+below-exchanges : (u : Under) (n : ℕ) (S : ℕ → State → Type 0) → IsSafeBelow u n S → (p : ℕ)
+    → KeepsExchange u (Below n S p)
+below-exchanges u n S safe p s there is lt = safe.exchange p lt s (there lt) is
 
 -- below n a press leads from a set to the next
-below-leads_on : (m : MapValue) (n : ℕ) (S : ℕ → State → Type 0) → IsSafeBelow m n S → (p : ℕ) → p < n
-    → LeadsOn m (S p) (Below n S (suc p))
-below-leads_on m n S safe p lt = record {
+below-leads_on : (u : Under) (n : ℕ) (S : ℕ → State → Type 0) → IsSafeBelow u n S → (p : ℕ) → p < n
+    → LeadsOn u (S p) (Below n S (suc p))
+below-leads_on u n S safe p lt = record {
   stay = λ s there next. safe.more p s there;
   hold = λ s k i there is next. safe.hold p lt s k i there is;
   turn = λ s k l there is next. safe.turn p lt s k l there is;
@@ -484,18 +528,29 @@ below-leads_on m n S safe p lt = record {
 }
 
 -- an event stays in the set of the presses so far
-stays-event : (m other : MapValue) (n : ℕ) (S : ℕ → State → Type 0) → IsSafeBelow m n S
-    → (r : List ResolvedEvent) (e : Event) (h : List Event) → HasKey e → IsNoLoad e → presses (e ∷ h) ≤ n
-    → Stays (Below n S (presses h)) r → Stays (Below n S (presses (e ∷ h))) (resolve m other r e ∷ r)
-stays-event m other n S safe r (Press k) h key no_load le (s, there, f) =
+stays-event : (u : Under) (n : ℕ) (S : ℕ → State → Type 0) → IsSafeBelow u n S → (r : List ResolvedEvent) (e : Event)
+    (h : List Event) → HasKey e → (u.has_loads ≡ false → IsNoLoad e) → presses (e ∷ h) ≤ n
+    → (s : State) → Below n S (presses h) s → Follows r s → s.is_second ≡ is_second_in_force h
+    → Stays (Below n S (presses (e ∷ h))) (is_second_in_force (e ∷ h)) (resolve (map_in u s) (next_map u s) r e ∷ r)
+stays-event u n S safe r (Press k) h key admitted le s there f is =
     let lt : presses h < n = omega (arith, le) in
-    stays-press m (S (presses h)) (Below n S (suc (presses h))) (below-leads_on m n S safe (presses h) lt) r s
-    (there lt) f k key (look m r k) (sym (follows-look m r s k f))
-stays-event m other n S safe r (Release k) h key no_load le (s, there, f) =
-    stays-release (Below n S (presses h)) (below-lets_go m n S safe (presses h)) r s there f k (remembered k r) refl
-stays-event m other n S safe r Reset h key no_load le (s, there, f) =
-    stays-reset (Below n S (presses h)) (below-lets_go m n S safe (presses h)) r s there f
-stays-event m other n S safe r Load h key no_load le (s, there, f) = absurd (true≢false no_load)
+    subst (λ b. Stays (Below n S (suc (presses h))) b (resolve (map_in u s) (next_map u s) r (Press k) ∷ r)) is
+    (stays-press u (S (presses h)) (Below n S (suc (presses h))) (below-leads_on u n S safe (presses h) lt) r s
+    (there lt) f k key (look (map_in u s) r k) (sym (follows-look u r s k f)))
+stays-event u n S safe r (Release k) h key admitted le s there f is =
+    subst (λ b. Stays (Below n S (presses h)) b (ReleasedKey k ∷ r)) is
+    (stays-release (Below n S (presses h)) (below-lets_go u n S safe (presses h)) r s there f k (remembered k r) refl)
+stays-event u n S safe r Reset h key admitted le s there f is =
+    subst (λ b. Stays (Below n S (presses h)) b (WasReset ∷ r)) is
+    (stays-reset (Below n S (presses h)) (below-lets_go u n S safe (presses h)) r s there f)
+stays-event u n S safe r Load h key admitted le s there f is =
+    elim (cases_Bool u.has_loads) [
+      | inl loads ↦
+          subst (λ b. Stays (Below n S (presses h)) b (WasLoaded (next_map u s) ∷ r)) (ap not is)
+          (stays-load u (Below n S (presses h)) (below-lets_go u n S safe (presses h))
+          (below-exchanges u n S safe (presses h)) loads r s there f)
+      | inr none ↦ absurd (true≢false (admitted none))
+    ]
 
 -- one event fewer has no more presses
 fewer : (e : Event) (h : List Event) (n : ℕ) → presses (e ∷ h) ≤ n → presses h ≤ n
@@ -504,65 +559,62 @@ fewer (Release k) h n le = le
 fewer Reset h n le = le
 fewer Load h n le = le
 
--- Whatever presses, releases and resets come, at most n presses, the console stands in a state of the sets.
-stays : (ms : Maps) (n : ℕ) (S : ℕ → State → Type 0) → IsSafeBelow ms.first n S → (h : List Event) → HasKeys h
-    → HasNoLoads h → presses h ≤ n
-    → Stays (Below n S (presses h)) (resolved ms h)
-stays ms n S safe [] keys no_loads le =
-    (start, (λ lt. safe.start), subst (λ r. Follows r start) (sym (resolved-start ms)) follows-start)
-stays ms n S safe (e ∷ h) keys no_loads le =
-    let rest : HasNoLoads h = All-tail IsNoLoad e h no_loads in
-    let before : Stays (Below n S (presses h)) (resolved ms h) =
-    stays ms n S safe h (All-tail HasKey e h keys) rest (fewer e h n le) in
-    rw (resolved-more ms h e, first_in_force ms h rest)
-    (stays-event ms.first (loaded ms h) n S safe (resolved ms h) e h (All-head HasKey e h keys)
-    (All-head IsNoLoad e h no_loads) le before)
+-- Whatever presses, releases, resets and loads come, at most n presses, the console stands in a state of the sets.
+stays : (u : Under) (n : ℕ) (S : ℕ → State → Type 0) → IsSafeBelow u n S → (h : List Event) → HasKeys h
+    → Admits u h → presses h ≤ n
+    → Stays (Below n S (presses h)) (is_second_in_force h) (resolved u.maps h)
+stays u n S safe [] keys admitted le =
+    (start, (λ lt. safe.start), subst (λ r. Follows r start) (sym (resolved-start u.maps)) follows-start, refl)
+stays u n S safe (e ∷ h) keys admitted le =
+    let (s, there, f, is) =
+    stays u n S safe h (All-tail HasKey e h keys) (λ none. All-tail IsNoLoad e h (admitted none)) (fewer e h n le) in
+    rw (resolved-more u.maps h e)
+    (subst (λ b. Stays (Below n S (presses (e ∷ h))) (is_second_in_force (e ∷ h))
+    (resolve (map_of u b) (map_of u (not b)) (resolved u.maps h) e ∷ resolved u.maps h)) is
+    (stays-event u n S safe (resolved u.maps h) e h (All-head HasKey e h keys)
+    (λ none. All-head IsNoLoad e h (admitted none)) le s there f is))
 
 -- so a modifier is on only while a key that bears it is pressed
-follows-on : (ms : Maps) (h : List Event) (s : State) → Follows (resolved ms h) s → HasKeys h → HasNoLoads h
-    → IsOnOnlyWhilePressed ms.first h (λ i. is_on_after ms i h)
-follows-on ms h s f keys no_loads i e =
+follows-on : (ms : Maps) (h : List Event) (s : State) → Follows (resolved ms h) s → HasKeys h
+    → IsOnOnlyWhilePressed (in_force ms h) h (λ i. is_on_after ms i h)
+follows-on ms h s f keys i e =
     let k : (k : ℕ) × Holds s k i = some_of (s.holder i) (sym (f.on i) ∙ e) in
     let r : remembered k.0 (resolved ms h) ≡ Some (act.Mod i) = f.holds i k.0 k.1 in
     let b : (k.0 < 128) × IsCellOf (in_force ms h) k.0 (Act (act.Mod i)) =
-    remembered-cell (in_force ms h) (resolved ms h) k.0 (act.Mod i) (resolved-looked ms h keys) r in (
-      k.0,
-      b.0,
-      subst (λ m. IsCellOf m k.0 (Act (act.Mod i))) (first_in_force ms h no_loads) b.1,
-      remembered-pressed ms h k.0 (act.Mod i) r,
-    )
+    remembered-cell (in_force ms h) (resolved ms h) k.0 (act.Mod i) (resolved-looked ms h keys) r in
+    (k.0, b.0, b.1, remembered-pressed ms h k.0 (act.Mod i) r)
 
 -- where modifiers are on only while their keys are pressed, none is on once all are released
-follows-off : (ms : Maps) (h : List Event) → IsOnOnlyWhilePressed ms.first h (λ i. is_on_after ms i h)
+pub off-once_quiet : (m : MapValue) (ms : Maps) (h : List Event) → IsOnOnlyWhilePressed m h (λ i. is_on_after ms i h)
     → IsOffOnceQuiet h (λ i. is_on_after ms i h)
-follows-off ms h on quiet i =
+off-once_quiet m ms h on quiet i =
     not_true (is_on_after ms i h) (λ e.
-    let s : (k : ℕ) × (k < 128) × Bears ms.first k (holding.Mod i) × (pressed k h ≡ true) = on i e in
+    let s : (k : ℕ) × (k < 128) × Bears m k (holding.Mod i) × (pressed k h ≡ true) = on i e in
     true≢false (sym s.3 ∙ quiet s.0 s.1))
 
 -- below n presses a modifier is on only while a key that bears it is pressed
-within-on : (ms : Maps) (n : ℕ) (S : ℕ → State → Type 0) → IsSafeBelow ms.first n S → (h : List Event) → HasKeys h
-    → HasNoLoads h → presses h ≤ n → IsOnOnlyWhilePressed ms.first h (λ i. is_on_after ms i h)
-within-on ms n S safe h keys no_loads le =
-    let s : Stays (Below n S (presses h)) (resolved ms h) = stays ms n S safe h keys no_loads le in
-    follows-on ms h s.0 s.2 keys no_loads
+within-on : (u : Under) (n : ℕ) (S : ℕ → State → Type 0) → IsSafeBelow u n S → (h : List Event) → HasKeys h
+    → Admits u h → presses h ≤ n → IsOnOnlyWhilePressed (in_force u.maps h) h (λ i. is_on_after u.maps i h)
+within-on u n S safe h keys admitted le =
+    let s : Stays (Below n S (presses h)) (is_second_in_force h) (resolved u.maps h) =
+    stays u n S safe h keys admitted le in
+    follows-on u.maps h s.0 s.2 keys
 
 -- sets that are safe below every number
-pub never-sticks : (m : MapValue) (S : ℕ → State → Type 0) → ((n : ℕ) → IsSafeBelow m n S) → NeverSticks m
-never-sticks m S safe ms h first keys no_loads =
-    let on : IsOnOnlyWhilePressed ms.first h (λ i. is_on_after ms i h) =
-    within-on ms (presses h) S (subst (λ x. IsSafeBelow x (presses h) S) (sym first) (safe (presses h))) h keys
-    no_loads (omega arith) in
-    (subst (λ x. IsOnOnlyWhilePressed x h (λ i. is_on_after ms i h)) first on, follows-off ms h on)
+pub never-sticks : (u : Under) (S : ℕ → State → Type 0) → ((n : ℕ) → IsSafeBelow u n S) → NeverUnder u
+never-sticks u S safe h keys admitted =
+    let on : IsOnOnlyWhilePressed (in_force u.maps h) h (λ i. is_on_after u.maps i h) =
+    within-on u (presses h) S (safe (presses h)) h keys admitted (omega arith) in
+    (on, off-once_quiet (in_force u.maps h) u.maps h on)
 
 -- sets that are safe below n
-pub sticks-late : (m : MapValue) (n : ℕ) (S : ℕ → State → Type 0) → IsSafeBelow m n S → (h : List Event) → HasKeys h
-    → HasNoLoads h → (i : Modifier) → SticksAfter m h i → n < presses h
-sticks-late m n S safe h keys no_loads i (quiet, on) =
+pub sticks-late : (u : Under) (n : ℕ) (S : ℕ → State → Type 0) → IsSafeBelow u n S → (h : List Event) → HasKeys h
+    → Admits u h → (i : Modifier) → SticksBetween u.maps h i → n < presses h
+sticks-late u n S safe h keys admitted i (quiet, on) =
     elim (cases_lt n (presses h)) [
       | inl lt ↦ lt
       | inr le ↦
-          let off : is_on_after (between m m) i h ≡ false =
-          follows-off (between m m) h (within-on (between m m) n S safe h keys no_loads le) quiet i in
-          absurd (true≢false (sym (on (between m m) refl) ∙ off))
+          let off : is_on_after u.maps i h ≡ false =
+          off-once_quiet (in_force u.maps h) u.maps h (within-on u n S safe h keys admitted le) quiet i in
+          absurd (true≢false (sym on ∙ off))
     ]

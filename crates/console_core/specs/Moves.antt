@@ -1,37 +1,65 @@
 -- What the search for sticking modifiers goes over: the states, and the moves between them. It mirrors
 -- src/held/moves.rt, and stands outside of Inner since the answer `Undecided` is said by states and paths.
-use Rattle.std.specs.Prelude.{◌≡◌, ℕ, ◌+◌, ◌<◌, Bool, false, not, List, [], ◌∷◌, ◌++◌, Option, None, Some}
+use Rattle.std.specs.Prelude.{◌≡◌, ℕ, ◌+◌, ◌<◌, Bool, false, true, ◌&&◌, not, List, [], ◌∷◌, ◌++◌, Option, None, Some}
 use Rattle.std.specs.Prelude.{if◌then◌else◌}
 use Rattle.std.specs.Option.{is_some}
 use Rattle.keymap_core.specs.declared.action.Modifier.{Modifier}
 use Rattle.keymap_core.specs.declared.action.Lock.{Lock}
 use Rattle.keymap_core.specs.declared.action.Action.TheVariants as act
+use Rattle.keymap_core.specs.declared.action.Holding.TheVariants as holding
 use Rattle.keymap_core.specs.declared.entry.Cell.{Cell}
 use Rattle.keymap_core.specs.declared.entry.Cell.TheVariants.{Char, Act}
 use Rattle.keymap_core.specs.Actions.{same_modifier, same_lock, modifiers}
+use Rattle.keymap_core.specs.Borne.{is_borne}
 use Rattle.keymap_core.specs.Maps.{MapValue}
 use Rattle.keymap_core.specs.Numbers.{key_count}
 use Rattle.console_core.specs.declared.event.Event.{Event}
-use Rattle.console_core.specs.declared.event.Event.TheVariants.{Press, Release}
+use Rattle.console_core.specs.declared.event.Event.TheVariants.{Press, Release, Load}
 use Rattle.console_core.specs.declared.held.Move.{Move}
-use Rattle.console_core.specs.declared.held.Move.TheVariants.{Hold, Turn, LetGo}
+use Rattle.console_core.specs.declared.held.Move.TheVariants.{Hold, Turn, LetGo, Exchange}
 use Rattle.console_core.specs.Columns.{look_with}
+use Rattle.console_core.specs.History.{Maps, between}
 
--- A state: for each modifier the key that holds it on, if one does, and which locks are on.
+-- What a search goes under: two maps, and whether loads exchange them.
+pub record Under : Type 0 where
+  pub maps : Maps
+  pub has_loads : Bool
+
+-- one map, without loads
+abbrev pub alone : MapValue → Under
+alone m = record { maps = between m m; has_loads = false }
+
+-- two maps that loads exchange
+abbrev pub with_loads : Maps → Under
+with_loads ms = record { maps = ms; has_loads = true }
+
+-- A state: for each modifier the key that holds it on, if one does, which locks are on, and whether the second map is
+-- in force.
 pub record State : Type 0 where
   pub holder : Modifier → Option ℕ
   pub is_locked : Lock → Bool
+  pub is_second : Bool
 
--- nothing is held, and no lock is on
+-- nothing is held, no lock is on, and the first map is in force
 abbrev pub start : State
-start = record { holder = λ i. None; is_locked = λ l. false }
+start = record { holder = λ i. None; is_locked = λ l. false; is_second = false }
+
+-- the map in force, and the one that a load puts in force
+abbrev pub map_of : Under → Bool → MapValue
+map_of u is_second = if is_second then u.maps.second else u.maps.first
+
+abbrev pub map_in : Under → State → MapValue
+map_in u s = map_of u s.is_second
+
+abbrev pub next_map : Under → State → MapValue
+next_map u s = map_of u (not s.is_second)
 
 abbrev pub is_held : State → Modifier → Bool
 is_held s i = is_some (s.holder i)
 
 -- what a press of the key looks up
-abbrev pub look_in : MapValue → State → ℕ → Cell
-look_in m s k = look_with m (λ i. is_held s i) (λ l. s.is_locked l) k
+abbrev pub look_in : Under → State → ℕ → Cell
+look_in u s k = look_with (map_in u s) (λ i. is_held s i) (λ l. s.is_locked l) k
 
 -- the key holds the modifier
 abbrev pub Holds : State → ℕ → Modifier → Type 0
@@ -47,40 +75,53 @@ with_holder s i holder = record s { holder = λ j. if same_modifier i j then hol
 abbrev pub with_lock_turned : State → Lock → State
 with_lock_turned s l = record s { is_locked = λ j. if same_lock l j then not (s.is_locked j) else s.is_locked j }
 
--- The moves from a state. A key that holds nothing becomes the holder of the modifier that it looks up, if that has
--- none,
--- or turns the lock that it looks up. A holder lets go.
-abbrev pub IsMove : MapValue → State → Move → Type 0
-IsMove m s (Hold k i) = (k < key_count) × IsIdle s k × (look_in m s k ≡ Act (act.Mod i)) × (s.holder i ≡ None)
-IsMove m s (Turn k l) = (k < key_count) × IsIdle s k × (look_in m s k ≡ Act (act.Lock l))
-IsMove m s (LetGo k i) = Holds s k i
+-- the map is in force, and each lock that it doesn't bear is off
+abbrev pub exchanged : MapValue → State → State
+exchanged m s = record s {
+  is_locked = λ l. is_borne m (holding.Lock l) && s.is_locked l;
+  is_second = not s.is_second;
+}
 
-abbrev pub moved : State → Move → State
-moved s (Hold k i) = with_holder s i (Some k)
-moved s (Turn k l) = with_lock_turned s l
-moved s (LetGo k i) = with_holder s i None
+-- nothing is held
+abbrev pub IsFree : State → Type 0
+IsFree s = (i : Modifier) → s.holder i ≡ None
+
+-- The moves from a state. A key that holds nothing becomes the holder of the modifier that it looks up, if that has
+-- none, or turns the lock that it looks up. A holder lets go. Where nothing is held, the maps are exchanged.
+abbrev pub IsMove : Under → State → Move → Type 0
+IsMove u s (Hold k i) = (k < key_count) × IsIdle s k × (look_in u s k ≡ Act (act.Mod i)) × (s.holder i ≡ None)
+IsMove u s (Turn k l) = (k < key_count) × IsIdle s k × (look_in u s k ≡ Act (act.Lock l))
+IsMove u s (LetGo k i) = Holds s k i
+IsMove u s Exchange = IsFree s × (u.has_loads ≡ true)
+
+abbrev pub moved : Under → State → Move → State
+moved u s (Hold k i) = with_holder s i (Some k)
+moved u s (Turn k l) = with_lock_turned s l
+moved u s (LetGo k i) = with_holder s i None
+moved u s Exchange = exchanged (next_map u s) s
 
 -- the key holds the modifier and looks up a character, so a press of it forgets that it holds
-abbrev pub HolderForgets : MapValue → State → Modifier → ℕ → Type 0
-HolderForgets m s i k = Holds s k i × ((c : ℕ) × (look_in m s k ≡ Char c))
+abbrev pub HolderForgets : Under → State → Modifier → ℕ → Type 0
+HolderForgets u s i k = Holds s k i × ((c : ℕ) × (look_in u s k ≡ Char c))
 
-abbrev pub IsForgetful : MapValue → State → Type 0
-IsForgetful m s = (i : Modifier) × (k : ℕ) × HolderForgets m s i k
+abbrev pub IsForgetful : Under → State → Type 0
+IsForgetful u s = (i : Modifier) × (k : ℕ) × HolderForgets u s i k
 
 -- Paths from the start: moves with the newest first, each possible in the state where the moves before it lead.
-abbrev pub state_after : List Move → State
-state_after [] = start
-state_after (move ∷ path) = moved (state_after path) move
+abbrev pub state_after : Under → List Move → State
+state_after u [] = start
+state_after u (move ∷ path) = moved u (state_after u path) move
 
-abbrev pub IsPath : MapValue → List Move → Type 0
-IsPath m [] = Unit {0}
-IsPath m (move ∷ path) = IsMove m (state_after path) move × IsPath m path
+abbrev pub IsPath : Under → List Move → Type 0
+IsPath u [] = Unit {0}
+IsPath u (move ∷ path) = IsMove u (state_after u path) move × IsPath u path
 
 -- how many presses a move takes
 abbrev pub presses_of : Move → ℕ
 presses_of (Hold k i) = 1
 presses_of (Turn k l) = 1
 presses_of (LetGo k i) = 0
+presses_of Exchange = 0
 
 abbrev pub presses_along : List Move → ℕ
 presses_along [] = 0
@@ -91,6 +132,7 @@ abbrev pub events_of_move : Move → List Event
 events_of_move (Hold k i) = Press k ∷ []
 events_of_move (Turn k l) = Release k ∷ Press k ∷ []
 events_of_move (LetGo k i) = Release k ∷ []
+events_of_move Exchange = Load ∷ []
 
 abbrev pub events_along : List Move → List Event
 events_along [] = []
@@ -106,5 +148,5 @@ releases s [] = []
 releases s (i ∷ more) = release_of (s.holder i) ++ releases s more
 
 -- the path, a repeat of the key, and the release of each key that holds a modifier, with the newest first
-abbrev pub script_of_path : List Move → ℕ → List Event
-script_of_path path k = releases (state_after path) modifiers ++ Press k ∷ events_along path
+abbrev pub script_of_path : Under → List Move → ℕ → List Event
+script_of_path u path k = releases (state_after u path) modifiers ++ Press k ∷ events_along path

@@ -1,4 +1,4 @@
--- Whether a keymap can leave a modifier on while no key is pressed.
+-- Whether a keymap, or two that loads exchange, can leave a modifier on while no key is pressed.
 use Rattle.std.specs.Prelude.{◌≡◌, ℕ, ◌<◌, ◌≤◌, Bool, false, true, List, All, reverse}
 use Rattle.keymap_core.specs.declared.action.Modifier.{Modifier}
 use Rattle.keymap_core.specs.declared.action.Lock.TheVariants.{Scroll}
@@ -8,11 +8,11 @@ use Rattle.console_core.specs.declared.event.Event.TheVariants.{Press, Release, 
 use Rattle.console_core.specs.declared.outcome.Sticking.{Sticking}
 use Rattle.console_core.specs.declared.outcome.Sticking.TheVariants.{Sticks, Never, Undecided}
 use Rattle.console_core.specs.Positions.{count_where}
-use Rattle.console_core.specs.History.{Maps, is_on_after, HasKeys, HasNoLoads, IsQuiet}
-use Rattle.console_core.specs.Headline.{IsOnOnlyWhilePressed, IsOffOnceQuiet}
+use Rattle.console_core.specs.History.{Maps, between, in_force, is_on_after, HasKeys, HasNoLoads, IsQuiet}
+use Rattle.console_core.specs.Headline.{IsSafe, IsOnOnlyWhilePressed, IsOffOnceQuiet}
 use Rattle.console_core.specs.declared.held.Move.{Move}
-use Rattle.console_core.specs.Moves.{State, IsPath, state_after, presses_along, IsForgetful, HolderForgets}
-use Rattle.console_core.specs.Moves.{script_of_path}
+use Rattle.console_core.specs.Moves.{Under, alone, with_loads, State, IsPath, state_after, presses_along, IsForgetful}
+use Rattle.console_core.specs.Moves.{HolderForgets, script_of_path}
 
 -- Sticks: no key is pressed after the list, and the modifier is on.
 abbrev pub SticksAfter : MapValue → List Event → Modifier → Type 0
@@ -50,12 +50,12 @@ NeverSticks m =
     → IsOnOnlyWhilePressed m h (λ i. is_on_after ms i h) × IsOffOnceQuiet h (λ i. is_on_after ms i h)
 
 -- Paths of at most p presses lead to more than n distinct states in which the scroll lock, which picks no cell, is off.
-abbrev pub ReachesMoreThan : MapValue → ℕ → ℕ → Type 0
-ReachesMoreThan m n p =
+abbrev pub ReachesMoreThan : Under → ℕ → ℕ → Type 0
+ReachesMoreThan u n p =
     (states : ℕ → State)
     × ((j : ℕ) → j ≤ n → (states j).is_locked Scroll ≡ false)
     × ((j : ℕ) → j ≤ n
-    → (path : List Move) × IsPath m path × (presses_along path ≤ p) × (state_after path ≡ states j))
+    → (path : List Move) × IsPath u path × (presses_along path ≤ p) × (state_after u path ≡ states j))
     × ((j k : ℕ) → j ≤ n → k ≤ n → states j ≡ states k → j ≡ k)
 
 -- each list of presses, releases and resets after which a modifier sticks has more than p presses
@@ -66,16 +66,102 @@ NoneSticksBy m p = (g : List Event) → HasKeys g → HasNoLoads g → (i : Modi
 abbrev pub IsAnswer : MapValue → Sticking → Type 0
 IsAnswer m (Sticks events) = LeavesOn m (reverse events.items) × HasFewestPresses m (reverse events.items)
 IsAnswer m Never = NeverSticks m
-IsAnswer m (Undecided p) = ReachesMoreThan m 65536 p × NoneSticksBy m p
+IsAnswer m (Undecided p) = ReachesMoreThan (alone m) 65536 p × NoneSticksBy m p
+
+-- the same with loads that exchange two keymaps, of which the first is in force before any
+abbrev pub SticksBetween : Maps → List Event → Modifier → Type 0
+SticksBetween ms h i = IsQuiet h × (is_on_after ms i h ≡ true)
+
+-- presses and releases of keys and loads, without resets
+abbrev pub IsNoReset : Event → Type 0
+IsNoReset (Press k) = Unit {0}
+IsNoReset (Release k) = Unit {0}
+IsNoReset Reset = ⊥
+IsNoReset Load = Unit {0}
+
+-- some modifier sticks after this list of presses, releases and loads
+abbrev pub LeavesOnBetween : Maps → List Event → Type 0
+LeavesOnBetween ms h = HasKeys h × All IsNoReset h × ((i : Modifier) × SticksBetween ms h i)
+
+-- no list of presses, releases, resets and loads after which a modifier sticks has fewer presses than this one
+abbrev pub HasFewestPressesBetween : Maps → List Event → Type 0
+HasFewestPressesBetween ms h =
+    (g : List Event) → HasKeys g → (i : Modifier) → SticksBetween ms g i → presses h ≤ presses g
+
+-- After each list a modifier is on only while a key is pressed that bears it in the keymap in force. So none is on once
+-- no key is pressed.
+abbrev pub NeverSticksBetween : Maps → Type 0
+NeverSticksBetween ms =
+    (h : List Event) → HasKeys h
+    → IsOnOnlyWhilePressed (in_force ms h) h (λ i. is_on_after ms i h) × IsOffOnceQuiet h (λ i. is_on_after ms i h)
+
+-- each list of presses, releases, resets and loads after which a modifier sticks has more than p presses
+abbrev pub NoneSticksBetweenBy : Maps → ℕ → Type 0
+NoneSticksBetweenBy ms p = (g : List Event) → HasKeys g → (i : Modifier) → SticksBetween ms g i → p < presses g
+
+-- what each answer says of the two keymaps
+abbrev pub IsAnswerBetween : Maps → Sticking → Type 0
+IsAnswerBetween ms (Sticks events) =
+    LeavesOnBetween ms (reverse events.items) × HasFewestPressesBetween ms (reverse events.items)
+IsAnswerBetween ms Never = NeverSticksBetween ms
+IsAnswerBetween ms (Undecided p) = ReachesMoreThan (with_loads ms) 65536 p × NoneSticksBetweenBy ms p
+
+-- no path leads to where a holder looks up a character
+abbrev pub NeverForgets : Under → Type 0
+NeverForgets u = (path : List Move) → IsPath u path → IsForgetful u (state_after u path) → ⊥
 
 -- If no path leads to where a holder looks up a character, no modifier sticks.
 abbrev pub NeverSticksUnlessReached : Type 0
-NeverSticksUnlessReached =
-    (m : MapValue) → ((path : List Move) → IsPath m path → IsForgetful m (state_after path) → ⊥) → NeverSticks m
+NeverSticksUnlessReached = (m : MapValue) → NeverForgets (alone m) → NeverSticks m
+
+abbrev pub NeverSticksBetweenUnlessReached : Type 0
+NeverSticksBetweenUnlessReached = (ms : Maps) → NeverForgets (with_loads ms) → NeverSticksBetween ms
 
 -- If a path leads to where the holder of a modifier looks up a character, that modifier sticks after the path's script.
 abbrev pub SticksIfReached : Type 0
 SticksIfReached =
-    (m : MapValue) (path : List Move) → IsPath m path → (i : Modifier) (k : ℕ) → HolderForgets m (state_after path) i k
-    → HasKeys (script_of_path path k) × All IsPressOrRelease (script_of_path path k)
-    × SticksAfter m (script_of_path path k) i
+    (m : MapValue) (path : List Move) → IsPath (alone m) path → (i : Modifier) (k : ℕ)
+    → HolderForgets (alone m) (state_after (alone m) path) i k
+    → HasKeys (script_of_path (alone m) path k) × All IsPressOrRelease (script_of_path (alone m) path k)
+    × SticksAfter m (script_of_path (alone m) path k) i
+
+abbrev pub SticksBetweenIfReached : Type 0
+SticksBetweenIfReached =
+    (ms : Maps) (path : List Move) → IsPath (with_loads ms) path → (i : Modifier) (k : ℕ)
+    → HolderForgets (with_loads ms) (state_after (with_loads ms) path) i k
+    → HasKeys (script_of_path (with_loads ms) path k) × All IsNoReset (script_of_path (with_loads ms) path k)
+    × SticksBetween ms (script_of_path (with_loads ms) path k) i
+
+-- Loads between two safe keymaps leave no modifier on, so the search neither comes to where a holder looks up a
+-- character nor answers that one sticks.
+abbrev pub SafeNeverSticksBetween : Type 0
+SafeNeverSticksBetween = (ms : Maps) → IsSafe ms.first → IsSafe ms.second → NeverSticksBetween ms
+
+abbrev pub SafeNeverForgets : Type 0
+SafeNeverForgets = (ms : Maps) → IsSafe ms.first → IsSafe ms.second → NeverForgets (with_loads ms)
+
+abbrev pub says_sticks : Sticking → Bool
+says_sticks (Sticks events) = true
+says_sticks _ = false
+
+abbrev pub SafeNeverAnswersSticks : Type 0
+SafeNeverAnswersSticks =
+    (ms : Maps) (a : Sticking) → IsSafe ms.first → IsSafe ms.second → IsAnswerBetween ms a → says_sticks a ≡ false
+
+-- Two answers agree: where both give a list, the lists have as many presses, and where one is undecided, each list of
+-- the other has more presses than it tells.
+abbrev pub AreAlike : Sticking → Sticking → Type 0
+AreAlike (Sticks events) (Sticks others) = presses (reverse events.items) ≡ presses (reverse others.items)
+AreAlike (Sticks events) Never = ⊥
+AreAlike (Sticks events) (Undecided p) = p < presses (reverse events.items)
+AreAlike Never (Sticks events) = ⊥
+AreAlike Never Never = Unit {0}
+AreAlike Never (Undecided p) = Unit {0}
+AreAlike (Undecided p) (Sticks events) = p < presses (reverse events.items)
+AreAlike (Undecided p) Never = Unit {0}
+AreAlike (Undecided p) (Undecided q) = Unit {0}
+
+-- Of a keymap twice the search answers as of the keymap alone.
+abbrev pub AnswersAlikeOfOneKeymap : Type 0
+AnswersAlikeOfOneKeymap =
+    (m : MapValue) (a b : Sticking) → IsAnswer m a → IsAnswerBetween (between m m) b → AreAlike a b

@@ -3,19 +3,28 @@ ghost use Rattle.std.specs.Prelude.{◌≡◌, length};
 
 mod moves;
 
-use keymap_core::{KeyCode, Lock, Modifier};
+use keymap_core::{KeyCode, KeyMap, Lock, Modifier};
 
-/// Which key holds each modifier on, and which locks are on. Turns of the scroll lock, which picks no cell, are left
-/// out.
+/// The keymaps of a search, and whether loads exchange them.
+#[derive(Clone, Copy)]
+pub struct Keymaps<'m> {
+    pub first: &'m KeyMap,
+    pub second: &'m KeyMap,
+    pub has_loads: bool,
+}
+
+/// Which key holds each modifier on, which locks are on, and whether the second keymap is in force. Turns of the scroll
+/// lock, which picks no cell, are left out.
 #[derive(Clone, Copy, Debug, PartialEq, Eq)]
 pub struct Held {
     holders: [Option<KeyCode>; 8],
     locks: [bool; 4],
+    is_second: bool,
     ghost holders_len: { length holders ≡ 8 },
     ghost locks_len: { length locks ≡ 4 },
 }
 
-/// Presses and releases that lead from one state to another.
+/// Presses, releases and loads that lead from one state to another.
 #[derive(Clone, Copy, Debug, PartialEq, Eq)]
 pub enum Move {
     /// The key is pressed and begins to hold the modifier.
@@ -24,6 +33,8 @@ pub enum Move {
     Turn(KeyCode, Lock),
     /// The key that holds the modifier is released.
     LetGo(KeyCode, Modifier),
+    /// The other keymap is loaded, while no key holds a modifier.
+    Exchange,
 }
 
 /// A move and where it leads.

@@ -10,6 +10,9 @@ ghost use Rattle.console_core.specs.Reading.{HeldByPositions, LockedByCount, Rem
 ghost use Rattle.console_core.specs.Reading.{NothingRememberedByPositions, PendingByRun, PressedByPositions};
 ghost use Rattle.console_core.specs.Reading.{ResolvedAtPrefix, AnswersByCases};
 ghost use Rattle.console_core.specs.Sticking.{NeverSticksUnlessReached, SticksIfReached};
+ghost use Rattle.console_core.specs.Sticking.{NeverSticksBetweenUnlessReached, SticksBetweenIfReached};
+ghost use Rattle.console_core.specs.Sticking.{SafeNeverSticksBetween, SafeNeverForgets, SafeNeverAnswersSticks};
+ghost use Rattle.console_core.specs.Sticking.{AnswersAlikeOfOneKeymap};
 ghost use Rattle.console_core.specs.Traps.{OnOnlyWhilePressedWithoutTraps};
 
 /// In a safe map a modifier is on only while a key that bears it is pressed; in any map one that a key alone bears
@@ -58,6 +61,28 @@ pub fn modifiers_without_traps_follow_keys()
 pub fn modifiers_stick_where_paths_lead()
     ensures never { NeverSticksUnlessReached }
     ensures sticks { SticksIfReached }
+{}
+
+/// The same for two keymaps that loads exchange.
+pub fn modifiers_stick_between_where_paths_lead()
+    ensures never { NeverSticksBetweenUnlessReached }
+    ensures sticks { SticksBetweenIfReached }
+{}
+
+/// After every list of events between two safe keymaps a modifier is on only while a key is pressed that bears it in
+/// the keymap in force, and none is on once no key is pressed. So no key that holds a modifier ever looks up a
+/// character, and `sticking_between` never answers that a modifier sticks.
+pub fn safe_maps_never_stick_between()
+    ensures lists { SafeNeverSticksBetween }
+    ensures states { SafeNeverForgets }
+    ensures answers { SafeNeverAnswersSticks }
+{}
+
+/// Between a keymap and itself the search answers as for the keymap alone, where both are decided: that a modifier
+/// sticks, by as many presses, or that none does. Where one is undecided, a list of the other has more presses than
+/// that tells.
+pub fn one_keymap_twice_sticks_as_alone()
+    ensures { AnswersAlikeOfOneKeymap }
 {}
 
 /// What a key looks up is one of its cells; a dead upper half is never looked at.

@@ -11,9 +11,11 @@
 //! `step_kept` is the step of `WordConsole` over a `WordStore` that the caller keeps, for who calls from C. Each of
 //! them runs over a keymap however it is kept (`keymap_core::Keymap`).
 //!
-//! `sticking` decides by a search whether a keymap can leave a modifier on while no key is pressed.
+//! `sticking` decides by a search whether a keymap can leave a modifier on while no key is pressed, `sticking_between`
+//! whether two that loads exchange can.
 //!
-//! No call takes memory but `replay` and `sticking`, and no call fails but for want of memory there.
+//! No call takes memory but `replay`, `sticking` and `sticking_between`, and no call fails but for want of memory
+//! there.
 #![tactic(auto)]
 
 mod event;
@@ -37,7 +39,7 @@ pub use kept::{locks_kept, modifiers_kept, pending_kept, start_kept, step_kept};
 pub use outcome::Sticking;
 pub use plain_console::PlainConsole;
 pub use replays::replay;
-pub use search::sticking;
+pub use search::{sticking, sticking_between};
 pub use translator::Translator;
 pub use word_console::WordConsole;
 pub use word_store::WordStore;

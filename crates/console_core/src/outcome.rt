@@ -1,15 +1,16 @@
 //! What the search for sticking modifiers answers.
 use crate::event::Event;
 
-/// Whether a keymap can leave a modifier on while no key is pressed.
+/// Whether a keymap, or two that loads exchange, can leave a modifier on while no key is pressed.
 #[derive(Debug, Drop)]
 pub enum Sticking {
-    /// After these presses and releases no key is pressed and some modifier is on. No list of presses, releases and
-    /// resets that leaves a modifier on so has fewer presses.
+    /// After these presses, releases and, between two keymaps, loads no key is pressed and some modifier is on. No list
+    /// of presses, releases, resets and such loads that leaves a modifier on so has fewer presses.
     Sticks(Vec<Event>),
-    /// After each list of presses, releases and resets a modifier is on only while a key that bears it is pressed.
+    /// After each list of presses, releases, resets and, between two keymaps, loads a modifier is on only while a key
+    /// is pressed that bears it in the keymap in force.
     Never,
     /// More than 65,536 states can be reached by as many presses as are told here, so the search gave up. No list of
-    /// presses, releases and resets with at most that many presses leaves a modifier on.
+    /// presses, releases, resets and such loads with at most that many presses leaves a modifier on.
     Undecided(usize),
 }

@@ -1,17 +1,19 @@
-//! The search for sticking modifiers over the states that presses and releases lead to, by the number of presses.
+//! The search for sticking modifiers over the states that presses, releases and loads lead to, by the number of
+//! presses.
 ghost use Rattle.std.specs.Prelude.{◌≡◌, ◌+◌, ◌<◌, ◌≤◌, ◌⊎◌, ◌++◌, ◌∷◌, ℕ, List, [], None, Some, All, length, reverse};
 ghost use Rattle.std.specs.Prelude.{slice_get, OnOk, IfOk, IfSome};
-ghost use Rattle.keymap_core.specs.Maps.{MapValue};
 ghost use Rattle.keymap_core.specs.Numbers.{key_count};
 ghost use Rattle.keymap_core.specs.declared.action.Modifier.{Modifier as ModifierValue};
 ghost use Rattle.console_core.specs.declared.held.Held.{Held as HeldValue};
-ghost use Rattle.console_core.specs.Inner.Searching.{state_of, IsMetBy, AreWithin, Grows, IsStep, IsLetGoMet};
-ghost use Rattle.console_core.specs.Inner.Searching.{ArePressesMet, AreAdded, Searched, AreInOrder, IsStuck, GoBack};
-ghost use Rattle.console_core.specs.Inner.Searching.{IsScriptTo};
-ghost use Rattle.console_core.specs.Sticking.{IsAnswer};
+ghost use Rattle.console_core.specs.Inner.Searching.{state_of, under_of, IsMetBy, AreWithin, Grows, IsStep, IsLetGoMet};
+ghost use Rattle.console_core.specs.Inner.Searching.{IsExchangeMet, ArePressesMet, AreAdded, Searched, AreInOrder};
+ghost use Rattle.console_core.specs.Inner.Searching.{IsStuck, GoBack, IsScriptTo, IsAnswerUnder};
+ghost use Rattle.console_core.specs.History.{between};
+ghost use Rattle.console_core.specs.Moves.{Under};
+ghost use Rattle.console_core.specs.Sticking.{IsAnswer, IsAnswerBetween};
 
 use crate::event::Event;
-use crate::held::{Held, Move, Step};
+use crate::held::{Held, Keymaps, Move, Step};
 use crate::outcome::Sticking;
 use indexmap::IndexMap;
 use keymap_core::{KEY_COUNT, KeyCode, KeyMap, MODIFIERS};
@@ -55,8 +57,8 @@ fn meet(met: &mut Met, place: usize, step: Option<Step>, presses: usize) -> Resu
     ensures met { OnOk result (IfSome step (λ x. IsMetBy met.new.entries presses (state_of x.to))) }
     ensures within { OnOk result (AreWithin met.new.entries presses) }
     ensures grown { OnOk result (Grows met.old.entries met.new.entries) }
-    ensures added { OnOk result ((m : MapValue) (h : HeldValue) (n : ℕ) → IfSome step (IsStep m (state_of h) n)
-        → AreAdded m (state_of h) place n presses met.old.entries met.new.entries) }
+    ensures added { OnOk result ((u : Under) (h : HeldValue) (n : ℕ) → IfSome step (IsStep u (state_of h) n)
+        → AreAdded u (state_of h) place n presses met.old.entries met.new.entries) }
 {
     if let Some(step) = step {
         if !met.contains_key(&step.to) {
@@ -74,12 +76,32 @@ fn meet(met: &mut Met, place: usize, step: Option<Step>, presses: usize) -> Resu
 fn meet_let_gos(met: &mut Met, place: usize, held: &Held, presses: usize) -> Result<(), AllocError>
     requires { AreWithin met.old.entries presses }
     ensures met { OnOk result ((i : ModifierValue) → IsLetGoMet met.new.entries presses (state_of held.now) i) }
-    ensures added { OnOk result ((m : MapValue)
-        → AreAdded m (state_of held.now) place 0 presses met.old.entries met.new.entries) }
+    ensures within { OnOk result (AreWithin met.new.entries presses) }
+    ensures added { OnOk result ((u : Under)
+        → AreAdded u (state_of held.now) place 0 presses met.old.entries met.new.entries) }
 {
     for modifier in MODIFIERS {
         meet(met, place, held.let_go(modifier), presses)?;
     }
+    Ok(())
+}
+
+/// Adds where moves without a press lead: letting go of the modifiers, and a load.
+fn meet_frees(
+    met: &mut Met,
+    maps: &Keymaps,
+    place: usize,
+    held: &Held,
+    presses: usize,
+) -> Result<(), AllocError>
+    requires { AreWithin met.old.entries presses }
+    ensures met { OnOk result ((i : ModifierValue) → IsLetGoMet met.new.entries presses (state_of held.now) i) }
+    ensures exchanged { OnOk result (IsExchangeMet (under_of maps.now) met.new.entries presses (state_of held.now)) }
+    ensures added { OnOk result (AreAdded (under_of maps.now) (state_of held.now) place 0 presses met.old.entries
+        met.new.entries) }
+{
+    meet_let_gos(met, place, held, presses)?;
+    meet(met, place, held.exchange(maps), presses)?;
     Ok(())
 }
 
@@ -96,61 +118,63 @@ fn key_with(code: u8) -> KeyCode
 /// Adds where presses of keys lead.
 fn meet_presses(
     met: &mut Met,
-    map: &KeyMap,
+    maps: &Keymaps,
     place: usize,
     held: &Held,
     presses: usize,
 ) -> Result<(), AllocError>
     requires { AreWithin met.old.entries presses }
     ensures met { OnOk result ((k : ℕ) → k < key_count
-        → ArePressesMet map.now met.new.entries presses (state_of held.now) k) }
-    ensures added { OnOk result (AreAdded map.now (state_of held.now) place 1 presses met.old.entries met.new.entries) }
+        → ArePressesMet (under_of maps.now) met.new.entries presses (state_of held.now) k) }
+    ensures added { OnOk result (AreAdded (under_of maps.now) (state_of held.now) place 1 presses met.old.entries
+        met.new.entries) }
 {
     for code in 0..KEY_COUNT as u8 {
-        meet(met, place, held.pressed(map, key_with(code)), presses)?;
+        meet(met, place, held.pressed(maps, key_with(code)), presses)?;
     }
     Ok(())
 }
 
-/// Adds where letting go leads from the states of a level, which as many presses lead to. Stops at a state where a key
-/// that holds a modifier looks up a character, and tells which. Stops once too many were met.
+/// Adds where letting go and loads lead from the states of a level, which as many presses lead to. Stops at a state
+/// where a key that holds a modifier looks up a character, and tells which. Stops once too many were met.
 fn close(
     met: &mut Met,
-    map: &KeyMap,
+    maps: &Keymaps,
     level: usize,
     presses: usize,
 ) -> Result<Option<Stuck>, AllocError>
-    requires searched { Searched map.now met.old.entries level level }
+    requires searched { Searched (under_of maps.now) met.old.entries level level }
     requires order { AreInOrder met.old.entries level presses }
     requires below { level ≤ length met.old.entries }
-    ensures searched { OnOk result (Searched map.now met.new.entries level level) }
+    ensures searched { OnOk result (Searched (under_of maps.now) met.new.entries level level) }
     ensures order { OnOk result (AreInOrder met.new.entries level presses) }
     ensures grown { OnOk result (Grows met.old.entries met.new.entries) }
     ensures closed { IfOk result (λ stuck. stuck ≡ None → length met.new.entries ≤ 65536
-        → Searched map.now met.new.entries level (length met.new.entries)) }
-    ensures stuck { IfOk result (λ stuck. IfSome stuck (λ x. IsStuck map.now met.new.entries x.place x.key)) }
+        → Searched (under_of maps.now) met.new.entries level (length met.new.entries)) }
+    ensures stuck { IfOk result (λ stuck. IfSome stuck (λ x. IsStuck (under_of maps.now) met.new.entries x.place
+        x.key)) }
 {
     let mut place = level;
     while place < met.len() && met.len() <= BOUND {
         let (held, _) = entry(met, place);
-        if let Some(key) = held.forgetful(map) {
+        if let Some(key) = held.forgetful(maps) {
             return Ok(Some(Stuck { place, key }));
         }
-        meet_let_gos(met, place, &held, presses)?;
+        meet_frees(met, maps, place, &held, presses)?;
         place += 1;
     }
     Ok(None)
 }
 
 /// Adds where presses lead from the states of a level, which as many presses lead to. Stops once too many were met.
-fn press(met: &mut Met, map: &KeyMap, level: usize, presses: usize) -> Result<(), AllocError>
+fn press(met: &mut Met, maps: &Keymaps, level: usize, presses: usize) -> Result<(), AllocError>
     requires small { presses < 65536 }
-    requires searched { Searched map.now met.old.entries level (length met.old.entries) }
+    requires searched { Searched (under_of maps.now) met.old.entries level (length met.old.entries) }
     requires order { AreInOrder met.old.entries level presses }
     requires below { level ≤ length met.old.entries }
     ensures searched { OnOk result (length met.new.entries ≤ 65536
-        → Searched map.now met.new.entries (length met.old.entries) (length met.old.entries)) }
-    ensures closed { OnOk result (Searched map.now met.new.entries level (length met.old.entries)) }
+        → Searched (under_of maps.now) met.new.entries (length met.old.entries) (length met.old.entries)) }
+    ensures closed { OnOk result (Searched (under_of maps.now) met.new.entries level (length met.old.entries)) }
     ensures order { OnOk result (AreInOrder met.new.entries (length met.old.entries) (presses + 1)) }
     ensures grown { OnOk result (Grows met.old.entries met.new.entries) }
 {
@@ -160,7 +184,7 @@ fn press(met: &mut Met, map: &KeyMap, level: usize, presses: usize) -> Result<()
             return Ok(());
         }
         let (held, _) = entry(met, place);
-        meet_presses(met, map, place, &held, presses + 1)?;
+        meet_presses(met, maps, place, &held, presses + 1)?;
     }
     Ok(())
 }
@@ -169,7 +193,8 @@ fn press(met: &mut Met, map: &KeyMap, level: usize, presses: usize) -> Result<()
 fn script(alloc: Global, met: &Met, stuck: Stuck) -> Result<Vec<Event>, AllocError>
     requires place { stuck.place < length met.now.entries }
     requires back { GoBack met.now.entries }
-    ensures { IfOk result (λ events. IsScriptTo met.now.entries stuck.place stuck.key (reverse events.items)) }
+    ensures { IfOk result (λ events. (u : Under)
+        → IsScriptTo u met.now.entries stuck.place stuck.key (reverse events.items)) }
 {
     let mut events = Vec::new(alloc);
     let (held, origin) = entry(met, stuck.place);
@@ -184,9 +209,9 @@ fn script(alloc: Global, met: &Met, stuck: Stuck) -> Result<Vec<Event>, AllocErr
     Ok(events)
 }
 
-/// Decides whether a keymap can leave a modifier on while no key is pressed.
-pub fn sticking(alloc: Global, map: &KeyMap) -> Result<Sticking, AllocError>
-    ensures { IfOk result (λ answer. IsAnswer map.now answer) }
+/// Decides whether presses, releases and, where there are any, loads can leave a modifier on while no key is pressed.
+fn decide(alloc: Global, maps: &Keymaps) -> Result<Sticking, AllocError>
+    ensures { IfOk result (λ answer. IsAnswerUnder (under_of maps.now) answer) }
 {
     let mut met = IndexMap::new(alloc);
     met.insert(
@@ -199,14 +224,14 @@ pub fn sticking(alloc: Global, map: &KeyMap) -> Result<Sticking, AllocError>
     let mut level = 0;
     let mut presses = 0;
     while level < met.len() {
-        if let Some(stuck) = close(&mut met, map, level, presses)? {
+        if let Some(stuck) = close(&mut met, maps, level, presses)? {
             return Ok(Sticking::Sticks(script(alloc, &met, stuck)?));
         }
         if met.len() > BOUND {
             return Ok(Sticking::Undecided(presses));
         }
         let end = met.len();
-        press(&mut met, map, level, presses)?;
+        press(&mut met, maps, level, presses)?;
         if met.len() > BOUND {
             return Ok(Sticking::Undecided(presses + 1));
         }
@@ -214,4 +239,34 @@ pub fn sticking(alloc: Global, map: &KeyMap) -> Result<Sticking, AllocError>
         presses += 1;
     }
     Ok(Sticking::Never)
+}
+
+/// Decides whether a keymap can leave a modifier on while no key is pressed.
+pub fn sticking(alloc: Global, map: &KeyMap) -> Result<Sticking, AllocError>
+    ensures { IfOk result (λ answer. IsAnswer map.now answer) }
+{
+    let maps = Keymaps {
+        first: map,
+        second: map,
+        has_loads: false,
+    };
+    decide(alloc, &maps)
+}
+
+/// Decides whether two keymaps, the first one in force to begin with, can leave a modifier on while no key is pressed,
+/// where each load exchanges the one in force. The bound counts the states of both, so this can be undecided where
+/// `sticking` decides of each of them.
+pub fn sticking_between(
+    alloc: Global,
+    first: &KeyMap,
+    second: &KeyMap,
+) -> Result<Sticking, AllocError>
+    ensures { IfOk result (λ answer. IsAnswerBetween (between first.now second.now) answer) }
+{
+    let maps = Keymaps {
+        first,
+        second,
+        has_loads: true,
+    };
+    decide(alloc, &maps)
 }

@@ -157,6 +157,12 @@ const SHIFT_KEY_WITHOUT_TRAP: Entry = Entry {
     flag: LockFlag::O,
 };
 
+/// Left shift where the caps lock or shift is on, but not both, and a character elsewhere.
+const SHIFT_KEY_UNDER_CAPS: Entry = Entry {
+    cells: [X, LEFT_SHIFT, X, LEFT_SHIFT, X, LEFT_SHIFT, X, LEFT_SHIFT],
+    flag: LockFlag::C,
+};
+
 /// Left control, and right control where shift is on.
 const CONTROLS_KEY: Entry = Entry {
     cells: [
@@ -256,6 +262,15 @@ pub const REMEMBERED_BUT_HELD_BY_ANOTHER: [Line; 4] = [
     (3, CONTROL_KEY_WITH_NOP),
     (4, ALT_KEY),
 ];
+
+/// The caps lock alone.
+pub const CAPS_ALONE: [Line; 1] = [(58, CAPS_LOCK_KEY)];
+
+/// Left shift sticks where the caps lock is on, and only under left shift a key turns that on.
+pub const STICKS_UNDER_CAPS: [Line; 2] = [(42, SHIFT_KEY_UNDER_CAPS), (59, CAPS_LOCK_KEY_WITH_NOP)];
+
+/// As the one before, but no key bears the caps lock.
+pub const WOULD_STICK_UNDER_CAPS: [Line; 1] = [(42, SHIFT_KEY_UNDER_CAPS)];
 
 pub const CAPS_AND_NUM: [Line; 3] = [
     (30, LETTER_A_UNDER_BOTH),

@@ -1,31 +1,42 @@
 -- What the search keeps: the states that it has met, in their order, each with how it was come to, and which of them
--- are done. Mirrors `Held` of src/held.rt and the functions of src/search.rt.
-use Rattle.std.specs.Prelude.{◌≡◌, ◌≢◌, ℕ, ◌+◌, ◌<◌, ◌≤◌, false, List, [], ◌∷◌, ◌++◌, All, None, Some, slice_get}
-use Rattle.std.specs.Prelude.{slice_index_or}
+-- are done. Mirrors `Held` and `Keymaps` of src/held.rt and the functions of src/search.rt.
+use Rattle.std.specs.Prelude.{◌≡◌, ◌≢◌, ℕ, ◌+◌, ◌<◌, ◌≤◌, false, true, List, [], ◌∷◌, ◌++◌, All, None, Some, slice_get}
+use Rattle.std.specs.Prelude.{slice_index_or, reverse}
 use Rattle.keymap_core.specs.declared.action.Modifier.{Modifier}
 use Rattle.keymap_core.specs.declared.action.Lock.{Lock}
 use Rattle.keymap_core.specs.declared.action.Lock.TheVariants.{Scroll}
 use Rattle.keymap_core.specs.declared.action.Action.TheVariants as act
 use Rattle.keymap_core.specs.declared.entry.Cell.TheVariants.{Act}
 use Rattle.keymap_core.specs.Actions.{modifier_index, lock_index}
-use Rattle.keymap_core.specs.Maps.{MapValue}
 use Rattle.keymap_core.specs.Numbers.{key_count}
 use Rattle.console_core.specs.declared.event.Event.{Event}
+use Rattle.console_core.specs.declared.event.Event.TheVariants.{Press, Release, Reset, Load}
 use Rattle.console_core.specs.declared.held.Held.{Held}
+use Rattle.console_core.specs.declared.held.Keymaps.{Keymaps}
 use Rattle.console_core.specs.declared.held.Move.{Move}
-use Rattle.console_core.specs.declared.held.Move.TheVariants.{Hold, Turn, LetGo}
+use Rattle.console_core.specs.declared.held.Move.TheVariants.{Hold, Turn, LetGo, Exchange}
 use Rattle.console_core.specs.declared.held.Step.{Step}
 use Rattle.console_core.specs.declared.search.Origin.{Origin}
-use Rattle.console_core.specs.Moves.{State, start, look_in, Holds, IsIdle, HolderForgets, IsForgetful, IsMove, moved}
-use Rattle.console_core.specs.Moves.{IsPath, presses_of, presses_along}
+use Rattle.console_core.specs.declared.outcome.Sticking.{Sticking}
+use Rattle.console_core.specs.declared.outcome.Sticking.TheVariants.{Sticks, Never, Undecided}
+use Rattle.console_core.specs.History.{between, in_force, is_on_after, HasKeys, HasNoLoads}
+use Rattle.console_core.specs.Headline.{IsOnOnlyWhilePressed, IsOffOnceQuiet}
+use Rattle.console_core.specs.Moves.{Under, State, start, look_in, Holds, IsIdle, HolderForgets, IsForgetful, IsMove}
+use Rattle.console_core.specs.Moves.{moved, IsPath, presses_of, presses_along}
 use Rattle.console_core.specs.Moves.{state_after, script_of_path, with_holder, with_lock_turned}
+use Rattle.console_core.specs.Sticking.{SticksBetween, ReachesMoreThan, presses}
 
 -- the state that the tables are
 abbrev pub state_of : Held → State
 state_of x = record {
   holder = λ i. slice_index_or x.holders (modifier_index i) None;
   is_locked = λ l. slice_index_or x.locks (lock_index l) false;
+  is_second = x.is_second;
 }
+
+-- what a search of the keymaps goes under
+abbrev pub under_of : Keymaps → Under
+under_of x = record { maps = between x.first.now x.second.now; has_loads = x.has_loads }
 
 -- a state that was met, and how it was come to
 abbrev pub Entry : Type 0
@@ -39,10 +50,11 @@ abbrev pub LeavesScroll : Move → Type 0
 LeavesScroll (Hold k i) = Unit {0}
 LeavesScroll (Turn k l) = l ≢ Scroll
 LeavesScroll (LetGo k i) = Unit {0}
+LeavesScroll Exchange = Unit {0}
 
 -- the step is a move from the state, by so many presses
-abbrev pub IsStep : MapValue → State → ℕ → Step → Type 0
-IsStep m s n x = IsMove m s x.by × (state_of x.to ≡ moved s x.by) × (presses_of x.by ≡ n) × LeavesScroll x.by
+abbrev pub IsStep : Under → State → ℕ → Step → Type 0
+IsStep u s n x = IsMove u s x.by × (state_of x.to ≡ moved u s x.by) × (presses_of x.by ≡ n) × LeavesScroll x.by
 
 -- the state was met by at most p presses
 abbrev pub IsMetBy : Entries → ℕ → State → Type 0
@@ -52,12 +64,16 @@ IsMetBy es p s = (j : ℕ) × (x : Entry) × (slice_get es j ≡ Some x) × (sta
 abbrev pub IsLetGoMet : Entries → ℕ → State → Modifier → Type 0
 IsLetGoMet es p s i = (k : ℕ) → Holds s k i → IsMetBy es p (with_holder s i None)
 
+-- what a load leads to was met
+abbrev pub IsExchangeMet : Under → Entries → ℕ → State → Type 0
+IsExchangeMet u es p s = IsMove u s Exchange → IsMetBy es p (moved u s Exchange)
+
 -- What a press of the key leads to was met. The scroll lock picks no cell, so its turns are left out.
-abbrev pub ArePressesMet : MapValue → Entries → ℕ → State → ℕ → Type 0
-ArePressesMet m es p s k =
+abbrev pub ArePressesMet : Under → Entries → ℕ → State → ℕ → Type 0
+ArePressesMet u es p s k =
     IsIdle s k
-    → ((i : Modifier) → look_in m s k ≡ Act (act.Mod i) → s.holder i ≡ None → IsMetBy es p (with_holder s i (Some k)))
-    × ((l : Lock) → l ≢ Scroll → look_in m s k ≡ Act (act.Lock l) → IsMetBy es p (with_lock_turned s l))
+    → ((i : Modifier) → look_in u s k ≡ Act (act.Mod i) → s.holder i ≡ None → IsMetBy es p (with_holder s i (Some k)))
+    × ((l : Lock) → l ≢ Scroll → look_in u s k ≡ Act (act.Lock l) → IsMetBy es p (with_lock_turned s l))
 
 -- more were met
 abbrev pub Grows : Entries → Entries → Type 0
@@ -68,14 +84,14 @@ abbrev pub AreWithin : Entries → ℕ → Type 0
 AreWithin es p = (j : ℕ) (x : Entry) → slice_get es j ≡ Some x → x.1.presses ≤ p
 
 -- the entry is new: a move from the state at the place leads to it, by n presses more and p in all
-abbrev pub IsFrom : MapValue → State → ℕ → ℕ → ℕ → Entry → Type 0
-IsFrom m s place n p x =
+abbrev pub IsFrom : Under → State → ℕ → ℕ → ℕ → Entry → Type 0
+IsFrom u s place n p x =
     (by : Move) × (x.1.presses ≡ p) × (x.1.last ≡ Some (place, by))
-    × IsMove m s by × (state_of x.0 ≡ moved s by) × (presses_of by ≡ n) × LeavesScroll by
+    × IsMove u s by × (state_of x.0 ≡ moved u s by) × (presses_of by ≡ n) × LeavesScroll by
 
 -- such entries were added
-abbrev pub AreAdded : MapValue → State → ℕ → ℕ → ℕ → Entries → Entries → Type 0
-AreAdded m s place n p es now = (more : Entries) × (now ≡ es ++ more) × All (IsFrom m s place n p) more
+abbrev pub AreAdded : Under → State → ℕ → ℕ → ℕ → Entries → Entries → Type 0
+AreAdded u s place n p es now = (more : Entries) × (now ≡ es ++ more) × All (IsFrom u s place n p) more
 
 -- the moves lead from the start to the place
 abbrev pub IsTrail : Entries → ℕ → List Move → Type 0
@@ -85,26 +101,28 @@ IsTrail es j (move ∷ path) =
     × IsTrail es parent path
 
 -- a path leads to the entry, by as many presses as are told, and the scroll lock is off there
-abbrev pub IsReached : MapValue → Entries → ℕ → Entry → Type 0
-IsReached m es j x =
-    (path : List Move) × IsTrail es j path × IsPath m path × (state_after path ≡ state_of x.0)
+abbrev pub IsReached : Under → Entries → ℕ → Entry → Type 0
+IsReached u es j x =
+    (path : List Move) × IsTrail es j path × IsPath u path × (state_after u path ≡ state_of x.0)
     × (presses_along path ≡ x.1.presses) × ((state_of x.0).is_locked Scroll ≡ false)
 
--- No holder looks up a character, and where letting go leads was met by as many presses.
-abbrev pub IsClosed : MapValue → Entries → Entry → Type 0
-IsClosed m es x = ((i : Modifier) → IsLetGoMet es x.1.presses (state_of x.0) i) × (IsForgetful m (state_of x.0) → ⊥)
+-- No holder looks up a character, and where letting go and a load lead was met by as many presses.
+abbrev pub IsClosed : Under → Entries → Entry → Type 0
+IsClosed u es x =
+    ((i : Modifier) → IsLetGoMet es x.1.presses (state_of x.0) i) × IsExchangeMet u es x.1.presses (state_of x.0)
+    × (IsForgetful u (state_of x.0) → ⊥)
 
 -- where presses lead was met by one press more
-abbrev pub IsPressed : MapValue → Entries → Entry → Type 0
-IsPressed m es x = (k : ℕ) → k < key_count → ArePressesMet m es (x.1.presses + 1) (state_of x.0) k
+abbrev pub IsPressed : Under → Entries → Entry → Type 0
+IsPressed u es x = (k : ℕ) → k < key_count → ArePressesMet u es (x.1.presses + 1) (state_of x.0) k
 
 -- The start was met and what was met is reached; those below `pressed_to` are pressed, and those below `closed_to`
 -- are closed.
-pub record Searched (m : MapValue) (es : Entries) (pressed_to closed_to : ℕ) : Type 0 where
+pub record Searched (u : Under) (es : Entries) (pressed_to closed_to : ℕ) : Type 0 where
   pub start : IsMetBy es 0 start
-  pub reached : (j : ℕ) (x : Entry) → slice_get es j ≡ Some x → IsReached m es j x
-  pub pressed : (j : ℕ) (x : Entry) → slice_get es j ≡ Some x → j < pressed_to → IsPressed m es x
-  pub closed : (j : ℕ) (x : Entry) → slice_get es j ≡ Some x → j < closed_to → IsClosed m es x
+  pub reached : (j : ℕ) (x : Entry) → slice_get es j ≡ Some x → IsReached u es j x
+  pub pressed : (j : ℕ) (x : Entry) → slice_get es j ≡ Some x → j < pressed_to → IsPressed u es x
+  pub closed : (j : ℕ) (x : Entry) → slice_get es j ≡ Some x → j < closed_to → IsClosed u es x
 
 -- those below the place were met by fewer presses, and the others by p
 abbrev pub AreInOrder : Entries → ℕ → ℕ → Type 0
@@ -117,11 +135,48 @@ GoBack es = (j : ℕ) (x : Entry) (parent : ℕ) (by : Move) → slice_get es j 
     → parent < j
 
 -- the events are the script of each path to the place, with the newest first
-abbrev pub IsScriptTo : Entries → ℕ → ℕ → List Event → Type 0
-IsScriptTo es j k h =
-    (path : List Move) (x : Entry) → slice_get es j ≡ Some x → IsTrail es j path → state_after path ≡ state_of x.0
-    → h ≡ script_of_path path k
+abbrev pub IsScriptTo : Under → Entries → ℕ → ℕ → List Event → Type 0
+IsScriptTo u es j k h =
+    (path : List Move) (x : Entry) → slice_get es j ≡ Some x → IsTrail es j path → state_after u path ≡ state_of x.0
+    → h ≡ script_of_path u path k
 
 -- at the place a modifier is held by the key, which looks up a character
-abbrev pub IsStuck : MapValue → Entries → ℕ → ℕ → Type 0
-IsStuck m es j k = (x : Entry) × (slice_get es j ≡ Some x) × ((i : Modifier) × HolderForgets m (state_of x.0) i k)
+abbrev pub IsStuck : Under → Entries → ℕ → ℕ → Type 0
+IsStuck u es j k = (x : Entry) × (slice_get es j ≡ Some x) × ((i : Modifier) × HolderForgets u (state_of x.0) i k)
+
+-- a press, a release, or a load where there are any
+abbrev pub IsSent : Under → Event → Type 0
+IsSent u (Press k) = Unit {0}
+IsSent u (Release k) = Unit {0}
+IsSent u Reset = ⊥
+IsSent u Load = u.has_loads ≡ true
+
+-- the list has loads only where there are any
+abbrev pub Admits : Under → List Event → Type 0
+Admits u h = u.has_loads ≡ false → HasNoLoads h
+
+-- some modifier sticks after this list, and after none that is admitted and has fewer presses
+abbrev pub LeavesOnUnder : Under → List Event → Type 0
+LeavesOnUnder u h = HasKeys h × All (IsSent u) h × ((i : Modifier) × SticksBetween u.maps h i)
+
+abbrev pub HasFewestUnder : Under → List Event → Type 0
+HasFewestUnder u h =
+    (g : List Event) → HasKeys g → Admits u g → (i : Modifier) → SticksBetween u.maps g i → presses h ≤ presses g
+
+-- each list that is admitted and after which a modifier sticks has more than p presses
+abbrev pub NoneUnderBy : Under → ℕ → Type 0
+NoneUnderBy u p =
+    (g : List Event) → HasKeys g → Admits u g → (i : Modifier) → SticksBetween u.maps g i → p < presses g
+
+-- after each list that is admitted a modifier is on only while a key that bears it is pressed
+abbrev pub NeverUnder : Under → Type 0
+NeverUnder u =
+    (h : List Event) → HasKeys h → Admits u h
+    → IsOnOnlyWhilePressed (in_force u.maps h) h (λ i. is_on_after u.maps i h)
+    × IsOffOnceQuiet h (λ i. is_on_after u.maps i h)
+
+-- what each answer says of the keymaps, with loads or without
+abbrev pub IsAnswerUnder : Under → Sticking → Type 0
+IsAnswerUnder u (Sticks events) = LeavesOnUnder u (reverse events.items) × HasFewestUnder u (reverse events.items)
+IsAnswerUnder u Never = NeverUnder u
+IsAnswerUnder u (Undecided p) = ReachesMoreThan u 65536 p × NoneUnderBy u p

@@ -1,20 +1,23 @@
-//! Where presses and releases lead from a state of the search, and what they are as events.
-ghost use Rattle.std.specs.Prelude.{◌≡◌, ◌≢◌, ◌<◌, ℕ, List, false, true, None, ◌||◌, ◌++◌, OnOk, MatchOption, IfSome};
-ghost use Rattle.keymap_core.specs.Maps.{MapValue};
+//! Where presses, releases and loads lead from a state of the search, and what they are as events.
+ghost use Rattle.std.specs.Prelude.{◌≡◌, ◌≢◌, ◌<◌, ℕ, List, false, true, None, ◌||◌, ◌&&◌, not, ◌++◌, OnOk};
+ghost use Rattle.std.specs.Prelude.{MatchOption, IfSome};
+ghost use Rattle.keymap_core.specs.Borne.{is_borne};
 ghost use Rattle.keymap_core.specs.Actions.{modifiers};
 ghost use Rattle.keymap_core.specs.Numbers.{key_count};
 ghost use Rattle.keymap_core.specs.declared.action.Modifier.{Modifier as ModifierValue};
 ghost use Rattle.console_core.specs.Columns.{slot_of, is_upper};
-ghost use Rattle.console_core.specs.Moves.{start as start_state, is_held as is_held_in, look_in, IsIdle};
+ghost use Rattle.console_core.specs.Moves.{Under, start as start_state, is_held as is_held_in, look_in, IsIdle};
+ghost use Rattle.console_core.specs.Moves.{map_in, next_map, exchanged as exchanged_in, IsFree};
 ghost use Rattle.console_core.specs.Moves.{with_holder as with_holder_in, with_lock_turned, HolderForgets};
 ghost use Rattle.console_core.specs.Moves.{IsForgetful, presses_of, events_of_move, releases};
-ghost use Rattle.console_core.specs.Inner.Searching.{state_of, Entries, IsMetBy, IsLetGoMet, ArePressesMet, IsStep};
+ghost use Rattle.console_core.specs.Inner.Searching.{state_of, under_of, Entries, IsMetBy, IsLetGoMet};
+ghost use Rattle.console_core.specs.Inner.Searching.{IsExchangeMet, ArePressesMet, IsStep};
 ghost use Rattle.console_core.specs.Inner.HeldBytes.{holder_number, bytes_of, held-equal, bool_equal, same-bytes};
 
-use super::{Held, Move, Step};
+use super::{Held, Keymaps, Move, Step};
 use crate::event::Event;
 use crate::rules::{column, flips};
-use keymap_core::{Action, Cell, KEY_COUNT, KeyCode, KeyMap, Lock, MODIFIERS, Modifier};
+use keymap_core::{Action, Cell, Holding, KEY_COUNT, KeyCode, KeyMap, Lock, MODIFIERS, Modifier};
 use std::alloc::AllocError;
 use std::hash::{Hash, Hasher};
 
@@ -30,6 +33,7 @@ impl Move {
                 events.push(Event::Press(key))?;
             }
             Move::LetGo(key, _) => events.push(Event::Release(key))?,
+            Move::Exchange => events.push(Event::Load)?,
         }
         Ok(())
     }
@@ -43,6 +47,29 @@ impl Held {
         Held {
             holders: [None; 8],
             locks: [false; 4],
+            is_second: false,
+        }
+    }
+
+    /// The keymap in force.
+    fn in_force<'m>(&self, maps: &Keymaps<'m>) -> &'m KeyMap
+        ensures { result.now ≡ map_in (under_of maps.now) (state_of self.now) }
+    {
+        if self.is_second {
+            maps.second
+        } else {
+            maps.first
+        }
+    }
+
+    /// The keymap that a load puts in force.
+    fn next_in_force<'m>(&self, maps: &Keymaps<'m>) -> &'m KeyMap
+        ensures { result.now ≡ next_map (under_of maps.now) (state_of self.now) }
+    {
+        if self.is_second {
+            maps.first
+        } else {
+            maps.second
         }
     }
 
@@ -81,6 +108,29 @@ impl Held {
         next
     }
 
+    /// Whether the lock is on and some key of the keymap bears it.
+    fn keeps(&self, lock: Lock, next: &KeyMap) -> bool
+        ensures { result ≡ (is_borne next.now (Holding.Lock lock) && (state_of self.now).is_locked lock) }
+    {
+        next.is_borne(Holding::Lock(lock)) && self.is_locked(lock)
+    }
+
+    /// The keymap is in force, and each lock that it doesn't bear is off.
+    fn exchanged(&self, next: &KeyMap) -> Held
+        ensures { state_of result ≡ exchanged_in next.now (state_of self.now) }
+    {
+        let locks = [
+            self.keeps(Lock::Caps, next),
+            self.keeps(Lock::Num, next),
+            self.keeps(Lock::Scroll, next),
+            self.keeps(Lock::Alt, next),
+        ];
+        let mut held = *self;
+        held.locks = locks;
+        held.is_second = !self.is_second;
+        held
+    }
+
     fn is_either_held(&self, left: Modifier, right: Modifier) -> bool
         ensures { result ≡ (is_held_in (state_of self.now) left || is_held_in (state_of self.now) right) }
     {
@@ -101,11 +151,11 @@ impl Held {
     }
 
     /// What a press of the key looks up.
-    fn look(&self, map: &KeyMap, key: KeyCode) -> Cell
+    fn look(&self, maps: &Keymaps, key: KeyCode) -> Cell
         ensures in_range { key < key_count }
-        ensures value { result ≡ look_in map.now (state_of self.now) key }
+        ensures value { result ≡ look_in (under_of maps.now) (state_of self.now) key }
     {
-        let entry = map.entry(self.slot(key));
+        let entry = self.in_force(maps).entry(self.slot(key));
         let flipped = flips(
             entry.flag,
             self.is_locked(Lock::Caps),
@@ -132,13 +182,27 @@ impl Held {
         false
     }
 
+    /// Whether no key holds a modifier.
+    fn is_free(&self) -> bool
+        ensures free { result ≡ true → IsFree (state_of self.now) }
+        ensures busy { result ≡ false → IsFree (state_of self.now) → ⊥ }
+    {
+        for modifier in MODIFIERS {
+            match self.holder(modifier) {
+                Some(_) => return false,
+                None => {}
+            }
+        }
+        true
+    }
+
     /// The holder of the modifier, if it looks up a character.
-    fn forgets(&self, map: &KeyMap, modifier: Modifier) -> Option<KeyCode>
-        ensures { MatchOption result ((k : ℕ) → HolderForgets map.now (state_of self.now) modifier k
-            → ⊥) (λ k. HolderForgets map.now (state_of self.now) modifier k) }
+    fn forgets(&self, maps: &Keymaps, modifier: Modifier) -> Option<KeyCode>
+        ensures { MatchOption result ((k : ℕ) → HolderForgets (under_of maps.now) (state_of self.now) modifier k
+            → ⊥) (λ k. HolderForgets (under_of maps.now) (state_of self.now) modifier k) }
     {
         match self.holder(modifier) {
-            Some(key) => match self.look(map, key) {
+            Some(key) => match self.look(maps, key) {
                 Cell::Char(_) => Some(key),
                 Cell::Act(_) => None,
             },
@@ -147,12 +211,12 @@ impl Held {
     }
 
     /// A key that holds a modifier and looks up a character.
-    pub fn forgetful(&self, map: &KeyMap) -> Option<KeyCode>
-        ensures { MatchOption result (IsForgetful map.now (state_of self.now) → ⊥) (λ k. (i : ModifierValue)
-            × HolderForgets map.now (state_of self.now) i k) }
+    pub fn forgetful(&self, maps: &Keymaps) -> Option<KeyCode>
+        ensures { MatchOption result (IsForgetful (under_of maps.now) (state_of self.now) → ⊥) (λ k. (i : ModifierValue)
+            × HolderForgets (under_of maps.now) (state_of self.now) i k) }
     {
         for modifier in MODIFIERS {
-            match self.forgets(map, modifier) {
+            match self.forgets(maps, modifier) {
                 Some(key) => return Some(key),
                 None => {}
             }
@@ -164,7 +228,7 @@ impl Held {
     pub fn let_go(&self, modifier: Modifier) -> Option<Step>
         ensures met { (es : Entries) (p : ℕ) → IfSome result (λ x. IsMetBy es p (state_of x.to))
             → IsLetGoMet es p (state_of self.now) modifier }
-        ensures step { (m : MapValue) → IfSome result (IsStep m (state_of self.now) 0) }
+        ensures step { (u : Under) → IfSome result (IsStep u (state_of self.now) 0) }
     {
         match self.holder(modifier) {
             Some(key) => Some(Step {
@@ -175,13 +239,30 @@ impl Held {
         }
     }
 
-    /// Where a press of the key leads, with its release if it turns a lock.
-    pub fn pressed(&self, map: &KeyMap, key: KeyCode) -> Option<Step>
+    /// Where a load of the other keymap leads, while no key holds a modifier. A load at other times leads where it does
+    /// once the holders let go.
+    pub fn exchange(&self, maps: &Keymaps) -> Option<Step>
         ensures met { (es : Entries) (p : ℕ) → IfSome result (λ x. IsMetBy es p (state_of x.to))
-            → ArePressesMet map.now es p (state_of self.now) key }
-        ensures step { IfSome result (IsStep map.now (state_of self.now) 1) }
+            → IsExchangeMet (under_of maps.now) es p (state_of self.now) }
+        ensures step { IfSome result (IsStep (under_of maps.now) (state_of self.now) 0) }
     {
-        match self.look(map, key) {
+        if maps.has_loads && self.is_free() {
+            Some(Step {
+                by: Move::Exchange,
+                to: self.exchanged(self.next_in_force(maps)),
+            })
+        } else {
+            None
+        }
+    }
+
+    /// Where a press of the key leads, with its release if it turns a lock.
+    pub fn pressed(&self, maps: &Keymaps, key: KeyCode) -> Option<Step>
+        ensures met { (es : Entries) (p : ℕ) → IfSome result (λ x. IsMetBy es p (state_of x.to))
+            → ArePressesMet (under_of maps.now) es p (state_of self.now) key }
+        ensures step { IfSome result (IsStep (under_of maps.now) (state_of self.now) 1) }
+    {
+        match self.look(maps, key) {
             Cell::Act(Action::Mod(modifier)) => {
                 if self.is_held(modifier) {
                     None
@@ -235,8 +316,9 @@ fn number(holder: Option<KeyCode>) -> u8
 
 #[tactic(auto, using(crate::proofs::Places::places))]
 impl Held {
-    /// What a hasher is fed: the numbers of the holders, then 1 for each lock that is on.
-    fn bytes(&self) -> [u8; 12]
+    /// What a hasher is fed: the numbers of the holders, then 1 for each lock that is on and for the second keymap in
+    /// force.
+    fn bytes(&self) -> [u8; 13]
         ensures { result ≡ bytes_of self.now }
     {
         [
@@ -252,6 +334,7 @@ impl Held {
             u8::from(self.is_locked(Lock::Num)),
             u8::from(self.is_locked(Lock::Scroll)),
             u8::from(self.is_locked(Lock::Alt)),
+            u8::from(self.is_second),
         ]
     }
 }

@@ -1,15 +1,15 @@
 //! Keymaps that can leave a modifier on while no key is pressed, and keymaps that can't.
 
 use crate::console::expect_shown;
-use console_core::{Event, PlainConsole, Sticking, replay, sticking};
+use console_core::{Event, PlainConsole, Sticking, replay, sticking, sticking_between};
 use keymap_core::{KeyMap, Lock, Modifier};
 use std::alloc::Global;
 use std::process::Abort;
 use std::test::Fail;
 use test_keymaps::entries::{
-    ALT_LOCK_TO_NOTHING, ALT_SHIFT_WITH_TRAP, CAPS_AND_NUM, CAPS_LOCK_TO_NOTHING, LETTER_AND_SHIFT,
-    Line, REMEMBERED_BUT_HELD_BY_ANOTHER, SHIFT_AND_CAPS, SHIFT_WITH_TRAP, TWO_CONTROLS,
-    TWO_SCROLL_LOCKS, UPPER_HALF,
+    ALT_LOCK_TO_NOTHING, ALT_SHIFT_WITH_TRAP, CAPS_ALONE, CAPS_AND_NUM, CAPS_LOCK_TO_NOTHING,
+    LETTER_AND_SHIFT, Line, REMEMBERED_BUT_HELD_BY_ANOTHER, SHIFT_AND_CAPS, SHIFT_WITH_TRAP,
+    STICKS_UNDER_CAPS, TWO_CONTROLS, TWO_SCROLL_LOCKS, UPPER_HALF, WOULD_STICK_UNDER_CAPS,
 };
 use test_keymaps::{map_of, map_of_many_modifiers, map_with_accents};
 
@@ -101,6 +101,89 @@ fn accepted_maps_never_stick(rt: HostRuntime) -> Result<(), Fail> {
 #[test]
 fn a_map_of_too_many_states_is_undecided(rt: HostRuntime) -> Result<(), Fail> {
     match sticking(rt.alloc(), &map_of_many_modifiers(rt.alloc())?)? {
+        Sticking::Undecided(_) => {}
+        Sticking::Sticks(_) | Sticking::Never => assert!(rt; false),
+    }
+    Ok(())
+}
+
+/// Asserts that a shortest list that leaves left shift on between the maps, with the caps lock on, has three presses
+/// and so many events.
+fn expect_sticks_between(
+    rt: &impl Abort,
+    alloc: Global,
+    maps: (&KeyMap, &KeyMap),
+    count: usize,
+) -> Result<(), Fail> {
+    match sticking_between(alloc, maps.0, maps.1)? {
+        Sticking::Sticks(events) => {
+            let presses = events.iter().filter(|event| is_press(**event)).count();
+            assert_eq!(rt; presses, 3);
+            assert_eq!(rt; events.len(), count);
+            let mut console = PlainConsole::between(maps.0, maps.1);
+            let _answers = replay(alloc, &mut console, events.as_slice())?;
+            expect_shown(rt, &console, &[Modifier::LeftShift], &[Lock::Caps], None);
+        }
+        Sticking::Never | Sticking::Undecided(_) => assert!(rt; false),
+    }
+    Ok(())
+}
+
+/// Asserts that loads between the maps leave no modifier on.
+fn expect_never_between(
+    rt: &impl Abort,
+    alloc: Global,
+    first: &KeyMap,
+    second: &KeyMap,
+) -> Result<(), Fail> {
+    match sticking_between(alloc, first, second)? {
+        Sticking::Never => {}
+        Sticking::Sticks(_) | Sticking::Undecided(_) => assert!(rt; false),
+    }
+    Ok(())
+}
+
+#[test]
+fn a_lock_of_another_map_lets_a_modifier_stick(rt: HostRuntime) -> Result<(), Fail> {
+    let locks = map_of(rt.alloc(), &CAPS_ALONE)?;
+    let sticks = map_of(rt.alloc(), &STICKS_UNDER_CAPS)?;
+    expect_never(&rt, rt.alloc(), &locks)?;
+    expect_never(&rt, rt.alloc(), &sticks)?;
+    expect_sticks_between(&rt, rt.alloc(), (&locks, &sticks), 6)?;
+    expect_sticks_between(&rt, rt.alloc(), (&sticks, &locks), 7)
+}
+
+#[test]
+fn a_lock_that_the_next_map_does_not_bear_goes_off(rt: HostRuntime) -> Result<(), Fail> {
+    let locks = map_of(rt.alloc(), &CAPS_ALONE)?;
+    let would_stick = map_of(rt.alloc(), &WOULD_STICK_UNDER_CAPS)?;
+    expect_never_between(&rt, rt.alloc(), &locks, &would_stick)?;
+    expect_never_between(&rt, rt.alloc(), &would_stick, &locks)
+}
+
+#[test]
+fn between_a_map_and_itself_sticks_what_sticks_alone(rt: HostRuntime) -> Result<(), Fail> {
+    let sticks = map_of(rt.alloc(), &STICKS_UNDER_CAPS)?;
+    expect_never_between(&rt, rt.alloc(), &sticks, &sticks)?;
+    let refused = map_of(rt.alloc(), &CAPS_LOCK_TO_NOTHING)?;
+    expect_never_between(&rt, rt.alloc(), &refused, &refused)?;
+    let caught = map_of(rt.alloc(), &ALT_LOCK_TO_NOTHING)?;
+    match sticking_between(rt.alloc(), &caught, &caught)? {
+        Sticking::Sticks(events) => {
+            let presses = events.iter().filter(|event| is_press(**event)).count();
+            assert_eq!(rt; presses, 3);
+            assert_eq!(rt; events.len(), 5);
+        }
+        Sticking::Never | Sticking::Undecided(_) => assert!(rt; false),
+    }
+    Ok(())
+}
+
+#[test]
+fn maps_of_too_many_states_between_them_are_undecided(rt: HostRuntime) -> Result<(), Fail> {
+    let many = map_of_many_modifiers(rt.alloc())?;
+    let empty = KeyMap::new(rt.alloc())?;
+    match sticking_between(rt.alloc(), &empty, &many)? {
         Sticking::Undecided(_) => {}
         Sticking::Sticks(_) | Sticking::Never => assert!(rt; false),
     }

@@ -1,4 +1,4 @@
-use Rattle.console_core.proofs.Scripts.{never_sticks_unless_reached, sticks_if_reached}
+use Rattle.console_core.proofs.Deciding.{never_sticks_unless_reached, sticks_if_reached}
 use Rattle.console_core.proofs.laws.modifiers_stick_where_paths_lead.Goals as goal
 
 pub returns-clause-never : goal.returns-clause-never

@@ -1,24 +1,25 @@
 use Rattle.std.proofs.Common.{◌+◌, arith}
-use Rattle.console_core.specs.Inner.Searching.{state_of, AreAdded, Searched, AreInOrder}
+use Rattle.console_core.specs.Inner.Searching.{state_of, under_of, AreAdded, Searched, AreInOrder}
 use Rattle.console_core.proofs.Searching.{close-step, grows-again, searched-fewer}
 use Rattle.console_core.proofs.search.close.Goals as goal
 
 pub returns-in-Some-clause-searched : goal.returns-in-Some-clause-searched
 returns-in-Some-clause-searched c =
-    searched-fewer c.args.map.now c.loop-place.met.entries c.args.level c.loop-place.place c.args.level c.args.level
-    (omega arith) c.loop-place.invariant.after c.loop-place.invariant.searched
+    searched-fewer (under_of c.args.maps.now) c.loop-place.met.entries c.args.level c.loop-place.place c.args.level
+    c.args.level (omega arith) c.loop-place.invariant.after c.loop-place.invariant.searched
 
 pub loop-place-preserved : goal.loop-place-preserved
 loop-place-preserved c =
-    let m = c.args.map.now in
+    let u = under_of c.args.maps.now in
     let es = c.loop-place.met.entries in
-    let now = c.meet_let_gos.new.met.entries in
+    let now = c.meet_frees.new.met.entries in
     let n = c.loop-place.place in
     let y = c.entry-held.result in
-    let added : AreAdded m (state_of y.0) n 0 c.args.presses es now = c.in_ok-meet_let_gos.ensures.added m in
-    let step : Searched m now c.args.level (n + 1) × AreInOrder now c.args.level c.args.presses =
-    close-step m es now c.args.level c.args.presses n y c.loop-place.invariant.searched c.loop-place.invariant.order
-    c.loop-place.invariant.after c.entry-held.ensures c.in_default.ensures added c.in_ok-meet_let_gos.ensures.met in
+    let added : AreAdded u (state_of y.0) n 0 c.args.presses es now = c.in_ok-meet_frees.ensures.added in
+    let step : Searched u now c.args.level (n + 1) × AreInOrder now c.args.level c.args.presses =
+    close-step u es now c.args.level c.args.presses n y c.loop-place.invariant.searched c.loop-place.invariant.order
+    c.loop-place.invariant.after c.entry-held.ensures c.in_default.ensures added
+    c.in_ok-meet_frees.ensures.met c.in_ok-meet_frees.ensures.exchanged in
     record {
       searched = step.0;
       order = step.1;
@@ -28,5 +29,5 @@ loop-place-preserved c =
 
 pub returns-clause-searched : goal.returns-clause-searched
 returns-clause-searched c =
-    searched-fewer c.args.map.now c.loop-place.met.entries c.args.level c.loop-place.place c.args.level c.args.level
-    (omega arith) c.loop-place.invariant.after c.loop-place.invariant.searched
+    searched-fewer (under_of c.args.maps.now) c.loop-place.met.entries c.args.level c.loop-place.place c.args.level
+    c.args.level (omega arith) c.loop-place.invariant.after c.loop-place.invariant.searched

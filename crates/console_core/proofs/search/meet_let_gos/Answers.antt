@@ -19,9 +19,9 @@ loop-modifier-preserved c =
           (λ i e. subst (λ j. IsLetGoMet now c.args.presses s j) (modifier-at i c.loop-modifier.modifier-index _ e)
           (c.let_go.ensures.met now c.args.presses c.in_ok-meet.ensures.met));
       added =
-          λ m. added-again m s c.args.place 0 c.args.presses c.args.met.now.entries es now
-          (c.loop-modifier.invariant.added m)
-          (c.in_ok-meet.ensures.added m c.args.held.now 0 (c.let_go.ensures.step m));
+          λ u. added-again u s c.args.place 0 c.args.presses c.args.met.now.entries es now
+          (c.loop-modifier.invariant.added u)
+          (c.in_ok-meet.ensures.added u c.args.held.now 0 (c.let_go.ensures.step u));
     }
 
 pub returns-clause-met : goal.returns-clause-met

@@ -2,7 +2,7 @@
 use Rattle.std.proofs.Common.{◌≡◌, ◌<◌, ℕ}
 use Rattle.keymap_core.specs.declared.action.Modifier.{Modifier}
 use Rattle.keymap_core.specs.Actions.{modifier_index}
-use Rattle.keymap_core.specs.Maps.{MapValue}
+use Rattle.console_core.specs.Moves.{Under}
 use Rattle.console_core.specs.Inner.Searching.{state_of, AreWithin, AreAdded, IsLetGoMet}
 use Rattle.console_core.proofs.search.meet_let_gos.Given as goal
 
@@ -11,5 +11,5 @@ invariant-loop-modifier l = record {
   within : AreWithin l.met.entries l.presses;
   met : (n : ℕ) → n < l.modifier-index → (i : Modifier) → modifier_index i ≡ n
       → IsLetGoMet l.met.entries l.presses (state_of l.held) i;
-  added : (m : MapValue) → AreAdded m (state_of l.held) l.place 0 l.presses l.fn.met.entries l.met.entries;
+  added : (u : Under) → AreAdded u (state_of l.held) l.place 0 l.presses l.fn.met.entries l.met.entries;
 }

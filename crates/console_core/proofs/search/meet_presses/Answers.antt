@@ -1,5 +1,5 @@
 use Rattle.std.proofs.Common.{subst, below_more}
-use Rattle.console_core.specs.Inner.Searching.{state_of, ArePressesMet}
+use Rattle.console_core.specs.Inner.Searching.{state_of, under_of, ArePressesMet}
 use Rattle.console_core.proofs.Searching.{added-again, presses-grow}
 use Rattle.console_core.proofs.search.meet_presses.Goals as goal
 
@@ -12,12 +12,12 @@ loop-code-preserved c =
       within = c.in_ok-meet.ensures.within;
       met =
           below_more _ _
-          (λ k lt. presses-grow c.args.map.now es now c.args.presses s k c.in_ok-meet.ensures.grown
+          (λ k lt. presses-grow (under_of c.args.maps.now) es now c.args.presses s k c.in_ok-meet.ensures.grown
           (c.loop-code.invariant.met k lt))
-          (subst (λ k. ArePressesMet c.args.map.now now c.args.presses s k) c.key_with.ensures
+          (subst (λ k. ArePressesMet (under_of c.args.maps.now) now c.args.presses s k) c.key_with.ensures
           (c.pressed.ensures.met now c.args.presses c.in_ok-meet.ensures.met));
       added =
-          added-again c.args.map.now s c.args.place 1 c.args.presses c.args.met.now.entries es now
+          added-again (under_of c.args.maps.now) s c.args.place 1 c.args.presses c.args.met.now.entries es now
           c.loop-code.invariant.added
-          (c.in_ok-meet.ensures.added c.args.map.now c.args.held.now 1 c.pressed.ensures.step);
+          (c.in_ok-meet.ensures.added (under_of c.args.maps.now) c.args.held.now 1 c.pressed.ensures.step);
     }

@@ -1,6 +1,6 @@
 use Rattle.std.proofs.Common.{◌≤◌, ◌<◌, ◌+◌, [], length, sym, arith}
 use Rattle.std.proofs.lemmas.List.{append-nil}
-use Rattle.console_core.specs.Inner.Searching.{Searched, AreInOrder, Grows}
+use Rattle.console_core.specs.Inner.Searching.{under_of, Searched, AreInOrder, Grows}
 use Rattle.console_core.proofs.Searching.{press-step, order-next, searched-fewer}
 use Rattle.console_core.proofs.search.press.Goals as goal
 
@@ -13,13 +13,13 @@ loop-place-init c = record {
 
 pub returns-then-len-gt-BOUND-clause-closed : goal.returns-then-len-gt-BOUND-clause-closed
 returns-then-len-gt-BOUND-clause-closed c =
-    searched-fewer c.args.map.now c.loop-place.met.entries c.loop-place.place (length c.args.met.now.entries)
-    c.args.level (length c.args.met.now.entries) (omega (arith, c.loop-place.auto.place)) (omega arith)
-    c.loop-place.invariant.searched
+    searched-fewer (under_of c.args.maps.now) c.loop-place.met.entries c.loop-place.place
+    (length c.args.met.now.entries) c.args.level (length c.args.met.now.entries)
+    (omega (arith, c.loop-place.auto.place)) (omega arith) c.loop-place.invariant.searched
 
 pub loop-place-preserved : goal.loop-place-preserved
 loop-place-preserved c =
-    let m = c.args.map.now in
+    let u = under_of c.args.maps.now in
     let old = c.args.met.now.entries in
     let es = c.loop-place.met.entries in
     let now = c.meet_presses.new.met.entries in
@@ -27,8 +27,8 @@ loop-place-preserved c =
     let y = c.entry-held.result in
     let le : c.args.level ≤ n = omega (arith, c.loop-place.auto.place) in
     let lt : n < length old = omega (arith, c.loop-place-test.true, c.len-end.ensures.len) in
-    let step : Searched m now (n + 1) (length old) × AreInOrder now (length old) (c.args.presses + 1) × Grows old now =
-    press-step m old es now c.args.level c.args.presses n y c.loop-place.invariant.searched c.requires.order
+    let step : Searched u now (n + 1) (length old) × AreInOrder now (length old) (c.args.presses + 1) × Grows old now =
+    press-step u old es now c.args.level c.args.presses n y c.loop-place.invariant.searched c.requires.order
     c.loop-place.invariant.grown c.loop-place.invariant.order le lt c.entry-held.ensures
     c.in_ok-meet_presses.ensures.added c.in_ok-meet_presses.ensures.met in
     record {
@@ -42,11 +42,12 @@ returns-clause-searched c =
     λ small.
     let le : length c.args.met.now.entries ≤ c.loop-place.place =
     omega (arith, c.loop-place-test.false, c.len-end.ensures.len) in
-    searched-fewer c.args.map.now c.loop-place.met.entries c.loop-place.place (length c.args.met.now.entries)
-    (length c.args.met.now.entries) (length c.args.met.now.entries) le (omega arith) c.loop-place.invariant.searched
+    searched-fewer (under_of c.args.maps.now) c.loop-place.met.entries c.loop-place.place
+    (length c.args.met.now.entries) (length c.args.met.now.entries) (length c.args.met.now.entries) le (omega arith)
+    c.loop-place.invariant.searched
 
 pub returns-clause-closed : goal.returns-clause-closed
 returns-clause-closed c =
-    searched-fewer c.args.map.now c.loop-place.met.entries c.loop-place.place (length c.args.met.now.entries)
-    c.args.level (length c.args.met.now.entries) (omega (arith, c.loop-place.auto.place)) (omega arith)
-    c.loop-place.invariant.searched
+    searched-fewer (under_of c.args.maps.now) c.loop-place.met.entries c.loop-place.place
+    (length c.args.met.now.entries) c.args.level (length c.args.met.now.entries)
+    (omega (arith, c.loop-place.auto.place)) (omega arith) c.loop-place.invariant.searched

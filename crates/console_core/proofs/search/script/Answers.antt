@@ -20,9 +20,9 @@ loop-last-init c =
     (c.in_ok-push_releases.ensures ∙ ap (λ z. z ++ releases s modifiers) c.new-events.ensures.items) in
     record {
       within = within-last es c.args.stuck.place y c.requires.back c.entry-held.ensures;
-      left = λ path x at trail state. (
+      left = λ u path x at trail state. (
         path,
-        script-begin path c.args.stuck.key s c.push.new.self.items
+        script-begin u path c.args.stuck.key s c.push.new.self.items
             (state ∙ ap (λ z. state_of z.0) (same-place es c.args.stuck.place x y at c.entry-held.ensures)) items,
         trail-leads es c.args.stuck.place path y c.entry-held.ensures trail,
       );
@@ -39,26 +39,26 @@ loop-last-preserved c =
     let items = c.loop-last.events.items in
     record {
       within = within-last es c.in-Some.parent c.entry-last.result c.requires.back c.entry-last.ensures;
-      left = λ path x at trail state.
-          let p : (rest : List Move) × (items ++ events_along rest ≡ script_of_path path c.args.stuck.key)
+      left = λ u path x at trail state.
+          let p : (rest : List Move) × (items ++ events_along rest ≡ script_of_path u path c.args.stuck.key)
           × LeadsBy es c.loop-last.last rest =
-          c.loop-last.invariant.left path x at trail state in
+          c.loop-last.invariant.left u path x at trail state in
           let q : (more : List Move)
-          × ((items ++ events_of_move c.in-Some.by) ++ events_along more ≡ script_of_path path c.args.stuck.key)
+          × ((items ++ events_of_move c.in-Some.by) ++ events_along more ≡ script_of_path u path c.args.stuck.key)
           × LeadsBy es c.entry-last.result.1.last more =
-          leads-next es (c.in-Some.parent, c.in-Some.by) items p.0 (script_of_path path c.args.stuck.key)
+          leads-next es (c.in-Some.parent, c.in-Some.by) items p.0 (script_of_path u path c.args.stuck.key)
           (subst (λ o. LeadsBy es o p.0) c.in-Some.is p.2) p.1 c.entry-last.result c.entry-last.ensures in
           (q.0, ap (λ z. z ++ events_along q.0) c.in_ok-push_events.ensures ∙ q.1, q.2);
     }
 
 pub returns : goal.returns
 returns c =
-    λ path x at trail state.
+    λ u path x at trail state.
     let es = c.args.met.now.entries in
     let items = c.loop-last.events.items in
-    let p : (rest : List Move) × (items ++ events_along rest ≡ script_of_path path c.args.stuck.key)
+    let p : (rest : List Move) × (items ++ events_along rest ≡ script_of_path u path c.args.stuck.key)
     × LeadsBy es c.loop-last.last rest =
-    c.loop-last.invariant.left path x at trail state in
+    c.loop-last.invariant.left u path x at trail state in
     ap reverse c.reverse.ensures.items ∙ reverse-reverse items
-    ∙ leads-end es items p.0 (script_of_path path c.args.stuck.key)
+    ∙ leads-end es items p.0 (script_of_path u path c.args.stuck.key)
     (subst (λ o. LeadsBy es o p.0) c.in_default.is p.2) p.1

@@ -1,7 +1,7 @@
 -- the events so far are the script but for the moves that are left
 use Rattle.std.proofs.Common.{◌≡◌, ◌<◌, List, ◌++◌, length, slice_get, Some, IfSome}
 use Rattle.console_core.specs.declared.held.Move.{Move}
-use Rattle.console_core.specs.Moves.{state_after, script_of_path, events_along}
+use Rattle.console_core.specs.Moves.{Under, state_after, script_of_path, events_along}
 use Rattle.console_core.specs.Inner.Searching.{state_of, Entry, IsTrail}
 use Rattle.console_core.proofs.Searching.{LeadsBy, places_left}
 use Rattle.console_core.proofs.search.script.Given as goal
@@ -9,9 +9,9 @@ use Rattle.console_core.proofs.search.script.Given as goal
 abbrev pub invariant-loop-last : goal.invariant-loop-last
 invariant-loop-last l = record {
   within : IfSome l.last (λ last. last.0 < length l.met.entries);
-  left : (path : List Move) (x : Entry) → slice_get l.met.entries l.fn.stuck.place ≡ Some x
-      → IsTrail l.met.entries l.fn.stuck.place path → state_after path ≡ state_of x.0
-      → (rest : List Move) × (l.events.items ++ events_along rest ≡ script_of_path path l.fn.stuck.key)
+  left : (u : Under) (path : List Move) (x : Entry) → slice_get l.met.entries l.fn.stuck.place ≡ Some x
+      → IsTrail l.met.entries l.fn.stuck.place path → state_after u path ≡ state_of x.0
+      → (rest : List Move) × (l.events.items ++ events_along rest ≡ script_of_path u path l.fn.stuck.key)
       × LeadsBy l.met.entries l.last rest;
 }
 

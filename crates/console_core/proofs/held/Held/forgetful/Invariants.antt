@@ -3,10 +3,10 @@ use Rattle.std.proofs.Common.{◌≡◌, ◌<◌, ℕ}
 use Rattle.keymap_core.specs.declared.action.Modifier.{Modifier}
 use Rattle.keymap_core.specs.Actions.{modifier_index}
 use Rattle.console_core.specs.Moves.{HolderForgets}
-use Rattle.console_core.specs.Inner.Searching.{state_of}
+use Rattle.console_core.specs.Inner.Searching.{state_of, under_of}
 use Rattle.console_core.proofs.held.Held.forgetful.Given as goal
 
 abbrev pub invariant-loop-modifier : goal.invariant-loop-modifier
 invariant-loop-modifier l =
     (n : ℕ) → n < l.modifier-index → (i : Modifier) → modifier_index i ≡ n → (k : ℕ)
-    → HolderForgets l.map (state_of l.self) i k → ⊥
+    → HolderForgets (under_of l.maps) (state_of l.self) i k → ⊥

@@ -1,11 +1,11 @@
 -- the states below the level are pressed and closed, and as many presses lead to the others
 use Rattle.std.proofs.Common.{◌≤◌, ◌-◌, length}
-use Rattle.console_core.specs.Inner.Searching.{Searched, AreInOrder}
-use Rattle.console_core.proofs.search.sticking.Given as goal
+use Rattle.console_core.specs.Inner.Searching.{under_of, Searched, AreInOrder}
+use Rattle.console_core.proofs.search.decide.Given as goal
 
 abbrev pub invariant-loop-level : goal.invariant-loop-level
 invariant-loop-level l = record {
-  searched : Searched l.map l.met.entries l.level l.level;
+  searched : Searched (under_of l.maps) l.met.entries l.level l.level;
   order : AreInOrder l.met.entries l.level l.presses;
   below : l.level ≤ length l.met.entries;
   levels : l.presses ≤ l.level;

@@ -1,0 +1,105 @@
+-- What the search answers of a keymap twice: a load is then a reset.
+use Prim.Native.Nat.{suc}
+use Rattle.std.proofs.Common.{◌≡◌, ℕ, ◌<◌, ◌≤◌, ◌==◌, arith, true, false, List, [], ◌∷◌, refl, ap, sym, ◌∙◌}
+use Rattle.std.proofs.Common.{reverse, if◌then◌else◌}
+use Rattle.std.proofs.lemmas.Bool.{true≢false}
+use Rattle.std.proofs.lemmas.List.Elements.{All-nil, All-cons, All-head, All-tail}
+use Rattle.keymap_core.specs.declared.action.Modifier.{Modifier}
+use Rattle.keymap_core.specs.Maps.{MapValue}
+use Rattle.console_core.specs.declared.event.Event.{Event}
+use Rattle.console_core.specs.declared.event.Event.TheVariants.{Press, Release, Reset, Load}
+use Rattle.console_core.specs.declared.outcome.Sticking.TheVariants.{Sticks, Never, Undecided}
+use Rattle.console_core.specs.History.{between, pressed, HasKey, HasKeys, IsNoLoad, HasNoLoads}
+use Rattle.console_core.specs.Loads.{as_reset, loads_as_resets}
+use Rattle.console_core.specs.Sticking.{SticksAfter, SticksBetween, presses, AnswersAlikeOfOneKeymap}
+use Rattle.console_core.proofs.OneMore.{pressed-press, pressed-release, pressed-reset, pressed-load}
+use Rattle.console_core.proofs.OneMap.{loads_of_one_map}
+use Rattle.console_core.proofs.Deciding.{on_alone}
+
+-- with loads as resets the same keys are pressed
+pressed_alike : (k : ℕ) (h : List Event) → pressed k (loads_as_resets h) ≡ pressed k h
+pressed_alike k [] = refl
+pressed_alike k (Press j ∷ h) =
+    pressed-press k j (loads_as_resets h) ∙ ap (λ b. if j == k then true else b) (pressed_alike k h)
+    ∙ sym (pressed-press k j h)
+pressed_alike k (Release j ∷ h) =
+    pressed-release k j (loads_as_resets h) ∙ ap (λ b. if j == k then false else b) (pressed_alike k h)
+    ∙ sym (pressed-release k j h)
+pressed_alike k (Reset ∷ h) = pressed-reset k (loads_as_resets h) ∙ sym (pressed-reset k h)
+pressed_alike k (Load ∷ h) = pressed-reset k (loads_as_resets h) ∙ sym (pressed-load k h)
+
+-- there are as many presses
+presses_alike : (h : List Event) → presses (loads_as_resets h) ≡ presses h
+presses_alike [] = refl
+presses_alike (Press k ∷ h) = ap (λ n. suc n) (presses_alike h)
+presses_alike (Release k ∷ h) = presses_alike h
+presses_alike (Reset ∷ h) = presses_alike h
+presses_alike (Load ∷ h) = presses_alike h
+
+-- the same keys are spoken of, and no load is left
+key_alike : (e : Event) → HasKey e → HasKey (as_reset e)
+key_alike (Press k) key = key
+key_alike (Release k) key = key
+key_alike Reset key = tt
+key_alike Load key = tt
+
+keys_alike : (h : List Event) → HasKeys h → HasKeys (loads_as_resets h)
+keys_alike [] keys = keys
+keys_alike (e ∷ h) keys =
+    All-cons HasKey (as_reset e) (loads_as_resets h) (key_alike e (All-head HasKey e h keys))
+    (keys_alike h (All-tail HasKey e h keys))
+
+reset_is_no_load : (e : Event) → IsNoLoad (as_reset e)
+reset_is_no_load (Press k) = refl
+reset_is_no_load (Release k) = refl
+reset_is_no_load Reset = refl
+reset_is_no_load Load = refl
+
+no_loads_left : (h : List Event) → HasNoLoads (loads_as_resets h)
+no_loads_left [] = All-nil IsNoLoad
+no_loads_left (e ∷ h) = All-cons IsNoLoad (as_reset e) (loads_as_resets h) (reset_is_no_load e) (no_loads_left h)
+
+-- what sticks between the keymap and itself sticks under it alone, with loads as resets
+sticks_alone : (m : MapValue) (h : List Event) (i : Modifier) → HasKeys h → SticksBetween (between m m) h i
+    → SticksAfter m (loads_as_resets h) i
+sticks_alone m h i keys (quiet, on) = (
+  (λ k lt. pressed_alike k h ∙ quiet k lt),
+  (λ ms first. on_alone m ms i (loads_as_resets h) first (no_loads_left h)
+      ∙ sym ((loads_of_one_map m h keys).0 i) ∙ on),
+)
+
+-- and what sticks under it alone sticks between it and itself
+sticks_twice : (m : MapValue) (h : List Event) (i : Modifier) → SticksAfter m h i → SticksBetween (between m m) h i
+sticks_twice m h i (quiet, on) = (quiet, on (between m m) refl)
+
+-- of a keymap twice the search answers as of the keymap alone
+pub answers_alike : AnswersAlikeOfOneKeymap
+answers_alike m (Sticks events) (Sticks others) ((keys, made, (i, sticks)), fewest)
+    ((other_keys, other_made, (j, other_sticks)), other_fewest) =
+    let h : List Event = reverse others.items in
+    let le : presses (reverse events.items) ≤ presses (loads_as_resets h) =
+    fewest (loads_as_resets h) (keys_alike h other_keys) (no_loads_left h) j
+    (sticks_alone m h j other_keys other_sticks) in
+    let ge : presses h ≤ presses (reverse events.items) =
+    other_fewest (reverse events.items) keys i (sticks_twice m (reverse events.items) i sticks) in
+    omega (arith, le, ge, presses_alike h)
+answers_alike m (Sticks events) Never ((keys, made, (i, sticks)), fewest) never =
+    let twice : SticksBetween (between m m) (reverse events.items) i =
+    sticks_twice m (reverse events.items) i sticks in
+    true≢false (sym twice.1 ∙ (never (reverse events.items) keys).1 twice.0 i)
+answers_alike m (Sticks events) (Undecided p) ((keys, made, (i, sticks)), fewest) (reaches, none_by) =
+    none_by (reverse events.items) keys i (sticks_twice m (reverse events.items) i sticks)
+answers_alike m Never (Sticks events) never ((keys, made, (i, sticks)), fewest) =
+    let h : List Event = reverse events.items in
+    let alone : SticksAfter m (loads_as_resets h) i = sticks_alone m h i keys sticks in
+    true≢false (sym (alone.1 (between m m) refl)
+    ∙ (never (between m m) (loads_as_resets h) refl (keys_alike h keys) (no_loads_left h)).1 alone.0 i)
+answers_alike m Never Never never same = tt
+answers_alike m Never (Undecided p) never x = tt
+answers_alike m (Undecided p) (Sticks events) (reaches, none_by) ((keys, made, (i, sticks)), fewest) =
+    let h : List Event = reverse events.items in
+    let more : p < presses (loads_as_resets h) =
+    none_by (loads_as_resets h) (keys_alike h keys) (no_loads_left h) i (sticks_alone m h i keys sticks) in
+    omega (arith, more, presses_alike h)
+answers_alike m (Undecided p) Never x never = tt
+answers_alike m (Undecided p) (Undecided q) x y = tt

@@ -1,0 +1,10 @@
+-- no modifier below the place is held
+use Rattle.std.proofs.Common.{◌≡◌, ◌<◌, ℕ, None}
+use Rattle.keymap_core.specs.declared.action.Modifier.{Modifier}
+use Rattle.keymap_core.specs.Actions.{modifier_index}
+use Rattle.console_core.specs.Inner.Searching.{state_of}
+use Rattle.console_core.proofs.held.Held.is_free.Given as goal
+
+abbrev pub invariant-loop-modifier : goal.invariant-loop-modifier
+invariant-loop-modifier l =
+    (n : ℕ) → n < l.modifier-index → (i : Modifier) → modifier_index i ≡ n → (state_of l.self).holder i ≡ None

@@ -71,6 +71,8 @@ takes_none read_narrow-long fault
 refuses read_narrow_from
 refuses sticking-never
 refuses sticking-sticks
+refuses sticking_between-never
+refuses sticking_between-sticks
 refuses replay-plain
 refuses replay-word
 refuses read_script

@@ -1,11 +1,13 @@
 //! The calls, each on inputs that are made before.
 use crate::devices::{Counting, mark, reader_of};
 use crate::inputs::{
-    FAULTY, NOT_TEXT, SENTENCE, TEXT, TRAP, UNTYPED, narrow, sample, script, tables,
+    FAULTY, LOCK, LOCKED, NOT_TEXT, SENTENCE, TEXT, TRAP, UNTYPED, narrow, sample, script, tables,
 };
 use crate::outcome::{Answer, Outcome, done};
 use crate::runs;
-use console_core::{Event, PlainConsole, Sticking, Translator, WordConsole, replay, sticking};
+use console_core::{
+    Event, PlainConsole, Sticking, Translator, WordConsole, replay, sticking, sticking_between,
+};
 use keymap_core::{KeyCode, KeyMap, Lock, Modifier, ReadError, Write, read_up_to};
 use keymap_tables::{
     NARROW_FILE, TableError, WIDE_FILE, read_narrow, read_narrow_from, read_tables,
@@ -41,6 +43,8 @@ pub(crate) fn outcome_of<W: Write>(
         "read_narrow_from" => reads_narrow_from(alloc, narrow(alloc)?.as_slice(), marks),
         "sticking-never" => searches(alloc, TEXT, marks)?,
         "sticking-sticks" => searches(alloc, TRAP, marks)?,
+        "sticking_between-never" => searches_between(alloc, TEXT, marks)?,
+        "sticking_between-sticks" => searches_between(alloc, LOCKED, marks)?,
         "replay-plain" => replays_plainly(alloc, marks)?,
         "replay-word" => replays_in_a_word(alloc, marks)?,
         "read_script" => reads_script(alloc, marks),
@@ -190,6 +194,26 @@ fn searches<W: Write>(alloc: Global, text: &[u8], marks: &mut W) -> Result<Outco
     mark(marks);
     Ok(Outcome::of(match answer {
         Ok(Sticking::Sticks(events)) => done(text == TRAP && events.len() == 5),
+        Ok(Sticking::Never) => done(text == TEXT),
+        Ok(Sticking::Undecided(_)) => Answer::Fault,
+        Err(AllocError) => Answer::Memory,
+    }))
+}
+
+/// Searches between the map of a lock and that of a text. They stick exactly where the text sticks under the lock.
+fn searches_between<W: Write>(
+    alloc: Global,
+    text: &[u8],
+    marks: &mut W,
+) -> Result<Outcome, AllocError> {
+    let (Ok(first), Ok(second)) = (read_map(alloc, LOCK), read_map(alloc, text)) else {
+        return Err(AllocError);
+    };
+    mark(marks);
+    let answer = sticking_between(alloc, &first, &second);
+    mark(marks);
+    Ok(Outcome::of(match answer {
+        Ok(Sticking::Sticks(events)) => done(text == LOCKED && events.len() == 6),
         Ok(Sticking::Never) => done(text == TEXT),
         Ok(Sticking::Undecided(_)) => Answer::Fault,
         Err(AllocError) => Answer::Memory,

@@ -18,6 +18,15 @@ pub(crate) const TRAP: &[u8] = b"029 lctrl lctrl lctrl lctrl lctrl lctrl lctrl l
 042 lshift lshift 'x' 'x' lshift lshift lshift lshift O
 ";
 
+/// The caps lock alone.
+pub(crate) const LOCK: &[u8] = b"058 clock clock clock clock clock clock clock clock O
+";
+
+/// A shift that is a character unless the caps lock is on, which only a key under shift turns on.
+pub(crate) const LOCKED: &[u8] = b"042 'x' lshift 'x' lshift 'x' lshift 'x' lshift C
+059 nop clock nop clock nop clock nop clock O
+";
+
 /// Letters, one of which takes the dead key before its base, often enough that their list outgrows its memory.
 pub(crate) const SENTENCE: &[u8] = b"aA\xc3\xa9AaA\xc3\xa9AaA\xc3\xa9AaA\xc3\xa9A";
 

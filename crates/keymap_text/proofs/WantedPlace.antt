@@ -1,44 +1,48 @@
 -- Where tokens lead, one by one.
-use Rattle.std.proofs.Common.{◌≡◌, List, [], ◌∷◌, Result, Ok, Err, Option, refl, sym, ◌∙◌, ap, IsErr, true≢false}
+use Rattle.std.proofs.Common.{◌≡◌, ℕ, List, [], ◌∷◌, Result, Ok, Err, Option, refl, sym, ◌∙◌, ap, IsErr, true≢false}
 use Rattle.keymap_text.specs.declared.fault.TextFaultKind.{TextFaultKind}
+use Rattle.keymap_text.specs.declared.token.Span.{Span}
 use Rattle.keymap_text.specs.declared.wanted.DefinitionStart.{DefinitionStart}
 use Rattle.keymap_text.specs.declared.words.Item.{Item}
 use Rattle.keymap_text.specs.Lexical.{TokenValue}
 use Rattle.keymap_text.specs.Meaning.{item_of}
+use Rattle.keymap_text.specs.Placed.{span_of}
 use Rattle.keymap_text.specs.Places.{RowPlace, next}
 use Rattle.keymap_text.specs.Wanted.{definition_behind, first_refused}
 
 -- behind the last token
-pub reached_end : (p : RowPlace) (d : Option DefinitionStart) (ts : List TokenValue) → ts ≡ []
-    → first_refused p d ts ≡ (p, d)
+pub reached_end : (p : RowPlace) (d : Option DefinitionStart) (n : ℕ) (ts : List TokenValue) → ts ≡ []
+    → first_refused p d n ts ≡ (p, d, n)
 unfolding first_refused
-reached_end p d ts h = rw h refl
+reached_end p d n ts h = rw h refl
 
 -- behind an accepted token
-accepted : (p q : RowPlace) (d : Option DefinitionStart) (t : TokenValue) (ts : List TokenValue)
+accepted : (p q : RowPlace) (d : Option DefinitionStart) (n : ℕ) (t : TokenValue) (ts : List TokenValue)
     → next p (item_of t) ≡ Ok q
-    → first_refused p d (t ∷ ts) ≡ first_refused q (definition_behind p d (item_of t) t.start) ts
+    → first_refused p d n (t ∷ ts)
+    ≡ first_refused q (definition_behind p d (item_of t) t.start) (span_of t).end ts
 unfolding first_refused
-accepted p q d t ts h = rw (first_refused, h) refl
+accepted p q d n t ts h = rw (first_refused, h) refl
 
-pub reached_on : (p q : RowPlace) (d e : Option DefinitionStart) (i : Item) (t : TokenValue) (ts us : List TokenValue)
-    → us ≡ t ∷ ts → i ≡ item_of t → next p i ≡ Ok q → e ≡ definition_behind p d i t.start
-    → first_refused p d us ≡ first_refused q e ts
-reached_on p q d e i t ts us h is f g =
-    ap (first_refused p d) h ∙ accepted p q d t ts (ap (next p) (sym is) ∙ f)
-    ∙ ap (λ i. first_refused q (definition_behind p d i t.start) ts) (sym is)
-    ∙ ap (λ e. first_refused q e ts) (sym g)
+pub reached_on : (p q : RowPlace) (d e : Option DefinitionStart) (n : ℕ) (i : Item) (t : TokenValue) (s : Span)
+    (ts us : List TokenValue) → us ≡ t ∷ ts → i ≡ item_of t → next p i ≡ Ok q → e ≡ definition_behind p d i t.start
+    → span_of t ≡ s → first_refused p d n us ≡ first_refused q e s.end ts
+reached_on p q d e n i t s ts us h is f g place =
+    ap (first_refused p d n) h ∙ accepted p q d n t ts (ap (next p) (sym is) ∙ f)
+    ∙ ap (λ i. first_refused q (definition_behind p d i t.start) (span_of t).end ts) (sym is)
+    ∙ ap (λ e. first_refused q e (span_of t).end ts) (sym g)
+    ∙ ap (λ (s : Span). first_refused q e s.end ts) place
 
 -- at a refused token
-refused : (p : RowPlace) (d : Option DefinitionStart) (t : TokenValue) (ts : List TokenValue) (f : TextFaultKind)
-    → next p (item_of t) ≡ Err f → first_refused p d (t ∷ ts) ≡ (p, d)
+refused : (p : RowPlace) (d : Option DefinitionStart) (n : ℕ) (t : TokenValue) (ts : List TokenValue)
+    (f : TextFaultKind) → next p (item_of t) ≡ Err f → first_refused p d n (t ∷ ts) ≡ (p, d, n)
 unfolding first_refused
-refused p d t ts f h = rw (first_refused, h) refl
+refused p d n t ts f h = rw (first_refused, h) refl
 
-pub reached_fault : (p : RowPlace) (d : Option DefinitionStart) (i : Item) (t : TokenValue) (ts us : List TokenValue)
-    → us ≡ t ∷ ts → i ≡ item_of t → IsErr (next p i) → first_refused p d us ≡ (p, d)
-reached_fault p d i t ts us h is f = go (next p i) refl f
+pub reached_fault : (p : RowPlace) (d : Option DefinitionStart) (n : ℕ) (i : Item) (t : TokenValue)
+    (ts us : List TokenValue) → us ≡ t ∷ ts → i ≡ item_of t → IsErr (next p i) → first_refused p d n us ≡ (p, d, n)
+reached_fault p d n i t ts us h is f = go (next p i) refl f
   where
-    go : (r : Result RowPlace TextFaultKind) → next p i ≡ r → IsErr r → first_refused p d us ≡ (p, d)
+    go : (r : Result RowPlace TextFaultKind) → next p i ≡ r → IsErr r → first_refused p d n us ≡ (p, d, n)
     go (Ok q) k f = absurd (true≢false (sym f))
-    go (Err g) k f = ap (first_refused p d) h ∙ refused p d t ts g (ap (next p) (sym is) ∙ k)
+    go (Err g) k f = ap (first_refused p d n) h ∙ refused p d n t ts g (ap (next p) (sym is) ∙ k)

@@ -1,5 +1,5 @@
 -- Where the definitions of a text stand: the tokens of each one.
-use Rattle.std.specs.Prelude.{◌≡◌, ℕ, ◌+◌, ◌==◌, Bool, false, if◌then◌else◌, List, [], ◌∷◌}
+use Rattle.std.specs.Prelude.{◌≡◌, ◌<◌, ℕ, ◌+◌, ◌==◌, Bool, false, if◌then◌else◌, List, [], ◌∷◌}
 use Rattle.std.specs.Prelude.{◌++◌, length, map, Option, Some, None, nat_lt}
 use Rattle.std.specs.Option.{option_or}
 use Rattle.keymap_core.specs.Maps.{MapValue}
@@ -10,7 +10,7 @@ use Rattle.keymap_text.specs.declared.placed.Placed.{Placed}
 use Rattle.keymap_text.specs.declared.words.Meaning.TheVariants.{Number, Act}
 use Rattle.keymap_text.specs.declared.words.Item.{Item}
 use Rattle.keymap_text.specs.declared.words.Item.TheVariants.{Value}
-use Rattle.keymap_core.specs.Numbers.{slot_limit}
+use Rattle.keymap_core.specs.Numbers.{slot_limit, accent_limit}
 use Rattle.keymap_text.specs.Items.{accent_index}
 use Rattle.keymap_text.specs.Lexical.{TokenValue}
 use Rattle.keymap_text.specs.Meaning.{item_of, tokens}
@@ -45,6 +45,15 @@ abbrev pub begins : Item → Option Defined
 begins (Value (Number n)) = if nat_lt n slot_limit then Some (Slot n) else None
 begins (Value (Act a)) = elim (accent_index a) [ Some i ↦ Some (Accent i) | None ↦ None ]
 begins other = None
+
+-- It is a slot or an accent that there is.
+abbrev pub HasIndex : Defined → Type 0
+HasIndex (Slot slot) = slot < slot_limit
+HasIndex (Accent i) = i < accent_limit
+
+-- the definition begins at one of n tokens
+abbrev pub StandsAmong : ℕ → Placed → Type 0
+StandsAmong n p = (p.first < n) × HasIndex p.what
 
 -- what each row defines, and how many tokens stand before it, where n stand before the first
 unfoldable pub places_after : ℕ → List Row → List Placed

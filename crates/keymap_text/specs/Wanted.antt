@@ -7,7 +7,7 @@ use Rattle.keymap_text.specs.declared.wanted.FaultPlace.{FaultPlace}
 use Rattle.keymap_text.specs.declared.words.Item.{Item}
 use Rattle.keymap_text.specs.Lexical.{TokenValue}
 use Rattle.keymap_text.specs.Meaning.{item_of}
-use Rattle.keymap_text.specs.Placed.{begins}
+use Rattle.keymap_text.specs.Placed.{begins, span_of}
 use Rattle.keymap_text.specs.Places.{RowPlace, AtDefinition, AtCell, AtLock, AtAccentCharacter, AfterPairs, AtBase}
 use Rattle.keymap_text.specs.Places.{AtResult, AtPairEnd, next}
 
@@ -21,8 +21,8 @@ row_place (wants.Base n) = AtBase n
 row_place (wants.Composed n) = AtResult n
 row_place (wants.PairEnd n) = AtPairEnd n
 
-abbrev pub fault_place_view : FaultPlace → RowPlace × Option DefinitionStart
-fault_place_view f = (row_place f.wanted, f.definition)
+abbrev pub fault_place_view : FaultPlace → RowPlace × Option DefinitionStart × ℕ
+fault_place_view f = (row_place f.wanted, f.definition, f.behind)
 
 -- the definition that a token at this offset begins, or else the one that has begun before it
 abbrev pub definition_by : Option DefinitionStart → Item → ℕ → Option DefinitionStart
@@ -36,10 +36,12 @@ definition_behind (AfterPairs n) b t offset = definition_by b t offset
 definition_behind AtLock b t offset = None
 definition_behind _ b t offset = b
 
--- the place before the first token that is refused, or behind the last one, and the definition that it is in
-unfoldable pub first_refused : RowPlace → Option DefinitionStart → List TokenValue → RowPlace × Option DefinitionStart
-first_refused p b [] = (p, b)
-first_refused p b (t ∷ ts) = elim (next p (item_of t)) [
-  | Ok p' ↦ first_refused p' (definition_behind p b (item_of t) t.start) ts
-  | Err f ↦ (p, b)
+-- the place before the first token that is refused, or behind the last one, the definition that it is in, and the offset
+-- behind the token before it
+unfoldable pub first_refused : RowPlace → Option DefinitionStart → ℕ → List TokenValue
+    → RowPlace × Option DefinitionStart × ℕ
+first_refused p d behind [] = (p, d, behind)
+first_refused p d behind (t ∷ ts) = elim (next p (item_of t)) [
+  | Ok p' ↦ first_refused p' (definition_behind p d (item_of t) t.start) (span_of t).end ts
+  | Err f ↦ (p, d, behind)
 ]

@@ -1,10 +1,11 @@
 //! Where the definitions of a text stand.
-ghost use Rattle.std.specs.Prelude.{◌≡◌, ◌+◌, ◌≤◌, ◌++◌, ◌∷◌, List, length, IfOk, IfSome, map, ◌<◌};
+ghost use Rattle.std.specs.Prelude.{◌≡◌, ◌+◌, ◌≤◌, ◌++◌, ◌∷◌, List, All, length, vec_len, map, IfOk, IfSome, OnOk};
 ghost use Rattle.keymap_text.specs.declared.token.TokenKind.TheVariants.{Word};
 ghost use Rattle.keymap_text.specs.Lexical.{TokenValue};
 ghost use Rattle.keymap_text.specs.Meaning.{tokens, Spells};
 ghost use Rattle.keymap_core.specs.Maps.{MapValue};
-ghost use Rattle.keymap_text.specs.Placed.{begins, span_of, places_of, Row, IsSpelledBy};
+ghost use Rattle.keymap_text.specs.Placed.{begins, span_of, places_of, Row, IsSpelledBy, HasIndex};
+ghost use Rattle.keymap_text.specs.Placed.{StandsAmong};
 ghost use Rattle.keymap_text.specs.Inner.Placed.{behind, begun, ComesNext};
 
 use crate::grammar::accent_index;
@@ -37,7 +38,8 @@ pub struct PlacedText {
 
 /// What the definition defines that begins with this token, if one does.
 pub(crate) fn defined_by(item: &Item) -> Option<Defined>
-    ensures { result ≡ begins item.now }
+    ensures value { result ≡ begins item.now }
+    ensures index { IfSome result HasIndex }
 {
     match item {
         Item::Value(Meaning::Number(n)) => {
@@ -75,9 +77,11 @@ fn take(
     token: &Token<'_>,
 ) -> Result<usize, AllocError>
     requires { token.now.kind ≡ Word → length token.now.slice.now ≤ 32 }
-    ensures { IfOk result (λ rest. (t : TokenValue) (ts : List TokenValue) → t.kind ≡ token.now.kind
+    ensures begun { IfOk result (λ rest. (t : TokenValue) (ts : List TokenValue) → t.kind ≡ token.now.kind
         → t.bytes ≡ token.now.slice.now → definitions.old.items ++ begun left first (t ∷ ts)
         ≡ definitions.new.items ++ begun rest (first + 1) ts) }
+    ensures among { OnOk result (All (StandsAmong first) definitions.old.items
+        → All (StandsAmong (first + 1)) definitions.new.items) }
 {
     if left > 0 {
         return Ok(left - 1);
@@ -111,6 +115,7 @@ pub fn definitions(alloc: Global, text: &[u8]) -> Result<PlacedText, AllocError>
     ensures spans { IfOk result (λ placed. placed.spans.items ≡ map span_of (tokens text.now)) }
     ensures definitions { IfOk result (λ placed. (m : MapValue) → Spells text.now m → (rows : List Row)
         × IsSpelledBy text.now m rows × (placed.definitions.items ≡ places_of rows)) }
+    ensures among { IfOk result (λ placed. All (StandsAmong (vec_len placed.spans)) placed.definitions.items) }
 {
     let mut spans = Vec::new(alloc);
     let mut definitions = Vec::new(alloc);

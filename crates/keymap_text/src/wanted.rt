@@ -33,11 +33,13 @@ pub struct DefinitionStart {
 }
 
 /// What is wanted at a place, and the definition that has begun before it, unless that has ended. The definition of an
-/// accent ends where the next one begins.
+/// accent ends where the next one begins. The place is behind the last token that is accepted.
 #[derive(Clone, Copy, Debug, PartialEq, Eq)]
 pub struct FaultPlace {
     pub wanted: Wanted,
     pub definition: Option<DefinitionStart>,
+    /// The offset behind the last token that is accepted; 0 where there is none.
+    pub behind: usize,
 }
 
 /// What is wanted behind the first token of a definition; nothing where it is refused.
@@ -144,7 +146,7 @@ fn definition_after(
 /// What is wanted where a text has its first token that is refused, or behind its last one where none is, and the
 /// definition that this place is in.
 pub fn wanted_at_fault(text: &[u8]) -> FaultPlace
-    ensures { fault_place_view result ≡ first_refused places.AtDefinition Nothing (tokens text.now) }
+    ensures { fault_place_view result ≡ first_refused places.AtDefinition Nothing 0 (tokens text.now) }
 {
     let mut wanted = Wanted::Definition;
     let mut definition = None;
@@ -152,11 +154,19 @@ pub fn wanted_at_fault(text: &[u8]) -> FaultPlace
     while let Some(token) = token_from(text, at) {
         let item = item_of(token.kind, token.slice);
         let Some(next) = wanted_behind(wanted, &item) else {
-            return FaultPlace { wanted, definition };
+            return FaultPlace {
+                wanted,
+                definition,
+                behind: at,
+            };
         };
         definition = definition_after(wanted, definition, &item, token.span.start);
         wanted = next;
         at = token.span.end;
     }
-    FaultPlace { wanted, definition }
+    FaultPlace {
+        wanted,
+        definition,
+        behind: at,
+    }
 }

@@ -1,7 +1,7 @@
-use Rattle.std.proofs.Common.{◌++◌, map, vec_len, refl, sym, ◌∙◌, ap, append-nil}
+use Rattle.std.proofs.Common.{◌≡◌, ℕ, ◌+◌, ◌++◌, All, subst, map, vec_len, refl, sym, ◌∙◌, ap, append-nil}
 use Rattle.keymap_text.specs.Tokens.{token_view}
 use Rattle.keymap_text.specs.Meaning.{tokens}
-use Rattle.keymap_text.specs.Placed.{span_of}
+use Rattle.keymap_text.specs.Placed.{span_of, StandsAmong}
 use Rattle.keymap_text.specs.Inner.Placed.{begun, tokens_from}
 use Rattle.keymap_text.proofs.Placing.{spans_on, begun_on, begun_none}
 use Rattle.keymap_text.proofs.RowPlaces.{spelled_by}
@@ -13,6 +13,8 @@ loop-token-preserved c =
     let at = c.loop-token.at in
     let t = c.in-Some.token in
     let f = c.in-Some.ensures in
+    let grown : vec_len c.push.new.self ≡ c.len.result + 1 =
+    c.in_ok-push.ensures.len ∙ ap (λ n. n + 1) (sym c.len.ensures) in
     record {
       within = f.within;
       spans =
@@ -21,9 +23,12 @@ loop-token-preserved c =
       begun =
           begun_on c.loop-token.definitions.items c.take.new.definitions.items (begun 0 0 (tokens text))
           c.loop-token.left c.in_ok-left.left (vec_len c.loop-token.spans) (vec_len c.push.new.self) c.len.result
-          text at t.span.end
-          (token_view text t) c.len.ensures c.in_ok-push.ensures.len f.others c.loop-token.invariant.begun
-          (c.in_ok-left.ensures (token_view text t) (tokens_from text t.span.end) refl refl);
+          text at t.span.end (token_view text t) c.len.ensures c.in_ok-push.ensures.len f.others c.loop-token.invariant.begun
+          (c.in_ok-left.ensures.begun (token_view text t) (tokens_from text t.span.end) refl refl);
+      among =
+          subst (λ (n : ℕ). All (StandsAmong n) c.take.new.definitions.items) (sym grown)
+          (c.in_ok-left.ensures.among (subst (λ (n : ℕ). All (StandsAmong n) c.loop-token.definitions.items)
+          (sym c.len.ensures) c.loop-token.invariant.among));
     }
 
 pub returns-clause-spans : goal.returns-clause-spans

@@ -1,6 +1,6 @@
-use Rattle.std.proofs.Common.{◌≡◌, ◌≤◌, ◌++◌, ◌-◌, length, map, vec_len}
+use Rattle.std.proofs.Common.{◌≡◌, All, ◌≤◌, ◌++◌, ◌-◌, length, map, vec_len}
 use Rattle.keymap_text.specs.Meaning.{tokens}
-use Rattle.keymap_text.specs.Placed.{span_of}
+use Rattle.keymap_text.specs.Placed.{span_of, StandsAmong}
 use Rattle.keymap_text.specs.Inner.Placed.{begun, tokens_from}
 use Rattle.keymap_text.proofs.placed.definitions.Given as goal
 
@@ -11,6 +11,7 @@ invariant-loop-token l = record {
   spans : l.spans.items ++ map span_of (tokens_from l.text l.at) ≡ map span_of (tokens l.text);
   begun : l.definitions.items ++ begun l.left (vec_len l.spans) (tokens_from l.text l.at)
       ≡ begun 0 0 (tokens l.text);
+  among : All (StandsAmong (vec_len l.spans)) l.definitions.items;
 }
 
 abbrev pub decreases-loop-token : goal.decreases-loop-token

@@ -11,7 +11,7 @@ returns-in_default-wanted_behind c =
     let l = c.loop-token in
     let t = c.in-Some.token in
     let f = c.in-Some.ensures in
-    sym (reached_fault (row_place l.wanted) l.definition c.item_of-item.result (token_view text t)
+    sym (reached_fault (row_place l.wanted) l.definition l.at c.item_of-item.result (token_view text t)
     (tokens_from text t.span.end) (tokens_from text l.at) f.others c.item_of-item.ensures
     c.in_default-wanted_behind.ensures)
     ∙ l.invariant.reached
@@ -28,13 +28,13 @@ loop-token-preserved c =
       wanted = next.ensures.1;
       reached =
           sym (reached_on (row_place l.wanted) (row_place next.next) l.definition c.definition_after-definition.result
-          c.item_of-item.result (token_view text t) (tokens_from text t.span.end) (tokens_from text l.at) f.others
-          c.item_of-item.ensures next.ensures.0 c.definition_after-definition.ensures)
+          l.at c.item_of-item.result (token_view text t) t.span (tokens_from text t.span.end) (tokens_from text l.at) f.others
+          c.item_of-item.ensures next.ensures.0 c.definition_after-definition.ensures f.span)
           ∙ l.invariant.reached;
     }
 
 pub returns : goal.returns
 returns c =
     sym (reached_end (row_place c.loop-token.wanted) c.loop-token.definition
-    (tokens_from c.args.text.now c.loop-token.at) c.in_default.ensures)
+    c.loop-token.at (tokens_from c.args.text.now c.loop-token.at) c.in_default.ensures)
     ∙ c.loop-token.invariant.reached

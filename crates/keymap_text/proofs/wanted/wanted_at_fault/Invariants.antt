@@ -11,8 +11,8 @@ abbrev pub invariant-loop-token : goal.invariant-loop-token
 invariant-loop-token l = record {
   within : l.at ≤ length l.text;
   wanted : IsWanted l.wanted;
-  reached : first_refused (row_place l.wanted) l.definition (tokens_from l.text l.at)
-      ≡ first_refused AtDefinition None (tokens l.text);
+  reached : first_refused (row_place l.wanted) l.definition l.at (tokens_from l.text l.at)
+      ≡ first_refused AtDefinition None 0 (tokens l.text);
 }
 
 abbrev pub decreases-loop-token : goal.decreases-loop-token

@@ -23,7 +23,8 @@ loop-token-preserved c =
       begun =
           begun_on c.loop-token.definitions.items c.take.new.definitions.items (begun 0 0 (tokens text))
           c.loop-token.left c.in_ok-left.left (vec_len c.loop-token.spans) (vec_len c.push.new.self) c.len.result
-          text at t.span.end (token_view text t) c.len.ensures c.in_ok-push.ensures.len f.others c.loop-token.invariant.begun
+          text at t.span.end (token_view text t) c.len.ensures c.in_ok-push.ensures.len f.others
+          c.loop-token.invariant.begun
           (c.in_ok-left.ensures.begun (token_view text t) (tokens_from text t.span.end) refl refl);
       among =
           subst (λ (n : ℕ). All (StandsAmong n) c.take.new.definitions.items) (sym grown)

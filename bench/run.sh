@@ -1,8 +1,8 @@
 #!/bin/sh
 # Measures the program on large inputs: what a byte of text and an event of a script cost, how these costs grow from a
 # tenth of the largest size to the whole, how many reads and writes a run makes, what the longest search for a
-# demonstration costs, what the script of a sentence costs, and what an event costs over a keymap in memory and over its
-# tables.
+# demonstration costs, what the search of a keymap and that between two cost, what the script of a sentence costs, and
+# what an event costs over a keymap in memory and over its tables.
 #
 # usage: run.sh PROGRAM STEPS
 # STEPS is the program of crates/step_costs.
@@ -20,7 +20,8 @@ case $steps in
 /*) ;;
 *) steps=$PWD/$steps ;;
 esac
-keymap=$(cd "$(dirname "$0")/../examples" && pwd)/us.kbd
+examples=$(cd "$(dirname "$0")/../examples" && pwd)
+keymap=$examples/us.kbd
 folder=$(mktemp -d) || exit 1
 trap 'rm -rf "$folder"' EXIT
 cd "$folder" || exit 1
@@ -194,6 +195,13 @@ shown=$(cost check --show refused)
 echo "map of $("$program" check refused | grep -c '^key ') findings, checked: $plain $unit; with --show: $shown $unit," \
     "times $(per "$shown" 0 "$plain"); $("$program" check --show refused | tail -n 1)"
 echo "  $(transfers check refused); with --show: $(transfers check --show refused)"
+
+one=$(cost search "$keymap")
+other=$(cost search "$examples/de.kbd")
+both=$(cost search "$keymap" --next "$examples/de.kbd")
+echo "search of us.kbd: $one $unit, of de.kbd: $other $unit; between them: $both $unit, times" \
+    "$(awk -v a="$one" -v b="$other" -v c="$both" 'BEGIN { printf "%.2f", c / (a > b ? a : b) }')"
+echo "  $(transfers search "$keymap" --next "$examples/de.kbd")"
 
 tr -dc '\012a-zA-Z0-9 ,.;:!?' < text.whole | tr '\012' ' ' | head -c 32768 > sentence
 "$program" type "$keymap" sentence > typing.script || exit 1

@@ -5,7 +5,7 @@ _kmap_words() {
     case $1 in
     '') echo 'check search play type compile dump help -h --help -V --version' ;;
     check) echo '--show -h --help' ;;
-    search) echo '-h --help' ;;
+    search) echo '--next -h --help' ;;
     play) echo '--typed --next -h --help' ;;
     type) echo '-h --help' ;;
     compile) echo '--narrow -h --help' ;;

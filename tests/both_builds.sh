@@ -84,6 +84,7 @@ texts() {
     same input check /dev/stdin
     same input check --show /dev/stdin
     same input search /dev/stdin
+    same input search /dev/stdin --next ../us.kbd
     same input compile /dev/stdin made
     same input compile --narrow /dev/stdin made
     same input play /dev/stdin ../line.script

@@ -329,6 +329,45 @@ holds 'too many states to decide: line' \
 holds 'too many states to decide: nothing else' [ ! -s stderr ]
 ran 'a faulty text is not searched' 1 '' "kmap: text line 1 offset 3: EndInside$line" search cut
 ran 'no text to search' 1 '' "kmap: cannot open none1$line" search none1
+# Searching between two keymaps, which stick only together.
+printf "058 clock clock clock clock clock clock clock clock O\n" > lock
+printf "042 'x' lshift 'x' lshift 'x' lshift 'x' lshift C\n059 nop clock nop clock nop clock nop clock O\n" > locked
+ran 'a lock alone never sticks' 0 "# never sticks$line" '' search lock
+ran 'a shift under a lock never sticks' 0 "# never sticks$line" '' search locked
+ran 'nor between it and itself' 0 "# never sticks$line" '' search locked --next locked
+ran 'but between the two' 1 "# sticks: lshift
+down 58
+up 58
+load
+down 42
+down 42
+up 42
+" '' search lock --next locked
+"$program" search lock --next locked > found
+ran 'plays what was found between two' 0 "press 58: clock; mods none; locks clock
+release 58: released clock; mods none; locks clock
+load: none; mods none; locks clock
+press 42: lshift; mods lshift; locks clock
+press 42: char 120; mods lshift; locks clock
+release 42: none; mods lshift; locks clock
+" '' play lock found --next locked
+ran 'and in the other order' 1 "# sticks: lshift
+load
+down 58
+up 58
+load
+down 42
+down 42
+up 42
+" '' search --next lock locked
+ran 'a faulty text between two is not searched' 1 '' "kmap: text line 1 offset 3: EndInside$line" search cut --next cut
+ran 'nor a faulty next text' 1 '' "kmap: next line 1 offset 3: EndInside$line" search lock --next cut
+ran 'a directory as next text of a search' 1 '' "kmap: next: read fault at offset 0$line" search lock --next folder
+ran 'no next text to search' 1 '' "kmap: cannot open none2$line" search cut --next none2
+"$program" search many --next lock > stdout 2> stderr
+holds 'too many states between two: status' [ $? -eq 1 ]
+holds 'too many states between two: line' \
+    [ "$(sed 's/ [0-9][0-9]* / P /' stdout)" = '# undecided: no list of up to P presses sticks' ]
 "$program" search half > found
 ran 'plays what was found' 0 "press 42: lshift; mods lshift; locks none
 press 58: alock; mods lshift; locks alock

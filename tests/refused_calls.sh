@@ -85,6 +85,8 @@ refuses check_run
 refuses check_run-shown
 refuses search_run-never
 refuses search_run-sticks
+refuses search_next_run-never
+refuses search_next_run-sticks
 refuses dump_run
 refuses dump_narrow_run
 # A vector that is refused room to grow asks for what it needs now, so a single refusal may have no effect.

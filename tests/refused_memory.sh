@@ -111,6 +111,7 @@ refuses 0 play letter script
 refuses 0 play letter script --typed --next shift
 refuses 0 search letter
 refuses 1 search trap
+refuses 0 search letter --next shift
 # A hash map that is refused room to grow asks for what it needs now, so this may go on and write the same.
 goes_on=yes
 refuses 0 type letter sentence

@@ -1,8 +1,10 @@
-//! What is computed of a keymap is what is said of it.
+//! What is computed of a keymap is what is said of it, and two accepted keymaps never stick together.
 ghost use Rattle.keymap_check.specs.Report.{FindingsAreComputed, BearersAreComputed, SteadyLocksAreComputed};
-ghost use Rattle.keymap_check.specs.Report.{NoFindingsExactlyIfSafe};
+ghost use Rattle.keymap_check.specs.Report.{NoFindingsExactlyIfSafe, AcceptedNeverStick};
 ghost use Rattle.keymap_check.specs.Shown.{DemonstrationsLeaveModifiersOn};
 ghost use Rattle.keymap_check.specs.Tried.{BitKeysAreLeast, TriedKeysAreUnsafe};
+
+use console_core::laws::safe_maps_never_stick_between;
 
 /// The findings, bearers and steady locks that are computed of a map are those that the map has.
 pub fn reports_are_computed()
@@ -11,6 +13,16 @@ pub fn reports_are_computed()
     ensures bearers { BearersAreComputed }
     ensures steady { SteadyLocksAreComputed }
 {}
+
+/// Whatever is pressed, released, reset and loaded between two accepted maps, a modifier is on only while a key is
+/// pressed that bears it in the map in force. So no key that holds a modifier ever looks up a character, and the search
+/// between the two never answers that a modifier sticks.
+pub fn accepted_maps_never_stick()
+    ensures { AcceptedNeverStick }
+{
+    reports_are_computed();
+    safe_maps_never_stick_between();
+}
 
 /// A demonstration tries the keys that make a map refused, and a bit's key is the least other one that bears a
 /// modifier of its group.

@@ -35,7 +35,8 @@ fn search<'a>(alloc: Global) -> Result<Command<'a>, AllocError> {
     Command::new(alloc, "search")
         .about("Decides whether key presses can leave a modifier on")
         .after_help("Example: kmap search de.kbd{n}{n}kmap(1) tells how to read the answer.")
-        .arg(file(alloc, "TEXT", "The keymap text"))
+        .arg(file(alloc, "TEXT", "The keymap text"))?
+        .arg(next(alloc))
 }
 
 fn next<'a>(alloc: Global) -> Arg<'a> {
@@ -146,6 +147,7 @@ pub(crate) enum Request<'a> {
     },
     Search {
         text: &'a str,
+        next: Option<&'a str>,
     },
     Play {
         text: &'a str,
@@ -184,6 +186,7 @@ fn check_request<'a>(words: &ArgMatches<'a>) -> Option<Request<'a>> {
 fn search_request<'a>(words: &ArgMatches<'a>) -> Option<Request<'a>> {
     Some(Request::Search {
         text: words.get_str("TEXT")?,
+        next: words.get_str("next"),
     })
 }
 

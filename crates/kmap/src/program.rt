@@ -5,8 +5,8 @@ use keymap_core::{FromStd, KeyMap, ToStd, Write, write_text};
 use keymap_tables::{write_narrow, write_tables};
 use keymap_text::read_from;
 use kmap_runs::{
-    RunError, check_run, dump_narrow_run, dump_run, narrow_failure, play_failure, search_run,
-    text_failure, type_run, write_run_error,
+    RunError, check_run, dump_narrow_run, dump_run, narrow_failure, play_failure, search_next_run,
+    search_run, text_failure, type_run, write_run_error,
 };
 use play_core::{PlayError, Show, play, play_next};
 use std::alloc::AllocError;
@@ -139,7 +139,10 @@ where
 {
     match request {
         Request::Check { text, show } => check(rt, text, show),
-        Request::Search { text } => search(rt, text),
+        Request::Search { text, next } => match next {
+            Some(next) => search_two(rt, text, next),
+            None => search_one(rt, text),
+        },
         Request::Dump { tables, narrow } => well(dump(rt, tables, narrow)),
         Request::Compile { text, out, narrow } => well(compile(rt, text, out, narrow)),
         Request::Play {
@@ -175,13 +178,23 @@ where
     run_outcome(check_run(rt.alloc(), &mut source, show, &mut out))
 }
 
-fn search<'a, R>(rt: &R, text: &'a str) -> Result<bool, Failure<'a>>
+fn search_one<'a, R>(rt: &R, text: &'a str) -> Result<bool, Failure<'a>>
 where
     R: AllocGlobal + Files + Print,
 {
     let mut source = opened(rt, text)?;
     let mut out = ToStd::new(io::writer(rt));
     run_outcome(search_run(rt.alloc(), &mut source, &mut out))
+}
+
+fn search_two<'a, R>(rt: &R, text: &'a str, next: &'a str) -> Result<bool, Failure<'a>>
+where
+    R: AllocGlobal + Files + Print,
+{
+    let mut text = opened(rt, text)?;
+    let mut next = opened(rt, next)?;
+    let mut out = ToStd::new(io::writer(rt));
+    run_outcome(search_next_run(rt.alloc(), &mut text, &mut next, &mut out))
 }
 
 fn run_outcome<'a, T>(outcome: Result<T, RunError>) -> Result<T, Failure<'a>> {

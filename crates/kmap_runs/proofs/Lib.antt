@@ -1,4 +1,5 @@
 mod Pieces
 mod Replayed
 mod Scripts
+mod SearchRuns
 mod TypeRuns

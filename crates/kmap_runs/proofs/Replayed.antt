@@ -23,10 +23,10 @@ use Rattle.keymap_text.specs.Sources.{TakesWhole, ReadsMap}
 use Rattle.keymap_text.proofs.Verdicts.{one_map}
 use Rattle.console_core.specs.declared.event.Event.{Event}
 use Rattle.console_core.specs.declared.event.Event.TheVariants as event
-use Rattle.console_core.specs.History.{HasKey, HasKeys, is_on_after, between, answers_to}
+use Rattle.console_core.specs.History.{Maps, HasKey, HasKeys, is_on_after, between, answers_to}
 use Rattle.console_core.specs.declared.outcome.Sticking.{Sticking}
 use Rattle.console_core.specs.declared.outcome.Sticking.TheVariants.{Sticks, Never, Undecided}
-use Rattle.console_core.specs.Sticking.{LeavesOn, IsAnswer}
+use Rattle.console_core.specs.Sticking.{LeavesOn, LeavesOnBetween, IsAnswer, IsAnswerBetween}
 use Rattle.keymap_check.specs.Report.{report_of}
 use Rattle.keymap_check.specs.Scripts.{demonstration_of}
 use Rattle.keymap_check.proofs.Demonstrated.{demonstrations_leave_modifiers_on}
@@ -43,10 +43,11 @@ use Rattle.play_core.proofs.Spelling.{script-nil, line-script, events-script, de
 use Rattle.play_core.proofs.Verdicts.{one_list}
 use Rattle.kmap_runs.specs.CodePoints.{digit_at, upper_digits, code_text}
 use Rattle.kmap_runs.specs.Report.{holding_name, check_text, demonstration_text, report}
-use Rattle.kmap_runs.specs.Search.{name_if_on, script_text}
+use Rattle.kmap_runs.specs.Search.{name_if_on, script_text, undecided_text}
 use Rattle.kmap_runs.specs.TypeRuns.{TypesSentence}
 use Rattle.kmap_runs.specs.Typing.{is_hidden, shown, is_line_feed, comment_if, event_lines, lines_from, typing_script}
-use Rattle.kmap_runs.specs.Replayed.{ScriptTypes, ScriptSticks, AnswerReplays, ShowsScript}
+use Rattle.kmap_runs.specs.Replayed.{ScriptTypes, Delivers, ScriptSticks, AnswerReplays, AnswerReplaysBetween}
+use Rattle.kmap_runs.specs.Replayed.{ShowsScript}
 
 -- ---- comments stand in one line
 
@@ -216,34 +217,34 @@ typing-types m bytes cs t = record {
 -- ---- scripts after which a modifier is on
 
 -- events after which a modifier is on, from a script that sends them
-sticks-by : (m : MapValue) (script : List ℕ) (events : List Event) → IsScript script (map sent_of events)
-    → LeavesOn m (reverse events) → ScriptSticks m script
-sticks-by m script events is on = record {
+sticks-by : (IsSo : List Event → Type 0) (script : List ℕ) (events : List Event) → IsScript script (map sent_of events)
+    → IsSo (reverse events) → Delivers script IsSo
+sticks-by IsSo script events is on = record {
   sent = map sent_of events;
   is = is;
-  leaves_on = subst (λ l. LeavesOn m (reverse l)) (sym (delivers events)) on;
+  so = subst (λ l. IsSo (reverse l)) (sym (delivers events)) on;
 }
 
--- events after which a modifier is on are of keys
-keys-of : (m : MapValue) (events : List Event) → LeavesOn m (reverse events) → HasKeys events
-keys-of m events on = subst HasKeys (reverse-reverse events) (All-reversed HasKey (reverse events) on.0)
+-- events that are of keys, the newest first, are so in their order
+keys-of : (events : List Event) → HasKeys (reverse events) → HasKeys events
+keys-of events keys = subst HasKeys (reverse-reverse events) (All-reversed HasKey (reverse events) keys)
 
 -- the lines of such events
 lines-stick : (m : MapValue) (events : List Event) → LeavesOn m (reverse events)
     → ScriptSticks m (flat_map event_line events)
-lines-stick m events on = sticks-by m _ events (events-script events (keys-of m events on)) on
+lines-stick m events on = sticks-by (LeavesOn m) _ events (events-script events (keys-of events on.0)) on
 
 -- the same behind a comment with the names of modifiers
-script-sticks : (m : MapValue) (events : List Event) → LeavesOn m (reverse events)
-    → ScriptSticks m (script_text m events)
-script-sticks m events on =
-    let is_on : Modifier → Bool = λ i. is_on_after (between m m) i (reverse events) in
+script-sticks : (ms : Maps) (IsSo : List Event → Type 0) (events : List Event) → HasKeys (reverse events)
+    → IsSo (reverse events) → Delivers (script_text ms events) IsSo
+script-sticks ms IsSo events keys on =
+    let is_on : Modifier → Bool = λ i. is_on_after ms i (reverse events) in
     let names : List ℕ = flat_map (name_if_on is_on) modifiers in
-    sticks-by m (script_text m events) events
+    sticks-by IsSo (script_text ms events) events
     (line-script (says (codes " sticks:" ++ names)) (flat_map event_line events) (map sent_of events)
     (feed-append (codes " sticks:") names refl
     (feed-flat (name_if_on is_on) (λ i. feed-name_if (is_on i) i) modifiers))
-    (events-script events (keys-of m events on)))
+    (events-script events (keys-of events keys)))
     on
 
 -- a comment alone is a script of no events
@@ -261,14 +262,25 @@ feed-digits (d ∷ ds) all =
 number : (p : ℕ) → p < 2 ^ 64 → AllDigits 10 (decimal p)
 number p small = (decimal_is_IsNumeral p small).0.1
 
-pub answer-replays : (m : MapValue) (found : Sticking) → IsAnswer m found → AnswerReplays m found
-answer-replays m (Sticks events) answer = script-sticks m events.items answer.0
-answer-replays m Never answer = said (codes " never sticks") refl
-answer-replays m (Undecided p) answer =
-    λ small. said ((codes " undecided: no list of up to " ++ decimal p) ++ codes " presses sticks")
+-- that the search gave up is a script of no events
+said-undecided : (p : ℕ) → p < 2 ^ 64 → IsScript (undecided_text p ++ codes "\n") []
+said-undecided p small =
+    said ((codes " undecided: no list of up to " ++ decimal p) ++ codes " presses sticks")
     (feed-append (codes " undecided: no list of up to " ++ decimal p) (codes " presses sticks")
     (feed-append (codes " undecided: no list of up to ") (decimal p) refl (feed-digits (decimal p) (number p small)))
     refl)
+
+pub answer-replays : (m : MapValue) (found : Sticking) → IsAnswer m found → AnswerReplays m found
+answer-replays m (Sticks events) answer =
+    script-sticks (between m m) (LeavesOn m) events.items answer.0.0 answer.0
+answer-replays m Never answer = said (codes " never sticks") refl
+answer-replays m (Undecided p) answer = said-undecided p
+
+pub answer-replays-between : (ms : Maps) (found : Sticking) → IsAnswerBetween ms found → AnswerReplaysBetween ms found
+answer-replays-between ms (Sticks events) answer =
+    script-sticks ms (LeavesOnBetween ms) events.items answer.0.0 answer.0
+answer-replays-between ms Never answer = said (codes " never sticks") refl
+answer-replays-between ms (Undecided p) answer = said-undecided p
 
 -- ---- a sentence that was typed and played
 

@@ -4,5 +4,6 @@ pub mod Replayed
 pub mod Report
 pub mod Runs
 pub mod Search
+pub mod SearchRuns
 pub mod TypeRuns
 pub mod Typing

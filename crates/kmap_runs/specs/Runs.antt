@@ -17,15 +17,17 @@ use Rattle.play_core.specs.declared.player.Source.TheVariants.{Text, Next, Scrip
 use Rattle.console_core.specs.Headline.{IsSafe}
 use Rattle.kmap_runs.specs.declared.fault_line.RunError.{RunError}
 use Rattle.kmap_runs.specs.declared.fault_line.RunError.TheVariants as error
-use Rattle.console_core.specs.declared.outcome.Sticking.{Sticking}
-use Rattle.console_core.specs.Sticking.{IsAnswer}
 use Rattle.kmap_runs.specs.Report.{report}
-use Rattle.kmap_runs.specs.Search.{found_text, is_never}
 
 abbrev pub of_text_error : TextError → RunError
 of_text_error text.Memory = error.Memory
 of_text_error (text.Read f) = error.ReadText f
 of_text_error (text.Fault f) = error.Text f
+
+abbrev pub of_next_error : TextError → RunError
+of_next_error text.Memory = error.Memory
+of_next_error (text.Read f) = error.ReadNext f
+of_next_error (text.Fault f) = error.Next f
 
 abbrev pub of_table_error : TableError → RunError
 of_table_error tables.Memory = error.Memory
@@ -60,22 +62,6 @@ ChecksText show before after old new (Err (error.ReadText f)) =
     ReadsMap before after (Err (text.Read f)) × Keeps old new
 ChecksText show before after old new (Err error.Memory) = ReadsMap before after (Err text.Memory) × Keeps old new
 ChecksText show before after old new (Err _) = ⊥
-
--- The text that was read spells a map, the search answered so, and what it found was written, or its first `written`
--- bytes; the answer is whether no modifier ever sticks. After any other refusal nothing was written, and a fault is
--- that of the bytes taken.
-abbrev pub SearchesText : Option (List ℕ) → Option (List ℕ) → Option (List ℕ) → Option (List ℕ) → Result Bool RunError
-    → Type 0
-SearchesText before after old new (Ok never) =
-    (m : MapValue) × (found : Sticking) × ReadsMap before after (Ok m) × IsAnswer m found × (never ≡ is_never found)
-    × Appends old new (found_text m found)
-SearchesText before after old new (Err (error.Write f)) =
-    (m : MapValue) × (found : Sticking) × ReadsMap before after (Ok m) × IsAnswer m found
-    × (f.written < length (found_text m found)) × Appends old new (take f.written (found_text m found))
-SearchesText before after old new (Err (error.Text f)) = ReadsMap before after (Err (text.Fault f)) × Keeps old new
-SearchesText before after old new (Err (error.ReadText f)) = ReadsMap before after (Err (text.Read f)) × Keeps old new
-SearchesText before after old new (Err error.Memory) = Keeps old new
-SearchesText before after old new (Err _) = ⊥
 
 -- The bytes that were read are a map, and its printed form was written, or its first `written` bytes. After any other
 -- refusal nothing was written, and a fault is that of the bytes taken. `Reads` says what reading the file answers.

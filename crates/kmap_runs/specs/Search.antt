@@ -4,11 +4,10 @@ use Rattle.std.specs.List.{flat_map}
 use Rattle.keymap_core.specs.declared.action.Modifier.{Modifier}
 use Rattle.keymap_core.specs.declared.action.Holding.TheVariants as holding
 use Rattle.keymap_core.specs.Actions.{modifiers}
-use Rattle.keymap_core.specs.Maps.{MapValue}
 use Rattle.console_core.specs.declared.event.Event.{Event}
 use Rattle.console_core.specs.declared.outcome.Sticking.{Sticking}
 use Rattle.console_core.specs.declared.outcome.Sticking.TheVariants.{Sticks, Never, Undecided}
-use Rattle.console_core.specs.History.{is_on_after, between}
+use Rattle.console_core.specs.History.{Maps, is_on_after}
 use Rattle.play_core.specs.Spelling.{event_line}
 use Rattle.kmap_runs.specs.Report.{holding_name}
 
@@ -16,21 +15,21 @@ use Rattle.kmap_runs.specs.Report.{holding_name}
 abbrev pub name_if_on : (Modifier → Bool) → Modifier → List ℕ
 name_if_on is_on i = if is_on i then codes " " ++ holding_name (holding.Mod i) else []
 
--- which modifiers are on after the events, and a line for each event
-abbrev pub script_text : MapValue → List Event → List ℕ
-script_text m events =
-    codes "# sticks:" ++ flat_map (name_if_on
-    (λ i. is_on_after (between m m) i (reverse events))) modifiers ++ codes "\n"
+-- which modifiers are on after the events between two maps, and a line for each event
+abbrev pub script_text : Maps → List Event → List ℕ
+script_text ms events =
+    codes "# sticks:" ++ flat_map (name_if_on (λ i. is_on_after ms i (reverse events))) modifiers ++ codes "\n"
     ++ flat_map event_line events
 
 -- no list of up to so many presses leaves a modifier on, and more were not tried
 abbrev pub undecided_text : ℕ → List ℕ
 undecided_text p = codes "# undecided: no list of up to " ++ decimal p ++ codes " presses sticks"
 
-abbrev pub found_text : MapValue → Sticking → List ℕ
-found_text m (Sticks events) = script_text m events.items
-found_text m Never = codes "# never sticks\n"
-found_text m (Undecided p) = undecided_text p ++ codes "\n"
+-- what is told of an answer of the search, of one map as of that map twice
+abbrev pub found_text : Maps → Sticking → List ℕ
+found_text ms (Sticks events) = script_text ms events.items
+found_text ms Never = codes "# never sticks\n"
+found_text ms (Undecided p) = undecided_text p ++ codes "\n"
 
 abbrev pub is_never : Sticking → Bool
 is_never (Sticks events) = false

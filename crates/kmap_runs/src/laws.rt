@@ -2,14 +2,15 @@
 ghost use Rattle.std.specs.Prelude.{◌≡◌, List, [], ℕ, map, Option, Some, Ok, true};
 ghost use Rattle.keymap_core.specs.Maps.{MapValue};
 ghost use Rattle.console_core.specs.declared.outcome.Sticking.{Sticking as StickingValue};
-ghost use Rattle.console_core.specs.Sticking.{IsAnswer};
+ghost use Rattle.console_core.specs.History.{Maps};
+ghost use Rattle.console_core.specs.Sticking.{IsAnswer, IsAnswerBetween};
 ghost use Rattle.play_core.specs.Playing.{Plays, moves};
 ghost use Rattle.play_core.specs.Scripts.{IsScript};
 ghost use Rattle.play_core.specs.declared.show.Show.TheVariants as show;
 ghost use Rattle.play_core.specs.Spelling.{sent_of};
 ghost use Rattle.play_core.specs.Typing.{IsTyped, events_for};
 ghost use Rattle.kmap_runs.specs.Report.{report};
-ghost use Rattle.kmap_runs.specs.Replayed.{ScriptTypes, AnswerReplays, ShowsScript};
+ghost use Rattle.kmap_runs.specs.Replayed.{ScriptTypes, AnswerReplays, AnswerReplaysBetween, ShowsScript};
 ghost use Rattle.kmap_runs.specs.TypeRuns.{TypesSentence};
 ghost use Rattle.kmap_runs.specs.Typing.{typing_script};
 
@@ -24,9 +25,10 @@ pub fn typing_scripts_type_the_sentence()
 {}
 
 /// What is printed of an answer of the search is a script: where it found a list, one that leaves a modifier on while
-/// no key is pressed, and else one of no events.
+/// no key is pressed, between the same two keymaps where it has loads, and else one of no events.
 pub fn found_scripts_leave_a_modifier_on()
-    ensures { (m : MapValue) (found : StickingValue) → IsAnswer m found → AnswerReplays m found }
+    ensures alone { (m : MapValue) (found : StickingValue) → IsAnswer m found → AnswerReplays m found }
+    ensures between { (ms : Maps) (found : StickingValue) → IsAnswerBetween ms found → AnswerReplaysBetween ms found }
 {}
 
 /// What `play` types of the script that `type_run` printed for a sentence, over the same text, is that sentence.

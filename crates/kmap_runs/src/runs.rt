@@ -2,23 +2,19 @@
 ghost use Rattle.std.specs.Prelude.{◌≡◌, ◌↔◌, ◌||◌, IfOk, IsTrue, is_err};
 ghost use Rattle.keymap_core.specs.Devices.{WritesText};
 ghost use Rattle.console_core.specs.Headline.{IsSafe};
-ghost use Rattle.console_core.specs.Sticking.{IsAnswer};
-ghost use Rattle.keymap_core.specs.Maps.{MapValue};
 ghost use Rattle.kmap_runs.specs.Report.{report};
-ghost use Rattle.kmap_runs.specs.Search.{found_text as found_text_of};
-ghost use Rattle.kmap_runs.specs.Runs.{ChecksText, DumpsTables, DumpsNarrow, SearchesText, blames_reader};
-ghost use Rattle.kmap_runs.specs.Runs.{blames_writer, of_narrow_error, of_play_error, of_table_error, of_text_error};
+ghost use Rattle.kmap_runs.specs.Runs.{ChecksText, DumpsTables, DumpsNarrow, blames_reader};
+ghost use Rattle.kmap_runs.specs.Runs.{blames_writer, of_narrow_error, of_next_error, of_play_error, of_table_error};
+ghost use Rattle.kmap_runs.specs.Runs.{of_text_error};
 
 use crate::fault_line::RunError;
 use crate::report::report_on;
-use crate::search::found_text;
-use console_core::{Sticking, sticking};
 use keymap_check::check;
 use keymap_core::{KeyMap, Read, Write, WriteFault, write_text};
 use keymap_tables::{NarrowError, TableError, read_narrow_from, read_tables_from};
 use keymap_text::{TextError, print_map, read_from};
 use play_core::{PlayError, Source};
-use std::alloc::{AllocError, Global};
+use std::alloc::Global;
 
 /// Why a run failed that reads a text.
 pub fn text_failure(error: TextError) -> RunError
@@ -28,6 +24,17 @@ pub fn text_failure(error: TextError) -> RunError
         TextError::Memory => RunError::Memory,
         TextError::Read(fault) => RunError::ReadText(fault),
         TextError::Fault(fault) => RunError::Text(fault),
+    }
+}
+
+/// Why a run failed that reads a next text.
+pub(crate) fn next_failure(error: TextError) -> RunError
+    ensures { result ≡ of_next_error error }
+{
+    match error {
+        TextError::Memory => RunError::Memory,
+        TextError::Read(fault) => RunError::ReadNext(fault),
+        TextError::Fault(fault) => RunError::Next(fault),
     }
 }
 
@@ -99,40 +106,6 @@ pub fn check_run<R: Read, W: Write>(
     match write_report(&map, show, writer) {
         Ok(accepted) => Ok(accepted),
         Err(fault) => Err(RunError::Write(fault)),
-    }
-}
-
-/// Searches a map and gives what was found, and the script that tells it.
-fn searched(alloc: Global, map: &KeyMap) -> Result<(Sticking, Vec<u8>), AllocError>
-    ensures { IfOk result (λ r. IsAnswer map.now r.0 × (r.1.items ≡ found_text_of map.now r.0)) }
-{
-    let found = sticking(alloc, map)?;
-    let text = found_text(alloc, map, &found)?;
-    Ok((found, text))
-}
-
-/// Reads a text, searches its map for presses and releases that leave a modifier on, and writes what was found.
-/// Answers whether no modifier ever sticks.
-pub fn search_run<R: Read, W: Write>(
-    alloc: Global,
-    reader: &mut R,
-    writer: &mut W,
-) -> Result<bool, RunError>
-    ensures run { SearchesText (R.remaining reader.old) (R.remaining reader.new) (W.contents writer.old)
-        (W.contents writer.new) result }
-    ensures reader_failed { R.has_failed reader.new ≡ (blames_reader result || R.has_failed reader.old) }
-    ensures writer_failed { W.has_failed writer.new ≡ (blames_writer result || W.has_failed writer.old) }
-{
-    let searched_map = match read_from(alloc, reader) {
-        Ok(map) => map,
-        Err(error) => return Err(text_failure(error)),
-    };
-    let Ok((found, text)) = searched(alloc, &searched_map) else {
-        return Err(RunError::Memory);
-    };
-    match write_text(writer, &text).map_err(RunError::Write) {
-        Ok(()) => Ok(matches!(found, Sticking::Never)),
-        Err(error) => Err(error),
     }
 }
 

@@ -44,11 +44,11 @@ fn deliver<T: Translator>(console: &mut T, events: &[Event])
     }
 }
 
-/// A new console of the map that was delivered the events.
-fn console_after<'m>(map: &'m KeyMap, events: &[Event]) -> WordConsole<'m>
-    ensures { ⟦<WordConsole<'m> as Translator>⟧.stands result (between map.now map.now) (reverse events.now) }
+/// A new console of the two maps that was delivered the events.
+fn console_after<'m>(first: &'m KeyMap, second: &'m KeyMap, events: &[Event]) -> WordConsole<'m>
+    ensures { ⟦<WordConsole<'m> as Translator>⟧.stands result (between first.now second.now) (reverse events.now) }
 {
-    let mut console = WordConsole::new(map);
+    let mut console = WordConsole::between(first, second);
     deliver(&mut console, events);
     console
 }
@@ -84,11 +84,17 @@ fn push_names<T: Translator>(
     Ok(())
 }
 
-fn push_script(text: &mut Vec<u8>, map: &KeyMap, events: &[Event]) -> Result<(), AllocError>
-    ensures { OnOk result (text.new.items ≡ text.old.items ++ spec.script_text map.now events.now) }
+fn push_script(
+    text: &mut Vec<u8>,
+    first: &KeyMap,
+    second: &KeyMap,
+    events: &[Event],
+) -> Result<(), AllocError>
+    ensures { OnOk result (text.new.items
+        ≡ text.old.items ++ spec.script_text (between first.now second.now) events.now) }
 {
     text.extend_from_slice(b"# sticks:")?;
-    push_names(text, &console_after(map, events), &MODIFIERS)?;
+    push_names(text, &console_after(first, second, events), &MODIFIERS)?;
     text.push(b'\n')?;
     push_events(text, events)
 }
@@ -105,17 +111,18 @@ fn push_undecided(text: &mut Vec<u8>, presses: usize) -> Result<(), AllocError>
     Ok(())
 }
 
-/// The script that tells what was found.
+/// The script that tells what was found between two maps, or under one that is given twice.
 pub(crate) fn found_text(
     alloc: Global,
-    map: &KeyMap,
+    first: &KeyMap,
+    second: &KeyMap,
     found: &Sticking,
 ) -> Result<Vec<u8>, AllocError>
-    ensures { IfOk result (λ text. text.items ≡ spec.found_text map.now found.now) }
+    ensures { IfOk result (λ text. text.items ≡ spec.found_text (between first.now second.now) found.now) }
 {
     let mut text = Vec::new(alloc);
     match found {
-        Sticking::Sticks(events) => push_script(&mut text, map, events)?,
+        Sticking::Sticks(events) => push_script(&mut text, first, second, events)?,
         Sticking::Never => text.extend_from_slice(b"# never sticks\n")?,
         Sticking::Undecided(presses) => push_undecided(&mut text, *presses)?,
     }

@@ -60,6 +60,8 @@ pub(crate) fn outcome_of<W: Write>(
         "check_run-shown" => runs::checks(alloc, TRAP, true, marks),
         "search_run-never" => runs::searches(alloc, TEXT, marks),
         "search_run-sticks" => runs::searches(alloc, TRAP, marks),
+        "search_next_run-never" => runs::searches_between(alloc, TEXT, marks),
+        "search_next_run-sticks" => runs::searches_between(alloc, LOCKED, marks),
         "dump_run" => runs::dumps(alloc, tables(alloc)?.as_slice(), marks),
         "dump_narrow_run" => runs::dumps_narrowly(alloc, narrow(alloc)?.as_slice(), marks),
         "type_run" => runs::types(alloc, SENTENCE, marks),

@@ -1,9 +1,11 @@
 //! The runs of the program, each on inputs that are made before. Where memory is refused, nothing was written.
 use crate::devices::{Counting, mark, reader_of};
-use crate::inputs::{TEXT, TRAP};
+use crate::inputs::{LOCK, LOCKED, TEXT, TRAP};
 use crate::outcome::{Answer, Outcome, done};
 use keymap_core::Write;
-use kmap_runs::{RunError, check_run, dump_narrow_run, dump_run, search_run, type_run};
+use kmap_runs::{
+    RunError, check_run, dump_narrow_run, dump_run, search_next_run, search_run, type_run,
+};
 use std::alloc::Global;
 
 /// What a run came to, which answers whether it is the right one.
@@ -36,6 +38,17 @@ pub(crate) fn searches<W: Write>(alloc: Global, text: &[u8], marks: &mut W) -> O
     let answer = search_run(alloc, &mut reader, &mut out);
     mark(marks);
     ran(answer.map(|never| never == (text != TRAP)), &out)
+}
+
+/// Searches between the map of a lock and that of a text. They stick exactly where the text sticks under the lock.
+pub(crate) fn searches_between<W: Write>(alloc: Global, text: &[u8], marks: &mut W) -> Outcome {
+    let mut first = reader_of(LOCK);
+    let mut second = reader_of(text);
+    let mut out = Counting { writes: 0 };
+    mark(marks);
+    let answer = search_next_run(alloc, &mut first, &mut second, &mut out);
+    mark(marks);
+    ran(answer.map(|never| never == (text != LOCKED)), &out)
 }
 
 pub(crate) fn dumps<W: Write>(alloc: Global, tables: &[u8], marks: &mut W) -> Outcome {

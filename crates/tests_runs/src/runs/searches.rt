@@ -3,10 +3,18 @@
 use crate::runs::{ENDLESS, READS, settled, stopped, written};
 use keymap_core::{Read, Write};
 use keymap_text::{TextFault, TextFaultKind};
-use kmap_runs::{RunError, search_run};
+use kmap_runs::{RunError, search_next_run, search_run};
 use std::test::Fail;
 use test_devices::{endless_blanks, reader_of, slow_sheet_of};
 use test_keymaps::texts::{LETTER_AND_SHIFT, SHIFT_WITH_TRAP};
+
+/// The caps lock alone.
+const LOCK: &[u8] = b"058 clock clock clock clock clock clock clock clock O\n";
+
+/// Left shift where the caps lock is on, which only a key under left shift turns on.
+const SHIFT_UNDER_LOCK: &[u8] = b"042 'x' lshift 'x' lshift 'x' lshift 'x' lshift C
+059 nop clock nop clock nop clock nop clock O
+";
 
 /// Shift and the alt lock: what the text doesn't define in the upper half counts as characters.
 const UPPER_HALF_UNDEFINED: &[u8] = b"042 lshift lshift lshift lshift lshift lshift lshift lshift O
@@ -82,6 +90,78 @@ fn a_text_that_stops_is_not_searched(rt: HostRuntime) -> Result<(), Fail> {
         let wanted = Err(RunError::ReadText(stopped(most)));
         assert_eq!(rt; settled(answer, &writer)?, wanted);
         assert!(rt; reader.failed() && writer.bytes.is_empty() && !writer.failed());
+    }
+    Ok(())
+}
+
+/// Two keymaps, whether they never stick together, and what is written of them.
+const FOUND_BETWEEN: [(&[u8], &[u8], bool, &[u8]); 3] = [
+    (LETTER_AND_SHIFT, LOCK, true, b"# never sticks\n"),
+    (
+        LOCK,
+        SHIFT_UNDER_LOCK,
+        false,
+        b"# sticks: lshift\ndown 58\nup 58\nload\ndown 42\ndown 42\nup 42\n",
+    ),
+    (
+        SHIFT_UNDER_LOCK,
+        LOCK,
+        false,
+        b"# sticks: lshift\nload\ndown 58\nup 58\nload\ndown 42\ndown 42\nup 42\n",
+    ),
+];
+
+#[test]
+fn what_is_found_between_two_is_written_as_a_script(rt: HostRuntime) -> Result<(), Fail> {
+    for (first, second, never, script) in FOUND_BETWEEN {
+        for most in 0..=script.len() {
+            let mut text = reader_of(first, 7, usize::MAX);
+            let mut next = reader_of(second, 5, usize::MAX);
+            let mut writer = slow_sheet_of(1, most);
+            let answer = search_next_run(rt.alloc(), &mut text, &mut next, &mut writer);
+            assert_eq!(rt;
+                settled(answer, &writer)?,
+                written(never, most, script.len())
+            );
+            assert_eq!(rt; writer.bytes.as_slice(), &script[..most]);
+            assert_eq!(rt; writer.failed(), most < script.len());
+        }
+    }
+    Ok(())
+}
+
+#[test]
+fn the_first_fault_of_two_texts_is_told(rt: HostRuntime) -> Result<(), Fail> {
+    let fault = TextFault {
+        offset: 3,
+        line: 1,
+        kind: TextFaultKind::EndInside,
+    };
+    for (first, wanted) in [
+        (b"1 '".as_slice(), RunError::Text(fault)),
+        (LOCK, RunError::Next(fault)),
+    ] {
+        let mut text = reader_of(first, 1, usize::MAX);
+        let mut next = reader_of(b"1 '", 1, usize::MAX);
+        let mut writer = slow_sheet_of(1, usize::MAX);
+        let answer = search_next_run(rt.alloc(), &mut text, &mut next, &mut writer);
+        assert_eq!(rt; settled(answer, &writer)?, Err(wanted));
+        assert!(rt; writer.bytes.is_empty() && !writer.failed());
+    }
+    Ok(())
+}
+
+#[test]
+fn a_next_text_that_stops_is_not_searched(rt: HostRuntime) -> Result<(), Fail> {
+    for most in 0..=LOCK.len() {
+        let mut text = reader_of(LETTER_AND_SHIFT, 7, usize::MAX);
+        let mut next = reader_of(LOCK, usize::MAX, most);
+        let mut writer = slow_sheet_of(1, usize::MAX);
+        let answer = search_next_run(rt.alloc(), &mut text, &mut next, &mut writer);
+        let wanted = Err(RunError::ReadNext(stopped(most)));
+        assert_eq!(rt; settled(answer, &writer)?, wanted);
+        assert!(rt; !text.failed() && next.failed());
+        assert!(rt; writer.bytes.is_empty() && !writer.failed());
     }
     Ok(())
 }

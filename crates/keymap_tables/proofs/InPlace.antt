@@ -7,9 +7,8 @@ use Rattle.std.proofs.lemmas.List.Elements.{All-get_or}
 use Rattle.std.proofs.Math.Seq.{drop-cons}
 use Rattle.std.proofs.lemmas.Bool.{cases_lt}
 use Rattle.std.proofs.lemmas.Bool.Decides.{nat_tests}
-use Rattle.keymap_core.specs.Accents.{AccentValue, blank, first_result}
-use Rattle.keymap_core.specs.Maps.{MapValue, accent_or_blank}
-use Rattle.keymap_core.specs.Bounds.{IsPair, IsAccent, IsMap}
+use Rattle.keymap_core.specs.Accents.{AccentValue, first_result}
+use Rattle.keymap_core.specs.Bounds.{IsPair, IsAccent}
 use Rattle.keymap_tables.specs.Faults.{base_at, number_at}
 use Rattle.keymap_tables.specs.Image.{accent_bytes}
 use Rattle.keymap_tables.specs.Layouts.{wide, part}
@@ -26,10 +25,6 @@ pub cut : (bytes : List ℕ) (at n : ℕ) → take (at + n - at) (drop at bytes)
 cut bytes at n =
     let size : at + n - at ≡ n = omega arith in
     ap (λ (k : ℕ). take k (drop at bytes)) size
-
--- each accent of a map is known
-pub accent-known : (m : MapValue) → IsMap m → (i : ℕ) → i < length m.accents → IsAccent (accent_or_blank m i)
-accent-known m is i below = All-get_or IsAccent m.accents i blank below is.accents
 
 -- the base and the result of a pair
 base-wide : (accent : AccentValue) (i : ℕ) → i < length accent.pairs → IsPair (get_or accent.pairs i (0, 0))

@@ -32,11 +32,6 @@ pub cells-end : (l : Layout) → number_size l * 8 ≡ 8 * number_size l
 cells-end Wide = omega arith
 cells-end Narrow = omega arith
 
--- how long a slot and an accent are at most
-pub slot-small : (l : Layout) → slot_size l ≤ 36
-slot-small Wide = omega arith
-slot-small Narrow = omega arith
-
 -- an accent has at most 420 bytes
 pub accent-small : (l : Layout) → accent_size l ≤ 420
 accent-small Wide = omega arith
@@ -120,11 +115,6 @@ pub slot-inside : (l : Layout) (i : ℕ) → i < 256 → slot_size l * i + slot_
 slot-inside Wide i below = omega arith
 slot-inside Narrow i below = omega arith
 
--- up to 256 slots lie in the slots' size
-pub slots-inside : (l : Layout) (i : ℕ) → i ≤ 256 → slot_size l * i ≤ 256 * slot_size l
-slots-inside Wide i few = omega arith
-slots-inside Narrow i few = omega arith
-
 -- the next slot begins where this one ends
 pub slot-next : (l : Layout) (i : ℕ) → slot_size l * (i + 1) ≡ slot_size l * i + slot_size l
 slot-next Wide i = omega arith
@@ -139,11 +129,6 @@ slots-rest Narrow n few = omega arith
 pub accent-inside : (l : Layout) (i : ℕ) → i < 15 → accent_size l * i + accent_size l ≤ 15 * accent_size l
 accent-inside Wide i below = omega arith
 accent-inside Narrow i below = omega arith
-
--- up to 15 accents lie in the accents' size
-pub accents-inside : (l : Layout) (i : ℕ) → i ≤ 15 → accent_size l * i ≤ 15 * accent_size l
-accents-inside Wide i few = omega arith
-accents-inside Narrow i few = omega arith
 
 -- the next accent begins where this one ends
 pub accent-next : (l : Layout) (i : ℕ) → accent_size l * (i + 1) ≡ accent_size l * i + accent_size l

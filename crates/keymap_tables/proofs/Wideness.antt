@@ -5,7 +5,7 @@ use Rattle.std.specs.Prelude.{All}
 use Rattle.std.specs.List.{flat_map}
 use Rattle.std.proofs.lemmas.Bool.{cases_lt}
 use Rattle.std.proofs.Math.Nat.{eq-or-lt_of_le}
-use Rattle.std.proofs.lemmas.List.{get_or_past, get_or_default}
+use Rattle.std.proofs.lemmas.List.{get_or_past}
 use Rattle.std.proofs.lemmas.List.Elements.{All-get_or}
 use Rattle.keymap_core.specs.Accents.{AccentValue, blank}
 use Rattle.keymap_core.specs.Maps.{MapValue, undefined, entry_at, cell_at, accent_or_blank}
@@ -19,11 +19,6 @@ use Rattle.keymap_tables.specs.Layouts.{narrow}
 use Rattle.keymap_tables.specs.declared.narrow.Wide.{Wide}
 use Rattle.keymap_tables.specs.declared.narrow.Wide.TheVariants as at
 use Rattle.keymap_tables.proofs.Places.{undefined-fits}
-
--- A cell fits exactly if its character is at most 255.
-pub small-fits : (cell : Cell) → character_of cell ≤ 255 → CellFits narrow cell
-small-fits (Char c) small = omega arith
-small-fits (Act a) small = tt
 
 -- a cell that fits one byte has no character above 255
 pub fits-small : (cell : Cell) → CellFits narrow cell → character_of cell ≤ 255
@@ -39,13 +34,6 @@ entry-small entry k fits =
       | inr past ↦
           subst (λ (cell : Cell). character_of cell ≤ 255) (sym (get_or_past entry.cells k (Char 0) past)) (omega arith)
     ]
-
--- an entry whose characters are at most 255 fits
-pub small-entry : (entry : Entry) (n : ℕ) → length entry.cells ≤ n
-    → ((k : ℕ) → k < n → character_of (get_or entry.cells k (Char 0)) ≤ 255) → EntryFits narrow entry
-small-entry entry n few small k d below =
-    subst (CellFits narrow) (sym (get_or_default entry.cells k d (Char 0) below))
-    (small-fits (get_or entry.cells k (Char 0)) (small k (omega arith)))
 
 -- The slots of a map, also past the last one.
 pub slot-fits : (m : MapValue) (s : ℕ) → (s < length m.entries → EntryFits narrow (get_or m.entries s undefined))
@@ -111,10 +99,6 @@ accent-small accent k fits =
       | inr past ↦ subst (PairFits narrow) (sym (get_or_past accent.pairs i (0, 0) past)) pair-blank
     ]) (omega arith)
 
--- The first of an accent, at the own character, at a base and at a result.
-pub first-own : (accent : AccentValue) → 255 < accent.own → IsFirstNumber accent 0
-first-own accent wide = record { here = wide; before = λ k below. absurd (omega arith) }
-
 -- a base above 255 behind pairs that fit is the first number above 255
 pub first-base : (accent : AccentValue) (i n : ℕ) → n ≡ 1 + 2 * i → accent.own < 256
     → ((j : ℕ) → j < i → PairFits narrow (get_or accent.pairs j (0, 0))) → 255 < (get_or accent.pairs i (0, 0)).0
@@ -145,23 +129,6 @@ first-result accent i n is own pairs base wide =
             (omega (arith, number-base accent.own accent.pairs i, base))
       ];
     }
-
--- one more pair that fits
-pub pairs-fit-more : (pairs : List (ℕ × ℕ)) (i : ℕ) → ((j : ℕ) → j < i → PairFits narrow (get_or pairs j (0, 0)))
-    → (get_or pairs i (0, 0)).0 < 256 → (get_or pairs i (0, 0)).1 < 256 → (j : ℕ) → j < i + 1
-    → PairFits narrow (get_or pairs j (0, 0))
-pairs-fit-more pairs i before base composed j below =
-    elim (cases_lt j i) [
-      | inl front ↦ before j front
-      | inr from ↦ let last : i ≡ j = omega arith in
-          subst (λ (v : ℕ). PairFits narrow (get_or pairs v (0, 0))) last (base, composed)
-    ]
-
--- where each pair fits, all do
-pub pairs-fit : (pairs : List (ℕ × ℕ)) (n : ℕ) → length pairs ≤ n
-    → ((j : ℕ) → j < n → PairFits narrow (get_or pairs j (0, 0))) → All (PairFits narrow) pairs
-pairs-fit pairs n few fits k d below =
-    subst (PairFits narrow) (sym (get_or_default pairs k d (0, 0) below)) (fits k (omega arith))
 
 -- The first of a map: a cell, where the slots before it fit.
 cell-least : (m : MapValue) (s column : ℕ) → s < 256 → column < 8

@@ -1,5 +1,5 @@
 -- Which fault stands at a place of a table file.
-use Rattle.std.specs.Prelude.{◌≡◌, ℕ, ◌+◌, ◌-◌, ◌*◌, ◌/◌, ◌%◌, ◌^◌, ◌<◌, ◌≤◌, ◌==◌, nat_lt, nat_le, List, length}
+use Rattle.std.specs.Prelude.{◌≡◌, ℕ, ◌+◌, ◌-◌, ◌*◌, ◌/◌, ◌%◌, ◌^◌, ◌<◌, ◌==◌, nat_lt, nat_le, List, length}
 use Rattle.std.specs.Prelude.{take_while, slice_index, Bool, not, is_some, Option, None, Some, if◌then◌else◌}
 use lib.Utf8.{scalar}
 use Rattle.std.specs.Int.{from_le_bytes, w16}

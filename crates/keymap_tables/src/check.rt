@@ -1,12 +1,13 @@
 //! The check of a table file without memory: what the reading of it finds, and no map.
-ghost use Rattle.std.specs.Prelude.{◌≡◌, ◌<◌, ◌≤◌, List, length, All, IfErr, OnOk};
+ghost use Rattle.std.specs.Prelude.{◌≡◌, ◌<◌, ◌≤◌, List, length, All, IfOk, IfErr, OnOk};
 ghost use Rattle.keymap_core.specs.Accents.{AccentValue};
 ghost use Rattle.keymap_core.specs.Bounds.{IsEntry, IsAccent, IsMap};
 ghost use Rattle.keymap_core.specs.Maps.{MapValue};
 ghost use Rattle.keymap_core.specs.Numbers.{slot_limit, accent_limit};
 ghost use Rattle.keymap_core.specs.declared.entry.Entry.{Entry as EntryValue};
 ghost use Rattle.keymap_tables.specs.Faults.{row_fault, slot_fault, accent_fault, content_fault, IsFirstFault};
-ghost use Rattle.keymap_tables.specs.Faults.{IsTableFault};
+ghost use Rattle.keymap_tables.specs.Faults.{IsTableFault, fault_at};
+ghost use Rattle.keymap_tables.specs.Inner.Counted.{AreCounts};
 ghost use Rattle.keymap_tables.specs.Inner.Firsts.{HasNoFault};
 ghost use Rattle.keymap_tables.specs.Image.{image, image_in, slots_bytes, accents_bytes};
 ghost use Rattle.keymap_tables.specs.Layouts.{slot_size, slots_size, accent_size, accents_size, file_size};
@@ -68,10 +69,18 @@ fn check_accents(layout: Layout, bytes: &[u8], n_accs: u16) -> Result<(), TableF
     )
 }
 
+/// How many slots and accents a file has.
+#[derive(Clone, Copy)]
+pub(crate) struct Counts {
+    pub(crate) n_keys: u16,
+    pub(crate) n_accs: u16,
+}
+
 /// Checks a file of the right length.
-fn check_content(layout: Layout, bytes: &[u8]) -> Result<(), TableFault>
+pub(crate) fn check_content(layout: Layout, bytes: &[u8]) -> Result<Counts, TableFault>
     requires whole { length bytes.now ≡ file_size layout }
     ensures image { OnOk result ((m : MapValue) × IsMap m × (bytes.now ≡ image_in layout m)) }
+    ensures counts { IfOk result (λ counts. AreCounts layout bytes.now counts.n_keys counts.n_accs) }
     ensures fault { IfErr result (IsFirstFault (content_fault layout bytes.now)) }
 {
     let slots_at = layout.slots_at();
@@ -87,18 +96,17 @@ fn check_content(layout: Layout, bytes: &[u8]) -> Result<(), TableFault>
         Err(fault) => return Err(fault.after(n_accs_at)),
     };
     match check_accents(layout, &bytes[accents_at..layout.file()], n_accs) {
-        Ok(()) => Ok(()),
+        Ok(()) => Ok(Counts { n_keys, n_accs }),
         Err(fault) => Err(fault.after(accents_at)),
     }
 }
 
-/// Checks a table file and takes no memory: the fault is the one that `read_tables` answers, and a file without one is
-/// the image of a map.
-pub fn check_tables(bytes: &[u8]) -> Result<(), TableFault>
-    ensures image { OnOk result ((m : MapValue) × IsMap m × (bytes.now ≡ image m)) }
-    ensures fault { IfErr result (IsTableFault bytes.now) }
+/// Checks the length of a file.
+pub(crate) fn check_length(layout: Layout, bytes: &[u8]) -> Result<(), TableFault>
+    ensures whole { OnOk result (length bytes.now ≡ file_size layout) }
+    ensures fault { IfErr result (IsFirstFault (fault_at layout bytes.now)) }
 {
-    let length = Layout::Wide.file();
+    let length = layout.file();
     if bytes.len() < length {
         return Err(TableFault {
             offset: bytes.len() as u64,
@@ -111,5 +119,21 @@ pub fn check_tables(bytes: &[u8]) -> Result<(), TableFault>
             kind: TableFaultKind::Long,
         });
     }
-    check_content(Layout::Wide, bytes)
+    Ok(())
+}
+
+/// Checks a table file and takes no memory: the fault is the one that `read_tables` answers, and a file without one is
+/// the image of a map.
+pub fn check_tables(bytes: &[u8]) -> Result<(), TableFault>
+    ensures image { OnOk result ((m : MapValue) × IsMap m × (bytes.now ≡ image m)) }
+    ensures fault { IfErr result (IsTableFault bytes.now) }
+{
+    match check_length(Layout::Wide, bytes) {
+        Ok(()) => {}
+        Err(fault) => return Err(fault),
+    }
+    match check_content(Layout::Wide, bytes) {
+        Ok(_counts) => Ok(()),
+        Err(fault) => Err(fault),
+    }
 }

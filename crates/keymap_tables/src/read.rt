@@ -1,137 +1,97 @@
-//! Reading of tables.
-ghost use Rattle.std.specs.Prelude.{◌≡◌, ◌+◌, ◌-◌, ◌*◌, ◌<◌, ◌≤◌, [], length, All, IfErr, OnOk};
+//! Reading of tables: what is checked first is then put into a map, which can't fail any more.
+ghost use Rattle.std.specs.Prelude.{◌≡◌, ◌+◌, ◌-◌, ◌*◌, ◌<◌, ◌≤◌, [], length, All};
 ghost use Rattle.keymap_core.specs.Bounds.{IsEntry, IsAccent, IsMap};
-ghost use Rattle.keymap_tables.specs.Faults.{row_fault, slot_fault, accent_fault, content_fault, IsFirstFault};
-ghost use Rattle.keymap_tables.specs.Faults.{IsTableFault, IsNarrowFault};
+ghost use Rattle.keymap_tables.specs.Faults.{row_fault, slot_fault, accent_fault, IsTableFault, IsNarrowFault};
+ghost use Rattle.keymap_tables.specs.Inner.Counted.{AreCounts};
 ghost use Rattle.keymap_tables.specs.Inner.Firsts.{HasNoFault};
 ghost use Rattle.keymap_tables.specs.Image.{image, narrow_image, image_in, slots_bytes, accents_bytes};
 ghost use Rattle.keymap_tables.specs.Layouts.{slot_size, slots_size, accent_size, accents_size, file_size};
 ghost use Rattle.keymap_tables.specs.Fits.{Fits, FitsIn, EntryFits, AccentFits};
+ghost use Rattle.keymap_tables.specs.declared.fault.TableFault.{TableFault};
 ghost use Rattle.keymap_tables.specs.Readings.{IsReading, IsNarrowReading, IsReadingIn, AnswersMap, AnswersFault};
 ghost use Rattle.keymap_core.specs.Maps.{MapValue};
 ghost use Rattle.keymap_core.specs.Numbers.{slot_limit, accent_limit};
 
-use crate::fault::{TableError, TableFault, TableFaultKind};
+use crate::check::{Counts, check_content, check_length};
+use crate::fault::TableError;
 use crate::layout::Layout;
-use crate::number::{check_zeros, read_count};
-use crate::read_accent::read_accent;
-use crate::read_slot::read_slot;
-use keymap_core::{ACCENT_LIMIT, KeyMap, SLOT_LIMIT};
+use crate::read_accent::accent_of;
+use crate::read_slot::slot_of;
+use keymap_core::KeyMap;
 use std::alloc::Global;
 
-/// Reads so many slots, and zeros in place of the others, into a map of no keys.
-fn read_slots(layout: Layout, bytes: &[u8], n_keys: u16, map: &mut KeyMap) -> Result<(), TableFault>
+/// Puts so many slots without a fault into a map of no keys.
+fn fill_slots(layout: Layout, bytes: &[u8], n_keys: u16, map: &mut KeyMap)
     requires whole { length bytes.now ≡ slots_size layout }
     requires few { n_keys ≤ slot_limit }
+    requires sound { HasNoFault (row_fault (slot_fault layout) (slot_size layout) n_keys bytes.now)
+        (slots_size layout) }
     requires empty { map.old.entries ≡ [] }
-    ensures image { OnOk result (bytes.now ≡ slots_bytes layout map.new.entries) }
-    ensures count { OnOk result (length map.new.entries ≡ n_keys) }
-    ensures known { OnOk result (All IsEntry map.new.entries) }
-    ensures fits { OnOk result (All (EntryFits layout) map.new.entries) }
-    ensures accents { OnOk result (map.new.accents ≡ map.old.accents) }
-    ensures sound { OnOk result (HasNoFault (row_fault (slot_fault layout) (slot_size layout) n_keys bytes.now)
-        (slots_size layout)) }
-    ensures fault { IfErr result (λ f. IsFirstFault (row_fault (slot_fault layout)
-        (slot_size layout) n_keys bytes.now) f × (f.offset < slots_size layout)) }
+    ensures image { bytes.now ≡ slots_bytes layout map.new.entries }
+    ensures count { length map.new.entries ≡ n_keys }
+    ensures known { All IsEntry map.new.entries }
+    ensures fits { All (EntryFits layout) map.new.entries }
+    ensures accents { map.new.accents ≡ map.old.accents }
 {
     for slot in 0..n_keys {
         let at = layout.slot() * slot as usize;
-        match read_slot(layout, &bytes[at..at + layout.slot()]) {
-            Ok(entry) => map.set(slot as u8, entry),
-            Err(fault) => return Err(fault.after(at)),
-        }
+        let entry = slot_of(layout, &bytes[at..at + layout.slot()]);
+        map.set(slot as u8, entry);
     }
-    check_zeros(
-        bytes,
-        layout.slot() * n_keys as usize,
-        TableFaultKind::NotEmpty,
-    )
 }
 
-/// Reads so many accents, and zeros in place of the others, into a map of no accents.
-fn read_accents(
-    layout: Layout,
-    bytes: &[u8],
-    n_accs: u16,
-    map: &mut KeyMap,
-) -> Result<(), TableFault>
+/// Puts so many accents without a fault into a map of no accents.
+fn fill_accents(layout: Layout, bytes: &[u8], n_accs: u16, map: &mut KeyMap)
     requires whole { length bytes.now ≡ accents_size layout }
     requires few { n_accs ≤ accent_limit }
+    requires sound { HasNoFault (row_fault (accent_fault layout) (accent_size layout) n_accs bytes.now)
+        (accents_size layout) }
     requires empty { map.old.accents ≡ [] }
-    ensures image { OnOk result (bytes.now ≡ accents_bytes layout map.new.accents) }
-    ensures count { OnOk result (length map.new.accents ≡ n_accs) }
-    ensures known { OnOk result (All IsAccent map.new.accents) }
-    ensures fits { OnOk result (All (AccentFits layout) map.new.accents) }
-    ensures entries { OnOk result (map.new.entries ≡ map.old.entries) }
-    ensures sound { OnOk result (HasNoFault (row_fault (accent_fault layout) (accent_size layout) n_accs bytes.now)
-        (accents_size layout)) }
-    ensures fault { IfErr result (λ f. IsFirstFault (row_fault (accent_fault layout)
-        (accent_size layout) n_accs bytes.now) f × (f.offset < accents_size layout)) }
+    ensures image { bytes.now ≡ accents_bytes layout map.new.accents }
+    ensures count { length map.new.accents ≡ n_accs }
+    ensures known { All IsAccent map.new.accents }
+    ensures fits { All (AccentFits layout) map.new.accents }
+    ensures entries { map.new.entries ≡ map.old.entries }
 {
     for index in 0..n_accs {
         let at = layout.accent() * index as usize;
-        match read_accent(layout, &bytes[at..at + layout.accent()]) {
-            Ok(accent) => map.set_accent(index as u8, accent).unwrap(),
-            Err(fault) => return Err(fault.after(at)),
-        }
+        let accent = accent_of(layout, &bytes[at..at + layout.accent()]);
+        map.set_accent(index as u8, accent).unwrap();
     }
-    check_zeros(
-        bytes,
-        layout.accent() * n_accs as usize,
-        TableFaultKind::NotEmpty,
-    )
 }
 
-/// Reads a file of the right length into a map of no keys and no accents.
-fn read_content(layout: Layout, bytes: &[u8], map: &mut KeyMap) -> Result<(), TableFault>
+/// Puts a file without a fault into a map of no keys and no accents.
+fn fill_content(layout: Layout, bytes: &[u8], counts: Counts, map: &mut KeyMap)
     requires whole { length bytes.now ≡ file_size layout }
+    requires counts { AreCounts layout bytes.now counts.n_keys counts.n_accs }
     requires no_entries { map.old.entries ≡ [] }
     requires no_accents { map.old.accents ≡ [] }
-    ensures image { OnOk result (bytes.now ≡ image_in layout map.new) }
-    ensures known { OnOk result (IsMap map.new) }
-    ensures fits { OnOk result (FitsIn layout map.new) }
-    ensures fault { IfErr result (IsFirstFault (content_fault layout bytes.now)) }
+    ensures image { bytes.now ≡ image_in layout map.new }
+    ensures known { IsMap map.new }
+    ensures fits { FitsIn layout map.new }
 {
-    let slots_at = layout.slots_at();
-    let n_accs_at = layout.n_accs_at();
-    let accents_at = layout.accents_at();
-    let n_keys = read_count(&bytes[..slots_at], SLOT_LIMIT as u16)?;
-    match read_slots(layout, &bytes[slots_at..n_accs_at], n_keys, map) {
-        Ok(()) => {}
-        Err(fault) => return Err(fault.after(slots_at)),
-    }
-    let n_accs = match read_count(&bytes[n_accs_at..accents_at], ACCENT_LIMIT as u16) {
-        Ok(count) => count,
-        Err(fault) => return Err(fault.after(n_accs_at)),
-    };
-    match read_accents(layout, &bytes[accents_at..layout.file()], n_accs, map) {
-        Ok(()) => Ok(()),
-        Err(fault) => Err(fault.after(accents_at)),
-    }
+    let slots = &bytes[layout.slots_at()..layout.n_accs_at()];
+    fill_slots(layout, slots, counts.n_keys, map);
+    let accents = &bytes[layout.accents_at()..layout.file()];
+    fill_accents(layout, accents, counts.n_accs, map);
 }
 
 /// Reads a file of a layout. A wrong length is answered first, then want of memory, then the fault of least offset.
 fn read_file(layout: Layout, alloc: Global, bytes: &[u8]) -> Result<KeyMap, TableError>
     ensures { IsReadingIn layout bytes.now result }
 {
-    let length = layout.file();
-    if bytes.len() < length {
-        return Err(TableError::Fault(TableFault {
-            offset: bytes.len() as u64,
-            kind: TableFaultKind::Short,
-        }));
-    }
-    if bytes.len() > length {
-        return Err(TableError::Fault(TableFault {
-            offset: length as u64,
-            kind: TableFaultKind::Long,
-        }));
+    match check_length(layout, bytes) {
+        Ok(()) => {}
+        Err(fault) => return Err(TableError::Fault(fault)),
     }
     let Ok(mut map) = KeyMap::new(alloc) else {
         return Err(TableError::Memory);
     };
-    match read_content(layout, bytes, &mut map) {
-        Ok(()) => Ok(map),
+    match check_content(layout, bytes) {
+        Ok(counts) => {
+            fill_content(layout, bytes, counts, &mut map);
+            Ok(map)
+        }
         Err(fault) => Err(TableError::Fault(fault)),
     }
 }

@@ -1,5 +1,5 @@
 //! A keymap that is read in place, from the bytes of a table file.
-ghost use Rattle.std.specs.Prelude.{◌≡◌, ℕ, ◌+◌, ◌*◌, ◌<◌, ◌↔◌, length, take, drop, IfSome, IsSome, slice_index_or};
+ghost use Rattle.std.specs.Prelude.{◌≡◌, ◌+◌, ◌*◌, ◌<◌, ◌↔◌, length, IfSome, IsSome, slice_index_or};
 ghost use Rattle.keymap_core.specs.Accents.{AccentValue, first_result};
 ghost use Rattle.keymap_core.specs.Maps.{MapValue, n_accs_of, entry_at, accent_or_blank};
 ghost use Rattle.keymap_core.specs.Bounds.{IsEntry, IsAccent, IsMap};

@@ -173,3 +173,32 @@ returns-in-Ok-check_accents-clause-image c =
           n_accs rows
           ∙ sym (image-parts l m),
     )
+
+pub returns-in-Ok-check_accents-clause-counts : goal.returns-in-Ok-check_accents-clause-counts
+returns-in-Ok-check_accents-clause-counts c =
+    let l = c.args.layout in
+    let bytes = c.args.bytes.now in
+    let slots_at = c.slots_at-slots_at.ensures in
+    let n_accs_at = c.n_accs_at-n_accs_at.ensures in
+    let accents_at = c.accents_at-accents_at.ensures in
+    let head = ap (λ (n : ℕ). take n bytes) slots_at in
+    let slots = cut-part bytes _ _ (slots_place l) (slots_size l) slots_at n_accs_at in
+    let middle = cut-part bytes _ _ (n_accs_place l) (count_size l) n_accs_at accents_at in
+    let last = cut-part bytes _ _ (accents_place l) (accents_size l) accents_at c.file.ensures in
+    let first_long = ap length head ∙ length-part bytes 0 (slots_place l) (omega (arith, c.requires.whole)) in
+    let middle_long =
+    ap length middle ∙ length-part bytes (n_accs_place l) (count_size l) (omega (arith, c.requires.whole)) in
+    record {
+      few_keys = c.in_ok-n_keys.ensures.few;
+      few_accents = c.in-Ok-read_count.ensures.few;
+      keys = sym head ∙ c.in_ok-n_keys.ensures.image l first_long;
+      accents = sym middle ∙ c.in-Ok-read_count.ensures.image l middle_long;
+      sound_slots =
+          subst (λ (v : List ℕ).
+          HasNoFault (row_fault (slot_fault l) (slot_size l) c.in_ok-n_keys.n_keys v) (slots_size l)) slots
+          c.in-Ok.ensures.sound;
+      sound_accents =
+          subst (λ (v : List ℕ).
+          HasNoFault (row_fault (accent_fault l) (accent_size l) c.in-Ok-read_count.count v) (accents_size l)) last
+          c.in-Ok-check_accents.ensures.sound;
+    }

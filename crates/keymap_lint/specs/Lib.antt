@@ -1,0 +1,4 @@
+pub mod Severities
+pub mod Spelled
+pub mod Kinds
+pub mod Lists

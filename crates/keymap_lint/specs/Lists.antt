@@ -1,0 +1,94 @@
+-- The diagnostics of a text in their order, and what some of them tell of.
+use Rattle.std.specs.Prelude.{◌≡◌, ℕ, ◌<◌, ◌⊎◌, List, [], ◌∷◌, ◌++◌, length, map, Option, Some, None, IsPermutation}
+use Rattle.std.specs.Prelude.{IsSortedByKey}
+use Rattle.std.specs.List.Sorted.{IsStableByKey}
+use Rattle.std.specs.Option.{option_cmp}
+use Rattle.std.specs.Ordering.{nat_cmp}
+use Rattle.keymap_core.specs.Maps.{MapValue}
+use Rattle.console_core.specs.declared.outcome.Sticking.{Sticking}
+use Rattle.console_core.specs.Sticking.{IsAnswer}
+use Rattle.keymap_check.specs.declared.finding.Finding.{Finding}
+use Rattle.keymap_check.specs.Findings.{AreFindings}
+use Rattle.keymap_text.specs.declared.fault.TextFault.{TextFault}
+use Rattle.keymap_text.specs.declared.wanted.FaultPlace.{FaultPlace}
+use Rattle.keymap_text.specs.declared.token.Span.{Span}
+use Rattle.keymap_text.specs.declared.placed.Placed.{Placed}
+use Rattle.keymap_text.specs.Meaning.{Spells, Fault as FaultOf, tokens}
+use Rattle.keymap_text.specs.Placed.{Row, IsSpelledBy, places_of, span_of}
+use Rattle.keymap_text.specs.Places.{AtDefinition}
+use Rattle.keymap_text.specs.Wanted.{fault_place_view, first_refused}
+use Rattle.keymap_lint.specs.declared.cells.CellInForce.{CellInForce}
+use Rattle.keymap_lint.specs.declared.diagnostic.Kind.TheVariants.{Fault}
+use Rattle.keymap_lint.specs.declared.diagnostic.Diagnostic.{Diagnostic}
+use Rattle.keymap_lint.specs.declared.diagnostic.Lint.{Lint}
+use Rattle.keymap_lint.specs.Spelled.{Spelled, cells_in_force}
+use Rattle.keymap_lint.specs.Kinds.{at, no_key, no_shift, mixed_keys, half_defined, defined_again, dead_key}
+use Rattle.keymap_lint.specs.Kinds.{zero_accents, pairs_again, unused_half, bare_digits, missing_slots, nul_keys}
+use Rattle.keymap_lint.specs.Kinds.{missing_accents, unused_slots}
+
+-- what is said of a text that spells a map, kind by kind: of its keys, its definitions and dead keys, and the rest
+abbrev pub of_keys : Spelled → List CellInForce → List Finding → List Diagnostic
+of_keys t cells findings =
+    ((no_key t.map ++ no_shift t.map) ++ mixed_keys t findings) ++ half_defined t cells findings
+
+abbrev pub of_definitions : Spelled → List CellInForce → List Diagnostic
+of_definitions t cells = (defined_again t ++ dead_key t cells) ++ zero_accents t cells
+
+abbrev pub of_rest : Spelled → List CellInForce → List Diagnostic
+of_rest t cells = (pairs_again t ++ unused_half t) ++ bare_digits t cells
+
+abbrev pub all_of : Spelled → List CellInForce → List Finding → List Diagnostic
+all_of t cells findings = (of_keys t cells findings ++ of_definitions t cells) ++ of_rest t cells
+
+-- The same diagnostics: first those without a place, then by their place; those of one place in the order in which they
+-- were.
+pub record AreOrdered (found ordered : List Diagnostic) : Type 0 where
+  pub same : IsPermutation found ordered
+  pub in_order : IsSortedByKey (λ (d : Diagnostic). d.place) (option_cmp nat_cmp) ordered
+  pub stable : IsStableByKey (λ (d : Diagnostic). d.place) (option_cmp nat_cmp) found ordered
+
+-- the search runs only where the check has findings
+abbrev pub IsSearched : MapValue → List Finding → Option Sticking → Type 0
+IsSearched m findings None = length findings ≡ 0
+IsSearched m findings (Some a) = (0 < length findings) × IsAnswer m a
+
+-- The diagnostics of a text with these cells in force and these findings, and what they tell of.
+pub record IsLintOf (t : Spelled) (cells : List CellInForce) (findings : List Finding) (l : Lint) : Type 0 where
+  pub diagnostics : AreOrdered (all_of t cells findings) l.diagnostics.items
+  pub slots : l.missing_slots.items ≡ missing_slots t
+  pub keys : l.nul_keys.items ≡ nul_keys t findings
+  pub accents : l.missing_accents.items ≡ missing_accents t cells
+  pub unused : l.unused_slots.items ≡ unused_slots t
+  pub sticking : IsSearched t.map findings l.sticking
+
+-- those of a text that spells a map, with the findings of the check
+abbrev pub IsLintOfSpelled : Spelled → Lint → Type 0
+IsLintOfSpelled t l =
+    (findings : List Finding) × AreFindings t.map findings × IsLintOf t (cells_in_force t) findings l
+
+-- the definitions of its rows, the places of its tokens, and the map
+abbrev pub spelled_with : List Placed → List Span → MapValue → Spelled
+spelled_with definitions spans m = record { definitions = definitions; spans = spans; map = m }
+
+abbrev pub spelled_by : List ℕ → MapValue → List Row → Spelled
+spelled_by text m rows = spelled_with (places_of rows) (map span_of (tokens text)) m
+
+abbrev pub IsLintOfMap : List ℕ → MapValue → Lint → Type 0
+IsLintOfMap text m l = (rows : List Row) × IsSpelledBy text m rows × IsLintOfSpelled (spelled_by text m rows) l
+
+-- A text with a fault has that diagnostic alone.
+pub record IsLintOfFault (text : List ℕ) (f : TextFault) (l : Lint) : Type 0 where
+  pub place : FaultPlace
+  pub is_place : fault_place_view place ≡ first_refused AtDefinition None 0 (tokens text)
+  pub diagnostics : l.diagnostics.items ≡ at f.offset (Fault f.kind place) ∷ []
+  pub slots : l.missing_slots.items ≡ []
+  pub keys : l.nul_keys.items ≡ []
+  pub accents : l.missing_accents.items ≡ []
+  pub unused : l.unused_slots.items ≡ []
+  pub sticking : l.sticking ≡ None
+
+-- The diagnostics of a text: of the map that it spells, or of its fault.
+abbrev pub IsLint : List ℕ → Lint → Type 0
+IsLint text l =
+    ((m : MapValue) × Spells text m × IsLintOfMap text m l)
+    ⊎ ((f : TextFault) × FaultOf text f × IsLintOfFault text f l)

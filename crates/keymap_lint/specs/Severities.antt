@@ -1,0 +1,23 @@
+-- How much each kind of diagnostic weighs, by what the search answers.
+use Rattle.std.specs.Prelude.{Bool, true, false, not, ◌||◌, if◌then◌else◌, Option, Some}
+use Rattle.console_core.specs.declared.outcome.Sticking.{Sticking}
+use Rattle.console_core.specs.declared.outcome.Sticking.TheVariants.{Never}
+use Rattle.keymap_lint.specs.declared.diagnostic.Kind.{Kind}
+use Rattle.keymap_lint.specs.declared.diagnostic.Kind.TheVariants.{Fault, NoKey, MixedKey, HalfDefined}
+use Rattle.keymap_lint.specs.declared.diagnostic.Severity.{Severity}
+use Rattle.keymap_lint.specs.declared.diagnostic.Severity.TheVariants.{Error, Warning}
+
+-- the search answers that no modifier ever stays on
+abbrev pub never_sticks : Option Sticking → Bool
+never_sticks (Some Never) = true
+never_sticks _ = false
+
+abbrev pub error_unless : Bool → Severity
+error_unless is_mild = if is_mild then Warning else Error
+
+abbrev pub severity_of : Bool → Kind → Severity
+severity_of never (Fault fault wanted) = Error
+severity_of never NoKey = Error
+severity_of never (MixedKey finding character is_noted) = error_unless never
+severity_of never (HalfDefined selector has_keys is_noted) = error_unless (never || not has_keys)
+severity_of never _ = Warning

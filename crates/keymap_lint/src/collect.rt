@@ -1,0 +1,106 @@
+//! All that is said of a text, kind by kind.
+ghost use Rattle.std.specs.Prelude.{◌≡◌, ◌++◌, ◌≤◌, IfOk, OnOk, length};
+ghost use Rattle.keymap_core.specs.Numbers.{key_count};
+ghost use Rattle.keymap_lint.specs.Spelled.{AreDefined};
+ghost use Rattle.keymap_lint.specs.Kinds.{half, is_some_in, missing_slots as missing_slots_of, nul_keys as nul_keys_of};
+ghost use Rattle.keymap_lint.specs.Lists.{of_keys, of_definitions, of_rest, all_of};
+
+use crate::accents::zero_accents;
+use crate::again::defined_again;
+use crate::cells::CellInForce;
+use crate::dead_keys::dead_key;
+use crate::diagnostic::{Diagnostic, add, add_all};
+use crate::digits::bare_digits;
+use crate::halves::unused_half;
+use crate::keys::{no_key, no_shift};
+use crate::mixed::{mixed_keys, nul_keys};
+use crate::pairs::pairs_again;
+use crate::selectors::{half_defined, missing_slots};
+use crate::spelled::SpelledText;
+use keymap_check::Finding;
+use std::alloc::{AllocError, Global};
+
+/// What is said of a text that doesn't define both slots of each key, where some key has both a modifier or lock and a
+/// character in slots that it defines, or none has.
+fn half_of(
+    text: &SpelledText,
+    cells: &[CellInForce],
+    findings: &[Finding],
+    has_mixed: bool,
+) -> Option<Diagnostic>
+    requires { length findings.now ≤ key_count }
+    ensures { result ≡ half text.now cells.now (is_some_in (missing_slots_of text.now))
+        (is_some_in (nul_keys_of text.now findings.now)) has_mixed }
+{
+    let has_slots = missing_slots(text).len() > 0;
+    let has_keys = nul_keys(text, findings).len() > 0;
+    half_defined(text, cells, has_slots, has_keys, has_mixed)
+}
+
+/// What is said of the keys.
+fn said_of_keys(
+    alloc: Global,
+    text: &SpelledText,
+    cells: &[CellInForce],
+    findings: &[Finding],
+) -> Result<Vec<Diagnostic>, AllocError>
+    requires { length findings.now ≤ key_count }
+    ensures { IfOk result (λ found. found.items ≡ of_keys text.now cells.now findings.now) }
+{
+    let mixed = mixed_keys(alloc, text, findings)?;
+    let mut found = Vec::new(alloc);
+    add(&mut found, no_key(text.map()))?;
+    add(&mut found, no_shift(text.map()))?;
+    add_all(&mut found, &mixed)?;
+    add(&mut found, half_of(text, cells, findings, mixed.len() > 0))?;
+    Ok(found)
+}
+
+/// Adds what is said of definitions without effect, and of dead keys.
+fn add_definitions(
+    alloc: Global,
+    found: &mut Vec<Diagnostic>,
+    text: &SpelledText,
+    cells: &[CellInForce],
+) -> Result<(), AllocError>
+    requires { AreDefined text.now }
+    ensures { OnOk result (found.new.items ≡ found.old.items ++ of_definitions text.now cells.now) }
+{
+    add_all(found, &defined_again(alloc, text)?)?;
+    add(found, dead_key(text, cells))?;
+    add_all(found, &zero_accents(alloc, text, cells)?)?;
+    Ok(())
+}
+
+/// Adds what is said of pairs, of slots that are never looked at, and of digits.
+fn add_rest(
+    alloc: Global,
+    found: &mut Vec<Diagnostic>,
+    text: &SpelledText,
+    cells: &[CellInForce],
+) -> Result<(), AllocError>
+    requires { AreDefined text.now }
+    ensures { OnOk result (found.new.items ≡ found.old.items ++ of_rest text.now cells.now) }
+{
+    add_all(found, &pairs_again(alloc, text)?)?;
+    add(found, unused_half(text))?;
+    add_all(found, &bare_digits(alloc, text, cells)?)?;
+    Ok(())
+}
+
+/// All that is said of a text, kind by kind in the order of the kinds.
+pub(crate) fn collect(
+    alloc: Global,
+    text: &SpelledText,
+    cells: &[CellInForce],
+    findings: &[Finding],
+) -> Result<Vec<Diagnostic>, AllocError>
+    requires few { length findings.now ≤ key_count }
+    requires defined { AreDefined text.now }
+    ensures { IfOk result (λ found. found.items ≡ all_of text.now cells.now findings.now) }
+{
+    let mut found = said_of_keys(alloc, text, cells, findings)?;
+    add_definitions(alloc, &mut found, text, cells)?;
+    add_rest(alloc, &mut found, text, cells)?;
+    Ok(found)
+}

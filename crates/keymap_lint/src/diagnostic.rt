@@ -1,0 +1,161 @@
+//! What is said of a text, as values.
+ghost use Rattle.std.specs.Prelude.{◌≡◌, ◌++◌, OnOk};
+ghost use Rattle.std.specs.Option.{option_to_list};
+ghost use Rattle.keymap_lint.specs.Severities.{error_unless as error_unless_it, severity_of};
+ghost use Rattle.keymap_lint.specs.Severities.{never_sticks as never_sticks_by};
+
+use arrayvec::ArrayVec;
+use console_core::Sticking;
+use keymap_check::Finding;
+use keymap_core::{ACCENT_LIMIT, Holding, KEY_COUNT, SLOT_LIMIT};
+use keymap_text::{Defined, FaultPlace, TextFaultKind};
+use std::alloc::AllocError;
+
+/// How much weighs what is said: a text with an error is refused by who wants none.
+#[derive(Clone, Copy, Debug, PartialEq, Eq)]
+pub enum Severity {
+    Error,
+    Warning,
+}
+
+/// What is said of a text. Accents are told by their index, 0 to 14; places of the text by their offset in bytes.
+#[derive(Clone, Copy, Debug, PartialEq, Eq)]
+pub enum Kind {
+    /// The text has a fault: it spells no map. It stands at the fault's offset.
+    Fault {
+        fault: TextFaultKind,
+        /// What is wanted there, and the definition that has begun.
+        wanted: FaultPlace,
+    },
+    /// The text defines no slot. It has no place.
+    NoKey,
+    /// The text defines a slot, and no live cell is lshift or rshift. It has no place.
+    NoShift,
+    /// A key has a modifier or lock and a character, both in slots that the text defines. It stands at the cell of the
+    /// modifier or lock.
+    MixedKey {
+        finding: Finding,
+        /// The key's first character, which stands at `finding.character_at`.
+        character: char,
+        /// No greater key has this: what the search answered is told behind it.
+        is_noted: bool,
+    },
+    /// Some cell selects the slots from 128 on, and of some key one slot is defined and the other one isn't. The slots
+    /// that aren't are `Lint::missing_slots`. It stands at the first ashift or alock of a slot below 128.
+    HalfDefined {
+        /// What stands there, ashift or alock.
+        selector: Holding,
+        /// Some key is a modifier or lock with a character in such a slot: the keys are `Lint::nul_keys`.
+        has_keys: bool,
+        /// It has keys and no key is a `MixedKey`: what the search answered is told behind it.
+        is_noted: bool,
+    },
+    /// A definition without effect: a later one defines the same. It stands at its first token.
+    DefinedAgain {
+        what: Defined,
+        /// The offset of the last definition of the same.
+        last: usize,
+    },
+    /// Live cells are dead keys of accents that the text doesn't define: these are `Lint::missing_accents`. It
+    /// stands at the first such cell.
+    DeadKey {
+        /// The text defines some other accent.
+        defines_some: bool,
+    },
+    /// An accent whose own character is 0, and some live cell is its dead key. It stands at that character.
+    ZeroAccent {
+        accent: u8,
+    },
+    /// A pair of an accent that has a pair with the same base before it. It stands at the pair's parenthesis.
+    PairAgain {
+        accent: u8,
+        base: char,
+        /// The offset of the first pair with this base: of its parenthesis.
+        first: usize,
+    },
+    /// No live cell is ashift or alock, and the text defines slots from 128 on: these are `Lint::unused_slots`. It
+    /// stands at the first definition of such a slot that is in force.
+    UnusedHalf,
+    /// A cell that is spelled by one decimal digit, which is the number of this character.
+    BareDigit {
+        character: char,
+    },
+}
+
+/// A diagnostic: what is said, and the offset of its place in the text, if it has one.
+#[derive(Clone, Copy, Debug, PartialEq, Eq)]
+pub struct Diagnostic {
+    pub place: Option<usize>,
+    pub kind: Kind,
+}
+
+/// The diagnostics of a text in their order, and what some of them tell of. Of these kinds a text has one diagnostic at
+/// most. The lists are in ascending order.
+#[derive(Debug, Drop)]
+pub struct Lint {
+    pub diagnostics: Vec<Diagnostic>,
+    /// The slots that the text doesn't define though it defines the other slot of their key, 128 apart.
+    pub missing_slots: ArrayVec<u8, SLOT_LIMIT>,
+    /// The keys that have a modifier or lock and, in a slot that the text doesn't define, a character.
+    pub nul_keys: ArrayVec<u8, KEY_COUNT>,
+    /// The accents that the text doesn't define though a live cell is their dead key.
+    pub missing_accents: ArrayVec<u8, ACCENT_LIMIT>,
+    /// The slots from 128 on that the text defines.
+    pub unused_slots: ArrayVec<u8, KEY_COUNT>,
+    /// What the search for sticking modifiers answers; nothing where the check has no findings.
+    pub sticking: Option<Sticking>,
+}
+
+fn error_unless(is_mild: bool) -> Severity
+    ensures { result ≡ error_unless_it is_mild }
+{
+    if is_mild {
+        Severity::Warning
+    } else {
+        Severity::Error
+    }
+}
+
+impl Kind {
+    /// How much it weighs, by whether the search answers that no modifier ever stays on.
+    pub fn severity(&self, never_sticks: bool) -> Severity
+        ensures { result ≡ severity_of never_sticks self.now }
+    {
+        match self {
+            Kind::Fault { .. } | Kind::NoKey => Severity::Error,
+            Kind::MixedKey { .. } => error_unless(never_sticks),
+            Kind::HalfDefined { has_keys, .. } => error_unless(never_sticks || !*has_keys),
+            _ => Severity::Warning,
+        }
+    }
+}
+
+impl Lint {
+    /// Whether the search answers that no modifier ever stays on.
+    pub fn never_sticks(&self) -> bool
+        ensures { result ≡ never_sticks_by self.now.sticking }
+    {
+        match &self.sticking {
+            Some(Sticking::Never) => true,
+            _ => false,
+        }
+    }
+}
+
+/// Adds what is said, if something is.
+pub(crate) fn add<T: Copy>(found: &mut Vec<T>, said: Option<T>) -> Result<(), AllocError>
+    ensures { OnOk result (found.new.items ≡ found.old.items ++ option_to_list said) }
+{
+    if let Some(more) = said {
+        found.push(more)?;
+    }
+    Ok(())
+}
+
+/// Adds all of these.
+pub(crate) fn add_all<T: Copy>(found: &mut Vec<T>, more: &[T]) -> Result<(), AllocError>
+    ensures { OnOk result (found.new.items ≡ found.old.items ++ more.now) }
+{
+    found.extend_from_slice(more)?;
+    Ok(())
+}

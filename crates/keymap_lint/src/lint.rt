@@ -1,0 +1,148 @@
+//! The diagnostics of a text.
+ghost use Rattle.std.specs.Prelude.{◌≡◌, ◌≤◌, IfOk, All, length};
+ghost use Rattle.keymap_core.specs.Numbers.{key_count};
+ghost use Rattle.keymap_text.specs.Meaning.{Spells, Fault as FaultOf};
+ghost use Rattle.keymap_lint.specs.Spelled.{AreDefined};
+ghost use Rattle.keymap_text.specs.Placed.{StandsAmong};
+ghost use Rattle.keymap_lint.specs.Lists.{IsSearched, AreOrdered, all_of, spelled_with, IsLintOf, IsLintOfSpelled};
+ghost use Rattle.keymap_lint.specs.Lists.{IsLintOfMap, IsLintOfFault, IsLint};
+
+use crate::cells::{CellInForce, cells_in_force};
+use crate::collect::collect;
+use crate::dead_keys::missing_accents;
+use crate::diagnostic::{Diagnostic, Kind, Lint};
+use crate::halves::unused_slots;
+use crate::mixed::nul_keys;
+use crate::order::put_in_order;
+use crate::selectors::missing_slots;
+use crate::spelled::SpelledText;
+use arrayvec::ArrayVec;
+use console_core::{Sticking, sticking};
+use keymap_check::{Finding, check};
+use keymap_core::KeyMap;
+use keymap_text::{
+    Placed, Span, TextError, TextFault, definitions, last_definitions, read_map, wanted_at_fault,
+};
+use std::alloc::{AllocError, Global};
+
+/// What the search for sticking modifiers answers, where the check has findings.
+fn search(alloc: Global, map: &KeyMap, findings: &[Finding]) -> Result<Option<Sticking>, AllocError>
+    ensures { IfOk result (λ answer. IsSearched map.now findings.now answer) }
+{
+    if findings.is_empty() {
+        return Ok(None);
+    }
+    Ok(Some(sticking(alloc, map)?))
+}
+
+/// All that is said of the text, in its order.
+fn ordered(
+    alloc: Global,
+    text: &SpelledText,
+    cells: &[CellInForce],
+    findings: &[Finding],
+) -> Result<Vec<Diagnostic>, AllocError>
+    requires few { length findings.now ≤ key_count }
+    requires defined { AreDefined text.now }
+    ensures { IfOk result (λ found. AreOrdered (all_of text.now cells.now findings.now) found.items) }
+{
+    let mut found = collect(alloc, text, cells, findings)?;
+    put_in_order(&mut found)?;
+    Ok(found)
+}
+
+/// The diagnostics of a text with these cells in force and these findings.
+fn lint_with(
+    alloc: Global,
+    text: &SpelledText,
+    cells: &[CellInForce],
+    findings: &[Finding],
+) -> Result<Lint, AllocError>
+    requires few { length findings.now ≤ key_count }
+    requires defined { AreDefined text.now }
+    ensures { IfOk result (λ l. IsLintOf text.now cells.now findings.now l) }
+{
+    let diagnostics = ordered(alloc, text, cells, findings)?;
+    let sticking = search(alloc, text.map(), findings)?;
+    Ok(Lint {
+        diagnostics,
+        missing_slots: missing_slots(text),
+        nul_keys: nul_keys(text, findings),
+        missing_accents: missing_accents(text, cells),
+        unused_slots: unused_slots(text),
+        sticking,
+    })
+}
+
+/// The diagnostics of a text that spells a map.
+fn lint_spelled(alloc: Global, text: &SpelledText) -> Result<Lint, AllocError>
+    requires { AreDefined text.now }
+    ensures { IfOk result (λ l. IsLintOfSpelled text.now l) }
+{
+    let report = check(text.map());
+    let findings = report.findings().as_slice();
+    let cells = cells_in_force(alloc, text)?;
+    let lint = lint_with(alloc, text, &cells, findings)?;
+    Ok(lint)
+}
+
+/// The same of these definitions and tokens.
+fn lint_rows(
+    alloc: Global,
+    definitions: &[Placed],
+    spans: &[Span],
+    map: &KeyMap,
+) -> Result<Lint, AllocError>
+    requires { All (StandsAmong (length spans.now)) definitions.now }
+    ensures { IfOk result (λ l. IsLintOfSpelled (spelled_with definitions.now spans.now map.now) l) }
+{
+    let last = last_definitions(definitions);
+    let text = SpelledText::new(definitions, &last, spans, map);
+    let lint = lint_spelled(alloc, &text)?;
+    Ok(lint)
+}
+
+/// The same of the text and the map.
+fn lint_map(alloc: Global, text: &[u8], map: &KeyMap) -> Result<Lint, AllocError>
+    requires { Spells text.now map.now }
+    ensures { IfOk result (λ l. IsLintOfMap text.now map.now l) }
+{
+    let placed = definitions(alloc, text)?;
+    let lint = lint_rows(alloc, &placed.definitions, &placed.spans, map)?;
+    Ok(lint)
+}
+
+/// The diagnostic of a text that has this fault.
+fn lint_fault(alloc: Global, text: &[u8], fault: TextFault) -> Result<Lint, AllocError>
+    ensures { IfOk result (λ l. IsLintOfFault text.now fault l) }
+{
+    let mut diagnostics = Vec::new(alloc);
+    diagnostics.push(Diagnostic {
+        place: Some(fault.offset as usize),
+        kind: Kind::Fault {
+            fault: fault.kind,
+            wanted: wanted_at_fault(text),
+        },
+    })?;
+    Ok(Lint {
+        diagnostics,
+        missing_slots: ArrayVec::new(),
+        nul_keys: ArrayVec::new(),
+        missing_accents: ArrayVec::new(),
+        unused_slots: ArrayVec::new(),
+        sticking: None,
+    })
+}
+
+/// The diagnostics of a text in their order: first those without a place, then by their place, those of one place in
+/// the order of the kinds, and several of a kind by key. A text with a fault has that diagnostic alone. The search for
+/// sticking modifiers runs only where the check has findings. `Err` means that memory was refused.
+pub fn diagnostics(alloc: Global, text: &[u8]) -> Result<Lint, AllocError>
+    ensures { IfOk result (λ l. IsLint text.now l) }
+{
+    match read_map(alloc, text) {
+        Ok(map) => lint_map(alloc, text, &map),
+        Err(TextError::Fault(fault)) => lint_fault(alloc, text, fault),
+        Err(_) => Err(AllocError),
+    }
+}

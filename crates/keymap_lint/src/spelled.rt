@@ -1,0 +1,178 @@
+//! A text that spells a map.
+ghost use Rattle.std.specs.Prelude.{◌≡◌, ◌+◌, ◌<◌};
+ghost use Rattle.keymap_core.specs.Numbers.{accent_limit};
+ghost use Rattle.keymap_core.specs.Borne.{is_upper_live as is_upper_live_of};
+ghost use Rattle.keymap_text.specs.Placed.{last_of, HasIndex};
+ghost use Rattle.keymap_text.specs.declared.placed.Defined.TheVariants.{Slot, Accent};
+ghost use Rattle.keymap_lint.specs.Spelled.{HasLast, span_at, offset_at, is_in_force as is_in_force_in};
+ghost use Rattle.keymap_lint.specs.Kinds.{defines as defines_slot, is_defined};
+ghost use Rattle.keymap_lint.specs.Spelled.{content as content_of, is_live as is_live_in};
+
+use crate::cells::CellInForce;
+use keymap_core::{Cell, KEY_COUNT, KeyMap};
+use keymap_text::{Defined, LastDefinitions, Placed, Span};
+use std::marker::Model;
+
+/// A text that spells a map: its definitions, the last ones among them, where its tokens stand, and the map.
+#[derive(Drop)]
+pub struct SpelledText<'t> {
+    definitions: &'t [Placed],
+    last: &'t LastDefinitions,
+    spans: &'t [Span],
+    map: &'t KeyMap,
+    is_upper_live: bool,
+}
+
+impl<'t> Model for SpelledText<'t> {
+    ghost use Rattle.std.specs.Prelude.{◌≡◌};
+    ghost use Rattle.keymap_core.specs.Borne.{is_upper_live as is_upper_live_of};
+    ghost use Rattle.keymap_lint.specs.Spelled.{Spelled, HasLast};
+
+    ghost Value = { Spelled };
+
+    ghost view = { λ t. record { definitions = t.definitions.now; spans = t.spans.now; map = t.map.now } };
+
+    ghost invariant = { λ t. HasLast t.last.now t.definitions.now
+        × (t.is_upper_live ≡ is_upper_live_of t.map.now) };
+}
+
+impl<'t> SpelledText<'t> {
+    /// The text with these definitions and tokens, and with this map.
+    pub fn new(
+        definitions: &'t [Placed],
+        last: &'t LastDefinitions,
+        spans: &'t [Span],
+        map: &'t KeyMap,
+    ) -> SpelledText<'t>
+        requires { HasLast last.now definitions.now }
+        ensures definitions { result.definitions ≡ definitions.now }
+        ensures spans { result.spans ≡ spans.now }
+        ensures map { result.map ≡ map.now }
+    {
+        SpelledText {
+            definitions,
+            last,
+            spans,
+            map,
+            is_upper_live: map.is_upper_live(),
+        }
+    }
+
+    /// The definitions in their order.
+    pub(crate) fn definitions(&self) -> &[Placed]
+        ensures { result.now ≡ self.now.definitions }
+    {
+        self.definitions
+    }
+
+    /// The map.
+    pub(crate) fn map(&self) -> &KeyMap
+        ensures { result.now ≡ self.now.map }
+    {
+        self.map
+    }
+
+    /// Whether the cells of the slot are live.
+    pub(crate) fn is_live(&self, slot: u8) -> bool
+        ensures { result ≡ is_live_in self.now slot }
+    {
+        slot < KEY_COUNT as u8 || self.is_upper_live
+    }
+
+    /// Whether the slots from 128 on are live: some cell of the others selects them.
+    pub(crate) fn is_upper_live(&self) -> bool
+        ensures { result ≡ is_upper_live_of self.now.map }
+    {
+        self.is_upper_live
+    }
+
+    /// What stands in the cell.
+    pub(crate) fn content(&self, cell: &CellInForce) -> Cell
+        ensures { result ≡ content_of self.now cell.now }
+    {
+        match self.map.entry(cell.slot).cells().get(cell.column as usize) {
+            Some(content) => *content,
+            None => Cell::Char('\0'),
+        }
+    }
+
+    /// Where a token stands: the one that is so many behind another one.
+    pub(crate) fn span(&self, first: usize, part: usize) -> Span
+        ensures { result ≡ span_at self.now.spans (first + part) }
+    {
+        if first < self.spans.len() && part < self.spans.len() - first {
+            self.spans[first + part]
+        } else {
+            Span { start: 0, end: 0 }
+        }
+    }
+
+    /// The offset at which that token begins.
+    pub(crate) fn offset_behind(&self, first: usize, part: usize) -> usize
+        ensures { result ≡ offset_at self.now (first + part) }
+    {
+        self.span(first, part).start
+    }
+
+    /// The offset at which a token begins.
+    pub(crate) fn offset(&self, token: usize) -> usize
+        ensures { result ≡ offset_at self.now token }
+    {
+        match self.spans.get(token) {
+            Some(span) => span.start,
+            None => 0,
+        }
+    }
+
+    /// The last definition of the slot.
+    pub(crate) fn slot(&self, slot: u8) -> Option<Placed>
+        ensures { result ≡ last_of (Slot slot) self.now.definitions }
+    {
+        self.last.slots[slot as usize]
+    }
+
+    /// The last definition of the accent.
+    pub(crate) fn accent(&self, index: u8) -> Option<Placed>
+        requires { index < accent_limit }
+        ensures { result ≡ last_of (Accent index) self.now.definitions }
+    {
+        self.last.accents[index as usize]
+    }
+
+    /// Whether the text defines the slot.
+    pub(crate) fn defines(&self, slot: u8) -> bool
+        ensures { result ≡ defines_slot self.now slot }
+    {
+        self.slot(slot).is_some()
+    }
+
+    /// Whether the text defines the accent.
+    pub(crate) fn defines_accent(&self, index: u8) -> bool
+        requires { index < accent_limit }
+        ensures { result ≡ is_defined self.now index }
+    {
+        self.accent(index).is_some()
+    }
+
+    /// The last definition of what is defined.
+    pub(crate) fn last(&self, what: Defined) -> Option<Placed>
+        requires { HasIndex what }
+        ensures { result ≡ last_of what self.now.definitions }
+    {
+        match what {
+            Defined::Slot(slot) => self.slot(slot),
+            Defined::Accent(index) => self.accent(index),
+        }
+    }
+
+    /// Whether the definition is the last one of what it defines.
+    pub(crate) fn is_in_force(&self, definition: &Placed) -> bool
+        requires { HasIndex definition.now.what }
+        ensures { result ≡ is_in_force_in self.now definition.now }
+    {
+        match self.last(definition.what) {
+            Some(last) => last.first == definition.first,
+            None => false,
+        }
+    }
+}

@@ -1,0 +1,114 @@
+-- Texts and lists that are put together in a loop.
+use Prim.Native.Nat.{zero, suc}
+use Rattle.std.proofs.Common.{◌≡◌, ℕ, ◌+◌, ◌<◌, ◌≤◌, Bool, true, false, cond, List, [], ◌∷◌, ◌++◌, length, drop, get_or}
+use Rattle.std.proofs.Common.{append_assoc, append-nil, rules, All, add-one, drop-cons, refl, sym, ap, ◌∙◌, arith}
+use Rattle.std.proofs.Math.ListN.{drop_of_length-le}
+use Rattle.std.proofs.lemmas.List.Elements.{All-append, All-nil}
+use Rattle.std.specs.Prelude.{Option, Some, None, slice_get, slice_index_or}
+use Rattle.keymap_draw.specs.Below.{passing, passed}
+use Rattle.keymap_draw.specs.Markup.{numbered}
+
+-- nothing is left to add
+pub numbered_end : {A : Type 0} (f : ℕ → A → List ℕ) (xs : List A) (i : ℕ) (old all : List ℕ) → length xs ≤ i
+    → old ++ numbered f i (drop i xs) ≡ all → old ≡ all
+unfolding numbered
+numbered_end f xs i old all past before =
+    sym (append-nil old) ∙ ap (λ l. old ++ numbered f i l) (sym (drop_of_length-le xs past)) ∙ before
+
+-- what is left to add, once the text of the element at a place is added
+pub numbered_more : {A : Type 0} (f : ℕ → A → List ℕ) (xs : List A) (i : ℕ) (x : A) (old new all : List ℕ)
+    → i < length xs → x ≡ get_or xs i x → new ≡ old ++ f i x
+    → old ++ numbered f i (drop i xs) ≡ all
+    → new ++ numbered f (i + 1) (drop (i + 1) xs) ≡ all
+unfolding numbered
+numbered_more f xs i x old new all inside at added before =
+    let first : drop i xs ≡ x ∷ drop (i + 1) xs =
+    rw add-one (drop-cons xs i x inside ∙ ap (λ b. b ∷ drop (suc i) xs) (sym at)) in
+    ap (λ l. l ++ numbered f (i + 1) (drop (i + 1) xs)) added
+    ∙ append_assoc old (f i x) (numbered f (i + 1) (drop (i + 1) xs))
+    ∙ ap (λ l. old ++ numbered f i l) (sym first)
+    ∙ before
+
+-- the same, where the element is read at its place
+pub numbered_at : {A : Type 0} (f : ℕ → A → List ℕ) (xs : List A) (i : ℕ) (d : A) (old new all : List ℕ)
+    → i < length xs → new ≡ old ++ f i (get_or xs i d)
+    → old ++ numbered f i (drop i xs) ≡ all
+    → new ++ numbered f (i + 1) (drop (i + 1) xs) ≡ all
+unfolding numbered
+numbered_at f xs i d old new all inside added before =
+    let first : drop i xs ≡ get_or xs i d ∷ drop (i + 1) xs = rw add-one (drop-cons xs i d inside) in
+    ap (λ l. l ++ numbered f (i + 1) (drop (i + 1) xs)) added
+    ∙ append_assoc old (f i (get_or xs i d)) (numbered f (i + 1) (drop (i + 1) xs))
+    ∙ ap (λ l. old ++ numbered f i l) (sym first)
+    ∙ before
+
+pub passing-none : (test : ℕ → Bool) → passing test 0 ≡ []
+unfolding passing
+passing-none test = refl
+
+passing-suc : (test : ℕ → Bool) (n : ℕ) → passing test (suc n) ≡ passing test n ++ passed (test n) n
+unfolding passing
+passing-suc test n = refl
+
+-- one number more
+pub passing-more : (test : ℕ → Bool) (n : ℕ) (r : Bool) (old new : List ℕ) → r ≡ test n → old ≡ passing test n
+    → new ≡ old ++ passed r n → new ≡ passing test (n + 1)
+passing-more test n r old new e before added =
+    added ∙ ap (λ l. l ++ passed r n) before ∙ ap (λ b. passing test n ++ passed b n) e ∙ sym (passing-suc test n)
+    ∙ ap (λ k. passing test k) (sym (add-one n))
+
+-- what is empty has all that pass below 0
+pub passing-start : (test : ℕ → Bool) (old : List ℕ) → old ≡ [] → old ≡ passing test 0
+passing-start test old e = e ∙ sym (passing-none test)
+
+-- a number of a list in front of another, or of that one
+all_join : (P : ℕ → Type 0) (xs ys : List ℕ) → All P xs → All P ys → All P (xs ++ ys)
+all_join P xs ys a b = All-append P xs ys a b
+
+passed-below : (b : Bool) (n k : ℕ) → n < k → All (λ i. i < k) (passed b n)
+passed-below true n k h = one n h
+  where
+    one : (n : ℕ) → n < k → All (λ i. i < k) (n ∷ [])
+    one n h zero d low = h
+    one n h (suc j) d low = absurd (omega arith)
+passed-below false n k h = All-nil (λ i. i < k)
+
+-- what passes is below the bound
+pub passing-below : (test : ℕ → Bool) (n k : ℕ) → n ≤ k → All (λ i. i < k) (passing test n)
+unfolding passing
+passing-below test zero k h = All-nil (λ i. i < k)
+passing-below test (suc n) k h =
+    all_join (λ i. i < k) (passing test n) (passed (test n) n) (passing-below test n k (omega arith))
+    (passed-below (test n) n k (omega arith))
+
+-- past the end there is only what stands for it
+pub none_is : {A : Type 0} (xs : List A) (i : ℕ) (d : A) → slice_get xs i ≡ None → slice_index_or xs i d ≡ d
+none_is [] i d e = refl
+none_is (x ∷ xs) zero d e = cc
+none_is (x ∷ xs) (suc i) d e = none_is xs i d e
+
+-- 2 pieces that are added in turn
+pub pieces2 : (old t1 t2 a b : List ℕ) → t1 ≡ old ++ a → t2 ≡ t1 ++ b → t2 ≡ old ++ (a ++ b)
+pieces2 old t1 t2 a b e1 e2 = rw (e2, e1) (simp append_assoc)
+
+-- 3 pieces that are added in turn
+pub pieces3 : (old t1 t2 t3 a b c : List ℕ) → t1 ≡ old ++ a → t2 ≡ t1 ++ b → t3 ≡ t2 ++ c → t3 ≡ old ++ (a ++ b ++ c)
+pieces3 old t1 t2 t3 a b c e1 e2 e3 = rw (e3, e2, e1) (simp append_assoc)
+
+-- 4 pieces that are added in turn
+pub pieces4 : (old t1 t2 t3 t4 a b c d : List ℕ) → t1 ≡ old ++ a → t2 ≡ t1 ++ b → t3 ≡ t2 ++ c → t4 ≡ t3 ++ d → t4 ≡ old ++ (a ++ b ++ c ++ d)
+pieces4 old t1 t2 t3 t4 a b c d e1 e2 e3 e4 = rw (e4, e3, e2, e1) (simp append_assoc)
+
+-- 5 pieces that are added in turn
+pub pieces5 : (old t1 t2 t3 t4 t5 a b c d e : List ℕ) → t1 ≡ old ++ a → t2 ≡ t1 ++ b → t3 ≡ t2 ++ c → t4 ≡ t3 ++ d → t5 ≡ t4 ++ e → t5 ≡ old ++ (a ++ b ++ c ++ d ++ e)
+pieces5 old t1 t2 t3 t4 t5 a b c d e e1 e2 e3 e4 e5 = rw (e5, e4, e3, e2, e1) (simp append_assoc)
+
+-- 6 pieces that are added in turn
+pub pieces6 : (old t1 t2 t3 t4 t5 t6 a b c d e f : List ℕ) → t1 ≡ old ++ a → t2 ≡ t1 ++ b → t3 ≡ t2 ++ c → t4 ≡ t3 ++ d → t5 ≡ t4 ++ e → t6 ≡ t5 ++ f → t6 ≡ old ++ (a ++ b ++ c ++ d ++ e ++ f)
+pieces6 old t1 t2 t3 t4 t5 t6 a b c d e f e1 e2 e3 e4 e5 e6 = rw (e6, e5, e4, e3, e2, e1) (simp append_assoc)
+
+-- 7 pieces that are added in turn
+pub pieces7 : (old t1 t2 t3 t4 t5 t6 t7 a b c d e f g : List ℕ) → t1 ≡ old ++ a → t2 ≡ t1 ++ b → t3 ≡ t2 ++ c → t4 ≡ t3 ++ d → t5 ≡ t4 ++ e → t6 ≡ t5 ++ f → t7 ≡ t6 ++ g → t7 ≡ old ++ (a ++ b ++ c ++ d ++ e ++ f ++ g)
+pieces7 old t1 t2 t3 t4 t5 t6 t7 a b c d e f g e1 e2 e3 e4 e5 e6 e7 = rw (e7, e6, e5, e4, e3, e2, e1) (simp append_assoc)
+
+pub ruleset passing_rules = (passing-start)

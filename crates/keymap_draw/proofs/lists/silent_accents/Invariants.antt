@@ -1,0 +1,10 @@
+use Rattle.std.proofs.Common.{◌≡◌, ◌≤◌, ◌==◌, length}
+use Rattle.keymap_draw.specs.Lists.{is_silent}
+use Rattle.keymap_draw.specs.Below.{passing}
+use Rattle.keymap_draw.proofs.lists.silent_accents.Given as goal
+
+abbrev pub invariant-loop-index : goal.invariant-loop-index
+invariant-loop-index l = record {
+  passed : l.accents.items ≡ passing (is_silent l.map) l.index;
+  few : length l.accents.items ≤ l.index;
+}

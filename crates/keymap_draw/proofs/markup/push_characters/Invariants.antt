@@ -1,0 +1,7 @@
+use Rattle.std.proofs.Common.{◌≡◌, ◌++◌, take}
+use Rattle.std.specs.List.{flat_map}
+use Rattle.keymap_draw.specs.Markup.{escaped}
+use Rattle.keymap_draw.proofs.markup.push_characters.Given as goal
+
+abbrev pub invariant-loop-c : goal.invariant-loop-c
+invariant-loop-c l = l.text.items ≡ l.fn.text.items ++ flat_map escaped (take l.c-index l.characters)

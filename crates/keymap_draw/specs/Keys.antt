@@ -1,0 +1,128 @@
+-- One key of the picture: its cap, its code and its legends. Its title is its line of the printed form.
+use Rattle.std.specs.Prelude.{ℕ, ◌+◌, ◌-◌, ◌%◌, ◌==◌, nat_lt, Bool, true, false, ◌||◌, ◌&&◌, List, [], ◌∷◌, ◌++◌}
+use Rattle.std.specs.Prelude.{codes, decimal, Option, Some, None, option_to_list, if◌then◌else◌}
+use Rattle.std.specs.List.{flat_map, list_all}
+use Rattle.std.specs.Option.{is_some}
+use Rattle.keymap_core.specs.declared.action.Action.TheVariants as a
+use Rattle.keymap_core.specs.declared.entry.Cell.{Cell}
+use Rattle.keymap_core.specs.declared.entry.Cell.TheVariants.{Char, Act}
+use Rattle.keymap_core.specs.declared.entry.Entry.{Entry}
+use Rattle.keymap_core.specs.declared.entry.LockFlag.{LockFlag}
+use Rattle.keymap_core.specs.declared.entry.LockFlag.TheVariants as flag
+use Rattle.keymap_core.specs.Actions.{within, name_of, holding_action}
+use Rattle.keymap_core.specs.Maps.{MapValue, entry_at}
+use Rattle.keymap_core.specs.Numbers.{key_count}
+use Rattle.keymap_check.specs.declared.finding.Finding.{Finding}
+use Rattle.keymap_check.specs.declared.finding.Place.{Place}
+use Rattle.keymap_text.specs.Printed.{slot_words, flag_letter}
+use Rattle.keymap_draw.specs.declared.board.Shape.{Shape}
+use Rattle.keymap_draw.specs.declared.drawn.DrawnCells.{DrawnCells}
+use Rattle.keymap_draw.specs.declared.place.Column.{Column}
+use Rattle.keymap_draw.specs.declared.place.Column.TheVariants.{Base, Shift, Alt, AltShift}
+use Rattle.keymap_draw.specs.Boards.{letter, width, height}
+use Rattle.keymap_draw.specs.Drawn.{is_blank, column, drawn, stands_alone}
+use Rattle.keymap_draw.specs.Legends.{cell_legend, is_word}
+use Rattle.keymap_draw.specs.Markup.{between, escaped, class_text, open_text, text_element, translate}
+use Rattle.keymap_draw.specs.Places.{code_x, legend_x, legend_y, legend_classes}
+
+abbrev pub place_words : Place → List ℕ
+place_words p = between (codes " at slot ") p.slot (codes " column ") ++ decimal p.column
+
+-- what the check says of a key
+unfoldable pub finding_words : Finding → List ℕ
+finding_words f =
+    between (codes "key ") f.key (codes ": ") ++ name_of (holding_action f.holding) ++ place_words f.holding_at
+    ++ codes ", character"
+    ++ place_words f.character_at
+
+-- the finding of a key, if the check names it
+unfoldable pub finding_of : List Finding → ℕ → Option Finding
+finding_of [] k = None
+finding_of (f ∷ fs) k = if f.key == k then Some f else finding_of fs k
+
+-- an action other than nop and the dead keys, or a control character
+abbrev pub is_doing : Cell → Bool
+is_doing (Char c) = within 1 31 c || (c == 127)
+is_doing (Act a.Nop) = false
+is_doing (Act (a.DeadKey i)) = false
+is_doing (Act action) = true
+
+abbrev pub is_holding : Cell → Bool
+is_holding (Char c) = false
+is_holding (Act (a.Mod modifier)) = true
+is_holding (Act (a.Lock lock)) = true
+is_holding (Act action) = false
+
+-- each of its cells is nop or the character 0
+unfoldable pub is_blank_entry : Entry → Bool
+is_blank_entry e = list_all is_blank e.cells
+
+-- the class for the colour of a key: f where the check names it, p where it is blank, m for a modifier or lock, g for
+-- another action
+unfoldable pub key_class : List Finding → ℕ → Entry → Option ℕ
+key_class fs slot e =
+    if is_some (finding_of fs (slot % key_count)) then Some 102
+    else if is_blank_entry e then Some 112
+    else if is_holding (column e 0) then Some 109
+    else if is_doing (column e 0) then Some 103
+    else None
+
+abbrev pub finding_line : Option Finding → List ℕ
+finding_line None = []
+finding_line (Some f) = finding_words f ++ codes "\n"
+
+-- what the check says of the key, and its line of the printed form
+unfoldable pub title : List Finding → ℕ → Entry → List ℕ
+title fs slot e =
+    codes "<title>" ++ finding_line (finding_of fs (slot % key_count)) ++ flat_map escaped (slot_words slot e)
+    ++ codes "</title>"
+
+abbrev pub flag_words : LockFlag → List ℕ
+flag_words flag.O = []
+flag_words l = 32 ∷ flag_letter l ∷ []
+
+abbrev pub shape_letter : Shape → List ℕ
+shape_letter shape = letter shape ∷ []
+
+unfoldable pub shape_use : Shape → List ℕ
+shape_use shape = codes "<use href=\"#" ++ shape_letter shape ++ codes "\"/>"
+
+-- the begin of the text of the code
+abbrev pub code_open : Shape → List ℕ
+code_open shape = open_text (code_x shape) (height shape - 7) []
+
+-- the cap, and on it the slot's number and the letter of its locks
+unfoldable pub cap : ℕ → LockFlag → Shape → List ℕ
+cap slot l shape =
+    shape_use shape ++ code_open shape ++ decimal slot ++ flag_words l ++ codes "</text>"
+
+-- the legend of a cell; it is tight where another one stands beside it on a small cap
+unfoldable pub legend : MapValue → Shape → Column → Bool → Bool → Cell → List ℕ
+legend m shape c alone beside cell =
+    text_element (legend_x shape c alone) (legend_y shape c alone (is_word (cell_legend cell)))
+    (legend_classes m c cell (cell_legend cell) alone (beside && nat_lt (width shape) 112)) (cell_legend cell)
+
+abbrev pub drawn_legend : MapValue → Shape → Column → Bool → Bool → Option Cell → List ℕ
+drawn_legend m shape c alone beside None = []
+drawn_legend m shape c alone beside (Some cell) = legend m shape c alone beside cell
+
+abbrev pub legends_of : MapValue → Shape → Bool → DrawnCells → List ℕ
+legends_of m shape alone d =
+    drawn_legend m shape Base alone (is_some d.alt) d.base ++ drawn_legend m shape Shift alone (is_some d.alt_shift) d.shift
+    ++ drawn_legend m shape Alt alone (is_some d.base) d.alt
+    ++ drawn_legend m shape AltShift alone (is_some d.shift) d.alt_shift
+
+unfoldable pub legends : MapValue → Shape → Entry → List ℕ
+legends m shape e = legends_of m shape (stands_alone e) (drawn e)
+
+-- the begin of the group of a key
+unfoldable pub group : Option ℕ → ℕ → ℕ → List ℕ
+group class x y = codes "<g role=\"img\"" ++ class_text (option_to_list class) ++ translate x y
+
+abbrev pub key_of_entry : MapValue → List Finding → ℕ → ℕ → ℕ → Shape → Entry → List ℕ
+key_of_entry m fs slot x y shape e =
+    group (key_class fs slot e) x y ++ title fs slot e ++ cap slot e.flag shape ++ legends m shape e ++ codes "</g>\n"
+
+-- the key of a slot at a place
+unfoldable pub key : MapValue → List Finding → ℕ → ℕ → ℕ → Shape → List ℕ
+key m fs slot x y shape = key_of_entry m fs slot x y shape (entry_at m slot)

@@ -1,0 +1,10 @@
+pub mod Below
+pub mod Boards
+pub mod Drawn
+pub mod Halves
+pub mod Keys
+pub mod Legends
+pub mod Lists
+pub mod Markup
+pub mod Pictures
+pub mod Places

@@ -1,0 +1,91 @@
+-- Where texts stand on a cap, and the classes by which the style gives them size, side and colour.
+use Rattle.std.specs.Prelude.{ℕ, ◌+◌, ◌-◌, ◌/◌, ◌==◌, Bool, true, false, List, ◌++◌, codes, length, min, slice_index}
+use Rattle.std.specs.Prelude.{Option, Some, None, option_to_list, if◌then◌else◌}
+use Rattle.keymap_core.specs.declared.action.Action.TheVariants as a
+use Rattle.keymap_core.specs.declared.entry.Cell.{Cell}
+use Rattle.keymap_core.specs.declared.entry.Cell.TheVariants.{Char, Act}
+use Rattle.keymap_core.specs.Maps.{MapValue, accent_or_blank}
+use Rattle.keymap_draw.specs.declared.board.Shape.{Shape}
+use Rattle.keymap_draw.specs.declared.board.Shape.TheVariants as shape
+use Rattle.keymap_draw.specs.declared.place.Column.{Column}
+use Rattle.keymap_draw.specs.declared.place.Column.TheVariants.{Base, Shift, Alt, AltShift}
+use Rattle.keymap_draw.specs.Boards.{width, height}
+use Rattle.keymap_draw.specs.Legends.{is_word}
+
+abbrev pub is_right : Column → Bool
+is_right Base = false
+is_right Shift = false
+is_right Alt = true
+is_right AltShift = true
+
+abbrev pub is_above : Column → Bool
+is_above Base = false
+is_above Shift = true
+is_above Alt = false
+is_above AltShift = true
+
+-- where the code of a key begins
+abbrev pub code_x : Shape → ℕ
+code_x shape.Enter = 24
+code_x s = 8
+
+-- the base line of the legends below
+abbrev pub low_y : Shape → ℕ
+low_y shape.Enter = 41
+low_y s = height s - 23
+
+abbrev pub middle_x : Shape → ℕ
+middle_x shape.Enter = (width shape.Enter + 12) / 2
+middle_x s = (width s - 4) / 2
+
+-- where the legend of a column stands, or one that stands alone
+abbrev pub legend_x : Shape → Column → Bool → ℕ
+legend_x s column alone = if alone then middle_x s else if is_right column then width s - 14 else 10
+
+-- the base line of a legend, which a word that stands alone has a little higher
+abbrev pub legend_y : Shape → Column → Bool → Bool → ℕ
+legend_y s column alone word =
+    if alone then (if word then height s / 2 - 2 else height s / 2 + 1)
+    else if is_above column then 20
+    else low_y s
+
+-- the letter for a word of so many characters: those for 2 to 8, of which the last is for longer ones too
+abbrev pub size_by : List ℕ → ℕ → ℕ
+size_by sizes n = slice_index sizes (min n 8 - 2)
+
+-- the class for the size of a legend
+abbrev pub size_class : List ℕ → Bool → Bool → Option ℕ
+size_class legend alone tight =
+    if is_word legend then Some (
+    if alone then size_by (codes "wwxxxuu") (length legend)
+    else if tight then size_by (codes "otyybbb") (length legend)
+    else size_by (codes "vvvoott") (length legend)
+    )
+    else if alone then Some 122
+    else None
+
+-- the class for its side: c in the middle, r on the right
+abbrev pub side_class : Column → Bool → Option ℕ
+side_class column alone = if alone then Some 99 else if is_right column then Some 114 else None
+
+-- the character that an accent gives by itself, 0 where there is none
+abbrev pub own_of : MapValue → ℕ → ℕ
+own_of m i = (accent_or_blank m i).own
+
+-- a for a column with alt
+abbrev pub plain_class : Column → Option ℕ
+plain_class column = if is_right column then Some 97 else None
+
+-- the class for the kind of a cell: e for a dead key whose accent has no character, d for any other, m for a modifier or
+-- lock
+abbrev pub kind_class : MapValue → Column → Cell → Option ℕ
+kind_class m column (Char c) = plain_class column
+kind_class m column (Act (a.DeadKey i)) = Some (if own_of m i == 0 then 101 else 100)
+kind_class m column (Act (a.Mod modifier)) = Some 109
+kind_class m column (Act (a.Lock lock)) = Some 109
+kind_class m column (Act action) = plain_class column
+
+unfoldable pub legend_classes : MapValue → Column → Cell → List ℕ → Bool → Bool → List ℕ
+legend_classes m column cell legend alone tight =
+    option_to_list (size_class legend alone tight) ++ option_to_list (side_class column alone)
+    ++ option_to_list (kind_class m column cell)

@@ -1,0 +1,192 @@
+//! What is written on a cap for a cell: nothing, a sign (one character, or a mark on a dotted circle), or a word of
+//! letters and digits.
+ghost use Rattle.std.specs.Prelude.{◌≡◌, ◌<◌, ◌≤◌, ◌+◌, ◌++◌, ◌∷◌, [], length, decimal};
+ghost use Rattle.keymap_draw.specs.Legends as spec;
+
+use crate::tables::{ACCENT_MARKS, CODED, MARKS, Range, UNSEEN_NAMES, UnseenName};
+use arrayvec::ArrayVec;
+use itoa::Buffer;
+use keymap_core::{Action, Cell, code_text};
+use keymap_text::control_name;
+
+/// The characters of a legend.
+pub(crate) type Legend = ArrayVec<char, 8>;
+
+/// The mark that stands for the letter below an accent.
+const DOTTED_CIRCLE: char = '\u{25cc}';
+
+fn push_letters(legend: &mut Legend, letters: &[u8])
+    requires { length legend.old.items + length letters.now ≤ 8 }
+    ensures { legend.new.items ≡ legend.old.items ++ letters.now }
+{
+    for letter in letters {
+        legend.push(*letter as char);
+    }
+}
+
+fn word(letters: &[u8]) -> Legend
+    requires { length letters.now ≤ 8 }
+    ensures { result.items ≡ letters.now }
+{
+    let mut legend = Legend::new();
+    push_letters(&mut legend, letters);
+    legend
+}
+
+/// Letters, and a number without leading zeros.
+fn numbered_word(letters: &[u8], number: u8) -> Legend
+    requires { length letters.now ≤ 4 }
+    ensures { result.items ≡ letters.now ++ decimal number }
+{
+    let mut digits = Buffer::new();
+    let mut legend = word(letters);
+    push_letters(&mut legend, digits.format(number).as_bytes());
+    legend
+}
+
+fn sign(c: char) -> Legend
+    ensures { result.items ≡ c ∷ [] }
+{
+    let mut legend = Legend::new();
+    legend.push(c);
+    legend
+}
+
+/// A mark on a dotted circle.
+pub(crate) fn marked(mark: char) -> Legend
+    ensures { result.items ≡ 0x25cc ∷ mark ∷ [] }
+{
+    let mut legend = Legend::new();
+    legend.push(DOTTED_CIRCLE);
+    legend.push(mark);
+    legend
+}
+
+/// Whether one of the ranges has the character.
+fn is_in(ranges: &[Range], c: char) -> bool
+    ensures { result ≡ spec.is_in ranges.now c }
+{
+    let number = u32::from(c);
+    ranges
+        .iter()
+        .any(|range| range.0 <= number && number <= range.1)
+}
+
+/// The name that the rows have for the character, filled with blanks to five bytes.
+#[tactic(auto, using(crate::proofs::Found::name_rules))]
+fn name_in(rows: &[UnseenName], c: char) -> Option<[u8; 5]>
+    ensures { result ≡ spec.name_in rows.now c }
+{
+    for row in rows {
+        if row.0 == u32::from(c) {
+            return Some(row.1);
+        }
+    }
+    None
+}
+
+/// The word of the letters before the blanks that fill a name.
+#[tactic(auto, unfolding(crate::specs::Legends::unfilled))]
+fn unfilled(name: &[u8; 5]) -> Legend
+    ensures { result.items ≡ spec.unfilled name.now }
+{
+    let mut legend = Legend::new();
+    for letter in name {
+        if *letter != b' ' {
+            legend.push(*letter as char);
+        }
+    }
+    legend
+}
+
+#[tactic(auto, unfolding(crate::specs::Legends::is_coded))]
+fn is_coded(c: char) -> bool
+    ensures { result ≡ spec.is_coded c }
+{
+    is_in(&CODED, c)
+}
+
+#[tactic(auto, unfolding(crate::specs::Legends::is_mark))]
+fn is_mark(c: char) -> bool
+    ensures { result ≡ spec.is_mark c }
+{
+    is_in(&MARKS, c)
+}
+
+#[tactic(auto, unfolding(crate::specs::Legends::unseen_name))]
+fn unseen_name(c: char) -> Option<[u8; 5]>
+    ensures { result ≡ spec.unseen_name c }
+{
+    name_in(&UNSEEN_NAMES, c)
+}
+
+/// The legend of a character that has no name.
+#[tactic(auto, unfolding(crate::specs::Legends::shown_legend))]
+fn shown_legend(c: char) -> Legend
+    ensures { result.items ≡ spec.shown_legend c }
+{
+    if is_coded(c) {
+        word(code_text(c).as_slice())
+    } else if is_mark(c) {
+        marked(c)
+    } else {
+        sign(c)
+    }
+}
+
+/// The legend of a character that is neither a control character nor the blank.
+#[tactic(auto, unfolding(crate::specs::Legends::other_legend))]
+fn other_legend(c: char) -> Legend
+    ensures { result.items ≡ spec.other_legend c }
+{
+    match unseen_name(c) {
+        Some(name) => unfilled(&name),
+        None => shown_legend(c),
+    }
+}
+
+/// The legend of a character.
+#[tactic(auto, unfolding(crate::specs::Legends::character_legend))]
+pub(crate) fn character_legend(c: char) -> Legend
+    ensures { result.items ≡ spec.character_legend c }
+{
+    match c {
+        '\0' => Legend::new(),
+        '\t' => word(b"tab"),
+        '\r' => word(b"ret"),
+        '\x01'..='\x1f' | '\x7f' => word(control_name(c as u8)),
+        ' ' => sign('\u{2423}'),
+        _ => other_legend(c),
+    }
+}
+
+/// The legend of an action.
+#[tactic(auto, unfolding(crate::specs::Legends::action_legend))]
+fn action_legend(action: Action) -> Legend
+    ensures { result.items ≡ spec.action_legend action }
+{
+    match &action {
+        Action::Nop => Legend::new(),
+        Action::Screen(screen) => numbered_word(b"scr", screen.get()),
+        Action::Function(function) => numbered_word(b"F", function.get()),
+        Action::DeadKey(accent) => marked(ACCENT_MARKS[accent.get() as usize]),
+        _ => word(action.name().as_slice()),
+    }
+}
+
+/// The legend of a cell.
+pub(crate) fn cell_legend(cell: &Cell) -> Legend
+    ensures { result.items ≡ spec.cell_legend cell.now }
+{
+    match cell {
+        Cell::Char(c) => character_legend(*c),
+        Cell::Act(action) => action_legend(*action),
+    }
+}
+
+/// Whether the legend is a word, and not a sign.
+pub(crate) fn is_word(legend: &[char]) -> bool
+    ensures { result ≡ spec.is_word legend.now }
+{
+    legend.len() >= 2 && legend[0] != DOTTED_CIRCLE
+}

@@ -14,7 +14,8 @@
 #
 # It is for any make: build.sh sees whether a source is newer than what is made, and the kit's `rt` what that changes.
 
-VERSION = 0.1.0
+# The one number to raise; tests/version.sh then tells each place that has another one.
+VERSION = 0.2.0
 PREFIX = /usr/local
 LIBDIR = $(PREFIX)/lib
 INCLUDEDIR = $(PREFIX)/include
@@ -23,6 +24,8 @@ DESTDIR =
 RT = rt
 CC = cc
 INSTALL = install
+# What commands of README leave in examples/ is not installed.
+EXAMPLE_FILES = de.kbd de.script line.numbers line.script trap.kbd type.c type.py us.kbd
 QUICK = play us.kbd line.script --typed
 FILES = examples/us.kbd examples/line.script
 PROGRAM = crates/kmap/out/kmap
@@ -42,29 +45,31 @@ ZSH_COMPLETIONS = $(SHARE)/zsh/site-functions
 EXAMPLES = $(SHARE)/examples/kmap
 DOC = $(SHARE)/doc/kmap
 
+# The shared library names the processors that it is for, so the loader refuses it on others.
 all:
-	@RT=$(RT) sh build.sh kmap out/kmap run -- --version
-	@RT=$(RT) sh build.sh kmap_c out/libkmap_c.a lib
-	@if [ -z "$$(find $(SHARED) -newer $(LIBRARY) 2> /dev/null)" ]; then \
-	    $(CC) -shared -Wl,-soname,$(SONAME) -Wl,--whole-archive $(LIBRARY) -Wl,--no-whole-archive -o $(SHARED); \
+	@RT="$(RT)" sh build.sh kmap out/kmap run -- --version
+	@RT="$(RT)" sh build.sh kmap_c out/libkmap_c.a lib
+	@if [ ! -f $(SHARED) ] || [ -n "$$(find $(LIBRARY) Makefile -newer $(SHARED))" ]; then \
+	    $(CC) -shared -Wl,-soname,$(SONAME) -Wl,-z,x86-64-v2 \
+	        -Wl,--whole-archive $(LIBRARY) -Wl,--no-whole-archive -o $(SHARED); \
 	fi
 
 # What `rt try` builds is run once and not kept, so nothing else takes it.
 quick:
 	@top=$$(pwd); for file in $(FILES); do set -- "$$@" --data "$${file##*/}=$$top/$$file"; done; \
-	    cd crates/kmap && $(RT) try "$$@" -- $(QUICK)
+	    cd crates/kmap && "$(RT)" try "$$@" -- $(QUICK)
 	@echo "nothing was proved, and no program is left: that is what make is for"
 
 test: all
-	@RT=$(RT) sh build.sh refusals out/refusals run -- read_map
+	@RT="$(RT)" sh build.sh refusals out/refusals run -- read_map
 	$(MAKE) scripts
 
 # `rt ci` builds both programs anew, each by LLVM and by Rattle's own compiler (.by-rattle), and the scripts take what it
 # leaves. It proves the C library and leaves none; what its build proves once more, of the libraries below it, the edits
 # go on with.
 check:
-	RT_JOBS="$${RT_JOBS:-$$(sh .ci/jobs)}" $(RT) ci
-	cd crates/kmap_c && $(RT) lib
+	RT_JOBS="$${RT_JOBS:-$$(sh .ci/jobs)}" "$(RT)" ci
+	cd crates/kmap_c && "$(RT)" lib
 	RT="$(RT)" RT_JOBS="$${RT_JOBS:-$$(sh .ci/jobs)}" python3 tests/edits
 	RT="$(RT)" sh tests/edits_driver.sh
 	$(MAKE) scripts
@@ -75,7 +80,9 @@ check:
 scripts:
 	sh tests/statements.sh
 	sh tests/names.sh
+	sh tests/version.sh $(PROGRAM)
 	sh tests/program.sh $(PROGRAM)
+	sh tests/draw.sh $(PROGRAM)
 	sh tests/c_library.sh $(PROGRAM) $(LIBRARY)
 	sh tests/completions.sh $(PROGRAM)
 	sh tests/manual.sh $(PROGRAM)
@@ -85,7 +92,7 @@ scripts:
 	sh tests/refused_calls.sh $(REFUSALS)
 
 bench: all
-	@RT=$(RT) sh build.sh step_costs out/step_costs run -- map 1
+	@RT="$(RT)" sh build.sh step_costs out/step_costs run -- map 1
 	sh bench/run.sh $(PROGRAM) $(STEPS)
 
 install: all
@@ -108,9 +115,9 @@ install: all
 	$(INSTALL) -m 644 completions/kmap.bash "$(BASH_COMPLETIONS)/kmap"
 	$(INSTALL) -m 644 completions/kmap.fish "$(FISH_COMPLETIONS)/kmap.fish"
 	$(INSTALL) -m 644 completions/_kmap "$(ZSH_COMPLETIONS)/_kmap"
-	$(INSTALL) -m 644 examples/* "$(EXAMPLES)"
+	for file in $(EXAMPLE_FILES); do $(INSTALL) -m 644 examples/$$file "$(EXAMPLES)" || exit 1; done
 	$(INSTALL) -m 644 README.md CHANGELOG.md LICENSE "$(DOC)"
-	$(INSTALL) -m 644 docs/*.md "$(DOC)/docs"
+	$(INSTALL) -m 644 docs/*.md docs/*.svg "$(DOC)/docs"
 
 # Folders that other programs share stay, and so does what a user put into the program's own.
 uninstall:
@@ -118,8 +125,8 @@ uninstall:
 	rm -f "$(LIB)/libkmap.a" "$(LIB)/libkmap.so" "$(LIB)/$(SONAME)" "$(LIB)/libkmap.so.$(VERSION)"
 	rm -f "$(MAN)/man1/kmap.1" "$(MAN)/man3/kmap.3" "$(MAN)/man5/kmap.5"
 	rm -f "$(BASH_COMPLETIONS)/kmap" "$(FISH_COMPLETIONS)/kmap.fish" "$(ZSH_COMPLETIONS)/_kmap"
-	for file in examples/*; do rm -f "$(EXAMPLES)/$${file#examples/}"; done
-	for file in README.md CHANGELOG.md LICENSE docs/*.md; do rm -f "$(DOC)/$$file"; done
+	for file in $(EXAMPLE_FILES); do rm -f "$(EXAMPLES)/$$file"; done
+	for file in README.md CHANGELOG.md LICENSE docs/*.md docs/*.svg; do rm -f "$(DOC)/$$file"; done
 	for folder in "$(EXAMPLES)" "$(DOC)/docs" "$(DOC)"; do rmdir "$$folder" 2> /dev/null || true; done
 
 # The same bytes for the same files: names in order, and no time, owner or name of this machine.

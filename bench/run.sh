@@ -1,8 +1,8 @@
 #!/bin/sh
 # Measures the program on large inputs: what a byte of text and an event of a script cost, how these costs grow from a
 # tenth of the largest size to the whole, how many reads and writes a run makes, what the longest search for a
-# demonstration costs, what the search of a keymap and that between two cost, what the script of a sentence costs, and
-# what an event costs over a keymap in memory and over its tables.
+# demonstration costs, what the search of a keymap and that between two cost, what the script of a sentence costs, what
+# a picture costs, and what an event costs over a keymap in memory and over its tables.
 #
 # usage: run.sh PROGRAM STEPS
 # STEPS is the program of crates/step_costs.
@@ -211,6 +211,10 @@ typed=$(cost play --typed "$keymap" typing.script)
 echo "sentence of $(wc -c < sentence) bytes: $typing $unit for its script of $(wc -c < typing.script) bytes, which is" \
     "$(per "$typing" 0 "$playing") times what playing that costs, and $(per "$typing" 0 "$typed") times with --typed"
 echo "  $(transfers type "$keymap" sentence)"
+
+echo "picture of us.kbd: $(cost draw "$keymap") $unit, wanted at most 4000000 instructions;" \
+    "$("$program" draw "$keymap" | wc -c) bytes"
+echo "  $(transfers draw "$keymap")"
 
 # Ten thousand rounds of eight events, without one round.
 program=$steps

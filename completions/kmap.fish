@@ -17,6 +17,7 @@ complete -c kmap -n '__kmap_after' -a play -d 'Prints what the console answers t
 complete -c kmap -n '__kmap_after' -a type -d 'Prints a script of key presses that types a sentence'
 complete -c kmap -n '__kmap_after' -a compile -d 'Writes the table file of a keymap text'
 complete -c kmap -n '__kmap_after' -a dump -d 'Prints a table file as keymap text'
+complete -c kmap -n '__kmap_after' -a draw -d 'Draws a keymap as one SVG picture'
 complete -c kmap -n '__kmap_after' -a help -d 'Print this message or the help of the given subcommand(s)'
 complete -c kmap -n '__kmap_after' -s h -l help -d 'Print help'
 complete -c kmap -n '__kmap_after' -s V -l version -d 'Print version'
@@ -39,6 +40,9 @@ complete -c kmap -n '__kmap_after compile' -s h -l help -d 'Print help'
 complete -c kmap -n '__kmap_after dump' -l narrow -d 'Reads a narrow file'
 complete -c kmap -n '__kmap_after dump' -s h -l help -d 'Print help'
 
+complete -c kmap -n '__kmap_after draw' -l ansi -d 'Draws a board of 104 keys in place of 105'
+complete -c kmap -n '__kmap_after draw' -s h -l help -d 'Print help'
+
 complete -c kmap -n '__kmap_after help' -f
 complete -c kmap -n '__kmap_after help' -a check
 complete -c kmap -n '__kmap_after help' -a search
@@ -46,4 +50,5 @@ complete -c kmap -n '__kmap_after help' -a play
 complete -c kmap -n '__kmap_after help' -a type
 complete -c kmap -n '__kmap_after help' -a compile
 complete -c kmap -n '__kmap_after help' -a dump
+complete -c kmap -n '__kmap_after help' -a draw
 complete -c kmap -n '__kmap_after help' -a help

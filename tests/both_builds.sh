@@ -85,6 +85,8 @@ texts() {
     same input check --show /dev/stdin
     same input search /dev/stdin
     same input search /dev/stdin --next ../us.kbd
+    same input draw /dev/stdin
+    same input draw --ansi /dev/stdin
     same input compile /dev/stdin made
     same input compile --narrow /dev/stdin made
     same input play /dev/stdin ../line.script

@@ -38,9 +38,6 @@ compiled() {
     $cc -std=c99 -Wall -Wextra -Werror -pedantic -I "$top/include" "$@" "$library"
 }
 
-version=$("$program" --version | sed -n 's/^kmap \([0-9.]*\)$/\1/p')
-holds 'kmap.pc is of this version' grep -qx "Version: $version" "$top/include/kmap.pc"
-
 if is_there nm; then
     nm -u "$library" | awk '$1 == "U" { print $2 }' | sort -u > wanted_by_library
     wanted=$(grep -vxE 'memcpy|memmove|memset' wanted_by_library)

@@ -67,9 +67,9 @@ follows() {
     command -v git > /dev/null && git init -q .
     mkdir "$folder/work/.blocks"
     (cd .blocks && blocks "$top/$1")
-    for run in .blocks/run.* .blocks/script.*; do
-        number=${run##*.}
-        [ -f "$run" ] || continue
+    for number in $(find .blocks -name 'run.*' -o -name 'script.*' | sed 's/.*\.//' | sort -n); do
+        run=.blocks/run.$number
+        [ -f "$run" ] || run=.blocks/script.$number
         lacks=$(missing "$run")
         if [ -n "$lacks" ]; then
             echo "skipped: there is no $lacks"

@@ -1,7 +1,8 @@
 #!/bin/sh
 # Installs the program into an empty folder and takes it away again, with GNU make and with BSD make. In place of the
-# kit's rt stands a program that notes that it was asked to build, or one that fails. The archive of `make dist` is
-# unpacked elsewhere, and its program run.
+# kit's rt stands a program that notes that it was asked to build, or one that fails. Then the same from a tree that may
+# only be read, in a folder with blanks in its name, as a user. The archive of `make dist` is unpacked elsewhere, and
+# its program run.
 #
 # usage: install.sh, with the program and the C library already built
 # The last line is 'N passed, M failed'; the status is 0 where none failed.
@@ -9,7 +10,7 @@
 top=$(cd "$(dirname "$0")/.." && pwd)
 . "$top/tests/shared.sh"
 folder=$(mktemp -d) || exit 1
-trap 'rm -rf "$folder"' EXIT
+trap 'chmod -R u+w "$folder"; rm -rf "$folder"' EXIT
 cd "$top" || exit 1
 # What a make that runs this script was told is not for the ones below.
 unset MAKEFLAGS MFLAGS MAKELEVEL
@@ -38,6 +39,7 @@ share/doc/kmap/docs/FORMATS.md
 share/doc/kmap/docs/GUIDE.md
 share/doc/kmap/docs/PROOFS.md
 share/doc/kmap/docs/TRANSLATION.md
+share/doc/kmap/docs/de.svg
 share/examples/kmap/de.kbd
 share/examples/kmap/de.script
 share/examples/kmap/line.numbers
@@ -57,7 +59,7 @@ END
 made() {
     tool=$1 kit=$2
     shift 2
-    "$tool" RT="'$kit'" DESTDIR="$place" PREFIX=/opt/kmap "$@" > "$folder/said" 2>&1
+    "$tool" RT="$kit" DESTDIR="$place" PREFIX=/opt/kmap "$@" > "$folder/said" 2>&1
 }
 
 # refused MAKE RT TARGET: as `made`, of a target that cannot be made
@@ -114,14 +116,62 @@ installs() {
     rm -f "$folder/asked"
 }
 
+# copies: copies this repository with what was built into a folder that may only be read; one who tried the examples
+# there has left a file beside them, which is not to be installed
+copies() {
+    copy="$folder/a tree to read"
+    mkdir "$copy"
+    tar -c --exclude ./.git --exclude out . | tar -x -C "$copy"
+    for file in crates/kmap/out/kmap crates/kmap_c/out/libkmap_c.a crates/kmap_c/out/libkmap.so; do
+        mkdir -p "$copy/${file%/*}"
+        cp -p "$file" "$copy/$file"
+    done
+    : > "$copy/examples/us.tables"
+    chmod -R a+rX,a-w "$copy"
+    chmod a+rx "$folder"
+}
+
+# user_made MAKE TARGET: runs a target in the copy, as a user, with a kit that fails
+user_made() {
+    {
+        echo "cd '$copy' &&"
+        echo "    $1 RT=false DESTDIR='$folder/a user' PREFIX='/opt/the kmap' $2"
+    } > "$folder/by user"
+    if [ "$(id -u)" -eq 0 ]; then
+        su -s /bin/sh nobody -c "sh '$folder/by user'" > "$folder/said" 2>&1
+    else
+        sh "$folder/by user" > "$folder/said" 2>&1
+    fi
+}
+
+# installs_for_user MAKE: installing from the copy and taking away, in paths with blanks
+installs_for_user() {
+    mkdir "$folder/a user"
+    chmod a+rwx "$folder/a user"
+    theirs="$folder/a user/opt/the kmap"
+    holds "$1 installs from a tree that may only be read" user_made "$1" install
+    (cd "$theirs" && find . ! -type d) | sed 's/^\.\///' | LC_ALL=C sort > "$folder/got"
+    same_text "$1 installs these files for a user" "$folder/wanted" "$folder/got"
+    holds "$1 installs a kmap.pc that names a path with blanks" \
+        grep -qx 'prefix=/opt/the kmap' "$theirs/lib/pkgconfig/kmap.pc"
+    if is_there pkg-config; then
+        said=$(PKG_CONFIG_PATH="$theirs/lib/pkgconfig" pkg-config --cflags --libs kmap)
+        holds "pkg-config quotes the blanks: $said" \
+            [ "${said% }" = '-I/opt/the\ kmap/include -L/opt/the\ kmap/lib -lkmap' ]
+    fi
+    holds "$1 uninstalls for a user" user_made "$1" uninstall
+    holds "$1 then leaves nothing" [ -z "$(find "$folder/a user" ! -type d)" ]
+    rm -rf "$folder/a user"
+}
+
 # archives: what `make dist` puts together, twice the same, and run where it was unpacked
 archives() {
     archive=kmap-$version-x86_64-linux.tar.gz
-    holds 'make dist puts an archive together' make RT="'$folder/built'" dist > "$folder/said"
+    holds 'make dist puts an archive together' make RT="$folder/built" dist > "$folder/said"
     holds 'it says its name' grep -qx "$archive" "$folder/said"
     mv "$archive" "$folder"
     sleep 1
-    holds 'make dist does it again' make RT="'$folder/built'" dist > "$folder/said"
+    holds 'make dist does it again' make RT="$folder/built" dist > "$folder/said"
     holds 'the same bytes for the same files' cmp "$archive" "$folder/$archive"
     rm -f "$archive"
     (cd "$folder" && tar -xf "$archive")
@@ -132,12 +182,38 @@ archives() {
     same_text 'the program of the archive types the line' "$folder/typed" "$folder/got"
 }
 
-if is_there make; then
-    installs make
-    archives
+# old_processor COMMAND..: on a processor without SSE4.2 the command fails with a line that tells of it
+old_processor() {
+    ! qemu-x86_64 -cpu core2duo "$@" > "$folder/said" 2>&1 && grep -q 'x86-64-v2' "$folder/said"
+}
+
+# old_loader LIBRARY: the loader refuses the library there; a list of libraries to load takes no path with blanks
+old_loader() {
+    (cd "${1%/*}" && qemu-x86_64 -cpu core2duo -E LD_PRELOAD="./${1##*/}" /bin/true) 2>&1 |
+        grep -q 'CPU ISA level is lower than required'
+}
+
+for tool in make bmake; do
+    if is_there "$tool"; then
+        installs "$tool"
+    fi
+done
+if is_there readelf; then
+    holds 'the shared library says which processors it is for' \
+        [ "$(readelf -n crates/kmap_c/out/libkmap.so | grep -c 'x86-64-v2')" -eq 1 ]
 fi
-if is_there bmake; then
-    installs bmake
+if is_there qemu-x86_64; then
+    holds 'the program tells an old processor what it lacks' old_processor crates/kmap/out/kmap --version
+    holds 'the loader refuses the shared library on an old processor' old_loader crates/kmap_c/out/libkmap.so
+fi
+copies
+for tool in make bmake; do
+    if is_there "$tool"; then
+        installs_for_user "$tool"
+    fi
+done
+if is_there make; then
+    archives
 fi
 
 counted

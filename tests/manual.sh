@@ -1,6 +1,6 @@
 #!/bin/sh
-# Compares the manual pages and the list of changes with the built program: the version is the same everywhere, the
-# pages name every command and option of the help and every kind of fault, and mandoc has nothing to say about them.
+# Compares the manual pages with the built program: the pages name every command and option of the help and every kind
+# of fault, and mandoc has nothing to say about them.
 #
 # usage: manual.sh PROGRAM
 # The last line is 'N passed, M failed'; the status is 0 where none failed.
@@ -15,14 +15,6 @@ top=$(cd "$(dirname "$0")/.." && pwd)
 folder=$(mktemp -d) || exit 1
 trap 'rm -rf "$folder"' EXIT
 cd "$top" || exit 1
-
-version=$("$program" --version | sed -n 's/^kmap \([0-9.]*\)$/\1/p')
-holds 'the program has a version' [ -n "$version" ]
-holds 'the newest change is of this version' [ "$(sed -n 's/^## //p' CHANGELOG.md | head -n 1)" = "$version" ]
-holds 'the Makefile is of this version' grep -qx "VERSION = $version" Makefile
-for page in man/kmap.1 man/kmap.3 man/kmap.5; do
-    holds "$page is of this version" grep -qx "This page is that of version $version\." "$page"
-done
 
 # Options are written in a page as `Fl h` and `Fl Fl show`.
 "$program" --help > "$folder/help"

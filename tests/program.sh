@@ -390,6 +390,7 @@ fails_to_write() {
 fails_to_write 'checks' check shift
 fails_to_write 'shows' check --show "$examples/trap.kbd"
 fails_to_write 'dumps' dump tables
+fails_to_write 'draws' draw letter
 fails_to_write 'plays' play letter tap
 fails_to_write 'plays two' play caps load --next shift
 fails_to_write 'types' play letter tap --typed
@@ -422,6 +423,12 @@ for subcommand in '' $(commands_in help); do
     tells "short help of: $subcommand" 0 stdout stderr ${subcommand:+"$subcommand"} -h
     holds "the same short help of: $subcommand" cmp -s help stdout
 done
+"$program" help help > help
+for option in --help -h; do
+    tells "help $option" 0 stdout stderr help "$option"
+    holds "help $option is help on help" cmp -s help stdout
+done
+tells 'an unknown option of help' 2 stderr stdout help --loud
 tells 'no words' 2 stderr stdout
 tells 'an unknown word' 2 stderr stdout jump
 tells 'a word too few' 2 stderr stdout play letter

@@ -91,9 +91,14 @@ refuses dump_run
 refuses dump_narrow_run
 # A vector that is refused room to grow asks for what it needs now, so a single refusal may have no effect.
 rest=REFUSE_REST=1
+refuses definitions
+refuses diagnostics
+refuses diagnostics-none
+refuses diagnostics-faulty
 refuses characters
 refuses characters-untyped fault
 refuses type_run
+refuses draw_run
 rest=
 takes_none characters-not-text fault
 

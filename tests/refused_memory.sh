@@ -118,6 +118,8 @@ refuses 0 type letter sentence
 goes_on=
 refuses 0 dump tables
 refuses 0 dump small --narrow
+refuses 0 draw shift
+refuses 0 draw trap --ansi
 refuses 0 compile shift made
 refuses 0 compile shift made --narrow
 

@@ -77,13 +77,6 @@ taken-holding None b a h =
     (f, ap (λ x. unless_nop x) f ∙ offers-holding a)
 taken-holding (Some held) b a h = taken_over-same held b a (same_action held b) refl h
 
--- the upper slots are live once ashift or alock is on
-pub upper-live_by : (m : MapValue) (k : ℕ) (a : Holding)
-    → ((x : Cell) → StandsIn m k x → x ≡ Act (holding_action a) → IsUpperLive m) → k < 128
-    → IsCellOf m k (Act (holding_action a)) → IsUpperLive m
-upper-live_by m k a f lt (inl s) = f (Act (holding_action a)) s refl
-upper-live_by m k a f lt (inr s) = s.0
-
 -- what is held makes the upper half live, where each of its cells does
 pub held-upper : (m : MapValue) (a : Holding)
     → ((k : ℕ) → k < 128 → StandsIn m k (Act (holding_action a)) → IsUpperLive m) → (r : List ResolvedEvent)

@@ -3,7 +3,7 @@ use Prim.Native.Nat.{zero, suc}
 use Rattle.std.proofs.Common.{◌≡◌, ℕ, ◌<◌, Bool, true, false, eqb, List, length, get_or, set, replicate, Option, None}
 use Rattle.std.proofs.Common.{Some, refl, ap, sym, ◌∙◌, if◌then◌else◌}
 use Rattle.std.specs.Prelude.{◌==◌, ◌≢◌, option_map}
-use Rattle.std.proofs.lemmas.Bool.{eqb-true, true≢false}
+use Rattle.std.proofs.lemmas.Bool.{eqb-true}
 use Rattle.keymap_core.proofs.SameActions.{same_action-true}
 use Rattle.keymap_core.specs.declared.action.Action.{Action}
 use Rattle.keymap_core.specs.declared.action.Action.TheVariants as act
@@ -22,19 +22,6 @@ action_of_byte_some code false e not_zero = rw e refl
 -- a code other than 0 is that of its action
 action_of_byte-some : (code : ℕ) → code ≢ 0 → action_of_byte code ≡ action_of code
 action_of_byte-some code not_zero = action_of_byte_some code (eqb code 0) refl not_zero
-
--- the code of an action other than nop gives the action, by the test for 0
-action_of_byte_by : (a : Action) (b : Bool) → eqb (code_of a) 0 ≡ b → same_action a act.Nop ≡ false
-    → action_of (code_of a) ≡ Some a → action_of_byte (code_of a) ≡ Some a
-action_of_byte_by a true e not_nop read =
-    let s : a ≡ act.Nop = some_some a act.Nop (sym read ∙ ap action_of (eqb-true (code_of a) 0 e)) in
-    absurd (true≢false (sym (ap (λ x. same_action x act.Nop) s) ∙ not_nop))
-action_of_byte_by a false e not_nop read = rw e read
-
--- the code of an action other than nop gives the action
-pub action_of_byte-code : (a : Action) → same_action a act.Nop ≡ false → action_of (code_of a) ≡ Some a
-    → action_of_byte (code_of a) ≡ Some a
-action_of_byte-code a not_nop read = action_of_byte_by a (eqb (code_of a) 0) refl not_nop read
 
 -- the byte of another action
 other_code : (b : Bool) (held expected : Action) → same_action held expected ≡ b → code_of held ≢ code_of expected

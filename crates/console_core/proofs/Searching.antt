@@ -112,15 +112,6 @@ from-cases u s place n p es now (more, e, all) j x at =
           inr (le, all-at (IsFrom u s place n p) more k.0 x all k.1)
     ]
 
--- entries that are added make the list grow
-pub added-grows : (u : Under) (s : State) (place n p : ℕ) (es now : Entries) → AreAdded u s place n p es now
-    → Grows es now
-added-grows u s place n p es now a = (a.0, a.1)
-
--- nothing is added
-pub added-none : (u : Under) (s : State) (place n p : ℕ) (es : Entries) → AreAdded u s place n p es es
-added-none u s place n p es = ([], sym (append-nil es), All-nil (IsFrom u s place n p))
-
 -- what is added twice is added
 pub added-again : (u : Under) (s : State) (place n p : ℕ) (a b c : Entries) → AreAdded u s place n p a b
     → AreAdded u s place n p b c → AreAdded u s place n p a c
@@ -326,15 +317,6 @@ order-next es level p order j x at =
       (λ below. let le : x.1.presses ≤ p = order-within es level p order j x at in omega (arith, le)),
       (λ le. absurd (omega (arith, lt, le))),
     )
-
--- entries that are added are within the number of presses
-pub within-grows : (u : Under) (s : State) (place n p : ℕ) (es now : Entries) → AreAdded u s place n p es now
-    → AreWithin es p → AreWithin now p
-within-grows u s place n p es now added within j x at =
-    elim (from-cases u s place n p es now added j x at) [
-      | inl old ↦ within j x old
-      | inr (after, from) ↦ let e : x.1.presses ≡ p = from.1 in omega (arith, e)
-    ]
 
 -- what a press of a key that looks up a modifier, or a lock, leads to
 look_mod : (i j : Modifier) (x : Cell) → x ≡ Act (act.Mod i) → x ≡ Act (act.Mod j) → i ≡ j
@@ -609,10 +591,6 @@ but_scroll on Alt = on Alt
 -- the state without the scroll lock, which no look asks for
 abbrev unscrolled : State → State
 unscrolled s = record { holder = s.holder; is_locked = but_scroll s.is_locked; is_second = s.is_second }
-
--- a look doesn't depend on the scroll lock
-look-unscrolled : (u : Under) (s : State) (k : ℕ) → look_in u s k ≡ look_in u (unscrolled s) k
-look-unscrolled u s k = refl
 
 -- moves don't depend on the scroll lock
 moves-unscrolled : (u : Under) (s t : State) (move : Move) → unscrolled t ≡ unscrolled s → IsMove u s move

@@ -43,6 +43,7 @@ fn slot<S: Store>(store: &S, key: KeyCode) -> u8
     }
 }
 
+/// What a press of the key looks up. `Held::look` says the same of a state of the search, which is no store.
 fn look<K: Keymap, S: Store>(store: &S, map: &K, key: KeyCode) -> Cell
     ensures { (m : MapValue) → K.shows map.now m
         → result ≡ look_with m (λ i. (S.kept store.now).mark (Holding.Mod i)) (S.kept store.now).lock key }

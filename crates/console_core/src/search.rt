@@ -1,6 +1,6 @@
 //! The search for sticking modifiers over the states that presses, releases and loads lead to, by the number of
 //! presses.
-ghost use Rattle.std.specs.Prelude.{◌≡◌, ◌+◌, ◌<◌, ◌≤◌, ◌⊎◌, ◌++◌, ◌∷◌, ℕ, List, [], None, Some, All, length, reverse};
+ghost use Rattle.std.specs.Prelude.{◌≡◌, ◌+◌, ◌<◌, ◌≤◌, ◌⊎◌, ◌++◌, ◌∷◌, ℕ, [], None, Some, length, reverse};
 ghost use Rattle.std.specs.Prelude.{slice_get, OnOk, IfOk, IfSome};
 ghost use Rattle.keymap_core.specs.Numbers.{key_count};
 ghost use Rattle.keymap_core.specs.declared.action.Modifier.{Modifier as ModifierValue};

@@ -1,5 +1,5 @@
 -- Which keys have a finding.
-use Rattle.std.proofs.Common.{◌≡◌, ℕ, Bool, ◌&&◌, Option, Some, None, refl}
+use Rattle.std.proofs.Common.{◌≡◌, ℕ, ◌&&◌, Option, Some, None, refl}
 use Rattle.std.specs.Option.{is_some}
 use Rattle.keymap_core.specs.Maps.{MapValue}
 use Rattle.keymap_check.specs.declared.kind.Kind.TheVariants as kind

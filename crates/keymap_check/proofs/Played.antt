@@ -1,6 +1,6 @@
 -- What is left of a script once modifiers are off, and its events with the newest first.
 use Prim.Native.Nat.{zero, suc}
-use Rattle.std.proofs.Common.{◌≡◌, ℕ, ◌+◌, Bool, true, false, ◌&&◌, ◌||◌, not, List, [], ◌∷◌, ◌++◌, Option, Some, None}
+use Rattle.std.proofs.Common.{◌≡◌, ℕ, ◌+◌, Bool, true, false, ◌&&◌, ◌||◌, List, [], ◌∷◌, ◌++◌, Option, Some, None}
 use Rattle.std.proofs.Common.{refl, ap, sym, ◌∙◌, if◌then◌else◌}
 use Rattle.std.specs.Prelude.{reverse}
 use Rattle.std.proofs.lemmas.Bool.{true≢false}
@@ -17,7 +17,7 @@ use Rattle.console_core.proofs.Deliveries.{reverse-push}
 use Rattle.keymap_check.specs.Below.{gathered}
 use Rattle.keymap_check.specs.Scripts.{event_if, event_at, is_chosen, bit_key_at, events_of, start_of, script}
 use Rattle.keymap_check.specs.Scripts.{is_some_on}
-use Rattle.keymap_check.proofs.Counting.{gathered-none, gathered-more}
+use Rattle.keymap_check.proofs.Counting.{gathered-more}
 
 -- the events of a script, the newest first
 pub played : (keys : List (Option ℕ)) (k a b : ℕ)

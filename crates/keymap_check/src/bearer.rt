@@ -6,7 +6,7 @@ ghost use Rattle.keymap_core.specs.Numbers.{key_count};
 
 use crate::kind::Kind;
 use crate::survey::Survey;
-use keymap_core::{Holding, KEY_COUNT, KeyCode, Lock};
+use keymap_core::{Holding, KEY_COUNT, KeyCode};
 
 /// Which key bears a holding action.
 #[derive(Clone, Copy, Debug, PartialEq, Eq)]

@@ -3,7 +3,6 @@ ghost use Rattle.std.specs.Prelude.{◌≡◌, ◌<◌, MatchOption, [], ◌∷�
 ghost use Rattle.keymap_check.specs.Cells.{place_at as place_of};
 ghost use Rattle.keymap_check.specs.Computed.{findings_at, findings_of};
 ghost use Rattle.keymap_check.specs.Scripts.{has_some};
-ghost use Rattle.arrayvec.specs.ArrayVec.{array_vec_len};
 ghost use Rattle.keymap_core.specs.Numbers.{key_count};
 
 use crate::bearer::key_with;

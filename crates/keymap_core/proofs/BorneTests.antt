@@ -210,15 +210,3 @@ pub half-end : (m : MapValue) (a : Action) (from key : ℕ) → key ≡ 128
     → any_below (λ k. has_in_slot m a (k + from)) key ≡ false → has_in_half m a from ≡ false
 unfolding has_in_half
 half-end m a from key e f = ap (λ n. any_below (λ k. has_in_slot m a (k + from)) n) (sym e) ∙ f
-
--- the tests, as the code makes them
-pub live-by : (m : MapValue)
-    → is_upper_live m ≡ (has_in_half m (act.Mod modifier.AltShift) 0 || has_in_half m (act.Lock lock.Alt) 0)
-unfolding is_upper_live
-live-by m = refl
-
--- the test by its parts: the lower half, and the upper half where that is live
-pub borne-by : (m : MapValue) (a : Holding)
-    → is_borne m a ≡ (has_in_half m (holding_action a) 0 || (is_upper_live m && has_in_half m (holding_action a) 128))
-unfolding is_borne
-borne-by m a = refl

@@ -1,9 +1,8 @@
 -- A text that goes to a writer through a buffer.
-use Rattle.std.proofs.Common.{◌≡◌, ℕ, ◌+◌, ◌<◌, ◌≤◌, List, [], ◌++◌, length, take, refl, sym, ap, ◌∙◌, append_assoc}
+use Rattle.std.proofs.Common.{◌≡◌, ℕ, ◌+◌, ◌<◌, ◌≤◌, List, [], ◌++◌, length, take, sym, ap, ◌∙◌, append_assoc}
 use Rattle.std.proofs.Common.{append-nil, arith, length-append, subst}
 use Rattle.std.specs.Prelude.{Option, None, Some, Result, Ok, Err, IsErrAnd, MatchResult}
 use Rattle.std.proofs.lemmas.List.{take-append-le}
-use Rattle.std.proofs.Math.Seq.{take-append-add}
 use Rattle.std.specs.Io.KnownBytes.{Appends}
 use Rattle.keymap_core.specs.Streams.{StreamValue, Gathers, StopsIn}
 
@@ -39,24 +38,6 @@ Gathers-more {before = before} after piece g counted grown = record {
   counted = counted ∙ g.counted;
   whole = rw grown (ap (λ v. v ++ piece) g.whole ∙ append_assoc g.front before.waiting piece);
 }
-
--- The writer failed within the buffer.
-pub Gathers-stops : {start mid : Option (List ℕ)} (new : Option (List ℕ)) {before : StreamValue} {text : List ℕ} (w : ℕ)
-    (rest : List ℕ)
-    → Gathers start mid before text
-    → ((k : ℕ) × (k < length before.waiting) × (w ≡ before.written + k) × Appends mid new (take k before.waiting))
-    → StopsIn start new (text ++ rest) w
-Gathers-stops {start = start} {mid = mid} new {before = before} {text = text} w rest g fault =
-    let buffer = before.waiting in
-    let k = fault.0 in
-    let short : k ≤ length buffer = omega (arith, fault.1) in
-    let counted : w ≡ length g.front + k = omega (arith, fault.2, g.counted) in
-    let all : text ++ rest ≡ g.front ++ (buffer ++ rest) =
-    ap (λ v. v ++ rest) g.whole ∙ append_assoc g.front buffer rest in
-    let front : take w (text ++ rest) ≡ g.front ++ take k buffer =
-    rw (counted, all, take-append-add g.front (buffer ++ rest) k, take-append-le k buffer rest short) refl in
-    let long : length (text ++ rest) ≡ length g.front + (length buffer + length rest) = rw (all) (simp length-append) in
-    (omega (arith, fault.1, counted), rw front (Appends-trans start mid new g.front (take k buffer) g.taken fault.3))
 
 -- The same text, written in another way.
 pub Gathers-same : {start now : Option (List ℕ)} {stream : StreamValue} (text : List ℕ) {same : List ℕ} → text ≡ same

@@ -3,6 +3,7 @@ pub mod Actions
 pub mod Bearers
 pub mod Borne
 pub mod Bounds
+pub mod CodePoints
 pub mod Devices
 pub mod Inner
 pub mod Maps

@@ -1,7 +1,7 @@
 //! The devices that bytes are read from and written to. Their failures are kept, so that one that was passed over can
 //! be seen afterwards.
-ghost use Rattle.std.specs.Prelude.{◌≡◌, ℕ, ◌<◌, ◌≤◌, ◌||◌, Bool, List, length, take, IfOk, OnErr, OnOk, true, is_err};
-ghost use Rattle.std.specs.Io.KnownBytes.{Consumes, IsAtEnd, WriteAppends};
+ghost use Rattle.std.specs.Prelude.{◌≡◌, ℕ, ◌<◌, ◌≤◌, ◌||◌, Bool, List, length, IfOk, is_err};
+ghost use Rattle.std.specs.Io.KnownBytes.{WriteAppends};
 ghost use Rattle.std.specs.Prelude.{Option};
 ghost use Rattle.keymap_core.specs.Devices.{ReadTakes};
 

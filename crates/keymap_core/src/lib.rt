@@ -16,6 +16,7 @@
 mod accent;
 mod action;
 mod bearers;
+mod code_point;
 mod device;
 mod entry;
 mod from_std;
@@ -36,6 +37,7 @@ pub use action::{
     ScreenNumber,
 };
 pub use bearers::is_borne_in;
+pub use code_point::{code_digits, code_text};
 pub use device::{Failed, Read, Write};
 pub use entry::{Cell, Entry, LockFlag};
 pub use from_std::FromStd;

@@ -1,5 +1,5 @@
 //! The names of the actions, as keymap(5) writes them.
-ghost use Rattle.std.specs.Prelude.{◌≡◌, ◌≤◌, ◌<◌, ◌++◌, [], length, map, codes, slice_index_or};
+ghost use Rattle.std.specs.Prelude.{◌≡◌, ◌≤◌, ◌<◌, ◌++◌, [], length, map, slice_index_or};
 ghost use Rattle.std.specs.Char.{to_ascii_lowercase};
 ghost use Rattle.keymap_core.specs.Actions.{name_of, letters_of, two_digits, accent_names};
 

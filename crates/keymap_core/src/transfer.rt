@@ -1,8 +1,7 @@
 //! Loops over devices: a whole text is written and the bytes of a reader are gathered. A failure ends a loop, and
 //! nothing is tried again.
-ghost use Rattle.std.specs.Prelude.{◌≡◌, ℕ, ◌+◌, ◌^◌, ◌<◌, ◌≤◌, ◌||◌, List, length, take, IfOk, IfErr, IfSome, OnErr};
-ghost use Rattle.std.specs.Prelude.{OnOk, true, is_err, vec_len, MatchResult};
-ghost use Rattle.std.specs.Io.KnownBytes.{Consumes, IsAtEnd, Appends};
+ghost use Rattle.std.specs.Prelude.{◌≡◌, ◌+◌, ◌^◌, ◌<◌, ◌≤◌, ◌||◌, length, IfOk, IfErr};
+ghost use Rattle.std.specs.Prelude.{is_err};
 ghost use Rattle.keymap_core.specs.Devices.{WritesText, PutsPiece};
 ghost use Rattle.keymap_core.specs.Transfers.{ReadsUpTo, IsDeviceFault, blames_reader};
 

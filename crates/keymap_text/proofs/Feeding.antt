@@ -1,5 +1,5 @@
 -- A text that is read from a device, piece by piece.
-use Rattle.std.proofs.Common.{◌≡◌, ℕ, zero, suc, ◌+◌, ◌≤◌, ◌<◌, ◌||◌, Bool, List, [], ◌∷◌, ◌++◌, length, take, refl}
+use Rattle.std.proofs.Common.{◌≡◌, ℕ, zero, suc, ◌+◌, ◌≤◌, ◌<◌, ◌||◌, List, [], ◌∷◌, ◌++◌, length, take, refl}
 use Rattle.std.proofs.Common.{sym, ◌∙◌, ap, subst, arith, Option, Some, None, Result, Ok, Err, length-append}
 use Rattle.std.proofs.Common.{append-nil, IfErr}
 use mathlib.Core.Logic.{inl, inr}
@@ -19,7 +19,6 @@ use Rattle.keymap_text.specs.Meaning.{Concludes}
 use Rattle.keymap_text.specs.Standing.{StandsAfter, FedAfter}
 use Rattle.keymap_text.specs.Sources.{limit, HasNoEarlyFault, TakesWhole, FailsInside, TextGoesPast, ReadsMap}
 use Rattle.keymap_text.specs.Sources.{StopsAtOnce}
-use Rattle.keymap_text.specs.Sources.{blames_reader}
 use Rattle.keymap_text.proofs.Verdicts.{spells_from, fault_or_map}
 
 -- The reader stands after the bytes that the device gave, which have no early fault.
@@ -102,14 +101,6 @@ fed_whole {a = a} {b = b} {n = n} c buffer result fed few z h e k = concluded a 
   end = e;
 })
 
--- the end of a text blames no device
-pub no_device : (result : Result MapValue TextError) (text : List ℕ) (b : Bool) → Concludes result text
-    → (blames_reader result || b) ≡ b
-no_device (Ok m) text b h = refl
-no_device (Err errors.Memory) text b h = absurd h
-no_device (Err (errors.Read f)) text b h = absurd h
-no_device (Err (errors.Fault f)) text b h = refl
-
 -- the device fails after these bytes
 pub fed_fails : {a b : Option (List ℕ)} {r : Progress} {taken : ℕ} → (c : Option (List ℕ)) → (offset : ℕ)
     → (fed : IsFed a b r taken) → taken ≡ offset → taken ≤ limit → Keeps b c
@@ -176,7 +167,3 @@ at_once_whole {a = a} {b = b} {n = n} c buffer (Err (errors.Fault f)) fed z h =
       few = omega arith;
       sound = fed.sound;
     }
-
--- a fault of the device says nothing more
-pub at_once_read : (a c : Option (List ℕ)) (e : TextError) (f : ReadFault) → e ≡ errors.Read f → StopsAtOnce a c e
-at_once_read a c e f h = subst (λ (e : TextError). StopsAtOnce a c e) (sym h) tt

@@ -53,10 +53,6 @@ lexes_both {t = t} {u = u} {is = is} {js = js} a b s = record {
     far : (q : ℕ) → q + length t + length u ≡ q + length (t ++ u)
     far q = omega (arith, length-append t u)
 
--- a blank is no letter or digit
-blank_word : (c : ℕ) → is_blank c ≡ true → is_word c ≡ false
-blank_word c h = grind (arith, nat_tests)
-
 -- a blank is no token
 pub lexes_blank : (P : List ℕ → Type 0) (c : ℕ) → is_blank c ≡ true → Lexes P (c ∷ []) []
 lexes_blank P c h =

@@ -1,6 +1,6 @@
 -- Lines: one more than the line feeds before a place.
 use Rattle.std.proofs.Common.{◌≡◌, ℕ, zero, suc, ◌+◌, ◌-◌, ◌≤◌, ◌==◌, Bool, true, false, cond, List, [], ◌∷◌, ◌++◌}
-use Rattle.std.proofs.Common.{length, take, drop, refl, sym, ◌∙◌, ap, arith, count_by, eqb-true, eq-eqb}
+use Rattle.std.proofs.Common.{length, take, drop, refl, sym, ◌∙◌, ap, arith, count_by, eqb-true}
 use Rattle.std.proofs.Common.{length-append, add-zero, true≢false}
 use Rattle.keymap_text.specs.Lexical.{leading}
 use Rattle.keymap_text.proofs.Leading.{leading_pass, leading_fail}
@@ -51,10 +51,6 @@ feeds_behind n m b l h =
 -- all line feeds stand before
 line_all : (b : List ℕ) (n : ℕ) → feeds (drop n b) ≡ 0 → line b n ≡ 1 + feeds b
 line_all b n h = omega (arith, line_is b n, feeds_split n b, h)
-
--- a line feed is one
-feed_is : (c : ℕ) → (c ≡ 10) → line_feed c ≡ 1
-feed_is c h = ap (λ b. cond b 1 0) (eq-eqb c 10 h)
 
 -- another byte is no line feed
 pub no_feed : (c : ℕ) → (c == 10) ≡ false → line_feed c ≡ 0

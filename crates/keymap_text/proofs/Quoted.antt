@@ -177,10 +177,6 @@ three_begin b c d low high ok more =
     (long_character (b ∷ c ∷ d ∷ 0x80 ∷ []) (code_of_4 b c d 0x80)
     (value-12 4 b c d 0x80 (omega arith, low, high, ok, more, refl)) (omega arith))
 
--- bytes that hold no character, and all of which may begin one
-Opens : List ℕ → Type 0
-Opens s = (decoded s).size ≡ length s → (decoded s).char ≡ None → IsUnfinished (39 ∷ s)
-
 -- one byte from 0x80 on
 high_begins : (s : List ℕ) → length s ≡ 1 → 0x80 ≤ slice_index s 0 → IsUnfinished (39 ∷ s)
 high_begins [] l h = absurd (omega (arith, l))

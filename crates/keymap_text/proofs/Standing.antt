@@ -9,7 +9,7 @@ use Rattle.keymap_text.specs.Meaning.{line}
 use Rattle.keymap_text.specs.Inner.Judging.{verdict, Faulty}
 use Rattle.keymap_text.specs.Inner.Resuming.{resume, Says, IsReader, IsFaultOfPending, Lined}
 use Rattle.keymap_text.specs.Inner.Views.{state_view}
-use Rattle.keymap_text.specs.Meaning.{Fault, Early}
+use Rattle.keymap_text.specs.Meaning.{Early}
 use Rattle.keymap_text.specs.Meaning.{Means}
 use Rattle.keymap_text.specs.Standing.{StandsAfter}
 use Rattle.keymap_text.specs.Inner.Fields.{progress}
@@ -53,10 +53,6 @@ means_after (Err f) old b (e, s) p rest l = (
         ∙ ap (λ t. line t f.offset) (append-nil b),
   ),
 )
-
--- an early fault is a fault
-pub early_fault : (b : List ℕ) (f : TextFault) → Early b f → Fault b f
-early_fault b f e = (true, e)
 
 -- the line facts of a reader are those of its scanner
 pub lined_of : (r : Inside) (b : List ℕ) → StandsAfter (progress r) b → Lined r.scanner b

@@ -1,6 +1,6 @@
 -- What one byte more makes of the rest of a text.
 use Rattle.std.proofs.Common.{◌≡◌, ◌≢◌, ℕ, suc, ◌+◌, ◌<◌, ◌≤◌, ◌==◌, ◌&&◌, ◌||◌, Bool, true, false, not, cond, List, []}
-use Rattle.std.proofs.Common.{◌∷◌, ◌++◌, length, take, drop, get_or, slice_index, refl, sym, ◌∙◌, ap, ap₂, subst, arith}
+use Rattle.std.proofs.Common.{◌∷◌, ◌++◌, length, take, drop, slice_index, refl, sym, ◌∙◌, ap, ap₂, subst, arith}
 use Rattle.std.proofs.Common.{add-one, add-zero, Result, Ok, Err, Option, Some, None, ne_eqb, true≢false, length-append}
 use Rattle.std.proofs.Common.{append_assoc, take_at, drop_at, append-nil}
 use Rattle.std.proofs.lemmas.Bool.Decides.{nat_tests}
@@ -197,11 +197,6 @@ take_word_full s m (a ∷ p) q c h l w e x =
     too_long : (n : ℕ) → 32 ≤ n → word n ≡ Refused BadWord
     too_long n h = grind (arith, nat_tests)
 
--- the token of a word
-word_token : ℕ → ℕ → List ℕ → List ℕ → TokenValue
-word_token a q p y =
-    record { kind = Word; bytes = a ∷ take (length p) (p ++ y); start = q; last = is_empty (drop (length p) (p ++ y)) }
-
 -- ended by another byte
 pub word_ended : (a q : ℕ) (p y : List ℕ) → is_word a ≡ true → leading is_word p ≡ length p → leading is_word y ≡ 0
     → length p < 32 → tokens_after 0 q (a ∷ (p ++ y)) ≡ Then (record {
@@ -254,11 +249,6 @@ take_word_end result s m (b ∷ p) q c r h z l w e a =
 pub front_quote : (y : List ℕ) → front_of 39 y ≡ literal y
 unfolding front_of
 front_quote y = refl
-
--- bytes that begin with an apostrophe
-quote_from : (p : List ℕ) → 0 < length p → get_or p 0 0 ≡ 39 → p ≡ 39 ∷ drop 1 p
-quote_from [] z e = absurd (omega (arith, z))
-quote_from (a ∷ p) z e = ap (λ n. n ∷ p) e
 
 -- a byte that no quoted character has there
 pub take_literal_refused : (s : GrammarState) (m : Mode) (l : List ℕ) (q c : ℕ) (f : TextFaultKind) → m ≡ modes.Literal

@@ -45,6 +45,10 @@ cell_text (cells.Act a) = name_of a
 abbrev pub column : List ℕ → List ℕ
 column text = codes " " ++ (text ++ replicate (6 - length text) 32)
 
+-- the same without blanks behind it
+abbrev pub word : List ℕ → List ℕ
+word text = codes " " ++ text
+
 abbrev pub flag_letter : LockFlag → ℕ
 flag_letter flags.O = 79
 flag_letter flags.C = 67
@@ -59,12 +63,21 @@ unfoldable pub key_line : ℕ → Entry → List ℕ
 key_line slot e =
     slot_text slot ++ (flat_map (λ c. column (cell_text c)) e.cells ++ (codes " " ++ flag_letter e.flag ∷ codes "\n"))
 
+-- the words of a key's line, with one blank between them
+unfoldable pub slot_words : ℕ → Entry → List ℕ
+slot_words slot e =
+    slot_text slot ++ (flat_map (λ c. word (cell_text c)) e.cells ++ (codes " " ++ flag_letter e.flag ∷ []))
+
 abbrev pub accent_name : ℕ → List ℕ
 accent_name i = slice_index_or accent_names i []
 
 -- ` ( base result )`
 unfoldable pub pair_text : ℕ × ℕ → List ℕ
 pair_text p = codes " ( " ++ (character_text p.0 ++ (codes " " ++ (character_text p.1 ++ codes " )")))
+
+-- an accent's line without its line feed
+unfoldable pub accent_words : ℕ → AccentValue → List ℕ
+accent_words i a = accent_name i ++ (codes " " ++ (character_text a.own ++ flat_map pair_text a.pairs))
 
 unfoldable pub accent_line : ℕ → AccentValue → List ℕ
 accent_line i a = accent_name i ++ (codes " " ++ (character_text a.own ++ (flat_map pair_text a.pairs ++ codes "\n")))

@@ -1,4 +1,5 @@
-//! Definitions, token by token.
+//! Definitions, token by token: which token may stand at a place, and what a whole definition does to the keymap. It
+//! sees what tokens mean, and neither bytes nor offsets.
 ghost use Rattle.std.specs.Prelude.{◌≡◌, ◌<◌, Ok, Err, Result, OnOk, length, if◌then◌else◌, IfSome, ◌≢◌};
 ghost use lib.Utf8.{scalar};
 ghost use Rattle.keymap_core.specs.Maps.{with_accent, with_entry};

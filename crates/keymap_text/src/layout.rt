@@ -14,6 +14,11 @@ type Text = ArrayVec<u8, 8>;
 /// How long a line can be: that of an accent with 52 pairs.
 const LINE: usize = 1160;
 
+/// How long the words of a key can be.
+const WORDS: usize = 80;
+
+type Words = ArrayVec<u8, WORDS>;
+
 pub(crate) type Line = ArrayVec<u8, LINE>;
 
 fn text_of(bytes: &[u8]) -> Text
@@ -98,7 +103,8 @@ fn push_column(line: &mut Line, cell: &Cell)
     }
 }
 
-fn flag_letter(flag: LockFlag) -> u8
+/// The letter of a lock flag: `O`, `C`, `N` or `B`.
+pub fn flag_letter(flag: LockFlag) -> u8
     ensures { result ≡ spec.flag_letter flag }
 {
     match flag {
@@ -126,6 +132,35 @@ pub(crate) fn key_line(slot: u8, entry: &Entry) -> Line
     line
 }
 
+/// A blank, and the text of a cell.
+fn push_word(words: &mut Words, cell: &Cell)
+    requires { length words.old.items + 9 ≤ WORDS }
+    ensures text { words.new.items ≡ words.old.items ++ spec.word (spec.cell_text cell.now) }
+    ensures size { length words.new.items ≤ length words.old.items + 9 }
+{
+    words.push(b' ');
+    words
+        .try_extend_from_slice(cell_text(cell).as_slice())
+        .unwrap();
+}
+
+/// The words of a key: those of its line, with one blank between them and no line feed.
+#[tactic(auto, unfolding(crate::specs::Printed::slot_words))]
+pub fn slot_words(slot: u8, entry: &Entry) -> ArrayVec<u8, WORDS>
+    ensures { result.items ≡ spec.slot_words slot entry.now }
+{
+    let mut words = Words::new();
+    words
+        .try_extend_from_slice(&[b'0' + slot / 100, b'0' + slot / 10 % 10, b'0' + slot % 10])
+        .unwrap();
+    for cell in entry.cells() {
+        push_word(&mut words, cell);
+    }
+    words.push(b' ');
+    words.push(flag_letter(entry.flag));
+    words
+}
+
 /// A pair of an accent: ` ( base composed )`.
 #[tactic(auto, unfolding(crate::specs::Printed::pair_text))]
 fn push_pair(line: &mut Line, base: char, composed: char)
@@ -140,11 +175,12 @@ fn push_pair(line: &mut Line, base: char, composed: char)
     push_text(line, b" )");
 }
 
-/// The line of an accent.
-#[tactic(auto, unfolding(crate::specs::Printed::accent_line))]
-pub(crate) fn accent_line(index: u8, accent: &Accent) -> Line
+/// The words of an accent: its line without the line feed.
+#[tactic(auto, unfolding(crate::specs::Printed::accent_words))]
+pub fn accent_words(index: u8, accent: &Accent) -> ArrayVec<u8, LINE>
     requires { index < accent_limit }
-    ensures { result.items ≡ spec.accent_line index accent.now }
+    ensures words { result.items ≡ spec.accent_words index accent.now }
+    ensures short { length result.items < 1160 }
 {
     let mut line = Line::new();
     let name = Action::DeadKey(AccentIndex::new(index)).name();
@@ -154,6 +190,15 @@ pub(crate) fn accent_line(index: u8, accent: &Accent) -> Line
     for (base, composed) in accent.pairs() {
         push_pair(&mut line, *base, *composed);
     }
+    line
+}
+
+/// The line of an accent.
+pub(crate) fn accent_line(index: u8, accent: &Accent) -> Line
+    requires { index < accent_limit }
+    ensures { result.items ≡ spec.accent_line index accent.now }
+{
+    let mut line = accent_words(index, accent);
     line.push(b'\n');
     line
 }

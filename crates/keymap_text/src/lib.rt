@@ -23,6 +23,8 @@ mod words;
 
 pub use fault::{TextError, TextFault, TextFaultKind};
 pub use last::{LastDefinitions, last_definitions};
+pub use layout::{accent_words, flag_letter, slot_words};
+pub use names::control_name;
 pub use placed::{Defined, Placed, PlacedText, definitions};
 pub use printer::print_map;
 pub use reader::{MapReader, read_map};

@@ -1,5 +1,5 @@
 //! The names of characters, lock letters and actions: one table, by which words are read and control characters are
-//! printed.
+//! printed. It sees the letters of one word.
 ghost use Rattle.std.specs.Prelude.{◌≡◌, ◌==◌, ◌⊎◌, ◌≤◌, ◌<◌, if◌then◌else◌, All, IfSome, length, map, take, Some};
 ghost use Rattle.std.specs.Prelude.{ℕ, ◌+◌, ◌*◌, ◌/◌, ◌%◌, None, IsSome, slice_index_or};
 ghost use Rattle.std.specs.Char.{to_ascii_lowercase};
@@ -117,8 +117,8 @@ fn control_place(c: u8) -> usize
     if c == 127 { 32 } else { c as usize }
 }
 
-/// The name of a control character.
-pub(crate) fn control_name(c: u8) -> &'static [u8]
+/// The name of a control character: `nul` to `ns`, or `del`.
+pub fn control_name(c: u8) -> &'static [u8]
     requires { (c < 32) ⊎ (c ≡ 127) }
     ensures name { result.now ≡ printed.control_name c }
     ensures short { length result.now ≤ 3 }

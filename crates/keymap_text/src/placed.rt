@@ -1,4 +1,5 @@
-//! Where the definitions of a text stand.
+//! Where the definitions of a text stand. It sees the whole text, token by token, and knows no grammar: each definition
+//! has as many tokens as its first ones tell.
 ghost use Rattle.std.specs.Prelude.{◌≡◌, ◌+◌, ◌≤◌, ◌++◌, ◌∷◌, List, All, length, vec_len, map, IfOk, IfSome, OnOk};
 ghost use Rattle.keymap_text.specs.declared.token.TokenKind.TheVariants.{Word};
 ghost use Rattle.keymap_text.specs.Lexical.{TokenValue};

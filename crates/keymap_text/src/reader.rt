@@ -1,4 +1,5 @@
-//! Reading a text, whole or in pieces.
+//! Reading a text, whole or in pieces: the scanner as users see it. It sees pieces, and answers the keymap or the fault
+//! of the whole text.
 ghost use Rattle.std.specs.Prelude.{◌≡◌, ℕ, ◌+◌, ◌<◌, ◌^◌, ◌++◌, [], List, IfOk, length, MatchResult, Some, Err};
 ghost use Rattle.keymap_text.specs.Meaning.{Means, Concludes, Reads};
 ghost use Rattle.keymap_text.specs.Standing.{StandsAfter, FedAfter};

@@ -1,4 +1,5 @@
-//! Reading a text byte by byte.
+//! Reading a text byte by byte, as it comes: it keeps an unfinished token, the offset and the line. It sees bytes with
+//! their places, and asks `token` where a token ends, `words` what it means, and `grammar` whether it may stand there.
 ghost use Rattle.std.specs.Prelude.{◌≡◌, ℕ, ◌+◌, ◌<◌, ◌≤◌, ◌^◌, ◌∷◌, ◌++◌, [], List, length, take, OnOk, IfSome, IfErr};
 ghost use Rattle.std.specs.Prelude.{Ok, Err, drop, if◌then◌else◌, ◌==◌};
 ghost use Rattle.keymap_text.specs.Lexical.{literal, leading, is_word};

@@ -1,4 +1,4 @@
-//! Reading a text from a device.
+//! Reading a text from a device. It sees what a device gives at once, and hands it to the reader.
 ghost use Rattle.std.specs.Prelude.{◌≡◌, ◌||◌, IfErr};
 ghost use Rattle.keymap_text.specs.Sources.{ReadsMap, StopsAtOnce, blames_reader};
 

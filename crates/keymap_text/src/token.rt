@@ -1,4 +1,5 @@
-//! Tokens of a text.
+//! Tokens of a text: where blanks, words and quoted characters end. It sees bytes, and knows neither what a word means
+//! nor which token may come next.
 ghost use Rattle.std.specs.Prelude.{◌≡◌, ◌+◌, ◌<◌, ◌≤◌, ◌==◌, length, drop, slice_index, if◌then◌else◌, IsFalse, IfOk};
 ghost use Rattle.std.specs.Prelude.{IfSome, IfErr};
 ghost use Rattle.keymap_text.specs.Lexical as lexical;

@@ -1,4 +1,5 @@
-//! What words mean.
+//! What words mean: numbers, characters, lock letters and actions. It sees the bytes of one token, and knows neither
+//! its place nor the tokens beside it.
 ghost use Rattle.std.specs.Prelude.{◌≡◌, ◌+◌, ◌≤◌, ◌<◌, length, Some, None, IfSome};
 ghost use Rattle.std.specs.Char as char_spec;
 ghost use Rattle.keymap_text.specs.declared.token.TokenKind.TheVariants.{Word};

@@ -3,7 +3,7 @@ use clap::{Arg, ArgAction, ArgMatches, Command};
 use std::alloc::{AllocError, Global};
 
 /// The version of the program, which CHANGELOG.md and the manual pages repeat.
-const VERSION: &str = "0.1.0";
+const VERSION: &str = "0.2.0";
 
 fn file<'a>(alloc: Global, name: &'a str, help: &'a str) -> Arg<'a> {
     Arg::new(alloc, name)
@@ -92,6 +92,16 @@ fn dump<'a>(alloc: Global) -> Result<Command<'a>, AllocError> {
         .arg(flag(alloc, "narrow", "Reads a narrow file"))
 }
 
+fn draw<'a>(alloc: Global) -> Result<Command<'a>, AllocError> {
+    Command::new(alloc, "draw")
+        .about("Draws a keymap as one SVG picture")
+        .after_help(
+            "Example: kmap draw de.kbd > de.svg{n}{n}kmap(1) tells how to read the picture.",
+        )
+        .arg(file(alloc, "TEXT", "The keymap text"))?
+        .arg(flag(alloc, "ansi", "Draws a board of 104 keys in place of 105"))
+}
+
 /// The program itself, without its subcommands.
 fn without_subcommands<'a>(alloc: Global) -> Command<'a> {
     Command::new(alloc, "kmap")
@@ -116,11 +126,12 @@ fn with_scripts<'a>(alloc: Global, program: Command<'a>) -> Result<Command<'a>, 
         .subcommand(type_sentence(alloc)?)
 }
 
-/// Adds the subcommands for table files.
+/// Adds the subcommands for table files, and the one that draws.
 fn with_tables<'a>(alloc: Global, program: Command<'a>) -> Result<Command<'a>, AllocError> {
     program
         .subcommand(compile(alloc)?)?
-        .subcommand(dump(alloc)?)
+        .subcommand(dump(alloc)?)?
+        .subcommand(draw(alloc)?)
 }
 
 /// The subcommands of the program and their words.
@@ -158,6 +169,10 @@ pub(crate) enum Request<'a> {
     Type {
         text: &'a str,
         sentence: &'a str,
+    },
+    Draw {
+        text: &'a str,
+        ansi: bool,
     },
 }
 
@@ -206,6 +221,13 @@ fn type_request<'a>(words: &ArgMatches<'a>) -> Option<Request<'a>> {
     })
 }
 
+fn draw_request<'a>(words: &ArgMatches<'a>) -> Option<Request<'a>> {
+    Some(Request::Draw {
+        text: words.get_str("TEXT")?,
+        ansi: words.get_flag("ansi"),
+    })
+}
+
 /// The request of words that `clap` took.
 pub(crate) fn request_of<'a>(matches: &ArgMatches<'a>) -> Option<Request<'a>> {
     let (name, words) = matches.subcommand()?;
@@ -216,6 +238,7 @@ pub(crate) fn request_of<'a>(matches: &ArgMatches<'a>) -> Option<Request<'a>> {
         "search" => search_request(words),
         "play" => play_request(words),
         "type" => type_request(words),
+        "draw" => draw_request(words),
         _ => None,
     }
 }

@@ -1,15 +1,17 @@
 //! One run of the program: the words, the files that they name, and the exit status.
 use crate::command_line::{Request, command, request_of};
+use clap::ArgMatches;
 use clap::error::{Error, ErrorKind};
 use keymap_core::{FromStd, KeyMap, ToStd, Write, write_text};
+use keymap_draw::Board;
 use keymap_tables::{write_narrow, write_tables};
 use keymap_text::read_from;
 use kmap_runs::{
-    RunError, check_run, dump_narrow_run, dump_run, narrow_failure, play_failure, search_next_run,
-    search_run, text_failure, type_run, write_run_error,
+    RunError, check_run, draw_run, dump_narrow_run, dump_run, narrow_failure, play_failure,
+    search_next_run, search_run, text_failure, type_run, write_run_error,
 };
 use play_core::{PlayError, Show, play, play_next};
-use std::alloc::AllocError;
+use std::alloc::{AllocError, Global};
 use std::io::BufReader;
 use std::process::ExitCode;
 use std::rt::{Env, Files};
@@ -25,6 +27,9 @@ enum Failure<'a> {
 
 /// The status where the words are wrong.
 const WRONG_WORDS: u8 = 2;
+
+/// The words that ask for help on `help`.
+const HELP_ON_HELP: [&str; 3] = ["kmap", "help", "help"];
 
 /// How many bytes of a file are asked for at once.
 const READ_AHEAD: usize = 65_536;
@@ -72,13 +77,31 @@ where
     }
 }
 
+/// Whether the words ask for help on `help` by an option.
+fn asks_by_option(words: &[String]) -> bool {
+    let [_, command, option, ..] = words else {
+        return false;
+    };
+    command.as_str() == "help" && matches!(option.as_str(), "--help" | "-h")
+}
+
+/// What `clap` finds in the words. It takes no option behind `help`, so one that asks for help is told in other words.
+fn found<'a>(alloc: Global, words: &'a [String]) -> Result<ArgMatches<'a>, Error> {
+    let program = command(alloc)?;
+    if asks_by_option(words) {
+        program.try_get_matches_from(&HELP_ON_HELP)
+    } else {
+        program.try_get_matches_from(words)
+    }
+}
+
 /// Does what words that are text ask for.
 fn text_run<R, W>(rt: &R, words: &[String], faults: &mut W) -> Result<ExitCode, AllocError>
 where
     R: AllocGlobal + Files + Print + Eprint,
     W: Write,
 {
-    match command(rt.alloc())?.try_get_matches_from(words) {
+    match found(rt.alloc(), words) {
         Ok(matches) => match request_of(&matches) {
             Some(request) => Ok(status_of(answer(rt, request), faults)),
             None => no_text(rt),
@@ -158,6 +181,7 @@ where
             })
         }
         Request::Type { text, sentence } => well(type_sentence(rt, text, sentence)),
+        Request::Draw { text, ansi } => well(draw(rt, text, ansi)),
     }
 }
 
@@ -294,6 +318,16 @@ where
     let mut sentence = opened(rt, sentence)?;
     let mut out = ToStd::new(io::writer(rt));
     run_outcome(type_run(rt.alloc(), &mut text, &mut sentence, &mut out))
+}
+
+fn draw<'a, R>(rt: &R, text: &'a str, ansi: bool) -> Result<(), Failure<'a>>
+where
+    R: AllocGlobal + Files + Print,
+{
+    let board = if ansi { Board::Ansi } else { Board::Iso };
+    let mut source = opened(rt, text)?;
+    let mut out = ToStd::new(io::writer(rt));
+    run_outcome(draw_run(rt.alloc(), &mut source, board, &mut out))
 }
 
 fn opened<'a, R: AllocGlobal + Files>(

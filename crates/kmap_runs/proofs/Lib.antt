@@ -1,3 +1,7 @@
+mod DrawRuns
+mod LintExcerpt
+mod LintPieces
+mod LintPlain
 mod Pieces
 mod Replayed
 mod Scripts

@@ -41,7 +41,7 @@ use Rattle.play_core.proofs.PlainLines.{not_at}
 use Rattle.play_core.proofs.Sentences.{All-reversed, way-types}
 use Rattle.play_core.proofs.Spelling.{script-nil, line-script, events-script, delivers}
 use Rattle.play_core.proofs.Verdicts.{one_list}
-use Rattle.kmap_runs.specs.CodePoints.{digit_at, upper_digits, code_text}
+use Rattle.keymap_core.specs.CodePoints.{digit_at, upper_digits, code_digits, code_text}
 use Rattle.kmap_runs.specs.Report.{holding_name, check_text, demonstration_text, report}
 use Rattle.kmap_runs.specs.Search.{name_if_on, script_text, undecided_text}
 use Rattle.kmap_runs.specs.TypeRuns.{TypesSentence}
@@ -99,11 +99,11 @@ feed-lower c =
 
 -- the number of a character
 feed-code : (c : ℕ) → has_line_feed (code_text c) ≡ false
-unfolding code_text
+unfolding code_text code_digits
 feed-code c =
-    feed-append (codes "U+" ++ upper_digits c)
-    (digit_at c 0x1000 ∷ digit_at c 0x100 ∷ digit_at c 0x10 ∷ digit_at c 1 ∷ [])
-    (feed-append (codes "U+") (upper_digits c) refl (feed-upper _ _ c)) (feed-lower c)
+    let digits : List ℕ = digit_at c 0x1000 ∷ digit_at c 0x100 ∷ digit_at c 0x10 ∷ digit_at c 1 ∷ [] in
+    feed-append (codes "U+") (upper_digits c ++ digits) refl
+    (feed-append (upper_digits c) digits (feed-upper _ _ c) (feed-lower c))
 
 -- a line feed is hidden
 not_feed : (c : ℕ) → is_hidden c ≡ false → c ≢ 10

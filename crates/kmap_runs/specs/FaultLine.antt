@@ -14,7 +14,7 @@ use Rattle.keymap_tables.specs.declared.narrow.Wide.{Wide}
 use Rattle.keymap_tables.specs.declared.narrow.Wide.TheVariants as wide
 use Rattle.play_core.specs.declared.script.ScriptFault.{ScriptFault}
 use Rattle.play_core.specs.declared.script.ScriptFault.TheVariants.{BadLine, BadKey}
-use Rattle.kmap_runs.specs.CodePoints.{code_text}
+use Rattle.keymap_core.specs.CodePoints.{code_text}
 use Rattle.kmap_runs.specs.declared.fault_line.RunError.{RunError}
 use Rattle.kmap_runs.specs.declared.fault_line.RunError.TheVariants as error
 

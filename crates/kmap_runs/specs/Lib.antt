@@ -1,5 +1,12 @@
-pub mod CodePoints
+pub mod DrawRuns
 pub mod FaultLine
+pub mod LintExcerpt
+pub mod LintFaults
+pub mod LintHeads
+pub mod LintKinds
+pub mod LintLists
+pub mod LintShown
+pub mod LintWords
 pub mod Replayed
 pub mod Report
 pub mod Runs

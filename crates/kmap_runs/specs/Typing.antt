@@ -5,7 +5,7 @@ use Rattle.std.specs.List.{flat_map, before_first}
 use Rattle.keymap_core.specs.Actions.{within}
 use Rattle.keymap_core.specs.Maps.{MapValue}
 use Rattle.play_core.specs.Typing.{way_for, events_in}
-use Rattle.kmap_runs.specs.CodePoints.{code_text}
+use Rattle.keymap_core.specs.CodePoints.{code_text}
 use Rattle.play_core.specs.Spelling.{event_line}
 
 -- a character that a terminal doesn't show as it is: a control, a mark that can't be seen, or one that turns the

@@ -5,10 +5,9 @@ ghost use Rattle.keymap_core.specs.Devices.{WritesText};
 ghost use Rattle.kmap_runs.specs.FaultLine.{fault_line, message, read_fault, script_fault, table_fault, table_kind};
 ghost use Rattle.kmap_runs.specs.FaultLine.{text_fault, text_kind, too_wide, write_fault};
 
-use crate::code_point::code_of;
 use crate::text::{append, append_byte, append_number};
 use arrayvec::ArrayVec;
-use keymap_core::{ReadFault, ReadFaultKind, Write, WriteFault, write_text};
+use keymap_core::{ReadFault, ReadFaultKind, Write, WriteFault, code_text, write_text};
 use keymap_tables::{TableFault, TableFaultKind, Wide};
 use keymap_text::{TextFault, TextFaultKind};
 use play_core::ScriptFault;
@@ -52,7 +51,7 @@ const LINE: usize = 96;
 
 type Line = ArrayVec<u8, LINE>;
 
-fn text_kind_name(kind: TextFaultKind) -> &'static [u8]
+pub(crate) fn text_kind_name(kind: TextFaultKind) -> &'static [u8]
     ensures name { result.now ≡ text_kind kind }
     ensures bound { length result.now ≤ 12 }
 {
@@ -186,7 +185,7 @@ fn append_no_way(line: &mut Line, offset: u64, c: char)
     append(line, b"sentence offset ");
     append_number(line, offset);
     append(line, b": no key types ");
-    append(line, code_of(c).as_slice());
+    append(line, code_text(c).as_slice());
 }
 
 fn append_write_fault(line: &mut Line, fault: &WriteFault)

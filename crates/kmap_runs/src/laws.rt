@@ -10,6 +10,9 @@ ghost use Rattle.play_core.specs.declared.show.Show.TheVariants as show;
 ghost use Rattle.play_core.specs.Spelling.{sent_of};
 ghost use Rattle.play_core.specs.Typing.{IsTyped, events_for};
 ghost use Rattle.kmap_runs.specs.Report.{report};
+ghost use Rattle.kmap_runs.specs.LintExcerpt.{excerpt};
+ghost use Rattle.kmap_runs.specs.LintShown.{IsPlainText};
+ghost use Rattle.kmap_runs.specs.LintWords.{word_text};
 ghost use Rattle.kmap_runs.specs.Replayed.{ScriptTypes, AnswerReplays, AnswerReplaysBetween, ShowsScript};
 ghost use Rattle.kmap_runs.specs.TypeRuns.{TypesSentence};
 ghost use Rattle.kmap_runs.specs.Typing.{typing_script};
@@ -43,4 +46,11 @@ pub fn typed_sentences_come_back()
 /// on while no key is pressed.
 pub fn demonstrations_leave_a_modifier_on()
     ensures { (m : MapValue) → ShowsScript m (report m true) }
+{}
+
+/// What is shown of a line of any text, and of a token, is UTF-8 that a terminal shows: no control but a tab and a line
+/// feed, no mark that can't be seen and none that turns the direction of writing.
+pub fn shown_lines_are_plain()
+    ensures line { (before rest : List ℕ) → IsPlainText (excerpt before rest) }
+    ensures token { (token : List ℕ) → IsPlainText (word_text token) }
 {}

@@ -12,9 +12,16 @@
 //! that what is printed as a script is one, and what it does when it is played.
 #![tactic(auto)]
 
-mod code_point;
+mod draw_runs;
 mod fault_line;
 pub mod laws;
+mod lint_excerpt;
+mod lint_faults;
+mod lint_heads;
+mod lint_kinds;
+mod lint_lists;
+mod lint_shown;
+mod lint_words;
 mod report;
 mod runs;
 mod search;
@@ -23,6 +30,7 @@ mod text;
 mod type_runs;
 mod typing;
 
+pub use draw_runs::draw_run;
 pub use fault_line::{RunError, write_run_error};
 pub use runs::{check_run, dump_narrow_run, dump_run, narrow_failure, play_failure, text_failure};
 pub use search_runs::{search_next_run, search_run};

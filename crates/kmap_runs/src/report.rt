@@ -10,7 +10,7 @@ ghost use Rattle.kmap_runs.specs.Report as spec;
 use crate::text::{append, append_byte};
 use arrayvec::ArrayVec;
 use console_core::Event;
-use keymap_check::{Bearer, Finding, Place, Report, check, demonstrate};
+use keymap_check::{Bearer, Finding, Place, Report, demonstrate};
 use keymap_core::{HOLDINGS, Holding, KeyMap};
 
 /// How many bytes a report has at most: the verdict, a line of 73 bytes for each of 128 findings, one of 29 for each of

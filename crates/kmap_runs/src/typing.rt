@@ -3,14 +3,14 @@ ghost use Rattle.std.specs.Prelude.{◌≡◌, ◌<◌, ◌++◌, length, positi
 ghost use Rattle.std.specs.List.{flat_map, before_first};
 ghost use Rattle.kmap_runs.specs.Typing as spec;
 
-use crate::code_point::code_of;
 use crate::search::push_events;
+use keymap_core::code_text;
 use play_core::Ways;
 use std::alloc::{AllocError, Global};
 
 /// Whether a terminal doesn't show the character as it is: it is a control, a mark that can't be seen, or one that
 /// turns the direction.
-fn is_hidden(c: char) -> bool
+pub(crate) fn is_hidden(c: char) -> bool
     ensures { result ≡ spec.is_hidden c }
 {
     let number = u32::from(c);
@@ -29,7 +29,7 @@ fn push_shown(text: &mut Vec<u8>, c: char) -> Result<(), AllocError>
     ensures { OnOk result (text.new.items ≡ text.old.items ++ spec.shown c) }
 {
     if is_hidden(c) {
-        text.extend_from_slice(code_of(c).as_slice())
+        text.extend_from_slice(code_text(c).as_slice())
     } else {
         let mut bytes = [0; 4];
         text.extend_from_slice(c.encode_utf8(&mut bytes).as_bytes())

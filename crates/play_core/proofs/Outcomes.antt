@@ -43,15 +43,6 @@ text_names text_errors.Memory = (refl, refl, refl, refl)
 text_names (text_errors.Read f) = (refl, refl, refl, refl)
 text_names (text_errors.Fault f) = (refl, refl, refl, refl)
 
--- a refusal of the next keymap names the devices that reading it names
-pub next_names : (e : TextError) → (blames_source source.Next (Err (error_of_next e)) ≡ blames_reader (Err e))
-    × (blames_source source.Text (Err (error_of_next e)) ≡ false)
-    × (blames_source source.Script (Err (error_of_next e)) ≡ false)
-    × (blames_writer (Err (error_of_next e)) ≡ false)
-next_names text_errors.Memory = (refl, refl, refl, refl)
-next_names (text_errors.Read f) = (refl, refl, refl, refl)
-next_names (text_errors.Fault f) = (refl, refl, refl, refl)
-
 -- ---- scripts
 
 -- where a script is refused, nothing was written

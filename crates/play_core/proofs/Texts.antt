@@ -1,8 +1,7 @@
 -- What is written of events, one after another.
-use Rattle.std.proofs.Common.{◌≡◌, ℕ, ◌+◌, ◌<◌, ◌||◌, Bool, true, false, List, [], ◌∷◌, ◌++◌, length, take, drop}
-use Rattle.std.proofs.Common.{get_or, refl, sym, ap, ◌∙◌, append_assoc, append-nil, take-append-drop, length-append}
-use Rattle.std.proofs.Common.{arith}
-use Rattle.std.specs.Prelude.{reverse, codes}
+use Rattle.std.proofs.Common.{◌≡◌, ℕ, ◌+◌, ◌<◌, ◌||◌, List, [], ◌∷◌, ◌++◌, length, take, drop}
+use Rattle.std.proofs.Common.{get_or, refl, sym, ap, ◌∙◌, append_assoc, append-nil, take-append-drop}
+use Rattle.std.specs.Prelude.{reverse}
 use Rattle.std.specs.List.{filter_map}
 use Rattle.std.proofs.lemmas.List.{take_more, reverse-append}
 use Rattle.std.proofs.lemmas.List.Elements.{filter_map-append}
@@ -16,11 +15,9 @@ use Rattle.play_core.specs.declared.sent.Sent.{Sent}
 use Rattle.play_core.specs.declared.show.Show.{Show}
 use Rattle.play_core.specs.declared.show.Show.TheVariants as show
 use Rattle.play_core.specs.Delivery.{event_of, delivered}
-use Rattle.play_core.specs.Written.{line_of, lines_after, line_after, typed_by, typed_text, text_after, event_output}
-use Rattle.play_core.specs.Written.{name_if, or_none, names_of_modifiers, names_of_locks}
+use Rattle.play_core.specs.Written.{lines_after, line_after, typed_by, typed_text, text_after, event_output}
 use Rattle.keymap_core.specs.declared.action.Action.TheVariants as action
 use Rattle.keymap_core.specs.declared.action.Modifier.TheVariants as modifier
-use Rattle.keymap_core.specs.Actions.{name_of, modifiers}
 
 -- the first event of a list is the oldest of it
 reverse-first : (e : Event) (xs h : List Event) → reverse (e ∷ xs) ++ h ≡ reverse xs ++ (e ∷ h)
@@ -128,55 +125,3 @@ typed-more answers i one h e =
 pub typed-rest : (answers : List Answer) (i : ℕ)
     → typed_text (take i answers) ++ typed_text (drop i answers) ≡ typed_text answers
 typed-rest answers i = sym (typed-append (take i answers) (drop i answers)) ∙ ap typed_text (take-append-drop i answers)
-
--- lines with the same answer, modifiers and locks
-pub same-line : (e : Event) {a b : Answer} {on on' : Modifier → Bool} {locked locked' : Lock → Bool} → a ≡ b
-    → ((m : Modifier) → on m ≡ on' m) → ((l : Lock) → locked l ≡ locked' l)
-    → line_of e a on locked ≡ line_of e b on' locked'
-same-line e p q r = λ j. line_of e (p j) (λ m. q m j) (λ l. r l j)
-
--- the names of one more
-pub modifiers-more : (is_on : Modifier → Bool) (ms : List Modifier) (i : ℕ) (m : Modifier) → i < length ms
-    → m ≡ get_or ms i m
-    → names_of_modifiers is_on (take (i + 1) ms)
-    ≡ names_of_modifiers is_on (take i ms) ++ name_if (is_on m) (name_of (action.Mod m))
-unfolding names_of_modifiers
-modifiers-more is_on ms i m h e =
-    ap (names_of_modifiers is_on) (take_more ms i m h ∙ ap (λ x. take i ms ++ x ∷ []) (sym e))
-    ∙ flat_map-append (λ m. name_if (is_on m) (name_of (action.Mod m))) (take i ms) (m ∷ [])
-    ∙ ap (λ l. names_of_modifiers is_on (take i ms) ++ l) (append-nil (name_if (is_on m) (name_of (action.Mod m))))
-
--- the names of the locks so far, with one more
-pub locks-more : (is_locked : Lock → Bool) (ls : List Lock) (i : ℕ) (k : Lock) → i < length ls → k ≡ get_or ls i k
-    → names_of_locks is_locked (take (i + 1) ls)
-    ≡ names_of_locks is_locked (take i ls) ++ name_if (is_locked k) (name_of (action.Lock k))
-unfolding names_of_locks
-locks-more is_locked ls i k h e =
-    ap (names_of_locks is_locked) (take_more ls i k h ∙ ap (λ x. take i ls ++ x ∷ []) (sym e))
-    ∙ flat_map-append (λ k. name_if (is_locked k) (name_of (action.Lock k))) (take i ls) (k ∷ [])
-    ∙ ap (λ l. names_of_locks is_locked (take i ls) ++ l) (append-nil (name_if (is_locked k) (name_of (action.Lock k))))
-
--- nothing was added
-pub or_none-nothing : (before names : List ℕ) → length (before ++ names) ≡ length before
-    → (before ++ names) ++ codes " none" ≡ before ++ or_none names
-or_none-nothing before [] h = ap (λ l. l ++ codes " none") (append-nil before)
-or_none-nothing before (b ∷ names) h = let size = length-append before (b ∷ names) in absurd (omega arith)
-
--- names that were written aren't none
-pub or_none-some : (before names : List ℕ) → (length (before ++ names) ≡ length before → ⊥)
-    → before ++ names ≡ before ++ or_none names
-or_none-some before [] h = absurd (h (ap length (append-nil before)))
-or_none-some before (b ∷ names) h = refl
-
-pub both_false : (a b : Bool) → (a || b) ≡ false → (a ≡ false) × (b ≡ false)
-both_false true b e = cc
-both_false false b e = (refl, e)
-
--- no modifier is on
-pub no_names : (is_on : Modifier → Bool) → is_on modifier.LeftShift ≡ false → is_on modifier.RightShift ≡ false
-    → is_on modifier.LeftControl ≡ false
-    → is_on modifier.RightControl ≡ false → is_on modifier.LeftAlt ≡ false → is_on modifier.RightAlt ≡ false
-    → is_on modifier.AltShift ≡ false
-    → is_on modifier.Meta ≡ false → names_of_modifiers is_on modifiers ≡ []
-unfolding names_of_modifiers
-no_names is_on p1 p2 p3 p4 p5 p6 p7 p8 = rw (p1, p2, p3, p4, p5, p6, p7, p8) refl

@@ -1,5 +1,5 @@
 //! The sentences that the keys of a keymap type.
-ghost use Rattle.std.specs.Prelude.{◌≡◌, ◌^◌, ◌<◌, ◌++◌, ◌∷◌, None, IfOk, IfErr, IsSome, MatchOption, length, List, ℕ};
+ghost use Rattle.std.specs.Prelude.{◌≡◌, ◌^◌, ◌<◌, ◌++◌, ◌∷◌, None, IfOk, IfErr, MatchOption, length};
 ghost use Rattle.std.specs.Option.{is_some};
 ghost use Rattle.std.specs.Str.{encode_utf8_all};
 ghost use Rattle.play_core.specs.Typing.{IsTyped, IsTypeError, HaveWays, LacksWay, way_for};

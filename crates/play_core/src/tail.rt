@@ -25,7 +25,7 @@ pub(crate) struct Tail {
 }
 
 impl Model for Tail {
-    ghost use Rattle.std.specs.Prelude.{ℕ, List, ◌≡◌, ◌≤◌, length, take};
+    ghost use Rattle.std.specs.Prelude.{◌≡◌, ◌≤◌, length, take};
     ghost use Rattle.play_core.specs.Inner.Tails.{TailValue, IsTail};
 
     ghost Value = { TailValue };

@@ -1,5 +1,5 @@
 //! Why a sentence isn't typed.
-use std::alloc::{AllocError, AllocFailed};
+use std::alloc::AllocError;
 use thiserror::Error;
 
 /// Why a sentence isn't typed.

@@ -1,14 +1,13 @@
 //! The ways to type each character of a keymap.
-ghost use Rattle.std.specs.Prelude.{◌≡◌, ℕ, ◌+◌, ◌<◌, ◌≤◌, ◌++◌, List, [], ◌∷◌, Option, OnOk, IfOk, MatchOption, None};
+ghost use Rattle.std.specs.Prelude.{◌≡◌, ℕ, ◌+◌, ◌<◌, ◌≤◌, ◌++◌, List, [], ◌∷◌, Option, OnOk, IfOk, None};
 ghost use Rattle.std.specs.Prelude.{Some, option_map, length};
 ghost use Rattle.arrayvec.specs.ArrayVec.{array_vec_len};
 ghost use Rattle.keymap_core.specs.Maps.{MapValue};
 ghost use Rattle.keymap_core.specs.Numbers.{key_count};
 ghost use Rattle.console_core.specs.declared.event.Event.{Event as EventValue};
-ghost use Rattle.play_core.specs.HeldKeys.{combinations_of, combinations_with, combinations, gathered};
-ghost use Rattle.play_core.specs.HeldKeys.{combination_with};
+ghost use Rattle.play_core.specs.HeldKeys.{combinations_of, combinations_with, combinations};
 ghost use Rattle.play_core.specs.Inner.HeldTables.{AreHeldKeys};
-ghost use Rattle.play_core.specs.Typing.{character_typed_by, accent_left_by, direct_way, dead_way, joined, accented_by};
+ghost use Rattle.play_core.specs.Typing.{character_typed_by, direct_way, dead_way, joined, accented_by};
 ghost use Rattle.play_core.specs.Typing.{accented, way_for};
 ghost use Rattle.play_core.specs.Inner.Tables.{IsTableOf, AreTablesOf, AreWaysBelow};
 
@@ -17,7 +16,7 @@ use crate::held_keys::{HeldKeys, Way, combination};
 use arrayvec::ArrayVec;
 use console_core::Event;
 use indexmap::IndexMap;
-use keymap_core::{Accent, KEY_COUNT, KeyMap};
+use keymap_core::{KEY_COUNT, KeyMap};
 use std::alloc::{AllocError, Global};
 use std::marker::Model;
 

@@ -9,11 +9,12 @@ use console_core::{
     Event, PlainConsole, Sticking, Translator, WordConsole, replay, sticking, sticking_between,
 };
 use keymap_core::{KeyCode, KeyMap, Lock, Modifier, ReadError, Write, read_up_to};
+use keymap_lint::diagnostics;
 use keymap_tables::{
     NARROW_FILE, TableError, WIDE_FILE, read_narrow, read_narrow_from, read_tables,
     read_tables_from,
 };
-use keymap_text::{MapReader, TextError, read_from, read_map};
+use keymap_text::{MapReader, TextError, definitions, read_from, read_map};
 use play_core::{PlayError, ScriptError, Show, TypeError, Ways, play, play_next, read_script};
 use std::alloc::{AllocError, Global};
 
@@ -41,10 +42,14 @@ pub(crate) fn outcome_of<W: Write>(
         "read_narrow-faulty" => reads_narrow(alloc, &[0xff; NARROW_FILE], marks),
         "read_narrow-long" => reads_narrow(alloc, &[0; NARROW_FILE + 1], marks),
         "read_narrow_from" => reads_narrow_from(alloc, narrow(alloc)?.as_slice(), marks),
+        "definitions" => places_definitions(alloc, marks),
         "sticking-never" => searches(alloc, TEXT, marks)?,
         "sticking-sticks" => searches(alloc, TRAP, marks)?,
         "sticking_between-never" => searches_between(alloc, TEXT, marks)?,
         "sticking_between-sticks" => searches_between(alloc, LOCKED, marks)?,
+        "diagnostics" => finds_diagnostics(alloc, TRAP, 1, marks),
+        "diagnostics-none" => finds_diagnostics(alloc, TEXT, 0, marks),
+        "diagnostics-faulty" => finds_diagnostics(alloc, FAULTY, 1, marks),
         "replay-plain" => replays_plainly(alloc, marks)?,
         "replay-word" => replays_in_a_word(alloc, marks)?,
         "read_script" => reads_script(alloc, marks),
@@ -64,6 +69,7 @@ pub(crate) fn outcome_of<W: Write>(
         "search_next_run-sticks" => runs::searches_between(alloc, LOCKED, marks),
         "dump_run" => runs::dumps(alloc, tables(alloc)?.as_slice(), marks),
         "dump_narrow_run" => runs::dumps_narrowly(alloc, narrow(alloc)?.as_slice(), marks),
+        "draw_run" => runs::draws(alloc, TRAP, marks),
         "type_run" => runs::types(alloc, SENTENCE, marks),
         _ => return Ok(None),
     };
@@ -76,6 +82,33 @@ fn new_map<W: Write>(alloc: Global, marks: &mut W) -> Outcome {
     mark(marks);
     match answer {
         Ok(map) => Outcome::of(done(map.n_keys() == 0)),
+        Err(AllocError) => Outcome::of(Answer::Memory),
+    }
+}
+
+/// Places the definitions of a text of six.
+fn places_definitions<W: Write>(alloc: Global, marks: &mut W) -> Outcome {
+    mark(marks);
+    let answer = definitions(alloc, TEXT);
+    mark(marks);
+    match answer {
+        Ok(placed) => Outcome::of(done(placed.definitions.len() == 6)),
+        Err(AllocError) => Outcome::of(Answer::Memory),
+    }
+}
+
+/// Finds the diagnostics of a text with so many.
+fn finds_diagnostics<W: Write>(
+    alloc: Global,
+    text: &[u8],
+    wanted: usize,
+    marks: &mut W,
+) -> Outcome {
+    mark(marks);
+    let answer = diagnostics(alloc, text);
+    mark(marks);
+    match answer {
+        Ok(lint) => Outcome::of(done(lint.diagnostics.len() == wanted)),
         Err(AllocError) => Outcome::of(Answer::Memory),
     }
 }

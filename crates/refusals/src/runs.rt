@@ -3,8 +3,9 @@ use crate::devices::{Counting, mark, reader_of};
 use crate::inputs::{LOCK, LOCKED, TEXT, TRAP};
 use crate::outcome::{Answer, Outcome, done};
 use keymap_core::Write;
+use keymap_draw::Board;
 use kmap_runs::{
-    RunError, check_run, dump_narrow_run, dump_run, search_next_run, search_run, type_run,
+    RunError, check_run, draw_run, dump_narrow_run, dump_run, search_next_run, search_run, type_run,
 };
 use std::alloc::Global;
 
@@ -49,6 +50,15 @@ pub(crate) fn searches_between<W: Write>(alloc: Global, text: &[u8], marks: &mut
     let answer = search_next_run(alloc, &mut first, &mut second, &mut out);
     mark(marks);
     ran(answer.map(|never| never == (text != LOCKED)), &out)
+}
+
+pub(crate) fn draws<W: Write>(alloc: Global, text: &[u8], marks: &mut W) -> Outcome {
+    let mut reader = reader_of(text);
+    let mut out = Counting { writes: 0 };
+    mark(marks);
+    let answer = draw_run(alloc, &mut reader, Board::Iso, &mut out);
+    mark(marks);
+    ran(answer.map(|()| out.writes > 0), &out)
 }
 
 pub(crate) fn dumps<W: Write>(alloc: Global, tables: &[u8], marks: &mut W) -> Outcome {

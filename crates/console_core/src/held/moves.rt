@@ -1,5 +1,5 @@
 //! Where presses, releases and loads lead from a state of the search, and what they are as events.
-ghost use Rattle.std.specs.Prelude.{◌≡◌, ◌≢◌, ◌<◌, ℕ, List, false, true, None, ◌||◌, ◌&&◌, not, ◌++◌, OnOk};
+ghost use Rattle.std.specs.Prelude.{◌≡◌, ◌≢◌, ◌<◌, ℕ, false, true, None, ◌||◌, ◌&&◌, ◌++◌, OnOk};
 ghost use Rattle.std.specs.Prelude.{MatchOption, IfSome};
 ghost use Rattle.keymap_core.specs.Borne.{is_borne};
 ghost use Rattle.keymap_core.specs.Actions.{modifiers};
@@ -9,7 +9,7 @@ ghost use Rattle.console_core.specs.Columns.{slot_of, is_upper};
 ghost use Rattle.console_core.specs.Moves.{Under, start as start_state, is_held as is_held_in, look_in, IsIdle};
 ghost use Rattle.console_core.specs.Moves.{map_in, next_map, exchanged as exchanged_in, IsFree};
 ghost use Rattle.console_core.specs.Moves.{with_holder as with_holder_in, with_lock_turned, HolderForgets};
-ghost use Rattle.console_core.specs.Moves.{IsForgetful, presses_of, events_of_move, releases};
+ghost use Rattle.console_core.specs.Moves.{IsForgetful, events_of_move, releases};
 ghost use Rattle.console_core.specs.Inner.Searching.{state_of, under_of, Entries, IsMetBy, IsLetGoMet};
 ghost use Rattle.console_core.specs.Inner.Searching.{IsExchangeMet, ArePressesMet, IsStep};
 ghost use Rattle.console_core.specs.Inner.HeldBytes.{holder_number, bytes_of, held-equal, bool_equal, same-bytes};
@@ -150,7 +150,8 @@ impl Held {
         }
     }
 
-    /// What a press of the key looks up.
+    /// What a press of the key looks up. `look` of `machine` goes the same way over the marks of a store. It is told
+    /// again here since a state of the search is no store: a holder stands in it for a mark and for what is remembered.
     fn look(&self, maps: &Keymaps, key: KeyCode) -> Cell
         ensures in_range { key < key_count }
         ensures value { result ≡ look_in (under_of maps.now) (state_of self.now) key }

@@ -1,9 +1,6 @@
-use Rattle.std.proofs.Common.{◌∷◌, ◌++◌, List, sym, ◌∙◌}
-use Rattle.std.specs.Prelude.{reverse}
+use Rattle.std.proofs.Common.{◌∷◌, ◌++◌, sym, ◌∙◌}
 use Rattle.console_core.specs.declared.event.Event.{Event}
-use Rattle.console_core.specs.declared.event.Event.TheVariants.{Press, Release}
 use Rattle.console_core.specs.History.{between}
-use Rattle.keymap_check.specs.Scripts.{events_of, start_of}
 use Rattle.keymap_check.proofs.Played.{played, stays_off}
 use Rattle.keymap_check.proofs.demonstration.leaves_modifier_on.Goals as goal
 

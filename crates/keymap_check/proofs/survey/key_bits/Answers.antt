@@ -1,5 +1,4 @@
-use Rattle.std.proofs.Common.{ap, sym, ◌∙◌}
-use Rattle.keymap_check.specs.Inner.CellBits.{bits_below, cell_bit}
+use Rattle.std.proofs.Common.{sym, ◌∙◌}
 use Rattle.keymap_check.proofs.CellBits.{bits_below-start, bits_below-more}
 use Rattle.keymap_check.proofs.survey.key_bits.Goals as goal
 

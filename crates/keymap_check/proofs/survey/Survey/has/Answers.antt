@@ -1,5 +1,3 @@
-use Rattle.std.proofs.Common.{arith}
-use Rattle.keymap_check.specs.Inner.CellBits.{mask_of}
 use Rattle.keymap_check.proofs.CellBits.{bits_tell}
 use Rattle.keymap_check.proofs.survey.Survey.has.Goals as goal
 

@@ -1,9 +1,8 @@
 //! The number of a character as people write it.
 ghost use Rattle.std.specs.Prelude.{◌≡◌, ◌<◌, ◌∷◌, []};
 ghost use Rattle.std.specs.Char.{digit_char};
-ghost use Rattle.kmap_runs.specs.CodePoints as spec;
+ghost use Rattle.keymap_core.specs.CodePoints as spec;
 
-use crate::text::append;
 use arrayvec::ArrayVec;
 
 fn hex_digit(digit: u32) -> u8
@@ -18,7 +17,7 @@ fn hex_digit(digit: u32) -> u8
 }
 
 /// The number of a character in hexadecimal digits, six of them.
-fn hex_digits(number: u32) -> [u8; 6]
+fn six_digits(number: u32) -> [u8; 6]
     ensures { result ≡ spec.digit_at number 0x100000 ∷ spec.digit_at number 0x10000 ∷ spec.digit_at number 0x1000
         ∷ spec.digit_at number 0x100 ∷ spec.digit_at number 0x10 ∷ spec.digit_at number 1 ∷ [] }
 {
@@ -32,21 +31,32 @@ fn hex_digits(number: u32) -> [u8; 6]
     ]
 }
 
-/// The number of a character behind `U+`, in four hexadecimal digits or more.
-#[tactic(auto, unfolding(crate::specs::CodePoints::code_text))]
-pub(crate) fn code_of(c: char) -> ArrayVec<u8, 8>
-    ensures { result.items ≡ spec.code_text c }
+/// The number of a character in lower case hexadecimal digits, four to six of them.
+#[tactic(auto, unfolding(crate::specs::CodePoints::code_digits))]
+pub fn code_digits(c: char) -> ArrayVec<u8, 6>
+    ensures { result.items ≡ spec.code_digits c }
 {
     let number = u32::from(c);
-    let digits = hex_digits(number);
+    let digits = six_digits(number);
     let mut text = ArrayVec::new();
-    append(&mut text, b"U+");
     if number < 0x1_0000 {
-        append(&mut text, &digits[2..]);
+        text.try_extend_from_slice(&digits[2..]).unwrap();
     } else if number < 0x10_0000 {
-        append(&mut text, &digits[1..]);
+        text.try_extend_from_slice(&digits[1..]).unwrap();
     } else {
-        append(&mut text, &digits);
+        text.try_extend_from_slice(&digits).unwrap();
     }
+    text
+}
+
+/// The number of a character behind `U+`, in four hexadecimal digits or more.
+#[tactic(auto, unfolding(crate::specs::CodePoints::code_text))]
+pub fn code_text(c: char) -> ArrayVec<u8, 8>
+    ensures { result.items ≡ spec.code_text c }
+{
+    let mut text = ArrayVec::new();
+    text.try_extend_from_slice(b"U+").unwrap();
+    text.try_extend_from_slice(code_digits(c).as_slice())
+        .unwrap();
     text
 }

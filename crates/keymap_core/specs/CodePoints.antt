@@ -12,8 +12,10 @@ upper_digits c =
     else if nat_lt c 0x100000 then digit_at c 0x10000 ∷ []
     else digit_at c 0x100000 ∷ digit_at c 0x10000 ∷ []
 
--- U+ and the number of the character in hexadecimal digits, four at least
+-- the number of the character in hexadecimal digits, four at least
+unfoldable pub code_digits : ℕ → List ℕ
+code_digits c = upper_digits c ++ digit_at c 0x1000 ∷ digit_at c 0x100 ∷ digit_at c 0x10 ∷ digit_at c 1 ∷ []
+
+-- U+ and these digits
 unfoldable pub code_text : ℕ → List ℕ
-code_text c =
-    codes "U+" ++ upper_digits c
-    ++ digit_at c 0x1000 ∷ digit_at c 0x100 ∷ digit_at c 0x10 ∷ digit_at c 1 ∷ []
+code_text c = codes "U+" ++ code_digits c

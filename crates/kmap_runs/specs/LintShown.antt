@@ -1,0 +1,27 @@
+-- What is shown of the bytes of a text.
+use Rattle.std.specs.Prelude.{◌≡◌, ℕ, ◌==◌, Bool, IsTrue, not, ◌||◌, if◌then◌else◌, List, map, encode_utf8}
+use Rattle.std.specs.Char.{IsScalar}
+use Rattle.std.specs.List.{All, flat_map}
+use Rattle.bstr.specs.Utf8.{lossy_chars}
+use Rattle.kmap_runs.specs.Typing.{is_hidden}
+
+-- U+FFFD stands for a character that a terminal doesn't show, other than a tab
+abbrev pub shown_char : ℕ → ℕ
+shown_char c = if c == 9 then c else if is_hidden c then 0xfffd else c
+
+-- the characters that are shown of bytes; one U+FFFD stands for each maximal piece that isn't UTF-8
+unfoldable pub shown_chars : List ℕ → List ℕ
+shown_chars bytes = map shown_char (lossy_chars bytes)
+
+-- a tab, a line feed, or a character that a terminal shows
+abbrev pub is_plain : ℕ → Bool
+is_plain c = c == 9 || c == 10 || not (is_hidden c)
+
+abbrev pub IsPlain : ℕ → Type 0
+IsPlain c = IsScalar c × IsTrue (is_plain c)
+
+-- The bytes are UTF-8 of such characters alone.
+pub record IsPlainText (bytes : List ℕ) : Type 0 where
+  pub characters : List ℕ
+  pub spelled : bytes ≡ flat_map encode_utf8 characters
+  pub plain : All IsPlain characters

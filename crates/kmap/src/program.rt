@@ -1,6 +1,5 @@
 //! One run of the program: the words, the files that they name, and the exit status.
 use crate::command_line::{Request, command, request_of};
-use clap::ArgMatches;
 use clap::error::{Error, ErrorKind};
 use keymap_core::{FromStd, KeyMap, ToStd, Write, write_text};
 use keymap_draw::Board;
@@ -12,6 +11,7 @@ use kmap_runs::{
 };
 use play_core::{PlayError, Show, play, play_next};
 use std::alloc::{AllocError, Global};
+use std::convert::AsStr;
 use std::io::BufReader;
 use std::process::ExitCode;
 use std::rt::{Env, Files};
@@ -27,9 +27,6 @@ enum Failure<'a> {
 
 /// The status where the words are wrong.
 const WRONG_WORDS: u8 = 2;
-
-/// The words that ask for help on `help`.
-const HELP_ON_HELP: [&str; 3] = ["kmap", "help", "help"];
 
 /// How many bytes of a file are asked for at once.
 const READ_AHEAD: usize = 65_536;
@@ -77,21 +74,16 @@ where
     }
 }
 
-/// Whether the words ask for help on `help` by an option.
-fn asks_by_option(words: &[String]) -> bool {
-    let [_, command, option, ..] = words else {
-        return false;
+/// The words that `clap` takes in place of words that ask for help on `help` by an option, under the name that the
+/// program was called by: `clap` takes no option behind `help`.
+fn help_on_help(words: &[String]) -> Option<[&str; 3]> {
+    let [name, command, option, ..] = words else {
+        return None;
     };
-    command.as_str() == "help" && matches!(option.as_str(), "--help" | "-h")
-}
-
-/// What `clap` finds in the words. It takes no option behind `help`, so one that asks for help is told in other words.
-fn found<'a>(alloc: Global, words: &'a [String]) -> Result<ArgMatches<'a>, Error> {
-    let program = command(alloc)?;
-    if asks_by_option(words) {
-        program.try_get_matches_from(&HELP_ON_HELP)
+    if command.as_str() == "help" && matches!(option.as_str(), "--help" | "-h") {
+        Some([name.as_str(), "help", "help"])
     } else {
-        program.try_get_matches_from(words)
+        None
     }
 }
 
@@ -101,7 +93,20 @@ where
     R: AllocGlobal + Files + Print + Eprint,
     W: Write,
 {
-    match found(rt.alloc(), words) {
+    match help_on_help(words) {
+        Some(words) => command_run(rt, &words, faults),
+        None => command_run(rt, words, faults),
+    }
+}
+
+/// Does what a command line asks for.
+fn command_run<R, S, W>(rt: &R, words: &[S], faults: &mut W) -> Result<ExitCode, AllocError>
+where
+    R: AllocGlobal + Files + Print + Eprint,
+    S: AsStr,
+    W: Write,
+{
+    match command(rt.alloc())?.try_get_matches_from(words) {
         Ok(matches) => match request_of(&matches) {
             Some(request) => Ok(status_of(answer(rt, request), faults)),
             None => no_text(rt),

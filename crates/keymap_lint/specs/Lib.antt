@@ -2,3 +2,4 @@ pub mod Severities
 pub mod Spelled
 pub mod Kinds
 pub mod Lists
+pub mod Stuck

@@ -22,6 +22,7 @@ use Rattle.keymap_lint.specs.declared.diagnostic.Kind.TheVariants.{Fault}
 use Rattle.keymap_lint.specs.declared.diagnostic.Diagnostic.{Diagnostic}
 use Rattle.keymap_lint.specs.declared.diagnostic.Lint.{Lint}
 use Rattle.keymap_lint.specs.Spelled.{Spelled, cells_in_force}
+use Rattle.keymap_lint.specs.Stuck.{stuck}
 use Rattle.keymap_lint.specs.Kinds.{at, no_key, no_shift, mixed_keys, half_defined, defined_again, dead_key}
 use Rattle.keymap_lint.specs.Kinds.{zero_accents, pairs_again, unused_half, bare_digits, missing_slots, nul_keys}
 use Rattle.keymap_lint.specs.Kinds.{missing_accents, unused_slots}
@@ -60,6 +61,7 @@ pub record IsLintOf (t : Spelled) (cells : List CellInForce) (findings : List Fi
   pub accents : l.missing_accents.items ≡ missing_accents t cells
   pub unused : l.unused_slots.items ≡ unused_slots t
   pub sticking : IsSearched t.map findings l.sticking
+  pub stuck : l.stuck.items ≡ stuck t.map l.sticking
 
 -- those of a text that spells a map, with the findings of the check
 abbrev pub IsLintOfSpelled : Spelled → Lint → Type 0
@@ -86,6 +88,7 @@ pub record IsLintOfFault (text : List ℕ) (f : TextFault) (l : Lint) : Type 0 w
   pub accents : l.missing_accents.items ≡ []
   pub unused : l.unused_slots.items ≡ []
   pub sticking : l.sticking ≡ None
+  pub stuck : l.stuck.items ≡ []
 
 -- The diagnostics of a text: of the map that it spells, or of its fault.
 abbrev pub IsLint : List ℕ → Lint → Type 0

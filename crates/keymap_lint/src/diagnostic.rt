@@ -7,7 +7,7 @@ ghost use Rattle.keymap_lint.specs.Severities.{never_sticks as never_sticks_by};
 use arrayvec::ArrayVec;
 use console_core::Sticking;
 use keymap_check::Finding;
-use keymap_core::{ACCENT_LIMIT, Holding, KEY_COUNT, SLOT_LIMIT};
+use keymap_core::{ACCENT_LIMIT, Holding, KEY_COUNT, Modifier, SLOT_LIMIT};
 use keymap_text::{Defined, FaultPlace, TextFaultKind};
 use std::alloc::AllocError;
 
@@ -104,6 +104,8 @@ pub struct Lint {
     pub unused_slots: ArrayVec<u8, KEY_COUNT>,
     /// What the search for sticking modifiers answers; nothing where the check has no findings.
     pub sticking: Option<Sticking>,
+    /// The modifiers that are on after the events which it found, in their order.
+    pub stuck: Vec<Modifier>,
 }
 
 fn error_unless(is_mild: bool) -> Severity

@@ -17,6 +17,7 @@ mod order;
 mod pairs;
 mod selectors;
 mod spelled;
+mod stuck;
 
 pub use accents::zero_accents;
 pub use again::defined_again;

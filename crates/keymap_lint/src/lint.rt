@@ -1,7 +1,7 @@
 //! The diagnostics of a text.
 ghost use Rattle.std.specs.Prelude.{◌≡◌, ◌≤◌, IfOk, All, length};
 ghost use Rattle.keymap_core.specs.Numbers.{key_count};
-ghost use Rattle.keymap_text.specs.Meaning.{Spells, Fault as FaultOf};
+ghost use Rattle.keymap_text.specs.Meaning.{Spells};
 ghost use Rattle.keymap_lint.specs.Spelled.{AreDefined};
 ghost use Rattle.keymap_text.specs.Placed.{StandsAmong};
 ghost use Rattle.keymap_lint.specs.Lists.{IsSearched, AreOrdered, all_of, spelled_with, IsLintOf, IsLintOfSpelled};
@@ -16,6 +16,7 @@ use crate::mixed::nul_keys;
 use crate::order::put_in_order;
 use crate::selectors::missing_slots;
 use crate::spelled::SpelledText;
+use crate::stuck::stuck;
 use arrayvec::ArrayVec;
 use console_core::{Sticking, sticking};
 use keymap_check::{Finding, check};
@@ -64,6 +65,7 @@ fn lint_with(
 {
     let diagnostics = ordered(alloc, text, cells, findings)?;
     let sticking = search(alloc, text.map(), findings)?;
+    let stuck = stuck(alloc, text.map(), &sticking)?;
     Ok(Lint {
         diagnostics,
         missing_slots: missing_slots(text),
@@ -71,6 +73,7 @@ fn lint_with(
         missing_accents: missing_accents(text, cells),
         unused_slots: unused_slots(text),
         sticking,
+        stuck,
     })
 }
 
@@ -131,6 +134,7 @@ fn lint_fault(alloc: Global, text: &[u8], fault: TextFault) -> Result<Lint, Allo
         missing_accents: ArrayVec::new(),
         unused_slots: ArrayVec::new(),
         sticking: None,
+        stuck: Vec::new(alloc),
     })
 }
 

@@ -10,6 +10,7 @@ pub mod Folded
 pub mod Row
 pub mod Verdicts
 pub mod Lines
+pub mod BlockLines
 pub mod Standing
 pub mod Lexed
 pub mod PrintedLines

@@ -6,6 +6,7 @@ use Rattle.keymap_text.specs.Lexical.{leading}
 use Rattle.keymap_text.proofs.Leading.{leading_pass, leading_fail}
 use Rattle.std.proofs.lemmas.List.{drop-drop, drop-append-le, drop_all, take-append-le}
 use Rattle.std.proofs.lemmas.List.Recursion.{is_count_by}
+use Rattle.std.proofs.Math.Seq.{take-add}
 use Rattle.keymap_text.specs.declared.fault.TextFault.{TextFault}
 use Rattle.keymap_text.specs.declared.scanner.Scanner.{Scanner}
 use Rattle.keymap_text.specs.Meaning.{line}
@@ -41,6 +42,13 @@ feeds_split : (n : ℕ) (b : List ℕ) → feeds (take n b) + feeds (drop n b) �
 feeds_split zero b = omega arith
 feeds_split (suc n) [] = refl
 feeds_split (suc n) (c ∷ b) = omega (arith, feeds_one c (take n b), feeds_one c b, feeds_split n b)
+
+-- the line of a later place by the line feeds between
+pub line_more : (b : List ℕ) (n k : ℕ) → line b (n + k) ≡ line b n + count_by (λ c. c == 10) (take k (drop n b))
+line_more b n k =
+    let e : feeds (take (n + k) b) ≡ feeds (take n b) + feeds (take k (drop n b)) =
+    ap feeds (take-add n k b) ∙ feeds_append (take n b) (take k (drop n b)) in
+    omega (arith, line_is b (n + k), line_is b n, e, feeds_are (take k (drop n b)))
 
 -- none from a place on, none from a later one on
 feeds_behind : (n m : ℕ) (b : List ℕ) → n ≤ m → feeds (drop n b) ≡ 0 → feeds (drop m b) ≡ 0

@@ -61,8 +61,9 @@ fn hex_text(c: u32) -> Text
     text
 }
 
+/// A character as it is printed in a keymap: a control by its name, one of ASCII quoted, and any other one by its number.
 #[tactic(auto, unfolding(crate::specs::Printed::character_text))]
-fn character_text(c: char) -> Text
+pub fn character_text(c: char) -> Text
     ensures { result.items ≡ spec.character_text c }
 {
     match c {

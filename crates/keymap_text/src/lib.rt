@@ -23,13 +23,13 @@ mod words;
 
 pub use fault::{TextError, TextFault, TextFaultKind};
 pub use last::{LastDefinitions, last_definitions};
-pub use layout::{accent_words, flag_letter, slot_words};
+pub use layout::{accent_words, character_text, flag_letter, slot_words};
 pub use names::control_name;
 pub use placed::{Defined, Placed, PlacedText, definitions};
 pub use printer::print_map;
 pub use reader::{MapReader, read_map};
 pub use source::{LIMIT, read_from};
-pub use text_line::{TextLine, line_at};
+pub use text_line::{TextLine, TextLines};
 pub use token::{Span, Token, TokenKind, next_token};
 pub use wanted::{DefinitionStart, FaultPlace, Wanted, wanted_at_fault};
 pub use words::{Meaning, word_meaning};

@@ -31,6 +31,16 @@ fn check<'a>(alloc: Global) -> Result<Command<'a>, AllocError> {
         ))
 }
 
+fn lint<'a>(alloc: Global) -> Result<Command<'a>, AllocError> {
+    let texts = file(alloc, "TEXT", "The keymap texts").num_args(1..);
+    Command::new(alloc, "lint")
+        .about("Tells what is wrong or doubtful in keymap texts, and where")
+        .after_help(
+            "Example: kmap lint de.kbd us.kbd{n}{n}kmap(1) tells what to do about each kind.",
+        )
+        .arg(texts)
+}
+
 fn search<'a>(alloc: Global) -> Result<Command<'a>, AllocError> {
     Command::new(alloc, "search")
         .about("Decides whether key presses can leave a modifier on")
@@ -106,7 +116,7 @@ fn draw<'a>(alloc: Global) -> Result<Command<'a>, AllocError> {
 fn without_subcommands<'a>(alloc: Global) -> Command<'a> {
     Command::new(alloc, "kmap")
         .version(VERSION)
-        .about("Reads, checks, converts and plays console keymaps")
+        .about("Reads, checks, converts, draws and plays console keymaps")
         .after_help("Example: kmap check de.kbd{n}{n}The manual pages are kmap(1) and kmap(5).")
         .subcommand_required(true)
         .arg_required_else_help(true)
@@ -116,7 +126,8 @@ fn without_subcommands<'a>(alloc: Global) -> Command<'a> {
 fn with_checks<'a>(alloc: Global, program: Command<'a>) -> Result<Command<'a>, AllocError> {
     program
         .subcommand(check(alloc)?)?
-        .subcommand(search(alloc)?)
+        .subcommand(search(alloc)?)?
+        .subcommand(lint(alloc)?)
 }
 
 /// Adds the subcommands on what a console answers.
@@ -142,7 +153,7 @@ pub(crate) fn command<'a>(alloc: Global) -> Result<Command<'a>, AllocError> {
 
 /// What the words ask for.
 #[derive(Clone, Copy, Drop)]
-pub(crate) enum Request<'a> {
+pub(crate) enum Request<'m, 'a> {
     Dump {
         tables: &'a str,
         narrow: bool,
@@ -155,6 +166,9 @@ pub(crate) enum Request<'a> {
     Check {
         text: &'a str,
         show: bool,
+    },
+    Lint {
+        texts: &'m [&'a str],
     },
     Search {
         text: &'a str,
@@ -176,14 +190,14 @@ pub(crate) enum Request<'a> {
     },
 }
 
-fn dump_request<'a>(words: &ArgMatches<'a>) -> Option<Request<'a>> {
+fn dump_request<'m, 'a>(words: &'m ArgMatches<'a>) -> Option<Request<'m, 'a>> {
     Some(Request::Dump {
         tables: words.get_str("TABLES")?,
         narrow: words.get_flag("narrow"),
     })
 }
 
-fn compile_request<'a>(words: &ArgMatches<'a>) -> Option<Request<'a>> {
+fn compile_request<'m, 'a>(words: &'m ArgMatches<'a>) -> Option<Request<'m, 'a>> {
     Some(Request::Compile {
         text: words.get_str("TEXT")?,
         out: words.get_str("OUT")?,
@@ -191,21 +205,27 @@ fn compile_request<'a>(words: &ArgMatches<'a>) -> Option<Request<'a>> {
     })
 }
 
-fn check_request<'a>(words: &ArgMatches<'a>) -> Option<Request<'a>> {
+fn check_request<'m, 'a>(words: &'m ArgMatches<'a>) -> Option<Request<'m, 'a>> {
     Some(Request::Check {
         text: words.get_str("TEXT")?,
         show: words.get_flag("show"),
     })
 }
 
-fn search_request<'a>(words: &ArgMatches<'a>) -> Option<Request<'a>> {
+fn lint_request<'m, 'a>(words: &'m ArgMatches<'a>) -> Option<Request<'m, 'a>> {
+    Some(Request::Lint {
+        texts: words.get_strs("TEXT")?,
+    })
+}
+
+fn search_request<'m, 'a>(words: &'m ArgMatches<'a>) -> Option<Request<'m, 'a>> {
     Some(Request::Search {
         text: words.get_str("TEXT")?,
         next: words.get_str("next"),
     })
 }
 
-fn play_request<'a>(words: &ArgMatches<'a>) -> Option<Request<'a>> {
+fn play_request<'m, 'a>(words: &'m ArgMatches<'a>) -> Option<Request<'m, 'a>> {
     Some(Request::Play {
         text: words.get_str("TEXT")?,
         next: words.get_str("next"),
@@ -214,14 +234,14 @@ fn play_request<'a>(words: &ArgMatches<'a>) -> Option<Request<'a>> {
     })
 }
 
-fn type_request<'a>(words: &ArgMatches<'a>) -> Option<Request<'a>> {
+fn type_request<'m, 'a>(words: &'m ArgMatches<'a>) -> Option<Request<'m, 'a>> {
     Some(Request::Type {
         text: words.get_str("TEXT")?,
         sentence: words.get_str("SENTENCE")?,
     })
 }
 
-fn draw_request<'a>(words: &ArgMatches<'a>) -> Option<Request<'a>> {
+fn draw_request<'m, 'a>(words: &'m ArgMatches<'a>) -> Option<Request<'m, 'a>> {
     Some(Request::Draw {
         text: words.get_str("TEXT")?,
         ansi: words.get_flag("ansi"),
@@ -229,12 +249,13 @@ fn draw_request<'a>(words: &ArgMatches<'a>) -> Option<Request<'a>> {
 }
 
 /// The request of words that `clap` took.
-pub(crate) fn request_of<'a>(matches: &ArgMatches<'a>) -> Option<Request<'a>> {
+pub(crate) fn request_of<'m, 'a>(matches: &'m ArgMatches<'a>) -> Option<Request<'m, 'a>> {
     let (name, words) = matches.subcommand()?;
     match name {
         "dump" => dump_request(words),
         "compile" => compile_request(words),
         "check" => check_request(words),
+        "lint" => lint_request(words),
         "search" => search_request(words),
         "play" => play_request(words),
         "type" => type_request(words),

@@ -6,8 +6,8 @@ use keymap_draw::Board;
 use keymap_tables::{write_narrow, write_tables};
 use keymap_text::read_from;
 use kmap_runs::{
-    RunError, check_run, draw_run, dump_narrow_run, dump_run, narrow_failure, play_failure,
-    search_next_run, search_run, text_failure, type_run, write_run_error,
+    RunError, check_run, draw_run, dump_narrow_run, dump_run, lint_run, narrow_failure,
+    play_failure, search_next_run, search_run, text_failure, type_run, write_run_error,
 };
 use play_core::{PlayError, Show, play, play_next};
 use std::alloc::{AllocError, Global};
@@ -74,28 +74,23 @@ where
     }
 }
 
-/// The words that `clap` takes in place of words that ask for help on `help` by an option, under the name that the
-/// program was called by: `clap` takes no option behind `help`.
-fn help_on_help(words: &[String]) -> Option<[&str; 3]> {
-    let [name, command, option, ..] = words else {
-        return None;
-    };
-    if command.as_str() == "help" && matches!(option.as_str(), "--help" | "-h") {
-        Some([name.as_str(), "help", "help"])
-    } else {
-        None
-    }
+/// Whether the words ask for help on `help` by an option.
+fn asks_by_option(command: &str, option: &str) -> bool {
+    command == "help" && matches!(option, "--help" | "-h")
 }
 
-/// Does what words that are text ask for.
+/// Does what words that are text ask for. `clap` takes no option behind `help`, so one that asks for help is told in
+/// other words, under the name that the program was called by.
 fn text_run<R, W>(rt: &R, words: &[String], faults: &mut W) -> Result<ExitCode, AllocError>
 where
     R: AllocGlobal + Files + Print + Eprint,
     W: Write,
 {
-    match help_on_help(words) {
-        Some(words) => command_run(rt, &words, faults),
-        None => command_run(rt, words, faults),
+    match words {
+        [name, command, option, ..] if asks_by_option(command.as_str(), option.as_str()) => {
+            command_run(rt, &[name.as_str(), "help", "help"], faults)
+        }
+        _ => command_run(rt, words, faults),
     }
 }
 
@@ -108,7 +103,7 @@ where
 {
     match command(rt.alloc())?.try_get_matches_from(words) {
         Ok(matches) => match request_of(&matches) {
-            Some(request) => Ok(status_of(answer(rt, request), faults)),
+            Some(request) => Ok(status(is_well(answer(rt, request, faults), faults))),
             None => no_text(rt),
         },
         Err(error) => refused(rt, error),
@@ -131,14 +126,21 @@ fn no_text<R: AllocGlobal + Print + Eprint>(rt: &R) -> Result<ExitCode, AllocErr
     Ok(ExitCode::from(WRONG_WORDS))
 }
 
-/// The status of a request's outcome: a refused map has that of a failure, which also gets its line.
-fn status_of<W: Write>(outcome: Result<bool, Failure<'_>>, faults: &mut W) -> ExitCode {
+fn status(is_well: bool) -> ExitCode {
+    if is_well {
+        ExitCode::SUCCESS
+    } else {
+        ExitCode::FAILURE
+    }
+}
+
+/// Whether all is well. A failure also gets its line.
+fn is_well<W: Write>(outcome: Result<bool, Failure<'_>>, faults: &mut W) -> bool {
     match outcome {
-        Ok(true) => ExitCode::SUCCESS,
-        Ok(false) => ExitCode::FAILURE,
+        Ok(well) => well,
         Err(failure) => {
             report(&failure, faults);
-            ExitCode::FAILURE
+            false
         }
     }
 }
@@ -160,13 +162,16 @@ fn report_name<W: Write>(front: &[u8], name: &str, faults: &mut W) {
     }
 }
 
-/// Answers a request: whether all is well, which only a refused map denies, or one that isn't known never to stick.
-fn answer<'a, R>(rt: &R, request: Request<'a>) -> Result<bool, Failure<'a>>
+/// Answers a request: whether all is well, which only a refused map denies, one that isn't known never to stick, or a
+/// text with an error.
+fn answer<'a, R, W>(rt: &R, request: Request<'_, 'a>, faults: &mut W) -> Result<bool, Failure<'a>>
 where
     R: AllocGlobal + Files + Print,
+    W: Write,
 {
     match request {
         Request::Check { text, show } => check(rt, text, show),
+        Request::Lint { texts } => lint(rt, texts, faults),
         Request::Search { text, next } => match next {
             Some(next) => search_two(rt, text, next),
             None => search_one(rt, text),
@@ -205,6 +210,34 @@ where
     let mut source = opened(rt, text)?;
     let mut out = ToStd::new(io::writer(rt));
     run_outcome(check_run(rt.alloc(), &mut source, show, &mut out))
+}
+
+fn lint_one<'a, R>(rt: &R, text: &'a str) -> Result<bool, Failure<'a>>
+where
+    R: AllocGlobal + Files + Print,
+{
+    let mut source = opened(rt, text)?;
+    let mut out = ToStd::new(io::writer(rt));
+    run_outcome(lint_run(rt.alloc(), text.as_bytes(), &mut source, &mut out))
+}
+
+/// Whether no text has an error. One that can't be read gets its line, and the next one follows; where the output fails,
+/// none does.
+fn lint<'a, R, W>(rt: &R, texts: &[&'a str], faults: &mut W) -> Result<bool, Failure<'a>>
+where
+    R: AllocGlobal + Files + Print,
+    W: Write,
+{
+    let mut well = true;
+    for text in texts {
+        match lint_one(rt, text) {
+            Err(Failure::Run(RunError::Write(fault))) => {
+                return Err(Failure::Run(RunError::Write(fault)));
+            }
+            outcome => well = is_well(outcome, faults) && well,
+        }
+    }
+    Ok(well)
 }
 
 fn search_one<'a, R>(rt: &R, text: &'a str) -> Result<bool, Failure<'a>>

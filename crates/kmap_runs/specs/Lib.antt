@@ -5,6 +5,9 @@ pub mod LintFaults
 pub mod LintHeads
 pub mod LintKinds
 pub mod LintLists
+pub mod LintNotes
+pub mod LintRuns
+pub mod LintSaid
 pub mod LintShown
 pub mod LintWords
 pub mod Replayed

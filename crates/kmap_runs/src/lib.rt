@@ -20,6 +20,9 @@ mod lint_faults;
 mod lint_heads;
 mod lint_kinds;
 mod lint_lists;
+mod lint_notes;
+mod lint_runs;
+mod lint_said;
 mod lint_shown;
 mod lint_words;
 mod report;
@@ -32,6 +35,7 @@ mod typing;
 
 pub use draw_runs::draw_run;
 pub use fault_line::{RunError, write_run_error};
+pub use lint_runs::lint_run;
 pub use runs::{check_run, dump_narrow_run, dump_run, narrow_failure, play_failure, text_failure};
 pub use search_runs::{search_next_run, search_run};
 pub use type_runs::type_run;

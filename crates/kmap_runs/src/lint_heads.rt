@@ -1,7 +1,6 @@
 //! A diagnostic: its line with the place, the severity, the message and the kind, and the line of the text with a
 //! caret.
 ghost use Rattle.std.specs.Prelude.{◌≡◌, ◌≤◌, ◌++◌, length, codes, OnOk, IfSome, IfOk};
-ghost use Rattle.kmap_runs.specs.FaultLine.{text_kind};
 ghost use Rattle.kmap_runs.specs.LintFaults.{fault_text};
 ghost use Rattle.kmap_runs.specs.LintHeads as spec;
 ghost use Rattle.kmap_runs.specs.LintWords.{defined_text};
@@ -11,7 +10,7 @@ use crate::lint_excerpt::push_excerpt;
 use crate::lint_faults::push_fault;
 use crate::lint_lists::push_number;
 use crate::lint_words::push_defined;
-use keymap_text::{Defined, DefinitionStart, FaultPlace, TextFaultKind, line_at};
+use keymap_text::{Defined, DefinitionStart, FaultPlace, TextFaultKind, TextLines};
 use std::alloc::{AllocError, Global};
 
 fn push_located(text: &mut Vec<u8>, file: &[u8], number: u64, column: u64) -> Result<(), AllocError>
@@ -30,7 +29,7 @@ fn push_located(text: &mut Vec<u8>, file: &[u8], number: u64, column: u64) -> Re
 fn push_place(
     text: &mut Vec<u8>,
     file: &[u8],
-    source: &[u8],
+    source: &TextLines,
     place: Option<usize>,
 ) -> Result<(), AllocError>
     requires { IfSome place (λ p. p ≤ length source.now) }
@@ -42,7 +41,7 @@ fn push_place(
             text.extend_from_slice(b": ")
         }
         Some(offset) => {
-            let line = line_at(source, offset);
+            let line = source.at(offset);
             push_located(text, file, line.number, line.before.len() as u64 + 1)
         }
     }
@@ -53,7 +52,7 @@ fn push_place(
 fn push_shown(
     alloc: Global,
     text: &mut Vec<u8>,
-    source: &[u8],
+    source: &TextLines,
     place: Option<usize>,
 ) -> Result<(), AllocError>
     requires { IfSome place (λ p. p ≤ length source.now) }
@@ -62,7 +61,7 @@ fn push_shown(
     match place {
         None => Ok(()),
         Some(offset) => {
-            let line = line_at(source, offset);
+            let line = source.at(offset);
             push_excerpt(alloc, text, line.before, line.rest)
         }
     }
@@ -92,7 +91,7 @@ pub(crate) fn push_diagnostic(
     alloc: Global,
     text: &mut Vec<u8>,
     file: &[u8],
-    source: &[u8],
+    source: &TextLines,
     place: Option<usize>,
     severity: &[u8],
     message: &[u8],
@@ -121,7 +120,7 @@ pub(crate) fn push_note(
     alloc: Global,
     text: &mut Vec<u8>,
     file: &[u8],
-    source: &[u8],
+    source: &TextLines,
     place: Option<usize>,
     message: &[u8],
 ) -> Result<(), AllocError>
@@ -160,7 +159,7 @@ fn push_beginning(
     alloc: Global,
     text: &mut Vec<u8>,
     file: &[u8],
-    source: &[u8],
+    source: &TextLines,
     place: usize,
     definition: Option<DefinitionStart>,
 ) -> Result<(), AllocError>
@@ -172,7 +171,7 @@ fn push_beginning(
     match definition {
         None => Ok(()),
         Some(start) => {
-            if line_at(source, start.offset).number < line_at(source, place).number {
+            if source.number_at(start.offset) < source.number_at(place) {
                 let message = beginning_message(alloc, start.what)?;
                 push_note(
                     alloc,
@@ -193,7 +192,7 @@ fn push_beginning_if(
     alloc: Global,
     text: &mut Vec<u8>,
     file: &[u8],
-    source: &[u8],
+    source: &TextLines,
     place: usize,
     kind: TextFaultKind,
     definition: Option<DefinitionStart>,
@@ -212,7 +211,7 @@ fn push_beginning_if(
 
 fn fault_message(
     alloc: Global,
-    source: &[u8],
+    source: &TextLines,
     place: usize,
     kind: TextFaultKind,
     fault: &FaultPlace,
@@ -222,7 +221,7 @@ fn fault_message(
     ensures { IfOk result (λ text. text.items ≡ fault_text source.now place kind fault.now) }
 {
     let mut text = Vec::new(alloc);
-    push_fault(alloc, &mut text, source, place, kind, fault)?;
+    push_fault(alloc, &mut text, source.text(), place, kind, fault)?;
     Ok(text)
 }
 
@@ -232,7 +231,7 @@ pub(crate) fn push_fault_diagnostic(
     alloc: Global,
     text: &mut Vec<u8>,
     file: &[u8],
-    source: &[u8],
+    source: &TextLines,
     place: usize,
     kind: TextFaultKind,
     fault: &FaultPlace,

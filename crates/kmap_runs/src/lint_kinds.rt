@@ -12,7 +12,8 @@ use keymap_core::Holding;
 use keymap_text::Defined;
 use std::alloc::AllocError;
 
-fn push_name(text: &mut Vec<u8>, holding: Holding) -> Result<(), AllocError>
+/// Adds the name of a modifier or lock.
+pub(crate) fn push_name(text: &mut Vec<u8>, holding: Holding) -> Result<(), AllocError>
     ensures { OnOk result (text.new.items ≡ text.old.items ++ holding_name holding) }
 {
     text.extend_from_slice(holding.action().name().as_slice())

@@ -1,0 +1,10 @@
+use Rattle.std.proofs.Common.{◌++◌, take, List}
+use Rattle.std.specs.Prelude.{reverse}
+use Rattle.console_core.specs.declared.event.Event.{Event}
+use Rattle.console_core.specs.History.{Maps}
+use Rattle.keymap_lint.proofs.stuck.deliver.Given as goal
+
+abbrev pub invariant-loop-event : goal.invariant-loop-event
+invariant-loop-event g l =
+    (ms : Maps) (h : List Event) → g.T.Translator.stands l.fn.console ms h
+    → g.T.Translator.stands l.console ms (reverse (take l.event-index l.events) ++ h)

@@ -1,0 +1,11 @@
+use Rattle.std.proofs.Common.{◌≡◌, take, List}
+use Rattle.std.specs.Prelude.{filter}
+use Rattle.console_core.specs.declared.event.Event.{Event}
+use Rattle.console_core.specs.History.{Maps, is_on_after}
+use Rattle.keymap_lint.proofs.stuck.those_on.Given as goal
+
+-- those that are on among the modifiers so far
+abbrev pub invariant-loop-modifier : goal.invariant-loop-modifier
+invariant-loop-modifier g l =
+    (ms : Maps) (h : List Event) → g.T.Translator.stands l.console ms h
+    → l.on.items ≡ filter (λ i. is_on_after ms i h) (take l.modifier-index l.modifiers)

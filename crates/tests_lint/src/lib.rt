@@ -1,0 +1,8 @@
+//! The tests of keymap_lint: the diagnostics of texts. They say what no clause says.
+//!
+//! A crate with tests is proved once more together with them, so the library has none of its own. Nothing here is
+//! exported.
+#![tactic(auto)]
+
+#[cfg(test)]
+mod lints;

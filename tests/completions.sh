@@ -106,7 +106,7 @@ in_fish() {
     tried "fish offers for: $2" "$1"
 }
 : > letter
-: > letters
+: > line
 if is_there fish; then
     in_fish 'check compile' 'kmap c'
     in_fish '--show --help -h' 'kmap check -'
@@ -115,7 +115,7 @@ if is_there fish; then
     in_fish 'letter' 'kmap play --next le'
     in_fish 'lint' 'kmap l'
     in_fish '--help -h' 'kmap lint letter -'
-    in_fish 'letter letters' 'kmap lint letter le'
+    in_fish 'letter line' 'kmap lint letter l'
     in_fish 'compile check' 'kmap help c'
     in_fish '--help --version' 'kmap --'
 fi

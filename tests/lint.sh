@@ -18,8 +18,9 @@ cd "$folder" || exit 1
 LC_ALL=C
 export LC_ALL
 
-# lints NAME STATUS WORD..: `kmap lint` with these words ends so, and prints what stands on the standard input; on
-# standard error stands what the file `told` has, which is then emptied
+# lints NAME STATUS WORD..: `kmap lint` with these words ends so, prints what stands on the standard input, and tells on
+# standard error what stands in the file `told`, which is then emptied. The standard input is no pipe, since what a
+# subshell counts is lost.
 lints() {
     label=$1 status=$2
     shift 2
@@ -245,17 +246,21 @@ printf "$shift\n30 'a'\n" > t
     echo 't:2:1: note: slot 30 is defined from here on'
     echo "  30 'a'"
     echo '  ^'
-} | lints 'the text ends behind a line' 1 t
+} > wanted
+lints 'the text ends behind a line' 1 t < wanted
 
 # no-key, no-shift
+echo 't: error: the text defines no key [no-key]' > no_key
 : > t
-echo 't: error: the text defines no key [no-key]' | lints 'an empty file' 1 t
+lints 'an empty file' 1 t < no_key
 printf '# nothing\n\n' > t
-echo 't: error: the text defines no key [no-key]' | lints 'comments alone' 1 t
+lints 'comments alone' 1 t < no_key
 echo "dacu 180 ( 'a' 0xe1 )" > t
-echo 't: error: the text defines no key [no-key]' | lints 'an accent alone' 1 t
+lints 'an accent alone' 1 t < no_key
 echo "$letter" > t
-echo 't: warning: no key is lshift or rshift [no-shift]' | lints 'no shift key' 0 t
+lints 'no shift key' 0 t << 'END'
+t: warning: no key is lshift or rshift [no-shift]
+END
 echo '54 rshift rshift rshift rshift rshift rshift rshift rshift O' > t
 lints 'the right shift key alone' 0 t < /dev/null
 # No key selects the slot that has it.
@@ -528,7 +533,8 @@ printf '\t30\tzz\t# \t\n' > t
 {
     echo 't:1:5: error: zz means nothing; a cell that gives nothing is nop [BadWord]'
     printf '  \t30\tzz\t# \t\n  \t  \t^\n'
-} | lints 'tabs' 1 t
+} > wanted
+lints 'tabs' 1 t < wanted
 printf '30 zz\r\n31\r\n' > t
 lints 'a line that ends with CR and LF' 1 t << 'END'
 t:1:4: error: zz means nothing; a cell that gives nothing is nop [BadWord]
@@ -628,6 +634,17 @@ lints 'a name of words' 1 'a name: of [words]' << END
 a name: of [words]:1:4: $words
 $excerpt
 END
+umlaut=$(printf 'z\303\274rich.kbd')
+cp bad "$umlaut"
+lints 'a name of other characters' 1 "$umlaut" << END
+$umlaut:1:4: $words
+$excerpt
+END
+if [ -e /dev/stdin ]; then
+    printf '/dev/stdin:1:4: %s\n%s\n' "$words" "$excerpt" > want
+    cat bad | "$program" lint /dev/stdin > got
+    same_text 'a text that comes by a pipe' want got
+fi
 echo 'kmap: cannot open none' > told
 lints 'a file that is not there' 1 none < /dev/null
 echo 'kmap: cannot open none' > told
@@ -682,7 +699,11 @@ for number in $(seq 1000 1999); do
 done
 for number in $(seq 1000 10 1999); do
     printf 'many/%d.kbd:1:4: %s\n%s\n' "$number" "$words" "$excerpt"
-done | lints 'a thousand files' 1 many/*.kbd
+done > wanted
+lints 'a thousand files' 1 many/*.kbd < wanted
+cp got want
+(ulimit -n 16 && exec "$program" lint many/*.kbd) > got
+same_text 'a thousand files, of which few may be open at once' want got
 
 # A text of 1 MiB in which each line but the last has no effect: all of it is told, in some seconds.
 awk -v line='1 1 1 1 1 1 1 1 1 O' 'BEGIN { for (i = 0; i < 52428; i++) print line }' > t

@@ -653,6 +653,13 @@ doubtful: warning: no key is lshift or rshift [no-shift]
 bad:1:4: $words
 $excerpt
 END
+{
+    printf 'bad:1:4: %s\n%s\n' "$words" "$excerpt"
+    echo 'kmap: cannot open none'
+    printf 'bad:1:4: %s\n%s\n' "$words" "$excerpt"
+} > want
+"$program" lint bad none bad > got 2>&1
+same_text 'both outputs in one, in the order of the files' want got
 printf 'kmap: cannot open none1\nkmap: cannot open none2\n' > told
 lints 'files that are not there' 1 none1 clean none2 < /dev/null
 echo 'kmap: cannot open -' > told

@@ -83,6 +83,7 @@ scripts:
 	sh tests/version.sh $(PROGRAM)
 	sh tests/program.sh $(PROGRAM)
 	sh tests/draw.sh $(PROGRAM)
+	sh tests/lint.sh $(PROGRAM)
 	sh tests/c_library.sh $(PROGRAM) $(LIBRARY)
 	sh tests/completions.sh $(PROGRAM)
 	sh tests/manual.sh $(PROGRAM)

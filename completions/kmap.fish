@@ -13,6 +13,7 @@ end
 complete -c kmap -n '__kmap_after' -f
 complete -c kmap -n '__kmap_after' -a check -d 'Accepts a keymap only if no key can leave a modifier on'
 complete -c kmap -n '__kmap_after' -a search -d 'Decides whether key presses can leave a modifier on'
+complete -c kmap -n '__kmap_after' -a lint -d 'Tells what is wrong or doubtful in keymap texts, and where'
 complete -c kmap -n '__kmap_after' -a play -d 'Prints what the console answers to a script of key presses'
 complete -c kmap -n '__kmap_after' -a type -d 'Prints a script of key presses that types a sentence'
 complete -c kmap -n '__kmap_after' -a compile -d 'Writes the table file of a keymap text'
@@ -27,6 +28,8 @@ complete -c kmap -n '__kmap_after check' -s h -l help -d 'Print help'
 
 complete -c kmap -n '__kmap_after search' -l next -r -F -d 'The keymap text that a load puts in force'
 complete -c kmap -n '__kmap_after search' -s h -l help -d 'Print help'
+
+complete -c kmap -n '__kmap_after lint' -s h -l help -d 'Print help'
 
 complete -c kmap -n '__kmap_after play' -l typed -d 'Prints the typed bytes instead'
 complete -c kmap -n '__kmap_after play' -l next -r -F -d 'The keymap text that a load puts in force'
@@ -46,6 +49,7 @@ complete -c kmap -n '__kmap_after draw' -s h -l help -d 'Print help'
 complete -c kmap -n '__kmap_after help' -f
 complete -c kmap -n '__kmap_after help' -a check
 complete -c kmap -n '__kmap_after help' -a search
+complete -c kmap -n '__kmap_after help' -a lint
 complete -c kmap -n '__kmap_after help' -a play
 complete -c kmap -n '__kmap_after help' -a type
 complete -c kmap -n '__kmap_after help' -a compile

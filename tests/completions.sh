@@ -93,6 +93,9 @@ if is_there bash; then
     in_bash '--show --help -h' kmap check -
     in_bash '--next' kmap play letter --n
     in_bash '' kmap play le
+    in_bash 'lint' kmap l
+    in_bash '--help -h' kmap lint letter -
+    in_bash '' kmap lint letter le
     in_bash 'compile check' kmap help c
     in_bash '--help --version' kmap --
 fi
@@ -103,12 +106,16 @@ in_fish() {
     tried "fish offers for: $2" "$1"
 }
 : > letter
+: > line
 if is_there fish; then
     in_fish 'check compile' 'kmap c'
     in_fish '--show --help -h' 'kmap check -'
     in_fish '--next' 'kmap play letter --n'
     in_fish 'letter' 'kmap play le'
     in_fish 'letter' 'kmap play --next le'
+    in_fish 'lint' 'kmap l'
+    in_fish '--help -h' 'kmap lint letter -'
+    in_fish 'letter line' 'kmap lint letter l'
     in_fish 'compile check' 'kmap help c'
     in_fish '--help --version' 'kmap --'
 fi

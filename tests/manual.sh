@@ -37,6 +37,13 @@ for kind in $kinds Short Long BadLine BadKey; do
     holds "kmap(1) tells of $kind" grep -qw "$kind" man/kmap.1
 done
 
+# Kinds of diagnostics stand there likewise, and are words with a dash.
+kinds=$(sed -n 's/^| \([a-z][a-z]*-[a-z]*\) |.*/\1/p' docs/FORMATS.md)
+holds 'the formats have kinds of diagnostics' [ "$(echo "$kinds" | wc -l)" -ge 10 ]
+for kind in $kinds; do
+    holds "kmap(1) tells what to do about $kind" grep -qx "\.It $kind" man/kmap.1
+done
+
 # Functions of the header stand in the page as `Fn`.
 functions=$(sed -n 's/^[a-z0-9_]* \(kmap_[a-z_]*\)(.*/\1/p' include/kmap.h)
 holds 'the header has functions' [ "$(echo "$functions" | wc -l)" -ge 8 ]

@@ -117,7 +117,10 @@ echo '30 abcdefghijklmnopqrstuvwxyz012345' > t
 faulty 'a word is cut to 24 characters' 1 4 BadWord \
     'abcdefghijklmnopqrstuvwx means nothing; a cell that gives nothing is nop'
 echo '30 abcdefghijklmnopqrstuvwxyz0123456' > t
-faulty 'a word of 33 bytes' 1 4 BadWord 'a word has at most 32 bytes; this one has 33'
+faulty 'a word of 33 bytes' 1 4 BadWord \
+    'a word has at most 32 bytes; this one has 33; a cell that gives nothing is nop'
+echo 'abcdefghijklmnopqrstuvwxyz0123456' > t
+faulty 'a word of 33 bytes where a definition begins' 1 1 BadWord 'a word has at most 32 bytes; this one has 33'
 
 # Unexpected, at each place of a definition
 echo "'a'" > t

@@ -97,12 +97,16 @@ meant_text bytes wanted =
 abbrev pub long_text : ℕ → List ℕ
 long_text n = codes "a word has at most 32 bytes; this one has " ++ decimal n
 
+abbrev pub too_long_text : ℕ → Bool → List ℕ
+too_long_text n is_cell = long_text n ++ nop_text is_cell
+
 abbrev pub unknown_text : List ℕ → List ℕ → List ℕ
 unknown_text word meant = word ++ codes " means nothing" ++ meant
 
 unfoldable pub bad_word_text : List ℕ → Wanted → List ℕ
 bad_word_text bytes wanted =
-    if nat_lt 32 (length (front_word bytes)) then long_text (length (front_word bytes))
+    if nat_lt 32 (length (front_word bytes))
+    then too_long_text (length (front_word bytes)) (wants_cell wanted)
     else unknown_text (word_text (front_word bytes)) (meant_text bytes wanted)
 
 abbrev pub is_letter : Meaning → Bool

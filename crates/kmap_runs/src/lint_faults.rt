@@ -224,6 +224,14 @@ fn push_long(text: &mut Vec<u8>, count: usize) -> Result<(), AllocError>
     push_number(text, count as u64)
 }
 
+/// Adds what is said of a word of so many bytes, more than a word may have.
+fn push_too_long(text: &mut Vec<u8>, count: usize, is_cell: bool) -> Result<(), AllocError>
+    ensures { OnOk result (text.new.items ≡ text.old.items ++ spec.too_long_text count is_cell) }
+{
+    push_long(text, count)?;
+    push_nop(text, is_cell)
+}
+
 fn push_unknown(
     alloc: Global,
     text: &mut Vec<u8>,
@@ -251,7 +259,7 @@ fn push_bad_word(
 {
     let count = front_word(bytes).len();
     if count > 32 {
-        push_long(text, count)
+        push_too_long(text, count, wants_cell(wanted))
     } else {
         push_unknown(alloc, text, bytes, wanted)
     }

@@ -1,8 +1,8 @@
 #!/bin/sh
 # Measures the program on large inputs: what a byte of text and an event of a script cost, how these costs grow from a
-# tenth of the largest size to the whole, how many reads and writes a run makes, what the longest search for a
-# demonstration costs, what the search of a keymap and that between two cost, what the script of a sentence costs, what
-# a picture costs, and what an event costs over a keymap in memory and over its tables.
+# tenth of the largest size to the whole, how many reads and writes a run makes, what lint costs, what the longest
+# search for a demonstration costs, what the search of a keymap and that between two cost, what the script of a sentence
+# costs, what a picture costs, and what an event costs over a keymap in memory and over its tables.
 #
 # usage: run.sh PROGRAM STEPS
 # STEPS is the program of crates/step_costs.
@@ -172,6 +172,31 @@ for text in wide tight; do
     echo "  $(transfers check text.tenth), and $(transfers check text.whole);" \
         "$(transfers check empty) on an empty text"
 done
+
+# few: the keymap and comments, so that there is nothing to tell
+few() {
+    cat "$keymap"
+    while :; do
+        echo '# Comments take the place of what would be defined once more, in lines like those of slots above them.'
+    done
+}
+
+few | head -c $((limit / 10)) > few.tenth
+few | head -c $limit > few.whole
+for text in few text; do
+    tenth=$(cost lint $text.tenth)
+    whole=$(cost lint $text.whole)
+    bytes_tenth=$(wc -c < $text.tenth)
+    bytes_whole=$(wc -c < $text.whole)
+    echo "text of $bytes_tenth and of $bytes_whole bytes with" \
+        "$("$program" lint $text.whole | grep -c ': warning: ') warnings, told by lint:"
+    echo "  $(per "$tenth" "$fixed" "$bytes_tenth") and $(per "$whole" "$fixed" "$bytes_whole") $unit a byte;" \
+        "$(growth "$tenth" "$whole" "$fixed" "$bytes_tenth" "$bytes_whole")"
+    echo "  $(transfers lint $text.tenth), and $(transfers lint $text.whole)"
+done
+checked=$(cost check "$keymap")
+linted=$(cost lint "$keymap")
+echo "us.kbd, told by lint: $linted $unit, times $(per "$linted" 0 "$checked") what check costs"
 
 for show in '' --typed; do
     # The flag is left out where it is empty.

@@ -85,6 +85,7 @@ texts() {
     same input check --show /dev/stdin
     same input search /dev/stdin
     same input search /dev/stdin --next ../us.kbd
+    same input lint /dev/stdin
     same input draw /dev/stdin
     same input draw --ansi /dev/stdin
     same input compile /dev/stdin made

@@ -99,6 +99,7 @@ refuses characters
 refuses characters-untyped fault
 refuses type_run
 refuses draw_run
+refuses lint_run
 rest=
 takes_none characters-not-text fault
 

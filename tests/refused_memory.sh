@@ -115,6 +115,9 @@ refuses 0 search letter --next shift
 # A hash map that is refused room to grow asks for what it needs now, so this may go on and write the same.
 goes_on=yes
 refuses 0 type letter sentence
+# So does a vector.
+refuses 0 lint letter
+refuses 1 lint trap
 goes_on=
 refuses 0 dump tables
 refuses 0 dump small --narrow

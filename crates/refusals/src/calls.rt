@@ -70,6 +70,7 @@ pub(crate) fn outcome_of<W: Write>(
         "dump_run" => runs::dumps(alloc, tables(alloc)?.as_slice(), marks),
         "dump_narrow_run" => runs::dumps_narrowly(alloc, narrow(alloc)?.as_slice(), marks),
         "draw_run" => runs::draws(alloc, TRAP, marks),
+        "lint_run" => runs::lints(alloc, TRAP, marks),
         "type_run" => runs::types(alloc, SENTENCE, marks),
         _ => return Ok(None),
     };

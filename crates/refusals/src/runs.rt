@@ -5,7 +5,8 @@ use crate::outcome::{Answer, Outcome, done};
 use keymap_core::Write;
 use keymap_draw::Board;
 use kmap_runs::{
-    RunError, check_run, draw_run, dump_narrow_run, dump_run, search_next_run, search_run, type_run,
+    RunError, check_run, draw_run, dump_narrow_run, dump_run, lint_run, search_next_run,
+    search_run, type_run,
 };
 use std::alloc::Global;
 
@@ -59,6 +60,16 @@ pub(crate) fn draws<W: Write>(alloc: Global, text: &[u8], marks: &mut W) -> Outc
     let answer = draw_run(alloc, &mut reader, Board::Iso, &mut out);
     mark(marks);
     ran(answer.map(|()| out.writes > 0), &out)
+}
+
+/// The trap has an error.
+pub(crate) fn lints<W: Write>(alloc: Global, text: &[u8], marks: &mut W) -> Outcome {
+    let mut reader = reader_of(text);
+    let mut out = Counting { writes: 0 };
+    mark(marks);
+    let answer = lint_run(alloc, b"text", &mut reader, &mut out);
+    mark(marks);
+    ran(answer.map(|is_well| is_well == (text != TRAP)), &out)
 }
 
 pub(crate) fn dumps<W: Write>(alloc: Global, tables: &[u8], marks: &mut W) -> Outcome {

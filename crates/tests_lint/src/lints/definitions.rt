@@ -5,18 +5,34 @@ use keymap_lint::Kind;
 use keymap_text::Defined;
 use std::test::Fail;
 
+fn slot_again(slot: u8, last: usize) -> Kind {
+    Kind::DefinedAgain {
+        what: Defined::Slot(slot),
+        last,
+    }
+}
+
+fn pair_again(accent: u8, base: char, first: usize) -> Kind {
+    Kind::PairAgain {
+        accent,
+        base,
+        first,
+    }
+}
+
 #[test]
 fn each_definition_of_a_slot_but_the_last_is_told(rt: HostRuntime) -> Result<(), Fail> {
-    let again = Kind::DefinedAgain {
-        what: Defined::Slot(30),
-        last: 136,
-    };
-    let wanted = [at(61, again), at(98, again)];
-    let lint = expect(&rt, rt.alloc(), b"42 lshift lshift lshift lshift lshift lshift lshift lshift O
+    let wanted = [at(61, slot_again(30, 136)), at(98, slot_again(30, 136))];
+    let lint = expect(
+        &rt,
+        rt.alloc(),
+        b"42 lshift lshift lshift lshift lshift lshift lshift lshift O
 30 'a' 'A' nop nop nop nop nop nop O
 030 'b' 'B' nop nop nop nop nop nop O
 0x1e 'c' 'C' nop nop nop nop nop nop O
-", &wanted)?;
+",
+        &wanted,
+    )?;
     expect_lists(&rt, &lint, &[], &[], &[], &[]);
     Ok(())
 }
@@ -142,15 +158,19 @@ dacu nul ( 'a' 'b' )
 
 #[test]
 fn a_pair_whose_base_another_has_is_told(rt: HostRuntime) -> Result<(), Fail> {
-    let again = Kind::PairAgain {
-        accent: 1,
-        base: 'e',
-        first: 70,
-    };
-    expect(&rt, rt.alloc(), b"42 lshift lshift lshift lshift lshift lshift lshift lshift O
+    let wanted = [
+        at(98, pair_again(1, 'e', 70)),
+        at(111, pair_again(1, 'e', 70)),
+    ];
+    expect(
+        &rt,
+        rt.alloc(),
+        b"42 lshift lshift lshift lshift lshift lshift lshift lshift O
 dacu 180 ( 'e' 0xe9 ) ( 'E' 0xc9 )
   ( 'e' 0xea ) ( 101 0xeb )
-", &[at(98, again), at(111, again)])?;
+",
+        &wanted,
+    )?;
     Ok(())
 }
 

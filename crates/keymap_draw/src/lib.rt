@@ -13,6 +13,7 @@ mod constants;
 mod drawn;
 mod half;
 mod key;
+pub mod laws;
 mod legend;
 mod lists;
 mod markup;

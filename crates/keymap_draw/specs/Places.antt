@@ -76,8 +76,8 @@ own_of m i = (accent_or_blank m i).own
 abbrev pub plain_class : Column → Option ℕ
 plain_class column = if is_right column then Some 97 else None
 
--- the class for the kind of a cell: e for a dead key whose accent has no character, d for any other, m for a modifier or
--- lock
+-- the class for the kind of a cell: e for a dead key whose accent has no character, d for any other, m for a modifier
+-- or lock
 abbrev pub kind_class : MapValue → Column → Cell → Option ℕ
 kind_class m column (Char c) = plain_class column
 kind_class m column (Act (a.DeadKey i)) = Some (if own_of m i == 0 then 101 else 100)

@@ -1,3 +1,9 @@
+mod Classed
+mod Closing
+mod Formed
 mod Found
 mod Loops
 mod Red
+mod Scans
+mod Shown
+mod Texts

@@ -8,3 +8,4 @@ pub mod Lists
 pub mod Markup
 pub mod Pictures
 pub mod Places
+pub mod WellFormed

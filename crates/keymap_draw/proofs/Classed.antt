@@ -1,6 +1,6 @@
 -- Which classes there are.
-use Rattle.std.proofs.Common.{◌≡◌, ℕ, ◌+◌, ◌-◌, ◌<◌, ◌==◌, Bool, true, false, List, [], ◌∷◌, ◌++◌, Option, Some, None, refl}
-use Rattle.std.proofs.Common.{length, arith}
+use Rattle.std.proofs.Common.{◌≡◌, ℕ, ◌-◌, ◌==◌, Bool, true, false, List, [], ◌∷◌, ◌++◌, Some, None, refl}
+use Rattle.std.proofs.Common.{All, length, arith}
 use Rattle.std.specs.Prelude.{codes, option_to_list, if◌then◌else◌, min, ◌%◌}
 use Rattle.std.specs.List.{list_all}
 use Rattle.std.specs.Option.{is_some}
@@ -17,8 +17,9 @@ use Rattle.keymap_draw.specs.Drawn.{column}
 use Rattle.keymap_draw.specs.Keys.{finding_of, key_class, is_blank_entry, is_holding, is_doing}
 use Rattle.keymap_draw.specs.Legends.{is_word}
 use Rattle.keymap_draw.specs.Places.{size_by, size_class, side_class, plain_class, kind_class, own_of, legend_classes}
+use Rattle.keymap_draw.specs.Places.{is_class, IsClass}
 use Rattle.keymap_draw.proofs.Scans.{both_true}
-use Rattle.keymap_draw.proofs.Shown.{joined, item_all}
+use Rattle.keymap_draw.proofs.Shown.{joined, item_all, all_from}
 
 -- the test passes each class that a legend or a key can have
 pub record Passes (test : ℕ → Bool) : Type 0 where
@@ -125,3 +126,34 @@ key_passes test p fs slot e =
     by false false true doing = one test 109 p.m
     by false false false true = one test 103 p.g
     by false false false false = refl
+
+-- each class is one of the letters of the style
+letters : Passes is_class
+letters = record {
+  middle = refl;
+  tight = refl;
+  corner = refl;
+  z = refl;
+  c = refl;
+  r = refl;
+  a = refl;
+  d = refl;
+  e = refl;
+  m = refl;
+  f = refl;
+  p = refl;
+  g = refl;
+}
+
+pub legends_classed : (m : MapValue) (column : Column) (cell : Cell) (legend : List ℕ) (alone tight : Bool)
+    → All IsClass (legend_classes m column cell legend alone tight)
+legends_classed m column cell legend alone tight =
+    all_from is_class (legend_classes m column cell legend alone tight)
+    (legend_passes is_class letters m column cell legend alone tight)
+
+pub keys_classed : (fs : List Finding) (slot : ℕ) (e : Entry) → All IsClass (option_to_list (key_class fs slot e))
+keys_classed fs slot e = all_from is_class (option_to_list (key_class fs slot e)) (key_passes is_class letters fs slot e)
+
+pub accents_classed : (legend : List ℕ) → All IsClass (option_to_list (size_class legend false true))
+accents_classed legend =
+    all_from is_class (option_to_list (size_class legend false true)) (size_passes is_class letters legend false true)

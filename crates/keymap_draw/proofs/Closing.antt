@@ -1,21 +1,21 @@
 -- The keys, the halves, the lists and the whole picture lead from a place to a place.
 use Prim.Native.Nat.{zero, suc}
-use Rattle.std.proofs.Common.{◌≡◌, ℕ, ◌+◌, ◌*◌, ◌<◌, ◌==◌, Bool, true, false, List, [], ◌∷◌, ◌++◌, Option, Some, None, refl}
+use Rattle.std.proofs.Common.{◌≡◌, ℕ, ◌+◌, ◌*◌, ◌<◌, ◌==◌, Bool, true, false, List, [], ◌∷◌, Option, Some, None, refl}
 use Rattle.std.proofs.Common.{All, length, arith}
-use Rattle.std.specs.Prelude.{◌%◌, ◌||◌, codes, decimal, option_to_list, slice_index_or, slice_get, nat_lt, if◌then◌else◌}
+use Rattle.std.specs.Prelude.{◌%◌, ◌||◌, codes, option_to_list, slice_index_or, slice_get, nat_lt, if◌then◌else◌}
 use Rattle.std.specs.Char.{IsScalar}
-use Rattle.std.specs.List.{list_all, flat_map}
+use Rattle.std.specs.List.{list_all}
 use Rattle.std.proofs.lemmas.Bool.{ltb-true}
 use Rattle.std.proofs.lemmas.List.Elements.{All-head, All-tail, All-nil, All-cons}
 use Rattle.keymap_core.specs.declared.action.Action.TheVariants as a
 use Rattle.keymap_core.specs.declared.entry.Cell.{Cell}
-use Rattle.keymap_core.specs.declared.entry.Cell.TheVariants.{Char, Act}
+use Rattle.keymap_core.specs.declared.entry.Cell.TheVariants.{Char}
 use Rattle.keymap_core.specs.declared.entry.Entry.{Entry}
 use Rattle.keymap_core.specs.Accents.{AccentValue}
 use Rattle.keymap_core.specs.Actions.{name_of, accent_names}
 use Rattle.keymap_core.specs.Borne.{is_upper_live}
 use Rattle.keymap_core.specs.Bounds.{IsCell, IsPair, IsAccent, IsMap}
-use Rattle.keymap_core.specs.Maps.{MapValue, entry_at, accent_at}
+use Rattle.keymap_core.specs.Maps.{MapValue, entry_at}
 use Rattle.keymap_core.specs.Numbers.{key_count}
 use Rattle.keymap_check.specs.declared.finding.Finding.{Finding}
 use Rattle.keymap_check.specs.Computed.{findings_of}
@@ -30,38 +30,46 @@ use Rattle.keymap_draw.specs.declared.drawn.DrawnCells.{DrawnCells}
 use Rattle.keymap_draw.specs.declared.half.Half.{Half}
 use Rattle.keymap_draw.specs.declared.half.Half.TheVariants.{Lower, Upper}
 use Rattle.keymap_draw.specs.declared.place.Column.{Column}
-use Rattle.keymap_draw.specs.Below.{passing}
-use Rattle.keymap_draw.specs.Boards.{row, row_on, ansi_row}
+use Rattle.keymap_draw.specs.Boards.{row_on}
 use Rattle.keymap_draw.specs.Drawn.{is_blank, is_among, remaining, column, different, is_pair, joined, drawn}
 use Rattle.keymap_draw.specs.Halves.{slot_of, row_key, some_row_key, board_row, is_other, other_keys, other_key, other_rows}
 use Rattle.keymap_draw.specs.Halves.{others, refused_words, count_line, verdict_line, live_words, lower_headline, headline}
 use Rattle.keymap_draw.specs.Halves.{sample_word, sample, panel, half_drawing}
 use Rattle.keymap_draw.specs.Keys.{finding_of, key_class, title, legend, drawn_legend, legends_of, legends, key_of_entry, key}
-use Rattle.keymap_draw.specs.Legends.{character_legend, cell_legend, accent_mark}
-use Rattle.keymap_draw.specs.Lists.{has_character, named_accents, composed, base_of, composed_of, table_of, table}
+use Rattle.keymap_draw.specs.Legends.{character_legend, cell_legend}
+use Rattle.keymap_draw.specs.Lists.{has_character, named_accents, composed, base_of, composed_of, table_of}
 use Rattle.keymap_draw.specs.Lists.{accent_sign, accent_heading, accent_row, some_accent_row, listed_accent, accent_rows}
 use Rattle.keymap_draw.specs.Lists.{accents_list, is_silent, silent_accents, silent_name, silent_row, silent_list}
-use Rattle.keymap_draw.specs.Lists.{findings_list}
-use Rattle.keymap_draw.specs.Markup.{numbered}
-use Rattle.keymap_draw.specs.Pictures.{upper_y, findings_y, accents_y, silent_y, key_y, verdict, begin, head, upper, lists}
+use Rattle.keymap_draw.specs.Pictures.{upper_y, findings_y, accents_y, silent_y, key_y, begin, head, upper, lists}
 use Rattle.keymap_draw.specs.Pictures.{end, picture_with, picture}
-use Rattle.keymap_draw.specs.Places.{size_class, legend_classes}
-use Rattle.keymap_draw.specs.WellFormed.{State, at, IsWellFormed}
+use Rattle.keymap_draw.specs.Places.{size_class}
+use Rattle.keymap_draw.specs.WellFormed.{at, IsWellFormed}
 use Rattle.keymap_draw.specs.WellFormed.Place.{Text}
 use Rattle.keymap_draw.proofs.Classed.{Passes, size_passes, legend_passes, key_passes}
-use Rattle.keymap_draw.proofs.Formed.{Leads, ◌⊳◌, lit, nothing, text_number, between_value, between_text, escaped_in}
+use Rattle.keymap_draw.proofs.Formed.{Leads, ◌⊳◌, lit, nothing, between_value, between_text, escaped_in}
 use Rattle.keymap_draw.proofs.Formed.{textual_in, line, classes, opened, element, all_numbered, all_flat, either, findings}
 use Rattle.keymap_draw.proofs.Formed.{cap_in, group_in}
 use Rattle.keymap_draw.proofs.Loops.{passing-below}
 use Rattle.keymap_draw.proofs.Scans.{is_valued, is_textual, first_true, second_true}
 use Rattle.keymap_draw.proofs.Shown.{name_all}
-use Rattle.keymap_draw.proofs.Texts.{AreShown, character_shown, cell_shown, mark_shown, slot_words_shown}
+use Rattle.keymap_draw.proofs.Texts.{character_shown, cell_shown, mark_shown, slot_words_shown}
 use Rattle.keymap_draw.proofs.Texts.{accent_words_shown, entry_cells}
 
 valued : Passes is_valued
 valued = record {
-  middle = refl; tight = refl; corner = refl; z = refl; c = refl; r = refl; a = refl; d = refl; e = refl; m = refl;
-  f = refl; p = refl; g = refl;
+  middle = refl;
+  tight = refl;
+  corner = refl;
+  z = refl;
+  c = refl;
+  r = refl;
+  a = refl;
+  d = refl;
+  e = refl;
+  m = refl;
+  f = refl;
+  p = refl;
+  g = refl;
 }
 
 -- ---- the cells that are drawn

@@ -1,6 +1,5 @@
 -- The parts of the picture lead from a place to a place.
-use Prim.Native.Nat.{zero, suc}
-use Rattle.std.proofs.Common.{◌≡◌, ℕ, ◌+◌, ◌*◌, ◌<◌, ◌==◌, Bool, true, false, List, [], ◌∷◌, ◌++◌, Option, Some, None, refl}
+use Rattle.std.proofs.Common.{◌≡◌, ℕ, ◌+◌, ◌==◌, Bool, true, false, List, [], ◌∷◌, ◌++◌, Option, Some, None, refl}
 use Rattle.std.proofs.Common.{All, length}
 use Rattle.std.proofs.lemmas.List.Elements.{All-head, All-tail}
 use Rattle.std.specs.Prelude.{codes, decimal, option_to_list, if◌then◌else◌}
@@ -16,7 +15,7 @@ use Rattle.keymap_check.specs.declared.finding.Finding.{Finding}
 use Rattle.keymap_check.specs.declared.finding.Place.{Place as FindingPlace}
 use Rattle.keymap_draw.specs.declared.board.Shape.{Shape}
 use Rattle.keymap_draw.specs.declared.board.Shape.TheVariants.{A, B, C, D, E, F, G, H, Tall, Enter}
-use Rattle.keymap_draw.specs.Keys.{place_words, finding_words, finding_line, flag_words, shape_use, code_open, cap, group}
+use Rattle.keymap_draw.specs.Keys.{place_words, finding_words, finding_line, flag_words, shape_use, cap, group}
 use Rattle.keymap_draw.specs.Lists.{listed_finding, finding_rows, findings_list}
 use Rattle.keymap_draw.specs.Markup.{between, numbered, escaped, class_text, further_class, open_text, text_element}
 use Rattle.keymap_draw.specs.Markup.{translate}

@@ -3,6 +3,7 @@ mod Closing
 mod Formed
 mod Found
 mod Loops
+mod Plain
 mod Red
 mod Scans
 mod Shown

@@ -1,15 +1,12 @@
 -- How parts of the picture are scanned.
 use Prim.Native.Nat.{zero, suc}
-use Rattle.std.proofs.Common.{◌≡◌, ℕ, ◌+◌, ◌*◌, ◌<◌, ◌==◌, Bool, true, false, cond, List, [], ◌∷◌, ◌++◌, Option, Some, None}
-use Rattle.std.proofs.Common.{refl, sym, ap, ◌∙◌, arith}
-use Rattle.std.specs.Prelude.{◌/◌, ◌%◌, ◌&&◌, ◌||◌, not, nat_lt, codes, decimal, if◌then◌else◌}
-use Rattle.std.specs.Char.{digit_char}
+use Rattle.std.proofs.Common.{◌≡◌, ℕ, ◌<◌, ◌==◌, Bool, true, false, List, [], ◌∷◌, ◌++◌, Option, Some, None}
+use Rattle.std.proofs.Common.{refl, ap, ◌∙◌, arith}
+use Rattle.std.specs.Prelude.{◌/◌, ◌%◌, ◌&&◌, ◌||◌, not, decimal, if◌then◌else◌}
 use Rattle.std.specs.Fmt.{digits, digits_onto, digit_glyph}
-use Rattle.std.specs.List.{list_all, flat_map}
-use Rattle.keymap_core.specs.CodePoints.{code_digits}
-use Rattle.keymap_draw.specs.Markup.{escaped, is_referred, reference}
-use Rattle.keymap_draw.specs.WellFormed.{State, at, step, scan, is_plain, is_xml_character}
-use Rattle.keymap_draw.specs.WellFormed.Place.{Text, Value, Number}
+use Rattle.std.specs.List.{list_all}
+use Rattle.keymap_draw.specs.WellFormed.{State, at, step, scan, is_plain}
+use Rattle.keymap_draw.specs.WellFormed.Place.{Text, Value}
 
 scan-append : (s : Option State) (a b : List ℕ) → scan s (a ++ b) ≡ scan (scan s a) b
 scan-append s [] b = refl

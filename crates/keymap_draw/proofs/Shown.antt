@@ -1,18 +1,18 @@
 -- What the legends and the titles have, and how it is scanned.
 use Prim.Native.Nat.{zero, suc}
-use Rattle.std.proofs.Common.{◌≡◌, ◌≢◌, ℕ, ◌+◌, ◌*◌, ◌<◌, ◌≤◌, ◌==◌, Bool, true, false, cond, List, [], ◌∷◌, ◌++◌, Option, Some}
-use Rattle.std.proofs.Common.{None, refl, sym, ap, ◌∙◌, arith, length, get_or, All, subst}
-use Rattle.std.specs.Prelude.{◌/◌, ◌%◌, ◌&&◌, ◌||◌, not, nat_lt, nat_le, codes, decimal, if◌then◌else◌, slice_index_or}
-use Rattle.std.specs.Char.{digit_char, IsScalar}
-use Rattle.std.specs.List.{list_all, list_any, flat_map, filter}
-use Rattle.std.proofs.lemmas.Bool.{le-leb, lt-ltb, ltb-true}
+use Rattle.std.proofs.Common.{◌≡◌, ℕ, ◌+◌, ◌*◌, ◌<◌, Bool, true, false, List, [], ◌∷◌, ◌++◌, Option, Some}
+use Rattle.std.proofs.Common.{None, refl, ap, ◌∙◌, arith, length, get_or, All, subst}
+use Rattle.std.specs.Prelude.{◌/◌, ◌%◌, nat_lt, codes, if◌then◌else◌, slice_index_or}
+use Rattle.std.specs.Char.{digit_char}
+use Rattle.std.specs.List.{list_all, flat_map}
+use Rattle.std.proofs.lemmas.Bool.{ltb-true}
 use Rattle.std.proofs.lemmas.Bool.Decides.{nat_tests}
-use Rattle.std.proofs.lemmas.List.Elements.{All-head, All-tail}
+use Rattle.std.proofs.lemmas.List.Elements.{All-head, All-tail, All-nil, All-cons}
 use Rattle.std.proofs.lemmas.List.Folds.{list_all-append}
-use Rattle.keymap_core.specs.CodePoints.{code_digits, code_text, upper_digits, digit_at}
+use Rattle.keymap_core.specs.CodePoints.{code_digits, upper_digits, digit_at}
 use Rattle.keymap_draw.specs.Markup.{escaped, is_referred, reference}
-use Rattle.keymap_draw.specs.WellFormed.{State, at, step, scan, is_plain, is_xml_character, is_shown}
-use Rattle.keymap_draw.specs.WellFormed.Place.{Text, Value, Number}
+use Rattle.keymap_draw.specs.WellFormed.{State, at, step, scan, is_shown}
+use Rattle.keymap_draw.specs.WellFormed.Place.{Text, Number}
 use Rattle.keymap_draw.proofs.Scans.{past, both_true, first_true, second_true, is_textual, textual_step}
 
 -- ---- tests of lists
@@ -46,6 +46,13 @@ item_all test (x ∷ xs) zero d lt h = first_true (test x) (list_all test xs) h
 item_all test (x ∷ xs) (suc i) d lt h =
     item_all test xs i d (omega arith) (second_true (test x) (list_all test xs) h)
 
+-- a test of each element is a fact of each
+pub all_from : (test : ℕ → Bool) (bs : List ℕ) → list_all test bs ≡ true → All (λ b. test b ≡ true) bs
+all_from test [] h = All-nil (λ b. test b ≡ true)
+all_from test (b ∷ bs) h =
+    All-cons (λ b. test b ≡ true) b bs (first_true (test b) (list_all test bs) h)
+    (all_from test bs (second_true (test b) (list_all test bs) h))
+
 -- ---- hexadecimal digits
 
 by_hex : (P : ℕ → Type 0) → P 0 → P 1 → P 2 → P 3 → P 4 → P 5 → P 6 → P 7 → P 8 → P 9 → P 10 → P 11 → P 12 → P 13
@@ -62,6 +69,7 @@ by_hex P p0 p1 p2 p3 p4 p5 p6 p7 p8 p9 pa pb pc pd pe pf d lt = low d lt
     high (suc (suc (suc (suc (suc (suc zero)))))) h = pe
     high (suc (suc (suc (suc (suc (suc (suc zero))))))) h = pf
     high (suc (suc (suc (suc (suc (suc (suc (suc d)))))))) h = absurd (omega arith)
+
     low : (d : ℕ) → d < 16 → P d
     low zero h = p0
     low (suc zero) h = p1
@@ -157,7 +165,7 @@ escaped_by : (name : List ℕ) (begun : List (List ℕ)) (c : ℕ) (b : Bool) �
     → scan (Some (at Text (name ∷ begun))) (if b then reference c else c ∷ []) ≡ Some (at Text (name ∷ begun))
 escaped_by name begun c true h e =
     past _ _ (code_digits c) (codes ";") _ (digits_scan (name ∷ begun) c (below_all c h))
-    (ap (λ b. if b then Some (at Text (name ∷ begun)) else None) (second_true (nat_le 32 c) (is_xml_character c) h))
+    (ap (λ b. if b then Some (at Text (name ∷ begun)) else None) h)
 escaped_by name begun c false h e = textual_step name begun c (textual c h e)
 
 -- characters that are escaped, in a text

@@ -1,10 +1,9 @@
 -- Each character of a legend and of a title may stand in a text.
 use Prim.Native.Nat.{zero, suc}
-use Rattle.std.proofs.Common.{◌≡◌, ◌≢◌, ℕ, ◌+◌, ◌*◌, ◌<◌, ◌≤◌, ◌==◌, Bool, true, false, List, [], ◌∷◌, ◌++◌, Option, Some, None}
-use Rattle.std.proofs.Common.{refl, sym, ap, ◌∙◌, arith, length, get_or, All, subst, leb, ltb}
-use Rattle.std.specs.Prelude.{◌/◌, ◌%◌, ◌&&◌, ◌||◌, not, nat_lt, nat_le, codes, decimal, if◌then◌else◌, slice_index_or}
-use Rattle.std.specs.Char.{digit_char, IsScalar}
-use Rattle.std.specs.Fmt.{digit_glyph}
+use Rattle.std.proofs.Common.{◌≡◌, ◌≢◌, ℕ, ◌+◌, ◌<◌, ◌≤◌, ◌==◌, Bool, true, false, List, [], ◌∷◌, ◌++◌, Option, Some}
+use Rattle.std.proofs.Common.{refl, ap, arith, All}
+use Rattle.std.specs.Prelude.{◌/◌, ◌%◌, ◌||◌, not, nat_lt, codes, decimal, if◌then◌else◌, slice_index_or}
+use Rattle.std.specs.Char.{IsScalar}
 use Rattle.std.specs.List.{list_all, flat_map, filter}
 use Rattle.std.proofs.lemmas.Bool.{ltb-true}
 use Rattle.std.proofs.lemmas.Bool.Decides.{nat_tests}
@@ -19,8 +18,8 @@ use Rattle.keymap_core.specs.declared.entry.Entry.{Entry}
 use Rattle.keymap_core.specs.declared.entry.LockFlag.{LockFlag}
 use Rattle.keymap_core.specs.declared.entry.LockFlag.TheVariants as flag
 use Rattle.keymap_core.specs.Accents.{AccentValue}
-use Rattle.keymap_core.specs.Actions.{IsAction, name_of, two_digits, accent_names}
-use Rattle.keymap_core.specs.Bounds.{IsCell, IsEntry, IsPair, IsAccent, IsMap}
+use Rattle.keymap_core.specs.Actions.{IsAction, name_of, two_digits, accent_names, within}
+use Rattle.keymap_core.specs.Bounds.{IsCell, IsEntry, IsPair, IsMap}
 use Rattle.keymap_core.specs.CodePoints.{code_digits, code_text, upper_digits, digit_at}
 use Rattle.keymap_core.specs.Maps.{MapValue, entry_at, undefined}
 use Rattle.keymap_text.specs.Printed.{control_name, character_text, cell_text, hex, hex4, hex_at, slot_words, slot_text}
@@ -49,11 +48,12 @@ chosen : (b : Bool) (x y : List ℕ) → (b ≡ true → AreShown x) → (b ≡ 
 chosen true x y f g = f refl
 chosen false x y f g = g refl
 
-low_shown : (c : ℕ) → 32 ≤ c → c ≤ 0xd7ff → is_shown c ≡ true
+low_shown : (c : ℕ) → 32 ≤ c → c ≤ 126 → is_shown c ≡ true
 low_shown c low high = grind (arith, nat_tests)
 
-scalar_shown : (c : ℕ) → 32 ≤ c → IsScalar c → c ≢ 0xfffe → c ≢ 0xffff → is_shown c ≡ true
-scalar_shown c low s n k = grind (arith, nat_tests)
+scalar_shown : (c : ℕ) → 32 ≤ c → within 0x7f 0x9f c ≡ false → IsScalar c → c ≢ 0xfffe → c ≢ 0xffff
+    → is_shown c ≡ true
+scalar_shown c low control s n k = grind (arith, nat_tests)
 
 alone : (c : ℕ) → is_shown c ≡ true → AreShown (c ∷ [])
 alone c h = record { each = both_true (is_shown c) true h refl }
@@ -187,12 +187,27 @@ coded_ffff = refl
 not_coded : (c d : ℕ) → is_coded d ≡ true → is_coded c ≡ false → c ≢ d
 not_coded c d e f g = let h : is_coded c ≡ is_coded d = ap is_coded g in cc
 
--- a character that isn't coded may stand in a text
-plainly_shown : (c : ℕ) → 32 ≤ c → IsScalar c → is_coded c ≡ false → is_shown c ≡ true
-plainly_shown c low s e =
-    scalar_shown c low s (not_coded c 0xfffe coded_fffe e) (not_coded c 0xffff coded_ffff e)
+not_low : (c : ℕ) → (nat_lt c 32 || c == 127) ≡ false → 32 ≤ c
+not_low c e = grind (arith, nat_tests)
 
-shown_shown : (c : ℕ) → 32 ≤ c → IsScalar c → AreShown (shown_legend c)
+first_false : (a b : Bool) → (a || b) ≡ false → a ≡ false
+first_false true b e = e
+first_false false b e = refl
+
+not_upper_control : (c : ℕ) → is_coded c ≡ false → within 0x80 0x9f c ≡ false
+unfolding is_coded
+not_upper_control c e = first_false (within 0x80 0x9f c) _ e
+
+not_control : (c : ℕ) → (nat_lt c 32 || c == 127) ≡ false → within 0x80 0x9f c ≡ false → within 0x7f 0x9f c ≡ false
+not_control c e f = grind (arith, nat_tests)
+
+-- a character that isn't coded may stand in a text
+plainly_shown : (c : ℕ) → (nat_lt c 32 || c == 127) ≡ false → IsScalar c → is_coded c ≡ false → is_shown c ≡ true
+plainly_shown c low s e =
+    scalar_shown c (not_low c low) (not_control c low (not_upper_control c e)) s (not_coded c 0xfffe coded_fffe e)
+    (not_coded c 0xffff coded_ffff e)
+
+shown_shown : (c : ℕ) → (nat_lt c 32 || c == 127) ≡ false → IsScalar c → AreShown (shown_legend c)
 unfolding shown_legend
 shown_shown c low s =
     chosen (is_coded c) (code_text c) _ (λ _. code_shown c)
@@ -200,12 +215,9 @@ shown_shown c low s =
     (λ _. before 0x25cc (c ∷ []) refl (alone c (plainly_shown c low s e)))
     (λ _. alone c (plainly_shown c low s e)))
 
-other_shown : (c : ℕ) → 32 ≤ c → IsScalar c → AreShown (other_legend c)
+other_shown : (c : ℕ) → (nat_lt c 32 || c == 127) ≡ false → IsScalar c → AreShown (other_legend c)
 unfolding other_legend unseen_name
 other_shown c low s = named_shown UNSEEN_NAMES c (shown_legend c) refl (shown_shown c low s)
-
-not_low : (c : ℕ) → (nat_lt c 32 || c == 127) ≡ false → 32 ≤ c
-not_low c e = grind (arith, nat_tests)
 
 pub character_shown : (c : ℕ) → IsScalar c → AreShown (character_legend c)
 unfolding character_legend
@@ -214,7 +226,7 @@ character_shown c s =
     (λ _. chosen (c == 9) (codes "tab") _ (λ _. shown refl)
     (λ _. chosen (c == 13) (codes "ret") _ (λ _. shown refl)
     (λ _. chosen (nat_lt c 32 || c == 127) (control_name c) _ (λ _. control_shown c)
-    (λ e. chosen (c == 32) (0x2423 ∷ []) (other_legend c) (λ _. shown refl) (λ _. other_shown c (not_low c e) s)))))
+    (λ e. chosen (c == 32) (0x2423 ∷ []) (other_legend c) (λ _. shown refl) (λ _. other_shown c e s)))))
 
 pub mark_shown : (i : ℕ) → i < 15 → AreShown (marked (accent_mark i))
 mark_shown i h =

@@ -1,8 +1,8 @@
 -- What is well formed as XML, told byte by byte: texts, and tags of elements out of a fixed list, with attributes out of
 -- a fixed list. Each element ends by its own end tag, a link leads to a part of the same picture, and a reference is of
--- a character that XML 1.0 allows.
-use Rattle.std.specs.Prelude.{◌≡◌, ℕ, ◌+◌, ◌*◌, ◌==◌, nat_lt, nat_le, Bool, ◌||◌, ◌&&◌, List, [], ◌∷◌, ◌++◌, codes}
-use Rattle.std.specs.Prelude.{Option, Some, None, if◌then◌else◌, bytes_eq}
+-- a character that XML 1.0 allows and that is no control character.
+use Rattle.std.specs.Prelude.{◌≡◌, ℕ, ◌+◌, ◌*◌, ◌==◌, nat_lt, nat_le, Bool, ◌||◌, ◌&&◌, not, true, List, [], ◌∷◌, ◌++◌}
+use Rattle.std.specs.Prelude.{codes, Option, Some, None, if◌then◌else◌, bytes_eq}
 use Rattle.std.specs.Char.{digit_value}
 use Rattle.std.specs.List.{list_any}
 use Rattle.std.specs.Option.{option_and_then}
@@ -12,13 +12,19 @@ use Rattle.keymap_core.specs.Actions.{within}
 abbrev pub is_plain : ℕ → Bool
 is_plain c = c == 10 || within 32 126 c
 
+abbrev pub IsPlain : ℕ → Type 0
+IsPlain c = is_plain c ≡ true
+
 abbrev pub is_xml_character : ℕ → Bool
 is_xml_character c =
     (c == 9 || c == 10 || c == 13) || within 0x20 0xd7ff c || within 0xe000 0xfffd c || within 0x10000 0x10ffff c
 
--- a character that may stand in a text, as it is or by a reference
+-- a character that may stand in a text, as it is or by a reference: one that XML allows, and no control character
 abbrev pub is_shown : ℕ → Bool
-is_shown c = nat_le 32 c && is_xml_character c
+is_shown c = nat_le 32 c && not (within 0x7f 0x9f c) && is_xml_character c
+
+abbrev pub IsShown : ℕ → Type 0
+IsShown c = is_shown c ≡ true
 
 abbrev pub elements : List (List ℕ)
 elements =
@@ -127,7 +133,7 @@ in_value begun c =
 
 abbrev pub in_number : ℕ → List (List ℕ) → ℕ → Option State
 in_number n begun c =
-    if c == 59 then (if is_xml_character n then Some (at Text begun) else None)
+    if c == 59 then (if is_shown n then Some (at Text begun) else None)
     else if nat_lt (digit_value c) 16 then Some (at (Number (16 * n + digit_value c)) begun)
     else None
 

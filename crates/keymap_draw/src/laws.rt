@@ -1,14 +1,18 @@
 //! Laws of the definitions. No function here does anything.
-ghost use Rattle.std.specs.Prelude.{◌≡◌, ℕ, ◌%◌, List, Some, true};
-ghost use Rattle.keymap_core.specs.Bounds.{IsMap};
+ghost use Rattle.std.specs.Prelude.{◌≡◌, ℕ, ◌%◌, List, Some, Bool, true, false, All, option_to_list};
+ghost use Rattle.keymap_core.specs.Bounds.{IsCell, IsMap};
 ghost use Rattle.keymap_core.specs.Maps.{MapValue};
 ghost use Rattle.keymap_core.specs.Numbers.{key_count};
+ghost use Rattle.keymap_core.specs.declared.entry.Cell.{Cell as CellValue};
 ghost use Rattle.keymap_core.specs.declared.entry.Entry.{Entry as EntryValue};
 ghost use Rattle.keymap_check.specs.declared.finding.Finding.{Finding as FindingValue};
 ghost use Rattle.keymap_draw.specs.declared.board.Board.{Board as BoardValue};
+ghost use Rattle.keymap_draw.specs.declared.place.Column.{Column as ColumnValue};
 ghost use Rattle.keymap_draw.specs.Keys.{key_class, names_key, red};
+ghost use Rattle.keymap_draw.specs.Legends.{cell_legend};
 ghost use Rattle.keymap_draw.specs.Pictures.{picture};
-ghost use Rattle.keymap_draw.specs.WellFormed.{IsWellFormed};
+ghost use Rattle.keymap_draw.specs.Places.{size_class, legend_classes, IsClass};
+ghost use Rattle.keymap_draw.specs.WellFormed.{IsPlain, IsShown, IsWellFormed};
 
 /// A cap has the class of the red ones exactly if one of the findings is of its key.
 pub fn red_caps_are_findings()
@@ -22,4 +26,25 @@ pub fn red_caps_are_findings()
 /// attributes. So nothing of a keymap can begin an element, an attribute or a link.
 pub fn pictures_are_well_formed()
     ensures { (m : MapValue) (board : BoardValue) → IsMap m → IsWellFormed (picture m board) }
+{}
+
+/// Each byte of a picture is LF or a printable character of ASCII.
+pub fn pictures_are_plain()
+    ensures { (m : MapValue) (board : BoardValue) → IsMap m → All IsPlain (picture m board) }
+{}
+
+/// Each character of a legend is one that XML 1.0 allows, and no control character, whether it stands as it is or by a
+/// reference.
+pub fn legends_are_shown()
+    ensures { (cell : CellValue) → IsCell cell → All IsShown (cell_legend cell) }
+{}
+
+/// The classes of a key, of a legend and of a character of an accent are letters out of a fixed list, whatever the
+/// keymap is.
+pub fn classes_are_of_a_list()
+    ensures key { (fs : List FindingValue) (slot : ℕ) (e : EntryValue)
+        → All IsClass (option_to_list (key_class fs slot e)) }
+    ensures legend { (m : MapValue) (column : ColumnValue) (cell : CellValue) (legend : List ℕ) (alone tight : Bool)
+        → All IsClass (legend_classes m column cell legend alone tight) }
+    ensures accent { (legend : List ℕ) → All IsClass (option_to_list (size_class legend false true)) }
 {}

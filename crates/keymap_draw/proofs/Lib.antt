@@ -7,4 +7,5 @@ mod Plain
 mod Red
 mod Scans
 mod Shown
+mod Squeezed
 mod Texts

@@ -82,15 +82,15 @@ by_hex P p0 p1 p2 p3 p4 p5 p6 p7 p8 p9 pa pb pc pd pe pf d lt = low d lt
     low (suc (suc (suc (suc (suc (suc (suc (suc d)))))))) h =
         subst P (omega arith) (high d (omega arith))
 
-hex_all : (test : ℕ → Bool) → test 48 ≡ true → test 49 ≡ true → test 50 ≡ true → test 51 ≡ true → test 52 ≡ true
+pub hex_passes : (test : ℕ → Bool) → test 48 ≡ true → test 49 ≡ true → test 50 ≡ true → test 51 ≡ true → test 52 ≡ true
     → test 53 ≡ true → test 54 ≡ true → test 55 ≡ true → test 56 ≡ true → test 57 ≡ true → test 97 ≡ true
     → test 98 ≡ true → test 99 ≡ true → test 100 ≡ true → test 101 ≡ true → test 102 ≡ true → (d : ℕ) → d < 16
     → test (digit_char d) ≡ true
-hex_all test p0 p1 p2 p3 p4 p5 p6 p7 p8 p9 pa pb pc pd pe pf =
+hex_passes test p0 p1 p2 p3 p4 p5 p6 p7 p8 p9 pa pb pc pd pe pf =
     by_hex (λ d. test (digit_char d) ≡ true) p0 p1 p2 p3 p4 p5 p6 p7 p8 p9 pa pb pc pd pe pf
 
 pub hex_shown : (d : ℕ) → d < 16 → is_shown (digit_char d) ≡ true
-hex_shown = hex_all is_shown refl refl refl refl refl refl refl refl refl refl refl refl refl refl refl refl
+hex_shown = hex_passes is_shown refl refl refl refl refl refl refl refl refl refl refl refl refl refl refl refl
 
 hex_step : (begun : List (List ℕ)) (n d : ℕ) → d < 16
     → step (Some (at (Number n) begun)) (digit_char d) ≡ Some (at (Number (16 * n + d)) begun)
@@ -112,13 +112,14 @@ four_digits : (begun : List (List ℕ)) (c : ℕ)
     (digit_at c 0x1000 ∷ digit_at c 0x100 ∷ digit_at c 0x10 ∷ digit_at c 1 ∷ [])
     ≡ Some (at (Number c) begun)
 four_digits begun c =
-    hex_then begun (c / 0x10000) (c / 0x1000 % 16) (digit_at c 0x100 ∷ digit_at c 0x10 ∷ digit_at c 1 ∷ []) _ (omega arith)
+    hex_then begun (c / 0x10000) (c / 0x1000 % 16) (digit_at c 0x100 ∷ digit_at c 0x10 ∷ digit_at c 1 ∷ []) _
+    (omega arith)
     (hex_then begun (16 * (c / 0x10000) + c / 0x1000 % 16) (c / 0x100 % 16) (digit_at c 0x10 ∷ digit_at c 1 ∷ []) _
     (omega arith)
     (hex_then begun (16 * (16 * (c / 0x10000) + c / 0x1000 % 16) + c / 0x100 % 16) (c / 0x10 % 16) (digit_at c 1 ∷ []) _
     (omega arith)
-    (hex_then begun (16 * (16 * (16 * (c / 0x10000) + c / 0x1000 % 16) + c / 0x100 % 16) + c / 0x10 % 16) (c / 1 % 16) [] _
-    (omega arith)
+    (hex_then begun (16 * (16 * (16 * (c / 0x10000) + c / 0x1000 % 16) + c / 0x100 % 16) + c / 0x10 % 16)
+    (c / 1 % 16) [] _ (omega arith)
     (at_number begun
     (16 * (16 * (16 * (16 * (c / 0x10000) + c / 0x1000 % 16) + c / 0x100 % 16) + c / 0x10 % 16) + c / 1 % 16) c
     (omega arith)))))

@@ -1,17 +1,20 @@
 //! Laws of the definitions. No function here does anything.
-ghost use Rattle.std.specs.Prelude.{◌≡◌, ℕ, ◌%◌, List, Some, Bool, true, false, All, option_to_list};
+ghost use Rattle.std.specs.Prelude.{◌≡◌, ℕ, ◌%◌, ◌++◌, List, Some, Bool, false, true, All, option_to_list, codes};
+ghost use Rattle.keymap_core.specs.Accents.{AccentValue};
 ghost use Rattle.keymap_core.specs.Bounds.{IsCell, IsMap};
 ghost use Rattle.keymap_core.specs.Maps.{MapValue};
 ghost use Rattle.keymap_core.specs.Numbers.{key_count};
 ghost use Rattle.keymap_core.specs.declared.entry.Cell.{Cell as CellValue};
 ghost use Rattle.keymap_core.specs.declared.entry.Entry.{Entry as EntryValue};
 ghost use Rattle.keymap_check.specs.declared.finding.Finding.{Finding as FindingValue};
+ghost use Rattle.keymap_text.specs.Printed.{key_line, slot_words, accent_line, accent_words};
 ghost use Rattle.keymap_draw.specs.declared.board.Board.{Board as BoardValue};
 ghost use Rattle.keymap_draw.specs.declared.place.Column.{Column as ColumnValue};
 ghost use Rattle.keymap_draw.specs.Keys.{key_class, names_key, red};
 ghost use Rattle.keymap_draw.specs.Legends.{cell_legend};
 ghost use Rattle.keymap_draw.specs.Pictures.{picture};
 ghost use Rattle.keymap_draw.specs.Places.{size_class, legend_classes, IsClass};
+ghost use Rattle.keymap_draw.specs.Titles.{squeezed};
 ghost use Rattle.keymap_draw.specs.WellFormed.{IsPlain, IsShown, IsWellFormed};
 
 /// A cap has the class of the red ones exactly if one of the findings is of its key.
@@ -47,4 +50,12 @@ pub fn classes_are_of_a_list()
     ensures legend { (m : MapValue) (column : ColumnValue) (cell : CellValue) (legend : List ℕ) (alone tight : Bool)
         → All IsClass (legend_classes m column cell legend alone tight) }
     ensures accent { (legend : List ℕ) → All IsClass (option_to_list (size_class legend false true)) }
+{}
+
+/// What the title of a key tells is its line of the printed form with one blank between its words, and what that of an
+/// accent tells is its line.
+pub fn titles_are_printed_lines()
+    ensures key { (slot : ℕ) (e : EntryValue) → All IsCell e.cells
+        → squeezed (key_line slot e) ≡ slot_words slot e ++ codes "\n" }
+    ensures accent { (i : ℕ) (accent : AccentValue) → accent_line i accent ≡ accent_words i accent ++ codes "\n" }
 {}

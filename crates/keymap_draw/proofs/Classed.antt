@@ -152,7 +152,8 @@ legends_classed m column cell legend alone tight =
     (legend_passes is_class letters m column cell legend alone tight)
 
 pub keys_classed : (fs : List Finding) (slot : ℕ) (e : Entry) → All IsClass (option_to_list (key_class fs slot e))
-keys_classed fs slot e = all_from is_class (option_to_list (key_class fs slot e)) (key_passes is_class letters fs slot e)
+keys_classed fs slot e =
+    all_from is_class (option_to_list (key_class fs slot e)) (key_passes is_class letters fs slot e)
 
 pub accents_classed : (legend : List ℕ) → All IsClass (option_to_list (size_class legend false true))
 accents_classed legend =

@@ -32,13 +32,16 @@ use Rattle.keymap_draw.specs.declared.half.Half.TheVariants.{Lower, Upper}
 use Rattle.keymap_draw.specs.declared.place.Column.{Column}
 use Rattle.keymap_draw.specs.Boards.{row_on}
 use Rattle.keymap_draw.specs.Drawn.{is_blank, is_among, remaining, column, different, is_pair, joined, drawn}
-use Rattle.keymap_draw.specs.Halves.{slot_of, row_key, some_row_key, board_row, is_other, other_keys, other_key, other_rows}
-use Rattle.keymap_draw.specs.Halves.{others, refused_words, count_line, verdict_line, live_words, lower_headline, headline}
+use Rattle.keymap_draw.specs.Halves.{slot_of, row_key, some_row_key, board_row, is_other, other_keys, other_key}
+use Rattle.keymap_draw.specs.Halves.{other_rows, others, refused_words, count_line, verdict_line, live_words}
+use Rattle.keymap_draw.specs.Halves.{lower_headline, headline, sample_rest}
 use Rattle.keymap_draw.specs.Halves.{sample_word, sample, panel, half_drawing}
-use Rattle.keymap_draw.specs.Keys.{finding_of, key_class, title, legend, drawn_legend, legends_of, legends, key_of_entry, key}
+use Rattle.keymap_draw.specs.Keys.{finding_of, key_class, title, legend, drawn_legend, legends_of, legends}
+use Rattle.keymap_draw.specs.Keys.{key_of_entry, key}
 use Rattle.keymap_draw.specs.Legends.{character_legend, cell_legend}
 use Rattle.keymap_draw.specs.Lists.{has_character, named_accents, composed, base_of, composed_of, table_of}
-use Rattle.keymap_draw.specs.Lists.{accent_sign, accent_heading, accent_row, some_accent_row, listed_accent, accent_rows}
+use Rattle.keymap_draw.specs.Lists.{accent_sign, accent_heading, accent_row, some_accent_row, listed_accent}
+use Rattle.keymap_draw.specs.Lists.{accent_rows}
 use Rattle.keymap_draw.specs.Lists.{accents_list, is_silent, silent_accents, silent_name, silent_row, silent_list}
 use Rattle.keymap_draw.specs.Pictures.{upper_y, findings_y, accents_y, silent_y, key_y, begin, head, upper, lists}
 use Rattle.keymap_draw.specs.Pictures.{end, picture_with, picture}
@@ -47,7 +50,8 @@ use Rattle.keymap_draw.specs.WellFormed.{at, IsWellFormed}
 use Rattle.keymap_draw.specs.WellFormed.Place.{Text}
 use Rattle.keymap_draw.proofs.Classed.{Passes, size_passes, legend_passes, key_passes}
 use Rattle.keymap_draw.proofs.Formed.{Leads, ◌⊳◌, lit, nothing, between_value, between_text, escaped_in}
-use Rattle.keymap_draw.proofs.Formed.{textual_in, line, classes, opened, element, all_numbered, all_flat, either, findings}
+use Rattle.keymap_draw.proofs.Formed.{textual_in, line, classes, opened, element, all_numbered, all_flat, either}
+use Rattle.keymap_draw.proofs.Formed.{findings}
 use Rattle.keymap_draw.proofs.Formed.{cap_in, group_in}
 use Rattle.keymap_draw.proofs.Loops.{passing-below}
 use Rattle.keymap_draw.proofs.Scans.{is_valued, is_textual, first_true, second_true}
@@ -208,8 +212,8 @@ unfolding row_key
 row_key_in m fs half y None is h = nothing
 row_key_in m fs half y (Some r) is h = key_in m fs (slot_of half r.0) _ _ r.3 is (slot_low half r.0 h)
 
-board_row_in : {begun : List (List ℕ)} (m : MapValue) (fs : List Finding) (half : Half) (board : Board) (y : ℕ) (r : Row)
-    → IsMap m → r.0 < 128 → Leads (at Text begun) (board_row m fs half board y r) (at Text begun)
+board_row_in : {begun : List (List ℕ)} (m : MapValue) (fs : List Finding) (half : Half) (board : Board) (y : ℕ)
+    (r : Row) → IsMap m → r.0 < 128 → Leads (at Text begun) (board_row m fs half board y r) (at Text begun)
 unfolding board_row
 board_row_in m fs half board y r is h = row_key_in m fs half y (row_on board r) is (row_low board r h)
 
@@ -270,7 +274,7 @@ sample_in half y =
     between_value (codes "<g aria-hidden=\"true\" transform=\"translate(1212 ") _
     (codes ")\"><use href=\"#f\"/><text x=\"8\" y=\"57\">") refl refl
     ⊳ sample_word_in half
-    ⊳ lit (codes ", locks</text><text x=\"10\" y=\"20\" class=\"v\">shift</text><text x=\"10\" y=\"41\" class=\"v\">base</text><text x=\"130\" y=\"20\" class=\"v r a\">alt shift</text><text x=\"130\" y=\"41\" class=\"v r a\">alt</text></g>\n") refl
+    ⊳ lit sample_rest refl
 
 panel_in : {begun : List (List ℕ)} (m : MapValue) (fs : List Finding) (half : Half) (board : Board) (y : ℕ) → IsMap m
     → Leads (at Text begun) (panel m fs half board y) (at Text begun)
@@ -353,7 +357,8 @@ unfolding accents_list accent_rows
 accents_in m accents y is h =
     either (length accents == 0) nothing
     (between_value (codes "<text x=\"28\" y=\"") _ (codes "\" class=\"h\">Accents</text>\n") refl refl
-    ⊳ all_numbered (λ i. i < 15) (listed_accent m (y + 40)) (λ i k low. listed_accent_in m (y + 40) i k is low) 0 accents h)
+    ⊳ all_numbered (λ i. i < 15) (listed_accent m (y + 40)) (λ i k low. listed_accent_in m (y + 40) i k is low) 0
+    accents h)
 
 silent_low : (m : MapValue) → All (λ i. i < 15) (silent_accents m)
 unfolding silent_accents

@@ -109,6 +109,7 @@ pieces5 old t1 t2 t3 t4 t5 a b c d e e1 e2 e3 e4 e5 = rw (e5, e4, e3, e2, e1) (s
 pub pieces7 : (old t1 t2 t3 t4 t5 t6 t7 a b c d e f g : List ℕ)
     → t1 ≡ old ++ a → t2 ≡ t1 ++ b → t3 ≡ t2 ++ c → t4 ≡ t3 ++ d → t5 ≡ t4 ++ e → t6 ≡ t5 ++ f → t7 ≡ t6 ++ g
     → t7 ≡ old ++ (a ++ b ++ c ++ d ++ e ++ f ++ g)
-pieces7 old t1 t2 t3 t4 t5 t6 t7 a b c d e f g e1 e2 e3 e4 e5 e6 e7 = rw (e7, e6, e5, e4, e3, e2, e1) (simp append_assoc)
+pieces7 old t1 t2 t3 t4 t5 t6 t7 a b c d e f g e1 e2 e3 e4 e5 e6 e7 =
+    rw (e7, e6, e5, e4, e3, e2, e1) (simp append_assoc)
 
 pub ruleset passing_rules = (passing-start)

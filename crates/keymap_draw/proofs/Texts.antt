@@ -84,7 +84,8 @@ four_shown : (c : ℕ) → AreShown (digit_at c 0x1000 ∷ digit_at c 0x100 ∷ 
 four_shown c =
     before (digit_at c 0x1000) _ (unit_shown c 0x1000 (omega arith))
     (before (digit_at c 0x100) _ (unit_shown c 0x100 (omega arith))
-    (before (digit_at c 0x10) _ (unit_shown c 0x10 (omega arith)) (alone (digit_at c 1) (unit_shown c 1 (omega arith)))))
+    (before (digit_at c 0x10) _ (unit_shown c 0x10 (omega arith))
+    (alone (digit_at c 1) (unit_shown c 1 (omega arith)))))
 
 five_shown : (c : ℕ) → AreShown (digit_at c 0x10000 ∷ [])
 five_shown c = alone (digit_at c 0x10000) (unit_shown c 0x10000 (omega arith))

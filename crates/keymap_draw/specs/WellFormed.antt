@@ -1,6 +1,6 @@
--- What is well formed as XML, told byte by byte: texts, and tags of elements out of a fixed list, with attributes out of
--- a fixed list. Each element ends by its own end tag, a link leads to a part of the same picture, and a reference is of
--- a character that XML 1.0 allows and that is no control character.
+-- What is well formed as XML, told byte by byte: texts, and tags of elements out of a fixed list, with attributes out
+-- of a fixed list. Each element ends by its own end tag, a link leads to a part of the same picture, and a reference is
+-- of a character that XML 1.0 allows and that is no control character.
 use Rattle.std.specs.Prelude.{◌≡◌, ℕ, ◌+◌, ◌*◌, ◌==◌, nat_lt, nat_le, Bool, ◌||◌, ◌&&◌, not, true, List, [], ◌∷◌, ◌++◌}
 use Rattle.std.specs.Prelude.{codes, Option, Some, None, if◌then◌else◌, bytes_eq}
 use Rattle.std.specs.Char.{digit_value}

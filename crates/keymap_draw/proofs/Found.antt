@@ -1,6 +1,6 @@
 -- Rows that are gone through until one fits.
-use Rattle.std.proofs.Common.{◌≡◌, ℕ, ◌+◌, ◌<◌, ◌≤◌, ◌==◌, true, false, cond, List, [], ◌∷◌, length, drop, get_or}
-use Rattle.std.proofs.Common.{Option, Some, None, refl, sym, ap, ◌∙◌, add-one, drop-cons}
+use Rattle.std.proofs.Common.{◌≡◌, ℕ, ◌+◌, ◌<◌, ◌≤◌, ◌==◌, true, false, cond, List, length, drop, get_or}
+use Rattle.std.proofs.Common.{Some, None, sym, ap, ◌∙◌, add-one, drop-cons}
 use Prim.Native.Nat.{suc}
 use Rattle.std.proofs.Math.ListN.{drop_of_length-le}
 use Rattle.keymap_check.specs.declared.finding.Finding.{Finding}

@@ -1,2 +1,11 @@
+mod Classed
+mod Closing
+mod Formed
 mod Found
 mod Loops
+mod Plain
+mod Red
+mod Scans
+mod Shown
+mod Squeezed
+mod Texts

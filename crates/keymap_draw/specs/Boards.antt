@@ -1,5 +1,5 @@
 -- The boards, and the shapes of their keys, in units of which 64 are one key.
-use Rattle.std.specs.Prelude.{ℕ, ◌+◌, ◌==◌, ◌&&◌, not, Bool, true, false, List, Option, Some, None, if◌then◌else◌}
+use Rattle.std.specs.Prelude.{ℕ, ◌==◌, ◌&&◌, not, Bool, List, Option, Some, None, if◌then◌else◌}
 use Rattle.std.specs.List.{list_any}
 use Rattle.keymap_draw.specs.declared.board.Board.{Board}
 use Rattle.keymap_draw.specs.declared.board.Board.TheVariants.{Iso, Ansi}

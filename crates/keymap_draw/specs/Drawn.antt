@@ -1,4 +1,5 @@
--- Which cells of a slot are drawn on its cap: those of the columns 0 base, 1 shift, 4 alt and 5 alt shift, in this order.
+-- Which cells of a slot are drawn on its cap: those of the columns 0 base, 1 shift, 4 alt and 5 alt shift, in this
+-- order.
 use Rattle.std.specs.Prelude.{ℕ, ◌+◌, ◌-◌, ◌%◌, ◌==◌, Bool, true, false, ◌||◌, ◌&&◌, not, List, [], ◌∷◌, slice_index_or}
 use Rattle.std.specs.Prelude.{Option, Some, None, if◌then◌else◌}
 use Rattle.std.specs.List.{list_any}

@@ -1,7 +1,7 @@
 -- The drawing of one half of the slots: its headline, its board, and the keys that the board doesn't have. It begins at
 -- y.
-use Rattle.std.specs.Prelude.{ℕ, ◌+◌, ◌*◌, ◌/◌, ◌%◌, ◌==◌, Bool, ◌&&◌, not, List, [], ◌∷◌, ◌++◌, length, codes}
-use Rattle.std.specs.Prelude.{decimal, slice_index, Option, Some, None, if◌then◌else◌}
+use Rattle.std.specs.Prelude.{ℕ, ◌+◌, ◌*◌, ◌/◌, ◌%◌, ◌==◌, Bool, ◌&&◌, not, List, [], ◌++◌, length, codes}
+use Rattle.std.specs.Prelude.{Option, Some, None, if◌then◌else◌}
 use Rattle.std.specs.List.{flat_map}
 use Rattle.keymap_core.specs.Borne.{is_upper_live}
 use Rattle.keymap_core.specs.Maps.{MapValue, entry_at}
@@ -98,13 +98,18 @@ abbrev pub sample_word : Half → List ℕ
 sample_word Lower = codes "key code"
 sample_word Upper = codes "slot"
 
+-- what stands behind that word
+abbrev pub sample_rest : List ℕ
+sample_rest =
+    codes ", locks</text><text x=\"10\" y=\"20\" class=\"v\">shift</text><text x=\"10\" y=\"41\" class=\"v\">base</text><text x=\"130\" y=\"20\" class=\"v r a\">alt shift</text><text x=\"130\" y=\"41\" class=\"v r a\">alt</text></g>\n"
+
 -- the key that shows where the legends stand
 unfoldable pub sample : Half → ℕ → List ℕ
 sample half y =
     between (codes "<g aria-hidden=\"true\" transform=\"translate(1212 ") (y + 12)
     (codes ")\"><use href=\"#f\"/><text x=\"8\" y=\"57\">")
     ++ sample_word half
-    ++ codes ", locks</text><text x=\"10\" y=\"20\" class=\"v\">shift</text><text x=\"10\" y=\"41\" class=\"v\">base</text><text x=\"130\" y=\"20\" class=\"v r a\">alt shift</text><text x=\"130\" y=\"41\" class=\"v r a\">alt</text></g>\n"
+    ++ sample_rest
 
 -- the keys of the board, on their panel
 unfoldable pub panel : MapValue → List Finding → Half → Board → ℕ → List ℕ

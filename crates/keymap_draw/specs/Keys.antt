@@ -1,7 +1,7 @@
 -- One key of the picture: its cap, its code and its legends. Its title is its line of the printed form.
-use Rattle.std.specs.Prelude.{ℕ, ◌+◌, ◌-◌, ◌%◌, ◌==◌, nat_lt, Bool, true, false, ◌||◌, ◌&&◌, List, [], ◌∷◌, ◌++◌}
+use Rattle.std.specs.Prelude.{ℕ, ◌-◌, ◌%◌, ◌==◌, nat_lt, Bool, true, false, ◌||◌, ◌&&◌, List, [], ◌∷◌, ◌++◌}
 use Rattle.std.specs.Prelude.{codes, decimal, Option, Some, None, option_to_list, if◌then◌else◌}
-use Rattle.std.specs.List.{flat_map, list_all}
+use Rattle.std.specs.List.{flat_map, list_all, list_any}
 use Rattle.std.specs.Option.{is_some}
 use Rattle.keymap_core.specs.declared.action.Action.TheVariants as a
 use Rattle.keymap_core.specs.declared.entry.Cell.{Cell}
@@ -40,6 +40,10 @@ unfoldable pub finding_of : List Finding → ℕ → Option Finding
 finding_of [] k = None
 finding_of (f ∷ fs) k = if f.key == k then Some f else finding_of fs k
 
+-- one of the findings is of the key
+abbrev pub names_key : List Finding → ℕ → Bool
+names_key fs k = list_any (λ f. f.key == k) fs
+
 -- an action other than nop and the dead keys, or a control character
 abbrev pub is_doing : Cell → Bool
 is_doing (Char c) = within 1 31 c || (c == 127)
@@ -57,11 +61,15 @@ is_holding (Act action) = false
 unfoldable pub is_blank_entry : Entry → Bool
 is_blank_entry e = list_all is_blank e.cells
 
+-- the class of a key that the check names, f
+abbrev pub red : ℕ
+red = 102
+
 -- the class for the colour of a key: f where the check names it, p where it is blank, m for a modifier or lock, g for
 -- another action
 unfoldable pub key_class : List Finding → ℕ → Entry → Option ℕ
 key_class fs slot e =
-    if is_some (finding_of fs (slot % key_count)) then Some 102
+    if is_some (finding_of fs (slot % key_count)) then Some red
     else if is_blank_entry e then Some 112
     else if is_holding (column e 0) then Some 109
     else if is_doing (column e 0) then Some 103
@@ -108,7 +116,8 @@ drawn_legend m shape c alone beside (Some cell) = legend m shape c alone beside 
 
 abbrev pub legends_of : MapValue → Shape → Bool → DrawnCells → List ℕ
 legends_of m shape alone d =
-    drawn_legend m shape Base alone (is_some d.alt) d.base ++ drawn_legend m shape Shift alone (is_some d.alt_shift) d.shift
+    drawn_legend m shape Base alone (is_some d.alt) d.base
+    ++ drawn_legend m shape Shift alone (is_some d.alt_shift) d.shift
     ++ drawn_legend m shape Alt alone (is_some d.base) d.alt
     ++ drawn_legend m shape AltShift alone (is_some d.shift) d.alt_shift
 

@@ -8,3 +8,5 @@ pub mod Lists
 pub mod Markup
 pub mod Pictures
 pub mod Places
+pub mod Titles
+pub mod WellFormed

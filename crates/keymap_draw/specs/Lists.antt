@@ -1,5 +1,5 @@
 -- What stands below the keys: the findings of the check, the accents, and the dead keys without one.
-use Rattle.std.specs.Prelude.{ℕ, ◌+◌, ◌*◌, ◌/◌, ◌%◌, ◌==◌, Bool, false, true, ◌||◌, ◌&&◌, not, List, [], ◌∷◌, ◌++◌}
+use Rattle.std.specs.Prelude.{ℕ, ◌+◌, ◌*◌, ◌/◌, ◌%◌, ◌==◌, Bool, false, true, ◌||◌, ◌&&◌, not, List, [], ◌++◌}
 use Rattle.std.specs.Prelude.{length, codes, Option, Some, None, option_to_list, if◌then◌else◌}
 use Rattle.std.specs.List.{flat_map, list_any}
 use Rattle.keymap_core.specs.declared.action.Action.TheVariants as a

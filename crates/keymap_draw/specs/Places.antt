@@ -1,6 +1,7 @@
 -- Where texts stand on a cap, and the classes by which the style gives them size, side and colour.
 use Rattle.std.specs.Prelude.{ℕ, ◌+◌, ◌-◌, ◌/◌, ◌==◌, Bool, true, false, List, ◌++◌, codes, length, min, slice_index}
-use Rattle.std.specs.Prelude.{Option, Some, None, option_to_list, if◌then◌else◌}
+use Rattle.std.specs.Prelude.{◌≡◌, Option, Some, None, option_to_list, if◌then◌else◌}
+use Rattle.std.specs.List.{list_any}
 use Rattle.keymap_core.specs.declared.action.Action.TheVariants as a
 use Rattle.keymap_core.specs.declared.entry.Cell.{Cell}
 use Rattle.keymap_core.specs.declared.entry.Cell.TheVariants.{Char, Act}
@@ -49,6 +50,13 @@ legend_y s column alone word =
     else if is_above column then 20
     else low_y s
 
+-- the letters that are classes of legends and keys
+abbrev pub is_class : ℕ → Bool
+is_class letter = list_any (λ c. c == letter) (codes "botuvwxyzcraedmfpg")
+
+abbrev pub IsClass : ℕ → Type 0
+IsClass letter = is_class letter ≡ true
+
 -- the letter for a word of so many characters: those for 2 to 8, of which the last is for longer ones too
 abbrev pub size_by : List ℕ → ℕ → ℕ
 size_by sizes n = slice_index sizes (min n 8 - 2)
@@ -76,8 +84,8 @@ own_of m i = (accent_or_blank m i).own
 abbrev pub plain_class : Column → Option ℕ
 plain_class column = if is_right column then Some 97 else None
 
--- the class for the kind of a cell: e for a dead key whose accent has no character, d for any other, m for a modifier or
--- lock
+-- the class for the kind of a cell: e for a dead key whose accent has no character, d for any other, m for a modifier
+-- or lock
 abbrev pub kind_class : MapValue → Column → Cell → Option ℕ
 kind_class m column (Char c) = plain_class column
 kind_class m column (Act (a.DeadKey i)) = Some (if own_of m i == 0 then 101 else 100)

@@ -1,6 +1,6 @@
 //! The drawing of one half of the slots: its headline, its board, and the keys that the board doesn't have.
 ghost use Rattle.std.specs.Prelude.{◌≡◌, ◌++◌, ◌+◌, ◌≤◌, ◌<◌, ◌^◌, OnOk, length};
-ghost use Rattle.std.specs.List.{flat_map, filter, range_with_len};
+ghost use Rattle.std.specs.List.{flat_map};
 ghost use Rattle.arrayvec.specs.ArrayVec.{array_vec_len};
 ghost use Rattle.keymap_draw.specs.Below.{passed};
 ghost use Rattle.keymap_draw.specs.Halves as spec;

@@ -1,6 +1,5 @@
 //! One key of the picture: its cap, its code and its legends. Its title is its line of the printed form.
 ghost use Rattle.std.specs.Prelude.{◌≡◌, ◌++◌, ◌<◌, OnOk, decimal, option_copied, option_to_list};
-ghost use Rattle.keymap_core.specs.Maps.{entry_at};
 ghost use Rattle.keymap_draw.specs.Keys as spec;
 ghost use Rattle.keymap_draw.specs.Markup.{class_text};
 

@@ -1,11 +1,13 @@
 //! One picture of a keymap: its keys with their legends on a board, as SVG.
 //!
-//! [`picture`] puts it together from small parts, each a definition of specs/: `Markup` has numbers, references and text
-//! elements, `Legends` what is written on a cap for a cell, `Drawn` which cells are drawn, `Places` where and in which
-//! classes, `Keys` a key, `Halves` a board, `Lists` what stands below, `Pictures` the whole.
+//! [`picture`] puts it together from small parts, each a definition of specs/: `Markup` has numbers, references and
+//! text elements, `Legends` what is written on a cap for a cell, `Drawn` which cells are drawn, `Places` where and in
+//! which classes, `Keys` a key, `Halves` a board, `Lists` what stands below, `Pictures` the whole.
 //!
-//! Nothing of the keymap stands in the picture but by these parts, so it is well formed whatever the keymap is: a
-//! character is written as it is or as a reference, and one that XML forbids never.
+//! It is proved that its bytes are those of the definition; and in [`laws`] that these bytes are plain ASCII and well
+//! formed in the sense of `WellFormed`, that legends have characters of XML alone and classes are out of a list, that
+//! titles are lines of the printed form, and that a cap is red exactly if one of the findings is of its key. That an
+//! XML reader reads it is tested: no law says that one element holds all others, or that a tag has no attribute twice.
 #![tactic(auto)]
 
 mod board;
@@ -13,6 +15,7 @@ mod constants;
 mod drawn;
 mod half;
 mod key;
+pub mod laws;
 mod legend;
 mod lists;
 mod markup;

@@ -1,6 +1,5 @@
 //! What stands below the keys: the findings of the check, the accents, and the dead keys without one.
 ghost use Rattle.std.specs.Prelude.{◌≡◌, ◌++◌, ◌+◌, ◌*◌, ◌≤◌, ◌<◌, ◌^◌, OnOk, All, length};
-ghost use Rattle.std.specs.List.{flat_map, range_with_len};
 ghost use Rattle.keymap_core.specs.Maps.{accent_at};
 ghost use Rattle.keymap_core.specs.Numbers.{accent_limit};
 ghost use Rattle.keymap_draw.specs.Lists as spec;

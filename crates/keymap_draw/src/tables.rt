@@ -1,5 +1,6 @@
-//! Which characters aren't drawn as they are, and which small letters a capital stands for. The tables are lists of a few
-//! ranges, not Unicode's categories: what one leaves out is drawn as it is, which may look worse but is never wrong XML.
+//! Which characters aren't drawn as they are, and which small letters a capital stands for. The tables are lists of a
+//! few ranges, not Unicode's categories: what one leaves out is drawn as it is, which may look worse but is never wrong
+//! XML.
 
 /// The numbers from the first to the last, both among them.
 #[derive(Clone, Copy, Debug)]

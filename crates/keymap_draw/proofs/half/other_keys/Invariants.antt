@@ -1,4 +1,4 @@
-use Rattle.std.proofs.Common.{◌≡◌, ◌≤◌, ◌==◌, length}
+use Rattle.std.proofs.Common.{◌≡◌, ◌≤◌, length}
 use Rattle.keymap_draw.specs.Halves.{is_other}
 use Rattle.keymap_draw.specs.Below.{passing}
 use Rattle.keymap_draw.proofs.half.other_keys.Given as goal

@@ -9,7 +9,8 @@ loop-key-init c = any-start _
 pub returns-then-slot_bears_dead_key : goal.returns-then-slot_bears_dead_key
 unfolding bears_dead_key
 returns-then-slot_bears_dead_key c =
-    sym (any-some _ c.loop-key.key 128 (omega arith) (sym c.slot_bears_dead_key.ensures ∙ c.if-slot_bears_dead_key.true))
+    sym (any-some _ c.loop-key.key 128 (omega arith)
+    (sym c.slot_bears_dead_key.ensures ∙ c.if-slot_bears_dead_key.true))
 
 pub loop-key-preserved : goal.loop-key-preserved
 loop-key-preserved c =

@@ -1,5 +1,5 @@
-use Rattle.std.proofs.Common.{◌≡◌, sym, ap, ◌∙◌}
-use Rattle.std.specs.Prelude.{slice_get, option_copied, None}
+use Rattle.std.proofs.Common.{sym, ap, ◌∙◌}
+use Rattle.std.specs.Prelude.{option_copied}
 use Rattle.keymap_core.specs.Accents.{blank}
 use Rattle.keymap_draw.proofs.Loops.{none_is}
 use Rattle.keymap_draw.proofs.place.own_of.Goals as goal

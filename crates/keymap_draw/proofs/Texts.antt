@@ -1,0 +1,334 @@
+-- Each character of a legend and of a title may stand in a text.
+use Prim.Native.Nat.{zero, suc}
+use Rattle.std.proofs.Common.{◌≡◌, ◌≢◌, ℕ, ◌+◌, ◌<◌, ◌≤◌, ◌==◌, Bool, true, false, List, [], ◌∷◌, ◌++◌, Option, Some}
+use Rattle.std.proofs.Common.{refl, ap, arith, All}
+use Rattle.std.specs.Prelude.{◌/◌, ◌%◌, ◌||◌, not, nat_lt, codes, decimal, if◌then◌else◌, slice_index_or}
+use Rattle.std.specs.Char.{IsScalar}
+use Rattle.std.specs.List.{list_all, flat_map, filter}
+use Rattle.std.proofs.lemmas.Bool.{ltb-true}
+use Rattle.std.proofs.lemmas.Bool.Decides.{nat_tests}
+use Rattle.std.proofs.lemmas.List.Elements.{All-head, All-tail, All-replicate}
+use Rattle.keymap_core.specs.declared.action.Action.{Action}
+use Rattle.keymap_core.specs.declared.action.Action.TheVariants as a
+use Rattle.keymap_core.specs.declared.action.Modifier.TheVariants as m
+use Rattle.keymap_core.specs.declared.action.Lock.TheVariants as l
+use Rattle.keymap_core.specs.declared.entry.Cell.{Cell}
+use Rattle.keymap_core.specs.declared.entry.Cell.TheVariants.{Char, Act}
+use Rattle.keymap_core.specs.declared.entry.Entry.{Entry}
+use Rattle.keymap_core.specs.declared.entry.LockFlag.{LockFlag}
+use Rattle.keymap_core.specs.declared.entry.LockFlag.TheVariants as flag
+use Rattle.keymap_core.specs.Accents.{AccentValue}
+use Rattle.keymap_core.specs.Actions.{IsAction, name_of, two_digits, accent_names, within}
+use Rattle.keymap_core.specs.Bounds.{IsCell, IsEntry, IsPair, IsMap}
+use Rattle.keymap_core.specs.CodePoints.{code_digits, code_text, upper_digits, digit_at}
+use Rattle.keymap_core.specs.Maps.{MapValue, entry_at, undefined}
+use Rattle.keymap_text.specs.Printed.{control_name, character_text, cell_text, hex, hex4, hex_at, slot_words, slot_text}
+use Rattle.keymap_text.specs.Printed.{pair_text, accent_words, flag_letter, word}
+use Rattle.keymap_text.specs.Words.{control_names}
+use Rattle.keymap_draw.specs.declared.tables.UnseenName.{UnseenName}
+use Rattle.keymap_draw.specs.declared.tables.TheConstants.{UNSEEN_NAMES, ACCENT_MARKS}
+use Rattle.keymap_draw.specs.Legends.{name_in, unfilled, marked, is_coded, is_mark, unseen_name, shown_legend, named_or}
+use Rattle.keymap_draw.specs.Legends.{other_legend, character_legend, accent_mark, action_legend, cell_legend}
+use Rattle.keymap_draw.specs.WellFormed.{is_shown}
+use Rattle.keymap_draw.proofs.Scans.{both_true, first_true, second_true, decimal_all, digit_passes}
+use Rattle.keymap_draw.proofs.Shown.{joined as all_joined, flat_all, name_all, item_all, hex_shown}
+
+-- each may stand in a text
+pub record AreShown (cs : List ℕ) : Type 0 where
+  pub each : list_all is_shown cs ≡ true
+
+shown : {cs : List ℕ} → list_all is_shown cs ≡ true → AreShown cs
+shown h = record { each = h }
+
+joined : (a b : List ℕ) → AreShown a → AreShown b → AreShown (a ++ b)
+joined a b h k = record { each = all_joined is_shown a b h.each k.each }
+
+chosen : (b : Bool) (x y : List ℕ) → (b ≡ true → AreShown x) → (b ≡ false → AreShown y)
+    → AreShown (if b then x else y)
+chosen true x y f g = f refl
+chosen false x y f g = g refl
+
+low_shown : (c : ℕ) → 32 ≤ c → c ≤ 126 → is_shown c ≡ true
+low_shown c low high = grind (arith, nat_tests)
+
+scalar_shown : (c : ℕ) → 32 ≤ c → within 0x7f 0x9f c ≡ false → IsScalar c → c ≢ 0xfffe → c ≢ 0xffff
+    → is_shown c ≡ true
+scalar_shown c low control s n k = grind (arith, nat_tests)
+
+alone : (c : ℕ) → is_shown c ≡ true → AreShown (c ∷ [])
+alone c h = record { each = both_true (is_shown c) true h refl }
+
+before : (c : ℕ) (cs : List ℕ) → is_shown c ≡ true → AreShown cs → AreShown (c ∷ cs)
+before c cs h k = record { each = both_true (is_shown c) (list_all is_shown cs) h k.each }
+
+first_shown : (c : ℕ) (cs : List ℕ) → AreShown (c ∷ cs) → is_shown c ≡ true
+first_shown c cs h = first_true (is_shown c) (list_all is_shown cs) h.each
+
+rest_shown : (c : ℕ) (cs : List ℕ) → AreShown (c ∷ cs) → AreShown cs
+rest_shown c cs h = record { each = second_true (is_shown c) (list_all is_shown cs) h.each }
+
+flat_shown : {A : Type 0} (P : A → Type 0) (f : A → List ℕ) → ((x : A) → P x → AreShown (f x)) → (xs : List A)
+    → All P xs → AreShown (flat_map f xs)
+flat_shown P f each xs h = record { each = flat_all is_shown P f (λ x k. (each x k).each) xs h }
+
+name_shown : (names : List (List ℕ)) → list_all (list_all is_shown) names ≡ true → (i : ℕ)
+    → AreShown (slice_index_or names i [])
+name_shown names h i = record { each = name_all is_shown names h i }
+
+-- ---- numbers and names
+
+unit_shown : (c unit : ℕ) → 0 < unit → is_shown (digit_at c unit) ≡ true
+unit_shown c unit h = hex_shown (c / unit % 16) (omega arith)
+
+four_shown : (c : ℕ) → AreShown (digit_at c 0x1000 ∷ digit_at c 0x100 ∷ digit_at c 0x10 ∷ digit_at c 1 ∷ [])
+four_shown c =
+    before (digit_at c 0x1000) _ (unit_shown c 0x1000 (omega arith))
+    (before (digit_at c 0x100) _ (unit_shown c 0x100 (omega arith))
+    (before (digit_at c 0x10) _ (unit_shown c 0x10 (omega arith))
+    (alone (digit_at c 1) (unit_shown c 1 (omega arith)))))
+
+five_shown : (c : ℕ) → AreShown (digit_at c 0x10000 ∷ [])
+five_shown c = alone (digit_at c 0x10000) (unit_shown c 0x10000 (omega arith))
+
+six_shown : (c : ℕ) → AreShown (digit_at c 0x100000 ∷ digit_at c 0x10000 ∷ [])
+six_shown c = before (digit_at c 0x100000) _ (unit_shown c 0x100000 (omega arith)) (five_shown c)
+
+upper_shown : (c : ℕ) → AreShown (upper_digits c)
+upper_shown c =
+    chosen (nat_lt c 0x10000) [] _ (λ _. shown refl)
+    (λ _. chosen (nat_lt c 0x100000) (digit_at c 0x10000 ∷ []) (digit_at c 0x100000 ∷ digit_at c 0x10000 ∷ [])
+    (λ _. five_shown c) (λ _. six_shown c))
+
+code_shown : (c : ℕ) → AreShown (code_text c)
+unfolding code_text code_digits
+code_shown c =
+    joined (codes "U+") (code_digits c) (shown refl)
+    (joined (upper_digits c) (digit_at c 0x1000 ∷ digit_at c 0x100 ∷ digit_at c 0x10 ∷ digit_at c 1 ∷ [])
+    (upper_shown c) (four_shown c))
+
+decimal_shown : (n : ℕ) → AreShown (decimal n)
+decimal_shown n =
+    shown (decimal_all is_shown (digit_passes is_shown refl refl refl refl refl refl refl refl refl refl) n)
+
+control_shown : (c : ℕ) → AreShown (control_name c)
+control_shown c =
+    chosen (c == 127) (codes "del") _ (λ _. shown refl) (λ _. name_shown control_names refl c)
+
+two_shown : (n : ℕ) → n < 100 → AreShown (two_digits n)
+two_shown n h =
+    before (48 + n / 10) _ (low_shown (48 + n / 10) (omega arith) (omega arith))
+    (alone (48 + n % 10) (low_shown (48 + n % 10) (omega arith) (omega arith)))
+
+action_shown : (action : Action) → IsAction action → AreShown (name_of action)
+action_shown a.Nop h = shown refl
+action_shown (a.Mod m.LeftShift) h = shown refl
+action_shown (a.Mod m.RightShift) h = shown refl
+action_shown (a.Mod m.LeftControl) h = shown refl
+action_shown (a.Mod m.RightControl) h = shown refl
+action_shown (a.Mod m.LeftAlt) h = shown refl
+action_shown (a.Mod m.RightAlt) h = shown refl
+action_shown (a.Mod m.AltShift) h = shown refl
+action_shown (a.Mod m.Meta) h = shown refl
+action_shown (a.Lock l.Caps) h = shown refl
+action_shown (a.Lock l.Num) h = shown refl
+action_shown (a.Lock l.Scroll) h = shown refl
+action_shown (a.Lock l.Alt) h = shown refl
+action_shown a.BackTab h = shown refl
+action_shown a.NextScreen h = shown refl
+action_shown a.PreviousScreen h = shown refl
+action_shown (a.Screen n) h = joined (codes "scr") (two_digits n) (shown refl) (two_shown n (omega (arith, h.1)))
+action_shown (a.Function n) h = joined (codes "fkey") (two_digits n) (shown refl) (two_shown n (omega (arith, h.1)))
+action_shown (a.DeadKey i) h = name_shown accent_names refl i
+action_shown a.Boot h = shown refl
+action_shown a.Debug h = shown refl
+action_shown a.Suspend h = shown refl
+action_shown a.Saver h = shown refl
+action_shown a.Standby h = shown refl
+action_shown a.Panic h = shown refl
+action_shown a.Halt h = shown refl
+action_shown a.PowerDown h = shown refl
+action_shown a.Paste h = shown refl
+
+-- ---- legends
+
+unfilled_shown : (name : List ℕ) → AreShown name → AreShown (unfilled name)
+unfolding unfilled
+unfilled_shown [] h = shown refl
+unfilled_shown (c ∷ cs) h =
+    chosen (not (c == 32)) (c ∷ filter (λ letter. not (letter == 32)) cs) (filter (λ letter. not (letter == 32)) cs)
+    (λ _. before c (filter (λ letter. not (letter == 32)) cs) (first_shown c cs h)
+    (unfilled_shown cs (rest_shown c cs h)))
+    (λ _. unfilled_shown cs (rest_shown c cs h))
+
+abbrev is_shown_row : UnseenName → Bool
+is_shown_row row = list_all is_shown row.1
+
+named_by : (b : Bool) (row : UnseenName) (more : Option (List ℕ)) (legend : List ℕ) → AreShown row.1
+    → AreShown (named_or more legend) → AreShown (named_or (if b then Some row.1 else more) legend)
+named_by true row more legend h k = unfilled_shown row.1 h
+named_by false row more legend h k = k
+
+named_shown : (rows : List UnseenName) (c : ℕ) (legend : List ℕ) → list_all is_shown_row rows ≡ true
+    → AreShown legend → AreShown (named_or (name_in rows c) legend)
+unfolding name_in
+named_shown [] c legend h k = k
+named_shown (row ∷ rows) c legend h k =
+    named_by (row.0 == c) row (name_in rows c) legend
+    (shown (first_true (is_shown_row row) (list_all is_shown_row rows) h))
+    (named_shown rows c legend (second_true (is_shown_row row) (list_all is_shown_row rows) h) k)
+
+coded_fffe : is_coded 0xfffe ≡ true
+unfolding is_coded
+coded_fffe = refl
+
+coded_ffff : is_coded 0xffff ≡ true
+unfolding is_coded
+coded_ffff = refl
+
+not_coded : (c d : ℕ) → is_coded d ≡ true → is_coded c ≡ false → c ≢ d
+not_coded c d e f g = let h : is_coded c ≡ is_coded d = ap is_coded g in cc
+
+not_low : (c : ℕ) → (nat_lt c 32 || c == 127) ≡ false → 32 ≤ c
+not_low c e = grind (arith, nat_tests)
+
+first_false : (a b : Bool) → (a || b) ≡ false → a ≡ false
+first_false true b e = e
+first_false false b e = refl
+
+not_upper_control : (c : ℕ) → is_coded c ≡ false → within 0x80 0x9f c ≡ false
+unfolding is_coded
+not_upper_control c e = first_false (within 0x80 0x9f c) _ e
+
+not_control : (c : ℕ) → (nat_lt c 32 || c == 127) ≡ false → within 0x80 0x9f c ≡ false → within 0x7f 0x9f c ≡ false
+not_control c e f = grind (arith, nat_tests)
+
+-- a character that isn't coded may stand in a text
+plainly_shown : (c : ℕ) → (nat_lt c 32 || c == 127) ≡ false → IsScalar c → is_coded c ≡ false → is_shown c ≡ true
+plainly_shown c low s e =
+    scalar_shown c (not_low c low) (not_control c low (not_upper_control c e)) s (not_coded c 0xfffe coded_fffe e)
+    (not_coded c 0xffff coded_ffff e)
+
+shown_shown : (c : ℕ) → (nat_lt c 32 || c == 127) ≡ false → IsScalar c → AreShown (shown_legend c)
+unfolding shown_legend
+shown_shown c low s =
+    chosen (is_coded c) (code_text c) _ (λ _. code_shown c)
+    (λ e. chosen (is_mark c) (marked c) (c ∷ [])
+    (λ _. before 0x25cc (c ∷ []) refl (alone c (plainly_shown c low s e)))
+    (λ _. alone c (plainly_shown c low s e)))
+
+other_shown : (c : ℕ) → (nat_lt c 32 || c == 127) ≡ false → IsScalar c → AreShown (other_legend c)
+unfolding other_legend unseen_name
+other_shown c low s = named_shown UNSEEN_NAMES c (shown_legend c) refl (shown_shown c low s)
+
+pub character_shown : (c : ℕ) → IsScalar c → AreShown (character_legend c)
+unfolding character_legend
+character_shown c s =
+    chosen (c == 0) [] _ (λ _. shown refl)
+    (λ _. chosen (c == 9) (codes "tab") _ (λ _. shown refl)
+    (λ _. chosen (c == 13) (codes "ret") _ (λ _. shown refl)
+    (λ _. chosen (nat_lt c 32 || c == 127) (control_name c) _ (λ _. control_shown c)
+    (λ e. chosen (c == 32) (0x2423 ∷ []) (other_legend c) (λ _. shown refl) (λ _. other_shown c e s)))))
+
+pub mark_shown : (i : ℕ) → i < 15 → AreShown (marked (accent_mark i))
+mark_shown i h =
+    before 0x25cc _ refl (alone (accent_mark i) (item_all is_shown ACCENT_MARKS i 0 h refl))
+
+action_legend_shown : (action : Action) → IsAction action → AreShown (action_legend action)
+unfolding action_legend
+action_legend_shown a.Nop h = shown refl
+action_legend_shown (a.Mod m) h = action_shown (a.Mod m) h
+action_legend_shown (a.Lock l) h = action_shown (a.Lock l) h
+action_legend_shown (a.Screen n) h = joined (codes "scr") (decimal n) (shown refl) (decimal_shown n)
+action_legend_shown (a.Function n) h = joined (codes "F") (decimal n) (shown refl) (decimal_shown n)
+action_legend_shown (a.DeadKey i) h = mark_shown i h
+action_legend_shown a.BackTab h = shown refl
+action_legend_shown a.NextScreen h = shown refl
+action_legend_shown a.PreviousScreen h = shown refl
+action_legend_shown a.Boot h = shown refl
+action_legend_shown a.Debug h = shown refl
+action_legend_shown a.Suspend h = shown refl
+action_legend_shown a.Saver h = shown refl
+action_legend_shown a.Standby h = shown refl
+action_legend_shown a.Panic h = shown refl
+action_legend_shown a.Halt h = shown refl
+action_legend_shown a.PowerDown h = shown refl
+action_legend_shown a.Paste h = shown refl
+
+pub cell_shown : (cell : Cell) → IsCell cell → AreShown (cell_legend cell)
+cell_shown (Char c) h = character_shown c h
+cell_shown (Act action) h = action_legend_shown action h
+
+-- ---- lines of the printed form
+
+hex_four : (c : ℕ) → AreShown (hex4 c)
+hex_four c = four_shown c
+
+hex_digits : (c : ℕ) → AreShown (hex c)
+unfolding hex
+hex_digits c =
+    chosen (nat_lt c 65536) (hex4 c) _ (λ _. hex_four c)
+    (λ _. chosen (nat_lt c 1048576) (hex_at c 65536 ∷ hex4 c) _
+    (λ _. before (hex_at c 65536) (hex4 c) (unit_shown c 65536 (omega arith)) (hex_four c))
+    (λ _. before (hex_at c 1048576) (hex_at c 65536 ∷ hex4 c) (unit_shown c 1048576 (omega arith))
+    (before (hex_at c 65536) (hex4 c) (unit_shown c 65536 (omega arith)) (hex_four c))))
+
+between_shown : (c : ℕ) → (nat_lt c 32 || c == 127) ≡ false → nat_lt c 127 ≡ true → is_shown c ≡ true
+between_shown c e f = low_shown c (not_low c e) (let h : c < 127 = ltb-true c 127 f in omega arith)
+
+character_text_shown : (c : ℕ) → AreShown (character_text c)
+unfolding character_text
+character_text_shown c =
+    chosen (nat_lt c 32 || c == 127) (control_name c) _ (λ _. control_shown c)
+    (λ e. chosen (nat_lt c 127) (39 ∷ c ∷ 39 ∷ []) _
+    (λ f. before 39 (c ∷ 39 ∷ []) refl (before c (39 ∷ []) (between_shown c e f) (shown refl)))
+    (λ _. joined (codes "0x") (hex c) (shown refl) (hex_digits c)))
+
+cell_text_shown : (cell : Cell) → IsCell cell → AreShown (word (cell_text cell))
+cell_text_shown (Char c) h = joined (codes " ") (character_text c) (shown refl) (character_text_shown c)
+cell_text_shown (Act action) h = joined (codes " ") (name_of action) (shown refl) (action_shown action h)
+
+flag_shown : (f : LockFlag) → AreShown (flag_letter f ∷ [])
+flag_shown flag.O = shown refl
+flag_shown flag.C = shown refl
+flag_shown flag.N = shown refl
+flag_shown flag.B = shown refl
+
+slot_shown : (s : ℕ) → s < 256 → AreShown (slot_text s)
+slot_shown s h =
+    before (48 + s / 100) _ (low_shown (48 + s / 100) (omega arith) (omega arith))
+    (before (48 + s / 10 % 10) _ (low_shown (48 + s / 10 % 10) (omega arith) (omega arith))
+    (alone (48 + s % 10) (low_shown (48 + s % 10) (omega arith) (omega arith))))
+
+pub slot_words_shown : (s : ℕ) (e : Entry) → s < 256 → All IsCell e.cells → AreShown (slot_words s e)
+unfolding slot_words
+slot_words_shown s e low cells =
+    joined (slot_text s) _ (slot_shown s low)
+    (joined (flat_map (λ c. word (cell_text c)) e.cells) _
+    (flat_shown IsCell (λ c. word (cell_text c)) cell_text_shown e.cells cells)
+    (joined (codes " ") (flag_letter e.flag ∷ []) (shown refl) (flag_shown e.flag)))
+
+pair_shown : (p : ℕ × ℕ) → AreShown (pair_text p)
+unfolding pair_text
+pair_shown p =
+    joined (codes " ( ") _ (shown refl)
+    (joined (character_text p.0) _ (character_text_shown p.0)
+    (joined (codes " ") _ (shown refl)
+    (joined (character_text p.1) (codes " )") (character_text_shown p.1) (shown refl))))
+
+pub accent_words_shown : (i : ℕ) (accent : AccentValue) → All IsPair accent.pairs → AreShown (accent_words i accent)
+unfolding accent_words
+accent_words_shown i accent pairs =
+    joined (slice_index_or accent_names i []) _ (name_shown accent_names refl i)
+    (joined (codes " ") _ (shown refl)
+    (joined (character_text accent.own) _ (character_text_shown accent.own)
+    (flat_shown IsPair pair_text (λ p _. pair_shown p) accent.pairs pairs)))
+
+-- the cells of each slot are cells of a keymap
+entry_cells_by : (es : List Entry) (s : ℕ) → All IsEntry es → All IsCell (slice_index_or es s undefined).cells
+entry_cells_by [] s h =
+    All-replicate IsCell 8 (Char 0) refl
+entry_cells_by (e ∷ es) zero h = (All-head IsEntry e es h).cells
+entry_cells_by (e ∷ es) (suc s) h = entry_cells_by es s (All-tail IsEntry e es h)
+
+pub entry_cells : (m : MapValue) (s : ℕ) → IsMap m → All IsCell (entry_at m s).cells
+entry_cells m s is = entry_cells_by m.entries s is.entries

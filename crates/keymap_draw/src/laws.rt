@@ -1,0 +1,61 @@
+//! Laws of the definitions. No function here does anything.
+ghost use Rattle.std.specs.Prelude.{◌≡◌, ℕ, ◌%◌, ◌++◌, List, Some, Bool, false, true, All, option_to_list, codes};
+ghost use Rattle.keymap_core.specs.Accents.{AccentValue};
+ghost use Rattle.keymap_core.specs.Bounds.{IsCell, IsMap};
+ghost use Rattle.keymap_core.specs.Maps.{MapValue};
+ghost use Rattle.keymap_core.specs.Numbers.{key_count};
+ghost use Rattle.keymap_core.specs.declared.entry.Cell.{Cell as CellValue};
+ghost use Rattle.keymap_core.specs.declared.entry.Entry.{Entry as EntryValue};
+ghost use Rattle.keymap_check.specs.declared.finding.Finding.{Finding as FindingValue};
+ghost use Rattle.keymap_text.specs.Printed.{key_line, slot_words, accent_line, accent_words};
+ghost use Rattle.keymap_draw.specs.declared.board.Board.{Board as BoardValue};
+ghost use Rattle.keymap_draw.specs.declared.place.Column.{Column as ColumnValue};
+ghost use Rattle.keymap_draw.specs.Keys.{key_class, names_key, red};
+ghost use Rattle.keymap_draw.specs.Legends.{cell_legend};
+ghost use Rattle.keymap_draw.specs.Pictures.{picture};
+ghost use Rattle.keymap_draw.specs.Places.{size_class, legend_classes, IsClass};
+ghost use Rattle.keymap_draw.specs.Titles.{squeezed};
+ghost use Rattle.keymap_draw.specs.WellFormed.{IsPlain, IsShown, IsWellFormed};
+
+/// A cap has the class of the red ones exactly if one of the findings is of its key.
+pub fn red_caps_are_findings()
+    ensures red { (fs : List FindingValue) (slot : ℕ) (e : EntryValue) → key_class fs slot e ≡ Some red
+        → names_key fs (slot % key_count) ≡ true }
+    ensures named { (fs : List FindingValue) (slot : ℕ) (e : EntryValue) → names_key fs (slot % key_count) ≡ true
+        → key_class fs slot e ≡ Some red }
+{}
+
+/// A picture is well formed: texts and tags of a few elements, each of which ends by its own end tag, with a few
+/// attributes. So nothing of a keymap can begin an element, an attribute or a link.
+pub fn pictures_are_well_formed()
+    ensures { (m : MapValue) (board : BoardValue) → IsMap m → IsWellFormed (picture m board) }
+{}
+
+/// Each byte of a picture is LF or a printable character of ASCII.
+pub fn pictures_are_plain()
+    ensures { (m : MapValue) (board : BoardValue) → IsMap m → All IsPlain (picture m board) }
+{}
+
+/// Each character of a legend is one that XML 1.0 allows, and no control character, whether it stands as it is or by a
+/// reference.
+pub fn legends_are_shown()
+    ensures { (cell : CellValue) → IsCell cell → All IsShown (cell_legend cell) }
+{}
+
+/// The classes of a key, of a legend and of a character of an accent are letters out of a fixed list, whatever the
+/// keymap is.
+pub fn classes_are_of_a_list()
+    ensures key { (fs : List FindingValue) (slot : ℕ) (e : EntryValue)
+        → All IsClass (option_to_list (key_class fs slot e)) }
+    ensures legend { (m : MapValue) (column : ColumnValue) (cell : CellValue) (legend : List ℕ) (alone tight : Bool)
+        → All IsClass (legend_classes m column cell legend alone tight) }
+    ensures accent { (legend : List ℕ) → All IsClass (option_to_list (size_class legend false true)) }
+{}
+
+/// What the title of a key tells is its line of the printed form with one blank between its words, and what that of an
+/// accent tells is its line.
+pub fn titles_are_printed_lines()
+    ensures key { (slot : ℕ) (e : EntryValue) → All IsCell e.cells
+        → squeezed (key_line slot e) ≡ slot_words slot e ++ codes "\n" }
+    ensures accent { (i : ℕ) (accent : AccentValue) → accent_line i accent ≡ accent_words i accent ++ codes "\n" }
+{}

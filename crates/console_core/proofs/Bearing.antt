@@ -4,6 +4,7 @@ use Rattle.std.proofs.Common.{refl, ap, subst, sym, ◌∙◌, inl, inr, if◌th
 use Rattle.std.specs.Prelude.{◌==◌}
 use Rattle.std.proofs.lemmas.Bool.{eqb-true, eq-eqb, and_parts, or_cases, cases_Bool, true≢false}
 use Rattle.std.specs.Option.{option_or}
+use Rattle.std.proofs.lemmas.Option.{none-some, same_Some}
 use Rattle.keymap_core.specs.declared.action.Action.{Action}
 use Rattle.keymap_core.specs.declared.action.Action.TheVariants as act
 use Rattle.keymap_core.specs.declared.action.Holding.{Holding}
@@ -25,28 +26,22 @@ use Rattle.console_core.proofs.OneMore.{pressed-release, held-load, remembered-l
 use Rattle.keymap_core.proofs.SameActions.{same_action-true, same_action-refl}
 use Rattle.console_core.proofs.Borne.{AllLooked, taken-holding}
 
-pub none_some : (a : Action) → None ≡ Some a → ⊥
-none_some a e = cc
-
-some_some : (a b : Action) → Some a ≡ Some b → a ≡ b
-some_some a b e = cc
-
 -- a conditional that forgets
 kept_if : (t : Bool) (o : Option Action) (a : Action) → (if t then None else o) ≡ Some a → (t ≡ false) × (o ≡ Some a)
-kept_if true o a h = absurd (none_some a h)
+kept_if true o a h = absurd (none-some a h)
 kept_if false o a h = (refl, h)
 
 -- an action that is offered is the one looked up
 unless_nop-some : (t : Bool) (b a : Action) → (if t then None else Some b) ≡ Some a → b ≡ a
-unless_nop-some true b a h = absurd (none_some a h)
-unless_nop-some false b a h = some_some b a h
+unless_nop-some true b a h = absurd (none-some a h)
+unless_nop-some false b a h = same_Some b a h
 
 -- what is remembered after a press was so before, or is the key's look
 remembered_from : (t : Bool) (o : Option Action) (b a : Action)
     → option_or o (if t then unless_nop b else None) ≡ Some a → (o ≡ Some a) ⊎ ((o ≡ None) × (t ≡ true) × (b ≡ a))
 remembered_from t (Some c) b a h = inl h
 remembered_from true None b a h = inr (refl, refl, unless_nop-some (same_action b act.Nop) b a h)
-remembered_from false None b a h = absurd (none_some a h)
+remembered_from false None b a h = absurd (none-some a h)
 
 -- the first of two stays where it is there
 pub first_kept : (o p : Option Action) (a : Action) → o ≡ Some a → option_or o p ≡ Some a
@@ -55,7 +50,7 @@ first_kept o p a h = rw h refl
 -- what a key remembers is one of its cells
 pub remembered-cell : (m : MapValue) (r : List ResolvedEvent) (k : ℕ) (a : Action) → AllLooked m r
     → remembered k r ≡ Some a → (k < 128) × IsCellOf m k (Act a)
-remembered-cell m [] k a all h = absurd (none_some a (sym (remembered-start k) ∙ h))
+remembered-cell m [] k a all h = absurd (none-some a (sym (remembered-start k) ∙ h))
 remembered-cell m (PressedCharacter j c ∷ r) k a all h =
     remembered-cell m r k a all.1 (kept_if (j == k) (remembered k r) a (sym (remembered-character k j c r) ∙ h)).1
 remembered-cell m (PressedAction j b ∷ r) k a all h =
@@ -68,8 +63,8 @@ remembered-cell m (PressedAction j b ∷ r) k a all h =
     ]
 remembered-cell m (ReleasedKey j ∷ r) k a all h =
     remembered-cell m r k a all.1 (kept_if (j == k) (remembered k r) a (sym (remembered-release k j r) ∙ h)).1
-remembered-cell m (WasReset ∷ r) k a all h = absurd (none_some a (sym (remembered-reset k r) ∙ h))
-remembered-cell m (WasLoaded n ∷ r) k a all h = absurd (none_some a (sym (remembered-load k n r) ∙ h))
+remembered-cell m (WasReset ∷ r) k a all h = absurd (none-some a (sym (remembered-reset k r) ∙ h))
+remembered-cell m (WasLoaded n ∷ r) k a all h = absurd (none-some a (sym (remembered-load k n r) ∙ h))
 
 -- a key that remembers something is pressed
 pressed_if : (t : Bool) (x : Bool) → x ≡ true → (if t then true else x) ≡ true
@@ -93,7 +88,7 @@ press-remembered ms h k j a (Act b) f r =
 -- a key for which an action is remembered is pressed
 pub remembered-pressed : (ms : Maps) (h : List Event) (k : ℕ) (a : Action) → remembered k (resolved ms h) ≡ Some a
     → pressed k h ≡ true
-remembered-pressed ms [] k a r = absurd (none_some a (sym (remembered-start k) ∙ (rw resolved-start at r)))
+remembered-pressed ms [] k a r = absurd (none-some a (sym (remembered-start k) ∙ (rw resolved-start at r)))
 remembered-pressed ms (Press j ∷ h) k a r =
     pressed-press k j h
     ∙ press-remembered ms h k j a (look (in_force ms h) (resolved ms h) j) (remembered-pressed ms h k a)
@@ -104,9 +99,9 @@ remembered-pressed ms (Release j ∷ h) k a r =
     (sym (remembered-release k j (resolved ms h)) ∙ (rw (resolved-more ms h (Release j)) at r)) in
     rw (pressed-release k j h, s.0) (remembered-pressed ms h k a s.1)
 remembered-pressed ms (Reset ∷ h) k a r =
-    absurd (none_some a (sym (remembered-reset k (resolved ms h)) ∙ (rw (resolved-more ms h Reset) at r)))
+    absurd (none-some a (sym (remembered-reset k (resolved ms h)) ∙ (rw (resolved-more ms h Reset) at r)))
 remembered-pressed ms (Load ∷ h) k a r =
-    absurd (none_some a (sym (remembered-load k _ (resolved ms h)) ∙ (rw (resolved-more ms h Load) at r)))
+    absurd (none-some a (sym (remembered-load k _ (resolved ms h)) ∙ (rw (resolved-more ms h Load) at r)))
 
 -- a holding action that is held is remembered for some key, where no bearer of it has a character
 abbrev pub RememberedBySome : Holding → List ResolvedEvent → Type 0
@@ -176,7 +171,7 @@ not_other m a k alone r j all ne (Some b) is =
 -- what a key that bears it alone remembers is held
 pub remembered-held : (m : MapValue) (a : Holding) (k : ℕ) → IsAlone m k a → (r : List ResolvedEvent) → AllLooked m r
     → remembered k r ≡ Some (holding_action a) → held a r ≡ true
-remembered-held m a k alone [] all h = absurd (none_some (holding_action a) (sym (remembered-start k) ∙ h))
+remembered-held m a k alone [] all h = absurd (none-some (holding_action a) (sym (remembered-start k) ∙ h))
 remembered-held m a k alone (PressedCharacter j c ∷ r) all h =
     held-character a j c r
     ∙ remembered-held m a k alone r all.1
@@ -194,6 +189,6 @@ remembered-held m a k alone (ReleasedKey j ∷ r) all h =
     rw (held-release a j r, remembered-held m a k alone r all.1 s.1)
     (not_other m a k alone r j all.1 s.0 (remembered j r) refl)
 remembered-held m a k alone (WasReset ∷ r) all h =
-    absurd (none_some (holding_action a) (sym (remembered-reset k r) ∙ h))
+    absurd (none-some (holding_action a) (sym (remembered-reset k r) ∙ h))
 remembered-held m a k alone (WasLoaded n ∷ r) all h =
-    absurd (none_some (holding_action a) (sym (remembered-load k n r) ∙ h))
+    absurd (none-some (holding_action a) (sym (remembered-load k n r) ∙ h))

@@ -6,13 +6,9 @@ use Rattle.std.specs.Prelude.{◌==◌, ◌≢◌, option_map}
 use Rattle.std.proofs.lemmas.Bool.{eqb-true}
 use Rattle.keymap_core.proofs.SameActions.{same_action-true}
 use Rattle.keymap_core.specs.declared.action.Action.{Action}
-use Rattle.keymap_core.specs.declared.action.Action.TheVariants as act
 use Rattle.keymap_core.specs.Actions.{same_action, code_of, action_of}
 use Rattle.console_core.specs.PackedWord.{action_of_byte, code_memory}
 use Rattle.console_core.proofs.Places.{get_or-set_if}
-
-some_some : (a b : Action) → Some a ≡ Some b → a ≡ b
-some_some a b e = cc
 
 -- a code other than 0 is that of its action, by the test for 0
 action_of_byte_some : (code : ℕ) (b : Bool) → eqb code 0 ≡ b → code ≢ 0 → action_of_byte code ≡ action_of code

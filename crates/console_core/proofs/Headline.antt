@@ -40,10 +40,11 @@ use Rattle.console_core.proofs.Readings.{turns-event}
 use Rattle.keymap_core.proofs.SameActions.{same_action-true}
 use Rattle.console_core.proofs.Borne.{AllLooked, taken-holding, look-cell, resolved-looked}
 use Rattle.console_core.proofs.Bearing.{remembered-cell, remembered-pressed, held-remembered, remembered-held}
-use Rattle.console_core.proofs.Bearing.{none_some, RememberedBySome}
+use Rattle.console_core.proofs.Bearing.{RememberedBySome}
 use Rattle.console_core.proofs.Deliveries.{reverse-cons}
 use mathlib.Core.Path.{fun_ext}
 use Rattle.std.specs.Option.{option_or}
+use Rattle.std.proofs.lemmas.Option.{none-some}
 
 -- one cell is one cell
 act_char : (a : Action) (c : ℕ) → Char c ≡ Act a → ⊥
@@ -86,7 +87,7 @@ first_some_of (Some a) p s = (a, refl)
 
 -- where the first is there, one of two is
 first_some_kept : (o p : Option Action) → ((a : Action) × (o ≡ Some a)) → (a : Action) × (option_or o p ≡ Some a)
-first_some_kept None p s = absurd (none_some s.0 s.1)
+first_some_kept None p s = absurd (none-some s.0 s.1)
 first_some_kept (Some a) p s = (a, refl)
 
 -- a press of a key that looks up an action other than nop leaves the key something to remember

@@ -10,7 +10,7 @@ use Rattle.std.specs.Cmp.Lexicographic.{pointwise}
 use Rattle.std.proofs.lemmas.Bool.{cases_lt, true≢false}
 use Rattle.std.proofs.lemmas.List.{get_or_default, same_lists}
 use Rattle.std.proofs.lemmas.Map.Keys.{IsDistinct-head, IsDistinct-tail}
-use Rattle.std.proofs.lemmas.Option.{slice_get-get_or}
+use Rattle.std.proofs.lemmas.Option.{slice_get-get_or, none-some, same_Some}
 use Rattle.keymap_core.specs.declared.action.Modifier.TheVariants.{LeftShift}
 use Rattle.keymap_core.specs.declared.action.Lock.TheVariants.{Caps}
 use Rattle.keymap_core.specs.Actions.{modifiers, locks, modifier_index, lock_index}
@@ -19,7 +19,6 @@ use Rattle.console_core.specs.Inner.Searching.{state_of, Entry, Entries, Searche
 use Rattle.console_core.specs.Inner.HeldBytes.{AreSame}
 use Rattle.console_core.specs.Moves.{Under}
 use Rattle.console_core.specs.Sticking.{ReachesMoreThan}
-use Rattle.console_core.proofs.Searching.{none_entry, some_entries}
 
 -- the tables of equal states
 modifier_place : (n : ℕ) → n < 8 → modifier_index (get_or modifiers n LeftShift) ≡ n
@@ -94,17 +93,17 @@ beq-self false = refl
 -- entries at two places
 rec-at : (P : Held → Type 0) (es : Entries) → AllByRecursion P (keys_of es) → (k : ℕ) (y : Entry)
     → slice_get es k ≡ Some y → P y.0
-rec-at P [] all k y at = absurd (none_entry y at)
-rec-at P (e ∷ es) all zero y at = subst (λ z. P z.0) (some_entries e y at) all.0
+rec-at P [] all k y at = absurd (none-some y at)
+rec-at P (e ∷ es) all zero y at = subst (λ z. P z.0) (same_Some e y at) all.0
 rec-at P (e ∷ es) all (suc k) y at = rec-at P es all.1 k y at
 
 -- entries at two places of distinct ones are distinct
 distinct-at : (E : Held → Held → Bool) (es : Entries) → IsDistinct E (keys_of es) → (j k : ℕ) (x y : Entry) → j < k
     → slice_get es j ≡ Some x → slice_get es k ≡ Some y → E x.0 y.0 ≡ false
-distinct-at E [] d j k x y lt at_j at_k = absurd (none_entry x at_j)
+distinct-at E [] d j k x y lt at_j at_k = absurd (none-some x at_j)
 distinct-at E (e ∷ es) d zero zero x y lt at_j at_k = absurd (omega (arith, lt))
 distinct-at E (e ∷ es) d zero (suc k) x y lt at_j at_k =
-    subst (λ z. E z.0 y.0 ≡ false) (some_entries e x at_j)
+    subst (λ z. E z.0 y.0 ≡ false) (same_Some e x at_j)
     (rec-at (λ z. E e.0 z ≡ false) es (IsDistinct-head E e.0 (keys_of es) d) k y at_k)
 distinct-at E (e ∷ es) d (suc j) zero x y lt at_j at_k = absurd (omega (arith, lt))
 distinct-at E (e ∷ es) d (suc j) (suc k) x y lt at_j at_k =

@@ -3,6 +3,7 @@ use Prim.Native.Nat.{suc}
 use Rattle.std.proofs.Common.{◌≡◌, ℕ, Bool, false, true, List, [], ◌∷◌, ◌++◌, length, eqb, Option, None, Some, refl, ap}
 use Rattle.std.proofs.Common.{sym, subst, ◌∙◌, if◌then◌else◌}
 use Rattle.std.proofs.lemmas.Bool.{true≢false, eqb-true, eqb-false, eq-eqb, ne_eqb}
+use Rattle.std.proofs.lemmas.Option.{none-some, same_Some}
 use Rattle.keymap_core.specs.declared.entry.Cell.{Cell}
 use Rattle.keymap_core.specs.declared.entry.Cell.TheVariants.{Char, Act}
 use Rattle.keymap_core.specs.Maps.{MapValue}
@@ -64,22 +65,16 @@ dead_keys_taken-events ms m [] = refl
 dead_keys_taken-events ms m (e ∷ h) =
     rw (keeps-event ms e h, takes-event ms m e h, dead_keys_taken-events ms m h) (left_out ms m (keeps_at ms e h) e h)
 
-none_some : (i : ℕ) → None ≡ Some i → ⊥
-none_some i e = cc
-
-some_some : (i j : ℕ) → Some i ≡ Some j → i ≡ j
-some_some i j e = cc
-
 -- pending exactly if the run is odd
 odd_some : (b : Bool) (i j : ℕ) → (if b then Some j else None) ≡ Some i → (b ≡ true) × (j ≡ i)
-odd_some true i j e = (refl, some_some j i e)
-odd_some false i j e = absurd (none_some i e)
+odd_some true i j e = (refl, same_Some j i e)
+odd_some false i j e = absurd (none-some i e)
 
 -- what is pending has a run of odd length at the end
 pending-odd : (xs : List (Option ℕ)) (i : ℕ) → pending_by_dead_keys xs ≡ Some i → is_odd (run_length i xs) ≡ true
 unfolding pending_by_dead_keys
-pending-odd [] i e = absurd (none_some i e)
-pending-odd (None ∷ rest) i e = absurd (none_some i e)
+pending-odd [] i e = absurd (none-some i e)
+pending-odd (None ∷ rest) i e = absurd (none-some i e)
 pending-odd (Some j ∷ rest) i e =
     let s : (is_odd (run_length j (Some j ∷ rest)) ≡ true) × (j ≡ i) =
     odd_some (is_odd (run_length j (Some j ∷ rest))) i j e in
@@ -119,7 +114,7 @@ split_by ms m i p positions None b e f s = (
   p ∷ positions,
   refl,
   tt,
-  (λ g. none_some i (sym e ∙ g)),
+  (λ g. none-some i (sym e ∙ g)),
   ap (λ x. run_length i (x ∷ takings ms m positions)) (sym e),
 )
 split_by ms m i p positions (Some j) true e f s =
@@ -137,7 +132,7 @@ split_by ms m i p positions (Some j) false e f s = (
   p ∷ positions,
   refl,
   tt,
-  (λ g. eqb-false j i (f j refl) (some_some j i (sym e ∙ g))),
+  (λ g. eqb-false j i (f j refl) (same_Some j i (sym e ∙ g))),
   ap (λ t. if t then suc (run_length i (takings ms m positions)) else 0) (sym (f j refl))
       ∙ ap (λ x. run_length i (x ∷ takings ms m positions)) (sym e),
 )

@@ -7,6 +7,7 @@ use Rattle.std.specs.Prelude.{◌==◌}
 use Rattle.std.proofs.lemmas.Bool.{eqb-true, eq-eqb, cases_Bool, true≢false}
 use Rattle.std.proofs.lemmas.List.Elements.{All-nil, All-cons}
 use Rattle.std.specs.Option.{option_or, is_some}
+use Rattle.std.proofs.lemmas.Option.{none-some, same_Some}
 use Rattle.keymap_core.specs.declared.action.Action.{Action}
 use Rattle.keymap_core.specs.declared.action.Action.TheVariants as act
 use Rattle.keymap_core.specs.declared.action.Lock.{Lock}
@@ -38,10 +39,9 @@ use Rattle.console_core.proofs.OneMore.{resolved-start, resolved-more, held-star
 use Rattle.console_core.proofs.OneMore.{held-release, held-load, remembered-start, remembered-character}
 use Rattle.console_core.proofs.OneMore.{remembered-action, remembered-release, remembered-load, pressed-start}
 use Rattle.console_core.proofs.OneMore.{pressed-press, pressed-release, pressed-load}
-use Rattle.console_core.proofs.Bearing.{none_some}
 use Rattle.console_core.proofs.Staying.{Follows, follows-look, follows-start, follows-hold, follows-turn}
 use Rattle.console_core.proofs.Staying.{follows-let_go, follows-release, follows-load, takes, same_mods, some_mods}
-use Rattle.console_core.proofs.Staying.{some_none, some_keys, not_true, IsSafeBelow, never-sticks}
+use Rattle.console_core.proofs.Staying.{some_none, not_true, IsSafeBelow, never-sticks}
 
 -- the key holds some modifier
 abbrev pub HoldsSome : State → ℕ → Type 0
@@ -90,7 +90,7 @@ hold-other s i k n free p = (p.0, hold_other s i p.0 k n (same_modifier i p.0) r
 let_go_other : (s : State) (i j : Modifier) (k n : ℕ) (t : Bool) → same_modifier i j ≡ t → Holds s k i → k == n ≡ false
     → Holds s n j → (if t then None else s.holder j) ≡ Some n
 let_go_other s i j k n true t holds ne h =
-    let e : k ≡ n = some_keys k n (sym holds ∙ ap (λ x. s.holder x) (same_mods i j t) ∙ h) in
+    let e : k ≡ n = same_Some k n (sym holds ∙ ap (λ x. s.holder x) (same_mods i j t) ∙ h) in
     absurd (true≢false (sym (eq-eqb k n e) ∙ ne))
 let_go_other s i j k n false t holds ne h = h
 
@@ -135,7 +135,7 @@ exact-turn r s k l x idle =
           (follows-turn r s k (act.Lock l) l x.follows e (x.up l)) (λ i. ap (λ o. is_this_action o (act.Mod i)) now);
       only = λ n a q. elim (cases_Bool (k == n)) [
         | inl t ↦
-            absurd (none_some a
+            absurd (none-some a
             (sym (remembered-release n k (PressedAction k (act.Lock l) ∷ r)
             ∙ ap (λ b. if b then None else remembered n (PressedAction k (act.Lock l) ∷ r)) t)
             ∙ q))
@@ -161,7 +161,7 @@ exact-let_go : (r : List ResolvedEvent) (s : State) (k : ℕ) (i : Modifier) →
 exact-let_go r s k i x holds = record {
   follows = follows-let_go r s k i x.follows (x.follows.holds i k holds);
   only = λ n a q. elim (cases_Bool (k == n)) [
-    | inl t ↦ absurd (none_some a (sym (remembered-release n k r ∙ ap (λ b. if b then None else remembered n r) t) ∙ q))
+    | inl t ↦ absurd (none-some a (sym (remembered-release n k r ∙ ap (λ b. if b then None else remembered n r) t) ∙ q))
     | inr t ↦
         let_go-other s i k n holds t
         (x.only n a (sym (remembered-release n k r ∙ ap (λ b. if b then None else remembered n r) t) ∙ q))
@@ -175,7 +175,7 @@ exact-exchange : (m : MapValue) (r : List ResolvedEvent) (s : State) → Exact r
     → Exact (WasLoaded m ∷ r) (exchanged m s)
 exact-exchange m r s x free = record {
   follows = follows-load m r s x.follows.locked free;
-  only = λ k a e. absurd (none_some a (sym (remembered-load k m r) ∙ e));
+  only = λ k a e. absurd (none-some a (sym (remembered-load k m r) ∙ e));
   up = λ l. held-load (holding.Lock l) m r;
 }
 
@@ -199,7 +199,7 @@ pressed-look u h s k x f second seen =
 -- a holder is a key after one more hold
 key_hold : (s : State) (i j : Modifier) (k n : ℕ) (t : Bool) → k < 128 → (Holds s n j → n < 128)
     → (if t then Some k else s.holder j) ≡ Some n → n < 128
-key_hold s i j k n true lt f h = subst (λ x. x < 128) (some_keys k n h) lt
+key_hold s i j k n true lt f h = subst (λ x. x < 128) (same_Some k n h) lt
 key_hold s i j k n false lt f h = f h
 
 -- a holder is a key after one lets go
@@ -274,7 +274,7 @@ stands-start : (u : Under) → Stands u [] start
 stands-start u = record {
   exact = rw (resolved-start u.maps) (record {
     follows = follows-start;
-    only = λ k a e. absurd (none_some a (sym (remembered-start k) ∙ e));
+    only = λ k a e. absurd (none-some a (sym (remembered-start k) ∙ e));
     up = λ l. held-start (holding.Lock l);
   });
   second = refl;
@@ -311,7 +311,7 @@ left-character u h s i k x (holds, (c, seen)) =
           ∙ x.exact.follows.on i ∙ ap (λ o. is_some o) holds;
       nobody = λ n e. elim (cases_Bool (k == n)) [
         | inl t ↦
-            none_some (act.Mod i)
+            none-some (act.Mod i)
             (sym (ap (λ r. remembered n r) now ∙ remembered-character n k c (resolved u.maps h)
             ∙ ap (λ b. if b then None else remembered n (resolved u.maps h)) t)
             ∙ e)
@@ -322,7 +322,7 @@ left-character u h s i k x (holds, (c, seen)) =
             ∙ e in
             let p : HoldsSome s n = x.exact.only n (act.Mod i) q in
             let same : p.0 ≡ i = some_mods p.0 i (sym (x.exact.follows.holds p.0 n p.1) ∙ q) in
-            let key : k ≡ n = some_keys k n (sym holds ∙ ap (λ y. s.holder y) (sym same) ∙ p.1) in
+            let key : k ≡ n = same_Some k n (sym holds ∙ ap (λ y. s.holder y) (sym same) ∙ p.1) in
             true≢false (sym (eq-eqb k n key) ∙ t)
       ];
       keys = All-cons HasKey (Press k) h (x.key i k holds) x.keys;
@@ -344,7 +344,7 @@ left-release ms h i k lt x =
           (is_not (remembered k (resolved ms h)) (act.Mod i) (x.nobody k));
       nobody = λ n e. elim (cases_Bool (k == n)) [
         | inl t ↦
-            none_some (act.Mod i)
+            none-some (act.Mod i)
             (sym (ap (λ r. remembered n r) now ∙ remembered-release n k (resolved ms h)
             ∙ ap (λ b. if b then None else remembered n (resolved ms h)) t)
             ∙ e)
@@ -389,7 +389,7 @@ released_more k h (Some j) p =
     elim (cases_Bool (j == k)) [
       | inl t ↦ absurd (true≢false (sym p ∙ pressed-release k j h ∙ ap (λ b. if b then false else pressed k h) t))
       | inr t ↦ (
-        (λ e. true≢false (sym (eq-eqb j k (some_keys j k e)) ∙ t)),
+        (λ e. true≢false (sym (eq-eqb j k (same_Some j k e)) ∙ t)),
         sym (pressed-release k j h ∙ ap (λ b. if b then false else pressed k h) t) ∙ p,
       )
     ]

@@ -4,7 +4,7 @@ use Rattle.std.proofs.Common.{◌≡◌, ◌≢◌, ℕ, ◌+◌, ◌<◌, ◌�
 use Rattle.std.proofs.Common.{not, List, [], ◌∷◌, ◌++◌, length, get_or, take, slice_get, slice_index_or, Option}
 use Rattle.std.proofs.Common.{Some, None, refl, ap, subst, sym, ◌∙◌, arith, append_assoc, if◌then◌else◌}
 use Rattle.std.proofs.lemmas.Bool.{cases_lt, true≢false}
-use Rattle.std.proofs.lemmas.Option.{slice_get_within, get_or_from_slice_get}
+use Rattle.std.proofs.lemmas.Option.{slice_get_within, get_or_from_slice_get, none-some, same_Some}
 use Rattle.std.proofs.lemmas.List.{append-nil, take_more}
 use Rattle.std.proofs.lemmas.List.Elements.{All-nil, All-cons, All-append}
 use Rattle.keymap_core.specs.declared.action.Modifier.{Modifier}
@@ -60,15 +60,9 @@ pub modifier-at : (i : Modifier) (n : ℕ) (d : Modifier) → modifier_index i �
 modifier-at i n d e = subst (λ x. get_or modifiers x d ≡ i) e (modifier_at i d)
 
 -- entries by their places
-pub none_entry : (x : Entry) → None ≡ Some x → ⊥
-none_entry x e = cc
-
-pub some_entries : (x y : Entry) → Some x ≡ Some y → x ≡ y
-some_entries x y e = cc
-
 -- an entry stays at its place when more are added
 at-append : (es more : Entries) (j : ℕ) (x : Entry) → slice_get es j ≡ Some x → slice_get (es ++ more) j ≡ Some x
-at-append [] more j x e = absurd (none_entry x e)
+at-append [] more j x e = absurd (none-some x e)
 at-append (y ∷ es) more zero x e = e
 at-append (y ∷ es) more (suc j) x e = at-append es more j x e
 
@@ -131,8 +125,8 @@ added-longer es now g = subst (λ y. length es ≤ length y) (sym g.1) (longer e
 
 -- a list of one entry has it at place 0
 one_entry : (x : Entry) (j : ℕ) (y : Entry) → slice_get (x ∷ []) j ≡ Some y → (j ≡ 0) × (y ≡ x)
-one_entry x zero y e = (refl, sym (some_entries x y e))
-one_entry x (suc j) y e = absurd (none_entry y e)
+one_entry x zero y e = (refl, sym (same_Some x y e))
+one_entry x (suc j) y e = absurd (none-some y e)
 
 -- a list that grows twice grows
 pub grows-again : (a b c : Entries) → Grows a b → Grows b c → Grows a c
@@ -265,7 +259,7 @@ place_last j n lt = elim (cases_lt j n) [ inl below ↦ inl below | inr le ↦ i
 
 -- entries at the same place are the same
 same_entry : (es : Entries) (j n : ℕ) (x y : Entry) → j ≡ n → slice_get es j ≡ Some x → slice_get es n ≡ Some y → y ≡ x
-same_entry es j n x y e at here = some_entries y x (sym here ∙ ap (λ k. slice_get es k) (sym e) ∙ at)
+same_entry es j n x y e at here = same_Some y x (sym here ∙ ap (λ k. slice_get es k) (sym e) ∙ at)
 
 -- one more entry whose releases are met
 pub searched-closed : (u : Under) (es : Entries) (a n : ℕ) (y : Entry) → slice_get es n ≡ Some y → IsClosed u es y
@@ -457,14 +451,14 @@ searched-back u es a b s j x parent by at last =
 
     back : (path : List Move) → IsTrail es j path → parent < j
     back [] (y, there, none) =
-        let e : Some (parent, by) ≡ None = sym last ∙ ap (λ z. z.1.last) (some_entries x y (sym at ∙ there)) ∙ none in
+        let e : Some (parent, by) ≡ None = sym last ∙ ap (λ z. z.1.last) (same_Some x y (sym at ∙ there)) ∙ none in
         absurd (no_last (parent, by) e)
       where
         no_last : (p : ℕ × Move) → Some p ≡ None → ⊥
         no_last p f = cc
     back (move ∷ path) (y, from, there, by_last, lt, rest) =
         let e : Some (parent, by) ≡ Some (from, move) =
-        sym last ∙ ap (λ z. z.1.last) (some_entries x y (sym at ∙ there)) ∙ by_last in
+        sym last ∙ ap (λ z. z.1.last) (same_Some x y (sym at ∙ there)) ∙ by_last in
         subst (λ n. n < j) (sym (ap (λ q. q.0) (some_last (parent, by) (from, move) e))) lt
 
 -- the moves that are left, where the last of them is told
@@ -477,9 +471,9 @@ LeadsBy es (Some last) (move ∷ path) = (last.1 ≡ move) × IsTrail es last.0 
 pub trail-leads : (es : Entries) (j : ℕ) (path : List Move) (x : Entry) → slice_get es j ≡ Some x → IsTrail es j path
     → LeadsBy es x.1.last path
 trail-leads es j [] x at (y, there, none) =
-    subst (λ l. LeadsBy es l []) (sym (ap (λ z. z.1.last) (some_entries x y (sym at ∙ there)) ∙ none)) tt
+    subst (λ l. LeadsBy es l []) (sym (ap (λ z. z.1.last) (same_Some x y (sym at ∙ there)) ∙ none)) tt
 trail-leads es j (move ∷ path) x at (y, parent, there, last, lt, rest) =
-    subst (λ l. LeadsBy es l (move ∷ path)) (sym (ap (λ z. z.1.last) (some_entries x y (sym at ∙ there)) ∙ last))
+    subst (λ l. LeadsBy es l (move ∷ path)) (sym (ap (λ z. z.1.last) (same_Some x y (sym at ∙ there)) ∙ last))
     (refl, rest)
 
 pub leads-next : (es : Entries) (last : ℕ × Move) (items : List Event) (rest : List Move) (target : List Event)
@@ -553,7 +547,7 @@ left-smaller es parent move y last back at e =
 
 -- a place has one entry
 pub same-place : (es : Entries) (j : ℕ) (x y : Entry) → slice_get es j ≡ Some x → slice_get es j ≡ Some y → x ≡ y
-same-place es j x y at here = some_entries x y (sym at ∙ here)
+same-place es j x y at here = same_Some x y (sym at ∙ here)
 
 -- the search begins at the start
 pub start-entries : (E : Held → Held → Bool) (es now : Entries) (x : Entry) → es ≡ [] → now ≡ insert_entry E es x.0 x.1

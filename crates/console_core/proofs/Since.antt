@@ -5,6 +5,7 @@ use Rattle.std.specs.Prelude.{◌==◌}
 use Rattle.std.proofs.Common.{append_assoc}
 use Rattle.std.proofs.lemmas.Bool.{true≢false}
 use Rattle.std.specs.Option.{option_or, is_some}
+use Rattle.std.proofs.lemmas.Option.{none-some}
 use Rattle.keymap_core.specs.declared.action.Action.{Action}
 use Rattle.keymap_core.specs.declared.entry.Cell.{Cell}
 use Rattle.keymap_core.specs.declared.entry.Cell.TheVariants.{Char, Act}
@@ -63,9 +64,6 @@ remembered-events ms k (Reset ∷ h) =
 remembered-events ms k (Load ∷ h) =
     sym (ap (λ r. remembered k r) (resolved-more ms h Load) ∙ remembered-load k _ (resolved ms h))
 
-none_some : {B : Type 0} (b : B) → None ≡ Some b → ⊥
-none_some b e = cc
-
 module _ {A B : Type 0} (ends : A → List A → Bool) (pick : A → List A → Option B) where
   -- one more element since the last that ends
   more_since : (x : A) (recent old : List A) → ends x (recent ++ old) ≡ false → IsSinceLast ends recent old
@@ -78,8 +76,8 @@ module _ {A B : Type 0} (ends : A → List A → Bool) (pick : A → List A → 
       → pick x h ≡ p → (first_since_at ends pick h ≡ None → NothingSince ends pick h)
       → (if t then None else option_or o p) ≡ None → NothingSince ends pick (x ∷ h)
   nothing_by x h true o p e f g rec is = ([], x ∷ h, refl, (tt, e), tt)
-  nothing_by x h false (Some b) p e f g rec is = absurd (none_some b (sym is))
-  nothing_by x h false None (Some b) e f g rec is = absurd (none_some b (sym is))
+  nothing_by x h false (Some b) p e f g rec is = absurd (none-some b (sym is))
+  nothing_by x h false None (Some b) e f g rec is = absurd (none-some b (sym is))
   nothing_by x h false None None e f g rec is =
       let s : NothingSince ends pick h = rec f in (
         x ∷ s.0,
@@ -99,7 +97,7 @@ module _ {A B : Type 0} (ends : A → List A → Bool) (pick : A → List A → 
   first_by : (x : A) (h : List A) (b : B) (t : Bool) (o p : Option B) → ends x h ≡ t → first_since_at ends pick h ≡ o
       → pick x h ≡ p → ((c : B) → first_since_at ends pick h ≡ Some c → FirstSince ends pick h c)
       → (if t then None else option_or o p) ≡ Some b → FirstSince ends pick (x ∷ h) b
-  first_by x h b true o p e f g rec is = absurd (none_some b is)
+  first_by x h b true o p e f g rec is = absurd (none-some b is)
   first_by x h b false (Some c) p e f g rec is =
       let s : FirstSince ends pick h b = rec b (f ∙ is) in (
         x ∷ s.0,
@@ -125,7 +123,7 @@ module _ {A B : Type 0} (ends : A → List A → Bool) (pick : A → List A → 
 
   -- what is found since the last end is the first that was offered
   pub first-since : (h : List A) (b : B) → first_since_at ends pick h ≡ Some b → FirstSince ends pick h b
-  first-since [] b is = absurd (none_some b is)
+  first-since [] b is = absurd (none-some b is)
   first-since (x ∷ h) b is =
       first_by x h b (ends x h) (first_since_at ends pick h) (pick x h) refl refl refl (λ c. first-since h c) is
 

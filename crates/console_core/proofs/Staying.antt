@@ -43,6 +43,7 @@ use Rattle.console_core.proofs.Borne.{taken-holding, resolved-looked}
 use Rattle.console_core.proofs.Bearing.{first_kept, remembered-cell, remembered-pressed}
 use mathlib.Core.Path.{fun_ext}
 use Rattle.std.specs.Option.{is_some}
+use Rattle.std.proofs.lemmas.Option.{same_Some}
 
 -- The state is that of the console: the same modifiers and locks are on, and each holder remembers its modifier.
 pub record Follows (r : List ResolvedEvent) (s : State) : Type 0 where
@@ -74,9 +75,6 @@ some_mod_lock i l e = cc
 
 pub some_none : (k : ℕ) (o : Option ℕ) → o ≡ Some k → o ≡ None → ⊥
 some_none k o e f = cc
-
-pub some_keys : (j k : ℕ) → Some j ≡ Some k → j ≡ k
-some_keys j k e = cc
 
 -- an action is a modifier, a lock, or no holding action
 not_holding : (a : Action) (h : Holding) → eqb (action_kind a) 1 ≡ false → eqb (action_kind a) 2 ≡ false
@@ -156,7 +154,7 @@ follows-hold r s k b i f e = record {
       ∙ f.locked l;
   holds = λ j n h. elim (cases_Bool (same_modifier i j)) [
     | inl t ↦
-        let p : k ≡ n = some_keys k n (sym (ap (λ x. if x then Some k else s.holder j) t) ∙ h) in
+        let p : k ≡ n = same_Some k n (sym (ap (λ x. if x then Some k else s.holder j) t) ∙ h) in
         subst (λ x. remembered x (PressedAction k b ∷ r) ≡ Some (act.Mod j)) p
         (takes r k b (holding.Mod i) e ∙ ap (λ x. Some (act.Mod x)) (same_mods i j t))
     | inr t ↦

@@ -62,11 +62,15 @@ ReachesMoreThan u n p =
 abbrev pub NoneSticksBy : MapValue → ℕ → Type 0
 NoneSticksBy m p = (g : List Event) → HasKeys g → HasNoLoads g → (i : Modifier) → SticksAfter m g i → p < presses g
 
+-- how many states the search goes over before it gives up
+abbrev pub state_limit : ℕ
+state_limit = 65536
+
 -- what each answer says of the keymap
 abbrev pub IsAnswer : MapValue → Sticking → Type 0
 IsAnswer m (Sticks events) = LeavesOn m (reverse events.items) × HasFewestPresses m (reverse events.items)
 IsAnswer m Never = NeverSticks m
-IsAnswer m (Undecided p) = ReachesMoreThan (alone m) 65536 p × NoneSticksBy m p
+IsAnswer m (Undecided p) = ReachesMoreThan (alone m) state_limit p × NoneSticksBy m p
 
 -- the same with loads that exchange two keymaps, of which the first is in force before any
 abbrev pub SticksBetween : Maps → List Event → Modifier → Type 0
@@ -104,7 +108,7 @@ abbrev pub IsAnswerBetween : Maps → Sticking → Type 0
 IsAnswerBetween ms (Sticks events) =
     LeavesOnBetween ms (reverse events.items) × HasFewestPressesBetween ms (reverse events.items)
 IsAnswerBetween ms Never = NeverSticksBetween ms
-IsAnswerBetween ms (Undecided p) = ReachesMoreThan (with_loads ms) 65536 p × NoneSticksBetweenBy ms p
+IsAnswerBetween ms (Undecided p) = ReachesMoreThan (with_loads ms) state_limit p × NoneSticksBetweenBy ms p
 
 -- no path leads to where a holder looks up a character
 abbrev pub NeverForgets : Under → Type 0

@@ -10,7 +10,7 @@ ghost use Rattle.console_core.specs.Inner.Searching.{IsExchangeMet, ArePressesMe
 ghost use Rattle.console_core.specs.Inner.Searching.{IsStuck, GoBack, IsScriptTo, IsAnswerUnder};
 ghost use Rattle.console_core.specs.History.{between};
 ghost use Rattle.console_core.specs.Moves.{Under};
-ghost use Rattle.console_core.specs.Sticking.{IsAnswer, IsAnswerBetween};
+ghost use Rattle.console_core.specs.Sticking.{IsAnswer, IsAnswerBetween, state_limit};
 
 use crate::event::Event;
 use crate::held::{Held, Keymaps, Move, Step};
@@ -149,7 +149,7 @@ fn close(
     ensures searched { OnOk result (Searched (under_of maps.now) met.new.entries level level) }
     ensures order { OnOk result (AreInOrder met.new.entries level presses) }
     ensures grown { OnOk result (Grows met.old.entries met.new.entries) }
-    ensures closed { IfOk result (λ stuck. stuck ≡ None → length met.new.entries ≤ 65536
+    ensures closed { IfOk result (λ stuck. stuck ≡ None → length met.new.entries ≤ state_limit
         → Searched (under_of maps.now) met.new.entries level (length met.new.entries)) }
     ensures stuck { IfOk result (λ stuck. IfSome stuck (λ x. IsStuck (under_of maps.now) met.new.entries x.place
         x.key)) }
@@ -168,11 +168,11 @@ fn close(
 
 /// Adds where presses lead from the states of a level, which as many presses lead to. Stops once too many were met.
 fn press(met: &mut Met, maps: &Keymaps, level: usize, presses: usize) -> Result<(), AllocError>
-    requires small { presses < 65536 }
+    requires small { presses < state_limit }
     requires searched { Searched (under_of maps.now) met.old.entries level (length met.old.entries) }
     requires order { AreInOrder met.old.entries level presses }
     requires below { level ≤ length met.old.entries }
-    ensures searched { OnOk result (length met.new.entries ≤ 65536
+    ensures searched { OnOk result (length met.new.entries ≤ state_limit
         → Searched (under_of maps.now) met.new.entries (length met.old.entries) (length met.old.entries)) }
     ensures closed { OnOk result (Searched (under_of maps.now) met.new.entries level (length met.old.entries)) }
     ensures order { OnOk result (AreInOrder met.new.entries (length met.old.entries) (presses + 1)) }

@@ -14,6 +14,7 @@ use Rattle.keymap_core.specs.declared.entry.Cell.TheVariants.{Act}
 use Rattle.keymap_core.specs.Actions.{holding_action}
 use Rattle.keymap_core.specs.Maps.{MapValue}
 use Rattle.keymap_core.specs.Bearers.{IsCellOf, Bears, IsAlone, BearsThroughout}
+use Rattle.keymap_core.proofs.Below.{below-suc}
 use Rattle.console_core.specs.Plain.{IsPlainFor, IsPlain}
 use Rattle.console_core.specs.Headline.{IsSteady, IsActing}
 use Rattle.keymap_check.specs.declared.kind.Kind.TheVariants as kind
@@ -28,7 +29,6 @@ use Rattle.keymap_check.specs.Report.{BearersAreComputed, SteadyLocksAreComputed
 use Rattle.keymap_check.proofs.Same.{is_holding-true, is_holding-refl, not_holding-false, not_acting, acting-not}
 use Rattle.keymap_check.proofs.Places.{first_place-cell, no_place-cell}
 use Rattle.keymap_check.proofs.Bearers.{bearer_below-start, bearer_below-more}
-use Rattle.keymap_check.proofs.Counting.{below-suc}
 
 -- a key bears an action exactly if the test says so
 bears_by : (m : MapValue) (k : ℕ) (a : Holding) (o : Option ℕ) → first_place m (kind.Holding a) k ≡ o

@@ -1,6 +1,6 @@
 -- What the bits of a key tell of its cells.
 use Prim.Native.Nat.{zero, suc}
-use Rattle.std.proofs.Common.{◌≡◌, ℕ, ◌+◌, ◌*◌, ◌%◌, ◌^◌, ◌<◌, ◌≤◌, ◌≢◌, min, max, Bool, true, false, not, ◌||◌, Option}
+use Rattle.std.proofs.Common.{◌≡◌, ℕ, ◌+◌, ◌*◌, ◌%◌, ◌^◌, ◌<◌, ◌≢◌, min, max, Bool, true, false, not, ◌||◌, Option}
 use Rattle.std.proofs.Common.{Some, None, eqb, refl, ap, sym, ◌∙◌, if◌then◌else◌, arith, add-one, ◌⊎◌, inl, inr}
 use Rattle.std.specs.Prelude.{bit_and, bit_or, bit_xor}
 use Rattle.std.specs.Int.{bit_at}
@@ -24,10 +24,10 @@ use Rattle.keymap_core.specs.declared.entry.Cell.{Cell}
 use Rattle.keymap_core.specs.declared.entry.Cell.TheVariants.{Char, Act}
 use Rattle.keymap_core.specs.Actions.{modifier_index, lock_index, holding_index}
 use Rattle.keymap_core.specs.Maps.{MapValue}
+use Rattle.keymap_core.specs.Below.{first_below}
 use Rattle.keymap_check.specs.declared.kind.Group.TheVariants as group
 use Rattle.keymap_check.specs.declared.kind.Kind.{Kind}
 use Rattle.keymap_check.specs.declared.kind.Kind.TheVariants as kind
-use Rattle.keymap_check.specs.Below.{first_below}
 use Rattle.keymap_check.specs.Cells.{is_of_kind, is_holding, is_of_group, cell_of, first_place, place_count}
 use Rattle.keymap_check.specs.Inner.CellBits.{cell_bit, is_set, bits_below, bits_of, mask_of}
 

@@ -1,7 +1,7 @@
 -- A demonstration leaves a modifier on in the sense of the search.
 use Prim.Native.Nat.{zero, suc}
 use Rattle.std.proofs.Common.{◌≡◌, ℕ, ◌<◌, Bool, true, false, List, [], ◌∷◌, ◌++◌, Option, Some, None, refl, ap, subst}
-use Rattle.std.proofs.Common.{sym, ◌∙◌, if◌then◌else◌, ◌||◌, inl, inr}
+use Rattle.std.proofs.Common.{sym, ◌∙◌, if◌then◌else◌, inl, inr}
 use Rattle.std.specs.Prelude.{reverse, find, All}
 use Rattle.std.proofs.lemmas.Bool.{or_cases}
 use Rattle.std.proofs.lemmas.List.{reverse-append}
@@ -10,13 +10,13 @@ use Rattle.keymap_core.specs.declared.action.Modifier.{Modifier}
 use Rattle.keymap_core.specs.declared.action.Modifier.TheVariants.{LeftShift, RightShift, LeftControl, RightControl}
 use Rattle.keymap_core.specs.declared.action.Modifier.TheVariants.{LeftAlt, RightAlt, AltShift, Meta}
 use Rattle.keymap_core.specs.Maps.{MapValue}
+use Rattle.keymap_core.specs.Below.{gathered}
 use Rattle.console_core.specs.declared.event.Event.{Event}
 use Rattle.console_core.specs.declared.event.Event.TheVariants.{Press, Release, Reset, Load}
 use Rattle.console_core.specs.Resolved.{on}
 use Rattle.console_core.specs.History.{Maps, between, is_on_after, HasKey, IsNoLoad, HasNoLoads}
 use Rattle.console_core.specs.Sticking.{IsPressOrRelease}
 use Rattle.console_core.proofs.OneMap.{without_loads}
-use Rattle.keymap_check.specs.Below.{gathered}
 use Rattle.keymap_check.specs.Computed.{findings_at}
 use Rattle.keymap_check.specs.Scripts.{bit_key_at, bit_keys, event_if, event_at, events_of, script, is_chosen}
 use Rattle.keymap_check.specs.Scripts.{scripts_of, scripts_with, scripts_for, lacks_key, has_some, tried_at, tried}

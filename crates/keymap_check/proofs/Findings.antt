@@ -8,14 +8,14 @@ use Rattle.keymap_core.specs.declared.entry.Cell.TheVariants.{Char, Act}
 use Rattle.keymap_core.specs.Actions.{holding_action}
 use Rattle.keymap_core.specs.Maps.{MapValue}
 use Rattle.keymap_core.specs.Bearers.{IsCellOf, Bears}
+use Rattle.keymap_core.specs.Below.{gathered}
+use Rattle.keymap_core.proofs.Below.{below-suc}
 use Rattle.keymap_check.specs.declared.kind.Kind.TheVariants as kind
-use Rattle.keymap_check.specs.Below.{gathered}
 use Rattle.keymap_check.specs.Cells.{first_place, cell_of, is_character, is_any_holding}
 use Rattle.keymap_check.specs.Computed.{held_by, finding_with, finding_by, findings_at}
 use Rattle.keymap_check.specs.Report.{NoFindingsExactlyIfSafe}
 use Rattle.keymap_check.proofs.Same.{character-cell, IsHeldBy, holding-cell, holding-any}
 use Rattle.keymap_check.proofs.Places.{first_place-cell, no_place-cell}
-use Rattle.keymap_check.proofs.Counting.{below-suc}
 
 -- lists gathered from all numbers
 append-none : {A : Type 0} (xs ys : List A) → xs ++ ys ≡ [] → (xs ≡ []) × (ys ≡ [])

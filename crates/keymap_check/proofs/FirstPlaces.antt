@@ -10,11 +10,12 @@ use Rattle.keymap_core.specs.declared.entry.Cell.TheVariants.{Act}
 use Rattle.keymap_core.specs.Actions.{holding_action}
 use Rattle.keymap_core.specs.Maps.{MapValue, cell_at}
 use Rattle.keymap_core.specs.Bearers.{IsUpperLive}
+use Rattle.keymap_core.specs.Below.{gathered}
+use Rattle.keymap_core.proofs.Below.{IsFirstBelow, below-suc}
 use Rattle.keymap_check.specs.declared.kind.Kind.{Kind}
 use Rattle.keymap_check.specs.declared.kind.Kind.TheVariants as kind
 use Rattle.keymap_check.specs.declared.finding.Finding.{Finding}
 use Rattle.keymap_check.specs.declared.finding.Place.{Place}
-use Rattle.keymap_check.specs.Below.{gathered}
 use Rattle.keymap_core.specs.Borne.{is_upper_live}
 use Rattle.keymap_check.specs.Cells.{is_of_kind, cell_of, slot_at, column_at, place_at, place_count, first_place}
 use Rattle.keymap_check.specs.Cells.{is_character, is_any_holding}
@@ -25,7 +26,6 @@ use Rattle.std.proofs.lemmas.List.Kept.{AllPairs-cons}
 use Rattle.keymap_check.specs.Findings.{IsPlaceOf, NotAfter, IsFirstOf, IsHoldingCell, IsCharacterCell, IsFinding}
 use Rattle.keymap_check.specs.Findings.{IsUnsafeKey}
 use Rattle.keymap_check.specs.Report.{FindingsAreComputed}
-use Rattle.keymap_check.proofs.Counting.{IsFirstBelow, below-suc}
 use Rattle.keymap_check.proofs.Same.{character-cell, holding-cell, IsHeldBy, holding-any}
 use Rattle.keymap_check.proofs.Places.{first_place-some, count_if, count_least}
 use Rattle.keymap_core.proofs.BorneTests.{live-upper, upper-is_live}

@@ -1,6 +1,7 @@
 -- What holds of the demonstration that is given, if there is one.
 use Rattle.std.proofs.Common.{◌≡◌, ℕ, List, Option, Some, None, refl, sym, ◌∙◌}
 use Rattle.std.specs.Prelude.{IfSome, IsSome, IsNone, option_map, reverse}
+use Rattle.std.proofs.lemmas.Option.{none-some}
 use Rattle.keymap_core.specs.declared.action.Modifier.{Modifier}
 use Rattle.keymap_core.specs.Maps.{MapValue}
 use Rattle.console_core.specs.declared.event.Event.{Event}
@@ -11,9 +12,6 @@ use Rattle.keymap_check.specs.Shown.{HasShownTrap}
 use Rattle.keymap_check.proofs.Demonstrated.{demonstrations_leave_modifiers_on}
 use Rattle.keymap_check.proofs.Shown.{shown_traps_are_demonstrated}
 use Rattle.keymap_check.proofs.Trapless.{none_given}
-
-none_some : {A : Type 0} (x : A) → None ≡ Some x → ⊥
-none_some x e = cc
 
 module _ {S : Type 0} (items : S → List Event) (m : MapValue) where
   -- the demonstration leaves a modifier on
@@ -32,4 +30,4 @@ module _ {S : Type 0} (items : S → List Event) (m : MapValue) where
   pub is_none : (o : Option S) → option_map items o ≡ demonstration_of m → NobodyBearsCellPickingLocks m
       → ((i : Modifier) → HasNoTrap m i) → IsNone o
   is_none None e locks free = refl
-  is_none (Some s) e locks free = absurd (none_some (items s) (sym (none_given m locks free) ∙ sym e))
+  is_none (Some s) e locks free = absurd (none-some (items s) (sym (none_given m locks free) ∙ sym e))

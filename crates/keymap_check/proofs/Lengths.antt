@@ -4,8 +4,8 @@ use Rattle.std.proofs.Common.{◌≡◌, ℕ, ◌≤◌, ◌+◌, ◌*◌, Bool,
 use Rattle.std.proofs.Common.{Option, Some, None, ap, arith, if◌then◌else◌}
 use Rattle.std.proofs.Math.Nat.{zero-div}
 use Rattle.std.specs.Prelude.{◌==◌, ◌%◌, ◌^◌}
+use Rattle.keymap_core.specs.Below.{gathered}
 use Rattle.console_core.specs.Columns.{bit}
-use Rattle.keymap_check.specs.Below.{gathered}
 use Rattle.keymap_check.specs.Scripts.{event_if, event_at, events_of, has_bit, is_chosen, bit_key_at}
 
 -- a bit of a set gives at most one event

@@ -8,9 +8,9 @@ use Rattle.keymap_core.specs.Maps.{MapValue, cell_at}
 use Rattle.keymap_core.specs.Bearers.{StandsIn, IsCellOf}
 use Rattle.keymap_core.specs.Borne.{is_upper_live}
 use Rattle.keymap_core.proofs.BorneTests.{live-upper, upper-is_live}
+use Rattle.keymap_core.proofs.Below.{first_below-no, first_below-some, IsFirstBelow, NoneBelow}
 use Rattle.keymap_check.specs.declared.kind.Kind.{Kind}
 use Rattle.keymap_check.specs.Cells.{is_of_kind, place_count, cell_of, first_place}
-use Rattle.keymap_check.proofs.Counting.{first_below-no, first_below-some, IsFirstBelow, NoneBelow}
 
 -- a key has 16 places where the upper half is live, and else 8
 pub count_if : (m : MapValue) (t : Bool) → is_upper_live m ≡ t → place_count m ≡ (if t then 16 else 8)

@@ -9,15 +9,15 @@ use Rattle.keymap_core.specs.declared.action.Modifier.{Modifier}
 use Rattle.keymap_core.specs.declared.action.Modifier.TheVariants.{LeftShift, RightShift, LeftControl, RightControl}
 use Rattle.keymap_core.specs.declared.action.Modifier.TheVariants.{LeftAlt, RightAlt, AltShift, Meta}
 use Rattle.keymap_core.specs.declared.action.Holding.TheVariants as holding
+use Rattle.keymap_core.specs.Below.{gathered}
+use Rattle.keymap_core.proofs.Below.{gathered-more}
 use Rattle.console_core.specs.declared.event.Event.{Event}
 use Rattle.console_core.specs.declared.event.Event.TheVariants.{Press, Release}
 use Rattle.console_core.specs.History.{Maps, is_on_after, resolved}
 use Rattle.console_core.proofs.OneMore.{resolved-more, held-release}
 use Rattle.console_core.proofs.Deliveries.{reverse-push}
-use Rattle.keymap_check.specs.Below.{gathered}
 use Rattle.keymap_check.specs.Scripts.{event_if, event_at, is_chosen, bit_key_at, events_of, start_of, script}
 use Rattle.keymap_check.specs.Scripts.{is_some_on}
-use Rattle.keymap_check.proofs.Counting.{gathered-more}
 
 -- the events of a script, the newest first
 pub played : (keys : List (Option ℕ)) (k a b : ℕ)

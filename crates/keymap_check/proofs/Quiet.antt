@@ -5,12 +5,13 @@ use Rattle.std.proofs.Common.{refl, ap, subst, sym, ◌∙◌, arith, if◌then�
 use Rattle.std.specs.Prelude.{◌==◌, reverse}
 use Rattle.std.proofs.lemmas.List.{append-nil}
 use Rattle.keymap_core.specs.Maps.{MapValue}
+use Rattle.keymap_core.specs.Borne.{any_below}
+use Rattle.keymap_core.specs.Below.{gathered}
 use Rattle.console_core.specs.declared.event.Event.{Event}
 use Rattle.console_core.specs.declared.event.Event.TheVariants.{Press, Release, Reset, Load}
 use Rattle.console_core.specs.History.{pressed, IsQuiet}
 use Rattle.console_core.proofs.OneMore.{pressed-start, pressed-press, pressed-release, pressed-reset, pressed-load}
 use Rattle.console_core.proofs.Deliveries.{reverse-cons}
-use Rattle.keymap_check.specs.Below.{any_below, gathered}
 use Rattle.keymap_check.specs.Computed.{findings_at}
 use Rattle.std.specs.Prelude.{find}
 use Rattle.keymap_check.specs.Scripts.{has_bit, is_chosen, bit_key_at, bit_keys, event_if, event_at, events_of, script}

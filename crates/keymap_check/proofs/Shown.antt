@@ -16,6 +16,9 @@ use Rattle.keymap_core.specs.declared.entry.Cell.TheVariants.{Char, Act}
 use Rattle.keymap_core.specs.Actions.{modifier_index}
 use Rattle.keymap_core.specs.Maps.{MapValue, cell_at}
 use Rattle.keymap_core.specs.Bearers.{IsCellOf, IsUpperLive}
+use Rattle.keymap_core.specs.Borne.{any_below}
+use Rattle.keymap_core.specs.Below.{gathered}
+use Rattle.keymap_core.proofs.Below.{first_below-some}
 use Rattle.console_core.specs.declared.event.Event.{Event}
 use Rattle.console_core.specs.declared.event.Event.TheVariants.{Press, Release}
 use Rattle.console_core.specs.Resolved.{on, held, locked, remembered, look, resolve_press}
@@ -29,7 +32,6 @@ use Rattle.keymap_check.specs.declared.kind.Group.{Group}
 use Rattle.keymap_check.specs.declared.kind.Group.TheVariants as group
 use Rattle.keymap_check.specs.declared.kind.Kind.TheVariants as kind
 use Rattle.keymap_check.specs.declared.finding.Finding.{Finding}
-use Rattle.keymap_check.specs.Below.{any_below, gathered}
 use Rattle.keymap_check.specs.Cells.{first_place, cell_of, is_of_group, is_group_cell}
 use Rattle.keymap_check.specs.Computed.{findings_at}
 use Rattle.keymap_check.specs.Scripts.{group_at, is_bit_key, bit_key, bit_keys, script, lacks_key, scripts_of}
@@ -39,7 +41,6 @@ use Rattle.keymap_check.specs.Shown.{group_of, bit_of_group, with_bit, bits_with
 use Rattle.keymap_check.specs.Shown.{HasFurtherKey, HasShownTrap}
 use Rattle.console_core.proofs.Traps.{bits_of, look-bits}
 use Rattle.keymap_check.proofs.Bits.{bits-more, bits-start, column_of-lt}
-use Rattle.keymap_check.proofs.Counting.{first_below-some}
 use Rattle.keymap_check.proofs.Places.{first_place-cell}
 use Rattle.keymap_check.proofs.Firsts.{none-each}
 use Rattle.keymap_check.proofs.Findings.{safe_by}

@@ -11,6 +11,8 @@ use Rattle.keymap_core.specs.declared.action.Modifier.TheVariants.{LeftShift, Ri
 use Rattle.keymap_core.specs.declared.action.Modifier.TheVariants.{LeftAlt, RightAlt, AltShift, Meta}
 use Rattle.keymap_core.specs.declared.action.Holding.TheVariants as holding
 use Rattle.keymap_core.specs.Maps.{MapValue}
+use Rattle.keymap_core.specs.Below.{gathered}
+use Rattle.keymap_core.proofs.Below.{first_below-some}
 use Rattle.console_core.specs.declared.event.Event.{Event}
 use Rattle.console_core.specs.declared.event.Event.TheVariants.{Press, Release}
 use Rattle.keymap_core.specs.Bearers.{Bears}
@@ -19,13 +21,11 @@ use Rattle.console_core.specs.History.{IsQuiet}
 use Rattle.console_core.specs.Traps.{NobodyBearsCellPickingLocks, HasNoTrap}
 use Rattle.console_core.proofs.Deliveries.{reverse-cons}
 use Rattle.console_core.proofs.Traps.{on_only_while_pressed_without_traps}
-use Rattle.keymap_check.specs.Below.{gathered}
 use Rattle.keymap_check.specs.Computed.{findings_at}
 use Rattle.std.specs.Prelude.{find}
 use Rattle.keymap_check.specs.Scripts.{bit_key, is_bit_key, bit_key_at, bit_keys, event_if, event_at, events_of, script}
 use Rattle.keymap_check.specs.Scripts.{scripts_of, scripts_with, scripts_for, lacks_key, has_some, tried_at, tried}
 use Rattle.keymap_check.specs.Scripts.{leaves_modifier_on, is_some_on, is_chosen, demonstration_of}
-use Rattle.keymap_check.proofs.Counting.{first_below-some}
 use Rattle.keymap_check.proofs.Quiet.{Every, every-gathered, every-below, script-quiet}
 
 not_true : (b : Bool) → (b ≡ true → ⊥) → b ≡ false

@@ -10,17 +10,17 @@ use Rattle.keymap_core.specs.declared.action.Modifier.TheVariants.{LeftAlt, Righ
 use Rattle.keymap_core.specs.declared.entry.Cell.TheVariants.{Char, Act}
 use Rattle.keymap_core.specs.Maps.{MapValue}
 use Rattle.keymap_core.specs.Bearers.{IsCellOf}
+use Rattle.keymap_core.specs.Below.{first_below}
+use Rattle.keymap_core.proofs.Below.{IsFirstBelow, first_below-some, first_below-no}
 use Rattle.keymap_check.specs.declared.kind.Group.{Group}
 use Rattle.keymap_check.specs.declared.kind.Group.TheVariants as group
 use Rattle.keymap_check.specs.declared.kind.Kind.TheVariants as kind
-use Rattle.keymap_check.specs.Below.{first_below}
 use Rattle.keymap_check.specs.Cells.{first_place, cell_of, is_of_group, is_group_cell, is_any_holding, is_character}
 use Rattle.keymap_check.specs.Computed.{findings_at, finding_by}
 use Rattle.keymap_check.specs.Findings.{IsUnsafeKey}
 use Rattle.keymap_check.specs.Scripts.{group_at, is_bit_key, bit_key, has_some}
 use Rattle.keymap_check.specs.Shown.{group_of, bit_of_group}
 use Rattle.keymap_check.specs.Tried.{BearsGroup, IsBitKey, BitKeysAreLeast, TriedKeysAreUnsafe}
-use Rattle.keymap_check.proofs.Counting.{IsFirstBelow, first_below-some, first_below-no}
 use Rattle.keymap_check.proofs.Places.{first_place-cell, no_place-cell}
 use Rattle.keymap_check.proofs.Findings.{safe_by}
 use Rattle.keymap_check.proofs.Same.{IsHeldBy, holding-cell, character-cell}

@@ -6,6 +6,8 @@ use Rattle.keymap_core.specs.declared.action.Modifier.TheVariants.{LeftShift, Ri
 use Rattle.keymap_core.specs.declared.action.Modifier.TheVariants.{LeftAlt, RightAlt, AltShift, Meta}
 use Rattle.keymap_core.specs.Maps.{MapValue}
 use Rattle.keymap_core.specs.Numbers.{key_count}
+use Rattle.keymap_core.specs.Borne.{any_below}
+use Rattle.keymap_core.specs.Below.{first_below, gathered}
 use Rattle.console_core.specs.declared.event.Event.{Event}
 use Rattle.console_core.specs.declared.event.Event.TheVariants.{Press, Release}
 use Rattle.console_core.specs.History.{Maps, between, is_on_after}
@@ -13,7 +15,6 @@ use Rattle.keymap_check.specs.declared.kind.Group.{Group}
 use Rattle.keymap_check.specs.declared.kind.Group.TheVariants as group
 use Rattle.keymap_check.specs.declared.kind.Kind.TheVariants as kind
 use Rattle.keymap_check.specs.declared.finding.Finding.{Finding}
-use Rattle.keymap_check.specs.Below.{first_below, any_below, gathered}
 use Rattle.keymap_check.specs.Cells.{first_place}
 use Rattle.keymap_check.specs.Computed.{findings_at}
 

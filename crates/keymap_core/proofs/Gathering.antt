@@ -1,19 +1,11 @@
 -- A text that goes to a writer through a buffer.
-use Rattle.std.proofs.Common.{◌≡◌, ℕ, ◌+◌, ◌<◌, ◌≤◌, List, [], ◌++◌, length, take, sym, ap, ◌∙◌, append_assoc}
+use Rattle.std.proofs.Common.{◌≡◌, ℕ, ◌+◌, ◌≤◌, List, [], ◌++◌, length, take, sym, ap, ◌∙◌, append_assoc}
 use Rattle.std.proofs.Common.{append-nil, arith, length-append, subst}
 use Rattle.std.specs.Prelude.{Option, None, Some, Result, Ok, Err, IsErrAnd, MatchResult}
 use Rattle.std.proofs.lemmas.List.{take-append-le}
 use Rattle.std.specs.Io.KnownBytes.{Appends}
 use Rattle.keymap_core.specs.Streams.{StreamValue, Gathers, StopsIn}
-
--- What is taken in two turns is taken in one.
-pub Appends-trans : (a b c : Option (List ℕ)) (xs ys : List ℕ) → Appends a b xs → Appends b c ys
-    → Appends a c (xs ++ ys)
-Appends-trans None b c xs ys first second = tt
-Appends-trans (Some held) None c xs ys first second = absurd first
-Appends-trans (Some held) (Some mid) None xs ys first second = absurd second
-Appends-trans (Some held) (Some mid) (Some last) xs ys first second =
-    second ∙ ap (λ v. v ++ ys) first ∙ append_assoc held xs ys
+use Rattle.keymap_core.proofs.Taking.{Appends-trans}
 
 -- The buffer was taken.
 pub Gathers-flushed : {start mid : Option (List ℕ)} (new : Option (List ℕ)) {before : StreamValue} (after : StreamValue)

@@ -1,3 +1,4 @@
+pub mod Below
 pub mod BorneTests
 mod CodeLaws
 mod CodeNames

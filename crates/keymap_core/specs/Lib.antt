@@ -1,6 +1,7 @@
 pub mod Accents
 pub mod Actions
 pub mod Bearers
+pub mod Below
 pub mod Borne
 pub mod Bounds
 pub mod CodePoints

@@ -5,13 +5,14 @@ use Rattle.std.proofs.Common.{ap, if◌then◌else◌, map, length, arith, lengt
 use Rattle.std.specs.Prelude.{All}
 use Rattle.std.proofs.lemmas.List.Elements.{All-nil, All-cons, All-append, All-head, All-tail}
 use Rattle.keymap_core.specs.Maps.{MapValue}
+use Rattle.keymap_core.specs.Below.{gathered, first_below}
+use Rattle.keymap_core.proofs.Below.{first_below-some, IsFirstBelow}
 use Rattle.console_core.specs.declared.event.Event.{Event}
 use Rattle.console_core.specs.declared.event.Event.TheVariants.{Press, Release}
 use Rattle.console_core.specs.History.{HasKey, HasKeys}
-use Rattle.play_core.specs.HeldKeys.{gathered, first_below, is_bit_key, bit_key, bit_keys, listed, has_bit, held_for}
+use Rattle.play_core.specs.HeldKeys.{is_bit_key, bit_key, bit_keys, listed, has_bit, held_for}
 use Rattle.play_core.specs.HeldKeys.{held_keys, lacks_key, combination, combinations_of, combinations_with}
 use Rattle.play_core.specs.HeldKeys.{combinations}
-use Rattle.play_core.proofs.Counting.{first_below-some, IsFirstBelow}
 
 -- keys that are held, and a key, are pressed and released
 pub record IsCombination (way : List Event) : Type 0 where

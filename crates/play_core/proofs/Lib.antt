@@ -1,7 +1,5 @@
 pub mod Combinations
-pub mod Counting
 pub mod Digits
-pub mod Firsts
 pub mod Found
 pub mod LineWords
 pub mod Outcomes

@@ -7,6 +7,7 @@ use Rattle.std.specs.Str.{bytes_eq}
 use Rattle.std.specs.Str.Parse.{AllDigits, digits_value}
 use Rattle.std.proofs.lemmas.Bool.{and_from, and_parts, lt-ltb, ltb-true, ltb-false, le-ltb, cases_lt, not-false}
 use Rattle.std.proofs.lemmas.Slice.Eq.{bytes_eq-Decides}
+use Rattle.keymap_core.specs.Numbers.{key_count}
 use Rattle.play_core.specs.declared.script_line.LineFault.{LineFault}
 use Rattle.play_core.specs.declared.script_line.LineFault.TheVariants.{Form, Key}
 use Rattle.play_core.specs.declared.sent.What.{What}
@@ -177,7 +178,7 @@ chosen P word name x y is other = choice P word name x y (bytes_eq word name) re
 -- what a reading says of the words, but that a bad form is one
 abbrev IsKey : List ℕ → Result ℕ LineFault → Type 0
 IsKey number (Ok k) = IsNumber number k × (k < 128)
-IsKey number (Err Key) = (k : ℕ) × IsNumber number k × (127 < k)
+IsKey number (Err Key) = (k : ℕ) × IsNumber number k × (key_count ≤ k)
 IsKey number (Err Form) = ⊤
 
 -- digits are read as a key, or as no key, by their value
@@ -202,7 +203,7 @@ key_is number = key_if number (all_digits number) refl
 -- what a reading says of a command, but that a bad form is one
 abbrev IsWhat : List (List ℕ) → Result What LineFault → Type 0
 IsWhat words (Ok w) = Tells words w × (key_of w < 128)
-IsWhat words (Err Key) = (w : What) × Tells words w × (127 < key_of w)
+IsWhat words (Err Key) = (w : What) × Tells words w × (key_count ≤ key_of w)
 IsWhat words (Err Form) = ⊤
 
 -- a word and a key tell an event, or have the key's fault
@@ -210,7 +211,7 @@ keyed : (words : List (List ℕ)) (number : List ℕ) (what : ℕ → What) (r :
     → ((k : ℕ) → IsNumber number k → Tells words (what k)) → ((k : ℕ) → key_of (what k) ≡ k)
     → IsWhat words (of_key what r)
 keyed words number what (Ok k) h tells key = (tells k h.0, subst (λ n. n < 128) (sym (key k)) h.1)
-keyed words number what (Err Key) h tells key = (what h.0, tells h.0 h.1, subst (λ n. 127 < n) (sym (key h.0)) h.2)
+keyed words number what (Err Key) h tells key = (what h.0, tells h.0 h.1, subst (λ n. key_count ≤ n) (sym (key h.0)) h.2)
 keyed words number what (Err Form) h tells key = tt
 
 -- a word and a number are what they are read as

@@ -1,30 +1,12 @@
 -- The table of the numbers 0 to 127 has the digits of each.
-use Rattle.std.proofs.Common.{◌≡◌, ℕ, zero, suc, ◌+◌, ◌/◌, ◌%◌, ◌<◌, ◌≤◌, Bool, true, false, ltb, List, [], ◌∷◌, ◌++◌}
-use Rattle.std.proofs.Common.{take, map, get_or, refl, sym, ap, ◌∙◌, subst, inl, inr, decimal, arith}
+use Rattle.std.proofs.Common.{◌≡◌, ℕ, ◌+◌, ◌/◌, ◌%◌, ◌<◌, ◌≤◌, Bool, true, false, ltb, List, [], ◌∷◌, ◌++◌}
+use Rattle.std.proofs.Common.{take, map, get_or, refl, sym, ap, ◌∙◌, decimal, arith}
 use mir.Val.{bool_byte}
-use Rattle.std.proofs.Math.Nat.{eq-or-lt_of_le}
 use Rattle.std.specs.List.{range_with_len}
 use Rattle.std.proofs.lemmas.Bool.{ltb-true, ltb-false}
 use Rattle.std.proofs.lemmas.Fmt.{decimal_digit, decimal_step}
+use Rattle.keymap_text.proofs.Characters.{along}
 use Rattle.play_core.specs.declared.number.TheConstants.{SMALL_NUMBERS}
-
--- functions that are equal along a range are equal at each number of it
-head_is : {A : Type 0} (x y : A) (xs ys : List A) → x ∷ xs ≡ y ∷ ys → x ≡ y
-head_is x y xs ys h = cc
-
--- lists that are equal have equal tails
-tail_is : {A : Type 0} (x y : A) (xs ys : List A) → x ∷ xs ≡ y ∷ ys → xs ≡ ys
-tail_is x y xs ys h = cc
-
--- tables that are equal up to a length are equal at each place below it
-along : {A : Type 0} (f g : ℕ → A) (from n : ℕ) → map f (range_with_len from n) ≡ map g (range_with_len from n)
-    → (k : ℕ) → from ≤ k → k < from + n → f k ≡ g k
-along f g from zero h k low high = absurd (omega arith)
-along f g from (suc n) h k low high =
-    elim (eq-or-lt_of_le low) [
-      | inl same ↦ subst (λ j. f j ≡ g j) same (head_is _ _ _ _ h)
-      | inr above ↦ along f g (from + 1) n (tail_is _ _ _ _ h) k (omega arith) (omega arith)
-    ]
 
 -- the digits of a number below 1,000 that is above 99, or else above 9, or neither
 abbrev digits_by : ℕ → Bool → Bool → List ℕ

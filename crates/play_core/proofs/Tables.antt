@@ -5,18 +5,13 @@ use Rattle.std.specs.Prelude.{◌==◌, find, option_map, All}
 use Rattle.std.specs.Option.{option_or, is_some}
 use Rattle.std.specs.Map.{lookup}
 use Rattle.std.proofs.lemmas.Bool.{true≢false, eqb-true}
+use Rattle.std.proofs.lemmas.Option.{none-some, same_Some}
 use Rattle.std.proofs.lemmas.List.Folds.{find-append}
 use Rattle.std.proofs.lemmas.List.Elements.{All-head, All-tail}
 use Rattle.arrayvec.specs.ArrayVec.{ArrayVec}
 use Rattle.console_core.specs.declared.event.Event.{Event}
 use Rattle.play_core.specs.Typing.{first_with, is_now}
 use Rattle.play_core.specs.Inner.Tables.{WayEntries, way_at, IsTableOf}
-
-none-some : {X : Type 0} (x : X) → None ≡ Some x → ⊥
-none-some x e = cc
-
-some-same : {X : Type 0} (x y : X) → Some x ≡ Some y → x ≡ y
-some-same x y e = cc
 
 or-none : {X : Type 0} (o : Option X) → option_or o None ≡ o
 or-none None = refl
@@ -84,7 +79,7 @@ module _ (f : List Event → Option ℕ) (ways : List (List Event)) (way : List 
 -- what is found passes the test, and is one of the list
 found-by : {X : Type 0} (test : X → Bool) (y x : X) (b : Bool) (o : Option X) → test y ≡ b → cond b (Some y) o ≡ Some x
     → (o ≡ Some x → test x ≡ true) → test x ≡ true
-found-by test y x true o t s f = let q : y ≡ x = some-same y x s in ap test (sym q) ∙ t
+found-by test y x true o t s f = let q : y ≡ x = same_Some y x s in ap test (sym q) ∙ t
 found-by test y x false o t s f = f s
 
 -- what is found passes the test
@@ -95,7 +90,7 @@ find-true test (y ∷ ys) x e = found-by test y x (test y) (find test ys) refl e
 -- the step of the next lemma, by the test of the first element
 one-by : {X : Type 0} (P : X → Type 0) (y x : X) (b : Bool) (o : Option X) → P y → cond b (Some y) o ≡ Some x
     → (o ≡ Some x → P x) → P x
-one-by P y x true o p s f = let q : y ≡ x = some-same y x s in subst P q p
+one-by P y x true o p s f = let q : y ≡ x = same_Some y x s in subst P q p
 one-by P y x false o p s f = f s
 
 -- what holds for all elements holds for the one that is found

@@ -1,27 +1,17 @@
 -- The ways to press one key: by itself, or while the keys of a set of modifiers are held.
-use Prim.Native.Nat.{zero, suc}
 use Rattle.std.specs.Prelude.{ℕ, ◌+◌, ◌/◌, ◌%◌, ◌^◌, ◌==◌, Bool, ◌&&◌, ◌||◌, not, List, [], ◌∷◌, ◌++◌, map, Option}
 use Rattle.std.specs.Prelude.{None, Some, if◌then◌else◌, slice_index_or}
+use Rattle.std.specs.Option.{is_some}
 use Rattle.keymap_core.specs.declared.action.Modifier.{Modifier}
 use Rattle.keymap_core.specs.declared.action.Modifier.TheVariants.{LeftShift, RightShift, LeftControl, RightControl}
 use Rattle.keymap_core.specs.declared.action.Modifier.TheVariants.{LeftAlt, RightAlt, AltShift}
 use Rattle.keymap_core.specs.declared.action.Action.TheVariants as act
 use Rattle.keymap_core.specs.Maps.{MapValue}
+use Rattle.keymap_core.specs.Below.{first_below, gathered}
 use Rattle.keymap_core.specs.Borne.{has_in_slot, is_upper_live}
 use Rattle.keymap_core.specs.Numbers.{key_count}
 use Rattle.console_core.specs.declared.event.Event.{Event}
 use Rattle.console_core.specs.declared.event.Event.TheVariants.{Press, Release}
-use Rattle.std.specs.Option.{is_some, option_or}
-
--- the least number below n that passes the test
-unfoldable pub first_below : (ℕ → Bool) → ℕ → Option ℕ
-first_below test zero = None
-first_below test (suc n) = option_or (first_below test n) (if test n then Some n else None)
-
--- the lists of the numbers below n, in their order
-unfoldable pub gathered : {A : Type 0} → (ℕ → List A) → ℕ → List A
-gathered f zero = []
-gathered f (suc n) = gathered f n ++ f n
 
 -- one of the key's cells is the modifier
 abbrev pub bears_modifier : MapValue → Modifier → ℕ → Bool

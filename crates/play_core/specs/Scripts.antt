@@ -1,6 +1,6 @@
 -- What a script says: what is sent, one event a line, or the first line that is no event.
-use Rattle.std.specs.Prelude.{◌≡◌, ◌≢◌, ℕ, ◌+◌, ◌<◌, ◌||◌, ◌==◌, Bool, true, false, List, [], ◌∷◌, ◌++◌, length, map}
-use Rattle.std.specs.Prelude.{codes}
+use Rattle.std.specs.Prelude.{◌≡◌, ◌≢◌, ℕ, ◌+◌, ◌<◌, ◌≤◌, ◌||◌, ◌==◌, Bool, true, false, List, [], ◌∷◌, ◌++◌, length}
+use Rattle.std.specs.Prelude.{map, codes}
 use Rattle.std.specs.List.{slice_split, filter, before_first, AllZip}
 use Rattle.std.specs.Str.Parse.{AllDigits, digits_value}
 use Rattle.keymap_core.specs.Numbers.{key_count}
@@ -70,9 +70,9 @@ key_of Load = 0
 abbrev pub IsEvent : List (List ℕ) → Sent → Type 0
 IsEvent words s = Sends words s × (key_of s.what < key_count)
 
--- the line has the form of an event, with a number above 127
+-- the line has the form of an event, with a number that is no key's
 abbrev pub HasBadKey : List (List ℕ) → Type 0
-HasBadKey words = (s : Sent) × Sends words s × (127 < key_of s.what)
+HasBadKey words = (s : Sent) × Sends words s × (key_count ≤ key_of s.what)
 
 -- the line has words, and not the form of an event
 abbrev pub HasBadForm : List (List ℕ) → Type 0

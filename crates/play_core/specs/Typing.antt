@@ -8,6 +8,7 @@ use Rattle.keymap_core.specs.Accents.{AccentValue}
 use Rattle.keymap_core.specs.Maps.{MapValue, accent_at}
 use Rattle.keymap_core.specs.Borne.{any_below}
 use Rattle.keymap_core.specs.Numbers.{key_count, accent_limit}
+use Rattle.keymap_core.specs.Below.{gathered}
 use Rattle.console_core.specs.declared.event.Event.{Event}
 use Rattle.console_core.specs.declared.event.Answer.{Answer}
 use Rattle.console_core.specs.declared.event.Answer.TheVariants as answer
@@ -18,7 +19,7 @@ use Rattle.console_core.specs.History.{Maps, between, resolved, pressed, is_on_a
 use Rattle.console_core.specs.History.{accent_pending_after, answers_to, IsQuiet}
 use Rattle.play_core.specs.declared.type_error.TypeError.{TypeError}
 use Rattle.play_core.specs.declared.type_error.TypeError.TheVariants.{Memory, NotText, NoWay}
-use Rattle.play_core.specs.HeldKeys.{gathered, combinations}
+use Rattle.play_core.specs.HeldKeys.{combinations}
 use Rattle.play_core.specs.Written.{typed_text}
 
 -- a console of one map

@@ -11,7 +11,7 @@ ghost use Rattle.play_core.specs.Inner.HeldTables.{AreHeldKeys};
 
 use arrayvec::ArrayVec;
 use console_core::Event;
-use keymap_core::{Action, Cell, KEY_COUNT, KeyCode, KeyMap, Modifier};
+use keymap_core::{Action, COLUMN_COUNT, Cell, KEY_COUNT, KeyCode, KeyMap, Modifier};
 
 /// The events that type a character: a key, and before it perhaps a dead key, each with at most four held keys.
 pub type Way = ArrayVec<Event, 20>;
@@ -39,7 +39,7 @@ fn is_modifier(cell: Cell, modifier: Modifier) -> bool
 fn has_in_slot(map: &KeyMap, modifier: Modifier, slot: u8) -> bool
     ensures { result ≡ has_in_slot_of map.now (Action.Mod modifier) slot }
 {
-    for column in 0..8usize {
+    for column in 0..COLUMN_COUNT {
         if is_modifier(cell(map, slot, column), modifier) {
             return true;
         }

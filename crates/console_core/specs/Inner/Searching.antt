@@ -24,7 +24,7 @@ use Rattle.console_core.specs.Headline.{IsOnOnlyWhilePressed, IsOffOnceQuiet}
 use Rattle.console_core.specs.Moves.{Under, State, start, look_in, Holds, IsIdle, HolderForgets, IsForgetful, IsMove}
 use Rattle.console_core.specs.Moves.{moved, IsPath, presses_of, presses_along}
 use Rattle.console_core.specs.Moves.{state_after, script_of_path, with_holder, with_lock_turned}
-use Rattle.console_core.specs.Sticking.{SticksBetween, ReachesMoreThan, presses}
+use Rattle.console_core.specs.Sticking.{SticksBetween, ReachesMoreThan, presses, state_limit}
 
 -- the state that the tables are
 abbrev pub state_of : Held → State
@@ -179,4 +179,4 @@ NeverUnder u =
 abbrev pub IsAnswerUnder : Under → Sticking → Type 0
 IsAnswerUnder u (Sticks events) = LeavesOnUnder u (reverse events.items) × HasFewestUnder u (reverse events.items)
 IsAnswerUnder u Never = NeverUnder u
-IsAnswerUnder u (Undecided p) = ReachesMoreThan u 65536 p × NoneUnderBy u p
+IsAnswerUnder u (Undecided p) = ReachesMoreThan u state_limit p × NoneUnderBy u p

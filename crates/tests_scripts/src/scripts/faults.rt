@@ -1,6 +1,6 @@
 //! Faults of what was read, named with their source and place before anything is written.
 
-use crate::scripts::settled;
+use crate::scripts::{play_next_texts, play_texts, settled};
 use keymap_core::{FromStd, ReadFault, ReadFaultKind};
 use keymap_text::{TextFault, TextFaultKind};
 use play_core::{PlayError, ScriptFault, Show, Source, play, play_next};
@@ -30,15 +30,15 @@ fn fault_at(offset: u64, kind: TextFaultKind) -> TextFault {
 fn faults_of_a_text_are_named(rt: HostRuntime) -> Result<(), Fail> {
     for (text, script, offset, kind) in TEXT_FAULTS {
         let mut out = sheet_of(usize::MAX);
-        let answer = play(
+        let answer = play_texts(
             rt.alloc(),
             Show::Lines,
-            &mut FromStd::new(text.as_bytes()),
-            &mut FromStd::new(script.as_bytes()),
+            text.as_bytes(),
+            script.as_bytes(),
             &mut out,
-        );
+        )?;
         let wanted = PlayError::Text(fault_at(offset, kind));
-        assert_eq!(rt; settled(answer, &out)?, Err(wanted), "{text}");
+        assert_eq!(rt; answer, Err(wanted), "{text}");
         assert_eq!(rt; out.writes, 0);
     }
     Ok(())
@@ -48,16 +48,15 @@ fn faults_of_a_text_are_named(rt: HostRuntime) -> Result<(), Fail> {
 fn faults_of_a_next_text_are_named(rt: HostRuntime) -> Result<(), Fail> {
     for (next, script, offset, kind) in TEXT_FAULTS {
         let mut out = sheet_of(usize::MAX);
-        let answer = play_next(
+        let answer = play_next_texts(
             rt.alloc(),
-            Show::Lines,
-            &mut FromStd::new(SHIFT_AND_CAPS),
-            &mut FromStd::new(next.as_bytes()),
-            &mut FromStd::new(script.as_bytes()),
+            SHIFT_AND_CAPS,
+            next.as_bytes(),
+            script.as_bytes(),
             &mut out,
-        );
+        )?;
         let wanted = PlayError::Next(fault_at(offset, kind));
-        assert_eq!(rt; settled(answer, &out)?, Err(wanted), "{next}");
+        assert_eq!(rt; answer, Err(wanted), "{next}");
         assert_eq!(rt; out.writes, 0);
     }
     Ok(())
@@ -66,16 +65,9 @@ fn faults_of_a_next_text_are_named(rt: HostRuntime) -> Result<(), Fail> {
 #[test]
 fn the_first_text_is_judged_before_the_next(rt: HostRuntime) -> Result<(), Fail> {
     let mut out = sheet_of(usize::MAX);
-    let answer = play_next(
-        rt.alloc(),
-        Show::Lines,
-        &mut FromStd::new(b"256".as_slice()),
-        &mut FromStd::new(b"1 '".as_slice()),
-        &mut FromStd::new(b"down 300".as_slice()),
-        &mut out,
-    );
+    let answer = play_next_texts(rt.alloc(), b"256", b"1 '", b"down 300", &mut out)?;
     let wanted = PlayError::Text(fault_at(0, TextFaultKind::KeyTooLarge));
-    assert_eq!(rt; settled(answer, &out)?, Err(wanted));
+    assert_eq!(rt; answer, Err(wanted));
     assert_eq!(rt; out.writes, 0);
     Ok(())
 }
@@ -98,15 +90,9 @@ const SCRIPT_FAULTS: [(&[u8], &str, ScriptFault); 6] = [
 fn faults_of_a_script_are_named(rt: HostRuntime) -> Result<(), Fail> {
     for (text, script, fault) in SCRIPT_FAULTS {
         let mut out = sheet_of(usize::MAX);
-        let answer = play(
-            rt.alloc(),
-            Show::Lines,
-            &mut FromStd::new(text),
-            &mut FromStd::new(script.as_bytes()),
-            &mut out,
-        );
+        let answer = play_texts(rt.alloc(), Show::Lines, text, script.as_bytes(), &mut out)?;
         let wanted = PlayError::Script(fault);
-        assert_eq!(rt; settled(answer, &out)?, Err(wanted), "{script}");
+        assert_eq!(rt; answer, Err(wanted), "{script}");
         assert_eq!(rt; out.writes, 0);
     }
     Ok(())

@@ -1,9 +1,8 @@
 //! The published lines and bytes.
 
-use crate::scripts::settled;
+use crate::scripts::{play_next_texts, play_texts};
 use console_core::Answer;
-use keymap_core::FromStd;
-use play_core::{Show, play, play_next, typed};
+use play_core::{Show, typed};
 use std::test::Fail;
 use test_devices::sheet_of;
 use test_keymaps::texts::{
@@ -112,14 +111,8 @@ load: none; mods none; locks none
 fn lines_are_written(rt: HostRuntime) -> Result<(), Fail> {
     for (text, script, lines) in LINES {
         let mut out = sheet_of(usize::MAX);
-        let answer = play(
-            rt.alloc(),
-            Show::Lines,
-            &mut FromStd::new(text),
-            &mut FromStd::new(script.as_bytes()),
-            &mut out,
-        );
-        assert_eq!(rt; settled(answer, &out)?, Ok(()), "{script}");
+        let answer = play_texts(rt.alloc(), Show::Lines, text, script.as_bytes(), &mut out)?;
+        assert_eq!(rt; answer, Ok(()), "{script}");
         assert_eq!(rt; out.bytes.as_slice(), lines.as_bytes(), "{script}");
     }
     Ok(())
@@ -173,15 +166,8 @@ release 58: none; mods none; locks none
 fn a_load_changes_the_map(rt: HostRuntime) -> Result<(), Fail> {
     for (text, next, script, lines) in LOADS {
         let mut out = sheet_of(usize::MAX);
-        let answer = play_next(
-            rt.alloc(),
-            Show::Lines,
-            &mut FromStd::new(text),
-            &mut FromStd::new(next),
-            &mut FromStd::new(script.as_bytes()),
-            &mut out,
-        );
-        assert_eq!(rt; settled(answer, &out)?, Ok(()), "{script}");
+        let answer = play_next_texts(rt.alloc(), text, next, script.as_bytes(), &mut out)?;
+        assert_eq!(rt; answer, Ok(()), "{script}");
         assert_eq!(rt; out.bytes.as_slice(), lines.as_bytes(), "{script}");
     }
     Ok(())
@@ -202,14 +188,8 @@ const TYPED: [(&[u8], &str, &str); 3] = [
 fn typed_bytes_are_written(rt: HostRuntime) -> Result<(), Fail> {
     for (text, script, bytes) in TYPED {
         let mut out = sheet_of(usize::MAX);
-        let answer = play(
-            rt.alloc(),
-            Show::Typed,
-            &mut FromStd::new(text),
-            &mut FromStd::new(script.as_bytes()),
-            &mut out,
-        );
-        assert_eq!(rt; settled(answer, &out)?, Ok(()), "{script}");
+        let answer = play_texts(rt.alloc(), Show::Typed, text, script.as_bytes(), &mut out)?;
+        assert_eq!(rt; answer, Ok(()), "{script}");
         assert_eq!(rt; out.bytes.as_slice(), bytes.as_bytes(), "{script}");
     }
     Ok(())

@@ -1,13 +1,13 @@
 //! Devices that fail in mid-stream: the fault says after how many bytes, and nothing more is done.
 
-use crate::scripts::settled;
+use crate::scripts::{play_next_texts, play_texts, settled};
 use arrayvec::ArrayVec;
 use console_core::Answer;
-use keymap_core::{FromStd, Read, ReadFault, ReadFaultKind, Write, WriteFault};
-use play_core::{PlayError, Show, Source, play, play_next, typed};
+use keymap_core::{Read, ReadFault, ReadFaultKind, Write, WriteFault};
+use play_core::{PlayError, Show, Source, play_next, typed};
 use std::alloc::Global;
 use std::test::Fail;
-use test_devices::{ROOM, Sheet, Tape, reader_of, sheet_of};
+use test_devices::{ROOM, Tape, reader_of, sheet_of};
 use test_keymaps::texts::{ACCENTS, LETTER_AND_SHIFT, SHIFT_AND_CAPS};
 
 const SCRIPT: &[u8] = b"down 42\nload\n";
@@ -74,23 +74,6 @@ fn a_script_that_stops_is_named(rt: HostRuntime) -> Result<(), Fail> {
     Ok(())
 }
 
-fn play_texts(
-    alloc: Global,
-    show: Show,
-    text: &[u8],
-    script: &[u8],
-    out: &mut Sheet,
-) -> Result<Result<(), PlayError>, &'static str> {
-    let answer = play(
-        alloc,
-        show,
-        &mut FromStd::new(text),
-        &mut FromStd::new(script),
-        out,
-    );
-    settled(answer, out)
-}
-
 /// The answer where a writer takes so many bytes at most of so many.
 fn written(most: usize, size: usize) -> Result<(), PlayError> {
     let fault = WriteFault {
@@ -146,15 +129,14 @@ press 30: char 97; mods none; locks none
 ";
     for most in 0..=shown.len() {
         let mut out = sheet_of(most);
-        let answer = play_next(
+        let answer = play_next_texts(
             rt.alloc(),
-            Show::Lines,
-            &mut FromStd::new(SHIFT_AND_CAPS),
-            &mut FromStd::new(LETTER_AND_SHIFT),
-            &mut FromStd::new(b"load\ndown 30\n".as_slice()),
+            SHIFT_AND_CAPS,
+            LETTER_AND_SHIFT,
+            b"load\ndown 30\n",
             &mut out,
-        );
-        assert_eq!(rt; settled(answer, &out)?, written(most, shown.len()));
+        )?;
+        assert_eq!(rt; answer, written(most, shown.len()));
         assert_eq!(rt; out.failed(), most < shown.len());
         assert_eq!(rt; out.bytes.as_slice(), &shown[..most]);
     }

@@ -1,7 +1,7 @@
 use Rattle.std.proofs.Common.{◌≡◌, ◌<◌, ap, sym, ◌∙◌, arith, subst, None, true}
-use Rattle.keymap_check.specs.Below.{first_below}
+use Rattle.keymap_core.specs.Below.{first_below}
+use Rattle.keymap_core.proofs.Below.{first_below-none, first_below-more, first_below-found}
 use Rattle.keymap_check.specs.Cells.{is_of_kind, cell_of, first_place, place_count}
-use Rattle.keymap_check.proofs.Counting.{first_below-none, first_below-more, first_below-found}
 use Rattle.keymap_check.proofs.cells.first_place.Goals as goal
 
 pub loop-place-init : goal.loop-place-init

@@ -1,5 +1,5 @@
+use Rattle.keymap_core.proofs.Below.{gathered-none}
 use Rattle.keymap_check.specs.Scripts.{event_at}
-use Rattle.keymap_check.proofs.Counting.{gathered-none}
 use Rattle.keymap_check.proofs.Played.{one_more, none_more}
 use Rattle.keymap_check.proofs.demonstration.deliver.Goals as goal
 use Rattle.keymap_check.proofs.demonstration.deliver.Goals.{in-Some, in-None}

@@ -1,8 +1,8 @@
 use Rattle.std.proofs.Common.{◌≡◌, ◌+◌, ap, sym, ◌∙◌, arith, length, refl}
 use Rattle.std.proofs.lemmas.List.{append-nil}
 use Rattle.arrayvec.specs.ArrayVec.{array_vec_len}
+use Rattle.keymap_core.proofs.Below.{gathered-none, gathered-more}
 use Rattle.keymap_check.specs.Computed.{findings_at}
-use Rattle.keymap_check.proofs.Counting.{gathered-none, gathered-more}
 use Rattle.keymap_check.proofs.finding.findings.Goals as goal
 use Rattle.keymap_check.proofs.finding.findings.Goals.{in-Some, in-None}
 

@@ -1,7 +1,7 @@
 use Rattle.std.proofs.Common.{◌≡◌, ◌<◌, sym, ◌∙◌, arith, subst, None}
-use Rattle.keymap_check.specs.Below.{first_below}
+use Rattle.keymap_core.specs.Below.{first_below}
+use Rattle.keymap_core.proofs.Below.{first_below-none, first_below-more, first_below-found}
 use Rattle.keymap_check.specs.Scripts.{bit_key, is_bit_key}
-use Rattle.keymap_check.proofs.Counting.{first_below-none, first_below-more, first_below-found}
 use Rattle.keymap_check.proofs.script.bit_key.Goals as goal
 
 pub loop-key-init : goal.loop-key-init

@@ -1,5 +1,5 @@
 use Rattle.std.proofs.Common.{◌≡◌, None}
-use Rattle.keymap_check.specs.Below.{first_below}
+use Rattle.keymap_core.specs.Below.{first_below}
 use Rattle.keymap_check.specs.Scripts.{is_bit_key}
 use Rattle.keymap_check.proofs.script.bit_key.Given as goal
 

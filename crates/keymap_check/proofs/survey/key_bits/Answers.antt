@@ -1,4 +1,4 @@
-use Rattle.std.proofs.Common.{sym, ◌∙◌}
+use Rattle.std.proofs.Common.{sym}
 use Rattle.keymap_check.proofs.CellBits.{bits_below-start, bits_below-more}
 use Rattle.keymap_check.proofs.survey.key_bits.Goals as goal
 

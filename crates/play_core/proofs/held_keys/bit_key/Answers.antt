@@ -1,6 +1,7 @@
 use Rattle.std.proofs.Common.{◌≡◌, ◌<◌, sym, ◌∙◌, arith, subst, None}
-use Rattle.play_core.specs.HeldKeys.{first_below, bit_key, is_bit_key}
-use Rattle.play_core.proofs.Counting.{first_below-none, first_below-more, first_below-found}
+use Rattle.keymap_core.specs.Below.{first_below}
+use Rattle.keymap_core.proofs.Below.{first_below-none, first_below-more, first_below-found}
+use Rattle.play_core.specs.HeldKeys.{bit_key, is_bit_key}
 use Rattle.play_core.proofs.held_keys.bit_key.Goals as goal
 
 pub loop-key-init : goal.loop-key-init

@@ -1,9 +1,9 @@
 use Rattle.std.proofs.Common.{◌≡◌, arith, subst}
-use Rattle.play_core.specs.HeldKeys.{gathered}
+use Rattle.keymap_core.specs.Below.{gathered}
+use Rattle.keymap_core.proofs.Below.{gathered-none, gathered-more}
 use Rattle.play_core.specs.Typing.{character_typed_by, accented_by, accented}
 use Rattle.play_core.specs.Inner.Tables.{IsTableOf}
 use Rattle.play_core.proofs.Found.{table-empty}
-use Rattle.play_core.proofs.Counting.{gathered-none, gathered-more}
 use Rattle.play_core.proofs.ways.accented_table.Goals as goal
 
 pub loop-index-init : goal.loop-index-init

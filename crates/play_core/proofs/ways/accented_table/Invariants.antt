@@ -1,4 +1,4 @@
-use Rattle.play_core.specs.HeldKeys.{gathered}
+use Rattle.keymap_core.specs.Below.{gathered}
 use Rattle.play_core.specs.Typing.{character_typed_by, accented_by}
 use Rattle.play_core.specs.Inner.Tables.{IsTableOf}
 use Rattle.play_core.proofs.ways.accented_table.Given as goal

@@ -1,7 +1,8 @@
 use Rattle.std.proofs.Common.{◌≡◌, arith, subst}
-use Rattle.play_core.specs.HeldKeys.{gathered, combinations_with, combinations}
+use Rattle.keymap_core.specs.Below.{gathered}
+use Rattle.keymap_core.proofs.Below.{gathered-none, gathered-more}
+use Rattle.play_core.specs.HeldKeys.{combinations_with, combinations}
 use Rattle.play_core.specs.Inner.Tables.{AreTablesOf}
-use Rattle.play_core.proofs.Counting.{gathered-none, gathered-more}
 use Rattle.play_core.proofs.Found.{tables-empty}
 use Rattle.play_core.proofs.ways.Found.of.Goals as goal
 

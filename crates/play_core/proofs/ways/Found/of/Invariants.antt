@@ -1,4 +1,5 @@
-use Rattle.play_core.specs.HeldKeys.{gathered, combinations_with}
+use Rattle.keymap_core.specs.Below.{gathered}
+use Rattle.play_core.specs.HeldKeys.{combinations_with}
 use Rattle.play_core.specs.Inner.Tables.{AreTablesOf}
 use Rattle.play_core.proofs.ways.Found.of.Given as goal
 

@@ -1,7 +1,8 @@
 use Rattle.std.proofs.Common.{◌≡◌, ◌++◌, arith, subst, append_assoc, append-nil}
-use Rattle.play_core.specs.HeldKeys.{gathered, combinations_of}
+use Rattle.keymap_core.specs.Below.{gathered}
+use Rattle.keymap_core.proofs.Below.{gathered-none, gathered-more}
+use Rattle.play_core.specs.HeldKeys.{combinations_of}
 use Rattle.play_core.specs.Inner.Tables.{AreTablesOf}
-use Rattle.play_core.proofs.Counting.{gathered-none, gathered-more}
 use Rattle.play_core.proofs.ways.Found.try_set.Goals as goal
 
 pub loop-key-init : goal.loop-key-init

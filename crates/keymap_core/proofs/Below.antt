@@ -3,10 +3,14 @@ use Prim.Native.Nat.{zero, suc}
 use Rattle.std.proofs.Common.{◌≡◌, ℕ, ◌<◌, ◌≤◌, length, length-append, ◌+◌, ◌-◌, Bool, true, false, List, [], ◌++◌}
 use Rattle.std.proofs.Common.{Option, Some, None, refl, ap, subst, sym, ◌∙◌, ◌⊎◌, inl, inr, if◌then◌else◌, arith}
 use Rattle.std.proofs.Common.{add-one}
-use Rattle.std.specs.Prelude.{◌==◌}
-use Rattle.std.proofs.lemmas.Bool.{cases_Bool, true≢false, eqb-true, eq-eqb}
+use Rattle.std.proofs.lemmas.Bool.{cases_eq}
+use Rattle.std.proofs.lemmas.Option.{none-some, same_Some}
 use Rattle.std.specs.Option.{option_or}
-use Rattle.play_core.specs.HeldKeys.{first_below, gathered}
+use Rattle.keymap_core.specs.Below.{first_below, gathered}
+
+-- a number below n + 1 is below n, or n
+pub below-suc : (i n : ℕ) → i < suc n → (i < n) ⊎ (i ≡ n)
+below-suc i n lt = elim (cases_eq i n) [ inl e ↦ inr e | inr ne ↦ inl (omega (arith, lt, ne)) ]
 
 -- no number is below 0
 pub first_below-none : (test : ℕ → Bool) → first_below test 0 ≡ None
@@ -41,30 +45,6 @@ first_below-found test i n lt e f =
     subst (λ x. first_below test x ≡ Some i) z
     (first_below-kept test (suc i) i (n - suc i) (first_below-here test i e f))
 
--- nothing is gathered below 0
-pub gathered-none : {A : Type 0} (f : ℕ → List A) → gathered f 0 ≡ []
-unfolding gathered
-gathered-none f = refl
-
--- what is gathered below n + 1 is that below n, and what n has
-pub gathered-more : {A : Type 0} (f : ℕ → List A) (n : ℕ) → gathered f (n + 1) ≡ gathered f n ++ f n
-unfolding gathered
-gathered-more f n = rw add-one refl
-
--- a number below n + 1 is below n, or n
-pub below-suc : (i n : ℕ) → i < suc n → (i < n) ⊎ (i ≡ n)
-below-suc i n lt =
-    elim (cases_Bool (i == n)) [
-      | inl s ↦ inr (eqb-true i n s)
-      | inr s ↦ let ne : i ≡ n → ⊥ = λ q. true≢false (sym (eq-eqb i n q) ∙ s) in inl (omega (arith, lt, ne))
-    ]
-
-none_some : {A : Type 0} (x : A) → None ≡ Some x → ⊥
-none_some x e = cc
-
-some_some : {A : Type 0} (x y : A) → Some x ≡ Some y → x ≡ y
-some_some x y e = cc
-
 -- a first that passes, and none before it
 abbrev pub IsFirstBelow : (ℕ → Bool) → ℕ → ℕ → Type 0
 IsFirstBelow test n i = (i < n) × (test i ≡ true) × ((j : ℕ) → j < i → test j ≡ false)
@@ -74,39 +54,48 @@ abbrev pub NoneBelow : (ℕ → Bool) → ℕ → Type 0
 NoneBelow test n = (j : ℕ) → j < n → test j ≡ false
 
 -- where none below n passes, and n doesn't, none below n + 1 does
-one_more : (test : ℕ → Bool) (n : ℕ) → NoneBelow test n → test n ≡ false → NoneBelow test (suc n)
-one_more test n f e j lt =
-    elim (below-suc j n lt) [ inl s ↦ f j s | inr s ↦ ap test s ∙ e ]
+one-more : (test : ℕ → Bool) (n : ℕ) → NoneBelow test n → test n ≡ false → NoneBelow test (suc n)
+one-more test n f e j lt = elim (below-suc j n lt) [ inl s ↦ f j s | inr s ↦ ap test s ∙ e ]
 
 -- the step of the next lemma, by the first below n and the test of n
-mutual-none : (test : ℕ → Bool) (n : ℕ) (o : Option ℕ) (t : Bool) → first_below test n ≡ o → test n ≡ t
-    → (o ≡ None → NoneBelow test n) → option_or o (if t then Some n else None) ≡ None → NoneBelow test (suc n)
-mutual-none test n None true e f g h = absurd (none_some n (sym h))
-mutual-none test n None false e f g h = one_more test n (g refl) f
-mutual-none test n (Some i) t e f g h = absurd (none_some i (sym h))
+no-by : (test : ℕ → Bool) (n : ℕ) (o : Option ℕ) (t : Bool) → test n ≡ t → (o ≡ None → NoneBelow test n)
+    → option_or o (if t then Some n else None) ≡ None → NoneBelow test (suc n)
+no-by test n None true e g h = absurd (none-some n (sym h))
+no-by test n None false e g h = one-more test n (g refl) e
+no-by test n (Some i) t e g h = absurd (none-some i (sym h))
 
 -- where no first number is found, none passes
 pub first_below-no : (test : ℕ → Bool) (n : ℕ) → first_below test n ≡ None → NoneBelow test n
 unfolding first_below
 first_below-no test zero e = λ j lt. absurd (omega (arith, lt))
-first_below-no test (suc n) e = mutual-none test n (first_below test n) (test n) refl refl (first_below-no test n) e
+first_below-no test (suc n) e = no-by test n (first_below test n) (test n) refl (first_below-no test n) e
 
 -- the step of the next lemma, by the first below n and the test of n
-first-some : (test : ℕ → Bool) (n i : ℕ) (o : Option ℕ) (t : Bool) → (o ≡ None → NoneBelow test n)
-    → (o ≡ Some i → IsFirstBelow test n i) → test n ≡ t → option_or o (if t then Some n else None) ≡ Some i
+some-by : (test : ℕ → Bool) (n i : ℕ) (o : Option ℕ) (t : Bool) → test n ≡ t → (o ≡ None → NoneBelow test n)
+    → (o ≡ Some i → IsFirstBelow test n i) → option_or o (if t then Some n else None) ≡ Some i
     → IsFirstBelow test (suc n) i
-first-some test n i None true g f e h =
-    let s : n ≡ i = some_some n i h in
+some-by test n i None true e g f h =
+    let s : n ≡ i = same_Some n i h in
     subst (λ x. IsFirstBelow test (suc n) x) s (omega arith, e, g refl)
-first-some test n i None false g f e h = absurd (none_some i h)
-first-some test n i (Some j) t g f e h = let r : IsFirstBelow test n i = f h in (omega (arith, r.0), r.1, r.2)
+some-by test n i None false e g f h = absurd (none-some i h)
+some-by test n i (Some j) t e g f h = let r : IsFirstBelow test n i = f h in (omega (arith, r.0), r.1, r.2)
 
 -- the number that is found is the first that passes
 pub first_below-some : (test : ℕ → Bool) (n i : ℕ) → first_below test n ≡ Some i → IsFirstBelow test n i
 unfolding first_below
-first_below-some test zero i e = absurd (none_some i e)
+first_below-some test zero i e = absurd (none-some i e)
 first_below-some test (suc n) i e =
-    first-some test n i (first_below test n) (test n) (first_below-no test n) (first_below-some test n i) refl e
+    some-by test n i (first_below test n) (test n) refl (first_below-no test n) (first_below-some test n i) e
+
+-- nothing is gathered below 0
+pub gathered-none : {A : Type 0} (f : ℕ → List A) → gathered f 0 ≡ []
+unfolding gathered
+gathered-none f = refl
+
+-- what is gathered below n + 1 is that below n, and what n has
+pub gathered-more : {A : Type 0} (f : ℕ → List A) (n : ℕ) → gathered f (n + 1) ≡ gathered f n ++ f n
+unfolding gathered
+gathered-more f n = rw add-one refl
 
 -- more is gathered below a larger bound
 pub gathered-le : {A : Type 0} (f : ℕ → List A) (i n : ℕ) → i ≤ n → length (gathered f i) ≤ length (gathered f n)

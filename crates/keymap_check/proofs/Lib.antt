@@ -2,7 +2,6 @@ pub mod Bearers
 pub mod Bearing
 pub mod Bits
 pub mod CellBits
-pub mod Counting
 pub mod Demonstrated
 pub mod Findings
 pub mod Found

@@ -1,4 +1,3 @@
-pub mod Below
 pub mod Cells
 pub mod Computed
 pub mod Findings

@@ -6,8 +6,8 @@ use Rattle.std.specs.Option.{option_or}
 use Rattle.std.proofs.lemmas.List.{take_more, append-nil}
 use Rattle.std.proofs.lemmas.List.FromFn.{map-range_with_len_more}
 use Rattle.std.proofs.lemmas.List.Folds.{find-append, list_any_at, list_any_more}
-use Rattle.keymap_check.specs.Below.{gathered}
-use Rattle.keymap_check.proofs.Counting.{gathered-none, gathered-more}
+use Rattle.keymap_core.specs.Below.{gathered}
+use Rattle.keymap_core.proofs.Below.{gathered-none, gathered-more}
 
 -- one more element behind those of the numbers below n
 pub map_step : {X : Type 0} (f : ℕ → X) (old xs ys : List X) (n : ℕ) (x : X)

@@ -18,7 +18,7 @@ use Rattle.keymap_text.specs.declared.placed.Defined.{Defined}
 use Rattle.keymap_text.specs.declared.placed.Defined.TheVariants.{Slot, Accent}
 use Rattle.keymap_text.specs.declared.placed.Placed.{Placed}
 use Rattle.keymap_text.specs.Placed.{last_of}
-use Rattle.keymap_check.specs.Below.{first_below, gathered}
+use Rattle.keymap_core.specs.Below.{first_below, gathered}
 use Rattle.keymap_check.specs.declared.finding.Finding.{Finding}
 use Rattle.keymap_lint.specs.declared.cells.CellInForce.{CellInForce}
 use Rattle.keymap_lint.specs.declared.diagnostic.Diagnostic.{Diagnostic}

@@ -2,7 +2,7 @@
 ghost use Rattle.std.specs.Prelude.{◌≡◌, ◌<◌, ◌≤◌, ◌++◌, IfOk, IfSome, OnOk, length};
 ghost use Rattle.std.specs.Option.{option_to_list};
 ghost use Rattle.keymap_core.specs.Numbers.{accent_limit, pair_limit};
-ghost use Rattle.keymap_check.specs.Below.{first_below, gathered};
+ghost use Rattle.keymap_core.specs.Below.{first_below, gathered};
 ghost use Rattle.keymap_lint.specs.Kinds.{paren as paren_of, has_base as has_base_of, pair_again as pair_again_of};
 ghost use Rattle.keymap_lint.specs.Kinds.{accent_pairs as accent_pairs_of, pairs_again as pairs_again_of};
 

@@ -1,6 +1,6 @@
 //! Texts in which some cell selects the slots from 128 on, and that don't define both slots of each key.
 ghost use Rattle.std.specs.Prelude.{◌≡◌, ◌&&◌, not, find};
-ghost use Rattle.keymap_check.specs.Below.{gathered};
+ghost use Rattle.keymap_core.specs.Below.{gathered};
 ghost use Rattle.keymap_core.specs.Numbers.{slot_limit};
 ghost use Rattle.keymap_lint.specs.Kinds.{selector_of as selector_in, selector as selector_at, selects as selects_at};
 ghost use Rattle.keymap_lint.specs.Kinds.{other_slot as other_slot_of, missing_slot as missing_slot_of};

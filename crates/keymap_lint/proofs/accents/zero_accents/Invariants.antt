@@ -1,5 +1,5 @@
 use Rattle.std.proofs.Common.{◌≡◌}
-use Rattle.keymap_check.specs.Below.{gathered}
+use Rattle.keymap_core.specs.Below.{gathered}
 use Rattle.keymap_lint.specs.Kinds.{zero_accent}
 use Rattle.keymap_lint.proofs.accents.zero_accents.Given as goal
 

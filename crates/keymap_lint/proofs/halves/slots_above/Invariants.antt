@@ -1,6 +1,6 @@
 use Rattle.std.proofs.Common.{◌≡◌, ◌≤◌}
 use Rattle.arrayvec.specs.ArrayVec.{array_vec_len}
-use Rattle.keymap_check.specs.Below.{gathered}
+use Rattle.keymap_core.specs.Below.{gathered}
 use Rattle.keymap_lint.specs.Kinds.{slot_above}
 use Rattle.keymap_lint.proofs.halves.slots_above.Given as goal
 

@@ -1,5 +1,5 @@
 use Rattle.std.proofs.Common.{◌≡◌, ◌++◌}
-use Rattle.keymap_check.specs.Below.{gathered}
+use Rattle.keymap_core.specs.Below.{gathered}
 use Rattle.keymap_lint.specs.Kinds.{pair_again}
 use Rattle.keymap_lint.proofs.pairs.add_pairs.Given as goal
 

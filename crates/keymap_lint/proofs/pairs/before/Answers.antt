@@ -1,6 +1,6 @@
 use Rattle.std.proofs.Common.{◌≡◌, arith, sym, ◌∙◌, subst, None}
-use Rattle.keymap_check.specs.Below.{first_below}
-use Rattle.keymap_check.proofs.Counting.{first_below-none, first_below-more, first_below-found}
+use Rattle.keymap_core.specs.Below.{first_below}
+use Rattle.keymap_core.proofs.Below.{first_below-none, first_below-more, first_below-found}
 use Rattle.keymap_lint.specs.Kinds.{has_base}
 use Rattle.keymap_lint.proofs.pairs.before.Goals as goal
 

@@ -1,5 +1,5 @@
 use Rattle.std.proofs.Common.{◌≡◌, None}
-use Rattle.keymap_check.specs.Below.{first_below}
+use Rattle.keymap_core.specs.Below.{first_below}
 use Rattle.keymap_lint.specs.Kinds.{has_base}
 use Rattle.keymap_lint.proofs.pairs.before.Given as goal
 

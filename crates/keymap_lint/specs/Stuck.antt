@@ -1,5 +1,5 @@
 -- The modifiers that stay on after the events which the search found.
-use Rattle.std.specs.Prelude.{Bool, List, [], filter, reverse, Option, Some}
+use Rattle.std.specs.Prelude.{List, [], filter, reverse, Option, Some}
 use Rattle.keymap_core.specs.declared.action.Modifier.{Modifier}
 use Rattle.keymap_core.specs.Actions.{modifiers}
 use Rattle.keymap_core.specs.Maps.{MapValue}

@@ -1,6 +1,5 @@
 //! The modifiers that stay on after the events which the search found.
 ghost use Rattle.std.specs.Prelude.{◌≡◌, ◌++◌, List, filter, reverse, IfOk};
-ghost use Rattle.keymap_core.specs.Actions.{modifiers as modifiers_of};
 ghost use Rattle.console_core.specs.declared.event.Event.{Event as EventValue};
 ghost use Rattle.console_core.specs.History.{Maps, between, is_on_after};
 ghost use Rattle.keymap_lint.specs.Stuck.{stuck as stuck_by};

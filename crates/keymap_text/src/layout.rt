@@ -61,7 +61,8 @@ fn hex_text(c: u32) -> Text
     text
 }
 
-/// A character as it is printed in a keymap: a control by its name, one of ASCII quoted, and any other one by its number.
+/// A character as it is printed in a keymap: a control by its name, another one of ASCII quoted, any other one by its
+/// number.
 #[tactic(auto, unfolding(crate::specs::Printed::character_text))]
 pub fn character_text(c: char) -> Text
     ensures { result.items ≡ spec.character_text c }

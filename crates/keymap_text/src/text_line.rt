@@ -21,8 +21,8 @@ pub struct TextLine<'a> {
     pub rest: &'a [u8],
 }
 
-/// The lines of a text. The numbers of those in which its blocks of bytes begin are kept, so that no line is numbered by
-/// a count from the beginning of the text.
+/// The lines of a text. The numbers of those in which its blocks of bytes begin are kept, so that no line is numbered
+/// by a count from the beginning of the text.
 #[derive(Drop)]
 pub struct TextLines<'t> {
     text: &'t [u8],

@@ -10,7 +10,7 @@ use kmap_runs::{
     play_failure, search_next_run, search_run, text_failure, type_run, write_run_error,
 };
 use play_core::{PlayError, Show, play, play_next};
-use std::alloc::{AllocError, Global};
+use std::alloc::AllocError;
 use std::convert::AsStr;
 use std::io::BufReader;
 use std::process::ExitCode;
@@ -221,8 +221,8 @@ where
     run_outcome(lint_run(rt.alloc(), text.as_bytes(), &mut source, &mut out))
 }
 
-/// Whether no text has an error. One that can't be read gets its line, and the next one follows; where the output fails,
-/// none does.
+/// Whether no text has an error. One that can't be read gets its line, and the next one follows; where the output
+/// fails, none does.
 fn lint<'a, R, W>(rt: &R, texts: &[&'a str], faults: &mut W) -> Result<bool, Failure<'a>>
 where
     R: AllocGlobal + Files + Print,

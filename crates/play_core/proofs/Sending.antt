@@ -211,7 +211,8 @@ keyed : (words : List (List ℕ)) (number : List ℕ) (what : ℕ → What) (r :
     → ((k : ℕ) → IsNumber number k → Tells words (what k)) → ((k : ℕ) → key_of (what k) ≡ k)
     → IsWhat words (of_key what r)
 keyed words number what (Ok k) h tells key = (tells k h.0, subst (λ n. n < 128) (sym (key k)) h.1)
-keyed words number what (Err Key) h tells key = (what h.0, tells h.0 h.1, subst (λ n. key_count ≤ n) (sym (key h.0)) h.2)
+keyed words number what (Err Key) h tells key =
+    (what h.0, tells h.0 h.1, subst (λ n. key_count ≤ n) (sym (key h.0)) h.2)
 keyed words number what (Err Form) h tells key = tt
 
 -- a word and a number are what they are read as

@@ -10,7 +10,8 @@ returns-in-Ok-write_text-clause-run g c =
       c.in_ok-source.source.items,
       c.in-Ok.text.items,
       c.in_ok-source.ensures.reads,
-      subst (λ t. IsLinted c.args.file.now t c.in-Ok.is_well c.in-Ok.text.items) c.as_slice.ensures.value c.in-Ok.ensures,
+      subst (λ t. IsLinted c.args.file.now t c.in-Ok.is_well c.in-Ok.text.items) c.as_slice.ensures.value
+          c.in-Ok.ensures,
       subst (λ t. Appends old new t) c.as_slice-2.ensures.value c.in-Ok-write_text.ensures.bytes,
     )
 
@@ -22,7 +23,8 @@ returns-clause-run g c =
       c.in-Ok.text.items,
       c.in-Ok.is_well,
       c.in_ok-source.ensures.reads,
-      subst (λ t. IsLinted c.args.file.now t c.in-Ok.is_well c.in-Ok.text.items) c.as_slice.ensures.value c.in-Ok.ensures,
+      subst (λ t. IsLinted c.args.file.now t c.in-Ok.is_well c.in-Ok.text.items) c.as_slice.ensures.value
+          c.in-Ok.ensures,
       subst (λ t. c.in-Err.fault.written < length t) c.as_slice-2.ensures.value c.in-Err.ensures.bytes.0,
       subst (λ t. Appends old new (take c.in-Err.fault.written t)) c.as_slice-2.ensures.value c.in-Err.ensures.bytes.1,
     )

@@ -1,5 +1,4 @@
 use Rattle.std.proofs.Common.{◌≡◌, ◌+◌, ◌≤◌, ◌<◌, ◌/◌, arith, length, subst, sym, ap, ◌∙◌}
-use Rattle.std.specs.Vec.{vec_len}
 use Rattle.keymap_text.specs.Meaning.{line}
 use Rattle.keymap_text.proofs.BlockLines.{has_block, line_of_block, line_fits}
 use Rattle.keymap_text.proofs.text_line.TextLines.number_at.Goals as goal

@@ -1,4 +1,10 @@
-//! The diagnostics of a keymap text: its fault, or what is doubtful in a text that spells a keymap.
+//! The diagnostics of a keymap text: its fault, or what is wrong or doubtful in a text that spells a keymap.
+//!
+//! It stands on keymap_text, which tells where the parts of a text stand, on the check and on the search for sticking
+//! modifiers. `diagnostics` answers values, each with the offset of its place; the words are those of kmap_runs.
+//!
+//! What is promised (`IsLint`, `specs/Lists.antt`): kind by kind exactly the diagnostics that the definitions say, each
+//! at its place, those without a place first and then by place. A text with a fault has that one alone.
 #![tactic(auto)]
 
 mod accents;

@@ -1,4 +1,5 @@
 mod DrawRuns
+mod LintAscii
 mod LintExcerpt
 mod LintPieces
 mod LintPlain

@@ -1,5 +1,5 @@
 -- What is shown of the bytes of a text.
-use Rattle.std.specs.Prelude.{◌≡◌, ℕ, ◌==◌, Bool, IsTrue, not, ◌||◌, if◌then◌else◌, List, map, encode_utf8}
+use Rattle.std.specs.Prelude.{◌≡◌, ℕ, ◌==◌, Bool, IsTrue, not, ◌||◌, nat_lt, if◌then◌else◌, List, map, encode_utf8}
 use Rattle.std.specs.Char.{IsScalar}
 use Rattle.std.specs.List.{All, flat_map}
 use Rattle.bstr.specs.Utf8.{lossy_chars}
@@ -12,6 +12,10 @@ shown_char c = if c == 9 then c else if is_hidden c then 0xfffd else c
 -- the characters that are shown of bytes; one U+FFFD stands for each maximal piece that isn't UTF-8
 unfoldable pub shown_chars : List ℕ → List ℕ
 shown_chars bytes = map shown_char (lossy_chars bytes)
+
+-- a tab, or a character of ASCII that a terminal shows: these are shown as they are
+abbrev pub is_shown_byte : ℕ → Bool
+is_shown_byte c = c == 9 || not (nat_lt c 32 || nat_lt 126 c)
 
 -- a tab, a line feed, or a character that a terminal shows
 abbrev pub is_plain : ℕ → Bool

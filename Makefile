@@ -68,9 +68,9 @@ test: all
 # leaves. It proves the C library and leaves none; what its build proves once more, of the libraries below it, the edits
 # go on with.
 check:
-	RT_JOBS="$${RT_JOBS:-$$(sh .ci/jobs)}" "$(RT)" ci
+	"$(RT)" ci
 	cd crates/kmap_c && "$(RT)" lib
-	RT="$(RT)" RT_JOBS="$${RT_JOBS:-$$(sh .ci/jobs)}" python3 tests/edits
+	RT="$(RT)" python3 tests/edits
 	RT="$(RT)" sh tests/edits_driver.sh
 	$(MAKE) scripts
 	sh tests/program.sh $(PROGRAM).by-rattle

@@ -45,25 +45,31 @@ tells 'counter/a_local_of_another_name.edit: refused only since a proof file nam
 tells 'counter/a_name_that_is_not_there.edit: the prover cannot read it: src/lib.rt:'
 tells "counter/a_line_that_is_not_there.edit: an 'old:' text stands in src/lib.rt 0 times, and not once"
 tells "counter/a_line_that_is_there_three_times.edit: an 'old:' text stands in src/lib.rt 3 times, and not once"
-tells 'counter/a_definition.edit: it turns a definition, so it is one for must-fail/'
+tells "counter/a_definition.edit: it turns a definition, so it is one for the kit's driver, in edits/kit/"
 tells 'counter/notes.txt: it is no edit'
-tells '5 passed, 8 failed'
+# those that the kit's own driver tries
+tells 'counter/kit/a_definition.edit: refused, as it must be: note: src/lib.rt:'
+tells 'counter/kit/same_half.edit: NOT REFUSED'
+tells 'counter/kit/a_local_of_another_name.edit: refused, as it must be (only because a proof file names'
+tells '6 passed, 10 failed'
 holds 'it changes no file' diff -r crates "$folder/before"
 
 # Without those that show nothing it succeeds.
 cd crates/counter/edits || exit 1
-mkdir ../good
+mkdir -p ../good/kit
 mv half_of_more.edit quarter_from_a_half.edit ../good
-rm ./*
+mv kit/a_definition.edit ../good/kit
+rm -r ./*
 mv ../good/* .
 cd ../../.. || exit 1
 edits 0
-tells '2 passed, 0 failed'
+tells '3 passed, 0 failed'
 
 # A crate that is not proved as it stands shows nothing.
 sed 's,number / 2$,number / 3,' crates/counter/src/lib.rt > "$folder/turned"
 cp "$folder/turned" crates/counter/src/lib.rt
 edits 1
 tells 'counter/quarter_from_a_half.edit: not tried, since the crate is not proved as it stands'
+tells 'counter/kit/a_definition.edit: not tried, since the crate is not proved as it stands'
 
 counted

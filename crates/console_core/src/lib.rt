@@ -4,9 +4,9 @@
 //! The crate stands on keymap_core alone. A console promises, of the whole list of events that it was delivered since
 //! it was made, the answer to each event and which modifiers and locks are on: `specs/History.antt` and
 //! `specs/Resolved.antt` define these by positions in that list. `PlainConsole` and `WordConsole` keep that promise in
-//! two layouts, `replay` delivers a list of events, and `laws` has what follows for all lists: in a keymap where no key
-//! bears a modifier or lock beside a character, a modifier is on only while a key that bears it is pressed, and once
-//! every key is released the console goes on as after a reset.
+//! two layouts, `replay` and `deliver_all` deliver a list of events, and `laws` has what follows for all lists: in a
+//! keymap where no key bears a modifier or lock beside a character, a modifier is on only while a key that bears it is
+//! pressed, and once every key is released the console goes on as after a reset.
 //!
 //! `step_kept` is the step of `WordConsole` over a `WordStore` that the caller keeps, for who calls from C. Each of
 //! them runs over a keymap however it is kept (`keymap_core::Keymap`).
@@ -38,7 +38,7 @@ pub use event::{Answer, Event};
 pub use kept::{locks_kept, modifiers_kept, pending_kept, start_kept, step_kept};
 pub use outcome::Sticking;
 pub use plain_console::PlainConsole;
-pub use replays::replay;
+pub use replays::{deliver_all, replay};
 pub use search::{sticking, sticking_between};
 pub use translator::Translator;
 pub use word_console::WordConsole;

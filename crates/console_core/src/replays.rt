@@ -66,3 +66,13 @@ pub fn replay<T: Translator>(
     }
     Ok(answers)
 }
+
+/// Delivers the events in their order and drops the answers. It takes no memory.
+pub fn deliver_all<T: Translator>(console: &mut T, events: &[Event])
+    ensures { (ms : Maps) (h : List EventValue) → T.stands console.old ms h
+        → T.stands console.new ms (reverse events.now ++ h) }
+{
+    for event in events {
+        let _ = console.step(*event);
+    }
+}

@@ -1,11 +1,12 @@
 //! The console that is packed into a word and a byte for each key.
-ghost use Rattle.std.specs.Prelude.{List, []};
+ghost use Rattle.std.specs.Prelude.{List, [], reverse};
 ghost use Rattle.keymap_core.specs.Maps.{MapValue};
 ghost use Rattle.console_core.specs.declared.event.Event.{Event as EventValue};
 ghost use Rattle.console_core.specs.History.{Maps, between};
 
 use crate::event::{Answer, Event};
 use crate::machine::Console;
+use crate::replays::deliver_all;
 use crate::translator::Translator;
 use crate::word_store::WordStore;
 use keymap_core::{KeyMap, Keymap, Lock, Modifier};
@@ -30,6 +31,15 @@ impl<'m> WordConsole<'m> {
         ensures { ⟦<WordConsole<'m> as Translator>⟧.stands result (between first.now second.now) [] }
     {
         WordConsole::over(first, second)
+    }
+
+    /// A console of two maps, the first one in force at first, that was delivered the events.
+    pub fn after(first: &'m KeyMap, second: &'m KeyMap, events: &[Event]) -> WordConsole<'m>
+        ensures { ⟦<WordConsole<'m> as Translator>⟧.stands result (between first.now second.now) (reverse events.now) }
+    {
+        let mut console = WordConsole::between(first, second);
+        deliver_all(&mut console, events);
+        console
     }
 }
 

@@ -1,5 +1,5 @@
 //! What the search for sticking modifiers found, as a script that `kmap play` reads.
-ghost use Rattle.std.specs.Prelude.{◌≡◌, ◌++◌, [], ◌∷◌, List, reverse, IfOk, OnOk, codes};
+ghost use Rattle.std.specs.Prelude.{◌≡◌, ◌++◌, List, IfOk, OnOk, codes};
 ghost use Rattle.std.specs.List.{flat_map};
 ghost use Rattle.console_core.specs.declared.event.Event.{Event as EventValue};
 ghost use Rattle.console_core.specs.History.{Maps, is_on_after, between};
@@ -32,25 +32,6 @@ pub(crate) fn push_events(text: &mut Vec<u8>, events: &[Event]) -> Result<(), Al
         text.extend_from_slice(event_line(*event).as_slice())?;
     }
     Ok(())
-}
-
-/// Delivers the events in their order.
-fn deliver<T: Translator>(console: &mut T, events: &[Event])
-    ensures { (ms : Maps) (h : List EventValue) → T.stands console.old ms h
-        → T.stands console.new ms (reverse events.now ++ h) }
-{
-    for event in events {
-        let _ = console.step(*event);
-    }
-}
-
-/// A new console of the two maps that was delivered the events.
-fn console_after<'m>(first: &'m KeyMap, second: &'m KeyMap, events: &[Event]) -> WordConsole<'m>
-    ensures { ⟦<WordConsole<'m> as Translator>⟧.stands result (between first.now second.now) (reverse events.now) }
-{
-    let mut console = WordConsole::between(first, second);
-    deliver(&mut console, events);
-    console
 }
 
 /// The name of the modifier after a blank, if it is on.
@@ -94,7 +75,7 @@ fn push_script(
         ≡ text.old.items ++ spec.script_text (between first.now second.now) events.now) }
 {
     text.extend_from_slice(b"# sticks:")?;
-    push_names(text, &console_after(first, second, events), &MODIFIERS)?;
+    push_names(text, &WordConsole::after(first, second, events), &MODIFIERS)?;
     text.push(b'\n')?;
     push_events(text, events)
 }

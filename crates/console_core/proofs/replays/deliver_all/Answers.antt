@@ -1,7 +1,7 @@
 use Rattle.std.proofs.Common.{◌≡◌, ◌+◌, ◌∷◌, ◌++◌, [], take, arith}
 use Rattle.std.proofs.lemmas.Grind.{common_steps}
 use Rattle.console_core.proofs.Deliveries.{take_event, reverse-push}
-use Rattle.kmap_runs.proofs.search.deliver.Goals as goal
+use Rattle.console_core.proofs.replays.deliver_all.Goals as goal
 
 pub loop-event-preserved : goal.loop-event-preserved
 loop-event-preserved g c =

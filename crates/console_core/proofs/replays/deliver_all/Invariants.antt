@@ -2,7 +2,7 @@ use Rattle.std.proofs.Common.{◌++◌, take, List}
 use Rattle.std.specs.Prelude.{reverse}
 use Rattle.console_core.specs.declared.event.Event.{Event}
 use Rattle.console_core.specs.History.{Maps}
-use Rattle.keymap_lint.proofs.stuck.deliver.Given as goal
+use Rattle.console_core.proofs.replays.deliver_all.Given as goal
 
 abbrev pub invariant-loop-event : goal.invariant-loop-event
 invariant-loop-event g l =

@@ -1,17 +1,65 @@
 //! Table files: wide, narrow and read in place.
 
+mod both;
 mod in_place;
 mod narrow;
 mod wide;
 
-use keymap_core::{KeyMap, ReadFault, ReadFaultKind};
-use keymap_tables::{TableError, TableFault, TableFaultKind};
+use keymap_core::{KeyMap, Read, ReadFault, ReadFaultKind, Write};
+use keymap_tables::{
+    NarrowError, TableError, TableFault, TableFaultKind, read_narrow, read_narrow_from,
+    read_tables, read_tables_from, write_narrow, write_tables,
+};
 use std::alloc::{AllocError, Global};
 
 /// How long a table file and a narrow file are.
 pub const LENGTH: usize = 15_524;
 
 pub const NARROW_LENGTH: usize = 4_139;
+
+/// The two forms of a table file.
+#[derive(Clone, Copy, Debug)]
+pub(crate) enum Form {
+    Wide,
+    Narrow,
+}
+
+pub(crate) const FORMS: [Form; 2] = [Form::Wide, Form::Narrow];
+
+impl Form {
+    /// How many bytes a file has.
+    pub(crate) fn length(self) -> usize {
+        match self {
+            Form::Wide => LENGTH,
+            Form::Narrow => NARROW_LENGTH,
+        }
+    }
+
+    pub(crate) fn read(self, alloc: Global, bytes: &[u8]) -> Result<KeyMap, TableError> {
+        match self {
+            Form::Wide => read_tables(alloc, bytes),
+            Form::Narrow => read_narrow(alloc, bytes),
+        }
+    }
+
+    pub(crate) fn read_from<R: Read>(
+        self,
+        alloc: Global,
+        reader: &mut R,
+    ) -> Result<KeyMap, TableError> {
+        match self {
+            Form::Wide => read_tables_from(alloc, reader),
+            Form::Narrow => read_narrow_from(alloc, reader),
+        }
+    }
+
+    pub(crate) fn write<W: Write>(self, map: &KeyMap, writer: &mut W) -> Result<(), NarrowError> {
+        match self {
+            Form::Wide => write_tables(map, writer).map_err(NarrowError::Write),
+            Form::Narrow => write_narrow(map, writer),
+        }
+    }
+}
 
 /// So many bytes 0. A growth that is refused is tried again.
 pub(crate) fn zero_bytes(alloc: Global, count: usize) -> Result<Vec<u8>, AllocError> {

@@ -1,5 +1,6 @@
 //! Tables that are read in place, of bytes that are no file: what the contracts leave open.
 
+use crate::asserts::expect_equal;
 use crate::tables::LENGTH;
 use keymap_core::{Cell, Keymap, LockFlag};
 use keymap_tables::Tables;
@@ -17,11 +18,11 @@ fn what_is_no_cell_reads_as_character_0(rt: HostRuntime) -> Result<(), Fail> {
         assert!(rt; false);
         return Ok(());
     };
-    assert_eq!(rt; tables.cell(0, 0), Cell::Char('\0'));
-    assert_eq!(rt; tables.cell(255, 7), Cell::Char('\0'));
-    assert_eq!(rt; tables.flag(255), LockFlag::O);
-    assert_eq!(rt; tables.own(14), None);
-    assert_eq!(rt; tables.own(15), None);
-    assert_eq!(rt; tables.composed(0, 'a'), None);
+    expect_equal(&rt, &tables.cell(0, 0), &Cell::Char('\0'));
+    expect_equal(&rt, &tables.cell(255, 7), &Cell::Char('\0'));
+    expect_equal(&rt, &tables.flag(255), &LockFlag::O);
+    expect_equal(&rt, &tables.own(14), &None);
+    expect_equal(&rt, &tables.own(15), &None);
+    expect_equal(&rt, &tables.composed(0, 'a'), &None);
     Ok(())
 }

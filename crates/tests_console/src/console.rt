@@ -3,6 +3,7 @@
 mod histories;
 mod searches;
 
+use crate::asserts::expect_equal;
 use console_core::Translator;
 use keymap_core::{LOCKS, Lock, MODIFIERS, Modifier};
 use std::process::Abort;
@@ -29,5 +30,5 @@ pub(crate) fn expect_shown<T: Translator>(
     for lock in LOCKS {
         assert_eq!(rt; console.locked(lock), locked.contains(&lock), "{lock:?}");
     }
-    assert_eq!(rt; console.pending(), pending);
+    expect_equal(rt, &console.pending(), &pending);
 }

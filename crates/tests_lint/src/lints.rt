@@ -7,6 +7,7 @@ mod keys;
 mod order;
 mod severities;
 
+use crate::asserts::expect_equal;
 use console_core::Sticking;
 use keymap_check::{Finding, Place};
 use keymap_core::{Holding, KeyCode};
@@ -55,7 +56,7 @@ pub(crate) fn expect(
     wanted: &[Diagnostic],
 ) -> Result<Lint, Fail> {
     let lint = diagnostics(alloc, text)?;
-    assert_eq!(rt; lint.diagnostics.as_slice(), wanted);
+    expect_equal(rt, &lint.diagnostics.as_slice(), &wanted);
     Ok(lint)
 }
 
@@ -68,16 +69,16 @@ pub(crate) fn expect_lists(
     missing_accents: &[u8],
     unused_slots: &[u8],
 ) {
-    assert_eq!(rt; lint.missing_slots.as_slice(), missing_slots);
-    assert_eq!(rt; lint.nul_keys.as_slice(), nul_keys);
-    assert_eq!(rt; lint.missing_accents.as_slice(), missing_accents);
-    assert_eq!(rt; lint.unused_slots.as_slice(), unused_slots);
+    expect_equal(rt, &lint.missing_slots.as_slice(), &missing_slots);
+    expect_equal(rt, &lint.nul_keys.as_slice(), &nul_keys);
+    expect_equal(rt, &lint.missing_accents.as_slice(), &missing_accents);
+    expect_equal(rt, &lint.unused_slots.as_slice(), &unused_slots);
 }
 
 /// Asserts that the search found a script of so many events.
 pub(crate) fn expect_sticks(rt: &impl Abort, lint: &Lint, count: usize) {
     match &lint.sticking {
-        Some(Sticking::Sticks(events)) => assert_eq!(rt; events.len(), count),
+        Some(Sticking::Sticks(events)) => expect_equal(rt, &events.len(), &count),
         _ => assert!(rt; false),
     }
     assert!(rt; !lint.never_sticks());

@@ -8,6 +8,7 @@ mod reading;
 mod sources;
 mod tokens;
 
+use crate::asserts::expect_equal;
 use keymap_core::KeyMap;
 use keymap_text::{MapReader, TextError};
 use std::alloc::Global;
@@ -43,12 +44,12 @@ pub(crate) fn read_pieces(
         let before = reader.fed();
         assert!(rt; before <= 1 << 40 && piece.len() <= 1 << 20);
         if let Err(fault) = reader.feed(piece) {
-            assert_eq!(rt; reader.fed(), before);
-            assert_eq!(rt; reader.feed(b" "), Err(fault));
-            assert_eq!(rt; reader.finish().err(), Some(fault));
+            expect_equal(rt, &reader.fed(), &before);
+            expect_equal(rt, &reader.feed(b" "), &Err(fault));
+            expect_equal(rt, &reader.finish().err(), &Some(fault));
             return Err(TextError::Fault(fault));
         }
-        assert_eq!(rt; reader.fed(), before + piece.len() as u64);
+        expect_equal(rt, &reader.fed(), &(before + piece.len() as u64));
     }
     reader.finish().map_err(TextError::Fault)
 }

@@ -1,5 +1,6 @@
 //! What the report says of modifiers and locks, over long lists of events.
 
+use crate::asserts::expect_equal;
 use crate::check::{press, release};
 use console_core::{Answer, Event, PlainConsole, Translator, WordConsole, replay};
 use keymap_check::{Bearer, Report, check};
@@ -66,14 +67,14 @@ fn step_both<P: Translator, W: Translator>(
     event: &Event,
 ) {
     let answer = plain.step(*event);
-    assert_eq!(rt; word.step(*event), answer);
+    expect_equal(rt, &word.step(*event), &answer);
     for modifier in MODIFIERS {
-        assert_eq!(rt; plain.on(modifier), word.on(modifier));
+        expect_equal(rt, &plain.on(modifier), &word.on(modifier));
     }
     for lock in LOCKS {
-        assert_eq!(rt; plain.locked(lock), word.locked(lock));
+        expect_equal(rt, &plain.locked(lock), &word.locked(lock));
     }
-    assert_eq!(rt; plain.pending(), word.pending());
+    expect_equal(rt, &plain.pending(), &word.pending());
 }
 
 /// Asserts what the report promises of the modifiers and locks that one of the keys bears throughout.
@@ -86,12 +87,12 @@ fn expect_promises<T: Translator>(
     for state in keys {
         for modifier in MODIFIERS {
             if report.bearer(Holding::Mod(modifier)) == bearer_throughout(state.code) {
-                assert_eq!(rt; console.on(modifier), state.is_pressed);
+                expect_equal(rt, &console.on(modifier), &state.is_pressed);
             }
         }
         for lock in LOCKS {
             if report.bearer(Holding::Lock(lock)) == bearer_throughout(state.code) {
-                assert_eq!(rt; console.locked(lock), state.is_odd);
+                expect_equal(rt, &console.locked(lock), &state.is_odd);
             }
         }
     }
@@ -164,9 +165,10 @@ fn without_traps_modifiers_are_on_only_while_pressed(rt: HostRuntime) -> Result<
             was_on[modifier.index()] |= console.on(modifier);
         }
     }
-    assert_eq!(rt;
-        was_on,
-        [true, false, true, false, false, false, false, false]
+    expect_equal(
+        &rt,
+        &was_on,
+        &[true, false, true, false, false, false, false, false],
     );
     Ok(())
 }
@@ -179,7 +181,7 @@ fn expect_shift_alone<T: Translator>(
     let answers = replay(alloc, console, &[press(42)?, press(58)?])?;
     let shift = Answer::Special(Action::Mod(Modifier::LeftShift));
     let caps = Answer::Special(Action::Lock(Lock::Caps));
-    assert_eq!(rt; answers.as_slice(), [shift, caps].as_slice());
+    expect_equal(rt, &answers.as_slice(), &[shift, caps].as_slice());
     assert!(rt; console.on(Modifier::LeftShift));
     assert!(rt; !console.locked(Lock::Caps));
     Ok(())

@@ -1,5 +1,6 @@
 //! Maps whose report and demonstration were worked out by hand, and the longest search for a demonstration.
 
+use crate::asserts::expect_equal;
 use crate::check::{key, press, release};
 use console_core::Event;
 use keymap_check::{Bearer, Finding, Place, Report, check, demonstrate};
@@ -50,7 +51,7 @@ fn the_empty_map_is_accepted(rt: HostRuntime) -> Result<(), Fail> {
     let map = KeyMap::new(rt.alloc())?;
     let report = check(&map);
     assert!(rt; report.accepted());
-    assert_eq!(rt; report.findings().len(), 0);
+    expect_equal(&rt, &report.findings().len(), &0);
     expect(&rt, &report, &[], &[]);
     assert!(rt; demonstrate(&map).is_none());
     Ok(())
@@ -175,12 +176,13 @@ fn refused_maps_name_their_keys(rt: HostRuntime) -> Result<(), Fail> {
         let map = map_of(rt.alloc(), refused.lines)?;
         let report = check(&map);
         assert!(rt; !report.accepted());
-        assert_eq!(rt; report.findings().as_slice(), refused.findings);
+        expect_equal(&rt, &report.findings().as_slice(), &refused.findings);
         expect(&rt, &report, refused.bearers, &[]);
         let script = demonstrate(&map);
-        assert_eq!(rt;
-            script.as_ref().map(|script| script.as_slice()),
-            refused.script
+        expect_equal(
+            &rt,
+            &script.as_ref().map(|script| script.as_slice()),
+            &refused.script,
         );
     }
     Ok(())
@@ -193,15 +195,19 @@ fn traps_are_demonstrated(rt: HostRuntime) -> Result<(), Fail> {
     let map = map_of(rt.alloc(), &SHIFT_WITH_TRAP)?;
     let shift = Cell::Act(Action::Mod(Modifier::LeftShift));
     let control = Holding::Mod(Modifier::LeftControl);
-    assert_eq!(rt; map.entry(42).cells()[0], shift);
-    assert_eq!(rt; map.entry(42).cells()[1 + 2], Cell::Char('x'));
-    assert_eq!(rt; check(&map).bearer(control), Bearer::Throughout(key(29)?));
+    expect_equal(&rt, &map.entry(42).cells()[0], &shift);
+    expect_equal(&rt, &(map.entry(42).cells()[1 + 2]), &Cell::Char('x'));
+    expect_equal(
+        &rt,
+        &check(&map).bearer(control),
+        &Bearer::Throughout(key(29)?),
+    );
     assert!(rt; demonstrate(&map).is_some());
 
     let map = map_of(rt.alloc(), &ALT_SHIFT_WITH_TRAP)?;
     let alt_shift = Cell::Act(Action::Mod(Modifier::AltShift));
-    assert_eq!(rt; map.entry(93).cells()[0], alt_shift);
-    assert_eq!(rt; map.entry(93 + 128).cells()[0], Cell::Char('\0'));
+    expect_equal(&rt, &map.entry(93).cells()[0], &alt_shift);
+    expect_equal(&rt, &map.entry(93 + 128).cells()[0], &Cell::Char('\0'));
     assert!(rt; demonstrate(&map).is_some());
     Ok(())
 }
@@ -228,7 +234,7 @@ fn the_longest_search_ends(rt: HostRuntime) -> Result<(), Fail> {
             },
         );
     }
-    assert_eq!(rt; check(&map).findings().len(), 128);
+    expect_equal(&rt, &check(&map).findings().len(), &128);
     assert!(rt; demonstrate(&map).is_none());
     Ok(())
 }

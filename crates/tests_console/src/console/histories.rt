@@ -1,6 +1,7 @@
 //! Histories that were worked out by hand, on both consoles: the answer to each event, and what is on, locked and
 //! pending after it.
 
+use crate::asserts::expect_equal;
 use crate::console::expect_shown;
 use console_core::{Answer, Event, PlainConsole, Translator, WordConsole, replay};
 use keymap_core::{Action, KeyCode, KeyMap, Lock, Modifier};
@@ -288,7 +289,7 @@ fn answer(output: Output) -> Result<Answer, &'static str> {
 fn deliver<T: Translator>(rt: &impl Abort, console: &mut T, steps: &[Step]) -> Result<(), Fail> {
     expect_shown(rt, console, &[], &[], None);
     for (input, output, on, locked, pending) in steps {
-        assert_eq!(rt; console.step(event(*input)?), answer(*output)?);
+        expect_equal(rt, &console.step(event(*input)?), &answer(*output)?);
         expect_shown(rt, console, on, locked, *pending);
     }
     Ok(())
@@ -372,7 +373,7 @@ const RAW: [(Input, u32, &[Modifier]); 7] = [
 
 fn expect_raw<T: Translator>(rt: &impl Abort, console: &mut T) -> Result<(), Fail> {
     for (input, raw, on) in RAW {
-        assert_eq!(rt; console.step(event(input)?).raw(), raw);
+        expect_equal(rt, &console.step(event(input)?).raw(), &raw);
         expect_shown(rt, console, on, &[], None);
     }
     Ok(())
@@ -383,10 +384,14 @@ fn answers_as_numbers(rt: HostRuntime) -> Result<(), Fail> {
     let map = map_with_accents(rt.alloc())?;
     expect_raw(&rt, &mut PlainConsole::new(&map))?;
     expect_raw(&rt, &mut WordConsole::new(&map))?;
-    assert_eq!(rt; Answer::Special(action(FKEY01)?).raw(), 0x8200_001b);
-    assert_eq!(rt; Answer::None.raw(), 0x0100_0000);
-    assert_eq!(rt; Answer::Error.raw(), 0x2000_0000);
-    assert_eq!(rt; Answer::Char { c: 'a', meta: true }.raw(), 0x0400_0061);
+    expect_equal(&rt, &Answer::Special(action(FKEY01)?).raw(), &0x8200_001b);
+    expect_equal(&rt, &Answer::None.raw(), &0x0100_0000);
+    expect_equal(&rt, &Answer::Error.raw(), &0x2000_0000);
+    expect_equal(
+        &rt,
+        &Answer::Char { c: 'a', meta: true }.raw(),
+        &0x0400_0061,
+    );
     Ok(())
 }
 
@@ -403,9 +408,9 @@ fn expect_replay<T: Translator>(
         events.push(event(*input)?)?;
     }
     let answers = replay(alloc, console, &events)?;
-    assert_eq!(rt; answers.len(), outputs.len());
+    expect_equal(rt, &answers.len(), &outputs.len());
     for (given, output) in answers.iter().zip(outputs) {
-        assert_eq!(rt; *given, answer(*output)?);
+        expect_equal(rt, given, &answer(*output)?);
     }
     Ok(())
 }
@@ -479,7 +484,7 @@ fn expect_same_after_reset<T: Translator>(
     ];
     expect_replay(rt, alloc, first, &quiet, &answers)?;
     expect_replay(rt, alloc, second, &quiet, &answers)?;
-    assert_eq!(rt; second.step(Event::Reset), Answer::None);
+    expect_equal(rt, &second.step(Event::Reset), &Answer::None);
     expect_shift_alone(rt, alloc, first)?;
     expect_shift_alone(rt, alloc, second)
 }
@@ -510,7 +515,7 @@ fn expect_unchanged_if_refused<T: Translator>(
     console.step(event(Down(42))?);
     match replay(alloc, console, &[event(Up(42))?, event(Down(58))?]) {
         Ok(answers) => {
-            assert_eq!(rt; answers.len(), 2);
+            expect_equal(rt, &answers.len(), &2);
             expect_shown(rt, console, &[], &[Lock::Caps], None);
         }
         Err(_) => expect_shown(rt, console, &[Modifier::LeftShift], &[], None),

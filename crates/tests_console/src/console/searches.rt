@@ -1,5 +1,6 @@
 //! Keymaps that can leave a modifier on while no key is pressed, and keymaps that can't.
 
+use crate::asserts::expect_equal;
 use crate::console::expect_shown;
 use console_core::{Event, PlainConsole, Sticking, replay, sticking, sticking_between};
 use keymap_core::{KeyMap, Lock, Modifier};
@@ -26,8 +27,8 @@ fn expect_sticks(
     match sticking(alloc, &map)? {
         Sticking::Sticks(events) => {
             let presses = events.iter().filter(|event| is_press(**event)).count();
-            assert_eq!(rt; presses, counts.0);
-            assert_eq!(rt; events.len(), counts.1);
+            expect_equal(rt, &presses, &counts.0);
+            expect_equal(rt, &events.len(), &counts.1);
             let mut console = PlainConsole::new(&map);
             let _answers = replay(alloc, &mut console, events.as_slice())?;
             expect_shown(rt, &console, on, locked, None);
@@ -118,8 +119,8 @@ fn expect_sticks_between(
     match sticking_between(alloc, maps.0, maps.1)? {
         Sticking::Sticks(events) => {
             let presses = events.iter().filter(|event| is_press(**event)).count();
-            assert_eq!(rt; presses, 3);
-            assert_eq!(rt; events.len(), count);
+            expect_equal(rt, &presses, &3);
+            expect_equal(rt, &events.len(), &count);
             let mut console = PlainConsole::between(maps.0, maps.1);
             let _answers = replay(alloc, &mut console, events.as_slice())?;
             expect_shown(rt, &console, &[Modifier::LeftShift], &[Lock::Caps], None);
@@ -171,8 +172,8 @@ fn between_a_map_and_itself_sticks_what_sticks_alone(rt: HostRuntime) -> Result<
     match sticking_between(rt.alloc(), &caught, &caught)? {
         Sticking::Sticks(events) => {
             let presses = events.iter().filter(|event| is_press(**event)).count();
-            assert_eq!(rt; presses, 3);
-            assert_eq!(rt; events.len(), 5);
+            expect_equal(&rt, &presses, &3);
+            expect_equal(&rt, &events.len(), &5);
         }
         Sticking::Never | Sticking::Undecided(_) => assert!(rt; false),
     }

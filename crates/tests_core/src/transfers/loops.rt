@@ -1,5 +1,6 @@
 //! Reading up to a limit, writing whole texts, and gathering small pieces.
 
+use crate::asserts::expect_equal;
 use keymap_core::{
     FromStd, Read, ReadError, ReadFault, ReadFaultKind, Stream, ToStd, Write, WriteFault, put,
     read_up_to, write_text,
@@ -11,11 +12,11 @@ use test_devices::{Sheet, reader_of, sheet_of, slow_sheet_of};
 fn reads_end_at_the_limit(rt: HostRuntime) -> Result<(), Fail> {
     let mut reader = reader_of(b"12345", 1, 9);
     let bytes = read_up_to(rt.alloc(), &mut reader, 3)?;
-    assert_eq!(rt; bytes.as_slice(), b"123".as_slice());
+    expect_equal(&rt, &bytes.as_slice(), &b"123".as_slice());
     assert!(rt; reader.reads <= 4 && !reader.failed());
     let mut reader = reader_of(b"12345", 1, 9);
     let bytes = read_up_to(rt.alloc(), &mut reader, 7)?;
-    assert_eq!(rt; bytes.as_slice(), b"12345".as_slice());
+    expect_equal(&rt, &bytes.as_slice(), &b"12345".as_slice());
     assert!(rt; reader.reads <= 8 && !reader.failed());
     Ok(())
 }
@@ -31,7 +32,7 @@ fn a_failing_reader_is_a_fault(rt: HostRuntime) -> Result<(), Fail> {
         };
         match read_up_to(rt.alloc(), &mut reader, 7) {
             Ok(_) => return Err("the failure was taken for the end")?,
-            Err(ReadError::Read(fault)) => assert_eq!(rt; fault, wanted),
+            Err(ReadError::Read(fault)) => expect_equal(&rt, &fault, &wanted),
             Err(ReadError::Memory) => return Err(ReadError::Memory)?,
         }
         assert!(rt; reader.failed());
@@ -45,29 +46,38 @@ fn a_failing_writer_is_a_fault(rt: HostRuntime) {
     for most in 0..5usize {
         let mut writer = slow_sheet_of(1, most);
         let written = most as u64;
-        assert_eq!(rt; write_text(&mut writer, text), Err(WriteFault { written }));
+        expect_equal(
+            &rt,
+            &write_text(&mut writer, text),
+            &Err(WriteFault { written }),
+        );
         assert!(rt; writer.failed() && writer.bytes.len() == most);
         let mut writer = slow_sheet_of(1, most);
         let written = most as u64 + 9;
-        assert_eq!(rt; put(&mut writer, 9, text), Err(WriteFault { written }));
+        expect_equal(
+            &rt,
+            &put(&mut writer, 9, text),
+            &Err(WriteFault { written }),
+        );
     }
     let mut writer = slow_sheet_of(1, 5);
-    assert_eq!(rt; write_text(&mut writer, text), Ok(()));
+    expect_equal(&rt, &write_text(&mut writer, text), &Ok(()));
     assert!(rt; !writer.failed());
-    assert_eq!(rt; writer.bytes.as_slice(), text);
+    expect_equal(&rt, &writer.bytes.as_slice(), &text);
 }
 
 #[test]
 fn readers_and_writers_of_std_are_devices(rt: HostRuntime) -> Result<(), Fail> {
     let mut reader = FromStd::new(b"12345".as_slice());
     let bytes = read_up_to(rt.alloc(), &mut reader, 3)?;
-    assert_eq!(rt; bytes.as_slice(), b"123".as_slice());
+    expect_equal(&rt, &bytes.as_slice(), &b"123".as_slice());
     assert!(rt; !reader.failed());
     let mut room = [0u8; 4];
     let mut writer = ToStd::new(room.as_mut_slice());
-    assert_eq!(rt;
-        write_text(&mut writer, b"12345"),
-        Err(WriteFault { written: 4 })
+    expect_equal(
+        &rt,
+        &write_text(&mut writer, b"12345"),
+        &Err(WriteFault { written: 4 }),
     );
     assert!(rt; writer.failed());
     Ok(())
@@ -88,12 +98,16 @@ fn stream_pieces(writer: &mut Sheet) -> Result<(), WriteFault> {
 #[test]
 fn pieces_are_gathered(rt: HostRuntime) {
     let mut writer = sheet_of(9000);
-    assert_eq!(rt; stream_pieces(&mut writer), Ok(()));
-    assert_eq!(rt; (writer.bytes.len(), writer.writes), (5000, 2));
+    expect_equal(&rt, &stream_pieces(&mut writer), &Ok(()));
+    expect_equal(&rt, &(writer.bytes.len(), writer.writes), &(5000, 2));
     for most in [0, 1, 3999, 4000, 4001, 4999] {
         let mut writer = sheet_of(most);
         let written = most as u64;
-        assert_eq!(rt; stream_pieces(&mut writer), Err(WriteFault { written }));
+        expect_equal(
+            &rt,
+            &stream_pieces(&mut writer),
+            &Err(WriteFault { written }),
+        );
         assert!(rt; writer.failed());
     }
 }

@@ -2,6 +2,7 @@
 
 ghost use Rattle.std.specs.Prelude.{◌≤◌, IfOk};
 
+use crate::asserts::expect_equal;
 use keymap_core::{
     Failed, FromStd, Read, ReadError, ReadFault, ReadFaultKind, ToStd, Write, WriteFault,
     read_up_to, write_text,
@@ -69,10 +70,10 @@ fn a_read_of_std_is_passed_on_once_and_the_flag_stays(rt: HostRuntime) {
         let failed_first = device.failed();
         let second = device.read(&mut buffer);
         let failed_second = device.failed();
-        assert_eq!(rt; first, Err(Failed));
-        assert_eq!(rt; second, Ok(1));
+        expect_equal(&rt, &first, &Err(Failed));
+        expect_equal(&rt, &second, &Ok(1));
         assert!(rt; failed_first && failed_second);
-        assert_eq!(rt; reader.calls, 2);
+        expect_equal(&rt, &reader.calls, &2);
     }
 }
 
@@ -85,10 +86,10 @@ fn a_write_of_std_is_passed_on_once_and_the_flag_stays(rt: HostRuntime) {
         let failed_first = device.failed();
         let second = device.write(b"1234");
         let failed_second = device.failed();
-        assert_eq!(rt; first, Err(Failed));
-        assert_eq!(rt; second, Ok(1));
+        expect_equal(&rt, &first, &Err(Failed));
+        expect_equal(&rt, &second, &Ok(1));
         assert!(rt; failed_first && failed_second);
-        assert_eq!(rt; writer.calls, 2);
+        expect_equal(&rt, &writer.calls, &2);
     }
 }
 
@@ -101,8 +102,8 @@ fn a_failed_read_of_std_is_not_tried_again(rt: HostRuntime) -> Result<(), Fail> 
             offset: 0,
             kind: ReadFaultKind::Device,
         };
-        assert_eq!(rt; answer, Some(ReadError::Read(wanted)));
-        assert_eq!(rt; reader.calls, 1);
+        expect_equal(&rt, &answer, &Some(ReadError::Read(wanted)));
+        expect_equal(&rt, &reader.calls, &1);
     }
     Ok(())
 }
@@ -112,8 +113,8 @@ fn a_failed_write_of_std_is_not_tried_again(rt: HostRuntime) {
     for kind in KINDS {
         let mut writer = failing_once(Some(kind));
         let answer = write_text(&mut ToStd::new(&mut writer), b"1234");
-        assert_eq!(rt; answer, Err(WriteFault { written: 0 }));
-        assert_eq!(rt; writer.calls, 1);
+        expect_equal(&rt, &answer, &Err(WriteFault { written: 0 }));
+        expect_equal(&rt, &writer.calls, &1);
     }
 }
 
@@ -121,6 +122,6 @@ fn a_failed_write_of_std_is_not_tried_again(rt: HostRuntime) {
 fn a_write_of_std_that_takes_nothing_is_not_tried_again(rt: HostRuntime) {
     let mut writer = failing_once(None);
     let answer = write_text(&mut ToStd::new(&mut writer), b"1234");
-    assert_eq!(rt; answer, Err(WriteFault { written: 0 }));
-    assert_eq!(rt; writer.calls, 1);
+    expect_equal(&rt, &answer, &Err(WriteFault { written: 0 }));
+    expect_equal(&rt, &writer.calls, &1);
 }

@@ -1,5 +1,6 @@
 //! Actions, their codes and names, and key codes.
 
+use crate::asserts::expect_equal;
 use keymap_core::{Action, KeyCode, Lock, Modifier, Named};
 use std::test::Fail;
 
@@ -62,7 +63,7 @@ fn actions_have_the_codes_and_names_of_the_table(rt: HostRuntime) -> Result<(), 
         let (code, name) = *row;
         let action = Action::from_code(code).ok_or("a code without an action")?;
         assert!(rt; has_name(&action, name), "code {code}");
-        assert_eq!(rt; action.code(), code);
+        expect_equal(&rt, &action.code(), &code);
     }
     Ok(())
 }
@@ -130,9 +131,9 @@ fn numbers_of_many_digits_are_read(rt: HostRuntime) -> Result<(), Fail> {
     word[3] = b'y';
     word[203] = b'7';
     let seven = Action::from_code(0x1b + 6).ok_or("a code without an action")?;
-    assert_eq!(rt; Action::named(&word), Named::Action(seven));
+    expect_equal(&rt, &Action::named(&word), &Named::Action(seven));
     word[4] = b'1';
-    assert_eq!(rt; Action::named(&word), Named::OutOfRange);
+    expect_equal(&rt, &Action::named(&word), &Named::OutOfRange);
     Ok(())
 }
 
@@ -142,20 +143,28 @@ fn holding_actions_are_the_modifiers_and_locks(rt: HostRuntime) {
     for code in 0..=255u8 {
         if let Some(action) = Action::from_code(code) {
             if let Some(holding) = action.holding() {
-                assert_eq!(rt; holding.action(), action);
+                expect_equal(&rt, &holding.action(), &action);
                 count = count.saturating_add(1);
             }
         }
     }
-    assert_eq!(rt; count, 12);
+    expect_equal(&rt, &count, &12);
     let meta = Action::Mod(Modifier::Meta);
-    assert_eq!(rt; meta.holding().map(|holding| holding.index()), Some(7));
+    expect_equal(
+        &rt,
+        &meta.holding().map(|holding| holding.index()),
+        &Some(7),
+    );
     let caps = Action::Lock(Lock::Caps);
-    assert_eq!(rt; caps.holding().map(|holding| holding.index()), Some(8));
+    expect_equal(
+        &rt,
+        &caps.holding().map(|holding| holding.index()),
+        &Some(8),
+    );
 }
 
 #[test]
 fn key_codes_end_at_127(rt: HostRuntime) {
-    assert_eq!(rt; KeyCode::new(127).map(|key| key.get()), Some(127));
-    assert_eq!(rt; KeyCode::new(128), None);
+    expect_equal(&rt, &KeyCode::new(127).map(|key| key.get()), &Some(127));
+    expect_equal(&rt, &KeyCode::new(128), &None);
 }

@@ -1,5 +1,6 @@
 //! Keymaps and their accents.
 
+use crate::asserts::expect_equal;
 use keymap_core::{Accent, Action, BadAccent, Cell, Entry, KeyMap, LockFlag, PairFault};
 use std::test::Fail;
 
@@ -9,10 +10,14 @@ fn an_accent_takes_52_pairs(rt: HostRuntime) -> Result<(), Fail> {
     for _ in 0..52 {
         accent.push_pair('a', '\u{e0}')?;
     }
-    assert_eq!(rt; accent.push_pair('\0', 'a'), Err(PairFault::ZeroBase));
-    assert_eq!(rt; accent.push_pair('a', 'b'), Err(PairFault::TooManyPairs));
-    assert_eq!(rt; accent.pairs().len(), 52);
-    assert_eq!(rt; accent.own(), '`');
+    expect_equal(&rt, &accent.push_pair('\0', 'a'), &Err(PairFault::ZeroBase));
+    expect_equal(
+        &rt,
+        &accent.push_pair('a', 'b'),
+        &Err(PairFault::TooManyPairs),
+    );
+    expect_equal(&rt, &accent.pairs().len(), &52);
+    expect_equal(&rt, &accent.own(), &'`');
     Ok(())
 }
 
@@ -23,18 +28,22 @@ fn accents_end_at_14(rt: HostRuntime) -> Result<(), Fail> {
     acute.push_pair('e', '\u{e9}')?;
     acute.push_pair('E', '\u{c9}')?;
     map.set_accent(1, acute)?;
-    assert_eq!(rt; map.n_accs(), 2);
-    assert_eq!(rt; map.accent(1).map(|accent| accent.pairs().len()), Some(2));
+    expect_equal(&rt, &map.n_accs(), &2);
+    expect_equal(
+        &rt,
+        &map.accent(1).map(|accent| accent.pairs().len()),
+        &Some(2),
+    );
     map.set_accent(4, Accent::new('\0'))?;
-    assert_eq!(rt; map.n_accs(), 5);
-    assert_eq!(rt; map.accent(4).map(|accent| accent.own()), Some('\0'));
+    expect_equal(&rt, &map.n_accs(), &5);
+    expect_equal(&rt, &map.accent(4).map(|accent| accent.own()), &Some('\0'));
     map.set_accent(14, Accent::new('x'))?;
-    assert_eq!(rt; map.n_accs(), 15);
+    expect_equal(&rt, &map.n_accs(), &15);
     let mut only_the_last = KeyMap::new(rt.alloc())?;
     only_the_last.set_accent(14, Accent::new('x'))?;
-    assert_eq!(rt; only_the_last.n_accs(), 15);
+    expect_equal(&rt, &only_the_last.n_accs(), &15);
     let before = map.try_clone(rt.alloc())?;
-    assert_eq!(rt; map.set_accent(15, Accent::new('y')), Err(BadAccent));
+    expect_equal(&rt, &map.set_accent(15, Accent::new('y')), &Err(BadAccent));
     assert!(rt; map == before);
     Ok(())
 }
@@ -47,21 +56,21 @@ fn slots_end_at_255(rt: HostRuntime) -> Result<(), Fail> {
         flag: LockFlag::O,
     };
     map.set(255, nops);
-    assert_eq!(rt; map.n_keys(), 256);
-    assert_eq!(rt; *map.entry(255), nops);
+    expect_equal(&rt, &map.n_keys(), &256);
+    expect_equal(&rt, map.entry(255), &nops);
     map.set(3, nops);
-    assert_eq!(rt; map.n_keys(), 256);
-    assert_eq!(rt; *map.entry(3), nops);
-    assert_eq!(rt; *map.entry(4), Entry::undefined());
+    expect_equal(&rt, &map.n_keys(), &256);
+    expect_equal(&rt, map.entry(3), &nops);
+    expect_equal(&rt, map.entry(4), &Entry::undefined());
     Ok(())
 }
 
 #[test]
 fn a_new_map_has_no_keys(rt: HostRuntime) -> Result<(), Fail> {
     let map = KeyMap::new(rt.alloc())?;
-    assert_eq!(rt; map.n_keys(), 0);
-    assert_eq!(rt; map.n_accs(), 0);
-    assert_eq!(rt; *map.entry(0), Entry::undefined());
+    expect_equal(&rt, &map.n_keys(), &0);
+    expect_equal(&rt, &map.n_accs(), &0);
+    expect_equal(&rt, map.entry(0), &Entry::undefined());
     assert!(rt; map.accent(0).is_none());
     Ok(())
 }
@@ -77,8 +86,8 @@ fn a_copy_is_equal(rt: HostRuntime) -> Result<(), Fail> {
     map.set_accent(2, Accent::new('^'))?;
     let copy = map.try_clone(rt.alloc())?;
     assert!(rt; copy == map);
-    assert_eq!(rt; (map.n_keys(), map.n_accs()), (38, 3));
-    assert_eq!(rt; *map.entry(37), entry);
-    assert_eq!(rt; map.accent(2).map(|accent| accent.own()), Some('^'));
+    expect_equal(&rt, &(map.n_keys(), map.n_accs()), &(38, 3));
+    expect_equal(&rt, map.entry(37), &entry);
+    expect_equal(&rt, &map.accent(2).map(|accent| accent.own()), &Some('^'));
     Ok(())
 }

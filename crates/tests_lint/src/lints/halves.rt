@@ -1,5 +1,6 @@
 //! Texts that select the slots from 128 on without defining them, or define them without selecting them.
 
+use crate::asserts::expect_equal;
 use crate::lints::{
     at, expect, expect_lists, expect_not_searched, expect_sticks, finding, nowhere,
 };
@@ -26,7 +27,7 @@ fn a_letter_without_its_upper_half_is_a_warning(rt: HostRuntime) -> Result<(), F
     let lint = expect(&rt, rt.alloc(), text, &[at(101, kind)])?;
     expect_lists(&rt, &lint, &[158], &[], &[], &[]);
     expect_not_searched(&rt, &lint);
-    assert_eq!(rt; kind.severity(lint.never_sticks()), Severity::Warning);
+    expect_equal(&rt, &kind.severity(lint.never_sticks()), &Severity::Warning);
     Ok(())
 }
 
@@ -58,7 +59,7 @@ fn modifiers_without_their_upper_half_are_an_error(rt: HostRuntime) -> Result<()
     let lint = expect(&rt, rt.alloc(), texts::ALT_SHIFT_WITH_TRAP, &[at(66, kind)])?;
     expect_lists(&rt, &lint, &[170, 221], &[42, 93], &[], &[]);
     expect_sticks(&rt, &lint, 3);
-    assert_eq!(rt; kind.severity(lint.never_sticks()), Severity::Error);
+    expect_equal(&rt, &kind.severity(lint.never_sticks()), &Severity::Error);
     Ok(())
 }
 
@@ -77,7 +78,7 @@ fn locks_without_their_upper_half_are_a_warning(rt: HostRuntime) -> Result<(), F
     let lint = expect(&rt, rt.alloc(), text, &wanted)?;
     expect_lists(&rt, &lint, &[186], &[58], &[], &[]);
     assert!(rt; lint.never_sticks());
-    assert_eq!(rt; kind.severity(lint.never_sticks()), Severity::Warning);
+    expect_equal(&rt, &kind.severity(lint.never_sticks()), &Severity::Warning);
     Ok(())
 }
 

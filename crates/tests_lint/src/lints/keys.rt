@@ -1,5 +1,6 @@
 //! Texts without keys or without shift, and keys with a modifier or lock and a character.
 
+use crate::asserts::expect_equal;
 use crate::lints::{
     at, expect, expect_lists, expect_not_searched, expect_sticks, finding, nowhere,
 };
@@ -76,7 +77,7 @@ fn a_mixed_key_that_lets_a_modifier_stick_is_an_error(rt: HostRuntime) -> Result
     let lint = expect(&rt, rt.alloc(), texts::SHIFT_WITH_TRAP, &[at(58, kind)])?;
     expect_sticks(&rt, &lint, 5);
     expect_lists(&rt, &lint, &[], &[], &[], &[]);
-    assert_eq!(rt; kind.severity(lint.never_sticks()), Severity::Error);
+    expect_equal(&rt, &kind.severity(lint.never_sticks()), &Severity::Error);
     Ok(())
 }
 
@@ -93,7 +94,7 @@ fn a_mixed_key_that_lets_nothing_stick_is_a_warning(rt: HostRuntime) -> Result<(
     let lint = expect(&rt, rt.alloc(), text, &[at(68, kind)])?;
     assert!(rt; lint.sticking.is_some());
     assert!(rt; lint.never_sticks());
-    assert_eq!(rt; kind.severity(lint.never_sticks()), Severity::Warning);
+    expect_equal(&rt, &kind.severity(lint.never_sticks()), &Severity::Warning);
     Ok(())
 }
 

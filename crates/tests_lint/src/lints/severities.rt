@@ -1,5 +1,6 @@
 //! How much each kind weighs.
 
+use crate::asserts::expect_equal;
 use crate::lints::finding;
 use keymap_core::{Holding, Modifier};
 use keymap_lint::{Kind, Severity};
@@ -26,8 +27,8 @@ fn faults_and_texts_without_keys_are_errors(rt: HostRuntime) {
         wanted: place,
     };
     for never_sticks in [false, true] {
-        assert_eq!(rt; fault.severity(never_sticks), Severity::Error);
-        assert_eq!(rt; Kind::NoKey.severity(never_sticks), Severity::Error);
+        expect_equal(&rt, &fault.severity(never_sticks), &Severity::Error);
+        expect_equal(&rt, &Kind::NoKey.severity(never_sticks), &Severity::Error);
     }
 }
 
@@ -38,10 +39,10 @@ fn keys_with_both_are_errors_unless_nothing_sticks(rt: HostRuntime) -> Result<()
         character: 'x',
         is_noted: true,
     };
-    assert_eq!(rt; mixed.severity(false), Severity::Error);
-    assert_eq!(rt; mixed.severity(true), Severity::Warning);
-    assert_eq!(rt; half(true).severity(false), Severity::Error);
-    assert_eq!(rt; half(true).severity(true), Severity::Warning);
+    expect_equal(&rt, &mixed.severity(false), &Severity::Error);
+    expect_equal(&rt, &mixed.severity(true), &Severity::Warning);
+    expect_equal(&rt, &half(true).severity(false), &Severity::Error);
+    expect_equal(&rt, &half(true).severity(true), &Severity::Warning);
     Ok(())
 }
 
@@ -67,7 +68,7 @@ fn all_others_are_warnings(rt: HostRuntime) {
         Kind::BareDigit { character: '\x01' },
     ];
     for kind in kinds {
-        assert_eq!(rt; kind.severity(false), Severity::Warning);
-        assert_eq!(rt; kind.severity(true), Severity::Warning);
+        expect_equal(&rt, &kind.severity(false), &Severity::Warning);
+        expect_equal(&rt, &kind.severity(true), &Severity::Warning);
     }
 }

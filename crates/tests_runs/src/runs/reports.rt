@@ -1,5 +1,6 @@
 //! The reports of the check.
 
+use crate::asserts::expect_equal;
 use crate::runs::{ENDLESS, READS, settled, stopped, written};
 use keymap_core::{Read, Write};
 use keymap_text::{TextFault, TextFaultKind};
@@ -100,8 +101,8 @@ fn reports_are_as_published(rt: HostRuntime) -> Result<(), Fail> {
         let mut reader = reader_of(text, 1, usize::MAX);
         let mut writer = slow_sheet_of(1, usize::MAX);
         let answer = check_run(rt.alloc(), &mut reader, show, &mut writer);
-        assert_eq!(rt; settled(answer, &writer)?, Ok(accepted));
-        assert_eq!(rt; writer.bytes.as_slice(), report);
+        expect_equal(&rt, &settled(answer, &writer)?, &Ok(accepted));
+        expect_equal(&rt, &writer.bytes.as_slice(), &report);
         assert!(rt; !reader.failed() && !writer.failed());
     }
     Ok(())
@@ -125,7 +126,7 @@ fn locks_are_steady_where_one_key_acts(rt: HostRuntime) -> Result<(), Fail> {
         let mut reader = reader_of(text, 1, usize::MAX);
         let mut writer = slow_sheet_of(1, usize::MAX);
         let answer = check_run(rt.alloc(), &mut reader, false, &mut writer);
-        assert_eq!(rt; settled(answer, &writer)?, Ok(true));
+        expect_equal(&rt, &settled(answer, &writer)?, &Ok(true));
         assert!(rt; has_line(writer.bytes.as_slice(), line), "{line:?}");
     }
     Ok(())
@@ -141,7 +142,7 @@ fn faults_of_a_text_are_answered(rt: HostRuntime) -> Result<(), Fail> {
     let mut reader = reader_of(b"1 'ab'", 1, usize::MAX);
     let mut writer = slow_sheet_of(1, usize::MAX);
     let answer = check_run(rt.alloc(), &mut reader, false, &mut writer);
-    assert_eq!(rt; settled(answer, &writer)?, Err(RunError::Text(fault)));
+    expect_equal(&rt, &settled(answer, &writer)?, &Err(RunError::Text(fault)));
     assert!(rt; writer.bytes.is_empty() && !writer.failed());
     Ok(())
 }
@@ -152,7 +153,7 @@ fn a_text_without_end_is_a_fault(rt: HostRuntime) -> Result<(), Fail> {
     let mut writer = slow_sheet_of(1, usize::MAX);
     let answer = check_run(rt.alloc(), &mut reader, true, &mut writer);
     let wanted = Err(RunError::ReadText(ENDLESS));
-    assert_eq!(rt; settled(answer, &writer)?, wanted);
+    expect_equal(&rt, &settled(answer, &writer)?, &wanted);
     assert!(rt; reader.reads <= READS && !reader.failed());
     assert!(rt; writer.bytes.is_empty() && !writer.failed());
     Ok(())
@@ -165,7 +166,7 @@ fn a_text_that_stops_is_a_fault(rt: HostRuntime) -> Result<(), Fail> {
         let mut writer = slow_sheet_of(1, usize::MAX);
         let answer = check_run(rt.alloc(), &mut reader, false, &mut writer);
         let wanted = Err(RunError::ReadText(stopped(most)));
-        assert_eq!(rt; settled(answer, &writer)?, wanted);
+        expect_equal(&rt, &settled(answer, &writer)?, &wanted);
         assert!(rt; reader.failed() && writer.bytes.is_empty() && !writer.failed());
     }
     Ok(())
@@ -178,9 +179,13 @@ fn a_report_that_stops_is_a_fault(rt: HostRuntime) -> Result<(), Fail> {
         let mut reader = reader_of(SHIFT_WITH_TRAP, 1, usize::MAX);
         let mut writer = slow_sheet_of(1, most);
         let answer = check_run(rt.alloc(), &mut reader, true, &mut writer);
-        assert_eq!(rt; settled(answer, &writer)?, written(false, most, size));
-        assert_eq!(rt; writer.bytes.as_slice(), &SHOWN_SHIFT_WITH_TRAP[..most]);
-        assert_eq!(rt; writer.failed(), most < size);
+        expect_equal(&rt, &settled(answer, &writer)?, &written(false, most, size));
+        expect_equal(
+            &rt,
+            &writer.bytes.as_slice(),
+            &&SHOWN_SHIFT_WITH_TRAP[..most],
+        );
+        expect_equal(&rt, &writer.failed(), &(most < size));
     }
     Ok(())
 }

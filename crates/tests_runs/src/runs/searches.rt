@@ -1,5 +1,6 @@
 //! What the search for sticking modifiers writes.
 
+use crate::asserts::expect_equal;
 use crate::runs::{ENDLESS, READS, settled, stopped, written};
 use keymap_core::{Read, Write};
 use keymap_text::{TextFault, TextFaultKind};
@@ -43,12 +44,13 @@ fn what_is_found_is_written_as_a_script(rt: HostRuntime) -> Result<(), Fail> {
             let mut reader = reader_of(text, 7, usize::MAX);
             let mut writer = slow_sheet_of(1, most);
             let answer = search_run(rt.alloc(), &mut reader, &mut writer);
-            assert_eq!(rt;
-                settled(answer, &writer)?,
-                written(never, most, script.len())
+            expect_equal(
+                &rt,
+                &settled(answer, &writer)?,
+                &written(never, most, script.len()),
             );
-            assert_eq!(rt; writer.bytes.as_slice(), &script[..most]);
-            assert_eq!(rt; writer.failed(), most < script.len());
+            expect_equal(&rt, &writer.bytes.as_slice(), &&script[..most]);
+            expect_equal(&rt, &writer.failed(), &(most < script.len()));
         }
     }
     Ok(())
@@ -64,7 +66,7 @@ fn a_faulty_text_is_not_searched(rt: HostRuntime) -> Result<(), Fail> {
     let mut reader = reader_of(b"1 '", 1, usize::MAX);
     let mut writer = slow_sheet_of(1, usize::MAX);
     let answer = search_run(rt.alloc(), &mut reader, &mut writer);
-    assert_eq!(rt; settled(answer, &writer)?, Err(RunError::Text(fault)));
+    expect_equal(&rt, &settled(answer, &writer)?, &Err(RunError::Text(fault)));
     assert!(rt; writer.bytes.is_empty() && !writer.failed());
     Ok(())
 }
@@ -75,7 +77,7 @@ fn a_text_without_end_is_not_searched(rt: HostRuntime) -> Result<(), Fail> {
     let mut writer = slow_sheet_of(1, usize::MAX);
     let answer = search_run(rt.alloc(), &mut reader, &mut writer);
     let wanted = Err(RunError::ReadText(ENDLESS));
-    assert_eq!(rt; settled(answer, &writer)?, wanted);
+    expect_equal(&rt, &settled(answer, &writer)?, &wanted);
     assert!(rt; reader.reads <= READS && !reader.failed());
     assert!(rt; writer.bytes.is_empty() && !writer.failed());
     Ok(())
@@ -88,7 +90,7 @@ fn a_text_that_stops_is_not_searched(rt: HostRuntime) -> Result<(), Fail> {
         let mut writer = slow_sheet_of(1, usize::MAX);
         let answer = search_run(rt.alloc(), &mut reader, &mut writer);
         let wanted = Err(RunError::ReadText(stopped(most)));
-        assert_eq!(rt; settled(answer, &writer)?, wanted);
+        expect_equal(&rt, &settled(answer, &writer)?, &wanted);
         assert!(rt; reader.failed() && writer.bytes.is_empty() && !writer.failed());
     }
     Ok(())
@@ -119,12 +121,13 @@ fn what_is_found_between_two_is_written_as_a_script(rt: HostRuntime) -> Result<(
             let mut next = reader_of(second, 5, usize::MAX);
             let mut writer = slow_sheet_of(1, most);
             let answer = search_next_run(rt.alloc(), &mut text, &mut next, &mut writer);
-            assert_eq!(rt;
-                settled(answer, &writer)?,
-                written(never, most, script.len())
+            expect_equal(
+                &rt,
+                &settled(answer, &writer)?,
+                &written(never, most, script.len()),
             );
-            assert_eq!(rt; writer.bytes.as_slice(), &script[..most]);
-            assert_eq!(rt; writer.failed(), most < script.len());
+            expect_equal(&rt, &writer.bytes.as_slice(), &&script[..most]);
+            expect_equal(&rt, &writer.failed(), &(most < script.len()));
         }
     }
     Ok(())
@@ -145,7 +148,7 @@ fn the_first_fault_of_two_texts_is_told(rt: HostRuntime) -> Result<(), Fail> {
         let mut next = reader_of(b"1 '", 1, usize::MAX);
         let mut writer = slow_sheet_of(1, usize::MAX);
         let answer = search_next_run(rt.alloc(), &mut text, &mut next, &mut writer);
-        assert_eq!(rt; settled(answer, &writer)?, Err(wanted));
+        expect_equal(&rt, &settled(answer, &writer)?, &Err(wanted));
         assert!(rt; writer.bytes.is_empty() && !writer.failed());
     }
     Ok(())
@@ -159,7 +162,7 @@ fn a_next_text_that_stops_is_not_searched(rt: HostRuntime) -> Result<(), Fail> {
         let mut writer = slow_sheet_of(1, usize::MAX);
         let answer = search_next_run(rt.alloc(), &mut text, &mut next, &mut writer);
         let wanted = Err(RunError::ReadNext(stopped(most)));
-        assert_eq!(rt; settled(answer, &writer)?, wanted);
+        expect_equal(&rt, &settled(answer, &writer)?, &wanted);
         assert!(rt; !text.failed() && next.failed());
         assert!(rt; writer.bytes.is_empty() && !writer.failed());
     }

@@ -1,5 +1,6 @@
 //! Tables that are printed.
 
+use crate::asserts::expect_equal;
 use crate::runs::{settled, stopped, written};
 use keymap_core::{Read, Write};
 use keymap_tables::{TableFault, TableFaultKind, write_narrow, write_tables};
@@ -25,7 +26,7 @@ fn tables_of_zeros_print_as_nothing(rt: HostRuntime) -> Result<(), Fail> {
     let mut reader = reader_of(&[0; TABLES], 1, usize::MAX);
     let mut writer = slow_sheet_of(1, 0);
     let answer = dump_run(rt.alloc(), &mut reader, &mut writer);
-    assert_eq!(rt; settled(answer, &writer)?, Ok(()));
+    expect_equal(&rt, &settled(answer, &writer)?, &Ok(()));
     assert!(rt; writer.bytes.is_empty() && !writer.failed());
     Ok(())
 }
@@ -40,7 +41,11 @@ fn faults_of_tables_are_answered(rt: HostRuntime) -> Result<(), Fail> {
     let mut reader = reader_of(&tables, 1, usize::MAX);
     let mut writer = slow_sheet_of(1, usize::MAX);
     let answer = dump_run(rt.alloc(), &mut reader, &mut writer);
-    assert_eq!(rt; settled(answer, &writer)?, Err(RunError::Tables(fault)));
+    expect_equal(
+        &rt,
+        &settled(answer, &writer)?,
+        &Err(RunError::Tables(fault)),
+    );
     assert!(rt; writer.bytes.is_empty() && !writer.failed());
     Ok(())
 }
@@ -53,7 +58,7 @@ fn tables_that_stop_are_a_fault(rt: HostRuntime) -> Result<(), Fail> {
         let mut writer = slow_sheet_of(1, usize::MAX);
         let answer = dump_run(rt.alloc(), &mut reader, &mut writer);
         let wanted = Err(RunError::ReadTables(stopped(most)));
-        assert_eq!(rt; settled(answer, &writer)?, wanted);
+        expect_equal(&rt, &settled(answer, &writer)?, &wanted);
         assert!(rt; reader.failed() && writer.bytes.is_empty() && !writer.failed());
     }
     Ok(())
@@ -68,7 +73,11 @@ fn tables_without_end_are_a_fault(rt: HostRuntime) -> Result<(), Fail> {
     let mut reader = endless_blanks();
     let mut writer = slow_sheet_of(1, usize::MAX);
     let answer = dump_run(rt.alloc(), &mut reader, &mut writer);
-    assert_eq!(rt; settled(answer, &writer)?, Err(RunError::Tables(fault)));
+    expect_equal(
+        &rt,
+        &settled(answer, &writer)?,
+        &Err(RunError::Tables(fault)),
+    );
     assert!(rt; reader.reads <= 15_526 && !reader.failed());
     assert!(rt; writer.bytes.is_empty() && !writer.failed());
     Ok(())
@@ -85,9 +94,13 @@ fn tables_print_as_their_map(rt: HostRuntime) -> Result<(), Fail> {
         let mut reader = reader_of(tables.bytes.as_slice(), 1, usize::MAX);
         let mut writer = slow_sheet_of(1, most);
         let answer = dump_run(rt.alloc(), &mut reader, &mut writer);
-        assert_eq!(rt; settled(answer, &writer)?, written((), most, PRINTED.len()));
-        assert_eq!(rt; writer.bytes.as_slice(), &PRINTED[..most]);
-        assert_eq!(rt; writer.failed(), most < PRINTED.len());
+        expect_equal(
+            &rt,
+            &settled(answer, &writer)?,
+            &written((), most, PRINTED.len()),
+        );
+        expect_equal(&rt, &writer.bytes.as_slice(), &&PRINTED[..most]);
+        expect_equal(&rt, &writer.failed(), &(most < PRINTED.len()));
     }
     Ok(())
 }
@@ -116,15 +129,19 @@ fn narrow_files_print_as_their_map(rt: HostRuntime) -> Result<(), Fail> {
     let map = read_map(rt.alloc(), LETTER_AND_SHIFT)?;
     let mut narrow = slow_sheet_of(1, usize::MAX);
     write_narrow(&map, &mut narrow)?;
-    assert_eq!(rt; narrow.bytes.len(), NARROW);
+    expect_equal(&rt, &narrow.bytes.len(), &NARROW);
     let printed = letter_and_shift_printed(rt.alloc())?;
     for most in 0..=printed.len() {
         let mut reader = reader_of(narrow.bytes.as_slice(), 512, usize::MAX);
         let mut writer = slow_sheet_of(1, most);
         let answer = dump_narrow_run(rt.alloc(), &mut reader, &mut writer);
-        assert_eq!(rt; settled(answer, &writer)?, written((), most, printed.len()));
-        assert_eq!(rt; writer.bytes.as_slice(), &printed.as_slice()[..most]);
-        assert_eq!(rt; writer.failed(), most < printed.len());
+        expect_equal(
+            &rt,
+            &settled(answer, &writer)?,
+            &written((), most, printed.len()),
+        );
+        expect_equal(&rt, &writer.bytes.as_slice(), &&printed.as_slice()[..most]);
+        expect_equal(&rt, &writer.failed(), &(most < printed.len()));
     }
     Ok(())
 }
@@ -136,7 +153,7 @@ fn narrow_files_that_stop_are_a_fault(rt: HostRuntime) -> Result<(), Fail> {
         let mut writer = slow_sheet_of(1, usize::MAX);
         let answer = dump_narrow_run(rt.alloc(), &mut reader, &mut writer);
         let wanted = Err(RunError::ReadTables(stopped(most)));
-        assert_eq!(rt; settled(answer, &writer)?, wanted);
+        expect_equal(&rt, &settled(answer, &writer)?, &wanted);
         assert!(rt; reader.failed() && writer.bytes.is_empty() && !writer.failed());
     }
     Ok(())
@@ -151,7 +168,11 @@ fn narrow_files_without_end_are_a_fault(rt: HostRuntime) -> Result<(), Fail> {
     let mut reader = endless_blanks();
     let mut writer = slow_sheet_of(1, usize::MAX);
     let answer = dump_narrow_run(rt.alloc(), &mut reader, &mut writer);
-    assert_eq!(rt; settled(answer, &writer)?, Err(RunError::Tables(fault)));
+    expect_equal(
+        &rt,
+        &settled(answer, &writer)?,
+        &Err(RunError::Tables(fault)),
+    );
     assert!(rt; reader.reads <= 4_141 && !reader.failed());
     assert!(rt; writer.bytes.is_empty() && !writer.failed());
     Ok(())
@@ -166,7 +187,11 @@ fn tables_are_no_narrow_file(rt: HostRuntime) -> Result<(), Fail> {
     let mut reader = reader_of(&[0; TABLES], 512, usize::MAX);
     let mut writer = slow_sheet_of(1, usize::MAX);
     let answer = dump_narrow_run(rt.alloc(), &mut reader, &mut writer);
-    assert_eq!(rt; settled(answer, &writer)?, Err(RunError::Tables(fault)));
+    expect_equal(
+        &rt,
+        &settled(answer, &writer)?,
+        &Err(RunError::Tables(fault)),
+    );
     assert!(rt; writer.bytes.is_empty());
     Ok(())
 }

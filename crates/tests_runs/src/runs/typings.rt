@@ -1,5 +1,6 @@
 //! The scripts that type sentences.
 
+use crate::asserts::expect_equal;
 use crate::runs::{ENDLESS, READS, settled, stopped, written};
 use keymap_core::{Read, Write};
 use keymap_text::{TextFault, TextFaultKind};
@@ -36,9 +37,13 @@ fn a_sentence_is_written_as_a_script(rt: HostRuntime) -> Result<(), Fail> {
             let mut bytes = reader_of(sentence, 1, usize::MAX);
             let mut writer = slow_sheet_of(1, most);
             let answer = type_run(rt.alloc(), &mut reader, &mut bytes, &mut writer);
-            assert_eq!(rt; settled(answer, &writer)?, written((), most, script.len()));
-            assert_eq!(rt; writer.bytes.as_slice(), &script[..most]);
-            assert_eq!(rt; writer.failed(), most < script.len());
+            expect_equal(
+                &rt,
+                &settled(answer, &writer)?,
+                &written((), most, script.len()),
+            );
+            expect_equal(&rt, &writer.bytes.as_slice(), &&script[..most]);
+            expect_equal(&rt, &writer.failed(), &(most < script.len()));
         }
     }
     Ok(())
@@ -59,7 +64,7 @@ fn a_sentence_that_no_key_types_is_a_fault(rt: HostRuntime) -> Result<(), Fail> 
         let mut bytes = reader_of(sentence, 64, usize::MAX);
         let mut writer = slow_sheet_of(1, usize::MAX);
         let answer = type_run(rt.alloc(), &mut reader, &mut bytes, &mut writer);
-        assert_eq!(rt; settled(answer, &writer)?, Err(fault));
+        expect_equal(&rt, &settled(answer, &writer)?, &Err(fault));
         assert!(rt; writer.bytes.is_empty() && !writer.failed());
     }
     Ok(())
@@ -80,7 +85,7 @@ fn a_faulty_text_types_nothing(rt: HostRuntime) -> Result<(), Fail> {
         &mut bytes,
         &mut writer,
     );
-    assert_eq!(rt; settled(answer, &writer)?, Err(RunError::Text(fault)));
+    expect_equal(&rt, &settled(answer, &writer)?, &Err(RunError::Text(fault)));
     assert!(rt; !bytes.failed() && writer.bytes.is_empty() && !writer.failed());
     Ok(())
 }
@@ -93,7 +98,7 @@ fn a_sentence_that_stops_types_nothing(rt: HostRuntime) -> Result<(), Fail> {
         let mut writer = slow_sheet_of(1, usize::MAX);
         let answer = type_run(rt.alloc(), &mut reader, &mut bytes, &mut writer);
         let wanted = Err(RunError::ReadSentence(stopped(most)));
-        assert_eq!(rt; settled(answer, &writer)?, wanted);
+        expect_equal(&rt, &settled(answer, &writer)?, &wanted);
         assert!(rt; bytes.failed() && !reader.failed() && writer.bytes.is_empty());
     }
     Ok(())
@@ -107,7 +112,7 @@ fn a_text_that_stops_types_nothing(rt: HostRuntime) -> Result<(), Fail> {
         let mut writer = slow_sheet_of(1, usize::MAX);
         let answer = type_run(rt.alloc(), &mut reader, &mut bytes, &mut writer);
         let wanted = Err(RunError::ReadText(stopped(most)));
-        assert_eq!(rt; settled(answer, &writer)?, wanted);
+        expect_equal(&rt, &settled(answer, &writer)?, &wanted);
         assert!(rt; reader.failed() && !bytes.failed() && writer.bytes.is_empty());
     }
     Ok(())
@@ -120,7 +125,7 @@ fn a_sentence_without_end_types_nothing(rt: HostRuntime) -> Result<(), Fail> {
     let mut writer = slow_sheet_of(1, usize::MAX);
     let answer = type_run(rt.alloc(), &mut reader, &mut sentence, &mut writer);
     let wanted = Err(RunError::ReadSentence(ENDLESS));
-    assert_eq!(rt; settled(answer, &writer)?, wanted);
+    expect_equal(&rt, &settled(answer, &writer)?, &wanted);
     assert!(rt; sentence.reads <= READS && !sentence.failed());
     assert!(rt; writer.bytes.is_empty() && !writer.failed());
     Ok(())
@@ -133,7 +138,7 @@ fn a_text_without_end_types_nothing(rt: HostRuntime) -> Result<(), Fail> {
     let mut writer = slow_sheet_of(1, usize::MAX);
     let answer = type_run(rt.alloc(), &mut reader, &mut sentence, &mut writer);
     let wanted = Err(RunError::ReadText(ENDLESS));
-    assert_eq!(rt; settled(answer, &writer)?, wanted);
+    expect_equal(&rt, &settled(answer, &writer)?, &wanted);
     assert!(rt; reader.reads <= READS && !reader.failed());
     assert!(rt; !sentence.failed() && writer.bytes.is_empty() && !writer.failed());
     Ok(())

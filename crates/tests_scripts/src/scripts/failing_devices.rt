@@ -1,5 +1,6 @@
 //! Texts and scripts that fail after each number of bytes: `play` names the device and writes nothing.
 
+use crate::asserts::expect_equal;
 use crate::scripts::settled;
 use keymap_core::{Read, ReadFault, ReadFaultKind, Write};
 use play_core::{PlayError, Show, Source, play};
@@ -33,9 +34,13 @@ fn assert_stops(
             offset: text_most.min(script_most) as u64,
             kind: ReadFaultKind::Device,
         };
-        assert_eq!(rt; settled(answer, &out)?, Err(PlayError::Read(source, fault)));
-        assert_eq!(rt; text.failed(), source == Source::Text);
-        assert_eq!(rt; script.failed(), source == Source::Script);
+        expect_equal(
+            rt,
+            &settled(answer, &out)?,
+            &Err(PlayError::Read(source, fault)),
+        );
+        expect_equal(rt, &text.failed(), &(source == Source::Text));
+        expect_equal(rt, &script.failed(), &(source == Source::Script));
         assert!(rt; out.writes == 0 && !out.failed());
     }
     Ok(())

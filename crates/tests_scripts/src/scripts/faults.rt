@@ -1,5 +1,6 @@
 //! Faults of what was read, named with their source and place before anything is written.
 
+use crate::asserts::expect_equal;
 use crate::scripts::{play_next_texts, play_texts, settled};
 use keymap_core::{FromStd, ReadFault, ReadFaultKind};
 use keymap_text::{TextFault, TextFaultKind};
@@ -39,7 +40,7 @@ fn faults_of_a_text_are_named(rt: HostRuntime) -> Result<(), Fail> {
         )?;
         let wanted = PlayError::Text(fault_at(offset, kind));
         assert_eq!(rt; answer, Err(wanted), "{text}");
-        assert_eq!(rt; out.writes, 0);
+        expect_equal(&rt, &out.writes, &0);
     }
     Ok(())
 }
@@ -57,7 +58,7 @@ fn faults_of_a_next_text_are_named(rt: HostRuntime) -> Result<(), Fail> {
         )?;
         let wanted = PlayError::Next(fault_at(offset, kind));
         assert_eq!(rt; answer, Err(wanted), "{next}");
-        assert_eq!(rt; out.writes, 0);
+        expect_equal(&rt, &out.writes, &0);
     }
     Ok(())
 }
@@ -67,8 +68,8 @@ fn the_first_text_is_judged_before_the_next(rt: HostRuntime) -> Result<(), Fail>
     let mut out = sheet_of(usize::MAX);
     let answer = play_next_texts(rt.alloc(), b"256", b"1 '", b"down 300", &mut out)?;
     let wanted = PlayError::Text(fault_at(0, TextFaultKind::KeyTooLarge));
-    assert_eq!(rt; answer, Err(wanted));
-    assert_eq!(rt; out.writes, 0);
+    expect_equal(&rt, &answer, &Err(wanted));
+    expect_equal(&rt, &out.writes, &0);
     Ok(())
 }
 
@@ -93,7 +94,7 @@ fn faults_of_a_script_are_named(rt: HostRuntime) -> Result<(), Fail> {
         let answer = play_texts(rt.alloc(), Show::Lines, text, script.as_bytes(), &mut out)?;
         let wanted = PlayError::Script(fault);
         assert_eq!(rt; answer, Err(wanted), "{script}");
-        assert_eq!(rt; out.writes, 0);
+        expect_equal(&rt, &out.writes, &0);
     }
     Ok(())
 }

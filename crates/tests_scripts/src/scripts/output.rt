@@ -1,5 +1,6 @@
 //! The published lines and bytes.
 
+use crate::asserts::expect_equal;
 use crate::scripts::{play_next_texts, play_texts};
 use console_core::Answer;
 use play_core::{Show, typed};
@@ -204,7 +205,11 @@ fn answers_type_their_bytes(rt: HostRuntime) -> Result<(), Fail> {
         Answer::BackTab,
     ];
     typed(&answers, &mut out)?;
-    assert_eq!(rt; out.bytes.as_slice(), b"\x1b\xc3\xa9\x1b[Z".as_slice());
+    expect_equal(
+        &rt,
+        &out.bytes.as_slice(),
+        &b"\x1b\xc3\xa9\x1b[Z".as_slice(),
+    );
     typed(&[], &mut sheet_of(0))?;
     Ok(())
 }

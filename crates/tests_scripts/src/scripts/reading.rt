@@ -1,5 +1,6 @@
 //! Scripts by themselves.
 
+use crate::asserts::expect_equal;
 use keymap_core::KeyCode;
 use play_core::{ScriptError, ScriptFault, Sent, What, read_script};
 use std::test::Fail;
@@ -13,10 +14,10 @@ fn scripts_are_read(rt: HostRuntime) -> Result<(), Fail> {
         lost: true,
         what: What::Up(key),
     }];
-    assert_eq!(rt; events.as_slice(), wanted.as_slice());
-    assert_eq!(rt; wanted[0].event(), None);
+    expect_equal(&rt, &events.as_slice(), &wanted.as_slice());
+    expect_equal(&rt, &wanted[0].event(), &None);
     let events = read_script(rt.alloc(), b"# down\n\t\r\ndown 30#x\nlost load\n")?;
-    assert_eq!(rt; events.len(), 2);
+    expect_equal(&rt, &events.len(), &2);
     Ok(())
 }
 

@@ -1,5 +1,6 @@
 //! Devices that fail in mid-stream: the fault says after how many bytes, and nothing more is done.
 
+use crate::asserts::expect_equal;
 use crate::scripts::{play_next_texts, play_texts, settled};
 use arrayvec::ArrayVec;
 use console_core::Answer;
@@ -42,7 +43,7 @@ fn a_text_that_stops_is_named(rt: HostRuntime) -> Result<(), Fail> {
         let mut next = reader_of(SHIFT_AND_CAPS, 1, 0);
         let mut script = reader_of(SCRIPT, 1, 0);
         let answer = play_bytes(rt.alloc(), &mut text, &mut next, &mut script)?;
-        assert_eq!(rt; answer, stopped(Source::Text, most));
+        expect_equal(&rt, &answer, &stopped(Source::Text, most));
         assert!(rt; text.failed() && !next.failed() && !script.failed());
     }
     Ok(())
@@ -55,7 +56,7 @@ fn a_next_text_that_stops_is_named(rt: HostRuntime) -> Result<(), Fail> {
         let mut next = reader_of(SHIFT_AND_CAPS, 1, most);
         let mut script = reader_of(SCRIPT, 1, 0);
         let answer = play_bytes(rt.alloc(), &mut text, &mut next, &mut script)?;
-        assert_eq!(rt; answer, stopped(Source::Next, most));
+        expect_equal(&rt, &answer, &stopped(Source::Next, most));
         assert!(rt; !text.failed() && next.failed() && !script.failed());
     }
     Ok(())
@@ -68,7 +69,7 @@ fn a_script_that_stops_is_named(rt: HostRuntime) -> Result<(), Fail> {
         let mut next = reader_of(SHIFT_AND_CAPS, 1, usize::MAX);
         let mut script = reader_of(SCRIPT, 1, most);
         let answer = play_bytes(rt.alloc(), &mut text, &mut next, &mut script)?;
-        assert_eq!(rt; answer, stopped(Source::Script, most));
+        expect_equal(&rt, &answer, &stopped(Source::Script, most));
         assert!(rt; !text.failed() && !next.failed() && script.failed());
     }
     Ok(())
@@ -115,9 +116,13 @@ fn a_writer_that_stops_has_the_first_bytes(rt: HostRuntime) -> Result<(), Fail> 
         let size = shown.len();
         let mut out = sheet_of(most);
         let answer = play_texts(rt.alloc(), show, text, script.as_bytes(), &mut out)?;
-        assert_eq!(rt; answer, written(most, size));
-        assert_eq!(rt; out.failed(), most < size);
-        assert_eq!(rt; out.bytes.as_slice(), &shown.as_bytes()[..most.min(size)]);
+        expect_equal(&rt, &answer, &written(most, size));
+        expect_equal(&rt, &out.failed(), &(most < size));
+        expect_equal(
+            &rt,
+            &out.bytes.as_slice(),
+            &&shown.as_bytes()[..most.min(size)],
+        );
     }
     Ok(())
 }
@@ -136,9 +141,9 @@ press 30: char 97; mods none; locks none
             b"load\ndown 30\n",
             &mut out,
         )?;
-        assert_eq!(rt; answer, written(most, shown.len()));
-        assert_eq!(rt; out.failed(), most < shown.len());
-        assert_eq!(rt; out.bytes.as_slice(), &shown[..most]);
+        expect_equal(&rt, &answer, &written(most, shown.len()));
+        expect_equal(&rt, &out.failed(), &(most < shown.len()));
+        expect_equal(&rt, &out.bytes.as_slice(), &&shown[..most]);
     }
     Ok(())
 }
@@ -154,9 +159,9 @@ fn a_writer_that_stops_has_the_first_typed_bytes(rt: HostRuntime) {
     for most in 0..=shown.len() {
         let mut out = sheet_of(most);
         let answer = typed(&answers, &mut out).map_err(PlayError::Write);
-        assert_eq!(rt; answer, written(most, shown.len()));
-        assert_eq!(rt; out.failed(), most < shown.len());
-        assert_eq!(rt; out.bytes.as_slice(), &shown[..most]);
+        expect_equal(&rt, &answer, &written(most, shown.len()));
+        expect_equal(&rt, &out.failed(), &(most < shown.len()));
+        expect_equal(&rt, &out.bytes.as_slice(), &&shown[..most]);
     }
 }
 
@@ -181,7 +186,7 @@ fn long_lines_are_written_in_few_writes(rt: HostRuntime) -> Result<(), Fail> {
     for most in STOPS {
         let mut out = sheet_of(most);
         let answer = play_texts(rt.alloc(), Show::Lines, b"", script.as_slice(), &mut out)?;
-        assert_eq!(rt; answer, written(most, size));
+        expect_equal(&rt, &answer, &written(most, size));
         assert!(rt;
             out.bytes.as_slice() == &shown.as_slice()[..most.min(size)],
             "{most}"
@@ -205,7 +210,7 @@ fn long_typed_bytes_are_written_in_few_writes(rt: HostRuntime) -> Result<(), Fai
             script.as_slice(),
             &mut out,
         )?;
-        assert_eq!(rt; answer, written(most, size));
+        expect_equal(&rt, &answer, &written(most, size));
         assert!(rt;
             out.bytes.as_slice() == &shown.as_slice()[..most.min(size)],
             "{most}"
@@ -223,7 +228,7 @@ fn many_answers_are_typed_in_few_writes(rt: HostRuntime) {
     for most in STOPS {
         let mut out = sheet_of(most);
         let answer = typed(&answers, &mut out).map_err(PlayError::Write);
-        assert_eq!(rt; answer, written(most, size));
+        expect_equal(&rt, &answer, &written(most, size));
         assert!(rt;
             out.bytes.as_slice() == &shown.as_slice()[..most.min(size)],
             "{most}"

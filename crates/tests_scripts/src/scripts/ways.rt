@@ -1,5 +1,6 @@
 //! The events that type a character, and what keeps a sentence from being typed.
 
+use crate::asserts::expect_equal;
 use console_core::Event;
 use keymap_text::read_map;
 use play_core::{TypeError, Ways, read_script};
@@ -84,13 +85,17 @@ fn sentences_are_judged_whole(rt: HostRuntime) -> Result<(), Fail> {
     let map = read_map(rt.alloc(), ACCENTS)?;
     let ways = Ways::of(rt.alloc(), &map)?;
     let characters = ways.characters(rt.alloc(), "aÉ´".as_bytes())?;
-    assert_eq!(rt; characters.as_slice(), ['a', 'É', '´'].as_slice());
+    expect_equal(&rt, &characters.as_slice(), &['a', 'É', '´'].as_slice());
     assert!(rt; ways.characters(rt.alloc(), b"")?.is_empty());
     let answer = ways.characters(rt.alloc(), "eêz".as_bytes());
-    assert_eq!(rt; answer.err(), Some(TypeError::NoWay { offset: 1, c: 'ê' }));
+    expect_equal(
+        &rt,
+        &answer.err(),
+        &Some(TypeError::NoWay { offset: 1, c: 'ê' }),
+    );
     let answer = ways.characters(rt.alloc(), b"\xc3\xa9\xc3(z");
-    assert_eq!(rt; answer.err(), Some(TypeError::NotText { offset: 2 }));
+    expect_equal(&rt, &answer.err(), &Some(TypeError::NotText { offset: 2 }));
     let answer = ways.characters(rt.alloc(), b"z\xe2\x82");
-    assert_eq!(rt; answer.err(), Some(TypeError::NotText { offset: 1 }));
+    expect_equal(&rt, &answer.err(), &Some(TypeError::NotText { offset: 1 }));
     Ok(())
 }

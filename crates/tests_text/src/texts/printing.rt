@@ -1,5 +1,6 @@
 //! Printing maps, and reading them again.
 
+use crate::asserts::expect_equal;
 use crate::texts::DUMPED;
 use keymap_core::{ToStd, Write, WriteFault};
 use keymap_text::{print_map, read_map};
@@ -330,12 +331,13 @@ fn a_full_writer_is_a_fault(rt: HostRuntime) -> Result<(), Fail> {
     let map = read_map(rt.alloc(), b"0 'a' 'A' SOH soh fkey1 scr16 0x20ac DEL b")?;
     let mut page = [0u8; 10];
     let mut writer = ToStd::new(page.as_mut_slice());
-    assert_eq!(rt;
-        print_map(&map, &mut writer),
-        Err(WriteFault { written: 10 })
+    expect_equal(
+        &rt,
+        &print_map(&map, &mut writer),
+        &Err(WriteFault { written: 10 }),
     );
     assert!(rt; writer.failed());
-    assert_eq!(rt; page.as_slice(), b"000 'a'   ".as_slice());
+    expect_equal(&rt, &page.as_slice(), &b"000 'a'   ".as_slice());
     Ok(())
 }
 
@@ -353,7 +355,7 @@ fn a_writer_that_fails_after_each_number_of_bytes_is_a_fault(rt: HostRuntime) ->
         } else {
             Ok(())
         };
-        assert_eq!(rt; answer, fault);
+        expect_equal(&rt, &answer, &fault);
         assert!(rt; writer.is_same && writer.taken == most && writer.failed() == (most < size));
     }
     Ok(())

@@ -1,5 +1,6 @@
 //! Reading texts, whole and in pieces.
 
+use crate::asserts::expect_equal;
 use crate::texts::{DUMPED, read_pieces, settled};
 use keymap_core::{
     Action, Cell, Entry, FunctionNumber, KeyMap, LockFlag, Modifier, ScreenNumber, ToStd,
@@ -14,7 +15,7 @@ use test_keymaps::{NAMED, named_map, text_of};
 #[test]
 fn the_empty_text_is_the_map_of_no_keys(rt: HostRuntime) -> Result<(), Fail> {
     let map = read_map(rt.alloc(), b"")?;
-    assert_eq!(rt; (map.n_keys(), map.n_accs()), (0, 0));
+    expect_equal(&rt, &(map.n_keys(), map.n_accs()), &(0, 0));
     let empty = KeyMap::new(rt.alloc())?;
     assert!(rt; map == empty);
     let copy = map.try_clone(rt.alloc())?;
@@ -22,41 +23,52 @@ fn the_empty_text_is_the_map_of_no_keys(rt: HostRuntime) -> Result<(), Fail> {
     let mut page = [b'x'; 1];
     let mut writer = ToStd::new(page.as_mut_slice());
     print_map(&map, &mut writer)?;
-    assert_eq!(rt; page, [b'x']);
+    expect_equal(&rt, &page, &[b'x']);
     Ok(())
 }
 
 #[test]
 fn cells_are_read(rt: HostRuntime) -> Result<(), Fail> {
     let map = read_map(rt.alloc(), b"001 ''' '\\' '#' ' ' nul nul nul nul O")?;
-    assert_eq!(rt; map.n_keys(), 2);
+    expect_equal(&rt, &map.n_keys(), &2);
     let cells = map.entry(1).cells();
-    assert_eq!(rt; (cells[0], cells[1]), (Cell::Char('\''), Cell::Char('\\')));
-    assert_eq!(rt; (cells[2], cells[3]), (Cell::Char('#'), Cell::Char(' ')));
-    assert_eq!(rt; *map.entry(0), Entry::undefined());
+    expect_equal(
+        &rt,
+        &(cells[0], cells[1]),
+        &(Cell::Char('\''), Cell::Char('\\')),
+    );
+    expect_equal(
+        &rt,
+        &(cells[2], cells[3]),
+        &(Cell::Char('#'), Cell::Char(' ')),
+    );
+    expect_equal(&rt, map.entry(0), &Entry::undefined());
 
     let map = read_map(rt.alloc(), b"0 'a' 'A' SOH soh fkey1 scr16 0x20ac DEL b")?;
     let entry = map.entry(0);
-    assert_eq!(rt;
-        (entry.cells[1], entry.cells[2]),
-        (Cell::Char('A'), Cell::Char('\x01'))
+    expect_equal(
+        &rt,
+        &(entry.cells[1], entry.cells[2]),
+        &(Cell::Char('A'), Cell::Char('\x01')),
     );
-    assert_eq!(rt;
-        (entry.cells[6], entry.cells[7]),
-        (Cell::Char('\u{20ac}'), Cell::Char('\x7f'))
+    expect_equal(
+        &rt,
+        &(entry.cells[6], entry.cells[7]),
+        &(Cell::Char('\u{20ac}'), Cell::Char('\x7f')),
     );
-    assert_eq!(rt; entry.flag, LockFlag::B);
+    expect_equal(&rt, &entry.flag, &LockFlag::B);
     let first_function = Cell::Act(Action::Function(FunctionNumber::new(1)));
     let last_screen = Cell::Act(Action::Screen(ScreenNumber::new(16)));
-    assert_eq!(rt;
-        (entry.cells[4], entry.cells[5]),
-        (first_function, last_screen)
+    expect_equal(
+        &rt,
+        &(entry.cells[4], entry.cells[5]),
+        &(first_function, last_screen),
     );
 
     let map = read_map(rt.alloc(), b"255 nop nop nop nop nop nop nop nop O")?;
-    assert_eq!(rt; map.n_keys(), 256);
-    assert_eq!(rt; *map.entry(254), Entry::undefined());
-    assert_eq!(rt; map.entry(255).cells[7], Cell::Act(Action::Nop));
+    expect_equal(&rt, &map.n_keys(), &256);
+    expect_equal(&rt, map.entry(254), &Entry::undefined());
+    expect_equal(&rt, &map.entry(255).cells[7], &Cell::Act(Action::Nop));
     Ok(())
 }
 
@@ -67,13 +79,15 @@ fn quoted_characters_are_read(rt: HostRuntime) -> Result<(), Fail> {
         b"7 '\xc3\xa9' '\xe9' '\x80' '\xe2\x82\xac' nul nul nul nul O",
     )?;
     let cells = map.entry(7).cells();
-    assert_eq!(rt;
-        (cells[0], cells[1]),
-        (Cell::Char('\u{e9}'), Cell::Char('\u{e9}'))
+    expect_equal(
+        &rt,
+        &(cells[0], cells[1]),
+        &(Cell::Char('\u{e9}'), Cell::Char('\u{e9}')),
     );
-    assert_eq!(rt;
-        (cells[2], cells[3]),
-        (Cell::Char('\u{80}'), Cell::Char('\u{20ac}'))
+    expect_equal(
+        &rt,
+        &(cells[2], cells[3]),
+        &(Cell::Char('\u{80}'), Cell::Char('\u{20ac}')),
     );
     Ok(())
 }
@@ -82,10 +96,10 @@ fn quoted_characters_are_read(rt: HostRuntime) -> Result<(), Fail> {
 fn dumped_lines_are_read(rt: HostRuntime) -> Result<(), Fail> {
     let map = read_map(rt.alloc(), DUMPED)?;
     let entry = map.entry(104);
-    assert_eq!(rt; map.n_keys(), 105);
-    assert_eq!(rt; entry.cells[1], Cell::Act(Action::Saver));
-    assert_eq!(rt; entry.cells[4], Cell::Act(Action::Suspend));
-    assert_eq!(rt; entry.flag, LockFlag::O);
+    expect_equal(&rt, &map.n_keys(), &105);
+    expect_equal(&rt, &entry.cells[1], &Cell::Act(Action::Saver));
+    expect_equal(&rt, &entry.cells[4], &Cell::Act(Action::Suspend));
+    expect_equal(&rt, &entry.flag, &LockFlag::O);
     Ok(())
 }
 
@@ -107,13 +121,17 @@ fn the_last_of_two_definitions_counts(rt: HostRuntime) -> Result<(), Fail> {
         cells: [Cell::Char('b'); 8],
         flag: LockFlag::C,
     };
-    assert_eq!(rt; map.n_keys(), 2);
-    assert_eq!(rt; *map.entry(1), wanted);
+    expect_equal(&rt, &map.n_keys(), &2);
+    expect_equal(&rt, map.entry(1), &wanted);
     let map = read_map(rt.alloc(), b"dacu 1 ( 2 3 ) dgra 4 dacu 5")?;
-    assert_eq!(rt; map.n_accs(), 2);
-    assert_eq!(rt; map.accent(1).map(|accent| accent.pairs().len()), Some(0));
+    expect_equal(&rt, &map.n_accs(), &2);
+    expect_equal(
+        &rt,
+        &map.accent(1).map(|accent| accent.pairs().len()),
+        &Some(0),
+    );
     let text = b"9 nop nop nop nop nop nop nop nop O 1 nul nul nul nul nul nul nul nul O";
-    assert_eq!(rt; read_map(rt.alloc(), text)?.n_keys(), 10);
+    expect_equal(&rt, &read_map(rt.alloc(), text)?.n_keys(), &10);
     Ok(())
 }
 
@@ -126,16 +144,17 @@ fn the_last_of_two_lines_counts(rt: HostRuntime) -> Result<(), Fail> {
         cells: [Cell::Char('b'); 8],
         flag: LockFlag::C,
     };
-    assert_eq!(rt; map.n_keys(), 2);
-    assert_eq!(rt; *map.entry(1), wanted);
+    expect_equal(&rt, &map.n_keys(), &2);
+    expect_equal(&rt, map.entry(1), &wanted);
     let text = b"dacu 96 ( 'a' 'b' )\n( 'E' 'c' )\ndacu 180\n( 'e' 0xe9 )\n( 'E' 0xc9 )\n";
     let map = read_map(rt.alloc(), text)?;
     let accent = map.accent(1).ok_or("no accent")?;
-    assert_eq!(rt; map.n_accs(), 2);
-    assert_eq!(rt; accent.own(), '\u{b4}');
-    assert_eq!(rt;
-        accent.pairs(),
-        [('e', '\u{e9}'), ('E', '\u{c9}')].as_slice()
+    expect_equal(&rt, &map.n_accs(), &2);
+    expect_equal(&rt, &accent.own(), &'\u{b4}');
+    expect_equal(
+        &rt,
+        &accent.pairs(),
+        &[('e', '\u{e9}'), ('E', '\u{c9}')].as_slice(),
     );
     Ok(())
 }
@@ -159,27 +178,33 @@ fn repeated(
 fn accents_are_read(rt: HostRuntime) -> Result<(), Fail> {
     let map = read_map(rt.alloc(), b"dacu 180\n( 'e' 0xe9 )\n( 'E' 0xc9 )")?;
     let accent = map.accent(1).ok_or("no accent")?;
-    assert_eq!(rt; map.n_accs(), 2);
-    assert_eq!(rt; accent.own(), '\u{b4}');
-    assert_eq!(rt;
-        accent.pairs(),
-        [('e', '\u{e9}'), ('E', '\u{c9}')].as_slice()
+    expect_equal(&rt, &map.n_accs(), &2);
+    expect_equal(&rt, &accent.own(), &'\u{b4}');
+    expect_equal(
+        &rt,
+        &accent.pairs(),
+        &[('e', '\u{e9}'), ('E', '\u{c9}')].as_slice(),
     );
     let map = read_map(rt.alloc(), b"dmac 000")?;
-    assert_eq!(rt; map.n_accs(), 5);
-    assert_eq!(rt; map.accent(4).map(|accent| accent.own()), Some('\0'));
+    expect_equal(&rt, &map.n_accs(), &5);
+    expect_equal(&rt, &map.accent(4).map(|accent| accent.own()), &Some('\0'));
     let text = repeated(rt.alloc(), b"dgra 96", b" ( 'a' 'b' )", 52)?;
     let map = read_map(rt.alloc(), text.as_slice())?;
-    assert_eq!(rt; map.accent(0).map(|accent| accent.pairs().len()), Some(52));
+    expect_equal(
+        &rt,
+        &map.accent(0).map(|accent| accent.pairs().len()),
+        &Some(52),
+    );
     let text = repeated(rt.alloc(), b"dgra 96", b" ( 'a' 'b' )", 53)?;
     let wanted = TextFault {
         offset: 632,
         line: 1,
         kind: TextFaultKind::TooManyPairs,
     };
-    assert_eq!(rt;
-        read_map(rt.alloc(), text.as_slice()).err(),
-        Some(TextError::Fault(wanted))
+    expect_equal(
+        &rt,
+        &read_map(rt.alloc(), text.as_slice()).err(),
+        &Some(TextError::Fault(wanted)),
     );
     Ok(())
 }
@@ -256,9 +281,9 @@ fn each_prefix_is_read_the_same_in_pieces(rt: HostRuntime) -> Result<(), Fail> {
 #[test]
 fn a_map_is_read_byte_by_byte(rt: HostRuntime) -> Result<(), Fail> {
     let map = read_pieces(&rt, rt.alloc(), LETTER_AND_SHIFT, 1)?;
-    assert_eq!(rt; map.n_keys(), 43);
-    assert_eq!(rt; map.entry(30).cells[5], Cell::Char('A'));
+    expect_equal(&rt, &map.n_keys(), &43);
+    expect_equal(&rt, &map.entry(30).cells[5], &Cell::Char('A'));
     let shift = Cell::Act(Action::Mod(Modifier::LeftShift));
-    assert_eq!(rt; map.entry(42).cells, [shift; 8]);
+    expect_equal(&rt, &(map.entry(42).cells), &[shift; 8]);
     Ok(())
 }

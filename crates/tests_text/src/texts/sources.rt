@@ -1,5 +1,6 @@
 //! Reading texts from devices.
 
+use crate::asserts::expect_equal;
 use keymap_core::{FromStd, Read, ReadFault, ReadFaultKind};
 use keymap_text::{TextError, TextFault, TextFaultKind, read_from, read_map};
 use std::test::Fail;
@@ -12,7 +13,7 @@ const LIMIT: usize = 1_048_576;
 fn a_text_of_the_limit_is_read(rt: HostRuntime) -> Result<(), Fail> {
     let mut tape = blanks_of(LIMIT, 1);
     let map = read_from(rt.alloc(), &mut tape)?;
-    assert_eq!(rt; map.n_keys(), 0);
+    expect_equal(&rt, &map.n_keys(), &0);
     assert!(rt; tape.reads <= 1_048_578 && tape.given == LIMIT);
     Ok(())
 }
@@ -25,7 +26,7 @@ fn a_longer_text_is_endless(rt: HostRuntime) -> Result<(), Fail> {
     });
     for (size, pace) in [(LIMIT + 1, 1), (usize::MAX, 1), (usize::MAX, 512)] {
         let mut tape = blanks_of(size, pace);
-        assert_eq!(rt; read_from(rt.alloc(), &mut tape).err(), Some(wanted));
+        expect_equal(&rt, &read_from(rt.alloc(), &mut tape).err(), &Some(wanted));
         assert!(rt; tape.reads <= 1_048_578 && tape.given == LIMIT + 1);
         assert!(rt; !tape.failed());
     }
@@ -41,7 +42,7 @@ fn a_fault_ends_the_reading(rt: HostRuntime) -> Result<(), Fail> {
     });
     for pace in [1, 512] {
         let mut tape = tape_of(b"1 'ab'", usize::MAX, pace, usize::MAX);
-        assert_eq!(rt; read_from(rt.alloc(), &mut tape).err(), Some(wanted));
+        expect_equal(&rt, &read_from(rt.alloc(), &mut tape).err(), &Some(wanted));
         assert!(rt; tape.given <= 512 && tape.reads <= 6);
     }
     Ok(())
@@ -70,7 +71,7 @@ fn a_device_that_fails_after_each_number_of_bytes_is_a_fault(rt: HostRuntime) ->
             offset: most as u64,
             kind: ReadFaultKind::Device,
         });
-        assert_eq!(rt; read_from(rt.alloc(), &mut tape).err(), Some(wanted));
+        expect_equal(&rt, &read_from(rt.alloc(), &mut tape).err(), &Some(wanted));
         assert!(rt; tape.failed());
     }
     Ok(())
@@ -85,7 +86,7 @@ fn a_device_that_fails_at_the_limit_is_a_fault(rt: HostRuntime) -> Result<(), Fa
     });
     for pace in [1, 512] {
         let mut tape = tape_of(b"", usize::MAX, pace, LIMIT);
-        assert_eq!(rt; read_from(rt.alloc(), &mut tape).err(), Some(wanted));
+        expect_equal(&rt, &read_from(rt.alloc(), &mut tape).err(), &Some(wanted));
         assert!(rt; tape.reads <= 1_048_578 && tape.given == LIMIT && tape.failed());
     }
     Ok(())

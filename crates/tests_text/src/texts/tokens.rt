@@ -1,5 +1,6 @@
 //! Tokens and words.
 
+use crate::asserts::expect_equal;
 use keymap_core::{AccentIndex, Action, FunctionNumber, Lock, LockFlag, Modifier, ScreenNumber};
 use keymap_text::{Meaning, Span, TextFaultKind, TokenKind, next_token, word_meaning};
 use std::test::Fail;
@@ -13,9 +14,9 @@ const CONTROL_NAMES: [&[u8]; 32] = [
 #[test]
 fn a_word_ends_with_the_text(rt: HostRuntime) -> Result<(), Fail> {
     let token = next_token(b"abc", 1)?.ok_or("no token")?;
-    assert_eq!(rt; token.kind, TokenKind::Word);
-    assert_eq!(rt; token.slice, b"bc".as_slice());
-    assert_eq!(rt; token.span, Span { start: 1, end: 3 });
+    expect_equal(&rt, &token.kind, &TokenKind::Word);
+    expect_equal(&rt, &token.slice, &b"bc".as_slice());
+    expect_equal(&rt, &token.span, &Span { start: 1, end: 3 });
     Ok(())
 }
 
@@ -96,9 +97,17 @@ fn broken_tokens_are_refused(rt: HostRuntime) -> Result<(), Fail> {
         assert_eq!(rt; (fault.kind, fault.offset), (kind, offset), "in {text:?}");
     }
     let fault = next_token(b"''''ab'", 3).err().ok_or("no fault")?;
-    assert_eq!(rt; (fault.kind, fault.offset, fault.line), (BadLiteral, 3, 1));
+    expect_equal(
+        &rt,
+        &(fault.kind, fault.offset, fault.line),
+        &(BadLiteral, 3, 1),
+    );
     let fault = next_token(b"nop\n\n%", 3).err().ok_or("no fault")?;
-    assert_eq!(rt; (fault.kind, fault.offset, fault.line), (BadByte, 5, 3));
+    expect_equal(
+        &rt,
+        &(fault.kind, fault.offset, fault.line),
+        &(BadByte, 5, 3),
+    );
     Ok(())
 }
 
@@ -107,7 +116,7 @@ fn control_names_are_characters(rt: HostRuntime) {
     for (number, name) in CONTROL_NAMES.iter().enumerate() {
         if name.len() <= 32 && number < 32 {
             let character = char::from(number as u8);
-            assert_eq!(rt; word_meaning(name), Meaning::Char(character));
+            expect_equal(&rt, &word_meaning(name), &Meaning::Char(character));
         }
     }
 }

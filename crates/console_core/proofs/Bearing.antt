@@ -2,9 +2,10 @@
 use Rattle.std.proofs.Common.{◌≡◌, ℕ, ◌<◌, ◌⊎◌, Bool, true, false, ◌||◌, not, eqb, List, [], ◌∷◌, Option, Some, None}
 use Rattle.std.proofs.Common.{refl, ap, subst, sym, ◌∙◌, inl, inr, if◌then◌else◌}
 use Rattle.std.specs.Prelude.{◌==◌}
-use Rattle.std.proofs.lemmas.Bool.{eqb-true, eq-eqb, and_parts, or_cases, cases_Bool, true≢false}
+use Rattle.std.proofs.lemmas.Bool.{eqb-true, eq-eqb, and_parts, or_cases, cases_Bool, true≢false, both_ways, not-true}
 use Rattle.std.specs.Option.{option_or}
 use Rattle.std.proofs.lemmas.Option.{none-some, same_Some}
+use Rattle.std.proofs.lemmas.Bool.{or_right}
 use Rattle.keymap_core.specs.declared.action.Action.{Action}
 use Rattle.keymap_core.specs.declared.action.Action.TheVariants as act
 use Rattle.keymap_core.specs.declared.action.Holding.{Holding}
@@ -107,10 +108,6 @@ remembered-pressed ms (Load ∷ h) k a r =
 abbrev pub RememberedBySome : Holding → List ResolvedEvent → Type 0
 RememberedBySome a r = (k : ℕ) × (remembered k r ≡ Some (holding_action a))
 
-not_false : (x : Bool) → not x ≡ true → x ≡ true → ⊥
-not_false true h e = true≢false (sym h)
-not_false false h e = true≢false (sym e)
-
 -- a holding action whose keys have no character beside it is held only while it is remembered
 pub held-remembered : (m : MapValue) (a : Holding)
     → ((k : ℕ) → k < 128 → Bears m k a → (c : ℕ) → IsCellOf m k (Char c) → ⊥) → (r : List ResolvedEvent) → AllLooked m r
@@ -139,16 +136,12 @@ held-remembered m a safe (ReleasedKey j ∷ r) all h =
     elim (cases_Bool (j == s.0)) [
       | inl e ↦
           let f : remembered j r ≡ Some (holding_action a) = ap (λ x. remembered x r) (eqb-true j s.0 e) ∙ s.1 in
-          absurd (not_false (is_this_action (remembered j r) (holding_action a)) p.1
+          absurd (both_ways (is_this_action (remembered j r) (holding_action a)) (not-true _ p.1)
           (ap (λ o. is_this_action o (holding_action a)) f ∙ same_action-refl (holding_action a)))
       | inr e ↦ (s.0, rw (remembered-release s.0 j r, e) s.1)
     ]
 held-remembered m a safe (WasReset ∷ r) all h = absurd (true≢false (sym h ∙ held-reset a r))
 held-remembered m a safe (WasLoaded n ∷ r) all h = absurd (true≢false (sym h ∙ held-load a n r))
-
-or-true : (x : Bool) → (x || true) ≡ true
-or-true true = refl
-or-true false = refl
 
 -- another key doesn't remember what a key bears alone
 not_other_by : (m : MapValue) (a : Holding) (k : ℕ) → IsAlone m k a → (r : List ResolvedEvent) (j : ℕ) → AllLooked m r
@@ -178,7 +171,7 @@ remembered-held m a k alone (PressedCharacter j c ∷ r) all h =
     (kept_if (j == k) (remembered k r) _ (sym (remembered-character k j c r) ∙ h)).1
 remembered-held m a k alone (PressedAction j b ∷ r) all h =
     elim (remembered_from (j == k) (remembered k r) b (holding_action a) (sym (remembered-action k j b r) ∙ h)) [
-      | inl s ↦ rw (held-action a j b r, remembered-held m a k alone r all.1 s) (or-true _)
+      | inl s ↦ rw (held-action a j b r, remembered-held m a k alone r all.1 s) (or_right _ true refl)
       | inr s ↦
           let e : remembered j r ≡ None = ap (λ x. remembered x r) (eqb-true j k s.1) ∙ s.0 in
           rw (held-action a j b r, e, s.2, same_action-refl (holding_action a)) refl

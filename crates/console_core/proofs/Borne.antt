@@ -123,7 +123,7 @@ pub locked-upper : (m : MapValue) (r : List ResolvedEvent) → AllLooked m r →
 locked-upper m r all h = borne-upper m (locked-borne m lock.Alt r all h)
 
 -- a column is one of eight
-column_of-lt : (a b c : Bool) → column_of a b c < 8
+pub column_of-lt : (a b c : Bool) → column_of a b c < 8
 column_of-lt false false false = lit< tt
 column_of-lt false false true = lit< tt
 column_of-lt false true false = lit< tt

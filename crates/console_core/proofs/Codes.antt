@@ -1,10 +1,10 @@
 -- Actions kept by their codes.
-use Prim.Native.Nat.{zero, suc}
-use Rattle.std.proofs.Common.{◌≡◌, ℕ, ◌<◌, Bool, true, false, eqb, List, length, get_or, set, replicate, Option, None}
+use Rattle.std.proofs.Common.{◌≡◌, ℕ, ◌<◌, Bool, true, false, eqb, List, length, set, replicate, Option, None}
 use Rattle.std.proofs.Common.{Some, refl, ap, sym, ◌∙◌, if◌then◌else◌}
 use Rattle.std.specs.Prelude.{◌==◌, ◌≢◌, option_map}
 use Rattle.std.proofs.lemmas.Bool.{eqb-true}
 use Rattle.keymap_core.proofs.SameActions.{same_action-true}
+use Rattle.keymap_core.proofs.Lists.{get_or-replicate_default}
 use Rattle.keymap_core.specs.declared.action.Action.{Action}
 use Rattle.keymap_core.specs.Actions.{same_action, code_of, action_of}
 use Rattle.console_core.specs.PackedWord.{action_of_byte, code_memory}
@@ -33,12 +33,6 @@ pub action_of_byte-other : (code : ℕ) (held expected : Action) → code ≢ 0 
 action_of_byte-other code held expected not_zero read same ne =
     let e : action_of_byte code ≡ Some held = action_of_byte-some code not_zero ∙ read in
     rw e (ap Some (sym (other_code (same_action held expected) held expected refl (λ f. ne (sym same ∙ f)))))
-
--- a list of one value, read anywhere, with that value in place of what isn't there
-pub get_or-replicate_default : {X : Type 0} (n i : ℕ) (d : X) → get_or (replicate n d) i d ≡ d
-get_or-replicate_default zero i d = refl
-get_or-replicate_default (suc n) zero d = refl
-get_or-replicate_default (suc n) (suc i) d = get_or-replicate_default n i d
 
 -- the bytes of all keys
 pub codes-start : (k : ℕ) → code_memory (replicate 128 0) k ≡ None

@@ -2,7 +2,7 @@
 use Rattle.std.proofs.Common.{◌≡◌, ℕ, ◌<◌, Bool, true, false, List, [], ◌∷◌, ◌++◌, Option, Some, None, inl, inr, refl}
 use Rattle.std.proofs.Common.{ap, subst, sym, ◌∙◌, if◌then◌else◌}
 use Rattle.std.specs.Prelude.{◌==◌}
-use Rattle.std.proofs.lemmas.Bool.{eqb-true, eq-eqb, true≢false}
+use Rattle.std.proofs.lemmas.Bool.{eqb-true, eq-eqb, true≢false, false_from_ne_true}
 use Rattle.std.proofs.lemmas.List.Elements.{All-tail}
 use Rattle.keymap_core.specs.declared.action.Action.{Action}
 use Rattle.keymap_core.specs.declared.action.Action.TheVariants as act
@@ -34,20 +34,16 @@ use Rattle.console_core.proofs.Readings.{held-positions}
 pub looks_are_cells : LooksAreCells
 looks_are_cells ms h keys k = look-cell (in_force ms h) (resolved ms h) k (resolved-looked ms h keys)
 
-not_true : (x : Bool) → (x ≡ true → ⊥) → x ≡ false
-not_true true f = absurd (f refl)
-not_true false f = refl
-
 -- a dead upper half is never looked at
 pub dead_upper_half : DeadUpperHalfIsNotLookedAt
 dead_upper_half ms h keys dead =
     let all : AllLooked (in_force ms h) (resolved ms h) = resolved-looked ms h keys in
     let shift : is_on_after ms modifier.AltShift h ≡ false =
-    not_true _
+    false_from_ne_true _
     (λ e. dead (held-upper (in_force ms h) (holding.Mod modifier.AltShift) (λ j lt low. (j, lt, inl low))
     (resolved ms h) all e)) in
     let alt : is_locked_after ms lock.Alt h ≡ false =
-    not_true _ (λ e. dead (locked-upper (in_force ms h) (resolved ms h) all e)) in (
+    false_from_ne_true _ (λ e. dead (locked-upper (in_force ms h) (resolved ms h) all e)) in (
       rw (shift, alt) refl,
       (λ k. elim (look-cell (in_force ms h) (resolved ms h) k all) [ inl s ↦ s | inr s ↦ absurd (dead s.0) ]),
     )
@@ -64,7 +60,8 @@ kept-press : (m : MapValue) (k j : ℕ) (a : Holding) (r : List ResolvedEvent) (
     → remembered k (resolve_press j x ∷ r) ≡ Some (holding_action a)
 kept-press m k j a r (Char c) apart e =
     remembered-character k j c r
-    ∙ kept_by_character (j == k) (remembered k r) (holding_action a) (not_true (j == k) (λ s. apart c refl s)) e
+    ∙ kept_by_character (j == k) (remembered k r) (holding_action a)
+    (false_from_ne_true (j == k) (λ s. apart c refl s)) e
 kept-press m k j a r (Act b) apart e = remembered-action k j b r ∙ first_kept (remembered k r) _ (holding_action a) e
 
 -- in a safe map a holding action is remembered until a release of its key, a reset or a load
@@ -101,7 +98,7 @@ Kept ms k a later before =
 not_let_go : (ms : Maps) (k j : ℕ) (a : Holding) (t : List Event) → remembered_after ms k t ≡ Some (holding_action a)
     → is_this_action (remembered_after ms j t) (holding_action a) ≡ false → j == k ≡ false
 not_let_go ms k j a t e low =
-    not_true (j == k)
+    false_from_ne_true (j == k)
     (λ s. true≢false (sym (ap (λ o. is_this_action o (holding_action a))
     (ap (λ x. remembered_after ms x t) (eqb-true j k s) ∙ e)
     ∙ same_action-refl (holding_action a))

@@ -2,7 +2,7 @@
 use Prim.Native.Nat.{suc}
 use Rattle.std.proofs.Common.{◌⊎◌, inl, inr, lit<, ◌≡◌, ℕ, ◌<◌, Bool, true, false, ◌&&◌, not, List, [], ◌∷◌, Option}
 use Rattle.std.proofs.Common.{Some, None, refl, ap, subst, sym, ◌∙◌, if◌then◌else◌}
-use Rattle.std.proofs.lemmas.Bool.{eqb-true, eq-eqb, true≢false}
+use Rattle.std.proofs.lemmas.Bool.{eqb-true, eq-eqb, true≢false, false_from_ne_true}
 use Rattle.std.proofs.lemmas.List.Elements.{All-head, All-tail}
 use Rattle.std.specs.Prelude.{◌==◌}
 use Rattle.keymap_core.specs.declared.action.Action.{Action}
@@ -31,10 +31,6 @@ use Rattle.console_core.proofs.Borne.{AllLooked, taken-holding, look-cell, resol
 use Rattle.console_core.proofs.Bearing.{remembered-cell}
 use Rattle.console_core.proofs.Headline.{throughout_held, act_act}
 use Rattle.console_core.proofs.OneMore.{press-unlocks}
-
-same_false : (x : Bool) → (x ≡ true → ⊥) → x ≡ false
-same_false true f = absurd (f refl)
-same_false false f = refl
 
 -- what a key that bears it throughout takes
 takes : (m : MapValue) (k : ℕ) (l : Lock) (r : List ResolvedEvent) → BearsThroughout m k (holding.Lock l)
@@ -65,7 +61,7 @@ turns-bearer ms k j l h true (Act b) bears keys lt e is =
     ∙ ap not (throughout_held ms h keys (holding.Lock l) k bears)
 turns-bearer ms k j l h false (Char c) bears keys lt e is = refl
 turns-bearer ms k j l h false (Act b) bears keys lt e is =
-    ap (λ y. y && not (held (holding.Lock l) (resolved ms h))) (same_false _ (λ t.
+    ap (λ y. y && not (held (holding.Lock l) (resolved ms h))) (false_from_ne_true _ (λ t.
     let f : b ≡ act.Lock l = (taken-holding (remembered j (resolved ms h)) b (holding.Lock l) t).0 in
     let s : j ≡ k = bears.1 j lt (subst (λ y. IsCellOf (in_force ms h) j (Act y)) f is) in
     true≢false (sym (eq-eqb j k s) ∙ e)))

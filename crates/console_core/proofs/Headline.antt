@@ -3,7 +3,7 @@ use Prim.Native.Nat.{suc}
 use Rattle.std.proofs.Common.{◌≡◌, ◌≢◌, ℕ, ◌<◌, Bool, true, false, ◌&&◌, not, List, [], ◌∷◌, ◌++◌, Option, Some, None}
 use Rattle.std.proofs.Common.{refl, ap, subst, sym, ◌∙◌, inl, inr, if◌then◌else◌}
 use Rattle.std.specs.Prelude.{◌==◌, reverse}
-use Rattle.std.proofs.lemmas.Bool.{eqb-true, cases_Bool, true≢false}
+use Rattle.std.proofs.lemmas.Bool.{eqb-true, cases_Bool, true≢false, false_from_ne_true}
 use Rattle.std.proofs.lemmas.List.Elements.{All-head, All-tail}
 use Rattle.keymap_core.specs.declared.action.Action.{Action}
 use Rattle.keymap_core.specs.declared.action.Action.TheVariants as act
@@ -38,6 +38,7 @@ use Rattle.console_core.proofs.OneMore.{pressed-start, pressed-press, pressed-re
 use Rattle.console_core.proofs.OneMore.{held-load, locked-load, remembered-load, pending-load, press-unlocks}
 use Rattle.console_core.proofs.Readings.{turns-event}
 use Rattle.keymap_core.proofs.SameActions.{same_action-true}
+use Rattle.keymap_core.proofs.Lists.{none_unless}
 use Rattle.console_core.proofs.Borne.{AllLooked, taken-holding, look-cell, resolved-looked}
 use Rattle.console_core.proofs.Bearing.{remembered-cell, remembered-pressed, held-remembered, remembered-held}
 use Rattle.console_core.proofs.Bearing.{RememberedBySome}
@@ -209,16 +210,12 @@ repeats_turn_no_steady_lock ms h l steady k keys p =
           ∙ ap (λ t. if t then not (locked l (resolved ms h)) else locked l (resolved ms h)) still,
     )
 
-not_true : (x : Bool) → (x ≡ true → ⊥) → x ≡ false
-not_true true f = absurd (f refl)
-not_true false f = refl
-
 -- once no key is pressed, no holding action is held
 pub held-quiet : (ms : Maps) (h : List Event) → IsSafe (in_force ms h) → HasKeys h → IsQuiet h → (a : Holding)
     → held a (resolved ms h) ≡ false
 held-quiet ms h safe keys quiet a =
     let all : AllLooked (in_force ms h) (resolved ms h) = resolved-looked ms h keys in
-    not_true (held a (resolved ms h)) (λ on.
+    false_from_ne_true (held a (resolved ms h)) (λ on.
     let s : RememberedBySome a (resolved ms h) =
     held-remembered (in_force ms h) a (λ k lt b c x. safe k lt a b c x) (resolved ms h) all on in
     let b : (s.0 < 128) × IsCellOf (in_force ms h) s.0 (Act (holding_action a)) =
@@ -228,11 +225,6 @@ held-quiet ms h safe keys quiet a =
 -- in a safe map no modifier is on once every key is released
 pub off_once_quiet : OffOnceQuiet
 off_once_quiet ms h safe keys quiet i = held-quiet ms h safe keys quiet (holding.Mod i)
-
--- what is none of all actions is nothing
-none_unless : (o : Option Action) → ((a : Action) → o ≡ Some a → ⊥) → o ≡ None
-none_unless None f = refl
-none_unless (Some a) f = absurd (f a refl)
 
 -- once every key is released nothing is remembered
 remembered-quiet : (ms : Maps) (h : List Event) → IsQuiet h → (k : ℕ) → k < 128 → remembered k (resolved ms h) ≡ None

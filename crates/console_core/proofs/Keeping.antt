@@ -40,7 +40,7 @@ same-marks k f g same = let e : f ≡ g = fun_ext same in ap (λ x. record k { m
 same-locks : (k : Kept) (f g : Lock → Bool) → ((l : Lock) → f l ≡ g l) → record k { lock = f } ≡ record k { lock = g }
 same-locks k f g same = let e : f ≡ g = fun_ext same in ap (λ x. record k { lock = x }) e
 
-cleared : (t x : Bool) → (if t then false else x) ≡ (x && not t)
+pub cleared : (t x : Bool) → (if t then false else x) ≡ (x && not t)
 cleared true true = refl
 cleared true false = refl
 cleared false true = refl

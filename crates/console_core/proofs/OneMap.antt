@@ -73,7 +73,7 @@ either true m = refl
 either false m = refl
 
 -- between two maps that are the same, that map is in force
-one_in_force : (m : MapValue) (h : List Event) → in_force (between m m) h ≡ m
+pub one_in_force : (m : MapValue) (h : List Event) → in_force (between m m) h ≡ m
 one_in_force m h = either (is_second_in_force h) m
 
 -- a lock that is on is borne

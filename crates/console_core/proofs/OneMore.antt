@@ -25,6 +25,7 @@ use Rattle.console_core.specs.Inner.Kept.{pending_after_dead_key, next_pending}
 use Rattle.std.proofs.lemmas.Bool.{eqb-true, eq-eqb}
 use Rattle.std.specs.Option.{option_or}
 use Rattle.console_core.specs.Resolved.ResolvedEvent.{PressedCharacter, PressedAction, ReleasedKey, WasReset, WasLoaded}
+use Rattle.keymap_core.proofs.Lists.{option_or-none}
 
 -- resolved events
 pub resolved-start : (ms : Maps) → resolved ms [] ≡ []
@@ -110,14 +111,10 @@ pub remembered-start : (k : ℕ) → remembered k [] ≡ None
 unfolding remembered
 remembered-start k = refl
 
-none_after : (o : Option Action) → option_or o None ≡ o
-none_after None = refl
-none_after (Some a) = refl
-
 pub remembered-character : (k j c : ℕ) (h : List ResolvedEvent)
     → remembered k (PressedCharacter j c ∷ h) ≡ (if j == k then None else remembered k h)
 unfolding remembered
-remembered-character k j c h = ap (λ x. if j == k then None else x) (none_after (remembered k h))
+remembered-character k j c h = ap (λ x. if j == k then None else x) (option_or-none (remembered k h))
 
 pub remembered-action : (k j : ℕ) (b : Action) (h : List ResolvedEvent)
     → remembered k (PressedAction j b ∷ h) ≡ option_or (remembered k h) (if j == k then unless_nop b else None)
@@ -127,7 +124,7 @@ remembered-action k j b h = refl
 pub remembered-release : (k j : ℕ) (h : List ResolvedEvent)
     → remembered k (ReleasedKey j ∷ h) ≡ (if j == k then None else remembered k h)
 unfolding remembered
-remembered-release k j h = ap (λ x. if j == k then None else x) (none_after (remembered k h))
+remembered-release k j h = ap (λ x. if j == k then None else x) (option_or-none (remembered k h))
 
 pub remembered-reset : (k : ℕ) (h : List ResolvedEvent) → remembered k (WasReset ∷ h) ≡ None
 unfolding remembered

@@ -1,7 +1,7 @@
 -- Looks in plain maps.
 use Rattle.std.proofs.Common.{◌≡◌, ℕ, ◌+◌, ◌<◌, Bool, true, false, ◌&&◌, List, refl, ap, subst, sym, ◌∙◌, inl, inr}
 use Rattle.std.proofs.Common.{lit<}
-use Rattle.std.proofs.lemmas.Bool.{or_cases, and_parts}
+use Rattle.std.proofs.lemmas.Bool.{or_cases, and_parts, false_from_ne_true, or_left, or_right}
 use Rattle.keymap_core.specs.declared.action.Lock.{Lock}
 use Rattle.keymap_core.specs.declared.action.Lock.TheVariants as lock
 use Rattle.keymap_core.specs.declared.action.Modifier.{Modifier}
@@ -24,17 +24,13 @@ use Rattle.console_core.specs.Plain.{IsPlainFor, IsPlain, bears_holding, plain_o
 use Rattle.console_core.specs.Plain.{LooksPlainly}
 use Rattle.console_core.specs.Plain.{PlainOnByKeys, PlainLockedByKeys}
 use Rattle.keymap_core.proofs.BorneTests.{any-some, some-any, slot-stands, stands-slot, live-upper, upper-is_live}
-use Rattle.keymap_core.proofs.BorneTests.{borne-bears, or-left, or-right}
+use Rattle.keymap_core.proofs.BorneTests.{borne-bears}
 use Rattle.console_core.proofs.Borne.{AllLooked, locked-borne, resolved-looked}
 use Rattle.console_core.proofs.Bearing.{RememberedBySome, held-remembered, remembered-cell}
 use Rattle.console_core.proofs.Headline.{throughout_held, same_by}
 use Rattle.console_core.proofs.FreshPresses.{locked_by_fresh_presses}
 use Rattle.console_core.proofs.OneMap.{first_in_force}
 use mathlib.Core.Path.{fun_ext}
-
-not_true : (x : Bool) → (x ≡ true → ⊥) → x ≡ false
-not_true true f = absurd (f refl)
-not_true false f = refl
 
 -- the test whether a key bears a holding action
 pub bears-is : (m : MapValue) (a : Holding) (k : ℕ) → bears_holding m a k ≡ true → Bears m k a
@@ -48,9 +44,9 @@ bears-is m a k e =
 
 -- a key that bears a holding action passes the test
 pub is-bears : (m : MapValue) (a : Holding) (k : ℕ) → Bears m k a → bears_holding m a k ≡ true
-is-bears m a k (inl s) = or-left _ _ (stands-slot m (holding_action a) k s)
+is-bears m a k (inl s) = or_left _ _ (stands-slot m (holding_action a) k s)
 is-bears m a k (inr s) =
-    or-right (has_in_slot m (holding_action a) k) _
+    or_right (has_in_slot m (holding_action a) k) _
     (rw (upper-is_live m s.0, stands-slot m (holding_action a) (k + 128) s.1) refl)
 
 -- a key that bears the action throughout bears it
@@ -105,7 +101,7 @@ plain_locked_by_keys m h l = (
 no_bearer : (m : MapValue) (a : Holding) (fact : ℕ → Bool) → NobodyBears m a
     → any_below (λ j. bears_holding m a j && fact j) 128 ≡ false
 no_bearer m a fact nobody =
-    not_true _ (λ e.
+    false_from_ne_true _ (λ e.
     let t : (j : ℕ) × (j < 128) × ((bears_holding m a j && fact j) ≡ true) = some-any
     (λ j. bears_holding m a j && fact j) 128 e in
     nobody t.0 t.1 (bears-is m a t.0 (and_parts _ _ t.2).0))
@@ -114,7 +110,7 @@ no_bearer m a fact nobody =
 pub never-held : (m : MapValue) (a : Holding) → NobodyBears m a → (r : List ResolvedEvent) → AllLooked m r
     → held a r ≡ false
 never-held m a nobody r all =
-    not_true _ (λ e.
+    false_from_ne_true _ (λ e.
     let s : RememberedBySome a r = held-remembered m a (λ k lt b c x. nobody k lt b) r all e in
     let b : (s.0 < 128) × IsCellOf m s.0 (Act (holding_action a)) =
     remembered-cell m r s.0 (holding_action a) all s.1 in
@@ -124,7 +120,7 @@ never-held m a nobody r all =
 pub never-locked : (m : MapValue) (l : Lock) → NobodyBears m (holding.Lock l) → (r : List ResolvedEvent) → AllLooked m r
     → locked l r ≡ false
 never-locked m l nobody r all =
-    not_true _ (λ e.
+    false_from_ne_true _ (λ e.
     let s : (k : ℕ) × (k < 128) × Bears m k (holding.Lock l) =
     borne-bears m (holding.Lock l) (locked-borne m l r all e) in
     nobody s.0 s.1 s.2)

@@ -1,7 +1,7 @@
 -- That the notions by resolved events are those on the events.
 use Rattle.std.proofs.Common.{◌≡◌, ℕ, Bool, false, true, ◌&&◌, ◌||◌, not, List, [], ◌∷◌, ◌++◌, refl, ap, sym, ◌∙◌, inl}
 use Rattle.std.proofs.Common.{inr}
-use Rattle.std.proofs.lemmas.Bool.{or_cases, and_parts, not-true, true≢false}
+use Rattle.std.proofs.lemmas.Bool.{or_cases, and_parts, not-true, true≢false, or_right}
 use Rattle.keymap_core.specs.declared.action.Holding.{Holding}
 use Rattle.keymap_core.specs.declared.action.Holding.TheVariants as holding
 use Rattle.keymap_core.specs.declared.action.Lock.{Lock}
@@ -79,10 +79,6 @@ pub locked-count : LockedByCount
 unfolding locked
 locked-count ms l h = ap is_odd (turns-count ms l h)
 
-or-true : (b : Bool) → (b || true) ≡ true
-or-true true = refl
-or-true false = refl
-
 -- holds_since by positions
 module _ {A : Type 0} (starts ends : A → List A → Bool) where
   -- what holds since some event: such an event, and no end behind it
@@ -102,7 +98,7 @@ module _ {A : Type 0} (starts ends : A → List A → Bool) where
       → holds_since starts ends (later ++ x ∷ before) ≡ true
   since-some [] x before s none = rw s refl
   since-some (y ∷ later) x before s none =
-      rw (since-some later x before s none.1, none.0) (or-true (starts y (later ++ x ∷ before)))
+      rw (since-some later x before s none.1, none.0) (or_right (starts y (later ++ x ∷ before)) true refl)
 
 -- a holding action is held exactly if some event raises it and no later event lowers it
 pub held-positions : HeldByPositions

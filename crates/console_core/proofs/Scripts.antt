@@ -4,9 +4,9 @@ use Prim.Native.Nat.{suc}
 use Rattle.std.proofs.Common.{◌≡◌, ℕ, ◌<◌, ◌+◌, All, arith, Bool, true, false, ◌&&◌, ◌||◌, not, List, [], ◌∷◌, ◌++◌}
 use Rattle.std.proofs.Common.{Option, Some, None, refl, ap, subst, sym, ◌∙◌, inl, inr, if◌then◌else◌}
 use Rattle.std.specs.Prelude.{◌==◌}
-use Rattle.std.proofs.lemmas.Bool.{eqb-true, eq-eqb, cases_Bool, true≢false}
+use Rattle.std.proofs.lemmas.Bool.{eqb-true, eq-eqb, cases_Bool, true≢false, false_from_ne_true}
 use Rattle.std.proofs.lemmas.List.Elements.{All-nil, All-cons}
-use Rattle.std.specs.Option.{option_or, is_some}
+use Rattle.std.specs.Option.{is_some}
 use Rattle.std.proofs.lemmas.Option.{none-some, same_Some}
 use Rattle.keymap_core.specs.declared.action.Action.{Action}
 use Rattle.keymap_core.specs.declared.action.Action.TheVariants as act
@@ -20,6 +20,7 @@ use Rattle.keymap_core.specs.declared.entry.Cell.TheVariants.{Char, Act}
 use Rattle.keymap_core.specs.Actions.{same_action, same_modifier, same_lock, modifiers}
 use Rattle.keymap_core.specs.Maps.{MapValue}
 use Rattle.keymap_core.proofs.SameActions.{same_action-true, same_action-refl}
+use Rattle.keymap_core.proofs.Lists.{option_or-none, none_unless}
 use Rattle.console_core.specs.declared.event.Event.{Event}
 use Rattle.console_core.specs.declared.event.Event.TheVariants.{Press, Release, Load}
 use Rattle.console_core.specs.Resolved.{ResolvedEvent, held, remembered, taken_over, is_this_action, look}
@@ -41,7 +42,7 @@ use Rattle.console_core.proofs.OneMore.{remembered-action, remembered-release, r
 use Rattle.console_core.proofs.OneMore.{pressed-press, pressed-release, pressed-load}
 use Rattle.console_core.proofs.Staying.{Follows, follows-look, follows-start, follows-hold, follows-turn}
 use Rattle.console_core.proofs.Staying.{follows-let_go, follows-release, follows-load, takes, same_mods, some_mods}
-use Rattle.console_core.proofs.Staying.{some_none, not_true, IsSafeBelow, never-sticks}
+use Rattle.console_core.proofs.Staying.{some_none, IsSafeBelow, never-sticks}
 
 -- the key holds some modifier
 abbrev pub HoldsSome : State → ℕ → Type 0
@@ -53,14 +54,6 @@ pub record Exact (r : List ResolvedEvent) (s : State) : Type 0 where
   pub only : (k : ℕ) (a : Action) → remembered k r ≡ Some a → HoldsSome s k
   pub up : (l : Lock) → held (holding.Lock l) r ≡ false
 
-first_none : (o : Option Action) → option_or o None ≡ o
-first_none None = refl
-first_none (Some a) = refl
-
-none_unless : (o : Option Action) → ((a : Action) → o ≡ Some a → ⊥) → o ≡ None
-none_unless None f = refl
-none_unless (Some a) f = absurd (f a refl)
-
 -- a key that is idle remembers nothing
 idle-none : (r : List ResolvedEvent) (s : State) (k : ℕ) → Exact r s → IsIdle s k → remembered k r ≡ None
 idle-none r s k x idle = none_unless (remembered k r) (λ a e. let p : HoldsSome s k = x.only k a e in idle p.0 p.1)
@@ -68,7 +61,7 @@ idle-none r s k x idle = none_unless (remembered k r) (λ a e. let p : HoldsSome
 -- what another key remembers after a press
 other-remembered : (r : List ResolvedEvent) (k j : ℕ) (b : Action) → k == j ≡ false
     → remembered j (PressedAction k b ∷ r) ≡ remembered j r
-other-remembered r k j b e = rw (remembered-action j k b r, e) (first_none (remembered j r))
+other-remembered r k j b e = rw (remembered-action j k b r, e) (option_or-none (remembered j r))
 
 -- the holders after a move
 hold-self : (s : State) (i : Modifier) (k : ℕ) → Holds (with_holder s i (Some k)) k i
@@ -297,7 +290,7 @@ pub record IsLeft (ms : Maps) (h : List Event) (i : Modifier) : Type 0 where
 -- an option that isn't the action fails the test
 is_not : (o : Option Action) (a : Action) → (o ≡ Some a → ⊥) → is_this_action o a ≡ false
 is_not None a f = refl
-is_not (Some b) a f = not_true (same_action b a) (λ e. f (ap (λ x. Some x) (same_action-true b a e)))
+is_not (Some b) a f = false_from_ne_true (same_action b a) (λ e. f (ap (λ x. Some x) (same_action-true b a e)))
 
 -- a holder that looks up a character leaves its modifier on
 left-character : (u : Under) (h : List Event) (s : State) (i : Modifier) (k : ℕ) → Stands u h s
@@ -419,7 +412,7 @@ holds-none s k Meta n = n.1.1.1.1.1.1.1.0
 quiet-after : (u : Under) (h : List Event) (s : State) (i : Modifier) (k : ℕ) → Stands u h s → Holds s k i
     → IsQuiet (releases s modifiers ++ (Press k ∷ h))
 quiet-after u h s i k x holds n lt =
-    not_true (pressed n (releases s modifiers ++ (Press k ∷ h))) (λ p.
+    false_from_ne_true (pressed n (releases s modifiers ++ (Press k ∷ h))) (λ p.
     let q : HoldsNone s n modifiers × (pressed n (Press k ∷ h) ≡ true) = released n (Press k ∷ h) s modifiers p in
     elim (cases_Bool (k == n)) [
       | inl t ↦ holds-none s n i q.0 (subst (λ y. Holds s y i) (eqb-true k n t) holds)

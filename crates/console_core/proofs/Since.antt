@@ -19,16 +19,13 @@ use Rattle.console_core.specs.Reading.{is_character, offered}
 use Rattle.console_core.specs.Reading.{FirstSince, NothingSince, RememberedByPositions, NothingRememberedByPositions}
 use Rattle.console_core.proofs.OneMore.{resolved-start, resolved-more, remembered-start, remembered-character}
 use Rattle.console_core.proofs.OneMore.{remembered-action, remembered-release, remembered-reset, remembered-load}
-
-none_after : (o : Option Action) → option_or o None ≡ o
-none_after None = refl
-none_after (Some a) = refl
+use Rattle.keymap_core.proofs.Lists.{option_or-none}
 
 -- a looked-up character, by the test of its key
 press_char : (t : Bool) (o : Option Action)
     → (if t && true then None else option_or o (if t then None else None)) ≡ (if t then None else o)
 press_char true o = refl
-press_char false o = none_after o
+press_char false o = option_or-none o
 
 -- a looked-up action, by the test of its key
 press_act : (t : Bool) (o : Option Action) (b : Action)
@@ -57,7 +54,7 @@ remembered-events ms k (Press j ∷ h) =
     (remembered-events ms k h)
     ∙ sym (ap (λ r. remembered k r) (resolved-more ms h (Press j)))
 remembered-events ms k (Release j ∷ h) =
-    ap (λ o. if j == k then None else o) (none_after _ ∙ remembered-events ms k h)
+    ap (λ o. if j == k then None else o) (option_or-none _ ∙ remembered-events ms k h)
     ∙ sym (ap (λ r. remembered k r) (resolved-more ms h (Release j)) ∙ remembered-release k j (resolved ms h))
 remembered-events ms k (Reset ∷ h) =
     sym (ap (λ r. remembered k r) (resolved-more ms h Reset) ∙ remembered-reset k (resolved ms h))

@@ -4,7 +4,7 @@ use Rattle.std.proofs.Common.{◌≡◌, ℕ, ◌<◌, ◌≤◌, ◌⊎◌, Boo
 use Rattle.std.proofs.Common.{Some, None, refl, ap, subst, sym, ◌∙◌, inl, inr, arith, if◌then◌else◌}
 use Rattle.std.specs.Prelude.{◌==◌}
 use Rattle.std.proofs.Math.Bool.{and-true, and-false}
-use Rattle.std.proofs.lemmas.Bool.{eqb-true, eq-eqb, cases_Bool, cases_lt, true≢false}
+use Rattle.std.proofs.lemmas.Bool.{eqb-true, eq-eqb, cases_Bool, cases_lt, true≢false, false_from_ne_true}
 use Rattle.std.proofs.lemmas.List.Elements.{All-head, All-tail}
 use Rattle.keymap_core.specs.declared.action.Action.{Action}
 use Rattle.keymap_core.specs.declared.action.Action.TheVariants as act
@@ -288,10 +288,6 @@ follows-release r s k f none = record {
 some_of : (o : Option ℕ) → is_some o ≡ true → (k : ℕ) × (o ≡ Some k)
 some_of None e = absurd (true≢false (sym e))
 some_of (Some k) e = (k, refl)
-
-pub not_true : (x : Bool) → (x ≡ true → ⊥) → x ≡ false
-not_true true f = absurd (f refl)
-not_true false f = refl
 
 -- the steps, where the moves keep the sets: `b` says whether the second map is in force
 abbrev Stays : (State → Type 0) → Bool → List ResolvedEvent → Type 0
@@ -586,7 +582,7 @@ follows-on ms h s f keys i e =
 pub off-once_quiet : (m : MapValue) (ms : Maps) (h : List Event) → IsOnOnlyWhilePressed m h (λ i. is_on_after ms i h)
     → IsOffOnceQuiet h (λ i. is_on_after ms i h)
 off-once_quiet m ms h on quiet i =
-    not_true (is_on_after ms i h) (λ e.
+    false_from_ne_true (is_on_after ms i h) (λ e.
     let s : (k : ℕ) × (k < 128) × Bears m k (holding.Mod i) × (pressed k h ≡ true) = on i e in
     true≢false (sym s.3 ∙ quiet s.0 s.1))
 

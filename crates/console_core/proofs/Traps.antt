@@ -2,8 +2,9 @@
 use Rattle.std.proofs.Common.{◌≡◌, ℕ, ◌<◌, Bool, true, false, ◌||◌, not, List, [], ◌∷◌, Some, refl, ap, subst, sym, ◌∙◌}
 use Rattle.std.proofs.Common.{inl, inr}
 use Rattle.std.specs.Prelude.{◌==◌}
-use Rattle.std.proofs.lemmas.Bool.{eqb-true, eq-eqb, and_parts, or_cases, cases_Bool, true≢false}
+use Rattle.std.proofs.lemmas.Bool.{eqb-true, eq-eqb, and_parts, or_cases, cases_Bool, true≢false, both_ways, not-true}
 use Rattle.std.proofs.lemmas.List.Elements.{All-tail}
+use Rattle.std.proofs.lemmas.Bool.{or_right}
 use Rattle.keymap_core.specs.declared.action.Action.TheVariants as act
 use Rattle.keymap_core.specs.declared.action.Lock.TheVariants as lock
 use Rattle.keymap_core.specs.declared.action.Modifier.{Modifier}
@@ -69,24 +70,16 @@ look-bits m r k caps num alt =
     )
     refl
 
-or-true : (x : Bool) → (x || true) ≡ true
-or-true true = refl
-or-true false = refl
-
 -- a modifier that is on sets the bit of its group
 on-bit : (r : List ResolvedEvent) (i : Modifier) → on i r ≡ true → group_bit i (bits_of r) ≡ true
 on-bit r LeftShift e = ap (λ t. t || on RightShift r) e
-on-bit r RightShift e = ap (λ t. on LeftShift r || t) e ∙ or-true _
+on-bit r RightShift e = ap (λ t. on LeftShift r || t) e ∙ or_right _ true refl
 on-bit r LeftControl e = ap (λ t. t || on RightControl r) e
-on-bit r RightControl e = ap (λ t. on LeftControl r || t) e ∙ or-true _
+on-bit r RightControl e = ap (λ t. on LeftControl r || t) e ∙ or_right _ true refl
 on-bit r LeftAlt e = ap (λ t. t || on RightAlt r) e
-on-bit r RightAlt e = ap (λ t. on LeftAlt r || t) e ∙ or-true _
+on-bit r RightAlt e = ap (λ t. on LeftAlt r || t) e ∙ or_right _ true refl
 on-bit r AltShift e = e
 on-bit r Meta e = refl
-
-not_false : (x : Bool) → not x ≡ true → x ≡ true → ⊥
-not_false true h e = true≢false (sym h)
-not_false false h e = true≢false (sym e)
 
 -- what a press adds, by its look
 press-kept : (m : MapValue) (i : Modifier) (j : ℕ) (r : List ResolvedEvent) (x : Cell) → AllLooked m r
@@ -156,7 +149,7 @@ on-remembered ms (Release j ∷ h) locks i free keys e =
       | inl q ↦
           let f : remembered j (resolved ms h) ≡ Some (act.Mod i) =
           ap (λ x. remembered x (resolved ms h)) (eqb-true j s.0 q) ∙ s.1 in
-          absurd (not_false (is_this_action (remembered j (resolved ms h)) (act.Mod i)) p.1
+          absurd (both_ways (is_this_action (remembered j (resolved ms h)) (act.Mod i)) (not-true _ p.1)
           (ap (λ o. is_this_action o (act.Mod i)) f ∙ same_action-refl (act.Mod i)))
       | inr q ↦ (s.0, rw (remembered-release s.0 j (resolved ms h), q) s.1)
     ])

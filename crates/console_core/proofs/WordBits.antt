@@ -51,8 +51,8 @@ bit-clear n k i lt lt2 = clear_by n k i (eqb k i) lt lt2 refl
 shl-one : (k : ℕ) → k < 32 → 1 * 2 ^ k % 2 ^ 32 ≡ 2 ^ k
 shl-one k lt = let p : 2 ^ k < 2 ^ 32 = pow-lt lt in rw (one-mul (2 ^ k)) (mod-eq_of_lt p)
 
--- the test of a bit
-two_cases : (x : ℕ) → x < 2 → (x ≡ 0) ⊎ (x ≡ 1)
+-- a number below 2
+pub two_cases : (x : ℕ) → x < 2 → (x ≡ 0) ⊎ (x ≡ 1)
 two_cases zero lt = inl refl
 two_cases (suc zero) lt = inr refl
 two_cases (suc (suc x)) lt = let e : ⊥ = omega arith in absurd e

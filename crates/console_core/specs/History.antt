@@ -1,10 +1,12 @@
 -- What a console does, as statements on the list of the events that were delivered to it. The list has the newest event
 -- first: in `e ∷ h` the events before e are h.
 use Rattle.std.specs.Prelude.{◌≡◌, ℕ, ◌<◌, ◌==◌, Bool, false, true, List, [], ◌∷◌, All, Option, Some, if◌then◌else◌}
+use Rattle.std.specs.List.{list_any}
 use Rattle.keymap_core.specs.declared.action.Modifier.{Modifier}
 use Rattle.keymap_core.specs.declared.action.Lock.{Lock}
 use Rattle.keymap_core.specs.Maps.{MapValue}
 use Rattle.keymap_core.specs.Numbers.{key_count}
+use Rattle.keymap_core.specs.Actions.{modifiers}
 use Rattle.console_core.specs.declared.event.Event.{Event}
 use Rattle.console_core.specs.declared.event.Event.TheVariants.{Press, Release, Reset, Load}
 use Rattle.console_core.specs.declared.event.Answer.{Answer}
@@ -80,6 +82,10 @@ resolved_event ms h e = resolve (in_force ms h) (loaded ms h) (resolved ms h) e
 -- Which modifiers and locks are on after h, which accent is pending, and the answer to the event e after h.
 abbrev pub is_on_after : Maps → Modifier → List Event → Bool
 is_on_after ms i h = on i (resolved ms h)
+
+-- some modifier is on after h
+abbrev pub is_any_on_after : Maps → List Event → Bool
+is_any_on_after ms h = list_any (λ i. is_on_after ms i h) modifiers
 
 abbrev pub is_locked_after : Maps → Lock → List Event → Bool
 is_locked_after ms l h = locked l (resolved ms h)

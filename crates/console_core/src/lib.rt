@@ -40,6 +40,6 @@ pub use outcome::Sticking;
 pub use plain_console::PlainConsole;
 pub use replays::{deliver_all, replay};
 pub use search::{sticking, sticking_between};
-pub use translator::Translator;
+pub use translator::{Translator, is_any_on};
 pub use word_console::WordConsole;
 pub use word_store::WordStore;

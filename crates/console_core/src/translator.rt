@@ -4,7 +4,7 @@ ghost use Rattle.keymap_core.specs.declared.action.Modifier.{Modifier as Modifie
 ghost use Rattle.keymap_core.specs.declared.action.Lock.{Lock as LockValue};
 ghost use Rattle.console_core.specs.declared.event.Event.{Event as EventValue};
 ghost use Rattle.console_core.specs.History.{Maps, is_on_after, is_locked_after, accent_pending_after, answer_to};
-ghost use Rattle.console_core.specs.History.{HasKeys};
+ghost use Rattle.console_core.specs.History.{HasKeys, is_any_on_after};
 
 use crate::event::{Answer, Event};
 use keymap_core::{Lock, Modifier};
@@ -51,4 +51,18 @@ pub trait Translator {
 
     ghost pending_where_it_stands: { (c : Self) (ms : Maps) (h : List EventValue) → stands c ms h
         → shows_pending c ≡ accent_pending_after ms h };
+}
+
+/// Whether some modifier is on.
+pub fn is_any_on<T: Translator>(console: &T) -> bool
+    ensures { (ms : Maps) (h : List EventValue) → T.stands console.now ms h → result ≡ is_any_on_after ms h }
+{
+    console.on(Modifier::LeftShift)
+        || console.on(Modifier::RightShift)
+        || console.on(Modifier::LeftControl)
+        || console.on(Modifier::RightControl)
+        || console.on(Modifier::LeftAlt)
+        || console.on(Modifier::RightAlt)
+        || console.on(Modifier::AltShift)
+        || console.on(Modifier::Meta)
 }

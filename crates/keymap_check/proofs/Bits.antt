@@ -1,5 +1,5 @@
 -- The bits of the cell that is looked up, where no lock is on.
-use Rattle.std.proofs.Common.{◌≡◌, ℕ, Bool, true, false, ◌<◌, ◌≤◌, ◌||◌, List, [], ◌∷◌, None, refl, ap, ◌∙◌, arith}
+use Rattle.std.proofs.Common.{◌≡◌, ℕ, Bool, true, ◌<◌, ◌≤◌, ◌||◌, List, [], ◌∷◌, None, refl, ap, ◌∙◌}
 use Rattle.keymap_core.specs.declared.action.Action.TheVariants as act
 use Rattle.keymap_core.specs.declared.action.Modifier.{Modifier}
 use Rattle.keymap_core.specs.declared.action.Modifier.TheVariants.{LeftShift, RightShift, LeftControl, RightControl}
@@ -7,20 +7,16 @@ use Rattle.keymap_core.specs.declared.action.Modifier.TheVariants.{LeftAlt, Righ
 use Rattle.keymap_core.specs.declared.action.Holding.TheVariants as holding
 use Rattle.keymap_core.specs.Actions.{same_modifier}
 use Rattle.console_core.specs.Resolved.{ResolvedEvent, on, remembered}
-use Rattle.console_core.specs.Columns.{bit, column_of}
 use Rattle.console_core.specs.Resolved.ResolvedEvent.{PressedAction}
 use Rattle.console_core.proofs.Traps.{bits_of}
 use Rattle.console_core.proofs.OneMore.{held-action, held-start}
 use Rattle.keymap_check.specs.Shown.{group_of, with_bit, no_bits}
+use Rattle.std.proofs.lemmas.Bool.{or_right}
 
 -- the bits after one more press that raises a modifier
 on-more : (i y : Modifier) (j : ℕ) (r : List ResolvedEvent) → remembered j r ≡ None
     → on i (PressedAction j (act.Mod y) ∷ r) ≡ (same_modifier y i || on i r)
 on-more i y j r e = held-action (holding.Mod i) j (act.Mod y) r ∙ rw e refl
-
-or-true : (b : Bool) → (b || true) ≡ true
-or-true true = refl
-or-true false = refl
 
 -- one more modifier that is on sets the bit of its group
 bits-added : (y : Modifier) (r : List ResolvedEvent) → record {
@@ -30,11 +26,11 @@ bits-added : (y : Modifier) (r : List ResolvedEvent) → record {
   alt = (same_modifier y LeftAlt || on LeftAlt r) || (same_modifier y RightAlt || on RightAlt r);
 } ≡ with_bit (group_of y) (bits_of r)
 bits-added LeftShift r = refl
-bits-added RightShift r = ap (λ b. record (bits_of r) { shift = b }) (or-true (on LeftShift r))
+bits-added RightShift r = ap (λ b. record (bits_of r) { shift = b }) (or_right (on LeftShift r) true refl)
 bits-added LeftControl r = refl
-bits-added RightControl r = ap (λ b. record (bits_of r) { control = b }) (or-true (on LeftControl r))
+bits-added RightControl r = ap (λ b. record (bits_of r) { control = b }) (or_right (on LeftControl r) true refl)
 bits-added LeftAlt r = refl
-bits-added RightAlt r = ap (λ b. record (bits_of r) { alt = b }) (or-true (on LeftAlt r))
+bits-added RightAlt r = ap (λ b. record (bits_of r) { alt = b }) (or_right (on LeftAlt r) true refl)
 bits-added AltShift r = refl
 bits-added Meta r = refl
 
@@ -66,11 +62,3 @@ bits-start =
       held-start (holding.Mod RightAlt),
     )
     refl
-
-bit-le : (b : Bool) → bit b ≤ 1
-bit-le true = omega arith
-bit-le false = omega arith
-
--- a column is one of eight
-pub column_of-lt : (shift control alt : Bool) → column_of shift control alt < 8
-column_of-lt shift control alt = omega (arith, bit-le shift, bit-le control, bit-le alt)

@@ -6,7 +6,7 @@ use Rattle.std.specs.Prelude.{bit_and, bit_or, bit_xor}
 use Rattle.std.specs.Int.{bit_at}
 use Rattle.std.proofs.Math.Nat.{zero-mul, one-mul, mod-eq_of_lt}
 use Rattle.std.proofs.Math.Pow.{pow-lt}
-use Rattle.std.proofs.lemmas.Bool.{true≢false, eqb-true, eqb-false, eq-eqb, ne_eqb}
+use Rattle.std.proofs.lemmas.Bool.{true≢false, eqb-true, eqb-false, eq-eqb, ne_eqb, or_right}
 use Rattle.std.proofs.lemmas.Nat.{and_or_apart, and_comm}
 use Rattle.std.specs.Int.Bits.{and_zero_l}
 use Rattle.std.proofs.lemmas.Nat.Bits.{bit_at_and, bit_at_or, bit_at_xor, bit_at-pow_same, bit_at-pow_other, bit_at-lt}
@@ -30,6 +30,8 @@ use Rattle.keymap_check.specs.declared.kind.Kind.{Kind}
 use Rattle.keymap_check.specs.declared.kind.Kind.TheVariants as kind
 use Rattle.keymap_check.specs.Cells.{is_of_kind, is_holding, is_of_group, cell_of, first_place, place_count}
 use Rattle.keymap_check.specs.Inner.CellBits.{cell_bit, is_set, bits_below, bits_of, mask_of}
+use Rattle.console_core.proofs.Places.{modifier_index-lt}
+use Rattle.console_core.proofs.WordBits.{lock_index-lt, two_cases}
 
 -- one bit of a power of two
 pow_by : (k i : ℕ) (b : Bool) → eqb i k ≡ b → is_set (2 ^ k) i ≡ b
@@ -39,27 +41,6 @@ pow_by k i false e = ap (λ x. eqb x 1) (bit_at-pow_other k i (eqb-false i k e))
 -- a power of two has one bit
 is_set-pow : (k i : ℕ) → is_set (2 ^ k) i ≡ eqb i k
 is_set-pow k i = pow_by k i (eqb i k) refl
-
-modifier_index-lt : (i : Modifier) → modifier_index i < 8
-modifier_index-lt LeftShift = omega arith
-modifier_index-lt RightShift = omega arith
-modifier_index-lt LeftControl = omega arith
-modifier_index-lt RightControl = omega arith
-modifier_index-lt LeftAlt = omega arith
-modifier_index-lt RightAlt = omega arith
-modifier_index-lt AltShift = omega arith
-modifier_index-lt Meta = omega arith
-
-lock_index-lt : (l : Lock) → lock_index l < 4
-lock_index-lt Caps = omega arith
-lock_index-lt Num = omega arith
-lock_index-lt Scroll = omega arith
-lock_index-lt Alt = omega arith
-
--- the index of a holding action is one of twelve
-pub holding_index-lt : (a : Holding) → holding_index a < 12
-holding_index-lt (holding.Mod i) = let lt : modifier_index i < 8 = modifier_index-lt i in omega (arith, lt)
-holding_index-lt (holding.Lock l) = let lt : lock_index l < 4 = lock_index-lt l in omega (arith, lt)
 
 -- what the masks with fixed bits tell of a modifier and of a lock
 modifier-bits : (i : Modifier)
@@ -130,11 +111,6 @@ cell_bit-lt (Act (act.Lock l)) = let lt : lock_index l < 4 = lock_index-lt l in 
 cell_bit-lt (Act act.Nop) = omega arith
 cell_bit-lt (Act b) = omega arith
 
-two_cases : (x : ℕ) → x < 2 → (x ≡ 0) ⊎ (x ≡ 1)
-two_cases zero lt = inl refl
-two_cases (suc zero) lt = inr refl
-two_cases (suc (suc x)) lt = let e : ⊥ = omega arith in absurd e
-
 -- a bit is turned by another that is set
 turned : (x : ℕ) → x < 2 → eqb ((1 + x) % 2) 1 ≡ not (eqb x 1)
 turned x lt = elim (two_cases x lt) [ inl e ↦ rw e refl | inr e ↦ rw e refl ]
@@ -181,10 +157,6 @@ or_false : (b : Bool) → (b || false) ≡ b
 or_false true = refl
 or_false false = refl
 
-or_true : (b : Bool) → (b || true) ≡ true
-or_true true = refl
-or_true false = refl
-
 -- one more bit, by whether the mask has it
 meets_by : (n mask i : ℕ) (b : Bool) → is_set mask i ≡ b → meets (bit_or n (2 ^ i)) mask ≡ (meets n mask || b)
 meets_by n mask i false e =
@@ -198,7 +170,7 @@ meets_by n mask i true e =
     let ne : bit_and (bit_or n (2 ^ i)) mask ≡ 0 → ⊥ = λ z.
     let none : bit_at (bit_and (bit_or n (2 ^ i)) mask) i ≡ 0 = ap (λ x. bit_at x i) z ∙ bit_at-zero i in
     omega (arith, here, none) in
-    ap not (ne_eqb (bit_and (bit_or n (2 ^ i)) mask) 0 ne) ∙ sym (or_true (meets n mask))
+    ap not (ne_eqb (bit_and (bit_or n (2 ^ i)) mask) 0 ne) ∙ sym (or_right (meets n mask) true refl)
 
 -- a number with one more bit meets the mask if it did or the mask has the bit
 meets-more : (n mask i : ℕ) → meets (bit_or n (2 ^ i)) mask ≡ (meets n mask || is_set mask i)

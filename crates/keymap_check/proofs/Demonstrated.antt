@@ -1,16 +1,13 @@
 -- A demonstration leaves a modifier on in the sense of the search.
 use Prim.Native.Nat.{zero, suc}
-use Rattle.std.proofs.Common.{◌≡◌, ℕ, ◌<◌, Bool, true, false, List, [], ◌∷◌, ◌++◌, Option, Some, None, refl, ap, subst}
-use Rattle.std.proofs.Common.{sym, ◌∙◌, if◌then◌else◌, inl, inr}
-use Rattle.std.specs.Prelude.{reverse, find, All}
-use Rattle.std.proofs.lemmas.Bool.{or_cases}
-use Rattle.std.proofs.lemmas.List.{reverse-append}
-use Rattle.std.proofs.lemmas.List.Elements.{All-head, All-tail, All-append, All-nil, All-cons, All-weaker}
+use Rattle.std.proofs.Common.{◌≡◌, ℕ, ◌<◌, Bool, true, false, List, [], ◌∷◌, ◌++◌, Option, Some, None, refl, ap}
+use Rattle.std.proofs.Common.{◌∙◌, if◌then◌else◌}
+use Rattle.std.specs.Prelude.{reverse, All}
+use Rattle.std.proofs.lemmas.List.Elements.{All-append, All-nil, All-cons, All-weaker}
 use Rattle.keymap_core.specs.declared.action.Modifier.{Modifier}
-use Rattle.keymap_core.specs.declared.action.Modifier.TheVariants.{LeftShift, RightShift, LeftControl, RightControl}
-use Rattle.keymap_core.specs.declared.action.Modifier.TheVariants.{LeftAlt, RightAlt, AltShift, Meta}
 use Rattle.keymap_core.specs.Maps.{MapValue}
 use Rattle.keymap_core.specs.Below.{gathered}
+use Rattle.keymap_core.specs.Actions.{modifiers}
 use Rattle.console_core.specs.declared.event.Event.{Event}
 use Rattle.console_core.specs.declared.event.Event.TheVariants.{Press, Release, Reset, Load}
 use Rattle.console_core.specs.Resolved.{on}
@@ -20,10 +17,11 @@ use Rattle.console_core.proofs.OneMap.{without_loads}
 use Rattle.keymap_check.specs.Computed.{findings_at}
 use Rattle.keymap_check.specs.Scripts.{bit_key_at, bit_keys, event_if, event_at, events_of, script, is_chosen}
 use Rattle.keymap_check.specs.Scripts.{scripts_of, scripts_with, scripts_for, lacks_key, has_some, tried_at, tried}
-use Rattle.keymap_check.specs.Scripts.{leaves_modifier_on, is_some_on}
+use Rattle.keymap_check.specs.Scripts.{leaves_modifier_on}
 use Rattle.keymap_check.specs.Shown.{DemonstrationsLeaveModifiersOn}
 use Rattle.keymap_check.proofs.Quiet.{Every, every-gathered, every-below, first-every, given-quiet}
 use Rattle.keymap_check.proofs.Trapless.{AreKeys, bit_keys-keys}
+use Rattle.keymap_core.proofs.Lists.{All-reversed, find-true, one-of-any}
 
 -- a press or a release of a key
 abbrev IsKeyEvent : Event → Type 0
@@ -92,50 +90,6 @@ tried-by_keys m =
     every-below (All IsKeyEvent) (tried_at m) 128
     (λ k lt. by_keys-tried (has_some (findings_at m k)) (bit_keys m k) k (bit_keys-keys m k) lt)
 
--- what holds for a list holds for it reversed
-All-reversed : {X : Type 0} (P : X → Type 0) (xs : List X) → All P xs → All P (reverse xs)
-All-reversed P [] all = All-nil P
-All-reversed P (x ∷ xs) all =
-    subst (All P) (sym (reverse-append (x ∷ []) xs))
-    (All-append P (reverse xs) (x ∷ []) (All-reversed P xs (All-tail P x xs all))
-    (All-cons P x [] (All-head P x xs all) (All-nil P)))
-
--- what is found passes the test
-found_by : {A : Type 0} (test : A → Bool) (t : Bool) (x s : A) (o : Option A) → test x ≡ t
-    → (o ≡ Some s → test s ≡ true) → (if t then Some x else o) ≡ Some s → test s ≡ true
-found_by test true x s o p f e = let q : x ≡ s = cc in subst (λ y. test y ≡ true) q p
-found_by test false x s o p f e = f e
-
-found-passes : {A : Type 0} (test : A → Bool) (xs : List A) (s : A) → find test xs ≡ Some s → test s ≡ true
-found-passes test [] s e = cc
-found-passes test (x ∷ xs) s e = found_by test (test x) x s (find test xs) refl (found-passes test xs s) e
-
--- where some modifier is on, one is
-one_on : (ms : Maps) (h : List Event) → is_some_on ms h ≡ true → (i : Modifier) × (is_on_after ms i h ≡ true)
-one_on ms h e =
-    elim (or_cases _ (is_on_after ms Meta h) e) [
-      | inr y ↦ (Meta, y)
-      | inl e7 ↦ elim (or_cases _ (is_on_after ms AltShift h) e7) [
-        | inr y ↦ (AltShift, y)
-        | inl e6 ↦ elim (or_cases _ (is_on_after ms RightAlt h) e6) [
-          | inr y ↦ (RightAlt, y)
-          | inl e5 ↦ elim (or_cases _ (is_on_after ms LeftAlt h) e5) [
-            | inr y ↦ (LeftAlt, y)
-            | inl e4 ↦ elim (or_cases _ (is_on_after ms RightControl h) e4) [
-              | inr y ↦ (RightControl, y)
-              | inl e3 ↦ elim (or_cases _ (is_on_after ms LeftControl h) e3) [
-                | inr y ↦ (LeftControl, y)
-                | inl e2 ↦ elim (or_cases (is_on_after ms LeftShift h) (is_on_after ms RightShift h) e2) [
-                  | inl y ↦ (LeftShift, y)
-                  | inr y ↦ (RightShift, y)
-                ]
-              ]
-            ]
-          ]
-        ]
-      ]
-    ]
-
 -- presses and releases are no loads
 no_load : (e : Event) → IsKeyEvent e → IsNoLoad e
 no_load (Press k) x = refl
@@ -155,7 +109,8 @@ demonstrations_leave_modifiers_on m events e =
     All-reversed IsKeyEvent events (first-every (All IsKeyEvent) (leaves_modifier_on m) (tried m) events
     (tried-by_keys m) e) in
     let one : (i : Modifier) × (is_on_after (between m m) i (reverse events) ≡ true) =
-    one_on (between m m) (reverse events) (found-passes (leaves_modifier_on m) (tried m) events e) in
+    one-of-any (λ i. is_on_after (between m m) i (reverse events)) modifiers
+    (find-true (leaves_modifier_on m) (tried m) events e) in
     let none : HasNoLoads (reverse events) = All-weaker IsKeyEvent IsNoLoad no_load (reverse events) keys in (
       All-weaker IsKeyEvent HasKey (λ x y. y.0) (reverse events) keys,
       All-weaker IsKeyEvent IsPressOrRelease (λ x y. y.1) (reverse events) keys,

@@ -3,21 +3,18 @@ use Prim.Native.Nat.{zero, suc}
 use Rattle.std.proofs.Common.{◌≡◌, ℕ, ◌+◌, Bool, true, false, ◌&&◌, ◌||◌, List, [], ◌∷◌, ◌++◌, Option, Some, None}
 use Rattle.std.proofs.Common.{refl, ap, sym, ◌∙◌, if◌then◌else◌}
 use Rattle.std.specs.Prelude.{reverse}
-use Rattle.std.proofs.lemmas.Bool.{true≢false}
 use Rattle.std.proofs.lemmas.List.{reverse-append, append-nil}
 use Rattle.keymap_core.specs.declared.action.Modifier.{Modifier}
-use Rattle.keymap_core.specs.declared.action.Modifier.TheVariants.{LeftShift, RightShift, LeftControl, RightControl}
-use Rattle.keymap_core.specs.declared.action.Modifier.TheVariants.{LeftAlt, RightAlt, AltShift, Meta}
 use Rattle.keymap_core.specs.declared.action.Holding.TheVariants as holding
 use Rattle.keymap_core.specs.Below.{gathered}
 use Rattle.keymap_core.proofs.Below.{gathered-more}
+use Rattle.keymap_core.proofs.HoldingTests.{no-modifier, no-modifiers}
 use Rattle.console_core.specs.declared.event.Event.{Event}
 use Rattle.console_core.specs.declared.event.Event.TheVariants.{Press, Release}
-use Rattle.console_core.specs.History.{Maps, is_on_after, resolved}
+use Rattle.console_core.specs.History.{Maps, is_on_after, resolved, is_any_on_after}
 use Rattle.console_core.proofs.OneMore.{resolved-more, held-release}
 use Rattle.console_core.proofs.Deliveries.{reverse-push}
 use Rattle.keymap_check.specs.Scripts.{event_if, event_at, is_chosen, bit_key_at, events_of, start_of, script}
-use Rattle.keymap_check.specs.Scripts.{is_some_on}
 
 -- the events of a script, the newest first
 pub played : (keys : List (Option ℕ)) (k a b : ℕ)
@@ -72,45 +69,23 @@ stays-off ms h j i e =
     rw (resolved-more ms h (Release j), held-release (holding.Mod i) j (resolved ms h))
     (off_and (is_on_after ms i h) _ e)
 
--- where one of eight would do, none is there
-none_of : (a b c d e f g h : Bool) → (a || b || c || d || e || f || g || h) ≡ false
-    → (a ≡ false) × (b ≡ false) × (c ≡ false) × (d ≡ false) × (e ≡ false) × (f ≡ false) × (g ≡ false) × (h ≡ false)
-none_of true b c d e f g h q = absurd (true≢false q)
-none_of false true c d e f g h q = absurd (true≢false q)
-none_of false false true d e f g h q = absurd (true≢false q)
-none_of false false false true e f g h q = absurd (true≢false q)
-none_of false false false false true f g h q = absurd (true≢false q)
-none_of false false false false false true g h q = absurd (true≢false q)
-none_of false false false false false false true h q = absurd (true≢false q)
-none_of false false false false false false false h q = (refl, refl, refl, refl, refl, refl, refl, q)
-
 -- a release leaves all modifiers off
-pub released : (ms : Maps) (h : List Event) (j : ℕ) → is_some_on ms h ≡ false → is_some_on ms (Release j ∷ h) ≡ false
+pub released : (ms : Maps) (h : List Event) (j : ℕ) → is_any_on_after ms h ≡ false
+    → is_any_on_after ms (Release j ∷ h) ≡ false
 released ms h j e =
-    let off = none_of (is_on_after ms LeftShift h) (is_on_after ms RightShift h) (is_on_after ms LeftControl h)
-    (is_on_after ms RightControl h)
-    (is_on_after ms LeftAlt h) (is_on_after ms RightAlt h) (is_on_after ms AltShift h) (is_on_after ms Meta h) e in
-    rw (
-      stays-off ms h j LeftShift off.0,
-      stays-off ms h j RightShift off.1,
-      stays-off ms h j LeftControl off.2,
-      stays-off ms h j RightControl off.3,
-      stays-off ms h j LeftAlt off.4,
-      stays-off ms h j RightAlt off.5,
-      stays-off ms h j AltShift off.6,
-      stays-off ms h j Meta off.7,
-    ) refl
+    no-modifiers (λ i. is_on_after ms i (Release j ∷ h))
+    (λ i. stays-off ms h j i (no-modifier (λ x. is_on_after ms x h) e i))
 
 -- nor do the releases of the keys of a set
-one_release : (ms : Maps) (xs h : List Event) (t : Bool) (o : Option ℕ) → is_some_on ms (reverse xs ++ h) ≡ false
-    → is_some_on ms (reverse (xs ++ (if t then event_if false o else [])) ++ h) ≡ false
+one_release : (ms : Maps) (xs h : List Event) (t : Bool) (o : Option ℕ) → is_any_on_after ms (reverse xs ++ h) ≡ false
+    → is_any_on_after ms (reverse (xs ++ (if t then event_if false o else [])) ++ h) ≡ false
 one_release ms xs h true None e = rw append-nil e
 one_release ms xs h true (Some j) e = rw (reverse-push (Release j) xs h) (released ms (reverse xs ++ h) j e)
 one_release ms xs h false o e = rw append-nil e
 
 -- the releases of the bits below n leave all modifiers off
-releases_below : (ms : Maps) (h : List Event) (keys : List (Option ℕ)) (set except n : ℕ) → is_some_on ms h ≡ false
-    → is_some_on ms (reverse (gathered (event_at false keys set except) n) ++ h) ≡ false
+releases_below : (ms : Maps) (h : List Event) (keys : List (Option ℕ)) (set except n : ℕ) → is_any_on_after ms h ≡ false
+    → is_any_on_after ms (reverse (gathered (event_at false keys set except) n) ++ h) ≡ false
 unfolding gathered
 releases_below ms h keys set except zero e = e
 releases_below ms h keys set except (suc n) e =
@@ -118,6 +93,6 @@ releases_below ms h keys set except (suc n) e =
     (releases_below ms h keys set except n e)
 
 -- the releases of a set leave all modifiers off
-pub stays_off : (ms : Maps) (h : List Event) (keys : List (Option ℕ)) (set except : ℕ) → is_some_on ms h ≡ false
-    → is_some_on ms (reverse (events_of false keys set except) ++ h) ≡ false
+pub stays_off : (ms : Maps) (h : List Event) (keys : List (Option ℕ)) (set except : ℕ) → is_any_on_after ms h ≡ false
+    → is_any_on_after ms (reverse (events_of false keys set except) ++ h) ≡ false
 stays_off ms h keys set except e = releases_below ms h keys set except 4 e

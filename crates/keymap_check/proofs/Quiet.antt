@@ -4,6 +4,7 @@ use Rattle.std.proofs.Common.{◌≡◌, ℕ, ◌<◌, Bool, true, false, ◌&&�
 use Rattle.std.proofs.Common.{refl, ap, subst, sym, ◌∙◌, arith, if◌then◌else◌}
 use Rattle.std.specs.Prelude.{◌==◌, reverse}
 use Rattle.std.proofs.lemmas.List.{append-nil}
+use Rattle.std.proofs.lemmas.Bool.{or_parts, and_right}
 use Rattle.keymap_core.specs.Maps.{MapValue}
 use Rattle.keymap_core.specs.Borne.{any_below}
 use Rattle.keymap_core.specs.Below.{gathered}
@@ -12,6 +13,7 @@ use Rattle.console_core.specs.declared.event.Event.TheVariants.{Press, Release, 
 use Rattle.console_core.specs.History.{pressed, IsQuiet}
 use Rattle.console_core.proofs.OneMore.{pressed-start, pressed-press, pressed-release, pressed-reset, pressed-load}
 use Rattle.console_core.proofs.Deliveries.{reverse-cons}
+use Rattle.console_core.proofs.Keeping.{cleared}
 use Rattle.keymap_check.specs.Computed.{findings_at}
 use Rattle.std.specs.Prelude.{find}
 use Rattle.keymap_check.specs.Scripts.{has_bit, is_chosen, bit_key_at, bit_keys, event_if, event_at, events_of, script}
@@ -72,13 +74,6 @@ press_by true false = refl
 press_by false true = refl
 press_by false false = refl
 
--- a key is pressed if it was and isn't let go now
-release_by : (s q : Bool) → (if s then false else q) ≡ (q && not s)
-release_by true true = refl
-release_by true false = refl
-release_by false true = refl
-release_by false false = refl
-
 -- the press of a bit
 one_press : (j : ℕ) (t q : Bool) (o : Option ℕ)
     → after j q (if t then event_if true o else []) ≡ (q || (t && is_key j o))
@@ -90,7 +85,7 @@ one_press j false q o = or-false q
 one_release : (j : ℕ) (t q : Bool) (o : Option ℕ)
     → after j q (if t then event_if false o else []) ≡ (q && not (t && is_key j o))
 one_release j true q None = and-true q
-one_release j true q (Some i) = release_by (i == j) q
+one_release j true q (Some i) = cleared (i == j) q
 one_release j false q o = and-true q
 
 or_assoc : (p m x : Bool) → ((p || m) || x) ≡ (p || (m || x))
@@ -130,10 +125,6 @@ Rest keys a b j n =
     (any_below (is_named keys b a j) n ≡ false)
     × (any_below (is_named keys a 0 j) n ≡ any_below (is_named keys a b j) n)
 
-or_none : (p q : Bool) → (p || q) ≡ false → (p ≡ false) × (q ≡ false)
-or_none true q e = cc
-or_none false q e = (refl, e)
-
 -- a bit of the first set is let go, unless it is in the second
 bit_rest : (a b z x : Bool) → z ≡ false → ((b && not z) && x) ≡ false
     → (((b && not a) && x) ≡ false) × (((a && not z) && x) ≡ ((a && not b) && x))
@@ -148,15 +139,11 @@ rest : (keys : List (Option ℕ)) (a b j n : ℕ) → any_below (is_named keys b
 unfolding any_below
 rest keys a b j zero e = (refl, refl)
 rest keys a b j (suc n) e =
-    let s : (any_below (is_named keys b 0 j) n ≡ false) × (is_named keys b 0 j n ≡ false) = or_none _ _ e in
+    let s : (any_below (is_named keys b 0 j) n ≡ false) × (is_named keys b 0 j n ≡ false) = or_parts _ _ e in
     let r : Rest keys a b j n = rest keys a b j n s.0 in
     let t : (is_named keys b a j n ≡ false) × (is_named keys a 0 j n ≡ is_named keys a b j n) =
     bit_rest (has_bit a n) (has_bit b n) (has_bit 0 n) (is_key j (bit_key_at keys n)) (no_bit n) s.1 in
     (rw (r.0, t.0) refl, rw (r.1, t.1) refl)
-
-and_false : (q : Bool) → (q && false) ≡ false
-and_false true = refl
-and_false false = refl
 
 same_not : (q : Bool) → (((q && not q) || false) && true) ≡ false
 same_not true = refl
@@ -166,7 +153,7 @@ same_not false = refl
 quiet_by : (s ma mab mba mb : Bool) → (mb ≡ false → (mba ≡ false) × (ma ≡ mab))
     → ((if s then false else (if s then true else (((if s then true else ma) && not mab) || mba))) && not mb) ≡ false
 quiet_by true ma mab mba mb f = refl
-quiet_by false ma mab mba true f = and_false _
+quiet_by false ma mab mba true f = and_right _ false refl
 quiet_by false ma mab mba false f = let e : (mba ≡ false) × (ma ≡ mab) = f refl in rw (e.0, e.1) (same_not mab)
 
 -- at the end of a script no key is pressed

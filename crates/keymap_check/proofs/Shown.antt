@@ -2,7 +2,7 @@
 use Rattle.std.proofs.Common.{◌≡◌, ◌≢◌, ℕ, ◌<◌, Bool, true, false, ◌||◌, not, List, [], ◌∷◌, Option, Some, None, refl}
 use Rattle.std.proofs.Common.{ap, subst, sym, ◌∙◌, inl, inr, lit<, if◌then◌else◌}
 use Rattle.std.specs.Prelude.{◌==◌, reverse, find}
-use Rattle.std.proofs.lemmas.Bool.{true≢false, eq-eqb, eqb-true, and_parts}
+use Rattle.std.proofs.lemmas.Bool.{true≢false, eq-eqb, eqb-true, and_parts, not-true, false_from_ne_true}
 use Rattle.std.specs.Option.{is_some}
 use Rattle.keymap_core.specs.declared.action.Action.TheVariants as act
 use Rattle.keymap_core.specs.declared.action.Lock.{Lock}
@@ -10,7 +10,7 @@ use Rattle.keymap_core.specs.declared.action.Lock.TheVariants as lock
 use Rattle.keymap_core.specs.declared.action.Holding.TheVariants as holding
 use Rattle.keymap_core.specs.declared.action.Modifier.{Modifier}
 use Rattle.keymap_core.specs.declared.action.Modifier.TheVariants.{LeftShift, RightShift, LeftControl, RightControl}
-use Rattle.keymap_core.specs.declared.action.Modifier.TheVariants.{LeftAlt, RightAlt, AltShift, Meta}
+use Rattle.keymap_core.specs.declared.action.Modifier.TheVariants.{LeftAlt, RightAlt, AltShift}
 use Rattle.keymap_core.specs.declared.entry.Cell.{Cell}
 use Rattle.keymap_core.specs.declared.entry.Cell.TheVariants.{Char, Act}
 use Rattle.keymap_core.specs.Actions.{modifier_index}
@@ -22,11 +22,12 @@ use Rattle.keymap_core.proofs.Below.{first_below-some}
 use Rattle.console_core.specs.declared.event.Event.{Event}
 use Rattle.console_core.specs.declared.event.Event.TheVariants.{Press, Release}
 use Rattle.console_core.specs.Resolved.{on, held, locked, remembered, look, resolve_press}
-use Rattle.console_core.specs.History.{Maps, between, is_on_after, resolved}
+use Rattle.console_core.specs.History.{Maps, between, is_on_after, resolved, is_any_on_after}
 use Rattle.console_core.specs.Columns.{slot_of, column_of}
 use Rattle.console_core.specs.Resolved.ResolvedEvent.{PressedCharacter, PressedAction, ReleasedKey}
-use Rattle.console_core.proofs.Borne.{AllLooked, look-cell}
+use Rattle.console_core.proofs.Borne.{AllLooked, look-cell, column_of-lt}
 use Rattle.keymap_core.proofs.SameActions.{same_action-true}
+use Rattle.keymap_core.proofs.HoldingTests.{some-modifier}
 use Rattle.console_core.specs.Traps.{Bits, cell_with}
 use Rattle.keymap_check.specs.declared.kind.Group.{Group}
 use Rattle.keymap_check.specs.declared.kind.Group.TheVariants as group
@@ -35,20 +36,16 @@ use Rattle.keymap_check.specs.declared.finding.Finding.{Finding}
 use Rattle.keymap_check.specs.Cells.{first_place, cell_of, is_of_group, is_group_cell}
 use Rattle.keymap_check.specs.Computed.{findings_at}
 use Rattle.keymap_check.specs.Scripts.{group_at, is_bit_key, bit_key, bit_keys, script, lacks_key, scripts_of}
-use Rattle.keymap_check.specs.Scripts.{scripts_with, scripts_for, tried_at, has_some, is_some_on, leaves_modifier_on}
+use Rattle.keymap_check.specs.Scripts.{scripts_with, scripts_for, tried_at, has_some, leaves_modifier_on}
 use Rattle.keymap_check.specs.Scripts.{demonstration_of}
 use Rattle.keymap_check.specs.Shown.{group_of, bit_of_group, with_bit, bits_with, HasCharacterWith, IsOneAction}
 use Rattle.keymap_check.specs.Shown.{HasFurtherKey, HasShownTrap}
 use Rattle.console_core.proofs.Traps.{bits_of, look-bits}
-use Rattle.keymap_check.proofs.Bits.{bits-more, bits-start, column_of-lt}
+use Rattle.console_core.proofs.OneMore.{locked-start, remembered-start}
+use Rattle.keymap_check.proofs.Bits.{bits-more, bits-start}
 use Rattle.keymap_check.proofs.Places.{first_place-cell}
 use Rattle.keymap_check.proofs.Firsts.{none-each}
 use Rattle.keymap_check.proofs.Findings.{safe_by}
-
--- what the two keys look up
-locked-none : (l : Lock) → locked l [] ≡ false
-unfolding locked
-locked-none l = refl
 
 -- a modifier turns no lock
 locked-one : (i : Modifier) (k : ℕ) (l : Lock) → locked l (PressedAction k (act.Mod i) ∷ []) ≡ false
@@ -61,11 +58,6 @@ locked-two : (i y : Modifier) (k j : ℕ) (l : Lock) → (k == j) ≡ false
 unfolding locked remembered
 locked-two i y k j l en = rw en refl
 
--- nothing is remembered at the start
-remembered-none : (j : ℕ) → remembered j [] ≡ None
-unfolding remembered
-remembered-none j = refl
-
 -- another key remembers nothing
 remembered-other : (i : Modifier) (k j : ℕ) → (k == j) ≡ false → remembered j (PressedAction k (act.Mod i) ∷ []) ≡ None
 unfolding remembered
@@ -74,12 +66,12 @@ remembered-other i k j en = rw en refl
 -- a look at the start is in the first cell
 look-none : (m : MapValue) (k : ℕ) → look m [] k ≡ cell_at m k 0
 look-none m k =
-    look-bits m [] k (locked-none lock.Caps) (locked-none lock.Num) (locked-none lock.Alt)
+    look-bits m [] k (locked-start lock.Caps) (locked-start lock.Num) (locked-start lock.Alt)
     ∙ ap (λ b. cell_with m k b) bits-start
 
 -- the bits of one modifier
 bits-one : (i : Modifier) (k : ℕ) → bits_of (PressedAction k (act.Mod i) ∷ []) ≡ bits_with i None
-bits-one i k = bits-more i k [] (remembered-none k) ∙ ap (with_bit (group_of i)) bits-start
+bits-one i k = bits-more i k [] (remembered-start k) ∙ ap (with_bit (group_of i)) bits-start
 
 -- a look under one modifier
 look-one : (m : MapValue) (i : Modifier) (k : ℕ)
@@ -237,25 +229,9 @@ tried-none m k b lt le some lacks e =
     if_there (leaves_modifier_on m) (lacks_key (bit_keys m k) 0 b) [] (script (bit_keys m k) k 0 b ∷ []) lacks s4 in
     alone_none (leaves_modifier_on m (script (bit_keys m k) k 0 b)) (script (bit_keys m k) k 0 b) s5
 
-inl-true : (a b : Bool) → a ≡ true → (a || b) ≡ true
-inl-true a b e = rw e refl
-
-inr-true : (a b : Bool) → b ≡ true → (a || b) ≡ true
-inr-true true b e = refl
-inr-true false b e = e
-
 -- a modifier that is on is some
-some-on : (ms : Maps) (h : List Event) (i : Modifier) → is_on_after ms i h ≡ true → is_some_on ms h ≡ true
-some-on ms h LeftShift e =
-    inl-true _ _ (inl-true _ _ (inl-true _ _ (inl-true _ _ (inl-true _ _ (inl-true _ _ (inl-true _ _ e))))))
-some-on ms h RightShift e =
-    inl-true _ _ (inl-true _ _ (inl-true _ _ (inl-true _ _ (inl-true _ _ (inl-true _ _ (inr-true _ _ e))))))
-some-on ms h LeftControl e = inl-true _ _ (inl-true _ _ (inl-true _ _ (inl-true _ _ (inl-true _ _ (inr-true _ _ e)))))
-some-on ms h RightControl e = inl-true _ _ (inl-true _ _ (inl-true _ _ (inl-true _ _ (inr-true _ _ e))))
-some-on ms h LeftAlt e = inl-true _ _ (inl-true _ _ (inl-true _ _ (inr-true _ _ e)))
-some-on ms h RightAlt e = inl-true _ _ (inl-true _ _ (inr-true _ _ e))
-some-on ms h AltShift e = inl-true _ _ (inr-true _ _ e)
-some-on ms h Meta e = inr-true _ _ e
+some-on : (ms : Maps) (h : List Event) (i : Modifier) → is_on_after ms i h ≡ true → is_any_on_after ms h ≡ true
+some-on ms h i e = some-modifier (λ x. is_on_after ms x h) i e
 
 -- the key has a finding
 pub some-finding : (fs : List Finding) → (fs ≡ [] → ⊥) → has_some fs ≡ true
@@ -306,7 +282,7 @@ shown-alone m i k lt e char none =
     ap reverse (alone-script _ _ _ _ k) in
     let is_on : is_on_after (between m m) i (Release k ∷ Press k ∷ Press k ∷ []) ≡ true =
     ap (λ r. on i r) (resolved-alone m i k char.1.0 e char.1.1) ∙ on-alone i k char.1.0 in
-    true≢false (sym (some-on (between m m) _ i is_on) ∙ ap (λ x. is_some_on (between m m) x) (sym h) ∙ off)
+    true≢false (sym (some-on (between m m) _ i is_on) ∙ ap (λ x. is_any_on_after (between m m) x) (sym h) ∙ off)
 
 -- the modifiers of a group, and the cells that are one of them
 of-group : (g : Group) (y : Modifier) → is_of_group g y ≡ true → group_of y ≡ Some g
@@ -337,10 +313,6 @@ abbrev IsFurther : MapValue → ℕ → Group → ℕ → Type 0
 IsFurther m k g j =
     ((j == k) ≡ false) × ((y : Modifier) × (group_of y ≡ Some g) × ((c : Cell) → IsCellOf m j c → c ≡ Act (act.Mod y)))
 
-pub not_eq : (b : Bool) → not b ≡ true → b ≡ false
-not_eq true e = sym e
-not_eq false e = refl
-
 -- the second key bears a modifier of the group, by the place that is found
 further_by : (m : MapValue) (k : ℕ) (g : Group) (j : ℕ) (o : Option ℕ) → (j == k) ≡ false → IsOneAction m j
     → first_place m (kind.Of g) j ≡ o → is_some o ≡ true → IsFurther m k g j
@@ -365,11 +337,7 @@ further m k g j e one =
     and_parts _ _ s.1 in
     let there : is_some (first_place m (kind.Of g) j) ≡ true =
     subst (λ x. is_some (first_place m (kind.Of x) j) ≡ true) (group-bit g) t.1 in
-    further_by m k g j (first_place m (kind.Of g) j) (not_eq (j == k) t.0) one refl there
-
-pub not_same : (b : Bool) → (b ≡ true → ⊥) → b ≡ false
-not_same true f = absurd (f refl)
-not_same false f = refl
+    further_by m k g j (first_place m (kind.Of g) j) (not-true (j == k) t.0) one refl there
 
 same-modifier : (y i : Modifier) → act.Mod y ≡ act.Mod i → y ≡ i
 same-modifier y i e = cc
@@ -378,7 +346,7 @@ same-modifier y i e = cc
 other_modifier : (i y : Modifier) (g : Group) → group_of i ≢ Some g → group_of y ≡ Some g
     → (modifier_index y == modifier_index i) ≡ false
 other_modifier i y g ne e =
-    not_same (modifier_index y == modifier_index i)
+    false_from_ne_true (modifier_index y == modifier_index i)
     (λ s. ne (ap group_of (sym (same-modifier y i (same_action-true (act.Mod y) (act.Mod i) s))) ∙ e))
 
 -- a trap under one modifier more is demonstrated
@@ -391,7 +359,8 @@ shown-further m i k g j lt e char other is_key one none =
     found-key m i k char.1.0 is (character-cell m k (bits_with i (Some g)) char) in
     let s : HasSet (bit_keys m k) k j = has-set m k j g is_key in
     let f : IsFurther m k g j = further m k g j is_key one in
-    let en : (k == j) ≡ false = not_same (k == j) (λ q. true≢false (sym (eq-eqb j k (sym (eqb-true k j q))) ∙ f.0)) in
+    let en : (k == j) ≡ false =
+    false_from_ne_true (k == j) (λ q. true≢false (sym (eq-eqb j k (sym (eqb-true k j q))) ∙ f.0)) in
     let all : AllLooked m (PressedAction k (act.Mod i) ∷ []) = ((lt, is), tt) in
     let seen : look m (PressedAction k (act.Mod i) ∷ []) j ≡ Act (act.Mod f.1.0) =
     f.1.2 _ (look-cell m (PressedAction k (act.Mod i) ∷ []) j all) in
@@ -404,7 +373,7 @@ shown-further m i k g j lt e char other is_key one none =
     let is_on : is_on_after (between m m) i (Release j ∷ Release k ∷ Press k ∷ Press j ∷ Press k ∷ []) ≡ true =
     ap (λ r. on i r) (resolved-further m i f.1.0 k j char.1.0 en e seen character)
     ∙ on-further i f.1.0 k j char.1.0 f.0 en (other_modifier i f.1.0 g other f.1.1) in
-    true≢false (sym (some-on (between m m) _ i is_on) ∙ ap (λ x. is_some_on (between m m) x) (sym h) ∙ off)
+    true≢false (sym (some-on (between m m) _ i is_on) ∙ ap (λ x. is_any_on_after (between m m) x) (sym h) ∙ off)
 
 -- a trap under at most one modifier more is demonstrated
 shown_by : (m : MapValue) (i : Modifier) (k : ℕ) (further : Option Group) → k < 128 → cell_at m k 0 ≡ Act (act.Mod i)

@@ -5,48 +5,35 @@ use Rattle.std.proofs.Common.{◌∙◌, if◌then◌else◌}
 use Rattle.std.specs.Prelude.{reverse}
 use Rattle.std.proofs.lemmas.List.{append-nil}
 use Rattle.std.proofs.lemmas.List.Elements.{All-head, All-tail, All-append, All-nil, All-cons}
-use Rattle.std.proofs.lemmas.Bool.{true≢false}
+use Rattle.std.proofs.lemmas.Bool.{true≢false, false_from_ne_true}
 use Rattle.keymap_core.specs.declared.action.Modifier.{Modifier}
-use Rattle.keymap_core.specs.declared.action.Modifier.TheVariants.{LeftShift, RightShift, LeftControl, RightControl}
-use Rattle.keymap_core.specs.declared.action.Modifier.TheVariants.{LeftAlt, RightAlt, AltShift, Meta}
 use Rattle.keymap_core.specs.declared.action.Holding.TheVariants as holding
 use Rattle.keymap_core.specs.Maps.{MapValue}
 use Rattle.keymap_core.specs.Below.{gathered}
 use Rattle.keymap_core.proofs.Below.{first_below-some}
+use Rattle.keymap_core.proofs.HoldingTests.{no-modifiers}
 use Rattle.console_core.specs.declared.event.Event.{Event}
 use Rattle.console_core.specs.declared.event.Event.TheVariants.{Press, Release}
 use Rattle.keymap_core.specs.Bearers.{Bears}
-use Rattle.console_core.specs.History.{between, in_force, is_second_in_force, is_on_after, pressed, HasKey, HasKeys}
-use Rattle.console_core.specs.History.{IsQuiet}
+use Rattle.console_core.specs.History.{between, in_force, is_on_after, pressed, HasKey, HasKeys}
+use Rattle.console_core.specs.History.{IsQuiet, is_any_on_after}
 use Rattle.console_core.specs.Traps.{NobodyBearsCellPickingLocks, HasNoTrap}
 use Rattle.console_core.proofs.Deliveries.{reverse-cons}
 use Rattle.console_core.proofs.Traps.{on_only_while_pressed_without_traps}
+use Rattle.console_core.proofs.OneMap.{one_in_force}
 use Rattle.keymap_check.specs.Computed.{findings_at}
 use Rattle.std.specs.Prelude.{find}
 use Rattle.keymap_check.specs.Scripts.{bit_key, is_bit_key, bit_key_at, bit_keys, event_if, event_at, events_of, script}
 use Rattle.keymap_check.specs.Scripts.{scripts_of, scripts_with, scripts_for, lacks_key, has_some, tried_at, tried}
-use Rattle.keymap_check.specs.Scripts.{leaves_modifier_on, is_some_on, is_chosen, demonstration_of}
+use Rattle.keymap_check.specs.Scripts.{leaves_modifier_on, is_chosen, demonstration_of}
 use Rattle.keymap_check.proofs.Quiet.{Every, every-gathered, every-below, script-quiet}
-
-not_true : (b : Bool) → (b ≡ true → ⊥) → b ≡ false
-not_true true f = absurd (f refl)
-not_true false f = refl
-
--- with one map twice that map is in force
-either : (m : MapValue) (b : Bool) → (if b then m else m) ≡ m
-either m true = refl
-either m false = refl
-
--- between two maps that are the same, that map is in force
-one_in_force : (m : MapValue) (h : List Event) → in_force (between m m) h ≡ m
-one_in_force m h = either m (is_second_in_force h)
 
 -- a quiet list leaves no modifier on
 off-quiet : (m : MapValue) → NobodyBearsCellPickingLocks m → ((i : Modifier) → HasNoTrap m i) → (h : List Event)
     → HasKeys h → IsQuiet h
     → (i : Modifier) → is_on_after (between m m) i h ≡ false
 off-quiet m locks free h keys quiet i =
-    not_true (is_on_after (between m m) i h) (λ e.
+    false_from_ne_true (is_on_after (between m m) i h) (λ e.
     let same : m ≡ in_force (between m m) h = sym (one_in_force m h) in
     let s : (k : ℕ) × (k < 128) × Bears (in_force (between m m) h) k (holding.Mod i) × (pressed k h ≡ true) =
     on_only_while_pressed_without_traps (between m m) h keys (subst NobodyBearsCellPickingLocks same locks) i
@@ -56,20 +43,9 @@ off-quiet m locks free h keys quiet i =
 -- without locks and traps no modifier is on once every key is released
 no_modifier_on : (m : MapValue) → NobodyBearsCellPickingLocks m → ((i : Modifier) → HasNoTrap m i) → (h : List Event)
     → HasKeys h
-    → IsQuiet h → is_some_on (between m m) h ≡ false
+    → IsQuiet h → is_any_on_after (between m m) h ≡ false
 no_modifier_on m locks free h keys quiet =
-    let off : (i : Modifier) → is_on_after (between m m) i h ≡ false = off-quiet m locks free h keys quiet in
-    rw (
-      off LeftShift,
-      off RightShift,
-      off LeftControl,
-      off RightControl,
-      off LeftAlt,
-      off RightAlt,
-      off AltShift,
-      off Meta,
-    )
-    refl
+    no-modifiers (λ i. is_on_after (between m m) i h) (off-quiet m locks free h keys quiet)
 
 -- the keys of a script are keys
 abbrev pub AreKeys : List (Option ℕ) → Type 0

@@ -1,7 +1,7 @@
 -- The keys that the tried scripts press.
 use Rattle.std.proofs.Common.{◌≡◌, ◌≢◌, ℕ, true, false, not, Option, Some, None, refl, subst, sym, ◌∙◌}
 use Rattle.std.specs.Prelude.{◌==◌}
-use Rattle.std.proofs.lemmas.Bool.{true≢false, eq-eqb, eqb-true, and_parts}
+use Rattle.std.proofs.lemmas.Bool.{true≢false, eq-eqb, eqb-true, and_parts, not-true, false_from_ne_true}
 use Rattle.std.specs.Option.{is_some}
 use Rattle.keymap_core.specs.declared.action.Action.TheVariants as act
 use Rattle.keymap_core.specs.declared.action.Modifier.{Modifier}
@@ -24,7 +24,7 @@ use Rattle.keymap_check.specs.Tried.{BearsGroup, IsBitKey, BitKeysAreLeast, Trie
 use Rattle.keymap_check.proofs.Places.{first_place-cell, no_place-cell}
 use Rattle.keymap_check.proofs.Findings.{safe_by}
 use Rattle.keymap_check.proofs.Same.{IsHeldBy, holding-cell, character-cell}
-use Rattle.keymap_check.proofs.Shown.{group-cell, group-bit, not_eq, not_same, some-finding}
+use Rattle.keymap_check.proofs.Shown.{group-cell, group-bit, some-finding}
 
 -- a modifier of the group passes its test
 group-of : (g : Group) (y : Modifier) → group_of y ≡ Some g → is_of_group g y ≡ true
@@ -62,7 +62,7 @@ bit_key-true m k g i ne b =
     let t : is_some (first_place m (kind.Of (group_at (bit_of_group g))) i) ≡ true =
     subst (λ x. is_some (first_place m (kind.Of x) i) ≡ true) (sym (group-bit g))
     (there_by m g i (first_place m (kind.Of g) i) refl b) in
-    let n : (i == k) ≡ false = not_same (i == k) (λ q. ne (eqb-true i k q)) in
+    let n : (i == k) ≡ false = false_from_ne_true (i == k) (λ q. ne (eqb-true i k q)) in
     rw (n, t) refl
 
 -- a key that fails the test of a bit doesn't bear the group
@@ -83,7 +83,7 @@ least_by m k g (Some j) e =
     let there : is_some (first_place m (kind.Of g) j) ≡ true =
     subst (λ x. is_some (first_place m (kind.Of x) j) ≡ true) (group-bit g) t.1 in (
       s.0,
-      (λ q. true≢false (sym (eq-eqb j k q) ∙ not_eq (j == k) t.0)),
+      (λ q. true≢false (sym (eq-eqb j k q) ∙ not-true (j == k) t.0)),
       bears_by m g j (first_place m (kind.Of g) j) refl there,
       (λ i lt. no_bit_key m k g i (s.2 i lt)),
     )

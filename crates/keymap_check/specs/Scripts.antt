@@ -2,15 +2,13 @@
 use Rattle.std.specs.Prelude.{ℕ, ◌/◌, ◌%◌, ◌^◌, ◌==◌, Bool, true, false, ◌&&◌, ◌||◌, not, List, [], ◌∷◌, ◌++◌, Option}
 use Rattle.std.specs.Prelude.{None, Some, if◌then◌else◌, reverse, slice_index_or, find}
 use Rattle.std.specs.Option.{is_some, is_none}
-use Rattle.keymap_core.specs.declared.action.Modifier.TheVariants.{LeftShift, RightShift, LeftControl, RightControl}
-use Rattle.keymap_core.specs.declared.action.Modifier.TheVariants.{LeftAlt, RightAlt, AltShift, Meta}
 use Rattle.keymap_core.specs.Maps.{MapValue}
 use Rattle.keymap_core.specs.Numbers.{key_count}
 use Rattle.keymap_core.specs.Borne.{any_below}
 use Rattle.keymap_core.specs.Below.{first_below, gathered}
 use Rattle.console_core.specs.declared.event.Event.{Event}
 use Rattle.console_core.specs.declared.event.Event.TheVariants.{Press, Release}
-use Rattle.console_core.specs.History.{Maps, between, is_on_after}
+use Rattle.console_core.specs.History.{Maps, between, is_any_on_after}
 use Rattle.keymap_check.specs.declared.kind.Group.{Group}
 use Rattle.keymap_check.specs.declared.kind.Group.TheVariants as group
 use Rattle.keymap_check.specs.declared.kind.Kind.TheVariants as kind
@@ -96,16 +94,9 @@ tried_at m k = if has_some (findings_at m k) then scripts_for (bit_keys m k) k e
 abbrev pub tried : MapValue → List (List Event)
 tried m = gathered (tried_at m) key_count
 
--- some modifier is on after the events, newest first
-abbrev pub is_some_on : Maps → List Event → Bool
-is_some_on ms h =
-    is_on_after ms LeftShift h || is_on_after ms RightShift h || is_on_after ms LeftControl h
-    || is_on_after ms RightControl h || is_on_after ms LeftAlt h
-    || is_on_after ms RightAlt h || is_on_after ms AltShift h || is_on_after ms Meta h
-
 -- some modifier is on after a new console was delivered the script
 abbrev pub leaves_modifier_on : MapValue → List Event → Bool
-leaves_modifier_on m events = is_some_on (between m m) (reverse events)
+leaves_modifier_on m events = is_any_on_after (between m m) (reverse events)
 
 -- the first of the tried scripts after which some modifier is on
 abbrev pub demonstration_of : MapValue → Option (List Event)

@@ -7,7 +7,7 @@ ghost use Rattle.console_core.specs.declared.event.Event.{Event as EventValue};
 ghost use Rattle.console_core.specs.History.{Maps, between};
 ghost use Rattle.console_core.specs.Sticking.{LeavesOn};
 ghost use Rattle.console_core.specs.Traps.{NobodyBearsCellPickingLocks, HasNoTrap};
-ghost use Rattle.keymap_check.specs.Scripts.{leaves_modifier_on as leaves_modifier_on_in, is_some_on, events_of};
+ghost use Rattle.keymap_check.specs.Scripts.{leaves_modifier_on as leaves_modifier_on_in, events_of};
 ghost use Rattle.keymap_check.specs.Scripts.{start_of, script as script_of, scripts_of, scripts_with, scripts_for};
 ghost use Rattle.keymap_check.specs.Scripts.{tried_at, demonstration_of};
 ghost use Rattle.keymap_check.specs.Shown.{HasShownTrap};
@@ -16,8 +16,8 @@ use crate::bearer::key_with;
 use crate::finding::is_found;
 use crate::script::{BitKeys, Script, bit_keys, event_at, lacks_key, make_script};
 use crate::survey::Survey;
-use console_core::{Event, Translator, WordConsole};
-use keymap_core::{KEY_COUNT, KeyCode, KeyMap, Modifier};
+use console_core::{Event, Translator, WordConsole, is_any_on};
+use keymap_core::{KEY_COUNT, KeyCode, KeyMap};
 
 /// Delivers presses or releases of the keys of the bits that are in the set and not in the other one.
 #[inline(always)]
@@ -33,20 +33,6 @@ fn deliver<T: Translator>(console: &mut T, keys: &BitKeys, set: u8, except: u8, 
             None => {}
         }
     }
-}
-
-/// Whether some modifier is on.
-fn is_any_on<T: Translator>(console: &T) -> bool
-    ensures { (ms : Maps) (h : List EventValue) → T.stands console.now ms h → result ≡ is_some_on ms h }
-{
-    console.on(Modifier::LeftShift)
-        || console.on(Modifier::RightShift)
-        || console.on(Modifier::LeftControl)
-        || console.on(Modifier::RightControl)
-        || console.on(Modifier::LeftAlt)
-        || console.on(Modifier::RightAlt)
-        || console.on(Modifier::AltShift)
-        || console.on(Modifier::Meta)
 }
 
 /// Whether the script of the key and the two sets leaves a modifier on. The console is one that was delivered its

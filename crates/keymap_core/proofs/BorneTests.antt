@@ -2,7 +2,7 @@
 use Prim.Native.Nat.{zero, suc}
 use Rattle.std.proofs.Common.{◌↔◌, ◌≡◌, ℕ, ◌+◌, ◌<◌, Bool, true, false, ◌||◌, ◌&&◌, refl, ap, sym, ◌∙◌, inl, inr, arith}
 use Rattle.std.proofs.Common.{eqb}
-use Rattle.std.proofs.lemmas.Bool.{or_cases, and_parts, true≢false, cases_Bool, eqb-true, eq-eqb}
+use Rattle.std.proofs.lemmas.Bool.{or_cases, and_parts, true≢false, cases_Bool, eqb-true, eq-eqb, or_left, or_right}
 use Rattle.keymap_core.specs.declared.action.Modifier.TheVariants as modifier
 use Rattle.keymap_core.specs.declared.action.Lock.TheVariants as lock
 use Rattle.keymap_core.specs.declared.action.Action.{Action}
@@ -35,24 +35,16 @@ any-more test n = let e : n + 1 ≡ suc n = omega arith in ap (λ x. any_below t
 pub any-none : (test : ℕ → Bool) (n : ℕ) → any_below test n ≡ false → test n ≡ false → any_below test (n + 1) ≡ false
 any-none test n e f = rw (any-more test n, e, f) refl
 
-pub or-right : (x y : Bool) → y ≡ true → (x || y) ≡ true
-or-right true y e = refl
-or-right false y e = e
-
-pub or-left : (x y : Bool) → x ≡ true → (x || y) ≡ true
-or-left true y e = refl
-or-left false y e = absurd (true≢false (sym e))
-
 -- a number that passes is found below each larger number
 pub any-some : (test : ℕ → Bool) (i n : ℕ) → i < n → test i ≡ true → any_below test n ≡ true
 unfolding any_below
 any-some test i zero lt e = let f : ⊥ = omega arith in absurd f
 any-some test i (suc n) lt e =
     elim (cases_Bool (eqb i n)) [
-      | inl s ↦ or-right (any_below test n) (test n) (ap test (sym (eqb-true i n s)) ∙ e)
+      | inl s ↦ or_right (any_below test n) (test n) (ap test (sym (eqb-true i n s)) ∙ e)
       | inr s ↦
           let ne : i ≡ n → ⊥ = λ f. true≢false (sym (eq-eqb i n f) ∙ s) in
-          or-left (any_below test n) (test n) (any-some test i n (omega arith) e)
+          or_left (any_below test n) (test n) (any-some test i n (omega arith) e)
     ]
 
 -- where one is found, it is a number that passes
@@ -129,8 +121,8 @@ pub upper-is_live : (m : MapValue) → IsUpperLive m → is_upper_live m ≡ tru
 unfolding is_upper_live
 upper-is_live m s =
     elim s.2 [
-      | inl x ↦ or-left _ _ (stands-lower m _ s.0 s.1 x)
-      | inr x ↦ or-right _ _ (stands-lower m _ s.0 s.1 x)
+      | inl x ↦ or_left _ _ (stands-lower m _ s.0 s.1 x)
+      | inr x ↦ or_right _ _ (stands-lower m _ s.0 s.1 x)
     ]
 
 -- the test holds exactly if some key bears the action
@@ -147,19 +139,15 @@ borne-bears m a e =
           (t.0, t.1, inr (live-upper m p.0, t.2))
     ]
 
--- a holding action that a key bears passes the test, by the definition's parts
-bears-borne_by : (m : MapValue) (a : Holding) (k : ℕ) → k < 128 → Bears m k a → is_borne m a ≡ true
-unfolding is_borne
-bears-borne_by m a k lt (inl s) =
-    or-left (has_in_half m (holding_action a) 0) (is_upper_live m && has_in_half m (holding_action a) 128)
-    (stands-lower m (holding_action a) k lt s)
-bears-borne_by m a k lt (inr s) =
-    or-right (has_in_half m (holding_action a) 0) (is_upper_live m && has_in_half m (holding_action a) 128)
-    (rw (upper-is_live m s.0, stands-upper m (holding_action a) k lt s.1) refl)
-
 -- a holding action that a key bears passes the test
 pub bears-borne : (m : MapValue) (a : Holding) (k : ℕ) → k < 128 → Bears m k a → is_borne m a ≡ true
-bears-borne m a k lt s = bears-borne_by m a k lt s
+unfolding is_borne
+bears-borne m a k lt (inl s) =
+    or_left (has_in_half m (holding_action a) 0) (is_upper_live m && has_in_half m (holding_action a) 128)
+    (stands-lower m (holding_action a) k lt s)
+bears-borne m a k lt (inr s) =
+    or_right (has_in_half m (holding_action a) 0) (is_upper_live m && has_in_half m (holding_action a) 128)
+    (rw (upper-is_live m s.0, stands-upper m (holding_action a) k lt s.1) refl)
 
 -- the test passes exactly for the holding actions that some key bears
 pub borne-same : (m : MapValue) (a : Holding) → (is_borne m a ≡ true) ↔ ((k : ℕ) × (k < 128) × Bears m k a)

@@ -1,9 +1,11 @@
 pub mod Below
 pub mod BorneTests
-mod CodeLaws
+pub mod CodeLaws
 mod CodeNames
 mod Equality
 pub mod Gathering
+pub mod HoldingTests
+pub mod Lists
 mod Meanings
 mod NameLaws
 mod Numbers

@@ -4,7 +4,7 @@ use Rattle.std.proofs.Common.{sym, ap, subst, inl, inr}
 use Rattle.std.specs.Prelude.{◌&&◌}
 use Rattle.std.specs.List.{list_all, range_with_len}
 use Rattle.std.specs.Char.{to_ascii_lowercase}
-use Rattle.std.proofs.lemmas.Bool.{eqb-true}
+use Rattle.std.proofs.lemmas.Bool.{eqb-true, and_parts}
 use Rattle.std.proofs.Math.Nat.{eq-or-lt_of_le}
 use Rattle.keymap_core.specs.Actions.{IsAction, name_of}
 use Rattle.keymap_core.specs.Names.{named_of, meaning_of, combined_names}
@@ -15,22 +15,14 @@ use Rattle.keymap_core.specs.declared.action.Lock.TheVariants as l
 use Rattle.keymap_core.specs.declared.named.Named.{Named}
 use Rattle.keymap_core.specs.declared.named.Named.TheVariants as n
 
-and-left : (p q : Bool) → (p && q) ≡ true → p ≡ true
-and-left true q h = refl
-and-left false q h = h
-
-and-right : (p q : Bool) → (p && q) ≡ true → q ≡ true
-and-right true q h = h
-and-right false q h = absurd (cc)
-
 -- a test that holds along a range holds at each number of it
 pub all-in : (test : ℕ → Bool) (from n : ℕ) → list_all test (range_with_len from n) ≡ true → (k : ℕ) → from ≤ k
     → k < from + n → test k ≡ true
 all-in test from zero all k low high = absurd (omega arith)
 all-in test from (suc n) all k low high =
     elim (eq-or-lt_of_le low) [
-      | inl same ↦ subst (λ j. test j ≡ true) same (and-left _ _ all)
-      | inr above ↦ all-in test (from + 1) n (and-right _ _ all) k (omega arith) (omega arith)
+      | inl same ↦ subst (λ j. test j ≡ true) same (and_parts _ _ all).0
+      | inr above ↦ all-in test (from + 1) n (and_parts _ _ all).1 k (omega arith) (omega arith)
     ]
 
 -- whether what a name means is the screen k

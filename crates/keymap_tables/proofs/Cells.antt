@@ -1,18 +1,18 @@
 -- One more cell of a slot, read.
 use Rattle.std.proofs.Common.{◌≡◌, ℕ, ◌+◌, ◌-◌, ◌*◌, ◌/◌, ◌%◌, ◌^◌, ◌<◌, ◌≤◌, ◌==◌, List, [], ◌∷◌, ◌++◌, length, take}
 use Rattle.std.proofs.Common.{drop, get_or, set, cond, None, Some, true, false, nat_lt, nat_le, append-nil, refl, sym}
-use Rattle.std.proofs.Common.{ap, ◌∙◌, arith, add-one, suc, ◌≢◌, inl, inr, subst, length-drop, drop-cons}
+use Rattle.std.proofs.Common.{ap, ◌∙◌, arith, suc, ◌≢◌, inl, inr, subst, length-drop, drop-cons}
 use Rattle.std.specs.Prelude.{slice_index, All}
 use Rattle.std.specs.Int.{to_le_bytes, from_le_bytes, w8, w32}
 use Rattle.std.proofs.lemmas.Grind.{common_steps, flat_map-append}
 use Rattle.std.proofs.lemmas.Bool.Decides.{nat_tests}
-use Rattle.std.proofs.lemmas.List.{length-take-le, take-append-drop, get_or-take, get_or-drop, take_all}
+use Rattle.std.proofs.lemmas.List.{length-take-le, take-append-drop, get_or-take, get_or-drop, take_all, take_more_set}
 use Rattle.std.proofs.lemmas.List.Sums.{fold-append}
 use Rattle.std.proofs.lemmas.Nat.{le_bytes_4}
 use Rattle.std.proofs.lemmas.List.Elements.{All-push}
-use Rattle.std.proofs.Math.Seq.{take-add, take-suc-set}
+use Rattle.std.proofs.Math.Seq.{take-add}
 use Rattle.std.proofs.Math.Nat.{div-div-eq-div-mul, pow-suc, eq-or-lt_of_le}
-use Rattle.std.proofs.lemmas.Bool.{cases_lt}
+use Rattle.std.proofs.lemmas.Bool.{cases_lt, lt-ltb, le-ltb}
 use Rattle.std.specs.List.{flat_map}
 use Rattle.keymap_core.specs.declared.entry.Cell.{Cell}
 use Rattle.keymap_core.specs.declared.entry.Cell.TheVariants.{Char, Act}
@@ -32,12 +32,6 @@ use Rattle.keymap_tables.specs.declared.fault.TableFaultKind.TheVariants.{BadPad
 use Rattle.keymap_tables.specs.declared.fault.TableFault.{TableFault}
 use Rattle.keymap_tables.specs.declared.fault.TableFaultKind.{TableFaultKind}
 
-is_below : (a b : ℕ) → a < b → nat_lt a b ≡ true
-is_below a b below = grind (arith, nat_tests)
-
-not_below : (a b : ℕ) → b ≤ a → nat_lt a b ≡ false
-not_below a b past = grind (arith, nat_tests)
-
 isnt_at : (a b : ℕ) → b < a → (a == b) ≡ false
 isnt_at a b past = grind (arith, nat_tests)
 
@@ -47,15 +41,10 @@ is_few a b few = grind (arith, nat_tests)
 isnt_few : (a b : ℕ) → b < a → nat_le a b ≡ false
 isnt_few a b many = grind (arith, nat_tests)
 
--- after one more cell
-pub take-more : {X : Type 0} (xs : List X) (i : ℕ) (x : X) → i < length xs
-    → take (i + 1) (set xs i x) ≡ take i xs ++ x ∷ []
-take-more xs i x below = rw add-one (take-suc-set xs i x below)
-
 -- what holds for the elements below i, and for one set at i, holds for those below i + 1
 pub All-more_set : {X : Type 0} (P : X → Type 0) (xs : List X) (i : ℕ) (x : X) → i < length xs → All P (take i xs) → P x
     → All P (take (i + 1) (set xs i x))
-All-more_set P xs i x below so_far is = rw (take-more xs i x below) (All-push P (take i xs) x so_far is)
+All-more_set P xs i x below so_far is = rw (take_more_set xs i x below) (All-push P (take i xs) x so_far is)
 
 -- a number that lies in the bytes has the bytes of a number
 pub number-long : (l : Layout) (bytes : List ℕ) (at : ℕ) → at + number_size l ≤ length bytes
@@ -114,7 +103,7 @@ pub bytes-more : (l : Layout) (bytes : List ℕ) (cells : List Cell) (i : ℕ) (
 bytes-more l bytes cells i cell small fits below so_far number =
     let s = number_size l in
     let here = number_bytes-at l bytes (s * i) (number_of cell) small fits number in
-    ap (flat_map (cell_bytes l)) (take-more cells i cell below)
+    ap (flat_map (cell_bytes l)) (take_more_set cells i cell below)
     ∙ flat_map-append (cell_bytes l) (take i cells) (cell ∷ [])
     ∙ ap (λ (v : List ℕ). flat_map (cell_bytes l) (take i cells) ++ v) (append-nil (cell_bytes l cell) ∙ here)
     ∙ ap (λ (v : List ℕ). v ++ take s (drop (s * i) bytes)) so_far
@@ -136,7 +125,7 @@ pub marks-more : (marks : ℕ) (cells : List Cell) (i : ℕ) (cell : Cell) → i
     → marks_of (take (i + 1) (set cells i cell)) ≡ marks / 2 ^ (8 - (i + 1))
 marks-more marks cells i cell small below so_far mark =
     let less : 8 - (i + 1) ≡ 7 - i = omega arith in
-    rw (take-more cells i cell below, fold-append, so_far, mark, half-of marks i small, less)
+    rw (take_more_set cells i cell below, fold-append, so_far, mark, half-of marks i small, less)
     (halves (marks / 2 ^ (7 - i)))
 
 -- Where column i begins.
@@ -151,8 +140,8 @@ column-of Narrow i = omega arith
 
 -- the numbers of the first cells stand before the marks
 among-cells : (l : Layout) (i p : ℕ) → i < 8 → p < number_size l * (i + 1) → nat_lt p (8 * number_size l) ≡ true
-among-cells Wide i p small below = is_below p 32 (omega arith)
-among-cells Narrow i p small below = is_below p 8 (omega arith)
+among-cells Wide i p small below = lt-ltb p 32 (omega arith)
+among-cells Narrow i p small below = lt-ltb p 8 (omega arith)
 
 -- a cell has some byte
 starts : (l : Layout) (i : ℕ) → number_size l * i < number_size l * (i + 1)
@@ -268,7 +257,7 @@ pub slot-pad : (l : Layout) (bytes : List ℕ) (p : ℕ) → 8 * number_size l +
     → slot_fault l bytes p ≡ zero_fault BadPad bytes p
 slot-pad l bytes p past =
     rw (
-      not_below p (8 * number_size l) (omega arith),
+      le-ltb p (8 * number_size l) (omega arith),
       isnt_at p (8 * number_size l) (omega arith),
       isnt_at p (8 * number_size l + 1) (omega arith),
     )

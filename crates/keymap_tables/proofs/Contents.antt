@@ -1,8 +1,9 @@
 -- The faults of a file by its parts.
 use Rattle.std.proofs.Common.{◌≡◌, ℕ, ◌+◌, ◌-◌, ◌<◌, ◌≤◌, ◌==◌, List, length, length-drop, take, drop, refl, ap, subst}
-use Rattle.std.proofs.Common.{◌∙◌, arith, None, Some, cond, nat_lt, true, false}
+use Rattle.std.proofs.Common.{◌∙◌, arith, None, Some, cond, true, false}
 use Rattle.std.proofs.lemmas.Bool.Decides.{nat_tests}
 use Rattle.std.proofs.lemmas.List.{take-take, length-take-le}
+use Rattle.std.proofs.lemmas.Bool.{lt-ltb, le-ltb}
 use Rattle.std.specs.Int.{from_le_bytes, w16}
 use Rattle.keymap_tables.specs.Faults.{count_at, count_fault, row_fault, slot_fault, accent_fault, content_fault}
 use Rattle.keymap_tables.specs.Faults.{fault_at, IsFirstFault}
@@ -13,12 +14,6 @@ use Rattle.keymap_tables.specs.Layouts.{accents_place, accent_size, accents_size
 use Rattle.keymap_tables.specs.declared.layout.Layout.{Layout}
 use Rattle.keymap_tables.specs.declared.fault.TableFault.{TableFault}
 use Rattle.keymap_tables.specs.declared.fault.TableFaultKind.TheVariants.{Short, Long}
-
-is_below : (a b : ℕ) → a < b → nat_lt a b ≡ true
-is_below a b below = grind (arith, nat_tests)
-
-not_below : (a b : ℕ) → b ≤ a → nat_lt a b ≡ false
-not_below a b past = grind (arith, nat_tests)
 
 -- a place, counted from the start of its part
 from_part : (base q : ℕ) → base + q - base ≡ q
@@ -31,7 +26,7 @@ count-part bytes at n whole = ap (from_le_bytes w16) (take-take 2 n (drop at byt
 -- the faults before the slots are those of the count of keys
 pub content-n_keys : (l : Layout) (bytes : List ℕ) (p : ℕ) → p < slots_place l
     → content_fault l bytes p ≡ count_fault 256 (take (slots_place l) bytes) p
-content-n_keys l bytes p below = rw (is_below p (slots_place l) below) refl
+content-n_keys l bytes p below = rw (lt-ltb p (slots_place l) below) refl
 
 -- the faults in the slots are those of the rows of slots
 pub content-slots : (l : Layout) (bytes : List ℕ) (n q : ℕ) → n ≡ count_at bytes 0 → q < slots_size l
@@ -39,8 +34,8 @@ pub content-slots : (l : Layout) (bytes : List ℕ) (n q : ℕ) → n ≡ count_
     ≡ row_fault (slot_fault l) (slot_size l) n (part bytes (slots_place l) (slots_size l)) q
 content-slots l bytes n q counted below =
     rw (
-      not_below (slots_place l + q) (slots_place l) (omega arith),
-      is_below (slots_place l + q) (n_accs_place l) (omega arith),
+      le-ltb (slots_place l + q) (slots_place l) (omega arith),
+      lt-ltb (slots_place l + q) (n_accs_place l) (omega arith),
       from_part (slots_place l) q,
       counted,
     )
@@ -51,9 +46,9 @@ pub content-n_accs : (l : Layout) (bytes : List ℕ) (q : ℕ) → q < count_siz
     → content_fault l bytes (n_accs_place l + q) ≡ count_fault 15 (part bytes (n_accs_place l) (count_size l)) q
 content-n_accs l bytes q below =
     rw (
-      not_below (n_accs_place l + q) (slots_place l) (omega arith),
-      not_below (n_accs_place l + q) (n_accs_place l) (omega arith),
-      is_below (n_accs_place l + q) (accents_place l) (omega arith),
+      le-ltb (n_accs_place l + q) (slots_place l) (omega arith),
+      le-ltb (n_accs_place l + q) (n_accs_place l) (omega arith),
+      lt-ltb (n_accs_place l + q) (accents_place l) (omega arith),
       from_part (n_accs_place l) q,
     )
     refl
@@ -64,10 +59,10 @@ pub content-accents : (l : Layout) (bytes : List ℕ) (n q : ℕ) → n ≡ coun
     ≡ row_fault (accent_fault l) (accent_size l) n (part bytes (accents_place l) (accents_size l)) q
 content-accents l bytes n q counted below =
     rw (
-      not_below (accents_place l + q) (slots_place l) (omega arith),
-      not_below (accents_place l + q) (n_accs_place l) (omega arith),
-      not_below (accents_place l + q) (accents_place l) (omega arith),
-      is_below (accents_place l + q) (file_size l) (omega arith),
+      le-ltb (accents_place l + q) (slots_place l) (omega arith),
+      le-ltb (accents_place l + q) (n_accs_place l) (omega arith),
+      le-ltb (accents_place l + q) (accents_place l) (omega arith),
+      lt-ltb (accents_place l + q) (file_size l) (omega arith),
       from_part (accents_place l) q,
       counted,
     )
@@ -77,10 +72,10 @@ content-accents l bytes n q counted below =
 pub content-past : (l : Layout) (bytes : List ℕ) (p : ℕ) → file_size l ≤ p → content_fault l bytes p ≡ None
 content-past l bytes p past =
     rw (
-      not_below p (slots_place l) (omega arith),
-      not_below p (n_accs_place l) (omega arith),
-      not_below p (accents_place l) (omega arith),
-      not_below p (file_size l) past,
+      le-ltb p (slots_place l) (omega arith),
+      le-ltb p (n_accs_place l) (omega arith),
+      le-ltb p (accents_place l) (omega arith),
+      le-ltb p (file_size l) past,
     )
     refl
 
@@ -89,7 +84,7 @@ pub fault-content : (l : Layout) (bytes : List ℕ) (p : ℕ) → length bytes �
     → fault_at l bytes p ≡ content_fault l bytes p
 unfolding fault_at
 fault-content l bytes p whole =
-    rw (not_below (length bytes) (file_size l) (omega arith), not_below (file_size l) (length bytes) (omega arith)) refl
+    rw (le-ltb (length bytes) (file_size l) (omega arith), le-ltb (file_size l) (length bytes) (omega arith)) refl
 
 -- in a file of the right size the first fault of the content is the first fault
 pub first-content : (l : Layout) (bytes : List ℕ) (f : TableFault) → length bytes ≡ file_size l
@@ -110,14 +105,14 @@ other_place p q below = grind (arith, nat_tests)
 short-here : (l : Layout) (bytes : List ℕ) (p : ℕ) → length bytes < file_size l
     → fault_at l bytes p ≡ cond (p == length bytes) (Some Short) None
 unfolding fault_at
-short-here l bytes p short = rw (is_below (length bytes) (file_size l) short) refl
+short-here l bytes p short = rw (lt-ltb (length bytes) (file_size l) short) refl
 
 -- a long file has one fault, behind the size of a table
 long-here : (l : Layout) (bytes : List ℕ) (p : ℕ) → file_size l < length bytes
     → fault_at l bytes p ≡ cond (p == file_size l) (Some Long) None
 unfolding fault_at
 long-here l bytes p long =
-    rw (not_below (length bytes) (file_size l) (omega arith), is_below (file_size l) (length bytes) long) refl
+    rw (le-ltb (length bytes) (file_size l) (omega arith), lt-ltb (file_size l) (length bytes) long) refl
 
 -- the first fault of a short file is at its end
 pub first-short : (l : Layout) (bytes : List ℕ) (f : TableFault) → length bytes < file_size l → f.offset ≡ length bytes

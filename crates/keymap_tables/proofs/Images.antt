@@ -29,7 +29,7 @@ use Rattle.keymap_tables.proofs.Pads.{count-none}
 use Rattle.keymap_tables.proofs.RowImages.{IsSized, length-rows, sound-rows, same-rows, zeros-behind}
 use Rattle.keymap_tables.proofs.Sizes.{length-count, slot-some, accent-some, slots-whole, accents-whole}
 use Rattle.keymap_tables.proofs.SlotImages.{length-slot_bytes, slot_bytes-sound, same-entry}
-use Rattle.keymap_tables.proofs.Whole.{image-parts}
+use Rattle.keymap_tables.proofs.Whole.{image-parts, map_of}
 
 -- A count gives its number, and has no fault.
 count-again : (l : Layout) (n : ℕ) → n ≤ 256 → count_at (count_bytes l n) 0 ≡ n
@@ -230,10 +230,6 @@ image-sound l m is fits p =
       | inl inside ↦ fault-content l (image_in l m) p (length-image l m is) ∙ content-sound l m is fits p inside
       | inr past ↦ fault-content l (image_in l m) p (length-image l m is) ∙ content-past l (image_in l m) p past
     ]
-
--- Two maps with one image are one.
-map_of : List Entry → List AccentValue → MapValue
-map_of entries accents = record { entries = entries; accents = accents }
 
 -- maps that fit are the same where their images are
 pub same-map : (l : Layout) (m n : MapValue) → IsMap m → FitsIn l m → IsMap n → FitsIn l n → image_in l m ≡ image_in l n

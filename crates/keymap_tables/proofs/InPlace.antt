@@ -1,7 +1,6 @@
 -- What is read in place, in the bytes of an image.
 use Rattle.std.proofs.Common.{◌≡◌, ℕ, ◌+◌, ◌-◌, ◌*◌, ◌<◌, ◌≤◌, List, length, take, drop, get_or, ◌≢◌, ◌==◌, ◌∷◌, None}
 use Rattle.std.proofs.Common.{Some, true, false, refl, sym, ap, ◌∙◌, subst, inl, inr, arith, add-one}
-use Rattle.std.specs.Prelude.{Option}
 use Rattle.std.proofs.lemmas.List.{drop_all}
 use Rattle.std.proofs.lemmas.List.Elements.{All-get_or}
 use Rattle.std.proofs.Math.Seq.{drop-cons}
@@ -15,10 +14,6 @@ use Rattle.keymap_tables.specs.Layouts.{wide, part}
 use Rattle.keymap_tables.specs.declared.fault.TableFaultKind.{TableFaultKind}
 use Rattle.keymap_tables.proofs.AccentImages.{base-in, result-in, no-base}
 use Rattle.keymap_tables.proofs.ReadingLaws.{pair-wide}
-
--- a fault where there is none
-pub some_none : (kind : TableFaultKind) (o : Option TableFaultKind) → o ≡ Some kind → o ≡ None → ⊥
-some_none kind o some none = cc
 
 -- a slice that is given by its ends
 pub cut : (bytes : List ℕ) (at n : ℕ) → take (at + n - at) (drop at bytes) ≡ part bytes at n

@@ -3,7 +3,7 @@ use Rattle.std.proofs.Common.{◌≡◌, ◌≢◌, ℕ, ◌+◌, ◌-◌, ◌*�
 use Rattle.std.proofs.Common.{take, drop, get_or, refl, sym, ap, ◌∙◌, arith, subst, None, Some, inl, inr, add-zero}
 use Rattle.std.proofs.Common.{append_assoc, append-nil}
 use Rattle.std.proofs.lemmas.Bool.Decides.{nat_tests}
-use Rattle.std.proofs.lemmas.Bool.{cases_lt}
+use Rattle.std.proofs.lemmas.Bool.{cases_lt, lt-ltb, le-ltb}
 use Rattle.std.proofs.lemmas.Grind.{flat_map-append}
 use Rattle.std.proofs.lemmas.List.{take-append-drop, drop-drop, take_more}
 use Rattle.std.proofs.lemmas.List.Folds.{length-prefix_len}
@@ -51,12 +51,6 @@ is_zero n is = rw is refl
 isnt_zero : (n : ℕ) → n ≢ 0 → (n == 0) ≡ false
 isnt_zero n some = grind (arith, nat_tests)
 
-is_below : (a b : ℕ) → a < b → nat_lt a b ≡ true
-is_below a b below = grind (arith, nat_tests)
-
-not_below : (a b : ℕ) → b ≤ a → nat_lt a b ≡ false
-not_below a b past = grind (arith, nat_tests)
-
 from_zero : (i : ℕ) → i ≡ 0 + i
 from_zero i = omega arith
 
@@ -78,7 +72,7 @@ pub accent-number : (l : Layout) (bytes : List ℕ) (n at : ℕ) → n ≡ pairs
     → accent_fault l bytes at ≡ char_fault (number_at l bytes at)
 accent-number l bytes n at counted below begins =
     let inside : nat_lt at (number_size l + pair_size l * pairs_in l bytes) ≡ true =
-    rw (← counted) (is_below at (number_size l + pair_size l * n) below) in
+    rw (← counted) (lt-ltb at (number_size l + pair_size l * n) below) in
     let first : (at % number_size l == 0) ≡ true = is_zero (at % number_size l) begins in
     rw (inside, first) refl
 
@@ -87,7 +81,7 @@ pub accent-within : (l : Layout) (bytes : List ℕ) (n p : ℕ) → n ≡ pairs_
     → p % number_size l ≢ 0 → accent_fault l bytes p ≡ None
 accent-within l bytes n p counted below within =
     let inside : nat_lt p (number_size l + pair_size l * pairs_in l bytes) ≡ true =
-    rw (← counted) (is_below p (number_size l + pair_size l * n) below) in
+    rw (← counted) (lt-ltb p (number_size l + pair_size l * n) below) in
     let other : (p % number_size l == 0) ≡ false = isnt_zero (p % number_size l) within in
     rw (inside, other) refl
 
@@ -96,7 +90,7 @@ pub accent-past : (l : Layout) (bytes : List ℕ) (n p : ℕ) → n ≡ pairs_in
     → accent_fault l bytes p ≡ zero_fault NotEmpty bytes p
 accent-past l bytes n p counted past =
     let outside : nat_lt p (number_size l + pair_size l * pairs_in l bytes) ≡ false =
-    rw (← counted) (not_below p (number_size l + pair_size l * n) past) in
+    rw (← counted) (le-ltb p (number_size l + pair_size l * n) past) in
     rw outside refl
 
 -- the bytes of one number, before the end of the pairs

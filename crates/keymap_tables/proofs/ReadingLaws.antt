@@ -49,7 +49,7 @@ map-wide m is = record {
 }
 
 -- there is no kind where there is none
-some_none : (kind : TableFaultKind) (o : Option TableFaultKind) → o ≡ Some kind → o ≡ None → ⊥
+pub some_none : (kind : TableFaultKind) (o : Option TableFaultKind) → o ≡ Some kind → o ≡ None → ⊥
 some_none kind o some none = cc
 
 -- No image has a fault.

@@ -1,6 +1,6 @@
 -- The image of a slot: it has no fault, and gives the entry.
 use Rattle.std.proofs.Common.{◌≡◌, ℕ, ◌+◌, ◌-◌, ◌*◌, ◌/◌, ◌%◌, ◌^◌, ◌<◌, ◌≤◌, ◌==◌, suc, zero, List, [], ◌∷◌, ◌++◌}
-use Rattle.std.proofs.Common.{length, get_or, cond, None, Some, refl, sym, ap, ◌∙◌, arith, append_assoc, length-append}
+use Rattle.std.proofs.Common.{length, get_or, cond, None, refl, sym, ap, ◌∙◌, arith, append_assoc, length-append}
 use Rattle.std.specs.Prelude.{slice_index, Bool, true, false, unwrap_or}
 use Rattle.std.specs.Char.{IsScalar}
 use Rattle.std.specs.Int.{from_le_bytes}
@@ -31,61 +31,7 @@ use Rattle.keymap_tables.specs.declared.layout.Layout.TheVariants.{Wide, Narrow}
 use Rattle.keymap_tables.proofs.RowImages.{IsSized, length-rows, row-in, zeros-behind}
 use Rattle.keymap_tables.proofs.Sizes.{no-cells, cells-end, length-number}
 use Rattle.keymap_tables.proofs.Cells.{sound-more, slot-none, small-flag}
-
--- The code of an action gives it.
-screen-of : (n : ℕ) → 0 < n → n ≤ 16 → action_of (0x0a + n) ≡ Some (a.Screen n)
-screen-of n low high =
-    let yes : within 0x0b 0x1a (0x0a + n) ≡ true = grind (arith, nat_tests) in
-    let back : 0x0a + n - 0x0a ≡ n = omega arith in
-    rw (yes, back) refl
-
--- the codes of the function keys
-function-of : (n : ℕ) → 0 < n → n ≤ 96 → action_of (0x1a + n) ≡ Some (a.Function n)
-function-of n low high =
-    let no : within 0x0b 0x1a (0x1a + n) ≡ false = grind (arith, nat_tests) in
-    let yes : within 0x1b 0x7a (0x1a + n) ≡ true = grind (arith, nat_tests) in
-    let back : 0x1a + n - 0x1a ≡ n = omega arith in
-    rw (no, yes, back) refl
-
--- the codes of the dead keys
-dead-of : (n : ℕ) → n < 15 → action_of (0x89 + n) ≡ Some (a.DeadKey n)
-dead-of n high =
-    let no : within 0x0b 0x1a (0x89 + n) ≡ false = grind (arith, nat_tests) in
-    let nor : within 0x1b 0x7a (0x89 + n) ≡ false = grind (arith, nat_tests) in
-    let yes : within 0x89 0x97 (0x89 + n) ≡ true = grind (arith, nat_tests) in
-    let back : 0x89 + n - 0x89 ≡ n = omega arith in
-    rw (no, nor, yes, back) refl
-
--- the code of a known action, read again, gives the action
-pub action-of-code : (action : Action) → IsAction action → action_of (code_of action) ≡ Some action
-action-of-code a.Nop known = refl
-action-of-code (a.Mod m.LeftShift) known = refl
-action-of-code (a.Mod m.RightShift) known = refl
-action-of-code (a.Mod m.LeftControl) known = refl
-action-of-code (a.Mod m.RightControl) known = refl
-action-of-code (a.Mod m.LeftAlt) known = refl
-action-of-code (a.Mod m.RightAlt) known = refl
-action-of-code (a.Mod m.AltShift) known = refl
-action-of-code (a.Mod m.Meta) known = refl
-action-of-code (a.Lock lock.Caps) known = refl
-action-of-code (a.Lock lock.Num) known = refl
-action-of-code (a.Lock lock.Scroll) known = refl
-action-of-code (a.Lock lock.Alt) known = refl
-action-of-code a.BackTab known = refl
-action-of-code a.NextScreen known = refl
-action-of-code a.PreviousScreen known = refl
-action-of-code (a.Screen n) known = screen-of n known.0 known.1
-action-of-code (a.Function n) known = function-of n known.0 known.1
-action-of-code (a.DeadKey n) known = dead-of n known
-action-of-code a.Boot known = refl
-action-of-code a.Debug known = refl
-action-of-code a.Suspend known = refl
-action-of-code a.Saver known = refl
-action-of-code a.Standby known = refl
-action-of-code a.Panic known = refl
-action-of-code a.Halt known = refl
-action-of-code a.PowerDown known = refl
-action-of-code a.Paste known = refl
+use Rattle.keymap_core.proofs.CodeLaws.{code-read}
 
 -- The codes are small, and none is that of a combined action.
 pub code-bounds : (action : Action) → IsAction action
@@ -130,7 +76,7 @@ char-sound c known = rw (known) refl
 -- the number and mark of a known cell are no fault
 pub cell-sound : (cell : Cell) → IsCell cell → cell_fault (number_of cell) (is_act cell) ≡ None
 cell-sound (Char c) known = char-sound c known
-cell-sound (Act action) known = rw ((code-bounds action known).1, action-of-code action known) refl
+cell-sound (Act action) known = rw ((code-bounds action known).1, code-read action known) refl
 
 -- the cell of a number, an action where it is marked
 pub cell_of : ℕ → Bool → Cell
@@ -141,7 +87,7 @@ cell_of number false = Char number
 pub cell-again : (cell : Cell) → IsCell cell → cell_of (number_of cell) (is_act cell) ≡ cell
 unfolding cell_of
 cell-again (Char c) known = refl
-cell-again (Act action) known = rw (action-of-code action known) refl
+cell-again (Act action) known = rw (code-read action known) refl
 
 -- a mark
 abbrev bit : Cell → ℕ

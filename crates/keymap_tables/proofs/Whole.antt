@@ -7,6 +7,12 @@ use Rattle.keymap_tables.specs.Image.{image_in, count_bytes, slots_bytes, accent
 use Rattle.std.proofs.lemmas.List.{take_all}
 use Rattle.std.proofs.Math.Seq.{take-add}
 use Rattle.keymap_tables.specs.Layouts.{part}
+use Rattle.keymap_core.specs.declared.entry.Entry.{Entry}
+use Rattle.keymap_core.specs.Accents.{AccentValue}
+
+-- the map of these entries and accents
+unfoldable pub map_of : List Entry → List AccentValue → MapValue
+map_of entries accents = record { entries = entries; accents = accents }
 
 -- an image is its four parts
 pub image-parts : (l : Layout) (m : MapValue)

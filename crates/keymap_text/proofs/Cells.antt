@@ -18,8 +18,9 @@ use Rattle.keymap_text.specs.Inner.Grammar.{accept, at, after_cell, with_cell, �
 use Rattle.keymap_text.specs.Inner.Resuming.{KeepsMode, IsReader, Advances, Refuses, Fronts, moved, cell_place}
 use Rattle.keymap_text.specs.Inner.Views.{state_view, place_view, IsPlace}
 use Rattle.keymap_text.proofs.Lines.{lined_run, feeds_run}
-use Rattle.keymap_text.proofs.Runs.{Stands, take_spaces, front_length, token_advances, token_refuses, advances_on}
+use Rattle.keymap_text.proofs.Runs.{Stands, take_spaces, token_advances, token_refuses, advances_on}
 use Rattle.keymap_text.proofs.Runs.{refuses_on}
+use Rattle.std.proofs.lemmas.List.{length-take-le}
 
 -- blanks change the offset alone
 pub blanks_advance : (r : Scanner) (n : ℕ) (rest : List ℕ) → IsReader r → r.mode ≡ modes.Between
@@ -31,7 +32,7 @@ blanks_advance r n rest h m s l =
       reader = record { place = h.place; keeps = h.keeps; low = omega (arith, h.low) };
       fed = omega arith;
       inside = l;
-      line = λ b k. lined_run r _ b _ none none refl (omega (arith, front_length n rest l))
+      line = λ b k. lined_run r _ b _ none none refl (omega (arith, length-take-le n rest l))
           (feeds_run is_space refl n rest s) k;
     }
 

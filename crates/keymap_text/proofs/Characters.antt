@@ -14,18 +14,10 @@ use Rattle.keymap_text.specs.declared.words.Meaning.TheVariants.{Number, Char}
 use Rattle.keymap_text.specs.Lexical.{leading, is_word}
 use Rattle.keymap_text.specs.Words.{meaning, digits_of, number_after, is_digit, named, control_names}
 use Rattle.keymap_text.specs.Printed.{character_text, hex, hex4, hex_at}
-use Rattle.keymap_text.proofs.Leading.{leading_pass, leading_none}
+use Rattle.keymap_text.proofs.Leading.{leading_pass, leading_none, same_head, same_tail}
 use Rattle.keymap_text.proofs.Numbers.{digits_good, digits_bad}
 use Rattle.keymap_text.proofs.Lexed.{Lexes, NoWord, lexes_word, lexes_quoted}
 use Rattle.keymap_text.proofs.PrintedLines.{PrintsCharacter}
-
--- functions that are equal along a range are equal at each number of it
-head_is : {A : Type 0} (x y : A) (xs ys : List A) → x ∷ xs ≡ y ∷ ys → x ≡ y
-head_is x y xs ys h = cc
-
--- lists that are equal have equal tails
-tail_is : {A : Type 0} (x y : A) (xs ys : List A) → x ∷ xs ≡ y ∷ ys → xs ≡ ys
-tail_is x y xs ys h = cc
 
 -- two tables that are equal up to a length are equal at each place below it
 pub along : {A : Type 0} (f g : ℕ → A) (from n : ℕ) → map f (range_with_len from n) ≡ map g (range_with_len from n)
@@ -33,8 +25,8 @@ pub along : {A : Type 0} (f g : ℕ → A) (from n : ℕ) → map f (range_with_
 along f g from zero h k low high = absurd (omega arith)
 along f g from (suc n) h k low high =
     elim (eq-or-lt_of_le low) [
-      | inl same ↦ subst (λ j. f j ≡ g j) same (head_is _ _ _ _ h)
-      | inr above ↦ along f g (from + 1) n (tail_is _ _ _ _ h) k (omega arith) (omega arith)
+      | inl same ↦ subst (λ j. f j ≡ g j) same (same_head _ _ _ _ h)
+      | inr above ↦ along f g (from + 1) n (same_tail _ _ _ _ h) k (omega arith) (omega arith)
     ]
 
 -- a text of one word

@@ -9,7 +9,7 @@ use Rattle.keymap_text.specs.declared.fault.TextFaultKind.TheVariants.{BadByte, 
 use Rattle.keymap_text.specs.declared.token.TokenKind.{TokenKind}
 use Rattle.keymap_text.specs.declared.token.TokenKind.TheVariants.{ParenL, ParenR, Word}
 use Rattle.keymap_text.specs.Lexical.{leading, stays_on_line, is_blank, is_word, word, literal, Front, Skipped, Found}
-use Rattle.keymap_text.specs.Lexical.{Refused, Unfinished, front_of, tokens_after, TokenValue, Tokens, Ends, Then}
+use Rattle.keymap_text.specs.Lexical.{Refused, Unfinished, front_of, tokens_after, TokenValue, Tokens, Then}
 use Rattle.keymap_text.specs.Lexical.{is_empty}
 use Rattle.keymap_text.specs.Words.{item}
 use Rattle.keymap_text.specs.Inner.Grammar.{GrammarState, accept, at_end, start}
@@ -18,7 +18,7 @@ use Rattle.keymap_text.specs.Inner.Judging.{judge, verdict, Faulty}
 use Rattle.keymap_text.specs.Inner.Resuming.{HasNoRole}
 use Rattle.keymap_text.proofs.Leading.{leading_pass, leading_fail, leading_le, leading_none}
 use Rattle.keymap_text.proofs.Splitting.{split_one, split_after, split_blank, split_comment, split_found, split_refused}
-use Rattle.keymap_text.proofs.Splitting.{split_none, split_unfinished}
+use Rattle.keymap_text.proofs.Splitting.{split_unfinished, split_none, split_nil}
 use Rattle.keymap_text.proofs.Literals.{literal_stable, literal_found, literal_fits, literal_no_skip}
 use Rattle.keymap_text.proofs.Steps.{judge_then, judge_refused, judge_stops, judge_ends, late, late_fault, late_word}
 use Rattle.keymap_text.proofs.Steps.{front_left, front_right, front_quote, front_word, front_no_role, settled}
@@ -91,12 +91,6 @@ then_stays s t t' ts ts' f o i q w k h = go (accept s (item t.kind t.bytes)) ref
         judge_refused s g t' ts' (ap (accept s) (sym i) ∙ a)
         ∙ same_fault g f t'.start o (is_settled t') (is_settled t) w
         (ap (λ n. Faulty g n (is_settled t)) (sym q) ∙ sym (judge_refused s g t ts a) ∙ h)
-
--- no bytes have no tokens
-pub split_nil : (k q : ℕ) → tokens_after k q [] ≡ Ends q
-unfolding tokens_after
-split_nil zero q = refl
-split_nil (suc k) q = refl
 
 -- an early fault of b is that of b and x
 Stays : List ℕ → List ℕ → TextFaultKind → ℕ → Type 0

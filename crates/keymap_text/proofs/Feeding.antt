@@ -1,6 +1,6 @@
 -- A text that is read from a device, piece by piece.
 use Rattle.std.proofs.Common.{◌≡◌, ℕ, zero, suc, ◌+◌, ◌≤◌, ◌<◌, ◌||◌, List, [], ◌∷◌, ◌++◌, length, take, refl}
-use Rattle.std.proofs.Common.{sym, ◌∙◌, ap, subst, arith, Option, Some, None, Result, Ok, Err, length-append}
+use Rattle.std.proofs.Common.{sym, ◌∙◌, subst, arith, Option, Some, None, Result, Ok, Err, length-append}
 use Rattle.std.proofs.Common.{append-nil, IfErr}
 use mathlib.Core.Logic.{inl, inr}
 use Rattle.std.specs.Io.KnownBytes.{Consumes, IsAtEnd, Keeps}
@@ -20,6 +20,7 @@ use Rattle.keymap_text.specs.Standing.{StandsAfter, FedAfter}
 use Rattle.keymap_text.specs.Sources.{limit, HasNoEarlyFault, TakesWhole, FailsInside, TextGoesPast, ReadsMap}
 use Rattle.keymap_text.specs.Sources.{StopsAtOnce}
 use Rattle.keymap_text.proofs.Verdicts.{spells_from, fault_or_map}
+use Rattle.std.proofs.lemmas.List.{length-take-le}
 
 -- The reader stands after the bytes that the device gave, which have no early fault.
 pub record IsFed (old new : Option (List ℕ)) (reader : Progress) (taken : ℕ) : Type 0 where
@@ -45,12 +46,6 @@ none_early f e = never _ (sym (fault_or_map [] empty_map (spells_from [] empty_m
 pub fed_none : (old : Option (List ℕ)) (r : Progress) → StandsAfter r [] → IsFed old old r 0
 fed_none old r h = record { text = []; consumed = Consumes-nil old; size = refl; stands = h; sound = none_early }
 
--- a front has as many bytes as were asked for
-pub piece_length : (n : ℕ) (buffer : List ℕ) → n ≤ length buffer → length (take n buffer) ≡ n
-piece_length zero buffer h = refl
-piece_length (suc n) [] h = absurd (omega (arith, h))
-piece_length (suc n) (c ∷ buffer) h = ap suc (piece_length n buffer (omega (arith, h)))
-
 -- one piece more was fed, and has no early fault
 pub fed_more : {a b c : Option (List ℕ)} {r r' : Progress} {taken n : ℕ} → (buffer : List ℕ) → (fed : IsFed a b r taken)
     → Consumes b c (take n buffer) → n ≤ length buffer → FedAfter (Ok tt) r' (fed.text ++ take n buffer)
@@ -58,7 +53,7 @@ pub fed_more : {a b c : Option (List ℕ)} {r r' : Progress} {taken n : ℕ} →
 fed_more {a = a} {b = b} {c = c} {n = n} buffer fed h l k = record {
   text = fed.text ++ take n buffer;
   consumed = Consumes-trans a b c _ _ fed.consumed h;
-  size = omega (arith, length-append fed.text (take n buffer), piece_length n buffer l, fed.size);
+  size = omega (arith, length-append fed.text (take n buffer), length-take-le n buffer l, fed.size);
   stands = k.0;
   sound = k.1;
 }
@@ -72,7 +67,7 @@ fed_early {a = a} {b = b} {c = c} {n = n} r' buffer fed h l few k = (
   inl (
     record {
       taken = Consumes-trans a b c _ _ fed.consumed h;
-      few = omega (arith, length-append fed.text (take n buffer), piece_length n buffer l, fed.size, few);
+      few = omega (arith, length-append fed.text (take n buffer), length-take-le n buffer l, fed.size, few);
     },
     k.0,
   ),
@@ -148,7 +143,7 @@ at_once_more {a = a} {b = b} {c = c} {n = n} f buffer fed h l few =
       before = fed.text;
       last = take n buffer;
       taken = Consumes-trans a b c _ _ fed.consumed h;
-      few = omega (arith, piece_length n buffer l, few);
+      few = omega (arith, length-take-le n buffer l, few);
       sound = fed.sound;
     }
 

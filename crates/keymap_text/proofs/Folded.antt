@@ -12,6 +12,7 @@ use Rattle.keymap_core.specs.Maps.{MapValue, with_entry, with_accent, undefined,
 use Rattle.keymap_text.specs.Inner.Grammar.{empty_map}
 use Rattle.keymap_text.specs.Rows.{Definition, KeyDefinition, AccentDefinition, last, of_slot, of_index, greatest}
 use Rattle.keymap_text.specs.Rows.{slots_needed, accents_needed, or_default, map_of}
+use Rattle.keymap_core.proofs.Lists.{get_or-replicate_default}
 
 abbrev pub put : MapValue → Definition → MapValue
 put m (KeyDefinition s e) = with_entry m s e
@@ -35,12 +36,6 @@ list_ext (x ∷ xs) [] d h e = absurd (omega (arith, h))
 list_ext (x ∷ xs) (y ∷ ys) d h e =
     ap (λ z. z ∷ xs) (e 0 (omega arith)) ∙ ap (λ zs. y ∷ zs) (list_ext xs ys d (omega (arith, h))
     (λ i l. e (suc i) (omega (arith, l))))
-
--- an element that was filled in
-get_replicate : {X : Type 0} (n i : ℕ) (u : X) → get_or (replicate n u) i u ≡ u
-get_replicate zero i u = refl
-get_replicate (suc n) zero u = refl
-get_replicate (suc n) (suc i) u = get_replicate n i u
 
 -- no definition says nothing
 pub last_none : {A : Type 0} (says : Definition → Option A) → last says [] ≡ None
@@ -109,7 +104,7 @@ accents_length m (d ∷ ds) =
 
 -- one of a list in which another is placed
 padded : {X : Type 0} (xs : List X) (n j : ℕ) (u : X) → get_or (xs ++ replicate n u) j u ≡ get_or xs j u
-padded [] n j u = get_replicate n j u
+padded [] n j u = get_or-replicate_default n j u
 padded (x ∷ xs) n zero u = refl
 padded (x ∷ xs) n (suc j) u = padded xs n j u
 

@@ -2,6 +2,7 @@
 use Rattle.std.proofs.Common.{◌≡◌, ℕ, ◌+◌, ◌*◌, Bool, true, false, cond, List, [], ◌∷◌, ◌++◌, length, take, drop, map}
 use Rattle.std.proofs.Common.{get_or, refl, sym, ◌∙◌, ap, subst, arith, Option, Some, None, eqb-true}
 use Rattle.std.proofs.lemmas.List.{length-map}
+use Rattle.std.proofs.lemmas.Option.{none-some, same_Some}
 use Rattle.std.proofs.Math.Seq.{drop-append-add, take-append_seam}
 use Rattle.std.specs.Option.{option_or}
 use Rattle.keymap_core.specs.declared.entry.Entry.{Entry}
@@ -43,12 +44,6 @@ last_nowhere what n = refl
 
 some_none : {A : Type 0} (x : A) → Some x ≡ None → ⊥
 some_none x h = cc
-
-none_some : {A : Type 0} (x : A) → None ≡ Some x → ⊥
-none_some x h = cc
-
-some_is : {A : Type 0} (x y : A) → Some x ≡ Some y → x ≡ y
-some_is x y h = cc
 
 -- What says something exactly of the definitions of one slot or accent.
 record SaysOf (A : Type 0) (says : Definition → Option A) (what : Defined) : Type 0 where
@@ -94,7 +89,7 @@ record LastRow (A : Type 0) (says : Definition → Option A) (what : Defined) (t
 last_row : {A : Type 0} (says : Definition → Option A) (what : Defined) → SaysOf A says what → {ts : List TokenValue}
     {rows : List Row} → AreRows ts rows → (n : ℕ) (p : Placed) → last_of what (places_after n rows) ≡ Some p
     → LastRow A says what ts (definitions rows) n p
-last_row says what h no_row n p e = absurd (none_some p (sym (last_nowhere what n) ∙ e))
+last_row says what h no_row n p e = absurd (none-some p (sym (last_nowhere what n) ∙ e))
 last_row {A} says what h (one_row {ts = ts} {rs = rs} r d more) n p e =
     go (last_of what (places_after (n + length r.tokens) rs)) refl (is_same (defined r.definition) what) refl
     (sym (last_place what n r rs) ∙ e) (last_row says what h more (n + length r.tokens))
@@ -111,7 +106,7 @@ last_row {A} says what h (one_row {ts = ts} {rs = rs} r d more) n p e =
         → LastRow A says what (r.tokens ++ ts) (definitions (r ∷ rs)) n p
     go (Some q) f b g e ih =
         let l : LastRow A says what ts (definitions rs) (n + length r.tokens) q = ih q f in
-        let same : q ≡ p = some_is q p (sym (ap (λ o. option_or o (own what n r)) f) ∙ e) in
+        let same : q ≡ p = same_Some q p (sym (ap (λ o. option_or o (own what n r)) f) ∙ e) in
         let told : (x : A) × (says l.row.definition ≡ Some x) = h.tells l.row.definition l.is in
         record {
           row = l.row;
@@ -126,7 +121,7 @@ last_row {A} says what h (one_row {ts = ts} {rs = rs} r d more) n p e =
         }
     go None f true g e ih =
         let same : record { what = defined r.definition; first = n } ≡ p =
-        some_is (record { what = defined r.definition; first = n }) p
+        same_Some (record { what = defined r.definition; first = n }) p
         (sym (ap (λ o. option_or o (own what n r)) f
         ∙ ap (λ b. cond b (Some (record { what = defined r.definition; first = n })) None) g) ∙ e) in
         record {
@@ -141,7 +136,7 @@ last_row {A} says what h (one_row {ts = ts} {rs = rs} r d more) n p e =
               ∙ ap (λ o. option_or o (says r.definition)) (none_said says what h rs (n + length r.tokens) f);
         }
     go None f false g e ih =
-        absurd (none_some p (sym (ap (λ o. option_or o (own what n r)) f
+        absurd (none-some p (sym (ap (λ o. option_or o (own what n r)) f
         ∙ ap (λ b. cond b (Some (record { what = defined r.definition; first = n })) None) g) ∙ e))
 
 -- what is said of a slot

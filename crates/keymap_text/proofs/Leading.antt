@@ -76,11 +76,11 @@ leading_tail p c w h = go (p c) refl
     go false e = absurd (omega (arith, leading_fail p c w e, h))
 
 -- two lists that are the same in front
-same_head : (a c : ℕ) (v w : List ℕ) → a ∷ v ≡ c ∷ w → a ≡ c
+pub same_head : {A : Type 0} (a c : A) (v w : List A) → a ∷ v ≡ c ∷ w → a ≡ c
 same_head a c v w h = cc
 
 -- lists that are equal have equal tails
-same_tail : (a c : ℕ) (v w : List ℕ) → a ∷ v ≡ c ∷ w → v ≡ w
+pub same_tail : {A : Type 0} (a c : A) (v w : List A) → a ∷ v ≡ c ∷ w → v ≡ w
 same_tail a c v w h = cc
 
 -- no bytes are not some

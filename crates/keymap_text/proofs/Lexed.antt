@@ -1,12 +1,11 @@
 -- Texts whose tokens are known, whatever stands behind them.
 use Rattle.std.proofs.Common.{◌≡◌, ℕ, ◌+◌, ◌<◌, ◌≤◌, true, false, List, [], ◌∷◌, ◌++◌, length, map, refl, sym, ◌∙◌, ap}
 use Rattle.std.proofs.Common.{arith, append_assoc, length-append, add-zero}
-use Rattle.std.proofs.lemmas.Bool.Decides.{nat_tests}
 use Rattle.keymap_text.specs.declared.token.TokenKind.TheVariants.{ParenL, ParenR, Literal}
 use Rattle.keymap_text.specs.declared.words.Item.{Item}
 use Rattle.keymap_text.specs.declared.words.Item.TheVariants.{Open, Close, Value}
 use Rattle.keymap_text.specs.declared.words.Meaning.TheVariants.{Char}
-use Rattle.keymap_text.specs.Lexical.{tokens_after, leading, is_word, is_blank, literal, Found, TokenValue, Then}
+use Rattle.keymap_text.specs.Lexical.{tokens_after, leading, is_word, is_blank, TokenValue, Then}
 use Rattle.keymap_text.specs.Lexical.{is_empty}
 use Rattle.keymap_text.specs.Words.{meaning}
 use Rattle.keymap_text.specs.Meaning.{ending_of_tokens, item_of}
@@ -15,6 +14,7 @@ use Rattle.keymap_text.proofs.Splitting.{split_blank}
 use Rattle.keymap_text.proofs.Steps.{word_ended, found_whole, front_quote, front_left, front_right}
 use Rattle.keymap_text.proofs.Faults.{list_then, behind_then}
 use Rattle.keymap_text.proofs.Verdicts.{items_of}
+use Rattle.keymap_text.proofs.Literals.{printable}
 
 -- no letter or digit comes first
 abbrev pub NoWord : List ℕ → Type 0
@@ -94,11 +94,6 @@ lexes_word (a ∷ w) z l h =
           (word_ended a q w y t.0 t.1 k (omega (arith, l))) refl refl;
       end = λ q y k. last (a ∷ w) q y _ _ (word_ended a q w y t.0 t.1 k (omega (arith, l))) refl;
     }
-
--- a printed literal
-printable : (c : ℕ) (y : List ℕ) → 31 < c → c < 127 → literal (c ∷ 39 ∷ y) ≡ Found (Literal c) 2
-unfolding literal
-printable c y h k = grind (arith, nat_tests)
 
 -- a printed quoted character is one token
 pub lexes_quoted : (c : ℕ) → 31 < c → c < 127 → Lexes NoWord (39 ∷ c ∷ 39 ∷ []) (Value (Char c) ∷ [])

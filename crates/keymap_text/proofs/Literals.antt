@@ -4,6 +4,7 @@ use Rattle.std.proofs.Common.{[], ◌∷◌, ◌++◌, length, get_or, refl, sym
 use Rattle.std.proofs.Common.{slice_index, Option, Some, None, length-append, ⊎_elim, eq-eqb, true≢false}
 use Rattle.std.proofs.lemmas.Bool.Decides.{nat_tests}
 use Rattle.std.proofs.lemmas.List.{get_or_append_left}
+use Rattle.std.proofs.lemmas.Bool.{le-ltb}
 use Rattle.bstr.specs.Utf8.{decoded, decoded_by, Decoded, bad, good, second, continues, code_of_3, code_of_4}
 use Rattle.bstr.proofs.lemmas.PieceLemmas.{size-bounds}
 use Rattle.bstr.proofs.lemmas.EncodeLemmas.{decoded-encode}
@@ -23,9 +24,10 @@ use Rattle.keymap_text.specs.Lexical.{is_lone}
 not_zero : (n : ℕ) → 0 < n → (n == 0) ≡ false
 not_zero n h = grind (arith, nat_tests)
 
--- a number that is not below another
-not_below : (n m : ℕ) → m ≤ n → nat_lt n m ≡ false
-not_below n m h = grind (arith, nat_tests)
+-- a printable character of ASCII between apostrophes
+pub printable : (c : ℕ) (y : List ℕ) → 31 < c → c < 127 → literal (c ∷ 39 ∷ y) ≡ Found (Literal c) 2
+unfolding literal
+printable c y h k = grind (arith, nat_tests)
 
 -- z, and y that has more bytes to go by: they are the same, or all k bytes of z may begin a character, and y has them
 -- all
@@ -53,7 +55,7 @@ at_least k false y z g h = h
 by_1 : (n b c d e : ℕ) → 1 < n → Grows 1 (decoded_by n b c d e) (decoded_by 1 b 0 0 0)
 unfolding Grows
 by_1 n b c d e h =
-    rw (not_zero n (omega arith), not_below n 2 (omega arith))
+    rw (not_zero n (omega arith), le-ltb n 2 (omega arith))
     (under 1 (nat_lt b 0x80) _ _ _ (under 1 (nat_lt b 0xC2) _ _ _ (under 1 (nat_lt 0xF4 b) _ _ _ (inr (
       refl,
       at_least 1 (second b c) _ _ (at_least 1 (nat_lt b 0xE0) _ _ (omega arith)
@@ -67,7 +69,7 @@ by_1 n b c d e h =
 by_2 : (n b c d e : ℕ) → 2 < n → Grows 2 (decoded_by n b c d e) (decoded_by 2 b c 0 0)
 unfolding Grows
 by_2 n b c d e h =
-    rw (not_zero n (omega arith), not_below n 2 (omega arith), not_below n 3 (omega arith))
+    rw (not_zero n (omega arith), le-ltb n 2 (omega arith), le-ltb n 3 (omega arith))
     (under 2 (nat_lt b 0x80) _ _ _ (under 2 (nat_lt b 0xC2) _ _ _
     (under 2 (nat_lt 0xF4 b) _ _ _ (over 2 (second b c) _ _ _ (under 2 (nat_lt b 0xE0) _ _ _ (last n b c d e))))))
   where
@@ -86,7 +88,7 @@ by_2 n b c d e h =
 by_3 : (n b c d e : ℕ) → 3 < n → Grows 3 (decoded_by n b c d e) (decoded_by 3 b c d 0)
 unfolding Grows
 by_3 n b c d e h =
-    rw (not_zero n (omega arith), not_below n 2 (omega arith), not_below n 3 (omega arith), not_below n 4 (omega arith))
+    rw (not_zero n (omega arith), le-ltb n 2 (omega arith), le-ltb n 3 (omega arith), le-ltb n 4 (omega arith))
     (under 3 (nat_lt b 0x80) _ _ _ (under 3 (nat_lt b 0xC2) _ _ _
     (under 3 (nat_lt 0xF4 b) _ _ _ (over 3 (second b c) _ _ _ (under 3 (nat_lt b 0xE0) _ _ _
     (over 3 (continues d) _ _ _ (under 3 (nat_lt b 0xF0) _ _ _ (last b c d e))))))))
@@ -97,7 +99,7 @@ by_3 n b c d e h =
 -- four bytes decide
 by_4 : (n b c d e : ℕ) → 3 < n → decoded_by n b c d e ≡ decoded_by 4 b c d e
 by_4 n b c d e h =
-    rw (not_zero n (omega arith), not_below n 2 (omega arith), not_below n 3 (omega arith), not_below n 4 (omega arith))
+    rw (not_zero n (omega arith), le-ltb n 2 (omega arith), le-ltb n 3 (omega arith), le-ltb n 4 (omega arith))
     refl
 
 -- any bytes
@@ -360,7 +362,7 @@ lone_decodes (b ∷ d ∷ s) h =
     let high : nat_lt b 0x80 ≡ false = grind (arith, nat_tests) in
     let close : d ≡ 39 = grind (arith, nat_tests) in
     let n = length (b ∷ d ∷ s) in
-    rw (not_zero n (omega arith), not_below n 2 (omega arith), high)
+    rw (not_zero n (omega arith), le-ltb n 2 (omega arith), high)
     (no_char (nat_lt b 0xC2) (nat_lt 0xF4 b) (second b d) _ (bad 1) (ap (second b) close ∙ no_second b))
 
 -- an apostrophe behind the character closes it

@@ -2,7 +2,7 @@
 use Rattle.std.proofs.Common.{◌≡◌, ℕ, suc, ◌+◌, ◌*◌, ◌^◌, ◌<◌, ◌≤◌, Bool, true, false, cond, ◌&&◌, List, [], ◌∷◌}
 use Rattle.std.proofs.Common.{length, take, drop, get_or, refl, sym, ◌∙◌, ap, arith, add-one, drop-cons, pow_mono}
 use Rattle.std.proofs.Common.{pow-add, nat_lt, Some, None, Option}
-use Rattle.std.proofs.Common.{mul-le-mul_left, ap₂}
+use Rattle.std.proofs.Common.{mul-le-mul_left, ap₂, zero, ◌==◌, true≢false}
 use Rattle.std.proofs.lemmas.List.{at_drop_all}
 use Rattle.std.proofs.lemmas.List.Sums.{fold_more}
 use Rattle.std.proofs.lemmas.List.Folds.{list_all_at, list_all_more}
@@ -130,3 +130,8 @@ digits_more base w i h e d = list_all_more (is_digit base) w i 0 h ∙ ap₂ (λ
   where
     lt-test : (d n : ℕ) → d < n → nat_lt d n ≡ true
     lt-test d n h = grind (arith, nat_tests)
+
+-- a length that is not 0
+pub not_empty : (n : ℕ) → (n == 0) ≡ false → 0 < n
+not_empty zero h = absurd (true≢false h)
+not_empty (suc n) h = omega arith

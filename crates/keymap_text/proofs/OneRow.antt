@@ -1,6 +1,6 @@
 -- Tokens are the rows of one list at most.
 use Rattle.std.proofs.Common.{◌≡◌, ℕ, ◌+◌, List, [], ◌∷◌, ◌++◌, length, map, refl, sym, ◌∙◌, ap, ap₂, arith}
-use Rattle.std.proofs.Common.{Some, Result, Ok, append-nil}
+use Rattle.std.proofs.Common.{append-nil}
 use Rattle.keymap_core.specs.declared.entry.Entry.{Entry}
 use Rattle.keymap_core.specs.declared.entry.Cell.{Cell}
 use Rattle.keymap_core.specs.declared.entry.LockFlag.{LockFlag}
@@ -18,21 +18,12 @@ use Rattle.keymap_text.specs.Rows.{Definition, KeyDefinition, AccentDefinition, 
 use Rattle.keymap_text.specs.Rows.{no_pairs, one_pair, Defines, of_key, of_accent}
 use Rattle.keymap_text.specs.Placed.{Row, AreRows, no_row, one_row, places_after}
 use Rattle.keymap_text.proofs.RowPlaces.{places_are}
-
-head : {A : Type 0} (x y : A) (xs ys : List A) → x ∷ xs ≡ y ∷ ys → x ≡ y
-head x y xs ys h = cc
-
-tail : {A : Type 0} (x y : A) (xs ys : List A) → x ∷ xs ≡ y ∷ ys → xs ≡ ys
-tail x y xs ys h = cc
+use Rattle.keymap_text.proofs.Leading.{same_head, same_tail}
+use Rattle.keymap_text.proofs.Row.{ok_is}
+use Rattle.std.proofs.lemmas.Option.{same_Some}
 
 empty_more : {A : Type 0} (x : A) (xs : List A) → [] ≡ x ∷ xs → ⊥
 empty_more x xs h = cc
-
-ok_is : {A : Type 0} (x y : A) → ◌≡◌ {A = Result A TextFaultKind} (Ok x) (Ok y) → x ≡ y
-ok_is x y h = cc
-
-some_is : (i j : ℕ) → Some i ≡ Some j → i ≡ j
-some_is i j h = cc
 
 -- the same cells, and the same tokens behind them
 cells_are : {ts us : List Item} {cs ds : List Cell} → AreCells ts cs → AreCells us ds → length cs ≡ length ds
@@ -41,8 +32,8 @@ cells_are no_cells no_cells n vs ws e = (refl, e)
 cells_are no_cells (one_cell h r) n vs ws e = absurd (omega (arith, n))
 cells_are (one_cell h r) no_cells n vs ws e = absurd (omega (arith, n))
 cells_are (one_cell {t = t} {c = c} {ts = ts} h r) (one_cell {t = u} {c = d} {ts = us} k s) n vs ws e =
-    let m = cells_are r s (omega (arith, n)) vs ws (tail t u (ts ++ vs) (us ++ ws) e) in
-    let same : c ≡ d = ok_is c d (sym h ∙ ap cell (head t u (ts ++ vs) (us ++ ws) e) ∙ k) in
+    let m = cells_are r s (omega (arith, n)) vs ws (same_tail t u (ts ++ vs) (us ++ ws) e) in
+    let same : c ≡ d = ok_is c d (sym h ∙ ap cell (same_head t u (ts ++ vs) (us ++ ws) e) ∙ k) in
     (ap₂ (λ c cs. c ∷ cs) same m.0, m.1)
 
 -- the same pairs
@@ -52,11 +43,11 @@ pairs_are no_pairs (one_pair h z k r) e = absurd (empty_more _ _ e)
 pairs_are (one_pair h z k r) no_pairs e = absurd (empty_more _ _ (sym e))
 pairs_are (one_pair {t = t} {u = u} {base = a} {result = b} {ts = ts} {ps = ps} h z k r)
     (one_pair {t = t'} {u = u'} {base = a'} {result = b'} {ts = ts'} {ps = ps'} h' z' k' r') e =
-    let one : t ∷ u ∷ Close ∷ ts ≡ t' ∷ u' ∷ Close ∷ ts' = tail Open Open _ _ e in
-    let two : u ∷ Close ∷ ts ≡ u' ∷ Close ∷ ts' = tail t t' _ _ one in
-    let rest : ts ≡ ts' = tail Close Close _ _ (tail u u' _ _ two) in
-    let base : a ≡ a' = ok_is a a' (sym h ∙ ap character (head t t' _ _ one) ∙ h') in
-    let result : b ≡ b' = ok_is b b' (sym k ∙ ap character (head u u' _ _ two) ∙ k') in
+    let one : t ∷ u ∷ Close ∷ ts ≡ t' ∷ u' ∷ Close ∷ ts' = same_tail Open Open _ _ e in
+    let two : u ∷ Close ∷ ts ≡ u' ∷ Close ∷ ts' = same_tail t t' _ _ one in
+    let rest : ts ≡ ts' = same_tail Close Close _ _ (same_tail u u' _ _ two) in
+    let base : a ≡ a' = ok_is a a' (sym h ∙ ap character (same_head t t' _ _ one) ∙ h') in
+    let result : b ≡ b' = ok_is b b' (sym k ∙ ap character (same_head u u' _ _ two) ∙ k') in
     ap₂ (λ p ps. p ∷ ps) (ap₂ (λ a b. (a, b)) base result) (pairs_are r r' rest)
 
 no_number : (n : ℕ) (a : Action) → Value (Number n) ≡ Value (Act a) → ⊥
@@ -81,21 +72,21 @@ accent_is a b h k = ap₂ (λ own pairs. record { own = own; pairs = pairs }) h 
 defined_is : {ts us : List Item} {d e : Definition} → Defines ts d → Defines us e → ts ≡ us → d ≡ e
 defined_is (of_key {slot = s} {e = e} {ts = ts} l eight cells)
     (of_key {slot = t} {e = f} {ts = us} l' eight' cells') h =
-    let slot : s ≡ t = number_is s t (head _ _ _ _ h) in
+    let slot : s ≡ t = number_is s t (same_head _ _ _ _ h) in
     let m = cells_are cells cells' (eight ∙ sym eight') (Value (Letter e.flag) ∷ []) (Value (Letter f.flag) ∷ [])
-    (tail _ _ _ _ h) in
-    ap₂ (λ s e. KeyDefinition s e) slot (entry_is e f m.0 (letter_is e.flag f.flag (head _ _ [] [] m.1)))
+    (same_tail _ _ _ _ h) in
+    ap₂ (λ s e. KeyDefinition s e) slot (entry_is e f m.0 (letter_is e.flag f.flag (same_head _ _ [] [] m.1)))
 defined_is (of_key {slot = s} l eight cells) (of_accent name index own few pairs) h =
-    absurd (no_number s name (head _ _ _ _ h))
+    absurd (no_number s name (same_head _ _ _ _ h))
 defined_is (of_accent name index own few pairs) (of_key {slot = s} l eight cells) h =
-    absurd (no_number s name (sym (head _ _ _ _ h)))
+    absurd (no_number s name (sym (same_head _ _ _ _ h)))
 defined_is (of_accent {i = i} {a = a} {t = t} {ts = ts} name index own few pairs)
     (of_accent {i = j} {a = b} {t = u} {ts = us} name' index' own' few' pairs') h =
     let which : i ≡ j =
-    some_is i j (sym index ∙ ap accent_index (action_is name name' (head _ _ _ _ h)) ∙ index') in
-    let rest : t ∷ ts ≡ u ∷ us = tail _ _ _ _ h in
-    let same : a.own ≡ b.own = ok_is a.own b.own (sym own ∙ ap character (head t u ts us rest) ∙ own') in
-    ap₂ (λ i a. AccentDefinition i a) which (accent_is a b same (pairs_are pairs pairs' (tail t u ts us rest)))
+    same_Some i j (sym index ∙ ap accent_index (action_is name name' (same_head _ _ _ _ h)) ∙ index') in
+    let rest : t ∷ ts ≡ u ∷ us = same_tail _ _ _ _ h in
+    let same : a.own ≡ b.own = ok_is a.own b.own (sym own ∙ ap character (same_head t u ts us rest) ∙ own') in
+    ap₂ (λ i a. AccentDefinition i a) which (accent_is a b same (pairs_are pairs pairs' (same_tail t u ts us rest)))
 
 -- two lists whose first parts are as long
 parts_are : {A : Type 0} (xs ys us vs : List A) → length xs ≡ length ys → xs ++ us ≡ ys ++ vs
@@ -104,8 +95,8 @@ parts_are [] [] us vs n e = (refl, e)
 parts_are [] (y ∷ ys) us vs n e = absurd (omega (arith, n))
 parts_are (x ∷ xs) [] us vs n e = absurd (omega (arith, n))
 parts_are (x ∷ xs) (y ∷ ys) us vs n e =
-    let m = parts_are xs ys us vs (omega (arith, n)) (tail x y (xs ++ us) (ys ++ vs) e) in
-    (ap₂ (λ x xs. x ∷ xs) (head x y (xs ++ us) (ys ++ vs) e) m.0, m.1)
+    let m = parts_are xs ys us vs (omega (arith, n)) (same_tail x y (xs ++ us) (ys ++ vs) e) in
+    (ap₂ (λ x xs. x ∷ xs) (same_head x y (xs ++ us) (ys ++ vs) e) m.0, m.1)
 
 -- no rows have no tokens
 none : {ts : List TokenValue} {rows : List Row} → AreRows ts rows → rows ≡ [] → ts ≡ []
@@ -117,7 +108,7 @@ next_place : (n m : ℕ) (a b : List Row) → places_after n a ≡ places_after 
 unfolding places_after
 next_place n m a [] h x xs e = absurd (empty_more _ _ (sym h ∙ ap (places_after n) e))
 next_place n m a (y ∷ ys) h x xs e =
-    ap (λ (p : Placed). p.first) (head _ _ _ _ (ap (places_after n) (sym e) ∙ h))
+    ap (λ (p : Placed). p.first) (same_head _ _ _ _ (ap (places_after n) (sym e) ∙ h))
 
 no_places : (n m : ℕ) (b : List Row) → places_after n [] ≡ places_after m b → b ≡ []
 unfolding places_after
@@ -141,7 +132,7 @@ row_is r s h k = ap₂ (λ d ts. record { definition = d; tokens = ts }) h k
 more_places : (n : ℕ) (r s : Row) (a b : List Row) → places_after n (r ∷ a) ≡ places_after n (s ∷ b)
     → places_after (n + length r.tokens) a ≡ places_after (n + length s.tokens) b
 unfolding places_after
-more_places n r s a b h = tail _ _ _ _ h
+more_places n r s a b h = same_tail _ _ _ _ h
 
 rows_are : {ts us : List TokenValue} {a b : List Row} → AreRows ts a → AreRows us b → ts ≡ us → (n : ℕ)
     → places_after n a ≡ places_after n b → a ≡ b

@@ -12,7 +12,7 @@ use Rattle.keymap_text.specs.Rows.{KeyDefinition, AccentDefinition, AreCells, no
 use Rattle.keymap_text.specs.Rows.{no_pairs, one_pair, Defines, of_key, of_accent}
 
 -- as many tokens as cells
-count_cells : {ts : List Item} {cs : List Cell} → AreCells ts cs → length ts ≡ length cs
+pub count_cells : {ts : List Item} {cs : List Cell} → AreCells ts cs → length ts ≡ length cs
 count_cells no_cells = refl
 count_cells (one_cell h r) = ap suc (count_cells r)
 

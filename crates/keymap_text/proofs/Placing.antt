@@ -3,7 +3,7 @@ use Rattle.std.proofs.Common.{◌≡◌, ℕ, zero, suc, ◌+◌, ◌<◌, ◌�
 use Rattle.std.proofs.Common.{length, take, drop, map, refl, sym, ◌∙◌, ap, subst, arith, Option, Some, None, Ok, Err}
 use Rattle.std.proofs.Common.{IfSome, length-drop, append_assoc, nat_lt}
 use Rattle.std.proofs.lemmas.Bool.Decides.{nat_tests}
-use Rattle.std.proofs.lemmas.List.{drop-drop}
+use Rattle.std.proofs.lemmas.List.{drop-drop, length-take-le}
 use Rattle.keymap_text.specs.declared.fault.TextFaultKind.{TextFaultKind}
 use Rattle.keymap_text.specs.declared.fault.TextFaultKind.TheVariants.{BadByte, BadWord, EndInside}
 use Rattle.keymap_text.specs.declared.token.TokenKind.{TokenKind}
@@ -21,8 +21,9 @@ use Rattle.keymap_text.specs.Inner.Placed.{begun, tokens_from, ComesNext}
 use Rattle.keymap_text.specs.Meaning.{list_of, is_word_kind}
 use Rattle.keymap_text.proofs.Leading.{leading_le}
 use Rattle.keymap_text.proofs.Literals.{literal_fits, literal_found}
-use Rattle.keymap_text.proofs.Splitting.{split_one, split_after, split_skipped, split_found, split_refused}
+use Rattle.keymap_text.proofs.Splitting.{split_one, split_after, split_skipped, split_found, split_refused, split_nil}
 use Rattle.keymap_text.proofs.Splitting.{split_unfinished}
+use Rattle.keymap_text.proofs.Faults.{list_then}
 
 -- A token that stands in front ends within the bytes, and a word has at most 32 bytes.
 pub record Fits (kind : TokenKind) (n : ℕ) (bytes : List ℕ) : Type 0 where
@@ -108,16 +109,6 @@ fault_first f q t h = cc
 then_first : (u t : TokenValue) (ts : Tokens) → first (Then u ts) ≡ Ok (Some t) → u ≡ t
 then_first u t ts h = cc
 
-list_then : (t : TokenValue) (ts : Tokens) → list_of (Then t ts) ≡ t ∷ list_of ts
-unfolding list_of
-list_then t ts = refl
-
--- as many are taken
-taken : (n : ℕ) (bytes : List ℕ) → n ≤ length bytes → length (take n bytes) ≡ n
-taken zero bytes h = refl
-taken (suc n) [] h = absurd (omega (arith, h))
-taken (suc n) (c ∷ bytes) h = ap suc (taken n bytes (omega (arith, h)))
-
 -- one byte more in front
 one_more : (q c : ℕ) (bytes : List ℕ) (ts : Tokens) (t : TokenValue) → (j : ℕ) × IsNext (q + 1) bytes ts t j
     → (j : ℕ) × IsNext q (c ∷ bytes) ts t j
@@ -143,7 +134,7 @@ found_next : (q c n : ℕ) (kind : TokenKind) (bytes : List ℕ) (t : TokenValue
     → IsNext q (c ∷ bytes) (tokens_after 0 q (c ∷ bytes)) t 0
 found_next q c n kind bytes t h e =
     let f : Fits kind n bytes = front_fits c bytes kind n h in
-    let l : length (take n bytes) ≡ n = taken n bytes f.within in
+    let l : length (take n bytes) ≡ n = length-take-le n bytes f.within in
     let within : n ≤ length bytes = f.within in
     let u : TokenValue = record { kind = kind; bytes = c ∷ take n bytes; start = q; last = is_empty (drop n bytes) } in
     let place : q + 1 + n ≡ q + 0 + suc (length (take n bytes)) = omega (arith, l) in
@@ -160,15 +151,9 @@ found_next q c n kind bytes t h e =
           ∙ ap (λ i. u ∷ list_of (tokens_after 0 (q + 0 + suc (length (take n bytes))) (drop i (c ∷ bytes)))) index;
     })
 
--- no bytes have no tokens
-empty_split : (k q : ℕ) → tokens_after k q [] ≡ Ends q
-unfolding tokens_after
-empty_split zero q = refl
-empty_split (suc k) q = refl
-
 pub next_is : (bytes : List ℕ) (k q : ℕ) (t : TokenValue) → first (tokens_after k q bytes) ≡ Ok (Some t)
     → (j : ℕ) × IsNext q bytes (tokens_after k q bytes) t j
-next_is [] k q t h = absurd (none_first q t (sym (ap first (empty_split k q)) ∙ h))
+next_is [] k q t h = absurd (none_first q t (sym (ap first (split_nil k q)) ∙ h))
 next_is (c ∷ bytes) (suc k) q t h =
     subst (λ (ts : Tokens). (j : ℕ) × IsNext q (c ∷ bytes) ts t j) (sym (split_one k q c bytes))
     (one_more q c bytes (tokens_after k (q + 1) bytes) t

@@ -15,11 +15,11 @@ use Rattle.keymap_text.specs.Meaning.{list_of, ending_of_tokens, tokens, ending,
 use Rattle.keymap_text.specs.Meaning.{is_settled, is_end_inside}
 use Rattle.keymap_text.proofs.Leading.{leading_le}
 use Rattle.keymap_text.proofs.Splitting.{split_one, split_after, split_blank, split_comment, split_found, split_refused}
-use Rattle.keymap_text.proofs.Splitting.{split_none, split_unfinished}
+use Rattle.keymap_text.proofs.Splitting.{split_none, split_unfinished, split_nil}
 use Rattle.keymap_text.proofs.Literals.{literal_stable, literal_fits, literal_no_skip}
 use Rattle.keymap_text.proofs.Steps.{front_left, front_right, front_quote, front_word, front_no_role}
 use Rattle.keymap_text.proofs.Early.{Role, Blank, Hash, Left, Right, Quote, Letter, Other, role, leading_short}
-use Rattle.keymap_text.proofs.Early.{leading_grows, split_nil}
+use Rattle.keymap_text.proofs.Early.{leading_grows}
 
 -- the tokens of a text, and those of a longer one
 data Continues : Tokens → Tokens → Type 0 where

@@ -19,6 +19,7 @@ use Rattle.keymap_text.specs.Quoted.{IsCharacter, IsQuoted, BeginsQuoted, IsUnfi
 use Rattle.keymap_text.proofs.Literals.{literal_stable, literal_refused, literal_fits, literal_no_skip, literal_spelled}
 use Rattle.keymap_text.proofs.Splitting.{split_found, split_refused, split_unfinished}
 use Rattle.keymap_text.proofs.Steps.{found_whole, front_quote}
+use Rattle.keymap_text.proofs.Leading.{same_tail}
 
 -- a byte from 0x80 on stands between the apostrophes
 lone_spelled : (c : ℕ) (more : List ℕ) → 0x80 ≤ c → literal (c ∷ 39 ∷ more) ≡ Found (Literal c) 2
@@ -257,10 +258,6 @@ literal_unfinished s h = go (is_lone s) h
     go true e = absurd (cc)
     go false e = quoted_unfinished s (decoded s).char refl e
 
--- lists that are equal have equal tails
-tail_same : (a b : ℕ) (s t : List ℕ) → a ∷ s ≡ b ∷ t → s ≡ t
-tail_same a b s t e = cc
-
 -- what needs some bytes more is unfinished
 unfinished_literal : (s : List ℕ) → IsUnfinished (39 ∷ s) → literal s ≡ Unfinished
 unfinished_literal s u = go (literal s) refl
@@ -269,7 +266,7 @@ unfinished_literal s u = go (literal s) refl
     all = u.quoted.between ++ 39 ∷ []
 
     whole : s ++ u.more ≡ all
-    whole = tail_same 39 39 (s ++ u.more) all u.quoted.apostrophes
+    whole = same_tail 39 39 (s ++ u.more) all u.quoted.apostrophes
 
     found : literal (s ++ u.more) ≡ Found (Literal u.character) (length u.quoted.between + 1)
     found = ap literal whole ∙ character_found u.character u.quoted.between [] u.quoted.character
@@ -333,7 +330,7 @@ begun_found : (rest : List ℕ) → BeginsQuoted (39 ∷ rest) → (k : TokenKin
 begun_found rest h =
     let b = h.quoted.between in
     let whole : rest ≡ b ++ 39 ∷ h.more =
-    tail_same 39 39 rest _ (h.front ∙ ap (λ l. l ++ h.more) h.quoted.apostrophes
+    same_tail 39 39 rest _ (h.front ∙ ap (λ l. l ++ h.more) h.quoted.apostrophes
     ∙ ap (λ l. 39 ∷ l) (append_assoc b (39 ∷ []) h.more)) in
     (Literal h.character, length b + 1, ap literal whole ∙ character_found h.character b h.more h.quoted.character)
 

@@ -1,9 +1,11 @@
 -- The reader's machine accepts exactly the rows of definitions.
-use Rattle.std.proofs.Common.{◌≡◌, ◌≢◌, ℕ, zero, suc, ◌+◌, ◌<◌, ◌≤◌, ◌==◌, Bool, true, false, cond, List, [], ◌∷◌, ◌++◌}
+use Rattle.std.proofs.Common.{◌≡◌, ◌≢◌, ℕ, ◌+◌, ◌<◌, ◌≤◌, ◌==◌, Bool, true, false, cond, List, [], ◌∷◌, ◌++◌}
 use Rattle.std.proofs.Common.{length, take, set, refl, sym, ◌∙◌, ap, subst, arith, Result, Ok, Err, Option, Some, None}
 use Rattle.std.proofs.Common.{length-append, length-set, append_assoc, append-nil, nat_lt, eqb-true, ne_eqb, eq-eqb}
-use Rattle.std.proofs.Common.{true≢false, take_all, add-one}
+use Rattle.std.proofs.Common.{true≢false, take_all}
 use Rattle.std.proofs.lemmas.Bool.Decides.{nat_tests}
+use Rattle.std.proofs.lemmas.Option.{none-some, same_Some}
+use Rattle.std.proofs.lemmas.List.{take_more_set}
 use Rattle.keymap_text.specs.declared.fault.TextFaultKind.{TextFaultKind}
 use Rattle.keymap_text.specs.declared.fault.TextFaultKind.TheVariants as faults
 use Rattle.keymap_core.specs.declared.entry.Entry.{Entry}
@@ -38,7 +40,7 @@ bind_ok (Ok x) f y h = (x, refl, h)
 bind_ok (Err e) f y h = absurd (err_ok e y h)
 
 -- equal answers
-ok_is : {A : Type 0} (x y : A) → ◌≡◌ {A = Result A TextFaultKind} (Ok x) (Ok y) → x ≡ y
+pub ok_is : {A : Type 0} (x y : A) → ◌≡◌ {A = Result A TextFaultKind} (Ok x) (Ok y) → x ≡ y
 ok_is x y h = cc
 
 -- a test of numbers
@@ -134,21 +136,10 @@ lock_is (Value OutOfRange) f h = absurd (err_ok _ _ h)
 lock_is (Value (Letter g)) f h = ap (λ g. Value (Letter g)) (ok_is _ _ h)
 lock_is (Value Unknown) f h = absurd (err_ok _ _ h)
 
--- the front of a list where the next element was set
-set_take_suc : {X : Type 0} (xs : List X) (i : ℕ) (x : X) → i < length xs
-    → take (suc i) (set xs i x) ≡ take i xs ++ x ∷ []
-set_take_suc [] i x h = absurd (omega (arith, h))
-set_take_suc (y ∷ xs) zero x h = refl
-set_take_suc (y ∷ xs) (suc i) x h = ap (λ zs. y ∷ zs) (set_take_suc xs i x (omega (arith, h)))
-
--- the same
-set_take : {X : Type 0} (xs : List X) (i : ℕ) (x : X) → i < length xs → take (i + 1) (set xs i x) ≡ take i xs ++ x ∷ []
-set_take xs i x h = ap (λ n. take n (set xs i x)) (add-one i) ∙ set_take_suc xs i x h
-
 -- the whole list where the last element was set
 set_last : {X : Type 0} (xs : List X) (i : ℕ) (x : X) → length xs ≡ i + 1 → set xs i x ≡ take i xs ++ x ∷ []
 set_last xs i x h =
-    sym (take_all (i + 1) (set xs i x) (rw length-set (omega (arith, h)))) ∙ set_take xs i x (omega (arith, h))
+    sym (take_all (i + 1) (set xs i x) (rw length-set (omega (arith, h)))) ∙ take_more_set xs i x (omega (arith, h))
 
 -- one cell more
 cell_part : (ts : List Item) (t : Item) (slot i : ℕ) (e : Entry) (c : Cell) → Part ts (CellAt slot i e) → cell t ≡ Ok c
@@ -175,7 +166,7 @@ cell_part ts t slot i e c (cs, is, fits, lt, l, cells) h = go (i == 7) refl
           omega (arith, lt, n7),
           length-set e.cells i c
               ∙ l,
-          subst (AreCells (cs ++ t ∷ [])) (sym (set_take e.cells i c (omega (arith, l, lt))))
+          subst (AreCells (cs ++ t ∷ [])) (sym (take_more_set e.cells i c (omega (arith, l, lt))))
               (cells_push t c cells h),
         )
 
@@ -339,14 +330,6 @@ pub stands_first : Stands [] start
 stands_first =
     record { definitions = []; row = []; rest = []; tokens = refl; is_row = no_definition; map = refl; part = refl }
 
--- equal values
-some_is : {A : Type 0} (x y : A) → Some x ≡ Some y → x ≡ y
-some_is x y h = cc
-
--- no value is not some
-none_some : {A : Type 0} (y : A) → None ≡ Some y → ⊥
-none_some y h = cc
-
 -- where the text may end, the tokens are a row
 pub row_at_end : (ts : List Item) (m : MapValue) (p : GrammarPlace) (m' : MapValue) → Stands ts (at m p)
     → at_end (at m p) ≡ Some m' → (ds : List rows.Definition) × IsRow ts ds × (m' ≡ puts empty_map ds)
@@ -355,21 +338,21 @@ row_at_end ts m Definition m' k h = (
   k.definitions,
   subst (λ (ts : List Item). IsRow ts k.definitions)
       (sym (k.tokens ∙ ap (λ r. k.row ++ r) k.part ∙ append-nil k.row)) k.is_row,
-  sym (some_is _ _ h) ∙ k.map,
+  sym (same_Some _ _ h) ∙ k.map,
 )
-row_at_end ts m (CellAt slot i e) m' k h = absurd (none_some _ h)
-row_at_end ts m (LockAt slot e) m' k h = absurd (none_some _ h)
-row_at_end ts m (AccentCharacter i) m' k h = absurd (none_some _ h)
+row_at_end ts m (CellAt slot i e) m' k h = absurd (none-some _ h)
+row_at_end ts m (LockAt slot e) m' k h = absurd (none-some _ h)
+row_at_end ts m (AccentCharacter i) m' k h = absurd (none-some _ h)
 row_at_end ts m (AfterAccent i a) m' k h = (
   k.definitions ++ AccentDefinition i a ∷ [],
   subst (λ (ts : List Item). IsRow ts (k.definitions ++ AccentDefinition i a ∷ [])) (sym k.tokens)
       (row_push k.is_row k.part),
-  sym (some_is _ _ h) ∙ ap (λ m. with_accent m i a) k.map
+  sym (same_Some _ _ h) ∙ ap (λ m. with_accent m i a) k.map
       ∙ sym (puts_push empty_map k.definitions (AccentDefinition i a)),
 )
-row_at_end ts m (PairBase i a) m' k h = absurd (none_some _ h)
-row_at_end ts m (PairResult i a b) m' k h = absurd (none_some _ h)
-row_at_end ts m (PairEnd i a b r) m' k h = absurd (none_some _ h)
+row_at_end ts m (PairBase i a) m' k h = absurd (none-some _ h)
+row_at_end ts m (PairResult i a b) m' k h = absurd (none-some _ h)
+row_at_end ts m (PairEnd i a b r) m' k h = absurd (none-some _ h)
 
 -- each row is accepted
 steps_on : (s s' : GrammarState) (t : Item) (ts : List Item) → accept s t ≡ Ok s' → steps s (t ∷ ts) ≡ steps s' ts
@@ -386,17 +369,17 @@ steps_append s s' (t ∷ ts) us h =
 ready : (m : MapValue) (p : GrammarPlace) (m' : MapValue) (t : Item) (q : GrammarPlace) → at_end (at m p) ≡ Some m'
     → first_of t ≡ Ok q → accept (at m p) t ≡ Ok (at m' q)
 unfolding at_end accept
-ready m Definition m' t q h k = ap (λ r. r >>= (λ p. Ok (at m p))) k ∙ ap (λ m. Ok (at m q)) (some_is _ _ h)
-ready m (CellAt slot i e) m' t q h k = absurd (none_some _ h)
-ready m (LockAt slot e) m' t q h k = absurd (none_some _ h)
-ready m (AccentCharacter i) m' t q h k = absurd (none_some _ h)
+ready m Definition m' t q h k = ap (λ r. r >>= (λ p. Ok (at m p))) k ∙ ap (λ m. Ok (at m q)) (same_Some _ _ h)
+ready m (CellAt slot i e) m' t q h k = absurd (none-some _ h)
+ready m (LockAt slot e) m' t q h k = absurd (none-some _ h)
+ready m (AccentCharacter i) m' t q h k = absurd (none-some _ h)
 ready m (AfterAccent i a) m' Open q h k = absurd (err_ok _ _ k)
 ready m (AfterAccent i a) m' Close q h k = absurd (err_ok _ _ k)
 ready m (AfterAccent i a) m' (Value v) q h k =
-    ap (λ r. r >>= (λ p. Ok (at (with_accent m i a) p))) k ∙ ap (λ m. Ok (at m q)) (some_is _ _ h)
-ready m (PairBase i a) m' t q h k = absurd (none_some _ h)
-ready m (PairResult i a b) m' t q h k = absurd (none_some _ h)
-ready m (PairEnd i a b r) m' t q h k = absurd (none_some _ h)
+    ap (λ r. r >>= (λ p. Ok (at (with_accent m i a) p))) k ∙ ap (λ m. Ok (at m q)) (same_Some _ _ h)
+ready m (PairBase i a) m' t q h k = absurd (none-some _ h)
+ready m (PairResult i a b) m' t q h k = absurd (none-some _ h)
+ready m (PairEnd i a b r) m' t q h k = absurd (none-some _ h)
 
 -- a cell is taken
 take_cell : (m : MapValue) (slot i : ℕ) (e : Entry) (t : Item) (c : Cell) → cell t ≡ Ok c
@@ -430,7 +413,7 @@ cells_done m slot i e ts cs us (one_cell {t = t} {c = c} h (one_cell {t = t'} {c
     ∙ cells_done m slot (i + 1) (with_cell e i c) (t' ∷ ts') (c' ∷ cs') us (one_cell k r) (omega (arith, n))
     (omega arith) (length-set e.cells i c ∙ l)
     ∙ ap (λ (cells : List Cell). steps (at m (LockAt slot (record { cells = cells; flag = e.flag }))) us)
-    (ap (λ xs. xs ++ c' ∷ cs') (set_take e.cells i c (omega (arith, l, n)))
+    (ap (λ xs. xs ++ c' ∷ cs') (take_more_set e.cells i c (omega (arith, l, n)))
     ∙ append_assoc (take i e.cells) (c ∷ []) (c' ∷ cs'))
 
 -- a lock letter is taken

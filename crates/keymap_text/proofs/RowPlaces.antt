@@ -19,12 +19,13 @@ use Rattle.keymap_text.specs.Items.{accent_index}
 use Rattle.keymap_text.specs.Words.{item}
 use Rattle.keymap_text.specs.Lexical.{TokenValue}
 use Rattle.keymap_text.specs.Meaning.{item_of, tokens, Spells}
-use Rattle.keymap_text.specs.Rows.{Definition, AreCells, no_cells, one_cell, ArePairs}
+use Rattle.keymap_text.specs.Rows.{Definition, ArePairs}
 use Rattle.keymap_text.specs.Rows.{no_pairs, one_pair, Defines, of_key, of_accent, IsRow, no_definition, one_definition}
 use Rattle.keymap_text.specs.Rows.{map_of}
 use Rattle.keymap_text.specs.Placed.{Row, AreRows, no_row, one_row, IsSpelledBy, defined, places_after, places_of}
 use Rattle.keymap_text.specs.Placed.{begins}
 use Rattle.keymap_text.specs.Inner.Placed.{behind, is_open, begun}
+use Rattle.keymap_text.proofs.Parts.{count_cells}
 
 -- A list whose image begins with u.
 record Begins (ts : List TokenValue) (u : Item) (us : List Item) : Type 0 where
@@ -101,11 +102,6 @@ not_open kinds.Word w m h = refl
 as_many : (ts : List TokenValue) (us : List Item) → map item_of ts ≡ us → length ts ≡ length us
 as_many ts us h = sym (length-map ts item_of) ∙ ap length h
 
--- as many items as cells
-as_many_cells : {us : List Item} {cs : List Cell} → AreCells us cs → length us ≡ length cs
-as_many_cells no_cells = refl
-as_many_cells (one_cell h r) = ap suc (as_many_cells r)
-
 -- pairs begin no definition
 pairs_in_it : {us : List Item} {ps : List (ℕ × ℕ)} → ArePairs us ps → (a ts : List TokenValue) (n : ℕ)
     → map item_of a ≡ us → begun 0 n (a ++ ts) ≡ begun 0 (n + length a) ts
@@ -147,7 +143,7 @@ row_begins (of_key {slot = slot} {e = e} {ts = us} l eight cells) a ts n h =
       arith,
       as_many b.rest rest b.others,
       length-append us (Value (Letter e.flag) ∷ []),
-      as_many_cells cells,
+      count_cells cells,
       eight,
     ) in
     let place : n + 1 + length b.rest ≡ n + length a = omega (arith, ap length b.whole) in

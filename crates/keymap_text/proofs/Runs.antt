@@ -2,7 +2,7 @@
 use Rattle.std.proofs.Common.{◌≡◌, ◌≢◌, ℕ, zero, suc, ◌+◌, ◌<◌, ◌≤◌, Bool, true, false, List, [], ◌∷◌, ◌++◌, length}
 use Rattle.std.proofs.Common.{take, drop, get_or, refl, sym, ◌∙◌, ap, subst, arith, Result, Ok, Err, OnOk, ne_eqb, ◌-◌}
 use Rattle.std.proofs.Common.{ap₂, append_assoc, append-nil, length-drop, drop-cons, take_all}
-use Rattle.std.proofs.lemmas.List.{drop-drop, take-append-drop, drop_all}
+use Rattle.std.proofs.lemmas.List.{drop-drop, take-append-drop, drop_all, length-take-le}
 use Rattle.std.proofs.Math.Seq.{take-add}
 use Rattle.std.proofs.lemmas.Bool.Decides.{nat_tests}
 use Rattle.std.specs.Prelude.{IfErr}
@@ -15,7 +15,7 @@ use Rattle.keymap_text.specs.declared.words.Meaning.TheVariants.{Char}
 use Rattle.keymap_text.specs.declared.scanner.Mode.{Mode}
 use Rattle.keymap_text.specs.declared.scanner.Mode.TheVariants as modes
 use Rattle.keymap_text.specs.declared.scanner.Scanner.{Scanner}
-use Rattle.keymap_text.specs.Lexical.{leading, is_blank, is_space, is_word, literal, Found, tokens_after, Then}
+use Rattle.keymap_text.specs.Lexical.{leading, is_blank, is_space, is_word, tokens_after, Then}
 use Rattle.keymap_text.specs.Lexical.{is_empty}
 use Rattle.keymap_text.specs.Words.{meaning}
 use Rattle.keymap_text.specs.Inner.Grammar.{GrammarState, accept}
@@ -28,9 +28,10 @@ use Rattle.keymap_text.specs.Inner.Resuming.{Goes, Accepts, Takes, Advances, Ref
 use Rattle.keymap_text.proofs.Leading.{leading_pass, leading_fail, leading_none}
 use Rattle.keymap_text.proofs.Lines.{feeds, feeds_are, feeds_run, no_feed, lined_run, lined_on, lined_whole}
 use Rattle.keymap_text.proofs.Lines.{pending_line}
-use Rattle.keymap_text.proofs.Splitting.{split_blank, to_end}
+use Rattle.keymap_text.proofs.Splitting.{split_blank, to_end, first_and_rest}
 use Rattle.keymap_text.proofs.Steps.{judge_then, judge_refused, word_ended, found_whole, front_quote, front_left}
 use Rattle.keymap_text.proofs.Steps.{front_right, stays_in_line}
+use Rattle.keymap_text.proofs.Literals.{printable}
 
 -- blanks
 space_blank : (c : ℕ) → is_space c ≡ true → is_blank c ≡ true
@@ -93,12 +94,6 @@ not_empty n [] x h = absurd (omega (arith, h))
 not_empty zero (c ∷ w) x h = refl
 not_empty (suc n) (c ∷ w) x h = not_empty n w x (omega (arith, h))
 
--- a front has as many bytes as were asked for
-pub front_length : (n : ℕ) (w : List ℕ) → n ≤ length w → length (take n w) ≡ n
-front_length zero w h = refl
-front_length (suc n) [] h = absurd (omega (arith, h))
-front_length (suc n) (c ∷ w) h = ap suc (front_length n w (omega (arith, h)))
-
 -- a front and what is behind it
 front_behind : (n : ℕ) (w x : List ℕ) → w ++ x ≡ take n w ++ (drop n w ++ x)
 front_behind zero w x = refl
@@ -110,7 +105,7 @@ word_split : (a q k : ℕ) (w x : List ℕ) → is_word a ≡ true → leading i
     → tokens_after 0 q (a ∷ (w ++ x)) ≡ Then (record { kind = Word; bytes = a ∷ take k w; start = q; last = false })
     (tokens_after 0 (q + suc k) (drop k w ++ x))
 word_split a q k w x h e l b =
-    let n = front_length k w (omega (arith, l)) in
+    let n = length-take-le k w (omega (arith, l)) in
     ap (λ t. tokens_after 0 q (a ∷ t)) (front_behind k w x)
     ∙ word_ended a q (take k w) (drop k w ++ x) h (leading_front is_word k w e ∙ sym n)
     (leading_behind is_word k w x e l) (omega (arith, n, b))
@@ -135,11 +130,6 @@ word_fronts (suc k) (c ∷ w) e l t b = record {
   inside = omega (arith, l);
   one_line = sym (feeds_are (take (suc k) (c ∷ w))) ∙ feeds_run is_word refl (suc k) (c ∷ w) (omega (arith, e));
 }
-
--- a quoted character
-printable : (c : ℕ) (y : List ℕ) → 31 < c → c < 127 → literal (c ∷ 39 ∷ y) ≡ Found (Literal c) 2
-unfolding literal
-printable c y h k = grind (arith, nat_tests)
 
 -- so is a quoted printable character
 quote_split : (c q : ℕ) (y : List ℕ) → 31 < c → c < 127
@@ -242,7 +232,8 @@ token_advances old new rest i n f r m a r' o l m' p =
       reader = r';
       fed = omega (arith, o, ap length p);
       inside = f.inside;
-      line = λ b h. lined_run old new b (take n rest) none (p ∙ none) l (omega (arith, o, front_length n rest f.inside))
+      line = λ b h. lined_run old new b (take n rest) none (p ∙ none) l
+          (omega (arith, o, length-take-le n rest f.inside))
           (feeds_are (take n rest) ∙ f.one_line) h;
     }
 
@@ -262,11 +253,6 @@ token_refuses old rest i n e f m a o l =
           (record { line = l; from = omega (arith, o); to = omega (arith, o) });
     }
 
--- one byte
-first : (xs : List ℕ) → 0 < length xs → xs ≡ get_or xs 0 0 ∷ drop 1 xs
-first [] h = absurd (omega (arith, h))
-first (c ∷ xs) h = refl
-
 -- the first byte
 one : (xs : List ℕ) → 0 < length xs → take 1 xs ≡ get_or xs 0 0 ∷ []
 one [] h = absurd (omega (arith, h))
@@ -279,7 +265,7 @@ pub byte_advances : (old new : Scanner) (rest : List ℕ) (c : ℕ) → 0 < leng
     → Advances old new rest 1
 byte_advances old new rest c h e t r f l =
     record {
-      takes = λ x. ap (λ (t : List ℕ). resume old (t ++ x)) (first rest h ∙ sym (ap (λ n. n ∷ drop 1 rest) e))
+      takes = λ x. ap (λ (t : List ℕ). resume old (t ++ x)) (first_and_rest rest h ∙ sym (ap (λ n. n ∷ drop 1 rest) e))
           ∙ t (drop 1 rest ++ x);
       reader = r;
       fed = f;
@@ -292,7 +278,7 @@ byte_advances old new rest c h e t r f l =
 pub byte_refuses : (old : Scanner) (rest : List ℕ) (c : ℕ) (e : TextFault) → 0 < length rest → c ≡ get_or rest 0 0
     → ((x : List ℕ) → resume old (c ∷ x) ≡ Faulty e.kind e.offset true) → IsFaultOfPending e old → Refuses old rest e
 byte_refuses old rest c e h k t p = record {
-  takes = λ x. ap (λ (t : List ℕ). resume old (t ++ x)) (first rest h ∙ sym (ap (λ n. n ∷ drop 1 rest) k))
+  takes = λ x. ap (λ (t : List ℕ). resume old (t ++ x)) (first_and_rest rest h ∙ sym (ap (λ n. n ∷ drop 1 rest) k))
       ∙ t (drop 1 rest ++ x);
   line = λ b x l. pending_line old b (rest ++ x) e l p;
 }
@@ -341,7 +327,7 @@ takes_after (Err e) old mid new c a g l p o = record {
 pub byte_in_front : (old new : Scanner) (rest : List ℕ) → 0 < length rest → Advances old new (get_or rest 0 0 ∷ []) 1
     → Advances old new rest 1
 byte_in_front old new rest h a = record {
-  takes = λ x. ap (λ (t : List ℕ). resume old (t ++ x)) (first rest h) ∙ a.takes (drop 1 rest ++ x);
+  takes = λ x. ap (λ (t : List ℕ). resume old (t ++ x)) (first_and_rest rest h) ∙ a.takes (drop 1 rest ++ x);
   reader = a.reader;
   fed = a.fed;
   inside = h;
@@ -352,9 +338,9 @@ byte_in_front old new rest h a = record {
 fault_in_front : (old : Scanner) (rest : List ℕ) (e : TextFault) → 0 < length rest
     → Refuses old (get_or rest 0 0 ∷ []) e → Refuses old rest e
 fault_in_front old rest e h r = record {
-  takes = λ x. ap (λ (t : List ℕ). resume old (t ++ x)) (first rest h) ∙ r.takes (drop 1 rest ++ x);
+  takes = λ x. ap (λ (t : List ℕ). resume old (t ++ x)) (first_and_rest rest h) ∙ r.takes (drop 1 rest ++ x);
   line = λ b x k.
-      r.line b (drop 1 rest ++ x) k ∙ ap (λ (t : List ℕ). line (b ++ (t ++ x)) e.offset) (sym (first rest h));
+      r.line b (drop 1 rest ++ x) k ∙ ap (λ (t : List ℕ). line (b ++ (t ++ x)) e.offset) (sym (first_and_rest rest h));
 }
 
 -- How far a reader has come in a piece.

@@ -28,6 +28,12 @@ pub split_none : (q : ℕ) → tokens_after 0 q [] ≡ Ends q
 unfolding tokens_after
 split_none q = refl
 
+-- no bytes have no tokens, wherever one would begin
+pub split_nil : (k q : ℕ) → tokens_after k q [] ≡ Ends q
+unfolding tokens_after
+split_nil zero q = refl
+split_nil (suc k) q = refl
+
 -- a blank or comment in front
 pub split_skipped : (q c n : ℕ) (bytes : List ℕ) → front_of c bytes ≡ Skipped n
     → tokens_after 0 q (c ∷ bytes) ≡ tokens_after n (q + 1) bytes
@@ -99,10 +105,10 @@ split_line_at xs i h e =
     split_comment_at xs i h e ∙ split_after _ (i + 1) _ (leading_le stays_on_line (drop (i + 1) xs))
     ∙ ap (tokens_after 0 (i + 1 + leading stays_on_line (drop (i + 1) xs))) (drop-drop _ _ xs)
 
--- the first token of what begins at i
-shape : (xs : List ℕ) → 0 < length xs → xs ≡ get_or xs 0 0 ∷ drop 1 xs
-shape [] h = absurd (omega (arith, h))
-shape (x ∷ xs) h = refl
+-- bytes, by the first and the rest
+pub first_and_rest : (xs : List ℕ) → 0 < length xs → xs ≡ get_or xs 0 0 ∷ drop 1 xs
+first_and_rest [] h = absurd (omega (arith, h))
+first_and_rest (x ∷ xs) h = refl
 
 -- bytes are left at a place
 room : (xs : List ℕ) (i : ℕ) → i < length xs → 0 < length (drop i xs)
@@ -126,7 +132,7 @@ pub at_found : (xs : List ℕ) (i n : ℕ) (kind : TokenKind) → i < length xs
       start = i;
       last = is_empty (drop (i + 1 + n) xs);
     }) (tokens_after n (i + 1) (drop 1 (drop i xs)))
-at_found xs i n kind h e = ap (tokens_after 0 i) (shape (drop i xs) (room xs i h)) ∙ split_found i _ n kind _ e
+at_found xs i n kind h e = ap (tokens_after 0 i) (first_and_rest (drop i xs) (room xs i h)) ∙ split_found i _ n kind _ e
     ∙ ap (λ (b : List ℕ). Then (record {
       kind = kind;
       bytes = b;
@@ -144,14 +150,14 @@ at_found xs i n kind h e = ap (tokens_after 0 i) (shape (drop i xs) (room xs i h
 -- a fault at a place
 pub at_refused : (xs : List ℕ) (i : ℕ) (f : TextFaultKind) → i < length xs
     → front_of (get_or (drop i xs) 0 0) (drop 1 (drop i xs)) ≡ Refused f → tokens_after 0 i (drop i xs) ≡ Stops f i
-at_refused xs i f h e = ap (tokens_after 0 i) (shape (drop i xs) (room xs i h)) ∙ split_refused i _ f _ e
+at_refused xs i f h e = ap (tokens_after 0 i) (first_and_rest (drop i xs) (room xs i h)) ∙ split_refused i _ f _ e
 
 -- a token at a place that the end breaks off
 pub at_unfinished : (xs : List ℕ) (i : ℕ) → i < length xs
     → front_of (get_or (drop i xs) 0 0) (drop 1 (drop i xs)) ≡ Unfinished
     → tokens_after 0 i (drop i xs) ≡ Stops EndInside (length xs)
 at_unfinished xs i h e =
-    ap (tokens_after 0 i) (shape (drop i xs) (room xs i h)) ∙ split_unfinished i _ _ e
+    ap (tokens_after 0 i) (first_and_rest (drop i xs) (room xs i h)) ∙ split_unfinished i _ _ e
     ∙ ap (Stops EndInside) (rw (length-drop, length-drop) (omega arith))
 
 -- the same of the slice that begins at i

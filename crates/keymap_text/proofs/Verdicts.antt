@@ -26,6 +26,7 @@ use Rattle.keymap_text.proofs.Steps.{judge_then, judge_refused, judge_stops, jud
 use Rattle.keymap_text.proofs.Faults.{found_of, fault_is, same_fault}
 use Rattle.keymap_text.proofs.Folded.{puts, puts_are}
 use Rattle.keymap_text.proofs.Row.{steps, stands_after, stands_first, row_at_end, row_defined}
+use Rattle.keymap_text.proofs.Splitting.{split_nil}
 
 abbrev pub items_of : Tokens → List Item
 items_of ts = map item_of (list_of ts)
@@ -275,17 +276,11 @@ within None q r f o' e l h = subst (λ n. n ≤ r) (offset_of _ _ _ _ _ _ h) l
 same_offset : (f f' : TextFaultKind) (o o' : ℕ) (e e' : Bool) → Faulty f o e ≡ Faulty f' o' e' → o ≡ o'
 same_offset f f' o o' e e' h = cc
 
--- no bytes have no tokens
-split_empty : (k q : ℕ) → tokens_after k q [] ≡ Ends q
-unfolding tokens_after
-split_empty zero q = refl
-split_empty (suc k) q = refl
-
 -- a fault stands in the bytes or at their end
 fits : (bytes : List ℕ) (s : GrammarState) (k q : ℕ) (f : TextFaultKind) (o : ℕ) (e : Bool)
     → judge s (tokens_after k q bytes) ≡ Faulty f o e → o ≤ q + length bytes
 fits [] s k q f o e h =
-    within (at_end s) q (q + 0) f o e (omega arith) (sym (judge_ends s q) ∙ sym (ap (judge s) (split_empty k q)) ∙ h)
+    within (at_end s) q (q + 0) f o e (omega arith) (sym (judge_ends s q) ∙ sym (ap (judge s) (split_nil k q)) ∙ h)
 fits (c ∷ bytes) s (suc k) q f o e h = let i =
     fits bytes s k (q + 1) f o e (sym (ap (judge s) (split_one k q c bytes)) ∙ h) in omega (arith, i)
 fits (c ∷ bytes) s zero q f o e h = go (front_of c bytes) refl (fits bytes)

@@ -10,7 +10,6 @@ use Rattle.std.proofs.lemmas.Fmt.{decimal_is_IsNumeral}
 use Rattle.std.proofs.lemmas.Bool.{or_from, true≢false}
 use Rattle.std.proofs.lemmas.List.{map-append, reverse-reverse}
 use Rattle.std.proofs.lemmas.List.Elements.{All-nil, All-head, All-tail}
-use Rattle.std.proofs.lemmas.List.Folds.{list_any-append}
 use Rattle.std.proofs.lemmas.Str.{inside_one}
 use Rattle.keymap_core.specs.declared.action.Modifier.{Modifier}
 use Rattle.keymap_core.specs.declared.action.Modifier.TheVariants.{LeftShift, RightShift, LeftControl, RightControl}
@@ -37,9 +36,8 @@ use Rattle.play_core.specs.Scripts.{IsScript}
 use Rattle.play_core.specs.Spelling.{sends, says, has_line_feed, IsWritable, sent_of, event_line}
 use Rattle.play_core.specs.Typing.{alone, way_for, events_in, events_for, IsTyped}
 use Rattle.play_core.specs.Written.{typed_text, text_after, played_text}
-use Rattle.play_core.proofs.PlainLines.{not_at}
-use Rattle.play_core.proofs.Sentences.{All-reversed, way-types}
-use Rattle.play_core.proofs.Spelling.{script-nil, line-script, events-script, delivers}
+use Rattle.play_core.proofs.Sentences.{way-types}
+use Rattle.play_core.proofs.Spelling.{script-nil, line-script, events-script, delivers, feed-append, digits_feed}
 use Rattle.play_core.proofs.Verdicts.{one_list}
 use Rattle.keymap_core.specs.CodePoints.{digit_at, upper_digits, code_digits, code_text}
 use Rattle.kmap_runs.specs.Report.{holding_name, check_text, demonstration_text, report}
@@ -48,13 +46,9 @@ use Rattle.kmap_runs.specs.TypeRuns.{TypesSentence}
 use Rattle.kmap_runs.specs.Typing.{is_hidden, shown, is_line_feed, comment_if, event_lines, lines_from, typing_script}
 use Rattle.kmap_runs.specs.Replayed.{ScriptTypes, Delivers, ScriptSticks, AnswerReplays, AnswerReplaysBetween}
 use Rattle.kmap_runs.specs.Replayed.{ShowsScript}
+use Rattle.keymap_core.proofs.Lists.{All-reversed}
 
 -- ---- comments stand in one line
-
--- texts without a line feed, one behind the other
-feed-append : (xs ys : List ℕ) → has_line_feed xs ≡ false → has_line_feed ys ≡ false → has_line_feed (xs ++ ys) ≡ false
-feed-append xs ys e f =
-    list_any-append (λ b. eqb b 10) xs ys ∙ or_from (has_line_feed xs) (has_line_feed ys) e f
 
 -- texts without a line feed, one of each element
 feed-flat : {X : Type 0} (f : X → List ℕ) → ((x : X) → has_line_feed (f x) ≡ false) → (xs : List X)
@@ -252,12 +246,6 @@ said : (text : List ℕ) → has_line_feed text ≡ false → IsScript ((35 ∷ 
 said text feed =
     subst (λ t. IsScript t []) (append-nil ((35 ∷ text) ++ 10 ∷ [])) (line-script (says text) [] [] feed script-nil)
 
--- digits are no line feeds
-feed-digits : (ds : List ℕ) → AllDigits 10 ds → has_line_feed ds ≡ false
-feed-digits [] all = refl
-feed-digits (d ∷ ds) all =
-    or_from (eqb d 10) (has_line_feed ds) (not_at d 10 all.0 (omega arith)) (feed-digits ds all.1)
-
 -- a number of 64 bits is written in digits
 number : (p : ℕ) → p < 2 ^ 64 → AllDigits 10 (decimal p)
 number p small = (decimal_is_IsNumeral p small).0.1
@@ -267,7 +255,7 @@ said-undecided : (p : ℕ) → p < 2 ^ 64 → IsScript (undecided_text p ++ code
 said-undecided p small =
     said ((codes " undecided: no list of up to " ++ decimal p) ++ codes " presses sticks")
     (feed-append (codes " undecided: no list of up to " ++ decimal p) (codes " presses sticks")
-    (feed-append (codes " undecided: no list of up to ") (decimal p) refl (feed-digits (decimal p) (number p small)))
+    (feed-append (codes " undecided: no list of up to ") (decimal p) refl (digits_feed (decimal p) (number p small)))
     refl)
 
 pub answer-replays : (m : MapValue) (found : Sticking) → IsAnswer m found → AnswerReplays m found

@@ -20,9 +20,10 @@ use Rattle.play_core.specs.Typing.{bases_of, joined}
 use Rattle.play_core.specs.Inner.Effects.{IsTrial}
 use Rattle.play_core.specs.Inner.Tables.{WayEntries, IsTableOf, AreTablesOf}
 use Rattle.play_core.proofs.Trials.{rests-start}
-use Rattle.play_core.proofs.Tables.{find-true, find-All}
+use Rattle.play_core.proofs.Tables.{find-All}
 use Rattle.play_core.proofs.Combinations.{IsCombination, all-combinations, short-combination, combination-of}
 use Rattle.play_core.proofs.Sentences.{when-rests, is-now}
+use Rattle.keymap_core.proofs.Lists.{find-true}
 
 -- a combination is tried from a new console
 pub trial-of : (m : MapValue) (keys : List (Option ℕ)) (set k : ℕ) (way : List Event)

@@ -1,7 +1,7 @@
 -- Lines in their plainest spelling.
 use Prim.Native.Nat.{suc}
 use Rattle.std.proofs.Common.{◌≡◌, ℕ, ◌+◌, ◌*◌, ◌<◌, ◌≤◌, true, false, eqb, List, [], ◌∷◌, ◌++◌, length, take, drop}
-use Rattle.std.proofs.Common.{get_or, ◌-◌, refl, sym, ap, ◌∙◌, arith, drop-cons, take_all, length-drop}
+use Rattle.std.proofs.Common.{get_or, ◌-◌, refl, sym, ap, ◌∙◌, arith, drop-cons}
 use Rattle.std.specs.Prelude.{codes, ⊤}
 use Rattle.std.specs.List.{filter, slice_split, onto_first}
 use Rattle.std.specs.Char.{digit_value}
@@ -11,6 +11,7 @@ use Rattle.std.proofs.lemmas.Str.Parse.{digit_from_value}
 use Rattle.play_core.specs.declared.sent.What.TheVariants.{Down, Repeat, Up}
 use Rattle.play_core.specs.Scripts.{separates_words, is_there, parts_of, words_in, without_comment}
 use Rattle.play_core.specs.Inner.Readings.{BeginsWithKey, BeginsWithEvent}
+use Rattle.keymap_text.proofs.Splitting.{to_end}
 
 -- the byte at a place, and what stands behind it
 pub byte_at : (text : List ℕ) (n b : ℕ) → n < length text → get_or text n 0 ≡ b → drop n text ≡ b ∷ drop (suc n) text
@@ -60,10 +61,6 @@ no_comment (b ∷ bs) p = rw (p.0, one_more) (ap (λ l. b ∷ l) (no_comment bs 
 
 -- ---- the number of a key
 
--- what is left is all behind the front
-all_left : (text : List ℕ) (n : ℕ) → take (length text - n) (drop n text) ≡ drop n text
-all_left text n = take_all (length text - n) (drop n text) (omega (arith, length-drop n text))
-
 -- a key of one digit
 pub key_of_one : (text : List ℕ) (x key : ℕ) → 4 ≤ length text → get_or text 1 0 ≡ 10
     → digit_value (get_or text 0 0) ≡ x → x < 10 → key ≡ x → x < 128
@@ -71,7 +68,7 @@ pub key_of_one : (text : List ℕ) (x key : ℕ) → 4 ≤ length text → get_o
 key_of_one text x key long feed value small same low = (
   get_or text 0 0 ∷ [],
   byte_at text 0 _ (omega arith) refl
-      ∙ ap (λ l. get_or text 0 0 ∷ l) (byte_at text 1 10 (omega arith) feed ∙ ap (λ l. 10 ∷ l) (sym (all_left text 2))),
+      ∙ ap (λ l. get_or text 0 0 ∷ l) (byte_at text 1 10 (omega arith) feed ∙ ap (λ l. 10 ∷ l) (sym (to_end text 2))),
   ((omega (arith, value, small), tt), omega (arith, value, same)),
   refl,
   omega arith,
@@ -87,7 +84,7 @@ key_of_two text x y key long feed value small value-2 small-2 same low = (
   byte_at text 0 _ (omega arith) refl
       ∙ ap (λ l. get_or text 0 0 ∷ l) (byte_at text 1 _ (omega arith) refl
       ∙ ap (λ l. get_or text 1 0 ∷ l)
-      (byte_at text 2 10 (omega arith) feed ∙ ap (λ l. 10 ∷ l) (sym (all_left text 3)))),
+      (byte_at text 2 10 (omega arith) feed ∙ ap (λ l. 10 ∷ l) (sym (to_end text 3)))),
   ((omega (arith, value, small), (omega (arith, value-2, small-2), tt)), omega (arith, value, value-2, same)),
   refl,
   omega arith,
@@ -104,7 +101,7 @@ key_of_three text x y key long feed one value small value-2 small-2 same low = (
       ∙ ap (λ l. 49 ∷ l) (byte_at text 1 _ (omega arith) refl
       ∙ ap (λ l. get_or text 1 0 ∷ l) (byte_at text 2 _ (omega arith) refl
       ∙ ap (λ l. get_or text 2 0 ∷ l)
-      (byte_at text 3 10 (omega arith) feed ∙ ap (λ l. 10 ∷ l) (sym (all_left text 4))))),
+      (byte_at text 3 10 (omega arith) feed ∙ ap (λ l. 10 ∷ l) (sym (to_end text 4))))),
   (
     (omega arith, (omega (arith, value, small), (omega (arith, value-2, small-2), tt))),
     omega (arith, value, value-2, same),
@@ -190,4 +187,4 @@ repeat_line text rest after key begins (number, whole, digits, there, low) = (
 -- a text is its front and what is left
 pub rest_of : (text : List ℕ) (n : ℕ) (front : List ℕ) → text ≡ front ++ drop n text
     → text ≡ front ++ take (length text - n) (drop n text)
-rest_of text n front e = e ∙ ap (λ l. front ++ l) (sym (all_left text n))
+rest_of text n front e = e ∙ ap (λ l. front ++ l) (sym (to_end text n))

@@ -11,7 +11,6 @@ use Rattle.std.specs.List.{flat_map}
 use Rattle.std.specs.Str.{encode_utf8_all}
 use Rattle.std.specs.Option.{is_some}
 use Rattle.std.proofs.lemmas.Bool.{true≢false, eqb-true}
-use Rattle.std.proofs.lemmas.List.{reverse-append}
 use Rattle.std.proofs.lemmas.List.Elements.{All-nil, All-cons, All-append, All-head, All-tail, All-weaker}
 use Rattle.std.proofs.lemmas.Option.{none-some}
 use Rattle.keymap_core.specs.declared.action.Action.{Action}
@@ -23,23 +22,24 @@ use Rattle.console_core.specs.declared.event.Event.TheVariants.{Press, Release, 
 use Rattle.console_core.specs.declared.event.Answer.{Answer}
 use Rattle.console_core.specs.declared.event.Answer.TheVariants as answer
 use Rattle.console_core.specs.Resolved.{held, locked, pending}
-use Rattle.console_core.specs.History.{Maps, in_force, resolved, pressed, IsQuiet, accent_pending_after, answer_to}
+use Rattle.console_core.specs.History.{Maps, in_force, resolved, pressed, IsQuiet, accent_pending_after}
 use Rattle.console_core.specs.History.{answers_to, HasKey}
 use Rattle.console_core.specs.History.{HasKeys, IsNoLoad, HasNoLoads}
 use Rattle.console_core.proofs.OneMore.{pressed-start, pressed-press, pressed-release, pressed-reset, pressed-load}
 use Rattle.console_core.proofs.OneMore.{resolved-start, held-start, locked-start, remembered-start, pending-start}
 use Rattle.console_core.proofs.FreshPresses.{no_loads-first}
-use Rattle.console_core.proofs.Deliveries.{reverse-cons, reverse-joined}
+use Rattle.console_core.proofs.Deliveries.{reverse-joined}
 use Rattle.console_core.proofs.Headline.{Same, SameAfter, same-later, same-answers, same-pending}
 use Rattle.play_core.specs.Written.{typed_by, typed_text}
 use Rattle.play_core.specs.HeldKeys.{combinations}
 use Rattle.play_core.specs.Typing.{alone, is_at_rest, types_something, plain_character, lone_character, typing_answers}
 use Rattle.play_core.specs.Typing.{unless_some, character_typed_by, is_now, direct_way, dead_way, joined, bases_of}
 use Rattle.play_core.specs.Typing.{accented_by, accented, way_for, events_in, events_for, HaveWays, IsTyped}
-use Rattle.play_core.proofs.Texts.{typed-append}
+use Rattle.play_core.proofs.Texts.{typed-append, answers-append}
 use Rattle.play_core.proofs.Trials.{Rests, rests, at-rest, quiet-remembers}
-use Rattle.play_core.proofs.Tables.{find-true, find-All}
+use Rattle.play_core.proofs.Tables.{find-All}
 use Rattle.play_core.proofs.Combinations.{IsCombination, all-combinations, gathered-All}
+use Rattle.keymap_core.proofs.Lists.{All-reversed, find-true}
 
 -- ---- events of keys alone
 
@@ -101,14 +101,6 @@ all-of-keys m =
     (λ w. found-combination m _ w))))
 
 -- ---- what a way does
-
--- what holds for a list holds for it reversed
-pub All-reversed : {X : Type 0} (P : X → Type 0) (xs : List X) → All P xs → All P (reverse xs)
-All-reversed P [] all = All-nil P
-All-reversed P (x ∷ xs) all =
-    subst (All P) (sym (reverse-append (x ∷ []) xs))
-    (All-append P (reverse xs) (x ∷ []) (All-reversed P xs (All-tail P x xs all))
-    (All-cons P x [] (All-head P x xs all) (All-nil P)))
 
 pub record TypesAlone (m : MapValue) (c : ℕ) (way : List Event) : Type 0 where
   pub keys : HasKeys way
@@ -242,15 +234,6 @@ typed-alone : (m : MapValue) (c : ℕ) (way : List Event) → TypesAlone m c way
 unfolding typed_text
 typed-alone m c way t = typing-alone (answers_to (alone m) [] way) ∙ lone-types (typing_answers m way) c t.typed
 
--- the answers to events, and then to the events behind them
-answers-joined : (ms : Maps) (h xs ys : List Event)
-    → answers_to ms h (xs ++ ys) ≡ answers_to ms h xs ++ answers_to ms (reverse xs ++ h) ys
-answers-joined ms h [] ys = refl
-answers-joined ms h (e ∷ xs) ys =
-    ap (λ l. answer_to ms h e ∷ l)
-    (answers-joined ms (e ∷ h) xs ys
-    ∙ ap (λ g. answers_to ms (e ∷ h) xs ++ answers_to ms g ys) (sym (reverse-cons e xs h)))
-
 -- no answers type nothing
 typed-nothing : typed_text [] ≡ []
 unfolding typed_text
@@ -281,7 +264,7 @@ one-from m h c cs way t same quiet later =
     let rest : TypesFrom m (reverse way ++ h) cs = later (reverse way ++ h) new still in
     let e : typed_text (answers_to ms h way) ≡ encode_utf8 c =
     ap typed_text (same-answers ms h [] way t.keys same) ∙ typed-alone m c way t in (
-      ap typed_text (answers-joined ms h way (events_for m cs)) ∙ typed-append (answers_to ms h way) _
+      ap typed_text (answers-append ms h way (events_for m cs)) ∙ typed-append (answers_to ms h way) _
           ∙ ap (λ x. x ++ typed_text (answers_to ms (reverse way ++ h) (events_for m cs))) e
           ∙ ap (λ x. encode_utf8 c ++ x) rest.typed,
       subst (λ x. SameAfter ms x []) (sym (reverse-joined way (events_for m cs) h)) rest.new,

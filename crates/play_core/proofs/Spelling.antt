@@ -131,12 +131,13 @@ unfolding words_in
 digits_words number d there = line_words number d there
 
 -- digits have no line feed
-digits_feed : (number : List ℕ) → AllDigits 10 number → has_line_feed number ≡ false
+pub digits_feed : (number : List ℕ) → AllDigits 10 number → has_line_feed number ≡ false
 digits_feed [] d = refl
 digits_feed (b ∷ bs) d = or_from (eqb b 10) (has_line_feed bs) (not_at b 10 d.0 (omega arith)) (digits_feed bs d.1)
 
 -- texts without a line feed, one behind the other
-feed-append : (xs ys : List ℕ) → has_line_feed xs ≡ false → has_line_feed ys ≡ false → has_line_feed (xs ++ ys) ≡ false
+pub feed-append : (xs ys : List ℕ) → has_line_feed xs ≡ false → has_line_feed ys ≡ false
+    → has_line_feed (xs ++ ys) ≡ false
 feed-append xs ys e f =
     list_any-append (λ b. eqb b 10) xs ys ∙ or_from (has_line_feed xs) (has_line_feed ys) e f
 

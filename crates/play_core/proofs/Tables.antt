@@ -12,10 +12,7 @@ use Rattle.arrayvec.specs.ArrayVec.{ArrayVec}
 use Rattle.console_core.specs.declared.event.Event.{Event}
 use Rattle.play_core.specs.Typing.{first_with, is_now}
 use Rattle.play_core.specs.Inner.Tables.{WayEntries, way_at, IsTableOf}
-
-or-none : {X : Type 0} (o : Option X) → option_or o None ≡ o
-or-none None = refl
-or-none (Some x) = refl
+use Rattle.keymap_core.proofs.Lists.{option_or-none}
 
 -- the events of the first of two ways that is there
 map-or : (a b : Option (ArrayVec Event))
@@ -46,14 +43,15 @@ module _ (f : List Event → Option ℕ) (ways : List (List Event)) (way : List 
   pub table-none : f way ≡ None → IsTableOf f (ways ++ way ∷ []) es
   table-none e c =
       table c
-      ∙ sym (one-more c ∙ ap (λ o. option_or (first_with f ways c) (cond (is_now c o) (Some way) None)) e ∙ or-none _)
+      ∙ sym (one-more c ∙ ap (λ o. option_or (first_with f ways c) (cond (is_now c o) (Some way) None)) e
+      ∙ option_or-none _)
 
   -- a value that has a way keeps it
   old-by : (n c : ℕ) (b : Bool) (v : List Event) → c == n ≡ b → way_at es n ≡ Some v
       → option_or (first_with f ways c) (cond (c == n) (Some way) None) ≡ first_with f ways c
   old-by n c true v e there =
       let at : first_with f ways c ≡ Some v = sym (table c) ∙ ap (way_at es) (eqb-true c n e) ∙ there in rw at refl
-  old-by n c false v e there = rw e (or-none (first_with f ways c))
+  old-by n c false v e there = rw e (option_or-none (first_with f ways c))
 
   -- there is one under the number already
   pub table-old : (n : ℕ) (v : List Event) → f way ≡ Some n → way_at es n ≡ Some v → IsTableOf f (ways ++ way ∷ []) es
@@ -75,17 +73,6 @@ module _ (f : List Event → Option ℕ) (ways : List (List Event)) (way : List 
       ∙ ap (λ o. option_or o (option_map (λ w. w.items) (cond (c == n) (Some v) None))) (table c)
       ∙ ap (λ o. option_or (first_with f ways c) o) (new-by n c v (c == n) is refl)
       ∙ sym (one-more c ∙ ap (λ o. option_or (first_with f ways c) (cond (is_now c o) (Some way) None)) e)
-
--- what is found passes the test, and is one of the list
-found-by : {X : Type 0} (test : X → Bool) (y x : X) (b : Bool) (o : Option X) → test y ≡ b → cond b (Some y) o ≡ Some x
-    → (o ≡ Some x → test x ≡ true) → test x ≡ true
-found-by test y x true o t s f = let q : y ≡ x = same_Some y x s in ap test (sym q) ∙ t
-found-by test y x false o t s f = f s
-
--- what is found passes the test
-pub find-true : {X : Type 0} (test : X → Bool) (xs : List X) (x : X) → find test xs ≡ Some x → test x ≡ true
-find-true test [] x e = absurd (none-some x e)
-find-true test (y ∷ ys) x e = found-by test y x (test y) (find test ys) refl e (find-true test ys x)
 
 -- the step of the next lemma, by the test of the first element
 one-by : {X : Type 0} (P : X → Type 0) (y x : X) (b : Bool) (o : Option X) → P y → cond b (Some y) o ≡ Some x

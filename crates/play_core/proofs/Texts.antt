@@ -3,7 +3,7 @@ use Rattle.std.proofs.Common.{◌≡◌, ℕ, ◌+◌, ◌<◌, List, [], ◌∷
 use Rattle.std.proofs.Common.{get_or, refl, sym, ap, ◌∙◌, append_assoc, append-nil, take-append-drop}
 use Rattle.std.specs.Prelude.{reverse}
 use Rattle.std.specs.List.{filter_map}
-use Rattle.std.proofs.lemmas.List.{take_more, reverse-append}
+use Rattle.std.proofs.lemmas.List.{take_more}
 use Rattle.std.proofs.lemmas.List.Elements.{filter_map-append}
 use Rattle.std.proofs.lemmas.Grind.{flat_map-append}
 use Rattle.console_core.specs.declared.event.Event.{Event}
@@ -14,10 +14,7 @@ use Rattle.play_core.specs.declared.show.Show.{Show}
 use Rattle.play_core.specs.declared.show.Show.TheVariants as show
 use Rattle.play_core.specs.Delivery.{event_of, delivered}
 use Rattle.play_core.specs.Written.{lines_after, line_after, typed_by, typed_text, text_after, event_output}
-
--- the first event of a list is the oldest of it
-reverse-first : (e : Event) (xs h : List Event) → reverse (e ∷ xs) ++ h ≡ reverse xs ++ (e ∷ h)
-reverse-first e xs h = ap (λ l. l ++ h) (reverse-append (e ∷ []) xs) ∙ append_assoc (reverse xs) (e ∷ []) h
+use Rattle.console_core.proofs.Deliveries.{reverse-cons}
 
 -- the lines of events, and then of the events behind them
 lines-append : (ms : Maps) (h xs ys : List Event)
@@ -27,16 +24,16 @@ lines-append ms h [] ys = refl
 lines-append ms h (e ∷ xs) ys =
     ap (λ l. line_after ms h e ++ l) (lines-append ms (e ∷ h) xs ys)
     ∙ sym (append_assoc (line_after ms h e) (lines_after ms (e ∷ h) xs) _)
-    ∙ ap (λ g. (line_after ms h e ++ lines_after ms (e ∷ h) xs) ++ lines_after ms g ys) (sym (reverse-first e xs h))
+    ∙ ap (λ g. (line_after ms h e ++ lines_after ms (e ∷ h) xs) ++ lines_after ms g ys) (sym (reverse-cons e xs h))
 
 -- the answers to events, and then to the events behind them
-answers-append : (ms : Maps) (h xs ys : List Event)
+pub answers-append : (ms : Maps) (h xs ys : List Event)
     → answers_to ms h (xs ++ ys) ≡ answers_to ms h xs ++ answers_to ms (reverse xs ++ h) ys
 answers-append ms h [] ys = refl
 answers-append ms h (e ∷ xs) ys =
     ap (λ l. answer_to ms h e ∷ l)
     (answers-append ms (e ∷ h) xs ys
-    ∙ ap (λ g. answers_to ms (e ∷ h) xs ++ answers_to ms g ys) (sym (reverse-first e xs h)))
+    ∙ ap (λ g. answers_to ms (e ∷ h) xs ++ answers_to ms g ys) (sym (reverse-cons e xs h)))
 
 -- what answers type, and then the answers behind them
 pub typed-append : (xs ys : List Answer) → typed_text (xs ++ ys) ≡ typed_text xs ++ typed_text ys
@@ -85,10 +82,6 @@ delivered-more sent i one h e =
 pub delivered-rest : (sent : List Sent) (i : ℕ) → delivered (take i sent) ++ delivered (drop i sent) ≡ delivered sent
 delivered-rest sent i =
     sym (filter_map-append event_of (take i sent) (drop i sent)) ∙ ap delivered (take-append-drop i sent)
-
--- events behind events are the newer ones
-pub history-more : (xs ys h : List Event) → reverse (xs ++ ys) ++ h ≡ reverse ys ++ (reverse xs ++ h)
-history-more xs ys h = ap (λ l. l ++ h) (reverse-append xs ys) ∙ append_assoc (reverse ys) (reverse xs) h
 
 -- the text so far, with that of one more line
 pub text-more : (shown : Show) (ms : Maps) (h : List Event) (sent : List Sent) (i : ℕ) (one : Sent) → i < length sent

@@ -5,7 +5,7 @@ use Rattle.std.specs.Prelude.{reverse, filter}
 use Rattle.std.specs.List.{list_any}
 use Rattle.std.proofs.Math.Path.{fun_ext}
 use Rattle.std.specs.Option.{is_some}
-use Rattle.std.proofs.lemmas.Bool.{cases_Bool, true≢false, and_parts}
+use Rattle.std.proofs.lemmas.Bool.{cases_Bool, true≢false, and_parts, and_right, not-true}
 use Rattle.std.proofs.lemmas.List.{reverse-append}
 use Rattle.std.proofs.lemmas.List.Elements.{filter-append}
 use Rattle.keymap_core.specs.declared.action.Action.{Action}
@@ -14,16 +14,17 @@ use Rattle.keymap_core.specs.declared.action.Modifier.TheVariants as modifier
 use Rattle.keymap_core.specs.declared.action.Lock.{Lock}
 use Rattle.keymap_core.specs.declared.action.Lock.TheVariants as lock
 use Rattle.keymap_core.specs.declared.action.Holding.TheVariants as holding
-use Rattle.keymap_core.specs.Actions.{locks, modifiers}
+use Rattle.keymap_core.specs.Actions.{locks}
 use Rattle.keymap_core.specs.Maps.{MapValue}
 use Rattle.keymap_core.specs.Borne.{any_below}
 use Rattle.keymap_core.proofs.BorneTests.{some-any, any-some}
+use Rattle.keymap_core.proofs.HoldingTests.{no-modifier, no-modifiers, no-lock, no-locks}
 use Rattle.console_core.specs.declared.event.Event.{Event}
 use Rattle.console_core.specs.declared.event.Answer.{Answer}
 use Rattle.console_core.specs.declared.event.Answer.TheVariants as answer
 use Rattle.console_core.specs.Resolved.{held, down, locked}
 use Rattle.console_core.proofs.OneMore.{pressed-start, resolved-start, held-start, locked-start, remembered-start}
-use Rattle.console_core.specs.History.{Maps, resolved, pressed, IsQuiet, is_on_after, is_locked_after}
+use Rattle.console_core.specs.History.{Maps, resolved, pressed, IsQuiet, is_on_after, is_locked_after, is_any_on_after}
 use Rattle.console_core.specs.History.{accent_pending_after}
 use Rattle.console_core.specs.Reading.{remembered_after}
 use Rattle.console_core.proofs.Bearing.{remembered-pressed}
@@ -78,73 +79,6 @@ pub typed-more : (xs : List Answer) (b : Answer)
 typed-more xs b = ap typed_by_all (filter-append types_something xs (b ∷ [])) ∙ more-with (filter types_something xs) b
 
 -- ---- at rest
-
-or-false : (a b : Bool) → (a || b) ≡ false → (a ≡ false) × (b ≡ false)
-or-false true b e = absurd (true≢false e)
-or-false false b e = (refl, e)
-
-not-true : (a : Bool) → not a ≡ true → a ≡ false
-not-true true e = absurd (true≢false (sym e))
-not-true false e = refl
-
--- where the test of all finds none, no modifier passes
-no-modifier : (f : Modifier → Bool) → list_any f modifiers ≡ false → (i : Modifier) → f i ≡ false
-no-modifier f e =
-    let a = or-false _ _ e in
-    let b = or-false _ _ a.1 in
-    let c = or-false _ _ b.1 in
-    let d = or-false _ _ c.1 in
-    let g = or-false _ _ d.1 in
-    let h = or-false _ _ g.1 in
-    let k = or-false _ _ h.1 in
-    let n = or-false _ _ k.1 in
-    λ i. by i a.0 b.0 c.0 d.0 g.0 h.0 k.0 n.0
-  where
-    by : (i : Modifier) → f modifier.LeftShift ≡ false → f modifier.RightShift ≡ false → f modifier.LeftControl ≡ false
-        → f modifier.RightControl ≡ false → f modifier.LeftAlt ≡ false → f modifier.RightAlt ≡ false
-        → f modifier.AltShift ≡ false → f modifier.Meta ≡ false → f i ≡ false
-    by modifier.LeftShift a b c d g h k n = a
-    by modifier.RightShift a b c d g h k n = b
-    by modifier.LeftControl a b c d g h k n = c
-    by modifier.RightControl a b c d g h k n = d
-    by modifier.LeftAlt a b c d g h k n = g
-    by modifier.RightAlt a b c d g h k n = h
-    by modifier.AltShift a b c d g h k n = k
-    by modifier.Meta a b c d g h k n = n
-
--- where the test of all finds none, no lock passes
-no-lock : (f : Lock → Bool) → list_any f locks ≡ false → (l : Lock) → f l ≡ false
-no-lock f e =
-    let a = or-false _ _ e in
-    let b = or-false _ _ a.1 in
-    let c = or-false _ _ b.1 in
-    let d = or-false _ _ c.1 in
-    λ l. by l a.0 b.0 c.0 d.0
-  where
-    by : (l : Lock) → f lock.Caps ≡ false → f lock.Num ≡ false → f lock.Scroll ≡ false → f lock.Alt ≡ false
-        → f l ≡ false
-    by lock.Caps a b c d = a
-    by lock.Num a b c d = b
-    by lock.Scroll a b c d = c
-    by lock.Alt a b c d = d
-
--- where no modifier passes, the test of all finds none
-no-modifiers : (f : Modifier → Bool) → ((i : Modifier) → f i ≡ false) → list_any f modifiers ≡ false
-no-modifiers f none =
-    rw (
-      none modifier.LeftShift,
-      none modifier.RightShift,
-      none modifier.LeftControl,
-      none modifier.RightControl,
-      none modifier.LeftAlt,
-      none modifier.RightAlt,
-      none modifier.AltShift,
-      none modifier.Meta,
-    ) refl
-
--- where no lock passes, the test of all finds none
-no-locks : (f : Lock → Bool) → ((l : Lock) → f l ≡ false) → list_any f locks ≡ false
-no-locks f none = rw (none lock.Caps, none lock.Num, none lock.Scroll, none lock.Alt) refl
 
 -- where no key passes, the test of all finds none
 none-below : (test : ℕ → Bool) (n : ℕ) → ((k : ℕ) → k < n → test k ≡ false) → any_below test n ≡ false
@@ -234,7 +168,7 @@ seen-with a d false f = ap (λ y. (not a && not y) && true) (f refl) ∙ ap (λ 
 -- a way that is tried ends at rest exactly if it leaves no modifier and no lock on
 pub way-rests : (m : MapValue) (way : List Event) → IsTrial m way
     → is_at_rest m (reverse way)
-    ≡ (not (list_any (λ i. is_on_after (alone m) i (reverse way)) modifiers)
+    ≡ (not (is_any_on_after (alone m) (reverse way))
     && not (list_any (λ l. is_locked_after (alone m) l (reverse way)) locks))
 unfolding is_at_rest
 way-rests m way trial =
@@ -294,7 +228,7 @@ effects-by (a ∷ b ∷ rest) (Some i) = (refl, refl)
 
 -- what is seen of a console that was delivered the way
 pub record IsSeen (m : MapValue) (way : List Event) (on locked : Bool) : Type 0 where
-  pub on_is : on ≡ list_any (λ i. is_on_after (alone m) i (reverse way)) modifiers
+  pub on_is : on ≡ is_any_on_after (alone m) (reverse way)
   pub locked_is : locked ≡ list_any (λ l. is_locked_after (alone m) l (reverse way)) locks
 
 -- what is seen of the modifiers and locks tells whether a way ends at rest
@@ -312,17 +246,13 @@ unfolding character_typed_by accent_left_by
 no-effect m way on locked trial seen e =
     let f = seen-rest m way on locked trial seen ∙ e in (rw f refl, rw f refl)
 
-and-false : (x : Bool) → (x && false) ≡ false
-and-false true = refl
-and-false false = refl
-
 -- a way that leaves a modifier on gives no character and no accent
-pub no-effect-on : (m : MapValue) (way : List Event) (shown : Modifier → Bool) (b : Bool) → IsTrial m way
-    → ((i : Modifier) → shown i ≡ is_on_after (alone m) i (reverse way)) → b ≡ list_any shown modifiers → b ≡ true
+pub no-effect-on : (m : MapValue) (way : List Event) (b : Bool) → IsTrial m way
+    → b ≡ is_any_on_after (alone m) (reverse way) → b ≡ true
     → (character_typed_by m way ≡ None) × (accent_left_by m way ≡ None)
-no-effect-on m way shown b trial is e t =
+no-effect-on m way b trial e t =
     no-effect m way b (list_any (λ l. is_locked_after (alone m) l (reverse way)) locks) trial
-    (record { on_is = e ∙ ap (λ f. list_any f modifiers) (fun_ext is); locked_is = refl })
+    (record { on_is = e; locked_is = refl })
     (ap (λ x. not x && not (list_any (λ l. is_locked_after (alone m) l (reverse way)) locks)) t)
 
 -- a way that leaves a lock on gives no character and no accent
@@ -330,17 +260,18 @@ pub no-effect-locked : (m : MapValue) (way : List Event) (shown : Lock → Bool)
     → ((l : Lock) → shown l ≡ is_locked_after (alone m) l (reverse way)) → b ≡ list_any shown locks → b ≡ true
     → (character_typed_by m way ≡ None) × (accent_left_by m way ≡ None)
 no-effect-locked m way shown b trial is e t =
-    no-effect m way (list_any (λ i. is_on_after (alone m) i (reverse way)) modifiers) b trial
+    no-effect m way (is_any_on_after (alone m) (reverse way)) b trial
     (record { on_is = refl; locked_is = e ∙ ap (λ f. list_any f locks) (fun_ext is) })
-    (ap (λ x. not (list_any (λ i. is_on_after (alone m) i (reverse way)) modifiers) && not x) t ∙ and-false _)
+    (ap (λ x. not (is_any_on_after (alone m) (reverse way)) && not x) t
+    ∙ and_right _ false refl)
 
 -- where neither test finds one, nothing is seen to be on
-pub nothing-seen : (m : MapValue) (way : List Event) (on : Modifier → Bool) (locked : Lock → Bool) (a b : Bool)
-    → ((i : Modifier) → on i ≡ is_on_after (alone m) i (reverse way))
+pub nothing-seen : (m : MapValue) (way : List Event) (locked : Lock → Bool) (a b : Bool)
     → ((l : Lock) → locked l ≡ is_locked_after (alone m) l (reverse way))
-    → a ≡ list_any on modifiers → b ≡ list_any locked locks → a ≡ false → b ≡ false → IsSeen m way false false
-nothing-seen m way on locked a b on_is locked_is e f p q = record {
-  on_is = sym p ∙ e ∙ ap (λ g. list_any g modifiers) (fun_ext on_is);
+    → a ≡ is_any_on_after (alone m) (reverse way) → b ≡ list_any locked locks → a ≡ false → b ≡ false
+    → IsSeen m way false false
+nothing-seen m way locked a b locked_is e f p q = record {
+  on_is = sym p ∙ e;
   locked_is = sym q ∙ f ∙ ap (λ g. list_any g locks) (fun_ext locked_is);
 }
 

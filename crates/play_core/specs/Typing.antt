@@ -3,7 +3,7 @@ use Rattle.std.specs.Prelude.{◌≡◌, ℕ, ◌==◌, Bool, true, false, ◌&&
 use Rattle.std.specs.Prelude.{None, Some, if◌then◌else◌, find, filter, reverse, IsSome, ⊤}
 use Rattle.std.specs.List.{flat_map, list_any}
 use Rattle.std.specs.Str.{IsUtf8, IsValidUpTo, all_scalars, encode_utf8_all}
-use Rattle.keymap_core.specs.Actions.{modifiers, locks}
+use Rattle.keymap_core.specs.Actions.{locks}
 use Rattle.keymap_core.specs.Accents.{AccentValue}
 use Rattle.keymap_core.specs.Maps.{MapValue, accent_at}
 use Rattle.keymap_core.specs.Borne.{any_below}
@@ -15,7 +15,7 @@ use Rattle.console_core.specs.declared.event.Answer.TheVariants as answer
 use Rattle.console_core.specs.Resolved.{down}
 use Rattle.std.specs.Option.{is_some}
 use Rattle.console_core.specs.Reading.{remembered_after}
-use Rattle.console_core.specs.History.{Maps, between, resolved, pressed, is_on_after, is_locked_after}
+use Rattle.console_core.specs.History.{Maps, between, resolved, pressed, is_locked_after, is_any_on_after}
 use Rattle.console_core.specs.History.{accent_pending_after, answers_to, IsQuiet}
 use Rattle.play_core.specs.declared.type_error.TypeError.{TypeError}
 use Rattle.play_core.specs.declared.type_error.TypeError.TheVariants.{Memory, NotText, NoWay}
@@ -32,7 +32,7 @@ unfoldable pub is_at_rest : MapValue → List Event → Bool
 is_at_rest m h =
     not (any_below (λ k. pressed k h) key_count)
     && not (any_below (λ k. is_some (remembered_after (alone m) k h)) key_count)
-    && not (list_any (λ i. is_on_after (alone m) i h) modifiers)
+    && not (is_any_on_after (alone m) h)
     && not (list_any (λ l. down l (resolved (alone m) h)) locks)
     && not (list_any (λ l. is_locked_after (alone m) l h) locks)
 

@@ -1,7 +1,7 @@
 //! What a way does to a new console.
 ghost use Rattle.std.specs.Prelude.{◌≡◌, ◌++◌, List, [], None, filter, reverse};
 ghost use Rattle.std.specs.List.{list_any};
-ghost use Rattle.keymap_core.specs.Actions.{modifiers, locks};
+ghost use Rattle.keymap_core.specs.Actions.{locks};
 ghost use Rattle.console_core.specs.declared.event.Event.{Event as EventValue};
 ghost use Rattle.console_core.specs.History.{Maps, answers_to};
 ghost use Rattle.keymap_core.specs.Maps.{MapValue};
@@ -9,8 +9,8 @@ ghost use Rattle.play_core.specs.Typing.{character_typed_by, accent_left_by, typ
 ghost use Rattle.play_core.specs.Inner.Effects.{IsTrial, typed_by_all, one_more, effect_by as effect_by_of};
 ghost use Rattle.play_core.specs.Inner.Effects.{character_in, accent_in};
 
-use console_core::{Answer, Event, Translator, WordConsole};
-use keymap_core::{KeyMap, Lock, Modifier};
+use console_core::{Answer, Event, Translator, WordConsole, is_any_on};
+use keymap_core::{KeyMap, Lock};
 
 /// What a list of answers types.
 #[derive(Clone, Copy)]
@@ -81,20 +81,6 @@ fn deliver<T: Translator>(console: &mut T, way: &[Event]) -> Typed
         typed = with_answer(typed, &answer);
     }
     typed
-}
-
-/// Whether some modifier is on.
-fn is_any_on<T: Translator>(console: &T) -> bool
-    ensures { result ≡ list_any (T.shows_on console.now) modifiers }
-{
-    console.on(Modifier::LeftShift)
-        || console.on(Modifier::RightShift)
-        || console.on(Modifier::LeftControl)
-        || console.on(Modifier::RightControl)
-        || console.on(Modifier::LeftAlt)
-        || console.on(Modifier::RightAlt)
-        || console.on(Modifier::AltShift)
-        || console.on(Modifier::Meta)
 }
 
 /// Whether some lock is on.

@@ -1,7 +1,5 @@
 use Rattle.std.proofs.Common.{arith, ◌∙◌, ℕ, List, sym, ap, subst, take, length}
-use Rattle.keymap_core.specs.Accents.{AccentValue}
 use Rattle.keymap_core.specs.Bounds.{IsMap}
-use Rattle.keymap_core.specs.Maps.{MapValue}
 use Rattle.keymap_core.specs.declared.entry.Entry.{Entry}
 use Rattle.keymap_tables.specs.Faults.{count_at, count_fault, row_fault, slot_fault, accent_fault, content_fault}
 use Rattle.keymap_tables.specs.Faults.{IsFirstFault}
@@ -14,7 +12,7 @@ use Rattle.keymap_tables.proofs.Contents.{sound-n_keys, sound-slots, sound-n_acc
 use Rattle.keymap_tables.proofs.Contents.{count-first, placed-after}
 use Rattle.keymap_tables.proofs.Lifting.{first-after}
 use Rattle.keymap_tables.proofs.Outcomes.{err_passed}
-use Rattle.keymap_tables.proofs.Whole.{image-parts, parts-of, same-parts}
+use Rattle.keymap_tables.proofs.Whole.{image-parts, parts-of, same-parts, map_of}
 use Rattle.keymap_tables.proofs.check.check_content.Goals as goal
 
 pub returns-in_err-n_keys-clause-fault : goal.returns-in_err-n_keys-clause-fault
@@ -134,9 +132,6 @@ returns-in-Err-check_accents-clause-fault c =
     (part bytes (accents_place l) (accents_size l)))
     (accents_place l) (accents_size l) c.in-Err-check_accents.fault
     (λ q inside. content-accents l bytes _ q n_accs inside) upto first fault.1)
-
-map_of : List Entry → List AccentValue → MapValue
-map_of entries accents = record { entries = entries; accents = accents }
 
 pub returns-in-Ok-check_accents-clause-image : goal.returns-in-Ok-check_accents-clause-image
 unfolding map_of

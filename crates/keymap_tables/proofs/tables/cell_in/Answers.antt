@@ -4,8 +4,7 @@ use Rattle.keymap_core.specs.declared.entry.Cell.TheVariants.{Char}
 use Rattle.keymap_core.specs.Bounds.{IsCell}
 use Rattle.keymap_tables.specs.Faults.{number_at, is_marked_at}
 use Rattle.keymap_tables.specs.Layouts.{wide}
-use Rattle.keymap_tables.proofs.InPlace.{some_none}
-use Rattle.keymap_tables.proofs.ReadingLaws.{entry-wide}
+use Rattle.keymap_tables.proofs.ReadingLaws.{entry-wide, some_none}
 use Rattle.keymap_tables.proofs.SlotImages.{number-in, mark-in, cell-sound, same-cell}
 use Rattle.keymap_tables.proofs.tables.cell_in.Goals as goal
 

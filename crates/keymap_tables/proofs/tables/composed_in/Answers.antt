@@ -2,10 +2,11 @@ use Rattle.std.proofs.Common.{arith, ◌∙◌, ◌≡◌, ap, sym, ℕ, get_or,
 use Rattle.std.proofs.lemmas.List.Elements.{All-get_or}
 use Rattle.keymap_core.specs.Bounds.{IsPair}
 use Rattle.keymap_tables.specs.Faults.{char_fault}
-use Rattle.keymap_tables.proofs.InPlace.{some_none, read-base, below-of, base-of, result-of, no-pair-here, result-here}
+use Rattle.keymap_tables.proofs.InPlace.{read-base, below-of, base-of, result-of, no-pair-here, result-here}
 use Rattle.keymap_tables.proofs.InPlace.{result-later, result-none}
 use Rattle.keymap_tables.proofs.SlotImages.{char-sound}
 use Rattle.keymap_tables.proofs.tables.composed_in.Goals as goal
+use Rattle.keymap_tables.proofs.ReadingLaws.{some_none}
 
 pub returns-then-from-eq0 : goal.returns-then-from-eq0
 returns-then-from-eq0 c =

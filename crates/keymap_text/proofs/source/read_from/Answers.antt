@@ -1,9 +1,10 @@
 use Rattle.std.proofs.Common.{rules, arith, refl, subst, Err, sym}
 use Rattle.keymap_text.specs.declared.fault.TextError.{TextError}
 use Rattle.keymap_text.specs.Sources.{ReadsMap, limit}
-use Rattle.keymap_text.proofs.Feeding.{fed_none, fed_more, fed_early, fed_whole, fed_fails, fed_past, piece_length}
+use Rattle.keymap_text.proofs.Feeding.{fed_none, fed_more, fed_early, fed_whole, fed_fails, fed_past}
 use Rattle.keymap_text.proofs.Feeding.{at_once_more, at_once_whole}
 use Rattle.keymap_text.proofs.source.read_from.Goals as goal
+use Rattle.std.proofs.lemmas.List.{length-take-le}
 
 pub loop-taken-init : goal.loop-taken-init
 loop-taken-init g c = record { fed = fed_none _ _ c.in-Ok.ensures; within = search rules; sound = refl }
@@ -11,7 +12,7 @@ loop-taken-init g c = record { fed = fed_none _ _ c.in-Ok.ensures; within = sear
 pub returns-in-Ok-eq0-clause-reads : goal.returns-in-Ok-eq0-clause-reads
 returns-in-Ok-eq0-clause-reads g c =
     let fed = c.loop-taken.invariant.fed in
-    let size = piece_length c.min-room.result c.loop-taken.buffer (omega arith) in
+    let size = length-take-le c.min-room.result c.loop-taken.buffer (omega arith) in
     fed_whole _ c.read.new.buffer c.conclude.result fed c.loop-taken.invariant.within c.in-Ok-eq0.field-0-test
     c.in-Ok-eq0.ensures.bytes.0 (c.in-Ok-eq0.ensures.bytes.1 c.in-Ok-eq0.field-0-test (omega (arith, size)))
     (c.conclude.ensures fed.text fed.stands)
@@ -19,14 +20,14 @@ returns-in-Ok-eq0-clause-reads g c =
 pub returns-in-Err-feed-clause-reads : goal.returns-in-Err-feed-clause-reads
 returns-in-Err-feed-clause-reads g c =
     let fed = c.loop-taken.invariant.fed in
-    let size = piece_length c.min-room.result c.loop-taken.buffer (omega arith) in
+    let size = length-take-le c.min-room.result c.loop-taken.buffer (omega arith) in
     fed_early c.feed.new.self c.read.new.buffer fed c.in-Ok-read.ensures.bytes.0 c.in-Ok-read.ensures.bound
     (omega (arith, size, c.in-Ok-read.ensures.bound)) (c.in-Err-feed.ensures.stands fed.text fed.stands)
 
 pub loop-taken-preserved : goal.loop-taken-preserved
 loop-taken-preserved g c =
     let fed = c.loop-taken.invariant.fed in
-    let size = piece_length c.min-room.result c.loop-taken.buffer (omega arith) in
+    let size = length-take-le c.min-room.result c.loop-taken.buffer (omega arith) in
     record {
       fed = fed_more c.read.new.buffer fed c.in-Ok-read.ensures.bytes.0 c.in-Ok-read.ensures.bound
           (c.in_default-feed.ensures.stands fed.text fed.stands);
@@ -63,7 +64,7 @@ returns-in-Ok-eq0-clause-at_once g c =
 
 pub returns-in-Err-feed-clause-at_once : goal.returns-in-Err-feed-clause-at_once
 returns-in-Err-feed-clause-at_once g c =
-    let size = piece_length c.min-room.result c.loop-taken.buffer (omega arith) in
+    let size = length-take-le c.min-room.result c.loop-taken.buffer (omega arith) in
     at_once_more c.in-Err-feed.fault c.read.new.buffer c.loop-taken.invariant.fed c.in-Ok-read.ensures.bytes.0
     c.in-Ok-read.ensures.bound (omega (arith, size, c.in-Ok-read.ensures.bound))
 

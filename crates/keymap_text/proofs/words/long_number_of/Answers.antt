@@ -1,10 +1,10 @@
-use Rattle.std.proofs.Common.{zero, suc, ◌==◌, true≢false, false, List, ap₂, subst, eqb-true, ◌≡◌, ◌+◌, ◌*◌, ◌<◌, ◌≤◌}
-use Rattle.std.proofs.Common.{ℕ, length, take, sym, ◌∙◌, ap, arith, Some}
-use Rattle.std.proofs.lemmas.List.{take_all as take_whole}
+use Rattle.std.proofs.Common.{◌==◌, false, List, ap₂, subst, eqb-true, ◌≡◌, ◌+◌, ◌*◌, ◌<◌, ◌≤◌}
+use Rattle.std.proofs.Common.{ℕ, length, sym, ◌∙◌, ap, arith, Some}
+use Rattle.std.proofs.lemmas.List.{take_all}
 use Rattle.keymap_text.specs.Words.{number, is_digit}
 use Rattle.std.specs.List.{list_all}
 use Rattle.keymap_text.proofs.Numbers.{digits_none, digits_bad, digits_good, number_more, digits_more, bound_step}
-use Rattle.keymap_text.proofs.Numbers.{product_fits, room}
+use Rattle.keymap_text.proofs.Numbers.{product_fits, room, not_empty}
 use Rattle.keymap_text.proofs.words.long_number_of.Goals as goal
 
 pub returns-then-is_empty : goal.returns-then-is_empty
@@ -43,17 +43,10 @@ loop-c-preserved c = record {
       c.requires.base (omega arith);
 }
 
-not_empty : (n : ℕ) → (n == 0) ≡ false → 0 < n
-not_empty zero h = absurd (true≢false h)
-not_empty (suc n) h = omega arith
-
-all_taken : (w : List ℕ) (i : ℕ) → length w ≤ i → take i w ≡ w
-all_taken w i h = take_whole i w h
-
 pub returns : goal.returns
 returns c =
     let w = c.args.digits.now in
-    let e = all_taken w c.loop-c.c-index (omega arith) in
+    let e = take_all c.loop-c.c-index w (omega arith) in
     ap Some (c.loop-c.invariant.value ∙ ap (number c.args.base) e)
     ∙ sym (digits_good c.args.base w (not_empty (length w) (sym c.is_empty.ensures ∙ c.if-is_empty.false))
     (sym (ap (list_all (is_digit c.args.base)) e) ∙ c.loop-c.invariant.digits))

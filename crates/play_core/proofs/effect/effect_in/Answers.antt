@@ -10,18 +10,16 @@ returns-then-is_any_on-clause-character g c = λ m trial s.
     let at =
     subst (λ h. g.T.Translator.stands c.deliver-typed.new.console (alone m) h) (append-nil (reverse c.args.way.now))
     (c.deliver-typed.ensures.next (alone m) [] s) in
-    (no-effect-on m c.args.way.now _ c.is_any_on.result trial
-    (g.met.T.Translator.on_where_it_stands c.deliver-typed.new.console (alone m) (reverse c.args.way.now) at)
-    c.is_any_on.ensures c.if-is_any_on.true).0
+    (no-effect-on m c.args.way.now c.is_any_on.result trial
+    (c.is_any_on.ensures (alone m) (reverse c.args.way.now) at) c.if-is_any_on.true).0
 
 pub returns-then-is_any_on-clause-accent : goal.returns-then-is_any_on-clause-accent
 returns-then-is_any_on-clause-accent g c = λ m trial s.
     let at =
     subst (λ h. g.T.Translator.stands c.deliver-typed.new.console (alone m) h) (append-nil (reverse c.args.way.now))
     (c.deliver-typed.ensures.next (alone m) [] s) in
-    (no-effect-on m c.args.way.now _ c.is_any_on.result trial
-    (g.met.T.Translator.on_where_it_stands c.deliver-typed.new.console (alone m) (reverse c.args.way.now) at)
-    c.is_any_on.ensures c.if-is_any_on.true).1
+    (no-effect-on m c.args.way.now c.is_any_on.result trial
+    (c.is_any_on.ensures (alone m) (reverse c.args.way.now) at) c.if-is_any_on.true).1
 
 pub returns-then-is_any_locked-clause-character : goal.returns-then-is_any_locked-clause-character
 returns-then-is_any_locked-clause-character g c = λ m trial s.
@@ -46,10 +44,10 @@ returns-clause-character g c = λ m trial s.
     let at =
     subst (λ h. g.T.Translator.stands c.deliver-typed.new.console (alone m) h) (append-nil (reverse c.args.way.now))
     (c.deliver-typed.ensures.next (alone m) [] s) in
-    let seen = nothing-seen m c.args.way.now _ _ c.is_any_on.result c.is_any_locked.result
-    (g.met.T.Translator.on_where_it_stands c.deliver-typed.new.console (alone m) (reverse c.args.way.now) at)
+    let seen = nothing-seen m c.args.way.now _ c.is_any_on.result c.is_any_locked.result
     (g.met.T.Translator.locked_where_it_stands c.deliver-typed.new.console (alone m) (reverse c.args.way.now) at)
-    c.is_any_on.ensures c.is_any_locked.ensures c.if-is_any_on.false c.if-is_any_locked.false in
+    (c.is_any_on.ensures (alone m) (reverse c.args.way.now) at) c.is_any_locked.ensures c.if-is_any_on.false
+    c.if-is_any_locked.false in
     rw c.effect_by.ensures
     (effect-is m c.args.way.now c.deliver-typed.result c.pending.result trial seen
     (c.deliver-typed.ensures.typed (alone m) [] s)
@@ -62,10 +60,10 @@ returns-clause-accent g c = λ m trial s.
     let at =
     subst (λ h. g.T.Translator.stands c.deliver-typed.new.console (alone m) h) (append-nil (reverse c.args.way.now))
     (c.deliver-typed.ensures.next (alone m) [] s) in
-    let seen = nothing-seen m c.args.way.now _ _ c.is_any_on.result c.is_any_locked.result
-    (g.met.T.Translator.on_where_it_stands c.deliver-typed.new.console (alone m) (reverse c.args.way.now) at)
+    let seen = nothing-seen m c.args.way.now _ c.is_any_on.result c.is_any_locked.result
     (g.met.T.Translator.locked_where_it_stands c.deliver-typed.new.console (alone m) (reverse c.args.way.now) at)
-    c.is_any_on.ensures c.is_any_locked.ensures c.if-is_any_on.false c.if-is_any_locked.false in
+    (c.is_any_on.ensures (alone m) (reverse c.args.way.now) at) c.is_any_locked.ensures c.if-is_any_on.false
+    c.if-is_any_locked.false in
     rw c.effect_by.ensures
     (effect-is m c.args.way.now c.deliver-typed.result c.pending.result trial seen
     (c.deliver-typed.ensures.typed (alone m) [] s)

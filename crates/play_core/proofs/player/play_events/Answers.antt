@@ -3,8 +3,9 @@ use Rattle.std.specs.Prelude.{reverse}
 use Rattle.console_core.specs.declared.event.Event.{Event}
 use Rattle.keymap_core.proofs.Gathering.{Gathers-start, Gathers-same, Gathers-more, StopsIn-more, passed_on}
 use Rattle.play_core.specs.Delivery.{delivered}
-use Rattle.play_core.proofs.Texts.{text-nil, text-more, text-rest, delivered-more, history-more}
+use Rattle.play_core.proofs.Texts.{text-nil, text-more, text-rest, delivered-more}
 use Rattle.play_core.proofs.player.play_events.Goals as goal
+use Rattle.console_core.proofs.Deliveries.{reverse-joined}
 
 pub loop-one-init : goal.loop-one-init
 loop-one-init g c = record {
@@ -24,7 +25,7 @@ loop-one-preserved g c =
           let more = delivered-more sent i c.one-item.result c.loop-one-test.true c.one-item.is in
           let same =
           ap (λ (d : List Event). reverse d ++ h) more
-          ∙ history-more before (delivered (c.one-item.result ∷ [])) h in
+          ∙ reverse-joined before (delivered (c.one-item.result ∷ [])) h in
           subst (λ (l : List Event). g.T.Translator.stands c.play_sent.new.console ms l) (sym same)
           (c.play_sent.ensures.next ms (reverse before ++ h) (c.loop-one.invariant.stands ms h s));
       gathers = λ ms h s.

@@ -3,8 +3,9 @@ use Rattle.keymap_text.specs.Lexical.{is_space}
 use Rattle.keymap_text.specs.Inner.Resuming.{KeepsMode}
 use Rattle.keymap_text.specs.Inner.Views.{state_view}
 use Rattle.keymap_text.proofs.Lines.{lined_run, feeds_run}
-use Rattle.keymap_text.proofs.Runs.{take_spaces, front_length}
+use Rattle.keymap_text.proofs.Runs.{take_spaces}
 use Rattle.keymap_text.proofs.scanner.Scanner.spaces.Goals as goal
+use Rattle.std.proofs.lemmas.List.{length-take-le}
 
 pub returns-clause-advances : goal.returns-clause-advances
 returns-clause-advances c =
@@ -22,6 +23,6 @@ returns-clause-advances c =
       };
       fed = omega arith;
       inside = c.space_len-n.ensures.length;
-      line = λ b h. lined_run r _ b _ none none refl (omega (arith, front_length n rest c.space_len-n.ensures.length))
+      line = λ b h. lined_run r _ b _ none none refl (omega (arith, length-take-le n rest c.space_len-n.ensures.length))
           (feeds_run is_space refl n rest c.space_len-n.ensures.blank) h;
     }

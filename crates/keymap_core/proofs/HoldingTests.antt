@@ -1,0 +1,73 @@
+-- Tests of all modifiers or all locks, and of each one.
+use Rattle.std.proofs.Common.{◌≡◌, Bool, true, false, refl, sym, ◌∙◌}
+use Rattle.std.specs.List.{list_any}
+use Rattle.std.proofs.lemmas.Bool.{or_parts, true≢false, true_from_ne_false}
+use Rattle.keymap_core.specs.declared.action.Modifier.{Modifier}
+use Rattle.keymap_core.specs.declared.action.Modifier.TheVariants as modifier
+use Rattle.keymap_core.specs.declared.action.Lock.{Lock}
+use Rattle.keymap_core.specs.declared.action.Lock.TheVariants as lock
+use Rattle.keymap_core.specs.Actions.{locks, modifiers}
+
+-- where the test of all finds none, no modifier passes
+pub no-modifier : (f : Modifier → Bool) → list_any f modifiers ≡ false → (i : Modifier) → f i ≡ false
+no-modifier f e =
+    let a = or_parts _ _ e in
+    let b = or_parts _ _ a.1 in
+    let c = or_parts _ _ b.1 in
+    let d = or_parts _ _ c.1 in
+    let g = or_parts _ _ d.1 in
+    let h = or_parts _ _ g.1 in
+    let k = or_parts _ _ h.1 in
+    let n = or_parts _ _ k.1 in
+    λ i. by i a.0 b.0 c.0 d.0 g.0 h.0 k.0 n.0
+  where
+    by : (i : Modifier) → f modifier.LeftShift ≡ false → f modifier.RightShift ≡ false → f modifier.LeftControl ≡ false
+        → f modifier.RightControl ≡ false → f modifier.LeftAlt ≡ false → f modifier.RightAlt ≡ false
+        → f modifier.AltShift ≡ false → f modifier.Meta ≡ false → f i ≡ false
+    by modifier.LeftShift a b c d g h k n = a
+    by modifier.RightShift a b c d g h k n = b
+    by modifier.LeftControl a b c d g h k n = c
+    by modifier.RightControl a b c d g h k n = d
+    by modifier.LeftAlt a b c d g h k n = g
+    by modifier.RightAlt a b c d g h k n = h
+    by modifier.AltShift a b c d g h k n = k
+    by modifier.Meta a b c d g h k n = n
+
+-- where the test of all finds none, no lock passes
+pub no-lock : (f : Lock → Bool) → list_any f locks ≡ false → (l : Lock) → f l ≡ false
+no-lock f e =
+    let a = or_parts _ _ e in
+    let b = or_parts _ _ a.1 in
+    let c = or_parts _ _ b.1 in
+    let d = or_parts _ _ c.1 in
+    λ l. by l a.0 b.0 c.0 d.0
+  where
+    by : (l : Lock) → f lock.Caps ≡ false → f lock.Num ≡ false → f lock.Scroll ≡ false → f lock.Alt ≡ false
+        → f l ≡ false
+    by lock.Caps a b c d = a
+    by lock.Num a b c d = b
+    by lock.Scroll a b c d = c
+    by lock.Alt a b c d = d
+
+-- where no modifier passes, the test of all finds none
+pub no-modifiers : (f : Modifier → Bool) → ((i : Modifier) → f i ≡ false) → list_any f modifiers ≡ false
+no-modifiers f none =
+    rw (
+      none modifier.LeftShift,
+      none modifier.RightShift,
+      none modifier.LeftControl,
+      none modifier.RightControl,
+      none modifier.LeftAlt,
+      none modifier.RightAlt,
+      none modifier.AltShift,
+      none modifier.Meta,
+    ) refl
+
+-- where no lock passes, the test of all finds none
+pub no-locks : (f : Lock → Bool) → ((l : Lock) → f l ≡ false) → list_any f locks ≡ false
+no-locks f none = rw (none lock.Caps, none lock.Num, none lock.Scroll, none lock.Alt) refl
+
+-- where a modifier passes, the test of all finds one
+pub some-modifier : (f : Modifier → Bool) (i : Modifier) → f i ≡ true → list_any f modifiers ≡ true
+some-modifier f i passes =
+    true_from_ne_false (list_any f modifiers) (λ none. true≢false (sym passes ∙ no-modifier f none i))

@@ -1,0 +1,51 @@
+-- Lists and options, where std has no such lemma.
+use Prim.Native.Nat.{zero, suc}
+use Rattle.std.proofs.Common.{◌≡◌, ℕ, Bool, true, false, cond, List, [], ◌∷◌, ◌++◌, get_or, replicate, Option, Some, None}
+use Rattle.std.proofs.Common.{refl, sym, ap, subst, ◌∙◌, inl, inr}
+use Rattle.std.specs.Prelude.{All, find, reverse}
+use Rattle.std.specs.List.{list_any}
+use Rattle.std.specs.Option.{option_or}
+use Rattle.std.proofs.lemmas.Bool.{or_cases, true≢false}
+use Rattle.std.proofs.lemmas.Option.{none-some, same_Some}
+use Rattle.std.proofs.lemmas.List.{reverse-append}
+use Rattle.std.proofs.lemmas.List.Elements.{All-nil, All-cons, All-append, All-head, All-tail}
+
+-- a list of one value, read anywhere, with that value in place of what isn't there
+pub get_or-replicate_default : {X : Type 0} (n i : ℕ) (d : X) → get_or (replicate n d) i d ≡ d
+get_or-replicate_default zero i d = refl
+get_or-replicate_default (suc n) zero d = refl
+get_or-replicate_default (suc n) (suc i) d = get_or-replicate_default n i d
+
+-- what holds for a list holds for it reversed
+pub All-reversed : {X : Type 0} (P : X → Type 0) (xs : List X) → All P xs → All P (reverse xs)
+All-reversed P [] all = All-nil P
+All-reversed P (x ∷ xs) all =
+    subst (All P) (sym (reverse-append (x ∷ []) xs))
+    (All-append P (reverse xs) (x ∷ []) (All-reversed P xs (All-tail P x xs all))
+    (All-cons P x [] (All-head P x xs all) (All-nil P)))
+
+-- the step of the next lemma, by the test of the first element
+found-by : {X : Type 0} (test : X → Bool) (y x : X) (b : Bool) (o : Option X) → test y ≡ b → cond b (Some y) o ≡ Some x
+    → (o ≡ Some x → test x ≡ true) → test x ≡ true
+found-by test y x true o t s f = let q : y ≡ x = same_Some y x s in ap test (sym q) ∙ t
+found-by test y x false o t s f = f s
+
+-- what is found passes the test
+pub find-true : {X : Type 0} (test : X → Bool) (xs : List X) (x : X) → find test xs ≡ Some x → test x ≡ true
+find-true test [] x e = absurd (none-some x e)
+find-true test (y ∷ ys) x e = found-by test y x (test y) (find test ys) refl e (find-true test ys x)
+
+-- where some element passes the test, here is one
+pub one-of-any : {X : Type 0} (test : X → Bool) (xs : List X) → list_any test xs ≡ true → (x : X) × (test x ≡ true)
+one-of-any test [] e = absurd (true≢false (sym e))
+one-of-any test (x ∷ xs) e =
+    elim (or_cases (test x) (list_any test xs) e) [ inl passes ↦ (x, passes) | inr later ↦ one-of-any test xs later ]
+
+pub option_or-none : {X : Type 0} (o : Option X) → option_or o None ≡ o
+option_or-none None = refl
+option_or-none (Some x) = refl
+
+-- what is no value is nothing
+pub none_unless : {X : Type 0} (o : Option X) → ((x : X) → o ≡ Some x → ⊥) → o ≡ None
+none_unless None f = refl
+none_unless (Some x) f = absurd (f x refl)

@@ -3,7 +3,9 @@
 
 use crate::asserts::expect_equal;
 use crate::console::expect_shown;
-use console_core::{Answer, Event, PlainConsole, Translator, WordConsole, replay};
+use console_core::{
+    Answer, Event, PlainConsole, Translator, WordConsole, deliver_all, is_any_on, replay,
+};
 use keymap_core::{Action, KeyCode, KeyMap, Lock, Modifier};
 use std::alloc::Global;
 use std::process::Abort;
@@ -528,4 +530,20 @@ fn a_refused_replay_delivers_nothing(rt: HostRuntime) -> Result<(), Fail> {
     let map = map_of(rt.alloc(), &SHIFT_AND_CAPS)?;
     expect_unchanged_if_refused(&rt, rt.alloc(), &mut PlainConsole::new(&map))?;
     expect_unchanged_if_refused(&rt, rt.alloc(), &mut WordConsole::new(&map))
+}
+
+#[test]
+fn a_console_is_made_after_events(rt: HostRuntime) -> Result<(), Fail> {
+    let map = map_of(rt.alloc(), &SHIFT_AND_CAPS)?;
+    let down = event(Down(42))?;
+    let up = event(Up(42))?;
+    let held = WordConsole::after(&map, &map, &[down]);
+    expect_equal(&rt, &is_any_on(&held), &true);
+    expect_shown(&rt, &held, &[Modifier::LeftShift], &[], None);
+    let mut console = WordConsole::after(&map, &map, &[down, up]);
+    expect_equal(&rt, &is_any_on(&console), &false);
+    deliver_all(&mut console, &[event(Down(58))?, event(Up(58))?]);
+    expect_equal(&rt, &is_any_on(&console), &false);
+    expect_shown(&rt, &console, &[], &[Lock::Caps], None);
+    Ok(())
 }

@@ -12,7 +12,7 @@ trap 'rm -rf "$folder"' EXIT
 
 cp -R "$tests/tiny" "$folder/tiny"
 mkdir "$folder/tiny/tests"
-cp "$tests/edits" "$folder/tiny/tests"
+cp "$tests/edits" "$tests/proved.py" "$folder/tiny/tests"
 cd "$folder/tiny" || exit 1
 # The gate wants each source of the repository in a crate that crates.txt names, so these have other names there.
 find . -name '*.text' | while read -r file; do mv "$file" "${file%.text}"; done
@@ -37,29 +37,37 @@ tells 'counter/half_of_more.edit: refused in half: returns'
 tells 'counter/half_of_less.edit: refused in half: returns'
 tells 'counter/quarter_from_a_half.edit: refused in quarter: returns'
 tells 'counter/a_count_that_starts_at_one.edit: refused in zeros: loop-index'
-# one of a constant
+# one of a constant, and one of a definition together with the code
 tells 'counter/a_limit_above_the_top.edit: refused in bounded: returns'
+tells 'counter/a_definition_and_code.edit: refused in bounded: returns'
 tells 'counter/same_half.edit: NOT REFUSED: proved with it: half'
 tells 'counter/another_function_is_refused.edit: NOT REFUSED: proved with it: half'
 tells 'counter/a_local_of_another_name.edit: refused only since a proof file names what is gone: zeros: '
 tells 'counter/a_name_that_is_not_there.edit: the prover cannot read it: src/lib.rt:'
 tells "counter/a_line_that_is_not_there.edit: an 'old:' text stands in src/lib.rt 0 times, and not once"
 tells "counter/a_line_that_is_there_three_times.edit: an 'old:' text stands in src/lib.rt 3 times, and not once"
-tells "counter/a_definition.edit: it turns a definition, so it is one for the kit's driver, in edits/kit/"
+tells "counter/a_definition.edit: it changes nothing below src/"
 tells 'counter/notes.txt: it is no edit'
-# those that the kit's own driver tries
-tells 'counter/kit/a_definition.edit: refused, as it must be: note: src/lib.rt:'
-tells 'counter/kit/same_half.edit: NOT REFUSED'
-tells 'counter/kit/a_local_of_another_name.edit: refused, as it must be (only because a proof file names'
-tells '6 passed, 10 failed'
+tells '6 passed, 8 failed'
 holds 'it changes no file' diff -r crates "$folder/before"
+
+# The kit's own driver, which tries each alone, says the same of those that the prover can read.
+mkdir crates/counter/must-fail
+for edit in half_of_more a_limit_above_the_top a_definition_and_code same_half; do
+    cp crates/counter/edits/$edit.edit crates/counter/must-fail
+done
+RT_JOBS=1 "${RT:-rt}" must-fail counter > "$folder/said" 2>&1
+for edit in half_of_more a_limit_above_the_top a_definition_and_code; do
+    tells "must-fail counter/$edit.edit: refused, as it must be: note: src/lib.rt:"
+done
+tells 'must-fail counter/same_half.edit: NOT REFUSED'
+rm -r crates/counter/must-fail
 
 # Without those that show nothing it succeeds.
 cd crates/counter/edits || exit 1
-mkdir -p ../good/kit
-mv half_of_more.edit quarter_from_a_half.edit ../good
-mv kit/a_definition.edit ../good/kit
-rm -r ./*
+mkdir ../good
+mv half_of_more.edit quarter_from_a_half.edit a_definition_and_code.edit ../good
+rm ./*
 mv ../good/* .
 cd ../../.. || exit 1
 edits 0
@@ -70,6 +78,6 @@ sed 's,number / 2$,number / 3,' crates/counter/src/lib.rt > "$folder/turned"
 cp "$folder/turned" crates/counter/src/lib.rt
 edits 1
 tells 'counter/quarter_from_a_half.edit: not tried, since the crate is not proved as it stands'
-tells 'counter/kit/a_definition.edit: not tried, since the crate is not proved as it stands'
+tells 'counter/a_definition_and_code.edit: not tried, since the crate is not proved as it stands'
 
 counted

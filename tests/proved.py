@@ -1,0 +1,87 @@
+"""What comes behind `rt ci` and goes on with what it proved.
+
+The verdict of `rt ci` takes nothing from other commands of the kit and leaves them nothing: `rt check` and `rt lib` prove
+each library below once more. But the kit keeps what a run passed, on this machine, by the sums of all that was read. So
+`rt ci` over a copy of some crates takes what was kept, proves what was not, and leaves each library in its folder. The
+prover itself, `rattle`, goes on from there."""
+
+import os
+import re
+import shutil
+import subprocess
+
+TOP = os.path.dirname(os.path.dirname(os.path.abspath(__file__)))
+RT = os.environ.get("RT") or "rt"
+PARTS = ("src", "specs", "proofs")
+
+
+def text_of(path):
+    with open(path, encoding="utf-8") as it:
+        return it.read()
+
+
+def run(folder, words):
+    """Runs a command in a folder and returns its status and the lines that it prints."""
+    how = {"stdin": subprocess.DEVNULL, "stdout": subprocess.PIPE, "stderr": subprocess.STDOUT, "check": False}
+    ran = subprocess.run(words, cwd=folder, encoding="utf-8", errors="replace", **how)
+    return ran.returncode, ran.stdout.rstrip("\n").split("\n")
+
+
+class Crates:
+    """The crates of crates.txt: what each is built as, the libraries that it names, and those of the repository below
+    it, lowest first."""
+
+    def __init__(self):
+        self.lines, self.kinds, self.uses, self.below = {}, {}, {}, {}
+        for line in text_of(f"{TOP}/crates.txt").split("\n"):
+            head, _, uses = line.partition("#")[0].partition(":")
+            if head.strip():
+                name, *self.kinds[name] = head.split()
+                self.lines[name], self.uses[name] = line, uses.split()
+        for name in self.uses:
+            self.add(name)
+
+    def add(self, name):
+        own = [it for it in self.uses[name] if it in self.uses]
+        for it in own:
+            if it not in self.below:
+                self.add(it)
+        self.below[name] = list(dict.fromkeys(low for it in own for low in [*self.below[it], it]))
+
+
+class Proved:
+    """A copy of some crates and of those below them in a folder, where `rt ci` has proved them."""
+
+    def __init__(self, folder, names):
+        self.folder, self.crates = folder, Crates()
+        names = {low for it in names for low in [*self.crates.below[it], it]}
+        with open(f"{folder}/crates.txt", "w", encoding="utf-8") as it:
+            it.writelines(f"{line}\n" for name, line in self.crates.lines.items() if name in names)
+        if os.path.isfile(f"{TOP}/HANDLES"):
+            shutil.copy(f"{TOP}/HANDLES", folder)
+        for name in names:
+            for part in PARTS:
+                if os.path.isdir(f"{TOP}/crates/{name}/{part}"):
+                    shutil.copytree(f"{TOP}/crates/{name}/{part}", f"{self.of(name)}/{part}")
+        status, self.said = run(folder, [RT, "ci"])
+        told = (re.match(r"rt: (\w+) (?:proved|is kept)\b", it) for it in self.said)
+        self.proved = {it[1] for it in told if it}
+        self.is_whole = status == 0
+        self.kit = os.path.dirname(run(folder, [RT, "doc"])[1][0])
+
+    def of(self, name):
+        """The folder of a crate."""
+        return f"{self.folder}/crates/{name}"
+
+    def rattle(self, verb, name, *words):
+        """Runs the prover over a library, with those below it as `rt ci` left them."""
+        uses = ["std", *self.crates.uses[name]]
+        said = [f"{self.kit}/bin/rattle", verb, "--crate-name", name, "src/lib.rt", "-L", f"dependency={self.kit}/rlibs"]
+        for low in self.crates.below[name]:
+            said += ["-L", f"dependency={self.of(low)}/out/rlib"]
+        for it in uses:
+            at = f"{self.of(it)}/out/rlib" if it in self.crates.uses else f"{self.kit}/rlibs"
+            said += ["--extern", f"{it}={at}/{it}.rlib"]
+        said += ["--antt-project", f"{self.kit}/rattle/logic/antt-project.json", "--logic-built", f"{self.kit}/logic_built"]
+        said += ["--crate-type", "staticlib"] if "staticlib" in self.crates.kinds[name] else []
+        return run(self.of(name), [*said, *words])

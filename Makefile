@@ -66,11 +66,9 @@ test: all
 
 # `rt ci` builds both programs anew, each by LLVM and by Rattle's own compiler (.by-rattle), and the scripts take what it
 # leaves. It proves the C library and leaves none, so that is built over what it proved; the edits go on with that too.
+# They take the processors that it leaves idle.
 check:
-	"$(RT)" ci
-	RT="$(RT)" python3 tests/archive kmap_c
-	RT="$(RT)" python3 tests/edits
-	RT="$(RT)" sh tests/edits_driver.sh
+	RT="$(RT)" python3 tests/gate 'sh tests/edits_driver.sh'
 	$(MAKE) scripts
 	sh tests/program.sh $(PROGRAM).by-rattle
 	sh tests/both_builds.sh $(PROGRAM) $(PROGRAM).by-rattle

@@ -1,6 +1,7 @@
 #!/bin/sh
 # Tries tests/edits itself, on a small repository with edits that are good and edits that each show nothing in a way of
-# its own: each is told for what it is, the status says whether one failed, and the repository stays as it was.
+# its own: each is told for what it is, the status says whether one failed, and the repository stays as it was. Then
+# tests/gate, which tries them beside `rt ci`.
 #
 # usage: edits_driver.sh
 # The last line is 'N passed, M failed'; the status is 0 where none failed. RT names the kit's command.
@@ -12,18 +13,25 @@ trap 'rm -rf "$folder"' EXIT
 
 cp -R "$tests/tiny" "$folder/tiny"
 mkdir "$folder/tiny/tests"
-cp "$tests/edits" "$tests/proved.py" "$folder/tiny/tests"
+cp "$tests/edits" "$tests/gate" "$tests/proved.py" "$folder/tiny/tests"
 cd "$folder/tiny" || exit 1
 # The gate wants each source of the repository in a crate that crates.txt names, so these have other names there.
 find . -name '*.text' | while read -r file; do mv "$file" "${file%.text}"; done
 cp -R crates "$folder/before"
 
+# ends WANTED COMMAND..: the command ends so
+ends() {
+    wanted=$1
+    shift
+    RT_JOBS=1 "$@" > "$folder/said" 2>&1
+    got=$?
+    holds "$* ends with $got and not with $wanted" [ $got -eq "$wanted" ]
+    [ $got -eq "$wanted" ] || cat "$folder/said"
+}
+
 # edits WANTED: the driver ends so
 edits() {
-    RT_JOBS=1 python3 tests/edits -v > "$folder/said" 2>&1
-    got=$?
-    holds "it ends with $got and not with $1" [ $got -eq "$1" ]
-    [ $got -eq "$1" ] || cat "$folder/said"
+    ends "$1" python3 tests/edits -v
 }
 
 # tells LINE: it says a line that begins so
@@ -73,11 +81,24 @@ cd ../../.. || exit 1
 edits 0
 tells '3 passed, 0 failed'
 
+# The gate tries them too, beside commands, and fails where one of these does.
+ends 0 python3 tests/gate 'echo said beside it'
+tells '== edits of counter'
+tells '3 passed, 0 failed'
+tells 'said beside it'
+mv crates/counter/edits "$folder/edits"
+ends 1 python3 tests/gate 'exit 3'
+tells 'FAILED: exit 3'
+mv "$folder/edits" crates/counter/edits
+
 # A crate that is not proved as it stands shows nothing.
 sed 's,number / 2$,number / 3,' crates/counter/src/lib.rt > "$folder/turned"
 cp "$folder/turned" crates/counter/src/lib.rt
 edits 1
 tells 'counter/quarter_from_a_half.edit: not tried, since the crate is not proved as it stands'
 tells 'counter/a_definition_and_code.edit: not tried, since the crate is not proved as it stands'
+ends 1 python3 tests/gate
+tells 'rt: counter NOT PROVED'
+holds 'the gate tries edits of a crate that is not proved' [ "$(grep -c '== edits' "$folder/said")" -eq 0 ]
 
 counted

@@ -1,4 +1,4 @@
-"""What comes behind `rt ci` and goes on with what it proved.
+"""What goes on with what `rt ci` proved.
 
 The verdict of `rt ci` takes nothing from other commands of the kit and leaves them nothing: `rt check` and `rt lib` prove
 each library below once more. But the kit keeps what a run passed, on this machine, by the sums of all that was read. So
@@ -25,6 +25,27 @@ def run(folder, words):
     how = {"stdin": subprocess.DEVNULL, "stdout": subprocess.PIPE, "stderr": subprocess.STDOUT, "check": False}
     ran = subprocess.run(words, cwd=folder, encoding="utf-8", errors="replace", **how)
     return ran.returncode, ran.stdout.rstrip("\n").split("\n")
+
+
+def processors():
+    """How many processors to use: those that there are, as far as memory holds a check on each."""
+    number = os.environ.get("RT_JOBS", "")
+    if number.isdigit() and int(number):
+        return int(number)
+    free = re.search(r"MemAvailable:\s+(\d+)", text_of("/proc/meminfo"))
+    return max(1, min(len(os.sched_getaffinity(0)), int(free[1]) // (3 << 20)))
+
+
+def edit_files(name):
+    """The files of edits of a crate, by their paths in its folder."""
+    folder = f"{TOP}/crates/{name}/edits"
+    return [f"edits/{file}" for file in sorted(os.listdir(folder))] if os.path.isdir(folder) else []
+
+
+def proved_in(line):
+    """The crate of which a line of `rt ci` says that it is proved, or None."""
+    found = re.match(r"rt: (\w+) (?:proved|is kept)\b", line)
+    return found and found[1]
 
 
 class Crates:
@@ -64,8 +85,7 @@ class Proved:
                 if os.path.isdir(f"{TOP}/crates/{name}/{part}"):
                     shutil.copytree(f"{TOP}/crates/{name}/{part}", f"{self.of(name)}/{part}")
         status, self.said = run(folder, [RT, "ci"])
-        told = (re.match(r"rt: (\w+) (?:proved|is kept)\b", it) for it in self.said)
-        self.proved = {it[1] for it in told if it}
+        self.proved = {it for it in map(proved_in, self.said) if it}
         self.is_whole = status == 0
         self.kit = os.path.dirname(run(folder, [RT, "doc"])[1][0])
 

@@ -8,3 +8,18 @@ use std::process::Abort;
 pub(crate) fn expect_equal<T: PartialEq + Debug>(rt: &impl Abort, left: &T, right: &T) {
     assert_eq!(rt; left, right);
 }
+
+/// The same for a row of a table, which the failure names.
+pub(crate) fn expect_equal_at<R: Debug, T: PartialEq + Debug>(
+    rt: &impl Abort,
+    row: &R,
+    left: &T,
+    right: &T,
+) {
+    assert_eq!(rt; left, right, "{row:?}");
+}
+
+/// It holds; else the test fails and names the row of a table.
+pub(crate) fn expect_at<R: Debug>(rt: &impl Abort, row: &R, holds: bool) {
+    assert!(rt; holds, "{row:?}");
+}

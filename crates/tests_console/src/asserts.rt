@@ -8,3 +8,13 @@ use std::process::Abort;
 pub(crate) fn expect_equal<T: PartialEq + Debug>(rt: &impl Abort, left: &T, right: &T) {
     assert_eq!(rt; left, right);
 }
+
+/// The same for a row of a table, which the failure names.
+pub(crate) fn expect_equal_at<R: Debug, T: PartialEq + Debug>(
+    rt: &impl Abort,
+    row: &R,
+    left: &T,
+    right: &T,
+) {
+    assert_eq!(rt; left, right, "{row:?}");
+}

@@ -3,17 +3,18 @@
 mod histories;
 mod searches;
 
-use crate::asserts::expect_equal;
+use crate::asserts::{expect_equal, expect_equal_at};
 use console_core::Translator;
 use keymap_core::{LOCKS, Lock, MODIFIERS, Modifier};
 use std::process::Abort;
 
 fn expect_on<T: Translator>(rt: &impl Abort, console: &T, on: &[Modifier]) {
     for modifier in MODIFIERS {
-        assert_eq!(rt;
-            console.on(modifier),
-            on.contains(&modifier),
-            "{modifier:?}"
+        expect_equal_at(
+            rt,
+            &modifier,
+            &console.on(modifier),
+            &on.contains(&modifier),
         );
     }
 }
@@ -28,7 +29,7 @@ pub(crate) fn expect_shown<T: Translator>(
 ) {
     expect_on(rt, console, on);
     for lock in LOCKS {
-        assert_eq!(rt; console.locked(lock), locked.contains(&lock), "{lock:?}");
+        expect_equal_at(rt, &lock, &console.locked(lock), &locked.contains(&lock));
     }
     expect_equal(rt, &console.pending(), &pending);
 }

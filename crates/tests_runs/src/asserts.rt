@@ -8,3 +8,8 @@ use std::process::Abort;
 pub(crate) fn expect_equal<T: PartialEq + Debug>(rt: &impl Abort, left: &T, right: &T) {
     assert_eq!(rt; left, right);
 }
+
+/// It holds; else the test fails and names the row of a table.
+pub(crate) fn expect_at<R: Debug>(rt: &impl Abort, row: &R, holds: bool) {
+    assert!(rt; holds, "{row:?}");
+}

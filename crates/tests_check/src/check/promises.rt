@@ -1,6 +1,6 @@
 //! What the report says of modifiers and locks, over long lists of events.
 
-use crate::asserts::expect_equal;
+use crate::asserts::{expect_at, expect_equal};
 use crate::check::{press, release};
 use console_core::{Answer, Event, PlainConsole, Translator, WordConsole, replay};
 use keymap_check::{Bearer, Report, check};
@@ -161,7 +161,7 @@ fn without_traps_modifiers_are_on_only_while_pressed(rt: HostRuntime) -> Result<
                 Modifier::LeftControl => is_pressed(&keys, 29),
                 _ => false,
             };
-            assert!(rt; may_be_on || !console.on(modifier), "{modifier:?}");
+            expect_at(&rt, &modifier, may_be_on || !console.on(modifier));
             was_on[modifier.index()] |= console.on(modifier);
         }
     }

@@ -1,6 +1,6 @@
 //! Maps whose report and demonstration were worked out by hand, and the longest search for a demonstration.
 
-use crate::asserts::expect_equal;
+use crate::asserts::{expect_equal, expect_equal_at};
 use crate::check::{key, press, release};
 use console_core::Event;
 use keymap_check::{Bearer, Finding, Place, Report, check, demonstrate};
@@ -29,20 +29,22 @@ fn bearer_in(bearers: &[(Holding, Bearer)], holding: Holding) -> Bearer {
 fn expect(rt: &impl Abort, report: &Report, bearers: &[(Holding, Bearer)], steady: &[Lock]) {
     for modifier in MODIFIERS {
         let holding = Holding::Mod(modifier);
-        assert_eq!(rt;
-            report.bearer(holding),
-            bearer_in(bearers, holding),
-            "{modifier:?}"
+        expect_equal_at(
+            rt,
+            &modifier,
+            &report.bearer(holding),
+            &bearer_in(bearers, holding),
         );
     }
     for lock in LOCKS {
         let holding = Holding::Lock(lock);
-        assert_eq!(rt;
-            report.bearer(holding),
-            bearer_in(bearers, holding),
-            "{lock:?}"
+        expect_equal_at(
+            rt,
+            &lock,
+            &report.bearer(holding),
+            &bearer_in(bearers, holding),
         );
-        assert_eq!(rt; report.steady(lock), steady.contains(&lock), "{lock:?}");
+        expect_equal_at(rt, &lock, &report.steady(lock), &steady.contains(&lock));
     }
 }
 

@@ -1,6 +1,6 @@
 //! Actions, their codes and names, and key codes.
 
-use crate::asserts::expect_equal;
+use crate::asserts::{expect_at, expect_equal, expect_equal_at};
 use keymap_core::{Action, KeyCode, Lock, Modifier, Named};
 use std::test::Fail;
 
@@ -62,7 +62,7 @@ fn actions_have_the_codes_and_names_of_the_table(rt: HostRuntime) -> Result<(), 
     for row in &TABLE {
         let (code, name) = *row;
         let action = Action::from_code(code).ok_or("a code without an action")?;
-        assert!(rt; has_name(&action, name), "code {code}");
+        expect_at(&rt, &code, has_name(&action, name));
         expect_equal(&rt, &action.code(), &code);
     }
     Ok(())
@@ -71,7 +71,7 @@ fn actions_have_the_codes_and_names_of_the_table(rt: HostRuntime) -> Result<(), 
 #[test]
 fn other_codes_have_no_action(rt: HostRuntime) {
     for code in [0x01, 0x7b, 0x7f, 0x9b, 0xa0, 0xa4, 0xff] {
-        assert_eq!(rt; Action::from_code(code), None, "code {code}");
+        expect_equal_at(&rt, &code, &Action::from_code(code), &None);
     }
 }
 
@@ -89,7 +89,7 @@ fn names_are_read(rt: HostRuntime) -> Result<(), Fail> {
     ];
     for (word, code) in words {
         let action = Action::from_code(code).ok_or("a code without an action")?;
-        assert_eq!(rt; Action::named(word), Named::Action(action), "{word:?}");
+        expect_equal_at(&rt, &word, &Action::named(word), &Named::Action(action));
     }
     let duml = Action::from_code(0x90).ok_or("a code without an action")?;
     assert!(rt; duml.name().as_slice() == b"duml".as_slice());
@@ -118,7 +118,7 @@ fn other_names_are_refused(rt: HostRuntime) {
         (b"", Named::Unknown),
     ];
     for (word, named) in words {
-        assert_eq!(rt; Action::named(word), named, "{word:?}");
+        expect_equal_at(&rt, &word, &Action::named(word), &named);
     }
 }
 

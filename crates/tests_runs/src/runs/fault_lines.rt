@@ -1,5 +1,6 @@
 //! The lines that tell why a run failed.
 
+use crate::asserts::expect_at;
 use crate::runs::{ENDLESS, written};
 use keymap_core::{ReadFault, ReadFaultKind, Write, WriteFault};
 use keymap_tables::{TableFault, TableFaultKind, Wide};
@@ -114,7 +115,7 @@ fn each_fault_of_a_text_has_its_line(rt: HostRuntime) {
             line: 1,
             kind,
         };
-        assert!(rt; writes_line(&RunError::Text(fault), line), "{kind:?}");
+        expect_at(&rt, &kind, writes_line(&RunError::Text(fault), line));
     }
     let fault = TextFault {
         offset: 3,
@@ -129,7 +130,7 @@ fn each_fault_of_a_text_has_its_line(rt: HostRuntime) {
 fn each_fault_of_tables_has_its_line(rt: HostRuntime) {
     for (kind, line) in TABLE_LINES {
         let fault = TableFault { offset: 37, kind };
-        assert!(rt; writes_line(&RunError::Tables(fault), line), "{kind:?}");
+        expect_at(&rt, &kind, writes_line(&RunError::Tables(fault), line));
     }
 }
 
@@ -144,7 +145,7 @@ const SCRIPT_LINES: [(ScriptFault, &[u8]); 2] = [
 #[test]
 fn each_fault_of_a_script_has_its_line(rt: HostRuntime) {
     for (fault, line) in SCRIPT_LINES {
-        assert!(rt; writes_line(&RunError::Script(fault), line), "{fault:?}");
+        expect_at(&rt, &fault, writes_line(&RunError::Script(fault), line));
     }
 }
 
@@ -186,7 +187,7 @@ fn each_fault_of_a_device_has_its_line(rt: HostRuntime) {
         ),
     ];
     for (error, line) in &rows {
-        assert!(rt; writes_line(error, line), "{line:?}");
+        expect_at(&rt, &line, writes_line(error, line));
     }
 }
 
@@ -213,7 +214,7 @@ fn each_place_that_is_too_wide_has_its_line(rt: HostRuntime) {
         ),
     ];
     for (wide, line) in rows {
-        assert!(rt; writes_line(&RunError::TooWide(wide), line), "{wide:?}");
+        expect_at(&rt, &wide, writes_line(&RunError::TooWide(wide), line));
     }
 }
 
@@ -252,6 +253,6 @@ fn each_fault_of_a_sentence_has_its_line(rt: HostRuntime) {
         ),
     ];
     for (error, line) in rows {
-        assert!(rt; writes_line(&error, line), "{error:?}");
+        expect_at(&rt, &error, writes_line(&error, line));
     }
 }

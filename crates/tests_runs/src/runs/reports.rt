@@ -1,6 +1,6 @@
 //! The reports of the check.
 
-use crate::asserts::expect_equal;
+use crate::asserts::{expect_at, expect_equal};
 use crate::runs::{ENDLESS, READS, settled, stopped, written};
 use keymap_core::{Read, Write};
 use keymap_text::{TextFault, TextFaultKind};
@@ -127,7 +127,7 @@ fn locks_are_steady_where_one_key_acts(rt: HostRuntime) -> Result<(), Fail> {
         let mut writer = slow_sheet_of(1, usize::MAX);
         let answer = check_run(rt.alloc(), &mut reader, false, &mut writer);
         expect_equal(&rt, &settled(answer, &writer)?, &Ok(true));
-        assert!(rt; has_line(writer.bytes.as_slice(), line), "{line:?}");
+        expect_at(&rt, &line, has_line(writer.bytes.as_slice(), line));
     }
     Ok(())
 }

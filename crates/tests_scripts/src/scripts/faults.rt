@@ -1,6 +1,6 @@
 //! Faults of what was read, named with their source and place before anything is written.
 
-use crate::asserts::expect_equal;
+use crate::asserts::{expect_equal, expect_equal_at};
 use crate::scripts::{play_next_texts, play_texts, settled};
 use keymap_core::{FromStd, ReadFault, ReadFaultKind};
 use keymap_text::{TextFault, TextFaultKind};
@@ -39,7 +39,7 @@ fn faults_of_a_text_are_named(rt: HostRuntime) -> Result<(), Fail> {
             &mut out,
         )?;
         let wanted = PlayError::Text(fault_at(offset, kind));
-        assert_eq!(rt; answer, Err(wanted), "{text}");
+        expect_equal_at(&rt, &text, &answer, &Err(wanted));
         expect_equal(&rt, &out.writes, &0);
     }
     Ok(())
@@ -57,7 +57,7 @@ fn faults_of_a_next_text_are_named(rt: HostRuntime) -> Result<(), Fail> {
             &mut out,
         )?;
         let wanted = PlayError::Next(fault_at(offset, kind));
-        assert_eq!(rt; answer, Err(wanted), "{next}");
+        expect_equal_at(&rt, &next, &answer, &Err(wanted));
         expect_equal(&rt, &out.writes, &0);
     }
     Ok(())
@@ -93,7 +93,7 @@ fn faults_of_a_script_are_named(rt: HostRuntime) -> Result<(), Fail> {
         let mut out = sheet_of(usize::MAX);
         let answer = play_texts(rt.alloc(), Show::Lines, text, script.as_bytes(), &mut out)?;
         let wanted = PlayError::Script(fault);
-        assert_eq!(rt; answer, Err(wanted), "{script}");
+        expect_equal_at(&rt, &script, &answer, &Err(wanted));
         expect_equal(&rt, &out.writes, &0);
     }
     Ok(())
@@ -131,7 +131,7 @@ fn a_text_is_read_to_its_limit(rt: HostRuntime) -> Result<(), Fail> {
         let mut script = FromStd::new(b"".as_slice());
         let answer = play(rt.alloc(), Show::Lines, &mut text, &mut script, &mut out);
         let wanted = wanted_of(is_endless, Source::Text);
-        assert_eq!(rt; settled(answer, &out)?, wanted, "{left}");
+        expect_equal_at(&rt, &left, &settled(answer, &out)?, &wanted);
         assert!(rt; out.bytes.is_empty() && text.reads <= READS);
     }
     Ok(())
@@ -153,7 +153,7 @@ fn a_next_text_is_read_to_its_limit(rt: HostRuntime) -> Result<(), Fail> {
             &mut out,
         );
         let wanted = wanted_of(is_endless, Source::Next);
-        assert_eq!(rt; settled(answer, &out)?, wanted, "{left}");
+        expect_equal_at(&rt, &left, &settled(answer, &out)?, &wanted);
         assert!(rt; out.bytes.is_empty() && next.reads <= READS);
     }
     Ok(())
@@ -167,7 +167,7 @@ fn a_script_is_read_to_its_limit(rt: HostRuntime) -> Result<(), Fail> {
         let mut script = blanks_of(left, pace);
         let answer = play(rt.alloc(), Show::Lines, &mut text, &mut script, &mut out);
         let wanted = wanted_of(is_endless, Source::Script);
-        assert_eq!(rt; settled(answer, &out)?, wanted, "{left}");
+        expect_equal_at(&rt, &left, &settled(answer, &out)?, &wanted);
         assert!(rt; out.bytes.is_empty() && script.reads <= READS);
     }
     Ok(())

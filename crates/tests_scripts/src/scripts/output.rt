@@ -1,6 +1,6 @@
 //! The published lines and bytes.
 
-use crate::asserts::expect_equal;
+use crate::asserts::{expect_equal, expect_equal_at};
 use crate::scripts::{play_next_texts, play_texts};
 use console_core::Answer;
 use play_core::{Show, typed};
@@ -113,8 +113,8 @@ fn lines_are_written(rt: HostRuntime) -> Result<(), Fail> {
     for (text, script, lines) in LINES {
         let mut out = sheet_of(usize::MAX);
         let answer = play_texts(rt.alloc(), Show::Lines, text, script.as_bytes(), &mut out)?;
-        assert_eq!(rt; answer, Ok(()), "{script}");
-        assert_eq!(rt; out.bytes.as_slice(), lines.as_bytes(), "{script}");
+        expect_equal_at(&rt, &script, &answer, &Ok(()));
+        expect_equal_at(&rt, &script, &out.bytes.as_slice(), &lines.as_bytes());
     }
     Ok(())
 }
@@ -168,8 +168,8 @@ fn a_load_changes_the_map(rt: HostRuntime) -> Result<(), Fail> {
     for (text, next, script, lines) in LOADS {
         let mut out = sheet_of(usize::MAX);
         let answer = play_next_texts(rt.alloc(), text, next, script.as_bytes(), &mut out)?;
-        assert_eq!(rt; answer, Ok(()), "{script}");
-        assert_eq!(rt; out.bytes.as_slice(), lines.as_bytes(), "{script}");
+        expect_equal_at(&rt, &script, &answer, &Ok(()));
+        expect_equal_at(&rt, &script, &out.bytes.as_slice(), &lines.as_bytes());
     }
     Ok(())
 }
@@ -190,8 +190,8 @@ fn typed_bytes_are_written(rt: HostRuntime) -> Result<(), Fail> {
     for (text, script, bytes) in TYPED {
         let mut out = sheet_of(usize::MAX);
         let answer = play_texts(rt.alloc(), Show::Typed, text, script.as_bytes(), &mut out)?;
-        assert_eq!(rt; answer, Ok(()), "{script}");
-        assert_eq!(rt; out.bytes.as_slice(), bytes.as_bytes(), "{script}");
+        expect_equal_at(&rt, &script, &answer, &Ok(()));
+        expect_equal_at(&rt, &script, &out.bytes.as_slice(), &bytes.as_bytes());
     }
     Ok(())
 }

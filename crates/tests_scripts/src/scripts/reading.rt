@@ -1,6 +1,6 @@
 //! Scripts by themselves.
 
-use crate::asserts::expect_equal;
+use crate::asserts::{expect_equal, expect_equal_at};
 use keymap_core::KeyCode;
 use play_core::{ScriptError, ScriptFault, Sent, What, read_script};
 use std::test::Fail;
@@ -43,7 +43,12 @@ fn faults_name_their_line(rt: HostRuntime) -> Result<(), Fail> {
         match read_script(rt.alloc(), script.as_bytes()) {
             Err(ScriptError::Memory) => return Err("out of memory".into()),
             answer => {
-                assert_eq!(rt; answer.err(), Some(ScriptError::Fault(fault)), "{script}");
+                expect_equal_at(
+                    &rt,
+                    &script,
+                    &answer.err(),
+                    &Some(ScriptError::Fault(fault)),
+                );
             }
         }
     }
@@ -64,18 +69,20 @@ fn a_script_that_is_cut_has_the_fault_of_its_last_line(rt: HostRuntime) -> Resul
         match read_script(rt.alloc(), cut) {
             Ok(events) => {
                 let is_last_there = !cut.is_empty() && cut[cut.len() - 1] != b'\n';
-                assert_eq!(rt;
-                    events.len(),
-                    before.saturating_add(usize::from(is_last_there)),
-                    "{end}"
+                expect_equal_at(
+                    &rt,
+                    &end,
+                    &events.len(),
+                    &before.saturating_add(usize::from(is_last_there)),
                 );
             }
             Err(ScriptError::Memory) => return Err("out of memory".into()),
             Err(ScriptError::Fault(fault)) => {
-                assert_eq!(rt;
-                    fault,
-                    ScriptFault::BadLine((before as u64).saturating_add(1)),
-                    "{end}"
+                expect_equal_at(
+                    &rt,
+                    &end,
+                    &fault,
+                    &ScriptFault::BadLine((before as u64).saturating_add(1)),
                 );
             }
         }

@@ -1,6 +1,6 @@
 //! Devices that fail in mid-stream: the fault says after how many bytes, and nothing more is done.
 
-use crate::asserts::expect_equal;
+use crate::asserts::{expect_at, expect_equal};
 use crate::scripts::{play_next_texts, play_texts, settled};
 use arrayvec::ArrayVec;
 use console_core::Answer;
@@ -187,9 +187,10 @@ fn long_lines_are_written_in_few_writes(rt: HostRuntime) -> Result<(), Fail> {
         let mut out = sheet_of(most);
         let answer = play_texts(rt.alloc(), Show::Lines, b"", script.as_slice(), &mut out)?;
         expect_equal(&rt, &answer, &written(most, size));
-        assert!(rt;
+        expect_at(
+            &rt,
+            &most,
             out.bytes.as_slice() == &shown.as_slice()[..most.min(size)],
-            "{most}"
         );
         assert!(rt; most < size || out.writes as usize <= size / 4096 + 1);
     }
@@ -211,9 +212,10 @@ fn long_typed_bytes_are_written_in_few_writes(rt: HostRuntime) -> Result<(), Fai
             &mut out,
         )?;
         expect_equal(&rt, &answer, &written(most, size));
-        assert!(rt;
+        expect_at(
+            &rt,
+            &most,
             out.bytes.as_slice() == &shown.as_slice()[..most.min(size)],
-            "{most}"
         );
         assert!(rt; most < size || out.writes as usize <= size / 4096 + 1);
     }
@@ -229,9 +231,10 @@ fn many_answers_are_typed_in_few_writes(rt: HostRuntime) {
         let mut out = sheet_of(most);
         let answer = typed(&answers, &mut out).map_err(PlayError::Write);
         expect_equal(&rt, &answer, &written(most, size));
-        assert!(rt;
+        expect_at(
+            &rt,
+            &most,
             out.bytes.as_slice() == &shown.as_slice()[..most.min(size)],
-            "{most}"
         );
         assert!(rt; most < size || out.writes as usize <= size / 4096 + 1);
     }

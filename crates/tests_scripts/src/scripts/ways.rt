@@ -1,6 +1,6 @@
 //! The events that type a character, and what keeps a sentence from being typed.
 
-use crate::asserts::expect_equal;
+use crate::asserts::{expect_equal, expect_equal_at};
 use console_core::Event;
 use keymap_text::read_map;
 use play_core::{TypeError, Ways, read_script};
@@ -56,7 +56,7 @@ fn each_character_has_its_first_way(rt: HostRuntime) -> Result<(), Fail> {
         let map = read_map(rt.alloc(), text)?;
         let ways = Ways::of(rt.alloc(), &map)?;
         let wanted = events_of(rt.alloc(), script)?;
-        assert_eq!(rt; ways.way(c), Some(wanted.as_slice()), "{c}");
+        expect_equal_at(&rt, &c, &ways.way(c), &Some(wanted.as_slice()));
     }
     Ok(())
 }
@@ -75,10 +75,17 @@ fn a_character_that_no_way_types_has_none(rt: HostRuntime) -> Result<(), Fail> {
     for (text, c) in UNTYPED {
         let map = read_map(rt.alloc(), text)?;
         let ways = Ways::of(rt.alloc(), &map)?;
-        assert_eq!(rt; ways.way(c), None, "{c}");
+        expect_equal_at(&rt, &c, &ways.way(c), &None);
     }
     Ok(())
 }
+
+/// A sentence that is not typed with the keymap of accents, and why.
+const REFUSED: [(&[u8], TypeError); 3] = [
+    (b"e\xc3\xaaz", TypeError::NoWay { offset: 1, c: 'ê' }),
+    (b"\xc3\xa9\xc3(z", TypeError::NotText { offset: 2 }),
+    (b"z\xe2\x82", TypeError::NotText { offset: 1 }),
+];
 
 #[test]
 fn sentences_are_judged_whole(rt: HostRuntime) -> Result<(), Fail> {
@@ -87,15 +94,9 @@ fn sentences_are_judged_whole(rt: HostRuntime) -> Result<(), Fail> {
     let characters = ways.characters(rt.alloc(), "aÉ´".as_bytes())?;
     expect_equal(&rt, &characters.as_slice(), &['a', 'É', '´'].as_slice());
     assert!(rt; ways.characters(rt.alloc(), b"")?.is_empty());
-    let answer = ways.characters(rt.alloc(), "eêz".as_bytes());
-    expect_equal(
-        &rt,
-        &answer.err(),
-        &Some(TypeError::NoWay { offset: 1, c: 'ê' }),
-    );
-    let answer = ways.characters(rt.alloc(), b"\xc3\xa9\xc3(z");
-    expect_equal(&rt, &answer.err(), &Some(TypeError::NotText { offset: 2 }));
-    let answer = ways.characters(rt.alloc(), b"z\xe2\x82");
-    expect_equal(&rt, &answer.err(), &Some(TypeError::NotText { offset: 1 }));
+    for (sentence, error) in REFUSED {
+        let answer = ways.characters(rt.alloc(), sentence);
+        expect_equal_at(&rt, &sentence, &answer.err(), &Some(error));
+    }
     Ok(())
 }

@@ -1,6 +1,6 @@
 //! What holds of both forms of a table file: the empty keymap, wrong lengths, changed bytes, and devices that fail.
 
-use crate::asserts::expect_equal;
+use crate::asserts::{expect_at, expect_equal, expect_equal_at};
 use crate::tables::{
     FORMS, Form, LENGTH, NARROW_LENGTH, fault, fault_of, settled, stopped, zero_bytes,
 };
@@ -138,7 +138,7 @@ fn a_failing_reader_is_a_fault(rt: HostRuntime) -> Result<(), Fail> {
         for most in 0..=form.length() {
             let mut reader = reader_of(&zeros, form.length(), most);
             let answer = settled(form.read_from(rt.alloc(), &mut reader))?;
-            assert_eq!(rt; answer.err(), Some(stopped(most)), "after {most} bytes");
+            expect_equal_at(&rt, &most, &answer.err(), &Some(stopped(most)));
             assert!(rt; reader.failed());
         }
     }
@@ -154,7 +154,7 @@ fn a_reader_of_short_reads_is_read_whole(rt: HostRuntime) -> Result<(), Fail> {
         for pace in [1, 3, 511, 4096] {
             let mut reader = reader_of(sheet.bytes.as_slice(), pace, usize::MAX);
             let answer = settled(form.read_from(rt.alloc(), &mut reader))?;
-            assert!(rt; answer? == map, "{form:?}, {pace} bytes at a time");
+            expect_at(&rt, &(form, pace), answer? == map);
             assert!(rt; !reader.failed());
         }
     }

@@ -1,6 +1,6 @@
 //! The narrow file: its bytes and faults, what doesn't fit, and that old wide files become narrow ones and come back.
 
-use crate::asserts::expect_equal;
+use crate::asserts::{expect_at, expect_equal};
 use crate::tables::both::{Changed, expect_faults, read_again, read_device_again};
 use crate::tables::{Form, LENGTH, NARROW_LENGTH, settled};
 use keymap_core::{Accent, Cell, Entry, KeyMap, LockFlag, Write};
@@ -187,7 +187,7 @@ fn wide_files_become_narrow_and_come_back(rt: HostRuntime) -> Result<(), Fail> {
         let back = settled(read_narrow(rt.alloc(), narrow.bytes.as_slice()))??;
         let mut new = sheet_of(LENGTH);
         write_tables(&back, &mut new)?;
-        assert!(rt; new.bytes.as_slice() == old.bytes.as_slice(), "{name:?}");
+        expect_at(&rt, &name, new.bytes.as_slice() == old.bytes.as_slice());
     }
     Ok(())
 }

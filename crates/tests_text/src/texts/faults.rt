@@ -1,5 +1,6 @@
 //! Each kind of fault at each kind of place where it can come.
 
+use crate::asserts::expect_equal_at;
 use crate::texts::{read_pieces, settled};
 use keymap_text::{TextError, TextFault, TextFaultKind, read_map};
 use std::alloc::Global;
@@ -188,9 +189,9 @@ fn assert_fault(
         kind,
     }));
     let whole = settled(read_map(alloc, text.as_slice()))?.err();
-    assert_eq!(rt; whole, wanted, "of {token:?} after {place:?}");
+    expect_equal_at(rt, &(token, place), &whole, &wanted);
     let pieces = settled(read_pieces(rt, alloc, text.as_slice(), 1))?.err();
-    assert_eq!(rt; pieces, wanted, "of {token:?} after {place:?}, in pieces");
+    expect_equal_at(rt, &(token, place), &pieces, &wanted);
     Ok(())
 }
 
@@ -248,7 +249,7 @@ fn the_first_fault_is_answered(rt: HostRuntime) -> Result<(), Fail> {
     for (text, offset, line, kind) in texts {
         let fault = TextFault { offset, line, kind };
         let found = settled(read_map(rt.alloc(), text))?.err();
-        assert_eq!(rt; found, Some(TextError::Fault(fault)), "in {text:?}");
+        expect_equal_at(&rt, &text, &found, &Some(TextError::Fault(fault)));
     }
     Ok(())
 }

@@ -1,6 +1,6 @@
 //! Printing maps, and reading them again.
 
-use crate::asserts::expect_equal;
+use crate::asserts::{expect_equal, expect_equal_at};
 use crate::texts::DUMPED;
 use keymap_core::{ToStd, Write, WriteFault};
 use keymap_text::{print_map, read_map};
@@ -315,11 +315,11 @@ fn maps_are_printed_and_read_again(rt: HostRuntime) -> Result<(), Fail> {
         let mut page = slow_sheet_of(7, usize::MAX);
         print_map(&map, &mut page)?;
         let wanted = printed_form(rt.alloc(), printed)?;
-        assert_eq!(rt;
-            page.bytes.as_slice(),
-            wanted.as_slice(),
-            "of {printed:?}",
-            printed = printed.text
+        expect_equal_at(
+            &rt,
+            &printed.text,
+            &page.bytes.as_slice(),
+            &wanted.as_slice(),
         );
         assert!(rt; read_map(rt.alloc(), page.bytes.as_slice())? == map);
     }

@@ -1,6 +1,6 @@
 //! Reading texts, whole and in pieces.
 
-use crate::asserts::expect_equal;
+use crate::asserts::{expect_at, expect_equal, expect_equal_at};
 use crate::texts::{DUMPED, read_pieces, settled};
 use keymap_core::{
     Action, Cell, Entry, FunctionNumber, KeyMap, LockFlag, Modifier, ScreenNumber, ToStd,
@@ -108,7 +108,7 @@ fn dumped_lines_are_read(rt: HostRuntime) -> Result<(), Fail> {
 fn named_texts_are_read_as_the_named_maps(rt: HostRuntime) -> Result<(), Fail> {
     for name in NAMED {
         let map = settled(read_map(rt.alloc(), text_of(name)))??;
-        assert!(rt; map == named_map(rt.alloc(), name)?, "{name:?}");
+        expect_at(&rt, &name, map == named_map(rt.alloc(), name)?);
     }
     Ok(())
 }
@@ -248,8 +248,8 @@ fn words_are_judged_when_they_are_complete(rt: HostRuntime) -> Result<(), Fail> 
             answer = reader.feed(piece);
         }
         let wanted_of_feed = if early { Err(wanted) } else { Ok(()) };
-        assert_eq!(rt; answer, wanted_of_feed, "of {pieces:?}");
-        assert_eq!(rt; reader.finish().err(), Some(wanted), "of {pieces:?}");
+        expect_equal_at(&rt, &pieces, &answer, &wanted_of_feed);
+        expect_equal_at(&rt, &pieces, &reader.finish().err(), &Some(wanted));
     }
     Ok(())
 }
@@ -260,9 +260,9 @@ fn assert_same_in_pieces(rt: &impl Abort, alloc: Global, text: &[u8]) -> Result<
     let whole = settled(read_map(alloc, text))?;
     for size in [1, 7] {
         match (&whole, settled(read_pieces(rt, alloc, text, size))?) {
-            (Ok(map), Ok(other)) => assert!(rt; *map == other, "up to {end}"),
-            (Err(error), Err(other)) => assert_eq!(rt; *error, other, "up to {end}"),
-            _ => assert!(rt; false, "up to {end}"),
+            (Ok(map), Ok(other)) => expect_at(rt, &end, *map == other),
+            (Err(error), Err(other)) => expect_equal_at(rt, &end, error, &other),
+            _ => expect_at(rt, &end, false),
         }
     }
     Ok(())

@@ -1,6 +1,6 @@
 //! Reading texts from devices.
 
-use crate::asserts::expect_equal;
+use crate::asserts::{expect_at, expect_equal};
 use keymap_core::{FromStd, Read, ReadFault, ReadFaultKind};
 use keymap_text::{TextError, TextFault, TextFaultKind, read_from, read_map};
 use std::test::Fail;
@@ -54,7 +54,7 @@ fn a_map_is_read_from_a_device(rt: HostRuntime) -> Result<(), Fail> {
     for pace in [1, 13, 512] {
         let mut tape = reader_of(LETTER_AND_SHIFT, pace, usize::MAX);
         let map = read_from(rt.alloc(), &mut tape)?;
-        assert!(rt; map == wanted, "at {pace} bytes a read");
+        expect_at(&rt, &pace, map == wanted);
     }
     let mut reader = FromStd::new(LETTER_AND_SHIFT);
     let map = read_from(rt.alloc(), &mut reader)?;

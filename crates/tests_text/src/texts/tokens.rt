@@ -1,6 +1,6 @@
 //! Tokens and words.
 
-use crate::asserts::expect_equal;
+use crate::asserts::{expect_equal, expect_equal_at};
 use keymap_core::{AccentIndex, Action, FunctionNumber, Lock, LockFlag, Modifier, ScreenNumber};
 use keymap_text::{Meaning, Span, TextFaultKind, TokenKind, next_token, word_meaning};
 use std::test::Fail;
@@ -60,7 +60,7 @@ fn first_tokens_are_found(rt: HostRuntime) -> Result<(), Fail> {
             token.span.start,
             token.span.end,
         ));
-        assert_eq!(rt; found, wanted, "in {text:?}");
+        expect_equal_at(&rt, &text, &found, &wanted);
     }
     Ok(())
 }
@@ -94,7 +94,7 @@ fn broken_tokens_are_refused(rt: HostRuntime) -> Result<(), Fail> {
     ];
     for (text, kind, offset) in texts {
         let fault = next_token(text, 0).err().ok_or("no fault")?;
-        assert_eq!(rt; (fault.kind, fault.offset), (kind, offset), "in {text:?}");
+        expect_equal_at(&rt, &text, &(fault.kind, fault.offset), &(kind, offset));
     }
     let fault = next_token(b"''''ab'", 3).err().ok_or("no fault")?;
     expect_equal(
@@ -178,7 +178,7 @@ fn words_have_meanings(rt: HostRuntime) {
     ];
     for (word, meaning) in words {
         if word.len() <= 32 {
-            assert_eq!(rt; word_meaning(word), meaning, "of {word:?}");
+            expect_equal_at(&rt, &word, &word_meaning(word), &meaning);
         }
     }
 }

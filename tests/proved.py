@@ -8,6 +8,7 @@ prover itself, `rattle`, goes on from there."""
 import os
 import re
 import shutil
+import signal
 import subprocess
 
 TOP = os.path.dirname(os.path.dirname(os.path.abspath(__file__)))
@@ -104,4 +105,6 @@ class Proved:
             said += ["--extern", f"{it}={at}/{it}.rlib"]
         said += ["--antt-project", f"{self.kit}/rattle/logic/antt-project.json", "--logic-built", f"{self.kit}/logic_built"]
         said += ["--crate-type", "staticlib"] if "staticlib" in self.crates.kinds[name] else []
-        return run(self.of(name), [*said, *words])
+        ran = run(self.of(name), [*said, *words])
+        # killed, most likely for memory: once more
+        return run(self.of(name), [*said, *words]) if ran[0] == -signal.SIGKILL else ran

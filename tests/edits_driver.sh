@@ -45,6 +45,8 @@ tells 'counter/half_of_more.edit: refused in half: returns'
 tells 'counter/half_of_less.edit: refused in half: returns'
 tells 'counter/quarter_from_a_half.edit: refused in quarter: returns'
 tells 'counter/a_count_that_starts_at_one.edit: refused in zeros: loop-index'
+# one of a body that begins behind its header
+tells 'counter/a_byte_behind_the_last.edit: refused in middle: '
 # one of a constant, and one of a definition together with the code
 tells 'counter/a_limit_above_the_top.edit: refused in bounded: returns'
 tells 'counter/a_definition_and_code.edit: refused in bounded: returns'
@@ -56,7 +58,7 @@ tells "counter/a_line_that_is_not_there.edit: an 'old:' text stands in src/lib.r
 tells "counter/a_line_that_is_there_three_times.edit: an 'old:' text stands in src/lib.rt 3 times, and not once"
 tells "counter/a_definition.edit: it changes nothing below src/"
 tells 'counter/notes.txt: it is no edit'
-tells '6 passed, 8 failed'
+tells '7 passed, 8 failed'
 holds 'it changes no file' diff -r crates "$folder/before"
 
 # The kit's own driver, which tries each alone, says the same of those that the prover can read.

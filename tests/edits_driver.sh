@@ -59,8 +59,9 @@ tells 'counter/a_name_that_is_not_there.edit: the prover cannot read it: src/lib
 tells "counter/a_line_that_is_not_there.edit: an 'old:' text stands in src/lib.rt 0 times, and not once"
 tells "counter/a_line_that_is_there_three_times.edit: an 'old:' text stands in src/lib.rt 3 times, and not once"
 tells "counter/a_definition.edit: it changes nothing below src/"
+tells 'counter/a_function_that_is_not_there.edit: there is no function nowhere'
 tells 'counter/notes.txt: it is no edit'
-tells '8 passed, 8 failed'
+tells '8 passed, 9 failed'
 holds 'it changes no file' diff -r crates "$folder/before"
 
 # The kit's own driver, which tries each alone, says the same of those that the prover can read.

@@ -3,10 +3,13 @@ pub mod Bearing
 pub mod Borne
 pub mod Bytes
 pub mod Codes
+pub mod Concluding
 pub mod Deciding
 pub mod Deliveries
 pub mod Facts
 pub mod FreshPresses
+pub mod GoingBack
+pub mod Growing
 pub mod Headline
 pub mod Keeping
 pub mod OneMap
@@ -23,4 +26,5 @@ pub mod Since
 pub mod Staying
 pub mod Traps
 pub mod Twice
+pub mod Unscrolled
 pub mod WordBits

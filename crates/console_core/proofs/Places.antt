@@ -1,6 +1,6 @@
 -- One place of a table after a write, by a test on the places.
 use Rattle.std.proofs.Common.{◌≡◌, ℕ, ◌<◌, Bool, true, false, cond, eqb, List, length, get_or, set, ◌+◌, ◌&&◌, not}
-use Rattle.std.proofs.Common.{Some, ap, lit<, refl, sym, arith}
+use Rattle.std.proofs.Common.{Some, ap, lit<, refl, sym, subst, arith}
 use Rattle.std.proofs.lemmas.List.{get_or-set_same, get_or-set_other, get_or-replicate}
 use Rattle.std.proofs.lemmas.Bool.{eqb-true, eqb-false, ne_eqb}
 use Rattle.keymap_core.specs.declared.action.Modifier.{Modifier}
@@ -13,7 +13,7 @@ use Rattle.keymap_core.specs.declared.action.Holding.TheVariants as holding
 use Rattle.keymap_core.specs.declared.action.Action.{Action}
 use Rattle.keymap_core.specs.declared.action.Action.TheVariants as act
 use Rattle.keymap_core.specs.Actions.{holding_of, modifier_index, lock_index, holding_index, same_action}
-use Rattle.keymap_core.specs.Actions.{holding_action}
+use Rattle.keymap_core.specs.Actions.{holding_action, modifiers}
 
 -- an element after a write, by the test of its index
 place_cases : {X : Type 0} (xs : List X) (i j : ℕ) (v d : X) (b : Bool) → eqb i j ≡ b → i < length xs
@@ -25,6 +25,20 @@ place_cases xs i j v d false e h = get_or-set_other xs i j v d (λ s. eqb-false 
 pub get_or-set_if : {X : Type 0} (xs : List X) (i j : ℕ) (v d : X) → i < length xs
     → get_or (set xs i v) j d ≡ cond (eqb i j) v (get_or xs j d)
 get_or-set_if xs i j v d h = place_cases xs i j v d (eqb i j) refl h
+
+-- the modifier at a place of the modifiers
+modifier_at : (i : Modifier) (d : Modifier) → get_or modifiers (modifier_index i) d ≡ i
+modifier_at LeftShift d = refl
+modifier_at RightShift d = refl
+modifier_at LeftControl d = refl
+modifier_at RightControl d = refl
+modifier_at LeftAlt d = refl
+modifier_at RightAlt d = refl
+modifier_at AltShift d = refl
+modifier_at Meta d = refl
+
+pub modifier-at : (i : Modifier) (n : ℕ) (d : Modifier) → modifier_index i ≡ n → get_or modifiers n d ≡ i
+modifier-at i n d e = subst (λ x. get_or modifiers x d ≡ i) e (modifier_at i d)
 
 pub modifier_index-lt : (m : Modifier) → modifier_index m < 8
 modifier_index-lt LeftShift = lit< tt

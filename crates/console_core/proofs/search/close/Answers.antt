@@ -1,6 +1,7 @@
 use Rattle.std.proofs.Common.{◌+◌, arith}
 use Rattle.console_core.specs.Inner.Searching.{state_of, under_of, AreAdded, Searched, AreInOrder}
-use Rattle.console_core.proofs.Searching.{close-step, grows-again, searched-fewer}
+use Rattle.console_core.proofs.Searching.{close-step, searched-fewer}
+use Rattle.console_core.proofs.Growing.{grows-again}
 use Rattle.console_core.proofs.search.close.Goals as goal
 
 pub returns-in-Some-clause-searched : goal.returns-in-Some-clause-searched

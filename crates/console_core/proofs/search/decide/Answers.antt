@@ -3,8 +3,10 @@ use Rattle.std.proofs.lemmas.Bool.{eq-eqb}
 use Rattle.std.proofs.lemmas.Option.{slice_get_within}
 use Rattle.console_core.specs.declared.search.Origin.{Origin}
 use Rattle.console_core.specs.Inner.Searching.{under_of, Searched, AreInOrder, IsStuck}
-use Rattle.console_core.proofs.Searching.{added-longer, start-entries, searched-start, searched-never, searched-back}
-use Rattle.console_core.proofs.Searching.{stuck-sticks, order-within, level-late, closed-late}
+use Rattle.console_core.proofs.Growing.{added-longer}
+use Rattle.console_core.proofs.Searching.{start-entries, searched-start, order-within}
+use Rattle.console_core.proofs.Concluding.{searched-never, stuck-sticks, level-late, closed-late}
+use Rattle.console_core.proofs.GoingBack.{searched-back}
 use Rattle.console_core.proofs.Reaching.{tables-test, reaches-more, beq-self}
 use Rattle.console_core.proofs.search.decide.Goals as goal
 

@@ -1,5 +1,5 @@
 use Rattle.console_core.specs.Inner.Searching.{state_of, under_of}
-use Rattle.console_core.proofs.Searching.{added-again, let_go-grows}
+use Rattle.console_core.proofs.Growing.{added-again, let_go-grows}
 use Rattle.console_core.proofs.search.meet_frees.Goals as goal
 
 pub returns-clause-met : goal.returns-clause-met

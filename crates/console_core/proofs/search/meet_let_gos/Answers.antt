@@ -1,8 +1,8 @@
 use Rattle.std.proofs.Common.{◌<◌, subst, refl, arith, below_more}
 use Rattle.keymap_core.specs.Actions.{modifier_index}
 use Rattle.console_core.specs.Inner.Searching.{state_of, IsLetGoMet}
-use Rattle.console_core.proofs.Places.{modifier_index-lt}
-use Rattle.console_core.proofs.Searching.{added-again, let_go-grows, modifier-at}
+use Rattle.console_core.proofs.Places.{modifier_index-lt, modifier-at}
+use Rattle.console_core.proofs.Growing.{added-again, let_go-grows}
 use Rattle.console_core.proofs.search.meet_let_gos.Goals as goal
 
 pub loop-modifier-preserved : goal.loop-modifier-preserved

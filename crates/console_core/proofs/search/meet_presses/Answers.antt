@@ -1,6 +1,6 @@
 use Rattle.std.proofs.Common.{subst, below_more}
 use Rattle.console_core.specs.Inner.Searching.{state_of, under_of, ArePressesMet}
-use Rattle.console_core.proofs.Searching.{added-again, presses-grow}
+use Rattle.console_core.proofs.Growing.{added-again, presses-grow}
 use Rattle.console_core.proofs.search.meet_presses.Goals as goal
 
 pub loop-code-preserved : goal.loop-code-preserved

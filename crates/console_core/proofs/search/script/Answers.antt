@@ -5,8 +5,8 @@ use Rattle.console_core.specs.declared.event.Event.TheVariants.{Press}
 use Rattle.console_core.specs.declared.held.Move.{Move}
 use Rattle.console_core.specs.Moves.{releases, events_of_move, events_along, script_of_path}
 use Rattle.console_core.specs.Inner.Searching.{state_of}
-use Rattle.console_core.proofs.Searching.{LeadsBy, script-begin, trail-leads, leads-next, leads-end, left-smaller}
-use Rattle.console_core.proofs.Searching.{within-last, same-place}
+use Rattle.console_core.proofs.GoingBack.{LeadsBy, script-begin, trail-leads, leads-next, leads-end, left-smaller}
+use Rattle.console_core.proofs.GoingBack.{within-last, same-place}
 use Rattle.console_core.proofs.search.script.Goals as goal
 
 pub loop-last-init : goal.loop-last-init

@@ -3,7 +3,7 @@ use Rattle.std.proofs.Common.{◌≡◌, ◌<◌, List, ◌++◌, length, slice_
 use Rattle.console_core.specs.declared.held.Move.{Move}
 use Rattle.console_core.specs.Moves.{Under, state_after, script_of_path, events_along}
 use Rattle.console_core.specs.Inner.Searching.{state_of, Entry, IsTrail}
-use Rattle.console_core.proofs.Searching.{LeadsBy, places_left}
+use Rattle.console_core.proofs.GoingBack.{LeadsBy, places_left}
 use Rattle.console_core.proofs.search.script.Given as goal
 
 abbrev pub invariant-loop-last : goal.invariant-loop-last

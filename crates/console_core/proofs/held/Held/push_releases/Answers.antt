@@ -4,7 +4,7 @@ use Rattle.keymap_core.specs.Actions.{modifiers}
 use Rattle.console_core.specs.declared.event.Event.TheVariants.{Release}
 use Rattle.console_core.specs.Moves.{releases, release_of}
 use Rattle.console_core.specs.Inner.Searching.{state_of}
-use Rattle.console_core.proofs.Searching.{releases-more}
+use Rattle.console_core.proofs.GoingBack.{releases-more}
 use Rattle.console_core.proofs.held.Held.push_releases.Goals.{in-Some+in_ok-push, in_default}
 use Rattle.console_core.proofs.held.Held.push_releases.Goals as goal
 

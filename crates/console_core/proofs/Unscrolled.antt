@@ -1,0 +1,92 @@
+-- No look depends on the scroll lock, so states that differ in it alone lead on alike.
+use Rattle.std.proofs.Common.{◌≡◌, Bool, false, ◌&&◌, not, Some, None, refl, ap, subst, sym, ◌∙◌, if◌then◌else◌}
+use Rattle.keymap_core.specs.declared.action.Lock.{Lock}
+use Rattle.keymap_core.specs.declared.action.Lock.TheVariants.{Caps, Num, Scroll, Alt}
+use Rattle.keymap_core.specs.Actions.{same_lock}
+use Rattle.keymap_core.specs.Borne.{is_borne}
+use Rattle.keymap_core.specs.Maps.{MapValue}
+use Rattle.keymap_core.specs.declared.action.Holding.TheVariants as holding
+use Rattle.console_core.specs.declared.held.Move.{Move}
+use Rattle.console_core.specs.declared.held.Move.TheVariants.{Hold, Turn, LetGo, Exchange}
+use Rattle.console_core.specs.Moves.{Under, State, with_holder, with_lock_turned, next_map, IsMove, moved}
+use mathlib.Core.Path.{fun_ext}
+
+-- the state without the scroll lock, which picks no cell
+abbrev but_scroll : (Lock → Bool) → Lock → Bool
+but_scroll on Caps = on Caps
+but_scroll on Num = on Num
+but_scroll on Scroll = false
+but_scroll on Alt = on Alt
+
+-- the state without the scroll lock, which no look asks for
+abbrev pub unscrolled : State → State
+unscrolled s = record { holder = s.holder; is_locked = but_scroll s.is_locked; is_second = s.is_second }
+
+-- moves don't depend on the scroll lock
+pub moves-unscrolled : (u : Under) (s t : State) (move : Move) → unscrolled t ≡ unscrolled s → IsMove u s move
+    → IsMove u t move
+moves-unscrolled u s t (Hold k i) e is = subst (λ x. IsMove u x (Hold k i)) (sym e) is
+moves-unscrolled u s t (Turn k l) e is = subst (λ x. IsMove u x (Turn k l)) (sym e) is
+moves-unscrolled u s t (LetGo k i) e is = subst (λ x. IsMove u x (LetGo k i)) (sym e) is
+moves-unscrolled u s t Exchange e is = subst (λ x. IsMove u x Exchange) (sym e) is
+
+-- to drop the scroll lock twice is to drop it
+but_twice : (on : Lock → Bool) (j : Lock) → but_scroll on j ≡ but_scroll (but_scroll on) j
+but_twice on Caps = refl
+but_twice on Num = refl
+but_twice on Scroll = refl
+but_twice on Alt = refl
+
+-- a lock turns alike without the scroll lock
+turned_twice : (on : Lock → Bool) (l j : Lock)
+    → but_scroll (λ n. if same_lock l n then not (on n) else on n) j
+    ≡ but_scroll (λ n. if same_lock l n then not (but_scroll on n) else but_scroll on n) j
+turned_twice on l Caps = refl
+turned_twice on l Num = refl
+turned_twice on l Scroll = refl
+turned_twice on l Alt = refl
+
+-- a load keeps locks alike without the scroll lock
+kept_twice : (m : MapValue) (on : Lock → Bool) (j : Lock)
+    → but_scroll (λ n. is_borne m (holding.Lock n) && on n) j
+    ≡ but_scroll (λ n. is_borne m (holding.Lock n) && but_scroll on n) j
+kept_twice m on Caps = refl
+kept_twice m on Num = refl
+kept_twice m on Scroll = refl
+kept_twice m on Alt = refl
+
+-- a move leads on alike without the scroll lock
+moved-unscrolled : (u : Under) (s : State) (move : Move)
+    → unscrolled (moved u s move) ≡ unscrolled (moved u (unscrolled s) move)
+moved-unscrolled u s (Hold k i) =
+    ap (λ x. record { holder = (with_holder s i (Some k)).holder; is_locked = x; is_second = s.is_second })
+    (fun_ext (λ j. but_twice s.is_locked j))
+moved-unscrolled u s (Turn k l) =
+    ap (λ x. record { holder = s.holder; is_locked = x; is_second = s.is_second })
+    (fun_ext (λ j. turned_twice s.is_locked l j))
+moved-unscrolled u s (LetGo k i) =
+    ap (λ x. record { holder = (with_holder s i None).holder; is_locked = x; is_second = s.is_second })
+    (fun_ext (λ j. but_twice s.is_locked j))
+moved-unscrolled u s Exchange =
+    ap (λ x. record { holder = s.holder; is_locked = x; is_second = not s.is_second })
+    (fun_ext (λ j. kept_twice (next_map u s) s.is_locked j))
+
+-- states that differ in the scroll lock alone lead on alike
+pub same_moved : (u : Under) (s t : State) (move : Move) → unscrolled t ≡ unscrolled s
+    → unscrolled (moved u t move) ≡ unscrolled (moved u s move)
+same_moved u s t move e =
+    moved-unscrolled u t move ∙ ap (λ x. unscrolled (moved u x move)) e ∙ sym (moved-unscrolled u s move)
+
+-- a turn of the scroll lock changes nothing else
+scroll_turned : (on : Lock → Bool) (j : Lock)
+    → but_scroll on j ≡ but_scroll (λ n. if same_lock Scroll n then not (on n) else on n) j
+scroll_turned on Caps = refl
+scroll_turned on Num = refl
+scroll_turned on Scroll = refl
+scroll_turned on Alt = refl
+
+-- the scroll lock changes nothing else
+pub scroll-moved : (s : State) → unscrolled s ≡ unscrolled (with_lock_turned s Scroll)
+scroll-moved s =
+    ap (λ x. record { holder = s.holder; is_locked = x; is_second = s.is_second })
+    (fun_ext (λ j. scroll_turned s.is_locked j))

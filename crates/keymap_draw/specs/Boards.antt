@@ -38,17 +38,17 @@ height Tall = 128
 height Enter = 128
 height s = 64
 
-abbrev pub row : ℕ → ℕ → ℕ → Shape → Row
-row code x y s = record { 0 = code; 1 = x; 2 = y; 3 = s }
+abbrev pub key_at : ℕ → ℕ → ℕ → Shape → Row
+key_at code x y s = record { 0 = code; 1 = x; 2 = y; 3 = s }
 
 -- The rows of the ANSI board that differ from those of the ISO board: it has no 102nd key, a flat Enter, and a longer
 -- left Shift.
 abbrev pub ansi_row : Row → Option Row
 ansi_row r =
     if r.0 == 86 then None
-    else if r.0 == 43 then Some (row 43 864 144 C)
-    else if r.0 == 28 then Some (row 28 816 208 F)
-    else if r.0 == 42 then Some (row 42 0 272 F)
+    else if r.0 == 43 then Some (key_at 43 864 144 C)
+    else if r.0 == 28 then Some (key_at 28 816 208 F)
+    else if r.0 == 42 then Some (key_at 42 0 272 F)
     else Some r
 
 -- what a board has in place of a row of the ISO board

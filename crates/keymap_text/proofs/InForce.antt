@@ -211,11 +211,11 @@ slot_in_force text m rows h slot p e =
     subst (λ (ts : List TokenValue). Defines (map item_of ts) (KeyDefinition slot (get_or m.entries slot undefined)))
     there d
 
-pub no_slot : (text : List ℕ) (m : MapValue) (rows : List Row) → IsSpelledBy text m rows → (slot : ℕ)
-    → last_of (Slot slot) (places_of rows) ≡ None → get_or m.entries slot undefined ≡ undefined
-no_slot text m rows h slot e =
-    ap (λ (m : MapValue). get_or m.entries slot undefined) h.spelled ∙ entry_of (definitions rows) slot
-    ∙ ap (λ o. or_default o undefined) (none_said (of_slot slot) (Slot slot) (says_slot slot) rows 0 e)
+pub no_slot : (text : List ℕ) (m : MapValue) (all : List Row) → IsSpelledBy text m all → (slot : ℕ)
+    → last_of (Slot slot) (places_of all) ≡ None → get_or m.entries slot undefined ≡ undefined
+no_slot text m all h slot e =
+    ap (λ (m : MapValue). get_or m.entries slot undefined) h.spelled ∙ entry_of (definitions all) slot
+    ∙ ap (λ o. or_default o undefined) (none_said (of_slot slot) (Slot slot) (says_slot slot) all 0 e)
 
 pub accent_in_force : (text : List ℕ) (m : MapValue) (rows : List Row) → IsSpelledBy text m rows → (i : ℕ) (p : Placed)
     → last_of (Accent i) (places_of rows) ≡ Some p
@@ -240,8 +240,8 @@ accent_in_force text m rows h i p e =
     ∙ ap (λ k. take n (drop k (tokens text))) place in
     subst (λ (ts : List TokenValue). Defines (map item_of ts) (AccentDefinition i (get_or m.accents i blank))) there d
 
-pub no_accent : (text : List ℕ) (m : MapValue) (rows : List Row) → IsSpelledBy text m rows → (i : ℕ)
-    → last_of (Accent i) (places_of rows) ≡ None → get_or m.accents i blank ≡ blank
-no_accent text m rows h i e =
-    ap (λ (m : MapValue). get_or m.accents i blank) h.spelled ∙ accent_of (definitions rows) i
-    ∙ ap (λ o. or_default o blank) (none_said (of_index i) (Accent i) (says_index i) rows 0 e)
+pub no_accent : (text : List ℕ) (m : MapValue) (all : List Row) → IsSpelledBy text m all → (i : ℕ)
+    → last_of (Accent i) (places_of all) ≡ None → get_or m.accents i blank ≡ blank
+no_accent text m all h i e =
+    ap (λ (m : MapValue). get_or m.accents i blank) h.spelled ∙ accent_of (definitions all) i
+    ∙ ap (λ o. or_default o blank) (none_said (of_index i) (Accent i) (says_index i) all 0 e)

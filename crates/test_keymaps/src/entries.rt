@@ -1,8 +1,16 @@
-//! The keymaps as slots with their cells and lock flag.
+//! The keymaps as slots with their cells and lock flag. Where an action has a number its code stands for it.
 
 use keymap_core::{Action, Cell, Entry, Lock, LockFlag, Modifier};
 
 pub type Line = (u8, Entry);
+
+/// An accent: its index, its own character, and its pairs of a base and the result.
+#[derive(Clone, Copy, Debug)]
+pub struct NumberedAccent {
+    pub index: u8,
+    pub own: char,
+    pub pairs: &'static [(char, char)],
+}
 
 const NOP: Cell = Cell::Act(Action::Nop);
 
@@ -101,13 +109,28 @@ const SHIFT_KEY: Entry = Entry {
     flag: LockFlag::O,
 };
 
+const RIGHT_SHIFT_KEY: Entry = Entry {
+    cells: [Cell::Act(Action::Mod(Modifier::RightShift)); 8],
+    flag: LockFlag::O,
+};
+
 const CONTROL_KEY: Entry = Entry {
     cells: [LEFT_CONTROL; 8],
     flag: LockFlag::O,
 };
 
+const RIGHT_CONTROL_KEY: Entry = Entry {
+    cells: [RIGHT_CONTROL; 8],
+    flag: LockFlag::O,
+};
+
 const ALT_KEY: Entry = Entry {
     cells: [Cell::Act(Action::Mod(Modifier::LeftAlt)); 8],
+    flag: LockFlag::O,
+};
+
+const RIGHT_ALT_KEY: Entry = Entry {
+    cells: [Cell::Act(Action::Mod(Modifier::RightAlt)); 8],
     flag: LockFlag::O,
 };
 
@@ -297,7 +320,7 @@ pub const CAPS_LOCK_WITH_NOP: [Line; 2] = [(42, SHIFT_KEY), (58, CAPS_LOCK_KEY_W
 
 pub const SCROLL_LOCK_WITH_NOP: [Line; 1] = [(104, SCROLL_LOCK_KEY_WITH_NOP)];
 
-/// The keys of the map with accents but its dead keys and its function key.
+/// The keys of a keymap with accents, but its dead keys and its function key.
 pub const ACCENTS: [Line; 7] = [
     (15, TABS),
     (18, LETTER_E),
@@ -306,4 +329,83 @@ pub const ACCENTS: [Line; 7] = [
     (56, META_KEY),
     (57, BLANK),
     (92, NEXT_SCREEN),
+];
+
+/// Its dead keys, of an acute and a grave accent, and its function key: the slots and the codes of their actions.
+pub const ACCENT_CODES: [(u8, u8); 3] = [(26, 0x8a), (41, 0x89), (59, 0x1b)];
+
+/// An acute accent, whose third pair the first one hides; the grave one is undefined.
+pub const ACUTE: [NumberedAccent; 1] = [NumberedAccent {
+    index: 1,
+    own: '\u{b4}',
+    pairs: &[('e', '\u{e9}'), ('E', '\u{c9}'), ('e', '\u{ea}')],
+}];
+
+/// Dead keys of an acute accent and a macron.
+pub const MACRON_CODES: [(u8, u8); 2] = [(26, 0x8a), (40, 0x8d)];
+
+/// An acute accent, and a macron that is defined and has no character.
+pub const BLANK_MACRON: [NumberedAccent; 2] = [
+    NumberedAccent {
+        index: 1,
+        own: '\u{b4}',
+        pairs: &[],
+    },
+    NumberedAccent {
+        index: 4,
+        own: '\0',
+        pairs: &[],
+    },
+];
+
+/// Six modifiers with eight keys each, so that there are more than 500,000 ways to hold some of them.
+pub const MANY_MODIFIERS: [Line; 48] = [
+    (0, SHIFT_KEY),
+    (1, SHIFT_KEY),
+    (2, SHIFT_KEY),
+    (3, SHIFT_KEY),
+    (4, SHIFT_KEY),
+    (5, SHIFT_KEY),
+    (6, SHIFT_KEY),
+    (7, SHIFT_KEY),
+    (8, RIGHT_SHIFT_KEY),
+    (9, RIGHT_SHIFT_KEY),
+    (10, RIGHT_SHIFT_KEY),
+    (11, RIGHT_SHIFT_KEY),
+    (12, RIGHT_SHIFT_KEY),
+    (13, RIGHT_SHIFT_KEY),
+    (14, RIGHT_SHIFT_KEY),
+    (15, RIGHT_SHIFT_KEY),
+    (16, CONTROL_KEY),
+    (17, CONTROL_KEY),
+    (18, CONTROL_KEY),
+    (19, CONTROL_KEY),
+    (20, CONTROL_KEY),
+    (21, CONTROL_KEY),
+    (22, CONTROL_KEY),
+    (23, CONTROL_KEY),
+    (24, RIGHT_CONTROL_KEY),
+    (25, RIGHT_CONTROL_KEY),
+    (26, RIGHT_CONTROL_KEY),
+    (27, RIGHT_CONTROL_KEY),
+    (28, RIGHT_CONTROL_KEY),
+    (29, RIGHT_CONTROL_KEY),
+    (30, RIGHT_CONTROL_KEY),
+    (31, RIGHT_CONTROL_KEY),
+    (32, ALT_KEY),
+    (33, ALT_KEY),
+    (34, ALT_KEY),
+    (35, ALT_KEY),
+    (36, ALT_KEY),
+    (37, ALT_KEY),
+    (38, ALT_KEY),
+    (39, ALT_KEY),
+    (40, RIGHT_ALT_KEY),
+    (41, RIGHT_ALT_KEY),
+    (42, RIGHT_ALT_KEY),
+    (43, RIGHT_ALT_KEY),
+    (44, RIGHT_ALT_KEY),
+    (45, RIGHT_ALT_KEY),
+    (46, RIGHT_ALT_KEY),
+    (47, RIGHT_ALT_KEY),
 ];

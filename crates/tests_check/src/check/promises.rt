@@ -9,9 +9,10 @@ use std::alloc::Global;
 use std::process::Abort;
 use std::test::Fail;
 use test_keymaps::entries::{
-    CAPS_AND_NUM, LETTER_AND_SHIFT, SHIFT_AND_CAPS, SHIFT_WITHOUT_TRAP, UPPER_HALF,
+    ACCENT_CODES, ACCENTS, ACUTE, CAPS_AND_NUM, LETTER_AND_SHIFT, SHIFT_AND_CAPS,
+    SHIFT_WITHOUT_TRAP, UPPER_HALF,
 };
-use test_keymaps::{map_of, map_with_accents};
+use test_keymaps::{map_of, map_with};
 
 /// What the events so far leave of a key.
 #[derive(Clone, Copy)]
@@ -123,7 +124,7 @@ fn both_consoles_keep_the_promises(rt: HostRuntime) -> Result<(), Fail> {
     run(&rt, &map, &mut [30, 42].map(state_of))?;
     let map = map_of(rt.alloc(), &CAPS_AND_NUM)?;
     run(&rt, &map, &mut [30, 58, 69].map(state_of))?;
-    let map = map_with_accents(rt.alloc())?;
+    let map = map_with(rt.alloc(), &ACCENTS, &ACCENT_CODES, &ACUTE)?;
     run(
         &rt,
         &map,

@@ -11,10 +11,10 @@ use std::alloc::Global;
 use std::process::Abort;
 use std::test::Fail;
 use test_keymaps::entries::{
-    CAPS_AND_NUM, CAPS_LOCK_WITH_NOP, LETTER_AND_SHIFT, Line, SHIFT_AND_CAPS, TWO_CONTROLS,
-    TWO_SCROLL_LOCKS, TWO_SHIFTS, UPPER_HALF,
+    ACCENT_CODES, ACCENTS, ACUTE, BLANK_MACRON, CAPS_AND_NUM, CAPS_LOCK_WITH_NOP, LETTER_AND_SHIFT,
+    Line, MACRON_CODES, SHIFT_AND_CAPS, TWO_CONTROLS, TWO_SCROLL_LOCKS, TWO_SHIFTS, UPPER_HALF,
 };
-use test_keymaps::{map_of, map_with_accents, map_with_blank_macron};
+use test_keymaps::{map_of, map_with};
 
 // The codes of the actions.
 const LSHIFT: u8 = 0x02;
@@ -335,10 +335,10 @@ fn modifiers_and_locks(rt: HostRuntime) -> Result<(), Fail> {
 
 #[test]
 fn accents(rt: HostRuntime) -> Result<(), Fail> {
-    let map = map_with_accents(rt.alloc())?;
+    let map = map_with(rt.alloc(), &ACCENTS, &ACCENT_CODES, &ACUTE)?;
     deliver_to(&rt, &map, &ACCENT_AND_OTHER_KEYS)?;
     deliver_to(&rt, &map, &COMPOSITION)?;
-    let map = map_with_blank_macron(rt.alloc())?;
+    let map = map_with(rt.alloc(), &[], &MACRON_CODES, &BLANK_MACRON)?;
     deliver_to(&rt, &map, &UNUSABLE_DEAD_KEY)
 }
 
@@ -383,7 +383,7 @@ fn expect_raw<T: Translator>(rt: &impl Abort, console: &mut T) -> Result<(), Fai
 
 #[test]
 fn answers_as_numbers(rt: HostRuntime) -> Result<(), Fail> {
-    let map = map_with_accents(rt.alloc())?;
+    let map = map_with(rt.alloc(), &ACCENTS, &ACCENT_CODES, &ACUTE)?;
     expect_raw(&rt, &mut PlainConsole::new(&map))?;
     expect_raw(&rt, &mut WordConsole::new(&map))?;
     expect_equal(&rt, &Answer::Special(action(FKEY01)?).raw(), &0x8200_001b);
@@ -447,7 +447,7 @@ fn replays(rt: HostRuntime) -> Result<(), Fail> {
     let map = KeyMap::new(rt.alloc())?;
     expect_nul(&rt, rt.alloc(), &mut PlainConsole::new(&map))?;
     expect_nul(&rt, rt.alloc(), &mut WordConsole::new(&map))?;
-    let map = map_with_accents(rt.alloc())?;
+    let map = map_with(rt.alloc(), &ACCENTS, &ACCENT_CODES, &ACUTE)?;
     expect_dead_key(&rt, rt.alloc(), &mut PlainConsole::new(&map))?;
     expect_dead_key(&rt, rt.alloc(), &mut WordConsole::new(&map))
 }

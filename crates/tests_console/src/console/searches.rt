@@ -8,11 +8,12 @@ use std::alloc::Global;
 use std::process::Abort;
 use std::test::Fail;
 use test_keymaps::entries::{
-    ALT_LOCK_TO_NOTHING, ALT_SHIFT_WITH_TRAP, CAPS_ALONE, CAPS_AND_NUM, CAPS_LOCK_TO_NOTHING,
-    LETTER_AND_SHIFT, Line, REMEMBERED_BUT_HELD_BY_ANOTHER, SHIFT_AND_CAPS, SHIFT_WITH_TRAP,
-    STICKS_UNDER_CAPS, TWO_CONTROLS, TWO_SCROLL_LOCKS, UPPER_HALF, WOULD_STICK_UNDER_CAPS,
+    ACCENT_CODES, ACCENTS, ACUTE, ALT_LOCK_TO_NOTHING, ALT_SHIFT_WITH_TRAP, CAPS_ALONE,
+    CAPS_AND_NUM, CAPS_LOCK_TO_NOTHING, LETTER_AND_SHIFT, Line, MANY_MODIFIERS,
+    REMEMBERED_BUT_HELD_BY_ANOTHER, SHIFT_AND_CAPS, SHIFT_WITH_TRAP, STICKS_UNDER_CAPS,
+    TWO_CONTROLS, TWO_SCROLL_LOCKS, UPPER_HALF, WOULD_STICK_UNDER_CAPS,
 };
-use test_keymaps::{map_of, map_of_many_modifiers, map_with_accents};
+use test_keymaps::{map_of, map_with};
 
 /// Asserts that a shortest list that leaves a modifier on has so many presses and events, and what is on after it.
 fn expect_sticks(
@@ -104,12 +105,13 @@ fn accepted_maps_never_stick(rt: HostRuntime) -> Result<(), Fail> {
         expect_never(&rt, rt.alloc(), &map_of(rt.alloc(), lines)?)?;
     }
     expect_never(&rt, rt.alloc(), &KeyMap::new(rt.alloc())?)?;
-    expect_never(&rt, rt.alloc(), &map_with_accents(rt.alloc())?)
+    let accents = map_with(rt.alloc(), &ACCENTS, &ACCENT_CODES, &ACUTE)?;
+    expect_never(&rt, rt.alloc(), &accents)
 }
 
 #[test]
 fn a_map_of_too_many_states_is_undecided(rt: HostRuntime) -> Result<(), Fail> {
-    match sticking(rt.alloc(), &map_of_many_modifiers(rt.alloc())?)? {
+    match sticking(rt.alloc(), &map_of(rt.alloc(), &MANY_MODIFIERS)?)? {
         Sticking::Undecided(_) => {}
         Sticking::Sticks(_) | Sticking::Never => assert!(rt; false),
     }
@@ -188,7 +190,7 @@ fn between_a_map_and_itself_sticks_what_sticks_alone(rt: HostRuntime) -> Result<
 
 #[test]
 fn maps_of_too_many_states_between_them_are_undecided(rt: HostRuntime) -> Result<(), Fail> {
-    let many = map_of_many_modifiers(rt.alloc())?;
+    let many = map_of(rt.alloc(), &MANY_MODIFIERS)?;
     let empty = KeyMap::new(rt.alloc())?;
     match sticking_between(rt.alloc(), &empty, &many)? {
         Sticking::Undecided(_) => {}

@@ -10,8 +10,8 @@ use std::alloc::Global;
 use std::process::Abort;
 use std::test::Fail;
 use test_devices::{comparing_with, endless_blanks, reader_of, sheet_of};
-use test_keymaps::entries::LETTER_AND_SHIFT;
-use test_keymaps::{Named, empty_map, map_of, named_map};
+use test_keymaps::entries::{ACCENT_CODES, ACCENTS, ACUTE, LETTER_AND_SHIFT};
+use test_keymaps::{empty_map, map_of, map_with};
 
 /// What a read answers, the second time where it wants memory the first time.
 pub(crate) fn read_again(alloc: Global, form: Form, bytes: &[u8]) -> Result<KeyMap, TableError> {
@@ -234,12 +234,12 @@ fn is_read_exactly(alloc: Global, form: Form, bytes: &[u8]) -> Result<bool, Tabl
 fn stays_exact(
     rt: &HostRuntime,
     form: Form,
-    name: Named,
+    map: &KeyMap,
     step: u8,
     mask: u8,
 ) -> Result<bool, Fail> {
     let mut sheet = sheet_of(LENGTH);
-    form.write(&named_map(rt.alloc(), name)?, &mut sheet)?;
+    form.write(map, &mut sheet)?;
     let mut bytes = zero_bytes(rt.alloc(), form.length())?;
     for (place, byte) in sheet.bytes.as_slice().iter().enumerate() {
         if let Some(copy) = bytes.get_mut(place) {
@@ -262,13 +262,15 @@ fn stays_exact(
 
 #[test]
 fn each_byte_plus_one_is_a_fault_or_another_map(rt: HostRuntime) -> Result<(), Fail> {
-    assert!(rt; stays_exact(&rt, Form::Wide, Named::LetterAndShift, 1, 0)?);
+    let map = map_of(rt.alloc(), &LETTER_AND_SHIFT)?;
+    assert!(rt; stays_exact(&rt, Form::Wide, &map, 1, 0)?);
     Ok(())
 }
 
 #[test]
 fn each_turned_top_bit_is_a_fault_or_another_map(rt: HostRuntime) -> Result<(), Fail> {
-    assert!(rt; stays_exact(&rt, Form::Wide, Named::LetterAndShift, 0, 0x80)?);
+    let map = map_of(rt.alloc(), &LETTER_AND_SHIFT)?;
+    assert!(rt; stays_exact(&rt, Form::Wide, &map, 0, 0x80)?);
     Ok(())
 }
 
@@ -276,8 +278,9 @@ fn each_turned_top_bit_is_a_fault_or_another_map(rt: HostRuntime) -> Result<(), 
 fn each_changed_byte_of_a_narrow_file_is_a_fault_or_another_map(
     rt: HostRuntime,
 ) -> Result<(), Fail> {
+    let map = map_with(rt.alloc(), &ACCENTS, &ACCENT_CODES, &ACUTE)?;
     for (step, mask) in [(1, 0), (0, 0x80)] {
-        assert!(rt; stays_exact(&rt, Form::Narrow, Named::Accents, step, mask)?);
+        assert!(rt; stays_exact(&rt, Form::Narrow, &map, step, mask)?);
     }
     Ok(())
 }

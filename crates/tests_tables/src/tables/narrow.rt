@@ -3,15 +3,17 @@
 use crate::asserts::{expect_at, expect_equal};
 use crate::tables::both::{Changed, expect_faults, read_again, read_device_again};
 use crate::tables::{Form, LENGTH, NARROW_LENGTH, settled};
-use keymap_core::{Accent, Cell, Entry, KeyMap, LockFlag, Write};
+use keymap_core::{
+    Accent, Action, Cell, Entry, FunctionNumber, KeyMap, LockFlag, ScreenNumber, Write,
+};
 use keymap_tables::{
     NarrowError, TableFaultKind, Wide, read_narrow, read_tables, write_narrow, write_tables,
 };
 use std::alloc::Global;
 use std::test::Fail;
 use test_devices::sheet_of;
-use test_keymaps::entries::LETTER_AND_SHIFT;
-use test_keymaps::{NAMED, Named, acting, empty_map, map_of, named_map};
+use test_keymaps::entries::{ACCENT_CODES, ACCENTS, ACUTE, LETTER_AND_SHIFT, Line};
+use test_keymaps::{empty_map, entries, map_of, map_with};
 
 #[test]
 fn a_map_of_a_letter_and_a_shift_has_its_bytes(rt: HostRuntime) -> Result<(), Fail> {
@@ -34,7 +36,7 @@ fn a_map_of_a_letter_and_a_shift_has_its_bytes(rt: HostRuntime) -> Result<(), Fa
 
 #[test]
 fn accents_have_their_bytes(rt: HostRuntime) -> Result<(), Fail> {
-    let map = named_map(rt.alloc(), Named::Accents)?;
+    let map = map_with(rt.alloc(), &ACCENTS, &ACCENT_CODES, &ACUTE)?;
     let mut sheet = sheet_of(LENGTH);
     write_narrow(&map, &mut sheet)?;
     let bytes = sheet.bytes.as_slice();
@@ -70,27 +72,27 @@ fn each_fault_is_at_its_offset(rt: HostRuntime) -> Result<(), Fail> {
 }
 
 /// A key of letters, control characters, the first function key and the last screen, the sign of the euro in column 6.
-fn key_with_euro() -> Result<Entry, &'static str> {
-    Ok(Entry {
+fn key_with_euro() -> Entry {
+    Entry {
         cells: [
             Cell::Char('a'),
             Cell::Char('A'),
             Cell::Char('\u{1}'),
             Cell::Char('\u{1}'),
-            acting(0x1b)?,
-            acting(0x1a)?,
+            Cell::Act(Action::Function(FunctionNumber::new(1))),
+            Cell::Act(Action::Screen(ScreenNumber::new(16))),
             Cell::Char('\u{20ac}'),
             Cell::Char('\u{7f}'),
         ],
         flag: LockFlag::B,
-    })
+    }
 }
 
 #[test]
 fn the_first_cell_that_does_not_fit_is_named(rt: HostRuntime) -> Result<(), Fail> {
     let mut map = map_of(rt.alloc(), &LETTER_AND_SHIFT)?;
-    map.set(0, key_with_euro()?);
-    map.set(7, key_with_euro()?);
+    map.set(0, key_with_euro());
+    map.set(7, key_with_euro());
     map.set_accent(1, Accent::new('\u{20ac}'))?;
     let mut sheet = sheet_of(LENGTH);
     let wide = Wide::Cell { slot: 0, column: 6 };
@@ -145,7 +147,7 @@ fn the_first_character_of_an_accent_that_does_not_fit_is_named(
 }
 
 /// A map of one key with this character in its last column.
-fn map_with(alloc: Global, character: char) -> Result<KeyMap, Fail> {
+fn map_of_character(alloc: Global, character: char) -> Result<KeyMap, Fail> {
     let mut map = empty_map(alloc)?;
     let mut cells = [Cell::Char('a'); 8];
     cells[7] = Cell::Char(character);
@@ -156,12 +158,12 @@ fn map_with(alloc: Global, character: char) -> Result<KeyMap, Fail> {
 
 #[test]
 fn character_255_fits_and_256_does_not(rt: HostRuntime) -> Result<(), Fail> {
-    let fitting = map_with(rt.alloc(), '\u{ff}')?;
+    let fitting = map_of_character(rt.alloc(), '\u{ff}')?;
     let mut sheet = sheet_of(LENGTH);
     write_narrow(&fitting, &mut sheet)?;
     expect_equal(&rt, &sheet.bytes.as_slice().get(2559), &Some(&0xff));
     assert!(rt; read_again(rt.alloc(), Form::Narrow, sheet.bytes.as_slice())? == fitting);
-    let wide = map_with(rt.alloc(), '\u{100}')?;
+    let wide = map_of_character(rt.alloc(), '\u{100}')?;
     let place = Wide::Cell {
         slot: 255,
         column: 7,
@@ -174,20 +176,38 @@ fn character_255_fits_and_256_does_not(rt: HostRuntime) -> Result<(), Fail> {
     Ok(())
 }
 
-/// A wide file, its map as a narrow file, and that map as a wide file again.
+/// Whether a map's wide file becomes a narrow one, and that the same wide file again.
+fn comes_back(alloc: Global, map: &KeyMap) -> Result<bool, Fail> {
+    let mut old = sheet_of(LENGTH);
+    write_tables(map, &mut old)?;
+    let map = settled(read_tables(alloc, old.bytes.as_slice()))??;
+    let mut narrow = sheet_of(NARROW_LENGTH);
+    write_narrow(&map, &mut narrow)?;
+    let back = settled(read_narrow(alloc, narrow.bytes.as_slice()))??;
+    let mut new = sheet_of(LENGTH);
+    write_tables(&back, &mut new)?;
+    let is_whole = narrow.bytes.len() == NARROW_LENGTH;
+    Ok(is_whole && new.bytes.as_slice() == old.bytes.as_slice())
+}
+
 #[test]
 fn wide_files_become_narrow_and_come_back(rt: HostRuntime) -> Result<(), Fail> {
-    for name in NAMED {
-        let mut old = sheet_of(LENGTH);
-        write_tables(&named_map(rt.alloc(), name)?, &mut old)?;
-        let map = settled(read_tables(rt.alloc(), old.bytes.as_slice()))??;
-        let mut narrow = sheet_of(NARROW_LENGTH);
-        write_narrow(&map, &mut narrow)?;
-        expect_equal(&rt, &narrow.bytes.len(), &NARROW_LENGTH);
-        let back = settled(read_narrow(rt.alloc(), narrow.bytes.as_slice()))??;
-        let mut new = sheet_of(LENGTH);
-        write_tables(&back, &mut new)?;
-        expect_at(&rt, &name, new.bytes.as_slice() == old.bytes.as_slice());
+    let rows: [&[Line]; 9] = [
+        &[],
+        &LETTER_AND_SHIFT,
+        &entries::TWO_SCROLL_LOCKS,
+        &entries::SHIFT_WITH_TRAP,
+        &entries::ALT_SHIFT_WITH_TRAP,
+        &entries::CAPS_AND_NUM,
+        &entries::TWO_CONTROLS,
+        &entries::UPPER_HALF,
+        &entries::SHIFT_AND_CAPS,
+    ];
+    for lines in rows {
+        let map = map_of(rt.alloc(), lines)?;
+        expect_at(&rt, &lines, comes_back(rt.alloc(), &map)?);
     }
+    let accents = map_with(rt.alloc(), &ACCENTS, &ACCENT_CODES, &ACUTE)?;
+    assert!(rt; comes_back(rt.alloc(), &accents)?);
     Ok(())
 }

@@ -9,8 +9,9 @@ use keymap_text::{MapReader, TextError, TextFault, TextFaultKind, print_map, rea
 use std::alloc::Global;
 use std::process::Abort;
 use std::test::Fail;
+use test_keymaps::entries::{ACCENT_CODES, ACUTE, Line};
 use test_keymaps::texts::{ACCENTS, LETTER_AND_SHIFT, UPPER_HALF};
-use test_keymaps::{NAMED, named_map, text_of};
+use test_keymaps::{entries, map_of, map_with, texts};
 
 #[test]
 fn the_empty_text_is_the_map_of_no_keys(rt: HostRuntime) -> Result<(), Fail> {
@@ -105,11 +106,24 @@ fn dumped_lines_are_read(rt: HostRuntime) -> Result<(), Fail> {
 
 /// So a test may take a keymap as a text or as the map that is built by hand.
 #[test]
-fn named_texts_are_read_as_the_named_maps(rt: HostRuntime) -> Result<(), Fail> {
-    for name in NAMED {
-        let map = settled(read_map(rt.alloc(), text_of(name)))??;
-        expect_at(&rt, &name, map == named_map(rt.alloc(), name)?);
+fn texts_are_read_as_the_maps_built_by_hand(rt: HostRuntime) -> Result<(), Fail> {
+    let rows: [(&[u8], &[Line]); 9] = [
+        (b"", &[]),
+        (LETTER_AND_SHIFT, &entries::LETTER_AND_SHIFT),
+        (texts::TWO_SCROLL_LOCKS, &entries::TWO_SCROLL_LOCKS),
+        (texts::SHIFT_WITH_TRAP, &entries::SHIFT_WITH_TRAP),
+        (texts::ALT_SHIFT_WITH_TRAP, &entries::ALT_SHIFT_WITH_TRAP),
+        (texts::CAPS_AND_NUM, &entries::CAPS_AND_NUM),
+        (texts::TWO_CONTROLS, &entries::TWO_CONTROLS),
+        (UPPER_HALF, &entries::UPPER_HALF),
+        (texts::SHIFT_AND_CAPS, &entries::SHIFT_AND_CAPS),
+    ];
+    for (text, lines) in rows {
+        let map = settled(read_map(rt.alloc(), text))??;
+        expect_at(&rt, &text, map == map_of(rt.alloc(), lines)?);
     }
+    let built = map_with(rt.alloc(), &entries::ACCENTS, &ACCENT_CODES, &ACUTE)?;
+    assert!(rt; settled(read_map(rt.alloc(), ACCENTS))?? == built);
     Ok(())
 }
 

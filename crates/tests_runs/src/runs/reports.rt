@@ -1,7 +1,7 @@
 //! The reports of the check.
 
 use crate::asserts::{expect_at, expect_equal};
-use crate::runs::{ENDLESS, READS, settled, stopped, written};
+use crate::runs::{ENDLESS, READS, expect_failed, expect_written, settled, stopped};
 use keymap_core::{Read, Write};
 use keymap_text::{TextFault, TextFaultKind};
 use kmap_runs::{RunError, check_run};
@@ -101,9 +101,8 @@ fn reports_are_as_published(rt: HostRuntime) -> Result<(), Fail> {
         let mut reader = reader_of(text, 1, usize::MAX);
         let mut writer = slow_sheet_of(1, usize::MAX);
         let answer = check_run(rt.alloc(), &mut reader, show, &mut writer);
-        expect_equal(&rt, &settled(answer, &writer)?, &Ok(accepted));
-        expect_equal(&rt, &writer.bytes.as_slice(), &report);
-        assert!(rt; !reader.failed() && !writer.failed());
+        expect_written(&rt, answer, &writer, accepted, report)?;
+        assert!(rt; !reader.failed());
     }
     Ok(())
 }
@@ -142,8 +141,7 @@ fn faults_of_a_text_are_answered(rt: HostRuntime) -> Result<(), Fail> {
     let mut reader = reader_of(b"1 'ab'", 1, usize::MAX);
     let mut writer = slow_sheet_of(1, usize::MAX);
     let answer = check_run(rt.alloc(), &mut reader, false, &mut writer);
-    expect_equal(&rt, &settled(answer, &writer)?, &Err(RunError::Text(fault)));
-    assert!(rt; writer.bytes.is_empty() && !writer.failed());
+    expect_failed(&rt, answer, &writer, RunError::Text(fault))?;
     Ok(())
 }
 
@@ -152,10 +150,8 @@ fn a_text_without_end_is_a_fault(rt: HostRuntime) -> Result<(), Fail> {
     let mut reader = endless_blanks();
     let mut writer = slow_sheet_of(1, usize::MAX);
     let answer = check_run(rt.alloc(), &mut reader, true, &mut writer);
-    let wanted = Err(RunError::ReadText(ENDLESS));
-    expect_equal(&rt, &settled(answer, &writer)?, &wanted);
+    expect_failed(&rt, answer, &writer, RunError::ReadText(ENDLESS))?;
     assert!(rt; reader.reads <= READS && !reader.failed());
-    assert!(rt; writer.bytes.is_empty() && !writer.failed());
     Ok(())
 }
 
@@ -165,9 +161,8 @@ fn a_text_that_stops_is_a_fault(rt: HostRuntime) -> Result<(), Fail> {
         let mut reader = reader_of(LETTER_AND_SHIFT, 1, most);
         let mut writer = slow_sheet_of(1, usize::MAX);
         let answer = check_run(rt.alloc(), &mut reader, false, &mut writer);
-        let wanted = Err(RunError::ReadText(stopped(most)));
-        expect_equal(&rt, &settled(answer, &writer)?, &wanted);
-        assert!(rt; reader.failed() && writer.bytes.is_empty() && !writer.failed());
+        expect_failed(&rt, answer, &writer, RunError::ReadText(stopped(most)))?;
+        assert!(rt; reader.failed());
     }
     Ok(())
 }
@@ -179,13 +174,7 @@ fn a_report_that_stops_is_a_fault(rt: HostRuntime) -> Result<(), Fail> {
         let mut reader = reader_of(SHIFT_WITH_TRAP, 1, usize::MAX);
         let mut writer = slow_sheet_of(1, most);
         let answer = check_run(rt.alloc(), &mut reader, true, &mut writer);
-        expect_equal(&rt, &settled(answer, &writer)?, &written(false, most, size));
-        expect_equal(
-            &rt,
-            &writer.bytes.as_slice(),
-            &&SHOWN_SHIFT_WITH_TRAP[..most],
-        );
-        expect_equal(&rt, &writer.failed(), &(most < size));
+        expect_written(&rt, answer, &writer, false, SHOWN_SHIFT_WITH_TRAP)?;
     }
     Ok(())
 }

@@ -1,7 +1,6 @@
 //! What the search for sticking modifiers writes.
 
-use crate::asserts::expect_equal;
-use crate::runs::{ENDLESS, READS, settled, stopped, written};
+use crate::runs::{ENDLESS, READS, expect_failed, expect_written, stopped};
 use keymap_core::{Read, Write};
 use keymap_text::{TextFault, TextFaultKind};
 use kmap_runs::{RunError, search_next_run, search_run};
@@ -44,13 +43,7 @@ fn what_is_found_is_written_as_a_script(rt: HostRuntime) -> Result<(), Fail> {
             let mut reader = reader_of(text, 7, usize::MAX);
             let mut writer = slow_sheet_of(1, most);
             let answer = search_run(rt.alloc(), &mut reader, &mut writer);
-            expect_equal(
-                &rt,
-                &settled(answer, &writer)?,
-                &written(never, most, script.len()),
-            );
-            expect_equal(&rt, &writer.bytes.as_slice(), &&script[..most]);
-            expect_equal(&rt, &writer.failed(), &(most < script.len()));
+            expect_written(&rt, answer, &writer, never, script)?;
         }
     }
     Ok(())
@@ -66,8 +59,7 @@ fn a_faulty_text_is_not_searched(rt: HostRuntime) -> Result<(), Fail> {
     let mut reader = reader_of(b"1 '", 1, usize::MAX);
     let mut writer = slow_sheet_of(1, usize::MAX);
     let answer = search_run(rt.alloc(), &mut reader, &mut writer);
-    expect_equal(&rt, &settled(answer, &writer)?, &Err(RunError::Text(fault)));
-    assert!(rt; writer.bytes.is_empty() && !writer.failed());
+    expect_failed(&rt, answer, &writer, RunError::Text(fault))?;
     Ok(())
 }
 
@@ -76,10 +68,8 @@ fn a_text_without_end_is_not_searched(rt: HostRuntime) -> Result<(), Fail> {
     let mut reader = endless_blanks();
     let mut writer = slow_sheet_of(1, usize::MAX);
     let answer = search_run(rt.alloc(), &mut reader, &mut writer);
-    let wanted = Err(RunError::ReadText(ENDLESS));
-    expect_equal(&rt, &settled(answer, &writer)?, &wanted);
+    expect_failed(&rt, answer, &writer, RunError::ReadText(ENDLESS))?;
     assert!(rt; reader.reads <= READS && !reader.failed());
-    assert!(rt; writer.bytes.is_empty() && !writer.failed());
     Ok(())
 }
 
@@ -89,9 +79,8 @@ fn a_text_that_stops_is_not_searched(rt: HostRuntime) -> Result<(), Fail> {
         let mut reader = reader_of(LETTER_AND_SHIFT, usize::MAX, most);
         let mut writer = slow_sheet_of(1, usize::MAX);
         let answer = search_run(rt.alloc(), &mut reader, &mut writer);
-        let wanted = Err(RunError::ReadText(stopped(most)));
-        expect_equal(&rt, &settled(answer, &writer)?, &wanted);
-        assert!(rt; reader.failed() && writer.bytes.is_empty() && !writer.failed());
+        expect_failed(&rt, answer, &writer, RunError::ReadText(stopped(most)))?;
+        assert!(rt; reader.failed());
     }
     Ok(())
 }
@@ -121,13 +110,7 @@ fn what_is_found_between_two_is_written_as_a_script(rt: HostRuntime) -> Result<(
             let mut next = reader_of(second, 5, usize::MAX);
             let mut writer = slow_sheet_of(1, most);
             let answer = search_next_run(rt.alloc(), &mut text, &mut next, &mut writer);
-            expect_equal(
-                &rt,
-                &settled(answer, &writer)?,
-                &written(never, most, script.len()),
-            );
-            expect_equal(&rt, &writer.bytes.as_slice(), &&script[..most]);
-            expect_equal(&rt, &writer.failed(), &(most < script.len()));
+            expect_written(&rt, answer, &writer, never, script)?;
         }
     }
     Ok(())
@@ -148,8 +131,7 @@ fn the_first_fault_of_two_texts_is_told(rt: HostRuntime) -> Result<(), Fail> {
         let mut next = reader_of(b"1 '", 1, usize::MAX);
         let mut writer = slow_sheet_of(1, usize::MAX);
         let answer = search_next_run(rt.alloc(), &mut text, &mut next, &mut writer);
-        expect_equal(&rt, &settled(answer, &writer)?, &Err(wanted));
-        assert!(rt; writer.bytes.is_empty() && !writer.failed());
+        expect_failed(&rt, answer, &writer, wanted)?;
     }
     Ok(())
 }
@@ -161,10 +143,8 @@ fn a_next_text_that_stops_is_not_searched(rt: HostRuntime) -> Result<(), Fail> {
         let mut next = reader_of(LOCK, usize::MAX, most);
         let mut writer = slow_sheet_of(1, usize::MAX);
         let answer = search_next_run(rt.alloc(), &mut text, &mut next, &mut writer);
-        let wanted = Err(RunError::ReadNext(stopped(most)));
-        expect_equal(&rt, &settled(answer, &writer)?, &wanted);
+        expect_failed(&rt, answer, &writer, RunError::ReadNext(stopped(most)))?;
         assert!(rt; !text.failed() && next.failed());
-        assert!(rt; writer.bytes.is_empty() && !writer.failed());
     }
     Ok(())
 }

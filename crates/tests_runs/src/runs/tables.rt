@@ -1,7 +1,7 @@
 //! Tables that are printed.
 
 use crate::asserts::expect_equal;
-use crate::runs::{settled, stopped, written};
+use crate::runs::{expect_failed, expect_written, stopped};
 use keymap_core::{Read, Write};
 use keymap_tables::{TableFault, TableFaultKind, write_narrow, write_tables};
 use keymap_text::read_map;
@@ -26,8 +26,7 @@ fn tables_of_zeros_print_as_nothing(rt: HostRuntime) -> Result<(), Fail> {
     let mut reader = reader_of(&[0; TABLES], 1, usize::MAX);
     let mut writer = slow_sheet_of(1, 0);
     let answer = dump_run(rt.alloc(), &mut reader, &mut writer);
-    expect_equal(&rt, &settled(answer, &writer)?, &Ok(()));
-    assert!(rt; writer.bytes.is_empty() && !writer.failed());
+    expect_written(&rt, answer, &writer, (), b"")?;
     Ok(())
 }
 
@@ -41,12 +40,7 @@ fn faults_of_tables_are_answered(rt: HostRuntime) -> Result<(), Fail> {
     let mut reader = reader_of(&tables, 1, usize::MAX);
     let mut writer = slow_sheet_of(1, usize::MAX);
     let answer = dump_run(rt.alloc(), &mut reader, &mut writer);
-    expect_equal(
-        &rt,
-        &settled(answer, &writer)?,
-        &Err(RunError::Tables(fault)),
-    );
-    assert!(rt; writer.bytes.is_empty() && !writer.failed());
+    expect_failed(&rt, answer, &writer, RunError::Tables(fault))?;
     Ok(())
 }
 
@@ -57,9 +51,8 @@ fn tables_that_stop_are_a_fault(rt: HostRuntime) -> Result<(), Fail> {
         let mut reader = reader_of(&tables, usize::MAX, most);
         let mut writer = slow_sheet_of(1, usize::MAX);
         let answer = dump_run(rt.alloc(), &mut reader, &mut writer);
-        let wanted = Err(RunError::ReadTables(stopped(most)));
-        expect_equal(&rt, &settled(answer, &writer)?, &wanted);
-        assert!(rt; reader.failed() && writer.bytes.is_empty() && !writer.failed());
+        expect_failed(&rt, answer, &writer, RunError::ReadTables(stopped(most)))?;
+        assert!(rt; reader.failed());
     }
     Ok(())
 }
@@ -73,13 +66,8 @@ fn tables_without_end_are_a_fault(rt: HostRuntime) -> Result<(), Fail> {
     let mut reader = endless_blanks();
     let mut writer = slow_sheet_of(1, usize::MAX);
     let answer = dump_run(rt.alloc(), &mut reader, &mut writer);
-    expect_equal(
-        &rt,
-        &settled(answer, &writer)?,
-        &Err(RunError::Tables(fault)),
-    );
+    expect_failed(&rt, answer, &writer, RunError::Tables(fault))?;
     assert!(rt; reader.reads <= 15_526 && !reader.failed());
-    assert!(rt; writer.bytes.is_empty() && !writer.failed());
     Ok(())
 }
 
@@ -94,13 +82,7 @@ fn tables_print_as_their_map(rt: HostRuntime) -> Result<(), Fail> {
         let mut reader = reader_of(tables.bytes.as_slice(), 1, usize::MAX);
         let mut writer = slow_sheet_of(1, most);
         let answer = dump_run(rt.alloc(), &mut reader, &mut writer);
-        expect_equal(
-            &rt,
-            &settled(answer, &writer)?,
-            &written((), most, PRINTED.len()),
-        );
-        expect_equal(&rt, &writer.bytes.as_slice(), &&PRINTED[..most]);
-        expect_equal(&rt, &writer.failed(), &(most < PRINTED.len()));
+        expect_written(&rt, answer, &writer, (), PRINTED)?;
     }
     Ok(())
 }
@@ -135,13 +117,7 @@ fn narrow_files_print_as_their_map(rt: HostRuntime) -> Result<(), Fail> {
         let mut reader = reader_of(narrow.bytes.as_slice(), 512, usize::MAX);
         let mut writer = slow_sheet_of(1, most);
         let answer = dump_narrow_run(rt.alloc(), &mut reader, &mut writer);
-        expect_equal(
-            &rt,
-            &settled(answer, &writer)?,
-            &written((), most, printed.len()),
-        );
-        expect_equal(&rt, &writer.bytes.as_slice(), &&printed.as_slice()[..most]);
-        expect_equal(&rt, &writer.failed(), &(most < printed.len()));
+        expect_written(&rt, answer, &writer, (), printed.as_slice())?;
     }
     Ok(())
 }
@@ -152,9 +128,8 @@ fn narrow_files_that_stop_are_a_fault(rt: HostRuntime) -> Result<(), Fail> {
         let mut reader = reader_of(&[0; NARROW], usize::MAX, most);
         let mut writer = slow_sheet_of(1, usize::MAX);
         let answer = dump_narrow_run(rt.alloc(), &mut reader, &mut writer);
-        let wanted = Err(RunError::ReadTables(stopped(most)));
-        expect_equal(&rt, &settled(answer, &writer)?, &wanted);
-        assert!(rt; reader.failed() && writer.bytes.is_empty() && !writer.failed());
+        expect_failed(&rt, answer, &writer, RunError::ReadTables(stopped(most)))?;
+        assert!(rt; reader.failed());
     }
     Ok(())
 }
@@ -168,13 +143,8 @@ fn narrow_files_without_end_are_a_fault(rt: HostRuntime) -> Result<(), Fail> {
     let mut reader = endless_blanks();
     let mut writer = slow_sheet_of(1, usize::MAX);
     let answer = dump_narrow_run(rt.alloc(), &mut reader, &mut writer);
-    expect_equal(
-        &rt,
-        &settled(answer, &writer)?,
-        &Err(RunError::Tables(fault)),
-    );
+    expect_failed(&rt, answer, &writer, RunError::Tables(fault))?;
     assert!(rt; reader.reads <= 4_141 && !reader.failed());
-    assert!(rt; writer.bytes.is_empty() && !writer.failed());
     Ok(())
 }
 
@@ -187,11 +157,6 @@ fn tables_are_no_narrow_file(rt: HostRuntime) -> Result<(), Fail> {
     let mut reader = reader_of(&[0; TABLES], 512, usize::MAX);
     let mut writer = slow_sheet_of(1, usize::MAX);
     let answer = dump_narrow_run(rt.alloc(), &mut reader, &mut writer);
-    expect_equal(
-        &rt,
-        &settled(answer, &writer)?,
-        &Err(RunError::Tables(fault)),
-    );
-    assert!(rt; writer.bytes.is_empty());
+    expect_failed(&rt, answer, &writer, RunError::Tables(fault))?;
     Ok(())
 }

@@ -1,7 +1,6 @@
 //! The scripts that type sentences.
 
-use crate::asserts::expect_equal;
-use crate::runs::{ENDLESS, READS, settled, stopped, written};
+use crate::runs::{ENDLESS, READS, expect_failed, expect_written, stopped};
 use keymap_core::{Read, Write};
 use keymap_text::{TextFault, TextFaultKind};
 use kmap_runs::{RunError, type_run};
@@ -37,13 +36,7 @@ fn a_sentence_is_written_as_a_script(rt: HostRuntime) -> Result<(), Fail> {
             let mut bytes = reader_of(sentence, 1, usize::MAX);
             let mut writer = slow_sheet_of(1, most);
             let answer = type_run(rt.alloc(), &mut reader, &mut bytes, &mut writer);
-            expect_equal(
-                &rt,
-                &settled(answer, &writer)?,
-                &written((), most, script.len()),
-            );
-            expect_equal(&rt, &writer.bytes.as_slice(), &&script[..most]);
-            expect_equal(&rt, &writer.failed(), &(most < script.len()));
+            expect_written(&rt, answer, &writer, (), script)?;
         }
     }
     Ok(())
@@ -64,8 +57,7 @@ fn a_sentence_that_no_key_types_is_a_fault(rt: HostRuntime) -> Result<(), Fail> 
         let mut bytes = reader_of(sentence, 64, usize::MAX);
         let mut writer = slow_sheet_of(1, usize::MAX);
         let answer = type_run(rt.alloc(), &mut reader, &mut bytes, &mut writer);
-        expect_equal(&rt, &settled(answer, &writer)?, &Err(fault));
-        assert!(rt; writer.bytes.is_empty() && !writer.failed());
+        expect_failed(&rt, answer, &writer, fault)?;
     }
     Ok(())
 }
@@ -85,8 +77,8 @@ fn a_faulty_text_types_nothing(rt: HostRuntime) -> Result<(), Fail> {
         &mut bytes,
         &mut writer,
     );
-    expect_equal(&rt, &settled(answer, &writer)?, &Err(RunError::Text(fault)));
-    assert!(rt; !bytes.failed() && writer.bytes.is_empty() && !writer.failed());
+    expect_failed(&rt, answer, &writer, RunError::Text(fault))?;
+    assert!(rt; !bytes.failed());
     Ok(())
 }
 
@@ -97,9 +89,8 @@ fn a_sentence_that_stops_types_nothing(rt: HostRuntime) -> Result<(), Fail> {
         let mut bytes = reader_of(b"aAa", usize::MAX, most);
         let mut writer = slow_sheet_of(1, usize::MAX);
         let answer = type_run(rt.alloc(), &mut reader, &mut bytes, &mut writer);
-        let wanted = Err(RunError::ReadSentence(stopped(most)));
-        expect_equal(&rt, &settled(answer, &writer)?, &wanted);
-        assert!(rt; bytes.failed() && !reader.failed() && writer.bytes.is_empty());
+        expect_failed(&rt, answer, &writer, RunError::ReadSentence(stopped(most)))?;
+        assert!(rt; bytes.failed() && !reader.failed());
     }
     Ok(())
 }
@@ -111,9 +102,8 @@ fn a_text_that_stops_types_nothing(rt: HostRuntime) -> Result<(), Fail> {
         let mut bytes = reader_of(b"a", 1, 0);
         let mut writer = slow_sheet_of(1, usize::MAX);
         let answer = type_run(rt.alloc(), &mut reader, &mut bytes, &mut writer);
-        let wanted = Err(RunError::ReadText(stopped(most)));
-        expect_equal(&rt, &settled(answer, &writer)?, &wanted);
-        assert!(rt; reader.failed() && !bytes.failed() && writer.bytes.is_empty());
+        expect_failed(&rt, answer, &writer, RunError::ReadText(stopped(most)))?;
+        assert!(rt; reader.failed() && !bytes.failed());
     }
     Ok(())
 }
@@ -124,10 +114,8 @@ fn a_sentence_without_end_types_nothing(rt: HostRuntime) -> Result<(), Fail> {
     let mut sentence = endless_blanks();
     let mut writer = slow_sheet_of(1, usize::MAX);
     let answer = type_run(rt.alloc(), &mut reader, &mut sentence, &mut writer);
-    let wanted = Err(RunError::ReadSentence(ENDLESS));
-    expect_equal(&rt, &settled(answer, &writer)?, &wanted);
+    expect_failed(&rt, answer, &writer, RunError::ReadSentence(ENDLESS))?;
     assert!(rt; sentence.reads <= READS && !sentence.failed());
-    assert!(rt; writer.bytes.is_empty() && !writer.failed());
     Ok(())
 }
 
@@ -137,9 +125,8 @@ fn a_text_without_end_types_nothing(rt: HostRuntime) -> Result<(), Fail> {
     let mut sentence = reader_of(b"a", 1, 0);
     let mut writer = slow_sheet_of(1, usize::MAX);
     let answer = type_run(rt.alloc(), &mut reader, &mut sentence, &mut writer);
-    let wanted = Err(RunError::ReadText(ENDLESS));
-    expect_equal(&rt, &settled(answer, &writer)?, &wanted);
+    expect_failed(&rt, answer, &writer, RunError::ReadText(ENDLESS))?;
     assert!(rt; reader.reads <= READS && !reader.failed());
-    assert!(rt; !sentence.failed() && writer.bytes.is_empty() && !writer.failed());
+    assert!(rt; !sentence.failed());
     Ok(())
 }

@@ -7,8 +7,9 @@ use console_core::Answer;
 use keymap_core::{Read, ReadFault, ReadFaultKind, Write, WriteFault};
 use play_core::{PlayError, Show, Source, play_next, typed};
 use std::alloc::Global;
+use std::process::Abort;
 use std::test::Fail;
-use test_devices::{ROOM, Tape, reader_of, sheet_of};
+use test_devices::{ROOM, Sheet, Tape, reader_of, sheet_of};
 use test_keymaps::texts::{ACCENTS, LETTER_AND_SHIFT, SHIFT_AND_CAPS};
 
 const SCRIPT: &[u8] = b"down 42\nload\n";
@@ -87,6 +88,21 @@ fn written(most: usize, size: usize) -> Result<(), PlayError> {
     }
 }
 
+/// The text was written as far as its writer takes it, and the answer says so.
+fn expect_written(rt: &impl Abort, answer: &Result<(), PlayError>, out: &Sheet, text: &[u8]) {
+    let size = text.len();
+    expect_equal(rt, answer, &written(out.most, size));
+    expect_equal(rt, &out.failed(), &(out.most < size));
+    let wanted = &text[..out.most.min(size)];
+    expect_at(rt, &out.most, out.bytes.as_slice() == wanted);
+}
+
+/// The same, and where the writer takes all of it that took few writes.
+fn expect_few_writes(rt: &impl Abort, answer: &Result<(), PlayError>, out: &Sheet, text: &[u8]) {
+    expect_written(rt, answer, out, text);
+    assert!(rt; out.most < text.len() || out.writes as usize <= text.len() / 4096 + 1);
+}
+
 /// What is shown of a script on a map.
 const SHOWN: [(Show, &[u8], &str, &str); 2] = [
     (
@@ -113,16 +129,9 @@ fn a_writer_that_stops_has_the_first_bytes(rt: HostRuntime) -> Result<(), Fail> 
     for number in 0..2 * MOST {
         let (show, text, script, shown) = SHOWN[number % 2];
         let most = number / 2;
-        let size = shown.len();
         let mut out = sheet_of(most);
         let answer = play_texts(rt.alloc(), show, text, script.as_bytes(), &mut out)?;
-        expect_equal(&rt, &answer, &written(most, size));
-        expect_equal(&rt, &out.failed(), &(most < size));
-        expect_equal(
-            &rt,
-            &out.bytes.as_slice(),
-            &&shown.as_bytes()[..most.min(size)],
-        );
+        expect_written(&rt, &answer, &out, shown.as_bytes());
     }
     Ok(())
 }
@@ -141,9 +150,7 @@ press 30: char 97; mods none; locks none
             b"load\ndown 30\n",
             &mut out,
         )?;
-        expect_equal(&rt, &answer, &written(most, shown.len()));
-        expect_equal(&rt, &out.failed(), &(most < shown.len()));
-        expect_equal(&rt, &out.bytes.as_slice(), &&shown[..most]);
+        expect_written(&rt, &answer, &out, shown);
     }
     Ok(())
 }
@@ -159,9 +166,7 @@ fn a_writer_that_stops_has_the_first_typed_bytes(rt: HostRuntime) {
     for most in 0..=shown.len() {
         let mut out = sheet_of(most);
         let answer = typed(&answers, &mut out).map_err(PlayError::Write);
-        expect_equal(&rt, &answer, &written(most, shown.len()));
-        expect_equal(&rt, &out.failed(), &(most < shown.len()));
-        expect_equal(&rt, &out.bytes.as_slice(), &&shown[..most]);
+        expect_written(&rt, &answer, &out, shown);
     }
 }
 
@@ -182,17 +187,10 @@ const STOPS: [usize; 8] = [0, 1, 4094, 4095, 4096, 4097, 4199, ROOM];
 fn long_lines_are_written_in_few_writes(rt: HostRuntime) -> Result<(), Fail> {
     let script = repeated(b"", b"reset\n", 200);
     let shown: ArrayVec<u8, ROOM> = repeated(b"", b"reset: none; mods none; locks none\n", 200);
-    let size = shown.len();
     for most in STOPS {
         let mut out = sheet_of(most);
         let answer = play_texts(rt.alloc(), Show::Lines, b"", script.as_slice(), &mut out)?;
-        expect_equal(&rt, &answer, &written(most, size));
-        expect_at(
-            &rt,
-            &most,
-            out.bytes.as_slice() == &shown.as_slice()[..most.min(size)],
-        );
-        assert!(rt; most < size || out.writes as usize <= size / 4096 + 1);
+        expect_few_writes(&rt, &answer, &out, shown.as_slice());
     }
     Ok(())
 }
@@ -201,7 +199,6 @@ fn long_lines_are_written_in_few_writes(rt: HostRuntime) -> Result<(), Fail> {
 fn long_typed_bytes_are_written_in_few_writes(rt: HostRuntime) -> Result<(), Fail> {
     let script = repeated(b"down 42\n", b"repeat 15\n", 1400);
     let shown: ArrayVec<u8, ROOM> = repeated(b"", b"\x1b[Z", 1400);
-    let size = shown.len();
     for most in STOPS {
         let mut out = sheet_of(most);
         let answer = play_texts(
@@ -211,13 +208,7 @@ fn long_typed_bytes_are_written_in_few_writes(rt: HostRuntime) -> Result<(), Fai
             script.as_slice(),
             &mut out,
         )?;
-        expect_equal(&rt, &answer, &written(most, size));
-        expect_at(
-            &rt,
-            &most,
-            out.bytes.as_slice() == &shown.as_slice()[..most.min(size)],
-        );
-        assert!(rt; most < size || out.writes as usize <= size / 4096 + 1);
+        expect_few_writes(&rt, &answer, &out, shown.as_slice());
     }
     Ok(())
 }
@@ -226,16 +217,9 @@ fn long_typed_bytes_are_written_in_few_writes(rt: HostRuntime) -> Result<(), Fai
 fn many_answers_are_typed_in_few_writes(rt: HostRuntime) {
     let answers = [Answer::Char { c: 'é', meta: true }; 1400];
     let shown: ArrayVec<u8, ROOM> = repeated(b"", b"\x1b\xc3\xa9", 1400);
-    let size = shown.len();
     for most in STOPS {
         let mut out = sheet_of(most);
         let answer = typed(&answers, &mut out).map_err(PlayError::Write);
-        expect_equal(&rt, &answer, &written(most, size));
-        expect_at(
-            &rt,
-            &most,
-            out.bytes.as_slice() == &shown.as_slice()[..most.min(size)],
-        );
-        assert!(rt; most < size || out.writes as usize <= size / 4096 + 1);
+        expect_few_writes(&rt, &answer, &out, shown.as_slice());
     }
 }

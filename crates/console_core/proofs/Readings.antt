@@ -1,5 +1,5 @@
 -- That the notions by resolved events are those on the events.
-use Rattle.std.proofs.Common.{◌≡◌, ℕ, Bool, false, true, ◌&&◌, ◌||◌, not, List, [], ◌∷◌, ◌++◌, refl, ap, sym, ◌∙◌, inl}
+use Rattle.std.proofs.Common.{◌≡◌, ℕ, Bool, false, true, ◌&&◌, not, List, [], ◌∷◌, ◌++◌, refl, ap, sym, ◌∙◌, inl}
 use Rattle.std.proofs.Common.{inr}
 use Rattle.std.proofs.lemmas.Bool.{or_cases, and_parts, not-true, true≢false, or_right}
 use Rattle.keymap_core.specs.declared.action.Holding.{Holding}

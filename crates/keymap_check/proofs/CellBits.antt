@@ -1,7 +1,7 @@
 -- What the bits of a key tell of its cells.
 use Prim.Native.Nat.{zero, suc}
 use Rattle.std.proofs.Common.{◌≡◌, ℕ, ◌+◌, ◌*◌, ◌%◌, ◌^◌, ◌<◌, ◌≢◌, min, max, Bool, true, false, not, ◌||◌, Option}
-use Rattle.std.proofs.Common.{Some, None, eqb, refl, ap, sym, ◌∙◌, if◌then◌else◌, arith, add-one, ◌⊎◌, inl, inr}
+use Rattle.std.proofs.Common.{Some, None, eqb, refl, ap, sym, ◌∙◌, if◌then◌else◌, arith, add-one, inl, inr}
 use Rattle.std.specs.Prelude.{bit_and, bit_or, bit_xor}
 use Rattle.std.specs.Int.{bit_at}
 use Rattle.std.proofs.Math.Nat.{zero-mul, one-mul, mod-eq_of_lt}

@@ -1,5 +1,5 @@
 -- A trap whose character cell has at most one bit more is demonstrated.
-use Rattle.std.proofs.Common.{◌≡◌, ◌≢◌, ℕ, ◌<◌, Bool, true, false, ◌||◌, not, List, [], ◌∷◌, Option, Some, None, refl}
+use Rattle.std.proofs.Common.{◌≡◌, ◌≢◌, ℕ, ◌<◌, Bool, true, false, not, List, [], ◌∷◌, Option, Some, None, refl}
 use Rattle.std.proofs.Common.{ap, subst, sym, ◌∙◌, inl, inr, lit<, if◌then◌else◌}
 use Rattle.std.specs.Prelude.{◌==◌, reverse, find}
 use Rattle.std.proofs.lemmas.Bool.{true≢false, eq-eqb, eqb-true, and_parts, not-true, false_from_ne_true}

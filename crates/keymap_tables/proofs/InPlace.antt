@@ -11,7 +11,6 @@ use Rattle.keymap_core.specs.Bounds.{IsPair, IsAccent}
 use Rattle.keymap_tables.specs.Faults.{base_at, number_at}
 use Rattle.keymap_tables.specs.Image.{accent_bytes}
 use Rattle.keymap_tables.specs.Layouts.{wide, part}
-use Rattle.keymap_tables.specs.declared.fault.TableFaultKind.{TableFaultKind}
 use Rattle.keymap_tables.proofs.AccentImages.{base-in, result-in, no-base}
 use Rattle.keymap_tables.proofs.ReadingLaws.{pair-wide}
 

@@ -1,12 +1,11 @@
 -- A text that is read from a device, piece by piece.
-use Rattle.std.proofs.Common.{◌≡◌, ℕ, zero, suc, ◌+◌, ◌≤◌, ◌<◌, ◌||◌, List, [], ◌∷◌, ◌++◌, length, take, refl}
+use Rattle.std.proofs.Common.{◌≡◌, ℕ, zero, suc, ◌+◌, ◌≤◌, ◌<◌, List, [], ◌∷◌, ◌++◌, length, take, refl}
 use Rattle.std.proofs.Common.{sym, ◌∙◌, subst, arith, Option, Some, None, Result, Ok, Err, length-append}
 use Rattle.std.proofs.Common.{append-nil, IfErr}
 use mathlib.Core.Logic.{inl, inr}
 use Rattle.std.specs.Io.KnownBytes.{Consumes, IsAtEnd, Keeps}
 use Rattle.std.proofs.KnownBytes.{Consumes-trans, Consumes-kept, Consumes-nil}
 use Rattle.keymap_core.specs.Maps.{MapValue}
-use Rattle.keymap_core.specs.declared.transfer.ReadFault.{ReadFault}
 use Rattle.keymap_core.specs.declared.transfer.ReadFaultKind.TheVariants as kinds
 use Rattle.keymap_text.specs.declared.fault.TextError.{TextError}
 use Rattle.keymap_text.specs.declared.fault.TextError.TheVariants as errors

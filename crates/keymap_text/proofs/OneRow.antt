@@ -6,7 +6,6 @@ use Rattle.keymap_core.specs.declared.entry.Cell.{Cell}
 use Rattle.keymap_core.specs.declared.entry.LockFlag.{LockFlag}
 use Rattle.keymap_core.specs.declared.action.Action.{Action}
 use Rattle.keymap_core.specs.Accents.{AccentValue}
-use Rattle.keymap_text.specs.declared.fault.TextFaultKind.{TextFaultKind}
 use Rattle.keymap_text.specs.declared.placed.Placed.{Placed}
 use Rattle.keymap_text.specs.declared.words.Meaning.TheVariants.{Number, Act, Letter}
 use Rattle.keymap_text.specs.declared.words.Item.{Item}

@@ -26,7 +26,9 @@ are_scalars : (bs : List ℕ) → list_all is_shown_byte bs ≡ true → scalars
 are_scalars [] h = refl
 are_scalars (c ∷ bs) h =
     let both = and_parts _ _ h in
-    grind (arith, nat_tests, small_byte c both.0, are_scalars bs both.1)
+    let small : c < 128 = small_byte c both.0 in
+    let rest : scalars bs ≡ true = are_scalars bs both.1 in
+    grind (arith, nat_tests, small, rest)
 
 same_chars : (bs : List ℕ) → list_all is_shown_byte bs ≡ true → map shown_char bs ≡ bs
 same_chars [] h = refl

@@ -1,5 +1,5 @@
 -- What is said of a text by a diagnostic: its severity, its message and its kind, in words.
-use Rattle.std.specs.Prelude.{ℕ, Bool, false, if◌then◌else◌, List, [], ◌++◌, codes, length, min}
+use Rattle.std.specs.Prelude.{ℕ, Bool, false, if◌then◌else◌, List, [], codes, length, min}
 use Rattle.keymap_text.specs.Meaning.{line}
 use Rattle.keymap_text.specs.Printed.{character_text}
 use Rattle.keymap_lint.specs.declared.diagnostic.Kind.{Kind}

@@ -1,6 +1,5 @@
 use Rattle.std.proofs.Common.{arith, ◌∙◌, ℕ, List, sym, ap, subst, take, length}
 use Rattle.keymap_core.specs.Bounds.{IsMap}
-use Rattle.keymap_core.specs.declared.entry.Entry.{Entry}
 use Rattle.keymap_tables.specs.Faults.{count_at, count_fault, row_fault, slot_fault, accent_fault, content_fault}
 use Rattle.keymap_tables.specs.Faults.{IsFirstFault}
 use Rattle.keymap_tables.specs.Inner.Firsts.{HasNoFault}

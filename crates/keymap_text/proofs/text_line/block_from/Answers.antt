@@ -1,4 +1,4 @@
-use Rattle.std.proofs.Common.{◌≡◌, ◌-◌, arith, length, drop, sym, ◌∙◌}
+use Rattle.std.proofs.Common.{◌-◌, arith, length, drop, sym, ◌∙◌}
 use Rattle.std.proofs.lemmas.List.{take_all, length-drop}
 use Rattle.keymap_text.specs.LineOf.{block_size}
 use Rattle.keymap_text.proofs.text_line.block_from.Goals as goal

@@ -1,4 +1,4 @@
-use Rattle.std.proofs.Common.{◌==◌, false, List, ap₂, subst, eqb-true, ◌≡◌, ◌+◌, ◌*◌, ◌<◌, ◌≤◌}
+use Rattle.std.proofs.Common.{ap₂, subst, eqb-true, ◌+◌, ◌*◌, ◌<◌, ◌≤◌}
 use Rattle.std.proofs.Common.{ℕ, length, sym, ◌∙◌, ap, arith, Some}
 use Rattle.std.proofs.lemmas.List.{take_all}
 use Rattle.keymap_text.specs.Words.{number, is_digit}

@@ -69,8 +69,8 @@ fn set_accents(map: &mut KeyMap, accents: &[NumberedAccent]) -> Result<(), Fail>
     Ok(())
 }
 
-/// The keymap of these lines, of slots whose cells all have the action with a code, and of these accents. It fails where
-/// no action has a code, an index is above 14, or an accent has a base 0 or more than 52 pairs.
+/// The keymap of these lines, of slots whose cells all have the action with a code, and of these accents. It fails
+/// where no action has a code, an index is above 14, or an accent has a base 0 or more than 52 pairs.
 pub fn map_with(
     alloc: Global,
     lines: &[Line],

@@ -2,7 +2,7 @@
 
 use crate::asserts::{expect_at, expect_equal};
 use crate::runs::{ENDLESS, READS, expect_failed, expect_written, settled, stopped};
-use keymap_core::{Read, Write};
+use keymap_core::Read;
 use keymap_text::{TextFault, TextFaultKind};
 use kmap_runs::{RunError, check_run};
 use std::test::Fail;

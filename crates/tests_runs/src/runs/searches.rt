@@ -1,7 +1,7 @@
 //! What the search for sticking modifiers writes.
 
 use crate::runs::{ENDLESS, READS, expect_failed, expect_written, stopped};
-use keymap_core::{Read, Write};
+use keymap_core::Read;
 use keymap_text::{TextFault, TextFaultKind};
 use kmap_runs::{RunError, search_next_run, search_run};
 use std::test::Fail;

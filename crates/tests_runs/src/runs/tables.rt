@@ -2,7 +2,7 @@
 
 use crate::asserts::expect_equal;
 use crate::runs::{expect_failed, expect_written, stopped};
-use keymap_core::{Read, Write};
+use keymap_core::Read;
 use keymap_tables::{TableFault, TableFaultKind, write_narrow, write_tables};
 use keymap_text::read_map;
 use kmap_runs::{RunError, dump_narrow_run, dump_run};

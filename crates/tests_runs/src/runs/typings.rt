@@ -1,7 +1,7 @@
 //! The scripts that type sentences.
 
 use crate::runs::{ENDLESS, READS, expect_failed, expect_written, stopped};
-use keymap_core::{Read, Write};
+use keymap_core::Read;
 use keymap_text::{TextFault, TextFaultKind};
 use kmap_runs::{RunError, type_run};
 use std::test::Fail;

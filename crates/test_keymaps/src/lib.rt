@@ -1,92 +1,190 @@
-//! The keymaps that tests use, as texts and as they are built by hand. They stand on the values of keymap_core.
+//! The keymaps that tests use, as texts of keymap(5).
 #![tactic(auto)]
 
-ghost use Rattle.std.specs.Prelude.{◌≡◌, ◌↔◌, IfOk, IfSome, IsSome, OnSome};
-ghost use Rattle.std.specs.List.{fold};
-ghost use Rattle.test_keymaps.specs.Keymaps as spec;
+pub const LETTER_AND_SHIFT: &[u8] = b"030 'a' 'A' soh soh 'a' 'A' soh soh C
+042 lshift lshift lshift lshift lshift lshift lshift lshift O
+";
 
-pub mod build_error;
-pub mod entries;
-pub mod texts;
+pub const TWO_SCROLL_LOCKS: &[u8] = b"070 slock slock slock slock slock slock slock slock O
+104 slock slock slock slock slock slock slock slock O
+";
 
-use build_error::BuildError;
-use entries::{Line, NumberedAccent};
-use keymap_core::{Accent, Action, COLUMN_COUNT, Cell, Entry, KeyMap, LockFlag};
-use std::alloc::{AllocError, Global};
+/// Left shift, which is a character where control is on.
+pub const SHIFT_WITH_TRAP: &[u8] = b"029 lctrl lctrl lctrl lctrl lctrl lctrl lctrl lctrl O
+042 lshift lshift 'x' 'x' lshift lshift lshift lshift O
+";
 
-/// The keymap of no keys. A growth that is refused is tried again.
-pub fn empty_map(alloc: Global) -> Result<KeyMap, AllocError>
-    ensures { IfOk result (λ m. m ≡ spec.empty) }
-{
-    match KeyMap::new(alloc) {
-        Err(_) => KeyMap::new(alloc),
-        map => map,
-    }
-}
+/// As the one before, but the character is in a cell that shift doesn't lead to.
+pub const SHIFT_WITHOUT_TRAP: &[u8] = b"029 lctrl lctrl lctrl lctrl lctrl lctrl lctrl lctrl O
+042 lshift lshift 'x' lshift lshift lshift lshift lshift O
+";
 
-/// The keymap of these lines. Where two have the same slot the later one stands.
-pub fn map_of(alloc: Global, lines: &[Line]) -> Result<KeyMap, AllocError>
-    ensures { IfOk result (λ m. m ≡ spec.map_of lines.now) }
-{
-    let mut map = empty_map(alloc)?;
-    for (slot, entry) in lines {
-        map.set(*slot, *entry);
-    }
-    Ok(map)
-}
+/// Left shift and alt shift, with nothing in the upper half.
+pub const ALT_SHIFT_WITH_TRAP: &[u8] =
+    b"042 lshift lshift lshift lshift lshift lshift lshift lshift O
+093 ashift ashift ashift ashift ashift ashift ashift ashift O
+";
 
-/// Gives each slot the action with the code in all its cells. None where no action has a code: then the slots of the
-/// codes before it are set.
-fn set_codes(map: &mut KeyMap, codes: &[(u8, u8)]) -> Option<()>
-    ensures set { OnSome result (map.new ≡ fold spec.with_code map.old codes.now) }
-    ensures have_actions { IsSome result ↔ spec.HaveActions codes.now }
-{
-    for (slot, code) in codes {
-        let action = Action::from_code(*code)?;
-        let entry = Entry {
-            cells: [Cell::Act(action); COLUMN_COUNT],
-            flag: LockFlag::O,
-        };
-        map.set(*slot, entry);
-    }
-    Some(())
-}
+pub const CAPS_AND_NUM: &[u8] = b"030 'a' 'A' soh soh 'a' 'A' soh soh B
+058 clock clock clock clock clock clock clock clock O
+069 nlock nlock nlock nlock nlock nlock nlock nlock O
+";
 
-/// An accent with this character and these pairs, if no base is 0 and there are at most 52 of them.
-fn accent_of(own: char, pairs: &[(char, char)]) -> Option<Accent>
-    ensures value { IfSome result (λ a. a ≡ record { own = own; pairs = pairs.now }) }
-    ensures fit { IsSome result ↔ spec.AreOfAnAccent pairs.now }
-{
-    let mut accent = Accent::new(own);
-    for (base, composed) in pairs {
-        accent.push_pair(*base, *composed).ok()?;
-    }
-    Some(accent)
-}
+pub const ACCENTS: &[u8] = b"015 ht btab ht ht ht btab ht ht O
+018 'e' 'E' enq enq 'e' 'E' enq enq C
+030 'a' 'A' soh soh 'a' 'A' soh soh C
+026 dacu dacu dacu dacu dacu dacu dacu dacu O
+041 dgra dgra dgra dgra dgra dgra dgra dgra O
+042 lshift lshift lshift lshift lshift lshift lshift lshift O
+056 meta meta meta meta meta meta meta meta O
+057 ' ' ' ' ' ' ' ' ' ' ' ' ' ' ' ' O
+059 fkey01 fkey01 fkey01 fkey01 fkey01 fkey01 fkey01 fkey01 O
+092 nscr nscr nscr nscr nscr nscr nscr nscr O
+dacu 180 ( 'e' 0xe9 ) ( 'E' 0xc9 ) ( 'e' 0xea )
+";
 
-/// Defines the accents. None where one is of no keymap: then those before it are defined.
-fn set_accents(map: &mut KeyMap, accents: &[NumberedAccent]) -> Option<()>
-    ensures set { OnSome result (map.new ≡ fold spec.with_numbered map.old accents.now) }
-    ensures fit { IsSome result ↔ spec.AreOfAMap accents.now }
-{
-    for accent in accents {
-        let value = accent_of(accent.own, accent.pairs)?;
-        map.set_accent(accent.index, value).ok()?;
-    }
-    Some(())
-}
+pub const TWO_CONTROLS: &[u8] = b"029 lctrl rctrl lctrl rctrl lctrl rctrl lctrl rctrl O
+042 lshift lshift lshift lshift lshift lshift lshift lshift O
+";
 
-/// The keymap of these lines, of slots whose cells all have the action with a code, and of these accents.
-pub fn map_with(
-    alloc: Global,
-    lines: &[Line],
-    codes: &[(u8, u8)],
-    accents: &[NumberedAccent],
-) -> Result<KeyMap, BuildError>
-    ensures { spec.Builds lines.now codes.now accents.now result }
-{
-    let mut map = map_of(alloc, lines)?;
-    set_codes(&mut map, codes).ok_or(BuildError::NoAction)?;
-    set_accents(&mut map, accents).ok_or(BuildError::BadAccent)?;
-    Ok(map)
-}
+pub const UPPER_HALF: &[u8] = b"030 'a' 'A' soh soh 'a' 'A' soh soh C
+058 alock alock alock alock alock alock alock alock O
+093 ashift ashift ashift ashift ashift ashift ashift ashift O
+158 'b' 'B' stx stx 'b' 'B' stx stx C
+186 alock alock alock alock alock alock alock alock O
+221 ashift ashift ashift ashift ashift ashift ashift ashift O
+";
+
+pub const TWO_SHIFTS: &[u8] = b"042 lshift lshift lshift lshift lshift lshift lshift lshift O
+054 lshift lshift lshift lshift lshift lshift lshift lshift O
+";
+
+pub const SHIFT_AND_CAPS: &[u8] = b"042 lshift lshift lshift lshift lshift lshift lshift lshift O
+058 clock clock clock clock clock clock clock clock O
+";
+
+pub const NOP_UNDER_CONTROL: &[u8] = b"030 'a' 'A' nop nop 'a' 'A' nop nop C";
+
+/// Dead keys of an acute accent and of a macron that is defined and has no character.
+pub const BLANK_MACRON: &[u8] = b"026 dacu dacu dacu dacu dacu dacu dacu dacu O
+040 dmac dmac dmac dmac dmac dmac dmac dmac O
+dacu 180
+dmac 0
+";
+
+/// An acute accent, and a grave one under shift, on one key, and a third level under ashift.
+pub const TWO_DEAD_KEYS: &[u8] = b"016 'q' 'Q' dc1 dc1 'q' 'Q' dc1 dc1 C
+029 lctrl lctrl lctrl lctrl lctrl lctrl lctrl lctrl O
+030 'a' 'A' soh soh 'a' 'A' soh soh C
+040 dacu dgra nop nop nop nop nop nop O
+042 lshift lshift lshift lshift lshift lshift lshift lshift O
+057 ' ' ' ' nul ' ' ' ' ' ' ' ' ' ' O
+100 ashift ashift ashift ashift ashift ashift ashift ashift O
+144 '@' '@' 0x3a9 0x3a9 '@' '@' 0x3a9 0x3a9 O
+dacu 180 ( 'a' 0xe1 )
+dgra '`' ( 'a' 0xe0 )
+";
+
+pub const SHIFT_ALONE: &[u8] = b"042 lshift lshift lshift lshift lshift lshift lshift lshift O
+";
+
+/// A scroll lock key of the layout that kbdcontrol(1) dumps.
+pub const DUMPED_LINE: &[u8] = b"#                                                         alt
+  104   slock  saver  slock  saver  susp   nop    susp   nop     O
+";
+
+pub const CAPS_WITH_NOPS: &[u8] = b"042 lshift lshift lshift lshift lshift lshift lshift lshift O
+058 nop clock nop clock nop clock nop clock O
+";
+
+pub const SHIFT_AND_LINE_FEED: &[u8] = b"001 esc esc esc esc esc esc esc esc O
+002 0x202e 0x202e 0x202e 0x202e 0x202e 0x202e 0x202e 0x202e O
+003 '#' '#' '#' '#' '#' '#' '#' '#' O
+004 0xe9 0xe9 0xe9 0xe9 0xe9 0xe9 0xe9 0xe9 O
+028 nl nl nl nl nl nl nl nl O
+030 'a' 'A' soh soh 'a' 'A' soh soh C
+042 lshift lshift lshift lshift lshift lshift lshift lshift O
+";
+
+/// Left shift in the lower half alone, and the alt lock in both.
+pub const ALT_LOCK_TO_NOTHING: &[u8] =
+    b"042 lshift lshift lshift lshift lshift lshift lshift lshift O
+058 alock alock alock alock alock alock alock alock O
+186 alock alock alock alock alock alock alock alock O
+";
+
+/// The caps lock in the lower half alone, and alt shift in both.
+pub const CAPS_LOCK_TO_NOTHING: &[u8] = b"058 clock clock clock clock clock clock clock clock O
+093 ashift ashift ashift ashift ashift ashift ashift ashift O
+221 ashift ashift ashift ashift ashift ashift ashift ashift O
+";
+
+/// Key 1 can remember left shift where it looks up the letter, but then key 2 holds left shift on.
+pub const REMEMBERED_BUT_HELD_BY_ANOTHER: &[u8] = b"001 nop lshift nop 'a' lshift lshift nop nop O
+002 lshift lshift lshift lshift lshift lshift lshift lshift O
+003 lctrl nop lctrl nop lctrl nop lctrl nop O
+004 lalt lalt lalt lalt lalt lalt lalt lalt O
+";
+
+pub const CAPS_ALONE: &[u8] = b"058 clock clock clock clock clock clock clock clock O
+";
+
+/// Left shift sticks where the caps lock is on, and only under left shift a key turns that on.
+pub const STICKS_UNDER_CAPS: &[u8] = b"042 'x' lshift 'x' lshift 'x' lshift 'x' lshift C
+059 nop clock nop clock nop clock nop clock O
+";
+
+/// As the one before, but no key bears the caps lock.
+pub const WOULD_STICK_UNDER_CAPS: &[u8] = b"042 'x' lshift 'x' lshift 'x' lshift 'x' lshift C
+";
+
+/// Six modifiers with eight keys each, so that there are more than 500,000 ways to hold some of them.
+pub const MANY_MODIFIERS: &[u8] = b"000 lshift lshift lshift lshift lshift lshift lshift lshift O
+001 lshift lshift lshift lshift lshift lshift lshift lshift O
+002 lshift lshift lshift lshift lshift lshift lshift lshift O
+003 lshift lshift lshift lshift lshift lshift lshift lshift O
+004 lshift lshift lshift lshift lshift lshift lshift lshift O
+005 lshift lshift lshift lshift lshift lshift lshift lshift O
+006 lshift lshift lshift lshift lshift lshift lshift lshift O
+007 lshift lshift lshift lshift lshift lshift lshift lshift O
+008 rshift rshift rshift rshift rshift rshift rshift rshift O
+009 rshift rshift rshift rshift rshift rshift rshift rshift O
+010 rshift rshift rshift rshift rshift rshift rshift rshift O
+011 rshift rshift rshift rshift rshift rshift rshift rshift O
+012 rshift rshift rshift rshift rshift rshift rshift rshift O
+013 rshift rshift rshift rshift rshift rshift rshift rshift O
+014 rshift rshift rshift rshift rshift rshift rshift rshift O
+015 rshift rshift rshift rshift rshift rshift rshift rshift O
+016 lctrl lctrl lctrl lctrl lctrl lctrl lctrl lctrl O
+017 lctrl lctrl lctrl lctrl lctrl lctrl lctrl lctrl O
+018 lctrl lctrl lctrl lctrl lctrl lctrl lctrl lctrl O
+019 lctrl lctrl lctrl lctrl lctrl lctrl lctrl lctrl O
+020 lctrl lctrl lctrl lctrl lctrl lctrl lctrl lctrl O
+021 lctrl lctrl lctrl lctrl lctrl lctrl lctrl lctrl O
+022 lctrl lctrl lctrl lctrl lctrl lctrl lctrl lctrl O
+023 lctrl lctrl lctrl lctrl lctrl lctrl lctrl lctrl O
+024 rctrl rctrl rctrl rctrl rctrl rctrl rctrl rctrl O
+025 rctrl rctrl rctrl rctrl rctrl rctrl rctrl rctrl O
+026 rctrl rctrl rctrl rctrl rctrl rctrl rctrl rctrl O
+027 rctrl rctrl rctrl rctrl rctrl rctrl rctrl rctrl O
+028 rctrl rctrl rctrl rctrl rctrl rctrl rctrl rctrl O
+029 rctrl rctrl rctrl rctrl rctrl rctrl rctrl rctrl O
+030 rctrl rctrl rctrl rctrl rctrl rctrl rctrl rctrl O
+031 rctrl rctrl rctrl rctrl rctrl rctrl rctrl rctrl O
+032 lalt lalt lalt lalt lalt lalt lalt lalt O
+033 lalt lalt lalt lalt lalt lalt lalt lalt O
+034 lalt lalt lalt lalt lalt lalt lalt lalt O
+035 lalt lalt lalt lalt lalt lalt lalt lalt O
+036 lalt lalt lalt lalt lalt lalt lalt lalt O
+037 lalt lalt lalt lalt lalt lalt lalt lalt O
+038 lalt lalt lalt lalt lalt lalt lalt lalt O
+039 lalt lalt lalt lalt lalt lalt lalt lalt O
+040 ralt ralt ralt ralt ralt ralt ralt ralt O
+041 ralt ralt ralt ralt ralt ralt ralt ralt O
+042 ralt ralt ralt ralt ralt ralt ralt ralt O
+043 ralt ralt ralt ralt ralt ralt ralt ralt O
+044 ralt ralt ralt ralt ralt ralt ralt ralt O
+045 ralt ralt ralt ralt ralt ralt ralt ralt O
+046 ralt ralt ralt ralt ralt ralt ralt ralt O
+047 ralt ralt ralt ralt ralt ralt ralt ralt O
+";

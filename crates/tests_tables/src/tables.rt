@@ -10,6 +10,7 @@ use keymap_tables::{
     NarrowError, TableError, TableFault, TableFaultKind, read_narrow, read_narrow_from,
     read_tables, read_tables_from, write_narrow, write_tables,
 };
+use keymap_text::{TextError, read_map};
 use std::alloc::{AllocError, Global};
 
 /// How long a table file and a narrow file are.
@@ -24,7 +25,7 @@ pub(crate) enum Form {
     Narrow,
 }
 
-pub(crate) const FORMS: [Form; 2] = [Form::Wide, Form::Narrow];
+pub(crate) static FORMS: [Form; 2] = [Form::Wide, Form::Narrow];
 
 impl Form {
     /// How many bytes a file has.
@@ -58,6 +59,14 @@ impl Form {
             Form::Wide => write_tables(map, writer).map_err(NarrowError::Write),
             Form::Narrow => write_narrow(map, writer),
         }
+    }
+}
+
+/// The map of a text. Memory that is refused is asked for again.
+pub(crate) fn map_of(alloc: Global, text: &[u8]) -> Result<KeyMap, TextError> {
+    match read_map(alloc, text) {
+        Err(TextError::Memory) => read_map(alloc, text),
+        answer => answer,
     }
 }
 

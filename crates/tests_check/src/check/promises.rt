@@ -5,14 +5,13 @@ use crate::check::{press, release};
 use console_core::{Answer, Event, PlainConsole, Translator, WordConsole, replay};
 use keymap_check::{Bearer, Report, check};
 use keymap_core::{Action, Holding, KeyCode, KeyMap, LOCKS, Lock, MODIFIERS, Modifier};
+use keymap_text::read_map;
 use std::alloc::Global;
 use std::process::Abort;
 use std::test::Fail;
-use test_keymaps::entries::{
-    ACCENT_CODES, ACCENTS, ACUTE, CAPS_AND_NUM, LETTER_AND_SHIFT, SHIFT_AND_CAPS,
-    SHIFT_WITHOUT_TRAP, UPPER_HALF,
+use test_keymaps::{
+    ACCENTS, CAPS_AND_NUM, LETTER_AND_SHIFT, SHIFT_AND_CAPS, SHIFT_WITHOUT_TRAP, UPPER_HALF,
 };
-use test_keymaps::{map_of, map_with};
 
 /// What the events so far leave of a key.
 #[derive(Clone, Copy)]
@@ -120,19 +119,19 @@ fn run(rt: &impl Abort, map: &KeyMap, keys: &mut [KeyState]) -> Result<(), Fail>
 
 #[test]
 fn both_consoles_keep_the_promises(rt: HostRuntime) -> Result<(), Fail> {
-    let map = map_of(rt.alloc(), &LETTER_AND_SHIFT)?;
+    let map = read_map(rt.alloc(), LETTER_AND_SHIFT)?;
     run(&rt, &map, &mut [30, 42].map(state_of))?;
-    let map = map_of(rt.alloc(), &CAPS_AND_NUM)?;
+    let map = read_map(rt.alloc(), CAPS_AND_NUM)?;
     run(&rt, &map, &mut [30, 58, 69].map(state_of))?;
-    let map = map_with(rt.alloc(), &ACCENTS, &ACCENT_CODES, &ACUTE)?;
+    let map = read_map(rt.alloc(), ACCENTS)?;
     run(
         &rt,
         &map,
         &mut [15, 18, 26, 30, 41, 42, 56, 57, 59, 92].map(state_of),
     )?;
-    let map = map_of(rt.alloc(), &UPPER_HALF)?;
+    let map = read_map(rt.alloc(), UPPER_HALF)?;
     run(&rt, &map, &mut [30, 58, 93].map(state_of))?;
-    let map = map_of(rt.alloc(), &SHIFT_AND_CAPS)?;
+    let map = read_map(rt.alloc(), SHIFT_AND_CAPS)?;
     run(&rt, &map, &mut [42, 58].map(state_of))?;
     Ok(())
 }
@@ -146,7 +145,7 @@ fn is_pressed(keys: &[KeyState], code: u8) -> bool {
 /// though the keymap is refused.
 #[test]
 fn without_traps_modifiers_are_on_only_while_pressed(rt: HostRuntime) -> Result<(), Fail> {
-    let map = map_of(rt.alloc(), &SHIFT_WITHOUT_TRAP)?;
+    let map = read_map(rt.alloc(), SHIFT_WITHOUT_TRAP)?;
     assert!(rt; !check(&map).accepted());
     let mut console = WordConsole::new(&map);
     let mut keys = [29, 42].map(state_of);
@@ -191,7 +190,7 @@ fn expect_shift_alone<T: Translator>(
 /// A console that is quiet with no accent pending goes on as after a reset.
 #[test]
 fn a_quiet_console_goes_on_as_after_a_reset(rt: HostRuntime) -> Result<(), Fail> {
-    let map = map_of(rt.alloc(), &SHIFT_AND_CAPS)?;
+    let map = read_map(rt.alloc(), SHIFT_AND_CAPS)?;
     let mut first = PlainConsole::new(&map);
     let mut second = PlainConsole::new(&map);
     let quiet = [press(42)?, press(58)?, release(42)?, release(58)?];

@@ -7,13 +7,14 @@ use keymap_check::{Bearer, Finding, Place, Report, check, demonstrate};
 use keymap_core::{
     Action, Cell, Entry, Holding, KeyMap, LOCKS, Lock, LockFlag, MODIFIERS, Modifier,
 };
+use keymap_text::read_map;
+use std::alloc::Global;
 use std::process::Abort;
 use std::test::Fail;
-use test_keymaps::entries::{
-    ALT_SHIFT_WITH_TRAP, CAPS_LOCK_WITH_NOP, Line, SCROLL_LOCK_WITH_NOP, SHIFT_WITH_TRAP,
+use test_keymaps::{
+    ALT_SHIFT_WITH_TRAP, CAPS_WITH_NOPS, DUMPED_LINE, SHIFT_ALONE, SHIFT_WITH_TRAP,
     SHIFT_WITHOUT_TRAP, TWO_SCROLL_LOCKS, UPPER_HALF,
 };
-use test_keymaps::map_of;
 
 /// The bearer that the table names, or else nobody.
 fn bearer_in(bearers: &[(Holding, Bearer)], holding: Holding) -> Bearer {
@@ -66,15 +67,11 @@ fn accepted_maps_name_their_bearers(rt: HostRuntime) -> Result<(), Fail> {
     let caps = Holding::Lock(Lock::Caps);
     let scroll = Holding::Lock(Lock::Scroll);
     let alt = Holding::Lock(Lock::Alt);
-    let maps: [(&[Line], &[(Holding, Bearer)], &[Lock]); 5] = [
-        (&TWO_SCROLL_LOCKS, &[(scroll, Bearer::Several)], &[]),
+    let maps: [(&[u8], &[(Holding, Bearer)], &[Lock]); 5] = [
+        (TWO_SCROLL_LOCKS, &[(scroll, Bearer::Several)], &[]),
+        (DUMPED_LINE, &[(scroll, Bearer::Sole(key(104)?))], &[]),
         (
-            &SCROLL_LOCK_WITH_NOP,
-            &[(scroll, Bearer::Sole(key(104)?))],
-            &[],
-        ),
-        (
-            &CAPS_LOCK_WITH_NOP,
+            CAPS_WITH_NOPS,
             &[
                 (shift, Bearer::Throughout(key(42)?)),
                 (caps, Bearer::Sole(key(58)?)),
@@ -82,21 +79,17 @@ fn accepted_maps_name_their_bearers(rt: HostRuntime) -> Result<(), Fail> {
             &[],
         ),
         (
-            &UPPER_HALF,
+            UPPER_HALF,
             &[
                 (alt_shift, Bearer::Throughout(key(93)?)),
                 (alt, Bearer::Throughout(key(58)?)),
             ],
             &[Lock::Alt],
         ),
-        (
-            &ALT_SHIFT_WITH_TRAP[..1],
-            &[(shift, Bearer::Throughout(key(42)?))],
-            &[],
-        ),
+        (SHIFT_ALONE, &[(shift, Bearer::Throughout(key(42)?))], &[]),
     ];
-    for (lines, bearers, steady) in maps {
-        let map = map_of(rt.alloc(), lines)?;
+    for (text, bearers, steady) in maps {
+        let map = read_map(rt.alloc(), text)?;
         let report = check(&map);
         assert!(rt; report.accepted());
         expect(&rt, &report, bearers, steady);
@@ -105,14 +98,12 @@ fn accepted_maps_name_their_bearers(rt: HostRuntime) -> Result<(), Fail> {
     Ok(())
 }
 
-/// The map is refused for each of the keys with the place of its first holding action and of its first character, and
-/// has this demonstration.
+/// The map is refused for each of the keys with the place of its first holding action and of its first character.
 #[derive(Clone, Copy)]
 struct Refused<'a> {
-    lines: &'a [Line],
+    text: &'static [u8],
     findings: &'a [Finding],
     bearers: &'a [(Holding, Bearer)],
-    script: Option<&'a [Event]>,
 }
 
 fn finding(code: u8, modifier: Modifier, slot: u8, column: u8) -> Result<Finding, &'static str> {
@@ -128,73 +119,95 @@ fn finding(code: u8, modifier: Modifier, slot: u8, column: u8) -> Result<Finding
     })
 }
 
-#[test]
-fn refused_maps_name_their_keys(rt: HostRuntime) -> Result<(), Fail> {
-    let (shift, control, alt_shift) = (
-        Modifier::LeftShift,
-        Modifier::LeftControl,
-        Modifier::AltShift,
-    );
-    let shift_and_control = [
-        (Holding::Mod(shift), Bearer::Sole(key(42)?)),
-        (Holding::Mod(control), Bearer::Throughout(key(29)?)),
-    ];
-    let maps = [
-        Refused {
-            lines: &SHIFT_WITH_TRAP,
-            findings: &[finding(42, shift, 42, 2)?],
-            bearers: &shift_and_control,
-            script: Some(&[
-                press(42)?,
-                press(29)?,
-                press(42)?,
-                release(42)?,
-                release(29)?,
-            ]),
-        },
-        Refused {
-            lines: &SHIFT_WITHOUT_TRAP,
-            findings: &[finding(42, shift, 42, 2)?],
-            bearers: &shift_and_control,
-            script: None,
-        },
-        Refused {
-            lines: &ALT_SHIFT_WITH_TRAP,
-            findings: &[finding(42, shift, 170, 0)?, finding(93, alt_shift, 221, 0)?],
-            bearers: &[
-                (Holding::Mod(shift), Bearer::Sole(key(42)?)),
-                (Holding::Mod(alt_shift), Bearer::Sole(key(93)?)),
-            ],
-            script: Some(&[
-                press(42)?,
-                press(93)?,
-                press(42)?,
-                release(42)?,
-                release(93)?,
-            ]),
-        },
-    ];
-    for refused in maps {
-        let map = map_of(rt.alloc(), refused.lines)?;
-        let report = check(&map);
-        assert!(rt; !report.accepted());
-        expect_equal(&rt, &report.findings().as_slice(), &refused.findings);
-        expect(&rt, &report, refused.bearers, &[]);
-        let script = demonstrate(&map);
-        expect_equal(
-            &rt,
-            &script.as_ref().map(|script| script.as_slice()),
-            &refused.script,
-        );
-    }
+/// Asserts that the map is refused so, and has this demonstration.
+fn expect_refused(
+    rt: &impl Abort,
+    alloc: Global,
+    refused: &Refused<'_>,
+    script: Option<&[Event]>,
+) -> Result<(), Fail> {
+    let map = read_map(alloc, refused.text)?;
+    let report = check(&map);
+    assert!(rt; !report.accepted());
+    expect_equal(rt, &report.findings().as_slice(), &refused.findings);
+    expect(rt, &report, refused.bearers, &[]);
+    let found = demonstrate(&map);
+    let events = found.as_ref().map(|found| found.as_slice());
+    expect_equal(rt, &events, &script);
     Ok(())
+}
+
+/// The bearers of left shift in some cells of key 42, and of left control in all of key 29.
+fn shift_and_control() -> Result<[(Holding, Bearer); 2], &'static str> {
+    let shift = Holding::Mod(Modifier::LeftShift);
+    let control = Holding::Mod(Modifier::LeftControl);
+    Ok([
+        (shift, Bearer::Sole(key(42)?)),
+        (control, Bearer::Throughout(key(29)?)),
+    ])
+}
+
+#[test]
+fn a_character_that_shift_leads_to_is_demonstrated(rt: HostRuntime) -> Result<(), Fail> {
+    let findings = [finding(42, Modifier::LeftShift, 42, 2)?];
+    let bearers = shift_and_control()?;
+    let script = [
+        press(42)?,
+        press(29)?,
+        press(42)?,
+        release(42)?,
+        release(29)?,
+    ];
+    let refused = Refused {
+        text: SHIFT_WITH_TRAP,
+        findings: &findings,
+        bearers: &bearers,
+    };
+    expect_refused(&rt, rt.alloc(), &refused, Some(&script))
+}
+
+#[test]
+fn a_character_that_shift_does_not_lead_to_has_no_demonstration(
+    rt: HostRuntime,
+) -> Result<(), Fail> {
+    let findings = [finding(42, Modifier::LeftShift, 42, 2)?];
+    let bearers = shift_and_control()?;
+    let refused = Refused {
+        text: SHIFT_WITHOUT_TRAP,
+        findings: &findings,
+        bearers: &bearers,
+    };
+    expect_refused(&rt, rt.alloc(), &refused, None)
+}
+
+#[test]
+fn an_undefined_upper_half_is_demonstrated(rt: HostRuntime) -> Result<(), Fail> {
+    let (shift, alt_shift) = (Modifier::LeftShift, Modifier::AltShift);
+    let findings = [finding(42, shift, 170, 0)?, finding(93, alt_shift, 221, 0)?];
+    let bearers = [
+        (Holding::Mod(shift), Bearer::Sole(key(42)?)),
+        (Holding::Mod(alt_shift), Bearer::Sole(key(93)?)),
+    ];
+    let script = [
+        press(42)?,
+        press(93)?,
+        press(42)?,
+        release(42)?,
+        release(93)?,
+    ];
+    let refused = Refused {
+        text: ALT_SHIFT_WITH_TRAP,
+        findings: &findings,
+        bearers: &bearers,
+    };
+    expect_refused(&rt, rt.alloc(), &refused, Some(&script))
 }
 
 /// Where a key's slot begins with a modifier, and it has a character where that modifier and at most one other lead,
 /// there is a demonstration.
 #[test]
 fn traps_are_demonstrated(rt: HostRuntime) -> Result<(), Fail> {
-    let map = map_of(rt.alloc(), &SHIFT_WITH_TRAP)?;
+    let map = read_map(rt.alloc(), SHIFT_WITH_TRAP)?;
     let shift = Cell::Act(Action::Mod(Modifier::LeftShift));
     let control = Holding::Mod(Modifier::LeftControl);
     expect_equal(&rt, &map.entry(42).cells()[0], &shift);
@@ -206,7 +219,7 @@ fn traps_are_demonstrated(rt: HostRuntime) -> Result<(), Fail> {
     );
     assert!(rt; demonstrate(&map).is_some());
 
-    let map = map_of(rt.alloc(), &ALT_SHIFT_WITH_TRAP)?;
+    let map = read_map(rt.alloc(), ALT_SHIFT_WITH_TRAP)?;
     let alt_shift = Cell::Act(Action::Mod(Modifier::AltShift));
     expect_equal(&rt, &map.entry(93).cells()[0], &alt_shift);
     expect_equal(&rt, &map.entry(93 + 128).cells()[0], &Cell::Char('\0'));

@@ -7,14 +7,14 @@ use console_core::{
     Answer, Event, PlainConsole, Translator, WordConsole, deliver_all, is_any_on, replay,
 };
 use keymap_core::{Action, KeyCode, KeyMap, Lock, Modifier};
+use keymap_text::read_map;
 use std::alloc::Global;
 use std::process::Abort;
 use std::test::Fail;
-use test_keymaps::entries::{
-    ACCENT_CODES, ACCENTS, ACUTE, BLANK_MACRON, CAPS_AND_NUM, CAPS_LOCK_WITH_NOP, LETTER_AND_SHIFT,
-    Line, MACRON_CODES, SHIFT_AND_CAPS, TWO_CONTROLS, TWO_SCROLL_LOCKS, TWO_SHIFTS, UPPER_HALF,
+use test_keymaps::{
+    ACCENTS, BLANK_MACRON, CAPS_AND_NUM, CAPS_WITH_NOPS, LETTER_AND_SHIFT, SHIFT_AND_CAPS,
+    TWO_CONTROLS, TWO_SCROLL_LOCKS, TWO_SHIFTS, UPPER_HALF,
 };
-use test_keymaps::{map_of, map_with};
 
 // The codes of the actions.
 const LSHIFT: u8 = 0x02;
@@ -75,21 +75,21 @@ type Step = (
     Option<u8>,
 );
 
-const SHIFTED_LETTER: [Step; 4] = [
+static SHIFTED_LETTER: [Step; 4] = [
     (Down(42), Special(LSHIFT), &[Modifier::LeftShift], &[], None),
     (Down(30), Char('A'), &[Modifier::LeftShift], &[], None),
     (Up(42), Released(LSHIFT), &[], &[], None),
     (Down(30), Char('a'), &[], &[], None),
 ];
 
-const SCROLL_LOCK_ON_TWO_KEYS: [Step; 4] = [
+static SCROLL_LOCK_ON_TWO_KEYS: [Step; 4] = [
     (Down(70), Special(SLOCK), &[], &[Lock::Scroll], None),
     (Down(104), Special(SLOCK), &[], &[Lock::Scroll], None),
     (Up(70), Released(SLOCK), &[], &[Lock::Scroll], None),
     (Down(104), Special(SLOCK), &[], &[], None),
 ];
 
-const CAPS_AND_NUM_FLIP_ONCE: [Step; 7] = [
+static CAPS_AND_NUM_FLIP_ONCE: [Step; 7] = [
     (Down(58), Special(CLOCK), &[], &[Lock::Caps], None),
     (Up(58), Released(CLOCK), &[], &[Lock::Caps], None),
     (Down(30), Char('A'), &[], &[Lock::Caps], None),
@@ -105,7 +105,7 @@ const CAPS_AND_NUM_FLIP_ONCE: [Step; 7] = [
     (Down(30), Char('A'), &[], &[Lock::Caps, Lock::Num], None),
 ];
 
-const ACCENT_AND_OTHER_KEYS: [Step; 12] = [
+static ACCENT_AND_OTHER_KEYS: [Step; 12] = [
     (Down(26), Nothing, &[], &[], Some(1)),
     (Up(26), Released(DACU), &[], &[], Some(1)),
     (Down(59), Error, &[], &[], None),
@@ -126,7 +126,7 @@ const ACCENT_AND_OTHER_KEYS: [Step; 12] = [
     (Down(18), Char('\u{c9}'), &[Modifier::LeftShift], &[], None),
 ];
 
-const RESET_KEEPS_LOCKS: [Step; 4] = [
+static RESET_KEEPS_LOCKS: [Step; 4] = [
     (Down(58), Special(CLOCK), &[], &[Lock::Caps], None),
     (Up(58), Released(CLOCK), &[], &[Lock::Caps], None),
     (
@@ -139,7 +139,7 @@ const RESET_KEEPS_LOCKS: [Step; 4] = [
     (Reset, Nothing, &[], &[Lock::Caps], None),
 ];
 
-const RELEASE_BY_REMEMBERED_ACTION: [Step; 4] = [
+static RELEASE_BY_REMEMBERED_ACTION: [Step; 4] = [
     (
         Down(29),
         Special(LCTRL),
@@ -164,7 +164,7 @@ const RELEASE_BY_REMEMBERED_ACTION: [Step; 4] = [
     (Up(29), Released(LCTRL), &[Modifier::LeftShift], &[], None),
 ];
 
-const UPPER_HALF_BY_ONE: [Step; 6] = [
+static UPPER_HALF_BY_ONE: [Step; 6] = [
     (Down(93), Special(ASHIFT), &[Modifier::AltShift], &[], None),
     (Down(30), Char('b'), &[Modifier::AltShift], &[], None),
     (
@@ -185,7 +185,7 @@ const UPPER_HALF_BY_ONE: [Step; 6] = [
     (Down(30), Char('b'), &[], &[Lock::Alt], None),
 ];
 
-const COMPOSITION: [Step; 14] = [
+static COMPOSITION: [Step; 14] = [
     (Down(26), Nothing, &[], &[], Some(1)),
     (Up(26), Released(DACU), &[], &[], Some(1)),
     (Down(18), Char('\u{e9}'), &[], &[], None),
@@ -202,7 +202,7 @@ const COMPOSITION: [Step; 14] = [
     (Down(26), MetaChar('\u{b4}'), &[Modifier::Meta], &[], None),
 ];
 
-const LOCK_BEHIND_NOP: [Step; 3] = [
+static LOCK_BEHIND_NOP: [Step; 3] = [
     (Down(58), Nothing, &[], &[], None),
     (Down(42), Special(LSHIFT), &[Modifier::LeftShift], &[], None),
     (
@@ -214,19 +214,19 @@ const LOCK_BEHIND_NOP: [Step; 3] = [
     ),
 ];
 
-const SHIFT_ON_TWO_KEYS: [Step; 3] = [
+static SHIFT_ON_TWO_KEYS: [Step; 3] = [
     (Down(42), Special(LSHIFT), &[Modifier::LeftShift], &[], None),
     (Down(54), Special(LSHIFT), &[Modifier::LeftShift], &[], None),
     (Up(42), Released(LSHIFT), &[], &[], None),
 ];
 
-const UNUSABLE_DEAD_KEY: [Step; 3] = [
+static UNUSABLE_DEAD_KEY: [Step; 3] = [
     (Down(26), Nothing, &[], &[], Some(1)),
     (Down(40), Error, &[], &[], None),
     (Up(40), Released(DMAC), &[], &[], None),
 ];
 
-const LOAD_DROPS_A_LOCK: [Step; 5] = [
+static LOAD_DROPS_A_LOCK: [Step; 5] = [
     (Down(58), Special(CLOCK), &[], &[Lock::Caps], None),
     (Up(58), Released(CLOCK), &[], &[Lock::Caps], None),
     (
@@ -240,20 +240,20 @@ const LOAD_DROPS_A_LOCK: [Step; 5] = [
     (Down(30), Char('a'), &[], &[], None),
 ];
 
-const LOAD_KEEPS_A_LOCK: [Step; 4] = [
+static LOAD_KEEPS_A_LOCK: [Step; 4] = [
     (Down(58), Special(CLOCK), &[], &[Lock::Caps], None),
     (Up(58), Released(CLOCK), &[], &[Lock::Caps], None),
     (Load, Nothing, &[], &[Lock::Caps], None),
     (Down(30), Char('A'), &[], &[Lock::Caps], None),
 ];
 
-const LOAD_FORGETS_A_MODIFIER: [Step; 3] = [
+static LOAD_FORGETS_A_MODIFIER: [Step; 3] = [
     (Down(42), Special(LSHIFT), &[Modifier::LeftShift], &[], None),
     (Load, Nothing, &[], &[], None),
     (Up(42), Nothing, &[], &[], None),
 ];
 
-const TWO_LOADS: [Step; 4] = [
+static TWO_LOADS: [Step; 4] = [
     (Down(58), Special(CLOCK), &[], &[Lock::Caps], None),
     (Load, Nothing, &[], &[], None),
     (Load, Nothing, &[], &[], None),
@@ -316,18 +316,18 @@ fn deliver_to(rt: &impl Abort, map: &KeyMap, steps: &[Step]) -> Result<(), Fail>
 
 #[test]
 fn modifiers_and_locks(rt: HostRuntime) -> Result<(), Fail> {
-    let rows: [(&[Line], &[Step]); 8] = [
-        (&LETTER_AND_SHIFT, &SHIFTED_LETTER),
-        (&TWO_SCROLL_LOCKS, &SCROLL_LOCK_ON_TWO_KEYS),
-        (&CAPS_AND_NUM, &CAPS_AND_NUM_FLIP_ONCE),
-        (&SHIFT_AND_CAPS, &RESET_KEEPS_LOCKS),
-        (&TWO_CONTROLS, &RELEASE_BY_REMEMBERED_ACTION),
-        (&UPPER_HALF, &UPPER_HALF_BY_ONE),
-        (&CAPS_LOCK_WITH_NOP, &LOCK_BEHIND_NOP),
-        (&TWO_SHIFTS, &SHIFT_ON_TWO_KEYS),
+    let rows: [(&[u8], &[Step]); 8] = [
+        (LETTER_AND_SHIFT, &SHIFTED_LETTER),
+        (TWO_SCROLL_LOCKS, &SCROLL_LOCK_ON_TWO_KEYS),
+        (CAPS_AND_NUM, &CAPS_AND_NUM_FLIP_ONCE),
+        (SHIFT_AND_CAPS, &RESET_KEEPS_LOCKS),
+        (TWO_CONTROLS, &RELEASE_BY_REMEMBERED_ACTION),
+        (UPPER_HALF, &UPPER_HALF_BY_ONE),
+        (CAPS_WITH_NOPS, &LOCK_BEHIND_NOP),
+        (TWO_SHIFTS, &SHIFT_ON_TWO_KEYS),
     ];
-    for (lines, steps) in rows {
-        let map = map_of(rt.alloc(), lines)?;
+    for (text, steps) in rows {
+        let map = read_map(rt.alloc(), text)?;
         deliver_to(&rt, &map, steps)?;
     }
     Ok(())
@@ -335,35 +335,31 @@ fn modifiers_and_locks(rt: HostRuntime) -> Result<(), Fail> {
 
 #[test]
 fn accents(rt: HostRuntime) -> Result<(), Fail> {
-    let map = map_with(rt.alloc(), &ACCENTS, &ACCENT_CODES, &ACUTE)?;
+    let map = read_map(rt.alloc(), ACCENTS)?;
     deliver_to(&rt, &map, &ACCENT_AND_OTHER_KEYS)?;
     deliver_to(&rt, &map, &COMPOSITION)?;
-    let map = map_with(rt.alloc(), &[], &MACRON_CODES, &BLANK_MACRON)?;
+    let map = read_map(rt.alloc(), BLANK_MACRON)?;
     deliver_to(&rt, &map, &UNUSABLE_DEAD_KEY)
 }
 
 #[test]
 fn loads(rt: HostRuntime) -> Result<(), Fail> {
-    let rows: [(&[Line], &[Line], &[Step]); 4] = [
-        (&SHIFT_AND_CAPS, &LETTER_AND_SHIFT, &LOAD_DROPS_A_LOCK),
-        (&SHIFT_AND_CAPS, &CAPS_AND_NUM, &LOAD_KEEPS_A_LOCK),
-        (
-            &LETTER_AND_SHIFT,
-            &LETTER_AND_SHIFT,
-            &LOAD_FORGETS_A_MODIFIER,
-        ),
-        (&SHIFT_AND_CAPS, &LETTER_AND_SHIFT, &TWO_LOADS),
+    let rows: [(&[u8], &[u8], &[Step]); 4] = [
+        (SHIFT_AND_CAPS, LETTER_AND_SHIFT, &LOAD_DROPS_A_LOCK),
+        (SHIFT_AND_CAPS, CAPS_AND_NUM, &LOAD_KEEPS_A_LOCK),
+        (LETTER_AND_SHIFT, LETTER_AND_SHIFT, &LOAD_FORGETS_A_MODIFIER),
+        (SHIFT_AND_CAPS, LETTER_AND_SHIFT, &TWO_LOADS),
     ];
     for (first, second, steps) in rows {
-        let first = map_of(rt.alloc(), first)?;
-        let second = map_of(rt.alloc(), second)?;
+        let first = read_map(rt.alloc(), first)?;
+        let second = read_map(rt.alloc(), second)?;
         deliver_between(&rt, &first, &second, steps)?;
     }
     Ok(())
 }
 
 /// Events, their answers as numbers, and the modifiers that are on after them.
-const RAW: [(Input, u32, &[Modifier]); 7] = [
+static RAW: [(Input, u32, &[Modifier]); 7] = [
     (Down(42), 0x8000_0002, &[Modifier::LeftShift]),
     (Down(15), 0x8800_0008, &[Modifier::LeftShift]),
     (Up(15), 0xc000_0008, &[Modifier::LeftShift]),
@@ -374,7 +370,7 @@ const RAW: [(Input, u32, &[Modifier]); 7] = [
 ];
 
 fn expect_raw<T: Translator>(rt: &impl Abort, console: &mut T) -> Result<(), Fail> {
-    for (input, raw, on) in RAW {
+    for &(input, raw, on) in &RAW {
         expect_equal(rt, &console.step(event(input)?).raw(), &raw);
         expect_shown(rt, console, on, &[], None);
     }
@@ -383,7 +379,7 @@ fn expect_raw<T: Translator>(rt: &impl Abort, console: &mut T) -> Result<(), Fai
 
 #[test]
 fn answers_as_numbers(rt: HostRuntime) -> Result<(), Fail> {
-    let map = map_with(rt.alloc(), &ACCENTS, &ACCENT_CODES, &ACUTE)?;
+    let map = read_map(rt.alloc(), ACCENTS)?;
     expect_raw(&rt, &mut PlainConsole::new(&map))?;
     expect_raw(&rt, &mut WordConsole::new(&map))?;
     expect_equal(&rt, &Answer::Special(action(FKEY01)?).raw(), &0x8200_001b);
@@ -447,7 +443,7 @@ fn replays(rt: HostRuntime) -> Result<(), Fail> {
     let map = KeyMap::new(rt.alloc())?;
     expect_nul(&rt, rt.alloc(), &mut PlainConsole::new(&map))?;
     expect_nul(&rt, rt.alloc(), &mut WordConsole::new(&map))?;
-    let map = map_with(rt.alloc(), &ACCENTS, &ACCENT_CODES, &ACUTE)?;
+    let map = read_map(rt.alloc(), ACCENTS)?;
     expect_dead_key(&rt, rt.alloc(), &mut PlainConsole::new(&map))?;
     expect_dead_key(&rt, rt.alloc(), &mut WordConsole::new(&map))
 }
@@ -493,7 +489,7 @@ fn expect_same_after_reset<T: Translator>(
 
 #[test]
 fn a_quiet_console_goes_on_as_after_a_reset(rt: HostRuntime) -> Result<(), Fail> {
-    let map = map_of(rt.alloc(), &SHIFT_AND_CAPS)?;
+    let map = read_map(rt.alloc(), SHIFT_AND_CAPS)?;
     expect_same_after_reset(
         &rt,
         rt.alloc(),
@@ -527,14 +523,14 @@ fn expect_unchanged_if_refused<T: Translator>(
 
 #[test]
 fn a_refused_replay_delivers_nothing(rt: HostRuntime) -> Result<(), Fail> {
-    let map = map_of(rt.alloc(), &SHIFT_AND_CAPS)?;
+    let map = read_map(rt.alloc(), SHIFT_AND_CAPS)?;
     expect_unchanged_if_refused(&rt, rt.alloc(), &mut PlainConsole::new(&map))?;
     expect_unchanged_if_refused(&rt, rt.alloc(), &mut WordConsole::new(&map))
 }
 
 #[test]
 fn a_console_is_made_after_events(rt: HostRuntime) -> Result<(), Fail> {
-    let map = map_of(rt.alloc(), &SHIFT_AND_CAPS)?;
+    let map = read_map(rt.alloc(), SHIFT_AND_CAPS)?;
     let down = event(Down(42))?;
     let up = event(Up(42))?;
     let held = WordConsole::after(&map, &map, &[down]);

@@ -4,27 +4,27 @@ use crate::asserts::expect_equal;
 use crate::console::expect_shown;
 use console_core::{Event, PlainConsole, Sticking, replay, sticking, sticking_between};
 use keymap_core::{KeyMap, Lock, Modifier};
+use keymap_text::read_map;
 use std::alloc::Global;
 use std::process::Abort;
 use std::test::Fail;
-use test_keymaps::entries::{
-    ACCENT_CODES, ACCENTS, ACUTE, ALT_LOCK_TO_NOTHING, ALT_SHIFT_WITH_TRAP, CAPS_ALONE,
-    CAPS_AND_NUM, CAPS_LOCK_TO_NOTHING, LETTER_AND_SHIFT, Line, MANY_MODIFIERS,
-    REMEMBERED_BUT_HELD_BY_ANOTHER, SHIFT_AND_CAPS, SHIFT_WITH_TRAP, STICKS_UNDER_CAPS,
-    TWO_CONTROLS, TWO_SCROLL_LOCKS, UPPER_HALF, WOULD_STICK_UNDER_CAPS,
+use test_keymaps::{
+    ACCENTS, ALT_LOCK_TO_NOTHING, ALT_SHIFT_WITH_TRAP, CAPS_ALONE, CAPS_AND_NUM,
+    CAPS_LOCK_TO_NOTHING, LETTER_AND_SHIFT, MANY_MODIFIERS, REMEMBERED_BUT_HELD_BY_ANOTHER,
+    SHIFT_AND_CAPS, SHIFT_WITH_TRAP, STICKS_UNDER_CAPS, TWO_CONTROLS, TWO_SCROLL_LOCKS, UPPER_HALF,
+    WOULD_STICK_UNDER_CAPS,
 };
-use test_keymaps::{map_of, map_with};
 
 /// Asserts that a shortest list that leaves a modifier on has so many presses and events, and what is on after it.
 fn expect_sticks(
     rt: &impl Abort,
     alloc: Global,
-    lines: &[Line],
+    text: &[u8],
     counts: (usize, usize),
     on: &[Modifier],
     locked: &[Lock],
 ) -> Result<(), Fail> {
-    let map = map_of(alloc, lines)?;
+    let map = read_map(alloc, text)?;
     match sticking(alloc, &map)? {
         Sticking::Sticks(events) => {
             expect_equal(rt, &presses_among(events.as_slice()), &counts.0);
@@ -61,12 +61,12 @@ fn expect_never(rt: &impl Abort, alloc: Global, map: &KeyMap) -> Result<(), Fail
 #[test]
 fn a_modifier_sticks_where_its_key_can_look_up_a_character(rt: HostRuntime) -> Result<(), Fail> {
     let shift = [Modifier::LeftShift];
-    expect_sticks(&rt, rt.alloc(), &SHIFT_WITH_TRAP, (3, 5), &shift, &[])?;
+    expect_sticks(&rt, rt.alloc(), SHIFT_WITH_TRAP, (3, 5), &shift, &[])?;
     let alt_shift = [Modifier::AltShift];
     expect_sticks(
         &rt,
         rt.alloc(),
-        &ALT_SHIFT_WITH_TRAP,
+        ALT_SHIFT_WITH_TRAP,
         (2, 3),
         &alt_shift,
         &[],
@@ -74,7 +74,7 @@ fn a_modifier_sticks_where_its_key_can_look_up_a_character(rt: HostRuntime) -> R
     expect_sticks(
         &rt,
         rt.alloc(),
-        &ALT_LOCK_TO_NOTHING,
+        ALT_LOCK_TO_NOTHING,
         (3, 5),
         &shift,
         &[Lock::Alt],
@@ -83,35 +83,39 @@ fn a_modifier_sticks_where_its_key_can_look_up_a_character(rt: HostRuntime) -> R
 
 #[test]
 fn refused_maps_without_a_stuck_modifier(rt: HostRuntime) -> Result<(), Fail> {
-    expect_never(&rt, rt.alloc(), &map_of(rt.alloc(), &CAPS_LOCK_TO_NOTHING)?)?;
     expect_never(
         &rt,
         rt.alloc(),
-        &map_of(rt.alloc(), &REMEMBERED_BUT_HELD_BY_ANOTHER)?,
+        &read_map(rt.alloc(), CAPS_LOCK_TO_NOTHING)?,
+    )?;
+    expect_never(
+        &rt,
+        rt.alloc(),
+        &read_map(rt.alloc(), REMEMBERED_BUT_HELD_BY_ANOTHER)?,
     )
 }
 
 #[test]
 fn accepted_maps_never_stick(rt: HostRuntime) -> Result<(), Fail> {
-    let maps: [&[Line]; 6] = [
-        &LETTER_AND_SHIFT,
-        &TWO_SCROLL_LOCKS,
-        &CAPS_AND_NUM,
-        &TWO_CONTROLS,
-        &UPPER_HALF,
-        &SHIFT_AND_CAPS,
+    let texts: [&[u8]; 8] = [
+        b"",
+        LETTER_AND_SHIFT,
+        TWO_SCROLL_LOCKS,
+        CAPS_AND_NUM,
+        ACCENTS,
+        TWO_CONTROLS,
+        UPPER_HALF,
+        SHIFT_AND_CAPS,
     ];
-    for lines in maps {
-        expect_never(&rt, rt.alloc(), &map_of(rt.alloc(), lines)?)?;
+    for text in texts {
+        expect_never(&rt, rt.alloc(), &read_map(rt.alloc(), text)?)?;
     }
-    expect_never(&rt, rt.alloc(), &KeyMap::new(rt.alloc())?)?;
-    let accents = map_with(rt.alloc(), &ACCENTS, &ACCENT_CODES, &ACUTE)?;
-    expect_never(&rt, rt.alloc(), &accents)
+    Ok(())
 }
 
 #[test]
 fn a_map_of_too_many_states_is_undecided(rt: HostRuntime) -> Result<(), Fail> {
-    match sticking(rt.alloc(), &map_of(rt.alloc(), &MANY_MODIFIERS)?)? {
+    match sticking(rt.alloc(), &read_map(rt.alloc(), MANY_MODIFIERS)?)? {
         Sticking::Undecided(_) => {}
         Sticking::Sticks(_) | Sticking::Never => assert!(rt; false),
     }
@@ -155,8 +159,8 @@ fn expect_never_between(
 
 #[test]
 fn a_lock_of_another_map_lets_a_modifier_stick(rt: HostRuntime) -> Result<(), Fail> {
-    let locks = map_of(rt.alloc(), &CAPS_ALONE)?;
-    let sticks = map_of(rt.alloc(), &STICKS_UNDER_CAPS)?;
+    let locks = read_map(rt.alloc(), CAPS_ALONE)?;
+    let sticks = read_map(rt.alloc(), STICKS_UNDER_CAPS)?;
     expect_never(&rt, rt.alloc(), &locks)?;
     expect_never(&rt, rt.alloc(), &sticks)?;
     expect_sticks_between(&rt, rt.alloc(), (&locks, &sticks), 6)?;
@@ -165,19 +169,19 @@ fn a_lock_of_another_map_lets_a_modifier_stick(rt: HostRuntime) -> Result<(), Fa
 
 #[test]
 fn a_lock_that_the_next_map_does_not_bear_goes_off(rt: HostRuntime) -> Result<(), Fail> {
-    let locks = map_of(rt.alloc(), &CAPS_ALONE)?;
-    let would_stick = map_of(rt.alloc(), &WOULD_STICK_UNDER_CAPS)?;
+    let locks = read_map(rt.alloc(), CAPS_ALONE)?;
+    let would_stick = read_map(rt.alloc(), WOULD_STICK_UNDER_CAPS)?;
     expect_never_between(&rt, rt.alloc(), &locks, &would_stick)?;
     expect_never_between(&rt, rt.alloc(), &would_stick, &locks)
 }
 
 #[test]
 fn between_a_map_and_itself_sticks_what_sticks_alone(rt: HostRuntime) -> Result<(), Fail> {
-    let sticks = map_of(rt.alloc(), &STICKS_UNDER_CAPS)?;
+    let sticks = read_map(rt.alloc(), STICKS_UNDER_CAPS)?;
     expect_never_between(&rt, rt.alloc(), &sticks, &sticks)?;
-    let refused = map_of(rt.alloc(), &CAPS_LOCK_TO_NOTHING)?;
+    let refused = read_map(rt.alloc(), CAPS_LOCK_TO_NOTHING)?;
     expect_never_between(&rt, rt.alloc(), &refused, &refused)?;
-    let caught = map_of(rt.alloc(), &ALT_LOCK_TO_NOTHING)?;
+    let caught = read_map(rt.alloc(), ALT_LOCK_TO_NOTHING)?;
     match sticking_between(rt.alloc(), &caught, &caught)? {
         Sticking::Sticks(events) => {
             expect_equal(&rt, &presses_among(events.as_slice()), &3);
@@ -190,7 +194,7 @@ fn between_a_map_and_itself_sticks_what_sticks_alone(rt: HostRuntime) -> Result<
 
 #[test]
 fn maps_of_too_many_states_between_them_are_undecided(rt: HostRuntime) -> Result<(), Fail> {
-    let many = map_of(rt.alloc(), &MANY_MODIFIERS)?;
+    let many = read_map(rt.alloc(), MANY_MODIFIERS)?;
     let empty = KeyMap::new(rt.alloc())?;
     match sticking_between(rt.alloc(), &empty, &many)? {
         Sticking::Undecided(_) => {}

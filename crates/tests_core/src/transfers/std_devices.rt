@@ -53,7 +53,7 @@ impl io::Write for FailsOnce {
 }
 
 /// Kinds of errors. Those of an interruption are the ones that std's own loops try again.
-const KINDS: [io::ErrorKind; 4] = [
+static KINDS: [io::ErrorKind; 4] = [
     io::ErrorKind::Interrupted,
     io::ErrorKind::WouldBlock,
     io::ErrorKind::OutOfMemory,
@@ -62,7 +62,7 @@ const KINDS: [io::ErrorKind; 4] = [
 
 #[test]
 fn a_read_of_std_is_passed_on_once_and_the_flag_stays(rt: HostRuntime) {
-    for kind in KINDS {
+    for &kind in &KINDS {
         let mut reader = failing_once(Some(kind));
         let mut device = FromStd::new(&mut reader);
         let mut buffer = [0; 4];
@@ -79,7 +79,7 @@ fn a_read_of_std_is_passed_on_once_and_the_flag_stays(rt: HostRuntime) {
 
 #[test]
 fn a_write_of_std_is_passed_on_once_and_the_flag_stays(rt: HostRuntime) {
-    for kind in KINDS {
+    for &kind in &KINDS {
         let mut writer = failing_once(Some(kind));
         let mut device = ToStd::new(&mut writer);
         let first = device.write(b"1234");
@@ -95,7 +95,7 @@ fn a_write_of_std_is_passed_on_once_and_the_flag_stays(rt: HostRuntime) {
 
 #[test]
 fn a_failed_read_of_std_is_not_tried_again(rt: HostRuntime) -> Result<(), Fail> {
-    for kind in KINDS {
+    for &kind in &KINDS {
         let mut reader = failing_once(Some(kind));
         let answer = read_up_to(rt.alloc(), &mut FromStd::new(&mut reader), 4).err();
         let wanted = ReadFault {
@@ -110,7 +110,7 @@ fn a_failed_read_of_std_is_not_tried_again(rt: HostRuntime) -> Result<(), Fail> 
 
 #[test]
 fn a_failed_write_of_std_is_not_tried_again(rt: HostRuntime) {
-    for kind in KINDS {
+    for &kind in &KINDS {
         let mut writer = failing_once(Some(kind));
         let answer = write_text(&mut ToStd::new(&mut writer), b"1234");
         expect_equal(&rt, &answer, &Err(WriteFault { written: 0 }));

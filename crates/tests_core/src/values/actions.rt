@@ -5,7 +5,7 @@ use keymap_core::{Action, KeyCode, Lock, Modifier, Named};
 use std::test::Fail;
 
 /// The codes of the keymap's actions and their names, but for the screens and function keys between the first and last.
-const TABLE: [(u8, &[u8]); 44] = [
+static TABLE: [(u8, &[u8]); 44] = [
     (0x00, b"nop"),
     (0x02, b"lshift"),
     (0x03, b"rshift"),
@@ -75,19 +75,21 @@ fn other_codes_have_no_action(rt: HostRuntime) {
     }
 }
 
+/// Names, and the code of the action of each.
+static NAMES: [(&[u8], u8); 8] = [
+    (b"FKEY0096", 0x7a),
+    (b"scr1", 0x0b),
+    (b"ddia", 0x90),
+    (b"alt", 0x07),
+    (b"Ctrl", 0x09),
+    (b"backTAB", 0x08),
+    (b"PASTE", 0xa3),
+    (b"Nop", 0x00),
+];
+
 #[test]
 fn names_are_read(rt: HostRuntime) -> Result<(), Fail> {
-    let words: [(&[u8], u8); 8] = [
-        (b"FKEY0096", 0x7a),
-        (b"scr1", 0x0b),
-        (b"ddia", 0x90),
-        (b"alt", 0x07),
-        (b"Ctrl", 0x09),
-        (b"backTAB", 0x08),
-        (b"PASTE", 0xa3),
-        (b"Nop", 0x00),
-    ];
-    for (word, code) in words {
+    for &(word, code) in &NAMES {
         let action = Action::from_code(code).ok_or("a code without an action")?;
         expect_equal_at(&rt, &word, &Action::named(word), &Named::Action(action));
     }

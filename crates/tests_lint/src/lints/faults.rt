@@ -88,17 +88,19 @@ fn a_text_in_utf_16_without_a_mark_has_a_fault_at_its_second_byte(
     )
 }
 
+/// Texts whose first cell is a fault.
+static FAULTS_AT_A_CELL: [(&[u8], TextFaultKind); 6] = [
+    (b"30 'ab'", TextFaultKind::BadLiteral),
+    (b"30 shift", TextFaultKind::BadWord),
+    (b"30 )", TextFaultKind::Unexpected),
+    (b"30 0xd800", TextFaultKind::BadChar),
+    (b"30 fkey97", TextFaultKind::BadFunction),
+    (b"30 ralta", TextFaultKind::Combined),
+];
+
 #[test]
 fn a_fault_at_a_cell_stands_at_its_token(rt: HostRuntime) -> Result<(), Fail> {
-    let faults: [(&[u8], TextFaultKind); 6] = [
-        (b"30 'ab'", TextFaultKind::BadLiteral),
-        (b"30 shift", TextFaultKind::BadWord),
-        (b"30 )", TextFaultKind::Unexpected),
-        (b"30 0xd800", TextFaultKind::BadChar),
-        (b"30 fkey97", TextFaultKind::BadFunction),
-        (b"30 ralta", TextFaultKind::Combined),
-    ];
-    for (text, fault) in faults {
+    for &(text, fault) in &FAULTS_AT_A_CELL {
         expect_fault(&rt, rt.alloc(), text, fault, 3, cell(0, 2))?;
     }
     Ok(())

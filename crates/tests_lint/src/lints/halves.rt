@@ -7,7 +7,6 @@ use crate::lints::{
 use keymap_core::{Holding, Lock, Modifier};
 use keymap_lint::{Kind, Severity};
 use std::test::Fail;
-use test_keymaps::texts;
 
 const ALT_SHIFT: Holding = Holding::Mod(Modifier::AltShift);
 
@@ -56,7 +55,12 @@ fn modifiers_without_their_upper_half_are_an_error(rt: HostRuntime) -> Result<()
         has_keys: true,
         is_noted: true,
     };
-    let lint = expect(&rt, rt.alloc(), texts::ALT_SHIFT_WITH_TRAP, &[at(66, kind)])?;
+    let lint = expect(
+        &rt,
+        rt.alloc(),
+        test_keymaps::ALT_SHIFT_WITH_TRAP,
+        &[at(66, kind)],
+    )?;
     expect_lists(&rt, &lint, &[170, 221], &[42, 93], &[], &[]);
     expect_sticks(&rt, &lint, 3);
     expect_equal(&rt, &kind.severity(lint.never_sticks()), &Severity::Error);

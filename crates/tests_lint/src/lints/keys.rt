@@ -7,7 +7,6 @@ use crate::lints::{
 use keymap_core::{Holding, Lock, Modifier};
 use keymap_lint::{Kind, Severity};
 use std::test::Fail;
-use test_keymaps::texts;
 
 #[test]
 fn a_text_without_slots_has_no_key(rt: HostRuntime) -> Result<(), Fail> {
@@ -54,10 +53,10 @@ fn a_shift_that_is_never_looked_at_does_not_count(rt: HostRuntime) -> Result<(),
 #[test]
 fn clean_texts_have_no_diagnostics(rt: HostRuntime) -> Result<(), Fail> {
     let clean: [&[u8]; 4] = [
-        texts::LETTER_AND_SHIFT,
-        texts::TWO_CONTROLS,
-        texts::SHIFT_AND_CAPS,
-        texts::SHIFT_ALONE,
+        test_keymaps::LETTER_AND_SHIFT,
+        test_keymaps::TWO_CONTROLS,
+        test_keymaps::SHIFT_AND_CAPS,
+        test_keymaps::SHIFT_ALONE,
     ];
     for text in clean {
         let lint = expect(&rt, rt.alloc(), text, &[])?;
@@ -74,7 +73,12 @@ fn a_mixed_key_that_lets_a_modifier_stick_is_an_error(rt: HostRuntime) -> Result
         character: 'x',
         is_noted: true,
     };
-    let lint = expect(&rt, rt.alloc(), texts::SHIFT_WITH_TRAP, &[at(58, kind)])?;
+    let lint = expect(
+        &rt,
+        rt.alloc(),
+        test_keymaps::SHIFT_WITH_TRAP,
+        &[at(58, kind)],
+    )?;
     expect_sticks(&rt, &lint, 5);
     expect_lists(&rt, &lint, &[], &[], &[], &[]);
     expect_equal(&rt, &kind.severity(lint.never_sticks()), &Severity::Error);

@@ -9,7 +9,7 @@ use kmap_runs::{RunError, write_run_error};
 use play_core::ScriptFault;
 use test_devices::slow_sheet_of;
 
-const TEXT_LINES: [(TextFaultKind, &[u8]); 11] = [
+static TEXT_LINES: [(TextFaultKind, &[u8]); 11] = [
     (
         TextFaultKind::BadByte,
         b"kmap: text line 1 offset 2: BadByte\n",
@@ -56,7 +56,7 @@ const TEXT_LINES: [(TextFaultKind, &[u8]); 11] = [
     ),
 ];
 
-const TABLE_LINES: [(TableFaultKind, &[u8]); 9] = [
+static TABLE_LINES: [(TableFaultKind, &[u8]); 9] = [
     (TableFaultKind::Short, b"kmap: tables offset 37: Short\n"),
     (TableFaultKind::Long, b"kmap: tables offset 37: Long\n"),
     (
@@ -109,7 +109,7 @@ fn writes_line(error: &RunError, line: &[u8]) -> bool {
 
 #[test]
 fn each_fault_of_a_text_has_its_line(rt: HostRuntime) {
-    for (kind, line) in TEXT_LINES {
+    for &(kind, line) in &TEXT_LINES {
         let fault = TextFault {
             offset: 2,
             line: 1,
@@ -128,13 +128,13 @@ fn each_fault_of_a_text_has_its_line(rt: HostRuntime) {
 
 #[test]
 fn each_fault_of_tables_has_its_line(rt: HostRuntime) {
-    for (kind, line) in TABLE_LINES {
+    for &(kind, line) in &TABLE_LINES {
         let fault = TableFault { offset: 37, kind };
         expect_at(&rt, &kind, writes_line(&RunError::Tables(fault), line));
     }
 }
 
-const SCRIPT_LINES: [(ScriptFault, &[u8]); 2] = [
+static SCRIPT_LINES: [(ScriptFault, &[u8]); 2] = [
     (ScriptFault::BadKey(2), b"kmap: script line 2: BadKey\n"),
     (
         ScriptFault::BadLine(u64::MAX),
@@ -144,115 +144,121 @@ const SCRIPT_LINES: [(ScriptFault, &[u8]); 2] = [
 
 #[test]
 fn each_fault_of_a_script_has_its_line(rt: HostRuntime) {
-    for (fault, line) in SCRIPT_LINES {
+    for &(fault, line) in &SCRIPT_LINES {
         expect_at(&rt, &fault, writes_line(&RunError::Script(fault), line));
     }
 }
 
+/// What comes of devices and memory, and its line.
+static DEVICE_LINES: [(RunError, &[u8]); 9] = [
+    (RunError::Memory, b"kmap: out of memory\n"),
+    (
+        RunError::ReadText(DEVICE),
+        b"kmap: text: read fault at offset 0\n",
+    ),
+    (
+        RunError::ReadText(ENDLESS),
+        b"kmap: text: more than 1048576 bytes\n",
+    ),
+    (
+        RunError::ReadNext(DEVICE),
+        b"kmap: next: read fault at offset 0\n",
+    ),
+    (
+        RunError::ReadNext(ENDLESS),
+        b"kmap: next: more than 1048576 bytes\n",
+    ),
+    (
+        RunError::ReadScript(DEVICE),
+        b"kmap: script: read fault at offset 0\n",
+    ),
+    (
+        RunError::ReadScript(ENDLESS),
+        b"kmap: script: more than 1048576 bytes\n",
+    ),
+    (
+        RunError::ReadTables(DEVICE),
+        b"kmap: tables: read fault at offset 0\n",
+    ),
+    (
+        RunError::Write(WriteFault { written: 10 }),
+        b"kmap: write fault after 10 bytes\n",
+    ),
+];
+
 #[test]
 fn each_fault_of_a_device_has_its_line(rt: HostRuntime) {
-    let rows: [(RunError, &[u8]); 9] = [
-        (RunError::Memory, b"kmap: out of memory\n"),
-        (
-            RunError::ReadText(DEVICE),
-            b"kmap: text: read fault at offset 0\n",
-        ),
-        (
-            RunError::ReadText(ENDLESS),
-            b"kmap: text: more than 1048576 bytes\n",
-        ),
-        (
-            RunError::ReadNext(DEVICE),
-            b"kmap: next: read fault at offset 0\n",
-        ),
-        (
-            RunError::ReadNext(ENDLESS),
-            b"kmap: next: more than 1048576 bytes\n",
-        ),
-        (
-            RunError::ReadScript(DEVICE),
-            b"kmap: script: read fault at offset 0\n",
-        ),
-        (
-            RunError::ReadScript(ENDLESS),
-            b"kmap: script: more than 1048576 bytes\n",
-        ),
-        (
-            RunError::ReadTables(DEVICE),
-            b"kmap: tables: read fault at offset 0\n",
-        ),
-        (
-            RunError::Write(WriteFault { written: 10 }),
-            b"kmap: write fault after 10 bytes\n",
-        ),
-    ];
-    for (error, line) in &rows {
+    for (error, line) in &DEVICE_LINES {
         expect_at(&rt, &line, writes_line(error, line));
     }
 }
 
+/// Places of a character that is too wide, and their lines.
+static WIDE_LINES: [(Wide, &[u8]); 3] = [
+    (
+        Wide::Cell { slot: 0, column: 6 },
+        b"kmap: cell too wide at slot 0 column 6\n",
+    ),
+    (
+        Wide::Accent {
+            accent: 1,
+            number: 0,
+        },
+        b"kmap: accent too wide at accent 1 number 0\n",
+    ),
+    (
+        Wide::Accent {
+            accent: 14,
+            number: 104,
+        },
+        b"kmap: accent too wide at accent 14 number 104\n",
+    ),
+];
+
 #[test]
 fn each_place_that_is_too_wide_has_its_line(rt: HostRuntime) {
-    let rows: [(Wide, &[u8]); 3] = [
-        (
-            Wide::Cell { slot: 0, column: 6 },
-            b"kmap: cell too wide at slot 0 column 6\n",
-        ),
-        (
-            Wide::Accent {
-                accent: 1,
-                number: 0,
-            },
-            b"kmap: accent too wide at accent 1 number 0\n",
-        ),
-        (
-            Wide::Accent {
-                accent: 14,
-                number: 104,
-            },
-            b"kmap: accent too wide at accent 14 number 104\n",
-        ),
-    ];
-    for (wide, line) in rows {
+    for &(wide, line) in &WIDE_LINES {
         expect_at(&rt, &wide, writes_line(&RunError::TooWide(wide), line));
     }
 }
 
+/// Faults of a sentence, and their lines.
+static SENTENCE_LINES: [(RunError, &[u8]); 6] = [
+    (
+        RunError::ReadSentence(DEVICE),
+        b"kmap: sentence: read fault at offset 0\n",
+    ),
+    (
+        RunError::ReadSentence(ENDLESS),
+        b"kmap: sentence: more than 1048576 bytes\n",
+    ),
+    (
+        RunError::NotText { offset: 7 },
+        b"kmap: sentence offset 7: not UTF-8\n",
+    ),
+    (
+        RunError::NoWay { offset: 0, c: '\n' },
+        b"kmap: sentence offset 0: no key types U+000a\n",
+    ),
+    (
+        RunError::NoWay {
+            offset: u64::MAX,
+            c: '\u{1f600}',
+        },
+        b"kmap: sentence offset 18446744073709551615: no key types U+1f600\n",
+    ),
+    (
+        RunError::NoWay {
+            offset: 1,
+            c: '\u{10ffff}',
+        },
+        b"kmap: sentence offset 1: no key types U+10ffff\n",
+    ),
+];
+
 #[test]
 fn each_fault_of_a_sentence_has_its_line(rt: HostRuntime) {
-    let rows: [(RunError, &[u8]); 6] = [
-        (
-            RunError::ReadSentence(DEVICE),
-            b"kmap: sentence: read fault at offset 0\n",
-        ),
-        (
-            RunError::ReadSentence(ENDLESS),
-            b"kmap: sentence: more than 1048576 bytes\n",
-        ),
-        (
-            RunError::NotText { offset: 7 },
-            b"kmap: sentence offset 7: not UTF-8\n",
-        ),
-        (
-            RunError::NoWay { offset: 0, c: '\n' },
-            b"kmap: sentence offset 0: no key types U+000a\n",
-        ),
-        (
-            RunError::NoWay {
-                offset: u64::MAX,
-                c: '\u{1f600}',
-            },
-            b"kmap: sentence offset 18446744073709551615: no key types U+1f600\n",
-        ),
-        (
-            RunError::NoWay {
-                offset: 1,
-                c: '\u{10ffff}',
-            },
-            b"kmap: sentence offset 1: no key types U+10ffff\n",
-        ),
-    ];
-    for (error, line) in rows {
+    for &(error, line) in &SENTENCE_LINES {
         expect_at(&rt, &error, writes_line(&error, line));
     }
 }

@@ -7,7 +7,7 @@ use keymap_text::{TextFault, TextFaultKind};
 use kmap_runs::{RunError, check_run};
 use std::test::Fail;
 use test_devices::{endless_blanks, reader_of, slow_sheet_of};
-use test_keymaps::texts::{
+use test_keymaps::{
     ALT_SHIFT_WITH_TRAP, CAPS_WITH_NOPS, DUMPED_LINE, LETTER_AND_SHIFT, SHIFT_ALONE,
     SHIFT_WITH_TRAP, TWO_SCROLL_LOCKS, UPPER_HALF,
 };
@@ -111,17 +111,19 @@ fn has_line(report: &[u8], line: &[u8]) -> bool {
     report.split(|byte| *byte == b'\n').any(|own| own == line)
 }
 
+/// A text, and a line of its report.
+static LOCK_LINES: [(&[u8], &[u8]); 6] = [
+    (TWO_SCROLL_LOCKS, b"slock several"),
+    (DUMPED_LINE, b"slock sole 104"),
+    (CAPS_WITH_NOPS, b"clock sole 58"),
+    (UPPER_HALF, b"alock throughout 58 steady"),
+    (UPPER_HALF, b"ashift throughout 93"),
+    (b"", b"slock nobody"),
+];
+
 #[test]
 fn locks_are_steady_where_one_key_acts(rt: HostRuntime) -> Result<(), Fail> {
-    let rows: [(&[u8], &[u8]); 6] = [
-        (TWO_SCROLL_LOCKS, b"slock several"),
-        (DUMPED_LINE, b"slock sole 104"),
-        (CAPS_WITH_NOPS, b"clock sole 58"),
-        (UPPER_HALF, b"alock throughout 58 steady"),
-        (UPPER_HALF, b"ashift throughout 93"),
-        (b"", b"slock nobody"),
-    ];
-    for (text, line) in rows {
+    for &(text, line) in &LOCK_LINES {
         let mut reader = reader_of(text, 1, usize::MAX);
         let mut writer = slow_sheet_of(1, usize::MAX);
         let answer = check_run(rt.alloc(), &mut reader, false, &mut writer);

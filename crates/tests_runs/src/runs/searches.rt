@@ -6,7 +6,7 @@ use keymap_text::{TextFault, TextFaultKind};
 use kmap_runs::{RunError, search_next_run, search_run};
 use std::test::Fail;
 use test_devices::{endless_blanks, reader_of, slow_sheet_of};
-use test_keymaps::texts::{LETTER_AND_SHIFT, SHIFT_WITH_TRAP};
+use test_keymaps::{LETTER_AND_SHIFT, SHIFT_WITH_TRAP};
 
 /// The caps lock alone.
 const LOCK: &[u8] = b"058 clock clock clock clock clock clock clock clock O\n";
@@ -22,7 +22,7 @@ const UPPER_HALF_UNDEFINED: &[u8] = b"042 lshift lshift lshift lshift lshift lsh
 ";
 
 /// A keymap, whether it never sticks, and what is written of it.
-const FOUND: [(&[u8], bool, &[u8]); 3] = [
+static FOUND: [(&[u8], bool, &[u8]); 3] = [
     (LETTER_AND_SHIFT, true, b"# never sticks\n"),
     (
         SHIFT_WITH_TRAP,
@@ -38,7 +38,7 @@ const FOUND: [(&[u8], bool, &[u8]); 3] = [
 
 #[test]
 fn what_is_found_is_written_as_a_script(rt: HostRuntime) -> Result<(), Fail> {
-    for (text, never, script) in FOUND {
+    for &(text, never, script) in &FOUND {
         for most in 0..=script.len() {
             let mut reader = reader_of(text, 7, usize::MAX);
             let mut writer = slow_sheet_of(1, most);
@@ -86,7 +86,7 @@ fn a_text_that_stops_is_not_searched(rt: HostRuntime) -> Result<(), Fail> {
 }
 
 /// Two keymaps, whether they never stick together, and what is written of them.
-const FOUND_BETWEEN: [(&[u8], &[u8], bool, &[u8]); 3] = [
+static FOUND_BETWEEN: [(&[u8], &[u8], bool, &[u8]); 3] = [
     (LETTER_AND_SHIFT, LOCK, true, b"# never sticks\n"),
     (
         LOCK,
@@ -104,7 +104,7 @@ const FOUND_BETWEEN: [(&[u8], &[u8], bool, &[u8]); 3] = [
 
 #[test]
 fn what_is_found_between_two_is_written_as_a_script(rt: HostRuntime) -> Result<(), Fail> {
-    for (first, second, never, script) in FOUND_BETWEEN {
+    for &(first, second, never, script) in &FOUND_BETWEEN {
         for most in 0..=script.len() {
             let mut text = reader_of(first, 7, usize::MAX);
             let mut next = reader_of(second, 5, usize::MAX);

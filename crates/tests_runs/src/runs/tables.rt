@@ -9,7 +9,7 @@ use kmap_runs::{RunError, dump_narrow_run, dump_run};
 use std::alloc::{AllocError, Global};
 use std::test::Fail;
 use test_devices::{endless_blanks, reader_of, slow_sheet_of};
-use test_keymaps::texts::LETTER_AND_SHIFT;
+use test_keymaps::LETTER_AND_SHIFT;
 
 const TABLES: usize = 15_524;
 

@@ -6,10 +6,10 @@ use keymap_text::{TextFault, TextFaultKind};
 use kmap_runs::{RunError, type_run};
 use std::test::Fail;
 use test_devices::{endless_blanks, reader_of, slow_sheet_of};
-use test_keymaps::texts::{LETTER_AND_SHIFT, SHIFT_AND_LINE_FEED};
+use test_keymaps::{LETTER_AND_SHIFT, SHIFT_AND_LINE_FEED};
 
 /// A keymap, a sentence, and the script that types it.
-const TYPED: [(&[u8], &[u8], &[u8]); 4] = [
+static TYPED: [(&[u8], &[u8], &[u8]); 4] = [
     (LETTER_AND_SHIFT, b"", b""),
     (
         LETTER_AND_SHIFT,
@@ -30,7 +30,7 @@ const TYPED: [(&[u8], &[u8], &[u8]); 4] = [
 
 #[test]
 fn a_sentence_is_written_as_a_script(rt: HostRuntime) -> Result<(), Fail> {
-    for (text, sentence, script) in TYPED {
+    for &(text, sentence, script) in &TYPED {
         for most in 0..=script.len() {
             let mut reader = reader_of(text, 7, usize::MAX);
             let mut bytes = reader_of(sentence, 1, usize::MAX);
@@ -43,7 +43,7 @@ fn a_sentence_is_written_as_a_script(rt: HostRuntime) -> Result<(), Fail> {
 }
 
 /// A sentence, and what keeps the letter and shift from typing it.
-const UNTYPED: [(&[u8], RunError); 4] = [
+static UNTYPED: [(&[u8], RunError); 4] = [
     (b"ab", RunError::NoWay { offset: 1, c: 'b' }),
     (b"A\xc3\xa9a", RunError::NoWay { offset: 1, c: 'é' }),
     (b"b\xe2\x82", RunError::NotText { offset: 1 }),
@@ -52,7 +52,7 @@ const UNTYPED: [(&[u8], RunError); 4] = [
 
 #[test]
 fn a_sentence_that_no_key_types_is_a_fault(rt: HostRuntime) -> Result<(), Fail> {
-    for (sentence, fault) in UNTYPED {
+    for &(sentence, fault) in &UNTYPED {
         let mut reader = reader_of(LETTER_AND_SHIFT, 64, usize::MAX);
         let mut bytes = reader_of(sentence, 64, usize::MAX);
         let mut writer = slow_sheet_of(1, usize::MAX);

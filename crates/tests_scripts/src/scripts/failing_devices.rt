@@ -8,7 +8,7 @@ use std::alloc::Global;
 use std::process::Abort;
 use std::test::Fail;
 use test_devices::{reader_of, sheet_of};
-use test_keymaps::texts::ACCENTS;
+use test_keymaps::ACCENTS;
 
 const SCRIPT: &[u8] = b"down 42
 lost up 42

@@ -7,10 +7,10 @@ use keymap_text::{TextFault, TextFaultKind};
 use play_core::{PlayError, ScriptFault, Show, Source, play, play_next};
 use std::test::Fail;
 use test_devices::{blanks_of, sheet_of};
-use test_keymaps::texts::{LETTER_AND_SHIFT, SHIFT_AND_CAPS};
+use test_keymaps::{LETTER_AND_SHIFT, SHIFT_AND_CAPS};
 
 /// A text whose first line has a fault, a script, and the place and kind of the fault. The text is judged first.
-const TEXT_FAULTS: [(&str, &str, u64, TextFaultKind); 6] = [
+static TEXT_FAULTS: [(&str, &str, u64, TextFaultKind); 6] = [
     ("1 'ab'", "", 2, TextFaultKind::BadLiteral),
     ("30 nul", "", 6, TextFaultKind::EndInside),
     ("30 97", "", 5, TextFaultKind::EndInside),
@@ -29,7 +29,7 @@ fn fault_at(offset: u64, kind: TextFaultKind) -> TextFault {
 
 #[test]
 fn faults_of_a_text_are_named(rt: HostRuntime) -> Result<(), Fail> {
-    for (text, script, offset, kind) in TEXT_FAULTS {
+    for &(text, script, offset, kind) in &TEXT_FAULTS {
         let mut out = sheet_of(usize::MAX);
         let answer = play_texts(
             rt.alloc(),
@@ -47,7 +47,7 @@ fn faults_of_a_text_are_named(rt: HostRuntime) -> Result<(), Fail> {
 
 #[test]
 fn faults_of_a_next_text_are_named(rt: HostRuntime) -> Result<(), Fail> {
-    for (next, script, offset, kind) in TEXT_FAULTS {
+    for &(next, script, offset, kind) in &TEXT_FAULTS {
         let mut out = sheet_of(usize::MAX);
         let answer = play_next_texts(
             rt.alloc(),
@@ -74,7 +74,7 @@ fn the_first_text_is_judged_before_the_next(rt: HostRuntime) -> Result<(), Fail>
 }
 
 /// A text, a script and its fault. The lines before the fault are not played.
-const SCRIPT_FAULTS: [(&[u8], &str, ScriptFault); 6] = [
+static SCRIPT_FAULTS: [(&[u8], &str, ScriptFault); 6] = [
     (b"", "down 30\nup 128", ScriptFault::BadKey(2)),
     (b"", "reset\ndown", ScriptFault::BadLine(2)),
     (LETTER_AND_SHIFT, "down 0128", ScriptFault::BadKey(1)),
@@ -89,7 +89,7 @@ const SCRIPT_FAULTS: [(&[u8], &str, ScriptFault); 6] = [
 
 #[test]
 fn faults_of_a_script_are_named(rt: HostRuntime) -> Result<(), Fail> {
-    for (text, script, fault) in SCRIPT_FAULTS {
+    for &(text, script, fault) in &SCRIPT_FAULTS {
         let mut out = sheet_of(usize::MAX);
         let answer = play_texts(rt.alloc(), Show::Lines, text, script.as_bytes(), &mut out)?;
         let wanted = PlayError::Script(fault);
@@ -105,7 +105,7 @@ const LIMIT: usize = 1_048_576;
 const READS: u32 = 1_048_578;
 
 /// How many blanks there are, how many come at a time, and whether they are too many.
-const SIZES: [(usize, usize, bool); 3] = [
+static SIZES: [(usize, usize, bool); 3] = [
     (LIMIT, usize::MAX, false),
     (LIMIT + 1, usize::MAX, true),
     (usize::MAX, 1, true),
@@ -125,7 +125,7 @@ fn wanted_of(is_endless: bool, source: Source) -> Result<(), PlayError> {
 
 #[test]
 fn a_text_is_read_to_its_limit(rt: HostRuntime) -> Result<(), Fail> {
-    for (left, pace, is_endless) in SIZES {
+    for &(left, pace, is_endless) in &SIZES {
         let mut out = sheet_of(usize::MAX);
         let mut text = blanks_of(left, pace);
         let mut script = FromStd::new(b"".as_slice());
@@ -139,7 +139,7 @@ fn a_text_is_read_to_its_limit(rt: HostRuntime) -> Result<(), Fail> {
 
 #[test]
 fn a_next_text_is_read_to_its_limit(rt: HostRuntime) -> Result<(), Fail> {
-    for (left, pace, is_endless) in SIZES {
+    for &(left, pace, is_endless) in &SIZES {
         let mut out = sheet_of(usize::MAX);
         let mut text = FromStd::new(LETTER_AND_SHIFT);
         let mut next = blanks_of(left, pace);
@@ -161,7 +161,7 @@ fn a_next_text_is_read_to_its_limit(rt: HostRuntime) -> Result<(), Fail> {
 
 #[test]
 fn a_script_is_read_to_its_limit(rt: HostRuntime) -> Result<(), Fail> {
-    for (left, pace, is_endless) in SIZES {
+    for &(left, pace, is_endless) in &SIZES {
         let mut out = sheet_of(usize::MAX);
         let mut text = FromStd::new(LETTER_AND_SHIFT);
         let mut script = blanks_of(left, pace);

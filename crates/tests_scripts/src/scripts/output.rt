@@ -6,13 +6,13 @@ use console_core::Answer;
 use play_core::{Show, typed};
 use std::test::Fail;
 use test_devices::sheet_of;
-use test_keymaps::texts::{
+use test_keymaps::{
     ACCENTS, CAPS_AND_NUM, LETTER_AND_SHIFT, NOP_UNDER_CONTROL, SHIFT_AND_CAPS, SHIFT_WITH_TRAP,
     TWO_CONTROLS, TWO_SCROLL_LOCKS,
 };
 
 /// The text of a map, a script, and the lines that are written of it.
-const LINES: [(&[u8], &str, &str); 12] = [
+static LINES: [(&[u8], &str, &str); 12] = [
     (
         LETTER_AND_SHIFT,
         "down 42\ndown 30\nup 42\nrepeat 30",
@@ -110,7 +110,7 @@ load: none; mods none; locks none
 
 #[test]
 fn lines_are_written(rt: HostRuntime) -> Result<(), Fail> {
-    for (text, script, lines) in LINES {
+    for &(text, script, lines) in &LINES {
         let mut out = sheet_of(usize::MAX);
         let answer = play_texts(rt.alloc(), Show::Lines, text, script.as_bytes(), &mut out)?;
         expect_equal_at(&rt, &script, &answer, &Ok(()));
@@ -120,7 +120,7 @@ fn lines_are_written(rt: HostRuntime) -> Result<(), Fail> {
 }
 
 /// The texts of two maps, a script, and the lines that are written of it.
-const LOADS: [(&[u8], &[u8], &str, &str); 4] = [
+static LOADS: [(&[u8], &[u8], &str, &str); 4] = [
     (
         SHIFT_AND_CAPS,
         LETTER_AND_SHIFT,
@@ -165,7 +165,7 @@ release 58: none; mods none; locks none
 
 #[test]
 fn a_load_changes_the_map(rt: HostRuntime) -> Result<(), Fail> {
-    for (text, next, script, lines) in LOADS {
+    for &(text, next, script, lines) in &LOADS {
         let mut out = sheet_of(usize::MAX);
         let answer = play_next_texts(rt.alloc(), text, next, script.as_bytes(), &mut out)?;
         expect_equal_at(&rt, &script, &answer, &Ok(()));
@@ -175,7 +175,7 @@ fn a_load_changes_the_map(rt: HostRuntime) -> Result<(), Fail> {
 }
 
 /// The text of a map, a script, and the bytes that it types.
-const TYPED: [(&[u8], &str, &str); 3] = [
+static TYPED: [(&[u8], &str, &str); 3] = [
     (
         ACCENTS,
         "down 42\ndown 15\nup 15\nup 42\ndown 56\ndown 18\nup 56\n",
@@ -187,7 +187,7 @@ const TYPED: [(&[u8], &str, &str); 3] = [
 
 #[test]
 fn typed_bytes_are_written(rt: HostRuntime) -> Result<(), Fail> {
-    for (text, script, bytes) in TYPED {
+    for &(text, script, bytes) in &TYPED {
         let mut out = sheet_of(usize::MAX);
         let answer = play_texts(rt.alloc(), Show::Typed, text, script.as_bytes(), &mut out)?;
         expect_equal_at(&rt, &script, &answer, &Ok(()));

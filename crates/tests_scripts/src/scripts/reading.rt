@@ -21,7 +21,7 @@ fn scripts_are_read(rt: HostRuntime) -> Result<(), Fail> {
     Ok(())
 }
 
-const FAULTS: [(&str, ScriptFault); 10] = [
+static FAULTS: [(&str, ScriptFault); 10] = [
     ("down 128", ScriptFault::BadKey(1)),
     ("down 0128", ScriptFault::BadKey(1)),
     ("reset\ndown", ScriptFault::BadLine(2)),
@@ -39,7 +39,7 @@ const FAULTS: [(&str, ScriptFault); 10] = [
 
 #[test]
 fn faults_name_their_line(rt: HostRuntime) -> Result<(), Fail> {
-    for (script, fault) in FAULTS {
+    for &(script, fault) in &FAULTS {
         match read_script(rt.alloc(), script.as_bytes()) {
             Err(ScriptError::Memory) => return Err("out of memory".into()),
             answer => {

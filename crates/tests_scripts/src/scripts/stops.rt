@@ -10,7 +10,7 @@ use std::alloc::Global;
 use std::process::Abort;
 use std::test::Fail;
 use test_devices::{ROOM, Sheet, Tape, reader_of, sheet_of};
-use test_keymaps::texts::{ACCENTS, LETTER_AND_SHIFT, SHIFT_AND_CAPS};
+use test_keymaps::{ACCENTS, LETTER_AND_SHIFT, SHIFT_AND_CAPS};
 
 const SCRIPT: &[u8] = b"down 42\nload\n";
 
@@ -104,7 +104,7 @@ fn expect_few_writes(rt: &impl Abort, answer: &Result<(), PlayError>, out: &Shee
 }
 
 /// What is shown of a script on a map.
-const SHOWN: [(Show, &[u8], &str, &str); 2] = [
+static SHOWN: [(Show, &[u8], &str, &str); 2] = [
     (
         Show::Lines,
         LETTER_AND_SHIFT,
@@ -181,13 +181,13 @@ fn repeated(front: &[u8], line: &[u8], count: usize) -> ArrayVec<u8, ROOM> {
 }
 
 /// Where the writers of long outputs stop: about the most that is gathered before it is written.
-const STOPS: [usize; 8] = [0, 1, 4094, 4095, 4096, 4097, 4199, ROOM];
+static STOPS: [usize; 8] = [0, 1, 4094, 4095, 4096, 4097, 4199, ROOM];
 
 #[test]
 fn long_lines_are_written_in_few_writes(rt: HostRuntime) -> Result<(), Fail> {
     let script = repeated(b"", b"reset\n", 200);
     let shown: ArrayVec<u8, ROOM> = repeated(b"", b"reset: none; mods none; locks none\n", 200);
-    for most in STOPS {
+    for &most in &STOPS {
         let mut out = sheet_of(most);
         let answer = play_texts(rt.alloc(), Show::Lines, b"", script.as_slice(), &mut out)?;
         expect_few_writes(&rt, &answer, &out, shown.as_slice());
@@ -199,7 +199,7 @@ fn long_lines_are_written_in_few_writes(rt: HostRuntime) -> Result<(), Fail> {
 fn long_typed_bytes_are_written_in_few_writes(rt: HostRuntime) -> Result<(), Fail> {
     let script = repeated(b"down 42\n", b"repeat 15\n", 1400);
     let shown: ArrayVec<u8, ROOM> = repeated(b"", b"\x1b[Z", 1400);
-    for most in STOPS {
+    for &most in &STOPS {
         let mut out = sheet_of(most);
         let answer = play_texts(
             rt.alloc(),
@@ -217,7 +217,7 @@ fn long_typed_bytes_are_written_in_few_writes(rt: HostRuntime) -> Result<(), Fai
 fn many_answers_are_typed_in_few_writes(rt: HostRuntime) {
     let answers = [Answer::Char { c: 'é', meta: true }; 1400];
     let shown: ArrayVec<u8, ROOM> = repeated(b"", b"\x1b\xc3\xa9", 1400);
-    for most in STOPS {
+    for &most in &STOPS {
         let mut out = sheet_of(most);
         let answer = typed(&answers, &mut out).map_err(PlayError::Write);
         expect_few_writes(&rt, &answer, &out, shown.as_slice());

@@ -2,7 +2,7 @@
 
 use crate::asserts::{expect_at, expect_equal, expect_equal_at};
 use crate::tables::{
-    FORMS, Form, LENGTH, NARROW_LENGTH, fault, fault_of, settled, stopped, zero_bytes,
+    FORMS, Form, LENGTH, NARROW_LENGTH, fault, fault_of, map_of, settled, stopped, zero_bytes,
 };
 use keymap_core::{FromStd, KeyMap, Read, Write, WriteFault};
 use keymap_tables::{NarrowError, TableError, TableFaultKind};
@@ -10,8 +10,7 @@ use std::alloc::Global;
 use std::process::Abort;
 use std::test::Fail;
 use test_devices::{comparing_with, endless_blanks, reader_of, sheet_of};
-use test_keymaps::entries::{ACCENT_CODES, ACCENTS, ACUTE, LETTER_AND_SHIFT};
-use test_keymaps::{empty_map, map_of, map_with};
+use test_keymaps::{ACCENTS, LETTER_AND_SHIFT};
 
 /// What a read answers, the second time where it wants memory the first time.
 pub(crate) fn read_again(alloc: Global, form: Form, bytes: &[u8]) -> Result<KeyMap, TableError> {
@@ -41,8 +40,8 @@ pub(crate) fn read_device_again(
 /// after it the map.
 #[test]
 fn the_empty_map_is_zeros(rt: HostRuntime) -> Result<(), Fail> {
-    let empty = empty_map(rt.alloc())?;
-    for form in FORMS {
+    let empty = map_of(rt.alloc(), b"")?;
+    for &form in &FORMS {
         let mut sheet = sheet_of(LENGTH);
         form.write(&empty, &mut sheet)?;
         expect_equal(&rt, &sheet.bytes.len(), &form.length());
@@ -105,9 +104,9 @@ fn a_wrong_length_is_refused(rt: HostRuntime) -> Result<(), Fail> {
 
 #[test]
 fn each_proper_prefix_is_short(rt: HostRuntime) -> Result<(), Fail> {
-    for form in FORMS {
+    for &form in &FORMS {
         let mut sheet = sheet_of(LENGTH);
-        form.write(&map_of(rt.alloc(), &LETTER_AND_SHIFT)?, &mut sheet)?;
+        form.write(&map_of(rt.alloc(), LETTER_AND_SHIFT)?, &mut sheet)?;
         for length in 0..form.length() {
             let prefix = sheet.bytes.as_slice().get(..length).ok_or("no prefix")?;
             let wanted = fault(length as u64, TableFaultKind::Short);
@@ -133,7 +132,7 @@ fn a_reader_without_end_is_left(rt: HostRuntime) -> Result<(), Fail> {
 /// A reader that fails after each number of bytes, after the last one too, is named with that number.
 #[test]
 fn a_failing_reader_is_a_fault(rt: HostRuntime) -> Result<(), Fail> {
-    for form in FORMS {
+    for &form in &FORMS {
         let zeros = zero_bytes(rt.alloc(), form.length())?;
         for most in 0..=form.length() {
             let mut reader = reader_of(&zeros, form.length(), most);
@@ -147,8 +146,8 @@ fn a_failing_reader_is_a_fault(rt: HostRuntime) -> Result<(), Fail> {
 
 #[test]
 fn a_reader_of_short_reads_is_read_whole(rt: HostRuntime) -> Result<(), Fail> {
-    let map = map_of(rt.alloc(), &LETTER_AND_SHIFT)?;
-    for form in FORMS {
+    let map = map_of(rt.alloc(), LETTER_AND_SHIFT)?;
+    for &form in &FORMS {
         let mut sheet = sheet_of(LENGTH);
         form.write(&map, &mut sheet)?;
         for pace in [1, 3, 511, 4096] {
@@ -165,7 +164,7 @@ fn a_reader_of_short_reads_is_read_whole(rt: HostRuntime) -> Result<(), Fail> {
 fn files_are_written_in_few_writes(rt: HostRuntime) -> Result<(), Fail> {
     for (form, most) in [(Form::Wide, 8), (Form::Narrow, 4)] {
         let mut whole = sheet_of(LENGTH);
-        form.write(&map_of(rt.alloc(), &LETTER_AND_SHIFT)?, &mut whole)?;
+        form.write(&map_of(rt.alloc(), LETTER_AND_SHIFT)?, &mut whole)?;
         assert!(rt; whole.writes <= most, "{form:?}, {} writes", whole.writes);
     }
     Ok(())
@@ -173,7 +172,7 @@ fn files_are_written_in_few_writes(rt: HostRuntime) -> Result<(), Fail> {
 
 /// Whether a writer that fails after so many bytes, for each number of a range, took just these and is named.
 fn failures_are_told(rt: &HostRuntime, form: Form, from: usize, upto: usize) -> Result<bool, Fail> {
-    let map = map_of(rt.alloc(), &LETTER_AND_SHIFT)?;
+    let map = map_of(rt.alloc(), LETTER_AND_SHIFT)?;
     let mut whole = sheet_of(LENGTH);
     form.write(&map, &mut whole)?;
     for most in from..upto {
@@ -262,14 +261,14 @@ fn stays_exact(
 
 #[test]
 fn each_byte_plus_one_is_a_fault_or_another_map(rt: HostRuntime) -> Result<(), Fail> {
-    let map = map_of(rt.alloc(), &LETTER_AND_SHIFT)?;
+    let map = map_of(rt.alloc(), LETTER_AND_SHIFT)?;
     assert!(rt; stays_exact(&rt, Form::Wide, &map, 1, 0)?);
     Ok(())
 }
 
 #[test]
 fn each_turned_top_bit_is_a_fault_or_another_map(rt: HostRuntime) -> Result<(), Fail> {
-    let map = map_of(rt.alloc(), &LETTER_AND_SHIFT)?;
+    let map = map_of(rt.alloc(), LETTER_AND_SHIFT)?;
     assert!(rt; stays_exact(&rt, Form::Wide, &map, 0, 0x80)?);
     Ok(())
 }
@@ -278,7 +277,7 @@ fn each_turned_top_bit_is_a_fault_or_another_map(rt: HostRuntime) -> Result<(), 
 fn each_changed_byte_of_a_narrow_file_is_a_fault_or_another_map(
     rt: HostRuntime,
 ) -> Result<(), Fail> {
-    let map = map_with(rt.alloc(), &ACCENTS, &ACCENT_CODES, &ACUTE)?;
+    let map = map_of(rt.alloc(), ACCENTS)?;
     for (step, mask) in [(1, 0), (0, 0x80)] {
         assert!(rt; stays_exact(&rt, Form::Narrow, &map, step, mask)?);
     }

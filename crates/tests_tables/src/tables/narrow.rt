@@ -2,7 +2,7 @@
 
 use crate::asserts::{expect_at, expect_equal};
 use crate::tables::both::{Changed, expect_faults, read_again, read_device_again};
-use crate::tables::{Form, LENGTH, NARROW_LENGTH, settled};
+use crate::tables::{Form, LENGTH, NARROW_LENGTH, map_of, settled};
 use keymap_core::{
     Accent, Action, Cell, Entry, FunctionNumber, KeyMap, LockFlag, ScreenNumber, Write,
 };
@@ -12,12 +12,14 @@ use keymap_tables::{
 use std::alloc::Global;
 use std::test::Fail;
 use test_devices::sheet_of;
-use test_keymaps::entries::{ACCENT_CODES, ACCENTS, ACUTE, LETTER_AND_SHIFT, Line};
-use test_keymaps::{empty_map, entries, map_of, map_with};
+use test_keymaps::{
+    ACCENTS, ALT_SHIFT_WITH_TRAP, CAPS_AND_NUM, LETTER_AND_SHIFT, SHIFT_AND_CAPS, SHIFT_WITH_TRAP,
+    TWO_CONTROLS, TWO_SCROLL_LOCKS, UPPER_HALF,
+};
 
 #[test]
 fn a_map_of_a_letter_and_a_shift_has_its_bytes(rt: HostRuntime) -> Result<(), Fail> {
-    let map = map_of(rt.alloc(), &LETTER_AND_SHIFT)?;
+    let map = map_of(rt.alloc(), LETTER_AND_SHIFT)?;
     let mut sheet = sheet_of(LENGTH);
     write_narrow(&map, &mut sheet)?;
     let bytes = sheet.bytes.as_slice();
@@ -36,7 +38,7 @@ fn a_map_of_a_letter_and_a_shift_has_its_bytes(rt: HostRuntime) -> Result<(), Fa
 
 #[test]
 fn accents_have_their_bytes(rt: HostRuntime) -> Result<(), Fail> {
-    let map = map_with(rt.alloc(), &ACCENTS, &ACCENT_CODES, &ACUTE)?;
+    let map = map_of(rt.alloc(), ACCENTS)?;
     let mut sheet = sheet_of(LENGTH);
     write_narrow(&map, &mut sheet)?;
     let bytes = sheet.bytes.as_slice();
@@ -46,29 +48,31 @@ fn accents_have_their_bytes(rt: HostRuntime) -> Result<(), Fail> {
     Ok(())
 }
 
+/// Changes of a narrow file of zeros.
+static FAULTS: [Changed; 10] = [
+    (&[(0, 1), (1, 1)], 0, TableFaultKind::BadCount),
+    (&[(2562, 16)], 2562, TableFaultKind::BadCount),
+    (&[(0, 1), (11, 4)], 11, TableFaultKind::BadFlag),
+    (
+        &[(0, 1), (2, 0x9b), (10, 0x80)],
+        2,
+        TableFaultKind::Combined,
+    ),
+    (&[(0, 1), (9, 0x7b), (10, 1)], 9, TableFaultKind::BadAction),
+    (&[(12, 1)], 12, TableFaultKind::NotEmpty),
+    (&[(0, 1), (12, 1)], 12, TableFaultKind::NotEmpty),
+    (&[(2562, 1), (2566, 1)], 2566, TableFaultKind::NotEmpty),
+    (
+        &[(2562, 1), (2565, 1), (2567, 0), (2569, 1)],
+        2569,
+        TableFaultKind::NotEmpty,
+    ),
+    (&[(2562, 1), (2669, 1)], 2669, TableFaultKind::NotEmpty),
+];
+
 #[test]
 fn each_fault_is_at_its_offset(rt: HostRuntime) -> Result<(), Fail> {
-    let rows: [Changed; 10] = [
-        (&[(0, 1), (1, 1)], 0, TableFaultKind::BadCount),
-        (&[(2562, 16)], 2562, TableFaultKind::BadCount),
-        (&[(0, 1), (11, 4)], 11, TableFaultKind::BadFlag),
-        (
-            &[(0, 1), (2, 0x9b), (10, 0x80)],
-            2,
-            TableFaultKind::Combined,
-        ),
-        (&[(0, 1), (9, 0x7b), (10, 1)], 9, TableFaultKind::BadAction),
-        (&[(12, 1)], 12, TableFaultKind::NotEmpty),
-        (&[(0, 1), (12, 1)], 12, TableFaultKind::NotEmpty),
-        (&[(2562, 1), (2566, 1)], 2566, TableFaultKind::NotEmpty),
-        (
-            &[(2562, 1), (2565, 1), (2567, 0), (2569, 1)],
-            2569,
-            TableFaultKind::NotEmpty,
-        ),
-        (&[(2562, 1), (2669, 1)], 2669, TableFaultKind::NotEmpty),
-    ];
-    expect_faults(&rt, rt.alloc(), Form::Narrow, &rows)
+    expect_faults(&rt, rt.alloc(), Form::Narrow, &FAULTS)
 }
 
 /// A key of letters, control characters, the first function key and the last screen, the sign of the euro in column 6.
@@ -90,7 +94,7 @@ fn key_with_euro() -> Entry {
 
 #[test]
 fn the_first_cell_that_does_not_fit_is_named(rt: HostRuntime) -> Result<(), Fail> {
-    let mut map = map_of(rt.alloc(), &LETTER_AND_SHIFT)?;
+    let mut map = map_of(rt.alloc(), LETTER_AND_SHIFT)?;
     map.set(0, key_with_euro());
     map.set(7, key_with_euro());
     map.set_accent(1, Accent::new('\u{20ac}'))?;
@@ -107,7 +111,7 @@ fn the_first_cell_that_does_not_fit_is_named(rt: HostRuntime) -> Result<(), Fail
 
 /// The number of the first character of an accent that doesn't fit, and nothing is written.
 fn named_number(alloc: Global, accent: Accent) -> Result<Option<Wide>, Fail> {
-    let mut map = map_of(alloc, &LETTER_AND_SHIFT)?;
+    let mut map = map_of(alloc, LETTER_AND_SHIFT)?;
     map.set_accent(1, accent)?;
     let mut sheet = sheet_of(LENGTH);
     match write_narrow(&map, &mut sheet) {
@@ -148,7 +152,7 @@ fn the_first_character_of_an_accent_that_does_not_fit_is_named(
 
 /// A map of one key with this character in its last column.
 fn map_of_character(alloc: Global, character: char) -> Result<KeyMap, Fail> {
-    let mut map = empty_map(alloc)?;
+    let mut map = map_of(alloc, b"")?;
     let mut cells = [Cell::Char('a'); 8];
     cells[7] = Cell::Char(character);
     let flag = LockFlag::O;
@@ -192,22 +196,21 @@ fn comes_back(alloc: Global, map: &KeyMap) -> Result<bool, Fail> {
 
 #[test]
 fn wide_files_become_narrow_and_come_back(rt: HostRuntime) -> Result<(), Fail> {
-    let rows: [&[Line]; 9] = [
-        &[],
-        &LETTER_AND_SHIFT,
-        &entries::TWO_SCROLL_LOCKS,
-        &entries::SHIFT_WITH_TRAP,
-        &entries::ALT_SHIFT_WITH_TRAP,
-        &entries::CAPS_AND_NUM,
-        &entries::TWO_CONTROLS,
-        &entries::UPPER_HALF,
-        &entries::SHIFT_AND_CAPS,
+    let texts: [&[u8]; 10] = [
+        b"",
+        LETTER_AND_SHIFT,
+        TWO_SCROLL_LOCKS,
+        SHIFT_WITH_TRAP,
+        ALT_SHIFT_WITH_TRAP,
+        CAPS_AND_NUM,
+        ACCENTS,
+        TWO_CONTROLS,
+        UPPER_HALF,
+        SHIFT_AND_CAPS,
     ];
-    for lines in rows {
-        let map = map_of(rt.alloc(), lines)?;
-        expect_at(&rt, &lines, comes_back(rt.alloc(), &map)?);
+    for text in texts {
+        let map = map_of(rt.alloc(), text)?;
+        expect_at(&rt, &text, comes_back(rt.alloc(), &map)?);
     }
-    let accents = map_with(rt.alloc(), &ACCENTS, &ACCENT_CODES, &ACUTE)?;
-    assert!(rt; comes_back(rt.alloc(), &accents)?);
     Ok(())
 }

@@ -2,6 +2,10 @@
 
 use crate::asserts::expect_equal_at;
 use crate::texts::{read_pieces, settled};
+use keymap_text::TextFaultKind::{
+    BadChar, BadFunction, BadLiteral, BadWord, Combined, EndInside, KeyTooLarge, Unexpected,
+    ZeroBase,
+};
 use keymap_text::{TextError, TextFault, TextFaultKind, read_map};
 use std::alloc::Global;
 use std::process::Abort;
@@ -26,7 +30,7 @@ const FULL_ACCENT: &[u8] = b"dgra 96 \
 
 /// What stands before a definition, a cell, a lock letter, an accent's character, after that, after a pair, after the
 /// last of 52 pairs, before a pair's base, its result, and its end.
-const PLACES: [&[u8]; 10] = [
+static PLACES: [&[u8]; 10] = [
     b"",
     b"1 ",
     b"1 nop nop nop nop nop nop nop nop ",
@@ -64,7 +68,7 @@ const COMBINED: Option<TextFaultKind> = Some(TextFaultKind::Combined);
 const INSIDE: Option<TextFaultKind> = Some(TextFaultKind::EndInside);
 
 /// A token, and the fault of the text that ends with it at each of the places; none where that text is whole.
-const TOKENS: [(&[u8], Kinds); 25] = [
+static TOKENS: [(&[u8], Kinds); 25] = [
     (b"@", [BYTE; 10]),
     (b"'ab'", [LITERAL; 10]),
     (b"unknown", [WORD; 10]),
@@ -197,7 +201,7 @@ fn assert_fault(
 
 #[test]
 fn each_kind_of_fault_is_found_at_each_place(rt: HostRuntime) -> Result<(), Fail> {
-    for (token, kinds) in TOKENS {
+    for &(token, kinds) in &TOKENS {
         for (place, kind) in PLACES.iter().zip(kinds) {
             assert_fault(&rt, rt.alloc(), place, token, kind)?;
         }
@@ -218,35 +222,32 @@ fn texts_end_where_definitions_do(rt: HostRuntime) -> Result<(), Fail> {
 }
 
 /// Texts, and the offset, line and kind of their fault.
+static FAULTS: [(&[u8], u64, u64, TextFaultKind); 20] = [
+    (b"1 'ab'", 2, 1, BadLiteral),
+    (b"256", 0, 1, KeyTooLarge),
+    (b"4294967296", 0, 1, KeyTooLarge),
+    (b"18446744073709551616", 0, 1, KeyTooLarge),
+    (b"1 4294967393", 2, 1, BadChar),
+    (b"30 nul", 6, 1, EndInside),
+    (b"30 97", 5, 1, EndInside),
+    (b"1 fkey96", 8, 1, EndInside),
+    (b"1 fkey97", 2, 1, BadFunction),
+    (b"1 scr0", 2, 1, BadFunction),
+    (b"1 fkey4294967297", 2, 1, BadFunction),
+    (b"dgra 96 ( 0 'a' )", 10, 1, ZeroBase),
+    (b"1 lshifta", 2, 1, Combined),
+    (b"1 '", 3, 1, EndInside),
+    (b"1 'a' 'a' 'a' 'a' 'a' 'a' 'a' 'a'", 33, 1, EndInside),
+    (b"dacu 180 ( 'e'", 14, 1, EndInside),
+    (b"\n\n1 C", 4, 3, Unexpected),
+    (b"\r\r1 C", 4, 1, Unexpected),
+    (b"1 nul#\n\n(", 8, 3, Unexpected),
+    (b"zzz@", 0, 1, BadWord),
+];
+
 #[test]
 fn the_first_fault_is_answered(rt: HostRuntime) -> Result<(), Fail> {
-    use TextFaultKind::{
-        BadChar, BadFunction, BadLiteral, BadWord, Combined, EndInside, KeyTooLarge, Unexpected,
-        ZeroBase,
-    };
-    let texts: [(&[u8], u64, u64, TextFaultKind); 20] = [
-        (b"1 'ab'", 2, 1, BadLiteral),
-        (b"256", 0, 1, KeyTooLarge),
-        (b"4294967296", 0, 1, KeyTooLarge),
-        (b"18446744073709551616", 0, 1, KeyTooLarge),
-        (b"1 4294967393", 2, 1, BadChar),
-        (b"30 nul", 6, 1, EndInside),
-        (b"30 97", 5, 1, EndInside),
-        (b"1 fkey96", 8, 1, EndInside),
-        (b"1 fkey97", 2, 1, BadFunction),
-        (b"1 scr0", 2, 1, BadFunction),
-        (b"1 fkey4294967297", 2, 1, BadFunction),
-        (b"dgra 96 ( 0 'a' )", 10, 1, ZeroBase),
-        (b"1 lshifta", 2, 1, Combined),
-        (b"1 '", 3, 1, EndInside),
-        (b"1 'a' 'a' 'a' 'a' 'a' 'a' 'a' 'a'", 33, 1, EndInside),
-        (b"dacu 180 ( 'e'", 14, 1, EndInside),
-        (b"\n\n1 C", 4, 3, Unexpected),
-        (b"\r\r1 C", 4, 1, Unexpected),
-        (b"1 nul#\n\n(", 8, 3, Unexpected),
-        (b"zzz@", 0, 1, BadWord),
-    ];
-    for (text, offset, line, kind) in texts {
+    for &(text, offset, line, kind) in &FAULTS {
         let fault = TextFault { offset, line, kind };
         let found = settled(read_map(rt.alloc(), text))?.err();
         expect_equal_at(&rt, &text, &found, &Some(TextError::Fault(fault)));

@@ -7,7 +7,6 @@ use keymap_text::{print_map, read_map};
 use std::alloc::{AllocError, Global};
 use std::test::Fail;
 use test_devices::{comparing_with, slow_sheet_of};
-use test_keymaps::texts;
 
 /// A text, how many lines its map has for keys, those that are not undefined, and the lines for accents.
 #[derive(Clone, Copy)]
@@ -23,7 +22,7 @@ const UNDEFINED: &[u8] = b" nul    nul    nul    nul    nul    nul    nul    nul
 
 /// A map of more bytes than are gathered before they are written.
 const LONG: Printed = Printed {
-    text: texts::ACCENTS,
+    text: test_keymaps::ACCENTS,
     keys: 93,
     lines: &[
         (
@@ -72,7 +71,7 @@ dacu 0x00b4 ( 'e' 0x00e9 ) ( 'E' 0x00c9 ) ( 'e' 0x00ea )
 ",
 };
 
-const MAPS: [Printed; 17] = [
+static MAPS: [Printed; 17] = [
     Printed {
         text: b"",
         keys: 0,
@@ -80,7 +79,7 @@ const MAPS: [Printed; 17] = [
         accents: b"",
     },
     Printed {
-        text: texts::LETTER_AND_SHIFT,
+        text: test_keymaps::LETTER_AND_SHIFT,
         keys: 43,
         lines: &[
             (
@@ -95,7 +94,7 @@ const MAPS: [Printed; 17] = [
         accents: b"",
     },
     Printed {
-        text: texts::TWO_SCROLL_LOCKS,
+        text: test_keymaps::TWO_SCROLL_LOCKS,
         keys: 105,
         lines: &[
             (
@@ -110,7 +109,7 @@ const MAPS: [Printed; 17] = [
         accents: b"",
     },
     Printed {
-        text: texts::SHIFT_WITH_TRAP,
+        text: test_keymaps::SHIFT_WITH_TRAP,
         keys: 43,
         lines: &[
             (
@@ -125,7 +124,7 @@ const MAPS: [Printed; 17] = [
         accents: b"",
     },
     Printed {
-        text: texts::ALT_SHIFT_WITH_TRAP,
+        text: test_keymaps::ALT_SHIFT_WITH_TRAP,
         keys: 94,
         lines: &[
             (
@@ -140,7 +139,7 @@ const MAPS: [Printed; 17] = [
         accents: b"",
     },
     Printed {
-        text: texts::CAPS_AND_NUM,
+        text: test_keymaps::CAPS_AND_NUM,
         keys: 70,
         lines: &[
             (
@@ -160,7 +159,7 @@ const MAPS: [Printed; 17] = [
     },
     LONG,
     Printed {
-        text: texts::TWO_CONTROLS,
+        text: test_keymaps::TWO_CONTROLS,
         keys: 43,
         lines: &[
             (
@@ -175,7 +174,7 @@ const MAPS: [Printed; 17] = [
         accents: b"",
     },
     Printed {
-        text: texts::UPPER_HALF,
+        text: test_keymaps::UPPER_HALF,
         keys: 222,
         lines: &[
             (
@@ -206,7 +205,7 @@ const MAPS: [Printed; 17] = [
         accents: b"",
     },
     Printed {
-        text: texts::SHIFT_AND_CAPS,
+        text: test_keymaps::SHIFT_AND_CAPS,
         keys: 59,
         lines: &[
             (

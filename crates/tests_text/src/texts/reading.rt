@@ -5,13 +5,12 @@ use crate::texts::{DUMPED, read_pieces, settled};
 use keymap_core::{
     Action, Cell, Entry, FunctionNumber, KeyMap, LockFlag, Modifier, ScreenNumber, ToStd,
 };
+use keymap_text::TextFaultKind::{BadLiteral, BadWord, EndInside, KeyTooLarge, Unexpected};
 use keymap_text::{MapReader, TextError, TextFault, TextFaultKind, print_map, read_map};
 use std::alloc::Global;
 use std::process::Abort;
 use std::test::Fail;
-use test_keymaps::entries::{ACCENT_CODES, ACUTE, Line};
-use test_keymaps::texts::{ACCENTS, LETTER_AND_SHIFT, UPPER_HALF};
-use test_keymaps::{entries, map_of, map_with, texts};
+use test_keymaps::{ACCENTS, LETTER_AND_SHIFT, UPPER_HALF};
 
 #[test]
 fn the_empty_text_is_the_map_of_no_keys(rt: HostRuntime) -> Result<(), Fail> {
@@ -101,29 +100,6 @@ fn dumped_lines_are_read(rt: HostRuntime) -> Result<(), Fail> {
     expect_equal(&rt, &entry.cells[1], &Cell::Act(Action::Saver));
     expect_equal(&rt, &entry.cells[4], &Cell::Act(Action::Suspend));
     expect_equal(&rt, &entry.flag, &LockFlag::O);
-    Ok(())
-}
-
-/// So a test may take a keymap as a text or as the map that is built by hand.
-#[test]
-fn texts_are_read_as_the_maps_built_by_hand(rt: HostRuntime) -> Result<(), Fail> {
-    let rows: [(&[u8], &[Line]); 9] = [
-        (b"", &[]),
-        (LETTER_AND_SHIFT, &entries::LETTER_AND_SHIFT),
-        (texts::TWO_SCROLL_LOCKS, &entries::TWO_SCROLL_LOCKS),
-        (texts::SHIFT_WITH_TRAP, &entries::SHIFT_WITH_TRAP),
-        (texts::ALT_SHIFT_WITH_TRAP, &entries::ALT_SHIFT_WITH_TRAP),
-        (texts::CAPS_AND_NUM, &entries::CAPS_AND_NUM),
-        (texts::TWO_CONTROLS, &entries::TWO_CONTROLS),
-        (UPPER_HALF, &entries::UPPER_HALF),
-        (texts::SHIFT_AND_CAPS, &entries::SHIFT_AND_CAPS),
-    ];
-    for (text, lines) in rows {
-        let map = settled(read_map(rt.alloc(), text))??;
-        expect_at(&rt, &text, map == map_of(rt.alloc(), lines)?);
-    }
-    let built = map_with(rt.alloc(), &entries::ACCENTS, &ACCENT_CODES, &ACUTE)?;
-    assert!(rt; settled(read_map(rt.alloc(), ACCENTS))?? == built);
     Ok(())
 }
 
@@ -223,33 +199,33 @@ fn accents_are_read(rt: HostRuntime) -> Result<(), Fail> {
     Ok(())
 }
 
+static FEEDINGS: [Feeding; 8] = [
+    (&[b"25", b"6"], 0, KeyTooLarge, false),
+    (&[b"25", b"6", b" "], 0, KeyTooLarge, true),
+    (&[b"1 ", b"'\xc3", b"\xa9", b"'"], 6, EndInside, false),
+    (&[b"1 ", b"''", b"a"], 2, BadLiteral, true),
+    (&[b"1 ", b"''"], 4, EndInside, false),
+    (
+        &[b"1 ", b"xxxxxxxxxxxxxxxxxxxxxxxxxxxxxxxx"],
+        2,
+        BadWord,
+        false,
+    ),
+    (
+        &[b"1 ", b"xxxxxxxxxxxxxxxxxxxxxxxxxxxxxxxx", b"x"],
+        2,
+        BadWord,
+        true,
+    ),
+    (&[b"1 ("], 2, Unexpected, true),
+];
+
 /// Pieces, the offset and kind of the fault, and whether it comes before the end.
 type Feeding = (&'static [&'static [u8]], u64, TextFaultKind, bool);
 
 #[test]
 fn words_are_judged_when_they_are_complete(rt: HostRuntime) -> Result<(), Fail> {
-    use TextFaultKind::{BadLiteral, BadWord, EndInside, KeyTooLarge, Unexpected};
-    let texts: [Feeding; 8] = [
-        (&[b"25", b"6"], 0, KeyTooLarge, false),
-        (&[b"25", b"6", b" "], 0, KeyTooLarge, true),
-        (&[b"1 ", b"'\xc3", b"\xa9", b"'"], 6, EndInside, false),
-        (&[b"1 ", b"''", b"a"], 2, BadLiteral, true),
-        (&[b"1 ", b"''"], 4, EndInside, false),
-        (
-            &[b"1 ", b"xxxxxxxxxxxxxxxxxxxxxxxxxxxxxxxx"],
-            2,
-            BadWord,
-            false,
-        ),
-        (
-            &[b"1 ", b"xxxxxxxxxxxxxxxxxxxxxxxxxxxxxxxx", b"x"],
-            2,
-            BadWord,
-            true,
-        ),
-        (&[b"1 ("], 2, Unexpected, true),
-    ];
-    for (pieces, offset, kind, early) in texts {
+    for &(pieces, offset, kind, early) in &FEEDINGS {
         let wanted = TextFault {
             offset,
             line: 1,

@@ -5,7 +5,7 @@ use keymap_core::{FromStd, Read, ReadFault, ReadFaultKind};
 use keymap_text::{TextError, TextFault, TextFaultKind, read_from, read_map};
 use std::test::Fail;
 use test_devices::{blanks_of, reader_of, tape_of};
-use test_keymaps::texts::LETTER_AND_SHIFT;
+use test_keymaps::LETTER_AND_SHIFT;
 
 const LIMIT: usize = 1_048_576;
 

@@ -2,6 +2,7 @@
 
 use crate::asserts::{expect_equal, expect_equal_at};
 use keymap_core::{AccentIndex, Action, FunctionNumber, Lock, LockFlag, Modifier, ScreenNumber};
+use keymap_text::TextFaultKind::{BadByte, BadLiteral, BadWord, EndInside};
 use keymap_text::{Meaning, Span, TextFaultKind, TokenKind, next_token, word_meaning};
 use std::test::Fail;
 
@@ -21,40 +22,41 @@ fn a_word_ends_with_the_text(rt: HostRuntime) -> Result<(), Fail> {
 }
 
 /// The first token of each text, where it ends, or none.
+static TOKENS: [(&[u8], Option<(TokenKind, usize, usize)>); 20] = [
+    (b"", None),
+    (b" \t\r\n# nop\rnop", None),
+    (b"# nop\n(", Some((TokenKind::ParenL, 6, 7))),
+    (b")nop", Some((TokenKind::ParenR, 0, 1))),
+    (b"030nop ", Some((TokenKind::Word, 0, 6))),
+    (b"nop'a'", Some((TokenKind::Word, 0, 3))),
+    (
+        b"12345678901234567890123456789012",
+        Some((TokenKind::Word, 0, 32)),
+    ),
+    (b" 'a'", Some((TokenKind::Literal('a'), 1, 4))),
+    (b"'''", Some((TokenKind::Literal('\''), 0, 3))),
+    (b"'\\'", Some((TokenKind::Literal('\\'), 0, 3))),
+    (b"'#'", Some((TokenKind::Literal('#'), 0, 3))),
+    (b"' '", Some((TokenKind::Literal(' '), 0, 3))),
+    (b"'\0'", Some((TokenKind::Literal('\0'), 0, 3))),
+    (b"'\t'", Some((TokenKind::Literal('\t'), 0, 3))),
+    (b"'\r'", Some((TokenKind::Literal('\r'), 0, 3))),
+    (b"'\xc3\xa9'", Some((TokenKind::Literal('\u{e9}'), 0, 4))),
+    (b"'\xe9'", Some((TokenKind::Literal('\u{e9}'), 0, 3))),
+    (b"'\x80'", Some((TokenKind::Literal('\u{80}'), 0, 3))),
+    (
+        b"'\xe2\x82\xac'",
+        Some((TokenKind::Literal('\u{20ac}'), 0, 5)),
+    ),
+    (
+        b"'\xf4\x8f\xbf\xbf'",
+        Some((TokenKind::Literal('\u{10ffff}'), 0, 6)),
+    ),
+];
+
 #[test]
 fn first_tokens_are_found(rt: HostRuntime) -> Result<(), Fail> {
-    let texts: [(&[u8], Option<(TokenKind, usize, usize)>); 20] = [
-        (b"", None),
-        (b" \t\r\n# nop\rnop", None),
-        (b"# nop\n(", Some((TokenKind::ParenL, 6, 7))),
-        (b")nop", Some((TokenKind::ParenR, 0, 1))),
-        (b"030nop ", Some((TokenKind::Word, 0, 6))),
-        (b"nop'a'", Some((TokenKind::Word, 0, 3))),
-        (
-            b"12345678901234567890123456789012",
-            Some((TokenKind::Word, 0, 32)),
-        ),
-        (b" 'a'", Some((TokenKind::Literal('a'), 1, 4))),
-        (b"'''", Some((TokenKind::Literal('\''), 0, 3))),
-        (b"'\\'", Some((TokenKind::Literal('\\'), 0, 3))),
-        (b"'#'", Some((TokenKind::Literal('#'), 0, 3))),
-        (b"' '", Some((TokenKind::Literal(' '), 0, 3))),
-        (b"'\0'", Some((TokenKind::Literal('\0'), 0, 3))),
-        (b"'\t'", Some((TokenKind::Literal('\t'), 0, 3))),
-        (b"'\r'", Some((TokenKind::Literal('\r'), 0, 3))),
-        (b"'\xc3\xa9'", Some((TokenKind::Literal('\u{e9}'), 0, 4))),
-        (b"'\xe9'", Some((TokenKind::Literal('\u{e9}'), 0, 3))),
-        (b"'\x80'", Some((TokenKind::Literal('\u{80}'), 0, 3))),
-        (
-            b"'\xe2\x82\xac'",
-            Some((TokenKind::Literal('\u{20ac}'), 0, 5)),
-        ),
-        (
-            b"'\xf4\x8f\xbf\xbf'",
-            Some((TokenKind::Literal('\u{10ffff}'), 0, 6)),
-        ),
-    ];
-    for (text, wanted) in texts {
+    for &(text, wanted) in &TOKENS {
         let found = next_token(text, 0)?.map(|token| (
             token.kind,
             token.span.start,
@@ -66,33 +68,33 @@ fn first_tokens_are_found(rt: HostRuntime) -> Result<(), Fail> {
 }
 
 /// The fault of the first token of each text, and its offset.
+static BROKEN: [(&[u8], TextFaultKind, u64); 21] = [
+    (b" 'ab'", BadLiteral, 1),
+    (b"''x", BadLiteral, 0),
+    (b"'\n'", BadLiteral, 0),
+    (b"'a\n", BadLiteral, 0),
+    (b"'\xc0\x80", BadLiteral, 0),
+    (b"'\xe0\x80", BadLiteral, 0),
+    (b"'\xed\xa0", BadLiteral, 0),
+    (b"'\xf4\x90", BadLiteral, 0),
+    (b"'\xc3\xa9\xc3", BadLiteral, 0),
+    (b"'", EndInside, 1),
+    (b"''", EndInside, 2),
+    (b" 'a", EndInside, 3),
+    (b"'\xff", EndInside, 2),
+    (b"'\xc3", EndInside, 2),
+    (b"'\xe0\xa0", EndInside, 3),
+    (b"'\xf4\x8f\xbf\xbf", EndInside, 5),
+    (b"123456789012345678901234567890123", BadWord, 0),
+    (b"\n\x0c", BadByte, 1),
+    (b"\x0b", BadByte, 0),
+    (b"\xef\xbb\xbf1", BadByte, 0),
+    (b"_", BadByte, 0),
+];
+
 #[test]
 fn broken_tokens_are_refused(rt: HostRuntime) -> Result<(), Fail> {
-    use TextFaultKind::{BadByte, BadLiteral, BadWord, EndInside};
-    let texts: [(&[u8], TextFaultKind, u64); 21] = [
-        (b" 'ab'", BadLiteral, 1),
-        (b"''x", BadLiteral, 0),
-        (b"'\n'", BadLiteral, 0),
-        (b"'a\n", BadLiteral, 0),
-        (b"'\xc0\x80", BadLiteral, 0),
-        (b"'\xe0\x80", BadLiteral, 0),
-        (b"'\xed\xa0", BadLiteral, 0),
-        (b"'\xf4\x90", BadLiteral, 0),
-        (b"'\xc3\xa9\xc3", BadLiteral, 0),
-        (b"'", EndInside, 1),
-        (b"''", EndInside, 2),
-        (b" 'a", EndInside, 3),
-        (b"'\xff", EndInside, 2),
-        (b"'\xc3", EndInside, 2),
-        (b"'\xe0\xa0", EndInside, 3),
-        (b"'\xf4\x8f\xbf\xbf", EndInside, 5),
-        (b"123456789012345678901234567890123", BadWord, 0),
-        (b"\n\x0c", BadByte, 1),
-        (b"\x0b", BadByte, 0),
-        (b"\xef\xbb\xbf1", BadByte, 0),
-        (b"_", BadByte, 0),
-    ];
-    for (text, kind, offset) in texts {
+    for &(text, kind, offset) in &BROKEN {
         let fault = next_token(text, 0).err().ok_or("no fault")?;
         expect_equal_at(&rt, &text, &(fault.kind, fault.offset), &(kind, offset));
     }

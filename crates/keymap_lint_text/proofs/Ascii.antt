@@ -1,0 +1,124 @@
+-- Bytes of ASCII that are shown as they are.
+use Rattle.std.proofs.Common.{◌≡◌, ◌⊎◌, inl, inr, ℕ, ◌+◌, ◌-◌, ◌<◌, ◌≤◌, true, List, [], ◌∷◌, ◌++◌, length, map, take}
+use Rattle.std.proofs.Common.{drop}
+use Rattle.std.proofs.Common.{refl, ap, sym, ◌∙◌, arith, take_all, length-append, length-drop, take-append-drop}
+use Rattle.std.specs.Prelude.{min}
+use Rattle.std.proofs.Math.Seq.{take-append_seam, drop-append_seam}
+use Rattle.std.proofs.lemmas.List.{map-append, append-nil, drop_all, length-take}
+use Rattle.std.proofs.lemmas.Bool.{cases_lt}
+use Rattle.bstr.specs.Utf8.{pieces, or_replacement}
+use Rattle.bstr.proofs.lemmas.LossyLemmas.{lossy_chars-front}
+use Rattle.bstr.proofs.lemmas.PieceLemmas.{pieces-append, lossy_chars-nil, StartsClean}
+use Rattle.std.specs.Prelude.{encode_utf8_all}
+use Rattle.std.specs.List.{list_all}
+use Rattle.std.proofs.lemmas.Bool.{and_parts}
+use Rattle.std.proofs.lemmas.Bool.Decides.{nat_tests}
+use Rattle.bstr.specs.Utf8.{lossy_chars}
+use Rattle.bstr.proofs.lemmas.EncodeLemmas.{lossy_chars-encode}
+use Rattle.std.proofs.Math.Utf8.{scalars}
+use Rattle.std.proofs.lemmas.Str.{encode_ascii}
+use Rattle.keymap_lint_text.specs.Shown.{shown_char, shown_chars, is_shown_byte, last}
+
+pub small_byte : (c : ℕ) → is_shown_byte c ≡ true → c < 128
+small_byte c h = grind (arith, nat_tests, h)
+
+same_char : (c : ℕ) → is_shown_byte c ≡ true → shown_char c ≡ c
+same_char c h = grind (arith, nat_tests, h)
+
+encoded : (bs : List ℕ) → list_all is_shown_byte bs ≡ true → encode_utf8_all bs ≡ bs
+encoded [] h = refl
+encoded (c ∷ bs) h =
+    let both = and_parts _ _ h in
+    ap (λ x. x ++ encode_utf8_all bs) (encode_ascii c (small_byte c both.0)) ∙ ap (λ x. c ∷ x) (encoded bs both.1)
+
+are_scalars : (bs : List ℕ) → list_all is_shown_byte bs ≡ true → scalars bs ≡ true
+are_scalars [] h = refl
+are_scalars (c ∷ bs) h =
+    let both = and_parts _ _ h in
+    let small : c < 128 = small_byte c both.0 in
+    let rest : scalars bs ≡ true = are_scalars bs both.1 in
+    grind (arith, nat_tests, small, rest)
+
+same_chars : (bs : List ℕ) → list_all is_shown_byte bs ≡ true → map shown_char bs ≡ bs
+same_chars [] h = refl
+same_chars (c ∷ bs) h =
+    let both = and_parts _ _ h in
+    ap (λ x. x ∷ map shown_char bs) (same_char c both.0) ∙ ap (λ x. c ∷ x) (same_chars bs both.1)
+
+-- such bytes are shown as they are
+pub shown_bytes : (bs : List ℕ) → list_all is_shown_byte bs ≡ true → shown_chars bs ≡ bs
+unfolding shown_chars
+shown_bytes bs h =
+    let read : lossy_chars bs ≡ bs =
+    ap lossy_chars (sym (encoded bs h)) ∙ lossy_chars-encode bs (are_scalars bs h) in
+    ap (map shown_char) read ∙ same_chars bs h
+
+-- such bytes in front are the first ones that are shown, whatever stands behind them
+pub first_bytes : (n m : ℕ) (bs : List ℕ) → m ≡ min n (length bs) → list_all is_shown_byte (take m bs) ≡ true
+    → take n (shown_chars bs) ≡ take m bs
+unfolding shown_chars
+first_bytes n m bs e h =
+    let front = take m bs in
+    let rest = drop m bs in
+    let read : lossy_chars bs ≡ front ++ lossy_chars rest =
+    ap lossy_chars (sym (take-append-drop m bs) ∙ ap (λ t. t ++ rest) (sym (encoded front h)))
+    ∙ lossy_chars-front front rest (are_scalars front h) in
+    let shown : map shown_char (lossy_chars bs) ≡ front ++ map shown_char (lossy_chars rest) =
+    ap (map shown_char) read ∙ map-append shown_char front (lossy_chars rest)
+    ∙ ap (λ t. t ++ map shown_char (lossy_chars rest)) (same_chars front h) in
+    ap (take n) shown ∙ go (cases_lt n (length bs + 1))
+  where
+    go : (n < length bs + 1) ⊎ (length bs + 1 ≤ n)
+        → take n (take m bs ++ map shown_char (lossy_chars (drop m bs))) ≡ take m bs
+    go (inl l) =
+        let size : n ≡ length (take m bs) = omega (arith, e, l, length-take m bs) in
+        ap (λ k. take k (take m bs ++ map shown_char (lossy_chars (drop m bs)))) size
+        ∙ take-append_seam (take m bs) (map shown_char (lossy_chars (drop m bs)))
+    go (inr l) =
+        let none : drop m bs ≡ [] = drop_all m bs (omega (arith, e, l)) in
+        ap (λ t. take n (take m bs ++ map shown_char (lossy_chars t))) none
+        ∙ ap (λ t. take n (take m bs ++ map shown_char t)) lossy_chars-nil ∙ ap (take n) (append-nil (take m bs))
+        ∙ take_all n (take m bs) (omega (arith, e, l, length-take m bs))
+
+-- such a byte begins no piece inside one
+clean : (ys : List ℕ) → list_all is_shown_byte ys ≡ true → StartsClean ys
+clean [] h = λ p. absurd (omega (arith, p))
+clean (c ∷ cs) h = λ p. let small = small_byte c (and_parts _ _ h).0 in grind (arith, nat_tests, small)
+
+-- such bytes at the end are the last ones that are shown, whatever stands before them
+pub last_bytes : (n : ℕ) (bs : List ℕ) → list_all is_shown_byte (last n bs) ≡ true
+    → last n (shown_chars bs) ≡ last n bs
+unfolding shown_chars
+last_bytes n bs h =
+    let k = length bs - n in
+    let parted : pieces bs ≡ pieces (take k bs) ++ pieces (drop k bs) =
+    ap pieces (sym (take-append-drop k bs))
+    ∙ pieces-append (length (take k bs)) (take k bs) (drop k bs) (omega arith) (clean (drop k bs) h) in
+    let read : lossy_chars bs ≡ lossy_chars (take k bs) ++ lossy_chars (drop k bs) =
+    ap (map (λ p. or_replacement p.char)) parted
+    ∙ map-append (λ p. or_replacement p.char) (pieces (take k bs)) (pieces (drop k bs)) in
+    let shown : shown_chars bs ≡ shown_chars (take k bs) ++ drop k bs =
+    ap (map shown_char) read ∙ map-append shown_char (lossy_chars (take k bs)) (lossy_chars (drop k bs))
+    ∙ ap (λ t. shown_chars (take k bs) ++ t) (shown_bytes (drop k bs) h) in
+    ap (last n) shown ∙ at_seam n k bs (length bs) refl refl
+  where
+    at_seam : (n k : ℕ) (bs : List ℕ) (m : ℕ) → m ≡ length bs → k ≡ m - n
+        → last n (shown_chars (take k bs) ++ drop k bs) ≡ drop k bs
+    at_seam n k bs m e f = go (cases_lt n m)
+      where
+        xs : List ℕ
+        xs = shown_chars (take k bs)
+
+        whole : length (xs ++ drop k bs) ≡ length xs + (length bs - k)
+        whole = length-append xs (drop k bs) ∙ ap (λ i. length xs + i) (length-drop k bs)
+
+        go : (n < m) ⊎ (m ≤ n) → last n (xs ++ drop k bs) ≡ drop k bs
+        go (inl l) =
+            let here : length (xs ++ drop k bs) - n ≡ length xs = omega (arith, whole, e, f, l) in
+            ap (λ i. drop i (xs ++ drop k bs)) here ∙ drop-append_seam xs (drop k bs)
+        go (inr l) =
+            let at_start : k ≡ 0 = omega (arith, e, f, l) in
+            let none : xs ≡ [] = ap (λ i. shown_chars (take i bs)) at_start ∙ ap (map shown_char) lossy_chars-nil in
+            let some : length xs ≡ 0 = ap length none in
+            let all : length (xs ++ drop k bs) - n ≡ 0 = omega (arith, whole, e, f, l, some) in
+            ap (λ i. drop i (xs ++ drop k bs)) all ∙ ap (λ t. t ++ drop k bs) none

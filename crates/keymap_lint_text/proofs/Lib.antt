@@ -1,0 +1,4 @@
+mod Ascii
+mod Windows
+mod Pieces
+mod Plain

@@ -1,0 +1,130 @@
+-- The characters of a line, before a place and from it on.
+use Rattle.std.proofs.Common.{◌≡◌, ◌⊎◌, inl, inr, ℕ, ◌+◌, ◌-◌, ◌≤◌, ◌<◌, Bool, true, false, nat_lt, List, [], ◌++◌}
+use Rattle.std.proofs.Common.{codes, length, take}
+use Rattle.std.proofs.Common.{drop, map, refl, ap, sym, ◌∙◌, arith, length-append, length-take, length-drop, take-take}
+use Rattle.std.proofs.Common.{drop-drop, take_all}
+use Rattle.std.specs.Prelude.{if◌then◌else◌, encode_utf8, min}
+use Rattle.std.specs.List.{flat_map}
+use Rattle.std.proofs.Math.Seq.{take-add, take-append_seam, drop-append_seam}
+use Rattle.std.proofs.lemmas.List.{drop-append-le, drop-take}
+use Rattle.std.proofs.lemmas.Bool.{cases_lt}
+use Rattle.std.proofs.lemmas.Bool.Decides.{nat_tests}
+use Rattle.keymap_lint_text.specs.Excerpt.{lines_of, excerpt, shown_before, without_cr, left_out, below, reach}
+use Rattle.keymap_lint_text.specs.Shown.{shown_chars, last}
+
+-- characters put one behind the other are parted at the length of the first ones
+parted : (bs rs cs : List ℕ) (n : ℕ) → cs ≡ bs ++ rs → n ≡ length bs
+    → lines_of (take n cs) (drop n cs) ≡ lines_of bs rs
+parted bs rs cs n e k =
+    let whole : take n cs ≡ bs = ap (take n) e ∙ ap (λ i. take i (bs ++ rs)) k ∙ take-append_seam bs rs in
+    let other : drop n cs ≡ rs = ap (drop n) e ∙ ap (λ i. drop i (bs ++ rs)) k ∙ drop-append_seam bs rs in
+    ap (λ xs. lines_of xs (drop n cs)) whole ∙ ap (λ xs. lines_of bs xs) other
+
+-- both are zero, or both aren't
+same_test : (m n : ℕ) → (m ≡ 0 → n ≡ 0) → (n ≡ 0 → m ≡ 0) → nat_lt 0 m ≡ nat_lt 0 n
+same_test m n f g = go (nat_lt 0 m) (nat_lt 0 n) refl refl
+  where
+    none : (k : ℕ) → nat_lt 0 k ≡ false → k ≡ 0
+    none k e = grind (arith, nat_tests, e)
+
+    some : (k : ℕ) → nat_lt 0 k ≡ true → 0 < k
+    some k e = grind (arith, nat_tests, e)
+
+    go : (a b : Bool) → nat_lt 0 m ≡ a → nat_lt 0 n ≡ b → a ≡ b
+    go true true d e = refl
+    go false false d e = refl
+    go true false d e = absurd (omega (arith, some m d, g (none n e)))
+    go false true d e = absurd (omega (arith, some n e, f (none m d)))
+
+-- of what stands behind, only so many are looked at
+reached : (n m : ℕ) (xs ys : List ℕ) → n ≤ length xs + m → take n (xs ++ take m ys) ≡ take n (xs ++ ys)
+reached n m xs ys h =
+    let whole : take (length xs + m) (xs ++ ys) ≡ xs ++ take m ys =
+    take-add (length xs) m (xs ++ ys) ∙ ap (λ t. t ++ take m (drop (length xs) (xs ++ ys))) (take-append_seam xs ys)
+    ∙ ap (λ t. xs ++ take m t) (drop-append_seam xs ys) in
+    ap (take n) (sym whole) ∙ take-take n (length xs + m) (xs ++ ys) h
+
+-- both lines by whether some are left out in front, the characters that are shown, whether some are left out behind,
+-- and
+-- what stands below
+abbrev lines_by : Bool → List ℕ → Bool → List ℕ → List ℕ
+lines_by some part more under =
+    (codes "  " ++ (if some then codes ".." else []) ++ flat_map encode_utf8 part ++ (if more then codes ".." else [])
+    ++ codes "\n") ++ (codes "  " ++ (if some then codes "  " else []) ++ under ++ codes "^\n")
+
+-- where the ones behind are all there, none of them is cut off
+reached_or_all : (n m : ℕ) (xs ys : List ℕ) → (m < length ys → n ≤ length xs + m)
+    → take n (xs ++ take m ys) ≡ take n (xs ++ ys)
+reached_or_all n m xs ys h = go (cases_lt m (length ys))
+  where
+    go : (m < length ys) ⊎ (length ys ≤ m) → take n (xs ++ take m ys) ≡ take n (xs ++ ys)
+    go (inl l) = reached n m xs ys (h l)
+    go (inr l) = ap (λ t. take n (xs ++ t)) (take_all m ys l)
+
+-- Nothing farther from the place changes what is shown: not what stands before the last m characters, nor behind the
+-- first
+-- n, if these are enough.
+near_place : (m n : ℕ) (bs rs : List ℕ) → 61 ≤ m → min (length bs) (121 - length rs) ≤ m
+    → 61 ≤ n → min (length rs) (121 - length bs) ≤ n
+    → lines_of (last m bs) (take n rs) ≡ lines_of bs rs
+near_place m n bs rs m1 m2 n1 n2 =
+    let k = length bs - m in
+    let cs = drop k bs in
+    let ts = take n rs in
+    let s = left_out (length bs) (length (bs ++ rs)) in
+    let t = left_out (length cs) (length (cs ++ ts)) in
+    let c : length cs ≡ length bs - k = length-drop k bs in
+    let d : length ts ≡ min n (length rs) = length-take n rs in
+    let p = length-append bs rs in
+    let q = length-append cs ts in
+    let skip : s ≡ k + t = omega (arith, c, d, p, q, m1, m2, n1, n2) in
+    let some : nat_lt 0 t ≡ nat_lt 0 s =
+    same_test t s (λ e. omega (arith, c, d, p, q, m1, m2, n1, n2, e)) (λ e. omega (arith, skip, e)) in
+    let more : nat_lt 0 (length (cs ++ ts) - (t + 120)) ≡ nat_lt 0 (length (bs ++ rs) - (s + 120)) =
+    same_test _ _ (λ e. omega (arith, c, d, p, q, m1, m2, n1, n2, e))
+    (λ e. omega (arith, c, d, p, q, m1, m2, n1, n2, e)) in
+    let front : drop t (cs ++ rs) ≡ drop s (bs ++ rs) =
+    ap (drop t) (sym (drop-append-le k bs rs (omega arith))) ∙ drop-drop t k (bs ++ rs)
+    ∙ ap (λ i. drop i (bs ++ rs)) (sym skip) in
+    let part : take 120 (drop t (cs ++ ts)) ≡ take 120 (drop s (bs ++ rs)) =
+    sym (drop-take t 120 (cs ++ ts))
+    ∙ ap (drop t) (reached_or_all (t + 120) n cs rs (λ l. omega (arith, c, d, p, q, m1, m2, n1, n2, l)))
+    ∙ drop-take t 120 (cs ++ rs) ∙ ap (take 120) front in
+    let under : map below (drop t cs) ≡ map below (drop s bs) =
+    ap (map below) (drop-drop t k bs ∙ ap (λ i. drop i bs) (sym skip)) in
+    ap (λ b. lines_by b (take 120 (drop t (cs ++ ts))) (nat_lt 0 (length (cs ++ ts) - (t + 120)))
+    (map below (drop t cs)))
+    some
+    ∙ ap (λ x. lines_by (nat_lt 0 s) x (nat_lt 0 (length (cs ++ ts) - (t + 120))) (map below (drop t cs))) part
+    ∙ ap (λ b. lines_by (nat_lt 0 s) (take 120 (drop s (bs ++ rs))) b (map below (drop t cs))) more
+    ∙ ap (λ x. lines_by (nat_lt 0 s) (take 120 (drop s (bs ++ rs))) (nat_lt 0 (length (bs ++ rs) - (s + 120))) x) under
+
+-- as many as are looked at: the first ones from the place on, by how many of the last 61 before it there are, and the
+-- last ones before it, by how many those are
+abbrev pub looked_behind : List ℕ → List ℕ → List ℕ
+looked_behind bs rs = take (reach (length (last 61 bs))) rs
+
+abbrev pub looked_before : List ℕ → List ℕ → List ℕ
+looked_before bs rs = last (reach (length (looked_behind bs rs))) bs
+
+enough : (bs rs : List ℕ) → lines_of (looked_before bs rs) (looked_behind bs rs) ≡ lines_of bs rs
+enough bs rs =
+    let c : length (last 61 bs) ≡ length bs - (length bs - 61) = length-drop (length bs - 61) bs in
+    let d : length (looked_behind bs rs) ≡ min (reach (length (last 61 bs))) (length rs) =
+    length-take (reach (length (last 61 bs))) rs in
+    near_place (reach (length (looked_behind bs rs))) (reach (length (last 61 bs))) bs rs (omega arith)
+    (omega (arith, c, d)) (omega arith) (omega (arith, c))
+
+-- both lines by the characters near the place
+pub both_lines : (before rest bs rs cs : List ℕ) (n : ℕ)
+    → rs ≡ looked_behind (shown_chars (shown_before before rest)) (shown_chars (without_cr rest))
+    → bs ≡ last (reach (length rs)) (shown_chars (shown_before before rest))
+    → cs ≡ bs ++ rs → n ≡ length bs
+    → lines_of (take n cs) (drop n cs) ≡ excerpt before rest
+unfolding excerpt
+both_lines before rest bs rs cs n r b e k =
+    let front = shown_chars (shown_before before rest) in
+    let behind = shown_chars (without_cr rest) in
+    let whole : bs ≡ looked_before front behind = b ∙ ap (λ xs. last (reach (length xs)) front) r in
+    parted bs rs cs n e k ∙ ap (λ xs. lines_of xs rs) whole
+    ∙ ap (λ xs. lines_of (looked_before front behind) xs) r ∙ enough front behind

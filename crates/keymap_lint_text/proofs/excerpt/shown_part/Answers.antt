@@ -1,0 +1,10 @@
+use Rattle.std.proofs.Common.{◌∙◌, ◌-◌, length, drop, take_all, length-drop, sym, arith}
+use Rattle.keymap_lint_text.proofs.excerpt.shown_part.Goals as goal
+
+pub returns-then-rest-lt-SHOWN_LIMIT : goal.returns-then-rest-lt-SHOWN_LIMIT
+returns-then-rest-lt-SHOWN_LIMIT c =
+    let part = drop c.args.skipped c.args.characters.now in
+    take_all (length c.args.characters.now - c.args.skipped) part
+    (omega (arith, length-drop c.args.skipped c.args.characters.now))
+    ∙ sym (take_all 120 part
+    (omega (arith, length-drop c.args.skipped c.args.characters.now, c.if-rest-lt-SHOWN_LIMIT.true)))

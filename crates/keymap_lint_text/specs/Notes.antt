@@ -1,0 +1,52 @@
+-- What is told of the answer of the search behind a diagnostic.
+use Rattle.std.specs.Prelude.{ℕ, List, [], ◌∷◌, ◌++◌, codes, decimal, length, Option, Some, None, ◌==◌, if◌then◌else◌}
+use Rattle.std.specs.List.{flat_map}
+use Rattle.keymap_core.specs.Actions.{holding_action, name_of}
+use Rattle.keymap_core.specs.declared.action.Modifier.{Modifier}
+use Rattle.keymap_core.specs.declared.action.Holding.TheVariants as holding
+use Rattle.console_core.specs.declared.event.Event.{Event}
+use Rattle.console_core.specs.declared.event.Event.TheVariants.{Press, Release, Reset, Load}
+use Rattle.console_core.specs.declared.outcome.Sticking.{Sticking}
+use Rattle.console_core.specs.declared.outcome.Sticking.TheVariants.{Sticks, Never, Undecided}
+use Rattle.keymap_lint_text.specs.declared.words.TheConstants as words
+use Rattle.messages.specs.Filled.{filled}
+use Rattle.keymap_lint_text.specs.Heads.{note_text}
+
+abbrev pub modifier_name : Modifier → List ℕ
+modifier_name m = name_of (holding_action (holding.Mod m))
+
+abbrev pub further_modifier : Modifier → List ℕ
+further_modifier m = codes " and " ++ modifier_name m
+
+-- the names of modifiers, as `lshift and lctrl`
+abbrev pub modifiers_text : List Modifier → List ℕ
+modifiers_text [] = []
+modifiers_text (m ∷ ms) = modifier_name m ++ flat_map further_modifier ms
+
+-- an event as it stands in a script
+abbrev pub event_text : Event → List ℕ
+event_text (Press key) = codes "down " ++ decimal key
+event_text (Release key) = codes "up " ++ decimal key
+event_text Reset = codes "reset"
+event_text Load = codes "load"
+
+abbrev pub further_event : Event → List ℕ
+further_event e = codes ", " ++ event_text e
+
+-- events, as `down 42, up 42`
+abbrev pub events_text : List Event → List ℕ
+events_text [] = []
+events_text (e ∷ es) = event_text e ++ flat_map further_event es
+
+-- the modifiers that stay on, and the events after which they do
+unfoldable pub sticks_text : List Modifier → List Event → List ℕ
+sticks_text stuck events =
+    filled words.STICKS.now (modifiers_text stuck
+    ∷ (if length stuck == 1 then words.ONE_STAYS.now else words.SOME_STAY.now) ∷ events_text events ∷ [])
+
+-- the note on what the search answered, by the modifiers that stay on after the events that it found
+unfoldable pub answer_note : List ℕ → List ℕ → List Modifier → Option Sticking → List ℕ
+answer_note file text stuck None = []
+answer_note file text stuck (Some Never) = []
+answer_note file text stuck (Some (Undecided presses)) = note_text file text None (filled words.UNDECIDED.now [])
+answer_note file text stuck (Some (Sticks events)) = note_text file text None (sticks_text stuck events.items)

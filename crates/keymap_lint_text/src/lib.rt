@@ -1,0 +1,22 @@
+//! What `kmap lint` prints of a keymap text: the values of keymap_lint in words, each with its place, the line of the
+//! text and a caret.
+//!
+//! `lint_text` is all of it. What is said is told by `specs/Whole.antt` and the definitions that it cites; the words
+//! stand in `src/words.rt` alone, and docs/FORMATS.md has each of them. The module `laws` says what a terminal is
+//! given.
+#![tactic(auto)]
+
+mod excerpt;
+mod faults;
+mod heads;
+pub mod laws;
+mod lists;
+mod notes;
+mod said;
+mod shown;
+mod told;
+mod whole;
+mod words;
+
+pub use shown::shown_name;
+pub use whole::lint_text;

@@ -1,0 +1,153 @@
+//! The words of the diagnostics. What is told stands at the places `{}`, in the order in which the contracts list it.
+//! The forms are those of docs/FORMATS.md, "Diagnostics".
+
+// A diagnostic or note: the file, the line, the column and what is said, or the file and what is said.
+pub(crate) const AT_PLACE: &[u8] = b"{}:{}:{}: {}\n";
+
+pub(crate) const AT_NO_PLACE: &[u8] = b"{}: {}\n";
+
+// The severity, the message and the kind; or the message.
+pub(crate) const DIAGNOSTIC: &[u8] = b"{}: {} [{}]";
+
+pub(crate) const NOTE: &[u8] = b"note: {}";
+
+// Of a text that spells a keymap.
+pub(crate) const NO_KEY: &[u8] = b"the text defines no key";
+
+pub(crate) const NO_SHIFT: &[u8] = b"no key is lshift or rshift";
+
+pub(crate) const MIXED_KEY: &[u8] =
+    b"key {} is {} here and the character {} in {}{}; put {} or nop for its characters{}";
+
+pub(crate) const OTHER_SLOT: &[u8] = b" of slot {}";
+
+pub(crate) const NEVER_STICKS: &[u8] = b", though no modifier ever stays on";
+
+pub(crate) const HALF_DEFINED: &[u8] =
+    b"{} selects the slots from 128 on, but the text does not define {}{}";
+
+pub(crate) const MISSING_SLOT: &[u8] = b"slot {}, which gives nul";
+
+pub(crate) const MISSING_SLOTS: &[u8] = b"slots {}, which give nul";
+
+pub(crate) const NUL_KEY: &[u8] = b"; so key {} is a modifier or lock with a character";
+
+pub(crate) const NUL_KEYS: &[u8] = b"; so keys {} are each a modifier or lock with a character";
+
+pub(crate) const DEFINED_AGAIN: &[u8] =
+    b"this definition of {} has no effect: line {} defines it again{}";
+
+pub(crate) const NOT_JOINED: &[u8] = b", and pairs are not joined";
+
+pub(crate) const DEAD_KEY: &[u8] = b"the text does not define {}, so pressing {} is an error";
+
+pub(crate) const ONE_ACCENT: &[u8] = b"it";
+
+pub(crate) const ACCENTS: &[u8] = b"one";
+
+pub(crate) const NO_ACCENT: &[u8] = b"the text defines no accent, so pressing {} is an error";
+
+pub(crate) const ZERO_ACCENT: &[u8] =
+    b"with the character 0 {} counts as not defined, so pressing it is an error and its pairs have no effect";
+
+pub(crate) const PAIR_AGAIN: &[u8] =
+    b"this pair has no effect: {} has one with the base {} before it, in line {}";
+
+pub(crate) const UNUSED_SLOT: &[u8] = b"no key is ashift or alock, so slot {} is never looked at";
+
+pub(crate) const UNUSED_SLOTS: &[u8] =
+    b"no key is ashift or alock, so slots {} are never looked at";
+
+pub(crate) const BARE_DIGIT: &[u8] =
+    b"{} is the character number {}, which is {}; the digit is '{}'";
+
+// Of what the search found, and where a definition begins.
+pub(crate) const STICKS: &[u8] = b"{} {} on with no key pressed, after: {}";
+
+pub(crate) const ONE_STAYS: &[u8] = b"stays";
+
+pub(crate) const SOME_STAY: &[u8] = b"stay";
+
+pub(crate) const UNDECIDED: &[u8] =
+    b"whether a modifier can stay on is undecided: more than 65536 states";
+
+pub(crate) const BEGINS: &[u8] = b"{} is defined from here on";
+
+// Of a text with a fault.
+pub(crate) const UNNAMED_BYTE: &[u8] = b"the byte 0x{} begins no word";
+
+pub(crate) const BAD_BYTE: &[u8] = b"{} begins no word; a character that is meant is quoted: '{}'";
+
+pub(crate) const BAD_LITERAL: &[u8] =
+    b"no quoted character stands here: an apostrophe, one character other than a line feed, an apostrophe";
+
+pub(crate) const BAD_WORD: &[u8] = b"{} means nothing{}";
+
+pub(crate) const LONG_WORD: &[u8] = b"a word has at most 32 bytes; this one has {}{}";
+
+pub(crate) const MEANT_NUMBER: &[u8] = b"; for U+{} write 0x{}";
+
+pub(crate) const MEANT_CHARACTER: &[u8] = b"; the character is '{}'";
+
+pub(crate) const MEANT_NOP: &[u8] = b"; a cell that gives nothing is nop";
+
+pub(crate) const UNEXPECTED: &[u8] = b"{} stands where {} is wanted{}";
+
+pub(crate) const FEW_CELLS: &[u8] = b"; {} has {} of 8 cells";
+
+pub(crate) const ALL_CELLS: &[u8] = b"; it has its 8 cells";
+
+pub(crate) const KEY_TOO_LARGE: &[u8] = b"{} is no slot: slots are 0 to 255";
+
+pub(crate) const BAD_CHAR: &[u8] =
+    b"{} is no character: characters are 0 to 0xd7ff and 0xe000 to 0x10ffff";
+
+pub(crate) const BAD_FUNCTION: &[u8] = b"{} does not exist: there are {}";
+
+pub(crate) const SCREENS: &[u8] = b"scr01 to scr16";
+
+pub(crate) const FUNCTION_KEYS: &[u8] = b"fkey01 to fkey96";
+
+pub(crate) const TOO_MANY_PAIRS: &[u8] = b"{} has 52 pairs already, and room for no more";
+
+pub(crate) const ZERO_BASE: &[u8] = b"the base of a pair is a character other than 0";
+
+pub(crate) const COMBINED: &[u8] =
+    b"{}, a modifier joined with alock, is not supported; write {} or alock";
+
+pub(crate) const ENDS: &[u8] = b"the text ends where {} is wanted";
+
+pub(crate) const ENDS_QUOTED: &[u8] = b"the text ends in a quoted character";
+
+// What is wanted, by what the definition that has begun defines.
+pub(crate) const A_DEFINITION: &[u8] = b"the number of a slot or the name of an accent";
+
+pub(crate) const A_CELL: &[u8] = b"the cell of {} in {}";
+
+pub(crate) const A_LOCK: &[u8] = b"the lock letter of {} (O, C, N or B)";
+
+pub(crate) const A_CHARACTER: &[u8] = b"the character of {}";
+
+pub(crate) const A_PAIR: &[u8] = b"a pair of {}, the number of a slot or the name of an accent";
+
+pub(crate) const A_BASE: &[u8] = b"the base of a pair of {}";
+
+pub(crate) const A_RESULT: &[u8] = b"the result of a pair of {}";
+
+pub(crate) const A_PAIR_END: &[u8] = b"the ')' of a pair of {}";
+
+// A slot, and a column with its name.
+pub(crate) const SLOT: &[u8] = b"slot {}";
+
+pub(crate) const COLUMN: &[u8] = b"column {} ({})";
+
+pub(crate) const COLUMN_NAMES: [&[u8]; 8] = [
+    b"base",
+    b"shift",
+    b"ctrl",
+    b"ctrl shift",
+    b"alt",
+    b"alt shift",
+    b"alt ctrl",
+    b"alt ctrl shift",
+];

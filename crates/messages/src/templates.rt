@@ -1,0 +1,126 @@
+//! Words with places for what is told, and the texts that are put there.
+ghost use Rattle.std.specs.Prelude.{◌≡◌, ◌+◌, ◌<◌, ◌≤◌, ◌++◌, IsTrue, decimal, length, map, position, OnOk, IfOk};
+ghost use Rattle.std.specs.Prelude.{IfSome, if◌then◌else◌};
+ghost use Rattle.arrayvec.specs.ArrayVec.{array_vec_len};
+ghost use Rattle.messages.specs.Filled as spec;
+
+use arrayvec::ArrayVec;
+use itoa::Buffer;
+use std::alloc::{AllocError, Global};
+
+/// Where a place begins, which is written `{}`.
+fn hole(words: &[u8]) -> Option<usize>
+    ensures place { result ≡ position spec.is_hole words.now }
+    ensures bound { IfSome result (λ i. i < length words.now) }
+{
+    words.iter().position(|c| *c == b'{')
+}
+
+/// The words before the first place, and those behind it.
+pub fn parted(words: &[u8]) -> (&[u8], &[u8])
+    ensures before { result.0.now ≡ spec.words_before words.now }
+    ensures behind { result.1.now ≡ spec.words_behind words.now }
+{
+    match hole(words) {
+        Some(place) if place + 2 <= words.len() => (&words[..place], &words[place + 2..]),
+        Some(place) => (&words[..place], &[]),
+        None => (words, &[]),
+    }
+}
+
+/// Adds words with a text at each of their places, which are as many.
+#[tactic(auto, unfolding(crate::specs::Filled::filled))]
+pub fn fill(text: &mut Vec<u8>, words: &[u8], told: &[&[u8]]) -> Result<(), AllocError>
+    requires { IsTrue (spec.has_places words.now (map (λ t. t.now) told.now)) }
+    ensures { OnOk result (text.new.items
+        ≡ text.old.items ++ spec.filled words.now (map (λ t. t.now) told.now)) }
+{
+    match told {
+        [] => text.extend_from_slice(words),
+        [first, rest @ ..] => {
+            let (before, behind) = parted(words);
+            text.extend_from_slice(before)?;
+            text.extend_from_slice(first)?;
+            fill(text, behind, rest)
+        }
+    }
+}
+
+/// Words with a text at each of their places.
+pub fn filled(alloc: Global, words: &[u8], told: &[&[u8]]) -> Result<Vec<u8>, AllocError>
+    requires { IsTrue (spec.has_places words.now (map (λ t. t.now) told.now)) }
+    ensures { IfOk result (λ text. text.items ≡ spec.filled words.now (map (λ t. t.now) told.now)) }
+{
+    let mut text = Vec::new(alloc);
+    fill(&mut text, words, told)?;
+    Ok(text)
+}
+
+/// A line of a fixed capacity, which takes no memory.
+pub type Line = ArrayVec<u8, LINE>;
+
+/// How many bytes such a line has at most, its end included.
+pub const LINE: usize = 96;
+
+fn put(line: &mut Line, text: &[u8])
+    requires { array_vec_len line.old + length text.now ≤ LINE }
+    ensures { line.new.items ≡ line.old.items ++ text.now }
+{
+    let _ = line.try_extend_from_slice(text);
+}
+
+/// Adds words with a text at each of their places to a line that has room for them.
+#[tactic(auto, using(std::proofs::Common::append_assoc), unfolding(crate::specs::Filled::filled))]
+fn put_filled(line: &mut Line, words: &[u8], told: &[&[u8]])
+    requires places { IsTrue (spec.has_places words.now (map (λ t. t.now) told.now)) }
+    requires room { spec.HasRoom (array_vec_len line.old) words.now (map (λ t. t.now) told.now) }
+    ensures { line.new.items ≡ line.old.items ++ spec.filled words.now (map (λ t. t.now) told.now) }
+{
+    match told {
+        [] => put(line, words),
+        [first, rest @ ..] => {
+            let (before, behind) = parted(words);
+            put(line, before);
+            put(line, first);
+            put_filled(line, behind, rest);
+        }
+    }
+}
+
+/// A line of words with a text at each of their places.
+pub fn line(words: &[u8], told: &[&[u8]]) -> Line
+    requires places { IsTrue (spec.has_places words.now (map (λ t. t.now) told.now)) }
+    requires room { spec.HasRoom 0 words.now (map (λ t. t.now) told.now) }
+    ensures { result.items ≡ spec.filled words.now (map (λ t. t.now) told.now) }
+{
+    let mut line = ArrayVec::new();
+    put_filled(&mut line, words, told);
+    line
+}
+
+/// One of two texts.
+pub fn either<'a>(is_first: bool, first: &'a [u8], second: &'a [u8]) -> &'a [u8]
+    ensures { result.now ≡ (if is_first then first.now else second.now) }
+{
+    if is_first { first } else { second }
+}
+
+/// A number in decimal digits.
+pub fn number(n: u64) -> ArrayVec<u8, 20>
+    ensures { result.items ≡ decimal n }
+{
+    let mut digits = Buffer::new();
+    let mut text = ArrayVec::new();
+    let _ = text.try_extend_from_slice(digits.format(n).as_bytes());
+    text
+}
+
+/// A number below 256 in decimal digits.
+pub fn small(byte: u8) -> ArrayVec<u8, 3>
+    ensures { result.items ≡ decimal byte }
+{
+    let mut digits = Buffer::new();
+    let mut text = ArrayVec::new();
+    let _ = text.try_extend_from_slice(digits.format(byte).as_bytes());
+    text
+}

@@ -3,3 +3,5 @@ pub mod Spelled
 pub mod Kinds
 pub mod Lists
 pub mod Stuck
+pub mod Promises
+pub mod Positions

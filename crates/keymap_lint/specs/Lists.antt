@@ -1,4 +1,4 @@
--- The diagnostics of a text in their order, and what some of them tell of.
+-- What is said of a text: its fault, or its diagnostics in their order and what some of them tell of.
 use Rattle.std.specs.Prelude.{◌≡◌, ℕ, ◌<◌, ◌⊎◌, List, [], ◌∷◌, ◌++◌, length, map, Option, Some, None, IsPermutation}
 use Rattle.std.specs.Prelude.{IsSortedByKey}
 use Rattle.std.specs.List.Sorted.{IsStableByKey}
@@ -18,12 +18,13 @@ use Rattle.keymap_text.specs.Placed.{Row, IsSpelledBy, places_of, span_of}
 use Rattle.keymap_text.specs.Places.{AtDefinition}
 use Rattle.keymap_text.specs.Wanted.{fault_place_view, first_refused}
 use Rattle.keymap_lint.specs.declared.cells.CellInForce.{CellInForce}
-use Rattle.keymap_lint.specs.declared.diagnostic.Kind.TheVariants.{Fault}
 use Rattle.keymap_lint.specs.declared.diagnostic.Diagnostic.{Diagnostic}
+use Rattle.keymap_lint.specs.declared.diagnostic.Diagnostics.{Diagnostics}
 use Rattle.keymap_lint.specs.declared.diagnostic.Lint.{Lint}
+use Rattle.keymap_lint.specs.declared.diagnostic.Lint.TheVariants.{Faulty, Spelled as IsSpelled}
 use Rattle.keymap_lint.specs.Spelled.{Spelled, cells_in_force}
 use Rattle.keymap_lint.specs.Stuck.{stuck}
-use Rattle.keymap_lint.specs.Kinds.{at, no_key, no_shift, mixed_keys, half_defined, defined_again, dead_key}
+use Rattle.keymap_lint.specs.Kinds.{no_key, no_shift, mixed_keys, half_defined, defined_again, dead_key}
 use Rattle.keymap_lint.specs.Kinds.{zero_accents, pairs_again, unused_half, bare_digits, missing_slots, nul_keys}
 use Rattle.keymap_lint.specs.Kinds.{missing_accents, unused_slots}
 
@@ -54,8 +55,8 @@ IsSearched m findings None = length findings ≡ 0
 IsSearched m findings (Some a) = (0 < length findings) × IsAnswer m a
 
 -- The diagnostics of a text with these cells in force and these findings, and what they tell of.
-pub record IsLintOf (t : Spelled) (cells : List CellInForce) (findings : List Finding) (l : Lint) : Type 0 where
-  pub diagnostics : AreOrdered (all_of t cells findings) l.diagnostics.items
+pub record AreOf (t : Spelled) (cells : List CellInForce) (findings : List Finding) (l : Diagnostics) : Type 0 where
+  pub list : AreOrdered (all_of t cells findings) l.list.items
   pub slots : l.missing_slots.items ≡ missing_slots t
   pub keys : l.nul_keys.items ≡ nul_keys t findings
   pub accents : l.missing_accents.items ≡ missing_accents t cells
@@ -64,9 +65,9 @@ pub record IsLintOf (t : Spelled) (cells : List CellInForce) (findings : List Fi
   pub stuck : l.stuck.items ≡ stuck t.map l.sticking
 
 -- those of a text that spells a map, with the findings of the check
-abbrev pub IsLintOfSpelled : Spelled → Lint → Type 0
-IsLintOfSpelled t l =
-    (findings : List Finding) × AreFindings t.map findings × IsLintOf t (cells_in_force t) findings l
+abbrev pub AreOfSpelled : Spelled → Diagnostics → Type 0
+AreOfSpelled t l =
+    (findings : List Finding) × AreFindings t.map findings × AreOf t (cells_in_force t) findings l
 
 -- the definitions of its rows, the places of its tokens, and the map
 abbrev pub spelled_with : List Placed → List Span → MapValue → Spelled
@@ -75,23 +76,14 @@ spelled_with definitions spans m = record { definitions = definitions; spans = s
 abbrev pub spelled_by : List ℕ → MapValue → List Row → Spelled
 spelled_by text m rows = spelled_with (places_of rows) (map span_of (tokens text)) m
 
-abbrev pub IsLintOfMap : List ℕ → MapValue → Lint → Type 0
-IsLintOfMap text m l = (rows : List Row) × IsSpelledBy text m rows × IsLintOfSpelled (spelled_by text m rows) l
+abbrev pub AreOfMap : List ℕ → MapValue → Diagnostics → Type 0
+AreOfMap text m l = (rows : List Row) × IsSpelledBy text m rows × AreOfSpelled (spelled_by text m rows) l
 
--- A text with a fault has that diagnostic alone.
-pub record IsLintOfFault (text : List ℕ) (f : TextFault) (l : Lint) : Type 0 where
-  pub place : FaultPlace
-  pub is_place : fault_place_view place ≡ first_refused AtDefinition None 0 (tokens text)
-  pub diagnostics : l.diagnostics.items ≡ at f.offset (Fault f.kind place) ∷ []
-  pub slots : l.missing_slots.items ≡ []
-  pub keys : l.nul_keys.items ≡ []
-  pub accents : l.missing_accents.items ≡ []
-  pub unused : l.unused_slots.items ≡ []
-  pub sticking : l.sticking ≡ None
-  pub stuck : l.stuck.items ≡ []
+-- what is wanted where the text goes wrong, and the definition that has begun
+abbrev pub IsWanted : List ℕ → FaultPlace → Type 0
+IsWanted text place = fault_place_view place ≡ first_refused AtDefinition None 0 (tokens text)
 
--- The diagnostics of a text: of the map that it spells, or of its fault.
+-- What is said of a text: its fault, or the diagnostics of the map that it spells.
 abbrev pub IsLint : List ℕ → Lint → Type 0
-IsLint text l =
-    ((m : MapValue) × Spells text m × IsLintOfMap text m l)
-    ⊎ ((f : TextFault) × FaultOf text f × IsLintOfFault text f l)
+IsLint text (Faulty f place) = FaultOf text f × IsWanted text place
+IsLint text (IsSpelled l) = (m : MapValue) × Spells text m × AreOfMap text m l

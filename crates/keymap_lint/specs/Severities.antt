@@ -1,9 +1,14 @@
 -- How much each kind of diagnostic weighs, by what the search answers.
 use Rattle.std.specs.Prelude.{Bool, true, false, not, ◌||◌, if◌then◌else◌, Option, Some}
+use Rattle.std.specs.List.{list_any}
 use Rattle.console_core.specs.declared.outcome.Sticking.{Sticking}
 use Rattle.console_core.specs.declared.outcome.Sticking.TheVariants.{Never}
+use Rattle.keymap_lint.specs.declared.diagnostic.Diagnostic.{Diagnostic}
 use Rattle.keymap_lint.specs.declared.diagnostic.Kind.{Kind}
-use Rattle.keymap_lint.specs.declared.diagnostic.Kind.TheVariants.{Fault, NoKey, MixedKey, HalfDefined}
+use Rattle.keymap_lint.specs.declared.diagnostic.Kind.TheVariants.{NoKey, MixedKey, HalfDefined}
+use Rattle.keymap_lint.specs.declared.diagnostic.Diagnostics.{Diagnostics}
+use Rattle.keymap_lint.specs.declared.diagnostic.Lint.{Lint}
+use Rattle.keymap_lint.specs.declared.diagnostic.Lint.TheVariants.{Faulty, Spelled}
 use Rattle.keymap_lint.specs.declared.diagnostic.Severity.{Severity}
 use Rattle.keymap_lint.specs.declared.diagnostic.Severity.TheVariants.{Error, Warning}
 
@@ -16,8 +21,19 @@ abbrev pub error_unless : Bool → Severity
 error_unless is_mild = if is_mild then Warning else Error
 
 abbrev pub severity_of : Bool → Kind → Severity
-severity_of never (Fault fault wanted) = Error
 severity_of never NoKey = Error
 severity_of never (MixedKey finding character is_noted) = error_unless never
 severity_of never (HalfDefined selector has_keys is_noted) = error_unless (never || not has_keys)
 severity_of never _ = Warning
+
+abbrev pub is_error : Severity → Bool
+is_error Error = true
+is_error Warning = false
+
+abbrev pub is_error_among : Diagnostics → Bool
+is_error_among l = list_any (λ (d : Diagnostic). is_error (severity_of (never_sticks l.sticking) d.kind)) l.list.items
+
+-- the text has a fault, or some diagnostic is an error
+abbrev pub has_error : Lint → Bool
+has_error (Faulty fault place) = true
+has_error (Spelled l) = is_error_among l

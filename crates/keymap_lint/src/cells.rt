@@ -12,10 +12,10 @@ use std::alloc::{AllocError, Global};
 
 /// A cell of a definition in force: its slot and column, 0 to 7, and where its token stands.
 #[derive(Clone, Copy, Debug, PartialEq, Eq)]
-pub struct CellInForce {
-    pub slot: u8,
-    pub column: u8,
-    pub span: Span,
+pub(crate) struct CellInForce {
+    pub(crate) slot: u8,
+    pub(crate) column: u8,
+    pub(crate) span: Span,
 }
 
 /// The cell in a column of a slot whose definition begins with this token.
@@ -65,7 +65,10 @@ fn add_cells(
 }
 
 /// The cells of the definitions in force, in the order of the text.
-pub fn cells_in_force(alloc: Global, text: &SpelledText) -> Result<Vec<CellInForce>, AllocError>
+pub(crate) fn cells_in_force(
+    alloc: Global,
+    text: &SpelledText,
+) -> Result<Vec<CellInForce>, AllocError>
     requires { AreDefined text.now }
     ensures { IfOk result (λ cells. cells.items ≡ cells_of_text text.now) }
 {

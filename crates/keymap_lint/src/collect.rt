@@ -5,18 +5,19 @@ ghost use Rattle.keymap_lint.specs.Spelled.{AreDefined};
 ghost use Rattle.keymap_lint.specs.Kinds.{half, is_some_in, missing_slots as missing_slots_of, nul_keys as nul_keys_of};
 ghost use Rattle.keymap_lint.specs.Lists.{of_keys, of_definitions, of_rest, all_of};
 
-use crate::accents::zero_accents;
-use crate::again::defined_again;
+use crate::bare_digit::bare_digits;
 use crate::cells::CellInForce;
-use crate::dead_keys::dead_key;
+use crate::dead_key::dead_key;
+use crate::defined_again::defined_again;
 use crate::diagnostic::{Diagnostic, add, add_all};
-use crate::digits::bare_digits;
-use crate::halves::unused_half;
-use crate::keys::{no_key, no_shift};
-use crate::mixed::{mixed_keys, nul_keys};
-use crate::pairs::pairs_again;
-use crate::selectors::{half_defined, missing_slots};
+use crate::half_defined::{half_defined, missing_slots};
+use crate::mixed_key::{mixed_keys, nul_keys};
+use crate::no_key::no_key;
+use crate::no_shift::no_shift;
+use crate::pair_again::pairs_again;
 use crate::spelled::SpelledText;
+use crate::unused_half::unused_half;
+use crate::zero_accent::zero_accents;
 use keymap_check::Finding;
 use std::alloc::{AllocError, Global};
 

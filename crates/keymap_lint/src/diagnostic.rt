@@ -1,32 +1,26 @@
 //! What is said of a text, as values.
 ghost use Rattle.std.specs.Prelude.{◌≡◌, ◌++◌, OnOk};
 ghost use Rattle.std.specs.Option.{option_to_list};
-ghost use Rattle.keymap_lint.specs.Severities.{error_unless as error_unless_it, severity_of};
-ghost use Rattle.keymap_lint.specs.Severities.{never_sticks as never_sticks_by};
+ghost use Rattle.keymap_lint.specs.Severities as spec;
 
 use arrayvec::ArrayVec;
 use console_core::Sticking;
 use keymap_check::Finding;
 use keymap_core::{ACCENT_LIMIT, Holding, KEY_COUNT, Modifier, SLOT_LIMIT};
-use keymap_text::{Defined, FaultPlace, TextFaultKind};
+use keymap_text::{Defined, FaultPlace, TextFault};
 use std::alloc::AllocError;
 
-/// How much weighs what is said: a text with an error is refused by who wants none.
+/// How serious a diagnostic is: `kmap lint` fails where a text has an error, and not for warnings.
 #[derive(Clone, Copy, Debug, PartialEq, Eq)]
 pub enum Severity {
     Error,
     Warning,
 }
 
-/// What is said of a text. Accents are told by their index, 0 to 14; places of the text by their offset in bytes.
+/// What is said of a text that spells a keymap. Accents are told by their index, 0 to 14; places of the text by their
+/// offset in bytes.
 #[derive(Clone, Copy, Debug, PartialEq, Eq)]
 pub enum Kind {
-    /// The text has a fault: it spells no map. It stands at the fault's offset.
-    Fault {
-        fault: TextFaultKind,
-        /// What is wanted there, and the definition that has begun.
-        wanted: FaultPlace,
-    },
     /// The text defines no slot. It has no place.
     NoKey,
     /// The text defines a slot, and no live cell is lshift or rshift. It has no place.
@@ -41,11 +35,11 @@ pub enum Kind {
         is_noted: bool,
     },
     /// Some cell selects the slots from 128 on, and of some key one slot is defined and the other one isn't. The slots
-    /// that aren't are `Lint::missing_slots`. It stands at the first ashift or alock of a slot below 128.
+    /// that aren't are `Diagnostics::missing_slots`. It stands at the first ashift or alock of a slot below 128.
     HalfDefined {
         /// What stands there, ashift or alock.
         selector: Holding,
-        /// Some key is a modifier or lock with a character in such a slot: the keys are `Lint::nul_keys`.
+        /// Some key is a modifier or lock with a character in such a slot: the keys are `Diagnostics::nul_keys`.
         has_keys: bool,
         /// It has keys and no key is a `MixedKey`: what the search answered is told behind it.
         is_noted: bool,
@@ -56,7 +50,7 @@ pub enum Kind {
         /// The offset of the last definition of the same.
         last: usize,
     },
-    /// Live cells are dead keys of accents that the text doesn't define: these are `Lint::missing_accents`. It
+    /// Live cells are dead keys of accents that the text doesn't define: these are `Diagnostics::missing_accents`. It
     /// stands at the first such cell.
     DeadKey {
         /// The text defines some other accent.
@@ -73,7 +67,8 @@ pub enum Kind {
         /// The offset of the first pair with this base: of its parenthesis.
         first: usize,
     },
-    /// No live cell is ashift or alock, and the text defines slots from 128 on: these are `Lint::unused_slots`. It
+    /// No live cell is ashift or alock, and the text defines slots from 128 on: these are
+    /// `Diagnostics::unused_slots`. It
     /// stands at the first definition of such a slot that is in force.
     UnusedHalf,
     /// A cell that is spelled by one decimal digit, which is the number of this character.
@@ -89,11 +84,11 @@ pub struct Diagnostic {
     pub kind: Kind,
 }
 
-/// The diagnostics of a text in their order, and what some of them tell of. Of these kinds a text has one diagnostic at
-/// most. The lists are in ascending order.
+/// The diagnostics of a text that spells a keymap, in their order, and what some of them tell of. Of these kinds a text
+/// has one diagnostic at most. The lists of numbers are in ascending order.
 #[derive(Debug, Drop)]
-pub struct Lint {
-    pub diagnostics: Vec<Diagnostic>,
+pub struct Diagnostics {
+    pub list: Vec<Diagnostic>,
     /// The slots that the text doesn't define though it defines the other slot of their key, 128 apart.
     pub missing_slots: ArrayVec<u8, SLOT_LIMIT>,
     /// The keys that have a modifier or lock and, in a slot that the text doesn't define, a character.
@@ -108,8 +103,21 @@ pub struct Lint {
     pub stuck: Vec<Modifier>,
 }
 
+/// What is said of a text.
+#[derive(Debug, Drop)]
+pub enum Lint {
+    /// The text has a fault: it spells no keymap.
+    Faulty {
+        fault: TextFault,
+        /// What is wanted there, and the definition that has begun.
+        place: FaultPlace,
+    },
+    /// The text spells a keymap.
+    Spelled(Diagnostics),
+}
+
 fn error_unless(is_mild: bool) -> Severity
-    ensures { result ≡ error_unless_it is_mild }
+    ensures { result ≡ spec.error_unless is_mild }
 {
     if is_mild {
         Severity::Warning
@@ -121,10 +129,10 @@ fn error_unless(is_mild: bool) -> Severity
 impl Kind {
     /// How much it weighs, by whether the search answers that no modifier ever stays on.
     pub fn severity(&self, never_sticks: bool) -> Severity
-        ensures { result ≡ severity_of never_sticks self.now }
+        ensures { result ≡ spec.severity_of never_sticks self.now }
     {
         match self {
-            Kind::Fault { .. } | Kind::NoKey => Severity::Error,
+            Kind::NoKey => Severity::Error,
             Kind::MixedKey { .. } => error_unless(never_sticks),
             Kind::HalfDefined { has_keys, .. } => error_unless(never_sticks || !*has_keys),
             _ => Severity::Warning,
@@ -132,14 +140,41 @@ impl Kind {
     }
 }
 
-impl Lint {
+impl Severity {
+    pub(crate) fn is_error(self) -> bool
+        ensures { result ≡ spec.is_error self }
+    {
+        matches!(self, Severity::Error)
+    }
+}
+
+impl Diagnostics {
     /// Whether the search answers that no modifier ever stays on.
     pub fn never_sticks(&self) -> bool
-        ensures { result ≡ never_sticks_by self.now.sticking }
+        ensures { result ≡ spec.never_sticks self.now.sticking }
     {
-        match &self.sticking {
-            Some(Sticking::Never) => true,
-            _ => false,
+        matches!(&self.sticking, Some(Sticking::Never))
+    }
+
+    fn has_error(&self) -> bool
+        ensures { result ≡ spec.is_error_among self.now }
+    {
+        let never = self.never_sticks();
+        self.list
+            .as_slice()
+            .iter()
+            .any(|d| d.kind.severity(never).is_error())
+    }
+}
+
+impl Lint {
+    /// Whether the text has a fault, or some diagnostic is an error.
+    pub fn has_error(&self) -> bool
+        ensures { result ≡ spec.has_error self.now }
+    {
+        match self {
+            Lint::Faulty { .. } => true,
+            Lint::Spelled(diagnostics) => diagnostics.has_error(),
         }
     }
 }

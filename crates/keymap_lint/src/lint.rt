@@ -4,25 +4,25 @@ ghost use Rattle.keymap_core.specs.Numbers.{key_count};
 ghost use Rattle.keymap_text.specs.Meaning.{Spells};
 ghost use Rattle.keymap_lint.specs.Spelled.{AreDefined};
 ghost use Rattle.keymap_text.specs.Placed.{StandsAmong};
-ghost use Rattle.keymap_lint.specs.Lists.{IsSearched, AreOrdered, all_of, spelled_with, IsLintOf, IsLintOfSpelled};
-ghost use Rattle.keymap_lint.specs.Lists.{IsLintOfMap, IsLintOfFault, IsLint};
+ghost use Rattle.keymap_lint.specs.Lists.{IsSearched, AreOrdered, all_of, spelled_with, AreOf, AreOfSpelled};
+ghost use Rattle.keymap_lint.specs.Lists.{AreOfMap, IsLint};
+ghost use Rattle.keymap_lint.specs.Positions.{LiesWithin};
 
 use crate::cells::{CellInForce, cells_in_force};
 use crate::collect::collect;
-use crate::dead_keys::missing_accents;
-use crate::diagnostic::{Diagnostic, Kind, Lint};
-use crate::halves::unused_slots;
-use crate::mixed::nul_keys;
+use crate::dead_key::missing_accents;
+use crate::diagnostic::{Diagnostic, Diagnostics, Lint};
+use crate::half_defined::missing_slots;
+use crate::mixed_key::nul_keys;
 use crate::order::put_in_order;
-use crate::selectors::missing_slots;
 use crate::spelled::SpelledText;
 use crate::stuck::stuck;
-use arrayvec::ArrayVec;
+use crate::unused_half::unused_slots;
 use console_core::{Sticking, sticking};
 use keymap_check::{Finding, check};
 use keymap_core::KeyMap;
 use keymap_text::{
-    Placed, Span, TextError, TextFault, definitions, last_definitions, read_map, wanted_at_fault,
+    Placed, Span, TextError, definitions, last_definitions, read_map, wanted_at_fault,
 };
 use std::alloc::{AllocError, Global};
 
@@ -58,16 +58,16 @@ fn lint_with(
     text: &SpelledText,
     cells: &[CellInForce],
     findings: &[Finding],
-) -> Result<Lint, AllocError>
+) -> Result<Diagnostics, AllocError>
     requires few { length findings.now ≤ key_count }
     requires defined { AreDefined text.now }
-    ensures { IfOk result (λ l. IsLintOf text.now cells.now findings.now l) }
+    ensures { IfOk result (λ l. AreOf text.now cells.now findings.now l) }
 {
-    let diagnostics = ordered(alloc, text, cells, findings)?;
+    let list = ordered(alloc, text, cells, findings)?;
     let sticking = search(alloc, text.map(), findings)?;
     let stuck = stuck(alloc, text.map(), &sticking)?;
-    Ok(Lint {
-        diagnostics,
+    Ok(Diagnostics {
+        list,
         missing_slots: missing_slots(text),
         nul_keys: nul_keys(text, findings),
         missing_accents: missing_accents(text, cells),
@@ -78,9 +78,9 @@ fn lint_with(
 }
 
 /// The diagnostics of a text that spells a map.
-fn lint_spelled(alloc: Global, text: &SpelledText) -> Result<Lint, AllocError>
+fn lint_spelled(alloc: Global, text: &SpelledText) -> Result<Diagnostics, AllocError>
     requires { AreDefined text.now }
-    ensures { IfOk result (λ l. IsLintOfSpelled text.now l) }
+    ensures { IfOk result (λ l. AreOfSpelled text.now l) }
 {
     let report = check(text.map());
     let findings = report.findings().as_slice();
@@ -95,9 +95,9 @@ fn lint_rows(
     definitions: &[Placed],
     spans: &[Span],
     map: &KeyMap,
-) -> Result<Lint, AllocError>
+) -> Result<Diagnostics, AllocError>
     requires { All (StandsAmong (length spans.now)) definitions.now }
-    ensures { IfOk result (λ l. IsLintOfSpelled (spelled_with definitions.now spans.now map.now) l) }
+    ensures { IfOk result (λ l. AreOfSpelled (spelled_with definitions.now spans.now map.now) l) }
 {
     let last = last_definitions(definitions);
     let text = SpelledText::new(definitions, &last, spans, map);
@@ -106,47 +106,28 @@ fn lint_rows(
 }
 
 /// The same of the text and the map.
-fn lint_map(alloc: Global, text: &[u8], map: &KeyMap) -> Result<Lint, AllocError>
+fn lint_map(alloc: Global, text: &[u8], map: &KeyMap) -> Result<Diagnostics, AllocError>
     requires { Spells text.now map.now }
-    ensures { IfOk result (λ l. IsLintOfMap text.now map.now l) }
+    ensures { IfOk result (λ l. AreOfMap text.now map.now l) }
 {
     let placed = definitions(alloc, text)?;
     let lint = lint_rows(alloc, &placed.definitions, &placed.spans, map)?;
     Ok(lint)
 }
 
-/// The diagnostic of a text that has this fault.
-fn lint_fault(alloc: Global, text: &[u8], fault: TextFault) -> Result<Lint, AllocError>
-    ensures { IfOk result (λ l. IsLintOfFault text.now fault l) }
-{
-    let mut diagnostics = Vec::new(alloc);
-    diagnostics.push(Diagnostic {
-        place: Some(fault.offset as usize),
-        kind: Kind::Fault {
-            fault: fault.kind,
-            wanted: wanted_at_fault(text),
-        },
-    })?;
-    Ok(Lint {
-        diagnostics,
-        missing_slots: ArrayVec::new(),
-        nul_keys: ArrayVec::new(),
-        missing_accents: ArrayVec::new(),
-        unused_slots: ArrayVec::new(),
-        sticking: None,
-        stuck: Vec::new(alloc),
-    })
-}
-
-/// The diagnostics of a text in their order: first those without a place, then by their place, those of one place in
-/// the order of the kinds, and several of a kind by key. A text with a fault has that diagnostic alone. The search for
-/// sticking modifiers runs only where the check has findings. `Err` means that memory was refused.
+/// What is said of a text: its fault, or its diagnostics in their order, first those without a place, then by their
+/// place, those of one place in the order of the kinds, and several of a kind by key. The search for sticking modifiers
+/// runs only where the check has findings. `Err` means that memory was refused.
 pub fn diagnostics(alloc: Global, text: &[u8]) -> Result<Lint, AllocError>
-    ensures { IfOk result (λ l. IsLint text.now l) }
+    ensures said { IfOk result (λ l. IsLint text.now l) }
+    ensures places { IfOk result (λ l. LiesWithin text.now l) }
 {
     match read_map(alloc, text) {
-        Ok(map) => lint_map(alloc, text, &map),
-        Err(TextError::Fault(fault)) => lint_fault(alloc, text, fault),
+        Ok(map) => Ok(Lint::Spelled(lint_map(alloc, text, &map)?)),
+        Err(TextError::Fault(fault)) => Ok(Lint::Faulty {
+            fault,
+            place: wanted_at_fault(text),
+        }),
         Err(_) => Err(AllocError),
     }
 }

@@ -15,7 +15,7 @@ use std::marker::Model;
 
 /// A text that spells a map: its definitions, the last ones among them, where its tokens stand, and the map.
 #[derive(Drop)]
-pub struct SpelledText<'t> {
+pub(crate) struct SpelledText<'t> {
     definitions: &'t [Placed],
     last: &'t LastDefinitions,
     spans: &'t [Span],
@@ -38,7 +38,7 @@ impl<'t> Model for SpelledText<'t> {
 
 impl<'t> SpelledText<'t> {
     /// The text with these definitions and tokens, and with this map.
-    pub fn new(
+    pub(crate) fn new(
         definitions: &'t [Placed],
         last: &'t LastDefinitions,
         spans: &'t [Span],

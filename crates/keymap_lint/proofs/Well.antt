@@ -1,0 +1,81 @@
+-- Where no diagnostic is an error, no modifier sticks.
+use Rattle.std.proofs.Common.{◌≡◌, Bool, true, false, List, [], ◌∷◌, ap, subst, sym, ◌∙◌, Option, Some, None}
+use Rattle.std.proofs.Common.{refl}
+use Rattle.std.specs.List.{list_any}
+use Rattle.std.proofs.lemmas.Bool.{true≢false, or_parts, or_from}
+use Rattle.keymap_core.specs.Maps.{MapValue}
+use Rattle.console_core.specs.declared.outcome.Sticking.{Sticking}
+use Rattle.console_core.specs.declared.outcome.Sticking.TheVariants.{Sticks, Never, Undecided}
+use Rattle.console_core.specs.History.{in_force, is_on_after}
+use Rattle.console_core.specs.Headline.{IsSafe, IsOnOnlyWhilePressed}
+use Rattle.console_core.specs.Sticking.{NeverSticks}
+use Rattle.console_core.proofs.Headline.{on_only_while_pressed, off_once_quiet}
+use Rattle.console_core.proofs.OneMap.{first_in_force}
+use Rattle.keymap_lint.specs.declared.diagnostic.Diagnostic.{Diagnostic}
+use Rattle.keymap_lint.specs.declared.diagnostic.Kind.{Kind}
+use Rattle.keymap_lint.specs.declared.diagnostic.Kind.TheVariants as kinds
+use Rattle.keymap_lint.specs.declared.diagnostic.Diagnostics.{Diagnostics}
+use Rattle.keymap_lint.specs.declared.diagnostic.Lint.TheVariants.{Faulty, Spelled}
+use Rattle.keymap_lint.specs.Lists.{IsSearched}
+use Rattle.keymap_lint.specs.Promises.{names_a_key, names_keys, WellTextsNeverStick}
+use Rattle.keymap_lint.specs.Severities.{never_sticks, severity_of, is_error, has_error}
+use Rattle.keymap_lint.proofs.Named.{keys_are_named_exactly_if_refused}
+
+-- under a safe keymap no modifier sticks
+safe_never_sticks : (m : MapValue) → IsSafe m → NeverSticks m
+safe_never_sticks m safe ms h first keys none =
+    let e : in_force ms h ≡ m = first_in_force ms h none ∙ first in
+    let held : IsSafe (in_force ms h) = subst IsSafe (sym e) safe in (
+      subst (λ n. IsOnOnlyWhilePressed n h (λ i. is_on_after ms i h)) e (on_only_while_pressed ms h held keys),
+      off_once_quiet ms h held keys,
+    )
+
+-- what names a key is an error, unless the search answers that no modifier sticks
+named_is_error : (k : Kind) → names_a_key k ≡ true → is_error (severity_of false k) ≡ true
+named_is_error kinds.NoKey h = refl
+named_is_error kinds.NoShift h = absurd (true≢false (sym h))
+named_is_error (kinds.MixedKey f c n) h = refl
+named_is_error (kinds.HalfDefined s true n) h = refl
+named_is_error (kinds.HalfDefined s false n) h = absurd (true≢false (sym h))
+named_is_error (kinds.DefinedAgain what last) h = absurd (true≢false (sym h))
+named_is_error (kinds.DeadKey d) h = absurd (true≢false (sym h))
+named_is_error (kinds.ZeroAccent a) h = absurd (true≢false (sym h))
+named_is_error (kinds.PairAgain a b f) h = absurd (true≢false (sym h))
+named_is_error kinds.UnusedHalf h = absurd (true≢false (sym h))
+named_is_error (kinds.BareDigit c) h = absurd (true≢false (sym h))
+
+none_by : {X : Type 0} (p q : X → Bool) → ((x : X) → q x ≡ true → p x ≡ true) → (xs : List X) → list_any p xs ≡ false
+    → list_any q xs ≡ false
+none_by p q h [] e = refl
+none_by p q h (x ∷ xs) e =
+    let parts = or_parts (p x) (list_any p xs) e in
+    or_from (q x) (list_any q xs) (here (q x) refl (p x) refl parts.0) (none_by p q h xs parts.1)
+  where
+    here : (b : Bool) → q x ≡ b → (a : Bool) → p x ≡ a → p x ≡ false → q x ≡ false
+    here false f a g n = f
+    here true f a g n = absurd (true≢false (sym (h x f) ∙ n))
+
+none_named : (l : Diagnostics) → never_sticks l.sticking ≡ false → has_error (Spelled l) ≡ false
+    → names_keys (Spelled l) ≡ false
+none_named l never well =
+    none_by (λ (d : Diagnostic). is_error (severity_of (never_sticks l.sticking) d.kind))
+    (λ (d : Diagnostic). names_a_key d.kind)
+    (λ d h. ap (λ n. is_error (severity_of n d.kind)) never ∙ named_is_error d.kind h)
+    l.list.items well
+
+pub well_texts_never_stick : WellTextsNeverStick
+well_texts_never_stick text (Spelled l) (m, spells, (rows, by, (fs, are, is))) well =
+    (m, spells, go l.sticking refl is.sticking)
+  where
+    quietly : never_sticks l.sticking ≡ false → NeverSticks m
+    quietly never =
+        let named = keys_are_named_exactly_if_refused text m (Spelled l) spells
+        (m, spells, (rows, by, (fs, are, is))) in
+        safe_never_sticks m (named.0 (none_named l never well))
+
+    go : (o : Option Sticking) → l.sticking ≡ o → IsSearched m fs o → NeverSticks m
+    go None e s = quietly (ap never_sticks e)
+    go (Some Never) e s = s.1
+    go (Some (Sticks events)) e s = quietly (ap never_sticks e)
+    go (Some (Undecided p)) e s = quietly (ap never_sticks e)
+well_texts_never_stick text (Faulty f place) is well = absurd (true≢false well)

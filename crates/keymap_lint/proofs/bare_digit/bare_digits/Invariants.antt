@@ -1,0 +1,8 @@
+use Rattle.std.proofs.Common.{◌≡◌, take}
+use Rattle.std.specs.List.{flat_map}
+use Rattle.keymap_lint.specs.Kinds.{digit}
+use Rattle.keymap_lint.proofs.bare_digit.bare_digits.Given as goal
+
+-- what is said of the cells that were passed
+abbrev pub invariant-loop-cell : goal.invariant-loop-cell
+invariant-loop-cell l = l.found.items ≡ flat_map (digit l.text) (take l.cell-index l.cells)

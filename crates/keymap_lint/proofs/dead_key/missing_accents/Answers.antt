@@ -1,0 +1,30 @@
+use Rattle.std.proofs.Common.{◌≡◌, arith, ap, length, cond, [], ◌∷◌, sym, ◌∙◌}
+use Rattle.std.specs.Prelude.{not}
+use Rattle.arrayvec.specs.ArrayVec.{array_vec_len}
+use Rattle.keymap_lint.specs.Kinds.{missing_accent}
+use Rattle.keymap_lint.proofs.Lists.{gathered_start, gathered_step}
+use Rattle.keymap_lint.proofs.Missing.{missing_none, no_some}
+use Rattle.keymap_lint.proofs.dead_key.missing_accents.Goals as goal
+
+pub loop-accent-init : goal.loop-accent-init
+loop-accent-init c =
+    let e : array_vec_len c.new-accents.result ≡ 0 = ap length c.new-accents.ensures in
+    record {
+      found = gathered_start (missing_accent c.args.text.now c.args.cells.now) _ c.new-accents.ensures;
+      room = omega (arith, e);
+    }
+
+pub loop-accent-preserved : goal.loop-accent-preserved
+loop-accent-preserved c =
+    record {
+      found =
+          gathered_step (missing_accent c.args.text.now c.args.cells.now) c.loop-accent.accents.items _ _
+          c.loop-accent.accent c.loop-accent.invariant.found
+          (ap (λ b. cond b (c.loop-accent.accent ∷ []) []) c.is_absent.ensures) c.add_number.ensures.items;
+      room = omega (arith, c.add_number.ensures.room, c.loop-accent.invariant.room);
+    }
+
+pub returns-then-is_none : goal.returns-then-is_none
+returns-then-is_none c =
+    c.new-accents.ensures ∙ sym (missing_none c.args.text.now c.args.cells.now 15
+    (sym c.first_missing.ensures ∙ no_some c.first_missing.result (c.is_none.ensures ∙ ap not c.if-is_none.true)))

@@ -1,0 +1,12 @@
+use Rattle.std.proofs.Common.{◌≡◌, ◌≤◌}
+use Rattle.arrayvec.specs.ArrayVec.{array_vec_len}
+use Rattle.keymap_core.specs.Below.{gathered}
+use Rattle.keymap_lint.specs.Kinds.{missing_accent}
+use Rattle.keymap_lint.proofs.dead_key.missing_accents.Given as goal
+
+-- those among the accents so far
+abbrev pub invariant-loop-accent : goal.invariant-loop-accent
+invariant-loop-accent l = record {
+  found : l.accents.items ≡ gathered (missing_accent l.text l.cells) l.accent;
+  room : array_vec_len l.accents ≤ l.accent;
+}

@@ -1,0 +1,20 @@
+use Rattle.std.proofs.Common.{◌≡◌, arith, ap, length, cond, [], ◌∷◌}
+use Rattle.arrayvec.specs.ArrayVec.{array_vec_len}
+use Rattle.keymap_lint.specs.Kinds.{missing_slot}
+use Rattle.keymap_lint.proofs.Lists.{gathered_start, gathered_step}
+use Rattle.keymap_lint.proofs.half_defined.undefined_halves.Goals as goal
+
+pub loop-number-init : goal.loop-number-init
+loop-number-init c =
+    let e : array_vec_len c.new-slots.result ≡ 0 = ap length c.new-slots.ensures in
+    record { found = gathered_start (missing_slot c.args.text.now) _ c.new-slots.ensures; room = omega (arith, e) }
+
+pub loop-number-preserved : goal.loop-number-preserved
+loop-number-preserved c =
+    record {
+      found =
+          gathered_step (missing_slot c.args.text.now) c.loop-number.slots.items _ _
+          c.loop-number.number c.loop-number.invariant.found
+          (ap (λ b. cond b (c.loop-number.number ∷ []) []) c.is_missing.ensures) c.add_number.ensures.items;
+      room = omega (arith, c.add_number.ensures.room, c.loop-number.invariant.room);
+    }

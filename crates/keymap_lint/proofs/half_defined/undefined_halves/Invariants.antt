@@ -1,0 +1,12 @@
+use Rattle.std.proofs.Common.{◌≡◌, ◌≤◌}
+use Rattle.arrayvec.specs.ArrayVec.{array_vec_len}
+use Rattle.keymap_core.specs.Below.{gathered}
+use Rattle.keymap_lint.specs.Kinds.{missing_slot}
+use Rattle.keymap_lint.proofs.half_defined.undefined_halves.Given as goal
+
+-- those among the slots so far
+abbrev pub invariant-loop-number : goal.invariant-loop-number
+invariant-loop-number l = record {
+  found : l.slots.items ≡ gathered (missing_slot l.text) l.number;
+  room : array_vec_len l.slots ≤ l.number;
+}

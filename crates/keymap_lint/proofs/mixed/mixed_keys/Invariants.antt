@@ -1,8 +1,0 @@
-use Rattle.std.proofs.Common.{◌≡◌, take}
-use Rattle.std.specs.List.{flat_map}
-use Rattle.keymap_lint.specs.Kinds.{mixed_key}
-use Rattle.keymap_lint.proofs.mixed.mixed_keys.Given as goal
-
--- what is said of the findings that were passed
-abbrev pub invariant-loop-finding : goal.invariant-loop-finding
-invariant-loop-finding l = l.found.items ≡ flat_map (mixed_key l.text l.findings) (take l.finding-index l.findings)

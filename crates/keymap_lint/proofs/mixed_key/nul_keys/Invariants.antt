@@ -1,0 +1,12 @@
+use Rattle.std.proofs.Common.{◌≡◌, ◌≤◌, take}
+use Rattle.std.specs.List.{flat_map}
+use Rattle.arrayvec.specs.ArrayVec.{array_vec_len}
+use Rattle.keymap_lint.specs.Kinds.{nul_key}
+use Rattle.keymap_lint.proofs.mixed_key.nul_keys.Given as goal
+
+-- the keys of the findings that were passed
+abbrev pub invariant-loop-finding : goal.invariant-loop-finding
+invariant-loop-finding l = record {
+  found : l.keys.items ≡ flat_map (nul_key l.text) (take l.finding-index l.findings);
+  room : array_vec_len l.keys ≤ l.finding-index;
+}

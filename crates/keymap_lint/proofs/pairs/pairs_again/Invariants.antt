@@ -1,8 +1,0 @@
-use Rattle.std.proofs.Common.{◌≡◌}
-use Rattle.keymap_core.specs.Below.{gathered}
-use Rattle.keymap_lint.specs.Kinds.{accent_pairs}
-use Rattle.keymap_lint.proofs.pairs.pairs_again.Given as goal
-
--- what is said of the pairs of the accents so far
-abbrev pub invariant-loop-index : goal.invariant-loop-index
-invariant-loop-index l = l.found.items ≡ gathered (accent_pairs l.text) l.index

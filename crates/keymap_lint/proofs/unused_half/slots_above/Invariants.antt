@@ -1,0 +1,12 @@
+use Rattle.std.proofs.Common.{◌≡◌, ◌≤◌}
+use Rattle.arrayvec.specs.ArrayVec.{array_vec_len}
+use Rattle.keymap_core.specs.Below.{gathered}
+use Rattle.keymap_lint.specs.Kinds.{slot_above}
+use Rattle.keymap_lint.proofs.unused_half.slots_above.Given as goal
+
+-- those of the keys so far
+abbrev pub invariant-loop-key : goal.invariant-loop-key
+invariant-loop-key l = record {
+  found : l.slots.items ≡ gathered (slot_above l.text) l.key;
+  room : array_vec_len l.slots ≤ l.key;
+}

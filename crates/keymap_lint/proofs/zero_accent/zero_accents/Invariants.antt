@@ -1,0 +1,8 @@
+use Rattle.std.proofs.Common.{◌≡◌}
+use Rattle.keymap_core.specs.Below.{gathered}
+use Rattle.keymap_lint.specs.Kinds.{zero_accent}
+use Rattle.keymap_lint.proofs.zero_accent.zero_accents.Given as goal
+
+-- what is said of the accents so far
+abbrev pub invariant-loop-accent : goal.invariant-loop-accent
+invariant-loop-accent l = l.found.items ≡ gathered (zero_accent l.text l.cells) l.accent

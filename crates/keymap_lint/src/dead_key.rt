@@ -1,0 +1,89 @@
+//! Dead keys of accents that the text doesn't define.
+ghost use Rattle.std.specs.Prelude.{◌≡◌, ◌<◌, ◌&&◌, not, find};
+ghost use Rattle.std.specs.Option.{option_to_list};
+ghost use Rattle.keymap_core.specs.Borne.{any_below};
+ghost use Rattle.keymap_core.specs.Numbers.{accent_limit};
+ghost use Rattle.keymap_lint.specs.Kinds.{is_defined, is_missing as is_missing_in, dead_key as dead_key_of};
+ghost use Rattle.keymap_lint.specs.Kinds.{missing_accents as missing_accents_of, is_given as is_given_by};
+
+use crate::cells::CellInForce;
+use crate::diagnostic::{Diagnostic, Kind};
+use crate::numbers::add_number;
+use crate::spelled::SpelledText;
+use crate::zero_accent::{is_given, live_accent};
+use arrayvec::ArrayVec;
+use keymap_core::ACCENT_LIMIT;
+
+/// Whether the cell is live and the dead key of an accent that the text doesn't define.
+fn is_missing(text: &SpelledText, cell: &CellInForce) -> bool
+    ensures { result ≡ is_missing_in text.now cell.now }
+{
+    match live_accent(text, cell) {
+        Some(accent) => !text.defines_accent(accent),
+        None => false,
+    }
+}
+
+/// The first such cell.
+fn first_missing(text: &SpelledText, cells: &[CellInForce]) -> Option<CellInForce>
+    ensures { result ≡ find (is_missing_in text.now) cells.now }
+{
+    for cell in cells {
+        if is_missing(text, cell) {
+            return Some(*cell);
+        }
+    }
+    None
+}
+
+/// Whether the text defines an accent.
+fn defines_some(text: &SpelledText) -> bool
+    ensures { result ≡ any_below (is_defined text.now) accent_limit }
+{
+    for accent in 0..ACCENT_LIMIT as u8 {
+        if text.defines_accent(accent) {
+            return true;
+        }
+    }
+    false
+}
+
+/// What is said of a text in which live cells are dead keys of accents that it doesn't define.
+pub(crate) fn dead_key(text: &SpelledText, cells: &[CellInForce]) -> Option<Diagnostic>
+    ensures { option_to_list result ≡ dead_key_of text.now cells.now }
+{
+    match first_missing(text, cells) {
+        Some(cell) => Some(Diagnostic {
+            place: Some(cell.span.start),
+            kind: Kind::DeadKey {
+                defines_some: defines_some(text),
+            },
+        }),
+        None => None,
+    }
+}
+
+/// Whether the text doesn't define the accent though a live cell is its dead key.
+fn is_absent(text: &SpelledText, cells: &[CellInForce], accent: u8) -> bool
+    requires { accent < accent_limit }
+    ensures { result ≡ (is_given_by text.now cells.now accent && not (is_defined text.now accent)) }
+{
+    is_given(text, cells, accent) && !text.defines_accent(accent)
+}
+
+/// The accents that the text doesn't define though a live cell is their dead key, in ascending order.
+pub(crate) fn missing_accents(
+    text: &SpelledText,
+    cells: &[CellInForce],
+) -> ArrayVec<u8, ACCENT_LIMIT>
+    ensures { result.items ≡ missing_accents_of text.now cells.now }
+{
+    let mut accents = ArrayVec::new();
+    if first_missing(text, cells).is_none() {
+        return accents;
+    }
+    for accent in 0..ACCENT_LIMIT as u8 {
+        add_number(&mut accents, accent, is_absent(text, cells, accent));
+    }
+    accents
+}

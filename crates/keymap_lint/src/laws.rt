@@ -1,0 +1,27 @@
+//! Laws of the diagnostics: what they promise of the keymap that a text spells. No function here does anything.
+ghost use Rattle.keymap_lint.specs.Positions.{CellsInForceAreSpelled, DiagnosticsStandInTheText};
+ghost use Rattle.keymap_lint.specs.Promises.{WellTextsNeverStick, KeysAreNamedExactlyIfRefused};
+
+/// Where no diagnostic of a text is an error, the text spells a keymap, and after each list of presses and releases a
+/// modifier is on only while a key that bears it is pressed: so none is on once no key is pressed.
+pub fn well_texts_never_stick()
+    ensures { WellTextsNeverStick }
+{}
+
+/// A text that spells an accepted keymap has no `MixedKey`, and no `HalfDefined` that names keys; one that spells a
+/// refused keymap has one of them.
+pub fn keys_are_named_exactly_if_refused()
+    ensures { KeysAreNamedExactlyIfRefused }
+{}
+
+/// Each cell of a definition in force is a token of the text that spells what the map has there.
+pub fn cells_in_force_are_spelled()
+    ensures { CellsInForceAreSpelled }
+{}
+
+/// Each diagnostic that has a place stands within the text, and so do the further places that it tells. A `MixedKey`
+/// stands at a token that is its modifier or lock, a `HalfDefined` at its selector, a `DeadKey` at a dead key, and a
+/// `BareDigit` at its character.
+pub fn diagnostics_stand_in_the_text()
+    ensures { DiagnosticsStandInTheText }
+{}

@@ -15,12 +15,9 @@ use Rattle.console_core.specs.Resolved.{answer_resolved, ResolvedEvent, locked, 
 use Rattle.console_core.specs.Resolved.{look, on, resolve_press}
 use Rattle.console_core.specs.History.{Maps, in_force, loaded, is_second_in_force, is_load, resolved_event, answer_to}
 use Rattle.console_core.specs.History.{resolved}
-use Rattle.console_core.specs.Agrees.{Agrees, StandsAt}
+use Rattle.console_core.specs.Agrees.{Agrees, StandsAt, Kept, nothing_kept}
 use Rattle.console_core.specs.Answers.{answer_char, answer_action, answer_release}
-use Rattle.console_core.specs.Agrees.{Kept, nothing_kept}
-use Rattle.console_core.specs.Inner.Kept.{after_character, after_action, after_release, after_reset}
-use Rattle.console_core.specs.Inner.Kept.{after_load}
-use Rattle.console_core.specs.Inner.Kept.{after_reset, after_load}
+use Rattle.console_core.specs.Inner.Kept.{after_character, after_action, after_release, after_reset, after_load}
 use Rattle.console_core.specs.Resolved.ResolvedEvent.{PressedCharacter, PressedAction, ReleasedKey, WasReset, WasLoaded}
 use Rattle.keymap_core.specs.declared.entry.Cell.{Cell}
 use Rattle.keymap_core.specs.declared.entry.Cell.TheVariants.{Char, Act}

@@ -13,16 +13,16 @@ use Rattle.console_core.specs.Moves.{Under, State, start, Holds, with_holder, wi
 use Rattle.console_core.specs.Moves.{IsForgetful, HolderForgets, script_of_path}
 use Rattle.console_core.specs.Inner.Searching.{state_of, Entry, Entries, Grows, IsMetBy, IsReached, IsClosed}
 use Rattle.console_core.specs.Inner.Searching.{NeverUnder, LeavesOnUnder, HasFewestUnder, IsPressed, Searched}
-use Rattle.console_core.specs.Inner.Searching.{AreInOrder, IsStuck, IsScriptTo, NoneUnderBy}
+use Rattle.console_core.specs.Inner.Searching.{AreInOrder, AreSafe, IsStuck, IsScriptTo, NoneUnderBy}
 use Rattle.console_core.specs.Sticking.{presses}
-use Rattle.console_core.proofs.Staying.{IsSafeBelow, never-sticks, sticks-late}
-use Rattle.console_core.proofs.Scripts.{script-sticks, presses-script}
+use Rattle.console_core.proofs.Staying.{IsKeptBelow, IsSafeBelow, never-sticks, sticks-late}
+use Rattle.console_core.proofs.Scripts.{script-sticks, presses-script, releases-script}
 use Rattle.console_core.proofs.Growing.{at_old}
 use Rattle.console_core.proofs.Searching.{order-within}
 use Rattle.console_core.proofs.Unscrolled.{unscrolled, moves-unscrolled, same_moved, scroll-moved}
 
 -- The states met by at most p presses, but for the scroll lock.
-abbrev IsAmong : Entries → ℕ → State → Type 0
+abbrev pub IsAmong : Entries → ℕ → State → Type 0
 IsAmong es p s = (t : State) × IsMetBy es p t × (unscrolled t ≡ unscrolled s)
 
 -- what is met by a number of presses is by one more
@@ -78,11 +78,16 @@ done-turn u es n c p d lt t k l other (j, x, at, is, le) move =
     subst (λ s. IsMetBy es (suc p) (with_lock_turned s l)) is
     (met-up es (x.1.presses + 1) (suc p) (with_lock_turned (state_of x.0) l) (omega (arith, le)) met)
 
--- a finished search met no state where a holder looks up a character
-done-safe : (u : Under) (es : Entries) (n c p : ℕ) → AreDone u es n c → p < c → (t : State) → IsMetBy es p t
+-- no holder looks up a character in the states that were met by fewer presses
+abbrev AreSafeBy : Under → Entries → ℕ → Type 0
+AreSafeBy u es n =
+    (j : ℕ) (x : Entry) → slice_get es j ≡ Some x → x.1.presses < n → IsForgetful u (state_of x.0) → ⊥
+
+-- so in none that was met by fewer
+safe-met : (u : Under) (es : Entries) (n p : ℕ) → AreSafeBy u es n → p < n → (t : State) → IsMetBy es p t
     → IsForgetful u t → ⊥
-done-safe u es n c p d lt t (j, x, at, is, le) forgetful =
-    (d.closed j x at (omega (arith, le, lt))).2 (subst (λ s. IsForgetful u s) (sym is) forgetful)
+safe-met u es n p safe lt t (j, x, at, is, le) forgetful =
+    safe j x at (omega (arith, le, lt)) (subst (λ s. IsForgetful u s) (sym is) forgetful)
 
 -- the same for each lock, but for the scroll lock
 among-turn : (u : Under) (es : Entries) (n c p : ℕ) → AreDone u es n c → p < n → (s : State) (k : ℕ) (l : Lock)
@@ -104,9 +109,10 @@ among-turn u es n c p d lt s k Alt (t, there, e) is = (
   same_moved u s t (Turn k Alt) e,
 )
 
--- after a finished search the states met are safe
-done-safe_below : (u : Under) (es : Entries) (n : ℕ) → AreDone u es n n → IsSafeBelow u n (IsAmong es)
-done-safe_below u es n d = record {
+-- after a finished search the moves keep the states met
+done-kept_below : (u : Under) (es : Entries) (n : ℕ) → AreDone u es n n
+    → IsKeptBelow u n (IsAmong es)
+done-kept_below u es n d = record {
   start = (start, d.start, refl);
   let_go = λ p lt s k i (t, there, e) h. (
     with_holder t i None,
@@ -125,8 +131,15 @@ done-safe_below u es n d = record {
     same_moved u s t (Hold k i) e,
   );
   turn = λ p lt s k l there is. among-turn u es n n p d lt s k l there is;
+}
+
+-- and they are safe where no holder looks up a character
+done-safe_below : (u : Under) (es : Entries) (n : ℕ) → AreDone u es n n → AreSafeBy u es n
+    → IsSafeBelow u n (IsAmong es)
+done-safe_below u es n d safe = record {
+  kept = done-kept_below u es n d;
   safe =
-      λ p lt s (t, there, e) forgetful. done-safe u es n n p d lt t there
+      λ p lt s (t, there, e) forgetful. safe-met u es n p safe lt t there
       (subst (λ y. IsForgetful u y) (sym e) forgetful);
 }
 
@@ -134,10 +147,10 @@ done-safe_below u es n d = record {
 abbrev IsAmongUpTo : Entries → ℕ → ℕ → State → Type 0
 IsAmongUpTo es n p s = p ≤ n → IsAmong es p s
 
--- where the states by n presses are closed, the states up to them are safe, whatever a press more leads to
-closed-safe_below : (u : Under) (es : Entries) (n : ℕ) → AreDone u es n (n + 1)
-    → IsSafeBelow u (n + 1) (IsAmongUpTo es n)
-closed-safe_below u es n d = record {
+-- where the states by n presses are closed, the moves keep the states up to them, whatever a press more leads to
+closed-kept_below : (u : Under) (es : Entries) (n : ℕ) → AreDone u es n (n + 1)
+    → IsKeptBelow u (n + 1) (IsAmongUpTo es n)
+closed-kept_below u es n d = record {
   start = λ le. (start, d.start, refl);
   let_go = λ p lt s k i among h le.
       let there : IsAmong es p s = among le in (
@@ -164,82 +177,100 @@ closed-safe_below u es n d = record {
   turn = λ p lt s k l among is le.
       let there : IsAmong es p s = among (omega (arith, le)) in
       among-turn u es n (n + 1) p d (omega (arith, le)) s k l there is;
+}
+
+-- and they are safe where no holder looks up a character
+closed-safe_below : (u : Under) (es : Entries) (n : ℕ) → AreDone u es n (n + 1) → AreSafeBy u es (n + 1)
+    → IsSafeBelow u (n + 1) (IsAmongUpTo es n)
+closed-safe_below u es n d safe = record {
+  kept = closed-kept_below u es n d;
   safe = λ p lt s among forgetful.
       let there : IsAmong es p s = among (omega (arith, lt)) in
-      done-safe u es n (n + 1) p d lt there.0 there.1
-      (subst (λ y. IsForgetful u y) (sym there.2) forgetful);
+      safe-met u es (n + 1) p safe lt there.0 there.1 (subst (λ y. IsForgetful u y) (sym there.2) forgetful);
 }
 
 -- all that was met is pressed and closed
-pub searched-never : (u : Under) (es : Entries) (n : ℕ) → length es ≤ n → Searched u es n n → NeverUnder u
-searched-never u es n le s =
-    never-sticks u (IsAmong es) (λ q. done-safe_below u es q (record {
-      start = s.start;
-      pressed =
-          λ j x at lt. let below : j < length es = slice_get_within es j x at in
-          s.pressed j x at (omega (arith, below, le));
-      closed =
-          λ j x at lt. let below : j < length es = slice_get_within es j x at in
-          s.closed j x at (omega (arith, below, le));
-    }))
-
--- those met by fewer presses than the level are pressed and closed
-level-done : (u : Under) (es : Entries) (level p : ℕ) → AreInOrder es level p → Searched u es level level
-    → AreDone u es p p
-level-done u es level p order s = record {
+all-done : (u : Under) (es : Entries) → Searched u es (length es) (length es) → (q : ℕ) → AreDone u es q q
+all-done u es s q = record {
   start = s.start;
-  pressed = λ j x at lt. s.pressed j x at (below j x at lt);
-  closed = λ j x at lt. s.closed j x at (below j x at lt);
+  pressed = λ j x at lt. s.pressed j x at (slice_get_within es j x at);
+  closed = λ j x at lt. s.closed j x at (slice_get_within es j x at);
 }
-  where
-    below : (j : ℕ) (x : Entry) → slice_get es j ≡ Some x → x.1.presses < p → j < level
-    below j x at lt = elim (cases_lt j level) [
+
+-- so the moves keep the states met
+pub searched-kept : (u : Under) (es : Entries) → Searched u es (length es) (length es) → (q : ℕ)
+    → IsKeptBelow u q (IsAmong es)
+searched-kept u es s q = done-kept_below u es q (all-done u es s q)
+
+-- and no modifier sticks where no holder looks up a character
+pub searched-never : (u : Under) (es : Entries) → Searched u es (length es) (length es) → AreSafe u es (length es)
+    → NeverUnder u
+searched-never u es s safe =
+    never-sticks u (IsAmong es)
+    (λ q. done-safe_below u es q (all-done u es s q) (λ j x at lt. safe j x at (slice_get_within es j x at)))
+
+-- those met by fewer presses than the level stand below it
+below_level : (es : Entries) (level p : ℕ) → AreInOrder es level p → (j : ℕ) (x : Entry) → slice_get es j ≡ Some x
+    → x.1.presses < p → j < level
+below_level es level p order j x at lt =
+    elim (cases_lt j level) [
       | inl less ↦ less
       | inr le ↦ let e : x.1.presses ≡ p = (order j x at).1 le in absurd (omega (arith, e, lt))
     ]
 
+-- so they are pressed, closed and safe
+level-safe : (u : Under) (es : Entries) (level p : ℕ) → AreInOrder es level p → Searched u es level level
+    → AreSafe u es level → IsSafeBelow u p (IsAmong es)
+level-safe u es level p order s safe =
+    done-safe_below u es p
+    (record {
+      start = s.start;
+      pressed = λ j x at lt. s.pressed j x at (below_level es level p order j x at lt);
+      closed = λ j x at lt. s.closed j x at (below_level es level p order j x at lt);
+    })
+    (λ j x at lt. safe j x at (below_level es level p order j x at lt))
+
 -- a holder at the place looks up a character: the script of a path to it leaves its modifier on, by the fewest presses
 pub stuck-sticks : (u : Under) (es : Entries) (level p j k : ℕ) → AreInOrder es level p → Searched u es level level
-    → IsStuck u es j k
+    → AreSafe u es level → IsStuck u es j k
     → (h : List Event) → IsScriptTo u es j k h
     → LeavesOnUnder u h × HasFewestUnder u h
-stuck-sticks u es level p j k order s (x, at, stuck) h is =
+stuck-sticks u es level p j k order s safe (x, at, stuck) h is =
     let i : Modifier = stuck.0 in
     let r : IsReached u es j x = s.reached j x at in
     let e : h ≡ script_of_path u r.0 k = is r.0 x at r.1 r.3 in
     let left = script-sticks u r.0 r.2 i k (subst (λ t. HolderForgets u t i k) (sym r.3) stuck.1) in
     let within : x.1.presses ≤ p = order-within es level p order j x at in
     let count : presses h ≡ suc x.1.presses = ap presses e ∙ presses-script u r.0 k ∙ ap suc r.4 in (
-      subst (λ y. LeavesOnUnder u y) (sym e) (left.0, left.1, (i, left.2)),
+      subst (λ y. LeavesOnUnder u y) (sym e) (left.0, left.1, (i, left.2), releases-script u r.0 r.2 k),
       (λ g keys admitted l sticks.
           let late : p < presses g =
-          sticks-late u p (IsAmong es) (done-safe_below u es p (level-done u es level p order s)) g keys admitted l
-          sticks in
+          sticks-late u p (IsAmong es) (level-safe u es level p order s safe) g keys admitted l sticks in
           omega (arith, within, count, late)),
     )
 
 -- no modifier sticks by the presses of the levels below a level
 pub level-late : (u : Under) (es : Entries) (level p : ℕ) → AreInOrder es level p → Searched u es level level
-    → NoneUnderBy u p
-level-late u es level p order s g keys admitted i sticks =
-    sticks-late u p (IsAmong es) (done-safe_below u es p (level-done u es level p order s)) g keys admitted i sticks
+    → AreSafe u es level → NoneUnderBy u p
+level-late u es level p order s safe g keys admitted i sticks =
+    sticks-late u p (IsAmong es) (level-safe u es level p order s safe) g keys admitted i sticks
 
 -- no modifier sticks by one press more where that level was closed, and some of the next one was met
 pub closed-late : (u : Under) (old es : Entries) (level p : ℕ) → AreInOrder old level p → Grows old es
     → AreInOrder es (length old) (p + 1) → Searched u es level (length old)
-    → NoneUnderBy u (p + 1)
-closed-late u old es level p before g order s g' keys admitted i sticks =
-    sticks-late u (p + 1) (IsAmongUpTo es p) (closed-safe_below u es p (record {
+    → AreSafe u es (length old) → NoneUnderBy u (p + 1)
+closed-late u old es level p before g order s safe g' keys admitted i sticks =
+    sticks-late u (p + 1) (IsAmongUpTo es p)
+    (closed-safe_below u es p
+    (record {
       start = s.start;
       pressed = λ j x at lt. s.pressed j x at (earlier j x at (below j x at (omega (arith, lt))) lt);
       closed = λ j x at lt. s.closed j x at (below j x at lt);
-    })) g' keys admitted i sticks
+    })
+    (λ j x at lt. safe j x at (below j x at lt))) g' keys admitted i sticks
   where
     below : (j : ℕ) (x : Entry) → slice_get es j ≡ Some x → x.1.presses < p + 1 → j < length old
-    below j x at lt = elim (cases_lt j (length old)) [
-      | inl less ↦ less
-      | inr le ↦ let e : x.1.presses ≡ p + 1 = (order j x at).1 le in absurd (omega (arith, e, lt))
-    ]
+    below j x at lt = below_level es (length old) (p + 1) order j x at lt
 
     earlier : (j : ℕ) (x : Entry) → slice_get es j ≡ Some x → j < length old → x.1.presses < p → j < level
     earlier j x at here lt =

@@ -65,7 +65,7 @@ never_alone m never ms h first keys none =
     )
 
 left_alone : (m : MapValue) (h : List Event) → LeavesOnUnder (alone m) h → LeavesOn m h
-left_alone m h (keys, sent, (i, sticks)) =
+left_alone m h (keys, sent, (i, sticks), releases) =
     let made : All IsPressOrRelease h = all_of (IsSent (alone m)) IsPressOrRelease (sent_alone m) h sent in
     (keys, made, (i, sticks_alone m h i (all_of IsPressOrRelease IsNoLoad no_load h made) sticks))
 
@@ -73,6 +73,7 @@ answer_alone : (m : MapValue) (a : Sticking) → IsAnswerUnder (alone m) a → I
 answer_alone m (Sticks events) (left, fewest) = (
   left_alone m (reverse events.items) left,
   (λ g keys none i sticks. fewest g keys (λ e. none) i (sticks.0, sticks.1 (between m m) refl)),
+  left.3,
 )
 answer_alone m Never x = never_alone m x
 answer_alone m (Undecided p) (reaches, none_by) = (
@@ -91,12 +92,12 @@ all_admitted : (ms : Maps) (h : List Event) → Admits (with_loads ms) h
 all_admitted ms h e = absurd (true≢false e)
 
 left_between : (ms : Maps) (h : List Event) → LeavesOnUnder (with_loads ms) h → LeavesOnBetween ms h
-left_between ms h (keys, sent, sticks) =
+left_between ms h (keys, sent, sticks, releases) =
     (keys, all_of (IsSent (with_loads ms)) IsNoReset (sent_between ms) h sent, sticks)
 
 answer_between : (ms : Maps) (a : Sticking) → IsAnswerUnder (with_loads ms) a → IsAnswerBetween ms a
 answer_between ms (Sticks events) (left, fewest) =
-    (left_between ms (reverse events.items) left, (λ g keys i sticks. fewest g keys (all_admitted ms g) i sticks))
+    (left_between ms (reverse events.items) left, (λ g keys i sticks. fewest g keys (all_admitted ms g) i sticks), left.3)
 answer_between ms Never x = λ h keys. x h keys (all_admitted ms h)
 answer_between ms (Undecided p) (reaches, none_by) =
     (reaches, (λ g keys i sticks. none_by g keys (all_admitted ms g) i sticks))
@@ -150,7 +151,7 @@ safe_never_forgets ms first second path is (i, k, forgets) =
 
 -- so the search doesn't answer that a modifier sticks
 pub safe_never_answers_sticks : SafeNeverAnswersSticks
-safe_never_answers_sticks ms (Sticks events) first second ((keys, made, (i, (quiet, on))), fewest) =
+safe_never_answers_sticks ms (Sticks events) first second ((keys, made, (i, (quiet, on))), fewest, releases) =
     absurd (true≢false (sym on ∙ (safe_never_sticks_between ms first second (reverse events.items) keys).1 quiet i))
 safe_never_answers_sticks ms Never first second never = refl
 safe_never_answers_sticks ms (Undecided p) first second x = refl

@@ -25,12 +25,11 @@ use Rattle.keymap_core.specs.Bearers.{IsCellOf, BearsThroughout}
 use Rattle.console_core.specs.Headline.{is_fresh_press, LockedByFreshPresses}
 use Rattle.console_core.specs.declared.event.Event.{Event}
 use Rattle.console_core.specs.declared.event.Event.TheVariants.{Press, Release, Reset, Load}
-use Rattle.console_core.proofs.OneMore.{resolved-start, resolved-more, locked-start, locked-more}
+use Rattle.console_core.proofs.OneMore.{resolved-start, resolved-more, locked-start, locked-more, press-unlocks}
 use Rattle.keymap_core.proofs.SameActions.{same_action-refl}
 use Rattle.console_core.proofs.Borne.{AllLooked, taken-holding, look-cell, resolved-looked}
 use Rattle.console_core.proofs.Bearing.{remembered-cell}
 use Rattle.console_core.proofs.Headline.{throughout_held, act_act}
-use Rattle.console_core.proofs.OneMore.{press-unlocks}
 
 -- what a key that bears it throughout takes
 takes : (m : MapValue) (k : ℕ) (l : Lock) (r : List ResolvedEvent) → BearsThroughout m k (holding.Lock l)

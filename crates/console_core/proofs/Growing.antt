@@ -6,11 +6,11 @@ use Rattle.std.proofs.lemmas.Bool.{cases_lt, true≢false}
 use Rattle.std.proofs.lemmas.Option.{slice_get_within, get_or_from_slice_get, none-some, same_Some}
 use Rattle.std.proofs.lemmas.List.Elements.{All-append}
 use Rattle.keymap_core.specs.declared.action.Modifier.{Modifier}
-use Rattle.keymap_core.specs.declared.action.Lock.TheVariants.{Caps, Num, Scroll, Alt}
+use Rattle.keymap_core.specs.declared.action.Lock.TheVariants.{Scroll}
 use Rattle.keymap_core.specs.Borne.{is_borne}
 use Rattle.keymap_core.specs.declared.action.Holding.TheVariants as holding
 use Rattle.console_core.specs.declared.held.Move.{Move}
-use Rattle.console_core.specs.declared.held.Move.TheVariants.{Hold, Turn, LetGo, Exchange}
+use Rattle.console_core.specs.declared.held.Move.TheVariants.{Turn, Exchange}
 use Rattle.console_core.specs.Moves.{Under, State, with_holder, with_lock_turned, next_map, IsMove, moved, presses_of}
 use Rattle.console_core.specs.Inner.Searching.{state_of, Entry, Entries, Grows, IsMetBy, IsLetGoMet, IsExchangeMet}
 use Rattle.console_core.specs.Inner.Searching.{ArePressesMet, IsFrom, AreAdded, IsTrail, IsReached, IsClosed}
@@ -117,10 +117,9 @@ exchange-grows u es now p s g met is = met-grows es now p (moved u s Exchange) g
 
 -- that an entry's releases and loads are met stays so when the entries grow
 pub closed-grows : (u : Under) (es now : Entries) (x : Entry) → Grows es now → IsClosed u es x → IsClosed u now x
-closed-grows u es now x g (met, load, safe) = (
+closed-grows u es now x g (met, load) = (
   (λ i. let_go-grows es now x.1.presses (state_of x.0) i g (met i)),
   exchange-grows u es now x.1.presses (state_of x.0) g load,
-  safe,
 )
 
 -- that an entry's presses are met stays so when the entries grow
@@ -148,14 +147,10 @@ and-off false false off = refl
 -- a move that leaves the scroll lock leaves it off
 scroll-left : (u : Under) (s : State) (move : Move) → LeavesScroll move → s.is_locked Scroll ≡ false
     → (moved u s move).is_locked Scroll ≡ false
-scroll-left u s (Hold k i) leaves off = off
-scroll-left u s (Turn k Caps) leaves off = off
-scroll-left u s (Turn k Num) leaves off = off
 scroll-left u s (Turn k Scroll) leaves off = absurd (leaves refl)
-scroll-left u s (Turn k Alt) leaves off = off
-scroll-left u s (LetGo k i) leaves off = off
 scroll-left u s Exchange leaves off =
     and-off (is_borne (next_map u s) (holding.Lock Scroll)) (s.is_locked Scroll) off
+scroll-left u s _ leaves off = off
 
 -- a move from where a path leads goes on with the path
 pub reached-next : (u : Under) (es now : Entries) (place n p : ℕ) (y : Entry) → Grows es now → IsReached u es place y

@@ -375,9 +375,7 @@ more_force false true h g e f = absurd (true≢false (sym e))
 -- whether an event is a load doesn't depend on those before
 load_anywhere : (e : Event) (h g : List Event) → is_load e h ≡ is_load e g
 load_anywhere (Press k) h g = refl
-load_anywhere (Release k) h g = refl
-load_anywhere Reset h g = refl
-load_anywhere Load h g = refl
+load_anywhere _ h g = refl
 
 -- one more event, under the map in force before it
 same_more : (ms : Maps) (h g : List Event) (e : Event) → HasKey e → SameAfter ms h g

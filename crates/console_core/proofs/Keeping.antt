@@ -1,6 +1,5 @@
 -- What writing parts of what a console keeps leaves, after a release and after a load.
-use Rattle.std.proofs.Common.{◌≡◌, ℕ, Bool, true, false, ◌&&◌, not, eqb, None, Some, refl, ap, sym, ◌∙◌}
-use Rattle.std.proofs.Common.{if◌then◌else◌}
+use Rattle.std.proofs.Common.{◌≡◌, ℕ, Bool, true, false, ◌&&◌, not, eqb, None, Some, refl, ap, sym, ◌∙◌, if◌then◌else◌}
 use Rattle.std.specs.Prelude.{◌==◌}
 use Rattle.std.proofs.lemmas.Bool.{eqb-true}
 use mathlib.Core.Path.{fun_ext}
@@ -58,9 +57,7 @@ all_borne : (m : MapValue) (k : Kept) (l : Lock)
     → (with_lock_borne m Alt (with_lock_borne m Scroll (with_lock_borne m Num (with_lock_borne m Caps k)))).lock l
     ≡ (is_borne m (holding.Lock l) && k.lock l)
 all_borne m k Caps = refl
-all_borne m k Num = refl
-all_borne m k Scroll = refl
-all_borne m k Alt = refl
+all_borne m k _ = refl
 
 -- to exchange the maps, and clear the locks that nobody bears, is to load
 pub loaded-kept : (m : MapValue) (k : Kept)

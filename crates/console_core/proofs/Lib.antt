@@ -12,6 +12,7 @@ pub mod GoingBack
 pub mod Growing
 pub mod Headline
 pub mod Keeping
+pub mod Noting
 pub mod OneMap
 pub mod OneMore
 pub mod Places
@@ -22,9 +23,11 @@ pub mod Readings
 pub mod Runs
 pub mod Scripts
 pub mod Searching
+pub mod Seeing
 pub mod Since
 pub mod Staying
 pub mod Traps
 pub mod Twice
 pub mod Unscrolled
+pub mod Visible
 pub mod WordBits

@@ -18,8 +18,7 @@ use Rattle.keymap_core.specs.Borne.{is_borne}
 use Rattle.console_core.specs.Positions.{is_odd, last_where}
 use Rattle.console_core.specs.Resolved.{unlocks, resolve_press, ResolvedEvent, remembered, held, locked, turns, taken}
 use Rattle.console_core.specs.Resolved.{taken_over, unless_nop, is_this_action, pending, pending_by_dead_keys}
-use Rattle.console_core.specs.Resolved.{dead_keys_taken}
-use Rattle.console_core.specs.Resolved.{keeps_taken, usable_dead_key, run_length}
+use Rattle.console_core.specs.Resolved.{dead_keys_taken, keeps_taken, usable_dead_key, run_length}
 use Rattle.console_core.specs.History.{Maps, resolved_event, pressed, resolved, is_press, concerns}
 use Rattle.console_core.specs.Inner.Kept.{pending_after_dead_key, next_pending}
 use Rattle.std.proofs.lemmas.Bool.{eqb-true, eq-eqb}
@@ -225,27 +224,19 @@ pub pressed-start : (k : ℕ) → pressed k [] ≡ false
 unfolding pressed
 pressed-start k = refl
 
--- one more press, by whether it is of the key
-press_step : (b : Bool) (k j : ℕ) (h : List Event)
-    → is_press (if b then Some (Press j) else last_where (concerns k) h)
-    ≡ (if b then true else is_press (last_where (concerns k) h))
-press_step true k j h = refl
-press_step false k j h = refl
+-- one more event, by whether it concerns the key
+press_step : (b : Bool) (e : Event) (o : Option Event)
+    → is_press (if b then Some e else o) ≡ (if b then is_press (Some e) else is_press o)
+press_step true e o = refl
+press_step false e o = refl
 
 pub pressed-press : (k j : ℕ) (h : List Event) → pressed k (Press j ∷ h) ≡ (if j == k then true else pressed k h)
 unfolding pressed
-pressed-press k j h = press_step (j == k) k j h
-
--- one more release, by whether it is of the key
-release_step : (b : Bool) (k j : ℕ) (h : List Event)
-    → is_press (if b then Some (Release j) else last_where (concerns k) h)
-    ≡ (if b then false else is_press (last_where (concerns k) h))
-release_step true k j h = refl
-release_step false k j h = refl
+pressed-press k j h = press_step (j == k) (Press j) (last_where (concerns k) h)
 
 pub pressed-release : (k j : ℕ) (h : List Event) → pressed k (Release j ∷ h) ≡ (if j == k then false else pressed k h)
 unfolding pressed
-pressed-release k j h = release_step (j == k) k j h
+pressed-release k j h = press_step (j == k) (Release j) (last_where (concerns k) h)
 
 pub pressed-reset : (k : ℕ) (h : List Event) → pressed k (Reset ∷ h) ≡ false
 unfolding pressed

@@ -4,8 +4,7 @@ use Rattle.std.proofs.Common.{Some, ap, lit<, refl, sym, subst, arith}
 use Rattle.std.proofs.lemmas.List.{get_or-set_same, get_or-set_other, get_or-replicate}
 use Rattle.std.proofs.lemmas.Bool.{eqb-true, eqb-false, ne_eqb}
 use Rattle.keymap_core.specs.declared.action.Modifier.{Modifier}
-use Rattle.keymap_core.specs.declared.action.Modifier.TheVariants.{LeftShift, RightShift, LeftControl, RightControl}
-use Rattle.keymap_core.specs.declared.action.Modifier.TheVariants.{LeftAlt, RightAlt, AltShift, Meta}
+use Rattle.keymap_core.specs.declared.action.Modifier.TheVariants.{LeftShift}
 use Rattle.keymap_core.specs.declared.action.Lock.{Lock}
 use Rattle.keymap_core.specs.declared.action.Lock.TheVariants.{Caps, Num, Scroll, Alt}
 use Rattle.keymap_core.specs.declared.action.Holding.{Holding}
@@ -29,26 +28,14 @@ get_or-set_if xs i j v d h = place_cases xs i j v d (eqb i j) refl h
 -- the modifier at a place of the modifiers
 modifier_at : (i : Modifier) (d : Modifier) → get_or modifiers (modifier_index i) d ≡ i
 modifier_at LeftShift d = refl
-modifier_at RightShift d = refl
-modifier_at LeftControl d = refl
-modifier_at RightControl d = refl
-modifier_at LeftAlt d = refl
-modifier_at RightAlt d = refl
-modifier_at AltShift d = refl
-modifier_at Meta d = refl
+modifier_at _ d = refl
 
 pub modifier-at : (i : Modifier) (n : ℕ) (d : Modifier) → modifier_index i ≡ n → get_or modifiers n d ≡ i
 modifier-at i n d e = subst (λ x. get_or modifiers x d ≡ i) e (modifier_at i d)
 
 pub modifier_index-lt : (m : Modifier) → modifier_index m < 8
 modifier_index-lt LeftShift = lit< tt
-modifier_index-lt RightShift = lit< tt
-modifier_index-lt LeftControl = lit< tt
-modifier_index-lt RightControl = lit< tt
-modifier_index-lt LeftAlt = lit< tt
-modifier_index-lt RightAlt = lit< tt
-modifier_index-lt AltShift = lit< tt
-modifier_index-lt Meta = lit< tt
+modifier_index-lt _ = lit< tt
 
 -- the index of a modifier is that of no lock
 mod_lock : (m : Modifier) (l : Lock) → eqb (modifier_index m) (8 + lock_index l) ≡ false
@@ -62,32 +49,19 @@ lock_mod m l = let h : modifier_index m < 8 = modifier_index-lt m in ne_eqb _ _ 
 pub same_place : (a b : Holding)
     → same_action (holding_action a) (holding_action b) ≡ eqb (holding_index a) (holding_index b)
 same_place (holding.Mod m) (holding.Mod n) = refl
-same_place (holding.Lock Caps) (holding.Lock Caps) = refl
-same_place (holding.Lock Caps) (holding.Lock Num) = refl
-same_place (holding.Lock Caps) (holding.Lock Scroll) = refl
-same_place (holding.Lock Caps) (holding.Lock Alt) = refl
-same_place (holding.Lock Num) (holding.Lock Caps) = refl
-same_place (holding.Lock Num) (holding.Lock Num) = refl
-same_place (holding.Lock Num) (holding.Lock Scroll) = refl
-same_place (holding.Lock Num) (holding.Lock Alt) = refl
-same_place (holding.Lock Scroll) (holding.Lock Caps) = refl
-same_place (holding.Lock Scroll) (holding.Lock Num) = refl
-same_place (holding.Lock Scroll) (holding.Lock Scroll) = refl
-same_place (holding.Lock Scroll) (holding.Lock Alt) = refl
-same_place (holding.Lock Alt) (holding.Lock Caps) = refl
-same_place (holding.Lock Alt) (holding.Lock Num) = refl
-same_place (holding.Lock Alt) (holding.Lock Scroll) = refl
-same_place (holding.Lock Alt) (holding.Lock Alt) = refl
 same_place (holding.Mod m) (holding.Lock l) = sym (mod_lock m l)
 same_place (holding.Lock l) (holding.Mod m) = sym (lock_mod m l)
+same_place (holding.Lock Caps) (holding.Lock Caps) = refl
+same_place (holding.Lock Num) (holding.Lock Caps) = refl
+same_place (holding.Lock Scroll) (holding.Lock Caps) = refl
+same_place (holding.Lock Alt) (holding.Lock Caps) = refl
+same_place _ _ = refl
 
 -- the index of a holding action is one of twelve
 pub holding_index-lt : (a : Holding) → holding_index a < 12
 holding_index-lt (holding.Mod m) = let h : modifier_index m < 8 = modifier_index-lt m in omega arith
 holding_index-lt (holding.Lock Caps) = lit< tt
-holding_index-lt (holding.Lock Num) = lit< tt
-holding_index-lt (holding.Lock Scroll) = lit< tt
-holding_index-lt (holding.Lock Alt) = lit< tt
+holding_index-lt _ = lit< tt
 
 -- an action that is a holding one is the action of that
 pub holding_of-some : (b : Action) (a : Holding) → holding_of b ≡ Some a → b ≡ holding_action a

@@ -21,8 +21,7 @@ use Rattle.console_core.specs.History.{Maps, in_force, resolved, pressed, is_on_
 use Rattle.console_core.specs.History.{HasNoLoads}
 use Rattle.console_core.specs.Headline.{is_fresh_press}
 use Rattle.console_core.specs.Plain.{IsPlainFor, IsPlain, bears_holding, plain_on, plain_locked, plain_look}
-use Rattle.console_core.specs.Plain.{LooksPlainly}
-use Rattle.console_core.specs.Plain.{PlainOnByKeys, PlainLockedByKeys}
+use Rattle.console_core.specs.Plain.{LooksPlainly, PlainOnByKeys, PlainLockedByKeys}
 use Rattle.keymap_core.proofs.BorneTests.{any-some, some-any, slot-stands, stands-slot, live-upper, upper-is_live}
 use Rattle.keymap_core.proofs.BorneTests.{borne-bears}
 use Rattle.console_core.proofs.Borne.{AllLooked, locked-borne, resolved-looked}

@@ -11,8 +11,7 @@ use Rattle.console_core.specs.Positions.{last_where}
 use Rattle.console_core.specs.Resolved.{ResolvedEvent, resolve_press, answer_resolved}
 use Rattle.console_core.specs.History.{Maps, in_force, concerns, is_press, pressed, resolved, resolved_event}
 use Rattle.console_core.specs.Reading.{look_after, NoneOf, LastPresses, PressedByPositions, ResolvedAtPrefix}
-use Rattle.console_core.specs.Reading.{answer_to_look}
-use Rattle.console_core.specs.Reading.{AnswersByCases}
+use Rattle.console_core.specs.Reading.{answer_to_look, AnswersByCases}
 use Rattle.console_core.proofs.OneMore.{resolved-more}
 
 -- one more event, by whether it concerns the key

@@ -22,23 +22,13 @@ use Rattle.console_core.specs.Sticking.{ReachesMoreThan}
 
 -- the tables of equal states
 modifier_place : (n : ℕ) → n < 8 → modifier_index (get_or modifiers n LeftShift) ≡ n
-modifier_place zero lt = refl
-modifier_place (suc zero) lt = refl
-modifier_place (suc (suc zero)) lt = refl
-modifier_place (suc (suc (suc zero))) lt = refl
-modifier_place (suc (suc (suc (suc zero)))) lt = refl
-modifier_place (suc (suc (suc (suc (suc zero))))) lt = refl
-modifier_place (suc (suc (suc (suc (suc (suc zero)))))) lt = refl
-modifier_place (suc (suc (suc (suc (suc (suc (suc zero))))))) lt = refl
 modifier_place (suc (suc (suc (suc (suc (suc (suc (suc n)))))))) lt = absurd (omega (arith, lt))
+modifier_place _ lt = refl
 
 -- the index of each lock in their list
 lock_place : (n : ℕ) → n < 4 → lock_index (get_or locks n Caps) ≡ n
-lock_place zero lt = refl
-lock_place (suc zero) lt = refl
-lock_place (suc (suc zero)) lt = refl
-lock_place (suc (suc (suc zero))) lt = refl
 lock_place (suc (suc (suc (suc n)))) lt = absurd (omega (arith, lt))
+lock_place _ lt = refl
 
 -- lists of one length are equal where all their elements are
 same_at : {A : Type 0} (xs ys : List A) (n : ℕ) (d : A) → length xs ≡ n → length ys ≡ n

@@ -1,6 +1,5 @@
 -- That the notions by resolved events are those on the events.
-use Rattle.std.proofs.Common.{◌≡◌, ℕ, Bool, false, true, ◌&&◌, not, List, [], ◌∷◌, ◌++◌, refl, ap, sym, ◌∙◌, inl}
-use Rattle.std.proofs.Common.{inr}
+use Rattle.std.proofs.Common.{◌≡◌, ℕ, Bool, false, true, ◌&&◌, not, List, [], ◌∷◌, ◌++◌, refl, ap, sym, ◌∙◌, inl, inr}
 use Rattle.std.proofs.lemmas.Bool.{or_cases, and_parts, not-true, true≢false, or_right}
 use Rattle.keymap_core.specs.declared.action.Holding.{Holding}
 use Rattle.keymap_core.specs.declared.action.Holding.TheVariants as holding
@@ -14,8 +13,7 @@ use Rattle.console_core.specs.Resolved.{unlocks, look, resolve_press, held, lock
 use Rattle.console_core.specs.History.{Maps, in_force, resolved_event, resolved}
 use Rattle.console_core.proofs.OneMore.{press-unlocks}
 use Rattle.console_core.specs.Reading.{unlocks_at, raises_at, lowers_at, turns_at, is_held_after, NoneOf, SomeSince}
-use Rattle.console_core.specs.Reading.{HeldByPositions}
-use Rattle.console_core.specs.Reading.{LockedByCount}
+use Rattle.console_core.specs.Reading.{HeldByPositions, LockedByCount}
 
 -- the step of the next lemma at a press, by the cell looked up
 raises_press : (ms : Maps) (a : Holding) (k : ℕ) (h : List Event) (x : Cell)

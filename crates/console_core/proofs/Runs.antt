@@ -14,8 +14,7 @@ use Rattle.console_core.specs.Resolved.{resolve_press, look, keeps, dead_key, de
 use Rattle.console_core.specs.Resolved.{pending_by_dead_keys}
 use Rattle.console_core.specs.History.{Maps, in_force, resolved, resolved_event}
 use Rattle.console_core.specs.Reading.{keeps_at, dead_key_taken_at, AllTake, LastDoesNotTake, PendingByRun}
-use Rattle.console_core.specs.Reading.{keeps_option}
-use Rattle.console_core.specs.Reading.{dead_key_of, taken_of, remembered_after}
+use Rattle.console_core.specs.Reading.{keeps_option, dead_key_of, taken_of, remembered_after}
 
 -- the step of the next lemma at a press, by the cell looked up
 keeps_press : (ms : Maps) (k : ℕ) (h : List Event) (x : Cell)

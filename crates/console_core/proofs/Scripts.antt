@@ -4,7 +4,9 @@ use Prim.Native.Nat.{suc}
 use Rattle.std.proofs.Common.{◌≡◌, ℕ, ◌<◌, ◌+◌, All, arith, Bool, true, false, ◌&&◌, ◌||◌, not, List, [], ◌∷◌, ◌++◌}
 use Rattle.std.proofs.Common.{Option, Some, None, refl, ap, subst, sym, ◌∙◌, inl, inr, if◌then◌else◌}
 use Rattle.std.specs.Prelude.{◌==◌}
-use Rattle.std.proofs.lemmas.Bool.{eqb-true, eq-eqb, cases_Bool, true≢false, false_from_ne_true}
+use Rattle.std.proofs.lemmas.Bool.{eqb-true, eq-eqb, cases_Bool, true≢false, false_from_ne_true, or_parts}
+use Rattle.std.proofs.lemmas.Bool.{and_parts, not-true}
+use Rattle.std.specs.List.{list_any}
 use Rattle.std.proofs.lemmas.List.Elements.{All-nil, All-cons}
 use Rattle.std.specs.Option.{is_some}
 use Rattle.std.proofs.lemmas.Option.{none-some, same_Some}
@@ -35,14 +37,15 @@ use Rattle.console_core.specs.Moves.{with_lock_turned, exchanged, IsFree, IsMove
 use Rattle.console_core.specs.Moves.{IsPath, events_of_move, events_along, release_of, releases, script_of_path}
 use Rattle.console_core.specs.Moves.{presses_of, presses_along, IsForgetful}
 use Rattle.console_core.specs.Inner.Searching.{IsSent, NeverUnder}
-use Rattle.console_core.specs.Sticking.{presses, SticksBetween, NeverForgets}
+use Rattle.console_core.specs.Sticking.{presses, SticksBetween, NeverForgets, ReleasesPressedKeys}
+use Rattle.console_core.proofs.Bearing.{remembered-pressed}
 use Rattle.console_core.proofs.OneMore.{resolved-start, resolved-more, held-start, held-character, held-action}
 use Rattle.console_core.proofs.OneMore.{held-release, held-load, remembered-start, remembered-character}
 use Rattle.console_core.proofs.OneMore.{remembered-action, remembered-release, remembered-load, pressed-start}
 use Rattle.console_core.proofs.OneMore.{pressed-press, pressed-release, pressed-load}
 use Rattle.console_core.proofs.Staying.{Follows, follows-look, follows-start, follows-hold, follows-turn}
 use Rattle.console_core.proofs.Staying.{follows-let_go, follows-release, follows-load, takes, same_mods, some_mods}
-use Rattle.console_core.proofs.Staying.{some_none, IsSafeBelow, never-sticks}
+use Rattle.console_core.proofs.Staying.{some_none, IsKeptBelow, IsSafeBelow, never-sticks}
 
 -- the key holds some modifier
 abbrev pub HoldsSome : State → ℕ → Type 0
@@ -465,9 +468,7 @@ presses-releases s (i ∷ more) h =
 -- the events of a move have as many presses as the move
 presses-move : (move : Move) (h : List Event) → presses (events_of_move move ++ h) ≡ presses h + presses_of move
 presses-move (Hold k i) h = omega arith
-presses-move (Turn k l) h = omega arith
-presses-move (LetGo k i) h = omega arith
-presses-move Exchange h = omega arith
+presses-move _ h = omega arith
 
 -- the events along a path have as many presses as the path
 presses-along : (path : List Move) → presses (events_along path) ≡ presses_along path
@@ -479,6 +480,100 @@ pub presses-script : (u : Under) (path : List Move) (k : ℕ)
     → presses (script_of_path u path k) ≡ suc (presses_along path)
 presses-script u path k =
     presses-releases (state_after u path) modifiers (Press k ∷ events_along path) ∙ ap suc (presses-along path)
+
+-- a holder is pressed
+holder-pressed : (u : Under) (h : List Event) (s : State) (i : Modifier) (k : ℕ) → Stands u h s → Holds s k i
+    → pressed k h ≡ true
+holder-pressed u h s i k x holds = remembered-pressed u.maps h k (act.Mod i) (x.exact.follows.holds i k holds)
+
+-- a key holds one modifier
+one-held : (u : Under) (h : List Event) (s : State) (i j : Modifier) (k : ℕ) → Stands u h s → Holds s k i
+    → Holds s k j → i ≡ j
+one-held u h s i j k x a b =
+    let e : Some (act.Mod i) ≡ Some (act.Mod j) = sym (x.exact.follows.holds i k a) ∙ x.exact.follows.holds j k b in cc
+
+-- the events along a path release pressed keys
+releases-along : (u : Under) (path : List Move) → IsPath u path → ReleasesPressedKeys (events_along path)
+releases-along u [] is = tt
+releases-along u (Hold k i ∷ path) is = (tt, releases-along u path is.1)
+releases-along u (Turn k l ∷ path) is = (
+  pressed-press k k (events_along path)
+      ∙ ap (λ b. if b then true else pressed k (events_along path)) (eq-eqb k k refl),
+  (tt, releases-along u path is.1),
+)
+releases-along u (LetGo k i ∷ path) is =
+    (holder-pressed u (events_along path) (state_after u path) i k (stands u path is.1) is.0, releases-along u path is.1)
+releases-along u (Exchange ∷ path) is = (tt, releases-along u path is.1)
+
+-- a key that holds none of these modifiers stays pressed
+pressed-still : (s : State) (k : ℕ) (more : List Modifier) (h : List Event) → HoldsNone s k more
+    → pressed k h ≡ true → pressed k (releases s more ++ h) ≡ true
+pressed-still s k [] h none p = p
+pressed-still s k (i ∷ more) h (not_it, none) p =
+    rw (apart (s.holder i) (releases s more) h)
+    (go (s.holder i) not_it (pressed-still s k more h none p))
+  where
+    go : (o : Option ℕ) → (o ≡ Some k → ⊥) → pressed k (releases s more ++ h) ≡ true
+        → pressed k (release_of o ++ (releases s more ++ h)) ≡ true
+    go None f q = q
+    go (Some j) f q =
+        let other : (j == k) ≡ false = false_from_ne_true (j == k) (λ e. f (ap (λ n. Some n) (eqb-true j k e))) in
+        pressed-release k j (releases s more ++ h)
+        ∙ ap (λ b. if b then false else pressed k (releases s more ++ h)) other ∙ q
+
+-- no modifier stands twice in a list
+abbrev all_differ : List Modifier → Bool
+all_differ [] = true
+all_differ (i ∷ more) = not (list_any (same_modifier i) more) && all_differ more
+
+-- the holder of a modifier holds none of the others
+holds-no_other : (u : Under) (h : List Event) (s : State) (i : Modifier) (k : ℕ) → Stands u h s → Holds s k i
+    → (more : List Modifier) → list_any (same_modifier i) more ≡ false → HoldsNone s k more
+holds-no_other u h s i k x holds [] differs = tt
+holds-no_other u h s i k x holds (j ∷ more) differs =
+    let parts = or_parts (same_modifier i j) (list_any (same_modifier i) more) differs in (
+      (λ other.
+          let same : same_modifier i j ≡ true =
+          ap (λ m. same_modifier i m) (sym (one-held u h s i j k x holds other)) ∙ same_action-refl (act.Mod i) in
+          true≢false (sym same ∙ parts.0)),
+      holds-no_other u h s i k x holds more parts.1,
+    )
+
+-- the releases of the holders are of pressed keys, where the holders are pressed after g
+releases-holders : (u : Under) (h : List Event) (s : State) → Stands u h s → (g : List Event)
+    → ((i : Modifier) (k : ℕ) → Holds s k i → pressed k g ≡ true) → ReleasesPressedKeys g → (more : List Modifier)
+    → all_differ more ≡ true → ReleasesPressedKeys (releases s more ++ g)
+releases-holders u h s x g held ok [] differ = ok
+releases-holders u h s x g held ok (i ∷ more) differ =
+    rw (apart (s.holder i) (releases s more) g)
+    (go (s.holder i) refl (releases-holders u h s x g held ok more parts.1))
+  where
+    parts : (not (list_any (same_modifier i) more) ≡ true) × (all_differ more ≡ true)
+    parts = and_parts (not (list_any (same_modifier i) more)) (all_differ more) differ
+
+    go : (o : Option ℕ) → s.holder i ≡ o → ReleasesPressedKeys (releases s more ++ g)
+        → ReleasesPressedKeys (release_of o ++ (releases s more ++ g))
+    go None e rest = rest
+    go (Some k) e rest = (
+      pressed-still s k more g
+          (holds-no_other u h s i k x e more (not-true (list_any (same_modifier i) more) parts.0)) (held i k e),
+      rest,
+    )
+
+-- the script of a path releases pressed keys
+pub releases-script : (u : Under) (path : List Move) → IsPath u path → (k : ℕ)
+    → ReleasesPressedKeys (script_of_path u path k)
+releases-script u path is k =
+    releases-holders u (events_along path) (state_after u path) (stands u path is) (Press k ∷ events_along path)
+    (λ i n holds. after (k == n) n (holder-pressed u (events_along path) (state_after u path) i n (stands u path is) holds)
+    (pressed-press n k (events_along path)))
+    (tt, releases-along u path is) modifiers refl
+  where
+    after : (b : Bool) (n : ℕ) → pressed n (events_along path) ≡ true
+        → pressed n (Press k ∷ events_along path) ≡ (if b then true else pressed n (events_along path))
+        → pressed n (Press k ∷ events_along path) ≡ true
+    after true n p e = e
+    after false n p e = e ∙ p
 
 -- the script to a state where a holder looks up a character leaves its modifier on
 left-after : (u : Under) (path : List Move) → IsPath u path → (i : Modifier) (k : ℕ)
@@ -502,7 +597,7 @@ script-sticks u path is i k forgets =
     )
 
 -- the states that paths lead to
-abbrev Reached : Under → State → Type 0
+abbrev pub Reached : Under → State → Type 0
 Reached u s = (path : List Move) × IsPath u path × (state_after u path ≡ s)
 
 -- a move from a state that is reached reaches the next
@@ -510,15 +605,21 @@ reached-more : (u : Under) (s : State) (move : Move) → Reached u s → IsMove 
 reached-more u s move there is =
     (move ∷ there.0, (subst (λ x. IsMove u x move) (sym there.2) is, there.1), ap (λ x. moved u x move) there.2)
 
--- where no path leads to such a state, the states that are reached are safe
-reached-safe : (u : Under) → NeverForgets u → (n : ℕ) → IsSafeBelow u n (λ p s. Reached u s)
-reached-safe u never n = record {
+-- moves keep the states that are reached
+pub reached-kept : (u : Under) (n : ℕ) → IsKeptBelow u n (λ p s. Reached u s)
+reached-kept u n = record {
   start = ([], tt, refl);
   let_go = λ p lt s k i there h. reached-more u s (LetGo k i) there h;
   exchange = λ p lt s there is. reached-more u s Exchange there is;
   more = λ p s there. there;
   hold = λ p lt s k i there is. reached-more u s (Hold k i) there is;
   turn = λ p lt s k l there is. reached-more u s (Turn k l) there is;
+}
+
+-- where no path leads to a holder that looks up a character, they are safe
+pub reached-safe : (u : Under) → NeverForgets u → (n : ℕ) → IsSafeBelow u n (λ p s. Reached u s)
+reached-safe u never n = record {
+  kept = reached-kept u n;
   safe = λ p lt s there forgetful. never there.0 there.1 (subst (λ x. IsForgetful u x) (sym there.2) forgetful);
 }
 

@@ -21,7 +21,7 @@ use Rattle.indexmap.specs.IndexMap.{insert_entry}
 use Rattle.console_core.specs.Moves.{Under, State, start, look_in, with_holder, with_lock_turned, IsForgetful}
 use Rattle.console_core.specs.Inner.Searching.{state_of, Entry, Entries, Grows, IsStep, IsMetBy, IsLetGoMet}
 use Rattle.console_core.specs.Inner.Searching.{IsExchangeMet, ArePressesMet, AreWithin, IsFrom, AreAdded, IsReached}
-use Rattle.console_core.specs.Inner.Searching.{IsClosed, IsPressed, Searched, AreInOrder}
+use Rattle.console_core.specs.Inner.Searching.{IsClosed, IsPressed, Searched, AreSafe, AreInOrder}
 use Rattle.console_core.specs.Inner.HeldBytes.{AreSame}
 use Rattle.console_core.proofs.Growing.{at-now, at_old, at_new, all-at, from-cases, added-longer, one_entry}
 use Rattle.console_core.proofs.Growing.{grows-again, met-grows, met-last, closed-grows, pressed-grows, reached-grows}
@@ -66,11 +66,11 @@ searched-fewer u es a b c d le_c le_d s = record {
 }
 
 -- one place more is closed, or pressed
-place_last : (j n : ℕ) → j < n + 1 → (j < n) ⊎ (j ≡ n)
+pub place_last : (j n : ℕ) → j < n + 1 → (j < n) ⊎ (j ≡ n)
 place_last j n lt = elim (cases_lt j n) [ inl below ↦ inl below | inr le ↦ inr (omega (arith, lt, le)) ]
 
 -- entries at the same place are the same
-same_entry : (es : Entries) (j n : ℕ) (x y : Entry) → j ≡ n → slice_get es j ≡ Some x → slice_get es n ≡ Some y → y ≡ x
+pub same_entry : (es : Entries) (j n : ℕ) (x y : Entry) → j ≡ n → slice_get es j ≡ Some x → slice_get es n ≡ Some y → y ≡ x
 same_entry es j n x y e at here = same_Some y x (sym here ∙ ap (λ k. slice_get es k) (sym e) ∙ at)
 
 -- one more entry whose releases are met
@@ -215,10 +215,10 @@ not_some (Some x) e = absurd (true≢false e)
 -- one place of a level is closed
 pub close-step : (u : Under) (es now : Entries) (level p n : ℕ) (y : Entry) → Searched u es level n
     → AreInOrder es level p → level ≤ n → slice_get es n ≡ Some y
-    → (IsForgetful u (state_of y.0) → ⊥) → AreAdded u (state_of y.0) n 0 p es now
+    → AreAdded u (state_of y.0) n 0 p es now
     → ((i : Modifier) → IsLetGoMet now p (state_of y.0) i) → IsExchangeMet u now p (state_of y.0)
     → Searched u now level (n + 1) × AreInOrder now level p
-close-step u es now level p n y s order le here safe added met load =
+close-step u es now level p n y s order le here added met load =
     let lt : n < length es = slice_get_within es n y here in
     let e : y.1.presses ≡ p = (order n y here).1 le in
     let below : level ≤ length es = omega (arith, le, lt) in
@@ -227,11 +227,27 @@ close-step u es now level p n y s order le here safe added met load =
     let closed : IsClosed u now y = (
       (λ i. subst (λ q. IsLetGoMet now q (state_of y.0) i) (sym e) (met i)),
       subst (λ q. IsExchangeMet u now q (state_of y.0)) (sym e) load,
-      safe,
     ) in (
       searched-closed u now level n y (at-now es now n y (added.0, added.1) here) closed grown,
       order-grows u (state_of y.0) n 0 p level es now added below order,
     )
+
+-- what is safe stays so when the entries grow
+pub safe-grows : (u : Under) (es now : Entries) (n : ℕ) → Grows es now → n ≤ length es → AreSafe u es n
+    → AreSafe u now n
+safe-grows u es now n g le safe j x at lt =
+    safe j x (at_old es g.0 j x (omega (arith, lt, le)) (subst (λ z. slice_get z j ≡ Some x) g.1 at)) lt
+
+-- one more entry where no holder looks up a character
+pub safe-more : (u : Under) (es : Entries) (n : ℕ) (y : Entry) → slice_get es n ≡ Some y
+    → (IsForgetful u (state_of y.0) → ⊥) → AreSafe u es n
+    → AreSafe u es (n + 1)
+safe-more u es n y here safe before j x at lt =
+    elim (place_last j n lt) [
+      | inl below ↦ before j x at below
+      | inr e ↦ λ forgetful.
+          safe (subst (λ z. IsForgetful u (state_of z.0)) (sym (same_entry es j n x y e at here)) forgetful)
+    ]
 
 -- one place of a level is pressed
 pub press-step : (u : Under) (old es now : Entries) (level p n : ℕ) (y : Entry) → Searched u es n (length old)

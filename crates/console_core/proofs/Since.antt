@@ -1,8 +1,7 @@
 -- What is remembered, by positions.
 use Rattle.std.proofs.Common.{◌≡◌, ℕ, Bool, false, true, ◌&&◌, List, [], ◌∷◌, ◌++◌, Option, None, Some, refl, ap, sym}
-use Rattle.std.proofs.Common.{◌∙◌, if◌then◌else◌}
+use Rattle.std.proofs.Common.{◌∙◌, if◌then◌else◌, append_assoc}
 use Rattle.std.specs.Prelude.{◌==◌}
-use Rattle.std.proofs.Common.{append_assoc}
 use Rattle.std.proofs.lemmas.Bool.{true≢false}
 use Rattle.std.specs.Option.{option_or, is_some}
 use Rattle.std.proofs.lemmas.Option.{none-some}

@@ -31,6 +31,8 @@ use Rattle.console_core.specs.History.{Maps, in_force, resolved, is_on_after, is
 use Rattle.console_core.specs.History.{HasKeys, IsNoLoad}
 use Rattle.console_core.specs.Moves.{Under, State, start, is_held, map_of, map_in, look_in, Holds, IsIdle, with_holder}
 use Rattle.console_core.specs.Moves.{with_lock_turned, exchanged, next_map, IsFree, IsMove, IsForgetful}
+use Rattle.console_core.specs.Moves.{HolderForgets}
+use Rattle.console_core.specs.Sights.{IsClean}
 use Rattle.console_core.specs.declared.held.Move.TheVariants.{Hold, Turn, Exchange}
 use Rattle.console_core.specs.Sticking.{SticksBetween, presses}
 use Rattle.console_core.specs.Inner.Searching.{Admits, NeverUnder}
@@ -290,19 +292,22 @@ some_of None e = absurd (true≢false (sym e))
 some_of (Some k) e = (k, refl)
 
 -- the steps, where the moves keep the sets: `b` says whether the second map is in force
-abbrev Stays : (State → Type 0) → Bool → List ResolvedEvent → Type 0
+abbrev pub Stays : (State → Type 0) → Bool → List ResolvedEvent → Type 0
 Stays S b r = (s : State) × S s × Follows r s × (s.is_second ≡ b)
 
 -- letting go doesn't leave the set
 abbrev KeepsLetGo : (State → Type 0) → Type 0
 KeepsLetGo S = (s : State) (k : ℕ) (i : Modifier) → S s → Holds s k i → S (with_holder s i None)
 
--- A press leads from the one set to the other, and no holder looks up a character in the first.
+-- a press leads from the one set to the other
 record LeadsOn (u : Under) (S T : State → Type 0) : Type 0 where
   stay : (s : State) → S s → T s
   hold : (s : State) (k : ℕ) (i : Modifier) → S s → IsMove u s (Hold k i) → T (with_holder s i (Some k))
   turn : (s : State) (k : ℕ) (l : Lock) → S s → IsMove u s (Turn k l) → T (with_lock_turned s l)
-  safe : (s : State) → S s → IsForgetful u s → ⊥
+
+-- a press of the key doesn't forget that it holds a modifier
+abbrev pub KeepsHeld : Under → State → ℕ → Type 0
+KeepsHeld u s k = (i : Modifier) → HolderForgets u s i k → ⊥
 
 -- a state without a holder for the modifier is as after letting go of it
 same_holders : (s : State) (i : Modifier) → s.holder i ≡ None → (j : Modifier) (t : Bool) → same_modifier i j ≡ t
@@ -363,11 +368,11 @@ looked_up r k b a e =
 
 -- a press leads from a set to the next
 stays-press : (u : Under) (S T : State → Type 0) → LeadsOn u S T → (r : List ResolvedEvent) (s : State) → S s
-    → Follows r s → (k : ℕ) → k < 128 → (x : Cell) → look_in u s k ≡ x
+    → Follows r s → (k : ℕ) → k < 128 → KeepsHeld u s k → (x : Cell) → look_in u s k ≡ x
     → Stays T s.is_second (resolve_press k x ∷ r)
-stays-press u S T leads r s there f k lt (Char c) seen =
-    (s, leads.stay s there, follows-character r s k c f (λ i h. leads.safe s there (i, k, (h, (c, seen)))), refl)
-stays-press u S T leads r s there f k lt (Act b) seen =
+stays-press u S T leads r s there f k lt keeps (Char c) seen =
+    (s, leads.stay s there, follows-character r s k c f (λ i h. keeps i (h, (c, seen))), refl)
+stays-press u S T leads r s there f k lt keeps (Act b) seen =
     elim (kind_of (taken_over (remembered k r) b)) [
       | inl p ↦
           stays-mod u S T leads r s there f k lt b seen p.0 p.1 (looked_up r k b (holding.Mod p.0) p.1) (s.holder p.0)
@@ -421,13 +426,7 @@ emptied s =
 -- an emptied state has no holders
 emptied-none : (s : State) (i : Modifier) → (emptied s).holder i ≡ None
 emptied-none s LeftShift = refl
-emptied-none s RightShift = refl
-emptied-none s LeftControl = refl
-emptied-none s RightControl = refl
-emptied-none s LeftAlt = refl
-emptied-none s RightAlt = refl
-emptied-none s AltShift = refl
-emptied-none s Meta = refl
+emptied-none s _ = refl
 
 -- a set that letting go keeps has the emptied state
 emptied-kept : (S : State → Type 0) → KeepsLetGo S → (s : State) → S s → S (emptied s)
@@ -485,9 +484,9 @@ follows-start = record {
   holds = λ i k h. absurd (some_none k None h refl);
 }
 
--- Sets of states by how many presses lead to them: below n letting go and exchanging the maps stay in a set, a press
--- leads from a set to the next one, and no holder looks up a character.
-pub record IsSafeBelow (u : Under) (n : ℕ) (S : ℕ → State → Type 0) : Type 0 where
+-- Sets of states by how many presses lead to them: below n letting go and exchanging the maps stay in a set, and a press
+-- leads from a set to the next one.
+pub record IsKeptBelow (u : Under) (n : ℕ) (S : ℕ → State → Type 0) : Type 0 where
   pub start : S 0 start
   pub let_go : (p : ℕ) → p < n → (s : State) (k : ℕ) (i : Modifier) → S p s → Holds s k i → S p (with_holder s i None)
   pub exchange : (p : ℕ) → p < n → (s : State) → S p s → IsMove u s Exchange → S p (exchanged (next_map u s) s)
@@ -496,53 +495,86 @@ pub record IsSafeBelow (u : Under) (n : ℕ) (S : ℕ → State → Type 0) : Ty
       → S (suc p) (with_holder s i (Some k))
   pub turn : (p : ℕ) → p < n → (s : State) (k : ℕ) (l : Lock) → S p s → IsMove u s (Turn k l)
       → S (suc p) (with_lock_turned s l)
+
+-- the same, and no holder looks up a character
+pub record IsSafeBelow (u : Under) (n : ℕ) (S : ℕ → State → Type 0) : Type 0 where
+  pub kept : IsKeptBelow u n S
   pub safe : (p : ℕ) → p < n → (s : State) → S p s → IsForgetful u s → ⊥
 
+-- Lists along which no key forgets that it holds a modifier, where the console stands in a state of the sets.
+pub record AreSpared (u : Under) (n : ℕ) (S : ℕ → State → Type 0) (P : List Event → Type 0) : Type 0 where
+  pub fewer : (e : Event) (h : List Event) → P (e ∷ h) → P h
+  pub keeps : (h : List Event) (k : ℕ) → P (Press k ∷ h) → presses h < n → (s : State) → S (presses h) s
+      → Follows (resolved u.maps h) s → s.is_second ≡ is_second_in_force h
+      → KeepsHeld u s k
+
+-- all lists, where no holder looks up a character
+pub all-spared : (u : Under) (n : ℕ) (S : ℕ → State → Type 0) → IsSafeBelow u n S → AreSpared u n S (λ h. Unit {0})
+all-spared u n S safe = record {
+  fewer = λ e h x. tt;
+  keeps = λ h k x lt s there f is i forgets. safe.safe (presses h) lt s there (i, k, forgets);
+}
+
+-- clean lists: a holder remembers its modifier
+pub clean-spared : (u : Under) (n : ℕ) (S : ℕ → State → Type 0) → AreSpared u n S (IsClean u.maps)
+clean-spared u n S = record {
+  fewer = λ e h clean later before k i c at. clean (e ∷ later) before k i c (ap (λ z. e ∷ z) at);
+  keeps = λ h k clean lt s there f is i forgets.
+      let seen : look (map_in u s) (resolved u.maps h) k ≡ Char forgets.1.0 =
+      follows-look u (resolved u.maps h) s k f ∙ forgets.1.1 in
+      clean [] h k i forgets.1.0 refl (f.holds i k forgets.0)
+      (subst (λ b. look (map_of u b) (resolved u.maps h) k ≡ Char forgets.1.0) is seen);
+}
+
 -- after p presses the state is in its set, where p is below n
-abbrev Below : ℕ → (ℕ → State → Type 0) → ℕ → State → Type 0
+abbrev pub Below : ℕ → (ℕ → State → Type 0) → ℕ → State → Type 0
 Below n S p s = p < n → S p s
 
 -- letting go stays in the sets below n
-below-lets_go : (u : Under) (n : ℕ) (S : ℕ → State → Type 0) → IsSafeBelow u n S → (p : ℕ) → KeepsLetGo (Below n S p)
-below-lets_go u n S safe p s k i there h lt = safe.let_go p lt s k i (there lt) h
+below-lets_go : (u : Under) (n : ℕ) (S : ℕ → State → Type 0) → IsKeptBelow u n S → (p : ℕ) → KeepsLetGo (Below n S p)
+below-lets_go u n S kept p s k i there h lt = kept.let_go p lt s k i (there lt) h
 
 -- exchanging the maps stays in the sets below n
-below-exchanges : (u : Under) (n : ℕ) (S : ℕ → State → Type 0) → IsSafeBelow u n S → (p : ℕ)
+below-exchanges : (u : Under) (n : ℕ) (S : ℕ → State → Type 0) → IsKeptBelow u n S → (p : ℕ)
     → KeepsExchange u (Below n S p)
-below-exchanges u n S safe p s there is lt = safe.exchange p lt s (there lt) is
+below-exchanges u n S kept p s there is lt = kept.exchange p lt s (there lt) is
 
 -- below n a press leads from a set to the next
-below-leads_on : (u : Under) (n : ℕ) (S : ℕ → State → Type 0) → IsSafeBelow u n S → (p : ℕ) → p < n
+below-leads_on : (u : Under) (n : ℕ) (S : ℕ → State → Type 0) → IsKeptBelow u n S → (p : ℕ) → p < n
     → LeadsOn u (S p) (Below n S (suc p))
-below-leads_on u n S safe p lt = record {
-  stay = λ s there next. safe.more p s there;
-  hold = λ s k i there is next. safe.hold p lt s k i there is;
-  turn = λ s k l there is next. safe.turn p lt s k l there is;
-  safe = λ s there forgetful. safe.safe p lt s there forgetful;
+below-leads_on u n S kept p lt = record {
+  stay = λ s there next. kept.more p s there;
+  hold = λ s k i there is next. kept.hold p lt s k i there is;
+  turn = λ s k l there is next. kept.turn p lt s k l there is;
 }
 
 -- an event stays in the set of the presses so far
-stays-event : (u : Under) (n : ℕ) (S : ℕ → State → Type 0) → IsSafeBelow u n S → (r : List ResolvedEvent) (e : Event)
-    (h : List Event) → HasKey e → (u.has_loads ≡ false → IsNoLoad e) → presses (e ∷ h) ≤ n
-    → (s : State) → Below n S (presses h) s → Follows r s → s.is_second ≡ is_second_in_force h
-    → Stays (Below n S (presses (e ∷ h))) (is_second_in_force (e ∷ h)) (resolve (map_in u s) (next_map u s) r e ∷ r)
-stays-event u n S safe r (Press k) h key admitted le s there f is =
+stays-event : (u : Under) (n : ℕ) (S : ℕ → State → Type 0) (P : List Event → Type 0) → IsKeptBelow u n S
+    → AreSpared u n S P → (e : Event) (h : List Event) → P (e ∷ h)
+    → HasKey e → (u.has_loads ≡ false → IsNoLoad e) → presses (e ∷ h) ≤ n
+    → (s : State) → Below n S (presses h) s → Follows (resolved u.maps h) s → s.is_second ≡ is_second_in_force h
+    → Stays (Below n S (presses (e ∷ h))) (is_second_in_force (e ∷ h))
+    (resolve (map_in u s) (next_map u s) (resolved u.maps h) e ∷ resolved u.maps h)
+stays-event u n S P kept spared (Press k) h keeps key admitted le s there f is =
+    let r : List ResolvedEvent = resolved u.maps h in
     let lt : presses h < n = omega (arith, le) in
     subst (λ b. Stays (Below n S (suc (presses h))) b (resolve (map_in u s) (next_map u s) r (Press k) ∷ r)) is
-    (stays-press u (S (presses h)) (Below n S (suc (presses h))) (below-leads_on u n S safe (presses h) lt) r s
-    (there lt) f k key (look (map_in u s) r k) (sym (follows-look u r s k f)))
-stays-event u n S safe r (Release k) h key admitted le s there f is =
+    (stays-press u (S (presses h)) (Below n S (suc (presses h))) (below-leads_on u n S kept (presses h) lt) r s
+    (there lt) f k key (spared.keeps h k keeps lt s (there lt) f is) (look (map_in u s) r k)
+    (sym (follows-look u r s k f)))
+stays-event u n S P kept spared (Release k) h keeps key admitted le s there f is =
+    let r : List ResolvedEvent = resolved u.maps h in
     subst (λ b. Stays (Below n S (presses h)) b (ReleasedKey k ∷ r)) is
-    (stays-release (Below n S (presses h)) (below-lets_go u n S safe (presses h)) r s there f k (remembered k r) refl)
-stays-event u n S safe r Reset h key admitted le s there f is =
-    subst (λ b. Stays (Below n S (presses h)) b (WasReset ∷ r)) is
-    (stays-reset (Below n S (presses h)) (below-lets_go u n S safe (presses h)) r s there f)
-stays-event u n S safe r Load h key admitted le s there f is =
+    (stays-release (Below n S (presses h)) (below-lets_go u n S kept (presses h)) r s there f k (remembered k r) refl)
+stays-event u n S P kept spared Reset h keeps key admitted le s there f is =
+    subst (λ b. Stays (Below n S (presses h)) b (WasReset ∷ resolved u.maps h)) is
+    (stays-reset (Below n S (presses h)) (below-lets_go u n S kept (presses h)) (resolved u.maps h) s there f)
+stays-event u n S P kept spared Load h keeps key admitted le s there f is =
     elim (cases_Bool u.has_loads) [
       | inl loads ↦
-          subst (λ b. Stays (Below n S (presses h)) b (WasLoaded (next_map u s) ∷ r)) (ap not is)
-          (stays-load u (Below n S (presses h)) (below-lets_go u n S safe (presses h))
-          (below-exchanges u n S safe (presses h)) loads r s there f)
+          subst (λ b. Stays (Below n S (presses h)) b (WasLoaded (next_map u s) ∷ resolved u.maps h)) (ap not is)
+          (stays-load u (Below n S (presses h)) (below-lets_go u n S kept (presses h))
+          (below-exchanges u n S kept (presses h)) loads (resolved u.maps h) s there f)
       | inr none ↦ absurd (true≢false (admitted none))
     ]
 
@@ -553,19 +585,22 @@ fewer (Release k) h n le = le
 fewer Reset h n le = le
 fewer Load h n le = le
 
--- Whatever presses, releases, resets and loads come, at most n presses, the console stands in a state of the sets.
-stays : (u : Under) (n : ℕ) (S : ℕ → State → Type 0) → IsSafeBelow u n S → (h : List Event) → HasKeys h
-    → Admits u h → presses h ≤ n
+-- Whatever presses, releases, resets and loads come, at most n presses, the console stands in a state of the sets, where
+-- the lists are such that no key forgets that it holds a modifier.
+pub stays : (u : Under) (n : ℕ) (S : ℕ → State → Type 0) (P : List Event → Type 0) → IsKeptBelow u n S
+    → AreSpared u n S P → (h : List Event) → P h
+    → HasKeys h → Admits u h → presses h ≤ n
     → Stays (Below n S (presses h)) (is_second_in_force h) (resolved u.maps h)
-stays u n S safe [] keys admitted le =
-    (start, (λ lt. safe.start), subst (λ r. Follows r start) (sym (resolved-start u.maps)) follows-start, refl)
-stays u n S safe (e ∷ h) keys admitted le =
+stays u n S P kept spared [] keeps keys admitted le =
+    (start, (λ lt. kept.start), subst (λ r. Follows r start) (sym (resolved-start u.maps)) follows-start, refl)
+stays u n S P kept spared (e ∷ h) keeps keys admitted le =
     let (s, there, f, is) =
-    stays u n S safe h (All-tail HasKey e h keys) (λ none. All-tail IsNoLoad e h (admitted none)) (fewer e h n le) in
+    stays u n S P kept spared h (spared.fewer e h keeps) (All-tail HasKey e h keys)
+    (λ none. All-tail IsNoLoad e h (admitted none)) (fewer e h n le) in
     rw (resolved-more u.maps h e)
     (subst (λ b. Stays (Below n S (presses (e ∷ h))) (is_second_in_force (e ∷ h))
     (resolve (map_of u b) (map_of u (not b)) (resolved u.maps h) e ∷ resolved u.maps h)) is
-    (stays-event u n S safe (resolved u.maps h) e h (All-head HasKey e h keys)
+    (stays-event u n S P kept spared e h keeps (All-head HasKey e h keys)
     (λ none. All-head IsNoLoad e h (admitted none)) le s there f is))
 
 -- so a modifier is on only while a key that bears it is pressed
@@ -591,7 +626,7 @@ within-on : (u : Under) (n : ℕ) (S : ℕ → State → Type 0) → IsSafeBelow
     → Admits u h → presses h ≤ n → IsOnOnlyWhilePressed (in_force u.maps h) h (λ i. is_on_after u.maps i h)
 within-on u n S safe h keys admitted le =
     let s : Stays (Below n S (presses h)) (is_second_in_force h) (resolved u.maps h) =
-    stays u n S safe h keys admitted le in
+    stays u n S (λ g. Unit {0}) safe.kept (all-spared u n S safe) h tt keys admitted le in
     follows-on u.maps h s.0 s.2 keys
 
 -- sets that are safe below every number

@@ -47,9 +47,7 @@ bits_of r =
 -- without caps and num no flag flips
 no_flip : (f : LockFlag) → flips_shift f false false ≡ false
 no_flip flag.O = refl
-no_flip flag.C = refl
-no_flip flag.N = refl
-no_flip flag.B = refl
+no_flip _ = refl
 
 exactly_one-false : (b : Bool) → exactly_one b false ≡ b
 exactly_one-false true = refl

@@ -33,27 +33,21 @@ moves-unscrolled u s t Exchange e is = subst (λ x. IsMove u x Exchange) (sym e)
 -- to drop the scroll lock twice is to drop it
 but_twice : (on : Lock → Bool) (j : Lock) → but_scroll on j ≡ but_scroll (but_scroll on) j
 but_twice on Caps = refl
-but_twice on Num = refl
-but_twice on Scroll = refl
-but_twice on Alt = refl
+but_twice on _ = refl
 
 -- a lock turns alike without the scroll lock
 turned_twice : (on : Lock → Bool) (l j : Lock)
     → but_scroll (λ n. if same_lock l n then not (on n) else on n) j
     ≡ but_scroll (λ n. if same_lock l n then not (but_scroll on n) else but_scroll on n) j
 turned_twice on l Caps = refl
-turned_twice on l Num = refl
-turned_twice on l Scroll = refl
-turned_twice on l Alt = refl
+turned_twice on l _ = refl
 
 -- a load keeps locks alike without the scroll lock
 kept_twice : (m : MapValue) (on : Lock → Bool) (j : Lock)
     → but_scroll (λ n. is_borne m (holding.Lock n) && on n) j
     ≡ but_scroll (λ n. is_borne m (holding.Lock n) && but_scroll on n) j
 kept_twice m on Caps = refl
-kept_twice m on Num = refl
-kept_twice m on Scroll = refl
-kept_twice m on Alt = refl
+kept_twice m on _ = refl
 
 -- a move leads on alike without the scroll lock
 moved-unscrolled : (u : Under) (s : State) (move : Move)
@@ -81,9 +75,7 @@ same_moved u s t move e =
 scroll_turned : (on : Lock → Bool) (j : Lock)
     → but_scroll on j ≡ but_scroll (λ n. if same_lock Scroll n then not (on n) else on n) j
 scroll_turned on Caps = refl
-scroll_turned on Num = refl
-scroll_turned on Scroll = refl
-scroll_turned on Alt = refl
+scroll_turned on _ = refl
 
 -- the scroll lock changes nothing else
 pub scroll-moved : (s : State) → unscrolled s ≡ unscrolled (with_lock_turned s Scroll)

@@ -11,15 +11,13 @@ use Rattle.std.proofs.lemmas.Nat.Bits.{bit_at_or, same_from_bits_below}
 use Prim.Native.Nat.{zero, suc}
 use Rattle.std.proofs.Math.Pow.{pow-lt, pow_pos}
 use Rattle.std.proofs.Math.Nat.{mod-eq_of_lt, zero-mul, one-mul}
-use Rattle.std.proofs.lemmas.Nat.{and_le_r}
+use Rattle.std.proofs.lemmas.Nat.{and_le_r, pow-add}
 use native.Mathlib.Nat.{div-div-eq-div-mul}
-use Rattle.std.proofs.lemmas.Nat.{pow-add}
 use Rattle.keymap_core.specs.declared.action.Holding.{Holding}
 use Rattle.keymap_core.specs.declared.action.Lock.{Lock}
 use Rattle.keymap_core.specs.Actions.{holding_index, lock_index, same_lock}
-use Rattle.keymap_core.specs.declared.action.Modifier.TheVariants.{LeftShift, RightShift, LeftControl, RightControl}
-use Rattle.keymap_core.specs.declared.action.Modifier.TheVariants.{LeftAlt, RightAlt, AltShift, Meta}
-use Rattle.keymap_core.specs.declared.action.Lock.TheVariants.{Caps, Num, Scroll, Alt}
+use Rattle.keymap_core.specs.declared.action.Modifier.TheVariants.{LeftShift}
+use Rattle.keymap_core.specs.declared.action.Lock.TheVariants.{Caps}
 use Rattle.keymap_core.specs.declared.action.Holding.TheVariants as holding
 use Rattle.console_core.proofs.Places.{modifier_index-lt}
 use Rattle.console_core.specs.PackedWord.{bit_is_set, word_mark, word_lock, word_second, pending_field, mark_bit}
@@ -92,9 +90,7 @@ bit-turn n k i lt = rw (shl-one k lt) (turn_by n k i (eqb k i) refl)
 
 pub lock_index-lt : (l : Lock) → lock_index l < 4
 lock_index-lt Caps = lit< tt
-lock_index-lt Num = lit< tt
-lock_index-lt Scroll = lit< tt
-lock_index-lt Alt = lit< tt
+lock_index-lt _ = lit< tt
 
 -- the marks are the bits below 16
 pub mark_bit-lt : (a : Holding) → mark_bit a < 16
@@ -216,32 +212,18 @@ field-exchange n = field_turn n 20 (omega arith) (λ i lt2 e. omega arith)
 -- the mask of a reset keeps the locks and the map in force
 mask_mark : (a : Holding) → bit_at 1052416 (mark_bit a) ≡ 0
 mask_mark (holding.Mod LeftShift) = refl
-mask_mark (holding.Mod RightShift) = refl
-mask_mark (holding.Mod LeftControl) = refl
-mask_mark (holding.Mod RightControl) = refl
-mask_mark (holding.Mod LeftAlt) = refl
-mask_mark (holding.Mod RightAlt) = refl
-mask_mark (holding.Mod AltShift) = refl
-mask_mark (holding.Mod Meta) = refl
 mask_mark (holding.Lock Caps) = refl
-mask_mark (holding.Lock Num) = refl
-mask_mark (holding.Lock Scroll) = refl
-mask_mark (holding.Lock Alt) = refl
+mask_mark _ = refl
 
 -- what a reset keeps includes the locks
 mask_lock : (l : Lock) → bit_at 1052416 (lock_bit l) ≡ 1
 mask_lock Caps = refl
-mask_lock Num = refl
-mask_lock Scroll = refl
-mask_lock Alt = refl
+mask_lock _ = refl
 
 -- what a reset keeps excludes the pending field
 mask_field : (i : ℕ) → i < 4 → bit_at 1052416 (16 + i) ≡ 0
-mask_field zero lt = refl
-mask_field (suc zero) lt = refl
-mask_field (suc (suc zero)) lt = refl
-mask_field (suc (suc (suc zero))) lt = refl
 mask_field (suc (suc (suc (suc i)))) lt = let e : ⊥ = omega arith in absurd e
+mask_field _ lt = refl
 
 -- a reset clears the marks
 pub mark-after_reset : (n : ℕ) (a : Holding) → word_mark (bit_and n 1052416) a ≡ false
@@ -272,11 +254,8 @@ around_low i lt = bit_at_cat_low 65520 16 65535 i lt ∙ bit_at_ones 16 i lt
 
 -- the mask around the pending field excludes it
 around_field : (i : ℕ) → i < 4 → bit_at 4293984255 (16 + i) ≡ 0
-around_field zero lt = refl
-around_field (suc zero) lt = refl
-around_field (suc (suc zero)) lt = refl
-around_field (suc (suc (suc zero))) lt = refl
 around_field (suc (suc (suc (suc i)))) lt = let e : ⊥ = omega arith in absurd e
+around_field _ lt = refl
 
 -- the pending field is above the marks and locks
 code_low : (c i : ℕ) → c ≤ 15 → i < 16 → bit_at (c * 65536 % 2 ^ 32) i ≡ 0

@@ -1,5 +1,6 @@
 -- What mirrors functions of the code, or tells of private fields. Private contracts cite it; no public clause does.
 pub mod HeldBytes
 pub mod Kept
+pub mod Noting
 pub mod Searching
 pub mod Tables

@@ -14,5 +14,6 @@ pub mod Positions
 pub mod Raw
 pub mod Reading
 pub mod Resolved
+pub mod Sights
 pub mod Sticking
 pub mod Traps

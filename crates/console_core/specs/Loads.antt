@@ -7,8 +7,7 @@ use Rattle.console_core.specs.declared.event.Event.{Event}
 use Rattle.console_core.specs.declared.event.Event.TheVariants.{Press, Release, Reset, Load}
 use Rattle.console_core.specs.Positions.{count_where, is_odd}
 use Rattle.console_core.specs.History.{Maps, between, in_force, resolved, is_on_after, is_locked_after}
-use Rattle.console_core.specs.History.{accent_pending_after, answers_to, HasKeys}
-use Rattle.console_core.specs.History.{HasNoLoads}
+use Rattle.console_core.specs.History.{accent_pending_after, answers_to, HasKeys, HasNoLoads}
 use Rattle.console_core.specs.Reading.{turns_at}
 
 -- a list without loads reads as under the first map alone, and a lock is on after an odd number of turns

@@ -21,8 +21,7 @@ use Rattle.console_core.specs.Resolved.{ResolvedEvent, unless_nop, keeps_taken, 
 use Rattle.console_core.specs.Resolved.{taken_over, is_this_action, held, locked}
 use Rattle.console_core.specs.Answers.{answer_char, answer_action, answer_release}
 use Rattle.console_core.specs.History.{Maps, in_force, loaded, concerns, pressed, resolved, resolved_event, is_on_after}
-use Rattle.console_core.specs.History.{accent_pending_after}
-use Rattle.console_core.specs.History.{answer_to}
+use Rattle.console_core.specs.History.{accent_pending_after, answer_to}
 
 -- what a key looks up, remembers and takes after h
 abbrev pub look_after : Maps → ℕ → List Event → Cell

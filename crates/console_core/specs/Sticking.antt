@@ -1,5 +1,5 @@
 -- Whether a keymap, or two that loads exchange, can leave a modifier on while no key is pressed.
-use Rattle.std.specs.Prelude.{◌≡◌, ℕ, ◌<◌, ◌≤◌, Bool, false, true, List, All, reverse}
+use Rattle.std.specs.Prelude.{◌≡◌, ℕ, ◌<◌, ◌≤◌, Bool, false, true, List, [], ◌∷◌, All, reverse}
 use Rattle.keymap_core.specs.declared.action.Modifier.{Modifier}
 use Rattle.keymap_core.specs.declared.action.Lock.TheVariants.{Scroll}
 use Rattle.keymap_core.specs.Maps.{MapValue}
@@ -8,7 +8,7 @@ use Rattle.console_core.specs.declared.event.Event.TheVariants.{Press, Release, 
 use Rattle.console_core.specs.declared.outcome.Sticking.{Sticking}
 use Rattle.console_core.specs.declared.outcome.Sticking.TheVariants.{Sticks, Never, Undecided}
 use Rattle.console_core.specs.Positions.{count_where}
-use Rattle.console_core.specs.History.{Maps, between, in_force, is_on_after, HasKeys, HasNoLoads, IsQuiet}
+use Rattle.console_core.specs.History.{Maps, between, in_force, is_on_after, pressed, HasKeys, HasNoLoads, IsQuiet}
 use Rattle.console_core.specs.Headline.{IsSafe, IsOnOnlyWhilePressed, IsOffOnceQuiet}
 use Rattle.console_core.specs.declared.held.Move.{Move}
 use Rattle.console_core.specs.Moves.{Under, alone, with_loads, State, IsPath, state_after, presses_along, IsForgetful}
@@ -42,6 +42,15 @@ abbrev pub HasFewestPresses : MapValue → List Event → Type 0
 HasFewestPresses m h =
     (g : List Event) → HasKeys g → HasNoLoads g → (i : Modifier) → SticksAfter m g i → presses h ≤ presses g
 
+-- each release is of a key that is pressed
+abbrev pub IsOfPressedKey : Event → List Event → Type 0
+IsOfPressedKey (Release k) before = pressed k before ≡ true
+IsOfPressedKey e before = Unit {0}
+
+abbrev pub ReleasesPressedKeys : List Event → Type 0
+ReleasesPressedKeys [] = Unit {0}
+ReleasesPressedKeys (e ∷ h) = IsOfPressedKey e h × ReleasesPressedKeys h
+
 -- After each list without loads a modifier is on only while a key that bears it is pressed. So none is on once no key
 -- is pressed.
 abbrev pub NeverSticks : MapValue → Type 0
@@ -68,7 +77,9 @@ state_limit = 65536
 
 -- what each answer says of the keymap
 abbrev pub IsAnswer : MapValue → Sticking → Type 0
-IsAnswer m (Sticks events) = LeavesOn m (reverse events.items) × HasFewestPresses m (reverse events.items)
+IsAnswer m (Sticks events) =
+    LeavesOn m (reverse events.items) × HasFewestPresses m (reverse events.items)
+    × ReleasesPressedKeys (reverse events.items)
 IsAnswer m Never = NeverSticks m
 IsAnswer m (Undecided p) = ReachesMoreThan (alone m) state_limit p × NoneSticksBy m p
 
@@ -107,6 +118,7 @@ NoneSticksBetweenBy ms p = (g : List Event) → HasKeys g → (i : Modifier) →
 abbrev pub IsAnswerBetween : Maps → Sticking → Type 0
 IsAnswerBetween ms (Sticks events) =
     LeavesOnBetween ms (reverse events.items) × HasFewestPressesBetween ms (reverse events.items)
+    × ReleasesPressedKeys (reverse events.items)
 IsAnswerBetween ms Never = NeverSticksBetween ms
 IsAnswerBetween ms (Undecided p) = ReachesMoreThan (with_loads ms) state_limit p × NoneSticksBetweenBy ms p
 

@@ -1,13 +1,14 @@
 //! The search for sticking modifiers over the states that presses, releases and loads lead to, by the number of
 //! presses.
-ghost use Rattle.std.specs.Prelude.{◌≡◌, ◌+◌, ◌<◌, ◌≤◌, ◌⊎◌, ◌++◌, ◌∷◌, ℕ, [], None, Some, length, reverse};
+ghost use Rattle.std.specs.Prelude.{◌≡◌, ◌+◌, ◌<◌, ◌≤◌, ◌⊎◌, ◌++◌, ◌∷◌, ℕ, [], true, None, Some, length, reverse};
 ghost use Rattle.std.specs.Prelude.{slice_get, OnOk, IfOk, IfSome};
 ghost use Rattle.keymap_core.specs.Numbers.{key_count};
 ghost use Rattle.keymap_core.specs.declared.action.Modifier.{Modifier as ModifierValue};
 ghost use Rattle.console_core.specs.declared.held.Held.{Held as HeldValue};
 ghost use Rattle.console_core.specs.Inner.Searching.{state_of, under_of, IsMetBy, AreWithin, Grows, IsStep, IsLetGoMet};
 ghost use Rattle.console_core.specs.Inner.Searching.{IsExchangeMet, ArePressesMet, AreAdded, Searched, AreInOrder};
-ghost use Rattle.console_core.specs.Inner.Searching.{IsStuck, GoBack, IsScriptTo, IsAnswerUnder};
+ghost use Rattle.console_core.specs.Inner.Searching.{IsStuck, AreSafe, HasEnded, GoBack, IsScriptTo};
+ghost use Rattle.console_core.specs.Inner.Searching.{IsAnswerUnder};
 ghost use Rattle.console_core.specs.History.{between};
 ghost use Rattle.console_core.specs.Moves.{Under};
 ghost use Rattle.console_core.specs.Sticking.{IsAnswer, IsAnswerBetween, state_limit};
@@ -32,16 +33,27 @@ pub struct Origin {
 
 /// A place where the key holds a modifier and looks up a character.
 #[derive(Clone, Copy, Debug, PartialEq, Eq)]
-struct Stuck {
-    place: usize,
-    key: KeyCode,
+pub struct Stuck {
+    pub place: usize,
+    pub key: KeyCode,
+}
+
+/// How a search ended.
+#[derive(Clone, Copy, Debug, PartialEq, Eq)]
+pub enum End {
+    /// At a place where a key that holds a modifier looks up a character.
+    AtStuck(Stuck),
+    /// All states were met.
+    Complete,
+    /// More states were met than the search goes over, by at most so many presses.
+    TooMany(usize),
 }
 
 /// The states that were met, in their order.
-type Met = IndexMap<Held, Origin>;
+pub type Met = IndexMap<Held, Origin>;
 
 /// The state that was met at the place, and how it was come to.
-fn entry(met: &Met, place: usize) -> (Held, Origin)
+pub fn entry(met: &Met, place: usize) -> (Held, Origin)
     requires { place < length met.now.entries }
     ensures { slice_get met.now.entries place ≡ Some result }
 {
@@ -105,7 +117,7 @@ fn meet_frees(
     Ok(())
 }
 
-fn key_with(code: u8) -> KeyCode
+pub fn key_with(code: u8) -> KeyCode
     requires { code < key_count }
     ensures { result ≡ code }
 {
@@ -135,15 +147,18 @@ fn meet_presses(
     Ok(())
 }
 
-/// Adds where letting go and loads lead from the states of a level, which as many presses lead to. Stops at a state
-/// where a key that holds a modifier looks up a character, and tells which. Stops once too many were met.
+/// Adds where letting go and loads lead from the states of a level, which as many presses lead to. A search that stops
+/// does so at a state where a key that holds a modifier looks up a character, and tells which. Stops once too many were
+/// met.
 fn close(
     met: &mut Met,
     maps: &Keymaps,
     level: usize,
     presses: usize,
+    stops: bool,
 ) -> Result<Option<Stuck>, AllocError>
     requires searched { Searched (under_of maps.now) met.old.entries level level }
+    requires safe { stops ≡ true → AreSafe (under_of maps.now) met.old.entries level }
     requires order { AreInOrder met.old.entries level presses }
     requires below { level ≤ length met.old.entries }
     ensures searched { OnOk result (Searched (under_of maps.now) met.new.entries level level) }
@@ -151,14 +166,19 @@ fn close(
     ensures grown { OnOk result (Grows met.old.entries met.new.entries) }
     ensures closed { IfOk result (λ stuck. stuck ≡ None → length met.new.entries ≤ state_limit
         → Searched (under_of maps.now) met.new.entries level (length met.new.entries)) }
-    ensures stuck { IfOk result (λ stuck. IfSome stuck (λ x. IsStuck (under_of maps.now) met.new.entries x.place
-        x.key)) }
+    ensures stuck { IfOk result (λ stuck. IfSome stuck (λ x. (stops ≡ true) × IsStuck (under_of maps.now)
+        met.new.entries x.place x.key)) }
+    ensures safe { IfOk result (λ stuck. stops ≡ true → AreSafe (under_of maps.now) met.new.entries level) }
+    ensures all_safe { IfOk result (λ stuck. stuck ≡ None → length met.new.entries ≤ state_limit → stops ≡ true
+        → AreSafe (under_of maps.now) met.new.entries (length met.new.entries)) }
 {
     let mut place = level;
     while place < met.len() && met.len() <= BOUND {
         let (held, _) = entry(met, place);
-        if let Some(key) = held.forgetful(maps) {
-            return Ok(Some(Stuck { place, key }));
+        if stops {
+            if let Some(key) = held.forgetful(maps) {
+                return Ok(Some(Stuck { place, key }));
+            }
         }
         meet_frees(met, maps, place, &held, presses)?;
         place += 1;
@@ -209,11 +229,12 @@ fn script(alloc: Global, met: &Met, stuck: Stuck) -> Result<Vec<Event>, AllocErr
     Ok(events)
 }
 
-/// Decides whether presses, releases and, where there are any, loads can leave a modifier on while no key is pressed.
-fn decide(alloc: Global, maps: &Keymaps) -> Result<Sticking, AllocError>
-    ensures { IfOk result (λ answer. IsAnswerUnder (under_of maps.now) answer) }
+/// Meets the states level by level. A search that stops does so at the first state where a key that holds a modifier
+/// looks up a character; one that doesn't goes on behind such states.
+pub fn meet_all(met: &mut Met, maps: &Keymaps, stops: bool) -> Result<End, AllocError>
+    requires { met.old.entries ≡ [] }
+    ensures { IfOk result (λ end. HasEnded (under_of maps.now) stops met.new.entries end) }
 {
-    let mut met = IndexMap::new(alloc);
     met.insert(
         Held::start(),
         Origin {
@@ -224,21 +245,33 @@ fn decide(alloc: Global, maps: &Keymaps) -> Result<Sticking, AllocError>
     let mut level = 0;
     let mut presses = 0;
     while level < met.len() {
-        if let Some(stuck) = close(&mut met, maps, level, presses)? {
-            return Ok(Sticking::Sticks(script(alloc, &met, stuck)?));
+        if let Some(stuck) = close(met, maps, level, presses, stops)? {
+            return Ok(End::AtStuck(stuck));
         }
         if met.len() > BOUND {
-            return Ok(Sticking::Undecided(presses));
+            return Ok(End::TooMany(presses));
         }
         let end = met.len();
-        press(&mut met, maps, level, presses)?;
+        press(met, maps, level, presses)?;
         if met.len() > BOUND {
-            return Ok(Sticking::Undecided(presses + 1));
+            return Ok(End::TooMany(presses + 1));
         }
         level = end;
         presses += 1;
     }
-    Ok(Sticking::Never)
+    Ok(End::Complete)
+}
+
+/// Decides whether presses, releases and, where there are any, loads can leave a modifier on while no key is pressed.
+fn decide(alloc: Global, maps: &Keymaps) -> Result<Sticking, AllocError>
+    ensures { IfOk result (λ answer. IsAnswerUnder (under_of maps.now) answer) }
+{
+    let mut met = IndexMap::new(alloc);
+    match meet_all(&mut met, maps, true)? {
+        End::AtStuck(stuck) => Ok(Sticking::Sticks(script(alloc, &met, stuck)?)),
+        End::Complete => Ok(Sticking::Never),
+        End::TooMany(presses) => Ok(Sticking::Undecided(presses)),
+    }
 }
 
 /// Decides whether a keymap can leave a modifier on while no key is pressed.

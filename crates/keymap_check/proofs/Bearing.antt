@@ -21,9 +21,8 @@ use Rattle.keymap_check.specs.declared.kind.Kind.TheVariants as kind
 use Rattle.keymap_check.specs.declared.bearer.Bearer.{Bearer}
 use Rattle.keymap_check.specs.declared.bearer.Bearer.TheVariants.{Nobody, Throughout, Sole, Several}
 use Rattle.keymap_check.specs.Cells.{first_place, cell_of, is_holding, is_character_or_nop}
-use Rattle.keymap_check.specs.Computed.{bears_holding, bearer_by, bearer_with, next_bearer}
-use Rattle.keymap_check.specs.Computed.{bearer_below}
-use Rattle.keymap_check.specs.Computed.{bearer_of, is_steady_by}
+use Rattle.keymap_check.specs.Computed.{bears_holding, bearer_by, bearer_with, next_bearer, bearer_below, bearer_of}
+use Rattle.keymap_check.specs.Computed.{is_steady_by}
 use Rattle.keymap_check.specs.Report.{IsBearer, ReportValue, bearer_in, is_plain_bearer, picks_a_cell, HasPlainBearers}
 use Rattle.keymap_check.specs.Report.{BearersAreComputed, SteadyLocksAreComputed}
 use Rattle.keymap_check.proofs.Same.{is_holding-true, is_holding-refl, not_holding-false, not_acting, acting-not}

@@ -3,7 +3,7 @@ use Rattle.std.proofs.Common.{◌≡◌, ℕ, true, ◌||◌, List, [], ◌∷�
 use Rattle.keymap_core.specs.declared.action.Action.TheVariants as act
 use Rattle.keymap_core.specs.declared.action.Modifier.{Modifier}
 use Rattle.keymap_core.specs.declared.action.Modifier.TheVariants.{LeftShift, RightShift, LeftControl, RightControl}
-use Rattle.keymap_core.specs.declared.action.Modifier.TheVariants.{LeftAlt, RightAlt, AltShift, Meta}
+use Rattle.keymap_core.specs.declared.action.Modifier.TheVariants.{LeftAlt, RightAlt, AltShift}
 use Rattle.keymap_core.specs.declared.action.Holding.TheVariants as holding
 use Rattle.keymap_core.specs.Actions.{same_modifier}
 use Rattle.console_core.specs.Resolved.{ResolvedEvent, on, remembered}
@@ -25,14 +25,10 @@ bits-added : (y : Modifier) (r : List ResolvedEvent) → record {
   control = (same_modifier y LeftControl || on LeftControl r) || (same_modifier y RightControl || on RightControl r);
   alt = (same_modifier y LeftAlt || on LeftAlt r) || (same_modifier y RightAlt || on RightAlt r);
 } ≡ with_bit (group_of y) (bits_of r)
-bits-added LeftShift r = refl
 bits-added RightShift r = ap (λ b. record (bits_of r) { shift = b }) (or_right (on LeftShift r) true refl)
-bits-added LeftControl r = refl
 bits-added RightControl r = ap (λ b. record (bits_of r) { control = b }) (or_right (on LeftControl r) true refl)
-bits-added LeftAlt r = refl
 bits-added RightAlt r = ap (λ b. record (bits_of r) { alt = b }) (or_right (on LeftAlt r) true refl)
-bits-added AltShift r = refl
-bits-added Meta r = refl
+bits-added _ r = refl
 
 -- a press of one more modifier sets the bit of its group
 pub bits-more : (y : Modifier) (j : ℕ) (r : List ResolvedEvent) → remembered j r ≡ None

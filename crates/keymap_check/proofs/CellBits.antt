@@ -14,10 +14,9 @@ use Rattle.std.proofs.lemmas.Nat.Bits.{bit_at-zero, bit_at_ones, and_pow}
 use Rattle.std.specs.Option.{option_or, is_some}
 use Rattle.keymap_core.specs.declared.action.Action.TheVariants as act
 use Rattle.keymap_core.specs.declared.action.Modifier.{Modifier}
-use Rattle.keymap_core.specs.declared.action.Modifier.TheVariants.{LeftShift, RightShift, LeftControl, RightControl}
-use Rattle.keymap_core.specs.declared.action.Modifier.TheVariants.{LeftAlt, RightAlt, AltShift, Meta}
+use Rattle.keymap_core.specs.declared.action.Modifier.TheVariants.{LeftShift, AltShift}
 use Rattle.keymap_core.specs.declared.action.Lock.{Lock}
-use Rattle.keymap_core.specs.declared.action.Lock.TheVariants.{Caps, Num, Scroll, Alt}
+use Rattle.keymap_core.specs.declared.action.Lock.TheVariants.{Caps, Alt}
 use Rattle.keymap_core.specs.declared.action.Holding.{Holding}
 use Rattle.keymap_core.specs.declared.action.Holding.TheVariants as holding
 use Rattle.keymap_core.specs.declared.entry.Cell.{Cell}
@@ -50,13 +49,7 @@ modifier-bits : (i : Modifier)
     × (is_set 0x0030 (modifier_index i) ≡ is_of_group group.Alt i)
     × (is_set 0x0040 (modifier_index i) ≡ is_of_group group.AltShift i)
 modifier-bits LeftShift = (refl, refl, refl, refl, refl, refl, refl)
-modifier-bits RightShift = (refl, refl, refl, refl, refl, refl, refl)
-modifier-bits LeftControl = (refl, refl, refl, refl, refl, refl, refl)
-modifier-bits RightControl = (refl, refl, refl, refl, refl, refl, refl)
-modifier-bits LeftAlt = (refl, refl, refl, refl, refl, refl, refl)
-modifier-bits RightAlt = (refl, refl, refl, refl, refl, refl, refl)
-modifier-bits AltShift = (refl, refl, refl, refl, refl, refl, refl)
-modifier-bits Meta = (refl, refl, refl, refl, refl, refl, refl)
+modifier-bits _ = (refl, refl, refl, refl, refl, refl, refl)
 
 -- which masks have the bits of the locks
 lock-bits : (l : Lock)
@@ -65,9 +58,7 @@ lock-bits : (l : Lock)
     × (is_set 0x000c (8 + lock_index l) ≡ false) × (is_set 0x0030 (8 + lock_index l) ≡ false)
     × (is_set 0x0040 (8 + lock_index l) ≡ false)
 lock-bits Caps = (refl, refl, refl, refl, refl, refl, refl)
-lock-bits Num = (refl, refl, refl, refl, refl, refl, refl)
-lock-bits Scroll = (refl, refl, refl, refl, refl, refl, refl)
-lock-bits Alt = (refl, refl, refl, refl, refl, refl, refl)
+lock-bits _ = (refl, refl, refl, refl, refl, refl, refl)
 
 -- the bit of a holding action alone
 apart : (i k : ℕ) → i ≢ k → is_set (2 ^ k) i ≡ false

@@ -2,7 +2,7 @@
 use Prim.Native.Nat.{zero, suc}
 use Rattle.std.proofs.Common.{◌≡◌, ℕ, ◌<◌, ◌≤◌, ◌+◌, ◌-◌, ◌⊎◌, Bool, true, false, List, [], ◌∷◌, ◌++◌, Option, Some}
 use Rattle.std.proofs.Common.{None, refl, ap, subst, sym, ◌∙◌, inl, inr, arith}
-use Rattle.std.specs.Prelude.{nat_lt}
+use Rattle.std.specs.Prelude.{nat_lt, All, AllPairs, Any}
 use Rattle.std.proofs.lemmas.Bool.{cases_Bool, true≢false, ltb-true, ltb-false, lt-ltb, le-ltb}
 use Rattle.keymap_core.specs.declared.action.Holding.{Holding}
 use Rattle.keymap_core.specs.declared.entry.Cell.{Cell}
@@ -20,7 +20,6 @@ use Rattle.keymap_core.specs.Borne.{is_upper_live}
 use Rattle.keymap_check.specs.Cells.{is_of_kind, cell_of, slot_at, column_at, place_at, place_count, first_place}
 use Rattle.keymap_check.specs.Cells.{is_character, is_any_holding}
 use Rattle.keymap_check.specs.Computed.{findings_at, findings_of, finding_by, finding_with, held_by}
-use Rattle.std.specs.Prelude.{All, AllPairs, Any}
 use Rattle.std.proofs.lemmas.List.Elements.{All-cons, All-nil}
 use Rattle.std.proofs.lemmas.List.Kept.{AllPairs-cons}
 use Rattle.keymap_check.specs.Findings.{IsPlaceOf, NotAfter, IsFirstOf, IsHoldingCell, IsCharacterCell, IsFinding}

@@ -7,6 +7,7 @@ pub mod Findings
 pub mod Found
 pub mod Given
 pub mod FirstPlaces
+pub mod FirstFinding
 pub mod Firsts
 pub mod Lengths
 pub mod Places

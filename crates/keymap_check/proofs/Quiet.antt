@@ -2,7 +2,7 @@
 use Prim.Native.Nat.{zero, suc}
 use Rattle.std.proofs.Common.{◌≡◌, ℕ, ◌<◌, Bool, true, false, ◌&&◌, ◌||◌, not, List, [], ◌∷◌, ◌++◌, Option, Some, None}
 use Rattle.std.proofs.Common.{refl, ap, subst, sym, ◌∙◌, arith, if◌then◌else◌}
-use Rattle.std.specs.Prelude.{◌==◌, reverse}
+use Rattle.std.specs.Prelude.{◌==◌, reverse, find}
 use Rattle.std.proofs.lemmas.List.{append-nil}
 use Rattle.std.proofs.lemmas.Bool.{or_parts, and_right}
 use Rattle.keymap_core.specs.Maps.{MapValue}
@@ -15,7 +15,6 @@ use Rattle.console_core.proofs.OneMore.{pressed-start, pressed-press, pressed-re
 use Rattle.console_core.proofs.Deliveries.{reverse-cons}
 use Rattle.console_core.proofs.Keeping.{cleared}
 use Rattle.keymap_check.specs.Computed.{findings_at}
-use Rattle.std.specs.Prelude.{find}
 use Rattle.keymap_check.specs.Scripts.{has_bit, is_chosen, bit_key_at, bit_keys, event_if, event_at, events_of, script}
 use Rattle.keymap_check.specs.Scripts.{scripts_of, scripts_with, scripts_for, lacks_key, has_some, tried_at, tried}
 use Rattle.keymap_check.proofs.Lengths.{no_bit}

@@ -1,9 +1,8 @@
 -- What the report on a map says.
 use Rattle.std.proofs.Common.{◌≡◌, refl, ap, ◌∙◌}
-use Rattle.keymap_core.specs.declared.action.Modifier.TheVariants.{LeftShift, RightShift, LeftControl, RightControl}
-use Rattle.keymap_core.specs.declared.action.Modifier.TheVariants.{LeftAlt, RightAlt, AltShift, Meta}
+use Rattle.keymap_core.specs.declared.action.Modifier.TheVariants.{LeftShift}
 use Rattle.keymap_core.specs.declared.action.Lock.{Lock}
-use Rattle.keymap_core.specs.declared.action.Lock.TheVariants.{Caps, Num, Scroll, Alt}
+use Rattle.keymap_core.specs.declared.action.Lock.TheVariants.{Caps}
 use Rattle.keymap_core.specs.declared.action.Holding.{Holding}
 use Rattle.keymap_core.specs.declared.action.Holding.TheVariants as holding
 use Rattle.keymap_core.specs.Maps.{MapValue}
@@ -13,24 +12,13 @@ use Rattle.keymap_check.specs.Report.{ReportValue, report_of, bearer_in, is_stea
 -- the reported bearer is that of the map
 bearer-of_map : (m : MapValue) (a : Holding) → bearer_in (report_of m) a ≡ bearer_of m a
 bearer-of_map m (holding.Mod LeftShift) = refl
-bearer-of_map m (holding.Mod RightShift) = refl
-bearer-of_map m (holding.Mod LeftControl) = refl
-bearer-of_map m (holding.Mod RightControl) = refl
-bearer-of_map m (holding.Mod LeftAlt) = refl
-bearer-of_map m (holding.Mod RightAlt) = refl
-bearer-of_map m (holding.Mod AltShift) = refl
-bearer-of_map m (holding.Mod Meta) = refl
 bearer-of_map m (holding.Lock Caps) = refl
-bearer-of_map m (holding.Lock Num) = refl
-bearer-of_map m (holding.Lock Scroll) = refl
-bearer-of_map m (holding.Lock Alt) = refl
+bearer-of_map m _ = refl
 
 -- the reported steady locks are those of the map
 steady-of_map : (m : MapValue) (l : Lock) → is_steady_in (report_of m) l ≡ is_steady m l
 steady-of_map m Caps = refl
-steady-of_map m Num = refl
-steady-of_map m Scroll = refl
-steady-of_map m Alt = refl
+steady-of_map m _ = refl
 
 -- the bearer in what is the report on a map
 pub reported-bearer : (m : MapValue) (r : ReportValue) (a : Holding) → r ≡ report_of m → bearer_in r a ≡ bearer_of m a

@@ -298,9 +298,7 @@ of-group g y e = absurd (true≢false (sym e))
 -- the group of a group's bit
 pub group-bit : (g : Group) → group_at (bit_of_group g) ≡ g
 group-bit group.Shift = refl
-group-bit group.Control = refl
-group-bit group.Alt = refl
-group-bit group.AltShift = refl
+group-bit _ = refl
 
 -- a cell of a group is a modifier of that group
 pub group-cell : (g : Group) (c : Cell) → is_group_cell g c ≡ true

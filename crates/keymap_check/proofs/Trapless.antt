@@ -2,7 +2,7 @@
 use Prim.Native.Nat.{zero, suc}
 use Rattle.std.proofs.Common.{◌≡◌, ℕ, ◌<◌, Bool, true, false, List, [], ◌∷◌, ◌++◌, Option, Some, None, refl, subst, sym}
 use Rattle.std.proofs.Common.{◌∙◌, if◌then◌else◌}
-use Rattle.std.specs.Prelude.{reverse}
+use Rattle.std.specs.Prelude.{reverse, find}
 use Rattle.std.proofs.lemmas.List.{append-nil}
 use Rattle.std.proofs.lemmas.List.Elements.{All-head, All-tail, All-append, All-nil, All-cons}
 use Rattle.std.proofs.lemmas.Bool.{true≢false, false_from_ne_true}
@@ -22,7 +22,6 @@ use Rattle.console_core.proofs.Deliveries.{reverse-cons}
 use Rattle.console_core.proofs.Traps.{on_only_while_pressed_without_traps}
 use Rattle.console_core.proofs.OneMap.{one_in_force}
 use Rattle.keymap_check.specs.Computed.{findings_at}
-use Rattle.std.specs.Prelude.{find}
 use Rattle.keymap_check.specs.Scripts.{bit_key, is_bit_key, bit_key_at, bit_keys, event_if, event_at, events_of, script}
 use Rattle.keymap_check.specs.Scripts.{scripts_of, scripts_with, scripts_for, lacks_key, has_some, tried_at, tried}
 use Rattle.keymap_check.specs.Scripts.{leaves_modifier_on, is_chosen, demonstration_of}

@@ -14,7 +14,7 @@ use Rattle.console_core.specs.History.{accent_pending_after, pressed}
 use Rattle.console_core.specs.Positions.{count_where, is_odd}
 use Rattle.console_core.specs.Plain.{plain_look}
 use Rattle.console_core.specs.Reading.{look_after, turns_at}
-use Rattle.console_core.specs.Headline.{IsSteady, IsOnOnlyWhilePressed, GoesOnAs, is_fresh_press}
+use Rattle.console_core.specs.Headline.{IsSafe, IsSteady, IsOnOnlyWhilePressed, GoesOnAs, is_fresh_press}
 
 -- P holds after every list of events about keys 0 to 127 that leaves the map in force
 abbrev pub AfterEveryList : MapValue → (Maps → List Event → Type 0) → Type 0
@@ -53,6 +53,10 @@ pub record KeepsPromise (m : MapValue) : Type 0 where
   pub repeats_turn_no_steady_lock : (l : Lock) → IsSteady m l → NoRepeatTurns m l
   pub off_once_quiet : ModifiersAreOffOnceQuiet m
   pub as_after_reset_once_quiet : GoesOnAsAfterResetOnceQuiet m
+
+-- a safe map keeps it
+abbrev pub SafeMapsKeepTheirPromise : Type 0
+SafeMapsKeepTheirPromise = (m : MapValue) → IsSafe m → KeepsPromise m
 
 -- where no other map is loaded, the lock is on exactly after an odd number of fresh presses of the key
 abbrev pub IsOnAfterOddFreshPresses : MapValue → Lock → ℕ → Type 0

@@ -2,6 +2,8 @@
 ghost use Rattle.std.specs.Prelude.{◌≡◌, ◌<◌};
 ghost use Rattle.keymap_check.specs.Computed.{bearer_with, next_bearer, bearer_of as bearer_in, is_steady_by};
 ghost use Rattle.keymap_check.specs.Computed.{steady_by};
+ghost use Rattle.keymap_check.specs.Inner.Surveyed.{IsSurvey};
+ghost use Rattle.keymap_core.specs.Maps.{MapValue};
 ghost use Rattle.keymap_core.specs.Numbers.{key_count};
 
 use crate::kind::Kind;
@@ -35,7 +37,7 @@ pub(crate) fn key_with(code: u8) -> KeyCode
 /// The key that bears the action, if no other key does.
 fn bearer_if_alone(survey: &Survey, key: u8, holding: Holding) -> Bearer
     requires { key < key_count }
-    ensures { result ≡ bearer_with survey.now holding key }
+    ensures { (m : MapValue) → IsSurvey m survey.now → result ≡ bearer_with m holding key }
 {
     if survey.has(key, Kind::OtherThan(holding)) {
         Bearer::Sole(key_with(key))
@@ -56,7 +58,7 @@ fn with_one_more(bearer: Bearer, alone: Bearer) -> Bearer
 
 /// Which key bears the action.
 pub(crate) fn bearer_of(survey: &Survey, holding: Holding) -> Bearer
-    ensures { result ≡ bearer_in survey.now holding }
+    ensures { (m : MapValue) → IsSurvey m survey.now → result ≡ bearer_in m holding }
 {
     let mut bearer = Bearer::Nobody;
     for key in 0..KEY_COUNT as u8 {
@@ -70,14 +72,14 @@ pub(crate) fn bearer_of(survey: &Survey, holding: Holding) -> Bearer
 /// Whether all cells of the key are actions other than `nop`.
 fn is_acting(survey: &Survey, key: u8) -> bool
     requires { key < key_count }
-    ensures { result ≡ steady_by survey.now key }
+    ensures { (m : MapValue) → IsSurvey m survey.now → result ≡ steady_by m key }
 {
     !survey.has(key, Kind::CharacterOrNop)
 }
 
 /// Whether one key alone bears the lock that has this bearer, and all its cells are actions other than `nop`.
 pub(crate) fn is_steady(survey: &Survey, bearer: &Bearer) -> bool
-    ensures { result ≡ is_steady_by survey.now bearer.now }
+    ensures { (m : MapValue) → IsSurvey m survey.now → result ≡ is_steady_by m bearer.now }
 {
     match bearer {
         Bearer::Throughout(key) => is_acting(survey, key.get()),

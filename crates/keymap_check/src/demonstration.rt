@@ -10,6 +10,7 @@ ghost use Rattle.console_core.specs.Traps.{NobodyBearsCellPickingLocks, HasNoTra
 ghost use Rattle.keymap_check.specs.Scripts.{leaves_modifier_on as leaves_modifier_on_in, events_of};
 ghost use Rattle.keymap_check.specs.Scripts.{start_of, script as script_of, scripts_of, scripts_with, scripts_for};
 ghost use Rattle.keymap_check.specs.Scripts.{tried_at, demonstration_of};
+ghost use Rattle.keymap_check.specs.Inner.Surveyed.{IsSurvey};
 ghost use Rattle.keymap_check.specs.Shown.{HasShownTrap};
 
 use crate::bearer::key_with;
@@ -119,23 +120,25 @@ fn try_key(map: &KeyMap, keys: &BitKeys, key: KeyCode) -> Option<Script>
 }
 
 /// The first script of the key that leaves a modifier on, where the key has a finding.
-fn try_if_found(survey: &Survey, key: u8) -> Option<Script>
-    requires { key < key_count }
-    ensures { option_map (λ s. s.items) result ≡ find (leaves_modifier_on_in survey.now) (tried_at survey.now key) }
+fn try_if_found(map: &KeyMap, survey: &Survey, key: u8) -> Option<Script>
+    requires is_key { key < key_count }
+    requires is_survey { IsSurvey map.now survey.now }
+    ensures { option_map (λ s. s.items) result ≡ find (leaves_modifier_on_in map.now) (tried_at map.now key) }
 {
     if is_found(survey, key) {
-        try_key(survey.map(), &bit_keys(survey, key), key_with(key))
+        try_key(map, &bit_keys(survey, key), key_with(key))
     } else {
         None
     }
 }
 
 /// The first script, in the order in which they are tried, that leaves a modifier on.
-fn first_script(survey: &Survey) -> Option<Script>
-    ensures { option_map (λ s. s.items) result ≡ demonstration_of survey.now }
+fn first_script(map: &KeyMap, survey: &Survey) -> Option<Script>
+    requires { IsSurvey map.now survey.now }
+    ensures { option_map (λ s. s.items) result ≡ demonstration_of map.now }
 {
     for key in 0..KEY_COUNT as u8 {
-        match try_if_found(survey, key) {
+        match try_if_found(map, survey, key) {
             Some(script) => return Some(script),
             None => {}
         }
@@ -158,5 +161,5 @@ pub fn demonstrate(map: &KeyMap) -> Option<Script>
     ensures without_traps { NobodyBearsCellPickingLocks map.now → ((i : ModifierValue) → HasNoTrap map.now i)
         → IsNone result }
 {
-    first_script(&Survey::of(map))
+    first_script(map, &Survey::of(map))
 }

@@ -3,14 +3,16 @@ ghost use Rattle.std.specs.Prelude.{◌≡◌, ◌<◌, MatchOption, [], ◌∷�
 ghost use Rattle.keymap_check.specs.Cells.{place_at as place_of};
 ghost use Rattle.keymap_check.specs.Computed.{findings_at, findings_of};
 ghost use Rattle.keymap_check.specs.Scripts.{has_some};
+ghost use Rattle.keymap_check.specs.Inner.Surveyed.{IsSurvey};
+ghost use Rattle.keymap_core.specs.Maps.{MapValue};
 ghost use Rattle.keymap_core.specs.Numbers.{key_count};
 
 use crate::bearer::key_with;
-use crate::cells::{column, slot};
+use crate::cells::{cell_of, column, slot};
 use crate::kind::Kind;
 use crate::survey::Survey;
 use arrayvec::ArrayVec;
-use keymap_core::{Cell, Holding, KEY_COUNT, KeyCode, Modifier};
+use keymap_core::{Cell, Holding, KEY_COUNT, KeyCode, Keymap, Modifier};
 use std::default::MadeWith;
 
 /// Where a cell stands: its slot, 0 to 255, and its column, 0 to 7.
@@ -60,22 +62,23 @@ fn place_at(key: u8, place: u8) -> Place
 /// Whether the key has a finding.
 pub(crate) fn is_found(survey: &Survey, key: u8) -> bool
     requires { key < key_count }
-    ensures { result ≡ has_some (findings_at survey.now key) }
+    ensures { (m : MapValue) → IsSurvey m survey.now → result ≡ has_some (findings_at m key) }
 {
     survey.has(key, Kind::AnyHolding) && survey.has(key, Kind::Character)
 }
 
 /// The finding of the key, if it has one.
-fn find_at(survey: &Survey, key: u8) -> Option<Finding>
+fn find_at<K: Keymap>(map: &K, survey: &Survey, key: u8) -> Option<Finding>
     requires { key < key_count }
-    ensures { MatchOption result (findings_at survey.now key ≡ []) (λ f. findings_at survey.now key ≡ f ∷ []) }
+    ensures { (m : MapValue) → K.shows map.now m → IsSurvey m survey.now
+        → MatchOption result (findings_at m key ≡ []) (λ f. findings_at m key ≡ f ∷ []) }
 {
     if !is_found(survey, key) {
         return None;
     }
-    let holding_place = survey.first_place(key, Kind::AnyHolding)?;
-    let character_place = survey.first_place(key, Kind::Character)?;
-    let action = match survey.cell(key, holding_place) {
+    let holding_place = survey.first_place(map, key, Kind::AnyHolding)?;
+    let character_place = survey.first_place(map, key, Kind::Character)?;
+    let action = match cell_of(map, key, holding_place) {
         Cell::Act(action) => action,
         Cell::Char(_) => return None,
     };
@@ -89,12 +92,12 @@ fn find_at(survey: &Survey, key: u8) -> Option<Finding>
 }
 
 /// The findings in the order of their keys.
-pub(crate) fn findings(survey: &Survey) -> ArrayVec<Finding, KEY_COUNT>
-    ensures { result.items ≡ findings_of survey.now }
+pub(crate) fn findings<K: Keymap>(map: &K, survey: &Survey) -> ArrayVec<Finding, KEY_COUNT>
+    ensures { (m : MapValue) → K.shows map.now m → IsSurvey m survey.now → result.items ≡ findings_of m }
 {
     let mut findings = ArrayVec::new_in(());
     for key in 0..KEY_COUNT as u8 {
-        match find_at(survey, key) {
+        match find_at(map, survey, key) {
             Some(finding) => findings.push(finding),
             None => {}
         }

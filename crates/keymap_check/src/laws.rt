@@ -1,10 +1,14 @@
 //! What is computed of a keymap is what is said of it, and two accepted keymaps never stick together.
 ghost use Rattle.keymap_check.specs.Report.{FindingsAreComputed, BearersAreComputed, SteadyLocksAreComputed};
 ghost use Rattle.keymap_check.specs.Report.{NoFindingsExactlyIfSafe, AcceptedNeverStick};
+ghost use Rattle.keymap_check.specs.Promises.{SafeMapsKeepTheirPromise};
 ghost use Rattle.keymap_check.specs.Shown.{DemonstrationsLeaveModifiersOn};
 ghost use Rattle.keymap_check.specs.Tried.{BitKeysAreLeast, TriedKeysAreUnsafe};
 
-use console_core::laws::safe_maps_never_stick_between;
+use console_core::laws::{
+    modifiers_follow_keys, quiet_is_a_reset, repeats_turn_no_steady_lock,
+    safe_maps_never_stick_between,
+};
 
 /// The findings, bearers and steady locks that are computed of a map are those that the map has.
 pub fn reports_are_computed()
@@ -13,6 +17,15 @@ pub fn reports_are_computed()
     ensures bearers { BearersAreComputed }
     ensures steady { SteadyLocksAreComputed }
 {}
+
+/// A safe map keeps the whole promise.
+pub fn safe_maps_keep_their_promise()
+    ensures { SafeMapsKeepTheirPromise }
+{
+    modifiers_follow_keys();
+    repeats_turn_no_steady_lock();
+    quiet_is_a_reset();
+}
 
 /// Whatever is pressed, released, reset and loaded between two accepted maps, a modifier is on only while a key is
 /// pressed that bears it in the map in force. So no key that holds a modifier ever looks up a character, and the search

@@ -34,5 +34,5 @@ mod survey;
 pub use bearer::Bearer;
 pub use demonstration::demonstrate;
 pub use finding::{Finding, Place};
-pub use report::{Report, check};
+pub use report::{Report, check, check_shown, first_finding};
 pub use script::Script;

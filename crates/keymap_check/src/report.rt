@@ -1,24 +1,25 @@
 //! The check and its report.
-ghost use Rattle.std.specs.Prelude.{◌≡◌, ◌↔◌, ℕ, IsTrue, true};
+ghost use Rattle.std.specs.Prelude.{◌≡◌, ◌↔◌, ℕ, IsTrue, true, IsNone, IfSome, slice_get};
 ghost use Rattle.keymap_core.specs.declared.action.Modifier.{Modifier as ModifierValue};
 ghost use Rattle.keymap_core.specs.declared.action.Lock.{Lock as LockValue};
 ghost use Rattle.keymap_core.specs.declared.action.Holding.{Holding as HoldingValue};
 ghost use Rattle.console_core.specs.Headline.{IsSafe, IsSteady};
-ghost use Rattle.keymap_check.specs.Findings.{AreFindings};
+ghost use Rattle.keymap_check.specs.Findings.{AreFindings, IsFirstFinding};
+ghost use Rattle.keymap_check.specs.Inner.Surveyed.{IsSurvey};
+ghost use Rattle.keymap_core.specs.Maps.{MapValue};
 ghost use Rattle.keymap_check.specs.Promises.{KeepsPromise, ModifierFollowsKey, NoRepeatTurns};
 ghost use Rattle.keymap_check.specs.Promises.{IsOnAfterOddFreshPresses, LooksPlainlyIn};
 ghost use Rattle.keymap_check.specs.Report.{IsAccepted, IsBearer, HasPlainBearers, bearer_in, is_steady_in, report_of};
 
 use crate::bearer::{Bearer, bearer_of, is_steady};
 use crate::finding::{Finding, findings};
-use crate::laws::reports_are_computed;
+use crate::laws::{reports_are_computed, safe_maps_keep_their_promise};
 use crate::survey::Survey;
 use arrayvec::ArrayVec;
 use console_core::laws::{
-    locks_count_fresh_presses, looks_plainly, modifiers_follow_keys, quiet_is_a_reset,
-    repeats_turn_no_steady_lock,
+    locks_count_fresh_presses, looks_plainly, modifiers_follow_keys, repeats_turn_no_steady_lock,
 };
-use keymap_core::{Holding, KEY_COUNT, KeyMap, Lock, Modifier};
+use keymap_core::{Holding, KEY_COUNT, KeyMap, Keymap, Lock, Modifier};
 use std::marker::Model;
 
 /// What the check says of a keymap.
@@ -59,6 +60,13 @@ impl Report {
         &self.findings
     }
 
+    /// The first of them.
+    fn first(&self) -> Option<Finding>
+        ensures { result ≡ slice_get self.now.findings 0 }
+    {
+        self.findings.as_slice().first().copied()
+    }
+
     /// Which key bears the holding action.
     pub fn bearer(&self, holding: Holding) -> Bearer
         ensures { result ≡ bearer_in self.now holding }
@@ -75,15 +83,15 @@ impl Report {
 }
 
 /// The report on the keymap that was gone over.
-fn report_on(survey: &Survey) -> Report
-    ensures { result ≡ report_of survey.now }
+fn report_on<K: Keymap>(map: &K, survey: &Survey) -> Report
+    ensures { (m : MapValue) → K.shows map.now m → IsSurvey m survey.now → result ≡ report_of m }
 {
     let caps = bearer_of(survey, Holding::Lock(Lock::Caps));
     let num = bearer_of(survey, Holding::Lock(Lock::Num));
     let scroll = bearer_of(survey, Holding::Lock(Lock::Scroll));
     let alt = bearer_of(survey, Holding::Lock(Lock::Alt));
     Report {
-        findings: findings(survey),
+        findings: findings(map, survey),
         bearers: [
             bearer_of(survey, Holding::Mod(Modifier::LeftShift)),
             bearer_of(survey, Holding::Mod(Modifier::RightShift)),
@@ -108,10 +116,37 @@ fn report_on(survey: &Survey) -> Report
 }
 
 /// The report on a keymap.
-fn make_report(map: &KeyMap) -> Report
-    ensures { result ≡ report_of map.now }
+fn make_report<K: Keymap>(map: &K) -> Report
+    ensures { (m : MapValue) → K.shows map.now m → result ≡ report_of m }
 {
-    report_on(&Survey::of(map))
+    report_on(map, &Survey::of(map))
+}
+
+/// Checks a keymap, however it is kept: what [`check`] says of the keymap that it shows.
+pub fn check_shown<K: Keymap>(map: &K) -> Report
+    ensures value { (m : MapValue) → K.shows map.now m → result ≡ report_of m }
+    ensures accepted { (m : MapValue) → K.shows map.now m → IsAccepted result ↔ IsSafe m }
+    ensures findings { (m : MapValue) → K.shows map.now m → AreFindings m result.findings }
+    ensures bearers { (m : MapValue) → K.shows map.now m
+        → (a : HoldingValue) → IsBearer m a (bearer_in result a) }
+    ensures steady { (m : MapValue) → K.shows map.now m
+        → (l : LockValue) → (is_steady_in result l ≡ true) ↔ IsSteady m l }
+    ensures promise { (m : MapValue) → K.shows map.now m → IsAccepted result → KeepsPromise m }
+{
+    reports_are_computed();
+    safe_maps_keep_their_promise();
+    make_report(map)
+}
+
+/// The finding of the least key, of a keymap however it is kept; none exactly where the keymap is accepted. It takes no
+/// memory.
+pub fn first_finding<K: Keymap>(map: &K) -> Option<Finding>
+    ensures safe { (m : MapValue) → K.shows map.now m → IsNone result ↔ IsSafe m }
+    ensures first { (m : MapValue) → K.shows map.now m → IfSome result (IsFirstFinding m) }
+    ensures promise { (m : MapValue) → K.shows map.now m → IsNone result → KeepsPromise m }
+{
+    let report = check_shown(map);
+    report.first()
 }
 
 /// Checks the keymap: whether it is safe, which keys bear what, and which locks are steady.
@@ -140,11 +175,9 @@ pub fn check(map: &KeyMap) -> Report
     ensures fresh_presses { (l : LockValue) (k : ℕ) → bearer_in result (Holding.Lock l) ≡ Bearer.Throughout k
         → IsOnAfterOddFreshPresses map.now l k }
 {
-    reports_are_computed();
     modifiers_follow_keys();
     repeats_turn_no_steady_lock();
-    quiet_is_a_reset();
     locks_count_fresh_presses();
     looks_plainly();
-    make_report(map)
+    check_shown(map)
 }

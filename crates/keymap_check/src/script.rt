@@ -6,6 +6,8 @@ ghost use Rattle.keymap_check.specs.Scripts.{bit_key as bit_key_of, bit_keys as 
 ghost use Rattle.keymap_check.specs.Scripts.{event_at as event_in, is_lacking as is_lacking_of};
 ghost use Rattle.keymap_check.specs.Scripts.{is_chosen as is_chosen_of, events_of, script as script_of};
 ghost use Rattle.keymap_check.specs.Scripts.{lacks_key as lacks_key_of};
+ghost use Rattle.keymap_check.specs.Inner.Surveyed.{IsSurvey};
+ghost use Rattle.keymap_core.specs.Maps.{MapValue};
 ghost use Rattle.keymap_core.specs.Numbers.{key_count};
 
 use crate::bearer::key_with;
@@ -50,14 +52,14 @@ fn is_chosen(set: u8, except: u8, bit: u8) -> bool
 
 fn is_bit_key(survey: &Survey, tried: u8, bit: u8, key: u8) -> bool
     requires { key < key_count }
-    ensures { result ≡ is_bit_key_of survey.now tried bit key }
+    ensures { (m : MapValue) → IsSurvey m survey.now → result ≡ is_bit_key_of m tried bit key }
 {
     key != tried && survey.has(key, Kind::Of(group_at(bit)))
 }
 
 /// The least key, other than the tried one, that bears an action of the bit's group.
 fn bit_key(survey: &Survey, tried: u8, bit: u8) -> Option<KeyCode>
-    ensures { result ≡ bit_key_of survey.now tried bit }
+    ensures { (m : MapValue) → IsSurvey m survey.now → result ≡ bit_key_of m tried bit }
 {
     for key in 0..KEY_COUNT as u8 {
         if is_bit_key(survey, tried, bit, key) {
@@ -69,7 +71,7 @@ fn bit_key(survey: &Survey, tried: u8, bit: u8) -> Option<KeyCode>
 
 /// The keys of the bits, while the key is tried.
 pub(crate) fn bit_keys(survey: &Survey, tried: u8) -> BitKeys
-    ensures { result ≡ bit_keys_of survey.now tried }
+    ensures { (m : MapValue) → IsSurvey m survey.now → result ≡ bit_keys_of m tried }
 {
     [
         bit_key(survey, tried, 0),

@@ -1,35 +1,35 @@
 //! A keymap whose cells were gone over once: which sorts of cells each key has.
 ghost use Rattle.std.specs.Prelude.{◌≡◌, ◌^◌, ◌<◌, ◌≤◌, IfSome};
 ghost use Rattle.std.specs.Option.{is_some};
-ghost use Rattle.keymap_check.specs.Cells.{place_count as place_count_of, cell_of as cell_of_key};
+ghost use Rattle.keymap_core.specs.Maps.{MapValue};
+ghost use Rattle.keymap_check.specs.Cells.{place_count as place_count_of};
 ghost use Rattle.keymap_check.specs.Cells.{first_place as first_place_of};
 ghost use Rattle.keymap_check.specs.Inner.CellBits.{cell_bit, bits_of};
+ghost use Rattle.keymap_check.specs.Inner.Surveyed.{IsSurvey};
 ghost use Rattle.keymap_core.specs.Numbers.{key_count};
 
 use crate::cells::{cell_of, first_place, place_count};
 use crate::kind::Kind;
-use keymap_core::{Action, Cell, KEY_COUNT, KeyMap};
+use keymap_core::{Action, Cell, KEY_COUNT, Keymap};
 use std::marker::Model;
 
-/// A keymap with a number for each key, whose bits tell which sorts of cells the key has.
+/// How many cells each key of a keymap has, and a number for each key, whose bits tell which sorts of cells the key
+/// has.
 #[derive(Drop)]
-pub(crate) struct Survey<'m> {
-    map: &'m KeyMap,
+pub(crate) struct Survey {
     places: u8,
     bits: [u16; KEY_COUNT],
 }
 
-impl<'m> Model for Survey<'m> {
+impl Model for Survey {
     ghost use Rattle.std.specs.Prelude.{◌≡◌, ◌≤◌};
-    ghost use Rattle.keymap_core.specs.Maps.{MapValue};
-    ghost use Rattle.keymap_check.specs.Cells.{place_count as place_count_of};
-    ghost use Rattle.keymap_check.specs.Inner.CellBits.{HasBits};
+    ghost use Rattle.keymap_check.specs.Inner.Surveyed.{SurveyValue};
 
-    ghost Value = { MapValue };
+    ghost Value = { SurveyValue };
 
-    ghost view = { λ s. s.map.now };
+    ghost view = { λ s. record { places = s.places; bits = s.bits } };
 
-    ghost invariant = { λ s. (s.places ≡ place_count_of s.map.now) × (s.places ≤ 16) × HasBits s.map.now s.bits };
+    ghost invariant = { λ s. s.places ≤ 16 };
 }
 
 /// The bit of a cell: the holding actions by their indices, then a character, `nop`, and any other action.
@@ -47,11 +47,10 @@ fn bit_of(cell: Cell) -> usize
 }
 
 /// The bits of the key's cells.
-fn key_bits(map: &KeyMap, places: u8, key: u8) -> u16
-    requires is_count { places ≡ place_count_of map.now }
+fn key_bits<K: Keymap>(map: &K, places: u8, key: u8) -> u16
     requires is_bounded { places ≤ 16 }
     requires is_key { key < key_count }
-    ensures { result ≡ bits_of map.now key }
+    ensures { (m : MapValue) → K.shows map.now m → places ≡ place_count_of m → result ≡ bits_of m key }
 {
     let mut bits = 0;
     for place in 0..places {
@@ -60,49 +59,34 @@ fn key_bits(map: &KeyMap, places: u8, key: u8) -> u16
     bits
 }
 
-impl<'m> Survey<'m> {
+impl Survey {
     /// Goes over the cells of the keymap.
-    pub(crate) fn of(map: &'m KeyMap) -> Survey<'m>
-        ensures { result ≡ map.now }
+    pub(crate) fn of<K: Keymap>(map: &K) -> Survey
+        ensures { (m : MapValue) → K.shows map.now m → IsSurvey m result }
     {
         let places = place_count(map);
         let mut bits = [0; KEY_COUNT];
         for key in 0..KEY_COUNT as u8 {
             bits[key as usize] = key_bits(map, places, key);
         }
-        Survey { map, places, bits }
-    }
-
-    /// The keymap.
-    pub(crate) fn map(&self) -> &KeyMap
-        ensures { result.now ≡ self.now }
-    {
-        self.map
+        Survey { places, bits }
     }
 
     /// Whether the key has a cell of the kind.
     pub(crate) fn has(&self, key: u8, kind: Kind) -> bool
         requires { key < key_count }
-        ensures { result ≡ is_some (first_place_of self.now kind key) }
+        ensures { (m : MapValue) → IsSurvey m self.now → result ≡ is_some (first_place_of m kind key) }
     {
         self.bits[key as usize] & kind.mask() != 0
     }
 
-    /// The first place of the key that has a cell of the kind.
-    pub(crate) fn first_place(&self, key: u8, kind: Kind) -> Option<u8>
+    /// The first place of the key that has a cell of the kind, in the keymap that was gone over.
+    pub(crate) fn first_place<K: Keymap>(&self, map: &K, key: u8, kind: Kind) -> Option<u8>
         requires { key < key_count }
-        ensures value { result ≡ first_place_of self.now kind key }
+        ensures value { (m : MapValue) → K.shows map.now m → IsSurvey m self.now
+            → result ≡ first_place_of m kind key }
         ensures in_range { IfSome result (λ place. place < 16) }
     {
-        first_place(self.map, self.places, key, kind)
-    }
-
-    /// The key's cell at the place.
-    pub(crate) fn cell(&self, key: u8, place: u8) -> Cell
-        requires is_key { key < key_count }
-        requires is_place { place < 16 }
-        ensures { result ≡ cell_of_key self.now key place }
-    {
-        cell_of(self.map, key, place)
+        first_place(map, self.places, key, kind)
     }
 }

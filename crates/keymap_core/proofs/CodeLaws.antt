@@ -1,15 +1,13 @@
 -- The code of each action is that action's alone.
 use Rattle.std.proofs.Common.{◌↔◌, ◌∙◌, nat_lt, ◌≡◌, ℕ, ◌-◌, ◌<◌, ◌≤◌, ◌==◌, nat_le, List, [], ◌∷◌, Bool, true, false}
-use Rattle.std.proofs.Common.{refl, arith, sym, ap, subst, inl, inr}
+use Rattle.std.proofs.Common.{refl, arith, sym, ap, subst, inl, inr, map}
 use Rattle.std.specs.Prelude.{◌||◌, is_none, Some, None, Option, cond}
 use Rattle.std.specs.List.{find, list_all, range_with_len}
 use Rattle.std.proofs.lemmas.Bool.{and_parts, cases_lt, eqb-true, leb-true}
 use Rattle.std.proofs.lemmas.Option.{none-some, same_Some}
 use Rattle.std.proofs.lemmas.Bool.Decides.{nat_tests}
 use Rattle.std.proofs.lemmas.Grind.{common_steps}
-use Rattle.std.specs.Cmp.{booleans_Decides}
-use Rattle.std.proofs.Math.Bool.{beq}
-use Rattle.keymap_core.proofs.NameLaws.{all-in}
+use Rattle.keymap_core.proofs.Lists.{along}
 use Rattle.keymap_core.specs.Actions.{IsAction, IsCodeOfNoAction, code_of, action_of, plain_actions, within}
 use Rattle.keymap_core.specs.declared.action.Action.{Action}
 use Rattle.keymap_core.specs.declared.action.Action.TheVariants as a
@@ -21,31 +19,9 @@ pub code-read : (action : Action) → IsAction action → action_of (code_of act
 code-read (a.Screen k) known = grind (arith, nat_tests, common_steps)
 code-read (a.Function k) known = grind (arith, nat_tests, common_steps)
 code-read (a.DeadKey k) known = grind (arith, nat_tests, common_steps)
-code-read a.Nop known = refl
 code-read (a.Mod m.LeftShift) known = refl
-code-read (a.Mod m.RightShift) known = refl
 code-read (a.Lock l.Caps) known = refl
-code-read (a.Lock l.Num) known = refl
-code-read (a.Lock l.Scroll) known = refl
-code-read (a.Mod m.LeftAlt) known = refl
-code-read a.BackTab known = refl
-code-read (a.Mod m.LeftControl) known = refl
-code-read a.NextScreen known = refl
-code-read (a.Mod m.RightControl) known = refl
-code-read (a.Mod m.RightAlt) known = refl
-code-read (a.Lock l.Alt) known = refl
-code-read (a.Mod m.AltShift) known = refl
-code-read (a.Mod m.Meta) known = refl
-code-read a.Boot known = refl
-code-read a.Debug known = refl
-code-read a.Suspend known = refl
-code-read a.Saver known = refl
-code-read a.Standby known = refl
-code-read a.PreviousScreen known = refl
-code-read a.Panic known = refl
-code-read a.Halt known = refl
-code-read a.PowerDown known = refl
-code-read a.Paste known = refl
+code-read _ known = refl
 
 -- an action without a number
 abbrev is_plain : Action → Bool
@@ -133,15 +109,14 @@ unused-as_test : (c : ℕ) → IsCodeOfNoAction c → is_code_of_no_action c ≡
 unused-as_test c h = grind (arith, nat_tests)
 
 -- computed over the table
-all-codes : list_all (λ c. beq (is_none (action_of c)) (is_code_of_no_action c)) (range_with_len 0 0xa4) ≡ true
+all-codes : map (λ c. is_none (action_of c)) (range_with_len 0 0xa4) ≡ map is_code_of_no_action (range_with_len 0 0xa4)
 all-codes = refl
 
 -- what the test says of each code
 same-as_test : (c : ℕ) → is_none (action_of c) ≡ is_code_of_no_action c
 same-as_test c = elim (cases_lt c 0xa4) [
   | inl below ↦
-      (booleans_Decides _ _).0 (all-in (λ c. beq (is_none (action_of c)) (is_code_of_no_action c)) 0 0xa4 all-codes c
-      (omega arith) (omega (arith, below)))
+      along (λ c. is_none (action_of c)) is_code_of_no_action 0 0xa4 all-codes c (omega arith) (omega (arith, below))
   | inr above ↦ ap is_none (beyond-none c above) ∙ sym (unused-as_test c (inr (inr (inr above))))
 ]
 

@@ -1,12 +1,13 @@
 -- Lists and options, where std has no such lemma.
 use Prim.Native.Nat.{zero, suc}
 use Rattle.std.proofs.Common.{◌≡◌, ℕ, Bool, true, false, cond, List, [], ◌∷◌, get_or, replicate, Option, Some, None}
-use Rattle.std.proofs.Common.{refl, sym, ap, subst, ◌∙◌, inl, inr}
+use Rattle.std.proofs.Common.{refl, sym, ap, subst, ◌∙◌, inl, inr, map, ◌+◌, ◌<◌, ◌≤◌, arith}
 use Rattle.std.specs.Prelude.{All, find, reverse}
-use Rattle.std.specs.List.{list_any}
+use Rattle.std.specs.List.{list_any, range_with_len}
 use Rattle.std.specs.Option.{option_or}
 use Rattle.std.proofs.lemmas.Bool.{or_cases, true≢false}
 use Rattle.std.proofs.lemmas.Option.{none-some, same_Some}
+use Rattle.std.proofs.Math.Nat.{eq-or-lt_of_le}
 use Rattle.std.proofs.lemmas.List.{reverse-append}
 use Rattle.std.proofs.lemmas.List.Elements.{All-nil, All-cons, All-append, All-head, All-tail}
 
@@ -49,3 +50,17 @@ option_or-none (Some x) = refl
 pub none_unless : {X : Type 0} (o : Option X) → ((x : X) → o ≡ Some x → ⊥) → o ≡ None
 none_unless None f = refl
 none_unless (Some x) f = absurd (f x refl)
+
+-- equal lists have equal first elements and equal rests
+same_parts : {A : Type 0} (x y : A) (xs ys : List A) → x ∷ xs ≡ y ∷ ys → (x ≡ y) × (xs ≡ ys)
+same_parts x y xs ys h = ((cc), (cc))
+
+-- two tables that are equal up to a length are equal at each place below it
+pub along : {A : Type 0} (f g : ℕ → A) (from n : ℕ) → map f (range_with_len from n) ≡ map g (range_with_len from n)
+    → (k : ℕ) → from ≤ k → k < from + n → f k ≡ g k
+along f g from zero h k low high = absurd (omega arith)
+along f g from (suc n) h k low high =
+    elim (eq-or-lt_of_le low) [
+      | inl same ↦ subst (λ j. f j ≡ g j) same (same_parts _ _ _ _ h).0
+      | inr above ↦ along f g (from + 1) n (same_parts _ _ _ _ h).1 k (omega arith) (omega arith)
+    ]

@@ -21,13 +21,7 @@ modifier_of i =
 
 modifier_of-index : (m : Modifier) → modifier_of (modifier_index m) ≡ m
 modifier_of-index LeftShift = refl
-modifier_of-index RightShift = refl
-modifier_of-index LeftControl = refl
-modifier_of-index RightControl = refl
-modifier_of-index LeftAlt = refl
-modifier_of-index RightAlt = refl
-modifier_of-index AltShift = refl
-modifier_of-index Meta = refl
+modifier_of-index _ = refl
 
 -- the lock of an index
 abbrev lock_of : ℕ → Lock
@@ -35,9 +29,7 @@ lock_of i = cond (eqb i 0) Caps (cond (eqb i 1) Num (cond (eqb i 2) Scroll (Alt)
 
 lock_of-index : (l : Lock) → lock_of (lock_index l) ≡ l
 lock_of-index Caps = refl
-lock_of-index Num = refl
-lock_of-index Scroll = refl
-lock_of-index Alt = refl
+lock_of-index _ = refl
 
 -- the action of a kind and a number
 abbrev action_of : ℕ → ℕ → Action
@@ -63,24 +55,9 @@ action_of i n =
 
 -- an action is that of its kind and number
 action_of-parts : (a : Action) → action_of (action_kind a) (action_number a) ≡ a
-action_of-parts act.Nop = refl
 action_of-parts (act.Mod m) = ap act.Mod (modifier_of-index m)
 action_of-parts (act.Lock l) = ap act.Lock (lock_of-index l)
-action_of-parts (act.DeadKey n) = refl
-action_of-parts (act.Function n) = refl
-action_of-parts (act.Screen n) = refl
-action_of-parts act.BackTab = refl
-action_of-parts act.NextScreen = refl
-action_of-parts act.PreviousScreen = refl
-action_of-parts act.Boot = refl
-action_of-parts act.Debug = refl
-action_of-parts act.Suspend = refl
-action_of-parts act.Saver = refl
-action_of-parts act.Standby = refl
-action_of-parts act.Panic = refl
-action_of-parts act.Halt = refl
-action_of-parts act.PowerDown = refl
-action_of-parts act.Paste = refl
+action_of-parts _ = refl
 
 -- where the test passes, the actions are the same
 pub same_action-true : (a b : Action) → same_action a b ≡ true → a ≡ b

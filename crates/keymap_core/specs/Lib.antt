@@ -12,3 +12,4 @@ pub mod Names
 pub mod Numbers
 pub mod Streams
 pub mod Transfers
+pub mod Unseen

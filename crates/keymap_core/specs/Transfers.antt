@@ -1,9 +1,7 @@
 -- What `read_up_to` answers.
-use Rattle.std.specs.Prelude.{◌≡◌, ℕ, ◌<◌, ◌≤◌, List, length, take, ⊤, Bool, true, false, IfSome}
-use Rattle.std.specs.Io.KnownBytes.{Consumes, IsAtEnd}
-use Rattle.std.specs.Prelude.{Result}
-use Rattle.std.specs.Prelude.{Ok, Err}
+use Rattle.std.specs.Prelude.{◌≡◌, ℕ, ◌<◌, ◌≤◌, List, length, take, ⊤, Bool, true, false, IfSome, Result, Ok, Err}
 use Rattle.std.specs.Prelude.{Option}
+use Rattle.std.specs.Io.KnownBytes.{Consumes, IsAtEnd}
 use Rattle.keymap_core.specs.declared.transfer.ReadError.{ReadError}
 use Rattle.keymap_core.specs.declared.transfer.ReadError.TheVariants.{Memory, Read}
 use Rattle.keymap_core.specs.declared.transfer.ReadFaultKind.TheVariants.{Device}

@@ -49,7 +49,7 @@ fn has_in_half<K: Keymap>(map: &K, holding: Holding, from: u8) -> bool
 }
 
 /// Whether the slots 128 to 255 are live: some cell of the slots 0 to 127 is ashift or alock.
-fn is_upper_live_in<K: Keymap>(map: &K) -> bool
+pub fn is_upper_live_in<K: Keymap>(map: &K) -> bool
     ensures { (m : MapValue) → K.shows map.now m → result ≡ is_upper_live_of m }
 {
     has_in_half(map, Holding::Mod(Modifier::AltShift), 0)

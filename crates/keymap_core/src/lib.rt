@@ -17,6 +17,7 @@ mod accent;
 mod action;
 mod bearers;
 mod code_point;
+mod definitions;
 mod device;
 mod entry;
 mod from_std;
@@ -30,14 +31,16 @@ mod names;
 mod stream;
 mod to_std;
 mod transfer;
+mod unseen;
 
 pub use accent::{Accent, PairFault};
 pub use action::{
     AccentIndex, Action, FunctionNumber, HOLDINGS, Holding, LOCKS, Lock, MODIFIERS, Modifier, Name,
     ScreenNumber,
 };
-pub use bearers::is_borne_in;
+pub use bearers::{is_borne_in, is_upper_live_in};
 pub use code_point::{code_digits, code_text};
+pub use definitions::Definitions;
 pub use device::{Failed, Read, Write};
 pub use entry::{Cell, Entry, LockFlag};
 pub use from_std::FromStd;
@@ -49,3 +52,4 @@ pub use named::Named;
 pub use stream::Stream;
 pub use to_std::ToStd;
 pub use transfer::{ReadError, ReadFault, ReadFaultKind, WriteFault, put, read_up_to, write_text};
+pub use unseen::is_unseen;

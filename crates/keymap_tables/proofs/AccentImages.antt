@@ -1,6 +1,6 @@
 -- The image of an accent: it has no fault, and gives the accent.
 use Rattle.std.proofs.Common.{◌≡◌, ℕ, ◌+◌, ◌-◌, ◌*◌, ◌<◌, ◌≤◌, suc, zero, List, ◌++◌, length, take, drop, get_or, None}
-use Rattle.std.proofs.Common.{refl, sym, ap, ◌∙◌, arith, append_assoc, length-append}
+use Rattle.std.proofs.Common.{mul-zero, refl, sym, ap, ◌∙◌, arith, append_assoc, length-append}
 use Rattle.std.specs.Prelude.{All}
 use Rattle.std.specs.List.{flat_map}
 use Rattle.std.specs.Int.{from_le_bytes}
@@ -20,7 +20,7 @@ use Rattle.keymap_tables.specs.declared.fault.TableFaultKind.TheVariants.{NotEmp
 use Rattle.keymap_tables.proofs.Lifting.{none-past}
 use Rattle.keymap_tables.proofs.Pairs.{pairs-counted, accent-more, accent-past}
 use Rattle.keymap_tables.proofs.RowImages.{row-in, length-rows, zeros-behind}
-use Rattle.keymap_tables.proofs.Sizes.{some-number, length-number, none-read, none-over, pair-begins, result-begins}
+use Rattle.keymap_tables.proofs.Sizes.{some-number, length-number, none-over, pair-begins, result-begins}
 use Rattle.keymap_tables.proofs.Sizes.{pair-below, result-below, pair-next, accent-whole-size}
 use Rattle.keymap_tables.proofs.SlotImages.{number-back, char-sound}
 
@@ -172,7 +172,7 @@ sound-upto l accent known fits zero few =
     let first =
     accent-more l (accent_bytes l accent) (length accent.pairs) 0 (pairs-of l accent known fits)
     (omega (arith, some-number l)) (none-over l) (λ p below. absurd (omega arith)) own in
-    λ p below. first p (omega (arith, below, none-read l))
+    λ p below. first p (omega (arith, below, mul-zero (pair_size l)))
 sound-upto l accent known fits (suc i) few =
     let bytes = accent_bytes l accent in
     let n = length accent.pairs in

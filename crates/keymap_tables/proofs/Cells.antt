@@ -26,7 +26,7 @@ use Rattle.keymap_tables.specs.Layouts.{number_size, number_limit, pad_size, slo
 use Rattle.keymap_tables.specs.declared.layout.Layout.{Layout}
 use Rattle.keymap_tables.specs.declared.layout.Layout.TheVariants.{Wide, Narrow}
 use Rattle.keymap_tables.specs.Fits.{CellFits}
-use Rattle.keymap_tables.proofs.Sizes.{some-number, cell-inside, cell-next, cells-end}
+use Rattle.keymap_tables.proofs.Sizes.{some-number, row-inside, row-next}
 use Rattle.keymap_tables.specs.Faults.{number_at, is_marked_at, cell_fault, slot_fault, zero_fault, IsFirstFault}
 use Rattle.keymap_tables.specs.declared.fault.TableFaultKind.TheVariants.{BadPad, BadFlag}
 use Rattle.keymap_tables.specs.declared.fault.TableFault.{TableFault}
@@ -107,7 +107,7 @@ bytes-more l bytes cells i cell small fits below so_far number =
     ∙ flat_map-append (cell_bytes l) (take i cells) (cell ∷ [])
     ∙ ap (λ (v : List ℕ). flat_map (cell_bytes l) (take i cells) ++ v) (append-nil (cell_bytes l cell) ∙ here)
     ∙ ap (λ (v : List ℕ). v ++ take s (drop (s * i) bytes)) so_far
-    ∙ sym (take-add (s * i) s bytes) ∙ ap (λ (n : ℕ). take n bytes) (sym (cell-next l i))
+    ∙ sym (take-add (s * i) s bytes) ∙ ap (λ (n : ℕ). take n bytes) (sym (row-next (number_size l) i))
 
 -- a number, by its half and its last bit
 pub halves : (y : ℕ) → 2 * (y / 2) + cond (y % 2 == 1) 1 0 ≡ y
@@ -165,7 +165,7 @@ first-cell l bytes i f small at fault before = (
     here = ap (slot_fault l bytes) at ∙ fault-here l bytes i small ∙ fault;
     before = λ p below. before p (omega (arith, below, at));
   },
-  omega (arith, at, cell-inside l i small, some-number l),
+  omega (arith, at, row-inside (number_size l) 8 i small, some-number l),
 )
 
 -- between two cells no fault stands
@@ -200,7 +200,7 @@ pub bytes-all : (l : Layout) (bytes : List ℕ) (cells : List Cell) (i : ℕ) �
     → take (8 * number_size l) bytes ≡ flat_map (cell_bytes l) cells
 bytes-all l bytes cells i end whole so_far =
     let all : take i cells ≡ cells = take_all i cells (omega arith) in
-    let last : number_size l * i ≡ 8 * number_size l = ap (λ (k : ℕ). number_size l * k) end ∙ cells-end l in
+    let last : number_size l * i ≡ 8 * number_size l = omega (arith, ap (λ (k : ℕ). number_size l * k) end) in
     ap (λ (n : ℕ). take n bytes) (sym last) ∙ sym so_far ∙ ap (flat_map (cell_bytes l)) all
 
 -- after eight cells without a fault there is none before the marks
@@ -208,7 +208,7 @@ pub sound-all : (l : Layout) (bytes : List ℕ) (i : ℕ) → i ≡ 8
     → ((p : ℕ) → p < number_size l * i → slot_fault l bytes p ≡ None) → (p : ℕ) → p < 8 * number_size l
     → slot_fault l bytes p ≡ None
 sound-all l bytes i end so_far p below =
-    let last : number_size l * i ≡ 8 * number_size l = ap (λ (k : ℕ). number_size l * k) end ∙ cells-end l in
+    let last : number_size l * i ≡ 8 * number_size l = omega (arith, ap (λ (k : ℕ). number_size l * k) end) in
     so_far p (omega (arith, last))
 
 -- after eight cells the marks are those of the cells
@@ -303,9 +303,7 @@ slot-front l bytes cells small =
 -- a flag's number is small
 pub small-flag : (byte : ℕ) (flag : LockFlag) → flag_number flag ≡ byte → byte ≤ 3
 small-flag byte variant.O is = omega arith
-small-flag byte variant.C is = omega arith
-small-flag byte variant.N is = omega arith
-small-flag byte variant.B is = omega arith
+small-flag byte _ is = omega arith
 
 -- a flag above 3
 large-flag : (l : Layout) (bytes : List ℕ) → 3 < slice_index bytes (8 * number_size l + 1)

@@ -27,7 +27,7 @@ use Rattle.keymap_tables.proofs.Contents.{count-part, content-past, fault-conten
 use Rattle.keymap_tables.proofs.Contents.{sound-n_accs, sound-accents}
 use Rattle.keymap_tables.proofs.Pads.{count-none}
 use Rattle.keymap_tables.proofs.RowImages.{IsSized, length-rows, sound-rows, same-rows, zeros-behind}
-use Rattle.keymap_tables.proofs.Sizes.{length-count, slot-some, accent-some, slots-whole, accents-whole}
+use Rattle.keymap_tables.proofs.Sizes.{length-count, slot-some, accent-some, rows-size}
 use Rattle.keymap_tables.proofs.SlotImages.{length-slot_bytes, slot_bytes-sound, same-entry}
 use Rattle.keymap_tables.proofs.Whole.{image-parts, map_of}
 
@@ -51,15 +51,9 @@ IsGoodEntry l entry = IsEntry entry × EntryFits l entry
 abbrev pub IsGoodAccent : Layout → AccentValue → Type 0
 IsGoodAccent l accent = IsAccent accent × AccentFits l accent
 
--- each entry of a map that fits is known and fits
-good-entries : (l : Layout) (m : MapValue) → IsMap m → FitsIn l m → All (IsGoodEntry l) m.entries
-good-entries l m is fits k d below =
-    (All-get_or IsEntry m.entries k d below is.entries, All-get_or (EntryFits l) m.entries k d below fits.entries)
-
--- each accent of a map that fits is known and fits
-good-accents : (l : Layout) (m : MapValue) → IsMap m → FitsIn l m → All (IsGoodAccent l) m.accents
-good-accents l m is fits k d below =
-    (All-get_or IsAccent m.accents k d below is.accents, All-get_or (AccentFits l) m.accents k d below fits.accents)
+-- what is known of all elements in two ways
+both : {X : Type 0} (P Q : X → Type 0) (xs : List X) → All P xs → All Q xs → All (λ x. P x × Q x) xs
+both P Q xs one other k d below = (All-get_or P xs k d below one, All-get_or Q xs k d below other)
 
 -- the bytes of each entry have the size of a slot
 pub slots-sized : (l : Layout) (entries : List Entry) → All IsEntry entries
@@ -73,27 +67,27 @@ pub accents-sized : (l : Layout) (accents : List AccentValue) → All IsAccent a
 accents-sized l accents known k d below =
     length-accent_bytes l (get_or accents k d) (All-get_or IsAccent accents k d below known)
 
+-- rows in use and zeros for the others have the size of all
+length-all : {X : Type 0} (f : X → List ℕ) (size n : ℕ) (xs : List X) → IsSized f size xs → length xs ≤ n
+    → length (flat_map f xs ++ zeros (size * (n - length xs))) ≡ n * size
+length-all f size n xs sized few =
+    length-append (flat_map f xs) (zeros (size * (n - length xs)))
+    ∙ omega (
+      arith,
+      rows-size size n (length xs) few,
+      length-rows f size xs sized,
+      length-replicate {A = ℕ} (size * (n - length xs)) 0,
+    )
+
 -- the slots of a map have their size
 length-slots : (l : Layout) (m : MapValue) → IsMap m → length (slots_bytes l m.entries) ≡ slots_size l
 length-slots l m is =
-    length-append (flat_map (slot_bytes l) m.entries) (zeros (slot_size l * (256 - length m.entries)))
-    ∙ omega (
-      arith,
-      slots-whole l (length m.entries) is.few_entries,
-      length-rows (slot_bytes l) (slot_size l) m.entries (slots-sized l m.entries is.entries),
-      length-replicate {A = ℕ} (slot_size l * (256 - length m.entries)) 0,
-    )
+    length-all (slot_bytes l) (slot_size l) 256 m.entries (slots-sized l m.entries is.entries) is.few_entries
 
 -- the accents of a map have their size
 length-accents : (l : Layout) (m : MapValue) → IsMap m → length (accents_bytes l m.accents) ≡ accents_size l
 length-accents l m is =
-    length-append (flat_map (accent_bytes l) m.accents) (zeros (accent_size l * (15 - length m.accents)))
-    ∙ omega (
-      arith,
-      accents-whole l (length m.accents) is.few_accents,
-      length-rows (accent_bytes l) (accent_size l) m.accents (accents-sized l m.accents is.accents),
-      length-replicate {A = ℕ} (accent_size l * (15 - length m.accents)) 0,
-    )
+    length-all (accent_bytes l) (accent_size l) 15 m.accents (accents-sized l m.accents is.accents) is.few_accents
 
 -- Four parts, cut out of their whole.
 four : (a b c d : List ℕ) → a ++ b ++ c ++ d ≡ a ++ (b ++ (c ++ d))
@@ -250,12 +244,14 @@ same-map l m n is fits also too same =
     same-rows (slot_bytes l) (slot_size l) (IsGoodEntry l) m.entries n.entries
     (zeros (slot_size l * (256 - length m.entries))) (zeros (slot_size l * (256 - length n.entries)))
     (same-entry l)
-    (slots-sized l m.entries is.entries) (slots-sized l n.entries also.entries) (good-entries l m is fits)
-    (good-entries l n also too) n_keys slots in
+    (slots-sized l m.entries is.entries) (slots-sized l n.entries also.entries)
+    (both IsEntry (EntryFits l) m.entries is.entries fits.entries)
+    (both IsEntry (EntryFits l) n.entries also.entries too.entries) n_keys slots in
     let accented =
     same-rows (accent_bytes l) (accent_size l) (IsGoodAccent l) m.accents n.accents
     (zeros (accent_size l * (15 - length m.accents))) (zeros (accent_size l * (15 - length n.accents)))
     (same-accent l)
-    (accents-sized l m.accents is.accents) (accents-sized l n.accents also.accents) (good-accents l m is fits)
-    (good-accents l n also too) n_accs accents in
+    (accents-sized l m.accents is.accents) (accents-sized l n.accents also.accents)
+    (both IsAccent (AccentFits l) m.accents is.accents fits.accents)
+    (both IsAccent (AccentFits l) n.accents also.accents too.accents) n_accs accents in
     ap (λ (v : List Entry). map_of v m.accents) entries ∙ ap (λ (v : List AccentValue). map_of n.entries v) accented

@@ -1,4 +1,5 @@
 pub mod AccentImages
+pub mod AtPlaces
 pub mod Cells
 pub mod Contents
 pub mod Images
@@ -11,6 +12,8 @@ pub mod Places
 pub mod ReadingLaws
 pub mod RowImages
 pub mod Rows
+pub mod RowsChecked
+pub mod RowsFilled
 pub mod SlotImages
 pub mod Sizes
 pub mod Slots

@@ -1,17 +1,13 @@
 -- The faults of a part, in the whole.
-use Rattle.std.proofs.Common.{◌≡◌, ℕ, ◌+◌, ◌-◌, ◌*◌, ◌/◌, ◌%◌, ◌<◌, ◌≤◌, List, length, drop, refl, sym, ◌∙◌, subst}
-use Rattle.std.proofs.Common.{arith, None}
-use Rattle.std.proofs.Common.{inl, inr, nat_lt, true, false, mul_comm}
+use Rattle.std.proofs.Common.{◌≡◌, ℕ, ◌+◌, ◌-◌, ◌*◌, ◌/◌, ◌%◌, ◌<◌, ◌≤◌, List, length, refl, ◌∙◌, subst}
+use Rattle.std.proofs.Common.{arith, None, inl, inr, nat_lt, true, false, mul_comm}
 use Rattle.std.specs.Prelude.{slice_index, Option}
 use Rattle.std.proofs.lemmas.Bool.Decides.{nat_tests}
 use Rattle.std.proofs.lemmas.Bool.{cases_lt}
-use Rattle.std.proofs.lemmas.List.{get_or_past}
 use Rattle.std.proofs.lemmas.Nat.{div-mul-add, mod-mul-add, le-div}
 use Rattle.keymap_tables.specs.Faults.{zero_fault, row_fault, IsFirstFault}
 use Rattle.keymap_tables.specs.Inner.Firsts.{IsFirstFilled, HasNoFault}
-use Rattle.keymap_tables.specs.Image.{zeros}
 use Rattle.keymap_tables.specs.Layouts.{part}
-use Rattle.keymap_tables.proofs.Pads.{drop-zeros}
 use Rattle.keymap_tables.specs.declared.fault.TableFault.{TableFault}
 use Rattle.keymap_tables.specs.declared.fault.TableFaultKind.{TableFaultKind}
 use Rattle.keymap_tables.specs.declared.fault.TableFaultKind.TheVariants.{NotEmpty}
@@ -83,26 +79,3 @@ row-past fault_in size count bytes p some past =
     let whole : count ≤ p / size = le-div count p size some (rw (mul_comm count size) past) in
     let test : nat_lt (p / size) count ≡ false = grind (arith, nat_tests) in
     rw test refl
-
--- Rows without a fault: each row in use has none.
-pub row-sound : (fault_in : List ℕ → FaultOf) (size count n : ℕ) (bytes : List ℕ) (i : ℕ) → i < count
-    → size * i + size ≤ n → HasNoFault (row_fault fault_in size count bytes) n
-    → HasNoFault (fault_in (part bytes (size * i) size)) size
-row-sound fault_in size count n bytes i used inside sound q below =
-    sym (row-at fault_in size count bytes i q used below) ∙ sound (size * i + q) (omega arith)
-
--- a byte that has to be 0 and is no fault
-no-fill : (kind : TableFaultKind) (bytes : List ℕ) (p : ℕ) → zero_fault kind bytes p ≡ None → slice_index bytes p ≡ 0
-no-fill kind bytes p none = grind (arith, nat_tests)
-
--- Rows without a fault: behind those in use stand zeros.
-pub zeros-past : (fault_in : List ℕ → FaultOf) (size count : ℕ) (bytes : List ℕ) → 0 < size
-    → HasNoFault (row_fault fault_in size count bytes) (length bytes)
-    → drop (size * count) bytes ≡ zeros (length bytes - size * count)
-zeros-past fault_in size count bytes some sound =
-    drop-zeros bytes (size * count) (λ p past.
-    elim (cases_lt p (length bytes)) [
-      | inl inside ↦ no-fill NotEmpty bytes p
-          (sym (row-past fault_in size count bytes p some past) ∙ sound p inside)
-      | inr beyond ↦ get_or_past bytes p 0 beyond
-    ])

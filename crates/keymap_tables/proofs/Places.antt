@@ -22,7 +22,7 @@ use Rattle.keymap_tables.specs.declared.layout.Layout.TheVariants.{Wide, Narrow}
 use Rattle.keymap_tables.proofs.Images.{slots-sized, image-slots, image-accents, accents-sized}
 use Rattle.keymap_tables.proofs.RowImages.{IsSized, row-in}
 use Rattle.keymap_tables.proofs.Rows.{filled, length-filled, get_or-filled, flat_map-filled}
-use Rattle.keymap_tables.proofs.Sizes.{cell-inside, slot-inside, accent-inside, slot-blank, accent-blank}
+use Rattle.keymap_tables.proofs.Sizes.{row-inside, slot-blank, accent-blank}
 use Rattle.keymap_tables.proofs.SlotImages.{number-in, mark-in, flag-in}
 
 -- A part of a part.
@@ -75,7 +75,7 @@ pub slot-part : (l : Layout) (m : MapValue) → IsMap m → (s : ℕ) → s < 25
     → part (image_in l m) (slots_place l + slot_size l * s) (slot_size l) ≡ slot_bytes l (entry_at m s)
 slot-part l m is s below =
     sym (part-part (image_in l m) (slots_place l) (slots_size l) (slot_size l * s) (slot_size l)
-    (slot-inside l s below))
+    (row-inside (slot_size l) 256 s below))
     ∙ ap (λ (v : List ℕ). part v (slot_size l * s) (slot_size l)) (image-slots l m is)
     ∙ filled-row (slot_bytes l) (slot_size l) 256 undefined m.entries s (slots-sized l m.entries is.entries)
     (slot-blank l) (length-blank-slot l) is.few_entries below
@@ -85,7 +85,7 @@ pub accent-part : (l : Layout) (m : MapValue) → IsMap m → (i : ℕ) → i < 
     → part (image_in l m) (accents_place l + accent_size l * i) (accent_size l) ≡ accent_bytes l (accent_or_blank m i)
 accent-part l m is i below =
     sym (part-part (image_in l m) (accents_place l) (accents_size l) (accent_size l * i) (accent_size l)
-    (accent-inside l i below))
+    (row-inside (accent_size l) 15 i below))
     ∙ ap (λ (v : List ℕ). part v (accent_size l * i) (accent_size l)) (image-accents l m is)
     ∙ filled-row (accent_bytes l) (accent_size l) 15 blank m.accents i (accents-sized l m.accents is.accents)
     (accent-blank l) (length-blank-accent l) is.few_accents below
@@ -126,7 +126,7 @@ entry-fits l m fits s =
 
 -- the number of each column lies in its slot
 cell-in-slot : (l : Layout) (column : ℕ) → column < 8 → number_size l * column + number_size l ≤ slot_size l
-cell-in-slot l column inside = omega (arith, cell-inside l column inside)
+cell-in-slot l column inside = omega (arith, row-inside (number_size l) 8 column inside)
 
 -- the number and the mark of a cell, and the flag
 pub cell-number : (l : Layout) (m : MapValue) → IsMap m → FitsIn l m → (s column : ℕ) → s < 256 → column < 8

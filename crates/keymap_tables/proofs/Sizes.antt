@@ -1,5 +1,7 @@
 -- Sizes and places at both widths.
-use Rattle.std.proofs.Common.{◌≡◌, ℕ, ◌+◌, ◌-◌, ◌*◌, ◌%◌, ◌<◌, ◌≤◌, length, refl, ap, ◌∙◌, arith}
+use Rattle.std.proofs.Common.{◌≡◌, ℕ, ◌+◌, ◌-◌, ◌*◌, ◌%◌, ◌<◌, ◌≤◌, suc, length, refl, ap, ◌∙◌, arith, add-one, mul-suc}
+use Rattle.std.proofs.Common.{mul_comm}
+use Rattle.std.proofs.Math.Nat.{mul-le-mul_left, mul-sub}
 use Rattle.keymap_core.specs.Accents.{blank}
 use Rattle.keymap_core.specs.Maps.{undefined}
 use Rattle.keymap_tables.specs.Image.{number_bytes, count_bytes, slot_bytes, accent_bytes, zeros}
@@ -7,30 +9,24 @@ use Rattle.keymap_tables.specs.Layouts.{number_size, pad_size, slot_size, pair_s
 use Rattle.keymap_tables.specs.declared.layout.Layout.{Layout}
 use Rattle.keymap_tables.specs.declared.layout.Layout.TheVariants.{Wide, Narrow}
 
+-- row i of so many rows of one size
+pub row-inside : (size n i : ℕ) → i < n → size * i + size ≤ n * size
+row-inside size n i below =
+    omega (arith, mul-le-mul_left {m = suc i} {n = n} size (omega arith), mul-suc size i, mul_comm n size)
+
+-- the next row begins where this one ends
+pub row-next : (size i : ℕ) → size * (i + 1) ≡ size * i + size
+row-next size i = rw add-one (mul-suc size i)
+
+-- the rows in use and the others
+pub rows-size : (size n i : ℕ) → i ≤ n → size * i + size * (n - i) ≡ n * size
+rows-size size n i few =
+    omega (arith, mul-le-mul_left {m = i} {n = n} size few, mul-sub size n i, mul_comm n size)
+
 -- a number has some byte
 pub some-number : (l : Layout) → 0 < number_size l
 some-number Wide = omega arith
 some-number Narrow = omega arith
-
--- Column i of a slot.
-pub cell-inside : (l : Layout) (i : ℕ) → i < 8 → number_size l * i + number_size l ≤ 8 * number_size l
-cell-inside Wide i below = omega arith
-cell-inside Narrow i below = omega arith
-
--- the next cell begins where this one ends
-pub cell-next : (l : Layout) (i : ℕ) → number_size l * (i + 1) ≡ number_size l * i + number_size l
-cell-next Wide i = omega arith
-cell-next Narrow i = omega arith
-
--- no cell is read yet
-pub no-cells : (l : Layout) → number_size l * 0 ≡ 0
-no-cells Wide = omega arith
-no-cells Narrow = omega arith
-
--- eight cells are read
-pub cells-end : (l : Layout) → number_size l * 8 ≡ 8 * number_size l
-cells-end Wide = omega arith
-cells-end Narrow = omega arith
 
 -- an accent has at most 420 bytes
 pub accent-small : (l : Layout) → accent_size l ≤ 420
@@ -56,11 +52,6 @@ pairs-inside Narrow i few = omega arith
 pub at-pair : (l : Layout) (i number pair : ℕ) → number ≡ number_size l → pair ≡ pair_size l
     → number + pair * i ≡ number_size l + pair_size l * i
 at-pair l i number pair one two = ap (λ (k : ℕ). k + pair * i) one ∙ ap (λ (k : ℕ). number_size l + k * i) two
-
--- no pair is read yet
-pub none-read : (l : Layout) → pair_size l * 0 ≡ 0
-none-read Wide = omega arith
-none-read Narrow = omega arith
 
 -- the start is a number's start
 pub none-over : (l : Layout) → 0 % number_size l ≡ 0
@@ -109,46 +100,6 @@ slot-some Narrow = omega arith
 pub accent-some : (l : Layout) → 0 < accent_size l
 accent-some Wide = omega arith
 accent-some Narrow = omega arith
-
--- Slot i, and accent i.
-pub slot-inside : (l : Layout) (i : ℕ) → i < 256 → slot_size l * i + slot_size l ≤ 256 * slot_size l
-slot-inside Wide i below = omega arith
-slot-inside Narrow i below = omega arith
-
--- the next slot begins where this one ends
-pub slot-next : (l : Layout) (i : ℕ) → slot_size l * (i + 1) ≡ slot_size l * i + slot_size l
-slot-next Wide i = omega arith
-slot-next Narrow i = omega arith
-
--- behind n slots is room for the others
-pub slots-rest : (l : Layout) (n : ℕ) → n ≤ 256 → 256 * slot_size l - slot_size l * n ≡ slot_size l * (256 - n)
-slots-rest Wide n few = omega arith
-slots-rest Narrow n few = omega arith
-
--- each of 15 accents lies in the accents' size
-pub accent-inside : (l : Layout) (i : ℕ) → i < 15 → accent_size l * i + accent_size l ≤ 15 * accent_size l
-accent-inside Wide i below = omega arith
-accent-inside Narrow i below = omega arith
-
--- the next accent begins where this one ends
-pub accent-next : (l : Layout) (i : ℕ) → accent_size l * (i + 1) ≡ accent_size l * i + accent_size l
-accent-next Wide i = omega arith
-accent-next Narrow i = omega arith
-
--- a row of slots or accents in use, and zeros in place of the others
-pub slots-whole : (l : Layout) (n : ℕ) → n ≤ 256 → slot_size l * n + slot_size l * (256 - n) ≡ 256 * slot_size l
-slots-whole Wide n few = omega arith
-slots-whole Narrow n few = omega arith
-
--- the accents in use and the others have the accents' size
-pub accents-whole : (l : Layout) (n : ℕ) → n ≤ 15 → accent_size l * n + accent_size l * (15 - n) ≡ 15 * accent_size l
-accents-whole Wide n few = omega arith
-accents-whole Narrow n few = omega arith
-
--- behind n accents is room for the others
-pub accents-rest : (l : Layout) (n : ℕ) → n ≤ 15 → 15 * accent_size l - accent_size l * n ≡ accent_size l * (15 - n)
-accents-rest Wide n few = omega arith
-accents-rest Narrow n few = omega arith
 
 -- how long the bytes of a number and of a count are
 pub length-number : (l : Layout) (n : ℕ) → length (number_bytes l n) ≡ number_size l

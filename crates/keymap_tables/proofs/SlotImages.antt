@@ -1,14 +1,16 @@
 -- The image of a slot: it has no fault, and gives the entry.
 use Rattle.std.proofs.Common.{◌≡◌, ℕ, ◌+◌, ◌-◌, ◌*◌, ◌/◌, ◌%◌, ◌^◌, ◌<◌, ◌≤◌, ◌==◌, suc, zero, List, [], ◌∷◌, ◌++◌}
+use Rattle.std.proofs.Common.{mul_comm, mul-zero}
 use Rattle.std.proofs.Common.{length, get_or, cond, None, refl, sym, ap, ◌∙◌, arith, append_assoc, length-append}
 use Rattle.std.specs.Prelude.{slice_index, Bool, true, false, unwrap_or}
 use Rattle.std.specs.Char.{IsScalar}
 use Rattle.std.specs.Int.{from_le_bytes}
-use Rattle.std.specs.List.{flat_map}
+use Rattle.std.specs.List.{flat_map, fold}
 use Rattle.std.proofs.lemmas.Bool.Decides.{nat_tests}
 use Rattle.std.proofs.lemmas.List.{get_or-append_right, length-replicate, same_lists}
 use Rattle.std.proofs.lemmas.List.Elements.{All-get_or}
 use Rattle.std.proofs.lemmas.Nat.{from_le_bytes-to_le_bytes_4}
+use Rattle.std.proofs.Math.Nat.{pow-suc, div-div-eq-div-mul}
 use Rattle.keymap_core.specs.Actions.{IsAction, code_of, action_of, within}
 use Rattle.keymap_core.specs.declared.action.Action.{Action}
 use Rattle.keymap_core.specs.declared.action.Action.TheVariants as a
@@ -29,41 +31,19 @@ use Rattle.keymap_tables.specs.Layouts.{number_width, number_size, number_limit,
 use Rattle.keymap_tables.specs.declared.layout.Layout.{Layout}
 use Rattle.keymap_tables.specs.declared.layout.Layout.TheVariants.{Wide, Narrow}
 use Rattle.keymap_tables.proofs.RowImages.{IsSized, length-rows, row-in, zeros-behind}
-use Rattle.keymap_tables.proofs.Sizes.{no-cells, cells-end, length-number}
+use Rattle.keymap_tables.proofs.Sizes.{length-number}
 use Rattle.keymap_tables.proofs.Cells.{sound-more, slot-none, small-flag}
 use Rattle.keymap_core.proofs.CodeLaws.{code-read}
 
 -- The codes are small, and none is that of a combined action.
 pub code-bounds : (action : Action) → IsAction action
     → (code_of action < 256) × (within 0x9b 0xa0 (code_of action) ≡ false)
-code-bounds a.Nop known = (omega arith, refl)
-code-bounds (a.Mod m.LeftShift) known = (omega arith, refl)
-code-bounds (a.Mod m.RightShift) known = (omega arith, refl)
-code-bounds (a.Mod m.LeftControl) known = (omega arith, refl)
-code-bounds (a.Mod m.RightControl) known = (omega arith, refl)
-code-bounds (a.Mod m.LeftAlt) known = (omega arith, refl)
-code-bounds (a.Mod m.RightAlt) known = (omega arith, refl)
-code-bounds (a.Mod m.AltShift) known = (omega arith, refl)
-code-bounds (a.Mod m.Meta) known = (omega arith, refl)
-code-bounds (a.Lock lock.Caps) known = (omega arith, refl)
-code-bounds (a.Lock lock.Num) known = (omega arith, refl)
-code-bounds (a.Lock lock.Scroll) known = (omega arith, refl)
-code-bounds (a.Lock lock.Alt) known = (omega arith, refl)
-code-bounds a.BackTab known = (omega arith, refl)
-code-bounds a.NextScreen known = (omega arith, refl)
-code-bounds a.PreviousScreen known = (omega arith, refl)
 code-bounds (a.Screen n) known = (omega arith, grind (arith, nat_tests))
 code-bounds (a.Function n) known = (omega arith, grind (arith, nat_tests))
 code-bounds (a.DeadKey n) known = (omega arith, grind (arith, nat_tests))
-code-bounds a.Boot known = (omega arith, refl)
-code-bounds a.Debug known = (omega arith, refl)
-code-bounds a.Suspend known = (omega arith, refl)
-code-bounds a.Saver known = (omega arith, refl)
-code-bounds a.Standby known = (omega arith, refl)
-code-bounds a.Panic known = (omega arith, refl)
-code-bounds a.Halt known = (omega arith, refl)
-code-bounds a.PowerDown known = (omega arith, refl)
-code-bounds a.Paste known = (omega arith, refl)
+code-bounds (a.Mod m.LeftShift) known = (omega arith, refl)
+code-bounds (a.Lock lock.Caps) known = (omega arith, refl)
+code-bounds _ known = (omega arith, refl)
 
 -- A scalar value is small, and no fault.
 pub scalar-small : (c : ℕ) → IsScalar c → c < 2 ^ 32
@@ -103,103 +83,35 @@ bit-test : (cell : Cell) → (bit cell == 1) ≡ is_act cell
 bit-test (Char c) = refl
 bit-test (Act action) = refl
 
--- eight bits in one number
-abbrev eight_bits : ℕ → ℕ → ℕ → ℕ → ℕ → ℕ → ℕ → ℕ → ℕ
-eight_bits b0 b1 b2 b3 b4 b5 b6 b7 =
-    2 * (2 * (2 * (2 * (2 * (2 * (2 * (2 * 0 + b0) + b1) + b2) + b3) + b4) + b5) + b6) + b7
+-- the marks of cells behind those of a number
+abbrev marks_from : ℕ → List Cell → ℕ
+marks_from n cells = fold (λ k cell. 2 * k + bit cell) n cells
 
--- each of eight bits, cut out of their number again
-bit-0 : (b0 b1 b2 b3 b4 b5 b6 b7 : ℕ) → b0 < 2 → b1 < 2 → b2 < 2 → b3 < 2 → b4 < 2 → b5 < 2 → b6 < 2 → b7 < 2
-    → eight_bits b0 b1 b2 b3 b4 b5 b6 b7 / 2 ^ (7 - 0) % 2 ≡ b0
-bit-0 b0 b1 b2 b3 b4 b5 b6 b7 s0 s1 s2 s3 s4 s5 s6 s7 = omega arith
+-- above the marks of the cells stands the number
+marks-high : (n : ℕ) (cells : List Cell) → marks_from n cells / 2 ^ length cells ≡ n
+marks-high n [] = omega arith
+marks-high n (c ∷ cells) =
+    let half : (2 * n + bit c) / 2 ≡ n = omega (arith, bit-small c) in
+    ap (λ (k : ℕ). marks_from (2 * n + bit c) cells / k) (pow-suc 2 (length cells))
+    ∙ sym (div-div-eq-div-mul (marks_from (2 * n + bit c) cells) (2 ^ length cells) 2)
+    ∙ ap (λ (k : ℕ). k / 2) (marks-high (2 * n + bit c) cells) ∙ half
 
-bit-1 : (b0 b1 b2 b3 b4 b5 b6 b7 : ℕ) → b0 < 2 → b1 < 2 → b2 < 2 → b3 < 2 → b4 < 2 → b5 < 2 → b6 < 2 → b7 < 2
-    → eight_bits b0 b1 b2 b3 b4 b5 b6 b7 / 2 ^ (7 - 1) % 2 ≡ b1
-bit-1 b0 b1 b2 b3 b4 b5 b6 b7 s0 s1 s2 s3 s4 s5 s6 s7 = omega arith
-
-bit-2 : (b0 b1 b2 b3 b4 b5 b6 b7 : ℕ) → b0 < 2 → b1 < 2 → b2 < 2 → b3 < 2 → b4 < 2 → b5 < 2 → b6 < 2 → b7 < 2
-    → eight_bits b0 b1 b2 b3 b4 b5 b6 b7 / 2 ^ (7 - 2) % 2 ≡ b2
-bit-2 b0 b1 b2 b3 b4 b5 b6 b7 s0 s1 s2 s3 s4 s5 s6 s7 = omega arith
-
-bit-3 : (b0 b1 b2 b3 b4 b5 b6 b7 : ℕ) → b0 < 2 → b1 < 2 → b2 < 2 → b3 < 2 → b4 < 2 → b5 < 2 → b6 < 2 → b7 < 2
-    → eight_bits b0 b1 b2 b3 b4 b5 b6 b7 / 2 ^ (7 - 3) % 2 ≡ b3
-bit-3 b0 b1 b2 b3 b4 b5 b6 b7 s0 s1 s2 s3 s4 s5 s6 s7 = omega arith
-
-bit-4 : (b0 b1 b2 b3 b4 b5 b6 b7 : ℕ) → b0 < 2 → b1 < 2 → b2 < 2 → b3 < 2 → b4 < 2 → b5 < 2 → b6 < 2 → b7 < 2
-    → eight_bits b0 b1 b2 b3 b4 b5 b6 b7 / 2 ^ (7 - 4) % 2 ≡ b4
-bit-4 b0 b1 b2 b3 b4 b5 b6 b7 s0 s1 s2 s3 s4 s5 s6 s7 = omega arith
-
-bit-5 : (b0 b1 b2 b3 b4 b5 b6 b7 : ℕ) → b0 < 2 → b1 < 2 → b2 < 2 → b3 < 2 → b4 < 2 → b5 < 2 → b6 < 2 → b7 < 2
-    → eight_bits b0 b1 b2 b3 b4 b5 b6 b7 / 2 ^ (7 - 5) % 2 ≡ b5
-bit-5 b0 b1 b2 b3 b4 b5 b6 b7 s0 s1 s2 s3 s4 s5 s6 s7 = omega arith
-
-bit-6 : (b0 b1 b2 b3 b4 b5 b6 b7 : ℕ) → b0 < 2 → b1 < 2 → b2 < 2 → b3 < 2 → b4 < 2 → b5 < 2 → b6 < 2 → b7 < 2
-    → eight_bits b0 b1 b2 b3 b4 b5 b6 b7 / 2 ^ (7 - 6) % 2 ≡ b6
-bit-6 b0 b1 b2 b3 b4 b5 b6 b7 s0 s1 s2 s3 s4 s5 s6 s7 = omega arith
-
-bit-7 : (b0 b1 b2 b3 b4 b5 b6 b7 : ℕ) → b0 < 2 → b1 < 2 → b2 < 2 → b3 < 2 → b4 < 2 → b5 < 2 → b6 < 2 → b7 < 2
-    → eight_bits b0 b1 b2 b3 b4 b5 b6 b7 / 2 ^ (7 - 7) % 2 ≡ b7
-bit-7 b0 b1 b2 b3 b4 b5 b6 b7 s0 s1 s2 s3 s4 s5 s6 s7 = omega arith
-
--- a list of eight
-eight-of : {X : Type 0} (P : List X → Type 0) (xs : List X) → length xs ≡ 8
-    → ((c0 c1 c2 c3 c4 c5 c6 c7 : X) → P (c0 ∷ c1 ∷ c2 ∷ c3 ∷ c4 ∷ c5 ∷ c6 ∷ c7 ∷ [])) → P xs
-eight-of P (c0 ∷ c1 ∷ c2 ∷ c3 ∷ c4 ∷ c5 ∷ c6 ∷ c7 ∷ []) eight holds = holds c0 c1 c2 c3 c4 c5 c6 c7
-eight-of P _ eight holds = absurd (omega arith)
-
--- the mark of a column
-mark-column : (c0 c1 c2 c3 c4 c5 c6 c7 : Cell) (d : Cell) (i : ℕ) → i < 8
-    → (marks_of (c0 ∷ c1 ∷ c2 ∷ c3 ∷ c4 ∷ c5 ∷ c6 ∷ c7 ∷ []) / 2 ^ (7 - i) % 2 == 1)
-    ≡ is_act (get_or (c0 ∷ c1 ∷ c2 ∷ c3 ∷ c4 ∷ c5 ∷ c6 ∷ c7 ∷ []) i d)
-mark-column c0 c1 c2 c3 c4 c5 c6 c7 d zero below =
-    ap (λ (n : ℕ). n == 1)
-    (bit-0 (bit c0) (bit c1) (bit c2) (bit c3) (bit c4) (bit c5) (bit c6) (bit c7) (bit-small c0) (bit-small c1)
-    (bit-small c2) (bit-small c3) (bit-small c4) (bit-small c5) (bit-small c6) (bit-small c7))
-    ∙ bit-test c0
-mark-column c0 c1 c2 c3 c4 c5 c6 c7 d (suc zero) below =
-    ap (λ (n : ℕ). n == 1)
-    (bit-1 (bit c0) (bit c1) (bit c2) (bit c3) (bit c4) (bit c5) (bit c6) (bit c7) (bit-small c0) (bit-small c1)
-    (bit-small c2) (bit-small c3) (bit-small c4) (bit-small c5) (bit-small c6) (bit-small c7))
-    ∙ bit-test c1
-mark-column c0 c1 c2 c3 c4 c5 c6 c7 d (suc (suc zero)) below =
-    ap (λ (n : ℕ). n == 1)
-    (bit-2 (bit c0) (bit c1) (bit c2) (bit c3) (bit c4) (bit c5) (bit c6) (bit c7) (bit-small c0) (bit-small c1)
-    (bit-small c2) (bit-small c3) (bit-small c4) (bit-small c5) (bit-small c6) (bit-small c7))
-    ∙ bit-test c2
-mark-column c0 c1 c2 c3 c4 c5 c6 c7 d (suc (suc (suc zero))) below =
-    ap (λ (n : ℕ). n == 1)
-    (bit-3 (bit c0) (bit c1) (bit c2) (bit c3) (bit c4) (bit c5) (bit c6) (bit c7) (bit-small c0) (bit-small c1)
-    (bit-small c2) (bit-small c3) (bit-small c4) (bit-small c5) (bit-small c6) (bit-small c7))
-    ∙ bit-test c3
-mark-column c0 c1 c2 c3 c4 c5 c6 c7 d (suc (suc (suc (suc zero)))) below =
-    ap (λ (n : ℕ). n == 1)
-    (bit-4 (bit c0) (bit c1) (bit c2) (bit c3) (bit c4) (bit c5) (bit c6) (bit c7) (bit-small c0) (bit-small c1)
-    (bit-small c2) (bit-small c3) (bit-small c4) (bit-small c5) (bit-small c6) (bit-small c7))
-    ∙ bit-test c4
-mark-column c0 c1 c2 c3 c4 c5 c6 c7 d (suc (suc (suc (suc (suc zero))))) below =
-    ap (λ (n : ℕ). n == 1)
-    (bit-5 (bit c0) (bit c1) (bit c2) (bit c3) (bit c4) (bit c5) (bit c6) (bit c7) (bit-small c0) (bit-small c1)
-    (bit-small c2) (bit-small c3) (bit-small c4) (bit-small c5) (bit-small c6) (bit-small c7))
-    ∙ bit-test c5
-mark-column c0 c1 c2 c3 c4 c5 c6 c7 d (suc (suc (suc (suc (suc (suc zero)))))) below =
-    ap (λ (n : ℕ). n == 1)
-    (bit-6 (bit c0) (bit c1) (bit c2) (bit c3) (bit c4) (bit c5) (bit c6) (bit c7) (bit-small c0) (bit-small c1)
-    (bit-small c2) (bit-small c3) (bit-small c4) (bit-small c5) (bit-small c6) (bit-small c7))
-    ∙ bit-test c6
-mark-column c0 c1 c2 c3 c4 c5 c6 c7 d (suc (suc (suc (suc (suc (suc (suc zero))))))) below =
-    ap (λ (n : ℕ). n == 1)
-    (bit-7 (bit c0) (bit c1) (bit c2) (bit c3) (bit c4) (bit c5) (bit c6) (bit c7) (bit-small c0) (bit-small c1)
-    (bit-small c2) (bit-small c3) (bit-small c4) (bit-small c5) (bit-small c6) (bit-small c7))
-    ∙ bit-test c7
-mark-column c0 c1 c2 c3 c4 c5 c6 c7 d (suc (suc (suc (suc (suc (suc (suc (suc i)))))))) below = absurd (omega arith)
+-- the mark of a cell, by how many follow it
+mark-at : (cells : List Cell) (n : ℕ) (d : Cell) (i k : ℕ) → k + i + 1 ≡ length cells
+    → marks_from n cells / 2 ^ k % 2 ≡ bit (get_or cells i d)
+mark-at [] n d i k end = absurd (omega arith)
+mark-at (c ∷ cells) n d zero k end =
+    let all : k ≡ length cells = omega arith in
+    let last : (2 * n + bit c) % 2 ≡ bit c = omega (arith, bit-small c) in
+    ap (λ (j : ℕ). marks_from (2 * n + bit c) cells / 2 ^ j % 2) all
+    ∙ ap (λ (j : ℕ). j % 2) (marks-high (2 * n + bit c) cells) ∙ last
+mark-at (c ∷ cells) n d (suc i) k end = mark-at cells (2 * n + bit c) d i k (omega arith)
 
 -- the mark of a column, cut out of the marks of eight cells
 mark-bit : (cells : List Cell) → length cells ≡ 8 → (d : Cell) (i : ℕ) → i < 8
     → (marks_of cells / 2 ^ (7 - i) % 2 == 1) ≡ is_act (get_or cells i d)
-mark-bit cells eight =
-    eight-of (λ (cells : List Cell).
-    (d : Cell) (i : ℕ) → i < 8 → (marks_of cells / 2 ^ (7 - i) % 2 == 1) ≡ is_act (get_or cells i d))
-    cells eight mark-column
+mark-bit cells eight d i below =
+    ap (λ (n : ℕ). n == 1) (mark-at cells 0 d i (7 - i) (omega (arith, eight))) ∙ bit-test (get_or cells i d)
 
 -- the number of its bytes
 pub number-back : (l : Layout) (n : ℕ) → n < number_limit l → from_le_bytes (number_width l) (number_bytes l n) ≡ n
@@ -221,7 +133,7 @@ cells-long : (l : Layout) (entry : Entry) → IsEntry entry
     → length (flat_map (cell_bytes l) entry.cells) ≡ 8 * number_size l
 cells-long l entry known =
     length-rows (cell_bytes l) (number_size l) entry.cells (cells-sized l entry.cells)
-    ∙ ap (λ (n : ℕ). number_size l * n) known.eight ∙ cells-end l
+    ∙ ap (λ (n : ℕ). number_size l * n) known.eight ∙ mul_comm (number_size l) 8
 
 -- what follows the cells of a slot
 abbrev tail_of : Layout → Entry → List ℕ
@@ -287,7 +199,7 @@ length-slot_bytes l entry known =
 -- No fault up to a cell.
 cells-sound : (l : Layout) (entry : Entry) → IsEntry entry → EntryFits l entry → (i : ℕ) → i ≤ 8
     → HasNoFault (slot_fault l (slot_bytes l entry)) (number_size l * i)
-cells-sound l entry known fits zero few p below = absurd (omega (arith, below, no-cells l))
+cells-sound l entry known fits zero few p below = absurd (omega (arith, below, mul-zero (number_size l)))
 cells-sound l entry known fits (suc i) few p below =
     let bytes = slot_bytes l entry in
     let inside : i < length entry.cells = omega (arith, known.eight) in
@@ -305,7 +217,7 @@ pub slot_bytes-sound : (l : Layout) (entry : Entry) → IsEntry entry → EntryF
     → HasNoFault (slot_fault l (slot_bytes l entry)) (slot_size l)
 slot_bytes-sound l entry known fits =
     let cells : HasNoFault (slot_fault l (slot_bytes l entry)) (8 * number_size l) =
-    λ p below. cells-sound l entry known fits 8 (omega arith) p (omega (arith, below, cells-end l)) in
+    λ p below. cells-sound l entry known fits 8 (omega arith) p (omega (arith, below, mul_comm (number_size l) 8)) in
     slot-none l (slot_bytes l entry) (slot_size l) cells
     (small-flag (slice_index (slot_bytes l entry) (8 * number_size l + 1)) entry.flag (sym (flag-in l entry known)))
     (λ p past below. pads-in l entry p known past)
@@ -321,9 +233,7 @@ flag_of (suc (suc (suc n))) = flag.B
 flag-again : (k : LockFlag) → flag_of (flag_number k) ≡ k
 unfolding flag_of
 flag-again flag.O = refl
-flag-again flag.C = refl
-flag-again flag.N = refl
-flag-again flag.B = refl
+flag-again _ = refl
 
 -- lock flags are the same where their numbers are
 pub same-flag : (x y : LockFlag) → flag_number x ≡ flag_number y → x ≡ y

@@ -1,3 +1,3 @@
 -- What mirrors functions of the code, or tells of private fields. Private contracts cite it; no public clause does.
-pub mod Counted
 pub mod Firsts
+pub mod Taken

@@ -1,4 +1,6 @@
 pub mod Faults
+pub mod Files
+pub mod Filled
 pub mod Fits
 pub mod Image
 pub mod Inner

@@ -18,8 +18,11 @@
 
 mod accent;
 mod check;
+mod content;
 mod count;
 mod fault;
+mod file;
+mod filling;
 pub mod laws;
 mod layout;
 mod narrow;
@@ -34,6 +37,8 @@ mod write;
 
 pub use check::check_tables;
 pub use fault::{TableError, TableFault, TableFaultKind};
+pub use file::TableFile;
+pub use filling::Filling;
 pub use layout::{NARROW_FILE, WIDE_FILE};
 pub use narrow::{NarrowError, Wide, write_narrow};
 pub use read::{read_narrow, read_tables};

@@ -1,6 +1,6 @@
 //! Reading of the numbers of a table.
 ghost use Rattle.std.specs.Prelude.{◌≡◌, ℕ, ◌+◌, ◌-◌, ◌<◌, ◌≤◌, length, slice_index, IfOk, IfErr, OnOk, None, Some};
-ghost use Rattle.std.specs.Prelude.{MatchResult};
+ghost use Rattle.std.specs.Prelude.{MatchResult, IsTrue};
 ghost use Rattle.std.specs.Char.{IsScalar};
 ghost use Rattle.keymap_core.specs.Bounds.{IsCell};
 ghost use Rattle.keymap_tables.specs.Faults.{number_at, count_at, char_fault, action_fault, cell_fault, count_fault};
@@ -75,13 +75,36 @@ pub(crate) fn cell_of(number: u32, is_marked: bool) -> Result<Cell, TableFaultKi
     }
 }
 
+/// Are the first eight bytes 0?
+fn begins_with_zeros(bytes: &[u8]) -> bool
+    requires { 8 ≤ length bytes.now }
+    ensures { IsTrue result → (p : ℕ) → p < 8 → slice_index bytes.now p ≡ 0 }
+{
+    let eight = bytes.first_chunk::<8>().unwrap();
+    u64::from_le_bytes(*eight) == 0
+}
+
+/// A place behind zeros, from a place on: eight are seen at once, and the last few aren't looked at.
+fn past_zeros(bytes: &[u8], from: usize) -> usize
+    requires { from ≤ length bytes.now }
+    ensures past { from ≤ result }
+    ensures inside { result ≤ length bytes.now }
+    ensures zeros { (p : ℕ) → from ≤ p → p < result → slice_index bytes.now p ≡ 0 }
+{
+    let mut place = from;
+    while bytes.len() - place >= 8 && begins_with_zeros(&bytes[place..]) {
+        place += 8;
+    }
+    place
+}
+
 /// Looks for a byte that isn't 0, from a place on. It is a fault of this kind.
 pub(crate) fn check_zeros(bytes: &[u8], from: usize, kind: TableFaultKind) -> Result<(), TableFault>
     requires { from ≤ length bytes.now }
     ensures none { OnOk result ((p : ℕ) → from ≤ p → slice_index bytes.now p ≡ 0) }
     ensures first { IfErr result (IsFirstFilled bytes.now from kind) }
 {
-    for place in from..bytes.len() {
+    for place in past_zeros(bytes, from)..bytes.len() {
         if bytes[place] != 0 {
             return Err(TableFault {
                 offset: place as u64,

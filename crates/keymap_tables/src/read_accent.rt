@@ -50,17 +50,3 @@ pub(crate) fn read_accent(layout: Layout, bytes: &[u8]) -> Result<Accent, TableF
     check_zeros(bytes, end, TableFaultKind::NotEmpty)?;
     Ok(accent)
 }
-
-/// The accent whose image the bytes are, where they have no fault.
-pub(crate) fn accent_of(layout: Layout, bytes: &[u8]) -> Accent
-    requires whole { length bytes.now ≡ accent_size layout }
-    requires sound { HasNoFault (accent_fault layout bytes.now) (accent_size layout) }
-    ensures image { bytes.now ≡ accent_bytes layout result }
-    ensures known { IsAccent result }
-    ensures fits { AccentFits layout result }
-{
-    match read_accent(layout, bytes) {
-        Ok(accent) => accent,
-        Err(_) => unreachable!(),
-    }
-}

@@ -79,17 +79,3 @@ pub(crate) fn read_slot(layout: Layout, bytes: &[u8]) -> Result<Entry, TableFaul
     check_zeros(bytes, flag_at + 1, TableFaultKind::BadPad)?;
     Ok(Entry { cells, flag })
 }
-
-/// The entry whose image the bytes are, where they have no fault.
-pub(crate) fn slot_of(layout: Layout, bytes: &[u8]) -> Entry
-    requires whole { length bytes.now ≡ slot_size layout }
-    requires sound { HasNoFault (slot_fault layout bytes.now) (slot_size layout) }
-    ensures image { bytes.now ≡ slot_bytes layout result }
-    ensures known { IsEntry result }
-    ensures fits { EntryFits layout result }
-{
-    match read_slot(layout, bytes) {
-        Ok(entry) => entry,
-        Err(_) => unreachable!(),
-    }
-}

@@ -1,9 +1,9 @@
 //! A keymap that is read in place, from the bytes of a table file.
-ghost use Rattle.std.specs.Prelude.{◌≡◌, ◌+◌, ◌*◌, ◌<◌, ◌↔◌, length, IfSome, IsSome, slice_index_or};
+ghost use Rattle.std.specs.Prelude.{◌≡◌, ◌+◌, ◌*◌, ◌<◌, ◌≤◌, ◌↔◌, length, IfSome, IsSome, slice_index_or};
 ghost use Rattle.keymap_core.specs.Accents.{AccentValue, first_result};
-ghost use Rattle.keymap_core.specs.Maps.{MapValue, n_accs_of, entry_at, accent_or_blank};
+ghost use Rattle.keymap_core.specs.Maps.{MapValue, n_keys_of, n_accs_of, entry_at, accent_or_blank};
 ghost use Rattle.keymap_core.specs.Bounds.{IsEntry, IsAccent, IsMap};
-ghost use Rattle.keymap_core.specs.Numbers.{column_count};
+ghost use Rattle.keymap_core.specs.Numbers.{column_count, slot_limit, accent_limit};
 ghost use Rattle.keymap_core.specs.declared.entry.Entry.{Entry as EntryValue};
 ghost use Rattle.keymap_tables.specs.Image.{image, slot_bytes, accent_bytes};
 ghost use Rattle.keymap_tables.specs.Layouts.{wide, slot_size, accent_size, file_size};
@@ -12,8 +12,9 @@ use crate::layout::{
     ACCENT, Layout, SLOT, WIDE_ACCENTS_AT, WIDE_FILE, WIDE_N_ACCS_AT, WIDE_SLOTS_AT,
 };
 use crate::number::{cell_of, read_char, read_half, read_number};
-use crate::read_slot::flag_of;
-use keymap_core::{ACCENT_LIMIT, Cell, Keymap, LockFlag, PAIR_LIMIT};
+use crate::read_accent::read_accent;
+use crate::read_slot::{flag_of, read_slot};
+use keymap_core::{ACCENT_LIMIT, Accent, Cell, Entry, Keymap, LockFlag, PAIR_LIMIT, SLOT_LIMIT};
 
 /// The bytes of a number, and of a pair of an accent.
 const NUMBER: usize = 4;
@@ -129,6 +130,55 @@ impl<'a> Tables<'a> {
             Some(&self.bytes[at..at + ACCENT])
         } else {
             None
+        }
+    }
+
+    /// How many slots are in use, no more than there are.
+    pub fn n_keys(&self) -> u16
+        ensures count { (m : MapValue) → ⟦<Tables<'a> as Keymap>⟧.shows self.now m → result ≡ n_keys_of m }
+        ensures few { result ≤ slot_limit }
+    {
+        let n_keys = read_half(&self.bytes[..WIDE_SLOTS_AT]);
+        if n_keys > SLOT_LIMIT as u16 {
+            SLOT_LIMIT as u16
+        } else {
+            n_keys
+        }
+    }
+
+    /// How many accents are in use, no more than there are.
+    pub fn n_accs(&self) -> u8
+        ensures count { (m : MapValue) → ⟦<Tables<'a> as Keymap>⟧.shows self.now m → result ≡ n_accs_of m }
+        ensures few { result ≤ accent_limit }
+    {
+        let n_accs = read_half(&self.bytes[WIDE_N_ACCS_AT..WIDE_ACCENTS_AT]);
+        if n_accs > ACCENT_LIMIT as u16 {
+            ACCENT_LIMIT as u8
+        } else {
+            n_accs as u8
+        }
+    }
+
+    /// The entry of the slot.
+    pub fn entry_at(&self, slot: u8) -> Entry
+        ensures { (m : MapValue) → ⟦<Tables<'a> as Keymap>⟧.shows self.now m → result ≡ entry_at m slot }
+    {
+        match read_slot(Layout::Wide, self.slot(slot)) {
+            Ok(entry) => entry,
+            Err(_) => Entry::undefined(),
+        }
+    }
+
+    /// The accent of the index, a blank one past those that are in use.
+    pub fn accent_at(&self, index: u8) -> Accent
+        ensures { (m : MapValue) → ⟦<Tables<'a> as Keymap>⟧.shows self.now m → result ≡ accent_or_blank m index }
+    {
+        let Some(bytes) = self.accent(index) else {
+            return Accent::new('\0');
+        };
+        match read_accent(Layout::Wide, bytes) {
+            Ok(accent) => accent,
+            Err(_) => Accent::new('\0'),
         }
     }
 }

@@ -1,6 +1,6 @@
 -- What the search keeps: the states that it has met, in their order, each with how it was come to, and which of them
 -- are done. Mirrors `Held` and `Keymaps` of src/held.rt and the functions of src/search.rt.
-use Rattle.std.specs.Prelude.{◌≡◌, ◌≢◌, ℕ, ◌+◌, ◌<◌, ◌≤◌, false, true, List, [], ◌∷◌, ◌++◌, All, None, Some, slice_get}
+use Rattle.std.specs.Prelude.{◌≡◌, ◌≢◌, ℕ, ◌+◌, ◌<◌, ◌≤◌, Bool, false, true, length, List, [], ◌∷◌, ◌++◌, All, None, Some, slice_get}
 use Rattle.std.specs.Prelude.{slice_index_or, reverse}
 use Rattle.keymap_core.specs.declared.action.Modifier.{Modifier}
 use Rattle.keymap_core.specs.declared.action.Lock.{Lock}
@@ -17,6 +17,8 @@ use Rattle.console_core.specs.declared.held.Move.{Move}
 use Rattle.console_core.specs.declared.held.Move.TheVariants.{Hold, Turn, LetGo, Exchange}
 use Rattle.console_core.specs.declared.held.Step.{Step}
 use Rattle.console_core.specs.declared.search.Origin.{Origin}
+use Rattle.console_core.specs.declared.search.End.{End}
+use Rattle.console_core.specs.declared.search.End.TheVariants as end
 use Rattle.console_core.specs.declared.outcome.Sticking.{Sticking}
 use Rattle.console_core.specs.declared.outcome.Sticking.TheVariants.{Sticks, Never, Undecided}
 use Rattle.console_core.specs.History.{between, in_force, is_on_after, HasKeys, HasNoLoads}
@@ -24,7 +26,7 @@ use Rattle.console_core.specs.Headline.{IsOnOnlyWhilePressed, IsOffOnceQuiet}
 use Rattle.console_core.specs.Moves.{Under, State, start, look_in, Holds, IsIdle, HolderForgets, IsForgetful, IsMove}
 use Rattle.console_core.specs.Moves.{moved, IsPath, presses_of, presses_along}
 use Rattle.console_core.specs.Moves.{state_after, script_of_path, with_holder, with_lock_turned}
-use Rattle.console_core.specs.Sticking.{SticksBetween, ReachesMoreThan, presses, state_limit}
+use Rattle.console_core.specs.Sticking.{SticksBetween, ReachesMoreThan, ReleasesPressedKeys, presses, state_limit}
 
 -- the state that the tables are
 abbrev pub state_of : Held → State
@@ -106,11 +108,10 @@ IsReached u es j x =
     (path : List Move) × IsTrail es j path × IsPath u path × (state_after u path ≡ state_of x.0)
     × (presses_along path ≡ x.1.presses) × ((state_of x.0).is_locked Scroll ≡ false)
 
--- No holder looks up a character, and where letting go and a load lead was met by as many presses.
+-- where letting go and a load lead was met by as many presses
 abbrev pub IsClosed : Under → Entries → Entry → Type 0
 IsClosed u es x =
     ((i : Modifier) → IsLetGoMet es x.1.presses (state_of x.0) i) × IsExchangeMet u es x.1.presses (state_of x.0)
-    × (IsForgetful u (state_of x.0) → ⊥)
 
 -- where presses lead was met by one press more
 abbrev pub IsPressed : Under → Entries → Entry → Type 0
@@ -123,6 +124,10 @@ pub record Searched (u : Under) (es : Entries) (pressed_to closed_to : ℕ) : Ty
   pub reached : (j : ℕ) (x : Entry) → slice_get es j ≡ Some x → IsReached u es j x
   pub pressed : (j : ℕ) (x : Entry) → slice_get es j ≡ Some x → j < pressed_to → IsPressed u es x
   pub closed : (j : ℕ) (x : Entry) → slice_get es j ≡ Some x → j < closed_to → IsClosed u es x
+
+-- in the states below the place no holder looks up a character
+abbrev pub AreSafe : Under → Entries → ℕ → Type 0
+AreSafe u es n = (j : ℕ) (x : Entry) → slice_get es j ≡ Some x → j < n → IsForgetful u (state_of x.0) → ⊥
 
 -- those below the place were met by fewer presses, and the others by p
 abbrev pub AreInOrder : Entries → ℕ → ℕ → Type 0
@@ -157,7 +162,8 @@ Admits u h = u.has_loads ≡ false → HasNoLoads h
 
 -- some modifier sticks after this list, and after none that is admitted and has fewer presses
 abbrev pub LeavesOnUnder : Under → List Event → Type 0
-LeavesOnUnder u h = HasKeys h × All (IsSent u) h × ((i : Modifier) × SticksBetween u.maps h i)
+LeavesOnUnder u h =
+    HasKeys h × All (IsSent u) h × ((i : Modifier) × SticksBetween u.maps h i) × ReleasesPressedKeys h
 
 abbrev pub HasFewestUnder : Under → List Event → Type 0
 HasFewestUnder u h =
@@ -180,3 +186,13 @@ abbrev pub IsAnswerUnder : Under → Sticking → Type 0
 IsAnswerUnder u (Sticks events) = LeavesOnUnder u (reverse events.items) × HasFewestUnder u (reverse events.items)
 IsAnswerUnder u Never = NeverUnder u
 IsAnswerUnder u (Undecided p) = ReachesMoreThan u state_limit p × NoneUnderBy u p
+
+-- How a search ended, and what it had met then. One that stops does so where a holder looks up a character, and one
+-- that doesn't goes on behind such a state.
+abbrev pub HasEnded : Under → Bool → Entries → End → Type 0
+HasEnded u stops es (end.AtStuck x) =
+    (stops ≡ true) × IsStuck u es x.place x.key
+    × ((level p : ℕ) × AreInOrder es level p × Searched u es level level × AreSafe u es level)
+HasEnded u stops es end.Complete =
+    Searched u es (length es) (length es) × (stops ≡ true → AreSafe u es (length es))
+HasEnded u stops es (end.TooMany p) = ReachesMoreThan u state_limit p × (stops ≡ true → NoneUnderBy u p)

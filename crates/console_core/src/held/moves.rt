@@ -5,18 +5,20 @@ ghost use Rattle.keymap_core.specs.Borne.{is_borne};
 ghost use Rattle.keymap_core.specs.Actions.{modifiers};
 ghost use Rattle.keymap_core.specs.Numbers.{key_count};
 ghost use Rattle.keymap_core.specs.declared.action.Modifier.{Modifier as ModifierValue};
-ghost use Rattle.console_core.specs.Columns.{slot_of, is_upper};
+ghost use Rattle.keymap_core.specs.declared.action.Action.TheVariants.{DeadKey};
+ghost use Rattle.keymap_core.specs.declared.entry.Cell.TheVariants.{Act};
 ghost use Rattle.console_core.specs.Moves.{Under, start as start_state, is_held as is_held_in, look_in, IsIdle};
 ghost use Rattle.console_core.specs.Moves.{map_in, next_map, exchanged as exchanged_in, IsFree};
 ghost use Rattle.console_core.specs.Moves.{with_holder as with_holder_in, with_lock_turned, HolderForgets};
 ghost use Rattle.console_core.specs.Moves.{IsForgetful, events_of_move, releases};
+ghost use Rattle.console_core.specs.Sights.{selection_of};
 ghost use Rattle.console_core.specs.Inner.Searching.{state_of, under_of, Entries, IsMetBy, IsLetGoMet};
 ghost use Rattle.console_core.specs.Inner.Searching.{IsExchangeMet, ArePressesMet, IsStep};
 ghost use Rattle.console_core.specs.Inner.HeldBytes.{holder_number, bytes_of, held-equal, bool_equal, same-bytes};
 
 use super::{Held, Keymaps, Move, Step};
 use crate::event::Event;
-use crate::rules::{column, flips};
+use crate::selection::Selection;
 use keymap_core::{Action, Cell, Holding, KEY_COUNT, KeyCode, KeyMap, Lock, MODIFIERS, Modifier};
 use std::alloc::AllocError;
 use std::hash::{Hash, Hasher};
@@ -137,16 +139,17 @@ impl Held {
         self.is_held(left) || self.is_held(right)
     }
 
-    fn slot(&self, key: KeyCode) -> u8
-        ensures in_range { key < key_count }
-        ensures value { result
-            ≡ slot_of key (is_upper (λ i. is_held_in (state_of self.now) i) (λ l. (state_of self.now).is_locked l)) }
+    /// What of the state picks the cell that a key looks up.
+    pub fn selection(&self) -> Selection
+        ensures { result ≡ selection_of (state_of self.now) }
     {
-        let upper = self.is_held(Modifier::AltShift) != self.is_locked(Lock::Alt);
-        if upper {
-            key.get() + KEY_COUNT as u8
-        } else {
-            key.get()
+        Selection {
+            upper: self.is_held(Modifier::AltShift) != self.is_locked(Lock::Alt),
+            shift: self.is_either_held(Modifier::LeftShift, Modifier::RightShift),
+            control: self.is_either_held(Modifier::LeftControl, Modifier::RightControl),
+            alt: self.is_either_held(Modifier::LeftAlt, Modifier::RightAlt),
+            caps: self.is_locked(Lock::Caps),
+            num: self.is_locked(Lock::Num),
         }
     }
 
@@ -156,16 +159,7 @@ impl Held {
         ensures in_range { key < key_count }
         ensures value { result ≡ look_in (under_of maps.now) (state_of self.now) key }
     {
-        let entry = self.in_force(maps).entry(self.slot(key));
-        let flipped = flips(
-            entry.flag,
-            self.is_locked(Lock::Caps),
-            self.is_locked(Lock::Num),
-        );
-        let shift = self.is_either_held(Modifier::LeftShift, Modifier::RightShift) != flipped;
-        let control = self.is_either_held(Modifier::LeftControl, Modifier::RightControl);
-        let alt = self.is_either_held(Modifier::LeftAlt, Modifier::RightAlt);
-        entry.cells[column(shift, control, alt)]
+        self.selection().look(self.in_force(maps), key)
     }
 
     /// Whether the key holds a modifier.
@@ -223,6 +217,25 @@ impl Held {
             }
         }
         None
+    }
+
+    /// The accent whose dead key a press of the key looks up, where the key holds nothing.
+    pub fn offered(&self, maps: &Keymaps, key: KeyCode) -> Option<u8>
+        ensures { MatchOption result ((accent : ℕ) → IsIdle (state_of self.now) key
+            → look_in (under_of maps.now) (state_of self.now) key ≡ Act (DeadKey accent) → ⊥)
+            (λ accent. IsIdle (state_of self.now) key
+            × (look_in (under_of maps.now) (state_of self.now) key ≡ Act (DeadKey accent))) }
+    {
+        match &self.look(maps, key) {
+            Cell::Act(Action::DeadKey(accent)) => {
+                if self.holds(key) {
+                    None
+                } else {
+                    Some(accent.get())
+                }
+            }
+            _ => None,
+        }
     }
 
     /// Where letting go of the modifier leads.

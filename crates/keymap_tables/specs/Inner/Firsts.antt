@@ -1,7 +1,6 @@
 -- What functions that go over a part of a file or of a map tell of it. HasNoFault is what the readers of
--- src/read_slot.rt and src/read_accent.rt and the checks of src/check.rt say of a part, and what src/read.rt asks of
--- one that it puts into a map; IsFirstFilled mirrors `check_zeros` of src/number.rt, IsFirstColumn and IsFirstNumber
--- `wide_column` and `wide_number` of src/narrow.rt.
+-- src/read_slot.rt, src/read_accent.rt and src/content.rt say of a part; IsFirstFilled mirrors `check_zeros` of
+-- src/number.rt, IsFirstColumn and IsFirstNumber `wide_column` and `wide_number` of src/narrow.rt.
 use Rattle.std.specs.Prelude.{◌≡◌, ℕ, ◌<◌, ◌≤◌, List, length, slice_index_or, Option, None, Some}
 use Rattle.keymap_core.specs.Accents.{AccentValue}
 use Rattle.keymap_core.specs.declared.entry.Cell.TheVariants.{Char}

@@ -1,6 +1,8 @@
 use Rattle.std.proofs.Common.{◌≡◌}
+use Rattle.keymap_core.specs.Maps.{MapValue}
 use Rattle.keymap_check.specs.Computed.{bearer_below}
+use Rattle.keymap_check.specs.Inner.Surveyed.{IsSurvey}
 use Rattle.keymap_check.proofs.bearer.bearer_of.Given as goal
 
 abbrev pub invariant-loop-key : goal.invariant-loop-key
-invariant-loop-key l = l.bearer ≡ bearer_below l.survey l.holding l.key
+invariant-loop-key l = (m : MapValue) → IsSurvey m l.survey → l.bearer ≡ bearer_below m l.holding l.key

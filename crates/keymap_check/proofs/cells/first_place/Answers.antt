@@ -5,28 +5,28 @@ use Rattle.keymap_check.specs.Cells.{is_of_kind, cell_of, first_place, place_cou
 use Rattle.keymap_check.proofs.cells.first_place.Goals as goal
 
 pub loop-place-init : goal.loop-place-init
-loop-place-init c = first_below-none _
+loop-place-init g c = λ m shows. first_below-none _
 
 pub loop-place-preserved : goal.loop-place-preserved
-loop-place-preserved c =
-    first_below-more _ c.loop-place.place c.loop-place.invariant
-    (ap (λ x. is_of_kind c.args.kind x) (sym c.cell_of.ensures) ∙ sym c.fits.ensures ∙ c.if-fits.false)
+loop-place-preserved g c =
+    λ m shows. first_below-more _ c.loop-place.place (c.loop-place.invariant m shows)
+    (ap (λ x. is_of_kind c.args.kind x) (sym (c.cell_of.ensures m shows)) ∙ sym c.fits.ensures ∙ c.if-fits.false)
 
 pub returns-then-fits-clause-value : goal.returns-then-fits-clause-value
 unfolding first_place
-returns-then-fits-clause-value c =
-    let lt : c.loop-place.place < place_count c.args.map.now =
-    omega (arith, c.loop-place-test.true, c.requires.is_count) in
-    let e : is_of_kind c.args.kind (cell_of c.args.map.now c.args.key c.loop-place.place) ≡ true =
-    ap (λ x. is_of_kind c.args.kind x) (sym c.cell_of.ensures) ∙ sym c.fits.ensures ∙ c.if-fits.true in
-    sym (first_below-found (λ place. is_of_kind c.args.kind
-    (cell_of c.args.map.now c.args.key place)) c.loop-place.place
-    (place_count c.args.map.now) lt c.loop-place.invariant e)
+returns-then-fits-clause-value g c =
+    λ m shows is.
+    let lt : c.loop-place.place < place_count m = omega (arith, c.loop-place-test.true, is) in
+    let e : is_of_kind c.args.kind (cell_of m c.args.key c.loop-place.place) ≡ true =
+    ap (λ x. is_of_kind c.args.kind x) (sym (c.cell_of.ensures m shows)) ∙ sym c.fits.ensures ∙ c.if-fits.true in
+    sym (first_below-found (λ place. is_of_kind c.args.kind (cell_of m c.args.key place)) c.loop-place.place
+    (place_count m) lt (c.loop-place.invariant m shows) e)
 
 pub returns-clause-value : goal.returns-clause-value
 unfolding first_place
-returns-clause-value c =
-    let e : c.loop-place.place ≡ place_count c.args.map.now =
-    omega (arith, c.loop-place-test.false, c.loop-place.auto.place-end, c.requires.is_count) in
-    sym (subst (λ n. first_below (λ place. is_of_kind c.args.kind (cell_of c.args.map.now c.args.key place)) n ≡ None) e
-    c.loop-place.invariant)
+returns-clause-value g c =
+    λ m shows is.
+    let e : c.loop-place.place ≡ place_count m =
+    omega (arith, c.loop-place-test.false, c.loop-place.auto.place-end, is) in
+    sym (subst (λ n. first_below (λ place. is_of_kind c.args.kind (cell_of m c.args.key place)) n ≡ None) e
+    (c.loop-place.invariant m shows))

@@ -1,22 +1,20 @@
-use Rattle.std.proofs.Common.{◌∙◌, ap}
-use Rattle.keymap_check.specs.Scripts.{demonstration_of}
 use Rattle.keymap_check.proofs.Given.{leaves_on, is_shown, is_none}
 use Rattle.keymap_check.proofs.demonstration.demonstrate.Goals as goal
 
 pub returns-clause-first : goal.returns-clause-first
-returns-clause-first c = c.first_script.ensures ∙ ap demonstration_of c.of.ensures
+returns-clause-first c = c.first_script.ensures
 
 pub returns-clause-leaves_on : goal.returns-clause-leaves_on
 returns-clause-leaves_on c =
     leaves_on (λ s. s.items) c.args.map.now c.first_script.result
-    (c.first_script.ensures ∙ ap demonstration_of c.of.ensures)
+    c.first_script.ensures
 
 pub returns-clause-shown : goal.returns-clause-shown
 returns-clause-shown c =
     is_shown (λ s. s.items) c.args.map.now c.first_script.result
-    (c.first_script.ensures ∙ ap demonstration_of c.of.ensures)
+    c.first_script.ensures
 
 pub returns-clause-without_traps : goal.returns-clause-without_traps
 returns-clause-without_traps c =
     is_none (λ s. s.items) c.args.map.now c.first_script.result
-    (c.first_script.ensures ∙ ap demonstration_of c.of.ensures)
+    c.first_script.ensures

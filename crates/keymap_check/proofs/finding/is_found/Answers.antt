@@ -7,9 +7,12 @@ use Rattle.keymap_check.proofs.finding.is_found.Goals as goal
 
 pub returns-then-has : goal.returns-then-has
 returns-then-has c =
-    c.has-then-has.ensures
-    ∙ sym (
-    found c.args.survey.now c.args.key
-    ∙ ap (λ b. b && is_some (first_place c.args.survey.now kind.Character c.args.key))
-    (sym c.has.ensures ∙ c.if-has.true)
-    )
+    λ m is. c.has-then-has.ensures m is
+    ∙ sym (found m c.args.key
+    ∙ ap (λ b. b && is_some (first_place m kind.Character c.args.key)) (sym (c.has.ensures m is) ∙ c.if-has.true))
+
+pub returns-else-has : goal.returns-else-has
+returns-else-has c =
+    λ m is. c.if-has.false
+    ∙ sym (found m c.args.key
+    ∙ ap (λ b. b && is_some (first_place m kind.Character c.args.key)) (sym (c.has.ensures m is) ∙ c.if-has.false))

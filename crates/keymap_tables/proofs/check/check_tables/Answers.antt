@@ -1,7 +1,13 @@
 use Rattle.keymap_tables.specs.Layouts.{wide}
 use Rattle.keymap_tables.proofs.Contents.{first-content}
+use Rattle.keymap_tables.proofs.Outcomes.{OnOk-map, IfErr-map}
 use Rattle.keymap_tables.proofs.check.check_tables.Goals as goal
 
-pub returns-in-Err-check_content-clause-fault : goal.returns-in-Err-check_content-clause-fault
-returns-in-Err-check_content-clause-fault c =
-    first-content wide c.args.bytes.now _ c.in-Ok.ensures.whole c.in-Err-check_content.ensures.fault
+pub returns-clause-image : goal.returns-clause-image
+returns-clause-image c =
+    OnOk-map c.read_content.result _ _ c.read_content.ensures.taken (λ taken. (taken.0, taken.1, taken.3))
+
+pub returns-clause-fault : goal.returns-clause-fault
+returns-clause-fault c =
+    IfErr-map c.read_content.result _ _ c.read_content.ensures.fault
+    (λ f first. first-content wide c.args.bytes.now f c.in-Ok.ensures.whole first)

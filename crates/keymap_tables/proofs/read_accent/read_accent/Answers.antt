@@ -1,4 +1,5 @@
 use Rattle.std.proofs.Common.{arith, ◌≡◌, ◌+◌, ◌*◌, ◌∙◌, sym, refl, ap, subst, length, ℕ, take, drop, get_or, ◌<◌}
+use Rattle.std.proofs.Common.{mul-zero}
 use Rattle.std.specs.Char.{IsScalar}
 use Rattle.std.proofs.lemmas.List.Elements.{All-nil, All-same, All-push}
 use Rattle.std.proofs.lemmas.List.{length_push}
@@ -17,7 +18,7 @@ use Rattle.keymap_tables.specs.Inner.Firsts.{HasNoFault}
 use Rattle.keymap_tables.specs.declared.fault.TableFaultKind.TheVariants.{NotEmpty}
 use Rattle.keymap_tables.proofs.Pairs.{accent-past, accent-more, accent-first, pairs-more, accent-whole}
 use Rattle.keymap_tables.proofs.Sizes.{some-number, pair-begins, pair-below, result-begins, result-below, pair-next}
-use Rattle.keymap_tables.proofs.Sizes.{pair-inside, pairs-inside, none-read, none-over, at-pair}
+use Rattle.keymap_tables.proofs.Sizes.{pair-inside, pairs-inside, none-over, at-pair}
 use Rattle.keymap_tables.proofs.read_accent.read_accent.Goals as goal
 
 pub loop-pair-init : goal.loop-pair-init
@@ -33,7 +34,7 @@ loop-pair-init c =
       character = rw c.new-accent.ensures.own c.in_ok-read_char.ensures.known;
       bytes =
           rw c.new-accent.ensures.pairs
-          (ap (λ (k : ℕ). take k (drop (number_size layout) bytes)) (sym (none-read layout)));
+          (ap (λ (k : ℕ). take k (drop (number_size layout) bytes)) (sym (mul-zero (pair_size layout))));
       own_fits = rw own (number-fits layout bytes 0 small);
       fits = All-same (PairFits layout) _ _ c.new-accent.ensures.pairs (All-nil (PairFits layout));
       count = rw c.new-accent.ensures.pairs refl;
@@ -42,7 +43,7 @@ loop-pair-init c =
           let one =
           accent-more layout bytes n 0 c.count_pairs-pairs.ensures.value (omega (arith, some-number layout))
           (none-over layout) (λ p below. absurd (omega arith)) c.in_ok-read_char.ensures.sound in
-          λ p below. one p (omega (arith, none-read layout));
+          λ p below. one p (omega (arith, mul-zero (pair_size layout)));
     }
 
 pub returns-in_err-base-clause-fault : goal.returns-in_err-base-clause-fault

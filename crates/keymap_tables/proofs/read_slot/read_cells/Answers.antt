@@ -4,7 +4,7 @@ use Rattle.std.proofs.lemmas.List.{take_all}
 use Rattle.std.proofs.lemmas.List.Elements.{All-same}
 use Rattle.keymap_tables.proofs.Cells.{All-more_set, number-fits, cell-fits, bytes-more, marks-more, sound-more}
 use Rattle.keymap_tables.proofs.Cells.{first-cell, bytes-all, marks-all, sound-all}
-use Rattle.keymap_tables.proofs.Sizes.{cell-inside}
+use Rattle.keymap_tables.proofs.Sizes.{row-inside}
 use Rattle.keymap_core.specs.Bounds.{IsCell}
 use Rattle.keymap_tables.specs.Faults.{number_at, is_marked_at, cell_fault}
 use Rattle.keymap_tables.specs.Fits.{CellFits}
@@ -17,7 +17,7 @@ loop-column-preserved c =
     let bytes = c.args.bytes.now in
     let i = c.loop-column.column in
     let small : (k : ℕ) → get_or bytes k 0 < 256 = λ k. omega (arith, c.type_inv.bytes k) in
-    let inside = cell-inside layout i (omega arith) in
+    let inside = row-inside (number_size layout) 8 i (omega arith) in
     let read = c.read_number.ensures ∙ ap (λ (n : ℕ). number_at layout bytes (n * i)) c.number.ensures in
     let number = c.in-Ok.ensures.number ∙ read in
     let marked = ap (λ (at : ℕ). (slice_index bytes at / 2 ^ (7 - i)) % 2 == 1) c.cells.ensures in

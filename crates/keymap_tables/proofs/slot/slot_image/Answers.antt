@@ -1,8 +1,8 @@
-use Rattle.std.proofs.Common.{rules, arith, ◌≡◌, ℕ, ◌+◌, ◌*◌, ap, sym, ◌∙◌}
+use Rattle.std.proofs.Common.{rules, arith, ◌≡◌, ℕ, ◌+◌, ◌*◌, ap, sym, ◌∙◌, mul_comm}
 use Rattle.std.proofs.lemmas.List.{take_all}
 use Rattle.std.proofs.lemmas.List.Elements.{All-same}
 use Rattle.keymap_tables.specs.Layouts.{number_size}
-use Rattle.keymap_tables.proofs.Sizes.{cell-next, cells-end}
+use Rattle.keymap_tables.proofs.Sizes.{row-next}
 use Rattle.keymap_tables.proofs.Slots.{All-next, cells-more, marks-next, small-next, slot-written}
 use Rattle.keymap_core.specs.Bounds.{IsCell}
 use Rattle.keymap_tables.proofs.slot.slot_image.Goals as goal
@@ -15,7 +15,7 @@ loop-cell-preserved c = record {
       (rw c.number.ensures.value at c.push_number.ensures.bytes);
   four_each =
       c.push_number.ensures.count ∙ ap (λ (n : ℕ). n + number_size c.args.layout) c.loop-cell.invariant.four_each
-      ∙ sym (cell-next c.args.layout c.loop-cell.cell-index);
+      ∙ sym (row-next (number_size c.args.layout) c.loop-cell.cell-index);
   marks =
       marks-next c.cells-cells.result.now _ c.cell-item.result _ _ (omega arith) c.cell-item.is
       c.loop-cell.invariant.marks c.mark.ensures.bit;
@@ -30,7 +30,7 @@ returns-clause-bytes c =
     let last : c.loop-cell.cell-index ≡ 8 = omega arith in
     let filled =
     c.loop-cell.invariant.four_each ∙ ap (λ (i : ℕ). number_size c.args.layout * i) last
-    ∙ cells-end c.args.layout in
+    ∙ mul_comm (number_size c.args.layout) 8 in
     slot-written c.args.layout c.args.entry.now c.cells-cells.result.now c.loop-cell.cell-index _ _ _ _ _ _ _
     c.cells-cells.ensures.cells (omega arith) c.loop-cell.invariant.bytes c.loop-cell.invariant.marks
     c.flag_byte.ensures

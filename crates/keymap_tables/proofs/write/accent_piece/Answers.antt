@@ -1,6 +1,5 @@
-use Rattle.std.proofs.Common.{◌≡◌, ap, ◌∙◌, sym, [], ℕ, List}
+use Rattle.std.proofs.Common.{◌≡◌, ap, ◌∙◌, sym, [], ℕ, List, subst, None, Some}
 use Rattle.std.proofs.lemmas.Option.{get_or_from_slice_get, unwrap_or-slice_get, slice_get-get_or}
-use Rattle.std.proofs.Common.{subst, None, Some}
 use Rattle.keymap_core.specs.Bounds.{IsAccent}
 use Rattle.std.specs.Prelude.{unwrap_or, Option, slice_get}
 use Rattle.keymap_core.specs.Accents.{AccentValue, blank}

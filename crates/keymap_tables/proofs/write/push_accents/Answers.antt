@@ -1,14 +1,12 @@
-use Rattle.std.proofs.Common.{rules, arith, ap, ◌∙◌, ◌++◌, length, List, ℕ}
-use Rattle.std.proofs.Common.{get_or, ◌<◌}
+use Rattle.std.proofs.Common.{rules, arith, ap, ◌∙◌, ◌++◌, length, List, ℕ, get_or, ◌<◌}
 use Rattle.std.proofs.lemmas.List.Elements.{All-from_get_or}
 use Rattle.keymap_core.specs.Accents.{blank}
 use Rattle.keymap_core.specs.Bounds.{IsAccent}
-use Rattle.keymap_tables.proofs.Rows.{known-next}
+use Rattle.keymap_tables.proofs.Rows.{known-next, rows-next, rows-all, rows-cut}
 use Rattle.keymap_tables.specs.Image.{accent_bytes}
 use Rattle.keymap_tables.specs.Layouts.{accent_size}
 use Rattle.keymap_core.proofs.Gathering.{Gathers-same, StopsIn-more, passed_on}
-use Rattle.keymap_tables.proofs.Sizes.{accent-next, accent-blank}
-use Rattle.keymap_tables.proofs.Rows.{rows-next, rows-all, rows-cut}
+use Rattle.keymap_tables.proofs.Sizes.{row-next, accent-blank}
 use Rattle.keymap_tables.proofs.write.push_accents.Goals as goal
 
 pub loop-index-preserved : goal.loop-index-preserved
@@ -27,7 +25,7 @@ loop-index-preserved g c = record {
         arith,
         c.in_ok-push.ensures.count,
         ap length c.as_slice.ensures.value,
-        accent-next c.args.layout c.loop-index.index,
+        row-next (accent_size c.args.layout) c.loop-index.index,
       );
   sound = search rules;
 }

@@ -1,14 +1,12 @@
-use Rattle.std.proofs.Common.{rules, arith, ap, ◌∙◌, ◌++◌, length, List, ℕ}
-use Rattle.std.proofs.Common.{subst, get_or, ◌<◌}
+use Rattle.std.proofs.Common.{rules, arith, ap, ◌∙◌, ◌++◌, length, List, ℕ, subst, get_or, ◌<◌}
 use Rattle.std.proofs.lemmas.List.Elements.{All-from_get_or}
 use Rattle.keymap_core.specs.Maps.{undefined}
 use Rattle.keymap_core.specs.Bounds.{IsEntry}
-use Rattle.keymap_tables.proofs.Rows.{known-next}
+use Rattle.keymap_tables.proofs.Rows.{known-next, rows-next, rows-all, rows-cut}
 use Rattle.keymap_tables.specs.Image.{slot_bytes}
 use Rattle.keymap_tables.specs.Layouts.{slot_size}
 use Rattle.keymap_core.proofs.Gathering.{Gathers-same, StopsIn-more, passed_on}
-use Rattle.keymap_tables.proofs.Sizes.{slot-next, slot-blank}
-use Rattle.keymap_tables.proofs.Rows.{rows-next, rows-all, rows-cut}
+use Rattle.keymap_tables.proofs.Sizes.{row-next, slot-blank}
 use Rattle.keymap_tables.proofs.write.push_slots.Goals as goal
 
 pub loop-slot-preserved : goal.loop-slot-preserved
@@ -29,7 +27,7 @@ loop-slot-preserved g c = record {
         arith,
         c.in_ok-push.ensures.count,
         ap length c.as_slice.ensures.value,
-        slot-next c.args.layout c.loop-slot.slot,
+        row-next (slot_size c.args.layout) c.loop-slot.slot,
       );
   sound = search rules;
 }

@@ -1,7 +1,10 @@
+use Rattle.std.proofs.Common.{subst, sym}
+use Rattle.keymap_check.specs.Inner.Surveyed.{IsSurvey}
 use Rattle.keymap_check.proofs.CellBits.{bits_tell}
 use Rattle.keymap_check.proofs.survey.Survey.has.Goals as goal
 
 pub returns : goal.returns
 returns c =
-    rw (c.mask.ensures, ← c.self.view_is, c.self.invariant.2.1 c.args.key c.requires)
-    (bits_tell _ c.args.key c.args.kind)
+    λ m is.
+    let inside = subst (λ s. IsSurvey m s) (sym c.self.view_is) is in
+    rw (c.mask.ensures, inside.bits.1 c.args.key c.requires) (bits_tell m c.args.key c.args.kind)

@@ -1,6 +1,10 @@
 use Rattle.std.proofs.Common.{◌≡◌, length}
+use Rattle.keymap_core.specs.Maps.{MapValue}
 use Rattle.keymap_check.specs.Inner.CellBits.{HasBitsBelow}
 use Rattle.keymap_check.proofs.survey.Survey.of.Given as goal
 
 abbrev pub invariant-loop-key : goal.invariant-loop-key
-invariant-loop-key l = (length l.bits ≡ 128) × HasBitsBelow l.map l.bits l.key
+invariant-loop-key g l = record {
+  long : length l.bits ≡ 128;
+  below : (m : MapValue) → g.K.Keymap.shows l.map m → HasBitsBelow m l.bits l.key;
+}

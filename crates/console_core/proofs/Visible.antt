@@ -1,0 +1,147 @@
+-- What presses see, as a test: it passes exactly where a press sees it.
+use Prim.Native.Nat.{suc}
+use Rattle.std.proofs.Common.{◌≡◌, ◌⊎◌, inl, inr, ℕ, ◌<◌, Bool, true, false, ◌&&◌, List, [], ◌∷◌, length, refl, ap, subst, sym, ◌∙◌}
+use Rattle.std.proofs.Common.{arith, get_or, if◌then◌else◌}
+use Rattle.std.specs.Prelude.{◌==◌, ◌||◌, ◌%◌}
+use Rattle.std.specs.List.{Contains, list_any, range_with_len}
+use Rattle.std.proofs.lemmas.Bool.{and_parts, eqb-true, eq-eqb, true≢false}
+use Rattle.std.proofs.lemmas.List.Folds.{list_any_at}
+use Rattle.std.proofs.lemmas.List.FromFn.{get_or-range_with_len}
+use Rattle.keymap_core.specs.declared.entry.Cell.{Cell}
+use Rattle.keymap_core.specs.declared.entry.Cell.TheVariants.{Char, Act}
+use Rattle.keymap_core.specs.Maps.{MapValue}
+use Rattle.keymap_core.specs.Numbers.{key_count}
+use Rattle.console_core.specs.declared.selection.Selection.{Selection}
+use Rattle.console_core.specs.declared.selection.Sight.{Sight}
+use Rattle.console_core.specs.declared.selection.Sight.TheVariants as sight
+use Rattle.console_core.specs.Columns.{slot_of}
+use Rattle.console_core.specs.Sights.{slot_in, column_in, look_selected, SeesBy, is_same, is_character, sees_by}
+use Rattle.console_core.specs.declared.sights.Sights.{Sights}
+use Rattle.console_core.specs.Sights.{is_seeing, is_selected, is_offered}
+use Rattle.console_core.specs.Inner.Noting.{IsSelectedBy}
+
+-- two tests that pass alike are one
+pub same-truth : (r b : Bool) → (r ≡ true → b ≡ true) → (r ≡ false → b ≡ false) → r ≡ b
+same-truth true b then-so then-not = sym (then-so refl)
+same-truth false b then-so then-not = sym (then-not refl)
+
+-- a test that doesn't pass fails
+pub fails : (b : Bool) → (b ≡ true → ⊥) → b ≡ false
+fails true then-not = absurd (then-not refl)
+fails false then-not = refl
+
+-- a member passes the test of a list that passes
+pub any-member : {X : Type 0} (p : X → Bool) (xs : List X) (x : X) → Contains xs x → p x ≡ true
+    → list_any p xs ≡ true
+any-member p xs x (n, lt, at) e = list_any_at p xs n x lt (ap p at ∙ e)
+
+pub or-cases : (a b : Bool) → (a || b) ≡ true → (a ≡ true) ⊎ (b ≡ true)
+or-cases true b e = inl refl
+or-cases false b e = inr e
+
+later-member : {X : Type 0} (x : X) (xs : List X) (y : X) → Contains xs y → Contains (x ∷ xs) y
+later-member x xs y (n, lt, at) = (suc n, omega (arith, lt), at)
+
+-- and such a list has one
+pub some-member : {X : Type 0} (p : X → Bool) (xs : List X) → list_any p xs ≡ true
+    → (x : X) × Contains xs x × (p x ≡ true)
+some-member p [] e = absurd (true≢false (sym e))
+some-member p (x ∷ xs) e = elim (or-cases (p x) (list_any p xs) e) [
+  | inl is ↦ (x, (0, omega arith, refl), is)
+  | inr f ↦ let (y, has, is) = some-member p xs f in (y, later-member x xs y has, is)
+]
+
+same-true : (a b : Bool) → is_same a b ≡ true → a ≡ b
+same-true true true e = refl
+same-true false false e = refl
+same-true true false e = absurd (true≢false (sym e))
+same-true false true e = absurd (true≢false (sym e))
+
+true-same : (a b : Bool) → a ≡ b → is_same a b ≡ true
+true-same true true e = refl
+true-same false false e = refl
+true-same true false e = absurd (true≢false e)
+true-same false true e = absurd (true≢false (sym e))
+
+pub both : (a b : Bool) → a ≡ true → b ≡ true → (a && b) ≡ true
+both a b e f = ap (λ z. z && b) e ∙ f
+
+character-true : (c : ℕ) (z : Cell) → is_character c z ≡ true → z ≡ Char c
+character-true c (Char d) e = ap (λ n. Char n) (eqb-true d c e)
+character-true c (Act a) e = absurd (true≢false (sym e))
+
+-- the test of a press
+pub sees-true : (m : MapValue) (y : Selection) (k : ℕ) (x : Sight) → sees_by m y k x ≡ true → SeesBy m y k x
+sees-true m y k (sight.Cell slot column) e =
+    let p = and_parts (slot_in y k == slot) (column_in m y k == column) e in
+    (eqb-true (slot_in y k) slot p.0, eqb-true (column_in m y k) column p.1)
+sees-true m y k (sight.Locks slot caps num) e =
+    let p = and_parts (slot_in y k == slot) (is_same y.caps caps && is_same y.num num) e in
+    let q = and_parts (is_same y.caps caps) (is_same y.num num) p.1 in
+    (eqb-true (slot_in y k) slot p.0, same-true y.caps caps q.0, same-true y.num num q.1)
+sees-true m y k (sight.Pair accent c) e = character-true c (look_selected m y k) e
+
+pub true-sees : (m : MapValue) (y : Selection) (k : ℕ) (x : Sight) → SeesBy m y k x → sees_by m y k x ≡ true
+true-sees m y k (sight.Cell slot column) (e, f) =
+    both (slot_in y k == slot) (column_in m y k == column) (eq-eqb (slot_in y k) slot e)
+    (eq-eqb (column_in m y k) column f)
+true-sees m y k (sight.Locks slot caps num) (e, f, g) =
+    both (slot_in y k == slot) (is_same y.caps caps && is_same y.num num) (eq-eqb (slot_in y k) slot e)
+    (both (is_same y.caps caps) (is_same y.num num) (true-same y.caps caps f) (true-same y.num num g))
+true-sees m y k (sight.Pair accent c) e = ap (λ z. is_character c z) e ∙ eq-eqb c c refl
+
+-- that of a selection
+in-range : (k : ℕ) → k < key_count → Contains (range_with_len 0 key_count) k
+in-range k lt = (k, lt, omega (arith, get_or-range_with_len 0 key_count k k lt))
+
+of-range : (k : ℕ) → Contains (range_with_len 0 key_count) k → k < key_count
+of-range k (n, lt, at) =
+    let below : n < key_count = lt in
+    omega (arith, below, at, get_or-range_with_len 0 key_count n k below)
+
+pub seeing-true : (m : MapValue) (y : Selection) (x : Sight) → is_seeing m y x ≡ true
+    → (k : ℕ) × (k < key_count) × SeesBy m y k x
+seeing-true m y x e =
+    let (k, has, sees) = some-member (λ k. sees_by m y k x) (range_with_len 0 key_count) e in
+    (k, of-range k has, sees-true m y k x sees)
+
+pub true-seeing : (m : MapValue) (y : Selection) (x : Sight) (k : ℕ) → k < key_count → SeesBy m y k x
+    → is_seeing m y x ≡ true
+true-seeing m y x k lt sees =
+    any-member (λ j. sees_by m y j x) (range_with_len 0 key_count) k (in-range k lt) (true-sees m y k x sees)
+
+-- that of the selections, by what a loop over them found
+pub selected-value : (m : MapValue) (ys : List Selection) (x : Sight) (r : Bool)
+    → (r ≡ true → IsSelectedBy m ys x) → (r ≡ false → IsSelectedBy m ys x → ⊥) → r ≡ is_selected m ys x
+selected-value m ys x r then-so then-not =
+    same-truth r (is_selected m ys x)
+    (λ e.
+    let (y, has, (k, lt, sees)) = then-so e in
+    any-member (λ z. is_seeing m z x) ys y has (true-seeing m y x k lt sees))
+    (λ e. fails (is_selected m ys x) (λ passes.
+    let (y, has, seeing) = some-member (λ z. is_seeing m z x) ys passes in
+    then-not e (y, has, seeing-true m y x seeing)))
+
+-- that of the accents
+pub accents-value : (accents : List ℕ) (accent : ℕ) (r : Bool) → (r ≡ true → Contains accents accent)
+    → (r ≡ false → Contains accents accent → ⊥) → r ≡ list_any (λ a. accent == a) accents
+accents-value accents accent r then-so then-not =
+    same-truth r (list_any (λ a. accent == a) accents)
+    (λ e. any-member (λ a. accent == a) accents accent (then-so e) (eq-eqb accent accent refl))
+    (λ e. fails (list_any (λ a. accent == a) accents) (λ passes.
+    let (a, has, same) = some-member (λ a. accent == a) accents passes in
+    then-not e (subst (λ z. Contains accents z) (sym (eqb-true accent a same)) has)))
+
+-- what has no accent offers none that isn't noted
+pub offered-default : (s : Sights) (x : Sight) → ((accent c : ℕ) → x ≡ sight.Pair accent c → ⊥) → is_offered s x ≡ true
+offered-default s (sight.Pair accent c) then-not = absurd (then-not accent c refl)
+offered-default s (sight.Cell slot column) then-not = refl
+offered-default s (sight.Locks slot caps num) then-not = refl
+
+-- of a cell or a lock setting, only the key of the slot can see it
+pub key-of-slot : (y : Selection) (k slot : ℕ) → k < key_count → slot_in y k ≡ slot → slot % key_count ≡ k
+key-of-slot y k slot lt e = half y.upper e
+  where
+    half : (u : Bool) → slot_of k u ≡ slot → slot % key_count ≡ k
+    half true f = omega (arith, lt, f)
+    half false f = omega (arith, lt, f)

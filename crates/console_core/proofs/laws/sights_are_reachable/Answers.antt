@@ -1,0 +1,8 @@
+use Rattle.console_core.proofs.Seeing.{looks_are_selected, sights_are_reachable}
+use Rattle.console_core.proofs.laws.sights_are_reachable.Goals as goal
+
+pub returns-clause-selected : goal.returns-clause-selected
+returns-clause-selected c = looks_are_selected
+
+pub returns-clause-reachable : goal.returns-clause-reachable
+returns-clause-reachable c = sights_are_reachable

@@ -1,0 +1,24 @@
+use Rattle.std.proofs.Common.{◌≡◌, subst, arith}
+use Rattle.console_core.specs.Inner.Searching.{state_of, under_of}
+use Rattle.console_core.specs.Inner.Noting.{AddsOffer, AddsOffers}
+use Rattle.console_core.proofs.Noting.{offers-none, offers-more}
+use Rattle.console_core.proofs.sights.add_offers.Goals as goal
+
+pub loop-code-init : goal.loop-code-init
+loop-code-init c = offers-none (under_of c.args.maps.now) (state_of c.args.held.now) c.args.accents.now.items
+
+pub loop-code-preserved : goal.loop-code-preserved
+loop-code-preserved c =
+    let u = under_of c.args.maps.now in
+    let s = state_of c.args.held.now in
+    let mid = c.loop-code.accents.items in
+    let now = c.add_offer.new.accents.items in
+    offers-more u s c.loop-code.code c.args.accents.now.items mid now c.loop-code.invariant
+    (subst (λ k. AddsOffer u s k mid now) c.key_with.ensures c.in_ok-add_offer.ensures)
+
+pub returns : goal.returns
+returns c =
+    let u = under_of c.args.maps.now in
+    let s = state_of c.args.held.now in
+    let e : c.loop-code.code ≡ 128 = omega (arith, c.loop-code-test.false, c.loop-code.auto.code-end) in
+    subst (λ n. AddsOffers u s n c.args.accents.now.items c.loop-code.accents.items) e c.loop-code.invariant

@@ -1,0 +1,170 @@
+-- What presses of keys see: which cells they look up, under which locks, and with which accents pending; and what can be
+-- seen at all.
+use Rattle.std.specs.Prelude.{◌≡◌, ◌==◌, ℕ, ◌<◌, Bool, true, false, ◌||◌, ◌&&◌, not, List, ◌∷◌, ◌++◌, Some}
+use Rattle.std.specs.List.{Contains, list_any, range_with_len}
+use Rattle.keymap_core.specs.declared.action.Modifier.{Modifier}
+use Rattle.keymap_core.specs.declared.action.Modifier.TheVariants.{LeftShift, RightShift, LeftControl, RightControl}
+use Rattle.keymap_core.specs.declared.action.Modifier.TheVariants.{LeftAlt, RightAlt}
+use Rattle.keymap_core.specs.declared.action.Lock.{Lock}
+use Rattle.keymap_core.specs.declared.action.Lock.TheVariants.{Caps, Num}
+use Rattle.keymap_core.specs.declared.action.Action.TheVariants as act
+use Rattle.keymap_core.specs.declared.entry.Cell.{Cell}
+use Rattle.keymap_core.specs.declared.entry.Cell.TheVariants.{Char, Act}
+use Rattle.keymap_core.specs.Maps.{MapValue, entry_at, cell_at}
+use Rattle.keymap_core.specs.Numbers.{key_count}
+use Rattle.console_core.specs.declared.event.Event.{Event}
+use Rattle.console_core.specs.declared.event.Event.TheVariants.{Press}
+use Rattle.console_core.specs.declared.held.Move.{Move}
+use Rattle.console_core.specs.declared.selection.Selection.{Selection}
+use Rattle.console_core.specs.declared.selection.Sight.{Sight}
+use Rattle.console_core.specs.declared.sights.Sights.{Sights}
+use Rattle.console_core.specs.declared.selection.Sight.TheVariants as sight
+use Rattle.console_core.specs.Columns.{exactly_one, flips_shift, slot_of, column_of, is_upper}
+use Rattle.console_core.specs.Resolved.{remembered}
+use Rattle.console_core.specs.History.{Maps, between, resolved, is_on_after, is_locked_after, accent_pending_after}
+use Rattle.console_core.specs.History.{HasKeys, HasNoLoads}
+use Rattle.console_core.specs.Reading.{look_after}
+use Rattle.console_core.specs.Moves.{Under, alone, State, is_held, IsIdle, look_in, IsForgetful, IsPath, state_after}
+use Rattle.console_core.specs.Sticking.{NeverForgets}
+
+-- what picks the cell, by which modifiers and locks are on
+abbrev pub selection_with : (Modifier → Bool) → (Lock → Bool) → Selection
+selection_with is_on is_locked = record {
+  upper = is_upper is_on is_locked;
+  shift = is_on LeftShift || is_on RightShift;
+  control = is_on LeftControl || is_on RightControl;
+  alt = is_on LeftAlt || is_on RightAlt;
+  caps = is_locked Caps;
+  num = is_locked Num;
+}
+
+-- the slot, the column and the cell that a key looks up
+abbrev pub slot_in : Selection → ℕ → ℕ
+slot_in y k = slot_of k y.upper
+
+abbrev pub column_in : MapValue → Selection → ℕ → ℕ
+column_in m y k =
+    column_of (exactly_one y.shift (flips_shift (entry_at m (slot_in y k)).flag y.caps y.num)) y.control y.alt
+
+abbrev pub look_selected : MapValue → Selection → ℕ → Cell
+look_selected m y k = cell_at m (slot_in y k) (column_in m y k)
+
+-- a press of the key sees it, where a pair's accent is pending
+abbrev pub SeesBy : MapValue → Selection → ℕ → Sight → Type 0
+SeesBy m y k (sight.Cell slot column) = (slot_in y k ≡ slot) × (column_in m y k ≡ column)
+SeesBy m y k (sight.Locks slot caps num) = (slot_in y k ≡ slot) × (y.caps ≡ caps) × (y.num ≡ num)
+SeesBy m y k (sight.Pair accent c) = look_selected m y k ≡ Char c
+
+-- the selection after a list of events
+abbrev pub selection_after : MapValue → List Event → Selection
+selection_after m h =
+    selection_with (λ i. is_on_after (between m m) i h) (λ l. is_locked_after (between m m) l h)
+
+-- the accent of a pair is pending
+abbrev pub IsPendingFor : MapValue → List Event → Sight → Type 0
+IsPendingFor m h (sight.Pair accent c) = accent_pending_after (between m m) h ≡ Some accent
+IsPendingFor m h _ = Unit {0}
+
+-- a press of the key after the list sees it
+abbrev pub SeesNext : MapValue → List Event → ℕ → Sight → Type 0
+SeesNext m h k x = SeesBy m (selection_after m h) k x × IsPendingFor m h x
+
+-- some press of the list sees it
+abbrev pub SeesAlong : MapValue → List Event → Sight → Type 0
+SeesAlong m h x =
+    (later before : List Event) × (k : ℕ) × (h ≡ later ++ Press k ∷ before) × SeesNext m before k x
+
+-- A press after a list of events without loads looks up the cell at this slot and column.
+abbrev pub LooksAreSelected : Type 0
+LooksAreSelected =
+    (m : MapValue) (h : List Event) (k : ℕ) → look_after (between m m) k h ≡ look_selected m (selection_after m h) k
+
+-- Clean: along the list no key that remembers a modifier looks up a character, which makes the console forget it.
+abbrev pub IsClean : Maps → List Event → Type 0
+IsClean ms h =
+    (later before : List Event) (k : ℕ) (i : Modifier) (c : ℕ) → h ≡ later ++ Press k ∷ before
+    → remembered k (resolved ms before) ≡ Some (act.Mod i) → look_after ms k before ≡ Char c
+    → ⊥
+
+-- The lists that are spoken of: presses and releases of keys and resets, and clean ones alone if a modifier can be
+-- forgotten.
+abbrev pub IsAdmitted : MapValue → Bool → List Event → Type 0
+IsAdmitted m forgets h = HasKeys h × HasNoLoads h × (forgets ≡ true → IsClean (between m m) h)
+
+-- What is noted of a state: its selection, that a key that holds nothing looks up the dead key of an accent, and that a
+-- holder looks up a character.
+pub data Note : Type 0 where
+  Selected : Selection → Note
+  Offered : ℕ → Note
+  Forgets : Note
+
+abbrev pub selection_of : State → Selection
+selection_of s = selection_with (λ i. is_held s i) (λ l. s.is_locked l)
+
+abbrev pub IsNoteOf : Under → State → Note → Type 0
+IsNoteOf u s (Note.Selected y) = selection_of s ≡ y
+IsNoteOf u s (Note.Offered accent) =
+    (k : ℕ) × (k < key_count) × IsIdle s k × (look_in u s k ≡ Act (act.DeadKey accent))
+IsNoteOf u s Note.Forgets = IsForgetful u s
+
+-- it is noted of a state that a path leads to
+abbrev pub IsNoted : Under → Note → Type 0
+IsNoted u n = (path : List Move) × IsPath u path × IsNoteOf u (state_after u path) n
+
+-- it is among what a search noted
+abbrev pub Has : Sights → Note → Type 0
+Has x (Note.Selected y) = Contains x.selections.items y
+Has x (Note.Offered accent) = Contains x.accents.items accent
+Has x Note.Forgets = x.forgets ≡ true
+
+-- what a search noted is what is noted of the states that paths lead to
+abbrev pub AreSightsOf : MapValue → Sights → Type 0
+AreSightsOf m x = (n : Note) → (Has x n → IsNoted (alone m) n) × (IsNoted (alone m) n → Has x n)
+
+-- it can be seen, as far as paths tell
+abbrev pub IsOffered : MapValue → Sight → Type 0
+IsOffered m (sight.Pair accent c) = IsNoted (alone m) (Note.Offered accent)
+IsOffered m _ = Unit {0}
+
+abbrev pub IsReachable : MapValue → Sight → Type 0
+IsReachable m x =
+    IsOffered m x × ((y : Selection) × (k : ℕ) × IsNoted (alone m) (Note.Selected y) × (k < key_count) × SeesBy m y k x)
+
+-- What a press after a list sees can be seen: after all lists if no path leads to where a holder looks up a character,
+-- and else after clean ones.
+abbrev pub SightsAreReachable : Type 0
+SightsAreReachable =
+    (m : MapValue) (forgets : Bool) (h : List Event) (k : ℕ) (x : Sight) → (forgets ≡ false → NeverForgets (alone m))
+    → IsAdmitted m forgets h → k < key_count → SeesNext m h k x
+    → IsReachable m x
+
+-- The same as a test.
+abbrev pub is_same : Bool → Bool → Bool
+is_same a b = not (exactly_one a b)
+
+abbrev pub is_character : ℕ → Cell → Bool
+is_character c (Char d) = d == c
+is_character c (Act a) = false
+
+-- whether a press of the key sees it under the selection, where a pair's accent is pending
+abbrev pub sees_by : MapValue → Selection → ℕ → Sight → Bool
+sees_by m y k (sight.Cell slot column) = (slot_in y k == slot) && (column_in m y k == column)
+sees_by m y k (sight.Locks slot caps num) = (slot_in y k == slot) && (is_same y.caps caps && is_same y.num num)
+sees_by m y k (sight.Pair accent c) = is_character c (look_selected m y k)
+
+-- whether a press of some key does
+abbrev pub is_seeing : MapValue → Selection → Sight → Bool
+is_seeing m y x = list_any (λ k. sees_by m y k x) (range_with_len 0 key_count)
+
+-- whether a press of some key does under one of the selections
+abbrev pub is_selected : MapValue → List Selection → Sight → Bool
+is_selected m ys x = list_any (λ y. is_seeing m y x) ys
+
+-- whether the accent of a pair was noted
+abbrev pub is_offered : Sights → Sight → Bool
+is_offered s (sight.Pair accent c) = list_any (λ a. accent == a) s.accents.items
+is_offered s _ = true
+
+-- whether it can be seen, by what a search noted
+abbrev pub can_see : MapValue → Sights → Sight → Bool
+can_see m s x = is_offered s x && is_selected m s.selections.items x

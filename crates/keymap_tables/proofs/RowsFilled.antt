@@ -1,0 +1,134 @@
+-- Rows that are filled one by one.
+use Rattle.std.proofs.Common.{◌≡◌, ℕ, ◌+◌, ◌-◌, ◌*◌, ◌<◌, ◌≤◌, max, List, [], ◌∷◌, ◌++◌, length, map, replicate, set}
+use Rattle.std.proofs.Common.{refl, sym, ap, ap₂, ◌∙◌, arith, append_assoc, length-append, All}
+use Rattle.std.proofs.lemmas.List.{length-set, map-set, set-append_left, replicate-append-replicate, length-replicate}
+use Rattle.std.proofs.lemmas.List.Elements.{All-set, All-append, All-replicate}
+use Rattle.std.specs.List.{flat_map}
+use Rattle.keymap_core.specs.Accents.{AccentValue, blank}
+use Rattle.keymap_core.specs.Bounds.{IsMap, IsEntry, IsAccent, IsCell}
+use Rattle.keymap_core.specs.Maps.{MapValue, placed, undefined, with_entry, with_accent}
+use Rattle.keymap_core.specs.declared.entry.Entry.{Entry}
+use Rattle.keymap_tables.specs.Files.{joined}
+use Rattle.keymap_tables.specs.declared.file.TableFile.{TableFile}
+use Rattle.keymap_tables.specs.declared.filling.Filling.{Filling}
+use Rattle.keymap_tables.specs.Image.{image, slot_bytes, accent_bytes, count_bytes, slots_bytes, accents_bytes}
+use Rattle.keymap_tables.specs.Filled.{Shows, rows}
+use Rattle.keymap_tables.specs.Layouts.{wide}
+use Rattle.keymap_tables.proofs.Rows.{filled, flat_map-filled}
+use Rattle.keymap_tables.proofs.Whole.{image-parts}
+
+-- a list reaches at least to what was placed
+placed-length : {X : Type 0} (x : X) (xs : List X) (i : ℕ) (y : X) → length (placed x xs i y) ≡ max (length xs) (i + 1)
+placed-length x xs i y =
+    let n = i + 1 - length xs in
+    let long : length (xs ++ replicate n x) ≡ length xs + n =
+    length-append xs (replicate n x) ∙ ap (λ k. length xs + k) (length-replicate n x) in
+    length-set (xs ++ replicate n x) i y ∙ omega (arith, long)
+
+-- a row that is placed is set among those that are filled up
+filled-placed : {X : Type 0} (x : X) (n : ℕ) (xs : List X) (i : ℕ) (y : X) → length xs ≤ n → i < n
+    → placed x xs i y ++ replicate (n - length (placed x xs i y)) x ≡ set (xs ++ replicate (n - length xs) x) i y
+filled-placed {X = X} x n xs i y few inside =
+    let a = i + 1 - length xs in
+    let b = n - length (placed x xs i y) in
+    let long : length (placed x xs i y) ≡ max (length xs) (i + 1) = placed-length x xs i y in
+    let sum : a + b ≡ n - length xs = omega (arith, long, few, inside) in
+    let front : length (xs ++ replicate a x) ≡ length xs + a =
+    length-append xs (replicate a x) ∙ ap (λ k. length xs + k) (length-replicate a x) in
+    let below : i < length (xs ++ replicate a x) = omega (arith, front) in
+    sym (set-append_left (xs ++ replicate a x) (replicate b x) i y below)
+    ∙ ap (λ (v : List X). set v i y)
+    (append_assoc xs (replicate a x) (replicate b x)
+    ∙ ap (λ (v : List X). xs ++ v) (replicate-append-replicate a b x ∙ ap (λ k. replicate k x) sum))
+
+rows-placed : {X : Type 0} (f : X → List ℕ) (x : X) (n : ℕ) (xs : List X) (i : ℕ) (y : X) (row : List ℕ)
+    (old : List (List ℕ)) → length xs ≤ n → i < n → row ≡ f y → old ≡ rows f x n xs
+    → set old i row ≡ rows f x n (placed x xs i y)
+rows-placed f x n xs i y row old few inside is was =
+    ap₂ (λ (v : List (List ℕ)) w. set v i w) was is
+    ∙ sym (map-set f (xs ++ replicate (n - length xs) x) i y)
+    ∙ sym (ap (λ v. map f v) (filled-placed x n xs i y few inside))
+
+all-placed : {X : Type 0} (P : X → Type 0) (x : X) (xs : List X) (i : ℕ) (y : X) → P x → P y → All P xs
+    → All P (placed x xs i y)
+all-placed P x xs i y is_blank is all =
+    All-set P (xs ++ replicate (i + 1 - length xs) x) i y is
+    (All-append P xs (replicate (i + 1 - length xs) x) all (All-replicate P (i + 1 - length xs) x is_blank))
+
+undefined_is : IsEntry undefined
+undefined_is = record { eight = refl; cells = All-replicate IsCell 8 _ refl }
+
+blank_is : IsAccent blank
+blank_is = record { own = refl; few = omega arith; pairs = λ k d lt. absurd (omega (arith, lt)) }
+
+map-entry : (m : MapValue) (slot : ℕ) (e : Entry) → IsMap m → slot < 256 → IsEntry e → IsMap (with_entry m slot e)
+map-entry m slot e is inside known =
+    let long = placed-length undefined m.entries slot e in
+    let few = is.few_entries in record {
+      few_entries = omega (arith, long, few, inside);
+      entries = all-placed IsEntry undefined m.entries slot e undefined_is known is.entries;
+      few_accents = is.few_accents;
+      accents = is.accents;
+    }
+
+map-accent : (m : MapValue) (i : ℕ) (a : AccentValue) → IsMap m → i < 15 → IsAccent a → IsMap (with_accent m i a)
+map-accent m i a is inside known =
+    let long = placed-length blank m.accents i a in
+    let few = is.few_accents in record {
+      few_entries = is.few_entries;
+      entries = is.entries;
+      few_accents = omega (arith, long, few, inside);
+      accents = all-placed IsAccent blank m.accents i a blank_is known is.accents;
+    }
+
+-- a slot is defined
+pub shows-entry : (t : Filling) (m : MapValue) (slot n : ℕ) (e : Entry) (row : List ℕ) → Shows t m → slot < 256
+    → IsEntry e → row ≡ slot_bytes wide e → n ≡ max t.n_keys (slot + 1)
+    → Shows (record { n_keys = n; slots = set t.slots slot row; n_accs = t.n_accs; accents = t.accents })
+    (with_entry m slot e)
+shows-entry t m slot n e row s inside known is count =
+    let keys = s.n_keys in
+    let long = placed-length undefined m.entries slot e in record {
+      known = map-entry m slot e s.known inside known;
+      n_keys = omega (arith, count, keys, long);
+      slots =
+          rows-placed (slot_bytes wide) undefined 256 m.entries slot e row t.slots s.known.few_entries inside is
+          s.slots;
+      n_accs = s.n_accs;
+      accents = s.accents;
+    }
+
+-- an accent is
+pub shows-accent : (t : Filling) (m : MapValue) (i n : ℕ) (a : AccentValue) (row : List ℕ) → Shows t m → i < 15
+    → IsAccent a → row ≡ accent_bytes wide a → n ≡ max t.n_accs (i + 1)
+    → Shows (record { n_keys = t.n_keys; slots = t.slots; n_accs = n; accents = set t.accents i row })
+    (with_accent m i a)
+shows-accent t m i n a row s inside known is count =
+    let accs = s.n_accs in
+    let long = placed-length blank m.accents i a in record {
+      known = map-accent m i a s.known inside known;
+      n_keys = s.n_keys;
+      slots = s.slots;
+      n_accs = omega (arith, count, accs, long);
+      accents =
+          rows-placed (accent_bytes wide) blank 15 m.accents i a row t.accents s.known.few_accents inside is s.accents;
+    }
+
+-- rows, joined
+joined-map : {X : Type 0} (f : X → List ℕ) (xs : List X) → joined (map f xs) ≡ flat_map f xs
+joined-map f [] = refl
+joined-map f (x ∷ xs) = ap (λ (v : List ℕ). f x ++ v) (joined-map f xs)
+
+-- the file of what is shown
+pub file-of : (t : Filling) (m : MapValue) (n k : List ℕ) → Shows t m → n ≡ count_bytes wide t.n_keys
+    → k ≡ count_bytes wide t.n_accs → n ++ joined t.slots ++ k ++ joined t.accents ≡ image m
+file-of t m n k s keys accs =
+    let slots : joined t.slots ≡ slots_bytes wide m.entries =
+    ap joined s.slots ∙ joined-map (slot_bytes wide) (filled undefined 256 m.entries)
+    ∙ flat_map-filled (slot_bytes wide) undefined 36 256 m.entries refl in
+    let accents : joined t.accents ≡ accents_bytes wide m.accents =
+    ap joined s.accents ∙ joined-map (accent_bytes wide) (filled blank 15 m.accents)
+    ∙ flat_map-filled (accent_bytes wide) blank 420 15 m.accents refl in
+    let first : n ≡ count_bytes wide (length m.entries) = keys ∙ ap (count_bytes wide) s.n_keys in
+    let third : k ≡ count_bytes wide (length m.accents) = accs ∙ ap (count_bytes wide) s.n_accs in
+    rw (first, slots, third, accents) (sym (image-parts wide m))

@@ -18,8 +18,7 @@ use Rattle.keymap_text.specs.Inner.Grammar.{accept, at, after_cell, with_cell, â
 use Rattle.keymap_text.specs.Inner.Resuming.{KeepsMode, IsReader, Advances, Refuses, Fronts, moved, cell_place}
 use Rattle.keymap_text.specs.Inner.Views.{state_view, place_view, IsPlace}
 use Rattle.keymap_text.proofs.Lines.{lined_run, feeds_run}
-use Rattle.keymap_text.proofs.Runs.{Stands, take_spaces, token_advances, token_refuses, advances_on}
-use Rattle.keymap_text.proofs.Runs.{refuses_on}
+use Rattle.keymap_text.proofs.Runs.{Stands, take_spaces, token_advances, token_refuses, advances_on, refuses_on}
 use Rattle.std.proofs.lemmas.List.{length-take-le}
 
 -- blanks change the offset alone

@@ -1,12 +1,11 @@
 -- The printed text of a character, and of an action, is one token, which is that character or action.
-use Rattle.std.proofs.Common.{◌≡◌, ◌≢◌, ℕ, zero, suc, ◌+◌, ◌*◌, ◌/◌, ◌%◌, ◌<◌, ◌≤◌, ◌==◌, ◌&&◌, Bool, true, false, cond}
+use Rattle.std.proofs.Common.{◌≡◌, ◌≢◌, ℕ, suc, ◌+◌, ◌*◌, ◌/◌, ◌%◌, ◌<◌, ◌≤◌, ◌==◌, ◌&&◌, Bool, true, false, cond}
 use Rattle.std.proofs.Common.{List, [], ◌∷◌, length, map, fold, refl, sym, ◌∙◌, ap, subst, arith, Ok, Err, Some, None}
-use Rattle.std.proofs.Common.{ne_eqb, nat_lt, nat_le, codes, inl, inr, slice_index_or}
+use Rattle.std.proofs.Common.{ne_eqb, nat_lt, nat_le, codes, slice_index_or}
 use Rattle.std.specs.List.{list_all, range_with_len}
 use Rattle.std.specs.Char.{digit_char, digit_value}
 use lib.Utf8.{scalar}
 use Rattle.std.proofs.lemmas.Bool.Decides.{nat_tests}
-use Rattle.std.proofs.Math.Nat.{eq-or-lt_of_le}
 use Rattle.keymap_text.specs.declared.fault.TextFaultKind.TheVariants as faults
 use Rattle.keymap_text.specs.declared.words.Item.TheVariants.{Value}
 use Rattle.keymap_text.specs.declared.words.Meaning.{Meaning}
@@ -14,20 +13,11 @@ use Rattle.keymap_text.specs.declared.words.Meaning.TheVariants.{Number, Char}
 use Rattle.keymap_text.specs.Lexical.{leading, is_word}
 use Rattle.keymap_text.specs.Words.{meaning, digits_of, number_after, is_digit, named, control_names}
 use Rattle.keymap_text.specs.Printed.{character_text, hex, hex4, hex_at}
-use Rattle.keymap_text.proofs.Leading.{leading_pass, leading_none, same_head, same_tail}
+use Rattle.keymap_core.proofs.Lists.{along}
+use Rattle.keymap_text.proofs.Leading.{leading_pass, leading_none}
 use Rattle.keymap_text.proofs.Numbers.{digits_good, digits_bad}
 use Rattle.keymap_text.proofs.Lexed.{Lexes, NoWord, lexes_word, lexes_quoted}
 use Rattle.keymap_text.proofs.PrintedLines.{PrintsCharacter}
-
--- two tables that are equal up to a length are equal at each place below it
-pub along : {A : Type 0} (f g : ℕ → A) (from n : ℕ) → map f (range_with_len from n) ≡ map g (range_with_len from n)
-    → (k : ℕ) → from ≤ k → k < from + n → f k ≡ g k
-along f g from zero h k low high = absurd (omega arith)
-along f g from (suc n) h k low high =
-    elim (eq-or-lt_of_le low) [
-      | inl same ↦ subst (λ j. f j ≡ g j) same (same_head _ _ _ _ h)
-      | inr above ↦ along f g (from + 1) n (same_tail _ _ _ _ h) k (omega arith) (omega arith)
-    ]
 
 -- a text of one word
 abbrev pub is_one_word : List ℕ → Bool

@@ -5,7 +5,7 @@ use Rattle.keymap_text.specs.declared.token.TheConstants.{SPACE_BYTES, WORD_BYTE
 use Rattle.std.specs.Char.{digit_value}
 use Rattle.keymap_text.specs.declared.words.TheConstants.{DIGITS}
 use Rattle.keymap_text.specs.Lexical.{is_space, is_word}
-use Rattle.keymap_text.proofs.Characters.{along}
+use Rattle.keymap_core.proofs.Lists.{along}
 
 -- computed over the tables
 spaces : map (λ c. get_or SPACE_BYTES c false) (range_with_len 0 256) ≡ map is_space (range_with_len 0 256)

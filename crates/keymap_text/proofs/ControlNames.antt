@@ -8,7 +8,7 @@ use Rattle.keymap_text.specs.Words.{letters}
 use Rattle.keymap_text.specs.Printed.{control_name}
 use Rattle.keymap_text.specs.declared.names.Name.{Name}
 use Rattle.keymap_text.specs.declared.names.TheConstants.{NAMES}
-use Rattle.keymap_text.proofs.Characters.{along}
+use Rattle.keymap_core.proofs.Lists.{along}
 
 -- computed over the table
 low_letters : (d : Name) → map (λ c. letters (get_or NAMES (cond (c == 127) 32 c) d).0) (range_with_len 0 32)

@@ -9,8 +9,7 @@ use Rattle.keymap_text.specs.declared.fault.TextFaultKind.TheVariants.{BadByte, 
 use Rattle.keymap_text.specs.declared.token.TokenKind.{TokenKind}
 use Rattle.keymap_text.specs.declared.token.TokenKind.TheVariants.{ParenL, ParenR, Word}
 use Rattle.keymap_text.specs.Lexical.{leading, stays_on_line, is_blank, is_word, word, literal, Front, Skipped, Found}
-use Rattle.keymap_text.specs.Lexical.{Refused, Unfinished, front_of, tokens_after, TokenValue, Tokens, Then}
-use Rattle.keymap_text.specs.Lexical.{is_empty}
+use Rattle.keymap_text.specs.Lexical.{Refused, Unfinished, front_of, tokens_after, TokenValue, Tokens, Then, is_empty}
 use Rattle.keymap_text.specs.Words.{item}
 use Rattle.keymap_text.specs.Inner.Grammar.{GrammarState, accept, at_end, start}
 use Rattle.keymap_text.specs.Meaning.{is_settled}

@@ -5,8 +5,7 @@ use Rattle.keymap_text.specs.declared.fault.TextFaultKind.{TextFaultKind}
 use Rattle.keymap_text.specs.declared.fault.TextFaultKind.TheVariants as faults
 use Rattle.keymap_text.specs.declared.words.Item.{Item}
 use Rattle.keymap_text.specs.declared.words.Item.TheVariants.{Open, Close, Value}
-use Rattle.keymap_text.specs.declared.words.Meaning.TheVariants.{Number, Char, Act, Combined, OutOfRange, Letter}
-use Rattle.keymap_text.specs.declared.words.Meaning.TheVariants.{Unknown}
+use Rattle.keymap_text.specs.declared.words.Meaning.TheVariants.{Number, Char, Act, Combined}
 use Rattle.keymap_text.specs.Lexical.{TokenValue, Tokens, Ends, Stops, Then, tokens_after}
 use Rattle.keymap_text.specs.Inner.Grammar as full
 use Rattle.keymap_core.specs.Maps.{MapValue, undefined, with_entry, with_accent}
@@ -56,9 +55,7 @@ first_led m (Value (Act a)) = go (accent_index a)
     go (Some i) = refl
     go None = refl
 first_led m (Value Combined) = refl
-first_led m (Value OutOfRange) = refl
-first_led m (Value (Letter f)) = refl
-first_led m (Value Unknown) = refl
+first_led m _ = refl
 
 -- a step of the machine leads to the place that the definitions name, or to their fault
 pub step_led : (m : MapValue) (p : full.GrammarPlace) (t : Item) → next (place_of p) t ≡ led (full.step m p t)
@@ -149,13 +146,7 @@ ends : (m : MapValue) (p : full.GrammarPlace) (q : ℕ)
     → found_of (ended (at_end (at m p)) q) ≡ found_in (Ok (place_of p)) (Ok q)
 unfolding at_end
 ends m full.Definition q = refl
-ends m (full.CellAt slot i e) q = refl
-ends m (full.LockAt slot e) q = refl
-ends m (full.AccentCharacter i) q = refl
-ends m (full.AfterAccent i a) q = refl
-ends m (full.PairBase i a) q = refl
-ends m (full.PairResult i a b) q = refl
-ends m (full.PairEnd i a b r) q = refl
+ends m _ q = refl
 
 -- no token at the end
 list_ends : (q : ℕ) → list_of (Ends q) ≡ []

@@ -84,23 +84,15 @@ accents_put : (m : MapValue) (d : Definition) → length (put m d).accents ≡ m
 accents_put m (KeyDefinition s e) = omega arith
 accents_put m (AccentDefinition i a) = placed_length blank m.accents i a
 
--- how many entries there are after all definitions
-entries_length : (m : MapValue) (ds : List Definition)
-    → length (puts m ds).entries ≡ max (length m.entries) (greatest slots_needed ds)
-entries_length m [] = rw greatest_none (omega arith)
-entries_length m (d ∷ ds) =
-    entries_length (put m d) ds ∙ ap (λ n. max n (greatest slots_needed ds)) (entries_put m d)
-    ∙ max_of (length m.entries) (slots_needed d) (greatest slots_needed ds)
-    ∙ ap (λ n. max (length m.entries) n) (sym (greatest_more slots_needed d ds))
-
--- how many accents
-accents_length : (m : MapValue) (ds : List Definition)
-    → length (puts m ds).accents ≡ max (length m.accents) (greatest accents_needed ds)
-accents_length m [] = rw greatest_none (omega arith)
-accents_length m (d ∷ ds) =
-    accents_length (put m d) ds ∙ ap (λ n. max n (greatest accents_needed ds)) (accents_put m d)
-    ∙ max_of (length m.accents) (accents_needed d) (greatest accents_needed ds)
-    ∙ ap (λ n. max (length m.accents) n) (sym (greatest_more accents_needed d ds))
+-- how many there are after all definitions, by how many each needs
+length_after : (size : MapValue → ℕ) (needs : Definition → ℕ)
+    → ((m : MapValue) (d : Definition) → size (put m d) ≡ max (size m) (needs d))
+    → (m : MapValue) (ds : List Definition) → size (puts m ds) ≡ max (size m) (greatest needs ds)
+length_after size needs one m [] = rw greatest_none (omega arith)
+length_after size needs one m (d ∷ ds) =
+    length_after size needs one (put m d) ds ∙ ap (λ n. max n (greatest needs ds)) (one m d)
+    ∙ max_of (size m) (needs d) (greatest needs ds)
+    ∙ ap (λ n. max (size m) n) (sym (greatest_more needs d ds))
 
 -- one of a list in which another is placed
 padded : {X : Type 0} (xs : List X) (n j : ℕ) (u : X) → get_or (xs ++ replicate n u) j u ≡ get_or xs j u
@@ -172,7 +164,9 @@ same_map es es' bs bs' a b = cc
 -- definitions put into the empty map one by one make the map of the last ones
 pub puts_are : (ds : List Definition) → puts empty_map ds ≡ map_of ds
 puts_are ds = same_map _ _ _ _
-    (by_range _ _ (greatest slots_needed ds) undefined (entries_length empty_map ds ∙ omega arith)
+    (by_range _ _ (greatest slots_needed ds) undefined
+    (length_after (λ m. length m.entries) slots_needed entries_put empty_map ds ∙ omega arith)
     (λ i h. entries_of empty_map ds i))
-    (by_range _ _ (greatest accents_needed ds) blank (accents_length empty_map ds ∙ omega arith)
+    (by_range _ _ (greatest accents_needed ds) blank
+    (length_after (λ m. length m.accents) accents_needed accents_put empty_map ds ∙ omega arith)
     (λ i h. accents_of empty_map ds i))

@@ -10,7 +10,7 @@ use Rattle.std.specs.Char.{to_ascii_lowercase}
 use Rattle.keymap_text.specs.Lexical.{leading, is_word}
 use Rattle.keymap_text.specs.Inner.Keys.{pack, unpacked, AreWordBytes}
 use Rattle.keymap_text.specs.declared.names.TheConstants.{LOW_BYTES}
-use Rattle.keymap_text.proofs.Characters.{along}
+use Rattle.keymap_core.proofs.Lists.{along}
 use Rattle.keymap_text.proofs.Leading.{leading_pass, leading_fail, leading_none}
 
 -- the bytes of words
@@ -92,15 +92,8 @@ mask n h = along (λ n. get_or LOW_BYTES n 0) ones 0 9 masks n (omega arith) (om
 -- eight bytes as a number
 low_front : (w : List ℕ) → 8 ≤ length w → from_le_bytes w64 (take 8 w) ≡ low 8 w
 unfolding low
-low_front [] h = absurd (omega (arith, h))
-low_front (a ∷ []) h = absurd (omega (arith, h))
-low_front (a ∷ b ∷ []) h = absurd (omega (arith, h))
-low_front (a ∷ b ∷ c ∷ []) h = absurd (omega (arith, h))
-low_front (a ∷ b ∷ c ∷ d ∷ []) h = absurd (omega (arith, h))
-low_front (a ∷ b ∷ c ∷ d ∷ e ∷ []) h = absurd (omega (arith, h))
-low_front (a ∷ b ∷ c ∷ d ∷ e ∷ f ∷ []) h = absurd (omega (arith, h))
-low_front (a ∷ b ∷ c ∷ d ∷ e ∷ f ∷ g ∷ []) h = absurd (omega (arith, h))
 low_front (a ∷ b ∷ c ∷ d ∷ e ∷ f ∷ g ∷ i ∷ w) h = omega arith
+low_front _ h = absurd (omega (arith, h))
 
 -- the first bytes in lower case, and blanks behind them, are the key of the word
 pub packed_front : (w : List ℕ) (n x : ℕ) (eight : List ℕ) → n ≤ 8 → 8 ≤ length w → n ≤ leading is_word w

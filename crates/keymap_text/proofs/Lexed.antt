@@ -5,8 +5,7 @@ use Rattle.keymap_text.specs.declared.token.TokenKind.TheVariants.{ParenL, Paren
 use Rattle.keymap_text.specs.declared.words.Item.{Item}
 use Rattle.keymap_text.specs.declared.words.Item.TheVariants.{Open, Close, Value}
 use Rattle.keymap_text.specs.declared.words.Meaning.TheVariants.{Char}
-use Rattle.keymap_text.specs.Lexical.{tokens_after, leading, is_word, is_blank, TokenValue, Then}
-use Rattle.keymap_text.specs.Lexical.{is_empty}
+use Rattle.keymap_text.specs.Lexical.{tokens_after, leading, is_word, is_blank, TokenValue, Then, is_empty}
 use Rattle.keymap_text.specs.Words.{meaning}
 use Rattle.keymap_text.specs.Meaning.{ending_of_tokens, item_of}
 use Rattle.keymap_text.proofs.Leading.{leading_tail, leading_fail}

@@ -4,6 +4,7 @@ pub mod Literals
 pub mod Quoted
 pub mod Steps
 pub mod Numbers
+pub mod Judged
 pub mod Early
 pub mod Faults
 pub mod Folded
@@ -11,6 +12,7 @@ pub mod Row
 pub mod Verdicts
 pub mod Lines
 pub mod BlockLines
+pub mod BlockPlaces
 pub mod Standing
 pub mod Lexed
 pub mod PrintedLines
@@ -29,9 +31,11 @@ pub mod Vectors
 pub mod Cells
 pub mod Pairs
 pub mod Placing
+pub mod Alone
 pub mod RowPlaces
 pub mod Parts
 pub mod LastOf
 pub mod InForce
 pub mod WantedPlace
 pub mod OneRow
+pub mod TokenPlaces

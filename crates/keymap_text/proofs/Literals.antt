@@ -1,7 +1,7 @@
 -- A quoted character that is complete stays so, whatever follows.
 use Rattle.std.proofs.Common.{◌≡◌, ◌≢◌, ◌⊎◌, inl, inr, ℕ, suc, ◌+◌, ◌-◌, ◌<◌, ◌≤◌, ◌==◌, Bool, true, false, cond, List}
 use Rattle.std.proofs.Common.{[], ◌∷◌, ◌++◌, length, get_or, refl, sym, ◌∙◌, ap, subst, arith, nat_lt, nat_le}
-use Rattle.std.proofs.Common.{slice_index, Option, Some, None, length-append, ⊎_elim, eq-eqb, true≢false}
+use Rattle.std.proofs.Common.{slice_index, Option, Some, None, length-append, ⊎_elim, eq-eqb, true≢false, ne_eqb}
 use Rattle.std.proofs.lemmas.Bool.Decides.{nat_tests}
 use Rattle.std.proofs.lemmas.List.{get_or_append_left}
 use Rattle.std.proofs.lemmas.Bool.{le-ltb}
@@ -9,7 +9,6 @@ use Rattle.bstr.specs.Utf8.{decoded, decoded_by, Decoded, bad, good, second, con
 use Rattle.bstr.proofs.lemmas.PieceLemmas.{size-bounds}
 use Rattle.bstr.proofs.lemmas.EncodeLemmas.{decoded-encode}
 use Rattle.std.specs.Prelude.{encode_utf8}
-use Rattle.std.proofs.Common.{ne_eqb}
 use Rattle.std.proofs.Math.Seq.{get_or-append_seam}
 use lib.Utf8.{scalar}
 use Rattle.keymap_text.specs.declared.fault.TextFaultKind.{TextFaultKind}
@@ -336,16 +335,17 @@ pub literal_no_skip : (s : List ℕ) (n : ℕ) → literal s ≡ Skipped n → �
 unfolding LiteralFront
 literal_no_skip s n h = subst LiteralFront h (literal_shape s)
 
+-- no bound of a second byte lets it pass
+never : (p q r s : Bool) → cond p false (cond q false (cond r false (cond s false false))) ≡ false
+never true q r s = refl
+never false true r s = refl
+never false false true s = refl
+never false false false true = refl
+never false false false false = refl
+
 -- every character between apostrophes is one, but LF
 no_second : (b : ℕ) → second b 39 ≡ false
-no_second b = go (b == 0xE0) (b == 0xED) (b == 0xF0) (b == 0xF4)
-  where
-    go : (p q r s : Bool) → cond p false (cond q false (cond r false (cond s false false))) ≡ false
-    go true q r s = refl
-    go false true r s = refl
-    go false false true s = refl
-    go false false false true = refl
-    go false false false false = refl
+no_second b = never (b == 0xE0) (b == 0xED) (b == 0xF0) (b == 0xF4)
 
 -- a byte that no other follows begins no character
 no_char : (p q r : Bool) (a z : Decoded) → r ≡ false → (cond p (bad 1) (cond q (bad 1) (cond r a (bad 1)))).char ≡ None
@@ -399,14 +399,7 @@ at_most k false y z g h = h
 
 -- no LF stands second in a character
 no_second_lf : (b : ℕ) → second b 10 ≡ false
-no_second_lf b = go (b == 0xE0) (b == 0xED) (b == 0xF0) (b == 0xF4)
-  where
-    go : (p q r s : Bool) → cond p false (cond q false (cond r false (cond s false false))) ≡ false
-    go true q r s = refl
-    go false true r s = refl
-    go false false true s = refl
-    go false false false true = refl
-    go false false false false = refl
+no_second_lf b = never (b == 0xE0) (b == 0xED) (b == 0xF0) (b == 0xF4)
 
 -- nor does any character go past one
 size_before_lf : (l : List ℕ) → 0 < length l → (decoded (l ++ 10 ∷ [])).size ≤ length l

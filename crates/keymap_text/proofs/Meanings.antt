@@ -1,11 +1,11 @@
 -- Each row of the table of names says what its name means.
-use Rattle.std.proofs.Common.{◌≡◌, ℕ, suc, ◌+◌, ◌*◌, ◌<◌, Bool, true, false, cond, ◌&&◌, List, [], ◌∷◌}
-use Rattle.std.proofs.Common.{length, take, drop, get_or, map, fold, All, refl, sym, ◌∙◌, ap, ap₂, arith, nat_lt}
-use Rattle.std.proofs.Common.{nat_le, Option, Some, None, IfSome, codes, bytes_eq}
+use Rattle.std.proofs.Common.{◌≡◌, ℕ, suc, ◌+◌, ◌*◌, ◌<◌, Bool, true, false, cond, ◌&&◌, List, [], ◌∷◌, length, take}
+use Rattle.std.proofs.Common.{drop, get_or, map, fold, All, refl, sym, ◌∙◌, ap, ap₂, arith, nat_lt, nat_le, Option}
+use Rattle.std.proofs.Common.{Some, None, IfSome, codes, bytes_eq, ◌≤◌, length-take, take_all}
 use Rattle.std.proofs.lemmas.Str.Ascii.{lowercase-lowercase}
 use Rattle.std.proofs.lemmas.List.{get_or-map, take-map, drop-map, length-map}
 use Rattle.std.proofs.lemmas.Bool.Decides.{nat_tests}
-use Rattle.std.specs.List.{list_all}
+use Rattle.std.specs.List.{list_all, range_with_len}
 use Rattle.std.specs.Char.{to_ascii_lowercase, digit_value}
 use Rattle.keymap_core.specs.Names.{named_of, meaning_of}
 use Rattle.keymap_core.specs.declared.named.Named.{Named}
@@ -16,15 +16,12 @@ use Rattle.keymap_text.specs.declared.words.Meaning.{Meaning}
 use Rattle.keymap_text.specs.Inner.Keys.{pack, unpacked, KeyMeans, IsTrueName, function_name, screen_name}
 use Rattle.keymap_text.specs.Inner.Keys.{name_key, place_of, ArePlaced}
 use Rattle.keymap_text.proofs.Keys.{unpack_packed, letters_front}
-use Rattle.keymap_text.proofs.Characters.{along}
+use Rattle.keymap_core.proofs.Lists.{along}
 use Rattle.keymap_text.specs.Lexical.{leading, is_word}
 use Rattle.keymap_core.specs.declared.action.Action.TheVariants as a
 use Rattle.std.specs.Int.{from_le_bytes, w64}
-use Rattle.std.specs.List.{range_with_len}
-use Rattle.std.proofs.Common.{◌≤◌, length-take, take_all}
 use Rattle.keymap_text.specs.Words.{meaning, same_name, sense_meaning, letters, meaning_by_names, named, table}
-use Rattle.keymap_text.specs.Words.{digits_of}
-use Rattle.keymap_text.specs.Words.{number_after, is_digit, of_action}
+use Rattle.keymap_text.specs.Words.{digits_of, number_after, is_digit, of_action}
 
 -- case has no effect
 idem : (w : List ℕ) → map to_ascii_lowercase (map to_ascii_lowercase w) ≡ map to_ascii_lowercase w

@@ -1,8 +1,7 @@
 -- Names and numbers.
 use Rattle.std.proofs.Common.{◌≡◌, ℕ, suc, ◌+◌, ◌*◌, ◌^◌, ◌<◌, ◌≤◌, Bool, true, false, cond, ◌&&◌, List, [], ◌∷◌}
 use Rattle.std.proofs.Common.{length, take, drop, get_or, refl, sym, ◌∙◌, ap, arith, add-one, drop-cons, pow_mono}
-use Rattle.std.proofs.Common.{pow-add, nat_lt, Some, None, Option}
-use Rattle.std.proofs.Common.{mul-le-mul_left, ap₂, zero, ◌==◌, true≢false}
+use Rattle.std.proofs.Common.{pow-add, nat_lt, Some, None, Option, mul-le-mul_left, ap₂, zero, ◌==◌, true≢false}
 use Rattle.std.proofs.lemmas.List.{at_drop_all}
 use Rattle.std.proofs.lemmas.List.Sums.{fold_more}
 use Rattle.std.proofs.lemmas.List.Folds.{list_all_at, list_all_more}
@@ -59,30 +58,16 @@ bound_step n base d i h b e =
     four : (i : ℕ) → 4 * (i + 1) ≡ 4 * i + 4
     four i = omega arith
 
--- 32 digits fit in 128 bits
-pub room : (i : ℕ) → i < 32 → 2 ^ (4 * (i + 1)) ≤ 2 ^ 128
-room i h = pow_mono {i = 4 * (i + 1)} {j = 128} (omega arith)
+-- so many digits fit in four times as many bits
+pub room : (most i : ℕ) → i < most → 2 ^ (4 * (i + 1)) ≤ 2 ^ (4 * most)
+room most i h = pow_mono {i = 4 * (i + 1)} {j = 4 * most} (omega arith)
 
 -- so does the product on the way
-pub product_fits : (n base i : ℕ) → n < 2 ^ (4 * i) → base ≤ 16 → i < 32 → n * base < 2 ^ 128
-product_fits n base i h b l =
+pub product_fits : (most n base i : ℕ) → n < 2 ^ (4 * i) → base ≤ 16 → i < most → n * base < 2 ^ (4 * most)
+product_fits most n base i h b l =
     let k = mul-le-mul_left n b in
     let p : 2 ^ (4 * (i + 1)) ≡ 2 ^ (4 * i) * 16 = ap (λ m. 2 ^ m) (four i) ∙ pow-add 2 (4 * i) 4 in
-    omega (arith, k, p, room i l)
-  where
-    four : (i : ℕ) → 4 * (i + 1) ≡ 4 * i + 4
-    four i = omega arith
-
--- 15 digits fit in 60 bits
-pub short_room : (i : ℕ) → i < 15 → 2 ^ (4 * (i + 1)) ≤ 2 ^ 60
-short_room i h = pow_mono {i = 4 * (i + 1)} {j = 60} (omega arith)
-
--- so does the product on the way
-pub short_product_fits : (n base i : ℕ) → n < 2 ^ (4 * i) → base ≤ 16 → i < 15 → n * base < 2 ^ 60
-short_product_fits n base i h b l =
-    let k = mul-le-mul_left n b in
-    let p : 2 ^ (4 * (i + 1)) ≡ 2 ^ (4 * i) * 16 = ap (λ m. 2 ^ m) (four i) ∙ pow-add 2 (4 * i) 4 in
-    omega (arith, k, p, short_room i l)
+    omega (arith, k, p, room most i l)
   where
     four : (i : ℕ) → 4 * (i + 1) ≡ 4 * i + 4
     four i = omega arith

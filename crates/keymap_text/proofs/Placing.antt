@@ -98,7 +98,7 @@ pub record IsNext (q : ℕ) (bytes : List ℕ) (ts : Tokens) (t : TokenValue) (j
   pub some : 0 < length t.bytes
   pub within : j + length t.bytes ≤ length bytes
   pub short : t.kind ≡ Word → length t.bytes ≤ 32
-  pub others : list_of ts ≡ t ∷ list_of (tokens_after 0 (q + j + length t.bytes) (drop (j + length t.bytes) bytes))
+  pub tokens : ts ≡ Then t (tokens_after 0 (q + j + length t.bytes) (drop (j + length t.bytes) bytes))
 
 none_first : (q : ℕ) (t : TokenValue) → first (Ends q) ≡ Ok (Some t) → ⊥
 none_first q t h = cc
@@ -122,9 +122,9 @@ one_more q c bytes ts t (j, h) =
         some = h.some;
         within = omega (arith, h.within);
         short = h.short;
-        others =
-            h.others ∙ ap (λ p. t ∷ list_of (tokens_after 0 p (drop (j + n) bytes))) place
-            ∙ ap (λ i. t ∷ list_of (tokens_after 0 (q + suc j + n) (drop i (c ∷ bytes)))) index;
+        tokens =
+            h.tokens ∙ ap (λ p. Then t (tokens_after 0 p (drop (j + n) bytes))) place
+            ∙ ap (λ i. Then t (tokens_after 0 (q + suc j + n) (drop i (c ∷ bytes)))) index;
       },
     )
 
@@ -144,11 +144,10 @@ found_next q c n kind bytes t h e =
       some = omega arith;
       within = omega (arith, l, within);
       short = λ w. let s : n < 32 = f.short w in omega (arith, l, s);
-      others =
-          ap list_of (split_found q c n kind bytes h) ∙ list_then u _
-          ∙ ap (λ ts. u ∷ list_of ts) (split_after n (q + 1) bytes within)
-          ∙ ap (λ p. u ∷ list_of (tokens_after 0 p (drop n bytes))) place
-          ∙ ap (λ i. u ∷ list_of (tokens_after 0 (q + 0 + suc (length (take n bytes))) (drop i (c ∷ bytes)))) index;
+      tokens =
+          split_found q c n kind bytes h ∙ ap (λ ts. Then u ts) (split_after n (q + 1) bytes within)
+          ∙ ap (λ p. Then u (tokens_after 0 p (drop n bytes))) place
+          ∙ ap (λ i. Then u (tokens_after 0 (q + 0 + suc (length (take n bytes))) (drop i (c ∷ bytes)))) index;
     })
 
 pub next_is : (bytes : List ℕ) (k q : ℕ) (t : TokenValue) → first (tokens_after k q bytes) ≡ Ok (Some t)
@@ -183,7 +182,8 @@ pub record IsToken (text : List ℕ) (at : ℕ) (t : TokenValue) : Type 0 where
   pub some : 0 < length t.bytes
   pub within : t.start + length t.bytes ≤ length text
   pub short : t.kind ≡ Word → length t.bytes ≤ 32
-  pub others : tokens_from text at ≡ t ∷ tokens_from text (t.start + length t.bytes)
+  pub tokens : tokens_after 0 at (drop at text)
+      ≡ Then t (tokens_after 0 (t.start + length t.bytes) (drop (t.start + length t.bytes) text))
 
 pub token_at : (text : List ℕ) (at : ℕ) (t : TokenValue) → at ≤ length text
     → first (tokens_after 0 at (drop at text)) ≡ Ok (Some t) → IsToken text at t
@@ -199,11 +199,11 @@ token_at text at t l h = go (next_is (drop at text) 0 at t h)
           some = n.some;
           within = omega (arith, n.start, n.within, len);
           short = n.short;
-          others =
-              n.others ∙ ap (λ p. t ∷ list_of (tokens_after 0 p (drop (j + length t.bytes) (drop at text)))) place
-              ∙ ap (λ (b : List ℕ). t ∷ list_of (tokens_after 0 (t.start + length t.bytes) b))
+          tokens =
+              n.tokens ∙ ap (λ p. Then t (tokens_after 0 p (drop (j + length t.bytes) (drop at text)))) place
+              ∙ ap (λ (b : List ℕ). Then t (tokens_after 0 (t.start + length t.bytes) b))
               (drop-drop (j + length t.bytes) at text)
-              ∙ ap (λ i. t ∷ list_of (tokens_after 0 (t.start + length t.bytes) (drop i text))) index;
+              ∙ ap (λ i. Then t (tokens_after 0 (t.start + length t.bytes) (drop i text))) index;
         }
 
 -- where no first token is, no tokens are
@@ -231,7 +231,9 @@ found_at text at (Some t) l h e =
       within = omega (arith, e, f.within);
       short = f.short;
       span = ap (λ end. record { start = t.span.start; end = end }) (sym e);
-      others = f.others ∙ ap (λ end. token_view text t ∷ tokens_from text end) (sym e);
+      others =
+          ap list_of f.tokens ∙ list_then (token_view text t) _
+          ∙ ap (λ end. token_view text t ∷ tokens_from text end) (sym e);
     }
 
 -- no token stands at a fault

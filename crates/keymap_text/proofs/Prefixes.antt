@@ -11,8 +11,7 @@ use Rattle.keymap_text.specs.declared.token.TokenKind.TheVariants.{ParenL, Paren
 use Rattle.keymap_text.specs.Lexical.{leading, stays_on_line, is_word, word, literal, Front, Skipped, Found, Refused}
 use Rattle.keymap_text.specs.Lexical.{Unfinished, front_of, tokens_after, TokenValue, Tokens, Ends, Stops, Then}
 use Rattle.keymap_text.specs.Lexical.{is_empty}
-use Rattle.keymap_text.specs.Meaning.{list_of, ending_of_tokens, tokens, ending, IsSameToken}
-use Rattle.keymap_text.specs.Meaning.{is_settled, is_end_inside}
+use Rattle.keymap_text.specs.Meaning.{list_of, ending_of_tokens, tokens, ending, IsSameToken, is_settled, is_end_inside}
 use Rattle.keymap_text.proofs.Leading.{leading_le}
 use Rattle.keymap_text.proofs.Splitting.{split_one, split_after, split_blank, split_comment, split_found, split_refused}
 use Rattle.keymap_text.proofs.Splitting.{split_none, split_unfinished, split_nil}

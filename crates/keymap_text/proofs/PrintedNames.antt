@@ -10,7 +10,8 @@ use Rattle.keymap_core.specs.declared.action.Lock.TheVariants as l
 use Rattle.keymap_text.specs.declared.words.Meaning.TheVariants.{Act}
 use Rattle.keymap_text.specs.Lexical.{leading}
 use Rattle.keymap_text.specs.Words.{meaning, digits_of, named}
-use Rattle.keymap_text.proofs.Characters.{along, is_one_word}
+use Rattle.keymap_core.proofs.Lists.{along}
+use Rattle.keymap_text.proofs.Characters.{is_one_word}
 
 -- computed over the names
 screen_words : map (λ k. is_one_word (name_of (a.Screen k))) (range_with_len 1 16)
@@ -86,31 +87,9 @@ action_word (a.Function k) known =
     along (λ k. is_one_word (name_of (a.Function k))) (λ k. true) 1 96 function_words k (omega arith) (omega arith)
 action_word (a.DeadKey k) known =
     along (λ k. is_one_word (name_of (a.DeadKey k))) (λ k. true) 0 15 dead_key_words k (omega arith) (omega arith)
-action_word a.Nop known = refl
 action_word (a.Mod m.LeftShift) known = refl
-action_word (a.Mod m.RightShift) known = refl
-action_word (a.Mod m.LeftControl) known = refl
-action_word (a.Mod m.RightControl) known = refl
-action_word (a.Mod m.LeftAlt) known = refl
-action_word (a.Mod m.RightAlt) known = refl
-action_word (a.Mod m.AltShift) known = refl
-action_word (a.Mod m.Meta) known = refl
 action_word (a.Lock l.Caps) known = refl
-action_word (a.Lock l.Num) known = refl
-action_word (a.Lock l.Scroll) known = refl
-action_word (a.Lock l.Alt) known = refl
-action_word a.BackTab known = refl
-action_word a.NextScreen known = refl
-action_word a.PreviousScreen known = refl
-action_word a.Boot known = refl
-action_word a.Debug known = refl
-action_word a.Suspend known = refl
-action_word a.Saver known = refl
-action_word a.Standby known = refl
-action_word a.Panic known = refl
-action_word a.Halt known = refl
-action_word a.PowerDown known = refl
-action_word a.Paste known = refl
+action_word _ known = refl
 
 -- the name of an action means that action
 pub action_meaning : (action : Action) → IsAction action → meaning (name_of action) ≡ Act action
@@ -122,28 +101,6 @@ action_meaning (a.Function k) known = function_meaning k (omega arith) (omega ar
 action_meaning (a.DeadKey k) known =
     along (λ k. meaning (name_of (a.DeadKey k))) (λ k. Act (a.DeadKey k)) 0 15 dead_key_meanings k (omega arith)
     (omega arith)
-action_meaning a.Nop known = refl
 action_meaning (a.Mod m.LeftShift) known = refl
-action_meaning (a.Mod m.RightShift) known = refl
-action_meaning (a.Mod m.LeftControl) known = refl
-action_meaning (a.Mod m.RightControl) known = refl
-action_meaning (a.Mod m.LeftAlt) known = refl
-action_meaning (a.Mod m.RightAlt) known = refl
-action_meaning (a.Mod m.AltShift) known = refl
-action_meaning (a.Mod m.Meta) known = refl
 action_meaning (a.Lock l.Caps) known = refl
-action_meaning (a.Lock l.Num) known = refl
-action_meaning (a.Lock l.Scroll) known = refl
-action_meaning (a.Lock l.Alt) known = refl
-action_meaning a.BackTab known = refl
-action_meaning a.NextScreen known = refl
-action_meaning a.PreviousScreen known = refl
-action_meaning a.Boot known = refl
-action_meaning a.Debug known = refl
-action_meaning a.Suspend known = refl
-action_meaning a.Saver known = refl
-action_meaning a.Standby known = refl
-action_meaning a.Panic known = refl
-action_meaning a.Halt known = refl
-action_meaning a.PowerDown known = refl
-action_meaning a.Paste known = refl
+action_meaning _ known = refl

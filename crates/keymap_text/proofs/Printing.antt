@@ -16,8 +16,7 @@ use Rattle.keymap_core.specs.declared.entry.Cell.{Cell}
 use Rattle.keymap_core.specs.declared.entry.Cell.TheVariants as cells
 use Rattle.keymap_text.specs.declared.words.Item.{Item}
 use Rattle.keymap_text.specs.declared.words.Item.TheVariants.{Open, Close, Value}
-use Rattle.keymap_text.specs.declared.words.Meaning.TheVariants.{Number, Char, Act, Combined, OutOfRange, Letter}
-use Rattle.keymap_text.specs.declared.words.Meaning.TheVariants.{Unknown}
+use Rattle.keymap_text.specs.declared.words.Meaning.TheVariants.{Number, Char, Act}
 use Rattle.keymap_text.specs.declared.fault.TextFaultKind.{TextFaultKind}
 use Rattle.keymap_text.specs.Items.{character, cell}
 use Rattle.keymap_text.specs.Lexical.{tokens_after}
@@ -74,10 +73,7 @@ cell_of_character (Value (Char d)) c h =
     ap (λ (r : Result ℕ TextFaultKind). elim r as
     (λ r. Result Cell TextFaultKind) [ Ok c ↦ Ok (cells.Char c) | Err f ↦ Err f ]) h
 cell_of_character (Value (Act a)) c h = absurd (cc)
-cell_of_character (Value Combined) c h = absurd (cc)
-cell_of_character (Value OutOfRange) c h = absurd (cc)
-cell_of_character (Value (Letter f)) c h = absurd (cc)
-cell_of_character (Value Unknown) c h = absurd (cc)
+cell_of_character _ c h = absurd (cc)
 
 -- a cell is printed as one token
 prints_cell : (c : Cell) → IsCell c → PrintsCell c

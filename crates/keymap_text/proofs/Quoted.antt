@@ -1,10 +1,14 @@
 -- What stands at an apostrophe, in the words of the format.
 use Rattle.std.proofs.Common.{◌≡◌, ◌≢◌, inl, inr, ℕ, suc, ◌+◌, ◌<◌, ◌≤◌, ◌==◌, Bool, true, false, cond, List}
-use Rattle.std.proofs.Common.{[], ◌∷◌, ◌++◌, length, drop, slice_index, refl, sym, ◌∙◌, ap, subst, arith}
+use Rattle.std.proofs.Common.{[], ◌∷◌, ◌++◌, length, take, drop, slice_index, refl, sym, ◌∙◌, ap, ap₂, subst, arith}
 use Rattle.std.proofs.Common.{nat_lt, Ok, Err, Option, Some, None, length-append, append_assoc}
-use Rattle.std.proofs.Common.{append-nil, ⊎_elim, true≢false}
+use Rattle.std.proofs.Common.{append-nil, ⊎_elim, true≢false, take_at, ◌&&◌, add-one}
+use Rattle.std.specs.List.{list_all}
+use Rattle.std.proofs.lemmas.List.Folds.{list_all-append}
+use Rattle.std.proofs.lemmas.List.{get_or_at, drop_more, drop_all}
+use Rattle.keymap_text.specs.Lexical.{stays_on_line, Front, Skipped, Found, Refused, Unfinished, literal, quoted}
+use Rattle.keymap_text.specs.Lexical.{closing, unclosed, is_lone, front_of, first, tokens_after}
 use Rattle.std.proofs.lemmas.Bool.Decides.{nat_tests}
-use Rattle.std.proofs.lemmas.List.{drop_more, drop_all}
 use Rattle.std.specs.Char.{encode_utf8}
 use Rattle.bstr.specs.Utf8.{decoded, Decoded, good, second, continues, code_of_3, code_of_4}
 use Rattle.bstr.proofs.lemmas.PieceLemmas.{by-shape, value-9, value-12}
@@ -13,8 +17,6 @@ use Rattle.keymap_text.specs.declared.fault.TextFaultKind.{TextFaultKind}
 use Rattle.keymap_text.specs.declared.fault.TextFaultKind.TheVariants.{BadLiteral, EndInside}
 use Rattle.keymap_text.specs.declared.token.TokenKind.{TokenKind}
 use Rattle.keymap_text.specs.declared.token.TokenKind.TheVariants.{Literal}
-use Rattle.keymap_text.specs.Lexical.{Front, Skipped, Found, Refused, Unfinished, literal, quoted, closing, unclosed}
-use Rattle.keymap_text.specs.Lexical.{is_lone, front_of, first, tokens_after}
 use Rattle.keymap_text.specs.Quoted.{IsCharacter, IsQuoted, BeginsQuoted, IsUnfinished, IsReason, quoted_token}
 use Rattle.keymap_text.proofs.Literals.{literal_stable, literal_refused, literal_fits, literal_no_skip, literal_spelled}
 use Rattle.keymap_text.proofs.Splitting.{split_found, split_refused, split_unfinished}
@@ -117,6 +119,59 @@ literal_finds s k n h = go (is_lone s) refl h
         subst (λ k. Finds s k n) kinds (subst (λ n. Finds s (Literal (slice_index s 0)) n) sizes (lone_finds s l))
     go false l e = decoded_finds s (decoded s).char k n refl e
 
+-- what is found at an apostrophe is found there whatever stands behind it
+pub literal_alone : (s y : List ℕ) (k : TokenKind) (n : ℕ) → literal s ≡ Found k n → literal (take n s ++ y) ≡ Found k n
+literal_alone s y k n h =
+    let f = literal_finds s k n h in
+    let w = f.between ++ 39 ∷ [] in
+    let whole : s ≡ w ++ drop n s = f.bytes ∙ sym (append_assoc f.between (39 ∷ []) (drop n s)) in
+    let size : length w ≡ n = length-append f.between (39 ∷ []) ∙ sym f.size in
+    let front : take n s ≡ w = ap (take n) whole ∙ take_at w (drop n s) n size in
+    ap literal (ap (λ (l : List ℕ). l ++ y) front ∙ append_assoc f.between (39 ∷ []) y)
+    ∙ character_found f.char f.between y f.character ∙ ap₂ Found (sym f.kind) (sym f.size)
+
+-- it has two bytes at least behind the apostrophe
+pub literal_wide : (s : List ℕ) (k : TokenKind) (n : ℕ) → literal s ≡ Found k n → 2 ≤ n
+unfolding encode_utf8
+literal_wide s k n h =
+    let f = literal_finds s k n h in
+    let some : 0 < length f.between = ⊎_elim
+    (λ u. subst (λ l. 0 < length l) (sym u.2) (encoded f.char))
+    (λ l. subst (λ l. 0 < length l) (sym l.1) (omega arith)) f.character in
+    omega (arith, some, f.size)
+  where
+    encoded : (c : ℕ) → 0 < length (encode_utf8 c)
+    encoded c = grind (arith, nat_tests)
+
+-- no byte of a character is an LF, but of that one
+character_on_line : (c : ℕ) (b : List ℕ) → IsCharacter c b → list_all stays_on_line b ≡ true
+unfolding encode_utf8
+character_on_line c b h = ⊎_elim
+    (λ u. ap (list_all stays_on_line) u.2 ∙ encoded c u.1)
+    (λ l. ap (list_all stays_on_line) l.1 ∙ lone c l.0) h
+  where
+    lone : (c : ℕ) → 0x80 ≤ c → list_all stays_on_line (c ∷ []) ≡ true
+    lone c h = grind (arith, nat_tests)
+
+    encoded : (c : ℕ) → c ≢ 10 → list_all stays_on_line (encode_utf8 c) ≡ true
+    encoded c h = grind (arith, nat_tests)
+
+-- nor is one of what is found at an apostrophe, and the last one is an apostrophe
+pub literal_on_line : (s : List ℕ) (k : TokenKind) (n : ℕ) → literal s ≡ Found k n
+    → (list_all stays_on_line (take n s) ≡ true) × (slice_index (39 ∷ s) n ≡ 39)
+literal_on_line s k n h =
+    let f = literal_finds s k n h in
+    let w = f.between ++ 39 ∷ [] in
+    let whole : s ≡ w ++ drop n s = f.bytes ∙ sym (append_assoc f.between (39 ∷ []) (drop n s)) in
+    let size : length w ≡ n = length-append f.between (39 ∷ []) ∙ sym f.size in
+    let front : take n s ≡ w = ap (take n) whole ∙ take_at w (drop n s) n size in (
+      ap (list_all stays_on_line) front ∙ list_all-append stays_on_line f.between (39 ∷ [])
+          ∙ ap (λ b. b && true) (character_on_line f.char f.between f.character),
+      ap (slice_index (39 ∷ s)) (f.size ∙ add-one (length f.between))
+          ∙ ap (λ s. slice_index s (length f.between)) f.bytes
+          ∙ get_or_at f.between 39 (drop n s) 0 (length f.between) refl,
+    )
+
 -- bytes that are all of a character
 whole_character : (t : List ℕ) (c : ℕ) → (decoded t).char ≡ Some c → length t ≤ (decoded t).size → c ≢ 10
     → IsCharacter c t
@@ -200,11 +255,8 @@ two_of (b ∷ c ∷ d ∷ s) l = absurd (omega (arith, l))
 -- three bytes of a list
 three_of : (s : List ℕ) → length s ≡ 3 → 0xF0 ≤ slice_index s 0 → slice_index s 0 ≤ 0xF4
     → second (slice_index s 0) (slice_index s 1) ≡ true → continues (slice_index s 2) ≡ true → IsUnfinished (39 ∷ s)
-three_of [] l = absurd (omega (arith, l))
-three_of (b ∷ []) l = absurd (omega (arith, l))
-three_of (b ∷ c ∷ []) l = absurd (omega (arith, l))
 three_of (b ∷ c ∷ d ∷ []) l = three_begin b c d
-three_of (b ∷ c ∷ d ∷ e ∷ s) l = absurd (omega (arith, l))
+three_of _ l = absurd (omega (arith, l))
 
 -- by how the bytes decode
 none_begins : (s : List ℕ) → (decoded s).char ≡ None → (decoded s).size ≡ length s → IsUnfinished (39 ∷ s)

@@ -14,16 +14,13 @@ use Rattle.keymap_core.specs.declared.entry.LockFlag.{LockFlag}
 use Rattle.keymap_core.specs.declared.action.Action.{Action}
 use Rattle.keymap_text.specs.declared.words.Item.{Item}
 use Rattle.keymap_text.specs.declared.words.Item.TheVariants.{Open, Close, Value}
-use Rattle.keymap_text.specs.declared.words.Meaning.TheVariants.{Number, Char, Act, Combined, OutOfRange, Letter}
-use Rattle.keymap_text.specs.declared.words.Meaning.TheVariants.{Unknown}
+use Rattle.keymap_text.specs.declared.words.Meaning.TheVariants.{Number, Char, Act, Combined, Letter}
 use Rattle.keymap_core.specs.Accents.{AccentValue}
 use Rattle.keymap_core.specs.Maps.{MapValue, undefined, with_entry, with_accent}
 use Rattle.keymap_text.specs.Items.{character, cell, lock, accent_index}
 use Rattle.keymap_text.specs.Inner.Grammar.{GrammarState, GrammarPlace, Definition, CellAt, LockAt, AccentCharacter}
-use Rattle.keymap_text.specs.Inner.Grammar.{AfterAccent}
-use Rattle.keymap_text.specs.Inner.Grammar.{PairBase}
-use Rattle.keymap_text.specs.Inner.Grammar.{PairResult, PairEnd, accept, at, at_end, start, step, first_of, empty_map}
-use Rattle.keymap_text.specs.Inner.Grammar.{with_cell, with_pair, after_cell, after_base, ◌>>=◌}
+use Rattle.keymap_text.specs.Inner.Grammar.{AfterAccent, PairBase, PairResult, PairEnd, accept, at, at_end, start, step}
+use Rattle.keymap_text.specs.Inner.Grammar.{first_of, empty_map, with_cell, with_pair, after_cell, after_base, ◌>>=◌}
 use Rattle.keymap_text.specs.Rows as rows
 use Rattle.keymap_text.specs.Rows.{KeyDefinition, AccentDefinition, AreCells, no_cells, one_cell, ArePairs, no_pairs}
 use Rattle.keymap_text.specs.Rows.{one_pair, Defines, of_key, of_accent, IsRow, no_definition, one_definition}
@@ -120,21 +117,12 @@ begins (Value (Act a)) p h = go (accent_index a) refl h
     go (Some i) e h = subst (Part (Value (Act a) ∷ [])) (ok_is _ _ h) (a, refl, e)
     go None e h = absurd (err_ok _ _ h)
 begins (Value Combined) p h = absurd (err_ok _ _ h)
-begins (Value OutOfRange) p h = absurd (err_ok _ _ h)
-begins (Value (Letter f)) p h = absurd (err_ok _ _ h)
-begins (Value Unknown) p h = absurd (err_ok _ _ h)
+begins _ p h = absurd (err_ok _ _ h)
 
 -- a lock letter
 lock_is : (t : Item) (f : LockFlag) → lock t ≡ Ok f → t ≡ Value (Letter f)
-lock_is Open f h = absurd (err_ok _ _ h)
-lock_is Close f h = absurd (err_ok _ _ h)
-lock_is (Value (Number n)) f h = absurd (err_ok _ _ h)
-lock_is (Value (Char c)) f h = absurd (err_ok _ _ h)
-lock_is (Value (Act a)) f h = absurd (err_ok _ _ h)
-lock_is (Value Combined) f h = absurd (err_ok _ _ h)
-lock_is (Value OutOfRange) f h = absurd (err_ok _ _ h)
 lock_is (Value (Letter g)) f h = ap (λ g. Value (Letter g)) (ok_is _ _ h)
-lock_is (Value Unknown) f h = absurd (err_ok _ _ h)
+lock_is _ f h = absurd (err_ok _ _ h)
 
 -- the whole list where the last element was set
 set_last : {X : Type 0} (xs : List X) (i : ℕ) (x : X) → length xs ≡ i + 1 → set xs i x ≡ take i xs ++ x ∷ []

@@ -1,7 +1,6 @@
 -- Where definitions begin is where their rows begin.
-use Rattle.std.proofs.Common.{◌≡◌, ℕ, suc, ◌+◌, ◌<◌, true, false, cond, List, [], ◌∷◌, ◌++◌, length}
-use Rattle.std.proofs.Common.{map, refl, sym, ◌∙◌, ap, ap₂, subst, arith, Some, None, length-append, append_assoc}
-use Rattle.std.proofs.Common.{nat_lt}
+use Rattle.std.proofs.Common.{◌≡◌, ℕ, suc, ◌+◌, ◌<◌, true, false, cond, List, [], ◌∷◌, ◌++◌, length, map, refl, sym}
+use Rattle.std.proofs.Common.{◌∙◌, ap, ap₂, subst, arith, Some, None, length-append, append_assoc, nat_lt}
 use Rattle.std.proofs.lemmas.Bool.Decides.{nat_tests}
 use Rattle.std.proofs.lemmas.List.{length-map}
 use Rattle.keymap_core.specs.declared.action.Action.{Action}
@@ -18,9 +17,8 @@ use Rattle.keymap_text.specs.Items.{accent_index}
 use Rattle.keymap_text.specs.Words.{item}
 use Rattle.keymap_text.specs.Lexical.{TokenValue}
 use Rattle.keymap_text.specs.Meaning.{item_of, tokens, Spells}
-use Rattle.keymap_text.specs.Rows.{Definition, ArePairs}
-use Rattle.keymap_text.specs.Rows.{no_pairs, one_pair, Defines, of_key, of_accent, IsRow, no_definition, one_definition}
-use Rattle.keymap_text.specs.Rows.{map_of}
+use Rattle.keymap_text.specs.Rows.{Definition, ArePairs, no_pairs, one_pair, Defines, of_key, of_accent, IsRow}
+use Rattle.keymap_text.specs.Rows.{no_definition, one_definition, map_of}
 use Rattle.keymap_text.specs.Placed.{Row, AreRows, no_row, one_row, IsSpelledBy, defined, places_after, places_of}
 use Rattle.keymap_text.specs.Placed.{begins}
 use Rattle.keymap_text.specs.Inner.Placed.{behind, is_open, begun}

@@ -15,16 +15,14 @@ use Rattle.keymap_text.specs.declared.words.Meaning.TheVariants.{Char}
 use Rattle.keymap_text.specs.declared.scanner.Mode.{Mode}
 use Rattle.keymap_text.specs.declared.scanner.Mode.TheVariants as modes
 use Rattle.keymap_text.specs.declared.scanner.Scanner.{Scanner}
-use Rattle.keymap_text.specs.Lexical.{leading, is_blank, is_space, is_word, tokens_after, Then}
-use Rattle.keymap_text.specs.Lexical.{is_empty}
+use Rattle.keymap_text.specs.Lexical.{leading, is_blank, is_space, is_word, tokens_after, Then, is_empty}
 use Rattle.keymap_text.specs.Words.{meaning}
 use Rattle.keymap_text.specs.Inner.Grammar.{GrammarState, accept}
 use Rattle.keymap_text.specs.Meaning.{line}
 use Rattle.keymap_text.specs.Inner.Judging.{judge, Faulty}
 use Rattle.keymap_text.specs.Inner.Views.{state_view}
 use Rattle.keymap_text.specs.Inner.Resuming.{tokens_of, resume, KeepsMode, line_feed, IsReader, Lined, Forward}
-use Rattle.keymap_text.specs.Inner.Resuming.{IsFaultOfPending}
-use Rattle.keymap_text.specs.Inner.Resuming.{Goes, Accepts, Takes, Advances, Refuses, Fronts}
+use Rattle.keymap_text.specs.Inner.Resuming.{IsFaultOfPending, Goes, Accepts, Takes, Advances, Refuses, Fronts}
 use Rattle.keymap_text.proofs.Leading.{leading_pass, leading_fail, leading_none}
 use Rattle.keymap_text.proofs.Lines.{feeds, feeds_are, feeds_run, no_feed, lined_run, lined_on, lined_whole}
 use Rattle.keymap_text.proofs.Lines.{pending_line}

@@ -64,12 +64,12 @@ unfolding tokens_after
 split_unfinished q c bytes h = rw (h, tokens_after) refl
 
 -- a blank, and a comment
-front_blank : (c : ℕ) (bytes : List ℕ) → is_blank c ≡ true → front_of c bytes ≡ Skipped 0
+pub front_blank : (c : ℕ) (bytes : List ℕ) → is_blank c ≡ true → front_of c bytes ≡ Skipped 0
 unfolding front_of
 front_blank c bytes h = rw (h, front_of) refl
 
 -- a comment in front
-front_comment : (bytes : List ℕ) → front_of 35 bytes ≡ Skipped (leading stays_on_line bytes)
+pub front_comment : (bytes : List ℕ) → front_of 35 bytes ≡ Skipped (leading stays_on_line bytes)
 unfolding front_of
 front_comment bytes = refl
 

@@ -5,12 +5,10 @@ use Rattle.std.proofs.Common.{append-nil, length-append}
 use Rattle.std.specs.Prelude.{IfErr}
 use Rattle.keymap_text.specs.declared.fault.TextFault.{TextFault}
 use Rattle.keymap_text.specs.declared.scanner.Scanner.{Scanner}
-use Rattle.keymap_text.specs.Meaning.{line}
+use Rattle.keymap_text.specs.Meaning.{line, Early, Means}
 use Rattle.keymap_text.specs.Inner.Judging.{verdict, Faulty}
 use Rattle.keymap_text.specs.Inner.Resuming.{resume, Says, IsReader, IsFaultOfPending, Lined}
 use Rattle.keymap_text.specs.Inner.Views.{state_view}
-use Rattle.keymap_text.specs.Meaning.{Early}
-use Rattle.keymap_text.specs.Meaning.{Means}
 use Rattle.keymap_text.specs.Standing.{StandsAfter}
 use Rattle.keymap_text.specs.Inner.Fields.{progress}
 use Rattle.keymap_text.specs.declared.reader.MapReader.TheInside.{Inside}

@@ -197,6 +197,30 @@ take_word_full s m (a ∷ p) q c h l w e x =
     too_long : (n : ℕ) → 32 ≤ n → word n ≡ Refused BadWord
     too_long n h = grind (arith, nat_tests)
 
+-- a token of the byte a and the bytes w
+pub found_whole : (k : TokenKind) (q a : ℕ) (w x : List ℕ) → front_of a (w ++ x) ≡ Found k (length w)
+    → tokens_after 0 q (a ∷ (w ++ x)) ≡ Then (record { kind = k; bytes = a ∷ w; start = q; last = is_empty x })
+    (tokens_after 0 (q + suc (length w)) x)
+found_whole k q a w x h =
+    split_found q a (length w) k (w ++ x) h
+    ∙ ap (λ (b : List ℕ). Then (record {
+      kind = k;
+      bytes = a ∷ b;
+      start = q;
+      last = is_empty (drop (length w) (w ++ x));
+    }) (tokens_after (length w) (q + 1) (w ++ x))) (take_at w x (length w) refl)
+    ∙ ap (λ (t : Tokens). Then (record {
+      kind = k;
+      bytes = a ∷ w;
+      start = q;
+      last = is_empty (drop (length w) (w ++ x));
+    }) t)
+    (split_after (length w) (q + 1) (w ++ x) (rw length-append (omega arith)))
+    ∙ ap (λ (b : List ℕ). Then (record { kind = k; bytes = a ∷ w; start = q; last = is_empty b })
+    (tokens_after 0 (q + 1 + length w) b)) (drop_at w x (length w) refl)
+    ∙ ap (λ n. Then (record { kind = k; bytes = a ∷ w; start = q; last = is_empty x }) (tokens_after 0 n x))
+    (omega arith)
+
 -- ended by another byte
 pub word_ended : (a q : ℕ) (p y : List ℕ) → is_word a ≡ true → leading is_word p ≡ length p → leading is_word y ≡ 0
     → length p < 32 → tokens_after 0 q (a ∷ (p ++ y)) ≡ Then (record {
@@ -208,24 +232,7 @@ pub word_ended : (a q : ℕ) (p y : List ℕ) → is_word a ≡ true → leading
 word_ended a q p y h w e l =
     let n : leading is_word (p ++ y) ≡ length p =
     leading_append is_word p y w ∙ ap (λ k. length p + k) e ∙ add-zero _ in
-    split_found q a (length p) Word (p ++ y) (front_word a (p ++ y) h ∙ ap word n ∙ short_word (length p) l)
-    ∙ ap (λ (b : List ℕ). Then (record {
-      kind = Word;
-      bytes = a ∷ b;
-      start = q;
-      last = is_empty (drop (length p) (p ++ y));
-    }) (tokens_after (length p) (q + 1) (p ++ y))) (take_at p y (length p) refl)
-    ∙ ap (λ (t : Tokens). Then (record {
-      kind = Word;
-      bytes = a ∷ p;
-      start = q;
-      last = is_empty (drop (length p) (p ++ y));
-    }) t)
-    (split_after (length p) (q + 1) (p ++ y) (rw length-append (omega arith)))
-    ∙ ap (λ (b : List ℕ). Then (record { kind = Word; bytes = a ∷ p; start = q; last = is_empty b })
-    (tokens_after 0 (q + 1 + length p) b)) (drop_at p y (length p) refl)
-    ∙ ap (λ k. Then (record { kind = Word; bytes = a ∷ p; start = q; last = is_empty y }) (tokens_after 0 k y))
-    (omega arith)
+    found_whole Word q a p y (front_word a (p ++ y) h ∙ ap word n ∙ short_word (length p) l)
   where
     short_word : (n : ℕ) → n < 32 → word n ≡ Found Word n
     short_word n h = grind (arith, nat_tests)
@@ -261,30 +268,6 @@ take_literal_refused s m l q c f h e x = ap (λ m. judge s (tokens_of m (39 ∷ 
   where
     clash : (f : TextFaultKind) → Refused f ≡ Unfinished → ⊥
     clash f e = cc
-
--- a token of the byte a and the bytes w
-pub found_whole : (k : TokenKind) (q a : ℕ) (w x : List ℕ) → front_of a (w ++ x) ≡ Found k (length w)
-    → tokens_after 0 q (a ∷ (w ++ x)) ≡ Then (record { kind = k; bytes = a ∷ w; start = q; last = is_empty x })
-    (tokens_after 0 (q + suc (length w)) x)
-found_whole k q a w x h =
-    split_found q a (length w) k (w ++ x) h
-    ∙ ap (λ (b : List ℕ). Then (record {
-      kind = k;
-      bytes = a ∷ b;
-      start = q;
-      last = is_empty (drop (length w) (w ++ x));
-    }) (tokens_after (length w) (q + 1) (w ++ x))) (take_at w x (length w) refl)
-    ∙ ap (λ (t : Tokens). Then (record {
-      kind = k;
-      bytes = a ∷ w;
-      start = q;
-      last = is_empty (drop (length w) (w ++ x));
-    }) t)
-    (split_after (length w) (q + 1) (w ++ x) (rw length-append (omega arith)))
-    ∙ ap (λ (b : List ℕ). Then (record { kind = k; bytes = a ∷ w; start = q; last = is_empty b })
-    (tokens_after 0 (q + 1 + length w) b)) (drop_at w x (length w) refl)
-    ∙ ap (λ n. Then (record { kind = k; bytes = a ∷ w; start = q; last = is_empty x }) (tokens_after 0 n x))
-    (omega arith)
 
 -- a token that is no word is settled
 pub settled : (k : TokenKind) (b : Bool) → is_word_kind k ≡ false → not (is_word_kind k && b) ≡ true

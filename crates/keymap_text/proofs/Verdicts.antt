@@ -7,21 +7,18 @@ use Rattle.keymap_text.specs.declared.fault.TextFaultKind.{TextFaultKind}
 use Rattle.keymap_text.specs.declared.fault.TextFaultKind.TheVariants as faults
 use Rattle.keymap_text.specs.declared.words.Item.{Item}
 use Rattle.keymap_text.specs.Lexical.{TokenValue, Tokens, Ends, Stops, Then, tokens_after, front_of, Front, Skipped}
-use Rattle.keymap_text.specs.Lexical.{Refused}
-use Rattle.keymap_text.specs.Lexical.{Unfinished, is_empty}
+use Rattle.keymap_text.specs.Lexical.{Refused, Unfinished, is_empty}
 use Rattle.keymap_text.specs.Lexical as lexical
 use Rattle.keymap_core.specs.Maps.{MapValue}
 use Rattle.keymap_text.specs.Inner.Grammar.{GrammarState, accept, at_end, start, empty_map}
 use Rattle.keymap_text.specs.declared.fault.TextFault.{TextFault}
 use Rattle.keymap_text.specs.Places.{RowPlace, AtDefinition, may_end}
 use Rattle.keymap_text.specs.Rows.{Definition, IsRow}
-use Rattle.keymap_text.specs.Meaning.{line}
+use Rattle.keymap_text.specs.Meaning.{line, list_of, ending_of_tokens, item_of, items, FaultInText, fault_of, Spells}
+use Rattle.keymap_text.specs.Meaning.{Fault, Early, found_in, place_after}
 use Rattle.keymap_text.specs.Inner.Judging.{judge, verdict, Verdict, Spelled, Faulty, ended}
 use Rattle.keymap_text.proofs.Splitting.{split_one, split_skipped, split_found, split_refused, split_unfinished}
 use Rattle.keymap_text.proofs.Early.{early_from}
-use Rattle.keymap_text.specs.Meaning.{list_of, ending_of_tokens, item_of, items, FaultInText, fault_of, Spells, Fault}
-use Rattle.keymap_text.specs.Meaning.{Early, found_in}
-use Rattle.keymap_text.specs.Meaning.{place_after}
 use Rattle.keymap_text.proofs.Steps.{judge_then, judge_refused, judge_stops, judge_ends}
 use Rattle.keymap_text.proofs.Faults.{found_of, fault_is, same_fault}
 use Rattle.keymap_text.proofs.Folded.{puts, puts_are}

@@ -1,11 +1,13 @@
 pub mod Lexical
 pub mod Quoted
+pub mod Alone
 pub mod Tokens
 pub mod Words
 pub mod Items
 pub mod Rows
 pub mod Places
 pub mod Meaning
+pub mod ReadInto
 pub mod Placed
 pub mod LineOf
 pub mod Wanted
@@ -13,4 +15,5 @@ pub mod Progress
 pub mod Standing
 pub mod Sources
 pub mod Printed
+pub mod FaultNames
 pub mod Inner

@@ -1,6 +1,6 @@
 -- The line of a place in a text.
-use Rattle.std.specs.Prelude.{ℕ, ◌+◌, ◌*◌, ◌/◌, ◌==◌, Bool, List, length, map, take, drop}
-use Rattle.std.specs.List.{after_last, range_with_len}
+use Rattle.std.specs.Prelude.{◌≡◌, ℕ, ◌+◌, ◌-◌, ◌*◌, ◌/◌, ◌==◌, Bool, List, length, map, take, drop}
+use Rattle.std.specs.List.{after_last, range_with_len, suffix_len}
 use Rattle.keymap_text.specs.Lexical.{leading, stays_on_line}
 use Rattle.keymap_text.specs.Meaning.{line}
 
@@ -22,3 +22,23 @@ block_size = 256
 -- the line in which each block of a text begins
 unfoldable pub block_lines : List ℕ → List ℕ
 block_lines text = map (λ i. line text (i * block_size)) (range_with_len 0 (length text / block_size + 1))
+
+-- where the line of a place begins, and where it ends
+abbrev pub line_start : List ℕ → ℕ → ℕ
+line_start text place = place - suffix_len stays_on_line (take place text)
+
+abbrev pub line_end : List ℕ → ℕ → ℕ
+line_end text place = place + leading stays_on_line (drop place text)
+
+-- the same of the line in which each block begins
+unfoldable pub block_starts : List ℕ → List ℕ
+block_starts text = map (λ i. line_start text (i * block_size)) (range_with_len 0 (length text / block_size + 1))
+
+unfoldable pub block_ends : List ℕ → List ℕ
+block_ends text = map (λ i. line_end text (i * block_size)) (range_with_len 0 (length text / block_size + 1))
+
+-- the lines in which the blocks of a text begin: their numbers, their beginnings and their ends
+pub record AreLines (text ns ss es : List ℕ) : Type 0 where
+  pub numbers : ns ≡ block_lines text
+  pub starts : ss ≡ block_starts text
+  pub ends : es ≡ block_ends text

@@ -1,6 +1,6 @@
 -- Where the definitions of a text stand: the tokens of each one.
-use Rattle.std.specs.Prelude.{◌≡◌, ◌<◌, ℕ, ◌+◌, ◌==◌, Bool, false, if◌then◌else◌, List, [], ◌∷◌}
-use Rattle.std.specs.Prelude.{◌++◌, length, map, Option, Some, None, nat_lt}
+use Rattle.std.specs.Prelude.{◌≡◌, ◌<◌, ◌≤◌, ℕ, ◌+◌, ◌==◌, Bool, false, if◌then◌else◌, List, [], ◌∷◌}
+use Rattle.std.specs.Prelude.{◌++◌, length, map, take, drop, Option, Some, None, nat_lt}
 use Rattle.std.specs.Option.{option_or}
 use Rattle.keymap_core.specs.Maps.{MapValue}
 use Rattle.keymap_text.specs.declared.token.Span.{Span}
@@ -35,6 +35,11 @@ pub record IsSpelledBy (text : List ℕ) (m : MapValue) (rows : List Row) : Type
 -- where a token stands: the offset of its first byte, and that after its last one
 abbrev pub span_of : TokenValue → Span
 span_of t = record { start = t.start; end = t.start + length t.bytes }
+
+-- a token's bytes are those of the text at its place
+pub record IsPlaced (text : List ℕ) (t : TokenValue) : Type 0 where
+  pub within : t.start + length t.bytes ≤ length text
+  pub bytes : take (length t.bytes) (drop t.start text) ≡ t.bytes
 
 abbrev pub defined : Definition → Defined
 defined (KeyDefinition slot e) = Slot slot

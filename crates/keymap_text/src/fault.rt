@@ -1,4 +1,6 @@
 //! What is wrong with a text.
+ghost use Rattle.std.specs.Prelude.{◌≡◌, ◌≤◌, length};
+ghost use Rattle.keymap_text.specs.FaultNames.{fault_name};
 
 use keymap_core::ReadFault;
 use thiserror::Error;
@@ -28,6 +30,28 @@ pub enum TextFaultKind {
     Combined,
     /// The text ends inside a token or a definition.
     EndInside,
+}
+
+impl TextFaultKind {
+    /// The name of the kind, which is told with a fault; it has at most 12 letters.
+    pub fn name(self) -> &'static [u8]
+        ensures name { result.now ≡ fault_name self }
+        ensures bound { length result.now ≤ 12 }
+    {
+        match self {
+            TextFaultKind::BadByte => b"BadByte",
+            TextFaultKind::BadLiteral => b"BadLiteral",
+            TextFaultKind::BadWord => b"BadWord",
+            TextFaultKind::Unexpected => b"Unexpected",
+            TextFaultKind::KeyTooLarge => b"KeyTooLarge",
+            TextFaultKind::BadChar => b"BadChar",
+            TextFaultKind::BadFunction => b"BadFunction",
+            TextFaultKind::TooManyPairs => b"TooManyPairs",
+            TextFaultKind::ZeroBase => b"ZeroBase",
+            TextFaultKind::Combined => b"Combined",
+            TextFaultKind::EndInside => b"EndInside",
+        }
+    }
 }
 
 /// A fault of a text with its place: the offset in bytes, and the line, counted from 1.

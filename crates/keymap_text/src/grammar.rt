@@ -36,7 +36,7 @@ pub(crate) struct Grammar {
 }
 
 /// The fault of a token where it is not wanted.
-fn refusal(item: &Item) -> TextFaultKind
+pub(crate) fn refusal(item: &Item) -> TextFaultKind
     ensures { result ≡ items.refusal item.now }
 {
     match item {
@@ -110,7 +110,7 @@ pub(crate) fn accent_index(action: &Action) -> Option<u8>
 }
 
 /// Where the first token of a definition leads.
-fn first_place(item: &Item) -> Result<Place, TextFaultKind>
+pub(crate) fn first_place(item: &Item) -> Result<Place, TextFaultKind>
     ensures { Leads result (spec.first_of item.now) }
 {
     match item {

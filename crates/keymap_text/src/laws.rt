@@ -1,7 +1,11 @@
 //! Laws of the definitions. No function here does anything.
-ghost use Rattle.std.specs.Prelude.{◌≡◌, ℕ, ◌<◌, List, [], ◌∷◌, ◌++◌, ◌+◌, ◌*◌, true, false, length, slice_index_or};
-ghost use Rattle.std.specs.Prelude.{map, take, drop, Ok, Err, None, Some, ◌⊎◌};
-ghost use Rattle.keymap_text.specs.Lexical.{TokenValue, first, tokens_after};
+ghost use Rattle.std.specs.Prelude.{◌≡◌, ℕ, ◌<◌, ◌≤◌, List, [], ◌∷◌, ◌++◌, ◌+◌, ◌*◌, true, false, length};
+ghost use Rattle.std.specs.Prelude.{slice_index_or};
+ghost use Rattle.std.specs.Prelude.{map, take, drop, Ok, Err, None, Some, ◌⊎◌, All};
+ghost use Rattle.keymap_text.specs.Lexical.{TokenValue, first, tokens_after, front_of, Found, Skipped};
+ghost use Rattle.keymap_text.specs.Lexical.{separates};
+ghost use Rattle.keymap_text.specs.Alone.{StandsAlone};
+ghost use Rattle.keymap_text.specs.declared.token.TokenKind.{TokenKind as TokenKindValue};
 ghost use Rattle.keymap_text.specs.Quoted.{IsQuoted, BeginsQuoted, IsUnfinished, IsReason, quoted_token};
 ghost use Rattle.keymap_text.specs.Meaning.{Spells, Fault, Early, item_of, place_after, tokens, ending, IsSameToken};
 ghost use Rattle.keymap_core.specs.Maps.{MapValue, undefined};
@@ -13,7 +17,7 @@ ghost use Rattle.keymap_text.specs.declared.words.Meaning.TheVariants.{Letter};
 ghost use Rattle.keymap_core.specs.declared.entry.Entry.{Entry as EntryValue};
 ghost use Rattle.keymap_core.specs.declared.entry.Cell.{Cell as CellValue};
 ghost use Rattle.keymap_core.specs.Accents.{AccentValue, blank};
-ghost use Rattle.keymap_text.specs.Placed.{Row, AreRows, IsSpelledBy, last_of, places_of};
+ghost use Rattle.keymap_text.specs.Placed.{Row, AreRows, IsSpelledBy, IsPlaced, last_of, places_of};
 ghost use Rattle.keymap_text.specs.declared.placed.Placed.{Placed as PlacedValue};
 ghost use Rattle.keymap_text.specs.declared.placed.Defined.TheVariants.{Slot, Accent};
 ghost use Rattle.keymap_core.specs.Numbers.{column_count};
@@ -35,6 +39,14 @@ pub fn quoted_characters()
     ensures refused { (q : ℕ) (rest : List ℕ) → ¬ BeginsQuoted (39 ∷ rest) → ¬ IsUnfinished (39 ∷ rest)
         → first (tokens_after 0 q (39 ∷ rest)) ≡ Err (Kind.BadLiteral, q) }
     ensures only_then { (q : ℕ) (rest : List ℕ) → IsReason (39 ∷ rest) (first (tokens_after 0 q (39 ∷ rest))) }
+{}
+
+/// What is found in front of some bytes is the same token wherever its bytes stand before a blank or a line's end, and
+/// has no line's end in it. Only blanks and comments are passed over.
+pub fn tokens_stand_alone()
+    ensures found { (c n : ℕ) (kind : TokenKindValue) (bytes : List ℕ) → front_of c bytes ≡ Found kind n
+        → StandsAlone kind c n bytes }
+    ensures skipped { (c n : ℕ) (bytes : List ℕ) → front_of c bytes ≡ Skipped n → separates c ≡ true }
 {}
 
 /// The places accept tokens up to a place where a text may end exactly if these are a row of definitions.
@@ -62,6 +74,11 @@ pub fn parts_of_definitions()
     ensures pairs { (ts : List ItemValue) (i : ℕ) (a : AccentValue) → Defines ts (AccentDefinition i a) → (j : ℕ)
         → j < length a.pairs → (p : ℕ × ℕ)
         → ArePairs (take 4 (drop (4 * j + 2) ts)) (slice_index_or a.pairs j p ∷ []) }
+{}
+
+/// The bytes of each token are those of the text at its place.
+pub fn tokens_are_placed()
+    ensures { (text : List ℕ) → All (IsPlaced text) (tokens text) }
 {}
 
 /// Tokens are the rows of one list of rows at most.

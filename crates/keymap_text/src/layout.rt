@@ -14,12 +14,12 @@ type Text = ArrayVec<u8, 8>;
 /// How long a line can be: that of an accent with 52 pairs.
 const LINE: usize = 1160;
 
-/// How long the words of a key can be.
+/// How long the words of a key can be, and its line.
 const WORDS: usize = 80;
 
 type Words = ArrayVec<u8, WORDS>;
 
-pub(crate) type Line = ArrayVec<u8, LINE>;
+type Line = ArrayVec<u8, LINE>;
 
 fn text_of(bytes: &[u8]) -> Text
     requires { length bytes.now ≤ 8 }
@@ -83,16 +83,16 @@ fn cell_text(cell: &Cell) -> Text
     }
 }
 
-fn push_text(line: &mut Line, text: &[u8])
-    requires { length line.old.items + length text.now ≤ 1160 }
+fn push_text<const N: usize>(line: &mut ArrayVec<u8, N>, text: &[u8])
+    requires { length line.old.items + length text.now ≤ N }
     ensures { line.new.items ≡ line.old.items ++ text.now }
 {
     line.try_extend_from_slice(text).unwrap();
 }
 
 /// A blank, and the text of a cell, filled on the right with blanks to six places.
-fn push_column(line: &mut Line, cell: &Cell)
-    requires { length line.old.items + 9 ≤ 1160 }
+fn push_column(line: &mut Words, cell: &Cell)
+    requires { length line.old.items + 9 ≤ WORDS }
     ensures text { line.new.items ≡ line.old.items ++ spec.column (spec.cell_text cell.now) }
     ensures size { length line.new.items ≤ length line.old.items + 9 }
 {
@@ -119,10 +119,10 @@ pub fn flag_letter(flag: LockFlag) -> u8
 
 /// The line of a key.
 #[tactic(auto, unfolding(crate::specs::Printed::key_line))]
-pub(crate) fn key_line(slot: u8, entry: &Entry) -> Line
+pub fn key_line(slot: u8, entry: &Entry) -> ArrayVec<u8, WORDS>
     ensures { result.items ≡ spec.key_line slot entry.now }
 {
-    let mut line = Line::new();
+    let mut line = Words::new();
     push_text(
         &mut line,
         &[b'0' + slot / 100, b'0' + slot / 10 % 10, b'0' + slot % 10],
@@ -196,7 +196,7 @@ pub fn accent_words(index: u8, accent: &Accent) -> ArrayVec<u8, LINE>
 }
 
 /// The line of an accent.
-pub(crate) fn accent_line(index: u8, accent: &Accent) -> Line
+pub fn accent_line(index: u8, accent: &Accent) -> ArrayVec<u8, LINE>
     requires { index < accent_limit }
     ensures { result.items ≡ spec.accent_line index accent.now }
 {

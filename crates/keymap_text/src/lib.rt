@@ -5,6 +5,7 @@
 //! maps it reads and prints.
 #![tactic(auto)]
 
+mod defining;
 mod fault;
 mod grammar;
 mod last;
@@ -21,9 +22,10 @@ mod token;
 mod wanted;
 mod words;
 
+pub use defining::read_into;
 pub use fault::{TextError, TextFault, TextFaultKind};
 pub use last::{LastDefinitions, last_definitions};
-pub use layout::{accent_words, character_text, flag_letter, slot_words};
+pub use layout::{accent_line, accent_words, character_text, flag_letter, key_line, slot_words};
 pub use names::control_name;
 pub use placed::{Defined, Placed, PlacedText, definitions};
 pub use printer::print_map;

@@ -335,7 +335,7 @@ pub(crate) fn line_of(text: &[u8], place: usize) -> u64
     text[..place].iter().filter(|c| **c == b'\n').count() as u64 + 1
 }
 
-fn fault_at(text: &[u8], place: usize, kind: TextFaultKind) -> TextFault
+pub(crate) fn fault_at(text: &[u8], place: usize, kind: TextFaultKind) -> TextFault
     requires { place ≤ length text.now }
     ensures place { result.offset ≡ place }
     ensures line { result.line ≡ line text.now place }

@@ -2,17 +2,14 @@
 -- `front` go on byte by byte and token by token.
 use Rattle.keymap_core.specs.Maps.{MapValue}
 use Rattle.std.specs.Prelude.{◌≡◌, ◌≢◌, ℕ, ◌+◌, ◌<◌, ◌≤◌, Bool, true, false, List, [], ◌++◌, length, take, drop}
-use Rattle.std.specs.Prelude.{slice_index, Result, Ok, Err, if◌then◌else◌, ◌==◌, count_by}
+use Rattle.std.specs.Prelude.{slice_index, Result, Ok, Err, if◌then◌else◌, ◌==◌, count_by, ◌-◌}
 use Rattle.keymap_text.specs.declared.fault.TextFaultKind.{TextFaultKind}
 use Rattle.keymap_text.specs.declared.fault.TextFault.{TextFault}
 use Rattle.keymap_text.specs.declared.scanner.Mode.{Mode}
 use Rattle.keymap_text.specs.declared.scanner.Mode.TheVariants as modes
 use Rattle.keymap_text.specs.declared.scanner.Scanner.{Scanner}
 use Rattle.keymap_text.specs.Lexical.{tokens_after, Tokens, TokenValue, Then, leading, stays_on_line, is_word, is_blank}
-use Rattle.keymap_text.specs.Lexical.{is_space}
-use Rattle.std.specs.Prelude.{◌-◌}
-use Rattle.keymap_text.specs.Lexical.{literal}
-use Rattle.keymap_text.specs.Lexical.{Unfinished}
+use Rattle.keymap_text.specs.Lexical.{is_space, literal, Unfinished}
 use Rattle.keymap_text.specs.Meaning.{line, is_settled}
 use Rattle.keymap_text.specs.Inner.Judging.{judge, Verdict, Spelled, Faulty}
 use Rattle.keymap_text.specs.Items.{character}

@@ -6,6 +6,7 @@ use Rattle.keymap_text.proofs.text_line.line_start.Given as goal
 -- the bytes that were passed stay on the line
 abbrev pub invariant-loop-i : goal.invariant-loop-i
 invariant-loop-i l = record {
+  from : l.from ≤ l.i;
   within : l.i ≤ length l.text;
   passed : l.i + suffix_len stays_on_line (take l.place l.text) ≡ l.place + suffix_len stays_on_line (take l.i l.text);
 }

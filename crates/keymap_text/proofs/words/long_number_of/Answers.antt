@@ -1,5 +1,4 @@
-use Rattle.std.proofs.Common.{ap₂, subst, eqb-true, ◌+◌, ◌*◌, ◌<◌, ◌≤◌}
-use Rattle.std.proofs.Common.{ℕ, length, sym, ◌∙◌, ap, arith, Some}
+use Rattle.std.proofs.Common.{ap₂, subst, eqb-true, ◌+◌, ◌*◌, ◌<◌, ◌≤◌, ℕ, length, sym, ◌∙◌, ap, arith, Some}
 use Rattle.std.proofs.lemmas.List.{take_all}
 use Rattle.keymap_text.specs.Words.{number, is_digit}
 use Rattle.std.specs.List.{list_all}
@@ -20,7 +19,7 @@ pub overflow_mul-n : goal.overflow_mul-n
 overflow_mul-n c =
     omega (
       arith,
-      product_fits c.loop-c.n c.args.base c.loop-c.c-index c.loop-c.invariant.bound c.requires.base
+      product_fits 32 c.loop-c.n c.args.base c.loop-c.c-index c.loop-c.invariant.bound c.requires.base
           (omega arith),
     )
 
@@ -30,7 +29,7 @@ overflow_add-n c =
       arith,
       bound_step c.loop-c.n c.args.base c.digit_value-d.result c.loop-c.c-index c.loop-c.invariant.bound
           c.requires.base (omega arith),
-      room c.loop-c.c-index (omega arith),
+      room 32 c.loop-c.c-index (omega arith),
     )
 
 pub loop-c-preserved : goal.loop-c-preserved

@@ -1,10 +1,9 @@
-use Rattle.std.proofs.Common.{ap₂, subst, eqb-true, ◌+◌, ◌*◌, ◌<◌, ◌≤◌}
-use Rattle.std.proofs.Common.{ℕ, length, sym, ◌∙◌, ap, arith, Some}
+use Rattle.std.proofs.Common.{ap₂, subst, eqb-true, ◌+◌, ◌*◌, ◌<◌, ◌≤◌, ℕ, length, sym, ◌∙◌, ap, arith, Some}
 use Rattle.std.proofs.lemmas.List.{take_all}
 use Rattle.keymap_text.specs.Words.{number, is_digit}
 use Rattle.std.specs.List.{list_all}
 use Rattle.keymap_text.proofs.Numbers.{digits_none, digits_bad, digits_good, number_more, digits_more, bound_step}
-use Rattle.keymap_text.proofs.Numbers.{short_product_fits, short_room, not_empty}
+use Rattle.keymap_text.proofs.Numbers.{product_fits, room, not_empty}
 use Rattle.keymap_text.proofs.words.short_number_of.Goals as goal
 
 pub returns-then-is_empty : goal.returns-then-is_empty
@@ -20,7 +19,7 @@ pub overflow_mul-n : goal.overflow_mul-n
 overflow_mul-n c =
     omega (
       arith,
-      short_product_fits c.loop-c.n c.args.base c.loop-c.c-index c.loop-c.invariant.bound c.requires.base
+      product_fits 15 c.loop-c.n c.args.base c.loop-c.c-index c.loop-c.invariant.bound c.requires.base
           (omega arith),
     )
 
@@ -30,7 +29,7 @@ overflow_add-n c =
       arith,
       bound_step c.loop-c.n c.args.base c.digit_value-d.result c.loop-c.c-index c.loop-c.invariant.bound
           c.requires.base (omega arith),
-      short_room c.loop-c.c-index (omega arith),
+      room 15 c.loop-c.c-index (omega arith),
     )
 
 pub loop-c-preserved : goal.loop-c-preserved

@@ -8,14 +8,14 @@ index-requires c =
     let within : c.args.place ≤ length c.self.inside.text.now =
     subst (λ t. c.args.place ≤ length t) (sym c.self.view_is) c.requires in
     subst (λ n. c.args.place / 256 < n) (sym c.self.inside.numbers.ok.0)
-    (has_block c.self.inside.text.now c.self.inside.numbers.items c.args.place c.self.invariant within)
+    (has_block c.self.inside.text.now c.self.inside.numbers.items c.args.place c.self.invariant.numbers within)
 
 sum_is : (c : goal.After-feeds) → c.index.result.now + c.feeds.result ≡ line c.self.inside.text.now c.args.place
 sum_is c =
     let within : c.args.place ≤ length c.self.inside.text.now =
     subst (λ t. c.args.place ≤ length t) (sym c.self.view_is) c.requires in
     let here = line_of_block c.self.inside.text.now c.self.inside.numbers.items c.args.place c.index.result.now
-    c.self.invariant within in
+    c.self.invariant.numbers within in
     omega (arith, c.index.ensures, c.feeds.ensures, here)
 
 pub overflow_add-result : goal.overflow_add-result

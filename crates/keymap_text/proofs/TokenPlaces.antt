@@ -1,0 +1,94 @@
+-- The bytes of a token are those of the text at its place.
+use Rattle.std.proofs.Common.{◌≡◌, ℕ, zero, suc, ◌+◌, ◌≤◌, List, [], ◌∷◌, length, take, drop, refl, sym, ◌∙◌, ap, subst}
+use Rattle.std.proofs.Common.{arith, All}
+use Rattle.std.proofs.lemmas.List.{length-take-le}
+use Rattle.std.proofs.lemmas.List.Elements.{All-nil, All-cons, All-weaker}
+use Rattle.keymap_text.specs.declared.fault.TextFaultKind.{TextFaultKind}
+use Rattle.keymap_text.specs.declared.fault.TextFaultKind.TheVariants.{EndInside}
+use Rattle.keymap_text.specs.declared.token.TokenKind.{TokenKind}
+use Rattle.keymap_text.specs.Lexical.{Front, Skipped, Found, Refused, Unfinished, front_of, tokens_after, TokenValue}
+use Rattle.keymap_text.specs.Lexical.{Tokens, Ends, Stops, is_empty}
+use Rattle.keymap_text.specs.Meaning.{list_of, tokens}
+use Rattle.keymap_text.specs.Placed.{IsPlaced}
+use Rattle.keymap_text.proofs.Splitting.{split_one, split_skipped, split_found, split_refused, split_nil}
+use Rattle.keymap_text.proofs.Splitting.{split_unfinished}
+use Rattle.keymap_text.proofs.Faults.{list_then}
+use Rattle.keymap_text.proofs.Placing.{Fits, front_fits}
+
+-- the token is one of these bytes, which stand at q
+record Among (q : ℕ) (bytes : List ℕ) (t : TokenValue) : Type 0 where
+  skipped : ℕ
+  start : t.start ≡ q + skipped
+  within : skipped + length t.bytes ≤ length bytes
+  there : take (length t.bytes) (drop skipped bytes) ≡ t.bytes
+
+one_more : (q c : ℕ) (bytes : List ℕ) (t : TokenValue) → Among (q + 1) bytes t → Among q (c ∷ bytes) t
+one_more q c bytes t h = record {
+  skipped = suc h.skipped;
+  start = omega (arith, h.start);
+  within = omega (arith, h.within);
+  there = h.there;
+}
+
+in_front : (q c n : ℕ) (kind : TokenKind) (bytes : List ℕ) → front_of c bytes ≡ Found kind n
+    → Among q (c ∷ bytes) (record { kind = kind; bytes = c ∷ take n bytes; start = q; last = is_empty (drop n bytes) })
+in_front q c n kind bytes h =
+    let f : Fits kind n bytes = front_fits c bytes kind n h in
+    let l : length (take n bytes) ≡ n = length-take-le n bytes f.within in record {
+      skipped = 0;
+      start = omega arith;
+      within = omega (arith, l, f.within);
+      there = ap (λ i. c ∷ take i bytes) l;
+    }
+
+none_of : (P : TokenValue → Type 0) (ts : Tokens) → list_of ts ≡ [] → All P (list_of ts)
+none_of P ts e = subst (All P) (sym e) (All-nil P)
+
+ends_list : (q : ℕ) → list_of (Ends q) ≡ []
+unfolding list_of
+ends_list q = refl
+
+stops_list : (f : TextFaultKind) (q : ℕ) → list_of (Stops f q) ≡ []
+unfolding list_of
+stops_list f q = refl
+
+all_among : (bytes : List ℕ) (k q : ℕ) → All (Among q bytes) (list_of (tokens_after k q bytes))
+all_among [] k q = none_of (Among q []) (tokens_after k q []) (ap list_of (split_nil k q) ∙ ends_list q)
+all_among (c ∷ bytes) (suc k) q =
+    subst (λ ts. All (Among q (c ∷ bytes)) (list_of ts)) (sym (split_one k q c bytes))
+    (All-weaker (Among (q + 1) bytes) (Among q (c ∷ bytes)) (one_more q c bytes)
+    (list_of (tokens_after k (q + 1) bytes)) (all_among bytes k (q + 1)))
+all_among (c ∷ bytes) zero q = go (front_of c bytes) refl (λ n. all_among bytes n (q + 1))
+  where
+    later : (n : ℕ) → All (Among (q + 1) bytes) (list_of (tokens_after n (q + 1) bytes))
+        → All (Among q (c ∷ bytes)) (list_of (tokens_after n (q + 1) bytes))
+    later n h =
+        All-weaker (Among (q + 1) bytes) (Among q (c ∷ bytes)) (one_more q c bytes)
+        (list_of (tokens_after n (q + 1) bytes)) h
+
+    go : (f : Front) → front_of c bytes ≡ f → ((n : ℕ) → All (Among (q + 1) bytes) (list_of (tokens_after n (q + 1) bytes)))
+        → All (Among q (c ∷ bytes)) (list_of (tokens_after 0 q (c ∷ bytes)))
+    go (Skipped n) e ih =
+        subst (λ ts. All (Among q (c ∷ bytes)) (list_of ts)) (sym (split_skipped q c n bytes e)) (later n (ih n))
+    go (Found kind n) e ih =
+        let t : TokenValue = record { kind = kind; bytes = c ∷ take n bytes; start = q; last = is_empty (drop n bytes) } in
+        subst (λ ts. All (Among q (c ∷ bytes)) (list_of ts)) (sym (split_found q c n kind bytes e))
+        (subst (All (Among q (c ∷ bytes))) (sym (list_then t (tokens_after n (q + 1) bytes)))
+        (All-cons (Among q (c ∷ bytes)) t (list_of (tokens_after n (q + 1) bytes)) (in_front q c n kind bytes e)
+        (later n (ih n))))
+    go (Refused f) e ih =
+        none_of (Among q (c ∷ bytes)) (tokens_after 0 q (c ∷ bytes))
+        (ap list_of (split_refused q c f bytes e) ∙ stops_list f q)
+    go Unfinished e ih =
+        none_of (Among q (c ∷ bytes)) (tokens_after 0 q (c ∷ bytes))
+        (ap list_of (split_unfinished q c bytes e) ∙ stops_list EndInside (q + 1 + length bytes))
+
+pub tokens_are_placed : (text : List ℕ) → All (IsPlaced text) (tokens text)
+tokens_are_placed text = All-weaker (Among 0 text) (IsPlaced text) placed (tokens text) (all_among text 0 0)
+  where
+    placed : (t : TokenValue) → Among 0 text t → IsPlaced text t
+    placed t h =
+        let e : h.skipped ≡ t.start = omega (arith, h.start) in record {
+          within = omega (arith, h.start, h.within);
+          bytes = ap (λ n. take (length t.bytes) (drop n text)) (sym e) ∙ h.there;
+        }

@@ -1,15 +1,20 @@
 /*
- * kmap.h: the FreeBSD console's keyboard for C, over the bytes of a table file that `kmap compile` writes.
+ * kmap.h: the FreeBSD console's keyboard for C, over the bytes of a table file, which `kmap compile` writes and
+ * kmap_read_text makes of a keymap text.
  *
- * A console lives in the memory of its caller. No call takes memory, and none keeps a pointer that it was given. Two
- * calls may run at once where neither writes what the other reads.
+ * A console lives in the memory of its caller. No call takes memory, and none keeps a pointer that it was given. The
+ * library has no state of its own: calls may run at once, on different consoles also over the same tables, where none
+ * writes what another reads.
  *
- * No pointer may be null, also where the length with it is 0. What a call writes may not overlap anything else that it
- * is given. A pointer to const is only read. Tables are bytes and may begin anywhere; a console, events, answers and a
- * fault are aligned as their C types are.
+ * What each call asks of its caller: no pointer is null, also where the length with it is 0; as many bytes, events or
+ * places for answers as a length says may be read, or written where the pointer isn't to const; and what a call writes
+ * overlaps nothing else that it is given. Texts, tables and words are bytes and may begin anywhere; all else is aligned
+ * as its C type is. A pointer to const is only read, and the two tables of a call may be the same bytes.
  *
  * Any bytes are safe as tables and as a console. The answers are those of the keymap where the bytes are its tables,
  * which kmap_check tells, and where the console was begun by kmap_start and stepped with these tables only.
+ *
+ * A call uses less than two kilobytes of stack where its comment doesn't say more.
  *
  * Link with -lkmap. The library needs memcpy, memmove and memset.
  */
@@ -26,12 +31,19 @@ extern "C" {
 /* The length of a table file in bytes. A narrow file is shorter and has no place here. */
 #define KMAP_TABLES_SIZE 15524
 
-/* What the calls answer. Where it isn't KMAP_OK, nothing was changed but the fault of kmap_check. */
+/*
+ * What the calls answer. Where it isn't KMAP_OK, nothing was changed but the fault, the finding or the size that a call
+ * tells.
+ */
 #define KMAP_OK 0
 #define KMAP_BAD_LENGTH (-1) /* tables that aren't KMAP_TABLES_SIZE bytes */
 #define KMAP_BAD_EVENT (-2) /* a number that names no event */
-#define KMAP_NO_ROOM (-3) /* fewer places for answers than events */
+#define KMAP_NO_ROOM (-3) /* fewer places for answers than events, or too few for a text or a sentence */
 #define KMAP_FAULTY (-4) /* tables with a fault */
+#define KMAP_UNSAFE (-5) /* tables of a keymap that isn't safe: see kmap_accepts */
+#define KMAP_TEXT_FAULT (-6) /* a text that spells no keymap */
+#define KMAP_BAD_HOLDING (-7) /* a number that names no modifier or lock */
+#define KMAP_BAD_KIND (-8) /* a number that names no kind of fault */
 
 /*
  * The events. Key codes are 0 to 127; any other number gives KMAP_NO_EVENT, which each call refuses. A press of a key
@@ -97,6 +109,27 @@ static inline uint16_t kmap_release(uintmax_t key)
 #define KMAP_BAD_CHAR 8 /* a number that is no character */
 #define KMAP_NOT_EMPTY 9 /* a byte that isn't 0, in a slot, an accent or a pair that isn't in use */
 
+/* The kinds of faults of a text. */
+#define KMAP_TEXT_BAD_BYTE 1 /* a byte that begins no token */
+#define KMAP_TEXT_BAD_LITERAL 2 /* an apostrophe at which no quoted character stands */
+#define KMAP_TEXT_BAD_WORD 3 /* a word without a meaning, or of more than 32 bytes */
+#define KMAP_TEXT_UNEXPECTED 4 /* a token that isn't wanted at its place */
+#define KMAP_TEXT_KEY_TOO_LARGE 5 /* a slot above 255 */
+#define KMAP_TEXT_BAD_CHAR 6 /* a number that is no character */
+#define KMAP_TEXT_BAD_FUNCTION 7 /* a screen or function key that doesn't exist */
+#define KMAP_TEXT_TOO_MANY_PAIRS 8 /* a pair after the 52nd of an accent */
+#define KMAP_TEXT_ZERO_BASE 9 /* a pair whose base is the character 0 */
+#define KMAP_TEXT_COMBINED 10 /* the name of a modifier joined with a lock */
+#define KMAP_TEXT_END_INSIDE 11 /* the text ends inside a token or a definition */
+
+/* Room for each sentence of the library and the 0 behind it, in bytes. */
+#define KMAP_WORDS_SIZE 128
+
+/* The tables of a keymap, as the bytes of a table file. */
+struct kmap_tables {
+	uint8_t bytes[KMAP_TABLES_SIZE];
+};
+
 /* A console between two events. Its members are the library's own. It may be copied as a whole. */
 struct kmap_console {
 	uint32_t word;
@@ -109,13 +142,55 @@ struct kmap_fault {
 	uint32_t kind;
 };
 
+/*
+ * A key for which a keymap is refused, since both a modifier or lock and a character are among its cells: its first
+ * modifier or lock, 0 for KMAP_LSHIFT to 7 for KMAP_META and 8 for KMAP_CLOCK to 11 for KMAP_ALOCK, and its first
+ * character, each with its slot, 0 to 255, and its column, 0 to 7. A slot above 127 is the upper one of the key with
+ * that number less 128, which is looked up while exactly one of ashift and alock is on.
+ */
+struct kmap_finding {
+	uint32_t character;
+	uint8_t key;
+	uint8_t holding;
+	uint8_t holding_slot;
+	uint8_t holding_column;
+	uint8_t character_slot;
+	uint8_t character_column;
+};
+
+/* Which key bears a modifier or lock, so has it among its cells; `key` is 0 where none or several do. */
+struct kmap_bearer {
+	uint8_t kind;
+	uint8_t key;
+};
+
+#define KMAP_BORNE_BY_NONE 0
+#define KMAP_BORNE_THROUGHOUT 1 /* by this key alone, in all its cells: it is on exactly while the key is down */
+#define KMAP_BORNE_ALONE 2 /* by this key alone, not in all its cells */
+#define KMAP_BORNE_BY_SEVERAL 3
+
+/* A fault of a text: its offset in bytes, its line, counted from 1, and its kind. */
+struct kmap_text_fault {
+	uint64_t offset;
+	uint64_t line;
+	uint32_t kind;
+};
+
 /* The sizes that the library takes these to have. */
 #if defined(__cplusplus) && __cplusplus >= 201103L
 static_assert(sizeof(struct kmap_console) == 132, "a console is 132 bytes");
 static_assert(sizeof(struct kmap_fault) == 16, "a fault is 16 bytes");
+static_assert(sizeof(struct kmap_tables) == 15524, "tables are 15,524 bytes");
+static_assert(sizeof(struct kmap_finding) == 12, "a finding is 12 bytes");
+static_assert(sizeof(struct kmap_bearer) == 2, "a bearer is 2 bytes");
+static_assert(sizeof(struct kmap_text_fault) == 24, "a fault of a text is 24 bytes");
 #elif defined(__STDC_VERSION__) && __STDC_VERSION__ >= 201112L
 _Static_assert(sizeof(struct kmap_console) == 132, "a console is 132 bytes");
 _Static_assert(sizeof(struct kmap_fault) == 16, "a fault is 16 bytes");
+_Static_assert(sizeof(struct kmap_tables) == 15524, "tables are 15,524 bytes");
+_Static_assert(sizeof(struct kmap_finding) == 12, "a finding is 12 bytes");
+_Static_assert(sizeof(struct kmap_bearer) == 2, "a bearer is 2 bytes");
+_Static_assert(sizeof(struct kmap_text_fault) == 24, "a fault of a text is 24 bytes");
 #endif
 
 /*
@@ -123,6 +198,48 @@ _Static_assert(sizeof(struct kmap_fault) == 16, "a fault is 16 bytes");
  * `fault` is the first fault.
  */
 int32_t kmap_check(const uint8_t *tables, size_t length, struct kmap_fault *fault);
+
+/*
+ * Reads a keymap text, which kmap(5) describes, of any length. KMAP_OK if it spells a keymap, and then `tables` are its
+ * tables; else KMAP_TEXT_FAULT, and `fault` is the first fault. It uses some 21 kilobytes of stack.
+ */
+int32_t kmap_read_text(const uint8_t *text, size_t length, struct kmap_tables *tables, struct kmap_text_fault *fault);
+
+/*
+ * Prints the keymap of tables as a text, as `kmap dump` does, into `room` bytes. KMAP_OK if they are enough: then the
+ * text stands in front, without a 0 behind it, and bytes past it stay. `size` is how many bytes the text has, also
+ * where it is KMAP_NO_ROOM; KMAP_FAULTY if these are no tables of a keymap, or KMAP_BAD_LENGTH. It uses some 7
+ * kilobytes of stack.
+ */
+int32_t kmap_print_text(const uint8_t *tables, size_t length, uint8_t *text, size_t room, size_t *size);
+
+/*
+ * Checks whether a keymap is safe: no key has both a modifier or lock and a character among its cells. KMAP_OK if the
+ * tables are those of a safe keymap, and `finding` stays as it was; KMAP_UNSAFE if they are those of another, and
+ * `finding` is that of its least key; KMAP_FAULTY if they are no tables of a keymap, or KMAP_BAD_LENGTH. It uses some 6
+ * kilobytes of stack.
+ *
+ * It is proved that no modifier sticks where it answers KMAP_OK for the tables of a console, or for both: whatever
+ * events were delivered since kmap_start, a bit of kmap_modifiers is set only while some key is down that has this
+ * modifier in the tables in force. A key is down where its last press came after its last release, KMAP_RESET or
+ * KMAP_LOAD. So once the release of every key that was pressed was delivered, kmap_modifiers answers 0.
+ */
+int32_t kmap_accepts(const uint8_t *tables, size_t length, struct kmap_finding *finding);
+
+/*
+ * Which key bears a modifier or lock, by its number as in kmap_finding. KMAP_OK, KMAP_BAD_LENGTH or KMAP_BAD_HOLDING;
+ * the answer is that of the keymap where the tables are those of one. It uses some 7 kilobytes of stack.
+ */
+int32_t kmap_bearer(const uint8_t *tables, size_t length, uint8_t holding, struct kmap_bearer *bearer);
+
+/*
+ * Put a sentence into `room` bytes, and a 0 behind it: what a kind of fault of tables or of a text means, and what a
+ * finding does, as `kmap check` says it. KMAP_OK; KMAP_BAD_KIND if the number names no kind; KMAP_BAD_HOLDING if the
+ * finding has the number of no modifier or lock; or KMAP_NO_ROOM. KMAP_WORDS_SIZE bytes are room for each.
+ */
+int32_t kmap_fault_words(uint32_t kind, uint8_t *words, size_t room);
+int32_t kmap_text_fault_words(uint32_t kind, uint8_t *words, size_t room);
+int32_t kmap_finding_words(const struct kmap_finding *finding, uint8_t *words, size_t room);
 
 /* Begins a console: nothing on, nothing pending, and the first keymap in force. */
 void kmap_start(struct kmap_console *console);

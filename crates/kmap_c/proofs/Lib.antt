@@ -1,1 +1,5 @@
+pub mod Calls
 pub mod Delivered
+pub mod NoBits
+pub mod Said
+pub mod KindNumbers

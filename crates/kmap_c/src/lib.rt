@@ -6,13 +6,20 @@
 //! `kmap_check` tells, and where the state is one that `kmap_start` and steps under the same tables left.
 #![tactic(auto)]
 
-ghost use Rattle.std.specs.Prelude.{◌≡◌, ◌≢◌, ◌<◌, ◌≤◌, List, [], ◌∷◌, ◌++◌, length, take, drop, map, reverse};
-ghost use Rattle.std.specs.Prelude.{pos, negsuc};
-ghost use Rattle.keymap_core.specs.Actions.{modifier_index, lock_index};
+mod buffer;
+mod print;
+mod words;
+
+ghost use Rattle.std.specs.Prelude.{◌≡◌, ◌≢◌, ℕ, true, ◌<◌, ◌≤◌, List, [], ◌∷◌, ◌++◌, length, take, drop, map, reverse};
+ghost use Rattle.std.specs.Prelude.{pos, negsuc, slice_index_or};
+ghost use Rattle.keymap_core.specs.Actions.{modifier_index, lock_index, holding_index};
+ghost use Rattle.keymap_core.specs.declared.action.Holding.{Holding as HoldingValue};
+ghost use Rattle.keymap_check.specs.declared.bearer.Bearer.{Bearer as BearerValue};
+ghost use Rattle.keymap_check.specs.Report.{IsBearer};
 ghost use Rattle.keymap_core.specs.Bounds.{IsMap};
 ghost use Rattle.keymap_core.specs.Maps.{MapValue};
-ghost use Rattle.keymap_core.specs.declared.action.Modifier.{Modifier};
-ghost use Rattle.keymap_core.specs.declared.action.Lock.{Lock};
+ghost use Rattle.keymap_core.specs.declared.action.Modifier.{Modifier as ModifierValue};
+ghost use Rattle.keymap_core.specs.declared.action.Lock.{Lock as LockValue};
 ghost use Rattle.keymap_tables.specs.Faults.{IsTableFault};
 ghost use Rattle.keymap_tables.specs.Image.{image};
 ghost use Rattle.keymap_tables.specs.declared.fault.TableFault.{TableFault as TableFaultValue};
@@ -22,25 +29,55 @@ ghost use Rattle.console_core.specs.Packed.{KeptAt};
 ghost use Rattle.console_core.specs.Raw.{raw_of};
 ghost use Rattle.console_core.specs.PackedWord.{bit_is_set};
 ghost use Rattle.console_core.specs.declared.event.Event.{Event as EventValue};
+ghost use Rattle.keymap_core.specs.Numbers.{column_count};
+ghost use Rattle.keymap_tables.specs.Layouts.{wide, file_size};
+ghost use Rattle.console_core.specs.Headline.{IsSafe};
+ghost use Rattle.keymap_check.specs.Findings.{IsFirstFinding};
+ghost use Rattle.keymap_check.specs.Promises.{KeepsPromise};
+ghost use Rattle.keymap_check.specs.declared.finding.Finding.{Finding as FindingValue};
+ghost use Rattle.kmap_c.specs.Calls.{AreAccepted, WasDelivered, IsHeldDown, AreUp, in_force_after};
+ghost use Rattle.kmap_c.specs.Sentences.{IsSaid, table_sentences, text_sentences};
+ghost use Rattle.kmap_c.specs.Sentences as sentences;
+ghost use Rattle.keymap_text.specs.Printed.{printed};
+ghost use Rattle.keymap_tables.specs.Files.{bytes_of};
+ghost use Rattle.keymap_text.specs.Meaning.{Spells, Fault};
+ghost use Rattle.keymap_text.specs.declared.fault.TextFault.{TextFault as TextFaultValue};
+ghost use Rattle.keymap_text.specs.declared.fault.TextFaultKind.{TextFaultKind as TextFaultKindValue};
+ghost use Rattle.keymap_tables.specs.declared.fault.TableFaultKind.{TableFaultKind as TableFaultKindValue};
+ghost use Rattle.kmap_c.specs.TextFaults.{IsToldFault, text_kind_number};
+ghost use Rattle.kmap_c.specs.Told.{IsTold, character_in, IsAcceptance, IsPrintStatus, IsToldBearer, bearer_status};
 ghost use Rattle.kmap_c.specs.Numbers.{event_of as event_of_number, are_events as are_events_of, status_of};
 ghost use Rattle.kmap_c.specs.Numbers.{kind_number, accent_number};
 
+use crate::print::print_tables;
+use crate::words::{finding_sentence, say, table_sentence, text_sentence};
+use console_core::laws::modifiers_follow_keys;
 use console_core::{
     Event, WordStore, locks_kept, modifiers_kept, pending_kept, start_kept, step_kept,
 };
-use keymap_core::{KeyCode, Keymap};
-use keymap_tables::{TableFaultKind, Tables, check_tables};
+use keymap_check::{Bearer, Finding, check_shown, first_finding};
+use keymap_core::{Cell, Holding, KeyCode, Keymap, Lock, Modifier};
+use keymap_tables::{Filling, TableFaultKind, TableFile, Tables, check_tables};
+use keymap_text::{TextFaultKind, read_into};
 
 /// The statuses of the calls.
-const DONE: i32 = 0;
+pub(crate) const DONE: i32 = 0;
 
 const BAD_LENGTH: i32 = -1;
 
 const BAD_EVENT: i32 = -2;
 
-const NO_ROOM: i32 = -3;
+pub(crate) const NO_ROOM: i32 = -3;
 
 const FAULTY: i32 = -4;
+
+const UNSAFE: i32 = -5;
+
+const TEXT_FAULT: i32 = -6;
+
+const BAD_HOLDING: i32 = -7;
+
+const BAD_KIND: i32 = -8;
 
 /// The greatest number of an event.
 const LAST_EVENT: u16 = 257;
@@ -57,6 +94,37 @@ pub struct KmapConsole {
 #[derive(Clone, Copy, Drop)]
 pub struct KmapFault {
     pub offset: u64,
+    pub kind: u32,
+}
+
+/// A key that makes a keymap refused: the number and the place of its first modifier or lock, and its first character
+/// with its place.
+#[repr(C)]
+#[derive(Clone, Copy, Drop)]
+pub struct KmapFinding {
+    pub character: u32,
+    pub key: u8,
+    pub holding: u8,
+    pub holding_slot: u8,
+    pub holding_column: u8,
+    pub character_slot: u8,
+    pub character_column: u8,
+}
+
+/// Which key bears a modifier or lock: 0 none, 1 this key alone in all its cells, 2 this key alone, 3 several.
+#[repr(C)]
+#[derive(Clone, Copy, Drop)]
+pub struct KmapBearer {
+    pub kind: u8,
+    pub key: u8,
+}
+
+/// A fault of a text: at so many bytes from its start, in this line, counted from 1, and what stands there.
+#[repr(C)]
+#[derive(Clone, Copy, Drop)]
+pub struct KmapTextFault {
+    pub offset: u64,
+    pub line: u64,
     pub kind: u32,
 }
 
@@ -123,10 +191,255 @@ pub extern "C" fn kmap_check(tables: &[u8], fault: &mut KmapFault) -> i32
     }
 }
 
+/// The number of a kind of fault of a text.
+fn text_number_of(kind: TextFaultKind) -> u32
+    ensures { result ≡ text_kind_number kind }
+{
+    match kind {
+        TextFaultKind::BadByte => 1,
+        TextFaultKind::BadLiteral => 2,
+        TextFaultKind::BadWord => 3,
+        TextFaultKind::Unexpected => 4,
+        TextFaultKind::KeyTooLarge => 5,
+        TextFaultKind::BadChar => 6,
+        TextFaultKind::BadFunction => 7,
+        TextFaultKind::TooManyPairs => 8,
+        TextFaultKind::ZeroBase => 9,
+        TextFaultKind::Combined => 10,
+        TextFaultKind::EndInside => 11,
+    }
+}
+
+/// Reads a keymap text into tables: 0 where it spells a keymap, else -6 and the fault.
+#[unsafe(no_mangle)]
+pub extern "C" fn kmap_read_text(
+    text: &[u8],
+    tables: &mut TableFile,
+    fault: &mut KmapTextFault,
+) -> i32
+    ensures read { result ≡ pos 0 → (m : MapValue) × Spells text.now m × IsMap m × (bytes_of tables.new ≡ image m) }
+    ensures faulty { result ≢ pos 0 → (result ≡ negsuc 5)
+        × ((f : TextFaultValue) × Fault text.now f × IsToldFault f fault.new) }
+    ensures unread { result ≢ pos 0 → tables.new ≡ tables.old }
+    ensures unchanged { result ≡ pos 0 → fault.new ≡ fault.old }
+{
+    let mut filling = Filling::new();
+    match read_into(text, &mut filling) {
+        Ok(()) => {
+            *tables = filling.file();
+            DONE
+        }
+        Err(found) => {
+            *fault = KmapTextFault {
+                offset: found.offset,
+                line: found.line,
+                kind: text_number_of(found.kind),
+            };
+            TEXT_FAULT
+        }
+    }
+}
+
+/// Prints the keymap of tables as a text into a buffer: 0 where there is room for it, else -3, and `size` is how many
+/// bytes it has; -4 where they are no tables of a keymap.
+#[unsafe(no_mangle)]
+pub extern "C" fn kmap_print_text(tables: &[u8], text: &mut [u8], size: &mut usize) -> i32
+    ensures printed { result ≡ pos 0 → (m : MapValue) × IsMap m × (tables.now ≡ image m)
+        × (size.new ≡ length (printed m)) × (text.new ≡ printed m ++ drop (length (printed m)) text.old) }
+    ensures no_room { result ≡ negsuc 2 → (m : MapValue) × IsMap m × (tables.now ≡ image m)
+        × (size.new ≡ length (printed m)) × (length text.old < length (printed m)) }
+    ensures faulty { result ≡ negsuc 3 → (f : TableFaultValue) × IsTableFault tables.now f }
+    ensures bad_length { result ≡ negsuc 0 → length tables.now ≢ file_size wide }
+    ensures status { IsPrintStatus result }
+    ensures unprinted { result ≢ pos 0 → text.new ≡ text.old }
+    ensures size_if_faulty { result ≡ negsuc 3 → size.new ≡ size.old }
+    ensures size_if_not_whole { result ≡ negsuc 0 → size.new ≡ size.old }
+{
+    let Some(shown) = Tables::new(tables) else {
+        return BAD_LENGTH;
+    };
+    match check_tables(tables) {
+        Ok(()) => {}
+        Err(_) => return FAULTY,
+    }
+    let needed = print_tables(&shown, &mut []);
+    *size = needed;
+    if text.len() < needed {
+        return NO_ROOM;
+    }
+    print_tables(&shown, text);
+    DONE
+}
+
+/// Puts the sentence of a kind of fault of a table file into a buffer, and a 0 behind it: 0, or -8 where the number
+/// names no kind, or -3 where there is no room for both.
+#[unsafe(no_mangle)]
+pub extern "C" fn kmap_fault_words(kind: u32, words: &mut [u8]) -> i32
+    ensures said { (k : TableFaultKindValue) → kind ≡ kind_number k
+        → IsSaid (slice_index_or table_sentences kind []) words.old result words.new }
+    ensures no_kind { ((k : TableFaultKindValue) → kind ≢ kind_number k) → result ≡ negsuc 7 }
+    ensures unchanged { result ≢ pos 0 → words.new ≡ words.old }
+{
+    let sentence = table_sentence(kind);
+    if sentence.is_empty() {
+        return BAD_KIND;
+    }
+    say(sentence, words)
+}
+
+/// Puts the sentence of a kind of fault of a text into a buffer, and a 0 behind it: 0, or -8 where the number names no
+/// kind, or -3 where there is no room for both.
+#[unsafe(no_mangle)]
+pub extern "C" fn kmap_text_fault_words(kind: u32, words: &mut [u8]) -> i32
+    ensures said { (k : TextFaultKindValue) → kind ≡ text_kind_number k
+        → IsSaid (slice_index_or text_sentences kind []) words.old result words.new }
+    ensures no_kind { ((k : TextFaultKindValue) → kind ≢ text_kind_number k) → result ≡ negsuc 7 }
+    ensures unchanged { result ≢ pos 0 → words.new ≡ words.old }
+{
+    let sentence = text_sentence(kind);
+    if sentence.is_empty() {
+        return BAD_KIND;
+    }
+    say(sentence, words)
+}
+
+/// The character of a cell, 0 where it is an action.
+fn character_of(cell: Cell) -> u32
+    ensures { result ≡ character_in cell }
+{
+    match cell {
+        Cell::Char(c) => c as u32,
+        Cell::Act(_) => 0,
+    }
+}
+
+/// What a caller in C is told of a finding.
+fn told<K: Keymap>(map: &K, found: Finding) -> KmapFinding
+    requires { found.character_at.column < column_count }
+    ensures { (m : MapValue) → K.shows map.now m → IsFirstFinding m found → IsTold m found result }
+{
+    let at = found.character_at;
+    KmapFinding {
+        character: character_of(map.cell(at.slot, at.column as usize)),
+        key: found.key.get(),
+        holding: found.holding.index() as u8,
+        holding_slot: found.holding_at.slot,
+        holding_column: found.holding_at.column,
+        character_slot: at.slot,
+        character_column: at.column,
+    }
+}
+
+/// Whether the tables are those of a keymap in which no modifier sticks: 0 where they are, -5 and the finding of the
+/// least key where the keymap isn't, -4 where they are no tables of a keymap.
+#[unsafe(no_mangle)]
+pub extern "C" fn kmap_accepts(tables: &[u8], finding: &mut KmapFinding) -> i32
+    ensures accepted { result ≡ pos 0
+        → (m : MapValue) × IsMap m × (tables.now ≡ image m) × IsSafe m × KeepsPromise m }
+    ensures refused { result ≡ negsuc 4 → (m : MapValue) × IsMap m × (tables.now ≡ image m) × (¬ IsSafe m)
+        × ((f : FindingValue) × IsFirstFinding m f × IsTold m f finding.new) }
+    ensures faulty { result ≡ negsuc 3 → (f : TableFaultValue) × IsTableFault tables.now f }
+    ensures bad_length { result ≡ negsuc 0 → length tables.now ≢ file_size wide }
+    ensures status { IsAcceptance result }
+    ensures unchanged { result ≢ negsuc 4 → finding.new ≡ finding.old }
+{
+    let Some(shown) = Tables::new(tables) else {
+        return BAD_LENGTH;
+    };
+    match check_tables(tables) {
+        Ok(()) => {}
+        Err(_) => return FAULTY,
+    }
+    match first_finding(&shown) {
+        None => DONE,
+        Some(found) => {
+            *finding = told(&shown, found);
+            UNSAFE
+        }
+    }
+}
+
+/// The modifier or lock of an index.
+fn holding_of(index: u8) -> Holding
+    requires { index < 12 }
+    ensures { holding_index result ≡ index }
+{
+    match index {
+        0 => Holding::Mod(Modifier::LeftShift),
+        1 => Holding::Mod(Modifier::RightShift),
+        2 => Holding::Mod(Modifier::LeftControl),
+        3 => Holding::Mod(Modifier::RightControl),
+        4 => Holding::Mod(Modifier::LeftAlt),
+        5 => Holding::Mod(Modifier::RightAlt),
+        6 => Holding::Mod(Modifier::AltShift),
+        7 => Holding::Mod(Modifier::Meta),
+        8 => Holding::Lock(Lock::Caps),
+        9 => Holding::Lock(Lock::Num),
+        10 => Holding::Lock(Lock::Scroll),
+        _ => Holding::Lock(Lock::Alt),
+    }
+}
+
+/// Puts the sentence of a finding into a buffer, and a 0 behind it: 0, or -7 where its `holding` is no index of a
+/// modifier or lock, or -3 where there is no room for both.
+#[unsafe(no_mangle)]
+pub extern "C" fn kmap_finding_words(finding: &KmapFinding, words: &mut [u8]) -> i32
+    ensures said { (a : HoldingValue) → holding_index a ≡ finding.now.holding
+        → IsSaid (sentences.finding_sentence a finding.now) words.old result words.new }
+    ensures no_holding { 11 < finding.now.holding → result ≡ negsuc 6 }
+    ensures unchanged { result ≢ pos 0 → words.new ≡ words.old }
+{
+    if finding.holding > 11 {
+        return BAD_HOLDING;
+    }
+    say(
+        finding_sentence(holding_of(finding.holding), finding).as_slice(),
+        words,
+    )
+}
+
+/// What a caller in C is told of a bearer.
+fn told_bearer(bearer: Bearer) -> KmapBearer
+    ensures { IsToldBearer bearer result }
+{
+    match bearer {
+        Bearer::Nobody => KmapBearer { kind: 0, key: 0 },
+        Bearer::Throughout(key) => KmapBearer {
+            kind: 1,
+            key: key.get(),
+        },
+        Bearer::Sole(key) => KmapBearer {
+            kind: 2,
+            key: key.get(),
+        },
+        Bearer::Several => KmapBearer { kind: 3, key: 0 },
+    }
+}
+
+/// Which key bears the modifier or lock of an index: 0, or -1 for a wrong length, or -7 for an index above 11.
+#[unsafe(no_mangle)]
+pub extern "C" fn kmap_bearer(tables: &[u8], holding: u8, bearer: &mut KmapBearer) -> i32
+    ensures borne { result ≡ pos 0 → (m : MapValue) → IsMap m → tables.now ≡ image m
+        → (a : HoldingValue) × (holding_index a ≡ holding)
+        × ((b : BearerValue) × IsBearer m a b × IsToldBearer b bearer.new) }
+    ensures status { result ≡ bearer_status tables.now holding }
+    ensures unchanged { result ≢ pos 0 → bearer.new ≡ bearer.old }
+{
+    let Some(shown) = Tables::new(tables) else {
+        return BAD_LENGTH;
+    };
+    if holding > 11 {
+        return BAD_HOLDING;
+    }
+    *bearer = told_bearer(check_shown(&shown).bearer(holding_of(holding)));
+    DONE
+}
+
 /// A console at its start: nothing on, nothing pending, and the first keymap in force.
 #[unsafe(no_mangle)]
 pub extern "C" fn kmap_start(console: &mut KmapConsole)
-    ensures { (ms : Maps) → KeptAt ms [] console.new.store }
+    ensures kept { (ms : Maps) → KeptAt ms [] console.new.store }
+    ensures begins { (first second : List ℕ) → WasDelivered first second [] console.new.store }
 {
     console.store = start_kept();
 }
@@ -148,6 +461,8 @@ pub extern "C" fn kmap_step_between(
     ensures answer { (m n : MapValue) (h : List EventValue) → IsMap m → IsMap n → first.now ≡ image m
         → second.now ≡ image n → KeptAt (between m n) h console.old.store → result ≡ pos 0
         → answer.new ≡ raw_of (answer_to (between m n) h (event_of_number event)) }
+    ensures delivers { (numbers : List ℕ) → WasDelivered first.now second.now numbers console.old.store → result ≡ pos 0
+        → WasDelivered first.now second.now (event ∷ numbers) console.new.store }
 {
     let Some(first) = Tables::new(first) else {
         return BAD_LENGTH;
@@ -178,6 +493,8 @@ pub extern "C" fn kmap_step(
     ensures answer { (m : MapValue) (h : List EventValue) → IsMap m → tables.now ≡ image m
         → KeptAt (between m m) h console.old.store → result ≡ pos 0
         → answer.new ≡ raw_of (answer_to (between m m) h (event_of_number event)) }
+    ensures delivers { (numbers : List ℕ) → WasDelivered tables.now tables.now numbers console.old.store
+        → result ≡ pos 0 → WasDelivered tables.now tables.now (event ∷ numbers) console.new.store }
 {
     kmap_step_between(tables, tables, console, event, answer)
 }
@@ -222,6 +539,8 @@ pub extern "C" fn kmap_deliver(
         → take (length events.now) answers.new
         ≡ map raw_of (answers_to (between m n) h (map event_of_number events.now)) }
     ensures rest { drop (length events.now) answers.new ≡ drop (length events.now) answers.old }
+    ensures delivers { (numbers : List ℕ) → WasDelivered first.now second.now numbers console.old.store → result ≡ pos 0
+        → WasDelivered first.now second.now (reverse events.now ++ numbers) console.new.store }
 {
     let Some(first) = Tables::new(first) else {
         return BAD_LENGTH;
@@ -242,9 +561,18 @@ pub extern "C" fn kmap_deliver(
 /// Which modifiers are on: bit 0 lshift, 1 rshift, 2 lctrl, 3 rctrl, 4 lalt, 5 ralt, 6 ashift, 7 meta.
 #[unsafe(no_mangle)]
 pub extern "C" fn kmap_modifiers(console: &KmapConsole) -> u8
-    ensures { (ms : Maps) (h : List EventValue) → KeptAt ms h console.now.store
-        → (i : Modifier) → bit_is_set result (modifier_index i) ≡ is_on_after ms i h }
+    ensures bits { (ms : Maps) (h : List EventValue) → KeptAt ms h console.now.store
+        → (i : ModifierValue) → bit_is_set result (modifier_index i) ≡ is_on_after ms i h }
+    // between tables that kmap_accepts accepts no modifier sticks
+    ensures never_sticks { (first second numbers : List ℕ) → AreAccepted first → AreAccepted second
+        → WasDelivered first second numbers console.now.store
+        → (i : ModifierValue) → bit_is_set result (modifier_index i) ≡ true
+        → IsHeldDown (in_force_after first second numbers) i numbers }
+    // nor does one stay on once every key's release was delivered
+    ensures all_up { (first second numbers : List ℕ) → AreAccepted first → AreAccepted second
+        → WasDelivered first second numbers console.now.store → AreUp numbers → result ≡ 0 }
 {
+    modifiers_follow_keys();
     modifiers_kept(&console.store)
 }
 
@@ -252,7 +580,7 @@ pub extern "C" fn kmap_modifiers(console: &KmapConsole) -> u8
 #[unsafe(no_mangle)]
 pub extern "C" fn kmap_locks(console: &KmapConsole) -> u8
     ensures bits { (ms : Maps) (h : List EventValue) → KeptAt ms h console.now.store
-        → (l : Lock) → bit_is_set result (lock_index l) ≡ is_locked_after ms l h }
+        → (l : LockValue) → bit_is_set result (lock_index l) ≡ is_locked_after ms l h }
     // so no other bit is set
     ensures in_range { result < 16 }
 {

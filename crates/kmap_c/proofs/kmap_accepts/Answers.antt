@@ -1,0 +1,26 @@
+use Rattle.std.proofs.Common.{refl, inl, inr}
+use Rattle.kmap_c.proofs.kmap_accepts.Goals as goal
+
+pub returns-in_default-clause-status : goal.returns-in_default-clause-status
+returns-in_default-clause-status c = inr (inl refl)
+
+pub returns-in-Err-clause-status : goal.returns-in-Err-clause-status
+returns-in-Err-clause-status c = inr (inr (inl refl))
+
+pub returns-in-None-clause-accepted : goal.returns-in-None-clause-accepted
+returns-in-None-clause-accepted c =
+    λ _.
+    let read = c.in-Ok.ensures.image in
+    let shows = c.in-Some.ensures.shows read.0 read.1 read.2 in (
+      read.0,
+      read.1,
+      read.2,
+      (c.in-None.ensures.safe read.0 shows).0 refl,
+      c.in-None.ensures.promise read.0 shows refl,
+    )
+
+pub returns-in-None-clause-status : goal.returns-in-None-clause-status
+returns-in-None-clause-status c = inl refl
+
+pub returns-in-Some-first_finding-clause-status : goal.returns-in-Some-first_finding-clause-status
+returns-in-Some-first_finding-clause-status c = inr (inr (inr refl))

@@ -1,0 +1,20 @@
+use Rattle.std.proofs.Common.{◌≡◌, ◌∙◌, ap, sym, subst, refl, List, ℕ}
+use Rattle.std.specs.Prelude.{pos, negsuc}
+use Rattle.keymap_core.specs.declared.action.Holding.{Holding}
+use Rattle.kmap_c.specs.Sentences.{IsSaid, finding_sentence}
+use Rattle.kmap_c.proofs.KindNumbers.{one_holding}
+use Rattle.kmap_c.proofs.kmap_finding_words.Goals as goal
+
+pub returns-clause-said : goal.returns-clause-said
+returns-clause-said c =
+    λ a is.
+    let sentence : c.as_slice.result.now ≡ finding_sentence a c.args.finding.now =
+    c.as_slice.ensures.value ∙ c.finding_sentence.ensures
+    ∙ ap (λ (h : Holding). finding_sentence h c.args.finding.now)
+    (one_holding c.holding_of.result a (c.holding_of.ensures ∙ sym is)) in
+    let s : IsSaid (finding_sentence a c.args.finding.now) c.args.words.now c.say.result c.say.new.words =
+    subst (λ (s : List ℕ). IsSaid s c.args.words.now c.say.result c.say.new.words) sentence c.say.ensures in
+    record {
+      said = λ room. let e : c.say.result ≡ pos 0 = (s.said room).0 in (rw e refl, (s.said room).1);
+      no_room = λ few. let e : c.say.result ≡ negsuc 2 = (s.no_room few).0 in (rw e refl, (s.no_room few).1);
+    }

@@ -1,0 +1,5 @@
+use Rattle.console_core.specs.History.{between}
+use Rattle.kmap_c.proofs.kmap_start.Goals as goal
+
+pub returns-clause-begins : goal.returns-clause-begins
+returns-clause-begins c = λ first second m n _ _ _ _. c.start_kept-console.ensures (between m n)

@@ -1,0 +1,54 @@
+use Rattle.std.proofs.Common.{arith, refl, ◌≡◌, ◌∙◌, ap, subst, ℕ, List, ◌++◌, [], length}
+use Rattle.std.specs.List.{flat_map, range_with_len}
+use Rattle.keymap_core.specs.Maps.{entry_at}
+use Rattle.keymap_text.specs.Printed.{key_line}
+use Rattle.keymap_text.proofs.Pieces.{lines-next}
+use Rattle.kmap_c.specs.Buffers.{HasPut}
+use Rattle.kmap_c.proofs.print.print_keys.Goals as goal
+
+pub put-end-requires : goal.put-end-requires
+put-end-requires c =
+    omega (
+      arith,
+      c.loop-slot.invariant.few,
+      c.as_slice.ensures.fits,
+      c.loop-slot-test.true,
+      c.n_keys-slot-end.ensures.few,
+    )
+
+pub loop-slot-preserved : goal.loop-slot-preserved
+loop-slot-preserved c = record {
+  lines = λ m is same. let line : ℕ → List ℕ = λ s. key_line s (entry_at m s) in
+      let slot = c.loop-slot.slot in
+      let piece : c.as_slice.result.now ≡ line slot =
+      c.as_slice.ensures.value ∙ c.key_line-line.ensures
+      ∙ ap (key_line c.loop-slot.slot) (c.entry_at.ensures m (is, same)) in
+      subst (λ bytes. HasPut bytes c.args.text.now c.put-end.result c.put-end.new.buffer)
+      (lines-next line slot [] _ piece)
+      (c.put-end.ensures.text _ _ (c.loop-slot.invariant.lines m is same));
+  few = omega (arith, c.put-end.ensures.count, c.as_slice.ensures.fits, c.loop-slot.invariant.few);
+}
+
+pub loop-slot-init : goal.loop-slot-init
+loop-slot-init c = record {
+  lines = λ m is same. record { count = refl; size = refl; text = λ room. refl };
+  few = omega arith;
+}
+
+pub returns-clause-text : goal.returns-clause-text
+returns-clause-text c =
+    λ m shows. let all : c.loop-slot.slot ≡ length m.entries =
+    omega (arith, c.loop-slot-test.false, c.loop-slot.auto.slot-end, c.n_keys-slot-end.ensures.count m shows) in
+    subst (λ n. HasPut (flat_map (λ s. key_line s (entry_at m s)) (range_with_len 0 n)) c.args.text.now c.loop-slot.end
+    c.loop-slot.text) all
+    (c.loop-slot.invariant.lines m shows.0 shows.1)
+
+pub returns-clause-few : goal.returns-clause-few
+returns-clause-few c =
+    omega (
+      arith,
+      c.loop-slot.invariant.few,
+      c.loop-slot-test.false,
+      c.loop-slot.auto.slot-end,
+      c.n_keys-slot-end.ensures.few,
+    )

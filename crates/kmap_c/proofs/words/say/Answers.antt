@@ -1,0 +1,12 @@
+use Rattle.std.proofs.Common.{arith, refl, ◌≤◌, []}
+use Rattle.kmap_c.proofs.Said.{set-behind}
+use Rattle.kmap_c.proofs.words.say.Goals as goal
+
+pub returns : goal.returns
+returns c =
+    let put = c.put-end.ensures.text [] c.args.words.now
+    (record { count = refl; size = refl; text = λ room. refl }) in
+    record {
+      said = λ room. (refl, set-behind c.args.sentence.now c.args.words.now _ _ put room);
+      no_room = λ few. absurd (omega (arith, few, c.if-words-sentence.false));
+    }

@@ -1,0 +1,45 @@
+-- What a caller in C is told of a keymap that isn't safe.
+use Rattle.std.specs.Prelude.{◌≡◌, ◌⊎◌, ◌==◌, nat_le, if◌then◌else◌, ℕ, ℤ, pos, negsuc, List, length}
+use Rattle.keymap_core.specs.declared.entry.Cell.{Cell}
+use Rattle.keymap_core.specs.declared.entry.Cell.TheVariants.{Char, Act}
+use Rattle.keymap_core.specs.Actions.{holding_index}
+use Rattle.keymap_core.specs.Maps.{MapValue, cell_at}
+use Rattle.keymap_check.specs.declared.finding.Finding.{Finding}
+use Rattle.keymap_check.specs.declared.bearer.Bearer.{Bearer}
+use Rattle.keymap_check.specs.declared.bearer.Bearer.TheVariants.{Nobody, Throughout, Sole, Several}
+use Rattle.keymap_tables.specs.Layouts.{wide, file_size}
+use Rattle.kmap_c.specs.declared.KmapBearer.{KmapBearer}
+use Rattle.kmap_c.specs.declared.KmapFinding.{KmapFinding}
+
+abbrev pub character_in : Cell → ℕ
+character_in (Char c) = c
+character_in (Act a) = 0
+
+-- The key, the index of its modifier or lock with its place, and its character with its place.
+pub record IsTold (m : MapValue) (f : Finding) (t : KmapFinding) : Type 0 where
+  pub key : t.key ≡ f.key
+  pub holding : t.holding ≡ holding_index f.holding
+  pub holding_slot : t.holding_slot ≡ f.holding_at.slot
+  pub holding_column : t.holding_column ≡ f.holding_at.column
+  pub character : cell_at m f.character_at.slot f.character_at.column ≡ Char t.character
+  pub character_slot : t.character_slot ≡ f.character_at.slot
+  pub character_column : t.character_column ≡ f.character_at.column
+
+-- 0, or -1, -4 or -5
+abbrev pub IsAcceptance : ℤ → Type 0
+IsAcceptance r = (r ≡ pos 0) ⊎ (r ≡ negsuc 0) ⊎ (r ≡ negsuc 3) ⊎ (r ≡ negsuc 4)
+
+-- 0, or -1, -3 or -4
+abbrev pub IsPrintStatus : ℤ → Type 0
+IsPrintStatus r = (r ≡ pos 0) ⊎ (r ≡ negsuc 0) ⊎ (r ≡ negsuc 2) ⊎ (r ≡ negsuc 3)
+
+abbrev pub IsToldBearer : Bearer → KmapBearer → Type 0
+IsToldBearer Nobody t = (t.kind ≡ 0) × (t.key ≡ 0)
+IsToldBearer (Throughout k) t = (t.kind ≡ 1) × (t.key ≡ k)
+IsToldBearer (Sole k) t = (t.kind ≡ 2) × (t.key ≡ k)
+IsToldBearer Several t = (t.kind ≡ 3) × (t.key ≡ 0)
+
+-- 0, or -1 for a wrong length, or -7 for what is no index of a modifier or lock
+abbrev pub bearer_status : List ℕ → ℕ → ℤ
+bearer_status tables holding =
+    if length tables == file_size wide then (if nat_le holding 11 then pos 0 else negsuc 6) else negsuc 0

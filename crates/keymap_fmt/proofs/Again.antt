@@ -1,0 +1,78 @@
+-- The pieces of what is written, and what is written of these.
+use Rattle.std.proofs.Common.{◌≡◌, ℕ, List, [], ◌∷◌, ◌++◌, map, refl, ◌∙◌, ap}
+use Rattle.keymap_fmt.specs.declared.layout.State.{State}
+use Rattle.keymap_fmt.specs.declared.piece.Standing.{Standing}
+use Rattle.keymap_fmt.specs.declared.piece.Standing.TheVariants.{AtTop}
+use Rattle.keymap_fmt.specs.declared.piece.Part.{Part}
+use Rattle.keymap_fmt.specs.declared.piece.Part.TheVariants.{Comment, Code}
+use Rattle.keymap_fmt.specs.Pieces.{PieceValue, pieces_after, pieces, behind}
+use Rattle.keymap_fmt.specs.Layout.{before, after, ending, start}
+use Rattle.keymap_fmt.specs.Formatted.{rendered_from, formatted}
+use Rattle.keymap_fmt.specs.Same.{part_and_bytes}
+use Rattle.keymap_fmt.proofs.Reading.{TokenLaws, token_read, comment_read}
+use Rattle.keymap_fmt.proofs.Texts.{ArePieces, no_piece, one_piece, Reads, text_pieces}
+use Rattle.keymap_fmt.proofs.Written.{IsAt, lowered_by, read_blanks, before_blanks, before_again, after_at}
+use Rattle.keymap_fmt.proofs.Written.{rendered_blank, line_end_read}
+
+-- one piece that is read again
+piece_read : (s : State) (part : Part) (bytes : List ℕ) (t : Standing) (ps : List PieceValue) → Reads part bytes
+    → pieces_after 0 t (bytes ++ (ending part ++ rendered_from (after s part bytes) ps))
+    ≡ record { part = part; bytes = bytes; standing = t }
+    ∷ pieces_after 0 (behind part) (rendered_from (after s part bytes) ps)
+piece_read s Comment bytes t ps r = comment_read bytes _ t r
+piece_read s (Code kind) bytes t ps r =
+    token_read kind bytes _ t r (rendered_blank (after s (Code kind) bytes) ps (after_at s (Code kind) bytes))
+
+-- where a piece stands in what is written
+abbrev stands : State → PieceValue → Standing → Standing
+stands s p u = lowered_by (before s p.part p.bytes p.standing) u
+
+-- the pieces of what is written, one by one
+step : (s : State) (u : Standing) (p : PieceValue) (ps : List PieceValue) → Reads p.part p.bytes
+    → pieces_after 0 u (rendered_from s (p ∷ ps))
+    ≡ record { part = p.part; bytes = p.bytes; standing = stands s p u }
+    ∷ pieces_after 0 (behind p.part) (rendered_from (after s p.part p.bytes) ps)
+unfolding rendered_from
+step s u p ps r =
+    read_blanks (before s p.part p.bytes p.standing) _ u (before_blanks s p.part p.bytes p.standing)
+    ∙ piece_read s p.part p.bytes (stands s p u) ps r
+
+-- there is none behind the last
+none : (s : State) (u : Standing) → pieces_after 0 u (rendered_from s []) ≡ []
+unfolding rendered_from
+none s u = line_end_read s.column u
+
+-- the parts stay
+parts_from : (s : State) (u : Standing) (ps : List PieceValue) → ArePieces u ps
+    → map part_and_bytes (pieces_after 0 u (rendered_from s ps)) ≡ map part_and_bytes ps
+parts_from s u ps no_piece = ap (map part_and_bytes) (none s u)
+parts_from s u qs (one_piece {ps = ps} p r h more) =
+    ap (map part_and_bytes) (step s u p ps r)
+    ∙ ap (λ (qs : List (Part × List ℕ)). (p.part, p.bytes) ∷ qs)
+    (parts_from (after s p.part p.bytes) (behind p.part) ps more)
+
+-- one piece that is written again
+written_again : (s : State) (p : PieceValue) (t : Standing) (qs ps : List PieceValue)
+    → before s p.part p.bytes t ≡ before s p.part p.bytes p.standing
+    → rendered_from (after s p.part p.bytes) qs ≡ rendered_from (after s p.part p.bytes) ps
+    → rendered_from s (record { part = p.part; bytes = p.bytes; standing = t } ∷ qs) ≡ rendered_from s (p ∷ ps)
+unfolding rendered_from
+written_again s p t qs ps e f =
+    ap (λ (g : List ℕ). g ++ (p.bytes ++ (ending p.part ++ rendered_from (after s p.part p.bytes) qs))) e
+    ∙ ap (λ (y : List ℕ). before s p.part p.bytes p.standing ++ (p.bytes ++ (ending p.part ++ y))) f
+
+-- the same bytes are written again
+again_from : (s : State) (u : Standing) (ps : List PieceValue) → IsAt u s.column → ArePieces u ps
+    → rendered_from s (pieces_after 0 u (rendered_from s ps)) ≡ rendered_from s ps
+again_from s u ps a no_piece = ap (rendered_from s) (none s u)
+again_from s u qs a (one_piece {ps = ps} p r h more) =
+    ap (rendered_from s) (step s u p ps r)
+    ∙ written_again s p (stands s p u) _ ps (before_again s p.part p.bytes u p.standing a h)
+    (again_from (after s p.part p.bytes) (behind p.part) ps (after_at s p.part p.bytes) more)
+
+pub parts_stay : TokenLaws → (text : List ℕ)
+    → map part_and_bytes (pieces (formatted text)) ≡ map part_and_bytes (pieces text)
+parts_stay laws text = parts_from start AtTop (pieces text) (text_pieces laws text 0 AtTop)
+
+pub formatted_again : TokenLaws → (text : List ℕ) → formatted (formatted text) ≡ formatted text
+formatted_again laws text = again_from start AtTop (pieces text) refl (text_pieces laws text 0 AtTop)

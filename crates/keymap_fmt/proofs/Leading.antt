@@ -1,0 +1,188 @@
+-- How many bytes at the front pass a test, and what is left where the end of a line is cut.
+use Rattle.std.proofs.Common.{◌≡◌, ℕ, suc, ◌+◌, ◌<◌, ◌≤◌, ◌&&◌, Bool, true, false, cond, List, [], ◌∷◌, ◌++◌, length}
+use Rattle.std.proofs.Common.{take, drop, get_or}
+use Rattle.std.proofs.Common.{refl, sym, ◌∙◌, ap, arith, add-one, drop-cons}
+use Rattle.std.proofs.lemmas.List.{at_drop_all, take_more}
+use Rattle.std.specs.List.{list_all}
+use Rattle.keymap_text.specs.Lexical.{leading, stays_on_line, is_space}
+use Rattle.keymap_fmt.specs.Pieces.{trimmed}
+
+-- a byte that passes
+pub leading_pass : (p : ℕ → Bool) (c : ℕ) (cs : List ℕ) → p c ≡ true → leading p (c ∷ cs) ≡ leading p cs + 1
+unfolding leading
+leading_pass p c cs h = ap (λ b. cond b (leading p cs + 1) 0) h
+
+-- a byte that fails
+pub leading_fail : (p : ℕ → Bool) (c : ℕ) (cs : List ℕ) → p c ≡ false → leading p (c ∷ cs) ≡ 0
+unfolding leading
+leading_fail p c cs h = ap (λ b. cond b (leading p cs + 1) 0) h
+
+-- no bytes
+pub leading_none : (p : ℕ → Bool) → leading p [] ≡ 0
+unfolding leading
+leading_none p = refl
+
+-- where all bytes pass, the first does, and the others do
+pub leading_tail : (p : ℕ → Bool) (c : ℕ) (w : List ℕ) → leading p (c ∷ w) ≡ suc (length w)
+    → (p c ≡ true) × (leading p w ≡ length w)
+leading_tail p c w h = go (p c) refl
+  where
+    go : (b : Bool) → p c ≡ b → (p c ≡ true) × (leading p w ≡ length w)
+    go true e = (e, omega (arith, leading_pass p c w e, h))
+    go false e = absurd (omega (arith, leading_fail p c w e, h))
+
+-- all bytes of a front pass
+pub leading_front : (p : ℕ → Bool) (s : List ℕ)
+    → leading p (take (leading p s) s) ≡ length (take (leading p s) s)
+leading_front p [] = ap (λ n. leading p (take n [])) (leading_none p) ∙ leading_none p
+    ∙ sym (ap (λ n. length {A = ℕ} (take n [])) (leading_none p))
+leading_front p (c ∷ s) = go (p c) refl (leading_front p s)
+  where
+    go : (b : Bool) → p c ≡ b → leading p (take (leading p s) s) ≡ length (take (leading p s) s)
+        → leading p (take (leading p (c ∷ s)) (c ∷ s)) ≡ length (take (leading p (c ∷ s)) (c ∷ s))
+    go true e k =
+        let size = leading_pass p c s e ∙ add-one (leading p s) in
+        ap (λ n. leading p (take n (c ∷ s))) size ∙ leading_pass p c (take (leading p s) s) e ∙ ap (λ n. n + 1) k
+        ∙ add-one (length (take (leading p s) s)) ∙ sym (ap (λ n. length (take n (c ∷ s))) size)
+    go false e k =
+        ap (λ n. leading p (take n (c ∷ s))) (leading_fail p c s e) ∙ leading_none p
+        ∙ sym (ap (λ n. length (take n (c ∷ s))) (leading_fail p c s e))
+
+-- bytes that all pass, before one that fails
+pub leading_ended : (p : ℕ → Bool) (w : List ℕ) (c : ℕ) (y : List ℕ) → leading p w ≡ length w → p c ≡ false
+    → leading p (w ++ c ∷ y) ≡ length w
+leading_ended p [] c y h e = leading_fail p c y e
+leading_ended p (x ∷ w) c y h e =
+    let t = leading_tail p x w h in
+    leading_pass p x (w ++ c ∷ y) t.0 ∙ ap (λ n. n + 1) (leading_ended p w c y t.1 e) ∙ add-one (length w)
+
+-- a byte that begins what is cut, by whether all is cut
+pub trim_all : (c : ℕ) (w : List ℕ) → list_all is_space (c ∷ w) ≡ true → trimmed (c ∷ w) ≡ []
+unfolding trimmed
+trim_all c w h = ap (λ b. cond b [] (c ∷ trimmed w)) h
+
+pub trim_tail : (c : ℕ) (w : List ℕ) → list_all is_space (c ∷ w) ≡ false → trimmed (c ∷ w) ≡ c ∷ trimmed w
+unfolding trimmed
+trim_tail c w h = ap (λ b. cond b [] (c ∷ trimmed w)) h
+
+pub trim_none : trimmed [] ≡ []
+unfolding trimmed
+trim_none = refl
+
+-- nothing is cut of a line that is cut to nothing
+and_same : (a : Bool) {b c : Bool} → b ≡ c → (a && b) ≡ (a && c)
+and_same a e = ap (λ b. a && b) e
+
+-- what is cut is blank exactly if it was
+pub trim_blank : (w : List ℕ) → list_all is_space (trimmed w) ≡ list_all is_space w
+trim_blank [] = ap (list_all is_space) trim_none
+trim_blank (c ∷ w) = go (list_all is_space (c ∷ w)) refl (trim_blank w)
+  where
+    go : (b : Bool) → list_all is_space (c ∷ w) ≡ b → list_all is_space (trimmed w) ≡ list_all is_space w
+        → list_all is_space (trimmed (c ∷ w)) ≡ list_all is_space (c ∷ w)
+    go true e k = ap (list_all is_space) (trim_all c w e) ∙ sym e
+    go false e k = ap (list_all is_space) (trim_tail c w e) ∙ and_same (is_space c) k
+
+-- cutting twice cuts no more
+pub trim_twice : (w : List ℕ) → trimmed (trimmed w) ≡ trimmed w
+trim_twice [] = ap trimmed trim_none
+trim_twice (c ∷ w) = go (list_all is_space (c ∷ w)) refl (trim_twice w)
+  where
+    go : (b : Bool) → list_all is_space (c ∷ w) ≡ b → trimmed (trimmed w) ≡ trimmed w
+        → trimmed (trimmed (c ∷ w)) ≡ trimmed (c ∷ w)
+    go true e k = ap trimmed (trim_all c w e) ∙ trim_none ∙ sym (trim_all c w e)
+    go false e k =
+        ap trimmed (trim_tail c w e)
+        ∙ trim_tail c (trimmed w) (and_same (is_space c) (trim_blank w) ∙ e)
+        ∙ ap (λ (v : List ℕ). c ∷ v) k ∙ sym (trim_tail c w e)
+
+-- what is cut stays on its line
+pub trim_on_line : (w : List ℕ) → leading stays_on_line w ≡ length w
+    → leading stays_on_line (trimmed w) ≡ length (trimmed w)
+trim_on_line [] h = ap (leading stays_on_line) trim_none ∙ leading_none stays_on_line ∙ sym (ap length trim_none)
+trim_on_line (c ∷ w) h =
+    let t = leading_tail stays_on_line c w h in go t.0 (list_all is_space (c ∷ w)) refl (trim_on_line w t.1)
+  where
+    go : stays_on_line c ≡ true → (b : Bool) → list_all is_space (c ∷ w) ≡ b
+        → leading stays_on_line (trimmed w) ≡ length (trimmed w)
+        → leading stays_on_line (trimmed (c ∷ w)) ≡ length (trimmed (c ∷ w))
+    go p true e k =
+        ap (leading stays_on_line) (trim_all c w e) ∙ leading_none stays_on_line ∙ sym (ap length (trim_all c w e))
+    go p false e k =
+        ap (leading stays_on_line) (trim_tail c w e) ∙ leading_pass stays_on_line c (trimmed w) p
+        ∙ ap (λ n. n + 1) k ∙ add-one (length (trimmed w)) ∙ sym (ap length (trim_tail c w e))
+
+-- a comment keeps its first byte
+pub trim_hash : (w : List ℕ) → trimmed (35 ∷ w) ≡ 35 ∷ trimmed w
+trim_hash w = trim_tail 35 w refl
+
+-- the same at an index of a list
+pub leading_pass_at : (p : ℕ → Bool) (xs : List ℕ) (i : ℕ) → i < length xs → p (get_or xs i 0) ≡ true
+    → leading p (drop i xs) ≡ leading p (drop (i + 1) xs) + 1
+leading_pass_at p xs i h e =
+    ap (leading p) (drop-cons xs i 0 h) ∙ leading_pass p _ _ e ∙ ap (λ n. leading p (drop n xs) + 1) (sym (add-one i))
+
+pub leading_fail_at : (p : ℕ → Bool) (xs : List ℕ) (i : ℕ) → i < length xs → p (get_or xs i 0) ≡ false
+    → leading p (drop i xs) ≡ 0
+leading_fail_at p xs i h e = ap (leading p) (drop-cons xs i 0 h) ∙ leading_fail p _ _ e
+
+pub leading_end : (p : ℕ → Bool) (xs : List ℕ) (i : ℕ) → length xs ≤ i → leading p (drop i xs) ≡ 0
+leading_end p xs i h = at_drop_all (leading p) xs i h ∙ leading_none p
+
+-- one more at most
+le_case : (b : Bool) (n m : ℕ) → n ≤ m → cond b (n + 1) 0 ≤ suc m
+le_case true n m h = omega arith
+le_case false n m h = omega arith
+
+pub leading_le : (p : ℕ → Bool) (xs : List ℕ) → leading p xs ≤ length xs
+unfolding leading
+leading_le p [] = omega arith
+leading_le p (x ∷ xs) = le_case (p x) _ _ (leading_le p xs)
+
+pub ruleset leading_rules = (leading_pass_at, leading_fail_at, leading_end, leading_le)
+
+-- a blank at the end is cut
+all_push : (v : List ℕ) (b : ℕ) → is_space b ≡ true → list_all is_space (v ++ b ∷ []) ≡ list_all is_space v
+all_push [] b h = ap (λ t. t && true) h
+all_push (c ∷ v) b h = and_same (is_space c) (all_push v b h)
+
+trim_push_space : (v : List ℕ) (b : ℕ) → is_space b ≡ true → trimmed (v ++ b ∷ []) ≡ trimmed v
+trim_push_space [] b h = trim_all b [] (ap (λ t. t && true) h) ∙ sym trim_none
+trim_push_space (c ∷ v) b h = go (list_all is_space (c ∷ v)) refl (trim_push_space v b h)
+  where
+    same : list_all is_space (c ∷ (v ++ b ∷ [])) ≡ list_all is_space (c ∷ v)
+    same = and_same (is_space c) (all_push v b h)
+
+    go : (t : Bool) → list_all is_space (c ∷ v) ≡ t → trimmed (v ++ b ∷ []) ≡ trimmed v
+        → trimmed (c ∷ (v ++ b ∷ [])) ≡ trimmed (c ∷ v)
+    go true e k = trim_all c (v ++ b ∷ []) (same ∙ e) ∙ sym (trim_all c v e)
+    go false e k = trim_tail c (v ++ b ∷ []) (same ∙ e) ∙ ap (λ (w : List ℕ). c ∷ w) k ∙ sym (trim_tail c v e)
+
+-- nothing is cut behind another byte
+and_false : (a : Bool) → (a && false) ≡ false
+and_false true = refl
+and_false false = refl
+
+all_other : (v : List ℕ) (b : ℕ) → is_space b ≡ false → list_all is_space (v ++ b ∷ []) ≡ false
+all_other [] b h = ap (λ t. t && true) h
+all_other (c ∷ v) b h = and_same (is_space c) (all_other v b h) ∙ and_false (is_space c)
+
+trim_push_other : (v : List ℕ) (b : ℕ) → is_space b ≡ false → trimmed (v ++ b ∷ []) ≡ v ++ b ∷ []
+trim_push_other [] b h = trim_tail b [] (ap (λ t. t && true) h) ∙ ap (λ (w : List ℕ). b ∷ w) trim_none
+trim_push_other (c ∷ v) b h =
+    trim_tail c (v ++ b ∷ []) (and_same (is_space c) (all_other v b h) ∙ and_false (is_space c))
+    ∙ ap (λ (w : List ℕ). c ∷ w) (trim_push_other v b h)
+
+-- the same of a front
+pub trim_space_at : (w : List ℕ) (i j : ℕ) → j + 1 ≡ i → i ≤ length w → is_space (get_or w j 0) ≡ true
+    → trimmed (take j w) ≡ trimmed (take i w)
+trim_space_at w i j e l h =
+    sym (trim_push_space (take j w) (get_or w j 0) h) ∙ ap trimmed (sym (take_more w j 0 (omega (arith, e, l))))
+    ∙ ap (λ n. trimmed (take n w)) e
+
+pub trim_other_at : (w : List ℕ) (i j : ℕ) → j + 1 ≡ i → i ≤ length w → is_space (get_or w j 0) ≡ false
+    → trimmed (take i w) ≡ take i w
+trim_other_at w i j e l h =
+    let t = take_more w j 0 (omega (arith, e, l)) in
+    ap (λ n. trimmed (take n w)) (sym e) ∙ ap trimmed t ∙ trim_push_other (take j w) (get_or w j 0) h ∙ sym t
+    ∙ ap (λ n. take n w) e

@@ -1,0 +1,10 @@
+pub mod Leading
+pub mod Reading
+pub mod Texts
+pub mod Written
+pub mod Again
+pub mod Tidy
+pub mod Spelling
+pub mod Finding
+pub mod Writing
+pub mod Separate

@@ -1,0 +1,280 @@
+-- The tokens among the pieces are those of the text, so what is written spells what the text spells.
+use Rattle.std.proofs.Common.{◌≡◌, ℕ, zero, suc, ◌+◌, ◌==◌, Bool, true, false, List, [], ◌∷◌, ◌++◌, length, take}
+use Rattle.std.proofs.Common.{drop, map}
+use Rattle.std.proofs.Common.{refl, sym, ◌∙◌, ap, subst, arith, add-one, if◌then◌else◌, Ok}
+use Rattle.std.proofs.lemmas.Bool.Decides.{nat_tests}
+use Rattle.std.specs.List.{flat_map}
+use Rattle.keymap_text.specs.declared.fault.TextFaultKind.{TextFaultKind}
+use Rattle.keymap_text.specs.declared.fault.TextFaultKind.TheVariants.{EndInside}
+use Rattle.keymap_text.specs.declared.token.TokenKind.{TokenKind}
+use Rattle.keymap_text.specs.Lexical.{is_blank, is_empty, stays_on_line, leading, front_of, Found, Skipped}
+use Rattle.keymap_text.specs.Lexical.{Refused, Unfinished, TokenValue, Ends, Stops, Then, tokens_after}
+use Rattle.keymap_text.specs.Meaning.{list_of, ending_of_tokens, tokens, items, item_of, ending, Spells}
+use Rattle.keymap_text.specs.Rows.{IsRow}
+use Rattle.keymap_text.specs.Words.{item}
+use Rattle.keymap_core.specs.Maps.{MapValue}
+use Rattle.keymap_fmt.specs.declared.layout.State.{State}
+use Rattle.keymap_fmt.specs.declared.piece.Standing.{Standing}
+use Rattle.keymap_fmt.specs.declared.piece.Standing.TheVariants.{AtTop, Beside, Below}
+use Rattle.keymap_fmt.specs.declared.piece.Part.{Part}
+use Rattle.keymap_fmt.specs.declared.piece.Part.TheVariants.{Comment, Code}
+use Rattle.keymap_fmt.specs.Pieces.{PieceValue, pieces_after, pieces, lowered, behind}
+use Rattle.keymap_fmt.specs.Layout.{before, after, ending as ending_of_part, line_end, start}
+use Rattle.keymap_fmt.specs.Formatted.{rendered_from, formatted}
+use Rattle.keymap_fmt.specs.Same.{part_and_bytes, kind_and_bytes, token_in, token_of}
+use Rattle.keymap_fmt.proofs.Leading.{leading_pass, leading_fail, leading_ended}
+use Rattle.keymap_fmt.proofs.Reading.{TokenLaws, AtFront, blank, hash, token, refused, unfinished, at_front}
+use Rattle.keymap_fmt.proofs.Reading.{BeginsBlank, ReadsToken, ReadsComment, front_blank, front_comment, read_nil}
+use Rattle.keymap_fmt.proofs.Reading.{read_one, read_blank, read_hash, read_token, read_refused, read_unfinished}
+use Rattle.keymap_fmt.proofs.Texts.{ArePieces, no_piece, one_piece, Reads, text_pieces}
+use Rattle.keymap_fmt.proofs.Written.{AreBlanks, before_blanks, after_at, rendered_blank}
+use Rattle.keymap_fmt.proofs.Again.{parts_stay}
+
+-- the tokens of some bytes, step by step
+split_one : (k q c : ℕ) (bytes : List ℕ) → tokens_after (suc k) q (c ∷ bytes) ≡ tokens_after k (q + 1) bytes
+unfolding tokens_after
+split_one k q c bytes = refl
+
+split_nil : (k q : ℕ) → tokens_after k q [] ≡ Ends q
+unfolding tokens_after
+split_nil zero q = refl
+split_nil (suc k) q = refl
+
+split_skipped : (q c n : ℕ) (bytes : List ℕ) → front_of c bytes ≡ Skipped n
+    → tokens_after 0 q (c ∷ bytes) ≡ tokens_after n (q + 1) bytes
+unfolding tokens_after
+split_skipped q c n bytes h = rw (h, tokens_after) refl
+
+pub split_found : (q c n : ℕ) (kind : TokenKind) (bytes : List ℕ) → front_of c bytes ≡ Found kind n
+    → tokens_after 0 q (c ∷ bytes) ≡ Then (record {
+      kind = kind;
+      bytes = c ∷ take n bytes;
+      start = q;
+      last = is_empty (drop n bytes);
+    }) (tokens_after n (q + 1) bytes)
+unfolding tokens_after
+split_found q c n kind bytes h = rw (h, tokens_after) refl
+
+pub split_refused : (q c : ℕ) (f : TextFaultKind) (bytes : List ℕ) → front_of c bytes ≡ Refused f
+    → tokens_after 0 q (c ∷ bytes) ≡ Stops f q
+unfolding tokens_after
+split_refused q c f bytes h = rw (h, tokens_after) refl
+
+pub split_unfinished : (q c : ℕ) (bytes : List ℕ) → front_of c bytes ≡ Unfinished
+    → tokens_after 0 q (c ∷ bytes) ≡ Stops EndInside (q + 1 + length bytes)
+unfolding tokens_after
+split_unfinished q c bytes h = rw (h, tokens_after) refl
+
+split_blank : (q c : ℕ) (bytes : List ℕ) → is_blank c ≡ true
+    → tokens_after 0 q (c ∷ bytes) ≡ tokens_after 0 (q + 1) bytes
+split_blank q c bytes h = split_skipped q c 0 bytes (front_blank c bytes h)
+
+-- the kinds and bytes of the first token, and of those behind it
+token_in_front : (q c n : ℕ) (kind : TokenKind) (bytes : List ℕ) → front_of c bytes ≡ Found kind n
+    → map kind_and_bytes (list_of (tokens_after 0 q (c ∷ bytes)))
+    ≡ (kind, c ∷ take n bytes) ∷ map kind_and_bytes (list_of (tokens_after n (q + 1) bytes))
+unfolding tokens_after list_of
+token_in_front q c n kind bytes h = rw (h, tokens_after, list_of) refl
+
+ending_behind : (q c n : ℕ) (kind : TokenKind) (bytes : List ℕ) → front_of c bytes ≡ Found kind n
+    → ending_of_tokens (tokens_after 0 q (c ∷ bytes)) ≡ ending_of_tokens (tokens_after n (q + 1) bytes)
+unfolding tokens_after ending_of_tokens
+ending_behind q c n kind bytes h = rw (h, tokens_after, ending_of_tokens) refl
+
+no_tokens : (k q : ℕ) → list_of (tokens_after k q []) ≡ []
+unfolding list_of
+no_tokens k q = ap list_of (split_nil k q)
+
+refused_front : (q c : ℕ) (f : TextFaultKind) (bytes : List ℕ) → front_of c bytes ≡ Refused f
+    → list_of (tokens_after 0 q (c ∷ bytes)) ≡ []
+unfolding tokens_after list_of
+refused_front q c f bytes h = rw (h, tokens_after, list_of) refl
+
+unfinished_front : (q c : ℕ) (bytes : List ℕ) → front_of c bytes ≡ Unfinished
+    → list_of (tokens_after 0 q (c ∷ bytes)) ≡ []
+unfolding tokens_after list_of
+unfinished_front q c bytes h = rw (h, tokens_after, list_of) refl
+
+-- the end of a line is no token
+line_passed : (q : ℕ) (bytes : List ℕ) → tokens_after (leading stays_on_line bytes) q bytes
+    ≡ tokens_after (suc (leading stays_on_line bytes)) q bytes
+line_passed q [] = split_nil _ q ∙ sym (split_nil _ q)
+line_passed q (c ∷ bytes) = go (stays_on_line c) refl (line_passed (q + 1) bytes)
+  where
+    ends : (c : ℕ) → stays_on_line c ≡ false → is_blank c ≡ true
+    ends c h = grind (arith, nat_tests)
+
+    go : (b : Bool) → stays_on_line c ≡ b → tokens_after (leading stays_on_line bytes) (q + 1) bytes
+        ≡ tokens_after (suc (leading stays_on_line bytes)) (q + 1) bytes
+        → tokens_after (leading stays_on_line (c ∷ bytes)) q (c ∷ bytes)
+        ≡ tokens_after (suc (leading stays_on_line (c ∷ bytes))) q (c ∷ bytes)
+    go true e k =
+        let n = leading_pass stays_on_line c bytes e ∙ add-one (leading stays_on_line bytes) in
+        ap (λ n. tokens_after n q (c ∷ bytes)) n ∙ split_one (leading stays_on_line bytes) q c bytes ∙ k
+        ∙ sym (split_one (suc (leading stays_on_line bytes)) q c bytes)
+        ∙ sym (ap (λ n. tokens_after (suc n) q (c ∷ bytes)) n)
+    go false e k =
+        let n = leading_fail stays_on_line c bytes e in
+        ap (λ n. tokens_after n q (c ∷ bytes)) n ∙ split_blank q c bytes (ends c e) ∙ sym (split_one 0 q c bytes)
+        ∙ sym (ap (λ n. tokens_after (suc n) q (c ∷ bytes)) n)
+
+-- the tokens among the pieces are those of the bytes
+pub piece_tokens : TokenLaws → (bytes : List ℕ) (k q : ℕ) (s : Standing)
+    → flat_map token_of (pieces_after k s bytes) ≡ map kind_and_bytes (list_of (tokens_after k q bytes))
+piece_tokens laws [] k q s = ap (flat_map token_of) (read_nil k s) ∙ sym (ap (map kind_and_bytes) (no_tokens k q))
+piece_tokens laws (c ∷ bytes) k q s = go k q s (piece_tokens laws bytes)
+  where
+    at : ((k q : ℕ) (s : Standing) → flat_map token_of (pieces_after k s bytes)
+        ≡ map kind_and_bytes (list_of (tokens_after k q bytes))) → (q : ℕ) (s : Standing) → AtFront c bytes
+        → flat_map token_of (pieces_after 0 s (c ∷ bytes))
+        ≡ map kind_and_bytes (list_of (tokens_after 0 q (c ∷ bytes)))
+    at more q s (blank e) =
+        ap (flat_map token_of) (read_blank s c bytes e) ∙ more 0 (q + 1) (lowered c s)
+        ∙ sym (ap (λ ts. map kind_and_bytes (list_of ts)) (split_blank q c bytes e))
+    at more q s (hash e) =
+        let n = leading stays_on_line bytes in
+        ap (flat_map token_of) (ap (λ c. pieces_after 0 s (c ∷ bytes)) e ∙ read_hash s bytes)
+        ∙ more (suc n) (q + 1) Below
+        ∙ sym (ap (λ ts. map kind_and_bytes (list_of ts)) (ap (λ c. tokens_after 0 q (c ∷ bytes)) e
+        ∙ split_skipped q 35 n bytes (front_comment bytes) ∙ line_passed (q + 1) bytes))
+    at more q s (token kind n p r h) =
+        ap (flat_map token_of) (read_token s c bytes kind n p r h)
+        ∙ ap (λ (ts : List (TokenKind × List ℕ)). (kind, c ∷ take n bytes) ∷ ts) (more n (q + 1) Beside)
+        ∙ sym (token_in_front q c n kind bytes h)
+    at more q s (refused f p r h) =
+        ap (flat_map token_of) (read_refused s c bytes f p r h)
+        ∙ sym (ap (map kind_and_bytes) (refused_front q c f bytes h))
+    at more q s (unfinished p r h) =
+        ap (flat_map token_of) (read_unfinished s c bytes p r h)
+        ∙ sym (ap (map kind_and_bytes) (unfinished_front q c bytes h))
+
+    go : (k q : ℕ) (s : Standing) → ((k q : ℕ) (s : Standing) → flat_map token_of (pieces_after k s bytes)
+        ≡ map kind_and_bytes (list_of (tokens_after k q bytes)))
+        → flat_map token_of (pieces_after k s (c ∷ bytes))
+        ≡ map kind_and_bytes (list_of (tokens_after k q (c ∷ bytes)))
+    go zero q s more = at more q s (at_front laws c bytes)
+    go (suc k) q s more =
+        ap (flat_map token_of) (read_one k s c bytes) ∙ more k (q + 1) s
+        ∙ sym (ap (λ ts. map kind_and_bytes (list_of ts)) (split_one k q c bytes))
+
+pub tokens_of_pieces : TokenLaws → (text : List ℕ)
+    → flat_map token_of (pieces text) ≡ map kind_and_bytes (tokens text)
+tokens_of_pieces laws text = piece_tokens laws text 0 0 AtTop
+
+-- tokens are told by the parts
+in_parts : (ps : List PieceValue)
+    → flat_map (λ (p : Part × List ℕ). token_in p.0 p.1) (map part_and_bytes ps) ≡ flat_map token_of ps
+in_parts [] = refl
+in_parts (p ∷ ps) = ap (λ (ts : List (TokenKind × List ℕ)). token_in p.part p.bytes ++ ts) (in_parts ps)
+
+pub tokens_stay : TokenLaws → (text : List ℕ)
+    → map kind_and_bytes (tokens (formatted text)) ≡ map kind_and_bytes (tokens text)
+tokens_stay laws text =
+    sym (tokens_of_pieces laws (formatted text)) ∙ sym (in_parts (pieces (formatted text)))
+    ∙ ap (flat_map (λ (p : Part × List ℕ). token_in p.0 p.1)) (parts_stay laws text) ∙ in_parts (pieces text)
+    ∙ tokens_of_pieces laws text
+
+-- one more in front
+one_more : {A : Type 0} (x : A) (xs ys : List A) → xs ≡ ys → x ∷ xs ≡ x ∷ ys
+one_more {A = A} x xs ys h = ap (λ (zs : List A). x ∷ zs) h
+
+-- so are items
+item_of_both : (ts : List TokenValue)
+    → map (λ (p : TokenKind × List ℕ). item p.0 p.1) (map kind_and_bytes ts) ≡ map item_of ts
+item_of_both [] = refl
+item_of_both (t ∷ ts) = one_more (item t.kind t.bytes) _ _ (item_of_both ts)
+
+items_stay : TokenLaws → (text : List ℕ) → items (formatted text) ≡ items text
+items_stay laws text =
+    sym (item_of_both (tokens (formatted text)))
+    ∙ ap (map (λ (p : TokenKind × List ℕ). item p.0 p.1)) (tokens_stay laws text) ∙ item_of_both (tokens text)
+
+-- These bytes are tokens to their end, behind the first k of them.
+IsWhole : ℕ → List ℕ → Type 0
+IsWhole k bytes = (q : ℕ) → (end : ℕ) × (ending_of_tokens (tokens_after k q bytes) ≡ Ok end)
+
+whole_nil : IsWhole 0 []
+unfolding IsWhole ending_of_tokens
+whole_nil = λ q. (q, ap ending_of_tokens (split_nil 0 q))
+
+whole_blank : (c : ℕ) (bytes : List ℕ) → is_blank c ≡ true → IsWhole 0 bytes → IsWhole 0 (c ∷ bytes)
+unfolding IsWhole
+whole_blank c bytes e h = λ q. let r = h (q + 1) in (r.0, ap ending_of_tokens (split_blank q c bytes e) ∙ r.1)
+
+whole_blanks : (g y : List ℕ) → AreBlanks g → IsWhole 0 y → IsWhole 0 (g ++ y)
+whole_blanks [] y b h = h
+whole_blanks (c ∷ g) y b h = whole_blank c (g ++ y) b.0 (whole_blanks g y b.1 h)
+
+-- bytes that are passed
+whole_behind : (w y : List ℕ) → IsWhole 0 y → IsWhole (length w) (w ++ y)
+unfolding IsWhole
+whole_behind [] y h = h
+whole_behind (c ∷ w) y h = go (whole_behind w y h)
+  where
+    go : ((q : ℕ) → (end : ℕ) × (ending_of_tokens (tokens_after (length w) q (w ++ y)) ≡ Ok end))
+        → (q : ℕ) → (end : ℕ) × (ending_of_tokens (tokens_after (suc (length w)) q (c ∷ (w ++ y))) ≡ Ok end)
+    go k q = let r = k (q + 1) in (r.0, ap ending_of_tokens (split_one (length w) q c (w ++ y)) ∙ r.1)
+
+whole_token : (kind : TokenKind) (bytes y : List ℕ) → ReadsToken kind bytes → BeginsBlank y → IsWhole 0 y
+    → IsWhole 0 (bytes ++ y)
+unfolding IsWhole
+whole_token kind bytes y r b h = λ q.
+    let c = r.first in
+    let w = r.rest in
+    let found : front_of c (w ++ y) ≡ Found kind (length w) =
+    ap (λ y. front_of c (w ++ y)) b.is ∙ r.alone b.first b.rest b.blank in
+    let k = whole_behind w y h (q + 1) in (
+      k.0,
+      ap (λ t. ending_of_tokens (tokens_after 0 q (t ++ y))) r.is ∙ ending_behind q c (length w) kind (w ++ y) found
+          ∙ k.1,
+    )
+
+whole_comment : (bytes y : List ℕ) → ReadsComment bytes → IsWhole 0 y → IsWhole 0 (bytes ++ 10 ∷ y)
+unfolding IsWhole
+whole_comment bytes y r h = λ q.
+    let w = r.rest in
+    let n : leading stays_on_line (w ++ 10 ∷ y) ≡ length w = leading_ended stays_on_line w 10 y r.on_line refl in
+    let k = whole_behind w (10 ∷ y) (whole_blank 10 y refl h) (q + 1) in (
+      k.0,
+      ap (λ t. ending_of_tokens (tokens_after 0 q (t ++ 10 ∷ y))) r.is
+          ∙ ap ending_of_tokens (split_skipped q 35 _ (w ++ 10 ∷ y) (front_comment (w ++ 10 ∷ y)))
+          ∙ ap (λ n. ending_of_tokens (tokens_after n (q + 1) (w ++ 10 ∷ y))) n ∙ k.1,
+    )
+
+-- what is written is tokens to its end
+whole_piece : (s : State) (part : Part) (bytes : List ℕ) (ps : List PieceValue) → Reads part bytes
+    → IsWhole 0 (rendered_from (after s part bytes) ps)
+    → IsWhole 0 (bytes ++ (ending_of_part part ++ rendered_from (after s part bytes) ps))
+whole_piece s Comment bytes ps r h = whole_comment bytes _ r h
+whole_piece s (Code kind) bytes ps r h =
+    whole_token kind bytes _ r (rendered_blank (after s (Code kind) bytes) ps (after_at s (Code kind) bytes)) h
+
+whole_end : (column : ℕ) → IsWhole 0 (line_end column)
+whole_end column = go (column == 0)
+  where
+    go : (b : Bool) → IsWhole 0 (if b then [] else 10 ∷ [])
+    go true = whole_nil
+    go false = whole_blank 10 [] refl whole_nil
+
+whole_from : (s : State) (u : Standing) (ps : List PieceValue) → ArePieces u ps → IsWhole 0 (rendered_from s ps)
+unfolding rendered_from
+whole_from s u ps no_piece = whole_end s.column
+whole_from s u qs (one_piece {ps = ps} p r h more) =
+    whole_blanks (before s p.part p.bytes p.standing) _ (before_blanks s p.part p.bytes p.standing)
+    (whole_piece s p.part p.bytes ps r (whole_from (after s p.part p.bytes) (behind p.part) ps more))
+
+formatted_whole : TokenLaws → (text : List ℕ) → (end : ℕ) × (ending (formatted text) ≡ Ok end)
+unfolding IsWhole
+formatted_whole laws text = whole_from start AtTop (pieces text) (text_pieces laws text 0 AtTop) 0
+
+-- it spells what the text spells
+pub keymap_stays : TokenLaws → (text : List ℕ) (m : MapValue) → Spells text m → Spells (formatted text) m
+keymap_stays laws text m h =
+    let end = formatted_whole laws text in
+    record {
+      definitions = h.definitions;
+      row = subst (λ is. IsRow is h.definitions) (sym (items_stay laws text)) h.row;
+      end = end.0;
+      whole = end.1;
+      map = h.map;
+    }

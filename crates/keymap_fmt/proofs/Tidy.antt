@@ -1,0 +1,225 @@
+-- The lines of what is written.
+use Rattle.std.proofs.Common.{◌≡◌, inl, inr, ℕ, zero, suc, ◌==◌, ◌&&◌, Bool, true, false, if◌then◌else◌}
+use Rattle.std.proofs.Common.{List, [], ◌∷◌, ◌++◌, length, replicate, refl, sym, ◌∙◌, ap, subst, arith}
+use Rattle.std.proofs.Common.{slice_index, Option, Some, None, true≢false, append_assoc}
+use Rattle.std.specs.List.{list_all}
+use Rattle.std.proofs.lemmas.Bool.Decides.{nat_tests}
+use Rattle.keymap_text.specs.declared.token.TokenKind.{TokenKind}
+use Rattle.keymap_text.specs.Lexical.{is_space, stays_on_line, leading}
+use Rattle.keymap_fmt.specs.declared.layout.State.{State}
+use Rattle.keymap_fmt.specs.declared.piece.Standing.{Standing}
+use Rattle.keymap_fmt.specs.declared.piece.Standing.TheVariants.{AtTop, Beside, Below, Apart}
+use Rattle.keymap_fmt.specs.declared.piece.Part.{Part}
+use Rattle.keymap_fmt.specs.declared.piece.Part.TheVariants.{Comment, Code}
+use Rattle.keymap_fmt.specs.Pieces.{PieceValue, pieces, behind, trimmed}
+use Rattle.keymap_fmt.specs.Layout.{is_open, begins_line, opened, lead, width, before, after, ending, line_end, start}
+use Rattle.keymap_fmt.specs.Layout.{line_begun, lines_before, comment_lead}
+use Rattle.keymap_fmt.specs.Formatted.{rendered_from, formatted}
+use Rattle.keymap_fmt.specs.Lines.{Edge, Blank, Ink, LineEnd, EmptyLine, behind_byte, are_lines}
+use Rattle.keymap_fmt.specs.Lines.{HasTidyLines}
+use Rattle.keymap_fmt.proofs.Leading.{leading_tail, trim_all, trim_tail}
+use Rattle.keymap_fmt.proofs.Reading.{TokenLaws}
+use Rattle.keymap_fmt.proofs.Texts.{ArePieces, no_piece, one_piece, Reads, reaches, text_pieces}
+use Rattle.keymap_fmt.proofs.Written.{IsAt, closed, after_at}
+
+-- what stands behind some bytes
+abbrev run : Edge → List ℕ → Option Edge
+run e [] = Some e
+run e (c ∷ cs) = elim (behind_byte e c) [ Some f ↦ run f cs | None ↦ None ]
+
+-- one byte
+one_passed : (e f : Edge) (c : ℕ) (y : List ℕ) → behind_byte e c ≡ Some f → are_lines e (c ∷ y) ≡ are_lines f y
+unfolding are_lines
+one_passed Blank f c y h = rw (h, are_lines) refl
+one_passed Ink f c y h = rw (h, are_lines) refl
+one_passed LineEnd f c y h = rw (h, are_lines) refl
+one_passed EmptyLine f c y h = rw (h, are_lines) refl
+
+-- some bytes
+all_passed : (g y : List ℕ) (e f : Edge) → run e g ≡ Some f → are_lines e (g ++ y) ≡ are_lines f y
+all_passed [] y e f h = let same : e ≡ f = cc in ap (λ e. are_lines e y) same
+all_passed (c ∷ g) y e f h = go (behind_byte e c) refl (all_passed g y) h
+  where
+    go : (o : Option Edge) → behind_byte e c ≡ o
+        → ((d f : Edge) → run d g ≡ Some f → are_lines d (g ++ y) ≡ are_lines f y)
+        → elim o as (λ _. Option Edge) [ Some f ↦ run f g | None ↦ None ] ≡ Some f
+        → are_lines e (c ∷ (g ++ y)) ≡ are_lines f y
+    go (Some d) k more l = one_passed e d c (g ++ y) k ∙ more d f l
+    go None k more l = absurd (cc)
+
+-- both of two tests
+both_true : (a b : Bool) → (a && b) ≡ true → (a ≡ true) × (b ≡ true)
+both_true true b h = (refl, h)
+both_true false b h = absurd (true≢false (sym h))
+
+not_end : (c : ℕ) → stays_on_line c ≡ true → (c == 10) ≡ false
+not_end c h = grind (arith, nat_tests)
+
+-- a byte of a line, and one that is no blank
+in_line_byte : (e : Edge) (c : ℕ) → stays_on_line c ≡ true
+    → behind_byte e c ≡ Some (if is_space c then Blank else Ink)
+in_line_byte e c h = rw (not_end c h) refl
+
+ink_byte : (e : Edge) (c : ℕ) → stays_on_line c ≡ true → is_space c ≡ false → behind_byte e c ≡ Some Ink
+ink_byte e c h k = in_line_byte e c h ∙ ap (λ b. Some (if b then Blank else Ink)) k
+
+-- bytes of a line that end with no blank
+ink_passed : (c : ℕ) (w y : List ℕ) (e : Edge) → list_all stays_on_line (c ∷ w) ≡ true
+    → is_space (slice_index (c ∷ w) (length w)) ≡ false → are_lines e (c ∷ (w ++ y)) ≡ are_lines Ink y
+ink_passed c [] y e h k =
+    let b = both_true (stays_on_line c) true h in one_passed e Ink c y (ink_byte e c b.0 k)
+ink_passed c (d ∷ w) y e h k =
+    let b = both_true (stays_on_line c) (list_all stays_on_line (d ∷ w)) h in
+    one_passed e (if is_space c then Blank else Ink) c (d ∷ (w ++ y)) (in_line_byte e c b.0)
+    ∙ ink_passed d w y (if is_space c then Blank else Ink) b.1 k
+
+-- all bytes of a front that is as long as the bytes
+front_all : (p : ℕ → Bool) (w : List ℕ) → leading p w ≡ length w → list_all p w ≡ true
+front_all p [] h = refl
+front_all p (c ∷ w) h =
+    let t = leading_tail p c w h in ap (λ b. b && list_all p w) t.0 ∙ front_all p w t.1
+
+-- what is cut ends with no blank
+cut_end : (c : ℕ) (w : List ℕ) → trimmed (c ∷ w) ≡ c ∷ w → is_space (slice_index (c ∷ w) (length w)) ≡ false
+cut_end c [] h = go (is_space c) refl
+  where
+    go : (b : Bool) → is_space c ≡ b → is_space c ≡ false
+    go true e = absurd (let k = sym (trim_all c [] (ap (λ b. b && true) e)) ∙ h in cc)
+    go false e = e
+cut_end c (d ∷ w) h = go (list_all is_space (c ∷ d ∷ w)) refl (cut_end d w)
+  where
+    go : (b : Bool) → list_all is_space (c ∷ d ∷ w) ≡ b
+        → (trimmed (d ∷ w) ≡ d ∷ w → is_space (slice_index (d ∷ w) (length w)) ≡ false)
+        → is_space (slice_index (d ∷ w) (length w)) ≡ false
+    go true e more = absurd (let k = sym (trim_all c (d ∷ w) e) ∙ h in cc)
+    go false e more = let k : c ∷ trimmed (d ∷ w) ≡ c ∷ d ∷ w = sym (trim_tail c (d ∷ w) e) ∙ h in more (cc)
+
+-- what stands before a piece that would stand at u
+abbrev edge_at : Standing → Edge
+edge_at AtTop = EmptyLine
+edge_at Beside = Ink
+edge_at Below = LineEnd
+edge_at Apart = EmptyLine
+
+-- a piece
+piece_passed : (part : Part) (bytes y : List ℕ) (e : Edge) → Reads part bytes
+    → are_lines e (bytes ++ (ending part ++ y)) ≡ are_lines (edge_at (behind part)) y
+piece_passed Comment bytes y e r =
+    ap (λ b. are_lines e (b ++ 10 ∷ y)) r.is
+    ∙ ink_passed 35 r.rest (10 ∷ y) e (front_all stays_on_line r.rest r.on_line) (cut_end 35 r.rest r.cut)
+    ∙ one_passed Ink LineEnd 10 y refl
+piece_passed (Code kind) bytes y e r =
+    ap (λ b. are_lines e (b ++ y)) r.is ∙ ink_passed r.first r.rest y e r.on_line r.end
+
+-- some edge stands behind these bytes
+abbrev Runs : Edge → List ℕ → Type 0
+Runs e g = (f : Edge) × (run e g ≡ Some f)
+
+line_runs : (column : ℕ) (u t : Standing) → IsAt u column → reaches u t ≡ true
+    → Runs (edge_at u) (line_begun column t)
+line_runs column AtTop AtTop h r = subst (λ n. Runs EmptyLine (line_begun n AtTop)) (sym h) (EmptyLine, refl)
+line_runs column AtTop Beside h r = absurd (cc)
+line_runs column AtTop Below h r = absurd (cc)
+line_runs column AtTop Apart h r = absurd (cc)
+line_runs column Below AtTop h r = absurd (cc)
+line_runs column Below Beside h r = absurd (cc)
+line_runs column Below Below h r = subst (λ n. Runs LineEnd (line_begun n Below)) (sym h) (LineEnd, refl)
+line_runs column Below Apart h r = subst (λ n. Runs LineEnd (line_begun n Apart)) (sym h) (EmptyLine, refl)
+line_runs column Beside AtTop h r = (LineEnd, rw (closed column h) refl)
+line_runs column Beside Beside h r = (LineEnd, rw (closed column h) refl)
+line_runs column Beside Below h r = (LineEnd, rw (closed column h) refl)
+line_runs column Beside Apart h r = (EmptyLine, rw (closed column h) refl)
+line_runs column Apart t h r = absurd h
+
+-- the end of the open line
+below_runs : (column : ℕ) (u : Standing) → IsAt u column → Runs (edge_at u) (line_begun column Below)
+below_runs column AtTop h = subst (λ n. Runs EmptyLine (line_begun n Below)) (sym h) (EmptyLine, refl)
+below_runs column Beside h = line_runs column Beside Below h refl
+below_runs column Below h = line_runs column Below Below h refl
+below_runs column Apart h = absurd h
+
+comment_runs : (column : ℕ) (u t : Standing) → IsAt u column → reaches u t ≡ true
+    → Runs (edge_at u) (comment_lead column t)
+comment_runs column u AtTop h r = line_runs column u AtTop h r
+comment_runs column u Beside h r = two (edge_at u)
+  where
+    two : (e : Edge) → Runs e (32 ∷ 32 ∷ [])
+    two e = (Blank, refl)
+comment_runs column u Below h r = line_runs column u Below h r
+comment_runs column u Apart h r = line_runs column u Apart h r
+
+lines_run : (s : State) (kind : TokenKind) (u t : Standing) → IsAt u s.column → reaches u t ≡ true
+    → Runs (edge_at u) (lines_before s kind t)
+lines_run s kind u t h r = go (begins_line s kind) (is_open kind)
+  where
+    go : (a b : Bool) → Runs (edge_at u) (if a then line_begun s.column (if b then Below else t) else [])
+    go true true = below_runs s.column u h
+    go true false = line_runs s.column u t h r
+    go false b = (edge_at u, refl)
+
+blanks_run : (n : ℕ) (e : Edge) → Runs e (replicate n 32)
+blanks_run zero e = (e, refl)
+blanks_run (suc n) e = blanks_run n Blank
+
+-- what stands before a piece
+before_passed : (s : State) (part : Part) (bytes y : List ℕ) (u t : Standing) → IsAt u s.column → reaches u t ≡ true
+    → (f : Edge) × (are_lines (edge_at u) (before s part bytes t ++ y) ≡ are_lines f y)
+unfolding before
+before_passed s Comment bytes y u t h r =
+    let g = comment_runs s.column u t h r in
+    (g.0, all_passed (comment_lead s.column t) y (edge_at u) g.0 g.1)
+before_passed s (Code kind) bytes y u t h r =
+    let n = lead (opened s kind bytes) (width kind bytes) in
+    let g = lines_run s kind u t h r in
+    let b = blanks_run n g.0 in (
+      b.0,
+      ap (are_lines (edge_at u)) (append_assoc (lines_before s kind t) (replicate n 32) y)
+          ∙ all_passed (lines_before s kind t) (replicate n 32 ++ y) (edge_at u) g.0 g.1
+          ∙ all_passed (replicate n 32) y g.0 b.0 b.1,
+    )
+
+-- one piece is written, and the others have tidy lines
+piece_tidy : (s : State) (u : Standing) (p : PieceValue) (ps : List PieceValue) → IsAt u s.column
+    → Reads p.part p.bytes → reaches u p.standing ≡ true
+    → are_lines (edge_at (behind p.part)) (rendered_from (after s p.part p.bytes) ps) ≡ true
+    → are_lines (edge_at u) (rendered_from s (p ∷ ps)) ≡ true
+unfolding rendered_from
+piece_tidy s u p ps a r h more =
+    let b =
+    before_passed s p.part p.bytes (p.bytes ++ (ending p.part ++ rendered_from (after s p.part p.bytes) ps)) u
+    p.standing a h in
+    b.1 ∙ piece_passed p.part p.bytes (rendered_from (after s p.part p.bytes) ps) b.0 r ∙ more
+
+abbrev is_inside : Standing → Bool
+is_inside Beside = true
+is_inside Below = true
+is_inside other = false
+
+inside : (part : Part) → is_inside (behind part) ≡ true
+inside Comment = refl
+inside (Code kind) = refl
+
+end_tidy : (s : State) (u : Standing) → IsAt u s.column → is_inside u ≡ true
+    → are_lines (edge_at u) (rendered_from s []) ≡ true
+unfolding rendered_from are_lines
+end_tidy s AtTop a i = absurd (cc)
+end_tidy s Beside a i = rw (closed s.column a) refl
+end_tidy s Below a i = subst (λ n. are_lines LineEnd (line_end n) ≡ true) (sym a) refl
+end_tidy s Apart a i = absurd a
+
+lines_from : (s : State) (u : Standing) (ps : List PieceValue) → IsAt u s.column → is_inside u ≡ true
+    → ArePieces u ps → are_lines (edge_at u) (rendered_from s ps) ≡ true
+lines_from s u ps a i no_piece = end_tidy s u a i
+lines_from s u qs a i (one_piece {ps = ps} p r h more) =
+    piece_tidy s u p ps a r h
+    (lines_from (after s p.part p.bytes) (behind p.part) ps (after_at s p.part p.bytes) (inside p.part) more)
+
+from_top : (ps : List PieceValue) → ArePieces AtTop ps → HasTidyLines (rendered_from start ps)
+unfolding rendered_from
+from_top ps no_piece = inl refl
+from_top qs (one_piece {ps = ps} p r h more) =
+    inr (piece_tidy start AtTop p ps refl r h
+    (lines_from (after start p.part p.bytes) (behind p.part) ps (after_at start p.part p.bytes) (inside p.part) more))
+
+pub tidy_lines : TokenLaws → (text : List ℕ) → HasTidyLines (formatted text)
+tidy_lines laws text = from_top (pieces text) (text_pieces laws text 0 AtTop)

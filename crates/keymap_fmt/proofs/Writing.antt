@@ -1,0 +1,32 @@
+-- What is written of a text, piece by piece.
+use Rattle.std.proofs.Common.{◌≡◌, ℕ, List, [], ◌∷◌, ◌++◌, sym, ◌∙◌, ap, append_assoc, ◌<◌, length, length-append}
+use Rattle.std.proofs.Common.{arith}
+use Rattle.keymap_fmt.specs.declared.layout.State.{State}
+use Rattle.keymap_fmt.specs.Pieces.{PieceValue}
+use Rattle.keymap_fmt.specs.Layout.{before, after, ending, line_end}
+use Rattle.keymap_fmt.specs.Formatted.{rendered_from}
+
+-- one piece more is written
+pub piece_written : (laid new all : List ℕ) (s next : State) (p : PieceValue) (qs ps : List PieceValue)
+    → qs ≡ p ∷ ps → new ≡ laid ++ (before s p.part p.bytes p.standing ++ (p.bytes ++ ending p.part))
+    → next ≡ after s p.part p.bytes → laid ++ rendered_from s qs ≡ all → new ++ rendered_from next ps ≡ all
+unfolding rendered_from
+piece_written laid new all s next p qs ps e f g h =
+    let r = rendered_from (after s p.part p.bytes) ps in
+    ap (λ (x : List ℕ). x ++ rendered_from next ps) f
+    ∙ ap (λ t. (laid ++ (before s p.part p.bytes p.standing ++ (p.bytes ++ ending p.part))) ++ rendered_from t ps) g
+    ∙ regroup laid (before s p.part p.bytes p.standing) p.bytes (ending p.part) r
+    ∙ sym (ap (λ ps. laid ++ rendered_from s ps) e) ∙ h
+  where
+    regroup : (a b c d e : List ℕ) → (a ++ (b ++ (c ++ d))) ++ e ≡ a ++ (b ++ (c ++ (d ++ e)))
+    regroup a b c d e = simp append_assoc
+
+-- all pieces are written
+pub end_written : (laid new all : List ℕ) (s : State) (qs : List PieceValue) → qs ≡ []
+    → new ≡ laid ++ line_end s.column → laid ++ rendered_from s qs ≡ all → new ≡ all
+unfolding rendered_from
+end_written laid new all s qs e f h = f ∙ sym (ap (λ ps. laid ++ rendered_from s ps) e) ∙ h
+
+-- what is written so far is no longer than all
+pub longer : (n : ℕ) (laid rest all : List ℕ) → laid ++ rest ≡ all → n < length laid → n < length all
+longer n laid rest all e h = omega (arith, h, ap length e, length-append laid rest)

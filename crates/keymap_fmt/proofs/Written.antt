@@ -1,0 +1,224 @@
+-- What is written before a piece, and how it is read again.
+use Rattle.std.proofs.Common.{◌≡◌, ℕ, zero, suc, ◌<◌, ◌==◌, Bool, true, false, if◌then◌else◌, List}
+use Rattle.std.proofs.Common.{[], ◌∷◌, ◌++◌, length, replicate, refl, sym, ◌∙◌, ap, subst, arith}
+use Rattle.std.proofs.lemmas.Bool.Decides.{nat_tests}
+use Rattle.keymap_text.specs.declared.token.TokenKind.{TokenKind}
+use Rattle.keymap_text.specs.Lexical.{is_blank}
+use Rattle.keymap_fmt.specs.declared.layout.State.{State}
+use Rattle.keymap_fmt.specs.declared.piece.Standing.{Standing}
+use Rattle.keymap_fmt.specs.declared.piece.Standing.TheVariants.{AtTop, Beside, Below, Apart}
+use Rattle.keymap_fmt.specs.declared.piece.Part.{Part}
+use Rattle.keymap_fmt.specs.declared.piece.Part.TheVariants.{Comment, Code}
+use Rattle.keymap_fmt.specs.Pieces.{PieceValue, pieces_after, lowered, behind}
+use Rattle.keymap_fmt.specs.Layout.{begins_line, is_open, is_apart, opened, lead, width, after, line_end, line_begun}
+use Rattle.keymap_fmt.specs.Layout.{lines_before, comment_lead, before}
+use Rattle.keymap_fmt.specs.Formatted.{rendered_from}
+use Rattle.keymap_fmt.proofs.Reading.{BeginsBlank, read_blank, read_nil}
+use Rattle.keymap_fmt.proofs.Texts.{reaches}
+
+-- all bytes are blanks
+abbrev pub AreBlanks : List ℕ → Type 0
+AreBlanks [] = Unit {0}
+AreBlanks (c ∷ cs) = (is_blank c ≡ true) × AreBlanks cs
+
+-- where a piece stands behind these blanks
+abbrev pub lowered_by : List ℕ → Standing → Standing
+lowered_by [] s = s
+lowered_by (c ∷ cs) s = lowered_by cs (lowered c s)
+
+blanks_append : (g h : List ℕ) → AreBlanks g → AreBlanks h → AreBlanks (g ++ h)
+blanks_append [] h a b = b
+blanks_append (c ∷ g) h a b = (a.0, blanks_append g h a.1 b)
+
+blanks_replicate : (n : ℕ) → AreBlanks (replicate n 32)
+blanks_replicate zero = tt
+blanks_replicate (suc n) = (refl, blanks_replicate n)
+
+lowered_append : (g h : List ℕ) (s : Standing) → lowered_by (g ++ h) s ≡ lowered_by h (lowered_by g s)
+lowered_append [] h s = refl
+lowered_append (c ∷ g) h s = lowered_append g h (lowered c s)
+
+lowered_replicate : (n : ℕ) (s : Standing) → lowered_by (replicate n 32) s ≡ s
+lowered_replicate zero s = refl
+lowered_replicate (suc n) s = lowered_replicate n s
+
+-- blanks in front
+pub read_blanks : (g y : List ℕ) (s : Standing) → AreBlanks g
+    → pieces_after 0 s (g ++ y) ≡ pieces_after 0 (lowered_by g s) y
+read_blanks [] y s h = refl
+read_blanks (c ∷ g) y s h = read_blank s c (g ++ y) h.0 ∙ read_blanks g y (lowered c s) h.1
+
+-- some blanks in front
+pub begins_with : (g y : List ℕ) → AreBlanks g → 0 < length g → BeginsBlank (g ++ y)
+begins_with [] y h l = absurd (omega (arith, l))
+begins_with (c ∷ g) y h l = record { first = c; rest = g ++ y; blank = h.0; is = refl }
+
+-- the ends of lines are blanks
+line_end_blanks : (column : ℕ) → AreBlanks (line_end column)
+line_end_blanks column = go (column == 0)
+  where
+    go : (b : Bool) → AreBlanks (if b then [] else 10 ∷ [])
+    go true = tt
+    go false = (refl, tt)
+
+line_begun_blanks : (column : ℕ) (t : Standing) → AreBlanks (line_begun column t)
+line_begun_blanks column t = blanks_append (line_end column) _ (line_end_blanks column) (go (is_apart t))
+  where
+    go : (b : Bool) → AreBlanks (if b then 10 ∷ [] else [])
+    go true = (refl, tt)
+    go false = tt
+
+comment_blanks : (column : ℕ) (t : Standing) → AreBlanks (comment_lead column t)
+comment_blanks column AtTop = line_begun_blanks column AtTop
+comment_blanks column Beside = (refl, (refl, tt))
+comment_blanks column Below = line_begun_blanks column Below
+comment_blanks column Apart = line_begun_blanks column Apart
+
+lines_blanks : (s : State) (kind : TokenKind) (t : Standing) → AreBlanks (lines_before s kind t)
+lines_blanks s kind t = go (begins_line s kind)
+  where
+    go : (b : Bool) → AreBlanks (if b then line_begun s.column (if is_open kind then Below else t) else [])
+    go true = line_begun_blanks s.column (if is_open kind then Below else t)
+    go false = tt
+
+-- all that stands before a piece are blanks
+pub before_blanks : (s : State) (part : Part) (bytes : List ℕ) (t : Standing) → AreBlanks (before s part bytes t)
+unfolding before
+before_blanks s Comment bytes t = comment_blanks s.column t
+before_blanks s (Code kind) bytes t =
+    blanks_append (lines_before s kind t) _ (lines_blanks s kind t)
+    (blanks_replicate (lead (opened s kind bytes) (width kind bytes)))
+
+-- Where a piece stands if nothing is before it tells whether a line is open.
+abbrev pub IsAt : Standing → ℕ → Type 0
+IsAt AtTop column = column ≡ 0
+IsAt Beside column = 0 < column
+IsAt Below column = column ≡ 0
+IsAt Apart column = ⊥
+
+-- the open line ends
+pub closed : (column : ℕ) → 0 < column → (column == 0) ≡ false
+closed column h = grind (arith, nat_tests)
+
+-- what begins a line begins it in the same way behind what stands before it
+line_again : (column : ℕ) (s t : Standing) → IsAt s column → reaches s t ≡ true
+    → line_begun column (lowered_by (line_begun column t) s) ≡ line_begun column t
+line_again column AtTop AtTop h r = subst
+    (λ n. line_begun n (lowered_by (line_begun n AtTop) AtTop) ≡ line_begun n AtTop) (sym h) refl
+line_again column AtTop Beside h r = absurd (cc)
+line_again column AtTop Below h r = absurd (cc)
+line_again column AtTop Apart h r = absurd (cc)
+line_again column Below AtTop h r = absurd (cc)
+line_again column Below Beside h r = absurd (cc)
+line_again column Below Below h r = subst
+    (λ n. line_begun n (lowered_by (line_begun n Below) Below) ≡ line_begun n Below) (sym h) refl
+line_again column Below Apart h r = subst
+    (λ n. line_begun n (lowered_by (line_begun n Apart) Below) ≡ line_begun n Apart) (sym h) refl
+line_again column Beside AtTop h r = rw (closed column h) refl
+line_again column Beside Beside h r = rw (closed column h) refl
+line_again column Beside Below h r = rw (closed column h) refl
+line_again column Beside Apart h r = rw (closed column h) refl
+line_again column Apart t h r = absurd h
+
+-- what stands behind the end of the open line
+below_line : (column : ℕ) → 0 < column → lowered_by (line_begun column Below) Beside ≡ Below
+below_line column h = rw (closed column h) refl
+
+apart_line : (column : ℕ) → 0 < column → lowered_by (line_begun column Apart) Beside ≡ Apart
+apart_line column h = rw (closed column h) refl
+
+-- likewise a comment
+comment_again : (column : ℕ) (s t : Standing) → IsAt s column → reaches s t ≡ true
+    → comment_lead column (lowered_by (comment_lead column t) s) ≡ comment_lead column t
+comment_again column AtTop AtTop h r = subst
+    (λ n. comment_lead n (lowered_by (comment_lead n AtTop) AtTop) ≡ comment_lead n AtTop) (sym h) refl
+comment_again column AtTop Beside h r = absurd (cc)
+comment_again column AtTop Below h r = absurd (cc)
+comment_again column AtTop Apart h r = absurd (cc)
+comment_again column Below AtTop h r = absurd (cc)
+comment_again column Below Beside h r = absurd (cc)
+comment_again column Below Below h r = subst
+    (λ n. comment_lead n (lowered_by (comment_lead n Below) Below) ≡ comment_lead n Below) (sym h) refl
+comment_again column Below Apart h r = subst
+    (λ n. comment_lead n (lowered_by (comment_lead n Apart) Below) ≡ comment_lead n Apart) (sym h) refl
+comment_again column Beside AtTop h r = ap (comment_lead column) (below_line column h)
+comment_again column Beside Beside h r = refl
+comment_again column Beside Below h r = ap (comment_lead column) (below_line column h)
+comment_again column Beside Apart h r = ap (comment_lead column) (apart_line column h)
+comment_again column Apart t h r = absurd h
+
+-- likewise a token
+lines_again : (s : State) (kind : TokenKind) (u t : Standing) → IsAt u s.column → reaches u t ≡ true
+    → lines_before s kind (lowered_by (lines_before s kind t) u) ≡ lines_before s kind t
+lines_again s kind u t h r = go (begins_line s kind) (is_open kind)
+  where
+    go : (a b : Bool)
+        → (if a then line_begun s.column (if b then Below else lowered_by (if a then line_begun s.column
+        (if b then Below else t) else []) u) else [])
+        ≡ (if a then line_begun s.column (if b then Below else t) else [])
+    go true true = refl
+    go true false = line_again s.column u t h r
+    go false b = refl
+
+-- What stands before a piece stands there again where it is read behind that.
+pub before_again : (s : State) (part : Part) (bytes : List ℕ) (u t : Standing) → IsAt u s.column
+    → reaches u t ≡ true → before s part bytes (lowered_by (before s part bytes t) u) ≡ before s part bytes t
+unfolding before
+before_again s Comment bytes u t h r = comment_again s.column u t h r
+before_again s (Code kind) bytes u t h r =
+    let n = lead (opened s kind bytes) (width kind bytes) in
+    ap (λ v. lines_before s kind v ++ replicate n 32)
+    (lowered_append (lines_before s kind t) (replicate n 32) u ∙ lowered_replicate n _)
+    ∙ ap (λ (g : List ℕ). g ++ replicate n 32) (lines_again s kind u t h r)
+
+-- there is a blank before a token at least
+pub lead_some : (s : State) (n : ℕ) → 0 < lead s n
+unfolding lead
+lead_some s n = omega arith
+
+-- a line is open exactly behind a token
+pub after_at : (s : State) (part : Part) (bytes : List ℕ) → IsAt (behind part) (after s part bytes).column
+unfolding after
+after_at s Comment bytes = refl
+after_at s (Code kind) bytes = omega (arith, lead_some (opened s kind bytes) (width kind bytes))
+
+-- what begins behind an open line begins with a blank
+line_end_some : (column : ℕ) → 0 < column → line_end column ≡ 10 ∷ []
+line_end_some column h = rw (closed column h) refl
+
+line_begun_some : (column : ℕ) (t : Standing) → 0 < column → 0 < length (line_begun column t)
+line_begun_some column t h = rw (closed column h) (omega arith)
+
+comment_some : (column : ℕ) (t : Standing) → 0 < column → 0 < length (comment_lead column t)
+comment_some column AtTop h = line_begun_some column AtTop h
+comment_some column Beside h = omega arith
+comment_some column Below h = line_begun_some column Below h
+comment_some column Apart h = line_begun_some column Apart h
+
+some_behind : (g : List ℕ) (n : ℕ) → 0 < n → 0 < length (g ++ replicate n 32)
+some_behind [] zero h = absurd (omega (arith, h))
+some_behind [] (suc n) h = omega arith
+some_behind (c ∷ g) n h = omega arith
+
+before_some : (s : State) (part : Part) (bytes : List ℕ) (t : Standing) → 0 < s.column
+    → 0 < length (before s part bytes t)
+unfolding before
+before_some s Comment bytes t h = comment_some s.column t h
+before_some s (Code kind) bytes t h =
+    some_behind (lines_before s kind t) _ (lead_some (opened s kind bytes) (width kind bytes))
+
+-- what is written behind a token begins with a blank
+pub rendered_blank : (s : State) (ps : List PieceValue) → 0 < s.column → BeginsBlank (rendered_from s ps)
+unfolding rendered_from
+rendered_blank s [] h = record { first = 10; rest = []; blank = refl; is = line_end_some s.column h }
+rendered_blank s (p ∷ ps) h =
+    begins_with (before s p.part p.bytes p.standing) _ (before_blanks s p.part p.bytes p.standing)
+    (before_some s p.part p.bytes p.standing h)
+
+-- the end of the last line has no piece behind it
+pub line_end_read : (column : ℕ) (u : Standing) → pieces_after 0 u (line_end column) ≡ []
+line_end_read column u = go (column == 0)
+  where
+    go : (b : Bool) → pieces_after 0 u (if b then [] else 10 ∷ []) ≡ []
+    go true = read_nil 0 u
+    go false = read_blank u 10 [] refl ∙ read_nil 0 (lowered 10 u)

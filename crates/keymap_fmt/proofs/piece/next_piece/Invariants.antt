@@ -1,0 +1,14 @@
+use Rattle.std.proofs.Common.{length, ◌-◌, ◌≡◌, ◌≤◌, drop}
+use Rattle.keymap_fmt.specs.Pieces.{pieces_after}
+use Rattle.keymap_fmt.proofs.piece.next_piece.Given as goal
+
+-- the pieces are those from the place on
+abbrev pub invariant-loop-i : goal.invariant-loop-i
+invariant-loop-i l = record {
+  from : l.at ≤ l.i;
+  within : l.i ≤ length l.text;
+  same : pieces_after 0 l.fn.first (drop l.fn.at l.text) ≡ pieces_after 0 l.standing (drop l.i l.text);
+}
+
+abbrev pub decreases-loop-i : goal.decreases-loop-i
+decreases-loop-i l = length l.text - l.i

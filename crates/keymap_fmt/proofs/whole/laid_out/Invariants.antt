@@ -1,0 +1,15 @@
+use Rattle.std.proofs.Common.{length, ◌-◌, ◌≡◌, ◌≤◌, ◌++◌, drop, vec_len}
+use Rattle.keymap_fmt.specs.Pieces.{pieces_after}
+use Rattle.keymap_fmt.specs.Formatted.{rendered_from, formatted}
+use Rattle.keymap_fmt.proofs.whole.laid_out.Given as goal
+
+-- what is written, and the pieces to come, are the text in the layout
+abbrev pub invariant-loop-piece : goal.invariant-loop-piece
+invariant-loop-piece l = record {
+  within : l.at ≤ length l.text;
+  column : l.state.column ≤ vec_len l.laid;
+  same : l.laid.items ++ rendered_from l.state (pieces_after 0 l.standing (drop l.at l.text)) ≡ formatted l.text;
+}
+
+abbrev pub decreases-loop-piece : goal.decreases-loop-piece
+decreases-loop-piece l = length l.text - l.at

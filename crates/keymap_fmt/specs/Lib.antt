@@ -1,0 +1,7 @@
+pub mod Pieces
+pub mod Layout
+pub mod Formatted
+pub mod Refused
+pub mod Same
+pub mod Lines
+pub mod Inner

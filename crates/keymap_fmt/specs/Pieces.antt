@@ -1,0 +1,65 @@
+-- A text as a row of pieces: its tokens and its comments, and where each stands.
+use Rattle.std.specs.Prelude.{ℕ, zero, suc, true, false, if◌then◌else◌, ◌==◌, List, [], ◌∷◌, take}
+use Rattle.std.specs.List.{list_all}
+use Rattle.keymap_text.specs.Lexical.{is_blank, is_space, stays_on_line, leading, front_of, Found, Skipped, Refused}
+use Rattle.keymap_text.specs.Lexical.{Unfinished}
+use Rattle.keymap_text.specs.declared.token.TokenKind.{TokenKind}
+use Rattle.keymap_fmt.specs.declared.piece.Standing.{Standing}
+use Rattle.keymap_fmt.specs.declared.piece.Standing.TheVariants.{AtTop, Beside, Below, Apart}
+use Rattle.keymap_fmt.specs.declared.piece.Part.{Part}
+use Rattle.keymap_fmt.specs.declared.piece.Part.TheVariants.{Comment, Code}
+
+-- a token or a comment, with its bytes, and where it stands
+pub record PieceValue : Type 0 where
+  pub part : Part
+  pub bytes : List ℕ
+  pub standing : Standing
+
+-- where a piece stands if one more line ends before it
+abbrev pub lower : Standing → Standing
+lower AtTop = AtTop
+lower Beside = Below
+lower Below = Apart
+lower Apart = Apart
+
+-- the same if the blank c stands before it
+abbrev pub lowered : ℕ → Standing → Standing
+lowered c s = if c == 10 then lower s else s
+
+-- where a piece stands that comes right behind another: a comment takes its line with it
+abbrev pub behind : Part → Standing
+behind Comment = Below
+behind (Code kind) = Beside
+
+-- the bytes without the blanks, tabs and CRs at their end
+unfoldable pub trimmed : List ℕ → List ℕ
+trimmed [] = []
+trimmed (c ∷ cs) = if list_all is_space (c ∷ cs) then [] else c ∷ trimmed cs
+
+abbrev pub comment : List ℕ → Standing → PieceValue
+comment bytes s = record { part = Comment; bytes = trimmed bytes; standing = s }
+
+abbrev pub code : TokenKind → List ℕ → Standing → PieceValue
+code kind bytes s = record { part = Code kind; bytes = bytes; standing = s }
+
+-- The pieces of the bytes behind the first k of them, up to a byte where no token stands. A piece that comes first
+-- stands at s.
+unfoldable pub pieces_after : ℕ → Standing → List ℕ → List PieceValue
+pieces_after k s [] = []
+pieces_after (suc k) s (c ∷ bytes) = pieces_after k s bytes
+pieces_after zero s (c ∷ bytes) = elim (is_blank c) [
+  | true ↦ pieces_after 0 (lowered c s) bytes
+  | false ↦ elim (c == 35) [
+    | true ↦ comment (c ∷ take (leading stays_on_line bytes) bytes) s
+        ∷ pieces_after (suc (leading stays_on_line bytes)) Below bytes
+    | false ↦ elim (front_of c bytes) [
+      | Found kind n ↦ code kind (c ∷ take n bytes) s ∷ pieces_after n Beside bytes
+      | Skipped n ↦ []
+      | Refused f ↦ []
+      | Unfinished ↦ []
+    ]
+  ]
+]
+
+abbrev pub pieces : List ℕ → List PieceValue
+pieces text = pieces_after 0 AtTop text

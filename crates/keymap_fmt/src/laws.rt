@@ -1,0 +1,74 @@
+//! Laws of the layout. No function here does anything.
+ghost use Rattle.std.specs.Prelude.{◌≡◌, ℕ, List, ◌∷◌, ◌++◌, map, true, false};
+ghost use Rattle.keymap_fmt.specs.Pieces.{PieceValue, pieces, code};
+ghost use Rattle.keymap_fmt.specs.Formatted.{formatted, rendered, state_behind};
+ghost use Rattle.keymap_fmt.specs.Layout.{is_over, is_open, start};
+ghost use Rattle.keymap_fmt.specs.declared.piece.Standing.{Standing as StandingValue};
+ghost use Rattle.keymap_text.specs.declared.token.TokenKind.{TokenKind as TokenKindValue};
+ghost use Rattle.keymap_fmt.specs.Lines.{HasTidyLines};
+ghost use Rattle.keymap_fmt.specs.Same.{part_and_bytes, kind_and_bytes, token_of};
+ghost use Rattle.keymap_text.specs.Meaning.{tokens, Spells};
+ghost use Rattle.keymap_core.specs.Maps.{MapValue};
+ghost use Rattle.std.specs.List.{flat_map};
+
+use keymap_text::laws::{one_meaning, tokens_stand_alone};
+
+/// What is formatted has the same tokens and the same comments in the same order, byte for byte but for the blanks at
+/// the end of a comment.
+pub fn parts_stay()
+    ensures { (text : List ℕ) → map part_and_bytes (pieces (formatted text)) ≡ map part_and_bytes (pieces text) }
+{
+    tokens_stand_alone();
+}
+
+/// The tokens among the pieces of a text are its tokens.
+pub fn pieces_hold_the_tokens()
+    ensures { (text : List ℕ) → flat_map token_of (pieces text) ≡ map kind_and_bytes (tokens text) }
+{
+    tokens_stand_alone();
+}
+
+/// What is formatted has the same tokens: each has the same kind and the same bytes.
+pub fn tokens_stay()
+    ensures { (text : List ℕ) → map kind_and_bytes (tokens (formatted text)) ≡ map kind_and_bytes (tokens text) }
+{
+    tokens_stand_alone();
+}
+
+/// What is formatted spells the keymap that the text spells, and no other.
+pub fn keymap_stays()
+    ensures spells { (text : List ℕ) (m : MapValue) → Spells text m → Spells (formatted text) m }
+    ensures no_other { (text : List ℕ) (m n : MapValue) → Spells text m → Spells (formatted text) n → n ≡ m }
+{
+    tokens_stand_alone();
+    one_meaning();
+}
+
+/// What is formatted is left alone when it is formatted again.
+pub fn formatting_again_changes_nothing()
+    ensures { (text : List ℕ) → formatted (formatted text) ≡ formatted text }
+{
+    tokens_stand_alone();
+}
+
+/// Two texts with the same pieces, each beside the one before it, in the next line or behind an empty line as in the
+/// other, have one layout.
+pub fn same_pieces_have_one_layout()
+    ensures { (text other : List ℕ) → pieces text ≡ pieces other → formatted text ≡ formatted other }
+{}
+
+/// Each line of what is formatted ends with LF and none with a blank. An empty line stands alone, and only between two
+/// others.
+pub fn lines_are_tidy()
+    ensures { (text : List ℕ) → HasTidyLines (formatted text) }
+{
+    tokens_stand_alone();
+}
+
+/// A definition is laid out as it would be alone, whatever stands before it and behind it: pieces that end a
+/// definition, a pair or a comment, and pieces that begin with a definition, give together what each of them gives.
+pub fn definitions_are_laid_out_alone()
+    ensures { (ps qs : List PieceValue) (kind : TokenKindValue) (bytes : List ℕ) (standing : StandingValue)
+        → is_over (state_behind start ps) ≡ true → is_open kind ≡ false
+        → rendered (ps ++ code kind bytes standing ∷ qs) ≡ rendered ps ++ rendered (code kind bytes standing ∷ qs) }
+{}

@@ -1,0 +1,4 @@
+pub mod Counting
+pub mod Listed
+pub mod Marking
+pub mod Touring

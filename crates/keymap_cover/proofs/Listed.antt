@@ -1,0 +1,15 @@
+-- The lists of all sights are what is listed to the last place.
+use Rattle.std.proofs.Common.{◌≡◌, ℕ, List, ap, ◌∙◌}
+use Rattle.std.specs.Prelude.{map}
+use Rattle.std.specs.List.{range_with_len}
+use Rattle.console_core.specs.declared.selection.Sight.{Sight}
+use Rattle.keymap_cover.specs.SightLists.{cell_at_place, all_cells, lock_setting_at_place, all_lock_settings}
+
+pub cells-listed : (xs : List Sight) (n : ℕ) → xs ≡ map cell_at_place (range_with_len 0 n) → n ≡ 2048 → xs ≡ all_cells
+unfolding all_cells
+cells-listed xs n e at = e ∙ ap (λ k. map cell_at_place (range_with_len 0 k)) at
+
+pub lock_settings-listed : (xs : List Sight) (n : ℕ) → xs ≡ map lock_setting_at_place (range_with_len 0 n) → n ≡ 1024
+    → xs ≡ all_lock_settings
+unfolding all_lock_settings
+lock_settings-listed xs n e at = e ∙ ap (λ k. map lock_setting_at_place (range_with_len 0 k)) at

@@ -1,0 +1,18 @@
+use Rattle.std.proofs.Common.{refl, sym, ◌∙◌}
+use Rattle.std.proofs.lemmas.Bool.{true≢false}
+use Rattle.keymap_cover.proofs.parts.Cover.verdict.Goals as goal
+
+pub returns-then-may_see-clause-told : goal.returns-then-may_see-clause-told
+returns-then-may_see-clause-told c =
+    λ covers. (
+      (λ along. true≢false (sym (covers.all_seen c.args.sight along) ∙ sym c.has.ensures ∙ c.if-has.false)),
+      c.if-may_see.ensures.reachable covers.sights refl,
+    )
+
+pub returns-else-may_see-clause-told : goal.returns-else-may_see-clause-told
+returns-else-may_see-clause-told c =
+    λ covers. (
+      (λ along. true≢false (sym (covers.all_seen c.args.sight along) ∙ sym c.has.ensures ∙ c.if-has.false)),
+      c.if-may_see.ensures.unreachable covers.sights refl,
+      c.if-may_see.ensures.never covers.sights refl,
+    )

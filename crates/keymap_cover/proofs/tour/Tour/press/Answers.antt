@@ -1,0 +1,27 @@
+use Rattle.std.proofs.Common.{◌≡◌, ◌<◌, length, reverse, true, subst, sym, ◌∙◌, arith}
+use Rattle.std.specs.Prelude.{◌∷◌, slice_set}
+use Rattle.console_core.specs.declared.event.Event.TheVariants as event
+use Rattle.keymap_cover.specs.SeenSights.{has_seen}
+use Rattle.keymap_cover.specs.Inner.Tours.{IsTour}
+use Rattle.keymap_cover.proofs.Touring.{tour-press}
+use Rattle.keymap_cover.proofs.tour.Tour.press.Goals as goal
+
+pub returns : goal.returns
+returns g c =
+    let m = c.args.map.now in
+    let old = c.args.self.now in
+    let k = c.args.key in
+    let now = has_seen c.note.new.seen in
+    let (h, stands, t) = c.requires in
+    let len : length old.pressed ≡ 128 = old.pressed_len in
+    let below : k < 128 = c.press_of-stroke.ensures.in_range in
+    let within : k < length old.pressed = omega (arith, below, len) in (
+      event.Press k ∷ h,
+      c.step.ensures.next _ h stands,
+      subst (λ j. IsTour m (event.Press k ∷ h) c.push.new.self.items (slice_set old.pressed j true) now)
+          (sym c.get.ensures.same)
+          (tour-press m h old.strokes.items c.push.new.self.items old.pressed (has_seen old.seen) now k c.press_of-stroke.result
+          c.in_ok-push.ensures.items t c.press_of-stroke.ensures.event
+          (c.press_of-stroke.ensures.possible (reverse old.strokes.items) (c.is_pressed.ensures.value ∙ t.pressed k below)) below within
+          (c.in_ok-note.ensures h stands)),
+    )

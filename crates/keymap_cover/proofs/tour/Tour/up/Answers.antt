@@ -1,0 +1,24 @@
+use Rattle.std.proofs.Common.{◌≡◌, ◌<◌, length, false, subst, sym, ◌∙◌, arith}
+use Rattle.std.specs.Prelude.{◌∷◌, slice_set}
+use Rattle.console_core.specs.declared.event.Event.TheVariants as event
+use Rattle.keymap_cover.specs.SeenSights.{has_seen}
+use Rattle.keymap_cover.specs.Inner.Tours.{IsTour}
+use Rattle.keymap_cover.proofs.Touring.{tour-up}
+use Rattle.keymap_cover.proofs.tour.Tour.up.Goals as goal
+
+pub returns-in_ok-push-clause-along : goal.returns-in_ok-push-clause-along
+returns-in_ok-push-clause-along g c =
+    let m = c.args.map.now in
+    let old = c.args.self.now in
+    let k = c.args.key in
+    let (h, stands, t) = c.requires in
+    let len : length old.pressed ≡ 128 = old.pressed_len in
+    let below : k < 128 = c.is_pressed.ensures.in_range in
+    let within : k < length old.pressed = omega (arith, below, len) in (
+      event.Release k ∷ h,
+      c.step.ensures.next _ h stands,
+      subst (λ j. IsTour m (event.Release k ∷ h) c.push.new.self.items (slice_set old.pressed j false) (has_seen old.seen))
+          (sym c.get.ensures.same)
+          (tour-up m h old.strokes.items c.push.new.self.items old.pressed (has_seen old.seen) k c.in_ok-push.ensures.items t
+          below within (sym c.is_pressed.ensures.value ∙ c.if-is_pressed.true)),
+    )

@@ -1,0 +1,78 @@
+-- What a script covers.
+use Rattle.std.specs.Prelude.{◌≡◌, ℕ, ◌<◌, Bool, true, false, List, Option, None, Some, reverse, if◌then◌else◌}
+use Rattle.std.specs.List.{count_by}
+use Rattle.keymap_core.specs.declared.action.Modifier.{Modifier}
+use Rattle.keymap_core.specs.Maps.{MapValue}
+use Rattle.keymap_core.specs.Numbers.{key_count}
+use Rattle.console_core.specs.declared.event.Event.{Event}
+use Rattle.console_core.specs.declared.selection.Sight.{Sight}
+use Rattle.console_core.specs.History.{between, is_on_after, accent_pending_after, HasKeys, IsQuiet}
+use Rattle.console_core.specs.Moves.{alone}
+use Rattle.console_core.specs.Sticking.{ReachesMoreThan, state_limit}
+use Rattle.console_core.specs.Sights.{SeesNext, SeesAlong, IsAdmitted, IsReachable, AreSightsOf, can_see}
+use Rattle.keymap_cover.specs.declared.parts.Cover.{Cover}
+use Rattle.keymap_cover.specs.declared.parts.Counts.{Counts}
+use Rattle.keymap_cover.specs.declared.parts.Verdict.{Verdict}
+use Rattle.keymap_cover.specs.declared.parts.Verdict.TheVariants.{Seen, LeftOut, Never}
+use Rattle.keymap_cover.specs.SeenSights.{has_seen}
+use Rattle.keymap_cover.specs.Strokes.{events_of, is_down, ArePossible}
+
+-- the events of the script, with the newest first
+abbrev pub events : Cover → List Event
+events c = events_of (reverse c.strokes.items)
+
+-- At the end no key is pressed, no modifier is on and no accent is pending.
+abbrev pub IsAtRest : MapValue → List Event → Type 0
+IsAtRest m h =
+    IsQuiet h × ((i : Modifier) → is_on_after (between m m) i h ≡ false) × (accent_pending_after (between m m) h ≡ None)
+
+-- What a script and its lists say.
+pub record Covers (m : MapValue) (c : Cover) : Type 0 where
+  -- what is seen is what the script sees
+  pub seen : (x : Sight) → has_seen c.seen x ≡ true → SeesAlong m (events c) x
+  pub all_seen : (x : Sight) → SeesAlong m (events c) x → has_seen c.seen x ≡ true
+  -- what can be seen is what paths show
+  pub sights : AreSightsOf m c.sights
+  -- the events are about keys 0 to 127
+  pub keys : HasKeys (events c)
+  -- strokes can be made at a keyboard, and end at rest
+  pub possible : ArePossible (reverse c.strokes.items)
+  pub rest : IsAtRest m (events c)
+  pub up : (k : ℕ) → k < key_count → is_down k (reverse c.strokes.items) ≡ false
+
+-- No press after a list that is spoken of sees it: after any list of presses, releases and resets, or, where a holder
+-- looks up a character in a state that a path leads to, after any clean one.
+abbrev pub NeverSees : MapValue → Bool → Sight → Type 0
+NeverSees m forgets x =
+    (h : List Event) (k : ℕ) → IsAdmitted m forgets h → k < key_count → SeesNext m h k x → ⊥
+
+-- What is told of a sight. Each sight has exactly one verdict: what can be seen by no path is seen by no list.
+abbrev pub IsVerdict : MapValue → Cover → Sight → Verdict → Type 0
+IsVerdict m c x Seen = SeesAlong m (events c) x
+IsVerdict m c x LeftOut = (SeesAlong m (events c) x → ⊥) × IsReachable m x
+IsVerdict m c x Never =
+    (SeesAlong m (events c) x → ⊥) × (IsReachable m x → ⊥) × NeverSees m c.sights.forgets x
+
+-- the verdict on a sight
+abbrev pub verdict_of : MapValue → Cover → Sight → Verdict
+verdict_of m c x = if has_seen c.seen x then Seen else (if can_see m c.sights x then LeftOut else Never)
+
+-- whether a verdict is this one
+abbrev pub is_verdict : Verdict → Verdict → Bool
+is_verdict Seen Seen = true
+is_verdict LeftOut LeftOut = true
+is_verdict Never Never = true
+is_verdict _ _ = false
+
+-- how many of the sights have each verdict
+abbrev pub counts_of : (Sight → Verdict) → List Sight → Counts
+counts_of told xs = record {
+  seen = count_by (λ x. is_verdict Seen (told x)) xs;
+  left_out = count_by (λ x. is_verdict LeftOut (told x)) xs;
+  rest = count_by (λ x. is_verdict Never (told x)) xs;
+}
+
+-- or the search gives up
+abbrev pub IsCover : MapValue → Option Cover → Type 0
+IsCover m None = (p : ℕ) × ReachesMoreThan (alone m) state_limit p
+IsCover m (Some c) = Covers m c

@@ -1,0 +1,5 @@
+pub mod Covering
+pub mod Inner
+pub mod Strokes
+pub mod SightLists
+pub mod SeenSights

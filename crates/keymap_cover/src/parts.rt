@@ -1,0 +1,35 @@
+//! What is told of a keymap.
+use crate::seen::Seen;
+use crate::stroke::Stroke;
+use console_core::Sights;
+use keymap_tour::Start;
+
+/// A script, what it sees and what can be seen.
+#[derive(Drop)]
+pub struct Cover {
+    pub strokes: Vec<Stroke>,
+    /// Where its parts begin.
+    pub starts: Vec<Start>,
+    pub seen: Seen,
+    pub sights: Sights,
+}
+
+/// What is told of a sight.
+#[derive(Clone, Copy, Debug, PartialEq, Eq)]
+pub enum Verdict {
+    /// The script sees it.
+    Seen,
+    /// It can be seen, and the script doesn't see it.
+    LeftOut,
+    /// No press after a list that is spoken of sees it.
+    Never,
+}
+
+/// How many sights are told so.
+#[derive(Clone, Copy, Debug, PartialEq, Eq)]
+pub struct Counts {
+    pub seen: usize,
+    pub left_out: usize,
+    /// Those that are never seen.
+    pub rest: usize,
+}

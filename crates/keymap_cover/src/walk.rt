@@ -1,0 +1,226 @@
+//! A console that runs along a script while it is made, and notes what each press sees.
+ghost use Rattle.std.specs.Prelude.{◌≡◌, ◌≢◌, ◌<◌, ℕ, List, [], false, true, OnOk, IfOk, slice_index_or};
+ghost use Rattle.keymap_core.specs.Maps.{MapValue};
+ghost use Rattle.keymap_core.specs.Numbers.{key_count};
+ghost use Rattle.console_core.specs.declared.event.Event.{Event as EventValue};
+ghost use Rattle.console_core.specs.declared.event.Event.TheVariants.{Press};
+ghost use Rattle.console_core.specs.History.{between};
+ghost use Rattle.console_core.specs.Sights.{selection_with};
+ghost use Rattle.keymap_cover.specs.SeenSights.{has_seen};
+ghost use Rattle.keymap_cover.specs.Inner.Tours.{AddsPair, AddsSights, IsTourOf, IsAlong};
+ghost use Rattle.keymap_cover.specs.Inner.Tours.{IsAlongAtRest, AreUp};
+ghost use Rattle.keymap_cover.specs.declared.stroke.Stroke.{Stroke as StrokeValue};
+ghost use Rattle.keymap_cover.specs.Strokes.{event_of, is_down, CanFollow};
+
+use crate::seen::Seen;
+use crate::stroke::Stroke;
+use crate::tour::Tour;
+use console_core::{Event, Selection, Translator, is_any_on};
+use keymap_core::{Cell, KEY_COUNT, KeyCode, KeyMap, Lock, Modifier};
+use std::alloc::{AllocError, Global};
+
+/// What of the console picks the cell that a key looks up.
+fn selection<T: Translator>(console: &T) -> Selection
+    ensures { result ≡ selection_with (T.shows_on console.now) (T.shows_locked console.now) }
+{
+    Selection {
+        upper: console.on(Modifier::AltShift) != console.locked(Lock::Alt),
+        shift: console.on(Modifier::LeftShift) || console.on(Modifier::RightShift),
+        control: console.on(Modifier::LeftControl) || console.on(Modifier::RightControl),
+        alt: console.on(Modifier::LeftAlt) || console.on(Modifier::RightAlt),
+        caps: console.locked(Lock::Caps),
+        num: console.locked(Lock::Num),
+    }
+}
+
+/// Adds the pair that a press of the key composes, if an accent is pending.
+fn add_pair(
+    seen: &mut Seen,
+    map: &KeyMap,
+    selection: Selection,
+    key: KeyCode,
+    pending: Option<u8>,
+) -> Result<(), AllocError>
+    ensures { OnOk result (AddsPair map.now selection key pending (has_seen seen.old) (has_seen seen.new)) }
+{
+    if let Some(accent) = pending {
+        if let Cell::Char(character) = selection.look(map, key) {
+            seen.add_pair(accent, character)?;
+        }
+    }
+    Ok(())
+}
+
+/// Adds what a press of the key sees.
+fn note<T: Translator>(
+    seen: &mut Seen,
+    console: &T,
+    map: &KeyMap,
+    key: KeyCode,
+) -> Result<(), AllocError>
+    ensures { OnOk result ((h : List EventValue) → T.stands console.now (between map.now map.now) h
+        → AddsSights map.now h key (has_seen seen.old) (has_seen seen.new)) }
+{
+    let selection = selection(console);
+    let slot = selection.slot(key);
+    let column = selection.column(map, key);
+    seen.add_cell(slot, column);
+    seen.add_lock_setting(slot, selection.caps, selection.num);
+    add_pair(seen, map, selection, key, console.pending())?;
+    Ok(())
+}
+
+/// A press of the key, by whether it is pressed already.
+fn press_of(key: KeyCode, is_pressed: bool) -> Stroke
+    ensures in_range { key < key_count }
+    ensures event { event_of result ≡ Press key }
+    ensures possible { (before : List StrokeValue) → is_pressed ≡ is_down key before → CanFollow before result }
+{
+    if is_pressed {
+        Stroke::Repeat(key)
+    } else {
+        Stroke::Down(key)
+    }
+}
+
+impl Tour {
+    /// No strokes.
+    pub fn new(alloc: Global) -> Result<Tour, AllocError>
+        ensures { IfOk result (λ t. (m : MapValue) → IsTourOf m [] t) }
+    {
+        Ok(Tour {
+            strokes: Vec::new(alloc),
+            pressed: [false; 128],
+            seen: Seen::new(alloc)?,
+        })
+    }
+
+    /// Whether the key is pressed.
+    pub fn is_pressed(&self, key: KeyCode) -> bool
+        ensures in_range { key < key_count }
+        ensures value { result ≡ slice_index_or self.now.pressed key false }
+    {
+        self.pressed[key.get() as usize]
+    }
+
+    /// Presses the key: down, or once more if it is pressed.
+    pub fn press<T: Translator>(
+        &mut self,
+        console: &mut T,
+        map: &KeyMap,
+        key: KeyCode,
+    ) -> Result<(), AllocError>
+        requires { IsAlong map.now (T.stands console.old) self.old }
+        ensures { OnOk result (IsAlong map.now (T.stands console.new) self.new) }
+    {
+        note(&mut self.seen, console, map, key)?;
+        let stroke = press_of(key, self.is_pressed(key));
+        self.strokes.push(stroke)?;
+        self.pressed[key.get() as usize] = true;
+        let _ = console.step(Event::Press(key));
+        Ok(())
+    }
+
+    /// Releases the key, if it is pressed.
+    pub fn up<T: Translator>(
+        &mut self,
+        console: &mut T,
+        map: &KeyMap,
+        key: KeyCode,
+    ) -> Result<(), AllocError>
+        requires { IsAlong map.now (T.stands console.old) self.old }
+        ensures along { OnOk result (IsAlong map.now (T.stands console.new) self.new) }
+        ensures up { OnOk result (slice_index_or self.new.pressed key false ≡ false) }
+        ensures others { OnOk result ((k : ℕ) → k ≢ key
+            → slice_index_or self.new.pressed k false ≡ slice_index_or self.old.pressed k false) }
+    {
+        if self.is_pressed(key) {
+            self.strokes.push(Stroke::Up(key))?;
+            self.pressed[key.get() as usize] = false;
+            let _ = console.step(Event::Release(key));
+        }
+        Ok(())
+    }
+
+    /// Resets the console. Keys stay down.
+    pub fn reset<T: Translator>(&mut self, console: &mut T, map: &KeyMap) -> Result<(), AllocError>
+        requires { IsAlong map.now (T.stands console.old) self.old }
+        ensures along { OnOk result (IsAlongAtRest map.now (T.stands console.new) self.new) }
+        ensures kept { OnOk result (self.new.pressed ≡ self.old.pressed) }
+    {
+        self.strokes.push(Stroke::Reset)?;
+        let _ = console.step(Event::Reset);
+        Ok(())
+    }
+
+    /// Delivers the event. A release of a key that isn't pressed is left out.
+    fn deliver<T: Translator>(
+        &mut self,
+        console: &mut T,
+        map: &KeyMap,
+        event: &Event,
+    ) -> Result<(), AllocError>
+        requires { IsAlong map.now (T.stands console.old) self.old }
+        ensures { OnOk result (IsAlong map.now (T.stands console.new) self.new) }
+    {
+        match event {
+            Event::Press(key) => self.press(console, map, *key)?,
+            Event::Release(key) => self.up(console, map, *key)?,
+            _ => self.reset(console, map)?,
+        }
+        Ok(())
+    }
+
+    /// Releases all keys.
+    fn let_go<T: Translator>(&mut self, console: &mut T, map: &KeyMap) -> Result<(), AllocError>
+        requires { IsAlong map.now (T.stands console.old) self.old }
+        ensures along { OnOk result (IsAlong map.now (T.stands console.new) self.new) }
+        ensures up { OnOk result (AreUp self.new.pressed) }
+    {
+        for code in 0..KEY_COUNT as u8 {
+            self.up(console, map, key_with(code))?;
+        }
+        Ok(())
+    }
+
+    /// Resets the console if a modifier is on or an accent is pending.
+    fn settle<T: Translator>(&mut self, console: &mut T, map: &KeyMap) -> Result<(), AllocError>
+        requires along { IsAlong map.now (T.stands console.old) self.old }
+        requires up { AreUp self.old.pressed }
+        ensures along { OnOk result (IsAlongAtRest map.now (T.stands console.new) self.new) }
+        ensures kept { OnOk result (self.new.pressed ≡ self.old.pressed) }
+    {
+        if is_any_on(&*console) || console.pending().is_some() {
+            self.reset(console, map)?;
+        }
+        Ok(())
+    }
+
+    /// Delivers the events, whatever they are, releases all keys, and leaves no modifier on and no accent pending.
+    pub fn walk<T: Translator>(
+        &mut self,
+        console: &mut T,
+        map: &KeyMap,
+        events: &[Event],
+    ) -> Result<(), AllocError>
+        requires { IsAlong map.now (T.stands console.old) self.old }
+        ensures along { OnOk result (IsAlongAtRest map.now (T.stands console.new) self.new) }
+        ensures up { OnOk result (AreUp self.new.pressed) }
+    {
+        for event in events {
+            self.deliver(console, map, event)?;
+        }
+        self.let_go(console, map)?;
+        self.settle(console, map)
+    }
+}
+
+fn key_with(code: u8) -> KeyCode
+    requires { code < key_count }
+    ensures { result ≡ code }
+{
+    match KeyCode::new(code) {
+        Some(key) => key,
+        None => unreachable!(),
+    }
+}

@@ -1,0 +1,128 @@
+//! Proposes the events of a script that makes a console look up every cell that can be looked up, and that tries what keys
+//! do to each other.
+//!
+//! The crate stands on `keymap_core` for the keymap, and on `console_core` for the console that runs along while the events
+//! are written down.
+//!
+//! It promises nothing of the events: who delivers them notes what they see, as `keymap_cover` does. So no function here
+//! has a clause, but where a caller needs one, and all that is proved is that each call is safe and ends.
+#![tactic(auto)]
+
+mod accents;
+mod cells;
+mod finds;
+mod looks;
+mod lookups;
+mod pen;
+mod probes;
+mod rules;
+mod search;
+mod state;
+mod trials;
+mod view;
+mod views;
+
+use crate::accents::accents;
+use crate::finds::rest;
+use crate::looks::looks;
+use crate::lookups::Lookups;
+use crate::pen::Pen;
+use crate::rules::rules;
+use crate::views::{Turns, Views};
+use console_core::{Event, PlainConsole, Translator};
+use keymap_core::KeyMap;
+use std::alloc::{AllocError, Global};
+
+/// A part of the events.
+#[derive(Clone, Copy, Debug, PartialEq, Eq)]
+pub enum Part {
+    /// Cells, and slots under each setting of clock and nlock, are looked up.
+    Looks,
+    /// Accents are composed with their bases.
+    Accents,
+    /// It is tried what keys do to each other.
+    Rules,
+    /// What only turns of locks lead to that can't be taken back.
+    OneWay,
+}
+
+/// All parts, in their order.
+pub static PARTS: [Part; 4] = [Part::Looks, Part::Accents, Part::Rules, Part::OneWay];
+
+/// Which turns of locks are moves in the part.
+fn turns_in(part: Part) -> Turns {
+    match part {
+        Part::OneWay => Turns::All,
+        _ => Turns::BothWays,
+    }
+}
+
+/// Writes one part.
+fn write_part<T: Translator>(
+    pen: &mut Pen<T>,
+    views: &Views,
+    map: &KeyMap,
+    part: Part,
+) -> Result<(), AllocError> {
+    match part {
+        Part::Looks => looks(pen, views, Turns::BothWays)?,
+        Part::Accents => accents(pen, views, map)?,
+        Part::Rules => rules(pen, views, map)?,
+        Part::OneWay => looks(pen, views, Turns::All)?,
+    }
+    rest(pen, views, turns_in(part))
+}
+
+/// Where a part begins: behind so many events.
+#[derive(Clone, Copy, Debug, PartialEq, Eq)]
+pub struct Start {
+    pub part: Part,
+    pub at: usize,
+}
+
+/// The events to deliver to a new console of the keymap, and where the parts begin that have events.
+#[derive(Drop)]
+pub struct Plan {
+    pub events: Vec<Event>,
+    pub starts: Vec<Start>,
+}
+
+/// Writes all parts, and tells where they begin.
+fn write_parts<T: Translator>(
+    pen: &mut Pen<T>,
+    views: &Views,
+    map: &KeyMap,
+) -> Result<Vec<Start>, AllocError> {
+    let mut starts = Vec::new(pen.alloc());
+    for part in PARTS {
+        let at = pen.events_len();
+        write_part(pen, views, map, part)?;
+        if pen.events_len() > at {
+            starts.push(Start { part, at })?;
+        }
+    }
+    Ok(starts)
+}
+
+fn written<T: Translator>(
+    alloc: Global,
+    map: &KeyMap,
+    lookups: &Lookups,
+    views: &Views,
+    console: &mut T,
+) -> Result<Plan, AllocError> {
+    let mut pen = Pen::new(alloc, lookups, console)?;
+    let starts = write_parts(&mut pen, views, map)?;
+    Ok(Plan {
+        events: pen.into_events(),
+        starts,
+    })
+}
+
+/// The events to deliver to a new console of the keymap.
+pub fn plan_for(alloc: Global, map: &KeyMap) -> Result<Plan, AllocError> {
+    let lookups = Lookups::of(alloc, map)?;
+    let views = Views::of(alloc, &lookups)?;
+    let mut console = PlainConsole::new(map);
+    written(alloc, map, &lookups, &views, &mut console)
+}

@@ -2,7 +2,8 @@
 use Prim.Native.Nat.{zero, suc}
 use Rattle.std.proofs.Common.{◌≡◌, ℕ, ◌+◌, ◌*◌, ◌<◌, ◌==◌, Bool, true, false, List, [], ◌∷◌, Option, Some, None, refl}
 use Rattle.std.proofs.Common.{All, length, arith}
-use Rattle.std.specs.Prelude.{◌%◌, ◌||◌, codes, option_to_list, slice_index_or, slice_get, nat_lt, if◌then◌else◌}
+use Rattle.std.specs.Prelude.{◌%◌, ◌||◌, ◌&&◌, codes, option_to_list, slice_index_or, slice_get, nat_lt, decimal}
+use Rattle.std.specs.Prelude.{if◌then◌else◌}
 use Rattle.std.specs.Char.{IsScalar}
 use Rattle.std.specs.List.{list_all}
 use Rattle.std.proofs.lemmas.Bool.{ltb-true}
@@ -18,63 +19,68 @@ use Rattle.keymap_core.specs.Bounds.{IsCell, IsPair, IsAccent, IsMap}
 use Rattle.keymap_core.specs.Maps.{MapValue, entry_at}
 use Rattle.keymap_core.specs.Numbers.{key_count}
 use Rattle.keymap_check.specs.declared.finding.Finding.{Finding}
-use Rattle.keymap_check.specs.Computed.{findings_of}
 use Rattle.keymap_text.specs.Printed.{slot_words, accent_words}
 use Rattle.keymap_draw.specs.declared.board.Board.{Board}
 use Rattle.keymap_draw.specs.declared.board.Board.TheVariants.{Iso, Ansi}
 use Rattle.keymap_draw.specs.declared.board.Row.{Row}
 use Rattle.keymap_draw.specs.declared.board.Shape.{Shape}
 use Rattle.keymap_draw.specs.declared.board.TheConstants.{ISO}
-use Rattle.keymap_draw.specs.declared.constants.TheConstants.{STYLE, SHAPES, DESCRIPTION, KEY_TO_COLOURS}
+use Rattle.keymap_draw.specs.declared.constants.TheConstants.{STYLE, SHAPES}
 use Rattle.keymap_draw.specs.declared.drawn.DrawnCells.{DrawnCells}
 use Rattle.keymap_draw.specs.declared.half.Half.{Half}
 use Rattle.keymap_draw.specs.declared.half.Half.TheVariants.{Lower, Upper}
 use Rattle.keymap_draw.specs.declared.place.Column.{Column}
-use Rattle.keymap_draw.specs.Boards.{row_on}
-use Rattle.keymap_draw.specs.Drawn.{is_blank, is_among, remaining, column, different, is_pair, joined, drawn}
+use Rattle.keymap_draw.specs.declared.place.Column.TheVariants.{Base, Shift, Alt, AltShift}
+use Rattle.keymap_draw.specs.declared.whole.Starts.{Starts}
+use Rattle.keymap_draw.specs.declared.words.TheConstants as words
+use Rattle.keymap_draw.specs.Boards.{row_on, width}
+use Rattle.keymap_draw.specs.Drawings.{Drawing}
+use Rattle.keymap_draw.specs.Drawn.{is_blank, is_among, remaining, column, cell_in, different, is_pair, joined, drawn}
 use Rattle.keymap_draw.specs.Halves.{slot_of, row_key, some_row_key, board_row, is_other, other_keys, other_key}
-use Rattle.keymap_draw.specs.Halves.{other_rows, others, refused_words, count_line, verdict_line, live_words}
-use Rattle.keymap_draw.specs.Halves.{lower_headline, headline, sample_rest}
-use Rattle.keymap_draw.specs.Halves.{sample_word, sample, panel, half_drawing}
-use Rattle.keymap_draw.specs.Keys.{finding_of, key_class, title, legend, drawn_legend, legends_of, legends}
+use Rattle.keymap_draw.specs.Halves.{others, verdict_line, lower_headline, headline, sample, panel}
+use Rattle.keymap_draw.specs.Halves.{half_drawing}
+use Rattle.keymap_draw.specs.Keys.{finding_of, key_class, title, legend, some_legend, drawn_legend, legends}
 use Rattle.keymap_draw.specs.Keys.{key_of_entry, key}
 use Rattle.keymap_draw.specs.Legends.{character_legend, cell_legend}
-use Rattle.keymap_draw.specs.Lists.{has_character, named_accents, composed, base_of, composed_of, table_of}
+use Rattle.keymap_draw.specs.Lists.{has_character, named_accents, composed, part, table}
 use Rattle.keymap_draw.specs.Lists.{accent_sign, accent_heading, accent_row, some_accent_row, listed_accent}
-use Rattle.keymap_draw.specs.Lists.{accent_rows}
-use Rattle.keymap_draw.specs.Lists.{accents_list, is_silent, silent_accents, silent_name, silent_row, silent_list}
-use Rattle.keymap_draw.specs.Pictures.{upper_y, findings_y, accents_y, silent_y, key_y, begin, head, upper, lists}
-use Rattle.keymap_draw.specs.Pictures.{end, picture_with, picture}
-use Rattle.keymap_draw.specs.Places.{size_class}
-use Rattle.keymap_draw.specs.WellFormed.{at, IsWellFormed}
-use Rattle.keymap_draw.specs.WellFormed.Place.{Text}
-use Rattle.keymap_draw.proofs.Classed.{Passes, size_passes, legend_passes, key_passes}
-use Rattle.keymap_draw.proofs.Formed.{Leads, ◌⊳◌, lit, nothing, between_value, between_text, escaped_in}
-use Rattle.keymap_draw.proofs.Formed.{textual_in, line, classes, opened, element, all_numbered, all_flat, either}
-use Rattle.keymap_draw.proofs.Formed.{findings}
-use Rattle.keymap_draw.proofs.Formed.{cap_in, group_in}
+use Rattle.keymap_draw.specs.Lists.{accents_list, is_silent, silent_accents, silent_name, silent_list}
+use Rattle.keymap_draw.specs.Markup.{one, two}
+use Rattle.keymap_draw.specs.Pictures.{head, upper, upper_keys, drawn_from, drawn_with, picture_of}
+use Rattle.keymap_draw.specs.Pictures.{picture_with}
+use Rattle.keymap_draw.specs.Places.{size_class, legend_classes}
+use Rattle.keymap_draw.specs.WellFormed.{State, at, scan, IsWellFormed}
+use Rattle.keymap_draw.specs.WellFormed.Place.{Before, Text, Value}
+use Rattle.keymap_draw.proofs.Classed.{valued, size_passes, legend_passes, key_passes}
+use Rattle.keymap_draw.proofs.Formed.{Leads, ◌⊳◌, lit, nothing, fills, into, ends, one_value, two_values}
+use Rattle.keymap_draw.proofs.Formed.{value_number, text_number, ids, escaped_in, textual_in, line, classes}
+use Rattle.keymap_draw.proofs.Formed.{opened, element, all_numbered, all_flat, either, findings, cap_in, group_in}
 use Rattle.keymap_draw.proofs.Loops.{passing-below}
 use Rattle.keymap_draw.proofs.Scans.{is_valued, is_textual, first_true, second_true}
 use Rattle.keymap_draw.proofs.Shown.{name_all}
 use Rattle.keymap_draw.proofs.Texts.{character_shown, cell_shown, mark_shown, slot_words_shown}
 use Rattle.keymap_draw.proofs.Texts.{accent_words_shown, entry_cells}
+use Rattle.messages.specs.Filled.{filled, words_before, words_behind}
 
-valued : Passes is_valued
-valued = record {
-  middle = refl;
-  tight = refl;
-  corner = refl;
-  z = refl;
-  c = refl;
-  r = refl;
-  a = refl;
-  d = refl;
-  e = refl;
-  m = refl;
-  f = refl;
-  p = refl;
-  g = refl;
-}
+-- these bytes stand in an element, and all elements that begin in them end in them
+abbrev Within : List (List ℕ) → List ℕ → Type 0
+Within begun bytes = Leads (at Text begun ids) bytes (at Text begun ids)
+
+-- these stand in the outermost element
+abbrev svg : List (List ℕ)
+svg = codes "svg" ∷ []
+
+-- in a text of the outermost element, and in the value of the last attribute of its place
+abbrev in_line : State
+in_line = at Text (codes "text" ∷ svg) ids
+
+abbrev in_place : State
+in_place = at (Value (codes "y" ∷ codes "x" ∷ [])) (codes "text" ∷ svg) ids
+
+-- a text whose words have one place, that of where it stands
+one_line : (w : List ℕ) (n : ℕ) → scan (Some (at Text svg ids)) (words_before w) ≡ Some in_place
+    → scan (Some in_place) (words_behind w) ≡ Some (at Text svg ids) → Within svg (one w n)
+one_line w n h k = one_value w n h k
 
 -- ---- the cells that are drawn
 
@@ -128,51 +134,55 @@ drawn_drawn e h = joined_drawn (different e) (different_drawn e h)
 
 -- ---- keys
 
-legend_in : {begun : List (List ℕ)} (m : MapValue) (s : Shape) (c : Column) (alone beside : Bool) (cell : Cell)
-    → IsCell cell → Leads (at Text begun) (legend m s c alone beside cell) (at Text begun)
+cell_drawn : (d : DrawnCells) (c : Column) → AreDrawn d → IsDrawn (cell_in d c)
+cell_drawn d Base h = h.base
+cell_drawn d Shift h = h.shift
+cell_drawn d Alt h = h.alt
+cell_drawn d AltShift h = h.alt_shift
+
+some_legend_in : {root : List ℕ} {begun : List (List ℕ)} (m : MapValue) (s : Shape) (c : Column) (alone beside : Bool)
+    (o : Option Cell) → IsDrawn o → Within (root ∷ begun) (some_legend m s c alone beside o)
 unfolding legend
-legend_in m s c alone beside cell h =
-    element _ _ _ (cell_legend cell) (legend_passes is_valued valued m c cell (cell_legend cell) alone _)
+some_legend_in m s c alone beside None h = nothing
+some_legend_in m s c alone beside (Some cell) h =
+    element _ _ _ (cell_legend cell)
+    (valued (legend_classes m c cell (cell_legend cell) alone (beside && nat_lt (width s) 112))
+    (legend_passes m c cell (cell_legend cell) alone (beside && nat_lt (width s) 112)))
     (cell_shown cell h)
 
-drawn_legend_in : {begun : List (List ℕ)} (m : MapValue) (s : Shape) (c : Column) (alone beside : Bool)
-    (o : Option Cell) → IsDrawn o → Leads (at Text begun) (drawn_legend m s c alone beside o) (at Text begun)
-drawn_legend_in m s c alone beside None h = nothing
-drawn_legend_in m s c alone beside (Some cell) h = legend_in m s c alone beside cell h
+legend_in : {root : List ℕ} {begun : List (List ℕ)} (m : MapValue) (s : Shape) (alone : Bool) (d : DrawnCells)
+    (c : Column) → AreDrawn d → Within (root ∷ begun) (drawn_legend m s alone d c)
+legend_in m s alone d c h = some_legend_in m s c alone _ (cell_in d c) (cell_drawn d c h)
 
-legends_of_in : {begun : List (List ℕ)} (m : MapValue) (s : Shape) (alone : Bool) (d : DrawnCells) → AreDrawn d
-    → Leads (at Text begun) (legends_of m s alone d) (at Text begun)
-legends_of_in m s alone d h =
-    drawn_legend_in m s _ alone _ d.base h.base ⊳ drawn_legend_in m s _ alone _ d.shift h.shift
-    ⊳ drawn_legend_in m s _ alone _ d.alt h.alt
-    ⊳ drawn_legend_in m s _ alone _ d.alt_shift h.alt_shift
-
-legends_in : {begun : List (List ℕ)} (m : MapValue) (s : Shape) (e : Entry) → All IsCell e.cells
-    → Leads (at Text begun) (legends m s e) (at Text begun)
+legends_in : {root : List ℕ} {begun : List (List ℕ)} (m : MapValue) (s : Shape) (e : Entry) → All IsCell e.cells
+    → Within (root ∷ begun) (legends m s e)
 unfolding legends
-legends_in m s e h = legends_of_in m s _ (drawn e) (drawn_drawn e h)
+legends_in m s e h =
+    let are : AreDrawn (drawn e) = drawn_drawn e h in
+    legend_in m s _ (drawn e) Base are ⊳ legend_in m s _ (drawn e) Shift are ⊳ legend_in m s _ (drawn e) Alt are
+    ⊳ legend_in m s _ (drawn e) AltShift are
 
-title_in : {begun : List (List ℕ)} (fs : List Finding) (slot : ℕ) (e : Entry) → slot < 256 → All IsCell e.cells
-    → Leads (at Text begun) (title fs slot e) (at Text begun)
+title_in : {root : List ℕ} {begun : List (List ℕ)} (fs : List Finding) (slot : ℕ) (e : Entry) → slot < 256
+    → All IsCell e.cells → Within (root ∷ begun) (title fs slot e)
 unfolding title
 title_in fs slot e low h =
-    lit (codes "<title>") refl ⊳ line (finding_of fs (slot % key_count))
+    lit words.TITLE.now refl ⊳ line (finding_of fs (slot % key_count))
     ⊳ escaped_in (slot_words slot e) (slot_words_shown slot e low h)
-    ⊳ lit (codes "</title>") refl
+    ⊳ lit words.TITLE_END.now refl
 
-key_of_entry_in : {begun : List (List ℕ)} (m : MapValue) (fs : List Finding) (slot x y : ℕ) (s : Shape) (e : Entry)
-    → slot < 256 → All IsCell e.cells → Leads (at Text begun) (key_of_entry m fs slot x y s e) (at Text begun)
-key_of_entry_in m fs slot x y s e low h =
-    group_in (key_class fs slot e) x y (key_passes is_valued valued fs slot e) ⊳ title_in fs slot e low h
+key_of_entry_in : (d : Drawing) (slot x y : ℕ) (s : Shape) (e : Entry) → slot < 256 → All IsCell e.cells
+    → Within svg (key_of_entry d slot x y s e)
+key_of_entry_in d slot x y s e low h =
+    group_in (key_class d.findings slot e) x y
+    (valued (option_to_list (key_class d.findings slot e)) (key_passes d.findings slot e))
+    ⊳ title_in d.findings slot e low h
     ⊳ cap_in slot e.flag s
-    ⊳ legends_in m s e h
-    ⊳ lit (codes "</g>\n") refl
+    ⊳ legends_in d.map s e h
+    ⊳ lit words.GROUP_END.now refl
 
-key_in : {begun : List (List ℕ)} (m : MapValue) (fs : List Finding) (slot x y : ℕ) (s : Shape) → IsMap m → slot < 256
-    → Leads (at Text begun) (key m fs slot x y s) (at Text begun)
+key_in : (d : Drawing) (slot x y : ℕ) (s : Shape) → IsMap d.map → slot < 256 → Within svg (key d slot x y s)
 unfolding key
-key_in m fs slot x y s is low =
-    key_of_entry_in m fs slot x y s (entry_at m slot) low (entry_cells m slot is)
+key_in d slot x y s is low = key_of_entry_in d slot x y s (entry_at d.map slot) low (entry_cells d.map slot is)
 
 -- ---- halves
 
@@ -206,144 +216,130 @@ rows_low (r ∷ rows) h =
     All-cons (λ (r : Row). r.0 < 128) r rows (ltb-true r.0 128 (first_true (is_low r) (list_all is_low rows) h))
     (rows_low rows (second_true (is_low r) (list_all is_low rows) h))
 
-row_key_in : {begun : List (List ℕ)} (m : MapValue) (fs : List Finding) (half : Half) (y : ℕ) (o : Option Row) → IsMap m
-    → IsRow o → Leads (at Text begun) (some_row_key m fs half y o) (at Text begun)
+row_key_in : (d : Drawing) (half : Half) (y : ℕ) (o : Option Row) → IsMap d.map → IsRow o
+    → Within svg (some_row_key d half y o)
 unfolding row_key
-row_key_in m fs half y None is h = nothing
-row_key_in m fs half y (Some r) is h = key_in m fs (slot_of half r.0) _ _ r.3 is (slot_low half r.0 h)
+row_key_in d half y None is h = nothing
+row_key_in d half y (Some r) is h = key_in d (slot_of half r.0) _ _ r.3 is (slot_low half r.0 h)
 
-board_row_in : {begun : List (List ℕ)} (m : MapValue) (fs : List Finding) (half : Half) (board : Board) (y : ℕ)
-    (r : Row) → IsMap m → r.0 < 128 → Leads (at Text begun) (board_row m fs half board y r) (at Text begun)
+board_row_in : (d : Drawing) (half : Half) (y : ℕ) (r : Row) → IsMap d.map → r.0 < 128
+    → Within svg (board_row d half y r)
 unfolding board_row
-board_row_in m fs half board y r is h = row_key_in m fs half y (row_on board r) is (row_low board r h)
+board_row_in d half y r is h = row_key_in d half y (row_on d.board r) is (row_low d.board r h)
 
-other_key_in : {begun : List (List ℕ)} (m : MapValue) (fs : List Finding) (half : Half) (y i k : ℕ) → IsMap m → k < 128
-    → Leads (at Text begun) (other_key m fs half y i k) (at Text begun)
+other_key_in : (d : Drawing) (half : Half) (y i k : ℕ) → IsMap d.map → k < 128 → Within svg (other_key d half y i k)
 unfolding other_key
-other_key_in m fs half y i k is h = key_in m fs (slot_of half k) _ _ _ is (slot_low half k h)
+other_key_in d half y i k is h = key_in d (slot_of half k) _ _ _ is (slot_low half k h)
 
-others_in : {begun : List (List ℕ)} (m : MapValue) (fs : List Finding) (half : Half) (y : ℕ) (keys : List ℕ) → IsMap m
-    → All (λ k. k < 128) keys → Leads (at Text begun) (others m fs half y keys) (at Text begun)
-unfolding others other_rows
-others_in m fs half y keys is h =
-    either (length keys == 0) nothing
-    (between_value (codes "<text x=\"28\" y=\"") _
-    (codes "\" class=\"l\">Keys that this board doesn&#x0027;t have</text>\n") refl refl
-    ⊳ all_numbered (λ k. k < 128) (other_key m fs half y) (λ i k low. other_key_in m fs half y i k is low) 0 keys h)
+others_in : (d : Drawing) (half : Half) (y : ℕ) (keys : List ℕ) → IsMap d.map → All (λ k. k < 128) keys
+    → Within svg (others d half y keys)
+unfolding others
+others_in d half y keys is h =
+    either (length keys == 0) nothing (one_line words.OTHER_KEYS.now _ refl refl
+    ⊳ all_numbered (λ k. k < 128) (other_key d half y) (λ i k low. other_key_in d half y i k is low) 0 keys h)
 
-other_keys_low : (m : MapValue) (half : Half) (board : Board) → All (λ k. k < 128) (other_keys m half board)
+other_keys_low : (d : Drawing) (half : Half) → All (λ k. k < 128) (other_keys d half)
 unfolding other_keys
-other_keys_low m half board = passing-below (is_other m half board) 128 128 (omega arith)
+other_keys_low d half = passing-below (is_other d half) 128 128 (omega arith)
 
-refused_in : {begun : List (List ℕ)} (count : ℕ)
-    → Leads (at Text (codes "text" ∷ begun)) (refused_words count) (at Text begun)
-refused_in count =
-    either (count == 1) (between_text (codes "refused: ") count (codes " finding</text>\n") refl refl)
-    (between_text (codes "refused: ") count (codes " findings</text>\n") refl refl)
-
-verdict_in : {begun : List (List ℕ)} (y count : ℕ) → Leads (at Text begun) (verdict_line y count) (at Text begun)
-unfolding count_line
+verdict_in : (y count : ℕ) → Within svg (verdict_line y count)
 verdict_in y count =
-    either (count == 0)
-    (between_value (codes "<text x=\"1464\" y=\"") _ (codes "\" class=\"h r ok\">accepted</text>\n") refl refl)
-    (between_value (codes "<text x=\"1464\" y=\"") _ (codes "\" class=\"h r no\">") refl refl ⊳ refused_in count)
+    either {s = at Text svg ids} {t = at Text svg ids} (count == 0) (one_line words.IS_ACCEPTED.now y refl refl)
+    (either {s = at Text svg ids} {t = at Text svg ids} (count == 1) (counted words.ONE_FINDING.now y 1 refl refl refl)
+    (counted words.MORE_FINDINGS.now y count refl refl refl))
+  where
+    counted : (w : List ℕ) (n k : ℕ) → scan (Some (at Text svg ids)) (words_before w) ≡ Some in_place
+        → scan (Some in_place) (words_before (words_behind w)) ≡ Some in_line
+        → scan (Some in_line) (words_behind (words_behind w)) ≡ Some (at Text svg ids) → Within svg (two w n k)
+    counted w n k f g h = fills (into f (value_number n) (into g (text_number k) (ends h)))
 
-live_in : {name : List ℕ} {begun : List (List ℕ)} (live : Bool)
-    → Leads (at Text (name ∷ begun)) (live_words live) (at Text (name ∷ begun))
-live_in live = either live (lit (codes ", lower half") refl) nothing
-
-headline_in : {begun : List (List ℕ)} (count : ℕ) (half : Half) (live : Bool) (y : ℕ)
-    → Leads (at Text begun) (headline count half live y) (at Text begun)
+headline_in : (d : Drawing) (half : Half) (y : ℕ) → Within svg (headline d half y)
 unfolding headline lower_headline
-headline_in count Lower live y =
-    between_value (codes "<text x=\"28\" y=\"") _ (codes "\" class=\"h\">Console keymap") refl refl ⊳ live_in live
-    ⊳ lit (codes "</text>\n") refl
-    ⊳ verdict_in y count
-headline_in count Upper live y =
-    between_value (codes "<text x=\"28\" y=\"") _
-    (codes "\" class=\"h\">Upper half: while ashift or alock is on</text>\n") refl refl
+headline_in d Lower y =
+    fills (into {t = in_place} refl (value_number y)
+    (into {t = in_line} {u = in_line} refl
+    (either (is_upper_live d.map) (textual_in words.IS_LOWER.now refl) nothing) (ends refl)))
+    ⊳ verdict_in y (length d.findings)
+headline_in d Upper y = one_line words.UPPER_HALF.now y refl refl
 
-sample_word_in : {name : List ℕ} {begun : List (List ℕ)} (half : Half)
-    → Leads (at Text (name ∷ begun)) (sample_word half) (at Text (name ∷ begun))
-sample_word_in Lower = lit (codes "key code") refl
-sample_word_in Upper = lit (codes "slot") refl
+-- the key that shows where the legends stand, with what its number is
+number_in : (w : List ℕ) (y : ℕ) → list_all is_textual w ≡ true
+    → Within svg (filled words.SAMPLE.now (decimal y ∷ w ∷ []))
+number_in w y h =
+    fills (into {t = at (Value (codes "transform" ∷ codes "aria-hidden" ∷ [])) (codes "g" ∷ svg) ids} refl
+    (value_number y)
+    (into {t = at Text (codes "text" ∷ codes "g" ∷ svg) ids} {u = at Text (codes "text" ∷ codes "g" ∷ svg) ids} refl
+    (textual_in w h) (ends {t = at Text svg ids} refl)))
 
-sample_in : {begun : List (List ℕ)} (half : Half) (y : ℕ) → Leads (at Text begun) (sample half y) (at Text begun)
-unfolding sample
-sample_in half y =
-    between_value (codes "<g aria-hidden=\"true\" transform=\"translate(1212 ") _
-    (codes ")\"><use href=\"#f\"/><text x=\"8\" y=\"57\">") refl refl
-    ⊳ sample_word_in half
-    ⊳ lit sample_rest refl
+sample_in : (half : Half) (y : ℕ) → Within svg (sample half y)
+sample_in Lower y = number_in words.KEY_CODE.now y refl
+sample_in Upper y = number_in words.SLOT.now y refl
 
-panel_in : {begun : List (List ℕ)} (m : MapValue) (fs : List Finding) (half : Half) (board : Board) (y : ℕ) → IsMap m
-    → Leads (at Text begun) (panel m fs half board y) (at Text begun)
+panel_in : (d : Drawing) (half : Half) (y : ℕ) → IsMap d.map → Within svg (panel d half y)
 unfolding panel
-panel_in m fs half board y is =
-    between_value (codes "<rect class=\"panel\" x=\"16\" y=\"") y
-    (codes "\" width=\"1460\" height=\"420\" rx=\"16\"/>\n") refl refl
-    ⊳ all_flat (λ (r : Row). r.0 < 128) (board_row m fs half board y)
-    (λ r low. board_row_in m fs half board y r is low) ISO (rows_low ISO refl)
-    ⊳ sample_in half y
+panel_in d half y is =
+    one_value {seen = codes "y" ∷ codes "x" ∷ codes "class" ∷ []} {begun = codes "rect" ∷ svg} {known = ids}
+    words.PANEL.now y refl refl
+    ⊳ all_flat (λ (r : Row). r.0 < 128) (board_row d half y) (λ r low. board_row_in d half y r is low) ISO
+    (rows_low ISO refl)
+    ⊳ sample_in half (y + 12)
 
-half_in : {begun : List (List ℕ)} (m : MapValue) (fs : List Finding) (half : Half) (board : Board) (y : ℕ) → IsMap m
-    → Leads (at Text begun) (half_drawing m fs half board y) (at Text begun)
+half_in : (d : Drawing) (half : Half) (keys : List ℕ) (y : ℕ) → IsMap d.map → All (λ k. k < 128) keys
+    → Within svg (half_drawing d half keys y)
 unfolding half_drawing
-half_in m fs half board y is =
-    headline_in (length fs) half _ y ⊳ panel_in m fs half board _ is
-    ⊳ others_in m fs half _ (other_keys m half board) is (other_keys_low m half board)
+half_in d half keys y is h = headline_in d half _ ⊳ panel_in d half _ is ⊳ others_in d half _ keys is h
 
 -- ---- accents
 
-composed_in : {begun : List (List ℕ)} (place c : ℕ) → IsScalar c
-    → Leads (at Text begun) (composed place c) (at Text begun)
+composed_in : {root : List ℕ} {begun : List (List ℕ)} (place c : ℕ) → IsScalar c
+    → Within (root ∷ begun) (composed place c)
 unfolding composed
 composed_in place c h =
-    between_value (codes "<text x=\"") _ (codes "\"") refl refl
+    one_value _ _ refl refl
     ⊳ classes (option_to_list (size_class (character_legend c) false true))
-    (size_passes is_valued valued (character_legend c) false true)
+    (valued (option_to_list (size_class (character_legend c) false true)) (size_passes (character_legend c) false true))
+    refl
     ⊳ lit (codes ">") refl
     ⊳ escaped_in (character_legend c) (character_shown c h)
-    ⊳ lit (codes "</text>") refl
+    ⊳ lit words.TEXT_END.now refl
 
-table_in : {begun : List (List ℕ)} (own : ℕ) (pairs : List (ℕ × ℕ)) → IsScalar own → All IsPair pairs
-    → Leads (at Text (codes "g" ∷ begun)) (table_of own pairs) (at Text begun)
-unfolding table_of
-table_in own pairs o h =
-    lit (codes "<g class=\"i\" transform=\"translate(124 17)\">") refl ⊳ composed_in 0 32 refl
-    ⊳ all_numbered IsPair base_of (λ i p is. composed_in (i + 1) p.0 is.0) 0 pairs h
-    ⊳ lit (codes "</g><g class=\"j\" transform=\"translate(124 39)\">") refl
+table_in : {root : List ℕ} {begun : List (List ℕ)} (own : ℕ) (pairs : List (ℕ × ℕ)) → IsScalar own → All IsPair pairs
+    → Leads (at Text (codes "g" ∷ root ∷ begun) ids) (table own pairs) (at Text (root ∷ begun) ids)
+unfolding table
+table_in {root} {begun} own pairs o h =
+    lit {t = at Text (codes "g" ∷ codes "g" ∷ root ∷ begun) ids} words.BASES.now refl ⊳ composed_in 0 32 refl
+    ⊳ all_numbered IsPair (part false) (λ i p is. composed_in (i + 1) p.0 is.0) 0 pairs h
+    ⊳ lit {t = at Text (codes "g" ∷ codes "g" ∷ root ∷ begun) ids} words.RESULTS.now refl
     ⊳ composed_in 0 own o
-    ⊳ all_numbered IsPair composed_of (λ i p is. composed_in (i + 1) p.1 is.2) 0 pairs h
-    ⊳ lit (codes "</g></g>\n") refl
+    ⊳ all_numbered IsPair (part true) (λ i p is. composed_in (i + 1) p.1 is.2) 0 pairs h
+    ⊳ lit {t = at Text (root ∷ begun) ids} words.TABLE_END.now refl
 
-heading_in : {begun : List (List ℕ)} (i x : ℕ) (letters : List ℕ) → i < 15 → list_all is_valued letters ≡ true
-    → Leads (at Text begun) (accent_heading i x letters) (at Text begun)
+heading_in : {root : List ℕ} {begun : List (List ℕ)} (i x : ℕ) (letters : List ℕ) → i < 15
+    → list_all is_valued letters ≡ true → Within (root ∷ begun) (accent_heading i x letters)
 unfolding accent_heading
 heading_in i x letters low h =
     element x 35 letters (accent_sign i) h (mark_shown i low) ⊳ opened (x + 28) 30 (codes "l") refl
     ⊳ textual_in (name_of (a.DeadKey i)) (name_all is_textual accent_names refl i)
-    ⊳ lit (codes "</text>") refl
+    ⊳ lit words.TEXT_END.now refl
 
-accent_in : {begun : List (List ℕ)} (i : ℕ) (accent : AccentValue) (y : ℕ) → i < 15 → IsAccent accent
-    → Leads (at Text begun) (accent_row i accent y) (at Text begun)
+accent_in : (i : ℕ) (accent : AccentValue) (y : ℕ) → i < 15 → IsAccent accent → Within svg (accent_row i accent y)
 unfolding accent_row
 accent_in i accent y low is =
-    between_value (codes "<g role=\"img\" transform=\"translate(16 ") y (codes ")\"><title>") refl refl
+    one_value {u = at Text (codes "title" ∷ codes "g" ∷ svg) ids} {seen = codes "transform" ∷ codes "role" ∷ []}
+    {begun = codes "g" ∷ svg} {known = ids} words.ACCENT.now y refl refl
     ⊳ escaped_in (accent_words i accent) (accent_words_shown i accent is.pairs)
-    ⊳ lit (codes "</title><rect class=\"row\" width=\"1460\" height=\"48\" rx=\"8\"/>") refl
+    ⊳ lit {t = at Text (codes "g" ∷ svg) ids} words.ACCENT_ROW.now refl
     ⊳ heading_in i 36 (codes "zcd") low refl
     ⊳ table_in accent.own accent.pairs is.own is.pairs
 
-some_accent_in : {begun : List (List ℕ)} (i j : ℕ) (accents : List AccentValue) (y : ℕ) → i < 15 → All IsAccent accents
-    → Leads (at Text begun) (some_accent_row i (slice_get accents j) y) (at Text begun)
+some_accent_in : (i j : ℕ) (accents : List AccentValue) (y : ℕ) → i < 15 → All IsAccent accents
+    → Within svg (some_accent_row i (slice_get accents j) y)
 some_accent_in i j [] y low h = nothing
 some_accent_in i zero (accent ∷ accents) y low h = accent_in i accent y low (All-head IsAccent accent accents h)
 some_accent_in i (suc j) (accent ∷ accents) y low h =
     some_accent_in i j accents y low (All-tail IsAccent accent accents h)
 
-listed_accent_in : {begun : List (List ℕ)} (m : MapValue) (y i accent : ℕ) → IsMap m → accent < 15
-    → Leads (at Text begun) (listed_accent m y i accent) (at Text begun)
+listed_accent_in : (m : MapValue) (y i accent : ℕ) → IsMap m → accent < 15 → Within svg (listed_accent m y i accent)
 unfolding listed_accent
 listed_accent_in m y i accent is low = some_accent_in accent accent m.accents _ low is.accents
 
@@ -351,12 +347,11 @@ named_low : (m : MapValue) → All (λ i. i < 15) (named_accents m)
 unfolding named_accents
 named_low m = passing-below (has_character m) 15 15 (omega arith)
 
-accents_in : {begun : List (List ℕ)} (m : MapValue) (accents : List ℕ) (y : ℕ) → IsMap m → All (λ i. i < 15) accents
-    → Leads (at Text begun) (accents_list m accents y) (at Text begun)
-unfolding accents_list accent_rows
+accents_in : (m : MapValue) (accents : List ℕ) (y : ℕ) → IsMap m → All (λ i. i < 15) accents
+    → Within svg (accents_list m accents y)
+unfolding accents_list
 accents_in m accents y is h =
-    either (length accents == 0) nothing
-    (between_value (codes "<text x=\"28\" y=\"") _ (codes "\" class=\"h\">Accents</text>\n") refl refl
+    either (length accents == 0) nothing (one_line words.ACCENTS.now _ refl refl
     ⊳ all_numbered (λ i. i < 15) (listed_accent m (y + 40)) (λ i k low. listed_accent_in m (y + 40) i k is low) 0
     accents h)
 
@@ -364,71 +359,70 @@ silent_low : (m : MapValue) → All (λ i. i < 15) (silent_accents m)
 unfolding silent_accents
 silent_low m = passing-below (is_silent m) 15 15 (omega arith)
 
-silent_in : {begun : List (List ℕ)} (accents : List ℕ) (y : ℕ) → All (λ i. i < 15) accents
-    → Leads (at Text begun) (silent_list accents y) (at Text begun)
-unfolding silent_list silent_row
+silent_in : (accents : List ℕ) (y : ℕ) → All (λ i. i < 15) accents → Within svg (silent_list accents y)
+unfolding silent_list
 silent_in accents y h =
-    either (length accents == 0) nothing
-    (between_value (codes "<text x=\"28\" y=\"") _
-    (codes "\" class=\"l\">Dead keys without an accent: the console answers them with an error</text>\n") refl refl
-    ⊳ between_value (codes "<g transform=\"translate(16 ") _
-    (codes ")\"><rect class=\"row\" width=\"1460\" height=\"48\" rx=\"8\"/>") refl refl
+    either (length accents == 0) nothing (two_values {u = at Text (codes "g" ∷ svg) ids}
+    {seen = codes "y" ∷ codes "x" ∷ []} {begun = codes "text" ∷ svg} {known = ids} {later = codes "transform" ∷ []}
+    {outer = codes "g" ∷ svg} {more = ids} words.SILENT.now _ _ refl refl refl
     ⊳ all_numbered (λ i. i < 15) silent_name (λ i k low. heading_in k (36 + 94 * i) (codes "zce") low refl) 0 accents h
-    ⊳ lit (codes "</g>\n") refl)
+    ⊳ lit words.GROUP_END.now refl)
 
 -- ---- the whole
 
-begin_in : (count height : ℕ) → Leads (at Text []) (begin count height) (at Text (codes "svg" ∷ []))
-unfolding begin
-begin_in count height =
-    between_value (codes "<svg xmlns=\"http://www.w3.org/2000/svg\" width=\"1492\" height=\"") height
-    (codes "\" viewBox=\"0 0 1492 ") refl refl
-    ⊳ between_value [] height
-    (codes "\" role=\"graphics-document document\" aria-labelledby=\"title desc\" lang=\"en\">\n") refl refl
-    ⊳ lit (codes "<title id=\"title\">Console keymap, ") refl
-    ⊳ either (count == 0) (lit (codes "accepted") refl) (lit (codes "refused") refl)
-    ⊳ lit (codes "</title>\n<desc id=\"desc\">") refl
-    ⊳ lit DESCRIPTION refl
-    ⊳ lit (codes "</desc>\n") refl
+-- the ids of the title and of the description
+abbrev begin_ids : List (List ℕ)
+begin_ids = codes "desc" ∷ codes "title" ∷ []
 
-style_in : Leads (at Text (codes "svg" ∷ [])) STYLE (at Text (codes "svg" ∷ []))
-style_in = lit STYLE refl
+-- in the title of the picture
+abbrev in_title : State
+in_title = at Text (codes "title" ∷ svg) (codes "title" ∷ [])
 
-shapes_in : Leads (at Text (codes "svg" ∷ [])) SHAPES (at Text (codes "svg" ∷ []))
-shapes_in = lit SHAPES refl
+shapes_in : Leads (at Text svg begin_ids) SHAPES (at Text svg ids)
+shapes_in = lit {t = at Text svg ids} SHAPES refl
 
-head_in : (count height : ℕ) → Leads (at Text []) (head count height) (at Text (codes "svg" ∷ []))
+head_in : (count height : ℕ) → Leads (at Before [] []) (head count height) (at Text svg ids)
 unfolding head
 head_in count height =
-    begin_in count height ⊳ style_in ⊳ shapes_in
-    ⊳ between_value (codes "<rect class=\"page\" width=\"1492\" height=\"") height (codes "\"/>\n") refl refl
+    fills (into {t = at (Value (codes "height" ∷ codes "width" ∷ codes "xmlns" ∷ [])) svg []} refl (value_number _)
+    (into {t = at (Value (codes "viewBox" ∷ codes "height" ∷ codes "width" ∷ codes "xmlns" ∷ [])) svg []} refl
+    (value_number _)
+    (into {t = in_title} {u = in_title} refl
+    (either (count == 0) (lit {t = in_title} words.ACCEPTED.now refl) (lit {t = in_title} words.REFUSED.now refl))
+    (ends {t = at Text svg begin_ids} refl))))
+    ⊳ lit {t = at Text svg begin_ids} STYLE refl ⊳ shapes_in
+    ⊳ one_value {u = at Text svg ids} {seen = codes "height" ∷ codes "width" ∷ codes "class" ∷ []}
+    {begun = codes "rect" ∷ svg} {known = ids} words.PAGE.now _ refl refl
 
-upper_in : {begun : List (List ℕ)} (m : MapValue) (fs : List Finding) (board : Board) → IsMap m
-    → Leads (at Text begun) (upper m fs board) (at Text begun)
+upper_in : (d : Drawing) (keys : List ℕ) (y : ℕ) → IsMap d.map → All (λ k. k < 128) keys
+    → Within svg (upper d keys y)
 unfolding upper
-upper_in m fs board is = either (is_upper_live m) (half_in m fs Upper board (upper_y m board) is) nothing
+upper_in d keys y is h = either (is_upper_live d.map) (half_in d Upper keys y is h) nothing
 
-lists_in : {begun : List (List ℕ)} (m : MapValue) (fs : List Finding) (board : Board) → IsMap m
-    → Leads (at Text begun) (lists m fs board) (at Text begun)
-unfolding lists
-lists_in m fs board is =
-    findings fs (findings_y m board) ⊳ accents_in m (named_accents m) (accents_y m board (length fs)) is (named_low m)
-    ⊳ silent_in (silent_accents m) (silent_y m board (length fs)) (silent_low m)
+upper_low : (d : Drawing) → All (λ k. k < 128) (upper_keys d)
+upper_low d = by (is_upper_live d.map)
+  where
+    by : (b : Bool) → All (λ k. k < 128) (if b then other_keys d Upper else [])
+    by true = other_keys_low d Upper
+    by false = All-nil (λ k. k < 128)
 
-end_in : (y : ℕ) → Leads (at Text (codes "svg" ∷ [])) (end y) (at Text [])
-unfolding end
-end_in y =
-    between_value (codes "<g aria-hidden=\"true\" transform=\"translate(0 ") y (codes ")\">") refl refl
-    ⊳ lit KEY_TO_COLOURS refl
-    ⊳ lit (codes "</g>\n</svg>\n") refl
+drawn_in : (d : Drawing) (starts : Starts) (lower above named silent : List ℕ) → IsMap d.map
+    → All (λ k. k < 128) lower → All (λ k. k < 128) above → All (λ i. i < 15) named → All (λ i. i < 15) silent
+    → Leads (at Before [] []) (drawn_from d starts lower above named silent) (at Text [] ids)
+drawn_in d starts lower above named silent is l a n s =
+    head_in (length d.findings) (starts.key + 76) ⊳ half_in d Lower lower 16 is l ⊳ upper_in d above starts.upper is a
+    ⊳ findings d.findings starts.findings
+    ⊳ accents_in d.map named starts.accents is n
+    ⊳ silent_in silent starts.silent s
+    ⊳ one_value {u = at Text [] ids} {seen = codes "transform" ∷ codes "aria-hidden" ∷ []}
+    {begun = codes "g" ∷ svg} {known = ids} words.END.now _ refl refl
 
-picture_in : (m : MapValue) (fs : List Finding) (board : Board) → IsMap m
-    → Leads (at Text []) (picture_with m fs board) (at Text [])
-unfolding picture_with
-picture_in m fs board is =
-    head_in (length fs) (key_y m board (length fs) + 76) ⊳ half_in m fs Lower board 16 is ⊳ upper_in m fs board is
-    ⊳ lists_in m fs board is
-    ⊳ end_in (key_y m board (length fs))
+picture_in : (d : Drawing) → IsMap d.map → Leads (at Before [] []) (picture_of d) (at Text [] ids)
+unfolding picture_of drawn_with
+picture_in d is =
+    drawn_in d _ (other_keys d Lower) (upper_keys d) (named_accents d.map) (silent_accents d.map) is
+    (other_keys_low d Lower) (upper_low d) (named_low d.map) (silent_low d.map)
 
-pub well_formed : (m : MapValue) (board : Board) → IsMap m → IsWellFormed (picture m board)
-well_formed m board is = (picture_in m (findings_of m) board is).scanned
+pub well_formed : (m : MapValue) (fs : List Finding) (board : Board) → IsMap m → IsWellFormed (picture_with m fs board)
+well_formed m fs board is =
+    (ids, (picture_in (record { map = m; findings = fs; board = board }) is).scanned)

@@ -12,19 +12,27 @@ use Rattle.keymap_core.specs.declared.entry.LockFlag.{LockFlag}
 use Rattle.keymap_core.specs.declared.entry.LockFlag.TheVariants as flag
 use Rattle.keymap_core.specs.Actions.{name_of, holding_action}
 use Rattle.keymap_check.specs.declared.finding.Finding.{Finding}
-use Rattle.keymap_check.specs.declared.finding.Place.{Place as FindingPlace}
 use Rattle.keymap_draw.specs.declared.board.Shape.{Shape}
-use Rattle.keymap_draw.specs.declared.board.Shape.TheVariants.{A, B, C, D, E, F, G, H, Tall, Enter}
-use Rattle.keymap_draw.specs.Keys.{place_words, finding_words, finding_line, flag_words, shape_use, cap, group}
-use Rattle.keymap_draw.specs.Lists.{listed_finding, finding_rows, findings_list}
-use Rattle.keymap_draw.specs.Markup.{between, numbered, escaped, class_text, further_class, open_text, text_element}
-use Rattle.keymap_draw.specs.Markup.{translate}
+use Rattle.keymap_draw.specs.declared.board.Shape.TheVariants.{A}
+use Rattle.keymap_draw.specs.Boards.{letter}
+use Rattle.keymap_draw.specs.declared.words.TheConstants as words
+use Rattle.keymap_draw.specs.Keys.{finding_words, finding_line, flag_words, cap, group}
+use Rattle.keymap_draw.specs.Lists.{listed_finding, findings_list}
+use Rattle.keymap_draw.specs.Markup.{one, two, numbered, escaped, class_text, further_class, open_text, text_element}
 use Rattle.keymap_draw.specs.WellFormed.{State, at, scan}
-use Rattle.keymap_draw.specs.WellFormed.Place.{Text, Behind, Value}
+use Rattle.keymap_draw.specs.WellFormed.Place.{Text, Behind, Value, Target}
 use Rattle.keymap_draw.proofs.Scans.{past, in_value, in_text, number_in_value, number_in_text, is_valued, is_textual}
 use Rattle.keymap_draw.proofs.Scans.{both_true, first_true, second_true}
 use Rattle.keymap_draw.proofs.Shown.{escaped_text}
 use Rattle.keymap_draw.proofs.Texts.{AreShown}
+use Rattle.messages.specs.Filled.{filled, words_before, words_behind}
+
+-- the ids of the head of a picture, the last first: of the shapes, and of what its title and its description are in
+abbrev pub ids : List (List ℕ)
+ids =
+    codes "E" ∷ codes "t" ∷ codes "h" ∷ codes "g" ∷ codes "f" ∷ codes "e" ∷ codes "d" ∷ codes "c" ∷ codes "b"
+    ∷ codes "a"
+    ∷ codes "desc" ∷ codes "title" ∷ []
 
 -- these bytes lead from a state to a state
 pub record Leads (s : State) (bytes : List ℕ) (t : State) : Type 0 where
@@ -41,104 +49,110 @@ lit a h = record { scanned = h }
 pub nothing : {s : State} → Leads s [] s
 nothing = record { scanned = refl }
 
-pub value_number : {begun : List (List ℕ)} (n : ℕ) → Leads (at Value begun) (decimal n) (at Value begun)
-value_number {begun} n = record { scanned = number_in_value begun n }
+-- words with texts at their places lead from a state to a state
+pub record Fills (s : State) (words : List ℕ) (texts : List (List ℕ)) (t : State) : Type 0 where
+  pub led : Leads s (filled words texts) t
 
-pub text_number : {name : List ℕ} {begun : List (List ℕ)} (n : ℕ)
-    → Leads (at Text (name ∷ begun)) (decimal n) (at Text (name ∷ begun))
-text_number {name} {begun} n = record { scanned = number_in_text name begun n }
+pub fills : {s t : State} {w : List ℕ} {ts : List (List ℕ)} → Fills s w ts t → Leads s (filled w ts) t
+fills h = h.led
 
-pub between_value : {s u : State} {begun : List (List ℕ)} (a : List ℕ) (n : ℕ) (b : List ℕ)
-    → scan (Some s) a ≡ Some (at Value begun) → scan (Some (at Value begun)) b ≡ Some u → Leads s (between a n b) u
-between_value {begun = begun} a n b h k = lit a h ⊳ value_number n ⊳ lit b k
+-- words with a text at their first place
+pub into : {s t u v : State} {w a : List ℕ} {ts : List (List ℕ)} → scan (Some s) (words_before w) ≡ Some t → Leads t a u
+    → Fills u (words_behind w) ts v → Fills s w (a ∷ ts) v
+unfolding filled
+into {w = w} h k l = record { led = lit (words_before w) h ⊳ k ⊳ l.led }
 
-pub between_text : {s u : State} {name : List ℕ} {begun : List (List ℕ)} (a : List ℕ) (n : ℕ) (b : List ℕ)
-    → scan (Some s) a ≡ Some (at Text (name ∷ begun)) → scan (Some (at Text (name ∷ begun))) b ≡ Some u
-    → Leads s (between a n b) u
-between_text {begun = begun} a n b h k = lit a h ⊳ text_number n ⊳ lit b k
+-- words without a place
+pub ends : {s t : State} {w : List ℕ} → scan (Some s) w ≡ Some t → Fills s w [] t
+unfolding filled
+ends {w = w} h = record { led = lit w h }
+
+pub value_number : {seen begun known : List (List ℕ)} (n : ℕ)
+    → Leads (at (Value seen) begun known) (decimal n) (at (Value seen) begun known)
+value_number {seen} {begun} {known} n = record { scanned = number_in_value seen begun known n }
+
+pub text_number : {name : List ℕ} {begun known : List (List ℕ)} (n : ℕ)
+    → Leads (at Text (name ∷ begun) known) (decimal n) (at Text (name ∷ begun) known)
+text_number {name} {begun} {known} n = record { scanned = number_in_text name begun known n }
+
+pub one_value : {s u : State} {seen begun known : List (List ℕ)} (w : List ℕ) (n : ℕ)
+    → scan (Some s) (words_before w) ≡ Some (at (Value seen) begun known)
+    → scan (Some (at (Value seen) begun known)) (words_behind w) ≡ Some u → Leads s (one w n) u
+one_value w n h k = fills (into h (value_number n) (ends k))
+
+pub two_values : {s u : State} {seen begun known later outer more : List (List ℕ)} (w : List ℕ) (x y : ℕ)
+    → scan (Some s) (words_before w) ≡ Some (at (Value seen) begun known)
+    → scan (Some (at (Value seen) begun known)) (words_before (words_behind w)) ≡ Some (at (Value later) outer more)
+    → scan (Some (at (Value later) outer more)) (words_behind (words_behind w)) ≡ Some u → Leads s (two w x y) u
+two_values w x y h k l = fills (into h (value_number x) (into k (value_number y) (ends l)))
 
 pub escaped_in : {name : List ℕ} {begun : List (List ℕ)} (cs : List ℕ) → AreShown cs
-    → Leads (at Text (name ∷ begun)) (flat_map escaped cs) (at Text (name ∷ begun))
-escaped_in {name} {begun} cs h = record { scanned = escaped_text name begun cs h.each }
+    → Leads (at Text (name ∷ begun) ids) (flat_map escaped cs) (at Text (name ∷ begun) ids)
+escaped_in {name} {begun} cs h = record { scanned = escaped_text name begun ids cs h.each }
 
 pub textual_in : {name : List ℕ} {begun : List (List ℕ)} (bs : List ℕ) → list_all is_textual bs ≡ true
-    → Leads (at Text (name ∷ begun)) bs (at Text (name ∷ begun))
-textual_in {name} {begun} bs h = record { scanned = in_text name begun bs h }
+    → Leads (at Text (name ∷ begun) ids) bs (at Text (name ∷ begun) ids)
+textual_in {name} {begun} bs h = record { scanned = in_text name begun ids bs h }
 
 -- ---- what the check says
 
-pub place : {name : List ℕ} {begun : List (List ℕ)} (p : FindingPlace)
-    → Leads (at Text (name ∷ begun)) (place_words p) (at Text (name ∷ begun))
-place p = between_text (codes " at slot ") p.slot (codes " column ") refl refl ⊳ text_number p.column
-
 holding_textual : (a : Holding) → list_all is_textual (name_of (holding_action a)) ≡ true
 holding_textual (h.Mod m.LeftShift) = refl
-holding_textual (h.Mod m.RightShift) = refl
-holding_textual (h.Mod m.LeftControl) = refl
-holding_textual (h.Mod m.RightControl) = refl
-holding_textual (h.Mod m.LeftAlt) = refl
-holding_textual (h.Mod m.RightAlt) = refl
-holding_textual (h.Mod m.AltShift) = refl
-holding_textual (h.Mod m.Meta) = refl
 holding_textual (h.Lock l.Caps) = refl
-holding_textual (h.Lock l.Num) = refl
-holding_textual (h.Lock l.Scroll) = refl
-holding_textual (h.Lock l.Alt) = refl
+holding_textual _ = refl
 
 pub said : {name : List ℕ} {begun : List (List ℕ)} (f : Finding)
-    → Leads (at Text (name ∷ begun)) (finding_words f) (at Text (name ∷ begun))
-unfolding finding_words
+    → Leads (at Text (name ∷ begun) ids) (finding_words f) (at Text (name ∷ begun) ids)
 said f =
-    between_text (codes "key ") f.key (codes ": ") refl refl
-    ⊳ textual_in (name_of (holding_action f.holding)) (holding_textual f.holding) ⊳ place f.holding_at
-    ⊳ lit (codes ", character") refl
-    ⊳ place f.character_at
+    fills (into refl (text_number _)
+    (into refl (textual_in (name_of (holding_action f.holding)) (holding_textual f.holding))
+    (into refl (text_number _)
+    (into refl (text_number _) (into refl (text_number _) (into refl (text_number _) (ends refl)))))))
 
 pub line : {name : List ℕ} {begun : List (List ℕ)} (o : Option Finding)
-    → Leads (at Text (name ∷ begun)) (finding_line o) (at Text (name ∷ begun))
+    → Leads (at Text (name ∷ begun) ids) (finding_line o) (at Text (name ∷ begun) ids)
 line None = nothing
 line (Some f) = said f ⊳ lit (codes "\n") refl
 
 -- ---- markup
 
-further : (begun : List (List ℕ)) (letters : List ℕ) → list_all is_valued letters ≡ true
-    → Leads (at Value begun) (flat_map further_class letters) (at Value begun)
-further begun [] h = nothing
-further begun (letter ∷ letters) h =
-    lit (further_class letter) (in_value begun (further_class letter)
+further : (seen begun : List (List ℕ)) (letters : List ℕ) → list_all is_valued letters ≡ true
+    → Leads (at (Value seen) begun ids) (flat_map further_class letters) (at (Value seen) begun ids)
+further seen begun [] h = nothing
+further seen begun (letter ∷ letters) h =
+    lit (further_class letter) (in_value seen begun ids (further_class letter)
     (both_true (is_valued 32) (list_all is_valued (letter ∷ [])) refl
     (both_true (is_valued letter) true (first_true (is_valued letter) (list_all is_valued letters) h) refl)))
-    ⊳ further begun letters (second_true (is_valued letter) (list_all is_valued letters) h)
+    ⊳ further seen begun letters (second_true (is_valued letter) (list_all is_valued letters) h)
 
-pub classes : {begun : List (List ℕ)} (letters : List ℕ) → list_all is_valued letters ≡ true
-    → Leads (at Behind begun) (class_text letters) (at Behind begun)
+-- the attributes behind the classes
+abbrev pub with_class : List ℕ → List (List ℕ) → List (List ℕ)
+with_class [] seen = seen
+with_class (letter ∷ letters) seen = codes "class" ∷ seen
+
+pub classes : {seen begun : List (List ℕ)} (letters : List ℕ) → list_all is_valued letters ≡ true
+    → scan (Some (at (Behind seen) begun ids)) words.CLASS.now ≡ Some (at (Value (codes "class" ∷ seen)) begun ids)
+    → Leads (at (Behind seen) begun ids) (class_text letters) (at (Behind (with_class letters seen)) begun ids)
 unfolding class_text
-classes {begun} [] h = nothing
-classes {begun} (letter ∷ letters) h =
-    lit (codes " class=\"") refl
-    ⊳ lit (letter ∷ []) (in_value begun (letter ∷ [])
+classes {seen} {begun} [] h begins = nothing
+classes {seen} {begun} (letter ∷ letters) h begins =
+    lit words.CLASS.now begins
+    ⊳ lit (letter ∷ []) (in_value (codes "class" ∷ seen) begun ids (letter ∷ [])
     (both_true (is_valued letter) true (first_true (is_valued letter) (list_all is_valued letters) h) refl))
-    ⊳ further begun letters (second_true (is_valued letter) (list_all is_valued letters) h)
+    ⊳ further (codes "class" ∷ seen) begun letters (second_true (is_valued letter) (list_all is_valued letters) h)
     ⊳ lit (codes "\"") refl
 
-pub opened : {begun : List (List ℕ)} (x y : ℕ) (letters : List ℕ) → list_all is_valued letters ≡ true
-    → Leads (at Text begun) (open_text x y letters) (at Text (codes "text" ∷ begun))
+pub opened : {root : List ℕ} {begun : List (List ℕ)} (x y : ℕ) (letters : List ℕ) → list_all is_valued letters ≡ true
+    → Leads (at Text (root ∷ begun) ids) (open_text x y letters) (at Text (codes "text" ∷ root ∷ begun) ids)
 unfolding open_text
-opened x y letters h =
-    between_value (codes "<text x=\"") x (codes "\" y=\"") refl refl ⊳ value_number y ⊳ lit (codes "\"") refl
-    ⊳ classes letters h
-    ⊳ lit (codes ">") refl
+opened x y letters h = two_values _ _ _ refl refl refl ⊳ classes letters h refl ⊳ lit (codes ">") refl
 
-pub element : {begun : List (List ℕ)} (x y : ℕ) (letters characters : List ℕ) → list_all is_valued letters ≡ true
-    → AreShown characters → Leads (at Text begun) (text_element x y letters characters) (at Text begun)
+pub element : {root : List ℕ} {begun : List (List ℕ)} (x y : ℕ) (letters characters : List ℕ)
+    → list_all is_valued letters ≡ true → AreShown characters
+    → Leads (at Text (root ∷ begun) ids) (text_element x y letters characters) (at Text (root ∷ begun) ids)
 unfolding text_element
 element x y letters characters h k =
-    opened x y letters h ⊳ escaped_in characters k ⊳ lit (codes "</text>") refl
-
-pub moved : {begun : List (List ℕ)} (x y : ℕ) → Leads (at Behind begun) (translate x y) (at Text begun)
-unfolding translate
-moved x y =
-    between_value (codes " transform=\"translate(") x (codes " ") refl refl ⊳ value_number y ⊳ lit (codes ")\">") refl
+    opened x y letters h ⊳ escaped_in characters k ⊳ lit words.TEXT_END.now refl
 
 pub all_numbered : {A : Type 0} {s : State} (P : A → Type 0) (f : ℕ → A → List ℕ)
     → ((i : ℕ) (x : A) → P x → Leads s (f i x) s) → (i : ℕ) (xs : List A) → All P xs → Leads s (numbered f i xs) s
@@ -159,51 +173,66 @@ either false h k = k
 
 -- ---- the findings
 
-listed : {begun : List (List ℕ)} (y i : ℕ) (f : Finding) → Leads (at Text begun) (listed_finding y i f) (at Text begun)
+listed : {root : List ℕ} {begun : List (List ℕ)} (y i : ℕ) (f : Finding)
+    → Leads (at Text (root ∷ begun) ids) (listed_finding y i f) (at Text (root ∷ begun) ids)
 unfolding listed_finding
-listed y i f =
-    between_value (codes "<text x=\"") _ (codes "\" y=\"") refl refl
-    ⊳ between_value [] _ (codes "\" class=\"l no\">") refl refl
-    ⊳ said f
-    ⊳ lit (codes "</text>\n") refl
+listed y i f = fills (into refl (value_number _) (into refl (value_number _) (into refl (said f) (ends refl))))
 
-pub findings : {begun : List (List ℕ)} (fs : List Finding) (y : ℕ)
-    → Leads (at Text begun) (findings_list fs y) (at Text begun)
-unfolding findings_list finding_rows
+pub findings : {root : List ℕ} {begun : List (List ℕ)} (fs : List Finding) (y : ℕ)
+    → Leads (at Text (root ∷ begun) ids) (findings_list fs y) (at Text (root ∷ begun) ids)
+unfolding findings_list
 findings fs y =
-    either (length fs == 0) nothing
-    (between_value (codes "<text x=\"28\" y=\"") _ (codes "\" class=\"h no\">Findings</text>\n") refl refl
+    either (length fs == 0) nothing (one_value _ _ refl refl
     ⊳ all_numbered (λ f. Unit) (listed_finding (y + 40)) (λ i f _. listed (y + 40) i f) 0 fs (λ k d _. tt))
 
 -- ---- keys
 
 pub flag_in : {name : List ℕ} {begun : List (List ℕ)} (f : LockFlag)
-    → Leads (at Text (name ∷ begun)) (flag_words f) (at Text (name ∷ begun))
+    → Leads (at Text (name ∷ begun) ids) (flag_words f) (at Text (name ∷ begun) ids)
 flag_in flag.O = nothing
-flag_in flag.C = lit (codes " C") refl
-flag_in flag.N = lit (codes " N") refl
-flag_in flag.B = lit (codes " B") refl
+flag_in flag.C = lit words.CAPS.now refl
+flag_in flag.N = lit words.NUM.now refl
+flag_in flag.B = lit words.BOTH.now refl
 
-pub shape_in : {begun : List (List ℕ)} (s : Shape) → Leads (at Text begun) (shape_use s) (at Text begun)
-unfolding shape_use
-shape_in A = lit (codes "<use href=\"#a\"/>") refl
-shape_in B = lit (codes "<use href=\"#b\"/>") refl
-shape_in C = lit (codes "<use href=\"#c\"/>") refl
-shape_in D = lit (codes "<use href=\"#d\"/>") refl
-shape_in E = lit (codes "<use href=\"#e\"/>") refl
-shape_in F = lit (codes "<use href=\"#f\"/>") refl
-shape_in G = lit (codes "<use href=\"#g\"/>") refl
-shape_in H = lit (codes "<use href=\"#h\"/>") refl
-shape_in Tall = lit (codes "<use href=\"#t\"/>") refl
-shape_in Enter = lit (codes "<use href=\"#E\"/>") refl
+-- the letter of a shape in a link, and what stands behind it up to the place of the code
+shape_in : {root : List ℕ} {begun : List (List ℕ)} (s : Shape)
+    → scan (Some (at (Target (codes "href" ∷ []) []) (codes "use" ∷ root ∷ begun) ids)) (letter s ∷ [])
+    ≡ Some (at (Target (codes "href" ∷ []) (letter s ∷ [])) (codes "use" ∷ root ∷ begun) ids)
+shape_in A = refl
+shape_in _ = refl
 
-pub cap_in : {begun : List (List ℕ)} (slot : ℕ) (f : LockFlag) (s : Shape)
-    → Leads (at Text begun) (cap slot f s) (at Text begun)
-unfolding cap
+behind_shape : {root : List ℕ} {begun : List (List ℕ)} (s : Shape)
+    → scan (Some (at (Target (codes "href" ∷ []) (letter s ∷ [])) (codes "use" ∷ root ∷ begun) ids))
+    (words_before (words_behind words.CAP.now))
+    ≡ Some (at (Value (codes "x" ∷ [])) (codes "text" ∷ root ∷ begun) ids)
+behind_shape A = refl
+behind_shape _ = refl
+
+pub cap_in : {root : List ℕ} {begun : List (List ℕ)} (slot : ℕ) (f : LockFlag) (s : Shape)
+    → Leads (at Text (root ∷ begun) ids) (cap slot f s) (at Text (root ∷ begun) ids)
 cap_in slot f s =
-    shape_in s ⊳ opened _ _ [] refl ⊳ text_number slot ⊳ flag_in f ⊳ lit (codes "</text>") refl
+    fills (into refl (lit (letter s ∷ []) (shape_in s))
+    (into (behind_shape s) (value_number _)
+    (into refl (value_number _) (into refl (text_number _) (into refl (flag_in f) (ends refl))))))
 
-pub group_in : {begun : List (List ℕ)} (class : Option ℕ) (x y : ℕ) → list_all is_valued (option_to_list class) ≡ true
-    → Leads (at Text begun) (group class x y) (at Text (codes "g" ∷ begun))
+-- where a key stands, behind its class
+placed : {root : List ℕ} {begun : List (List ℕ)} (class : Option ℕ) (x y : ℕ)
+    → Leads (at (Behind (with_class (option_to_list class) (codes "role" ∷ []))) (codes "g" ∷ root ∷ begun) ids)
+    (two words.TRANSLATE.now x y) (at Text (codes "g" ∷ root ∷ begun) ids)
+placed {root} {begun} None x y =
+    two_values {seen = codes "transform" ∷ codes "role" ∷ []} {begun = codes "g" ∷ root ∷ begun} {known = ids}
+    {later = codes "transform" ∷ codes "role" ∷ []} {outer = codes "g" ∷ root ∷ begun} {more = ids}
+    words.TRANSLATE.now x y refl refl refl
+placed {root} {begun} (Some c) x y =
+    two_values {seen = codes "transform" ∷ codes "class" ∷ codes "role" ∷ []} {begun = codes "g" ∷ root ∷ begun}
+    {known = ids} {later = codes "transform" ∷ codes "class" ∷ codes "role" ∷ []}
+    {outer = codes "g" ∷ root ∷ begun} {more = ids} words.TRANSLATE.now x y refl refl refl
+
+pub group_in : {root : List ℕ} {begun : List (List ℕ)} (class : Option ℕ) (x y : ℕ)
+    → list_all is_valued (option_to_list class) ≡ true
+    → Leads (at Text (root ∷ begun) ids) (group class x y) (at Text (codes "g" ∷ root ∷ begun) ids)
 unfolding group
-group_in class x y h = lit (codes "<g role=\"img\"") refl ⊳ classes (option_to_list class) h ⊳ moved x y
+group_in {root} {begun} class x y h =
+    lit {t = at (Behind (codes "role" ∷ [])) (codes "g" ∷ root ∷ begun) ids} words.GROUP.now refl
+    ⊳ classes {seen = codes "role" ∷ []} (option_to_list class) h refl
+    ⊳ placed class x y

@@ -1,7 +1,6 @@
 mod Classed
 mod Closing
 mod Formed
-mod Found
 mod Loops
 mod Plain
 mod Red
@@ -9,3 +8,5 @@ mod Scans
 mod Shown
 mod Squeezed
 mod Texts
+mod Boards
+mod Letters

@@ -12,12 +12,10 @@ use Rattle.keymap_draw.specs.Keys.{finding_of, names_key, red, key_class, is_bla
 -- by whether the first finding is the key's
 found_by : (f : Finding) (fs : List Finding) (k : ℕ) (b : Bool) → f.key == k ≡ b
     → is_some (finding_of fs k) ≡ names_key fs k → is_some (finding_of (f ∷ fs) k) ≡ names_key (f ∷ fs) k
-unfolding finding_of
 found_by f fs k true e h = rw e refl
 found_by f fs k false e h = rw e h
 
 found : (fs : List Finding) (k : ℕ) → is_some (finding_of fs k) ≡ names_key fs k
-unfolding finding_of
 found [] k = refl
 found (f ∷ fs) k = found_by f fs k (f.key == k) refl (found fs k)
 

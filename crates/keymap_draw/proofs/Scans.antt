@@ -2,9 +2,10 @@
 use Prim.Native.Nat.{zero, suc}
 use Rattle.std.proofs.Common.{◌≡◌, ℕ, ◌<◌, ◌==◌, Bool, true, false, List, [], ◌∷◌, ◌++◌, Option, Some, None}
 use Rattle.std.proofs.Common.{refl, ap, ◌∙◌, arith}
-use Rattle.std.specs.Prelude.{◌/◌, ◌%◌, ◌&&◌, ◌||◌, not, decimal, if◌then◌else◌}
+use Rattle.std.specs.Prelude.{map, ◌/◌, ◌%◌, ◌&&◌, ◌||◌, not, decimal, if◌then◌else◌}
 use Rattle.std.specs.Fmt.{digits, digits_onto, digit_glyph}
-use Rattle.std.specs.List.{list_all}
+use Rattle.std.specs.List.{list_all, range_with_len}
+use Rattle.keymap_core.proofs.Lists.{along}
 use Rattle.keymap_draw.specs.WellFormed.{State, at, step, scan, is_plain}
 use Rattle.keymap_draw.specs.WellFormed.Place.{Text, Value}
 
@@ -46,10 +47,10 @@ valued_by true false true x y z h = cc
 valued_by true false false x y z h = refl
 valued_by false q m x y z h = cc
 
-pub in_value : (begun : List (List ℕ)) (bs : List ℕ) → list_all is_valued bs ≡ true
-    → scan (Some (at Value begun)) bs ≡ Some (at Value begun)
-in_value begun bs h =
-    still (at Value begun) is_valued
+pub in_value : (seen begun ids : List (List ℕ)) (bs : List ℕ) → list_all is_valued bs ≡ true
+    → scan (Some (at (Value seen) begun ids)) bs ≡ Some (at (Value seen) begun ids)
+in_value seen begun ids bs h =
+    still (at (Value seen) begun ids) is_valued
     (λ c e. valued_by (is_plain c) (c == 34) (c == 38 || c == 60) _ _ _ e) bs h
 
 -- what a text may have without references
@@ -64,13 +65,13 @@ textual_by true false false true x y z h = refl
 textual_by true false false false x y z h = refl
 textual_by false l a f x y z h = cc
 
-pub textual_step : (name : List ℕ) (begun : List (List ℕ)) (c : ℕ) → is_textual c ≡ true
-    → step (Some (at Text (name ∷ begun))) c ≡ Some (at Text (name ∷ begun))
-textual_step name begun c e = textual_by (is_plain c) (c == 60) (c == 38) (c == 10) _ _ _ e
+pub textual_step : (name : List ℕ) (begun ids : List (List ℕ)) (c : ℕ) → is_textual c ≡ true
+    → step (Some (at Text (name ∷ begun) ids)) c ≡ Some (at Text (name ∷ begun) ids)
+textual_step name begun ids c e = textual_by (is_plain c) (c == 60) (c == 38) (c == 10) _ _ _ e
 
-pub in_text : (name : List ℕ) (begun : List (List ℕ)) (bs : List ℕ) → list_all is_textual bs ≡ true
-    → scan (Some (at Text (name ∷ begun))) bs ≡ Some (at Text (name ∷ begun))
-in_text name begun bs h = still (at Text (name ∷ begun)) is_textual (textual_step name begun) bs h
+pub in_text : (name : List ℕ) (begun ids : List (List ℕ)) (bs : List ℕ) → list_all is_textual bs ≡ true
+    → scan (Some (at Text (name ∷ begun) ids)) bs ≡ Some (at Text (name ∷ begun) ids)
+in_text name begun ids bs h = still (at Text (name ∷ begun) ids) is_textual (textual_step name begun ids) bs h
 
 -- ---- numbers
 
@@ -95,33 +96,19 @@ pub decimal_all : (test : ℕ → Bool) → ((d : ℕ) → d < 10 → test (digi
 unfolding digits
 decimal_all test each n = onto_all test each 64 n [] refl
 
-by_digits : (P : ℕ → Type 0) → P 0 → P 1 → P 2 → P 3 → P 4 → P 5 → P 6 → P 7 → P 8 → P 9 → (d : ℕ) → d < 10 → P d
-by_digits P p0 p1 p2 p3 p4 p5 p6 p7 p8 p9 zero h = p0
-by_digits P p0 p1 p2 p3 p4 p5 p6 p7 p8 p9 (suc zero) h = p1
-by_digits P p0 p1 p2 p3 p4 p5 p6 p7 p8 p9 (suc (suc zero)) h = p2
-by_digits P p0 p1 p2 p3 p4 p5 p6 p7 p8 p9 (suc (suc (suc zero))) h = p3
-by_digits P p0 p1 p2 p3 p4 p5 p6 p7 p8 p9 (suc (suc (suc (suc zero)))) h = p4
-by_digits P p0 p1 p2 p3 p4 p5 p6 p7 p8 p9 (suc (suc (suc (suc (suc zero))))) h = p5
-by_digits P p0 p1 p2 p3 p4 p5 p6 p7 p8 p9 (suc (suc (suc (suc (suc (suc zero)))))) h = p6
-by_digits P p0 p1 p2 p3 p4 p5 p6 p7 p8 p9 (suc (suc (suc (suc (suc (suc (suc zero))))))) h = p7
-by_digits P p0 p1 p2 p3 p4 p5 p6 p7 p8 p9 (suc (suc (suc (suc (suc (suc (suc (suc zero)))))))) h = p8
-by_digits P p0 p1 p2 p3 p4 p5 p6 p7 p8 p9 (suc (suc (suc (suc (suc (suc (suc (suc (suc zero))))))))) h = p9
-by_digits P p0 p1 p2 p3 p4 p5 p6 p7 p8 p9 (suc (suc (suc (suc (suc (suc (suc (suc (suc (suc d)))))))))) h =
-    absurd (omega arith)
-
-pub digit_passes : (test : ℕ → Bool) → test 48 ≡ true → test 49 ≡ true → test 50 ≡ true → test 51 ≡ true
-    → test 52 ≡ true → test 53 ≡ true → test 54 ≡ true → test 55 ≡ true → test 56 ≡ true → test 57 ≡ true → (d : ℕ)
+pub digit_passes : (test : ℕ → Bool)
+    → map (λ d. test (digit_glyph false d)) (range_with_len 0 10) ≡ map (λ d. true) (range_with_len 0 10) → (d : ℕ)
     → d < 10 → test (digit_glyph false d) ≡ true
-digit_passes test p0 p1 p2 p3 p4 p5 p6 p7 p8 p9 =
-    by_digits (λ d. test (digit_glyph false d) ≡ true) p0 p1 p2 p3 p4 p5 p6 p7 p8 p9
+digit_passes test h d low = along (λ d. test (digit_glyph false d)) (λ d. true) 0 10 h d (omega arith) (omega arith)
 
-pub number_in_value : (begun : List (List ℕ)) (n : ℕ) → scan (Some (at Value begun)) (decimal n) ≡ Some (at Value begun)
-number_in_value begun n =
-    in_value begun (decimal n)
-    (decimal_all is_valued (digit_passes is_valued refl refl refl refl refl refl refl refl refl refl) n)
+pub number_in_value : (seen begun ids : List (List ℕ)) (n : ℕ)
+    → scan (Some (at (Value seen) begun ids)) (decimal n) ≡ Some (at (Value seen) begun ids)
+number_in_value seen begun ids n =
+    in_value seen begun ids (decimal n)
+    (decimal_all is_valued (digit_passes is_valued refl) n)
 
-pub number_in_text : (name : List ℕ) (begun : List (List ℕ)) (n : ℕ)
-    → scan (Some (at Text (name ∷ begun))) (decimal n) ≡ Some (at Text (name ∷ begun))
-number_in_text name begun n =
-    in_text name begun (decimal n)
-    (decimal_all is_textual (digit_passes is_textual refl refl refl refl refl refl refl refl refl refl) n)
+pub number_in_text : (name : List ℕ) (begun ids : List (List ℕ)) (n : ℕ)
+    → scan (Some (at Text (name ∷ begun) ids)) (decimal n) ≡ Some (at Text (name ∷ begun) ids)
+number_in_text name begun ids n =
+    in_text name begun ids (decimal n)
+    (decimal_all is_textual (digit_passes is_textual refl) n)

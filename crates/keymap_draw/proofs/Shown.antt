@@ -1,19 +1,25 @@
 -- What the legends and the titles have, and how it is scanned.
 use Prim.Native.Nat.{zero, suc}
 use Rattle.std.proofs.Common.{◌≡◌, ℕ, ◌+◌, ◌*◌, ◌<◌, Bool, true, false, List, [], ◌∷◌, ◌++◌, Option, Some}
-use Rattle.std.proofs.Common.{None, refl, ap, ◌∙◌, arith, length, get_or, All, subst}
-use Rattle.std.specs.Prelude.{◌/◌, ◌%◌, nat_lt, codes, if◌then◌else◌, slice_index_or}
+use Rattle.std.proofs.Common.{None, refl, ap, ◌∙◌, arith, length, get_or, All}
+use Rattle.std.specs.Prelude.{map, ◌/◌, ◌%◌, ◌&&◌, not, nat_lt, codes, if◌then◌else◌, slice_index_or}
 use Rattle.std.specs.Char.{digit_char}
-use Rattle.std.specs.List.{list_all, flat_map}
+use Rattle.std.specs.List.{list_all, flat_map, range_with_len}
+use Rattle.keymap_core.proofs.Lists.{along}
 use Rattle.std.proofs.lemmas.Bool.{ltb-true}
 use Rattle.std.proofs.lemmas.Bool.Decides.{nat_tests}
 use Rattle.std.proofs.lemmas.List.Elements.{All-head, All-tail, All-nil, All-cons}
 use Rattle.std.proofs.lemmas.List.Folds.{list_all-append}
 use Rattle.keymap_core.specs.CodePoints.{code_digits, upper_digits, digit_at}
+use Rattle.keymap_core.specs.Unseen.{is_unseen}
 use Rattle.keymap_draw.specs.Markup.{escaped, is_referred, reference}
 use Rattle.keymap_draw.specs.WellFormed.{State, at, step, scan, is_shown}
 use Rattle.keymap_draw.specs.WellFormed.Place.{Text, Number}
 use Rattle.keymap_draw.proofs.Scans.{past, both_true, first_true, second_true, is_textual, textual_step}
+
+-- it may stand in a text, and a terminal shows it as it is
+abbrev pub is_seen : ℕ → Bool
+is_seen c = is_shown c && not (is_unseen c)
 
 -- ---- tests of lists
 
@@ -55,72 +61,45 @@ all_from test (b ∷ bs) h =
 
 -- ---- hexadecimal digits
 
-by_hex : (P : ℕ → Type 0) → P 0 → P 1 → P 2 → P 3 → P 4 → P 5 → P 6 → P 7 → P 8 → P 9 → P 10 → P 11 → P 12 → P 13
-    → P 14 → P 15 → (d : ℕ) → d < 16 → P d
-by_hex P p0 p1 p2 p3 p4 p5 p6 p7 p8 p9 pa pb pc pd pe pf d lt = low d lt
-  where
-    high : (d : ℕ) → d < 8 → P (d + 8)
-    high zero h = p8
-    high (suc zero) h = p9
-    high (suc (suc zero)) h = pa
-    high (suc (suc (suc zero))) h = pb
-    high (suc (suc (suc (suc zero)))) h = pc
-    high (suc (suc (suc (suc (suc zero))))) h = pd
-    high (suc (suc (suc (suc (suc (suc zero)))))) h = pe
-    high (suc (suc (suc (suc (suc (suc (suc zero))))))) h = pf
-    high (suc (suc (suc (suc (suc (suc (suc (suc d)))))))) h = absurd (omega arith)
-
-    low : (d : ℕ) → d < 16 → P d
-    low zero h = p0
-    low (suc zero) h = p1
-    low (suc (suc zero)) h = p2
-    low (suc (suc (suc zero))) h = p3
-    low (suc (suc (suc (suc zero)))) h = p4
-    low (suc (suc (suc (suc (suc zero))))) h = p5
-    low (suc (suc (suc (suc (suc (suc zero)))))) h = p6
-    low (suc (suc (suc (suc (suc (suc (suc zero))))))) h = p7
-    low (suc (suc (suc (suc (suc (suc (suc (suc d)))))))) h =
-        subst P (omega arith) (high d (omega arith))
-
-pub hex_passes : (test : ℕ → Bool) → test 48 ≡ true → test 49 ≡ true → test 50 ≡ true → test 51 ≡ true → test 52 ≡ true
-    → test 53 ≡ true → test 54 ≡ true → test 55 ≡ true → test 56 ≡ true → test 57 ≡ true → test 97 ≡ true
-    → test 98 ≡ true → test 99 ≡ true → test 100 ≡ true → test 101 ≡ true → test 102 ≡ true → (d : ℕ) → d < 16
+pub hex_passes : (test : ℕ → Bool)
+    → map (λ d. test (digit_char d)) (range_with_len 0 16) ≡ map (λ d. true) (range_with_len 0 16) → (d : ℕ) → d < 16
     → test (digit_char d) ≡ true
-hex_passes test p0 p1 p2 p3 p4 p5 p6 p7 p8 p9 pa pb pc pd pe pf =
-    by_hex (λ d. test (digit_char d) ≡ true) p0 p1 p2 p3 p4 p5 p6 p7 p8 p9 pa pb pc pd pe pf
+hex_passes test h d low = along (λ d. test (digit_char d)) (λ d. true) 0 16 h d (omega arith) (omega arith)
 
-pub hex_shown : (d : ℕ) → d < 16 → is_shown (digit_char d) ≡ true
-hex_shown = hex_passes is_shown refl refl refl refl refl refl refl refl refl refl refl refl refl refl refl refl
+pub hex_shown : (d : ℕ) → d < 16 → is_seen (digit_char d) ≡ true
+hex_shown = hex_passes is_seen refl
 
-hex_step : (begun : List (List ℕ)) (n d : ℕ) → d < 16
-    → step (Some (at (Number n) begun)) (digit_char d) ≡ Some (at (Number (16 * n + d)) begun)
-hex_step begun n =
-    by_hex (λ d. step (Some (at (Number n) begun)) (digit_char d) ≡ Some (at (Number (16 * n + d)) begun))
-    refl refl refl refl refl refl refl refl refl refl refl refl refl refl refl refl
+hex_step : (begun ids : List (List ℕ)) (n d : ℕ) → d < 16
+    → step (Some (at (Number n) begun ids)) (digit_char d) ≡ Some (at (Number (16 * n + d)) begun ids)
+hex_step begun ids n d low =
+    along (λ d. step (Some (at (Number n) begun ids)) (digit_char d)) (λ d. Some (at (Number (16 * n + d)) begun ids))
+    0 16 refl d (omega arith) (omega arith)
 
-hex_then : (begun : List (List ℕ)) (n d : ℕ) (rest : List ℕ) (r : Option State) → d < 16
-    → scan (Some (at (Number (16 * n + d)) begun)) rest ≡ r
-    → scan (Some (at (Number n) begun)) (digit_char d ∷ rest) ≡ r
-hex_then begun n d rest r lt e = ap (λ o. scan o rest) (hex_step begun n d lt) ∙ e
+hex_then : (begun ids : List (List ℕ)) (n d : ℕ) (rest : List ℕ) (r : Option State) → d < 16
+    → scan (Some (at (Number (16 * n + d)) begun ids)) rest ≡ r
+    → scan (Some (at (Number n) begun ids)) (digit_char d ∷ rest) ≡ r
+hex_then begun ids n d rest r lt e = ap (λ o. scan o rest) (hex_step begun ids n d lt) ∙ e
 
-at_number : (begun : List (List ℕ)) (a b : ℕ) → a ≡ b → Some (at (Number a) begun) ≡ Some (at (Number b) begun)
-at_number begun a b e = ap (λ n. Some (at (Number n) begun)) e
+at_number : (begun ids : List (List ℕ)) (a b : ℕ) → a ≡ b
+    → Some (at (Number a) begun ids) ≡ Some (at (Number b) begun ids)
+at_number begun ids a b e = ap (λ n. Some (at (Number n) begun ids)) e
 
 -- four digits behind a number
-four_digits : (begun : List (List ℕ)) (c : ℕ)
-    → scan (Some (at (Number (c / 0x10000)) begun))
+four_digits : (begun ids : List (List ℕ)) (c : ℕ)
+    → scan (Some (at (Number (c / 0x10000)) begun ids))
     (digit_at c 0x1000 ∷ digit_at c 0x100 ∷ digit_at c 0x10 ∷ digit_at c 1 ∷ [])
-    ≡ Some (at (Number c) begun)
-four_digits begun c =
-    hex_then begun (c / 0x10000) (c / 0x1000 % 16) (digit_at c 0x100 ∷ digit_at c 0x10 ∷ digit_at c 1 ∷ []) _
+    ≡ Some (at (Number c) begun ids)
+four_digits begun ids c =
+    hex_then begun ids (c / 0x10000) (c / 0x1000 % 16) (digit_at c 0x100 ∷ digit_at c 0x10 ∷ digit_at c 1 ∷ []) _
     (omega arith)
-    (hex_then begun (16 * (c / 0x10000) + c / 0x1000 % 16) (c / 0x100 % 16) (digit_at c 0x10 ∷ digit_at c 1 ∷ []) _
+    (hex_then begun ids (16 * (c / 0x10000) + c / 0x1000 % 16) (c / 0x100 % 16) (digit_at c 0x10 ∷ digit_at c 1 ∷ []) _
     (omega arith)
-    (hex_then begun (16 * (16 * (c / 0x10000) + c / 0x1000 % 16) + c / 0x100 % 16) (c / 0x10 % 16) (digit_at c 1 ∷ []) _
+    (hex_then begun ids (16 * (16 * (c / 0x10000) + c / 0x1000 % 16) + c / 0x100 % 16) (c / 0x10 % 16)
+    (digit_at c 1 ∷ []) _
     (omega arith)
-    (hex_then begun (16 * (16 * (16 * (c / 0x10000) + c / 0x1000 % 16) + c / 0x100 % 16) + c / 0x10 % 16)
+    (hex_then begun ids (16 * (16 * (16 * (c / 0x10000) + c / 0x1000 % 16) + c / 0x100 % 16) + c / 0x10 % 16)
     (c / 1 % 16) [] _ (omega arith)
-    (at_number begun
+    (at_number begun ids
     (16 * (16 * (16 * (16 * (c / 0x10000) + c / 0x1000 % 16) + c / 0x100 % 16) + c / 0x10 % 16) + c / 1 % 16) c
     (omega arith)))))
 
@@ -133,26 +112,27 @@ middle_number c e = let h : c < 0x100000 = ltb-true c 0x100000 e in omega arith
 high_number : (c : ℕ) → c < 0x110000 → 16 * (16 * 0 + c / 0x100000 % 16) + c / 0x10000 % 16 ≡ c / 0x10000
 high_number c h = omega arith
 
-upper_by : (begun : List (List ℕ)) (c : ℕ) (a b : Bool) → c < 0x110000 → nat_lt c 0x10000 ≡ a → nat_lt c 0x100000 ≡ b
-    → scan (Some (at (Number 0) begun)) (if a then [] else if b then digit_at c 0x10000 ∷ []
-    else digit_at c 0x100000 ∷ digit_at c 0x10000 ∷ []) ≡ Some (at (Number (c / 0x10000)) begun)
-upper_by begun c true b low e f = at_number begun 0 (c / 0x10000) (low_number c e)
-upper_by begun c false true low e f =
-    hex_then begun 0 (c / 0x10000 % 16) [] _ (omega arith)
-    (at_number begun (16 * 0 + c / 0x10000 % 16) (c / 0x10000) (middle_number c f))
-upper_by begun c false false low e f =
-    hex_then begun 0 (c / 0x100000 % 16) (digit_at c 0x10000 ∷ []) _ (omega arith)
-    (hex_then begun (16 * 0 + c / 0x100000 % 16) (c / 0x10000 % 16) [] _ (omega arith)
-    (at_number begun (16 * (16 * 0 + c / 0x100000 % 16) + c / 0x10000 % 16) (c / 0x10000) (high_number c low)))
+upper_by : (begun ids : List (List ℕ)) (c : ℕ) (a b : Bool) → c < 0x110000 → nat_lt c 0x10000 ≡ a
+    → nat_lt c 0x100000 ≡ b
+    → scan (Some (at (Number 0) begun ids)) (if a then [] else if b then digit_at c 0x10000 ∷ []
+    else digit_at c 0x100000 ∷ digit_at c 0x10000 ∷ []) ≡ Some (at (Number (c / 0x10000)) begun ids)
+upper_by begun ids c true b low e f = at_number begun ids 0 (c / 0x10000) (low_number c e)
+upper_by begun ids c false true low e f =
+    hex_then begun ids 0 (c / 0x10000 % 16) [] _ (omega arith)
+    (at_number begun ids (16 * 0 + c / 0x10000 % 16) (c / 0x10000) (middle_number c f))
+upper_by begun ids c false false low e f =
+    hex_then begun ids 0 (c / 0x100000 % 16) (digit_at c 0x10000 ∷ []) _ (omega arith)
+    (hex_then begun ids (16 * 0 + c / 0x100000 % 16) (c / 0x10000 % 16) [] _ (omega arith)
+    (at_number begun ids (16 * (16 * 0 + c / 0x100000 % 16) + c / 0x10000 % 16) (c / 0x10000) (high_number c low)))
 
-upper_scan : (begun : List (List ℕ)) (c : ℕ) → c < 0x110000
-    → scan (Some (at (Number 0) begun)) (upper_digits c) ≡ Some (at (Number (c / 0x10000)) begun)
-upper_scan begun c low = upper_by begun c (nat_lt c 0x10000) (nat_lt c 0x100000) low refl refl
+upper_scan : (begun ids : List (List ℕ)) (c : ℕ) → c < 0x110000
+    → scan (Some (at (Number 0) begun ids)) (upper_digits c) ≡ Some (at (Number (c / 0x10000)) begun ids)
+upper_scan begun ids c low = upper_by begun ids c (nat_lt c 0x10000) (nat_lt c 0x100000) low refl refl
 
-digits_scan : (begun : List (List ℕ)) (c : ℕ) → c < 0x110000
-    → scan (Some (at (Number 0) begun)) (code_digits c) ≡ Some (at (Number c) begun)
+digits_scan : (begun ids : List (List ℕ)) (c : ℕ) → c < 0x110000
+    → scan (Some (at (Number 0) begun ids)) (code_digits c) ≡ Some (at (Number c) begun ids)
 unfolding code_digits
-digits_scan begun c low = past _ _ (upper_digits c) _ _ (upper_scan begun c low) (four_digits begun c)
+digits_scan begun ids c low = past _ _ (upper_digits c) _ _ (upper_scan begun ids c low) (four_digits begun ids c)
 
 -- ---- characters of a text
 
@@ -162,19 +142,20 @@ below_all c h = grind (arith, nat_tests)
 textual : (c : ℕ) → is_shown c ≡ true → is_referred c ≡ false → is_textual c ≡ true
 textual c h f = grind (arith, nat_tests)
 
-escaped_by : (name : List ℕ) (begun : List (List ℕ)) (c : ℕ) (b : Bool) → is_shown c ≡ true → is_referred c ≡ b
-    → scan (Some (at Text (name ∷ begun))) (if b then reference c else c ∷ []) ≡ Some (at Text (name ∷ begun))
-escaped_by name begun c true h e =
-    past _ _ (code_digits c) (codes ";") _ (digits_scan (name ∷ begun) c (below_all c h))
-    (ap (λ b. if b then Some (at Text (name ∷ begun)) else None) h)
-escaped_by name begun c false h e = textual_step name begun c (textual c h e)
+escaped_by : (name : List ℕ) (begun ids : List (List ℕ)) (c : ℕ) (b : Bool) → is_shown c ≡ true → is_referred c ≡ b
+    → scan (Some (at Text (name ∷ begun) ids)) (if b then reference c else c ∷ []) ≡ Some (at Text (name ∷ begun) ids)
+escaped_by name begun ids c true h e =
+    past _ _ (code_digits c) (codes ";") _ (digits_scan (name ∷ begun) ids c (below_all c h))
+    (ap (λ b. if b then Some (at Text (name ∷ begun) ids) else None) h)
+escaped_by name begun ids c false h e = textual_step name begun ids c (textual c h e)
 
 -- characters that are escaped, in a text
-pub escaped_text : (name : List ℕ) (begun : List (List ℕ)) (cs : List ℕ) → list_all is_shown cs ≡ true
-    → scan (Some (at Text (name ∷ begun))) (flat_map escaped cs) ≡ Some (at Text (name ∷ begun))
+pub escaped_text : (name : List ℕ) (begun ids : List (List ℕ)) (cs : List ℕ) → list_all is_seen cs ≡ true
+    → scan (Some (at Text (name ∷ begun) ids)) (flat_map escaped cs) ≡ Some (at Text (name ∷ begun) ids)
 unfolding escaped
-escaped_text name begun [] h = refl
-escaped_text name begun (c ∷ cs) h =
-    past _ (Some (at Text (name ∷ begun))) (escaped c) (flat_map escaped cs) _
-    (escaped_by name begun c (is_referred c) (first_true (is_shown c) (list_all is_shown cs) h) refl)
-    (escaped_text name begun cs (second_true (is_shown c) (list_all is_shown cs) h))
+escaped_text name begun ids [] h = refl
+escaped_text name begun ids (c ∷ cs) h =
+    past _ (Some (at Text (name ∷ begun) ids)) (escaped c) (flat_map escaped cs) _
+    (escaped_by name begun ids c (is_referred c)
+    (first_true (is_shown c) (not (is_unseen c)) (first_true (is_seen c) (list_all is_seen cs) h)) refl)
+    (escaped_text name begun ids cs (second_true (is_seen c) (list_all is_seen cs) h))

@@ -90,39 +90,16 @@ begun_by ((c ∷ text) ∷ names) h (suc i) lt =
     begun_by names (second_true (list_all is_mark (c ∷ text)) (list_all is_name names) h) i (omega arith)
 
 action_solid : (action : Action) → IsAction action → IsSolid (name_of action)
-action_solid a.Nop h = solid 110 (codes "op") refl
-action_solid (a.Mod m.LeftShift) h = solid 108 (codes "shift") refl
-action_solid (a.Mod m.RightShift) h = solid 114 (codes "shift") refl
-action_solid (a.Mod m.LeftControl) h = solid 108 (codes "ctrl") refl
-action_solid (a.Mod m.RightControl) h = solid 114 (codes "ctrl") refl
-action_solid (a.Mod m.LeftAlt) h = solid 108 (codes "alt") refl
-action_solid (a.Mod m.RightAlt) h = solid 114 (codes "alt") refl
-action_solid (a.Mod m.AltShift) h = solid 97 (codes "shift") refl
-action_solid (a.Mod m.Meta) h = solid 109 (codes "eta") refl
-action_solid (a.Lock l.Caps) h = solid 99 (codes "lock") refl
-action_solid (a.Lock l.Num) h = solid 110 (codes "lock") refl
-action_solid (a.Lock l.Scroll) h = solid 115 (codes "lock") refl
-action_solid (a.Lock l.Alt) h = solid 97 (codes "lock") refl
-action_solid a.BackTab h = solid 98 (codes "tab") refl
-action_solid a.NextScreen h = solid 110 (codes "scr") refl
-action_solid a.PreviousScreen h = solid 112 (codes "scr") refl
 action_solid (a.Screen n) h = solid 115 (codes "cr" ++ two_digits n) (two_marks n)
 action_solid (a.Function n) h = solid 102 (codes "key" ++ two_digits n) (two_marks n)
 action_solid (a.DeadKey i) h = begun_by accent_names refl i h
-action_solid a.Boot h = solid 98 (codes "oot") refl
-action_solid a.Debug h = solid 100 (codes "ebug") refl
-action_solid a.Suspend h = solid 115 (codes "usp") refl
-action_solid a.Saver h = solid 115 (codes "aver") refl
-action_solid a.Standby h = solid 115 (codes "tby") refl
-action_solid a.Panic h = solid 112 (codes "anic") refl
-action_solid a.Halt h = solid 104 (codes "alt") refl
-action_solid a.PowerDown h = solid 112 (codes "dwn") refl
-action_solid a.Paste h = solid 112 (codes "aste") refl
+action_solid (a.Mod m.LeftShift) h = solid _ _ refl
+action_solid (a.Lock l.Caps) h = solid _ _ refl
+action_solid _ h = solid _ _ refl
 
 hex_mark : (c unit : ℕ) → 0 < unit → is_mark (hex_at c unit) ≡ true
 hex_mark c unit h =
-    hex_passes is_mark refl refl refl refl refl refl refl refl refl refl refl refl refl refl refl refl (c / unit % 16)
-    (omega arith)
+    hex_passes is_mark refl (c / unit % 16) (omega arith)
 
 hex4_marks : (c : ℕ) → list_all is_mark (hex4 c) ≡ true
 hex4_marks c =

@@ -2,9 +2,10 @@
 use Prim.Native.Nat.{zero, suc}
 use Rattle.std.proofs.Common.{◌≡◌, ◌≢◌, ℕ, ◌+◌, ◌<◌, ◌≤◌, ◌==◌, Bool, true, false, List, [], ◌∷◌, ◌++◌, Option, Some}
 use Rattle.std.proofs.Common.{refl, ap, arith, All}
-use Rattle.std.specs.Prelude.{◌/◌, ◌%◌, ◌||◌, not, nat_lt, codes, decimal, if◌then◌else◌, slice_index_or}
+use Rattle.std.specs.Prelude.{◌/◌, ◌%◌, ◌||◌, ◌&&◌, not, nat_lt, codes, decimal, if◌then◌else◌, slice_index_or}
+use Rattle.std.specs.Prelude.{option_map}
 use Rattle.std.specs.Char.{IsScalar}
-use Rattle.std.specs.List.{list_all, flat_map, filter}
+use Rattle.std.specs.List.{list_all, flat_map, filter, find}
 use Rattle.std.proofs.lemmas.Bool.{ltb-true}
 use Rattle.std.proofs.lemmas.Bool.Decides.{nat_tests}
 use Rattle.std.proofs.lemmas.List.Elements.{All-head, All-tail, All-replicate}
@@ -26,58 +27,73 @@ use Rattle.keymap_text.specs.Printed.{control_name, character_text, cell_text, h
 use Rattle.keymap_text.specs.Printed.{pair_text, accent_words, flag_letter, word}
 use Rattle.keymap_text.specs.Words.{control_names}
 use Rattle.keymap_draw.specs.declared.tables.UnseenName.{UnseenName}
-use Rattle.keymap_draw.specs.declared.tables.TheConstants.{UNSEEN_NAMES, ACCENT_MARKS}
-use Rattle.keymap_draw.specs.Legends.{name_in, unfilled, marked, is_coded, is_mark, unseen_name, shown_legend, named_or}
+use Rattle.keymap_draw.specs.declared.tables.TheConstants.{UNSEEN_NAMES, CODED, ACCENT_MARKS}
+use Rattle.keymap_core.specs.Unseen.{is_unseen, is_control, is_unseen_above}
+use Rattle.keymap_draw.specs.Legends.{is_in, name_in, unfilled, marked, is_coded, is_mark, unseen_name, shown_legend, named_or}
 use Rattle.keymap_draw.specs.Legends.{other_legend, character_legend, accent_mark, action_legend, cell_legend}
 use Rattle.keymap_draw.specs.WellFormed.{is_shown}
 use Rattle.keymap_draw.proofs.Scans.{both_true, first_true, second_true, decimal_all, digit_passes}
-use Rattle.keymap_draw.proofs.Shown.{joined as all_joined, flat_all, name_all, item_all, hex_shown}
+use Rattle.keymap_draw.proofs.Shown.{is_seen, joined as all_joined, flat_all, name_all, item_all, hex_shown}
 
--- each may stand in a text
+-- each may stand in a text, and a terminal shows it as it is
 pub record AreShown (cs : List ℕ) : Type 0 where
-  pub each : list_all is_shown cs ≡ true
+  pub each : list_all is_seen cs ≡ true
 
-shown : {cs : List ℕ} → list_all is_shown cs ≡ true → AreShown cs
+shown : {cs : List ℕ} → list_all is_seen cs ≡ true → AreShown cs
 shown h = record { each = h }
 
 joined : (a b : List ℕ) → AreShown a → AreShown b → AreShown (a ++ b)
-joined a b h k = record { each = all_joined is_shown a b h.each k.each }
+joined a b h k = record { each = all_joined is_seen a b h.each k.each }
 
 chosen : (b : Bool) (x y : List ℕ) → (b ≡ true → AreShown x) → (b ≡ false → AreShown y)
     → AreShown (if b then x else y)
 chosen true x y f g = f refl
 chosen false x y f g = g refl
 
-low_shown : (c : ℕ) → 32 ≤ c → c ≤ 126 → is_shown c ≡ true
-low_shown c low high = grind (arith, nat_tests)
+ascii_shown : (c : ℕ) → 32 ≤ c → c ≤ 126 → is_shown c ≡ true
+ascii_shown c low high = grind (arith, nat_tests)
+
+no_control : (c : ℕ) → 32 ≤ c → c ≤ 126 → is_control c ≡ false
+no_control c low high = grind (arith, nat_tests)
+
+not_above : (c : ℕ) → c ≤ 126 → nat_lt 127 c ≡ false
+not_above c high = grind (arith, nat_tests)
+
+seen_by : (control above rest : Bool) → control ≡ false → above ≡ false → not (control || (above && rest)) ≡ true
+seen_by control above rest e f = rw (e, f) refl
+
+low_shown : (c : ℕ) → 32 ≤ c → c ≤ 126 → is_seen c ≡ true
+low_shown c low high =
+    both_true (is_shown c) (not (is_unseen c)) (ascii_shown c low high)
+    (seen_by (is_control c) (nat_lt 127 c) (is_unseen_above c) (no_control c low high) (not_above c high))
 
 scalar_shown : (c : ℕ) → 32 ≤ c → within 0x7f 0x9f c ≡ false → IsScalar c → c ≢ 0xfffe → c ≢ 0xffff
     → is_shown c ≡ true
 scalar_shown c low control s n k = grind (arith, nat_tests)
 
-alone : (c : ℕ) → is_shown c ≡ true → AreShown (c ∷ [])
-alone c h = record { each = both_true (is_shown c) true h refl }
+alone : (c : ℕ) → is_seen c ≡ true → AreShown (c ∷ [])
+alone c h = record { each = both_true (is_seen c) true h refl }
 
-before : (c : ℕ) (cs : List ℕ) → is_shown c ≡ true → AreShown cs → AreShown (c ∷ cs)
-before c cs h k = record { each = both_true (is_shown c) (list_all is_shown cs) h k.each }
+before : (c : ℕ) (cs : List ℕ) → is_seen c ≡ true → AreShown cs → AreShown (c ∷ cs)
+before c cs h k = record { each = both_true (is_seen c) (list_all is_seen cs) h k.each }
 
-first_shown : (c : ℕ) (cs : List ℕ) → AreShown (c ∷ cs) → is_shown c ≡ true
-first_shown c cs h = first_true (is_shown c) (list_all is_shown cs) h.each
+first_shown : (c : ℕ) (cs : List ℕ) → AreShown (c ∷ cs) → is_seen c ≡ true
+first_shown c cs h = first_true (is_seen c) (list_all is_seen cs) h.each
 
 rest_shown : (c : ℕ) (cs : List ℕ) → AreShown (c ∷ cs) → AreShown cs
-rest_shown c cs h = record { each = second_true (is_shown c) (list_all is_shown cs) h.each }
+rest_shown c cs h = record { each = second_true (is_seen c) (list_all is_seen cs) h.each }
 
 flat_shown : {A : Type 0} (P : A → Type 0) (f : A → List ℕ) → ((x : A) → P x → AreShown (f x)) → (xs : List A)
     → All P xs → AreShown (flat_map f xs)
-flat_shown P f each xs h = record { each = flat_all is_shown P f (λ x k. (each x k).each) xs h }
+flat_shown P f each xs h = record { each = flat_all is_seen P f (λ x k. (each x k).each) xs h }
 
-name_shown : (names : List (List ℕ)) → list_all (list_all is_shown) names ≡ true → (i : ℕ)
+name_shown : (names : List (List ℕ)) → list_all (list_all is_seen) names ≡ true → (i : ℕ)
     → AreShown (slice_index_or names i [])
-name_shown names h i = record { each = name_all is_shown names h i }
+name_shown names h i = record { each = name_all is_seen names h i }
 
 -- ---- numbers and names
 
-unit_shown : (c unit : ℕ) → 0 < unit → is_shown (digit_at c unit) ≡ true
+unit_shown : (c unit : ℕ) → 0 < unit → is_seen (digit_at c unit) ≡ true
 unit_shown c unit h = hex_shown (c / unit % 16) (omega arith)
 
 four_shown : (c : ℕ) → AreShown (digit_at c 0x1000 ∷ digit_at c 0x100 ∷ digit_at c 0x10 ∷ digit_at c 1 ∷ [])
@@ -108,7 +124,7 @@ code_shown c =
 
 decimal_shown : (n : ℕ) → AreShown (decimal n)
 decimal_shown n =
-    shown (decimal_all is_shown (digit_passes is_shown refl refl refl refl refl refl refl refl refl refl) n)
+    shown (decimal_all is_seen (digit_passes is_seen refl) n)
 
 control_shown : (c : ℕ) → AreShown (control_name c)
 control_shown c =
@@ -120,34 +136,12 @@ two_shown n h =
     (alone (48 + n % 10) (low_shown (48 + n % 10) (omega arith) (omega arith)))
 
 action_shown : (action : Action) → IsAction action → AreShown (name_of action)
-action_shown a.Nop h = shown refl
-action_shown (a.Mod m.LeftShift) h = shown refl
-action_shown (a.Mod m.RightShift) h = shown refl
-action_shown (a.Mod m.LeftControl) h = shown refl
-action_shown (a.Mod m.RightControl) h = shown refl
-action_shown (a.Mod m.LeftAlt) h = shown refl
-action_shown (a.Mod m.RightAlt) h = shown refl
-action_shown (a.Mod m.AltShift) h = shown refl
-action_shown (a.Mod m.Meta) h = shown refl
-action_shown (a.Lock l.Caps) h = shown refl
-action_shown (a.Lock l.Num) h = shown refl
-action_shown (a.Lock l.Scroll) h = shown refl
-action_shown (a.Lock l.Alt) h = shown refl
-action_shown a.BackTab h = shown refl
-action_shown a.NextScreen h = shown refl
-action_shown a.PreviousScreen h = shown refl
 action_shown (a.Screen n) h = joined (codes "scr") (two_digits n) (shown refl) (two_shown n (omega (arith, h.1)))
 action_shown (a.Function n) h = joined (codes "fkey") (two_digits n) (shown refl) (two_shown n (omega (arith, h.1)))
 action_shown (a.DeadKey i) h = name_shown accent_names refl i
-action_shown a.Boot h = shown refl
-action_shown a.Debug h = shown refl
-action_shown a.Suspend h = shown refl
-action_shown a.Saver h = shown refl
-action_shown a.Standby h = shown refl
-action_shown a.Panic h = shown refl
-action_shown a.Halt h = shown refl
-action_shown a.PowerDown h = shown refl
-action_shown a.Paste h = shown refl
+action_shown (a.Mod m.LeftShift) h = shown refl
+action_shown (a.Lock l.Caps) h = shown refl
+action_shown _ h = shown refl
 
 -- ---- legends
 
@@ -160,22 +154,22 @@ unfilled_shown (c ∷ cs) h =
     (unfilled_shown cs (rest_shown c cs h)))
     (λ _. unfilled_shown cs (rest_shown c cs h))
 
-abbrev is_shown_row : UnseenName → Bool
-is_shown_row row = list_all is_shown row.1
+abbrev is_seen_row : UnseenName → Bool
+is_seen_row row = list_all is_seen row.1
 
-named_by : (b : Bool) (row : UnseenName) (more : Option (List ℕ)) (legend : List ℕ) → AreShown row.1
-    → AreShown (named_or more legend) → AreShown (named_or (if b then Some row.1 else more) legend)
+named_by : (b : Bool) (row : UnseenName) (more : Option UnseenName) (legend : List ℕ) → AreShown row.1
+    → AreShown (named_or (option_map (λ row. row.1) more) legend)
+    → AreShown (named_or (option_map (λ row. row.1) (if b then Some row else more)) legend)
 named_by true row more legend h k = unfilled_shown row.1 h
 named_by false row more legend h k = k
 
-named_shown : (rows : List UnseenName) (c : ℕ) (legend : List ℕ) → list_all is_shown_row rows ≡ true
+named_shown : (rows : List UnseenName) (c : ℕ) (legend : List ℕ) → list_all is_seen_row rows ≡ true
     → AreShown legend → AreShown (named_or (name_in rows c) legend)
-unfolding name_in
 named_shown [] c legend h k = k
 named_shown (row ∷ rows) c legend h k =
-    named_by (row.0 == c) row (name_in rows c) legend
-    (shown (first_true (is_shown_row row) (list_all is_shown_row rows) h))
-    (named_shown rows c legend (second_true (is_shown_row row) (list_all is_shown_row rows) h) k)
+    named_by (row.0 == c) row (find (λ row. row.0 == c) rows) legend
+    (shown (first_true (is_seen_row row) (list_all is_seen_row rows) h))
+    (named_shown rows c legend (second_true (is_seen_row row) (list_all is_seen_row rows) h) k)
 
 coded_fffe : is_coded 0xfffe ≡ true
 unfolding is_coded
@@ -195,18 +189,27 @@ first_false : (a b : Bool) → (a || b) ≡ false → a ≡ false
 first_false true b e = e
 first_false false b e = refl
 
-not_upper_control : (c : ℕ) → is_coded c ≡ false → within 0x80 0x9f c ≡ false
+upper_control : (c : ℕ) → is_control c ≡ false → within 0x80 0x9f c ≡ false
+upper_control c e = grind (arith, nat_tests)
+
+not_unseen : (c : ℕ) → is_coded c ≡ false → is_unseen c ≡ false
 unfolding is_coded
-not_upper_control c e = first_false (within 0x80 0x9f c) _ e
+not_unseen c e = first_false (is_unseen c) (is_in CODED c) e
+
+not_upper_control : (c : ℕ) → is_coded c ≡ false → within 0x80 0x9f c ≡ false
+not_upper_control c e =
+    upper_control c (first_false (is_control c) (nat_lt 127 c && is_unseen_above c) (not_unseen c e))
 
 not_control : (c : ℕ) → (nat_lt c 32 || c == 127) ≡ false → within 0x80 0x9f c ≡ false → within 0x7f 0x9f c ≡ false
 not_control c e f = grind (arith, nat_tests)
 
 -- a character that isn't coded may stand in a text
-plainly_shown : (c : ℕ) → (nat_lt c 32 || c == 127) ≡ false → IsScalar c → is_coded c ≡ false → is_shown c ≡ true
+plainly_shown : (c : ℕ) → (nat_lt c 32 || c == 127) ≡ false → IsScalar c → is_coded c ≡ false → is_seen c ≡ true
 plainly_shown c low s e =
-    scalar_shown c (not_low c low) (not_control c low (not_upper_control c e)) s (not_coded c 0xfffe coded_fffe e)
-    (not_coded c 0xffff coded_ffff e)
+    both_true (is_shown c) (not (is_unseen c))
+    (scalar_shown c (not_low c low) (not_control c low (not_upper_control c e)) s (not_coded c 0xfffe coded_fffe e)
+    (not_coded c 0xffff coded_ffff e))
+    (ap not (not_unseen c e))
 
 shown_shown : (c : ℕ) → (nat_lt c 32 || c == 127) ≡ false → IsScalar c → AreShown (shown_legend c)
 unfolding shown_legend
@@ -231,28 +234,16 @@ character_shown c s =
 
 pub mark_shown : (i : ℕ) → i < 15 → AreShown (marked (accent_mark i))
 mark_shown i h =
-    before 0x25cc _ refl (alone (accent_mark i) (item_all is_shown ACCENT_MARKS i 0 h refl))
+    before 0x25cc _ refl (alone (accent_mark i) (item_all is_seen ACCENT_MARKS i 0 h refl))
 
 action_legend_shown : (action : Action) → IsAction action → AreShown (action_legend action)
 unfolding action_legend
-action_legend_shown a.Nop h = shown refl
-action_legend_shown (a.Mod m) h = action_shown (a.Mod m) h
-action_legend_shown (a.Lock l) h = action_shown (a.Lock l) h
 action_legend_shown (a.Screen n) h = joined (codes "scr") (decimal n) (shown refl) (decimal_shown n)
 action_legend_shown (a.Function n) h = joined (codes "F") (decimal n) (shown refl) (decimal_shown n)
 action_legend_shown (a.DeadKey i) h = mark_shown i h
-action_legend_shown a.BackTab h = shown refl
-action_legend_shown a.NextScreen h = shown refl
-action_legend_shown a.PreviousScreen h = shown refl
-action_legend_shown a.Boot h = shown refl
-action_legend_shown a.Debug h = shown refl
-action_legend_shown a.Suspend h = shown refl
-action_legend_shown a.Saver h = shown refl
-action_legend_shown a.Standby h = shown refl
-action_legend_shown a.Panic h = shown refl
-action_legend_shown a.Halt h = shown refl
-action_legend_shown a.PowerDown h = shown refl
-action_legend_shown a.Paste h = shown refl
+action_legend_shown (a.Mod m) h = action_shown (a.Mod m) h
+action_legend_shown (a.Lock l) h = action_shown (a.Lock l) h
+action_legend_shown _ h = shown refl
 
 pub cell_shown : (cell : Cell) → IsCell cell → AreShown (cell_legend cell)
 cell_shown (Char c) h = character_shown c h
@@ -272,7 +263,7 @@ hex_digits c =
     (λ _. before (hex_at c 1048576) (hex_at c 65536 ∷ hex4 c) (unit_shown c 1048576 (omega arith))
     (before (hex_at c 65536) (hex4 c) (unit_shown c 65536 (omega arith)) (hex_four c))))
 
-between_shown : (c : ℕ) → (nat_lt c 32 || c == 127) ≡ false → nat_lt c 127 ≡ true → is_shown c ≡ true
+between_shown : (c : ℕ) → (nat_lt c 32 || c == 127) ≡ false → nat_lt c 127 ≡ true → is_seen c ≡ true
 between_shown c e f = low_shown c (not_low c e) (let h : c < 127 = ltb-true c 127 f in omega arith)
 
 character_text_shown : (c : ℕ) → AreShown (character_text c)

@@ -9,8 +9,17 @@ use Rattle.keymap_core.specs.declared.entry.Cell.TheVariants.{Char, Act}
 use Rattle.keymap_core.specs.declared.entry.Entry.{Entry}
 use Rattle.keymap_core.specs.Actions.{within, code_of}
 use Rattle.keymap_draw.specs.declared.drawn.DrawnCells.{DrawnCells}
+use Rattle.keymap_draw.specs.declared.place.Column.{Column}
+use Rattle.keymap_draw.specs.declared.place.Column.TheVariants.{Base, Shift, Alt, AltShift}
 use Rattle.keymap_draw.specs.declared.tables.CaseRow.{CaseRow}
 use Rattle.keymap_draw.specs.declared.tables.TheConstants.{CASES}
+
+-- the cell of a column, if it is drawn
+abbrev pub cell_in : DrawnCells → Column → Option Cell
+cell_in d Base = d.base
+cell_in d Shift = d.shift
+cell_in d Alt = d.alt
+cell_in d AltShift = d.alt_shift
 
 -- nothing is drawn for it
 abbrev pub is_blank : Cell → Bool

@@ -1,7 +1,7 @@
 -- One key of the picture: its cap, its code and its legends. Its title is its line of the printed form.
 use Rattle.std.specs.Prelude.{ℕ, ◌-◌, ◌%◌, ◌==◌, nat_lt, Bool, true, false, ◌||◌, ◌&&◌, List, [], ◌∷◌, ◌++◌}
 use Rattle.std.specs.Prelude.{codes, decimal, Option, Some, None, option_to_list, if◌then◌else◌}
-use Rattle.std.specs.List.{flat_map, list_all, list_any}
+use Rattle.std.specs.List.{find, flat_map, list_all, list_any}
 use Rattle.std.specs.Option.{is_some}
 use Rattle.keymap_core.specs.declared.action.Action.TheVariants as a
 use Rattle.keymap_core.specs.declared.entry.Cell.{Cell}
@@ -13,32 +13,29 @@ use Rattle.keymap_core.specs.Actions.{within, name_of, holding_action}
 use Rattle.keymap_core.specs.Maps.{MapValue, entry_at}
 use Rattle.keymap_core.specs.Numbers.{key_count}
 use Rattle.keymap_check.specs.declared.finding.Finding.{Finding}
-use Rattle.keymap_check.specs.declared.finding.Place.{Place}
-use Rattle.keymap_text.specs.Printed.{slot_words, flag_letter}
+use Rattle.keymap_text.specs.Printed.{slot_words}
 use Rattle.keymap_draw.specs.declared.board.Shape.{Shape}
 use Rattle.keymap_draw.specs.declared.drawn.DrawnCells.{DrawnCells}
 use Rattle.keymap_draw.specs.declared.place.Column.{Column}
 use Rattle.keymap_draw.specs.declared.place.Column.TheVariants.{Base, Shift, Alt, AltShift}
 use Rattle.keymap_draw.specs.Boards.{letter, width, height}
-use Rattle.keymap_draw.specs.Drawn.{is_blank, column, drawn, stands_alone}
+use Rattle.keymap_draw.specs.Drawn.{is_blank, column, cell_in, drawn, stands_alone}
+use Rattle.keymap_draw.specs.declared.words.TheConstants as words
 use Rattle.keymap_draw.specs.Legends.{cell_legend, is_word}
-use Rattle.keymap_draw.specs.Markup.{between, escaped, class_text, open_text, text_element, translate}
-use Rattle.keymap_draw.specs.Places.{code_x, legend_x, legend_y, legend_classes}
-
-abbrev pub place_words : Place → List ℕ
-place_words p = between (codes " at slot ") p.slot (codes " column ") ++ decimal p.column
+use Rattle.keymap_draw.specs.Drawings.{Drawing}
+use Rattle.keymap_draw.specs.Markup.{two, escaped, class_text, text_element}
+use Rattle.keymap_draw.specs.Places.{code_x, beside_of, legend_x, legend_y, legend_classes}
+use Rattle.messages.specs.Filled.{filled}
 
 -- what the check says of a key
-unfoldable pub finding_words : Finding → List ℕ
+abbrev pub finding_words : Finding → List ℕ
 finding_words f =
-    between (codes "key ") f.key (codes ": ") ++ name_of (holding_action f.holding) ++ place_words f.holding_at
-    ++ codes ", character"
-    ++ place_words f.character_at
+    filled words.FINDING.now (decimal f.key ∷ name_of (holding_action f.holding) ∷ decimal f.holding_at.slot
+    ∷ decimal f.holding_at.column ∷ decimal f.character_at.slot ∷ decimal f.character_at.column ∷ [])
 
 -- the finding of a key, if the check names it
-unfoldable pub finding_of : List Finding → ℕ → Option Finding
-finding_of [] k = None
-finding_of (f ∷ fs) k = if f.key == k then Some f else finding_of fs k
+abbrev pub finding_of : List Finding → ℕ → Option Finding
+finding_of fs k = find (λ f. f.key == k) fs
 
 -- one of the findings is of the key
 abbrev pub names_key : List Finding → ℕ → Bool
@@ -82,27 +79,20 @@ finding_line (Some f) = finding_words f ++ codes "\n"
 -- what the check says of the key, and its line of the printed form
 unfoldable pub title : List Finding → ℕ → Entry → List ℕ
 title fs slot e =
-    codes "<title>" ++ finding_line (finding_of fs (slot % key_count)) ++ flat_map escaped (slot_words slot e)
-    ++ codes "</title>"
+    words.TITLE.now ++ finding_line (finding_of fs (slot % key_count)) ++ flat_map escaped (slot_words slot e)
+    ++ words.TITLE_END.now
 
 abbrev pub flag_words : LockFlag → List ℕ
 flag_words flag.O = []
-flag_words l = 32 ∷ flag_letter l ∷ []
-
-abbrev pub shape_letter : Shape → List ℕ
-shape_letter shape = letter shape ∷ []
-
-unfoldable pub shape_use : Shape → List ℕ
-shape_use shape = codes "<use href=\"#" ++ shape_letter shape ++ codes "\"/>"
-
--- the begin of the text of the code
-abbrev pub code_open : Shape → List ℕ
-code_open shape = open_text (code_x shape) (height shape - 7) []
+flag_words flag.C = words.CAPS.now
+flag_words flag.N = words.NUM.now
+flag_words flag.B = words.BOTH.now
 
 -- the cap, and on it the slot's number and the letter of its locks
-unfoldable pub cap : ℕ → LockFlag → Shape → List ℕ
+abbrev pub cap : ℕ → LockFlag → Shape → List ℕ
 cap slot l shape =
-    shape_use shape ++ code_open shape ++ decimal slot ++ flag_words l ++ codes "</text>"
+    filled words.CAP.now ((letter shape ∷ []) ∷ decimal (code_x shape) ∷ decimal (height shape - 7) ∷ decimal slot
+    ∷ flag_words l ∷ [])
 
 -- the legend of a cell; it is tight where another one stands beside it on a small cap
 unfoldable pub legend : MapValue → Shape → Column → Bool → Bool → Cell → List ℕ
@@ -110,28 +100,30 @@ legend m shape c alone beside cell =
     text_element (legend_x shape c alone) (legend_y shape c alone (is_word (cell_legend cell)))
     (legend_classes m c cell (cell_legend cell) alone (beside && nat_lt (width shape) 112)) (cell_legend cell)
 
-abbrev pub drawn_legend : MapValue → Shape → Column → Bool → Bool → Option Cell → List ℕ
-drawn_legend m shape c alone beside None = []
-drawn_legend m shape c alone beside (Some cell) = legend m shape c alone beside cell
+abbrev pub some_legend : MapValue → Shape → Column → Bool → Bool → Option Cell → List ℕ
+some_legend m shape c alone beside None = []
+some_legend m shape c alone beside (Some cell) = legend m shape c alone beside cell
+
+abbrev pub drawn_legend : MapValue → Shape → Bool → DrawnCells → Column → List ℕ
+drawn_legend m shape alone d c = some_legend m shape c alone (is_some (cell_in d (beside_of c))) (cell_in d c)
 
 abbrev pub legends_of : MapValue → Shape → Bool → DrawnCells → List ℕ
 legends_of m shape alone d =
-    drawn_legend m shape Base alone (is_some d.alt) d.base
-    ++ drawn_legend m shape Shift alone (is_some d.alt_shift) d.shift
-    ++ drawn_legend m shape Alt alone (is_some d.base) d.alt
-    ++ drawn_legend m shape AltShift alone (is_some d.shift) d.alt_shift
+    drawn_legend m shape alone d Base ++ drawn_legend m shape alone d Shift ++ drawn_legend m shape alone d Alt
+    ++ drawn_legend m shape alone d AltShift
 
 unfoldable pub legends : MapValue → Shape → Entry → List ℕ
 legends m shape e = legends_of m shape (stands_alone e) (drawn e)
 
 -- the begin of the group of a key
 unfoldable pub group : Option ℕ → ℕ → ℕ → List ℕ
-group class x y = codes "<g role=\"img\"" ++ class_text (option_to_list class) ++ translate x y
+group class x y = words.GROUP.now ++ class_text (option_to_list class) ++ two words.TRANSLATE.now x y
 
-abbrev pub key_of_entry : MapValue → List Finding → ℕ → ℕ → ℕ → Shape → Entry → List ℕ
-key_of_entry m fs slot x y shape e =
-    group (key_class fs slot e) x y ++ title fs slot e ++ cap slot e.flag shape ++ legends m shape e ++ codes "</g>\n"
+abbrev pub key_of_entry : Drawing → ℕ → ℕ → ℕ → Shape → Entry → List ℕ
+key_of_entry d slot x y shape e =
+    group (key_class d.findings slot e) x y ++ title d.findings slot e ++ cap slot e.flag shape
+    ++ legends d.map shape e ++ words.GROUP_END.now
 
 -- the key of a slot at a place
-unfoldable pub key : MapValue → List Finding → ℕ → ℕ → ℕ → Shape → List ℕ
-key m fs slot x y shape = key_of_entry m fs slot x y shape (entry_at m slot)
+unfoldable pub key : Drawing → ℕ → ℕ → ℕ → Shape → List ℕ
+key d slot x y shape = key_of_entry d slot x y shape (entry_at d.map slot)

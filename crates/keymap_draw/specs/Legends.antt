@@ -1,14 +1,15 @@
 -- What is written on a cap for a cell, as characters: none, a sign (one character, or a mark on a dotted circle), or a
 -- word of two or more letters and digits.
 use Rattle.std.specs.Prelude.{ℕ, ◌==◌, nat_lt, nat_le, Bool, ◌||◌, ◌&&◌, not, List, [], ◌∷◌, ◌++◌, codes, decimal}
-use Rattle.std.specs.Prelude.{length, slice_index, Option, Some, None, if◌then◌else◌}
-use Rattle.std.specs.List.{list_any, filter}
+use Rattle.std.specs.Prelude.{length, slice_index, option_map, Option, Some, None, if◌then◌else◌}
+use Rattle.std.specs.List.{list_any, filter, find}
 use Rattle.keymap_core.specs.declared.action.Action.{Action}
 use Rattle.keymap_core.specs.declared.action.Action.TheVariants as a
 use Rattle.keymap_core.specs.declared.entry.Cell.{Cell}
 use Rattle.keymap_core.specs.declared.entry.Cell.TheVariants.{Char, Act}
 use Rattle.keymap_core.specs.Actions.{within, name_of}
 use Rattle.keymap_core.specs.CodePoints.{code_text}
+use Rattle.keymap_core.specs.Unseen.{is_unseen}
 use Rattle.keymap_text.specs.Printed.{control_name}
 use Rattle.keymap_draw.specs.declared.tables.Range.{Range}
 use Rattle.keymap_draw.specs.declared.tables.UnseenName.{UnseenName}
@@ -19,9 +20,8 @@ abbrev pub is_in : List Range → ℕ → Bool
 is_in ranges c = list_any (λ range. within range.0 range.1 c) ranges
 
 -- the name in the first row for the character, filled with blanks
-unfoldable pub name_in : List UnseenName → ℕ → Option (List ℕ)
-name_in [] c = None
-name_in (row ∷ rows) c = if row.0 == c then Some row.1 else name_in rows c
+abbrev pub name_in : List UnseenName → ℕ → Option (List ℕ)
+name_in rows c = option_map (λ row. row.1) (find (λ row. row.0 == c) rows)
 
 -- a name without the blanks that fill it
 unfoldable pub unfilled : List ℕ → List ℕ
@@ -31,8 +31,9 @@ unfilled name = filter (λ letter. not (letter == 32)) name
 abbrev pub marked : ℕ → List ℕ
 marked mark = 0x25cc ∷ mark ∷ []
 
+-- what a terminal doesn't show, and the blanks, private characters and ones that are none
 unfoldable pub is_coded : ℕ → Bool
-is_coded c = is_in CODED c
+is_coded c = is_unseen c || is_in CODED c
 
 unfoldable pub is_mark : ℕ → Bool
 is_mark c = is_in MARKS c

@@ -1,5 +1,6 @@
 pub mod Below
 pub mod Boards
+pub mod Drawings
 pub mod Drawn
 pub mod Halves
 pub mod Keys
@@ -10,3 +11,5 @@ pub mod Pictures
 pub mod Places
 pub mod Titles
 pub mod WellFormed
+pub mod Keyboards
+pub mod Letters

@@ -1,6 +1,6 @@
 -- What stands below the keys: the findings of the check, the accents, and the dead keys without one.
-use Rattle.std.specs.Prelude.{ℕ, ◌+◌, ◌*◌, ◌/◌, ◌%◌, ◌==◌, Bool, false, true, ◌||◌, ◌&&◌, not, List, [], ◌++◌}
-use Rattle.std.specs.Prelude.{length, codes, Option, Some, None, option_to_list, if◌then◌else◌}
+use Rattle.std.specs.Prelude.{ℕ, ◌+◌, ◌*◌, ◌/◌, ◌%◌, ◌==◌, Bool, false, true, ◌||◌, ◌&&◌, not, List, [], ◌∷◌, ◌++◌}
+use Rattle.std.specs.Prelude.{length, codes, decimal, Option, Some, None, option_to_list, if◌then◌else◌}
 use Rattle.std.specs.List.{flat_map, list_any}
 use Rattle.keymap_core.specs.declared.action.Action.TheVariants as a
 use Rattle.keymap_core.specs.declared.entry.Cell.{Cell}
@@ -15,28 +15,23 @@ use Rattle.keymap_check.specs.declared.finding.Finding.{Finding}
 use Rattle.keymap_text.specs.Printed.{accent_words}
 use Rattle.keymap_draw.specs.declared.half.Half.{Half}
 use Rattle.keymap_draw.specs.declared.half.Half.TheVariants.{Lower, Upper}
+use Rattle.keymap_draw.specs.declared.words.TheConstants as words
 use Rattle.keymap_draw.specs.Below.{passing}
 use Rattle.keymap_draw.specs.Halves.{slot_of}
 use Rattle.keymap_draw.specs.Keys.{finding_words}
 use Rattle.keymap_draw.specs.Legends.{character_legend, marked, accent_mark}
-use Rattle.keymap_draw.specs.Markup.{between, escaped, class_text, open_text, text_element, numbered}
+use Rattle.keymap_draw.specs.Markup.{one, two, escaped, class_text, open_text, text_element, numbered}
 use Rattle.keymap_draw.specs.Places.{own_of, size_class}
+use Rattle.messages.specs.Filled.{filled}
 
 -- the i-th finding, two in a row
 unfoldable pub listed_finding : ℕ → ℕ → Finding → List ℕ
 listed_finding y i f =
-    between (codes "<text x=\"") (28 + i % 2 * 720) (codes "\" y=\"")
-    ++ between [] (y + 12 + i / 2 * 20) (codes "\" class=\"l no\">")
-    ++ finding_words f
-    ++ codes "</text>\n"
-
-unfoldable pub finding_rows : List Finding → ℕ → List ℕ
-finding_rows fs y =
-    between (codes "<text x=\"28\" y=\"") (y + 26) (codes "\" class=\"h no\">Findings</text>\n")
-    ++ numbered (listed_finding (y + 40)) 0 fs
+    filled words.LISTED_FINDING.now (decimal (28 + i % 2 * 720) ∷ decimal (y + 12 + i / 2 * 20) ∷ finding_words f ∷ [])
 
 unfoldable pub findings_list : List Finding → ℕ → List ℕ
-findings_list fs y = if length fs == 0 then [] else finding_rows fs y
+findings_list fs y =
+    if length fs == 0 then [] else one words.FINDINGS.now (y + 26) ++ numbered (listed_finding (y + 40)) 0 fs
 
 abbrev pub findings_height : ℕ → ℕ
 findings_height count = if count == 0 then 0 else 48 + (count + 1) / 2 * 20
@@ -51,30 +46,22 @@ named_accents m = passing (has_character m) accent_limit
 -- a character of an accent, at its place of a row
 unfoldable pub composed : ℕ → ℕ → List ℕ
 composed place c =
-    between (codes "<text x=\"") (12 + 25 * place) (codes "\"")
+    one words.COMPOSED.now (12 + 25 * place)
     ++ class_text (option_to_list (size_class (character_legend c) false true))
     ++ codes ">"
     ++ flat_map escaped (character_legend c)
-    ++ codes "</text>"
+    ++ words.TEXT_END.now
 
--- the base and the result of the i-th pair, behind the accent's own character
-abbrev pub base_of : ℕ → ℕ × ℕ → List ℕ
-base_of i pair = composed (i + 1) pair.0
-
-abbrev pub composed_of : ℕ → ℕ × ℕ → List ℕ
-composed_of i pair = composed (i + 1) pair.1
+-- the base or the result of the i-th pair, behind the accent's own character
+abbrev pub part : Bool → ℕ → ℕ × ℕ → List ℕ
+part results i pair = composed (i + 1) (if results then pair.1 else pair.0)
 
 -- the bases above the results, first the blank and the accent's own character
-unfoldable pub table_of : ℕ → List (ℕ × ℕ) → List ℕ
-table_of own pairs =
-    codes "<g class=\"i\" transform=\"translate(124 17)\">" ++ composed 0 32 ++ numbered base_of 0 pairs
-    ++ codes "</g><g class=\"j\" transform=\"translate(124 39)\">"
-    ++ composed 0 own
-    ++ numbered composed_of 0 pairs
-    ++ codes "</g></g>\n"
-
-abbrev pub table : AccentValue → List ℕ
-table accent = table_of accent.own accent.pairs
+unfoldable pub table : ℕ → List (ℕ × ℕ) → List ℕ
+table own pairs =
+    words.BASES.now ++ composed 0 32 ++ numbered (part false) 0 pairs ++ words.RESULTS.now ++ composed 0 own
+    ++ numbered (part true) 0 pairs
+    ++ words.TABLE_END.now
 
 abbrev pub accent_sign : ℕ → List ℕ
 accent_sign i = marked (accent_mark i)
@@ -83,16 +70,14 @@ accent_sign i = marked (accent_mark i)
 unfoldable pub accent_heading : ℕ → ℕ → List ℕ → List ℕ
 accent_heading i x letters =
     text_element x 35 letters (accent_sign i) ++ open_text (x + 28) 30 (codes "l") ++ name_of (a.DeadKey i)
-    ++ codes "</text>"
+    ++ words.TEXT_END.now
 
 -- the row of an accent, whose title is its line of the printed form
 unfoldable pub accent_row : ℕ → AccentValue → ℕ → List ℕ
 accent_row i accent y =
-    between (codes "<g role=\"img\" transform=\"translate(16 ") y (codes ")\"><title>")
-    ++ flat_map escaped (accent_words i accent)
-    ++ codes "</title><rect class=\"row\" width=\"1460\" height=\"48\" rx=\"8\"/>"
+    one words.ACCENT.now y ++ flat_map escaped (accent_words i accent) ++ words.ACCENT_ROW.now
     ++ accent_heading i 36 (codes "zcd")
-    ++ table accent
+    ++ table accent.own accent.pairs
 
 abbrev pub some_accent_row : ℕ → Option AccentValue → ℕ → List ℕ
 some_accent_row i None y = []
@@ -102,13 +87,10 @@ some_accent_row i (Some accent) y = accent_row i accent y
 unfoldable pub listed_accent : MapValue → ℕ → ℕ → ℕ → List ℕ
 listed_accent m y i accent = some_accent_row accent (accent_at m accent) (y + 52 * i)
 
-unfoldable pub accent_rows : MapValue → List ℕ → ℕ → List ℕ
-accent_rows m accents y =
-    between (codes "<text x=\"28\" y=\"") (y + 26) (codes "\" class=\"h\">Accents</text>\n")
-    ++ numbered (listed_accent m (y + 40)) 0 accents
-
 unfoldable pub accents_list : MapValue → List ℕ → ℕ → List ℕ
-accents_list m accents y = if length accents == 0 then [] else accent_rows m accents y
+accents_list m accents y =
+    if length accents == 0 then []
+    else one words.ACCENTS.now (y + 26) ++ numbered (listed_accent m (y + 40)) 0 accents
 
 abbrev pub accents_height : ℕ → ℕ
 accents_height count = if count == 0 then 0 else 40 + count * 52
@@ -140,17 +122,10 @@ silent_accents m = passing (is_silent m) accent_limit
 abbrev pub silent_name : ℕ → ℕ → List ℕ
 silent_name i accent = accent_heading accent (36 + 94 * i) (codes "zce")
 
-unfoldable pub silent_row : List ℕ → ℕ → List ℕ
-silent_row accents y =
-    between (codes "<text x=\"28\" y=\"") (y + 16)
-    (codes "\" class=\"l\">Dead keys without an accent: the console answers them with an error</text>\n")
-    ++ between (codes "<g transform=\"translate(16 ") (y + 26)
-    (codes ")\"><rect class=\"row\" width=\"1460\" height=\"48\" rx=\"8\"/>")
-    ++ numbered silent_name 0 accents
-    ++ codes "</g>\n"
-
 unfoldable pub silent_list : List ℕ → ℕ → List ℕ
-silent_list accents y = if length accents == 0 then [] else silent_row accents y
+silent_list accents y =
+    if length accents == 0 then []
+    else two words.SILENT.now (y + 16) (y + 26) ++ numbered silent_name 0 accents ++ words.GROUP_END.now
 
 abbrev pub silent_height : ℕ → ℕ
 silent_height count = if count == 0 then 0 else 82

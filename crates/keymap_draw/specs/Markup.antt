@@ -1,11 +1,16 @@
--- The parts of the markup: numbers, texts with references, classes and text elements.
+-- The parts of the markup: texts with references, classes and text elements.
 use Rattle.std.specs.Prelude.{ℕ, ◌+◌, ◌==◌, nat_lt, Bool, ◌||◌, List, [], ◌∷◌, ◌++◌, codes, decimal, if◌then◌else◌}
 use Rattle.std.specs.List.{flat_map}
 use Rattle.keymap_core.specs.CodePoints.{code_digits}
+use Rattle.keymap_draw.specs.declared.words.TheConstants as words
+use Rattle.messages.specs.Filled.{filled}
 
--- a number between two texts
-abbrev pub between : List ℕ → ℕ → List ℕ → List ℕ
-between before n after = before ++ decimal n ++ after
+-- words with a number at each of their places
+abbrev pub one : List ℕ → ℕ → List ℕ
+one words n = filled words (decimal n ∷ [])
+
+abbrev pub two : List ℕ → ℕ → ℕ → List ℕ
+two words x y = filled words (decimal x ∷ decimal y ∷ [])
 
 -- the text of each element, by its place
 unfoldable pub numbered : {A : Type 0} → (ℕ → A → List ℕ) → ℕ → List A → List ℕ
@@ -29,17 +34,12 @@ further_class letter = 32 ∷ letter ∷ []
 -- the attribute of classes, of which each is a letter
 unfoldable pub class_text : List ℕ → List ℕ
 class_text [] = []
-class_text (letter ∷ letters) = codes " class=\"" ++ letter ∷ [] ++ flat_map further_class letters ++ codes "\""
+class_text (letter ∷ letters) = words.CLASS.now ++ letter ∷ [] ++ flat_map further_class letters ++ codes "\""
 
 -- the begin of a text element
 unfoldable pub open_text : ℕ → ℕ → List ℕ → List ℕ
-open_text x y letters =
-    between (codes "<text x=\"") x (codes "\" y=\"") ++ decimal y ++ codes "\"" ++ class_text letters ++ codes ">"
+open_text x y letters = two words.TEXT.now x y ++ class_text letters ++ codes ">"
 
 unfoldable pub text_element : ℕ → ℕ → List ℕ → List ℕ → List ℕ
 text_element x y letters characters =
-    open_text x y letters ++ flat_map escaped characters ++ codes "</text>"
-
--- where a group stands
-unfoldable pub translate : ℕ → ℕ → List ℕ
-translate x y = between (codes " transform=\"translate(") x (codes " ") ++ decimal y ++ codes ")\">"
+    open_text x y letters ++ flat_map escaped characters ++ words.TEXT_END.now

@@ -25,6 +25,12 @@ is_above Shift = true
 is_above Alt = false
 is_above AltShift = true
 
+abbrev pub beside_of : Column → Column
+beside_of Base = Alt
+beside_of Shift = AltShift
+beside_of Alt = Base
+beside_of AltShift = Shift
+
 -- where the code of a key begins
 abbrev pub code_x : Shape → ℕ
 code_x shape.Enter = 24

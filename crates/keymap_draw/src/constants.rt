@@ -1,4 +1,4 @@
-//! The pieces of the picture that are the same in each.
+//! The style and the shapes, which are the same in each picture.
 
 /// The style: colours, sizes of text and its places.
 pub(crate) static STYLE: [u8; 1547] = *b"\
@@ -63,28 +63,4 @@ pub(crate) static SHAPES: [u8; 1343] = *b"\
 <path fill=\"currentColor\" d=\"M7 0H85Q92 0 92 7V117Q92 124 85 124H23Q16 124 16 117V67Q16 60 9 60H7Q0 60 0 \
 53V7Q0 0 7 0Z\"/><path d=\"M9 2H83Q88 2 88 7V105Q88 110 83 110H25Q20 110 20 105V53Q20 48 15 48H9Q4 48 4 43V7\
 Q4 2 9 2Z\"/></g></defs>\n\
-";
-
-/// What the picture shows, in words.
-pub(crate) static DESCRIPTION: [u8; 144] = *b"\
-A keyboard. On each key stand base below left, shift above left, alt below right and alt shift above right; \
-its title is its line of the keymap.\
-";
-
-/// What the colours and the places of legends mean, below the keys.
-pub(crate) static KEY_TO_COLOURS: [u8; 1137] = *b"\
-<g transform=\"translate(28 0)\"><use href=\"#a\"/><text x=\"8\" y=\"57\">13</text>\
-<text x=\"30\" y=\"33\" class=\"z c d\">&#x25cc;&#x0301;</text></g><text x=\"100\" y=\"34\" class=\"l\">\
-dead key</text><g class=\"m\" transform=\"translate(196 0)\"><use href=\"#a\"/><text x=\"8\" y=\"57\">\
-93</text><text x=\"30\" y=\"30\" class=\"x c m\">ralt</text></g><text x=\"268\" y=\"34\" class=\"l\">\
-modifier or lock</text><g class=\"f\" transform=\"translate(412 0)\"><use href=\"#a\"/>\
-<text x=\"8\" y=\"57\">9</text></g><text x=\"484\" y=\"26\" class=\"l\">\
-a finding of check: modifier or</text><text x=\"484\" y=\"44\" class=\"l\">\
-lock and character on one key</text><g class=\"p\" transform=\"translate(740 0)\"><use href=\"#a\"/>\
-<text x=\"8\" y=\"57\">85</text></g><text x=\"812\" y=\"34\" class=\"l\">nop and nul only</text>\
-<g transform=\"translate(952 0)\"><use href=\"#a\"/><text x=\"8\" y=\"57\">16 C</text>\
-<text x=\"10\" y=\"20\">Q</text></g><text x=\"1024\" y=\"16\" class=\"l\">\
-A capital stands for its small letter too. A letter behind</text><text x=\"1024\" y=\"34\" class=\"l\">\
-the code: locks that turn shift around (C caps, N num, B both).</text><text x=\"1024\" y=\"52\" class=\"l\">\
-All eight columns stand in the title of each key.</text>\
 ";

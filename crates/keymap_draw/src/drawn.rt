@@ -2,6 +2,7 @@
 ghost use Rattle.std.specs.Prelude.{◌≡◌};
 ghost use Rattle.keymap_draw.specs.Drawn as spec;
 
+use crate::place::Column;
 use crate::tables::{CASES, CaseRow};
 use keymap_core::{Action, Cell, Entry};
 
@@ -12,6 +13,22 @@ pub(crate) struct DrawnCells {
     pub(crate) shift: Option<Cell>,
     pub(crate) alt: Option<Cell>,
     pub(crate) alt_shift: Option<Cell>,
+}
+
+impl DrawnCells {
+    ghost use Rattle.keymap_draw.specs.Drawn.{cell_in};
+
+    /// The cell of a column, if it is drawn.
+    pub(crate) fn cell(&self, column: Column) -> Option<Cell>
+        ensures { result ≡ cell_in self.now column }
+    {
+        match column {
+            Column::Base => self.base,
+            Column::Shift => self.shift,
+            Column::Alt => self.alt,
+            Column::AltShift => self.alt_shift,
+        }
+    }
 }
 
 /// Whether nothing is drawn for the cell: it is nop or the character 0.

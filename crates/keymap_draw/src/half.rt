@@ -6,13 +6,17 @@ ghost use Rattle.keymap_draw.specs.Below.{passed};
 ghost use Rattle.keymap_draw.specs.Halves as spec;
 ghost use Rattle.keymap_draw.specs.Markup.{numbered};
 
-use crate::board::{Board, ISO, Row, Shape};
+use crate::board::{ISO, Row, Shape};
+use crate::drawing::Drawing;
 use crate::key::{is_blank_entry, push_key};
-use crate::markup::push_between;
+use crate::markup::{Added, push_one, push_two};
+use crate::words::{
+    IS_ACCEPTED, IS_LOWER, KEY_CODE, LOWER_HALF, MORE_FINDINGS, ONE_FINDING, OTHER_KEYS, PANEL,
+    SAMPLE, SLOT, UPPER_HALF,
+};
 use arrayvec::ArrayVec;
-use keymap_check::Finding;
-use keymap_core::{KEY_COUNT, KeyMap};
-use std::alloc::AllocError;
+use keymap_core::KEY_COUNT;
+use messages::{either, fill, number};
 
 /// A half of the slots: 0 to 127, or 128 to 255.
 #[derive(Clone, Copy, Debug, PartialEq, Eq)]
@@ -36,74 +40,44 @@ impl Half {
 }
 
 #[tactic(auto, unfolding(crate::specs::Halves::row_key))]
-fn push_row(
-    text: &mut Vec<u8>,
-    map: &KeyMap,
-    findings: &[Finding],
-    half: Half,
-    y: u32,
-    row: &Row,
-) -> Result<(), AllocError>
+fn push_row(text: &mut Vec<u8>, drawing: &Drawing, half: Half, y: u32, row: &Row) -> Added
     requires { y < 2 ^ 16 }
-    ensures { OnOk result (text.new.items ≡ text.old.items ++ spec.row_key map.now findings.now half y row.now) }
+    ensures { OnOk result (text.new.items ≡ text.old.items ++ spec.row_key drawing.now half y row.now) }
 {
-    push_key(
-        text,
-        map,
-        findings,
-        half.slot(row.0),
-        28 + u32::from(row.1),
-        y + 12 + u32::from(row.2),
-        row.3,
-    )
+    let x = 28 + u32::from(row.1);
+    let y = y + 12 + u32::from(row.2);
+    push_key(text, drawing, half.slot(row.0), x, y, row.3)
 }
 
 /// Adds what the board has in place of a row of the ISO board.
 #[tactic(auto, unfolding(crate::specs::Halves::board_row))]
-fn push_board_row(
-    text: &mut Vec<u8>,
-    map: &KeyMap,
-    findings: &[Finding],
-    half: Half,
-    board: Board,
-    y: u32,
-    row: &Row,
-) -> Result<(), AllocError>
+fn push_board_row(text: &mut Vec<u8>, drawing: &Drawing, half: Half, y: u32, row: &Row) -> Added
     requires { y < 2 ^ 16 }
-    ensures { OnOk result (text.new.items
-        ≡ text.old.items ++ spec.board_row map.now findings.now half board y row.now) }
+    ensures { OnOk result (text.new.items ≡ text.old.items ++ spec.board_row drawing.now half y row.now) }
 {
-    match board.row(*row) {
-        Some(row) => push_row(text, map, findings, half, y, &row),
+    match drawing.board().row(*row) {
+        Some(row) => push_row(text, drawing, half, y, &row),
         None => Ok(()),
     }
 }
 
-fn push_board_rows(
-    text: &mut Vec<u8>,
-    map: &KeyMap,
-    findings: &[Finding],
-    half: Half,
-    board: Board,
-    y: u32,
-    rows: &[Row],
-) -> Result<(), AllocError>
+fn push_board_rows(text: &mut Vec<u8>, drawing: &Drawing, half: Half, y: u32, rows: &[Row]) -> Added
     requires { y < 2 ^ 16 }
     ensures { OnOk result (text.new.items
-        ≡ text.old.items ++ flat_map (spec.board_row map.now findings.now half board y) rows.now) }
+        ≡ text.old.items ++ flat_map (spec.board_row drawing.now half y) rows.now) }
 {
     for row in rows {
-        push_board_row(text, map, findings, half, board, y, row)?;
+        push_board_row(text, drawing, half, y, row)?;
     }
     Ok(())
 }
 
 /// Whether the key isn't on the board and its slot isn't blank.
 #[tactic(auto, unfolding(crate::specs::Halves::is_other))]
-fn is_other(map: &KeyMap, half: Half, board: Board, key: u8) -> bool
-    ensures { result ≡ spec.is_other map.now half board key }
+fn is_other(drawing: &Drawing, half: Half, key: u8) -> bool
+    ensures { result ≡ spec.is_other drawing.now half key }
 {
-    !board.has(key) && !is_blank_entry(map.entry(half.slot(key)))
+    !drawing.board().has(key) && !is_blank_entry(drawing.map().entry(half.slot(key)))
 }
 
 /// Adds a number that passes.
@@ -119,13 +93,13 @@ pub(crate) fn push_if<const N: usize>(numbers: &mut ArrayVec<u8, N>, number: u8,
 
 /// The keys that aren't on the board and whose slots aren't blank.
 #[tactic(auto, using(crate::proofs::Loops::passing_rules), unfolding(crate::specs::Halves::other_keys))]
-pub(crate) fn other_keys(map: &KeyMap, half: Half, board: Board) -> ArrayVec<u8, KEY_COUNT>
-    ensures keys { result.items ≡ spec.other_keys map.now half board }
+pub(crate) fn other_keys(drawing: &Drawing, half: Half) -> ArrayVec<u8, KEY_COUNT>
+    ensures keys { result.items ≡ spec.other_keys drawing.now half }
     ensures few { length result.items ≤ 128 }
 {
     let mut keys = ArrayVec::new();
     for key in 0..KEY_COUNT as u8 {
-        push_if(&mut keys, key, is_other(map, half, board, key));
+        push_if(&mut keys, key, is_other(drawing, half, key));
     }
     keys
 }
@@ -134,291 +108,141 @@ pub(crate) fn other_keys(map: &KeyMap, half: Half, board: Board) -> ArrayVec<u8,
 #[tactic(auto, unfolding(crate::specs::Halves::other_key))]
 fn push_other_key(
     text: &mut Vec<u8>,
-    map: &KeyMap,
-    findings: &[Finding],
+    drawing: &Drawing,
     half: Half,
     y: u32,
     place: u32,
     key: u8,
-) -> Result<(), AllocError>
+) -> Added
     requires low { y < 2 ^ 16 }
     requires few { place ≤ 128 }
-    ensures { OnOk result (text.new.items
-        ≡ text.old.items ++ spec.other_key map.now findings.now half y place key) }
+    ensures { OnOk result (text.new.items ≡ text.old.items ++ spec.other_key drawing.now half y place key) }
 {
-    push_key(
-        text,
-        map,
-        findings,
-        half.slot(key),
-        28 + place % 22 * 64,
-        y + 26 + place / 22 * 64,
-        Shape::A,
-    )
+    let x = 28 + place % 22 * 64;
+    let y = y + 26 + place / 22 * 64;
+    push_key(text, drawing, half.slot(key), x, y, Shape::A)
 }
 
 /// Adds the keys that the board doesn't have.
-fn push_other_keys(
-    text: &mut Vec<u8>,
-    map: &KeyMap,
-    findings: &[Finding],
-    half: Half,
-    y: u32,
-    keys: &[u8],
-) -> Result<(), AllocError>
+fn push_other_keys(text: &mut Vec<u8>, drawing: &Drawing, half: Half, y: u32, keys: &[u8]) -> Added
     requires low { y < 2 ^ 16 }
     requires few { length keys.now ≤ 128 }
     ensures { OnOk result (text.new.items
-        ≡ text.old.items ++ numbered (spec.other_key map.now findings.now half y) 0 keys.now) }
+        ≡ text.old.items ++ numbered (spec.other_key drawing.now half y) 0 keys.now) }
 {
     for i in 0..keys.len() {
         let key = keys[i];
-        push_other_key(text, map, findings, half, y, i as u32, key)?;
+        push_other_key(text, drawing, half, y, i as u32, key)?;
     }
-    Ok(())
-}
-
-/// Adds the line and the rows of keys that the board doesn't have.
-fn push_other_rows(
-    text: &mut Vec<u8>,
-    map: &KeyMap,
-    findings: &[Finding],
-    half: Half,
-    y: u32,
-    keys: &[u8],
-) -> Result<(), AllocError>
-    requires low { y < 2 ^ 16 }
-    requires few { length keys.now ≤ 128 }
-    ensures { OnOk result (text.new.items
-        ≡ text.old.items ++ spec.other_rows map.now findings.now half y keys.now) }
-{
-    push_between(
-        text,
-        b"<text x=\"28\" y=\"",
-        y + 16,
-        b"\" class=\"l\">Keys that this board doesn&#x0027;t have</text>\n",
-    )?;
-    push_other_keys(text, map, findings, half, y, keys)?;
     Ok(())
 }
 
 /// Adds what stands of the keys that the board doesn't have, if there are any.
 #[tactic(auto, unfolding(crate::specs::Halves::others))]
-fn push_others(
-    text: &mut Vec<u8>,
-    map: &KeyMap,
-    findings: &[Finding],
-    half: Half,
-    y: u32,
-    keys: &[u8],
-) -> Result<(), AllocError>
+fn push_others(text: &mut Vec<u8>, drawing: &Drawing, half: Half, y: u32, keys: &[u8]) -> Added
     requires low { y < 2 ^ 16 }
     requires few { length keys.now ≤ 128 }
-    ensures { OnOk result (text.new.items
-        ≡ text.old.items ++ spec.others map.now findings.now half y keys.now) }
+    ensures { OnOk result (text.new.items ≡ text.old.items ++ spec.others drawing.now half y keys.now) }
 {
     if keys.is_empty() {
-        Ok(())
-    } else {
-        push_other_rows(text, map, findings, half, y, keys)
+        return Ok(());
     }
+    push_one(text, OTHER_KEYS, y + 16)?;
+    push_other_keys(text, drawing, half, y, keys)
 }
 
-/// How high the row of so many keys is that the board doesn't have.
-fn others_height(count: usize) -> u32
-    requires { count ≤ 128 }
-    ensures value { result ≡ spec.others_height count }
-    ensures low { result ≤ 418 }
-{
-    if count == 0 {
-        0
-    } else {
-        34 + (count as u32 + 21) / 22 * 64
-    }
-}
-
-/// How high the drawing of a half is.
-pub(crate) fn half_height(map: &KeyMap, half: Half, board: Board) -> u32
-    ensures value { result ≡ spec.half_height map.now half board }
+/// How high the drawing of a half is, with so many keys that the board doesn't have.
+pub(crate) fn half_height(others: usize) -> u32
+    requires { others ≤ 128 }
+    ensures value { result ≡ spec.half_height others }
     ensures low { result ≤ 890 }
 {
-    472 + others_height(other_keys(map, half, board).len())
-}
-
-fn push_refused(text: &mut Vec<u8>, count: usize) -> Result<(), AllocError>
-    requires { count ≤ 128 }
-    ensures { OnOk result (text.new.items ≡ text.old.items ++ spec.refused_words count) }
-{
-    if count == 1 {
-        push_between(text, b"refused: ", count as u32, b" finding</text>\n")
+    if others == 0 {
+        472
     } else {
-        push_between(text, b"refused: ", count as u32, b" findings</text>\n")
+        506 + (others as u32 + 21) / 22 * 64
     }
-}
-
-fn push_count(text: &mut Vec<u8>, y: u32, count: usize) -> Result<(), AllocError>
-    requires low { y < 2 ^ 16 }
-    requires few { count ≤ 128 }
-    ensures { OnOk result (text.new.items ≡ text.old.items ++ spec.count_line y count) }
-{
-    push_between(
-        text,
-        b"<text x=\"1464\" y=\"",
-        y + 26,
-        b"\" class=\"h r no\">",
-    )?;
-    push_refused(text, count)?;
-    Ok(())
 }
 
 /// Adds whether the keymap is accepted, and how many keys the check names.
-fn push_verdict(text: &mut Vec<u8>, y: u32, findings: &[Finding]) -> Result<(), AllocError>
+fn push_verdict(text: &mut Vec<u8>, y: u32, count: usize) -> Added
     requires low { y < 2 ^ 16 }
-    requires few { length findings.now ≤ 128 }
-    ensures { OnOk result (text.new.items ≡ text.old.items ++ spec.verdict_line y (length findings.now)) }
+    requires few { count ≤ 128 }
+    ensures { OnOk result (text.new.items ≡ text.old.items ++ spec.verdict_line y count) }
 {
-    if findings.is_empty() {
-        push_between(
-            text,
-            b"<text x=\"1464\" y=\"",
-            y + 26,
-            b"\" class=\"h r ok\">accepted</text>\n",
-        )
-    } else {
-        push_count(text, y, findings.len())
+    match count {
+        0 => push_one(text, IS_ACCEPTED, y),
+        1 => push_two(text, ONE_FINDING, y, 1),
+        _ => push_two(text, MORE_FINDINGS, y, count as u32),
     }
 }
 
-fn push_live(text: &mut Vec<u8>, live: bool) -> Result<(), AllocError>
-    ensures { OnOk result (text.new.items ≡ text.old.items ++ spec.live_words live) }
+#[tactic(auto, unfolding(crate::specs::Halves::lower_headline))]
+fn push_lower_headline(text: &mut Vec<u8>, drawing: &Drawing, y: u32) -> Added
+    requires { y < 2 ^ 16 }
+    ensures { OnOk result (text.new.items ≡ text.old.items ++ spec.lower_headline drawing.now y) }
 {
-    if live {
-        text.extend_from_slice(b", lower half")
-    } else {
-        Ok(())
-    }
-}
-
-fn push_lower_headline(
-    text: &mut Vec<u8>,
-    findings: &[Finding],
-    live: bool,
-    y: u32,
-) -> Result<(), AllocError>
-    requires low { y < 2 ^ 16 }
-    requires few { length findings.now ≤ 128 }
-    ensures { OnOk result (text.new.items
-        ≡ text.old.items ++ spec.lower_headline (length findings.now) live y) }
-{
-    push_between(
-        text,
-        b"<text x=\"28\" y=\"",
-        y + 26,
-        b"\" class=\"h\">Console keymap",
-    )?;
-    push_live(text, live)?;
-    text.extend_from_slice(b"</text>\n")?;
-    push_verdict(text, y, findings)?;
-    Ok(())
+    let high = number(u64::from(y));
+    let half = either(drawing.is_upper_live(), IS_LOWER, b"");
+    fill(text, LOWER_HALF, &[high.as_slice(), half])?;
+    push_verdict(text, y, drawing.findings().len())
 }
 
 /// Adds the headline of a half.
 #[tactic(auto, unfolding(crate::specs::Halves::headline))]
-fn push_headline(
-    text: &mut Vec<u8>,
-    findings: &[Finding],
-    half: Half,
-    live: bool,
-    y: u32,
-) -> Result<(), AllocError>
-    requires low { y < 2 ^ 16 }
-    requires few { length findings.now ≤ 128 }
-    ensures { OnOk result (text.new.items
-        ≡ text.old.items ++ spec.headline (length findings.now) half live y) }
+fn push_headline(text: &mut Vec<u8>, drawing: &Drawing, half: Half, y: u32) -> Added
+    requires { y < 2 ^ 16 }
+    ensures { OnOk result (text.new.items ≡ text.old.items ++ spec.headline drawing.now half y) }
 {
     match half {
-        Half::Lower => push_lower_headline(text, findings, live, y),
-        Half::Upper => push_between(
-            text,
-            b"<text x=\"28\" y=\"",
-            y + 26,
-            b"\" class=\"h\">Upper half: while ashift or alock is on</text>\n",
-        ),
+        Half::Lower => push_lower_headline(text, drawing, y),
+        Half::Upper => push_one(text, UPPER_HALF, y),
     }
 }
 
-fn push_sample_word(text: &mut Vec<u8>, half: Half) -> Result<(), AllocError>
-    ensures { OnOk result (text.new.items ≡ text.old.items ++ spec.sample_word half) }
+/// What the number of a key is.
+fn number_name(half: Half) -> &'static [u8]
+    ensures { result.now ≡ spec.number_name half }
 {
     match half {
-        Half::Lower => text.extend_from_slice(b"key code"),
-        Half::Upper => text.extend_from_slice(b"slot"),
+        Half::Lower => KEY_CODE,
+        Half::Upper => SLOT,
     }
 }
 
 /// Adds the key that shows where the legends stand.
-fn push_sample(text: &mut Vec<u8>, half: Half, y: u32) -> Result<(), AllocError>
-    requires { y < 2 ^ 16 }
+fn push_sample(text: &mut Vec<u8>, half: Half, y: u32) -> Added
     ensures { OnOk result (text.new.items ≡ text.old.items ++ spec.sample half y) }
 {
-    push_between(
-        text,
-        b"<g aria-hidden=\"true\" transform=\"translate(1212 ",
-        y + 12,
-        b")\"><use href=\"#f\"/><text x=\"8\" y=\"57\">",
-    )?;
-    push_sample_word(text, half)?;
-    text.extend_from_slice(
-        b", locks</text><text x=\"10\" y=\"20\" class=\"v\">shift</text>\
-<text x=\"10\" y=\"41\" class=\"v\">base</text><text x=\"130\" y=\"20\" class=\"v r a\">alt shift</text>\
-<text x=\"130\" y=\"41\" class=\"v r a\">alt</text></g>\n",
-    )?;
-    Ok(())
+    let y = number(u64::from(y));
+    fill(text, SAMPLE, &[y.as_slice(), number_name(half)])
 }
 
 /// Adds the panel of a half, with the keys of the board.
 #[tactic(auto, unfolding(crate::specs::Halves::panel))]
-fn push_panel(
-    text: &mut Vec<u8>,
-    map: &KeyMap,
-    findings: &[Finding],
-    half: Half,
-    board: Board,
-    y: u32,
-) -> Result<(), AllocError>
+fn push_panel(text: &mut Vec<u8>, drawing: &Drawing, half: Half, y: u32) -> Added
     requires { y < 2 ^ 16 }
-    ensures { OnOk result (text.new.items
-        ≡ text.old.items ++ spec.panel map.now findings.now half board y) }
+    ensures { OnOk result (text.new.items ≡ text.old.items ++ spec.panel drawing.now half y) }
 {
-    push_between(
-        text,
-        b"<rect class=\"panel\" x=\"16\" y=\"",
-        y,
-        b"\" width=\"1460\" height=\"420\" rx=\"16\"/>\n",
-    )?;
-    push_board_rows(text, map, findings, half, board, y, &ISO)?;
-    push_sample(text, half, y)?;
-    Ok(())
+    push_one(text, PANEL, y)?;
+    push_board_rows(text, drawing, half, y, &ISO)?;
+    push_sample(text, half, y + 12)
 }
 
-/// Adds the drawing of a half, from y on.
+/// Adds the drawing of a half, from y on, with the keys that the board doesn't have.
 #[tactic(auto, unfolding(crate::specs::Halves::half_drawing))]
 pub(crate) fn push_half(
     text: &mut Vec<u8>,
-    map: &KeyMap,
-    findings: &[Finding],
+    drawing: &Drawing,
     half: Half,
-    board: Board,
+    keys: &[u8],
     y: u32,
-) -> Result<(), AllocError>
+) -> Added
     requires low { y < 2 ^ 15 }
-    requires few { length findings.now ≤ 128 }
-    ensures { OnOk result (text.new.items
-        ≡ text.old.items ++ spec.half_drawing map.now findings.now half board y) }
+    requires few { length keys.now ≤ 128 }
+    ensures { OnOk result (text.new.items ≡ text.old.items ++ spec.half_drawing drawing.now half keys.now y) }
 {
-    push_headline(text, findings, half, map.is_upper_live(), y)?;
-    push_panel(text, map, findings, half, board, y + 40)?;
-    let keys = other_keys(map, half, board);
-    push_others(text, map, findings, half, y + 472, keys.as_slice())?;
-    Ok(())
+    push_headline(text, drawing, half, y + 26)?;
+    push_panel(text, drawing, half, y + 40)?;
+    push_others(text, drawing, half, y + 472, keys)
 }

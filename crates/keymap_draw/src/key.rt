@@ -1,50 +1,42 @@
 //! One key of the picture: its cap, its code and its legends. Its title is its line of the printed form.
-ghost use Rattle.std.specs.Prelude.{◌≡◌, ◌++◌, ◌<◌, OnOk, decimal, option_copied, option_to_list};
+ghost use Rattle.std.specs.Prelude.{◌≡◌, ◌++◌, ◌∷◌, [], OnOk, decimal, option_copied};
 ghost use Rattle.keymap_draw.specs.Keys as spec;
-ghost use Rattle.keymap_draw.specs.Markup.{class_text};
 
 use crate::board::Shape;
-use crate::drawn::{drawn, is_blank, stands_alone};
+use crate::drawing::Drawing;
+use crate::drawn::{DrawnCells, drawn, is_blank, stands_alone};
 use crate::legend::{cell_legend, is_word};
-use crate::markup::{
-    push_between, push_classes, push_escaped, push_number, push_open, push_text, push_translate,
-};
+use crate::markup::{Added, push_class, push_escaped, push_text, push_two};
 use crate::place::{Column, code_x, legend_classes, legend_x, legend_y};
-use keymap_check::{Finding, Place};
+use crate::words::{BOTH, CAP, CAPS, FINDING, GROUP, GROUP_END, NUM, TITLE, TITLE_END, TRANSLATE};
+use keymap_check::Finding;
 use keymap_core::{Action, Cell, Entry, KEY_COUNT, KeyMap, LockFlag};
-use keymap_text::{flag_letter, slot_words};
-use std::alloc::AllocError;
+use keymap_text::slot_words;
+use messages::{Line, fill, line, number, small};
 
-fn push_place(text: &mut Vec<u8>, place: &Place) -> Result<(), AllocError>
-    ensures { OnOk result (text.new.items ≡ text.old.items ++ spec.place_words place.now) }
+/// What the check says of a key, without a line feed.
+pub fn finding_words(finding: &Finding) -> Line
+    ensures { result.items ≡ spec.finding_words finding.now }
 {
-    push_between(text, b" at slot ", u32::from(place.slot), b" column ")?;
-    push_number(text, u32::from(place.column))
-}
-
-/// Adds what the check says of a key, without a line feed.
-#[tactic(auto, unfolding(crate::specs::Keys::finding_words))]
-pub(crate) fn push_finding(text: &mut Vec<u8>, finding: &Finding) -> Result<(), AllocError>
-    ensures { OnOk result (text.new.items ≡ text.old.items ++ spec.finding_words finding.now) }
-{
-    push_between(text, b"key ", u32::from(finding.key.get()), b": ")?;
-    text.extend_from_slice(finding.holding.action().name().as_slice())?;
-    push_place(text, &finding.holding_at)?;
-    text.extend_from_slice(b", character")?;
-    push_place(text, &finding.character_at)
+    let name = finding.holding.action().name();
+    line(
+        FINDING,
+        &[
+            small(finding.key.get()).as_slice(),
+            name.as_slice(),
+            small(finding.holding_at.slot).as_slice(),
+            small(finding.holding_at.column).as_slice(),
+            small(finding.character_at.slot).as_slice(),
+            small(finding.character_at.column).as_slice(),
+        ],
+    )
 }
 
 /// The finding of a key, if the check names it.
-#[tactic(auto, using(crate::proofs::Found::finding_rules))]
 fn finding_of(findings: &[Finding], key: u8) -> Option<&Finding>
     ensures { option_copied result ≡ spec.finding_of findings.now key }
 {
-    for finding in findings {
-        if finding.key.get() == key {
-            return Some(finding);
-        }
-    }
-    None
+    findings.iter().find(|finding| finding.key.get() == key)
 }
 
 /// Whether the cell is an action that the key's colour tells: another one than nop and the dead keys.
@@ -95,23 +87,24 @@ fn key_class(findings: &[Finding], slot: u8, entry: &Entry) -> Option<u8>
     }
 }
 
-fn push_class(text: &mut Vec<u8>, class: Option<u8>) -> Result<(), AllocError>
-    ensures { OnOk result (text.new.items ≡ text.old.items ++ class_text (option_to_list class)) }
+/// Begins the group of a key.
+#[tactic(auto, unfolding(crate::specs::Keys::group))]
+fn push_group(text: &mut Vec<u8>, class: Option<u8>, x: u32, y: u32) -> Added
+    ensures { OnOk result (text.new.items ≡ text.old.items ++ spec.group class x y) }
 {
-    match class {
-        Some(letter) => push_classes(text, &[letter]),
-        None => push_classes(text, &[]),
-    }
+    text.extend_from_slice(GROUP)?;
+    push_class(text, class)?;
+    push_two(text, TRANSLATE, x, y)
 }
 
 /// Adds what the check says of the key in a line of its own, if it names it.
-fn push_finding_line(text: &mut Vec<u8>, findings: &[Finding], key: u8) -> Result<(), AllocError>
+fn push_finding_line(text: &mut Vec<u8>, findings: &[Finding], key: u8) -> Added
     ensures { OnOk result (text.new.items
         ≡ text.old.items ++ spec.finding_line (spec.finding_of findings.now key)) }
 {
     match finding_of(findings, key) {
         Some(finding) => {
-            push_finding(text, finding)?;
+            text.extend_from_slice(finding_words(finding).as_slice())?;
             text.extend_from_slice(b"\n")
         }
         None => Ok(()),
@@ -119,67 +112,46 @@ fn push_finding_line(text: &mut Vec<u8>, findings: &[Finding], key: u8) -> Resul
 }
 
 #[tactic(auto, unfolding(crate::specs::Keys::title))]
-fn push_title(
-    text: &mut Vec<u8>,
-    findings: &[Finding],
-    slot: u8,
-    entry: &Entry,
-) -> Result<(), AllocError>
+fn push_title(text: &mut Vec<u8>, findings: &[Finding], slot: u8, entry: &Entry) -> Added
     ensures { OnOk result (text.new.items ≡ text.old.items ++ spec.title findings.now slot entry.now) }
 {
-    text.extend_from_slice(b"<title>")?;
+    text.extend_from_slice(TITLE)?;
     push_finding_line(text, findings, slot % KEY_COUNT as u8)?;
     push_escaped(text, slot_words(slot, entry).as_slice())?;
-    text.extend_from_slice(b"</title>")
+    text.extend_from_slice(TITLE_END)
 }
 
-/// Adds a blank and the letter of the locks, where one flips the key.
-fn push_flag(text: &mut Vec<u8>, flag: LockFlag) -> Result<(), AllocError>
-    ensures { OnOk result (text.new.items ≡ text.old.items ++ spec.flag_words flag) }
+/// A blank and the letter of the locks, where one flips the key.
+fn flag_words(flag: LockFlag) -> &'static [u8]
+    ensures { result.now ≡ spec.flag_words flag }
 {
     match flag {
-        LockFlag::O => Ok(()),
-        _ => text.extend_from_slice(&[b' ', flag_letter(flag)]),
+        LockFlag::O => b"",
+        LockFlag::C => CAPS,
+        LockFlag::N => NUM,
+        LockFlag::B => BOTH,
     }
 }
 
-fn push_letter(text: &mut Vec<u8>, shape: Shape) -> Result<(), AllocError>
-    ensures { OnOk result (text.new.items ≡ text.old.items ++ spec.shape_letter shape) }
-{
-    text.extend_from_slice(&[shape.letter()])
-}
-
-fn push_shape(text: &mut Vec<u8>, shape: Shape) -> Result<(), AllocError>
-    ensures { OnOk result (text.new.items ≡ text.old.items ++ spec.shape_use shape) }
-{
-    text.extend_from_slice(b"<use href=\"#")?;
-    push_letter(text, shape)?;
-    text.extend_from_slice(b"\"/>")?;
-    Ok(())
-}
-
-fn push_code_open(text: &mut Vec<u8>, shape: Shape) -> Result<(), AllocError>
-    ensures { OnOk result (text.new.items ≡ text.old.items ++ spec.code_open shape) }
-{
-    push_open(text, code_x(shape), shape.height() - 7, &[])
-}
-
-fn push_slot(text: &mut Vec<u8>, slot: u8) -> Result<(), AllocError>
-    ensures { OnOk result (text.new.items ≡ text.old.items ++ decimal slot) }
-{
-    push_number(text, u32::from(slot))
-}
-
 /// Adds the cap and the code of the key.
-fn push_cap(text: &mut Vec<u8>, slot: u8, flag: LockFlag, shape: Shape) -> Result<(), AllocError>
+fn push_cap(text: &mut Vec<u8>, slot: u8, flag: LockFlag, shape: Shape) -> Added
     ensures { OnOk result (text.new.items ≡ text.old.items ++ spec.cap slot flag shape) }
 {
-    push_shape(text, shape)?;
-    push_code_open(text, shape)?;
-    push_slot(text, slot)?;
-    push_flag(text, flag)?;
-    text.extend_from_slice(b"</text>")?;
-    Ok(())
+    let x = number(u64::from(code_x(shape)));
+    let y = number(u64::from(shape.height() - 7));
+    let told = small(slot);
+    let letter = [shape.letter()];
+    fill(
+        text,
+        CAP,
+        &[
+            &letter,
+            x.as_slice(),
+            y.as_slice(),
+            told.as_slice(),
+            flag_words(flag),
+        ],
+    )
 }
 
 /// Adds the legend of a cell.
@@ -192,7 +164,7 @@ fn push_legend(
     cell: &Cell,
     alone: bool,
     beside: bool,
-) -> Result<(), AllocError>
+) -> Added
     ensures { OnOk result (text.new.items
         ≡ text.old.items ++ spec.legend map.now shape column alone beside cell.now) }
 {
@@ -200,112 +172,61 @@ fn push_legend(
     let legend = legend.as_slice();
     let tight = beside && shape.width() < 112;
     let classes = legend_classes(map, column, cell, legend, alone, tight);
-    push_text(
-        text,
-        legend_x(shape, column, alone),
-        legend_y(shape, column, alone, is_word(legend)),
-        classes.as_slice(),
-        legend,
-    )
+    let x = legend_x(shape, column, alone);
+    let y = legend_y(shape, column, alone, is_word(legend));
+    push_text(text, x, y, classes.as_slice(), legend)
 }
 
-/// Adds the legend of a cell, if it is drawn.
+/// Adds the legend of a column, if its cell is drawn.
 fn push_drawn(
     text: &mut Vec<u8>,
     map: &KeyMap,
     shape: Shape,
-    column: Column,
-    cell: &Option<Cell>,
+    cells: &DrawnCells,
     alone: bool,
-    beside: bool,
-) -> Result<(), AllocError>
+    column: Column,
+) -> Added
     ensures { OnOk result (text.new.items
-        ≡ text.old.items ++ spec.drawn_legend map.now shape column alone beside cell.now) }
+        ≡ text.old.items ++ spec.drawn_legend map.now shape alone cells.now column) }
 {
-    match cell {
-        Some(cell) => push_legend(text, map, shape, column, cell, alone, beside),
+    let beside = cells.cell(column.beside()).is_some();
+    match cells.cell(column) {
+        Some(cell) => push_legend(text, map, shape, column, &cell, alone, beside),
         None => Ok(()),
     }
 }
 
 /// Adds the legends of a slot.
 #[tactic(auto, unfolding(crate::specs::Keys::legends))]
-fn push_legends(
-    text: &mut Vec<u8>,
-    map: &KeyMap,
-    shape: Shape,
-    entry: &Entry,
-) -> Result<(), AllocError>
+fn push_legends(text: &mut Vec<u8>, map: &KeyMap, shape: Shape, entry: &Entry) -> Added
     ensures { OnOk result (text.new.items ≡ text.old.items ++ spec.legends map.now shape entry.now) }
 {
     let cells = drawn(entry);
     let alone = stands_alone(entry);
-    push_drawn(
-        text,
-        map,
-        shape,
-        Column::Base,
-        &cells.base,
-        alone,
-        cells.alt.is_some(),
-    )?;
-    push_drawn(
-        text,
-        map,
-        shape,
-        Column::Shift,
-        &cells.shift,
-        alone,
-        cells.alt_shift.is_some(),
-    )?;
-    push_drawn(
-        text,
-        map,
-        shape,
-        Column::Alt,
-        &cells.alt,
-        alone,
-        cells.base.is_some(),
-    )?;
-    push_drawn(
-        text,
-        map,
-        shape,
-        Column::AltShift,
-        &cells.alt_shift,
-        alone,
-        cells.shift.is_some(),
-    )
-}
-
-/// Begins the group of a key.
-fn push_group(text: &mut Vec<u8>, class: Option<u8>, x: u32, y: u32) -> Result<(), AllocError>
-    ensures { OnOk result (text.new.items ≡ text.old.items ++ spec.group class x y) }
-{
-    text.extend_from_slice(b"<g role=\"img\"")?;
-    push_class(text, class)?;
-    push_translate(text, x, y)?;
-    Ok(())
+    push_drawn(text, map, shape, &cells, alone, Column::Base)?;
+    push_drawn(text, map, shape, &cells, alone, Column::Shift)?;
+    push_drawn(text, map, shape, &cells, alone, Column::Alt)?;
+    push_drawn(text, map, shape, &cells, alone, Column::AltShift)
 }
 
 /// Adds the key of a slot at a place.
 pub(crate) fn push_key(
     text: &mut Vec<u8>,
-    map: &KeyMap,
-    findings: &[Finding],
+    drawing: &Drawing,
     slot: u8,
     x: u32,
     y: u32,
     shape: Shape,
-) -> Result<(), AllocError>
-    ensures { OnOk result (text.new.items
-        ≡ text.old.items ++ spec.key map.now findings.now slot x y shape) }
+) -> Added
+    ensures { OnOk result (text.new.items ≡ text.old.items ++ spec.key drawing.now slot x y shape) }
 {
+    let map = drawing.map();
     let entry = map.entry(slot);
+    let findings = drawing.findings();
     push_group(text, key_class(findings, slot, entry), x, y)?;
     push_title(text, findings, slot, entry)?;
     push_cap(text, slot, entry.flag, shape)?;
     push_legends(text, map, shape, entry)?;
-    text.extend_from_slice(b"</g>\n")?;
+    text.extend_from_slice(GROUP_END)?;
     Ok(())
 }

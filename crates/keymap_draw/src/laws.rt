@@ -1,7 +1,7 @@
 //! Laws of the definitions. No function here does anything.
-ghost use Rattle.std.specs.Prelude.{◌≡◌, ℕ, ◌%◌, ◌++◌, List, Some, Bool, false, true, All, option_to_list, codes};
+ghost use Rattle.std.specs.Prelude.{◌≡◌, ℕ, ◌%◌, ◌<◌, ◌++◌, List, Some, Bool, false, true, All, option_to_list, codes};
 ghost use Rattle.keymap_core.specs.Accents.{AccentValue};
-ghost use Rattle.keymap_core.specs.Bounds.{IsCell, IsMap};
+ghost use Rattle.keymap_core.specs.Bounds.{IsCell, IsAccent, IsMap};
 ghost use Rattle.keymap_core.specs.Maps.{MapValue};
 ghost use Rattle.keymap_core.specs.Numbers.{key_count};
 ghost use Rattle.keymap_core.specs.declared.entry.Cell.{Cell as CellValue};
@@ -11,11 +11,14 @@ ghost use Rattle.keymap_text.specs.Printed.{key_line, slot_words, accent_line, a
 ghost use Rattle.keymap_draw.specs.declared.board.Board.{Board as BoardValue};
 ghost use Rattle.keymap_draw.specs.declared.place.Column.{Column as ColumnValue};
 ghost use Rattle.keymap_draw.specs.Keys.{key_class, names_key, red};
+ghost use Rattle.keymap_draw.specs.Keyboards.{BoardsAreKeyboards, EachKeyOnce, NoTwoOverlap, AllLieOnThePanel};
+ghost use Rattle.keymap_draw.specs.Letters.{PairsAreLetters, CapitalsAreOfOneLetter, LettersHaveOneCapital};
+ghost use Rattle.keymap_draw.specs.Letters.{MarksAreOfTheirAccents};
 ghost use Rattle.keymap_draw.specs.Legends.{cell_legend};
-ghost use Rattle.keymap_draw.specs.Pictures.{picture};
+ghost use Rattle.keymap_draw.specs.Pictures.{picture_with};
 ghost use Rattle.keymap_draw.specs.Places.{size_class, legend_classes, IsClass};
 ghost use Rattle.keymap_draw.specs.Titles.{squeezed};
-ghost use Rattle.keymap_draw.specs.WellFormed.{IsPlain, IsShown, IsWellFormed};
+ghost use Rattle.keymap_draw.specs.WellFormed.{IsPlain, IsShown, IsSeen, IsWellFormed};
 
 /// A cap has the class of the red ones exactly if one of the findings is of its key.
 pub fn red_caps_are_findings()
@@ -25,21 +28,27 @@ pub fn red_caps_are_findings()
         → key_class fs slot e ≡ Some red }
 {}
 
-/// A picture is well formed: texts and tags of a few elements, each of which ends by its own end tag, with a few
-/// attributes. So nothing of a keymap can begin an element, an attribute or a link.
+/// A picture is well formed: one element that holds all others, texts and tags of a few elements, each of which ends by
+/// its own end tag, with a few attributes, none twice. No two ids are the same, and each link leads to an id that
+/// stands before it. So nothing of a keymap can begin an element, an attribute or a link.
 pub fn pictures_are_well_formed()
-    ensures { (m : MapValue) (board : BoardValue) → IsMap m → IsWellFormed (picture m board) }
+    ensures { (m : MapValue) (fs : List FindingValue) (board : BoardValue) → IsMap m
+        → IsWellFormed (picture_with m fs board) }
 {}
 
 /// Each byte of a picture is LF or a printable character of ASCII.
 pub fn pictures_are_plain()
-    ensures { (m : MapValue) (board : BoardValue) → IsMap m → All IsPlain (picture m board) }
+    ensures { (m : MapValue) (fs : List FindingValue) (board : BoardValue) → IsMap m
+        → All IsPlain (picture_with m fs board) }
 {}
 
 /// Each character of a legend is one that XML 1.0 allows, and no control character, whether it stands as it is or by a
-/// reference.
+/// reference; and none, of legends and of titles, is one that nobody sees or that turns the direction of writing.
 pub fn legends_are_shown()
-    ensures { (cell : CellValue) → IsCell cell → All IsShown (cell_legend cell) }
+    ensures shown { (cell : CellValue) → IsCell cell → All IsShown (cell_legend cell) }
+    ensures seen { (cell : CellValue) → IsCell cell → All IsSeen (cell_legend cell) }
+    ensures key { (slot : ℕ) (e : EntryValue) → slot < 256 → All IsCell e.cells → All IsSeen (slot_words slot e) }
+    ensures accent { (i : ℕ) (accent : AccentValue) → IsAccent accent → All IsSeen (accent_words i accent) }
 {}
 
 /// The classes of a key, of a legend and of a character of an accent are letters out of a fixed list, whatever the
@@ -58,4 +67,26 @@ pub fn titles_are_printed_lines()
     ensures key { (slot : ℕ) (e : EntryValue) → All IsCell e.cells
         → squeezed (key_line slot e) ≡ slot_words slot e ++ codes "\n" }
     ensures accent { (i : ℕ) (accent : AccentValue) → accent_line i accent ≡ accent_words i accent ++ codes "\n" }
+{}
+
+/// A board is rows of keys, one behind the other: each key code stands on it once, no two caps overlap, and all lie on
+/// the panel.
+pub fn boards_are_keyboards()
+    ensures rows { BoardsAreKeyboards }
+    ensures once { EachKeyOnce }
+    ensures apart { NoTwoOverlap }
+    ensures on_panel { AllLieOnThePanel }
+{}
+
+/// A capital stands for its small letter too exactly if the two are among the letters of five alphabets; each capital
+/// belongs to one small letter, and each small letter has one capital.
+pub fn capitals_are_of_one_letter()
+    ensures letters { PairsAreLetters }
+    ensures capitals { CapitalsAreOfOneLetter }
+    ensures small { LettersHaveOneCapital }
+{}
+
+/// The mark on the cap of a dead key is that of the accent that the dead key's name says.
+pub fn marks_are_of_their_accents()
+    ensures { MarksAreOfTheirAccents }
 {}

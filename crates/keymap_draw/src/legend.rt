@@ -5,9 +5,9 @@ ghost use Rattle.keymap_draw.specs.Legends as spec;
 
 use crate::tables::{ACCENT_MARKS, CODED, MARKS, Range, UNSEEN_NAMES, UnseenName};
 use arrayvec::ArrayVec;
-use itoa::Buffer;
-use keymap_core::{Action, Cell, code_text};
+use keymap_core::{Action, Cell, code_text, is_unseen};
 use keymap_text::control_name;
+use messages::small;
 
 /// The characters of a legend.
 pub(crate) type Legend = ArrayVec<char, 8>;
@@ -38,9 +38,8 @@ fn numbered_word(letters: &[u8], number: u8) -> Legend
     requires { length letters.now ≤ 4 }
     ensures { result.items ≡ letters.now ++ decimal number }
 {
-    let mut digits = Buffer::new();
     let mut legend = word(letters);
-    push_letters(&mut legend, digits.format(number).as_bytes());
+    push_letters(&mut legend, small(number).as_slice());
     legend
 }
 
@@ -73,16 +72,13 @@ fn is_in(ranges: &[Range], c: char) -> bool
 }
 
 /// The name that the rows have for the character, filled with blanks to five bytes.
-#[tactic(auto, using(crate::proofs::Found::name_rules))]
 fn name_in(rows: &[UnseenName], c: char) -> Option<[u8; 5]>
     ensures { result ≡ spec.name_in rows.now c }
 {
-    for row in rows {
-        if row.0 == u32::from(c) {
-            return Some(row.1);
-        }
+    match rows.iter().find(|row| row.0 == u32::from(c)) {
+        Some(row) => Some(row.1),
+        None => None,
     }
-    None
 }
 
 /// The word of the letters before the blanks that fill a name.
@@ -103,7 +99,7 @@ fn unfilled(name: &[u8; 5]) -> Legend
 fn is_coded(c: char) -> bool
     ensures { result ≡ spec.is_coded c }
 {
-    is_in(&CODED, c)
+    is_unseen(c) || is_in(&CODED, c)
 }
 
 #[tactic(auto, unfolding(crate::specs::Legends::is_mark))]

@@ -5,13 +5,14 @@
 //! which classes, `Keys` a key, `Halves` a board, `Lists` what stands below, `Pictures` the whole.
 //!
 //! It is proved that its bytes are those of the definition; and in [`laws`] that these bytes are plain ASCII and well
-//! formed in the sense of `WellFormed`, that legends have characters of XML alone and classes are out of a list, that
-//! titles are lines of the printed form, and that a cap is red exactly if one of the findings is of its key. That an
-//! XML reader reads it is tested: no law says that one element holds all others, or that a tag has no attribute twice.
+//! formed in the sense of `WellFormed`, that legends have characters of XML alone that can be seen and classes are out
+//! of a list, that titles are lines of the printed form, that a cap is red exactly if one of the findings is of its
+//! key, and that the tables of keys, capitals and marks are those of `Keyboards` and `Letters`.
 #![tactic(auto)]
 
 mod board;
 mod constants;
+mod drawing;
 mod drawn;
 mod half;
 mod key;
@@ -22,6 +23,8 @@ mod markup;
 mod place;
 mod tables;
 mod whole;
+mod words;
 
 pub use board::Board;
+pub use key::finding_words;
 pub use whole::picture;

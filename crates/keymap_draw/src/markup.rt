@@ -1,31 +1,33 @@
-//! The parts of the markup: numbers, texts with references, classes and text elements.
-ghost use Rattle.std.specs.Prelude.{◌≡◌, ◌++◌, OnOk, decimal};
+//! The parts of the markup: words with numbers, texts with references, classes and text elements.
+ghost use Rattle.std.specs.Prelude.{◌≡◌, ◌++◌, ◌∷◌, [], IsTrue, OnOk, decimal, option_to_list};
 ghost use Rattle.std.specs.List.{flat_map};
+ghost use Rattle.messages.specs.Filled.{has_places};
 ghost use Rattle.keymap_draw.specs.Markup as spec;
 
-use itoa::Buffer;
+use crate::words::{CLASS, TEXT, TEXT_END};
 use keymap_core::code_digits;
+use messages::{fill, number};
 use std::alloc::AllocError;
 
-pub(crate) fn push_number(text: &mut Vec<u8>, number: u32) -> Result<(), AllocError>
-    ensures { OnOk result (text.new.items ≡ text.old.items ++ decimal number) }
+/// Whether something could be added: there may be no memory for it.
+pub(crate) type Added = Result<(), AllocError>;
+
+/// Adds words with a number at their place.
+pub(crate) fn push_one(text: &mut Vec<u8>, words: &[u8], n: u32) -> Added
+    requires { IsTrue (has_places words.now (decimal n ∷ [])) }
+    ensures { OnOk result (text.new.items ≡ text.old.items ++ spec.one words.now n) }
 {
-    let mut digits = Buffer::new();
-    text.extend_from_slice(digits.format(number).as_bytes())
+    fill(text, words, &[number(u64::from(n)).as_slice()])
 }
 
-/// Adds a number between two texts.
-pub(crate) fn push_between(
-    text: &mut Vec<u8>,
-    before: &[u8],
-    number: u32,
-    after: &[u8],
-) -> Result<(), AllocError>
-    ensures { OnOk result (text.new.items ≡ text.old.items ++ spec.between before.now number after.now) }
+/// Adds words with a number at each of their two places.
+pub(crate) fn push_two(text: &mut Vec<u8>, words: &[u8], x: u32, y: u32) -> Added
+    requires { IsTrue (has_places words.now (decimal x ∷ decimal y ∷ [])) }
+    ensures { OnOk result (text.new.items ≡ text.old.items ++ spec.two words.now x y) }
 {
-    text.extend_from_slice(before)?;
-    push_number(text, number)?;
-    text.extend_from_slice(after)
+    let x = number(u64::from(x));
+    let y = number(u64::from(y));
+    fill(text, words, &[x.as_slice(), y.as_slice()])
 }
 
 /// Whether the character is written as a reference.
@@ -36,7 +38,7 @@ fn is_referred(c: char) -> bool
 }
 
 /// Adds the reference to a character.
-fn push_reference(text: &mut Vec<u8>, c: char) -> Result<(), AllocError>
+fn push_reference(text: &mut Vec<u8>, c: char) -> Added
     ensures { OnOk result (text.new.items ≡ text.old.items ++ spec.reference c) }
 {
     text.extend_from_slice(b"&#x")?;
@@ -46,7 +48,7 @@ fn push_reference(text: &mut Vec<u8>, c: char) -> Result<(), AllocError>
 
 /// Adds a character, or the reference to it.
 #[tactic(auto, unfolding(crate::specs::Markup::escaped))]
-pub(crate) fn push_character(text: &mut Vec<u8>, c: char) -> Result<(), AllocError>
+pub(crate) fn push_character(text: &mut Vec<u8>, c: char) -> Added
     ensures { OnOk result (text.new.items ≡ text.old.items ++ spec.escaped c) }
 {
     if is_referred(c) {
@@ -56,7 +58,7 @@ pub(crate) fn push_character(text: &mut Vec<u8>, c: char) -> Result<(), AllocErr
 }
 
 /// Adds characters.
-pub(crate) fn push_characters(text: &mut Vec<u8>, characters: &[char]) -> Result<(), AllocError>
+pub(crate) fn push_characters(text: &mut Vec<u8>, characters: &[char]) -> Added
     ensures { OnOk result (text.new.items ≡ text.old.items ++ flat_map spec.escaped characters.now) }
 {
     for c in characters {
@@ -66,7 +68,7 @@ pub(crate) fn push_characters(text: &mut Vec<u8>, characters: &[char]) -> Result
 }
 
 /// Adds the characters that bytes are.
-pub(crate) fn push_escaped(text: &mut Vec<u8>, bytes: &[u8]) -> Result<(), AllocError>
+pub(crate) fn push_escaped(text: &mut Vec<u8>, bytes: &[u8]) -> Added
     ensures { OnOk result (text.new.items ≡ text.old.items ++ flat_map spec.escaped bytes.now) }
 {
     for byte in bytes {
@@ -76,7 +78,7 @@ pub(crate) fn push_escaped(text: &mut Vec<u8>, bytes: &[u8]) -> Result<(), Alloc
 }
 
 /// Adds each class with a blank before it.
-fn push_further(text: &mut Vec<u8>, letters: &[u8]) -> Result<(), AllocError>
+fn push_further(text: &mut Vec<u8>, letters: &[u8]) -> Added
     ensures { OnOk result (text.new.items ≡ text.old.items ++ flat_map spec.further_class letters.now) }
 {
     for letter in letters {
@@ -87,13 +89,13 @@ fn push_further(text: &mut Vec<u8>, letters: &[u8]) -> Result<(), AllocError>
 
 /// Adds the attribute of classes, each of which is a letter, or nothing where there is none.
 #[tactic(auto, unfolding(crate::specs::Markup::class_text))]
-pub(crate) fn push_classes(text: &mut Vec<u8>, letters: &[u8]) -> Result<(), AllocError>
+pub(crate) fn push_classes(text: &mut Vec<u8>, letters: &[u8]) -> Added
     ensures { OnOk result (text.new.items ≡ text.old.items ++ spec.class_text letters.now) }
 {
     match letters.split_first() {
         None => Ok(()),
         Some((first, rest)) => {
-            text.extend_from_slice(b" class=\"")?;
+            text.extend_from_slice(CLASS)?;
             text.extend_from_slice(&[*first])?;
             push_further(text, rest)?;
             text.extend_from_slice(b"\"")
@@ -101,19 +103,22 @@ pub(crate) fn push_classes(text: &mut Vec<u8>, letters: &[u8]) -> Result<(), All
     }
 }
 
+/// Adds the attribute of a class, or nothing where there is none.
+pub(crate) fn push_class(text: &mut Vec<u8>, class: Option<u8>) -> Added
+    ensures { OnOk result (text.new.items ≡ text.old.items ++ spec.class_text (option_to_list class)) }
+{
+    match class {
+        Some(letter) => push_classes(text, &[letter]),
+        None => push_classes(text, &[]),
+    }
+}
+
 /// Begins a text element.
 #[tactic(auto, unfolding(crate::specs::Markup::open_text))]
-pub(crate) fn push_open(
-    text: &mut Vec<u8>,
-    x: u32,
-    y: u32,
-    letters: &[u8],
-) -> Result<(), AllocError>
+pub(crate) fn push_open(text: &mut Vec<u8>, x: u32, y: u32, letters: &[u8]) -> Added
     ensures { OnOk result (text.new.items ≡ text.old.items ++ spec.open_text x y letters.now) }
 {
-    push_between(text, b"<text x=\"", x, b"\" y=\"")?;
-    push_number(text, y)?;
-    text.extend_from_slice(b"\"")?;
+    push_two(text, TEXT, x, y)?;
     push_classes(text, letters)?;
     text.extend_from_slice(b">")
 }
@@ -126,21 +131,11 @@ pub(crate) fn push_text(
     y: u32,
     letters: &[u8],
     characters: &[char],
-) -> Result<(), AllocError>
+) -> Added
     ensures { OnOk result (text.new.items
         ≡ text.old.items ++ spec.text_element x y letters.now characters.now) }
 {
     push_open(text, x, y, letters)?;
     push_characters(text, characters)?;
-    text.extend_from_slice(b"</text>")
-}
-
-/// Adds where a group stands.
-pub(crate) fn push_translate(text: &mut Vec<u8>, x: u32, y: u32) -> Result<(), AllocError>
-    ensures { OnOk result (text.new.items ≡ text.old.items ++ spec.translate x y) }
-{
-    push_between(text, b" transform=\"translate(", x, b" ")?;
-    push_number(text, y)?;
-    text.extend_from_slice(b")\">")?;
-    Ok(())
+    text.extend_from_slice(TEXT_END)
 }

@@ -18,7 +18,19 @@ pub(crate) enum Column {
 }
 
 impl Column {
-    ghost use Rattle.keymap_draw.specs.Places.{is_right as is_right_of, is_above as is_above_of};
+    ghost use Rattle.keymap_draw.specs.Places.{is_right as is_right_of, is_above as is_above_of, beside_of};
+
+    /// The column beside it.
+    pub(crate) fn beside(self) -> Column
+        ensures { result ≡ beside_of self }
+    {
+        match self {
+            Column::Base => Column::Alt,
+            Column::Shift => Column::AltShift,
+            Column::Alt => Column::Base,
+            Column::AltShift => Column::Shift,
+        }
+    }
 
     /// Whether it stands on the right.
     fn is_right(self) -> bool

@@ -44,28 +44,21 @@ pub(crate) static UNSEEN_NAMES: [UnseenName; 20] = [
     UnseenName(0xfeff, *b"bom  "),
 ];
 
-/// What XML forbids, what nobody sees, what turns the direction, and what no font has.
-pub(crate) static CODED: [Range; 20] = [
-    Range(0x80, 0x9f),
-    Range(0x115f, 0x1160),
+/// Beside what a terminal doesn't show: blanks, what is private or no character, and what no font has.
+pub(crate) static CODED: [Range; 13] = [
     Range(0x1680, 0x1680),
-    Range(0x180b, 0x180f),
-    Range(0x2000, 0x200f),
-    Range(0x2028, 0x202f),
-    Range(0x205f, 0x206f),
+    Range(0x2000, 0x200a),
+    Range(0x202f, 0x202f),
+    Range(0x205f, 0x205f),
     Range(0x2800, 0x2800),
     Range(0x3000, 0x3000),
-    Range(0x3164, 0x3164),
     Range(0xe000, 0xf8ff),
     Range(0xfdd0, 0xfdef),
-    Range(0xfe00, 0xfe0f),
-    Range(0xffa0, 0xffa0),
-    Range(0xfff0, 0xfffb),
     Range(0xfffe, 0xffff),
     Range(0x1_fffe, 0x1_ffff),
     Range(0x2_fffe, 0x2_ffff),
     Range(0x3_fffe, 0x3_ffff),
-    Range(0xe_0000, 0x10_ffff),
+    Range(0xe_1000, 0x10_ffff),
 ];
 
 /// Marks that would stand alone. Those of complex scripts get their circle from whoever sets the text.

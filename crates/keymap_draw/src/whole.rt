@@ -1,201 +1,164 @@
 //! The whole picture.
-ghost use Rattle.std.specs.Prelude.{◌≡◌, ◌++◌, ◌+◌, ◌≤◌, ◌<◌, ◌^◌, OnOk, IfOk, length};
+ghost use Rattle.std.specs.Prelude.{◌≡◌, ◌++◌, ◌∷◌, [], ◌≤◌, ◌<◌, OnOk, IfOk, All, length};
+ghost use Rattle.keymap_core.specs.Numbers.{accent_limit};
 ghost use Rattle.keymap_draw.specs.Pictures as spec;
 
 use crate::board::Board;
-use crate::constants::{DESCRIPTION, KEY_TO_COLOURS, SHAPES, STYLE};
-use crate::half::{Half, half_height, push_half};
+use crate::constants::{SHAPES, STYLE};
+use crate::drawing::Drawing;
+use crate::half::{Half, half_height, other_keys, push_half};
 use crate::lists::{
     accents_height, findings_height, named_accents, push_accents, push_findings, push_silent,
     silent_accents, silent_height,
 };
-use crate::markup::push_between;
-use keymap_check::{Finding, check};
-use keymap_core::KeyMap;
+use crate::markup::{Added, push_one};
+use crate::words::{ACCEPTED, BEGIN, END, PAGE, REFUSED};
+use arrayvec::ArrayVec;
+use keymap_check::Report;
+use keymap_core::{KEY_COUNT, KeyMap};
+use messages::{either, fill, number};
 use std::alloc::{AllocError, Global};
 
-/// Where the drawing of the upper half begins.
-#[tactic(auto, unfolding(crate::specs::Pictures::upper_y))]
-fn upper_y(map: &KeyMap, board: Board) -> u32
-    ensures value { result ≡ spec.upper_y map.now board }
-    ensures low { result ≤ 906 }
-{
-    16 + half_height(map, Half::Lower, board)
+/// Where the parts of the picture begin: the upper half, the findings, the accents, the dead keys without one, and the
+/// key to the colours.
+#[derive(Clone, Copy, Debug, PartialEq, Eq)]
+struct Starts {
+    upper: u32,
+    findings: u32,
+    accents: u32,
+    silent: u32,
+    key: u32,
 }
 
-/// Where the findings begin.
-#[tactic(auto, unfolding(crate::specs::Pictures::findings_y))]
-fn findings_y(map: &KeyMap, board: Board) -> u32
-    ensures value { result ≡ spec.findings_y map.now board }
-    ensures low { result ≤ 1796 }
+/// Where the parts begin, of a picture with so many keys below the boards, accents and dead keys without one.
+fn starts_of(drawing: &Drawing, lower: usize, upper: usize, named: usize, silent: usize) -> Starts
+    requires lower { lower ≤ 128 }
+    requires upper { upper ≤ 128 }
+    requires named { named ≤ 15 }
+    ensures value { result ≡ spec.starts_of drawing.now lower upper named silent }
+    ensures upper { result.upper ≤ 906 }
+    ensures findings { result.findings ≤ 1796 }
+    ensures accents { result.accents ≤ 3124 }
+    ensures silent { result.silent ≤ 3944 }
+    ensures key { result.key ≤ 4042 }
 {
-    let upper = upper_y(map, board);
-    if map.is_upper_live() {
-        upper + half_height(map, Half::Upper, board)
+    let upper_half = 16 + half_height(lower);
+    let findings = if drawing.is_upper_live() {
+        upper_half + half_height(upper)
     } else {
-        upper
+        upper_half
+    };
+    let accents = findings + findings_height(drawing.findings().len());
+    let silent_row = accents + accents_height(named);
+    Starts {
+        upper: upper_half,
+        findings,
+        accents,
+        silent: silent_row,
+        key: silent_row + silent_height(silent) + 16,
     }
-}
-
-/// Where the accents begin, below so many findings.
-#[tactic(auto, unfolding(crate::specs::Pictures::accents_y))]
-fn accents_y(map: &KeyMap, board: Board, count: usize) -> u32
-    requires { count ≤ 128 }
-    ensures value { result ≡ spec.accents_y map.now board count }
-    ensures low { result ≤ 3124 }
-{
-    findings_y(map, board) + findings_height(count)
-}
-
-/// Where the dead keys without an accent begin.
-#[tactic(auto, unfolding(crate::specs::Pictures::silent_y))]
-fn silent_y(map: &KeyMap, board: Board, count: usize) -> u32
-    requires { count ≤ 128 }
-    ensures value { result ≡ spec.silent_y map.now board count }
-    ensures low { result ≤ 3944 }
-{
-    accents_y(map, board, count) + accents_height(named_accents(map).len())
-}
-
-/// Where the key to the colours begins.
-#[tactic(auto, unfolding(crate::specs::Pictures::key_y))]
-fn key_y(map: &KeyMap, board: Board, count: usize) -> u32
-    requires { count ≤ 128 }
-    ensures value { result ≡ spec.key_y map.now board count }
-    ensures low { result ≤ 4042 }
-{
-    silent_y(map, board, count) + silent_height(silent_accents(map).len()) + 16
-}
-
-fn push_verdict(text: &mut Vec<u8>, count: usize) -> Result<(), AllocError>
-    ensures { OnOk result (text.new.items ≡ text.old.items ++ spec.verdict count) }
-{
-    if count == 0 {
-        text.extend_from_slice(b"accepted")
-    } else {
-        text.extend_from_slice(b"refused")
-    }
-}
-
-/// Begins the picture, with its title and what it shows in words.
-fn push_begin(text: &mut Vec<u8>, count: usize, height: u32) -> Result<(), AllocError>
-    ensures { OnOk result (text.new.items ≡ text.old.items ++ spec.begin count height) }
-{
-    push_between(
-        text,
-        b"<svg xmlns=\"http://www.w3.org/2000/svg\" width=\"1492\" height=\"",
-        height,
-        b"\" viewBox=\"0 0 1492 ",
-    )?;
-    push_between(
-        text,
-        b"",
-        height,
-        b"\" role=\"graphics-document document\" aria-labelledby=\"title desc\" lang=\"en\">\n",
-    )?;
-    text.extend_from_slice(b"<title id=\"title\">Console keymap, ")?;
-    push_verdict(text, count)?;
-    text.extend_from_slice(b"</title>\n<desc id=\"desc\">")?;
-    text.extend_from_slice(&DESCRIPTION)?;
-    text.extend_from_slice(b"</desc>\n")?;
-    Ok(())
 }
 
 /// Adds the head of the picture: its begin, the style, the shapes and the page.
 #[tactic(auto, unfolding(crate::specs::Pictures::head))]
-fn push_head(text: &mut Vec<u8>, count: usize, height: u32) -> Result<(), AllocError>
+fn push_head(text: &mut Vec<u8>, count: usize, height: u32) -> Added
     ensures { OnOk result (text.new.items ≡ text.old.items ++ spec.head count height) }
 {
-    push_begin(text, count, height)?;
+    let high = number(u64::from(height));
+    let verdict = either(count == 0, ACCEPTED, REFUSED);
+    fill(text, BEGIN, &[high.as_slice(), high.as_slice(), verdict])?;
     text.extend_from_slice(&STYLE)?;
     text.extend_from_slice(&SHAPES)?;
-    push_between(
-        text,
-        b"<rect class=\"page\" width=\"1492\" height=\"",
-        height,
-        b"\"/>\n",
-    )
+    push_one(text, PAGE, height)
 }
 
 /// Adds the drawing of the upper half, if it is live.
 #[tactic(auto, unfolding(crate::specs::Pictures::upper))]
-fn push_upper(
-    text: &mut Vec<u8>,
-    map: &KeyMap,
-    findings: &[Finding],
-    board: Board,
-) -> Result<(), AllocError>
-    requires { length findings.now ≤ 128 }
-    ensures { OnOk result (text.new.items ≡ text.old.items ++ spec.upper map.now findings.now board) }
+fn push_upper(text: &mut Vec<u8>, drawing: &Drawing, keys: &[u8], y: u32) -> Added
+    requires low { y ≤ 906 }
+    requires few { length keys.now ≤ 128 }
+    ensures { OnOk result (text.new.items ≡ text.old.items ++ spec.upper drawing.now keys.now y) }
 {
-    if !map.is_upper_live() {
-        return Ok(());
+    if drawing.is_upper_live() {
+        push_half(text, drawing, Half::Upper, keys, y)
+    } else {
+        Ok(())
     }
-    let y = upper_y(map, board);
-    push_half(text, map, findings, Half::Upper, board, y)
 }
 
-/// Adds what stands below the keys.
-#[tactic(auto, unfolding(crate::specs::Pictures::lists))]
-fn push_lists(
+/// The keys of the upper half that the board doesn't have, if that half is drawn.
+fn upper_keys(drawing: &Drawing) -> ArrayVec<u8, KEY_COUNT>
+    ensures keys { result.items ≡ spec.upper_keys drawing.now }
+    ensures few { length result.items ≤ 128 }
+{
+    if drawing.is_upper_live() {
+        other_keys(drawing, Half::Upper)
+    } else {
+        ArrayVec::new()
+    }
+}
+
+/// Adds a picture with these keys below the boards, accents and dead keys without one.
+#[tactic(auto, unfolding(crate::specs::Pictures::drawn_with))]
+fn push_drawn(
     text: &mut Vec<u8>,
-    map: &KeyMap,
-    findings: &[Finding],
-    board: Board,
-) -> Result<(), AllocError>
-    requires { length findings.now ≤ 128 }
-    ensures { OnOk result (text.new.items ≡ text.old.items ++ spec.lists map.now findings.now board) }
+    drawing: &Drawing,
+    lower: &[u8],
+    upper: &[u8],
+    named: &[u8],
+    silent: &[u8],
+) -> Added
+    requires lower { length lower.now ≤ 128 }
+    requires upper { length upper.now ≤ 128 }
+    requires named { length named.now ≤ 15 }
+    requires silent { length silent.now ≤ 15 }
+    requires are_named { All (λ i. i < accent_limit) named.now }
+    requires are_silent { All (λ i. i < accent_limit) silent.now }
+    ensures { OnOk result (text.new.items
+        ≡ text.old.items ++ spec.drawn_with drawing.now lower.now upper.now named.now silent.now) }
 {
-    let count = findings.len();
-    push_findings(text, findings, findings_y(map, board))?;
-    let named = named_accents(map);
-    push_accents(text, map, named.as_slice(), accents_y(map, board, count))?;
-    let silent = silent_accents(map);
-    push_silent(text, silent.as_slice(), silent_y(map, board, count))
+    let findings = drawing.findings();
+    let starts = starts_of(drawing, lower.len(), upper.len(), named.len(), silent.len());
+    push_head(text, findings.len(), starts.key + 76)?;
+    push_half(text, drawing, Half::Lower, lower, 16)?;
+    push_upper(text, drawing, upper, starts.upper)?;
+    push_findings(text, findings, starts.findings)?;
+    push_accents(text, drawing.map(), named, starts.accents)?;
+    push_silent(text, silent, starts.silent)?;
+    push_one(text, END, starts.key)
 }
 
-/// Adds the key to the colours, and ends the picture.
-fn push_end(text: &mut Vec<u8>, y: u32) -> Result<(), AllocError>
-    ensures { OnOk result (text.new.items ≡ text.old.items ++ spec.end y) }
+/// Adds the picture of a drawing.
+#[tactic(auto, unfolding(crate::specs::Pictures::picture_of))]
+fn push_picture(text: &mut Vec<u8>, drawing: &Drawing) -> Added
+    ensures { OnOk result (text.new.items ≡ text.old.items ++ spec.picture_of drawing.now) }
 {
-    push_between(
+    let lower = other_keys(drawing, Half::Lower);
+    let upper = upper_keys(drawing);
+    let named = named_accents(drawing.map());
+    let silent = silent_accents(drawing);
+    push_drawn(
         text,
-        b"<g aria-hidden=\"true\" transform=\"translate(0 ",
-        y,
-        b")\">",
-    )?;
-    text.extend_from_slice(&KEY_TO_COLOURS)?;
-    text.extend_from_slice(b"</g>\n</svg>\n")?;
-    Ok(())
+        drawing,
+        lower.as_slice(),
+        upper.as_slice(),
+        named.as_slice(),
+        silent.as_slice(),
+    )
 }
 
-/// Adds the picture of a keymap, of which the check has these findings.
-#[tactic(auto, unfolding(crate::specs::Pictures::picture_with))]
-fn push_picture(
-    text: &mut Vec<u8>,
-    map: &KeyMap,
-    findings: &[Finding],
-    board: Board,
-) -> Result<(), AllocError>
-    requires { length findings.now ≤ 128 }
-    ensures { OnOk result (text.new.items ≡ text.old.items ++ spec.picture_with map.now findings.now board) }
-{
-    let y = key_y(map, board, findings.len());
-    push_head(text, findings.len(), y + 76)?;
-    push_half(text, map, findings, Half::Lower, board, 16)?;
-    push_upper(text, map, findings, board)?;
-    push_lists(text, map, findings, board)?;
-    push_end(text, y)
-}
-
-/// The picture of a keymap on a board, as SVG.
+/// The picture of a keymap on a board, as SVG, with the findings of a report on it.
 ///
-/// It is a function of the keymap and the board alone.
-pub fn picture(alloc: Global, map: &KeyMap, board: Board) -> Result<Vec<u8>, AllocError>
-    ensures { IfOk result (λ text. text.items ≡ spec.picture map.now board) }
+/// It is a function of the keymap, the findings and the board alone.
+pub fn picture(
+    alloc: Global,
+    map: &KeyMap,
+    report: &Report,
+    board: Board,
+) -> Result<Vec<u8>, AllocError>
+    ensures { IfOk result (λ text. text.items ≡ spec.picture_with map.now report.now.findings board) }
 {
-    let report = check(map);
     let mut text = Vec::new(alloc);
-    push_picture(&mut text, map, report.findings().as_slice(), board)?;
+    push_picture(&mut text, &Drawing::new(map, report, board))?;
     Ok(text)
 }

@@ -41,6 +41,22 @@ fn lint<'a>(alloc: Global) -> Result<Command<'a>, AllocError> {
         .arg(texts)
 }
 
+fn fmt<'a>(alloc: Global) -> Result<Command<'a>, AllocError> {
+    let texts = file(alloc, "TEXT", "The keymap texts").num_args(1..);
+    let check = flag(
+        alloc,
+        "check",
+        "Writes nothing, and fails where a text is not in the layout",
+    );
+    let print = flag(alloc, "print", "Prints the texts in the layout instead");
+    Command::new(alloc, "fmt")
+        .about("Writes keymap texts in one layout, and changes nothing else")
+        .after_help("Example: kmap fmt de.kbd us.kbd{n}{n}kmap(1) tells what the layout is.")
+        .arg(texts)?
+        .arg(check.conflicts_with("print")?)?
+        .arg(print)
+}
+
 fn search<'a>(alloc: Global) -> Result<Command<'a>, AllocError> {
     Command::new(alloc, "search")
         .about("Decides whether key presses can leave a modifier on")
@@ -79,6 +95,15 @@ fn type_sentence<'a>(alloc: Global) -> Result<Command<'a>, AllocError> {
         .arg(file(alloc, "SENTENCE", "The sentence, in UTF-8"))
 }
 
+fn cover<'a>(alloc: Global) -> Result<Command<'a>, AllocError> {
+    Command::new(alloc, "cover")
+        .about("Prints a script that tests a console with all that a keymap can do")
+        .after_help(
+            "Example: kmap cover us.kbd > us.script{n}{n}kmap(1) tells what the script tries.",
+        )
+        .arg(file(alloc, "TEXT", "The keymap text"))
+}
+
 fn compile<'a>(alloc: Global) -> Result<Command<'a>, AllocError> {
     Command::new(alloc, "compile")
         .about("Writes the table file of a keymap text")
@@ -86,7 +111,7 @@ fn compile<'a>(alloc: Global) -> Result<Command<'a>, AllocError> {
             "Example: kmap compile de.kbd de.tables{n}{n}kmap(1) tells what OUT is good for.",
         )
         .arg(file(alloc, "TEXT", "The keymap text"))?
-        .arg(file(alloc, "OUT", "The table file to create or overwrite"))?
+        .arg(file(alloc, "OUT", "The table file to create or replace"))?
         .arg(flag(
             alloc,
             "narrow",
@@ -122,19 +147,21 @@ fn without_subcommands<'a>(alloc: Global) -> Command<'a> {
         .arg_required_else_help(true)
 }
 
-/// Adds the subcommands that judge a keymap.
+/// Adds the subcommands that judge a keymap or its text, and the one that lays texts out.
 fn with_checks<'a>(alloc: Global, program: Command<'a>) -> Result<Command<'a>, AllocError> {
     program
         .subcommand(check(alloc)?)?
         .subcommand(search(alloc)?)?
-        .subcommand(lint(alloc)?)
+        .subcommand(lint(alloc)?)?
+        .subcommand(fmt(alloc)?)
 }
 
 /// Adds the subcommands on what a console answers.
 fn with_scripts<'a>(alloc: Global, program: Command<'a>) -> Result<Command<'a>, AllocError> {
     program
         .subcommand(play(alloc)?)?
-        .subcommand(type_sentence(alloc)?)
+        .subcommand(type_sentence(alloc)?)?
+        .subcommand(cover(alloc)?)
 }
 
 /// Adds the subcommands for table files, and the one that draws.
@@ -149,6 +176,17 @@ fn with_tables<'a>(alloc: Global, program: Command<'a>) -> Result<Command<'a>, A
 pub(crate) fn command<'a>(alloc: Global) -> Result<Command<'a>, AllocError> {
     let judging = with_checks(alloc, without_subcommands(alloc))?;
     with_tables(alloc, with_scripts(alloc, judging)?)
+}
+
+/// What is done with the layout of a text.
+#[derive(Clone, Copy)]
+pub(crate) enum FmtMode {
+    /// It is written in place of the text.
+    Write,
+    /// It is compared with the text.
+    Check,
+    /// It is printed.
+    Print,
 }
 
 /// What the words ask for.
@@ -170,6 +208,10 @@ pub(crate) enum Request<'m, 'a> {
     Lint {
         texts: &'m [&'a str],
     },
+    Fmt {
+        texts: &'m [&'a str],
+        mode: FmtMode,
+    },
     Search {
         text: &'a str,
         next: Option<&'a str>,
@@ -183,6 +225,9 @@ pub(crate) enum Request<'m, 'a> {
     Type {
         text: &'a str,
         sentence: &'a str,
+    },
+    Cover {
+        text: &'a str,
     },
     Draw {
         text: &'a str,
@@ -218,6 +263,20 @@ fn lint_request<'m, 'a>(words: &'m ArgMatches<'a>) -> Option<Request<'m, 'a>> {
     })
 }
 
+fn fmt_request<'m, 'a>(words: &'m ArgMatches<'a>) -> Option<Request<'m, 'a>> {
+    let mode = if words.get_flag("check") {
+        FmtMode::Check
+    } else if words.get_flag("print") {
+        FmtMode::Print
+    } else {
+        FmtMode::Write
+    };
+    Some(Request::Fmt {
+        texts: words.get_strs("TEXT")?,
+        mode,
+    })
+}
+
 fn search_request<'m, 'a>(words: &'m ArgMatches<'a>) -> Option<Request<'m, 'a>> {
     Some(Request::Search {
         text: words.get_str("TEXT")?,
@@ -241,6 +300,12 @@ fn type_request<'m, 'a>(words: &'m ArgMatches<'a>) -> Option<Request<'m, 'a>> {
     })
 }
 
+fn cover_request<'m, 'a>(words: &'m ArgMatches<'a>) -> Option<Request<'m, 'a>> {
+    Some(Request::Cover {
+        text: words.get_str("TEXT")?,
+    })
+}
+
 fn draw_request<'m, 'a>(words: &'m ArgMatches<'a>) -> Option<Request<'m, 'a>> {
     Some(Request::Draw {
         text: words.get_str("TEXT")?,
@@ -256,9 +321,11 @@ pub(crate) fn request_of<'m, 'a>(matches: &'m ArgMatches<'a>) -> Option<Request<
         "compile" => compile_request(words),
         "check" => check_request(words),
         "lint" => lint_request(words),
+        "fmt" => fmt_request(words),
         "search" => search_request(words),
         "play" => play_request(words),
         "type" => type_request(words),
+        "cover" => cover_request(words),
         "draw" => draw_request(words),
         _ => None,
     }

@@ -5,7 +5,9 @@
 #![tactic(auto)]
 
 mod command_line;
+mod format;
 mod program;
+mod replace;
 
 use keymap_core::ToStd;
 use std::process::ExitCode;

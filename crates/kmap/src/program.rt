@@ -1,16 +1,18 @@
 //! One run of the program: the words, the files that they name, and the exit status.
 use crate::command_line::{Request, command, request_of};
+use crate::format::format_texts;
+use crate::replace::{ReplaceFault, Replacement};
 use clap::error::{Error, ErrorKind};
-use keymap_core::{FromStd, KeyMap, ToStd, Write, write_text};
+use keymap_core::{FromStd, ToStd, Write, write_text};
 use keymap_draw::Board;
-use keymap_tables::{write_narrow, write_tables};
-use keymap_text::read_from;
+use keymap_lint_text::shown_name;
+use keymap_tables::{NARROW_FILE, WIDE_FILE};
 use kmap_runs::{
-    RunError, check_run, draw_run, dump_narrow_run, dump_run, lint_run, narrow_failure,
-    play_failure, search_next_run, search_run, text_failure, type_run, write_run_error,
+    RunError, check_run, compile_narrow_run, compile_run, cover_run, draw_run, dump_narrow_run,
+    dump_run, file_error_line, lint_run, play_run, search_run, type_run, write_run_error,
 };
-use play_core::{PlayError, Show, play, play_next};
-use std::alloc::AllocError;
+use play_core::Show;
+use std::alloc::{AllocError, Global};
 use std::convert::AsStr;
 use std::io::BufReader;
 use std::process::ExitCode;
@@ -19,21 +21,27 @@ use std::{env, fs, io};
 
 /// Why the program ends with status 1, besides a refused map.
 #[derive(Drop)]
-enum Failure<'a> {
+pub(crate) enum Failure<'a> {
     Run(RunError),
+    /// The line of the error tells the file too.
+    OfFile(&'a str, RunError),
     CannotOpen(&'a str),
+    NotRegular(&'a str),
     CannotCreate(&'a str),
+    /// The new file that is to take the place of another can't be made.
+    CannotCreateNew(String),
+    CannotReplace(&'a str),
 }
 
 /// The status where the words are wrong.
 const WRONG_WORDS: u8 = 2;
 
 /// How many bytes of a file are asked for at once.
-const READ_AHEAD: usize = 65_536;
+const READ_AHEAD: usize = 16_384;
 
 /// A file that is read. The libraries ask for few bytes at a time, and the buffer asks the file for many. It hands on
 /// what one read of the file gave before it reads again, so what comes by a pipe or a terminal isn't waited for.
-type Source<F> = FromStd<BufReader<F>>;
+pub(crate) type Source<F> = FromStd<BufReader<F>>;
 
 /// Does what the words of the command line ask for. A fault is one line to `faults`.
 pub(crate) fn run<R, W>(rt: &R, faults: &mut W) -> ExitCode
@@ -103,7 +111,10 @@ where
 {
     match command(rt.alloc())?.try_get_matches_from(words) {
         Ok(matches) => match request_of(&matches) {
-            Some(request) => Ok(status(is_well(answer(rt, request, faults), faults))),
+            Some(request) => {
+                let outcome = answer(rt, request, faults);
+                Ok(status(is_well(rt.alloc(), outcome, faults)))
+            }
             None => no_text(rt),
         },
         Err(error) => refused(rt, error),
@@ -121,7 +132,10 @@ fn refused<R: Print + Eprint>(rt: &R, error: Error) -> Result<ExitCode, AllocErr
 
 /// Tells that the words are no text.
 fn no_text<R: AllocGlobal + Print + Eprint>(rt: &R) -> Result<ExitCode, AllocError> {
-    let refusal = command(rt.alloc())?.error(ErrorKind::InvalidValue, "an argument is no UTF-8")?;
+    let refusal = command(rt.alloc())?.error(
+        ErrorKind::InvalidValue,
+        "an argument is not valid UTF-8",
+    )?;
     let _ = refusal.print(rt);
     Ok(ExitCode::from(WRONG_WORDS))
 }
@@ -135,30 +149,65 @@ fn status(is_well: bool) -> ExitCode {
 }
 
 /// Whether all is well. A failure also gets its line.
-fn is_well<W: Write>(outcome: Result<bool, Failure<'_>>, faults: &mut W) -> bool {
+pub(crate) fn is_well<W: Write>(
+    alloc: Global,
+    outcome: Result<bool, Failure<'_>>,
+    faults: &mut W,
+) -> bool {
     match outcome {
         Ok(well) => well,
         Err(failure) => {
-            report(&failure, faults);
+            report(alloc, &failure, faults);
             false
         }
     }
 }
 
 /// Writes the line of a failure. Where that can't be done, the status stays.
-fn report<W: Write>(failure: &Failure<'_>, faults: &mut W) {
+fn report<W: Write>(alloc: Global, failure: &Failure<'_>, faults: &mut W) {
     match failure {
-        Failure::Run(error) => {
+        Failure::Run(error) | Failure::OfFile(_, error @ RunError::Memory) => {
             let _ = write_run_error(error, faults);
         }
-        Failure::CannotOpen(name) => report_name(b"kmap: cannot open ", name, faults),
-        Failure::CannotCreate(name) => report_name(b"kmap: cannot create ", name, faults),
+        Failure::OfFile(name, error) => report_of_file(alloc, name, error, faults),
+        Failure::CannotOpen(name) => report_name(alloc, b"kmap: cannot open ", name, b"\n", faults),
+        Failure::NotRegular(name) => report_name(
+            alloc,
+            b"kmap: ",
+            name,
+            b": not a regular file\n",
+            faults,
+        ),
+        Failure::CannotCreate(name) => {
+            report_name(alloc, b"kmap: cannot create ", name, b"\n", faults);
+        }
+        Failure::CannotCreateNew(name) => {
+            report_name(alloc, b"kmap: cannot create ", name.as_str(), b"\n", faults);
+        }
+        Failure::CannotReplace(name) => {
+            report_name(alloc, b"kmap: cannot replace ", name, b"\n", faults);
+        }
     }
 }
 
-fn report_name<W: Write>(front: &[u8], name: &str, faults: &mut W) {
-    if write_text(faults, front).is_ok() && write_text(faults, name.as_bytes()).is_ok() {
-        let _ = write_text(faults, b"\n");
+fn report_of_file<W: Write>(alloc: Global, name: &str, error: &RunError, faults: &mut W) {
+    let _ = match file_error_line(alloc, name.as_bytes(), error) {
+        Ok(line) => write_text(faults, line.as_slice()),
+        Err(AllocError) => write_run_error(&RunError::Memory, faults),
+    };
+}
+
+/// Writes a line that has the name of a file, as it is shown.
+fn report_name<W: Write>(alloc: Global, front: &[u8], name: &str, end: &[u8], faults: &mut W) {
+    match shown_name(alloc, name.as_bytes()) {
+        Ok(shown) => {
+            if write_text(faults, front).is_ok() && write_text(faults, shown.as_slice()).is_ok() {
+                let _ = write_text(faults, end);
+            }
+        }
+        Err(AllocError) => {
+            let _ = write_run_error(&RunError::Memory, faults);
+        }
     }
 }
 
@@ -172,10 +221,8 @@ where
     match request {
         Request::Check { text, show } => check(rt, text, show),
         Request::Lint { texts } => lint(rt, texts, faults),
-        Request::Search { text, next } => match next {
-            Some(next) => search_two(rt, text, next),
-            None => search_one(rt, text),
-        },
+        Request::Fmt { texts, mode } => format_texts(rt, mode, texts, faults),
+        Request::Search { text, next } => search(rt, text, next),
         Request::Dump { tables, narrow } => well(dump(rt, tables, narrow)),
         Request::Compile { text, out, narrow } => well(compile(rt, text, out, narrow)),
         Request::Play {
@@ -185,12 +232,10 @@ where
             typed,
         } => {
             let show = if typed { Show::Typed } else { Show::Lines };
-            well(match next {
-                Some(next) => play_two(rt, show, text, next, script),
-                None => play_one(rt, show, text, script),
-            })
+            well(play(rt, show, text, next, script))
         }
         Request::Type { text, sentence } => well(type_sentence(rt, text, sentence)),
+        Request::Cover { text } => well(cover(rt, text)),
         Request::Draw { text, ansi } => well(draw(rt, text, ansi)),
     }
 }
@@ -218,7 +263,10 @@ where
 {
     let mut source = opened(rt, text)?;
     let mut out = ToStd::new(io::writer(rt));
-    run_outcome(lint_run(rt.alloc(), text.as_bytes(), &mut source, &mut out))
+    match lint_run(rt.alloc(), text.as_bytes(), &mut source, &mut out) {
+        Err(error @ RunError::Read(..)) => Err(Failure::OfFile(text, error)),
+        outcome => run_outcome(outcome),
+    }
 }
 
 /// Whether no text has an error. One that can't be read gets its line, and the next one follows; where the output
@@ -234,29 +282,20 @@ where
             Err(Failure::Run(RunError::Write(fault))) => {
                 return Err(Failure::Run(RunError::Write(fault)));
             }
-            outcome => well = is_well(outcome, faults) && well,
+            outcome => well = is_well(rt.alloc(), outcome, faults) && well,
         }
     }
     Ok(well)
 }
 
-fn search_one<'a, R>(rt: &R, text: &'a str) -> Result<bool, Failure<'a>>
-where
-    R: AllocGlobal + Files + Print,
-{
-    let mut source = opened(rt, text)?;
-    let mut out = ToStd::new(io::writer(rt));
-    run_outcome(search_run(rt.alloc(), &mut source, &mut out))
-}
-
-fn search_two<'a, R>(rt: &R, text: &'a str, next: &'a str) -> Result<bool, Failure<'a>>
+fn search<'a, R>(rt: &R, text: &'a str, next: Option<&'a str>) -> Result<bool, Failure<'a>>
 where
     R: AllocGlobal + Files + Print,
 {
     let mut text = opened(rt, text)?;
-    let mut next = opened(rt, next)?;
+    let mut next = opened_if_named(rt, next)?;
     let mut out = ToStd::new(io::writer(rt));
-    run_outcome(search_next_run(rt.alloc(), &mut text, &mut next, &mut out))
+    run_outcome(search_run(rt.alloc(), &mut text, &mut next, &mut out))
 }
 
 fn run_outcome<'a, T>(outcome: Result<T, RunError>) -> Result<T, Failure<'a>> {
@@ -279,66 +318,108 @@ where
     })
 }
 
-fn write_file<W: Write>(map: &KeyMap, narrow: bool, out: &mut W) -> Result<(), RunError> {
-    if narrow {
-        match write_narrow(map, out) {
-            Ok(()) => Ok(()),
-            Err(error) => Err(narrow_failure(error)),
-        }
-    } else {
-        write_tables(map, out).map_err(RunError::Write)
+/// Whether a file of this name can be replaced by a new one. A pipe, a device or a folder can't, nor can a link to
+/// nothing; and what the program was given as an open file is to be written there, whatever file it is.
+fn is_replaceable<R: Files>(rt: &R, out: &str) -> bool {
+    match fs::symlink_metadata(rt, out) {
+        Ok(found) if found.is_symlink() && is_of_the_system(out) => false,
+        Ok(_) => fs::metadata(rt, out).is_ok_and(|file| file.is_file()),
+        Err(_) => !out.is_empty(),
     }
 }
 
-/// The table file is created only once the text was read whole, so a fault of it leaves an old one as it is. A map that
-/// doesn't fit in a narrow file leaves an empty one.
+/// Whether a link of this name may stand for an open file, as /dev/stdout and /proc/self/fd/1 do.
+fn is_of_the_system(name: &str) -> bool {
+    name.starts_with("/dev/") || name.starts_with("/proc/")
+}
+
+/// The table file is made before OUT is touched, so a fault of the text leaves an old OUT as it is; and so does a fault of
+/// writing, since a new file takes the place of the old one. A keymap that doesn't fit in a narrow file leaves an empty
+/// OUT, which nobody takes for its tables.
 fn compile<'a, R>(rt: &R, text: &'a str, out: &'a str, narrow: bool) -> Result<(), Failure<'a>>
 where
     R: AllocGlobal + Files,
 {
     let mut source = opened(rt, text)?;
-    let map = match read_from(rt.alloc(), &mut source) {
-        Ok(map) => map,
-        Err(error) => return Err(Failure::Run(text_failure(error))),
+    let mut table = [0; WIDE_FILE];
+    let mut room = ToStd::new(table.as_mut_slice());
+    let (outcome, size) = if narrow {
+        let outcome = compile_narrow_run(rt.alloc(), &mut source, &mut room);
+        (outcome, NARROW_FILE)
+    } else {
+        let outcome = compile_run(rt.alloc(), &mut source, &mut room);
+        (outcome, WIDE_FILE)
     };
-    let Ok(file) = fs::create(rt, out) else {
-        return Err(Failure::CannotCreate(out));
-    };
-    run_outcome(write_file(&map, narrow, &mut ToStd::new(file)))
-}
-
-fn play_outcome<'a>(outcome: Result<(), PlayError>) -> Result<(), Failure<'a>> {
     match outcome {
-        Ok(()) => Ok(()),
-        Err(error) => Err(Failure::Run(play_failure(error))),
+        Ok(()) => write_table(rt, &table[..size], out),
+        Err(RunError::TooWide(wide)) => {
+            write_table(rt, &[], out)?;
+            Err(Failure::Run(RunError::TooWide(wide)))
+        }
+        Err(error) => Err(Failure::Run(error)),
     }
 }
 
-fn play_one<'a, R>(rt: &R, show: Show, text: &'a str, script: &'a str) -> Result<(), Failure<'a>>
+/// Writes a table file under this name.
+fn write_table<'a, R>(rt: &R, table: &[u8], out: &'a str) -> Result<(), Failure<'a>>
 where
-    R: AllocGlobal + Files + Print,
+    R: AllocGlobal + Files,
 {
-    let mut text = opened(rt, text)?;
-    let mut script = opened(rt, script)?;
-    let mut out = ToStd::new(io::writer(rt));
-    play_outcome(play(rt.alloc(), show, &mut text, &mut script, &mut out))
+    if is_replaceable(rt, out) {
+        match replace_tables(rt, table, out) {
+            Ok(()) => Ok(()),
+            Err(fault) => Err(compile_failure(out, fault)),
+        }
+    } else {
+        let Ok(file) = fs::create(rt, out) else {
+            return Err(Failure::CannotCreate(out));
+        };
+        run_outcome(write_text(&mut ToStd::new(file), table).map_err(RunError::Write))
+    }
 }
 
-fn play_two<'a, R>(
+/// What a new table file has behind the name of the old one until it takes its place.
+const NEW_TABLES: &str = ".kmap-new";
+
+fn replace_tables<R>(rt: &R, table: &[u8], out: &str) -> Result<(), ReplaceFault>
+where
+    R: AllocGlobal + Files,
+{
+    let replacement = Replacement::new(rt, out, fs::metadata(rt, out).ok(), NEW_TABLES)?;
+    let mut file = replacement.create(rt)?;
+    let written = match write_text(&mut ToStd::new(&mut file), table) {
+        Ok(()) => Ok(table.len() as u64),
+        Err(fault) => Err(RunError::Write(fault)),
+    };
+    replacement.finish(rt, &file, written)
+}
+
+/// Why no table file of this name was written.
+fn compile_failure<'a>(out: &'a str, fault: ReplaceFault) -> Failure<'a> {
+    match fault {
+        ReplaceFault::Memory => Failure::Run(RunError::Memory),
+        ReplaceFault::NotWritable | ReplaceFault::CannotCreate(_) => Failure::CannotCreate(out),
+        ReplaceFault::Exists(name) => Failure::CannotCreateNew(name),
+        ReplaceFault::Write(error) => Failure::Run(error),
+        ReplaceFault::CannotReplace => Failure::CannotReplace(out),
+    }
+}
+
+fn play<'a, R>(
     rt: &R,
     show: Show,
     text: &'a str,
-    next: &'a str,
+    next: Option<&'a str>,
     script: &'a str,
 ) -> Result<(), Failure<'a>>
 where
     R: AllocGlobal + Files + Print,
 {
     let mut text = opened(rt, text)?;
-    let mut next = opened(rt, next)?;
+    let mut next = opened_if_named(rt, next)?;
     let mut script = opened(rt, script)?;
     let mut out = ToStd::new(io::writer(rt));
-    play_outcome(play_next(
+    run_outcome(play_run(
         rt.alloc(),
         show,
         &mut text,
@@ -358,6 +439,15 @@ where
     run_outcome(type_run(rt.alloc(), &mut text, &mut sentence, &mut out))
 }
 
+fn cover<'a, R>(rt: &R, text: &'a str) -> Result<(), Failure<'a>>
+where
+    R: AllocGlobal + Files + Print,
+{
+    let mut source = opened(rt, text)?;
+    let mut out = ToStd::new(io::writer(rt));
+    run_outcome(cover_run(rt.alloc(), &mut source, &mut out))
+}
+
 fn draw<'a, R>(rt: &R, text: &'a str, ansi: bool) -> Result<(), Failure<'a>>
 where
     R: AllocGlobal + Files + Print,
@@ -368,7 +458,7 @@ where
     run_outcome(draw_run(rt.alloc(), &mut source, board, &mut out))
 }
 
-fn opened<'a, R: AllocGlobal + Files>(
+pub(crate) fn opened<'a, R: AllocGlobal + Files>(
     rt: &R,
     name: &'a str,
 ) -> Result<Source<R::File>, Failure<'a>> {
@@ -378,5 +468,16 @@ fn opened<'a, R: AllocGlobal + Files>(
     match BufReader::with_capacity(rt.alloc(), READ_AHEAD, file) {
         Ok(buffered) => Ok(FromStd::new(buffered)),
         Err(_) => Err(Failure::Run(RunError::Memory)),
+    }
+}
+
+/// The second text, where one is named.
+fn opened_if_named<'a, R: AllocGlobal + Files>(
+    rt: &R,
+    name: Option<&'a str>,
+) -> Result<Option<Source<R::File>>, Failure<'a>> {
+    match name {
+        Some(name) => Ok(Some(opened(rt, name)?)),
+        None => Ok(None),
     }
 }

@@ -1,10 +1,4 @@
-mod DrawRuns
-mod LintAscii
-mod LintExcerpt
-mod LintPieces
-mod LintPlain
-mod Pieces
+mod Chained
+mod Covered
 mod Replayed
 mod Scripts
-mod SearchRuns
-mod TypeRuns

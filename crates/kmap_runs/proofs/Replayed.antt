@@ -31,9 +31,8 @@ use Rattle.keymap_check.specs.Scripts.{demonstration_of}
 use Rattle.keymap_check.proofs.Demonstrated.{demonstrations_leave_modifiers_on}
 use Rattle.play_core.specs.declared.sent.Sent.{Sent}
 use Rattle.play_core.specs.declared.show.Show.TheVariants as show
-use Rattle.play_core.specs.Playing.{moves, ReadsScript, Plays}
 use Rattle.play_core.specs.Scripts.{IsScript}
-use Rattle.play_core.specs.Spelling.{sends, says, has_line_feed, IsWritable, sent_of, event_line}
+use Rattle.play_core.specs.Spelling.{sends, says, line_text, has_line_feed, IsWritable, sent_of, event_line}
 use Rattle.play_core.specs.Typing.{alone, way_for, events_in, events_for, IsTyped}
 use Rattle.play_core.specs.Written.{typed_text, text_after, played_text}
 use Rattle.play_core.proofs.Sentences.{way-types}
@@ -42,11 +41,15 @@ use Rattle.play_core.proofs.Verdicts.{one_list}
 use Rattle.keymap_core.specs.CodePoints.{digit_at, upper_digits, code_digits, code_text}
 use Rattle.kmap_runs.specs.Report.{holding_name, check_text, demonstration_text, report}
 use Rattle.kmap_runs.specs.Search.{name_if_on, script_text, undecided_text}
-use Rattle.kmap_runs.specs.TypeRuns.{TypesSentence}
-use Rattle.kmap_runs.specs.Typing.{is_hidden, shown, is_line_feed, comment_if, event_lines, lines_from, typing_script}
+use Rattle.kmap_runs.specs.Inputs.{moves}
+use Rattle.kmap_runs.specs.Runs.{TypesSentence, PlaysTexts}
+use Rattle.keymap_core.specs.Unseen.{is_unseen}
+use Rattle.kmap_runs.specs.Typing.{shown, is_line_feed, comment_if, event_lines, lines_from, typing_script}
 use Rattle.kmap_runs.specs.Replayed.{ScriptTypes, Delivers, ScriptSticks, AnswerReplays, AnswerReplaysBetween}
 use Rattle.kmap_runs.specs.Replayed.{ShowsScript}
 use Rattle.keymap_core.proofs.Lists.{All-reversed}
+use Rattle.kmap_runs.specs.declared.words.TheConstants as words
+use Rattle.messages.specs.Filled.{filled}
 
 -- ---- comments stand in one line
 
@@ -100,18 +103,18 @@ feed-code c =
     (feed-append (upper_digits c) digits (feed-upper _ _ c) (feed-lower c))
 
 -- a line feed is hidden
-not_feed : (c : ℕ) → is_hidden c ≡ false → c ≢ 10
-not_feed c h e = true≢false (subst (λ x. is_hidden x ≡ false) e h)
+not_feed : (c : ℕ) → is_unseen c ≡ false → c ≢ 10
+not_feed c h e = true≢false (subst (λ x. is_unseen x ≡ false) e h)
 
 -- the bytes of a character that is not hidden
-feed-encoded : (c : ℕ) → is_hidden c ≡ false → has_line_feed (encode_utf8 c) ≡ false
+feed-encoded : (c : ℕ) → is_unseen c ≡ false → has_line_feed (encode_utf8 c) ≡ false
 feed-encoded c h =
     let bytes : encode_utf8 c ≡ encode_utf8 c ++ [] = sym (append-nil (encode_utf8 c)) in
     feed-each (encode_utf8 c)
     (λ k lt e. not_feed c h (inside_one c [] (encode_utf8 c) k bytes lt (omega (arith, e)) ∙ e))
 
 -- what is shown of a character, whether it is hidden
-feed-shown_by : (t : Bool) (c : ℕ) → is_hidden c ≡ t
+feed-shown_by : (t : Bool) (c : ℕ) → is_unseen c ≡ t
     → has_line_feed (if t then code_text c else encode_utf8 c) ≡ false
 feed-shown_by true c e = feed-code c
 feed-shown_by false c e = feed-encoded c e
@@ -119,7 +122,7 @@ feed-shown_by false c e = feed-encoded c e
 -- what is shown of a character
 feed-shown : (c : ℕ) → has_line_feed (shown c) ≡ false
 unfolding shown
-feed-shown c = feed-shown_by (is_hidden c) c refl
+feed-shown c = feed-shown_by (is_unseen c) c refl
 
 -- the name of a modifier
 feed-name : (i : Modifier) → has_line_feed (codes " " ++ holding_name (holding.Mod i)) ≡ false
@@ -157,13 +160,36 @@ events-before (e ∷ events) rest sent keys h =
     (writable e (All-head HasKey e events keys))
     (events-before events rest sent (All-tail HasKey e events keys) h))
 
+-- the comments, as what they say
+sentence-line : (t : List ℕ) → filled words.SENTENCE.now (t ∷ []) ≡ line_text (says (codes " " ++ t))
+unfolding filled
+sentence-line t = refl
+
+sticks-line : (t : List ℕ) → filled words.STICKS.now (t ∷ []) ≡ line_text (says (codes " sticks:" ++ t))
+unfolding filled
+sticks-line t = refl
+
+never-line : filled words.NEVER_STICKS.now [] ≡ line_text (says (codes " never sticks"))
+unfolding filled
+never-line = refl
+
+undecided-line : (t : List ℕ)
+    → filled words.UNDECIDED.now (t ∷ [])
+    ≡ line_text (says (codes " undecided: no list of up to " ++ (t ++ codes " presses sticks")))
+unfolding filled
+undecided-line t =
+    ap (λ l. codes "# undecided: no list of up to " ++ l)
+    (sym (append_assoc t (codes " presses sticks") (codes "\n")))
+
 -- a comment before a script, if there is one
 comment-before : (starts : Bool) (cs rest : List ℕ) (sent : List Sent) → IsScript rest sent
     → IsScript (comment_if starts cs ++ rest) sent
 comment-before true cs rest sent h =
     let first : List ℕ = before_first is_line_feed cs in
-    line-script (says (codes " " ++ flat_map shown first)) rest sent
-    (feed-append (codes " ") (flat_map shown first) refl (feed-flat shown feed-shown first)) h
+    let line : List ℕ = flat_map shown first in
+    subst (λ t. IsScript (t ++ rest) sent) (sym (sentence-line line))
+    (line-script (says (codes " " ++ line)) rest sent
+    (feed-append (codes " ") line refl (feed-flat shown feed-shown first)) h)
 comment-before false cs rest sent h = h
 
 -- ---- the script that types a sentence
@@ -235,39 +261,44 @@ script-sticks ms IsSo events keys on =
     let is_on : Modifier → Bool = λ i. is_on_after ms i (reverse events) in
     let names : List ℕ = flat_map (name_if_on is_on) modifiers in
     sticks-by IsSo (script_text ms events) events
+    (subst (λ t. IsScript (t ++ flat_map event_line events) (map sent_of events)) (sym (sticks-line names))
     (line-script (says (codes " sticks:" ++ names)) (flat_map event_line events) (map sent_of events)
     (feed-append (codes " sticks:") names refl
     (feed-flat (name_if_on is_on) (λ i. feed-name_if (is_on i) i) modifiers))
-    (events-script events (keys-of events keys)))
+    (events-script events (keys-of events keys))))
     on
 
 -- a comment alone is a script of no events
-said : (text : List ℕ) → has_line_feed text ≡ false → IsScript ((35 ∷ text) ++ 10 ∷ []) []
-said text feed =
-    subst (λ t. IsScript t []) (append-nil ((35 ∷ text) ++ 10 ∷ [])) (line-script (says text) [] [] feed script-nil)
+said : (line text : List ℕ) → line ≡ line_text (says text) → has_line_feed text ≡ false → IsScript line []
+said line text same feed =
+    subst (λ t. IsScript t []) (append-nil (line_text (says text)) ∙ sym same)
+    (line-script (says text) [] [] feed script-nil)
+
+said-never : IsScript (filled words.NEVER_STICKS.now []) []
+said-never = said (filled words.NEVER_STICKS.now []) (codes " never sticks") never-line refl
 
 -- a number of 64 bits is written in digits
 number : (p : ℕ) → p < 2 ^ 64 → AllDigits 10 (decimal p)
 number p small = (decimal_is_IsNumeral p small).0.1
 
 -- that the search gave up is a script of no events
-said-undecided : (p : ℕ) → p < 2 ^ 64 → IsScript (undecided_text p ++ codes "\n") []
+said-undecided : (p : ℕ) → p < 2 ^ 64 → IsScript (undecided_text p) []
 said-undecided p small =
-    said ((codes " undecided: no list of up to " ++ decimal p) ++ codes " presses sticks")
-    (feed-append (codes " undecided: no list of up to " ++ decimal p) (codes " presses sticks")
-    (feed-append (codes " undecided: no list of up to ") (decimal p) refl (digits_feed (decimal p) (number p small)))
-    refl)
+    said (undecided_text p) (codes " undecided: no list of up to " ++ (decimal p ++ codes " presses sticks"))
+    (undecided-line (decimal p))
+    (feed-append (codes " undecided: no list of up to ") (decimal p ++ codes " presses sticks") refl
+    (feed-append (decimal p) (codes " presses sticks") (digits_feed (decimal p) (number p small)) refl))
 
 pub answer-replays : (m : MapValue) (found : Sticking) → IsAnswer m found → AnswerReplays m found
 answer-replays m (Sticks events) answer =
     script-sticks (between m m) (LeavesOn m) events.items answer.0.0 answer.0
-answer-replays m Never answer = said (codes " never sticks") refl
+answer-replays m Never answer = said-never
 answer-replays m (Undecided p) answer = said-undecided p
 
 pub answer-replays-between : (ms : Maps) (found : Sticking) → IsAnswerBetween ms found → AnswerReplaysBetween ms found
 answer-replays-between ms (Sticks events) answer =
     script-sticks ms (LeavesOnBetween ms) events.items answer.0.0 answer.0
-answer-replays-between ms Never answer = said (codes " never sticks") refl
+answer-replays-between ms Never answer = said-never
 answer-replays-between ms (Undecided p) answer = said-undecided p
 
 -- ---- a sentence that was typed and played
@@ -294,21 +325,18 @@ typed-once m cs bytes sent t h =
 
 pub comes-back : (text sentence script typed : List ℕ) (t s u v : Option (List ℕ))
     → TypesSentence (moves (Some text) t) (moves (Some sentence) s) (moves (Some []) (Some script)) (Ok tt)
-    → Plays show.Typed (moves (Some text) u) (moves (Some script) v) (moves (Some []) (Some typed)) (Ok tt)
+    → PlaysTexts show.Typed (moves (Some text) u) None (moves (Some script) v) (moves (Some []) (Some typed)) (Ok tt)
     → typed ≡ sentence
-comes-back text sentence script typed t s u v types plays = elim plays [
-  | inl refused ↦ absurd refused.0
-  | inr played ↦
-      let m : MapValue = types.0 in
-      let cs : List ℕ = types.1 in
-      let run : ReadsScript (moves (Some script) v) played.2.0 = played.2.1 in
-      let printed : run.script ≡ typing_script m cs = sym (taken-whole script run.script v run.takes) ∙ types.3 in
-      let same : m ≡ played.0 = same-map text t u m played.0 types.2.reads played.1 in
-      played.2.2 ∙ ap (λ n. played_text show.Typed (alone n) played.2.0) (sym same)
-      ∙ typed-once m cs types.2.bytes played.2.0 types.2.typed
-      (subst (λ x. IsScript x played.2.0) printed run.events)
-      ∙ sym (taken-whole sentence types.2.bytes s types.2.takes)
-]
+comes-back text sentence script typed t s u v ((m, bytes), told, (read, whole), (cs, is_typed, same_told), appends)
+    (((n, None), events), played, ((read_again, nothing), taken), (sent, is_script, same_shown), appended) =
+    let script_is : script ≡ typing_script m cs = appends ∙ same_told in
+    let events_are : events ≡ typing_script m cs = sym (taken-whole script events v taken) ∙ script_is in
+    let same : m ≡ n = same-map text t u m n read read_again in
+    appended ∙ same_shown ∙ ap (λ n. played_text show.Typed (alone n) sent) (sym same)
+    ∙ typed-once m cs bytes sent is_typed (subst (λ x. IsScript x sent) events_are is_script)
+    ∙ sym (taken-whole sentence bytes s whole)
+comes-back text sentence script typed t s u v first
+    (((n, Some other), events), played, ((again, none), taken), rest, appended) = absurd none
 
 -- the report with its demonstration, whether there is one
 shows-by : (m : MapValue) (o : Option (List Event)) → demonstration_of m ≡ o

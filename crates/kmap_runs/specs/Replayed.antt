@@ -1,5 +1,5 @@
 -- What the printed scripts do when they are played back.
-use Rattle.std.specs.Prelude.{◌≡◌, ◌⊎◌, ◌<◌, ◌^◌, ℕ, List, [], ◌++◌, codes, reverse}
+use Rattle.std.specs.Prelude.{◌≡◌, ◌⊎◌, ◌<◌, ◌^◌, ℕ, List, [], ◌++◌, reverse}
 use Rattle.keymap_core.specs.Maps.{MapValue}
 use Rattle.console_core.specs.declared.outcome.Sticking.{Sticking}
 use Rattle.console_core.specs.declared.outcome.Sticking.TheVariants.{Sticks, Never, Undecided}
@@ -14,6 +14,7 @@ use Rattle.play_core.specs.Scripts.{IsScript}
 use Rattle.play_core.specs.Typing.{alone}
 use Rattle.play_core.specs.Written.{played_text}
 use Rattle.kmap_runs.specs.Report.{check_text}
+use Rattle.kmap_runs.specs.declared.words.TheConstants as words
 use Rattle.kmap_runs.specs.Search.{found_text}
 
 -- The text is a script, and played on a new console of the map alone it types the bytes.
@@ -48,6 +49,6 @@ AnswerReplaysBetween ms found = FoundReplays ms (LeavesOnBetween ms) found
 -- Behind the report of the check stands that there is no demonstration, or a script that leaves a modifier on.
 abbrev pub ShowsScript : MapValue → List ℕ → Type 0
 ShowsScript m text =
-    (text ≡ check_text (report_of m) ++ codes "demonstration: none\n")
-    ⊎ ((script : List ℕ) × (text ≡ check_text (report_of m) ++ (codes "demonstration:\n" ++ script))
+    (text ≡ check_text (report_of m) ++ words.NO_DEMONSTRATION.now)
+    ⊎ ((script : List ℕ) × (text ≡ check_text (report_of m) ++ (words.DEMONSTRATION.now ++ script))
     × ScriptSticks m script)

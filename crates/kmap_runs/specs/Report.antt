@@ -1,5 +1,6 @@
 -- The report of the check, as text.
 use Rattle.std.specs.Prelude.{ℕ, Bool, true, false, List, [], ◌∷◌, ◌++◌, codes, decimal, Option, None, Some}
+use Rattle.std.specs.Prelude.{if◌then◌else◌}
 use Rattle.std.specs.List.{flat_map}
 use Rattle.keymap_core.specs.declared.action.Holding.{Holding}
 use Rattle.keymap_core.specs.declared.action.Holding.TheVariants as holding
@@ -9,52 +10,47 @@ use Rattle.console_core.specs.declared.event.Event.{Event}
 use Rattle.keymap_check.specs.declared.bearer.Bearer.{Bearer}
 use Rattle.keymap_check.specs.declared.bearer.Bearer.TheVariants.{Nobody, Throughout, Sole, Several}
 use Rattle.keymap_check.specs.declared.finding.Finding.{Finding}
-use Rattle.keymap_check.specs.declared.finding.Place.{Place}
 use Rattle.keymap_check.specs.Report.{ReportValue, report_of, bearer_in, is_steady_in}
 use Rattle.keymap_check.specs.Scripts.{demonstration_of}
+use Rattle.keymap_draw.specs.Keys.{finding_words}
 use Rattle.play_core.specs.Spelling.{event_line}
+use Rattle.kmap_runs.specs.declared.words.TheConstants as words
+use Rattle.messages.specs.Filled.{filled}
 
 abbrev pub holding_name : Holding → List ℕ
 holding_name a = name_of (holding_action a)
 
 abbrev pub verdict_line : List Finding → List ℕ
-verdict_line [] = codes "accepted\n"
-verdict_line (f ∷ fs) = codes "refused\n"
-
-abbrev pub place_text : Place → List ℕ
-place_text p = codes " at slot " ++ decimal p.slot ++ codes " column " ++ decimal p.column
+verdict_line [] = words.ACCEPTED.now
+verdict_line (f ∷ fs) = words.REFUSED.now
 
 -- a key that bears a holding action and has a character
 abbrev pub finding_line : Finding → List ℕ
-finding_line f =
-    codes "key " ++ decimal f.key ++ codes ": " ++ holding_name f.holding ++ place_text f.holding_at
-    ++ codes ", character"
-    ++ place_text f.character_at ++ codes "\n"
-
-abbrev pub bearer_text : Bearer → List ℕ
-bearer_text Nobody = codes " nobody"
-bearer_text (Throughout k) = codes " throughout " ++ decimal k
-bearer_text (Sole k) = codes " sole " ++ decimal k
-bearer_text Several = codes " several"
-
-abbrev pub steady_text : Bool → List ℕ
-steady_text true = codes " steady"
-steady_text false = []
+finding_line f = finding_words f ++ codes "\n"
 
 -- only a lock can be steady
 abbrev pub is_reported_steady : ReportValue → Holding → Bool
 is_reported_steady r (holding.Mod m) = false
 is_reported_steady r (holding.Lock l) = is_steady_in r l
 
+abbrev pub steady_text : Bool → List ℕ
+steady_text is_steady = if is_steady then words.STEADY.now else []
+
+abbrev pub bearer_line : Bearer → List ℕ → List ℕ → List ℕ
+bearer_line Nobody name steady = filled words.NOBODY.now (name ∷ steady ∷ [])
+bearer_line (Throughout k) name steady = filled words.THROUGHOUT.now (name ∷ decimal k ∷ steady ∷ [])
+bearer_line (Sole k) name steady = filled words.SOLE.now (name ∷ decimal k ∷ steady ∷ [])
+bearer_line Several name steady = filled words.SEVERAL.now (name ∷ steady ∷ [])
+
 abbrev pub holding_line : ReportValue → Holding → List ℕ
-holding_line r a = holding_name a ++ bearer_text (bearer_in r a) ++ steady_text (is_reported_steady r a) ++ codes "\n"
+holding_line r a = bearer_line (bearer_in r a) (holding_name a) (steady_text (is_reported_steady r a))
 
 abbrev pub check_text : ReportValue → List ℕ
 check_text r = verdict_line r.findings ++ flat_map finding_line r.findings ++ flat_map (holding_line r) holdings
 
 abbrev pub demonstration_text : Option (List Event) → List ℕ
-demonstration_text None = codes "demonstration: none\n"
-demonstration_text (Some events) = codes "demonstration:\n" ++ flat_map event_line events
+demonstration_text None = words.NO_DEMONSTRATION.now
+demonstration_text (Some events) = words.DEMONSTRATION.now ++ flat_map event_line events
 
 -- the demonstration comes only where it is asked for
 abbrev pub shown_text : Bool → MapValue → List ℕ

@@ -1,5 +1,5 @@
 -- What the search for sticking modifiers found, as a script.
-use Rattle.std.specs.Prelude.{ℕ, Bool, true, false, List, [], ◌++◌, codes, decimal, reverse, if◌then◌else◌}
+use Rattle.std.specs.Prelude.{ℕ, Bool, true, false, List, [], ◌∷◌, ◌++◌, codes, decimal, reverse, if◌then◌else◌}
 use Rattle.std.specs.List.{flat_map}
 use Rattle.keymap_core.specs.declared.action.Modifier.{Modifier}
 use Rattle.keymap_core.specs.declared.action.Holding.TheVariants as holding
@@ -10,6 +10,8 @@ use Rattle.console_core.specs.declared.outcome.Sticking.TheVariants.{Sticks, Nev
 use Rattle.console_core.specs.History.{Maps, is_on_after}
 use Rattle.play_core.specs.Spelling.{event_line}
 use Rattle.kmap_runs.specs.Report.{holding_name}
+use Rattle.kmap_runs.specs.declared.words.TheConstants as words
+use Rattle.messages.specs.Filled.{filled}
 
 -- the name of a modifier that is on, after a blank
 abbrev pub name_if_on : (Modifier → Bool) → Modifier → List ℕ
@@ -18,18 +20,18 @@ name_if_on is_on i = if is_on i then codes " " ++ holding_name (holding.Mod i) e
 -- which modifiers are on after the events between two maps, and a line for each event
 abbrev pub script_text : Maps → List Event → List ℕ
 script_text ms events =
-    codes "# sticks:" ++ flat_map (name_if_on (λ i. is_on_after ms i (reverse events))) modifiers ++ codes "\n"
+    filled words.STICKS.now (flat_map (name_if_on (λ i. is_on_after ms i (reverse events))) modifiers ∷ [])
     ++ flat_map event_line events
 
 -- no list of up to so many presses leaves a modifier on, and more were not tried
 abbrev pub undecided_text : ℕ → List ℕ
-undecided_text p = codes "# undecided: no list of up to " ++ decimal p ++ codes " presses sticks"
+undecided_text p = filled words.UNDECIDED.now (decimal p ∷ [])
 
 -- what is told of an answer of the search, of one map as of that map twice
 abbrev pub found_text : Maps → Sticking → List ℕ
 found_text ms (Sticks events) = script_text ms events.items
-found_text ms Never = codes "# never sticks\n"
-found_text ms (Undecided p) = undecided_text p ++ codes "\n"
+found_text ms Never = filled words.NEVER_STICKS.now []
+found_text ms (Undecided p) = undecided_text p
 
 abbrev pub is_never : Sticking → Bool
 is_never (Sticks events) = false

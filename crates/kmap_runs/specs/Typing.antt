@@ -1,29 +1,25 @@
 -- The script that types a sentence.
-use Rattle.std.specs.Prelude.{ℕ, ◌==◌, nat_lt, Bool, true, false, ◌||◌, List, [], ◌∷◌, ◌++◌, codes, encode_utf8}
+use Rattle.std.specs.Prelude.{ℕ, ◌==◌, Bool, true, false, List, [], ◌∷◌, ◌++◌, encode_utf8}
 use Rattle.std.specs.Prelude.{if◌then◌else◌}
 use Rattle.std.specs.List.{flat_map, before_first}
-use Rattle.keymap_core.specs.Actions.{within}
 use Rattle.keymap_core.specs.Maps.{MapValue}
+use Rattle.keymap_core.specs.Unseen.{is_unseen}
 use Rattle.play_core.specs.Typing.{way_for, events_in}
 use Rattle.keymap_core.specs.CodePoints.{code_text}
 use Rattle.play_core.specs.Spelling.{event_line}
+use Rattle.kmap_runs.specs.declared.words.TheConstants as words
+use Rattle.messages.specs.Filled.{filled}
 
--- a character that a terminal doesn't show as it is: a control, a mark that can't be seen, or one that turns the
--- direction
-abbrev pub is_hidden : ℕ → Bool
-is_hidden c =
-    nat_lt c 32 || within 127 159 c || (c == 173) || within 0x200b 0x200f c || within 0x2028 0x202e c
-    || within 0x2060 0x206f c || (c == 0xfeff)
-
+-- a character, or its number where a terminal doesn't show it as it is
 unfoldable pub shown : ℕ → List ℕ
-shown c = if is_hidden c then code_text c else encode_utf8 c
+shown c = if is_unseen c then code_text c else encode_utf8 c
 
 abbrev pub is_line_feed : ℕ → Bool
 is_line_feed c = c == 10
 
 -- a comment that shows the first line of the characters
 abbrev pub comment : List ℕ → List ℕ
-comment cs = codes "# " ++ flat_map shown (before_first is_line_feed cs) ++ codes "\n"
+comment cs = filled words.SENTENCE.now (flat_map shown (before_first is_line_feed cs) ∷ [])
 
 abbrev pub comment_if : Bool → List ℕ → List ℕ
 comment_if true cs = comment cs

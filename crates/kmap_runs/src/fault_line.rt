@@ -1,72 +1,98 @@
 //! Why a run failed, and the line that tells it.
-ghost use Rattle.std.specs.Prelude.{◌≡◌, ◌+◌, ◌≤◌, ◌++◌, ◌||◌, length, is_err};
-ghost use Rattle.arrayvec.specs.ArrayVec.{array_vec_len};
+ghost use Rattle.std.specs.Prelude.{◌≡◌, ◌≤◌, ◌||◌, length, is_err, IfOk};
 ghost use Rattle.keymap_core.specs.Devices.{WritesText};
-ghost use Rattle.kmap_runs.specs.FaultLine.{fault_line, message, read_fault, script_fault, table_fault, table_kind};
-ghost use Rattle.kmap_runs.specs.FaultLine.{text_fault, text_kind, too_wide, write_fault};
+ghost use Rattle.kmap_runs.specs.FaultLine as spec;
+ghost use Rattle.kmap_runs.specs.FaultLine.{fault_line, file_fault_line, table_kind};
 
-use crate::text::{append, append_byte, append_number};
-use arrayvec::ArrayVec;
 use keymap_core::{ReadFault, ReadFaultKind, Write, WriteFault, code_text, write_text};
+use keymap_lint_text::shown_name;
 use keymap_tables::{TableFault, TableFaultKind, Wide};
-use keymap_text::{TextFault, TextFaultKind};
+use keymap_text::TextFault;
+use messages::{Line, filled, line, number};
 use play_core::ScriptFault;
+use std::alloc::{AllocError, Global};
 use thiserror::Error;
+
+/// What a run reads.
+#[derive(Clone, Copy, Debug, PartialEq, Eq)]
+pub enum Source {
+    Text,
+    Next,
+    Script,
+    Tables,
+    Sentence,
+}
 
 /// Why a run failed. `write_run_error` writes the line that tells it.
 #[derive(Clone, Copy, Debug, PartialEq, Eq, Error)]
 pub enum RunError {
     #[error("out of memory")]
     Memory,
-    #[error("the text is faulty")]
-    Text(TextFault),
-    #[error("the next text is faulty")]
-    Next(TextFault),
+    #[error("{0:?} is faulty")]
+    Text(Source, TextFault),
     #[error("the script is faulty")]
     Script(ScriptFault),
     #[error("the tables are faulty")]
     Tables(TableFault),
-    #[error("the text cannot be read")]
-    ReadText(ReadFault),
-    #[error("the next text cannot be read")]
-    ReadNext(ReadFault),
-    #[error("the script cannot be read")]
-    ReadScript(ReadFault),
-    #[error("the tables cannot be read")]
-    ReadTables(ReadFault),
-    #[error("the sentence cannot be read")]
-    ReadSentence(ReadFault),
+    #[error("{0:?} cannot be read")]
+    Read(Source, ReadFault),
     #[error("the sentence is not UTF-8")]
     NotText { offset: u64 },
     #[error("no key types a character of the sentence")]
     NoWay { offset: u64, c: char },
     #[error("a character is too wide for a narrow file")]
     TooWide(Wide),
+    #[error("the text is too long when formatted")]
+    TooLong,
+    #[error("the keymap has more states than a search goes over")]
+    TooManyStates,
     #[error("the output cannot be written")]
     Write(WriteFault),
 }
 
-/// How many bytes a line has at most, its end included.
-const LINE: usize = 96;
+// The lines, with a place for each thing that is told.
+pub(crate) const MEMORY: &[u8] = b"kmap: out of memory\n";
 
-type Line = ArrayVec<u8, LINE>;
+pub(crate) const TEXT: &[u8] = b"kmap: {} line {} offset {}: {}\n";
 
-pub(crate) fn text_kind_name(kind: TextFaultKind) -> &'static [u8]
-    ensures name { result.now ≡ text_kind kind }
-    ensures bound { length result.now ≤ 12 }
+pub(crate) const SCRIPT: &[u8] = b"kmap: script line {}: {}\n";
+
+pub(crate) const TABLES: &[u8] = b"kmap: tables offset {}: {}\n";
+
+pub(crate) const READ: &[u8] = b"kmap: {}: read fault at offset {}\n";
+
+pub(crate) const ENDLESS: &[u8] = b"kmap: {}: more than 1048576 bytes\n";
+
+pub(crate) const NOT_TEXT: &[u8] = b"kmap: sentence offset {}: not UTF-8\n";
+
+pub(crate) const NO_WAY: &[u8] = b"kmap: sentence offset {}: no key types {}\n";
+
+pub(crate) const WIDE_CELL: &[u8] = b"kmap: cell too wide at slot {} column {}\n";
+
+pub(crate) const WIDE_ACCENT: &[u8] = b"kmap: accent too wide at accent {} number {}\n";
+
+pub(crate) const TOO_LONG: &[u8] = b"kmap: text: more than 1048576 bytes when formatted\n";
+
+pub(crate) const TOO_MANY_STATES: &[u8] = b"kmap: more than 65536 states\n";
+
+pub(crate) const WRITE: &[u8] = b"kmap: write fault after {} bytes\n";
+
+// How a line goes on in place of `kmap: ` that tells the file too.
+pub(crate) const OF_FILE: &[u8] = b"kmap: {}: {}";
+
+/// How many bytes `kmap: ` has, with which each line begins.
+const FRONT: usize = 6;
+
+fn source_name(source: Source) -> &'static [u8]
+    ensures name { result.now ≡ spec.source_name source }
+    ensures bound { length result.now ≤ 8 }
 {
-    match kind {
-        TextFaultKind::BadByte => b"BadByte",
-        TextFaultKind::BadLiteral => b"BadLiteral",
-        TextFaultKind::BadWord => b"BadWord",
-        TextFaultKind::Unexpected => b"Unexpected",
-        TextFaultKind::KeyTooLarge => b"KeyTooLarge",
-        TextFaultKind::BadChar => b"BadChar",
-        TextFaultKind::BadFunction => b"BadFunction",
-        TextFaultKind::TooManyPairs => b"TooManyPairs",
-        TextFaultKind::ZeroBase => b"ZeroBase",
-        TextFaultKind::Combined => b"Combined",
-        TextFaultKind::EndInside => b"EndInside",
+    match source {
+        Source::Text => b"text",
+        Source::Next => b"next",
+        Source::Script => b"script",
+        Source::Tables => b"tables",
+        Source::Sentence => b"sentence",
     }
 }
 
@@ -87,149 +113,75 @@ fn table_kind_name(kind: TableFaultKind) -> &'static [u8]
     }
 }
 
-fn append_text_fault(line: &mut Line, source: &[u8], fault: &TextFault)
-    requires { array_vec_len line.old + length source.now + 70 ≤ 96 }
-    ensures text { line.new.items ≡ line.old.items ++ text_fault source.now fault.now }
-    ensures bound { array_vec_len line.new ≤ array_vec_len line.old + length source.now + 70 }
+fn text_fault(source: Source, fault: &TextFault) -> Line
+    ensures { result.items ≡ spec.text_fault source fault.now }
 {
-    append(line, source);
-    append(line, b" line ");
-    append_number(line, fault.line);
-    append(line, b" offset ");
-    append_number(line, fault.offset);
-    append(line, b": ");
-    append(line, text_kind_name(fault.kind));
+    let source = source_name(source);
+    let (at, offset) = (number(fault.line), number(fault.offset));
+    let kind = fault.kind.name();
+    line(TEXT, &[source, at.as_slice(), offset.as_slice(), kind])
 }
 
-fn append_script_fault(line: &mut Line, fault: &ScriptFault)
-    requires { array_vec_len line.old + 50 ≤ 96 }
-    ensures text { line.new.items ≡ line.old.items ++ script_fault fault.now }
-    ensures bound { array_vec_len line.new ≤ array_vec_len line.old + 50 }
+fn script_fault(fault: &ScriptFault) -> Line
+    ensures { result.items ≡ spec.script_fault fault.now }
 {
-    append(line, b"script line ");
     match fault {
-        ScriptFault::BadLine(number) => {
-            append_number(line, *number);
-            append(line, b": BadLine");
-        }
-        ScriptFault::BadKey(number) => {
-            append_number(line, *number);
-            append(line, b": BadKey");
-        }
+        ScriptFault::BadLine(at) => line(SCRIPT, &[number(*at).as_slice(), b"BadLine"]),
+        ScriptFault::BadKey(at) => line(SCRIPT, &[number(*at).as_slice(), b"BadKey"]),
     }
 }
 
-#[tactic(auto, using(std::proofs::Common::append_assoc))]
-fn append_table_fault(line: &mut Line, fault: &TableFault)
-    requires { array_vec_len line.old + 50 ≤ 96 }
-    ensures text { line.new.items ≡ line.old.items ++ table_fault fault.now }
-    ensures bound { array_vec_len line.new ≤ array_vec_len line.old + 50 }
+fn table_fault(fault: &TableFault) -> Line
+    ensures { result.items ≡ spec.table_fault fault.now }
 {
-    append(line, b"tables offset ");
-    append_number(line, fault.offset);
-    append(line, b": ");
-    append(line, table_kind_name(fault.kind));
+    let kind = table_kind_name(fault.kind);
+    line(TABLES, &[number(fault.offset).as_slice(), kind])
 }
 
-fn append_read_fault(line: &mut Line, source: &[u8], fault: &ReadFault)
-    requires { array_vec_len line.old + length source.now + 50 ≤ 96 }
-    ensures text { line.new.items ≡ line.old.items ++ read_fault source.now fault.now }
-    ensures bound { array_vec_len line.new ≤ array_vec_len line.old + length source.now + 50 }
+fn read_fault(source: Source, fault: &ReadFault) -> Line
+    ensures { result.items ≡ spec.read_fault source fault.now }
 {
-    append(line, source);
+    let source = source_name(source);
     match fault.kind {
-        ReadFaultKind::Device => {
-            append(line, b": read fault at offset ");
-            append_number(line, fault.offset);
-        }
-        ReadFaultKind::Endless => append(line, b": more than 1048576 bytes"),
+        ReadFaultKind::Device => line(READ, &[source, number(fault.offset).as_slice()]),
+        ReadFaultKind::Endless => line(ENDLESS, &[source]),
     }
 }
 
-fn append_wide(line: &mut Line, wide: &Wide)
-    requires { array_vec_len line.old + 50 ≤ 96 }
-    ensures text { line.new.items ≡ line.old.items ++ too_wide wide.now }
-    ensures bound { array_vec_len line.new ≤ array_vec_len line.old + 50 }
+fn too_wide(wide: &Wide) -> Line
+    ensures { result.items ≡ spec.too_wide wide.now }
 {
-    match wide {
-        Wide::Cell { slot, column } => {
-            append(line, b"cell too wide at slot ");
-            append_byte(line, *slot);
-            append(line, b" column ");
-            append_byte(line, *column);
-        }
-        Wide::Accent { accent, number } => {
-            append(line, b"accent too wide at accent ");
-            append_byte(line, *accent);
-            append(line, b" number ");
-            append_byte(line, *number);
-        }
-    }
-}
-
-fn append_not_text(line: &mut Line, offset: u64)
-    requires { array_vec_len line.old + 50 ≤ 96 }
-    ensures text { line.new.items ≡ line.old.items ++ message (RunError.NotText offset) }
-    ensures bound { array_vec_len line.new ≤ array_vec_len line.old + 50 }
-{
-    append(line, b"sentence offset ");
-    append_number(line, offset);
-    append(line, b": not UTF-8");
-}
-
-fn append_no_way(line: &mut Line, offset: u64, c: char)
-    requires { array_vec_len line.old + 60 ≤ 96 }
-    ensures text { line.new.items ≡ line.old.items ++ message (RunError.NoWay offset c) }
-    ensures bound { array_vec_len line.new ≤ array_vec_len line.old + 60 }
-{
-    append(line, b"sentence offset ");
-    append_number(line, offset);
-    append(line, b": no key types ");
-    append(line, code_text(c).as_slice());
-}
-
-fn append_write_fault(line: &mut Line, fault: &WriteFault)
-    requires { array_vec_len line.old + 50 ≤ 96 }
-    ensures text { line.new.items ≡ line.old.items ++ write_fault fault.now }
-    ensures bound { array_vec_len line.new ≤ array_vec_len line.old + 50 }
-{
-    append(line, b"write fault after ");
-    append_number(line, fault.written);
-    append(line, b" bytes");
-}
-
-fn append_message(line: &mut Line, error: &RunError)
-    requires { array_vec_len line.old ≤ 6 }
-    ensures text { line.new.items ≡ line.old.items ++ message error.now }
-    ensures bound { array_vec_len line.new ≤ 90 }
-{
-    match error {
-        RunError::Memory => append(line, b"out of memory"),
-        RunError::Text(fault) => append_text_fault(line, b"text", fault),
-        RunError::Next(fault) => append_text_fault(line, b"next", fault),
-        RunError::Script(fault) => append_script_fault(line, fault),
-        RunError::Tables(fault) => append_table_fault(line, fault),
-        RunError::ReadText(fault) => append_read_fault(line, b"text", fault),
-        RunError::ReadNext(fault) => append_read_fault(line, b"next", fault),
-        RunError::ReadScript(fault) => append_read_fault(line, b"script", fault),
-        RunError::ReadTables(fault) => append_read_fault(line, b"tables", fault),
-        RunError::ReadSentence(fault) => append_read_fault(line, b"sentence", fault),
-        RunError::NotText { offset } => append_not_text(line, *offset),
-        RunError::NoWay { offset, c } => append_no_way(line, *offset, *c),
-        RunError::TooWide(wide) => append_wide(line, wide),
-        RunError::Write(fault) => append_write_fault(line, fault),
-    }
+    let (words, at, place) = match wide {
+        Wide::Cell { slot, column } => (WIDE_CELL, slot, column),
+        Wide::Accent { accent, number } => (WIDE_ACCENT, accent, number),
+    };
+    let at = number(u64::from(*at));
+    line(
+        words,
+        &[at.as_slice(), number(u64::from(*place)).as_slice()],
+    )
 }
 
 /// The line of an error, with its end.
 fn line_of(error: &RunError) -> Line
-    ensures { result.items ≡ fault_line error.now }
+    ensures { result.items ≡ spec.fault_line error.now }
 {
-    let mut line = ArrayVec::new();
-    append(&mut line, b"kmap: ");
-    append_message(&mut line, error);
-    append(&mut line, b"\n");
-    line
+    match error {
+        RunError::Memory => line(MEMORY, &[]),
+        RunError::Text(source, fault) => text_fault(*source, fault),
+        RunError::Script(fault) => script_fault(fault),
+        RunError::Tables(fault) => table_fault(fault),
+        RunError::Read(source, fault) => read_fault(*source, fault),
+        RunError::NotText { offset } => line(NOT_TEXT, &[number(*offset).as_slice()]),
+        RunError::NoWay { offset, c } => {
+            let c = code_text(*c);
+            line(NO_WAY, &[number(*offset).as_slice(), c.as_slice()])
+        }
+        RunError::TooWide(wide) => too_wide(wide),
+        RunError::TooLong => line(TOO_LONG, &[]),
+        RunError::TooManyStates => line(TOO_MANY_STATES, &[]),
+        RunError::Write(fault) => line(WRITE, &[number(fault.written).as_slice()]),
+    }
 }
 
 /// Writes the line of an error, or after a fault of the writer its first `written` bytes.
@@ -239,4 +191,14 @@ pub fn write_run_error<W: Write>(error: &RunError, writer: &mut W) -> Result<(),
     ensures failed { W.has_failed writer.new ≡ (is_err result || W.has_failed writer.old) }
 {
     write_text(writer, line_of(error).as_slice())
+}
+
+/// The line of an error that has the name of a file, as `shown_name` shows it, behind `kmap: `.
+pub fn file_error_line(alloc: Global, file: &[u8], error: &RunError) -> Result<Vec<u8>, AllocError>
+    ensures { IfOk result (λ line. line.items ≡ file_fault_line file.now error.now) }
+{
+    let line = line_of(error);
+    let reason = &line.as_slice()[FRONT.min(line.len())..];
+    let name = shown_name(alloc, file)?;
+    filled(alloc, OF_FILE, &[name.as_slice(), reason])
 }

@@ -1,21 +1,21 @@
 //! Laws of the definitions: what is printed as a script is one. No function here does anything.
-ghost use Rattle.std.specs.Prelude.{◌≡◌, List, [], ℕ, map, Option, Some, Ok, true};
+ghost use Rattle.std.specs.Prelude.{◌≡◌, List, [], ℕ, map, Option, Some, None, Ok, true};
 ghost use Rattle.keymap_core.specs.Maps.{MapValue};
 ghost use Rattle.console_core.specs.declared.outcome.Sticking.{Sticking as StickingValue};
 ghost use Rattle.console_core.specs.History.{Maps};
 ghost use Rattle.console_core.specs.Sticking.{IsAnswer, IsAnswerBetween};
-ghost use Rattle.play_core.specs.Playing.{Plays, moves};
 ghost use Rattle.play_core.specs.Scripts.{IsScript};
 ghost use Rattle.play_core.specs.declared.show.Show.TheVariants as show;
 ghost use Rattle.play_core.specs.Spelling.{sent_of};
 ghost use Rattle.play_core.specs.Typing.{IsTyped, events_for};
 ghost use Rattle.kmap_runs.specs.Report.{report};
-ghost use Rattle.kmap_runs.specs.LintExcerpt.{excerpt};
-ghost use Rattle.kmap_runs.specs.LintShown.{IsPlainText};
-ghost use Rattle.kmap_runs.specs.LintWords.{word_text};
 ghost use Rattle.kmap_runs.specs.Replayed.{ScriptTypes, AnswerReplays, AnswerReplaysBetween, ShowsScript};
-ghost use Rattle.kmap_runs.specs.TypeRuns.{TypesSentence};
+ghost use Rattle.kmap_runs.specs.Inputs.{moves};
+ghost use Rattle.kmap_runs.specs.Runs.{DrawnAreWellFormed, PlaysTexts, TypesSentence, WellLintedNeverStick};
 ghost use Rattle.kmap_runs.specs.Typing.{typing_script};
+
+use keymap_draw::laws::{pictures_are_plain, pictures_are_well_formed};
+use keymap_lint::laws::well_texts_never_stick;
 
 /// What is printed to type characters is a script of exactly the events of their ways.
 pub fn typing_scripts_send_the_ways()
@@ -38,7 +38,8 @@ pub fn found_scripts_leave_a_modifier_on()
 pub fn typed_sentences_come_back()
     ensures { (text sentence script typed : List ℕ) (t s u v : Option (List ℕ))
         → TypesSentence (moves (Some text) t) (moves (Some sentence) s) (moves (Some []) (Some script)) (Ok tt)
-        → Plays show.Typed (moves (Some text) u) (moves (Some script) v) (moves (Some []) (Some typed)) (Ok tt)
+        → PlaysTexts show.Typed (moves (Some text) u) None (moves (Some script) v) (moves (Some []) (Some typed))
+        (Ok tt)
         → typed ≡ sentence }
 {}
 
@@ -48,9 +49,19 @@ pub fn demonstrations_leave_a_modifier_on()
     ensures { (m : MapValue) → ShowsScript m (report m true) }
 {}
 
-/// What is shown of a line of any text, and of a token, is UTF-8 that a terminal shows: no control but a tab and a line
-/// feed, no mark that can't be seen and none that turns the direction of writing.
-pub fn shown_lines_are_plain()
-    ensures line { (before rest : List ℕ) → IsPlainText (excerpt before rest) }
-    ensures token { (token : List ℕ) → IsPlainText (word_text token) }
-{}
+/// What the run that draws wrote for a text, whatever the text is, is well formed and printable ASCII: no keymap brings
+/// an element, an attribute or a link of its own into a page.
+pub fn drawn_pictures_are_well_formed()
+    ensures { DrawnAreWellFormed }
+{
+    pictures_are_well_formed();
+    pictures_are_plain();
+}
+
+/// A text that the run that prints diagnostics calls well spells a keymap under which no list of presses and releases
+/// leaves a modifier on.
+pub fn well_linted_texts_never_stick()
+    ensures { WellLintedNeverStick }
+{
+    well_texts_never_stick();
+}

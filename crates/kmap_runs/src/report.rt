@@ -8,77 +8,39 @@ ghost use Rattle.play_core.specs.Spelling.{event_line};
 ghost use Rattle.kmap_runs.specs.Report as spec;
 
 use crate::text::{append, append_byte};
+use crate::words::{
+    ACCEPTED, DEMONSTRATION, NO_DEMONSTRATION, NOBODY, REFUSED, SEVERAL, SOLE, STEADY, THROUGHOUT,
+};
 use arrayvec::ArrayVec;
 use console_core::Event;
-use keymap_check::{Bearer, Finding, Place, Report, demonstrate};
+use keymap_check::{Bearer, Finding, Report, demonstrate};
 use keymap_core::{HOLDINGS, Holding, KeyMap};
+use keymap_draw::finding_words;
+use messages::{Line, either, line, small};
 
-/// How many bytes a report has at most: the verdict, a line of 73 bytes for each of 128 findings, one of 29 for each of
-/// 12 holding actions, and the demonstration, fit with room to spare.
-const REPORT: usize = 10_240;
+/// How many bytes a report has at most: the verdict, a line for each of 128 findings and of 12 holding actions, and the
+/// demonstration, fit with room to spare.
+const REPORT: usize = 14_336;
 
 pub(crate) type Text = ArrayVec<u8, REPORT>;
 
-fn append_name(text: &mut Text, holding: Holding)
-    requires { array_vec_len text.old + 6 ≤ REPORT }
-    ensures text { text.new.items ≡ text.old.items ++ spec.holding_name holding }
-    ensures bound { array_vec_len text.new ≤ array_vec_len text.old + 6 }
-{
-    append(text, holding.action().name().as_slice());
-}
-
-fn append_place(text: &mut Text, place: &Place)
-    requires { array_vec_len text.old + 23 ≤ REPORT }
-    ensures text { text.new.items ≡ text.old.items ++ spec.place_text place.now }
-    ensures bound { array_vec_len text.new ≤ array_vec_len text.old + 23 }
-{
-    append(text, b" at slot ");
-    append_byte(text, place.slot);
-    append(text, b" column ");
-    append_byte(text, place.column);
-}
-
+/// Adds the line on a finding.
 fn append_finding(text: &mut Text, finding: &Finding)
-    requires { array_vec_len text.old + 73 ≤ REPORT }
+    requires { array_vec_len text.old + 97 ≤ REPORT }
     ensures text { text.new.items ≡ text.old.items ++ spec.finding_line finding.now }
-    ensures bound { array_vec_len text.new ≤ array_vec_len text.old + 73 }
+    ensures bound { array_vec_len text.new ≤ array_vec_len text.old + 97 }
 {
-    append(text, b"key ");
-    append_byte(text, finding.key.get());
-    append(text, b": ");
-    append_name(text, finding.holding);
-    append_place(text, &finding.holding_at);
-    append(text, b", character");
-    append_place(text, &finding.character_at);
+    append(text, finding_words(finding).as_slice());
     append(text, b"\n");
 }
 
 fn append_findings(text: &mut Text, findings: &[Finding])
-    requires { array_vec_len text.old + 73 * length findings.now ≤ REPORT }
+    requires { array_vec_len text.old + 97 * length findings.now ≤ REPORT }
     ensures text { text.new.items ≡ text.old.items ++ flat_map spec.finding_line findings.now }
-    ensures bound { array_vec_len text.new ≤ array_vec_len text.old + 73 * length findings.now }
+    ensures bound { array_vec_len text.new ≤ array_vec_len text.old + 97 * length findings.now }
 {
     for finding in findings {
         append_finding(text, finding);
-    }
-}
-
-fn append_bearer(text: &mut Text, bearer: Bearer)
-    requires { array_vec_len text.old + 15 ≤ REPORT }
-    ensures text { text.new.items ≡ text.old.items ++ spec.bearer_text bearer }
-    ensures bound { array_vec_len text.new ≤ array_vec_len text.old + 15 }
-{
-    match &bearer {
-        Bearer::Nobody => append(text, b" nobody"),
-        Bearer::Throughout(key) => {
-            append(text, b" throughout ");
-            append_byte(text, key.get());
-        }
-        Bearer::Sole(key) => {
-            append(text, b" sole ");
-            append_byte(text, key.get());
-        }
-        Bearer::Several => append(text, b" several"),
     }
 }
 
@@ -92,34 +54,27 @@ fn is_steady(report: &Report, holding: Holding) -> bool
     }
 }
 
-fn append_steady(text: &mut Text, is_steady: bool)
-    requires { array_vec_len text.old + 7 ≤ REPORT }
-    ensures text { text.new.items ≡ text.old.items ++ spec.steady_text is_steady }
-    ensures bound { array_vec_len text.new ≤ array_vec_len text.old + 7 }
+fn holding_line(report: &Report, holding: Holding) -> Line
+    ensures { result.items ≡ spec.holding_line report.now holding }
 {
-    if is_steady {
-        append(text, b" steady");
+    let name = holding.action().name();
+    let name = name.as_slice();
+    let steady = either(is_steady(report, holding), STEADY, b"");
+    match report.bearer(holding) {
+        Bearer::Nobody => line(NOBODY, &[name, steady]),
+        Bearer::Throughout(key) => line(THROUGHOUT, &[name, small(key.get()).as_slice(), steady]),
+        Bearer::Sole(key) => line(SOLE, &[name, small(key.get()).as_slice(), steady]),
+        Bearer::Several => line(SEVERAL, &[name, steady]),
     }
 }
 
-fn append_holding(text: &mut Text, report: &Report, holding: Holding)
-    requires { array_vec_len text.old + 29 ≤ REPORT }
-    ensures text { text.new.items ≡ text.old.items ++ spec.holding_line report.now holding }
-    ensures bound { array_vec_len text.new ≤ array_vec_len text.old + 29 }
-{
-    append_name(text, holding);
-    append_bearer(text, report.bearer(holding));
-    append_steady(text, is_steady(report, holding));
-    append(text, b"\n");
-}
-
 fn append_holdings(text: &mut Text, report: &Report, holdings: &[Holding])
-    requires { array_vec_len text.old + 29 * length holdings.now ≤ REPORT }
+    requires { array_vec_len text.old + 96 * length holdings.now ≤ REPORT }
     ensures text { text.new.items ≡ text.old.items ++ flat_map (spec.holding_line report.now) holdings.now }
-    ensures bound { array_vec_len text.new ≤ array_vec_len text.old + 29 * length holdings.now }
+    ensures bound { array_vec_len text.new ≤ array_vec_len text.old + 96 * length holdings.now }
 {
     for holding in holdings {
-        append_holding(text, report, *holding);
+        append(text, holding_line(report, *holding).as_slice());
     }
 }
 
@@ -160,10 +115,10 @@ fn append_demonstration(text: &mut Text, map: &KeyMap)
 {
     match demonstrate(map) {
         Some(events) => {
-            append(text, b"demonstration:\n");
+            append(text, DEMONSTRATION);
             append_events(text, events.as_slice());
         }
-        None => append(text, b"demonstration: none\n"),
+        None => append(text, NO_DEMONSTRATION),
     }
 }
 
@@ -173,31 +128,30 @@ fn append_verdict(text: &mut Text, report: &Report)
     ensures bound { array_vec_len text.new ≤ array_vec_len text.old + 9 }
 {
     if report.accepted() {
-        append(text, b"accepted\n");
+        append(text, ACCEPTED);
     } else {
-        append(text, b"refused\n");
+        append(text, REFUSED);
     }
 }
 
 fn append_check(text: &mut Text, report: &Report)
     requires { text.old.items ≡ [] }
     ensures text { text.new.items ≡ text.old.items ++ spec.check_text report.now }
-    ensures bound { array_vec_len text.new ≤ 9 + 128 * 73 + 12 * 29 }
+    ensures bound { array_vec_len text.new ≤ 9 + 128 * 97 + 12 * 96 }
 {
     append_verdict(text, report);
     append_findings(text, report.findings().as_slice());
     append_holdings(text, report, &HOLDINGS);
 }
 
-/// The report on a map, with a demonstration where it is asked for.
-pub(crate) fn report_on(map: &KeyMap, report: &Report, show: bool) -> Text
-    requires { report.now ≡ report_of map.now }
-    ensures { result.items ≡ spec.report map.now show }
+/// Appends the report on a map, with a demonstration where it is asked for.
+pub(crate) fn append_report(text: &mut Text, map: &KeyMap, report: &Report, show: bool)
+    requires report { report.now ≡ report_of map.now }
+    requires empty { text.old.items ≡ [] }
+    ensures { text.new.items ≡ spec.report map.now show }
 {
-    let mut text = ArrayVec::new();
-    append_check(&mut text, report);
+    append_check(text, report);
     if show {
-        append_demonstration(&mut text, map);
+        append_demonstration(text, map);
     }
-    text
 }

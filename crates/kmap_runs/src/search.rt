@@ -1,5 +1,5 @@
 //! What the search for sticking modifiers found, as a script that `kmap play` reads.
-ghost use Rattle.std.specs.Prelude.{◌≡◌, ◌++◌, List, IfOk, OnOk, codes};
+ghost use Rattle.std.specs.Prelude.{◌≡◌, ◌++◌, List, IfOk, OnOk};
 ghost use Rattle.std.specs.List.{flat_map};
 ghost use Rattle.console_core.specs.declared.event.Event.{Event as EventValue};
 ghost use Rattle.console_core.specs.History.{Maps, is_on_after, between};
@@ -7,10 +7,11 @@ ghost use Rattle.play_core.specs.Spelling.{event_line as event_line_of};
 ghost use Rattle.kmap_runs.specs.Search as spec;
 
 use crate::report::append_event;
+use crate::words::{NEVER_STICKS, STICKS, UNDECIDED};
 use arrayvec::ArrayVec;
 use console_core::{Event, Sticking, Translator, WordConsole};
-use itoa::Buffer;
 use keymap_core::{Holding, KeyMap, MODIFIERS, Modifier};
+use messages::{fill, number, parted};
 use std::alloc::{AllocError, Global};
 
 /// How many bytes the line of an event has at most.
@@ -65,6 +66,7 @@ fn push_names<T: Translator>(
     Ok(())
 }
 
+#[tactic(auto, using(std::proofs::Common::append_assoc), unfolding(messages::specs::Filled::filled))]
 fn push_script(
     text: &mut Vec<u8>,
     first: &KeyMap,
@@ -74,22 +76,18 @@ fn push_script(
     ensures { OnOk result (text.new.items
         ≡ text.old.items ++ spec.script_text (between first.now second.now) events.now) }
 {
-    text.extend_from_slice(b"# sticks:")?;
+    let (before, behind) = parted(STICKS);
+    text.extend_from_slice(before)?;
     push_names(text, &WordConsole::after(first, second, events), &MODIFIERS)?;
-    text.push(b'\n')?;
+    text.extend_from_slice(behind)?;
     push_events(text, events)
 }
 
 /// Adds that the search gave up, and up to how many presses no list leaves a modifier on.
 fn push_undecided(text: &mut Vec<u8>, presses: usize) -> Result<(), AllocError>
-    ensures { OnOk result (text.new.items ≡ text.old.items ++ (spec.undecided_text presses ++ codes "\n")) }
+    ensures { OnOk result (text.new.items ≡ text.old.items ++ spec.undecided_text presses) }
 {
-    let mut digits = Buffer::new();
-    text.extend_from_slice(b"# undecided: no list of up to ")?;
-    text.extend_from_slice(digits.format(presses).as_bytes())?;
-    text.extend_from_slice(b" presses sticks")?;
-    text.push(b'\n')?;
-    Ok(())
+    fill(text, UNDECIDED, &[number(presses as u64).as_slice()])
 }
 
 /// The script that tells what was found between two maps, or under one that is given twice.
@@ -104,7 +102,7 @@ pub(crate) fn found_text(
     let mut text = Vec::new(alloc);
     match found {
         Sticking::Sticks(events) => push_script(&mut text, first, second, events)?,
-        Sticking::Never => text.extend_from_slice(b"# never sticks\n")?,
+        Sticking::Never => fill(&mut text, NEVER_STICKS, &[])?,
         Sticking::Undecided(presses) => push_undecided(&mut text, *presses)?,
     }
     Ok(text)

@@ -1,104 +1,70 @@
-//! The runs that search one keymap, or between two, for presses and releases that leave a modifier on.
-ghost use Rattle.std.specs.Prelude.{◌≡◌, ◌||◌, IfOk, is_err};
-ghost use Rattle.keymap_core.specs.Devices.{WritesText};
-ghost use Rattle.console_core.specs.History.{between};
-ghost use Rattle.console_core.specs.Sticking.{IsAnswer, IsAnswerBetween};
-ghost use Rattle.play_core.specs.Playing.{moves};
-ghost use Rattle.kmap_runs.specs.Search.{found_text as found_text_of, is_never};
-ghost use Rattle.kmap_runs.specs.Runs.{blames_reader, blames_writer};
-ghost use Rattle.kmap_runs.specs.SearchRuns.{SearchesText, SearchesBetween, blames_next};
+//! The run that searches one keymap, or between two, for presses and releases that leave a modifier on.
+ghost use Rattle.std.specs.Prelude.{◌≡◌, ◌||◌, IfOk};
+ghost use Rattle.std.specs.Option.{is_some};
+ghost use Rattle.kmap_runs.specs.Search.{is_never as is_never_of};
+ghost use Rattle.kmap_runs.specs.Inputs.{blames, has_failed_if, moves, moves_if};
+ghost use Rattle.kmap_runs.specs.Runs.{Finds, IsFound, SearchesTexts, blames_writer};
 
-use crate::fault_line::RunError;
-use crate::runs::{next_failure, text_failure};
+use crate::fault_line::{RunError, Source};
+use crate::inputs::{read_keymaps, second_of};
 use crate::search::found_text;
 use console_core::{Sticking, sticking, sticking_between};
-use keymap_core::{KeyMap, Read, Write, WriteFault, write_text};
-use keymap_text::read_from;
+use keymap_core::{KeyMap, Read, Write, write_text};
 use std::alloc::{AllocError, Global};
 
-/// Searches a map and gives what was found, and the script that tells it.
-fn searched(alloc: Global, map: &KeyMap) -> Result<(Sticking, Vec<u8>), AllocError>
-    ensures { IfOk result (λ r. IsAnswer map.now r.0 × (r.1.items ≡ found_text_of (between map.now map.now) r.0)) }
+fn is_never(found: &Sticking) -> bool
+    ensures { result ≡ is_never_of found.now }
 {
-    let found = sticking(alloc, map)?;
-    let text = found_text(alloc, map, map, &found)?;
-    Ok((found, text))
+    matches!(found, Sticking::Never)
 }
 
-/// Searches between two maps and gives what was found, and the script that tells it.
-fn searched_between(
+/// What the search answers to a map, or with a second one between the two.
+fn found_in(alloc: Global, first: &KeyMap, next: &Option<KeyMap>) -> Result<Sticking, AllocError>
+    ensures { IfOk result (λ found. IsFound (first.now, next.now) found) }
+{
+    match next {
+        Some(second) => sticking_between(alloc, first, second),
+        None => sticking(alloc, first),
+    }
+}
+
+/// Searches: whether no modifier ever sticks, and the script that tells what was found.
+fn searched(
     alloc: Global,
     first: &KeyMap,
-    second: &KeyMap,
-) -> Result<(Sticking, Vec<u8>), AllocError>
-    ensures { IfOk result (λ r. IsAnswerBetween (between first.now second.now) r.0
-        × (r.1.items ≡ found_text_of (between first.now second.now) r.0)) }
+    next: &Option<KeyMap>,
+) -> Result<(bool, Vec<u8>), AllocError>
+    ensures { IfOk result (λ r. Finds (first.now, next.now) r.0 r.1.items) }
 {
-    let found = sticking_between(alloc, first, second)?;
-    let text = found_text(alloc, first, second, &found)?;
-    Ok((found, text))
+    let found = found_in(alloc, first, next)?;
+    let text = found_text(alloc, first, second_of(first, next), &found)?;
+    Ok((is_never(&found), text))
 }
 
-/// Writes what was found. Answers whether no modifier ever sticks.
-fn write_found<W: Write>(found: &Sticking, text: &[u8], writer: &mut W) -> Result<bool, WriteFault>
-    ensures answer { IfOk result (λ never. never ≡ is_never found.now) }
-    ensures bytes { WritesText (λ f. f.written) (W.contents writer.old) (W.contents writer.new) text.now result }
-    ensures failed { W.has_failed writer.new ≡ (is_err result || W.has_failed writer.old) }
-{
-    write_text(writer, text)?;
-    Ok(matches!(found, Sticking::Never))
-}
-
-/// Reads a text, searches its map for presses and releases that leave a modifier on, and writes what was found.
-/// Answers whether no modifier ever sticks.
-pub fn search_run<R: Read, W: Write>(
-    alloc: Global,
-    reader: &mut R,
-    writer: &mut W,
-) -> Result<bool, RunError>
-    ensures run { SearchesText (R.remaining reader.old) (R.remaining reader.new) (W.contents writer.old)
-        (W.contents writer.new) result }
-    ensures reader_failed { R.has_failed reader.new ≡ (blames_reader result || R.has_failed reader.old) }
-    ensures writer_failed { W.has_failed writer.new ≡ (blames_writer result || W.has_failed writer.old) }
-{
-    let searched_map = match read_from(alloc, reader) {
-        Ok(map) => map,
-        Err(error) => return Err(text_failure(error)),
-    };
-    let Ok((found, text)) = searched(alloc, &searched_map) else {
-        return Err(RunError::Memory);
-    };
-    write_found(&found, text.as_slice(), writer).map_err(RunError::Write)
-}
-
-/// Reads the texts of two keymaps, searches for presses, releases and loads between them that leave a modifier on, with
-/// the first one in force to begin with, and writes what was found. Answers whether no modifier ever sticks.
-pub fn search_next_run<R: Read, N: Read, W: Write>(
+/// Reads the text of a keymap, and that of a next one where there is one. Searches for presses and releases that leave
+/// a modifier on, with two keymaps for loads between them too, the first in force to begin with, and writes what was
+/// found. Answers whether no modifier ever sticks.
+pub fn search_run<R: Read, N: Read, W: Write>(
     alloc: Global,
     text: &mut R,
-    next: &mut N,
+    next: &mut Option<N>,
     writer: &mut W,
 ) -> Result<bool, RunError>
-    ensures run { SearchesBetween (moves (R.remaining text.old) (R.remaining text.new))
-        (moves (N.remaining next.old) (N.remaining next.new))
+    ensures run { SearchesTexts (moves (R.remaining text.old) (R.remaining text.new))
+        (moves_if N.remaining next.old next.new)
         (moves (W.contents writer.old) (W.contents writer.new)) result }
-    ensures text_failed { R.has_failed text.new ≡ (blames_reader result || R.has_failed text.old) }
-    ensures next_failed { N.has_failed next.new ≡ (blames_next result || N.has_failed next.old) }
+    ensures text_failed { R.has_failed text.new ≡ (blames Source.Text result || R.has_failed text.old) }
+    ensures next_stays { is_some next.new ≡ is_some next.old }
+    ensures next_failed { has_failed_if N.has_failed next.new
+        ≡ (blames Source.Next result || has_failed_if N.has_failed next.old) }
     ensures writer_failed { W.has_failed writer.new ≡ (blames_writer result || W.has_failed writer.old) }
 {
-    let first = match read_from(alloc, text) {
-        Ok(map) => map,
-        Err(error) => return Err(text_failure(error)),
-    };
-    let second = match read_from(alloc, next) {
-        Ok(map) => map,
-        Err(error) => return Err(next_failure(error)),
-    };
-    let Ok((found, text)) = searched_between(alloc, &first, &second) else {
+    let (first, second) = read_keymaps(alloc, text, next)?;
+    let Ok((never, told)) = searched(alloc, &first, &second) else {
         return Err(RunError::Memory);
     };
-    match write_found(&found, text.as_slice(), writer) {
-        Ok(never) => Ok(never),
+    match write_text(writer, told.as_slice()) {
+        Ok(()) => Ok(never),
         Err(fault) => Err(RunError::Write(fault)),
     }
 }

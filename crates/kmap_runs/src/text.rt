@@ -12,16 +12,6 @@ pub(crate) fn append<const N: usize>(text: &mut ArrayVec<u8, N>, piece: &[u8])
     let _ = text.try_extend_from_slice(piece);
 }
 
-/// Appends a number in decimal digits, of which there are at most 20.
-pub(crate) fn append_number<const N: usize>(text: &mut ArrayVec<u8, N>, number: u64)
-    requires { array_vec_len text.old + 20 ≤ N }
-    ensures text { text.new.items ≡ text.old.items ++ decimal number }
-    ensures bound { array_vec_len text.new ≤ array_vec_len text.old + 20 }
-{
-    let mut buffer = Buffer::new();
-    append(text, buffer.format(number).as_bytes());
-}
-
 /// Appends a number below 256 in decimal digits, of which there are at most 3.
 pub(crate) fn append_byte<const N: usize>(text: &mut ArrayVec<u8, N>, number: u8)
     requires { array_vec_len text.old + 3 ≤ N }

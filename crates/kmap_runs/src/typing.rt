@@ -4,31 +4,18 @@ ghost use Rattle.std.specs.List.{flat_map, before_first};
 ghost use Rattle.kmap_runs.specs.Typing as spec;
 
 use crate::search::push_events;
-use keymap_core::code_text;
+use crate::words::SENTENCE;
+use keymap_core::{code_text, is_unseen};
+use messages::parted;
 use play_core::Ways;
 use std::alloc::{AllocError, Global};
-
-/// Whether a terminal doesn't show the character as it is: it is a control, a mark that can't be seen, or one that
-/// turns the direction.
-pub(crate) fn is_hidden(c: char) -> bool
-    ensures { result ≡ spec.is_hidden c }
-{
-    let number = u32::from(c);
-    number < 32
-        || (127 <= number && number <= 159)
-        || number == 0xad
-        || (0x200b <= number && number <= 0x200f)
-        || (0x2028 <= number && number <= 0x202e)
-        || (0x2060 <= number && number <= 0x206f)
-        || number == 0xfeff
-}
 
 /// Adds a character as it is, or its number where a terminal wouldn't show it.
 #[tactic(auto, unfolding(crate::specs::Typing::shown))]
 fn push_shown(text: &mut Vec<u8>, c: char) -> Result<(), AllocError>
     ensures { OnOk result (text.new.items ≡ text.old.items ++ spec.shown c) }
 {
-    if is_hidden(c) {
+    if is_unseen(c) {
         text.extend_from_slice(code_text(c).as_slice())
     } else {
         let mut bytes = [0; 4];
@@ -62,13 +49,14 @@ fn push_all_shown(text: &mut Vec<u8>, characters: &[char]) -> Result<(), AllocEr
 }
 
 /// Adds a comment that shows the first line of the characters.
+#[tactic(auto, using(std::proofs::Common::append_assoc), unfolding(messages::specs::Filled::filled))]
 fn push_comment(text: &mut Vec<u8>, characters: &[char]) -> Result<(), AllocError>
     ensures { OnOk result (text.new.items ≡ text.old.items ++ spec.comment characters.now) }
 {
-    text.extend_from_slice(b"# ")?;
+    let (before, behind) = parted(SENTENCE);
+    text.extend_from_slice(before)?;
     push_all_shown(text, first_line(characters))?;
-    text.push(b'\n')?;
-    Ok(())
+    text.extend_from_slice(behind)
 }
 
 /// Adds a line for each event of the character's way.

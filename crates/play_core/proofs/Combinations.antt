@@ -10,9 +10,8 @@ use Rattle.keymap_core.proofs.Below.{first_below-some, IsFirstBelow}
 use Rattle.console_core.specs.declared.event.Event.{Event}
 use Rattle.console_core.specs.declared.event.Event.TheVariants.{Press, Release}
 use Rattle.console_core.specs.History.{HasKey, HasKeys}
-use Rattle.play_core.specs.HeldKeys.{is_bit_key, bit_key, bit_keys, listed, has_bit, held_for}
-use Rattle.play_core.specs.HeldKeys.{held_keys, lacks_key, combination, combinations_of, combinations_with}
-use Rattle.play_core.specs.HeldKeys.{combinations}
+use Rattle.play_core.specs.HeldKeys.{is_bit_key, bit_key, bit_keys, listed, has_bit, held_for, held_keys, lacks_key}
+use Rattle.play_core.specs.HeldKeys.{combination, combinations_of, combinations_with, combinations}
 
 -- keys that are held, and a key, are pressed and released
 pub record IsCombination (way : List Event) : Type 0 where

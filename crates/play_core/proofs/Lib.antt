@@ -2,11 +2,11 @@ pub mod Combinations
 pub mod Digits
 pub mod Found
 pub mod LineWords
-pub mod Outcomes
 pub mod Pieces
 pub mod PlainLines
 pub mod Resting
 pub mod ScriptLines
+pub mod ScriptSizes
 pub mod Sending
 pub mod Sentences
 pub mod SmallNumbers

@@ -1,9 +1,8 @@
 -- The lines of a script, one after another.
 use Prim.Native.Nat.{zero, suc}
-use Rattle.std.proofs.Common.{◌≡◌, ℕ, ◌+◌, ◌<◌, ◌≤◌, true, false, Bool, cond, eqb, ◌==◌, List, [], ◌∷◌, ◌++◌}
-use Rattle.std.proofs.Common.{length, take, drop, get_or, map, Option, None, Some, Bor, refl, sym, ap, subst, ◌∙◌}
-use Rattle.std.proofs.Common.{append-nil, ◌-◌}
-use Rattle.std.proofs.Common.{arith, add-one, drop-cons, take-append-drop, length-take-le, take_all, length-drop}
+use Rattle.std.proofs.Common.{◌≡◌, ℕ, ◌+◌, ◌<◌, ◌≤◌, true, false, Bool, cond, eqb, ◌==◌, List, [], ◌∷◌, ◌++◌, length}
+use Rattle.std.proofs.Common.{take, drop, get_or, map, Option, None, Some, Bor, refl, sym, ap, subst, ◌∙◌, append-nil}
+use Rattle.std.proofs.Common.{◌-◌, arith, add-one, drop-cons, take-append-drop, length-take-le, take_all, length-drop}
 use Rattle.std.specs.List.{AllZip, filter, slice_split, onto_first, position, position_or_len}
 use Rattle.std.proofs.lemmas.List.{take_more, get_or-map, length-map}
 use Rattle.std.proofs.lemmas.List.Elements.{filter-append}

@@ -22,9 +22,8 @@ use Rattle.console_core.specs.declared.event.Event.TheVariants.{Press, Release, 
 use Rattle.console_core.specs.declared.event.Answer.{Answer}
 use Rattle.console_core.specs.declared.event.Answer.TheVariants as answer
 use Rattle.console_core.specs.Resolved.{held, locked, pending}
-use Rattle.console_core.specs.History.{Maps, in_force, resolved, pressed, IsQuiet, accent_pending_after}
-use Rattle.console_core.specs.History.{answers_to, HasKey}
-use Rattle.console_core.specs.History.{HasKeys, IsNoLoad, HasNoLoads}
+use Rattle.console_core.specs.History.{Maps, in_force, resolved, pressed, IsQuiet, accent_pending_after, answers_to}
+use Rattle.console_core.specs.History.{HasKey, HasKeys, IsNoLoad, HasNoLoads}
 use Rattle.console_core.proofs.OneMore.{pressed-start, pressed-press, pressed-release, pressed-reset, pressed-load}
 use Rattle.console_core.proofs.OneMore.{resolved-start, held-start, locked-start, remembered-start, pending-start}
 use Rattle.console_core.proofs.FreshPresses.{no_loads-first}
@@ -204,23 +203,15 @@ pressed-both k (Load ∷ xs) h e f = pressed-load k (xs ++ h)
 typing-alone : (xs : List Answer) → flat_map typed_by xs ≡ flat_map typed_by (filter types_something xs)
 unfolding typed_by
 typing-alone [] = refl
-typing-alone (answer.None ∷ xs) = typing-alone xs
-typing-alone (answer.Error ∷ xs) = typing-alone xs
 typing-alone (answer.Char c meta ∷ xs) = ap (λ t. typed_by (answer.Char c meta) ++ t) (typing-alone xs)
-typing-alone (answer.Special a ∷ xs) = typing-alone xs
 typing-alone (answer.BackTab ∷ xs) = ap (λ t. typed_by answer.BackTab ++ t) (typing-alone xs)
-typing-alone (answer.Released a ∷ xs) = typing-alone xs
+typing-alone (_ ∷ xs) = typing-alone xs
 
 -- an answer of a plain character types it
 plain-types : (a : Answer) (c : ℕ) → plain_character a ≡ Some c → typed_by a ≡ encode_utf8 c
 unfolding typed_by
-plain-types answer.None c e = absurd (none-some c e)
-plain-types answer.Error c e = absurd (none-some c e)
 plain-types (answer.Char d false) c e = let s : d ≡ c = cc in ap encode_utf8 s
-plain-types (answer.Char d true) c e = absurd (none-some c e)
-plain-types (answer.Special a) c e = absurd (none-some c e)
-plain-types answer.BackTab c e = absurd (none-some c e)
-plain-types (answer.Released a) c e = absurd (none-some c e)
+plain-types _ c e = absurd (none-some c e)
 
 -- a lone plain character among the answers is what they type
 lone-types : (xs : List Answer) (c : ℕ) → lone_character xs ≡ Some c → flat_map typed_by xs ≡ encode_utf8 c

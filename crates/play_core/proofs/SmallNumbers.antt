@@ -5,7 +5,7 @@ use mir.Val.{bool_byte}
 use Rattle.std.specs.List.{range_with_len}
 use Rattle.std.proofs.lemmas.Bool.{ltb-true, ltb-false}
 use Rattle.std.proofs.lemmas.Fmt.{decimal_digit, decimal_step}
-use Rattle.keymap_text.proofs.Characters.{along}
+use Rattle.keymap_core.proofs.Lists.{along}
 use Rattle.play_core.specs.declared.number.TheConstants.{SMALL_NUMBERS}
 
 -- the digits of a number below 1,000 that is above 99, or else above 9, or neither

@@ -18,9 +18,8 @@ use Rattle.play_core.specs.declared.sent.Sent.{Sent}
 use Rattle.play_core.specs.Delivery.{delivered}
 use Rattle.play_core.specs.Scripts.{separates_words, is_there, parts_of, words_in, words_of, lines_of}
 use Rattle.play_core.specs.Scripts.{IsNumber, Tells, key_of, IsEvent, IsScript}
-use Rattle.play_core.specs.Spelling.{command_text, mark_text, sent_text, Line, sends, says, line_text}
-use Rattle.play_core.specs.Spelling.{text_of, sent_by, sent_in, has_line_feed, IsWritable, AreWritable, what_of}
-use Rattle.play_core.specs.Spelling.{sent_of, event_line}
+use Rattle.play_core.specs.Spelling.{command_text, mark_text, sent_text, Line, sends, says, line_text, text_of, sent_by}
+use Rattle.play_core.specs.Spelling.{sent_in, has_line_feed, IsWritable, AreWritable, what_of, sent_of, event_line}
 use Rattle.play_core.proofs.PlainLines.{not_at, IsPlain, plain_digits, plain_more, no_comment, line_words}
 use Rattle.play_core.proofs.ScriptLines.{event_there, parts_there}
 

@@ -39,13 +39,8 @@ use Rattle.play_core.proofs.Resting.{combination-quiet, combination-down, DownOn
 
 -- two answers that type are more than one character
 typed_twice : (a b : Answer) → after_typing (typed_by_one a) b ≡ typed.Other
-typed_twice answer.None b = refl
-typed_twice answer.Error b = refl
 typed_twice (answer.Char c false) b = refl
-typed_twice (answer.Char c true) b = refl
-typed_twice (answer.Special x) b = refl
-typed_twice answer.BackTab b = refl
-typed_twice (answer.Released x) b = refl
+typed_twice _ b = refl
 
 -- one more answer that types
 typed-push : (xs : List Answer) (b : Answer) → typed_by_all (xs ++ b ∷ []) ≡ after_typing (typed_by_all xs) b
@@ -64,12 +59,9 @@ same-after t xs e = e ∙ ap typed_by_all (sym (nil-right xs))
 -- one more answer, whether it types or not
 more-with : (xs : List Answer) (b : Answer)
     → typed_by_all (xs ++ filter types_something (b ∷ [])) ≡ one_more (typed_by_all xs) b
-more-with xs answer.None = sym (same-after _ xs refl)
-more-with xs answer.Error = sym (same-after _ xs refl)
 more-with xs (answer.Char c meta) = typed-push xs (answer.Char c meta)
-more-with xs (answer.Special x) = sym (same-after _ xs refl)
 more-with xs answer.BackTab = typed-push xs answer.BackTab
-more-with xs (answer.Released x) = sym (same-after _ xs refl)
+more-with xs _ = sym (same-after _ xs refl)
 
 -- what is typed so far, with one more answer
 pub typed-more : (xs : List Answer) (b : Answer)
@@ -200,27 +192,16 @@ AreEffects xs p =
     × (unless_any xs p ≡ accent_in (effect_by (typed_by_all xs) p))
 
 -- the effect of one answer that types
-one-effect : (a : Answer) (p : Option ℕ) → AreEffects (a ∷ []) p
-one-effect answer.None None = (refl, refl)
-one-effect answer.None (Some i) = (refl, refl)
-one-effect answer.Error None = (refl, refl)
-one-effect answer.Error (Some i) = (refl, refl)
-one-effect (answer.Char c false) None = (refl, refl)
-one-effect (answer.Char c false) (Some i) = (refl, refl)
-one-effect (answer.Char c true) None = (refl, refl)
-one-effect (answer.Char c true) (Some i) = (refl, refl)
-one-effect (answer.Special x) None = (refl, refl)
-one-effect (answer.Special x) (Some i) = (refl, refl)
-one-effect answer.BackTab None = (refl, refl)
-one-effect answer.BackTab (Some i) = (refl, refl)
-one-effect (answer.Released x) None = (refl, refl)
-one-effect (answer.Released x) (Some i) = (refl, refl)
+one-effect : (p : Option ℕ) (a : Answer) → AreEffects (a ∷ []) p
+one-effect None (answer.Char c false) = (refl, refl)
+one-effect (Some i) (answer.Char c false) = (refl, refl)
+one-effect _ _ = (refl, refl)
 
 -- the effect of any answers
 effects-by : (xs : List Answer) (p : Option ℕ) → AreEffects xs p
 effects-by [] None = (refl, refl)
 effects-by [] (Some i) = (refl, refl)
-effects-by (a ∷ []) p = one-effect a p
+effects-by (a ∷ []) p = one-effect p a
 effects-by (a ∷ b ∷ rest) None = (refl, refl)
 effects-by (a ∷ b ∷ rest) (Some i) = (refl, refl)
 

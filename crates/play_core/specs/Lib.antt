@@ -1,7 +1,6 @@
 pub mod Delivery
 pub mod HeldKeys
 pub mod Inner
-pub mod Playing
 pub mod Scripts
 pub mod Spelling
 pub mod Typing

@@ -9,13 +9,15 @@ use console_core::{
     Event, PlainConsole, Sticking, Translator, WordConsole, replay, sticking, sticking_between,
 };
 use keymap_core::{KeyCode, KeyMap, Lock, Modifier, ReadError, Write, read_up_to};
-use keymap_lint::diagnostics;
+use keymap_fmt::{FormatError, format};
+use keymap_lint::{Lint, diagnostics};
 use keymap_tables::{
     NARROW_FILE, TableError, WIDE_FILE, read_narrow, read_narrow_from, read_tables,
     read_tables_from,
 };
 use keymap_text::{MapReader, TextError, definitions, read_from, read_map};
-use play_core::{PlayError, ScriptError, Show, TypeError, Ways, play, play_next, read_script};
+use kmap_runs::{RunError, play_run};
+use play_core::{ScriptError, Show, TypeError, Ways, read_script};
 use std::alloc::{AllocError, Global};
 
 /// Makes the call of this name. There is none where no call has the name.
@@ -47,16 +49,16 @@ pub(crate) fn outcome_of<W: Write>(
         "sticking-sticks" => searches(alloc, TRAP, marks)?,
         "sticking_between-never" => searches_between(alloc, TEXT, marks)?,
         "sticking_between-sticks" => searches_between(alloc, LOCKED, marks)?,
-        "diagnostics" => finds_diagnostics(alloc, TRAP, 1, marks),
-        "diagnostics-none" => finds_diagnostics(alloc, TEXT, 0, marks),
-        "diagnostics-faulty" => finds_diagnostics(alloc, FAULTY, 1, marks),
+        "diagnostics" => finds_diagnostics(alloc, TRAP, Some(1), marks),
+        "diagnostics-none" => finds_diagnostics(alloc, TEXT, Some(0), marks),
+        "diagnostics-faulty" => finds_diagnostics(alloc, FAULTY, None, marks),
         "replay-plain" => replays_plainly(alloc, marks)?,
         "replay-word" => replays_in_a_word(alloc, marks)?,
         "read_script" => reads_script(alloc, marks),
-        "play-lines" => plays(alloc, Show::Lines, marks),
-        "play-typed" => plays(alloc, Show::Typed, marks),
-        "play_next-lines" => plays_next(alloc, Show::Lines, marks),
-        "play_next-typed" => plays_next(alloc, Show::Typed, marks),
+        "play_run-lines" => plays(alloc, Show::Lines, None, marks),
+        "play_run-typed" => plays(alloc, Show::Typed, None, marks),
+        "play_run-next-lines" => plays(alloc, Show::Lines, Some(TEXT), marks),
+        "play_run-next-typed" => plays(alloc, Show::Typed, Some(TEXT), marks),
         "Ways::of" => finds_ways(alloc, marks)?,
         "characters" => types(alloc, SENTENCE, marks)?,
         "characters-untyped" => types(alloc, UNTYPED, marks)?,
@@ -65,13 +67,21 @@ pub(crate) fn outcome_of<W: Write>(
         "check_run-shown" => runs::checks(alloc, TRAP, true, marks),
         "search_run-never" => runs::searches(alloc, TEXT, marks),
         "search_run-sticks" => runs::searches(alloc, TRAP, marks),
-        "search_next_run-never" => runs::searches_between(alloc, TEXT, marks),
-        "search_next_run-sticks" => runs::searches_between(alloc, LOCKED, marks),
+        "search_run-next-never" => runs::searches_between(alloc, TEXT, marks),
+        "search_run-next-sticks" => runs::searches_between(alloc, LOCKED, marks),
         "dump_run" => runs::dumps(alloc, tables(alloc)?.as_slice(), marks),
         "dump_narrow_run" => runs::dumps_narrowly(alloc, narrow(alloc)?.as_slice(), marks),
+        "compile_run" => runs::compiles(alloc, TEXT, marks),
+        "compile_narrow_run" => runs::compiles_narrowly(alloc, TEXT, marks),
+        "format" => lays_out(alloc, TEXT, marks),
+        "format-faulty" => lays_out(alloc, FAULTY, marks),
+        "fmt_run" => runs::lays_out(alloc, TEXT, marks),
+        "fmt_print_run" => runs::prints_layout(alloc, TEXT, marks),
+        "file_error_line" => runs::tells_a_file(alloc, marks),
         "draw_run" => runs::draws(alloc, TRAP, marks),
         "lint_run" => runs::lints(alloc, TRAP, marks),
         "type_run" => runs::types(alloc, SENTENCE, marks),
+        "cover_run" => runs::covers(alloc, TEXT, marks),
         _ => return Ok(None),
     };
     Ok(Some(outcome))
@@ -98,20 +108,33 @@ fn places_definitions<W: Write>(alloc: Global, marks: &mut W) -> Outcome {
     }
 }
 
-/// Finds the diagnostics of a text with so many.
+/// Finds the diagnostics of a text with so many, or its fault.
 fn finds_diagnostics<W: Write>(
     alloc: Global,
     text: &[u8],
-    wanted: usize,
+    wanted: Option<usize>,
     marks: &mut W,
 ) -> Outcome {
     mark(marks);
     let answer = diagnostics(alloc, text);
     mark(marks);
     match answer {
-        Ok(lint) => Outcome::of(done(lint.diagnostics.len() == wanted)),
+        Ok(Lint::Spelled(found)) => Outcome::of(done(Some(found.list.len()) == wanted)),
+        Ok(Lint::Faulty { .. }) => Outcome::of(done(wanted.is_none())),
         Err(AllocError) => Outcome::of(Answer::Memory),
     }
+}
+
+/// Lays out a text whose numbers move right.
+fn lays_out<W: Write>(alloc: Global, text: &[u8], marks: &mut W) -> Outcome {
+    mark(marks);
+    let answer = format(alloc, text);
+    mark(marks);
+    Outcome::of(match answer {
+        Ok(laid) => done(laid.as_slice().starts_with(b"  0")),
+        Err(FormatError::Memory) => Answer::Memory,
+        Err(FormatError::Fault(_) | FormatError::TooLong) => Answer::Fault,
+    })
 }
 
 fn copies_map<W: Write>(alloc: Global, marks: &mut W) -> Result<Outcome, AllocError> {
@@ -329,10 +352,10 @@ fn reads_script<W: Write>(alloc: Global, marks: &mut W) -> Outcome {
 }
 
 /// What a play came to. Where memory is refused, nothing was written.
-fn played(answer: Result<(), PlayError>, out: &Counting) -> Outcome {
+fn played(answer: Result<(), RunError>, out: &Counting) -> Outcome {
     match answer {
         Ok(()) => Outcome::of(Answer::Done),
-        Err(PlayError::Memory) => Outcome {
+        Err(RunError::Memory) => Outcome {
             answer: Answer::Memory,
             kept: out.writes == 0,
         },
@@ -340,25 +363,15 @@ fn played(answer: Result<(), PlayError>, out: &Counting) -> Outcome {
     }
 }
 
-fn plays<W: Write>(alloc: Global, show: Show, marks: &mut W) -> Outcome {
+/// Plays a script on a text, and on a next one where there is one.
+fn plays<W: Write>(alloc: Global, show: Show, next: Option<&[u8]>, marks: &mut W) -> Outcome {
     let script = script();
     let mut text = reader_of(TEXT);
+    let mut next = next.map(reader_of);
     let mut events = reader_of(&script);
     let mut out = Counting { writes: 0 };
     mark(marks);
-    let answer = play(alloc, show, &mut text, &mut events, &mut out);
-    mark(marks);
-    played(answer, &out)
-}
-
-fn plays_next<W: Write>(alloc: Global, show: Show, marks: &mut W) -> Outcome {
-    let script = script();
-    let mut text = reader_of(TEXT);
-    let mut next = reader_of(TEXT);
-    let mut events = reader_of(&script);
-    let mut out = Counting { writes: 0 };
-    mark(marks);
-    let answer = play_next(alloc, show, &mut text, &mut next, &mut events, &mut out);
+    let answer = play_run(alloc, show, &mut text, &mut next, &mut events, &mut out);
     mark(marks);
     played(answer, &out)
 }

@@ -5,6 +5,6 @@ use Rattle.keymap_draw.proofs.half.other_keys.Given as goal
 
 abbrev pub invariant-loop-key : goal.invariant-loop-key
 invariant-loop-key l = record {
-  passed : l.keys.items ≡ passing (is_other l.map l.half l.board) l.key;
+  passed : l.keys.items ≡ passing (is_other l.drawing l.half) l.key;
   few : length l.keys.items ≤ l.key;
 }

@@ -5,4 +5,4 @@ use Rattle.keymap_draw.proofs.half.push_board_rows.Given as goal
 
 abbrev pub invariant-loop-row : goal.invariant-loop-row
 invariant-loop-row l = l.text.items ≡ l.fn.text.items
-    ++ flat_map (board_row l.map l.findings l.half l.board l.y) (take l.row-index l.rows)
+    ++ flat_map (board_row l.drawing l.half l.y) (take l.row-index l.rows)

@@ -4,5 +4,5 @@ use Rattle.keymap_draw.specs.Markup.{numbered}
 use Rattle.keymap_draw.proofs.half.push_other_keys.Given as goal
 
 abbrev pub invariant-loop-i : goal.invariant-loop-i
-invariant-loop-i l = l.text.items ++ numbered (other_key l.map l.findings l.half l.y) l.i (drop l.i l.keys)
-    ≡ l.fn.text.items ++ numbered (other_key l.map l.findings l.half l.y) 0 l.keys
+invariant-loop-i l = l.text.items ++ numbered (other_key l.drawing l.half l.y) l.i (drop l.i l.keys)
+    ≡ l.fn.text.items ++ numbered (other_key l.drawing l.half l.y) 0 l.keys

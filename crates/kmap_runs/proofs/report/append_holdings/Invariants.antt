@@ -7,4 +7,4 @@ use Rattle.kmap_runs.proofs.report.append_holdings.Given as goal
 abbrev pub invariant-loop-holding : goal.invariant-loop-holding
 invariant-loop-holding l =
     (l.text.items ≡ l.fn.text.items ++ flat_map (holding_line l.report) (take l.holding-index l.holdings))
-    × (array_vec_len l.text ≤ array_vec_len l.fn.text + 29 * l.holding-index)
+    × (array_vec_len l.text ≤ array_vec_len l.fn.text + 96 * l.holding-index)

@@ -1,12 +1,47 @@
+use Rattle.std.proofs.Common.{inl, inr, refl}
+use Rattle.std.proofs.lemmas.Result.{err_from_is_err_and}
 use Rattle.std.proofs.KnownBytes.{Keeps-refl}
-use Rattle.kmap_runs.proofs.TypeRuns.{text_refused, script_refused}
 use Rattle.kmap_runs.proofs.type_runs.type_run.Goals as goal
 
-pub returns-in-Err-clause-run : goal.returns-in-Err-clause-run
-returns-in-Err-clause-run g c =
-    rw c.text_failure.ensures (text_refused _ _ _ c.in-Err.error c.in-Err.ensures.reads (Keeps-refl _) (Keeps-refl _))
+pub returns-in_err-script-clause-run : goal.returns-in_err-script-clause-run
+returns-in_err-script-clause-run g c =
+    let p = err_from_is_err_and c.from_residual-in_err-script.result c.from_residual-in_err-script.ensures.1 in
+    let lacks = rw c.as_slice.ensures.value at c.in_err-script.ensures.err in
+    rw (p.1, p.2)
+    (inr (
+      inr (
+        (c.in_ok-map.map, c.in_ok-bytes.bytes.items),
+        (c.in_ok-map.ensures.reads, c.in_ok-bytes.ensures.reads),
+        lacks,
+      ),
+      Keeps-refl _,
+    ))
 
-pub returns-in-Err-script_for-clause-run : goal.returns-in-Err-script_for-clause-run
-returns-in-Err-script_for-clause-run g c =
-    script_refused c.in-Ok.map c.in-Ok-read_sentence.bytes.items _ _ _ c.in-Err-script_for.error c.in-Ok.ensures.reads
-    c.in-Ok-read_sentence.ensures.reads (rw c.as_slice.ensures.value at c.in-Err-script_for.ensures.err) (Keeps-refl _)
+pub returns-in-Ok-clause-run : goal.returns-in-Ok-clause-run
+returns-in-Ok-clause-run g c =
+    let types = rw c.as_slice.ensures.value at c.in_ok-script.ensures.ok in
+    let bytes = rw c.as_slice-2.ensures.value at c.in-Ok.ensures.bytes in (
+      (c.in_ok-map.map, c.in_ok-bytes.bytes.items),
+      c.in_ok-script.script.items,
+      (c.in_ok-map.ensures.reads, c.in_ok-bytes.ensures.reads),
+      types,
+      bytes,
+    )
+
+pub returns-clause-run : goal.returns-clause-run
+returns-clause-run g c =
+    let types = rw c.as_slice.ensures.value at c.in_ok-script.ensures.ok in
+    let bytes = rw c.as_slice-2.ensures.value at c.in-Err.ensures.bytes in
+    inl (
+      (c.in_ok-map.map, c.in_ok-bytes.bytes.items),
+      tt,
+      c.in_ok-script.script.items,
+      (c.in_ok-map.ensures.reads, c.in_ok-bytes.ensures.reads),
+      types,
+      (
+        c.in-Err.fault,
+        refl,
+        bytes.0,
+        bytes.1,
+      ),
+    )

@@ -1,0 +1,7 @@
+use Rattle.std.proofs.Common.{◌≡◌, ◌++◌, map, take}
+use Rattle.console_core.specs.declared.selection.Sight.TheVariants.{Pair}
+use Rattle.kmap_runs.proofs.cover.add_pairs.Given as goal
+
+abbrev pub invariant-loop-character : goal.invariant-loop-character
+invariant-loop-character l =
+    l.pairs.items ≡ l.fn.pairs.items ++ map (Pair l.accent) (take l.character-index l.characters)

@@ -1,0 +1,12 @@
+use Rattle.std.proofs.Common.{◌∙◌, ap, sym, unwrap_or}
+use Rattle.std.proofs.lemmas.Option.{unwrap_or-slice_get}
+use Rattle.keymap_core.specs.Accents.{blank}
+use Rattle.kmap_runs.specs.Cover.{bases_of}
+use Rattle.kmap_runs.proofs.cover.bases.Goals as goal
+
+pub returns-in-None : goal.returns-in-None
+returns-in-None c =
+    c.new.ensures.items
+    ∙ ap bases_of
+    (ap (λ o. unwrap_or o blank) c.in-None.ensures.value
+    ∙ unwrap_or-slice_get c.args.map.now.accents c.args.accent blank)

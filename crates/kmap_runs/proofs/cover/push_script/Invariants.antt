@@ -1,0 +1,8 @@
+use Rattle.std.proofs.Common.{◌≡◌, ◌++◌}
+use Rattle.std.specs.List.{flat_map, range_with_len}
+use Rattle.kmap_runs.specs.Cover.{stroke_lines}
+use Rattle.kmap_runs.proofs.cover.push_script.Given as goal
+
+abbrev pub invariant-loop-place : goal.invariant-loop-place
+invariant-loop-place l =
+    l.text.items ≡ l.fn.text.items ++ flat_map (stroke_lines l.starts l.strokes) (range_with_len 0 l.place)

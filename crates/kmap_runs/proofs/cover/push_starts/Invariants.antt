@@ -1,0 +1,8 @@
+use Rattle.std.proofs.Common.{◌≡◌, ◌++◌, take}
+use Rattle.std.specs.List.{flat_map}
+use Rattle.kmap_runs.specs.Cover.{start_line}
+use Rattle.kmap_runs.proofs.cover.push_starts.Given as goal
+
+abbrev pub invariant-loop-start : goal.invariant-loop-start
+invariant-loop-start l =
+    l.text.items ≡ l.fn.text.items ++ flat_map (start_line l.place) (take l.start-index l.starts)

@@ -1,0 +1,31 @@
+use Rattle.std.proofs.Common.{Err, inl, inr, refl, subst, sym, ap, ◌∙◌}
+use Rattle.std.proofs.lemmas.Result.{err_from_is_err_and}
+use Rattle.std.proofs.KnownBytes.{Keeps-refl}
+use Rattle.kmap_runs.specs.Inputs.{moves}
+use Rattle.kmap_runs.specs.Runs.{CoversText}
+use Rattle.kmap_runs.proofs.cover_runs.cover_run.Goals as goal
+
+pub returns-in_err-told-clause-run : goal.returns-in_err-told-clause-run
+returns-in_err-told-clause-run g c =
+    let p = err_from_is_err_and c.from_residual-in_err-told.result c.from_residual-in_err-told.ensures.1 in
+    let text = moves (g.R.Read.remaining c.args.reader.now) (g.R.Read.remaining c.read_keymap.new.reader) in
+    let out = g.W.Write.contents c.args.writer.now in
+    subst (λ r. CoversText text (moves out out) r) (sym (p.1 ∙ ap Err p.2))
+    (inr (inr (c.in_ok-map.map, c.in_ok-map.ensures.reads, c.in_err-told.ensures.err), Keeps-refl out))
+
+pub returns-in-Ok-clause-run : goal.returns-in-Ok-clause-run
+returns-in-Ok-clause-run g c =
+    let bytes = rw c.as_slice.ensures.value at c.in-Ok.ensures.bytes in
+    (c.in_ok-map.map, c.in_ok-told.told.items, c.in_ok-map.ensures.reads, c.in_ok-told.ensures.ok, bytes)
+
+pub returns-clause-run : goal.returns-clause-run
+returns-clause-run g c =
+    let bytes = rw c.as_slice.ensures.value at c.in-Err.ensures.bytes in
+    inl (
+      c.in_ok-map.map,
+      tt,
+      c.in_ok-told.told.items,
+      c.in_ok-map.ensures.reads,
+      c.in_ok-told.ensures.ok,
+      (c.in-Err.fault, refl, bytes.0, bytes.1),
+    )

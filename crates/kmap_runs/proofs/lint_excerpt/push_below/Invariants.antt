@@ -1,7 +1,0 @@
-use Rattle.std.proofs.Common.{◌≡◌, ◌++◌, take}
-use Rattle.std.specs.Prelude.{map}
-use Rattle.kmap_runs.specs.LintExcerpt.{below}
-use Rattle.kmap_runs.proofs.lint_excerpt.push_below.Given as goal
-
-abbrev pub invariant-loop-c : goal.invariant-loop-c
-invariant-loop-c l = l.text.items ≡ l.fn.text.items ++ map below (take l.c-index l.characters)

@@ -1,8 +1,0 @@
-use Rattle.std.proofs.Common.{◌≡◌, ◌++◌, take}
-use Rattle.std.specs.List.{flat_map}
-use Rattle.kmap_runs.specs.LintNotes.{further_event}
-use Rattle.kmap_runs.proofs.lint_notes.push_further_events.Given as goal
-
-abbrev pub invariant-loop-event : goal.invariant-loop-event
-invariant-loop-event l =
-    l.text.items ≡ l.fn.text.items ++ flat_map further_event (take l.event-index l.events)

@@ -1,8 +1,0 @@
-use Rattle.std.proofs.Common.{◌≡◌, ◌++◌, take}
-use Rattle.std.specs.List.{flat_map}
-use Rattle.kmap_runs.specs.LintNotes.{further_modifier}
-use Rattle.kmap_runs.proofs.lint_notes.push_further_modifiers.Given as goal
-
-abbrev pub invariant-loop-modifier : goal.invariant-loop-modifier
-invariant-loop-modifier l =
-    l.text.items ≡ l.fn.text.items ++ flat_map further_modifier (take l.modifier-index l.modifiers)

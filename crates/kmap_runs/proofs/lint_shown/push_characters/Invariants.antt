@@ -1,7 +1,0 @@
-use Rattle.std.proofs.Common.{◌≡◌, ◌++◌, take}
-use Rattle.std.specs.Prelude.{encode_utf8}
-use Rattle.std.specs.List.{flat_map}
-use Rattle.kmap_runs.proofs.lint_shown.push_characters.Given as goal
-
-abbrev pub invariant-loop-c : goal.invariant-loop-c
-invariant-loop-c l = l.text.items ≡ l.fn.text.items ++ flat_map encode_utf8 (take l.c-index l.characters)

@@ -1,0 +1,29 @@
+use Rattle.std.proofs.Common.{inl, inr, refl}
+use Rattle.std.proofs.KnownBytes.{Keeps-refl}
+use Rattle.kmap_runs.proofs.search_runs.search_run.Goals as goal
+
+pub returns-in_default-clause-run : goal.returns-in_default-clause-run
+returns-in_default-clause-run g c =
+    inr (inr ((c.in_ok-first.first, c.in_ok-first.second), c.in_ok-first.ensures.reads, refl), Keeps-refl _)
+
+pub returns-in-Ok-write_text-clause-run : goal.returns-in-Ok-write_text-clause-run
+returns-in-Ok-write_text-clause-run g c =
+    let bytes = rw c.as_slice.ensures.value at c.in-Ok-write_text.ensures.bytes in (
+      (c.in_ok-first.first, c.in_ok-first.second),
+      c.in-Ok.told.items,
+      c.in_ok-first.ensures.reads,
+      c.in-Ok.ensures,
+      bytes,
+    )
+
+pub returns-clause-run : goal.returns-clause-run
+returns-clause-run g c =
+    let bytes = rw c.as_slice.ensures.value at c.in-Err.ensures.bytes in
+    inl (
+      (c.in_ok-first.first, c.in_ok-first.second),
+      c.in-Ok.never,
+      c.in-Ok.told.items,
+      c.in_ok-first.ensures.reads,
+      c.in-Ok.ensures,
+      (c.in-Err.fault, refl, bytes.0, bytes.1),
+    )

@@ -1,0 +1,54 @@
+-- What the runs that lay a text out answer, and what they do to the devices that they are lent.
+use Rattle.std.specs.Prelude.{◌≡◌, ◌≢◌, ℕ, ◌<◌, List, length, take, Option, Result, Ok, Err, ⊤}
+use Rattle.std.specs.Io.KnownBytes.{Appends, Keeps}
+use Rattle.keymap_core.specs.Maps.{MapValue}
+use Rattle.keymap_fmt.specs.declared.whole.FormatError.{FormatError}
+use Rattle.keymap_fmt.specs.declared.whole.FormatError.TheVariants as format
+use Rattle.keymap_fmt.specs.Formatted.{formatted}
+use Rattle.keymap_text.specs.Meaning.{Spells, Fault}
+use Rattle.keymap_text.specs.Sources.{TakesWhole, limit}
+use Rattle.kmap_runs.specs.Inputs.{StopsReading, moves}
+use Rattle.kmap_runs.specs.declared.fault_line.RunError.{RunError}
+use Rattle.kmap_runs.specs.declared.fault_line.RunError.TheVariants as error
+use Rattle.kmap_runs.specs.declared.fault_line.Source.TheVariants as source
+
+abbrev pub of_format_error : FormatError → RunError
+of_format_error format.Memory = error.Memory
+of_format_error (format.Fault f) = error.Text source.Text f
+of_format_error format.TooLong = error.TooLong
+
+-- The text was read whole, it spells a keymap, and this is it in the layout.
+pub record LaysOut (before after : Option (List ℕ)) (text laid : List ℕ) : Type 0 where
+  pub whole : TakesWhole before after text
+  pub keymap : MapValue
+  pub spells : Spells text keymap
+  pub value : laid ≡ formatted text
+
+-- The text was read whole, and is not laid out: it has this fault, or it spells a keymap and its layout is too long.
+-- Or it was not read whole.
+abbrev pub RefusesLayout : Option (List ℕ) → Option (List ℕ) → RunError → Type 0
+RefusesLayout before after error.Memory = ⊤
+RefusesLayout before after (error.Text s f) =
+    (s ≡ source.Text) × (text : List ℕ) × TakesWhole before after text × Fault text f
+RefusesLayout before after error.TooLong = (text : List ℕ) × TakesWhole before after text
+    × ((m : MapValue) × Spells text m) × (limit < length (formatted text))
+RefusesLayout before after (error.Read s f) = (s ≡ source.Text) × StopsReading (moves before after) f f.kind
+RefusesLayout before after _ = ⊥
+
+-- The text is in the layout as it is.
+abbrev pub IsInLayout : Option (List ℕ) → Option (List ℕ) → Type 0
+IsInLayout before after = (text : List ℕ) × LaysOut before after text text
+
+-- The layout has other bytes than the text.
+abbrev pub ChangesText : Option (List ℕ) → Option (List ℕ) → List ℕ → Type 0
+ChangesText before after laid = (text : List ℕ) × LaysOut before after text laid × (laid ≢ text)
+
+-- The layout was written, or its first `written` bytes. After any other refusal nothing was written.
+abbrev pub PrintsLayout : {X : Type 0} → Option (List ℕ) → Option (List ℕ) → Option (List ℕ) → Option (List ℕ)
+    → Result X RunError → Type 0
+PrintsLayout before after old new (Ok _) =
+    (text : List ℕ) × (laid : List ℕ) × LaysOut before after text laid × Appends old new laid
+PrintsLayout before after old new (Err (error.Write f)) =
+    (text : List ℕ) × (laid : List ℕ) × LaysOut before after text laid × (f.written < length laid)
+    × Appends old new (take f.written laid)
+PrintsLayout before after old new (Err e) = RefusesLayout before after e × Keeps old new

@@ -1,0 +1,66 @@
+//! The runs that lay a text out.
+ghost use Rattle.std.specs.Prelude.{◌≡◌, ◌||◌, MatchOption, MatchResult};
+ghost use Rattle.kmap_runs.specs.FmtRuns as spec;
+ghost use Rattle.kmap_runs.specs.Inputs.{blames};
+ghost use Rattle.kmap_runs.specs.Runs.{blames_writer};
+
+use crate::fault_line::{RunError, Source};
+use crate::inputs::read_whole;
+use keymap_core::{Read, Write, write_text};
+use keymap_fmt::{FormatError, format};
+use std::alloc::Global;
+
+fn format_failure(error: FormatError) -> RunError
+    ensures { result ≡ spec.of_format_error error }
+{
+    match error {
+        FormatError::Memory => RunError::Memory,
+        FormatError::Fault(fault) => RunError::Text(Source::Text, fault),
+        FormatError::TooLong => RunError::TooLong,
+    }
+}
+
+/// A text that is read whole, and the same text in the layout.
+fn read_and_laid_out<R: Read>(alloc: Global, reader: &mut R) -> Result<(Vec<u8>, Vec<u8>), RunError>
+    ensures reads { MatchResult result
+        (λ r. spec.LaysOut (R.remaining reader.old) (R.remaining reader.new) r.0.items r.1.items)
+        (spec.RefusesLayout (R.remaining reader.old) (R.remaining reader.new)) }
+    ensures failed { R.has_failed reader.new ≡ (blames Source.Text result || R.has_failed reader.old) }
+{
+    let text = read_whole(alloc, Source::Text, reader)?;
+    match format(alloc, text.as_slice()) {
+        Ok(laid) => Ok((text, laid)),
+        Err(error) => Err(format_failure(error)),
+    }
+}
+
+/// Reads a text, and answers its layout where that differs from it.
+pub fn fmt_run<R: Read>(alloc: Global, reader: &mut R) -> Result<Option<Vec<u8>>, RunError>
+    ensures run { MatchResult result
+        (λ told. MatchOption told (spec.IsInLayout (R.remaining reader.old) (R.remaining reader.new))
+        (λ laid. spec.ChangesText (R.remaining reader.old) (R.remaining reader.new) laid.items))
+        (spec.RefusesLayout (R.remaining reader.old) (R.remaining reader.new)) }
+    ensures reader_failed { R.has_failed reader.new ≡ (blames Source.Text result || R.has_failed reader.old) }
+{
+    let (text, laid) = read_and_laid_out(alloc, reader)?;
+    if text.as_slice() == laid.as_slice() {
+        Ok(None)
+    } else {
+        Ok(Some(laid))
+    }
+}
+
+/// Reads a text and writes its layout.
+pub fn fmt_print_run<R: Read, W: Write>(
+    alloc: Global,
+    reader: &mut R,
+    writer: &mut W,
+) -> Result<(), RunError>
+    ensures run { spec.PrintsLayout (R.remaining reader.old) (R.remaining reader.new) (W.contents writer.old)
+        (W.contents writer.new) result }
+    ensures reader_failed { R.has_failed reader.new ≡ (blames Source.Text result || R.has_failed reader.old) }
+    ensures writer_failed { W.has_failed writer.new ≡ (blames_writer result || W.has_failed writer.old) }
+{
+    let (_, laid) = read_and_laid_out(alloc, reader)?;
+    write_text(writer, laid.as_slice()).map_err(RunError::Write)
+}

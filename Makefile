@@ -1,11 +1,14 @@
 # make               proves and builds the program and the C library, and leaves them at crates/kmap/out/kmap and
 #                    crates/kmap_c/out/libkmap_c.a, libkmap.so beside it, with the header include/kmap.h; at once
 #                    where nothing changed
-# make quick         types a line without any proof, in about a minute: QUICK='check de.kbd' FILES=examples/de.kbd for
+# make quick         types a line without any proof: QUICK='check de.kbd' FILES=examples/de.kbd for
 #                    other arguments and files
 # make test          proves and builds what changed, and runs the scripts of tests/ on it: while working on a line
-# make check         proves every crate from nothing, tries the edits that must be refused, and runs all tests
-# make bench         measures the program on large inputs
+# make check         proves every crate that this machine has not proved as it stands, tries the edits that must be
+#                    refused and don't stand as tried, and runs all tests
+# make edits         tries all edits that must be refused and writes which crates' stand as tried: EDITS= for those
+#                    that don't stand so, EDITS='keymap_core kmap_c' for those of some crates
+# make bench         measures the program on large inputs, and fails where a limit of bench/limits is passed
 # make install       installs the program, the C library with its header, manual pages, completions, examples and
 #                    documents below $(DESTDIR)$(PREFIX), and writes nothing here where all is built
 # make dist          puts what is installed into an archive, kmap-VERSION-x86_64-linux.tar.gz
@@ -25,7 +28,9 @@ RT = rt
 CC = cc
 INSTALL = install
 # What commands of README leave in examples/ is not installed.
-EXAMPLE_FILES = de.kbd de.script line.numbers line.script trap.kbd type.c type.py us.kbd
+EXAMPLE_FILES = de.kbd de.script kmap.py line.numbers line.script load.c test_keymap.py trap.kbd type.c type.py us.kbd
+EDITS = --anew
+MINUTES = crates/kmap/out/minutes
 QUICK = play us.kbd line.script --typed
 FILES = examples/us.kbd examples/line.script
 PROGRAM = crates/kmap/out/kmap
@@ -64,12 +69,20 @@ test: all
 	@RT="$(RT)" sh build.sh refusals out/refusals run -- read_map
 	$(MAKE) scripts
 
+edits:
+	@RT="$(RT)" python3 tests/edits --write $(EDITS)
+
 # `rt ci` builds both programs anew, each by LLVM and by Rattle's own compiler (.by-rattle), and the scripts take what it
 # leaves. It proves the C library and leaves none, so that is built over what it proved; the edits go on with that too.
-# They take the processors that it leaves idle.
+# They take the processors that it leaves idle. What each part took is printed at the end and kept in MINUTES.
 check:
-	RT="$(RT)" python3 tests/gate 'sh tests/edits_driver.sh'
-	$(MAKE) scripts
+	@rm -f $(MINUTES)
+	RT="$(RT)" MINUTES=$(MINUTES) python3 tests/gate 'sh tests/edits_driver.sh'
+	@MINUTES=$(MINUTES) python3 tests/minutes.py scripts $(MAKE) scripts
+	@MINUTES=$(MINUTES) python3 tests/minutes.py 'the other build' $(MAKE) other-build
+	@MINUTES=$(MINUTES) python3 tests/minutes.py
+
+other-build:
 	sh tests/program.sh $(PROGRAM).by-rattle
 	sh tests/both_builds.sh $(PROGRAM) $(PROGRAM).by-rattle
 
@@ -77,10 +90,16 @@ check:
 scripts:
 	sh tests/statements.sh
 	sh tests/names.sh
+	sh tests/words.sh
+	sh tests/modules.sh
+	python3 tests/edits --covered
+	python3 -B bench/unseen.py --check
 	sh tests/version.sh $(PROGRAM)
 	sh tests/program.sh $(PROGRAM)
 	sh tests/draw.sh $(PROGRAM)
+	sh tests/cover.sh $(PROGRAM)
 	sh tests/lint.sh $(PROGRAM)
+	sh tests/format.sh $(PROGRAM)
 	sh tests/c_library.sh $(PROGRAM) $(LIBRARY)
 	sh tests/completions.sh $(PROGRAM)
 	sh tests/manual.sh $(PROGRAM)
@@ -88,6 +107,7 @@ scripts:
 	sh tests/guide.sh
 	sh tests/refused_memory.sh $(PROGRAM)
 	sh tests/refused_calls.sh $(REFUSALS)
+	sh tests/checks.sh $(PROGRAM)
 
 bench: all
 	@RT="$(RT)" sh build.sh step_costs out/step_costs run -- map 1
@@ -138,4 +158,4 @@ dist: all
 clean:
 	rm -rf crates/*/out kmap-*.tar.gz
 
-.PHONY: all quick test check scripts bench install uninstall dist clean
+.PHONY: all quick test edits check other-build scripts bench install uninstall dist clean

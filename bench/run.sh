@@ -1,11 +1,13 @@
 #!/bin/sh
 # Measures the program on large inputs: what a byte of text and an event of a script cost, how these costs grow from a
-# tenth of the largest size to the whole, how many reads and writes a run makes, what lint costs, what the longest
-# search for a demonstration costs, what the search of a keymap and that between two cost, what the script of a sentence
-# costs, what a picture costs, and what an event costs over a keymap in memory and over its tables.
+# tenth of the largest size to the whole, how many reads and writes a run makes, what lint and fmt cost, what the
+# longest search for a demonstration costs, what the search of a keymap and that between two cost, what the script of
+# a sentence costs, what the script that tests a console costs, what a picture costs, and what an event costs over a
+# keymap in memory and over its tables. Where instructions are counted it compares what is measured with bench/limits,
+# tells each limit that is passed, and fails then.
 #
 # usage: run.sh PROGRAM STEPS
-# STEPS is the program of crates/step_costs.
+# STEPS is the program of crates/step_costs, and LIMITS another file of limits.
 # Costs are instructions, counted by perf(1) or else by callgrind of valgrind(1), or else microseconds of processor
 # time. Reads and writes are the system calls of these names, among them a few of the loader, counted by strace(1), or
 # else by `valgrind --trace-syscalls=yes`.
@@ -21,6 +23,11 @@ case $steps in
 *) steps=$PWD/$steps ;;
 esac
 examples=$(cd "$(dirname "$0")/../examples" && pwd)
+limits=$(cd "$(dirname "$0")" && pwd)/limits
+case ${LIMITS:=$limits} in
+/*) ;;
+*) LIMITS=$PWD/$LIMITS ;;
+esac
 keymap=$examples/us.kbd
 folder=$(mktemp -d) || exit 1
 trap 'rm -rf "$folder"' EXIT
@@ -91,6 +98,21 @@ make_refused() {
     }'
 }
 
+# make_states: as many states as the search goes over, three keys for each modifier, and letters
+make_states() {
+    awk '
+        function slot(key, cell, letter) {
+            printf "%d", key
+            for (column = 0; column < 8; column++) printf " %s", cell
+            print " " letter
+        }
+        BEGIN {
+            split("lshift rshift lctrl rctrl lalt ralt ashift meta", name, " ")
+            for (half = 0; half < 256; half += 128)
+                for (key = 0; key < 24; key++) slot(key + half, name[key % 8 + 1], "O")
+        }'
+}
+
 if perf stat -x, -e instructions:u true 2> perf.out && grep -q '^[0-9]' perf.out; then
     unit=instructions
     cost() {
@@ -140,6 +162,28 @@ transfers() {
         }'
 }
 
+# measured NAME VALUE: what is to be within the limit of that name
+: > measured
+measured() {
+    echo "$1 $2" >> measured
+}
+
+# grown TENTH WHOLE FIXED TENTH_COUNT WHOLE_COUNT: how costs grow, divided by how sizes do, is to be within its limit
+grown() {
+    measured growth "$(awk -v a="$1" -v b="$2" -v f="$3" -v m="$4" -v n="$5" \
+        'BEGIN { printf "%.3f", (b - f) / (a - f) * m / n }')"
+}
+
+# ratio A B: how many times B is A
+ratio() {
+    awk -v a="$1" -v b="$2" 'BEGIN { printf "%.2f", a / b }'
+}
+
+# reads ARGS..: how often a run reads
+reads() {
+    names "$@" | grep -cx read
+}
+
 # per TOTAL FIXED COUNT: the cost of one
 per() {
     awk -v total="$1" -v fixed="$2" -v count="$3" 'BEGIN { printf "%.1f", (total - fixed) / count }'
@@ -171,6 +215,9 @@ for text in wide tight; do
         "$(growth "$tenth" "$whole" "$fixed" "$bytes_tenth" "$bytes_whole")"
     echo "  $(transfers check text.tenth), and $(transfers check text.whole);" \
         "$(transfers check empty) on an empty text"
+    measured $text-text-a-byte "$(per "$whole" "$fixed" "$bytes_whole")"
+    grown "$tenth" "$whole" "$fixed" "$bytes_tenth" "$bytes_whole"
+    measured text-reads $(($(reads check text.whole) - $(reads check empty)))
 done
 
 # few: the keymap and comments, so that there is nothing to tell
@@ -183,7 +230,10 @@ few() {
 
 few | head -c $((limit / 10)) > few.tenth
 few | head -c $limit > few.whole
-for text in few text; do
+# the tight text once more, all of it in one line
+tr '\n' ' ' < text.tenth > line.tenth
+tr '\n' ' ' < text.whole > line.whole
+for text in few text line; do
     tenth=$(cost lint $text.tenth)
     whole=$(cost lint $text.whole)
     bytes_tenth=$(wc -c < $text.tenth)
@@ -193,7 +243,34 @@ for text in few text; do
     echo "  $(per "$tenth" "$fixed" "$bytes_tenth") and $(per "$whole" "$fixed" "$bytes_whole") $unit a byte;" \
         "$(growth "$tenth" "$whole" "$fixed" "$bytes_tenth" "$bytes_whole")"
     echo "  $(transfers lint $text.tenth), and $(transfers lint $text.whole)"
+    case $text in
+    few) measured lint-nothing-a-byte "$(per "$whole" "$fixed" "$bytes_whole")" ;;
+    text)
+        many=$((whole - fixed))
+        measured lint-warnings-a-byte "$(per "$whole" "$fixed" "$bytes_whole")"
+        ;;
+    line) measured lint-line-to-lines "$(ratio $((whole - fixed)) "$many")" ;;
+    esac
+    grown "$tenth" "$whole" "$fixed" "$bytes_tenth" "$bytes_whole"
 done
+
+# The text written tight gets twice as long, so half of what a text may have.
+fixed=$(cost fmt --print empty)
+for text in wide tight; do
+    $text | repeated $((limit / 20)) > laid.tenth
+    $text | repeated $((limit / 2)) > laid.whole
+    bytes_tenth=$(wc -c < laid.tenth)
+    bytes_whole=$(wc -c < laid.whole)
+    tenth=$(cost fmt --print laid.tenth)
+    whole=$(cost fmt --print laid.whole)
+    echo "$text text of $bytes_tenth and of $bytes_whole bytes, laid out:"
+    echo "  $(per "$tenth" "$fixed" "$bytes_tenth") and $(per "$whole" "$fixed" "$bytes_whole") $unit a byte;" \
+        "$(growth "$tenth" "$whole" "$fixed" "$bytes_tenth" "$bytes_whole")"
+    echo "  $(transfers fmt --print laid.tenth), and $(transfers fmt --print laid.whole)"
+    measured fmt-$text-a-byte "$(per "$whole" "$fixed" "$bytes_whole")"
+    grown "$tenth" "$whole" "$fixed" "$bytes_tenth" "$bytes_whole"
+done
+
 checked=$(cost check "$keymap")
 linted=$(cost lint "$keymap")
 echo "us.kbd, told by lint: $linted $unit, times $(per "$linted" 0 "$checked") what check costs"
@@ -208,6 +285,8 @@ for show in '' --typed; do
         "$(growth "$tenth" "$whole" "$fixed" "$events_tenth" "$events_whole")"
     echo "  $(transfers play $show "$keymap" script.tenth), and $(transfers play $show "$keymap" script.whole);" \
         "$(transfers play $show "$keymap" empty) on an empty script"
+    measured "play${show:+-typed}-an-event" "$(per "$whole" "$fixed" "$events_whole")"
+    grown "$tenth" "$whole" "$fixed" "$events_tenth" "$events_whole"
 done
 
 "$program" compile "$keymap" tables || exit 1
@@ -220,6 +299,7 @@ shown=$(cost check --show refused)
 echo "map of $("$program" check refused | grep -c '^key ') findings, checked: $plain $unit; with --show: $shown $unit," \
     "times $(per "$shown" 0 "$plain"); $("$program" check --show refused | tail -n 1)"
 echo "  $(transfers check refused); with --show: $(transfers check --show refused)"
+measured check-show "$shown"
 
 one=$(cost search "$keymap")
 other=$(cost search "$examples/de.kbd")
@@ -227,6 +307,7 @@ both=$(cost search "$keymap" --next "$examples/de.kbd")
 echo "search of us.kbd: $one $unit, of de.kbd: $other $unit; between them: $both $unit, times" \
     "$(awk -v a="$one" -v b="$other" -v c="$both" 'BEGIN { printf "%.2f", c / (a > b ? a : b) }')"
 echo "  $(transfers search "$keymap" --next "$examples/de.kbd")"
+measured search-between-to-one "$(ratio "$both" "$([ "$one" -gt "$other" ] && echo "$one" || echo "$other")")"
 
 tr -dc '\012a-zA-Z0-9 ,.;:!?' < text.whole | tr '\012' ' ' | head -c 32768 > sentence
 "$program" type "$keymap" sentence > typing.script || exit 1
@@ -236,14 +317,48 @@ typed=$(cost play --typed "$keymap" typing.script)
 echo "sentence of $(wc -c < sentence) bytes: $typing $unit for its script of $(wc -c < typing.script) bytes, which is" \
     "$(per "$typing" 0 "$playing") times what playing that costs, and $(per "$typing" 0 "$typed") times with --typed"
 echo "  $(transfers type "$keymap" sentence)"
+measured type-to-play "$(ratio "$typing" "$playing")"
+measured type-to-play-typed "$(ratio "$typing" "$typed")"
 
-echo "picture of us.kbd: $(cost draw "$keymap") $unit, wanted at most 4000000 instructions;" \
-    "$("$program" draw "$keymap" | wc -c) bytes"
+covered=$(cost cover "$keymap")
+echo "script that tests a console, of us.kbd: $covered $unit; $("$program" cover "$keymap" | grep -vc '^#') events"
+echo "  $(transfers cover "$keymap")"
+measured cover "$covered"
+make_states > states
+covered=$(cost cover states)
+echo "the same of a keymap of 65,536 states: $covered $unit; $("$program" cover states | grep -vc '^#') events"
+measured cover-most-states "$covered"
+
+picture=$(cost draw "$keymap")
+echo "picture of us.kbd: $picture $unit; $("$program" draw "$keymap" | wc -c) bytes"
 echo "  $(transfers draw "$keymap")"
+measured picture "$picture"
 
 # Ten thousand rounds of eight events, without one round.
 program=$steps
 over_map=$(per "$(cost map 10000)" "$(cost map 1)" 79992)
 over_tables=$(per "$(cost tables 10000)" "$(cost tables 1)" 79992)
 echo "an event over a keymap: $over_map $unit; over its tables: $over_tables $unit, times" \
-    "$(awk -v a="$over_tables" -v b="$over_map" 'BEGIN { printf "%.2f", a / b }')"
+    "$(ratio "$over_tables" "$over_map")"
+measured keymap-an-event "$over_map"
+measured tables-an-event "$over_tables"
+measured tables-to-keymap "$(ratio "$over_tables" "$over_map")"
+
+if [ $unit != instructions ]; then
+    echo 'limits are not looked at: nothing here counts instructions'
+    exit 0
+fi
+# Each limit is of something that was measured, and each measure has a limit.
+awk '
+    FNR == NR && /^[a-z]/ { limit[$1] = $2; next }
+    FNR == NR { next }
+    { seen[$1] = 1 }
+    $2 !~ /^[0-9]+(\.[0-9]+)?$/ || $2 + 0 == 0 { print "no number: " $1 " " $2; failed++; next }
+    !($1 in limit) { print "no limit: " $1 " " $2; failed++; next }
+    $2 > limit[$1] + 0 { print "past its limit of " limit[$1] ": " $1 " " $2; failed++; next }
+    { passed++ }
+    END {
+        for (name in limit) if (!(name in seen)) { print "not measured: " name; failed++ }
+        print passed + 0 " passed, " failed + 0 " failed"
+        exit failed > 0
+    }' "$LIMITS" measured

@@ -1,11 +1,13 @@
 #!/bin/sh
 # Runs two builds of the program on the same words and inputs: that of LLVM and that of Rattle's own compiler, of which
-# each `rt ci` makes one. Both end in time and with the same status, and write the same bytes to both outputs and to the
-# file that they make. The inputs are as long as a read or a buffer, and a byte less and more, and come from a file and
-# from a pipe, since a fault of a compiler that was seen shows only where a read gives no byte.
+# each `rt ci` makes one. Both end in time and with the same status, which is the one that the input must have where its
+# size tells that, and write the same bytes to both outputs and to the file that they make. The inputs are as long as a
+# read or a buffer, and a byte less and more, and come from a file and from a pipe, since a fault of a compiler that was
+# seen shows only where a read gives no byte.
 #
 # usage: both_builds.sh PROGRAM OTHER
-# The last line is 'N passed, M failed'; the status is 0 where none failed.
+# SIZES are the sizes of the inputs, a dozen and more unless it is set. The last line is 'N passed, M failed'; the
+# status is 0 where none failed.
 
 absolute() {
     case $1 in
@@ -43,23 +45,27 @@ answers() {
     )
 }
 
-# ended FOLDER: the run ended in time, and not by a signal
+# ended WANTED: the first build ended in time and with that status, and with 0 told no fault; `any` wants 0 or 1
 ended() {
-    [ "$(cat "$1/status")" -lt 124 ]
+    status=$(cat first/status)
+    case $1 in
+    any) [ "$status" -le 1 ] ;;
+    *) [ "$status" -eq "$1" ] ;;
+    esac && { [ "$status" -ne 0 ] || [ ! -s first/err ]; }
 }
 
 alike() {
     diff -r first second > differences 2>&1
 }
 
-# same INPUT WORDS..: both builds answer alike, from a file and from a pipe
+# same WANTED WORDS..: both builds answer alike to the input, from a file and from a pipe, with the wanted status
 same() {
-    input=$1
+    wanted=$1
     shift
     for way in file pipe; do
-        answers "$program" first $way "$input" "$@"
-        answers "$other" second $way "$input" "$@"
-        holds "kmap $* ends, with a $way of $what" ended first
+        answers "$program" first $way input "$@"
+        answers "$other" second $way input "$@"
+        holds "kmap $* ends with $wanted, with a $way of $what" ended "$wanted"
         holds "both builds answer alike to kmap $*, with a $way of $what" alike
     done
 }
@@ -79,26 +85,40 @@ filled() {
     { cat "$2"; head -c "$1" /dev/zero | tr '\000' "$3"; } | head -c "$1"
 }
 
-# texts: what is done with an input that is a keymap text
-texts() {
-    same input check /dev/stdin
-    same input check --show /dev/stdin
-    same input search /dev/stdin
-    same input search /dev/stdin --next ../us.kbd
-    same input lint /dev/stdin
-    same input draw /dev/stdin
-    same input draw --ansi /dev/stdin
-    same input compile /dev/stdin made
-    same input compile --narrow /dev/stdin made
-    same input play /dev/stdin ../line.script
-    same input play --typed --next /dev/stdin ../us.kbd ../line.script
+# within LEAST SIZE: the status of an input of that size: 0 from the least size on that is whole, 1 past the limit of
+# the program, and any below
+within() {
+    if [ "$2" -gt 1048576 ]; then
+        echo 1
+    elif [ "$2" -ge "$1" ]; then
+        echo 0
+    else
+        echo any
+    fi
 }
 
-# scripts: what is done with an input that is a script
+# texts WANTED: what is done with an input that is a keymap text; in its layout it may be too long, or differ
+texts() {
+    same "$1" check /dev/stdin
+    same "$1" check --show /dev/stdin
+    same "$1" search /dev/stdin
+    same "$1" search /dev/stdin --next ../us.kbd
+    same "$1" lint /dev/stdin
+    same any fmt --print /dev/stdin
+    same any fmt --check /dev/stdin
+    same "$1" draw /dev/stdin
+    same "$1" draw --ansi /dev/stdin
+    same "$1" compile /dev/stdin made
+    same "$1" compile --narrow /dev/stdin made
+    same "$1" play /dev/stdin ../line.script
+    same "$1" play --typed --next /dev/stdin ../us.kbd ../line.script
+}
+
+# scripts WANTED: what is done with an input that is a script
 scripts() {
-    same input play ../us.kbd /dev/stdin
-    same input play --typed ../us.kbd /dev/stdin
-    same input play --next ../de.kbd ../us.kbd /dev/stdin
+    same "$1" play ../us.kbd /dev/stdin
+    same "$1" play --typed ../us.kbd /dev/stdin
+    same "$1" play --next ../de.kbd ../us.kbd /dev/stdin
 }
 
 "$program" compile us.kbd wide || exit 1
@@ -106,36 +126,41 @@ scripts() {
 printf 'Gr\303\274\303\237e, caf\303\251. ' > german
 printf 'Hello, ' > english
 printf 'down 30\nrepeat 30\nlost up 30\nload\ndown 42\nreset\n' > events
+never=1048577
+keymap=$(wc -c < us.kbd)
+script=$(wc -c < line.script)
 
-for size in 0 1 511 512 513 4095 4096 4097 65535 65536 65537 1048575 1048576 1048577; do
+# Repeated lines may be cut within a word, a keymap or script and what is blank only where it is shorter.
+for size in ${SIZES:-0 1 511 512 513 4095 4096 4097 65535 65536 65537 1048575 1048576 1048577}; do
     what="$size bytes of repeated lines"
-    repeated $size us.kbd > input
-    texts
+    repeated "$size" us.kbd > input
+    texts "$(within $never "$size")"
     what="$size bytes of a keymap and blanks"
-    filled $size us.kbd ' ' > input
-    texts
+    filled "$size" us.kbd ' ' > input
+    texts "$(within "$keymap" "$size")"
     what="$size bytes of repeated events"
-    repeated $size events > input
-    scripts
+    repeated "$size" events > input
+    scripts "$(within $never "$size")"
     what="$size bytes of a script and empty lines"
-    filled $size line.script '\n' > input
-    scripts
-    for sentence in german english; do
-        what="$size bytes of a sentence in $sentence"
-        in_one_line $size $sentence > input
-        same input type ../de.kbd /dev/stdin
-    done
+    filled "$size" line.script '\n' > input
+    scripts "$(within "$script" "$size")"
+    what="$size bytes of a sentence in German"
+    in_one_line "$size" german > input
+    same "$(within $never "$size")" type ../de.kbd /dev/stdin
+    what="$size bytes of a sentence in English"
+    in_one_line "$size" english > input
+    same "$(within 0 "$size")" type ../de.kbd /dev/stdin
 done
 
-# The sizes of both table files, too.
-for size in 0 1 511 512 513 4095 4096 4097 4138 4139 4140 15523 15524 15525 \
-    65535 65536 65537 1048575 1048576 1048577; do
+# The sizes of both table files, too: only one of that very size is a table file.
+for size in ${SIZES:-0 1 511 512 513 4095 4096 4097 4138 4139 4140 15523 15524 15525 \
+    65535 65536 65537 1048575 1048576 1048577}; do
     what="$size bytes of tables and zeros"
-    filled $size wide '\000' > input
-    same input dump /dev/stdin
+    filled "$size" wide '\000' > input
+    same "$([ "$size" -eq 15524 ]; echo $?)" dump /dev/stdin
     what="$size bytes of a narrow file and zeros"
-    filled $size narrow '\000' > input
-    same input dump --narrow /dev/stdin
+    filled "$size" narrow '\000' > input
+    same "$([ "$size" -eq 4139 ]; echo $?)" dump --narrow /dev/stdin
 done
 
 counted

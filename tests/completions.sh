@@ -34,8 +34,14 @@ commands=$(commands_in help)
         fi
     done
 } | sort > wanted
-holds 'the help lists commands' [ "$(echo "$commands" | wc -l)" -ge 5 ]
-holds 'the help lists options' grep -qx 'play --next' wanted
+holds 'the help lists the commands of the source' \
+    [ "$(echo "$commands" | sort)" = "$(commands_of_source "$top" | sort)" ]
+holds 'the help lists the options of the source' \
+    [ "$(sed -n 's/.* --/--/p' wanted | sort -u)" = "$(options_of_source "$top" | sort -u)" ]
+for command in kmap $commands; do
+    [ "$command" = help ] || holds "the help of $command lists -h and --help" \
+        [ "$(grep -cxE "$command (-h|--help)" wanted)" -eq 2 ]
+done
 
 # What the files say, from their own words. In the one for bash the words of a command stand behind its name.
 sed -n "s/^    \(.*\)) echo '\(.*\)' ;;\$/\1 \2/p" "$completions/kmap.bash" | sed "s/^''/kmap/" |
@@ -89,14 +95,16 @@ in_bash() {
     tried "$label" "$words"
 }
 if is_there bash; then
-    in_bash 'check compile' kmap c
+    in_bash 'check cover compile' kmap c
     in_bash '--show --help -h' kmap check -
     in_bash '--next' kmap play letter --n
     in_bash '' kmap play le
     in_bash 'lint' kmap l
     in_bash '--help -h' kmap lint letter -
     in_bash '' kmap lint letter le
-    in_bash 'compile check' kmap help c
+    in_bash 'fmt' kmap f
+    in_bash '--check' kmap fmt --c
+    in_bash 'compile check cover' kmap help c
     in_bash '--help --version' kmap --
 fi
 
@@ -108,7 +116,7 @@ in_fish() {
 : > letter
 : > line
 if is_there fish; then
-    in_fish 'check compile' 'kmap c'
+    in_fish 'check cover compile' 'kmap c'
     in_fish '--show --help -h' 'kmap check -'
     in_fish '--next' 'kmap play letter --n'
     in_fish 'letter' 'kmap play le'
@@ -116,7 +124,9 @@ if is_there fish; then
     in_fish 'lint' 'kmap l'
     in_fish '--help -h' 'kmap lint letter -'
     in_fish 'letter line' 'kmap lint letter l'
-    in_fish 'compile check' 'kmap help c'
+    in_fish 'fmt' 'kmap f'
+    in_fish '--check' 'kmap fmt --c'
+    in_fish 'compile check cover' 'kmap help c'
     in_fish '--help --version' 'kmap --'
 fi
 if is_there zsh; then

@@ -20,13 +20,14 @@ cd "$folder" || exit 1
 LC_ALL=C
 export LC_ALL
 
+# is_xml FILE: a reader of XML takes it
 if command -v xmllint > /dev/null; then
     is_xml() { xmllint --noout "$1"; }
 elif command -v python3 > /dev/null; then
     is_xml() { python3 -c 'import sys, xml.etree.ElementTree as tree; tree.parse(sys.argv[1])' "$1"; }
 else
-    echo 'skipped: there is neither xmllint nor python3, so no picture is read as XML'
-    is_xml() { :; }
+    holds 'there is neither xmllint nor python3, so no picture can be read as XML' false
+    is_xml() { false; }
 fi
 
 # is_plain FILE: every byte is LF or 20 to 7e

@@ -1,7 +1,8 @@
 #!/bin/sh
-# Tries tests/edits itself, on a small repository with edits that are good and edits that each show nothing in a way of
-# its own: each is told for what it is, the status says whether one failed, and the repository stays as it was. Then
-# tests/gate, which tries them beside `rt ci`.
+# Tries tests/edits itself, on a repository of two small crates, with edits that are good and edits that each show
+# nothing in a way of its own: each is told for what it is, the status says whether one failed, and the repository stays
+# as it was. Then which edits stand as tried, and what has them tried again. Then tests/gate, which tries them beside
+# `rt ci`.
 #
 # usage: edits_driver.sh
 # The last line is 'N passed, M failed'; the status is 0 where none failed. RT names the kit's command.
@@ -13,7 +14,7 @@ trap 'rm -rf "$folder"' EXIT
 
 cp -R "$tests/tiny" "$folder/tiny"
 mkdir "$folder/tiny/tests"
-cp "$tests/edits" "$tests/gate" "$tests/proved.py" "$folder/tiny/tests"
+cp "$tests/edits" "$tests/gate" "$tests"/*.py "$folder/tiny/tests"
 cd "$folder/tiny" || exit 1
 # The gate wants each source of the repository in a crate that crates.txt names, so these have other names there.
 find . -name '*.text' | while read -r file; do mv "$file" "${file%.text}"; done
@@ -29,9 +30,11 @@ ends() {
     [ $got -eq "$wanted" ] || cat "$folder/said"
 }
 
-# edits WANTED: the driver ends so
+# edits WANTED OPTION..: the driver ends so
 edits() {
-    ends "$1" python3 tests/edits -v
+    wanted=$1
+    shift
+    ends "$wanted" python3 tests/edits -v "$@"
 }
 
 # tells LINE: it says a line that begins so
@@ -39,7 +42,9 @@ tells() {
     holds "it does not say: $1" grep -qF "$1" "$folder/said"
 }
 
-edits 1
+# as a file would say it that was written before
+echo 0 > crates/counter/edits/tried
+edits 1 --write
 # two edits of one function, and one that waits for its callee
 tells 'counter/half_of_more.edit: refused in half: returns'
 tells 'counter/half_of_less.edit: refused in half: returns'
@@ -55,6 +60,7 @@ tells 'counter/a_definition_and_code.edit: refused in bounded: returns'
 # one that makes a lemma false, in the function that it names
 tells 'counter/a_definition_that_a_lemma_knows.edit: refused in proofs/Odd.antt: `odd`'
 tells 'counter/same_half.edit: NOT REFUSED: proved with it: half'
+tells 'counter/a_byte_where_a_clause_is_named.edit: refused in middle, and not at the clause returns: '
 tells 'counter/another_function_is_refused.edit: NOT REFUSED: proved with it: half'
 tells 'counter/a_local_of_another_name.edit: refused only since a proof file names what is gone: zeros: '
 tells 'counter/a_name_that_is_not_there.edit: the prover cannot read it: src/lib.rt:'
@@ -63,8 +69,12 @@ tells "counter/a_line_that_is_there_three_times.edit: an 'old:' text stands in s
 tells "counter/a_definition.edit: it changes nothing below src/"
 tells 'counter/a_function_that_is_not_there.edit: there is no function nowhere'
 tells 'counter/notes.txt: it is no edit'
-tells '9 passed, 9 failed'
-holds 'it changes no file' diff -r crates "$folder/before"
+tells 'counter: its edits do not stand as tried'
+tells 'low/one_of_two.edit: refused in one: returns'
+tells '10 passed, 10 failed, 0 as tried'
+diff -r crates "$folder/before" > "$folder/said"
+holds 'it writes one file, of the crate whose edits were all refused, and leaves none of the other' \
+    [ "$(cat "$folder/said")" = 'Only in crates/low/edits: tried' ]
 
 # The kit's own driver, which tries each alone, says the same of those that the prover can read.
 mkdir crates/counter/must-fail
@@ -82,21 +92,127 @@ rm -r crates/counter/must-fail
 cd crates/counter/edits || exit 1
 mkdir ../good
 mv half_of_more.edit quarter_from_a_half.edit a_definition_and_code.edit ../good
+cp same_half.edit "$folder"
 rm ./*
 mv ../good/* .
+rmdir ../good
 cd ../../.. || exit 1
+edits 0 --write counter
+tells '3 passed, 0 failed, 0 as tried'
 edits 0
-tells '3 passed, 0 failed'
+tells 'counter: 3 as tried'
+tells 'low: 1 as tried'
+tells '0 passed, 0 failed, 4 as tried'
 
-# The gate tries them too, beside commands, and fails where one of these does.
-ends 0 python3 tests/gate 'echo said beside it'
+# stands WANTED: which crates have edits that stand as tried
+stands() {
+    python3 tests/edits --list > "$folder/said"
+    holds "of $what: as tried stand '$(sed -n 's/: [0-9]* as tried$//p' "$folder/said" | sort | tr '\n' ' ')'" \
+        [ "$(sed -n 's/: [0-9]* as tried$//p' "$folder/said" | sort | tr '\n' ' ')" = "${1:+$1 }" ]
+}
+
+# changes FILE WANTED: where a line is added to the file, those of these crates still stand as tried
+changes() {
+    what="a change of $1"
+    [ -e "$1" ] && cp -p "$1" "$folder/unchanged"
+    echo >> "$1"
+    stands "$2"
+    rm "$1"
+    [ -e "$folder/unchanged" ] && mv "$folder/unchanged" "$1"
+}
+
+# Whatever the verdicts rest on has them tried again, also below a crate and what isn't there yet, and nothing else has.
+what='no change'
+stands 'counter low'
+for file in proofs/one_is_odd/Answers.antt src/lib.rt proofs/Other.antt; do changes crates/low/$file ''; done
+for file in src/lib.rt specs/Numbers.antt proofs/Odd.antt edits/half_of_more.edit edits/another.edit; do
+    changes crates/counter/$file low
+done
+changes crates/low/edits/one_of_two.edit counter
+for file in HANDLES tests/edits tests/proved.py tests/tried.py; do changes $file ''; done
+for file in README.md tests/gate crates/counter/must-fail crates.txt; do changes $file 'counter low'; done
+what='another line of crates.txt'
+cp crates.txt "$folder"
+sed 's/^counter:.*/& std/' "$folder/crates.txt" > crates.txt
+stands low
+sed 's/^low:.*/& std/' "$folder/crates.txt" > crates.txt
+stands ''
+cp "$folder/crates.txt" .
+what='another kit'
+printf '#!/bin/sh\necho another kit\n' > "$folder/rt"
+chmod +x "$folder/rt"
+kit=${RT:-rt}
+RT=$folder/rt
+export RT
+stands ''
+RT=$kit
+what='an edit that is gone'
+mv crates/counter/edits/half_of_more.edit "$folder"
+stands low
+mv "$folder/half_of_more.edit" crates/counter/edits
+
+# They are then tried, and only they.
+sed '1s/^/-- A proof below.\n/' crates/low/proofs/one_is_odd/Answers.antt > "$folder/changed"
+cp "$folder/changed" crates/low/proofs/one_is_odd/Answers.antt
+edits 0 --write
+tells '4 passed, 0 failed, 0 as tried'
+cp crates/counter/edits/tried "$folder"
+cp crates/low/edits/tried crates/counter/edits
+edits 0
+tells '3 passed, 0 failed, 1 as tried'
+holds 'it writes no file unless it is asked to' cmp -s crates/low/edits/tried crates/counter/edits/tried
+
+# A sum that is right says so of an edit that was never tried: tests/edits believes it, unless it is asked not to.
+cp "$folder/same_half.edit" crates/counter/edits
+python3 -B -c 'import sys
+sys.path.insert(0, "tests")
+from proved import Crates
+from tried import Tried
+tried = Tried(Crates())
+tried.keep("counter", tried.sum("counter"))'
+edits 0
+tells '0 passed, 0 failed, 5 as tried'
+
+# The gate finds it when it is the crate's turn, which no one picks: a change of any file draws anew.
+# turn CRATE: a file of the repository is changed until it is the crate's turn
+turn() {
+    rm -f README.md
+    while [ "$(python3 tests/edits --list | tail -n 1)" != "in turn: $1" ]; do echo >> README.md; done
+    holds "it is the turn of $1 without many changes" [ "$(cat README.md 2> /dev/null | wc -l)" -lt 100 ]
+}
+turn counter
+ends 1 python3 tests/gate
 tells '== edits of counter'
-tells '3 passed, 0 failed'
+tells 'counter/same_half.edit: NOT REFUSED: proved with it: half'
+tells '5 edits: 3 refused in this run, those of counter in turn, 1 failed, 1 as tried'
+tells 'FAILED: edits of counter'
+rm crates/counter/edits/same_half.edit
+cp "$folder/tried" crates/counter/edits
+
+# The gate tries them beside commands.
+turn low
+MINUTES=$folder/minutes
+export MINUTES
+ends 0 python3 tests/gate 'echo said beside it'
+unset MINUTES
+for part in 'proofs of libraries' 'rest of rt ci' edits; do
+    holds "it does not tell the minutes of $part" grep -qE "^$part +[0-9]+\.[0-9] +[0-9]+\.[0-9]\$" "$folder/minutes"
+done
+tells '== edits of counter'
+tells 'counter: 3 as tried'
+tells '4 edits: 1 refused in this run, those of low in turn, 0 failed, 3 as tried'
 tells 'said beside it'
-mv crates/counter/edits "$folder/edits"
+
+# It fails where one of these does, where those of a crate were not started, and where not all of a crate are told of.
+printf '#!/bin/sh\n%s "$@" | sed "/^rt: counter /d"\n' "$kit" > "$folder/rt"
+RT=$folder/rt
+cp tests/edits "$folder"
+printf 'print("0 passed, 0 failed, 2 as tried")\n' > tests/edits
 ends 1 python3 tests/gate 'exit 3'
-tells 'FAILED: exit 3'
-mv "$folder/edits" crates/counter/edits
+tells '4 edits: 0 refused in this run, 0 failed, 2 as tried'
+tells 'FAILED: exit 3, edits of counter, which were not started, edits of low, which tell of 2 and not of 1'
+RT=$kit
+cp "$folder/edits" tests
 
 # A crate that is not proved as it stands shows nothing.
 sed 's,number / 2$,number / 3,' crates/counter/src/lib.rt > "$folder/turned"
@@ -106,6 +222,6 @@ tells 'counter/quarter_from_a_half.edit: not tried, since the crate is not prove
 tells 'counter/a_definition_and_code.edit: not tried, since the crate is not proved as it stands'
 ends 1 python3 tests/gate
 tells 'rt: counter NOT PROVED'
-holds 'the gate tries edits of a crate that is not proved' [ "$(grep -c '== edits' "$folder/said")" -eq 0 ]
+holds 'the gate tries edits of a crate that is not proved' [ "$(grep -c '== edits of counter' "$folder/said")" -eq 0 ]
 
 counted

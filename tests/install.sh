@@ -42,8 +42,11 @@ share/doc/kmap/docs/TRANSLATION.md
 share/doc/kmap/docs/de.svg
 share/examples/kmap/de.kbd
 share/examples/kmap/de.script
+share/examples/kmap/kmap.py
 share/examples/kmap/line.numbers
 share/examples/kmap/line.script
+share/examples/kmap/load.c
+share/examples/kmap/test_keymap.py
 share/examples/kmap/trap.kbd
 share/examples/kmap/type.c
 share/examples/kmap/type.py

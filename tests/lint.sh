@@ -109,6 +109,9 @@ echo "30 'a' 'a' 'a' 'a' 'a' 'a' 'a' 'a' x" > t
 faulty 'a letter that is no lock letter' 1 36 BadWord 'x means nothing'
 echo '30 U+00e4' > t
 faulty 'a character as others write it' 1 4 BadWord 'U means nothing; for U+00e4 write 0x00e4'
+echo '30 U+1111111111222222222233333333334' > t
+faulty 'so much of the number as of a word' 1 4 BadWord \
+    'U means nothing; for U+111111111122222222223333 write 0x111111111122222222223333'
 echo 'dacu U+b4, or so' > t
 faulty 'a character of an accent as others write it' 1 6 BadWord 'U means nothing; for U+b4 write 0xb4'
 echo '30 U+' > t
@@ -266,11 +269,13 @@ t: warning: no key is lshift or rshift [no-shift]
 END
 echo '54 rshift rshift rshift rshift rshift rshift rshift rshift O' > t
 lints 'the right shift key alone' 0 t < /dev/null
+echo '54 nop nop nop nop nop nop nop rshift O' > t
+lints 'a shift key in its last column alone' 0 t < /dev/null
 # No key selects the slot that has it.
 echo '170 lshift lshift lshift lshift lshift lshift lshift lshift O' > t
 lints 'a shift key that is never looked at' 0 t << 'END'
 t: warning: no key is lshift or rshift [no-shift]
-t:1:1: warning: no key is ashift or alock, so slots 170 are never looked at [unused-half]
+t:1:1: warning: no key is ashift or alock, so slot 170 is never looked at [unused-half]
   170 lshift lshift lshift lshift lshift lshift lshift lshift O
   ^
 END
@@ -280,7 +285,7 @@ cp "$top/examples/trap.kbd" trap.kbd
 lints 'the example that is refused' 1 trap.kbd << END
 trap.kbd:6:9: error: key 42 is lshift here and the character 'x' in column 2 (ctrl); put lshift or nop for its \
 characters [mixed-key]
-    042   lshift lshift 'x'    'x'    lshift lshift lshift lshift O
+    042   lshift lshift 'x'    'x'    lshift lshift lshift lshift  O
           ^
 trap.kbd: note: lshift stays on with no key pressed, after: down 42, down 29, down 42, up 29, up 42
 END
@@ -325,7 +330,7 @@ same_text 'mixed keys by their places' want kinds
 # half-defined
 printf '%s\n' "$shift" "170 lshift lshift lshift lshift lshift lshift lshift lshift O" "$letter" "$lock" "$above" > t
 lints 'an upper slot that is left out' 0 t << END
-t:4:4: warning: alock selects the slots from 128 on, but the text does not define slots 158, which give nul \
+t:4:4: warning: alock selects the slots from 128 on, but the text does not define slot 158, which gives nul \
 [half-defined]
   58 alock alock alock alock alock alock alock alock O
      ^
@@ -368,9 +373,25 @@ t:3:4: warning: key 58 is alock here and the character 'x' in column 1 (shift); 
 though no modifier ever stays on [mixed-key]
   58 alock 'x' nop nop nop nop nop nop O
      ^
-t:3:4: warning: alock selects the slots from 128 on, but the text does not define slots 186, which give nul \
+t:3:4: warning: alock selects the slots from 128 on, but the text does not define slot 186, which gives nul \
 [half-defined]
   58 alock 'x' nop nop nop nop nop nop O
+     ^
+END
+
+# At two keys: what the search found is told once.
+printf '%s\n' "58 clock clock clock clock clock clock clock 'x' O" \
+    '93 ashift ashift ashift ashift ashift ashift ashift ashift O' > t
+lints 'a half without a note beside a mixed key' 1 t << END
+t: warning: no key is lshift or rshift [no-shift]
+t:1:4: error: key 58 is clock here and the character 'x' in column 7 (alt ctrl shift); put clock or nop for its \
+characters [mixed-key]
+  58 clock clock clock clock clock clock clock 'x' O
+     ^
+t: note: ashift stays on with no key pressed, after: down 93, down 93, up 93
+t:2:4: error: ashift selects the slots from 128 on, but the text does not define slots 186, 221, which give nul; so \
+key 93 is a modifier or lock with a character [half-defined]
+  93 ashift ashift ashift ashift ashift ashift ashift ashift O
      ^
 END
 
@@ -403,6 +424,12 @@ t:3:1: warning: this definition of dacu has no effect: line 4 defines it again, 
 END
 
 # dead-key
+printf '%s\n' "$shift" '169 dgra dgra dgra dgra dgra dgra dgra dgra O' > t
+lints 'a dead key that is never looked at' 0 t << 'END'
+t:2:1: warning: no key is ashift or alock, so slot 169 is never looked at [unused-half]
+  169 dgra dgra dgra dgra dgra dgra dgra dgra O
+  ^
+END
 printf '%s\n' "$shift" '40 dacu nop nop nop nop nop nop nop O' > t
 lints 'a dead key and no accent' 0 t << 'END'
 t:2:4: warning: the text defines no accent, so pressing dacu is an error [dead-key]
@@ -472,7 +499,7 @@ t:2:3: warning: no key is ashift or alock, so slots 128 to 130, 170, 255 are nev
 END
 printf '%s\n' "$shift" '170 ashift alock nop nop nop nop nop nop O' > t
 lints 'an upper half that only it would select' 0 t << 'END'
-t:2:1: warning: no key is ashift or alock, so slots 170 are never looked at [unused-half]
+t:2:1: warning: no key is ashift or alock, so slot 170 is never looked at [unused-half]
   170 ashift alock nop nop nop nop nop nop O
   ^
 END
@@ -502,7 +529,7 @@ t: warning: no key is lshift or rshift [no-shift]
 t:1:1: warning: this definition of slot 2 has no effect: line 5 defines it again [defined-again]
   2 1 dacu nop nop nop nop nop nop O
   ^
-t:3:1: warning: no key is ashift or alock, so slots 129 are never looked at [unused-half]
+t:3:1: warning: no key is ashift or alock, so slot 129 is never looked at [unused-half]
   129 nop nop nop nop nop nop nop nop O
   ^
 t:4:22: warning: this pair has no effect: dgra has one with the base 'a' before it, in line 4 [pair-again]
@@ -675,7 +702,7 @@ $excerpt
 --bad:1:4: $words
 $excerpt
 END
-echo 'kmap: text: read fault at offset 0' > told
+echo 'kmap: folder: text: read fault at offset 0' > told
 lints 'a folder' 1 folder doubtful << 'END'
 doubtful: warning: no key is lshift or rshift [no-shift]
 END
@@ -689,13 +716,13 @@ long:1:4: $words
 $excerpt
 END
 echo >> long
-echo 'kmap: text: more than 1048576 bytes' > told
+echo 'kmap: long: text: more than 1048576 bytes' > told
 lints 'a text that is too long' 1 long bad << END
 bad:1:4: $words
 $excerpt
 END
 if [ -e /dev/zero ]; then
-    echo 'kmap: text: more than 1048576 bytes' > told
+    echo 'kmap: /dev/zero: text: more than 1048576 bytes' > told
     lints 'a text without end' 1 /dev/zero < /dev/null
 fi
 
@@ -742,7 +769,7 @@ faulty 'a text cut in a character' 26 17 EndInside 'the text ends in a quoted ch
 lints 'a text cut between lines' 0 begun << 'END'
 begun: warning: no key is lshift or rshift [no-shift]
 begun:17:44: warning: the text defines no accent, so pressing dcir is an error [dead-key]
-    007   '6'    '^'    rs     rs     '6'    dcir   rs     rs     O
+    007   '6'    '^'    rs     rs     '6'    dcir   rs     rs      O
                                              ^
 END
 # UTF-16 with and without its mark, and UTF-8 with one.
@@ -807,6 +834,38 @@ if is_there vim; then
     same_text 'the places that vim reads' want got
 fi
 
+# The name of a file is shown as its text is, in one line.
+unseen=$(printf 'a\033[31m\nb\342\200\256c')
+shown="a${hidden}[31m${hidden}b${hidden}c"
+cp t "$unseen"
+"$program" lint t | sed "s/^t:/$shown:/" > named
+lints 'a name that a terminal does not show' 1 "$unseen" < named
+rm "$unseen"
+mkdir "$unseen"
+echo "kmap: $shown: text: read fault at offset 0" > told
+lints 'a folder of such a name' 1 "$unseen" < /dev/null
+rmdir "$unseen"
+
+# A word, a number and a comment of almost 1 MiB: what is shown of them is cut.
+# huge FRONT BYTE END: makes `t` of the front, of a million of the byte, and of the end
+huge() {
+    { printf "$1"; head -c 1000000 /dev/zero | tr '\000' "$2"; printf "$3"; } > t
+}
+# short NAME: what lint prints of `t` is an error in few bytes
+short() {
+    "$program" lint t > got 2> stderr
+    holds "$1: status" [ $? -eq 1 ]
+    holds "$1: an error" grep -q ': error: ' got
+    holds "$1: in $(wc -c < got) bytes" [ "$(wc -c < got)" -lt 1000 ]
+}
+for front in '' '30 ' '30 0x' '30 U+' "30 'a" "30 '" '30 fkey' '30 scr' 'dacu ' '30 $' \
+    "30 'a' 'A' nop nop 'a' 'A' nop nop " "dacu 'a' ( 'b' " "dacu 'a' ( "; do
+    for byte in 0 a '\377' '\033'; do
+        huge "$front" "$byte" '\n'
+        short "a million of $byte behind '$front'"
+    done
+done
+
 # Words, and output that can't be written.
 # refuses NAME WORD..: the words are wrong
 refuses() {
@@ -820,7 +879,7 @@ refuses() {
 refuses 'no file'
 refuses 'an unknown option' --loud bad
 refuses 'an option behind a file' bad --loud
-refuses 'a word that is no UTF-8' bad "$(printf '\377')"
+refuses 'a word that is not UTF-8' bad "$(printf '\377')"
 "$program" lint --help > got
 holds 'help' [ $? -eq 0 ]
 holds 'an example in the help' grep -q '^Example: kmap lint ' got

@@ -1,6 +1,7 @@
 #!/bin/sh
-# Compares the manual pages with the built program: the pages name every command and option of the help and every kind
-# of fault, and mandoc has nothing to say about them.
+# Compares the manual pages with the built program and the sources: the pages name every command and option of the help,
+# every kind of fault and of diagnostic, and every function of the header, of which the sources have the same ones, and
+# mandoc has nothing to say about them.
 #
 # usage: manual.sh PROGRAM
 # The last line is 'N passed, M failed'; the status is 0 where none failed.
@@ -19,7 +20,13 @@ cd "$top" || exit 1
 # Options are written in a page as `Fl h` and `Fl Fl show`.
 "$program" --help > "$folder/help"
 commands=$(commands_in "$folder/help")
-holds 'the help lists commands' [ "$(echo "$commands" | wc -l)" -ge 5 ]
+holds 'the help lists the commands of the source' \
+    [ "$(echo "$commands" | sort)" = "$(commands_of_source "$top" | sort)" ]
+holds 'the help lists the options of the source' [ "$(
+    for command in '' $commands; do
+        [ "$command" = help ] || "$program" ${command:+"$command"} --help > "$folder/help" && options_in "$folder/help"
+    done | grep '^--' | sort -u
+)" = "$(options_of_source "$top" | sort -u)" ]
 for command in '' $commands; do
     [ -z "$command" ] || holds "kmap(1) has the command $command" grep -q "^\.It Cm $command " man/kmap.1
     [ "$command" != help ] || continue
@@ -30,27 +37,39 @@ for command in '' $commands; do
     done
 done
 
-# Kinds of faults stand in the document of the formats as the first words of tables.
-kinds=$(sed -n 's/^| \([A-Z][A-Za-z]*\) |.*/\1/p' docs/FORMATS.md)
-holds 'the formats have kinds of faults' [ "$(echo "$kinds" | wc -l)" -ge 18 ]
-for kind in $kinds Short Long BadLine BadKey; do
+# Kinds of faults stand in the document of the formats as the first words of tables, but for those of whole files and of
+# scripts.
+kinds=$(variants crates/keymap_text/src/fault.rt TextFaultKind
+    variants crates/keymap_tables/src/fault.rt TableFaultKind)
+told=$(sed -n 's/^| \([A-Z][A-Za-z]*\) |.*/\1/p' docs/FORMATS.md)
+holds 'the formats have the kinds of faults of the sources' \
+    [ "$(echo "$kinds" | grep -vxE 'Short|Long' | sort -u)" = "$(echo "$told" | sort -u)" ]
+for kind in $kinds $(variants crates/play_core/src/script.rt ScriptFault); do
     holds "kmap(1) tells of $kind" grep -qw "$kind" man/kmap.1
 done
 
 # Kinds of diagnostics stand there likewise, and are words with a dash.
-kinds=$(sed -n 's/^| \([a-z][a-z]*-[a-z]*\) |.*/\1/p' docs/FORMATS.md)
-holds 'the formats have kinds of diagnostics' [ "$(echo "$kinds" | wc -l)" -ge 10 ]
+kinds=$(variants crates/keymap_lint/src/diagnostic.rt Kind | grep -vx Fault | sed 's/\([a-z]\)\([A-Z]\)/\1-\2/g' |
+    tr 'A-Z' 'a-z')
+told=$(sed -n 's/^| \([a-z][a-z]*-[a-z]*\) |.*/\1/p' docs/FORMATS.md)
+holds 'the formats have the kinds of diagnostics of the sources' \
+    [ "$(echo "$kinds" | sort)" = "$(echo "$told" | sort)" ]
 for kind in $kinds; do
     holds "kmap(1) tells what to do about $kind" grep -qx "\.It $kind" man/kmap.1
 done
 
 # Functions of the header stand in the page as `Fn`.
 functions=$(sed -n 's/^[a-z0-9_]* \(kmap_[a-z_]*\)(.*/\1/p' include/kmap.h)
-holds 'the header has functions' [ "$(echo "$functions" | wc -l)" -ge 8 ]
+exported=$(sed -n 's/^pub extern "C" fn \([a-z_]*\)(.*/\1/p' crates/kmap_c/src/*.rt)
+holds 'the header has functions' [ -n "$functions" ]
+holds 'the header has the functions of the sources' [ "$(echo "$exported" | sort)" = "$(echo "$functions" | sort)" ]
 for function in $functions; do
     holds "kmap(3) tells of $function" grep -q "^\.F[on] $function" man/kmap.3
 done
-for status in $(sed -n 's/^#define \(KMAP_[A-Z_]*\) (-.*/\1/p' include/kmap.h); do
+statuses=$(sed -n 's/^#define \(KMAP_[A-Z_]*\) (\(-[0-9]*\)).*/\1 \2/p' include/kmap.h)
+exported=$(sed -n 's/^\(pub(crate) \)*const \([A-Z_]*\): i32 = \(-[0-9]*\);.*/KMAP_\2 \3/p' crates/kmap_c/src/*.rt)
+holds 'the header has the statuses of the sources' [ "$(echo "$exported" | sort)" = "$(echo "$statuses" | sort)" ]
+for status in $(echo "$statuses" | sed 's/ .*//'); do
     holds "kmap(3) tells of $status" grep -qw "$status" man/kmap.3
 done
 

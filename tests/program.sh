@@ -194,6 +194,16 @@ ran 'no tables' 1 '' "kmap: cannot open none1$line" dump none1
 ran 'no text to compile' 1 '' "kmap: cannot open none1$line" compile none1 made
 holds 'nothing is made of no text' [ ! -e made ]
 
+# The name of a file is shown as a text is: in one line, with U+FFFD in place of what a terminal does not show.
+unseen=$(printf 'a\033[31m\nb\342\200\256c\302\205\360\237\230\200')
+shown=$(printf 'a\357\277\275[31m\357\277\275b\357\277\275c\357\277\275\360\237\230\200')
+ran 'a name that a terminal does not show' 1 '' "kmap: cannot open $shown$line" check "$unseen"
+ran 'a folder of such a name' 1 '' "kmap: cannot create none/$shown$line" compile letter "none/$unseen"
+mkdir "$unseen"
+ran 'a folder of such a name cannot be formatted' 1 '' "kmap: $shown: not a regular file$line" fmt "$unseen"
+ran 'nor read' 1 '' "kmap: $shown: text: read fault at offset 0$line" fmt --print "$unseen"
+rmdir "$unseen"
+
 # Compiling and dumping.
 ran 'compiles' 0 '' '' compile letter tables
 holds 'the size of tables' [ "$(wc -c < tables)" -eq 15524 ]
@@ -217,13 +227,52 @@ holds 'an old file is left as it was' same_bytes kept "old$line"
 cp letter own
 ran 'compiles onto the text itself' 0 '' '' compile own own
 holds 'the text is gone' cmp -s own tables
-# The disk is full after some bytes, as far as the program sees it.
-(trap '' XFSZ; ulimit -f 8; exec "$program" compile letter part) > stdout 2> stderr
-holds 'a full disk: status' [ $? -eq 1 ]
-holds 'a full disk leaves a part' [ -s part ]
-holds 'a full disk: line' same_bytes stderr "kmap: write fault after $(wc -c < part | tr -d ' ') bytes$line"
-ran 'the part is no table file' 1 '' "kmap: tables offset $(wc -c < part | tr -d ' '): Short$line" dump part
+# The disk is full after some bytes, as far as the program sees it: the old file stays, and nothing lies beside it.
+# full FILE ARGS..: compiles onto the file where no file may have more than a few bytes
+full() {
+    file=$1
+    shift
+    (trap '' XFSZ; ulimit -f 8; exec "$program" compile "$@" letter "$file") > stdout 2> stderr
+    holds 'a full disk: status' [ $? -eq 1 ]
+    holds 'a full disk: line' grep -qxE 'kmap: write fault after (4096|8192) bytes' stderr
+    holds 'a full disk leaves no new file' [ ! -e "$file.kmap-new" ]
+}
+echo old > kept
+full kept
+holds 'a full disk leaves the old file' same_bytes kept "old$line"
+full part
+holds 'a full disk leaves no part' [ ! -e part ]
+head -c 4096 tables > part
+ran 'a part is no table file' 1 '' "kmap: tables offset 4096: Short$line" dump part
+
+# What is written takes the place of the old file whole: its rights stay, and so do links to it.
+cp letter kept
+chmod 640 kept
+ran 'compiles onto an old file' 0 '' '' compile letter kept
+holds 'the tables are there' cmp -s kept tables
+holds 'the rights of the old file stay' [ "$(stat -c %a kept)" = 640 ]
+(umask 027 && "$program" compile letter masked)
+holds 'a new file has the rights of any new file' [ "$(stat -c %a masked)" = 640 ]
+echo old > behind
+ln -s behind link
+ran 'compiles through a link' 0 '' '' compile letter link
+holds 'the link stays' [ "$(readlink link)" = behind ]
+holds 'the file behind a link has the tables' cmp -s behind tables
+ln -s nowhere loose
+ran 'compiles through a link to nothing' 0 '' '' compile letter loose
+holds 'a file is made there' cmp -s nowhere tables
+echo old > kept
+: > kept.kmap-new
+ran 'the new file is there already' 1 '' "kmap: cannot create kept.kmap-new$line" compile letter kept
+holds 'the old file stays beside it' same_bytes kept "old$line"
+holds 'the other file stays too' [ -e kept.kmap-new ]
+rm kept.kmap-new
+"$program" compile letter /dev/stdout > piped
+holds 'compiles to a file that is open as standard output' cmp -s piped tables
+"$program" compile letter /dev/stdout | cat > piped
+holds 'compiles to a pipe' cmp -s piped tables
 ran 'cannot create in no folder' 1 '' "kmap: cannot create none/made$line" compile letter none/made
+ran 'cannot create without a name' 1 '' "kmap: cannot create $line" compile letter ''
 ran 'cannot create a folder' 1 '' "kmap: cannot create folder$line" compile letter folder
 
 # Narrow files.
@@ -239,6 +288,7 @@ holds 'what is too wide leaves an empty file' same_bytes kept ''
 echo "dacu 0x20ac ( 'e' 0x20ac )" > accent
 ran 'an accent too wide' 1 '' "kmap: accent too wide at accent 1 number 0$line" compile accent kept --narrow
 holds 'an accent too wide leaves an empty file' same_bytes kept ''
+holds 'nothing is left beside it' [ ! -e kept.kmap-new ]
 echo old > kept
 ran 'a faulty text makes no narrow file' 1 '' "kmap: text line 1 offset 3: EndInside$line" compile cut kept --narrow
 holds 'a faulty text leaves the old file' same_bytes kept "old$line"
@@ -290,6 +340,18 @@ press 42: char 0; mods lshift; locks alock
 release 42: none; mods lshift; locks alock
 release 58: released alock; mods lshift; locks alock
 " '' play half half.script
+
+# Each key has a finding and each modifier a key, but no press ever turns one on: all sets of each key are tried.
+awk 'BEGIN {
+    split("lshift lctrl lalt ashift", name, " ")
+    for (key = 0; key < 128; key++) {
+        print key, "0x78 0x78 0x78 0x78 0x78 0x78 0x78", name[key % 4 + 1], "O"
+    }
+}' > traps
+timeout 10 "$program" check traps --show > stdout 2> stderr
+holds 'the longest search for a demonstration: status' [ $? -eq 1 ]
+holds 'the longest search for a demonstration: findings' [ "$(grep -c '^key ' stdout)" -eq 128 ]
+holds 'the longest search for a demonstration: none' [ "$(tail -n 1 stdout)" = 'demonstration: none' ]
 
 # Searching.
 ran 'an accepted keymap never sticks' 0 "# never sticks$line" '' search "$examples/us.kbd"
@@ -389,6 +451,13 @@ fails_to_write() {
 }
 fails_to_write 'checks' check shift
 fails_to_write 'shows' check --show "$examples/trap.kbd"
+fails_to_write 'searches' search shift
+fails_to_write 'searches two' search lock --next locked
+fails_to_write 'lints' lint "$examples/trap.kbd"
+fails_to_write 'lays out' fmt --print letter
+fails_to_write 'tells what is not laid out' fmt --check letter
+printf aA > sentence
+fails_to_write 'types a sentence' type shift sentence
 fails_to_write 'dumps' dump tables
 fails_to_write 'draws' draw letter
 fails_to_write 'plays' play letter tap
@@ -434,6 +503,6 @@ tells 'an unknown word' 2 stderr stdout jump
 tells 'a word too few' 2 stderr stdout play letter
 tells 'a word too many' 2 stderr stdout check letter tap
 tells 'an unknown flag' 2 stderr stdout check letter --loud
-tells 'words that are no UTF-8' 2 stderr stdout check "$(printf '\377')"
+tells 'words that are not UTF-8' 2 stderr stdout check "$(printf '\377')"
 
 counted

@@ -1,14 +1,14 @@
-"""What goes on with what `rt ci` proved.
+"""What goes on with what `rt ci` or `rt check` proved.
 
-The verdict of `rt ci` takes nothing from other commands of the kit and leaves them nothing: `rt check` and `rt lib` prove
-each library below once more. But the kit keeps what a run passed, on this machine, by the sums of all that was read. So
-`rt ci` over a copy of some crates takes what was kept, proves what was not, and leaves each library in its folder. The
-prover itself, `rattle`, goes on from there."""
+The verdict of `rt ci` takes nothing from other commands of the kit and leaves them nothing: `rt check` and `rt lib`
+prove each library below once more. But the kit keeps what a run passed, on this machine, by the sums of all that was
+read. So `rt ci` over a copy of some crates takes what was kept, proves what was not, and leaves each library in its
+folder. `rt check` there does the same with what other checks kept, which is no verdict on the crate. The prover itself,
+`rattle`, goes on from there."""
 
 import os
 import re
 import shutil
-import signal
 import subprocess
 
 TOP = os.path.dirname(os.path.dirname(os.path.abspath(__file__)))
@@ -40,7 +40,8 @@ def processors():
 def edit_files(name):
     """The files of edits of a crate, by their paths in its folder."""
     folder = f"{TOP}/crates/{name}/edits"
-    return [f"edits/{file}" for file in sorted(os.listdir(folder))] if os.path.isdir(folder) else []
+    files = sorted(os.listdir(folder)) if os.path.isdir(folder) else []
+    return [f"edits/{it}" for it in files if it != "tried"]
 
 
 def proved_in(line):
@@ -72,39 +73,49 @@ class Crates:
 
 
 class Proved:
-    """A copy of some crates and of those below them in a folder, where `rt ci` has proved them."""
+    """A copy of a crate and of those below it in a folder, where the kit proves them."""
 
-    def __init__(self, folder, names):
-        self.folder, self.crates = folder, Crates()
-        names = {low for it in names for low in [*self.crates.below[it], it]}
+    def __init__(self, folder, name):
+        self.folder, self.name, self.crates = folder, name, Crates()
+        names = [*self.crates.below[name], name]
         with open(f"{folder}/crates.txt", "w", encoding="utf-8") as it:
             it.writelines(f"{line}\n" for name, line in self.crates.lines.items() if name in names)
         if os.path.isfile(f"{TOP}/HANDLES"):
             shutil.copy(f"{TOP}/HANDLES", folder)
-        for name in names:
+        for it in names:
             for part in PARTS:
-                if os.path.isdir(f"{TOP}/crates/{name}/{part}"):
-                    shutil.copytree(f"{TOP}/crates/{name}/{part}", f"{self.of(name)}/{part}")
-        status, self.said = run(folder, [RT, "ci"])
-        self.proved = {it for it in map(proved_in, self.said) if it}
-        self.is_whole = status == 0
+                if os.path.isdir(f"{TOP}/crates/{it}/{part}"):
+                    shutil.copytree(f"{TOP}/crates/{it}/{part}", f"{self.of(it)}/{part}")
         self.kit = os.path.dirname(run(folder, [RT, "doc"])[1][0])
+        self.said = []
+
+    def by_ci(self):
+        """Has `rt ci` prove all, and returns whether the crate is proved."""
+        _, self.said = run(self.folder, [RT, "ci"])
+        return self.name in map(proved_in, self.said)
+
+    def by_check(self, jobs):
+        """Has `rt check` prove the crate and build those below it, and returns whether it is proved."""
+        status, self.said = run(self.of(self.name), [RT, "check", "--jobs", str(jobs)])
+        return status == 0
 
     def of(self, name):
         """The folder of a crate."""
         return f"{self.folder}/crates/{name}"
 
-    def rattle(self, verb, name, *words):
-        """Runs the prover over a library, with those below it as `rt ci` left them."""
+    def rattle(self, verb, *words):
+        """Runs the prover over the crate, with the libraries below it as the kit left them."""
+        name, rlibs = self.name, f"{self.kit}/rlibs"
         uses = ["std", *self.crates.uses[name]]
-        said = [f"{self.kit}/bin/rattle", verb, "--crate-name", name, "src/lib.rt", "-L", f"dependency={self.kit}/rlibs"]
+        said = [f"{self.kit}/bin/rattle", verb, "--crate-name", name, "src/lib.rt", "-L", f"dependency={rlibs}"]
         for low in self.crates.below[name]:
             said += ["-L", f"dependency={self.of(low)}/out/rlib"]
         for it in uses:
-            at = f"{self.of(it)}/out/rlib" if it in self.crates.uses else f"{self.kit}/rlibs"
+            at = f"{self.of(it)}/out/rlib" if it in self.crates.uses else rlibs
             said += ["--extern", f"{it}={at}/{it}.rlib"]
-        said += ["--antt-project", f"{self.kit}/rattle/logic/antt-project.json", "--logic-built", f"{self.kit}/logic_built"]
+        said += ["--antt-project", f"{self.kit}/rattle/logic/antt-project.json"]
+        said += ["--logic-built", f"{self.kit}/logic_built"]
         said += ["--crate-type", "staticlib"] if "staticlib" in self.crates.kinds[name] else []
         ran = run(self.of(name), [*said, *words])
-        # killed, most likely for memory: once more
-        return run(self.of(name), [*said, *words]) if ran[0] == -signal.SIGKILL else ran
+        # ended by a signal, most likely for want of memory: once more
+        return run(self.of(name), [*said, *words]) if ran[0] < 0 else ran

@@ -2,6 +2,8 @@
 # Runs each call of the libraries that takes memory with each of its own allocations refused in turn: it answers that
 # memory was refused, and leaves alone what it must. With ample memory it never answers so.
 #
+# These are the exported functions that take an allocator: each is called itself, or through one that calls it.
+#
 # usage: refused_calls.sh PROGRAM
 # PROGRAM is that of crates/refusals, which makes the calls and tells of what they left alone. The last line is
 # 'N passed, M failed'; the status is 0 where none failed. It needs the C compiler that CC names, cc unless it is set.
@@ -76,19 +78,21 @@ refuses sticking_between-sticks
 refuses replay-plain
 refuses replay-word
 refuses read_script
-refuses play-lines
-refuses play-typed
-refuses play_next-lines
-refuses play_next-typed
+refuses play_run-lines
+refuses play_run-typed
+refuses play_run-next-lines
+refuses play_run-next-typed
 refuses Ways::of
 refuses check_run
 refuses check_run-shown
 refuses search_run-never
 refuses search_run-sticks
-refuses search_next_run-never
-refuses search_next_run-sticks
+refuses search_run-next-never
+refuses search_run-next-sticks
 refuses dump_run
 refuses dump_narrow_run
+refuses compile_run
+refuses compile_narrow_run
 # A vector that is refused room to grow asks for what it needs now, so a single refusal may have no effect.
 rest=REFUSE_REST=1
 refuses definitions
@@ -98,9 +102,38 @@ refuses diagnostics-faulty
 refuses characters
 refuses characters-untyped fault
 refuses type_run
+refuses cover_run
+refuses format
+refuses format-faulty fault
+refuses fmt_run
+refuses fmt_print_run
+refuses file_error_line
 refuses draw_run
 refuses lint_run
 rest=
 takes_none characters-not-text fault
+
+# The calls that the program knows are those above, and with what they go through all that the sources have.
+calls=$tests/../crates/refusals/src/calls.rt
+sed -n 's/^        "\([A-Za-z_:-]*\)" => .*/\1/p' "$calls" | sort > "$folder/known"
+sed -n 's/^\(refuses\|takes_none\) \([A-Za-z_:-]*\).*/\2/p' "$0" | sort > "$folder/made"
+same_text 'each call of the program is made here' "$folder/known" "$folder/made"
+{
+    # a method stands in the program by its own name where no other has that
+    sed -e 's/-.*//' -e 's/^try_clone$/KeyMap::try_clone/' -e 's/^characters$/Ways::characters/' "$folder/known"
+    echo picture # draw_run
+    echo TextLines::new # lint_run
+    echo lint_text # lint_run
+    echo shown_name # lint_run
+    echo filled # lint_run
+    echo sights_of # cover_run
+    echo plan_for # cover_run
+    echo cover_of # cover_run
+    echo Seen::new # cover_run
+    echo cells # cover_run
+    echo lock_settings # cover_run
+} | sort -u > "$folder/called"
+python3 "$tests/takes_memory.py" | sort > "$folder/exported"
+same_text 'each exported function that takes memory is called' "$folder/exported" "$folder/called"
 
 counted

@@ -118,6 +118,8 @@ refuses 0 type letter sentence
 # So does a vector.
 refuses 0 lint letter
 refuses 1 lint trap
+refuses 0 fmt --print letter
+refuses 1 fmt --check letter
 goes_on=
 refuses 0 dump tables
 refuses 0 dump small --narrow
@@ -125,6 +127,32 @@ refuses 0 draw shift
 refuses 0 draw trap --ansi
 refuses 0 compile shift made
 refuses 0 compile shift made --narrow
+
+# Written in place, a text is either as it was or in the layout, and nothing lies beside it.
+cp letter made
+ALLOCATIONS=count LD_PRELOAD=./refuse.so "$program" fmt made > wanted
+cp made good
+number=1
+told=0
+while [ $number -le "$(cat count)" ]; do
+    cp letter made
+    REFUSE=$number LD_PRELOAD=./refuse.so "$program" fmt made > stdout 2> stderr
+    got=$?
+    if [ $got -eq 1 ] && [ ! -s stdout ] && cmp -s letter made && cmp -s said stderr && [ ! -e made.kmap-fmt ]; then
+        told=$((told + 1))
+        passed=$((passed + 1))
+    elif [ $got -eq 0 ] && cmp -s wanted stdout && cmp -s good made && [ ! -e made.kmap-fmt ]; then
+        passed=$((passed + 1))
+    else
+        failed=$((failed + 1))
+        echo "failed: fmt made with allocation $number refused (status $got)"
+    fi
+    number=$((number + 1))
+done
+if [ $told -eq 0 ]; then
+    failed=$((failed + 1))
+    echo "failed: fmt made never ran out of memory"
+fi
 
 # allocations ARGS..: how often the program allocates
 allocations() {

@@ -1,5 +1,6 @@
 # For the scripts beside it, which read it: counts what held and what failed, and takes the program's help apart.
-# A script ends by `counted`, so its last line is 'N passed, M failed', and its status is 0 where none failed.
+# A script ends by `counted`, so its last line is 'N passed, M failed', and its status is 0 where something was looked
+# at and none failed.
 
 passed=0
 failed=0
@@ -39,7 +40,26 @@ options_in() {
     sed -n '/^Options:$/,/^$/s/   *[A-Z].*//p' "$1" | grep -oE -e '--?[A-Za-z][A-Za-z-]*'
 }
 
+# commands_of_source TOP: the commands that the source of the command line makes, and `help`, one a line
+commands_of_source() {
+    sed -n 's/.*Command::new(alloc, "\([a-z]*\)").*/\1/p' "$1/crates/kmap/src/command_line.rt" | grep -vx kmap
+    echo help
+}
+
+# options_of_source TOP: the long options that this source gives its commands, and those of each program, one a line
+options_of_source() {
+    tr -d ' \n' < "$1/crates/kmap/src/command_line.rt" | grep -oE 'flag\(alloc,"[a-z]+"|\.long\("[a-z]+"' |
+        sed 's/.*"\([a-z]*\)"/--\1/'
+    echo --help
+    echo --version
+}
+
+# variants FILE ENUM: the variants of a public enum, one a line
+variants() {
+    sed -n "/^pub enum $2 {/,/^}/s/^    \([A-Z][A-Za-z]*\).*/\1/p" "$1"
+}
+
 counted() {
     echo "$passed passed, $failed failed"
-    [ $failed -eq 0 ]
+    [ $failed -eq 0 ] && [ $passed -gt 0 ]
 }

@@ -15,9 +15,13 @@ top=$(cd "$(dirname "$0")/.." && pwd)
 . "$top/tests/shared.sh"
 cd "$top" || exit 1
 
+# three_numbers TEXT: it is three numbers with dots between them
+three_numbers() {
+    expr "$1" : '[0-9][0-9]*\.[0-9][0-9]*\.[0-9][0-9]*$' > /dev/null
+}
+
 version=$(sed -n 's/^VERSION = //p' Makefile)
-holds 'the Makefile has a version of three numbers' \
-    expr "$version" : '[0-9][0-9]*\.[0-9][0-9]*\.[0-9][0-9]*$' > /dev/null
+holds "the Makefile has a version of three numbers, not '$version'" three_numbers "$version"
 
 # says FILE LINE: the file has this line
 says() {

@@ -1,5 +1,5 @@
-//! How the tests compare values. What `assert_eq!` does where two values differ is proved at each place where it stands,
-//! and here it stands once. A library can't have this function, since it may end the process.
+//! How the tests compare values. What `assert_eq!` does where two values differ is proved wherever it stands, and
+//! here it stands once. A library can't have this function, since it may end the process.
 
 use std::fmt::Debug;
 use std::process::Abort;
@@ -17,4 +17,9 @@ pub(crate) fn expect_equal_at<R: Debug, T: PartialEq + Debug>(
     right: &T,
 ) {
     assert_eq!(rt; left, right, "{row:?}");
+}
+
+/// It holds; else the test fails and names the row of a table.
+pub(crate) fn expect_at<R: Debug>(rt: &impl Abort, row: &R, holds: bool) {
+    assert!(rt; holds, "{row:?}");
 }

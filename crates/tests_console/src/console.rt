@@ -1,21 +1,29 @@
-//! Consoles: what they answer and show after lists of events, and the search for sticking modifiers.
-
-mod histories;
-mod searches;
+//! Events by the codes of their keys, and what a console shows.
 
 use crate::asserts::{expect_equal, expect_equal_at};
-use console_core::Translator;
-use keymap_core::{LOCKS, Lock, MODIFIERS, Modifier};
+use console_core::{Event, Translator};
+use keymap_core::{KeyCode, LOCKS, Lock, MODIFIERS, Modifier};
 use std::process::Abort;
 
-fn expect_on<T: Translator>(rt: &impl Abort, console: &T, on: &[Modifier]) {
-    for modifier in MODIFIERS {
-        expect_equal_at(
-            rt,
-            &modifier,
-            &console.on(modifier),
-            &on.contains(&modifier),
-        );
+/// An event, by the code of its key.
+#[derive(Clone, Copy, Debug)]
+pub(crate) enum Input {
+    Down(u8),
+    Up(u8),
+    Reset,
+    Load,
+}
+
+pub(crate) fn key(code: u8) -> Result<KeyCode, &'static str> {
+    KeyCode::new(code).ok_or("no key has this code")
+}
+
+pub(crate) fn event(input: Input) -> Result<Event, &'static str> {
+    match input {
+        Input::Down(code) => Ok(Event::Press(key(code)?)),
+        Input::Up(code) => Ok(Event::Release(key(code)?)),
+        Input::Reset => Ok(Event::Reset),
+        Input::Load => Ok(Event::Load),
     }
 }
 
@@ -27,9 +35,13 @@ pub(crate) fn expect_shown<T: Translator>(
     locked: &[Lock],
     pending: Option<u8>,
 ) {
-    expect_on(rt, console, on);
+    for modifier in MODIFIERS {
+        let is_on = console.on(modifier);
+        expect_equal_at(rt, &modifier, &is_on, &on.contains(&modifier));
+    }
     for lock in LOCKS {
-        expect_equal_at(rt, &lock, &console.locked(lock), &locked.contains(&lock));
+        let is_locked = console.locked(lock);
+        expect_equal_at(rt, &lock, &is_locked, &locked.contains(&lock));
     }
     expect_equal(rt, &console.pending(), &pending);
 }

@@ -1,7 +1,7 @@
-//! The tests of console_core: what consoles answer and show after histories that were worked out by hand, and the
-//! search for sticking modifiers. They say what no clause says.
+//! The tests of console_core and keymap_check: histories on both consoles, the searches for sticking modifiers, and the
+//! check of keymaps. They say what no clause says.
 //!
-//! A crate with tests is proved once more together with them, so the library has none of its own. Nothing here is
+//! A crate with tests is proved once more together with them, so the libraries have none of their own. Nothing here is
 //! exported.
 #![tactic(auto)]
 
@@ -9,3 +9,11 @@
 mod asserts;
 #[cfg(test)]
 mod console;
+#[cfg(test)]
+mod histories;
+#[cfg(test)]
+mod promises;
+#[cfg(test)]
+mod reports;
+#[cfg(test)]
+mod searches;

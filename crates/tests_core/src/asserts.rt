@@ -1,5 +1,5 @@
-//! How the tests compare values. What `assert_eq!` does where two values differ is proved at each place where it stands,
-//! and here it stands once. A library can't have this function, since it may end the process.
+//! How the tests compare values. What `assert_eq!` does where two values differ is proved wherever it stands, and
+//! here it stands once. A library can't have this function, since it may end the process.
 
 use std::fmt::Debug;
 use std::process::Abort;

@@ -1,5 +1,5 @@
-//! How the tests compare values. What `assert_eq!` does where two values differ is proved at each place where it stands,
-//! and here it stands once. A library can't have this function, since it may end the process.
+//! How the tests compare values. What `assert_eq!` does where two values differ is proved wherever it stands, and
+//! here it stands once. A library can't have this function, since it may end the process.
 
 use std::fmt::Debug;
 use std::process::Abort;
@@ -7,6 +7,16 @@ use std::process::Abort;
 /// The values are equal; else the test fails and shows both.
 pub(crate) fn expect_equal<T: PartialEq + Debug>(rt: &impl Abort, left: &T, right: &T) {
     assert_eq!(rt; left, right);
+}
+
+/// The same for a row of a table, which the failure names.
+pub(crate) fn expect_equal_at<R: Debug, T: PartialEq + Debug>(
+    rt: &impl Abort,
+    row: &R,
+    left: &T,
+    right: &T,
+) {
+    assert_eq!(rt; left, right, "{row:?}");
 }
 
 /// It holds; else the test fails and names the row of a table.

@@ -1,11 +1,25 @@
-//! The tests of kmap_runs: the runs of the program, and the lines that tell why one failed. They say what no clause
-//! says.
+//! The tests of play_core and kmap_runs: scripts and what is played of them, the ways that type a character, what the
+//! runs of the program write, and devices that fail. They say what no clause says.
 //!
-//! A crate with tests is proved once more together with them, so the library has none of its own. Nothing here is
+//! A crate with tests is proved once more together with them, so the libraries have none of their own. Nothing here is
 //! exported.
 #![tactic(auto)]
 
 #[cfg(test)]
 mod asserts;
 #[cfg(test)]
-mod runs;
+mod fault_lines;
+#[cfg(test)]
+mod outputs;
+#[cfg(test)]
+mod play_devices;
+#[cfg(test)]
+mod play_faults;
+#[cfg(test)]
+mod plays;
+#[cfg(test)]
+mod run_devices;
+#[cfg(test)]
+mod scripts;
+#[cfg(test)]
+mod ways;

@@ -1,0 +1,479 @@
+//! Histories that were worked out by hand, on both consoles: the answer to each event, and what is on, locked and
+//! pending after it.
+
+use crate::asserts::{expect_equal, expect_equal_at};
+use crate::console::Input::{Down, Load, Reset, Up};
+use crate::console::{Input, event, expect_shown};
+use console_core::{Answer, Event, PlainConsole, Translator, WordConsole, replay};
+use keymap_core::{Action, Lock, Modifier};
+use keymap_text::read_map;
+use std::alloc::Global;
+use std::process::Abort;
+use std::test::Fail;
+use test_keymaps::{
+    ACCENTS, BLANK_MACRON, CAPS_AND_NUM, CAPS_WITH_NOPS, LETTER_AND_SHIFT, SHIFT_AND_CAPS,
+    SHIFT_WITH_TRAP, TWO_CONTROLS, TWO_SCROLL_LOCKS, TWO_SHIFTS, UPPER_HALF,
+};
+
+// The codes of the actions.
+const LSHIFT: u8 = 0x02;
+
+const CLOCK: u8 = 0x04;
+
+const NLOCK: u8 = 0x05;
+
+const SLOCK: u8 = 0x06;
+
+const LCTRL: u8 = 0x09;
+
+const NSCR: u8 = 0x0a;
+
+const FKEY01: u8 = 0x1b;
+
+const ALOCK: u8 = 0x82;
+
+const ASHIFT: u8 = 0x83;
+
+const META: u8 = 0x84;
+
+const DGRA: u8 = 0x89;
+
+const DACU: u8 = 0x8a;
+
+const DMAC: u8 = 0x8d;
+
+/// An answer, by the code of its action.
+#[derive(Clone, Copy)]
+enum Output {
+    Nothing,
+    Error,
+    Char(char),
+    MetaChar(char),
+    Special(u8),
+    Released(u8),
+}
+
+use Output::{Char, Error, MetaChar, Nothing, Released, Special};
+
+/// An event, the answer to it, and then the modifiers and locks that are on and the pending accent.
+type Step = (
+    Input,
+    Output,
+    &'static [Modifier],
+    &'static [Lock],
+    Option<u8>,
+);
+
+const SHIFTED_LETTER: &[Step] = &[
+    (Down(42), Special(LSHIFT), &[Modifier::LeftShift], &[], None),
+    (Down(30), Char('A'), &[Modifier::LeftShift], &[], None),
+    (Up(42), Released(LSHIFT), &[], &[], None),
+    (Down(30), Char('a'), &[], &[], None),
+];
+
+const SCROLL_LOCK_ON_TWO_KEYS: &[Step] = &[
+    (Down(70), Special(SLOCK), &[], &[Lock::Scroll], None),
+    (Down(104), Special(SLOCK), &[], &[Lock::Scroll], None),
+    (Up(70), Released(SLOCK), &[], &[Lock::Scroll], None),
+    (Down(104), Special(SLOCK), &[], &[], None),
+];
+
+const CAPS_AND_NUM_FLIP_ONCE: &[Step] = &[
+    (Down(58), Special(CLOCK), &[], &[Lock::Caps], None),
+    (Up(58), Released(CLOCK), &[], &[Lock::Caps], None),
+    (Down(30), Char('A'), &[], &[Lock::Caps], None),
+    (Up(30), Nothing, &[], &[Lock::Caps], None),
+    (
+        Down(69),
+        Special(NLOCK),
+        &[],
+        &[Lock::Caps, Lock::Num],
+        None,
+    ),
+    (Up(69), Released(NLOCK), &[], &[Lock::Caps, Lock::Num], None),
+    (Down(30), Char('A'), &[], &[Lock::Caps, Lock::Num], None),
+];
+
+const ACCENT_AND_OTHER_KEYS: &[Step] = &[
+    (Down(26), Nothing, &[], &[], Some(1)),
+    (Up(26), Released(DACU), &[], &[], Some(1)),
+    (Down(59), Error, &[], &[], None),
+    (Up(59), Released(FKEY01), &[], &[], None),
+    (Down(26), Nothing, &[], &[], Some(1)),
+    (Up(26), Released(DACU), &[], &[], Some(1)),
+    (Down(92), Special(NSCR), &[], &[], None),
+    (Up(92), Released(NSCR), &[], &[], None),
+    (Down(26), Nothing, &[], &[], Some(1)),
+    (Up(26), Released(DACU), &[], &[], Some(1)),
+    (
+        Down(42),
+        Special(LSHIFT),
+        &[Modifier::LeftShift],
+        &[],
+        Some(1),
+    ),
+    (Down(18), Char('\u{c9}'), &[Modifier::LeftShift], &[], None),
+];
+
+const RESET_KEEPS_LOCKS: &[Step] = &[
+    (Down(58), Special(CLOCK), &[], &[Lock::Caps], None),
+    (Up(58), Released(CLOCK), &[], &[Lock::Caps], None),
+    (
+        Down(42),
+        Special(LSHIFT),
+        &[Modifier::LeftShift],
+        &[Lock::Caps],
+        None,
+    ),
+    (Reset, Nothing, &[], &[Lock::Caps], None),
+];
+
+const RELEASE_BY_REMEMBERED_ACTION: &[Step] = &[
+    (
+        Down(29),
+        Special(LCTRL),
+        &[Modifier::LeftControl],
+        &[],
+        None,
+    ),
+    (
+        Down(42),
+        Special(LSHIFT),
+        &[Modifier::LeftShift, Modifier::LeftControl],
+        &[],
+        None,
+    ),
+    (
+        Down(29),
+        Nothing,
+        &[Modifier::LeftShift, Modifier::LeftControl],
+        &[],
+        None,
+    ),
+    (Up(29), Released(LCTRL), &[Modifier::LeftShift], &[], None),
+];
+
+const UPPER_HALF_BY_ONE: &[Step] = &[
+    (Down(93), Special(ASHIFT), &[Modifier::AltShift], &[], None),
+    (Down(30), Char('b'), &[Modifier::AltShift], &[], None),
+    (
+        Down(58),
+        Special(ALOCK),
+        &[Modifier::AltShift],
+        &[Lock::Alt],
+        None,
+    ),
+    (
+        Down(30),
+        Char('a'),
+        &[Modifier::AltShift],
+        &[Lock::Alt],
+        None,
+    ),
+    (Up(93), Released(ASHIFT), &[], &[Lock::Alt], None),
+    (Down(30), Char('b'), &[], &[Lock::Alt], None),
+];
+
+const COMPOSITION: &[Step] = &[
+    (Down(26), Nothing, &[], &[], Some(1)),
+    (Up(26), Released(DACU), &[], &[], Some(1)),
+    (Down(18), Char('\u{e9}'), &[], &[], None),
+    (Down(26), Nothing, &[], &[], Some(1)),
+    (Up(26), Released(DACU), &[], &[], Some(1)),
+    (Down(57), Char('\u{b4}'), &[], &[], None),
+    (Down(26), Nothing, &[], &[], Some(1)),
+    (Up(26), Released(DACU), &[], &[], Some(1)),
+    (Down(30), Error, &[], &[], None),
+    (Down(41), Error, &[], &[], None),
+    (Up(41), Released(DGRA), &[], &[], None),
+    (Down(56), Special(META), &[Modifier::Meta], &[], None),
+    (Down(26), Nothing, &[Modifier::Meta], &[], Some(1)),
+    (Down(26), MetaChar('\u{b4}'), &[Modifier::Meta], &[], None),
+];
+
+const LOCK_BEHIND_NOP: &[Step] = &[
+    (Down(58), Nothing, &[], &[], None),
+    (Down(42), Special(LSHIFT), &[Modifier::LeftShift], &[], None),
+    (
+        Down(58),
+        Special(CLOCK),
+        &[Modifier::LeftShift],
+        &[Lock::Caps],
+        None,
+    ),
+];
+
+const SHIFT_ON_TWO_KEYS: &[Step] = &[
+    (Down(42), Special(LSHIFT), &[Modifier::LeftShift], &[], None),
+    (Down(54), Special(LSHIFT), &[Modifier::LeftShift], &[], None),
+    (Up(42), Released(LSHIFT), &[], &[], None),
+];
+
+const UNUSABLE_DEAD_KEY: &[Step] = &[
+    (Down(26), Nothing, &[], &[], Some(1)),
+    (Down(40), Error, &[], &[], None),
+    (Up(40), Released(DMAC), &[], &[], None),
+];
+
+const LOAD_DROPS_A_LOCK: &[Step] = &[
+    (Down(58), Special(CLOCK), &[], &[Lock::Caps], None),
+    (Up(58), Released(CLOCK), &[], &[Lock::Caps], None),
+    (
+        Down(42),
+        Special(LSHIFT),
+        &[Modifier::LeftShift],
+        &[Lock::Caps],
+        None,
+    ),
+    (Load, Nothing, &[], &[], None),
+    (Down(30), Char('a'), &[], &[], None),
+];
+
+const LOAD_KEEPS_A_LOCK: &[Step] = &[
+    (Down(58), Special(CLOCK), &[], &[Lock::Caps], None),
+    (Up(58), Released(CLOCK), &[], &[Lock::Caps], None),
+    (Load, Nothing, &[], &[Lock::Caps], None),
+    (Down(30), Char('A'), &[], &[Lock::Caps], None),
+];
+
+const LOAD_FORGETS_A_MODIFIER: &[Step] = &[
+    (Down(42), Special(LSHIFT), &[Modifier::LeftShift], &[], None),
+    (Load, Nothing, &[], &[], None),
+    (Up(42), Nothing, &[], &[], None),
+];
+
+const TWO_LOADS: &[Step] = &[
+    (Down(58), Special(CLOCK), &[], &[Lock::Caps], None),
+    (Load, Nothing, &[], &[], None),
+    (Load, Nothing, &[], &[], None),
+    (Up(58), Nothing, &[], &[], None),
+];
+
+const CHARACTER_UNDER_CONTROL: &[Step] = &[
+    (Down(42), Special(LSHIFT), &[Modifier::LeftShift], &[], None),
+    (
+        Down(29),
+        Special(LCTRL),
+        &[Modifier::LeftShift, Modifier::LeftControl],
+        &[],
+        None,
+    ),
+    (
+        Down(42),
+        Char('x'),
+        &[Modifier::LeftShift, Modifier::LeftControl],
+        &[],
+        None,
+    ),
+    (
+        Up(42),
+        Nothing,
+        &[Modifier::LeftShift, Modifier::LeftControl],
+        &[],
+        None,
+    ),
+    (Up(29), Released(LCTRL), &[Modifier::LeftShift], &[], None),
+];
+
+fn action(code: u8) -> Result<Action, &'static str> {
+    Action::from_code(code).ok_or("no action has this code")
+}
+
+fn answer(output: Output) -> Result<Answer, &'static str> {
+    match output {
+        Nothing => Ok(Answer::None),
+        Error => Ok(Answer::Error),
+        Char(c) => Ok(Answer::Char { c, meta: false }),
+        MetaChar(c) => Ok(Answer::Char { c, meta: true }),
+        Special(code) => Ok(Answer::Special(action(code)?)),
+        Released(code) => Ok(Answer::Released(action(code)?)),
+    }
+}
+
+fn deliver<T: Translator>(rt: &impl Abort, console: &mut T, steps: &[Step]) -> Result<(), Fail> {
+    expect_shown(rt, console, &[], &[], None);
+    for (input, output, on, locked, pending) in steps {
+        let given = console.step(event(*input)?);
+        expect_equal_at(rt, input, &given, &answer(*output)?);
+        expect_shown(rt, console, on, locked, *pending);
+    }
+    Ok(())
+}
+
+/// The keymap that is in force first, and the one that a load exchanges for it.
+static HISTORIES: [(&[u8], &[u8], &[Step]); 16] = [
+    (LETTER_AND_SHIFT, b"", SHIFTED_LETTER),
+    (TWO_SCROLL_LOCKS, b"", SCROLL_LOCK_ON_TWO_KEYS),
+    (SHIFT_WITH_TRAP, b"", CHARACTER_UNDER_CONTROL),
+    (CAPS_AND_NUM, b"", CAPS_AND_NUM_FLIP_ONCE),
+    (ACCENTS, b"", ACCENT_AND_OTHER_KEYS),
+    (ACCENTS, b"", COMPOSITION),
+    (BLANK_MACRON, b"", UNUSABLE_DEAD_KEY),
+    (SHIFT_AND_CAPS, b"", RESET_KEEPS_LOCKS),
+    (TWO_CONTROLS, b"", RELEASE_BY_REMEMBERED_ACTION),
+    (UPPER_HALF, b"", UPPER_HALF_BY_ONE),
+    (CAPS_WITH_NOPS, b"", LOCK_BEHIND_NOP),
+    (TWO_SHIFTS, b"", SHIFT_ON_TWO_KEYS),
+    (SHIFT_AND_CAPS, LETTER_AND_SHIFT, LOAD_DROPS_A_LOCK),
+    (SHIFT_AND_CAPS, CAPS_AND_NUM, LOAD_KEEPS_A_LOCK),
+    (LETTER_AND_SHIFT, LETTER_AND_SHIFT, LOAD_FORGETS_A_MODIFIER),
+    (SHIFT_AND_CAPS, LETTER_AND_SHIFT, TWO_LOADS),
+];
+
+#[test]
+fn both_consoles_answer_as_worked_out(rt: HostRuntime) -> Result<(), Fail> {
+    for &(first, next, steps) in &HISTORIES {
+        let first = read_map(rt.alloc(), first)?;
+        let next = read_map(rt.alloc(), next)?;
+        deliver(&rt, &mut PlainConsole::between(&first, &next), steps)?;
+        deliver(&rt, &mut WordConsole::between(&first, &next), steps)?;
+    }
+    Ok(())
+}
+
+/// Asserts that shift and caps lock, pressed once more after their release, leave shift alone on.
+fn expect_shift_alone<T: Translator>(
+    rt: &impl Abort,
+    alloc: Global,
+    console: &mut T,
+) -> Result<(), Fail> {
+    let given = replay(alloc, console, &[event(Down(42))?, event(Down(58))?])?;
+    let wanted = [answer(Special(LSHIFT))?, answer(Special(CLOCK))?];
+    expect_equal(rt, &given.as_slice(), &wanted.as_slice());
+    expect_shown(rt, console, &[Modifier::LeftShift], &[], None);
+    Ok(())
+}
+
+fn expect_same_after_reset<T: Translator>(
+    rt: &impl Abort,
+    alloc: Global,
+    first: &mut T,
+    second: &mut T,
+) -> Result<(), Fail> {
+    let quiet = [
+        event(Down(42))?,
+        event(Down(58))?,
+        event(Up(42))?,
+        event(Up(58))?,
+    ];
+    let _answers = replay(alloc, first, &quiet)?;
+    let _answers = replay(alloc, second, &quiet)?;
+    expect_equal(rt, &second.step(Event::Reset), &Answer::None);
+    expect_shift_alone(rt, alloc, first)?;
+    expect_shift_alone(rt, alloc, second)
+}
+
+/// A console on which no key is pressed and no accent is pending goes on as after a reset.
+#[test]
+fn a_quiet_console_goes_on_as_after_a_reset(rt: HostRuntime) -> Result<(), Fail> {
+    let map = read_map(rt.alloc(), SHIFT_AND_CAPS)?;
+    expect_same_after_reset(
+        &rt,
+        rt.alloc(),
+        &mut PlainConsole::new(&map),
+        &mut PlainConsole::new(&map),
+    )?;
+    expect_same_after_reset(
+        &rt,
+        rt.alloc(),
+        &mut WordConsole::new(&map),
+        &mut WordConsole::new(&map),
+    )
+}
+
+/// Events, their answers as numbers, and the modifiers that are on after them.
+static RAW: [(Input, u32, &[Modifier]); 7] = [
+    (Down(42), 0x8000_0002, &[Modifier::LeftShift]),
+    (Down(15), 0x8800_0008, &[Modifier::LeftShift]),
+    (Up(15), 0xc000_0008, &[Modifier::LeftShift]),
+    (Up(42), 0xc000_0002, &[]),
+    (Down(56), 0x8000_0084, &[Modifier::Meta]),
+    (Down(18), 0x0400_0065, &[Modifier::Meta]),
+    (Up(56), 0xc000_0084, &[]),
+];
+
+fn expect_raw<T: Translator>(rt: &impl Abort, console: &mut T) -> Result<(), Fail> {
+    for &(input, raw, on) in &RAW {
+        let answer = console.step(event(input)?);
+        expect_equal_at(rt, &input, &answer.raw(), &raw);
+        expect_shown(rt, console, on, &[], None);
+    }
+    Ok(())
+}
+
+/// Answers, and their numbers.
+static NUMBERS: [(Output, u32); 4] = [
+    (Special(FKEY01), 0x8200_001b),
+    (Nothing, 0x0100_0000),
+    (Error, 0x2000_0000),
+    (MetaChar('a'), 0x0400_0061),
+];
+
+#[test]
+fn answers_have_their_numbers(rt: HostRuntime) -> Result<(), Fail> {
+    let map = read_map(rt.alloc(), ACCENTS)?;
+    expect_raw(&rt, &mut PlainConsole::new(&map))?;
+    expect_raw(&rt, &mut WordConsole::new(&map))?;
+    for &(output, number) in &NUMBERS {
+        let answer = answer(output)?;
+        expect_equal(&rt, &answer.raw(), &number);
+    }
+    Ok(())
+}
+
+/// Asserts that the presses are answered so, that nothing is on then, and which accent is pending.
+fn expect_replay<T: Translator>(
+    rt: &impl Abort,
+    alloc: Global,
+    console: &mut T,
+    presses: &[Event],
+    answers: &[Answer],
+    pending: Option<u8>,
+) -> Result<(), Fail> {
+    let given = replay(alloc, console, presses)?;
+    expect_equal(rt, &given.as_slice(), &answers);
+    expect_shown(rt, console, &[], &[], pending);
+    Ok(())
+}
+
+/// A key of the keymap of no keys gives the character 0. A dead key that is pressed again gives its own character, and
+/// pressed a third time is pending.
+#[test]
+fn replays(rt: HostRuntime) -> Result<(), Fail> {
+    let (map, presses) = (read_map(rt.alloc(), b"")?, [event(Down(30))?]);
+    let answers = [answer(Char('\0'))?];
+    expect_replay(
+        &rt,
+        rt.alloc(),
+        &mut PlainConsole::new(&map),
+        &presses,
+        &answers,
+        None,
+    )?;
+    expect_replay(
+        &rt,
+        rt.alloc(),
+        &mut WordConsole::new(&map),
+        &presses,
+        &answers,
+        None,
+    )?;
+    let (map, presses) = (read_map(rt.alloc(), ACCENTS)?, [event(Down(26))?; 3]);
+    let answers = [Answer::None, answer(Char('´'))?, Answer::None];
+    expect_replay(
+        &rt,
+        rt.alloc(),
+        &mut PlainConsole::new(&map),
+        &presses,
+        &answers,
+        Some(1),
+    )?;
+    expect_replay(
+        &rt,
+        rt.alloc(),
+        &mut WordConsole::new(&map),
+        &presses,
+        &answers,
+        Some(1),
+    )
+}

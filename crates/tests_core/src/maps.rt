@@ -1,0 +1,50 @@
+//! The limits of keymaps and their accents.
+
+use crate::asserts::expect_equal;
+use keymap_core::{Accent, Action, BadAccent, Cell, Entry, KeyMap, LockFlag, PairFault};
+use std::test::Fail;
+
+#[test]
+fn an_accent_takes_52_pairs(rt: HostRuntime) -> Result<(), Fail> {
+    let mut accent = Accent::new('`');
+    for _ in 0..52 {
+        accent.push_pair('a', '\u{e0}')?;
+    }
+    expect_equal(&rt, &accent.push_pair('\0', 'a'), &Err(PairFault::ZeroBase));
+    expect_equal(
+        &rt,
+        &accent.push_pair('a', 'b'),
+        &Err(PairFault::TooManyPairs),
+    );
+    expect_equal(&rt, &accent.pairs().len(), &52);
+    expect_equal(&rt, &accent.own(), &'`');
+    Ok(())
+}
+
+#[test]
+fn accents_end_at_14(rt: HostRuntime) -> Result<(), Fail> {
+    let mut map = KeyMap::new(rt.alloc())?;
+    map.set_accent(14, Accent::new('x'))?;
+    expect_equal(&rt, &map.n_accs(), &15);
+    let before = map.try_clone(rt.alloc())?;
+    expect_equal(&rt, &map.set_accent(15, Accent::new('y')), &Err(BadAccent));
+    assert!(rt; map == before);
+    Ok(())
+}
+
+#[test]
+fn slots_end_at_255(rt: HostRuntime) -> Result<(), Fail> {
+    let mut map = KeyMap::new(rt.alloc())?;
+    let nops = Entry {
+        cells: [Cell::Act(Action::Nop); 8],
+        flag: LockFlag::O,
+    };
+    map.set(255, nops);
+    expect_equal(&rt, &map.n_keys(), &256);
+    expect_equal(&rt, map.entry(255), &nops);
+    map.set(3, nops);
+    expect_equal(&rt, &map.n_keys(), &256);
+    expect_equal(&rt, map.entry(3), &nops);
+    expect_equal(&rt, map.entry(4), &Entry::undefined());
+    Ok(())
+}

@@ -1,0 +1,23 @@
+//! The tests of keymap_text and keymap_tables: tokens, reading and printing of texts, table files of both forms, and
+//! devices that fail. They say what no clause says.
+//!
+//! A crate with tests is proved once more together with them, so the libraries have none of their own. Nothing here is
+//! exported.
+#![tactic(auto)]
+
+#[cfg(test)]
+mod asserts;
+#[cfg(test)]
+mod devices;
+#[cfg(test)]
+mod faults;
+#[cfg(test)]
+mod printing;
+#[cfg(test)]
+mod reading;
+#[cfg(test)]
+mod table_faults;
+#[cfg(test)]
+mod tables;
+#[cfg(test)]
+mod tokens;

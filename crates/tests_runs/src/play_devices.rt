@@ -1,0 +1,199 @@
+//! Devices of plays that fail after each number of bytes: the fault says so, and nothing more is done. How many writes
+//! a long output takes.
+
+use crate::asserts::{expect_at, expect_equal_at};
+use crate::plays::{Played, play_texts};
+use arrayvec::ArrayVec;
+use console_core::Answer;
+use keymap_core::{Read, ReadFault, ReadFaultKind, Write, WriteFault};
+use kmap_runs::{RunError, Source, play_run};
+use play_core::{Show, typed};
+use std::test::Fail;
+use test_devices::{ROOM, reader_of, sheet_of};
+use test_keymaps::{ACCENTS, LETTER_AND_SHIFT, SHIFT_AND_CAPS};
+
+const SCRIPT: &[u8] = b"down 42\nlost up 42\nrepeat 30\n# shift stays on\nload\nreset\n";
+
+/// What fails, and how many bytes each gives at most before it does; the ones behind it are not asked.
+static FAILING: [(Source, &[u8]); 3] = [
+    (Source::Text, ACCENTS),
+    (Source::Next, SHIFT_AND_CAPS),
+    (Source::Script, SCRIPT),
+];
+
+/// After the last byte too, in place of the end.
+#[test]
+fn a_reader_that_fails_after_each_number_of_bytes_is_named(rt: HostRuntime) {
+    for &(source, bytes) in &FAILING {
+        for most in 0..=bytes.len() {
+            let text_most = if source == Source::Text {
+                most
+            } else {
+                usize::MAX
+            };
+            let next_most = if source == Source::Next {
+                most
+            } else {
+                usize::MAX
+            };
+            let script_most = if source == Source::Script {
+                most
+            } else {
+                usize::MAX
+            };
+            let mut text = reader_of(ACCENTS, 1, text_most);
+            let mut next = Some(reader_of(SHIFT_AND_CAPS, 1, next_most));
+            let mut script = reader_of(SCRIPT, 1, script_most);
+            let mut out = sheet_of(usize::MAX);
+            let answer = play_run(
+                rt.alloc(),
+                Show::Lines,
+                &mut text,
+                &mut next,
+                &mut script,
+                &mut out,
+            );
+            let fault = ReadFault {
+                offset: most as u64,
+                kind: ReadFaultKind::Device,
+            };
+            let wanted = Err(RunError::Read(source, fault));
+            expect_equal_at(&rt, &(source, most), &answer, &wanted);
+            let next_failed = next.is_some_and(|next| next.failed());
+            let failed = (text.failed(), next_failed, script.failed());
+            let wanted = (
+                source == Source::Text,
+                source == Source::Next,
+                source == Source::Script,
+            );
+            expect_equal_at(&rt, &(source, most), &failed, &wanted);
+            assert!(rt; out.writes == 0 && !out.failed());
+        }
+    }
+}
+
+/// The answer where a writer takes so many bytes at most of so many.
+fn written(most: usize, size: usize) -> Result<(), WriteFault> {
+    let written = most as u64;
+    if most < size {
+        Err(WriteFault { written })
+    } else {
+        Ok(())
+    }
+}
+
+/// What is played, and what is written of it.
+static WRITTEN: [(Played, &str); 3] = [
+    (
+        (Show::Lines, LETTER_AND_SHIFT, None, "down 42\nup 42\n"),
+        "press 42: lshift; mods lshift; locks none
+release 42: released lshift; mods none; locks none
+",
+    ),
+    (
+        (
+            Show::Typed,
+            ACCENTS,
+            None,
+            "down 42\ndown 15\nup 15\nup 42\ndown 56\ndown 18\nup 56\n",
+        ),
+        "\x1b[Z\x1be",
+    ),
+    (
+        (
+            Show::Lines,
+            SHIFT_AND_CAPS,
+            Some(LETTER_AND_SHIFT),
+            "load\ndown 30\n",
+        ),
+        "load: none; mods none; locks none
+press 30: char 97; mods none; locks none
+",
+    ),
+];
+
+#[test]
+fn a_writer_that_fails_after_each_number_of_bytes_has_the_first(rt: HostRuntime) {
+    for &(played, wanted) in &WRITTEN {
+        for most in 0..=wanted.len() {
+            let mut out = sheet_of(most);
+            let answer = play_texts(rt.alloc(), played, &mut out);
+            let told = written(most, wanted.len()).map_err(RunError::Write);
+            expect_equal_at(&rt, &most, &answer, &told);
+            let is_front = out.bytes.as_slice() == &wanted.as_bytes()[..most];
+            expect_at(
+                &rt,
+                &most,
+                is_front && out.failed() == (most < wanted.len()),
+            );
+        }
+    }
+}
+
+#[test]
+fn typed_answers_that_stop_have_the_first_bytes(rt: HostRuntime) {
+    let answers = [
+        Answer::Char { c: 'é', meta: true },
+        Answer::Error,
+        Answer::BackTab,
+    ];
+    let wanted = b"\x1b\xc3\xa9\x1b[Z";
+    for most in 0..=wanted.len() {
+        let mut out = sheet_of(most);
+        let answer = typed(&answers, &mut out);
+        expect_equal_at(&rt, &most, &answer, &written(most, wanted.len()));
+        let is_front = out.bytes.as_slice() == &wanted[..most];
+        expect_at(
+            &rt,
+            &most,
+            is_front && out.failed() == (most < wanted.len()),
+        );
+    }
+}
+
+/// A text, and then a line so many times, as far as there is room.
+fn repeated(front: &[u8], line: &[u8], count: usize) -> ArrayVec<u8, ROOM> {
+    let mut text = ArrayVec::new();
+    let _ = text.try_extend_from_slice(front);
+    for _ in 0..count {
+        let _ = text.try_extend_from_slice(line);
+    }
+    text
+}
+
+/// What is shown, a first line and one that comes so many times, and what is written of each of these.
+static LONG: [(Show, &[u8], &[u8], usize, &[u8]); 2] = [
+    (
+        Show::Lines,
+        b"",
+        b"reset\n",
+        200,
+        b"reset: none; mods none; locks none\n",
+    ),
+    (Show::Typed, b"down 42\n", b"repeat 15\n", 1400, b"\x1b[Z"),
+];
+
+#[test]
+fn long_outputs_take_few_writes(rt: HostRuntime) -> Result<(), Fail> {
+    for &(show, front, line, count, shown) in &LONG {
+        let script = repeated(front, line, count);
+        let wanted = repeated(b"", shown, count);
+        let mut out = sheet_of(usize::MAX);
+        let mut text = reader_of(ACCENTS, 512, usize::MAX);
+        let mut next = Some(reader_of(b"", 1, usize::MAX));
+        let mut bytes = reader_of(script.as_slice(), 4096, usize::MAX);
+        play_run(rt.alloc(), show, &mut text, &mut next, &mut bytes, &mut out)?;
+        let is_same = out.bytes.as_slice() == wanted.as_slice();
+        expect_at(
+            &rt,
+            &count,
+            is_same && out.writes as usize <= wanted.len() / 4096 + 1,
+        );
+    }
+    let mut out = sheet_of(usize::MAX);
+    typed(&[Answer::Char { c: 'é', meta: true }; 1400], &mut out)?;
+    let wanted = repeated(b"", b"\x1b\xc3\xa9", 1400);
+    let is_same = out.bytes.as_slice() == wanted.as_slice();
+    assert!(rt; is_same && out.writes as usize <= wanted.len() / 4096 + 1);
+    Ok(())
+}

@@ -1,0 +1,247 @@
+#!/bin/sh
+# Tries the scripts beside it: each fails, and says why, where what it looks at is broken.
+#
+# usage: checks.sh PROGRAM
+# The last line is 'N passed, M failed'; the status is 0 where none failed.
+
+program=${1:-crates/kmap/out/kmap}
+case $program in
+/*) ;;
+*) program=$PWD/$program ;;
+esac
+top=$(cd "$(dirname "$0")/.." && pwd)
+. "$top/tests/shared.sh"
+folder=$(mktemp -d) || exit 1
+trap 'rm -rf "$folder"' EXIT
+cd "$folder" || exit 1
+
+# refuses LINE COMMAND..: the command fails and says a line that begins so
+refuses() {
+    line=$1
+    shift
+    "$@" > said 2>&1
+    holds "it succeeds: $*" [ $? -ne 0 ]
+    holds "it does not say: $line" grep -q "^$line" said
+}
+
+# A script that looked at nothing.
+printf '. "%s/tests/shared.sh"\ncounted\n' "$top" > nothing.sh
+refuses '0 passed, 0 failed' sh nothing.sh
+
+# A copy of what the scripts read, without what is built.
+mkdir -p copy/crates
+parts="Makefile README.md CHANGELOG.md CONTRIBUTING.md crates.txt docs include man completions examples tests bench"
+for part in $parts; do
+    cp -R "$top/$part" copy
+done
+for crate in "$top"/crates/*/; do
+    mkdir "copy/crates/$(basename "$crate")"
+    for part in src specs proofs edits; do
+        [ ! -d "$crate$part" ] || cp -R "$crate$part" "copy/crates/$(basename "$crate")"
+    done
+done
+
+# breaks FILE EXPRESSION: a file of the copy is changed by sed
+breaks() {
+    sed "$2" "$top/$1" > "copy/$1"
+    holds "nothing of $1 is broken by $2" differ "$top/$1" "copy/$1"
+}
+
+differ() {
+    ! cmp -s "$1" "$2"
+}
+
+# mended FILE: it is as before
+mended() {
+    cp "$top/$1" "copy/$1"
+}
+
+# broken FILE EXPRESSION LINE COMMAND..: where the file is changed so, the command fails and says a line that begins so
+broken() {
+    file=$1 expression=$2 line=$3
+    shift 3
+    breaks "$file" "$expression"
+    refuses "$line" "$@"
+    mended "$file"
+}
+
+broken Makefile 's/^VERSION = .*/VERSION = 1.2/' \
+    'failed: the Makefile has a version of three numbers' sh copy/tests/version.sh
+for page in man/kmap.1 man/kmap.3 man/kmap.5; do
+    broken $page 's/^This page is that of version .*/This page is that of version 0.0.9./' \
+        "failed: $page: This page is that of version" sh copy/tests/version.sh
+done
+broken include/kmap.pc 's/^Version: .*/Version: 0.0.9/' 'failed: include/kmap.pc: Version: ' sh copy/tests/version.sh
+broken README.md 's/kmap-[0-9.]*-x86_64/kmap-0.0.9-x86_64/' \
+    'failed: README.md: the archive of ' sh copy/tests/version.sh
+broken CHANGELOG.md '0,/^## .*/s//## 9.9.9/' \
+    'failed: the newest section of CHANGELOG.md is of this' sh copy/tests/version.sh
+broken CHANGELOG.md '0,/^20[0-9-]*$/s//some day/' \
+    'failed: each section of CHANGELOG.md has its day' sh copy/tests/version.sh
+broken CHANGELOG.md '0,/^20[0-9-]*$/s//2001-01-01/' \
+    'failed: the sections of CHANGELOG.md go from the newest to the oldest' sh copy/tests/version.sh
+older=$(sed -n 's/^## //p' "$top/CHANGELOG.md" | tail -n 1)
+broken docs/GUIDE.md "1s/\$/ $older/" "failed: $older stands in: ./docs/GUIDE.md" sh copy/tests/version.sh
+
+# A kind, a command, an option, a status or a function that only the sources have.
+manual() {
+    sh copy/tests/manual.sh "$program"
+}
+broken docs/FORMATS.md '/^| BadWord |/d' 'failed: the formats have the kinds of faults of the sources' manual
+broken docs/FORMATS.md '/^| dead-key |/d' 'failed: the formats have the kinds of diagnostics of the sources' manual
+broken include/kmap.h '/ kmap_start(/d' 'failed: the header has the functions of the sources' manual
+broken include/kmap.h 's/^#define KMAP_BAD_KIND .*//' \
+    'failed: the header has the statuses of the sources' manual
+broken include/kmap.h 's/KMAP_BAD_KIND (-8)/KMAP_BAD_KIND (-9)/' \
+    'failed: the header has the statuses of the sources' manual
+for pair in 'dump spill the.help.lists.the.commands.of.the.source' \
+    'typed told the.help.lists.the.options.of.the.source'; do
+    # shellcheck disable=SC2086 # three words
+    set -- $pair
+    breaks crates/kmap/src/command_line.rt "s/(alloc, \"$1\"/(alloc, \"$2\"/"
+    refuses "failed: $3" manual
+    refuses "failed: $3" sh copy/tests/completions.sh "$program"
+    mended crates/kmap/src/command_line.rt
+done
+
+# What the pages and completions lack.
+broken man/kmap.1 '/^\.It Cm draw /d' 'failed: kmap(1) has the command draw' manual
+broken man/kmap.1 '/^\.It Fl Fl typed/d' 'failed: kmap(1) has the option --typed of: play' manual
+broken man/kmap.1 's/BadWord/BadWards/' 'failed: kmap(1) tells of BadWord' manual
+broken man/kmap.1 's/^\.It dead-key$/.It dead-keys/' 'failed: kmap(1) tells what to do about dead-key' manual
+broken man/kmap.3 's/KMAP_BAD_KIND/KMAP_KIND/' 'failed: kmap(3) tells of KMAP_BAD_KIND' manual
+broken man/kmap.3 's/^\(\.F[on]\) kmap_start/\1 kmap_begin/' 'failed: kmap(3) tells of kmap_start' manual
+for shell in bash fish zsh; do
+    file=completions/kmap.$shell
+    [ $shell != zsh ] || file=completions/_kmap
+    broken $file 's/ansi/color/' "failed: the words for $shell" sh copy/tests/completions.sh "$program"
+done
+
+broken docs/ARCHITECTURE.md 's/ `spelled`,//' \
+    'failed: docs/ARCHITECTURE.md names each file of src/ of keymap_lint, and no other' sh copy/tests/modules.sh
+broken docs/PROOFS.md 's,`tests/draw.sh`,`tests/paint.sh`,' \
+    'failed: docs/PROOFS.md names tests/paint.sh, which is there' sh copy/tests/modules.sh
+broken docs/FORMATS.md 's/no key is defined/no key is there/;s/defines no key/has no key/' \
+    'bad NO_KEY' sh copy/tests/words.sh
+broken crates/keymap_core/src/unseen.rt 's/c == 0x3164/c == 0x3165/' '' python3 -B copy/bench/unseen.py --check
+
+# An exported function without an edit of its body, and an edit that can't be applied.
+holds 'each exported function has an edit' python3 copy/tests/edits --covered > said
+mv copy/crates/messages/edits/line_is_empty.edit .
+refuses 'messages: templates::line (src/templates.rt) has no edit of its body' python3 copy/tests/edits --covered
+holds 'no other one is missed' [ "$(grep -c 'has no edit' said)" -eq 1 ]
+mv copy/crates/messages/edits .
+refuses 'messages: templates::fill (src/templates.rt) has no edit of its body' python3 copy/tests/edits --covered
+mv edits copy/crates/messages
+mv line_is_empty.edit copy/crates/messages/edits
+broken crates/messages/src/templates.rt 's/digits.format(n)/digits.format(n + 0)/' \
+    "messages/number_is_halved.edit: an 'old:' text stands in src/templates.rt 0 times" \
+    python3 copy/tests/edits --covered
+
+# What is measured against limits, by the end of the script that measures: a limit that is passed, one of nothing that
+# is measured, a measure without a limit, and one that is no number.
+sed -n "/^awk '\$/,\$p" "$top/bench/run.sh" > judges.sh
+printf '# limits\nreads 17\nevent 1.5\n' > limits
+LIMITS=limits
+export LIMITS
+printf 'reads 17\nevent 1.5\nevent 1.4\n' > measured
+holds 'measures within their limits are good' sh judges.sh > said
+holds 'each measure is looked at' grep -qx '3 passed, 0 failed' said
+printf 'reads 17\nevent 1.51\n' > measured
+refuses 'past its limit of 1.5: event 1.51' sh judges.sh
+printf 'reads 17\n' > measured
+refuses 'not measured: event' sh judges.sh
+printf 'reads 17\nevent 1.5\nbyte 2\n' > measured
+refuses 'no limit: byte 2' sh judges.sh
+printf 'reads 0\nevent -nan\n' > measured
+refuses 'no number: reads 0' sh judges.sh
+refuses 'no number: event -nan' sh judges.sh
+unset LIMITS
+
+# What README and the guide print, with what is built beside the copy.
+for file in crates/kmap/out/kmap crates/kmap_c/out/libkmap_c.a crates/kmap_c/out/libkmap.so; do
+    mkdir -p "copy/${file%/*}"
+    cp "$top/$file" "copy/$file"
+done
+cp "$top/build.sh" "$top/LICENSE" copy
+broken README.md 's/^accepted$/refused/' 'failed: README.md: kmap check us.kbd' sh copy/tests/guide.sh
+broken docs/GUIDE.md 's/^test_shift passed$/test_shift failed/' 'failed: docs/GUIDE.md: cp us.kbd' sh copy/tests/guide.sh
+
+# A program from which no memory is refused.
+printf '#!/bin/sh\nexit 0\n' > silent
+chmod +x silent
+refuses 'failed: compile shift made --narrow' sh "$top/tests/refused_memory.sh" "$folder/silent"
+
+# A call that is never refused, and an exported function that takes memory and isn't called.
+printf '#!/bin/sh\necho ok\n' > ok
+chmod +x ok
+refuses 'failed: KeyMap::new takes no memory' sh copy/tests/refused_calls.sh ./ok
+holds 'the calls are those of the sources' [ "$(grep -c '^failed: each' said)" -eq 0 ]
+broken crates/messages/src/templates.rt "s/^pub fn number(n: u64)/pub fn number(alloc: Global, n: u64)/" \
+    'failed: each exported function that takes memory is called' sh copy/tests/refused_calls.sh ./ok
+
+# A picture without a reader of XML, and two builds that both fail: of the tools only those are there that are named.
+mkdir tools
+for tool in awk cat cmp cut dirname diff expr grep head mkdir mktemp rm sed sh sort tail tr wc comm basename cp; do
+    ln -s "$(command -v $tool)" tools
+done
+refuses 'failed: there is neither xmllint nor python3' env PATH="$folder/tools" sh "$top/tests/draw.sh" "$program"
+cat > fails << 'SH'
+#!/bin/sh
+case $PWD in
+*/first | */second) exit 1 ;;
+*) eval ": > \${$#}" ;;
+esac
+SH
+sed 's/exit 1/exit 0/' fails > succeeds
+chmod +x fails succeeds
+SIZES=65536
+export SIZES
+refuses 'failed: kmap check /dev/stdin ends with 0' sh "$top/tests/both_builds.sh" ./fails ./fails
+refuses 'failed: both builds answer alike to kmap check /dev/stdin' sh "$top/tests/both_builds.sh" ./succeeds ./fails
+unset SIZES
+
+# A public statement that names an inner machine: in a clause, in a ghost member, and by the import of a definition.
+mkdir -p small/crates/c/src small/crates/c/specs/Inner
+cat > small/crates/c/src/lib.rt << 'RT'
+mod parts;
+pub use parts::{answer, Part};
+RT
+cat > small/parts << 'RT'
+ghost use Rattle.c.specs.Inner.Machine.{machine};
+ghost use Rattle.c.specs.Told.{told};
+
+pub struct Part {
+    number: u8,
+}
+
+impl Model for Part {
+    ghost Value = { ℕ };
+
+    ghost view = { machine };
+}
+
+pub fn answer(part: &Part) -> u8
+    ensures { result ≡ told part.now }
+{
+    inner(part)
+}
+
+fn inner(part: &Part) -> u8
+    ensures { result ≡ machine part.now }
+{
+    part.number
+}
+RT
+echo 'use Rattle.std.specs.Prelude.{ℕ}' > small/crates/c/specs/Told.antt
+cp small/parts small/crates/c/src/parts.rt
+holds 'statements that name no inner machine are refused' sh "$top/tests/statements.sh" small > said
+sed 's/told part.now/machine part.now/' small/parts > small/crates/c/src/parts.rt
+refuses 'failed: crates/c/src/parts.rt: answer cites machine' sh "$top/tests/statements.sh" small
+sed 's/Value = { ℕ }/Value = { machine }/' small/parts > small/crates/c/src/parts.rt
+refuses 'failed: crates/c/src/parts.rt: Part ghost Value cites machine' sh "$top/tests/statements.sh" small
+cp small/parts small/crates/c/src/parts.rt
+echo 'use Rattle.c.specs.Inner.Machine.{machine}' > small/crates/c/specs/Told.antt
+refuses 'failed: crates/c/specs/Told.antt imports nothing from specs/Inner' sh "$top/tests/statements.sh" small
+
+counted

@@ -1,0 +1,50 @@
+#!/bin/sh
+# Checks that the table of modules in docs/ARCHITECTURE.md names the files of each crate that it lists, and no others,
+# and that each path that a page names is there.
+#
+# usage: modules.sh
+# The last line is 'N passed, M failed'; the status is 0 where none failed.
+
+top=$(cd "$(dirname "$0")/.." && pwd)
+. "$top/tests/shared.sh"
+folder=$(mktemp -d) || exit 1
+trap 'rm -rf "$folder"' EXIT
+
+cat > "$folder/modules.py" << 'PYTHON'
+import glob
+import os
+import re
+import sys
+
+os.chdir(sys.argv[1])
+# These stand in many crates, and the page says so below its table.
+COMMON = {"lib", "main", "Lib", "Inner", "laws", "limits", "fault", "type_error"}
+PARTS = (("src/", "*.rt", r"`([a-z_]+)`"), ("specs/", "*.antt", r"`([A-Z]\w*)`"), ("specs/Inner/", "*.antt", r"`([A-Z]\w*)`"))
+
+
+def tell(is_so, what):
+    print("good" if is_so else "bad", what)
+
+
+table = open("docs/ARCHITECTURE.md", encoding="utf-8").read().split("\n## The modules of each crate\n")[1].split("\n## ")[0]
+for row in re.findall(r"^\| (\w+) \|(.*)\|(.*)\|(.*)\|$", table, re.M):
+    crate, cells = row[0], row[1:]
+    if crate == "crate":
+        continue
+    for (part, files, name), cell in zip(PARTS, cells):
+        there = {os.path.splitext(os.path.basename(it))[0] for it in glob.glob(f"crates/{crate}/{part}{files}")}
+        told = set(re.findall(name, cell))
+        tell(there - COMMON == told - COMMON, f"docs/ARCHITECTURE.md names each file of {part} of {crate}, and no other")
+paths = {"/".join(it.split("/")[2:]) for it in glob.glob("crates/**", recursive=True)}
+for page in ["README.md", "CONTRIBUTING.md", *sorted(glob.glob("docs/*.md"))]:
+    for path in re.findall(r"`((?:src|specs|proofs|tests|bench|examples)/[\w/.]+)`", open(page, encoding="utf-8").read()):
+        if not re.search(r"[A-Z]{4}", path):
+            path = path.rstrip("/")
+            tell(path in paths or os.path.exists(path), f"{page} names {path}, which is there")
+PYTHON
+
+python3 -B "$folder/modules.py" "$top" > "$folder/told" || holds 'the pages can be read' false
+while read -r is_so what; do
+    holds "$what" [ "$is_so" = good ]
+done < "$folder/told"
+counted

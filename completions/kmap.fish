@@ -14,8 +14,10 @@ complete -c kmap -n '__kmap_after' -f
 complete -c kmap -n '__kmap_after' -a check -d 'Accepts a keymap only if no key can leave a modifier on'
 complete -c kmap -n '__kmap_after' -a search -d 'Decides whether key presses can leave a modifier on'
 complete -c kmap -n '__kmap_after' -a lint -d 'Tells what is wrong or doubtful in keymap texts, and where'
+complete -c kmap -n '__kmap_after' -a fmt -d 'Writes keymap texts in one layout, and changes nothing else'
 complete -c kmap -n '__kmap_after' -a play -d 'Prints what the console answers to a script of key presses'
 complete -c kmap -n '__kmap_after' -a type -d 'Prints a script of key presses that types a sentence'
+complete -c kmap -n '__kmap_after' -a cover -d 'Prints a script that tests a console with all that a keymap can do'
 complete -c kmap -n '__kmap_after' -a compile -d 'Writes the table file of a keymap text'
 complete -c kmap -n '__kmap_after' -a dump -d 'Prints a table file as keymap text'
 complete -c kmap -n '__kmap_after' -a draw -d 'Draws a keymap as one SVG picture'
@@ -31,11 +33,17 @@ complete -c kmap -n '__kmap_after search' -s h -l help -d 'Print help'
 
 complete -c kmap -n '__kmap_after lint' -s h -l help -d 'Print help'
 
+complete -c kmap -n '__kmap_after fmt' -l check -d 'Writes nothing, and fails where a text is not in the layout'
+complete -c kmap -n '__kmap_after fmt' -l print -d 'Prints the texts in the layout instead'
+complete -c kmap -n '__kmap_after fmt' -s h -l help -d 'Print help'
+
 complete -c kmap -n '__kmap_after play' -l typed -d 'Prints the typed bytes instead'
 complete -c kmap -n '__kmap_after play' -l next -r -F -d 'The keymap text that a load puts in force'
 complete -c kmap -n '__kmap_after play' -s h -l help -d 'Print help'
 
 complete -c kmap -n '__kmap_after type' -s h -l help -d 'Print help'
+
+complete -c kmap -n '__kmap_after cover' -s h -l help -d 'Print help'
 
 complete -c kmap -n '__kmap_after compile' -l narrow -d 'Writes a narrow file, one byte a character'
 complete -c kmap -n '__kmap_after compile' -s h -l help -d 'Print help'
@@ -50,8 +58,10 @@ complete -c kmap -n '__kmap_after help' -f
 complete -c kmap -n '__kmap_after help' -a check
 complete -c kmap -n '__kmap_after help' -a search
 complete -c kmap -n '__kmap_after help' -a lint
+complete -c kmap -n '__kmap_after help' -a fmt
 complete -c kmap -n '__kmap_after help' -a play
 complete -c kmap -n '__kmap_after help' -a type
+complete -c kmap -n '__kmap_after help' -a cover
 complete -c kmap -n '__kmap_after help' -a compile
 complete -c kmap -n '__kmap_after help' -a dump
 complete -c kmap -n '__kmap_after help' -a draw

@@ -97,7 +97,8 @@ left_between ms h (keys, sent, sticks, releases) =
 
 answer_between : (ms : Maps) (a : Sticking) → IsAnswerUnder (with_loads ms) a → IsAnswerBetween ms a
 answer_between ms (Sticks events) (left, fewest) =
-    (left_between ms (reverse events.items) left, (λ g keys i sticks. fewest g keys (all_admitted ms g) i sticks), left.3)
+    (left_between ms (reverse events.items) left,
+        (λ g keys i sticks. fewest g keys (all_admitted ms g) i sticks), left.3)
 answer_between ms Never x = λ h keys. x h keys (all_admitted ms h)
 answer_between ms (Undecided p) (reaches, none_by) =
     (reaches, (λ g keys i sticks. none_by g keys (all_admitted ms g) i sticks))

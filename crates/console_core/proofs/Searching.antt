@@ -70,7 +70,8 @@ pub place_last : (j n : ℕ) → j < n + 1 → (j < n) ⊎ (j ≡ n)
 place_last j n lt = elim (cases_lt j n) [ inl below ↦ inl below | inr le ↦ inr (omega (arith, lt, le)) ]
 
 -- entries at the same place are the same
-pub same_entry : (es : Entries) (j n : ℕ) (x y : Entry) → j ≡ n → slice_get es j ≡ Some x → slice_get es n ≡ Some y → y ≡ x
+pub same_entry : (es : Entries) (j n : ℕ) (x y : Entry)
+    → j ≡ n → slice_get es j ≡ Some x → slice_get es n ≡ Some y → y ≡ x
 same_entry es j n x y e at here = same_Some y x (sym here ∙ ap (λ k. slice_get es k) (sym e) ∙ at)
 
 -- one more entry whose releases are met

@@ -484,8 +484,8 @@ follows-start = record {
   holds = λ i k h. absurd (some_none k None h refl);
 }
 
--- Sets of states by how many presses lead to them: below n letting go and exchanging the maps stay in a set, and a press
--- leads from a set to the next one.
+-- Sets of states by how many presses lead to them: below n letting go and exchanging the maps stay in a set, and a
+-- press leads from a set to the next one.
 pub record IsKeptBelow (u : Under) (n : ℕ) (S : ℕ → State → Type 0) : Type 0 where
   pub start : S 0 start
   pub let_go : (p : ℕ) → p < n → (s : State) (k : ℕ) (i : Modifier) → S p s → Holds s k i → S p (with_holder s i None)
@@ -585,8 +585,8 @@ fewer (Release k) h n le = le
 fewer Reset h n le = le
 fewer Load h n le = le
 
--- Whatever presses, releases, resets and loads come, at most n presses, the console stands in a state of the sets, where
--- the lists are such that no key forgets that it holds a modifier.
+-- Whatever presses, releases, resets and loads come, at most n presses, the console stands in a state of the sets,
+-- where the lists are such that no key forgets that it holds a modifier.
 pub stays : (u : Under) (n : ℕ) (S : ℕ → State → Type 0) (P : List Event → Type 0) → IsKeptBelow u n S
     → AreSpared u n S P → (h : List Event) → P h
     → HasKeys h → Admits u h → presses h ≤ n

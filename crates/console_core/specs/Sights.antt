@@ -1,5 +1,5 @@
--- What presses of keys see: which cells they look up, under which locks, and with which accents pending; and what can be
--- seen at all.
+-- What presses of keys see: which cells they look up, under which locks, and with which accents pending; and what can
+-- be seen at all.
 use Rattle.std.specs.Prelude.{◌≡◌, ◌==◌, ℕ, ◌<◌, Bool, true, false, ◌||◌, ◌&&◌, not, List, ◌∷◌, ◌++◌, Some}
 use Rattle.std.specs.List.{Contains, list_any, range_with_len}
 use Rattle.keymap_core.specs.declared.action.Modifier.{Modifier}

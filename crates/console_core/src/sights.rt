@@ -1,13 +1,13 @@
 //! What presses of keys can see: what is noted of the states that the search meets.
-ghost use Rattle.std.specs.Prelude.{◌≡◌, ◌<◌, ◌⊎◌, ℕ, [], false, true, None, length, OnOk, IfOk, MatchOption};
+ghost use Rattle.std.specs.Prelude.{◌≡◌, ◌<◌, ◌⊎◌, ℕ, [], false, true, None, OnOk, IfOk, MatchOption};
 ghost use Rattle.std.specs.List.{Contains};
 ghost use Rattle.keymap_core.specs.Maps.{MapValue};
 ghost use Rattle.keymap_core.specs.Numbers.{key_count};
 ghost use Rattle.console_core.specs.Moves.{alone};
 ghost use Rattle.console_core.specs.Sticking.{ReachesMoreThan, state_limit};
-ghost use Rattle.console_core.specs.Sights.{AreSightsOf, IsOffered, IsReachable, SeesBy};
+ghost use Rattle.console_core.specs.Sights.{AreSightsOf, IsOffered, IsReachable};
 ghost use Rattle.console_core.specs.Sights.{is_offered, can_see};
-ghost use Rattle.console_core.specs.Inner.Searching.{state_of, under_of, Searched};
+ghost use Rattle.console_core.specs.Inner.Searching.{state_of, under_of};
 ghost use Rattle.console_core.specs.Inner.Noting.{IsSelectedBy, IsWith, AddsOffer, AddsOffers, AddsNotes, AreNotesOf};
 
 use crate::held::{Held, Keymaps};

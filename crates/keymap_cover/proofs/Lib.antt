@@ -1,4 +1,3 @@
-pub mod Counting
 pub mod Listed
 pub mod Marking
 pub mod Touring

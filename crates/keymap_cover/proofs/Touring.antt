@@ -1,12 +1,12 @@
 -- What one more stroke does to a tour.
 use Rattle.std.proofs.Common.{◌≡◌, ℕ, ◌<◌, ◌⊎◌, inl, inr, Bool, true, false, List, [], ◌∷◌, ◌++◌, Option, None, Some}
-use Rattle.std.proofs.Common.{refl, ap, subst, sym, ◌∙◌, arith, length, reverse, if◌then◌else◌, not}
+use Rattle.std.proofs.Common.{refl, ap, subst, sym, ◌∙◌, length, reverse, if◌then◌else◌, not}
 use Rattle.std.specs.Prelude.{◌==◌, slice_set, slice_index_or, replicate}
 use Rattle.std.specs.Option.{is_some}
 use Rattle.std.proofs.lemmas.List.Elements.{All-nil, All-cons}
 use Rattle.std.proofs.Math.Bool.{and-false}
-use Rattle.std.proofs.lemmas.Bool.{eqb-true, eq-eqb, true≢false}
-use Rattle.std.proofs.lemmas.List.{reverse-append, get_or-set_same, get_or-set_other, get_or-replicate}
+use Rattle.std.proofs.lemmas.Bool.{true≢false}
+use Rattle.std.proofs.lemmas.List.{reverse-append, get_or-replicate}
 use Rattle.keymap_core.specs.declared.action.Modifier.{Modifier}
 use Rattle.keymap_core.specs.declared.action.Lock.{Lock}
 use Rattle.keymap_core.specs.declared.action.Holding.TheVariants as holding
@@ -24,7 +24,8 @@ use Rattle.console_core.specs.History.{is_locked_after, accent_pending_after, is
 use Rattle.console_core.proofs.OneMore.{pressed-start, pressed-press, pressed-release, pressed-reset}
 use Rattle.keymap_core.proofs.HoldingTests.{no-modifier}
 use mathlib.Core.Path.{fun_ext}
-use Rattle.console_core.specs.Sights.{selection_with, slot_in, column_in, look_selected, selection_after, SeesNext, SeesAlong}
+use Rattle.console_core.specs.Sights.{selection_with, slot_in, column_in, look_selected, selection_after, SeesNext}
+use Rattle.console_core.specs.Sights.{SeesAlong}
 use Rattle.keymap_cover.specs.declared.stroke.Stroke.{Stroke}
 use Rattle.keymap_cover.specs.declared.stroke.Stroke.TheVariants as stroke
 use Rattle.keymap_cover.specs.Strokes.{event_of, events_of, is_down, CanFollow, ArePossible}
@@ -222,7 +223,8 @@ pressed-once m h strokes down old now k x t is can below-128 lt added = record {
   ];
 }
 
-pub tour-press : (m : MapValue) (h : List Event) (strokes more : List Stroke) (down : List Bool) (old now : Sight → Bool)
+pub tour-press : (m : MapValue) (h : List Event) (strokes more : List Stroke) (down : List Bool)
+    (old now : Sight → Bool)
     (k : ℕ) (x : Stroke) → more ≡ strokes ++ x ∷ [] → IsTour m h strokes down old → event_of x ≡ event.Press k
     → CanFollow (reverse strokes) x → k < key_count → k < length down → AddsSights m h k old now
     → IsTour m (event.Press k ∷ h) more (slice_set down k true) now
@@ -321,7 +323,8 @@ never-forgets m x are e path is forgetful =
 
 -- a tour that ends at rest covers
 pub tour-covers : (m : MapValue) (h : List Event) (c : Cover) (down : List Bool)
-    → IsTour m h c.strokes.items down (has_seen c.seen) → IsAtRest m h → AreUp down → AreSightsOf m c.sights → Covers m c
+    → IsTour m h c.strokes.items down (has_seen c.seen) → IsAtRest m h → AreUp down → AreSightsOf m c.sights
+        → Covers m c
 tour-covers m h c down t rest up are = record {
   seen = λ x has. subst (λ g. SeesAlong m g x) (sym t.events) (t.seen x has);
   all_seen = λ x along. t.all_seen x (subst (λ g. SeesAlong m g x) t.events along);

@@ -1,13 +1,14 @@
-//! A script of key events after which a console has looked up every cell that can be looked up at all, and what it sees.
+//! A script of key events after which a console has looked up every cell that can be looked up at all, and what it
+//! sees.
 //!
 //! The crate stands on `keymap_tour`, which proposes the events, and on `console_core`: a console runs along while the
 //! script is made, so that what each press looks up is noted, however the events were chosen, and the search tells what
 //! can be looked up at all (`Sights`).
 //!
-//! It promises (`cover_of`, `Cover::verdict`) that what is told as seen is what the script sees in its events from a new
-//! console, that what is told as left out can be seen, and that what is told as never seen no list of events sees, or no
-//! clean one where a key that holds a modifier can look up a character. Only released keys are pressed, only pressed ones
-//! repeated and released; at the end no key is down, no modifier on and no accent pending.
+//! It promises (`cover_of`, `Cover::verdict`) that what is told as seen is what the script sees in its events from a
+//! new console, that what is told as left out can be seen, and that what is told as never seen no list of events sees,
+//! or no clean one where a key that holds a modifier can look up a character. Only released keys are pressed, only
+//! pressed ones repeated and released; at the end no key is down, no modifier on and no accent pending.
 #![tactic(auto)]
 
 mod counts;

@@ -87,19 +87,6 @@ none_is [] i d e = refl
 none_is (x ∷ xs) zero d e = cc
 none_is (x ∷ xs) (suc i) d e = none_is xs i d e
 
--- 2 pieces that are added in turn
-pub pieces2 : (old t1 t2 a b : List ℕ) → t1 ≡ old ++ a → t2 ≡ t1 ++ b → t2 ≡ old ++ (a ++ b)
-pieces2 old t1 t2 a b e1 e2 = rw (e2, e1) (simp append_assoc)
-
--- 3 pieces that are added in turn
-pub pieces3 : (old t1 t2 t3 a b c : List ℕ) → t1 ≡ old ++ a → t2 ≡ t1 ++ b → t3 ≡ t2 ++ c → t3 ≡ old ++ (a ++ b ++ c)
-pieces3 old t1 t2 t3 a b c e1 e2 e3 = rw (e3, e2, e1) (simp append_assoc)
-
--- 4 pieces that are added in turn
-pub pieces4 : (old t1 t2 t3 t4 a b c d : List ℕ)
-    → t1 ≡ old ++ a → t2 ≡ t1 ++ b → t3 ≡ t2 ++ c → t4 ≡ t3 ++ d → t4 ≡ old ++ (a ++ b ++ c ++ d)
-pieces4 old t1 t2 t3 t4 a b c d e1 e2 e3 e4 = rw (e4, e3, e2, e1) (simp append_assoc)
-
 -- 5 pieces that are added in turn
 pub pieces5 : (old t1 t2 t3 t4 t5 a b c d e : List ℕ)
     → t1 ≡ old ++ a → t2 ≡ t1 ++ b → t3 ≡ t2 ++ c → t4 ≡ t3 ++ d → t5 ≡ t4 ++ e → t5 ≡ old ++ (a ++ b ++ c ++ d ++ e)

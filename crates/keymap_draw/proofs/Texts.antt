@@ -29,7 +29,8 @@ use Rattle.keymap_text.specs.Words.{control_names}
 use Rattle.keymap_draw.specs.declared.tables.UnseenName.{UnseenName}
 use Rattle.keymap_draw.specs.declared.tables.TheConstants.{UNSEEN_NAMES, CODED, ACCENT_MARKS}
 use Rattle.keymap_core.specs.Unseen.{is_unseen, is_control, is_unseen_above}
-use Rattle.keymap_draw.specs.Legends.{is_in, name_in, unfilled, marked, is_coded, is_mark, unseen_name, shown_legend, named_or}
+use Rattle.keymap_draw.specs.Legends.{is_in, name_in, unfilled, marked, is_coded, is_mark, unseen_name, shown_legend}
+use Rattle.keymap_draw.specs.Legends.{named_or}
 use Rattle.keymap_draw.specs.Legends.{other_legend, character_legend, accent_mark, action_legend, cell_legend}
 use Rattle.keymap_draw.specs.WellFormed.{is_shown}
 use Rattle.keymap_draw.proofs.Scans.{both_true, first_true, second_true, decimal_all, digit_passes}

@@ -78,4 +78,5 @@ accent_marks =
 
 -- The mark of a dead key is that of the accent that its name says.
 abbrev pub MarksAreOfTheirAccents : Type 0
-MarksAreOfTheirAccents = map (λ i. (name_of (a.DeadKey i), accent_mark i)) (range_with_len 0 accent_limit) ≡ accent_marks
+MarksAreOfTheirAccents = map (λ i. (name_of (a.DeadKey i), accent_mark i)) (range_with_len 0 accent_limit)
+    ≡ accent_marks

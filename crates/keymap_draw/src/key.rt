@@ -1,5 +1,5 @@
 //! One key of the picture: its cap, its code and its legends. Its title is its line of the printed form.
-ghost use Rattle.std.specs.Prelude.{◌≡◌, ◌++◌, ◌∷◌, [], OnOk, decimal, option_copied};
+ghost use Rattle.std.specs.Prelude.{◌≡◌, ◌++◌, ◌∷◌, [], OnOk, option_copied};
 ghost use Rattle.keymap_draw.specs.Keys as spec;
 
 use crate::board::Shape;

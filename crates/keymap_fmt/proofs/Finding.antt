@@ -111,7 +111,8 @@ pub record TokenAt (text : List ℕ) (at : ℕ) (s : Standing) (t : TokenValue) 
 token_width : TokenLaws → (kind : TokenKind) (c n : ℕ) (rest : List ℕ) → front_of c rest ≡ Found kind n
     → width kind (c ∷ take n rest) ≤ length (c ∷ take n rest)
 token_width laws (Literal d) c n rest h =
-    omega (arith, (laws.found c n (Literal d) rest h).wide, length-take-le n rest (laws.found c n (Literal d) rest h).within)
+    omega (arith, (laws.found c n (Literal d) rest h).wide,
+        length-take-le n rest (laws.found c n (Literal d) rest h).within)
 token_width laws ParenL c n rest h = omega arith
 token_width laws ParenR c n rest h = omega arith
 token_width laws Word c n rest h = omega arith
@@ -162,7 +163,8 @@ token_found laws text at s t l h e = go (at_front laws c rest)
     go (blank b) = absurd (no_blank b)
     go (hash b) = absurd (no_hash b)
     go (token kind n p q f) =
-        let u : TokenValue = record { kind = kind; bytes = c ∷ take n rest; start = at; last = is_empty (drop n rest) } in
+        let u : TokenValue =
+            record { kind = kind; bytes = c ∷ take n rest; start = at; last = is_empty (drop n rest) } in
         let same : t ≡ u =
         then_first t u (tokens_after n (at + 1) rest) (here ∙ ap first (split_found at c n kind rest f)) in
         subst (TokenAt text at s) (sym same) (of_token kind n p q f)
@@ -171,7 +173,8 @@ token_found laws text at s t l h e = go (at_front laws c rest)
         absurd (stops_first t EndInside (at + 1 + length rest) (here ∙ ap first (split_unfinished at c rest r)))
 
 -- where none is found, no piece stands
-pub none_found : TokenLaws → (text : List ℕ) (at : ℕ) (s : Standing) (r : Result (Option TokenValue) (TextFaultKind × ℕ))
+pub none_found : TokenLaws → (text : List ℕ) (at : ℕ) (s : Standing)
+    (r : Result (Option TokenValue) (TextFaultKind × ℕ))
     → at < length text → separates (get_or text at 0) ≡ false → r ≡ first (tokens_after 0 at (drop at text))
     → is_token r ≡ false → pieces_after 0 s (drop at text) ≡ []
 none_found laws text at s r l h e n = ap (pieces_after 0 s) front ∙ go (at_front laws c rest)
@@ -201,12 +204,6 @@ none_found laws text at s r l h e n = ap (pieces_after 0 s) front ∙ go (at_fro
         absurd (true≢false (sym (ap (λ ts. is_token (first ts)) (split_found at c n kind rest f)) ∙ here))
     go (refused f p q r) = read_refused s c rest f p q r
     go (unfinished p q r) = read_unfinished s c rest p q r
-
--- what is found behind blanks
-pub found_from : (text : List ℕ) (at i : ℕ) (s u : Standing) (p : Piece) → at ≤ i
-    → pieces_after 0 s (drop at text) ≡ pieces_after 0 u (drop i text) → ComesNext text i u p → ComesNext text at s p
-found_from text at i s u p l e h =
-    record { ends = omega (arith, h.ends, l); within = h.within; bytes = h.bytes; others = e ∙ h.others }
 
 -- the token that is found, as a piece
 pub piece_found : TokenLaws → (text : List ℕ) (at : ℕ) (s : Standing) (t : Token) → at < length text

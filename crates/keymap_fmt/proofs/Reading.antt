@@ -118,7 +118,8 @@ token_plain c n kind bytes h = (plain (is_blank c) refl, other (c == 35) refl)
     plain false e = e
 
     other : (b : Bool) → (c == 35) ≡ b → (c == 35) ≡ false
-    other true e = absurd (let g = sym (front_comment bytes) ∙ sym (ap (λ c. front_of c bytes) (eqb-true _ _ e)) ∙ h in cc)
+    other true e = absurd (
+        let g = sym (front_comment bytes) ∙ sym (ap (λ c. front_of c bytes) (eqb-true _ _ e)) ∙ h in cc)
     other false e = e
 
 -- The bytes begin with a blank.

@@ -1,5 +1,6 @@
 -- Where no cell is a dead key of an accent that isn't defined, no accent is missing.
-use Rattle.std.proofs.Common.{◌≡◌, ℕ, Bool, true, false, List, [], ◌∷◌, ◌++◌, None, Some, Option, cond, refl, ap, sym, ◌∙◌}
+use Rattle.std.proofs.Common.{◌≡◌, ℕ, Bool, true, false, List, [], ◌∷◌, ◌++◌, None, Some, Option, cond, refl, ap, sym}
+use Rattle.std.proofs.Common.{◌∙◌}
 use Rattle.std.proofs.Common.{zero, suc, arith, ◌||◌}
 use Rattle.std.specs.Prelude.{◌&&◌, not}
 use Rattle.std.specs.List.{find}
@@ -8,7 +9,8 @@ use Rattle.std.proofs.lemmas.Bool.Decides.{nat_tests}
 use Rattle.keymap_core.specs.Below.{gathered}
 use Rattle.keymap_lint.specs.Spelled.{Spelled}
 use Rattle.keymap_lint.specs.declared.cells.CellInForce.{CellInForce}
-use Rattle.keymap_lint.specs.Kinds.{is_the, is_missing_of, is_missing, is_given, is_defined, live_accent, missing_accent}
+use Rattle.keymap_lint.specs.Kinds.{is_the, is_missing_of, is_missing, is_given, is_defined, live_accent}
+use Rattle.keymap_lint.specs.Kinds.{missing_accent}
 
 defined_there : (b : Bool) → not b ≡ false → b ≡ true
 defined_there true h = refl

@@ -5,9 +5,9 @@ ghost use Rattle.keymap_lint_text.specs.Excerpt.{excerpt};
 ghost use Rattle.keymap_lint_text.specs.Shown.{shown_chars, shown_name, IsPlainText, is_line_feed};
 ghost use Rattle.keymap_lint_text.specs.Told.{word_text};
 
-/// What is shown of a line of any text, of a token, and of the name of a file is UTF-8 that a terminal shows: no control
-/// but a tab and a line feed, no mark that can't be seen and none that turns the direction of writing. The name has no
-/// line feed.
+/// What is shown of a line of any text, of a token, and of the name of a file is UTF-8 that a terminal shows: no
+/// control but a tab and a line feed, no mark that can't be seen and none that turns the direction of writing. The name
+/// has no line feed.
 pub fn shown_lines_are_plain()
     ensures line { (before rest : List ℕ) → IsPlainText (excerpt before rest) }
     ensures token { (token : List ℕ) → IsPlainText (word_text token) }

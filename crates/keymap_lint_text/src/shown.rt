@@ -134,8 +134,8 @@ pub(crate) fn push_characters(text: &mut Vec<u8>, characters: &[char]) -> Result
     Ok(())
 }
 
-/// The name of a file as a message shows it: U+FFFD stands for what a terminal doesn't show and for what isn't UTF-8, so
-/// it stays within its line and turns no direction of writing.
+/// The name of a file as a message shows it: U+FFFD stands for what a terminal doesn't show and for what isn't UTF-8,
+/// so it stays within its line and turns no direction of writing.
 #[tactic(auto, unfolding(crate::specs::Shown::shown_name))]
 pub fn shown_name(alloc: Global, name: &[u8]) -> Result<Vec<u8>, AllocError>
     ensures { IfOk result (λ text. text.items ≡ spec.shown_name name.now) }

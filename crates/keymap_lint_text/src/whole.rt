@@ -103,7 +103,8 @@ fn text_under(alloc: Global, file: &[u8], source: &[u8], lint: &Lint) -> Result<
     Ok(text)
 }
 
-/// What is printed of a text under the name of its file, as `shown_name` shows that. `Err` means that memory was refused.
+/// What is printed of a text under the name of its file, as `shown_name` shows that. `Err` means that memory was
+/// refused.
 pub fn lint_text(
     alloc: Global,
     file: &[u8],

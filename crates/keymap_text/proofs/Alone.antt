@@ -75,7 +75,8 @@ front_alone c n b k s y h e = go (role c)
     go (Quote i) =
         to 39 i (λ f. front_quote (take n s ++ b ∷ y) ∙ literal_alone s (b ∷ y) k n (sym (front_quote s) ∙ f))
     go (Letter i) = of_word i
-    go (Other r i) = absurd (refused (front_no_role c s r ∙ ap (λ t. cond t (word (leading is_word s)) (Refused BadByte)) i))
+    go (Other r i) = absurd (refused (front_no_role c s r
+        ∙ ap (λ t. cond t (word (leading is_word s)) (Refused BadByte)) i))
 
 -- a literal has two apostrophes, and something between them
 literal_front_wide : (c d n : ℕ) (s : List ℕ) → front_of c s ≡ Found (Literal d) n → 2 ≤ n
@@ -97,7 +98,8 @@ literal_front_wide c d n s h = go (role c)
         literal_wide s (Literal d) n (sym (ap (λ c. front_of c s) i ∙ front_quote s) ∙ h)
     go (Letter i) = absurd (no_word (leading is_word s) (sym (front_word c s i) ∙ h))
     go (Other r i) =
-        absurd (let g = sym (front_no_role c s r ∙ ap (λ t. cond t (word (leading is_word s)) (Refused BadByte)) i) ∙ h in cc)
+        absurd (let g = sym (front_no_role c s r ∙ ap (λ t. cond t (word (leading is_word s)) (Refused BadByte)) i)
+            ∙ h in cc)
 
 -- what is passed over is a blank or a comment
 pub skipped_separates : (c n : ℕ) (s : List ℕ) → front_of c s ≡ Skipped n → separates c ≡ true
@@ -118,7 +120,8 @@ skipped_separates c n s h = go (role c)
     go (Quote i) = absurd (literal_no_skip s n (sym (ap (λ c. front_of c s) i ∙ front_quote s) ∙ h))
     go (Letter i) = absurd (no_word (leading is_word s) (sym (front_word c s i) ∙ h))
     go (Other r i) =
-        absurd (let g = sym (front_no_role c s r ∙ ap (λ t. cond t (word (leading is_word s)) (Refused BadByte)) i) ∙ h in cc)
+        absurd (let g = sym (front_no_role c s r ∙ ap (λ t. cond t (word (leading is_word s)) (Refused BadByte)) i)
+            ∙ h in cc)
 
 -- a letter or digit is no LF, and no blank
 word_on_line : (c : ℕ) → is_word c ≡ true → stays_on_line c ≡ true
@@ -183,7 +186,8 @@ token_in_line c n k s h = go (role c)
     go (Quote i) = to 39 i quote
     go (Letter i) = of_word i
     go (Other r i) =
-        absurd (let g = sym (front_no_role c s r ∙ ap (λ t. cond t (word (leading is_word s)) (Refused BadByte)) i) ∙ h in cc)
+        absurd (let g = sym (front_no_role c s r ∙ ap (λ t. cond t (word (leading is_word s)) (Refused BadByte)) i)
+            ∙ h in cc)
 
 front_wide : (c n : ℕ) (k : TokenKind) (s : List ℕ) → front_of c s ≡ Found k n → IsWide k n
 front_wide c n (Literal d) s h = literal_front_wide c d n s h

@@ -1,6 +1,7 @@
 -- What taking a cell makes of the rest of a text.
 use Rattle.std.proofs.Common.{◌≡◌, ℕ, zero, suc, ◌+◌, ◌-◌, ◌<◌, ◌≤◌, ◌==◌, Bool, true, false, cond, List}
-use Rattle.std.proofs.Common.{length, take, drop, refl, sym, ◌∙◌, ap, subst, arith, Ok, Err, eqb-true, eq-eqb, ne_eqb, true≢false}
+use Rattle.std.proofs.Common.{length, take, drop, refl, sym, ◌∙◌, ap, subst, arith, Ok, Err, eqb-true, eq-eqb, ne_eqb}
+use Rattle.std.proofs.Common.{true≢false}
 use Rattle.keymap_core.specs.Accents.{AccentValue}
 use Rattle.keymap_core.specs.Maps.{MapValue}
 use Rattle.keymap_core.specs.declared.entry.Entry.{Entry}

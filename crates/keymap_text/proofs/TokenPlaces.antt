@@ -66,12 +66,14 @@ all_among (c ∷ bytes) zero q = go (front_of c bytes) refl (λ n. all_among byt
         All-weaker (Among (q + 1) bytes) (Among q (c ∷ bytes)) (one_more q c bytes)
         (list_of (tokens_after n (q + 1) bytes)) h
 
-    go : (f : Front) → front_of c bytes ≡ f → ((n : ℕ) → All (Among (q + 1) bytes) (list_of (tokens_after n (q + 1) bytes)))
+    go : (f : Front) → front_of c bytes ≡ f
+        → ((n : ℕ) → All (Among (q + 1) bytes) (list_of (tokens_after n (q + 1) bytes)))
         → All (Among q (c ∷ bytes)) (list_of (tokens_after 0 q (c ∷ bytes)))
     go (Skipped n) e ih =
         subst (λ ts. All (Among q (c ∷ bytes)) (list_of ts)) (sym (split_skipped q c n bytes e)) (later n (ih n))
     go (Found kind n) e ih =
-        let t : TokenValue = record { kind = kind; bytes = c ∷ take n bytes; start = q; last = is_empty (drop n bytes) } in
+        let t : TokenValue =
+            record { kind = kind; bytes = c ∷ take n bytes; start = q; last = is_empty (drop n bytes) } in
         subst (λ ts. All (Among q (c ∷ bytes)) (list_of ts)) (sym (split_found q c n kind bytes e))
         (subst (All (Among q (c ∷ bytes))) (sym (list_then t (tokens_after n (q + 1) bytes)))
         (All-cons (Among q (c ∷ bytes)) t (list_of (tokens_after n (q + 1) bytes)) (in_front q c n kind bytes e)

@@ -36,8 +36,8 @@ definition_behind (AfterPairs n) b t offset = definition_by b t offset
 definition_behind AtLock b t offset = None
 definition_behind _ b t offset = b
 
--- the place before the first token that is refused, or behind the last one, the definition that it is in, and the offset
--- behind the token before it
+-- the place before the first token that is refused, or behind the last one, the definition that it is in, and the
+-- offset behind the token before it
 unfoldable pub first_refused : RowPlace → Option DefinitionStart → ℕ → List TokenValue
     → RowPlace × Option DefinitionStart × ℕ
 first_refused p d behind [] = (p, d, behind)

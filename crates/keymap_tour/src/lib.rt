@@ -1,11 +1,11 @@
-//! Proposes the events of a script that makes a console look up every cell that can be looked up, and that tries what keys
-//! do to each other.
+//! Proposes the events of a script that makes a console look up every cell that can be looked up, and that tries what
+//! keys do to each other.
 //!
-//! The crate stands on `keymap_core` for the keymap, and on `console_core` for the console that runs along while the events
-//! are written down.
+//! The crate stands on `keymap_core` for the keymap, and on `console_core` for the console that runs along while the
+//! events are written down.
 //!
-//! It promises nothing of the events: who delivers them notes what they see, as `keymap_cover` does. So no function here
-//! has a clause, but where a caller needs one, and all that is proved is that each call is safe and ends.
+//! It promises nothing of the events: who delivers them notes what they see, as `keymap_cover` does. So no function
+//! here has a clause, but where a caller needs one, and all that is proved is that each call is safe and ends.
 #![tactic(auto)]
 
 mod accents;

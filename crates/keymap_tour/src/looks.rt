@@ -12,8 +12,8 @@ use std::alloc::AllocError;
 /// More rounds than there are cells and settings.
 const ROUNDS: usize = 4_096;
 
-/// Whether a press with the look-up in the state counts as new. A turn from which nothing leads back doesn't, unless all
-/// turns are moves.
+/// Whether a press with the look-up in the state counts as new. A turn from which nothing leads back doesn't, unless
+/// all turns are moves.
 fn counts<T: Translator>(
     pen: &Pen<T>,
     views: &Views,

@@ -1,5 +1,5 @@
-//! The states that moves lead to: which key holds each modifier, and which locks are on. The scroll lock, which picks no
-//! cell, is left out.
+//! The states that moves lead to: which key holds each modifier, and which locks are on. The scroll lock, which picks
+//! no cell, is left out.
 use console_core::Selection;
 use keymap_core::{Action, Cell, KeyCode, Lock, MODIFIERS, Modifier};
 

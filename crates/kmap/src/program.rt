@@ -333,9 +333,9 @@ fn is_of_the_system(name: &str) -> bool {
     name.starts_with("/dev/") || name.starts_with("/proc/")
 }
 
-/// The table file is made before OUT is touched, so a fault of the text leaves an old OUT as it is; and so does a fault of
-/// writing, since a new file takes the place of the old one. A keymap that doesn't fit in a narrow file leaves an empty
-/// OUT, which nobody takes for its tables.
+/// The table file is made before OUT is touched, so a fault of the text leaves an old OUT as it is; and so does a fault
+/// of writing, since a new file takes the place of the old one. A keymap that doesn't fit in a narrow file leaves an
+/// empty OUT, which nobody takes for its tables.
 fn compile<'a, R>(rt: &R, text: &'a str, out: &'a str, narrow: bool) -> Result<(), Failure<'a>>
 where
     R: AllocGlobal + Files,

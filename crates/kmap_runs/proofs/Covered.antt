@@ -1,12 +1,13 @@
 -- Texts and lists of pieces, one for each number; and what a failed call owes of its text, which is nothing.
 use Rattle.std.proofs.Common.{◌≡◌, ℕ, zero, suc, ◌+◌, List, [], ◌∷◌, ◌++◌, sym, ◌∙◌, ap, map, arith}
-use Rattle.std.proofs.Common.{append_assoc, append-nil, add-one, refl, true, false, ◌<◌, ◌≤◌, ◌-◌, length, take, drop, get_or}
+use Rattle.std.proofs.Common.{append_assoc, append-nil, add-one, true, false, ◌<◌, ◌≤◌, ◌-◌, length, take, drop}
+use Rattle.std.proofs.Common.{get_or}
 use Rattle.std.proofs.Common.{Result, subst}
 use Rattle.std.specs.Prelude.{OnOk, IfOk}
 use Rattle.std.specs.Result.{IsErrAnd}
 use Rattle.std.proofs.lemmas.Result.{err_from_is_err_and}
 use Rattle.std.proofs.lemmas.Grind.{flat_map-append}
-use Rattle.std.proofs.lemmas.List.{take_more, get_or_default}
+use Rattle.std.proofs.lemmas.List.{take_more}
 use Rattle.std.proofs.lemmas.List.Sums.{prefix_len-drop_yes, prefix_len-drop_no, prefix_len-drop_all}
 use Rattle.kmap_runs.specs.Cover.{are_same, row_at, run_len}
 use Rattle.std.specs.List.{flat_map, prefix_len, range_with_len}

@@ -7,7 +7,8 @@ use Rattle.keymap_tables.specs.Inner.Taken.{IsAccentIn, made_of}
 use Rattle.keymap_tables.specs.Layouts.{accent_size}
 use Rattle.keymap_tables.proofs.InPlace.{place, row}
 use Rattle.keymap_tables.proofs.Rows.{placed-end}
-use Rattle.keymap_tables.proofs.RowsChecked.{reads-none, reads-more, row-passes, row-fails, rows-image, rows-pass, rows-fail}
+use Rattle.keymap_tables.proofs.RowsChecked.{reads-none, reads-more, row-passes, row-fails, rows-image, rows-pass}
+use Rattle.keymap_tables.proofs.RowsChecked.{rows-fail}
 use Rattle.keymap_tables.proofs.Sizes.{row-inside, accent-some}
 use Rattle.keymap_tables.proofs.content.read_accents.Goals as goal
 
@@ -63,7 +64,8 @@ returns-clause-taken g c =
     let l = c.args.layout in
     rows-image (accent_bytes l) (IsAccentIn l)
     (λ (xs : List AccentValue). (entries : List Entry) → g.D.Definitions.shows c.args.into.now (made_of entries [])
-    → g.D.Definitions.shows c.loop-index.into (made_of entries xs)) (accent_size l) 15 c.args.n_accs c.loop-index.index _ c.args.bytes.now _
+    → g.D.Definitions.shows c.loop-index.into (made_of entries xs)) (accent_size l) 15 c.args.n_accs
+        c.loop-index.index _ c.args.bytes.now _
     c.loop-index.invariant.rows (omega arith) c.requires.whole
     (place (accent_size l) c.args.n_accs _ c.accent-2.ensures) c.check_zeros.ensures.none
 

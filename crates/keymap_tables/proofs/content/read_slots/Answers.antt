@@ -7,7 +7,8 @@ use Rattle.keymap_tables.specs.Inner.Taken.{IsEntryIn, made_of}
 use Rattle.keymap_tables.specs.Layouts.{slot_size}
 use Rattle.keymap_tables.proofs.InPlace.{place, row}
 use Rattle.keymap_tables.proofs.Rows.{placed-end}
-use Rattle.keymap_tables.proofs.RowsChecked.{reads-none, reads-more, row-passes, row-fails, rows-image, rows-pass, rows-fail}
+use Rattle.keymap_tables.proofs.RowsChecked.{reads-none, reads-more, row-passes, row-fails, rows-image, rows-pass}
+use Rattle.keymap_tables.proofs.RowsChecked.{rows-fail}
 use Rattle.keymap_tables.proofs.Sizes.{row-inside, slot-some}
 use Rattle.keymap_tables.proofs.content.read_slots.Goals as goal
 
@@ -58,7 +59,8 @@ returns-clause-taken g c =
     let l = c.args.layout in
     rows-image (slot_bytes l) (IsEntryIn l)
     (λ (es : List Entry). g.D.Definitions.shows c.args.into.now (made_of [] [])
-    → g.D.Definitions.shows c.loop-slot.into (made_of es [])) (slot_size l) 256 c.args.n_keys c.loop-slot.slot _ c.args.bytes.now _
+    → g.D.Definitions.shows c.loop-slot.into (made_of es [])) (slot_size l) 256 c.args.n_keys c.loop-slot.slot _
+        c.args.bytes.now _
     c.loop-slot.invariant.rows (omega arith) c.requires.whole
     (place (slot_size l) c.args.n_keys _ c.slot-2.ensures) c.check_zeros.ensures.none
 

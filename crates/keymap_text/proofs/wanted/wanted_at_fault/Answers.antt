@@ -28,7 +28,8 @@ loop-token-preserved c =
       wanted = next.ensures.1;
       reached =
           sym (reached_on (row_place l.wanted) (row_place next.next) l.definition c.definition_after-definition.result
-          l.at c.item_of-item.result (token_view text t) t.span (tokens_from text t.span.end) (tokens_from text l.at) f.others
+          l.at c.item_of-item.result (token_view text t) t.span (tokens_from text t.span.end) (tokens_from text l.at)
+              f.others
           c.item_of-item.ensures next.ensures.0 c.definition_after-definition.ensures f.span)
           ∙ l.invariant.reached;
     }

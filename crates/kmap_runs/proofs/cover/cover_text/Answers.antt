@@ -4,7 +4,8 @@ use Rattle.kmap_runs.proofs.Covered.{failed_if, three_pieces}
 use Rattle.kmap_runs.proofs.cover.cover_text.Goals as goal
 
 pub returns-in_err-push_script : goal.returns-in_err-push_script
-returns-in_err-push_script c = failed_if _ c.from_residual-in_err-push_script.result _ c.from_residual-in_err-push_script.ensures.1
+returns-in_err-push_script c = failed_if _ c.from_residual-in_err-push_script.result _
+    c.from_residual-in_err-push_script.ensures.1
 
 pub returns : goal.returns
 returns c =

@@ -18,4 +18,5 @@ pub returns-in_err-rows : goal.returns-in_err-rows
 returns-in_err-rows c = failed_on _ c.from_residual.result _ c.from_residual.ensures.1
 
 pub returns-in_err-push_slots : goal.returns-in_err-push_slots
-returns-in_err-push_slots c = failed_on _ c.from_residual-in_err-push_slots.result _ c.from_residual-in_err-push_slots.ensures.1
+returns-in_err-push_slots c = failed_on _ c.from_residual-in_err-push_slots.result _
+    c.from_residual-in_err-push_slots.ensures.1

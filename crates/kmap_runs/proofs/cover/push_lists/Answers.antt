@@ -27,10 +27,13 @@ pub returns-in_err-push_listed : goal.returns-in_err-push_listed
 returns-in_err-push_listed c = failed_on _ c.from_residual.result _ c.from_residual.ensures.1
 
 pub returns-in_err-push_listed-2 : goal.returns-in_err-push_listed-2
-returns-in_err-push_listed-2 c = failed_on _ c.from_residual-in_err-push_listed-2.result _ c.from_residual-in_err-push_listed-2.ensures.1
+returns-in_err-push_listed-2 c = failed_on _ c.from_residual-in_err-push_listed-2.result _
+    c.from_residual-in_err-push_listed-2.ensures.1
 
 pub returns-in_err-push_accents : goal.returns-in_err-push_accents
-returns-in_err-push_accents c = failed_on _ c.from_residual-in_err-push_accents.result _ c.from_residual-in_err-push_accents.ensures.1
+returns-in_err-push_accents c = failed_on _ c.from_residual-in_err-push_accents.result _
+    c.from_residual-in_err-push_accents.ensures.1
 
 pub returns-in_err-push_accents-2 : goal.returns-in_err-push_accents-2
-returns-in_err-push_accents-2 c = failed_on _ c.from_residual-in_err-push_accents-2.result _ c.from_residual-in_err-push_accents-2.ensures.1
+returns-in_err-push_accents-2 c = failed_on _ c.from_residual-in_err-push_accents-2.result _
+    c.from_residual-in_err-push_accents-2.ensures.1

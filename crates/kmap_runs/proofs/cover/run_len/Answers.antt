@@ -1,4 +1,4 @@
-use Rattle.std.proofs.Common.{◌≡◌, ◌<◌, ◌≤◌, ◌∙◌, ap, sym, subst, true, false, arith, map, length, get_or}
+use Rattle.std.proofs.Common.{◌≡◌, ◌<◌, ◌≤◌, ◌∙◌, ap, sym, subst, true, false, arith, map, length}
 use Rattle.std.proofs.lemmas.List.{get_or-map, length-map}
 use Rattle.kmap_runs.specs.Cover.{are_same, row_at}
 use Rattle.kmap_runs.proofs.Covered.{run_on, run_stops, run_is_last}

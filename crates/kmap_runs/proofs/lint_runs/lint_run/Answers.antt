@@ -29,6 +29,7 @@ returns-clause-run g c =
         c.in-Err.fault,
         refl,
         subst (λ t. c.in-Err.fault.written < length t) c.as_slice-2.ensures.value c.in-Err.ensures.bytes.0,
-        subst (λ t. Appends old new (take c.in-Err.fault.written t)) c.as_slice-2.ensures.value c.in-Err.ensures.bytes.1,
+        subst (λ t. Appends old new (take c.in-Err.fault.written t)) c.as_slice-2.ensures.value
+            c.in-Err.ensures.bytes.1,
       ),
     )

@@ -39,4 +39,5 @@ returns-in-Locks-clause-unseen c =
     let locks = sight.Locks c.in-Locks.slot c.in-Locks.caps c.in-Locks.num in
     let at : SeesBy m y k locks = subst (λ x. SeesBy m y k x) c.in-Locks.is sees in
     c.sees-in-Locks.ensures.unseen e
-    (subst (λ n. SeesBy m y n locks) (sym (c.key_of-in-Locks.ensures.value ∙ key-of-slot y k c.in-Locks.slot lt at.0)) at)
+    (subst (λ n. SeesBy m y n locks)
+        (sym (c.key_of-in-Locks.ensures.value ∙ key-of-slot y k c.in-Locks.slot lt at.0)) at)

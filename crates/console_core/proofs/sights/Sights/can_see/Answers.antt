@@ -1,4 +1,4 @@
-use Rattle.std.proofs.Common.{◌≡◌, true, ◌&&◌, ap, sym, subst, ◌∙◌}
+use Rattle.std.proofs.Common.{◌≡◌, true, ◌&&◌, ap, sym, ◌∙◌}
 use Rattle.console_core.specs.Sights.{Note, is_selected}
 use Rattle.console_core.proofs.Visible.{selected-value}
 use Rattle.console_core.proofs.sights.Sights.can_see.Goals as goal
@@ -7,7 +7,8 @@ pub returns-then-is_offered-clause-reachable : goal.returns-then-is_offered-clau
 returns-then-is_offered-clause-reachable c =
     λ are e.
     let (y, has, (k, lt, sees)) = c.is_selected.ensures.seen e in
-    (c.is_offered.ensures.offered c.args.map.now are c.if-is_offered.true, (y, k, (are (Note.Selected y)).0 has, lt, sees))
+    (c.is_offered.ensures.offered c.args.map.now are c.if-is_offered.true,
+        (y, k, (are (Note.Selected y)).0 has, lt, sees))
 
 pub returns-then-is_offered-clause-unreachable : goal.returns-then-is_offered-clause-unreachable
 returns-then-is_offered-clause-unreachable c =

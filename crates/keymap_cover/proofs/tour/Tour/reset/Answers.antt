@@ -11,6 +11,7 @@ returns-clause-along g c =
     let (h, stands, t) = c.requires in (
       event.Reset ∷ h,
       c.step.ensures.next _ h stands,
-      tour-reset m h old.strokes.items c.push.new.self.items old.pressed (has_seen old.seen) c.in_ok-push.ensures.items t,
+      tour-reset m h old.strokes.items c.push.new.self.items old.pressed (has_seen old.seen)
+          c.in_ok-push.ensures.items t,
       at-rest m h,
     )

@@ -17,8 +17,10 @@ returns-in_ok-push-clause-along g c =
     let within : k < length old.pressed = omega (arith, below, len) in (
       event.Release k ∷ h,
       c.step.ensures.next _ h stands,
-      subst (λ j. IsTour m (event.Release k ∷ h) c.push.new.self.items (slice_set old.pressed j false) (has_seen old.seen))
+      subst (λ j. IsTour m (event.Release k ∷ h) c.push.new.self.items (slice_set old.pressed j false)
+          (has_seen old.seen))
           (sym c.get.ensures.same)
-          (tour-up m h old.strokes.items c.push.new.self.items old.pressed (has_seen old.seen) k c.in_ok-push.ensures.items t
+          (tour-up m h old.strokes.items c.push.new.self.items old.pressed
+              (has_seen old.seen) k c.in_ok-push.ensures.items t
           below within (sym c.is_pressed.ensures.value ∙ c.if-is_pressed.true)),
     )

@@ -201,7 +201,7 @@ int32_t kmap_check(const uint8_t *tables, size_t length, struct kmap_fault *faul
 
 /*
  * Reads a keymap text, which kmap(5) describes, of any length. KMAP_OK if it spells a keymap, and then `tables` are its
- * tables; else KMAP_TEXT_FAULT, and `fault` is the first fault. It uses some 21 kilobytes of stack.
+ * tables; else KMAP_TEXT_FAULT, and `fault` is the first fault. It uses some 18 kilobytes of stack.
  */
 int32_t kmap_read_text(const uint8_t *text, size_t length, struct kmap_tables *tables, struct kmap_text_fault *fault);
 

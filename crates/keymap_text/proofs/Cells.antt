@@ -28,7 +28,7 @@ pub blanks_advance : (r : Scanner) (n : ℕ) (rest : List ℕ) → IsReader r �
 blanks_advance r n rest h m s l =
     let none = subst (λ m. KeepsMode m r.pending.items) m h.keeps in
     record {
-      takes = take_spaces (state_view r.grammar) r.mode r.pending.items r.offset n rest m s;
+      takes = take_spaces (state_view r) r.mode r.pending.items r.offset n rest m s;
       reader = record { place = h.place; keeps = h.keeps; low = omega (arith, h.low) };
       fed = omega arith;
       inside = l;
@@ -83,8 +83,8 @@ refused m slot i e t f h = ap (λ r. r >>= λ c. Ok (at m (after_cell slot i (wi
 -- the scanner behind a cell
 abbrev pub behind_cell : Scanner → ℕ → Cell → ℕ → ℕ → Scanner
 behind_cell r i c slot q = record {
+  map = r.map;
   grammar = record {
-    map = r.grammar.map;
     place = cell_place slot (i + 1);
     entry = with_cell r.grammar.entry i c;
     accent = r.grammar.accent;
@@ -107,7 +107,7 @@ cell_taken r slot i q b n rest t c h m l s k f e =
     let before = blanks_advance old b rest h m s k in
     advances_on old mid new rest _ b n before refl
     (token_advances mid new _ t n f before.reader m
-    (accepted r.grammar.map slot i r.grammar.entry r.grammar.accent t c l e)
+    (accepted r.map slot i r.grammar.entry r.grammar.accent t c l e)
     (record {
       place = is_place slot i r.grammar.accent l;
       keeps = h.keeps;
@@ -124,7 +124,7 @@ cell_refused r slot i q b n rest t e h m s k f x o l =
     let old = moved r (places.Cell slot i) q in
     let mid = moved r (places.Cell slot i) (q + b) in
     refuses_on old mid rest _ b e (blanks_advance old b rest h m s k) refl
-    (token_refuses mid _ t n e f m (refused r.grammar.map slot i r.grammar.entry t e.kind x) o l)
+    (token_refuses mid _ t n e f m (refused r.map slot i r.grammar.entry t e.kind x) o l)
 
 -- what was taken up to a place was taken
 pub stands_advances : (old now : Scanner) (rest : List ℕ) (n : ℕ) → Stands old now rest n → Advances old now rest n

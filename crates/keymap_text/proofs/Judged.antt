@@ -5,17 +5,11 @@ use Rattle.std.proofs.Common.{ap, ap₂, subst, arith, Option, Some, None, Ok, E
 use Rattle.std.specs.Prelude.{IfSome}
 use Rattle.std.specs.Result.{IsErrAnd}
 use Rattle.keymap_text.specs.ReadInto.{ReadsInto}
-use Rattle.keymap_core.specs.Accents.{AccentValue}
 use Rattle.keymap_core.specs.Maps.{MapValue}
-use Rattle.keymap_core.specs.declared.entry.Entry.{Entry}
-use Rattle.keymap_text.specs.declared.grammar.Place.{Place}
-use Rattle.keymap_text.specs.declared.grammar.Place.TheVariants as places
-use Rattle.keymap_text.specs.Inner.Views.{place_view}
 use Rattle.keymap_text.specs.declared.fault.TextFaultKind.{TextFaultKind}
 use Rattle.keymap_text.specs.declared.fault.TextFaultKind.TheVariants.{EndInside}
 use Rattle.keymap_text.specs.declared.fault.TextFault.{TextFault}
 use Rattle.keymap_text.specs.declared.token.Token.{Token}
-use Rattle.keymap_text.specs.declared.token.TokenKind.{TokenKind}
 use Rattle.keymap_text.specs.declared.token.TokenKind.TheVariants.{Word}
 use Rattle.keymap_text.specs.declared.words.Item.{Item}
 use Rattle.keymap_text.specs.Lexical.{Front, Skipped, Found, Refused, Unfinished, front_of, tokens_after}
@@ -103,14 +97,6 @@ pub ends_if : (text : List ℕ) (place : ℕ) (o : Option Token) → o ≡ None 
 ends_if text place o none l h =
     let e : place + length (drop place text) ≡ length text = rw length-drop (omega (arith, l)) in
     ends_at (drop place text) 0 place (sym h ∙ ap (λ x. result_view text (Ok x)) none) ∙ ap Ends e
-
--- a text may end nowhere else
-pub inside : (p : Place) (e : Entry) (a : AccentValue) → (p ≡ places.Definition → ⊥)
-    → ((i : ℕ) → p ≡ places.AfterAccent i → ⊥) → (m : MapValue) → at_end (at m (place_view p e a)) ≡ None
-unfolding at_end
-inside places.Definition e a d n m = absurd (d refl)
-inside (places.AfterAccent i) e a d n m = absurd (n i refl)
-inside _ e a d n m = refl
 
 -- where the search answers a fault, the tokens stop there
 stops : (ts : Tokens) (f : TextFaultKind) (q : ℕ) → Err (f, q) ≡ first ts → ts ≡ Stops f q

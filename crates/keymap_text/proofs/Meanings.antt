@@ -4,6 +4,7 @@ use Rattle.std.proofs.Common.{drop, get_or, map, fold, All, refl, sym, ◌∙◌
 use Rattle.std.proofs.Common.{Some, None, IfSome, codes, bytes_eq, ◌≤◌, length-take, take_all}
 use Rattle.std.proofs.lemmas.Str.Ascii.{lowercase-lowercase}
 use Rattle.std.proofs.lemmas.List.{get_or-map, take-map, drop-map, length-map}
+use Rattle.std.proofs.lemmas.Bool.{lt-ltb}
 use Rattle.std.proofs.lemmas.Bool.Decides.{nat_tests}
 use Rattle.std.specs.List.{list_all, range_with_len}
 use Rattle.std.specs.Char.{to_ascii_lowercase, digit_value}
@@ -16,12 +17,14 @@ use Rattle.keymap_text.specs.declared.words.Meaning.{Meaning}
 use Rattle.keymap_text.specs.Inner.Keys.{pack, unpacked, KeyMeans, IsTrueName, function_name, screen_name}
 use Rattle.keymap_text.specs.Inner.Keys.{name_key, place_of, ArePlaced}
 use Rattle.keymap_text.proofs.Keys.{unpack_packed, letters_front}
+use Rattle.keymap_text.proofs.Leading.{leading_pass, leading_fail}
+use Rattle.keymap_text.proofs.Numbers.{digits_good}
 use Rattle.keymap_core.proofs.Lists.{along}
 use Rattle.keymap_text.specs.Lexical.{leading, is_word}
 use Rattle.keymap_core.specs.declared.action.Action.TheVariants as a
 use Rattle.std.specs.Int.{from_le_bytes, w64}
 use Rattle.keymap_text.specs.Words.{meaning, same_name, sense_meaning, letters, meaning_by_names, named, table}
-use Rattle.keymap_text.specs.Words.{digits_of, number_after, is_digit, of_action}
+use Rattle.keymap_text.specs.Words.{digits_of, number, number_after, is_digit, of_action}
 
 -- case has no effect
 idem : (w : List ℕ) → map to_ascii_lowercase (map to_ascii_lowercase w) ≡ map to_ascii_lowercase w
@@ -148,6 +151,39 @@ pub hexadecimal_means : (r : Option ℕ) (w : List ℕ) (b : ℕ) → nat_lt (di
     → IfSome r (λ n. Number n ≡ meaning w)
 hexadecimal_means (Some n) w b d l s x y h = hexadecimal_meaning w b n d l s x y h
 hexadecimal_means None w b d l s x y h = tt
+
+-- a digit is a byte of a word
+digit_in_word : (c : ℕ) → digit_value c < 16 → is_word c ≡ true
+digit_in_word c h = grind (arith, nat_tests)
+
+-- a word of 0x and four digits in front, and what it means
+pub four_digits : (rest : List ℕ) → 6 < length rest → get_or rest 0 0 ≡ 48 → get_or rest 1 0 ≡ 120
+    → digit_value (get_or rest 2 0) < 16 → digit_value (get_or rest 3 0) < 16 → digit_value (get_or rest 4 0) < 16
+    → digit_value (get_or rest 5 0) < 16 → is_word (get_or rest 6 0) ≡ false → (leading is_word rest ≡ 6)
+    × (Number (((digit_value (get_or rest 2 0) * 16 + digit_value (get_or rest 3 0)) * 16
+    + digit_value (get_or rest 4 0)) * 16 + digit_value (get_or rest 5 0)) ≡ meaning (take 6 rest))
+four_digits (n ∷ x ∷ a ∷ b ∷ c ∷ d ∷ e ∷ z) l o t p q r s h =
+    let ends = leading_fail is_word e z h in
+    let fourth = leading_pass is_word d (e ∷ z) (digit_in_word d s) in
+    let third = leading_pass is_word c (d ∷ e ∷ z) (digit_in_word c r) in
+    let second = leading_pass is_word b (c ∷ d ∷ e ∷ z) (digit_in_word b q) in
+    let first = leading_pass is_word a (b ∷ c ∷ d ∷ e ∷ z) (digit_in_word a p) in
+    let letter = leading_pass is_word x (a ∷ b ∷ c ∷ d ∷ e ∷ z) (ap is_word t) in
+    let zero_digit = leading_pass is_word n (x ∷ a ∷ b ∷ c ∷ d ∷ e ∷ z) (ap is_word o) in
+    let sum : ((digit_value a * 16 + digit_value b) * 16 + digit_value c) * 16 + digit_value d
+    ≡ number 16 (a ∷ b ∷ c ∷ d ∷ []) = omega arith in (
+      omega (arith, ends, fourth, third, second, first, letter, zero_digit),
+      ap Number sum ∙ hexadecimal_meaning (n ∷ x ∷ a ∷ b ∷ c ∷ d ∷ []) 120 _ refl refl (omega arith) o t
+          (sym (digits_good 16 (a ∷ b ∷ c ∷ d ∷ []) (omega arith)
+          (rw (lt-ltb _ _ p, lt-ltb _ _ q, lt-ltb _ _ r, lt-ltb _ _ s) refl))),
+    )
+four_digits (n ∷ x ∷ a ∷ b ∷ c ∷ d ∷ []) l o t p q r s h = absurd (omega (arith, l))
+four_digits (n ∷ x ∷ a ∷ b ∷ c ∷ []) l o t p q r s h = absurd (omega (arith, l))
+four_digits (n ∷ x ∷ a ∷ b ∷ []) l o t p q r s h = absurd (omega (arith, l))
+four_digits (n ∷ x ∷ a ∷ []) l o t p q r s h = absurd (omega (arith, l))
+four_digits (n ∷ x ∷ []) l o t p q r s h = absurd (omega (arith, l))
+four_digits (n ∷ []) l o t p q r s h = absurd (omega (arith, l))
+four_digits [] l o t p q r s h = absurd (omega (arith, l))
 
 -- a name is true if the word with its key means so
 pub means_of : (key : ℕ) (m : Meaning) → m ≡ meaning (unpacked 8 key) → KeyMeans key m

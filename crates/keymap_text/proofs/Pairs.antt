@@ -22,7 +22,7 @@ use Rattle.keymap_text.proofs.Runs.{left_fronts, token_advances, advances_on}
 
 -- a token behind blanks is taken
 pub behind_advances : (old new : Scanner) (rest : List ℕ) (t : Item) (n : ℕ) → FrontsBehind rest t n → IsReader old
-    → old.mode ≡ modes.Between → accept (state_view old.grammar) t ≡ Ok (state_view new.grammar) → IsReader new
+    → old.mode ≡ modes.Between → accept (state_view old) t ≡ Ok (state_view new) → IsReader new
     → new.offset ≡ old.offset + n → new.line ≡ old.line → new.mode ≡ old.mode → new.pending.items ≡ old.pending.items
     → Advances old new rest n
 behind_advances old new rest t n f h m a h' o l m' p =
@@ -61,7 +61,8 @@ closed m i a b r = refl
 -- the scanner behind a pair
 abbrev pub behind_pair : Scanner → Place → AccentValue → ℕ → Scanner
 behind_pair r p a q = record {
-  grammar = record { map = r.grammar.map; place = p; entry = r.grammar.entry; accent = a };
+  map = r.map;
+  grammar = record { place = p; entry = r.grammar.entry; accent = a };
   mode = r.mode;
   pending = r.pending;
   offset = q;
@@ -79,7 +80,7 @@ pub pair_taken : (r : Scanner) (index b c i j n : ℕ) (rest : List ℕ)
     (behind_pair r (places.AfterAccent index) (with_pair r.grammar.accent b c) (r.offset + (1 + i + j + n))) rest
     (1 + i + j + n)
 pair_taken r index b c i j n rest h m s e room z f g k =
-    let map = r.grammar.map in
+    let map = r.map in
     let accent = r.grammar.accent in
     let q = r.offset in
     let r0 = moved r (places.AfterAccent index) q in

@@ -214,18 +214,18 @@ between m p h k = subst (λ m. KeepsMode m p) h k
 
 -- an accepted token is taken
 pub token_advances : (old new : Scanner) (rest : List ℕ) (i : Item) (n : ℕ) → Fronts rest i n → IsReader old
-    → old.mode ≡ modes.Between → accept (state_view old.grammar) i ≡ Ok (state_view new.grammar) → IsReader new
+    → old.mode ≡ modes.Between → accept (state_view old) i ≡ Ok (state_view new) → IsReader new
     → new.offset ≡ old.offset + n → new.line ≡ old.line → new.mode ≡ old.mode → new.pending.items ≡ old.pending.items
     → Advances old new rest n
 token_advances old new rest i n f r m a r' o l m' p =
     let none = between old.mode old.pending.items m r.keeps in
-    let s = state_view old.grammar in
+    let s = state_view old in
     record {
       takes = λ x.
           ap (λ m. judge s (tokens_of m old.pending.items old.offset (rest ++ x))) m
           ∙ ap (judge s) (f.splits old.offset x)
-          ∙ judge_then s (state_view new.grammar) (f.token old.offset x) _ (ap (accept s) (f.item old.offset x) ∙ a)
-          ∙ sym (ap₂ (λ m q. judge (state_view new.grammar) (tokens_of m new.pending.items q (drop n rest ++ x)))
+          ∙ judge_then s (state_view new) (f.token old.offset x) _ (ap (accept s) (f.item old.offset x) ∙ a)
+          ∙ sym (ap₂ (λ m q. judge (state_view new) (tokens_of m new.pending.items q (drop n rest ++ x)))
           (m' ∙ m) o);
       reader = r';
       fed = omega (arith, o, ap length p);
@@ -237,10 +237,10 @@ token_advances old new rest i n f r m a r' o l m' p =
 
 -- a refused token is a fault where it stands
 pub token_refuses : (old : Scanner) (rest : List ℕ) (i : Item) (n : ℕ) (e : TextFault) → Fronts rest i n
-    → old.mode ≡ modes.Between → accept (state_view old.grammar) i ≡ Err e.kind → e.offset ≡ old.offset
+    → old.mode ≡ modes.Between → accept (state_view old) i ≡ Err e.kind → e.offset ≡ old.offset
     → e.line ≡ old.line → Refuses old rest e
 token_refuses old rest i n e f m a o l =
-    let s = state_view old.grammar in
+    let s = state_view old in
     record {
       takes = λ x.
           ap (λ m. judge s (tokens_of m old.pending.items old.offset (rest ++ x))) m

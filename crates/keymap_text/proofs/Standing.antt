@@ -20,7 +20,7 @@ use Rattle.keymap_text.proofs.Lines.{pending_line}
 pub none_early : (r : Scanner) (b : List ℕ) → IsReader r → ((x : List ℕ) → resume r x ≡ verdict (b ++ x))
     → (f : TextFault) → Early b f → ⊥
 none_early r b k rest f e =
-    not_early (state_view r.grammar) r.mode r.pending.items r.offset k.keeps f.kind f.offset
+    not_early (state_view r) r.mode r.pending.items r.offset k.keeps f.kind f.offset
     (rest [] ∙ ap verdict (append-nil b) ∙ fault_to b f.kind f.offset true e.0)
 
 -- what the scanner makes of the bytes to come, after a piece

@@ -120,7 +120,7 @@ pub take_token : (result : Result (Unit {0}) TextFault) (s : GrammarState) (i : 
     → Goes result f (λ x. resume r (x' x))
 take_token (Ok u) s i q end r f x' t a h k g w =
     λ x. h x ∙ judge_then s _ (t x) _ (ap (accept s) (k x) ∙ a.0)
-    ∙ sym (ap₂ (λ m n. judge (state_view r.grammar) (tokens_of m r.pending.items n (x' x))) a.1 a.2)
+    ∙ sym (ap₂ (λ m n. judge (state_view r) (tokens_of m r.pending.items n (x' x))) a.1 a.2)
 take_token (Err e) s i q end r f x' t a h k g w =
     λ x. h x ∙ judge_refused s e.kind (t x) _ (ap (accept s) (k x) ∙ a.0) ∙ ap₂ (Faulty e.kind) (g x ∙ sym a.1) (w x)
 
@@ -383,11 +383,11 @@ last_word s m a p q h k =
 -- the text ends with a word that is accepted
 pub end_word_ok : (u : Unit {0}) (s : GrammarState) (m : Mode) (p : List ℕ) (q : ℕ) (r : Scanner) → m ≡ modes.Word
     → KeepsMode modes.Word p → Accepts (Ok u) (accept s (Value (meaning p))) q r (q + length p)
-    → judge s (tokens_of m p q []) ≡ ended (at_end (state_view r.grammar)) r.offset
+    → judge s (tokens_of m p q []) ≡ ended (at_end (state_view r)) r.offset
 end_word_ok u s m [] q r h k a = absurd (omega (arith, k.0))
 end_word_ok u s m (b ∷ p) q r h k a =
-    last_word s m b p q h k ∙ judge_then s _ _ _ a.0 ∙ ap (judge (state_view r.grammar)) (split_none _) ∙ judge_ends _ _
-    ∙ ap (ended (at_end (state_view r.grammar))) (sym a.2)
+    last_word s m b p q h k ∙ judge_then s _ _ _ a.0 ∙ ap (judge (state_view r)) (split_none _) ∙ judge_ends _ _
+    ∙ ap (ended (at_end (state_view r))) (sym a.2)
 
 -- the text ends with a word that is refused
 pub end_word_err : (e : TextFault) (s : GrammarState) (m : Mode) (p : List ℕ) (q : ℕ) (r : Scanner) → m ≡ modes.Word

@@ -1,16 +1,16 @@
-//! Definitions, token by token: which token may stand at a place, and what a whole definition does to the keymap. It
-//! sees what tokens mean, and neither bytes nor offsets.
+//! Definitions, token by token: which token may stand at a place, and when a definition is complete, which it puts into
+//! what takes definitions. It sees what tokens mean, and neither bytes nor offsets, and never a map.
 ghost use Rattle.std.specs.Prelude.{◌≡◌, ◌<◌, Ok, Err, Result, OnOk, length, if◌then◌else◌, IfSome, ◌≢◌};
 ghost use lib.Utf8.{scalar};
-ghost use Rattle.keymap_core.specs.Maps.{with_accent, with_entry};
+ghost use Rattle.keymap_core.specs.Maps.{MapValue, with_accent, with_entry};
 ghost use Rattle.keymap_core.specs.Numbers.{column_count, accent_limit, pair_limit};
-ghost use Rattle.keymap_text.specs.Inner.Views.{Steps, Leads, state_view, place_view, IsPlace};
+ghost use Rattle.keymap_text.specs.Inner.Views.{Steps, StepsInto, EndsInto, Leads, grammar_view, IsPlace};
 ghost use Rattle.keymap_text.specs.Items as items;
 ghost use Rattle.keymap_text.specs.Inner.Grammar as spec;
 
 use crate::fault::TextFaultKind;
 use crate::words::{Item, Meaning};
-use keymap_core::{Accent, Action, Cell, Entry, KeyMap, LockFlag, PAIR_LIMIT, SLOT_LIMIT};
+use keymap_core::{Accent, Action, Cell, Definitions, Entry, LockFlag, PAIR_LIMIT, SLOT_LIMIT};
 use std::mem::replace;
 
 /// Where a text stands in its row of definitions.
@@ -26,10 +26,9 @@ pub(crate) enum Place {
     PairEnd { index: u8, base: char, result: char },
 }
 
-/// The map so far, and the definition that the text is in.
+/// The definition that a text is in.
 #[derive(Drop)]
 pub(crate) struct Grammar {
-    pub(crate) map: KeyMap,
     pub(crate) place: Place,
     pub(crate) entry: Entry,
     pub(crate) accent: Accent,
@@ -143,32 +142,34 @@ pub(crate) fn push_pair(accent: &mut Accent, base: char, composed: char)
 }
 
 impl Grammar {
-    pub(crate) fn new(map: KeyMap) -> Self
-        ensures map { result.map ≡ map }
-        ensures place { result.place ≡ Place.Definition }
+    pub(crate) fn new() -> Self
+        ensures { result.place ≡ Place.Definition }
     {
         Grammar {
-            map,
             place: Place::Definition,
             entry: Entry::undefined(),
             accent: Accent::new('\0'),
         }
     }
 
-    /// Takes the next token. After an `Err` the value is of no use.
+    /// Takes the next token, and puts the definition that it completes. After an `Err` the value is of no use.
     #[inline(always)]
-    pub(crate) fn accept(&mut self, item: &Item) -> Result<(), TextFaultKind>
+    pub(crate) fn accept<D: Definitions>(
+        &mut self,
+        into: &mut D,
+        item: &Item,
+    ) -> Result<(), TextFaultKind>
         requires { IsPlace self.old.place self.old.accent }
-        ensures steps { Steps result (spec.step self.old.map (place_view self.old.place self.old.entry self.old.accent)
-            item.now) (state_view self.new) }
+        ensures steps { (m : MapValue) → D.shows into.old m → StepsInto D.shows into.new result
+            (spec.step m (grammar_view self.old) item.now) (grammar_view self.new) }
         ensures place { OnOk result (IsPlace self.new.place self.new.accent) }
     {
         match self.place {
             Place::Definition => self.begin(item),
             Place::Cell { slot, index } => self.cell(slot, index, item),
-            Place::Lock { slot } => self.lock(slot, item),
+            Place::Lock { slot } => self.lock(into, slot, item),
             Place::AccentCharacter { index } => self.accent_character(index, item),
-            Place::AfterAccent { index } => self.after_accent(index, item),
+            Place::AfterAccent { index } => self.after_accent(into, index, item),
             Place::PairBase { index } => self.pair_base(index, item),
             Place::PairResult { index, base } => self.pair_result(index, base, item),
             Place::PairEnd {
@@ -181,7 +182,8 @@ impl Grammar {
 
     #[inline(always)]
     fn begin(&mut self, item: &Item) -> Result<(), TextFaultKind>
-        ensures steps { Steps result (spec.step self.old.map spec.Definition item.now) (state_view self.new) }
+        ensures steps { (m : MapValue) → Steps result (spec.step m spec.Definition item.now)
+            (spec.at m (grammar_view self.new)) }
         ensures place { OnOk result (IsPlace self.new.place self.new.accent) }
     {
         let place = first_place(item)?;
@@ -194,8 +196,8 @@ impl Grammar {
     #[inline(always)]
     fn cell(&mut self, slot: u8, index: u8, item: &Item) -> Result<(), TextFaultKind>
         requires { index < column_count }
-        ensures steps { Steps result (spec.step self.old.map (spec.CellAt slot index self.old.entry) item.now)
-            (state_view self.new) }
+        ensures steps { (m : MapValue) → Steps result (spec.step m (spec.CellAt slot index self.old.entry) item.now)
+            (spec.at m (grammar_view self.new)) }
         ensures place { OnOk result (IsPlace self.new.place self.new.accent) }
     {
         let cell = cell_of(item)?;
@@ -212,33 +214,38 @@ impl Grammar {
     }
 
     #[inline(always)]
-    fn lock(&mut self, slot: u8, item: &Item) -> Result<(), TextFaultKind>
-        ensures steps { Steps result (spec.step self.old.map (spec.LockAt slot self.old.entry) item.now)
-            (state_view self.new) }
+    fn lock<D: Definitions>(
+        &mut self,
+        into: &mut D,
+        slot: u8,
+        item: &Item,
+    ) -> Result<(), TextFaultKind>
+        ensures steps { (m : MapValue) → D.shows into.old m → StepsInto D.shows into.new result
+            (spec.step m (spec.LockAt slot self.old.entry) item.now) (grammar_view self.new) }
         ensures place { OnOk result (IsPlace self.new.place self.new.accent) }
     {
         let flag = lock_of(item)?;
-        self.close_entry(slot, flag);
+        self.close_entry(into, slot, flag);
         Ok(())
     }
 
-    /// Puts the entry that is complete into the map.
+    /// Puts the entry that is complete.
     #[inline(always)]
-    pub(crate) fn close_entry(&mut self, slot: u8, flag: LockFlag)
-        ensures map { self.new.map
-            ≡ with_entry self.old.map slot (record { cells = self.old.entry.cells; flag = flag }) }
+    pub(crate) fn close_entry<D: Definitions>(&mut self, into: &mut D, slot: u8, flag: LockFlag)
+        ensures shows { (m : MapValue) → D.shows into.old m
+            → D.shows into.new (with_entry m slot (record { cells = self.old.entry.cells; flag = flag })) }
         ensures place { self.new.place ≡ Place.Definition }
     {
         self.entry.flag = flag;
-        self.map.set(slot, self.entry);
+        into.define(slot, self.entry);
         self.place = Place::Definition;
     }
 
     #[inline(always)]
     fn accent_character(&mut self, index: u8, item: &Item) -> Result<(), TextFaultKind>
         requires { index < accent_limit }
-        ensures steps { Steps result (spec.step self.old.map (spec.AccentCharacter index) item.now)
-            (state_view self.new) }
+        ensures steps { (m : MapValue) → Steps result (spec.step m (spec.AccentCharacter index) item.now)
+            (spec.at m (grammar_view self.new)) }
         ensures place { OnOk result (IsPlace self.new.place self.new.accent) }
     {
         let own = character_of(item)?;
@@ -248,10 +255,15 @@ impl Grammar {
     }
 
     #[inline(always)]
-    fn after_accent(&mut self, index: u8, item: &Item) -> Result<(), TextFaultKind>
+    fn after_accent<D: Definitions>(
+        &mut self,
+        into: &mut D,
+        index: u8,
+        item: &Item,
+    ) -> Result<(), TextFaultKind>
         requires { index < accent_limit }
-        ensures steps { Steps result (spec.step self.old.map (spec.AfterAccent index self.old.accent) item.now)
-            (state_view self.new) }
+        ensures steps { (m : MapValue) → D.shows into.old m → StepsInto D.shows into.new result
+            (spec.step m (spec.AfterAccent index self.old.accent) item.now) (grammar_view self.new) }
         ensures place { OnOk result (IsPlace self.new.place self.new.accent) }
     {
         if let Item::Open = item {
@@ -262,28 +274,28 @@ impl Grammar {
             return Ok(());
         }
         let place = first_place(item)?;
-        self.close_accent(index);
+        self.close_accent(into, index);
         self.entry = Entry::undefined();
         self.place = place;
         Ok(())
     }
 
-    /// Puts the accent that is complete into the map.
+    /// Puts the accent that is complete.
     #[inline(never)]
-    pub(crate) fn close_accent(&mut self, index: u8)
+    fn close_accent<D: Definitions>(&mut self, into: &mut D, index: u8)
         requires { index < accent_limit }
-        ensures { self.new.map ≡ with_accent self.old.map index self.old.accent }
+        ensures { (m : MapValue) → D.shows into.old m → D.shows into.new (with_accent m index self.old.accent) }
     {
         let accent = replace(&mut self.accent, Accent::new('\0'));
-        self.map.set_accent(index, accent).unwrap();
+        into.define_accent(index, accent);
     }
 
     #[inline(always)]
     fn pair_base(&mut self, index: u8, item: &Item) -> Result<(), TextFaultKind>
         requires index { index < accent_limit }
         requires room { length self.old.accent.pairs < pair_limit }
-        ensures steps { Steps result (spec.step self.old.map (spec.PairBase index self.old.accent) item.now)
-            (state_view self.new) }
+        ensures steps { (m : MapValue) → Steps result (spec.step m (spec.PairBase index self.old.accent) item.now)
+            (spec.at m (grammar_view self.new)) }
         ensures place { OnOk result (IsPlace self.new.place self.new.accent) }
     {
         let base = character_of(item)?;
@@ -299,8 +311,8 @@ impl Grammar {
         requires index { index < accent_limit }
         requires room { length self.old.accent.pairs < pair_limit }
         requires base { base ≢ 0 }
-        ensures steps { Steps result (spec.step self.old.map (spec.PairResult index self.old.accent base) item.now)
-            (state_view self.new) }
+        ensures steps { (m : MapValue) → Steps result (spec.step m (spec.PairResult index self.old.accent base)
+            item.now) (spec.at m (grammar_view self.new)) }
         ensures place { OnOk result (IsPlace self.new.place self.new.accent) }
     {
         let result = character_of(item)?;
@@ -323,8 +335,8 @@ impl Grammar {
         requires index { index < accent_limit }
         requires room { length self.old.accent.pairs < pair_limit }
         requires base { base ≢ 0 }
-        ensures steps { Steps result (spec.step self.old.map (spec.PairEnd index self.old.accent base composed)
-            item.now) (state_view self.new) }
+        ensures steps { (m : MapValue) → Steps result (spec.step m (spec.PairEnd index self.old.accent base composed)
+            item.now) (spec.at m (grammar_view self.new)) }
         ensures place { OnOk result (IsPlace self.new.place self.new.accent) }
     {
         let Item::Close = item else {
@@ -332,6 +344,21 @@ impl Grammar {
         };
         push_pair(&mut self.accent, base, composed);
         self.place = Place::AfterAccent { index };
+        Ok(())
+    }
+
+    /// The text ends here: puts the accent that is complete, where a text may end here.
+    #[tactic(auto, unfolding(crate::specs::Inner::Grammar::at_end))]
+    pub(crate) fn finish<D: Definitions>(&mut self, into: &mut D) -> Result<(), TextFaultKind>
+        requires { IsPlace self.old.place self.old.accent }
+        ensures { (m : MapValue) → D.shows into.old m → EndsInto D.shows into.new result
+            (spec.at_end (spec.at m (grammar_view self.old))) }
+    {
+        match self.place {
+            Place::Definition => {}
+            Place::AfterAccent { index } => self.close_accent(into, index),
+            _ => return Err(TextFaultKind::EndInside),
+        }
         Ok(())
     }
 }

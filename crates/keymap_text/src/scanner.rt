@@ -1,8 +1,8 @@
 //! Reading a text byte by byte, as it comes: it keeps an unfinished token, the offset and the line. It sees bytes with
 //! their places, and asks `token` where a token ends, `words` what it means, and `grammar` whether it may stand there.
-ghost use Rattle.std.specs.Prelude.{◌≡◌, ℕ, ◌+◌, ◌<◌, ◌≤◌, ◌^◌, ◌∷◌, ◌++◌, [], List, length, take, OnOk, IfSome, IfErr};
-ghost use Rattle.std.specs.Prelude.{Ok, Err, drop, if◌then◌else◌, ◌==◌};
-ghost use Rattle.keymap_text.specs.Lexical.{literal, leading, is_word};
+ghost use Rattle.std.specs.Prelude.{◌≡◌, ℕ, ◌+◌, ◌<◌, ◌≤◌, ◌^◌, ◌∷◌, ◌++◌, [], List, length, OnOk, IfSome, IfErr};
+ghost use Rattle.std.specs.Prelude.{Ok, Err, drop, slice_index, true, if◌then◌else◌, ◌==◌};
+ghost use Rattle.keymap_text.specs.Lexical.{literal, is_word};
 ghost use Rattle.keymap_text.specs.Inner.Judging.{verdict, ended};
 ghost use Rattle.keymap_text.specs.Words.{item, meaning};
 ghost use Rattle.keymap_text.specs.Inner.Views.{state_view, front_view, FoundFits, IsPlace};
@@ -18,7 +18,7 @@ use crate::names::name_meaning;
 use crate::token::{
     Front, TokenKind, is_blank_byte, is_word_byte, literal_front, short_word_len, space_len,
 };
-use crate::words::{Item, Meaning, item_of, short_number};
+use crate::words::{Item, Meaning, four_digit_number, item_of, short_number};
 use arrayvec::ArrayVec;
 use keymap_core::{KeyMap, PAIR_LIMIT};
 
@@ -34,6 +34,8 @@ pub(crate) enum Mode {
 /// Takes a text byte by byte. After a fault the value is of no use.
 #[derive(Drop)]
 pub(crate) struct Scanner {
+    /// The map so far.
+    pub(crate) map: KeyMap,
     pub(crate) grammar: Grammar,
     pub(crate) mode: Mode,
     /// The bytes of the token that is not whole yet.
@@ -60,20 +62,40 @@ fn next_line(line: u64, c: u8) -> u64
     if c == b'\n' { line + 1 } else { line }
 }
 
-/// The meaning of the word of n bytes in front, if it is a short name or number.
+/// The word in front, and how many bytes it has, if it is a short name.
 #[inline(always)]
-fn front_meaning(rest: &[u8], n: usize) -> Option<Meaning>
-    requires word { n ≤ leading is_word rest.now }
+fn front_name(rest: &[u8]) -> Option<(Item, usize)>
     requires some { 0 < length rest.now }
-    requires inside { n ≤ length rest.now }
-    requires few { n ≤ 15 }
-    ensures { IfSome result (λ m. m ≡ meaning (take n rest.now)) }
+    requires word { is_word (slice_index rest.now 0) ≡ true }
+    ensures { IfSome result (λ found. Fronts rest.now found.0 found.1) }
 {
-    if rest[0] > b'9' {
-        return name_meaning(rest, n);
+    let n = short_word_len(rest);
+    if n > 15 {
+        return None;
+    }
+    match name_meaning(rest, n) {
+        Some(meaning) => Some((Item::Value(meaning), n)),
+        None => None,
+    }
+}
+
+/// The same if it is a short number. Most numbers of more than three digits are four hexadecimal ones, so these are
+/// read before the word is measured.
+#[inline(always)]
+fn front_number(rest: &[u8]) -> Option<(Item, usize)>
+    requires some { 0 < length rest.now }
+    requires word { is_word (slice_index rest.now 0) ≡ true }
+    ensures { IfSome result (λ found. Fronts rest.now found.0 found.1) }
+{
+    if let Some(number) = four_digit_number(rest) {
+        return Some((Item::Value(Meaning::Number(number as u128)), 6));
+    }
+    let n = short_word_len(rest);
+    if n > 15 {
+        return None;
     }
     match short_number(&rest[..n]) {
-        Some(number) => Some(Meaning::Number(number as u128)),
+        Some(number) => Some((Item::Value(Meaning::Number(number as u128)), n)),
         None => None,
     }
 }
@@ -87,13 +109,10 @@ fn whole_token(rest: &[u8]) -> Option<(Item, usize)>
 {
     let c = rest[0];
     if is_word_byte(c) {
-        let n = short_word_len(rest);
-        if n > 15 {
-            return None;
-        }
-        return match front_meaning(rest, n) {
-            Some(meaning) => Some((Item::Value(meaning), n)),
-            None => None,
+        return if c > b'9' {
+            front_name(rest)
+        } else {
+            front_number(rest)
         };
     }
     match c {
@@ -160,7 +179,8 @@ impl Scanner {
         ensures line { result.line ≡ 1 }
     {
         Scanner {
-            grammar: Grammar::new(map),
+            map,
+            grammar: Grammar::new(),
             mode: Mode::Between,
             pending: ArrayVec::new(),
             offset: 0,
@@ -416,7 +436,7 @@ impl Scanner {
             None => 0,
             Some((item, n)) => match lock_of(&item) {
                 Ok(flag) => {
-                    self.grammar.close_entry(slot, flag);
+                    self.grammar.close_entry(&mut self.map, slot, flag);
                     self.offset += (blanks + n) as u64;
                     blanks + n
                 }
@@ -479,7 +499,7 @@ impl Scanner {
     {
         match whole_token(rest) {
             None => Ok(0),
-            Some((item, n)) => match self.grammar.accept(&item) {
+            Some((item, n)) => match self.grammar.accept(&mut self.map, &item) {
                 Ok(()) => {
                     self.offset += n as u64;
                     Ok(n)
@@ -583,14 +603,14 @@ impl Scanner {
         requires place { IsPlace self.old.grammar.place self.old.grammar.accent }
         requires low { self.old.line ≤ self.old.offset + 1 }
         requires room { self.old.offset + n < 2 ^ 63 }
-        ensures accepts { Accepts result (spec.accept (state_view self.old.grammar) item) self.old.offset self.new
+        ensures accepts { Accepts result (spec.accept (state_view self.old) item) self.old.offset self.new
             (self.old.offset + n) }
         ensures reader { OnOk result (IsReader self.new) }
         ensures fed { OnOk result (self.new.pending.items ≡ []) }
         ensures line { OnOk result (self.new.line ≡ self.old.line) }
         ensures fault_line { IfErr result (λ e. e.line ≡ self.old.line) }
     {
-        match self.grammar.accept(&item) {
+        match self.grammar.accept(&mut self.map, &item) {
             Ok(()) => {
                 self.mode = Mode::Between;
                 self.pending.clear();
@@ -626,7 +646,7 @@ impl Scanner {
         requires reader { IsReader self.old }
         requires mode { self.old.mode ≡ Mode.Word }
         requires room { self.old.offset + length self.old.pending.items < 2 ^ 63 }
-        ensures accepts { Accepts result (spec.accept (state_view self.old.grammar)
+        ensures accepts { Accepts result (spec.accept (state_view self.old)
             (Item.Value (meaning self.old.pending.items))) self.old.offset self.new
             (self.old.offset + length self.old.pending.items) }
         ensures reader { OnOk result (IsReader self.new) }
@@ -659,20 +679,15 @@ impl Scanner {
     }
 
     /// The text ends between two tokens.
-    #[tactic(auto, unfolding(crate::specs::Inner::Grammar::at_end))]
     fn end(mut self) -> Result<KeyMap, TextFault>
         requires { IsPlace self.grammar.place self.grammar.accent }
-        ensures says { Says result (ended (spec.at_end (state_view self.grammar)) self.offset) }
+        ensures says { Says result (ended (spec.at_end (state_view self)) self.offset) }
         ensures line { IfErr result (λ e. e.line ≡ self.line) }
         ensures place { IfErr result (λ e. e.offset ≡ self.offset) }
     {
-        match self.grammar.place {
-            Place::Definition => Ok(self.grammar.map),
-            Place::AfterAccent { index } => {
-                self.grammar.close_accent(index);
-                Ok(self.grammar.map)
-            }
-            _ => Err(fault(TextFaultKind::EndInside, self.offset, self.line)),
+        match self.grammar.finish(&mut self.map) {
+            Ok(()) => Ok(self.map),
+            Err(kind) => Err(fault(kind, self.offset, self.line)),
         }
     }
 }

@@ -349,6 +349,7 @@ pub(crate) fn fault_at(text: &[u8], place: usize, kind: TextFaultKind) -> TextFa
 }
 
 /// The first token of the bytes from `at` on, after blanks and comments; none where the text ends there.
+#[inline(always)]
 pub fn next_token(text: &[u8], at: usize) -> Result<Option<Token<'_>>, TextFault>
     requires { at ≤ length text.now }
     ensures exact { result_view text.now result ≡ first (tokens_after 0 at (drop at text.now)) }

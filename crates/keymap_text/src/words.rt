@@ -1,13 +1,14 @@
 //! What words mean: numbers, characters, lock letters and actions. It sees the bytes of one token, and knows neither
 //! its place nor the tokens beside it.
-ghost use Rattle.std.specs.Prelude.{◌≡◌, ◌+◌, ◌≤◌, ◌<◌, length, Some, None, IfSome};
+ghost use Rattle.std.specs.Prelude.{◌≡◌, ◌+◌, ◌≤◌, ◌<◌, length, take, Some, None, IfSome};
 ghost use Rattle.std.specs.Char as char_spec;
 ghost use Rattle.keymap_text.specs.declared.token.TokenKind.TheVariants.{Word};
 ghost use Rattle.keymap_text.specs.declared.words.Meaning.TheVariants.{Number};
+ghost use Rattle.keymap_text.specs.Lexical.{is_word, leading};
 ghost use Rattle.keymap_text.specs.Words.{meaning, item, digits_of, number_after, of_action};
 
 use crate::names::{character_or_letter, is_same_name, name_meaning};
-use crate::token::{TokenKind, word_len};
+use crate::token::{TokenKind, is_word_byte, word_len};
 use keymap_core::{Action, LockFlag, Named};
 
 /// The meaning of a word.
@@ -181,6 +182,25 @@ pub(crate) fn short_number(word: &[u8]) -> Option<u64>
         return short_number_of(16, &word[2..]);
     }
     short_number_of(10, word)
+}
+
+/// The number in front that is `0x` and four digits, with a byte behind it that is none of a word.
+#[inline(always)]
+pub(crate) fn four_digit_number(rest: &[u8]) -> Option<u64>
+    ensures { IfSome result (λ n. (6 < length rest.now) × (leading is_word rest.now ≡ 6)
+        × (Number n ≡ meaning (take 6 rest.now))) }
+{
+    if rest.len() < 7 || rest[0] != b'0' || rest[1] != b'x' || is_word_byte(rest[6]) {
+        return None;
+    }
+    let first = digit_value(rest[2]);
+    let second = digit_value(rest[3]);
+    let third = digit_value(rest[4]);
+    let last = digit_value(rest[5]);
+    if first >= 16 || second >= 16 || third >= 16 || last >= 16 {
+        return None;
+    }
+    Some(((first as u64 * 16 + second as u64) * 16 + third as u64) * 16 + last as u64)
 }
 
 #[inline(never)]

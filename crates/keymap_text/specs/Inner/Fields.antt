@@ -7,7 +7,7 @@ use Rattle.keymap_text.specs.Inner.Views.{state_view}
 
 abbrev pub progress : Inside → Progress
 progress r = record {
-  state = state_view r.scanner.grammar;
+  state = state_view r.scanner;
   mode = r.scanner.mode;
   pending = r.scanner.pending.items;
   offset = r.scanner.offset;

@@ -28,7 +28,7 @@ tokens_of modes.Word p q x = tokens_after 0 q (p ++ x)
 tokens_of modes.Literal p q x = tokens_after 0 q (p ++ x)
 
 abbrev pub resume : Scanner → List ℕ → Verdict
-resume r x = judge (state_view r.grammar) (tokens_of r.mode r.pending.items r.offset x)
+resume r x = judge (state_view r) (tokens_of r.mode r.pending.items r.offset x)
 
 -- what is pending
 abbrev pub KeepsMode : Mode → List ℕ → Type 0
@@ -50,7 +50,7 @@ Goes (Err e) f g = (x : List ℕ) → f x ≡ Faulty e.kind e.offset true
 
 -- What a whole token did.
 abbrev pub Accepts : Result (Unit {0}) TextFault → Result GrammarState TextFaultKind → ℕ → Scanner → ℕ → Type 0
-Accepts (Ok u) s q r end = (s ≡ Ok (state_view r.grammar)) × (r.mode ≡ modes.Between) × (r.offset ≡ end)
+Accepts (Ok u) s q r end = (s ≡ Ok (state_view r)) × (r.mode ≡ modes.Between) × (r.offset ≡ end)
 Accepts (Err e) s q r end = (s ≡ Err e.kind) × (e.offset ≡ q)
 
 -- a byte that begins no blank, comment, parenthesis or quoted character
@@ -146,7 +146,8 @@ cell_place slot i = if i == 8 then places.Lock slot else places.Cell slot i
 -- the scanner at another place and offset
 abbrev pub moved : Scanner → Place → ℕ → Scanner
 moved r p q = record {
-  grammar = record { map = r.grammar.map; place = p; entry = r.grammar.entry; accent = r.grammar.accent };
+  map = r.map;
+  grammar = record { place = p; entry = r.grammar.entry; accent = r.grammar.accent };
   mode = r.mode;
   pending = r.pending;
   offset = q;

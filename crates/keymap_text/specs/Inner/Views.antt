@@ -1,7 +1,8 @@
--- How values of the code are seen by the definitions. Mirrors the types `Front` of src/token.rt, and `Place` and
--- `Grammar` of src/grammar.rt.
-use Rattle.std.specs.Prelude.{◌≡◌, ◌≢◌, ℕ, ◌≤◌, ◌<◌, length, Result, Ok, Err}
+-- How values of the code are seen by the definitions. Mirrors the types `Front` of src/token.rt, `Place` and `Grammar`
+-- of src/grammar.rt, and `Scanner` of src/scanner.rt.
+use Rattle.std.specs.Prelude.{◌≡◌, ◌≢◌, ℕ, ◌≤◌, ◌<◌, length, Option, Some, None, Result, Ok, Err}
 use Rattle.keymap_text.specs.declared.fault.TextFaultKind.{TextFaultKind}
+use Rattle.keymap_text.specs.declared.fault.TextFaultKind.TheVariants.{EndInside}
 use Rattle.keymap_text.specs.declared.token.Front.{Front}
 use Rattle.keymap_text.specs.declared.token.Front.TheVariants as fronts
 use Rattle.keymap_text.specs.Lexical as lexical
@@ -9,8 +10,9 @@ use Rattle.keymap_core.specs.declared.entry.Entry.{Entry}
 use Rattle.keymap_text.specs.declared.grammar.Place.{Place}
 use Rattle.keymap_text.specs.declared.grammar.Place.TheVariants as places
 use Rattle.keymap_text.specs.declared.grammar.Grammar.{Grammar}
+use Rattle.keymap_text.specs.declared.scanner.Scanner.{Scanner}
 use Rattle.keymap_core.specs.Accents.{AccentValue}
-use Rattle.keymap_core.specs.Maps.{undefined}
+use Rattle.keymap_core.specs.Maps.{MapValue, undefined}
 use Rattle.keymap_core.specs.Numbers.{column_count, accent_limit, pair_limit}
 use Rattle.keymap_text.specs.Inner.Grammar as spec
 
@@ -35,8 +37,12 @@ place_view (places.PairBase i) e a = spec.PairBase i a
 place_view (places.PairResult i b) e a = spec.PairResult i a b
 place_view (places.PairEnd i b r) e a = spec.PairEnd i a b r
 
-abbrev pub state_view : Grammar → spec.GrammarState
-state_view g = spec.at g.map (place_view g.place g.entry g.accent)
+abbrev pub grammar_view : Grammar → spec.GrammarPlace
+grammar_view g = place_view g.place g.entry g.accent
+
+-- with the map so far
+abbrev pub state_view : Scanner → spec.GrammarState
+state_view r = spec.at r.map (grammar_view r.grammar)
 
 -- the indices that places may have
 abbrev pub IsPlace : Place → AccentValue → Type 0
@@ -53,6 +59,19 @@ IsPlace (places.PairEnd i b r) a = (i < accent_limit) × (length a.pairs < pair_
 abbrev pub Steps : Result (Unit {0}) TextFaultKind → Result spec.GrammarState TextFaultKind → spec.GrammarState → Type 0
 Steps (Ok u) r s = r ≡ Ok s
 Steps (Err f) r s = r ≡ Err f
+
+-- What it did to something that takes definitions: it left d, which shows the map of the step of the definitions, and
+-- the text stands at p.
+abbrev pub StepsInto : {D : Type 0} → (D → MapValue → Type 0) → D → Result (Unit {0}) TextFaultKind
+    → Result spec.GrammarState TextFaultKind → spec.GrammarPlace → Type 0
+StepsInto shows d (Ok u) r p = (m : MapValue) × shows d m × (r ≡ Ok (spec.at m p))
+StepsInto shows d (Err f) r p = r ≡ Err f
+
+-- What the end of the text did to it: it left d, which shows the map of the text.
+abbrev pub EndsInto : {D : Type 0} → (D → MapValue → Type 0) → D → Result (Unit {0}) TextFaultKind → Option MapValue
+    → Type 0
+EndsInto shows d (Ok u) r = (m : MapValue) × shows d m × (r ≡ Some m)
+EndsInto shows d (Err f) r = (r ≡ None) × (f ≡ EndInside)
 
 -- where the first token of a definition leads
 abbrev pub Leads : Result Place TextFaultKind → Result spec.GrammarPlace TextFaultKind → Type 0

@@ -1,17 +1,6 @@
-use Rattle.std.proofs.Common.{sym, ◌∙◌, subst, arith}
-use Rattle.keymap_text.specs.declared.words.Item.TheVariants.{Value}
-use Rattle.keymap_text.specs.Inner.Resuming.{Fronts}
-use Rattle.keymap_text.proofs.Runs.{word_fronts, quoted_fronts, left_fronts, right_fronts}
+use Rattle.std.proofs.Common.{arith}
+use Rattle.keymap_text.proofs.Runs.{quoted_fronts, left_fronts, right_fronts}
 use Rattle.keymap_text.proofs.scanner.whole_token.Goals as goal
-
-pub returns-in-Some : goal.returns-in-Some
-returns-in-Some c =
-    let rest = c.args.rest.now in
-    let n = c.short_word_len-n.result in
-    let found = c.short_word_len-n.ensures (omega arith) in
-    subst (λ m. Fronts rest (Value m) n) (sym c.in-Some.ensures)
-    (word_fronts n rest found.1 found.0
-    (sym c.is_word_byte.ensures ∙ c.if-is_word_byte.true) (omega arith))
 
 pub returns-else-rest-ne39 : goal.returns-else-rest-ne39
 returns-else-rest-ne39 c =

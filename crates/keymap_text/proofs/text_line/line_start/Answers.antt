@@ -1,4 +1,4 @@
-use Rattle.std.proofs.Common.{◌≡◌, ◌+◌, ap, arith, take}
+use Rattle.std.proofs.Common.{◌≡◌, ap, arith, take}
 use Rattle.std.specs.List.{suffix_len}
 use Rattle.keymap_text.specs.Lexical.{stays_on_line}
 use Rattle.keymap_text.proofs.text_line.line_start.Goals as goal

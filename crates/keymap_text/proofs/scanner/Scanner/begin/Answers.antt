@@ -11,7 +11,7 @@ returns-then-is_blank_byte c =
     let r = c.args.self.now in
     let none = subst (λ m. KeepsMode m r.pending.items) c.requires.mode c.requires.reader.keeps in
     takes_byte r _ c.args.c
-    (take_blank (state_view r.grammar) r.mode r.pending.items r.offset c.args.c c.requires.mode
+    (take_blank (state_view r) r.mode r.pending.items r.offset c.args.c c.requires.mode
     (sym c.is_blank_byte.ensures ∙ c.if-is_blank_byte.true))
     (record {
       place = c.requires.reader.place;
@@ -26,7 +26,7 @@ returns-in-35 c =
     let none = subst (λ m. KeepsMode m r.pending.items) c.requires.mode c.requires.reader.keeps in
     takes_byte r _ c.args.c
     (λ x. ap (λ n. resume r (n ∷ x)) c.in-35.is
-    ∙ take_hash (state_view r.grammar) r.mode r.pending.items r.offset c.requires.mode x)
+    ∙ take_hash (state_view r) r.mode r.pending.items r.offset c.requires.mode x)
     (record { place = c.requires.reader.place; keeps = none; low = omega (arith, c.requires.reader.low) })
     (omega arith) (stays_in_line r _ c.args.c (λ e. omega (arith, c.in-35.is, e)) refl (omega arith))
 
@@ -39,7 +39,7 @@ returns-in-40 c =
     c.accept.ensures.accepts c.accept.ensures.reader c.accept.ensures.fed c.accept.ensures.line
     c.accept.ensures.fault_line
     (goes_from c.accept.result _ _ _ (λ x. ap (λ n. resume r (n ∷ x)) c.in-40.is)
-    (take_left c.accept.result (state_view r.grammar) r.mode r.pending.items r.offset c.accept.new.self c.requires.mode
+    (take_left c.accept.result (state_view r) r.mode r.pending.items r.offset c.accept.new.self c.requires.mode
     c.accept.ensures.accepts))
 
 pub returns-in-41 : goal.returns-in-41
@@ -50,7 +50,7 @@ returns-in-41 c =
     takes_last a.result r a.new.self c.args.c 1 _ (λ e. omega (arith, c.in-41.is, e)) (omega (arith, ap length none))
     a.ensures.accepts a.ensures.reader a.ensures.fed a.ensures.line a.ensures.fault_line
     (goes_from a.result _ _ _ (λ x. ap (λ n. resume r (n ∷ x)) c.in-41.is)
-    (take_right a.result (state_view r.grammar) r.mode r.pending.items r.offset a.new.self c.requires.mode
+    (take_right a.result (state_view r) r.mode r.pending.items r.offset a.new.self c.requires.mode
     a.ensures.accepts))
 
 pub returns-in-39 : goal.returns-in-39
@@ -58,7 +58,7 @@ returns-in-39 c =
     let r = c.args.self.now in
     let none = subst (λ m. KeepsMode m r.pending.items) c.requires.mode c.requires.reader.keeps in
     takes_byte r _ c.args.c
-    (begun_literal (state_view r.grammar) r.mode r.pending.items c.push.new.self.items r.offset c.args.c c.requires.mode
+    (begun_literal (state_view r) r.mode r.pending.items c.push.new.self.items r.offset c.args.c c.requires.mode
     none c.push.ensures.items)
     (record {
       place = c.requires.reader.place;

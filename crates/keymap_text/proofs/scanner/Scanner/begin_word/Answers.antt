@@ -11,7 +11,7 @@ returns-then-not-is_word_byte c =
     let r = c.args.self.now in
     refuses_byte r c.args.c c.fault.result
     (λ x.
-    take_bad_byte (state_view r.grammar) r.mode r.pending.items r.offset c.args.c c.requires.mode c.requires.byte
+    take_bad_byte (state_view r) r.mode r.pending.items r.offset c.args.c c.requires.mode c.requires.byte
     (sym c.is_word_byte.ensures ∙ c.if-not-is_word_byte.true) x
     ∙ ap₂ (λ k q. Faulty k q true) (sym c.fault.ensures.kind) (sym c.fault.ensures.offset))
     (record {
@@ -26,7 +26,7 @@ returns c =
     let none = subst (λ m. KeepsMode m r.pending.items) c.requires.mode c.requires.reader.keeps in
     let is = sym c.is_word_byte.ensures ∙ c.if-not-is_word_byte.false in
     takes_byte r _ c.args.c
-    (begun_word (state_view r.grammar) r.mode r.pending.items c.push.new.self.items r.offset c.args.c c.requires.mode
+    (begun_word (state_view r) r.mode r.pending.items c.push.new.self.items r.offset c.args.c c.requires.mode
     none c.push.ensures.items)
     (record {
       place = c.requires.reader.place;

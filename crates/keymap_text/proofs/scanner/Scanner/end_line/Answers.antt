@@ -9,7 +9,7 @@ pub returns : goal.returns
 returns c =
     let r = c.args.self.now in
     let none = subst (λ m. KeepsMode m r.pending.items) c.requires.mode c.requires.reader.keeps in
-    takes_byte r _ 10 (take_blank (state_view r.grammar) r.mode r.pending.items r.offset 10 c.requires.mode refl)
+    takes_byte r _ 10 (take_blank (state_view r) r.mode r.pending.items r.offset 10 c.requires.mode refl)
     (record {
       place = c.requires.reader.place;
       keeps = c.requires.reader.keeps;

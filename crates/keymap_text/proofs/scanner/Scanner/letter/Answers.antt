@@ -20,11 +20,11 @@ returns-in-Ok-clause-taken c = λ some.
       fronts = c.in-Some.ensures;
       sum = refl;
     }) c.requires.reader c.requires.mode
-    (ap (λ p. step g.map (place_view p g.entry g.accent) c.in-Some.item) c.requires.place
-    ∙ ap (λ r. r >>= λ f.
-    Ok (at (with_entry g.map c.args.slot (record { cells = g.entry.cells; flag = f })) spec.Definition))
+    (ap (λ p. step r.map (place_view p g.entry g.accent) c.in-Some.item) c.requires.place
+    ∙ ap (λ x. x >>= λ f.
+    Ok (at (with_entry r.map c.args.slot (record { cells = g.entry.cells; flag = f })) spec.Definition))
     (sym c.in-Ok.ensures)
-    ∙ sym (ap₂ (λ m p. Ok (at m (place_view p new.entry new.accent))) c.close_entry.ensures.map
+    ∙ sym (ap₂ (λ m p. Ok (at m (place_view p new.entry new.accent))) (c.close_entry.ensures.shows r.map refl)
     c.close_entry.ensures.place))
     (record {
       place = subst (λ p. IsPlace p new.accent) (sym c.close_entry.ensures.place) tt;

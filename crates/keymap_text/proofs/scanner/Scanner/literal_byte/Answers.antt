@@ -22,7 +22,7 @@ returns-in-Unfinished c =
     let other : c.args.c ≢ 10 =
     open_no_feed r.pending.items p c.args.c keeps c.push.ensures.items c.in-Unfinished.ensures.value in
     takes_byte r _ c.args.c
-    (longer_literal (state_view r.grammar) r.mode r.pending.items p r.offset c.args.c c.requires.mode
+    (longer_literal (state_view r) r.mode r.pending.items p r.offset c.args.c c.requires.mode
     c.push.ensures.items)
     (record {
       place = c.requires.reader.place;
@@ -40,7 +40,7 @@ returns-in-Refused c =
     let keeps = subst (λ m. KeepsMode m r.pending.items) c.requires.mode c.requires.reader.keeps in
     refuses_byte r c.args.c c.fault.result
     (λ x.
-    literal_refused_at (state_view r.grammar) r.mode r.pending.items c.push.new.self.items r.offset c.args.c
+    literal_refused_at (state_view r) r.mode r.pending.items c.push.new.self.items r.offset c.args.c
     c.in-Refused.kind c.requires.mode keeps c.push.ensures.items c.in-Refused.ensures.value x
     ∙ ap₂ (λ k q. Faulty k q true) (sym c.fault.ensures.kind) (sym c.fault.ensures.offset))
     (record {
@@ -61,7 +61,7 @@ returns-in-Found c =
     (omega (arith, c.len-n.ensures.value, pushed r.pending.items p c.args.c c.push.ensures.items))
     c.accept.ensures.accepts c.accept.ensures.reader c.accept.ensures.fed c.accept.ensures.line
     c.accept.ensures.fault_line
-    (literal_found_at c.accept.result (state_view r.grammar) r.mode r.pending.items p r.offset c.args.c c.in-Found.kind
+    (literal_found_at c.accept.result (state_view r) r.mode r.pending.items p r.offset c.args.c c.in-Found.kind
     c.in-Found.field-1 c.accept.new.self c.pending_item-item.result c.len-n.result c.requires.mode keeps
     c.push.ensures.items c.in-Found.ensures.value c.in-Found.ensures.fits c.pending_item-item.ensures
     c.len-n.ensures.value c.accept.ensures.accepts)

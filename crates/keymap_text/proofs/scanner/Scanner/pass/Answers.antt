@@ -12,8 +12,8 @@ returns c =
     let none = subst (λ m. KeepsMode m r.pending.items) c.requires.mode c.requires.reader.keeps in
     takes_byte r _ c.args.c
     (λ x.
-    take_comment (state_view r.grammar) r.mode r.pending.items r.offset c.args.c c.requires.mode x
-    ∙ ap (λ m. judge (state_view r.grammar) (tokens_of m r.pending.items (r.offset + 1) x))
+    take_comment (state_view r) r.mode r.pending.items r.offset c.args.c c.requires.mode x
+    ∙ ap (λ m. judge (state_view r) (tokens_of m r.pending.items (r.offset + 1) x))
     (sym c.mode_in_comment-self.ensures))
     (record {
       place = c.requires.reader.place;

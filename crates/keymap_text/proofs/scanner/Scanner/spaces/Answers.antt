@@ -14,7 +14,7 @@ returns-clause-advances c =
     let n = c.space_len-n.result in
     let none = subst (λ m. KeepsMode m r.pending.items) c.requires.mode c.requires.reader.keeps in
     record {
-      takes = take_spaces (state_view r.grammar) r.mode r.pending.items r.offset n rest c.requires.mode
+      takes = take_spaces (state_view r) r.mode r.pending.items r.offset n rest c.requires.mode
           c.space_len-n.ensures.blank;
       reader = record {
         place = c.requires.reader.place;

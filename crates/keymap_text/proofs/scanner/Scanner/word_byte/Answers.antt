@@ -12,7 +12,7 @@ returns-in-Ok c =
     let r = c.args.self.now in
     let keeps = subst (λ m. KeepsMode m r.pending.items) c.requires.mode c.requires.reader.keeps in
     takes_after c.begin.result r c.end_word.new.self c.begin.new.self c.args.c c.begin.ensures
-    (take_word_end (Ok c.in-Ok.field-0) (state_view r.grammar) r.mode r.pending.items r.offset c.args.c
+    (take_word_end (Ok c.in-Ok.field-0) (state_view r) r.mode r.pending.items r.offset c.args.c
     c.end_word.new.self c.requires.mode keeps.0 keeps.2 keeps.1
     (sym c.is_word_byte.ensures ∙ c.if-not-is_word_byte.true) c.in-Ok.ensures.accepts)
     c.in-Ok.ensures.line c.in-Ok.ensures.fed c.in-Ok.ensures.accepts.2
@@ -22,7 +22,7 @@ returns-in-Err c =
     let r = c.args.self.now in
     let keeps = subst (λ m. KeepsMode m r.pending.items) c.requires.mode c.requires.reader.keeps in
     refuses_byte r c.args.c c.in-Err.f
-    (take_word_end (Err c.in-Err.f) (state_view r.grammar) r.mode r.pending.items r.offset c.args.c c.end_word.new.self
+    (take_word_end (Err c.in-Err.f) (state_view r) r.mode r.pending.items r.offset c.args.c c.end_word.new.self
     c.requires.mode keeps.0 keeps.2 keeps.1
     (sym c.is_word_byte.ensures ∙ c.if-not-is_word_byte.true) c.in-Err.ensures.accepts)
     (record {
@@ -37,7 +37,7 @@ returns-then-is_full c =
     let keeps = subst (λ m. KeepsMode m r.pending.items) c.requires.mode c.requires.reader.keeps in
     refuses_byte r c.args.c c.fault.result
     (λ x.
-    take_word_full (state_view r.grammar) r.mode r.pending.items r.offset c.args.c c.requires.mode
+    take_word_full (state_view r) r.mode r.pending.items r.offset c.args.c c.requires.mode
     (eqb-true _ _ (sym c.is_full.ensures.value ∙ c.if-is_full.true)) keeps.1
     (sym c.is_word_byte.ensures ∙ c.if-not-is_word_byte.false) x
     ∙ ap₂ (λ k q. Faulty k q true) (sym c.fault.ensures.kind) (sym c.fault.ensures.offset))
@@ -53,7 +53,7 @@ returns c =
     let keeps = subst (λ m. KeepsMode m r.pending.items) c.requires.mode c.requires.reader.keeps in
     let is = sym c.is_word_byte.ensures ∙ c.if-not-is_word_byte.false in
     takes_byte r _ c.args.c
-    (longer_word (state_view r.grammar) r.mode r.pending.items c.push.new.self.items r.offset c.args.c c.requires.mode
+    (longer_word (state_view r) r.mode r.pending.items c.push.new.self.items r.offset c.args.c c.requires.mode
     c.push.ensures.items)
     (record {
       place = c.requires.reader.place;

@@ -42,13 +42,18 @@ pub enum ReadError {
 /// How many bytes are asked for at once.
 const PIECE: usize = 4096;
 
+/// How many bytes there is room for at once. Most texts have fewer, and each table file has.
+const ROOM: usize = 16_384;
+
 /// The bytes up to the end, or the first `max` of them, in at most `max` + 1 reads.
 pub fn read_up_to<R: Read>(alloc: Global, reader: &mut R, max: usize) -> Result<Vec<u8>, ReadError>
     ensures ok { IfOk result (λ bytes. ReadsUpTo max (R.remaining reader.old) (R.remaining reader.new) bytes.items) }
     ensures failed { R.has_failed reader.new ≡ (blames_reader result || R.has_failed reader.old) }
     ensures fault { IfErr result (IsDeviceFault max (R.remaining reader.old) (R.remaining reader.new)) }
 {
-    let mut bytes = Vec::new(alloc);
+    let Ok(mut bytes) = Vec::with_capacity(alloc, ROOM.min(max)) else {
+        return Err(ReadError::Memory);
+    };
     let mut buffer = [0; PIECE];
     while bytes.len() < max {
         let room = PIECE.min(max - bytes.len());

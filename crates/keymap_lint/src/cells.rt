@@ -6,7 +6,7 @@ ghost use Rattle.keymap_text.specs.Placed.{HasIndex};
 ghost use Rattle.keymap_lint.specs.Spelled.{AreDefined, cell_in, cells_of, cells_in_force as cells_of_text};
 
 use crate::spelled::SpelledText;
-use keymap_core::COLUMN_COUNT;
+use keymap_core::{COLUMN_COUNT, SLOT_LIMIT};
 use keymap_text::{Defined, Placed, Span};
 use std::alloc::{AllocError, Global};
 
@@ -72,7 +72,8 @@ pub(crate) fn cells_in_force(
     requires { AreDefined text.now }
     ensures { IfOk result (λ cells. cells.items ≡ cells_of_text text.now) }
 {
-    let mut cells = Vec::new(alloc);
+    let slots = text.definitions().len().min(SLOT_LIMIT);
+    let mut cells = Vec::with_capacity(alloc, slots * COLUMN_COUNT)?;
     for definition in text.definitions() {
         add_cells(&mut cells, text, definition)?;
     }

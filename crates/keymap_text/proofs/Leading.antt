@@ -1,10 +1,13 @@
 -- How many bytes at the front pass a test.
-use Rattle.std.proofs.Common.{◌≡◌, ℕ, zero, suc, ◌+◌, ◌<◌, ◌≤◌, Bool, true, false, cond, List, [], ◌∷◌, ◌++◌, length}
-use Rattle.std.proofs.Common.{take, drop, get_or, refl, sym, ◌∙◌, ap, arith, add-one, drop-cons, length-append}
+use Rattle.std.proofs.Common.{◌≡◌, ℕ, zero, suc, ◌+◌, ◌<◌, ◌≤◌, Bool, true, false, not, cond, List, [], ◌∷◌, ◌++◌}
+use Rattle.std.proofs.Common.{length, take, drop, get_or, refl, sym, ◌∙◌, ap, arith, add-one, drop-cons}
+use Rattle.std.proofs.Common.{length-append}
 use Rattle.std.proofs.lemmas.List.{at_drop_all}
 use Rattle.std.proofs.lemmas.Bool.Decides.{nat_tests}
 use Rattle.std.specs.Prelude.{◌==◌}
-use Rattle.keymap_text.specs.Lexical.{leading, is_space}
+use Rattle.std.specs.Prelude.{Some, None}
+use Rattle.bstr.specs.Find.{IsFirstByte, is_byte}
+use Rattle.keymap_text.specs.Lexical.{leading, is_space, stays_on_line}
 
 -- the number, where the first byte passes and where it does not
 pub leading_pass : (p : ℕ → Bool) (c : ℕ) (cs : List ℕ) → p c ≡ true → leading p (c ∷ cs) ≡ leading p cs + 1
@@ -103,6 +106,45 @@ leading_same p (suc n) (a ∷ v) (c ∷ w) e h =
           k (omega (arith, h, leading_pass p c w t)),
         )
     go false t k = absurd (omega (arith, h, leading_fail p c w t))
+
+-- so many bytes in front pass
+pub leading_is : (q : ℕ → Bool) (d : List ℕ) (r : ℕ) → r < length d → ((k : ℕ) → k < r → q (get_or d k 0) ≡ true)
+    → q (get_or d r 0) ≡ false → leading q d ≡ r
+leading_is q [] r l f s = absurd (omega (arith, l))
+leading_is q (c ∷ d) zero l f s = leading_fail q c d s
+leading_is q (c ∷ d) (suc r) l f s =
+    leading_pass q c d (f 0 (omega arith)) ∙ ap (λ n. n + 1) (leading_is q d r (omega (arith, l))
+    (λ k h. f (suc k) (omega (arith, h))) s) ∙ omega arith
+
+-- and all where each one passes
+pub leading_all : (q : ℕ → Bool) (d : List ℕ) → ((k : ℕ) → k < length d → q (get_or d k 0) ≡ true)
+    → leading q d ≡ length d
+leading_all q [] f = leading_none q
+leading_all q (c ∷ d) f =
+    leading_pass q c d (f 0 (omega arith)) ∙ ap (λ n. n + 1) (leading_all q d (λ k h. f (suc k) (omega (arith, h))))
+    ∙ omega arith
+
+-- a byte that isn't the end of the line stays on it
+no_line_end : (c : ℕ) → ((c == 10) ≡ true → ⊥) → stays_on_line c ≡ true
+no_line_end c h = go (c == 10) h
+  where
+    go : (b : Bool) → (b ≡ true → ⊥) → not b ≡ true
+    go true h = absurd (h refl)
+    go false h = refl
+
+-- a line goes up to the first line feed
+pub line_found : (bytes : List ℕ) (n : ℕ) → IsFirstByte (is_byte 10) bytes (Some n)
+    → (n ≤ length bytes) × (n ≡ leading stays_on_line bytes)
+line_found bytes n h =
+    let inside : n < length bytes = h.0.high in (
+      omega (arith, inside),
+      sym (leading_is stays_on_line bytes n inside (λ k l. no_line_end _ (h.0.before k (omega arith) l)) (ap not h.1)),
+    )
+
+-- or to the end where there is none
+pub line_whole : (bytes : List ℕ) → IsFirstByte (is_byte 10) bytes None
+    → length bytes ≡ leading stays_on_line bytes
+line_whole bytes h = sym (leading_all stays_on_line bytes (λ k l. no_line_end _ (h k (omega arith) l)))
 
 -- a space is a blank
 space_is_blank : (c : ℕ) → c == 32 ≡ true → is_space c ≡ true

@@ -28,6 +28,13 @@ pub printable : (c : ℕ) (y : List ℕ) → 31 < c → c < 127 → literal (c �
 unfolding literal
 printable c y h k = grind (arith, nat_tests)
 
+-- such a character in front of bytes
+pub printable_front : (bytes : List ℕ) → 1 < length bytes → 31 < get_or bytes 0 0 → get_or bytes 0 0 < 127
+    → get_or bytes 1 0 ≡ 39 → literal bytes ≡ Found (Literal (get_or bytes 0 0)) 2
+printable_front [] l a b e = absurd (omega (arith, l))
+printable_front (c ∷ []) l a b e = absurd (omega (arith, l))
+printable_front (c ∷ d ∷ y) l a b e = ap (λ n. literal (c ∷ n ∷ y)) e ∙ printable c y a b
+
 -- z, and y that has more bytes to go by: they are the same, or all k bytes of z may begin a character, and y has them
 -- all
 Grows : ℕ → Decoded → Decoded → Type 0

@@ -1,7 +1,7 @@
 -- What taking a whole token or a row of blanks makes of the rest of a text.
 use Rattle.std.proofs.Common.{◌≡◌, ◌≢◌, ℕ, zero, suc, ◌+◌, ◌<◌, ◌≤◌, Bool, true, false, List, [], ◌∷◌, ◌++◌, length}
 use Rattle.std.proofs.Common.{take, drop, get_or, refl, sym, ◌∙◌, ap, subst, arith, Result, Ok, Err, OnOk, ne_eqb, ◌-◌}
-use Rattle.std.proofs.Common.{ap₂, append_assoc, append-nil, length-drop, drop-cons, take_all}
+use Rattle.std.proofs.Common.{ap₂, add-one, append_assoc, append-nil, length-drop, drop-cons, take_all}
 use Rattle.std.proofs.lemmas.List.{drop-drop, take-append-drop, drop_all, length-take-le}
 use Rattle.std.proofs.Math.Seq.{take-add}
 use Rattle.std.proofs.lemmas.Bool.Decides.{nat_tests}
@@ -15,7 +15,7 @@ use Rattle.keymap_text.specs.declared.words.Meaning.TheVariants.{Char}
 use Rattle.keymap_text.specs.declared.scanner.Mode.{Mode}
 use Rattle.keymap_text.specs.declared.scanner.Mode.TheVariants as modes
 use Rattle.keymap_text.specs.declared.scanner.Scanner.{Scanner}
-use Rattle.keymap_text.specs.Lexical.{leading, is_blank, is_space, is_word, tokens_after, Then, is_empty}
+use Rattle.keymap_text.specs.Lexical.{leading, is_blank, is_space, is_word, stays_on_line, tokens_after, Then, is_empty}
 use Rattle.keymap_text.specs.Words.{meaning}
 use Rattle.keymap_text.specs.Inner.Grammar.{GrammarState, accept}
 use Rattle.keymap_text.specs.Meaning.{line}
@@ -26,7 +26,7 @@ use Rattle.keymap_text.specs.Inner.Resuming.{IsFaultOfPending, Goes, Accepts, Ta
 use Rattle.keymap_text.proofs.Leading.{leading_pass, leading_fail, leading_none}
 use Rattle.keymap_text.proofs.Lines.{feeds, feeds_are, feeds_run, no_feed, lined_run, lined_on, lined_whole}
 use Rattle.keymap_text.proofs.Lines.{pending_line}
-use Rattle.keymap_text.proofs.Splitting.{split_blank, to_end, first_and_rest}
+use Rattle.keymap_text.proofs.Splitting.{split_one, split_blank, to_end, first_and_rest}
 use Rattle.keymap_text.proofs.Steps.{judge_then, judge_refused, word_ended, found_whole, front_quote, front_left}
 use Rattle.keymap_text.proofs.Steps.{front_right, stays_in_line}
 use Rattle.keymap_text.proofs.Literals.{printable}
@@ -53,12 +53,51 @@ split_spaces (suc n) q (c ∷ xs) y h = go (is_space c) refl (split_spaces n (q 
         ∙ on (q + suc n) (omega arith)
     go false e k = absurd (omega (arith, h, leading_fail is_space c xs e))
 
+-- the same at a place of a text
+pub spaces_at : (text rest : List ℕ) (at n : ℕ) → rest ≡ take (length text - at) (drop at text)
+    → n ≤ leading is_space rest → tokens_after 0 at (drop at text) ≡ tokens_after 0 (at + n) (drop (at + n) text)
+spaces_at text rest at n e h =
+    subst (λ (t : List ℕ). tokens_after 0 at t ≡ tokens_after 0 (at + n) (drop n t)) (e ∙ to_end text at)
+    (ap (tokens_after 0 at) (sym (append-nil rest)) ∙ split_spaces n at rest [] h
+    ∙ ap (tokens_after 0 (at + n)) (append-nil (drop n rest)))
+    ∙ ap (tokens_after 0 (at + n)) (drop-drop n at text)
+
 -- blanks in front change the offset alone
 pub take_spaces : (s : GrammarState) (m : Mode) (p : List ℕ) (q n : ℕ) (rest : List ℕ) → m ≡ modes.Between
     → n ≤ leading is_space rest → (x : List ℕ)
     → judge s (tokens_of m p q (rest ++ x)) ≡ judge s (tokens_of m p (q + n) (drop n rest ++ x))
 take_spaces s m p q n rest h e x =
     ap (λ m. judge s (tokens_of m p q (rest ++ x))) h ∙ ap (judge s) (split_spaces n q rest x e)
+    ∙ sym (ap (λ m. judge s (tokens_of m p (q + n) (drop n rest ++ x))) h)
+
+-- bytes of a comment are passed
+split_on_line : (n q : ℕ) (xs y : List ℕ) → n ≤ leading stays_on_line xs
+    → tokens_after (leading stays_on_line (xs ++ y)) q (xs ++ y)
+    ≡ tokens_after (leading stays_on_line (drop n xs ++ y)) (q + n) (drop n xs ++ y)
+split_on_line zero q xs y h = ap (λ k. tokens_after (leading stays_on_line (xs ++ y)) k (xs ++ y)) (omega arith)
+split_on_line (suc n) q [] y h = absurd (omega (arith, h, leading_none stays_on_line))
+split_on_line (suc n) q (c ∷ xs) y h = go (stays_on_line c) refl (split_on_line n (q + 1) xs y)
+  where
+    left : ℕ
+    left = leading stays_on_line (drop n xs ++ y)
+
+    go : (b : Bool) → stays_on_line c ≡ b → (n ≤ leading stays_on_line xs
+        → tokens_after (leading stays_on_line (xs ++ y)) (q + 1) (xs ++ y)
+        ≡ tokens_after left (q + 1 + n) (drop n xs ++ y))
+        → tokens_after (leading stays_on_line (c ∷ (xs ++ y))) q (c ∷ (xs ++ y))
+        ≡ tokens_after left (q + suc n) (drop n xs ++ y)
+    go true e k =
+        ap (λ m. tokens_after m q (c ∷ (xs ++ y))) (leading_pass stays_on_line c (xs ++ y) e ∙ add-one _)
+        ∙ split_one _ q c (xs ++ y) ∙ k (omega (arith, h, leading_pass stays_on_line c xs e))
+        ∙ ap (λ k. tokens_after left k (drop n xs ++ y)) (omega arith)
+    go false e k = absurd (omega (arith, h, leading_fail stays_on_line c xs e))
+
+-- bytes of a comment in front change the offset alone
+pub take_comments : (s : GrammarState) (m : Mode) (p : List ℕ) (q n : ℕ) (rest : List ℕ) → m ≡ modes.Comment
+    → n ≤ leading stays_on_line rest → (x : List ℕ)
+    → judge s (tokens_of m p q (rest ++ x)) ≡ judge s (tokens_of m p (q + n) (drop n rest ++ x))
+take_comments s m p q n rest h e x =
+    ap (λ m. judge s (tokens_of m p q (rest ++ x))) h ∙ ap (judge s) (split_on_line n q rest x e)
     ∙ sym (ap (λ m. judge s (tokens_of m p (q + n) (drop n rest ++ x))) h)
 
 -- a word

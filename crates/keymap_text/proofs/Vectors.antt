@@ -1,5 +1,5 @@
 -- From the mask of sixteen bytes to the bytes in front that pass a test.
-use Rattle.std.proofs.Common.{◌≡◌, ℕ, zero, suc, ◌+◌, ◌%◌, ◌^◌, ◌<◌, ◌≤◌, Bool, true, false, not, List, [], ◌∷◌, map}
+use Rattle.std.proofs.Common.{◌≡◌, ℕ, ◌+◌, ◌%◌, ◌^◌, ◌<◌, ◌≤◌, Bool, true, false, not, List, [], ◌∷◌, map}
 use Rattle.std.proofs.Common.{length, get_or, replicate, Fits, w8, refl, sym, ap, ap₂, ◌∙◌, subst, arith, inl, inr}
 use Rattle.std.proofs.lemmas.Bool.{agree_below, agree_below_at, not-true, not-false, cases_eq, eq-eqb, ne_eqb}
 use Rattle.std.proofs.lemmas.Bool.{cond-true, cond-false}
@@ -11,7 +11,7 @@ use Rattle.std.specs.List.{prefix_len}
 use lib.Lanes.{chunk, zip2, mask_l, top}
 use Rattle.keymap_text.specs.Lexical.{leading}
 use Rattle.keymap_text.specs.Inner.Keys.{first_of_sixteen}
-use Rattle.keymap_text.proofs.Leading.{leading_pass, leading_fail}
+use Rattle.keymap_text.proofs.Leading.{leading_is}
 
 -- vectors that were computed lane by lane from v
 zip2-map : (h : ℕ → ℕ → ℕ) (f g : ℕ → ℕ) (v : List ℕ) → zip2 h (map f v) (map g v) ≡ map (λ x. h (f x) (g x)) v
@@ -36,15 +36,6 @@ run_is p v long =
       | inl none ↦ cond-true _ _ _ (eq-eqb _ _ none) ∙ sym (leading_from_mask_l p v none ∙ long)
       | inr some ↦ cond-false _ _ _ (ne_eqb _ _ some) ∙ trailing_mask_l p 64 v (omega arith) (omega arith)
     ]
-
--- so many bytes in front pass
-leading_is : (q : ℕ → Bool) (d : List ℕ) (r : ℕ) → r < length d → ((k : ℕ) → k < r → q (get_or d k 0) ≡ true)
-    → q (get_or d r 0) ≡ false → leading q d ≡ r
-leading_is q [] r l f s = absurd (omega (arith, l))
-leading_is q (c ∷ d) zero l f s = leading_fail q c d s
-leading_is q (c ∷ d) (suc r) l f s =
-    leading_pass q c d (f 0 (omega arith)) ∙ ap (λ n. n + 1) (leading_is q d r (omega (arith, l))
-    (λ k h. f (suc k) (omega (arith, h))) s) ∙ omega arith
 
 -- the bytes of a vector are the first sixteen
 in_chunk : (d : List ℕ) (k : ℕ) → k < 16 → get_or (chunk 0 16 d) k 0 ≡ get_or d k 0

@@ -42,8 +42,12 @@ cell_text (cells.Char c) = character_text c
 cell_text (cells.Act a) = name_of a
 
 -- filled on the right with blanks to six places
+abbrev pub filled : List ℕ → List ℕ
+filled text = text ++ replicate (6 - length text) 32
+
+-- a blank before it
 abbrev pub column : List ℕ → List ℕ
-column text = codes " " ++ (text ++ replicate (6 - length text) 32)
+column text = codes " " ++ filled text
 
 -- the same without blanks behind it
 abbrev pub word : List ℕ → List ℕ

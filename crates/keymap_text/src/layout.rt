@@ -1,10 +1,10 @@
 //! The lines of a printed map.
-ghost use Rattle.std.specs.Prelude.{◌≡◌, ◌+◌, ◌<◌, ◌≤◌, ◌++◌, length, codes};
+ghost use Rattle.std.specs.Prelude.{◌≡◌, ◌+◌, ◌<◌, ◌≤◌, ◌++◌, length, codes, IfSome};
 ghost use Rattle.std.specs.Char.{digit_char};
 ghost use Rattle.keymap_text.specs.Printed as spec;
 ghost use Rattle.keymap_core.specs.Numbers.{accent_limit};
 
-use crate::names::control_name;
+use crate::names::{control_name, control_places};
 use arrayvec::ArrayVec;
 use keymap_core::{Accent, AccentIndex, Action, Cell, Entry, LockFlag};
 
@@ -83,11 +83,50 @@ fn cell_text(cell: &Cell) -> Text
     }
 }
 
+/// The text of a cell filled on the right with blanks to six places, where it is one of those that most cells have.
+#[inline(always)]
+fn six_places(cell: &Cell) -> Option<[u8; 6]>
+    ensures { IfSome result (λ places. places ≡ spec.filled (spec.cell_text cell.now)) }
+{
+    match cell {
+        Cell::Char(c) => character_places(*c),
+        Cell::Act(Action::Nop) => Some(*b"nop   "),
+        Cell::Act(_) => None,
+    }
+}
+
+/// The same of a character.
+#[inline(always)]
+#[tactic(auto, unfolding(crate::specs::Printed::character_text))]
+fn character_places(c: char) -> Option<[u8; 6]>
+    ensures { IfSome result (λ places. places ≡ spec.filled (spec.character_text c)) }
+{
+    match c {
+        '\0'..='\x1f' | '\x7f' => Some(control_places(c as u8)),
+        ' '..='~' => Some([b'\'', c as u8, b'\'', b' ', b' ', b' ']),
+        _ => None,
+    }
+}
+
+#[inline(always)]
 fn push_text<const N: usize>(line: &mut ArrayVec<u8, N>, text: &[u8])
     requires { length line.old.items + length text.now ≤ N }
     ensures { line.new.items ≡ line.old.items ++ text.now }
 {
     line.try_extend_from_slice(text).unwrap();
+}
+
+/// A text, filled on the right with blanks to six places.
+fn push_filled(line: &mut Words, text: &[u8])
+    requires room { length line.old.items + 8 ≤ WORDS }
+    requires short { length text.now ≤ 8 }
+    ensures { line.new.items ≡ line.old.items ++ spec.filled text.now }
+{
+    let blanks = [b' '; 6];
+    push_text(line, text);
+    if text.len() < 6 {
+        push_text(line, &blanks[text.len()..]);
+    }
 }
 
 /// A blank, and the text of a cell, filled on the right with blanks to six places.
@@ -96,12 +135,10 @@ fn push_column(line: &mut Words, cell: &Cell)
     ensures text { line.new.items ≡ line.old.items ++ spec.column (spec.cell_text cell.now) }
     ensures size { length line.new.items ≤ length line.old.items + 9 }
 {
-    let text = cell_text(cell);
-    let blanks = [b' '; 6];
     line.push(b' ');
-    push_text(line, text.as_slice());
-    if text.len() < 6 {
-        push_text(line, &blanks[text.len()..]);
+    match six_places(cell) {
+        Some(places) => push_text(line, &places),
+        None => push_filled(line, cell_text(cell).as_slice()),
     }
 }
 

@@ -127,6 +127,16 @@ pub fn control_name(c: u8) -> &'static [u8]
     NAMES[place].letters()
 }
 
+/// The same, filled on the right with blanks to six places.
+#[inline(always)]
+pub(crate) fn control_places(c: u8) -> [u8; 6]
+    requires { (c < 32) ⊎ (c ≡ 127) }
+    ensures { result ≡ printed.filled (printed.control_name c) }
+{
+    let name = &NAMES[control_place(c)].0;
+    [name[0], name[1], name[2], b' ', b' ', b' ']
+}
+
 /// What the first of these names means that is the word, without regard to case.
 #[tactic(auto, using(crate::proofs::Numbers::look_rules))]
 fn lookup(names: &[Name], word: &[u8]) -> Option<Meaning>

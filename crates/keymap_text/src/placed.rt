@@ -15,6 +15,9 @@ use crate::words::{Item, Meaning, item_of};
 use keymap_core::SLOT_LIMIT;
 use std::alloc::{AllocError, Global};
 
+/// How many tokens there is room for at once; the blanks before it counted, a token mostly has six bytes or more.
+const ROOM: usize = 2048;
+
 /// What a definition defines: a slot, or the accent with this index.
 #[derive(Clone, Copy, Debug, PartialEq, Eq)]
 pub enum Defined {
@@ -100,6 +103,7 @@ fn take(
 }
 
 /// The first token from `at` on; none where no token stands.
+#[inline(always)]
 pub(crate) fn token_from(text: &[u8], at: usize) -> Option<Token<'_>>
     requires { at ≤ length text.now }
     ensures { ComesNext text.now at result }
@@ -118,7 +122,7 @@ pub fn definitions(alloc: Global, text: &[u8]) -> Result<PlacedText, AllocError>
         × IsSpelledBy text.now m rows × (placed.definitions.items ≡ places_of rows)) }
     ensures among { IfOk result (λ placed. All (StandsAmong (vec_len placed.spans)) placed.definitions.items) }
 {
-    let mut spans = Vec::new(alloc);
+    let mut spans = Vec::with_capacity(alloc, ROOM.min(text.len() / 6))?;
     let mut definitions = Vec::new(alloc);
     let mut at = 0;
     let mut left = 0;

@@ -16,7 +16,8 @@ use crate::fault::{TextFault, TextFaultKind};
 use crate::grammar::{Grammar, Place, cell_of, character_of, lock_of, push_pair};
 use crate::names::name_meaning;
 use crate::token::{
-    Front, TokenKind, is_blank_byte, is_word_byte, literal_front, short_word_len, space_len,
+    Front, TokenKind, is_blank_byte, is_word_byte, line_len, literal_front, short_word_len,
+    space_len,
 };
 use crate::words::{Item, Meaning, four_digit_number, item_of, short_number};
 use arrayvec::ArrayVec;
@@ -239,8 +240,22 @@ impl Scanner {
     {
         match self.mode {
             Mode::Between => self.between(rest),
+            Mode::Comment => Ok(self.comment(rest)),
             _ => Ok(0),
         }
+    }
+
+    /// Takes the bytes of a comment in front, as far as the end of its line, which is left.
+    #[inline(never)]
+    fn comment(&mut self, rest: &[u8]) -> usize
+        requires reader { IsReader self.old }
+        requires mode { self.old.mode ≡ Mode.Comment }
+        requires room { self.old.offset + length self.old.pending.items + length rest.now < 2 ^ 63 }
+        ensures { Advances self.old self.new rest.now result }
+    {
+        let n = line_len(rest);
+        self.offset += n as u64;
+        n
     }
 
     /// Takes blanks and what is behind them, as far as that is the end of a line or a whole token.

@@ -11,6 +11,7 @@ ghost use Rattle.keymap_text.specs.Tokens.{result_view};
 ghost use Rattle.keymap_text.specs.Inner.Views.{front_view, FoundFits};
 
 use crate::fault::{TextFault, TextFaultKind};
+use bstr::ByteSlice;
 use std::simd::prelude::*;
 
 /// What a token is.
@@ -202,7 +203,8 @@ fn short_word_len_at_end(bytes: &[u8]) -> usize
 }
 
 /// How many word bytes stand in front.
-#[tactic(auto, using(crate::proofs::Leading::leading_rules))]
+#[inline(always)]
+#[tactic(auto, using(crate::proofs::Leading::leading_le))]
 pub(crate) fn word_len(bytes: &[u8]) -> usize
     ensures length { result ≤ length bytes.now }
     ensures value { result ≡ leading is_word bytes.now }
@@ -213,6 +215,16 @@ pub(crate) fn word_len(bytes: &[u8]) -> usize
             return run;
         }
     }
+    all_word_len(bytes)
+}
+
+/// The same, byte by byte.
+#[inline(never)]
+#[tactic(auto, using(crate::proofs::Leading::leading_rules))]
+fn all_word_len(bytes: &[u8]) -> usize
+    ensures length { result ≤ length bytes.now }
+    ensures value { result ≡ leading is_word bytes.now }
+{
     let mut i: usize = 0;
     while i < bytes.len() && is_word_byte(bytes[i]) {
         i += 1;
@@ -220,18 +232,24 @@ pub(crate) fn word_len(bytes: &[u8]) -> usize
     i
 }
 
+/// How many bytes stand in front of the line's end.
+pub(crate) fn line_len(bytes: &[u8]) -> usize
+    ensures length { result ≤ length bytes.now }
+    ensures value { result ≡ leading stays_on_line bytes.now }
+{
+    match bytes.find_byte(b'\n') {
+        Some(n) => n,
+        None => bytes.len(),
+    }
+}
+
 /// The place of the line's end, at `at` or after it.
-#[tactic(auto, using(crate::proofs::Leading::leading_rules))]
 pub(crate) fn line_end(text: &[u8], at: usize) -> usize
     requires { at ≤ length text.now }
     ensures length { result ≤ length text.now }
     ensures value { result ≡ at + leading stays_on_line (drop at text.now) }
 {
-    let mut i = at;
-    while i < text.len() && text[i] != b'\n' {
-        i += 1;
-    }
-    i
+    at + line_len(&text[at..])
 }
 
 /// Does a byte from 0x80 on stand before an apostrophe?
@@ -272,7 +290,20 @@ pub(crate) fn literal_front(bytes: &[u8]) -> Front
     }
 }
 
+/// The same. A printable byte of ASCII and an apostrophe are seen at once.
+#[inline(always)]
+fn quoted_front(bytes: &[u8]) -> Front
+    ensures value { front_view result ≡ literal bytes.now }
+    ensures fits { FoundFits result (length bytes.now) }
+{
+    if bytes.len() > 1 && bytes[0] >= b' ' && bytes[0] <= b'~' && bytes[1] == b'\'' {
+        return Front::Found(TokenKind::Literal(bytes[0] as char), 2);
+    }
+    literal_front(bytes)
+}
+
 /// What stands at the front of some bytes that begin with neither a blank nor a comment.
+#[inline(always)]
 #[tactic(auto, unfolding(crate::specs::Lexical::front_of))]
 fn token_front(bytes: &[u8]) -> Front
     requires some { 0 < length bytes.now }
@@ -285,11 +316,12 @@ fn token_front(bytes: &[u8]) -> Front
     match c {
         b'(' => Front::Found(TokenKind::ParenL, 0),
         b')' => Front::Found(TokenKind::ParenR, 0),
-        b'\'' => literal_front(rest),
+        b'\'' => quoted_front(rest),
         _ => word_front(c, rest),
     }
 }
 
+#[inline(always)]
 #[tactic(auto, unfolding(crate::specs::Lexical::front_of))]
 fn word_front(c: u8, rest: &[u8]) -> Front
     ensures value { front_view result ≡ if is_word c then word (leading is_word rest.now)
@@ -308,13 +340,14 @@ fn word_front(c: u8, rest: &[u8]) -> Front
 }
 
 /// The place after the blanks and comments at `at`.
+#[inline(always)]
 fn token_start(text: &[u8], at: usize) -> usize
     requires { at ≤ length text.now }
     ensures length { result ≤ length text.now }
     ensures same { tokens_after 0 at (drop at text.now) ≡ tokens_after 0 result (drop result text.now) }
     ensures stands { result < length text.now → IsFalse (separates (slice_index text.now result)) }
 {
-    let mut i = at;
+    let mut i = at + space_len(&text[at..]);
     while i < text.len() {
         if text[i] == b'#' {
             i = line_end(text, i + 1);
@@ -335,6 +368,7 @@ pub(crate) fn line_of(text: &[u8], place: usize) -> u64
     text[..place].iter().filter(|c| **c == b'\n').count() as u64 + 1
 }
 
+#[inline(never)]
 pub(crate) fn fault_at(text: &[u8], place: usize, kind: TextFaultKind) -> TextFault
     requires { place ≤ length text.now }
     ensures place { result.offset ≡ place }

@@ -1,7 +1,14 @@
-use Rattle.std.proofs.Common.{drop, sym, ◌∙◌, ap, arith}
+use Rattle.std.proofs.Common.{drop, refl, sym, ◌∙◌, ap, arith}
 use Rattle.keymap_text.specs.Lexical.{tokens_after}
 use Rattle.keymap_text.proofs.Splitting.{split_blank_at, split_line_at}
+use Rattle.keymap_text.proofs.Runs.{spaces_at}
 use Rattle.keymap_text.proofs.token.token_start.Goals as goal
+
+pub loop-i-init : goal.loop-i-init
+loop-i-init c = record {
+  within = omega arith;
+  same = spaces_at c.args.text.now _ c.args.at c.space_len.result refl c.space_len.ensures.blank;
+}
 
 pub loop-i-preserved-then-text-i-eq35 : goal.loop-i-preserved-then-text-i-eq35
 loop-i-preserved-then-text-i-eq35 c = record {

@@ -12,6 +12,7 @@ pub mod GoingBack
 pub mod Growing
 pub mod Headline
 pub mod Keeping
+pub mod MovingKeys
 pub mod Noting
 pub mod OneMap
 pub mod OneMore

@@ -23,6 +23,7 @@ mod held;
 mod kept;
 pub mod laws;
 mod machine;
+mod moving_keys;
 mod outcome;
 mod plain_console;
 mod plain_store;

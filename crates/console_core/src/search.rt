@@ -8,16 +8,17 @@ ghost use Rattle.console_core.specs.declared.held.Held.{Held as HeldValue};
 ghost use Rattle.console_core.specs.Inner.Searching.{state_of, under_of, IsMetBy, AreWithin, Grows, IsStep, IsLetGoMet};
 ghost use Rattle.console_core.specs.Inner.Searching.{IsExchangeMet, ArePressesMet, AreAdded, Searched, AreInOrder};
 ghost use Rattle.console_core.specs.Inner.Searching.{IsStuck, AreSafe, HasEnded, GoBack, IsScriptTo};
-ghost use Rattle.console_core.specs.Inner.Searching.{IsAnswerUnder};
+ghost use Rattle.console_core.specs.Inner.Searching.{IsAnswerUnder, HasMovingKeys};
 ghost use Rattle.console_core.specs.History.{between};
 ghost use Rattle.console_core.specs.Moves.{Under};
 ghost use Rattle.console_core.specs.Sticking.{IsAnswer, IsAnswerBetween, state_limit};
 
 use crate::event::Event;
 use crate::held::{Held, Keymaps, Move, Step};
+use crate::moving_keys::moving_keys;
 use crate::outcome::Sticking;
 use indexmap::IndexMap;
-use keymap_core::{KEY_COUNT, KeyCode, KeyMap, MODIFIERS};
+use keymap_core::{KeyCode, KeyMap, MODIFIERS};
 use std::alloc::{AllocError, Global};
 
 /// How many states the search goes over.
@@ -127,22 +128,24 @@ pub fn key_with(code: u8) -> KeyCode
     }
 }
 
-/// Adds where presses of keys lead.
+/// Adds where presses of keys lead, of which those are given that can be moves.
 fn meet_presses(
     met: &mut Met,
     maps: &Keymaps,
+    keys: &[KeyCode],
     place: usize,
     held: &Held,
     presses: usize,
 ) -> Result<(), AllocError>
-    requires { AreWithin met.old.entries presses }
+    requires within { AreWithin met.old.entries presses }
+    requires keys { HasMovingKeys (under_of maps.now) keys.now key_count }
     ensures met { OnOk result ((k : ℕ) → k < key_count
         → ArePressesMet (under_of maps.now) met.new.entries presses (state_of held.now) k) }
     ensures added { OnOk result (AreAdded (under_of maps.now) (state_of held.now) place 1 presses met.old.entries
         met.new.entries) }
 {
-    for code in 0..KEY_COUNT as u8 {
-        meet(met, place, held.pressed(maps, key_with(code)), presses)?;
+    for key in keys {
+        meet(met, place, held.pressed(maps, *key), presses)?;
     }
     Ok(())
 }
@@ -187,7 +190,14 @@ fn close(
 }
 
 /// Adds where presses lead from the states of a level, which as many presses lead to. Stops once too many were met.
-fn press(met: &mut Met, maps: &Keymaps, level: usize, presses: usize) -> Result<(), AllocError>
+fn press(
+    met: &mut Met,
+    maps: &Keymaps,
+    keys: &[KeyCode],
+    level: usize,
+    presses: usize,
+) -> Result<(), AllocError>
+    requires keys { HasMovingKeys (under_of maps.now) keys.now key_count }
     requires small { presses < state_limit }
     requires searched { Searched (under_of maps.now) met.old.entries level (length met.old.entries) }
     requires order { AreInOrder met.old.entries level presses }
@@ -204,7 +214,7 @@ fn press(met: &mut Met, maps: &Keymaps, level: usize, presses: usize) -> Result<
             return Ok(());
         }
         let (held, _) = entry(met, place);
-        meet_presses(met, maps, place, &held, presses + 1)?;
+        meet_presses(met, maps, keys, place, &held, presses + 1)?;
     }
     Ok(())
 }
@@ -231,10 +241,16 @@ fn script(alloc: Global, met: &Met, stuck: Stuck) -> Result<Vec<Event>, AllocErr
 
 /// Meets the states level by level. A search that stops does so at the first state where a key that holds a modifier
 /// looks up a character; one that doesn't goes on behind such states.
-pub fn meet_all(met: &mut Met, maps: &Keymaps, stops: bool) -> Result<End, AllocError>
+pub fn meet_all(
+    alloc: Global,
+    met: &mut Met,
+    maps: &Keymaps,
+    stops: bool,
+) -> Result<End, AllocError>
     requires { met.old.entries ≡ [] }
     ensures { IfOk result (λ end. HasEnded (under_of maps.now) stops met.new.entries end) }
 {
+    let keys = moving_keys(alloc, maps)?;
     met.insert(
         Held::start(),
         Origin {
@@ -252,7 +268,7 @@ pub fn meet_all(met: &mut Met, maps: &Keymaps, stops: bool) -> Result<End, Alloc
             return Ok(End::TooMany(presses));
         }
         let end = met.len();
-        press(met, maps, level, presses)?;
+        press(met, maps, keys.as_slice(), level, presses)?;
         if met.len() > BOUND {
             return Ok(End::TooMany(presses + 1));
         }
@@ -267,7 +283,7 @@ fn decide(alloc: Global, maps: &Keymaps) -> Result<Sticking, AllocError>
     ensures { IfOk result (λ answer. IsAnswerUnder (under_of maps.now) answer) }
 {
     let mut met = IndexMap::new(alloc);
-    match meet_all(&mut met, maps, true)? {
+    match meet_all(alloc, &mut met, maps, true)? {
         End::AtStuck(stuck) => Ok(Sticking::Sticks(script(alloc, &met, stuck)?)),
         End::Complete => Ok(Sticking::Never),
         End::TooMany(presses) => Ok(Sticking::Undecided(presses)),

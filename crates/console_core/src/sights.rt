@@ -168,7 +168,7 @@ pub fn sights_of(alloc: Global, map: &KeyMap) -> Result<Option<Sights>, AllocErr
         has_loads: false,
     };
     let mut met = IndexMap::new(alloc);
-    match meet_all(&mut met, &maps, false)? {
+    match meet_all(alloc, &mut met, &maps, false)? {
         End::Complete => Ok(Some(noted(alloc, &met, &maps)?)),
         End::TooMany(_) => Ok(None),
         End::AtStuck(_) => unreachable!(),

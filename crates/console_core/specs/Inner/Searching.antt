@@ -1,12 +1,13 @@
 -- What the search keeps: the states that it has met, in their order, each with how it was come to, and which of them
 -- are done. Mirrors `Held` and `Keymaps` of src/held.rt and the functions of src/search.rt.
-use Rattle.std.specs.Prelude.{◌≡◌, ◌≢◌, ℕ, ◌+◌, ◌<◌, ◌≤◌, Bool, false, true, length, List, [], ◌∷◌, ◌++◌, All, None}
-use Rattle.std.specs.Prelude.{Some, slice_get}
-use Rattle.std.specs.Prelude.{slice_index_or, reverse}
+use Rattle.std.specs.Prelude.{◌≡◌, ◌≢◌, ℕ, ◌+◌, ◌<◌, ◌≤◌, Bool, false, true, length, List, [], ◌∷◌, ◌++◌, All, None, Some, slice_get}
+use Rattle.std.specs.Prelude.{slice_index_or, reverse, ◌⊎◌}
+use Rattle.std.specs.List.{Contains}
 use Rattle.keymap_core.specs.declared.action.Modifier.{Modifier}
 use Rattle.keymap_core.specs.declared.action.Lock.{Lock}
 use Rattle.keymap_core.specs.declared.action.Lock.TheVariants.{Scroll}
 use Rattle.keymap_core.specs.declared.action.Action.TheVariants as act
+use Rattle.keymap_core.specs.declared.entry.Cell.{Cell}
 use Rattle.keymap_core.specs.declared.entry.Cell.TheVariants.{Act}
 use Rattle.keymap_core.specs.Actions.{modifier_index, lock_index}
 use Rattle.keymap_core.specs.Numbers.{key_count}
@@ -77,6 +78,14 @@ ArePressesMet u es p s k =
     IsIdle s k
     → ((i : Modifier) → look_in u s k ≡ Act (act.Mod i) → s.holder i ≡ None → IsMetBy es p (with_holder s i (Some k)))
     × ((l : Lock) → l ≢ Scroll → look_in u s k ≡ Act (act.Lock l) → IsMetBy es p (with_lock_turned s l))
+
+-- A press that looks up the cell is no move: it is no modifier, and no lock but the scroll lock.
+abbrev pub IsUnmoving : Cell → Type 0
+IsUnmoving x = ((i : Modifier) → x ≡ Act (act.Mod i) → ⊥) × ((l : Lock) → l ≢ Scroll → x ≡ Act (act.Lock l) → ⊥)
+
+-- each key below the number whose press is a move in some state is among these
+abbrev pub HasMovingKeys : Under → List ℕ → ℕ → Type 0
+HasMovingKeys u keys n = (k : ℕ) → k < n → Contains keys k ⊎ ((s : State) → IsUnmoving (look_in u s k))
 
 -- more were met
 abbrev pub Grows : Entries → Entries → Type 0

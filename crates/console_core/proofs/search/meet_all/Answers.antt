@@ -1,7 +1,7 @@
 use Rattle.std.proofs.Common.{◌≡◌, ◌≤◌, ◌+◌, [], ◌∷◌, refl, ◌<◌, length, None, IfSome, true, subst, sym, arith}
 use Rattle.std.proofs.lemmas.Bool.{eq-eqb}
 use Rattle.console_core.specs.declared.search.Origin.{Origin}
-use Rattle.console_core.specs.Inner.Searching.{under_of, Searched, AreSafe, AreInOrder, IsStuck}
+use Rattle.console_core.specs.Inner.Searching.{under_of, Searched, AreSafe, AreInOrder, IsStuck, HasMovingKeys}
 use Rattle.console_core.proofs.Growing.{added-longer}
 use Rattle.console_core.proofs.Searching.{start-entries, searched-start, order-within, safe-grows, searched-fewer}
 use Rattle.console_core.proofs.Concluding.{level-late, closed-late}
@@ -24,6 +24,11 @@ loop-level-init c =
       levels = omega arith;
       small = subst (λ z. length z ≤ 65536) (sym e) (omega arith);
     }
+
+pub press-requires-clause-keys : goal.press-requires-clause-keys
+press-requires-clause-keys c =
+    subst (λ keys. HasMovingKeys (under_of c.args.maps.now) keys 128) (sym c.as_slice.ensures.value)
+    c.in_ok-keys.ensures
 
 pub returns : goal.returns
 returns c =

@@ -1,25 +1,31 @@
 #!/usr/bin/env python3
-"""The characters that a terminal doesn't show as they are, by Unicode's properties, as keymap_core has them.
+"""The characters that aren't shown or drawn as they are, by Unicode's properties, as keymap_core and keymap_draw have
+them.
 
 usage: unseen.py [--check]
 
 Prints the ranges of each property from Python's `unicodedata`. With --check it compares them with those of
-crates/keymap_core/specs/Unseen.antt and src/unseen.rt, tells each difference, and ends with status 1 where there is
-one.
+crates/keymap_core/specs/Unseen.antt and src/unseen.rt (what a terminal doesn't show) and of
+crates/keymap_draw/specs/Characters.antt and src/characters.rt (what has a number for a legend, and which marks have a
+circle), tells each difference, and ends with status 1 where there is one.
 
 Python has the categories and classes, but neither Bidi_Control nor Default_Ignorable_Code_Point. The first is the
 embeddings, overrides and isolates with their ends, which are the classes of that name, and three marks. The second is
-derived as DerivedCoreProperties.txt says: the formatting characters (Cf) and the variation selectors with what PropList.txt
-calls Other_Default_Ignorable_Code_Point, without interlinear annotation, the controls of Egyptian hieroglyphs and the
+derived as DerivedCoreProperties.txt says: the formatting characters (Cf) and the variation selectors with what
+PropList.txt calls Other_Default_Ignorable_Code_Point, without interlinear annotation, the controls of Egyptian hieroglyphs and the
 marks that are set in front of numbers. The last three and the other ignorable ones are kept by Unicode's stability
-policy but for additions; a version of Python with new ones shows as a difference."""
+policy but for additions; a version of Python with new ones shows as a difference.
+
+A mark is one that stands on its letter (Mn) or around it (Me); one that stands beside it (Mc) is seen alone. Those of
+the blocks below are compared, since the other scripts get their circle from whoever sets the text. What isn't assigned
+in Python's version of Unicode may be a mark there: later versions have more of them in these blocks."""
 
 import os
 import re
 import sys
 import unicodedata
 
-CRATE = os.path.join(os.path.dirname(os.path.abspath(__file__)), "..", "crates", "keymap_core")
+CRATES = os.path.join(os.path.dirname(os.path.abspath(__file__)), "..", "crates")
 
 DIRECTION_CLASSES = {"LRE", "RLE", "LRO", "RLO", "PDF", "LRI", "RLI", "FSI", "PDI"}
 DIRECTION_MARKS = {0x61C, 0x200E, 0x200F}
@@ -32,14 +38,38 @@ ANNOTATION = [(0xFFF9, 0xFFFB)]
 EGYPTIAN = [(0x13430, 0x13440)]
 PREPENDED = [(0x600, 0x605), (0x6DD, 0x6DD), (0x70F, 0x70F), (0x890, 0x891), (0x8E2, 0x8E2), (0x110BD, 0x110BD),
              (0x110CD, 0x110CD)]
+UNASSIGNED = [(0x40000, 0xDFFFF), (0xE1000, 0xEFFFF)]
+EMPTY_BRAILLE = 0x2800
+
+# The blocks of which the marks are compared, by the definition that has them.
+MARK_BLOCKS = {
+    "is_diacritical_mark": [(0x300, 0x36F), (0x1AB0, 0x1AFF), (0x1DC0, 0x1DFF), (0xFE20, 0xFE2F)],
+    "is_cyrillic_mark": [(0x400, 0x52F), (0x1C80, 0x1C8F), (0x2DE0, 0x2DFF), (0xA640, 0xA69F)],
+    "is_hebrew_mark": [(0x590, 0x5FF), (0xFB1D, 0xFB4F)],
+    "is_arabic_mark": [(0x600, 0x6FF), (0x750, 0x77F), (0x870, 0x8FF)],
+    "is_syriac_mark": [(0x700, 0x74F), (0x860, 0x86F)],
+    "is_thaana_mark": [(0x780, 0x7BF)],
+    "is_nko_mark": [(0x7C0, 0x7FF)],
+    "is_thai_mark": [(0xE00, 0xE7F)],
+    "is_lao_mark": [(0xE80, 0xEFF)],
+    "is_symbol_mark": [(0x20D0, 0x20FF)],
+    "is_kana_mark": [(0x3000, 0x309F)],
+}
 
 # The definitions that make up each property.
-PARTS = {
+UNSEEN_PARTS = {
     "Cc": ["is_control"],
     "Zl and Zp": ["ends_line"],
     "Bidi_Control": ["turns_direction"],
     "Default_Ignorable_Code_Point": ["is_ignorable_letter", "is_ignorable_sign", "is_ignorable_above"],
     "interlinear annotation": ["annotates"],
+}
+DRAWN_PARTS = {
+    "Zs and the empty pattern of Braille": ["is_space"],
+    "Co": ["is_private"],
+    "noncharacters": ["is_noncharacter"],
+    "Cn": ["is_unassigned"],
+    **{f"Mn and Me of {name}": [name] for name in MARK_BLOCKS},
 }
 
 
@@ -62,52 +92,60 @@ def shown(found):
     return " ".join(f"{a:04X}" if a == b else f"{a:04X}..{b:04X}" for a, b in ranges_of(found))
 
 
-def properties():
-    """The characters of each property."""
-    of_category = {}
-    direction = set(DIRECTION_MARKS)
-    for n in range(0x110000):
-        of_category.setdefault(unicodedata.category(chr(n)), set()).add(n)
-        if unicodedata.bidirectional(chr(n)) in DIRECTION_CLASSES:
-            direction.add(n)
+def unseen_properties(of_category, direction):
+    """The characters of each property of what a terminal doesn't show."""
     ignorable = of_category["Cf"] | numbers(VARIATION_SELECTORS) | numbers(OTHER_IGNORABLE)
     ignorable -= numbers(ANNOTATION) | numbers(EGYPTIAN) | numbers(PREPENDED)
     return {
         "Cc": of_category["Cc"],
         "Zl and Zp": of_category["Zl"] | of_category["Zp"],
-        "Bidi_Control": direction,
+        "Bidi_Control": direction | DIRECTION_MARKS,
         "Default_Ignorable_Code_Point": ignorable,
         "interlinear annotation": numbers(ANNOTATION),
     }
 
 
+def drawn_properties(of_category):
+    """The characters of each property of what isn't drawn as it is."""
+    marks = of_category["Mn"] | of_category["Me"]
+    return {
+        "Zs and the empty pattern of Braille": of_category["Zs"] | {EMPTY_BRAILLE},
+        "Co": of_category["Co"],
+        "noncharacters": {n for n in range(0x110000) if 0xFDD0 <= n <= 0xFDEF or n & 0xFFFE == 0xFFFE},
+        "Cn": of_category["Cn"] & numbers(UNASSIGNED),
+        **{f"Mn and Me of {name}": marks & numbers(blocks) for name, blocks in MARK_BLOCKS.items()},
+    }
+
+
 NUMBER = r"(0x[0-9a-f_]+|\d+)"
 TERMS = [
-    (re.compile(rf"within {NUMBER} {NUMBER} c"), lambda a, b: (a, b)),
-    (re.compile(rf"\(?{NUMBER} <= c && c <= {NUMBER}\)?"), lambda a, b: (a, b)),
-    (re.compile(rf"c == {NUMBER}"), lambda a: (a, a)),
-    (re.compile(rf"(?:nat_lt c|c <) {NUMBER}"), lambda a: (0, a - 1)),
+    (re.compile(rf"within {NUMBER} {NUMBER} c"), lambda a, b: numbers([(a, b)])),
+    (re.compile(rf"\(?{NUMBER} <= c && c <= {NUMBER}\)?"), lambda a, b: numbers([(a, b)])),
+    (re.compile(rf"nat_le {NUMBER} \(c % {NUMBER}\)"), lambda a, b: {n for n in range(0x110000) if a <= n % b}),
+    (re.compile(rf"{NUMBER} <= c % {NUMBER}"), lambda a, b: {n for n in range(0x110000) if a <= n % b}),
+    (re.compile(rf"c == {NUMBER}"), lambda a: {a}),
+    (re.compile(rf"(?:nat_lt c|c <) {NUMBER}"), lambda a: numbers([(0, a - 1)])),
 ]
 
 
 def body_numbers(name, body):
     """The numbers that a body names, which has nothing but ranges and numbers joined by `||`."""
     found = set()
-    for term, bounds in TERMS:
+    for term, members in TERMS:
         for match in term.finditer(body):
-            found |= numbers([bounds(*(int(group.replace("_", ""), 0) for group in match.groups()))])
+            found |= members(*(int(group.replace("_", ""), 0) for group in match.groups()))
         body = term.sub("", body)
     if body.replace("||", "").strip():
         sys.exit(f"unseen.py: {name} has more than ranges: {body.strip()}")
     return found
 
 
-def defined(path, pattern):
-    """The numbers of each part, by its name, in a file."""
-    with open(os.path.join(CRATE, path), encoding="utf-8") as file:
+def defined(path, pattern, names):
+    """The numbers of each of these definitions, by its name, in a file."""
+    with open(os.path.join(CRATES, path), encoding="utf-8") as file:
         text = file.read()
     found = {}
-    for name in [part for parts in PARTS.values() for part in parts]:
+    for name in names:
         match = re.search(pattern % name, text, re.S)
         if not match:
             sys.exit(f"unseen.py: {path} has no {name}")
@@ -115,32 +153,52 @@ def defined(path, pattern):
     return found
 
 
-FILES = [("specs/Unseen.antt", r"\n%s c =(.*?)(?:\n\n|\Z)"), ("src/unseen.rt", r"fn %s\(c: u32\).*?\n\{(.*?)\n\}")]
+SPEC = r"\n%s c =(.*?)(?:\n\n|\Z)"
+CODE = r"fn %s\(c: u32\).*?\n\{(.*?)\n\}"
+FILES = [
+    ("keymap_core/specs/Unseen.antt", SPEC, UNSEEN_PARTS),
+    ("keymap_core/src/unseen.rt", CODE, UNSEEN_PARTS),
+    ("keymap_draw/specs/Characters.antt", SPEC, DRAWN_PARTS),
+    ("keymap_draw/src/characters.rt", CODE, DRAWN_PARTS),
+]
 
 
-def differences(wanted):
-    for path, pattern in FILES:
-        parts = defined(path, pattern)
-        for name, members in wanted.items():
-            has = set().union(*(parts[part] for part in PARTS[name]))
-            if has - members:
-                yield f"{path}: not {name}: {shown(has - members)}"
-            if members - has:
-                yield f"{path}: missing of {name}: {shown(members - has)}"
+def more(name, unassigned):
+    """What a definition may have beside the characters of its property."""
+    return unassigned & numbers(MARK_BLOCKS[name]) if name in MARK_BLOCKS else set()
+
+
+def differences(wanted, unassigned):
+    for path, pattern, parts in FILES:
+        has_each = defined(path, pattern, [name for names in parts.values() for name in names])
+        for kind, names in parts.items():
+            has = set().union(*(has_each[name] for name in names))
+            wrong = has - wanted[kind] - more(names[0], unassigned)
+            if wrong:
+                yield f"{path}: not {kind}: {shown(wrong)}"
+            if wanted[kind] - has:
+                yield f"{path}: missing of {kind}: {shown(wanted[kind] - has)}"
 
 
 def main():
     if sys.argv[1:] not in ([], ["--check"]):
         sys.exit("usage: unseen.py [--check]")
-    wanted = properties()
+    of_category = {}
+    direction = set()
+    for n in range(0x110000):
+        of_category.setdefault(unicodedata.category(chr(n)), set()).add(n)
+        if unicodedata.bidirectional(chr(n)) in DIRECTION_CLASSES:
+            direction.add(n)
+    wanted = {**unseen_properties(of_category, direction), **drawn_properties(of_category)}
     if not sys.argv[1:]:
         for name, members in wanted.items():
             print(f"{name}: {shown(members)}")
         return
-    found = list(differences(wanted))
+    found = list(differences(wanted, of_category["Cn"]))
     for line in found:
         print(line)
-    print(f"unseen.py: {len(FILES) * len(wanted)} properties compared, {len(found)} differences")
+    compared = sum(len(parts) for _, _, parts in FILES)
+    print(f"unseen.py: {compared} properties compared, {len(found)} differences")
     sys.exit(1 if found else 0)
 
 

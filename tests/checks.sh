@@ -124,6 +124,8 @@ broken docs/PROOFS.md 's,`tests/draw.sh`,`tests/paint.sh`,' \
 broken docs/FORMATS.md 's/no key is defined/no key is there/;s/defines no key/has no key/' \
     'bad NO_KEY' sh copy/tests/words.sh
 broken crates/keymap_core/src/unseen.rt 's/c == 0x3164/c == 0x3165/' '' python3 -B copy/bench/unseen.py --check
+broken crates/keymap_draw/src/characters.rt 's/ || c == 0x7fd//' '' python3 -B copy/bench/unseen.py --check
+broken crates/keymap_draw/specs/Characters.antt 's/0xfffe (c/0xffff (c/' '' python3 -B copy/bench/unseen.py --check
 
 # An exported function without an edit of its body, and an edit that can't be applied.
 holds 'each exported function has an edit' python3 copy/tests/edits --covered > said

@@ -186,11 +186,11 @@ key_in d slot x y s is low = key_of_entry_in d slot x y s (entry_at d.map slot) 
 
 -- ---- halves
 
-slot_low : (half : Half) (k : ℕ) → k < 128 → slot_of half k < 256
+pub slot_low : (half : Half) (k : ℕ) → k < 128 → slot_of half k < 256
 slot_low Lower k h = omega arith
 slot_low Upper k h = omega arith
 
-abbrev IsRow : Option Row → Type 0
+abbrev pub IsRow : Option Row → Type 0
 IsRow None = Unit {0}
 IsRow (Some r) = r.0 < 128
 
@@ -202,15 +202,15 @@ row_by false false true d r h o p q ho hp hq = hp
 row_by false false false true r h o p q ho hp hq = hq
 row_by false false false false r h o p q ho hp hq = h
 
-row_low : (board : Board) (r : Row) → r.0 < 128 → IsRow (row_on board r)
+pub row_low : (board : Board) (r : Row) → r.0 < 128 → IsRow (row_on board r)
 row_low Iso r h = h
 row_low Ansi r h =
     row_by (r.0 == 86) (r.0 == 43) (r.0 == 28) (r.0 == 42) r h _ _ _ (omega arith) (omega arith) (omega arith)
 
-abbrev is_low : Row → Bool
+abbrev pub is_low : Row → Bool
 is_low r = nat_lt r.0 128
 
-rows_low : (rows : List Row) → list_all is_low rows ≡ true → All (λ (r : Row). r.0 < 128) rows
+pub rows_low : (rows : List Row) → list_all is_low rows ≡ true → All (λ (r : Row). r.0 < 128) rows
 rows_low [] h = All-nil (λ (r : Row). r.0 < 128)
 rows_low (r ∷ rows) h =
     All-cons (λ (r : Row). r.0 < 128) r rows (ltb-true r.0 128 (first_true (is_low r) (list_all is_low rows) h))
@@ -238,7 +238,7 @@ others_in d half y keys is h =
     either (length keys == 0) nothing (one_line words.OTHER_KEYS.now _ refl refl
     ⊳ all_numbered (λ k. k < 128) (other_key d half y) (λ i k low. other_key_in d half y i k is low) 0 keys h)
 
-other_keys_low : (d : Drawing) (half : Half) → All (λ k. k < 128) (other_keys d half)
+pub other_keys_low : (d : Drawing) (half : Half) → All (λ k. k < 128) (other_keys d half)
 unfolding other_keys
 other_keys_low d half = passing-below (is_other d half) 128 128 (omega arith)
 
@@ -343,7 +343,7 @@ listed_accent_in : (m : MapValue) (y i accent : ℕ) → IsMap m → accent < 15
 unfolding listed_accent
 listed_accent_in m y i accent is low = some_accent_in accent accent m.accents _ low is.accents
 
-named_low : (m : MapValue) → All (λ i. i < 15) (named_accents m)
+pub named_low : (m : MapValue) → All (λ i. i < 15) (named_accents m)
 unfolding named_accents
 named_low m = passing-below (has_character m) 15 15 (omega arith)
 

@@ -10,3 +10,6 @@ mod Squeezed
 mod Texts
 mod Boards
 mod Letters
+mod Titles
+mod Told
+mod Agreeing

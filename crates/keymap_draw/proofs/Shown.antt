@@ -129,14 +129,14 @@ upper_scan : (begun ids : List (List ℕ)) (c : ℕ) → c < 0x110000
     → scan (Some (at (Number 0) begun ids)) (upper_digits c) ≡ Some (at (Number (c / 0x10000)) begun ids)
 upper_scan begun ids c low = upper_by begun ids c (nat_lt c 0x10000) (nat_lt c 0x100000) low refl refl
 
-digits_scan : (begun ids : List (List ℕ)) (c : ℕ) → c < 0x110000
+pub digits_scan : (begun ids : List (List ℕ)) (c : ℕ) → c < 0x110000
     → scan (Some (at (Number 0) begun ids)) (code_digits c) ≡ Some (at (Number c) begun ids)
 unfolding code_digits
 digits_scan begun ids c low = past _ _ (upper_digits c) _ _ (upper_scan begun ids c low) (four_digits begun ids c)
 
 -- ---- characters of a text
 
-below_all : (c : ℕ) → is_shown c ≡ true → c < 0x110000
+pub below_all : (c : ℕ) → is_shown c ≡ true → c < 0x110000
 below_all c h = grind (arith, nat_tests)
 
 textual : (c : ℕ) → is_shown c ≡ true → is_referred c ≡ false → is_textual c ≡ true

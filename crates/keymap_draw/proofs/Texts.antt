@@ -27,10 +27,10 @@ use Rattle.keymap_text.specs.Printed.{control_name, character_text, cell_text, h
 use Rattle.keymap_text.specs.Printed.{pair_text, accent_words, flag_letter, word}
 use Rattle.keymap_text.specs.Words.{control_names}
 use Rattle.keymap_draw.specs.declared.tables.UnseenName.{UnseenName}
-use Rattle.keymap_draw.specs.declared.tables.TheConstants.{UNSEEN_NAMES, CODED, ACCENT_MARKS}
+use Rattle.keymap_draw.specs.declared.tables.TheConstants.{UNSEEN_NAMES, ACCENT_MARKS}
 use Rattle.keymap_core.specs.Unseen.{is_unseen, is_control, is_unseen_above}
-use Rattle.keymap_draw.specs.Legends.{is_in, name_in, unfilled, marked, is_coded, is_mark, unseen_name, shown_legend}
-use Rattle.keymap_draw.specs.Legends.{named_or}
+use Rattle.keymap_draw.specs.Characters.{is_numbered, is_mark}
+use Rattle.keymap_draw.specs.Legends.{name_in, unfilled, marked, is_coded, unseen_name, shown_legend, named_or}
 use Rattle.keymap_draw.specs.Legends.{other_legend, character_legend, accent_mark, action_legend, cell_legend}
 use Rattle.keymap_draw.specs.WellFormed.{is_shown}
 use Rattle.keymap_draw.proofs.Scans.{both_true, first_true, second_true, decimal_all, digit_passes}
@@ -173,11 +173,11 @@ named_shown (row ∷ rows) c legend h k =
     (named_shown rows c legend (second_true (is_seen_row row) (list_all is_seen_row rows) h) k)
 
 coded_fffe : is_coded 0xfffe ≡ true
-unfolding is_coded
+unfolding is_coded is_numbered
 coded_fffe = refl
 
 coded_ffff : is_coded 0xffff ≡ true
-unfolding is_coded
+unfolding is_coded is_numbered
 coded_ffff = refl
 
 not_coded : (c d : ℕ) → is_coded d ≡ true → is_coded c ≡ false → c ≢ d
@@ -195,7 +195,7 @@ upper_control c e = grind (arith, nat_tests)
 
 not_unseen : (c : ℕ) → is_coded c ≡ false → is_unseen c ≡ false
 unfolding is_coded
-not_unseen c e = first_false (is_unseen c) (is_in CODED c) e
+not_unseen c e = first_false (is_unseen c) (is_numbered c) e
 
 not_upper_control : (c : ℕ) → is_coded c ≡ false → within 0x80 0x9f c ≡ false
 not_upper_control c e =

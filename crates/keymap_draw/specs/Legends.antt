@@ -2,22 +2,18 @@
 -- word of two or more letters and digits.
 use Rattle.std.specs.Prelude.{ℕ, ◌==◌, nat_lt, nat_le, Bool, ◌||◌, ◌&&◌, not, List, [], ◌∷◌, ◌++◌, codes, decimal}
 use Rattle.std.specs.Prelude.{length, slice_index, option_map, Option, Some, None, if◌then◌else◌}
-use Rattle.std.specs.List.{list_any, filter, find}
+use Rattle.std.specs.List.{filter, find}
 use Rattle.keymap_core.specs.declared.action.Action.{Action}
 use Rattle.keymap_core.specs.declared.action.Action.TheVariants as a
 use Rattle.keymap_core.specs.declared.entry.Cell.{Cell}
 use Rattle.keymap_core.specs.declared.entry.Cell.TheVariants.{Char, Act}
-use Rattle.keymap_core.specs.Actions.{within, name_of}
+use Rattle.keymap_core.specs.Actions.{name_of}
 use Rattle.keymap_core.specs.CodePoints.{code_text}
 use Rattle.keymap_core.specs.Unseen.{is_unseen}
 use Rattle.keymap_text.specs.Printed.{control_name}
-use Rattle.keymap_draw.specs.declared.tables.Range.{Range}
 use Rattle.keymap_draw.specs.declared.tables.UnseenName.{UnseenName}
-use Rattle.keymap_draw.specs.declared.tables.TheConstants.{UNSEEN_NAMES, CODED, MARKS, ACCENT_MARKS}
-
--- one of the ranges has the number
-abbrev pub is_in : List Range → ℕ → Bool
-is_in ranges c = list_any (λ range. within range.0 range.1 c) ranges
+use Rattle.keymap_draw.specs.declared.tables.TheConstants.{UNSEEN_NAMES, ACCENT_MARKS}
+use Rattle.keymap_draw.specs.Characters.{is_numbered, is_mark}
 
 -- the name in the first row for the character, filled with blanks
 abbrev pub name_in : List UnseenName → ℕ → Option (List ℕ)
@@ -31,12 +27,9 @@ unfilled name = filter (λ letter. not (letter == 32)) name
 abbrev pub marked : ℕ → List ℕ
 marked mark = 0x25cc ∷ mark ∷ []
 
--- what a terminal doesn't show, and the blanks, private characters and ones that are none
+-- what a terminal doesn't show, the blanks, the private characters, and what is no character
 unfoldable pub is_coded : ℕ → Bool
-is_coded c = is_unseen c || is_in CODED c
-
-unfoldable pub is_mark : ℕ → Bool
-is_mark c = is_in MARKS c
+is_coded c = is_unseen c || is_numbered c
 
 unfoldable pub unseen_name : ℕ → Option (List ℕ)
 unseen_name c = name_in UNSEEN_NAMES c

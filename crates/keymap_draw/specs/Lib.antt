@@ -1,5 +1,6 @@
 pub mod Below
 pub mod Boards
+pub mod Characters
 pub mod Drawings
 pub mod Drawn
 pub mod Halves
@@ -10,6 +11,7 @@ pub mod Markup
 pub mod Pictures
 pub mod Places
 pub mod Titles
+pub mod Told
 pub mod WellFormed
 pub mod Keyboards
 pub mod Letters

@@ -18,6 +18,7 @@ ghost use Rattle.keymap_draw.specs.Legends.{cell_legend};
 ghost use Rattle.keymap_draw.specs.Pictures.{picture_with};
 ghost use Rattle.keymap_draw.specs.Places.{size_class, legend_classes, IsClass};
 ghost use Rattle.keymap_draw.specs.Titles.{squeezed};
+ghost use Rattle.keymap_draw.specs.Told.{TitlesTell, PicturesTellDefinitions, PicturesTellKeymaps};
 ghost use Rattle.keymap_draw.specs.WellFormed.{IsPlain, IsShown, IsSeen, IsWellFormed};
 
 /// A cap has the class of the red ones exactly if one of the findings is of its key.
@@ -67,6 +68,15 @@ pub fn titles_are_printed_lines()
     ensures key { (slot : ℕ) (e : EntryValue) → All IsCell e.cells
         → squeezed (key_line slot e) ≡ slot_words slot e ++ codes "\n" }
     ensures accent { (i : ℕ) (accent : AccentValue) → accent_line i accent ≡ accent_words i accent ++ codes "\n" }
+{}
+
+/// A picture tells its keymap: the titles that stand in its bytes are those of the definitions that it tells, in their
+/// order. So two keymaps with one picture are the same in each slot that it shows, and in each accent that has a
+/// character. A slot of a half that is drawn is shown if its key is on the board or it isn't blank.
+pub fn pictures_tell_keymaps()
+    ensures titles { TitlesTell }
+    ensures definitions { PicturesTellDefinitions }
+    ensures keymap { PicturesTellKeymaps }
 {}
 
 /// A board is rows of keys, one behind the other: each key code stands on it once, no two caps overlap, and all lie on

@@ -3,7 +3,8 @@
 ghost use Rattle.std.specs.Prelude.{◌≡◌, ◌<◌, ◌≤◌, ◌+◌, ◌++◌, ◌∷◌, [], length, decimal};
 ghost use Rattle.keymap_draw.specs.Legends as spec;
 
-use crate::tables::{ACCENT_MARKS, CODED, MARKS, Range, UNSEEN_NAMES, UnseenName};
+use crate::characters::{is_mark, is_numbered};
+use crate::tables::{ACCENT_MARKS, UNSEEN_NAMES, UnseenName};
 use arrayvec::ArrayVec;
 use keymap_core::{Action, Cell, code_text, is_unseen};
 use keymap_text::control_name;
@@ -61,16 +62,6 @@ pub(crate) fn marked(mark: char) -> Legend
     legend
 }
 
-/// Whether one of the ranges has the character.
-fn is_in(ranges: &[Range], c: char) -> bool
-    ensures { result ≡ spec.is_in ranges.now c }
-{
-    let number = u32::from(c);
-    ranges
-        .iter()
-        .any(|range| range.0 <= number && number <= range.1)
-}
-
 /// The name that the rows have for the character, filled with blanks to five bytes.
 fn name_in(rows: &[UnseenName], c: char) -> Option<[u8; 5]>
     ensures { result ≡ spec.name_in rows.now c }
@@ -99,14 +90,7 @@ fn unfilled(name: &[u8; 5]) -> Legend
 fn is_coded(c: char) -> bool
     ensures { result ≡ spec.is_coded c }
 {
-    is_unseen(c) || is_in(&CODED, c)
-}
-
-#[tactic(auto, unfolding(crate::specs::Legends::is_mark))]
-fn is_mark(c: char) -> bool
-    ensures { result ≡ spec.is_mark c }
-{
-    is_in(&MARKS, c)
+    is_unseen(c) || is_numbered(c)
 }
 
 #[tactic(auto, unfolding(crate::specs::Legends::unseen_name))]

@@ -6,11 +6,13 @@
 //!
 //! It is proved that its bytes are those of the definition; and in [`laws`] that these bytes are plain ASCII and well
 //! formed in the sense of `WellFormed`, that legends have characters of XML alone that can be seen and classes are out
-//! of a list, that titles are lines of the printed form, that a cap is red exactly if one of the findings is of its
-//! key, and that the tables of keys, capitals and marks are those of `Keyboards` and `Letters`.
+//! of a list, that titles are lines of the printed form and tell the keymap (`Told`), that a cap is red exactly if one
+//! of the findings is of its key, and that the tables of keys, capitals and marks are those of `Keyboards` and
+//! `Letters`.
 #![tactic(auto)]
 
 mod board;
+mod characters;
 mod constants;
 mod drawing;
 mod drawn;

@@ -1,10 +1,4 @@
-//! Which characters aren't drawn as they are, and which small letters a capital stands for. The tables are lists of a
-//! few ranges, not Unicode's categories: what one leaves out is drawn as it is, which may look worse but is never wrong
-//! XML.
-
-/// The numbers from the first to the last, both among them.
-#[derive(Clone, Copy, Debug)]
-pub(crate) struct Range(pub(crate) u32, pub(crate) u32);
+//! Characters that have a name for a legend, which small letters a capital stands for, and the marks of the accents.
 
 /// A character that nobody sees, and its short name, filled with blanks to five bytes.
 #[derive(Clone, Copy, Debug)]
@@ -42,57 +36,6 @@ pub(crate) static UNSEEN_NAMES: [UnseenName; 20] = [
     UnseenName(0x2068, *b"fsi  "),
     UnseenName(0x2069, *b"pdi  "),
     UnseenName(0xfeff, *b"bom  "),
-];
-
-/// Beside what a terminal doesn't show: blanks, what is private or no character, and what no font has.
-pub(crate) static CODED: [Range; 13] = [
-    Range(0x1680, 0x1680),
-    Range(0x2000, 0x200a),
-    Range(0x202f, 0x202f),
-    Range(0x205f, 0x205f),
-    Range(0x2800, 0x2800),
-    Range(0x3000, 0x3000),
-    Range(0xe000, 0xf8ff),
-    Range(0xfdd0, 0xfdef),
-    Range(0xfffe, 0xffff),
-    Range(0x1_fffe, 0x1_ffff),
-    Range(0x2_fffe, 0x2_ffff),
-    Range(0x3_fffe, 0x3_ffff),
-    Range(0xe_1000, 0x10_ffff),
-];
-
-/// Marks that would stand alone. Those of complex scripts get their circle from whoever sets the text.
-pub(crate) static MARKS: [Range; 30] = [
-    Range(0x300, 0x36f),
-    Range(0x483, 0x489),
-    Range(0x591, 0x5bd),
-    Range(0x5bf, 0x5bf),
-    Range(0x5c1, 0x5c2),
-    Range(0x5c4, 0x5c5),
-    Range(0x5c7, 0x5c7),
-    Range(0x610, 0x61a),
-    Range(0x64b, 0x65f),
-    Range(0x670, 0x670),
-    Range(0x6d6, 0x6dc),
-    Range(0x6df, 0x6e4),
-    Range(0x6e7, 0x6e8),
-    Range(0x6ea, 0x6ed),
-    Range(0x711, 0x711),
-    Range(0x730, 0x74a),
-    Range(0x7a6, 0x7b0),
-    Range(0x7eb, 0x7f3),
-    Range(0xe31, 0xe31),
-    Range(0xe34, 0xe3a),
-    Range(0xe47, 0xe4e),
-    Range(0xeb1, 0xeb1),
-    Range(0xeb4, 0xebc),
-    Range(0xec8, 0xece),
-    Range(0x1ab0, 0x1aff),
-    Range(0x1dc0, 0x1dff),
-    Range(0x20d0, 0x20f0),
-    Range(0x302a, 0x302d),
-    Range(0x3099, 0x309a),
-    Range(0xfe20, 0xfe2f),
 ];
 
 /// Small letters with their capitals. Each capital belongs to one small letter. Turkish i and dotless i, sharp s, final

@@ -67,7 +67,7 @@ accent_is : (a b : AccentValue) → a.own ≡ b.own → a.pairs ≡ b.pairs → 
 accent_is a b h k = ap₂ (λ own pairs. record { own = own; pairs = pairs }) h k
 
 -- tokens define one thing
-defined_is : {ts us : List Item} {d e : Definition} → Defines ts d → Defines us e → ts ≡ us → d ≡ e
+pub defined_is : {ts us : List Item} {d e : Definition} → Defines ts d → Defines us e → ts ≡ us → d ≡ e
 defined_is (of_key {slot = s} {e = e} {ts = ts} l eight cells)
     (of_key {slot = t} {e = f} {ts = us} l' eight' cells') h =
     let slot : s ≡ t = number_is s t (same_head _ _ _ _ h) in

@@ -19,7 +19,7 @@ use Rattle.keymap_text.specs.Items.{character, cell, accent_index}
 use Rattle.keymap_text.specs.Rows.{KeyDefinition, AccentDefinition, AreCells, no_cells, one_cell, ArePairs, no_pairs}
 use Rattle.keymap_text.specs.Rows.{one_pair, Defines, of_key, of_accent}
 use Rattle.keymap_text.specs.Printed.{key_line, accent_line, slot_text, column, cell_text, flag_letter, pair_text}
-use Rattle.keymap_text.specs.Printed.{character_text, accent_name}
+use Rattle.keymap_text.specs.Printed.{character_text, accent_name, word, slot_words, accent_words}
 use Rattle.keymap_text.proofs.Leading.{leading_pass, leading_fail, leading_none}
 use Rattle.keymap_text.proofs.Numbers.{digits_good}
 use Rattle.keymap_text.proofs.Splitting.{split_blank}
@@ -148,6 +148,36 @@ lexes_letter flags.C = lexes_word (67 ∷ []) (omega arith) (omega arith) refl
 lexes_letter flags.N = lexes_word (78 ∷ []) (omega arith) (omega arith) refl
 lexes_letter flags.B = lexes_word (66 ∷ []) (omega arith) (omega arith) refl
 
+-- the words of cells are their tokens
+words_first : (cs : List Cell) (u y : List ℕ)
+    → leading is_word ((flat_map (λ c. word (cell_text c)) cs ++ 32 ∷ u) ++ y) ≡ 0
+words_first [] u y = leading_fail is_word 32 (u ++ y) refl
+words_first (c ∷ cs) u y = leading_fail is_word 32 _ refl
+
+more_words : (cs : List Cell) (y : List ℕ) → leading is_word y ≡ 0
+    → leading is_word (flat_map (λ c. word (cell_text c)) cs ++ y) ≡ 0
+more_words [] y h = h
+more_words (c ∷ cs) y h = leading_fail is_word 32 _ refl
+
+words : (cs : List Cell) → EachCell cs
+    → (ts : List Item) × Lexes NoWord (flat_map (λ c. word (cell_text c)) cs) ts × AreCells ts cs
+words [] h = ([], lexes_none NoWord, no_cells)
+words (c ∷ cs) (p, h) = let r =
+    words cs h in (p.token ∷ r.0, lexes_both (lexes_behind_blank p.lexes) r.1 (more_words cs), one_cell p.reads r.2)
+
+-- the words of a slot are its definition
+pub slot_printed : (slot : ℕ) (e : Entry) → slot < 256 → length e.cells ≡ 8 → EachCell e.cells
+    → (ts : List Item) × Lexes NoWord (slot_words slot e) ts × Defines ts (KeyDefinition slot e)
+unfolding slot_words
+slot_printed slot e h l p =
+    let r = words e.cells p in (
+      Value (Number slot) ∷ (r.0 ++ Value (Letter e.flag) ∷ []),
+      lexes_both (lexes_slot slot h)
+          (lexes_both r.1 (lexes_behind_blank (lexes_letter e.flag)) (λ y k. leading_fail is_word 32 _ refl))
+          (λ y k. words_first e.cells _ y),
+      of_key h l r.2,
+    )
+
 -- the line of an entry is its definition
 pub key_printed : (slot : ℕ) (e : Entry) → slot < 256 → length e.cells ≡ 8 → EachCell e.cells
     → (ts : List Item) × Lexes Any (key_line slot e) ts × Defines ts (KeyDefinition slot e)
@@ -213,5 +243,17 @@ accent_printed i a n o l p =
           (λ (is : List Item). Lexes Any (flat_map pair_text a.pairs ++ 10 ∷ []) is) (append-nil m.0)
           (lexes_both m.1 (lexes_blank Any 10 refl) (λ y k. leading_fail is_word 10 y refl)))
           (λ y k. pairs_end a.pairs y))) (λ y k. leading_fail is_word 32 _ refl),
+      of_accent n.action n.reads o.reads l m.2,
+    )
+
+-- the words of an accent are its definition
+pub accent_words_printed : (i : ℕ) (a : AccentValue) → PrintsName i → PrintsCharacter a.own → length a.pairs ≤ 52
+    → EachPair a.pairs → (ts : List Item) × Lexes NoWord (accent_words i a) ts × Defines ts (AccentDefinition i a)
+unfolding accent_words
+accent_words_printed i a n o l p =
+    let m = pairs_printed a.pairs p in (
+      Value (Act n.action) ∷ o.token ∷ m.0,
+      lexes_both n.lexes (lexes_behind_blank (lexes_both o.lexes m.1 (pairs_first a.pairs)))
+          (λ y k. leading_fail is_word 32 _ refl),
       of_accent n.action n.reads o.reads l m.2,
     )

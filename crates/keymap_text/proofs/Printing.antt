@@ -37,7 +37,7 @@ use Rattle.keymap_text.proofs.Characters.{prints_five, prints_six}
 use Rattle.keymap_text.proofs.PrintedNames.{action_word, action_meaning}
 
 -- each character prints
-prints_character : (c : ℕ) → scalar c ≡ true → PrintsCharacter c
+pub prints_character : (c : ℕ) → scalar c ≡ true → PrintsCharacter c
 prints_character c s = below 32 (λ h. prints_control c h)
     (λ h. below 127 (λ k. prints_quoted c (omega (arith, h)) k)
     (λ k. elim (eq-or-lt_of_le k) [
@@ -87,13 +87,13 @@ prints_cell (cells.Act a) h =
     }
 
 -- so is each cell
-prints_cells : (cs : List Cell) → All IsCell cs → EachCell cs
+pub prints_cells : (cs : List Cell) → All IsCell cs → EachCell cs
 prints_cells [] h = tt
 prints_cells (c ∷ cs) h =
     (prints_cell c (h 0 c (omega arith)), prints_cells cs (λ k d l. h (suc k) d (omega (arith, l))))
 
 -- so are the characters of pairs
-prints_pairs : (ps : List (ℕ × ℕ)) → All IsPair ps → EachPair ps
+pub prints_pairs : (ps : List (ℕ × ℕ)) → All IsPair ps → EachPair ps
 prints_pairs [] h = tt
 prints_pairs (p ∷ ps) h = let one =
     h 0 p (omega arith) in (
@@ -104,7 +104,7 @@ prints_pairs (p ∷ ps) h = let one =
     )
 
 -- so is the name of an accent
-prints_name : (i : ℕ) → i < 15 → PrintsName i
+pub prints_name : (i : ℕ) → i < 15 → PrintsName i
 prints_name i h =
     record {
       action = DeadKey i;

@@ -15,5 +15,6 @@ pub mod Progress
 pub mod Standing
 pub mod Sources
 pub mod Printed
+pub mod Definitions
 pub mod FaultNames
 pub mod Inner

@@ -23,6 +23,7 @@ ghost use Rattle.keymap_text.specs.declared.placed.Defined.TheVariants.{Slot, Ac
 ghost use Rattle.keymap_core.specs.Numbers.{column_count};
 ghost use Rattle.keymap_core.specs.Bounds.{IsMap};
 ghost use Rattle.keymap_text.specs.Printed.{printed};
+ghost use Rattle.keymap_text.specs.Definitions.{IsDefinition, definition_words};
 ghost use Rattle.keymap_text.specs.Places.{RowPlace, AtDefinition, may_end};
 ghost use Rattle.keymap_text.specs.Meaning.{is_settled, is_end_inside};
 ghost use Rattle.keymap_text.specs.declared.fault.TextFault.{TextFault as TextFaultValue};
@@ -135,4 +136,9 @@ pub fn printed_form_spells()
     ensures spells { (m : MapValue) → IsMap m → Spells (printed m) m }
     ensures read_again { (m n : MapValue) → IsMap m → Spells (printed m) n → n ≡ m }
     ensures no_fault { (m : MapValue) (f : TextFaultValue) → IsMap m → Fault (printed m) f → ⊥ }
+{}
+
+/// The words of a printed line tell its definition: no other one of any map has the same words.
+pub fn words_tell_definitions()
+    ensures { (d e : Definition) → IsDefinition d → IsDefinition e → definition_words d ≡ definition_words e → d ≡ e }
 {}

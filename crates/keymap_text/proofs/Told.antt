@@ -1,0 +1,37 @@
+-- The words of a definition tell it.
+use Rattle.std.proofs.Common.{◌≡◌, ℕ, List, [], ◌++◌, sym, ◌∙◌, ap, append-nil}
+use Rattle.keymap_text.specs.declared.words.Item.{Item}
+use Rattle.keymap_text.specs.Lexical.{tokens_after, is_word}
+use Rattle.keymap_text.specs.Definitions.{IsDefinition, definition_words}
+use Rattle.keymap_text.specs.Meaning.{list_of}
+use Rattle.keymap_text.specs.Rows.{Definition, KeyDefinition, AccentDefinition, Defines}
+use Rattle.keymap_text.proofs.Leading.{leading_none}
+use Rattle.keymap_text.proofs.Lexed.{Lexes, NoWord}
+use Rattle.keymap_text.proofs.OneRow.{defined_is}
+use Rattle.keymap_text.proofs.PrintedLines.{slot_printed, accent_words_printed}
+use Rattle.keymap_text.proofs.Printing.{prints_character, prints_cells, prints_pairs, prints_name}
+use Rattle.keymap_text.proofs.Splitting.{split_none}
+use Rattle.keymap_text.proofs.Verdicts.{items_of}
+
+-- the words are tokens, which define it
+are_tokens : (d : Definition) → IsDefinition d
+    → (ts : List Item) × Lexes NoWord (definition_words d) ts × Defines ts d
+are_tokens (KeyDefinition slot e) (low, is) = slot_printed slot e low is.eight (prints_cells e.cells is.cells)
+are_tokens (AccentDefinition i a) (low, is) =
+    accent_words_printed i a (prints_name i low) (prints_character a.own is.own) is.few (prints_pairs a.pairs is.pairs)
+
+no_items : (q : ℕ) → items_of (tokens_after 0 q []) ≡ []
+unfolding list_of
+no_items q = ap items_of (split_none q)
+
+-- the tokens of a text that is these and no more
+all_of : (w : List ℕ) (ts : List Item) → Lexes NoWord w ts → items_of (tokens_after 0 0 (w ++ [])) ≡ ts
+all_of w ts l =
+    l.items 0 [] (leading_none is_word) ∙ ap (λ (r : List Item). ts ++ r) (no_items _) ∙ append-nil ts
+
+pub words_tell : (d e : Definition) → IsDefinition d → IsDefinition e → definition_words d ≡ definition_words e → d ≡ e
+words_tell d e p q h =
+    let a = are_tokens d p in
+    let b = are_tokens e q in
+    defined_is a.2 b.2 (sym (all_of (definition_words d) a.0 a.1)
+    ∙ ap (λ w. items_of (tokens_after 0 0 (w ++ []))) h ∙ all_of (definition_words e) b.0 b.1)

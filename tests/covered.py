@@ -7,8 +7,6 @@ from proved import TOP, text_of
 USE = re.compile(r"^pub use [\w:]+::(\{[^}]*\}|\w+);", re.MULTILINE)
 MODULE = re.compile(r"^pub mod (\w+);", re.MULTILINE)
 FUNCTION = re.compile(r"( *)(pub(?:\([a-z]+\))? )?(?:const )?(?:unsafe )?(?:extern \"C\" )?fn \w+")
-# of what it does nothing is promised, so no edit of it can be refused for a false statement
-WITHOUT_PROMISES = ("keymap_tour",)
 IMPL = re.compile(r"(?:unsafe )?impl(?:<.*?>)? (?:(?:\w+::)*(\w+)(?:<.*>)? for )?&?(?:\w+::)*(\w+)")
 
 
@@ -53,8 +51,7 @@ def covered(crates, functions_of):
     """Tells each exported function with a body that no edit changes, and each edit that can't be applied, and returns 0
     where there is none. Functions of the module `laws` are theorems and do nothing, and what only tests call is no part
     of the product."""
-    left = ("test", *WITHOUT_PROMISES)
-    crates = [it for it in crates if "src/lib.rt" in it.texts and not it.name.startswith(left)]
+    crates = [it for it in crates if "src/lib.rt" in it.texts and not it.name.startswith("test")]
     count, missing = 0, [it for crate in crates for it in crate.failures]
     exports = {it.name: Exports(it.name) for it in crates}
     traits = {name for it in exports.values() for name in it.names}

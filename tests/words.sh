@@ -1,11 +1,12 @@
 #!/bin/sh
 # Checks that docs/FORMATS.md has each message word for word: of `kmap lint`, the constants of keymap_lint_text's
-# words.rt, in the section "Diagnostics"; of the report and of comments in scripts, those of kmap_runs' words.rt, in
-# "The report of check", "What the search found" and "The script that types a sentence". And that it has the line
-# of `kmap check` on a key, which stands in pictures too: the constant FINDING of keymap_draw's words.rt.
+# words.rt, in the section "Diagnostics"; of the report and of scripts, those of kmap_runs' words.rt, in "The report of
+# check", "What the search found", "The script that types a sentence" and "The script that tests a console". And that it
+# has the line of `kmap check` on a key, which stands in pictures too: the constant FINDING of keymap_draw's words.rt.
 #
 # A message has `{}` where something is told. The page has it in backquotes, with a letter, a word in capitals or `..`
-# at such a place, or another message, or nothing. Names of columns stand in one sentence.
+# at such a place, or another message, or nothing; or it has it at such a place alone. Names of columns stand in one
+# sentence.
 #
 # usage: words.sh
 # The last line is 'N passed, M failed'; the status is 0 where none failed.
@@ -39,7 +40,21 @@ def pattern(words, fillers):
 
 plain = [pattern(words, []) for words in messages.values() if words.strip("{}: []\\n")]
 plain += [re.escape(name) for name in names]
-found = {name: any(re.fullmatch(pattern(words, plain), span) for span in told) for name, words in messages.items()}
+
+
+# The message with one of its places filled by these words.
+def filled(message, words):
+    parts = message.split("{}")
+    halves = [("{}".join(parts[:at]), "{}".join(parts[at:])) for at in range(1, len(parts))]
+    return [pattern(before, plain) + re.escape(words) + pattern(behind, plain) for before, behind in halves]
+
+
+def is_told(words):
+    patterns = [pattern(words, plain)] + [it for message in messages.values() for it in filled(message, words)]
+    return any(re.fullmatch(it, span) for it in patterns for span in told)
+
+
+found = {name: is_told(words) for name, words in messages.items()}
 for name, _ in lists:
     found[name] = ", ".join(names[:-1]) + " and " + names[-1] in section
 for name, is_found in found.items():
@@ -73,7 +88,8 @@ lacks_line() {
 tells() {
     case $words in
         "$lint") set -- "$1" Diagnostics ;;
-        *) set -- "$1" 'The report of check' 'What the search found' 'The script that types a sentence' ;;
+        *) set -- "$1" 'The report of check' 'What the search found' 'The script that types a sentence' \
+            'The script that tests a console' ;;
     esac
     file=$1
     shift
@@ -96,13 +112,17 @@ misses() {
 
 if is_there python3; then
     holds 'the page has each message of lint' has_all "$lint"
-    holds 'the page has each line of the report and each comment' has_all "$runs"
+    holds 'the page has each line of the report and of scripts' has_all "$runs"
     holds 'another word is seen' misses "$lint" NO_KEY 'defines no key' 'has no key'
     holds 'a place more is seen' misses "$lint" BAD_LITERAL 'no quoted character stands here' \
         'no quoted {} character stands here'
     holds 'another end is seen' misses "$lint" NOT_JOINED 'are not joined' 'are not joined.'
     holds 'another name of a column is seen' misses "$lint" COLUMN_NAMES 'b"alt ctrl"' 'b"ctrl alt"'
     holds 'another word of a comment is seen' misses "$runs" UNDECIDED 'no list of up to' 'no list up to'
+    holds 'another word at a place is seen' misses "$runs" LOCK_SETTINGS '"lock settings"' '"settings"'
+    holds 'another word of a list is seen' misses "$runs" BOTH_LOCKS 'clock+nlock' 'clock nlock'
+    holds 'another word of a run of slots is seen' misses "$runs" SLOTS 'slots {} to {}' 'slots {} - {}'
+    holds 'another name of a part is seen' misses "$runs" ONE_WAY 'one-way' 'oneway'
     drawn=$top/crates/keymap_draw/src/words.rt
     holds 'the page has the line of the check on a key' has_line "$drawn" FINDING
     holds 'another word in that line is seen' lacks_line "$drawn" FINDING 'character at slot' 'character in slot'

@@ -38,6 +38,7 @@ use Rattle.keymap_cover.specs.SeenSights.{has_seen}
 use Rattle.keymap_cover.specs.Covering.{IsAtRest, Covers}
 use Rattle.keymap_cover.proofs.Marking.{set-cases}
 use Rattle.keymap_cover.specs.Inner.Tours.{IsWith, IsPairOf, AddsPair, AddsSights, IsTour, AreUp}
+use Rattle.keymap_tour.specs.Plans.{AreInOrder}
 
 -- the pair of a press was added
 pub pair-added : (m : MapValue) (y : Selection) (k accent c : ℕ) (old now : Sight → Bool) → look_selected m y k ≡ Char c
@@ -324,8 +325,8 @@ never-forgets m x are e path is forgetful =
 -- a tour that ends at rest covers
 pub tour-covers : (m : MapValue) (h : List Event) (c : Cover) (down : List Bool)
     → IsTour m h c.strokes.items down (has_seen c.seen) → IsAtRest m h → AreUp down → AreSightsOf m c.sights
-        → Covers m c
-tour-covers m h c down t rest up are = record {
+    → AreInOrder c.starts.items → Covers m c
+tour-covers m h c down t rest up are parts = record {
   seen = λ x has. subst (λ g. SeesAlong m g x) (sym t.events) (t.seen x has);
   all_seen = λ x along. t.all_seen x (subst (λ g. SeesAlong m g x) t.events along);
   sights = are;
@@ -333,4 +334,5 @@ tour-covers m h c down t rest up are = record {
   possible = t.possible;
   rest = subst (λ g. IsAtRest m g) (sym t.events) rest;
   up = λ k lt. sym (t.pressed k lt) ∙ up k lt;
+  parts = parts;
 }

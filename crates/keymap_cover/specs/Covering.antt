@@ -16,6 +16,7 @@ use Rattle.keymap_cover.specs.declared.parts.Verdict.{Verdict}
 use Rattle.keymap_cover.specs.declared.parts.Verdict.TheVariants.{Seen, LeftOut, Never}
 use Rattle.keymap_cover.specs.SeenSights.{has_seen}
 use Rattle.keymap_cover.specs.Strokes.{events_of, is_down, ArePossible}
+use Rattle.keymap_tour.specs.Plans.{AreInOrder}
 
 -- the events of the script, with the newest first
 abbrev pub events : Cover → List Event
@@ -39,6 +40,8 @@ pub record Covers (m : MapValue) (c : Cover) : Type 0 where
   pub possible : ArePossible (reverse c.strokes.items)
   pub rest : IsAtRest m (events c)
   pub up : (k : ℕ) → k < key_count → is_down k (reverse c.strokes.items) ≡ false
+  -- its parts begin in their order, each at most once
+  pub parts : AreInOrder c.starts.items
 
 -- No press after a list that is spoken of sees it: after any list of presses, releases and resets, or, where a holder
 -- looks up a character in a state that a path leads to, after any clean one.

@@ -4,6 +4,7 @@ ghost use Rattle.console_core.specs.declared.event.Event.{Event as EventValue};
 ghost use Rattle.console_core.specs.Sights.{AreSightsOf, IsReachable, can_see};
 ghost use Rattle.keymap_cover.specs.Covering.{IsAtRest, NeverSees, Covers, IsVerdict, verdict_of, IsCover};
 ghost use Rattle.keymap_cover.specs.Inner.Tours.{IsTourOf, AreUp};
+ghost use Rattle.keymap_tour.specs.Plans.{AreInOrder};
 
 use crate::parts::{Cover, Verdict};
 use crate::tour::Tour;
@@ -42,8 +43,9 @@ impl Cover {
 
 /// The tour of a new console.
 fn tour_of(alloc: Global, map: &KeyMap) -> Result<(Tour, Vec<Start>), AllocError>
-    ensures { IfOk result (λ t. (AreUp t.0.pressed) × ((h : List EventValue) × IsTourOf map.now h t.0
+    ensures tour { IfOk result (λ t. (AreUp t.0.pressed) × ((h : List EventValue) × IsTourOf map.now h t.0
         × IsAtRest map.now h)) }
+    ensures parts { IfOk result (λ t. AreInOrder t.1.items) }
 {
     let plan = plan_for(alloc, map)?;
     let mut console = PlainConsole::new(map);

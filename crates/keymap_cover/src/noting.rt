@@ -1,7 +1,7 @@
 //! Noting what was seen.
 ghost use Rattle.std.specs.Prelude.{◌≡◌, ◌<◌, List, false, true, length, OnOk, IfOk, slice_set, slice_index_or};
 ghost use Rattle.std.specs.List.{Contains};
-ghost use Rattle.keymap_core.specs.Numbers.column_count;
+ghost use Rattle.keymap_core.specs.Numbers.{column_count};
 ghost use Rattle.console_core.specs.declared.selection.Sight.{Sight as SightValue};
 ghost use Rattle.console_core.specs.declared.selection.Sight.TheVariants.{Cell, Locks, Pair};
 ghost use Rattle.keymap_cover.specs.SightLists.{cell_place, lock_setting_place};

@@ -9,7 +9,7 @@ use keymap_core::{ACCENT_LIMIT, AccentIndex, Action, Cell, KEY_COUNT, KeyCode, K
 use std::alloc::{AllocError, Global};
 
 /// The dead key of the accent.
-pub fn dead_key(accent: u8) -> Option<Cell> {
+pub(crate) fn dead_key(accent: u8) -> Option<Cell> {
     if accent < ACCENT_LIMIT as u8 {
         Some(Cell::Act(Action::DeadKey(AccentIndex::new(accent))))
     } else {
@@ -18,7 +18,7 @@ pub fn dead_key(accent: u8) -> Option<Cell> {
 }
 
 /// The blank and the bases of the accent, once each. There are none where the accent has no character.
-pub fn bases(alloc: Global, map: &KeyMap, accent: u8) -> Result<Vec<char>, AllocError> {
+pub(crate) fn bases(alloc: Global, map: &KeyMap, accent: u8) -> Result<Vec<char>, AllocError> {
     let mut bases = Vec::new(alloc);
     if let Some(accent) = map.accent(accent) {
         if accent.own() != '\0' {
@@ -34,7 +34,7 @@ pub fn bases(alloc: Global, map: &KeyMap, accent: u8) -> Result<Vec<char>, Alloc
 }
 
 /// The least key that is a character at rest, but for 0 and these.
-pub fn other_character(map: &KeyMap, bases: &[char]) -> Option<(KeyCode, Cell)> {
+pub(crate) fn other_character(map: &KeyMap, bases: &[char]) -> Option<(KeyCode, Cell)> {
     for code in 0..KEY_COUNT as u8 {
         if let Some(key) = KeyCode::new(code) {
             if let Cell::Char(character) = rest_cell(map, key) {
@@ -96,7 +96,7 @@ fn compose_all<T: Translator>(
 }
 
 /// Composes each accent.
-pub fn accents<T: Translator>(
+pub(crate) fn accents<T: Translator>(
     pen: &mut Pen<T>,
     views: &Views,
     map: &KeyMap,

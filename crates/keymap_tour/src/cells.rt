@@ -3,7 +3,7 @@ use keymap_core::{Action, COLUMN_COUNT, Cell, KEY_COUNT, KeyCode, KeyMap};
 
 /// What a cell does.
 #[derive(Clone, Copy, Debug, PartialEq, Eq)]
-pub enum Kind {
+pub(crate) enum Kind {
     Character,
     Nothing,
     Holding,
@@ -11,7 +11,7 @@ pub enum Kind {
 }
 
 /// What the cell does.
-pub fn kind_of(cell: &Cell) -> Kind {
+pub(crate) fn kind_of(cell: &Cell) -> Kind {
     match cell {
         Cell::Char(_) => Kind::Character,
         Cell::Act(Action::Nop) => Kind::Nothing,
@@ -22,7 +22,7 @@ pub fn kind_of(cell: &Cell) -> Kind {
 }
 
 /// The cell of the slot in the column.
-pub fn cell_at(map: &KeyMap, slot: u8, column: usize) -> Cell {
+pub(crate) fn cell_at(map: &KeyMap, slot: u8, column: usize) -> Cell {
     match map.entry(slot).cells().get(column) {
         Some(cell) => *cell,
         None => Cell::Char('\0'),
@@ -30,12 +30,12 @@ pub fn cell_at(map: &KeyMap, slot: u8, column: usize) -> Cell {
 }
 
 /// The cell of the key at rest.
-pub fn rest_cell(map: &KeyMap, key: KeyCode) -> Cell {
+pub(crate) fn rest_cell(map: &KeyMap, key: KeyCode) -> Cell {
     cell_at(map, key.get(), 0)
 }
 
 /// Whether no cell of the slot is a holding action.
-pub fn has_no_holding(map: &KeyMap, slot: u8) -> bool {
+pub(crate) fn has_no_holding(map: &KeyMap, slot: u8) -> bool {
     for column in 0..COLUMN_COUNT {
         if kind_of(&cell_at(map, slot, column)) == Kind::Holding {
             return false;
@@ -45,7 +45,7 @@ pub fn has_no_holding(map: &KeyMap, slot: u8) -> bool {
 }
 
 /// The least key that is the action at rest, but for this key.
-pub fn bearer(map: &KeyMap, action: &Cell, other: Option<KeyCode>) -> Option<KeyCode> {
+pub(crate) fn bearer(map: &KeyMap, action: &Cell, other: Option<KeyCode>) -> Option<KeyCode> {
     for code in 0..KEY_COUNT as u8 {
         if let Some(key) = KeyCode::new(code) {
             if rest_cell(map, key) == *action && Some(key) != other {

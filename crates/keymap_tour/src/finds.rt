@@ -7,7 +7,11 @@ use keymap_core::{Action, Cell, Lock};
 use std::alloc::AllocError;
 
 /// Goes where the key looks up the cell.
-pub fn go_to<T: Translator>(pen: &mut Pen<T>, view: &View, place: usize) -> Result<(), AllocError> {
+pub(crate) fn go_to<T: Translator>(
+    pen: &mut Pen<T>,
+    view: &View,
+    place: usize,
+) -> Result<(), AllocError> {
     let path = view.path(pen.alloc(), place)?;
     pen.go(&path)
 }
@@ -24,7 +28,7 @@ fn take<T: Translator>(pen: &mut Pen<T>, view: &View, find: Find) -> Result<(), 
 }
 
 /// Goes where a key that holds nothing looks up the cell, and taps it. Says whether there is such a key.
-pub fn find<T: Translator>(
+pub(crate) fn find<T: Translator>(
     pen: &mut Pen<T>,
     views: &Views,
     turns: Turns,
@@ -43,7 +47,7 @@ pub fn find<T: Translator>(
 }
 
 /// The same, and where no such key is, goes where a holder looks up the cell, and presses it.
-pub fn find_any<T: Translator>(
+pub(crate) fn find_any<T: Translator>(
     pen: &mut Pen<T>,
     views: &Views,
     cell: &Cell,
@@ -76,7 +80,7 @@ fn go_home<T: Translator>(pen: &mut Pen<T>, views: &Views, turns: Turns) -> Resu
 }
 
 /// No accent is pending then, and the locks are off where that can be.
-pub fn rest<T: Translator>(
+pub(crate) fn rest<T: Translator>(
     pen: &mut Pen<T>,
     views: &Views,
     turns: Turns,

@@ -4,8 +4,9 @@
 //! The crate stands on `keymap_core` for the keymap, and on `console_core` for the console that runs along while the
 //! events are written down.
 //!
-//! It promises nothing of the events: who delivers them notes what they see, as `keymap_cover` does. So no function
-//! here has a clause, but where a caller needs one, and all that is proved is that each call is safe and ends.
+//! It promises nothing of the events: who delivers them notes what they see, as `keymap_cover` does. So hardly a
+//! function here has a clause, and all that is proved is that each call is safe and ends, and that the parts stand in
+//! their order.
 #![tactic(auto)]
 
 mod accents;
@@ -21,6 +22,9 @@ mod state;
 mod trials;
 mod view;
 mod views;
+
+ghost use Rattle.std.specs.Prelude.{◌≡◌, ◌⊎◌, ◌∷◌, ◌++◌, [], IfOk, OnOk};
+ghost use Rattle.keymap_tour.specs.Plans.{AreInOrder};
 
 use crate::accents::accents;
 use crate::finds::rest;
@@ -47,7 +51,7 @@ pub enum Part {
 }
 
 /// All parts, in their order.
-pub static PARTS: [Part; 4] = [Part::Looks, Part::Accents, Part::Rules, Part::OneWay];
+static PARTS: [Part; 4] = [Part::Looks, Part::Accents, Part::Rules, Part::OneWay];
 
 /// Which turns of locks are moves in the part.
 fn turns_in(part: Part) -> Turns {
@@ -87,19 +91,30 @@ pub struct Plan {
     pub starts: Vec<Start>,
 }
 
+/// Adds that the part begins there, unless it has no events.
+fn push_start(starts: &mut Vec<Start>, start: Start, events_len: usize) -> Result<(), AllocError>
+    ensures { OnOk result ((starts.new.items ≡ starts.old.items)
+        ⊎ (starts.new.items ≡ starts.old.items ++ start ∷ [])) }
+{
+    if events_len > start.at {
+        starts.push(start)?;
+    }
+    Ok(())
+}
+
 /// Writes all parts, and tells where they begin.
 fn write_parts<T: Translator>(
     pen: &mut Pen<T>,
     views: &Views,
     map: &KeyMap,
-) -> Result<Vec<Start>, AllocError> {
+) -> Result<Vec<Start>, AllocError>
+    ensures { IfOk result (λ starts. AreInOrder starts.items) }
+{
     let mut starts = Vec::new(pen.alloc());
     for part in PARTS {
         let at = pen.events_len();
         write_part(pen, views, map, part)?;
-        if pen.events_len() > at {
-            starts.push(Start { part, at })?;
-        }
+        push_start(&mut starts, Start { part, at }, pen.events_len())?;
     }
     Ok(starts)
 }
@@ -110,7 +125,9 @@ fn written<T: Translator>(
     lookups: &Lookups,
     views: &Views,
     console: &mut T,
-) -> Result<Plan, AllocError> {
+) -> Result<Plan, AllocError>
+    ensures { IfOk result (λ plan. AreInOrder plan.starts.items) }
+{
     let mut pen = Pen::new(alloc, lookups, console)?;
     let starts = write_parts(&mut pen, views, map)?;
     Ok(Plan {
@@ -119,8 +136,10 @@ fn written<T: Translator>(
     })
 }
 
-/// The events to deliver to a new console of the keymap.
-pub fn plan_for(alloc: Global, map: &KeyMap) -> Result<Plan, AllocError> {
+/// The events to deliver to a new console of the keymap, and where their parts begin.
+pub fn plan_for(alloc: Global, map: &KeyMap) -> Result<Plan, AllocError>
+    ensures { IfOk result (λ plan. AreInOrder plan.starts.items) }
+{
     let lookups = Lookups::of(alloc, map)?;
     let views = Views::of(alloc, &lookups)?;
     let mut console = PlainConsole::new(map);

@@ -122,7 +122,7 @@ fn look_around<T: Translator>(
 }
 
 /// Goes where a press counts as new, as long as there is such a state.
-pub fn looks<T: Translator>(
+pub(crate) fn looks<T: Translator>(
     pen: &mut Pen<T>,
     views: &Views,
     turns: Turns,

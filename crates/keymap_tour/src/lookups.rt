@@ -4,21 +4,21 @@ use keymap_core::{Action, Cell, KEY_COUNT, KeyCode, KeyMap, Lock};
 use std::alloc::{AllocError, Global};
 
 /// How many selections there are.
-pub const SELECTION_COUNT: usize = 64;
+pub(crate) const SELECTION_COUNT: usize = 64;
 
 /// How many cells a keymap has.
-pub const CELL_COUNT: usize = 2_048;
+pub(crate) const CELL_COUNT: usize = 2_048;
 
 /// How many slots there are under each setting of clock and nlock.
-pub const LOCK_SETTING_COUNT: usize = 1_024;
+pub(crate) const LOCK_SETTING_COUNT: usize = 1_024;
 
 /// A key, the cell that it looks up, and the places of this and of the slot's lock setting among all.
 #[derive(Clone, Copy, Debug, PartialEq, Eq)]
-pub struct Lookup {
-    pub key: KeyCode,
-    pub cell: Cell,
-    pub cell_place: usize,
-    pub setting_place: usize,
+pub(crate) struct Lookup {
+    pub(crate) key: KeyCode,
+    pub(crate) cell: Cell,
+    pub(crate) cell_place: usize,
+    pub(crate) setting_place: usize,
 }
 
 /// What keys look up under a selection, in the order of the keys: all keys, and those alone that hold something then.
@@ -30,12 +30,12 @@ struct Row {
 
 /// What keys look up under all selections.
 #[derive(Drop)]
-pub struct Lookups {
+pub(crate) struct Lookups {
     rows: Vec<Row>,
 }
 
 /// The place of the selection among all.
-pub fn selection_place(selection: Selection) -> usize {
+pub(crate) fn selection_place(selection: Selection) -> usize {
     usize::from(selection.upper)
         .wrapping_add(usize::from(selection.shift).wrapping_mul(2))
         .wrapping_add(usize::from(selection.control).wrapping_mul(4))
@@ -123,7 +123,7 @@ impl Row {
 }
 
 impl Lookups {
-    pub fn of(alloc: Global, map: &KeyMap) -> Result<Lookups, AllocError> {
+    pub(crate) fn of(alloc: Global, map: &KeyMap) -> Result<Lookups, AllocError> {
         let mut rows = Vec::new(alloc);
         for place in 0..SELECTION_COUNT {
             rows.push(Row::of(alloc, map, selection_at(place))?)?;
@@ -132,7 +132,7 @@ impl Lookups {
     }
 
     /// What all keys look up under the selection.
-    pub fn all(&self, selection: Selection) -> &[Lookup] {
+    pub(crate) fn all(&self, selection: Selection) -> &[Lookup] {
         match self.rows.get(selection_place(selection)) {
             Some(row) => &row.all,
             None => &[],
@@ -140,7 +140,7 @@ impl Lookups {
     }
 
     /// What those keys look up that hold something under the selection.
-    pub fn holding(&self, selection: Selection) -> &[Lookup] {
+    pub(crate) fn holding(&self, selection: Selection) -> &[Lookup] {
         match self.rows.get(selection_place(selection)) {
             Some(row) => &row.holding,
             None => &[],
@@ -148,7 +148,7 @@ impl Lookups {
     }
 
     /// What the key looks up under the selection.
-    pub fn at(&self, selection: Selection, key: KeyCode) -> Option<&Lookup> {
+    pub(crate) fn at(&self, selection: Selection, key: KeyCode) -> Option<&Lookup> {
         self.all(selection).get(key.get() as usize)
     }
 }

@@ -7,14 +7,14 @@ use std::alloc::{AllocError, Global};
 
 /// Which modifiers and locks are on.
 #[derive(Clone, Copy, Debug, PartialEq, Eq)]
-pub struct Shown {
+pub(crate) struct Shown {
     on: [bool; 8],
     locked: [bool; 4],
 }
 
 /// The events so far, the console after them, and what they saw.
 #[derive(Drop)]
-pub struct Pen<'m, 'c, T: Translator> {
+pub(crate) struct Pen<'m, 'c, T: Translator> {
     alloc: Global,
     lookups: &'m Lookups,
     console: &'c mut T,
@@ -41,7 +41,7 @@ fn set_mark(marks: &mut [bool], place: usize, value: bool) {
 }
 
 impl<'m, 'c, T: Translator> Pen<'m, 'c, T> {
-    pub fn new(
+    pub(crate) fn new(
         alloc: Global,
         lookups: &'m Lookups,
         console: &'c mut T,
@@ -60,21 +60,21 @@ impl<'m, 'c, T: Translator> Pen<'m, 'c, T> {
     }
 
     /// How many events there are.
-    pub fn events_len(&self) -> usize {
+    pub(crate) fn events_len(&self) -> usize {
         self.events.len()
     }
 
-    pub fn into_events(self) -> Vec<Event> {
+    pub(crate) fn into_events(self) -> Vec<Event> {
         self.events
     }
 
     /// What allocates the paths.
-    pub fn alloc(&self) -> Global {
+    pub(crate) fn alloc(&self) -> Global {
         self.alloc
     }
 
     /// The locks that are on, but for the scroll lock.
-    pub fn locks(&self) -> Locks {
+    pub(crate) fn locks(&self) -> Locks {
         Locks {
             caps: self.console.locked(Lock::Caps),
             num: self.console.locked(Lock::Num),
@@ -82,11 +82,11 @@ impl<'m, 'c, T: Translator> Pen<'m, 'c, T> {
         }
     }
 
-    pub fn is_locked(&self, lock: Lock) -> bool {
+    pub(crate) fn is_locked(&self, lock: Lock) -> bool {
         self.console.locked(lock)
     }
 
-    pub fn shown(&self) -> Shown {
+    pub(crate) fn shown(&self) -> Shown {
         Shown {
             on: [
                 self.console.on(Modifier::LeftShift),
@@ -108,31 +108,31 @@ impl<'m, 'c, T: Translator> Pen<'m, 'c, T> {
     }
 
     /// Whether an accent is pending.
-    pub fn is_pending(&self) -> bool {
+    pub(crate) fn is_pending(&self) -> bool {
         self.console.pending().is_some()
     }
 
-    pub fn is_pressed(&self, key: KeyCode) -> bool {
+    pub(crate) fn is_pressed(&self, key: KeyCode) -> bool {
         is_marked(&self.pressed, key.get() as usize)
     }
 
     /// How many cells and settings were seen.
-    pub fn count(&self) -> usize {
+    pub(crate) fn count(&self) -> usize {
         self.count
     }
 
     /// Whether the character was looked up while the accent was pending.
-    pub fn has_pair(&self, accent: u8, character: char) -> bool {
+    pub(crate) fn has_pair(&self, accent: u8, character: char) -> bool {
         self.pairs.contains(&(accent, character))
     }
 
     /// What all keys look up under the selection.
-    pub fn lookups(&self, selection: Selection) -> &'m [Lookup] {
+    pub(crate) fn lookups(&self, selection: Selection) -> &'m [Lookup] {
         self.lookups.all(selection)
     }
 
     /// Whether the look-up would see a cell or a setting that wasn't seen.
-    pub fn is_new(&self, lookup: &Lookup) -> bool {
+    pub(crate) fn is_new(&self, lookup: &Lookup) -> bool {
         !is_marked(&self.cells, lookup.cell_place)
             || !is_marked(&self.settings, lookup.setting_place)
     }
@@ -173,7 +173,7 @@ impl<'m, 'c, T: Translator> Pen<'m, 'c, T> {
         self.note_pair(&lookup.cell)
     }
 
-    pub fn press(&mut self, key: KeyCode) -> Result<(), AllocError> {
+    pub(crate) fn press(&mut self, key: KeyCode) -> Result<(), AllocError> {
         self.note(key)?;
         set_mark(&mut self.pressed, key.get() as usize, true);
         self.events.push(Event::Press(key))?;
@@ -181,33 +181,33 @@ impl<'m, 'c, T: Translator> Pen<'m, 'c, T> {
         Ok(())
     }
 
-    pub fn up(&mut self, key: KeyCode) -> Result<(), AllocError> {
+    pub(crate) fn up(&mut self, key: KeyCode) -> Result<(), AllocError> {
         set_mark(&mut self.pressed, key.get() as usize, false);
         self.events.push(Event::Release(key))?;
         let _ = self.console.step(Event::Release(key));
         Ok(())
     }
 
-    pub fn tap(&mut self, key: KeyCode) -> Result<(), AllocError> {
+    pub(crate) fn tap(&mut self, key: KeyCode) -> Result<(), AllocError> {
         self.press(key)?;
         self.up(key)
     }
 
-    pub fn reset(&mut self) -> Result<(), AllocError> {
+    pub(crate) fn reset(&mut self) -> Result<(), AllocError> {
         self.events.push(Event::Reset)?;
         let _ = self.console.step(Event::Reset);
         Ok(())
     }
 
     /// Resets the console if an accent is pending.
-    pub fn drop_accent(&mut self) -> Result<(), AllocError> {
+    pub(crate) fn drop_accent(&mut self) -> Result<(), AllocError> {
         if self.is_pending() {
             self.reset()?;
         }
         Ok(())
     }
 
-    pub fn go(&mut self, path: &[Move]) -> Result<(), AllocError> {
+    pub(crate) fn go(&mut self, path: &[Move]) -> Result<(), AllocError> {
         for step in path {
             match step {
                 Move::Hold(key) => self.press(*key)?,
@@ -219,7 +219,7 @@ impl<'m, 'c, T: Translator> Pen<'m, 'c, T> {
     }
 
     /// Releases all keys, and resets the console if a modifier is on then.
-    pub fn let_go(&mut self) -> Result<(), AllocError> {
+    pub(crate) fn let_go(&mut self) -> Result<(), AllocError> {
         for code in 0..KEY_COUNT as u8 {
             if let Some(key) = KeyCode::new(code) {
                 if self.is_pressed(key) {

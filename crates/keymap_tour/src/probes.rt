@@ -88,7 +88,7 @@ fn add(probes: &mut Vec<KeyCode>, probe: Option<KeyCode>) -> Result<(), AllocErr
 }
 
 /// A key for each lock flag, and one that tells the halves apart.
-pub fn probes(alloc: Global, map: &KeyMap) -> Result<Vec<KeyCode>, AllocError> {
+pub(crate) fn probes(alloc: Global, map: &KeyMap) -> Result<Vec<KeyCode>, AllocError> {
     let mut probes = Vec::new(alloc);
     add(&mut probes, flag_probe(map, LockFlag::O))?;
     add(&mut probes, flag_probe(map, LockFlag::C))?;
@@ -99,7 +99,7 @@ pub fn probes(alloc: Global, map: &KeyMap) -> Result<Vec<KeyCode>, AllocError> {
 }
 
 /// Taps each probe.
-pub fn ask<T: Translator>(pen: &mut Pen<T>, probes: &[KeyCode]) -> Result<(), AllocError> {
+pub(crate) fn ask<T: Translator>(pen: &mut Pen<T>, probes: &[KeyCode]) -> Result<(), AllocError> {
     for key in probes {
         pen.tap(*key)?;
         if pen.is_pending() {

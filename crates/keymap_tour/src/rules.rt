@@ -253,7 +253,7 @@ fn many_keys<T: Translator>(pen: &mut Pen<T>, map: &KeyMap) -> Result<(), AllocE
 }
 
 /// Short trials of what keys do to each other.
-pub fn rules<T: Translator>(
+pub(crate) fn rules<T: Translator>(
     pen: &mut Pen<T>,
     views: &Views,
     map: &KeyMap,

@@ -9,10 +9,10 @@ use std::alloc::{AllocError, Global};
 const BOUND: usize = 65_536;
 
 /// The states that were met, in their order, and by which move from the state at which place, but for the first.
-pub type Met = IndexMap<State, Option<(usize, Move)>>;
+pub(crate) type Met = IndexMap<State, Option<(usize, Move)>>;
 
 /// The state that was met at the place.
-pub fn state_at(met: &Met, place: usize) -> Option<State> {
+pub(crate) fn state_at(met: &Met, place: usize) -> Option<State> {
     match met.get_index(place) {
         Some((state, _)) => Some(*state),
         None => None,
@@ -85,7 +85,7 @@ fn press_all(
 }
 
 /// The states that moves lead to from a state. No lock is turned where that leads to locks that are lost.
-pub fn search(
+pub(crate) fn search(
     alloc: Global,
     lookups: &Lookups,
     from: State,

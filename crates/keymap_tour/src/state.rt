@@ -5,15 +5,15 @@ use keymap_core::{Action, Cell, KeyCode, Lock, MODIFIERS, Modifier};
 
 /// Which locks are on that pick cells.
 #[derive(Clone, Copy, Debug, PartialEq, Eq, Hash)]
-pub struct Locks {
-    pub caps: bool,
-    pub num: bool,
-    pub alt: bool,
+pub(crate) struct Locks {
+    pub(crate) caps: bool,
+    pub(crate) num: bool,
+    pub(crate) alt: bool,
 }
 
 impl Locks {
     /// No lock is on.
-    pub fn none() -> Locks {
+    pub(crate) fn none() -> Locks {
         Locks {
             caps: false,
             num: false,
@@ -22,7 +22,7 @@ impl Locks {
     }
 
     /// The locks after a turn of one.
-    pub fn turned(self, lock: Lock) -> Locks {
+    pub(crate) fn turned(self, lock: Lock) -> Locks {
         let mut next = self;
         match lock {
             Lock::Caps => next.caps = !self.caps,
@@ -36,7 +36,7 @@ impl Locks {
 
 /// A press, with the release where it turns a lock, or a release, that leads from one state to another.
 #[derive(Clone, Copy, Debug, PartialEq, Eq)]
-pub enum Move {
+pub(crate) enum Move {
     Hold(KeyCode),
     Turn(KeyCode),
     LetGo(KeyCode),
@@ -44,7 +44,7 @@ pub enum Move {
 
 /// The codes of the keys that hold modifiers, and the locks that are on.
 #[derive(Clone, Copy, Debug, PartialEq, Eq, Hash)]
-pub struct State {
+pub(crate) struct State {
     left_shift: Option<u8>,
     right_shift: Option<u8>,
     left_control: Option<u8>,
@@ -53,7 +53,7 @@ pub struct State {
     right_alt: Option<u8>,
     alt_shift: Option<u8>,
     meta: Option<u8>,
-    pub locks: Locks,
+    pub(crate) locks: Locks,
 }
 
 fn key_of(code: Option<u8>) -> Option<KeyCode> {
@@ -65,7 +65,7 @@ fn key_of(code: Option<u8>) -> Option<KeyCode> {
 
 impl State {
     /// No key holds a modifier.
-    pub fn free(locks: Locks) -> State {
+    pub(crate) fn free(locks: Locks) -> State {
         State {
             left_shift: None,
             right_shift: None,
@@ -108,7 +108,7 @@ impl State {
     }
 
     /// The key that holds the modifier.
-    pub fn holder(self, modifier: Modifier) -> Option<KeyCode> {
+    pub(crate) fn holder(self, modifier: Modifier) -> Option<KeyCode> {
         key_of(self.holder_code(modifier))
     }
 
@@ -117,7 +117,7 @@ impl State {
     }
 
     /// Whether the key holds a modifier.
-    pub fn holds(self, key: KeyCode) -> bool {
+    pub(crate) fn holds(self, key: KeyCode) -> bool {
         for modifier in MODIFIERS {
             if self.holder_code(modifier) == Some(key.get()) {
                 return true;
@@ -127,7 +127,7 @@ impl State {
     }
 
     /// What of the state picks the cell that a key looks up.
-    pub fn selection(self) -> Selection {
+    pub(crate) fn selection(self) -> Selection {
         Selection {
             upper: self.alt_shift.is_some() != self.locks.alt,
             shift: self.left_shift.is_some() || self.right_shift.is_some(),
@@ -139,7 +139,7 @@ impl State {
     }
 
     /// Where letting go of the modifier leads.
-    pub fn let_go(self, modifier: Modifier) -> Option<(Move, State)> {
+    pub(crate) fn let_go(self, modifier: Modifier) -> Option<(Move, State)> {
         match self.holder(modifier) {
             Some(key) => Some((Move::LetGo(key), self.with_holder(modifier, None))),
             None => None,
@@ -177,7 +177,7 @@ impl State {
     }
 
     /// Where a press of the key leads that looks up the cell, with its release if it turns a lock.
-    pub fn pressed(self, key: KeyCode, cell: &Cell) -> Option<(Move, State)> {
+    pub(crate) fn pressed(self, key: KeyCode, cell: &Cell) -> Option<(Move, State)> {
         if self.holds(key) {
             None
         } else {

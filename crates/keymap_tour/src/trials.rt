@@ -192,7 +192,7 @@ fn try_accent<T: Translator>(
 }
 
 /// The trials with the first accent that was composed with a blank.
-pub fn trials_of_accents<T: Translator>(
+pub(crate) fn trials_of_accents<T: Translator>(
     pen: &mut Pen<T>,
     views: &Views,
     map: &KeyMap,

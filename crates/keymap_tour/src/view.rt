@@ -7,10 +7,10 @@ use std::alloc::{AllocError, Global};
 
 /// A key that looks up the cell in the state at the place.
 #[derive(Clone, Copy, Debug, PartialEq, Eq)]
-pub struct Find {
-    pub place: usize,
-    pub key: KeyCode,
-    pub cell: Cell,
+pub(crate) struct Find {
+    pub(crate) place: usize,
+    pub(crate) key: KeyCode,
+    pub(crate) cell: Cell,
 }
 
 /// The first finds of cells, in the order of the states.
@@ -87,7 +87,7 @@ fn first_of(finds: &[Find], cell: &Cell) -> Option<Find> {
 
 /// The states that moves lead to from a free state.
 #[derive(Drop)]
-pub struct View {
+pub(crate) struct View {
     met: Met,
     /// The places of the first state of each selection.
     visits: Vec<usize>,
@@ -154,7 +154,7 @@ impl View {
     }
 
     /// The view from the free state with the locks. No lock is turned where that leads to locks that are lost.
-    pub fn of(
+    pub(crate) fn of(
         alloc: Global,
         lookups: &Lookups,
         locks: Locks,
@@ -172,32 +172,32 @@ impl View {
     }
 
     /// The places of the first state of each selection.
-    pub fn visits(&self) -> &[usize] {
+    pub(crate) fn visits(&self) -> &[usize] {
         &self.visits
     }
 
     /// The state at the place.
-    pub fn state(&self, place: usize) -> Option<State> {
+    pub(crate) fn state(&self, place: usize) -> Option<State> {
         state_at(&self.met, place)
     }
 
     /// How many states there are.
-    pub fn len(&self) -> usize {
+    pub(crate) fn len(&self) -> usize {
         self.met.len()
     }
 
     /// The place of the free state without locks.
-    pub fn home(&self) -> Option<usize> {
+    pub(crate) fn home(&self) -> Option<usize> {
         self.met.get_index_of(&State::free(Locks::none()))
     }
 
     /// The first state where a key that holds nothing looks up the cell, and the least such key.
-    pub fn idle(&self, cell: &Cell) -> Option<Find> {
+    pub(crate) fn idle(&self, cell: &Cell) -> Option<Find> {
         first_of(&self.idle.list, cell)
     }
 
     /// The first state where a holder looks up the cell, and the first such holder.
-    pub fn held(&self, cell: &Cell) -> Option<Find> {
+    pub(crate) fn held(&self, cell: &Cell) -> Option<Find> {
         first_of(&self.held.list, cell)
     }
 
@@ -209,7 +209,7 @@ impl View {
     }
 
     /// The moves to the state at the place.
-    pub fn path(&self, alloc: Global, place: usize) -> Result<Vec<Move>, AllocError> {
+    pub(crate) fn path(&self, alloc: Global, place: usize) -> Result<Vec<Move>, AllocError> {
         let mut path = Vec::new(alloc);
         let mut last = self.last(place);
         for _ in 0..self.met.len() {

@@ -7,7 +7,7 @@ use std::alloc::{AllocError, Global};
 
 /// Which turns of locks are moves: all, or those alone from which moves lead back to no locks.
 #[derive(Clone, Copy, Debug, PartialEq, Eq)]
-pub enum Turns {
+pub(crate) enum Turns {
     All,
     BothWays,
 }
@@ -21,7 +21,7 @@ struct Stand {
 
 /// The views from all free states.
 #[derive(Drop)]
-pub struct Views {
+pub(crate) struct Views {
     /// The locks from which no moves lead back to no locks.
     lost: Vec<Locks>,
     whole: Vec<Stand>,
@@ -82,7 +82,7 @@ fn lost_of(alloc: Global, stands: &[Stand]) -> Result<Vec<Locks>, AllocError> {
 }
 
 impl Views {
-    pub fn of(alloc: Global, lookups: &Lookups) -> Result<Views, AllocError> {
+    pub(crate) fn of(alloc: Global, lookups: &Lookups) -> Result<Views, AllocError> {
         let first = View::of(alloc, lookups, Locks::none(), &[])?;
         let seen = locks_seen(alloc, &first)?;
         let mut whole = Vec::new(alloc);
@@ -100,7 +100,7 @@ impl Views {
     }
 
     /// The view from the free state with the locks.
-    pub fn from(&self, locks: Locks, turns: Turns) -> Option<&View> {
+    pub(crate) fn from(&self, locks: Locks, turns: Turns) -> Option<&View> {
         if turns == Turns::BothWays && !self.lost.is_empty() {
             stand_of(&self.core, locks)
         } else {
@@ -109,7 +109,7 @@ impl Views {
     }
 
     /// Whether the cell is a lock whose turn from these locks moves can't take back.
-    pub fn is_one_way(&self, locks: Locks, cell: &Cell) -> bool {
+    pub(crate) fn is_one_way(&self, locks: Locks, cell: &Cell) -> bool {
         match cell {
             Cell::Act(Action::Lock(lock)) => {
                 *lock != Lock::Scroll && self.lost.contains(&locks.turned(*lock))

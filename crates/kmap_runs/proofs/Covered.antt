@@ -1,7 +1,6 @@
 -- Texts and lists of pieces, one for each number; and what a failed call owes of its text, which is nothing.
 use Rattle.std.proofs.Common.{◌≡◌, ℕ, zero, suc, ◌+◌, List, [], ◌∷◌, ◌++◌, sym, ◌∙◌, ap, map, arith}
-use Rattle.std.proofs.Common.{append_assoc, append-nil, add-one, true, false, ◌<◌, ◌≤◌, ◌-◌, length, take, drop}
-use Rattle.std.proofs.Common.{get_or}
+use Rattle.std.proofs.Common.{append_assoc, append-nil, add-one, true, false, ◌<◌, ◌≤◌, ◌-◌, length, take, drop, get_or}
 use Rattle.std.proofs.Common.{Result, subst}
 use Rattle.std.specs.Prelude.{OnOk, IfOk}
 use Rattle.std.specs.Result.{IsErrAnd}

@@ -1,4 +1,5 @@
 mod Chained
+mod CoverScripts
 mod Covered
 mod Replayed
 mod Scripts

@@ -54,7 +54,7 @@ use Rattle.messages.specs.Filled.{filled}
 -- ---- comments stand in one line
 
 -- texts without a line feed, one of each element
-feed-flat : {X : Type 0} (f : X → List ℕ) → ((x : X) → has_line_feed (f x) ≡ false) → (xs : List X)
+pub feed-flat : {X : Type 0} (f : X → List ℕ) → ((x : X) → has_line_feed (f x) ≡ false) → (xs : List X)
     → has_line_feed (flat_map f xs) ≡ false
 feed-flat f each [] = refl
 feed-flat f each (x ∷ xs) = feed-append (f x) (flat_map f xs) (each x) (feed-flat f each xs)
@@ -304,12 +304,12 @@ answer-replays-between ms (Undecided p) answer = said-undecided p
 -- ---- a sentence that was typed and played
 
 -- bytes that were taken up to the end are all that there were
-taken-whole : (all text : List ℕ) (new : Option (List ℕ)) → TakesWhole (Some all) new text → all ≡ text
+pub taken-whole : (all text : List ℕ) (new : Option (List ℕ)) → TakesWhole (Some all) new text → all ≡ text
 taken-whole all text None h = absurd h.taken
 taken-whole all text (Some rest) h = h.taken ∙ ap (λ r. text ++ r) h.end ∙ append-nil text
 
 -- the maps of two readings of one text are the same
-same-map : (text : List ℕ) (s t : Option (List ℕ)) (m n : MapValue) → ReadsMap (Some text) s (Ok m)
+pub same-map : (text : List ℕ) (s t : Option (List ℕ)) (m n : MapValue) → ReadsMap (Some text) s (Ok m)
     → ReadsMap (Some text) t (Ok n) → m ≡ n
 same-map text s t m n h k =
     one_map text m n (subst (λ x. Spells x m) (sym (taken-whole text h.0 s h.1)) h.2)

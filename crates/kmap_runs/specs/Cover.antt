@@ -1,6 +1,6 @@
 -- What is printed of a script that shows a console what a keymap can do: how much it sees, what it doesn't see, and its
 -- events.
-use Rattle.std.specs.Prelude.{ℕ, ◌+◌, ◌-◌, ◌==◌, ◌||◌, Bool, true, false, not, List, [], ◌∷◌, ◌++◌, codes, decimal}
+use Rattle.std.specs.Prelude.{ℕ, ◌+◌, ◌-◌, ◌==◌, ◌||◌, Bool, true, false, not, List, [], ◌∷◌, ◌++◌, decimal}
 use Rattle.std.specs.Prelude.{length, map, drop, slice_index_or, if◌then◌else◌}
 use Rattle.std.specs.Cmp.Lexicographic.{pointwise}
 use Rattle.std.specs.List.{flat_map, list_any, prefix_len, range_with_len}
@@ -22,7 +22,7 @@ use Rattle.keymap_cover.specs.declared.stroke.Stroke.TheVariants.{Down, Repeat, 
 use Rattle.keymap_tour.specs.declared.Part.{Part}
 use Rattle.keymap_tour.specs.declared.Part.TheVariants.{Looks, Accents, Rules, OneWay}
 use Rattle.keymap_tour.specs.declared.Start.{Start}
-use Rattle.kmap_runs.specs.declared.cover.TheConstants as words
+use Rattle.kmap_runs.specs.declared.words.TheConstants as words
 use Rattle.messages.specs.Filled.{filled}
 
 -- ---- what is told of sights
@@ -52,10 +52,10 @@ columns_text told listed slot = flat_map (column_text told listed slot) (range_w
 -- the settings of clock and nlock under which a slot is listed
 abbrev pub settings_text : (Sight → Verdict) → Verdict → ℕ → List ℕ
 settings_text told listed slot =
-    if_told listed (told (Locks slot false false)) (codes " none")
-    ++ if_told listed (told (Locks slot false true)) (codes " nlock")
-    ++ if_told listed (told (Locks slot true false)) (codes " clock")
-    ++ if_told listed (told (Locks slot true true)) (codes " clock+nlock")
+    if_told listed (told (Locks slot false false)) words.NO_LOCK.now
+    ++ if_told listed (told (Locks slot false true)) words.NLOCK.now
+    ++ if_told listed (told (Locks slot true false)) words.CLOCK.now
+    ++ if_told listed (told (Locks slot true true)) words.BOTH_LOCKS.now
 
 -- what is listed of a slot
 abbrev pub row_text : (Sight → Verdict) → Verdict → ℕ → List ℕ
@@ -162,15 +162,16 @@ lists_text m c =
 
 -- ---- the events
 
-abbrev pub part_name : Part → List ℕ
-part_name Looks = codes "looks"
-part_name Accents = codes "accents"
-part_name Rules = codes "rules"
-part_name OneWay = codes "one-way"
+-- the comment that begins a part
+abbrev pub part_line : Part → List ℕ
+part_line Looks = words.LOOKS.now
+part_line Accents = words.ACCENTS.now
+part_line Rules = words.RULES.now
+part_line OneWay = words.ONE_WAY.now
 
 -- a comment if the part begins at the place
 abbrev pub start_line : ℕ → Start → List ℕ
-start_line place s = if s.at == place then filled words.PART.now (part_name s.part ∷ []) else []
+start_line place s = if s.at == place then part_line s.part else []
 
 abbrev pub stroke_line : Stroke → List ℕ
 stroke_line (Down k) = filled words.DOWN.now (decimal k ∷ [])

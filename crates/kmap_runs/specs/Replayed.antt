@@ -1,13 +1,21 @@
 -- What the printed scripts do when they are played back.
-use Rattle.std.specs.Prelude.{◌≡◌, ◌⊎◌, ◌<◌, ◌^◌, ℕ, List, [], ◌++◌, reverse}
+use Rattle.std.specs.Prelude.{◌≡◌, ◌⊎◌, ◌<◌, ◌^◌, ℕ, false, List, [], ◌++◌, map, reverse}
 use Rattle.keymap_core.specs.Maps.{MapValue}
 use Rattle.console_core.specs.declared.outcome.Sticking.{Sticking}
 use Rattle.console_core.specs.declared.outcome.Sticking.TheVariants.{Sticks, Never, Undecided}
 use Rattle.console_core.specs.declared.event.Event.{Event}
 use Rattle.console_core.specs.History.{Maps, between}
 use Rattle.console_core.specs.Sticking.{LeavesOn, LeavesOnBetween}
+use Rattle.keymap_text.specs.Meaning.{Spells}
 use Rattle.keymap_check.specs.Report.{report_of}
+use Rattle.keymap_cover.specs.declared.parts.Cover.{Cover}
+use Rattle.keymap_cover.specs.declared.stroke.Stroke.{Stroke}
+use Rattle.keymap_cover.specs.declared.stroke.Stroke.TheVariants as stroke
+use Rattle.keymap_cover.specs.Covering.{Covers, events}
+use Rattle.play_core.specs.declared.sent.What.{What}
+use Rattle.play_core.specs.declared.sent.What.TheVariants.{Down, Repeat, Up, Reset}
 use Rattle.play_core.specs.declared.sent.Sent.{Sent}
+use Rattle.play_core.specs.declared.show.Show.{Show}
 use Rattle.play_core.specs.declared.show.Show.TheVariants as show
 use Rattle.play_core.specs.Delivery.{delivered}
 use Rattle.play_core.specs.Scripts.{IsScript}
@@ -52,3 +60,31 @@ ShowsScript m text =
     (text ≡ check_text (report_of m) ++ words.NO_DEMONSTRATION.now)
     ⊎ ((script : List ℕ) × (text ≡ check_text (report_of m) ++ (words.DEMONSTRATION.now ++ script))
     × ScriptSticks m script)
+
+-- ---- a script that tests a console
+
+-- what is sent to make a stroke
+abbrev pub what_of_stroke : Stroke → What
+what_of_stroke (stroke.Down k) = Down k
+what_of_stroke (stroke.Repeat k) = Repeat k
+what_of_stroke (stroke.Up k) = Up k
+what_of_stroke stroke.Reset = Reset
+
+-- what is sent to make the strokes of a cover, in their order
+abbrev pub strokes_sent : Cover → List Sent
+strokes_sent c = map (λ s. record { lost = false; what = what_of_stroke s }) c.strokes.items
+
+-- The text is a script of the strokes of a cover of the map, and of nothing else. It delivers the events that this
+-- cover speaks of.
+pub record ShowsCover (m : MapValue) (script : List ℕ) : Type 0 where
+  pub cover : Cover
+  pub covers : Covers m cover
+  pub is : IsScript script (strokes_sent cover)
+  pub nothing_else : (sent : List Sent) → IsScript script sent → sent ≡ strokes_sent cover
+  pub delivers : reverse (delivered (strokes_sent cover)) ≡ events cover
+
+-- This is what is shown of the strokes of a cover of the keymap that the text spells, played on it.
+abbrev pub PlaysCover : Show → List ℕ → List ℕ → Type 0
+PlaysCover show text told =
+    (m : MapValue) × (c : Cover) × Spells text m × Covers m c
+    × (told ≡ played_text show (between m m) (strokes_sent c))

@@ -33,6 +33,7 @@ use Rattle.kmap_runs.specs.declared.fault_line.Source.TheVariants as source
 use Rattle.kmap_runs.specs.Cover.{cover_text}
 use Rattle.kmap_runs.specs.Inputs.{Moves, Stays, ReadsKeymap, ReadsKeymaps, ReadsFile, ReadsWhole, ReadsBoth, maps_of}
 use Rattle.kmap_runs.specs.LintRuns.{IsLinted}
+use Rattle.kmap_runs.specs.Replayed.{ShowsCover}
 use Rattle.kmap_runs.specs.Report.{report}
 use Rattle.kmap_runs.specs.Search.{found_text, is_never}
 use Rattle.kmap_runs.specs.Typing.{typing_script}
@@ -176,3 +177,10 @@ abbrev pub WellLintedNeverStick : Type 0
 WellLintedNeverStick =
     (file : List ℕ) (source out : Moves) → LintsText file source out (Ok true)
     → (text : List ℕ) × (m : MapValue) × TakesWhole source.old source.new text × Spells text m × NeverSticks m
+
+-- What is printed to test a console is a script of a cover of the keymap that the text spells.
+abbrev pub PrintedCoversAreScripts : Type 0
+PrintedCoversAreScripts =
+    (text out : Moves) → CoversText text out (Ok (tt {0}))
+    → (m : MapValue) × (script : List ℕ) × ReadsKeymap source.Text text (Ok m) × Appends out.old out.new script
+    × ShowsCover m script

@@ -7,51 +7,16 @@ ghost use Rattle.console_core.specs.declared.selection.Sight.TheVariants as Sigh
 ghost use Rattle.keymap_cover.specs.Covering.{verdict_of, is_verdict};
 ghost use Rattle.kmap_runs.specs.Cover as spec;
 
+use crate::words::{
+    ACCENTS, ALL_PAIRS, BOTH_LOCKS, CELLS, CLOCK, COLUMNS, COUNTS, DOWN, LEFT_OUT, LISTED,
+    LOCK_SETTINGS, LOCKS, LOOKS, NEVER, NLOCK, NO_LOCK, ONE_SLOT, ONE_WAY, PAIRS, REPEAT, RESET,
+    RULES, SLOTS, UNSTUCK, UP,
+};
 use console_core::Sight;
 use keymap_core::{ACCENT_LIMIT, Accent, AccentIndex, Action, COLUMN_COUNT, KeyMap, SLOT_LIMIT};
 use keymap_cover::{Counts, Cover, Part, Start, Stroke, Verdict, cells, lock_settings};
 use messages::{either, fill, number};
 use std::alloc::{AllocError, Global};
-
-// The lines, with a place for each thing that is told.
-pub(crate) const COUNTS: &[u8] = b"# {}: {}, left out {}, {} {}\n";
-
-pub(crate) const ONE_SLOT: &[u8] = b"# {}: slot {}{}\n";
-
-pub(crate) const SLOTS: &[u8] = b"# {}: slots {} to {}{}\n";
-
-pub(crate) const PAIRS: &[u8] = b"# {}: {} with{}\n";
-
-pub(crate) const PART: &[u8] = b"# {}\n";
-
-pub(crate) const DOWN: &[u8] = b"down {}\n";
-
-pub(crate) const REPEAT: &[u8] = b"repeat {}\n";
-
-pub(crate) const UP: &[u8] = b"up {}\n";
-
-pub(crate) const RESET: &[u8] = b"reset\n";
-
-// What is counted.
-pub(crate) const CELLS: &[u8] = b"cells";
-
-pub(crate) const LOCK_SETTINGS: &[u8] = b"lock settings";
-
-pub(crate) const ALL_PAIRS: &[u8] = b"pairs";
-
-// What is told of what isn't seen.
-pub(crate) const LEFT_OUT: &[u8] = b"left out";
-
-pub(crate) const NEVER: &[u8] = b"never";
-
-pub(crate) const UNSTUCK: &[u8] = b"not before a modifier sticks";
-
-// What is listed of a slot, and a number in a list.
-pub(crate) const COLUMNS: &[u8] = b"; columns";
-
-pub(crate) const LOCKS: &[u8] = b"; locks";
-
-pub(crate) const LISTED: &[u8] = b" {}";
 
 /// A script of a keymap, and which sights are listed.
 #[derive(Clone, Copy)]
@@ -136,10 +101,10 @@ fn settings(alloc: Global, listing: &Listing, slot: u8) -> Result<Vec<u8>, Alloc
         ≡ spec.settings_text (verdict_of listing.now.map.now listing.now.cover.now) listing.now.listed slot) }
 {
     let mut text = Vec::new(alloc);
-    push_setting(&mut text, listing, under(slot, false, false), b" none")?;
-    push_setting(&mut text, listing, under(slot, false, true), b" nlock")?;
-    push_setting(&mut text, listing, under(slot, true, false), b" clock")?;
-    push_setting(&mut text, listing, under(slot, true, true), b" clock+nlock")?;
+    push_setting(&mut text, listing, under(slot, false, false), NO_LOCK)?;
+    push_setting(&mut text, listing, under(slot, false, true), NLOCK)?;
+    push_setting(&mut text, listing, under(slot, true, false), CLOCK)?;
+    push_setting(&mut text, listing, under(slot, true, true), BOTH_LOCKS)?;
     Ok(text)
 }
 
@@ -497,14 +462,15 @@ fn push_lists(
     Ok(())
 }
 
-fn part_name(part: Part) -> &'static [u8]
-    ensures { result.now ≡ spec.part_name part }
+/// The comment that begins the part.
+fn part_line(part: Part) -> &'static [u8]
+    ensures { result.now ≡ spec.part_line part }
 {
     match part {
-        Part::Looks => b"looks",
-        Part::Accents => b"accents",
-        Part::Rules => b"rules",
-        Part::OneWay => b"one-way",
+        Part::Looks => LOOKS,
+        Part::Accents => ACCENTS,
+        Part::Rules => RULES,
+        Part::OneWay => ONE_WAY,
     }
 }
 
@@ -513,7 +479,7 @@ fn push_start(text: &mut Vec<u8>, place: usize, start: &Start) -> Result<(), All
     ensures { OnOk result (text.new.items ≡ text.old.items ++ spec.start_line place start.now) }
 {
     if start.at == place {
-        fill(text, PART, &[part_name(start.part)])
+        text.extend_from_slice(part_line(start.part))
     } else {
         Ok(())
     }

@@ -1,17 +1,23 @@
 //! Laws of the definitions: what is printed as a script is one. No function here does anything.
 ghost use Rattle.std.specs.Prelude.{◌≡◌, List, [], ℕ, map, Option, Some, None, Ok, true};
 ghost use Rattle.keymap_core.specs.Maps.{MapValue};
+ghost use Rattle.keymap_cover.specs.Covering.{events};
+ghost use Rattle.keymap_cover.specs.declared.parts.Cover.{Cover as CoverValue};
 ghost use Rattle.console_core.specs.declared.outcome.Sticking.{Sticking as StickingValue};
-ghost use Rattle.console_core.specs.History.{Maps};
+ghost use Rattle.console_core.specs.History.{HasKeys, Maps};
 ghost use Rattle.console_core.specs.Sticking.{IsAnswer, IsAnswerBetween};
 ghost use Rattle.play_core.specs.Scripts.{IsScript};
+ghost use Rattle.play_core.specs.declared.show.Show.{Show as ShowValue};
 ghost use Rattle.play_core.specs.declared.show.Show.TheVariants as show;
 ghost use Rattle.play_core.specs.Spelling.{sent_of};
 ghost use Rattle.play_core.specs.Typing.{IsTyped, events_for};
+ghost use Rattle.kmap_runs.specs.Cover.{cover_text};
 ghost use Rattle.kmap_runs.specs.Report.{report};
 ghost use Rattle.kmap_runs.specs.Replayed.{ScriptTypes, AnswerReplays, AnswerReplaysBetween, ShowsScript};
+ghost use Rattle.kmap_runs.specs.Replayed.{PlaysCover, strokes_sent};
 ghost use Rattle.kmap_runs.specs.Inputs.{moves};
 ghost use Rattle.kmap_runs.specs.Runs.{DrawnAreWellFormed, PlaysTexts, TypesSentence, WellLintedNeverStick};
+ghost use Rattle.kmap_runs.specs.Runs.{CoversText, PrintedCoversAreScripts};
 ghost use Rattle.kmap_runs.specs.Typing.{typing_script};
 
 use keymap_draw::laws::{pictures_are_plain, pictures_are_well_formed};
@@ -47,6 +53,27 @@ pub fn typed_sentences_come_back()
 /// on while no key is pressed.
 pub fn demonstrations_leave_a_modifier_on()
     ensures { (m : MapValue) → ShowsScript m (report m true) }
+{}
+
+/// What is printed of a cover, its comments with counts and lists, the comment that begins each part and a line for
+/// each stroke, is a script of exactly these strokes.
+pub fn cover_scripts_send_the_strokes()
+    ensures { (m : MapValue) (c : CoverValue) → HasKeys (events c) → IsScript (cover_text m c) (strokes_sent c) }
+{}
+
+/// What the run that prints it wrote for a text is a script of the strokes of a cover of the keymap that the text
+/// spells, and of nothing else.
+pub fn printed_covers_are_scripts()
+    ensures { PrintedCoversAreScripts }
+{}
+
+/// What `play` writes of the script that `cover_run` printed, over the same text, is what is played of the strokes of
+/// a cover of its keymap.
+pub fn printed_covers_are_played()
+    ensures { (show : ShowValue) (text script told : List ℕ) (t u v : Option (List ℕ))
+        → CoversText (moves (Some text) t) (moves (Some []) (Some script)) (Ok tt)
+        → PlaysTexts show (moves (Some text) u) None (moves (Some script) v) (moves (Some []) (Some told)) (Ok tt)
+        → PlaysCover show text told }
 {}
 
 /// What the run that draws wrote for a text, whatever the text is, is well formed and printable ASCII: no keymap brings

@@ -1,6 +1,6 @@
-//! The words of the report of the check and of the comments in the scripts that runs print, line by line. What is told
-//! stands at the places `{}`, in the order in which the contracts list it. The forms are those of docs/FORMATS.md, "The
-//! report of check", "What the search found" and "The script that types a sentence".
+//! The words of the report of the check and of the scripts that runs print, line by line. What is told stands at the
+//! places `{}`, in the order in which the contracts list it. The forms are those of docs/FORMATS.md, "The report of
+//! check", "What the search found", "The script that types a sentence" and "The script that tests a console".
 
 // The report: the verdict, and who bears a holding action. The line on a key that makes the keymap refused is
 // keymap_draw's, which shows it in pictures too.
@@ -31,3 +31,58 @@ pub(crate) const UNDECIDED: &[u8] = b"# undecided: no list of up to {} presses s
 
 // A line of the sentence, before what types it.
 pub(crate) const SENTENCE: &[u8] = b"# {}\n";
+
+// How many sights of a kind the script that tests a console sees, leaves out and never sees, and these kinds.
+pub(crate) const COUNTS: &[u8] = b"# {}: {}, left out {}, {} {}\n";
+
+pub(crate) const CELLS: &[u8] = b"cells";
+
+pub(crate) const LOCK_SETTINGS: &[u8] = b"lock settings";
+
+pub(crate) const ALL_PAIRS: &[u8] = b"pairs";
+
+// What that script doesn't see: of slots, and of an accent with characters.
+pub(crate) const ONE_SLOT: &[u8] = b"# {}: slot {}{}\n";
+
+pub(crate) const SLOTS: &[u8] = b"# {}: slots {} to {}{}\n";
+
+pub(crate) const PAIRS: &[u8] = b"# {}: {} with{}\n";
+
+pub(crate) const LEFT_OUT: &[u8] = b"left out";
+
+pub(crate) const NEVER: &[u8] = b"never";
+
+pub(crate) const UNSTUCK: &[u8] = b"not before a modifier sticks";
+
+// What is listed of a slot: columns, and settings of clock and nlock. A number in a list.
+pub(crate) const COLUMNS: &[u8] = b"; columns";
+
+pub(crate) const LOCKS: &[u8] = b"; locks";
+
+pub(crate) const NO_LOCK: &[u8] = b" none";
+
+pub(crate) const NLOCK: &[u8] = b" nlock";
+
+pub(crate) const CLOCK: &[u8] = b" clock";
+
+pub(crate) const BOTH_LOCKS: &[u8] = b" clock+nlock";
+
+pub(crate) const LISTED: &[u8] = b" {}";
+
+// Where its parts begin.
+pub(crate) const LOOKS: &[u8] = b"# looks\n";
+
+pub(crate) const ACCENTS: &[u8] = b"# accents\n";
+
+pub(crate) const RULES: &[u8] = b"# rules\n";
+
+pub(crate) const ONE_WAY: &[u8] = b"# one-way\n";
+
+// Its events.
+pub(crate) const DOWN: &[u8] = b"down {}\n";
+
+pub(crate) const REPEAT: &[u8] = b"repeat {}\n";
+
+pub(crate) const UP: &[u8] = b"up {}\n";
+
+pub(crate) const RESET: &[u8] = b"reset\n";

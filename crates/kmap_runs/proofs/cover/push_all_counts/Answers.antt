@@ -2,7 +2,7 @@ use Rattle.std.proofs.Common.{◌≡◌, ◌∙◌, ap, ◌++◌}
 use Rattle.keymap_cover.specs.Covering.{verdict_of, counts_of}
 use Rattle.keymap_cover.specs.SightLists.{all_cells, all_lock_settings}
 use Rattle.kmap_runs.specs.Cover.{all_pairs, counts_line, rest_word}
-use Rattle.kmap_runs.specs.declared.cover.TheConstants as words
+use Rattle.kmap_runs.specs.declared.words.TheConstants as words
 use Rattle.kmap_runs.proofs.Covered.{three_behind}
 use Rattle.kmap_runs.proofs.cover.push_all_counts.Goals as goal
 

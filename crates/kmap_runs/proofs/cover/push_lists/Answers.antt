@@ -2,7 +2,7 @@ use Rattle.std.proofs.Common.{◌≡◌, ◌∙◌, ap, ◌++◌}
 use Rattle.keymap_cover.specs.Covering.{verdict_of}
 use Rattle.keymap_cover.specs.declared.parts.Verdict.TheVariants.{LeftOut, Never}
 use Rattle.kmap_runs.specs.Cover.{accent_lines, rest_word, rows_of, slot_lines}
-use Rattle.kmap_runs.specs.declared.cover.TheConstants as words
+use Rattle.kmap_runs.specs.declared.words.TheConstants as words
 use Rattle.kmap_runs.proofs.Covered.{failed_on, four_behind}
 use Rattle.kmap_runs.proofs.cover.push_lists.Goals as goal
 

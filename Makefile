@@ -51,13 +51,15 @@ EXAMPLES = $(SHARE)/examples/kmap
 DOC = $(SHARE)/doc/kmap
 
 # The shared library names the processors that it is for, so the loader refuses it on others.
+LINK_SHARED = if [ ! -f $(SHARED) ] || [ -n "$$(find $(LIBRARY) Makefile -newer $(SHARED))" ]; then \
+    $(CC) -shared -Wl,-soname,$(SONAME) -Wl,-z,x86-64-v2 \
+        -Wl,--whole-archive $(LIBRARY) -Wl,--no-whole-archive -o $(SHARED); \
+    fi
+
 all:
 	@RT="$(RT)" sh build.sh kmap out/kmap run -- --version
 	@RT="$(RT)" sh build.sh kmap_c out/libkmap_c.a lib
-	@if [ ! -f $(SHARED) ] || [ -n "$$(find $(LIBRARY) Makefile -newer $(SHARED))" ]; then \
-	    $(CC) -shared -Wl,-soname,$(SONAME) -Wl,-z,x86-64-v2 \
-	        -Wl,--whole-archive $(LIBRARY) -Wl,--no-whole-archive -o $(SHARED); \
-	fi
+	@$(LINK_SHARED)
 
 # What `rt try` builds is run once and not kept, so nothing else takes it.
 quick:
@@ -86,8 +88,9 @@ other-build:
 	sh tests/program.sh $(PROGRAM).by-rattle
 	sh tests/both_builds.sh $(PROGRAM) $(PROGRAM).by-rattle
 
-# the tests of what is built
+# the tests of what is built; `make check` builds the static library alone
 scripts:
+	@$(LINK_SHARED)
 	sh tests/statements.sh
 	sh tests/names.sh
 	sh tests/words.sh

@@ -2,19 +2,16 @@
  * kmap.h: the FreeBSD console's keyboard for C, over the bytes of a table file, which `kmap compile` writes and
  * kmap_read_text makes of a keymap text.
  *
- * A console lives in the memory of its caller. No call takes memory, and none keeps a pointer that it was given. The
- * library has no state of its own: calls may run at once, on different consoles also over the same tables, where none
- * writes what another reads.
+ * A console lives in the memory of its caller. No call takes memory, and none keeps a pointer that it was given. What a
+ * pointer to const leads to is only read. The library has no state of its own, so calls may run at once where none
+ * writes what another one is given.
  *
- * What each call asks of its caller: no pointer is null, also where the length with it is 0; as many bytes, events or
- * places for answers as a length says may be read, or written where the pointer isn't to const; and what a call writes
- * overlaps nothing else that it is given. Texts, tables and words are bytes and may begin anywhere; all else is aligned
- * as its C type is. A pointer to const is only read, and the two tables of a call may be the same bytes.
+ * Each comment ends with what the call needs, which calls may run at once with it, and the most that it takes of the
+ * stack, with its arguments there and its return address, but without what memcpy, memmove and memset take. Bytes stand
+ * anywhere, also at an odd address; all else is aligned as its C type is. What is apart has no byte in common.
  *
  * Any bytes are safe as tables and as a console. The answers are those of the keymap where the bytes are its tables,
  * which kmap_check tells, and where the console was begun by kmap_start and stepped with these tables only.
- *
- * A call uses less than two kilobytes of stack where its comment doesn't say more.
  *
  * Link with -lkmap. The library needs memcpy, memmove and memset.
  */
@@ -196,62 +193,105 @@ _Static_assert(sizeof(struct kmap_text_fault) == 24, "a fault of a text is 24 by
 /*
  * Checks a table file. KMAP_OK if it is the tables of a keymap, and `fault` stays as it was; else KMAP_FAULTY, and
  * `fault` is the first fault.
+ *
+ * Needs: no null pointer, also where `length` is 0; `length` bytes of `tables`; `fault` aligned and apart from them.
+ * At once: calls may share the tables. Stack: 1,100 bytes.
  */
 int32_t kmap_check(const uint8_t *tables, size_t length, struct kmap_fault *fault);
 
 /*
  * Reads a keymap text, which kmap(5) describes, of any length. KMAP_OK if it spells a keymap, and then `tables` are its
- * tables; else KMAP_TEXT_FAULT, and `fault` is the first fault. It uses some 18 kilobytes of stack.
+ * tables; else KMAP_TEXT_FAULT, and `fault` is the first fault.
+ *
+ * Needs: no null pointer, also where `length` is 0; `length` bytes of `text`; `fault` aligned; the three apart.
+ * At once: calls may share the text. Stack: 21,000 bytes.
  */
 int32_t kmap_read_text(const uint8_t *text, size_t length, struct kmap_tables *tables, struct kmap_text_fault *fault);
 
 /*
  * Prints the keymap of tables as a text, as `kmap dump` does, into `room` bytes. KMAP_OK if they are enough: then the
  * text stands in front, without a 0 behind it, and bytes past it stay. `size` is how many bytes the text has, also
- * where it is KMAP_NO_ROOM; KMAP_FAULTY if these are no tables of a keymap, or KMAP_BAD_LENGTH. It uses some 7
- * kilobytes of stack.
+ * where it is KMAP_NO_ROOM; KMAP_FAULTY if these are no tables of a keymap, or KMAP_BAD_LENGTH.
+ *
+ * Needs: no null pointer, also where `length` or `room` is 0; `length` bytes of `tables` and `room` bytes of `text`;
+ * `size` aligned; the three apart. At once: calls may share the tables. Stack: 6,400 bytes.
  */
 int32_t kmap_print_text(const uint8_t *tables, size_t length, uint8_t *text, size_t room, size_t *size);
 
 /*
  * Checks whether a keymap is safe: no key has both a modifier or lock and a character among its cells. KMAP_OK if the
  * tables are those of a safe keymap, and `finding` stays as it was; KMAP_UNSAFE if they are those of another, and
- * `finding` is that of its least key; KMAP_FAULTY if they are no tables of a keymap, or KMAP_BAD_LENGTH. It uses some 6
- * kilobytes of stack.
+ * `finding` is that of its least key; KMAP_FAULTY if they are no tables of a keymap, or KMAP_BAD_LENGTH.
  *
  * It is proved that no modifier sticks where it answers KMAP_OK for the tables of a console, or for both: whatever
  * events were delivered since kmap_start, a bit of kmap_modifiers is set only while some key is down that has this
  * modifier in the tables in force. A key is down where its last press came after its last release, KMAP_RESET or
  * KMAP_LOAD. So once the release of every key that was pressed was delivered, kmap_modifiers answers 0.
+ *
+ * Needs: no null pointer, also where `length` is 0; `length` bytes of `tables`; `finding` aligned and apart from them.
+ * At once: calls may share the tables. Stack: 5,500 bytes.
  */
 int32_t kmap_accepts(const uint8_t *tables, size_t length, struct kmap_finding *finding);
 
 /*
  * Which key bears a modifier or lock, by its number as in kmap_finding. KMAP_OK, KMAP_BAD_LENGTH or KMAP_BAD_HOLDING;
- * the answer is that of the keymap where the tables are those of one. It uses some 7 kilobytes of stack.
+ * the answer is that of the keymap where the tables are those of one.
+ *
+ * Needs: no null pointer, also where `length` is 0; `length` bytes of `tables`; `bearer` apart from them.
+ * At once: calls may share the tables. Stack: 6,400 bytes.
  */
 int32_t kmap_bearer(const uint8_t *tables, size_t length, uint8_t holding, struct kmap_bearer *bearer);
 
 /*
- * Put a sentence into `room` bytes, and a 0 behind it: what a kind of fault of tables or of a text means, and what a
- * finding does, as `kmap check` says it. KMAP_OK; KMAP_BAD_KIND if the number names no kind; KMAP_BAD_HOLDING if the
- * finding has the number of no modifier or lock; or KMAP_NO_ROOM. KMAP_WORDS_SIZE bytes are room for each.
+ * Puts the sentence of a kind of fault of tables into `room` bytes, and a 0 behind it. KMAP_OK; KMAP_BAD_KIND if the
+ * number names no kind; or KMAP_NO_ROOM. KMAP_WORDS_SIZE bytes are room for each.
+ *
+ * Needs: `words` not null, also where `room` is 0; `room` bytes of it. At once: calls with other words.
+ * Stack: 64 bytes.
  */
 int32_t kmap_fault_words(uint32_t kind, uint8_t *words, size_t room);
+
+/*
+ * The same of a kind of fault of a text.
+ *
+ * Needs: `words` not null, also where `room` is 0; `room` bytes of it. At once: calls with other words.
+ * Stack: 64 bytes.
+ */
 int32_t kmap_text_fault_words(uint32_t kind, uint8_t *words, size_t room);
+
+/*
+ * The same of what a finding does, as `kmap check` says it. KMAP_BAD_HOLDING if the finding has the number of no
+ * modifier or lock.
+ *
+ * Needs: no null pointer, also where `room` is 0; `room` bytes of `words`; `finding` aligned and apart from them.
+ * At once: calls with other words. Stack: 400 bytes.
+ */
 int32_t kmap_finding_words(const struct kmap_finding *finding, uint8_t *words, size_t room);
 
-/* Begins a console: nothing on, nothing pending, and the first keymap in force. */
+/*
+ * Begins a console: nothing on, nothing pending, and the first keymap in force.
+ *
+ * Needs: `console` not null and aligned. At once: calls with other consoles. Stack: 16 bytes.
+ */
 void kmap_start(struct kmap_console *console);
 
 /*
  * Delivers an event to a console of one keymap, where KMAP_LOAD acts as KMAP_RESET, and puts the answer in place.
  * KMAP_OK, KMAP_BAD_LENGTH or KMAP_BAD_EVENT.
+ *
+ * Needs: no null pointer, also where `length` is 0; `length` bytes of `tables`; `console` and `answer` aligned; the
+ * three apart. At once: calls with other consoles and answers, also over the same tables. Stack: 400 bytes.
  */
 int32_t kmap_step(const uint8_t *tables, size_t length, struct kmap_console *console, uint16_t event,
     uint32_t *answer);
 
-/* The same to a console between two keymaps. Each KMAP_LOAD puts the other one in force. */
+/*
+ * The same to a console between two keymaps. Each KMAP_LOAD puts the other one in force.
+ *
+ * Needs: no null pointer, also where a length is 0; as many bytes of the tables as their lengths say; `console` and
+ * `answer` aligned; all apart, but tables may overlap each other. At once: calls with other consoles and answers,
+ * also over the same tables. Stack: 400 bytes.
+ */
 int32_t kmap_step_between(const uint8_t *first, size_t first_length, const uint8_t *second, size_t second_length,
     struct kmap_console *console, uint16_t event, uint32_t *answer);
 
@@ -259,17 +299,33 @@ int32_t kmap_step_between(const uint8_t *first, size_t first_length, const uint8
  * Delivers events in their order to a console between two keymaps, which may be the same bytes, and puts the answer
  * to each in place. Answers past the number of events stay. KMAP_OK, KMAP_BAD_LENGTH, KMAP_BAD_EVENT or KMAP_NO_ROOM;
  * where it isn't KMAP_OK, no event was delivered.
+ *
+ * Needs: no null pointer, also where a length or number is 0; as many bytes, events and places for answers as the
+ * lengths and numbers say; `console`, `events` and `answers` aligned; all apart, but tables may overlap each other.
+ * At once: calls with other consoles and answers, also over the same tables and events. Stack: 400 bytes.
  */
 int32_t kmap_deliver(const uint8_t *first, size_t first_length, const uint8_t *second, size_t second_length,
     struct kmap_console *console, const uint16_t *events, size_t n_events, uint32_t *answers, size_t n_answers);
 
-/* Which modifiers are on, as KMAP_LSHIFT to KMAP_META. */
+/*
+ * Which modifiers are on, as KMAP_LSHIFT to KMAP_META.
+ *
+ * Needs: `console` not null and aligned. At once: calls that don't write this console. Stack: 16 bytes.
+ */
 uint8_t kmap_modifiers(const struct kmap_console *console);
 
-/* Which locks are on, as KMAP_CLOCK to KMAP_ALOCK. */
+/*
+ * Which locks are on, as KMAP_CLOCK to KMAP_ALOCK.
+ *
+ * Needs: `console` not null and aligned. At once: calls that don't write this console. Stack: 16 bytes.
+ */
 uint8_t kmap_locks(const struct kmap_console *console);
 
-/* The index of the pending accent, 0 for dgra to 14, or -1 where none is pending. */
+/*
+ * The index of the pending accent, 0 for dgra to 14, or -1 where none is pending.
+ *
+ * Needs: `console` not null and aligned. At once: calls that don't write this console. Stack: 16 bytes.
+ */
 int32_t kmap_pending(const struct kmap_console *console);
 
 #ifdef __cplusplus

@@ -103,8 +103,20 @@ static void check_refusals(void)
 	holds("one byte too few", kmap_step(tables, KMAP_TABLES_SIZE - 1, &console, 30, &answer) == KMAP_BAD_LENGTH);
 	holds("one byte too many", kmap_step_between(tables, KMAP_TABLES_SIZE, tables, KMAP_TABLES_SIZE + 1, &console,
 	    30, &answer) == KMAP_BAD_LENGTH);
+	holds("258 is no event between two", kmap_step_between(tables, KMAP_TABLES_SIZE, tables, KMAP_TABLES_SIZE,
+	    &console, 258, &answer) == KMAP_BAD_EVENT);
+	holds("a length is told before an event", kmap_step_between(tables, KMAP_TABLES_SIZE - 1, tables,
+	    KMAP_TABLES_SIZE, &console, 258, &answer) == KMAP_BAD_LENGTH);
 	holds("an event of two is none", kmap_deliver(tables, KMAP_TABLES_SIZE, tables, KMAP_TABLES_SIZE, &console,
 	    events, 2, answers, 2) == KMAP_BAD_EVENT);
+	holds("an event is told before the places", kmap_deliver(tables, KMAP_TABLES_SIZE, tables, KMAP_TABLES_SIZE,
+	    &console, events, 2, answers, 1) == KMAP_BAD_EVENT);
+	holds("the first tables are short", kmap_deliver(tables, KMAP_TABLES_SIZE - 1, tables, KMAP_TABLES_SIZE,
+	    &console, events, 2, answers, 1) == KMAP_BAD_LENGTH);
+	holds("the second ones are empty", kmap_deliver(tables, KMAP_TABLES_SIZE, tables, 0, &console, events, 2,
+	    answers, 2) == KMAP_BAD_LENGTH);
+	holds("the second ones are long, and there is no event", kmap_deliver(tables, KMAP_TABLES_SIZE, tables,
+	    KMAP_TABLES_SIZE + 1, &console, events, 0, answers, 0) == KMAP_BAD_LENGTH);
 	events[1] = KMAP_LOAD;
 	holds("a place for one of two", kmap_deliver(tables, KMAP_TABLES_SIZE, tables, KMAP_TABLES_SIZE, &console,
 	    events, 2, answers, 1) == KMAP_NO_ROOM);

@@ -111,6 +111,10 @@ broken man/kmap.1 's/BadWord/BadWards/' 'failed: kmap(1) tells of BadWord' manua
 broken man/kmap.1 's/^\.It dead-key$/.It dead-keys/' 'failed: kmap(1) tells what to do about dead-key' manual
 broken man/kmap.3 's/KMAP_BAD_KIND/KMAP_KIND/' 'failed: kmap(3) tells of KMAP_BAD_KIND' manual
 broken man/kmap.3 's/^\(\.F[on]\) kmap_start/\1 kmap_begin/' 'failed: kmap(3) tells of kmap_start' manual
+broken man/kmap.3 's/^\(\.It Fn kmap_check Ta\) .*/\1 100/' \
+    'failed: kmap(3) tells of the stack what the header does' manual
+broken include/kmap.h '/^ \* At once: calls may share the text/d' \
+    'failed: the comment of each function says what it needs and takes, but of: kmap_read_text' manual
 for shell in bash fish zsh; do
     file=completions/kmap.$shell
     [ $shell != zsh ] || file=completions/_kmap
@@ -168,6 +172,29 @@ done
 cp "$top/build.sh" "$top/LICENSE" copy
 broken README.md 's/^accepted$/refused/' 'failed: README.md: kmap check us.kbd' sh copy/tests/guide.sh
 broken docs/GUIDE.md 's/^test_shift passed$/test_shift failed/' 'failed: docs/GUIDE.md: cp us.kbd' sh copy/tests/guide.sh
+
+# A C library that exports and wants another name and answers another number, with a header that tells of too little
+# stack, a limit that a program passes, and a buffer that is too short.
+cc=${CC:-cc}
+if is_there "$cc" && is_there nm; then
+    made=copy/crates/kmap_c/out
+    printf '#include <unistd.h>\nint kmap_other(void);\nint kmap_other(void)\n{\nreturn getpid();\n}\n' > other.c
+    "$cc" -fPIC -c other.c && ar r "$made/libkmap_c.a" other.o 2> said
+    "$cc" -shared -Wl,--whole-archive "$made/libkmap_c.a" -Wl,--no-whole-archive -o "$made/libkmap.so"
+    breaks include/kmap.h 's/Stack: 21,000/Stack: 20,000/; s/KMAP_BAD_EVENT (-2)/KMAP_BAD_EVENT (-9)/'
+    breaks tests/c_library.sh 's/ 5712$/ 4096/'
+    breaks tests/c_texts.c 's/uint8_t text.256.;/static uint8_t text[16];/; s/, sizeof text, &size/, 256, \&size/'
+    sh copy/tests/c_library.sh "$program" "$made/libkmap_c.a" 0 > said 2>&1
+    holds 'the script of the C library succeeds' [ $? -ne 0 ]
+    for line in 'libkmap_c.a wants nothing more: getpid' 'libkmap_c.a exports what' 'c_library tables: ' \
+        'libkmap.so wants nothing more: getpid' 'libkmap.so exports what' 'kmap_read_text takes'; do
+        holds "it does not say: $line" grep -q "^failed: $line" said
+    done
+    ! is_there size || holds 'it does not say what a program pays' grep -q '^failed: a program that only steps' said
+    grep -q '^skipped: there are no sanitizers' said ||
+        holds 'the sanitizers do not find the short buffer' grep -q '^SUMMARY: AddressSanitizer: .*overflow' said
+    for file in include/kmap.h tests/c_library.sh tests/c_texts.c; do mended $file; done
+fi
 
 # A program from which no memory is refused.
 printf '#!/bin/sh\nexit 0\n' > silent

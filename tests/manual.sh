@@ -1,7 +1,7 @@
 #!/bin/sh
 # Compares the manual pages with the built program and the sources: the pages name every command and option of the help,
-# every kind of fault and of diagnostic, and every function of the header, of which the sources have the same ones, and
-# mandoc has nothing to say about them.
+# every kind of fault and of diagnostic, and every function of the header, of which the sources have the same ones, with
+# the stack that its comment tells, and mandoc has nothing to say about them.
 #
 # usage: manual.sh PROGRAM
 # The last line is 'N passed, M failed'; the status is 0 where none failed.
@@ -66,6 +66,12 @@ holds 'the header has the functions of the sources' [ "$(echo "$exported" | sort
 for function in $functions; do
     holds "kmap(3) tells of $function" grep -q "^\.F[on] $function" man/kmap.3
 done
+lacking=$(awk '/^\/\*/ { said = "" } { said = said $0 } /^[a-z0-9_]+ kmap_[a-z_]+\(/ { sub("\\(.*", "", $2)
+    if (said !~ / Needs: .* At once: .* Stack: [0-9,]+ bytes/) print $2; said = "" }' include/kmap.h)
+holds "the comment of each function says what it needs and takes, but of: $lacking" [ -z "$lacking" ]
+stacks_of include/kmap.h | sort > "$folder/told"
+awk '$1 == ".It" && $2 == "Fn" && $4 == "Ta" { gsub(",", "", $5); print $3, $5 }' man/kmap.3 | sort > "$folder/paged"
+same_text 'kmap(3) tells of the stack what the header does' "$folder/told" "$folder/paged"
 statuses=$(sed -n 's/^#define \(KMAP_[A-Z_]*\) (\(-[0-9]*\)).*/\1 \2/p' include/kmap.h)
 exported=$(sed -n 's/^\(pub(crate) \)*const \([A-Z_]*\): i32 = \(-[0-9]*\);.*/KMAP_\2 \3/p' crates/kmap_c/src/*.rt)
 holds 'the header has the statuses of the sources' [ "$(echo "$exported" | sort)" = "$(echo "$statuses" | sort)" ]

@@ -59,6 +59,12 @@ variants() {
     sed -n "/^pub enum $2 {/,/^}/s/^    \([A-Z][A-Za-z]*\).*/\1/p" "$1"
 }
 
+# stacks_of HEADER: the functions that a header declares, each with how much stack its comment says that it takes
+stacks_of() {
+    awk '/Stack: [0-9,]+ bytes\.$/ { bytes = $(NF - 1); gsub(",", "", bytes) }
+        /^[a-z0-9_]+ kmap_[a-z_]+\(/ { sub("\\(.*", "", $2); print $2, bytes; bytes = "untold" }' "$1"
+}
+
 counted() {
     echo "$passed passed, $failed failed"
     [ $failed -eq 0 ] && [ $passed -gt 0 ]

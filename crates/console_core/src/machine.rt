@@ -154,7 +154,8 @@ fn release<S: Store>(store: &mut S, key: KeyCode) -> Answer
     }
 }
 
-/// Turns the lock off if no key of the map bears it.
+/// Turns the lock off if no key of the map bears it. A load does so for each lock: one body of code serves the four.
+#[inline(never)]
 fn keep_if_borne<K: Keymap, S: Store>(store: &mut S, map: &K, lock: Lock)
     ensures { (m : MapValue) → K.shows map.now m → S.kept store.new ≡ with_lock_borne m lock (S.kept store.old) }
 {

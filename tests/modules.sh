@@ -18,7 +18,7 @@ import sys
 
 os.chdir(sys.argv[1])
 # These stand in many crates, and the page says so below its table.
-COMMON = {"lib", "main", "Lib", "Inner", "laws", "limits", "fault", "type_error"}
+COMMON = {"lib", "main", "Lib", "Inner", "Types", "laws", "limits", "fault", "type_error"}
 PARTS = (("src/", "*.rt", r"`([a-z_]+)`"), ("specs/", "*.antt", r"`([A-Z]\w*)`"), ("specs/Inner/", "*.antt", r"`([A-Z]\w*)`"))
 
 

@@ -3,9 +3,7 @@ use Prim.Native.Nat.{suc}
 use Rattle.std.proofs.Common.{subst, ◌≡◌, ℕ, ◌<◌, false, ◌&&◌, not, List, [], ◌∷◌, None, refl}
 use Rattle.std.proofs.Common.{ap, sym, ◌∙◌, if◌then◌else◌}
 use Rattle.std.specs.Prelude.{◌==◌}
-use Rattle.keymap_core.specs.declared.action.Action.{Action}
-use Rattle.keymap_core.specs.declared.action.Modifier.{Modifier}
-use Rattle.keymap_core.specs.declared.action.Modifier.TheVariants.{Meta}
+use Rattle.console_core.specs.Types.{Action, Modifier, Meta, Cell, Char, Act, Event, Press, Load, Answer}
 use Rattle.keymap_core.specs.declared.action.Holding.TheVariants as holding
 use Rattle.keymap_core.specs.Maps.{MapValue}
 use Rattle.console_core.specs.Positions.{is_odd, count_where}
@@ -19,11 +17,6 @@ use Rattle.console_core.specs.Agrees.{Agrees, StandsAt, Kept, nothing_kept}
 use Rattle.console_core.specs.Answers.{answer_char, answer_action, answer_release}
 use Rattle.console_core.specs.Inner.Kept.{after_character, after_action, after_release, after_reset, after_load}
 use Rattle.console_core.specs.Resolved.ResolvedEvent.{PressedCharacter, PressedAction, ReleasedKey, WasReset, WasLoaded}
-use Rattle.keymap_core.specs.declared.entry.Cell.{Cell}
-use Rattle.keymap_core.specs.declared.entry.Cell.TheVariants.{Char, Act}
-use Rattle.console_core.specs.declared.event.Event.{Event}
-use Rattle.console_core.specs.declared.event.Event.TheVariants.{Press, Load}
-use Rattle.console_core.specs.declared.event.Answer.{Answer}
 use Rattle.console_core.proofs.OneMore.{resolved-start, resolved-more, held-start, held-character, held-action}
 use Rattle.console_core.proofs.OneMore.{held-release, held-reset, locked-start, locked-character, locked-action}
 use Rattle.console_core.proofs.OneMore.{locked-release, locked-reset, remembered-start, remembered-character}

@@ -6,11 +6,8 @@ use Rattle.std.proofs.lemmas.Bool.{eqb-true, eq-eqb, and_parts, or_cases, cases_
 use Rattle.std.specs.Option.{option_or}
 use Rattle.std.proofs.lemmas.Option.{none-some, same_Some}
 use Rattle.std.proofs.lemmas.Bool.{or_right}
-use Rattle.keymap_core.specs.declared.action.Action.{Action}
+use Rattle.console_core.specs.Types.{Action, Holding, Cell, Char, Act, Event, Press, Release, Reset, Load}
 use Rattle.keymap_core.specs.declared.action.Action.TheVariants as act
-use Rattle.keymap_core.specs.declared.action.Holding.{Holding}
-use Rattle.keymap_core.specs.declared.entry.Cell.{Cell}
-use Rattle.keymap_core.specs.declared.entry.Cell.TheVariants.{Char, Act}
 use Rattle.keymap_core.specs.Actions.{same_action, holding_action}
 use Rattle.keymap_core.specs.Maps.{MapValue}
 use Rattle.console_core.specs.Resolved.{ResolvedEvent, held, remembered, taken_over, unless_nop, is_this_action, look}
@@ -18,8 +15,6 @@ use Rattle.console_core.specs.Resolved.{resolve_press}
 use Rattle.console_core.specs.History.{Maps, in_force, resolved, pressed}
 use Rattle.console_core.specs.Resolved.ResolvedEvent.{PressedCharacter, PressedAction, ReleasedKey, WasReset, WasLoaded}
 use Rattle.keymap_core.specs.Bearers.{IsCellOf, Bears, IsAlone}
-use Rattle.console_core.specs.declared.event.Event.{Event}
-use Rattle.console_core.specs.declared.event.Event.TheVariants.{Press, Release, Reset, Load}
 use Rattle.console_core.proofs.OneMore.{resolved-start, resolved-more, held-start, held-character, held-action}
 use Rattle.console_core.proofs.OneMore.{held-release, held-reset, remembered-start, remembered-character}
 use Rattle.console_core.proofs.OneMore.{remembered-action, remembered-release, remembered-reset, pressed-press}

@@ -5,15 +5,11 @@ use Rattle.std.proofs.Common.{subst, sym, ◌∙◌, inl, inr, if◌then◌else�
 use Rattle.std.proofs.lemmas.Bool.{and_parts, or_cases, true≢false}
 use Rattle.std.proofs.lemmas.List.Elements.{All-head, All-tail}
 use Rattle.std.specs.Option.{option_or}
-use Rattle.keymap_core.specs.declared.action.Action.{Action}
+use Rattle.console_core.specs.Types.{Action, Lock, Holding, Cell, Char, Act, Event, Press, Release, Reset, Load}
 use Rattle.keymap_core.specs.declared.action.Action.TheVariants as act
 use Rattle.keymap_core.specs.declared.action.Modifier.TheVariants as modifier
-use Rattle.keymap_core.specs.declared.action.Lock.{Lock}
 use Rattle.keymap_core.specs.declared.action.Lock.TheVariants as lock
-use Rattle.keymap_core.specs.declared.action.Holding.{Holding}
 use Rattle.keymap_core.specs.declared.action.Holding.TheVariants as holding
-use Rattle.keymap_core.specs.declared.entry.Cell.{Cell}
-use Rattle.keymap_core.specs.declared.entry.Cell.TheVariants.{Char, Act}
 use Rattle.keymap_core.specs.Actions.{same_action, holding_action}
 use Rattle.keymap_core.specs.Maps.{MapValue, cell_at}
 use Rattle.console_core.specs.Columns.{slot_of, column_of, exactly_one}
@@ -22,8 +18,6 @@ use Rattle.console_core.specs.Resolved.{resolve_press}
 use Rattle.console_core.specs.History.{Maps, in_force, loaded, resolved, HasKey, HasKeys}
 use Rattle.console_core.specs.Resolved.ResolvedEvent.{PressedCharacter, PressedAction, ReleasedKey, WasReset, WasLoaded}
 use Rattle.keymap_core.specs.Bearers.{StandsIn, IsUpperLive, IsCellOf}
-use Rattle.console_core.specs.declared.event.Event.{Event}
-use Rattle.console_core.specs.declared.event.Event.TheVariants.{Press, Release, Reset, Load}
 use Rattle.console_core.proofs.OneMore.{resolved-start, resolved-more, held-start, held-character, held-action}
 use Rattle.console_core.proofs.OneMore.{held-release, held-reset, locked-start, locked-character, locked-action}
 use Rattle.console_core.proofs.OneMore.{locked-release, locked-reset, held-load, locked-load}

@@ -1,11 +1,8 @@
 -- The bits of a packed console's word that are cut out of it as a byte.
 use Rattle.std.proofs.Common.{◌≡◌, ℕ, ◌/◌, ◌%◌, ◌^◌, ◌==◌, ap, arith}
 use Rattle.keymap_core.specs.Actions.{modifier_index, lock_index}
-use Rattle.keymap_core.specs.declared.action.Modifier.{Modifier}
-use Rattle.keymap_core.specs.declared.action.Modifier.TheVariants.{LeftShift, RightShift, LeftControl, RightControl}
-use Rattle.keymap_core.specs.declared.action.Modifier.TheVariants.{LeftAlt, RightAlt, AltShift, Meta}
-use Rattle.keymap_core.specs.declared.action.Lock.{Lock}
-use Rattle.keymap_core.specs.declared.action.Lock.TheVariants.{Caps, Num, Scroll, Alt}
+use Rattle.console_core.specs.Types.{Modifier, LeftShift, RightShift, LeftControl, RightControl, LeftAlt, RightAlt}
+use Rattle.console_core.specs.Types.{AltShift, Meta, Lock, Caps, Num, Scroll, Alt}
 use Rattle.console_core.specs.PackedWord.{bit_is_set, lock_bit}
 
 -- the modifiers: the lowest eight bits

@@ -5,7 +5,7 @@ use Rattle.std.specs.Prelude.{◌==◌, ◌≢◌, option_map}
 use Rattle.std.proofs.lemmas.Bool.{eqb-true}
 use Rattle.keymap_core.proofs.SameActions.{same_action-true}
 use Rattle.keymap_core.proofs.Lists.{get_or-replicate_default}
-use Rattle.keymap_core.specs.declared.action.Action.{Action}
+use Rattle.console_core.specs.Types.{Action}
 use Rattle.keymap_core.specs.Actions.{same_action, code_of, action_of}
 use Rattle.console_core.specs.PackedWord.{action_of_byte, code_memory}
 use Rattle.console_core.proofs.Places.{get_or-set_if}

@@ -2,12 +2,8 @@
 use Rattle.std.proofs.Common.{◌≡◌, Bool, true, false, Result, Ok, Err, IfOk, All, List, refl, ap, subst, sym, ◌∙◌}
 use Rattle.std.proofs.Common.{get_or, reverse, if◌then◌else◌}
 use Rattle.std.proofs.lemmas.Bool.{true≢false}
-use Rattle.keymap_core.specs.declared.action.Modifier.{Modifier}
+use Rattle.console_core.specs.Types.{Modifier, Event, Press, Release, Reset, Load, Sticking, Sticks, Never, Undecided}
 use Rattle.keymap_core.specs.Maps.{MapValue}
-use Rattle.console_core.specs.declared.event.Event.{Event}
-use Rattle.console_core.specs.declared.event.Event.TheVariants.{Press, Release, Reset, Load}
-use Rattle.console_core.specs.declared.outcome.Sticking.{Sticking}
-use Rattle.console_core.specs.declared.outcome.Sticking.TheVariants.{Sticks, Never, Undecided}
 use Rattle.console_core.specs.Resolved.{on}
 use Rattle.console_core.specs.History.{Maps, between, in_force, is_on_after, is_second_in_force, IsNoLoad, HasNoLoads}
 use Rattle.console_core.specs.Headline.{IsSafe, IsOnOnlyWhilePressed}

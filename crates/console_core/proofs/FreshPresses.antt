@@ -5,15 +5,11 @@ use Rattle.std.proofs.Common.{Some, None, refl, ap, subst, sym, ◌∙◌, if◌
 use Rattle.std.proofs.lemmas.Bool.{eqb-true, eq-eqb, true≢false, false_from_ne_true}
 use Rattle.std.proofs.lemmas.List.Elements.{All-head, All-tail}
 use Rattle.std.specs.Prelude.{◌==◌}
-use Rattle.keymap_core.specs.declared.action.Action.{Action}
+use Rattle.console_core.specs.Types.{Action, Lock, Cell, Char, Act, Holding, Event, Press, Release, Reset, Load}
 use Rattle.keymap_core.specs.declared.action.Action.TheVariants as act
-use Rattle.keymap_core.specs.declared.action.Lock.{Lock}
 use Rattle.keymap_core.specs.declared.action.Holding.TheVariants as holding
-use Rattle.keymap_core.specs.declared.entry.Cell.{Cell}
-use Rattle.keymap_core.specs.declared.entry.Cell.TheVariants.{Char, Act}
 use Rattle.keymap_core.specs.Actions.{same_action}
 use Rattle.keymap_core.specs.Maps.{MapValue, cell_at}
-use Rattle.keymap_core.specs.declared.action.Holding.{Holding}
 use Rattle.keymap_core.specs.Borne.{is_borne}
 use Rattle.keymap_core.proofs.BorneTests.{bears-borne}
 use Rattle.console_core.specs.Positions.{count_where, is_odd}
@@ -23,8 +19,6 @@ use Rattle.console_core.specs.History.{Maps, in_force, loaded, is_second_in_forc
 use Rattle.console_core.specs.History.{HasKey, HasKeys, IsNoLoad, HasNoLoads}
 use Rattle.keymap_core.specs.Bearers.{IsCellOf, BearsThroughout}
 use Rattle.console_core.specs.Headline.{is_fresh_press, LockedByFreshPresses}
-use Rattle.console_core.specs.declared.event.Event.{Event}
-use Rattle.console_core.specs.declared.event.Event.TheVariants.{Press, Release, Reset, Load}
 use Rattle.console_core.proofs.OneMore.{resolved-start, resolved-more, locked-start, locked-more, press-unlocks}
 use Rattle.keymap_core.proofs.SameActions.{same_action-refl}
 use Rattle.console_core.proofs.Borne.{AllLooked, taken-holding, look-cell, resolved-looked}

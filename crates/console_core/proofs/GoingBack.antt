@@ -3,11 +3,8 @@ use Rattle.std.proofs.Common.{◌≡◌, ℕ, ◌+◌, ◌<◌, IfSome, List, []
 use Rattle.std.proofs.Common.{Some, None, refl, ap, subst, sym, ◌∙◌, arith, append_assoc}
 use Rattle.std.proofs.lemmas.Option.{slice_get_within, same_Some}
 use Rattle.std.proofs.lemmas.List.{append-nil, take_more}
-use Rattle.keymap_core.specs.declared.action.Modifier.{Modifier}
+use Rattle.console_core.specs.Types.{Modifier, Event, Press, Move}
 use Rattle.keymap_core.specs.Actions.{modifiers}
-use Rattle.console_core.specs.declared.event.Event.{Event}
-use Rattle.console_core.specs.declared.event.Event.TheVariants.{Press}
-use Rattle.console_core.specs.declared.held.Move.{Move}
 use Rattle.console_core.specs.Moves.{Under, State, state_after, script_of_path, events_of_move, events_along}
 use Rattle.console_core.specs.Moves.{release_of, releases}
 use Rattle.console_core.specs.Inner.Searching.{Entry, Entries, IsTrail, IsReached, Searched, GoBack}

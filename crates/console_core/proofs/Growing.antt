@@ -5,12 +5,9 @@ use Rattle.std.proofs.Common.{length, slice_get, Some, None, refl, ap, subst, sy
 use Rattle.std.proofs.lemmas.Bool.{cases_lt, true≢false}
 use Rattle.std.proofs.lemmas.Option.{slice_get_within, get_or_from_slice_get, none-some, same_Some}
 use Rattle.std.proofs.lemmas.List.Elements.{All-append}
-use Rattle.keymap_core.specs.declared.action.Modifier.{Modifier}
-use Rattle.keymap_core.specs.declared.action.Lock.TheVariants.{Scroll}
+use Rattle.console_core.specs.Types.{Modifier, Scroll, Move, Turn, Exchange}
 use Rattle.keymap_core.specs.Borne.{is_borne}
 use Rattle.keymap_core.specs.declared.action.Holding.TheVariants as holding
-use Rattle.console_core.specs.declared.held.Move.{Move}
-use Rattle.console_core.specs.declared.held.Move.TheVariants.{Turn, Exchange}
 use Rattle.console_core.specs.Moves.{Under, State, with_holder, with_lock_turned, next_map, IsMove, moved, presses_of}
 use Rattle.console_core.specs.Inner.Searching.{state_of, Entry, Entries, Grows, IsMetBy, IsLetGoMet, IsExchangeMet}
 use Rattle.console_core.specs.Inner.Searching.{ArePressesMet, IsFrom, AreAdded, IsTrail, IsReached, IsClosed}

@@ -5,15 +5,11 @@ use Rattle.std.proofs.Common.{refl, ap, subst, sym, ◌∙◌, inl, inr, if◌th
 use Rattle.std.specs.Prelude.{◌==◌, reverse}
 use Rattle.std.proofs.lemmas.Bool.{eqb-true, cases_Bool, true≢false, false_from_ne_true}
 use Rattle.std.proofs.lemmas.List.Elements.{All-head, All-tail}
-use Rattle.keymap_core.specs.declared.action.Action.{Action}
+use Rattle.console_core.specs.Types.{Action, Lock, Modifier, Holding, Cell, Char, Act, Event, Press, Release, Reset}
+use Rattle.console_core.specs.Types.{Load}
 use Rattle.keymap_core.specs.declared.action.Action.TheVariants as act
-use Rattle.keymap_core.specs.declared.action.Lock.{Lock}
-use Rattle.keymap_core.specs.declared.action.Modifier.{Modifier}
 use Rattle.keymap_core.specs.declared.action.Modifier.TheVariants as modifier
-use Rattle.keymap_core.specs.declared.action.Holding.{Holding}
 use Rattle.keymap_core.specs.declared.action.Holding.TheVariants as holding
-use Rattle.keymap_core.specs.declared.entry.Cell.{Cell}
-use Rattle.keymap_core.specs.declared.entry.Cell.TheVariants.{Char, Act}
 use Rattle.keymap_core.specs.Actions.{same_action, holding_action}
 use Rattle.keymap_core.specs.Maps.{MapValue}
 use Rattle.console_core.specs.Positions.{is_odd, count_where}
@@ -28,8 +24,6 @@ use Rattle.keymap_core.specs.Bearers.{IsCellOf, BearsThroughout}
 use Rattle.console_core.specs.Headline.{IsSafe, IsSteady, IsActing, AreRepeats, OnOnlyWhilePressed}
 use Rattle.console_core.specs.Headline.{OnExactlyWhilePressed, RepeatsTurnNoSteadyLock, OffOnceQuiet}
 use Rattle.console_core.specs.Headline.{GoesOnAsAfterReset}
-use Rattle.console_core.specs.declared.event.Event.{Event}
-use Rattle.console_core.specs.declared.event.Event.TheVariants.{Press, Release, Reset, Load}
 use Rattle.console_core.proofs.OneMore.{resolved-more, locked-more, held-character, held-action, held-release}
 use Rattle.console_core.proofs.OneMore.{held-reset, locked-character, locked-action, locked-release, locked-reset}
 use Rattle.console_core.proofs.OneMore.{remembered-character, remembered-action, remembered-release, remembered-reset}

@@ -4,15 +4,11 @@ use Rattle.std.proofs.Common.{◌≡◌, ℕ, ◌+◌, ◌<◌, ◌⊎◌, true,
 use Rattle.std.proofs.Common.{◌∙◌, arith, slice_get, Some}
 use Rattle.std.specs.List.{Contains}
 use Rattle.std.proofs.lemmas.List.Elements.{Contains-push, Contains-push_cases, Contains-append_left}
-use Rattle.console_core.specs.declared.held.Move.{Move}
-use Rattle.console_core.specs.declared.held.Move.TheVariants.{Hold, Turn, LetGo, Exchange}
-use Rattle.console_core.specs.declared.sights.Sights.{Sights}
+use Rattle.console_core.specs.Types.{Move, Hold, Turn, LetGo, Exchange, Sights, Cell, Act}
 use Rattle.std.proofs.lemmas.Bool.{true≢false}
 use Rattle.std.proofs.lemmas.Option.{slice_get_within}
 use Rattle.keymap_core.specs.Maps.{MapValue}
 use Rattle.keymap_core.specs.declared.action.Action.TheVariants as act
-use Rattle.keymap_core.specs.declared.entry.Cell.{Cell}
-use Rattle.keymap_core.specs.declared.entry.Cell.TheVariants.{Act}
 use Rattle.console_core.specs.Moves.{Under, alone, State, look_in, IsForgetful, IsPath, state_after, presses_along}
 use Rattle.console_core.specs.Sights.{Note, selection_of, IsNoteOf, Has, AreSightsOf}
 use Rattle.console_core.specs.Inner.Searching.{state_of, Entry, Entries, IsReached, Searched}

@@ -3,13 +3,8 @@ use Rattle.std.proofs.Common.{◌≡◌, ℕ, ◌<◌, Bool, true, false, cond, 
 use Rattle.std.proofs.Common.{Some, ap, lit<, refl, sym, subst, arith}
 use Rattle.std.proofs.lemmas.List.{get_or-set_same, get_or-set_other, get_or-replicate}
 use Rattle.std.proofs.lemmas.Bool.{eqb-true, eqb-false, ne_eqb}
-use Rattle.keymap_core.specs.declared.action.Modifier.{Modifier}
-use Rattle.keymap_core.specs.declared.action.Modifier.TheVariants.{LeftShift}
-use Rattle.keymap_core.specs.declared.action.Lock.{Lock}
-use Rattle.keymap_core.specs.declared.action.Lock.TheVariants.{Caps, Num, Scroll, Alt}
-use Rattle.keymap_core.specs.declared.action.Holding.{Holding}
+use Rattle.console_core.specs.Types.{Modifier, LeftShift, Lock, Caps, Num, Scroll, Alt, Holding, Action}
 use Rattle.keymap_core.specs.declared.action.Holding.TheVariants as holding
-use Rattle.keymap_core.specs.declared.action.Action.{Action}
 use Rattle.keymap_core.specs.declared.action.Action.TheVariants as act
 use Rattle.keymap_core.specs.Actions.{holding_of, modifier_index, lock_index, holding_index, same_action}
 use Rattle.keymap_core.specs.Actions.{holding_action, modifiers}

@@ -2,18 +2,14 @@
 use Rattle.std.proofs.Common.{◌≡◌, ℕ, ◌+◌, ◌<◌, Bool, true, false, ◌&&◌, List, refl, ap, subst, sym, ◌∙◌, inl, inr}
 use Rattle.std.proofs.Common.{lit<}
 use Rattle.std.proofs.lemmas.Bool.{or_cases, and_parts, false_from_ne_true, or_left, or_right}
-use Rattle.keymap_core.specs.declared.action.Lock.{Lock}
+use Rattle.console_core.specs.Types.{Lock, Modifier, Holding, Act, Event}
 use Rattle.keymap_core.specs.declared.action.Lock.TheVariants as lock
-use Rattle.keymap_core.specs.declared.action.Modifier.{Modifier}
 use Rattle.keymap_core.specs.declared.action.Modifier.TheVariants as modifier
-use Rattle.keymap_core.specs.declared.action.Holding.{Holding}
 use Rattle.keymap_core.specs.declared.action.Holding.TheVariants as holding
-use Rattle.keymap_core.specs.declared.entry.Cell.TheVariants.{Act}
 use Rattle.keymap_core.specs.Actions.{holding_action}
 use Rattle.keymap_core.specs.Maps.{MapValue, cell_at}
 use Rattle.keymap_core.specs.Bearers.{Bears, IsCellOf, BearsThroughout, NobodyBears}
 use Rattle.keymap_core.specs.Borne.{any_below, has_in_slot, is_upper_live}
-use Rattle.console_core.specs.declared.event.Event.{Event}
 use Rattle.console_core.specs.Positions.{count_where, is_odd}
 use Rattle.console_core.specs.Columns.{look_with}
 use Rattle.console_core.specs.Resolved.{ResolvedEvent, held, locked, look}

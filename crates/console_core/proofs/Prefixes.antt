@@ -3,10 +3,7 @@ use Prim.Native.Nat.{suc}
 use Rattle.std.proofs.Common.{◌≡◌, ℕ, Bool, true, false, List, [], ◌∷◌, ◌++◌, length, Some, refl, ap, sym, ◌∙◌}
 use Rattle.std.proofs.Common.{if◌then◌else◌}
 use Rattle.std.proofs.lemmas.Bool.{eqb-true, eq-eqb, true≢false}
-use Rattle.keymap_core.specs.declared.entry.Cell.{Cell}
-use Rattle.keymap_core.specs.declared.entry.Cell.TheVariants.{Char, Act}
-use Rattle.console_core.specs.declared.event.Event.{Event}
-use Rattle.console_core.specs.declared.event.Event.TheVariants.{Press, Release, Reset, Load}
+use Rattle.console_core.specs.Types.{Cell, Char, Act, Event, Press, Release, Reset, Load}
 use Rattle.console_core.specs.Positions.{last_where}
 use Rattle.console_core.specs.Resolved.{ResolvedEvent, resolve_press, answer_resolved}
 use Rattle.console_core.specs.History.{Maps, in_force, concerns, is_press, pressed, resolved, resolved_event}

@@ -11,8 +11,7 @@ use Rattle.std.proofs.lemmas.Bool.{cases_lt, true≢false}
 use Rattle.std.proofs.lemmas.List.{get_or_default, same_lists}
 use Rattle.std.proofs.lemmas.Map.Keys.{IsDistinct-head, IsDistinct-tail}
 use Rattle.std.proofs.lemmas.Option.{slice_get-get_or, none-some, same_Some}
-use Rattle.keymap_core.specs.declared.action.Modifier.TheVariants.{LeftShift}
-use Rattle.keymap_core.specs.declared.action.Lock.TheVariants.{Caps}
+use Rattle.console_core.specs.Types.{LeftShift, Caps}
 use Rattle.keymap_core.specs.Actions.{modifiers, locks, modifier_index, lock_index}
 use Rattle.console_core.specs.declared.held.Held.{Held}
 use Rattle.console_core.specs.Inner.Searching.{state_of, Entry, Entries, Searched, IsReached, AreWithin}

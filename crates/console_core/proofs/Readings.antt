@@ -1,13 +1,8 @@
 -- That the notions by resolved events are those on the events.
 use Rattle.std.proofs.Common.{◌≡◌, ℕ, Bool, false, true, ◌&&◌, not, List, [], ◌∷◌, ◌++◌, refl, ap, sym, ◌∙◌, inl, inr}
 use Rattle.std.proofs.lemmas.Bool.{or_cases, and_parts, not-true, true≢false, or_right}
-use Rattle.keymap_core.specs.declared.action.Holding.{Holding}
+use Rattle.console_core.specs.Types.{Holding, Lock, Cell, Char, Act, Event, Press, Release, Reset, Load}
 use Rattle.keymap_core.specs.declared.action.Holding.TheVariants as holding
-use Rattle.keymap_core.specs.declared.action.Lock.{Lock}
-use Rattle.keymap_core.specs.declared.entry.Cell.{Cell}
-use Rattle.keymap_core.specs.declared.entry.Cell.TheVariants.{Char, Act}
-use Rattle.console_core.specs.declared.event.Event.{Event}
-use Rattle.console_core.specs.declared.event.Event.TheVariants.{Press, Release, Reset, Load}
 use Rattle.console_core.specs.Positions.{holds_since, count_since, is_odd}
 use Rattle.console_core.specs.Resolved.{unlocks, look, resolve_press, held, locked, raises, lowers, turns}
 use Rattle.console_core.specs.History.{Maps, in_force, resolved_event, resolved}

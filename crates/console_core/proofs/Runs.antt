@@ -4,11 +4,8 @@ use Rattle.std.proofs.Common.{◌≡◌, ℕ, Bool, false, true, List, [], ◌�
 use Rattle.std.proofs.Common.{sym, subst, ◌∙◌, if◌then◌else◌}
 use Rattle.std.proofs.lemmas.Bool.{true≢false, eqb-true, eqb-false, eq-eqb, ne_eqb}
 use Rattle.std.proofs.lemmas.Option.{none-some, same_Some}
-use Rattle.keymap_core.specs.declared.entry.Cell.{Cell}
-use Rattle.keymap_core.specs.declared.entry.Cell.TheVariants.{Char, Act}
+use Rattle.console_core.specs.Types.{Cell, Char, Act, Event, Press, Release, Reset, Load}
 use Rattle.keymap_core.specs.Maps.{MapValue}
-use Rattle.console_core.specs.declared.event.Event.{Event}
-use Rattle.console_core.specs.declared.event.Event.TheVariants.{Press, Release, Reset, Load}
 use Rattle.console_core.specs.Positions.{is_odd, positions_without}
 use Rattle.console_core.specs.Resolved.{resolve_press, look, keeps, dead_key, dead_keys_taken, run_length}
 use Rattle.console_core.specs.Resolved.{pending_by_dead_keys}

@@ -5,13 +5,9 @@ use Rattle.std.proofs.Common.{length, slice_get, slice_index_or, Option, Some, N
 use Rattle.std.proofs.lemmas.Bool.{cases_lt, true≢false}
 use Rattle.std.proofs.lemmas.Option.{slice_get_within, same_Some}
 use Rattle.std.proofs.lemmas.List.Elements.{All-nil, All-cons}
-use Rattle.keymap_core.specs.declared.action.Modifier.{Modifier}
-use Rattle.keymap_core.specs.declared.action.Lock.{Lock}
-use Rattle.keymap_core.specs.declared.action.Lock.TheVariants.{Scroll}
+use Rattle.console_core.specs.Types.{Modifier, Lock, Scroll, Cell, Act}
 use Rattle.keymap_core.specs.Actions.{modifier_index, lock_index}
 use Rattle.keymap_core.specs.declared.action.Action.TheVariants as act
-use Rattle.keymap_core.specs.declared.entry.Cell.{Cell}
-use Rattle.keymap_core.specs.declared.entry.Cell.TheVariants.{Act}
 use Rattle.console_core.specs.declared.held.Held.{Held}
 use Rattle.console_core.specs.declared.held.Step.{Step}
 use Rattle.console_core.specs.declared.search.Origin.{Origin}

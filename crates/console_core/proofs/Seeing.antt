@@ -4,17 +4,11 @@ use Rattle.std.proofs.Common.{◌≡◌, ℕ, ◌<◌, Bool, true, false, List, 
 use Rattle.std.proofs.Common.{◌∙◌, ◌⊎◌, inl, inr, arith, if◌then◌else◌}
 use Rattle.std.proofs.lemmas.Bool.{true≢false}
 use Rattle.std.proofs.lemmas.List.Elements.{All-head, All-tail}
-use Rattle.keymap_core.specs.declared.action.Action.{Action}
+use Rattle.console_core.specs.Types.{Action, Modifier, Lock, Cell, Char, Act, Event, Press, Release, Reset, Load}
 use Rattle.keymap_core.specs.declared.action.Action.TheVariants as act
-use Rattle.keymap_core.specs.declared.action.Modifier.{Modifier}
-use Rattle.keymap_core.specs.declared.action.Lock.{Lock}
-use Rattle.keymap_core.specs.declared.entry.Cell.{Cell}
-use Rattle.keymap_core.specs.declared.entry.Cell.TheVariants.{Char, Act}
 use Rattle.keymap_core.specs.Actions.{same_action}
 use Rattle.keymap_core.specs.Maps.{MapValue}
 use Rattle.keymap_core.proofs.SameActions.{same_action-true}
-use Rattle.console_core.specs.declared.event.Event.{Event}
-use Rattle.console_core.specs.declared.event.Event.TheVariants.{Press, Release, Reset, Load}
 use Rattle.console_core.specs.declared.selection.Sight.TheVariants as sight
 use Rattle.console_core.specs.Answers.{usable, is_pending}
 use Rattle.console_core.specs.Resolved.{ResolvedEvent, on, locked, look, remembered, taken_over, pending, keeps_taken}
@@ -23,9 +17,8 @@ use Rattle.console_core.specs.Inner.Kept.{next_pending, pending_after_dead_key}
 use Rattle.console_core.specs.History.{between, in_force, resolved, is_second_in_force, HasKey, IsNoLoad}
 use Rattle.console_core.specs.Moves.{alone, State, is_held, IsIdle, look_in}
 use Rattle.console_core.specs.Sticking.{NeverForgets, presses}
-use Rattle.console_core.specs.Sights.{selection_with, selection_of, selection_after, look_selected, IsClean}
-use Rattle.console_core.specs.Sights.{IsAdmitted, Note, IsNoteOf, IsNoted, LooksAreSelected}
-use Rattle.console_core.specs.Sights.{SightsAreReachable}
+use Rattle.console_core.specs.Sights.{selection_with, selection_of, selection_after, look_selected, IsClean, IsAdmitted}
+use Rattle.console_core.specs.Sights.{Note, IsNoteOf, IsNoted, LooksAreSelected, SightsAreReachable}
 use Rattle.console_core.proofs.OneMore.{resolved-start, resolved-more, pending-start, pending-character, pending-action}
 use Rattle.console_core.proofs.OneMore.{pending-release, pending-reset}
 use Rattle.console_core.proofs.Staying.{Follows, follows-look, stays, all-spared, clean-spared}

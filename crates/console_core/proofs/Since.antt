@@ -5,11 +5,7 @@ use Rattle.std.specs.Prelude.{◌==◌}
 use Rattle.std.proofs.lemmas.Bool.{true≢false}
 use Rattle.std.specs.Option.{option_or, is_some}
 use Rattle.std.proofs.lemmas.Option.{none-some}
-use Rattle.keymap_core.specs.declared.action.Action.{Action}
-use Rattle.keymap_core.specs.declared.entry.Cell.{Cell}
-use Rattle.keymap_core.specs.declared.entry.Cell.TheVariants.{Char, Act}
-use Rattle.console_core.specs.declared.event.Event.{Event}
-use Rattle.console_core.specs.declared.event.Event.TheVariants.{Press, Release, Reset, Load}
+use Rattle.console_core.specs.Types.{Action, Cell, Char, Act, Event, Press, Release, Reset, Load}
 use Rattle.console_core.specs.Positions.{first_since_at}
 use Rattle.console_core.specs.Resolved.{resolve_press, remembered, look, unless_nop}
 use Rattle.console_core.specs.History.{Maps, in_force, resolved}

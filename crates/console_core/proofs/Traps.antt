@@ -7,19 +7,14 @@ use Rattle.std.proofs.lemmas.List.Elements.{All-tail}
 use Rattle.std.proofs.lemmas.Bool.{or_right}
 use Rattle.keymap_core.specs.declared.action.Action.TheVariants as act
 use Rattle.keymap_core.specs.declared.action.Lock.TheVariants as lock
-use Rattle.keymap_core.specs.declared.action.Modifier.{Modifier}
-use Rattle.keymap_core.specs.declared.action.Modifier.TheVariants.{LeftShift, RightShift, LeftControl, RightControl}
-use Rattle.keymap_core.specs.declared.action.Modifier.TheVariants.{LeftAlt, RightAlt, AltShift, Meta}
+use Rattle.console_core.specs.Types.{Modifier, LeftShift, RightShift, LeftControl, RightControl, LeftAlt, RightAlt}
+use Rattle.console_core.specs.Types.{AltShift, Meta, Cell, Char, Act, Event, Press, Release, Reset, Load}
 use Rattle.keymap_core.specs.declared.action.Holding.TheVariants as holding
-use Rattle.keymap_core.specs.declared.entry.Cell.{Cell}
-use Rattle.keymap_core.specs.declared.entry.Cell.TheVariants.{Char, Act}
 use Rattle.keymap_core.specs.declared.entry.LockFlag.{LockFlag}
 use Rattle.keymap_core.specs.declared.entry.LockFlag.TheVariants as flag
 use Rattle.keymap_core.specs.Actions.{same_action}
 use Rattle.keymap_core.specs.Maps.{MapValue, entry_at}
 use Rattle.keymap_core.specs.Bearers.{IsCellOf}
-use Rattle.console_core.specs.declared.event.Event.{Event}
-use Rattle.console_core.specs.declared.event.Event.TheVariants.{Press, Release, Reset, Load}
 use Rattle.console_core.specs.Columns.{exactly_one, flips_shift, slot_of}
 use Rattle.console_core.specs.Resolved.{ResolvedEvent, held, locked, on, remembered, taken_over, is_this_action, look}
 use Rattle.console_core.specs.Resolved.{resolve_press}

@@ -4,11 +4,8 @@ use Rattle.std.proofs.Common.{◌≡◌, ℕ, ◌<◌, ◌≤◌, ◌==◌, arit
 use Rattle.std.proofs.Common.{reverse, if◌then◌else◌}
 use Rattle.std.proofs.lemmas.Bool.{true≢false}
 use Rattle.std.proofs.lemmas.List.Elements.{All-nil, All-cons, All-head, All-tail}
-use Rattle.keymap_core.specs.declared.action.Modifier.{Modifier}
+use Rattle.console_core.specs.Types.{Modifier, Event, Press, Release, Reset, Load, Sticks, Never, Undecided}
 use Rattle.keymap_core.specs.Maps.{MapValue}
-use Rattle.console_core.specs.declared.event.Event.{Event}
-use Rattle.console_core.specs.declared.event.Event.TheVariants.{Press, Release, Reset, Load}
-use Rattle.console_core.specs.declared.outcome.Sticking.TheVariants.{Sticks, Never, Undecided}
 use Rattle.console_core.specs.History.{between, pressed, HasKey, HasKeys, IsNoLoad, HasNoLoads}
 use Rattle.console_core.specs.Loads.{as_reset, loads_as_resets}
 use Rattle.console_core.specs.Sticking.{SticksAfter, SticksBetween, presses, AnswersAlikeOfOneKeymap}

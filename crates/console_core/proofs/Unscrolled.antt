@@ -1,13 +1,10 @@
 -- No look depends on the scroll lock, so states that differ in it alone lead on alike.
 use Rattle.std.proofs.Common.{◌≡◌, Bool, false, ◌&&◌, not, Some, None, refl, ap, subst, sym, ◌∙◌, if◌then◌else◌}
-use Rattle.keymap_core.specs.declared.action.Lock.{Lock}
-use Rattle.keymap_core.specs.declared.action.Lock.TheVariants.{Caps, Num, Scroll, Alt}
+use Rattle.console_core.specs.Types.{Lock, Caps, Num, Scroll, Alt, Move, Hold, Turn, LetGo, Exchange}
 use Rattle.keymap_core.specs.Actions.{same_lock}
 use Rattle.keymap_core.specs.Borne.{is_borne}
 use Rattle.keymap_core.specs.Maps.{MapValue}
 use Rattle.keymap_core.specs.declared.action.Holding.TheVariants as holding
-use Rattle.console_core.specs.declared.held.Move.{Move}
-use Rattle.console_core.specs.declared.held.Move.TheVariants.{Hold, Turn, LetGo, Exchange}
 use Rattle.console_core.specs.Moves.{Under, State, with_holder, with_lock_turned, next_map, IsMove, moved}
 use mathlib.Core.Path.{fun_ext}
 

@@ -8,16 +8,12 @@ use Rattle.std.specs.List.{Contains, list_any, range_with_len}
 use Rattle.std.proofs.lemmas.Bool.{and_parts, eqb-true, eq-eqb, true≢false}
 use Rattle.std.proofs.lemmas.List.Folds.{list_any_at}
 use Rattle.std.proofs.lemmas.List.FromFn.{get_or-range_with_len}
-use Rattle.keymap_core.specs.declared.entry.Cell.{Cell}
-use Rattle.keymap_core.specs.declared.entry.Cell.TheVariants.{Char, Act}
+use Rattle.console_core.specs.Types.{Cell, Char, Act, Selection, Sight, Sights}
 use Rattle.keymap_core.specs.Maps.{MapValue}
 use Rattle.keymap_core.specs.Numbers.{key_count}
-use Rattle.console_core.specs.declared.selection.Selection.{Selection}
-use Rattle.console_core.specs.declared.selection.Sight.{Sight}
 use Rattle.console_core.specs.declared.selection.Sight.TheVariants as sight
 use Rattle.console_core.specs.Columns.{slot_of}
 use Rattle.console_core.specs.Sights.{slot_in, column_in, look_selected, SeesBy, is_same, is_character, sees_by}
-use Rattle.console_core.specs.declared.sights.Sights.{Sights}
 use Rattle.console_core.specs.Sights.{is_seeing, is_selected, is_offered}
 use Rattle.console_core.specs.Inner.Noting.{IsSelectedBy}
 

@@ -13,11 +13,8 @@ use Rattle.std.proofs.Math.Pow.{pow-lt, pow_pos}
 use Rattle.std.proofs.Math.Nat.{mod-eq_of_lt, zero-mul, one-mul}
 use Rattle.std.proofs.lemmas.Nat.{and_le_r, pow-add}
 use native.Mathlib.Nat.{div-div-eq-div-mul}
-use Rattle.keymap_core.specs.declared.action.Holding.{Holding}
-use Rattle.keymap_core.specs.declared.action.Lock.{Lock}
+use Rattle.console_core.specs.Types.{Holding, Lock, LeftShift, Caps}
 use Rattle.keymap_core.specs.Actions.{holding_index, lock_index, same_lock}
-use Rattle.keymap_core.specs.declared.action.Modifier.TheVariants.{LeftShift}
-use Rattle.keymap_core.specs.declared.action.Lock.TheVariants.{Caps}
 use Rattle.keymap_core.specs.declared.action.Holding.TheVariants as holding
 use Rattle.console_core.proofs.Places.{modifier_index-lt}
 use Rattle.console_core.specs.PackedWord.{bit_is_set, word_mark, word_lock, word_second, pending_field, mark_bit}

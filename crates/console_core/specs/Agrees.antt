@@ -1,11 +1,8 @@
 -- What a console keeps between two events, as one record, and when that is what the resolved events so far leave.
 use Rattle.std.specs.Prelude.{◌≡◌, ℕ, ◌<◌, Bool, false, List, Option, None}
-use Rattle.keymap_core.specs.declared.action.Action.{Action}
-use Rattle.keymap_core.specs.declared.action.Lock.{Lock}
-use Rattle.keymap_core.specs.declared.action.Holding.{Holding}
+use Rattle.console_core.specs.Types.{Action, Lock, Holding, Event}
 use Rattle.keymap_core.specs.Maps.{MapValue}
 use Rattle.keymap_core.specs.Numbers.{key_count}
-use Rattle.console_core.specs.declared.event.Event.{Event}
 use Rattle.console_core.specs.Resolved.{ResolvedEvent, held, locked, remembered, pending}
 use Rattle.console_core.specs.History.{Maps, in_force, is_second_in_force, resolved}
 

@@ -1,12 +1,9 @@
 -- Facts on which the main theorem stands.
 use Rattle.std.specs.Prelude.{◌≡◌, ℕ, ◌==◌, Bool, true, false, List, ◌∷◌, ◌++◌, Some}
-use Rattle.keymap_core.specs.declared.action.Modifier.{Modifier}
-use Rattle.keymap_core.specs.declared.action.Holding.{Holding}
+use Rattle.console_core.specs.Types.{Modifier, Holding, Event, Press, Release, Reset, Load}
 use Rattle.keymap_core.specs.declared.action.Holding.TheVariants as holding
 use Rattle.keymap_core.specs.Actions.{holding_action}
 use Rattle.keymap_core.specs.Bearers.{StandsIn, IsUpperLive, IsCellOf}
-use Rattle.console_core.specs.declared.event.Event.{Event}
-use Rattle.console_core.specs.declared.event.Event.TheVariants.{Press, Release, Reset, Load}
 use Rattle.console_core.specs.Columns.{is_upper}
 use Rattle.console_core.specs.History.{Maps, in_force, is_on_after, is_locked_after, pressed, HasKeys}
 use Rattle.console_core.specs.Reading.{look_after, remembered_after, raises_at, NoneOf}

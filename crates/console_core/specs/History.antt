@@ -2,14 +2,10 @@
 -- first: in `e ∷ h` the events before e are h.
 use Rattle.std.specs.Prelude.{◌≡◌, ℕ, ◌<◌, ◌==◌, Bool, false, true, List, [], ◌∷◌, All, Option, Some, if◌then◌else◌}
 use Rattle.std.specs.List.{list_any}
-use Rattle.keymap_core.specs.declared.action.Modifier.{Modifier}
-use Rattle.keymap_core.specs.declared.action.Lock.{Lock}
+use Rattle.console_core.specs.Types.{Modifier, Lock, Event, Press, Release, Reset, Load, Answer}
 use Rattle.keymap_core.specs.Maps.{MapValue}
 use Rattle.keymap_core.specs.Numbers.{key_count}
 use Rattle.keymap_core.specs.Actions.{modifiers}
-use Rattle.console_core.specs.declared.event.Event.{Event}
-use Rattle.console_core.specs.declared.event.Event.TheVariants.{Press, Release, Reset, Load}
-use Rattle.console_core.specs.declared.event.Answer.{Answer}
 use Rattle.console_core.specs.Positions.{last_where, count_where, is_odd}
 use Rattle.console_core.specs.Resolved.{ResolvedEvent, resolve, on, locked, pending, answer_resolved}
 

@@ -17,3 +17,4 @@ pub mod Resolved
 pub mod Sights
 pub mod Sticking
 pub mod Traps
+pub mod Types

@@ -1,10 +1,7 @@
 -- How a history reads where loads change nothing: without loads, and where both maps are the same.
 use Rattle.std.specs.Prelude.{◌≡◌, List, [], ◌∷◌}
-use Rattle.keymap_core.specs.declared.action.Modifier.{Modifier}
-use Rattle.keymap_core.specs.declared.action.Lock.{Lock}
+use Rattle.console_core.specs.Types.{Modifier, Lock, Event, Press, Release, Reset, Load}
 use Rattle.keymap_core.specs.Maps.{MapValue}
-use Rattle.console_core.specs.declared.event.Event.{Event}
-use Rattle.console_core.specs.declared.event.Event.TheVariants.{Press, Release, Reset, Load}
 use Rattle.console_core.specs.Positions.{count_where, is_odd}
 use Rattle.console_core.specs.History.{Maps, between, in_force, resolved, is_on_after, is_locked_after}
 use Rattle.console_core.specs.History.{accent_pending_after, answers_to, HasKeys, HasNoLoads}

@@ -1,6 +1,6 @@
 -- When what a packed console keeps is what a list of events leaves.
 use Rattle.std.specs.Prelude.{List}
-use Rattle.console_core.specs.declared.event.Event.{Event}
+use Rattle.console_core.specs.Types.{Event}
 use Rattle.console_core.specs.declared.word_store.WordStore.{WordStore}
 use Rattle.console_core.specs.Agrees.{StandsAt}
 use Rattle.console_core.specs.History.{Maps}

@@ -3,10 +3,8 @@
 use Rattle.std.specs.Prelude.{ℕ, ◌+◌, ◌-◌, ◌/◌, ◌^◌, ◌==◌, Bool, Option, None, Some, if◌then◌else◌, bit_and}
 use Rattle.std.specs.Prelude.{List, slice_index_or}
 use Rattle.std.specs.Int.{bit_at}
-use Rattle.keymap_core.specs.declared.action.Action.{Action}
-use Rattle.keymap_core.specs.declared.action.Holding.{Holding}
+use Rattle.console_core.specs.Types.{Action, Holding, Lock}
 use Rattle.keymap_core.specs.declared.action.Holding.TheVariants as holding
-use Rattle.keymap_core.specs.declared.action.Lock.{Lock}
 use Rattle.keymap_core.specs.Actions.{action_of, modifier_index, lock_index}
 use Rattle.console_core.specs.Agrees.{Kept}
 

@@ -1,19 +1,15 @@
 -- Maps in which each modifier and lock that picks a cell is borne throughout by one key alone, or by nobody: there a
 -- look follows from which keys are pressed, and from the fresh presses of the locks' keys.
 use Rattle.std.specs.Prelude.{◌≡◌, ℕ, ◌+◌, ◌<◌, ◌⊎◌, ◌↔◌, true, Bool, ◌&&◌, ◌||◌, List}
-use Rattle.keymap_core.specs.declared.action.Modifier.{Modifier}
+use Rattle.console_core.specs.Types.{Modifier, Lock, Holding, Cell, Event}
 use Rattle.keymap_core.specs.declared.action.Modifier.TheVariants as modifier
-use Rattle.keymap_core.specs.declared.action.Lock.{Lock}
 use Rattle.keymap_core.specs.declared.action.Lock.TheVariants as lock
-use Rattle.keymap_core.specs.declared.action.Holding.{Holding}
 use Rattle.keymap_core.specs.declared.action.Holding.TheVariants as holding
-use Rattle.keymap_core.specs.declared.entry.Cell.{Cell}
 use Rattle.keymap_core.specs.Actions.{holding_action}
 use Rattle.keymap_core.specs.Maps.{MapValue}
 use Rattle.keymap_core.specs.Bearers.{Bears, BearsThroughout, NobodyBears}
 use Rattle.keymap_core.specs.Borne.{any_below, has_in_slot, is_upper_live}
 use Rattle.keymap_core.specs.Numbers.{key_count}
-use Rattle.console_core.specs.declared.event.Event.{Event}
 use Rattle.console_core.specs.Positions.{count_where, is_odd}
 use Rattle.console_core.specs.Columns.{look_with}
 use Rattle.console_core.specs.History.{Maps, pressed, HasKeys, HasNoLoads}

@@ -1,9 +1,8 @@
 -- Answers as numbers, by the marks of sys/dev/kbd/kbdreg.h.
 use Rattle.std.specs.Prelude.{ℕ, ◌+◌, true, false}
-use Rattle.keymap_core.specs.declared.action.Action.{Action}
+use Rattle.console_core.specs.Types.{Action, Answer}
 use Rattle.keymap_core.specs.declared.action.Action.TheVariants.{Function}
 use Rattle.keymap_core.specs.Actions.{code_of}
-use Rattle.console_core.specs.declared.event.Answer.{Answer}
 use Rattle.console_core.specs.declared.event.Answer.TheVariants as answer
 
 -- the mark of a function key

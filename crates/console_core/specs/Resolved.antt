@@ -2,21 +2,13 @@
 -- map that it put in force. Each notion is a statement on the positions of one list, which has the newest event first.
 use Prim.Native.Nat.{suc}
 use Rattle.std.specs.Prelude.{ℕ, ◌==◌, Bool, false, true, ◌&&◌, not, List, [], ◌∷◌, Option, None, Some, if◌then◌else◌}
-use Rattle.keymap_core.specs.declared.action.Modifier.{Modifier}
-use Rattle.keymap_core.specs.declared.action.Modifier.TheVariants.{Meta}
-use Rattle.keymap_core.specs.declared.action.Lock.{Lock}
-use Rattle.keymap_core.specs.declared.action.Action.{Action}
+use Rattle.console_core.specs.Types.{Modifier, Meta, Lock, Action, Holding, Cell, Char, Act, Event, Press, Release}
+use Rattle.console_core.specs.Types.{Reset, Load, Answer}
 use Rattle.keymap_core.specs.declared.action.Action.TheVariants as act
-use Rattle.keymap_core.specs.declared.action.Holding.{Holding}
 use Rattle.keymap_core.specs.declared.action.Holding.TheVariants as holding
-use Rattle.keymap_core.specs.declared.entry.Cell.{Cell}
-use Rattle.keymap_core.specs.declared.entry.Cell.TheVariants.{Char, Act}
 use Rattle.keymap_core.specs.Actions.{same_action, holding_action}
 use Rattle.keymap_core.specs.Maps.{MapValue}
 use Rattle.keymap_core.specs.Borne.{is_borne}
-use Rattle.console_core.specs.declared.event.Event.{Event}
-use Rattle.console_core.specs.declared.event.Event.TheVariants.{Press, Release, Reset, Load}
-use Rattle.console_core.specs.declared.event.Answer.{Answer}
 use Rattle.console_core.specs.declared.event.Answer.TheVariants as answer
 use Rattle.console_core.specs.Positions.{holds_since, first_since, count_since, is_odd}
 use Rattle.console_core.specs.Columns.{look_with}

@@ -2,9 +2,7 @@
 ghost use Rattle.std.specs.Prelude.{◌≡◌, ◌<◌, List, [], ◌∷◌, IfSome};
 ghost use Rattle.keymap_core.specs.Actions.{modifier_index, lock_index};
 ghost use Rattle.keymap_core.specs.Numbers.{accent_limit};
-ghost use Rattle.keymap_core.specs.declared.action.Modifier.{Modifier as ModifierValue};
-ghost use Rattle.keymap_core.specs.declared.action.Lock.{Lock as LockValue};
-ghost use Rattle.console_core.specs.declared.event.Event.{Event as EventValue};
+ghost use Rattle.console_core.specs.Types.{Modifier as ModifierValue, Lock as LockValue, Event as EventValue};
 ghost use Rattle.console_core.specs.History.{Maps, answer_to, is_on_after, is_locked_after, accent_pending_after};
 ghost use Rattle.console_core.specs.Packed.{KeptAt};
 ghost use Rattle.console_core.specs.PackedWord.{bit_is_set};

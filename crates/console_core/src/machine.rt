@@ -3,16 +3,15 @@
 ghost use Rattle.std.specs.Prelude.{◌≡◌, ◌<◌, List, ◌∷◌, [], ◌||◌};
 ghost use Rattle.keymap_core.specs.Maps.{MapValue};
 ghost use Rattle.keymap_core.specs.Numbers.{key_count};
-ghost use Rattle.console_core.specs.declared.event.Event.{Event as EventValue};
+ghost use Rattle.console_core.specs.Types.{Event as EventValue};
 ghost use Rattle.console_core.specs.Columns.{look_with, slot_of, is_upper};
 ghost use Rattle.console_core.specs.Answers.{answer_char, answer_action as answer_action_of, answer_release};
 ghost use Rattle.console_core.specs.Resolved.{taken_over};
 ghost use Rattle.console_core.specs.History.{Maps, in_force, loaded, answer_to};
-ghost use Rattle.console_core.specs.Agrees.{nothing_kept};
+ghost use Rattle.console_core.specs.Agrees.{nothing_kept, StandsAt};
 ghost use Rattle.console_core.specs.Inner.Kept.{with_offered, with_lock_taken, with_taken, with_released};
 ghost use Rattle.console_core.specs.Inner.Kept.{with_lock_borne};
 ghost use Rattle.console_core.specs.Inner.Kept.{after_character, after_action, after_release, after_load};
-ghost use Rattle.console_core.specs.Agrees.{StandsAt};
 
 use crate::event::{Answer, Event};
 use crate::rules::{answer_action, column, compose, flips, next_pending};
@@ -271,7 +270,7 @@ impl<'m, K, S: Drop> Console<'m, K, S> {
 
 impl<'m, K: Keymap, S: Store + Drop> Translator for Console<'m, K, S> {
     ghost use Rattle.std.specs.Prelude.{◌≡◌};
-    ghost use Rattle.keymap_core.specs.declared.action.Holding.TheVariants.{Mod};
+    ghost use Rattle.console_core.specs.Types.{Mod};
     ghost use Rattle.console_core.specs.Agrees.{StandsAt};
     ghost use Rattle.console_core.specs.History.{HasKeys};
 

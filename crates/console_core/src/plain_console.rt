@@ -46,7 +46,7 @@ impl<'m, K: Keymap> PlainConsole<'m, K> {
 }
 
 impl<'m, K: Keymap> Translator for PlainConsole<'m, K> {
-    ghost use Rattle.keymap_core.specs.declared.action.Holding.TheVariants.{Mod};
+    ghost use Rattle.console_core.specs.Types.{Mod};
 
     ghost stands = { λ c. ⟦<Console<'m, K, PlainStore> as Translator>⟧.stands c.console };
 

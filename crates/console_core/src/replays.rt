@@ -1,6 +1,6 @@
 //! The delivery of a whole list of events.
 ghost use Rattle.std.specs.Prelude.{◌≡◌, ◌++◌, ◌∷◌, List, None, IfOk, OnOk, OnErr, reverse};
-ghost use Rattle.console_core.specs.declared.event.Event.{Event as EventValue};
+ghost use Rattle.console_core.specs.Types.{Event as EventValue};
 ghost use Rattle.console_core.specs.declared.event.Event.TheVariants as event;
 ghost use Rattle.console_core.specs.History.{Maps, in_force, answers_to, IsQuiet};
 ghost use Rattle.console_core.specs.Headline.{IsSafe, Afterwards, IsOnOnlyWhilePressed, IsOnExactlyWhilePressed};

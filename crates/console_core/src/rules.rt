@@ -4,8 +4,7 @@ ghost use Rattle.std.specs.Prelude.{◌≡◌, ◌<◌, IfSome, if◌then◌else
 ghost use Rattle.console_core.specs.Columns.{flips_shift, column_of};
 ghost use Rattle.keymap_core.specs.Maps.{MapValue};
 ghost use Rattle.keymap_core.specs.Numbers.{accent_limit};
-ghost use Rattle.console_core.specs.Answers.{answer_char, usable};
-ghost use Rattle.console_core.specs.Answers.{answer_dead_key as answer_dead_key_of};
+ghost use Rattle.console_core.specs.Answers.{answer_char, usable, answer_dead_key as answer_dead_key_of};
 ghost use Rattle.console_core.specs.Answers.{answer_action as answer_action_of};
 ghost use Rattle.console_core.specs.Inner.Kept.{next_pending as next_pending_of, pending_after_dead_key};
 

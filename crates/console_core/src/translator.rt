@@ -1,8 +1,6 @@
 //! What every console promises.
 ghost use Rattle.std.specs.Prelude.{◌≡◌, ℕ, Bool, List, ◌∷◌, [], Option};
-ghost use Rattle.keymap_core.specs.declared.action.Modifier.{Modifier as ModifierValue};
-ghost use Rattle.keymap_core.specs.declared.action.Lock.{Lock as LockValue};
-ghost use Rattle.console_core.specs.declared.event.Event.{Event as EventValue};
+ghost use Rattle.console_core.specs.Types.{Modifier as ModifierValue, Lock as LockValue, Event as EventValue};
 ghost use Rattle.console_core.specs.History.{Maps, is_on_after, is_locked_after, accent_pending_after, answer_to};
 ghost use Rattle.console_core.specs.History.{HasKeys, is_any_on_after};
 

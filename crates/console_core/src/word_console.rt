@@ -1,7 +1,7 @@
 //! The console that is packed into a word and a byte for each key.
 ghost use Rattle.std.specs.Prelude.{List, [], reverse};
 ghost use Rattle.keymap_core.specs.Maps.{MapValue};
-ghost use Rattle.console_core.specs.declared.event.Event.{Event as EventValue};
+ghost use Rattle.console_core.specs.Types.{Event as EventValue};
 ghost use Rattle.console_core.specs.History.{Maps, between};
 
 use crate::event::{Answer, Event};
@@ -67,7 +67,7 @@ impl<'m, K: Keymap> WordConsole<'m, K> {
 }
 
 impl<'m, K: Keymap> Translator for WordConsole<'m, K> {
-    ghost use Rattle.keymap_core.specs.declared.action.Holding.TheVariants.{Mod};
+    ghost use Rattle.console_core.specs.Types.{Mod};
 
     ghost stands = { λ c. ⟦<Console<'m, K, WordStore> as Translator>⟧.stands c.console };
 

@@ -1,10 +1,8 @@
 -- The bearer of an action among one more key.
 use Prim.Native.Nat.{suc}
 use Rattle.std.proofs.Common.{◌≡◌, ℕ, ◌+◌, Bool, true, false, refl, ap, sym, ◌∙◌, add-one, if◌then◌else◌}
-use Rattle.keymap_core.specs.declared.action.Holding.{Holding}
+use Rattle.keymap_check.specs.Types.{Holding, Bearer, Nobody}
 use Rattle.keymap_core.specs.Maps.{MapValue}
-use Rattle.keymap_check.specs.declared.bearer.Bearer.{Bearer}
-use Rattle.keymap_check.specs.declared.bearer.Bearer.TheVariants.{Nobody}
 use Rattle.keymap_check.specs.Computed.{bearer_below, bearer_with, next_bearer, bears_holding}
 
 -- among no keys nobody bears

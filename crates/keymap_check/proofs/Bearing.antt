@@ -5,12 +5,9 @@ use Rattle.std.proofs.Common.{inl, inr, if◌then◌else◌, arith}
 use Rattle.std.proofs.lemmas.Bool.{cases_Bool, true≢false}
 use Rattle.std.specs.Option.{is_some, is_none}
 use Rattle.keymap_core.specs.declared.action.Modifier.TheVariants as modifier
-use Rattle.keymap_core.specs.declared.action.Lock.{Lock}
+use Rattle.keymap_check.specs.Types.{Lock, Holding, Cell, Act, Bearer, Nobody, Throughout, Sole, Several}
 use Rattle.keymap_core.specs.declared.action.Lock.TheVariants as lock
-use Rattle.keymap_core.specs.declared.action.Holding.{Holding}
 use Rattle.keymap_core.specs.declared.action.Holding.TheVariants as holding
-use Rattle.keymap_core.specs.declared.entry.Cell.{Cell}
-use Rattle.keymap_core.specs.declared.entry.Cell.TheVariants.{Act}
 use Rattle.keymap_core.specs.Actions.{holding_action}
 use Rattle.keymap_core.specs.Maps.{MapValue}
 use Rattle.keymap_core.specs.Bearers.{IsCellOf, Bears, IsAlone, BearsThroughout}
@@ -18,8 +15,6 @@ use Rattle.keymap_core.proofs.Below.{below-suc}
 use Rattle.console_core.specs.Plain.{IsPlainFor, IsPlain}
 use Rattle.console_core.specs.Headline.{IsSteady, IsActing}
 use Rattle.keymap_check.specs.declared.kind.Kind.TheVariants as kind
-use Rattle.keymap_check.specs.declared.bearer.Bearer.{Bearer}
-use Rattle.keymap_check.specs.declared.bearer.Bearer.TheVariants.{Nobody, Throughout, Sole, Several}
 use Rattle.keymap_check.specs.Cells.{first_place, cell_of, is_holding, is_character_or_nop}
 use Rattle.keymap_check.specs.Computed.{bears_holding, bearer_by, bearer_with, next_bearer, bearer_below, bearer_of}
 use Rattle.keymap_check.specs.Computed.{is_steady_by}

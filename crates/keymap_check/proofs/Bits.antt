@@ -1,9 +1,8 @@
 -- The bits of the cell that is looked up, where no lock is on.
 use Rattle.std.proofs.Common.{◌≡◌, ℕ, true, ◌||◌, List, [], ◌∷◌, None, refl, ap, ◌∙◌}
 use Rattle.keymap_core.specs.declared.action.Action.TheVariants as act
-use Rattle.keymap_core.specs.declared.action.Modifier.{Modifier}
-use Rattle.keymap_core.specs.declared.action.Modifier.TheVariants.{LeftShift, RightShift, LeftControl, RightControl}
-use Rattle.keymap_core.specs.declared.action.Modifier.TheVariants.{LeftAlt, RightAlt, AltShift}
+use Rattle.keymap_check.specs.Types.{Modifier, LeftShift, RightShift, LeftControl, RightControl, LeftAlt, RightAlt}
+use Rattle.keymap_check.specs.Types.{AltShift}
 use Rattle.keymap_core.specs.declared.action.Holding.TheVariants as holding
 use Rattle.keymap_core.specs.Actions.{same_modifier}
 use Rattle.console_core.specs.Resolved.{ResolvedEvent, on, remembered}

@@ -13,19 +13,13 @@ use Rattle.std.proofs.lemmas.Nat.Bits.{bit_at_and, bit_at_or, bit_at_xor, bit_at
 use Rattle.std.proofs.lemmas.Nat.Bits.{bit_at-zero, bit_at_ones, and_pow}
 use Rattle.std.specs.Option.{option_or, is_some}
 use Rattle.keymap_core.specs.declared.action.Action.TheVariants as act
-use Rattle.keymap_core.specs.declared.action.Modifier.{Modifier}
-use Rattle.keymap_core.specs.declared.action.Modifier.TheVariants.{LeftShift, AltShift}
-use Rattle.keymap_core.specs.declared.action.Lock.{Lock}
+use Rattle.keymap_check.specs.Types.{Modifier, LeftShift, AltShift, Lock, Holding, Cell, Char, Act, Kind}
 use Rattle.keymap_core.specs.declared.action.Lock.TheVariants.{Caps, Alt}
-use Rattle.keymap_core.specs.declared.action.Holding.{Holding}
 use Rattle.keymap_core.specs.declared.action.Holding.TheVariants as holding
-use Rattle.keymap_core.specs.declared.entry.Cell.{Cell}
-use Rattle.keymap_core.specs.declared.entry.Cell.TheVariants.{Char, Act}
 use Rattle.keymap_core.specs.Actions.{modifier_index, lock_index, holding_index}
 use Rattle.keymap_core.specs.Maps.{MapValue}
 use Rattle.keymap_core.specs.Below.{first_below}
 use Rattle.keymap_check.specs.declared.kind.Group.TheVariants as group
-use Rattle.keymap_check.specs.declared.kind.Kind.{Kind}
 use Rattle.keymap_check.specs.declared.kind.Kind.TheVariants as kind
 use Rattle.keymap_check.specs.Cells.{is_of_kind, is_holding, is_of_group, cell_of, first_place, place_count}
 use Rattle.keymap_check.specs.Inner.CellBits.{cell_bit, is_set, bits_below, bits_of, mask_of}

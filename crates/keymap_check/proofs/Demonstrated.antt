@@ -4,12 +4,10 @@ use Rattle.std.proofs.Common.{◌≡◌, ℕ, ◌<◌, Bool, true, false, List, 
 use Rattle.std.proofs.Common.{◌∙◌, if◌then◌else◌}
 use Rattle.std.specs.Prelude.{reverse, All}
 use Rattle.std.proofs.lemmas.List.Elements.{All-append, All-nil, All-cons, All-weaker}
-use Rattle.keymap_core.specs.declared.action.Modifier.{Modifier}
+use Rattle.keymap_check.specs.Types.{Modifier, Event, Press, Release, Reset, Load}
 use Rattle.keymap_core.specs.Maps.{MapValue}
 use Rattle.keymap_core.specs.Below.{gathered}
 use Rattle.keymap_core.specs.Actions.{modifiers}
-use Rattle.console_core.specs.declared.event.Event.{Event}
-use Rattle.console_core.specs.declared.event.Event.TheVariants.{Press, Release, Reset, Load}
 use Rattle.console_core.specs.Resolved.{on}
 use Rattle.console_core.specs.History.{Maps, between, is_on_after, HasKey, IsNoLoad, HasNoLoads}
 use Rattle.console_core.specs.Sticking.{IsPressOrRelease}

@@ -1,12 +1,11 @@
 -- The first of the findings of a map is that of the least key.
 use Prim.Native.Nat.{zero, suc}
-use Rattle.std.proofs.Common.{◌≡◌, ℕ, ◌<◌, ◌≤◌, List, [], ◌∷◌, Option, refl, ap, sym, ◌∙◌, arith, length}
-use Rattle.std.proofs.Common.{subst}
+use Rattle.std.proofs.Common.{◌≡◌, ℕ, ◌<◌, ◌≤◌, List, [], ◌∷◌, Option, refl, ap, sym, ◌∙◌, arith, length, subst}
 use Rattle.std.proofs.lemmas.Bool.{true≢false}
 use Rattle.std.specs.Prelude.{slice_get, slice_index_or, IsNone, IfSome, ◌↔◌}
 use Rattle.keymap_core.specs.Maps.{MapValue}
 use Rattle.keymap_core.specs.Numbers.{key_count}
-use Rattle.keymap_check.specs.declared.finding.Finding.{Finding}
+use Rattle.keymap_check.specs.Types.{Finding}
 use Rattle.keymap_check.specs.Findings.{AreFindings, IsFirstFinding, IsUnsafeKey}
 
 -- no finding of the list has a lesser key than the first

@@ -2,9 +2,8 @@
 use Rattle.std.proofs.Common.{◌≡◌, ℕ, List, Option, Some, None, refl, sym, ◌∙◌}
 use Rattle.std.specs.Prelude.{IfSome, IsSome, IsNone, option_map, reverse}
 use Rattle.std.proofs.lemmas.Option.{none-some}
-use Rattle.keymap_core.specs.declared.action.Modifier.{Modifier}
+use Rattle.keymap_check.specs.Types.{Modifier, Event}
 use Rattle.keymap_core.specs.Maps.{MapValue}
-use Rattle.console_core.specs.declared.event.Event.{Event}
 use Rattle.console_core.specs.Sticking.{LeavesOn}
 use Rattle.console_core.specs.Traps.{NobodyBearsCellPickingLocks, HasNoTrap}
 use Rattle.keymap_check.specs.Scripts.{demonstration_of}

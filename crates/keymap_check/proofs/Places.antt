@@ -3,13 +3,12 @@ use Rattle.std.proofs.Common.{◌≡◌, ℕ, ◌<◌, ◌≤◌, ◌+◌, ◌-�
 use Rattle.std.proofs.Common.{inr, if◌then◌else◌, arith}
 use Rattle.std.specs.Prelude.{nat_lt}
 use Rattle.std.proofs.lemmas.Bool.{cases_Bool, ltb-true, ltb-false, lt-ltb, le-ltb}
-use Rattle.keymap_core.specs.declared.entry.Cell.{Cell}
+use Rattle.keymap_check.specs.Types.{Cell, Kind}
 use Rattle.keymap_core.specs.Maps.{MapValue, cell_at}
 use Rattle.keymap_core.specs.Bearers.{StandsIn, IsCellOf}
 use Rattle.keymap_core.specs.Borne.{is_upper_live}
 use Rattle.keymap_core.proofs.BorneTests.{live-upper, upper-is_live}
 use Rattle.keymap_core.proofs.Below.{first_below-no, first_below-some, IsFirstBelow, NoneBelow}
-use Rattle.keymap_check.specs.declared.kind.Kind.{Kind}
 use Rattle.keymap_check.specs.Cells.{is_of_kind, place_count, cell_of, first_place}
 
 -- a key has 16 places where the upper half is live, and else 8

@@ -4,13 +4,11 @@ use Rattle.std.proofs.Common.{◌≡◌, ℕ, ◌+◌, Bool, true, false, ◌&&�
 use Rattle.std.proofs.Common.{refl, ap, sym, ◌∙◌, if◌then◌else◌}
 use Rattle.std.specs.Prelude.{reverse}
 use Rattle.std.proofs.lemmas.List.{reverse-append, append-nil}
-use Rattle.keymap_core.specs.declared.action.Modifier.{Modifier}
+use Rattle.keymap_check.specs.Types.{Modifier, Event, Press, Release}
 use Rattle.keymap_core.specs.declared.action.Holding.TheVariants as holding
 use Rattle.keymap_core.specs.Below.{gathered}
 use Rattle.keymap_core.proofs.Below.{gathered-more}
 use Rattle.keymap_core.proofs.HoldingTests.{no-modifier, no-modifiers}
-use Rattle.console_core.specs.declared.event.Event.{Event}
-use Rattle.console_core.specs.declared.event.Event.TheVariants.{Press, Release}
 use Rattle.console_core.specs.History.{Maps, is_on_after, resolved, is_any_on_after}
 use Rattle.console_core.proofs.OneMore.{resolved-more, held-release}
 use Rattle.console_core.proofs.Deliveries.{reverse-push}

@@ -1,12 +1,10 @@
 -- The promises, from the laws over the two maps of a console.
 use Rattle.std.proofs.Common.{◌≡◌, ℕ, ◌⊎◌, inl, inr, ap, subst, sym, ◌∙◌}
 use Rattle.std.proofs.lemmas.List.Elements.{All-cons}
-use Rattle.keymap_core.specs.declared.action.Lock.{Lock}
-use Rattle.keymap_core.specs.declared.action.Modifier.{Modifier}
+use Rattle.keymap_check.specs.Types.{Lock, Modifier, Press}
 use Rattle.keymap_core.specs.declared.action.Holding.TheVariants as holding
 use Rattle.keymap_core.specs.Maps.{MapValue}
 use Rattle.keymap_core.specs.Bearers.{BearsThroughout}
-use Rattle.console_core.specs.declared.event.Event.TheVariants.{Press}
 use Rattle.console_core.specs.History.{Maps, HasKey, is_on_after}
 use Rattle.console_core.specs.Headline.{IsSafe, IsSteady}
 use Rattle.console_core.specs.Plain.{IsPlain, plain_look, LooksPlainly}

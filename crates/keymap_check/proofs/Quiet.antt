@@ -8,8 +8,7 @@ use Rattle.std.proofs.lemmas.Bool.{or_parts, and_right}
 use Rattle.keymap_core.specs.Maps.{MapValue}
 use Rattle.keymap_core.specs.Borne.{any_below}
 use Rattle.keymap_core.specs.Below.{gathered}
-use Rattle.console_core.specs.declared.event.Event.{Event}
-use Rattle.console_core.specs.declared.event.Event.TheVariants.{Press, Release, Reset, Load}
+use Rattle.keymap_check.specs.Types.{Event, Press, Release, Reset, Load}
 use Rattle.console_core.specs.History.{pressed, IsQuiet}
 use Rattle.console_core.proofs.OneMore.{pressed-start, pressed-press, pressed-release, pressed-reset, pressed-load}
 use Rattle.console_core.proofs.Deliveries.{reverse-cons}

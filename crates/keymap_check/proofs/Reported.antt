@@ -1,9 +1,7 @@
 -- What the report on a map says.
 use Rattle.std.proofs.Common.{◌≡◌, refl, ap, ◌∙◌}
-use Rattle.keymap_core.specs.declared.action.Modifier.TheVariants.{LeftShift}
-use Rattle.keymap_core.specs.declared.action.Lock.{Lock}
+use Rattle.keymap_check.specs.Types.{LeftShift, Lock, Holding}
 use Rattle.keymap_core.specs.declared.action.Lock.TheVariants.{Caps}
-use Rattle.keymap_core.specs.declared.action.Holding.{Holding}
 use Rattle.keymap_core.specs.declared.action.Holding.TheVariants as holding
 use Rattle.keymap_core.specs.Maps.{MapValue}
 use Rattle.keymap_check.specs.Computed.{bearer_of, is_steady}

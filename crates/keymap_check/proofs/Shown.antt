@@ -5,22 +5,16 @@ use Rattle.std.specs.Prelude.{◌==◌, reverse, find}
 use Rattle.std.proofs.lemmas.Bool.{true≢false, eq-eqb, eqb-true, and_parts, not-true, false_from_ne_true}
 use Rattle.std.specs.Option.{is_some}
 use Rattle.keymap_core.specs.declared.action.Action.TheVariants as act
-use Rattle.keymap_core.specs.declared.action.Lock.{Lock}
+use Rattle.keymap_check.specs.Types.{Lock, Modifier, LeftShift, RightShift, LeftControl, RightControl, LeftAlt}
+use Rattle.keymap_check.specs.Types.{RightAlt, AltShift, Cell, Char, Act, Event, Press, Release, Group, Finding}
 use Rattle.keymap_core.specs.declared.action.Lock.TheVariants as lock
 use Rattle.keymap_core.specs.declared.action.Holding.TheVariants as holding
-use Rattle.keymap_core.specs.declared.action.Modifier.{Modifier}
-use Rattle.keymap_core.specs.declared.action.Modifier.TheVariants.{LeftShift, RightShift, LeftControl, RightControl}
-use Rattle.keymap_core.specs.declared.action.Modifier.TheVariants.{LeftAlt, RightAlt, AltShift}
-use Rattle.keymap_core.specs.declared.entry.Cell.{Cell}
-use Rattle.keymap_core.specs.declared.entry.Cell.TheVariants.{Char, Act}
 use Rattle.keymap_core.specs.Actions.{modifier_index}
 use Rattle.keymap_core.specs.Maps.{MapValue, cell_at}
 use Rattle.keymap_core.specs.Bearers.{IsCellOf, IsUpperLive}
 use Rattle.keymap_core.specs.Borne.{any_below}
 use Rattle.keymap_core.specs.Below.{gathered}
 use Rattle.keymap_core.proofs.Below.{first_below-some}
-use Rattle.console_core.specs.declared.event.Event.{Event}
-use Rattle.console_core.specs.declared.event.Event.TheVariants.{Press, Release}
 use Rattle.console_core.specs.Resolved.{on, held, locked, remembered, look, resolve_press}
 use Rattle.console_core.specs.History.{Maps, between, is_on_after, resolved, is_any_on_after}
 use Rattle.console_core.specs.Columns.{slot_of, column_of}
@@ -29,10 +23,8 @@ use Rattle.console_core.proofs.Borne.{AllLooked, look-cell, column_of-lt}
 use Rattle.keymap_core.proofs.SameActions.{same_action-true}
 use Rattle.keymap_core.proofs.HoldingTests.{some-modifier}
 use Rattle.console_core.specs.Traps.{Bits, cell_with}
-use Rattle.keymap_check.specs.declared.kind.Group.{Group}
 use Rattle.keymap_check.specs.declared.kind.Group.TheVariants as group
 use Rattle.keymap_check.specs.declared.kind.Kind.TheVariants as kind
-use Rattle.keymap_check.specs.declared.finding.Finding.{Finding}
 use Rattle.keymap_check.specs.Cells.{first_place, cell_of, is_of_group, is_group_cell}
 use Rattle.keymap_check.specs.Computed.{findings_at}
 use Rattle.keymap_check.specs.Scripts.{group_at, is_bit_key, bit_key, bit_keys, script, lacks_key, scripts_of}

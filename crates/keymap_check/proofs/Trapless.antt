@@ -6,14 +6,12 @@ use Rattle.std.specs.Prelude.{reverse, find}
 use Rattle.std.proofs.lemmas.List.{append-nil}
 use Rattle.std.proofs.lemmas.List.Elements.{All-head, All-tail, All-append, All-nil, All-cons}
 use Rattle.std.proofs.lemmas.Bool.{true≢false, false_from_ne_true}
-use Rattle.keymap_core.specs.declared.action.Modifier.{Modifier}
+use Rattle.keymap_check.specs.Types.{Modifier, Event, Press, Release}
 use Rattle.keymap_core.specs.declared.action.Holding.TheVariants as holding
 use Rattle.keymap_core.specs.Maps.{MapValue}
 use Rattle.keymap_core.specs.Below.{gathered}
 use Rattle.keymap_core.proofs.Below.{first_below-some}
 use Rattle.keymap_core.proofs.HoldingTests.{no-modifiers}
-use Rattle.console_core.specs.declared.event.Event.{Event}
-use Rattle.console_core.specs.declared.event.Event.TheVariants.{Press, Release}
 use Rattle.keymap_core.specs.Bearers.{Bears}
 use Rattle.console_core.specs.History.{between, in_force, is_on_after, pressed, HasKey, HasKeys}
 use Rattle.console_core.specs.History.{IsQuiet, is_any_on_after}

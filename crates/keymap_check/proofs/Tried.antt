@@ -4,15 +4,12 @@ use Rattle.std.specs.Prelude.{◌==◌}
 use Rattle.std.proofs.lemmas.Bool.{true≢false, eq-eqb, eqb-true, and_parts, not-true, false_from_ne_true}
 use Rattle.std.specs.Option.{is_some}
 use Rattle.keymap_core.specs.declared.action.Action.TheVariants as act
-use Rattle.keymap_core.specs.declared.action.Modifier.{Modifier}
-use Rattle.keymap_core.specs.declared.action.Modifier.TheVariants.{LeftShift, RightShift, LeftControl, RightControl}
-use Rattle.keymap_core.specs.declared.action.Modifier.TheVariants.{LeftAlt, RightAlt, AltShift}
-use Rattle.keymap_core.specs.declared.entry.Cell.TheVariants.{Char, Act}
+use Rattle.keymap_check.specs.Types.{Modifier, LeftShift, RightShift, LeftControl, RightControl, LeftAlt, RightAlt}
+use Rattle.keymap_check.specs.Types.{AltShift, Char, Act, Group}
 use Rattle.keymap_core.specs.Maps.{MapValue}
 use Rattle.keymap_core.specs.Bearers.{IsCellOf}
 use Rattle.keymap_core.specs.Below.{first_below}
 use Rattle.keymap_core.proofs.Below.{IsFirstBelow, first_below-some, first_below-no}
-use Rattle.keymap_check.specs.declared.kind.Group.{Group}
 use Rattle.keymap_check.specs.declared.kind.Group.TheVariants as group
 use Rattle.keymap_check.specs.declared.kind.Kind.TheVariants as kind
 use Rattle.keymap_check.specs.Cells.{first_place, cell_of, is_of_group, is_group_cell, is_any_holding, is_character}

@@ -1,19 +1,13 @@
 -- The cells of a key in their order, as a computation: what is first among them.
 use Rattle.std.specs.Prelude.{ℕ, ◌+◌, ◌-◌, ◌*◌, nat_lt, Bool, false, true, not, Option, if◌then◌else◌}
-use Rattle.keymap_core.specs.declared.action.Modifier.{Modifier}
+use Rattle.keymap_check.specs.Types.{Modifier, Holding, Cell, Char, Act, Group, Kind, Place}
 use Rattle.keymap_core.specs.declared.action.Modifier.TheVariants as modifier
 use Rattle.keymap_core.specs.declared.action.Action.TheVariants as act
-use Rattle.keymap_core.specs.declared.action.Holding.{Holding}
-use Rattle.keymap_core.specs.declared.entry.Cell.{Cell}
-use Rattle.keymap_core.specs.declared.entry.Cell.TheVariants.{Char, Act}
 use Rattle.keymap_core.specs.Actions.{same_action, holding_action}
 use Rattle.keymap_core.specs.Maps.{MapValue, cell_at}
 use Rattle.keymap_core.specs.Below.{first_below}
-use Rattle.keymap_check.specs.declared.kind.Group.{Group}
 use Rattle.keymap_check.specs.declared.kind.Group.TheVariants as group
-use Rattle.keymap_check.specs.declared.kind.Kind.{Kind}
 use Rattle.keymap_check.specs.declared.kind.Kind.TheVariants as kind
-use Rattle.keymap_check.specs.declared.finding.Place.{Place}
 use Rattle.keymap_core.specs.Borne.{is_upper_live}
 use Rattle.keymap_core.specs.Numbers.{key_count, column_count}
 

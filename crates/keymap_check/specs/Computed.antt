@@ -2,19 +2,13 @@
 use Prim.Native.Nat.{zero, suc}
 use Rattle.std.specs.Prelude.{ℕ, Bool, false, List, [], ◌∷◌, Option, None, Some, if◌then◌else◌}
 use Rattle.std.specs.Option.{is_some, is_none}
-use Rattle.keymap_core.specs.declared.action.Lock.{Lock}
-use Rattle.keymap_core.specs.declared.action.Holding.{Holding}
+use Rattle.keymap_check.specs.Types.{Lock, Holding, Cell, Char, Act, Bearer, Nobody, Throughout, Sole, Several, Finding}
 use Rattle.keymap_core.specs.declared.action.Holding.TheVariants as holding
-use Rattle.keymap_core.specs.declared.entry.Cell.{Cell}
-use Rattle.keymap_core.specs.declared.entry.Cell.TheVariants.{Char, Act}
 use Rattle.keymap_core.specs.Actions.{holding_of}
 use Rattle.keymap_core.specs.Maps.{MapValue}
 use Rattle.keymap_core.specs.Numbers.{key_count}
 use Rattle.keymap_core.specs.Below.{gathered}
 use Rattle.keymap_check.specs.declared.kind.Kind.TheVariants as kind
-use Rattle.keymap_check.specs.declared.bearer.Bearer.{Bearer}
-use Rattle.keymap_check.specs.declared.bearer.Bearer.TheVariants.{Nobody, Throughout, Sole, Several}
-use Rattle.keymap_check.specs.declared.finding.Finding.{Finding}
 use Rattle.keymap_check.specs.Cells.{cell_of, first_place, place_at}
 
 abbrev pub bears_holding : MapValue → ℕ → Holding → Bool

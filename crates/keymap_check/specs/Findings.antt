@@ -1,14 +1,10 @@
 -- What the findings say of a map.
 use Rattle.std.specs.Prelude.{◌≡◌, ℕ, ◌<◌, ◌≤◌, ◌+◌, ◌⊎◌, List, All, AllPairs, Any}
-use Rattle.keymap_core.specs.declared.action.Holding.{Holding}
-use Rattle.keymap_core.specs.declared.entry.Cell.{Cell}
-use Rattle.keymap_core.specs.declared.entry.Cell.TheVariants.{Char, Act}
+use Rattle.keymap_check.specs.Types.{Holding, Cell, Char, Act, Finding, Place}
 use Rattle.keymap_core.specs.Actions.{holding_action}
 use Rattle.keymap_core.specs.Maps.{MapValue, cell_at}
 use Rattle.keymap_core.specs.Bearers.{IsUpperLive, IsCellOf, Bears}
 use Rattle.keymap_core.specs.Numbers.{key_count, column_count}
-use Rattle.keymap_check.specs.declared.finding.Finding.{Finding}
-use Rattle.keymap_check.specs.declared.finding.Place.{Place}
 
 -- the place is that of one of the key's cells
 abbrev pub IsPlaceOf : MapValue → ℕ → Place → Type 0

@@ -7,3 +7,4 @@ pub mod Report
 pub mod Scripts
 pub mod Shown
 pub mod Tried
+pub mod Types

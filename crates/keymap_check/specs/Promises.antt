@@ -1,14 +1,11 @@
 -- What the check promises for every list of delivered events, newest first. The list may hold loads of another map:
 -- then the promises are those of the map that is in force after it. KeepsPromise is the one to read first.
 use Rattle.std.specs.Prelude.{◌≡◌, ℕ, ◌<◌, ◌⊎◌, List, ◌∷◌, None, true, false}
-use Rattle.keymap_core.specs.declared.action.Modifier.{Modifier}
-use Rattle.keymap_core.specs.declared.action.Lock.{Lock}
+use Rattle.keymap_check.specs.Types.{Modifier, Lock, Event, Press, Reset}
 use Rattle.keymap_core.specs.declared.action.Holding.TheVariants as holding
 use Rattle.keymap_core.specs.Maps.{MapValue}
 use Rattle.keymap_core.specs.Bearers.{BearsThroughout}
 use Rattle.keymap_core.specs.Numbers.{key_count}
-use Rattle.console_core.specs.declared.event.Event.{Event}
-use Rattle.console_core.specs.declared.event.Event.TheVariants.{Press, Reset}
 use Rattle.console_core.specs.History.{Maps, in_force, HasKeys, HasNoLoads, IsQuiet, is_on_after, is_locked_after}
 use Rattle.console_core.specs.History.{accent_pending_after, pressed}
 use Rattle.console_core.specs.Positions.{count_where, is_odd}

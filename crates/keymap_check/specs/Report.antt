@@ -1,9 +1,7 @@
 -- What the check reports.
 use Rattle.std.specs.Prelude.{◌≡◌, ◌↔◌, Bool, true, false, List, [], map, slice_index_or}
-use Rattle.keymap_core.specs.declared.action.Modifier.TheVariants.{Meta}
-use Rattle.keymap_core.specs.declared.action.Lock.{Lock}
+use Rattle.keymap_check.specs.Types.{Meta, Lock, Holding, Bearer, Nobody, Throughout, Sole, Several, Finding}
 use Rattle.keymap_core.specs.declared.action.Lock.TheVariants.{Scroll}
-use Rattle.keymap_core.specs.declared.action.Holding.{Holding}
 use Rattle.keymap_core.specs.declared.action.Holding.TheVariants as holding
 use Rattle.keymap_core.specs.Actions.{holdings, locks, holding_index, lock_index}
 use Rattle.keymap_core.specs.Maps.{MapValue}
@@ -13,9 +11,6 @@ use Rattle.console_core.specs.Headline.{IsSafe, IsSteady}
 use Rattle.console_core.specs.History.{Maps}
 use Rattle.console_core.specs.Moves.{with_loads}
 use Rattle.console_core.specs.Sticking.{NeverSticksBetween, NeverForgets, IsAnswerBetween, says_sticks}
-use Rattle.keymap_check.specs.declared.bearer.Bearer.{Bearer}
-use Rattle.keymap_check.specs.declared.bearer.Bearer.TheVariants.{Nobody, Throughout, Sole, Several}
-use Rattle.keymap_check.specs.declared.finding.Finding.{Finding}
 use Rattle.keymap_check.specs.Computed.{bearer_of, is_steady, findings_of}
 use Rattle.keymap_check.specs.Findings.{AreFindings}
 

@@ -1,11 +1,10 @@
 -- Which keys the tried scripts press, as statements on the map.
 use Rattle.std.specs.Prelude.{◌≡◌, ◌≢◌, ◌↔◌, ℕ, ◌<◌, true, Option, None, Some}
-use Rattle.keymap_core.specs.declared.action.Modifier.{Modifier}
+use Rattle.keymap_check.specs.Types.{Modifier, Group}
 use Rattle.keymap_core.specs.declared.action.Holding.TheVariants as holding
 use Rattle.keymap_core.specs.Maps.{MapValue}
 use Rattle.keymap_core.specs.Bearers.{Bears}
 use Rattle.keymap_core.specs.Numbers.{key_count}
-use Rattle.keymap_check.specs.declared.kind.Group.{Group}
 use Rattle.keymap_check.specs.Computed.{findings_at}
 use Rattle.keymap_check.specs.Findings.{IsUnsafeKey}
 use Rattle.keymap_check.specs.Scripts.{bit_key, has_some}

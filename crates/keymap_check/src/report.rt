@@ -1,8 +1,6 @@
 //! The check and its report.
 ghost use Rattle.std.specs.Prelude.{◌≡◌, ◌↔◌, ℕ, IsTrue, true, IsNone, IfSome, slice_get};
-ghost use Rattle.keymap_core.specs.declared.action.Modifier.{Modifier as ModifierValue};
-ghost use Rattle.keymap_core.specs.declared.action.Lock.{Lock as LockValue};
-ghost use Rattle.keymap_core.specs.declared.action.Holding.{Holding as HoldingValue};
+ghost use Rattle.keymap_check.specs.Types.{Modifier as ModifierValue, Lock as LockValue, Holding as HoldingValue};
 ghost use Rattle.console_core.specs.Headline.{IsSafe, IsSteady};
 ghost use Rattle.keymap_check.specs.Findings.{AreFindings, IsFirstFinding};
 ghost use Rattle.keymap_check.specs.Inner.Surveyed.{IsSurvey};

@@ -2,8 +2,7 @@
 ghost use Rattle.std.specs.Prelude.{◌≡◌, ◌^◌, ◌<◌, ◌≤◌, IfSome};
 ghost use Rattle.std.specs.Option.{is_some};
 ghost use Rattle.keymap_core.specs.Maps.{MapValue};
-ghost use Rattle.keymap_check.specs.Cells.{place_count as place_count_of};
-ghost use Rattle.keymap_check.specs.Cells.{first_place as first_place_of};
+ghost use Rattle.keymap_check.specs.Cells.{place_count as place_count_of, first_place as first_place_of};
 ghost use Rattle.keymap_check.specs.Inner.CellBits.{cell_bit, bits_of};
 ghost use Rattle.keymap_check.specs.Inner.Surveyed.{IsSurvey};
 ghost use Rattle.keymap_core.specs.Numbers.{key_count};

@@ -1,10 +1,6 @@
 -- The pieces of what is written, and what is written of these.
 use Rattle.std.proofs.Common.{◌≡◌, ℕ, List, [], ◌∷◌, ◌++◌, map, refl, ◌∙◌, ap}
-use Rattle.keymap_fmt.specs.declared.layout.State.{State}
-use Rattle.keymap_fmt.specs.declared.piece.Standing.{Standing}
-use Rattle.keymap_fmt.specs.declared.piece.Standing.TheVariants.{AtTop}
-use Rattle.keymap_fmt.specs.declared.piece.Part.{Part}
-use Rattle.keymap_fmt.specs.declared.piece.Part.TheVariants.{Comment, Code}
+use Rattle.keymap_fmt.specs.Types.{State, Standing, AtTop, Part, Comment, Code}
 use Rattle.keymap_fmt.specs.Pieces.{PieceValue, pieces_after, pieces, behind}
 use Rattle.keymap_fmt.specs.Layout.{before, after, ending, start}
 use Rattle.keymap_fmt.specs.Formatted.{rendered_from, formatted}

@@ -3,17 +3,13 @@ use Rattle.std.proofs.Common.{◌≡◌, ℕ, suc, ◌+◌, ◌-◌, ◌<◌, �
 use Rattle.std.proofs.Common.{length, take, drop, get_or, refl, sym, ◌∙◌, ap, subst, arith, add-one, drop-cons}
 use Rattle.std.proofs.Common.{Option, Some, None, Result, Ok, Err, true≢false, length-drop, ◌⊎◌, ⊎_elim}
 use Rattle.std.proofs.lemmas.List.{drop-drop, at_drop_all, length-take-le}
-use Rattle.keymap_text.specs.declared.fault.TextFaultKind.{TextFaultKind}
+use Rattle.keymap_fmt.specs.Types.{TextFaultKind, TokenKind, Standing, Beside, Below, Comment, Code}
 use Rattle.keymap_text.specs.declared.fault.TextFaultKind.TheVariants.{EndInside}
-use Rattle.keymap_text.specs.declared.token.TokenKind.{TokenKind}
 use Rattle.keymap_text.specs.declared.token.TokenKind.TheVariants.{ParenL, ParenR, Literal, Word}
 use Rattle.keymap_text.specs.declared.token.Token.{Token}
 use Rattle.keymap_text.specs.Lexical.{is_blank, is_empty, separates, stays_on_line, leading, front_of, Found}
 use Rattle.keymap_text.specs.Lexical.{TokenValue, Tokens, Stops, Then, tokens_after, first}
 use Rattle.keymap_text.specs.Tokens.{token_view}
-use Rattle.keymap_fmt.specs.declared.piece.Standing.{Standing}
-use Rattle.keymap_fmt.specs.declared.piece.Standing.TheVariants.{Beside, Below}
-use Rattle.keymap_fmt.specs.declared.piece.Part.TheVariants.{Comment, Code}
 use Rattle.keymap_fmt.specs.declared.piece.Piece.{Piece}
 use Rattle.keymap_fmt.specs.Pieces.{PieceValue, pieces_after, lowered, trimmed}
 use Rattle.keymap_fmt.specs.Layout.{width}

@@ -1,7 +1,6 @@
 -- How many bytes at the front pass a test, and what is left where the end of a line is cut.
 use Rattle.std.proofs.Common.{◌≡◌, ℕ, suc, ◌+◌, ◌<◌, ◌≤◌, ◌&&◌, Bool, true, false, cond, List, [], ◌∷◌, ◌++◌, length}
-use Rattle.std.proofs.Common.{take, drop, get_or}
-use Rattle.std.proofs.Common.{refl, sym, ◌∙◌, ap, arith, add-one, drop-cons}
+use Rattle.std.proofs.Common.{take, drop, get_or, refl, sym, ◌∙◌, ap, arith, add-one, drop-cons}
 use Rattle.std.proofs.lemmas.List.{at_drop_all, take_more}
 use Rattle.std.specs.List.{list_all}
 use Rattle.keymap_text.specs.Lexical.{leading, stays_on_line, is_space}

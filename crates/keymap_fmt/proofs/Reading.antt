@@ -1,18 +1,12 @@
 -- What a text has as pieces, step by step.
-use Rattle.std.proofs.Common.{◌≡◌, ℕ, zero, suc, ◌==◌, ◌||◌, Bool, true, false, List, [], ◌∷◌, ◌++◌}
-use Rattle.std.proofs.Common.{length, take, drop, refl, sym, ◌∙◌, ap, eqb-true, true≢false}
-use Rattle.std.proofs.Common.{slice_index}
+use Rattle.std.proofs.Common.{◌≡◌, ℕ, zero, suc, ◌==◌, ◌||◌, Bool, true, false, List, [], ◌∷◌, ◌++◌, length, take, drop}
+use Rattle.std.proofs.Common.{refl, sym, ◌∙◌, ap, eqb-true, true≢false, slice_index}
 use Rattle.std.specs.List.{list_all}
-use Rattle.keymap_text.specs.Lexical.{is_space}
+use Rattle.keymap_text.specs.Lexical.{is_space, is_blank, separates, stays_on_line, leading, front_of, Front, Found}
+use Rattle.keymap_text.specs.Lexical.{Skipped, Refused, Unfinished}
 use Rattle.std.proofs.Math.Seq.{take-append_seam, drop-append_seam}
 use Rattle.keymap_text.specs.Alone.{StandsAlone}
-use Rattle.keymap_text.specs.declared.fault.TextFaultKind.{TextFaultKind}
-use Rattle.keymap_text.specs.declared.token.TokenKind.{TokenKind}
-use Rattle.keymap_text.specs.Lexical.{is_blank, separates, stays_on_line, leading, front_of, Front, Found, Skipped}
-use Rattle.keymap_text.specs.Lexical.{Refused, Unfinished}
-use Rattle.keymap_fmt.specs.declared.piece.Standing.{Standing}
-use Rattle.keymap_fmt.specs.declared.piece.Standing.TheVariants.{Beside, Below}
-use Rattle.keymap_fmt.specs.declared.piece.Part.TheVariants.{Comment, Code}
+use Rattle.keymap_fmt.specs.Types.{TextFaultKind, TokenKind, Standing, Beside, Below, Comment, Code}
 use Rattle.keymap_fmt.specs.Pieces.{PieceValue, pieces_after, lowered, comment, trimmed}
 use Rattle.keymap_fmt.proofs.Leading.{leading_ended}
 

@@ -1,13 +1,9 @@
 -- A definition is written in the same way whatever stands before it.
 use Rattle.std.proofs.Common.{◌≡◌, ℕ, ◌&&◌, Bool, true, false, not, if◌then◌else◌, List, [], ◌∷◌, ◌++◌, replicate}
 use Rattle.std.proofs.Common.{refl, sym, ◌∙◌, ap, append_assoc, nat_lt, nat_le, slice_index}
-use Rattle.keymap_text.specs.declared.token.TokenKind.{TokenKind}
+use Rattle.keymap_fmt.specs.Types.{TokenKind, State, Standing, Below, Code}
 use Rattle.keymap_fmt.specs.declared.layout.Row.{Row}
 use Rattle.keymap_fmt.specs.declared.layout.Row.TheVariants.{Slot, Accent}
-use Rattle.keymap_fmt.specs.declared.layout.State.{State}
-use Rattle.keymap_fmt.specs.declared.piece.Standing.{Standing}
-use Rattle.keymap_fmt.specs.declared.piece.Standing.TheVariants.{Below}
-use Rattle.keymap_fmt.specs.declared.piece.Part.TheVariants.{Code}
 use Rattle.keymap_fmt.specs.Pieces.{PieceValue}
 use Rattle.keymap_fmt.specs.Layout.{is_open, is_apart, is_over, begins_line, row_of, opened, lead, advanced, width}
 use Rattle.keymap_fmt.specs.Layout.{before, after, ending, line_end, line_begun, lines_before, start}

@@ -1,23 +1,16 @@
 -- The tokens among the pieces are those of the text, so what is written spells what the text spells.
-use Rattle.std.proofs.Common.{◌≡◌, ℕ, zero, suc, ◌+◌, ◌==◌, Bool, true, false, List, [], ◌∷◌, ◌++◌, length, take}
-use Rattle.std.proofs.Common.{drop, map}
-use Rattle.std.proofs.Common.{refl, sym, ◌∙◌, ap, subst, arith, add-one, if◌then◌else◌, Ok}
+use Rattle.std.proofs.Common.{◌≡◌, ℕ, zero, suc, ◌+◌, ◌==◌, Bool, true, false, List, [], ◌∷◌, ◌++◌, length, take, drop}
+use Rattle.std.proofs.Common.{map, refl, sym, ◌∙◌, ap, subst, arith, add-one, if◌then◌else◌, Ok}
 use Rattle.std.proofs.lemmas.Bool.Decides.{nat_tests}
 use Rattle.std.specs.List.{flat_map}
-use Rattle.keymap_text.specs.declared.fault.TextFaultKind.{TextFaultKind}
+use Rattle.keymap_fmt.specs.Types.{TextFaultKind, TokenKind, State, Standing, AtTop, Beside, Below, Part, Comment, Code}
 use Rattle.keymap_text.specs.declared.fault.TextFaultKind.TheVariants.{EndInside}
-use Rattle.keymap_text.specs.declared.token.TokenKind.{TokenKind}
 use Rattle.keymap_text.specs.Lexical.{is_blank, is_empty, stays_on_line, leading, front_of, Found, Skipped}
 use Rattle.keymap_text.specs.Lexical.{Refused, Unfinished, TokenValue, Ends, Stops, Then, tokens_after}
 use Rattle.keymap_text.specs.Meaning.{list_of, ending_of_tokens, tokens, items, item_of, ending, Spells}
 use Rattle.keymap_text.specs.Rows.{IsRow}
 use Rattle.keymap_text.specs.Words.{item}
 use Rattle.keymap_core.specs.Maps.{MapValue}
-use Rattle.keymap_fmt.specs.declared.layout.State.{State}
-use Rattle.keymap_fmt.specs.declared.piece.Standing.{Standing}
-use Rattle.keymap_fmt.specs.declared.piece.Standing.TheVariants.{AtTop, Beside, Below}
-use Rattle.keymap_fmt.specs.declared.piece.Part.{Part}
-use Rattle.keymap_fmt.specs.declared.piece.Part.TheVariants.{Comment, Code}
 use Rattle.keymap_fmt.specs.Pieces.{PieceValue, pieces_after, pieces, lowered, behind}
 use Rattle.keymap_fmt.specs.Layout.{before, after, ending as ending_of_part, line_end, start}
 use Rattle.keymap_fmt.specs.Formatted.{rendered_from, formatted}

@@ -4,19 +4,13 @@ use Rattle.std.proofs.Common.{List, [], ◌∷◌, ◌++◌, length, replicate, 
 use Rattle.std.proofs.Common.{slice_index, Option, Some, None, true≢false, append_assoc}
 use Rattle.std.specs.List.{list_all}
 use Rattle.std.proofs.lemmas.Bool.Decides.{nat_tests}
-use Rattle.keymap_text.specs.declared.token.TokenKind.{TokenKind}
+use Rattle.keymap_fmt.specs.Types.{TokenKind, State, Standing, AtTop, Beside, Below, Apart, Part, Comment, Code}
 use Rattle.keymap_text.specs.Lexical.{is_space, stays_on_line, leading}
-use Rattle.keymap_fmt.specs.declared.layout.State.{State}
-use Rattle.keymap_fmt.specs.declared.piece.Standing.{Standing}
-use Rattle.keymap_fmt.specs.declared.piece.Standing.TheVariants.{AtTop, Beside, Below, Apart}
-use Rattle.keymap_fmt.specs.declared.piece.Part.{Part}
-use Rattle.keymap_fmt.specs.declared.piece.Part.TheVariants.{Comment, Code}
 use Rattle.keymap_fmt.specs.Pieces.{PieceValue, pieces, behind, trimmed}
 use Rattle.keymap_fmt.specs.Layout.{is_open, begins_line, opened, lead, width, before, after, ending, line_end, start}
 use Rattle.keymap_fmt.specs.Layout.{line_begun, lines_before, comment_lead}
 use Rattle.keymap_fmt.specs.Formatted.{rendered_from, formatted}
-use Rattle.keymap_fmt.specs.Lines.{Edge, Blank, Ink, LineEnd, EmptyLine, behind_byte, are_lines}
-use Rattle.keymap_fmt.specs.Lines.{HasTidyLines}
+use Rattle.keymap_fmt.specs.Lines.{Edge, Blank, Ink, LineEnd, EmptyLine, behind_byte, are_lines, HasTidyLines}
 use Rattle.keymap_fmt.proofs.Leading.{leading_tail, trim_all, trim_tail}
 use Rattle.keymap_fmt.proofs.Reading.{TokenLaws}
 use Rattle.keymap_fmt.proofs.Texts.{ArePieces, no_piece, one_piece, Reads, reaches, text_pieces}

@@ -1,7 +1,7 @@
 -- What is written of a text, piece by piece.
 use Rattle.std.proofs.Common.{◌≡◌, ℕ, List, [], ◌∷◌, ◌++◌, sym, ◌∙◌, ap, append_assoc, ◌<◌, length, length-append}
 use Rattle.std.proofs.Common.{arith}
-use Rattle.keymap_fmt.specs.declared.layout.State.{State}
+use Rattle.keymap_fmt.specs.Types.{State}
 use Rattle.keymap_fmt.specs.Pieces.{PieceValue}
 use Rattle.keymap_fmt.specs.Layout.{before, after, ending, line_end}
 use Rattle.keymap_fmt.specs.Formatted.{rendered_from}

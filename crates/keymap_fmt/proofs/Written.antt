@@ -2,13 +2,8 @@
 use Rattle.std.proofs.Common.{◌≡◌, ℕ, zero, suc, ◌<◌, ◌==◌, Bool, true, false, if◌then◌else◌, List}
 use Rattle.std.proofs.Common.{[], ◌∷◌, ◌++◌, length, replicate, refl, sym, ◌∙◌, ap, subst, arith}
 use Rattle.std.proofs.lemmas.Bool.Decides.{nat_tests}
-use Rattle.keymap_text.specs.declared.token.TokenKind.{TokenKind}
+use Rattle.keymap_fmt.specs.Types.{TokenKind, State, Standing, AtTop, Beside, Below, Apart, Part, Comment, Code}
 use Rattle.keymap_text.specs.Lexical.{is_blank}
-use Rattle.keymap_fmt.specs.declared.layout.State.{State}
-use Rattle.keymap_fmt.specs.declared.piece.Standing.{Standing}
-use Rattle.keymap_fmt.specs.declared.piece.Standing.TheVariants.{AtTop, Beside, Below, Apart}
-use Rattle.keymap_fmt.specs.declared.piece.Part.{Part}
-use Rattle.keymap_fmt.specs.declared.piece.Part.TheVariants.{Comment, Code}
 use Rattle.keymap_fmt.specs.Pieces.{PieceValue, pieces_after, lowered, behind}
 use Rattle.keymap_fmt.specs.Layout.{begins_line, is_open, is_apart, opened, lead, width, after, line_end, line_begun}
 use Rattle.keymap_fmt.specs.Layout.{lines_before, comment_lead, before}

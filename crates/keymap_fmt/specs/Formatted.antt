@@ -1,6 +1,6 @@
 -- The layout of a text.
 use Rattle.std.specs.Prelude.{ℕ, List, [], ◌∷◌, ◌++◌}
-use Rattle.keymap_fmt.specs.declared.layout.State.{State}
+use Rattle.keymap_fmt.specs.Types.{State}
 use Rattle.keymap_fmt.specs.Pieces.{PieceValue, pieces}
 use Rattle.keymap_fmt.specs.Layout.{before, after, ending, line_end, start}
 

@@ -1,16 +1,10 @@
 -- Where a piece is written: what stands before it, and the state of the open line behind it.
 use Rattle.std.specs.Prelude.{ℕ, ◌+◌, ◌-◌, ◌*◌, ◌==◌, ◌&&◌, Bool, true, false, if◌then◌else◌, not, max, List, [], ◌∷◌}
-use Rattle.std.specs.Prelude.{◌++◌}
-use Rattle.std.specs.Prelude.{length, replicate, slice_index, nat_lt, nat_le}
-use Rattle.keymap_text.specs.declared.token.TokenKind.{TokenKind}
+use Rattle.std.specs.Prelude.{◌++◌, length, replicate, slice_index, nat_lt, nat_le}
+use Rattle.keymap_fmt.specs.Types.{TokenKind, Standing, Beside, Below, Apart, Part, Comment, Code, State}
 use Rattle.keymap_text.specs.declared.token.TokenKind.TheVariants.{ParenL, Literal}
-use Rattle.keymap_fmt.specs.declared.piece.Standing.{Standing}
-use Rattle.keymap_fmt.specs.declared.piece.Standing.TheVariants.{Beside, Below, Apart}
-use Rattle.keymap_fmt.specs.declared.piece.Part.{Part}
-use Rattle.keymap_fmt.specs.declared.piece.Part.TheVariants.{Comment, Code}
 use Rattle.keymap_fmt.specs.declared.layout.Row.{Row}
 use Rattle.keymap_fmt.specs.declared.layout.Row.TheVariants.{Slot, Accent, Pair}
-use Rattle.keymap_fmt.specs.declared.layout.State.{State}
 
 -- how many places a token takes
 abbrev pub width : TokenKind → List ℕ → ℕ

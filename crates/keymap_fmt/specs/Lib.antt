@@ -5,3 +5,4 @@ pub mod Refused
 pub mod Same
 pub mod Lines
 pub mod Inner
+pub mod Types

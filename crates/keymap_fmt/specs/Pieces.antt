@@ -3,11 +3,7 @@ use Rattle.std.specs.Prelude.{ℕ, zero, suc, true, false, if◌then◌else◌, 
 use Rattle.std.specs.List.{list_all}
 use Rattle.keymap_text.specs.Lexical.{is_blank, is_space, stays_on_line, leading, front_of, Found, Skipped, Refused}
 use Rattle.keymap_text.specs.Lexical.{Unfinished}
-use Rattle.keymap_text.specs.declared.token.TokenKind.{TokenKind}
-use Rattle.keymap_fmt.specs.declared.piece.Standing.{Standing}
-use Rattle.keymap_fmt.specs.declared.piece.Standing.TheVariants.{AtTop, Beside, Below, Apart}
-use Rattle.keymap_fmt.specs.declared.piece.Part.{Part}
-use Rattle.keymap_fmt.specs.declared.piece.Part.TheVariants.{Comment, Code}
+use Rattle.keymap_fmt.specs.Types.{TokenKind, Standing, AtTop, Beside, Below, Apart, Part, Comment, Code}
 
 -- a token or a comment, with its bytes, and where it stands
 pub record PieceValue : Type 0 where

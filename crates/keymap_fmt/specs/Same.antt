@@ -1,9 +1,7 @@
 -- What two texts have in common: their pieces, but for where they stand, and their tokens, but for their places.
 use Rattle.std.specs.Prelude.{ℕ, List, [], ◌∷◌}
-use Rattle.keymap_text.specs.declared.token.TokenKind.{TokenKind}
+use Rattle.keymap_fmt.specs.Types.{TokenKind, Part, Comment, Code}
 use Rattle.keymap_text.specs.Lexical.{TokenValue}
-use Rattle.keymap_fmt.specs.declared.piece.Part.{Part}
-use Rattle.keymap_fmt.specs.declared.piece.Part.TheVariants.{Comment, Code}
 use Rattle.keymap_fmt.specs.Pieces.{PieceValue}
 
 abbrev pub part_and_bytes : PieceValue → Part × List ℕ

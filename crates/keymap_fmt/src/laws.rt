@@ -3,8 +3,7 @@ ghost use Rattle.std.specs.Prelude.{◌≡◌, ℕ, List, ◌∷◌, ◌++◌, m
 ghost use Rattle.keymap_fmt.specs.Pieces.{PieceValue, pieces, code};
 ghost use Rattle.keymap_fmt.specs.Formatted.{formatted, rendered, state_behind};
 ghost use Rattle.keymap_fmt.specs.Layout.{is_over, is_open, start};
-ghost use Rattle.keymap_fmt.specs.declared.piece.Standing.{Standing as StandingValue};
-ghost use Rattle.keymap_text.specs.declared.token.TokenKind.{TokenKind as TokenKindValue};
+ghost use Rattle.keymap_fmt.specs.Types.{Standing as StandingValue, TokenKind as TokenKindValue};
 ghost use Rattle.keymap_fmt.specs.Lines.{HasTidyLines};
 ghost use Rattle.keymap_fmt.specs.Same.{part_and_bytes, kind_and_bytes, token_of};
 ghost use Rattle.keymap_text.specs.Meaning.{tokens, Spells};

@@ -4,7 +4,7 @@ ghost use Rattle.keymap_text.specs.Lexical.{is_blank, is_space, leading, stays_o
 ghost use Rattle.keymap_fmt.specs.Pieces.{lower as lower_of, lowered as lowered_at, pieces_after, trimmed};
 ghost use Rattle.keymap_fmt.specs.Pieces.{behind as standing_behind};
 ghost use Rattle.keymap_fmt.specs.Inner.Reading.{ComesNext, MayCome};
-ghost use Rattle.keymap_fmt.specs.declared.piece.Standing.{Standing as StandingValue};
+ghost use Rattle.keymap_fmt.specs.Types.{Standing as StandingValue};
 
 use keymap_text::laws::tokens_stand_alone;
 use keymap_text::{TokenKind, next_token};

@@ -1,70 +1,50 @@
 -- Some diagnostic names a key exactly if the check has findings.
 use Prim.Native.Nat.{zero, suc}
-use Rattle.std.proofs.Common.{◌≡◌, ◌↔◌, ℕ, ◌+◌, ◌-◌, ◌<◌, Bool, true, false, ◌||◌, ◌&&◌, not, cond, List, [], ◌∷◌}
-use Rattle.std.proofs.Common.{◌++◌, length, map, get_or, refl, sym, ◌∙◌, ap, subst, arith, Option, Some, None, inl, inr}
-use Rattle.std.proofs.Common.{◌==◌}
-use Rattle.std.specs.List.{find, flat_map, list_any, range_with_len}
+use Rattle.std.proofs.Common.{◌≡◌, ◌↔◌, ℕ, ◌+◌, ◌-◌, ◌<◌, Bool, true, false, ◌||◌, ◌&&◌, not, cond, List, [], ◌∷◌, ◌++◌}
+use Rattle.std.proofs.Common.{length, map, get_or, refl, sym, ◌∙◌, ap, subst, arith, Option, Some, None, inl, inr, ◌==◌}
+use Rattle.std.specs.List.{find, flat_map, list_any, range_with_len, Any, Contains}
 use Rattle.std.specs.Option.{is_some, option_or, option_to_list}
 use Rattle.std.specs.Prelude.{nat_lt}
 use Rattle.std.proofs.lemmas.Bool.{true≢false, or_cases, or_left, or_right, or_from, and_parts, and_from, lt-ltb}
-use Rattle.std.proofs.lemmas.Bool.{le-ltb}
-use Rattle.std.proofs.lemmas.Bool.{eqb-true, eq-eqb, not_from_false, cases_Bool}
+use Rattle.std.proofs.lemmas.Bool.{le-ltb, eqb-true, eq-eqb, not_from_false, cases_Bool}
 use Rattle.std.proofs.lemmas.List.{get_or-replicate, length-append}
 use Rattle.std.proofs.lemmas.List.Elements.{All-head}
 use Rattle.std.proofs.lemmas.List.Sorted.{IsPermutation-sym, Contains-permutation}
-use Rattle.std.specs.List.{Any, Contains}
 use Rattle.std.specs.List.Sorted.{IsPermutation}
 use Rattle.keymap_core.specs.Accents.{AccentValue, own_of}
-use Rattle.keymap_core.specs.Below.{first_below}
-use Rattle.keymap_core.specs.Bearers.{IsCellOf}
-use Rattle.keymap_check.specs.Findings.{AreFindings}
+use Rattle.keymap_core.specs.Below.{first_below, gathered}
+use Rattle.keymap_core.specs.Bearers.{IsCellOf, IsUpperLive}
+use Rattle.keymap_check.specs.Findings.{AreFindings, IsFinding, IsPlaceOf}
 use Rattle.console_core.specs.Headline.{IsSafe}
 use Rattle.keymap_text.proofs.InForce.{no_slot}
 use Rattle.keymap_text.proofs.Verdicts.{one_map, not_both}
-use Rattle.keymap_lint.specs.declared.diagnostic.Diagnostics.{Diagnostics}
-use Rattle.keymap_lint.specs.declared.diagnostic.Lint.TheVariants.{Faulty, Spelled as OfSpelled}
-use Rattle.keymap_lint.specs.Kinds.{is_zero, is_given}
-use Rattle.keymap_lint.specs.Lists.{AreOf, spelled_by}
-use Rattle.keymap_lint.specs.Promises.{names_keys, KeysAreNamedExactlyIfRefused}
+use Rattle.keymap_lint.specs.Types.{Diagnostics, Faulty, Spelled as OfSpelled, Holding, Cell, Char, Act, Finding}
+use Rattle.keymap_lint.specs.Types.{Defined, Slot, Accent, Placed, CellInForce, Diagnostic}
+use Rattle.keymap_lint.specs.Kinds.{is_zero, is_given, at, defines, is_mixed, mixed_by, mixed_key, mixed_keys, nul_keys}
+use Rattle.keymap_lint.specs.Kinds.{character_of, is_greatest, other_slot, missing_slot, missing_slots, selects}
+use Rattle.keymap_lint.specs.Kinds.{selector, selector_of, half, half_at, half_by, half_defined, is_some_in, no_key}
+use Rattle.keymap_lint.specs.Kinds.{no_shift, defined_again, dead_key, zero_accents, pairs_again, unused_half}
+use Rattle.keymap_lint.specs.Kinds.{bare_digits, again, again_by, digit, digit_by, zero_by, zero_accent, pair_by}
+use Rattle.keymap_lint.specs.Kinds.{pair_again, pairs_by, accent_pairs, has_keys, has_shift, unused_by, dead_key_by}
+use Rattle.keymap_lint.specs.Kinds.{is_missing, is_above_in_force, base_at, has_base}
+use Rattle.keymap_lint.specs.Lists.{AreOf, spelled_by, all_of, of_keys, of_definitions, of_rest}
+use Rattle.keymap_lint.specs.Promises.{names_keys, KeysAreNamedExactlyIfRefused, names_a_key}
 use Rattle.std.proofs.lemmas.List.Folds.{list_any-append, list_any_at, Any-from_list_any, list_any-from_Any}
 use Rattle.std.proofs.lemmas.List.FromFn.{get_or-map-range_with_len}
 use Rattle.keymap_core.specs.declared.action.Action.{Action}
 use Rattle.keymap_core.specs.declared.action.Action.TheVariants as act
 use Rattle.keymap_core.specs.declared.action.Modifier.TheVariants as modifier
 use Rattle.keymap_core.specs.declared.action.Lock.TheVariants as lock
-use Rattle.keymap_core.specs.declared.action.Holding.{Holding}
-use Rattle.keymap_core.specs.declared.entry.Cell.{Cell}
-use Rattle.keymap_core.specs.declared.entry.Cell.TheVariants.{Char, Act}
 use Rattle.keymap_core.specs.Actions.{holding_action}
-use Rattle.keymap_core.specs.Below.{gathered}
 use Rattle.keymap_core.specs.Borne.{is_upper_live}
 use Rattle.keymap_core.specs.Maps.{MapValue, accent_at, cell_at, entry_at, undefined}
-use Rattle.keymap_core.specs.Bearers.{IsUpperLive}
 use Rattle.keymap_core.proofs.Below.{gathered-more, gathered-le}
 use Rattle.keymap_core.proofs.BorneTests.{upper-is_live}
-use Rattle.keymap_check.specs.declared.finding.Finding.{Finding}
 use Rattle.keymap_check.specs.declared.finding.Place.{Place}
-use Rattle.keymap_check.specs.Findings.{IsFinding, IsPlaceOf}
-use Rattle.keymap_text.specs.declared.placed.Defined.{Defined}
-use Rattle.keymap_text.specs.declared.placed.Defined.TheVariants.{Slot, Accent}
-use Rattle.keymap_text.specs.declared.placed.Placed.{Placed}
 use Rattle.keymap_text.specs.Placed.{last_of, is_same}
-use Rattle.keymap_lint.specs.declared.cells.CellInForce.{CellInForce}
-use Rattle.keymap_lint.specs.declared.diagnostic.Diagnostic.{Diagnostic}
 use Rattle.keymap_lint.specs.declared.diagnostic.Kind.TheVariants as kinds
-use Rattle.keymap_lint.specs.Kinds.{at, defines, is_mixed, mixed_by, mixed_key, mixed_keys, nul_keys, character_of}
-use Rattle.keymap_lint.specs.Kinds.{is_greatest, other_slot, missing_slot, missing_slots, selects, selector}
-use Rattle.keymap_lint.specs.Kinds.{selector_of}
-use Rattle.keymap_lint.specs.Kinds.{half, half_at, half_by, half_defined, is_some_in, no_key, no_shift, defined_again}
-use Rattle.keymap_lint.specs.Kinds.{dead_key, zero_accents, pairs_again, unused_half, bare_digits, again, again_by}
-use Rattle.keymap_lint.specs.Kinds.{digit, digit_by, zero_by, zero_accent, pair_by, pair_again}
-use Rattle.keymap_lint.specs.Kinds.{pairs_by, accent_pairs, has_keys, has_shift, unused_by, dead_key_by, is_missing}
-use Rattle.keymap_lint.specs.Kinds.{is_above_in_force, base_at, has_base}
-use Rattle.keymap_lint.specs.Lists.{all_of, of_keys, of_definitions, of_rest}
-use Rattle.keymap_lint.specs.Promises.{names_a_key}
-use Rattle.keymap_lint.specs.Spelled.{Spelled, offset_at, cell_in, cells_defined, cells_of, cells_in_force}
-use Rattle.keymap_lint.specs.Spelled.{is_in_force, is_last}
-use Rattle.keymap_lint.specs.Spelled.{content}
+use Rattle.keymap_lint.specs.Spelled.{Spelled, offset_at, cell_in, cells_defined, cells_of, cells_in_force, is_in_force}
+use Rattle.keymap_lint.specs.Spelled.{is_last, content}
 
 -- whether a diagnostic names a key
 abbrev pub names : Diagnostic → Bool

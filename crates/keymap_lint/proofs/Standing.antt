@@ -2,8 +2,7 @@
 use Prim.Native.Nat.{zero, suc}
 use Rattle.std.proofs.Common.{◌≡◌, ℕ, ◌+◌, ◌-◌, ◌*◌, ◌<◌, ◌≤◌, Bool, true, false, ◌&&◌, not, cond, List, [], ◌∷◌, ◌++◌}
 use Rattle.std.proofs.Common.{length, map, take, drop, get_or, refl, sym, ◌∙◌, ap, subst, arith, Option, Some, None}
-use Rattle.std.proofs.Common.{inl, inr}
-use Rattle.std.proofs.Common.{All, Result, Ok, Err, ◌==◌, IfSome, nat_lt, length-drop}
+use Rattle.std.proofs.Common.{inl, inr, All, Result, Ok, Err, ◌==◌, IfSome, nat_lt, length-drop}
 use Rattle.std.specs.List.{find, flat_map, range_with_len}
 use Rattle.std.specs.Option.{option_to_list}
 use Rattle.std.proofs.lemmas.Bool.{true≢false, cases_lt, eqb-true}
@@ -15,60 +14,45 @@ use Rattle.std.proofs.lemmas.List.Sorted.{All-permutation}
 use Rattle.keymap_core.specs.declared.action.Action.TheVariants as act
 use Rattle.keymap_core.specs.declared.action.Modifier.TheVariants as modifier
 use Rattle.keymap_core.specs.declared.action.Lock.TheVariants as lock
-use Rattle.keymap_core.specs.declared.action.Holding.{Holding}
+use Rattle.keymap_lint.specs.Types.{Holding, Cell, Char, Act, Finding, Defined, Slot, Accent, Placed, Span, CellInForce}
+use Rattle.keymap_lint.specs.Types.{Diagnostic, Lint, Faulty, Spelled as OfSpelled}
 use Rattle.keymap_core.specs.declared.action.Holding.TheVariants as holding
-use Rattle.keymap_core.specs.declared.entry.Cell.{Cell}
-use Rattle.keymap_core.specs.declared.entry.Cell.TheVariants.{Char, Act}
 use Rattle.keymap_core.specs.declared.entry.Entry.{Entry}
 use Rattle.keymap_core.specs.Accents.{AccentValue, own_of}
 use Rattle.keymap_core.specs.Actions.{holding_action}
 use Rattle.keymap_core.specs.Below.{gathered, first_below}
 use Rattle.keymap_core.specs.Borne.{is_upper_live, any_below}
 use Rattle.keymap_core.specs.Maps.{MapValue, accent_at, cell_at, undefined}
-use Rattle.keymap_check.specs.declared.finding.Finding.{Finding}
 use Rattle.keymap_check.specs.Findings.{IsFinding}
-use Rattle.keymap_text.specs.declared.placed.Defined.{Defined}
-use Rattle.keymap_text.specs.declared.placed.Defined.TheVariants.{Slot, Accent}
-use Rattle.keymap_text.specs.declared.placed.Placed.{Placed}
-use Rattle.keymap_text.specs.declared.token.Span.{Span}
 use Rattle.keymap_text.specs.declared.token.TokenKind.TheVariants.{Word}
 use Rattle.keymap_text.specs.Items.{cell}
 use Rattle.keymap_text.specs.Lexical.{TokenValue}
 use Rattle.keymap_text.specs.Meaning.{item_of, tokens}
-use Rattle.keymap_text.specs.Placed.{Row, IsSpelledBy, IsPlaced, span_of, places_of, last_of}
+use Rattle.keymap_text.specs.Placed.{Row, IsSpelledBy, IsPlaced, span_of, places_of, last_of, begins}
 use Rattle.keymap_text.specs.Rows.{Defines, KeyDefinition}
 use Rattle.keymap_text.specs.declared.fault.TextFaultKind.{TextFaultKind}
 use Rattle.keymap_text.specs.declared.wanted.DefinitionStart.{DefinitionStart}
 use Rattle.keymap_text.specs.Places.{RowPlace, AtDefinition, AtCell, AtLock, AtAccentCharacter, AfterPairs, AtBase}
 use Rattle.keymap_text.specs.Places.{AtResult, AtPairEnd, next}
-use Rattle.keymap_text.specs.Placed.{begins}
 use Rattle.keymap_text.specs.Wanted.{definition_by, definition_behind, first_refused}
 use Rattle.keymap_text.proofs.InForce.{slot_in_force}
 use Rattle.keymap_text.proofs.Verdicts.{fault_to, fault_within}
 use Rattle.keymap_text.proofs.Parts.{slot_tokens}
 use Rattle.keymap_text.proofs.Parts as parts
 use Rattle.keymap_text.proofs.TokenPlaces.{tokens_are_placed}
-use Rattle.keymap_lint.specs.declared.cells.CellInForce.{CellInForce}
-use Rattle.keymap_lint.specs.declared.diagnostic.Diagnostic.{Diagnostic}
 use Rattle.keymap_lint.specs.declared.diagnostic.Kind.TheVariants as kinds
-use Rattle.keymap_lint.specs.declared.diagnostic.Lint.{Lint}
-use Rattle.keymap_lint.specs.declared.diagnostic.Lint.TheVariants.{Faulty, Spelled as OfSpelled}
 use Rattle.keymap_lint.specs.Kinds.{at, nowhere, no_key, no_shift, has_keys, has_shift, mixed_by, mixed_key, mixed_keys}
 use Rattle.keymap_lint.specs.Kinds.{is_mixed, character_of, is_greatest, half_at, half_by, half_defined, selects}
-use Rattle.keymap_lint.specs.Kinds.{selector}
-use Rattle.keymap_lint.specs.Kinds.{selector_of, is_some_in, missing_slots, nul_keys, again, again_by, defined_again}
-use Rattle.keymap_lint.specs.Kinds.{dead_key, dead_key_by, dead_key_of, live_accent, is_missing, is_missing_of}
-use Rattle.keymap_lint.specs.Kinds.{is_defined}
-use Rattle.keymap_lint.specs.Kinds.{zero_by, zero_accent, zero_accents, is_zero, is_given, pair_by, pair_again}
-use Rattle.keymap_lint.specs.Kinds.{pairs_by}
-use Rattle.keymap_lint.specs.Kinds.{accent_pairs, pairs_again, base_at, has_base, paren, unused_by, unused_half}
-use Rattle.keymap_lint.specs.Kinds.{is_above_in_force, digit, digit_by, bare_digits}
+use Rattle.keymap_lint.specs.Kinds.{selector, selector_of, is_some_in, missing_slots, nul_keys, again, again_by}
+use Rattle.keymap_lint.specs.Kinds.{defined_again, dead_key, dead_key_by, dead_key_of, live_accent, is_missing}
+use Rattle.keymap_lint.specs.Kinds.{is_missing_of, is_defined, zero_by, zero_accent, zero_accents, is_zero, is_given}
+use Rattle.keymap_lint.specs.Kinds.{pair_by, pair_again, pairs_by, accent_pairs, pairs_again, base_at, has_base, paren}
+use Rattle.keymap_lint.specs.Kinds.{unused_by, unused_half, is_above_in_force, digit, digit_by, bare_digits}
 use Rattle.keymap_lint.specs.Lists.{spelled_by, all_of, of_keys, of_definitions, of_rest, IsLint}
 use Rattle.keymap_lint.specs.Positions.{SpellsCell, CellsInForceAreSpelled, StandsWithin}
 use Rattle.keymap_lint.specs.Positions.{DiagnosticsStandInTheText, IsWithin, LiesWithin}
-use Rattle.keymap_lint.specs.Spelled.{Spelled, offset_at, cell_in, cells_defined, cells_of, cells_in_force}
-use Rattle.keymap_lint.specs.Spelled.{is_in_force, is_last}
-use Rattle.keymap_lint.specs.Spelled.{content, is_live}
+use Rattle.keymap_lint.specs.Spelled.{Spelled, offset_at, cell_in, cells_defined, cells_of, cells_in_force, is_in_force}
+use Rattle.keymap_lint.specs.Spelled.{is_last, content, is_live}
 
 -- ---- tokens
 

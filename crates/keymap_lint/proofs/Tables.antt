@@ -2,8 +2,7 @@
 use Rattle.std.proofs.Common.{◌≡◌, ◌<◌, ℕ, List, get_or, ap, ◌∙◌, None, arith}
 use Rattle.std.proofs.lemmas.List.FromFn.{get_or-map-range_with_len}
 use Rattle.keymap_text.specs.declared.last.LastDefinitions.{LastDefinitions}
-use Rattle.keymap_text.specs.declared.placed.Defined.TheVariants.{Slot}
-use Rattle.keymap_text.specs.declared.placed.Placed.{Placed}
+use Rattle.keymap_lint.specs.Types.{Slot, Placed}
 use Rattle.keymap_text.specs.Placed.{last_of}
 use Rattle.keymap_lint.specs.Spelled.{HasLast}
 

@@ -1,21 +1,16 @@
 -- Where no diagnostic is an error, no modifier sticks.
-use Rattle.std.proofs.Common.{◌≡◌, Bool, true, false, List, [], ◌∷◌, ap, subst, sym, ◌∙◌, Option, Some, None}
-use Rattle.std.proofs.Common.{refl}
+use Rattle.std.proofs.Common.{◌≡◌, Bool, true, false, List, [], ◌∷◌, ap, subst, sym, ◌∙◌, Option, Some, None, refl}
 use Rattle.std.specs.List.{list_any}
 use Rattle.std.proofs.lemmas.Bool.{true≢false, or_parts, or_from}
 use Rattle.keymap_core.specs.Maps.{MapValue}
-use Rattle.console_core.specs.declared.outcome.Sticking.{Sticking}
+use Rattle.keymap_lint.specs.Types.{Sticking, Diagnostic, Kind, Diagnostics, Faulty, Spelled}
 use Rattle.console_core.specs.declared.outcome.Sticking.TheVariants.{Sticks, Never, Undecided}
 use Rattle.console_core.specs.History.{in_force, is_on_after}
 use Rattle.console_core.specs.Headline.{IsSafe, IsOnOnlyWhilePressed}
 use Rattle.console_core.specs.Sticking.{NeverSticks}
 use Rattle.console_core.proofs.Headline.{on_only_while_pressed, off_once_quiet}
 use Rattle.console_core.proofs.OneMap.{first_in_force}
-use Rattle.keymap_lint.specs.declared.diagnostic.Diagnostic.{Diagnostic}
-use Rattle.keymap_lint.specs.declared.diagnostic.Kind.{Kind}
 use Rattle.keymap_lint.specs.declared.diagnostic.Kind.TheVariants as kinds
-use Rattle.keymap_lint.specs.declared.diagnostic.Diagnostics.{Diagnostics}
-use Rattle.keymap_lint.specs.declared.diagnostic.Lint.TheVariants.{Faulty, Spelled}
 use Rattle.keymap_lint.specs.Lists.{IsSearched}
 use Rattle.keymap_lint.specs.Promises.{names_a_key, names_keys, WellTextsNeverStick}
 use Rattle.keymap_lint.specs.Severities.{never_sticks, severity_of, is_error, has_error}

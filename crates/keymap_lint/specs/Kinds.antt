@@ -10,19 +10,11 @@ use Rattle.keymap_core.specs.Numbers.{key_count, slot_limit, accent_limit}
 use Rattle.keymap_core.specs.declared.action.Action.TheVariants as act
 use Rattle.keymap_core.specs.declared.action.Modifier.TheVariants as modifier
 use Rattle.keymap_core.specs.declared.action.Lock.TheVariants as lock
-use Rattle.keymap_core.specs.declared.action.Holding.{Holding}
+use Rattle.keymap_lint.specs.Types.{Holding, Cell, Char, Act, Defined, Slot, Accent, Placed, Finding, CellInForce}
+use Rattle.keymap_lint.specs.Types.{Diagnostic, Kind}
 use Rattle.keymap_core.specs.declared.action.Holding.TheVariants as holding
-use Rattle.keymap_core.specs.declared.entry.Cell.{Cell}
-use Rattle.keymap_core.specs.declared.entry.Cell.TheVariants.{Char, Act}
-use Rattle.keymap_text.specs.declared.placed.Defined.{Defined}
-use Rattle.keymap_text.specs.declared.placed.Defined.TheVariants.{Slot, Accent}
-use Rattle.keymap_text.specs.declared.placed.Placed.{Placed}
 use Rattle.keymap_text.specs.Placed.{last_of}
 use Rattle.keymap_core.specs.Below.{first_below, gathered}
-use Rattle.keymap_check.specs.declared.finding.Finding.{Finding}
-use Rattle.keymap_lint.specs.declared.cells.CellInForce.{CellInForce}
-use Rattle.keymap_lint.specs.declared.diagnostic.Diagnostic.{Diagnostic}
-use Rattle.keymap_lint.specs.declared.diagnostic.Kind.{Kind}
 use Rattle.keymap_lint.specs.declared.diagnostic.Kind.TheVariants as kinds
 use Rattle.keymap_lint.specs.Spelled.{Spelled, offset_at, content, is_live, is_in_force}
 

@@ -5,3 +5,4 @@ pub mod Lists
 pub mod Stuck
 pub mod Promises
 pub mod Positions
+pub mod Types

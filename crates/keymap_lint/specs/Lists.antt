@@ -5,23 +5,16 @@ use Rattle.std.specs.List.Sorted.{IsStableByKey}
 use Rattle.std.specs.Option.{option_cmp}
 use Rattle.std.specs.Ordering.{nat_cmp}
 use Rattle.keymap_core.specs.Maps.{MapValue}
-use Rattle.console_core.specs.declared.outcome.Sticking.{Sticking}
+use Rattle.keymap_lint.specs.Types.{Sticking, Finding, Span, Placed, CellInForce, Diagnostic, Diagnostics, Lint, Faulty}
+use Rattle.keymap_lint.specs.Types.{Spelled as IsSpelled}
 use Rattle.console_core.specs.Sticking.{IsAnswer}
-use Rattle.keymap_check.specs.declared.finding.Finding.{Finding}
 use Rattle.keymap_check.specs.Findings.{AreFindings}
 use Rattle.keymap_text.specs.declared.fault.TextFault.{TextFault}
 use Rattle.keymap_text.specs.declared.wanted.FaultPlace.{FaultPlace}
-use Rattle.keymap_text.specs.declared.token.Span.{Span}
-use Rattle.keymap_text.specs.declared.placed.Placed.{Placed}
 use Rattle.keymap_text.specs.Meaning.{Spells, Fault as FaultOf, tokens}
 use Rattle.keymap_text.specs.Placed.{Row, IsSpelledBy, places_of, span_of}
 use Rattle.keymap_text.specs.Places.{AtDefinition}
 use Rattle.keymap_text.specs.Wanted.{fault_place_view, first_refused}
-use Rattle.keymap_lint.specs.declared.cells.CellInForce.{CellInForce}
-use Rattle.keymap_lint.specs.declared.diagnostic.Diagnostic.{Diagnostic}
-use Rattle.keymap_lint.specs.declared.diagnostic.Diagnostics.{Diagnostics}
-use Rattle.keymap_lint.specs.declared.diagnostic.Lint.{Lint}
-use Rattle.keymap_lint.specs.declared.diagnostic.Lint.TheVariants.{Faulty, Spelled as IsSpelled}
 use Rattle.keymap_lint.specs.Spelled.{Spelled, cells_in_force}
 use Rattle.keymap_lint.specs.Stuck.{stuck}
 use Rattle.keymap_lint.specs.Kinds.{no_key, no_shift, mixed_keys, half_defined, defined_again, dead_key}

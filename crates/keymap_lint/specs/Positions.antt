@@ -1,8 +1,7 @@
 -- Where the diagnostics of a text stand, and what stands there.
 use Rattle.std.specs.Prelude.{◌≡◌, ℕ, ◌≤◌, List, All, Contains, length, IfSome, Ok, ⊤}
 use Rattle.keymap_core.specs.declared.action.Action.TheVariants as action
-use Rattle.keymap_core.specs.declared.entry.Cell.{Cell}
-use Rattle.keymap_core.specs.declared.entry.Cell.TheVariants.{Char, Act}
+use Rattle.keymap_lint.specs.Types.{Cell, Char, Act, Diagnostic, Kind, Lint, Faulty, Spelled}
 use Rattle.keymap_core.specs.Actions.{holding_action}
 use Rattle.keymap_core.specs.Maps.{MapValue}
 use Rattle.keymap_text.specs.Items.{cell}
@@ -10,11 +9,7 @@ use Rattle.keymap_text.specs.Lexical.{TokenValue}
 use Rattle.keymap_text.specs.Meaning.{item_of, tokens}
 use Rattle.keymap_text.specs.Placed.{IsSpelledBy, Row}
 use Rattle.keymap_text.specs.declared.wanted.FaultPlace.{FaultPlace}
-use Rattle.keymap_lint.specs.declared.diagnostic.Diagnostic.{Diagnostic}
-use Rattle.keymap_lint.specs.declared.diagnostic.Kind.{Kind}
 use Rattle.keymap_lint.specs.declared.diagnostic.Kind.TheVariants as kinds
-use Rattle.keymap_lint.specs.declared.diagnostic.Lint.{Lint}
-use Rattle.keymap_lint.specs.declared.diagnostic.Lint.TheVariants.{Faulty, Spelled}
 use Rattle.keymap_lint.specs.Lists.{IsLint, spelled_by}
 use Rattle.keymap_lint.specs.Spelled.{cells_in_force, content}
 

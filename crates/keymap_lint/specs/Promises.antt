@@ -5,11 +5,8 @@ use Rattle.keymap_core.specs.Maps.{MapValue}
 use Rattle.console_core.specs.Headline.{IsSafe}
 use Rattle.console_core.specs.Sticking.{NeverSticks}
 use Rattle.keymap_text.specs.Meaning.{Spells}
-use Rattle.keymap_lint.specs.declared.diagnostic.Diagnostic.{Diagnostic}
-use Rattle.keymap_lint.specs.declared.diagnostic.Kind.{Kind}
+use Rattle.keymap_lint.specs.Types.{Diagnostic, Kind, Lint, Faulty, Spelled}
 use Rattle.keymap_lint.specs.declared.diagnostic.Kind.TheVariants.{MixedKey, HalfDefined}
-use Rattle.keymap_lint.specs.declared.diagnostic.Lint.{Lint}
-use Rattle.keymap_lint.specs.declared.diagnostic.Lint.TheVariants.{Faulty, Spelled}
 use Rattle.keymap_lint.specs.Lists.{IsLint}
 use Rattle.keymap_lint.specs.Severities.{has_error}
 

@@ -1,14 +1,9 @@
 -- How much each kind of diagnostic weighs, by what the search answers.
 use Rattle.std.specs.Prelude.{Bool, true, false, not, ◌||◌, if◌then◌else◌, Option, Some}
 use Rattle.std.specs.List.{list_any}
-use Rattle.console_core.specs.declared.outcome.Sticking.{Sticking}
+use Rattle.keymap_lint.specs.Types.{Sticking, Diagnostic, Kind, Diagnostics, Lint, Faulty, Spelled}
 use Rattle.console_core.specs.declared.outcome.Sticking.TheVariants.{Never}
-use Rattle.keymap_lint.specs.declared.diagnostic.Diagnostic.{Diagnostic}
-use Rattle.keymap_lint.specs.declared.diagnostic.Kind.{Kind}
 use Rattle.keymap_lint.specs.declared.diagnostic.Kind.TheVariants.{NoKey, MixedKey, HalfDefined}
-use Rattle.keymap_lint.specs.declared.diagnostic.Diagnostics.{Diagnostics}
-use Rattle.keymap_lint.specs.declared.diagnostic.Lint.{Lint}
-use Rattle.keymap_lint.specs.declared.diagnostic.Lint.TheVariants.{Faulty, Spelled}
 use Rattle.keymap_lint.specs.declared.diagnostic.Severity.{Severity}
 use Rattle.keymap_lint.specs.declared.diagnostic.Severity.TheVariants.{Error, Warning}
 

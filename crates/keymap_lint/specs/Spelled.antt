@@ -3,16 +3,11 @@ use Rattle.std.specs.Prelude.{◌≡◌, ℕ, ◌+◌, ◌==◌, Bool, false, �
 use Rattle.std.specs.Prelude.{slice_index_or, Option, Some, None, All}
 use Rattle.std.specs.List.{flat_map, range_with_len}
 use Rattle.keymap_core.specs.Maps.{MapValue, cell_at}
-use Rattle.keymap_core.specs.declared.entry.Cell.{Cell}
+use Rattle.keymap_lint.specs.Types.{Cell, Span, Defined, Slot, Accent, Placed, CellInForce}
 use Rattle.keymap_core.specs.Borne.{is_upper_live}
 use Rattle.keymap_core.specs.Numbers.{key_count, column_count, slot_limit, accent_limit}
-use Rattle.keymap_text.specs.declared.token.Span.{Span}
-use Rattle.keymap_text.specs.declared.placed.Defined.{Defined}
-use Rattle.keymap_text.specs.declared.placed.Defined.TheVariants.{Slot, Accent}
-use Rattle.keymap_text.specs.declared.placed.Placed.{Placed}
 use Rattle.keymap_text.specs.declared.last.LastDefinitions.{LastDefinitions}
 use Rattle.keymap_text.specs.Placed.{last_of, HasIndex}
-use Rattle.keymap_lint.specs.declared.cells.CellInForce.{CellInForce}
 
 -- its definitions in order, where each token stands, and the map
 pub record Spelled : Type 0 where

@@ -3,8 +3,7 @@ use Rattle.std.specs.Prelude.{List, [], filter, reverse, Option, Some}
 use Rattle.keymap_core.specs.declared.action.Modifier.{Modifier}
 use Rattle.keymap_core.specs.Actions.{modifiers}
 use Rattle.keymap_core.specs.Maps.{MapValue}
-use Rattle.console_core.specs.declared.event.Event.{Event}
-use Rattle.console_core.specs.declared.outcome.Sticking.{Sticking}
+use Rattle.keymap_lint.specs.Types.{Event, Sticking}
 use Rattle.console_core.specs.declared.outcome.Sticking.TheVariants.{Sticks}
 use Rattle.console_core.specs.History.{Maps, between, is_on_after}
 

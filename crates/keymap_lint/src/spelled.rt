@@ -3,7 +3,7 @@ ghost use Rattle.std.specs.Prelude.{◌≡◌, ◌+◌, ◌<◌};
 ghost use Rattle.keymap_core.specs.Numbers.{accent_limit};
 ghost use Rattle.keymap_core.specs.Borne.{is_upper_live as is_upper_live_of};
 ghost use Rattle.keymap_text.specs.Placed.{last_of, HasIndex};
-ghost use Rattle.keymap_text.specs.declared.placed.Defined.TheVariants.{Slot, Accent};
+ghost use Rattle.keymap_lint.specs.Types.{Slot, Accent};
 ghost use Rattle.keymap_lint.specs.Spelled.{HasLast, span_at, offset_at, is_in_force as is_in_force_in};
 ghost use Rattle.keymap_lint.specs.Kinds.{defines as defines_slot, is_defined};
 ghost use Rattle.keymap_lint.specs.Spelled.{content as content_of, is_live as is_live_in};

@@ -1,6 +1,6 @@
 //! The modifiers that stay on after the events which the search found.
 ghost use Rattle.std.specs.Prelude.{◌≡◌, List, filter, IfOk};
-ghost use Rattle.console_core.specs.declared.event.Event.{Event as EventValue};
+ghost use Rattle.keymap_lint.specs.Types.{Event as EventValue};
 ghost use Rattle.console_core.specs.History.{Maps, is_on_after};
 ghost use Rattle.keymap_lint.specs.Stuck.{stuck as stuck_by};
 

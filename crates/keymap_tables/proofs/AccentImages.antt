@@ -14,9 +14,7 @@ use Rattle.keymap_tables.specs.Inner.Firsts.{HasNoFault}
 use Rattle.keymap_tables.specs.Fits.{PairFits, AccentFits}
 use Rattle.keymap_tables.specs.Image.{number_bytes, pair_bytes, accent_bytes, zeros}
 use Rattle.keymap_tables.specs.Layouts.{number_width, number_size, number_limit, pair_size, accent_size}
-use Rattle.keymap_tables.specs.declared.layout.Layout.{Layout}
-use Rattle.keymap_tables.specs.declared.layout.Layout.TheVariants.{Wide, Narrow}
-use Rattle.keymap_tables.specs.declared.fault.TableFaultKind.TheVariants.{NotEmpty}
+use Rattle.keymap_tables.specs.Types.{Layout, Wide, Narrow, NotEmpty}
 use Rattle.keymap_tables.proofs.Lifting.{none-past}
 use Rattle.keymap_tables.proofs.Pairs.{pairs-counted, accent-more, accent-past}
 use Rattle.keymap_tables.proofs.RowImages.{row-in, length-rows, zeros-behind}

@@ -6,11 +6,10 @@ use Rattle.std.proofs.lemmas.List.Elements.{All-get_or}
 use Rattle.keymap_core.specs.Accents.{AccentValue, blank}
 use Rattle.keymap_core.specs.Bounds.{IsAccent, IsEntry, IsMap}
 use Rattle.keymap_core.specs.Maps.{MapValue, accent_or_blank}
-use Rattle.keymap_core.specs.declared.entry.Entry.{Entry}
+use Rattle.keymap_tables.specs.Types.{Entry, TableFault}
 use Rattle.keymap_tables.specs.Faults.{IsFirstFault, accent_fault, count_at, slot_fault}
 use Rattle.keymap_tables.specs.Image.{accent_bytes, image, slot_bytes}
 use Rattle.keymap_tables.specs.Layouts.{accent_size, part, slot_size, wide}
-use Rattle.keymap_tables.specs.declared.fault.TableFault.{TableFault}
 use Rattle.keymap_tables.proofs.AccentImages.{accent_bytes-sound}
 use Rattle.keymap_tables.proofs.Contents.{count-part}
 use Rattle.keymap_tables.proofs.Images.{n_accs-of, n_keys-of}

@@ -14,23 +14,16 @@ use Rattle.std.proofs.Math.Seq.{take-add}
 use Rattle.std.proofs.Math.Nat.{div-div-eq-div-mul, pow-suc, eq-or-lt_of_le}
 use Rattle.std.proofs.lemmas.Bool.{cases_lt, lt-ltb, le-ltb}
 use Rattle.std.specs.List.{flat_map}
-use Rattle.keymap_core.specs.declared.entry.Cell.{Cell}
-use Rattle.keymap_core.specs.declared.entry.Cell.TheVariants.{Char, Act}
-use Rattle.keymap_core.specs.declared.entry.Entry.{Entry}
-use Rattle.keymap_core.specs.declared.entry.LockFlag.{LockFlag}
+use Rattle.keymap_tables.specs.Types.{Cell, Char, Act, Entry, LockFlag, Layout, Wide, Narrow, BadPad, BadFlag}
+use Rattle.keymap_tables.specs.Types.{TableFault, TableFaultKind}
 use Rattle.keymap_core.specs.declared.entry.LockFlag.TheVariants as variant
 use Rattle.keymap_tables.proofs.Pads.{zero-none, drop-zeros}
 use Rattle.keymap_tables.specs.Image.{cell_bytes, number_bytes, marks_of, number_of, is_act, slot_bytes, flag_number}
 use Rattle.keymap_tables.specs.Image.{zeros}
 use Rattle.keymap_tables.specs.Layouts.{number_size, number_limit, pad_size, slot_size}
-use Rattle.keymap_tables.specs.declared.layout.Layout.{Layout}
-use Rattle.keymap_tables.specs.declared.layout.Layout.TheVariants.{Wide, Narrow}
 use Rattle.keymap_tables.specs.Fits.{CellFits}
 use Rattle.keymap_tables.proofs.Sizes.{some-number, row-inside, row-next}
 use Rattle.keymap_tables.specs.Faults.{number_at, is_marked_at, cell_fault, slot_fault, zero_fault, IsFirstFault}
-use Rattle.keymap_tables.specs.declared.fault.TableFaultKind.TheVariants.{BadPad, BadFlag}
-use Rattle.keymap_tables.specs.declared.fault.TableFault.{TableFault}
-use Rattle.keymap_tables.specs.declared.fault.TableFaultKind.{TableFaultKind}
 
 isnt_at : (a b : ℕ) → b < a → (a == b) ≡ false
 isnt_at a b past = grind (arith, nat_tests)

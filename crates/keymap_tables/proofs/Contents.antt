@@ -11,9 +11,7 @@ use Rattle.keymap_tables.specs.Inner.Firsts.{HasNoFault}
 use Rattle.keymap_tables.proofs.Lifting.{none-after}
 use Rattle.keymap_tables.specs.Layouts.{part, count_size, slot_size, slots_place, slots_size, n_accs_place}
 use Rattle.keymap_tables.specs.Layouts.{accents_place, accent_size, accents_size, file_size}
-use Rattle.keymap_tables.specs.declared.layout.Layout.{Layout}
-use Rattle.keymap_tables.specs.declared.fault.TableFault.{TableFault}
-use Rattle.keymap_tables.specs.declared.fault.TableFaultKind.TheVariants.{Short, Long}
+use Rattle.keymap_tables.specs.Types.{Layout, TableFault, Short, Long}
 
 -- a place, counted from the start of its part
 from_part : (base q : ℕ) → base + q - base ≡ q

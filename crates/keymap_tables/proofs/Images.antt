@@ -10,7 +10,7 @@ use Rattle.std.proofs.lemmas.List.Elements.{All-get_or}
 use Rattle.std.proofs.lemmas.Nat.{from_le_bytes-to_le_bytes_2}
 use Rattle.keymap_core.specs.Accents.{AccentValue, blank}
 use Rattle.keymap_core.specs.Maps.{MapValue, undefined}
-use Rattle.keymap_core.specs.declared.entry.Entry.{Entry}
+use Rattle.keymap_tables.specs.Types.{Entry, Layout, Wide, Narrow}
 use Rattle.keymap_core.specs.Bounds.{IsEntry, IsAccent, IsMap}
 use Rattle.keymap_tables.specs.Faults.{count_at, count_fault, slot_fault, accent_fault, row_fault, content_fault}
 use Rattle.keymap_tables.specs.Faults.{fault_at}
@@ -20,8 +20,6 @@ use Rattle.keymap_tables.specs.Image.{image_in, count_bytes, slot_bytes, slots_b
 use Rattle.keymap_tables.specs.Image.{zeros}
 use Rattle.keymap_tables.specs.Layouts.{part, pad_size, count_size, slot_size, slots_place, slots_size, n_accs_place}
 use Rattle.keymap_tables.specs.Layouts.{accents_place, accent_size, accents_size, file_size}
-use Rattle.keymap_tables.specs.declared.layout.Layout.{Layout}
-use Rattle.keymap_tables.specs.declared.layout.Layout.TheVariants.{Wide, Narrow}
 use Rattle.keymap_tables.proofs.AccentImages.{length-accent_bytes, accent_bytes-sound, same-accent}
 use Rattle.keymap_tables.proofs.Contents.{count-part, content-past, fault-content, sound-n_keys, sound-slots}
 use Rattle.keymap_tables.proofs.Contents.{sound-n_accs, sound-accents}

@@ -8,9 +8,7 @@ use Rattle.std.proofs.lemmas.Nat.{div-mul-add, mod-mul-add, le-div}
 use Rattle.keymap_tables.specs.Faults.{zero_fault, row_fault, IsFirstFault}
 use Rattle.keymap_tables.specs.Inner.Firsts.{IsFirstFilled, HasNoFault}
 use Rattle.keymap_tables.specs.Layouts.{part}
-use Rattle.keymap_tables.specs.declared.fault.TableFault.{TableFault}
-use Rattle.keymap_tables.specs.declared.fault.TableFaultKind.{TableFaultKind}
-use Rattle.keymap_tables.specs.declared.fault.TableFaultKind.TheVariants.{NotEmpty}
+use Rattle.keymap_tables.specs.Types.{TableFault, TableFaultKind, NotEmpty}
 
 -- the kind of fault at each place, if there is one
 abbrev pub FaultOf : Type 0

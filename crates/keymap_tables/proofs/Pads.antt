@@ -12,10 +12,8 @@ use Rattle.std.proofs.lemmas.Nat.{le_bytes_2}
 use Rattle.keymap_tables.specs.Faults.{zero_fault, count_fault, count_at}
 use Rattle.keymap_tables.specs.Inner.Firsts.{HasNoFault}
 use Rattle.keymap_tables.specs.Image.{zeros, count_bytes}
-use Rattle.keymap_tables.specs.declared.layout.Layout.{Layout}
+use Rattle.keymap_tables.specs.Types.{Layout, TableFaultKind, BadPad}
 use Rattle.keymap_tables.specs.Layouts.{pad_size}
-use Rattle.keymap_tables.specs.declared.fault.TableFaultKind.{TableFaultKind}
-use Rattle.keymap_tables.specs.declared.fault.TableFaultKind.TheVariants.{BadPad}
 
 -- a byte that isn't 0 is a fault of the given kind
 pub zero-here : (kind : TableFaultKind) (bytes : List ℕ) (p : ℕ) → slice_index bytes p ≢ 0

@@ -16,11 +16,8 @@ use Rattle.keymap_tables.proofs.Sizes.{pair-next, pairs-rest}
 use Rattle.keymap_tables.specs.Faults.{base_at, number_at, char_fault, zero_fault, accent_fault, pairs_in, IsFirstFault}
 use Rattle.keymap_tables.specs.Inner.Firsts.{HasNoFault}
 use Rattle.keymap_tables.specs.Image.{number_bytes, pair_bytes, accent_bytes, zeros}
-use Rattle.keymap_tables.specs.declared.layout.Layout.{Layout}
-use Rattle.keymap_tables.specs.declared.layout.Layout.TheVariants.{Wide, Narrow}
+use Rattle.keymap_tables.specs.Types.{Layout, Wide, Narrow, TableFault, NotEmpty}
 use Rattle.keymap_tables.specs.Layouts.{number_size, pair_size, accent_size}
-use Rattle.keymap_tables.specs.declared.fault.TableFault.{TableFault}
-use Rattle.keymap_tables.specs.declared.fault.TableFaultKind.TheVariants.{NotEmpty}
 
 -- how many numbers from a on pass a test, of those below a + k
 pub prefix_len-range : (test : ℕ → Bool) (a n k : ℕ) → n ≤ k → ((i : ℕ) → i < n → test (a + i) ≡ true)

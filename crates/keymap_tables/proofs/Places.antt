@@ -11,14 +11,12 @@ use Rattle.std.proofs.lemmas.List.Elements.{All-get_or}
 use Rattle.keymap_core.specs.Accents.{blank}
 use Rattle.keymap_core.specs.Maps.{MapValue, undefined, entry_at, cell_at, accent_or_blank}
 use Rattle.keymap_core.specs.Bounds.{IsCell, IsEntry, IsMap}
-use Rattle.keymap_core.specs.declared.entry.Cell.TheVariants.{Char}
+use Rattle.keymap_tables.specs.Types.{Char, Layout, Wide, Narrow}
 use Rattle.keymap_tables.specs.Faults.{number_at, is_marked_at}
 use Rattle.keymap_tables.specs.Fits.{CellFits, EntryFits, FitsIn}
 use Rattle.keymap_tables.specs.Image.{image_in, number_of, is_act, flag_number, slot_bytes, accent_bytes, zeros}
 use Rattle.keymap_tables.specs.Layouts.{narrow, part, number_width, number_size, slot_size, slots_place, slots_size}
 use Rattle.keymap_tables.specs.Layouts.{accent_size, accents_place, accents_size}
-use Rattle.keymap_tables.specs.declared.layout.Layout.{Layout}
-use Rattle.keymap_tables.specs.declared.layout.Layout.TheVariants.{Wide, Narrow}
 use Rattle.keymap_tables.proofs.Images.{slots-sized, image-slots, image-accents, accents-sized}
 use Rattle.keymap_tables.proofs.RowImages.{IsSized, row-in}
 use Rattle.keymap_tables.proofs.Rows.{filled, length-filled, get_or-filled, flat_map-filled}

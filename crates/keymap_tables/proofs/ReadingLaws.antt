@@ -7,19 +7,13 @@ use Rattle.std.proofs.lemmas.List.Elements.{All-weaker}
 use Rattle.keymap_core.specs.Accents.{AccentValue}
 use Rattle.keymap_core.specs.Maps.{MapValue}
 use Rattle.keymap_core.specs.Bounds.{IsCell, IsEntry, IsPair, IsAccent, IsMap}
-use Rattle.keymap_core.specs.declared.entry.Cell.{Cell}
-use Rattle.keymap_core.specs.declared.entry.Cell.TheVariants.{Char, Act}
-use Rattle.keymap_core.specs.declared.entry.Entry.{Entry}
+use Rattle.keymap_tables.specs.Types.{Cell, Char, Act, Entry, Layout, TableError, Memory, Read, Fault, TableFault}
+use Rattle.keymap_tables.specs.Types.{TableFaultKind}
 use Rattle.keymap_tables.specs.Faults.{IsFirstFault, fault_at}
 use Rattle.keymap_tables.specs.Fits.{CellFits, EntryFits, PairFits, AccentFits, FitsIn}
 use Rattle.keymap_tables.specs.Image.{image_in}
 use Rattle.keymap_tables.specs.Layouts.{wide}
 use Rattle.keymap_tables.specs.Readings.{IsReading, IsReadingIn, AnswersMap, AnswersFault}
-use Rattle.keymap_tables.specs.declared.layout.Layout.{Layout}
-use Rattle.keymap_tables.specs.declared.fault.TableError.{TableError}
-use Rattle.keymap_tables.specs.declared.fault.TableError.TheVariants.{Memory, Read, Fault}
-use Rattle.keymap_tables.specs.declared.fault.TableFault.{TableFault}
-use Rattle.keymap_tables.specs.declared.fault.TableFaultKind.{TableFaultKind}
 use Rattle.keymap_tables.proofs.Images.{image-sound, same-map}
 use Rattle.keymap_tables.proofs.SlotImages.{scalar-small}
 

@@ -16,7 +16,7 @@ use Rattle.keymap_tables.specs.Faults.{row_fault}
 use Rattle.keymap_tables.specs.Inner.Firsts.{HasNoFault}
 use Rattle.keymap_tables.specs.Image.{zeros}
 use Rattle.keymap_tables.specs.Layouts.{part}
-use Rattle.keymap_tables.specs.declared.fault.TableFaultKind.TheVariants.{NotEmpty}
+use Rattle.keymap_tables.specs.Types.{NotEmpty}
 
 -- each row has the size
 abbrev pub IsSized : {X : Type 0} → (X → List ℕ) → ℕ → List X → Type 0

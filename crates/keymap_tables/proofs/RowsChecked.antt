@@ -10,8 +10,7 @@ use Rattle.keymap_tables.specs.Faults.{row_fault, IsFirstFault}
 use Rattle.keymap_tables.specs.Image.{zeros}
 use Rattle.keymap_tables.specs.Inner.Firsts.{HasNoFault, IsFirstFilled}
 use Rattle.keymap_tables.specs.Layouts.{part}
-use Rattle.keymap_tables.specs.declared.fault.TableFault.{TableFault}
-use Rattle.keymap_tables.specs.declared.fault.TableFaultKind.TheVariants.{NotEmpty}
+use Rattle.keymap_tables.specs.Types.{TableFault, NotEmpty}
 use Rattle.keymap_tables.proofs.Lifting.{FaultOf, first-after, none-after, first-past, none-past, row-at, row-past}
 use Rattle.keymap_tables.proofs.Outcomes.{OnOk-map, IfErr-map}
 use Rattle.keymap_tables.proofs.Pads.{drop-zeros}

@@ -7,7 +7,7 @@ use Rattle.std.specs.List.{flat_map}
 use Rattle.keymap_core.specs.Accents.{AccentValue, blank}
 use Rattle.keymap_core.specs.Bounds.{IsMap, IsEntry, IsAccent, IsCell}
 use Rattle.keymap_core.specs.Maps.{MapValue, placed, undefined, with_entry, with_accent}
-use Rattle.keymap_core.specs.declared.entry.Entry.{Entry}
+use Rattle.keymap_tables.specs.Types.{Entry}
 use Rattle.keymap_tables.specs.Files.{joined}
 use Rattle.keymap_tables.specs.declared.file.TableFile.{TableFile}
 use Rattle.keymap_tables.specs.declared.filling.Filling.{Filling}

@@ -6,8 +6,7 @@ use Rattle.keymap_core.specs.Accents.{blank}
 use Rattle.keymap_core.specs.Maps.{undefined}
 use Rattle.keymap_tables.specs.Image.{number_bytes, count_bytes, slot_bytes, accent_bytes, zeros}
 use Rattle.keymap_tables.specs.Layouts.{number_size, pad_size, slot_size, pair_size, accent_size}
-use Rattle.keymap_tables.specs.declared.layout.Layout.{Layout}
-use Rattle.keymap_tables.specs.declared.layout.Layout.TheVariants.{Wide, Narrow}
+use Rattle.keymap_tables.specs.Types.{Layout, Wide, Narrow}
 
 -- row i of so many rows of one size
 pub row-inside : (size n i : ℕ) → i < n → size * i + size ≤ n * size

@@ -16,10 +16,7 @@ use Rattle.keymap_core.specs.declared.action.Action.{Action}
 use Rattle.keymap_core.specs.declared.action.Action.TheVariants as a
 use Rattle.keymap_core.specs.declared.action.Modifier.TheVariants as m
 use Rattle.keymap_core.specs.declared.action.Lock.TheVariants as lock
-use Rattle.keymap_core.specs.declared.entry.Cell.{Cell}
-use Rattle.keymap_core.specs.declared.entry.Cell.TheVariants.{Char, Act}
-use Rattle.keymap_core.specs.declared.entry.Entry.{Entry}
-use Rattle.keymap_core.specs.declared.entry.LockFlag.{LockFlag}
+use Rattle.keymap_tables.specs.Types.{Cell, Char, Act, Entry, LockFlag, Layout, Wide, Narrow}
 use Rattle.keymap_core.specs.declared.entry.LockFlag.TheVariants as flag
 use Rattle.keymap_core.specs.Bounds.{IsCell, IsEntry}
 use Rattle.keymap_tables.specs.Faults.{number_at, is_marked_at, char_fault, cell_fault, slot_fault}
@@ -28,8 +25,6 @@ use Rattle.keymap_tables.specs.Image.{cell_bytes, number_bytes, number_of, is_ac
 use Rattle.keymap_tables.specs.Image.{zeros}
 use Rattle.keymap_tables.specs.Fits.{CellFits, EntryFits}
 use Rattle.keymap_tables.specs.Layouts.{number_width, number_size, number_limit, pad_size, slot_size}
-use Rattle.keymap_tables.specs.declared.layout.Layout.{Layout}
-use Rattle.keymap_tables.specs.declared.layout.Layout.TheVariants.{Wide, Narrow}
 use Rattle.keymap_tables.proofs.RowImages.{IsSized, length-rows, row-in, zeros-behind}
 use Rattle.keymap_tables.proofs.Sizes.{length-number}
 use Rattle.keymap_tables.proofs.Cells.{sound-more, slot-none, small-flag}

@@ -8,10 +8,8 @@ use Rattle.std.proofs.lemmas.List.Elements.{All-more}
 use Rattle.std.specs.Prelude.{All}
 use Rattle.std.proofs.Math.Nat.{pow-suc}
 use Rattle.std.specs.List.{flat_map}
-use Rattle.keymap_core.specs.declared.entry.Cell.{Cell}
-use Rattle.keymap_core.specs.declared.entry.Entry.{Entry}
+use Rattle.keymap_tables.specs.Types.{Cell, Entry, Layout}
 use Rattle.keymap_tables.specs.Image.{cell_bytes, marks_of, is_act, slot_bytes, flag_number, zeros}
-use Rattle.keymap_tables.specs.declared.layout.Layout.{Layout}
 use Rattle.keymap_tables.specs.Layouts.{pad_size}
 
 -- what holds of the cells so far, and of one more

@@ -2,12 +2,11 @@
 use Rattle.std.proofs.Common.{◌≡◌, ℕ, List, [], ◌++◌, ◌+◌, length, take, ap, arith, refl, sym, ◌∙◌, append_assoc}
 use Rattle.std.proofs.Common.{append-nil}
 use Rattle.keymap_core.specs.Maps.{MapValue}
-use Rattle.keymap_tables.specs.declared.layout.Layout.{Layout}
+use Rattle.keymap_tables.specs.Types.{Layout, Entry}
 use Rattle.keymap_tables.specs.Image.{image_in, count_bytes, slots_bytes, accents_bytes}
 use Rattle.std.proofs.lemmas.List.{take_all}
 use Rattle.std.proofs.Math.Seq.{take-add}
 use Rattle.keymap_tables.specs.Layouts.{part}
-use Rattle.keymap_core.specs.declared.entry.Entry.{Entry}
 use Rattle.keymap_core.specs.Accents.{AccentValue}
 
 -- the map of these entries and accents

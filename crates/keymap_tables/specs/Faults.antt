@@ -9,11 +9,8 @@ use Rattle.keymap_core.specs.Numbers.{slot_limit, accent_limit, pair_limit}
 use Rattle.keymap_tables.specs.Layouts.{cells_size, wide, narrow, part, number_width, number_size, count_size}
 use Rattle.keymap_tables.specs.Layouts.{slot_size, pair_size, accent_size, slots_place, slots_size, n_accs_place}
 use Rattle.keymap_tables.specs.Layouts.{accents_place, accents_size, file_size}
-use Rattle.keymap_tables.specs.declared.layout.Layout.{Layout}
-use Rattle.keymap_tables.specs.declared.fault.TableFaultKind.{TableFaultKind}
-use Rattle.keymap_tables.specs.declared.fault.TableFaultKind.TheVariants.{Short, Long, BadCount, BadPad, BadFlag}
-use Rattle.keymap_tables.specs.declared.fault.TableFaultKind.TheVariants.{BadAction, Combined, BadChar, NotEmpty}
-use Rattle.keymap_tables.specs.declared.fault.TableFault.{TableFault}
+use Rattle.keymap_tables.specs.Types.{Layout, TableFaultKind, Short, Long, BadCount, BadPad, BadFlag, BadAction}
+use Rattle.keymap_tables.specs.Types.{Combined, BadChar, NotEmpty, TableFault}
 
 -- The number of a cell or a character, and a count, from a place on.
 abbrev pub number_at : Layout → List ℕ → ℕ → ℕ

@@ -4,10 +4,7 @@ use Rattle.std.specs.Prelude.{ℕ, ◌+◌, ◌*◌, ◌<◌, ◌≤◌, ⊤, Li
 use Rattle.std.specs.List.{flat_map}
 use Rattle.keymap_core.specs.Accents.{AccentValue}
 use Rattle.keymap_core.specs.Maps.{MapValue, cell_at, accent_or_blank}
-use Rattle.keymap_core.specs.declared.entry.Cell.{Cell}
-use Rattle.keymap_core.specs.declared.entry.Cell.TheVariants.{Char, Act}
-use Rattle.keymap_core.specs.declared.entry.Entry.{Entry}
-use Rattle.keymap_tables.specs.declared.layout.Layout.{Layout}
+use Rattle.keymap_tables.specs.Types.{Cell, Char, Act, Entry, Layout}
 use Rattle.keymap_tables.specs.declared.narrow.Wide.{Wide}
 use Rattle.keymap_tables.specs.declared.narrow.Wide.TheVariants as at
 use Rattle.keymap_tables.specs.Layouts.{narrow, number_limit, number_size, slot_place, accent_place}

@@ -7,12 +7,8 @@ use Rattle.keymap_core.specs.Accents.{AccentValue}
 use Rattle.keymap_core.specs.Actions.{code_of}
 use Rattle.keymap_core.specs.Maps.{MapValue}
 use Rattle.keymap_core.specs.Numbers.{slot_limit, accent_limit, pair_limit}
-use Rattle.keymap_core.specs.declared.entry.Cell.{Cell}
-use Rattle.keymap_core.specs.declared.entry.Cell.TheVariants.{Char, Act}
-use Rattle.keymap_core.specs.declared.entry.Entry.{Entry}
-use Rattle.keymap_core.specs.declared.entry.LockFlag.{LockFlag}
+use Rattle.keymap_tables.specs.Types.{Cell, Char, Act, Entry, LockFlag, Layout}
 use Rattle.keymap_core.specs.declared.entry.LockFlag.TheVariants as flag
-use Rattle.keymap_tables.specs.declared.layout.Layout.{Layout}
 use Rattle.keymap_tables.specs.Layouts.{wide, narrow, number_width, pad_size, pair_size, slot_size, accent_size}
 
 abbrev pub zeros : ℕ → List ℕ

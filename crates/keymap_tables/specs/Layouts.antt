@@ -2,8 +2,7 @@
 use Rattle.std.specs.Prelude.{ℕ, ◌+◌, ◌*◌, ◌^◌, List, take, drop}
 use Rattle.std.specs.Int.{Width, w8, w32}
 use Rattle.keymap_core.specs.Numbers.{slot_limit, column_count, accent_limit, pair_limit}
-use Rattle.keymap_tables.specs.declared.layout.Layout.{Layout}
-use Rattle.keymap_tables.specs.declared.layout.Layout.TheVariants.{Wide, Narrow}
+use Rattle.keymap_tables.specs.Types.{Layout, Wide, Narrow}
 
 -- the layout of `struct keymap` and `struct accentmap`
 abbrev pub wide : Layout

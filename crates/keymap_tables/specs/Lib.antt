@@ -7,4 +7,5 @@ pub mod Inner
 pub mod Layouts
 pub mod Readings
 pub mod Sources
+pub mod Types
 pub mod Writing

@@ -1,15 +1,12 @@
 -- What the reading of tables answers.
 use Rattle.std.specs.Prelude.{◌≡◌, ℕ, List, length, ⊤, Result, Ok, Err}
-use Rattle.keymap_tables.specs.declared.layout.Layout.{Layout}
+use Rattle.keymap_tables.specs.Types.{Layout, TableError, TableFault, Memory, Read, Fault}
 use Rattle.keymap_core.specs.Maps.{MapValue}
 use Rattle.keymap_core.specs.Bounds.{IsMap}
 use Rattle.keymap_tables.specs.Faults.{IsTableFault, IsFirstFault, fault_at}
 use Rattle.keymap_tables.specs.Fits.{FitsIn}
 use Rattle.keymap_tables.specs.Image.{image, image_in}
 use Rattle.keymap_tables.specs.Layouts.{wide, narrow, file_size}
-use Rattle.keymap_tables.specs.declared.fault.TableError.{TableError}
-use Rattle.keymap_tables.specs.declared.fault.TableFault.{TableFault}
-use Rattle.keymap_tables.specs.declared.fault.TableError.TheVariants.{Memory, Read, Fault}
 
 -- The map whose image the bytes are, or their fault. Memory is wanted only for bytes of the right length.
 abbrev pub IsReading : List ℕ → Result MapValue TableError → Type 0

@@ -5,8 +5,7 @@ use Rattle.keymap_core.specs.Transfers.{ReadsUpTo, IsDeviceFault}
 use Rattle.keymap_core.specs.declared.transfer.ReadError.TheVariants as read
 use Rattle.keymap_tables.specs.Layouts.{wide, narrow, file_size}
 use Rattle.keymap_tables.specs.Readings.{IsReading, IsNarrowReading}
-use Rattle.keymap_tables.specs.declared.fault.TableError.{TableError}
-use Rattle.keymap_tables.specs.declared.fault.TableError.TheVariants.{Memory, Read, Fault}
+use Rattle.keymap_tables.specs.Types.{TableError, Memory, Read, Fault}
 
 -- one byte more than a table file has, and than a narrow one has
 abbrev pub limit : ℕ

@@ -7,12 +7,10 @@ ghost use Rattle.keymap_tables.specs.Faults.{IsTableFault, IsNarrowFault, number
 ghost use Rattle.keymap_tables.specs.Fits.{Fits, IsWide};
 ghost use Rattle.keymap_tables.specs.Image.{image, narrow_image, count_bytes, slot_bytes, accent_bytes, number_of};
 ghost use Rattle.keymap_tables.specs.Image.{is_act, flag_number};
-ghost use Rattle.keymap_tables.specs.Layouts.{wide, narrow, part};
-ghost use Rattle.keymap_tables.specs.Layouts.{number_size, count_size, cells_size, slot_size, accent_size};
-ghost use Rattle.keymap_tables.specs.Layouts.{slot_place, n_accs_place, accent_place, file_size};
+ghost use Rattle.keymap_tables.specs.Layouts.{wide, narrow, part, number_size, count_size, cells_size, slot_size};
+ghost use Rattle.keymap_tables.specs.Layouts.{accent_size, slot_place, n_accs_place, accent_place, file_size};
 ghost use Rattle.keymap_tables.specs.Readings.{IsReading, IsNarrowReading, AnswersMap, AnswersFault};
-ghost use Rattle.keymap_tables.specs.declared.fault.TableError.{TableError};
-ghost use Rattle.keymap_tables.specs.declared.fault.TableFault.{TableFault};
+ghost use Rattle.keymap_tables.specs.Types.{TableError, TableFault};
 ghost use Rattle.keymap_tables.specs.declared.narrow.Wide.{Wide};
 
 /// The image of each map has the length of a table file, and the narrow image of each that fits that of a narrow file.

@@ -8,7 +8,7 @@ ghost use Rattle.keymap_tables.specs.Faults.{IsFirstFault};
 ghost use Rattle.keymap_tables.specs.Inner.Firsts.{IsFirstFilled, HasNoFault};
 ghost use Rattle.keymap_tables.specs.Image.{number_of, is_act, count_bytes};
 ghost use Rattle.keymap_tables.specs.Layouts.{number_size, count_size};
-ghost use Rattle.keymap_tables.specs.declared.layout.Layout.{Layout};
+ghost use Rattle.keymap_tables.specs.Types.{Layout};
 
 use crate::fault::{TableFault, TableFaultKind};
 use crate::layout::{COUNT_PADS_AT, Layout};

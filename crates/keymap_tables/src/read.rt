@@ -4,7 +4,7 @@ ghost use Rattle.keymap_core.specs.Bounds.{IsMap};
 ghost use Rattle.keymap_tables.specs.Faults.{IsTableFault, IsNarrowFault};
 ghost use Rattle.keymap_tables.specs.Image.{image, narrow_image};
 ghost use Rattle.keymap_tables.specs.Fits.{Fits};
-ghost use Rattle.keymap_tables.specs.declared.fault.TableFault.{TableFault};
+ghost use Rattle.keymap_tables.specs.Types.{TableFault};
 ghost use Rattle.keymap_tables.specs.Readings.{IsReading, IsNarrowReading, IsReadingIn, AnswersMap, AnswersFault};
 ghost use Rattle.keymap_core.specs.Maps.{MapValue};
 

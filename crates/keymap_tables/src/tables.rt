@@ -4,7 +4,7 @@ ghost use Rattle.keymap_core.specs.Accents.{AccentValue, first_result};
 ghost use Rattle.keymap_core.specs.Maps.{MapValue, n_keys_of, n_accs_of, entry_at, accent_or_blank};
 ghost use Rattle.keymap_core.specs.Bounds.{IsEntry, IsAccent, IsMap};
 ghost use Rattle.keymap_core.specs.Numbers.{column_count, slot_limit, accent_limit};
-ghost use Rattle.keymap_core.specs.declared.entry.Entry.{Entry as EntryValue};
+ghost use Rattle.keymap_tables.specs.Types.{Entry as EntryValue};
 ghost use Rattle.keymap_tables.specs.Image.{image, slot_bytes, accent_bytes};
 ghost use Rattle.keymap_tables.specs.Layouts.{wide, slot_size, accent_size, file_size};
 

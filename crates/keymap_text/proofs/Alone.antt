@@ -3,12 +3,9 @@ use Rattle.std.proofs.Common.{◌≡◌, ℕ, ◌+◌, ◌≤◌, Bool, true, fa
 use Rattle.std.proofs.Common.{ap, subst, arith, add-one, nat_lt, ◌&&◌, slice_index}
 use Rattle.std.specs.List.{list_all}
 use Rattle.std.proofs.lemmas.Bool.Decides.{nat_tests}
-use Rattle.keymap_text.specs.declared.fault.TextFaultKind.TheVariants.{BadByte, BadWord}
-use Rattle.keymap_text.specs.declared.token.TokenKind.{TokenKind}
-use Rattle.keymap_text.specs.declared.token.TokenKind.TheVariants.{ParenL, ParenR, Literal, Word}
+use Rattle.keymap_text.specs.Types.{BadByte, BadWord, TokenKind, ParenL, ParenR, Literal, Word}
 use Rattle.keymap_text.specs.Lexical.{leading, is_blank, is_word, stays_on_line, separates, word, Skipped, Found}
-use Rattle.keymap_text.specs.Lexical.{Refused}
-use Rattle.keymap_text.specs.Lexical.{front_of}
+use Rattle.keymap_text.specs.Lexical.{Refused, front_of}
 use Rattle.keymap_text.proofs.Leading.{leading_pass, leading_fail, leading_none}
 use Rattle.keymap_text.proofs.Splitting.{front_blank, front_comment}
 use Rattle.keymap_text.proofs.Literals.{literal_no_skip}

@@ -4,14 +4,10 @@ use Rattle.std.proofs.Common.{length, take, drop, refl, sym, ◌∙◌, ap, subs
 use Rattle.std.proofs.Common.{true≢false}
 use Rattle.keymap_core.specs.Accents.{AccentValue}
 use Rattle.keymap_core.specs.Maps.{MapValue}
-use Rattle.keymap_core.specs.declared.entry.Entry.{Entry}
-use Rattle.keymap_core.specs.declared.entry.Cell.{Cell}
-use Rattle.keymap_text.specs.declared.fault.TextFaultKind.{TextFaultKind}
-use Rattle.keymap_text.specs.declared.fault.TextFault.{TextFault}
+use Rattle.keymap_text.specs.Types.{Entry, Cell, TextFaultKind, TextFault, Item}
 use Rattle.keymap_text.specs.declared.grammar.Place.TheVariants as places
 use Rattle.keymap_text.specs.declared.scanner.Mode.TheVariants as modes
 use Rattle.keymap_text.specs.declared.scanner.Scanner.{Scanner}
-use Rattle.keymap_text.specs.declared.words.Item.{Item}
 use Rattle.keymap_text.specs.Items.{cell}
 use Rattle.keymap_text.specs.Lexical.{leading, is_space}
 use Rattle.keymap_text.specs.Inner.Grammar as spec

@@ -7,9 +7,7 @@ use Rattle.std.specs.Char.{digit_char, digit_value}
 use lib.Utf8.{scalar}
 use Rattle.std.proofs.lemmas.Bool.Decides.{nat_tests}
 use Rattle.keymap_text.specs.declared.fault.TextFaultKind.TheVariants as faults
-use Rattle.keymap_text.specs.declared.words.Item.TheVariants.{Value}
-use Rattle.keymap_text.specs.declared.words.Meaning.{Meaning}
-use Rattle.keymap_text.specs.declared.words.Meaning.TheVariants.{Number, Char}
+use Rattle.keymap_text.specs.Types.{Value, Meaning, Number, Char}
 use Rattle.keymap_text.specs.Lexical.{leading, is_word}
 use Rattle.keymap_text.specs.Words.{meaning, digits_of, number_after, is_digit, named, control_names}
 use Rattle.keymap_text.specs.Printed.{character_text, hex, hex4, hex_at}

@@ -4,10 +4,7 @@ use Rattle.std.proofs.Common.{[], ◌∷◌, ◌++◌, length, take, drop, refl,
 use Rattle.std.proofs.Common.{true≢false, nat_lt, eq-or-lt_of_le, eq-eqb, le_of_eq, length-drop}
 use Rattle.std.proofs.lemmas.Bool.Decides.{nat_tests}
 use Rattle.std.proofs.lemmas.List.{take-append-le, drop-append-le, drop_all}
-use Rattle.keymap_text.specs.declared.fault.TextFaultKind.{TextFaultKind}
-use Rattle.keymap_text.specs.declared.fault.TextFaultKind.TheVariants.{BadByte, BadWord, EndInside}
-use Rattle.keymap_text.specs.declared.token.TokenKind.{TokenKind}
-use Rattle.keymap_text.specs.declared.token.TokenKind.TheVariants.{ParenL, ParenR, Word}
+use Rattle.keymap_text.specs.Types.{TextFaultKind, BadByte, BadWord, EndInside, TokenKind, ParenL, ParenR, Word}
 use Rattle.keymap_text.specs.Lexical.{leading, stays_on_line, is_blank, is_word, word, literal, Front, Skipped, Found}
 use Rattle.keymap_text.specs.Lexical.{Refused, Unfinished, front_of, tokens_after, TokenValue, Tokens, Then, is_empty}
 use Rattle.keymap_text.specs.Words.{item}

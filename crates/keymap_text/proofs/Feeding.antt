@@ -6,9 +6,8 @@ use Rattle.std.specs.Io.KnownBytes.{Consumes, IsAtEnd, Keeps}
 use Rattle.std.proofs.KnownBytes.{Consumes-trans, Consumes-kept, Consumes-nil}
 use Rattle.keymap_core.specs.Maps.{MapValue}
 use Rattle.keymap_core.specs.declared.transfer.ReadFaultKind.TheVariants as kinds
-use Rattle.keymap_text.specs.declared.fault.TextError.{TextError}
+use Rattle.keymap_text.specs.Types.{TextError, TextFault}
 use Rattle.keymap_text.specs.declared.fault.TextError.TheVariants as errors
-use Rattle.keymap_text.specs.declared.fault.TextFault.{TextFault}
 use Rattle.keymap_text.specs.Progress.{Progress}
 use Rattle.keymap_text.specs.Inner.Judging.{verdict, judge, Spelled}
 use Rattle.keymap_text.specs.Lexical.{tokens_after}

@@ -7,9 +7,7 @@ use Rattle.std.proofs.lemmas.List.FromFn.{length-map-range_with_len, get_or-map-
 use Rattle.std.specs.List.{range_with_len}
 use Rattle.std.specs.Option.{option_or}
 use Rattle.keymap_text.specs.declared.last.LastDefinitions.{LastDefinitions}
-use Rattle.keymap_text.specs.declared.placed.Defined.{Defined}
-use Rattle.keymap_text.specs.declared.placed.Defined.TheVariants.{Slot, Accent}
-use Rattle.keymap_text.specs.declared.placed.Placed.{Placed}
+use Rattle.keymap_text.specs.Types.{Defined, Slot, Accent, Placed}
 use Rattle.keymap_text.specs.Placed.{is_same, last_of}
 use Rattle.keymap_text.specs.Inner.LastOf.{HasLast}
 

@@ -1,10 +1,7 @@
 -- Texts whose tokens are known, whatever stands behind them.
 use Rattle.std.proofs.Common.{◌≡◌, ℕ, ◌+◌, ◌<◌, ◌≤◌, true, false, List, [], ◌∷◌, ◌++◌, length, map, refl, sym, ◌∙◌, ap}
 use Rattle.std.proofs.Common.{arith, append_assoc, length-append, add-zero}
-use Rattle.keymap_text.specs.declared.token.TokenKind.TheVariants.{ParenL, ParenR, Literal}
-use Rattle.keymap_text.specs.declared.words.Item.{Item}
-use Rattle.keymap_text.specs.declared.words.Item.TheVariants.{Open, Close, Value}
-use Rattle.keymap_text.specs.declared.words.Meaning.TheVariants.{Char}
+use Rattle.keymap_text.specs.Types.{ParenL, ParenR, Literal, Item, Open, Close, Value, Char}
 use Rattle.keymap_text.specs.Lexical.{tokens_after, leading, is_word, is_blank, TokenValue, Then, is_empty}
 use Rattle.keymap_text.specs.Words.{meaning}
 use Rattle.keymap_text.specs.Meaning.{ending_of_tokens, item_of}

@@ -7,7 +7,7 @@ use Rattle.keymap_text.proofs.Leading.{leading_pass, leading_fail}
 use Rattle.std.proofs.lemmas.List.{drop-drop, drop-append-le, drop_all, take-append-le}
 use Rattle.std.proofs.lemmas.List.Recursion.{is_count_by}
 use Rattle.std.proofs.Math.Seq.{take-add}
-use Rattle.keymap_text.specs.declared.fault.TextFault.{TextFault}
+use Rattle.keymap_text.specs.Types.{TextFault}
 use Rattle.keymap_text.specs.declared.scanner.Scanner.{Scanner}
 use Rattle.keymap_text.specs.Meaning.{line}
 use Rattle.keymap_text.specs.Inner.Resuming.{Forward, IsFaultOfPending, Lined, line_feed}

@@ -11,11 +11,8 @@ use Rattle.bstr.proofs.lemmas.EncodeLemmas.{decoded-encode}
 use Rattle.std.specs.Prelude.{encode_utf8}
 use Rattle.std.proofs.Math.Seq.{get_or-append_seam}
 use lib.Utf8.{scalar}
-use Rattle.keymap_text.specs.declared.fault.TextFaultKind.{TextFaultKind}
-use Rattle.keymap_text.specs.declared.fault.TextFaultKind.TheVariants.{BadLiteral}
-use Rattle.keymap_text.specs.declared.token.TokenKind.{TokenKind}
+use Rattle.keymap_text.specs.Types.{TextFaultKind, BadLiteral, TokenKind, Literal}
 use Rattle.keymap_text.specs.Meaning.{is_word_kind}
-use Rattle.keymap_text.specs.declared.token.TokenKind.TheVariants.{Literal}
 use Rattle.keymap_text.specs.Lexical.{Front, Skipped, Found, Refused, Unfinished, literal, quoted, closing, unclosed}
 use Rattle.keymap_text.specs.Lexical.{is_lone}
 

@@ -10,10 +10,8 @@ use Rattle.std.specs.List.{list_all, range_with_len}
 use Rattle.std.specs.Char.{to_ascii_lowercase, digit_value}
 use Rattle.keymap_core.specs.Names.{named_of, meaning_of}
 use Rattle.keymap_core.specs.declared.named.Named.{Named}
-use Rattle.keymap_text.specs.declared.words.Meaning.TheVariants.{Number, Act}
+use Rattle.keymap_text.specs.Types.{Number, Act, Name, Meaning}
 use Rattle.keymap_text.specs.declared.names.TheConstants.{NAMES}
-use Rattle.keymap_text.specs.declared.names.Name.{Name}
-use Rattle.keymap_text.specs.declared.words.Meaning.{Meaning}
 use Rattle.keymap_text.specs.Inner.Keys.{pack, unpacked, KeyMeans, IsTrueName, function_name, screen_name}
 use Rattle.keymap_text.specs.Inner.Keys.{name_key, place_of, ArePlaced}
 use Rattle.keymap_text.proofs.Keys.{unpack_packed, letters_front}

@@ -8,7 +8,7 @@ use Rattle.std.proofs.lemmas.List.Folds.{list_all_at, list_all_more}
 use Rattle.std.proofs.lemmas.Bool.Decides.{nat_tests}
 use Rattle.std.specs.List.{list_all}
 use Rattle.std.specs.Char.{digit_value}
-use Rattle.keymap_text.specs.declared.names.Name.{Name}
+use Rattle.keymap_text.specs.Types.{Name}
 use Rattle.keymap_text.specs.Words.{meaning_by_names, letters, sense_meaning, same_name, digits_of, number, is_digit}
 
 -- no row has no name

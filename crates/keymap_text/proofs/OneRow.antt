@@ -1,14 +1,8 @@
 -- Tokens are the rows of one list at most.
 use Rattle.std.proofs.Common.{◌≡◌, ℕ, ◌+◌, List, [], ◌∷◌, ◌++◌, length, map, refl, sym, ◌∙◌, ap, ap₂, arith, append-nil}
-use Rattle.keymap_core.specs.declared.entry.Entry.{Entry}
-use Rattle.keymap_core.specs.declared.entry.Cell.{Cell}
-use Rattle.keymap_core.specs.declared.entry.LockFlag.{LockFlag}
-use Rattle.keymap_core.specs.declared.action.Action.{Action}
+use Rattle.keymap_text.specs.Types.{Entry, Cell, LockFlag, Action, Placed, Number, Act, Letter, Item, Open, Close}
+use Rattle.keymap_text.specs.Types.{Value}
 use Rattle.keymap_core.specs.Accents.{AccentValue}
-use Rattle.keymap_text.specs.declared.placed.Placed.{Placed}
-use Rattle.keymap_text.specs.declared.words.Meaning.TheVariants.{Number, Act, Letter}
-use Rattle.keymap_text.specs.declared.words.Item.{Item}
-use Rattle.keymap_text.specs.declared.words.Item.TheVariants.{Open, Close, Value}
 use Rattle.keymap_text.specs.Items.{character, cell, accent_index}
 use Rattle.keymap_text.specs.Lexical.{TokenValue}
 use Rattle.keymap_text.specs.Meaning.{item_of}

@@ -10,8 +10,7 @@ use Rattle.keymap_text.specs.declared.grammar.Place.{Place}
 use Rattle.keymap_text.specs.declared.grammar.Place.TheVariants as places
 use Rattle.keymap_text.specs.declared.scanner.Mode.TheVariants as modes
 use Rattle.keymap_text.specs.declared.scanner.Scanner.{Scanner}
-use Rattle.keymap_text.specs.declared.words.Item.{Item}
-use Rattle.keymap_text.specs.declared.words.Item.TheVariants.{Open, Close}
+use Rattle.keymap_text.specs.Types.{Item, Open, Close}
 use Rattle.keymap_text.specs.Items.{character}
 use Rattle.keymap_text.specs.Inner.Grammar as spec
 use Rattle.keymap_text.specs.Inner.Grammar.{accept, at, after_base, with_pair, ◌>>=◌}

@@ -1,12 +1,8 @@
 -- Which tokens of a definition are its parts.
 use Rattle.std.proofs.Common.{◌≡◌, ℕ, zero, suc, ◌+◌, ◌*◌, ◌<◌, List, [], ◌∷◌, ◌++◌, length, take, drop, get_or}
 use Rattle.std.proofs.Common.{refl, sym, ◌∙◌, ap, subst, arith, Ok, add-one, length-append}
-use Rattle.keymap_core.specs.declared.entry.Cell.{Cell}
-use Rattle.keymap_core.specs.declared.entry.Entry.{Entry}
+use Rattle.keymap_text.specs.Types.{Cell, Entry, Number, Act, Letter, Item, Open, Close, Value}
 use Rattle.keymap_core.specs.Accents.{AccentValue}
-use Rattle.keymap_text.specs.declared.words.Meaning.TheVariants.{Number, Act, Letter}
-use Rattle.keymap_text.specs.declared.words.Item.{Item}
-use Rattle.keymap_text.specs.declared.words.Item.TheVariants.{Open, Close, Value}
 use Rattle.keymap_text.specs.Items.{character, cell}
 use Rattle.keymap_text.specs.Rows.{KeyDefinition, AccentDefinition, AreCells, no_cells, one_cell, ArePairs}
 use Rattle.keymap_text.specs.Rows.{no_pairs, one_pair, Defines, of_key, of_accent}

@@ -4,17 +4,11 @@ use Rattle.std.proofs.Common.{length, take, drop, map, refl, sym, ◌∙◌, ap,
 use Rattle.std.proofs.Common.{IfSome, length-drop, append_assoc, nat_lt}
 use Rattle.std.proofs.lemmas.Bool.Decides.{nat_tests}
 use Rattle.std.proofs.lemmas.List.{drop-drop, length-take-le}
-use Rattle.keymap_text.specs.declared.fault.TextFaultKind.{TextFaultKind}
-use Rattle.keymap_text.specs.declared.fault.TextFaultKind.TheVariants.{BadByte, BadWord, EndInside}
-use Rattle.keymap_text.specs.declared.token.TokenKind.{TokenKind}
-use Rattle.keymap_text.specs.declared.token.TokenKind.TheVariants.{ParenL, ParenR, Word}
+use Rattle.keymap_text.specs.Types.{TextFaultKind, BadByte, BadWord, EndInside, TokenKind, ParenL, ParenR, Word}
+use Rattle.keymap_text.specs.Types.{TextFault, Token, Span, Placed}
 use Rattle.keymap_text.specs.Lexical.{leading, stays_on_line, is_blank, is_word, literal, word, Front, Skipped, Found}
 use Rattle.keymap_text.specs.Lexical.{Refused, Unfinished, front_of, tokens_after, TokenValue, Tokens, Ends, Stops}
 use Rattle.keymap_text.specs.Lexical.{Then, first, is_empty}
-use Rattle.keymap_text.specs.declared.fault.TextFault.{TextFault}
-use Rattle.keymap_text.specs.declared.token.Token.{Token}
-use Rattle.keymap_text.specs.declared.token.Span.{Span}
-use Rattle.keymap_text.specs.declared.placed.Placed.{Placed}
 use Rattle.keymap_text.specs.Tokens.{token_view, result_view}
 use Rattle.keymap_text.specs.Placed.{span_of}
 use Rattle.keymap_text.specs.Inner.Placed.{begun, tokens_from, ComesNext}

@@ -4,10 +4,7 @@ use Rattle.std.proofs.Common.{◌++◌, length, take, drop, refl, sym, ◌∙◌
 use Rattle.std.proofs.Common.{eq-or-lt_of_le, le_of_eq, slice_index_or, true≢false}
 use Rattle.std.proofs.lemmas.Bool.Decides.{nat_tests}
 use Rattle.std.proofs.lemmas.List.{take-append-le, drop_all}
-use Rattle.keymap_text.specs.declared.fault.TextFaultKind.{TextFaultKind}
-use Rattle.keymap_text.specs.declared.fault.TextFaultKind.TheVariants.{BadByte, BadWord, EndInside}
-use Rattle.keymap_text.specs.declared.token.TokenKind.{TokenKind}
-use Rattle.keymap_text.specs.declared.token.TokenKind.TheVariants.{ParenL, ParenR, Word}
+use Rattle.keymap_text.specs.Types.{TextFaultKind, BadByte, BadWord, EndInside, TokenKind, ParenL, ParenR, Word}
 use Rattle.keymap_text.specs.Lexical.{leading, stays_on_line, is_word, word, literal, Front, Skipped, Found, Refused}
 use Rattle.keymap_text.specs.Lexical.{Unfinished, front_of, tokens_after, TokenValue, Tokens, Ends, Stops, Then}
 use Rattle.keymap_text.specs.Lexical.{is_empty}

@@ -4,14 +4,8 @@ use Rattle.std.proofs.Common.{length, replicate, refl, ◌∙◌, ap, subst, ari
 use Rattle.std.specs.List.{flat_map, list_all}
 use Rattle.std.specs.Char.{digit_value}
 use Rattle.std.proofs.lemmas.Bool.Decides.{nat_tests}
-use Rattle.keymap_core.specs.declared.entry.Entry.{Entry}
-use Rattle.keymap_core.specs.declared.entry.Cell.{Cell}
-use Rattle.keymap_core.specs.declared.entry.LockFlag.{LockFlag}
+use Rattle.keymap_text.specs.Types.{Entry, Cell, LockFlag, Action, Item, Open, Close, Value, Number, Act, Letter}
 use Rattle.keymap_core.specs.declared.entry.LockFlag.TheVariants as flags
-use Rattle.keymap_core.specs.declared.action.Action.{Action}
-use Rattle.keymap_text.specs.declared.words.Item.{Item}
-use Rattle.keymap_text.specs.declared.words.Item.TheVariants.{Open, Close, Value}
-use Rattle.keymap_text.specs.declared.words.Meaning.TheVariants.{Number, Act, Letter}
 use Rattle.keymap_text.specs.Lexical.{tokens_after, leading, is_word}
 use Rattle.keymap_text.specs.Words.{meaning, digits_of, named, is_digit}
 use Rattle.keymap_core.specs.Accents.{AccentValue}

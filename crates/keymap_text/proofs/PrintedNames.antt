@@ -3,11 +3,10 @@ use Rattle.std.proofs.Common.{◌≡◌, ℕ, ◌<◌, ◌≤◌, Bool, true, fa
 use Rattle.std.proofs.lemmas.Bool.Decides.{nat_tests}
 use Rattle.std.specs.List.{range_with_len}
 use Rattle.keymap_core.specs.Actions.{IsAction, name_of}
-use Rattle.keymap_core.specs.declared.action.Action.{Action}
+use Rattle.keymap_text.specs.Types.{Action, Act}
 use Rattle.keymap_core.specs.declared.action.Action.TheVariants as a
 use Rattle.keymap_core.specs.declared.action.Modifier.TheVariants as m
 use Rattle.keymap_core.specs.declared.action.Lock.TheVariants as l
-use Rattle.keymap_text.specs.declared.words.Meaning.TheVariants.{Act}
 use Rattle.keymap_text.specs.Lexical.{leading}
 use Rattle.keymap_text.specs.Words.{meaning, digits_of, named}
 use Rattle.keymap_core.proofs.Lists.{along}

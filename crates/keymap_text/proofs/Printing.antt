@@ -12,12 +12,8 @@ use Rattle.keymap_core.specs.Accents.{blank}
 use Rattle.keymap_core.specs.Maps.{MapValue, undefined}
 use Rattle.keymap_core.specs.Actions.{name_of}
 use Rattle.keymap_core.specs.declared.action.Action.TheVariants.{DeadKey}
-use Rattle.keymap_core.specs.declared.entry.Cell.{Cell}
+use Rattle.keymap_text.specs.Types.{Cell, Item, Open, Close, Value, Number, Char, Act, TextFaultKind}
 use Rattle.keymap_core.specs.declared.entry.Cell.TheVariants as cells
-use Rattle.keymap_text.specs.declared.words.Item.{Item}
-use Rattle.keymap_text.specs.declared.words.Item.TheVariants.{Open, Close, Value}
-use Rattle.keymap_text.specs.declared.words.Meaning.TheVariants.{Number, Char, Act}
-use Rattle.keymap_text.specs.declared.fault.TextFaultKind.{TextFaultKind}
 use Rattle.keymap_text.specs.Items.{character, cell}
 use Rattle.keymap_text.specs.Lexical.{tokens_after}
 use Rattle.keymap_text.specs.Rows.{Definition, KeyDefinition, AccentDefinition, Defines, IsRow, no_definition}

@@ -13,10 +13,7 @@ use Rattle.std.specs.Char.{encode_utf8}
 use Rattle.bstr.specs.Utf8.{decoded, Decoded, good, second, continues, code_of_3, code_of_4}
 use Rattle.bstr.proofs.lemmas.PieceLemmas.{by-shape, value-9, value-12}
 use Rattle.bstr.proofs.lemmas.SoundLemmas.{SpellsChar-decoded}
-use Rattle.keymap_text.specs.declared.fault.TextFaultKind.{TextFaultKind}
-use Rattle.keymap_text.specs.declared.fault.TextFaultKind.TheVariants.{BadLiteral, EndInside}
-use Rattle.keymap_text.specs.declared.token.TokenKind.{TokenKind}
-use Rattle.keymap_text.specs.declared.token.TokenKind.TheVariants.{Literal}
+use Rattle.keymap_text.specs.Types.{TextFaultKind, BadLiteral, EndInside, TokenKind, Literal}
 use Rattle.keymap_text.specs.Quoted.{IsCharacter, IsQuoted, BeginsQuoted, IsUnfinished, IsReason, quoted_token}
 use Rattle.keymap_text.proofs.Literals.{literal_stable, literal_refused, literal_fits, literal_no_skip, literal_spelled}
 use Rattle.keymap_text.proofs.Splitting.{split_found, split_refused, split_unfinished}

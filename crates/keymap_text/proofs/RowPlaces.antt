@@ -3,16 +3,10 @@ use Rattle.std.proofs.Common.{◌≡◌, ℕ, suc, ◌+◌, ◌<◌, true, false
 use Rattle.std.proofs.Common.{◌∙◌, ap, ap₂, subst, arith, Some, None, length-append, append_assoc, nat_lt}
 use Rattle.std.proofs.lemmas.Bool.Decides.{nat_tests}
 use Rattle.std.proofs.lemmas.List.{length-map}
-use Rattle.keymap_core.specs.declared.action.Action.{Action}
+use Rattle.keymap_text.specs.Types.{Action, Defined, Slot, Accent, TokenKind, Meaning, Number, Act, Letter, Item, Open}
+use Rattle.keymap_text.specs.Types.{Close, Value}
 use Rattle.keymap_core.specs.Maps.{MapValue}
-use Rattle.keymap_text.specs.declared.placed.Defined.{Defined}
-use Rattle.keymap_text.specs.declared.placed.Defined.TheVariants.{Slot, Accent}
-use Rattle.keymap_text.specs.declared.token.TokenKind.{TokenKind}
 use Rattle.keymap_text.specs.declared.token.TokenKind.TheVariants as kinds
-use Rattle.keymap_text.specs.declared.words.Meaning.{Meaning}
-use Rattle.keymap_text.specs.declared.words.Meaning.TheVariants.{Number, Act, Letter}
-use Rattle.keymap_text.specs.declared.words.Item.{Item}
-use Rattle.keymap_text.specs.declared.words.Item.TheVariants.{Open, Close, Value}
 use Rattle.keymap_text.specs.Items.{accent_index}
 use Rattle.keymap_text.specs.Words.{item}
 use Rattle.keymap_text.specs.Lexical.{TokenValue}

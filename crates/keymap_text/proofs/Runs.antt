@@ -6,12 +6,8 @@ use Rattle.std.proofs.lemmas.List.{drop-drop, take-append-drop, drop_all, length
 use Rattle.std.proofs.Math.Seq.{take-add}
 use Rattle.std.proofs.lemmas.Bool.Decides.{nat_tests}
 use Rattle.std.specs.Prelude.{IfErr}
-use Rattle.keymap_text.specs.declared.fault.TextFaultKind.{TextFaultKind}
-use Rattle.keymap_text.specs.declared.fault.TextFault.{TextFault}
-use Rattle.keymap_text.specs.declared.token.TokenKind.TheVariants.{Word, Literal, ParenL, ParenR}
-use Rattle.keymap_text.specs.declared.words.Item.{Item}
-use Rattle.keymap_text.specs.declared.words.Item.TheVariants.{Value, Open, Close}
-use Rattle.keymap_text.specs.declared.words.Meaning.TheVariants.{Char}
+use Rattle.keymap_text.specs.Types.{TextFaultKind, TextFault, Word, Literal, ParenL, ParenR, Item, Value, Open, Close}
+use Rattle.keymap_text.specs.Types.{Char}
 use Rattle.keymap_text.specs.declared.scanner.Mode.{Mode}
 use Rattle.keymap_text.specs.declared.scanner.Mode.TheVariants as modes
 use Rattle.keymap_text.specs.declared.scanner.Scanner.{Scanner}

@@ -2,9 +2,7 @@
 use Rattle.std.proofs.Common.{◌≡◌, ℕ, zero, suc, ◌+◌, ◌-◌, ◌<◌, ◌≤◌, true, List, [], ◌∷◌, length, take, drop, get_or}
 use Rattle.std.proofs.Common.{refl, sym, ◌∙◌, ap, arith, add-one, add-zero, drop-cons, length-drop, take_all}
 use Rattle.std.proofs.lemmas.List.{drop-drop}
-use Rattle.keymap_text.specs.declared.fault.TextFaultKind.{TextFaultKind}
-use Rattle.keymap_text.specs.declared.fault.TextFaultKind.TheVariants.{EndInside}
-use Rattle.keymap_text.specs.declared.token.TokenKind.{TokenKind}
+use Rattle.keymap_text.specs.Types.{TextFaultKind, EndInside, TokenKind}
 use Rattle.keymap_text.specs.Lexical.{leading, stays_on_line, is_blank, Front, Skipped, Found, Refused, Unfinished}
 use Rattle.keymap_text.specs.Lexical.{front_of, tokens_after, Ends, Stops, Then, is_empty}
 use Rattle.keymap_text.proofs.Leading.{leading_le}

@@ -3,7 +3,7 @@ use Rattle.keymap_core.specs.Maps.{MapValue}
 use Rattle.std.proofs.Common.{◌≡◌, ℕ, ◌+◌, true, List, [], ◌++◌, length, sym, ◌∙◌, ap, Result, Ok, Err, append_assoc}
 use Rattle.std.proofs.Common.{append-nil, length-append}
 use Rattle.std.specs.Prelude.{IfErr}
-use Rattle.keymap_text.specs.declared.fault.TextFault.{TextFault}
+use Rattle.keymap_text.specs.Types.{TextFault}
 use Rattle.keymap_text.specs.declared.scanner.Scanner.{Scanner}
 use Rattle.keymap_text.specs.Meaning.{line, Early, Means}
 use Rattle.keymap_text.specs.Inner.Judging.{verdict, Faulty}

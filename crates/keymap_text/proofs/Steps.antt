@@ -4,13 +4,8 @@ use Rattle.std.proofs.Common.{◌∷◌, ◌++◌, length, take, drop, slice_ind
 use Rattle.std.proofs.Common.{add-one, add-zero, Result, Ok, Err, Option, Some, None, ne_eqb, true≢false, length-append}
 use Rattle.std.proofs.Common.{append_assoc, take_at, drop_at, append-nil}
 use Rattle.std.proofs.lemmas.Bool.Decides.{nat_tests}
-use Rattle.keymap_text.specs.declared.fault.TextFaultKind.{TextFaultKind}
-use Rattle.keymap_text.specs.declared.fault.TextFaultKind.TheVariants.{BadByte, BadWord, EndInside}
-use Rattle.keymap_text.specs.declared.fault.TextFault.{TextFault}
-use Rattle.keymap_text.specs.declared.token.TokenKind.{TokenKind}
-use Rattle.keymap_text.specs.declared.token.TokenKind.TheVariants.{ParenL, ParenR, Word}
-use Rattle.keymap_text.specs.declared.words.Item.{Item}
-use Rattle.keymap_text.specs.declared.words.Item.TheVariants.{Open, Close, Value}
+use Rattle.keymap_text.specs.Types.{TextFaultKind, BadByte, BadWord, EndInside, TextFault, TokenKind, ParenL, ParenR}
+use Rattle.keymap_text.specs.Types.{Word, Item, Open, Close, Value}
 use Rattle.keymap_text.specs.declared.scanner.Mode.{Mode}
 use Rattle.keymap_text.specs.declared.scanner.Mode.TheVariants as modes
 use Rattle.keymap_text.specs.declared.scanner.Scanner.{Scanner}

@@ -3,9 +3,7 @@ use Rattle.std.proofs.Common.{◌≡◌, ℕ, zero, suc, ◌+◌, ◌≤◌, Lis
 use Rattle.std.proofs.Common.{arith, All}
 use Rattle.std.proofs.lemmas.List.{length-take-le}
 use Rattle.std.proofs.lemmas.List.Elements.{All-nil, All-cons, All-weaker}
-use Rattle.keymap_text.specs.declared.fault.TextFaultKind.{TextFaultKind}
-use Rattle.keymap_text.specs.declared.fault.TextFaultKind.TheVariants.{EndInside}
-use Rattle.keymap_text.specs.declared.token.TokenKind.{TokenKind}
+use Rattle.keymap_text.specs.Types.{TextFaultKind, EndInside, TokenKind}
 use Rattle.keymap_text.specs.Lexical.{Front, Skipped, Found, Refused, Unfinished, front_of, tokens_after, TokenValue}
 use Rattle.keymap_text.specs.Lexical.{Tokens, Ends, Stops, is_empty}
 use Rattle.keymap_text.specs.Meaning.{list_of, tokens}

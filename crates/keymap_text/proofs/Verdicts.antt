@@ -3,15 +3,13 @@ use Rattle.std.proofs.lemmas.List.{take-append-le}
 use Rattle.std.proofs.Common.{◌≡◌, ◌⊎◌, inl, inr, ℕ, Bool, true, false, cond, ap₂, zero, suc, ◌+◌, ◌≤◌, ◌==◌, length}
 use Rattle.std.proofs.Common.{take, drop, arith, count_by, List, [], ◌∷◌, ◌++◌, map, refl, sym, ◌∙◌, ap, subst, Result}
 use Rattle.std.proofs.Common.{Ok, Err, Option, Some, None}
-use Rattle.keymap_text.specs.declared.fault.TextFaultKind.{TextFaultKind}
+use Rattle.keymap_text.specs.Types.{TextFaultKind, Item, TextFault}
 use Rattle.keymap_text.specs.declared.fault.TextFaultKind.TheVariants as faults
-use Rattle.keymap_text.specs.declared.words.Item.{Item}
 use Rattle.keymap_text.specs.Lexical.{TokenValue, Tokens, Ends, Stops, Then, tokens_after, front_of, Front, Skipped}
 use Rattle.keymap_text.specs.Lexical.{Refused, Unfinished, is_empty}
 use Rattle.keymap_text.specs.Lexical as lexical
 use Rattle.keymap_core.specs.Maps.{MapValue}
 use Rattle.keymap_text.specs.Inner.Grammar.{GrammarState, accept, at_end, start, empty_map}
-use Rattle.keymap_text.specs.declared.fault.TextFault.{TextFault}
 use Rattle.keymap_text.specs.Places.{RowPlace, AtDefinition, may_end}
 use Rattle.keymap_text.specs.Rows.{Definition, IsRow}
 use Rattle.keymap_text.specs.Meaning.{line, list_of, ending_of_tokens, item_of, items, FaultInText, fault_of, Spells}

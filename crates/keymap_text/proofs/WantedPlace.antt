@@ -1,9 +1,7 @@
 -- Where tokens lead, one by one.
 use Rattle.std.proofs.Common.{◌≡◌, ℕ, List, [], ◌∷◌, Result, Ok, Err, Option, refl, sym, ◌∙◌, ap, IsErr, true≢false}
-use Rattle.keymap_text.specs.declared.fault.TextFaultKind.{TextFaultKind}
-use Rattle.keymap_text.specs.declared.token.Span.{Span}
+use Rattle.keymap_text.specs.Types.{TextFaultKind, Span, Item}
 use Rattle.keymap_text.specs.declared.wanted.DefinitionStart.{DefinitionStart}
-use Rattle.keymap_text.specs.declared.words.Item.{Item}
 use Rattle.keymap_text.specs.Lexical.{TokenValue}
 use Rattle.keymap_text.specs.Meaning.{item_of}
 use Rattle.keymap_text.specs.Placed.{span_of}

@@ -1,8 +1,7 @@
 -- What the bytes of a token are on their own, wherever it stands in a text.
 use Rattle.std.specs.Prelude.{◌≡◌, ℕ, ◌≤◌, true, false, List, ◌∷◌, ◌++◌, length, take, slice_index}
 use Rattle.std.specs.List.{list_all}
-use Rattle.keymap_text.specs.declared.token.TokenKind.{TokenKind}
-use Rattle.keymap_text.specs.declared.token.TokenKind.TheVariants.{ParenL, ParenR, Literal, Word}
+use Rattle.keymap_text.specs.Types.{TokenKind, ParenL, ParenR, Literal, Word}
 use Rattle.keymap_text.specs.Lexical.{is_blank, stays_on_line, front_of, Found}
 
 -- a literal has two bytes behind its first one at least

@@ -1,17 +1,11 @@
 -- What a token stands for where a character, a cell, a lock letter or an accent is wanted.
 use Rattle.std.specs.Prelude.{ℕ, if◌then◌else◌, Option, Some, None, Result, Ok, Err}
 use lib.Utf8.{scalar}
-use Rattle.keymap_core.specs.declared.entry.Cell.{Cell}
+use Rattle.keymap_text.specs.Types.{Cell, LockFlag, Action, TextFaultKind, Number, Char, Act, Combined, OutOfRange}
+use Rattle.keymap_text.specs.Types.{Letter, Unknown, Item, Open, Close, Value}
 use Rattle.keymap_core.specs.declared.entry.Cell.TheVariants as cells
-use Rattle.keymap_core.specs.declared.entry.LockFlag.{LockFlag}
-use Rattle.keymap_core.specs.declared.action.Action.{Action}
 use Rattle.keymap_core.specs.declared.action.Action.TheVariants.{DeadKey}
-use Rattle.keymap_text.specs.declared.fault.TextFaultKind.{TextFaultKind}
 use Rattle.keymap_text.specs.declared.fault.TextFaultKind.TheVariants as faults
-use Rattle.keymap_text.specs.declared.words.Meaning.TheVariants.{Number, Char, Act, Combined, OutOfRange, Letter}
-use Rattle.keymap_text.specs.declared.words.Meaning.TheVariants.{Unknown}
-use Rattle.keymap_text.specs.declared.words.Item.{Item}
-use Rattle.keymap_text.specs.declared.words.Item.TheVariants.{Open, Close, Value}
 
 -- the fault of a token where it is not wanted
 abbrev pub refusal : Item → TextFaultKind

@@ -5,10 +5,8 @@ use Rattle.std.specs.Prelude.{nat_le, List, [], ◌∷◌, length, take, drop, O
 use Rattle.std.specs.Prelude.{slice_index}
 use Rattle.std.specs.Char.{is_ascii_alphanumeric}
 use Rattle.bstr.specs.Utf8.{decoded, Decoded}
-use Rattle.keymap_text.specs.declared.fault.TextFaultKind.{TextFaultKind}
-use Rattle.keymap_text.specs.declared.fault.TextFaultKind.TheVariants.{BadByte, BadLiteral, BadWord, EndInside}
-use Rattle.keymap_text.specs.declared.token.TokenKind.{TokenKind}
-use Rattle.keymap_text.specs.declared.token.TokenKind.TheVariants.{ParenL, ParenR, Literal, Word}
+use Rattle.keymap_text.specs.Types.{TextFaultKind, BadByte, BadLiteral, BadWord, EndInside, TokenKind, ParenL, ParenR}
+use Rattle.keymap_text.specs.Types.{Literal, Word}
 
 -- blank, tab, CR, LF
 abbrev pub is_blank : ℕ → Bool

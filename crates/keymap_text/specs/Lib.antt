@@ -2,6 +2,7 @@ pub mod Lexical
 pub mod Quoted
 pub mod Alone
 pub mod Tokens
+pub mod Types
 pub mod Words
 pub mod Items
 pub mod Rows

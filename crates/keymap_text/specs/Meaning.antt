@@ -1,14 +1,10 @@
 -- What a text says: the map that it spells, or its fault.
 use Rattle.std.specs.Prelude.{◌≡◌, ℕ, ◌+◌, ◌==◌, Bool, true, false, if◌then◌else◌, not, ◌&&◌, List, [], ◌∷◌, map, take}
 use Rattle.std.specs.Prelude.{count_by, Option, Some, None, Result, Ok, Err, ⊤}
-use Rattle.keymap_text.specs.declared.fault.TextFaultKind.{TextFaultKind}
+use Rattle.keymap_text.specs.Types.{TextFaultKind, TextFault, TextError, TokenKind, Item}
 use Rattle.keymap_text.specs.declared.fault.TextFaultKind.TheVariants as faults
-use Rattle.keymap_text.specs.declared.fault.TextFault.{TextFault}
-use Rattle.keymap_text.specs.declared.fault.TextError.{TextError}
 use Rattle.keymap_text.specs.declared.fault.TextError.TheVariants as errors
-use Rattle.keymap_text.specs.declared.token.TokenKind.{TokenKind}
 use Rattle.keymap_text.specs.declared.token.TokenKind.TheVariants as kinds
-use Rattle.keymap_text.specs.declared.words.Item.{Item}
 use Rattle.keymap_text.specs.Lexical.{TokenValue, Tokens, Ends, Stops, Then, tokens_after}
 use Rattle.keymap_text.specs.Words.{item}
 use Rattle.keymap_core.specs.Maps.{MapValue}

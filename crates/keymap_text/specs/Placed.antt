@@ -3,13 +3,7 @@ use Rattle.std.specs.Prelude.{◌≡◌, ◌<◌, ◌≤◌, ℕ, ◌+◌, ◌==
 use Rattle.std.specs.Prelude.{◌++◌, length, map, take, drop, Option, Some, None, nat_lt}
 use Rattle.std.specs.Option.{option_or}
 use Rattle.keymap_core.specs.Maps.{MapValue}
-use Rattle.keymap_text.specs.declared.token.Span.{Span}
-use Rattle.keymap_text.specs.declared.placed.Defined.{Defined}
-use Rattle.keymap_text.specs.declared.placed.Defined.TheVariants.{Slot, Accent}
-use Rattle.keymap_text.specs.declared.placed.Placed.{Placed}
-use Rattle.keymap_text.specs.declared.words.Meaning.TheVariants.{Number, Act}
-use Rattle.keymap_text.specs.declared.words.Item.{Item}
-use Rattle.keymap_text.specs.declared.words.Item.TheVariants.{Value}
+use Rattle.keymap_text.specs.Types.{Span, Defined, Slot, Accent, Placed, Number, Act, Item, Value}
 use Rattle.keymap_core.specs.Numbers.{slot_limit, accent_limit}
 use Rattle.keymap_text.specs.Items.{accent_index}
 use Rattle.keymap_text.specs.Lexical.{TokenValue}

@@ -1,10 +1,7 @@
 -- Which token is accepted at which place of a row, and why another is refused. No place holds anything of the map.
 use Rattle.std.specs.Prelude.{ℕ, ◌+◌, Bool, true, false, if◌then◌else◌, ◌==◌, nat_lt, Some, None, Result, Ok, Err}
-use Rattle.keymap_text.specs.declared.fault.TextFaultKind.{TextFaultKind}
+use Rattle.keymap_text.specs.Types.{TextFaultKind, Number, Act, Item, Open, Close, Value}
 use Rattle.keymap_text.specs.declared.fault.TextFaultKind.TheVariants as faults
-use Rattle.keymap_text.specs.declared.words.Meaning.TheVariants.{Number, Act}
-use Rattle.keymap_text.specs.declared.words.Item.{Item}
-use Rattle.keymap_text.specs.declared.words.Item.TheVariants.{Open, Close, Value}
 use Rattle.keymap_text.specs.Items.{refusal, character, cell, lock, accent_index}
 use Rattle.keymap_core.specs.Numbers.{slot_limit, pair_limit}
 

@@ -6,10 +6,8 @@ use Rattle.std.specs.List.{flat_map, range_with_len}
 use Rattle.keymap_core.specs.Accents.{AccentValue, blank}
 use Rattle.keymap_core.specs.Actions.{name_of, accent_names}
 use Rattle.keymap_core.specs.Maps.{MapValue, entry_at}
-use Rattle.keymap_core.specs.declared.entry.Entry.{Entry}
-use Rattle.keymap_core.specs.declared.entry.Cell.{Cell}
+use Rattle.keymap_text.specs.Types.{Entry, Cell, LockFlag}
 use Rattle.keymap_core.specs.declared.entry.Cell.TheVariants as cells
-use Rattle.keymap_core.specs.declared.entry.LockFlag.{LockFlag}
 use Rattle.keymap_core.specs.declared.entry.LockFlag.TheVariants as flags
 use Rattle.keymap_text.specs.Words.{control_names}
 

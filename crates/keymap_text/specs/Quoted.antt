@@ -2,9 +2,8 @@
 use Rattle.std.specs.Prelude.{◌≡◌, ◌≢◌, ℕ, ◌<◌, ◌≤◌, List, [], ◌∷◌, ◌++◌, length, encode_utf8, Option, Some}
 use Rattle.std.specs.Prelude.{Result, Ok, Err, ◌⊎◌}
 use Rattle.std.specs.Char.{IsScalar}
-use Rattle.keymap_text.specs.declared.fault.TextFaultKind.{TextFaultKind}
+use Rattle.keymap_text.specs.Types.{TextFaultKind, Literal}
 use Rattle.keymap_text.specs.declared.fault.TextFaultKind.TheVariants as faults
-use Rattle.keymap_text.specs.declared.token.TokenKind.TheVariants.{Literal}
 use Rattle.keymap_text.specs.Lexical.{TokenValue, is_empty}
 
 -- The bytes between the apostrophes: the UTF-8 of a character other than LF, or one byte from 0x80 on, which stands for

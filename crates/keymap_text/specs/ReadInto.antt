@@ -1,7 +1,7 @@
 -- What the reading of a text leaves in something that takes its definitions (`Definitions` of keymap_core).
 use Rattle.std.specs.Prelude.{ℕ, List, [], Result, Ok, Err}
 use Rattle.keymap_core.specs.Maps.{MapValue}
-use Rattle.keymap_text.specs.declared.fault.TextFault.{TextFault}
+use Rattle.keymap_text.specs.Types.{TextFault}
 use Rattle.keymap_text.specs.Meaning.{Spells, Fault}
 
 -- the map of no keys and no accents

@@ -3,12 +3,7 @@ use Rattle.std.specs.Prelude.{◌≡◌, ◌≢◌, ℕ, ◌+◌, ◌<◌, ◌�
 use Rattle.std.specs.Prelude.{Option, Some, None, Ok}
 use Rattle.std.specs.List.{range_with_len}
 use Rattle.std.specs.Option.{option_or}
-use Rattle.keymap_core.specs.declared.entry.Entry.{Entry}
-use Rattle.keymap_core.specs.declared.entry.Cell.{Cell}
-use Rattle.keymap_core.specs.declared.action.Action.{Action}
-use Rattle.keymap_text.specs.declared.words.Meaning.TheVariants.{Number, Act, Letter}
-use Rattle.keymap_text.specs.declared.words.Item.{Item}
-use Rattle.keymap_text.specs.declared.words.Item.TheVariants.{Open, Close, Value}
+use Rattle.keymap_text.specs.Types.{Entry, Cell, Action, Number, Act, Letter, Item, Open, Close, Value}
 use Rattle.keymap_core.specs.Accents.{AccentValue, blank}
 use Rattle.keymap_core.specs.Maps.{MapValue, undefined}
 use Rattle.keymap_core.specs.Numbers.{slot_limit, column_count, pair_limit}

@@ -6,9 +6,8 @@ use Rattle.keymap_core.specs.Maps.{MapValue}
 use Rattle.keymap_core.specs.declared.transfer.ReadFault.{ReadFault}
 use Rattle.keymap_core.specs.declared.transfer.ReadFaultKind.{ReadFaultKind}
 use Rattle.keymap_core.specs.declared.transfer.ReadFaultKind.TheVariants as kinds
-use Rattle.keymap_text.specs.declared.fault.TextError.{TextError}
+use Rattle.keymap_text.specs.Types.{TextError, TextFault}
 use Rattle.keymap_text.specs.declared.fault.TextError.TheVariants as errors
-use Rattle.keymap_text.specs.declared.fault.TextFault.{TextFault}
 use Rattle.keymap_text.specs.Meaning.{Spells, Fault, Early}
 
 -- how many bytes of a text are read at most

@@ -2,7 +2,7 @@
 -- it knows is in private fields; a caller learns from `MapReader::new` that it stands at the beginning, and from
 -- `feed` and `finish` the rest.
 use Rattle.std.specs.Prelude.{◌≡◌, ℕ, ◌+◌, ◌==◌, List, ◌++◌, length, drop, count_by, Some, None, Result, Ok, Err}
-use Rattle.keymap_text.specs.declared.fault.TextFault.{TextFault}
+use Rattle.keymap_text.specs.Types.{TextFault}
 use Rattle.keymap_text.specs.Inner.Judging.{judge, verdict, Verdict}
 use Rattle.keymap_text.specs.Inner.Resuming.{tokens_of}
 use Rattle.keymap_text.specs.Meaning.{line, Early}

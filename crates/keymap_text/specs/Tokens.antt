@@ -1,8 +1,6 @@
 -- What the search for a token answers, in the words of Lexical.
 use Rattle.std.specs.Prelude.{ℕ, List, drop, Option, Some, None, Result, Ok, Err}
-use Rattle.keymap_text.specs.declared.fault.TextFaultKind.{TextFaultKind}
-use Rattle.keymap_text.specs.declared.fault.TextFault.{TextFault}
-use Rattle.keymap_text.specs.declared.token.Token.{Token}
+use Rattle.keymap_text.specs.Types.{TextFaultKind, TextFault, Token}
 use Rattle.keymap_text.specs.Lexical as lexical
 
 abbrev pub token_view : List ℕ → Token → lexical.TokenValue

@@ -4,7 +4,7 @@ use Rattle.keymap_text.specs.declared.wanted.Wanted.{Wanted}
 use Rattle.keymap_text.specs.declared.wanted.Wanted.TheVariants as wants
 use Rattle.keymap_text.specs.declared.wanted.DefinitionStart.{DefinitionStart}
 use Rattle.keymap_text.specs.declared.wanted.FaultPlace.{FaultPlace}
-use Rattle.keymap_text.specs.declared.words.Item.{Item}
+use Rattle.keymap_text.specs.Types.{Item}
 use Rattle.keymap_text.specs.Lexical.{TokenValue}
 use Rattle.keymap_text.specs.Meaning.{item_of}
 use Rattle.keymap_text.specs.Placed.{begins, span_of}

@@ -10,16 +10,11 @@ use Rattle.keymap_core.specs.declared.named.Named.{Named}
 use Rattle.keymap_core.specs.declared.named.Named.TheVariants as n
 use Rattle.keymap_core.specs.declared.action.Action.TheVariants as actions
 use Rattle.keymap_core.specs.declared.entry.LockFlag.TheVariants as flags
-use Rattle.keymap_text.specs.declared.token.TokenKind.{TokenKind}
+use Rattle.keymap_text.specs.Types.{TokenKind, Name, Meaning, Number, Char, Act, Combined, OutOfRange, Letter, Unknown}
+use Rattle.keymap_text.specs.Types.{Item, Open, Close, Value}
 use Rattle.keymap_text.specs.declared.token.TokenKind.TheVariants as kinds
-use Rattle.keymap_text.specs.declared.names.Name.{Name}
 use Rattle.keymap_text.specs.declared.names.Sense.{Sense}
 use Rattle.keymap_text.specs.declared.names.Sense.TheVariants as senses
-use Rattle.keymap_text.specs.declared.words.Meaning.{Meaning}
-use Rattle.keymap_text.specs.declared.words.Meaning.TheVariants.{Number, Char, Act, Combined, OutOfRange, Letter}
-use Rattle.keymap_text.specs.declared.words.Meaning.TheVariants.{Unknown}
-use Rattle.keymap_text.specs.declared.words.Item.{Item}
-use Rattle.keymap_text.specs.declared.words.Item.TheVariants.{Open, Close, Value}
 
 -- names are one without regard to ASCII case
 abbrev pub same_name : List ℕ → List ℕ → Bool

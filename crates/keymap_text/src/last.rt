@@ -2,8 +2,7 @@
 ghost use Rattle.std.specs.Prelude.{◌≡◌, ◌++◌, ◌∷◌, [], List, map};
 ghost use Rattle.std.specs.List.{range_with_len};
 ghost use Rattle.keymap_core.specs.Numbers.{slot_limit, accent_limit};
-ghost use Rattle.keymap_text.specs.declared.placed.Placed.{Placed as PlacedValue};
-ghost use Rattle.keymap_text.specs.declared.placed.Defined.TheVariants.{Slot, Accent};
+ghost use Rattle.keymap_text.specs.Types.{Placed as PlacedValue, Slot, Accent};
 ghost use Rattle.keymap_text.specs.Placed.{last_of};
 ghost use Rattle.keymap_text.specs.Inner.LastOf.{HasLast};
 

@@ -1,33 +1,24 @@
 //! Laws of the definitions. No function here does anything.
 ghost use Rattle.std.specs.Prelude.{◌≡◌, ℕ, ◌<◌, ◌≤◌, List, [], ◌∷◌, ◌++◌, ◌+◌, ◌*◌, true, false, length};
-ghost use Rattle.std.specs.Prelude.{slice_index_or};
-ghost use Rattle.std.specs.Prelude.{map, take, drop, Ok, Err, None, Some, ◌⊎◌, All};
-ghost use Rattle.keymap_text.specs.Lexical.{TokenValue, first, tokens_after, front_of, Found, Skipped};
-ghost use Rattle.keymap_text.specs.Lexical.{separates};
+ghost use Rattle.std.specs.Prelude.{slice_index_or, map, take, drop, Ok, Err, None, Some, ◌⊎◌, All};
+ghost use Rattle.keymap_text.specs.Lexical.{TokenValue, first, tokens_after, front_of, Found, Skipped, separates};
 ghost use Rattle.keymap_text.specs.Alone.{StandsAlone};
-ghost use Rattle.keymap_text.specs.declared.token.TokenKind.{TokenKind as TokenKindValue};
+ghost use Rattle.keymap_text.specs.Types.{TokenKind as TokenKindValue, Item as ItemValue, Value, Letter};
+ghost use Rattle.keymap_text.specs.Types.{Entry as EntryValue, Cell as CellValue, Placed as PlacedValue, Slot, Accent};
+ghost use Rattle.keymap_text.specs.Types.{TextFault as TextFaultValue, TextFaultKind as Kind};
 ghost use Rattle.keymap_text.specs.Quoted.{IsQuoted, BeginsQuoted, IsUnfinished, IsReason, quoted_token};
 ghost use Rattle.keymap_text.specs.Meaning.{Spells, Fault, Early, item_of, place_after, tokens, ending, IsSameToken};
 ghost use Rattle.keymap_core.specs.Maps.{MapValue, undefined};
 ghost use Rattle.keymap_text.specs.Rows.{Definition, IsRow, Defines, KeyDefinition, AccentDefinition, ArePairs};
 ghost use Rattle.keymap_text.specs.Items.{character, cell};
-ghost use Rattle.keymap_text.specs.declared.words.Item.{Item as ItemValue};
-ghost use Rattle.keymap_text.specs.declared.words.Item.TheVariants.{Value};
-ghost use Rattle.keymap_text.specs.declared.words.Meaning.TheVariants.{Letter};
-ghost use Rattle.keymap_core.specs.declared.entry.Entry.{Entry as EntryValue};
-ghost use Rattle.keymap_core.specs.declared.entry.Cell.{Cell as CellValue};
 ghost use Rattle.keymap_core.specs.Accents.{AccentValue, blank};
 ghost use Rattle.keymap_text.specs.Placed.{Row, AreRows, IsSpelledBy, IsPlaced, last_of, places_of};
-ghost use Rattle.keymap_text.specs.declared.placed.Placed.{Placed as PlacedValue};
-ghost use Rattle.keymap_text.specs.declared.placed.Defined.TheVariants.{Slot, Accent};
 ghost use Rattle.keymap_core.specs.Numbers.{column_count};
 ghost use Rattle.keymap_core.specs.Bounds.{IsMap};
 ghost use Rattle.keymap_text.specs.Printed.{printed};
 ghost use Rattle.keymap_text.specs.Definitions.{IsDefinition, definition_words};
 ghost use Rattle.keymap_text.specs.Places.{RowPlace, AtDefinition, may_end};
 ghost use Rattle.keymap_text.specs.Meaning.{is_settled, is_end_inside};
-ghost use Rattle.keymap_text.specs.declared.fault.TextFault.{TextFault as TextFaultValue};
-ghost use Rattle.keymap_text.specs.declared.fault.TextFaultKind.{TextFaultKind as Kind};
 
 /// A quoted character is an apostrophe, one character, and an apostrophe. The character is the UTF-8 of one other than
 /// LF, or one byte from 0x80 on. It is found exactly if such bytes stand in front; it is unfinished, a fault at the end

@@ -1,12 +1,11 @@
 //! Where the definitions of a text stand. It sees the whole text, token by token, and knows no grammar: each definition
 //! has as many tokens as its first ones tell.
 ghost use Rattle.std.specs.Prelude.{◌≡◌, ◌+◌, ◌≤◌, ◌++◌, ◌∷◌, List, All, length, vec_len, map, IfOk, IfSome, OnOk};
-ghost use Rattle.keymap_text.specs.declared.token.TokenKind.TheVariants.{Word};
+ghost use Rattle.keymap_text.specs.Types.{Word};
 ghost use Rattle.keymap_text.specs.Lexical.{TokenValue};
 ghost use Rattle.keymap_text.specs.Meaning.{tokens, Spells};
 ghost use Rattle.keymap_core.specs.Maps.{MapValue};
-ghost use Rattle.keymap_text.specs.Placed.{begins, span_of, places_of, Row, IsSpelledBy, HasIndex};
-ghost use Rattle.keymap_text.specs.Placed.{StandsAmong};
+ghost use Rattle.keymap_text.specs.Placed.{begins, span_of, places_of, Row, IsSpelledBy, HasIndex, StandsAmong};
 ghost use Rattle.keymap_text.specs.Inner.Placed.{behind, begun, ComesNext};
 
 use crate::grammar::accent_index;

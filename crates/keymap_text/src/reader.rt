@@ -3,7 +3,7 @@
 ghost use Rattle.std.specs.Prelude.{◌≡◌, ℕ, ◌+◌, ◌<◌, ◌^◌, ◌++◌, [], List, IfOk, length, MatchResult, Some, Err};
 ghost use Rattle.keymap_text.specs.Meaning.{Means, Concludes, Reads};
 ghost use Rattle.keymap_text.specs.Standing.{StandsAfter, FedAfter};
-ghost use Rattle.keymap_text.specs.declared.fault.TextFault.{TextFault as TextFaultValue};
+ghost use Rattle.keymap_text.specs.Types.{TextFault as TextFaultValue};
 
 use crate::fault::{TextError, TextFault};
 use crate::scanner::Scanner;

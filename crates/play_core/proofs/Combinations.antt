@@ -7,7 +7,7 @@ use Rattle.std.proofs.lemmas.List.Elements.{All-nil, All-cons, All-append, All-h
 use Rattle.keymap_core.specs.Maps.{MapValue}
 use Rattle.keymap_core.specs.Below.{gathered, first_below}
 use Rattle.keymap_core.proofs.Below.{first_below-some, IsFirstBelow}
-use Rattle.console_core.specs.declared.event.Event.{Event}
+use Rattle.play_core.specs.Types.{Event}
 use Rattle.console_core.specs.declared.event.Event.TheVariants.{Press, Release}
 use Rattle.console_core.specs.History.{HasKey, HasKeys}
 use Rattle.play_core.specs.HeldKeys.{is_bit_key, bit_key, bit_keys, listed, has_bit, held_for, held_keys, lacks_key}

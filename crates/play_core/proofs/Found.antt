@@ -11,7 +11,7 @@ use Rattle.std.specs.List.{flat_map}
 use Rattle.std.specs.Option.{option_or, option_copied}
 use Rattle.std.proofs.lemmas.List.Folds.{find-append}
 use Rattle.keymap_core.specs.Maps.{MapValue, accent_at}
-use Rattle.console_core.specs.declared.event.Event.{Event}
+use Rattle.play_core.specs.Types.{Event}
 use Rattle.console_core.specs.History.{accent_pending_after}
 use Rattle.play_core.specs.HeldKeys.{held_keys, lacks_key, combination_with, combinations}
 use Rattle.play_core.specs.Typing.{alone, is_at_rest, character_typed_by, accent_left_by, first_with, is_now}

@@ -8,7 +8,7 @@ use Rattle.std.specs.Char.{digit_value}
 use Rattle.std.specs.Str.Parse.{AllDigits}
 use Rattle.std.proofs.lemmas.Bool.{ne_eqb}
 use Rattle.std.proofs.lemmas.Str.Parse.{digit_from_value}
-use Rattle.play_core.specs.declared.sent.What.TheVariants.{Down, Repeat, Up}
+use Rattle.play_core.specs.Types.{Down, Repeat, Up}
 use Rattle.play_core.specs.Scripts.{separates_words, is_there, parts_of, words_in, without_comment}
 use Rattle.play_core.specs.Inner.Readings.{BeginsWithKey, BeginsWithEvent}
 use Rattle.keymap_text.proofs.Splitting.{to_end}

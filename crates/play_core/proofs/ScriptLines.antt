@@ -11,10 +11,7 @@ use Rattle.std.proofs.lemmas.List.Splits.{length-slice_split, slice_split_first}
 use Rattle.std.specs.Option.{unwrap_or, MatchOption}
 use Rattle.std.proofs.lemmas.List.Quantifiers.{position-Some}
 use Rattle.play_core.proofs.LineWords.{unwrap_position}
-use Rattle.play_core.specs.declared.sent.What.{What}
-use Rattle.play_core.specs.declared.sent.What.TheVariants.{Down, Repeat, Up, Reset, Load}
-use Rattle.play_core.specs.declared.sent.Sent.{Sent}
-use Rattle.play_core.specs.declared.script.ScriptFault.{ScriptFault}
+use Rattle.play_core.specs.Types.{What, Down, Repeat, Up, Reset, Load, Sent, ScriptFault}
 use Rattle.play_core.specs.Scripts.{is_there, parts_of, words_of, lines_of, AreEvents, IsEvent, Sends, Tells, mark_of}
 use Rattle.play_core.specs.Scripts.{IsScriptFault, IsFaultOf, RunsOut}
 use Rattle.play_core.specs.Inner.Readings.{IsReadTo, BeginsWithEvent}

@@ -3,7 +3,7 @@ use Rattle.std.proofs.Common.{◌≡◌, ℕ, ◌+◌, ◌≤◌, List, [], ◌�
 use Rattle.std.specs.List.{AllZip, filter}
 use Rattle.std.proofs.lemmas.List.{length-map}
 use Rattle.std.proofs.lemmas.List.Sums.{length-filter, count_by-le-length}
-use Rattle.play_core.specs.declared.sent.Sent.{Sent}
+use Rattle.play_core.specs.Types.{Sent}
 use Rattle.play_core.specs.Scripts.{is_there, lines_of, IsEvent, IsScript}
 use Rattle.play_core.proofs.ScriptLines.{few_lines}
 

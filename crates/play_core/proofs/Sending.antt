@@ -8,11 +8,7 @@ use Rattle.std.specs.Str.Parse.{AllDigits, digits_value}
 use Rattle.std.proofs.lemmas.Bool.{and_from, and_parts, lt-ltb, ltb-true, ltb-false, le-ltb, cases_lt, not-false}
 use Rattle.std.proofs.lemmas.Slice.Eq.{bytes_eq-Decides}
 use Rattle.keymap_core.specs.Numbers.{key_count}
-use Rattle.play_core.specs.declared.script_line.LineFault.{LineFault}
-use Rattle.play_core.specs.declared.script_line.LineFault.TheVariants.{Form, Key}
-use Rattle.play_core.specs.declared.sent.What.{What}
-use Rattle.play_core.specs.declared.sent.What.TheVariants.{Down, Repeat, Up, Reset, Load}
-use Rattle.play_core.specs.declared.sent.Sent.{Sent}
+use Rattle.play_core.specs.Types.{LineFault, Form, Key, What, Down, Repeat, Up, Reset, Load, Sent}
 use Rattle.play_core.specs.Scripts.{IsNumber, Tells, Sends, mark_of, key_of, IsEvent, HasBadKey, HasBadForm}
 use Rattle.play_core.specs.Inner.Readings.{all_digits, key_in, of_key, what_with_key, what_alone, what_of, sent_by}
 use Rattle.play_core.specs.Inner.Readings.{reading_of_lost, reading}

@@ -9,7 +9,7 @@ use Rattle.std.proofs.lemmas.Option.{none-some, same_Some}
 use Rattle.std.proofs.lemmas.List.Folds.{find-append}
 use Rattle.std.proofs.lemmas.List.Elements.{All-head, All-tail}
 use Rattle.arrayvec.specs.ArrayVec.{ArrayVec}
-use Rattle.console_core.specs.declared.event.Event.{Event}
+use Rattle.play_core.specs.Types.{Event}
 use Rattle.play_core.specs.Typing.{first_with, is_now}
 use Rattle.play_core.specs.Inner.Tables.{WayEntries, way_at, IsTableOf}
 use Rattle.keymap_core.proofs.Lists.{option_or-none}

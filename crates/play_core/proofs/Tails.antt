@@ -2,13 +2,10 @@
 use Rattle.std.proofs.Common.{◌≡◌, ℕ, ◌-◌, codes, Bool, true, false, cond, List, [], ◌∷◌, ◌++◌, length, map, refl, sym}
 use Rattle.std.proofs.Common.{ap, ◌∙◌, append_assoc, length-append, arith, take, drop}
 use Rattle.std.proofs.Math.Seq.{drop-append_seam, take-length}
-use Rattle.keymap_core.specs.declared.action.Modifier.{Modifier}
+use Rattle.play_core.specs.Types.{Modifier, Lock, Event, Answer}
 use Rattle.keymap_core.specs.declared.action.Modifier.TheVariants as modifier
-use Rattle.keymap_core.specs.declared.action.Lock.{Lock}
 use Rattle.keymap_core.specs.declared.action.Lock.TheVariants as lock
 use Rattle.keymap_core.specs.Actions.{modifiers, locks}
-use Rattle.console_core.specs.declared.event.Event.{Event}
-use Rattle.console_core.specs.declared.event.Answer.{Answer}
 use Rattle.play_core.specs.Written.{event_text, answer_text, line_of, name_if, or_none, names_of_modifiers}
 use Rattle.play_core.specs.Written.{names_of_locks}
 use Rattle.play_core.specs.Inner.Tails.{tail_of, number_with, shown_number, IsTail}

@@ -9,16 +9,13 @@ use Rattle.std.proofs.lemmas.Bool.{cases_Bool, true≢false, and_parts, and_righ
 use Rattle.std.proofs.lemmas.List.{reverse-append}
 use Rattle.std.proofs.lemmas.List.Elements.{filter-append}
 use Rattle.keymap_core.specs.declared.action.Action.{Action}
-use Rattle.keymap_core.specs.declared.action.Modifier.{Modifier}
-use Rattle.keymap_core.specs.declared.action.Lock.{Lock}
+use Rattle.play_core.specs.Types.{Modifier, Lock, Event, Answer}
 use Rattle.keymap_core.specs.declared.action.Holding.TheVariants as holding
 use Rattle.keymap_core.specs.Actions.{locks}
 use Rattle.keymap_core.specs.Maps.{MapValue}
 use Rattle.keymap_core.specs.Borne.{any_below}
 use Rattle.keymap_core.proofs.BorneTests.{some-any, any-some}
 use Rattle.keymap_core.proofs.HoldingTests.{no-modifier, no-modifiers, no-lock, no-locks}
-use Rattle.console_core.specs.declared.event.Event.{Event}
-use Rattle.console_core.specs.declared.event.Answer.{Answer}
 use Rattle.console_core.specs.declared.event.Answer.TheVariants as answer
 use Rattle.console_core.specs.Resolved.{held, down, locked}
 use Rattle.console_core.proofs.OneMore.{pressed-start, resolved-start, held-start, locked-start, remembered-start}

@@ -3,11 +3,8 @@
 use Rattle.std.proofs.Common.{◌≡◌, ℕ, ◌+◌, List, [], ◌∷◌, ◌++◌, length, Option, None, Some, Result, Ok, Err, refl, ap}
 use Rattle.std.proofs.Common.{subst, ◌∙◌, arith, ◌⊎◌, inl, inr}
 use Rattle.std.proofs.lemmas.Bool.{lt-ltb, le-ltb}
-use Rattle.play_core.specs.declared.script_line.LineFault.{LineFault}
-use Rattle.play_core.specs.declared.script_line.LineFault.TheVariants.{Form, Key}
-use Rattle.play_core.specs.declared.script.ScriptFault.{ScriptFault}
+use Rattle.play_core.specs.Types.{LineFault, Form, Key, ScriptFault, Sent}
 use Rattle.play_core.specs.declared.script.ScriptFault.TheVariants.{BadLine, BadKey}
-use Rattle.play_core.specs.declared.sent.Sent.{Sent}
 use Rattle.play_core.specs.Inner.Readings.{reading}
 use Rattle.play_core.specs.Scripts.{lines_of, key_of, AreEvents, IsEvent, HasBadKey, HasBadForm, IsScript}
 use Rattle.play_core.specs.Scripts.{IsScriptFault, IsFaultOf}

@@ -1,11 +1,8 @@
 -- What is delivered of what is sent.
 use Rattle.std.specs.Prelude.{List, Option, None, Some, if◌then◌else◌}
 use Rattle.std.specs.List.{filter_map}
-use Rattle.console_core.specs.declared.event.Event.{Event}
+use Rattle.play_core.specs.Types.{Event, What, Down, Repeat, Up, Reset, Load, Sent}
 use Rattle.console_core.specs.declared.event.Event.TheVariants as event
-use Rattle.play_core.specs.declared.sent.What.{What}
-use Rattle.play_core.specs.declared.sent.What.TheVariants.{Down, Repeat, Up, Reset, Load}
-use Rattle.play_core.specs.declared.sent.Sent.{Sent}
 
 -- a repeat is one more press
 abbrev pub delivered_by : What → Event

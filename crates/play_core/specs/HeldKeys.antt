@@ -2,7 +2,7 @@
 use Rattle.std.specs.Prelude.{ℕ, ◌+◌, ◌/◌, ◌%◌, ◌^◌, ◌==◌, Bool, ◌&&◌, ◌||◌, not, List, [], ◌∷◌, ◌++◌, map, Option}
 use Rattle.std.specs.Prelude.{None, Some, if◌then◌else◌, slice_index_or}
 use Rattle.std.specs.Option.{is_some}
-use Rattle.keymap_core.specs.declared.action.Modifier.{Modifier}
+use Rattle.play_core.specs.Types.{Modifier, Event}
 use Rattle.keymap_core.specs.declared.action.Modifier.TheVariants.{LeftShift, RightShift, LeftControl, RightControl}
 use Rattle.keymap_core.specs.declared.action.Modifier.TheVariants.{LeftAlt, RightAlt, AltShift}
 use Rattle.keymap_core.specs.declared.action.Action.TheVariants as act
@@ -10,7 +10,6 @@ use Rattle.keymap_core.specs.Maps.{MapValue}
 use Rattle.keymap_core.specs.Below.{first_below, gathered}
 use Rattle.keymap_core.specs.Borne.{has_in_slot, is_upper_live}
 use Rattle.keymap_core.specs.Numbers.{key_count}
-use Rattle.console_core.specs.declared.event.Event.{Event}
 use Rattle.console_core.specs.declared.event.Event.TheVariants.{Press, Release}
 
 -- one of the key's cells is the modifier

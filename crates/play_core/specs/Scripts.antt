@@ -4,10 +4,7 @@ use Rattle.std.specs.Prelude.{map, codes}
 use Rattle.std.specs.List.{slice_split, filter, before_first, AllZip}
 use Rattle.std.specs.Str.Parse.{AllDigits, digits_value}
 use Rattle.keymap_core.specs.Numbers.{key_count}
-use Rattle.play_core.specs.declared.sent.What.{What}
-use Rattle.play_core.specs.declared.sent.What.TheVariants.{Down, Repeat, Up, Reset, Load}
-use Rattle.play_core.specs.declared.sent.Sent.{Sent}
-use Rattle.play_core.specs.declared.script.ScriptFault.{ScriptFault}
+use Rattle.play_core.specs.Types.{What, Down, Repeat, Up, Reset, Load, Sent, ScriptFault}
 use Rattle.play_core.specs.declared.script.ScriptFault.TheVariants.{BadLine, BadKey}
 use Rattle.play_core.specs.declared.script.ScriptError.{ScriptError}
 use Rattle.play_core.specs.declared.script.ScriptError.TheVariants as errors

@@ -2,11 +2,8 @@
 use Rattle.std.specs.Prelude.{◌≡◌, ℕ, ◌<◌, ◌==◌, Bool, true, false, List, [], ◌∷◌, ◌++◌, All, codes, decimal}
 use Rattle.std.specs.List.{flat_map, list_any}
 use Rattle.keymap_core.specs.Numbers.{key_count}
-use Rattle.console_core.specs.declared.event.Event.{Event}
+use Rattle.play_core.specs.Types.{Event, What, Down, Repeat, Up, Reset, Load, Sent}
 use Rattle.console_core.specs.declared.event.Event.TheVariants as event
-use Rattle.play_core.specs.declared.sent.What.{What}
-use Rattle.play_core.specs.declared.sent.What.TheVariants.{Down, Repeat, Up, Reset, Load}
-use Rattle.play_core.specs.declared.sent.Sent.{Sent}
 use Rattle.play_core.specs.Scripts.{key_of}
 
 abbrev pub command_text : What → List ℕ

@@ -9,8 +9,7 @@ use Rattle.keymap_core.specs.Maps.{MapValue, accent_at}
 use Rattle.keymap_core.specs.Borne.{any_below}
 use Rattle.keymap_core.specs.Numbers.{key_count, accent_limit}
 use Rattle.keymap_core.specs.Below.{gathered}
-use Rattle.console_core.specs.declared.event.Event.{Event}
-use Rattle.console_core.specs.declared.event.Answer.{Answer}
+use Rattle.play_core.specs.Types.{Event, Answer}
 use Rattle.console_core.specs.declared.event.Answer.TheVariants as answer
 use Rattle.console_core.specs.Resolved.{down}
 use Rattle.std.specs.Option.{is_some}

@@ -1,16 +1,12 @@
 -- What is written of events: a line for each, or the bytes that they type.
 use Rattle.std.specs.Prelude.{ℕ, Bool, true, false, List, [], ◌∷◌, ◌++◌, codes, decimal, encode_utf8}
 use Rattle.std.specs.List.{flat_map}
-use Rattle.keymap_core.specs.declared.action.Modifier.{Modifier}
-use Rattle.keymap_core.specs.declared.action.Lock.{Lock}
+use Rattle.play_core.specs.Types.{Modifier, Lock, Event, Answer, Sent}
 use Rattle.keymap_core.specs.declared.action.Action.TheVariants as action
 use Rattle.keymap_core.specs.Actions.{name_of, modifiers, locks}
-use Rattle.console_core.specs.declared.event.Event.{Event}
 use Rattle.console_core.specs.declared.event.Event.TheVariants.{Press, Release, Reset, Load}
-use Rattle.console_core.specs.declared.event.Answer.{Answer}
 use Rattle.console_core.specs.declared.event.Answer.TheVariants as answer
 use Rattle.console_core.specs.History.{Maps, is_on_after, is_locked_after, answer_to, answers_to}
-use Rattle.play_core.specs.declared.sent.Sent.{Sent}
 use Rattle.play_core.specs.declared.show.Show.{Show}
 use Rattle.play_core.specs.declared.show.Show.TheVariants as show
 use Rattle.play_core.specs.Delivery.{delivered}

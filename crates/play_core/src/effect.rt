@@ -2,7 +2,7 @@
 ghost use Rattle.std.specs.Prelude.{◌≡◌, ◌++◌, List, [], None, filter, reverse};
 ghost use Rattle.std.specs.List.{list_any};
 ghost use Rattle.keymap_core.specs.Actions.{locks};
-ghost use Rattle.console_core.specs.declared.event.Event.{Event as EventValue};
+ghost use Rattle.play_core.specs.Types.{Event as EventValue};
 ghost use Rattle.console_core.specs.History.{Maps, answers_to};
 ghost use Rattle.keymap_core.specs.Maps.{MapValue};
 ghost use Rattle.play_core.specs.Typing.{character_typed_by, accent_left_by, types_something, alone};

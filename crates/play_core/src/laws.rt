@@ -1,13 +1,11 @@
 //! Laws of the definitions. No function here does anything.
 ghost use Rattle.std.specs.Prelude.{◌≡◌, ℕ, List, ◌∷◌, ◌++◌, ◌⊎◌, map};
 ghost use Rattle.std.specs.List.{flat_map};
-ghost use Rattle.console_core.specs.declared.event.Event.{Event as EventValue};
+ghost use Rattle.play_core.specs.Types.{Event as EventValue, ScriptFault as Fault, Sent as SentValue};
 ghost use Rattle.console_core.specs.History.{HasKeys};
 ghost use Rattle.play_core.specs.Delivery.{delivered};
 ghost use Rattle.play_core.specs.Scripts.{IsScript, IsScriptFault};
 ghost use Rattle.play_core.specs.Spelling.{Line, AreWritable, text_of, sent_in, sent_of, event_line};
-ghost use Rattle.play_core.specs.declared.script.ScriptFault.{ScriptFault as Fault};
-ghost use Rattle.play_core.specs.declared.sent.Sent.{Sent as SentValue};
 
 /// A script is one list of sent events, or has one fault.
 pub fn one_reading()

@@ -1,7 +1,7 @@
 //! Playing a script on keymaps.
 ghost use Rattle.std.specs.Prelude.{◌≡◌, ◌+◌, ◌||◌, ◌^◌, ◌<◌, ◌≤◌, ◌++◌, List, [], ◌∷◌, length, reverse, is_err};
 ghost use Rattle.keymap_core.specs.Devices.{WritesText};
-ghost use Rattle.console_core.specs.declared.event.Event.{Event as EventValue};
+ghost use Rattle.play_core.specs.Types.{Event as EventValue};
 ghost use Rattle.console_core.specs.History.{Maps, between};
 ghost use Rattle.play_core.specs.Delivery.{delivered};
 ghost use Rattle.play_core.specs.Written.{text_after, event_output, played_text};

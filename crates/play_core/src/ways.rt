@@ -4,7 +4,7 @@ ghost use Rattle.std.specs.Prelude.{Some, option_map, length};
 ghost use Rattle.arrayvec.specs.ArrayVec.{array_vec_len};
 ghost use Rattle.keymap_core.specs.Maps.{MapValue};
 ghost use Rattle.keymap_core.specs.Numbers.{key_count};
-ghost use Rattle.console_core.specs.declared.event.Event.{Event as EventValue};
+ghost use Rattle.play_core.specs.Types.{Event as EventValue};
 ghost use Rattle.play_core.specs.HeldKeys.{combinations_of, combinations_with, combinations};
 ghost use Rattle.play_core.specs.Inner.HeldTables.{AreHeldKeys};
 ghost use Rattle.play_core.specs.Typing.{character_typed_by, direct_way, dead_way, joined, accented_by};

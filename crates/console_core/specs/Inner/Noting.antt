@@ -3,11 +3,8 @@ use Rattle.std.specs.Prelude.{◌≡◌, ◌<◌, ◌⊎◌, ℕ, List, length, 
 use Rattle.std.specs.List.{Contains}
 use Rattle.keymap_core.specs.Maps.{MapValue}
 use Rattle.keymap_core.specs.Numbers.{key_count}
-use Rattle.console_core.specs.declared.selection.Selection.{Selection}
-use Rattle.console_core.specs.declared.selection.Sight.{Sight}
-use Rattle.console_core.specs.declared.sights.Sights.{Sights}
+use Rattle.console_core.specs.Types.{Selection, Sight, Sights, Act}
 use Rattle.keymap_core.specs.declared.action.Action.TheVariants as act
-use Rattle.keymap_core.specs.declared.entry.Cell.TheVariants.{Act}
 use Rattle.console_core.specs.Moves.{Under, State, IsIdle, look_in}
 use Rattle.console_core.specs.Sights.{Note, IsNoteOf, Has, SeesBy}
 use Rattle.console_core.specs.Inner.Searching.{state_of, Entry, Entries}

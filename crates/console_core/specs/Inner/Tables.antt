@@ -1,9 +1,7 @@
 -- What the tables of a console hold, by the holding action, the lock or the key. Mirrors `PlainStore` of
 -- src/plain_store.rt.
 use Rattle.std.specs.Prelude.{ℕ, Bool, false, List, Option, None, slice_index_or}
-use Rattle.keymap_core.specs.declared.action.Action.{Action}
-use Rattle.keymap_core.specs.declared.action.Holding.{Holding}
-use Rattle.keymap_core.specs.declared.action.Lock.{Lock}
+use Rattle.console_core.specs.Types.{Action, Holding, Lock}
 use Rattle.keymap_core.specs.Actions.{holding_index, lock_index}
 use Rattle.console_core.specs.Agrees.{Kept}
 

@@ -1,16 +1,13 @@
 //! Where presses, releases and loads lead from a state of the search, and what they are as events.
-ghost use Rattle.std.specs.Prelude.{◌≡◌, ◌≢◌, ◌<◌, ℕ, false, true, None, ◌||◌, ◌&&◌, ◌++◌, OnOk};
-ghost use Rattle.std.specs.Prelude.{MatchOption, IfSome};
+ghost use Rattle.std.specs.Prelude.{◌≡◌, ◌≢◌, ◌<◌, ℕ, false, true, None, ◌||◌, ◌&&◌, ◌++◌, OnOk, MatchOption, IfSome};
 ghost use Rattle.keymap_core.specs.Borne.{is_borne};
 ghost use Rattle.keymap_core.specs.Actions.{modifiers};
 ghost use Rattle.keymap_core.specs.Numbers.{key_count};
-ghost use Rattle.keymap_core.specs.declared.action.Modifier.{Modifier as ModifierValue};
+ghost use Rattle.console_core.specs.Types.{Modifier as ModifierValue, Act};
 ghost use Rattle.keymap_core.specs.declared.action.Action.TheVariants.{DeadKey};
-ghost use Rattle.keymap_core.specs.declared.entry.Cell.TheVariants.{Act};
-ghost use Rattle.console_core.specs.Moves.{Under, start as start_state, is_held as is_held_in, look_in, IsIdle};
-ghost use Rattle.console_core.specs.Moves.{map_in, next_map, exchanged as exchanged_in, IsFree};
-ghost use Rattle.console_core.specs.Moves.{with_holder as with_holder_in, with_lock_turned, HolderForgets};
-ghost use Rattle.console_core.specs.Moves.{IsForgetful, events_of_move, releases};
+ghost use Rattle.console_core.specs.Moves.{Under, start as start_state, is_held as is_held_in, look_in, IsIdle, map_in};
+ghost use Rattle.console_core.specs.Moves.{next_map, exchanged as exchanged_in, IsFree, with_holder as with_holder_in};
+ghost use Rattle.console_core.specs.Moves.{with_lock_turned, HolderForgets, IsForgetful, events_of_move, releases};
 ghost use Rattle.console_core.specs.Sights.{selection_of};
 ghost use Rattle.console_core.specs.Inner.Searching.{state_of, under_of, Entries, IsMetBy, IsLetGoMet};
 ghost use Rattle.console_core.specs.Inner.Searching.{IsExchangeMet, ArePressesMet, IsStep};

@@ -4,13 +4,11 @@ use Prim.Native.Nat.{zero, suc}
 use Rattle.std.specs.Prelude.{◌≡◌, ℕ, ◌+◌, ◌^◌, ◌<◌, ◌==◌, Bool, List, length, slice_index_or, bit_or, bit_xor}
 use Rattle.std.specs.Int.{bit_at}
 use Rattle.keymap_core.specs.declared.action.Action.TheVariants as act
-use Rattle.keymap_core.specs.declared.entry.Cell.{Cell}
-use Rattle.keymap_core.specs.declared.entry.Cell.TheVariants.{Char, Act}
+use Rattle.keymap_check.specs.Types.{Cell, Char, Act, Kind}
 use Rattle.keymap_core.specs.Actions.{modifier_index, lock_index, holding_index}
 use Rattle.keymap_core.specs.Maps.{MapValue}
 use Rattle.keymap_core.specs.Numbers.{key_count}
 use Rattle.keymap_check.specs.declared.kind.Group.TheVariants as group
-use Rattle.keymap_check.specs.declared.kind.Kind.{Kind}
 use Rattle.keymap_check.specs.declared.kind.Kind.TheVariants as kind
 use Rattle.keymap_check.specs.Cells.{cell_of, place_count}
 

@@ -1,8 +1,6 @@
 -- What the search for a piece answers. Mirrors `next_piece` of src/piece.rt.
 use Rattle.std.specs.Prelude.{◌≡◌, ◌<◌, ◌≤◌, ℕ, List, [], ◌∷◌, length, drop, Option, Some, None}
-use Rattle.keymap_fmt.specs.declared.piece.Standing.{Standing}
-use Rattle.keymap_fmt.specs.declared.piece.Part.{Part}
-use Rattle.keymap_fmt.specs.declared.piece.Part.TheVariants.{Comment, Code}
+use Rattle.keymap_fmt.specs.Types.{Standing, Part, Comment, Code}
 use Rattle.keymap_fmt.specs.declared.piece.Piece.{Piece}
 use Rattle.keymap_fmt.specs.Pieces.{PieceValue, pieces_after, behind}
 use Rattle.keymap_fmt.specs.Layout.{width}

@@ -3,10 +3,7 @@
 -- src/number.rt, IsFirstColumn and IsFirstNumber `wide_column` and `wide_number` of src/narrow.rt.
 use Rattle.std.specs.Prelude.{◌≡◌, ℕ, ◌<◌, ◌≤◌, List, length, slice_index_or, Option, None, Some}
 use Rattle.keymap_core.specs.Accents.{AccentValue}
-use Rattle.keymap_core.specs.declared.entry.Cell.TheVariants.{Char}
-use Rattle.keymap_core.specs.declared.entry.Entry.{Entry}
-use Rattle.keymap_tables.specs.declared.fault.TableFaultKind.{TableFaultKind}
-use Rattle.keymap_tables.specs.declared.fault.TableFault.{TableFault}
+use Rattle.keymap_tables.specs.Types.{Char, Entry, TableFaultKind, TableFault}
 use Rattle.keymap_tables.specs.Faults.{zero_fault}
 use Rattle.keymap_tables.specs.Fits.{character_of, numbers_of}
 

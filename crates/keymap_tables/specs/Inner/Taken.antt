@@ -4,10 +4,9 @@ use Rattle.std.specs.Prelude.{◌≡◌, ℕ, List, [], length, All}
 use Rattle.keymap_core.specs.Accents.{AccentValue}
 use Rattle.keymap_core.specs.Bounds.{IsEntry, IsAccent, IsMap}
 use Rattle.keymap_core.specs.Maps.{MapValue}
-use Rattle.keymap_core.specs.declared.entry.Entry.{Entry}
+use Rattle.keymap_tables.specs.Types.{Entry, Layout}
 use Rattle.keymap_tables.specs.Fits.{EntryFits, AccentFits, FitsIn}
 use Rattle.keymap_tables.specs.Image.{image_in, slots_bytes, accents_bytes}
-use Rattle.keymap_tables.specs.declared.layout.Layout.{Layout}
 
 -- the map of these entries and accents
 abbrev pub made_of : List Entry → List AccentValue → MapValue

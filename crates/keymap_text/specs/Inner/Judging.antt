@@ -1,7 +1,7 @@
 -- What the machine over tokens makes of a whole text: a map, or a fault. Mirrors `Scanner::feed` and `finish` of
 -- src/scanner.rt, run over a text; Meaning says the same in words of the text.
 use Rattle.std.specs.Prelude.{ℕ, Bool, false, not, List, Option, Some, None, Ok, Err}
-use Rattle.keymap_text.specs.declared.fault.TextFaultKind.{TextFaultKind}
+use Rattle.keymap_text.specs.Types.{TextFaultKind}
 use Rattle.keymap_text.specs.declared.fault.TextFaultKind.TheVariants as faults
 use Rattle.keymap_text.specs.Lexical.{Tokens, Ends, Stops, Then, tokens_after}
 use Rattle.keymap_text.specs.Meaning.{is_settled, is_end_inside}

@@ -5,9 +5,8 @@ use Rattle.std.specs.Prelude.{List, [], ◌∷◌, length, map, ◌<◌, ◌^◌
 use Rattle.std.specs.Int.{from_le_bytes, trailing_zeros, w64}
 use Rattle.keymap_text.specs.Lexical.{is_word}
 use Rattle.std.specs.Char.{to_ascii_lowercase}
-use Rattle.keymap_text.specs.declared.names.Name.{Name}
+use Rattle.keymap_text.specs.Types.{Name, Meaning}
 use Rattle.keymap_text.specs.declared.names.TheConstants.{PLACES, SPREAD}
-use Rattle.keymap_text.specs.declared.words.Meaning.{Meaning}
 use Rattle.keymap_text.specs.Words.{meaning, sense_meaning}
 
 -- the bytes of a word as the digits of a number, the first byte lowest, with blanks behind the last

@@ -1,8 +1,7 @@
 -- The tables of the last definitions. Mirrors `LastDefinitions` of src/last.rt.
 use Rattle.std.specs.Prelude.{◌≡◌, ◌<◌, ℕ, List, length, slice_index_or, None}
 use Rattle.keymap_core.specs.Numbers.{slot_limit, accent_limit}
-use Rattle.keymap_text.specs.declared.placed.Placed.{Placed}
-use Rattle.keymap_text.specs.declared.placed.Defined.TheVariants.{Slot, Accent}
+use Rattle.keymap_text.specs.Types.{Placed, Slot, Accent}
 use Rattle.keymap_text.specs.declared.last.LastDefinitions.{LastDefinitions}
 use Rattle.keymap_text.specs.Placed.{last_of}
 

@@ -1,12 +1,7 @@
 -- Where definitions begin among tokens. Mirrors `take` and `token_from` of src/placed.rt.
 use Rattle.std.specs.Prelude.{◌≡◌, ◌<◌, ◌≤◌, ℕ, zero, suc, ◌+◌, Bool, true, false, if◌then◌else◌, List, [], ◌∷◌}
 use Rattle.std.specs.Prelude.{length, drop, Option, Some, None}
-use Rattle.keymap_text.specs.declared.placed.Defined.{Defined}
-use Rattle.keymap_text.specs.declared.placed.Defined.TheVariants.{Slot, Accent}
-use Rattle.keymap_text.specs.declared.placed.Placed.{Placed}
-use Rattle.keymap_text.specs.declared.token.TokenKind.{TokenKind}
-use Rattle.keymap_text.specs.declared.token.TokenKind.TheVariants.{ParenL, Word}
-use Rattle.keymap_text.specs.declared.token.Token.{Token}
+use Rattle.keymap_text.specs.Types.{Defined, Slot, Accent, Placed, TokenKind, ParenL, Word, Token}
 use Rattle.keymap_text.specs.Tokens.{token_view}
 use Rattle.keymap_text.specs.Placed.{begins, span_of}
 use Rattle.keymap_text.specs.Lexical.{TokenValue, tokens_after}

@@ -3,8 +3,7 @@
 use Rattle.keymap_core.specs.Maps.{MapValue}
 use Rattle.std.specs.Prelude.{◌≡◌, ◌≢◌, ℕ, ◌+◌, ◌<◌, ◌≤◌, Bool, true, false, List, [], ◌++◌, length, take, drop}
 use Rattle.std.specs.Prelude.{slice_index, Result, Ok, Err, if◌then◌else◌, ◌==◌, count_by, ◌-◌}
-use Rattle.keymap_text.specs.declared.fault.TextFaultKind.{TextFaultKind}
-use Rattle.keymap_text.specs.declared.fault.TextFault.{TextFault}
+use Rattle.keymap_text.specs.Types.{TextFaultKind, TextFault, Item}
 use Rattle.keymap_text.specs.declared.scanner.Mode.{Mode}
 use Rattle.keymap_text.specs.declared.scanner.Mode.TheVariants as modes
 use Rattle.keymap_text.specs.declared.scanner.Scanner.{Scanner}
@@ -14,7 +13,6 @@ use Rattle.keymap_text.specs.Meaning.{line, is_settled}
 use Rattle.keymap_text.specs.Inner.Judging.{judge, Verdict, Spelled, Faulty}
 use Rattle.keymap_text.specs.Items.{character}
 use Rattle.keymap_text.specs.Words.{item}
-use Rattle.keymap_text.specs.declared.words.Item.{Item}
 use Rattle.keymap_text.specs.Inner.Grammar.{GrammarState}
 use Rattle.keymap_text.specs.Inner.Views.{state_view, IsPlace}
 use Rattle.keymap_text.specs.declared.grammar.Place.{Place}

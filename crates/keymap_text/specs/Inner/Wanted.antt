@@ -1,7 +1,7 @@
 -- What is wanted behind a token. Mirrors `Wanted` of src/wanted.rt.
 use Rattle.std.specs.Prelude.{◌≡◌, ◌<◌, ◌≤◌, Option, Some, None, Result, Ok, IsErr}
 use Rattle.keymap_core.specs.Numbers.{column_count, pair_limit}
-use Rattle.keymap_text.specs.declared.fault.TextFaultKind.{TextFaultKind}
+use Rattle.keymap_text.specs.Types.{TextFaultKind}
 use Rattle.keymap_text.specs.declared.wanted.Wanted.{Wanted}
 use Rattle.keymap_text.specs.declared.wanted.Wanted.TheVariants as wants
 use Rattle.keymap_text.specs.Places.{RowPlace}

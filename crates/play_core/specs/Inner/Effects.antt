@@ -1,8 +1,7 @@
 -- What a way does to a new console, as it is computed. Mirrors `effect_of` of src/effect.rt and what it calls.
 use Rattle.std.specs.Prelude.{◌≡◌, ℕ, true, false, List, [], ◌∷◌, ◌++◌, Option, None, Some, reverse}
 use Rattle.keymap_core.specs.Maps.{MapValue}
-use Rattle.console_core.specs.declared.event.Event.{Event}
-use Rattle.console_core.specs.declared.event.Answer.{Answer}
+use Rattle.play_core.specs.Types.{Event, Answer}
 use Rattle.console_core.specs.declared.event.Answer.TheVariants as answer
 use Rattle.play_core.specs.declared.effect.Typed.{Typed}
 use Rattle.play_core.specs.declared.effect.Typed.TheVariants as typed

@@ -5,11 +5,7 @@ use Rattle.std.specs.Prelude.{Some, Result, Ok, Err, if◌then◌else◌, take, 
 use Rattle.std.specs.Str.{bytes_eq}
 use Rattle.std.specs.Char.{digit_value}
 use Rattle.std.specs.Str.Parse.{digits_value}
-use Rattle.play_core.specs.declared.script_line.LineFault.{LineFault}
-use Rattle.play_core.specs.declared.script_line.LineFault.TheVariants.{Form, Key}
-use Rattle.play_core.specs.declared.sent.What.{What}
-use Rattle.play_core.specs.declared.sent.What.TheVariants.{Down, Repeat, Up, Reset, Load}
-use Rattle.play_core.specs.declared.sent.Sent.{Sent}
+use Rattle.play_core.specs.Types.{LineFault, Form, Key, What, Down, Repeat, Up, Reset, Load, Sent}
 use Rattle.play_core.specs.Scripts.{is_there, parts_of, lines_of, words_of, IsNumber, IsEvent, AreEvents}
 use Rattle.keymap_core.specs.Numbers.{key_count}
 

@@ -1,8 +1,7 @@
 -- The tail of a line, which is kept for the next line, and the number that tells whether it has changed. Mirrors `Tail`
 -- and `push_tail` of src/tail.rt.
 use Rattle.std.specs.Prelude.{◌≡◌, ℕ, ◌+◌, ◌*◌, Bool, List, [], ◌∷◌, ◌++◌, map, codes, if◌then◌else◌}
-use Rattle.keymap_core.specs.declared.action.Modifier.{Modifier}
-use Rattle.keymap_core.specs.declared.action.Lock.{Lock}
+use Rattle.play_core.specs.Types.{Modifier, Lock}
 use Rattle.keymap_core.specs.Actions.{modifiers, locks}
 use Rattle.play_core.specs.Written.{or_none, names_of_modifiers, names_of_locks}
 

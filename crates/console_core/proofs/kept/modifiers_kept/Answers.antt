@@ -1,5 +1,5 @@
 use Rattle.std.proofs.Common.{◌∙◌}
-use Rattle.keymap_core.specs.declared.action.Holding.TheVariants.{Mod}
+use Rattle.console_core.specs.Types.{Mod}
 use Rattle.console_core.proofs.Bytes.{modifier-bits}
 use Rattle.console_core.proofs.kept.modifiers_kept.Goals as goal
 

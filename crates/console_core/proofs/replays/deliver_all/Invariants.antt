@@ -1,6 +1,6 @@
 use Rattle.std.proofs.Common.{◌++◌, take, List}
 use Rattle.std.specs.Prelude.{reverse}
-use Rattle.console_core.specs.declared.event.Event.{Event}
+use Rattle.console_core.specs.Types.{Event}
 use Rattle.console_core.specs.History.{Maps}
 use Rattle.console_core.proofs.replays.deliver_all.Given as goal
 

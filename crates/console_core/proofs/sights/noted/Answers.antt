@@ -1,5 +1,5 @@
 use Rattle.std.proofs.Common.{◌≡◌, refl, length, subst, arith, false}
-use Rattle.console_core.specs.declared.sights.Sights.{Sights}
+use Rattle.console_core.specs.Types.{Sights}
 use Rattle.console_core.specs.Inner.Searching.{under_of}
 use Rattle.console_core.specs.Inner.Noting.{AreNotesTo}
 use Rattle.console_core.proofs.Noting.{notes-none, notes-more}

@@ -2,7 +2,7 @@ use Rattle.std.proofs.Common.{◌++◌, List}
 use Rattle.std.specs.Prelude.{reverse}
 use Rattle.keymap_core.specs.Below.{gathered}
 use Rattle.console_core.specs.History.{Maps}
-use Rattle.console_core.specs.declared.event.Event.{Event}
+use Rattle.keymap_check.specs.Types.{Event}
 use Rattle.keymap_check.specs.Scripts.{event_at}
 use Rattle.keymap_check.proofs.demonstration.deliver.Given as goal
 

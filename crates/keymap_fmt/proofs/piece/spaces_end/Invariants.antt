@@ -1,5 +1,5 @@
 use Rattle.std.proofs.Common.{length, ◌-◌, ◌≡◌, ◌≤◌, drop}
-use Rattle.keymap_fmt.specs.declared.piece.Standing.{Standing}
+use Rattle.keymap_fmt.specs.Types.{Standing}
 use Rattle.keymap_fmt.specs.Pieces.{pieces_after}
 use Rattle.keymap_fmt.proofs.piece.spaces_end.Given as goal
 

@@ -1,4 +1,4 @@
-use Rattle.keymap_lint.specs.declared.diagnostic.Lint.TheVariants.{Faulty, Spelled}
+use Rattle.keymap_lint.specs.Types.{Faulty, Spelled}
 use Rattle.keymap_lint.proofs.Standing.{lies_within}
 use Rattle.keymap_lint.proofs.lint.diagnostics.Goals as goal
 

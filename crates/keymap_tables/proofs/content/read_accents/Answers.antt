@@ -1,6 +1,6 @@
 use Rattle.std.proofs.Common.{◌≡◌, List, [], arith, subst}
 use Rattle.keymap_core.specs.Accents.{AccentValue, blank}
-use Rattle.keymap_core.specs.declared.entry.Entry.{Entry}
+use Rattle.keymap_tables.specs.Types.{Entry}
 use Rattle.keymap_tables.specs.Faults.{accent_fault}
 use Rattle.keymap_tables.specs.Image.{accent_bytes}
 use Rattle.keymap_tables.specs.Inner.Taken.{IsAccentIn, made_of}

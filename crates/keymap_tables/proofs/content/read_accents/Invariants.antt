@@ -1,5 +1,5 @@
 use Rattle.std.proofs.Common.{◌*◌, List, []}
-use Rattle.keymap_core.specs.declared.entry.Entry.{Entry}
+use Rattle.keymap_tables.specs.Types.{Entry}
 use Rattle.keymap_tables.specs.Faults.{row_fault, accent_fault}
 use Rattle.keymap_tables.specs.Inner.Firsts.{HasNoFault}
 use Rattle.keymap_tables.specs.Inner.Taken.{IsAccentIn, made_of}

@@ -1,6 +1,6 @@
 use Rattle.std.proofs.Common.{◌≡◌, List, [], arith, subst}
 use Rattle.keymap_core.specs.Maps.{undefined}
-use Rattle.keymap_core.specs.declared.entry.Entry.{Entry}
+use Rattle.keymap_tables.specs.Types.{Entry}
 use Rattle.keymap_tables.specs.Faults.{slot_fault}
 use Rattle.keymap_tables.specs.Image.{slot_bytes}
 use Rattle.keymap_tables.specs.Inner.Taken.{IsEntryIn, made_of}

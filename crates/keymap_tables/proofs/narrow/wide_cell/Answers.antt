@@ -1,7 +1,7 @@
 use Rattle.std.proofs.Common.{arith, subst}
 use Rattle.std.proofs.lemmas.List.Elements.{All-from_get_or}
 use Rattle.keymap_core.specs.Maps.{undefined}
-use Rattle.keymap_core.specs.declared.entry.Entry.{Entry}
+use Rattle.keymap_tables.specs.Types.{Entry}
 use Rattle.keymap_tables.specs.Fits.{EntryFits}
 use Rattle.keymap_tables.specs.Inner.Firsts.{IsFirstColumn}
 use Rattle.keymap_tables.specs.Layouts.{narrow}

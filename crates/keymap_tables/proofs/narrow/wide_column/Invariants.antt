@@ -1,6 +1,6 @@
 use Rattle.std.proofs.Common.{ℕ, ◌<◌, ◌≤◌}
 use Rattle.std.specs.Prelude.{slice_index_or}
-use Rattle.keymap_core.specs.declared.entry.Cell.TheVariants.{Char}
+use Rattle.keymap_tables.specs.Types.{Char}
 use Rattle.keymap_tables.specs.Fits.{character_of}
 use Rattle.keymap_tables.proofs.narrow.wide_column.Given as goal
 

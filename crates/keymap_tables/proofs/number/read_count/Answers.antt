@@ -3,7 +3,7 @@ use Rattle.keymap_tables.proofs.Lifting.{none-past, first-past}
 use Rattle.keymap_tables.proofs.Outcomes.{err_passed}
 use Rattle.keymap_tables.proofs.Pads.{count-pad, count-front, count-whole}
 use Rattle.keymap_tables.specs.Faults.{count_at, count_fault}
-use Rattle.keymap_tables.specs.declared.fault.TableFaultKind.TheVariants.{BadPad}
+use Rattle.keymap_tables.specs.Types.{BadPad}
 use Rattle.keymap_tables.proofs.number.read_count.Goals as goal
 
 pub returns-in_err-check_zeros-clause-fault : goal.returns-in_err-check_zeros-clause-fault

@@ -1,6 +1,6 @@
 use Rattle.std.proofs.Common.{◌≡◌, List, [], ap, sym, subst, ◌∙◌}
 use Rattle.keymap_core.specs.Maps.{MapValue}
-use Rattle.keymap_core.specs.declared.entry.Entry.{Entry}
+use Rattle.keymap_tables.specs.Types.{Entry}
 use Rattle.keymap_core.specs.Bounds.{IsMap}
 use Rattle.keymap_tables.specs.Fits.{FitsIn}
 use Rattle.keymap_tables.specs.Image.{image_in}

@@ -15,7 +15,7 @@ use Rattle.keymap_tables.proofs.Pads.{drop-zeros}
 use Rattle.keymap_tables.proofs.Lifting.{first-past, none-past}
 use Rattle.keymap_tables.specs.Faults.{accent_fault, number_at, char_fault}
 use Rattle.keymap_tables.specs.Inner.Firsts.{HasNoFault}
-use Rattle.keymap_tables.specs.declared.fault.TableFaultKind.TheVariants.{NotEmpty}
+use Rattle.keymap_tables.specs.Types.{NotEmpty}
 use Rattle.keymap_tables.proofs.Pairs.{accent-past, accent-more, accent-first, pairs-more, accent-whole}
 use Rattle.keymap_tables.proofs.Sizes.{some-number, pair-begins, pair-below, result-begins, result-below, pair-next}
 use Rattle.keymap_tables.proofs.Sizes.{pair-inside, pairs-inside, none-over, at-pair}

@@ -5,7 +5,7 @@ use Rattle.keymap_tables.proofs.Lifting.{none-past, first-past}
 use Rattle.keymap_tables.proofs.Outcomes.{err_passed}
 use Rattle.keymap_tables.specs.Faults.{slot_fault}
 use Rattle.keymap_tables.specs.Layouts.{number_size, slot_size}
-use Rattle.keymap_tables.specs.declared.fault.TableFaultKind.TheVariants.{BadPad}
+use Rattle.keymap_tables.specs.Types.{BadPad}
 use Rattle.keymap_tables.proofs.read_slot.read_slot.Goals as goal
 
 pub returns-in_default-clause-fault : goal.returns-in_default-clause-fault

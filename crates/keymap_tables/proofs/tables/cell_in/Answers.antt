@@ -1,6 +1,6 @@
 use Rattle.std.proofs.Common.{arith, ◌∙◌, ◌*◌, ap, List, ℕ, get_or}
 use Rattle.std.proofs.lemmas.List.Elements.{All-get_or}
-use Rattle.keymap_core.specs.declared.entry.Cell.TheVariants.{Char}
+use Rattle.keymap_tables.specs.Types.{Char}
 use Rattle.keymap_core.specs.Bounds.{IsCell}
 use Rattle.keymap_tables.specs.Faults.{number_at, is_marked_at}
 use Rattle.keymap_tables.specs.Layouts.{wide}

@@ -4,8 +4,7 @@ use Rattle.keymap_text.specs.Tokens.{token_view}
 use Rattle.keymap_text.specs.Inner.Views.{grammar_view}
 use Rattle.keymap_text.specs.Inner.Grammar as spec
 use Rattle.keymap_text.proofs.Judged.{follows_if, ends_if, judged_on, judged_not, judged_stop, judged_map}
-use Rattle.keymap_text.proofs.Judged.{judged_inside}
-use Rattle.keymap_text.proofs.Judged.{passed_on}
+use Rattle.keymap_text.proofs.Judged.{judged_inside, passed_on}
 use Rattle.keymap_text.proofs.defining.read_into.Goals as goal
 
 pub loop-token-init : goal.loop-token-init

@@ -1,5 +1,5 @@
 use Rattle.std.proofs.Common.{rules, arith, refl, subst, Err, sym}
-use Rattle.keymap_text.specs.declared.fault.TextError.{TextError}
+use Rattle.keymap_text.specs.Types.{TextError}
 use Rattle.keymap_text.specs.Sources.{ReadsMap, limit}
 use Rattle.keymap_text.proofs.Feeding.{fed_none, fed_more, fed_early, fed_whole, fed_fails, fed_past}
 use Rattle.keymap_text.proofs.Feeding.{at_once_more, at_once_whole}

@@ -1,7 +1,7 @@
 use Rattle.std.proofs.Common.{◌≡◌, ℕ, List, true, false, cond, length, None, refl, sym, ◌∙◌, ap, ◌==◌, eq-eqb}
 use Rattle.std.proofs.Common.{slice_index}
 use Rattle.bstr.specs.Utf8.{decoded, Decoded}
-use Rattle.keymap_text.specs.declared.token.TokenKind.TheVariants.{Literal}
+use Rattle.keymap_text.specs.Types.{Literal}
 use Rattle.keymap_text.specs.Lexical.{literal, is_lone, quoted, Unfinished, Found}
 use Rattle.keymap_text.proofs.token.literal_front.Goals as goal
 

@@ -1,6 +1,6 @@
 use Rattle.std.proofs.Common.{◌≡◌, List, ℕ, None, Some, codes, sym, ◌∙◌, ap, refl}
 use Rattle.keymap_core.specs.Names.{named_of}
-use Rattle.keymap_text.specs.declared.words.Meaning.{Meaning}
+use Rattle.keymap_text.specs.Types.{Meaning}
 use Rattle.keymap_text.specs.Words.{meaning, named, table, digits_of, number_after, of_action}
 use Rattle.keymap_text.proofs.words.word_meaning.Goals as goal
 

@@ -1,6 +1,6 @@
 use Rattle.std.proofs.Common.{◌≡◌, ◌++◌, List, take}
 use Rattle.std.specs.Prelude.{reverse, filter}
-use Rattle.console_core.specs.declared.event.Event.{Event}
+use Rattle.play_core.specs.Types.{Event}
 use Rattle.console_core.specs.History.{Maps, answers_to}
 use Rattle.play_core.specs.Typing.{types_something}
 use Rattle.play_core.specs.Inner.Effects.{typed_by_all}

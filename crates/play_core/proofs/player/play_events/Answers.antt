@@ -1,6 +1,6 @@
 use Rattle.std.proofs.Common.{List, [], ◌∷◌, ◌++◌, take, length, refl, sym, ap, subst, ◌∙◌, arith}
 use Rattle.std.specs.Prelude.{reverse}
-use Rattle.console_core.specs.declared.event.Event.{Event}
+use Rattle.play_core.specs.Types.{Event}
 use Rattle.keymap_core.proofs.Gathering.{Gathers-start, Gathers-same, Gathers-more, StopsIn-more, passed_on}
 use Rattle.play_core.specs.Delivery.{delivered}
 use Rattle.play_core.proofs.Texts.{text-nil, text-more, text-rest, delivered-more}

@@ -1,7 +1,7 @@
 use Rattle.std.proofs.Common.{◌≡◌, ◌≤◌, ◌*◌, ◌+◌, ◌++◌, List, length, take}
 use Rattle.std.specs.Prelude.{reverse}
 use Rattle.keymap_core.specs.Streams.{Gathers}
-use Rattle.console_core.specs.declared.event.Event.{Event}
+use Rattle.play_core.specs.Types.{Event}
 use Rattle.console_core.specs.History.{Maps}
 use Rattle.play_core.specs.Delivery.{delivered}
 use Rattle.play_core.specs.Written.{text_after}

@@ -1,6 +1,6 @@
 use Rattle.std.proofs.Common.{◌≡◌, ◌+◌, ◌++◌, ◌∷◌, [], false, length, subst, arith, length-append}
 use Rattle.std.proofs.lemmas.Result.{err_from_is_err_and}
-use Rattle.play_core.specs.declared.sent.Sent.{Sent}
+use Rattle.play_core.specs.Types.{Sent}
 use Rattle.play_core.specs.Inner.Readings.{IsReadTo}
 use Rattle.play_core.proofs.ScriptLines.{read-more, read-out}
 use Rattle.play_core.proofs.script.read_plain_lines.Goals as goal

@@ -1,7 +1,7 @@
 use Rattle.std.proofs.Common.{◌+◌, ◌-◌, take, refl, ap, subst, ◌∙◌, arith, Some, None, Ok, Err}
 use Rattle.std.proofs.lemmas.Result.{err_from_is_err_and}
 use Rattle.play_core.specs.Scripts.{AreEvents, lines_of, words_of}
-use Rattle.play_core.specs.declared.script_line.LineFault.TheVariants.{Form, Key}
+use Rattle.play_core.specs.Types.{Form, Key}
 use Rattle.play_core.proofs.Sending.{reading_is}
 use Rattle.play_core.proofs.ScriptLines.{lines_more, blank_more, event_more, fault_at, out_at, next_part}
 use Rattle.play_core.proofs.ScriptLines.{after_split, no_part, parts_left, read-on, read-few}

@@ -1,6 +1,6 @@
 -- no modifier below the place is held by the key
 use Rattle.std.proofs.Common.{◌≡◌, ◌<◌, ℕ}
-use Rattle.keymap_core.specs.declared.action.Modifier.{Modifier}
+use Rattle.console_core.specs.Types.{Modifier}
 use Rattle.keymap_core.specs.Actions.{modifier_index}
 use Rattle.console_core.specs.Moves.{Holds}
 use Rattle.console_core.specs.Inner.Searching.{state_of}

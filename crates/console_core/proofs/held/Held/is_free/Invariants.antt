@@ -1,6 +1,6 @@
 -- no modifier below the place is held
 use Rattle.std.proofs.Common.{◌≡◌, ◌<◌, ℕ, None}
-use Rattle.keymap_core.specs.declared.action.Modifier.{Modifier}
+use Rattle.console_core.specs.Types.{Modifier}
 use Rattle.keymap_core.specs.Actions.{modifier_index}
 use Rattle.console_core.specs.Inner.Searching.{state_of}
 use Rattle.console_core.proofs.held.Held.is_free.Given as goal

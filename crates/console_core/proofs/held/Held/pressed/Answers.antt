@@ -1,5 +1,5 @@
 use Rattle.std.proofs.Common.{ap, subst, sym, ◌∙◌}
-use Rattle.keymap_core.specs.declared.entry.Cell.TheVariants.{Act}
+use Rattle.console_core.specs.Types.{Act}
 use Rattle.console_core.specs.Inner.Searching.{state_of, under_of, IsMetBy}
 use Rattle.console_core.proofs.Searching.{pressed-mod, pressed-lock}
 use Rattle.console_core.proofs.held.Held.pressed.Goals as goal

@@ -1,7 +1,7 @@
 use Rattle.std.proofs.Common.{◌<◌, [], ◌∷◌, ◌++◌, take, ap, sym, ◌∙◌, arith, append_assoc}
 use Rattle.std.proofs.lemmas.List.{append-nil}
 use Rattle.keymap_core.specs.Actions.{modifiers}
-use Rattle.console_core.specs.declared.event.Event.TheVariants.{Release}
+use Rattle.console_core.specs.Types.{Release}
 use Rattle.console_core.specs.Moves.{releases, release_of}
 use Rattle.console_core.specs.Inner.Searching.{state_of}
 use Rattle.console_core.proofs.GoingBack.{releases-more}

@@ -1,7 +1,7 @@
 -- no press sees it under a selection below the place
 use Rattle.std.proofs.Common.{◌≡◌, ◌<◌, ℕ, get_or}
 use Rattle.keymap_core.specs.Numbers.{key_count}
-use Rattle.console_core.specs.declared.selection.Selection.{Selection}
+use Rattle.console_core.specs.Types.{Selection}
 use Rattle.console_core.specs.Sights.{SeesBy}
 use Rattle.console_core.proofs.sights.Sights.is_selected.Given as goal
 

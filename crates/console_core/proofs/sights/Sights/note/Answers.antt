@@ -1,6 +1,6 @@
 use Rattle.std.proofs.Common.{true, refl, subst, inl, inr}
 use Rattle.console_core.specs.Sights.{selection_of}
-use Rattle.console_core.specs.declared.sights.Sights.{Sights}
+use Rattle.console_core.specs.Types.{Sights}
 use Rattle.console_core.specs.Inner.Searching.{state_of, under_of}
 use Rattle.console_core.specs.Inner.Noting.{IsWith}
 use Rattle.console_core.proofs.Noting.{notes-added}

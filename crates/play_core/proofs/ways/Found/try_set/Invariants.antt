@@ -1,6 +1,6 @@
 use Rattle.std.proofs.Common.{List, ◌++◌}
 use Rattle.keymap_core.specs.Below.{gathered}
-use Rattle.console_core.specs.declared.event.Event.{Event}
+use Rattle.play_core.specs.Types.{Event}
 use Rattle.play_core.specs.HeldKeys.{combinations_of}
 use Rattle.play_core.specs.Inner.Tables.{AreTablesOf}
 use Rattle.play_core.proofs.ways.Found.try_set.Given as goal

@@ -2,7 +2,7 @@
 use Prim.Native.Nat.{zero, suc}
 use Rattle.std.proofs.Common.{◌≡◌, ℕ, ◌<◌, ◌≤◌, List, [], ◌∷◌, Option, refl, ap, sym, ◌∙◌, arith, length, subst}
 use Rattle.std.proofs.lemmas.Bool.{true≢false}
-use Rattle.std.specs.Prelude.{slice_get, slice_index_or, IsNone, IfSome, ◌↔◌}
+use Rattle.std.specs.Prelude.{slice_get, slice_index_or, IsNone, IfSome}
 use Rattle.keymap_core.specs.Maps.{MapValue}
 use Rattle.keymap_core.specs.Numbers.{key_count}
 use Rattle.keymap_check.specs.Types.{Finding}

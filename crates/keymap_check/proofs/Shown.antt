@@ -12,7 +12,6 @@ use Rattle.keymap_core.specs.declared.action.Holding.TheVariants as holding
 use Rattle.keymap_core.specs.Actions.{modifier_index}
 use Rattle.keymap_core.specs.Maps.{MapValue, cell_at}
 use Rattle.keymap_core.specs.Bearers.{IsCellOf, IsUpperLive}
-use Rattle.keymap_core.specs.Borne.{any_below}
 use Rattle.keymap_core.specs.Below.{gathered}
 use Rattle.keymap_core.proofs.Below.{first_below-some}
 use Rattle.console_core.specs.Resolved.{on, held, locked, remembered, look, resolve_press}
@@ -147,7 +146,7 @@ alone-script o p q r k = refl
 
 -- no key is lacking for the empty set
 alone-complete : (o p q r : Option ℕ) → lacks_key (o ∷ p ∷ q ∷ r ∷ []) 0 0 ≡ false
-unfolding lacks_key any_below
+unfolding lacks_key
 alone-complete o p q r = refl
 
 -- a set that names the group's bit alone
@@ -158,22 +157,22 @@ HasSet keys k j =
 
 -- the key of the first bit has a set
 set-0 : (p q r : Option ℕ) (k j : ℕ) → HasSet (Some j ∷ p ∷ q ∷ r ∷ []) k j
-unfolding gathered lacks_key any_below
+unfolding gathered lacks_key
 set-0 p q r k j = (1, lit< tt, refl, refl)
 
 -- the key of the second bit has a set
 set-1 : (p q r : Option ℕ) (k j : ℕ) → HasSet (p ∷ Some j ∷ q ∷ r ∷ []) k j
-unfolding gathered lacks_key any_below
+unfolding gathered lacks_key
 set-1 p q r k j = (2, lit< tt, refl, refl)
 
 -- the key of the third bit has a set
 set-2 : (p q r : Option ℕ) (k j : ℕ) → HasSet (p ∷ q ∷ Some j ∷ r ∷ []) k j
-unfolding gathered lacks_key any_below
+unfolding gathered lacks_key
 set-2 p q r k j = (4, lit< tt, refl, refl)
 
 -- the key of the fourth bit has a set
 set-3 : (p q r : Option ℕ) (k j : ℕ) → HasSet (p ∷ q ∷ r ∷ Some j ∷ []) k j
-unfolding gathered lacks_key any_below
+unfolding gathered lacks_key
 set-3 p q r k j = (8, lit< tt, refl, refl)
 
 -- the key of each bit has a set

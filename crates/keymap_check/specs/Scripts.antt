@@ -4,7 +4,6 @@ use Rattle.std.specs.Prelude.{None, Some, if◌then◌else◌, reverse, slice_in
 use Rattle.std.specs.Option.{is_some, is_none}
 use Rattle.keymap_core.specs.Maps.{MapValue}
 use Rattle.keymap_core.specs.Numbers.{key_count}
-use Rattle.keymap_core.specs.Borne.{any_below}
 use Rattle.keymap_core.specs.Below.{first_below, gathered}
 use Rattle.keymap_check.specs.Types.{Event, Press, Release, Group, Finding}
 use Rattle.console_core.specs.History.{between, is_any_on_after}
@@ -69,7 +68,8 @@ abbrev pub is_lacking : List (Option ℕ) → ℕ → ℕ → ℕ → Bool
 is_lacking keys a b bit = (has_bit a bit || has_bit b bit) && is_none (bit_key_at keys bit)
 
 unfoldable pub lacks_key : List (Option ℕ) → ℕ → ℕ → Bool
-lacks_key keys a b = any_below (is_lacking keys a b) 4
+lacks_key keys a b =
+    is_lacking keys a b 0 || is_lacking keys a b 1 || is_lacking keys a b 2 || is_lacking keys a b 3
 
 abbrev pub scripts_of : List (Option ℕ) → ℕ → ℕ → ℕ → List (List Event)
 scripts_of keys k a b = if lacks_key keys a b then [] else script keys k a b ∷ []

@@ -8,7 +8,7 @@ ghost use Rattle.keymap_core.specs.Numbers.{key_count};
 
 use crate::kind::Kind;
 use crate::survey::Survey;
-use keymap_core::{Holding, KEY_COUNT, KeyCode};
+use keymap_core::{Holding, KEY_COUNT, KeyCode, key_with};
 
 /// Which key bears a holding action.
 #[derive(Clone, Copy, Debug, PartialEq, Eq)]
@@ -21,17 +21,6 @@ pub enum Bearer {
     Sole(KeyCode),
     /// More than one key bears it.
     Several,
-}
-
-/// The key with this code.
-pub(crate) fn key_with(code: u8) -> KeyCode
-    requires { code < key_count }
-    ensures { result ≡ code }
-{
-    match KeyCode::new(code) {
-        Some(key) => key,
-        None => unreachable!(),
-    }
 }
 
 /// The key that bears the action, if no other key does.

@@ -59,10 +59,5 @@ pub(crate) fn first_place<K: Keymap>(map: &K, places: u8, key: u8, kind: Kind) -
         → result ≡ first_place_of m kind key }
     ensures in_range { IfSome result (λ place. place < 16) }
 {
-    for place in 0..places {
-        if kind.fits(cell_of(map, key, place)) {
-            return Some(place);
-        }
-    }
-    None
+    (0..places).find(|place| kind.fits(cell_of(map, key, *place)))
 }

@@ -12,12 +12,11 @@ ghost use Rattle.keymap_check.specs.Scripts.{tried_at, demonstration_of};
 ghost use Rattle.keymap_check.specs.Inner.Surveyed.{IsSurvey};
 ghost use Rattle.keymap_check.specs.Shown.{HasShownTrap};
 
-use crate::bearer::key_with;
 use crate::finding::is_found;
 use crate::script::{BitKeys, Script, bit_keys, event_at, lacks_key, make_script};
 use crate::survey::Survey;
 use console_core::{Event, Translator, WordConsole, is_any_on};
-use keymap_core::{KEY_COUNT, KeyCode, KeyMap};
+use keymap_core::{KEY_COUNT, KeyCode, KeyMap, key_with};
 
 /// Delivers presses or releases of the keys of the bits that are in the set and not in the other one.
 #[inline(always)]

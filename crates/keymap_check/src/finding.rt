@@ -7,12 +7,11 @@ ghost use Rattle.keymap_check.specs.Inner.Surveyed.{IsSurvey};
 ghost use Rattle.keymap_core.specs.Maps.{MapValue};
 ghost use Rattle.keymap_core.specs.Numbers.{key_count};
 
-use crate::bearer::key_with;
 use crate::cells::{cell_of, column, slot};
 use crate::kind::Kind;
 use crate::survey::Survey;
 use arrayvec::ArrayVec;
-use keymap_core::{Cell, Holding, KEY_COUNT, KeyCode, Keymap, Modifier};
+use keymap_core::{Cell, Holding, KEY_COUNT, KeyCode, Keymap, Modifier, key_with};
 use std::default::MadeWith;
 
 /// Where a cell stands: its slot, 0 to 255, and its column, 0 to 7.

@@ -10,12 +10,11 @@ ghost use Rattle.keymap_check.specs.Inner.Surveyed.{IsSurvey};
 ghost use Rattle.keymap_core.specs.Maps.{MapValue};
 ghost use Rattle.keymap_core.specs.Numbers.{key_count};
 
-use crate::bearer::key_with;
 use crate::kind::{Group, Kind};
 use crate::survey::Survey;
 use arrayvec::ArrayVec;
 use console_core::Event;
-use keymap_core::{KEY_COUNT, KeyCode};
+use keymap_core::{KEY_COUNT, KeyCode, key_with};
 
 /// The events that a demonstration delivers, in their order.
 pub type Script = ArrayVec<Event, 11>;
@@ -151,13 +150,12 @@ fn is_lacking(keys: &BitKeys, a: u8, b: u8, bit: u8) -> bool
 }
 
 /// Whether the sets name a bit that has no key.
+#[tactic(auto, unfolding(crate::specs::Scripts::lacks_key))]
 pub(crate) fn lacks_key(keys: &BitKeys, a: u8, b: u8) -> bool
     ensures { result ≡ lacks_key_of keys.now a b }
 {
-    for bit in 0..4 {
-        if is_lacking(keys, a, b, bit) {
-            return true;
-        }
-    }
-    false
+    is_lacking(keys, a, b, 0)
+        || is_lacking(keys, a, b, 1)
+        || is_lacking(keys, a, b, 2)
+        || is_lacking(keys, a, b, 3)
 }

@@ -5,7 +5,7 @@ use Rattle.std.proofs.Common.{Option, Some, None, refl, ap, subst, sym, ◌∙�
 use Rattle.std.proofs.Common.{add-one}
 use Rattle.std.proofs.lemmas.Bool.{cases_eq}
 use Rattle.std.proofs.lemmas.Option.{none-some, same_Some}
-use Rattle.std.specs.Option.{option_or}
+use Rattle.std.specs.Option.{option_or, MatchOption}
 use Rattle.keymap_core.specs.Below.{first_below, gathered}
 
 -- a number below n + 1 is below n, or n
@@ -86,6 +86,24 @@ unfolding first_below
 first_below-some test zero i e = absurd (none-some i e)
 first_below-some test (suc n) i e =
     some-by test n i (first_below test n) (test n) refl (first_below-no test n) (first_below-some test n i) e
+
+-- where none below n passes, no first number is found
+first_below-nowhere : (test : ℕ → Bool) (n : ℕ) → NoneBelow test n → first_below test n ≡ None
+unfolding first_below
+first_below-nowhere test zero h = refl
+first_below-nowhere test (suc n) h =
+    let before : NoneBelow test n = λ j lt. h j (omega arith) in
+    let here : test n ≡ false = h n (omega arith) in
+    rw (first_below-nowhere test n before, here) refl
+
+-- what is found over the numbers below n, from 0 on, is the first
+pub first_below-is : (test : ℕ → Bool) (n : ℕ) (r : Option ℕ)
+    → MatchOption r ((k : ℕ) → 0 ≤ k → k < n → test k ≡ false)
+    (λ i. (0 ≤ i) × (i < n) × (test i ≡ true) × ((k : ℕ) → 0 ≤ k → k < i → test k ≡ false))
+    → r ≡ first_below test n
+first_below-is test n None h = sym (first_below-nowhere test n (λ k lt. h k (omega arith) lt))
+first_below-is test n (Some i) h =
+    sym (first_below-found test i n h.1 (first_below-nowhere test i (λ k lt. h.3 k (omega arith) lt)) h.2)
 
 -- nothing is gathered below 0
 pub gathered-none : {A : Type 0} (f : ℕ → List A) → gathered f 0 ≡ []

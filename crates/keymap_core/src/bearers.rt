@@ -73,6 +73,13 @@ impl KeyMap {
         is_upper_live_in(self)
     }
 
+    /// Whether some cell of the slot is the holding action.
+    pub fn has_in_slot(&self, holding: Holding, slot: u8) -> bool
+        ensures { result ≡ has_in_slot_of self.now (holding_action holding) slot }
+    {
+        has_in_slot(self, holding, slot)
+    }
+
     /// Whether some key bears the holding action, in a cell of its slot or, where the slots 128 to 255 are live, of the
     /// slot 128 higher.
     pub fn is_borne(&self, holding: Holding) -> bool

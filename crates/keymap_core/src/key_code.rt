@@ -45,3 +45,11 @@ impl KeyCode {
         self.code
     }
 }
+
+/// The key with this code.
+pub fn key_with(code: u8) -> KeyCode
+    requires { code < key_count }
+    ensures { result ≡ code }
+{
+    KeyCode { code }
+}

@@ -44,7 +44,7 @@ pub use definitions::Definitions;
 pub use device::{Failed, Read, Write};
 pub use entry::{Cell, Entry, LockFlag};
 pub use from_std::FromStd;
-pub use key_code::KeyCode;
+pub use key_code::{KeyCode, key_with};
 pub use keymap::Keymap;
 pub use limits::{ACCENT_LIMIT, COLUMN_COUNT, KEY_COUNT, PAIR_LIMIT, SLOT_LIMIT};
 pub use map::{BadAccent, KeyMap};

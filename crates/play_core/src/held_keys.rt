@@ -2,16 +2,15 @@
 ghost use Rattle.std.specs.Prelude.{◌≡◌, ℕ, ◌<◌, ◌≤◌, ◌+◌, ◌++◌, [], ◌∷◌, map, MatchOption, slice_index_or};
 ghost use Rattle.std.specs.Prelude.{false, None};
 ghost use Rattle.arrayvec.specs.ArrayVec.{array_vec_len};
-ghost use Rattle.keymap_core.specs.Maps.{MapValue, cell_at};
-ghost use Rattle.keymap_core.specs.Borne.{is_cell_of_action, has_in_slot as has_in_slot_of};
+ghost use Rattle.keymap_core.specs.Maps.{MapValue};
 ghost use Rattle.keymap_core.specs.Borne.{is_upper_live as is_upper_live_of};
-ghost use Rattle.keymap_core.specs.Numbers.{key_count, column_count};
+ghost use Rattle.keymap_core.specs.Numbers.{key_count};
 ghost use Rattle.play_core.specs.HeldKeys as spec;
 ghost use Rattle.play_core.specs.Inner.HeldTables.{AreHeldKeys};
 
 use arrayvec::ArrayVec;
 use console_core::Event;
-use keymap_core::{Action, COLUMN_COUNT, Cell, KEY_COUNT, KeyCode, KeyMap, Modifier};
+use keymap_core::{Holding, KEY_COUNT, KeyCode, KeyMap, Modifier, key_with};
 
 /// The events that type a character: a key, and before it perhaps a dead key, each with at most four held keys.
 pub type Way = ArrayVec<Event, 20>;
@@ -19,42 +18,15 @@ pub type Way = ArrayVec<Event, 20>;
 /// The keys that are held for the four bits of a set: shift, control, alt and ashift.
 pub(crate) type BitKeys = [Option<KeyCode>; 4];
 
-fn cell(map: &KeyMap, slot: u8, column: usize) -> Cell
-    requires { column < column_count }
-    ensures { result ≡ cell_at map.now slot column }
-{
-    map.entry(slot).cells()[column]
-}
-
-fn is_modifier(cell: Cell, modifier: Modifier) -> bool
-    ensures { result ≡ is_cell_of_action (Action.Mod modifier) cell }
-{
-    match cell {
-        Cell::Char(_) => false,
-        Cell::Act(action) => action == Action::Mod(modifier),
-    }
-}
-
-/// Whether some cell of the slot is the modifier.
-fn has_in_slot(map: &KeyMap, modifier: Modifier, slot: u8) -> bool
-    ensures { result ≡ has_in_slot_of map.now (Action.Mod modifier) slot }
-{
-    for column in 0..COLUMN_COUNT {
-        if is_modifier(cell(map, slot, column), modifier) {
-            return true;
-        }
-    }
-    false
-}
-
 /// Whether some cell of the key is the modifier.
 fn bears(map: &KeyMap, is_upper_live: bool, modifier: Modifier, key: u8) -> bool
     requires live { is_upper_live ≡ is_upper_live_of map.now }
     requires is_key { key < key_count }
     ensures { result ≡ spec.bears_modifier map.now modifier key }
 {
-    has_in_slot(map, modifier, key)
-        || (is_upper_live && has_in_slot(map, modifier, key + KEY_COUNT as u8))
+    let holding = Holding::Mod(modifier);
+    map.has_in_slot(holding, key)
+        || (is_upper_live && map.has_in_slot(holding, key + KEY_COUNT as u8))
 }
 
 /// Whether some cell of the key is a modifier of the bit.
@@ -91,17 +63,6 @@ fn bearers(map: &KeyMap, is_upper_live: bool, bit: u8) -> [bool; KEY_COUNT]
         bearers[key as usize] = bears_bit(map, is_upper_live, bit, key);
     }
     bearers
-}
-
-/// The key with this code.
-fn key_with(code: u8) -> KeyCode
-    requires { code < key_count }
-    ensures { result ≡ code }
-{
-    match KeyCode::new(code) {
-        Some(key) => key,
-        None => unreachable!(),
-    }
 }
 
 /// Whether the key can be held for the bit while the other one is pressed.

@@ -1,4 +1,3 @@
-use Rattle.std.proofs.Common.{◌∙◌}
 use Rattle.keymap_check.proofs.FirstFinding.{first_of, none_of, of_none}
 use Rattle.keymap_check.proofs.report.first_finding.Goals as goal
 

@@ -1,79 +1,34 @@
-use Rattle.std.proofs.Common.{◌≡◌, ◌<◌, ap, arith, length, lit<}
+use Rattle.std.proofs.Common.{◌<◌, ap, arith, length, lit<}
 use Rattle.arrayvec.specs.ArrayVec.{array_vec_len}
 use Rattle.keymap_check.proofs.Lengths.{room}
 use Rattle.keymap_check.proofs.script.make_script.Goals as goal
 
 pub push_events-requires : goal.push_events-requires
-push_events-requires c =
-    let e : array_vec_len c.new-script.result ≡ 0 = ap length c.new-script.ensures in
-    omega (arith, e, room c.args.keys.now c.args.a c.args.b)
+push_events-requires c = omega (arith, ap length c.new-script.ensures, room c.args.keys.now c.args.a c.args.b)
 
 pub push-requires : goal.push-requires
 push-requires c =
-    let e : array_vec_len c.new-script.result ≡ 0 = ap length c.new-script.ensures in
     let lt : array_vec_len c.push_events.new.script < 11 =
-    omega (arith, e, room c.args.keys.now c.args.a c.args.b, c.push_events.ensures.len) in
+    omega (arith, ap length c.new-script.ensures, room c.args.keys.now c.args.a c.args.b) in
     (lit< tt, lt)
 
 pub push_events-requires-2 : goal.push_events-requires-2
-push_events-requires-2 c =
-    let e : array_vec_len c.new-script.result ≡ 0 = ap length c.new-script.ensures in
-    omega (arith, e, room c.args.keys.now c.args.a c.args.b, c.push_events.ensures.len, c.push.ensures.len)
+push_events-requires-2 c = omega (arith, ap length c.new-script.ensures, room c.args.keys.now c.args.a c.args.b)
 
 pub push_events-requires-3 : goal.push_events-requires-3
-push_events-requires-3 c =
-    let e : array_vec_len c.new-script.result ≡ 0 = ap length c.new-script.ensures in
-    omega (
-      arith,
-      e,
-      room c.args.keys.now c.args.a c.args.b,
-      c.push_events.ensures.len,
-      c.push.ensures.len,
-      c.push_events-2.ensures.len,
-    )
+push_events-requires-3 c = omega (arith, ap length c.new-script.ensures, room c.args.keys.now c.args.a c.args.b)
 
 pub push-requires-2 : goal.push-requires-2
 push-requires-2 c =
-    let e : array_vec_len c.new-script.result ≡ 0 = ap length c.new-script.ensures in
     let lt : array_vec_len c.push_events-3.new.script < 11 =
-    omega (
-      arith,
-      e,
-      room c.args.keys.now c.args.a c.args.b,
-      c.push_events.ensures.len,
-      c.push.ensures.len,
-      c.push_events-2.ensures.len,
-      c.push_events-3.ensures.len,
-    ) in
+    omega (arith, ap length c.new-script.ensures, room c.args.keys.now c.args.a c.args.b) in
     (lit< tt, lt)
 
 pub push-requires-3 : goal.push-requires-3
 push-requires-3 c =
-    let e : array_vec_len c.new-script.result ≡ 0 = ap length c.new-script.ensures in
     let lt : array_vec_len c.push-2.new.self < 11 =
-    omega (
-      arith,
-      e,
-      room c.args.keys.now c.args.a c.args.b,
-      c.push_events.ensures.len,
-      c.push.ensures.len,
-      c.push_events-2.ensures.len,
-      c.push_events-3.ensures.len,
-      c.push-2.ensures.len,
-    ) in
+    omega (arith, ap length c.new-script.ensures, room c.args.keys.now c.args.a c.args.b) in
     (lit< tt, lt)
 
 pub push_events-requires-4 : goal.push_events-requires-4
-push_events-requires-4 c =
-    let e : array_vec_len c.new-script.result ≡ 0 = ap length c.new-script.ensures in
-    omega (
-      arith,
-      e,
-      room c.args.keys.now c.args.a c.args.b,
-      c.push_events.ensures.len,
-      c.push.ensures.len,
-      c.push_events-2.ensures.len,
-      c.push_events-3.ensures.len,
-      c.push-2.ensures.len,
-      c.push-3.ensures.len,
-    )
+push_events-requires-4 c = omega (arith, ap length c.new-script.ensures, room c.args.keys.now c.args.a c.args.b)

@@ -5,8 +5,8 @@ ghost use Rattle.keymap_core.specs.Actions.{locks};
 ghost use Rattle.play_core.specs.Types.{Event as EventValue};
 ghost use Rattle.console_core.specs.History.{Maps, answers_to};
 ghost use Rattle.keymap_core.specs.Maps.{MapValue};
-ghost use Rattle.play_core.specs.Typing.{character_typed_by, accent_left_by, types_something, alone};
-ghost use Rattle.play_core.specs.Inner.Effects.{IsTrial, typed_by_all, one_more, effect_by as effect_by_of};
+ghost use Rattle.play_core.specs.Typing.{types_something, alone};
+ghost use Rattle.play_core.specs.Inner.Effects.{IsTrial, HasEffect, typed_by_all, one_more, effect_by as effect_by_of};
 ghost use Rattle.play_core.specs.Inner.Effects.{character_in, accent_in};
 
 use console_core::{Answer, Event, Translator, WordConsole, is_any_on};
@@ -106,10 +106,7 @@ fn effect_by(typed: Typed, pending: Option<u8>) -> Effect
 
 /// What the way does to a new console.
 fn effect_in<T: Translator>(console: &mut T, way: &[Event]) -> Effect
-    ensures character { (m : MapValue) → IsTrial m way.now → T.stands console.old (alone m) []
-        → character_typed_by m way.now ≡ character_in result }
-    ensures accent { (m : MapValue) → IsTrial m way.now → T.stands console.old (alone m) []
-        → accent_left_by m way.now ≡ accent_in result }
+    ensures { (m : MapValue) → IsTrial m way.now → T.stands console.old (alone m) [] → HasEffect m way.now result }
 {
     let typed = deliver(console, way);
     if is_any_on(console) {
@@ -124,8 +121,7 @@ fn effect_in<T: Translator>(console: &mut T, way: &[Event]) -> Effect
 /// What the way does to a new console of the keymap.
 pub(crate) fn effect_of(map: &KeyMap, way: &[Event]) -> Effect
     requires { IsTrial map.now way.now }
-    ensures character { character_typed_by map.now way.now ≡ character_in result }
-    ensures accent { accent_left_by map.now way.now ≡ accent_in result }
+    ensures { HasEffect map.now way.now result }
 {
     effect_in(&mut WordConsole::new(map), way)
 }

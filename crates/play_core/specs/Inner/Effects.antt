@@ -8,7 +8,7 @@ use Rattle.play_core.specs.declared.effect.Typed.TheVariants as typed
 use Rattle.play_core.specs.declared.effect.Effect.{Effect}
 use Rattle.play_core.specs.declared.effect.Effect.TheVariants as effect
 use Rattle.play_core.specs.HeldKeys.{combination}
-use Rattle.play_core.specs.Typing.{is_at_rest}
+use Rattle.play_core.specs.Typing.{is_at_rest, character_typed_by, accent_left_by}
 
 -- what one answer that types something types
 abbrev pub typed_by_one : Answer → Typed
@@ -39,6 +39,10 @@ character_in _ = None
 abbrev pub accent_in : Effect → Option ℕ
 accent_in (effect.Accent i) = Some i
 accent_in _ = None
+
+-- the way types the character of the effect, and leaves its accent pending
+abbrev pub HasEffect : MapValue → List Event → Effect → Type 0
+HasEffect m way e = (character_typed_by m way ≡ character_in e) × (accent_left_by m way ≡ accent_in e)
 
 abbrev pub effect_by : Typed → Option ℕ → Effect
 effect_by (typed.Character c) None = effect.Character c

@@ -30,7 +30,7 @@ returns c = λ ways t.
     (subst (λ w. IsTableOf (character_typed_by c.args.map.now) (ways ++ w ∷ []) c.note_if.new.table.entries)
     c.join-way.ensures
     (c.in_ok-note_if.ensures (character_typed_by c.args.map.now) ways
-    (ap (character_typed_by c.args.map.now) (sym c.as_slice.ensures.value) ∙ c.effect_of.ensures.character
+    (ap (character_typed_by c.args.map.now) (sym c.as_slice.ensures.value) ∙ c.effect_of.ensures.0
     ∙ sym c.character.ensures) t))
 
 pub returns-in_default : goal.returns-in_default

@@ -14,10 +14,10 @@ pub returns-in_ok-note_if-2 : goal.returns-in_ok-note_if-2
 returns-in_ok-note_if-2 c = λ ways t.
     tables-more c.args.map.now ways (combinations_of c.args.map.now c.args.set c.args.key) c.in-Some.way.items _ _ _ _
     (λ f ws e x. c.in_ok-note_if.ensures f ws
-    (e ∙ ap (character_typed_by c.args.map.now) (sym c.as_slice.ensures.value) ∙ c.effect_of-effect.ensures.character
+    (e ∙ ap (character_typed_by c.args.map.now) (sym c.as_slice.ensures.value) ∙ c.effect_of-effect.ensures.0
     ∙ sym c.character.ensures) x)
     (λ f ws e x. c.in_ok-note_if-2.ensures f ws
-    (e ∙ ap (accent_left_by c.args.map.now) (sym c.as_slice.ensures.value) ∙ c.effect_of-effect.ensures.accent
+    (e ∙ ap (accent_left_by c.args.map.now) (sym c.as_slice.ensures.value) ∙ c.effect_of-effect.ensures.1
     ∙ sym c.accent.ensures) x)
     (ap (λ keys. combination_with keys c.args.set c.args.key) (sym (c.at.ensures c.args.map.now c.requires.keys))
     ∙ c.in-Some.ensures) t

@@ -16,7 +16,7 @@ use Rattle.keymap_fmt.specs.Layout.{width}
 use Rattle.keymap_fmt.specs.Inner.Reading.{ComesNext}
 use Rattle.keymap_fmt.proofs.Reading.{TokenLaws, AtFront, blank, hash, token, refused, unfinished, at_front, read_after}
 use Rattle.keymap_fmt.proofs.Reading.{read_nil, read_blank, read_hash, read_token, read_refused, read_unfinished}
-use Rattle.keymap_fmt.proofs.Spelling.{split_found, split_refused, split_unfinished}
+use Rattle.keymap_text.proofs.Splitting.{split_found, split_refused, split_unfinished}
 
 -- a blank at a place
 pub blank_at : (text : List ℕ) (i : ℕ) (s : Standing) → i < length text → is_blank (get_or text i 0) ≡ true

@@ -1,34 +1,11 @@
 -- How many bytes at the front pass a test, and what is left where the end of a line is cut.
-use Rattle.std.proofs.Common.{◌≡◌, ℕ, suc, ◌+◌, ◌<◌, ◌≤◌, ◌&&◌, Bool, true, false, cond, List, [], ◌∷◌, ◌++◌, length}
-use Rattle.std.proofs.Common.{take, drop, get_or, refl, sym, ◌∙◌, ap, arith, add-one, drop-cons}
-use Rattle.std.proofs.lemmas.List.{at_drop_all, take_more}
+use Rattle.std.proofs.Common.{◌≡◌, ℕ, ◌+◌, ◌≤◌, ◌&&◌, Bool, true, false, cond, List, [], ◌∷◌, ◌++◌, length, take}
+use Rattle.std.proofs.Common.{get_or, refl, sym, ◌∙◌, ap, arith, add-one}
+use Rattle.std.proofs.lemmas.List.{take_more}
 use Rattle.std.specs.List.{list_all}
 use Rattle.keymap_text.specs.Lexical.{leading, stays_on_line, is_space}
+use Rattle.keymap_text.proofs.Leading.{leading_pass, leading_fail, leading_none, leading_tail, leading_append}
 use Rattle.keymap_fmt.specs.Pieces.{trimmed}
-
--- a byte that passes
-pub leading_pass : (p : ℕ → Bool) (c : ℕ) (cs : List ℕ) → p c ≡ true → leading p (c ∷ cs) ≡ leading p cs + 1
-unfolding leading
-leading_pass p c cs h = ap (λ b. cond b (leading p cs + 1) 0) h
-
--- a byte that fails
-pub leading_fail : (p : ℕ → Bool) (c : ℕ) (cs : List ℕ) → p c ≡ false → leading p (c ∷ cs) ≡ 0
-unfolding leading
-leading_fail p c cs h = ap (λ b. cond b (leading p cs + 1) 0) h
-
--- no bytes
-pub leading_none : (p : ℕ → Bool) → leading p [] ≡ 0
-unfolding leading
-leading_none p = refl
-
--- where all bytes pass, the first does, and the others do
-pub leading_tail : (p : ℕ → Bool) (c : ℕ) (w : List ℕ) → leading p (c ∷ w) ≡ suc (length w)
-    → (p c ≡ true) × (leading p w ≡ length w)
-leading_tail p c w h = go (p c) refl
-  where
-    go : (b : Bool) → p c ≡ b → (p c ≡ true) × (leading p w ≡ length w)
-    go true e = (e, omega (arith, leading_pass p c w e, h))
-    go false e = absurd (omega (arith, leading_fail p c w e, h))
 
 -- all bytes of a front pass
 pub leading_front : (p : ℕ → Bool) (s : List ℕ)
@@ -50,10 +27,7 @@ leading_front p (c ∷ s) = go (p c) refl (leading_front p s)
 -- bytes that all pass, before one that fails
 pub leading_ended : (p : ℕ → Bool) (w : List ℕ) (c : ℕ) (y : List ℕ) → leading p w ≡ length w → p c ≡ false
     → leading p (w ++ c ∷ y) ≡ length w
-leading_ended p [] c y h e = leading_fail p c y e
-leading_ended p (x ∷ w) c y h e =
-    let t = leading_tail p x w h in
-    leading_pass p x (w ++ c ∷ y) t.0 ∙ ap (λ n. n + 1) (leading_ended p w c y t.1 e) ∙ add-one (length w)
+leading_ended p w c y h e = omega (arith, leading_append p w (c ∷ y) h, leading_fail p c y e)
 
 -- a byte that begins what is cut, by whether all is cut
 pub trim_all : (c : ℕ) (w : List ℕ) → list_all is_space (c ∷ w) ≡ true → trimmed (c ∷ w) ≡ []
@@ -114,31 +88,6 @@ trim_on_line (c ∷ w) h =
 -- a comment keeps its first byte
 pub trim_hash : (w : List ℕ) → trimmed (35 ∷ w) ≡ 35 ∷ trimmed w
 trim_hash w = trim_tail 35 w refl
-
--- the same at an index of a list
-pub leading_pass_at : (p : ℕ → Bool) (xs : List ℕ) (i : ℕ) → i < length xs → p (get_or xs i 0) ≡ true
-    → leading p (drop i xs) ≡ leading p (drop (i + 1) xs) + 1
-leading_pass_at p xs i h e =
-    ap (leading p) (drop-cons xs i 0 h) ∙ leading_pass p _ _ e ∙ ap (λ n. leading p (drop n xs) + 1) (sym (add-one i))
-
-pub leading_fail_at : (p : ℕ → Bool) (xs : List ℕ) (i : ℕ) → i < length xs → p (get_or xs i 0) ≡ false
-    → leading p (drop i xs) ≡ 0
-leading_fail_at p xs i h e = ap (leading p) (drop-cons xs i 0 h) ∙ leading_fail p _ _ e
-
-pub leading_end : (p : ℕ → Bool) (xs : List ℕ) (i : ℕ) → length xs ≤ i → leading p (drop i xs) ≡ 0
-leading_end p xs i h = at_drop_all (leading p) xs i h ∙ leading_none p
-
--- one more at most
-le_case : (b : Bool) (n m : ℕ) → n ≤ m → cond b (n + 1) 0 ≤ suc m
-le_case true n m h = omega arith
-le_case false n m h = omega arith
-
-pub leading_le : (p : ℕ → Bool) (xs : List ℕ) → leading p xs ≤ length xs
-unfolding leading
-leading_le p [] = omega arith
-leading_le p (x ∷ xs) = le_case (p x) _ _ (leading_le p xs)
-
-pub ruleset leading_rules = (leading_pass_at, leading_fail_at, leading_end, leading_le)
 
 -- a blank at the end is cut
 all_push : (v : List ℕ) (b : ℕ) → is_space b ≡ true → list_all is_space (v ++ b ∷ []) ≡ list_all is_space v

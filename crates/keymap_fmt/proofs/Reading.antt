@@ -8,6 +8,7 @@ use Rattle.std.proofs.Math.Seq.{take-append_seam, drop-append_seam}
 use Rattle.keymap_text.specs.Alone.{StandsAlone}
 use Rattle.keymap_fmt.specs.Types.{TextFaultKind, TokenKind, Standing, Beside, Below, Comment, Code}
 use Rattle.keymap_fmt.specs.Pieces.{PieceValue, pieces_after, lowered, comment, trimmed}
+use Rattle.keymap_text.proofs.Splitting.{front_blank, front_comment}
 use Rattle.keymap_fmt.proofs.Leading.{leading_ended}
 
 -- what keymap_text says of tokens in front (`laws::tokens_stand_alone`)
@@ -15,15 +16,6 @@ pub record TokenLaws : Type 0 where
   pub found : (c n : ℕ) (kind : TokenKind) (bytes : List ℕ) → front_of c bytes ≡ Found kind n
       → StandsAlone kind c n bytes
   pub skipped : (c n : ℕ) (bytes : List ℕ) → front_of c bytes ≡ Skipped n → separates c ≡ true
-
--- a blank in front, and a comment
-pub front_blank : (c : ℕ) (bytes : List ℕ) → is_blank c ≡ true → front_of c bytes ≡ Skipped 0
-unfolding front_of
-front_blank c bytes h = rw (h, front_of) refl
-
-pub front_comment : (bytes : List ℕ) → front_of 35 bytes ≡ Skipped (leading stays_on_line bytes)
-unfolding front_of
-front_comment bytes = refl
 
 -- what stands at the front of some bytes
 pub data AtFront (c : ℕ) (bytes : List ℕ) : Type 0 where

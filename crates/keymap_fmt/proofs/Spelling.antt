@@ -1,12 +1,11 @@
 -- The tokens among the pieces are those of the text, so what is written spells what the text spells.
-use Rattle.std.proofs.Common.{◌≡◌, ℕ, zero, suc, ◌+◌, ◌==◌, Bool, true, false, List, [], ◌∷◌, ◌++◌, length, take, drop}
+use Rattle.std.proofs.Common.{◌≡◌, ℕ, zero, suc, ◌+◌, ◌==◌, Bool, true, false, List, [], ◌∷◌, ◌++◌, length, take}
 use Rattle.std.proofs.Common.{map, refl, sym, ◌∙◌, ap, subst, arith, add-one, if◌then◌else◌, Ok}
 use Rattle.std.proofs.lemmas.Bool.Decides.{nat_tests}
 use Rattle.std.specs.List.{flat_map}
 use Rattle.keymap_fmt.specs.Types.{TextFaultKind, TokenKind, State, Standing, AtTop, Beside, Below, Part, Comment, Code}
-use Rattle.keymap_text.specs.declared.fault.TextFaultKind.TheVariants.{EndInside}
-use Rattle.keymap_text.specs.Lexical.{is_blank, is_empty, stays_on_line, leading, front_of, Found, Skipped}
-use Rattle.keymap_text.specs.Lexical.{Refused, Unfinished, TokenValue, Ends, Stops, Then, tokens_after}
+use Rattle.keymap_text.specs.Lexical.{is_blank, stays_on_line, leading, front_of, Found}
+use Rattle.keymap_text.specs.Lexical.{Refused, Unfinished, TokenValue, tokens_after}
 use Rattle.keymap_text.specs.Meaning.{list_of, ending_of_tokens, tokens, items, item_of, ending, Spells}
 use Rattle.keymap_text.specs.Rows.{IsRow}
 use Rattle.keymap_text.specs.Words.{item}
@@ -15,52 +14,15 @@ use Rattle.keymap_fmt.specs.Pieces.{PieceValue, pieces_after, pieces, lowered, b
 use Rattle.keymap_fmt.specs.Layout.{before, after, ending as ending_of_part, line_end, start}
 use Rattle.keymap_fmt.specs.Formatted.{rendered_from, formatted}
 use Rattle.keymap_fmt.specs.Same.{part_and_bytes, kind_and_bytes, token_in, token_of}
-use Rattle.keymap_fmt.proofs.Leading.{leading_pass, leading_fail, leading_ended}
+use Rattle.keymap_text.proofs.Leading.{leading_pass, leading_fail}
+use Rattle.keymap_text.proofs.Splitting.{front_comment, split_one, split_nil, split_skipped, split_blank}
+use Rattle.keymap_fmt.proofs.Leading.{leading_ended}
 use Rattle.keymap_fmt.proofs.Reading.{TokenLaws, AtFront, blank, hash, token, refused, unfinished, at_front}
-use Rattle.keymap_fmt.proofs.Reading.{BeginsBlank, ReadsToken, ReadsComment, front_blank, front_comment, read_nil}
+use Rattle.keymap_fmt.proofs.Reading.{BeginsBlank, ReadsToken, ReadsComment, read_nil}
 use Rattle.keymap_fmt.proofs.Reading.{read_one, read_blank, read_hash, read_token, read_refused, read_unfinished}
 use Rattle.keymap_fmt.proofs.Texts.{ArePieces, no_piece, one_piece, Reads, text_pieces}
 use Rattle.keymap_fmt.proofs.Written.{AreBlanks, before_blanks, after_at, rendered_blank}
 use Rattle.keymap_fmt.proofs.Again.{parts_stay}
-
--- the tokens of some bytes, step by step
-split_one : (k q c : ℕ) (bytes : List ℕ) → tokens_after (suc k) q (c ∷ bytes) ≡ tokens_after k (q + 1) bytes
-unfolding tokens_after
-split_one k q c bytes = refl
-
-split_nil : (k q : ℕ) → tokens_after k q [] ≡ Ends q
-unfolding tokens_after
-split_nil zero q = refl
-split_nil (suc k) q = refl
-
-split_skipped : (q c n : ℕ) (bytes : List ℕ) → front_of c bytes ≡ Skipped n
-    → tokens_after 0 q (c ∷ bytes) ≡ tokens_after n (q + 1) bytes
-unfolding tokens_after
-split_skipped q c n bytes h = rw (h, tokens_after) refl
-
-pub split_found : (q c n : ℕ) (kind : TokenKind) (bytes : List ℕ) → front_of c bytes ≡ Found kind n
-    → tokens_after 0 q (c ∷ bytes) ≡ Then (record {
-      kind = kind;
-      bytes = c ∷ take n bytes;
-      start = q;
-      last = is_empty (drop n bytes);
-    }) (tokens_after n (q + 1) bytes)
-unfolding tokens_after
-split_found q c n kind bytes h = rw (h, tokens_after) refl
-
-pub split_refused : (q c : ℕ) (f : TextFaultKind) (bytes : List ℕ) → front_of c bytes ≡ Refused f
-    → tokens_after 0 q (c ∷ bytes) ≡ Stops f q
-unfolding tokens_after
-split_refused q c f bytes h = rw (h, tokens_after) refl
-
-pub split_unfinished : (q c : ℕ) (bytes : List ℕ) → front_of c bytes ≡ Unfinished
-    → tokens_after 0 q (c ∷ bytes) ≡ Stops EndInside (q + 1 + length bytes)
-unfolding tokens_after
-split_unfinished q c bytes h = rw (h, tokens_after) refl
-
-split_blank : (q c : ℕ) (bytes : List ℕ) → is_blank c ≡ true
-    → tokens_after 0 q (c ∷ bytes) ≡ tokens_after 0 (q + 1) bytes
-split_blank q c bytes h = split_skipped q c 0 bytes (front_blank c bytes h)
 
 -- the kinds and bytes of the first token, and of those behind it
 token_in_front : (q c n : ℕ) (kind : TokenKind) (bytes : List ℕ) → front_of c bytes ≡ Found kind n

@@ -11,7 +11,8 @@ use Rattle.keymap_fmt.specs.Layout.{is_open, begins_line, opened, lead, width, b
 use Rattle.keymap_fmt.specs.Layout.{line_begun, lines_before, comment_lead}
 use Rattle.keymap_fmt.specs.Formatted.{rendered_from, formatted}
 use Rattle.keymap_fmt.specs.Lines.{Edge, Blank, Ink, LineEnd, EmptyLine, behind_byte, are_lines, HasTidyLines}
-use Rattle.keymap_fmt.proofs.Leading.{leading_tail, trim_all, trim_tail}
+use Rattle.keymap_text.proofs.Leading.{leading_tail}
+use Rattle.keymap_fmt.proofs.Leading.{trim_all, trim_tail}
 use Rattle.keymap_fmt.proofs.Reading.{TokenLaws}
 use Rattle.keymap_fmt.proofs.Texts.{ArePieces, no_piece, one_piece, Reads, reaches, text_pieces}
 use Rattle.keymap_fmt.proofs.Written.{IsAt, closed, after_at}

@@ -82,7 +82,7 @@ fn is_blank_byte(c: u8) -> bool
 }
 
 /// The place of the line's end, at `at` or after it.
-#[tactic(auto, using(crate::proofs::Leading::leading_rules))]
+#[tactic(auto, using(keymap_text::proofs::Leading::leading_rules))]
 fn line_end(text: &[u8], at: usize) -> usize
     requires { at ≤ length text.now }
     ensures length { result ≤ length text.now }

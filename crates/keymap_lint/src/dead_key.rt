@@ -28,12 +28,7 @@ fn is_missing(text: &SpelledText, cell: &CellInForce) -> bool
 fn first_missing(text: &SpelledText, cells: &[CellInForce]) -> Option<CellInForce>
     ensures { result ≡ find (is_missing_in text.now) cells.now }
 {
-    for cell in cells {
-        if is_missing(text, cell) {
-            return Some(*cell);
-        }
-    }
-    None
+    cells.iter().find(|cell| is_missing(text, cell)).copied()
 }
 
 /// Whether the text defines an accent.

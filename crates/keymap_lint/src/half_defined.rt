@@ -44,12 +44,7 @@ fn selects(text: &SpelledText, cell: &CellInForce) -> bool
 fn first_selecting(text: &SpelledText, cells: &[CellInForce]) -> Option<CellInForce>
     ensures { result ≡ find (selects_at text.now) cells.now }
 {
-    for cell in cells {
-        if selects(text, cell) {
-            return Some(*cell);
-        }
-    }
-    None
+    cells.iter().find(|cell| selects(text, cell)).copied()
 }
 
 /// The other slot of the same key.

@@ -34,12 +34,7 @@ fn is_later(text: &SpelledText, key: u8, finding: &Finding) -> bool
 fn is_greatest(text: &SpelledText, findings: &[Finding], key: u8) -> bool
     ensures { result ≡ is_greatest_in text.now findings.now key }
 {
-    for finding in findings {
-        if is_later(text, key, finding) {
-            return false;
-        }
-    }
-    true
+    !findings.iter().any(|finding| is_later(text, key, finding))
 }
 
 /// The character that stands at the place.

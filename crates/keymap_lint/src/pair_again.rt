@@ -26,12 +26,7 @@ fn before(pairs: &[(char, char)], place: usize) -> Option<usize>
     ensures value { result ≡ first_below (has_base_of pairs.now place) place }
     ensures in_range { IfSome result (λ other. other < place) }
 {
-    for other in 0..place {
-        if has_base(pairs, place, other) {
-            return Some(other);
-        }
-    }
-    None
+    (0..place).find(|other| has_base(pairs, place, *other))
 }
 
 /// The offset of a pair's parenthesis, where the accent's definition begins with this token.

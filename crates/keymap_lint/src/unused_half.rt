@@ -29,12 +29,10 @@ fn first_above(text: &SpelledText) -> Option<Placed>
     requires { AreDefined text.now }
     ensures { result ≡ find (is_above_in_force_in text.now) text.now.definitions }
 {
-    for definition in text.definitions() {
-        if is_above_in_force(text, definition) {
-            return Some(*definition);
-        }
-    }
-    None
+    text.definitions()
+        .iter()
+        .find(|definition| is_above_in_force(text, definition))
+        .copied()
 }
 
 /// What is said of a text that defines slots from 128 on, where no cell selects them.

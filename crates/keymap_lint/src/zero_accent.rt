@@ -51,12 +51,7 @@ fn gives(text: &SpelledText, cell: &CellInForce, accent: u8) -> bool
 pub(crate) fn is_given(text: &SpelledText, cells: &[CellInForce], accent: u8) -> bool
     ensures { result ≡ is_given_by text.now cells.now accent }
 {
-    for cell in cells {
-        if gives(text, cell, accent) {
-            return true;
-        }
-    }
-    false
+    cells.iter().any(|cell| gives(text, cell, accent))
 }
 
 /// Whether the accent's own character is 0.

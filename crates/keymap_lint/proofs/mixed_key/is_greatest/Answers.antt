@@ -1,16 +1,10 @@
-use Rattle.std.proofs.Common.{arith, sym, ◌∙◌, ap, not}
+use Rattle.std.proofs.Common.{ap, not, rules, tests}
+use Rattle.std.proofs.lemmas.Iterator.{YieldsList-from_slice}
+use Rattle.std.proofs.lemmas.Iterator.Search.{any_from_yields_List}
 use Rattle.keymap_lint.specs.Kinds.{is_later}
-use Rattle.keymap_lint.proofs.Lists.{any_here, any_none}
 use Rattle.keymap_lint.proofs.mixed_key.is_greatest.Goals as goal
 
-pub returns-then-is_later : goal.returns-then-is_later
-returns-then-is_later c =
-    sym (ap not (any_here (is_later c.args.text.now c.args.key) c.args.findings.now c.loop-finding.finding-index
-    c.finding-item.result (omega arith)
-    (ap (is_later c.args.text.now c.args.key) (sym c.finding-item.is) ∙ sym c.is_later.ensures ∙ c.if-is_later.true)))
-
-pub loop-finding-preserved : goal.loop-finding-preserved
-loop-finding-preserved c =
-    any_none (is_later c.args.text.now c.args.key) c.args.findings.now c.loop-finding.finding-index
-    c.finding-item.result (omega arith) c.loop-finding.invariant
-    (ap (is_later c.args.text.now c.args.key) (sym c.finding-item.is) ∙ sym c.is_later.ensures ∙ c.if-is_later.false)
+pub returns : goal.returns
+returns c =
+    ap not (any_from_yields_List (is_later c.args.text.now c.args.key) _ _ c.any.result c.any.ensures.ran
+    (YieldsList-from_slice c.args.findings.now cc) (λ x b q k. search (rules, tests)))

@@ -88,6 +88,12 @@ AreRepeats h [] = Unit {0}
 AreRepeats h (Press k ∷ later) = (pressed k h ≡ true) × AreRepeats (Press k ∷ h) later
 AreRepeats h (e ∷ later) = ⊥
 
+-- Repeats, however many, leave a steady lock as it was before them.
+abbrev pub RepeatsKeepSteadyLocks : Type 0
+RepeatsKeepSteadyLocks =
+    (ms : Maps) (h : List Event) (repeats : List Event) → HasKeys (reverse repeats ++ h) → AreRepeats h repeats
+    → (l : Lock) → IsSteady (in_force ms h) l → is_locked_after ms l (reverse repeats ++ h) ≡ is_locked_after ms l h
+
 -- The repeats that the events end in leave a steady lock as it was before them, where `is_locked` are the locks after h
 -- and then the events.
 abbrev pub LastRepeatsTurnNoSteadyLock : Maps → List Event → List Event → (Lock → Bool) → Type 0

@@ -1,7 +1,8 @@
 //! Laws over histories: the headline for all lists of events, the facts on which it stands, and each notion read on the
 //! positions of a list of events.
 ghost use Rattle.console_core.specs.Headline.{OnOnlyWhilePressed, OnExactlyWhilePressed, RepeatsTurnNoSteadyLock};
-ghost use Rattle.console_core.specs.Headline.{OffOnceQuiet, LockedByFreshPresses, GoesOnAsAfterReset};
+ghost use Rattle.console_core.specs.Headline.{RepeatsKeepSteadyLocks, OffOnceQuiet, LockedByFreshPresses};
+ghost use Rattle.console_core.specs.Headline.{GoesOnAsAfterReset};
 ghost use Rattle.console_core.specs.Facts.{LooksAreCells, DeadUpperHalfIsNotLookedAt, HoldingIsRemembered};
 ghost use Rattle.console_core.specs.Facts.{OnByPressedKey};
 ghost use Rattle.console_core.specs.Loads.{WithoutLoads, LoadsOfOneMapAreResets};
@@ -23,9 +24,10 @@ pub fn modifiers_follow_keys()
     ensures exactly_while { OnExactlyWhilePressed }
 {}
 
-/// A repeat never turns a steady lock.
+/// A repeat never turns a steady lock, and any number of them leaves it as it was.
 pub fn repeats_turn_no_steady_lock()
-    ensures { RepeatsTurnNoSteadyLock }
+    ensures one { RepeatsTurnNoSteadyLock }
+    ensures any_number { RepeatsKeepSteadyLocks }
 {}
 
 /// Once no key is pressed, in a safe map, no modifier is on, and with no accent pending the console goes on as after a

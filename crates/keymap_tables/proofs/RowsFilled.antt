@@ -1,5 +1,5 @@
 -- Rows that are filled one by one.
-use Rattle.std.proofs.Common.{◌≡◌, ℕ, ◌+◌, ◌-◌, ◌*◌, ◌<◌, ◌≤◌, max, List, [], ◌∷◌, ◌++◌, length, map, replicate, set}
+use Rattle.std.proofs.Common.{◌≡◌, ℕ, ◌+◌, ◌-◌, ◌<◌, ◌≤◌, max, List, [], ◌∷◌, ◌++◌, length, map, replicate, set}
 use Rattle.std.proofs.Common.{refl, sym, ap, ap₂, ◌∙◌, arith, append_assoc, length-append, All}
 use Rattle.std.proofs.lemmas.List.{length-set, map-set, set-append_left, replicate-append-replicate, length-replicate}
 use Rattle.std.proofs.lemmas.List.Elements.{All-set, All-append, All-replicate}

@@ -33,7 +33,7 @@ returns-clause-exactly_while c i k e =
 
 pub returns-clause-repeats : goal.returns-clause-repeats
 returns-clause-repeats c l e =
-    promise.repeats c.repeats_turn_no_steady_lock.ensures c.args.map.now l
+    promise.repeats c.repeats_turn_no_steady_lock.ensures.one c.args.map.now l
     ((c.check_shown.ensures.steady c.args.map.now refl l).0 e)
 
 pub returns-clause-fresh_presses : goal.returns-clause-fresh_presses

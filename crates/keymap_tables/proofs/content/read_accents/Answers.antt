@@ -1,4 +1,4 @@
-use Rattle.std.proofs.Common.{◌≡◌, List, [], arith, subst}
+use Rattle.std.proofs.Common.{List, [], arith, subst}
 use Rattle.keymap_core.specs.Accents.{AccentValue, blank}
 use Rattle.keymap_tables.specs.Types.{Entry}
 use Rattle.keymap_tables.specs.Faults.{accent_fault}

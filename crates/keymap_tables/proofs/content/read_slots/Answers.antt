@@ -1,4 +1,4 @@
-use Rattle.std.proofs.Common.{◌≡◌, List, [], arith, subst}
+use Rattle.std.proofs.Common.{List, [], arith, subst}
 use Rattle.keymap_core.specs.Maps.{undefined}
 use Rattle.keymap_tables.specs.Types.{Entry}
 use Rattle.keymap_tables.specs.Faults.{slot_fault}

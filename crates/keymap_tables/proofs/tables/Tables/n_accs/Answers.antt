@@ -1,4 +1,4 @@
-use Rattle.std.proofs.Common.{arith, ◌∙◌}
+use Rattle.std.proofs.Common.{arith}
 use Rattle.keymap_tables.proofs.AtPlaces.{accents-counted}
 use Rattle.keymap_tables.proofs.tables.Tables.n_accs.Goals as goal
 

@@ -1,4 +1,4 @@
-use Rattle.std.proofs.Common.{arith, ◌∙◌}
+use Rattle.std.proofs.Common.{arith}
 use Rattle.keymap_tables.proofs.AtPlaces.{keys-counted}
 use Rattle.keymap_tables.proofs.tables.Tables.n_keys.Goals as goal
 

@@ -50,8 +50,11 @@ tells 'counter/half_of_more.edit: refused in half: returns'
 tells 'counter/half_of_less.edit: refused in half: returns'
 tells 'counter/quarter_from_a_half.edit: refused in quarter: returns'
 tells 'counter/a_count_that_starts_at_one.edit: refused in zeros: loop-index'
-# one of a body that begins behind its header
-tells 'counter/a_byte_behind_the_last.edit: refused in middle: '
+# one at its promise and at a goal of safety, and one at what an own function wants
+tells 'counter/half_is_one_less.edit: refused in half: returns'
+tells 'counter/the_byte_behind_the_last.edit: refused in last: byte_at-requires'
+# one of a body that begins behind its header, at a goal of safety, which it names
+tells 'counter/a_byte_where_its_goal_is_named.edit: refused in middle: bounds-bytes-3'
 # one of a method of a trait that is of a type
 tells 'counter/want_of_memory_is_another_fault.edit: refused in FaultFromAllocError::from: returns'
 # one of a constant, and one of a definition together with the code
@@ -61,6 +64,8 @@ tells 'counter/a_definition_and_code.edit: refused in bounded: returns'
 tells 'counter/a_definition_that_a_lemma_knows.edit: refused in proofs/Odd.antt: `odd`'
 tells 'counter/same_half.edit: NOT REFUSED: proved with it: half'
 tells 'counter/a_byte_where_a_clause_is_named.edit: refused in middle, and not at the clause returns: '
+tells 'counter/a_byte_behind_the_last.edit: refused in middle, and only at goals of safety: bounds-bytes-3'
+tells 'counter/a_byte_that_is_not_there.edit: refused in last, and only at goals of safety: unwrap-requires'
 tells 'counter/another_function_is_refused.edit: NOT REFUSED: proved with it: half'
 tells 'counter/a_local_of_another_name.edit: refused only since a proof file names what is gone: zeros: '
 tells 'counter/a_name_that_is_not_there.edit: the prover cannot read it: src/lib.rt:'
@@ -71,7 +76,7 @@ tells 'counter/a_function_that_is_not_there.edit: there is no function nowhere'
 tells 'counter/notes.txt: it is no edit'
 tells 'counter: its edits do not stand as tried'
 tells 'low/one_of_two.edit: refused in one: returns'
-tells '10 passed, 10 failed, 0 as tried'
+tells '12 passed, 12 failed, 0 as tried'
 diff -r crates "$folder/before" > "$folder/said"
 holds 'it writes one file, of the crate whose edits were all refused, and leaves none of the other' \
     [ "$(cat "$folder/said")" = 'Only in crates/low/edits: tried' ]

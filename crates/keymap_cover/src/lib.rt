@@ -5,11 +5,11 @@
 //! script is made, so that what each press looks up is noted, however the events were chosen, and the search tells what
 //! can be looked up at all (`Sights`).
 //!
-//! It promises (`cover_of`, `Cover::verdict`) that what is told as seen is what the script sees in its events from a new
-//! console, that what is told as left out can be seen, and that what is told as never seen no list of events sees, or no
-//! clean one where a key that holds a modifier can look up a character. Only released keys are pressed, only pressed ones
-//! repeated and released; at the end no key is down, no modifier on and no accent pending. The parts of the script
-//! begin in their order.
+//! It promises (`cover_of`, `Cover::verdict`) that what is told as seen is what the script sees in its events from a
+//! new console, that what is told as left out can be seen, and that what is told as never seen no list of events sees,
+//! or no clean one where a key that holds a modifier can look up a character. Only released keys are pressed, only
+//! pressed ones repeated and released; at the end no key is down, no modifier on and no accent pending. The parts of
+//! the script begin in their order.
 #![tactic(auto)]
 
 mod counts;

@@ -1,6 +1,7 @@
 -- What the search keeps: the states that it has met, in their order, each with how it was come to, and which of them
 -- are done. Mirrors `Held` and `Keymaps` of src/held.rt and the functions of src/search.rt.
-use Rattle.std.specs.Prelude.{◌≡◌, ◌≢◌, ℕ, ◌+◌, ◌<◌, ◌≤◌, Bool, false, true, length, List, [], ◌∷◌, ◌++◌, All, None, Some, slice_get}
+use Rattle.std.specs.Prelude.{◌≡◌, ◌≢◌, ℕ, ◌+◌, ◌<◌, ◌≤◌, Bool, false, true, length, List, [], ◌∷◌, ◌++◌, All, None}
+use Rattle.std.specs.Prelude.{Some, slice_get}
 use Rattle.std.specs.Prelude.{slice_index_or, reverse, ◌⊎◌}
 use Rattle.std.specs.List.{Contains}
 use Rattle.keymap_core.specs.declared.action.Modifier.{Modifier}

@@ -1,15 +1,16 @@
 -- What the search decides, said of one keymap without loads and of two with loads.
 use Rattle.std.proofs.Common.{◌≡◌, Bool, true, false, Result, Ok, Err, IfOk, All, List, refl, ap, subst, sym, ◌∙◌}
-use Rattle.std.proofs.Common.{get_or, reverse, if◌then◌else◌}
+use Rattle.std.proofs.Common.{get_or, reverse, filter, if◌then◌else◌}
 use Rattle.std.proofs.lemmas.Bool.{true≢false}
-use Rattle.console_core.specs.Types.{Modifier, Event, Press, Release, Reset, Load, Sticking, Sticks, Never, Undecided}
+use Rattle.keymap_core.specs.declared.action.Modifier.{Modifier}
+use Rattle.keymap_core.specs.Actions.{modifiers}
 use Rattle.keymap_core.specs.Maps.{MapValue}
 use Rattle.console_core.specs.Resolved.{on}
 use Rattle.console_core.specs.History.{Maps, between, in_force, is_on_after, is_second_in_force, IsNoLoad, HasNoLoads}
 use Rattle.console_core.specs.Headline.{IsSafe, IsOnOnlyWhilePressed}
 use Rattle.console_core.specs.Moves.{alone, with_loads, script_of_path}
 use Rattle.console_core.specs.Sticking.{SticksAfter, SticksBetween, IsPressOrRelease, IsNoReset, NeverSticks, LeavesOn}
-use Rattle.console_core.specs.Sticking.{LeavesOnBetween, IsAnswer, IsAnswerBetween, SafeNeverForgets}
+use Rattle.console_core.specs.Sticking.{LeavesOnBetween, AreOnAfter, IsAnswer, IsAnswerBetween, SafeNeverForgets}
 use Rattle.console_core.specs.Sticking.{SafeNeverSticksBetween, SafeNeverAnswersSticks, NeverSticksUnlessReached}
 use Rattle.console_core.specs.Sticking.{SticksIfReached, NeverSticksBetweenUnlessReached, SticksBetweenIfReached}
 use Rattle.console_core.specs.Inner.Searching.{IsSent, Admits, NeverUnder, LeavesOnUnder, IsAnswerUnder}
@@ -46,6 +47,14 @@ pub on_alone : (m : MapValue) (ms : Maps) (i : Modifier) (h : List Event) → ms
 on_alone m ms i h first none =
     ap (λ r. on i r) (without_loads ms h none).1 ∙ ap (λ n. is_on_after (between n n) i h) first
 
+-- so are the modifiers that are on
+left_on_alone : (m : MapValue) (ms : Maps) (h : List Event) (on : List Modifier) → ms.first ≡ m → HasNoLoads h
+    → AreOnAfter (between m m) h on → AreOnAfter ms h on
+left_on_alone m ms h left first none are_on =
+    are_on
+    ∙ sym (ap (λ r. filter (λ i. on i r) modifiers) (without_loads ms h none).1
+    ∙ ap (λ n. filter (λ i. is_on_after (between n n) i h) modifiers) first)
+
 sticks_alone : (m : MapValue) (h : List Event) (i : Modifier) → HasNoLoads h → SticksBetween (between m m) h i
     → SticksAfter m h i
 sticks_alone m h i none (quiet, on) = (quiet, (λ ms first. on_alone m ms i h first none ∙ on))
@@ -66,11 +75,14 @@ left_alone m h (keys, sent, (i, sticks), releases) =
     (keys, made, (i, sticks_alone m h i (all_of IsPressOrRelease IsNoLoad no_load h made) sticks))
 
 answer_alone : (m : MapValue) (a : Sticking) → IsAnswerUnder (alone m) a → IsAnswer m a
-answer_alone m (Sticks events) (left, fewest) = (
-  left_alone m (reverse events.items) left,
-  (λ g keys none i sticks. fewest g keys (λ e. none) i (sticks.0, sticks.1 (between m m) refl)),
-  left.3,
-)
+answer_alone m (Sticks events left_on) (left, fewest, are_on) =
+    let alone : LeavesOn m (reverse events.items) = left_alone m (reverse events.items) left in (
+      alone,
+      (λ g keys none i sticks. fewest g keys (λ e. none) i (sticks.0, sticks.1 (between m m) refl)),
+      left.3,
+      (λ ms first. left_on_alone m ms (reverse events.items) left_on.items first
+          (all_of IsPressOrRelease IsNoLoad no_load (reverse events.items) alone.1) are_on),
+    )
 answer_alone m Never x = never_alone m x
 answer_alone m (Undecided p) (reaches, none_by) = (
   reaches,
@@ -92,9 +104,12 @@ left_between ms h (keys, sent, sticks, releases) =
     (keys, all_of (IsSent (with_loads ms)) IsNoReset (sent_between ms) h sent, sticks)
 
 answer_between : (ms : Maps) (a : Sticking) → IsAnswerUnder (with_loads ms) a → IsAnswerBetween ms a
-answer_between ms (Sticks events) (left, fewest) =
-    (left_between ms (reverse events.items) left,
-        (λ g keys i sticks. fewest g keys (all_admitted ms g) i sticks), left.3)
+answer_between ms (Sticks events left_on) (left, fewest, are_on) = (
+  left_between ms (reverse events.items) left,
+  (λ g keys i sticks. fewest g keys (all_admitted ms g) i sticks),
+  left.3,
+  are_on,
+)
 answer_between ms Never x = λ h keys. x h keys (all_admitted ms h)
 answer_between ms (Undecided p) (reaches, none_by) =
     (reaches, (λ g keys i sticks. none_by g keys (all_admitted ms g) i sticks))
@@ -148,7 +163,8 @@ safe_never_forgets ms first second path is (i, k, forgets) =
 
 -- so the search doesn't answer that a modifier sticks
 pub safe_never_answers_sticks : SafeNeverAnswersSticks
-safe_never_answers_sticks ms (Sticks events) first second ((keys, made, (i, (quiet, on))), fewest, releases) =
+safe_never_answers_sticks ms (Sticks events left_on) first second
+    ((keys, made, (i, (quiet, on))), fewest, releases, are_on) =
     absurd (true≢false (sym on ∙ (safe_never_sticks_between ms first second (reverse events.items) keys).1 quiet i))
 safe_never_answers_sticks ms Never first second never = refl
 safe_never_answers_sticks ms (Undecided p) first second x = refl

@@ -69,8 +69,8 @@ sticks_twice m h i (quiet, on) = (quiet, on (between m m) refl)
 
 -- of a keymap twice the search answers as of the keymap alone
 pub answers_alike : AnswersAlikeOfOneKeymap
-answers_alike m (Sticks events) (Sticks others) ((keys, made, (i, sticks)), fewest, releases)
-    ((other_keys, other_made, (j, other_sticks)), other_fewest, other_releases) =
+answers_alike m (Sticks events on) (Sticks others others_on) ((keys, made, (i, sticks)), fewest, releases, are_on)
+    ((other_keys, other_made, (j, other_sticks)), other_fewest, other_releases, others_are_on) =
     let h : List Event = reverse others.items in
     let le : presses (reverse events.items) ≤ presses (loads_as_resets h) =
     fewest (loads_as_resets h) (keys_alike h other_keys) (no_loads_left h) j
@@ -78,20 +78,20 @@ answers_alike m (Sticks events) (Sticks others) ((keys, made, (i, sticks)), fewe
     let ge : presses h ≤ presses (reverse events.items) =
     other_fewest (reverse events.items) keys i (sticks_twice m (reverse events.items) i sticks) in
     omega (arith, le, ge, presses_alike h)
-answers_alike m (Sticks events) Never ((keys, made, (i, sticks)), fewest, releases) never =
+answers_alike m (Sticks events on) Never ((keys, made, (i, sticks)), fewest, releases, are_on) never =
     let twice : SticksBetween (between m m) (reverse events.items) i =
     sticks_twice m (reverse events.items) i sticks in
     true≢false (sym twice.1 ∙ (never (reverse events.items) keys).1 twice.0 i)
-answers_alike m (Sticks events) (Undecided p) ((keys, made, (i, sticks)), fewest, releases) (reaches, none_by) =
+answers_alike m (Sticks events on) (Undecided p) ((keys, made, (i, sticks)), fewest, releases, are_on) (reaches, none_by) =
     none_by (reverse events.items) keys i (sticks_twice m (reverse events.items) i sticks)
-answers_alike m Never (Sticks events) never ((keys, made, (i, sticks)), fewest, releases) =
+answers_alike m Never (Sticks events on) never ((keys, made, (i, sticks)), fewest, releases, are_on) =
     let h : List Event = reverse events.items in
     let alone : SticksAfter m (loads_as_resets h) i = sticks_alone m h i keys sticks in
     true≢false (sym (alone.1 (between m m) refl)
     ∙ (never (between m m) (loads_as_resets h) refl (keys_alike h keys) (no_loads_left h)).1 alone.0 i)
 answers_alike m Never Never never same = tt
 answers_alike m Never (Undecided p) never x = tt
-answers_alike m (Undecided p) (Sticks events) (reaches, none_by) ((keys, made, (i, sticks)), fewest, releases) =
+answers_alike m (Undecided p) (Sticks events on) (reaches, none_by) ((keys, made, (i, sticks)), fewest, releases, are_on) =
     let h : List Event = reverse events.items in
     let more : p < presses (loads_as_resets h) =
     none_by (loads_as_resets h) (keys_alike h keys) (no_loads_left h) i (sticks_alone m h i keys sticks) in

@@ -1,7 +1,8 @@
 -- Whether a keymap, or two that loads exchange, can leave a modifier on while no key is pressed.
-use Rattle.std.specs.Prelude.{◌≡◌, ℕ, ◌<◌, ◌≤◌, Bool, false, true, List, [], ◌∷◌, All, reverse}
+use Rattle.std.specs.Prelude.{◌≡◌, ℕ, ◌<◌, ◌≤◌, Bool, false, true, List, [], ◌∷◌, All, reverse, filter}
 use Rattle.keymap_core.specs.declared.action.Modifier.{Modifier}
 use Rattle.keymap_core.specs.declared.action.Lock.TheVariants.{Scroll}
+use Rattle.keymap_core.specs.Actions.{modifiers}
 use Rattle.keymap_core.specs.Maps.{MapValue}
 use Rattle.console_core.specs.declared.event.Event.{Event}
 use Rattle.console_core.specs.declared.event.Event.TheVariants.{Press, Release, Reset, Load}
@@ -71,15 +72,20 @@ ReachesMoreThan u n p =
 abbrev pub NoneSticksBy : MapValue → ℕ → Type 0
 NoneSticksBy m p = (g : List Event) → HasKeys g → HasNoLoads g → (i : Modifier) → SticksAfter m g i → p < presses g
 
+-- these modifiers are on after the list, in their order, and no others
+abbrev pub AreOnAfter : Maps → List Event → List Modifier → Type 0
+AreOnAfter ms h on = on ≡ filter (λ i. is_on_after ms i h) modifiers
+
 -- how many states the search goes over before it gives up
 abbrev pub state_limit : ℕ
 state_limit = 65536
 
 -- what each answer says of the keymap
 abbrev pub IsAnswer : MapValue → Sticking → Type 0
-IsAnswer m (Sticks events) =
+IsAnswer m (Sticks events on) =
     LeavesOn m (reverse events.items) × HasFewestPresses m (reverse events.items)
     × ReleasesPressedKeys (reverse events.items)
+    × ((ms : Maps) → ms.first ≡ m → AreOnAfter ms (reverse events.items) on.items)
 IsAnswer m Never = NeverSticks m
 IsAnswer m (Undecided p) = ReachesMoreThan (alone m) state_limit p × NoneSticksBy m p
 
@@ -116,9 +122,9 @@ NoneSticksBetweenBy ms p = (g : List Event) → HasKeys g → (i : Modifier) →
 
 -- what each answer says of the two keymaps
 abbrev pub IsAnswerBetween : Maps → Sticking → Type 0
-IsAnswerBetween ms (Sticks events) =
+IsAnswerBetween ms (Sticks events on) =
     LeavesOnBetween ms (reverse events.items) × HasFewestPressesBetween ms (reverse events.items)
-    × ReleasesPressedKeys (reverse events.items)
+    × ReleasesPressedKeys (reverse events.items) × AreOnAfter ms (reverse events.items) on.items
 IsAnswerBetween ms Never = NeverSticksBetween ms
 IsAnswerBetween ms (Undecided p) = ReachesMoreThan (with_loads ms) state_limit p × NoneSticksBetweenBy ms p
 
@@ -157,7 +163,7 @@ abbrev pub SafeNeverForgets : Type 0
 SafeNeverForgets = (ms : Maps) → IsSafe ms.first → IsSafe ms.second → NeverForgets (with_loads ms)
 
 abbrev pub says_sticks : Sticking → Bool
-says_sticks (Sticks events) = true
+says_sticks (Sticks events on) = true
 says_sticks _ = false
 
 abbrev pub SafeNeverAnswersSticks : Type 0
@@ -167,13 +173,13 @@ SafeNeverAnswersSticks =
 -- Two answers agree: where both give a list, the lists have as many presses, and where one is undecided, each list of
 -- the other has more presses than it tells.
 abbrev pub AreAlike : Sticking → Sticking → Type 0
-AreAlike (Sticks events) (Sticks others) = presses (reverse events.items) ≡ presses (reverse others.items)
-AreAlike (Sticks events) Never = ⊥
-AreAlike (Sticks events) (Undecided p) = p < presses (reverse events.items)
-AreAlike Never (Sticks events) = ⊥
+AreAlike (Sticks events on) (Sticks others others_on) = presses (reverse events.items) ≡ presses (reverse others.items)
+AreAlike (Sticks events on) Never = ⊥
+AreAlike (Sticks events on) (Undecided p) = p < presses (reverse events.items)
+AreAlike Never (Sticks events on) = ⊥
 AreAlike Never Never = Unit {0}
 AreAlike Never (Undecided p) = Unit {0}
-AreAlike (Undecided p) (Sticks events) = p < presses (reverse events.items)
+AreAlike (Undecided p) (Sticks events on) = p < presses (reverse events.items)
 AreAlike (Undecided p) Never = Unit {0}
 AreAlike (Undecided p) (Undecided q) = Unit {0}
 

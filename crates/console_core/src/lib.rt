@@ -22,6 +22,7 @@ mod event;
 mod held;
 mod kept;
 pub mod laws;
+mod left_on;
 mod machine;
 mod moving_keys;
 mod outcome;

@@ -15,6 +15,7 @@ ghost use Rattle.console_core.specs.Sticking.{IsAnswer, IsAnswerBetween, state_l
 
 use crate::event::Event;
 use crate::held::{Held, Keymaps, Move, Step};
+use crate::left_on::left_on;
 use crate::moving_keys::moving_keys;
 use crate::outcome::Sticking;
 use indexmap::IndexMap;
@@ -284,7 +285,11 @@ fn decide(alloc: Global, maps: &Keymaps) -> Result<Sticking, AllocError>
 {
     let mut met = IndexMap::new(alloc);
     match meet_all(alloc, &mut met, maps, true)? {
-        End::AtStuck(stuck) => Ok(Sticking::Sticks(script(alloc, &met, stuck)?)),
+        End::AtStuck(stuck) => {
+            let events = script(alloc, &met, stuck)?;
+            let modifiers = left_on(alloc, maps, events.as_slice())?;
+            Ok(Sticking::Sticks { events, modifiers })
+        }
         End::Complete => Ok(Sticking::Never),
         End::TooMany(presses) => Ok(Sticking::Undecided(presses)),
     }

@@ -72,6 +72,10 @@ picture_of d = drawn_with d (other_keys d Lower) (upper_keys d) (named_accents d
 abbrev pub picture_with : MapValue → List Finding → Board → List ℕ
 picture_with m fs board = picture_of (record { map = m; findings = fs; board = board })
 
+-- what is drawn of a map: with the findings of the check
+abbrev pub drawing : MapValue → Board → Drawing
+drawing m board = record { map = m; findings = findings_of m; board = board }
+
 -- the picture with the findings of the check
 abbrev pub picture : MapValue → Board → List ℕ
 picture m board = picture_with m (findings_of m) board

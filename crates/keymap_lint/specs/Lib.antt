@@ -2,7 +2,6 @@ pub mod Severities
 pub mod Spelled
 pub mod Kinds
 pub mod Lists
-pub mod Stuck
 pub mod Promises
 pub mod Positions
 pub mod Types

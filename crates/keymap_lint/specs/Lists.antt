@@ -16,7 +16,6 @@ use Rattle.keymap_text.specs.Placed.{Row, IsSpelledBy, places_of, span_of}
 use Rattle.keymap_text.specs.Places.{AtDefinition}
 use Rattle.keymap_text.specs.Wanted.{fault_place_view, first_refused}
 use Rattle.keymap_lint.specs.Spelled.{Spelled, cells_in_force}
-use Rattle.keymap_lint.specs.Stuck.{stuck}
 use Rattle.keymap_lint.specs.Kinds.{no_key, no_shift, mixed_keys, half_defined, defined_again, dead_key}
 use Rattle.keymap_lint.specs.Kinds.{zero_accents, pairs_again, unused_half, bare_digits, missing_slots, nul_keys}
 use Rattle.keymap_lint.specs.Kinds.{missing_accents, unused_slots}
@@ -55,7 +54,6 @@ pub record AreOf (t : Spelled) (cells : List CellInForce) (findings : List Findi
   pub accents : l.missing_accents.items ≡ missing_accents t cells
   pub unused : l.unused_slots.items ≡ unused_slots t
   pub sticking : IsSearched t.map findings l.sticking
-  pub stuck : l.stuck.items ≡ stuck t.map l.sticking
 
 -- those of a text that spells a map, with the findings of the check
 abbrev pub AreOfSpelled : Spelled → Diagnostics → Type 0

@@ -6,7 +6,7 @@ ghost use Rattle.keymap_lint.specs.Severities as spec;
 use arrayvec::ArrayVec;
 use console_core::Sticking;
 use keymap_check::Finding;
-use keymap_core::{ACCENT_LIMIT, Holding, KEY_COUNT, Modifier, SLOT_LIMIT};
+use keymap_core::{ACCENT_LIMIT, Holding, KEY_COUNT, SLOT_LIMIT};
 use keymap_text::{Defined, FaultPlace, TextFault};
 use std::alloc::AllocError;
 
@@ -99,8 +99,6 @@ pub struct Diagnostics {
     pub unused_slots: ArrayVec<u8, KEY_COUNT>,
     /// What the search for sticking modifiers answers; nothing where the check has no findings.
     pub sticking: Option<Sticking>,
-    /// The modifiers that are on after the events which it found, in their order.
-    pub stuck: Vec<Modifier>,
 }
 
 /// What is said of a text.

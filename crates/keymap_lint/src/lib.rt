@@ -23,7 +23,6 @@ mod numbers;
 mod order;
 mod pair_again;
 mod spelled;
-mod stuck;
 mod unused_half;
 mod zero_accent;
 

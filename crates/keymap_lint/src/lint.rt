@@ -16,7 +16,6 @@ use crate::half_defined::missing_slots;
 use crate::mixed_key::nul_keys;
 use crate::order::put_in_order;
 use crate::spelled::SpelledText;
-use crate::stuck::stuck;
 use crate::unused_half::unused_slots;
 use console_core::{Sticking, sticking};
 use keymap_check::{Finding, check};
@@ -65,7 +64,6 @@ fn lint_with(
 {
     let list = ordered(alloc, text, cells, findings)?;
     let sticking = search(alloc, text.map(), findings)?;
-    let stuck = stuck(alloc, text.map(), &sticking)?;
     Ok(Diagnostics {
         list,
         missing_slots: missing_slots(text),
@@ -73,7 +71,6 @@ fn lint_with(
         missing_accents: missing_accents(text, cells),
         unused_slots: unused_slots(text),
         sticking,
-        stuck,
     })
 }
 

@@ -44,9 +44,10 @@ sticks_text stuck events =
     filled words.STICKS.now (modifiers_text stuck
     ∷ (if length stuck == 1 then words.ONE_STAYS.now else words.SOME_STAY.now) ∷ events_text events ∷ [])
 
--- the note on what the search answered, by the modifiers that stay on after the events that it found
-unfoldable pub answer_note : List ℕ → List ℕ → List Modifier → Option Sticking → List ℕ
-answer_note file text stuck None = []
-answer_note file text stuck (Some Never) = []
-answer_note file text stuck (Some (Undecided presses)) = note_text file text None (filled words.UNDECIDED.now [])
-answer_note file text stuck (Some (Sticks events)) = note_text file text None (sticks_text stuck events.items)
+-- the note on what the search answered
+unfoldable pub answer_note : List ℕ → List ℕ → Option Sticking → List ℕ
+answer_note file text None = []
+answer_note file text (Some Never) = []
+answer_note file text (Some (Undecided presses)) = note_text file text None (filled words.UNDECIDED.now [])
+answer_note file text (Some (Sticks events stuck)) =
+    note_text file text None (sticks_text stuck.items events.items)

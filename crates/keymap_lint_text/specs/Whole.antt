@@ -12,7 +12,7 @@ use Rattle.keymap_lint_text.specs.Shown.{shown_name}
 use Rattle.keymap_lint_text.specs.Said.{severity_text, message_text, kind_text, is_noted}
 
 abbrev pub answer_if : Bool → List ℕ → List ℕ → Diagnostics → List ℕ
-answer_if noted file text l = if noted then answer_note file text l.stuck.items l.sticking else []
+answer_if noted file text l = if noted then answer_note file text l.sticking else []
 
 -- a diagnostic of a text that spells a keymap, with what the search answered where that is told behind it
 abbrev pub one_diagnostic : List ℕ → List ℕ → Diagnostics → Diagnostic → List ℕ

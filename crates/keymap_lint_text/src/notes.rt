@@ -108,7 +108,7 @@ pub(crate) fn push_answer(
     lint: &Diagnostics,
 ) -> Result<(), AllocError>
     ensures { OnOk result (text.new.items
-        ≡ text.old.items ++ spec.answer_note file.now source.now lint.now.stuck.items lint.now.sticking) }
+        ≡ text.old.items ++ spec.answer_note file.now source.now lint.now.sticking) }
 {
     match &lint.sticking {
         None | Some(Sticking::Never) => Ok(()),
@@ -116,8 +116,8 @@ pub(crate) fn push_answer(
             let message = filled(alloc, UNDECIDED, &[])?;
             push_note(alloc, text, file, source, None, message.as_slice())
         }
-        Some(Sticking::Sticks(events)) => {
-            let message = sticks_message(alloc, lint.stuck.as_slice(), events.as_slice())?;
+        Some(Sticking::Sticks { events, modifiers }) => {
+            let message = sticks_message(alloc, modifiers.as_slice(), events.as_slice())?;
             push_note(alloc, text, file, source, None, message.as_slice())
         }
     }

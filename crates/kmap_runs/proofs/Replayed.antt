@@ -14,15 +14,13 @@ use Rattle.std.proofs.lemmas.Str.{inside_one}
 use Rattle.keymap_core.specs.declared.action.Modifier.{Modifier}
 use Rattle.keymap_core.specs.declared.action.Modifier.TheVariants.{LeftShift, RightShift, LeftControl, RightControl}
 use Rattle.keymap_core.specs.declared.action.Modifier.TheVariants.{LeftAlt, RightAlt, AltShift, Meta}
-use Rattle.keymap_core.specs.declared.action.Holding.TheVariants as holding
-use Rattle.keymap_core.specs.Actions.{modifiers}
 use Rattle.keymap_core.specs.Maps.{MapValue}
 use Rattle.keymap_text.specs.Meaning.{Spells}
 use Rattle.keymap_text.specs.Sources.{TakesWhole, ReadsMap}
 use Rattle.keymap_text.proofs.Verdicts.{one_map}
 use Rattle.console_core.specs.declared.event.Event.{Event}
 use Rattle.console_core.specs.declared.event.Event.TheVariants as event
-use Rattle.console_core.specs.History.{Maps, HasKey, HasKeys, is_on_after, between, answers_to}
+use Rattle.console_core.specs.History.{Maps, HasKey, HasKeys, answers_to}
 use Rattle.console_core.specs.declared.outcome.Sticking.{Sticking}
 use Rattle.console_core.specs.declared.outcome.Sticking.TheVariants.{Sticks, Never, Undecided}
 use Rattle.console_core.specs.Sticking.{LeavesOn, LeavesOnBetween, IsAnswer, IsAnswerBetween}
@@ -39,8 +37,8 @@ use Rattle.play_core.proofs.Sentences.{way-types}
 use Rattle.play_core.proofs.Spelling.{script-nil, line-script, events-script, delivers, feed-append, digits_feed}
 use Rattle.play_core.proofs.Verdicts.{one_list}
 use Rattle.keymap_core.specs.CodePoints.{digit_at, upper_digits, code_digits, code_text}
-use Rattle.kmap_runs.specs.Report.{holding_name, check_text, demonstration_text, report}
-use Rattle.kmap_runs.specs.Search.{name_if_on, script_text, undecided_text}
+use Rattle.kmap_runs.specs.Report.{check_text, demonstration_text, report}
+use Rattle.kmap_runs.specs.Search.{modifier_name, script_text, undecided_text}
 use Rattle.kmap_runs.specs.Inputs.{moves}
 use Rattle.kmap_runs.specs.Runs.{TypesSentence, PlaysTexts}
 use Rattle.keymap_core.specs.Unseen.{is_unseen}
@@ -125,7 +123,7 @@ unfolding shown
 feed-shown c = feed-shown_by (is_unseen c) c refl
 
 -- the name of a modifier
-feed-name : (i : Modifier) → has_line_feed (codes " " ++ holding_name (holding.Mod i)) ≡ false
+feed-name : (i : Modifier) → has_line_feed (modifier_name i) ≡ false
 feed-name LeftShift = refl
 feed-name RightShift = refl
 feed-name LeftControl = refl
@@ -134,11 +132,6 @@ feed-name LeftAlt = refl
 feed-name RightAlt = refl
 feed-name AltShift = refl
 feed-name Meta = refl
-
-feed-name_if : (t : Bool) (i : Modifier)
-    → has_line_feed (if t then codes " " ++ holding_name (holding.Mod i) else []) ≡ false
-feed-name_if true i = feed-name i
-feed-name_if false i = refl
 
 -- ---- lines before a script
 
@@ -255,18 +248,16 @@ lines-stick : (m : MapValue) (events : List Event) → LeavesOn m (reverse event
 lines-stick m events on = sticks-by (LeavesOn m) _ events (events-script events (keys-of events on.0)) on
 
 -- the same behind a comment with the names of modifiers
-script-sticks : (ms : Maps) (IsSo : List Event → Type 0) (events : List Event) → HasKeys (reverse events)
-    → IsSo (reverse events) → Delivers (script_text ms events) IsSo
-script-sticks ms IsSo events keys on =
-    let is_on : Modifier → Bool = λ i. is_on_after ms i (reverse events) in
-    let names : List ℕ = flat_map (name_if_on is_on) modifiers in
-    sticks-by IsSo (script_text ms events) events
+script-sticks : (on : List Modifier) (IsSo : List Event → Type 0) (events : List Event) → HasKeys (reverse events)
+    → IsSo (reverse events) → Delivers (script_text on events) IsSo
+script-sticks on IsSo events keys so =
+    let names : List ℕ = flat_map modifier_name on in
+    sticks-by IsSo (script_text on events) events
     (subst (λ t. IsScript (t ++ flat_map event_line events) (map sent_of events)) (sym (sticks-line names))
     (line-script (says (codes " sticks:" ++ names)) (flat_map event_line events) (map sent_of events)
-    (feed-append (codes " sticks:") names refl
-    (feed-flat (name_if_on is_on) (λ i. feed-name_if (is_on i) i) modifiers))
+    (feed-append (codes " sticks:") names refl (feed-flat modifier_name feed-name on))
     (events-script events (keys-of events keys))))
-    on
+    so
 
 -- a comment alone is a script of no events
 said : (line text : List ℕ) → line ≡ line_text (says text) → has_line_feed text ≡ false → IsScript line []
@@ -290,14 +281,14 @@ said-undecided p small =
     (feed-append (decimal p) (codes " presses sticks") (digits_feed (decimal p) (number p small)) refl))
 
 pub answer-replays : (m : MapValue) (found : Sticking) → IsAnswer m found → AnswerReplays m found
-answer-replays m (Sticks events) answer =
-    script-sticks (between m m) (LeavesOn m) events.items answer.0.0 answer.0
+answer-replays m (Sticks events on) answer =
+    script-sticks on.items (LeavesOn m) events.items answer.0.0 answer.0
 answer-replays m Never answer = said-never
 answer-replays m (Undecided p) answer = said-undecided p
 
 pub answer-replays-between : (ms : Maps) (found : Sticking) → IsAnswerBetween ms found → AnswerReplaysBetween ms found
-answer-replays-between ms (Sticks events) answer =
-    script-sticks ms (LeavesOnBetween ms) events.items answer.0.0 answer.0
+answer-replays-between ms (Sticks events on) answer =
+    script-sticks on.items (LeavesOnBetween ms) events.items answer.0.0 answer.0
 answer-replays-between ms Never answer = said-never
 answer-replays-between ms (Undecided p) answer = said-undecided p
 

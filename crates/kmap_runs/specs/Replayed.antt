@@ -4,7 +4,7 @@ use Rattle.keymap_core.specs.Maps.{MapValue}
 use Rattle.console_core.specs.declared.outcome.Sticking.{Sticking}
 use Rattle.console_core.specs.declared.outcome.Sticking.TheVariants.{Sticks, Never, Undecided}
 use Rattle.console_core.specs.declared.event.Event.{Event}
-use Rattle.console_core.specs.History.{Maps, between}
+use Rattle.console_core.specs.History.{Maps}
 use Rattle.console_core.specs.Sticking.{LeavesOn, LeavesOnBetween}
 use Rattle.keymap_text.specs.Meaning.{Spells}
 use Rattle.keymap_check.specs.Report.{report_of}
@@ -43,16 +43,16 @@ ScriptSticks m script = Delivers script (LeavesOn m)
 
 -- What is printed of an answer of the search: a script that does so where a modifier sticks, and else one of no events.
 -- A number of presses has 64 bits.
-abbrev pub FoundReplays : Maps → (List Event → Type 0) → Sticking → Type 0
-FoundReplays ms IsSo (Sticks events) = Delivers (found_text ms (Sticks events)) IsSo
-FoundReplays ms IsSo Never = IsScript (found_text ms Never) []
-FoundReplays ms IsSo (Undecided p) = p < 2 ^ 64 → IsScript (found_text ms (Undecided p)) []
+abbrev pub FoundReplays : (List Event → Type 0) → Sticking → Type 0
+FoundReplays IsSo (Sticks events on) = Delivers (found_text (Sticks events on)) IsSo
+FoundReplays IsSo Never = IsScript (found_text Never) []
+FoundReplays IsSo (Undecided p) = p < 2 ^ 64 → IsScript (found_text (Undecided p)) []
 
 abbrev pub AnswerReplays : MapValue → Sticking → Type 0
-AnswerReplays m found = FoundReplays (between m m) (LeavesOn m) found
+AnswerReplays m found = FoundReplays (LeavesOn m) found
 
 abbrev pub AnswerReplaysBetween : Maps → Sticking → Type 0
-AnswerReplaysBetween ms found = FoundReplays ms (LeavesOnBetween ms) found
+AnswerReplaysBetween ms found = FoundReplays (LeavesOnBetween ms) found
 
 -- Behind the report of the check stands that there is no demonstration, or a script that leaves a modifier on.
 abbrev pub ShowsScript : MapValue → List ℕ → Type 0

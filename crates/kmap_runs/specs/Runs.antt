@@ -1,5 +1,5 @@
 -- What the runs of the program do to the devices that they are lent.
-use Rattle.std.specs.Prelude.{◌≡◌, ◌↔◌, ◌⊎◌, IsTrue, ℕ, ◌<◌, Bool, true, false, List, All, Option, Some, None}
+use Rattle.std.specs.Prelude.{◌≡◌, ◌↔◌, ◌⊎◌, IsTrue, ℕ, ◌<◌, Bool, true, false, List, [], All, Option, Some, None}
 use Rattle.std.specs.Prelude.{Result, Ok, Err, length, take, ⊤}
 use Rattle.std.specs.Io.KnownBytes.{Appends}
 use Rattle.keymap_core.specs.Bounds.{IsMap}
@@ -10,7 +10,8 @@ use Rattle.keymap_tables.specs.declared.fault.TableError.{TableError}
 use Rattle.keymap_tables.specs.Fits.{Fits, IsFirstWide}
 use Rattle.keymap_tables.specs.Image.{image, narrow_image}
 use Rattle.keymap_draw.specs.declared.board.Board.{Board}
-use Rattle.keymap_draw.specs.Pictures.{picture}
+use Rattle.keymap_draw.specs.Pictures.{picture, drawing}
+use Rattle.keymap_draw.specs.Told.{AgreeWhereShown}
 use Rattle.keymap_draw.specs.WellFormed.{IsPlain, IsWellFormed}
 use Rattle.console_core.specs.declared.outcome.Sticking.{Sticking}
 use Rattle.console_core.specs.Headline.{IsSafe}
@@ -31,7 +32,7 @@ use Rattle.kmap_runs.specs.declared.fault_line.RunError.{RunError}
 use Rattle.kmap_runs.specs.declared.fault_line.RunError.TheVariants as error
 use Rattle.kmap_runs.specs.declared.fault_line.Source.TheVariants as source
 use Rattle.kmap_runs.specs.Cover.{cover_text}
-use Rattle.kmap_runs.specs.Inputs.{Moves, Stays, ReadsKeymap, ReadsKeymaps, ReadsFile, ReadsWhole, ReadsBoth, maps_of}
+use Rattle.kmap_runs.specs.Inputs.{Moves, moves, Stays, ReadsKeymap, ReadsKeymaps, ReadsFile, ReadsWhole, ReadsBoth, maps_of}
 use Rattle.kmap_runs.specs.LintRuns.{IsLinted}
 use Rattle.kmap_runs.specs.Replayed.{ShowsCover}
 use Rattle.kmap_runs.specs.Report.{report}
@@ -115,7 +116,7 @@ IsFound (m, Some n) found = IsAnswerBetween (between m n) found
 -- whether no modifier ever sticks, and what was found
 abbrev pub Finds : MapValue × Option MapValue → Bool → List ℕ → Type 0
 Finds v never told =
-    (found : Sticking) × IsFound v found × (never ≡ is_never found) × (told ≡ found_text (maps_of v) found)
+    (found : Sticking) × IsFound v found × (never ≡ is_never found) × (told ≡ found_text found)
 
 abbrev pub SearchesTexts : Moves → Option Moves → Moves → Result Bool RunError → Type 0
 SearchesTexts text next out r = Runs (ReadsKeymaps text next) LacksMemory Finds out r
@@ -171,6 +172,15 @@ abbrev pub DrawnAreWellFormed : Type 0
 DrawnAreWellFormed =
     (board : Board) (text out : Moves) → DrawsText board text out (Ok (tt {0}))
     → (drawn : List ℕ) × Appends out.old out.new drawn × IsWellFormed drawn × All IsPlain drawn
+
+-- Two texts of which the same bytes are drawn spell keymaps that are the same as far as their picture shows them.
+abbrev pub DrawnTellKeymaps : Type 0
+DrawnTellKeymaps =
+    (board another : Board) (text other : Moves) (drawn : List ℕ)
+    → DrawsText board text (moves (Some []) (Some drawn)) (Ok (tt {0}))
+    → DrawsText another other (moves (Some []) (Some drawn)) (Ok (tt {0}))
+    → (m n : MapValue) × ReadsKeymap source.Text text (Ok m) × ReadsKeymap source.Text other (Ok n)
+    × AgreeWhereShown (drawing m board) (drawing n another)
 
 -- A text that is called well spells a keymap under which no list of presses and releases leaves a modifier on.
 abbrev pub WellLintedNeverStick : Type 0

@@ -16,11 +16,10 @@ ghost use Rattle.kmap_runs.specs.Report.{report};
 ghost use Rattle.kmap_runs.specs.Replayed.{ScriptTypes, AnswerReplays, AnswerReplaysBetween, ShowsScript};
 ghost use Rattle.kmap_runs.specs.Replayed.{PlaysCover, strokes_sent};
 ghost use Rattle.kmap_runs.specs.Inputs.{moves};
-ghost use Rattle.kmap_runs.specs.Runs.{DrawnAreWellFormed, PlaysTexts, TypesSentence, WellLintedNeverStick};
-ghost use Rattle.kmap_runs.specs.Runs.{CoversText, PrintedCoversAreScripts};
+ghost use Rattle.kmap_runs.specs.Runs.{DrawnAreWellFormed, DrawnTellKeymaps, PlaysTexts, TypesSentence, WellLintedNeverStick};
 ghost use Rattle.kmap_runs.specs.Typing.{typing_script};
 
-use keymap_draw::laws::{pictures_are_plain, pictures_are_well_formed};
+use keymap_draw::laws::{pictures_are_plain, pictures_are_well_formed, pictures_tell_keymaps};
 use keymap_lint::laws::well_texts_never_stick;
 
 /// What is printed to type characters is a script of exactly the events of their ways.
@@ -83,6 +82,13 @@ pub fn drawn_pictures_are_well_formed()
 {
     pictures_are_well_formed();
     pictures_are_plain();
+}
+
+/// Two texts of which the same bytes are drawn spell keymaps that are the same as far as their picture shows them.
+pub fn drawn_pictures_tell_keymaps()
+    ensures { DrawnTellKeymaps }
+{
+    pictures_tell_keymaps();
 }
 
 /// A text that the run that prints diagnostics calls well spells a keymap under which no list of presses and releases

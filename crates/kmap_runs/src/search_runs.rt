@@ -6,7 +6,7 @@ ghost use Rattle.kmap_runs.specs.Inputs.{blames, has_failed_if, moves, moves_if}
 ghost use Rattle.kmap_runs.specs.Runs.{Finds, IsFound, SearchesTexts, blames_writer};
 
 use crate::fault_line::{RunError, Source};
-use crate::inputs::{read_keymaps, second_of};
+use crate::inputs::read_keymaps;
 use crate::search::found_text;
 use console_core::{Sticking, sticking, sticking_between};
 use keymap_core::{KeyMap, Read, Write, write_text};
@@ -37,7 +37,7 @@ fn searched(
     ensures { IfOk result (λ r. Finds (first.now, next.now) r.0 r.1.items) }
 {
     let found = found_in(alloc, first, next)?;
-    let text = found_text(alloc, first, second_of(first, next), &found)?;
+    let text = found_text(alloc, &found)?;
     Ok((is_never(&found), text))
 }
 

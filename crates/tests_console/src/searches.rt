@@ -38,7 +38,8 @@ fn expect_found(
 ) -> Result<(), Fail> {
     match (found, wanted) {
         (Sticking::Never, None) => {}
-        (Sticking::Sticks(events), Some((presses, count, modifier, locks))) => {
+        (Sticking::Sticks { events, modifiers }, Some((presses, count, modifier, locks))) => {
+            expect_equal_at(rt, &modifier, &modifiers.as_slice(), &[modifier].as_slice());
             let counts = (presses_among(events.as_slice()), events.len());
             expect_equal_at(rt, &modifier, &counts, &(presses, count));
             let mut console = PlainConsole::between(maps.0, maps.1);

@@ -30,6 +30,7 @@ use Rattle.console_core.specs.Moves.{Under, State, start, look_in, Holds, IsIdle
 use Rattle.console_core.specs.Moves.{moved, IsPath, presses_of, presses_along}
 use Rattle.console_core.specs.Moves.{state_after, script_of_path, with_holder, with_lock_turned}
 use Rattle.console_core.specs.Sticking.{SticksBetween, ReachesMoreThan, ReleasesPressedKeys, presses, state_limit}
+use Rattle.console_core.specs.Sticking.{AreOnAfter}
 
 -- the state that the tables are
 abbrev pub state_of : Held → State
@@ -194,7 +195,9 @@ NeverUnder u =
 
 -- what each answer says of the keymaps, with loads or without
 abbrev pub IsAnswerUnder : Under → Sticking → Type 0
-IsAnswerUnder u (Sticks events) = LeavesOnUnder u (reverse events.items) × HasFewestUnder u (reverse events.items)
+IsAnswerUnder u (Sticks events on) =
+    LeavesOnUnder u (reverse events.items) × HasFewestUnder u (reverse events.items)
+    × AreOnAfter u.maps (reverse events.items) on.items
 IsAnswerUnder u Never = NeverUnder u
 IsAnswerUnder u (Undecided p) = ReachesMoreThan u state_limit p × NoneUnderBy u p
 

@@ -1,6 +1,7 @@
 use Rattle.std.proofs.Common.{true, refl, reverse, subst}
 use Rattle.std.proofs.lemmas.Option.{slice_get_within}
 use Rattle.console_core.specs.declared.search.End.TheVariants as end
+use Rattle.console_core.specs.Sticking.{AreOnAfter}
 use Rattle.console_core.specs.Inner.Searching.{under_of, HasEnded}
 use Rattle.console_core.proofs.Concluding.{searched-never, stuck-sticks}
 use Rattle.console_core.proofs.GoingBack.{searched-back}
@@ -28,8 +29,15 @@ returns-in-AtStuck c =
     let es = c.meet_all.new.met.entries in
     let ended : HasEnded u true es (end.AtStuck c.in-AtStuck.stuck) =
     subst (λ o. HasEnded u true es o) c.in-AtStuck.is c.in_ok-stuck.ensures in
+    let events = c.in_ok-events-in-AtStuck.events.items in
+    let left =
     stuck-sticks u es ended.2.0 ended.2.1 c.in-AtStuck.stuck.place c.in-AtStuck.stuck.key ended.2.2 ended.2.3 ended.2.4
-    ended.1 (reverse c.in_ok-script-in-AtStuck.field-0.items) (c.in_ok-script-in-AtStuck.ensures u)
+    ended.1 (reverse events) (c.in_ok-events-in-AtStuck.ensures u) in (
+      left.0,
+      left.1,
+      subst (λ es. AreOnAfter u.maps (reverse es) c.in_ok-modifiers-in-AtStuck.modifiers.items)
+          c.as_slice.ensures.value c.in_ok-modifiers-in-AtStuck.ensures,
+    )
 
 pub returns-in-Complete : goal.returns-in-Complete
 returns-in-Complete c =

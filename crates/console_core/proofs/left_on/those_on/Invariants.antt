@@ -2,7 +2,7 @@ use Rattle.std.proofs.Common.{◌≡◌, take, List}
 use Rattle.std.specs.Prelude.{filter}
 use Rattle.keymap_lint.specs.Types.{Event}
 use Rattle.console_core.specs.History.{Maps, is_on_after}
-use Rattle.keymap_lint.proofs.stuck.those_on.Given as goal
+use Rattle.console_core.proofs.left_on.those_on.Given as goal
 
 -- those that are on among the modifiers so far
 abbrev pub invariant-loop-modifier : goal.invariant-loop-modifier

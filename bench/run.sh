@@ -307,6 +307,7 @@ both=$(cost search "$keymap" --next "$examples/de.kbd")
 echo "search of us.kbd: $one $unit, of de.kbd: $other $unit; between them: $both $unit, times" \
     "$(awk -v a="$one" -v b="$other" -v c="$both" 'BEGIN { printf "%.2f", c / (a > b ? a : b) }')"
 echo "  $(transfers search "$keymap" --next "$examples/de.kbd")"
+measured search "$one"
 measured search-between-to-one "$(ratio "$both" "$([ "$one" -gt "$other" ] && echo "$one" || echo "$other")")"
 
 tr -dc '\012a-zA-Z0-9 ,.;:!?' < text.whole | tr '\012' ' ' | head -c 32768 > sentence

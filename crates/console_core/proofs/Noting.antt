@@ -163,5 +163,5 @@ searched-noted m es x s notes n = (
       path-kept (alone m) (suc p) (IsAmong es) (searched-kept (alone m) es s (suc p)) path made (omega arith) in
       (notes n).0 j y at (slice_get_within es j y at)
       (subst (λ z. IsNoteOf (alone m) z n) (sym e)
-          (note-unscrolled (alone m) (state_after (alone m) path) t n same is))),
+      (note-unscrolled (alone m) (state_after (alone m) path) t n same is))),
 )

@@ -501,9 +501,10 @@ releases-along u (Turn k l ∷ path) is = (
       ∙ ap (λ b. if b then true else pressed k (events_along path)) (eq-eqb k k refl),
   (tt, releases-along u path is.1),
 )
-releases-along u (LetGo k i ∷ path) is =
-    (holder-pressed u (events_along path) (state_after u path) i k (stands u path is.1) is.0,
-        releases-along u path is.1)
+releases-along u (LetGo k i ∷ path) is = (
+  holder-pressed u (events_along path) (state_after u path) i k (stands u path is.1) is.0,
+  releases-along u path is.1,
+)
 releases-along u (Exchange ∷ path) is = (tt, releases-along u path is.1)
 
 -- a key that holds none of these modifiers stays pressed
@@ -567,7 +568,7 @@ pub releases-script : (u : Under) (path : List Move) → IsPath u path → (k : 
 releases-script u path is k =
     releases-holders u (events_along path) (state_after u path) (stands u path is) (Press k ∷ events_along path)
     (λ i n holds. after (k == n) n
-        (holder-pressed u (events_along path) (state_after u path) i n (stands u path is) holds)
+    (holder-pressed u (events_along path) (state_after u path) i n (stands u path is) holds)
     (pressed-press n k (events_along path)))
     (tt, releases-along u path is) modifiers refl
   where

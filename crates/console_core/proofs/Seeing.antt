@@ -127,7 +127,7 @@ takes-pending m p a i e = by (keeps_taken a) e
 -- where a dead key is taken by a press, the key holds nothing and looks it up
 offered-here : (m : MapValue) (h : List Event) (k i : ℕ) (b : Action) → Stands m h → k < 128
     → look m (resolved (between m m) h) k ≡ Act b → taken_over (remembered k (resolved (between m m) h)) b
-        ≡ act.DeadKey i
+    ≡ act.DeadKey i
     → IsNoted (alone m) (Note.Offered i)
 offered-here m h k i b (s, (path, made, leads), f) lt seen taken =
     let r : List ResolvedEvent = resolved (between m m) h in

@@ -82,7 +82,8 @@ answers_alike m (Sticks events on) Never ((keys, made, (i, sticks)), fewest, rel
     let twice : SticksBetween (between m m) (reverse events.items) i =
     sticks_twice m (reverse events.items) i sticks in
     true≢false (sym twice.1 ∙ (never (reverse events.items) keys).1 twice.0 i)
-answers_alike m (Sticks events on) (Undecided p) ((keys, made, (i, sticks)), fewest, releases, are_on) (reaches, none_by) =
+answers_alike m (Sticks events on) (Undecided p) ((keys, made, (i, sticks)), fewest, releases, are_on)
+    (reaches, none_by) =
     none_by (reverse events.items) keys i (sticks_twice m (reverse events.items) i sticks)
 answers_alike m Never (Sticks events on) never ((keys, made, (i, sticks)), fewest, releases, are_on) =
     let h : List Event = reverse events.items in
@@ -91,7 +92,8 @@ answers_alike m Never (Sticks events on) never ((keys, made, (i, sticks)), fewes
     ∙ (never (between m m) (loads_as_resets h) refl (keys_alike h keys) (no_loads_left h)).1 alone.0 i)
 answers_alike m Never Never never same = tt
 answers_alike m Never (Undecided p) never x = tt
-answers_alike m (Undecided p) (Sticks events on) (reaches, none_by) ((keys, made, (i, sticks)), fewest, releases, are_on) =
+answers_alike m (Undecided p) (Sticks events on) (reaches, none_by)
+    ((keys, made, (i, sticks)), fewest, releases, are_on) =
     let h : List Event = reverse events.items in
     let more : p < presses (loads_as_resets h) =
     none_by (loads_as_resets h) (keys_alike h keys) (no_loads_left h) i (sticks_alone m h i keys sticks) in

@@ -28,7 +28,7 @@ pairs test (x ∷ xs) h zero (suc j) d below l =
     each (test x) xs (and_parts (list_all (test x) xs) (pairwise test xs) h).0 j d (omega (arith, l))
 pairs test (x ∷ xs) h (suc i) (suc j) d below l =
     pairs test xs (and_parts (list_all (test x) xs) (pairwise test xs) h).1 i j d (omega (arith, below))
-        (omega (arith, l))
+    (omega (arith, l))
 
 pub boards_are_keyboards : BoardsAreKeyboards
 boards_are_keyboards Iso = refl

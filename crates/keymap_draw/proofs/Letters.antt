@@ -117,11 +117,11 @@ one_of differs h p q e f (i, l, a) (j, m, b) = elim (cases_order i j) [
   | inr (inl lt) ↦
       let d : differs (get_or letters i p) (get_or letters j p) ≡ true = pairs differs letters h i j p lt m in
       absurd (true≢false (sym d ∙ ap (λ x. differs x (get_or letters j p)) a
-          ∙ ap (differs p) (sym (default p q j m) ∙ b) ∙ e))
+      ∙ ap (differs p) (sym (default p q j m) ∙ b) ∙ e))
   | inr (inr gt) ↦
       let d : differs (get_or letters j p) (get_or letters i p) ≡ true = pairs differs letters h j i p gt l in
       absurd (true≢false (sym d ∙ ap (λ x. differs (get_or letters j p) x) a
-          ∙ ap (λ x. differs x p) (sym (default p q j m) ∙ b) ∙ f))
+      ∙ ap (λ x. differs x p) (sym (default p q j m) ∙ b) ∙ f))
 ]
   where
     default : (p q : ℕ × ℕ) (k : ℕ) → k < length letters → get_or letters k q ≡ get_or letters k p

@@ -106,7 +106,7 @@ abbrev pub parts : Row → List Part
 parts key = elim key.3 [
   | Enter ↦
       record { x = key.1; y = key.2; wide = 96; high = 64 }
-          ∷ record { x = key.1 + 16; y = key.2 + 64; wide = 80; high = 64 }
+      ∷ record { x = key.1 + 16; y = key.2 + 64; wide = 80; high = 64 }
       ∷ []
   | shape ↦ record { x = key.1; y = key.2; wide = width key.3; high = height key.3 } ∷ []
 ]

@@ -107,8 +107,11 @@ pub record TokenAt (text : List ℕ) (at : ℕ) (s : Standing) (t : TokenValue) 
 token_width : TokenLaws → (kind : TokenKind) (c n : ℕ) (rest : List ℕ) → front_of c rest ≡ Found kind n
     → width kind (c ∷ take n rest) ≤ length (c ∷ take n rest)
 token_width laws (Literal d) c n rest h =
-    omega (arith, (laws.found c n (Literal d) rest h).wide,
-        length-take-le n rest (laws.found c n (Literal d) rest h).within)
+    omega (
+      arith,
+      (laws.found c n (Literal d) rest h).wide,
+      length-take-le n rest (laws.found c n (Literal d) rest h).within,
+    )
 token_width laws ParenL c n rest h = omega arith
 token_width laws ParenR c n rest h = omega arith
 token_width laws Word c n rest h = omega arith
@@ -160,7 +163,7 @@ token_found laws text at s t l h e = go (at_front laws c rest)
     go (hash b) = absurd (no_hash b)
     go (token kind n p q f) =
         let u : TokenValue =
-            record { kind = kind; bytes = c ∷ take n rest; start = at; last = is_empty (drop n rest) } in
+        record { kind = kind; bytes = c ∷ take n rest; start = at; last = is_empty (drop n rest) } in
         let same : t ≡ u =
         then_first t u (tokens_after n (at + 1) rest) (here ∙ ap first (split_found at c n kind rest f)) in
         subst (TokenAt text at s) (sym same) (of_token kind n p q f)

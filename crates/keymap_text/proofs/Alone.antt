@@ -96,7 +96,7 @@ literal_front_wide c d n s h = go (role c)
     go (Letter i) = absurd (no_word (leading is_word s) (sym (front_word c s i) ∙ h))
     go (Other r i) =
         absurd (let g = sym (front_no_role c s r ∙ ap (λ t. cond t (word (leading is_word s)) (Refused BadByte)) i)
-            ∙ h in cc)
+        ∙ h in cc)
 
 -- what is passed over is a blank or a comment
 pub skipped_separates : (c n : ℕ) (s : List ℕ) → front_of c s ≡ Skipped n → separates c ≡ true
@@ -118,7 +118,7 @@ skipped_separates c n s h = go (role c)
     go (Letter i) = absurd (no_word (leading is_word s) (sym (front_word c s i) ∙ h))
     go (Other r i) =
         absurd (let g = sym (front_no_role c s r ∙ ap (λ t. cond t (word (leading is_word s)) (Refused BadByte)) i)
-            ∙ h in cc)
+        ∙ h in cc)
 
 -- a letter or digit is no LF, and no blank
 word_on_line : (c : ℕ) → is_word c ≡ true → stays_on_line c ≡ true
@@ -184,7 +184,7 @@ token_in_line c n k s h = go (role c)
     go (Letter i) = of_word i
     go (Other r i) =
         absurd (let g = sym (front_no_role c s r ∙ ap (λ t. cond t (word (leading is_word s)) (Refused BadByte)) i)
-            ∙ h in cc)
+        ∙ h in cc)
 
 front_wide : (c n : ℕ) (k : TokenKind) (s : List ℕ) → front_of c s ≡ Found k n → IsWide k n
 front_wide c n (Literal d) s h = literal_front_wide c d n s h

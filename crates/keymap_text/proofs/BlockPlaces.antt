@@ -48,7 +48,7 @@ start_of_block b ss place d e l =
     let at : slice_index_or ss (place / 256) d ≡ line_start b q =
     ap (λ xs. slice_index_or xs (place / 256) d) e
     ∙ get_or-map-range_with_len (λ i. line_start b (i * block_size)) 0 (length b / 256 + 1)
-        (place / 256) (place / 256) d
+    (place / 256) (place / 256) d
     (omega (arith, shr_mono 8 l)) (omega arith) in
     omega (arith, at, suffix_len-le-length stays_on_line (take q b), length-take q b)
 

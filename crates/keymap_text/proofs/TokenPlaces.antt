@@ -71,7 +71,7 @@ all_among (c ∷ bytes) zero q = go (front_of c bytes) refl (λ n. all_among byt
         subst (λ ts. All (Among q (c ∷ bytes)) (list_of ts)) (sym (split_skipped q c n bytes e)) (later n (ih n))
     go (Found kind n) e ih =
         let t : TokenValue =
-            record { kind = kind; bytes = c ∷ take n bytes; start = q; last = is_empty (drop n bytes) } in
+        record { kind = kind; bytes = c ∷ take n bytes; start = q; last = is_empty (drop n bytes) } in
         subst (λ ts. All (Among q (c ∷ bytes)) (list_of ts)) (sym (split_found q c n kind bytes e))
         (subst (All (Among q (c ∷ bytes))) (sym (list_then t (tokens_after n (q + 1) bytes)))
         (All-cons (Among q (c ∷ bytes)) t (list_of (tokens_after n (q + 1) bytes)) (in_front q c n kind bytes e)

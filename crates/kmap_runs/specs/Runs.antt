@@ -32,7 +32,8 @@ use Rattle.kmap_runs.specs.declared.fault_line.RunError.{RunError}
 use Rattle.kmap_runs.specs.declared.fault_line.RunError.TheVariants as error
 use Rattle.kmap_runs.specs.declared.fault_line.Source.TheVariants as source
 use Rattle.kmap_runs.specs.Cover.{cover_text}
-use Rattle.kmap_runs.specs.Inputs.{Moves, moves, Stays, ReadsKeymap, ReadsKeymaps, ReadsFile, ReadsWhole, ReadsBoth, maps_of}
+use Rattle.kmap_runs.specs.Inputs.{Moves, moves, Stays, ReadsKeymap, ReadsKeymaps, ReadsFile, ReadsWhole, ReadsBoth}
+use Rattle.kmap_runs.specs.Inputs.{maps_of}
 use Rattle.kmap_runs.specs.LintRuns.{IsLinted}
 use Rattle.kmap_runs.specs.Replayed.{ShowsCover}
 use Rattle.kmap_runs.specs.Report.{report}

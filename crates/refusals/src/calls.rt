@@ -252,7 +252,9 @@ fn searches<W: Write>(alloc: Global, text: &[u8], marks: &mut W) -> Result<Outco
     let answer = sticking(alloc, &map);
     mark(marks);
     Ok(Outcome::of(match answer {
-        Ok(Sticking::Sticks { events, .. }) => done(text == TRAP && events.len() == 5),
+        Ok(Sticking::Sticks { events, modifiers }) => {
+            done(text == TRAP && events.len() == 5 && modifiers.len() == 1)
+        }
         Ok(Sticking::Never) => done(text == TEXT),
         Ok(Sticking::Undecided(_)) => Answer::Fault,
         Err(AllocError) => Answer::Memory,
@@ -272,7 +274,9 @@ fn searches_between<W: Write>(
     let answer = sticking_between(alloc, &first, &second);
     mark(marks);
     Ok(Outcome::of(match answer {
-        Ok(Sticking::Sticks { events, .. }) => done(text == LOCKED && events.len() == 6),
+        Ok(Sticking::Sticks { events, modifiers }) => {
+            done(text == LOCKED && events.len() == 6 && modifiers.len() == 1)
+        }
         Ok(Sticking::Never) => done(text == TEXT),
         Ok(Sticking::Undecided(_)) => Answer::Fault,
         Err(AllocError) => Answer::Memory,

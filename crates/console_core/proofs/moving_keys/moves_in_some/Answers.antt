@@ -6,4 +6,4 @@ pub returns-else-moves : goal.returns-else-moves
 returns-else-moves c =
     λ no.
     unmoving-key (under_of c.args.maps.now) c.args.key (c.moves.ensures c.if-moves.false)
-        (c.moves-else-moves.ensures no)
+    (c.moves-else-moves.ensures no)

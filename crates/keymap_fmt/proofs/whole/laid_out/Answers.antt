@@ -30,7 +30,7 @@ returns-then-len-gt-LIMIT-clause-refused c =
     omega (arith, c.if-len-gt-LIMIT.true, c.len.ensures, c.push_piece.new.laid.ok.0) in
     longer 1048576 c.push_piece.new.laid.items (rendered_from c.push_piece.new.state rest) (formatted text)
     (piece_written c.loop-piece.laid.items c.push_piece.new.laid.items (formatted text) c.loop-piece.state
-        c.push_piece.new.state
+    c.push_piece.new.state
     (piece_view p) (pieces_after 0 c.loop-piece.standing (drop c.loop-piece.at text)) rest c.in-Some.ensures.others
     c.in-Ok.ensures.text c.in-Ok.ensures.state c.loop-piece.invariant.same) long
 

@@ -65,7 +65,7 @@ returns-clause-taken g c =
     rows-image (accent_bytes l) (IsAccentIn l)
     (λ (xs : List AccentValue). (entries : List Entry) → g.D.Definitions.shows c.args.into.now (made_of entries [])
     → g.D.Definitions.shows c.loop-index.into (made_of entries xs)) (accent_size l) 15 c.args.n_accs
-        c.loop-index.index _ c.args.bytes.now _
+    c.loop-index.index _ c.args.bytes.now _
     c.loop-index.invariant.rows (omega arith) c.requires.whole
     (place (accent_size l) c.args.n_accs _ c.accent-2.ensures) c.check_zeros.ensures.none
 

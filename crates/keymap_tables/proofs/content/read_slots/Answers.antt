@@ -60,7 +60,7 @@ returns-clause-taken g c =
     rows-image (slot_bytes l) (IsEntryIn l)
     (λ (es : List Entry). g.D.Definitions.shows c.args.into.now (made_of [] [])
     → g.D.Definitions.shows c.loop-slot.into (made_of es [])) (slot_size l) 256 c.args.n_keys c.loop-slot.slot _
-        c.args.bytes.now _
+    c.args.bytes.now _
     c.loop-slot.invariant.rows (omega arith) c.requires.whole
     (place (slot_size l) c.args.n_keys _ c.slot-2.ensures) c.check_zeros.ensures.none
 

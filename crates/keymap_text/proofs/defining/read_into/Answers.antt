@@ -1,4 +1,4 @@
-use Rattle.std.proofs.Common.{refl, arith, length, drop}
+use Rattle.std.proofs.Common.{refl, arith, length, drop, ◌∙◌}
 use Rattle.keymap_text.specs.Lexical.{tokens_after}
 use Rattle.keymap_text.specs.Tokens.{token_view}
 use Rattle.keymap_text.specs.Inner.Views.{grammar_view}

@@ -29,7 +29,7 @@ loop-token-preserved c =
       reached =
           sym (reached_on (row_place l.wanted) (row_place next.next) l.definition c.definition_after-definition.result
           l.at c.item_of-item.result (token_view text t) t.span (tokens_from text t.span.end) (tokens_from text l.at)
-              f.others
+          f.others
           c.item_of-item.ensures next.ensures.0 c.definition_after-definition.ensures f.span)
           ∙ l.invariant.reached;
     }

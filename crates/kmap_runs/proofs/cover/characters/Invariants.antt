@@ -7,5 +7,5 @@ use Rattle.kmap_runs.proofs.cover.characters.Given as goal
 abbrev pub invariant-loop-base : goal.invariant-loop-base
 invariant-loop-base l =
     l.text.items ≡ flat_map (character_text (verdict_of l.listing.map.now l.listing.cover.now) l.listing.listed
-        l.accent)
+    l.accent)
     (take l.base-index l.bases)

@@ -40,4 +40,4 @@ returns-in-Locks-clause-unseen c =
     let at : SeesBy m y k locks = subst (λ x. SeesBy m y k x) c.in-Locks.is sees in
     c.sees-in-Locks.ensures.unseen e
     (subst (λ n. SeesBy m y n locks)
-        (sym (c.key_of-in-Locks.ensures.value ∙ key-of-slot y k c.in-Locks.slot lt at.0)) at)
+    (sym (c.key_of-in-Locks.ensures.value ∙ key-of-slot y k c.in-Locks.slot lt at.0)) at)

@@ -6,9 +6,10 @@ use Rattle.console_core.proofs.sights.Sights.can_see.Goals as goal
 pub returns-then-is_offered-clause-reachable : goal.returns-then-is_offered-clause-reachable
 returns-then-is_offered-clause-reachable c =
     λ are e.
-    let (y, has, (k, lt, sees)) = c.is_selected.ensures.seen e in
-    (c.is_offered.ensures.offered c.args.map.now are c.if-is_offered.true,
-        (y, k, (are (Note.Selected y)).0 has, lt, sees))
+    let (y, has, (k, lt, sees)) = c.is_selected.ensures.seen e in (
+      c.is_offered.ensures.offered c.args.map.now are c.if-is_offered.true,
+      (y, k, (are (Note.Selected y)).0 has, lt, sees),
+    )
 
 pub returns-then-is_offered-clause-unreachable : goal.returns-then-is_offered-clause-unreachable
 returns-then-is_offered-clause-unreachable c =

@@ -21,9 +21,9 @@ returns g c =
       subst (λ j. IsTour m (event.Press k ∷ h) c.push.new.self.items (slice_set old.pressed j true) now)
           (sym c.get.ensures.same)
           (tour-press m h old.strokes.items c.push.new.self.items old.pressed (has_seen old.seen) now k
-              c.press_of-stroke.result
+          c.press_of-stroke.result
           c.in_ok-push.ensures.items t c.press_of-stroke.ensures.event
           (c.press_of-stroke.ensures.possible (reverse old.strokes.items)
-              (c.is_pressed.ensures.value ∙ t.pressed k below)) below within
+          (c.is_pressed.ensures.value ∙ t.pressed k below)) below within
           (c.in_ok-note.ensures h stands)),
     )

@@ -21,6 +21,6 @@ returns-in_ok-push-clause-along g c =
           (has_seen old.seen))
           (sym c.get.ensures.same)
           (tour-up m h old.strokes.items c.push.new.self.items old.pressed
-              (has_seen old.seen) k c.in_ok-push.ensures.items t
+          (has_seen old.seen) k c.in_ok-push.ensures.items t
           below within (sym c.is_pressed.ensures.value ∙ c.if-is_pressed.true)),
     )

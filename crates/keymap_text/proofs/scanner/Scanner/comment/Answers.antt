@@ -15,7 +15,7 @@ returns c =
     let none = subst (λ m. KeepsMode m r.pending.items) c.requires.mode c.requires.reader.keeps in
     let within : n ≤ leading stays_on_line rest = omega (arith, c.line_len-n.ensures.value) in
     record {
-      takes = take_comments (state_view r.grammar) r.mode r.pending.items r.offset n rest c.requires.mode within;
+      takes = take_comments (state_view r) r.mode r.pending.items r.offset n rest c.requires.mode within;
       reader = record {
         place = c.requires.reader.place;
         keeps = c.requires.reader.keeps;

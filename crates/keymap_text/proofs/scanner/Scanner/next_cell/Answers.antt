@@ -20,6 +20,6 @@ returns-in-Err c = record {
   refuses = λ slot q e reader kind offset line.
       cell_refused c.args.self.now slot c.args.index q c.space_len-blanks.result c.in-Some.n c.args.rest.now
       c.in-Some.item e reader c.requires.mode c.space_len-blanks.ensures.blank c.space_len-blanks.ensures.length
-          c.in-Some.ensures
+      c.in-Some.ensures
       (sym c.in-Err.ensures ∙ ap Err (sym kind)) (omega (arith, offset)) line;
 }

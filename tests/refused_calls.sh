@@ -96,6 +96,7 @@ refuses compile_narrow_run
 # A vector that is refused room to grow asks for what it needs now, so a single refusal may have no effect.
 rest=REFUSE_REST=1
 refuses definitions
+refuses events_that_show
 refuses diagnostics
 refuses diagnostics-none
 refuses diagnostics-faulty

@@ -19,7 +19,8 @@ use Rattle.console_core.proofs.Staying.{IsKeptBelow, IsSafeBelow, never-sticks, 
 use Rattle.console_core.proofs.Scripts.{script-sticks, presses-script, releases-script}
 use Rattle.console_core.proofs.Growing.{at_old}
 use Rattle.console_core.proofs.Searching.{order-within}
-use Rattle.console_core.proofs.Unscrolled.{unscrolled, moves-unscrolled, same_moved, scroll-moved}
+use Rattle.console_core.specs.Inner.Standing.{unscrolled}
+use Rattle.console_core.proofs.Unscrolled.{moves-unscrolled, same_moved, scroll-moved}
 
 -- The states met by at most p presses, but for the scroll lock.
 abbrev pub IsAmong : Entries → ℕ → State → Type 0

@@ -2,7 +2,7 @@
 use Rattle.std.proofs.Common.{◌≡◌, Bool, true, false, Result, Ok, Err, IfOk, All, List, refl, ap, subst, sym, ◌∙◌}
 use Rattle.std.proofs.Common.{get_or, reverse, filter, if◌then◌else◌}
 use Rattle.std.proofs.lemmas.Bool.{true≢false}
-use Rattle.keymap_core.specs.declared.action.Modifier.{Modifier}
+use Rattle.console_core.specs.Types.{Modifier, Event, Press, Release, Reset, Load, Sticking, Sticks, Never, Undecided}
 use Rattle.keymap_core.specs.Actions.{modifiers}
 use Rattle.keymap_core.specs.Maps.{MapValue}
 use Rattle.console_core.specs.Resolved.{on}

@@ -57,6 +57,17 @@ leads-next es last items (move ∷ path) target (by, trail) e y at = (
   trail-leads es last.0 path y at trail,
 )
 
+-- the same of the moves themselves
+pub move-next : (es : Entries) (last : ℕ × Move) (moves rest target : List Move) → LeadsBy es (Some last) rest
+    → moves ++ rest ≡ target → (y : Entry) → slice_get es last.0 ≡ Some y
+    → (more : List Move) × ((moves ++ last.1 ∷ []) ++ more ≡ target) × LeadsBy es y.1.last more
+move-next es last moves [] target none e y at = absurd none
+move-next es last moves (move ∷ path) target (by, trail) e y at = (
+  path,
+  append_assoc moves (last.1 ∷ []) path ∙ ap (λ b. moves ++ b ∷ path) by ∙ e,
+  trail-leads es last.0 path y at trail,
+)
+
 pub leads-end : (es : Entries) (items : List Event) (rest : List Move) (target : List Event) → LeadsBy es None rest
     → items ++ events_along rest ≡ target → items ≡ target
 leads-end es items [] target x e = sym (append-nil items) ∙ e

@@ -1,4 +1,5 @@
 pub mod Agreeing
+pub mod Arriving
 pub mod Bearing
 pub mod Borne
 pub mod Bytes
@@ -8,19 +9,25 @@ pub mod Deciding
 pub mod Deliveries
 pub mod Facts
 pub mod FreshPresses
+pub mod Going
 pub mod GoingBack
 pub mod Growing
 pub mod Headline
 pub mod Keeping
+pub mod Looking
 pub mod MovingKeys
 pub mod Noting
 pub mod OneMap
 pub mod OneMore
 pub mod Places
 pub mod PlainLooks
+pub mod Planning
 pub mod Prefixes
 pub mod Reaching
 pub mod Readings
+pub mod Results
+pub mod Returning
+pub mod RoutesHome
 pub mod Runs
 pub mod Scripts
 pub mod Searching
@@ -31,4 +38,5 @@ pub mod Traps
 pub mod Twice
 pub mod Unscrolled
 pub mod Visible
+pub mod Visits
 pub mod WordBits

@@ -10,13 +10,13 @@ use Rattle.std.proofs.lemmas.Option.{slice_get_within}
 use Rattle.keymap_core.specs.Maps.{MapValue}
 use Rattle.keymap_core.specs.declared.action.Action.TheVariants as act
 use Rattle.console_core.specs.Moves.{Under, alone, State, look_in, IsForgetful, IsPath, state_after, presses_along}
-use Rattle.console_core.specs.Sights.{Note, selection_of, IsNoteOf, Has, AreSightsOf}
+use Rattle.console_core.specs.Sights.{Note, selection_of, IsNoteOf, IsNoted, Has, AreSightsOf}
 use Rattle.console_core.specs.Inner.Searching.{state_of, Entry, Entries, IsReached, Searched}
 use Rattle.console_core.specs.Inner.Noting.{IsWith, Offers, AddsOffer, AddsOffers, AddsNotes, AreNotesTo, AreNotesOf}
 use Rattle.console_core.proofs.Staying.{IsKeptBelow}
 use Rattle.console_core.proofs.Concluding.{IsAmong, searched-kept}
 use Rattle.console_core.proofs.Searching.{place_last, same_entry}
-use Rattle.console_core.proofs.Unscrolled.{unscrolled}
+use Rattle.console_core.specs.Inner.Standing.{unscrolled}
 
 -- what a list has that x was added to
 pub with-new : {X : Type 0} (x : X) (old now : List X) → IsWith x old now → Contains now x
@@ -34,7 +34,7 @@ with-only x old now (inl (e, has)) y there = inl (subst (λ z. Contains z y) e t
 with-only x old now (inr e) y there = Contains-push_cases old x y (subst (λ z. Contains z y) e there)
 
 -- a key looks up one dead key at most
-one_accent : (a b : ℕ) (x : Cell) → x ≡ Act (act.DeadKey a) → x ≡ Act (act.DeadKey b) → a ≡ b
+pub one_accent : (a b : ℕ) (x : Cell) → x ≡ Act (act.DeadKey a) → x ≡ Act (act.DeadKey b) → a ≡ b
 one_accent a b x e f = let g : Act (act.DeadKey a) ≡ Act (act.DeadKey b) = sym e ∙ f in cc
 
 -- the accent of a key was added
@@ -149,7 +149,16 @@ note-unscrolled u s t (Note.Selected y) e is = subst (λ x. IsNoteOf u x (Note.S
 note-unscrolled u s t (Note.Offered a) e is = subst (λ x. IsNoteOf u x (Note.Offered a)) (sym e) is
 note-unscrolled u s t Note.Forgets e is = subst (λ x. IsNoteOf u x Note.Forgets) (sym e) is
 
--- after a finished search the notes of what was met are those of paths
+-- after a finished search what is noted of a path is noted of a state that was met
+pub noted-met : (u : Under) (es : Entries) → Searched u es (length es) (length es) → (n : Note) → IsNoted u n
+    → (j : ℕ) × (y : Entry) × (slice_get es j ≡ Some y) × IsNoteOf u (state_of y.0) n
+noted-met u es s n (path, made, is) =
+    let p : ℕ = presses_along path in
+    let (t, (j, y, at, e, le), same) =
+    path-kept u (suc p) (IsAmong es) (searched-kept u es s (suc p)) path made (omega arith) in
+    (j, y, at, subst (λ z. IsNoteOf u z n) (sym e) (note-unscrolled u (state_after u path) t n same is))
+
+-- so the notes of what was met are those of paths
 pub searched-noted : (m : MapValue) (es : Entries) (x : Sights) → Searched (alone m) es (length es) (length es)
     → AreNotesOf (alone m) es x → AreSightsOf m x
 searched-noted m es x s notes n = (
@@ -157,11 +166,7 @@ searched-noted m es x s notes n = (
       let (j, y, at, is) = (notes n).1 has in
       let r : IsReached (alone m) es j y = s.reached j y at in
       (r.0, r.2, subst (λ t. IsNoteOf (alone m) t n) (sym r.3) is)),
-  (λ (path, made, is).
-      let p : ℕ = presses_along path in
-      let (t, (j, y, at, e, le), same) =
-      path-kept (alone m) (suc p) (IsAmong es) (searched-kept (alone m) es s (suc p)) path made (omega arith) in
-      (notes n).0 j y at (slice_get_within es j y at)
-      (subst (λ z. IsNoteOf (alone m) z n) (sym e)
-      (note-unscrolled (alone m) (state_after (alone m) path) t n same is))),
+  (λ noted.
+      let (j, y, at, is) = noted-met (alone m) es s n noted in
+      (notes n).0 j y at (slice_get_within es j y at) is),
 )

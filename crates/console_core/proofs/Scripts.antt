@@ -2,7 +2,7 @@
 -- modifier on.
 use Prim.Native.Nat.{suc}
 use Rattle.std.proofs.Common.{◌≡◌, ℕ, ◌<◌, ◌+◌, All, arith, Bool, true, false, ◌&&◌, ◌||◌, not, List, [], ◌∷◌, ◌++◌}
-use Rattle.std.proofs.Common.{Option, Some, None, refl, ap, subst, sym, ◌∙◌, inl, inr, if◌then◌else◌}
+use Rattle.std.proofs.Common.{Option, Some, None, refl, ap, subst, sym, ◌∙◌, inl, inr, if◌then◌else◌, append_assoc}
 use Rattle.std.specs.Prelude.{◌==◌}
 use Rattle.std.proofs.lemmas.Bool.{eqb-true, eq-eqb, cases_Bool, true≢false, false_from_ne_true, or_parts}
 use Rattle.std.proofs.lemmas.Bool.{and_parts, not-true}
@@ -24,45 +24,38 @@ use Rattle.keymap_core.specs.Maps.{MapValue}
 use Rattle.keymap_core.proofs.SameActions.{same_action-true, same_action-refl}
 use Rattle.keymap_core.proofs.Lists.{option_or-none, none_unless}
 use Rattle.console_core.specs.declared.event.Event.{Event}
-use Rattle.console_core.specs.declared.event.Event.TheVariants.{Press, Release, Load}
+use Rattle.console_core.specs.declared.event.Event.TheVariants.{Press, Release, Reset, Load}
 use Rattle.console_core.specs.Resolved.{ResolvedEvent, held, remembered, taken_over, is_this_action, look}
 use Rattle.console_core.specs.Resolved.{resolve_press}
 use Rattle.console_core.specs.Resolved.ResolvedEvent.{PressedCharacter, PressedAction, ReleasedKey, WasLoaded}
 use Rattle.console_core.specs.History.{Maps, resolved, is_on_after, is_second_in_force, pressed, HasKey}
-use Rattle.console_core.specs.History.{HasKeys, IsQuiet}
+use Rattle.console_core.specs.History.{HasKeys, HasNoLoads, IsQuiet, between, is_locked_after}
 use Rattle.console_core.specs.declared.held.Move.{Move}
 use Rattle.console_core.specs.declared.held.Move.TheVariants.{Hold, Turn, LetGo, Exchange}
 use Rattle.console_core.specs.Moves.{Under, State, start, map_of, look_in, Holds, IsIdle, with_holder}
 use Rattle.console_core.specs.Moves.{with_lock_turned, exchanged, IsFree, IsMove, moved, HolderForgets, state_after}
 use Rattle.console_core.specs.Moves.{IsPath, events_of_move, events_along, release_of, releases, script_of_path}
-use Rattle.console_core.specs.Moves.{presses_of, presses_along, IsForgetful}
+use Rattle.console_core.specs.Moves.{presses_of, presses_along, IsForgetful, state_from, IsPathFrom, free_with, alone}
 use Rattle.console_core.specs.Inner.Searching.{IsSent, NeverUnder}
 use Rattle.console_core.specs.Sticking.{presses, SticksBetween, NeverForgets, ReleasesPressedKeys}
 use Rattle.console_core.proofs.Bearing.{remembered-pressed}
+use Rattle.console_core.proofs.FreshPresses.{no_loads-first}
 use Rattle.console_core.proofs.OneMore.{resolved-start, resolved-more, held-start, held-character, held-action}
+use Rattle.console_core.proofs.OneMore.{held-reset, locked-reset, remembered-reset, pressed-reset}
 use Rattle.console_core.proofs.OneMore.{held-release, held-load, remembered-start, remembered-character}
 use Rattle.console_core.proofs.OneMore.{remembered-action, remembered-release, remembered-load, pressed-start}
 use Rattle.console_core.proofs.OneMore.{pressed-press, pressed-release, pressed-load}
-use Rattle.console_core.proofs.Staying.{Follows, follows-look, follows-start, follows-hold, follows-turn}
+use Rattle.console_core.specs.Inner.Standing.{Follows, HoldsSome, Exact, Stands}
+use Rattle.console_core.proofs.Staying.{follows-look, follows-start, follows-hold, follows-turn}
 use Rattle.console_core.proofs.Staying.{follows-let_go, follows-release, follows-load, takes, same_mods, some_mods}
 use Rattle.console_core.proofs.Staying.{some_none, IsKeptBelow, IsSafeBelow, never-sticks}
 
--- the key holds some modifier
-abbrev pub HoldsSome : State → ℕ → Type 0
-HoldsSome s k = (i : Modifier) × Holds s k i
-
--- The state is that of the console, and no key but a holder remembers anything: so no lock is down.
-pub record Exact (r : List ResolvedEvent) (s : State) : Type 0 where
-  pub follows : Follows r s
-  pub only : (k : ℕ) (a : Action) → remembered k r ≡ Some a → HoldsSome s k
-  pub up : (l : Lock) → held (holding.Lock l) r ≡ false
-
 -- a key that is idle remembers nothing
-idle-none : (r : List ResolvedEvent) (s : State) (k : ℕ) → Exact r s → IsIdle s k → remembered k r ≡ None
+pub idle-none : (r : List ResolvedEvent) (s : State) (k : ℕ) → Exact r s → IsIdle s k → remembered k r ≡ None
 idle-none r s k x idle = none_unless (remembered k r) (λ a e. let p : HoldsSome s k = x.only k a e in idle p.0 p.1)
 
 -- what another key remembers after a press
-other-remembered : (r : List ResolvedEvent) (k j : ℕ) (b : Action) → k == j ≡ false
+pub other-remembered : (r : List ResolvedEvent) (k j : ℕ) (b : Action) → k == j ≡ false
     → remembered j (PressedAction k b ∷ r) ≡ remembered j r
 other-remembered r k j b e = rw (remembered-action j k b r, e) (option_or-none (remembered j r))
 
@@ -113,7 +106,7 @@ exact-hold r s k i x idle free =
     }
 
 -- a mark that a press sets and the release clears is clear
-up_again : (t x : Bool) → x ≡ false → ((t || x) && not t) ≡ false
+pub up_again : (t x : Bool) → x ≡ false → ((t || x) && not t) ≡ false
 up_again true x e = refl
 up_again false x e = rw e refl
 
@@ -175,16 +168,8 @@ exact-exchange m r s x free = record {
   up = λ l. held-load (holding.Lock l) m r;
 }
 
--- The events lead to the state, and only holders are pressed after them.
-pub record Stands (u : Under) (h : List Event) (s : State) : Type 0 where
-  pub exact : Exact (resolved u.maps h) s
-  pub second : s.is_second ≡ is_second_in_force h
-  pub key : (i : Modifier) (k : ℕ) → Holds s k i → k < 128
-  pub pressed : (k : ℕ) → pressed k h ≡ true → HoldsSome s k
-  pub keys : HasKeys h
-
 -- a press, by what is looked up
-pressed-look : (u : Under) (h : List Event) (s : State) (k : ℕ) (x : Cell) → Follows (resolved u.maps h) s
+pub pressed-look : (u : Under) (h : List Event) (s : State) (k : ℕ) (x : Cell) → Follows (resolved u.maps h) s
     → s.is_second ≡ is_second_in_force h → look_in u s k ≡ x
     → resolved u.maps (Press k ∷ h) ≡ resolve_press k x ∷ resolved u.maps h
 pressed-look u h s k x f second seen =
@@ -204,8 +189,20 @@ key_let_go : (s : State) (j : Modifier) (n : ℕ) (t : Bool) → (Holds s n j �
 key_let_go s j n true f h = absurd (some_none n None h refl)
 key_let_go s j n false f h = f h
 
+-- what is pressed after a press and release of a key was before
+pub tapped-pressed : (h : List Event) (k n : ℕ) → pressed n (Release k ∷ Press k ∷ h) ≡ true → pressed n h ≡ true
+tapped-pressed h k n p = elim (cases_Bool (k == n)) [
+  | inl t ↦
+      absurd (true≢false (sym p ∙ pressed-release n k (Press k ∷ h)
+      ∙ ap (λ b. if b then false else pressed n (Press k ∷ h)) t))
+  | inr t ↦
+      sym (pressed-release n k (Press k ∷ h) ∙ ap (λ b. if b then false else pressed n (Press k ∷ h)) t
+      ∙ pressed-press n k h ∙ ap (λ b. if b then true else pressed n h) t)
+      ∙ p
+]
+
 -- the events of a move lead from a state to the next
-stands-move : (u : Under) (h : List Event) (s : State) (move : Move) → IsMove u s move → Stands u h s
+pub stands-move : (u : Under) (h : List Event) (s : State) (move : Move) → IsMove u s move → Stands u h s
     → Stands u (events_of_move move ++ h) (moved u s move)
 stands-move u h s (Hold k i) (lt, idle, seen, free) x = record {
   exact =
@@ -230,16 +227,7 @@ stands-move u h s (Turn k l) (lt, idle, seen) x = record {
       (exact-turn (resolved u.maps h) s k l x.exact idle);
   second = x.second;
   key = x.key;
-  pressed = λ n p. elim (cases_Bool (k == n)) [
-    | inl t ↦
-        absurd (true≢false (sym p ∙ pressed-release n k (Press k ∷ h)
-        ∙ ap (λ b. if b then false else pressed n (Press k ∷ h)) t))
-    | inr t ↦
-        x.pressed n
-        (sym (pressed-release n k (Press k ∷ h) ∙ ap (λ b. if b then false else pressed n (Press k ∷ h)) t
-        ∙ pressed-press n k h ∙ ap (λ b. if b then true else pressed n h) t)
-        ∙ p)
-  ];
+  pressed = λ n p. x.pressed n (tapped-pressed h k n p);
   keys = All-cons HasKey (Release k) (Press k ∷ h) lt (All-cons HasKey (Press k) h lt x.keys);
 }
 stands-move u h s (LetGo k i) holds x = record {
@@ -283,6 +271,34 @@ stands-start u = record {
 pub stands : (u : Under) (path : List Move) → IsPath u path → Stands u (events_along path) (state_after u path)
 stands u [] is = stands-start u
 stands u (move ∷ path) is = stands-move u (events_along path) (state_after u path) move is.0 (stands u path is.1)
+
+-- A console that stands in a state stands in that of a path from there after the events along it.
+pub stands-from : (u : Under) (h : List Event) (s : State) (path : List Move) → Stands u h s → IsPathFrom u s path
+    → Stands u (events_along path ++ h) (state_from u s path)
+stands-from u h s [] x is = x
+stands-from u h s (move ∷ path) x is =
+    subst (λ g. Stands u g (state_from u s (move ∷ path)))
+    (sym (append_assoc (events_of_move move) (events_along path) h))
+    (stands-move u (events_along path ++ h) (state_from u s path) move is.0 (stands-from u h s path x is.1))
+
+-- After a reset a console of one map stands in the free state with the locks that are on.
+pub stands-reset : (m : MapValue) (h : List Event) → HasKeys h → HasNoLoads h
+    → Stands (alone m) (Reset ∷ h) (free_with (λ l. is_locked_after (between m m) l h))
+stands-reset m h keys none = record {
+  exact = rw (resolved-more (between m m) h Reset) (record {
+    follows = record {
+      on = λ i. held-reset (holding.Mod i) (resolved (between m m) h);
+      locked = λ l. locked-reset l (resolved (between m m) h);
+      holds = λ i k e. absurd (some_none k None e refl);
+    };
+    only = λ k a e. absurd (none-some a (sym (remembered-reset k (resolved (between m m) h)) ∙ e));
+    up = λ l. held-reset (holding.Lock l) (resolved (between m m) h);
+  });
+  second = sym (no_loads-first h none);
+  key = λ i k e. absurd (some_none k None e refl);
+  pressed = λ k p. absurd (true≢false (sym p ∙ pressed-reset k h));
+  keys = All-cons HasKey Reset h tt keys;
+}
 
 -- The modifier is on, and no key remembers it.
 pub record IsLeft (ms : Maps) (h : List Event) (i : Modifier) : Type 0 where
@@ -360,7 +376,7 @@ left_more ms h i None f x = x
 left_more ms h i (Some k) f x = left-release ms h i k (f k refl) x
 
 -- the release of a holder, if there is one, stands behind the others
-apart : (o : Option ℕ) (g h : List Event) → (release_of o ++ g) ++ h ≡ release_of o ++ (g ++ h)
+pub apart : (o : Option ℕ) (g h : List Event) → (release_of o ++ g) ++ h ≡ release_of o ++ (g ++ h)
 apart None g h = refl
 apart (Some k) g h = refl
 
@@ -482,7 +498,7 @@ presses-script u path k =
     presses-releases (state_after u path) modifiers (Press k ∷ events_along path) ∙ ap suc (presses-along path)
 
 -- a holder is pressed
-holder-pressed : (u : Under) (h : List Event) (s : State) (i : Modifier) (k : ℕ) → Stands u h s → Holds s k i
+pub holder-pressed : (u : Under) (h : List Event) (s : State) (i : Modifier) (k : ℕ) → Stands u h s → Holds s k i
     → pressed k h ≡ true
 holder-pressed u h s i k x holds = remembered-pressed u.maps h k (act.Mod i) (x.exact.follows.holds i k holds)
 
@@ -524,7 +540,7 @@ pressed-still s k (i ∷ more) h (not_it, none) p =
         ∙ ap (λ b. if b then false else pressed k (releases s more ++ h)) other ∙ q
 
 -- no modifier stands twice in a list
-abbrev all_differ : List Modifier → Bool
+abbrev pub all_differ : List Modifier → Bool
 all_differ [] = true
 all_differ (i ∷ more) = not (list_any (same_modifier i) more) && all_differ more
 
@@ -542,7 +558,7 @@ holds-no_other u h s i k x holds (j ∷ more) differs =
     )
 
 -- the releases of the holders are of pressed keys, where the holders are pressed after g
-releases-holders : (u : Under) (h : List Event) (s : State) → Stands u h s → (g : List Event)
+pub releases-holders : (u : Under) (h : List Event) (s : State) → Stands u h s → (g : List Event)
     → ((i : Modifier) (k : ℕ) → Holds s k i → pressed k g ≡ true) → ReleasesPressedKeys g → (more : List Modifier)
     → all_differ more ≡ true → ReleasesPressedKeys (releases s more ++ g)
 releases-holders u h s x g held ok [] differ = ok

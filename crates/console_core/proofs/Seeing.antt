@@ -21,12 +21,13 @@ use Rattle.console_core.specs.Sights.{selection_with, selection_of, selection_af
 use Rattle.console_core.specs.Sights.{Note, IsNoteOf, IsNoted, LooksAreSelected, SightsAreReachable}
 use Rattle.console_core.proofs.OneMore.{resolved-start, resolved-more, pending-start, pending-character, pending-action}
 use Rattle.console_core.proofs.OneMore.{pending-release, pending-reset}
-use Rattle.console_core.proofs.Staying.{Follows, follows-look, stays, all-spared, clean-spared}
+use Rattle.console_core.specs.Inner.Standing.{Follows}
+use Rattle.console_core.proofs.Staying.{follows-look, stays, all-spared, clean-spared}
 use Rattle.console_core.proofs.Scripts.{Reached, reached-kept, reached-safe}
 use mathlib.Core.Path.{fun_ext}
 
 -- one map is in force, whichever
-one_map : (m : MapValue) (b : Bool) → (if b then m else m) ≡ m
+pub one_map : (m : MapValue) (b : Bool) → (if b then m else m) ≡ m
 one_map m true = refl
 one_map m false = refl
 
@@ -66,7 +67,7 @@ admitted-before m forgets e h (keys, none, clean) = (
 )
 
 -- the selection after the list is that of the state
-follows-selection : (r : List ResolvedEvent) (s : State) → Follows r s
+pub follows-selection : (r : List ResolvedEvent) (s : State) → Follows r s
     → selection_with (λ i. on i r) (λ l. locked l r) ≡ selection_of s
 follows-selection r s f =
     let e : (λ (i : Modifier). on i r) ≡ (λ i. is_held s i) = fun_ext (λ i. f.on i) in

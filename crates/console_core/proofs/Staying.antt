@@ -36,6 +36,7 @@ use Rattle.console_core.specs.Sights.{IsClean}
 use Rattle.console_core.specs.declared.held.Move.TheVariants.{Hold, Turn, Exchange}
 use Rattle.console_core.specs.Sticking.{SticksBetween, presses}
 use Rattle.console_core.specs.Inner.Searching.{Admits, NeverUnder}
+use Rattle.console_core.specs.Inner.Standing.{Follows}
 use Rattle.console_core.specs.Headline.{IsOnOnlyWhilePressed, IsOffOnceQuiet}
 use Rattle.console_core.proofs.OneMore.{resolved-start, resolved-more, held-start, held-character, held-action}
 use Rattle.console_core.proofs.OneMore.{held-release, held-reset, held-load, locked-start, locked-character}
@@ -46,12 +47,6 @@ use Rattle.console_core.proofs.Bearing.{first_kept, remembered-cell, remembered-
 use mathlib.Core.Path.{fun_ext}
 use Rattle.std.specs.Option.{is_some}
 use Rattle.std.proofs.lemmas.Option.{same_Some}
-
--- The state is that of the console: the same modifiers and locks are on, and each holder remembers its modifier.
-pub record Follows (r : List ResolvedEvent) (s : State) : Type 0 where
-  pub on : (i : Modifier) → on i r ≡ is_held s i
-  pub locked : (l : Lock) → locked l r ≡ s.is_locked l
-  pub holds : (i : Modifier) (k : ℕ) → Holds s k i → remembered k r ≡ Some (act.Mod i)
 
 -- a look of the events is one in the state that they follow
 pub follows-look : (u : Under) (r : List ResolvedEvent) (s : State) (k : ℕ) → Follows r s
@@ -79,7 +74,7 @@ pub some_none : (k : ℕ) (o : Option ℕ) → o ≡ Some k → o ≡ None → �
 some_none k o e f = cc
 
 -- an action is a modifier, a lock, or no holding action
-not_holding : (a : Action) (h : Holding) → eqb (action_kind a) 1 ≡ false → eqb (action_kind a) 2 ≡ false
+pub not_holding : (a : Action) (h : Holding) → eqb (action_kind a) 1 ≡ false → eqb (action_kind a) 2 ≡ false
     → same_action a (holding_action h) ≡ false
 not_holding a (holding.Mod i) e f = rw e refl
 not_holding a (holding.Lock l) e f = rw f refl
@@ -109,7 +104,7 @@ follows-character r s k c f idle = record {
 }
 
 -- a press that takes no holding action
-follows-nothing : (r : List ResolvedEvent) (s : State) (k : ℕ) (b : Action) → Follows r s
+pub follows-nothing : (r : List ResolvedEvent) (s : State) (k : ℕ) (b : Action) → Follows r s
     → ((h : Holding) → same_action (taken_over (remembered k r) b) (holding_action h) ≡ false)
     → Follows (PressedAction k b ∷ r) s
 follows-nothing r s k b f none = record {
@@ -296,7 +291,7 @@ abbrev pub Stays : (State → Type 0) → Bool → List ResolvedEvent → Type 0
 Stays S b r = (s : State) × S s × Follows r s × (s.is_second ≡ b)
 
 -- letting go doesn't leave the set
-abbrev KeepsLetGo : (State → Type 0) → Type 0
+abbrev pub KeepsLetGo : (State → Type 0) → Type 0
 KeepsLetGo S = (s : State) (k : ℕ) (i : Modifier) → S s → Holds s k i → S (with_holder s i None)
 
 -- a press leads from the one set to the other
@@ -411,7 +406,7 @@ stays-release S keeps r s there f k (Some a) e =
     ]
 
 -- a reset: all holders let go, one after another
-abbrev emptied : State → State
+abbrev pub emptied : State → State
 emptied s =
     with_holder (with_holder (with_holder (with_holder (with_holder (with_holder (with_holder (with_holder s LeftShift
     None)
@@ -424,12 +419,12 @@ emptied s =
     Meta None
 
 -- an emptied state has no holders
-emptied-none : (s : State) (i : Modifier) → (emptied s).holder i ≡ None
+pub emptied-none : (s : State) (i : Modifier) → (emptied s).holder i ≡ None
 emptied-none s LeftShift = refl
 emptied-none s _ = refl
 
 -- a set that letting go keeps has the emptied state
-emptied-kept : (S : State → Type 0) → KeepsLetGo S → (s : State) → S s → S (emptied s)
+pub emptied-kept : (S : State → Type 0) → KeepsLetGo S → (s : State) → S s → S (emptied s)
 emptied-kept S keeps s there =
     let any : (t : State) (i : Modifier) → S t → S (with_holder t i None) =
     λ t i here. without S keeps t i (t.holder i) refl here in

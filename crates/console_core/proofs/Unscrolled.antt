@@ -1,23 +1,13 @@
 -- No look depends on the scroll lock, so states that differ in it alone lead on alike.
-use Rattle.std.proofs.Common.{◌≡◌, Bool, false, ◌&&◌, not, Some, None, refl, ap, subst, sym, ◌∙◌, if◌then◌else◌}
-use Rattle.console_core.specs.Types.{Lock, Caps, Num, Scroll, Alt, Move, Hold, Turn, LetGo, Exchange}
+use Rattle.std.proofs.Common.{◌≡◌, Bool, ◌&&◌, not, Some, None, refl, ap, subst, sym, ◌∙◌, if◌then◌else◌}
+use Rattle.console_core.specs.Types.{Lock, Caps, Scroll, Move, Hold, Turn, LetGo, Exchange}
 use Rattle.keymap_core.specs.Actions.{same_lock}
 use Rattle.keymap_core.specs.Borne.{is_borne}
 use Rattle.keymap_core.specs.Maps.{MapValue}
 use Rattle.keymap_core.specs.declared.action.Holding.TheVariants as holding
 use Rattle.console_core.specs.Moves.{Under, State, with_holder, with_lock_turned, next_map, IsMove, moved}
+use Rattle.console_core.specs.Inner.Standing.{but_scroll, unscrolled}
 use mathlib.Core.Path.{fun_ext}
-
--- the state without the scroll lock, which picks no cell
-abbrev but_scroll : (Lock → Bool) → Lock → Bool
-but_scroll on Caps = on Caps
-but_scroll on Num = on Num
-but_scroll on Scroll = false
-but_scroll on Alt = on Alt
-
--- the state without the scroll lock, which no look asks for
-abbrev pub unscrolled : State → State
-unscrolled s = record { holder = s.holder; is_locked = but_scroll s.is_locked; is_second = s.is_second }
 
 -- moves don't depend on the scroll lock
 pub moves-unscrolled : (u : Under) (s t : State) (move : Move) → unscrolled t ≡ unscrolled s → IsMove u s move

@@ -2,5 +2,8 @@
 pub mod HeldBytes
 pub mod Kept
 pub mod Noting
+pub mod Routes
 pub mod Searching
+pub mod Showing
+pub mod Standing
 pub mod Tables

@@ -14,6 +14,7 @@ pub mod Positions
 pub mod Raw
 pub mod Reading
 pub mod Resolved
+pub mod Returning
 pub mod Sights
 pub mod Sticking
 pub mod Traps

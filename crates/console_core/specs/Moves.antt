@@ -110,6 +110,19 @@ abbrev pub IsPath : Under → List Move → Type 0
 IsPath u [] = Unit {0}
 IsPath u (move ∷ path) = IsMove u (state_after u path) move × IsPath u path
 
+-- The same from any state.
+abbrev pub state_from : Under → State → List Move → State
+state_from u s [] = s
+state_from u s (move ∷ path) = moved u (state_from u s path) move
+
+abbrev pub IsPathFrom : Under → State → List Move → Type 0
+IsPathFrom u s [] = Unit {0}
+IsPathFrom u s (move ∷ path) = IsMove u (state_from u s path) move × IsPathFrom u s path
+
+-- nothing is held, and these locks are on, under the first map
+abbrev pub free_with : (Lock → Bool) → State
+free_with is_locked = record start { is_locked = is_locked }
+
 -- how many presses a move takes
 abbrev pub presses_of : Move → ℕ
 presses_of (Hold k i) = 1

@@ -12,10 +12,11 @@
 //! them runs over a keymap however it is kept (`keymap_core::Keymap`).
 //!
 //! `sticking` decides by a search whether a keymap can leave a modifier on while no key is pressed, `sticking_between`
-//! whether two that loads exchange can.
+//! whether two that loads exchange can. `sights_of` finds by the same search what presses can look up, and
+//! `events_that_show` events that show it, in keymaps where no turn of a lock is one-way.
 //!
-//! No call takes memory but `replay`, `sticking` and `sticking_between`, and no call fails but for want of memory
-//! there.
+//! No call takes memory but `replay`, `sticking`, `sticking_between`, `sights_of` and `events_that_show`, and no call
+//! fails but for want of memory there.
 #![tactic(auto)]
 
 mod event;
@@ -29,9 +30,11 @@ mod outcome;
 mod plain_console;
 mod plain_store;
 mod replays;
+mod routes;
 mod rules;
 mod search;
 mod selection;
+mod showing;
 mod sights;
 mod store;
 mod translator;
@@ -45,6 +48,7 @@ pub use plain_console::PlainConsole;
 pub use replays::{deliver_all, replay};
 pub use search::{sticking, sticking_between};
 pub use selection::{Selection, Sight};
+pub use showing::events_that_show;
 pub use sights::{Sights, sights_of};
 pub use translator::{Translator, is_any_on};
 pub use word_console::WordConsole;

@@ -7,8 +7,7 @@ ghost use Rattle.console_core.specs.Moves.{State, look_in};
 ghost use Rattle.console_core.specs.Inner.Searching.{under_of, IsUnmoving, HasMovingKeys};
 
 use crate::held::Keymaps;
-use crate::search::key_with;
-use keymap_core::{Action, Cell, KEY_COUNT, KeyCode, KeyMap, Lock};
+use keymap_core::{Action, Cell, KEY_COUNT, KeyCode, KeyMap, Lock, key_with};
 use std::alloc::{AllocError, Global};
 
 /// Whether the cell is a modifier, or a lock other than the scroll lock.

@@ -119,16 +119,6 @@ fn meet_frees(
     Ok(())
 }
 
-pub fn key_with(code: u8) -> KeyCode
-    requires { code < key_count }
-    ensures { result ≡ code }
-{
-    match KeyCode::new(code) {
-        Some(key) => key,
-        None => unreachable!(),
-    }
-}
-
 /// Adds where presses of keys lead, of which those are given that can be moves.
 fn meet_presses(
     met: &mut Met,

@@ -1,11 +1,10 @@
 //! What of a state picks the cell that a key looks up.
-ghost use Rattle.std.specs.Prelude.{◌≡◌, ◌<◌, ◌%◌, ℕ, false, true};
+ghost use Rattle.std.specs.Prelude.{◌≡◌, ◌<◌, ◌%◌, ℕ, false, true, MatchOption};
 ghost use Rattle.keymap_core.specs.Numbers.{key_count, column_count};
 ghost use Rattle.console_core.specs.Sights.{slot_in, column_in, look_selected, SeesBy};
 
 use crate::rules::{column, flips};
-use crate::search::key_with;
-use keymap_core::{Cell, KEY_COUNT, KeyCode, KeyMap};
+use keymap_core::{Cell, KEY_COUNT, KeyCode, KeyMap, key_with};
 
 /// The upper half, shift, control and alt, and the locks that flip shift. Left and right count alike.
 #[derive(Clone, Copy, Debug, PartialEq, Eq)]
@@ -85,17 +84,18 @@ impl Selection {
         }
     }
 
-    /// Whether a press of some of all keys sees it, where a pair's accent is pending.
-    fn is_seeing_by_any(self, map: &KeyMap, sight: Sight) -> bool
-        ensures seen { result ≡ true → (k : ℕ) × (k < key_count) × SeesBy map.now self k sight }
-        ensures unseen { result ≡ false → (k : ℕ) → k < key_count → SeesBy map.now self k sight → ⊥ }
+    /// A key whose press sees it, where a pair's accent is pending.
+    pub fn key_seeing(self, map: &KeyMap, sight: Sight) -> Option<KeyCode>
+        ensures { MatchOption result ((k : ℕ) → k < key_count → SeesBy map.now self k sight → ⊥)
+            (λ k. (k < key_count) × SeesBy map.now self k sight) }
     {
         for code in 0..KEY_COUNT as u8 {
-            if self.sees(map, key_with(code), sight) {
-                return true;
+            let key = key_with(code);
+            if self.sees(map, key, sight) {
+                return Some(key);
             }
         }
-        false
+        None
     }
 
     /// Whether a press of some key sees it, where a pair's accent is pending. Of a cell or a lock setting only the key
@@ -107,7 +107,10 @@ impl Selection {
         match sight {
             Sight::Cell { slot, .. } => self.sees(map, key_of(slot), sight),
             Sight::Locks { slot, .. } => self.sees(map, key_of(slot), sight),
-            Sight::Pair { .. } => self.is_seeing_by_any(map, sight),
+            Sight::Pair { .. } => match self.key_seeing(map, sight) {
+                Some(_) => true,
+                None => false,
+            },
         }
     }
 }

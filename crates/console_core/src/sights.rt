@@ -11,10 +11,10 @@ ghost use Rattle.console_core.specs.Inner.Searching.{state_of, under_of};
 ghost use Rattle.console_core.specs.Inner.Noting.{IsSelectedBy, IsWith, AddsOffer, AddsOffers, AddsNotes, AreNotesOf};
 
 use crate::held::{Held, Keymaps};
-use crate::search::{End, Met, entry, key_with, meet_all};
+use crate::search::{End, Met, entry, meet_all};
 use crate::selection::{Selection, Sight};
 use indexmap::IndexMap;
-use keymap_core::{KEY_COUNT, KeyCode, KeyMap};
+use keymap_core::{KEY_COUNT, KeyCode, KeyMap, key_with};
 use std::alloc::{AllocError, Global};
 
 /// What presses of keys can see under a keymap.

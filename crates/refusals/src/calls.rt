@@ -6,7 +6,8 @@ use crate::inputs::{
 use crate::outcome::{Answer, Outcome, done};
 use crate::runs;
 use console_core::{
-    Event, PlainConsole, Sticking, Translator, WordConsole, replay, sticking, sticking_between,
+    Event, PlainConsole, Sight, Sticking, Translator, WordConsole, events_that_show, replay,
+    sticking, sticking_between,
 };
 use keymap_core::{KeyCode, KeyMap, Lock, Modifier, ReadError, Write, read_up_to};
 use keymap_fmt::{FormatError, format};
@@ -49,6 +50,7 @@ pub(crate) fn outcome_of<W: Write>(
         "sticking-sticks" => searches(alloc, TRAP, marks)?,
         "sticking_between-never" => searches_between(alloc, TEXT, marks)?,
         "sticking_between-sticks" => searches_between(alloc, LOCKED, marks)?,
+        "events_that_show" => shows_sights(alloc, marks)?,
         "diagnostics" => finds_diagnostics(alloc, TRAP, Some(1), marks),
         "diagnostics-none" => finds_diagnostics(alloc, TEXT, Some(0), marks),
         "diagnostics-faulty" => finds_diagnostics(alloc, FAULTY, None, marks),
@@ -279,6 +281,29 @@ fn searches_between<W: Write>(
         }
         Ok(Sticking::Never) => done(text == TEXT),
         Ok(Sticking::Undecided(_)) => Answer::Fault,
+        Err(AllocError) => Answer::Memory,
+    }))
+}
+
+/// Shows a letter under a shift, and one with an accent pending, by ten events.
+fn shows_sights<W: Write>(alloc: Global, marks: &mut W) -> Result<Outcome, AllocError> {
+    let map = sample(alloc)?;
+    let sights = [
+        Sight::Cell {
+            slot: 30,
+            column: 1,
+        },
+        Sight::Pair {
+            accent: 1,
+            character: 'e',
+        },
+    ];
+    mark(marks);
+    let answer = events_that_show(alloc, &map, &sights);
+    mark(marks);
+    Ok(Outcome::of(match answer {
+        Ok(Some(events)) => done(events.len() == 10),
+        Ok(None) => Answer::Fault,
         Err(AllocError) => Answer::Memory,
     }))
 }

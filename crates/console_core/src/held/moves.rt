@@ -1,26 +1,49 @@
 //! Where presses, releases and loads lead from a state of the search, and what they are as events.
-ghost use Rattle.std.specs.Prelude.{◌≡◌, ◌≢◌, ◌<◌, ℕ, false, true, None, ◌||◌, ◌&&◌, ◌++◌, OnOk, MatchOption, IfSome};
+ghost use Rattle.std.specs.Prelude.{◌≡◌, ◌≢◌, ◌<◌, ℕ, false, true, None, ◌||◌, ◌&&◌, ◌++◌, reverse, OnOk};
+ghost use Rattle.std.specs.Prelude.{MatchOption, IfSome};
 ghost use Rattle.keymap_core.specs.Borne.{is_borne};
 ghost use Rattle.keymap_core.specs.Actions.{modifiers};
 ghost use Rattle.keymap_core.specs.Numbers.{key_count};
-ghost use Rattle.console_core.specs.Types.{Modifier as ModifierValue, Act};
-ghost use Rattle.keymap_core.specs.declared.action.Action.TheVariants.{DeadKey};
-ghost use Rattle.console_core.specs.Moves.{Under, start as start_state, is_held as is_held_in, look_in, IsIdle, map_in};
-ghost use Rattle.console_core.specs.Moves.{next_map, exchanged as exchanged_in, IsFree, with_holder as with_holder_in};
-ghost use Rattle.console_core.specs.Moves.{with_lock_turned, HolderForgets, IsForgetful, events_of_move, releases};
+ghost use Rattle.keymap_core.specs.declared.action.Modifier.{Modifier as ModifierValue};
+ghost use Rattle.keymap_core.specs.declared.action.Lock.TheVariants.{Caps, Num, Alt};
+ghost use Rattle.keymap_core.specs.declared.action.Lock.{Lock as LockValue};
+ghost use Rattle.keymap_core.specs.declared.action.Action.TheVariants.{DeadKey, Lock as LockAction};
+ghost use Rattle.keymap_core.specs.declared.entry.Cell.TheVariants.{Act};
+ghost use Rattle.console_core.specs.Moves.{Under, start as start_state, is_held as is_held_in, look_in, IsIdle};
+ghost use Rattle.console_core.specs.Moves.{map_in, next_map, exchanged as exchanged_in, IsFree};
+ghost use Rattle.console_core.specs.Moves.{with_holder as with_holder_in, with_lock_turned, HolderForgets};
+ghost use Rattle.console_core.specs.Moves.{IsForgetful, events_of_move, releases};
 ghost use Rattle.console_core.specs.Sights.{selection_of};
+ghost use Rattle.console_core.specs.Returning.{IsHome};
 ghost use Rattle.console_core.specs.Inner.Searching.{state_of, under_of, Entries, IsMetBy, IsLetGoMet};
 ghost use Rattle.console_core.specs.Inner.Searching.{IsExchangeMet, ArePressesMet, IsStep};
+ghost use Rattle.console_core.specs.Inner.Noting.{Offers};
+ghost use Rattle.console_core.specs.Inner.Routes.{freed};
 ghost use Rattle.console_core.specs.Inner.HeldBytes.{holder_number, bytes_of, held-equal, bool_equal, same-bytes};
 
 use super::{Held, Keymaps, Move, Step};
 use crate::event::Event;
 use crate::selection::Selection;
-use keymap_core::{Action, Cell, Holding, KEY_COUNT, KeyCode, KeyMap, Lock, MODIFIERS, Modifier};
+use keymap_core::{
+    Action, Cell, Holding, KEY_COUNT, KeyCode, KeyMap, Lock, MODIFIERS, Modifier, key_with,
+};
 use std::alloc::AllocError;
 use std::hash::{Hash, Hasher};
 
 impl Move {
+    /// Adds the events of the move, in their order.
+    pub fn push_in_order(self, events: &mut Vec<Event>) -> Result<(), AllocError>
+        ensures { OnOk result (reverse events.new.items ≡ events_of_move self ++ reverse events.old.items) }
+    {
+        if let Move::Turn(key, _) = self {
+            events.push(Event::Press(key))?;
+            events.push(Event::Release(key))?;
+        } else {
+            self.push_events(events)?;
+        }
+        Ok(())
+    }
+
     /// Adds the events of the move, the newest first.
     pub fn push_events(self, events: &mut Vec<Event>) -> Result<(), AllocError>
         ensures { OnOk result (events.new.items ≡ events.old.items ++ events_of_move self) }
@@ -98,7 +121,7 @@ impl Held {
         next
     }
 
-    fn with_turned(&self, lock: Lock) -> Held
+    pub fn with_turned(&self, lock: Lock) -> Held
         ensures { state_of result ≡ with_lock_turned (state_of self.now) lock }
     {
         let mut next = *self;
@@ -160,7 +183,7 @@ impl Held {
     }
 
     /// Whether the key holds a modifier.
-    fn holds(&self, key: KeyCode) -> bool
+    pub fn holds(&self, key: KeyCode) -> bool
         ensures idle { result ≡ false → IsIdle (state_of self.now) key }
         ensures busy { result ≡ true → IsIdle (state_of self.now) key → ⊥ }
     {
@@ -186,6 +209,24 @@ impl Held {
             }
         }
         true
+    }
+
+    /// Whether any lock is on but the scroll lock.
+    fn is_any_locked(&self) -> bool
+        ensures unlocked { result ≡ false → ((state_of self.now).is_locked Caps ≡ false)
+            × ((state_of self.now).is_locked Num ≡ false) × ((state_of self.now).is_locked Alt ≡ false) }
+        ensures locked { result ≡ true → (state_of self.now).is_locked Caps ≡ false
+            → (state_of self.now).is_locked Num ≡ false → (state_of self.now).is_locked Alt ≡ false → ⊥ }
+    {
+        self.is_locked(Lock::Caps) || self.is_locked(Lock::Num) || self.is_locked(Lock::Alt)
+    }
+
+    /// Whether no key holds a modifier and no lock is on but the scroll lock.
+    pub fn is_home(&self) -> bool
+        ensures home { result ≡ true → IsHome (state_of self.now) }
+        ensures away { result ≡ false → IsHome (state_of self.now) → ⊥ }
+    {
+        self.is_free() && !self.is_any_locked()
     }
 
     /// The holder of the modifier, if it looks up a character.
@@ -232,6 +273,47 @@ impl Held {
                 }
             }
             _ => None,
+        }
+    }
+
+    /// A key that holds nothing and looks up the dead key of the accent.
+    pub fn key_offering(&self, maps: &Keymaps, accent: u8) -> Option<KeyCode>
+        ensures { MatchOption result ((k : ℕ) → k < key_count
+            → Offers (under_of maps.now) (state_of self.now) k accent → ⊥)
+            (λ k. (k < key_count) × Offers (under_of maps.now) (state_of self.now) k accent) }
+    {
+        for code in 0..KEY_COUNT as u8 {
+            let key = key_with(code);
+            if let Some(offered) = self.offered(maps, key) {
+                if offered == accent {
+                    return Some(key);
+                }
+            }
+        }
+        None
+    }
+
+    /// The lock that a press of the key turns, if it turns one.
+    pub fn turned_by(&self, maps: &Keymaps, key: KeyCode) -> Option<Lock>
+        ensures { MatchOption result ((l : LockValue) → IsIdle (state_of self.now) key
+            → look_in (under_of maps.now) (state_of self.now) key ≡ Act (LockAction l) → ⊥)
+            (λ l. IsIdle (state_of self.now) key
+            × (look_in (under_of maps.now) (state_of self.now) key ≡ Act (LockAction l))) }
+    {
+        match &self.look(maps, key) {
+            Cell::Act(Action::Lock(lock)) => { if self.holds(key) { None } else { Some(*lock) } }
+            _ => None,
+        }
+    }
+
+    /// No key holds a modifier any more.
+    pub fn freed(&self) -> Held
+        ensures { state_of result ≡ freed (state_of self.now) }
+    {
+        Held {
+            holders: [None; 8],
+            locks: self.locks,
+            is_second: self.is_second,
         }
     }
 

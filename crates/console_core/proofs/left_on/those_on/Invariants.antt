@@ -1,6 +1,6 @@
 use Rattle.std.proofs.Common.{◌≡◌, take, List}
 use Rattle.std.specs.Prelude.{filter}
-use Rattle.keymap_lint.specs.Types.{Event}
+use Rattle.console_core.specs.Types.{Event}
 use Rattle.console_core.specs.History.{Maps, is_on_after}
 use Rattle.console_core.proofs.left_on.those_on.Given as goal
 

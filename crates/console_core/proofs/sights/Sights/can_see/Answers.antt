@@ -1,4 +1,4 @@
-use Rattle.std.proofs.Common.{◌≡◌, true, ◌&&◌, ap, sym, ◌∙◌}
+use Rattle.std.proofs.Common.{◌&&◌, ap, sym, ◌∙◌}
 use Rattle.console_core.specs.Sights.{Note, is_selected}
 use Rattle.console_core.proofs.Visible.{selected-value}
 use Rattle.console_core.proofs.sights.Sights.can_see.Goals as goal

@@ -1,0 +1,79 @@
+-- What a press sees where a path leads from the state of a console.
+use Rattle.std.proofs.Common.{◌≡◌, ℕ, List, [], ◌∷◌, ◌++◌, refl, ap, subst, sym, ◌∙◌, append_assoc}
+use Rattle.std.proofs.lemmas.Bool.{false≢true}
+use Rattle.keymap_core.specs.declared.action.Action.TheVariants as act
+use Rattle.keymap_core.specs.declared.entry.Cell.TheVariants.{Act}
+use Rattle.keymap_core.specs.Maps.{MapValue}
+use Rattle.console_core.specs.declared.event.Event.{Event}
+use Rattle.console_core.specs.declared.event.Event.TheVariants.{Press, Release}
+use Rattle.console_core.specs.declared.held.Move.{Move}
+use Rattle.console_core.specs.declared.held.Move.TheVariants.{Hold, Turn, LetGo, Exchange}
+use Rattle.console_core.specs.declared.selection.Sight.{Sight}
+use Rattle.console_core.specs.declared.selection.Sight.TheVariants as sight
+use Rattle.console_core.specs.Resolved.{ResolvedEvent, pending, taken_over}
+use Rattle.console_core.specs.Inner.Kept.{next_pending}
+use Rattle.console_core.specs.History.{between, resolved, is_second_in_force, accent_pending_after}
+use Rattle.console_core.specs.Moves.{alone, State, IsMove, events_of_move, events_along, state_from, IsPathFrom}
+use Rattle.console_core.specs.Sights.{SeesBy, SeesNext, IsPendingFor, selection_of}
+use Rattle.console_core.proofs.OneMore.{resolved-more, pending-action, pending-release}
+use Rattle.console_core.specs.Inner.Standing.{Stands}
+use Rattle.console_core.proofs.Scripts.{stands-from, idle-none, pressed-look}
+use Rattle.console_core.proofs.Seeing.{follows-selection, one_map}
+
+-- a move leaves the accent that is pending
+pending-move : (m : MapValue) (h : List Event) (s : State) (move : Move) → IsMove (alone m) s move
+    → Stands (alone m) h s
+    → pending m (resolved (between m m) (events_of_move move ++ h)) ≡ pending m (resolved (between m m) h)
+pending-move m h s (Hold k i) (lt, idle, seen, free) x =
+    let r : List ResolvedEvent = resolved (between m m) h in
+    ap (λ z. pending m z) (pressed-look (alone m) h s k (Act (act.Mod i)) x.exact.follows x.second seen)
+    ∙ pending-action m k (act.Mod i) r
+    ∙ ap (λ a. next_pending m (pending m r) a)
+    (ap (λ o. taken_over o (act.Mod i)) (idle-none r s k x.exact idle))
+pending-move m h s (Turn k l) (lt, idle, seen) x =
+    let r : List ResolvedEvent = resolved (between m m) h in
+    ap (λ z. pending m z) (resolved-more (between m m) (Press k ∷ h) (Release k))
+    ∙ pending-release m k (resolved (between m m) (Press k ∷ h))
+    ∙ ap (λ z. pending m z) (pressed-look (alone m) h s k (Act (act.Lock l)) x.exact.follows x.second seen)
+    ∙ pending-action m k (act.Lock l) r
+    ∙ ap (λ a. next_pending m (pending m r) a)
+    (ap (λ o. taken_over o (act.Lock l)) (idle-none r s k x.exact idle))
+pending-move m h s (LetGo k i) holds x =
+    ap (λ z. pending m z) (resolved-more (between m m) h (Release k)) ∙ pending-release m k (resolved (between m m) h)
+pending-move m h s Exchange (free, loads) x = absurd (false≢true loads)
+
+-- so does a path
+pub pending-along : (m : MapValue) (h : List Event) (s : State) (path : List Move) → Stands (alone m) h s
+    → IsPathFrom (alone m) s path
+    → pending m (resolved (between m m) (events_along path ++ h)) ≡ pending m (resolved (between m m) h)
+pending-along m h s [] x is = refl
+pending-along m h s (move ∷ path) x is =
+    ap (λ g. pending m (resolved (between m m) g)) (append_assoc (events_of_move move) (events_along path) h)
+    ∙ pending-move m (events_along path ++ h) (state_from (alone m) s path) move is.0
+    (stands-from (alone m) h s path x is.1)
+    ∙ pending-along m h s path x is.1
+
+-- one map's accent is pending, whichever is in force
+pub pending-is : (m : MapValue) (h : List Event)
+    → accent_pending_after (between m m) h ≡ pending m (resolved (between m m) h)
+pending-is m h = ap (λ n. pending n (resolved (between m m) h)) (one_map m (is_second_in_force h))
+
+-- At the end of a path a press of the key sees what the selection of the state there picks, and a pair if its accent
+-- was pending before.
+pub going-sees : (m : MapValue) (h : List Event) (s : State) (path : List Move) (k : ℕ) (x : Sight)
+    → Stands (alone m) h s → IsPathFrom (alone m) s path
+    → SeesBy m (selection_of (state_from (alone m) s path)) k x → IsPendingFor m h x
+    → SeesNext m (events_along path ++ h) k x
+going-sees m h s path k x stands is sees pending = (
+  subst (λ y. SeesBy m y k x)
+      (sym (follows-selection (resolved (between m m) (events_along path ++ h)) (state_from (alone m) s path)
+      (stands-from (alone m) h s path stands is).exact.follows))
+      sees,
+  still x pending,
+)
+  where
+    still : (x : Sight) → IsPendingFor m h x → IsPendingFor m (events_along path ++ h) x
+    still (sight.Pair accent c) e =
+        pending-is m (events_along path ++ h) ∙ pending-along m h s path stands is ∙ sym (pending-is m h) ∙ e
+    still (sight.Cell slot column) e = tt
+    still (sight.Locks slot caps num) e = tt

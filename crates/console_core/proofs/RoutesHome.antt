@@ -1,0 +1,307 @@
+-- Routes home, one move longer, and looked up by the state where they begin.
+use Prim.Native.Nat.{zero, suc}
+use Rattle.std.proofs.Common.{◌≡◌, ◌≢◌, ◌⊎◌, ℕ, ◌<◌, Bool, true, false, List, [], ◌∷◌, Option, Some, None, refl, ap}
+use Rattle.std.proofs.Common.{Result, Ok, Err, IfOk, not, subst, sym, ◌∙◌, inl, inr, cond, arith, IfSome, if◌then◌else◌}
+use Rattle.std.proofs.Common.{◌+◌, ◌≤◌, ◌++◌, length, take, get_or, reverse}
+use Rattle.std.specs.List.{Contains}
+use Rattle.std.proofs.Common.{eqb, ◌&&◌}
+use mathlib.Core.Bool.{beq}
+use Rattle.std.specs.Option.{option_eq, is_some}
+use Rattle.std.specs.Cmp.Lexicographic.{pointwise}
+use Rattle.std.specs.Map.{lookup}
+use Rattle.std.proofs.lemmas.List.{take_more, take_all, length_push, reverse-append}
+use Rattle.std.proofs.lemmas.List.Elements.{Contains-push, Contains-push_cases, Contains-append_left}
+use Rattle.std.proofs.lemmas.Bool.{true≢false}
+use Rattle.std.proofs.lemmas.Option.{same_Some, none-some}
+use Rattle.indexmap.specs.IndexMap.{insert_entry}
+use Rattle.keymap_core.specs.declared.action.Lock.{Lock}
+use Rattle.keymap_core.specs.declared.action.Lock.TheVariants.{Caps, Num, Scroll, Alt}
+use Rattle.keymap_core.specs.declared.action.Modifier.{Modifier}
+use Rattle.console_core.specs.declared.held.Held.{Held}
+use Rattle.console_core.specs.declared.held.Move.{Move}
+use Rattle.console_core.specs.declared.held.Move.TheVariants.{Hold, Turn, LetGo, Exchange}
+use Rattle.console_core.specs.declared.held.Step.{Step}
+use Rattle.console_core.specs.declared.routes.Route.{Route}
+use Rattle.console_core.specs.Moves.{Under, State, IsMove, moved, Holds, with_holder, with_lock_turned}
+use Rattle.console_core.specs.Moves.{state_from, IsPathFrom}
+use Rattle.console_core.specs.Returning.{IsHome}
+use Rattle.console_core.specs.Inner.Searching.{state_of, Entries, IsMetBy, IsLetGoMet, ArePressesMet, IsStep}
+use Rattle.console_core.specs.Inner.Searching.{LeavesScroll}
+use Rattle.console_core.specs.Inner.Routes.{LeadsHome, Routes, AllLeadHome, HasRoute, NoLetGoLeads}
+use Rattle.console_core.specs.Inner.Routes.{NoPressLeads, IsAstray}
+
+-- what tests tables equal
+abbrev pub are_same : Held → Held → Bool
+are_same x y =
+    pointwise (option_eq eqb) x.holders y.holders && (pointwise beq x.locks y.locks && beq x.is_second y.is_second)
+
+-- no lock is on but the scroll lock
+pub all-off : (on : Lock → Bool) → (on Caps ≡ false) × (on Num ≡ false) × (on Alt ≡ false) → (l : Lock) → l ≢ Scroll
+    → on l ≡ false
+all-off on off Caps other = off.0
+all-off on off Num other = off.1
+all-off on off Alt other = off.2
+all-off on off Scroll other = absurd (other refl)
+
+pub none-on : (on : Lock → Bool) → ((l : Lock) → l ≢ Scroll → on l ≡ false)
+    → (on Caps ≡ false) × (on Num ≡ false) × (on Alt ≡ false)
+none-on on off = (off Caps (λ q. cc), off Num (λ q. cc), off Alt (λ q. cc))
+
+-- a path behind a move
+pub path-begin : (u : Under) (s : State) (by : Move) (path : List Move) → IsMove u s by
+    → IsPathFrom u (moved u s by) path
+    → IsPathFrom u s (path ++ by ∷ []) × (state_from u s (path ++ by ∷ []) ≡ state_from u (moved u s by) path)
+path-begin u s by [] is p = ((is, tt), refl)
+path-begin u s by (move ∷ path) is p =
+    let q = path-begin u s by path is p.1 in
+    ((subst (λ t. IsMove u t move) (sym q.1) p.0, q.0), ap (λ t. moved u t move) q.1)
+
+-- a step leads to where a route begins
+pub step-home : (u : Under) (s : State) (n : ℕ) (x : Step) (moves : List Move) → IsStep u s n x
+    → LeadsHome u (state_of x.to) moves → LeadsHome u s (x.by ∷ moves)
+step-home u s n x moves (is, to, presses, leaves) home =
+    let from : LeadsHome u (moved u s x.by) moves = subst (λ t. LeadsHome u t moves) to home in
+    let longer : reverse (x.by ∷ moves) ≡ reverse moves ++ x.by ∷ [] = reverse-append (x.by ∷ []) moves in
+    let path = path-begin u s x.by (reverse moves) is from.0 in (
+      subst (λ p. IsPathFrom u s p) (sym longer) path.0,
+      subst (λ p. IsHome (state_from u s p)) (sym longer) (subst IsHome (sym path.1) from.1),
+    )
+
+-- a route that is found begins at the state
+pub found-home : (E : Held → Held → Bool) → ((a b : Held) → E a b ≡ true → state_of a ≡ state_of b) → (u : Under)
+    → (routes : Routes) (k : Held) (r : Route) → AllLeadHome u routes → lookup (E k) routes ≡ Some r
+    → LeadsHome u (state_of k) r.moves.items
+found-home E same u [] k r all e = absurd (none-some r e)
+found-home E same u (x ∷ routes) k r all e = by (E k x.0) refl e (λ f. found-home E same u routes k r all.1 f)
+  where
+    by : (b : Bool) → E k x.0 ≡ b → cond b (Some x.1) (lookup (E k) routes) ≡ Some r
+        → (lookup (E k) routes ≡ Some r → LeadsHome u (state_of k) r.moves.items)
+        → LeadsHome u (state_of k) r.moves.items
+    by true t f later =
+        subst (λ z. LeadsHome u (state_of k) z.moves.items) (same_Some x.1 r f)
+        (subst (λ s. LeadsHome u s x.1.moves.items) (sym (same k x.0 t)) all.0)
+    by false t f later = later f
+
+-- where none is found none begins
+pub none-found : (E : Held → Held → Bool) → ((a b : Held) → state_of a ≡ state_of b → E a b ≡ true)
+    → (routes : Routes) (k : Held) → lookup (E k) routes ≡ None → HasRoute routes (state_of k) → ⊥
+none-found E test [] k e has = has
+none-found E test (x ∷ routes) k e (inl is) =
+    none-some x.1 (sym e ∙ ap (λ b. cond b (Some x.1) (lookup (E k) routes)) (test k x.0 (sym is)))
+none-found E test (x ∷ routes) k e (inr later) = by (E k x.0) e (λ f. none-found E test routes k f later)
+  where
+    by : (b : Bool) → cond b (Some x.1) (lookup (E k) routes) ≡ None → (lookup (E k) routes ≡ None → ⊥) → ⊥
+    by true f none = none-some x.1 (sym f)
+    by false f none = none f
+
+-- one route more
+pub home-more : (E : Held → Held → Bool) → ((a b : Held) → E a b ≡ true → state_of a ≡ state_of b) → (u : Under)
+    → (routes : Routes) (k : Held) (r : Route) → AllLeadHome u routes → LeadsHome u (state_of k) r.moves.items
+    → AllLeadHome u (insert_entry E routes k r)
+home-more E same u [] k r all home = (home, tt)
+home-more E same u (x ∷ routes) k r all home = by (E k x.0) refl (home-more E same u routes k r all.1 home)
+  where
+    by : (b : Bool) → E k x.0 ≡ b → AllLeadHome u (insert_entry E routes k r)
+        → AllLeadHome u (if b then (x.0, r) ∷ routes else x ∷ insert_entry E routes k r)
+    by true t more = (subst (λ s. LeadsHome u s r.moves.items) (same k x.0 t) home, all.1)
+    by false t more = (all.0, more)
+
+pub has-new : (E : Held → Held → Bool) → ((a b : Held) → E a b ≡ true → state_of a ≡ state_of b) → (routes : Routes)
+    → (k : Held) (r : Route) → HasRoute (insert_entry E routes k r) (state_of k)
+has-new E same [] k r = inl refl
+has-new E same (x ∷ routes) k r = by (E k x.0) refl (has-new E same routes k r)
+  where
+    by : (b : Bool) → E k x.0 ≡ b → HasRoute (insert_entry E routes k r) (state_of k)
+        → HasRoute (if b then (x.0, r) ∷ routes else x ∷ insert_entry E routes k r) (state_of k)
+    by true t later = inl (sym (same k x.0 t))
+    by false t later = inr later
+
+pub has-old : (E : Held → Held → Bool) (routes : Routes) (k : Held) (r : Route) (s : State) → HasRoute routes s
+    → HasRoute (insert_entry E routes k r) s
+has-old E [] k r s has = absurd has
+has-old E (x ∷ routes) k r s has = by (E k x.0) has (λ later. has-old E routes k r s later)
+  where
+    by : (b : Bool) → (state_of x.0 ≡ s) ⊎ HasRoute routes s
+        → (HasRoute routes s → HasRoute (insert_entry E routes k r) s)
+        → HasRoute (if b then (x.0, r) ∷ routes else x ∷ insert_entry E routes k r) s
+    by true (inl is) more = inl is
+    by true (inr later) more = inr later
+    by false (inl is) more = inl is
+    by false (inr later) more = inr (more later)
+
+-- what letting go leads to is where its step leads
+abbrev OneMet : Held → Entries
+OneMet h = (h, record { presses = 0; last = None }) ∷ []
+
+one-met : (h : Held) (s : State) → IsMetBy (OneMet h) 0 s → state_of h ≡ s
+one-met h s (zero, x, at, is, le) = ap (λ z. state_of z.0) (same_Some _ x at) ∙ is
+one-met h s (suc j, x, at, is, le) = absurd (none-some x at)
+
+none-met : (s : State) (p : ℕ) → IsMetBy [] p s → ⊥
+none-met s p (j, x, at, is, le) = none-some x at
+
+abbrev MeetsLetGo : State → Modifier → Option Step → Type 0
+MeetsLetGo s i step = (es : Entries) (p : ℕ) → IfSome step (λ x. IsMetBy es p (state_of x.to)) → IsLetGoMet es p s i
+
+pub let_go-astray : (routes : Routes) (s : State) (i : Modifier) (step : Option Step) → MeetsLetGo s i step
+    → IfSome step (λ x. HasRoute routes (state_of x.to) → ⊥) → (k : ℕ) → Holds s k i
+    → HasRoute routes (with_holder s i None) → ⊥
+let_go-astray routes s i None met none k holds has = none-met _ 0 (met [] 0 tt k holds)
+let_go-astray routes s i (Some x) met none k holds has =
+    none (subst (λ t. HasRoute routes t)
+    (sym (one-met x.to (with_holder s i None) (met (OneMet x.to) 0 (0, _, refl, refl, omega arith) k holds))) has)
+
+abbrev MeetsPress : Under → State → ℕ → Option Step → Type 0
+MeetsPress u s k step =
+    (es : Entries) (p : ℕ) → IfSome step (λ x. IsMetBy es p (state_of x.to)) → ArePressesMet u es p s k
+
+pub press-astray : (u : Under) (routes : Routes) (s : State) (k : ℕ) (step : Option Step) → MeetsPress u s k step
+    → IfSome step (λ x. HasRoute routes (state_of x.to) → ⊥) → NoPressLeads u routes s k
+press-astray u routes s k None met none idle = (
+  (λ i seen free has. none-met _ 0 ((met [] 0 tt idle).0 i seen free)),
+  (λ l other seen has. none-met _ 0 ((met [] 0 tt idle).1 l other seen)),
+)
+press-astray u routes s k (Some x) met none idle =
+    let here : ArePressesMet u (OneMet x.to) 0 s k = met (OneMet x.to) 0 (0, _, refl, refl, omega arith) in (
+      (λ i seen free has.
+          none (subst (λ t. HasRoute routes t)
+          (sym (one-met x.to (with_holder s i (Some k)) ((here idle).0 i seen free))) has)),
+      (λ l other seen has.
+          none (subst (λ t. HasRoute routes t)
+          (sym (one-met x.to (with_lock_turned s l) ((here idle).1 l other seen))) has)),
+    )
+
+-- what the loop over states keeps
+pub record Settled (u : Under) (old : Routes) (states : List Held) (n : ℕ) (routes : Routes) (rest : List Held)
+    : Type 0 where
+  pub home : AllLeadHome u routes
+  pub fewer : length rest ≤ n
+  pub astray : length rest ≡ n → u.has_loads ≡ false
+      → (routes ≡ old) × ((x : Held) → Contains (take n states) x → IsAstray u routes (state_of x))
+  pub all : (x : Held) → Contains (take n states) x → HasRoute routes (state_of x) ⊎ Contains rest x
+  pub kept : (s : State) → HasRoute old s → HasRoute routes s
+
+-- before the first state
+pub settled-new : (u : Under) (old : Routes) (states rest : List Held) → AllLeadHome u old → rest ≡ []
+    → Settled u old states 0 old rest
+settled-new u old states rest home e = record {
+  home = home;
+  fewer = omega (arith, ap (λ z. length z) e);
+  astray = λ f loads. (refl, λ x has. absurd (nothing x has));
+  all = λ x has. absurd (nothing x has);
+  kept = λ s has. has;
+}
+  where
+    nothing : (x : Held) → Contains (take 0 states) x → ⊥
+    nothing x (k, lt, at) = omega (arith, lt)
+
+-- behind the last one
+pub settled-all : (u : Under) (old : Routes) (states : List Held) (n : ℕ) (routes : Routes) (rest : List Held)
+    → Settled u old states n routes rest → length states ≤ n → n ≤ length states
+    → ((length rest ≡ length states → u.has_loads ≡ false → (x : Held) → Contains states x
+    → IsAstray u routes (state_of x))
+    × ((x : Held) → Contains states x → HasRoute routes (state_of x) ⊎ Contains rest x))
+settled-all u old states n routes rest p up down =
+    let all : take n states ≡ states = take_all n states up in (
+      (λ e loads x has.
+          (p.astray (omega (arith, e, up, down)) loads).1 x (subst (λ z. Contains z x) (sym all) has)),
+      (λ x has. p.all x (subst (λ z. Contains z x) (sym all) has)),
+    )
+
+-- the states before the next place are those before this one, and the one here
+pub before-next : {X : Type 0} (states : List X) (n : ℕ) (x y : X) → x ≡ get_or states n x → n < length states
+    → Contains (take (n + 1) states) y → Contains (take n states) y ⊎ (x ≡ y)
+before-next states n x y at lt has =
+    Contains-push_cases (take n states) x y
+    (subst (λ z. Contains z y) (take_more states n x lt ∙ ap (λ z. take n states ++ z ∷ []) (sym at)) has)
+
+-- a route is added
+pub settled-some : (u : Under) (old : Routes) (states : List Held) (n : ℕ) (routes more : Routes) (rest : List Held)
+    (x : Held) → Settled u old states n routes rest → x ≡ get_or states n x → n < length states
+    → AllLeadHome u more → HasRoute more (state_of x) → ((s : State) → HasRoute routes s → HasRoute more s)
+    → Settled u old states (n + 1) more rest
+settled-some u old states n routes more rest x p at lt home added kept = record {
+  home = home;
+  fewer = omega (arith, p.fewer);
+  astray = λ e loads. absurd (omega (arith, e, p.fewer));
+  all = λ y has. elim (before-next states n x y at lt has) [
+    | inl before ↦ elim (p.all y before) [ inl is ↦ inl (kept (state_of y) is) | inr left ↦ inr left ]
+    | inr e ↦ inl (subst (λ z. HasRoute more (state_of z)) e added)
+  ];
+  kept = λ s has. kept s (p.kept s has);
+}
+
+-- none is found
+pub settled-none : (u : Under) (old : Routes) (states : List Held) (n : ℕ) (routes : Routes) (rest now : List Held)
+    (x : Held) → Settled u old states n routes rest → x ≡ get_or states n x → n < length states
+    → now ≡ rest ++ x ∷ [] → (u.has_loads ≡ false → IsAstray u routes (state_of x))
+    → Settled u old states (n + 1) routes now
+settled-none u old states n routes rest now x p at lt e none =
+    let longer : length now ≡ length rest + 1 = ap (λ z. length z) e ∙ length_push rest x in
+    record {
+      home = p.home;
+      fewer = omega (arith, p.fewer, longer);
+      astray = λ f loads.
+          let before = p.astray (omega (arith, f, longer)) loads in (
+            before.0,
+            λ y has. elim (before-next states n x y at lt has) [
+              | inl earlier ↦ before.1 y earlier
+              | inr g ↦ subst (λ z. IsAstray u routes (state_of z)) g (none loads)
+            ],
+          );
+      all = λ y has. elim (before-next states n x y at lt has) [
+        | inl before ↦ elim (p.all y before) [
+          | inl is ↦ inl is
+          | inr left ↦ inr (subst (λ z. Contains z y) (sym e) (Contains-append_left rest (x ∷ []) y left))
+        ]
+        | inr g ↦
+            inr
+            (subst (λ z. Contains z y) (sym e) (subst (λ z. Contains (rest ++ x ∷ []) z) g (Contains-push rest x)))
+      ];
+      kept = p.kept;
+    }
+
+-- a state that isn't home, and from which no step leads to where a route begins
+pub astray : (u : Under) (routes : Routes) (s : State) → u.has_loads ≡ false → (IsHome s → ⊥)
+    → NoLetGoLeads routes s → ((k : ℕ) → k < 128 → NoPressLeads u routes s k) → IsAstray u routes s
+astray u routes s loads away let_go press = (away, moves)
+  where
+    moves : (move : Move) → IsMove u s move → LeavesScroll move → HasRoute routes (moved u s move) → ⊥
+    moves (Hold k i) (lt, idle, seen, free) leaves has = (press k lt idle).0 i seen free has
+    moves (Turn k l) (lt, idle, seen) leaves has = (press k lt idle).1 l leaves seen has
+    moves (LetGo k i) holds leaves has = let_go k i holds has
+    moves Exchange (free, is) leaves has = true≢false (sym is ∙ loads)
+
+-- what isn't something is nothing
+pub is-none : {X : Type 0} (o : Option X) → ((x : X) → o ≡ Some x → ⊥) → o ≡ None
+is-none None f = refl
+is-none (Some x) f = absurd (f x refl)
+
+-- the same where no route by a press is answered
+pub astray-when : {E : Type 0} (u : Under) (routes : Routes) (s : State) (r : Result (Option Route) E) → (IsHome s → ⊥)
+    → NoLetGoLeads routes s
+    → IfOk r (λ route. route ≡ None → (k : ℕ) → k < 128 → NoPressLeads u routes s k)
+    → IfOk r (λ route. route ≡ None → u.has_loads ≡ false → IsAstray u routes s)
+astray-when u routes s (Ok route) away let_go press = λ none loads. astray u routes s loads away let_go (press none)
+astray-when u routes s (Err e) away let_go press = tt
+
+pub not-false : (b : Bool) → not b ≡ false → b ≡ true
+not-false true e = refl
+not-false false e = absurd (true≢false e)
+
+-- what is nothing
+pub is-nothing : {X : Type 0} (o : Option X) → is_some o ≡ false → o ≡ None
+is-nothing None e = refl
+is-nothing (Some x) e = absurd (true≢false e)
+
+-- a route that is found begins at the state
+pub found-has : (E : Held → Held → Bool) → ((a b : Held) → E a b ≡ true → state_of a ≡ state_of b)
+    → (routes : Routes) (k : Held) → is_some (lookup (E k) routes) ≡ true → HasRoute routes (state_of k)
+found-has E same [] k e = absurd (true≢false (sym e))
+found-has E same (x ∷ routes) k e = by (E k x.0) refl e (λ f. found-has E same routes k f)
+  where
+    by : (b : Bool) → E k x.0 ≡ b → is_some (cond b (Some x.1) (lookup (E k) routes)) ≡ true
+        → (is_some (lookup (E k) routes) ≡ true → HasRoute routes (state_of k))
+        → (state_of x.0 ≡ state_of k) ⊎ HasRoute routes (state_of k)
+    by true t f later = inl (sym (same k x.0 t))
+    by false t f later = inr (later f)

@@ -1,0 +1,19 @@
+use Rattle.std.proofs.Common.{refl}
+use Rattle.std.proofs.lemmas.Bool.{not-true}
+use Rattle.console_core.specs.Inner.Searching.{state_of}
+use Rattle.console_core.proofs.RoutesHome.{all-off, none-on, not-false}
+use Rattle.console_core.proofs.held.Held.is_home.Goals as goal
+
+pub returns-then-is_free-clause-home : goal.returns-then-is_free-clause-home
+returns-then-is_free-clause-home c =
+    λ e. (
+      c.if-is_free.ensures.free refl,
+      all-off (state_of c.args.self.now).is_locked
+          (c.is_any_locked.ensures.unlocked (not-true c.is_any_locked.result e)),
+    )
+
+pub returns-then-is_free-clause-away : goal.returns-then-is_free-clause-away
+returns-then-is_free-clause-away c =
+    λ e home.
+    let off = none-on (state_of c.args.self.now).is_locked home.1 in
+    c.is_any_locked.ensures.locked (not-false c.is_any_locked.result e) off.0 off.1 off.2

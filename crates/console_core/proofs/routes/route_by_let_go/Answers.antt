@@ -1,0 +1,32 @@
+use Rattle.std.proofs.Common.{◌<◌, IfSome, below_more, subst, refl, arith}
+use Rattle.std.specs.Prelude.{None}
+use Rattle.keymap_core.specs.Actions.{modifier_index}
+use Rattle.console_core.specs.Moves.{Holds, with_holder}
+use Rattle.console_core.specs.Inner.Routes.{HasRoute, LeadsHome}
+use Rattle.console_core.specs.Inner.Searching.{state_of}
+use Rattle.console_core.proofs.Places.{modifier_index-lt, modifier-at}
+use Rattle.console_core.proofs.RoutesHome.{let_go-astray, is-none}
+use Rattle.console_core.proofs.routes.route_by_let_go.Goals as goal
+
+pub returns-in-Some-clause-home : goal.returns-in-Some-clause-home
+returns-in-Some-clause-home c =
+    λ u all.
+    subst (λ o. IfSome o (λ x. LeadsHome u (state_of c.args.held.now) x.moves.items)) c.in-Some.is
+    (c.in_ok-route.ensures.home u (state_of c.args.held.now) 0 all (c.let_go.ensures.step u))
+
+pub loop-modifier-preserved : goal.loop-modifier-preserved
+loop-modifier-preserved c =
+    let s = state_of c.args.held.now in
+    let routes = c.args.routes.now.entries in
+    below_more _ _ c.loop-modifier.invariant
+    (λ i e k.
+    subst (λ j. Holds s k j → HasRoute routes (with_holder s j None) → ⊥)
+    (modifier-at i c.loop-modifier.modifier-index _ e)
+    (let_go-astray routes s _ c.let_go.result c.let_go.ensures.met
+    (c.in_ok-route.ensures.astray (is-none _ c.in_default.not-Some)) k))
+
+pub returns-clause-astray : goal.returns-clause-astray
+returns-clause-astray c =
+    λ none k i.
+    let lt : modifier_index i < 8 = modifier_index-lt i in
+    c.loop-modifier.invariant (modifier_index i) (omega arith) i refl k

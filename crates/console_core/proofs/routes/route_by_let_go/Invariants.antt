@@ -1,0 +1,14 @@
+-- letting go of none of the modifiers below the place leads to where a route begins
+use Rattle.std.proofs.Common.{◌≡◌, ◌<◌, ℕ, None}
+use Rattle.keymap_core.specs.declared.action.Modifier.{Modifier}
+use Rattle.keymap_core.specs.Actions.{modifier_index}
+use Rattle.console_core.specs.Moves.{Holds, with_holder}
+use Rattle.console_core.specs.Inner.Searching.{state_of}
+use Rattle.console_core.specs.Inner.Routes.{HasRoute}
+use Rattle.console_core.proofs.routes.route_by_let_go.Given as goal
+
+abbrev pub invariant-loop-modifier : goal.invariant-loop-modifier
+invariant-loop-modifier l =
+    (n : ℕ) → n < l.modifier-index → (i : Modifier) → modifier_index i ≡ n → (k : ℕ) → Holds (state_of l.held) k i
+    → HasRoute l.routes.entries (with_holder (state_of l.held) i None)
+    → ⊥

@@ -1,0 +1,22 @@
+use Rattle.std.proofs.Common.{below_more, subst, IfSome}
+use Rattle.console_core.specs.Inner.Routes.{LeadsHome, NoPressLeads}
+use Rattle.console_core.specs.Inner.Searching.{state_of, under_of}
+use Rattle.console_core.proofs.RoutesHome.{press-astray, is-none}
+use Rattle.console_core.proofs.routes.route_by_press.Goals as goal
+
+pub returns-in-Some-clause-home : goal.returns-in-Some-clause-home
+returns-in-Some-clause-home c =
+    λ all.
+    let u = under_of c.args.maps.now in
+    subst (λ o. IfSome o (λ x. LeadsHome u (state_of c.args.held.now) x.moves.items)) c.in-Some.is
+    (c.in_ok-route.ensures.home u (state_of c.args.held.now) 1 all c.pressed.ensures.step)
+
+pub loop-code-preserved : goal.loop-code-preserved
+loop-code-preserved c =
+    let s = state_of c.args.held.now in
+    let u = under_of c.args.maps.now in
+    let routes = c.args.routes.now.entries in
+    below_more _ _ c.loop-code.invariant
+    (subst (λ k. NoPressLeads u routes s k) c.key_with.ensures
+    (press-astray u routes s c.key_with.result c.pressed.result c.pressed.ensures.met
+    (c.in_ok-route.ensures.astray (is-none _ c.in_default.not-Some))))

@@ -1,0 +1,9 @@
+-- the states below the place stand there
+use Rattle.std.proofs.Common.{◌≡◌, ◌<◌, ℕ, slice_get, Some}
+use Rattle.std.specs.List.{Contains}
+use Rattle.console_core.specs.Inner.Searching.{Entry}
+use Rattle.console_core.proofs.routes.states_of.Given as goal
+
+abbrev pub invariant-loop-place : goal.invariant-loop-place
+invariant-loop-place l =
+    (j : ℕ) (x : Entry) → j < l.place → slice_get l.met.entries j ≡ Some x → Contains l.states.items x.0

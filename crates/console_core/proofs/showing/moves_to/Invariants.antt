@@ -1,0 +1,16 @@
+-- the moves so far are those of the path but for what is left
+use Rattle.std.proofs.Common.{◌≡◌, ◌<◌, List, ◌++◌, length, IfSome}
+use Rattle.console_core.specs.declared.held.Move.{Move}
+use Rattle.console_core.specs.Inner.Searching.{IsTrail}
+use Rattle.console_core.proofs.GoingBack.{LeadsBy, places_left}
+use Rattle.console_core.proofs.showing.moves_to.Given as goal
+
+abbrev pub invariant-loop-last : goal.invariant-loop-last
+invariant-loop-last l = record {
+  within : IfSome l.last (λ last. last.0 < length l.met.entries);
+  left : (path : List Move) → IsTrail l.met.entries l.fn.place path
+      → (rest : List Move) × (l.moves.items ++ rest ≡ path) × LeadsBy l.met.entries l.last rest;
+}
+
+abbrev pub decreases-loop-last : goal.decreases-loop-last
+decreases-loop-last l = places_left l.last

@@ -1,0 +1,8 @@
+-- the events of the moves before the place were added
+use Rattle.std.proofs.Common.{◌≡◌, ◌++◌, reverse, take}
+use Rattle.console_core.specs.Moves.{events_along}
+use Rattle.console_core.proofs.showing.push_moves.Given as goal
+
+abbrev pub invariant-loop-by : goal.invariant-loop-by
+invariant-loop-by l =
+    reverse l.events.items ≡ events_along (reverse (take l.by-index l.moves)) ++ reverse l.fn.events.items

@@ -1,0 +1,85 @@
+-- The moves that lead home from the states that a search met, and the events of a script that goes along them. Mirrors
+-- src/routes.rt and src/showing.rt.
+use Rattle.std.specs.Prelude.{◌≡◌, ◌≢◌, ◌⊎◌, ℕ, List, [], ◌∷◌, length, reverse, None, Some, slice_get}
+use Rattle.keymap_core.specs.declared.action.Modifier.{Modifier}
+use Rattle.keymap_core.specs.declared.action.Lock.{Lock}
+use Rattle.keymap_core.specs.declared.action.Lock.TheVariants.{Scroll}
+use Rattle.keymap_core.specs.Maps.{MapValue}
+use Rattle.console_core.specs.declared.event.Event.{Event}
+use Rattle.console_core.specs.declared.held.Held.{Held}
+use Rattle.console_core.specs.declared.held.Move.{Move}
+use Rattle.console_core.specs.declared.routes.Route.{Route}
+use Rattle.console_core.specs.declared.selection.Sight.{Sight}
+use Rattle.console_core.specs.History.{HasKeys, HasNoLoads}
+use Rattle.keymap_core.specs.declared.action.Action.TheVariants as act
+use Rattle.keymap_core.specs.declared.entry.Cell.TheVariants.{Act}
+use Rattle.console_core.specs.Moves.{Under, State, IsMove, moved, Holds, IsIdle, look_in, state_from, IsPathFrom}
+use Rattle.console_core.specs.Moves.{with_holder, with_lock_turned}
+use Rattle.console_core.specs.Returning.{IsHome}
+use Rattle.console_core.specs.Sights.{SeesAlong}
+use Rattle.console_core.specs.Sticking.{ReleasesPressedKeys}
+use Rattle.console_core.specs.Inner.Searching.{state_of, Entry, Entries, LeavesScroll, Searched}
+use Rattle.console_core.specs.Inner.Standing.{free_after, unscrolled}
+
+-- the moves, the oldest first, lead home
+abbrev pub LeadsHome : Under → State → List Move → Type 0
+LeadsHome u s moves = IsPathFrom u s (reverse moves) × IsHome (state_from u s (reverse moves))
+
+-- routes by the state where they begin
+abbrev pub Routes : Type 0
+Routes = List (Held × Route)
+
+abbrev pub AllLeadHome : Under → Routes → Type 0
+AllLeadHome u [] = Unit {0}
+AllLeadHome u (x ∷ routes) = LeadsHome u (state_of x.0) x.1.moves.items × AllLeadHome u routes
+
+-- one begins at the state
+abbrev pub HasRoute : Routes → State → Type 0
+HasRoute [] s = ⊥
+HasRoute (x ∷ routes) s = (state_of x.0 ≡ s) ⊎ HasRoute routes s
+
+-- letting go of no modifier leads to where a route begins
+abbrev pub NoLetGoLeads : Routes → State → Type 0
+NoLetGoLeads routes s = (k : ℕ) (i : Modifier) → Holds s k i → HasRoute routes (with_holder s i None) → ⊥
+
+-- a press of the key, but one that turns the scroll lock, leads to no state where a route begins
+abbrev pub NoPressLeads : Under → Routes → State → ℕ → Type 0
+NoPressLeads u routes s k =
+    IsIdle s k
+    → ((i : Modifier) → look_in u s k ≡ Act (act.Mod i) → s.holder i ≡ None
+    → HasRoute routes (with_holder s i (Some k)) → ⊥)
+    × ((l : Lock) → l ≢ Scroll → look_in u s k ≡ Act (act.Lock l) → HasRoute routes (with_lock_turned s l) → ⊥)
+
+-- The state isn't home, and no move but of the scroll lock leads from it to where a route begins.
+abbrev pub IsAstray : Under → Routes → State → Type 0
+IsAstray u routes s =
+    (IsHome s → ⊥) × ((move : Move) → IsMove u s move → LeavesScroll move → HasRoute routes (moved u s move) → ⊥)
+
+-- The search met all states, and a route home begins at each of them.
+pub record AreRoutesOf (u : Under) (es : Entries) (routes : Routes) : Type 0 where
+  pub searched : Searched u es (length es) (length es)
+  pub home : AllLeadHome u routes
+  pub all : (j : ℕ) (x : Entry) → slice_get es j ≡ Some x → HasRoute routes (state_of x.0)
+
+-- what holds of events holds of more of them
+pub record GoesOn (m : MapValue) (old now : List Event) : Type 0 where
+  pub keys : HasKeys old → HasKeys now
+  pub loads : HasNoLoads old → HasNoLoads now
+  pub releases : ReleasesPressedKeys old → ReleasesPressedKeys now
+  pub sees : (x : Sight) → SeesAlong m old x → SeesAlong m now x
+
+-- the state was met
+abbrev pub IsMet : Entries → State → Type 0
+IsMet es s = (j : ℕ) × (x : Entry) × (slice_get es j ≡ Some x) × (state_of x.0 ≡ s)
+
+-- After the events and a reset the console stands in the state, but for the scroll lock, and the search met it.
+pub record IsPlan (m : MapValue) (es : Entries) (h : List Event) (s : State) : Type 0 where
+  pub keys : HasKeys h
+  pub loads : HasNoLoads h
+  pub releases : ReleasesPressedKeys h
+  pub free : unscrolled (free_after m h) ≡ unscrolled s
+  pub met : IsMet es s
+
+-- letting go of all holders, one after another
+abbrev pub freed : State → State
+freed s = record s { holder = λ i. None }

@@ -1,3 +1,6 @@
 pub mod Listed
 pub mod Marking
+pub mod Showing
+pub mod Telling
 pub mod Touring
+pub mod Walking

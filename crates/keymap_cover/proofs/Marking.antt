@@ -1,12 +1,13 @@
 -- What is seen, by the marks in a table and by a list of pairs.
 use Prim.Native.Nat.{zero, suc}
-use Rattle.std.proofs.Common.{◌≡◌, ℕ, ◌<◌, Bool, true, false, ◌&&◌, List, []}
+use Rattle.std.proofs.Common.{◌≡◌, ℕ, ◌<◌, ◌≤◌, arith, Bool, true, false, ◌&&◌, List, []}
 use Rattle.std.proofs.Common.{refl, ap, subst, sym, ◌∙◌, length, if◌then◌else◌}
 use Rattle.std.specs.Prelude.{◌==◌, nat_lt, slice_set, slice_index_or, replicate}
 use Rattle.std.specs.List.{Contains, list_any}
 use Rattle.std.proofs.Math.Bool.{and-false}
 use Rattle.std.proofs.lemmas.Bool.{and_parts, eqb-true, eq-eqb, true≢false}
 use Rattle.std.proofs.lemmas.List.{get_or-set_same, get_or-set_other}
+use Rattle.console_core.specs.Columns.{bit}
 use Rattle.console_core.specs.declared.selection.Sight.{Sight}
 use Rattle.console_core.specs.declared.selection.Sight.TheVariants as sight
 use Rattle.console_core.proofs.Visible.{same-truth, fails, any-member, some-member, both}
@@ -21,6 +22,11 @@ set-cases xs i j v lt true e =
     subst (λ n. slice_index_or (slice_set xs i v) n false ≡ v) same (get_or-set_same xs i v false lt)
 set-cases xs i j v lt false e =
     get_or-set_other xs i j v false (λ f. true≢false (sym (eq-eqb i j (sym f)) ∙ e))
+
+-- a bit is 0 or 1
+pub bit-small : (b : Bool) → bit b ≤ 1
+bit-small true = omega arith
+bit-small false = omega arith
 
 -- the test of a pair
 is-this : (i c : ℕ) → is_pair i c (sight.Pair i c) ≡ true

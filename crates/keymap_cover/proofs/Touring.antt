@@ -32,10 +32,12 @@ use Rattle.keymap_cover.specs.Strokes.{event_of, events_of, is_down, CanFollow, 
 use Rattle.console_core.specs.declared.sights.Sights.{Sights}
 use Rattle.console_core.specs.Moves.{alone}
 use Rattle.console_core.specs.Sticking.{NeverForgets}
-use Rattle.console_core.specs.Sights.{Note, AreSightsOf}
+use Rattle.console_core.specs.Returning.{NoTurnIsOneWay}
+use Rattle.console_core.specs.Sights.{Note, AreSightsOf, IsReachable}
 use Rattle.keymap_cover.specs.declared.parts.Cover.{Cover}
 use Rattle.keymap_cover.specs.SeenSights.{has_seen}
-use Rattle.keymap_cover.specs.Covering.{IsAtRest, Covers}
+use Rattle.keymap_cover.specs.Covering.{events, IsAtRest, Covers}
+use Rattle.keymap_cover.specs.Told.{IsTold}
 use Rattle.keymap_cover.proofs.Marking.{set-cases}
 use Rattle.keymap_cover.specs.Inner.Tours.{IsWith, IsPairOf, AddsPair, AddsSights, IsTour, AreUp}
 use Rattle.keymap_tour.specs.Plans.{AreInOrder}
@@ -296,6 +298,13 @@ not-pressed k (stroke.Up j ∷ xs) e =
     ∙ by-whether (j == k) false (is_down k xs) (pressed k (events_of xs)) (λ f. not-pressed k xs f) e
 not-pressed k (stroke.Reset ∷ xs) e = pressed-reset k (events_of xs)
 
+-- so a key that is pressed is down
+pub up-not : (m : MapValue) (h : List Event) (strokes : List Stroke) (down : List Bool) (noted : Sight → Bool) (k : ℕ)
+    → IsTour m h strokes down noted → k < key_count → slice_index_or down k false ≡ false → pressed k h ≡ true → ⊥
+up-not m h strokes down noted k t lt off on =
+    true≢false (sym on
+    ∙ subst (λ g. pressed k g ≡ false) t.events (not-pressed k (reverse strokes) (sym (t.pressed k lt) ∙ off)))
+
 -- where no key is down, no modifier on and no accent pending, the tour is at rest
 pub rests : (m : MapValue) (h : List Event) (strokes : List Stroke) (down : List Bool) (noted : Sight → Bool)
     → IsTour m h strokes down noted → AreUp down → is_any_on_after (between m m) h ≡ false
@@ -322,12 +331,13 @@ pub never-forgets : (m : MapValue) (x : Sights) → AreSightsOf m x → x.forget
 never-forgets m x are e path is forgetful =
     true≢false (sym ((are Note.Forgets).1 (path, is, forgetful)) ∙ e)
 
--- a tour that ends at rest covers
+-- a tour that ends at rest, and leaves out nothing if no turn of a lock is one-way, covers
 pub tour-covers : (m : MapValue) (h : List Event) (c : Cover) (down : List Bool)
     → IsTour m h c.strokes.items down (has_seen c.seen) → IsAtRest m h → AreUp down → AreSightsOf m c.sights
-    → AreInOrder c.starts.items → Covers m c
-tour-covers m h c down t rest up are parts = record {
-  seen = λ x has. subst (λ g. SeesAlong m g x) (sym t.events) (t.seen x has);
+    → AreInOrder c.starts.items
+    → (NoTurnIsOneWay m → (x : Sight) → IsTold m x → IsReachable m x → has_seen c.seen x ≡ true) → Covers m c
+tour-covers m h c down t rest up are parts nothing = record {
+  seen = seen;
   all_seen = λ x along. t.all_seen x (subst (λ g. SeesAlong m g x) t.events along);
   sights = are;
   keys = subst HasKeys (sym t.events) t.keys;
@@ -335,4 +345,8 @@ tour-covers m h c down t rest up are parts = record {
   rest = subst (λ g. IsAtRest m g) (sym t.events) rest;
   up = λ k lt. sym (t.pressed k lt) ∙ up k lt;
   parts = parts;
+  complete = λ steady x told reachable. seen x (nothing steady x told reachable);
 }
+  where
+    seen : (x : Sight) → has_seen c.seen x ≡ true → SeesAlong m (events c) x
+    seen x has = subst (λ g. SeesAlong m g x) (sym t.events) (t.seen x has)

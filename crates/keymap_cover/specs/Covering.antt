@@ -8,6 +8,7 @@ use Rattle.console_core.specs.declared.event.Event.{Event}
 use Rattle.console_core.specs.declared.selection.Sight.{Sight}
 use Rattle.console_core.specs.History.{between, is_on_after, accent_pending_after, HasKeys, IsQuiet}
 use Rattle.console_core.specs.Moves.{alone}
+use Rattle.console_core.specs.Returning.{NoTurnIsOneWay}
 use Rattle.console_core.specs.Sticking.{ReachesMoreThan, state_limit}
 use Rattle.console_core.specs.Sights.{SeesNext, SeesAlong, IsAdmitted, IsReachable, AreSightsOf, can_see}
 use Rattle.keymap_cover.specs.declared.parts.Cover.{Cover}
@@ -16,6 +17,7 @@ use Rattle.keymap_cover.specs.declared.parts.Verdict.{Verdict}
 use Rattle.keymap_cover.specs.declared.parts.Verdict.TheVariants.{Seen, LeftOut, Never}
 use Rattle.keymap_cover.specs.SeenSights.{has_seen}
 use Rattle.keymap_cover.specs.Strokes.{events_of, is_down, ArePossible}
+use Rattle.keymap_cover.specs.Told.{IsTold}
 use Rattle.keymap_tour.specs.Plans.{AreInOrder}
 
 -- the events of the script, with the newest first
@@ -42,6 +44,8 @@ pub record Covers (m : MapValue) (c : Cover) : Type 0 where
   pub up : (k : ℕ) → k < key_count → is_down k (reverse c.strokes.items) ≡ false
   -- its parts begin in their order, each at most once
   pub parts : AreInOrder c.starts.items
+  -- where no turn of a lock is one-way, nothing that is told of and can be seen is left out
+  pub complete : NoTurnIsOneWay m → (x : Sight) → IsTold m x → IsReachable m x → SeesAlong m (events c) x
 
 -- No press after a list that is spoken of sees it: after any list of presses, releases and resets, or, where a holder
 -- looks up a character in a state that a path leads to, after any clean one.
@@ -49,10 +53,12 @@ abbrev pub NeverSees : MapValue → Bool → Sight → Type 0
 NeverSees m forgets x =
     (h : List Event) (k : ℕ) → IsAdmitted m forgets h → k < key_count → SeesNext m h k x → ⊥
 
--- What is told of a sight. Each sight has exactly one verdict: what can be seen by no path is seen by no list.
+-- What is told of a sight. Each sight has exactly one verdict: what can be seen by no path is seen by no list. What is
+-- left out though it is told of is so only where a turn of a lock is one-way.
 abbrev pub IsVerdict : MapValue → Cover → Sight → Verdict → Type 0
 IsVerdict m c x Seen = SeesAlong m (events c) x
-IsVerdict m c x LeftOut = (SeesAlong m (events c) x → ⊥) × IsReachable m x
+IsVerdict m c x LeftOut =
+    (SeesAlong m (events c) x → ⊥) × IsReachable m x × (IsTold m x → NoTurnIsOneWay m → ⊥)
 IsVerdict m c x Never =
     (SeesAlong m (events c) x → ⊥) × (IsReachable m x → ⊥) × NeverSees m c.sights.forgets x
 

@@ -1,2 +1,3 @@
 -- What mirrors functions of the code. Private contracts cite it; no public clause does.
 pub mod Tours
+pub mod Pairs

@@ -3,3 +3,4 @@ pub mod Inner
 pub mod Strokes
 pub mod SightLists
 pub mod SeenSights
+pub mod Told

@@ -1,17 +1,23 @@
 //! A script that looks up every cell that can be looked up, and what it sees.
-ghost use Rattle.std.specs.Prelude.{◌≡◌, List, true, false, IfOk};
-ghost use Rattle.console_core.specs.declared.event.Event.{Event as EventValue};
+ghost use Rattle.std.specs.Prelude.{◌≡◌, ℕ, true, false, IfOk, MatchOption};
+ghost use Rattle.std.specs.List.{Contains};
+ghost use Rattle.console_core.specs.declared.selection.Sight.{Sight as SightValue};
+ghost use Rattle.console_core.specs.Moves.{alone};
 ghost use Rattle.console_core.specs.Sights.{AreSightsOf, IsReachable, can_see};
-ghost use Rattle.keymap_cover.specs.Covering.{IsAtRest, NeverSees, Covers, IsVerdict, verdict_of, IsCover};
-ghost use Rattle.keymap_cover.specs.Inner.Tours.{IsTourOf, AreUp};
+ghost use Rattle.console_core.specs.Sticking.{ReachesMoreThan, state_limit};
+ghost use Rattle.keymap_cover.specs.Covering.{NeverSees, Covers, IsVerdict, verdict_of, IsCover};
+ghost use Rattle.keymap_cover.specs.Inner.Tours.{EndsAtRest, SeesAll, LeavesNothingOut};
+ghost use Rattle.keymap_cover.specs.SeenSights.{has_seen};
 ghost use Rattle.keymap_tour.specs.Plans.{AreInOrder};
 
 use crate::parts::{Cover, Verdict};
+use crate::seen::Seen;
+use crate::told::told;
 use crate::tour::Tour;
 use console_core::laws::sights_are_reachable;
-use console_core::{PlainConsole, Sight, Sights, sights_of};
+use console_core::{Event, PlainConsole, Sight, Sights, events_that_show, sights_of};
 use keymap_core::KeyMap;
-use keymap_tour::{Start, plan_for};
+use keymap_tour::{Part, Start, plan_for};
 use std::alloc::{AllocError, Global};
 
 /// Whether a press after some list that is spoken of may see it. The law says that what such a press sees can be seen.
@@ -41,17 +47,99 @@ impl Cover {
     }
 }
 
-/// The tour of a new console.
+/// Whether it is left out: it can be seen, and wasn't.
+fn is_left_out(seen: &Seen, sights: &Sights, map: &KeyMap, sight: Sight) -> bool
+    ensures none { AreSightsOf map.now sights.now → result ≡ false → IsReachable map.now sight
+        → has_seen seen.now sight ≡ true }
+    ensures some { AreSightsOf map.now sights.now → result ≡ true → IsReachable map.now sight
+        × (has_seen seen.now sight ≡ false) }
+{
+    !seen.has(sight) && may_see(sights, map, sight)
+}
+
+/// Whether one of these is left out.
+fn leaves_out(seen: &Seen, sights: &Sights, map: &KeyMap, told: &[Sight]) -> bool
+    ensures none { AreSightsOf map.now sights.now → result ≡ false → (x : SightValue) → Contains told.now x
+        → IsReachable map.now x → has_seen seen.now x ≡ true }
+    ensures some { AreSightsOf map.now sights.now → result ≡ true → (x : SightValue) × Contains told.now x
+        × IsReachable map.now x × (has_seen seen.now x ≡ false) }
+{
+    for sight in told {
+        if is_left_out(seen, sights, map, *sight) {
+            return true;
+        }
+    }
+    false
+}
+
+/// The tour that is planned, and where its parts begin.
 fn tour_of(alloc: Global, map: &KeyMap) -> Result<(Tour, Vec<Start>), AllocError>
-    ensures tour { IfOk result (λ t. (AreUp t.0.pressed) × ((h : List EventValue) × IsTourOf map.now h t.0
-        × IsAtRest map.now h)) }
+    ensures tour { IfOk result (λ t. EndsAtRest map.now t.0) }
     ensures parts { IfOk result (λ t. AreInOrder t.1.items) }
 {
     let plan = plan_for(alloc, map)?;
-    let mut console = PlainConsole::new(map);
-    let mut tour = Tour::new(alloc)?;
-    tour.walk(&mut console, map, &plan.events)?;
+    let tour = Tour::along(alloc, &mut PlainConsole::new(map), map, &plan.events)?;
     Ok((tour, plan.starts))
+}
+
+/// The only part of a script of these events begins before them.
+fn one_start(alloc: Global, events: &[Event]) -> Result<Vec<Start>, AllocError>
+    ensures { IfOk result (λ starts. AreInOrder starts.items) }
+{
+    let mut starts = Vec::new(alloc);
+    if !events.is_empty() {
+        starts.push(Start {
+            part: Part::Looks,
+            at: 0,
+        })?;
+    }
+    Ok(starts)
+}
+
+/// The tour along events that show all of these, if no turn of a lock is one-way, or nothing where the search gives up.
+fn tour_that_shows(
+    alloc: Global,
+    map: &KeyMap,
+    told: &[Sight],
+) -> Result<Option<(Tour, Vec<Start>)>, AllocError>
+    ensures { IfOk result (λ x. MatchOption x ((p : ℕ) × ReachesMoreThan (alone map.now) state_limit p)
+        (λ t. EndsAtRest map.now t.0 × SeesAll map.now told.now t.0 × AreInOrder t.1.items)) }
+{
+    match events_that_show(alloc, map, told)? {
+        Some(events) => {
+            let tour = Tour::along(alloc, &mut PlainConsole::new(map), map, &events)?;
+            Ok(Some((tour, one_start(alloc, &events)?)))
+        }
+        None => Ok(None),
+    }
+}
+
+/// The tour that is planned, or, if it leaves something out, one that doesn't, if no turn of a lock is one-way; or
+/// nothing where the search gives up.
+fn best_tour(
+    alloc: Global,
+    map: &KeyMap,
+    sights: &Sights,
+) -> Result<Option<(Tour, Vec<Start>)>, AllocError>
+    ensures { IfOk result (λ x. AreSightsOf map.now sights.now
+        → MatchOption x ((p : ℕ) × ReachesMoreThan (alone map.now) state_limit p)
+        (λ t. EndsAtRest map.now t.0 × LeavesNothingOut map.now t.0 × AreInOrder t.1.items)) }
+{
+    let planned = tour_of(alloc, map)?;
+    let told = told(alloc, map)?;
+    if !leaves_out(&planned.0.seen, sights, map, &told) {
+        return Ok(Some(planned));
+    }
+    match tour_that_shows(alloc, map, &told)? {
+        Some(shown) => {
+            if leaves_out(&shown.0.seen, sights, map, &told) {
+                Ok(Some(planned))
+            } else {
+                Ok(Some(shown))
+            }
+        }
+        None => Ok(None),
+    }
 }
 
 /// A script for the keymap, or nothing where the search gives up.
@@ -59,15 +147,15 @@ pub fn cover_of(alloc: Global, map: &KeyMap) -> Result<Option<Cover>, AllocError
     ensures { IfOk result (λ x. IsCover map.now x) }
 {
     match sights_of(alloc, map)? {
-        Some(sights) => {
-            let (tour, starts) = tour_of(alloc, map)?;
-            Ok(Some(Cover {
+        Some(sights) => match best_tour(alloc, map, &sights)? {
+            Some((tour, starts)) => Ok(Some(Cover {
                 strokes: tour.strokes,
                 starts,
                 seen: tour.seen,
                 sights,
-            }))
-        }
+            })),
+            None => Ok(None),
+        },
         None => Ok(None),
     }
 }

@@ -19,6 +19,7 @@ mod parts;
 mod seen;
 mod sight_lists;
 mod stroke;
+mod told;
 mod tour;
 mod walk;
 

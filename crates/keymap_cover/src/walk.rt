@@ -1,14 +1,16 @@
 //! A console that runs along a script while it is made, and notes what each press sees.
-ghost use Rattle.std.specs.Prelude.{◌≡◌, ◌≢◌, ◌<◌, ℕ, List, [], false, true, OnOk, IfOk, slice_index_or};
+ghost use Rattle.std.specs.Prelude.{◌≡◌, ◌≢◌, ◌<◌, ℕ, List, [], false, true, reverse, OnOk, IfOk};
+ghost use Rattle.std.specs.Prelude.{slice_index_or};
 ghost use Rattle.keymap_core.specs.Maps.{MapValue};
 ghost use Rattle.keymap_core.specs.Numbers.{key_count};
 ghost use Rattle.console_core.specs.declared.event.Event.{Event as EventValue};
-ghost use Rattle.console_core.specs.declared.event.Event.TheVariants.{Press};
+ghost use Rattle.console_core.specs.declared.event.Event.TheVariants.{Press, Release, Reset};
 ghost use Rattle.console_core.specs.History.{between};
 ghost use Rattle.console_core.specs.Sights.{selection_with};
 ghost use Rattle.keymap_cover.specs.SeenSights.{has_seen};
-ghost use Rattle.keymap_cover.specs.Inner.Tours.{AddsPair, AddsSights, IsTourOf, IsAlong};
-ghost use Rattle.keymap_cover.specs.Inner.Tours.{IsAlongAtRest, AreUp};
+ghost use Rattle.keymap_cover.specs.Inner.Tours.{AddsPair, AddsSights, IsTourOf, AreUp};
+ghost use Rattle.keymap_cover.specs.Inner.Tours.{GoesAlongToRest, IsTourAlong};
+ghost use Rattle.keymap_cover.specs.Inner.Tours.{GoesBy, GoesIfTaken, GoesOn, GoesToRest};
 ghost use Rattle.keymap_cover.specs.declared.stroke.Stroke.{Stroke as StrokeValue};
 ghost use Rattle.keymap_cover.specs.Strokes.{event_of, is_down, CanFollow};
 
@@ -16,7 +18,7 @@ use crate::seen::Seen;
 use crate::stroke::Stroke;
 use crate::tour::Tour;
 use console_core::{Event, Selection, Translator, is_any_on};
-use keymap_core::{Cell, KEY_COUNT, KeyCode, KeyMap, Lock, Modifier};
+use keymap_core::{Cell, KEY_COUNT, KeyCode, KeyMap, Lock, Modifier, key_with};
 use std::alloc::{AllocError, Global};
 
 /// What of the console picks the cell that a key looks up.
@@ -110,8 +112,8 @@ impl Tour {
         map: &KeyMap,
         key: KeyCode,
     ) -> Result<(), AllocError>
-        requires { IsAlong map.now (T.stands console.old) self.old }
-        ensures { OnOk result (IsAlong map.now (T.stands console.new) self.new) }
+        ensures { OnOk result (GoesBy map.now (Press key) (T.stands console.old) self.old
+            (T.stands console.new) self.new) }
     {
         note(&mut self.seen, console, map, key)?;
         let stroke = press_of(key, self.is_pressed(key));
@@ -128,8 +130,8 @@ impl Tour {
         map: &KeyMap,
         key: KeyCode,
     ) -> Result<(), AllocError>
-        requires { IsAlong map.now (T.stands console.old) self.old }
-        ensures along { OnOk result (IsAlong map.now (T.stands console.new) self.new) }
+        ensures along { OnOk result (GoesIfTaken map.now (Release key) (T.stands console.old) self.old
+            (T.stands console.new) self.new) }
         ensures up { OnOk result (slice_index_or self.new.pressed key false ≡ false) }
         ensures others { OnOk result ((k : ℕ) → k ≢ key
             → slice_index_or self.new.pressed k false ≡ slice_index_or self.old.pressed k false) }
@@ -144,8 +146,8 @@ impl Tour {
 
     /// Resets the console. Keys stay down.
     pub fn reset<T: Translator>(&mut self, console: &mut T, map: &KeyMap) -> Result<(), AllocError>
-        requires { IsAlong map.now (T.stands console.old) self.old }
-        ensures along { OnOk result (IsAlongAtRest map.now (T.stands console.new) self.new) }
+        ensures along { OnOk result (GoesBy map.now Reset (T.stands console.old) self.old
+            (T.stands console.new) self.new) }
         ensures kept { OnOk result (self.new.pressed ≡ self.old.pressed) }
     {
         self.strokes.push(Stroke::Reset)?;
@@ -160,8 +162,8 @@ impl Tour {
         map: &KeyMap,
         event: &Event,
     ) -> Result<(), AllocError>
-        requires { IsAlong map.now (T.stands console.old) self.old }
-        ensures { OnOk result (IsAlong map.now (T.stands console.new) self.new) }
+        ensures { OnOk result (GoesIfTaken map.now event.now (T.stands console.old) self.old
+            (T.stands console.new) self.new) }
     {
         match event {
             Event::Press(key) => self.press(console, map, *key)?,
@@ -173,8 +175,7 @@ impl Tour {
 
     /// Releases all keys.
     fn let_go<T: Translator>(&mut self, console: &mut T, map: &KeyMap) -> Result<(), AllocError>
-        requires { IsAlong map.now (T.stands console.old) self.old }
-        ensures along { OnOk result (IsAlong map.now (T.stands console.new) self.new) }
+        ensures along { OnOk result (GoesOn map.now (T.stands console.old) self.old (T.stands console.new) self.new) }
         ensures up { OnOk result (AreUp self.new.pressed) }
     {
         for code in 0..KEY_COUNT as u8 {
@@ -185,9 +186,9 @@ impl Tour {
 
     /// Resets the console if a modifier is on or an accent is pending.
     fn settle<T: Translator>(&mut self, console: &mut T, map: &KeyMap) -> Result<(), AllocError>
-        requires along { IsAlong map.now (T.stands console.old) self.old }
-        requires up { AreUp self.old.pressed }
-        ensures along { OnOk result (IsAlongAtRest map.now (T.stands console.new) self.new) }
+        requires { AreUp self.old.pressed }
+        ensures along { OnOk result (GoesToRest map.now (T.stands console.old) self.old
+            (T.stands console.new) self.new) }
         ensures kept { OnOk result (self.new.pressed ≡ self.old.pressed) }
     {
         if is_any_on(&*console) || console.pending().is_some() {
@@ -197,14 +198,15 @@ impl Tour {
     }
 
     /// Delivers the events, whatever they are, releases all keys, and leaves no modifier on and no accent pending.
+    /// Where they have no load and release pressed keys alone, each of them is delivered.
     pub fn walk<T: Translator>(
         &mut self,
         console: &mut T,
         map: &KeyMap,
         events: &[Event],
     ) -> Result<(), AllocError>
-        requires { IsAlong map.now (T.stands console.old) self.old }
-        ensures along { OnOk result (IsAlongAtRest map.now (T.stands console.new) self.new) }
+        ensures along { OnOk result (GoesAlongToRest map.now (reverse events.now) (T.stands console.old) self.old
+            (T.stands console.new) self.new) }
         ensures up { OnOk result (AreUp self.new.pressed) }
     {
         for event in events {
@@ -213,14 +215,19 @@ impl Tour {
         self.let_go(console, map)?;
         self.settle(console, map)
     }
-}
 
-fn key_with(code: u8) -> KeyCode
-    requires { code < key_count }
-    ensures { result ≡ code }
-{
-    match KeyCode::new(code) {
-        Some(key) => key,
-        None => unreachable!(),
+    /// The tour of a new console that is handed the events.
+    pub fn along<T: Translator>(
+        alloc: Global,
+        console: &mut T,
+        map: &KeyMap,
+        events: &[Event],
+    ) -> Result<Tour, AllocError>
+        requires { T.stands console.old (between map.now map.now) [] }
+        ensures { IfOk result (λ t. IsTourAlong map.now (reverse events.now) t) }
+    {
+        let mut tour = Tour::new(alloc)?;
+        tour.walk(console, map, events)?;
+        Ok(tour)
     }
 }

@@ -1,5 +1,7 @@
 -- A script while it is made. Mirrors src/tour.rt.
-use Rattle.std.specs.Prelude.{◌≡◌, ◌⊎◌, ℕ, ◌<◌, Bool, true, false, List, Option, Some, reverse, slice_index_or}
+use Rattle.std.specs.Prelude.{◌≡◌, ◌⊎◌, ℕ, ◌<◌, Bool, true, false, List, ◌∷◌, ◌++◌, Option, Some, reverse}
+use Rattle.std.specs.Prelude.{slice_index_or}
+use Rattle.std.specs.List.{Contains}
 use Rattle.keymap_core.specs.Maps.{MapValue}
 use Rattle.keymap_core.specs.Numbers.{key_count}
 use Rattle.console_core.specs.declared.event.Event.{Event}
@@ -7,13 +9,16 @@ use Rattle.console_core.specs.declared.selection.Sight.{Sight}
 use Rattle.keymap_core.specs.declared.entry.Cell.TheVariants.{Char}
 use Rattle.console_core.specs.declared.selection.Selection.{Selection}
 use Rattle.console_core.specs.declared.selection.Sight.TheVariants as sight
-use Rattle.console_core.specs.History.{Maps, between, HasKeys}
-use Rattle.console_core.specs.Sights.{look_selected, SeesNext, SeesAlong}
+use Rattle.console_core.specs.History.{Maps, between, HasKeys, HasNoLoads, IsNoLoad}
+use Rattle.console_core.specs.Returning.{HasUsableAccent, NoTurnIsOneWay}
+use Rattle.console_core.specs.Sights.{look_selected, SeesNext, SeesAlong, IsReachable}
+use Rattle.console_core.specs.Sticking.{IsOfPressedKey, ReleasesPressedKeys}
 use Rattle.keymap_cover.specs.declared.stroke.Stroke.{Stroke}
 use Rattle.keymap_cover.specs.declared.tour.Tour.{Tour}
 use Rattle.keymap_cover.specs.Strokes.{events_of, is_down, ArePossible}
 use Rattle.keymap_cover.specs.SeenSights.{has_seen}
 use Rattle.keymap_cover.specs.Covering.{IsAtRest}
+use Rattle.keymap_cover.specs.Told.{IsTold}
 
 -- x is there, and what was there before, and nothing else
 abbrev pub IsWith : Sight → (Sight → Bool) → (Sight → Bool) → Type 0
@@ -50,12 +55,75 @@ pub record IsTour (m : MapValue) (h : List Event) (strokes : List Stroke) (down 
 abbrev pub IsTourOf : MapValue → List Event → Tour → Type 0
 IsTourOf m h t = IsTour m h t.strokes.items t.pressed (has_seen t.seen)
 
--- a console that stands so runs along the tour
-abbrev pub IsAlong : MapValue → (Maps → List Event → Type 0) → Tour → Type 0
-IsAlong m stands t = (h : List Event) × stands (between m m) h × IsTourOf m h t
+-- a console that stands so runs along the tour, which made this list
+abbrev pub RunsAlong : MapValue → (Maps → List Event → Type 0) → List Event → Tour → Type 0
+RunsAlong m stands h t = stands (between m m) h × IsTourOf m h t
 
-abbrev pub IsAlongAtRest : MapValue → (Maps → List Event → Type 0) → Tour → Type 0
-IsAlongAtRest m stands t = (h : List Event) × stands (between m m) h × IsTourOf m h t × IsAtRest m h
+-- the events of the one list came after the other
+abbrev pub ComesAfter : List Event → List Event → Type 0
+ComesAfter h g = (later : List Event) × (g ≡ later ++ h)
+
+-- the console runs along by one event more
+abbrev pub GoesBy : MapValue → Event → (Maps → List Event → Type 0) → Tour → (Maps → List Event → Type 0) → Tour
+    → Type 0
+GoesBy m e stood before stands t = (h : List Event) → RunsAlong m stood h before → RunsAlong m stands (e ∷ h) t
+
+-- It runs along by one event more, or not at all where that is a release of a key that isn't pressed, or a load.
+abbrev pub GoesIfTaken : MapValue → Event → (Maps → List Event → Type 0) → Tour → (Maps → List Event → Type 0) → Tour
+    → Type 0
+GoesIfTaken m e stood before stands t =
+    (h : List Event) → RunsAlong m stood h before
+    → (g : List Event) × RunsAlong m stands g t × ComesAfter h g × (IsNoLoad e → IsOfPressedKey e h → g ≡ e ∷ h)
+
+-- it runs along by some events more
+abbrev pub GoesOn : MapValue → (Maps → List Event → Type 0) → Tour → (Maps → List Event → Type 0) → Tour → Type 0
+GoesOn m stood before stands t =
+    (h : List Event) → RunsAlong m stood h before → (g : List Event) × RunsAlong m stands g t × ComesAfter h g
+
+-- and comes to rest
+abbrev pub GoesToRest : MapValue → (Maps → List Event → Type 0) → Tour → (Maps → List Event → Type 0) → Tour → Type 0
+GoesToRest m stood before stands t =
+    (h : List Event) → RunsAlong m stood h before
+    → (g : List Event) × RunsAlong m stands g t × ComesAfter h g × IsAtRest m g
+
+-- no loads, and releases of pressed keys alone
+abbrev pub IsTaken : List Event → Type 0
+IsTaken h = HasNoLoads h × ReleasesPressedKeys h
+
+-- it runs along by exactly these events, if there are no loads and releases of pressed keys alone
+abbrev pub GoesAlong : MapValue → List Event → (Maps → List Event → Type 0) → Tour → (Maps → List Event → Type 0) → Tour
+    → Type 0
+GoesAlong m later stood before stands t =
+    (h : List Event) → RunsAlong m stood h before
+    → (g : List Event) × RunsAlong m stands g t × (IsTaken (later ++ h) → g ≡ later ++ h)
+
+-- the same, and it comes to rest by some events more
+abbrev pub GoesAlongToRest : MapValue → List Event → (Maps → List Event → Type 0) → Tour
+    → (Maps → List Event → Type 0) → Tour → Type 0
+GoesAlongToRest m later stood before stands t =
+    (h : List Event) → RunsAlong m stood h before
+    → (g : List Event) × RunsAlong m stands g t × IsAtRest m g × (IsTaken (later ++ h) → ComesAfter (later ++ h) g)
 
 abbrev pub AreUp : List Bool → Type 0
 AreUp down = (k : ℕ) → k < key_count → slice_index_or down k false ≡ false
+
+-- The tour of a new console that was handed these events: at its end no key is down, and it is at rest.
+abbrev pub IsTourAlong : MapValue → List Event → Tour → Type 0
+IsTourAlong m later t =
+    AreUp t.pressed
+    × ((g : List Event) × IsTourOf m g t × IsAtRest m g × (IsTaken later → ComesAfter later g))
+
+-- a tour of which no key is down at the end, and which is at rest
+abbrev pub EndsAtRest : MapValue → Tour → Type 0
+EndsAtRest m t = AreUp t.pressed × ((h : List Event) × IsTourOf m h t × IsAtRest m h)
+
+-- if no turn of a lock is one-way, it sees what of these can be seen
+abbrev pub SeesAll : MapValue → List Sight → Tour → Type 0
+SeesAll m xs t =
+    NoTurnIsOneWay m → (x : Sight) → Contains xs x → HasUsableAccent m x → IsReachable m x
+    → has_seen t.seen x ≡ true
+
+-- and of all that is told of
+abbrev pub LeavesNothingOut : MapValue → Tour → Type 0
+LeavesNothingOut m t =
+    NoTurnIsOneWay m → (x : Sight) → IsTold m x → IsReachable m x → has_seen t.seen x ≡ true

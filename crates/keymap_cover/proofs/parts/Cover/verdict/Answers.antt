@@ -7,6 +7,9 @@ returns-then-may_see-clause-told c =
     λ covers. (
       (λ along. true≢false (sym (covers.all_seen c.args.sight along) ∙ sym c.has.ensures ∙ c.if-has.false)),
       c.if-may_see.ensures.reachable covers.sights refl,
+      (λ told steady.
+          true≢false (sym (covers.all_seen c.args.sight (covers.complete steady c.args.sight told
+          (c.if-may_see.ensures.reachable covers.sights refl))) ∙ sym c.has.ensures ∙ c.if-has.false)),
     )
 
 pub returns-else-may_see-clause-told : goal.returns-else-may_see-clause-told

@@ -1,10 +1,10 @@
 -- the console runs along, and the keys below the code are up
 use Rattle.std.proofs.Common.{◌≡◌, ◌<◌, ℕ, false}
 use Rattle.std.specs.Prelude.{slice_index_or}
-use Rattle.keymap_cover.specs.Inner.Tours.{IsAlong}
+use Rattle.keymap_cover.specs.Inner.Tours.{GoesOn}
 use Rattle.keymap_cover.proofs.tour.Tour.let_go.Given as goal
 
 abbrev pub invariant-loop-code : goal.invariant-loop-code
 invariant-loop-code g l =
-    IsAlong l.map (g.T.Translator.stands l.console) l.self
+    GoesOn l.map (g.T.Translator.stands l.fn.console) l.fn.self (g.T.Translator.stands l.console) l.self
     × ((k : ℕ) → k < l.code → slice_index_or l.self.pressed k false ≡ false)

@@ -8,15 +8,14 @@ use Rattle.keymap_cover.proofs.tour.Tour.press.Goals as goal
 
 pub returns : goal.returns
 returns g c =
+    λ h (stands, t).
     let m = c.args.map.now in
     let old = c.args.self.now in
     let k = c.args.key in
     let now = has_seen c.note.new.seen in
-    let (h, stands, t) = c.requires in
     let len : length old.pressed ≡ 128 = old.pressed_len in
     let below : k < 128 = c.press_of-stroke.ensures.in_range in
     let within : k < length old.pressed = omega (arith, below, len) in (
-      event.Press k ∷ h,
       c.step.ensures.next _ h stands,
       subst (λ j. IsTour m (event.Press k ∷ h) c.push.new.self.items (slice_set old.pressed j true) now)
           (sym c.get.ensures.same)

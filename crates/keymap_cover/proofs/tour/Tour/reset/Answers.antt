@@ -1,17 +1,13 @@
-use Rattle.std.specs.Prelude.{◌∷◌}
-use Rattle.console_core.specs.declared.event.Event.TheVariants as event
 use Rattle.keymap_cover.specs.SeenSights.{has_seen}
-use Rattle.keymap_cover.proofs.Touring.{tour-reset, at-rest}
+use Rattle.keymap_cover.proofs.Touring.{tour-reset}
 use Rattle.keymap_cover.proofs.tour.Tour.reset.Goals as goal
 
 pub returns-clause-along : goal.returns-clause-along
 returns-clause-along g c =
+    λ h (stands, t).
     let m = c.args.map.now in
-    let old = c.args.self.now in
-    let (h, stands, t) = c.requires in (
-      event.Reset ∷ h,
+    let old = c.args.self.now in (
       c.step.ensures.next _ h stands,
       tour-reset m h old.strokes.items c.push.new.self.items old.pressed (has_seen old.seen)
           c.in_ok-push.ensures.items t,
-      at-rest m h,
     )

@@ -1,20 +1,26 @@
-use Rattle.std.proofs.Common.{sym, ◌∙◌}
+use Rattle.std.proofs.Common.{[], refl, sym, ◌∙◌}
 use Rattle.console_core.specs.History.{between}
 use Rattle.keymap_cover.specs.SeenSights.{has_seen}
 use Rattle.keymap_cover.proofs.Touring.{rests, not-some}
+use Rattle.keymap_cover.proofs.Walking.{to-rest}
 use Rattle.keymap_cover.proofs.tour.Tour.settle.Goals as goal
 
 pub returns-else-is_some-clause-along : goal.returns-else-is_some-clause-along
 returns-else-is_some-clause-along g c =
+    λ h (stands, tour).
     let m = c.args.map.now in
     let old = c.args.self.now in
-    let t = c.args.console.now in
-    let (h, stands, tour) = c.requires.along in (
+    let t = c.args.console.now in (
       h,
-      stands,
-      tour,
-      rests m h old.strokes.items old.pressed (has_seen old.seen) tour c.requires.up
+      (stands, tour),
+      ([], refl),
+      rests m h old.strokes.items old.pressed (has_seen old.seen) tour c.requires
           (sym (c.is_any_on.ensures (between m m) h stands) ∙ c.if-is_any_on.false)
           (sym (g.met.T.Translator.pending_where_it_stands t (between m m) h stands) ∙ sym c.pending.ensures
           ∙ not-some c.pending.result (sym c.is_some.ensures ∙ c.if-is_some.false)),
     )
+
+pub returns-in_ok-reset-clause-along : goal.returns-in_ok-reset-clause-along
+returns-in_ok-reset-clause-along g c =
+    to-rest c.args.map.now (g.T.Translator.stands c.args.console.now) c.args.self.now
+    (g.T.Translator.stands c.reset.new.console) c.reset.new.self c.in_ok-reset.ensures.along

@@ -1,6 +1,9 @@
--- the console runs along
-use Rattle.keymap_cover.specs.Inner.Tours.{IsAlong}
+-- the console runs along by the events before the place
+use Rattle.std.proofs.Common.{reverse, take}
+use Rattle.keymap_cover.specs.Inner.Tours.{GoesAlong}
 use Rattle.keymap_cover.proofs.tour.Tour.walk.Given as goal
 
 abbrev pub invariant-loop-event : goal.invariant-loop-event
-invariant-loop-event g l = IsAlong l.map (g.T.Translator.stands l.console) l.self
+invariant-loop-event g l =
+    GoesAlong l.map (reverse (take l.event-index l.events)) (g.T.Translator.stands l.fn.console) l.fn.self
+    (g.T.Translator.stands l.console) l.self

@@ -1,0 +1,9 @@
+-- the pairs of the accents below the index are there
+use Rattle.std.proofs.Common.{◌≡◌, ◌++◌}
+use Rattle.std.specs.List.{flat_map, range_with_len}
+use Rattle.keymap_cover.specs.Inner.Pairs.{pairs_at}
+use Rattle.keymap_cover.proofs.told.add_all_pairs.Given as goal
+
+abbrev pub invariant-loop-index : goal.invariant-loop-index
+invariant-loop-index l =
+    l.sights.items ≡ l.fn.sights.items ++ flat_map (pairs_at l.map) (range_with_len 0 l.index)

@@ -10,7 +10,8 @@ shift 2
 cd "$(dirname "$0")/crates"
 
 # A source of any crate counts, and so does another kit.
-kit=$(command -v "${RT:=rt}" || true)
+: "${RT:=rt}"
+kit=$(command -v "$RT" || true)
 case $kit in
 */*) ;;
 *) kit= ;;

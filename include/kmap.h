@@ -204,7 +204,7 @@ int32_t kmap_check(const uint8_t *tables, size_t length, struct kmap_fault *faul
  * tables; else KMAP_TEXT_FAULT, and `fault` is the first fault.
  *
  * Needs: no null pointer, also where `length` is 0; `length` bytes of `text`; `fault` aligned; the three apart.
- * At once: calls may share the text. Stack: 21,000 bytes.
+ * At once: calls may share the text. Stack: 18,000 bytes.
  */
 int32_t kmap_read_text(const uint8_t *text, size_t length, struct kmap_tables *tables, struct kmap_text_fault *fault);
 

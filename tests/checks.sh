@@ -181,7 +181,7 @@ if is_there "$cc" && is_there nm; then
     printf '#include <unistd.h>\nint kmap_other(void);\nint kmap_other(void)\n{\nreturn getpid();\n}\n' > other.c
     "$cc" -fPIC -c other.c && ar r "$made/libkmap_c.a" other.o 2> said
     "$cc" -shared -Wl,--whole-archive "$made/libkmap_c.a" -Wl,--no-whole-archive -o "$made/libkmap.so"
-    breaks include/kmap.h 's/Stack: 21,000/Stack: 20,000/; s/KMAP_BAD_EVENT (-2)/KMAP_BAD_EVENT (-9)/'
+    breaks include/kmap.h 's/Stack: 18,000/Stack: 17,000/; s/KMAP_BAD_EVENT (-2)/KMAP_BAD_EVENT (-9)/'
     breaks tests/c_library.sh 's/ 5712$/ 4096/'
     breaks tests/c_texts.c 's/uint8_t text.256.;/static uint8_t text[16];/; s/, sizeof text, &size/, 256, \&size/'
     sh copy/tests/c_library.sh "$program" "$made/libkmap_c.a" 0 > said 2>&1

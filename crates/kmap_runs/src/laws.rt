@@ -16,8 +16,8 @@ ghost use Rattle.kmap_runs.specs.Report.{report};
 ghost use Rattle.kmap_runs.specs.Replayed.{ScriptTypes, AnswerReplays, AnswerReplaysBetween, ShowsScript};
 ghost use Rattle.kmap_runs.specs.Replayed.{PlaysCover, strokes_sent};
 ghost use Rattle.kmap_runs.specs.Inputs.{moves};
-ghost use Rattle.kmap_runs.specs.Runs.{DrawnAreWellFormed, DrawnTellKeymaps};
-ghost use Rattle.kmap_runs.specs.Runs.{PlaysTexts, TypesSentence, WellLintedNeverStick};
+ghost use Rattle.kmap_runs.specs.Runs.{CoversText, DrawnAreWellFormed, DrawnTellKeymaps};
+ghost use Rattle.kmap_runs.specs.Runs.{PlaysTexts, PrintedCoversAreScripts, TypesSentence, WellLintedNeverStick};
 ghost use Rattle.kmap_runs.specs.Typing.{typing_script};
 
 use keymap_draw::laws::{pictures_are_plain, pictures_are_well_formed, pictures_tell_keymaps};

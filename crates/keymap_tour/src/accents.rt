@@ -5,7 +5,7 @@ use crate::pen::Pen;
 use crate::state::Locks;
 use crate::views::{Turns, Views};
 use console_core::Translator;
-use keymap_core::{ACCENT_LIMIT, AccentIndex, Action, Cell, KEY_COUNT, KeyCode, KeyMap};
+use keymap_core::{ACCENT_LIMIT, AccentIndex, Action, Cell, KEY_COUNT, KeyCode, KeyMap, key_with};
 use std::alloc::{AllocError, Global};
 
 /// The dead key of the accent.
@@ -36,11 +36,10 @@ pub(crate) fn bases(alloc: Global, map: &KeyMap, accent: u8) -> Result<Vec<char>
 /// The least key that is a character at rest, but for 0 and these.
 pub(crate) fn other_character(map: &KeyMap, bases: &[char]) -> Option<(KeyCode, Cell)> {
     for code in 0..KEY_COUNT as u8 {
-        if let Some(key) = KeyCode::new(code) {
-            if let Cell::Char(character) = rest_cell(map, key) {
-                if character != '\0' && !bases.contains(&character) {
-                    return Some((key, Cell::Char(character)));
-                }
+        let key = key_with(code);
+        if let Cell::Char(character) = rest_cell(map, key) {
+            if character != '\0' && !bases.contains(&character) {
+                return Some((key, Cell::Char(character)));
             }
         }
     }

@@ -1,5 +1,5 @@
 //! What stands in cells.
-use keymap_core::{Action, COLUMN_COUNT, Cell, KEY_COUNT, KeyCode, KeyMap};
+use keymap_core::{Action, COLUMN_COUNT, Cell, KEY_COUNT, KeyCode, KeyMap, key_with};
 
 /// What a cell does.
 #[derive(Clone, Copy, Debug, PartialEq, Eq)]
@@ -47,10 +47,9 @@ pub(crate) fn has_no_holding(map: &KeyMap, slot: u8) -> bool {
 /// The least key that is the action at rest, but for this key.
 pub(crate) fn bearer(map: &KeyMap, action: &Cell, other: Option<KeyCode>) -> Option<KeyCode> {
     for code in 0..KEY_COUNT as u8 {
-        if let Some(key) = KeyCode::new(code) {
-            if rest_cell(map, key) == *action && Some(key) != other {
-                return Some(key);
-            }
+        let key = key_with(code);
+        if rest_cell(map, key) == *action && Some(key) != other {
+            return Some(key);
         }
     }
     None

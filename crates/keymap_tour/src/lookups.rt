@@ -1,6 +1,6 @@
 //! What each key looks up under each selection. It depends on nothing else, so it is looked up once.
 use console_core::Selection;
-use keymap_core::{Action, Cell, KEY_COUNT, KeyCode, KeyMap, Lock};
+use keymap_core::{Action, Cell, KEY_COUNT, KeyCode, KeyMap, Lock, key_with};
 use std::alloc::{AllocError, Global};
 
 /// How many selections there are.
@@ -97,9 +97,8 @@ fn add(
 fn all_of(alloc: Global, map: &KeyMap, selection: Selection) -> Result<Vec<Lookup>, AllocError> {
     let mut all = Vec::new(alloc);
     for code in 0..KEY_COUNT as u8 {
-        if let Some(key) = KeyCode::new(code) {
-            add(&mut all, map, selection, key)?;
-        }
+        let key = key_with(code);
+        add(&mut all, map, selection, key)?;
     }
     Ok(all)
 }

@@ -2,7 +2,7 @@
 use crate::lookups::{CELL_COUNT, LOCK_SETTING_COUNT, Lookup, Lookups};
 use crate::state::{Locks, Move};
 use console_core::{Event, Selection, Translator, is_any_on};
-use keymap_core::{Cell, KEY_COUNT, KeyCode, Lock, Modifier};
+use keymap_core::{Cell, KEY_COUNT, KeyCode, Lock, Modifier, key_with};
 use std::alloc::{AllocError, Global};
 
 /// Which modifiers and locks are on.
@@ -221,10 +221,9 @@ impl<'m, 'c, T: Translator> Pen<'m, 'c, T> {
     /// Releases all keys, and resets the console if a modifier is on then.
     pub(crate) fn let_go(&mut self) -> Result<(), AllocError> {
         for code in 0..KEY_COUNT as u8 {
-            if let Some(key) = KeyCode::new(code) {
-                if self.is_pressed(key) {
-                    self.up(key)?;
-                }
+            let key = key_with(code);
+            if self.is_pressed(key) {
+                self.up(key)?;
             }
         }
         if is_any_on(&*self.console) {

@@ -3,7 +3,7 @@ use crate::cells::{Kind, cell_at, has_no_holding, kind_of, rest_cell};
 use crate::pen::Pen;
 use console_core::Translator;
 use keymap_core::{
-    Action, COLUMN_COUNT, Cell, KEY_COUNT, KeyCode, KeyMap, Lock, LockFlag, Modifier,
+    Action, COLUMN_COUNT, Cell, KEY_COUNT, KeyCode, KeyMap, Lock, LockFlag, Modifier, key_with,
 };
 use std::alloc::{AllocError, Global};
 
@@ -34,7 +34,7 @@ fn flag_probe(map: &KeyMap, flag: LockFlag) -> Option<KeyCode> {
             let count = distinct_cells(map, code);
             if count > most {
                 most = count;
-                best = KeyCode::new(code);
+                best = Some(key_with(code));
             }
         }
     }
@@ -67,14 +67,13 @@ fn half_probe(map: &KeyMap) -> Option<KeyCode> {
         return None;
     }
     for code in 0..KEY_COUNT as u8 {
-        if let Some(key) = KeyCode::new(code) {
-            let upper = cell_at(map, code.wrapping_add(KEY_COUNT as u8), 0);
-            if has_no_holding(map, code)
-                && rest_cell(map, key) != upper
-                && kind_of(&upper) != Kind::Holding
-            {
-                return Some(key);
-            }
+        let key = key_with(code);
+        let upper = cell_at(map, code.wrapping_add(KEY_COUNT as u8), 0);
+        if has_no_holding(map, code)
+            && rest_cell(map, key) != upper
+            && kind_of(&upper) != Kind::Holding
+        {
+            return Some(key);
         }
     }
     None

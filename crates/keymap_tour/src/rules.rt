@@ -8,7 +8,9 @@ use crate::trials::trials_of_accents;
 use crate::view::Find;
 use crate::views::{Turns, Views};
 use console_core::Translator;
-use keymap_core::{Action, Cell, HOLDINGS, Holding, KEY_COUNT, KeyCode, KeyMap, Lock, Modifier};
+use keymap_core::{
+    Action, Cell, HOLDINGS, Holding, KEY_COUNT, KeyCode, KeyMap, Lock, Modifier, key_with,
+};
 use std::alloc::AllocError;
 
 /// How many keys are pressed at once.
@@ -79,10 +81,9 @@ fn two_keys<T: Translator>(
 /// The least key of the modifier that isn't pressed.
 fn free_bearer<T: Translator>(pen: &Pen<T>, map: &KeyMap, modifier: Modifier) -> Option<KeyCode> {
     for code in 0..KEY_COUNT as u8 {
-        if let Some(key) = KeyCode::new(code) {
-            if rest_cell(map, key) == Cell::Act(Action::Mod(modifier)) && !pen.is_pressed(key) {
-                return Some(key);
-            }
+        let key = key_with(code);
+        if rest_cell(map, key) == Cell::Act(Action::Mod(modifier)) && !pen.is_pressed(key) {
+            return Some(key);
         }
     }
     None
@@ -200,15 +201,14 @@ fn cross_all<T: Translator>(
         return Ok(());
     };
     for code in 0..KEY_COUNT as u8 {
-        if let Some(key) = KeyCode::new(code) {
-            let one = rest_cell(map, key);
-            let other = cell_at(map, code, column);
-            let kinds = (kind_of(&one), kind_of(&other));
-            let is_plain = kinds.0 != Kind::Holding && kinds.1 != Kind::Holding;
-            if one != other && is_plain && key != held && !done.contains(&kinds) {
-                done.push(kinds)?;
-                cross(pen, held, key)?;
-            }
+        let key = key_with(code);
+        let one = rest_cell(map, key);
+        let other = cell_at(map, code, column);
+        let kinds = (kind_of(&one), kind_of(&other));
+        let is_plain = kinds.0 != Kind::Holding && kinds.1 != Kind::Holding;
+        if one != other && is_plain && key != held && !done.contains(&kinds) {
+            done.push(kinds)?;
+            cross(pen, held, key)?;
         }
     }
     Ok(())
@@ -226,21 +226,17 @@ fn columns<T: Translator>(pen: &mut Pen<T>, map: &KeyMap) -> Result<(), AllocErr
 }
 
 fn is_dead_key(cell: &Cell) -> bool {
-    match cell {
-        Cell::Act(Action::DeadKey(_)) => true,
-        _ => false,
-    }
+    matches!(cell, Cell::Act(Action::DeadKey(_)))
 }
 
 /// Many keys at once.
 fn many_keys<T: Translator>(pen: &mut Pen<T>, map: &KeyMap) -> Result<(), AllocError> {
     let mut many = Vec::new(pen.alloc());
     for code in 0..KEY_COUNT as u8 {
-        if let Some(key) = KeyCode::new(code) {
-            let cell = rest_cell(map, key);
-            if many.len() < MANY && kind_of(&cell) == Kind::Other && !is_dead_key(&cell) {
-                many.push(key)?;
-            }
+        let key = key_with(code);
+        let cell = rest_cell(map, key);
+        if many.len() < MANY && kind_of(&cell) == Kind::Other && !is_dead_key(&cell) {
+            many.push(key)?;
         }
     }
     for key in &many {

@@ -2,7 +2,7 @@
 
 use crate::asserts::{expect_at, expect_equal, expect_equal_at};
 use crate::faults::FULL_ACCENT;
-use keymap_core::{Action, Cell, Entry, KeyMap, LockFlag, ToStd};
+use keymap_core::{Action, Cell, KeyMap, LockFlag, ToStd};
 use keymap_text::TextFaultKind::{BadLiteral, BadWord, EndInside, KeyTooLarge, Unexpected};
 use keymap_text::{MapReader, TextError, TextFault, TextFaultKind, print_map, read_map};
 use std::alloc::Global;

@@ -2,7 +2,8 @@
 # Checks that docs/FORMATS.md has each message word for word: of `kmap lint`, the constants of keymap_lint_text's
 # words.rt, in the section "Diagnostics"; of the report and of scripts, those of kmap_runs' words.rt, in "The report of
 # check", "What the search found", "The script that types a sentence" and "The script that tests a console". And that it
-# has the line of `kmap check` on a key, which stands in pictures too: the constant FINDING of keymap_draw's words.rt.
+# has the line of `kmap check` on a key, which stands in pictures and in the C library too: the constant FINDING of
+# keymap_check's words.rt; and the sentences of the C library, those of kmap_c's words.rt, in their order.
 #
 # A message has `{}` where something is told. The page has it in backquotes, with a letter, a word in capitals or `..`
 # at such a place, or another message, or nothing; or it has it at such a place alone. Names of columns stand in one
@@ -72,6 +73,33 @@ spans = re.findall(r"`([^`]+)`", open(sys.argv[3], encoding="utf-8").read())
 sys.exit(not any(re.fullmatch(line, span) for span in spans))
 PYTHON
 
+cat > "$folder/rows.py" << 'PYTHON'
+import re
+import sys
+
+source = open(sys.argv[1], encoding="utf-8").read()
+section = open(sys.argv[2], encoding="utf-8").read().split("\n## Sentences of the C library\n")[1].split("\n## ")[0]
+words = dict(re.findall(r'const (\w+): &\[u8\] =\s*b"([^"]*)"', source))
+columns = re.findall(r"^\| (\d+) \| `?(.*?)`? ?\| `(.*)` \|$", section, re.M)
+files, texts = ([words[name] for name in names.split()] for names in sys.argv[3:])
+wanted = [(str(n), files[n - 1] if n <= len(files) else "", it) for n, it in enumerate(texts, 1)]
+sys.exit(columns != wanted or set(words.values()) != {*files, *texts})
+PYTHON
+
+# has_rows FILE: the page has the sentences of this file, of table files and of texts, by their numbers
+has_rows() {
+    python3 -B "$folder/rows.py" "$1" "$top/docs/FORMATS.md" \
+        'TOO_SHORT TOO_LONG BAD_COUNT BAD_PAD BAD_FLAG BAD_ACTION COMBINED BAD_NUMBER NOT_EMPTY' \
+        'BAD_BYTE BAD_LITERAL BAD_WORD UNEXPECTED KEY_TOO_LARGE BAD_CHARACTER BAD_FUNCTION TOO_MANY_PAIRS
+        ZERO_BASE COMBINED END_INSIDE'
+}
+
+# lacks_rows FILE FROM TO: it doesn't where the words are others
+lacks_rows() {
+    sed "s/$2/$3/" "$1" > "$folder/rows.rt"
+    ! cmp -s "$1" "$folder/rows.rt" && ! has_rows "$folder/rows.rt"
+}
+
 # has_line FILE NAME: the page has the words of this constant as a line, with words in capitals at their places
 has_line() {
     python3 -B "$folder/line.py" "$1" "$2" "$top/docs/FORMATS.md"
@@ -79,8 +107,8 @@ has_line() {
 
 # lacks_line FILE NAME FROM TO: it doesn't where the words are others
 lacks_line() {
-    sed "s/$3/$4/" "$1" > "$folder/drawn.rt"
-    ! cmp -s "$1" "$folder/drawn.rt" && ! has_line "$folder/drawn.rt" "$2"
+    sed "s/$3/$4/" "$1" > "$folder/checked.rt"
+    ! cmp -s "$1" "$folder/checked.rt" && ! has_line "$folder/checked.rt" "$2"
 }
 
 # tells FILE: reads a file of words, and has a line for each constant of it that says whether the page has it; the file
@@ -123,9 +151,13 @@ if is_there python3; then
     holds 'another word of a list is seen' misses "$runs" BOTH_LOCKS 'clock+nlock' 'clock nlock'
     holds 'another word of a run of slots is seen' misses "$runs" SLOTS 'slots {} to {}' 'slots {} - {}'
     holds 'another name of a part is seen' misses "$runs" ONE_WAY 'one-way' 'oneway'
-    drawn=$top/crates/keymap_draw/src/words.rt
-    holds 'the page has the line of the check on a key' has_line "$drawn" FINDING
-    holds 'another word in that line is seen' lacks_line "$drawn" FINDING 'character at slot' 'character in slot'
-    holds 'a place less in that line is seen' lacks_line "$drawn" FINDING ' at slot {} column {}, char' ' at slot {}, char'
+    checked=$top/crates/keymap_check/src/words.rt
+    library=$top/crates/kmap_c/src/words.rt
+    holds 'the page has the line of the check on a key' has_line "$checked" FINDING
+    holds 'another word in that line is seen' lacks_line "$checked" FINDING 'character at slot' 'character in slot'
+    holds 'the page has the sentences of the C library' has_rows "$library"
+    holds 'another word of a sentence is seen' lacks_rows "$library" 'a slot above 255' 'a slot above 256'
+    holds 'a sentence in place of another is seen' lacks_rows "$library" 'a lock flag above 3' 'a pad that is not 0'
+    holds 'a place less in that line is seen' lacks_line "$checked" FINDING ' at slot {} column {}, char' ' at slot {}, char'
 fi
 counted

@@ -4,6 +4,7 @@ use Rattle.std.proofs.Common.{◌≡◌, ℕ, ◌<◌, Bool, true, false, List, 
 use Rattle.std.proofs.Common.{◌∙◌, if◌then◌else◌}
 use Rattle.std.specs.Prelude.{reverse, All}
 use Rattle.std.proofs.lemmas.List.Elements.{All-append, All-nil, All-cons, All-weaker}
+use Rattle.keymap_core.specs.Held.{key_at}
 use Rattle.keymap_check.specs.Types.{Modifier, Event, Press, Release, Reset, Load}
 use Rattle.keymap_core.specs.Maps.{MapValue}
 use Rattle.keymap_core.specs.Below.{gathered}
@@ -13,11 +14,11 @@ use Rattle.console_core.specs.History.{Maps, between, is_on_after, HasKey, IsNoL
 use Rattle.console_core.specs.Sticking.{IsPressOrRelease}
 use Rattle.console_core.proofs.OneMap.{without_loads}
 use Rattle.keymap_check.specs.Computed.{findings_at}
-use Rattle.keymap_check.specs.Scripts.{bit_key_at, bit_keys, event_if, event_at, events_of, script, is_chosen}
-use Rattle.keymap_check.specs.Scripts.{scripts_of, scripts_with, scripts_for, lacks_key, has_some, tried_at, tried}
+use Rattle.keymap_check.specs.Scripts.{bit_keys, event_if, event_at, events_of, script, is_chosen}
+use Rattle.keymap_check.specs.Scripts.{scripts_for, has_some, tried_at, tried}
 use Rattle.keymap_check.specs.Scripts.{leaves_modifier_on}
 use Rattle.keymap_check.specs.Shown.{DemonstrationsLeaveModifiersOn}
-use Rattle.keymap_check.proofs.Quiet.{Every, every-gathered, every-below, first-every, given-quiet}
+use Rattle.keymap_check.proofs.Quiet.{Every, every-script, every-below, first-every, given-quiet}
 use Rattle.keymap_check.proofs.Trapless.{AreKeys, bit_keys-keys}
 use Rattle.keymap_core.proofs.Lists.{All-reversed, find-true, one-of-any}
 
@@ -44,7 +45,7 @@ unfolding gathered
 by_keys-set p keys s e zero f = All-nil IsKeyEvent
 by_keys-set p keys s e (suc n) f =
     All-append IsKeyEvent (gathered (event_at p keys s e) n) (event_at p keys s e n) (by_keys-set p keys s e n f)
-    (by_keys-if p (is_chosen s e n) (bit_key_at keys n) (f n))
+    (by_keys-if p (is_chosen s e n) (key_at keys n) (f n))
 
 -- the events of a script
 by_keys-script : (keys : List (Option ℕ)) (k a b : ℕ) → AreKeys keys → k < 128 → All IsKeyEvent (script keys k a b)
@@ -67,19 +68,10 @@ by_keys-script keys k a b f lt =
     All-append IsKeyEvent _ _ s3 both in
     All-append IsKeyEvent _ _ s4 (by_keys-set false keys b 0 4 f)
 
--- a script that isn't left out
-by_keys-unless : (t : Bool) (keys : List (Option ℕ)) (k a b : ℕ) → AreKeys keys → k < 128
-    → Every (All IsKeyEvent) (if t then [] else script keys k a b ∷ [])
-by_keys-unless true keys k a b f lt = tt
-by_keys-unless false keys k a b f lt = (by_keys-script keys k a b f lt, tt)
-
 -- the scripts of a key, if it has a finding
 by_keys-tried : (t : Bool) (keys : List (Option ℕ)) (k : ℕ) → AreKeys keys → k < 128
     → Every (All IsKeyEvent) (if t then scripts_for keys k else [])
-by_keys-tried true keys k f lt =
-    every-gathered (All IsKeyEvent) (scripts_with keys k) 16
-    (λ a. every-gathered (All IsKeyEvent) (scripts_of keys k a) 16
-    (λ b. by_keys-unless (lacks_key keys a b) keys k a b f lt))
+by_keys-tried true keys k f lt = every-script (All IsKeyEvent) keys k (λ a b. by_keys-script keys k a b f lt)
 by_keys-tried false keys k f lt = tt
 
 -- each script that is tried is presses and releases of keys

@@ -4,6 +4,7 @@ use Rattle.std.proofs.Common.{◌≡◌, ℕ, ◌+◌, Bool, true, false, ◌&&�
 use Rattle.std.proofs.Common.{refl, ap, sym, ◌∙◌, if◌then◌else◌}
 use Rattle.std.specs.Prelude.{reverse}
 use Rattle.std.proofs.lemmas.List.{reverse-append, append-nil}
+use Rattle.keymap_core.specs.Held.{key_at}
 use Rattle.keymap_check.specs.Types.{Modifier, Event, Press, Release}
 use Rattle.keymap_core.specs.declared.action.Holding.TheVariants as holding
 use Rattle.keymap_core.specs.Below.{gathered}
@@ -12,7 +13,7 @@ use Rattle.keymap_core.proofs.HoldingTests.{no-modifier, no-modifiers}
 use Rattle.console_core.specs.History.{Maps, is_on_after, resolved, is_any_on_after}
 use Rattle.console_core.proofs.OneMore.{resolved-more, held-release}
 use Rattle.console_core.proofs.Deliveries.{reverse-push}
-use Rattle.keymap_check.specs.Scripts.{event_if, event_at, is_chosen, bit_key_at, events_of, start_of, script}
+use Rattle.keymap_check.specs.Scripts.{event_if, event_at, is_chosen, events_of, start_of, script}
 
 -- the events of a script, the newest first
 pub played : (keys : List (Option ℕ)) (k a b : ℕ)
@@ -87,7 +88,7 @@ releases_below : (ms : Maps) (h : List Event) (keys : List (Option ℕ)) (set ex
 unfolding gathered
 releases_below ms h keys set except zero e = e
 releases_below ms h keys set except (suc n) e =
-    one_release ms (gathered (event_at false keys set except) n) h (is_chosen set except n) (bit_key_at keys n)
+    one_release ms (gathered (event_at false keys set except) n) h (is_chosen set except n) (key_at keys n)
     (releases_below ms h keys set except n e)
 
 -- the releases of a set leave all modifiers off

@@ -8,14 +8,15 @@ use Rattle.std.proofs.lemmas.Bool.{or_parts, and_right}
 use Rattle.keymap_core.specs.Maps.{MapValue}
 use Rattle.keymap_core.specs.Borne.{any_below}
 use Rattle.keymap_core.specs.Below.{gathered}
+use Rattle.keymap_core.specs.Held.{has_bit, key_at, lacks_key}
 use Rattle.keymap_check.specs.Types.{Event, Press, Release, Reset, Load}
 use Rattle.console_core.specs.History.{pressed, IsQuiet}
 use Rattle.console_core.proofs.OneMore.{pressed-start, pressed-press, pressed-release, pressed-reset, pressed-load}
 use Rattle.console_core.proofs.Deliveries.{reverse-cons}
 use Rattle.console_core.proofs.Keeping.{cleared}
 use Rattle.keymap_check.specs.Computed.{findings_at}
-use Rattle.keymap_check.specs.Scripts.{has_bit, is_chosen, bit_key_at, bit_keys, event_if, event_at, events_of, script}
-use Rattle.keymap_check.specs.Scripts.{scripts_of, scripts_with, scripts_for, lacks_key, has_some, tried_at, tried}
+use Rattle.keymap_check.specs.Scripts.{is_chosen, bit_keys, event_if, event_at, events_of, script}
+use Rattle.keymap_check.specs.Scripts.{scripts_of, scripts_with, scripts_for, has_some, tried_at, tried}
 use Rattle.keymap_check.proofs.Lengths.{no_bit}
 
 -- whether a key is pressed after events in the order of delivery
@@ -55,7 +56,7 @@ is_key j (Some i) = i == j
 
 -- whether the bit is in the set, and its key is the one
 abbrev is_named : List (Option ℕ) → ℕ → ℕ → ℕ → ℕ → Bool
-is_named keys set except j i = is_chosen set except i && is_key j (bit_key_at keys i)
+is_named keys set except j i = is_chosen set except i && is_key j (key_at keys i)
 
 or-false : (q : Bool) → q ≡ (q || false)
 or-false true = refl
@@ -103,7 +104,7 @@ after-presses keys s e j zero p = or-false p
 after-presses keys s e j (suc n) p =
     after-append j p (gathered (event_at true keys s e) n) (event_at true keys s e n)
     ∙ ap (λ q. after j q (event_at true keys s e n)) (after-presses keys s e j n p)
-    ∙ one_press j (is_chosen s e n) _ (bit_key_at keys n)
+    ∙ one_press j (is_chosen s e n) _ (key_at keys n)
     ∙ or_assoc p (any_below (is_named keys s e j) n) (is_named keys s e j n)
 
 -- after the releases of a set its keys aren't
@@ -114,7 +115,7 @@ after-releases keys s e j zero p = and-true p
 after-releases keys s e j (suc n) p =
     after-append j p (gathered (event_at false keys s e) n) (event_at false keys s e n)
     ∙ ap (λ q. after j q (event_at false keys s e n)) (after-releases keys s e j n p)
-    ∙ one_release j (is_chosen s e n) _ (bit_key_at keys n)
+    ∙ one_release j (is_chosen s e n) _ (key_at keys n)
     ∙ and_assoc p (any_below (is_named keys s e j) n) (is_named keys s e j n)
 
 -- a key that is of no bit of B: of no bit of B without A, and of one of A without B if of one of A
@@ -140,7 +141,7 @@ rest keys a b j (suc n) e =
     let s : (any_below (is_named keys b 0 j) n ≡ false) × (is_named keys b 0 j n ≡ false) = or_parts _ _ e in
     let r : Rest keys a b j n = rest keys a b j n s.0 in
     let t : (is_named keys b a j n ≡ false) × (is_named keys a 0 j n ≡ is_named keys a b j n) =
-    bit_rest (has_bit a n) (has_bit b n) (has_bit 0 n) (is_key j (bit_key_at keys n)) (no_bit n) s.1 in
+    bit_rest (has_bit a n) (has_bit b n) (has_bit 0 n) (is_key j (key_at keys n)) (no_bit n) s.1 in
     (rw (r.0, t.0) refl, rw (r.1, t.1) refl)
 
 same_not : (q : Bool) → (((q && not q) || false) && true) ≡ false
@@ -226,18 +227,23 @@ first-every P test (x ∷ xs) s f e = first_by P (test x) x s (find test xs) f.0
 abbrev pub IsQuietScript : List Event → Type 0
 IsQuietScript s = IsQuiet (reverse s)
 
--- a script that isn't left out is quiet
-scripts-quiet : (t : Bool) (keys : List (Option ℕ)) (k a b : ℕ)
-    → Every IsQuietScript (if t then [] else script keys k a b ∷ [])
-scripts-quiet true keys k a b = tt
-scripts-quiet false keys k a b = (script-quiet keys k a b, tt)
+-- what is left out under a condition holds as before
+pub every-unless : {A : Type 0} (P : A → Type 0) (t : Bool) (xs : List A) → Every P xs
+    → Every P (if t then [] else xs)
+every-unless P true xs f = tt
+every-unless P false xs f = f
+
+-- what holds for each script of the key holds for those that are tried with it
+pub every-script : (P : List Event → Type 0) (keys : List (Option ℕ)) (k : ℕ)
+    → ((a b : ℕ) → P (script keys k a b)) → Every P (scripts_for keys k)
+every-script P keys k each =
+    every-gathered P (scripts_with keys k) 16
+    (λ a. every-unless P (lacks_key keys a) _ (every-gathered P (scripts_of keys k a) 16
+    (λ b. every-unless P (lacks_key keys b) _ (each a b, tt))))
 
 -- the scripts of a key, if it has a finding, are quiet
 tried_by : (t : Bool) (keys : List (Option ℕ)) (k : ℕ) → Every IsQuietScript (if t then scripts_for keys k else [])
-tried_by true keys k =
-    every-gathered IsQuietScript (scripts_with keys k) 16
-    (λ a. every-gathered IsQuietScript (scripts_of keys k a) 16
-    (λ b. scripts-quiet (lacks_key keys a b) keys k a b))
+tried_by true keys k = every-script IsQuietScript keys k (λ a b. script-quiet keys k a b)
 tried_by false keys k = tt
 
 -- each script that is tried is quiet

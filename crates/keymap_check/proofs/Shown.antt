@@ -5,6 +5,7 @@ use Rattle.std.specs.Prelude.{◌==◌, reverse, find}
 use Rattle.std.proofs.lemmas.Bool.{true≢false, eq-eqb, eqb-true, and_parts, not-true, false_from_ne_true}
 use Rattle.std.specs.Option.{is_some}
 use Rattle.keymap_core.specs.declared.action.Action.TheVariants as act
+use Rattle.keymap_core.specs.Held.{is_other, lacks_key}
 use Rattle.keymap_check.specs.Types.{Lock, Modifier, LeftShift, RightShift, LeftControl, RightControl, LeftAlt}
 use Rattle.keymap_check.specs.Types.{RightAlt, AltShift, Cell, Char, Act, Event, Press, Release, Group, Finding}
 use Rattle.keymap_core.specs.declared.action.Lock.TheVariants as lock
@@ -26,7 +27,7 @@ use Rattle.keymap_check.specs.declared.kind.Group.TheVariants as group
 use Rattle.keymap_check.specs.declared.kind.Kind.TheVariants as kind
 use Rattle.keymap_check.specs.Cells.{first_place, cell_of, is_of_group, is_group_cell}
 use Rattle.keymap_check.specs.Computed.{findings_at}
-use Rattle.keymap_check.specs.Scripts.{group_at, is_bit_key, bit_key, bit_keys, script, lacks_key, scripts_of}
+use Rattle.keymap_check.specs.Scripts.{group_at, bears_group, bit_key, bit_keys, script, scripts_of, scripts_from}
 use Rattle.keymap_check.specs.Scripts.{scripts_with, scripts_for, tried_at, has_some, leaves_modifier_on}
 use Rattle.keymap_check.specs.Scripts.{demonstration_of}
 use Rattle.keymap_check.specs.Shown.{group_of, bit_of_group, with_bit, bits_with, HasCharacterWith, IsOneAction}
@@ -145,14 +146,14 @@ unfolding gathered
 alone-script o p q r k = refl
 
 -- no key is lacking for the empty set
-alone-complete : (o p q r : Option ℕ) → lacks_key (o ∷ p ∷ q ∷ r ∷ []) 0 0 ≡ false
+alone-complete : (keys : List (Option ℕ)) → lacks_key keys 0 ≡ false
 unfolding lacks_key
-alone-complete o p q r = refl
+alone-complete keys = refl
 
 -- a set that names the group's bit alone
 abbrev HasSet : List (Option ℕ) → ℕ → ℕ → Type 0
 HasSet keys k j =
-    (b : ℕ) × (b < 16) × (lacks_key keys 0 b ≡ false)
+    (b : ℕ) × (b < 16) × (lacks_key keys b ≡ false)
     × (script keys k 0 b ≡ Press k ∷ Press j ∷ Press k ∷ Release k ∷ Release j ∷ [])
 
 -- the key of the first bit has a set
@@ -205,7 +206,7 @@ alone_none false x e = refl
 
 -- where no demonstration is found, no script that is complete leaves a modifier on
 tried-none : (m : MapValue) (k b : ℕ) → k < 128 → b < 16 → has_some (findings_at m k) ≡ true
-    → lacks_key (bit_keys m k) 0 b ≡ false → demonstration_of m ≡ None
+    → lacks_key (bit_keys m k) b ≡ false → demonstration_of m ≡ None
     → leaves_modifier_on m (script (bit_keys m k) k 0 b) ≡ false
 tried-none m k b lt le some lacks e =
     let s1 : find (leaves_modifier_on m) (tried_at m k) ≡ None =
@@ -214,11 +215,14 @@ tried-none m k b lt le some lacks e =
     if_here (leaves_modifier_on m) (has_some (findings_at m k)) (scripts_for (bit_keys m k) k) [] some s1 in
     let s3 : find (leaves_modifier_on m) (scripts_with (bit_keys m k) k 0) ≡ None =
     none-each (leaves_modifier_on m) (scripts_with (bit_keys m k) k) 0 16 (lit< tt) s2 in
-    let s4 : find (leaves_modifier_on m) (scripts_of (bit_keys m k) k 0 b) ≡ None =
-    none-each (leaves_modifier_on m) (scripts_of (bit_keys m k) k 0) b 16 le s3 in
-    let s5 : find (leaves_modifier_on m) (script (bit_keys m k) k 0 b ∷ []) ≡ None =
-    if_there (leaves_modifier_on m) (lacks_key (bit_keys m k) 0 b) [] (script (bit_keys m k) k 0 b ∷ []) lacks s4 in
-    alone_none (leaves_modifier_on m (script (bit_keys m k) k 0 b)) (script (bit_keys m k) k 0 b) s5
+    let s4 : find (leaves_modifier_on m) (scripts_from (bit_keys m k) k 0) ≡ None =
+    if_there (leaves_modifier_on m) (lacks_key (bit_keys m k) 0) [] (scripts_from (bit_keys m k) k 0)
+    (alone-complete (bit_keys m k)) s3 in
+    let s5 : find (leaves_modifier_on m) (scripts_of (bit_keys m k) k 0 b) ≡ None =
+    none-each (leaves_modifier_on m) (scripts_of (bit_keys m k) k 0) b 16 le s4 in
+    let s6 : find (leaves_modifier_on m) (script (bit_keys m k) k 0 b ∷ []) ≡ None =
+    if_there (leaves_modifier_on m) (lacks_key (bit_keys m k) b) [] (script (bit_keys m k) k 0 b ∷ []) lacks s5 in
+    alone_none (leaves_modifier_on m (script (bit_keys m k) k 0 b)) (script (bit_keys m k) k 0 b) s6
 
 -- a modifier that is on is some
 some-on : (ms : Maps) (h : List Event) (i : Modifier) → is_on_after ms i h ≡ true → is_any_on_after ms h ≡ true
@@ -268,7 +272,7 @@ shown-alone m i k lt e char none =
     let finding : has_some (findings_at m k) ≡ true =
     found-key m i k char.1.0 is (character-cell m k (bits_with i None) char) in
     let off : leaves_modifier_on m (script (bit_keys m k) k 0 0) ≡ false =
-    tried-none m k 0 lt (lit< tt) finding (alone-complete _ _ _ _) none in
+    tried-none m k 0 lt (lit< tt) finding (alone-complete (bit_keys m k)) none in
     let h : reverse (script (bit_keys m k) k 0 0) ≡ Release k ∷ Press k ∷ Press k ∷ [] =
     ap reverse (alone-script _ _ _ _ k) in
     let is_on : is_on_after (between m m) i (Release k ∷ Press k ∷ Press k ∷ []) ≡ true =
@@ -319,9 +323,9 @@ further : (m : MapValue) (k : ℕ) (g : Group) (j : ℕ) → bit_key m k (bit_of
     → IsFurther m k g j
 unfolding bit_key
 further m k g j e one =
-    let s : (j < 128) × (is_bit_key m k (bit_of_group g) j ≡ true)
-    × ((i : ℕ) → i < j → is_bit_key m k (bit_of_group g) i ≡ false) =
-    first_below-some (is_bit_key m k (bit_of_group g)) 128 j e in
+    let s : (j < 128) × (is_other (bears_group m (bit_of_group g)) k j ≡ true)
+    × ((i : ℕ) → i < j → is_other (bears_group m (bit_of_group g)) k i ≡ false) =
+    first_below-some (is_other (bears_group m (bit_of_group g)) k) 128 j e in
     let t : (not (j == k) ≡ true) × (is_some (first_place m (kind.Of (group_at (bit_of_group g))) j) ≡ true) =
     and_parts _ _ s.1 in
     let there : is_some (first_place m (kind.Of g) j) ≡ true =

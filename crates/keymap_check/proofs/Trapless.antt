@@ -6,6 +6,7 @@ use Rattle.std.specs.Prelude.{reverse, find}
 use Rattle.std.proofs.lemmas.List.{append-nil}
 use Rattle.std.proofs.lemmas.List.Elements.{All-head, All-tail, All-append, All-nil, All-cons}
 use Rattle.std.proofs.lemmas.Bool.{true≢false, false_from_ne_true}
+use Rattle.keymap_core.specs.Held.{key_at, is_other}
 use Rattle.keymap_check.specs.Types.{Modifier, Event, Press, Release}
 use Rattle.keymap_core.specs.declared.action.Holding.TheVariants as holding
 use Rattle.keymap_core.specs.Maps.{MapValue}
@@ -20,10 +21,10 @@ use Rattle.console_core.proofs.Deliveries.{reverse-cons}
 use Rattle.console_core.proofs.Traps.{on_only_while_pressed_without_traps}
 use Rattle.console_core.proofs.OneMap.{one_in_force}
 use Rattle.keymap_check.specs.Computed.{findings_at}
-use Rattle.keymap_check.specs.Scripts.{bit_key, is_bit_key, bit_key_at, bit_keys, event_if, event_at, events_of, script}
-use Rattle.keymap_check.specs.Scripts.{scripts_of, scripts_with, scripts_for, lacks_key, has_some, tried_at, tried}
+use Rattle.keymap_check.specs.Scripts.{bit_key, bears_group, bit_keys, event_if, event_at, events_of, script}
+use Rattle.keymap_check.specs.Scripts.{scripts_for, has_some, tried_at, tried}
 use Rattle.keymap_check.specs.Scripts.{leaves_modifier_on, is_chosen, demonstration_of}
-use Rattle.keymap_check.proofs.Quiet.{Every, every-gathered, every-below, script-quiet}
+use Rattle.keymap_check.proofs.Quiet.{Every, every-script, every-below, script-quiet}
 
 -- a quiet list leaves no modifier on
 off-quiet : (m : MapValue) → NobodyBearsCellPickingLocks m → ((i : Modifier) → HasNoTrap m i) → (h : List Event)
@@ -46,12 +47,12 @@ no_modifier_on m locks free h keys quiet =
 
 -- the keys of a script are keys
 abbrev pub AreKeys : List (Option ℕ) → Type 0
-AreKeys keys = (i j : ℕ) → bit_key_at keys i ≡ Some j → j < 128
+AreKeys keys = (i j : ℕ) → key_at keys i ≡ Some j → j < 128
 
 -- the key of a bit is a key
 bit_key-key : (m : MapValue) (k i j : ℕ) → bit_key m k i ≡ Some j → j < 128
 unfolding bit_key
-bit_key-key m k i j e = (first_below-some (is_bit_key m k i) 128 j e).0
+bit_key-key m k i j e = (first_below-some (is_other (bears_group m i) k) 128 j e).0
 
 -- the keys of the bits are keys
 pub bit_keys-keys : (m : MapValue) (k : ℕ) → AreKeys (bit_keys m k)
@@ -81,7 +82,7 @@ unfolding gathered
 events-keys p keys s e zero f = All-nil HasKey
 events-keys p keys s e (suc n) f =
     All-append HasKey (gathered (event_at p keys s e) n) (event_at p keys s e n) (events-keys p keys s e n f)
-    (event_if-keys p (is_chosen s e n) (bit_key_at keys n) (f n))
+    (event_if-keys p (is_chosen s e n) (key_at keys n) (f n))
 
 -- events of keys, newest first, are of keys
 reverse-keys : (es h : List Event) → HasKeys es → HasKeys h → HasKeys (reverse es ++ h)
@@ -115,21 +116,15 @@ abbrev Fails : MapValue → List Event → Type 0
 Fails m s = leaves_modifier_on m s ≡ false
 
 module _ (m : MapValue) (locks : NobodyBearsCellPickingLocks m) (free : (i : Modifier) → HasNoTrap m i) where
-  -- a script that isn't left out leaves no modifier on
-  scripts-fail : (t : Bool) (k a b : ℕ) → k < 128 → Every (Fails m) (if t then [] else script (bit_keys m k) k a b ∷ [])
-  scripts-fail true k a b lt = tt
-  scripts-fail false k a b lt = (
-    no_modifier_on m locks free (reverse (script (bit_keys m k) k a b))
-        (script-keys (bit_keys m k) k a b (bit_keys-keys m k) lt) (script-quiet (bit_keys m k) k a b),
-    tt,
-  )
+  -- no script of a key leaves a modifier on
+  script-fails : (k a b : ℕ) → k < 128 → Fails m (script (bit_keys m k) k a b)
+  script-fails k a b lt =
+      no_modifier_on m locks free (reverse (script (bit_keys m k) k a b))
+      (script-keys (bit_keys m k) k a b (bit_keys-keys m k) lt) (script-quiet (bit_keys m k) k a b)
 
   -- the scripts of a key, if it has a finding, leave no modifier on
   tried_by : (t : Bool) (k : ℕ) → k < 128 → Every (Fails m) (if t then scripts_for (bit_keys m k) k else [])
-  tried_by true k lt =
-      every-gathered (Fails m) (scripts_with (bit_keys m k) k) 16
-      (λ a. every-gathered (Fails m) (scripts_of (bit_keys m k) k a) 16
-      (λ b. scripts-fail (lacks_key (bit_keys m k) a b) k a b lt))
+  tried_by true k lt = every-script (Fails m) (bit_keys m k) k (λ a b. script-fails k a b lt)
   tried_by false k lt = tt
 
   -- no script that is tried leaves a modifier on

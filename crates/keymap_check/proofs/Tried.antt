@@ -4,6 +4,7 @@ use Rattle.std.specs.Prelude.{◌==◌}
 use Rattle.std.proofs.lemmas.Bool.{true≢false, eq-eqb, eqb-true, and_parts, not-true, false_from_ne_true}
 use Rattle.std.specs.Option.{is_some}
 use Rattle.keymap_core.specs.declared.action.Action.TheVariants as act
+use Rattle.keymap_core.specs.Held.{is_other}
 use Rattle.keymap_check.specs.Types.{Modifier, LeftShift, RightShift, LeftControl, RightControl, LeftAlt, RightAlt}
 use Rattle.keymap_check.specs.Types.{AltShift, Char, Act, Group}
 use Rattle.keymap_core.specs.Maps.{MapValue}
@@ -15,7 +16,7 @@ use Rattle.keymap_check.specs.declared.kind.Kind.TheVariants as kind
 use Rattle.keymap_check.specs.Cells.{first_place, cell_of, is_of_group, is_group_cell, is_any_holding, is_character}
 use Rattle.keymap_check.specs.Computed.{findings_at, finding_by}
 use Rattle.keymap_check.specs.Findings.{IsUnsafeKey}
-use Rattle.keymap_check.specs.Scripts.{group_at, is_bit_key, bit_key, has_some}
+use Rattle.keymap_check.specs.Scripts.{group_at, bears_group, bit_key, has_some}
 use Rattle.keymap_check.specs.Shown.{group_of, bit_of_group}
 use Rattle.keymap_check.specs.Tried.{BearsGroup, IsBitKey, BitKeysAreLeast, TriedKeysAreUnsafe}
 use Rattle.keymap_check.proofs.Places.{first_place-cell, no_place-cell}
@@ -54,7 +55,7 @@ there_by m g j (Some p) e b = refl
 
 -- a key that bears the group, and isn't the one tried, passes the test of its bit
 bit_key-true : (m : MapValue) (k : ℕ) (g : Group) (i : ℕ) → i ≢ k → BearsGroup m i g
-    → is_bit_key m k (bit_of_group g) i ≡ true
+    → is_other (bears_group m (bit_of_group g)) k i ≡ true
 bit_key-true m k g i ne b =
     let t : is_some (first_place m (kind.Of (group_at (bit_of_group g))) i) ≡ true =
     subst (λ x. is_some (first_place m (kind.Of x) i) ≡ true) (sym (group-bit g))
@@ -63,18 +64,19 @@ bit_key-true m k g i ne b =
     rw (n, t) refl
 
 -- a key that fails the test of a bit doesn't bear the group
-no_bit_key : (m : MapValue) (k : ℕ) (g : Group) (i : ℕ) → is_bit_key m k (bit_of_group g) i ≡ false → i ≢ k
+no_bit_key : (m : MapValue) (k : ℕ) (g : Group) (i : ℕ) → is_other (bears_group m (bit_of_group g)) k i ≡ false → i ≢ k
     → BearsGroup m i g
     → ⊥
 no_bit_key m k g i e ne b = true≢false (sym (bit_key-true m k g i ne b) ∙ e)
 
 -- the key of a bit is the least that passes its test
-least_by : (m : MapValue) (k : ℕ) (g : Group) (o : Option ℕ) → first_below (is_bit_key m k (bit_of_group g)) 128 ≡ o
-    → IsBitKey m k g o
-least_by m k g None e = λ j lt. no_bit_key m k g j (first_below-no (is_bit_key m k (bit_of_group g)) 128 e j lt)
+least_by : (m : MapValue) (k : ℕ) (g : Group) (o : Option ℕ)
+    → first_below (is_other (bears_group m (bit_of_group g)) k) 128 ≡ o → IsBitKey m k g o
+least_by m k g None e =
+    λ j lt. no_bit_key m k g j (first_below-no (is_other (bears_group m (bit_of_group g)) k) 128 e j lt)
 least_by m k g (Some j) e =
-    let s : IsFirstBelow (is_bit_key m k (bit_of_group g)) 128 j = first_below-some
-    (is_bit_key m k (bit_of_group g)) 128 j e in
+    let s : IsFirstBelow (is_other (bears_group m (bit_of_group g)) k) 128 j = first_below-some
+    (is_other (bears_group m (bit_of_group g)) k) 128 j e in
     let t : (not (j == k) ≡ true) × (is_some (first_place m (kind.Of (group_at (bit_of_group g))) j) ≡ true) =
     and_parts _ _ s.1 in
     let there : is_some (first_place m (kind.Of g) j) ≡ true =
@@ -88,7 +90,7 @@ least_by m k g (Some j) e =
 -- the key of a bit is the least other key that bears the group
 pub bit_keys_are_least : BitKeysAreLeast
 unfolding bit_key
-bit_keys_are_least m k g = least_by m k g (first_below (is_bit_key m k (bit_of_group g)) 128) refl
+bit_keys_are_least m k g = least_by m k g (first_below (is_other (bears_group m (bit_of_group g)) k) 128) refl
 
 -- a key is tried exactly if it has a finding
 unsafe_by : (m : MapValue) (k : ℕ) (o i : Option ℕ) → first_place m kind.AnyHolding k ≡ o

@@ -4,6 +4,7 @@ pub mod Findings
 pub mod Inner
 pub mod Promises
 pub mod Report
+pub mod Said
 pub mod Scripts
 pub mod Shown
 pub mod Tried

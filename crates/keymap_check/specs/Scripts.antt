@@ -1,10 +1,11 @@
 -- The scripts that a demonstration tries, as events in the order of delivery.
-use Rattle.std.specs.Prelude.{ℕ, ◌/◌, ◌%◌, ◌^◌, ◌==◌, Bool, true, false, ◌&&◌, ◌||◌, not, List, [], ◌∷◌, ◌++◌, Option}
-use Rattle.std.specs.Prelude.{None, Some, if◌then◌else◌, reverse, slice_index_or, find}
-use Rattle.std.specs.Option.{is_some, is_none}
+use Rattle.std.specs.Prelude.{ℕ, ◌==◌, Bool, true, false, ◌&&◌, not, List, [], ◌∷◌, ◌++◌, Option}
+use Rattle.std.specs.Prelude.{None, Some, if◌then◌else◌, reverse, find}
+use Rattle.std.specs.Option.{is_some}
 use Rattle.keymap_core.specs.Maps.{MapValue}
 use Rattle.keymap_core.specs.Numbers.{key_count}
-use Rattle.keymap_core.specs.Below.{first_below, gathered}
+use Rattle.keymap_core.specs.Below.{gathered}
+use Rattle.keymap_core.specs.Held.{has_bit, key_at, least_other, lacks_key}
 use Rattle.keymap_check.specs.Types.{Event, Press, Release, Group, Finding}
 use Rattle.console_core.specs.History.{between, is_any_on_after}
 use Rattle.keymap_check.specs.declared.kind.Group.TheVariants as group
@@ -18,21 +19,16 @@ group_at bit =
     if bit == 0 then group.Shift else if bit == 1 then group.Control else if bit == 2 then group.Alt
     else group.AltShift
 
-abbrev pub has_bit : ℕ → ℕ → Bool
-has_bit set bit = ((set / 2 ^ bit) % 2) == 1
+-- one of the key's cells is a modifier of the bit's group
+abbrev pub bears_group : MapValue → ℕ → ℕ → Bool
+bears_group m bit k = is_some (first_place m (kind.Of (group_at bit)) k)
 
-abbrev pub is_bit_key : MapValue → ℕ → ℕ → ℕ → Bool
-is_bit_key m k bit j = not (j == k) && is_some (first_place m (kind.Of (group_at bit)) j)
-
--- the key of a bit: the least one, other than the tried key k, that bears an action of its group
+-- the key of a bit: the least one, other than the tried key k, that bears a modifier of its group
 unfoldable pub bit_key : MapValue → ℕ → ℕ → Option ℕ
-bit_key m k bit = first_below (is_bit_key m k bit) key_count
+bit_key m k bit = least_other (bears_group m bit) k
 
 abbrev pub bit_keys : MapValue → ℕ → List (Option ℕ)
 bit_keys m k = bit_key m k 0 ∷ bit_key m k 1 ∷ bit_key m k 2 ∷ bit_key m k 3 ∷ []
-
-abbrev pub bit_key_at : List (Option ℕ) → ℕ → Option ℕ
-bit_key_at keys bit = slice_index_or keys bit None
 
 abbrev pub event_of : Bool → ℕ → Event
 event_of is_press k = if is_press then Press k else Release k
@@ -46,7 +42,7 @@ abbrev pub is_chosen : ℕ → ℕ → ℕ → Bool
 is_chosen set except bit = has_bit set bit && not (has_bit except bit)
 
 abbrev pub event_at : Bool → List (Option ℕ) → ℕ → ℕ → ℕ → List Event
-event_at is_press keys set except bit = if is_chosen set except bit then event_if is_press (bit_key_at keys bit) else []
+event_at is_press keys set except bit = if is_chosen set except bit then event_if is_press (key_at keys bit) else []
 
 -- presses, or releases, of the keys of the bits that are in the set and not in the other one, in the order of the bits
 abbrev pub events_of : Bool → List (Option ℕ) → ℕ → ℕ → List Event
@@ -63,19 +59,15 @@ script keys k a b =
     (((start_of keys k a ++ events_of false keys a b) ++ events_of true keys b a) ++ Press k ∷ Release k ∷ [])
     ++ events_of false keys b 0
 
--- the sets name the bit, and it has no key
-abbrev pub is_lacking : List (Option ℕ) → ℕ → ℕ → ℕ → Bool
-is_lacking keys a b bit = (has_bit a bit || has_bit b bit) && is_none (bit_key_at keys bit)
-
-unfoldable pub lacks_key : List (Option ℕ) → ℕ → ℕ → Bool
-lacks_key keys a b =
-    is_lacking keys a b 0 || is_lacking keys a b 1 || is_lacking keys a b 2 || is_lacking keys a b 3
-
+-- where a set has a bit for which no key is held, no script with it is tried
 abbrev pub scripts_of : List (Option ℕ) → ℕ → ℕ → ℕ → List (List Event)
-scripts_of keys k a b = if lacks_key keys a b then [] else script keys k a b ∷ []
+scripts_of keys k a b = if lacks_key keys b then [] else script keys k a b ∷ []
+
+abbrev pub scripts_from : List (Option ℕ) → ℕ → ℕ → List (List Event)
+scripts_from keys k a = gathered (scripts_of keys k a) 16
 
 abbrev pub scripts_with : List (Option ℕ) → ℕ → ℕ → List (List Event)
-scripts_with keys k a = gathered (scripts_of keys k a) 16
+scripts_with keys k a = if lacks_key keys a then [] else scripts_from keys k a
 
 abbrev pub scripts_for : List (Option ℕ) → ℕ → List (List Event)
 scripts_for keys k = gathered (scripts_with keys k) 16

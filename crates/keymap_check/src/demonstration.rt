@@ -7,16 +7,17 @@ ghost use Rattle.console_core.specs.History.{Maps, between};
 ghost use Rattle.console_core.specs.Sticking.{LeavesOn};
 ghost use Rattle.console_core.specs.Traps.{NobodyBearsCellPickingLocks, HasNoTrap};
 ghost use Rattle.keymap_check.specs.Scripts.{leaves_modifier_on as leaves_modifier_on_in, events_of};
-ghost use Rattle.keymap_check.specs.Scripts.{start_of, script as script_of, scripts_of, scripts_with, scripts_for};
+ghost use Rattle.keymap_check.specs.Scripts.{start_of, script as script_of, scripts_of, scripts_from};
+ghost use Rattle.keymap_check.specs.Scripts.{scripts_with, scripts_for};
 ghost use Rattle.keymap_check.specs.Scripts.{tried_at, demonstration_of};
 ghost use Rattle.keymap_check.specs.Inner.Surveyed.{IsSurvey};
 ghost use Rattle.keymap_check.specs.Shown.{HasShownTrap};
 
 use crate::finding::is_found;
-use crate::script::{BitKeys, Script, bit_keys, event_at, lacks_key, make_script};
+use crate::script::{Script, bit_keys, event_at, make_script};
 use crate::survey::Survey;
 use console_core::{Event, Translator, WordConsole, is_any_on};
-use keymap_core::{KEY_COUNT, KeyCode, KeyMap, key_with};
+use keymap_core::{BitKeys, KEY_COUNT, KeyCode, KeyMap, key_with, lacks_key};
 
 /// Delivers presses or releases of the keys of the bits that are in the set and not in the other one.
 #[inline(always)]
@@ -73,7 +74,7 @@ fn try_sets<'m>(
         → ⟦<WordConsole<'m> as Translator>⟧.stands start.now (between m m) (reverse (start_of keys.now key a))
         → option_map (λ s. s.items) result ≡ find (leaves_modifier_on_in m) (scripts_of keys.now key a b) }
 {
-    if lacks_key(keys, a, b) || !leaves_modifier_on(start, keys, key, a, b) {
+    if lacks_key(keys, b) || !leaves_modifier_on(start, keys, key, a, b) {
         return None;
     }
     Some(make_script(keys, key, a, b))
@@ -91,8 +92,8 @@ fn start<'m>(map: &'m KeyMap, keys: &BitKeys, key: KeyCode, a: u8) -> WordConsol
 }
 
 /// The first script of the key and the first set that leaves a modifier on. All begin alike: that is delivered once.
-fn try_first_set(map: &KeyMap, keys: &BitKeys, key: KeyCode, a: u8) -> Option<Script>
-    ensures { option_map (λ s. s.items) result ≡ find (leaves_modifier_on_in map.now) (scripts_with keys.now key a) }
+fn try_from(map: &KeyMap, keys: &BitKeys, key: KeyCode, a: u8) -> Option<Script>
+    ensures { option_map (λ s. s.items) result ≡ find (leaves_modifier_on_in map.now) (scripts_from keys.now key a) }
 {
     let start = start(map, keys, key, a);
     for b in 0..16 {
@@ -102,6 +103,17 @@ fn try_first_set(map: &KeyMap, keys: &BitKeys, key: KeyCode, a: u8) -> Option<Sc
         }
     }
     None
+}
+
+/// The same, where a key is held for each bit of the first set.
+fn try_first_set(map: &KeyMap, keys: &BitKeys, key: KeyCode, a: u8) -> Option<Script>
+    ensures { option_map (λ s. s.items) result ≡ find (leaves_modifier_on_in map.now) (scripts_with keys.now key a) }
+{
+    if lacks_key(keys, a) {
+        None
+    } else {
+        try_from(map, keys, key, a)
+    }
 }
 
 /// The first script of the key that leaves a modifier on.

@@ -28,11 +28,14 @@ mod finding;
 mod kind;
 pub mod laws;
 mod report;
+mod said;
 mod script;
 mod survey;
+mod words;
 
 pub use bearer::Bearer;
 pub use demonstration::demonstrate;
 pub use finding::{Finding, Place};
 pub use report::{Report, check, check_shown, first_finding};
+pub use said::{finding_words, said_of_key};
 pub use script::Script;

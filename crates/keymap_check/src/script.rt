@@ -1,11 +1,10 @@
 //! The script that tries one key.
-ghost use Rattle.std.specs.Prelude.{◌≡◌, ◌<◌, ◌≤◌, ◌+◌, ◌++◌, MatchOption, length, true, false, [], ◌∷◌};
+ghost use Rattle.std.specs.Prelude.{◌≡◌, ℕ, ◌<◌, ◌≤◌, ◌+◌, ◌++◌, MatchOption, length, true, false, [], ◌∷◌};
+ghost use Rattle.std.specs.Prelude.{slice_index_or};
 ghost use Rattle.arrayvec.specs.ArrayVec.{array_vec_len};
-ghost use Rattle.keymap_check.specs.Scripts.{group_at as group_in, has_bit as has_bit_in, is_bit_key as is_bit_key_of};
-ghost use Rattle.keymap_check.specs.Scripts.{bit_key as bit_key_of, bit_keys as bit_keys_of, event_of as event_by};
-ghost use Rattle.keymap_check.specs.Scripts.{event_at as event_in, is_lacking as is_lacking_of};
+ghost use Rattle.keymap_check.specs.Scripts.{group_at as group_in, bears_group, event_of as event_by};
+ghost use Rattle.keymap_check.specs.Scripts.{bit_key as bit_key_of, bit_keys as bit_keys_of, event_at as event_in};
 ghost use Rattle.keymap_check.specs.Scripts.{is_chosen as is_chosen_of, events_of, script as script_of};
-ghost use Rattle.keymap_check.specs.Scripts.{lacks_key as lacks_key_of};
 ghost use Rattle.keymap_check.specs.Inner.Surveyed.{IsSurvey};
 ghost use Rattle.keymap_core.specs.Maps.{MapValue};
 ghost use Rattle.keymap_core.specs.Numbers.{key_count};
@@ -14,13 +13,10 @@ use crate::kind::{Group, Kind};
 use crate::survey::Survey;
 use arrayvec::ArrayVec;
 use console_core::Event;
-use keymap_core::{KEY_COUNT, KeyCode, key_with};
+use keymap_core::{BitKeys, KEY_COUNT, KeyCode, has_bit, least_other};
 
 /// The events that a demonstration delivers, in their order.
 pub type Script = ArrayVec<Event, 11>;
-
-/// The keys of the four bits of a set: shift, control, alt and ashift.
-pub(crate) type BitKeys = [Option<KeyCode>; 4];
 
 /// The modifiers that the bit of a set stands for.
 fn group_at(bit: u8) -> Group
@@ -34,13 +30,6 @@ fn group_at(bit: u8) -> Group
     }
 }
 
-fn has_bit(set: u8, bit: u8) -> bool
-    requires { bit < 4 }
-    ensures { result ≡ has_bit_in set bit }
-{
-    (set >> bit) % 2 == 1
-}
-
 /// Whether the bit is in the set and not in the other one.
 fn is_chosen(set: u8, except: u8, bit: u8) -> bool
     requires { bit < 4 }
@@ -49,23 +38,23 @@ fn is_chosen(set: u8, except: u8, bit: u8) -> bool
     has_bit(set, bit) && !has_bit(except, bit)
 }
 
-fn is_bit_key(survey: &Survey, tried: u8, bit: u8, key: u8) -> bool
-    requires { key < key_count }
-    ensures { (m : MapValue) → IsSurvey m survey.now → result ≡ is_bit_key_of m tried bit key }
+/// Whether each key bears a modifier of the bit.
+fn bearers(survey: &Survey, bit: u8) -> [bool; KEY_COUNT]
+    ensures { (m : MapValue) → IsSurvey m survey.now
+        → (k : ℕ) → k < key_count → slice_index_or result k false ≡ bears_group m bit k }
 {
-    key != tried && survey.has(key, Kind::Of(group_at(bit)))
+    let mut bearers = [false; KEY_COUNT];
+    for key in 0..KEY_COUNT as u8 {
+        bearers[key as usize] = survey.has(key, Kind::Of(group_at(bit)));
+    }
+    bearers
 }
 
-/// The least key, other than the tried one, that bears an action of the bit's group.
+/// The least key, other than the tried one, that bears a modifier of the bit.
 fn bit_key(survey: &Survey, tried: u8, bit: u8) -> Option<KeyCode>
     ensures { (m : MapValue) → IsSurvey m survey.now → result ≡ bit_key_of m tried bit }
 {
-    for key in 0..KEY_COUNT as u8 {
-        if is_bit_key(survey, tried, bit, key) {
-            return Some(key_with(key));
-        }
-    }
-    None
+    least_other(&bearers(survey, bit), tried)
 }
 
 /// The keys of the bits, while the key is tried.
@@ -139,23 +128,4 @@ pub(crate) fn make_script(keys: &BitKeys, key: KeyCode, a: u8, b: u8) -> Script
     script.push(Event::Release(key));
     push_events(&mut script, keys, b, 0, false);
     script
-}
-
-/// Whether the sets name the bit and it has no key.
-fn is_lacking(keys: &BitKeys, a: u8, b: u8, bit: u8) -> bool
-    requires { bit < 4 }
-    ensures { result ≡ is_lacking_of keys.now a b bit }
-{
-    (has_bit(a, bit) || has_bit(b, bit)) && keys[bit as usize].is_none()
-}
-
-/// Whether the sets name a bit that has no key.
-#[tactic(auto, unfolding(crate::specs::Scripts::lacks_key))]
-pub(crate) fn lacks_key(keys: &BitKeys, a: u8, b: u8) -> bool
-    ensures { result ≡ lacks_key_of keys.now a b }
-{
-    is_lacking(keys, a, b, 0)
-        || is_lacking(keys, a, b, 1)
-        || is_lacking(keys, a, b, 2)
-        || is_lacking(keys, a, b, 3)
 }

@@ -16,7 +16,7 @@ use Rattle.keymap_draw.specs.declared.board.Board.TheVariants.{Iso, Ansi}
 use Rattle.keymap_draw.specs.declared.board.Row.{Row}
 use Rattle.keymap_draw.specs.declared.half.Half.{Half}
 use Rattle.keymap_draw.specs.declared.half.Half.TheVariants.{Lower, Upper}
-use Rattle.keymap_draw.specs.Below.{passing, passed}
+use Rattle.keymap_core.specs.Below.{gathered, passing, passed}
 use Rattle.keymap_draw.specs.Boards.{is_on}
 use Rattle.keymap_draw.specs.Drawings.{Drawing}
 use Rattle.keymap_draw.specs.Halves.{slot_of, is_other, other_keys}
@@ -50,7 +50,7 @@ passed_has n k true h e = or_left (n == k) false e
 passed_has n k false h e = cc
 
 passing_has : (test : ℕ → Bool) (n k : ℕ) → k < n → test k ≡ true → has (passing test n) k ≡ true
-unfolding passing
+unfolding passing gathered
 passing_has test zero k h t = absurd (omega (arith, h))
 passing_has test (suc n) k h t = elim (cases_order k n) [
   | inl same ↦

@@ -12,11 +12,12 @@ use Rattle.keymap_core.specs.declared.entry.LockFlag.{LockFlag}
 use Rattle.keymap_core.specs.declared.entry.LockFlag.TheVariants as flag
 use Rattle.keymap_core.specs.Actions.{name_of, holding_action}
 use Rattle.keymap_check.specs.declared.finding.Finding.{Finding}
+use Rattle.keymap_check.specs.Said.{finding_words}
 use Rattle.keymap_draw.specs.declared.board.Shape.{Shape}
 use Rattle.keymap_draw.specs.declared.board.Shape.TheVariants.{A}
 use Rattle.keymap_draw.specs.Boards.{letter}
 use Rattle.keymap_draw.specs.declared.words.TheConstants as words
-use Rattle.keymap_draw.specs.Keys.{finding_words, finding_line, flag_words, cap, group}
+use Rattle.keymap_draw.specs.Keys.{finding_line, flag_words, cap, group}
 use Rattle.keymap_draw.specs.Lists.{listed_finding, findings_list}
 use Rattle.keymap_draw.specs.Markup.{one, two, numbered, escaped, class_text, further_class, open_text, text_element}
 use Rattle.keymap_draw.specs.WellFormed.{State, at, scan}

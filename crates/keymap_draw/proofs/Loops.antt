@@ -5,7 +5,7 @@ use Rattle.std.proofs.Common.{append_assoc, append-nil, All, add-one, drop-cons,
 use Rattle.std.proofs.Math.ListN.{drop_of_length-le}
 use Rattle.std.proofs.lemmas.List.Elements.{All-append, All-nil}
 use Rattle.std.specs.Prelude.{None, slice_get, slice_index_or}
-use Rattle.keymap_draw.specs.Below.{passing, passed}
+use Rattle.keymap_core.specs.Below.{gathered, passing, passed}
 use Rattle.keymap_draw.specs.Markup.{numbered}
 
 -- nothing is left to add
@@ -43,11 +43,11 @@ numbered_at f xs i d old new all inside added before =
     ∙ before
 
 pub passing-none : (test : ℕ → Bool) → passing test 0 ≡ []
-unfolding passing
+unfolding passing gathered
 passing-none test = refl
 
 passing-suc : (test : ℕ → Bool) (n : ℕ) → passing test (suc n) ≡ passing test n ++ passed (test n) n
-unfolding passing
+unfolding passing gathered
 passing-suc test n = refl
 
 -- one number more
@@ -75,7 +75,7 @@ passed-below false n k h = All-nil (λ i. i < k)
 
 -- what passes is below the bound
 pub passing-below : (test : ℕ → Bool) (n k : ℕ) → n ≤ k → All (λ i. i < k) (passing test n)
-unfolding passing
+unfolding passing gathered
 passing-below test zero k h = All-nil (λ i. i < k)
 passing-below test (suc n) k h =
     all_join (λ i. i < k) (passing test n) (passed (test n) n) (passing-below test n k (omega arith))

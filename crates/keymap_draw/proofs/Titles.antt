@@ -24,6 +24,7 @@ use Rattle.keymap_core.specs.Numbers.{key_count}
 use Rattle.keymap_check.specs.declared.finding.Finding.{Finding}
 use Rattle.keymap_text.specs.Printed.{slot_words, accent_words}
 use Rattle.keymap_text.specs.Rows.{Definition, KeyDefinition, AccentDefinition}
+use Rattle.keymap_check.specs.Said.{finding_words}
 use Rattle.keymap_draw.specs.declared.board.Row.{Row}
 use Rattle.keymap_draw.specs.declared.board.Shape.{Shape}
 use Rattle.keymap_draw.specs.declared.board.Shape.TheVariants.{A}
@@ -41,7 +42,7 @@ use Rattle.keymap_draw.specs.Drawings.{Drawing}
 use Rattle.keymap_draw.specs.Drawn.{drawn, cell_in, stands_alone}
 use Rattle.keymap_draw.specs.Halves.{slot_of, row_key, some_row_key, board_row, other_keys, other_key, others}
 use Rattle.keymap_draw.specs.Halves.{verdict_line, lower_headline, headline, sample, panel, half_drawing}
-use Rattle.keymap_draw.specs.Keys.{finding_words, finding_of, finding_line, flag_words, key_class, title, cap, legend}
+use Rattle.keymap_draw.specs.Keys.{finding_of, finding_line, flag_words, key_class, title, cap, legend}
 use Rattle.keymap_draw.specs.Keys.{some_legend, drawn_legend, legends, group, key}
 use Rattle.keymap_draw.specs.Legends.{character_legend, cell_legend}
 use Rattle.keymap_draw.specs.Lists.{listed_finding, findings_list, named_accents, composed, part, table, accent_sign}
@@ -233,7 +234,7 @@ holding_inner _ = refl
 
 said_inner : (f : Finding) → list_all is_inner (finding_words f) ≡ true
 said_inner f =
-    filled_inner words.FINDING.now _ _ refl (number_inner _)
+    filled_inner _ _ _ refl (number_inner _)
     (filled_inner _ _ _ refl (holding_inner f.holding)
     (filled_inner _ _ _ refl (number_inner _)
     (filled_inner _ _ _ refl (number_inner _)

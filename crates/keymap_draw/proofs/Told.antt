@@ -26,7 +26,8 @@ use Rattle.keymap_draw.specs.declared.half.Half.TheVariants.{Lower, Upper}
 use Rattle.keymap_draw.specs.Boards.{row_on}
 use Rattle.keymap_draw.specs.Drawings.{Drawing}
 use Rattle.keymap_draw.specs.Halves.{slot_of, other_keys}
-use Rattle.keymap_draw.specs.Keys.{finding_of, finding_line, finding_words}
+use Rattle.keymap_check.specs.Said.{finding_words}
+use Rattle.keymap_draw.specs.Keys.{finding_of, finding_line}
 use Rattle.keymap_draw.specs.Lists.{named_accents}
 use Rattle.keymap_draw.specs.Markup.{escaped, is_referred, reference}
 use Rattle.keymap_draw.specs.Titles.{titles}

@@ -6,13 +6,13 @@ use Rattle.std.specs.List.{flat_map}
 use Rattle.keymap_core.specs.Borne.{is_upper_live}
 use Rattle.keymap_core.specs.Maps.{entry_at}
 use Rattle.keymap_core.specs.Numbers.{key_count}
+use Rattle.keymap_core.specs.Below.{passing}
 use Rattle.keymap_draw.specs.declared.board.Row.{Row}
 use Rattle.keymap_draw.specs.declared.board.Shape.TheVariants as shape
 use Rattle.keymap_draw.specs.declared.board.TheConstants.{ISO}
 use Rattle.keymap_draw.specs.declared.half.Half.{Half}
 use Rattle.keymap_draw.specs.declared.half.Half.TheVariants.{Lower, Upper}
 use Rattle.keymap_draw.specs.declared.words.TheConstants as words
-use Rattle.keymap_draw.specs.Below.{passing}
 use Rattle.keymap_draw.specs.Boards.{row_on, is_on}
 use Rattle.keymap_draw.specs.Drawings.{Drawing}
 use Rattle.keymap_draw.specs.Keys.{key, is_blank_entry}

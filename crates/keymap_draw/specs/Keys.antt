@@ -9,10 +9,11 @@ use Rattle.keymap_core.specs.declared.entry.Cell.TheVariants.{Char, Act}
 use Rattle.keymap_core.specs.declared.entry.Entry.{Entry}
 use Rattle.keymap_core.specs.declared.entry.LockFlag.{LockFlag}
 use Rattle.keymap_core.specs.declared.entry.LockFlag.TheVariants as flag
-use Rattle.keymap_core.specs.Actions.{within, name_of, holding_action}
+use Rattle.keymap_core.specs.Actions.{within}
 use Rattle.keymap_core.specs.Maps.{MapValue, entry_at}
 use Rattle.keymap_core.specs.Numbers.{key_count}
 use Rattle.keymap_check.specs.declared.finding.Finding.{Finding}
+use Rattle.keymap_check.specs.Said.{finding_words}
 use Rattle.keymap_text.specs.Printed.{slot_words}
 use Rattle.keymap_draw.specs.declared.board.Shape.{Shape}
 use Rattle.keymap_draw.specs.declared.drawn.DrawnCells.{DrawnCells}
@@ -26,12 +27,6 @@ use Rattle.keymap_draw.specs.Drawings.{Drawing}
 use Rattle.keymap_draw.specs.Markup.{two, escaped, class_text, text_element}
 use Rattle.keymap_draw.specs.Places.{code_x, beside_of, legend_x, legend_y, legend_classes}
 use Rattle.messages.specs.Filled.{filled}
-
--- what the check says of a key
-abbrev pub finding_words : Finding → List ℕ
-finding_words f =
-    filled words.FINDING.now (decimal f.key ∷ name_of (holding_action f.holding) ∷ decimal f.holding_at.slot
-    ∷ decimal f.holding_at.column ∷ decimal f.character_at.slot ∷ decimal f.character_at.column ∷ [])
 
 -- the finding of a key, if the check names it
 abbrev pub finding_of : List Finding → ℕ → Option Finding

@@ -1,4 +1,3 @@
-pub mod Below
 pub mod Boards
 pub mod Characters
 pub mod Drawings

@@ -8,17 +8,17 @@ use Rattle.keymap_core.specs.declared.entry.Cell.TheVariants.{Char, Act}
 use Rattle.keymap_core.specs.declared.entry.Entry.{Entry}
 use Rattle.keymap_core.specs.Accents.{AccentValue}
 use Rattle.keymap_core.specs.Actions.{name_of}
+use Rattle.keymap_core.specs.Below.{passing}
 use Rattle.keymap_core.specs.Borne.{any_below, is_upper_live}
 use Rattle.keymap_core.specs.Maps.{MapValue, entry_at, accent_at}
 use Rattle.keymap_core.specs.Numbers.{key_count, accent_limit}
 use Rattle.keymap_check.specs.declared.finding.Finding.{Finding}
+use Rattle.keymap_check.specs.Said.{finding_words}
 use Rattle.keymap_text.specs.Printed.{accent_words}
 use Rattle.keymap_draw.specs.declared.half.Half.{Half}
 use Rattle.keymap_draw.specs.declared.half.Half.TheVariants.{Lower, Upper}
 use Rattle.keymap_draw.specs.declared.words.TheConstants as words
-use Rattle.keymap_draw.specs.Below.{passing}
 use Rattle.keymap_draw.specs.Halves.{slot_of}
-use Rattle.keymap_draw.specs.Keys.{finding_words}
 use Rattle.keymap_draw.specs.Legends.{character_legend, marked, accent_mark}
 use Rattle.keymap_draw.specs.Markup.{one, two, escaped, class_text, open_text, text_element, numbered}
 use Rattle.keymap_draw.specs.Places.{own_of, size_class}

@@ -1,8 +1,6 @@
 //! The drawing of one half of the slots: its headline, its board, and the keys that the board doesn't have.
 ghost use Rattle.std.specs.Prelude.{◌≡◌, ◌++◌, ◌+◌, ◌≤◌, ◌<◌, ◌^◌, OnOk, length};
 ghost use Rattle.std.specs.List.{flat_map};
-ghost use Rattle.arrayvec.specs.ArrayVec.{array_vec_len};
-ghost use Rattle.keymap_draw.specs.Below.{passed};
 ghost use Rattle.keymap_draw.specs.Halves as spec;
 ghost use Rattle.keymap_draw.specs.Markup.{numbered};
 
@@ -15,7 +13,7 @@ use crate::words::{
     SAMPLE, SLOT, UPPER_HALF,
 };
 use arrayvec::ArrayVec;
-use keymap_core::KEY_COUNT;
+use keymap_core::{KEY_COUNT, push_if};
 use messages::{either, fill, number};
 
 /// A half of the slots: 0 to 127, or 128 to 255.
@@ -78,17 +76,6 @@ fn is_other(drawing: &Drawing, half: Half, key: u8) -> bool
     ensures { result ≡ spec.is_other drawing.now half key }
 {
     !drawing.board().has(key) && !is_blank_entry(drawing.map().entry(half.slot(key)))
-}
-
-/// Adds a number that passes.
-pub(crate) fn push_if<const N: usize>(numbers: &mut ArrayVec<u8, N>, number: u8, passes: bool)
-    requires { array_vec_len numbers.old < N }
-    ensures items { numbers.new.items ≡ numbers.old.items ++ passed passes number }
-    ensures len { array_vec_len numbers.new ≤ array_vec_len numbers.old + 1 }
-{
-    if passes {
-        numbers.push(number);
-    }
 }
 
 /// The keys that aren't on the board and whose slots aren't blank.

@@ -8,29 +8,11 @@ use crate::drawn::{DrawnCells, drawn, is_blank, stands_alone};
 use crate::legend::{cell_legend, is_word};
 use crate::markup::{Added, push_class, push_escaped, push_text, push_two};
 use crate::place::{Column, code_x, legend_classes, legend_x, legend_y};
-use crate::words::{BOTH, CAP, CAPS, FINDING, GROUP, GROUP_END, NUM, TITLE, TITLE_END, TRANSLATE};
-use keymap_check::Finding;
+use crate::words::{BOTH, CAP, CAPS, GROUP, GROUP_END, NUM, TITLE, TITLE_END, TRANSLATE};
+use keymap_check::{Finding, finding_words};
 use keymap_core::{Action, Cell, Entry, KEY_COUNT, KeyMap, LockFlag};
 use keymap_text::slot_words;
-use messages::{Line, fill, line, number, small};
-
-/// What the check says of a key, without a line feed.
-pub fn finding_words(finding: &Finding) -> Line
-    ensures { result.items ≡ spec.finding_words finding.now }
-{
-    let name = finding.holding.action().name();
-    line(
-        FINDING,
-        &[
-            small(finding.key.get()).as_slice(),
-            name.as_slice(),
-            small(finding.holding_at.slot).as_slice(),
-            small(finding.holding_at.column).as_slice(),
-            small(finding.character_at.slot).as_slice(),
-            small(finding.character_at.column).as_slice(),
-        ],
-    )
-}
+use messages::{fill, number, small};
 
 /// The finding of a key, if the check names it.
 fn finding_of(findings: &[Finding], key: u8) -> Option<&Finding>

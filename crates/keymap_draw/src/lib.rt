@@ -28,5 +28,4 @@ mod whole;
 mod words;
 
 pub use board::Board;
-pub use key::finding_words;
 pub use whole::picture;

@@ -6,8 +6,7 @@ ghost use Rattle.keymap_draw.specs.Lists as spec;
 ghost use Rattle.keymap_draw.specs.Markup.{numbered};
 
 use crate::drawing::Drawing;
-use crate::half::{Half, push_if};
-use crate::key::finding_words;
+use crate::half::Half;
 use crate::legend::{Legend, character_legend, marked};
 use crate::markup::{
     Added, push_characters, push_class, push_escaped, push_one, push_open, push_text, push_two,
@@ -19,8 +18,8 @@ use crate::words::{
     SILENT, TABLE_END, TEXT_END,
 };
 use arrayvec::ArrayVec;
-use keymap_check::Finding;
-use keymap_core::{ACCENT_LIMIT, Accent, AccentIndex, Action, Cell, Entry, KEY_COUNT, KeyMap};
+use keymap_check::{Finding, finding_words};
+use keymap_core::{ACCENT_LIMIT, Accent, AccentIndex, Action, Cell, Entry, KEY_COUNT, KeyMap, push_if};
 use keymap_text::accent_words;
 use messages::{fill, number};
 

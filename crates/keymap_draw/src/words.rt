@@ -82,10 +82,6 @@ pub(crate) const TEXT_END: &[u8] = b"</text>";
 /// Before the letter of the first class.
 pub(crate) const CLASS: &[u8] = b" class=\"";
 
-/// What the check says of a key: the key, its modifier or lock and where it stands, and where the character stands.
-pub(crate) const FINDING: &[u8] =
-    b"key {}: {} at slot {} column {}, character at slot {} column {}";
-
 /// The headline of the findings, with where it stands.
 pub(crate) const FINDINGS: &[u8] = b"<text x=\"28\" y=\"{}\" class=\"h no\">Findings</text>\n";
 

@@ -8,11 +8,10 @@ ghost use Rattle.keymap_lint.specs.Kinds.{missing_accents as missing_accents_of,
 
 use crate::cells::CellInForce;
 use crate::diagnostic::{Diagnostic, Kind};
-use crate::numbers::add_number;
 use crate::spelled::SpelledText;
 use crate::zero_accent::{is_given, live_accent};
 use arrayvec::ArrayVec;
-use keymap_core::ACCENT_LIMIT;
+use keymap_core::{ACCENT_LIMIT, push_if};
 
 /// Whether the cell is live and the dead key of an accent that the text doesn't define.
 fn is_missing(text: &SpelledText, cell: &CellInForce) -> bool
@@ -78,7 +77,7 @@ pub(crate) fn missing_accents(
         return accents;
     }
     for accent in 0..ACCENT_LIMIT as u8 {
-        add_number(&mut accents, accent, is_absent(text, cells, accent));
+        push_if(&mut accents, accent, is_absent(text, cells, accent));
     }
     accents
 }

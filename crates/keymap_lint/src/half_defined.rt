@@ -8,10 +8,9 @@ ghost use Rattle.keymap_lint.specs.Kinds.{missing_slots as missing_slots_of, hal
 
 use crate::cells::CellInForce;
 use crate::diagnostic::{Diagnostic, Kind};
-use crate::numbers::add_number;
 use crate::spelled::SpelledText;
 use arrayvec::ArrayVec;
-use keymap_core::{Action, Cell, Holding, KEY_COUNT, Lock, Modifier, SLOT_LIMIT};
+use keymap_core::{Action, Cell, Holding, KEY_COUNT, Lock, Modifier, SLOT_LIMIT, push_if};
 
 /// What selects the slots from 128 on.
 fn selector_of(content: &Cell) -> Option<Holding>
@@ -72,7 +71,7 @@ fn undefined_halves(text: &SpelledText) -> ArrayVec<u8, SLOT_LIMIT>
     let mut slots = ArrayVec::new();
     for number in 0..SLOT_LIMIT as u16 {
         let slot = number as u8;
-        add_number(&mut slots, slot, is_missing(text, slot));
+        push_if(&mut slots, slot, is_missing(text, slot));
     }
     slots
 }

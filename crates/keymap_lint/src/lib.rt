@@ -19,7 +19,6 @@ mod lint;
 mod mixed_key;
 mod no_key;
 mod no_shift;
-mod numbers;
 mod order;
 mod pair_again;
 mod spelled;

@@ -9,11 +9,10 @@ ghost use Rattle.keymap_lint.specs.Kinds.{is_greatest as is_greatest_in, mixed_k
 ghost use Rattle.keymap_lint.specs.Kinds.{mixed_keys as mixed_keys_of, nul_key, nul_keys as nul_keys_of};
 
 use crate::diagnostic::{Diagnostic, Kind, add};
-use crate::numbers::add_number;
 use crate::spelled::SpelledText;
 use arrayvec::ArrayVec;
 use keymap_check::{Finding, Place};
-use keymap_core::{Cell, KEY_COUNT};
+use keymap_core::{Cell, KEY_COUNT, push_if};
 use std::alloc::{AllocError, Global};
 
 /// Whether the text defines both slots of the finding.
@@ -86,7 +85,7 @@ fn add_nul(keys: &mut ArrayVec<u8, KEY_COUNT>, text: &SpelledText, finding: &Fin
     ensures items { keys.new.items ≡ keys.old.items ++ nul_key text.now finding.now }
     ensures room { array_vec_len keys.new ≤ array_vec_len keys.old + 1 }
 {
-    add_number(keys, finding.key.get(), !is_mixed(text, finding));
+    push_if(keys, finding.key.get(), !is_mixed(text, finding));
 }
 
 /// The keys of the findings of whose slots the text doesn't define both, in ascending order.

@@ -7,10 +7,9 @@ ghost use Rattle.keymap_lint.specs.Kinds.{is_above_in_force as is_above_in_force
 ghost use Rattle.keymap_lint.specs.Kinds.{unused_slots as unused_slots_of, slots_above as slots_above_of};
 
 use crate::diagnostic::{Diagnostic, Kind};
-use crate::numbers::add_number;
 use crate::spelled::SpelledText;
 use arrayvec::ArrayVec;
-use keymap_core::KEY_COUNT;
+use keymap_core::{KEY_COUNT, push_if};
 use keymap_text::{Defined, Placed};
 
 /// Whether this is a definition in force of a slot from 128 on.
@@ -59,7 +58,7 @@ fn slots_above(text: &SpelledText) -> ArrayVec<u8, KEY_COUNT>
     let mut slots = ArrayVec::new();
     for key in 0..KEY_COUNT as u8 {
         let slot = key + KEY_COUNT as u8;
-        add_number(&mut slots, slot, text.defines(slot));
+        push_if(&mut slots, slot, text.defines(slot));
     }
     slots
 }

@@ -8,6 +8,7 @@
 
 mod buffer;
 mod print;
+mod sentences;
 mod words;
 
 ghost use Rattle.std.specs.Prelude.{◌≡◌, ◌≢◌, ℕ, true, ◌<◌, ◌≤◌, List, [], ◌∷◌, ◌++◌, length, take, drop, map, reverse};
@@ -50,7 +51,7 @@ ghost use Rattle.kmap_c.specs.Numbers.{event_of as event_of_number, are_events a
 ghost use Rattle.kmap_c.specs.Numbers.{kind_number, accent_number};
 
 use crate::print::print_tables;
-use crate::words::{finding_sentence, say, table_sentence, text_sentence};
+use crate::sentences::{finding_sentence, say, table_sentence, text_sentence};
 use console_core::laws::modifiers_follow_keys;
 use console_core::{
     Event, WordStore, locks_kept, modifiers_kept, pending_kept, start_kept, step_kept,

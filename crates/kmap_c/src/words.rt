@@ -1,115 +1,47 @@
-//! Sentences for the numbers of faults and for findings, in a buffer of the caller.
-ghost use Rattle.std.specs.Prelude.{◌≡◌, ◌+◌, ◌≤◌, ◌++◌, [], decimal, length, slice_index_or};
-ghost use Rattle.arrayvec.specs.ArrayVec.{array_vec_len};
-ghost use Rattle.kmap_c.specs.Sentences.{IsSaid};
-ghost use Rattle.kmap_c.specs.Sentences as spec;
+//! The sentences of the C library for the kinds of faults, in the order of their numbers. docs/FORMATS.md has them in
+//! "Sentences of the C library".
 
-use crate::buffer::put;
-use crate::{DONE, KmapFinding, NO_ROOM};
-use arrayvec::ArrayVec;
-use itoa::Buffer;
-use keymap_core::Holding;
+// Of a table file, from 1 on.
+pub(crate) const TOO_SHORT: &[u8] = b"the file is too short";
 
-/// The sentence of a finding, of at most 80 bytes.
-type Sentence = ArrayVec<u8, 96>;
+pub(crate) const TOO_LONG: &[u8] = b"the file is too long";
 
-/// The sentence of a kind of fault of a table file, empty where the number names none.
-pub(crate) fn table_sentence(kind: u32) -> &'static [u8]
-    ensures words { result.now ≡ slice_index_or spec.table_sentences kind [] }
-    ensures short { length result.now ≤ 127 }
-{
-    match kind {
-        1 => b"the file is too short",
-        2 => b"the file is too long",
-        3 => b"more than 256 slots, or more than 15 accents",
-        4 => b"a pad that is not 0",
-        5 => b"a lock flag above 3",
-        6 => b"a number that is no action, in a cell that is marked as one",
-        7 => b"a modifier joined with alock, which is not supported",
-        8 => b"a number that is no character",
-        9 => b"a byte that is not 0 in a slot, an accent or a pair that is not in use",
-        _ => b"",
-    }
-}
+pub(crate) const BAD_COUNT: &[u8] = b"more than 256 slots, or more than 15 accents";
 
-/// The sentence of a kind of fault of a text, empty where the number names none.
-pub(crate) fn text_sentence(kind: u32) -> &'static [u8]
-    ensures words { result.now ≡ slice_index_or spec.text_sentences kind [] }
-    ensures short { length result.now ≤ 127 }
-{
-    match kind {
-        1 => b"a byte that begins no token",
-        2 =>
-            b"no quoted character stands here: an apostrophe, one character other than a line feed, an apostrophe",
-        3 => b"a word without a meaning, or of more than 32 bytes",
-        4 => b"a token that is not wanted here",
-        5 => b"a slot above 255",
-        6 => b"a number that is no character: characters are 0 to 0xd7ff and 0xe000 to 0x10ffff",
-        7 =>
-            b"a screen or function key that does not exist: there are scr01 to scr16 and fkey01 to fkey96",
-        8 => b"an accent has 52 pairs already, and room for no more",
-        9 => b"the base of a pair is a character other than 0",
-        10 => b"a modifier joined with alock, which is not supported",
-        11 => b"the text ends inside a token or a definition",
-        _ => b"",
-    }
-}
+pub(crate) const BAD_PAD: &[u8] = b"a pad that is not 0";
 
-/// A number in decimal digits.
-fn small(n: u8) -> ArrayVec<u8, 3>
-    ensures { result.items ≡ decimal n }
-{
-    let mut digits = Buffer::new();
-    let mut text = ArrayVec::new();
-    let _ = text.try_extend_from_slice(digits.format(n).as_bytes());
-    text
-}
+pub(crate) const BAD_FLAG: &[u8] = b"a lock flag above 3";
 
-fn append(sentence: &mut Sentence, piece: &[u8])
-    requires { array_vec_len sentence.old + length piece.now ≤ 96 }
-    ensures text { sentence.new.items ≡ sentence.old.items ++ piece.now }
-    ensures bound { array_vec_len sentence.new ≡ array_vec_len sentence.old + length piece.now }
-{
-    sentence.try_extend_from_slice(piece).unwrap();
-}
+pub(crate) const BAD_ACTION: &[u8] =
+    b"a number that is no action, in a cell that is marked as one";
 
-fn append_small(sentence: &mut Sentence, n: u8)
-    requires { array_vec_len sentence.old + 3 ≤ 96 }
-    ensures text { sentence.new.items ≡ sentence.old.items ++ decimal n }
-    ensures bound { array_vec_len sentence.new ≤ array_vec_len sentence.old + 3 }
-{
-    append(sentence, small(n).as_slice());
-}
+pub(crate) const COMBINED: &[u8] = b"a modifier joined with alock, which is not supported";
 
-/// The sentence of a finding of a modifier or lock.
-pub(crate) fn finding_sentence(holding: Holding, finding: &KmapFinding) -> Sentence
-    ensures { result.items ≡ spec.finding_sentence holding finding.now }
-{
-    let mut sentence = Sentence::new();
-    append(&mut sentence, b"key ");
-    append_small(&mut sentence, finding.key);
-    append(&mut sentence, b": ");
-    append(&mut sentence, holding.action().name().as_slice());
-    append(&mut sentence, b" at slot ");
-    append_small(&mut sentence, finding.holding_slot);
-    append(&mut sentence, b" column ");
-    append_small(&mut sentence, finding.holding_column);
-    append(&mut sentence, b", character at slot ");
-    append_small(&mut sentence, finding.character_slot);
-    append(&mut sentence, b" column ");
-    append_small(&mut sentence, finding.character_column);
-    sentence
-}
+pub(crate) const BAD_NUMBER: &[u8] = b"a number that is no character";
 
-/// Puts a sentence and a 0 in front, where there is room for both.
-pub(crate) fn say(sentence: &[u8], words: &mut [u8]) -> i32
-    requires { length sentence.now ≤ 127 }
-    ensures { IsSaid sentence.now words.old result words.new }
-{
-    if words.len() <= sentence.len() {
-        return NO_ROOM;
-    }
-    let end = put(words, 0, sentence);
-    words[end] = 0;
-    DONE
-}
+pub(crate) const NOT_EMPTY: &[u8] =
+    b"a byte that is not 0 in a slot, an accent or a pair that is not in use";
+
+// Of a text, from 1 on. The tenth is that of a table file.
+pub(crate) const BAD_BYTE: &[u8] = b"a byte that begins no token";
+
+pub(crate) const BAD_LITERAL: &[u8] =
+    b"no quoted character stands here: an apostrophe, one character other than a line feed, an apostrophe";
+
+pub(crate) const BAD_WORD: &[u8] = b"a word without a meaning, or of more than 32 bytes";
+
+pub(crate) const UNEXPECTED: &[u8] = b"a token that is not wanted here";
+
+pub(crate) const KEY_TOO_LARGE: &[u8] = b"a slot above 255";
+
+pub(crate) const BAD_CHARACTER: &[u8] =
+    b"a number that is no character: characters are 0 to 0xd7ff and 0xe000 to 0x10ffff";
+
+pub(crate) const BAD_FUNCTION: &[u8] =
+    b"a screen or function key that does not exist: there are scr01 to scr16 and fkey01 to fkey96";
+
+pub(crate) const TOO_MANY_PAIRS: &[u8] = b"an accent has 52 pairs already, and room for no more";
+
+pub(crate) const ZERO_BASE: &[u8] = b"the base of a pair is a character other than 0";
+
+pub(crate) const END_INSIDE: &[u8] = b"the text ends inside a token or a definition";

@@ -43,9 +43,9 @@ use Rattle.kmap_runs.specs.Cover.{number_text, headed, column_text, columns_text
 use Rattle.kmap_runs.specs.Cover.{rows_of, row_at, run_len, begins_run, line_of_row, run_line, slot_lines}
 use Rattle.kmap_runs.specs.Cover.{bases_at, character_text, line_of_characters, accent_line, accent_lines, rest_word}
 use Rattle.kmap_runs.specs.Cover.{counts_line, counts_text, lists_text, all_pairs, part_line, start_line, stroke_line}
-use Rattle.kmap_runs.specs.Cover.{stroke_lines, script_lines, cover_text}
+use Rattle.kmap_runs.specs.Cover.{what_of_stroke, sent_of_stroke, stroke_lines, script_lines, cover_text}
 use Rattle.kmap_runs.specs.Inputs.{moves}
-use Rattle.kmap_runs.specs.Replayed.{what_of_stroke, strokes_sent, ShowsCover, PlaysCover}
+use Rattle.kmap_runs.specs.Replayed.{strokes_sent, ShowsCover, PlaysCover}
 use Rattle.kmap_runs.specs.Runs.{CoversText, IsCovered, PlaysTexts}
 use Rattle.kmap_runs.specs.declared.words.TheConstants as words
 use Rattle.kmap_runs.proofs.Replayed.{feed-flat, taken-whole, same-map}
@@ -323,19 +323,11 @@ quiet-part OneWay = quiet-comment (codes " one-way\n") (codes " one-way", refl, 
 quiet-start : (place : ℕ) (s : Start) → Adds (start_line place s) []
 quiet-start place s = quiet-if (s.at == place) (part_line s.part) (quiet-part s.part)
 
--- what is sent to make a stroke
-abbrev sent_of_stroke : Stroke → Sent
-sent_of_stroke s = record { lost = false; what = what_of_stroke s }
-
 abbrev IsOfKey : Stroke → Type 0
 IsOfKey s = key_of (what_of_stroke s) < key_count
 
 stroke-adds : (s : Stroke) → IsOfKey s → Adds (stroke_line s) (sent_of_stroke s ∷ [])
-unfolding filled
-stroke-adds (Down k) lt rest sent h = line-script (sends (sent_of_stroke (Down k))) rest sent lt h
-stroke-adds (Repeat k) lt rest sent h = line-script (sends (sent_of_stroke (Repeat k))) rest sent lt h
-stroke-adds (Up k) lt rest sent h = line-script (sends (sent_of_stroke (Up k))) rest sent lt h
-stroke-adds Reset lt rest sent h = line-script (sends (sent_of_stroke Reset)) rest sent lt h
+stroke-adds s lt rest sent h = line-script (sends (sent_of_stroke s)) rest sent lt h
 
 -- what is left of a list begins with the element at this place
 drop_is : {X : Type 0} (xs : List X) (n : ℕ) (x d : X) (rest : List X) → drop n xs ≡ x ∷ rest

@@ -22,6 +22,10 @@ use Rattle.keymap_cover.specs.declared.stroke.Stroke.TheVariants.{Down, Repeat, 
 use Rattle.keymap_tour.specs.declared.Part.{Part}
 use Rattle.keymap_tour.specs.declared.Part.TheVariants.{Looks, Accents, Rules, OneWay}
 use Rattle.keymap_tour.specs.declared.Start.{Start}
+use Rattle.play_core.specs.Spelling.{sent_line}
+use Rattle.play_core.specs.declared.sent.Sent.{Sent}
+use Rattle.play_core.specs.declared.sent.What.{What}
+use Rattle.play_core.specs.declared.sent.What.TheVariants as what
 use Rattle.kmap_runs.specs.declared.words.TheConstants as words
 use Rattle.messages.specs.Filled.{filled}
 
@@ -173,11 +177,18 @@ part_line OneWay = words.ONE_WAY.now
 abbrev pub start_line : ℕ → Start → List ℕ
 start_line place s = if s.at == place then part_line s.part else []
 
+-- what is sent to make a stroke
+abbrev pub what_of_stroke : Stroke → What
+what_of_stroke (Down k) = what.Down k
+what_of_stroke (Repeat k) = what.Repeat k
+what_of_stroke (Up k) = what.Up k
+what_of_stroke Reset = what.Reset
+
+abbrev pub sent_of_stroke : Stroke → Sent
+sent_of_stroke s = record { lost = false; what = what_of_stroke s }
+
 abbrev pub stroke_line : Stroke → List ℕ
-stroke_line (Down k) = filled words.DOWN.now (decimal k ∷ [])
-stroke_line (Repeat k) = filled words.REPEAT.now (decimal k ∷ [])
-stroke_line (Up k) = filled words.UP.now (decimal k ∷ [])
-stroke_line Reset = words.RESET.now
+stroke_line s = sent_line (sent_of_stroke s)
 
 -- the event at a place, behind comments for the parts that begin there
 abbrev pub stroke_lines : List Start → List Stroke → ℕ → List ℕ

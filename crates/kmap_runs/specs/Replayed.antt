@@ -1,5 +1,5 @@
 -- What the printed scripts do when they are played back.
-use Rattle.std.specs.Prelude.{◌≡◌, ◌⊎◌, ◌<◌, ◌^◌, ℕ, false, List, [], ◌++◌, map, reverse}
+use Rattle.std.specs.Prelude.{◌≡◌, ◌⊎◌, ◌<◌, ◌^◌, ℕ, List, [], ◌++◌, map, reverse}
 use Rattle.keymap_core.specs.Maps.{MapValue}
 use Rattle.console_core.specs.declared.outcome.Sticking.{Sticking}
 use Rattle.console_core.specs.declared.outcome.Sticking.TheVariants.{Sticks, Never, Undecided}
@@ -9,11 +9,7 @@ use Rattle.console_core.specs.Sticking.{LeavesOn, LeavesOnBetween}
 use Rattle.keymap_text.specs.Meaning.{Spells}
 use Rattle.keymap_check.specs.Report.{report_of}
 use Rattle.keymap_cover.specs.declared.parts.Cover.{Cover}
-use Rattle.keymap_cover.specs.declared.stroke.Stroke.{Stroke}
-use Rattle.keymap_cover.specs.declared.stroke.Stroke.TheVariants as stroke
 use Rattle.keymap_cover.specs.Covering.{Covers, events}
-use Rattle.play_core.specs.declared.sent.What.{What}
-use Rattle.play_core.specs.declared.sent.What.TheVariants.{Down, Repeat, Up, Reset}
 use Rattle.play_core.specs.declared.sent.Sent.{Sent}
 use Rattle.play_core.specs.declared.show.Show.{Show}
 use Rattle.play_core.specs.declared.show.Show.TheVariants as show
@@ -21,6 +17,7 @@ use Rattle.play_core.specs.Delivery.{delivered}
 use Rattle.play_core.specs.Scripts.{IsScript}
 use Rattle.play_core.specs.Typing.{alone}
 use Rattle.play_core.specs.Written.{played_text}
+use Rattle.kmap_runs.specs.Cover.{sent_of_stroke}
 use Rattle.kmap_runs.specs.Report.{check_text}
 use Rattle.kmap_runs.specs.declared.words.TheConstants as words
 use Rattle.kmap_runs.specs.Search.{found_text}
@@ -63,16 +60,9 @@ ShowsScript m text =
 
 -- ---- a script that tests a console
 
--- what is sent to make a stroke
-abbrev pub what_of_stroke : Stroke → What
-what_of_stroke (stroke.Down k) = Down k
-what_of_stroke (stroke.Repeat k) = Repeat k
-what_of_stroke (stroke.Up k) = Up k
-what_of_stroke stroke.Reset = Reset
-
 -- what is sent to make the strokes of a cover, in their order
 abbrev pub strokes_sent : Cover → List Sent
-strokes_sent c = map (λ s. record { lost = false; what = what_of_stroke s }) c.strokes.items
+strokes_sent c = map sent_of_stroke c.strokes.items
 
 -- The text is a script of the strokes of a cover of the map, and of nothing else. It delivers the events that this
 -- cover speaks of.

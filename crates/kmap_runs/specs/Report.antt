@@ -11,8 +11,8 @@ use Rattle.keymap_check.specs.declared.bearer.Bearer.{Bearer}
 use Rattle.keymap_check.specs.declared.bearer.Bearer.TheVariants.{Nobody, Throughout, Sole, Several}
 use Rattle.keymap_check.specs.declared.finding.Finding.{Finding}
 use Rattle.keymap_check.specs.Report.{ReportValue, report_of, bearer_in, is_steady_in}
+use Rattle.keymap_check.specs.Said.{finding_words}
 use Rattle.keymap_check.specs.Scripts.{demonstration_of}
-use Rattle.keymap_draw.specs.Keys.{finding_words}
 use Rattle.play_core.specs.Spelling.{event_line}
 use Rattle.kmap_runs.specs.declared.words.TheConstants as words
 use Rattle.messages.specs.Filled.{filled}

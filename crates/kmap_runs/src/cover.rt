@@ -7,15 +7,15 @@ ghost use Rattle.console_core.specs.declared.selection.Sight.TheVariants as Sigh
 ghost use Rattle.keymap_cover.specs.Covering.{verdict_of, is_verdict};
 ghost use Rattle.kmap_runs.specs.Cover as spec;
 
+use crate::event_lines::event_line;
 use crate::words::{
-    ACCENTS, ALL_PAIRS, BOTH_LOCKS, CELLS, CLOCK, COLUMNS, COUNTS, DOWN, LEFT_OUT, LISTED,
-    LOCK_SETTINGS, LOCKS, LOOKS, NEVER, NLOCK, NO_LOCK, ONE_SLOT, ONE_WAY, PAIRS, REPEAT, RESET,
-    RULES, SLOTS, UNSTUCK, UP,
+    ACCENTS, ALL_PAIRS, BOTH_LOCKS, CELLS, CLOCK, COLUMNS, COUNTS, LEFT_OUT, LISTED, LOCK_SETTINGS,
+    LOCKS, LOOKS, NEVER, NLOCK, NO_LOCK, ONE_SLOT, ONE_WAY, PAIRS, REPEAT, RULES, SLOTS, UNSTUCK,
 };
-use console_core::Sight;
+use console_core::{Event, Sight};
 use keymap_core::{ACCENT_LIMIT, Accent, AccentIndex, Action, COLUMN_COUNT, KeyMap, SLOT_LIMIT};
 use keymap_cover::{Counts, Cover, Part, Start, Stroke, Verdict, cells, lock_settings};
-use messages::{either, fill, number};
+use messages::{either, fill, number, small};
 use std::alloc::{AllocError, Global};
 
 /// A script of a keymap, and which sights are listed.
@@ -496,15 +496,17 @@ fn push_starts(text: &mut Vec<u8>, place: usize, starts: &[Start]) -> Result<(),
 }
 
 /// Adds the line of an event.
+#[tactic(auto, unfolding(messages::specs::Filled::filled))]
 fn push_stroke(text: &mut Vec<u8>, stroke: &Stroke) -> Result<(), AllocError>
     ensures { OnOk result (text.new.items ≡ text.old.items ++ spec.stroke_line stroke.now) }
 {
-    match stroke {
-        Stroke::Down(key) => fill(text, DOWN, &[number(u64::from(key.get())).as_slice()]),
-        Stroke::Repeat(key) => fill(text, REPEAT, &[number(u64::from(key.get())).as_slice()]),
-        Stroke::Up(key) => fill(text, UP, &[number(u64::from(key.get())).as_slice()]),
-        Stroke::Reset => text.extend_from_slice(RESET),
-    }
+    let event = match stroke {
+        Stroke::Down(key) => Event::Press(*key),
+        Stroke::Repeat(key) => return fill(text, REPEAT, &[small(key.get()).as_slice()]),
+        Stroke::Up(key) => Event::Release(*key),
+        Stroke::Reset => Event::Reset,
+    };
+    text.extend_from_slice(event_line(event).as_slice())
 }
 
 /// Adds the events, each behind comments for the parts that begin there.

@@ -16,6 +16,7 @@
 
 mod cover;
 mod cover_runs;
+mod event_lines;
 mod fault_line;
 mod fmt_runs;
 mod inputs;
@@ -26,7 +27,6 @@ mod report;
 mod runs;
 mod search;
 mod search_runs;
-mod text;
 mod type_runs;
 mod typing;
 mod words;

@@ -7,15 +7,14 @@ ghost use Rattle.keymap_check.specs.Scripts.{demonstration_of};
 ghost use Rattle.play_core.specs.Spelling.{event_line};
 ghost use Rattle.kmap_runs.specs.Report as spec;
 
-use crate::text::{append, append_byte};
+use crate::event_lines::{append, append_event};
 use crate::words::{
     ACCEPTED, DEMONSTRATION, NO_DEMONSTRATION, NOBODY, REFUSED, SEVERAL, SOLE, STEADY, THROUGHOUT,
 };
 use arrayvec::ArrayVec;
 use console_core::Event;
-use keymap_check::{Bearer, Finding, Report, demonstrate};
+use keymap_check::{Bearer, Finding, Report, demonstrate, finding_words};
 use keymap_core::{HOLDINGS, Holding, KeyMap};
-use keymap_draw::finding_words;
 use messages::{Line, either, line, small};
 
 /// How many bytes a report has at most: the verdict, a line for each of 128 findings and of 12 holding actions, and the
@@ -75,27 +74,6 @@ fn append_holdings(text: &mut Text, report: &Report, holdings: &[Holding])
 {
     for holding in holdings {
         append(text, holding_line(report, *holding).as_slice());
-    }
-}
-
-pub(crate) fn append_event<const N: usize>(text: &mut ArrayVec<u8, N>, event: Event)
-    requires { array_vec_len text.old + 9 ≤ N }
-    ensures text { text.new.items ≡ text.old.items ++ event_line event }
-    ensures bound { array_vec_len text.new ≤ array_vec_len text.old + 9 }
-{
-    match &event {
-        Event::Press(key) => {
-            append(text, b"down ");
-            append_byte(text, key.get());
-            append(text, b"\n");
-        }
-        Event::Release(key) => {
-            append(text, b"up ");
-            append_byte(text, key.get());
-            append(text, b"\n");
-        }
-        Event::Reset => append(text, b"reset\n"),
-        Event::Load => append(text, b"load\n"),
     }
 }
 

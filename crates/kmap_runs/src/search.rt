@@ -1,37 +1,14 @@
 //! What the search for sticking modifiers found, as a script that `kmap play` reads.
 ghost use Rattle.std.specs.Prelude.{◌≡◌, ◌++◌, IfOk, OnOk};
 ghost use Rattle.std.specs.List.{flat_map};
-ghost use Rattle.play_core.specs.Spelling.{event_line as event_line_of};
 ghost use Rattle.kmap_runs.specs.Search as spec;
 
-use crate::report::append_event;
+use crate::event_lines::push_events;
 use crate::words::{NEVER_STICKS, STICKS, UNDECIDED};
-use arrayvec::ArrayVec;
 use console_core::{Event, Sticking};
 use keymap_core::{Holding, Modifier};
 use messages::{fill, number, parted};
 use std::alloc::{AllocError, Global};
-
-/// How many bytes the line of an event has at most.
-const LINE: usize = 16;
-
-/// The line of a script that delivers the event.
-fn event_line(event: Event) -> ArrayVec<u8, LINE>
-    ensures { result.items ≡ event_line_of event }
-{
-    let mut line = ArrayVec::new();
-    append_event(&mut line, event);
-    line
-}
-
-pub(crate) fn push_events(text: &mut Vec<u8>, events: &[Event]) -> Result<(), AllocError>
-    ensures { OnOk result (text.new.items ≡ text.old.items ++ flat_map event_line_of events.now) }
-{
-    for event in events {
-        text.extend_from_slice(event_line(*event).as_slice())?;
-    }
-    Ok(())
-}
 
 /// The names of the modifiers, each after a blank.
 fn push_names(text: &mut Vec<u8>, modifiers: &[Modifier]) -> Result<(), AllocError>

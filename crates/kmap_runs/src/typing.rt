@@ -3,7 +3,7 @@ ghost use Rattle.std.specs.Prelude.{◌≡◌, ◌<◌, ◌++◌, length, positi
 ghost use Rattle.std.specs.List.{flat_map, before_first};
 ghost use Rattle.kmap_runs.specs.Typing as spec;
 
-use crate::search::push_events;
+use crate::event_lines::push_events;
 use crate::words::SENTENCE;
 use keymap_core::{code_text, is_unseen};
 use messages::parted;

@@ -78,11 +78,5 @@ pub(crate) const RULES: &[u8] = b"# rules\n";
 
 pub(crate) const ONE_WAY: &[u8] = b"# one-way\n";
 
-// Its events.
-pub(crate) const DOWN: &[u8] = b"down {}\n";
-
+// A repeat, which no other printed script has.
 pub(crate) const REPEAT: &[u8] = b"repeat {}\n";
-
-pub(crate) const UP: &[u8] = b"up {}\n";
-
-pub(crate) const RESET: &[u8] = b"reset\n";

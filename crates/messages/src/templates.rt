@@ -70,21 +70,19 @@ fn put(line: &mut Line, text: &[u8])
 }
 
 /// Adds words with a text at each of their places to a line that has room for them.
-#[tactic(auto, using(std::proofs::Common::append_assoc), unfolding(crate::specs::Filled::filled))]
 fn put_filled(line: &mut Line, words: &[u8], told: &[&[u8]])
     requires places { IsTrue (spec.has_places words.now (map (λ t. t.now) told.now)) }
     requires room { spec.HasRoom (array_vec_len line.old) words.now (map (λ t. t.now) told.now) }
     ensures { line.new.items ≡ line.old.items ++ spec.filled words.now (map (λ t. t.now) told.now) }
 {
-    match told {
-        [] => put(line, words),
-        [first, rest @ ..] => {
-            let (before, behind) = parted(words);
-            put(line, before);
-            put(line, first);
-            put_filled(line, behind, rest);
-        }
+    let mut rest = words;
+    for text in told {
+        let (before, behind) = parted(rest);
+        put(line, before);
+        put(line, text);
+        rest = behind;
     }
+    put(line, rest);
 }
 
 /// A line of words with a text at each of their places.

@@ -6,11 +6,12 @@ use Rattle.std.specs.Prelude.{All}
 use Rattle.std.proofs.lemmas.List.Elements.{All-nil, All-cons, All-append, All-head, All-tail}
 use Rattle.keymap_core.specs.Maps.{MapValue}
 use Rattle.keymap_core.specs.Below.{gathered, first_below}
-use Rattle.keymap_core.proofs.Below.{first_below-some, IsFirstBelow}
+use Rattle.keymap_core.proofs.Below.{first_below-some}
+use Rattle.keymap_core.specs.Held.{has_bit, is_other, lacks_key}
 use Rattle.play_core.specs.Types.{Event}
 use Rattle.console_core.specs.declared.event.Event.TheVariants.{Press, Release}
 use Rattle.console_core.specs.History.{HasKey, HasKeys}
-use Rattle.play_core.specs.HeldKeys.{is_bit_key, bit_key, bit_keys, listed, has_bit, held_for, held_keys, lacks_key}
+use Rattle.play_core.specs.HeldKeys.{bears_bit, bit_key, bit_keys, listed, held_for, held_keys}
 use Rattle.play_core.specs.HeldKeys.{combination, combinations_of, combinations_with, combinations}
 
 -- keys that are held, and a key, are pressed and released
@@ -51,8 +52,8 @@ held-keys false ks keys = All-nil IsKey
 bit-keys : (m : MapValue) (k bit : ℕ) → AreKeys (listed (bit_key m k bit))
 unfolding bit_key
 bit-keys m k bit =
-    listed-keys (first_below (is_bit_key m bit k) 128)
-    (λ j e. let s : IsFirstBelow (is_bit_key m bit k) 128 j = first_below-some (is_bit_key m bit k) 128 j e in s.0)
+    listed-keys (first_below (is_other (bears_bit m bit) k) 128)
+    (λ j e. (first_below-some (is_other (bears_bit m bit) k) 128 j e).0)
 
 -- the keys held for a set are keys
 all-held : (m : MapValue) (set k : ℕ) → AreKeys (held_keys (bit_keys m k) set)

@@ -11,9 +11,10 @@ use Rattle.std.specs.List.{flat_map}
 use Rattle.std.specs.Option.{option_or, option_copied}
 use Rattle.std.proofs.lemmas.List.Folds.{find-append}
 use Rattle.keymap_core.specs.Maps.{MapValue, accent_at}
+use Rattle.keymap_core.specs.Held.{lacks_key}
 use Rattle.play_core.specs.Types.{Event}
 use Rattle.console_core.specs.History.{accent_pending_after}
-use Rattle.play_core.specs.HeldKeys.{held_keys, lacks_key, combination_with, combinations}
+use Rattle.play_core.specs.HeldKeys.{held_keys, combination_with, combinations}
 use Rattle.play_core.specs.Typing.{alone, is_at_rest, character_typed_by, accent_left_by, first_with, is_now}
 use Rattle.play_core.specs.Typing.{direct_way, dead_way, typing_answers, unless_any, way_for, accented, accented_by}
 use Rattle.play_core.specs.Typing.{bases_of, joined}

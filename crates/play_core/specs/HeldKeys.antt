@@ -1,14 +1,14 @@
 -- The ways to press one key: by itself, or while the keys of a set of modifiers are held.
-use Rattle.std.specs.Prelude.{ℕ, ◌+◌, ◌/◌, ◌%◌, ◌^◌, ◌==◌, Bool, ◌&&◌, ◌||◌, not, List, [], ◌∷◌, ◌++◌, map, Option}
-use Rattle.std.specs.Prelude.{None, Some, if◌then◌else◌, slice_index_or}
-use Rattle.std.specs.Option.{is_some}
+use Rattle.std.specs.Prelude.{ℕ, ◌+◌, ◌==◌, Bool, ◌&&◌, ◌||◌, List, [], ◌∷◌, ◌++◌, map, Option, None}
+use Rattle.std.specs.Prelude.{Some, if◌then◌else◌}
 use Rattle.play_core.specs.Types.{Modifier, Event}
 use Rattle.keymap_core.specs.declared.action.Modifier.TheVariants.{LeftShift, RightShift, LeftControl, RightControl}
 use Rattle.keymap_core.specs.declared.action.Modifier.TheVariants.{LeftAlt, RightAlt, AltShift}
 use Rattle.keymap_core.specs.declared.action.Action.TheVariants as act
 use Rattle.keymap_core.specs.Maps.{MapValue}
-use Rattle.keymap_core.specs.Below.{first_below, gathered}
+use Rattle.keymap_core.specs.Below.{gathered}
 use Rattle.keymap_core.specs.Borne.{has_in_slot, is_upper_live}
+use Rattle.keymap_core.specs.Held.{has_bit, key_at, lacks_key, least_other}
 use Rattle.keymap_core.specs.Numbers.{key_count}
 use Rattle.console_core.specs.declared.event.Event.TheVariants.{Press, Release}
 
@@ -24,16 +24,9 @@ bears_bit m bit k =
     else if bit == 2 then bears_modifier m LeftAlt k || bears_modifier m RightAlt k
     else bears_modifier m AltShift k
 
-abbrev pub has_bit : ℕ → ℕ → Bool
-has_bit set bit = ((set / 2 ^ bit) % 2) == 1
-
--- the key j can be held for the bit while the key k is pressed
-abbrev pub is_bit_key : MapValue → ℕ → ℕ → ℕ → Bool
-is_bit_key m bit k j = not (j == k) && bears_bit m bit j
-
--- the key that is held for a bit while the key k is pressed: the least that can be held
+-- the key that is held for a bit while the key k is pressed: the least other one that bears a modifier of the bit
 unfoldable pub bit_key : MapValue → ℕ → ℕ → Option ℕ
-bit_key m k bit = first_below (is_bit_key m bit k) key_count
+bit_key m k bit = least_other (bears_bit m bit) k
 
 abbrev pub bit_keys : MapValue → ℕ → List (Option ℕ)
 bit_keys m k = bit_key m k 0 ∷ bit_key m k 1 ∷ bit_key m k 2 ∷ bit_key m k 3 ∷ []
@@ -42,22 +35,12 @@ abbrev pub listed : Option ℕ → List ℕ
 listed None = []
 listed (Some k) = k ∷ []
 
-abbrev pub key_at : List (Option ℕ) → ℕ → Option ℕ
-key_at keys bit = slice_index_or keys bit None
-
 abbrev pub held_for : List (Option ℕ) → ℕ → ℕ → List ℕ
 held_for keys set bit = if has_bit set bit then listed (key_at keys bit) else []
 
 -- the keys that are held for a set, in the order of its bits
 abbrev pub held_keys : List (Option ℕ) → ℕ → List ℕ
 held_keys keys set = held_for keys set 0 ++ held_for keys set 1 ++ held_for keys set 2 ++ held_for keys set 3
-
--- the set has the bit, and no key can be held for it
-abbrev pub is_lacking : List (Option ℕ) → ℕ → ℕ → Bool
-is_lacking keys set bit = has_bit set bit && not (is_some (key_at keys bit))
-
-abbrev pub lacks_key : List (Option ℕ) → ℕ → Bool
-lacks_key keys set = is_lacking keys set 0 || is_lacking keys set 1 || is_lacking keys set 2 || is_lacking keys set 3
 
 -- press the held keys, press the key; release the key, release the held keys
 abbrev pub combination : List ℕ → ℕ → List Event

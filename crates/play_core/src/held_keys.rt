@@ -10,13 +10,12 @@ ghost use Rattle.play_core.specs.Inner.HeldTables.{AreHeldKeys};
 
 use arrayvec::ArrayVec;
 use console_core::Event;
-use keymap_core::{Holding, KEY_COUNT, KeyCode, KeyMap, Modifier, key_with};
+use keymap_core::{
+    BitKeys, Holding, KEY_COUNT, KeyCode, KeyMap, Modifier, has_bit, key_with, lacks_key, least_other,
+};
 
 /// The events that type a character: a key, and before it perhaps a dead key, each with at most four held keys.
 pub type Way = ArrayVec<Event, 20>;
-
-/// The keys that are held for the four bits of a set: shift, control, alt and ashift.
-pub(crate) type BitKeys = [Option<KeyCode>; 4];
 
 /// Whether some cell of the key is the modifier.
 fn bears(map: &KeyMap, is_upper_live: bool, modifier: Modifier, key: u8) -> bool
@@ -65,28 +64,14 @@ fn bearers(map: &KeyMap, is_upper_live: bool, bit: u8) -> [bool; KEY_COUNT]
     bearers
 }
 
-/// Whether the key can be held for the bit while the other one is pressed.
-fn is_bit_key(map: &KeyMap, bearers: &[bool; KEY_COUNT], bit: u8, pressed: u8, key: u8) -> bool
-    requires bearers { (k : ℕ) → k < key_count → slice_index_or bearers.now k false ≡ spec.bears_bit map.now bit k }
-    requires is_key { key < key_count }
-    ensures { result ≡ spec.is_bit_key map.now bit pressed key }
-{
-    // Only the contract names the map.
-    let _ = map;
-    key != pressed && bearers[key as usize]
-}
-
 /// The least key, other than the pressed one, that bears a modifier of the bit.
 fn bit_key(map: &KeyMap, bearers: &[bool; KEY_COUNT], bit: u8, pressed: u8) -> Option<KeyCode>
     requires { (k : ℕ) → k < key_count → slice_index_or bearers.now k false ≡ spec.bears_bit map.now bit k }
     ensures { result ≡ spec.bit_key map.now pressed bit }
 {
-    for key in 0..KEY_COUNT as u8 {
-        if is_bit_key(map, bearers, bit, pressed, key) {
-            return Some(key_with(key));
-        }
-    }
-    None
+    // Only the contract names the map.
+    let _ = map;
+    least_other(bearers, pressed)
 }
 
 /// For each key, the key that is held for the bit while it is pressed.
@@ -138,31 +123,6 @@ impl HeldKeys {
             self.alt_shift[at],
         ]
     }
-}
-
-fn has_bit(set: u8, bit: u8) -> bool
-    requires { bit < 4 }
-    ensures { result ≡ spec.has_bit set bit }
-{
-    (set >> bit) % 2 == 1
-}
-
-/// Whether the set has the bit and no key can be held for it.
-fn is_lacking(keys: &BitKeys, set: u8, bit: u8) -> bool
-    requires { bit < 4 }
-    ensures { result ≡ spec.is_lacking keys.now set bit }
-{
-    has_bit(set, bit) && keys[bit as usize].is_none()
-}
-
-/// Whether the set has a bit for which no key can be held.
-fn lacks_key(keys: &BitKeys, set: u8) -> bool
-    ensures { result ≡ spec.lacks_key keys.now set }
-{
-    is_lacking(keys, set, 0)
-        || is_lacking(keys, set, 1)
-        || is_lacking(keys, set, 2)
-        || is_lacking(keys, set, 3)
 }
 
 /// Adds the press of the key that is held for the bit, if the set has it.

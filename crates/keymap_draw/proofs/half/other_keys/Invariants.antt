@@ -1,6 +1,6 @@
 use Rattle.std.proofs.Common.{◌≡◌, ◌≤◌, length}
 use Rattle.keymap_draw.specs.Halves.{is_other}
-use Rattle.keymap_draw.specs.Below.{passing}
+use Rattle.keymap_core.specs.Below.{passing}
 use Rattle.keymap_draw.proofs.half.other_keys.Given as goal
 
 abbrev pub invariant-loop-key : goal.invariant-loop-key

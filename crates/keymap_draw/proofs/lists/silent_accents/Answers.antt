@@ -5,7 +5,7 @@ use Rattle.keymap_draw.proofs.lists.silent_accents.Goals as goal
 pub loop-index-preserved : goal.loop-index-preserved
 loop-index-preserved c = record {
   passed = passing-more _ _ _ _ _ c.is_silent.ensures c.loop-index.invariant.passed c.push_if.ensures.items;
-  few = omega (arith, c.push_if.ensures.len, c.loop-index.invariant.few);
+  few = omega (arith, c.push_if.ensures.room, c.loop-index.invariant.few);
 }
 
 pub returns-clause-known : goal.returns-clause-known

@@ -20,8 +20,8 @@ loop-accent-preserved c =
       found =
           gathered_step (missing_accent c.args.text.now c.args.cells.now) c.loop-accent.accents.items _ _
           c.loop-accent.accent c.loop-accent.invariant.found
-          (ap (λ b. cond b (c.loop-accent.accent ∷ []) []) c.is_absent.ensures) c.add_number.ensures.items;
-      room = omega (arith, c.add_number.ensures.room, c.loop-accent.invariant.room);
+          (ap (λ b. cond b (c.loop-accent.accent ∷ []) []) c.is_absent.ensures) c.push_if.ensures.items;
+      room = omega (arith, c.push_if.ensures.room, c.loop-accent.invariant.room);
     }
 
 pub returns-then-is_none : goal.returns-then-is_none

@@ -15,6 +15,6 @@ loop-number-preserved c =
       found =
           gathered_step (missing_slot c.args.text.now) c.loop-number.slots.items _ _
           c.loop-number.number c.loop-number.invariant.found
-          (ap (λ b. cond b (c.loop-number.number ∷ []) []) c.is_missing.ensures) c.add_number.ensures.items;
-      room = omega (arith, c.add_number.ensures.room, c.loop-number.invariant.room);
+          (ap (λ b. cond b (c.loop-number.number ∷ []) []) c.is_missing.ensures) c.push_if.ensures.items;
+      room = omega (arith, c.push_if.ensures.room, c.loop-number.invariant.room);
     }

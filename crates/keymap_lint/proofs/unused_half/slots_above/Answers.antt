@@ -15,6 +15,6 @@ loop-key-preserved c =
       found =
           gathered_step (slot_above c.args.text.now) c.loop-key.slots.items _ _ c.loop-key.key
           c.loop-key.invariant.found
-          (ap (λ b. cond b ((c.loop-key.key + 128) ∷ []) []) c.defines.ensures) c.add_number.ensures.items;
-      room = omega (arith, c.add_number.ensures.room, c.loop-key.invariant.room);
+          (ap (λ b. cond b ((c.loop-key.key + 128) ∷ []) []) c.defines.ensures) c.push_if.ensures.items;
+      room = omega (arith, c.push_if.ensures.room, c.loop-key.invariant.room);
     }

@@ -3,7 +3,7 @@ use Rattle.std.specs.Prelude.{find}
 use Rattle.keymap_core.specs.Below.{gathered}
 use Rattle.keymap_check.specs.Scripts.{leaves_modifier_on, scripts_of}
 use Rattle.keymap_check.proofs.Firsts.{try-start, try-more, try-found}
-use Rattle.keymap_check.proofs.demonstration.try_first_set.Goals as goal
+use Rattle.keymap_check.proofs.demonstration.try_from.Goals as goal
 
 pub loop-b-init : goal.loop-b-init
 loop-b-init c = try-start (leaves_modifier_on c.args.map.now) (scripts_of c.args.keys.now c.args.key c.args.a)

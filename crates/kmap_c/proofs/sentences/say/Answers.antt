@@ -1,6 +1,6 @@
 use Rattle.std.proofs.Common.{arith, refl, ◌≤◌, []}
 use Rattle.kmap_c.proofs.Said.{set-behind}
-use Rattle.kmap_c.proofs.words.say.Goals as goal
+use Rattle.kmap_c.proofs.sentences.say.Goals as goal
 
 pub returns : goal.returns
 returns c =

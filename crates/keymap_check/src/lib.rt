@@ -37,5 +37,5 @@ pub use bearer::Bearer;
 pub use demonstration::demonstrate;
 pub use finding::{Finding, Place};
 pub use report::{Report, check, check_shown, first_finding};
-pub use said::{finding_words, said_of_key};
+pub use said::{finding_words, say_of_key};
 pub use script::Script;

@@ -19,7 +19,9 @@ use crate::words::{
 };
 use arrayvec::ArrayVec;
 use keymap_check::{Finding, finding_words};
-use keymap_core::{ACCENT_LIMIT, Accent, AccentIndex, Action, Cell, Entry, KEY_COUNT, KeyMap, push_if};
+use keymap_core::{
+    ACCENT_LIMIT, Accent, AccentIndex, Action, Cell, Entry, KEY_COUNT, KeyMap, push_if,
+};
 use keymap_text::accent_words;
 use messages::{fill, number};
 

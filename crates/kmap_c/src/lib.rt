@@ -51,7 +51,7 @@ ghost use Rattle.kmap_c.specs.Numbers.{event_of as event_of_number, are_events a
 ghost use Rattle.kmap_c.specs.Numbers.{kind_number, accent_number};
 
 use crate::print::print_tables;
-use crate::sentences::{finding_sentence, say, table_sentence, text_sentence};
+use crate::sentences::{push_finding_sentence, say, table_sentence, text_sentence};
 use console_core::laws::modifiers_follow_keys;
 use console_core::{
     Event, WordStore, locks_kept, modifiers_kept, pending_kept, start_kept, step_kept,
@@ -60,6 +60,7 @@ use keymap_check::{Bearer, Finding, check_shown, first_finding};
 use keymap_core::{Cell, Holding, KeyCode, Keymap, Lock, Modifier};
 use keymap_tables::{Filling, TableFaultKind, TableFile, Tables, check_tables};
 use keymap_text::{TextFaultKind, read_into};
+use messages::Line;
 
 /// The statuses of the calls.
 pub(crate) const DONE: i32 = 0;
@@ -393,10 +394,9 @@ pub extern "C" fn kmap_finding_words(finding: &KmapFinding, words: &mut [u8]) ->
     if finding.holding > 11 {
         return BAD_HOLDING;
     }
-    say(
-        finding_sentence(holding_of(finding.holding), finding).as_slice(),
-        words,
-    )
+    let mut line = Line::new();
+    push_finding_sentence(&mut line, holding_of(finding.holding), finding);
+    say(line.as_slice(), words)
 }
 
 /// What a caller in C is told of a bearer.

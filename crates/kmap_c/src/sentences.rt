@@ -1,5 +1,6 @@
 //! Which sentence says what: for the numbers of kinds of faults and for findings, in a buffer of the caller.
-ghost use Rattle.std.specs.Prelude.{◌≡◌, ◌≤◌, [], length, slice_index_or};
+ghost use Rattle.std.specs.Prelude.{◌≡◌, ◌≤◌, ◌++◌, [], length, slice_index_or};
+ghost use Rattle.arrayvec.specs.ArrayVec.{array_vec_len};
 ghost use Rattle.kmap_c.specs.Sentences.{IsSaid};
 ghost use Rattle.kmap_c.specs.Sentences as spec;
 
@@ -10,7 +11,7 @@ use crate::words::{
     TOO_MANY_PAIRS, TOO_SHORT, UNEXPECTED, ZERO_BASE,
 };
 use crate::{DONE, KmapFinding, NO_ROOM};
-use keymap_check::{Place, said_of_key};
+use keymap_check::{Place, say_of_key};
 use keymap_core::Holding;
 use messages::Line;
 
@@ -54,9 +55,10 @@ pub(crate) fn text_sentence(kind: u32) -> &'static [u8]
     }
 }
 
-/// The sentence of a finding of a modifier or lock: the line of `kmap check`.
-pub(crate) fn finding_sentence(holding: Holding, finding: &KmapFinding) -> Line
-    ensures { result.items ≡ spec.finding_sentence holding finding.now }
+/// Adds to an empty line the sentence of a finding of a modifier or lock: what `kmap check` says.
+pub(crate) fn push_finding_sentence(line: &mut Line, holding: Holding, finding: &KmapFinding)
+    requires { array_vec_len line.old ≡ 0 }
+    ensures { line.new.items ≡ line.old.items ++ spec.finding_sentence holding finding.now }
 {
     let holding_at = Place {
         slot: finding.holding_slot,
@@ -66,7 +68,7 @@ pub(crate) fn finding_sentence(holding: Holding, finding: &KmapFinding) -> Line
         slot: finding.character_slot,
         column: finding.character_column,
     };
-    said_of_key(finding.key, holding, holding_at, character_at)
+    say_of_key(line, finding.key, holding, holding_at, character_at);
 }
 
 /// Puts a sentence and a 0 in front, where there is room for both.

@@ -12,8 +12,7 @@ pub(crate) const BAD_PAD: &[u8] = b"a pad that is not 0";
 
 pub(crate) const BAD_FLAG: &[u8] = b"a lock flag above 3";
 
-pub(crate) const BAD_ACTION: &[u8] =
-    b"a number that is no action, in a cell that is marked as one";
+pub(crate) const BAD_ACTION: &[u8] = b"a number that is no action, in a cell that is marked as one";
 
 pub(crate) const COMBINED: &[u8] = b"a modifier joined with alock, which is not supported";
 

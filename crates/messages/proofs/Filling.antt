@@ -1,6 +1,6 @@
 -- Texts that are put at the places of some words, one after another.
 use Rattle.std.proofs.Common.{◌≡◌, ℕ, ◌+◌, ◌<◌, ◌≤◌, List, [], ◌∷◌, ◌++◌, length, drop, get_or}
-use Rattle.std.proofs.Common.{map, Bor, append_assoc, add-one, drop-cons, sym, ap, subst, ◌∙◌, length-append}
+use Rattle.std.proofs.Common.{map, Bor, append_assoc, add-one, drop-cons, refl, sym, ap, subst, ◌∙◌, length-append}
 use Rattle.std.specs.Prelude.{IsTrue}
 use Rattle.std.proofs.Math.ListN.{drop_of_length-le}
 use Rattle.std.proofs.lemmas.Bool.{and_parts}
@@ -32,21 +32,27 @@ pub at-end : (told : List (Bor (List ℕ))) (i : ℕ) (line rest all : List ℕ)
 at-end told i line rest all le left =
     subst (λ ts. IsLeft ts line rest all) (ap (λ l. map (λ t. t.now) l) (drop_of_length-le told le)) left
 
--- what is left once the words before a place and the text at it are put
-pub left-more : (t : List ℕ) (texts : List (List ℕ)) (line rest before more new all : List ℕ)
-    → IsLeft (t ∷ texts) line rest all → before ≡ words_before rest → more ≡ line ++ before → new ≡ more ++ t
-    → IsLeft texts new (words_behind rest) all
+-- once the words before a place and the text at it are put, the words behind it are left, with the other texts
+pub filled-more : (words next t text : List ℕ) (texts : List (List ℕ)) (old new all : List ℕ) → text ≡ t
+    → next ≡ words_behind words → new ≡ (old ++ words_before words) ++ text → old ++ filled words (t ∷ texts) ≡ all
+    → new ++ filled next texts ≡ all
 unfolding filled
-left-more t texts line rest before more new all left front one two =
-    let e : new ≡ (line ++ words_before rest) ++ t = two ∙ ap (λ l. l ++ t) (one ∙ ap (λ l. line ++ l) front) in
-    let f : List ℕ = filled (words_behind rest) texts in
+filled-more words next t text texts old new all same behind added before =
+    let f : List ℕ = filled (words_behind words) texts in
+    ap (λ w. new ++ filled w texts) behind
+    ∙ ap (λ l. l ++ f) (added ∙ ap (λ l. (old ++ words_before words) ++ l) same)
+    ∙ append_assoc (old ++ words_before words) t f ∙ append_assoc old (words_before words) (t ++ f)
+    ∙ ap (λ l. old ++ l) (sym (append_assoc (words_before words) t f)) ∙ before
+
+-- what is left then of a line that has room
+pub left-more : (t : List ℕ) (texts : List (List ℕ)) (line rest new all : List ℕ) → IsLeft (t ∷ texts) line rest all
+    → new ≡ (line ++ words_before rest) ++ t → IsLeft texts new (words_behind rest) all
+left-more t texts line rest new all left e =
     let size : length new ≡ (length line + length (words_before rest)) + length t =
     ap length e ∙ length-append (line ++ words_before rest) t
     ∙ ap (λ n. n + length t) (length-append line (words_before rest)) in
     record {
-      text = ap (λ l. l ++ f) e ∙ append_assoc (line ++ words_before rest) t f
-          ∙ append_assoc line (words_before rest) (t ++ f)
-          ∙ ap (λ l. line ++ l) (sym (append_assoc (words_before rest) t f)) ∙ left.text;
+      text = filled-more rest (words_behind rest) t t texts line new all refl refl e left.text;
       places = (and_parts _ _ left.places).1;
       room = subst (λ n. HasRoom n (words_behind rest) texts) (sym size) left.room.1;
     }

@@ -6,4 +6,4 @@
 
 mod templates;
 
-pub use templates::{LINE, Line, either, fill, filled, line, number, parted, small};
+pub use templates::{LINE, Line, either, fill, fill_next, filled, line, number, parted, small};

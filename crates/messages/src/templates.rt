@@ -69,18 +69,27 @@ fn put(line: &mut Line, text: &[u8])
     let _ = line.try_extend_from_slice(text);
 }
 
+/// Adds the words before the first place and a text to a line that has room for them, and tells the words behind it.
+pub fn fill_next<'a>(line: &mut Line, words: &'a [u8], text: &[u8]) -> &'a [u8]
+    requires { array_vec_len line.old + length (spec.words_before words.now) + length text.now ≤ LINE }
+    ensures line { line.new.items ≡ (line.old.items ++ spec.words_before words.now) ++ text.now }
+    ensures behind { result.now ≡ spec.words_behind words.now }
+{
+    let (before, behind) = parted(words);
+    put(line, before);
+    put(line, text);
+    behind
+}
+
 /// Adds words with a text at each of their places to a line that has room for them.
-fn put_filled(line: &mut Line, words: &[u8], told: &[&[u8]])
+fn fill_line(line: &mut Line, words: &[u8], told: &[&[u8]])
     requires places { IsTrue (spec.has_places words.now (map (λ t. t.now) told.now)) }
     requires room { spec.HasRoom (array_vec_len line.old) words.now (map (λ t. t.now) told.now) }
     ensures { line.new.items ≡ line.old.items ++ spec.filled words.now (map (λ t. t.now) told.now) }
 {
     let mut rest = words;
     for text in told {
-        let (before, behind) = parted(rest);
-        put(line, before);
-        put(line, text);
-        rest = behind;
+        rest = fill_next(line, rest, text);
     }
     put(line, rest);
 }
@@ -92,7 +101,7 @@ pub fn line(words: &[u8], told: &[&[u8]]) -> Line
     ensures { result.items ≡ spec.filled words.now (map (λ t. t.now) told.now) }
 {
     let mut line = ArrayVec::new();
-    put_filled(&mut line, words, told);
+    fill_line(&mut line, words, told);
     line
 }
 

@@ -11,7 +11,8 @@ ghost use Rattle.play_core.specs.Inner.HeldTables.{AreHeldKeys};
 use arrayvec::ArrayVec;
 use console_core::Event;
 use keymap_core::{
-    BitKeys, Holding, KEY_COUNT, KeyCode, KeyMap, Modifier, has_bit, key_with, lacks_key, least_other,
+    BitKeys, Holding, KEY_COUNT, KeyCode, KeyMap, Modifier, has_bit, key_with, lacks_key,
+    least_other,
 };
 
 /// The events that type a character: a key, and before it perhaps a dead key, each with at most four held keys.

@@ -1,4 +1,4 @@
-use Rattle.std.proofs.Common.{◌≡◌, ◌∙◌, ap, sym, subst, refl, List, ℕ}
+use Rattle.std.proofs.Common.{◌≡◌, ◌∙◌, ◌++◌, ap, sym, subst, refl, List, ℕ}
 use Rattle.std.specs.Prelude.{pos, negsuc}
 use Rattle.keymap_core.specs.declared.action.Holding.{Holding}
 use Rattle.kmap_c.specs.Sentences.{IsSaid, finding_sentence}
@@ -9,7 +9,8 @@ pub returns-clause-said : goal.returns-clause-said
 returns-clause-said c =
     λ a is.
     let sentence : c.as_slice.result.now ≡ finding_sentence a c.args.finding.now =
-    c.as_slice.ensures.value ∙ c.finding_sentence.ensures
+    c.as_slice.ensures.value ∙ c.push_finding_sentence.ensures
+    ∙ ap (λ l. l ++ finding_sentence c.holding_of.result c.args.finding.now) c.new-line.ensures
     ∙ ap (λ (h : Holding). finding_sentence h c.args.finding.now)
     (one_holding c.holding_of.result a (c.holding_of.ensures ∙ sym is)) in
     let s : IsSaid (finding_sentence a c.args.finding.now) c.args.words.now c.say.result c.say.new.words =

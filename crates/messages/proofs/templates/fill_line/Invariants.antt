@@ -1,7 +1,7 @@
 use Rattle.std.proofs.Common.{◌++◌, map}
 use Rattle.messages.specs.Filled.{filled}
 use Rattle.messages.proofs.Filling.{IsLeft, behind}
-use Rattle.messages.proofs.templates.put_filled.Given as goal
+use Rattle.messages.proofs.templates.fill_line.Given as goal
 
 abbrev pub invariant-loop-text : goal.invariant-loop-text
 invariant-loop-text l =

@@ -3,7 +3,8 @@
 # words.rt, in the section "Diagnostics"; of the report and of scripts, those of kmap_runs' words.rt, in "The report of
 # check", "What the search found", "The script that types a sentence" and "The script that tests a console". And that it
 # has the line of `kmap check` on a key, which stands in pictures and in the C library too: the constant FINDING of
-# keymap_check's words.rt; and the sentences of the C library, those of kmap_c's words.rt, in their order.
+# keymap_check's words.rt; the fault lines of kmap_runs' fault_line.rt, in "Fault lines"; and the sentences of the C
+# library, those of kmap_c's words.rt, in their order.
 #
 # A message has `{}` where something is told. The page has it in backquotes, with a letter, a word in capitals or `..`
 # at such a place, or another message, or nothing; or it has it at such a place alone. Names of columns stand in one
@@ -86,6 +87,30 @@ wanted = [(str(n), files[n - 1] if n <= len(files) else "", it) for n, it in enu
 sys.exit(columns != wanted or set(words.values()) != {*files, *texts})
 PYTHON
 
+cat > "$folder/faults.py" << 'PYTHON'
+import re
+import sys
+
+source = open(sys.argv[1], encoding="utf-8").read()
+section = open(sys.argv[2], encoding="utf-8").read().split("\n## Fault lines\n")[1].split("\n## ")[0]
+spans = re.findall(r"`([^`]+)`", section)
+lines = [it.removesuffix("\\n") for it in re.findall(r'const \w+: &\[u8\] =\s*b"kmap: ([^"]*)"', source)]
+place = r"(?:[A-Z]+|U\+hhhh|text)"
+patterns = ["(?:NAME: )?" + place.join(map(re.escape, it.split("{}"))) for it in lines if it.strip("{}: ")]
+sys.exit(not patterns or not all(any(re.fullmatch(it, span) for span in spans) for it in patterns))
+PYTHON
+
+# has_faults FILE: the page has each fault line of this file
+has_faults() {
+    python3 -B "$folder/faults.py" "$1" "$top/docs/FORMATS.md"
+}
+
+# lacks_faults FILE FROM TO: it doesn't where the words are others
+lacks_faults() {
+    sed "s/$2/$3/" "$1" > "$folder/faults.rt"
+    ! cmp -s "$1" "$folder/faults.rt" && ! has_faults "$folder/faults.rt"
+}
+
 # has_rows FILE: the page has the sentences of this file, of table files and of texts, by their numbers
 has_rows() {
     python3 -B "$folder/rows.py" "$1" "$top/docs/FORMATS.md" \
@@ -152,9 +177,13 @@ if is_there python3; then
     holds 'another word of a run of slots is seen' misses "$runs" SLOTS 'slots {} to {}' 'slots {} - {}'
     holds 'another name of a part is seen' misses "$runs" ONE_WAY 'one-way' 'oneway'
     checked=$top/crates/keymap_check/src/words.rt
+    faults=$top/crates/kmap_runs/src/fault_line.rt
     library=$top/crates/kmap_c/src/words.rt
     holds 'the page has the line of the check on a key' has_line "$checked" FINDING
     holds 'another word in that line is seen' lacks_line "$checked" FINDING 'character at slot' 'character in slot'
+    holds 'the page has each fault line' has_faults "$faults"
+    holds 'another word of a fault line is seen' lacks_faults "$faults" 'read fault at' 'fault at'
+    holds 'a place more in a fault line is seen' lacks_faults "$faults" 'script line {}' 'script {} line {}'
     holds 'the page has the sentences of the C library' has_rows "$library"
     holds 'another word of a sentence is seen' lacks_rows "$library" 'a slot above 255' 'a slot above 256'
     holds 'a sentence in place of another is seen' lacks_rows "$library" 'a lock flag above 3' 'a pad that is not 0'

@@ -1,12 +1,13 @@
 //! The lines of a script: one for each event.
-ghost use Rattle.std.specs.Prelude.{◌≡◌, ◌+◌, ◌≤◌, ◌++◌, length, OnOk};
+ghost use Rattle.std.specs.Prelude.{◌≡◌, ◌+◌, ◌≤◌, ◌++◌, decimal, length, OnOk};
 ghost use Rattle.std.specs.List.{flat_map};
 ghost use Rattle.arrayvec.specs.ArrayVec.{array_vec_len};
 ghost use Rattle.play_core.specs.Spelling.{event_line as event_line_of};
 
 use arrayvec::ArrayVec;
 use console_core::Event;
-use messages::small;
+use itoa::Buffer;
+use keymap_core::KeyCode;
 use std::alloc::AllocError;
 
 pub(crate) fn append<const N: usize>(text: &mut ArrayVec<u8, N>, piece: &[u8])
@@ -14,6 +15,16 @@ pub(crate) fn append<const N: usize>(text: &mut ArrayVec<u8, N>, piece: &[u8])
     ensures { text.new.items ≡ text.old.items ++ piece.now }
 {
     let _ = text.try_extend_from_slice(piece);
+}
+
+/// Adds the number of a key, of at most 3 digits. They are written here, since `type` prints some lines a character.
+fn append_key<const N: usize>(text: &mut ArrayVec<u8, N>, key: KeyCode)
+    requires { array_vec_len text.old + 3 ≤ N }
+    ensures text { text.new.items ≡ text.old.items ++ decimal key }
+    ensures bound { array_vec_len text.new ≤ array_vec_len text.old + 3 }
+{
+    let mut buffer = Buffer::new();
+    append(text, buffer.format(key.get()).as_bytes());
 }
 
 /// Adds the line that delivers the event.
@@ -25,12 +36,12 @@ pub(crate) fn append_event<const N: usize>(text: &mut ArrayVec<u8, N>, event: Ev
     match &event {
         Event::Press(key) => {
             append(text, b"down ");
-            append(text, small(key.get()).as_slice());
+            append_key(text, *key);
             append(text, b"\n");
         }
         Event::Release(key) => {
             append(text, b"up ");
-            append(text, small(key.get()).as_slice());
+            append_key(text, *key);
             append(text, b"\n");
         }
         Event::Reset => append(text, b"reset\n"),

@@ -73,13 +73,14 @@ test: all
 
 edits:
 	@RT="$(RT)" python3 tests/edits --write $(EDITS)
+	@RT="$(RT)" python3 tests/driver --write
 
 # `rt ci` builds both programs anew, each by LLVM and by Rattle's own compiler (.by-rattle), and the scripts take what it
 # leaves. It proves the C library and leaves none, so that is built over what it proved; the edits go on with that too.
 # They take the processors that it leaves idle. What each part took is printed at the end and kept in MINUTES.
 check:
 	@rm -f $(MINUTES)
-	RT="$(RT)" MINUTES=$(MINUTES) python3 tests/gate 'sh tests/edits_driver.sh'
+	RT="$(RT)" MINUTES=$(MINUTES) python3 tests/gate 'python3 tests/driver'
 	@MINUTES=$(MINUTES) python3 tests/minutes.py scripts $(MAKE) scripts
 	@MINUTES=$(MINUTES) python3 tests/minutes.py 'the other build' $(MAKE) other-build
 	@MINUTES=$(MINUTES) python3 tests/minutes.py

@@ -2,7 +2,7 @@
 # Tries tests/edits itself, on a repository of two small crates, with edits that are good and edits that each show
 # nothing in a way of its own: each is told for what it is, the status says whether one failed, and the repository stays
 # as it was. Then which edits stand as tried, and what has them tried again. Then tests/gate, which tries them beside
-# `rt ci`.
+# `rt ci`, and tests/driver, by which this script itself stands as tried.
 #
 # usage: edits_driver.sh
 # The last line is 'N passed, M failed'; the status is 0 where none failed. RT names the kit's command.
@@ -14,7 +14,9 @@ trap 'rm -rf "$folder"' EXIT
 
 cp -R "$tests/tiny" "$folder/tiny"
 mkdir "$folder/tiny/tests"
-cp "$tests/edits" "$tests/gate" "$tests"/*.py "$folder/tiny/tests"
+for file in driver edits gate shared.sh covered.py minutes.py proved.py tried.py; do
+    cp "$tests/$file" "$folder/tiny/tests"
+done
 cd "$folder/tiny" || exit 1
 # The gate wants each source of the repository in a crate that crates.txt names, so these have other names there.
 find . -name '*.text' | while read -r file; do mv "$file" "${file%.text}"; done
@@ -228,5 +230,36 @@ tells 'counter/a_definition_and_code.edit: not tried, since the crate is not pro
 ends 1 python3 tests/gate
 tells 'rt: counter NOT PROVED'
 holds 'the gate tries edits of a crate that is not proved' [ "$(grep -c '== edits of counter' "$folder/said")" -eq 0 ]
+
+# Another script stands here for this one: it runs where its file doesn't have the sum of what it rests on, and else by
+# chance; and where it failed it has no file.
+cd tests || exit 1
+mkdir tiny
+echo 'echo it ran' > edits_driver.sh
+ran() { python3 driver "$@" | grep -qx 'it ran'; }
+ran --write
+for file in edits_driver.sh shared.sh driver gate edits covered.py minutes.py proved.py tried.py tiny/crates.txt; do
+    [ -e $file ] && cp -p $file "$folder/unchanged"
+    echo >> $file
+    holds "after a change of tests/$file it does not run" ran
+    rm $file
+    [ -e "$folder/unchanged" ] && mv "$folder/unchanged" $file
+done
+printf '#!/bin/sh\necho another kit\n' > "$folder/rt"
+chmod +x "$folder/rt"
+RT=$folder/rt
+holds 'with another kit it does not run' ran
+RT=$kit
+holds 'it runs not whenever it is asked to' ran --anew
+times=0
+changes=0
+while [ $changes -lt 100 ]; do
+    echo >> ../README.md
+    changes=$((changes + 1))
+    ran && times=$((times + 1))
+done
+holds "it runs after $times of $changes changes of another file" [ $times -gt 0 -a $times -lt 25 ]
+echo 'exit 1' > edits_driver.sh
+holds 'it fails and has a file' [ "$(python3 driver --write; echo $? *.tried)" = '1 *.tried' ]
 
 counted

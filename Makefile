@@ -37,8 +37,7 @@ PROGRAM = crates/kmap/out/kmap
 LIBRARY = crates/kmap_c/out/libkmap_c.a
 SHARED = crates/kmap_c/out/libkmap.so
 SONAME = libkmap.so.0
-REFUSALS = crates/refusals/out/refusals
-STEPS = crates/step_costs/out/step_costs
+CALLS = crates/calls/out/calls
 
 LIB = $(DESTDIR)$(LIBDIR)
 INCLUDE = $(DESTDIR)$(INCLUDEDIR)
@@ -68,7 +67,7 @@ quick:
 	@echo "nothing was proved, and no program is left: that is what make is for"
 
 test: all
-	@RT="$(RT)" sh build.sh refusals out/refusals run -- read_map
+	@RT="$(RT)" sh build.sh calls out/calls run -- read_map
 	$(MAKE) scripts
 
 edits:
@@ -110,12 +109,12 @@ scripts:
 	sh tests/install.sh
 	sh tests/guide.sh
 	sh tests/refused_memory.sh $(PROGRAM)
-	sh tests/refused_calls.sh $(REFUSALS)
+	sh tests/refused_calls.sh $(CALLS)
 	sh tests/checks.sh $(PROGRAM)
 
 bench: all
-	@RT="$(RT)" sh build.sh step_costs out/step_costs run -- map 1
-	sh bench/run.sh $(PROGRAM) $(STEPS)
+	@RT="$(RT)" sh build.sh calls out/calls run -- read_map
+	sh bench/run.sh $(PROGRAM) $(CALLS)
 
 install: all
 	$(INSTALL) -d "$(DESTDIR)$(PREFIX)/bin" "$(LIB)/pkgconfig" "$(INCLUDE)" "$(MAN)/man1" "$(MAN)/man3" \

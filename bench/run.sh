@@ -6,21 +6,21 @@
 # keymap in memory and over its tables. Where instructions are counted it compares what is measured with bench/limits,
 # tells each limit that is passed, and fails then.
 #
-# usage: run.sh PROGRAM STEPS
-# STEPS is the program of crates/step_costs, and LIMITS another file of limits.
+# usage: run.sh PROGRAM CALLS
+# CALLS is the program of crates/calls, and LIMITS another file of limits.
 # Costs are instructions, counted by perf(1) or else by callgrind of valgrind(1), or else microseconds of processor
 # time. Reads and writes are the system calls of these names, among them a few of the loader, counted by strace(1), or
 # else by `valgrind --trace-syscalls=yes`.
 
 program=${1:-crates/kmap/out/kmap}
-steps=${2:-crates/step_costs/out/step_costs}
+calls=${2:-crates/calls/out/calls}
 case $program in
 /*) ;;
 *) program=$PWD/$program ;;
 esac
-case $steps in
+case $calls in
 /*) ;;
-*) steps=$PWD/$steps ;;
+*) calls=$PWD/$calls ;;
 esac
 examples=$(cd "$(dirname "$0")/../examples" && pwd)
 limits=$(cd "$(dirname "$0")" && pwd)/limits
@@ -336,9 +336,9 @@ echo "  $(transfers draw "$keymap")"
 measured picture "$picture"
 
 # Ten thousand rounds of eight events, without one round.
-program=$steps
-over_map=$(per "$(cost map 10000)" "$(cost map 1)" 79992)
-over_tables=$(per "$(cost tables 10000)" "$(cost tables 1)" 79992)
+program=$calls
+over_map=$(per "$(cost steps map 10000)" "$(cost steps map 1)" 79992)
+over_tables=$(per "$(cost steps tables 10000)" "$(cost steps tables 1)" 79992)
 echo "an event over a keymap: $over_map $unit; over its tables: $over_tables $unit, times" \
     "$(ratio "$over_tables" "$over_map")"
 measured keymap-an-event "$over_map"

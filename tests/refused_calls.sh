@@ -5,10 +5,10 @@
 # These are the exported functions that take an allocator: each is called itself, or through one that calls it.
 #
 # usage: refused_calls.sh PROGRAM
-# PROGRAM is that of crates/refusals, which makes the calls and tells of what they left alone. The last line is
+# PROGRAM is that of crates/calls, which makes the calls and tells of what they left alone. The last line is
 # 'N passed, M failed'; the status is 0 where none failed. It needs the C compiler that CC names, cc unless it is set.
 
-program=${1:-crates/refusals/out/refusals}
+program=${1:-crates/calls/out/calls}
 tests=$(dirname "$0")
 . "$tests/shared.sh"
 folder=$(mktemp -d) || exit 1
@@ -115,7 +115,7 @@ rest=
 takes_none characters-not-text fault
 
 # The calls that the program knows are those above, and with what they go through all that the sources have.
-calls=$tests/../crates/refusals/src/calls.rt
+calls=$tests/../crates/calls/src/named.rt
 sed -n 's/^        "\([A-Za-z_:-]*\)" => .*/\1/p' "$calls" | sort > "$folder/known"
 sed -n 's/^\(refuses\|takes_none\) \([A-Za-z_:-]*\).*/\2/p' "$0" | sort > "$folder/made"
 same_text 'each call of the program is made here' "$folder/known" "$folder/made"

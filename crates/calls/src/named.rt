@@ -27,6 +27,24 @@ pub(crate) fn outcome_of<W: Write>(
     name: &str,
     marks: &mut W,
 ) -> Result<Option<Outcome>, AllocError> {
+    if let Some(outcome) = map_outcome(alloc, name, marks)? {
+        return Ok(Some(outcome));
+    }
+    if let Some(outcome) = table_outcome(alloc, name, marks)? {
+        return Ok(Some(outcome));
+    }
+    if let Some(outcome) = console_outcome(alloc, name, marks)? {
+        return Ok(Some(outcome));
+    }
+    run_outcome(alloc, name, marks)
+}
+
+/// The calls on keymaps, their texts and diagnostics.
+fn map_outcome<W: Write>(
+    alloc: Global,
+    name: &str,
+    marks: &mut W,
+) -> Result<Option<Outcome>, AllocError> {
     let outcome = match name {
         "KeyMap::new" => new_map(alloc, marks),
         "try_clone" => copies_map(alloc, marks)?,
@@ -36,6 +54,24 @@ pub(crate) fn outcome_of<W: Write>(
         "MapReader::new" => new_reader(alloc, marks),
         "read_from" => reads_from(alloc, TEXT, marks),
         "read_from-faulty" => reads_from(alloc, FAULTY, marks),
+        "definitions" => places_definitions(alloc, marks),
+        "diagnostics" => finds_diagnostics(alloc, TRAP, Some(1), marks),
+        "diagnostics-none" => finds_diagnostics(alloc, TEXT, Some(0), marks),
+        "diagnostics-faulty" => finds_diagnostics(alloc, FAULTY, None, marks),
+        "format" => lays_out(alloc, TEXT, marks),
+        "format-faulty" => lays_out(alloc, FAULTY, marks),
+        _ => return Ok(None),
+    };
+    Ok(Some(outcome))
+}
+
+/// The calls on table files.
+fn table_outcome<W: Write>(
+    alloc: Global,
+    name: &str,
+    marks: &mut W,
+) -> Result<Option<Outcome>, AllocError> {
+    let outcome = match name {
         "read_tables" => reads_tables(alloc, tables(alloc)?.as_slice(), marks),
         "read_tables-faulty" => reads_tables(alloc, &[0xff; WIDE_FILE], marks),
         "read_tables-short" => reads_tables(alloc, TEXT, marks),
@@ -45,15 +81,23 @@ pub(crate) fn outcome_of<W: Write>(
         "read_narrow-faulty" => reads_narrow(alloc, &[0xff; NARROW_FILE], marks),
         "read_narrow-long" => reads_narrow(alloc, &[0; NARROW_FILE + 1], marks),
         "read_narrow_from" => reads_narrow_from(alloc, narrow(alloc)?.as_slice(), marks),
-        "definitions" => places_definitions(alloc, marks),
+        _ => return Ok(None),
+    };
+    Ok(Some(outcome))
+}
+
+/// The calls on what a console does.
+fn console_outcome<W: Write>(
+    alloc: Global,
+    name: &str,
+    marks: &mut W,
+) -> Result<Option<Outcome>, AllocError> {
+    let outcome = match name {
         "sticking-never" => searches(alloc, TEXT, marks)?,
         "sticking-sticks" => searches(alloc, TRAP, marks)?,
         "sticking_between-never" => searches_between(alloc, TEXT, marks)?,
         "sticking_between-sticks" => searches_between(alloc, LOCKED, marks)?,
         "events_that_show" => shows_sights(alloc, marks)?,
-        "diagnostics" => finds_diagnostics(alloc, TRAP, Some(1), marks),
-        "diagnostics-none" => finds_diagnostics(alloc, TEXT, Some(0), marks),
-        "diagnostics-faulty" => finds_diagnostics(alloc, FAULTY, None, marks),
         "replay-plain" => replays_plainly(alloc, marks)?,
         "replay-word" => replays_in_a_word(alloc, marks)?,
         "read_script" => reads_script(alloc, marks),
@@ -65,6 +109,18 @@ pub(crate) fn outcome_of<W: Write>(
         "characters" => types(alloc, SENTENCE, marks)?,
         "characters-untyped" => types(alloc, UNTYPED, marks)?,
         "characters-not-text" => types(alloc, NOT_TEXT, marks)?,
+        _ => return Ok(None),
+    };
+    Ok(Some(outcome))
+}
+
+/// The runs of the program.
+fn run_outcome<W: Write>(
+    alloc: Global,
+    name: &str,
+    marks: &mut W,
+) -> Result<Option<Outcome>, AllocError> {
+    let outcome = match name {
         "check_run" => runs::checks(alloc, TEXT, false, marks),
         "check_run-shown" => runs::checks(alloc, TRAP, true, marks),
         "search_run-never" => runs::searches(alloc, TEXT, marks),
@@ -75,8 +131,6 @@ pub(crate) fn outcome_of<W: Write>(
         "dump_narrow_run" => runs::dumps_narrowly(alloc, narrow(alloc)?.as_slice(), marks),
         "compile_run" => runs::compiles(alloc, TEXT, marks),
         "compile_narrow_run" => runs::compiles_narrowly(alloc, TEXT, marks),
-        "format" => lays_out(alloc, TEXT, marks),
-        "format-faulty" => lays_out(alloc, FAULTY, marks),
         "fmt_run" => runs::lays_out(alloc, TEXT, marks),
         "fmt_print_run" => runs::prints_layout(alloc, TEXT, marks),
         "file_error_line" => runs::tells_a_file(alloc, marks),

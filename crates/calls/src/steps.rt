@@ -1,14 +1,10 @@
-//! Types on a console over a keymap in memory or over its tables, as the first argument says, and prints the sum of the
-//! answers. `make bench` counts what an event costs; the second argument says how many rounds of eight events there
-//! are, 1 or 10000.
-#![tactic(auto)]
+//! Types on a console over a keymap in memory or over its tables. `make bench` counts what an event costs.
 
 use console_core::{Event, Translator, WordConsole};
 use keymap_core::{KeyCode, KeyMap, Keymap, ToStd};
 use keymap_tables::{Tables, WIDE_FILE, write_tables};
 use keymap_text::read_map;
 use std::alloc::{AllocError, Global};
-use std::{env, io};
 
 /// A letter, a shift, a lock and a dead key with its accent.
 const TEXT: &[u8] = b"026 dacu dacu dacu dacu dacu dacu dacu dacu O
@@ -71,18 +67,19 @@ fn sum_of_tables(alloc: Global, map: &KeyMap, rounds: u32) -> Result<u64, AllocE
     })
 }
 
-fn main(rt: HostRuntime) -> io::Result<()> {
-    let words: Vec<String> = env::args(&rt)?.collect(rt.alloc())?;
-    let rounds = match words.get(2) {
-        Some(count) if count.as_str() == "10000" => 10_000,
-        _ => 1,
+/// The sum of the answers to so many rounds, 1 or 10000, over `tables` or else over the map, as the words say.
+pub(crate) fn sum(alloc: Global, words: &[String]) -> Result<u64, AllocError> {
+    let (tables, rounds) = match words {
+        [kind, count, ..] => (kind.as_str() == "tables", count.as_str() == "10000"),
+        _ => (false, false),
     };
-    let Ok(map) = read_map(rt.alloc(), TEXT) else {
-        return Ok(());
+    let rounds = if rounds { 10_000 } else { 1 };
+    let Ok(map) = read_map(alloc, TEXT) else {
+        return Ok(0);
     };
-    let sum = match words.get(1) {
-        Some(kind) if kind.as_str() == "tables" => sum_of_tables(rt.alloc(), &map, rounds)?,
-        _ => sum_of(&map, rounds),
-    };
-    println!(rt; "{sum}")
+    if tables {
+        sum_of_tables(alloc, &map, rounds)
+    } else {
+        Ok(sum_of(&map, rounds))
+    }
 }

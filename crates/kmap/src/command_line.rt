@@ -19,50 +19,79 @@ fn flag<'a>(alloc: Global, name: &'a str, help: &'a str) -> Arg<'a> {
         .help(help)
 }
 
+/// The keymap text that most subcommands read.
+fn text<'a>(alloc: Global) -> Arg<'a> {
+    file(alloc, "TEXT", "The keymap text")
+}
+
+/// The keymap texts of a subcommand that takes one after the other.
+fn texts<'a>(alloc: Global) -> Arg<'a> {
+    file(alloc, "TEXT", "The keymap texts").num_args(1..)
+}
+
+/// Adds what all subcommands have: what they are for, an example, and the file or files that come first.
+fn described<'a>(
+    command: Command<'a>,
+    about: &'a str,
+    example: &'a str,
+    first: Arg<'a>,
+) -> Result<Command<'a>, AllocError> {
+    command.about(about).after_help(example).arg(first)
+}
+
 fn check<'a>(alloc: Global) -> Result<Command<'a>, AllocError> {
-    Command::new(alloc, "check")
-        .about("Accepts a keymap only if no key can leave a modifier on")
-        .after_help("Example: kmap check --show de.kbd{n}{n}kmap(1) tells how to read the report.")
-        .arg(file(alloc, "TEXT", "The keymap text"))?
-        .arg(flag(
-            alloc,
-            "show",
-            "Also prints key presses that leave a modifier on, if found",
-        ))
+    described(
+        Command::new(alloc, "check"),
+        "Accepts a keymap only if no key can leave a modifier on",
+        "Example: kmap check --show de.kbd{n}{n}kmap(1) tells how to read the report.",
+        text(alloc),
+    )?
+    .arg(flag(
+        alloc,
+        "show",
+        "Also prints key presses that leave a modifier on, if found",
+    ))
 }
 
 fn lint<'a>(alloc: Global) -> Result<Command<'a>, AllocError> {
-    let texts = file(alloc, "TEXT", "The keymap texts").num_args(1..);
-    Command::new(alloc, "lint")
-        .about("Tells what is wrong or doubtful in keymap texts, and where")
-        .after_help(
-            "Example: kmap lint de.kbd us.kbd{n}{n}kmap(1) tells what to do about each kind.",
-        )
-        .arg(texts)
+    described(
+        Command::new(alloc, "lint"),
+        "Tells what is wrong or doubtful in keymap texts, and where",
+        "Example: kmap lint de.kbd us.kbd{n}{n}kmap(1) tells what to do about each kind.",
+        texts(alloc),
+    )
 }
 
 fn fmt<'a>(alloc: Global) -> Result<Command<'a>, AllocError> {
-    let texts = file(alloc, "TEXT", "The keymap texts").num_args(1..);
-    let check = flag(
+    let check = check_mode(alloc)?;
+    described(
+        Command::new(alloc, "fmt"),
+        "Writes keymap texts in one layout, and changes nothing else",
+        "Example: kmap fmt de.kbd us.kbd{n}{n}kmap(1) tells what the layout is.",
+        texts(alloc),
+    )?
+    .arg(check)?
+    .arg(flag(alloc, "print", "Prints the texts in the layout instead"))
+}
+
+/// The flag of `fmt` that isn't taken beside `--print`.
+fn check_mode<'a>(alloc: Global) -> Result<Arg<'a>, AllocError> {
+    flag(
         alloc,
         "check",
         "Writes nothing, and fails where a text is not in the layout",
-    );
-    let print = flag(alloc, "print", "Prints the texts in the layout instead");
-    Command::new(alloc, "fmt")
-        .about("Writes keymap texts in one layout, and changes nothing else")
-        .after_help("Example: kmap fmt de.kbd us.kbd{n}{n}kmap(1) tells what the layout is.")
-        .arg(texts)?
-        .arg(check.conflicts_with("print")?)?
-        .arg(print)
+    )
+    .conflicts_with("print")
 }
 
 fn search<'a>(alloc: Global) -> Result<Command<'a>, AllocError> {
-    Command::new(alloc, "search")
-        .about("Decides whether key presses can leave a modifier on")
-        .after_help("Example: kmap search de.kbd{n}{n}kmap(1) tells how to read the answer.")
-        .arg(file(alloc, "TEXT", "The keymap text"))?
-        .arg(next(alloc))
+    described(
+        Command::new(alloc, "search"),
+        "Decides whether key presses can leave a modifier on",
+        "Example: kmap search de.kbd{n}{n}kmap(1) tells how to read the answer.",
+        text(alloc),
+    )?
+    .arg(next(alloc))
 }
 
 fn next<'a>(alloc: Global) -> Arg<'a> {
@@ -74,67 +103,69 @@ fn next<'a>(alloc: Global) -> Arg<'a> {
 }
 
 fn play<'a>(alloc: Global) -> Result<Command<'a>, AllocError> {
-    Command::new(alloc, "play")
-        .about("Prints what the console answers to a script of key presses")
-        .after_help(
-            "Example: kmap play --typed de.kbd de.script{n}{n}kmap(1) tells what a script is.",
-        )
-        .arg(file(alloc, "TEXT", "The keymap text"))?
-        .arg(file(alloc, "SCRIPT", "The script of key presses"))?
-        .arg(flag(alloc, "typed", "Prints the typed bytes instead"))?
-        .arg(next(alloc))
+    described(
+        Command::new(alloc, "play"),
+        "Prints what the console answers to a script of key presses",
+        "Example: kmap play --typed de.kbd de.script{n}{n}kmap(1) tells what a script is.",
+        text(alloc),
+    )?
+    .arg(file(alloc, "SCRIPT", "The script of key presses"))?
+    .arg(flag(alloc, "typed", "Prints the typed bytes instead"))?
+    .arg(next(alloc))
 }
 
 fn type_sentence<'a>(alloc: Global) -> Result<Command<'a>, AllocError> {
-    Command::new(alloc, "type")
-        .about("Prints a script of key presses that types a sentence")
-        .after_help(
-            "Example: kmap type de.kbd sentence > script{n}{n}kmap(1) tells which ways are tried.",
-        )
-        .arg(file(alloc, "TEXT", "The keymap text"))?
-        .arg(file(alloc, "SENTENCE", "The sentence, in UTF-8"))
+    described(
+        Command::new(alloc, "type"),
+        "Prints a script of key presses that types a sentence",
+        "Example: kmap type de.kbd sentence > script{n}{n}kmap(1) tells which ways are tried.",
+        text(alloc),
+    )?
+    .arg(file(alloc, "SENTENCE", "The sentence, in UTF-8"))
 }
 
 fn cover<'a>(alloc: Global) -> Result<Command<'a>, AllocError> {
-    Command::new(alloc, "cover")
-        .about("Prints a script that tests a console with all that a keymap can do")
-        .after_help(
-            "Example: kmap cover us.kbd > us.script{n}{n}kmap(1) tells what the script tries.",
-        )
-        .arg(file(alloc, "TEXT", "The keymap text"))
+    described(
+        Command::new(alloc, "cover"),
+        "Prints a script that tests a console with all that a keymap can do",
+        "Example: kmap cover us.kbd > us.script{n}{n}kmap(1) tells what the script tries.",
+        text(alloc),
+    )
 }
 
 fn compile<'a>(alloc: Global) -> Result<Command<'a>, AllocError> {
-    Command::new(alloc, "compile")
-        .about("Writes the table file of a keymap text")
-        .after_help(
-            "Example: kmap compile de.kbd de.tables{n}{n}kmap(1) tells what OUT is good for.",
-        )
-        .arg(file(alloc, "TEXT", "The keymap text"))?
-        .arg(file(alloc, "OUT", "The table file to create or replace"))?
-        .arg(flag(
-            alloc,
-            "narrow",
-            "Writes a narrow file, one byte a character",
-        ))
+    described(
+        Command::new(alloc, "compile"),
+        "Writes the table file of a keymap text",
+        "Example: kmap compile de.kbd de.tables{n}{n}kmap(1) tells what OUT is good for.",
+        text(alloc),
+    )?
+    .arg(file(alloc, "OUT", "The table file to create or replace"))?
+    .arg(flag(
+        alloc,
+        "narrow",
+        "Writes a narrow file, one byte a character",
+    ))
 }
 
 fn dump<'a>(alloc: Global) -> Result<Command<'a>, AllocError> {
-    Command::new(alloc, "dump")
-        .about("Prints a table file as keymap text")
-        .after_help("Example: kmap dump de.tables{n}{n}kmap(5) tells what the text means.")
-        .arg(file(alloc, "TABLES", "The table file"))?
-        .arg(flag(alloc, "narrow", "Reads a narrow file"))
+    described(
+        Command::new(alloc, "dump"),
+        "Prints a table file as keymap text",
+        "Example: kmap dump de.tables{n}{n}kmap(5) tells what the text means.",
+        file(alloc, "TABLES", "The table file"),
+    )?
+    .arg(flag(alloc, "narrow", "Reads a narrow file"))
 }
 
 fn draw<'a>(alloc: Global) -> Result<Command<'a>, AllocError> {
-    Command::new(alloc, "draw")
-        .about("Draws a keymap as one SVG picture")
-        .after_help(
-            "Example: kmap draw de.kbd > de.svg{n}{n}kmap(1) tells how to read the picture.",
-        )
-        .arg(file(alloc, "TEXT", "The keymap text"))?
-        .arg(flag(alloc, "ansi", "Draws a board of 104 keys in place of 105"))
+    described(
+        Command::new(alloc, "draw"),
+        "Draws a keymap as one SVG picture",
+        "Example: kmap draw de.kbd > de.svg{n}{n}kmap(1) tells how to read the picture.",
+        text(alloc),
+    )?
+    .arg(flag(alloc, "ansi", "Draws a board of 104 keys in place of 105"))
 }
 
 /// The program itself, without its subcommands.
@@ -147,35 +178,26 @@ fn without_subcommands<'a>(alloc: Global) -> Command<'a> {
         .arg_required_else_help(true)
 }
 
-/// Adds the subcommands that judge a keymap or its text, and the one that lays texts out.
-fn with_checks<'a>(alloc: Global, program: Command<'a>) -> Result<Command<'a>, AllocError> {
-    program
-        .subcommand(check(alloc)?)?
-        .subcommand(search(alloc)?)?
-        .subcommand(lint(alloc)?)?
-        .subcommand(fmt(alloc)?)
-}
-
-/// Adds the subcommands on what a console answers.
-fn with_scripts<'a>(alloc: Global, program: Command<'a>) -> Result<Command<'a>, AllocError> {
-    program
-        .subcommand(play(alloc)?)?
-        .subcommand(type_sentence(alloc)?)?
-        .subcommand(cover(alloc)?)
-}
-
-/// Adds the subcommands for table files, and the one that draws.
-fn with_tables<'a>(alloc: Global, program: Command<'a>) -> Result<Command<'a>, AllocError> {
-    program
-        .subcommand(compile(alloc)?)?
-        .subcommand(dump(alloc)?)?
-        .subcommand(draw(alloc)?)
+/// Adds a subcommand, unless memory was refused for it.
+fn with_subcommand<'a>(
+    program: Command<'a>,
+    subcommand: Result<Command<'a>, AllocError>,
+) -> Result<Command<'a>, AllocError> {
+    program.subcommand(subcommand?)
 }
 
 /// The subcommands of the program and their words.
 pub(crate) fn command<'a>(alloc: Global) -> Result<Command<'a>, AllocError> {
-    let judging = with_checks(alloc, without_subcommands(alloc))?;
-    with_tables(alloc, with_scripts(alloc, judging)?)
+    let program = with_subcommand(without_subcommands(alloc), check(alloc))?;
+    let program = with_subcommand(program, search(alloc))?;
+    let program = with_subcommand(program, lint(alloc))?;
+    let program = with_subcommand(program, fmt(alloc))?;
+    let program = with_subcommand(program, play(alloc))?;
+    let program = with_subcommand(program, type_sentence(alloc))?;
+    let program = with_subcommand(program, cover(alloc))?;
+    let program = with_subcommand(program, compile(alloc))?;
+    let program = with_subcommand(program, dump(alloc))?;
+    with_subcommand(program, draw(alloc))
 }
 
 /// What is done with the layout of a text.

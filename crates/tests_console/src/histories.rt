@@ -5,7 +5,7 @@ use crate::asserts::{expect_equal, expect_equal_at};
 use crate::console::Input::{Down, Load, Reset, Up};
 use crate::console::{Input, event, expect_shown};
 use console_core::{Answer, Event, PlainConsole, Translator, WordConsole, replay};
-use keymap_core::{Action, Lock, Modifier};
+use keymap_core::{Action, KeyMap, Lock, Modifier};
 use keymap_text::read_map;
 use std::alloc::Global;
 use std::process::Abort;
@@ -300,49 +300,129 @@ fn deliver<T: Translator>(rt: &impl Abort, console: &mut T, steps: &[Step]) -> R
     Ok(())
 }
 
-/// The keymap that is in force first, and the one that a load exchanges for it.
-static HISTORIES: [(&[u8], &[u8], &[Step]); 16] = [
+/// The keymap that is in force first, the one that a load exchanges for it, and what is delivered. The histories stand
+/// in three tables, each with its own test, since one large table takes longer to prove than several small ones.
+type History = (&'static [u8], &'static [u8], &'static [Step]);
+
+static MODIFIERS_AND_LOCKS: [History; 9] = [
     (LETTER_AND_SHIFT, b"", SHIFTED_LETTER),
     (TWO_SCROLL_LOCKS, b"", SCROLL_LOCK_ON_TWO_KEYS),
     (SHIFT_WITH_TRAP, b"", CHARACTER_UNDER_CONTROL),
     (CAPS_AND_NUM, b"", CAPS_AND_NUM_FLIP_ONCE),
-    (ACCENTS, b"", ACCENT_AND_OTHER_KEYS),
-    (ACCENTS, b"", COMPOSITION),
-    (BLANK_MACRON, b"", UNUSABLE_DEAD_KEY),
     (SHIFT_AND_CAPS, b"", RESET_KEEPS_LOCKS),
     (TWO_CONTROLS, b"", RELEASE_BY_REMEMBERED_ACTION),
     (UPPER_HALF, b"", UPPER_HALF_BY_ONE),
     (CAPS_WITH_NOPS, b"", LOCK_BEHIND_NOP),
     (TWO_SHIFTS, b"", SHIFT_ON_TWO_KEYS),
+];
+
+static ACCENTS_AND_DEAD_KEYS: [History; 3] = [
+    (ACCENTS, b"", ACCENT_AND_OTHER_KEYS),
+    (ACCENTS, b"", COMPOSITION),
+    (BLANK_MACRON, b"", UNUSABLE_DEAD_KEY),
+];
+
+static LOADS: [History; 4] = [
     (SHIFT_AND_CAPS, LETTER_AND_SHIFT, LOAD_DROPS_A_LOCK),
     (SHIFT_AND_CAPS, CAPS_AND_NUM, LOAD_KEEPS_A_LOCK),
     (LETTER_AND_SHIFT, LETTER_AND_SHIFT, LOAD_FORGETS_A_MODIFIER),
     (SHIFT_AND_CAPS, LETTER_AND_SHIFT, TWO_LOADS),
 ];
 
-#[test]
-fn both_consoles_answer_as_worked_out(rt: HostRuntime) -> Result<(), Fail> {
-    for &(first, next, steps) in &HISTORIES {
-        let first = read_map(rt.alloc(), first)?;
-        let next = read_map(rt.alloc(), next)?;
-        deliver(&rt, &mut PlainConsole::between(&first, &next), steps)?;
-        deliver(&rt, &mut WordConsole::between(&first, &next), steps)?;
+fn deliver_to_both(
+    rt: &impl Abort,
+    first: &KeyMap,
+    next: &KeyMap,
+    steps: &[Step],
+) -> Result<(), Fail> {
+    deliver(rt, &mut PlainConsole::between(first, next), steps)?;
+    deliver(rt, &mut WordConsole::between(first, next), steps)
+}
+
+/// Asserts that both consoles, between the keymaps of these texts, answer so.
+fn expect_history(
+    rt: &impl Abort,
+    alloc: Global,
+    first: &[u8],
+    next: &[u8],
+    steps: &[Step],
+) -> Result<(), Fail> {
+    let first = read_map(alloc, first)?;
+    let next = read_map(alloc, next)?;
+    deliver_to_both(rt, &first, &next, steps)
+}
+
+fn expect_histories(rt: &impl Abort, alloc: Global, histories: &[History]) -> Result<(), Fail> {
+    for &(first, next, steps) in histories {
+        expect_history(rt, alloc, first, next, steps)?;
     }
     Ok(())
 }
 
-/// Asserts that shift and caps lock, pressed once more after their release, leave shift alone on.
-fn expect_shift_alone<T: Translator>(
+#[test]
+fn both_consoles_answer_as_worked_out(rt: HostRuntime) -> Result<(), Fail> {
+    expect_histories(&rt, rt.alloc(), &MODIFIERS_AND_LOCKS)
+}
+
+#[test]
+fn both_consoles_compose_as_worked_out(rt: HostRuntime) -> Result<(), Fail> {
+    expect_histories(&rt, rt.alloc(), &ACCENTS_AND_DEAD_KEYS)
+}
+
+#[test]
+fn both_consoles_load_as_worked_out(rt: HostRuntime) -> Result<(), Fail> {
+    expect_histories(&rt, rt.alloc(), &LOADS)
+}
+
+/// Events that are replayed, their answers, and then the modifiers that are on and the pending accent.
+struct Replayed {
+    inputs: &'static [Input],
+    outputs: &'static [Output],
+    on: &'static [Modifier],
+    pending: Option<u8>,
+}
+
+fn events_of(alloc: Global, inputs: &[Input]) -> Result<Vec<Event>, Fail> {
+    let mut events = Vec::new(alloc);
+    for input in inputs {
+        events.push(event(*input)?)?;
+    }
+    Ok(events)
+}
+
+fn answers_of(alloc: Global, outputs: &[Output]) -> Result<Vec<Answer>, Fail> {
+    let mut answers = Vec::new(alloc);
+    for output in outputs {
+        answers.push(answer(*output)?)?;
+    }
+    Ok(answers)
+}
+
+/// Asserts that the events are answered so, and what is on and pending then; no lock is on.
+fn expect_replay<T: Translator>(
     rt: &impl Abort,
     alloc: Global,
     console: &mut T,
+    replayed: &Replayed,
 ) -> Result<(), Fail> {
-    let given = replay(alloc, console, &[event(Down(42))?, event(Down(58))?])?;
-    let wanted = [answer(Special(LSHIFT))?, answer(Special(CLOCK))?];
+    let events = events_of(alloc, replayed.inputs)?;
+    let given = replay(alloc, console, events.as_slice())?;
+    let wanted = answers_of(alloc, replayed.outputs)?;
     expect_equal(rt, &given.as_slice(), &wanted.as_slice());
-    expect_shown(rt, console, &[Modifier::LeftShift], &[], None);
+    expect_shown(rt, console, replayed.on, &[], replayed.pending);
     Ok(())
 }
+
+/// Shift and caps lock, pressed and released.
+static QUIET: [Input; 4] = [Down(42), Down(58), Up(42), Up(58)];
+
+/// Shift and caps lock, pressed once more after their release, leave shift alone on.
+static PRESSED_ONCE_MORE: Replayed = Replayed {
+    inputs: &[Down(42), Down(58)],
+    outputs: &[Special(LSHIFT), Special(CLOCK)],
+    on: &[Modifier::LeftShift],
+    pending: None,
+};
 
 fn expect_same_after_reset<T: Translator>(
     rt: &impl Abort,
@@ -350,17 +430,12 @@ fn expect_same_after_reset<T: Translator>(
     first: &mut T,
     second: &mut T,
 ) -> Result<(), Fail> {
-    let quiet = [
-        event(Down(42))?,
-        event(Down(58))?,
-        event(Up(42))?,
-        event(Up(58))?,
-    ];
-    let _answers = replay(alloc, first, &quiet)?;
-    let _answers = replay(alloc, second, &quiet)?;
+    let quiet = events_of(alloc, &QUIET)?;
+    let _answers = replay(alloc, first, quiet.as_slice())?;
+    let _answers = replay(alloc, second, quiet.as_slice())?;
     expect_equal(rt, &second.step(Event::Reset), &Answer::None);
-    expect_shift_alone(rt, alloc, first)?;
-    expect_shift_alone(rt, alloc, second)
+    expect_replay(rt, alloc, first, &PRESSED_ONCE_MORE)?;
+    expect_replay(rt, alloc, second, &PRESSED_ONCE_MORE)
 }
 
 /// A console on which no key is pressed and no accent is pending goes on as after a reset.
@@ -421,59 +496,35 @@ fn answers_have_their_numbers(rt: HostRuntime) -> Result<(), Fail> {
     Ok(())
 }
 
-/// Asserts that the presses are answered so, that nothing is on then, and which accent is pending.
-fn expect_replay<T: Translator>(
-    rt: &impl Abort,
-    alloc: Global,
-    console: &mut T,
-    presses: &[Event],
-    answers: &[Answer],
-    pending: Option<u8>,
-) -> Result<(), Fail> {
-    let given = replay(alloc, console, presses)?;
-    expect_equal(rt, &given.as_slice(), &answers);
-    expect_shown(rt, console, &[], &[], pending);
-    Ok(())
-}
+/// The text of a keymap, and what is replayed on it. A key of the keymap of no keys gives the character 0. A dead key
+/// that is pressed again gives its own character, and pressed a third time is pending.
+static REPLAYS: [(&[u8], Replayed); 2] = [
+    (
+        b"",
+        Replayed {
+            inputs: &[Down(30)],
+            outputs: &[Char('\0')],
+            on: &[],
+            pending: None,
+        },
+    ),
+    (
+        ACCENTS,
+        Replayed {
+            inputs: &[Down(26), Down(26), Down(26)],
+            outputs: &[Nothing, Char('´'), Nothing],
+            on: &[],
+            pending: Some(1),
+        },
+    ),
+];
 
-/// A key of the keymap of no keys gives the character 0. A dead key that is pressed again gives its own character, and
-/// pressed a third time is pending.
 #[test]
 fn replays(rt: HostRuntime) -> Result<(), Fail> {
-    let (map, presses) = (read_map(rt.alloc(), b"")?, [event(Down(30))?]);
-    let answers = [answer(Char('\0'))?];
-    expect_replay(
-        &rt,
-        rt.alloc(),
-        &mut PlainConsole::new(&map),
-        &presses,
-        &answers,
-        None,
-    )?;
-    expect_replay(
-        &rt,
-        rt.alloc(),
-        &mut WordConsole::new(&map),
-        &presses,
-        &answers,
-        None,
-    )?;
-    let (map, presses) = (read_map(rt.alloc(), ACCENTS)?, [event(Down(26))?; 3]);
-    let answers = [Answer::None, answer(Char('´'))?, Answer::None];
-    expect_replay(
-        &rt,
-        rt.alloc(),
-        &mut PlainConsole::new(&map),
-        &presses,
-        &answers,
-        Some(1),
-    )?;
-    expect_replay(
-        &rt,
-        rt.alloc(),
-        &mut WordConsole::new(&map),
-        &presses,
-        &answers,
-        Some(1),
-    )
+    for (text, replayed) in &REPLAYS {
+        let map = read_map(rt.alloc(), text)?;
+        expect_replay(&rt, rt.alloc(), &mut PlainConsole::new(&map), replayed)?;
+        expect_replay(&rt, rt.alloc(), &mut WordConsole::new(&map), replayed)?;
+    }
+    Ok(())
 }

@@ -6,6 +6,7 @@ use keymap_text::TextFaultKind::{
     ZeroBase,
 };
 use keymap_text::{TextError, TextFault, TextFaultKind, read_map};
+use std::alloc::{AllocError, Global};
 use std::test::Fail;
 
 /// An accent with as many pairs as one has at most.
@@ -195,14 +196,19 @@ fn wanted_fault(place: usize, token: usize, kind: TextFaultKind) -> TextError {
     })
 }
 
+fn joined(alloc: Global, place: &[u8], token: &[u8]) -> Result<Vec<u8>, AllocError> {
+    let mut text = Vec::new(alloc);
+    text.extend_from_slice(place)?;
+    text.extend_from_slice(token)?;
+    Ok(text)
+}
+
 #[test]
 fn each_kind_of_fault_is_found_at_each_place(rt: HostRuntime) -> Result<(), Fail> {
     expect_equal(&rt, &FULL_ACCENT.len(), &632);
     for &(token, kinds) in &TOKENS {
         for (place, kind) in PLACES.iter().zip(kinds) {
-            let mut text = Vec::new(rt.alloc());
-            text.extend_from_slice(place)?;
-            text.extend_from_slice(token)?;
+            let text = joined(rt.alloc(), place, token)?;
             let fault = read_map(rt.alloc(), text.as_slice()).err();
             let wanted = kind.map(|kind| wanted_fault(place.len(), token.len(), kind));
             expect_equal_at(&rt, &(token, place), &fault, &wanted);

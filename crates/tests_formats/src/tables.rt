@@ -1,6 +1,7 @@
 //! Table files of both forms: their bytes as they were published, and what a narrow file can't hold.
 
 use crate::asserts::{expect_at, expect_equal, expect_equal_at};
+use crate::reading::is_map;
 use keymap_core::{Cell, FromStd, KeyMap, Keymap, LockFlag, Read, Write};
 use keymap_tables::{
     NarrowError, TableError, Tables, Wide, read_narrow, read_narrow_from, read_tables,
@@ -8,6 +9,7 @@ use keymap_tables::{
 };
 use keymap_text::read_map;
 use std::alloc::Global;
+use std::process::Abort;
 use std::test::Fail;
 use test_devices::sheet_of;
 use test_keymaps::{
@@ -146,6 +148,30 @@ fn most_writes(form: Form) -> u32 {
     }
 }
 
+/// The bytes stand at their places, and so many of all are not 0.
+fn expect_bytes(
+    rt: &impl Abort,
+    row: (Form, &[u8]),
+    bytes: &[u8],
+    places: &[(usize, &[u8])],
+    used: usize,
+) {
+    expect_equal_at(rt, &row, &bytes.len(), &row.0.length());
+    for &(place, wanted) in places {
+        let given = bytes.get(place..).unwrap_or(b"");
+        expect_at(rt, &(row.0, place), given.starts_with(wanted));
+    }
+    let count = bytes.iter().filter(|byte| **byte != 0).count();
+    expect_equal_at(rt, &row, &count, &used);
+}
+
+/// The bytes are read as the map, from memory and from a device.
+fn expect_read(rt: &impl Abort, alloc: Global, row: (Form, &[u8]), bytes: &[u8], map: &KeyMap) {
+    expect_at(rt, &row, is_map(row.0.read(alloc, bytes), map));
+    let mut reader = FromStd::new(bytes);
+    expect_at(rt, &row, is_map(row.0.read_from(alloc, &mut reader), map));
+}
+
 #[test]
 fn files_have_their_bytes(rt: HostRuntime) -> Result<(), Fail> {
     for &(form, text, places, used) in &FILES {
@@ -153,21 +179,9 @@ fn files_have_their_bytes(rt: HostRuntime) -> Result<(), Fail> {
         let mut sheet = sheet_of(LENGTH);
         form.write(&map, &mut sheet)?;
         let bytes = sheet.bytes.as_slice();
-        expect_equal_at(&rt, &(form, text), &bytes.len(), &form.length());
-        for &(place, wanted) in places {
-            let given = bytes.get(place..).unwrap_or(b"");
-            expect_at(&rt, &(form, place), given.starts_with(wanted));
-        }
-        let count = bytes.iter().filter(|byte| **byte != 0).count();
-        expect_equal_at(&rt, &(form, text), &count, &used);
+        expect_bytes(&rt, (form, text), bytes, places, used);
         expect_at(&rt, &(form, text), sheet.writes <= most_writes(form));
-        expect_at(&rt, &(form, text), form.read(rt.alloc(), bytes)? == map);
-        let mut reader = FromStd::new(bytes);
-        expect_at(
-            &rt,
-            &(form, text),
-            form.read_from(rt.alloc(), &mut reader)? == map,
-        );
+        expect_read(&rt, rt.alloc(), (form, text), bytes, &map);
     }
     Ok(())
 }

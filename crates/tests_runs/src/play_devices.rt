@@ -8,8 +8,10 @@ use console_core::Answer;
 use keymap_core::{Read, ReadFault, ReadFaultKind, Write, WriteFault};
 use kmap_runs::{RunError, Source, play_run};
 use play_core::{Show, typed};
+use std::alloc::Global;
+use std::process::Abort;
 use std::test::Fail;
-use test_devices::{ROOM, reader_of, sheet_of};
+use test_devices::{ROOM, Sheet, reader_of, sheet_of};
 use test_keymaps::{ACCENTS, LETTER_AND_SHIFT, SHIFT_AND_CAPS};
 
 const SCRIPT: &[u8] = b"down 42\nlost up 42\nrepeat 30\n# shift stays on\nload\nreset\n";
@@ -21,53 +23,41 @@ static FAILING: [(Source, &[u8]); 3] = [
     (Source::Script, SCRIPT),
 ];
 
+/// How many bytes a reader gives at most, where the one that fails gives so many.
+fn most_of(own: Source, failing: Source, most: usize) -> usize {
+    if own == failing { most } else { usize::MAX }
+}
+
+fn expect_named(rt: &impl Abort, alloc: Global, source: Source, most: usize) {
+    let mut text = reader_of(ACCENTS, 1, most_of(Source::Text, source, most));
+    let mut next = Some(reader_of(SHIFT_AND_CAPS, 1, most_of(Source::Next, source, most)));
+    let mut script = reader_of(SCRIPT, 1, most_of(Source::Script, source, most));
+    let mut out = sheet_of(usize::MAX);
+    let show = Show::Lines;
+    let answer = play_run(alloc, show, &mut text, &mut next, &mut script, &mut out);
+    let fault = ReadFault {
+        offset: most as u64,
+        kind: ReadFaultKind::Device,
+    };
+    let wanted = Err(RunError::Read(source, fault));
+    expect_equal_at(rt, &(source, most), &answer, &wanted);
+    let next_failed = next.is_some_and(|next| next.failed());
+    let failed = (text.failed(), next_failed, script.failed());
+    let wanted = (
+        source == Source::Text,
+        source == Source::Next,
+        source == Source::Script,
+    );
+    expect_equal_at(rt, &(source, most), &failed, &wanted);
+    assert!(rt; out.writes == 0 && !out.failed());
+}
+
 /// After the last byte too, in place of the end.
 #[test]
 fn a_reader_that_fails_after_each_number_of_bytes_is_named(rt: HostRuntime) {
     for &(source, bytes) in &FAILING {
         for most in 0..=bytes.len() {
-            let text_most = if source == Source::Text {
-                most
-            } else {
-                usize::MAX
-            };
-            let next_most = if source == Source::Next {
-                most
-            } else {
-                usize::MAX
-            };
-            let script_most = if source == Source::Script {
-                most
-            } else {
-                usize::MAX
-            };
-            let mut text = reader_of(ACCENTS, 1, text_most);
-            let mut next = Some(reader_of(SHIFT_AND_CAPS, 1, next_most));
-            let mut script = reader_of(SCRIPT, 1, script_most);
-            let mut out = sheet_of(usize::MAX);
-            let answer = play_run(
-                rt.alloc(),
-                Show::Lines,
-                &mut text,
-                &mut next,
-                &mut script,
-                &mut out,
-            );
-            let fault = ReadFault {
-                offset: most as u64,
-                kind: ReadFaultKind::Device,
-            };
-            let wanted = Err(RunError::Read(source, fault));
-            expect_equal_at(&rt, &(source, most), &answer, &wanted);
-            let next_failed = next.is_some_and(|next| next.failed());
-            let failed = (text.failed(), next_failed, script.failed());
-            let wanted = (
-                source == Source::Text,
-                source == Source::Next,
-                source == Source::Script,
-            );
-            expect_equal_at(&rt, &(source, most), &failed, &wanted);
-            assert!(rt; out.writes == 0 && !out.failed());
+            expect_named(&rt, rt.alloc(), source, most);
         }
     }
 }
@@ -173,27 +163,34 @@ static LONG: [(Show, &[u8], &[u8], usize, &[u8]); 2] = [
     (Show::Typed, b"down 42\n", b"repeat 15\n", 1400, b"\x1b[Z"),
 ];
 
+fn play_long(alloc: Global, show: Show, script: &[u8], out: &mut Sheet) -> Result<(), RunError> {
+    let mut text = reader_of(ACCENTS, 512, usize::MAX);
+    let mut next = Some(reader_of(b"", 1, usize::MAX));
+    let mut bytes = reader_of(script, 4096, usize::MAX);
+    play_run(alloc, show, &mut text, &mut next, &mut bytes, out)
+}
+
+/// The line is written so many times, in few writes.
+fn expect_repeated(rt: &impl Abort, out: &Sheet, line: &[u8], count: usize) {
+    let wanted = repeated(b"", line, count);
+    let is_same = out.bytes.as_slice() == wanted.as_slice();
+    expect_at(
+        rt,
+        &count,
+        is_same && out.writes as usize <= wanted.len() / 4096 + 1,
+    );
+}
+
 #[test]
 fn long_outputs_take_few_writes(rt: HostRuntime) -> Result<(), Fail> {
     for &(show, front, line, count, shown) in &LONG {
         let script = repeated(front, line, count);
-        let wanted = repeated(b"", shown, count);
         let mut out = sheet_of(usize::MAX);
-        let mut text = reader_of(ACCENTS, 512, usize::MAX);
-        let mut next = Some(reader_of(b"", 1, usize::MAX));
-        let mut bytes = reader_of(script.as_slice(), 4096, usize::MAX);
-        play_run(rt.alloc(), show, &mut text, &mut next, &mut bytes, &mut out)?;
-        let is_same = out.bytes.as_slice() == wanted.as_slice();
-        expect_at(
-            &rt,
-            &count,
-            is_same && out.writes as usize <= wanted.len() / 4096 + 1,
-        );
+        play_long(rt.alloc(), show, script.as_slice(), &mut out)?;
+        expect_repeated(&rt, &out, shown, count);
     }
     let mut out = sheet_of(usize::MAX);
     typed(&[Answer::Char { c: 'é', meta: true }; 1400], &mut out)?;
-    let wanted = repeated(b"", b"\x1b\xc3\xa9", 1400);
-    let is_same = out.bytes.as_slice() == wanted.as_slice();
-    assert!(rt; is_same && out.writes as usize <= wanted.len() / 4096 + 1);
+    expect_repeated(&rt, &out, b"\x1b\xc3\xa9", 1400);
     Ok(())
 }

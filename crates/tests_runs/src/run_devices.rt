@@ -46,14 +46,14 @@ pub(crate) fn perform(
         Run::Show => check_run(alloc, first, true, writer),
         Run::Search => search_run(alloc, first, &mut None::<Tape<'_>>, writer),
         Run::SearchNext => search_between(alloc, first, second, writer),
-        Run::Type => type_run(alloc, first, second, writer).map(|_| true),
-        Run::Dump => dump_run(alloc, first, writer).map(|_| true),
-        Run::DumpNarrow => dump_narrow_run(alloc, first, writer).map(|_| true),
-        Run::Compile => compile_run(alloc, first, writer).map(|_| true),
-        Run::CompileNarrow => compile_narrow_run(alloc, first, writer).map(|_| true),
-        Run::Draw => draw_run(alloc, first, Board::Iso, writer).map(|_| true),
+        Run::Type => type_run(alloc, first, second, writer).and(Ok(true)),
+        Run::Dump => dump_run(alloc, first, writer).and(Ok(true)),
+        Run::DumpNarrow => dump_narrow_run(alloc, first, writer).and(Ok(true)),
+        Run::Compile => compile_run(alloc, first, writer).and(Ok(true)),
+        Run::CompileNarrow => compile_narrow_run(alloc, first, writer).and(Ok(true)),
+        Run::Draw => draw_run(alloc, first, Board::Iso, writer).and(Ok(true)),
         Run::Lint => lint_run(alloc, b"t", first, writer),
-        Run::Layout => fmt_print_run(alloc, first, writer).map(|_| true),
+        Run::Layout => fmt_print_run(alloc, first, writer).and(Ok(true)),
     }
 }
 

@@ -5,6 +5,7 @@ use console_core::Event;
 use keymap_text::read_map;
 use play_core::{TypeError, Ways, read_script};
 use std::alloc::Global;
+use std::process::Abort;
 use std::test::Fail;
 use test_keymaps::{ACCENTS, LETTER_AND_SHIFT, TWO_DEAD_KEYS};
 
@@ -68,18 +69,39 @@ fn events_of(alloc: Global, script: &[u8]) -> Result<Vec<Event>, Fail> {
     Ok(events)
 }
 
+/// The way has the events of the script, and there is none where there is no script.
+fn expect_events(
+    rt: &impl Abort,
+    alloc: Global,
+    c: char,
+    way: Option<&[Event]>,
+    script: Option<&[u8]>,
+) -> Result<(), Fail> {
+    let Some(script) = script else {
+        expect_at(rt, &c, way.is_none());
+        return Ok(());
+    };
+    let wanted = events_of(alloc, script)?;
+    expect_equal_at(rt, &c, &way, &Some(wanted.as_slice()));
+    Ok(())
+}
+
+fn expect_way(
+    rt: &impl Abort,
+    alloc: Global,
+    text: &[u8],
+    c: char,
+    script: Option<&[u8]>,
+) -> Result<(), Fail> {
+    let map = read_map(alloc, text)?;
+    let ways = Ways::of(alloc, &map)?;
+    expect_events(rt, alloc, c, ways.way(c), script)
+}
+
 #[test]
 fn each_character_has_its_first_way_or_none(rt: HostRuntime) -> Result<(), Fail> {
     for &(text, c, script) in &WAYS {
-        let map = read_map(rt.alloc(), text)?;
-        let ways = Ways::of(rt.alloc(), &map)?;
-        match (ways.way(c), script) {
-            (Some(way), Some(script)) => {
-                let wanted = events_of(rt.alloc(), script)?;
-                expect_equal_at(&rt, &c, &way, &wanted.as_slice());
-            }
-            (way, script) => expect_at(&rt, &c, way.is_none() && script.is_none()),
-        }
+        expect_way(&rt, rt.alloc(), text, c, script)?;
     }
     Ok(())
 }
@@ -91,15 +113,26 @@ static REFUSED: [(&[u8], TypeError); 3] = [
     (b"z\xe2\x82", TypeError::NotText { offset: 1 }),
 ];
 
+fn expect_characters(rt: &impl Abort, answer: Result<Vec<char>, TypeError>, wanted: &[char]) {
+    match answer {
+        Ok(characters) => expect_equal(rt, &characters.as_slice(), &wanted),
+        Err(error) => expect_equal(rt, &Some(error), &None),
+    }
+}
+
+fn expect_refused(rt: &impl Abort, alloc: Global, ways: &Ways<'_>) {
+    for &(sentence, error) in &REFUSED {
+        let answer = ways.characters(alloc, sentence);
+        expect_equal_at(rt, &sentence, &answer.err(), &Some(error));
+    }
+}
+
 #[test]
 fn sentences_are_judged_whole(rt: HostRuntime) -> Result<(), Fail> {
     let map = read_map(rt.alloc(), ACCENTS)?;
     let ways = Ways::of(rt.alloc(), &map)?;
-    let characters = ways.characters(rt.alloc(), b"a\xc3\x89\xc2\xb4")?;
-    expect_equal(&rt, &characters.as_slice(), &['a', 'É', '´'].as_slice());
-    for &(sentence, error) in &REFUSED {
-        let answer = ways.characters(rt.alloc(), sentence);
-        expect_equal_at(&rt, &sentence, &answer.err(), &Some(error));
-    }
+    let answer = ways.characters(rt.alloc(), b"a\xc3\x89\xc2\xb4");
+    expect_characters(&rt, answer, &['a', 'É', '´']);
+    expect_refused(&rt, rt.alloc(), &ways);
     Ok(())
 }

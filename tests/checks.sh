@@ -98,7 +98,7 @@ for pair in 'dump spill the.help.lists.the.commands.of.the.source' \
     'typed told the.help.lists.the.options.of.the.source'; do
     # shellcheck disable=SC2086 # three words
     set -- $pair
-    breaks crates/kmap/src/command_line.rt "s/(alloc, \"$1\"/(alloc, \"$2\"/"
+    breaks crates/kmap/src/command_line.rt "s/\"$1\"/\"$2\"/"
     refuses "failed: $3" manual
     refuses "failed: $3" sh copy/tests/completions.sh "$program"
     mended crates/kmap/src/command_line.rt

@@ -42,13 +42,13 @@ options_in() {
 
 # commands_of_source TOP: the commands that the source of the command line makes, and `help`, one a line
 commands_of_source() {
-    sed -n 's/.*Command::new(alloc, "\([a-z]*\)").*/\1/p' "$1/crates/kmap/src/command_line.rt" | grep -vx kmap
+    sed -n 's/^        name: "\([a-z]*\)",$/\1/p' "$1/crates/kmap/src/command_line.rt"
     echo help
 }
 
 # options_of_source TOP: the long options that this source gives its commands, and those of each program, one a line
 options_of_source() {
-    tr -d ' \n' < "$1/crates/kmap/src/command_line.rt" | grep -oE 'flag\(alloc,"[a-z]+"|\.long\("[a-z]+"' |
+    tr -d ' \n' < "$1/crates/kmap/src/command_line.rt" | grep -oE '(Flag|FlagWithout|FileOption)\("[a-z]+"' |
         sed 's/.*"\([a-z]*\)"/--\1/'
     echo --help
     echo --version

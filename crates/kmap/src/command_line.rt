@@ -5,167 +5,161 @@ use std::alloc::{AllocError, Global};
 /// The version of the program, which CHANGELOG.md and the manual pages repeat.
 const VERSION: &str = "0.2.0";
 
-fn file<'a>(alloc: Global, name: &'a str, help: &'a str) -> Arg<'a> {
-    Arg::new(alloc, name)
-        .required(true)
-        .action(ArgAction::Set)
-        .help(help)
+/// A word that a subcommand takes. Each has a name, and what the help says of it.
+#[derive(Clone, Copy)]
+enum Word {
+    File(&'static str, &'static str),
+    /// One file or more.
+    Files(&'static str, &'static str),
+    Flag(&'static str, &'static str),
+    /// A flag that isn't taken beside another one, whose name stands last.
+    FlagWithout(&'static str, &'static str, &'static str),
+    /// An option, with the name of the file that it takes in between.
+    FileOption(&'static str, &'static str, &'static str),
 }
 
-fn flag<'a>(alloc: Global, name: &'a str, help: &'a str) -> Arg<'a> {
-    Arg::new(alloc, name)
-        .long(name)
-        .action(ArgAction::SetTrue)
-        .help(help)
+use Word::{File, FileOption, Files, Flag, FlagWithout};
+
+/// What the help says of a subcommand, and the words that it takes.
+struct Described {
+    name: &'static str,
+    about: &'static str,
+    example: &'static str,
+    words: &'static [Word],
 }
 
 /// The keymap text that most subcommands read.
-fn text<'a>(alloc: Global) -> Arg<'a> {
-    file(alloc, "TEXT", "The keymap text")
-}
+const TEXT: Word = File("TEXT", "The keymap text");
 
 /// The keymap texts of a subcommand that takes one after the other.
-fn texts<'a>(alloc: Global) -> Arg<'a> {
-    file(alloc, "TEXT", "The keymap texts").num_args(1..)
+const TEXTS: Word = Files("TEXT", "The keymap texts");
+
+const NEXT: Word = FileOption("next", "TEXT2", "The keymap text that a load puts in force");
+
+static SUBCOMMANDS: [Described; 10] = [
+    Described {
+        name: "check",
+        about: "Accepts a keymap only if no key can leave a modifier on",
+        example: "Example: kmap check --show de.kbd{n}{n}kmap(1) tells how to read the report.",
+        words: &[
+            TEXT,
+            Flag(
+                "show",
+                "Also prints key presses that leave a modifier on, if found",
+            ),
+        ],
+    },
+    Described {
+        name: "search",
+        about: "Decides whether key presses can leave a modifier on",
+        example: "Example: kmap search de.kbd{n}{n}kmap(1) tells how to read the answer.",
+        words: &[TEXT, NEXT],
+    },
+    Described {
+        name: "lint",
+        about: "Tells what is wrong or doubtful in keymap texts, and where",
+        example: "Example: kmap lint de.kbd us.kbd{n}{n}kmap(1) tells what to do about each kind.",
+        words: &[TEXTS],
+    },
+    Described {
+        name: "fmt",
+        about: "Writes keymap texts in one layout, and changes nothing else",
+        example: "Example: kmap fmt de.kbd us.kbd{n}{n}kmap(1) tells what the layout is.",
+        words: &[
+            TEXTS,
+            FlagWithout(
+                "check",
+                "Writes nothing, and fails where a text is not in the layout",
+                "print",
+            ),
+            Flag("print", "Prints the texts in the layout instead"),
+        ],
+    },
+    Described {
+        name: "play",
+        about: "Prints what the console answers to a script of key presses",
+        example: "Example: kmap play --typed de.kbd de.script{n}{n}kmap(1) tells what a script is.",
+        words: &[
+            TEXT,
+            File("SCRIPT", "The script of key presses"),
+            Flag("typed", "Prints the typed bytes instead"),
+            NEXT,
+        ],
+    },
+    Described {
+        name: "type",
+        about: "Prints a script of key presses that types a sentence",
+        example: "Example: kmap type de.kbd sentence > script{n}{n}kmap(1) tells which ways are tried.",
+        words: &[TEXT, File("SENTENCE", "The sentence, in UTF-8")],
+    },
+    Described {
+        name: "cover",
+        about: "Prints a script that tests a console with all that a keymap can do",
+        example: "Example: kmap cover us.kbd > us.script{n}{n}kmap(1) tells what the script tries.",
+        words: &[TEXT],
+    },
+    Described {
+        name: "compile",
+        about: "Writes the table file of a keymap text",
+        example: "Example: kmap compile de.kbd de.tables{n}{n}kmap(1) tells what OUT is good for.",
+        words: &[
+            TEXT,
+            File("OUT", "The table file to create or replace"),
+            Flag("narrow", "Writes a narrow file, one byte a character"),
+        ],
+    },
+    Described {
+        name: "dump",
+        about: "Prints a table file as keymap text",
+        example: "Example: kmap dump de.tables{n}{n}kmap(5) tells what the text means.",
+        words: &[
+            File("TABLES", "The table file"),
+            Flag("narrow", "Reads a narrow file"),
+        ],
+    },
+    Described {
+        name: "draw",
+        about: "Draws a keymap as one SVG picture",
+        example: "Example: kmap draw de.kbd > de.svg{n}{n}kmap(1) tells how to read the picture.",
+        words: &[
+            TEXT,
+            Flag("ansi", "Draws a board of 104 keys in place of 105"),
+        ],
+    },
+];
+
+/// An argument that has a value, or one that has none.
+fn named<'a>(alloc: Global, name: &'a str, help: &'a str, action: ArgAction) -> Arg<'a> {
+    Arg::new(alloc, name).action(action).help(help)
 }
 
-/// Adds what all subcommands have: what they are for, an example, and the file or files that come first.
-fn described<'a>(
-    command: Command<'a>,
-    about: &'a str,
-    example: &'a str,
-    first: Arg<'a>,
-) -> Result<Command<'a>, AllocError> {
-    command.about(about).after_help(example).arg(first)
+fn argument<'a>(alloc: Global, word: Word) -> Result<Arg<'a>, AllocError> {
+    match word {
+        File(name, help) => Ok(named(alloc, name, help, ArgAction::Set).required(true)),
+        Files(name, help) => {
+            let files = named(alloc, name, help, ArgAction::Set).required(true);
+            Ok(files.num_args(1..))
+        }
+        Flag(name, help) => Ok(named(alloc, name, help, ArgAction::SetTrue).long(name)),
+        FlagWithout(name, help, other) => {
+            let flag = named(alloc, name, help, ArgAction::SetTrue).long(name);
+            flag.conflicts_with(other)
+        }
+        FileOption(name, value, help) => {
+            let option = named(alloc, name, help, ArgAction::Set).long(name);
+            Ok(option.value_name(value))
+        }
+    }
 }
 
-fn check<'a>(alloc: Global) -> Result<Command<'a>, AllocError> {
-    described(
-        Command::new(alloc, "check"),
-        "Accepts a keymap only if no key can leave a modifier on",
-        "Example: kmap check --show de.kbd{n}{n}kmap(1) tells how to read the report.",
-        text(alloc),
-    )?
-    .arg(flag(
-        alloc,
-        "show",
-        "Also prints key presses that leave a modifier on, if found",
-    ))
-}
-
-fn lint<'a>(alloc: Global) -> Result<Command<'a>, AllocError> {
-    described(
-        Command::new(alloc, "lint"),
-        "Tells what is wrong or doubtful in keymap texts, and where",
-        "Example: kmap lint de.kbd us.kbd{n}{n}kmap(1) tells what to do about each kind.",
-        texts(alloc),
-    )
-}
-
-fn fmt<'a>(alloc: Global) -> Result<Command<'a>, AllocError> {
-    let check = check_mode(alloc)?;
-    described(
-        Command::new(alloc, "fmt"),
-        "Writes keymap texts in one layout, and changes nothing else",
-        "Example: kmap fmt de.kbd us.kbd{n}{n}kmap(1) tells what the layout is.",
-        texts(alloc),
-    )?
-    .arg(check)?
-    .arg(flag(alloc, "print", "Prints the texts in the layout instead"))
-}
-
-/// The flag of `fmt` that isn't taken beside `--print`.
-fn check_mode<'a>(alloc: Global) -> Result<Arg<'a>, AllocError> {
-    flag(
-        alloc,
-        "check",
-        "Writes nothing, and fails where a text is not in the layout",
-    )
-    .conflicts_with("print")
-}
-
-fn search<'a>(alloc: Global) -> Result<Command<'a>, AllocError> {
-    described(
-        Command::new(alloc, "search"),
-        "Decides whether key presses can leave a modifier on",
-        "Example: kmap search de.kbd{n}{n}kmap(1) tells how to read the answer.",
-        text(alloc),
-    )?
-    .arg(next(alloc))
-}
-
-fn next<'a>(alloc: Global) -> Arg<'a> {
-    Arg::new(alloc, "next")
-        .long("next")
-        .value_name("TEXT2")
-        .action(ArgAction::Set)
-        .help("The keymap text that a load puts in force")
-}
-
-fn play<'a>(alloc: Global) -> Result<Command<'a>, AllocError> {
-    described(
-        Command::new(alloc, "play"),
-        "Prints what the console answers to a script of key presses",
-        "Example: kmap play --typed de.kbd de.script{n}{n}kmap(1) tells what a script is.",
-        text(alloc),
-    )?
-    .arg(file(alloc, "SCRIPT", "The script of key presses"))?
-    .arg(flag(alloc, "typed", "Prints the typed bytes instead"))?
-    .arg(next(alloc))
-}
-
-fn type_sentence<'a>(alloc: Global) -> Result<Command<'a>, AllocError> {
-    described(
-        Command::new(alloc, "type"),
-        "Prints a script of key presses that types a sentence",
-        "Example: kmap type de.kbd sentence > script{n}{n}kmap(1) tells which ways are tried.",
-        text(alloc),
-    )?
-    .arg(file(alloc, "SENTENCE", "The sentence, in UTF-8"))
-}
-
-fn cover<'a>(alloc: Global) -> Result<Command<'a>, AllocError> {
-    described(
-        Command::new(alloc, "cover"),
-        "Prints a script that tests a console with all that a keymap can do",
-        "Example: kmap cover us.kbd > us.script{n}{n}kmap(1) tells what the script tries.",
-        text(alloc),
-    )
-}
-
-fn compile<'a>(alloc: Global) -> Result<Command<'a>, AllocError> {
-    described(
-        Command::new(alloc, "compile"),
-        "Writes the table file of a keymap text",
-        "Example: kmap compile de.kbd de.tables{n}{n}kmap(1) tells what OUT is good for.",
-        text(alloc),
-    )?
-    .arg(file(alloc, "OUT", "The table file to create or replace"))?
-    .arg(flag(
-        alloc,
-        "narrow",
-        "Writes a narrow file, one byte a character",
-    ))
-}
-
-fn dump<'a>(alloc: Global) -> Result<Command<'a>, AllocError> {
-    described(
-        Command::new(alloc, "dump"),
-        "Prints a table file as keymap text",
-        "Example: kmap dump de.tables{n}{n}kmap(5) tells what the text means.",
-        file(alloc, "TABLES", "The table file"),
-    )?
-    .arg(flag(alloc, "narrow", "Reads a narrow file"))
-}
-
-fn draw<'a>(alloc: Global) -> Result<Command<'a>, AllocError> {
-    described(
-        Command::new(alloc, "draw"),
-        "Draws a keymap as one SVG picture",
-        "Example: kmap draw de.kbd > de.svg{n}{n}kmap(1) tells how to read the picture.",
-        text(alloc),
-    )?
-    .arg(flag(alloc, "ansi", "Draws a board of 104 keys in place of 105"))
+fn subcommand<'a>(alloc: Global, described: &Described) -> Result<Command<'a>, AllocError> {
+    let mut command = Command::new(alloc, described.name)
+        .about(described.about)
+        .after_help(described.example);
+    for word in described.words {
+        command = command.arg(argument(alloc, *word)?)?;
+    }
+    Ok(command)
 }
 
 /// The program itself, without its subcommands.
@@ -178,26 +172,13 @@ fn without_subcommands<'a>(alloc: Global) -> Command<'a> {
         .arg_required_else_help(true)
 }
 
-/// Adds a subcommand, unless memory was refused for it.
-fn with_subcommand<'a>(
-    program: Command<'a>,
-    subcommand: Result<Command<'a>, AllocError>,
-) -> Result<Command<'a>, AllocError> {
-    program.subcommand(subcommand?)
-}
-
 /// The subcommands of the program and their words.
 pub(crate) fn command<'a>(alloc: Global) -> Result<Command<'a>, AllocError> {
-    let program = with_subcommand(without_subcommands(alloc), check(alloc))?;
-    let program = with_subcommand(program, search(alloc))?;
-    let program = with_subcommand(program, lint(alloc))?;
-    let program = with_subcommand(program, fmt(alloc))?;
-    let program = with_subcommand(program, play(alloc))?;
-    let program = with_subcommand(program, type_sentence(alloc))?;
-    let program = with_subcommand(program, cover(alloc))?;
-    let program = with_subcommand(program, compile(alloc))?;
-    let program = with_subcommand(program, dump(alloc))?;
-    with_subcommand(program, draw(alloc))
+    let mut program = without_subcommands(alloc);
+    for described in &SUBCOMMANDS {
+        program = program.subcommand(subcommand(alloc, described)?)?;
+    }
+    Ok(program)
 }
 
 /// What is done with the layout of a text.

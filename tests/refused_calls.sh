@@ -1,8 +1,9 @@
 #!/bin/sh
-# Runs each call of the libraries that takes memory with each of its own allocations refused in turn: it answers that
+# Makes each call of the program of crates/calls with each of its own allocations refused in turn: it answers that
 # memory was refused, and leaves alone what it must. With ample memory it never answers so.
 #
-# These are the exported functions that take an allocator: each is called itself, or through one that calls it.
+# It also looks whether each exported function of the libraries that takes an allocator is called there, itself or
+# through one that calls it, or through a command of kmap, of which tests/refused_memory.sh refuses all allocations.
 #
 # usage: refused_calls.sh PROGRAM
 # PROGRAM is that of crates/calls, which makes the calls and tells of what they left alone. The last line is
@@ -21,14 +22,10 @@ if ! command -v "${CC:-cc}" > /dev/null; then
 fi
 "${CC:-cc}" -shared -fPIC -O1 -o "$folder/refuse.so" "$tests/refuse.c" -ldl || exit 1
 
-# REFUSE_REST=1 where all later allocations are refused too
-rest=
-
 # answers CALL NUMBER WANTED: the call answers so with this one of its own allocations refused, where it has that many
 answers() {
     rm -f "$folder/count"
-    # shellcheck disable=SC2086 # it is one word or none
-    got=$(env $rest ALLOCATIONS="$folder/count" MARKED=1 REFUSE="$2" LD_PRELOAD="$folder/refuse.so" \
+    got=$(ALLOCATIONS="$folder/count" MARKED=1 REFUSE="$2" LD_PRELOAD="$folder/refuse.so" \
         "$program" "$1" 2> "$folder/marks")
     status=$?
     holds "$1 with allocation $2 refused: '$got' in place of '$3', status $status" \
@@ -71,68 +68,36 @@ refuses read_narrow
 refuses read_narrow-faulty fault
 takes_none read_narrow-long fault
 refuses read_narrow_from
-refuses sticking-never
-refuses sticking-sticks
-refuses sticking_between-never
-refuses sticking_between-sticks
 refuses replay-plain
 refuses replay-word
-refuses read_script
-refuses play_run-lines
-refuses play_run-typed
-refuses play_run-next-lines
-refuses play_run-next-typed
-refuses Ways::of
-refuses check_run
-refuses check_run-shown
-refuses search_run-never
-refuses search_run-sticks
-refuses search_run-next-never
-refuses search_run-next-sticks
-refuses dump_run
-refuses dump_narrow_run
-refuses compile_run
-refuses compile_narrow_run
-# A vector that is refused room to grow asks for what it needs now, so a single refusal may have no effect.
-rest=REFUSE_REST=1
-refuses definitions
-refuses events_that_show
-refuses diagnostics
-refuses diagnostics-none
-refuses diagnostics-faulty
-refuses characters
-refuses characters-untyped fault
-refuses type_run
-refuses cover_run
-refuses format
-refuses format-faulty fault
-refuses fmt_run
-refuses fmt_print_run
-refuses file_error_line
-refuses draw_run
-refuses lint_run
-rest=
-takes_none characters-not-text fault
 
-# The calls that the program knows are those above, and with what they go through all that the sources have.
+# through COMMAND FUNCTION..: these exported functions take memory, and a command of kmap that tests/refused_memory.sh
+# refuses it goes through them
+through() {
+    for function in "$@"; do
+        [ "$function" = "$1" ] || echo "$function"
+    done
+    grep -q "^refuses [01] $1 " "$tests/refused_memory.sh" || echo "through $1, which is not refused any"
+}
+
+# The calls that the program knows are those above, and with what the commands go through all that the sources have.
 calls=$tests/../crates/calls/src/named.rt
 sed -n 's/^        "\([A-Za-z_:-]*\)" => .*/\1/p' "$calls" | sort > "$folder/known"
 sed -n 's/^\(refuses\|takes_none\) \([A-Za-z_:-]*\).*/\2/p' "$0" | sort > "$folder/made"
 same_text 'each call of the program is made here' "$folder/known" "$folder/made"
 {
     # a method stands in the program by its own name where no other has that
-    sed -e 's/-.*//' -e 's/^try_clone$/KeyMap::try_clone/' -e 's/^characters$/Ways::characters/' "$folder/known"
-    echo picture # draw_run
-    echo TextLines::new # lint_run
-    echo lint_text # lint_run
-    echo shown_name # lint_run
-    echo filled # lint_run
-    echo sights_of # cover_run
-    echo plan_for # cover_run
-    echo cover_of # cover_run
-    echo Seen::new # cover_run
-    echo cells # cover_run
-    echo lock_settings # cover_run
+    sed -e 's/-.*//' -e 's/^try_clone$/KeyMap::try_clone/' "$folder/known"
+    through check check_run
+    through compile compile_run compile_narrow_run
+    through cover cover_run cover_of events_that_show plan_for sights_of Seen::new cells lock_settings
+    through draw draw_run picture
+    through dump dump_run dump_narrow_run
+    through fmt fmt_run fmt_print_run format file_error_line
+    through lint lint_run lint_text diagnostics definitions TextLines::new shown_name filled
+    through play play_run read_script
+    through search search_run sticking sticking_between
+    through type type_run Ways::of Ways::characters
 } | sort -u > "$folder/called"
 python3 "$tests/takes_memory.py" | sort > "$folder/exported"
 same_text 'each exported function that takes memory is called' "$folder/exported" "$folder/called"

@@ -1,6 +1,7 @@
 #!/bin/sh
 # Runs the built program once for each of its allocations, with that one refused: it says that it is out of memory and
-# has written nothing. Before it opens a file it may also do without, and end as it does with ample memory.
+# has written nothing. Before it opens a file it may also do without, and end as it does with ample memory. Where all
+# later ones are refused too, it always says so.
 #
 # usage: refused_memory.sh PROGRAM
 # The last line is 'N passed, M failed'; the status is 0 where none failed. It needs the C compiler that CC names, cc
@@ -26,7 +27,11 @@ fi
 
 printf "030 'a' 'A' nop nop 'a' 'A' nop nop C\n" > letter
 printf "042 lshift lshift lshift lshift lshift lshift lshift lshift O\ndacu 180 ( 'e' 0xe9 )\n" > shift
+printf '058 clock clock clock clock clock clock clock clock O\n' > caps
+# the shift is a character unless the caps lock is on, which only a key under shift turns on
+printf "042 'x' lshift 'x' lshift 'x' lshift 'x' lshift C\n059 nop clock nop clock nop clock nop clock O\n" > locked
 cp "$examples/trap.kbd" trap
+echo ')' > faulty
 mkdir none
 # Longer than what is read at once, so that the bytes outgrow their memory as the events do.
 yes 'down 30
@@ -48,6 +53,8 @@ passed=0
 failed=0
 # Where it isn't empty, a refusal may be told or have no effect.
 goes_on=
+# Where it isn't empty, all later allocations are refused too.
+rest=
 
 # same_file: the file that was made, if any, is the one that ample memory makes
 same_file() {
@@ -67,6 +74,17 @@ before() {
     )
 }
 
+# is_told: the program ended as it must where it is out of memory
+is_told() {
+    [ "$got" -eq 1 ] && [ ! -s stdout ] && [ ! -e made ] && cmp -s said stderr
+}
+
+# is_same: the program ended as it does with ample memory, where it may
+is_same() {
+    { [ $number -le "$before" ] || [ -n "$goes_on" ]; } &&
+        [ "$got" -eq "$status" ] && cmp -s wanted stdout && cmp -s faults stderr && same_file
+}
+
 # refuses STATUS ARGS..: the program ends so with ample memory, and each refusal is told
 refuses() {
     status=$1
@@ -80,22 +98,22 @@ refuses() {
         return
     fi
     [ ! -e made ] || mv made good
+    all=$(cat count)
     before=$(before "$@")
     told=0
     number=1
-    while [ $number -le "$(cat count)" ]; do
-        rm -f made
+    while [ $number -le "$all" ]; do
+        [ ! -e made ] || rm made
         REFUSE=$number LD_PRELOAD=./refuse.so "$program" "$@" > stdout 2> stderr
         got=$?
-        if [ $got -eq 1 ] && [ ! -s stdout ] && [ ! -e made ] && cmp -s said stderr; then
+        if is_told; then
             told=$((told + 1))
             passed=$((passed + 1))
-        elif { [ $number -le "$before" ] || [ -n "$goes_on" ]; } &&
-            [ $got -eq "$status" ] && cmp -s wanted stdout && [ ! -s stderr ] && same_file; then
+        elif [ -z "$rest" ] && is_same; then
             passed=$((passed + 1))
         else
             failed=$((failed + 1))
-            echo "failed: $* with allocation $number refused (status $got)"
+            echo "failed: $* with allocation $number refused${rest:+ and all later ones} (status $got)"
         fi
         number=$((number + 1))
     done
@@ -112,6 +130,7 @@ refuses 0 play letter script --typed --next shift
 refuses 0 search letter
 refuses 1 search trap
 refuses 0 search letter --next shift
+refuses 1 search caps --next locked
 # A hash map that is refused room to grow asks for what it needs now, so this may go on and write the same.
 goes_on=yes
 refuses 0 type letter sentence
@@ -120,6 +139,7 @@ refuses 0 lint letter
 refuses 1 lint trap
 refuses 0 fmt --print letter
 refuses 1 fmt --check letter
+refuses 1 fmt --print faulty
 goes_on=
 refuses 0 dump tables
 refuses 0 dump small --narrow
@@ -127,6 +147,20 @@ refuses 0 draw shift
 refuses 0 draw trap --ansi
 refuses 0 compile shift made
 refuses 0 compile shift made --narrow
+# What asks for less after a refusal gets none then.
+rest=yes
+export REFUSE_REST=1
+refuses 0 cover letter
+refuses 0 type letter sentence
+refuses 0 lint letter
+refuses 1 lint trap
+refuses 1 lint faulty
+refuses 0 fmt --print letter
+refuses 1 fmt --check letter
+refuses 1 fmt --print faulty
+refuses 0 draw shift
+rest=
+unset REFUSE_REST
 
 # Written in place, a text is either as it was or in the layout, and nothing lies beside it.
 cp letter made

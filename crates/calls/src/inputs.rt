@@ -13,29 +13,6 @@ pub(crate) const TEXT: &[u8] = b"018 'e' 'E' nop nop 'e' 'E' nop nop C
 dacu 180 ( 'e' 0xe9 )
 ";
 
-/// A shift that is a character where control is on.
-pub(crate) const TRAP: &[u8] = b"029 lctrl lctrl lctrl lctrl lctrl lctrl lctrl lctrl O
-042 lshift lshift 'x' 'x' lshift lshift lshift lshift O
-";
-
-/// The caps lock alone.
-pub(crate) const LOCK: &[u8] = b"058 clock clock clock clock clock clock clock clock O
-";
-
-/// A shift that is a character unless the caps lock is on, which only a key under shift turns on.
-pub(crate) const LOCKED: &[u8] = b"042 'x' lshift 'x' lshift 'x' lshift 'x' lshift C
-059 nop clock nop clock nop clock nop clock O
-";
-
-/// Letters, one of which takes the dead key before its base, often enough that their list outgrows its memory.
-pub(crate) const SENTENCE: &[u8] = b"aA\xc3\xa9AaA\xc3\xa9AaA\xc3\xa9AaA\xc3\xa9A";
-
-/// A sentence that no keys of the map type.
-pub(crate) const UNTYPED: &[u8] = b"ab";
-
-/// A sentence that isn't text.
-pub(crate) const NOT_TEXT: &[u8] = b"a\xff";
-
 /// A text with a fault in its first byte.
 pub(crate) const FAULTY: &[u8] = b")";
 
@@ -58,11 +35,7 @@ pub(crate) fn narrow(alloc: Global) -> Result<Vec<u8>, AllocError> {
     Ok(bytes)
 }
 
-/// More bytes than are read at once, so that they outgrow their memory, as the events do: a thousand lines.
-pub(crate) fn script() -> [u8; 8000] {
-    let mut script = [0; 8000];
-    for (index, byte) in script.iter_mut().enumerate() {
-        *byte = b"down 30\n"[index % 8];
-    }
-    script
+/// More bytes than are read at once, so that they outgrow their memory.
+pub(crate) fn long_text() -> [u8; 8000] {
+    [b' '; 8000]
 }

@@ -67,19 +67,22 @@ fn sum_of_tables(alloc: Global, map: &KeyMap, rounds: u32) -> Result<u64, AllocE
     })
 }
 
-/// The sum of the answers to so many rounds, 1 or 10000, over `tables` or else over the map, as the words say.
+/// How many rounds a word asks for.
+fn rounds_of(word: &str) -> u32 {
+    if word == "10000" { 10_000 } else { 1 }
+}
+
+/// The sum of the answers to the rounds that the second word asks for, over the tables of the map where the first one is
+/// `tables`, or else over the map.
 pub(crate) fn sum(alloc: Global, words: &[String]) -> Result<u64, AllocError> {
-    let (tables, rounds) = match words {
-        [kind, count, ..] => (kind.as_str() == "tables", count.as_str() == "10000"),
-        _ => (false, false),
-    };
-    let rounds = if rounds { 10_000 } else { 1 };
     let Ok(map) = read_map(alloc, TEXT) else {
         return Ok(0);
     };
-    if tables {
-        sum_of_tables(alloc, &map, rounds)
-    } else {
-        Ok(sum_of(&map, rounds))
+    match words {
+        [kind, count] if kind.as_str() == "tables" => {
+            sum_of_tables(alloc, &map, rounds_of(count.as_str()))
+        }
+        [_, count] => Ok(sum_of(&map, rounds_of(count.as_str()))),
+        _ => Ok(0),
     }
 }

@@ -10,7 +10,7 @@ use keymap_text::read_map;
 use std::alloc::Global;
 use std::process::Abort;
 use std::test::Fail;
-use test_keymaps::{
+use test_support::keymaps::{
     ACCENTS, BLANK_MACRON, CAPS_AND_NUM, CAPS_WITH_NOPS, LETTER_AND_SHIFT, SHIFT_AND_CAPS,
     SHIFT_WITH_TRAP, TWO_CONTROLS, TWO_SCROLL_LOCKS, TWO_SHIFTS, UPPER_HALF,
 };

@@ -8,7 +8,7 @@ use keymap_core::{Holding, KeyCode, KeyMap, LOCKS, MODIFIERS, Modifier};
 use keymap_text::read_map;
 use std::process::Abort;
 use std::test::Fail;
-use test_keymaps::{
+use test_support::keymaps::{
     ACCENTS, CAPS_AND_NUM, LETTER_AND_SHIFT, SHIFT_AND_CAPS, SHIFT_WITHOUT_TRAP, UPPER_HALF,
 };
 

@@ -9,7 +9,7 @@ use keymap_core::{Holding, LOCKS, Lock, MODIFIERS, Modifier};
 use keymap_text::read_map;
 use std::process::Abort;
 use std::test::Fail;
-use test_keymaps::{
+use test_support::keymaps::{
     ALT_SHIFT_WITH_TRAP, CAPS_WITH_NOPS, DUMPED_LINE, SHIFT_ALONE, SHIFT_WITH_TRAP,
     SHIFT_WITHOUT_TRAP, TWO_SCROLL_LOCKS, UPPER_HALF,
 };

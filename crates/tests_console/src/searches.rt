@@ -8,7 +8,7 @@ use keymap_text::read_map;
 use std::alloc::Global;
 use std::process::Abort;
 use std::test::Fail;
-use test_keymaps::{
+use test_support::keymaps::{
     ALT_LOCK_TO_NOTHING, ALT_SHIFT_WITH_TRAP, CAPS_ALONE, CAPS_LOCK_TO_NOTHING,
     REMEMBERED_BUT_HELD_BY_ANOTHER, SHIFT_WITH_TRAP, STICKS_UNDER_CAPS, WOULD_STICK_UNDER_CAPS,
 };

@@ -1,24 +1,25 @@
 //! Readers and writers that fail at each byte, and how much is read of a text that is too long.
 
 use crate::asserts::{expect_at, expect_equal_at};
-use crate::tables::LENGTH;
+use crate::tables::{Form, LENGTH};
 use keymap_core::{KeyMap, Read, ReadFault, ReadFaultKind, Write, WriteFault};
-use keymap_tables::{
-    NarrowError, TableError, read_narrow_from, read_tables_from, write_narrow, write_tables,
-};
+use keymap_tables::{NarrowError, TableError};
 use keymap_text::{TextError, TextFault, TextFaultKind, print_map, read_from, read_map};
 use std::alloc::Global;
 use std::test::Fail;
-use test_devices::{Tape, comparing_with, sheet_of, tape_of};
-use test_keymaps::{ACCENTS, LETTER_AND_SHIFT};
+use test_support::devices::{Tape, comparing_with, sheet_of, tape_of};
+use test_support::keymaps::{ACCENTS, LETTER_AND_SHIFT};
 
 /// What is read or written.
 #[derive(Clone, Copy, Debug)]
 enum Format {
     Text,
-    Wide,
-    Narrow,
+    Tables(Form),
 }
+
+const WIDE: Format = Format::Tables(Form::Wide);
+
+const NARROW: Format = Format::Tables(Form::Narrow);
 
 /// The fault of a reader that failed or had too much.
 fn read_fault(alloc: Global, format: Format, tape: &mut Tape<'_>) -> Option<ReadFault> {
@@ -27,11 +28,7 @@ fn read_fault(alloc: Global, format: Format, tape: &mut Tape<'_>) -> Option<Read
             Err(TextError::Read(fault)) => Some(fault),
             _ => None,
         },
-        Format::Wide => match read_tables_from(alloc, tape) {
-            Err(TableError::Read(fault)) => Some(fault),
-            _ => None,
-        },
-        Format::Narrow => match read_narrow_from(alloc, tape) {
+        Format::Tables(form) => match form.read_from(alloc, tape) {
             Err(TableError::Read(fault)) => Some(fault),
             _ => None,
         },
@@ -41,8 +38,8 @@ fn read_fault(alloc: Global, format: Format, tape: &mut Tape<'_>) -> Option<Read
 /// What is read of a text and then blanks, how many bytes there are, and how many come at a time.
 static READS: [(Format, &[u8], usize, usize); 3] = [
     (Format::Text, LETTER_AND_SHIFT, 100, 13),
-    (Format::Wide, b"", 15_524, 4_000),
-    (Format::Narrow, b"", 4_139, 4_139),
+    (WIDE, b"", 15_524, 4_000),
+    (NARROW, b"", 4_139, 4_139),
 ];
 
 /// The last failure is in place of the end.
@@ -65,16 +62,15 @@ fn a_reader_that_fails_after_each_number_of_bytes_is_a_fault(rt: HostRuntime) {
 fn write_as<W: Write>(format: Format, map: &KeyMap, writer: &mut W) -> Result<(), NarrowError> {
     match format {
         Format::Text => print_map(map, writer).map_err(NarrowError::Write),
-        Format::Wide => write_tables(map, writer).map_err(NarrowError::Write),
-        Format::Narrow => write_narrow(map, writer),
+        Format::Tables(form) => form.write(map, writer),
     }
 }
 
 /// The printed form has more bytes than are gathered before they are written.
 static WRITES: [(Format, &[u8]); 3] = [
     (Format::Text, ACCENTS),
-    (Format::Wide, LETTER_AND_SHIFT),
-    (Format::Narrow, LETTER_AND_SHIFT),
+    (WIDE, LETTER_AND_SHIFT),
+    (NARROW, LETTER_AND_SHIFT),
 ];
 
 /// It has just the first bytes then.

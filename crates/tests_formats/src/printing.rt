@@ -6,7 +6,8 @@ use keymap_core::{ToStd, Write, WriteFault};
 use keymap_text::{print_map, read_map};
 use std::alloc::{AllocError, Global};
 use std::test::Fail;
-use test_devices::slow_sheet_of;
+use test_support::devices::slow_sheet_of;
+use test_support::keymaps;
 
 /// A text, how many lines its map has for keys, those of them that are not undefined, and the lines for accents.
 #[derive(Clone, Copy)]
@@ -28,7 +29,7 @@ static MAPS: [Printed; 17] = [
         accents: b"",
     },
     Printed {
-        text: test_keymaps::LETTER_AND_SHIFT,
+        text: keymaps::LETTER_AND_SHIFT,
         keys: 43,
         lines: &[
             b"030 'a'    'A'    soh    soh    'a'    'A'    soh    soh    C",
@@ -37,7 +38,7 @@ static MAPS: [Printed; 17] = [
         accents: b"",
     },
     Printed {
-        text: test_keymaps::TWO_SCROLL_LOCKS,
+        text: keymaps::TWO_SCROLL_LOCKS,
         keys: 105,
         lines: &[
             b"070 slock  slock  slock  slock  slock  slock  slock  slock  O",
@@ -46,7 +47,7 @@ static MAPS: [Printed; 17] = [
         accents: b"",
     },
     Printed {
-        text: test_keymaps::SHIFT_WITH_TRAP,
+        text: keymaps::SHIFT_WITH_TRAP,
         keys: 43,
         lines: &[
             b"029 lctrl  lctrl  lctrl  lctrl  lctrl  lctrl  lctrl  lctrl  O",
@@ -55,7 +56,7 @@ static MAPS: [Printed; 17] = [
         accents: b"",
     },
     Printed {
-        text: test_keymaps::ALT_SHIFT_WITH_TRAP,
+        text: keymaps::ALT_SHIFT_WITH_TRAP,
         keys: 94,
         lines: &[
             b"042 lshift lshift lshift lshift lshift lshift lshift lshift O",
@@ -64,7 +65,7 @@ static MAPS: [Printed; 17] = [
         accents: b"",
     },
     Printed {
-        text: test_keymaps::CAPS_AND_NUM,
+        text: keymaps::CAPS_AND_NUM,
         keys: 70,
         lines: &[
             b"030 'a'    'A'    soh    soh    'a'    'A'    soh    soh    B",
@@ -74,7 +75,7 @@ static MAPS: [Printed; 17] = [
         accents: b"",
     },
     Printed {
-        text: test_keymaps::ACCENTS,
+        text: keymaps::ACCENTS,
         keys: 93,
         lines: &[
             b"015 ht     btab   ht     ht     ht     btab   ht     ht     O",
@@ -93,7 +94,7 @@ dacu 0x00b4 ( 'e' 0x00e9 ) ( 'E' 0x00c9 ) ( 'e' 0x00ea )
 ",
     },
     Printed {
-        text: test_keymaps::TWO_CONTROLS,
+        text: keymaps::TWO_CONTROLS,
         keys: 43,
         lines: &[
             b"029 lctrl  rctrl  lctrl  rctrl  lctrl  rctrl  lctrl  rctrl  O",
@@ -102,7 +103,7 @@ dacu 0x00b4 ( 'e' 0x00e9 ) ( 'E' 0x00c9 ) ( 'e' 0x00ea )
         accents: b"",
     },
     Printed {
-        text: test_keymaps::UPPER_HALF,
+        text: keymaps::UPPER_HALF,
         keys: 222,
         lines: &[
             b"030 'a'    'A'    soh    soh    'a'    'A'    soh    soh    C",
@@ -115,7 +116,7 @@ dacu 0x00b4 ( 'e' 0x00e9 ) ( 'E' 0x00c9 ) ( 'e' 0x00ea )
         accents: b"",
     },
     Printed {
-        text: test_keymaps::SHIFT_AND_CAPS,
+        text: keymaps::SHIFT_AND_CAPS,
         keys: 59,
         lines: &[
             b"042 lshift lshift lshift lshift lshift lshift lshift lshift O",

@@ -2,15 +2,15 @@
 
 use crate::asserts::{expect_at, expect_equal, expect_equal_at};
 use crate::faults::FULL_ACCENT;
-use keymap_core::{Action, Cell, KeyMap, LockFlag, ToStd};
+use keymap_core::{Accent, Action, Cell, KeyMap, LockFlag, ToStd};
 use keymap_text::TextFaultKind::{BadLiteral, BadWord, EndInside, KeyTooLarge, Unexpected};
 use keymap_text::{MapReader, TextError, TextFault, TextFaultKind, print_map, read_map};
 use std::alloc::Global;
 use std::process::Abort;
 use std::test::Fail;
-use test_keymaps::{ACCENTS, LETTER_AND_SHIFT, UPPER_HALF};
+use test_support::keymaps::{ACCENTS, LETTER_AND_SHIFT, UPPER_HALF};
 
-/// The answer is the map.
+/// Whether the answer is the map.
 pub(crate) fn is_map<E: Drop>(answer: Result<KeyMap, E>, map: &KeyMap) -> bool {
     match answer {
         Ok(answered) => answered == *map,
@@ -201,14 +201,17 @@ const ACUTE: &[u8] = b"dacu 180\n( 'e' 0xe9 )\n( 'E' 0xc9 )";
 const ACUTE_TWICE: &[u8] =
     b"dacu 96 ( 'a' 'b' )\n( 'E' 'c' )\ndacu 180\n( 'e' 0xe9 )\n( 'E' 0xc9 )\n";
 
+fn parts(accent: Option<&Accent>) -> Option<(char, &[(char, char)])> {
+    let accent = accent?;
+    Some((accent.own(), accent.pairs()))
+}
+
 #[test]
 fn accents_are_read(rt: HostRuntime) -> Result<(), Fail> {
     for &(text, n_accs, index, own, pairs) in &ACCENTS_READ {
         let map = read_map(rt.alloc(), text)?;
         expect_equal_at(&rt, &text, &map.n_accs(), &n_accs);
-        let accent = map
-            .accent(index)
-            .map(|accent| (accent.own(), accent.pairs()));
+        let accent = parts(map.accent(index));
         expect_equal_at(&rt, &text, &accent, &Some((own, pairs)));
     }
     Ok(())
@@ -279,7 +282,7 @@ fn read_by_bytes(rt: &impl Abort, alloc: Global, text: &[u8]) -> Result<KeyMap, 
     reader.finish().map_err(TextError::Fault)
 }
 
-/// The text is answered the same whole and byte by byte.
+/// Whether the text is answered the same whole and byte by byte.
 fn is_read_the_same(rt: &impl Abort, alloc: Global, text: &[u8]) -> bool {
     let by_bytes = read_by_bytes(rt, alloc, text);
     match read_map(alloc, text) {

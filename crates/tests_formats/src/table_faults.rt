@@ -1,23 +1,17 @@
 //! Faults of table files of both forms: wrong lengths, changed bytes, and readers without an end.
 
 use crate::asserts::{expect_at, expect_equal_at};
-use crate::tables::{FORMS, Form, LENGTH, NARROW_LENGTH};
+use crate::tables::{FORMS, Form, LENGTH, NARROW_LENGTH, file_of};
 use keymap_core::{FromStd, KeyMap, Read};
 use keymap_tables::{TableError, TableFault, TableFaultKind};
 use keymap_text::read_map;
-use std::alloc::{AllocError, Global};
+use std::alloc::Global;
 use std::test::Fail;
-use test_devices::{endless_blanks, sheet_of};
-use test_keymaps::LETTER_AND_SHIFT;
+use test_support::devices::tape_of;
+use test_support::keymaps::LETTER_AND_SHIFT;
 
-/// So many bytes 0.
-fn zero_bytes(alloc: Global, count: usize) -> Result<Vec<u8>, AllocError> {
-    let mut bytes = Vec::new(alloc);
-    for _ in 0..count {
-        bytes.push(0u8)?;
-    }
-    Ok(bytes)
-}
+/// More zeros than a table file has.
+static ZEROS: [u8; 15_525] = [0; 15_525];
 
 /// The fault of the bytes, where that is the answer.
 fn fault_of(answer: Result<KeyMap, TableError>) -> Option<TableFault> {
@@ -198,7 +192,8 @@ static FAULTY: [Faulty; 29] = [
 #[test]
 fn each_fault_is_at_its_offset(rt: HostRuntime) -> Result<(), Fail> {
     for &(form, count, changes, offset, kind) in &FAULTY {
-        let mut bytes = zero_bytes(rt.alloc(), count)?;
+        let zeros = ZEROS.get(..count).ok_or("too few zeros")?;
+        let mut bytes = zeros.to_vec(rt.alloc())?;
         for &(place, byte) in changes {
             if let Some(changed) = bytes.get_mut(place) {
                 *changed = byte;
@@ -217,8 +212,7 @@ fn each_fault_is_at_its_offset(rt: HostRuntime) -> Result<(), Fail> {
 fn each_proper_prefix_is_short(rt: HostRuntime) -> Result<(), Fail> {
     let map = read_map(rt.alloc(), LETTER_AND_SHIFT)?;
     for &form in &FORMS {
-        let mut sheet = sheet_of(LENGTH);
-        form.write(&map, &mut sheet)?;
+        let sheet = file_of(form, &map)?;
         for length in 0..form.length() {
             let prefix = sheet.bytes.as_slice().get(..length).unwrap_or(b"");
             let wanted = TableFault {
@@ -236,7 +230,7 @@ fn each_proper_prefix_is_short(rt: HostRuntime) -> Result<(), Fail> {
 #[test]
 fn a_reader_without_end_is_left(rt: HostRuntime) {
     for &form in &FORMS {
-        let mut reader = endless_blanks();
+        let mut reader = tape_of(b"", usize::MAX, 1, usize::MAX);
         let wanted = TableFault {
             offset: form.length() as u64,
             kind: TableFaultKind::Long,
@@ -252,20 +246,18 @@ fn is_read_exactly(alloc: Global, form: Form, bytes: &[u8]) -> bool {
     match form.read(alloc, bytes) {
         Err(TableError::Fault(_)) => true,
         Err(_) => false,
-        Ok(map) => {
-            let mut sheet = sheet_of(LENGTH);
-            form.write(&map, &mut sheet).is_ok() && sheet.bytes.as_slice() == bytes
-        }
+        Ok(map) => match file_of(form, &map) {
+            Ok(sheet) => sheet.bytes.as_slice() == bytes,
+            Err(_) => false,
+        },
     }
 }
 
 /// Each byte in turn plus one, and with its top bit turned.
 #[test]
 fn each_changed_byte_is_a_fault_or_another_map(rt: HostRuntime) -> Result<(), Fail> {
-    let mut sheet = sheet_of(LENGTH);
-    Form::Wide.write(&read_map(rt.alloc(), LETTER_AND_SHIFT)?, &mut sheet)?;
-    let mut bytes = Vec::new(rt.alloc());
-    bytes.extend_from_slice(sheet.bytes.as_slice())?;
+    let sheet = file_of(Form::Wide, &read_map(rt.alloc(), LETTER_AND_SHIFT)?)?;
+    let mut bytes = sheet.bytes.as_slice().to_vec(rt.alloc())?;
     for (place, &byte) in sheet.bytes.as_slice().iter().enumerate() {
         for changed in [byte.wrapping_add(1), byte ^ 0x80, byte] {
             if let Some(there) = bytes.get_mut(place) {

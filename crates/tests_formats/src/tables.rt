@@ -11,8 +11,8 @@ use keymap_text::read_map;
 use std::alloc::Global;
 use std::process::Abort;
 use std::test::Fail;
-use test_devices::sheet_of;
-use test_keymaps::{
+use test_support::devices::{Sheet, sheet_of};
+use test_support::keymaps::{
     ACCENTS, ALT_SHIFT_WITH_TRAP, CAPS_AND_NUM, LETTER_AND_SHIFT, SHIFT_AND_CAPS, SHIFT_WITH_TRAP,
     TWO_CONTROLS, TWO_SCROLL_LOCKS, UPPER_HALF,
 };
@@ -64,6 +64,13 @@ impl Form {
             Form::Narrow => write_narrow(map, writer),
         }
     }
+}
+
+/// The file of a keymap.
+pub(crate) fn file_of(form: Form, map: &KeyMap) -> Result<Sheet, NarrowError> {
+    let mut sheet = sheet_of(LENGTH);
+    form.write(map, &mut sheet)?;
+    Ok(sheet)
 }
 
 /// A text, the bytes of its file at some places, and how many of all are not 0.
@@ -148,7 +155,7 @@ fn most_writes(form: Form) -> u32 {
     }
 }
 
-/// The bytes stand at their places, and so many of all are not 0.
+/// Asserts that the bytes stand at their places, and that so many of all are not 0.
 fn expect_bytes(
     rt: &impl Abort,
     row: (Form, &[u8]),
@@ -165,7 +172,7 @@ fn expect_bytes(
     expect_equal_at(rt, &row, &count, &used);
 }
 
-/// The bytes are read as the map, from memory and from a device.
+/// Asserts that the bytes are read as the map, from memory and from a device.
 fn expect_read(rt: &impl Abort, alloc: Global, row: (Form, &[u8]), bytes: &[u8], map: &KeyMap) {
     expect_at(rt, &row, is_map(row.0.read(alloc, bytes), map));
     let mut reader = FromStd::new(bytes);
@@ -176,8 +183,7 @@ fn expect_read(rt: &impl Abort, alloc: Global, row: (Form, &[u8]), bytes: &[u8],
 fn files_have_their_bytes(rt: HostRuntime) -> Result<(), Fail> {
     for &(form, text, places, used) in &FILES {
         let map = read_map(rt.alloc(), text)?;
-        let mut sheet = sheet_of(LENGTH);
-        form.write(&map, &mut sheet)?;
+        let sheet = file_of(form, &map)?;
         let bytes = sheet.bytes.as_slice();
         expect_bytes(&rt, (form, text), bytes, places, used);
         expect_at(&rt, &(form, text), sheet.writes <= most_writes(form));
@@ -252,14 +258,11 @@ static MIGRATED: [&[u8]; 10] = [
 #[test]
 fn wide_files_become_narrow_and_come_back(rt: HostRuntime) -> Result<(), Fail> {
     for &text in &MIGRATED {
-        let mut old = sheet_of(LENGTH);
-        write_tables(&read_map(rt.alloc(), text)?, &mut old)?;
+        let old = file_of(Form::Wide, &read_map(rt.alloc(), text)?)?;
         let map = read_tables(rt.alloc(), old.bytes.as_slice())?;
-        let mut narrow = sheet_of(LENGTH);
-        write_narrow(&map, &mut narrow)?;
+        let narrow = file_of(Form::Narrow, &map)?;
         let back = read_narrow(rt.alloc(), narrow.bytes.as_slice())?;
-        let mut new = sheet_of(LENGTH);
-        write_tables(&back, &mut new)?;
+        let new = file_of(Form::Wide, &back)?;
         expect_equal_at(&rt, &text, &narrow.bytes.len(), &NARROW_LENGTH);
         expect_at(&rt, &text, new.bytes.as_slice() == old.bytes.as_slice());
     }
@@ -269,11 +272,8 @@ fn wide_files_become_narrow_and_come_back(rt: HostRuntime) -> Result<(), Fail> {
 /// Tables in place, of bytes that are no file: what the contracts leave open.
 #[test]
 fn what_is_no_cell_reads_as_character_0(rt: HostRuntime) -> Result<(), Fail> {
-    let mut bytes = Vec::new(rt.alloc());
-    for _ in 0..LENGTH {
-        bytes.push(0xffu8)?;
-    }
-    let tables = Tables::new(bytes.as_slice()).ok_or("no tables")?;
+    let bytes = [0xff; LENGTH];
+    let tables = Tables::new(&bytes).ok_or("no tables")?;
     expect_equal(&rt, &tables.cell(0, 0), &Cell::Char('\0'));
     expect_equal(&rt, &tables.cell(255, 7), &Cell::Char('\0'));
     expect_equal(&rt, &tables.flag(255), &LockFlag::O);

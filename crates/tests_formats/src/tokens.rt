@@ -3,7 +3,7 @@
 use crate::asserts::{expect_equal, expect_equal_at};
 use keymap_core::{Action, LockFlag};
 use keymap_text::TextFaultKind::{BadByte, BadLiteral, BadWord, EndInside};
-use keymap_text::{Meaning, Span, TextFaultKind, TokenKind, next_token, word_meaning};
+use keymap_text::{Meaning, Span, TextFaultKind, Token, TokenKind, next_token, word_meaning};
 use std::process::Abort;
 use std::test::Fail;
 
@@ -44,12 +44,17 @@ static TOKENS: [(&[u8], usize, Option<(TokenKind, usize, usize)>); 21] = [
     ),
 ];
 
+/// The kind of a token, and where it begins and ends.
+fn placed(token: Option<Token<'_>>) -> Option<(TokenKind, usize, usize)> {
+    let token = token?;
+    Some((token.kind, token.span.start, token.span.end))
+}
+
 #[test]
 fn first_tokens_are_found(rt: HostRuntime) -> Result<(), Fail> {
     for &(text, from, wanted) in &TOKENS {
         let token = next_token(text, from)?;
-        let found = token.map(|token| (token.kind, token.span.start, token.span.end));
-        expect_equal_at(&rt, &text, &found, &wanted);
+        expect_equal_at(&rt, &text, &placed(token), &wanted);
     }
     let token = next_token(b"abc", 1)?.ok_or("no token")?;
     expect_equal(&rt, &token.slice, &b"bc".as_slice());

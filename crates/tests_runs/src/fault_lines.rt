@@ -7,7 +7,7 @@ use keymap_tables::{TableFault, TableFaultKind, Wide};
 use keymap_text::{TextFault, TextFaultKind};
 use kmap_runs::{RunError, Source, write_run_error};
 use play_core::ScriptFault;
-use test_devices::slow_sheet_of;
+use test_support::devices::slow_sheet_of;
 
 /// The names of the faults of a text and of a table file.
 static TEXT_KINDS: [(TextFaultKind, &[u8]); 11] = [

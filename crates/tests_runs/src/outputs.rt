@@ -11,8 +11,8 @@ use kmap_runs::RunError;
 use std::alloc::Global;
 use std::process::Abort;
 use std::test::Fail;
-use test_devices::{reader_of, slow_sheet_of};
-use test_keymaps::{
+use test_support::devices::{reader_of, slow_sheet_of};
+use test_support::keymaps::{
     ALT_SHIFT_WITH_TRAP, CAPS_ALONE, CAPS_WITH_NOPS, DUMPED_LINE, LETTER_AND_SHIFT, SHIFT_ALONE,
     SHIFT_AND_LINE_FEED, SHIFT_WITH_TRAP, STICKS_UNDER_CAPS, TWO_SCROLL_LOCKS, UPPER_HALF,
 };

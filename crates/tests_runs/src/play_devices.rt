@@ -11,8 +11,8 @@ use play_core::{Show, typed};
 use std::alloc::Global;
 use std::process::Abort;
 use std::test::Fail;
-use test_devices::{ROOM, Sheet, reader_of, sheet_of};
-use test_keymaps::{ACCENTS, LETTER_AND_SHIFT, SHIFT_AND_CAPS};
+use test_support::devices::{ROOM, Sheet, reader_of, sheet_of};
+use test_support::keymaps::{ACCENTS, LETTER_AND_SHIFT, SHIFT_AND_CAPS};
 
 const SCRIPT: &[u8] = b"down 42\nlost up 42\nrepeat 30\n# shift stays on\nload\nreset\n";
 
@@ -28,6 +28,8 @@ fn most_of(own: Source, failing: Source, most: usize) -> usize {
     if own == failing { most } else { usize::MAX }
 }
 
+/// Asserts that what is read from this source fails after so many bytes, that the fault says so, and that what is behind
+/// it isn't asked.
 fn expect_named(rt: &impl Abort, alloc: Global, source: Source, most: usize) {
     let mut text = reader_of(ACCENTS, 1, most_of(Source::Text, source, most));
     let mut next = Some(reader_of(SHIFT_AND_CAPS, 1, most_of(Source::Next, source, most)));
@@ -170,7 +172,7 @@ fn play_long(alloc: Global, show: Show, script: &[u8], out: &mut Sheet) -> Resul
     play_run(alloc, show, &mut text, &mut next, &mut bytes, out)
 }
 
-/// The line is written so many times, in few writes.
+/// Asserts that the line is written so many times, in few writes.
 fn expect_repeated(rt: &impl Abort, out: &Sheet, line: &[u8], count: usize) {
     let wanted = repeated(b"", line, count);
     let is_same = out.bytes.as_slice() == wanted.as_slice();

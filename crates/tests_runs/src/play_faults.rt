@@ -7,8 +7,8 @@ use keymap_text::TextFaultKind::{BadFunction, BadLiteral, EndInside, KeyTooLarge
 use keymap_text::{TextFault, TextFaultKind};
 use kmap_runs::{RunError, Source, play_run};
 use play_core::{ScriptFault, Show};
-use test_devices::{blanks_of, sheet_of};
-use test_keymaps::{LETTER_AND_SHIFT, SHIFT_AND_CAPS};
+use test_support::devices::{sheet_of, tape_of};
+use test_support::keymaps::{LETTER_AND_SHIFT, SHIFT_AND_CAPS};
 
 /// A fault in the first line of a text, with its offset, or of a script.
 #[derive(Clone, Copy)]
@@ -117,8 +117,8 @@ static SIZES: [(Source, usize, usize, bool); 9] = [
 #[test]
 fn texts_and_scripts_are_read_to_their_limit(rt: HostRuntime) {
     for &(source, size, pace, is_endless) in &SIZES {
-        let mut long = blanks_of(size, pace);
-        let mut next = Some(blanks_of(size, pace));
+        let mut long = tape_of(b"", size, pace, usize::MAX);
+        let mut next = Some(tape_of(b"", size, pace, usize::MAX));
         let mut text = FromStd::new(LETTER_AND_SHIFT);
         let mut other = FromStd::new(b"".as_slice());
         let mut out = sheet_of(usize::MAX);

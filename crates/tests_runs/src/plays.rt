@@ -7,8 +7,8 @@ use kmap_runs::{RunError, play_run};
 use play_core::{Show, typed};
 use std::alloc::Global;
 use std::test::Fail;
-use test_devices::{Sheet, sheet_of};
-use test_keymaps::{
+use test_support::devices::{Sheet, sheet_of};
+use test_support::keymaps::{
     ACCENTS, CAPS_AND_NUM, LETTER_AND_SHIFT, NOP_UNDER_CONTROL, SHIFT_AND_CAPS, SHIFT_WITH_TRAP,
     TWO_CONTROLS, TWO_SCROLL_LOCKS,
 };

@@ -13,8 +13,8 @@ use kmap_runs::{
 };
 use std::alloc::Global;
 use std::mem::replace;
-use test_devices::{ROOM, Sheet, Tape, sheet_of, tape_of};
-use test_keymaps::LETTER_AND_SHIFT;
+use test_support::devices::{ROOM, Sheet, Tape, sheet_of, tape_of};
+use test_support::keymaps::LETTER_AND_SHIFT;
 
 /// A run; the check without and with its demonstration.
 #[derive(Clone, Copy, Debug, PartialEq)]

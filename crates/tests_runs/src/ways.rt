@@ -7,7 +7,7 @@ use play_core::{TypeError, Ways, read_script};
 use std::alloc::Global;
 use std::process::Abort;
 use std::test::Fail;
-use test_keymaps::{ACCENTS, LETTER_AND_SHIFT, TWO_DEAD_KEYS};
+use test_support::keymaps::{ACCENTS, LETTER_AND_SHIFT, TWO_DEAD_KEYS};
 
 /// The text of a keymap, a character, and a script of the events that type it, where its keys do.
 static WAYS: [(&[u8], char, Option<&[u8]>); 16] = [
@@ -69,7 +69,7 @@ fn events_of(alloc: Global, script: &[u8]) -> Result<Vec<Event>, Fail> {
     Ok(events)
 }
 
-/// The way has the events of the script, and there is none where there is no script.
+/// Asserts that the way has the events of the script, and that there is none where there is no script.
 fn expect_events(
     rt: &impl Abort,
     alloc: Global,

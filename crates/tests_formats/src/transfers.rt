@@ -1,20 +1,21 @@
 //! Reading up to a limit, writing whole texts, and gathering small pieces.
 
-use crate::asserts::expect_equal;
+use crate::asserts::{expect_equal, expect_equal_at};
 use keymap_core::{FromStd, Read, Stream, ToStd, Write, WriteFault, read_up_to, write_text};
 use std::test::Fail;
-use test_devices::{Sheet, reader_of, sheet_of};
+use test_support::devices::{Sheet, reader_of, sheet_of};
+
+/// A limit, what is read of five bytes up to it, and how many reads that takes at most, a byte each.
+static LIMITS: [(usize, &[u8], u32); 2] = [(3, b"123", 4), (7, b"12345", 8)];
 
 #[test]
 fn reads_end_at_the_limit(rt: HostRuntime) -> Result<(), Fail> {
-    let mut reader = reader_of(b"12345", 1, 9);
-    let bytes = read_up_to(rt.alloc(), &mut reader, 3)?;
-    expect_equal(&rt, &bytes.as_slice(), &b"123".as_slice());
-    assert!(rt; reader.reads <= 4 && !reader.failed());
-    let mut reader = reader_of(b"12345", 1, 9);
-    let bytes = read_up_to(rt.alloc(), &mut reader, 7)?;
-    expect_equal(&rt, &bytes.as_slice(), &b"12345".as_slice());
-    assert!(rt; reader.reads <= 8 && !reader.failed());
+    for &(limit, wanted, most_reads) in &LIMITS {
+        let mut reader = reader_of(b"12345", 1, 9);
+        let bytes = read_up_to(rt.alloc(), &mut reader, limit)?;
+        expect_equal_at(&rt, &limit, &bytes.as_slice(), &wanted);
+        assert!(rt; reader.reads <= most_reads && !reader.failed());
+    }
     Ok(())
 }
 

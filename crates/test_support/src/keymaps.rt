@@ -1,6 +1,4 @@
 //! The keymaps that tests use, as texts of keymap(5).
-#![tactic(auto)]
-
 pub const LETTER_AND_SHIFT: &[u8] = b"030 'a' 'A' soh soh 'a' 'A' soh soh C
 042 lshift lshift lshift lshift lshift lshift lshift lshift O
 ";

@@ -2,8 +2,6 @@
 //!
 //! They stand on the devices of keymap_core, whose laws they keep; they tell no reader which bytes are left and no
 //! writer's caller which were taken, so a test looks at their fields.
-#![tactic(auto)]
-
 ghost use Rattle.std.specs.Prelude.{[], None, false, length, true, ◌-◌, ◌^◌, ◌≡◌};
 
 use arrayvec::ArrayVec;
@@ -37,32 +35,7 @@ pub fn reader_of(text: &[u8], pace: usize, most: usize) -> Tape<'_>
     tape_of(text, text.len(), pace, most)
 }
 
-/// A reader of so many blanks that never fails.
-pub fn blanks_of(size: usize, pace: usize) -> Tape<'static>
-    ensures text { result.text.now ≡ [] }
-    ensures size { result.size ≡ size }
-    ensures pace { result.pace ≡ pace }
-    ensures most { result.most ≡ 2 ^ 64 - 1 }
-    ensures given { result.given ≡ 0 }
-    ensures reads { result.reads ≡ 0 }
-    ensures failed { result.failed ≡ false }
-{
-    tape_of(b"", size, pace, usize::MAX)
-}
-
-/// A reader of blanks without an end, one at a time.
-pub fn endless_blanks() -> Tape<'static>
-    ensures text { result.text.now ≡ [] }
-    ensures size { result.size ≡ 2 ^ 64 - 1 }
-    ensures pace { result.pace ≡ 1 }
-    ensures most { result.most ≡ 2 ^ 64 - 1 }
-    ensures given { result.given ≡ 0 }
-    ensures reads { result.reads ≡ 0 }
-    ensures failed { result.failed ≡ false }
-{
-    blanks_of(usize::MAX, 1)
-}
-
+/// A reader of the text and then blanks, so many bytes in all, which come so many at a time, that fails after so many.
 pub fn tape_of(text: &[u8], size: usize, pace: usize, most: usize) -> Tape<'_>
     ensures text { result.text.now ≡ text.now }
     ensures size { result.size ≡ size }

@@ -259,6 +259,11 @@ while [ $changes -lt 100 ]; do
     ran && times=$((times + 1))
 done
 holds "it runs after $times of $changes changes of another file" [ $times -gt 0 -a $times -lt 25 ]
+holds 'it takes any word' [ "$(python3 driver --again 2>&1; echo $?)" = "driver: it has no such option: --again
+2" ]
+holds 'its help says nothing of how it is used' grep -q '^usage: driver ' << HELP
+$(python3 driver --help)
+HELP
 echo 'exit 1' > edits_driver.sh
 holds 'it fails and has a file' [ "$(python3 driver --write; echo $? *.tried)" = '1 *.tried' ]
 

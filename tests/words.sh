@@ -52,8 +52,13 @@ def filled(message, words):
 
 
 def is_told(words):
-    patterns = [pattern(words, plain)] + [it for message in messages.values() for it in filled(message, words)]
-    return any(re.fullmatch(it, span) for it in patterns for span in told)
+    whole = re.compile(pattern(words, plain))
+    if any(map(whole.fullmatch, told)):
+        return True
+    # a pattern is made only for a span in which the words stand, since it takes longer to make than to match
+    spans = [span for span in told if words in span]
+    patterns = (it for message in messages.values() for it in filled(message, words)) if spans else ()
+    return any(re.fullmatch(it, span) for it in patterns for span in spans)
 
 
 found = {name: is_told(words) for name, words in messages.items()}

@@ -13,7 +13,7 @@ pub enum Board {
 }
 
 /// The shape of a key, named by its letter.
-#[derive(Clone, Copy, Debug, PartialEq, Eq)]
+#[derive(Clone, Copy)]
 pub(crate) enum Shape {
     A,
     B,
@@ -28,7 +28,7 @@ pub(crate) enum Shape {
 }
 
 /// A key of the board: its code, where its top left corner is, and its shape.
-#[derive(Clone, Copy, Debug, PartialEq, Eq)]
+#[derive(Clone, Copy)]
 pub(crate) struct Row(
     pub(crate) u8,
     pub(crate) u16,

@@ -7,7 +7,7 @@ use crate::tables::{CASES, CaseRow};
 use keymap_core::{Action, Cell, Entry};
 
 /// The cells of the columns that are drawn, where they are drawn.
-#[derive(Clone, Copy, Debug, PartialEq, Eq)]
+#[derive(Clone, Copy)]
 pub(crate) struct DrawnCells {
     pub(crate) base: Option<Cell>,
     pub(crate) shift: Option<Cell>,

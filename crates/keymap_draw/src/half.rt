@@ -17,7 +17,7 @@ use keymap_core::{KEY_COUNT, push_if};
 use messages::{either, fill, number};
 
 /// A half of the slots: 0 to 127, or 128 to 255.
-#[derive(Clone, Copy, Debug, PartialEq, Eq)]
+#[derive(Clone, Copy)]
 pub(crate) enum Half {
     Lower,
     Upper,

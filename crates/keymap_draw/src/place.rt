@@ -9,7 +9,7 @@ use arrayvec::ArrayVec;
 use keymap_core::{Action, Cell, KeyMap};
 
 /// A column that is drawn.
-#[derive(Clone, Copy, Debug, PartialEq, Eq)]
+#[derive(Clone, Copy)]
 pub(crate) enum Column {
     Base,
     Shift,

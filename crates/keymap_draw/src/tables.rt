@@ -1,12 +1,12 @@
 //! Characters that have a name for a legend, which small letters a capital stands for, and the marks of the accents.
 
 /// A character that nobody sees, and its short name, filled with blanks to five bytes.
-#[derive(Clone, Copy, Debug)]
+#[derive(Clone, Copy)]
 pub(crate) struct UnseenName(pub(crate) u32, pub(crate) [u8; 5]);
 
 /// Small letters, from the first to the last, both among them, only every other one where that is said; and how far
 /// below each its capital is.
-#[derive(Clone, Copy, Debug)]
+#[derive(Clone, Copy)]
 pub(crate) struct CaseRow(
     pub(crate) u32,
     pub(crate) u32,

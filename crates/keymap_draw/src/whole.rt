@@ -21,7 +21,7 @@ use std::alloc::{AllocError, Global};
 
 /// Where the parts of the picture begin: the upper half, the findings, the accents, the dead keys without one, and the
 /// key to the colours.
-#[derive(Clone, Copy, Debug, PartialEq, Eq)]
+#[derive(Clone, Copy)]
 struct Starts {
     upper: u32,
     findings: u32,

@@ -8,7 +8,7 @@ use keymap_text::TokenKind;
 use std::alloc::AllocError;
 
 /// What tokens belong to: the definition of a slot, the name and character of an accent, or one of its pairs.
-#[derive(Clone, Copy, Debug, PartialEq, Eq)]
+#[derive(Clone, Copy)]
 pub(crate) enum Row {
     Slot,
     Accent,
@@ -16,7 +16,7 @@ pub(crate) enum Row {
 }
 
 /// The open line, and the row whose tokens are written.
-#[derive(Clone, Copy, Debug)]
+#[derive(Clone, Copy)]
 pub(crate) struct State {
     /// How many places are taken in the open line; 0 where none is open.
     pub column: usize,

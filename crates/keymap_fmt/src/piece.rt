@@ -10,7 +10,7 @@ use keymap_text::laws::tokens_stand_alone;
 use keymap_text::{TokenKind, next_token};
 
 /// Where a piece stands in the text.
-#[derive(Clone, Copy, Debug, PartialEq, Eq)]
+#[derive(Clone, Copy)]
 pub(crate) enum Standing {
     /// It is the first one.
     AtTop,
@@ -23,7 +23,7 @@ pub(crate) enum Standing {
 }
 
 /// What a piece is.
-#[derive(Clone, Copy, Debug, PartialEq, Eq)]
+#[derive(Clone, Copy)]
 pub(crate) enum Part {
     Comment,
     Code(TokenKind),

@@ -11,7 +11,7 @@ use keymap_text::{Defined, Placed, Span};
 use std::alloc::{AllocError, Global};
 
 /// A cell of a definition in force: its slot and column, 0 to 7, and where its token stands.
-#[derive(Clone, Copy, Debug, PartialEq, Eq)]
+#[derive(Clone, Copy)]
 pub(crate) struct CellInForce {
     pub(crate) slot: u8,
     pub(crate) column: u8,

@@ -2,7 +2,7 @@
 use keymap_core::{Action, COLUMN_COUNT, Cell, KEY_COUNT, KeyCode, KeyMap, key_with};
 
 /// What a cell does.
-#[derive(Clone, Copy, Debug, PartialEq, Eq)]
+#[derive(Clone, Copy, PartialEq, Eq)]
 pub(crate) enum Kind {
     Character,
     Nothing,

@@ -13,7 +13,7 @@ pub(crate) const CELL_COUNT: usize = 2_048;
 pub(crate) const LOCK_SETTING_COUNT: usize = 1_024;
 
 /// A key, the cell that it looks up, and the places of this and of the slot's lock setting among all.
-#[derive(Clone, Copy, Debug, PartialEq, Eq)]
+#[derive(Clone, Copy)]
 pub(crate) struct Lookup {
     pub(crate) key: KeyCode,
     pub(crate) cell: Cell,

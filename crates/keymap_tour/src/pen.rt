@@ -6,7 +6,7 @@ use keymap_core::{Cell, KEY_COUNT, KeyCode, Lock, Modifier, key_with};
 use std::alloc::{AllocError, Global};
 
 /// Which modifiers and locks are on.
-#[derive(Clone, Copy, Debug, PartialEq, Eq)]
+#[derive(Clone, Copy, PartialEq, Eq)]
 pub(crate) struct Shown {
     on: [bool; 8],
     locked: [bool; 4],

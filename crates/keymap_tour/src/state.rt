@@ -4,7 +4,7 @@ use console_core::Selection;
 use keymap_core::{Action, Cell, KeyCode, Lock, MODIFIERS, Modifier};
 
 /// Which locks are on that pick cells.
-#[derive(Clone, Copy, Debug, PartialEq, Eq, Hash)]
+#[derive(Clone, Copy, PartialEq, Eq, Hash)]
 pub(crate) struct Locks {
     pub(crate) caps: bool,
     pub(crate) num: bool,
@@ -35,7 +35,7 @@ impl Locks {
 }
 
 /// A press, with the release where it turns a lock, or a release, that leads from one state to another.
-#[derive(Clone, Copy, Debug, PartialEq, Eq)]
+#[derive(Clone, Copy)]
 pub(crate) enum Move {
     Hold(KeyCode),
     Turn(KeyCode),
@@ -43,7 +43,7 @@ pub(crate) enum Move {
 }
 
 /// The codes of the keys that hold modifiers, and the locks that are on.
-#[derive(Clone, Copy, Debug, PartialEq, Eq, Hash)]
+#[derive(Clone, Copy, PartialEq, Eq, Hash)]
 pub(crate) struct State {
     left_shift: Option<u8>,
     right_shift: Option<u8>,

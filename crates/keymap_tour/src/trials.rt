@@ -10,7 +10,7 @@ use keymap_core::{Action, Cell, KeyMap};
 use std::alloc::{AllocError, Global};
 
 /// What an action is to a pending accent.
-#[derive(Clone, Copy, Debug, PartialEq, Eq)]
+#[derive(Clone, Copy)]
 enum Between {
     Nothing,
     Modifier,

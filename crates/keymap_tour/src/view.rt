@@ -6,7 +6,7 @@ use keymap_core::{Cell, KeyCode, MODIFIERS};
 use std::alloc::{AllocError, Global};
 
 /// A key that looks up the cell in the state at the place.
-#[derive(Clone, Copy, Debug, PartialEq, Eq)]
+#[derive(Clone, Copy)]
 pub(crate) struct Find {
     pub(crate) place: usize,
     pub(crate) key: KeyCode,

@@ -6,7 +6,7 @@ use keymap_core::{Action, Cell, Lock};
 use std::alloc::{AllocError, Global};
 
 /// Which turns of locks are moves: all, or those alone from which moves lead back to no locks.
-#[derive(Clone, Copy, Debug, PartialEq, Eq)]
+#[derive(Clone, Copy)]
 pub(crate) enum Turns {
     All,
     BothWays,

@@ -72,8 +72,8 @@ fn rounds_of(word: &str) -> u32 {
     if word == "10000" { 10_000 } else { 1 }
 }
 
-/// The sum of the answers to the rounds that the second word asks for, over the tables of the map where the first one is
-/// `tables`, or else over the map.
+/// The sum of the answers to the rounds that the second word asks for, over the tables of the map where the first one
+/// is `tables`, or else over the map.
 pub(crate) fn sum(alloc: Global, words: &[String]) -> Result<u64, AllocError> {
     let Ok(map) = read_map(alloc, TEXT) else {
         return Ok(0);

@@ -1,6 +1,6 @@
-//! The tests of keymap_core, keymap_text and keymap_tables: the tables of codes and names, the limits of keymaps, tokens,
-//! reading and printing of texts, table files of both forms, and devices that fail, those of std too. They say what no
-//! clause says.
+//! The tests of keymap_core, keymap_text and keymap_tables: the tables of codes and names, the limits of keymaps,
+//! tokens, reading and printing of texts, table files of both forms, and devices that fail, those of std too. They say
+//! what no clause says.
 //!
 //! A crate with tests is proved once more together with them, so the libraries have none of their own. Nothing here is
 //! exported.

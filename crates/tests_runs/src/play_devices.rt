@@ -28,8 +28,8 @@ fn most_of(own: Source, failing: Source, most: usize) -> usize {
     if own == failing { most } else { usize::MAX }
 }
 
-/// Asserts that what is read from this source fails after so many bytes, that the fault says so, and that what is behind
-/// it isn't asked.
+/// Asserts that the fault names this source, which fails after so many bytes, that no other one has failed, and that
+/// nothing is written.
 fn expect_named(rt: &impl Abort, alloc: Global, source: Source, most: usize) {
     let mut text = reader_of(ACCENTS, 1, most_of(Source::Text, source, most));
     let mut next = Some(reader_of(SHIFT_AND_CAPS, 1, most_of(Source::Next, source, most)));

@@ -5,7 +5,7 @@ use Rattle.play_core.specs.Types.{Event}
 use Rattle.console_core.specs.History.{Maps}
 use Rattle.play_core.specs.Delivery.{delivered}
 use Rattle.play_core.specs.Written.{text_after}
-use Rattle.play_core.proofs.player.play_events.Given as goal
+use Rattle.play_core.proofs.player.deliver_all.Given as goal
 
 abbrev pub invariant-loop-one : goal.invariant-loop-one
 invariant-loop-one g l = record {

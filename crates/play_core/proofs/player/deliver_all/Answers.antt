@@ -4,7 +4,7 @@ use Rattle.play_core.specs.Types.{Event}
 use Rattle.keymap_core.proofs.Gathering.{Gathers-start, Gathers-same, Gathers-more, StopsIn-more, passed_on}
 use Rattle.play_core.specs.Delivery.{delivered}
 use Rattle.play_core.proofs.Texts.{text-nil, text-more, text-rest, delivered-more}
-use Rattle.play_core.proofs.player.play_events.Goals as goal
+use Rattle.play_core.proofs.player.deliver_all.Goals as goal
 use Rattle.console_core.proofs.Deliveries.{reverse-joined}
 
 pub loop-one-init : goal.loop-one-init

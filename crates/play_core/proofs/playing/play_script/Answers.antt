@@ -1,7 +1,7 @@
 use Rattle.std.proofs.Common.{inl, inr, refl}
 use Rattle.std.proofs.lemmas.Result.{err_from_is_err_and}
 use Rattle.std.proofs.KnownBytes.{Keeps-refl}
-use Rattle.kmap_runs.proofs.play_runs.play_script.Goals as goal
+use Rattle.play_core.proofs.playing.play_script.Goals as goal
 
 pub returns-in_err-sent-clause-run : goal.returns-in_err-sent-clause-run
 returns-in_err-sent-clause-run g c =

@@ -18,7 +18,7 @@
 # It is for any make: build.sh sees whether a source is newer than what is made, and the kit's `rt` what that changes.
 
 # The one number to raise; tests/version.sh then tells each place that has another one.
-VERSION = 0.2.0
+VERSION = 0.3.0
 PREFIX = /usr/local
 LIBDIR = $(PREFIX)/lib
 INCLUDEDIR = $(PREFIX)/include

@@ -9,9 +9,9 @@ use keymap_lint_text::shown_name;
 use keymap_tables::{NARROW_FILE, WIDE_FILE};
 use kmap_runs::{
     RunError, check_run, compile_narrow_run, compile_run, cover_run, draw_run, dump_narrow_run,
-    dump_run, file_error_line, lint_run, play_run, search_run, type_run, write_run_error,
+    dump_run, file_error_line, lint_run, search_run, type_run, write_run_error,
 };
-use play_core::Show;
+use play_core::{Show, play_next};
 use std::alloc::{AllocError, Global};
 use std::convert::AsStr;
 use std::io::BufReader;
@@ -264,7 +264,7 @@ where
     let mut source = opened(rt, text)?;
     let mut out = ToStd::new(io::writer(rt));
     match lint_run(rt.alloc(), text.as_bytes(), &mut source, &mut out) {
-        Err(error @ RunError::Read(..)) => Err(Failure::OfFile(text, error)),
+        Err(error @ RunError::ReadText(_)) => Err(Failure::OfFile(text, error)),
         outcome => run_outcome(outcome),
     }
 }
@@ -419,14 +419,14 @@ where
     let mut next = opened_if_named(rt, next)?;
     let mut script = opened(rt, script)?;
     let mut out = ToStd::new(io::writer(rt));
-    run_outcome(play_run(
-        rt.alloc(),
-        show,
-        &mut text,
-        &mut next,
-        &mut script,
-        &mut out,
-    ))
+    let played = match &mut next {
+        Some(next) => play_next(rt.alloc(), show, &mut text, next, &mut script, &mut out),
+        None => play_core::play(rt.alloc(), show, &mut text, &mut script, &mut out),
+    };
+    match played {
+        Ok(()) => Ok(()),
+        Err(error) => Err(Failure::Run(RunError::from(error))),
+    }
 }
 
 fn type_sentence<'a, R>(rt: &R, text: &'a str, sentence: &'a str) -> Result<(), Failure<'a>>

@@ -1,5 +1,5 @@
 use Rattle.kmap_runs.proofs.Replayed.{answer-replays, answer-replays-between}
-use Rattle.kmap_runs.proofs.laws.found_scripts_leave_a_modifier_on.Goals as goal
+use Rattle.kmap_runs.proofs.laws.found_scripts_deliver_the_answer.Goals as goal
 
 pub returns-clause-alone : goal.returns-clause-alone
 returns-clause-alone c = answer-replays

@@ -27,6 +27,8 @@ CC = cc
 INSTALL = install
 # What commands of README leave in examples/ is not installed.
 EXAMPLE_FILES = de.kbd de.script kmap.py line.numbers line.script load.c test_keymap.py trap.kbd type.c type.py us.kbd
+# The documents for users; ARCHITECTURE and DECISIONS are for those who work on the repository.
+DOCUMENTS = docs/FORMATS.md docs/GUIDE.md docs/PROOFS.md docs/TRANSLATION.md docs/de.svg
 QUICK = play us.kbd line.script --typed
 FILES = examples/us.kbd examples/line.script
 PROGRAM = crates/kmap/out/kmap
@@ -126,8 +128,10 @@ install: all
 	$(INSTALL) -m 644 completions/kmap.fish "$(FISH_COMPLETIONS)/kmap.fish"
 	$(INSTALL) -m 644 completions/_kmap "$(ZSH_COMPLETIONS)/_kmap"
 	for file in $(EXAMPLE_FILES); do $(INSTALL) -m 644 examples/$$file "$(EXAMPLES)" || exit 1; done
-	$(INSTALL) -m 644 README.md CHANGELOG.md LICENSE "$(DOC)"
-	$(INSTALL) -m 644 docs/*.md docs/*.svg "$(DOC)/docs"
+	$(INSTALL) -m 644 CHANGELOG.md LICENSE "$(DOC)"
+	sed -e '/^- \[docs\/ARCHITECTURE/d' -e '/^- \[docs\/DECISIONS/d' -e '/^- \[CONTRIBUTING/d' README.md \
+	    > "$(DOC)/README.md" && chmod 644 "$(DOC)/README.md"
+	$(INSTALL) -m 644 $(DOCUMENTS) "$(DOC)/docs"
 
 # Folders that other programs share stay, and so does what a user put into the program's own.
 uninstall:
@@ -136,7 +140,7 @@ uninstall:
 	rm -f "$(MAN)/man1/kmap.1" "$(MAN)/man3/kmap.3" "$(MAN)/man5/kmap.5"
 	rm -f "$(BASH_COMPLETIONS)/kmap" "$(FISH_COMPLETIONS)/kmap.fish" "$(ZSH_COMPLETIONS)/_kmap"
 	for file in $(EXAMPLE_FILES); do rm -f "$(EXAMPLES)/$$file"; done
-	for file in README.md CHANGELOG.md LICENSE docs/*.md docs/*.svg; do rm -f "$(DOC)/$$file"; done
+	for file in README.md CHANGELOG.md LICENSE $(DOCUMENTS); do rm -f "$(DOC)/$$file"; done
 	for folder in "$(EXAMPLES)" "$(DOC)/docs" "$(DOC)"; do rmdir "$$folder" 2> /dev/null || true; done
 
 # The same bytes for the same files: names in order, and no time, owner or name of this machine.

@@ -5,6 +5,7 @@
     console = Console(keymap)
     console.press(42)
     assert str(console.press(30)) == "A"
+    assert keymap[30][0] == "a" and str(keymap[42][0]) == "lshift"
 
 It is one file, over ctypes alone. The library is that of the environment's KMAP_LIBRARY; without one, libkmap.so.0 or
 libkmap.so beside this file; else the one that the system finds as libkmap.so.0. kmap(3) says what each call promises.
@@ -15,7 +16,7 @@ import os
 from typing import Dict, Iterable, List, Optional, Set, Tuple, Union
 
 PRESS, RELEASE, RESET, LOAD = 0, 128, 256, 257
-KEYS = 128
+KEYS, SLOTS, COLUMNS = 128, 256, 8
 
 MODIFIERS = ("lshift", "rshift", "lctrl", "rctrl", "lalt", "ralt", "ashift", "meta")
 LOCKS = ("clock", "nlock", "slock", "alock")
@@ -24,7 +25,7 @@ ACCENTS = tuple("dgra dacu dcir dtil dmac dbre ddot duml dsla drin dced dapo dda
 _NOKEY, _MKEY, _ERRKEY, _SPCLKEY, _BACK_TAB = 0x01000000, 0x04000000, 0x20000000, 0x80000000, 0x88000000
 _RELKEY, _CODES = 0x40000000, 0xFF
 _OK = 0
-_TABLES_SIZE, _CONSOLE_SIZE, _WORDS_SIZE = 15524, 132, 128
+_TABLES_SIZE, _WORDS_SIZE = 15524, 128
 
 
 class _Tables(ctypes.Structure):
@@ -59,12 +60,21 @@ class _Bearer(ctypes.Structure):
     _fields_ = [("kind", ctypes.c_uint8), ("key", ctypes.c_uint8)]
 
 
-def _library() -> ctypes.CDLL:
-    """Opens the library and declares its calls."""
+def _opened() -> ctypes.CDLL:
+    """Opens the library, which may lie beside this file."""
     here = os.path.dirname(os.path.abspath(__file__))
     beside = [os.path.join(here, name) for name in ("libkmap.so.0", "libkmap.so")]
     found = [path for path in beside if os.path.exists(path)]
-    library = ctypes.CDLL(os.environ.get("KMAP_LIBRARY") or (found + ["libkmap.so.0"])[0])
+    name = os.environ.get("KMAP_LIBRARY") or (found + ["libkmap.so.0"])[0]
+    try:
+        return ctypes.CDLL(name)
+    except OSError as error:
+        raise ImportError(f"{error}; name the library by KMAP_LIBRARY or its folder by LD_LIBRARY_PATH") from None
+
+
+def _library() -> ctypes.CDLL:
+    """Opens the library and declares its calls."""
+    library = _opened()
     size, status, number, byte = ctypes.c_size_t, ctypes.c_int32, ctypes.c_uint32, ctypes.c_uint8
     # Any object with bytes is good as a pointer to const bytes; a buffer is written.
     given, written, console = ctypes.c_char_p, ctypes.c_void_p, ctypes.POINTER(_Console)
@@ -74,6 +84,8 @@ def _library() -> ctypes.CDLL:
         "kmap_print_text": (status, given, size, written, size, ctypes.POINTER(size)),
         "kmap_accepts": (status, given, size, ctypes.POINTER(_Finding)),
         "kmap_bearer": (status, given, size, byte, ctypes.POINTER(_Bearer)),
+        "kmap_cell": (status, given, size, number, number, ctypes.POINTER(number)),
+        "kmap_action_name": (status, number, written, size),
         "kmap_fault_words": (status, number, written, size),
         "kmap_text_fault_words": (status, number, written, size),
         "kmap_finding_words": (status, ctypes.POINTER(_Finding), written, size),
@@ -95,7 +107,7 @@ _kmap = _library()
 
 
 def _words(call, told) -> str:
-    """The sentence that a call of the library puts into a buffer."""
+    """The sentence or the name that a call of the library puts into a buffer."""
     words = ctypes.create_string_buffer(_WORDS_SIZE)
     call(told, words, len(words))
     return words.value.decode()
@@ -177,6 +189,18 @@ class Keymap:
         _kmap.kmap_print_text(self.tables, len(self.tables), text, size.value, size)
         return text.raw[: size.value].decode()
 
+    def __getitem__(self, slot: int) -> Tuple[Union[str, "Action"], ...]:
+        """The eight cells of a slot, 0 to 255: each is a character or an Action."""
+        if not 0 <= slot < SLOTS:
+            raise IndexError(f"no slot: {slot}")
+        return tuple(self._cell(slot, column) for column in range(COLUMNS))
+
+    def _cell(self, slot: int, column: int) -> Union[str, "Action"]:
+        number = ctypes.c_uint32()
+        _kmap.kmap_cell(self.tables, len(self.tables), slot, column, number)
+        cell = Answer(number.value)
+        return cell.character if cell.action is None else cell.action
+
     def finding(self) -> Optional[Finding]:
         """The first key for which the keymap is refused; None where the keymap is safe."""
         found = _Finding()
@@ -203,6 +227,16 @@ class Keymap:
         return hash(self.tables)
 
 
+class Action(int):
+    """What a key does other than to give a character: its code of sys/kbio.h. Its str is its name."""
+
+    def __str__(self) -> str:
+        return _words(_kmap.kmap_action_name, int(self))
+
+    def __repr__(self) -> str:
+        return f"<Action {int(self)} {self}>"
+
+
 class Answer(int):
     """What a console answers to an event: the number of genkbd_keyaction. Its str is what it types."""
 
@@ -218,9 +252,9 @@ class Answer(int):
         return self.character is not None and bool(self & _MKEY)
 
     @property
-    def action(self) -> Optional[int]:
-        """The code of an action of sys/kbio.h that was pressed or released, None where the answer is none."""
-        return self & _CODES if self & _SPCLKEY else None
+    def action(self) -> Optional[Action]:
+        """The action that was pressed or released, None where the answer is none."""
+        return Action(self & _CODES) if self & _SPCLKEY else None
 
     @property
     def is_release(self) -> bool:

@@ -8,6 +8,7 @@
 #include <kmap.h>
 #include <stdio.h>
 #include <stdlib.h>
+#include <string.h>
 
 /* The limit of a text that kmap reads; the library has none. */
 #define TEXT_LIMIT 1048576
@@ -67,17 +68,43 @@ static void put_answer(uint32_t answer)
 	}
 }
 
+/* Reads the next event, by its number: 1, or 0 where there is none, or -1 after a line that tells what stands there. */
+static int next_event(uint16_t *event)
+{
+	char word[32];
+	unsigned long number;
+
+	if (scanf("%31s", word) != 1)
+		return 0;
+	if (word[strspn(word, "0123456789")] != '\0') {
+		fprintf(stderr, "load: no number: %s\n", word);
+		return -1;
+	}
+	number = strtoul(word, NULL, 10);
+	if (number > KMAP_LOAD) {
+		fprintf(stderr, "load: no event: %s\n", word);
+		return -1;
+	}
+	*event = (uint16_t)number;
+	return 1;
+}
+
 int main(int argc, char **argv)
 {
 	struct kmap_console console;
 	uint32_t answer;
-	unsigned event;
+	uint16_t event;
 	size_t length;
 	FILE *file;
+	int more;
 
-	if (argc != 2 || (file = fopen(argv[1], "rb")) == NULL) {
+	if (argc != 2) {
 		fputs("usage: load TEXT < NUMBERS\n", stderr);
 		return 2;
+	}
+	if ((file = fopen(argv[1], "rb")) == NULL) {
+		fprintf(stderr, "load: %s: cannot be opened\n", argv[1]);
+		return 1;
 	}
 	length = fread(text, 1, sizeof text, file);
 	if (ferror(file) || length > TEXT_LIMIT) {
@@ -88,13 +115,13 @@ int main(int argc, char **argv)
 	if (load(argv[1], length) != 0)
 		return 1;
 	kmap_start(&console);
-	while (scanf("%u", &event) == 1) {
-		if (event > KMAP_LOAD || kmap_step(tables.bytes, sizeof tables.bytes, &console, (uint16_t)event, &answer)
-		    != KMAP_OK) {
-			fprintf(stderr, "load: no event: %u\n", event);
-			return 1;
-		}
-		put_answer(answer);
+	while ((more = next_event(&event)) > 0) {
+		if (kmap_step(tables.bytes, sizeof tables.bytes, &console, event, &answer) == KMAP_OK)
+			put_answer(answer);
 	}
-	return fflush(stdout) == 0 ? 0 : 1;
+	if (fflush(stdout) != 0 || ferror(stdout)) {
+		fputs("load: cannot write\n", stderr);
+		return 1;
+	}
+	return more == 0 ? 0 : 1;
 }

@@ -8,6 +8,11 @@
  */
 #include <kmap.h>
 #include <stdio.h>
+#include <stdlib.h>
+#include <string.h>
+
+/* One byte more than a file has shows a file that is too long. */
+static uint8_t tables[KMAP_TABLES_SIZE + 1];
 
 static void put_utf8(uint32_t c)
 {
@@ -39,36 +44,71 @@ static void put_answer(uint32_t answer)
 	}
 }
 
-int main(int argc, char **argv)
+/* Reads the next event, by its number: 1, or 0 where there is none, or -1 after a line that tells what stands there. */
+static int next_event(uint16_t *event)
 {
-	/* One byte more than a file has shows a file that is too long. */
-	static uint8_t tables[KMAP_TABLES_SIZE + 1];
-	struct kmap_console console;
+	char word[32];
+	unsigned long number;
+
+	if (scanf("%31s", word) != 1)
+		return 0;
+	if (word[strspn(word, "0123456789")] != '\0') {
+		fprintf(stderr, "type: no number: %s\n", word);
+		return -1;
+	}
+	number = strtoul(word, NULL, 10);
+	if (number > KMAP_LOAD) {
+		fprintf(stderr, "type: no event: %s\n", word);
+		return -1;
+	}
+	*event = (uint16_t)number;
+	return 1;
+}
+
+/* Reads a file of tables and checks it: its length, or 0 after a line that tells what is wrong with it. */
+static size_t read_tables(const char *name)
+{
+	uint8_t words[KMAP_WORDS_SIZE];
 	struct kmap_fault fault;
 	size_t length;
-	unsigned event;
-	FILE *file;
+	FILE *file = fopen(name, "rb");
 
-	if (argc != 2 || (file = fopen(argv[1], "rb")) == NULL) {
-		fputs("usage: type TABLES < NUMBERS\n", stderr);
-		return 2;
+	if (file == NULL) {
+		fprintf(stderr, "type: %s: cannot be opened\n", name);
+		return 0;
 	}
 	length = fread(tables, 1, sizeof tables, file);
 	fclose(file);
 	if (kmap_check(tables, length, &fault) != KMAP_OK) {
-		fprintf(stderr, "type: tables offset %lu: fault %lu\n", (unsigned long)fault.offset,
-		    (unsigned long)fault.kind);
+		kmap_fault_words(fault.kind, words, sizeof words);
+		fprintf(stderr, "type: %s: offset %lu: %s\n", name, (unsigned long)fault.offset, (char *)words);
+		return 0;
+	}
+	return length;
+}
+
+int main(int argc, char **argv)
+{
+	struct kmap_console console;
+	uint32_t answer;
+	uint16_t event;
+	size_t length;
+	int more;
+
+	if (argc != 2) {
+		fputs("usage: type TABLES < NUMBERS\n", stderr);
+		return 2;
+	}
+	if ((length = read_tables(argv[1])) == 0)
+		return 1;
+	kmap_start(&console);
+	while ((more = next_event(&event)) > 0) {
+		if (kmap_step(tables, length, &console, event, &answer) == KMAP_OK)
+			put_answer(answer);
+	}
+	if (fflush(stdout) != 0 || ferror(stdout)) {
+		fputs("type: cannot write\n", stderr);
 		return 1;
 	}
-	kmap_start(&console);
-	while (scanf("%u", &event) == 1) {
-		uint32_t answer;
-
-		if (event > KMAP_LOAD || kmap_step(tables, length, &console, (uint16_t)event, &answer) != KMAP_OK) {
-			fprintf(stderr, "type: no event: %u\n", event);
-			return 1;
-		}
-		put_answer(answer);
-	}
-	return fflush(stdout) == 0 ? 0 : 1;
+	return more == 0 ? 0 : 1;
 }

@@ -3,8 +3,8 @@
  * kmap_read_text makes of a keymap text.
  *
  * A console lives in the memory of its caller. No call takes memory, and none keeps a pointer that it was given. What a
- * pointer to const leads to is only read. The library has no state of its own, so calls may run at once where none
- * writes what another one is given.
+ * pointer to const leads to is only read. The library has no state of its own, so calls may run at once, in threads or
+ * one while another is interrupted, where none writes what another one is given.
  *
  * Each comment ends with what the call needs, which calls may run at once with it, and the most that it takes of the
  * stack, with its arguments there and its return address, but without what memcpy, memmove and memset take. Bytes stand
@@ -35,12 +35,14 @@ extern "C" {
 #define KMAP_OK 0
 #define KMAP_BAD_LENGTH (-1) /* tables that aren't KMAP_TABLES_SIZE bytes */
 #define KMAP_BAD_EVENT (-2) /* a number that names no event */
-#define KMAP_NO_ROOM (-3) /* fewer places for answers than events, or too few for a text or a sentence */
+#define KMAP_NO_ROOM (-3) /* fewer places for answers than events, or too little room for what is put there */
 #define KMAP_FAULTY (-4) /* tables with a fault */
 #define KMAP_UNSAFE (-5) /* tables of a keymap that isn't safe: see kmap_accepts */
 #define KMAP_TEXT_FAULT (-6) /* a text that spells no keymap */
 #define KMAP_BAD_HOLDING (-7) /* a number that names no modifier or lock */
 #define KMAP_BAD_KIND (-8) /* a number that names no kind of fault */
+#define KMAP_BAD_CODE (-9) /* a number that is the code of no action */
+#define KMAP_BAD_PLACE (-10) /* no slot or no column */
 
 /*
  * The events. Key codes are 0 to 127; any other number gives KMAP_NO_EVENT, which each call refuses. A press of a key
@@ -75,9 +77,13 @@ static inline uint16_t kmap_release(uintmax_t key)
 #define KMAP_RELKEY UINT32_C(0x40000000) /* with KMAP_SPCLKEY: the action was released */
 #define KMAP_SPCLKEY UINT32_C(0x80000000) /* the code of an action */
 
-/* The character of an answer, where it is one. */
+/* The character of an answer or a cell, where it is one. */
 #define KMAP_IS_CHAR(answer) (((answer) & ~(KMAP_MKEY | UINT32_C(0x1fffff))) == 0)
 #define KMAP_CHAR(answer) ((answer) & UINT32_C(0x1fffff))
+
+/* The code of its action, where it is one: then kmap_action_name tells the name. */
+#define KMAP_IS_ACTION(answer) (((answer) & KMAP_SPCLKEY) != 0)
+#define KMAP_CODE(answer) ((answer) & UINT32_C(0xff))
 
 /* The bits of kmap_modifiers. */
 #define KMAP_LSHIFT 0x01
@@ -119,8 +125,9 @@ static inline uint16_t kmap_release(uintmax_t key)
 #define KMAP_TEXT_COMBINED 10 /* the name of a modifier joined with a lock */
 #define KMAP_TEXT_END_INSIDE 11 /* the text ends inside a token or a definition */
 
-/* Room for each sentence of the library and the 0 behind it, in bytes. */
+/* Room for each sentence of the library and the 0 behind it, in bytes, and for each name of an action. */
 #define KMAP_WORDS_SIZE 128
+#define KMAP_NAME_SIZE 7
 
 /* The tables of a keymap, as the bytes of a table file. */
 struct kmap_tables {
@@ -161,8 +168,13 @@ struct kmap_bearer {
 	uint8_t key;
 };
 
+/*
+ * While its tables are in force, a modifier that one key bears throughout is on exactly while this key is down. Where
+ * no other tables are loaded, a lock that one key bears throughout is on exactly after an odd number of presses of this
+ * key that are no repeats. kmap_accepts says when a key is down.
+ */
 #define KMAP_BORNE_BY_NONE 0
-#define KMAP_BORNE_THROUGHOUT 1 /* by this key alone, in all its cells: it is on exactly while the key is down */
+#define KMAP_BORNE_THROUGHOUT 1 /* by this key alone, in all its cells */
 #define KMAP_BORNE_ALONE 2 /* by this key alone, not in all its cells */
 #define KMAP_BORNE_BY_SEVERAL 3
 
@@ -211,7 +223,7 @@ int32_t kmap_read_text(const uint8_t *text, size_t length, struct kmap_tables *t
 /*
  * Prints the keymap of tables as a text, as `kmap dump` does, into `room` bytes. KMAP_OK if they are enough: then the
  * text stands in front, without a 0 behind it, and bytes past it stay. `size` is how many bytes the text has, also
- * where it is KMAP_NO_ROOM; KMAP_FAULTY if these are no tables of a keymap, or KMAP_BAD_LENGTH.
+ * where it is KMAP_NO_ROOM; KMAP_BAD_LENGTH, or else KMAP_FAULTY if these are no tables of a keymap.
  *
  * Needs: no null pointer, also where `length` or `room` is 0; `length` bytes of `tables` and `room` bytes of `text`;
  * `size` aligned; the three apart. At once: calls may share the tables. Stack: 6,400 bytes.
@@ -221,7 +233,7 @@ int32_t kmap_print_text(const uint8_t *tables, size_t length, uint8_t *text, siz
 /*
  * Checks whether a keymap is safe: no key has both a modifier or lock and a character among its cells. KMAP_OK if the
  * tables are those of a safe keymap, and `finding` stays as it was; KMAP_UNSAFE if they are those of another, and
- * `finding` is that of its least key; KMAP_FAULTY if they are no tables of a keymap, or KMAP_BAD_LENGTH.
+ * `finding` is that of its least key; KMAP_BAD_LENGTH, or else KMAP_FAULTY if they are no tables of a keymap.
  *
  * It is proved that no modifier sticks where it answers KMAP_OK for the tables of a console, or for both: whatever
  * events were delivered since kmap_start, a bit of kmap_modifiers is set only while some key is down that has this
@@ -241,6 +253,26 @@ int32_t kmap_accepts(const uint8_t *tables, size_t length, struct kmap_finding *
  * At once: calls may share the tables. Stack: 6,400 bytes.
  */
 int32_t kmap_bearer(const uint8_t *tables, size_t length, uint8_t holding, struct kmap_bearer *bearer);
+
+/*
+ * Tells the cell of a slot, 0 to 255, and a column, 0 to 7: its character, or KMAP_SPCLKEY and the code of its action,
+ * with KMAP_FKEY for a function key and KMAP_BKEY for the back tab, as in answers. Slots above 127 are those of the
+ * upper half, and a slot that isn't in use has eight characters 0. KMAP_OK, KMAP_BAD_LENGTH or KMAP_BAD_PLACE; the
+ * cell is that of the keymap where the tables are those of one.
+ *
+ * Needs: no null pointer, also where `length` is 0; `length` bytes of `tables`; `cell` aligned and apart from them.
+ * At once: calls may share the tables. Stack: 100 bytes.
+ */
+int32_t kmap_cell(const uint8_t *tables, size_t length, uint32_t slot, uint32_t column, uint32_t *cell);
+
+/*
+ * Puts the name of the action of a code into `room` bytes, as keymap(5) has it, and a 0 behind it. KMAP_OK;
+ * KMAP_BAD_CODE if no action has the code; or KMAP_NO_ROOM. KMAP_NAME_SIZE bytes are room for each.
+ *
+ * Needs: `name` not null, also where `room` is 0; `room` bytes of it. At once: calls with other names.
+ * Stack: 100 bytes.
+ */
+int32_t kmap_action_name(uint32_t code, uint8_t *name, size_t room);
 
 /*
  * Puts the sentence of a kind of fault of tables into `room` bytes, and a 0 behind it. KMAP_OK; KMAP_BAD_KIND if the

@@ -15,7 +15,7 @@ TOP = pathlib.Path(__file__).resolve().parent.parent
 sys.path.insert(0, str(TOP / "examples"))
 sys.dont_write_bytecode = True
 
-from kmap import ACCENTS, LOAD, LOCKS, MODIFIERS, RESET, Console, Keymap, TablesError, TextError  # noqa: E402
+from kmap import ACCENTS, LOAD, LOCKS, MODIFIERS, RESET, Action, Console, Keymap, TablesError, TextError  # noqa: E402
 
 # The numbers of kmap.h, from 1 on, by the names that the program gives.
 TEXT_KINDS = (
@@ -23,11 +23,16 @@ TEXT_KINDS = (
 ).split()
 TABLE_KINDS = "Short Long BadCount BadPad BadFlag BadAction Combined BadChar NotEmpty".split()
 # The codes of sys/kbio.h.
-CODES = dict(enumerate("lshift rshift clock nlock slock lalt btab lctrl nscr".split(), 0x02))
+CODES = {0: "nop"} | dict(enumerate("lshift rshift clock nlock slock lalt btab lctrl nscr".split(), 0x02))
 CODES |= {0x0A + n: f"scr{n:02}" for n in range(1, 17)} | {0x1A + n: f"fkey{n:02}" for n in range(1, 97)}
 CODES |= dict(enumerate("rctrl ralt alock ashift meta boot debug susp saver".split(), 0x80))
 CODES |= dict(enumerate(ACCENTS, 0x89)) | dict(enumerate("stby pscr panic".split(), 0x98))
 CODES |= dict(enumerate("halt pdwn paste".split(), 0xA1))
+# Control characters by their names in a text.
+CONTROLS = dict(enumerate(
+    "nul soh stx etx eot enq ack bel bs ht nl vt ff cr so si dle dc1 dc2 dc3 dc4 nak syn etb can em sub esc fs gs rs ns"
+    .split()
+)) | {127: "del"}
 WORDS = (
     "nop nul soh del lshift rshift lctrl rctrl lalt ralt ashift meta clock nlock slock alock btab nscr pscr scr01 "
     "scr16 scr17 fkey01 fkey96 fkey97 dgra dcar 'a' '\\'' '' ' 0 1 13 0xd800 0x110000 4294967296 O C N B ( ) # \n "
@@ -83,8 +88,28 @@ def mutated_tables(chance, tables):
     return bytes(change)
 
 
+def told_cell(cell):
+    """A cell as `kmap dump` prints it."""
+    if isinstance(cell, Action):
+        return str(cell)
+    number = ord(cell)
+    if number in CONTROLS:
+        return CONTROLS[number]
+    return f"'{cell}'" if number < 127 else f"{number:#06x}"
+
+
+def check_cells(keymap, printed):
+    """Each cell, as the printed form has it, and the character 0 in slots behind the last one."""
+    lines = [line for line in printed.decode().splitlines() if line[0] in "0123456789"]
+    for slot, line in enumerate(lines):
+        told = [told_cell(cell) for cell in keymap[slot]]
+        same(f"slot {slot}", line[4:].replace("' '", "'_'").split()[:-1], [word.replace("' '", "'_'") for word in told])
+    for slot in range(len(lines), 256):
+        same(f"slot {slot}", ("\0",) * 8, keymap[slot])
+
+
 def check_keymap(program, keymap, text):
-    """The report of the check, and the printed form."""
+    """The report of the check, the printed form, and each cell of it."""
     report = program.run("check", "text", text=text)[0].decode().splitlines()
     finding = keymap.finding()
     same("the verdict", report[0], "accepted" if finding is None else "refused")
@@ -97,6 +122,7 @@ def check_keymap(program, keymap, text):
         same("a bearer", line.replace(" steady", ""), f"{name} {told}")
     printed = program.run("dump", "tables", tables=keymap.tables)[0]
     same("the printed form", printed, keymap.text().encode())
+    check_cells(keymap, printed)
 
 
 def check_text(program, text):
@@ -134,7 +160,7 @@ def told_answer(answer):
         return "error"
     if answer.character is not None:
         return f"{'meta ' * answer.with_meta}char {int(answer) & 0x1FFFFF}"
-    return f"{'released ' * answer.is_release}{CODES[answer.action]}"
+    return f"{'released ' * answer.is_release}{answer.action}"
 
 
 def told_line(number, answer, console):
@@ -179,11 +205,18 @@ def check_events(program, chance, keymap, text, other, other_text):
     same("what is typed", typed, Console(keymap, other).typed(numbers))
 
 
+def check_names():
+    """The name of each action, and none for any other code."""
+    for code in [*range(300), 0x80000000]:
+        same(f"the name of code {code}", CODES.get(code, ""), str(Action(code)))
+
+
 def main():
     program_path, count = sys.argv[1], int(sys.argv[2])
     seed = int(sys.argv[3]) if len(sys.argv) > 3 else 1
     chance = random.Random(seed)
     texts = [(TOP / "examples" / name).read_bytes() for name in ("us.kbd", "de.kbd", "trap.kbd")]
+    check_names()
     counts = {"texts": 0, "faults": 0, "refused": 0, "tables": 0}
     with tempfile.TemporaryDirectory() as folder:
         program = Program(program_path, folder)

@@ -158,6 +158,81 @@ static void check_faults(void)
 	holds("the last byte", faulty_at(KMAP_TABLES_SIZE - 1, 1, KMAP_NOT_EMPTY, KMAP_TABLES_SIZE - 1));
 }
 
+/* A cell with its number: left shift is code 2, back tab 8, f1 27, screen 11 21, dgra 137 and f25 51. */
+static const struct {
+	uint32_t slot, column, cell;
+} cells[] = {
+	{ 30, 0, 'a' },
+	{ 30, 1, 'A' },
+	{ 30, 2, 1 },
+	{ 0, 0, KMAP_SPCLKEY },
+	{ 42, 7, KMAP_SPCLKEY + 2 },
+	{ 15, 1, KMAP_SPCLKEY + KMAP_BKEY + 8 },
+	{ 59, 0, KMAP_SPCLKEY + KMAP_FKEY + 27 },
+	{ 59, 2, KMAP_SPCLKEY + KMAP_FKEY + 51 },
+	{ 59, 5, KMAP_SPCLKEY + 21 },
+	{ 41, 4, KMAP_SPCLKEY + 137 },
+	{ 158, 0, 0 },
+	{ 255, 7, 0 },
+};
+
+static void check_cells(void)
+{
+	uint32_t cell;
+	char name[64];
+	size_t i;
+
+	for (i = 0; i < sizeof cells / sizeof cells[0]; i++) {
+		snprintf(name, sizeof name, "the cell of slot %lu", (unsigned long)cells[i].slot);
+		cell = 77;
+		holds(name, kmap_cell(tables, KMAP_TABLES_SIZE, cells[i].slot, cells[i].column, &cell) == KMAP_OK
+		    && cell == cells[i].cell);
+	}
+	holds("a cell is a character or an action", KMAP_IS_CHAR('a') && !KMAP_IS_ACTION('a') && KMAP_IS_ACTION(KMAP_SPCLKEY)
+	    && KMAP_IS_ACTION(KMAP_SPCLKEY + KMAP_RELKEY + 2) && !KMAP_IS_ACTION(KMAP_NOKEY) && !KMAP_IS_ACTION(KMAP_ERRKEY)
+	    && KMAP_CODE(KMAP_SPCLKEY + KMAP_FKEY + 27) == 27);
+	cell = 77;
+	holds("slot 256", kmap_cell(tables, KMAP_TABLES_SIZE, 256, 0, &cell) == KMAP_BAD_PLACE);
+	holds("column 8", kmap_cell(tables, KMAP_TABLES_SIZE, 30, 8, &cell) == KMAP_BAD_PLACE);
+	holds("the greatest numbers", kmap_cell(tables, KMAP_TABLES_SIZE, UINT32_MAX, UINT32_MAX, &cell) == KMAP_BAD_PLACE);
+	holds("a length is told before a place", kmap_cell(tables, KMAP_TABLES_SIZE - 1, 256, 0, &cell) == KMAP_BAD_LENGTH);
+	holds("no cell is told", cell == 77);
+}
+
+/* The codes of actions with a name, and the nearest ones that have none. */
+static const struct {
+	uint32_t code;
+	const char *name;
+} names[] = {
+	{ 0, "nop" }, { 1, NULL }, { 2, "lshift" }, { 8, "btab" }, { 10, "nscr" }, { 11, "scr01" }, { 26, "scr16" },
+	{ 27, "fkey01" }, { 122, "fkey96" }, { 123, NULL }, { 127, NULL }, { 128, "rctrl" }, { 136, "saver" },
+	{ 137, "dgra" }, { 151, "dcar" }, { 152, "stby" }, { 154, "panic" }, { 155, NULL }, { 160, NULL }, { 161, "halt" },
+	{ 163, "paste" }, { 164, NULL }, { 255, NULL }, { 256, NULL }, { KMAP_SPCLKEY + 2, NULL }, { UINT32_MAX, NULL },
+};
+
+static void check_names(void)
+{
+	uint8_t name[KMAP_NAME_SIZE + 1];
+	char which[64];
+	int32_t status;
+	size_t i;
+
+	for (i = 0; i < sizeof names / sizeof names[0]; i++) {
+		snprintf(which, sizeof which, "the name of code %lu", (unsigned long)names[i].code);
+		memset(name, 0x5a, sizeof name);
+		status = kmap_action_name(names[i].code, name, KMAP_NAME_SIZE);
+		if (names[i].name == NULL)
+			holds(which, status == KMAP_BAD_CODE && name[0] == 0x5a);
+		else
+			holds(which, status == KMAP_OK && strcmp((char *)name, names[i].name) == 0
+			    && name[KMAP_NAME_SIZE] == 0x5a);
+	}
+	memset(name, 0x5a, sizeof name);
+	holds("no room for the 0 of a name", kmap_action_name(2, name, 6) == KMAP_NO_ROOM && name[0] == 0x5a);
+	holds("room for a short name", kmap_action_name(0, name, 4) == KMAP_OK && name[3] == 0 && name[4] == 0x5a);
+	holds("no room at all", kmap_action_name(0, name, 0) == KMAP_NO_ROOM);
+}
+
 /* Any bytes are safe: this only has to come back. */
 static void check_noise(void)
 {
@@ -175,6 +250,7 @@ static void check_noise(void)
 		for (i = 0; i < 1000; i++) {
 			number = number * 1664525 + 1013904223;
 			kmap_step(noise, sizeof noise, &console, (uint16_t)(number >> 16) % 258, &answer);
+			kmap_cell(noise, sizeof noise, number >> 24, i % 8, &answer);
 		}
 	}
 	holds("noise comes back", kmap_pending(&console) >= -1 && kmap_pending(&console) < 15);
@@ -191,6 +267,8 @@ int main(int argc, char **argv)
 	check_steps();
 	check_refusals();
 	check_faults();
+	check_cells();
+	check_names();
 	check_noise();
 	printf("%u passed, %u failed\n", passed, failed);
 	return failed != 0;

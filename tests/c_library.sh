@@ -48,6 +48,15 @@ silent() {
     "$@" > /dev/null
 }
 
+# says STATUS LINE INPUT COMMAND..: with this file as its input the command writes this line on standard error, and ends
+# with this status
+says() {
+    status=$1 line=$2 input=$3
+    shift 3
+    "$@" < "$input" > got 2> said
+    [ $? -eq "$status" ] && [ "$(cat said)" = "$line" ]
+}
+
 # within NUMBER LIMIT: the number was measured, and is no greater than the limit
 within() {
     [ "$1" -gt 0 ] && [ "$1" -le "$2" ]
@@ -71,6 +80,17 @@ if is_there nm; then
     names_of "${library%/*}/libkmap.so" -D
 fi
 
+if is_there objdump; then
+    objdump -d "$library" > disassembled
+    holds 'the library has code' grep -q '(%rsp)' disassembled
+    # An index may lead up again from below the stack pointer, where the function has reserved what it leads to.
+    red=$(awk '/^[0-9a-f]+ <.*>:$/ { name = $2; reserved = 0 } /sub +\$0x[0-9a-f]+,%rsp/ { reserved = 1 }
+        /-0x[0-9a-f]+\(%rsp\)/ || /-0x[0-9a-f]+\(%rsp,/ && !reserved { print name, $0 }' disassembled)
+    holds "nothing is kept below the stack pointer: $red" [ -z "$red" ]
+    kept=$(objdump -h "$library" | awk '$2 ~ /^\.(data|bss|tdata|tbss)/ && $2 !~ /^\.data\.rel\.ro/ && $3 !~ /^0+$/')
+    holds "the library has no memory of its own: $kept" [ -z "$kept" ]
+fi
+
 if is_there "$cc"; then
     holds 'the example compiles' compiled "$examples/type.c" -o type
     tr ' ' '\n' < "$examples/line.numbers" | grep . > got
@@ -84,10 +104,16 @@ if is_there "$cc"; then
         numbers "$script" | ./type tables > got
         same_text "the example types ${script##*/} as the program does" wanted got
     done
-    holds 'the example refuses a number that is no event' [ "$(echo 258 | ./type tables 2>&1)" = 'type: no event: 258' ]
     : > empty
-    holds 'the example refuses an empty file' \
-        [ "$(./type empty 2>&1 < /dev/null)" = 'type: tables offset 0: fault 1' ]
+    echo 258 > no_event
+    printf '2 x30 3' > no_number
+    holds 'the example refuses a number that is no event' says 1 'type: no event: 258' no_event ./type tables
+    holds 'the example refuses a word that is no number' says 1 'type: no number: x30' no_number ./type tables
+    holds 'the example refuses an empty file' says 1 'type: empty: offset 0: the file is too short' empty ./type empty
+    holds 'the example tells that there is no file' says 1 'type: none: cannot be opened' empty ./type none
+    holds 'the example tells how it is used' says 2 'usage: type TABLES < NUMBERS' empty ./type
+    [ ! -e /dev/full ] || holds 'the example tells that it cannot write' \
+        [ "$(echo 30 | ./type tables 2>&1 > /dev/full)" = 'type: cannot write' ]
 
     holds 'the loader compiles' compiled "$examples/load.c" -o load
     for name in us:line de:de; do
@@ -99,30 +125,17 @@ if is_there "$cc"; then
     holds 'the loader refuses an unsafe keymap' [ "$(./load "$examples/trap.kbd" 2>&1 < /dev/null)" = \
         "load: $examples/trap.kbd: a modifier can stick: $finding" ]
     printf '030 "a"\n' > faulty.kbd
-    holds 'the loader refuses a faulty text' [ "$(./load faulty.kbd 2>&1 < /dev/null)" = \
-        'load: faulty.kbd: line 1, offset 4: a byte that begins no token' ]
+    holds 'the loader refuses a faulty text' \
+        says 1 'load: faulty.kbd: line 1, offset 4: a byte that begins no token' empty ./load faulty.kbd
+    cp "$examples/us.kbd" good.kbd
+    holds 'the loader refuses a number that is no event' says 1 'load: no event: 258' no_event ./load good.kbd
+    holds 'the loader refuses a word that is no number' says 1 'load: no number: x30' no_number ./load good.kbd
+    holds 'the loader tells that there is no file' says 1 'load: none: cannot be opened' empty ./load none
+    holds 'the loader tells that it is given a folder' says 1 'load: .: cannot be read' empty ./load .
+    holds 'the loader tells how it is used' says 2 'usage: load TEXT < NUMBERS' empty ./load
 
     # The example of README, in a function that is given a text.
-    {
-        cat << 'END'
-#include <kmap.h>
-#include <stdio.h>
-static int refuse_text(const struct kmap_text_fault *fault) { return 10 + (int)fault->line; }
-static int refuse_keymap(const struct kmap_finding *finding) { return finding->key; }
-static int typed(const uint8_t *text, size_t length)
-{
-END
-        awk '/^```/ { inside = $0 == "```c"; next } inside' "$top/README.md"
-        cat << 'END'
-return 0;
-}
-int main(void)
-{
-    static uint8_t text[65536];
-    return typed(text, fread(text, 1, sizeof text, stdin));
-}
-END
-    } > readme.c
+    program_of "$top/README.md" > readme.c
     holds 'the example of README compiles' compiled readme.c -o readme
     holds 'it types' [ "$(./readme < "$examples/us.kbd")" = a ]
     ./readme < "$examples/trap.kbd" > got
@@ -140,12 +153,35 @@ END
             numbers "$script" | KMAP_LIBRARY=./libkmap.so python3 -B "$examples/type.py" tables > got
             same_text "the example for Python types ${script##*/} as the program does" wanted got
         done
-        holds 'the example for Python refuses a number that is no event' \
-            [ "$(echo 258 | KMAP_LIBRARY=./libkmap.so python3 -B "$examples/type.py" tables 2>&1)" = \
-            'type: no event: 258' ]
-        holds 'the example for Python refuses an empty file' \
-            [ "$(KMAP_LIBRARY=./libkmap.so python3 -B "$examples/type.py" empty 2>&1 < /dev/null)" = \
-            'type: offset 0: the file is too short' ]
+        # as those in C do, in one line; what the system says of a file is Python's
+        typist="env KMAP_LIBRARY=./libkmap.so python3 -B $examples/type.py"
+        # shellcheck disable=SC2086 # a command and its words
+        {
+            holds 'the example for Python refuses a number that is no event' \
+                says 1 'type: no event: 258' no_event $typist tables
+            holds 'the example for Python refuses a word that is no number' \
+                says 1 'type: no number: x30' no_number $typist tables
+            holds 'the example for Python refuses an empty file' \
+                says 1 'type: empty: offset 0: the file is too short' empty $typist empty
+            holds 'the example for Python tells that there is no file' \
+                says 1 "type: [Errno 2] No such file or directory: 'none'" empty $typist none
+            holds 'the example for Python tells how it is used' says 2 'usage: type.py TABLES < NUMBERS' empty $typist
+            [ ! -e /dev/full ] || holds 'the example for Python tells that it cannot write' \
+                [ "$(echo 30 | $typist tables 2>&1 > /dev/full)" = 'type: [Errno 28] No space left on device' ]
+        }
+        KMAP_LIBRARY=./none.so python3 -B "$examples/type.py" tables < empty > got 2> said
+        holds 'it tells in one line that there is no library' [ "$?, $(sed 's/: .*;/: ..;/' said)" = \
+            '1, type: ..; name the library by KMAP_LIBRARY or its folder by LD_LIBRARY_PATH' ]
+        holds 'the library for Python tells cells and actions' env KMAP_LIBRARY=./libkmap.so PYTHONPATH="$examples" \
+            python3 -B -c 'import sys
+from kmap import Action, Console, Keymap
+keymap = Keymap.from_file(sys.argv[1])
+assert keymap[30][:3] == ("a", "A", "\x01") and keymap[255] == ("\0",) * 8
+assert keymap[59][2] == 51 and str(keymap[59][2]) == "fkey25" and isinstance(keymap[59][2], Action)
+assert [str(cell) for cell in keymap[15][:3]] == ["\t", "btab", "nop"] and str(keymap[41][4]) == "dgra"
+assert len(list(keymap)) == 256
+assert str(Console(keymap).press(42).action) == "lshift" and Console(keymap).press(30).action is None
+assert str(Action(1)) == "" and repr(Action(2)) == "<Action 2 lshift>"' "$examples/us.kbd"
         KMAP_LIBRARY=./libkmap.so python3 -B "$examples/test_keymap.py" > got
         printf 'test_no_modifier_sticks passed\ntest_shift passed\n' > wanted
         same_text 'the tests of a keymap in Python pass' wanted got
@@ -164,6 +200,10 @@ END
         said=$(./$calls)
         holds "$calls: $said" [ "${said##*, }" = '0 failed' ]
     done
+    # All calls at once over one table, in threads and in a handler that interrupts them.
+    holds 'the calls in threads compile' compiled "$top/tests/c_threads.c" -pthread -o c_threads
+    said=$(./c_threads "$examples/us.kbd" 40 20)
+    holds "calls at once: $said" [ "$said" = '0 wrong in threads, 0 wrong in interrupts' ]
     if is_there valgrind; then
         for calls in 'c_library tables' c_texts; do
             # shellcheck disable=SC2086
@@ -181,6 +221,33 @@ END
         done
     else
         echo 'skipped: there are no sanitizers'
+    fi
+    # Of the library's own loads and stores this one sees those that copy and fill memory, and all of its caller's.
+    if $cc -fsanitize=thread none.c -o none 2> /dev/null && ./none; then
+        holds 'the calls in threads compile for the sanitizer' compiled -fsanitize=thread "$top/tests/c_threads.c" \
+            -pthread -o c_threads
+        said=$(TSAN_OPTIONS=exitcode=3 ./c_threads "$examples/us.kbd" 20 0 2>&1)
+        holds "no thread waits for or races with another: $said" \
+            [ "$said" = '0 wrong in threads, 0 wrong in interrupts' ]
+    else
+        echo 'skipped: there is no sanitizer for threads'
+    fi
+
+    # Without a C library, and for FreeBSD.
+    if [ "$(uname -s)" = Linux ]; then
+        holds 'a program without a C library links' \
+            compiled -ffreestanding -nostdlib -static "$top/tests/c_alone.c" -o c_alone
+        holds 'it runs' ./c_alone
+    fi
+    if is_there clang && is_there ld.lld; then
+        for as in -static '-fpie -pie' '-static -mcmodel=kernel -Wl,-Ttext=0xffffffff80200000'; do
+            # shellcheck disable=SC2086 # some options
+            holds "it links for FreeBSD by $as" clang --target=x86_64-unknown-freebsd14 -std=c99 -Wall -Wextra \
+                -Werror -ffreestanding -nostdlib -fuse-ld=lld $as -I "$top/include" "$top/tests/c_alone.c" "$library" \
+                -o for_freebsd
+            ! is_there readelf || holds "that is a file of FreeBSD by $as" \
+                [ "$(readelf -h for_freebsd | grep -c 'OS/ABI: .*FreeBSD')" -eq 1 ]
+        done
     fi
 
     # The stack that each call takes, by its comment in the header, and by a run.

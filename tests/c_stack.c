@@ -56,6 +56,16 @@ static void call_bearer(void)
 	kmap_bearer(tables.bytes, KMAP_TABLES_SIZE, holding, &bearer);
 }
 
+static void call_cell(void)
+{
+	kmap_cell(tables.bytes, KMAP_TABLES_SIZE, kind, kind % 9, &answer);
+}
+
+static void call_action_name(void)
+{
+	kmap_action_name(kind, words, sizeof words);
+}
+
 static void call_fault_words(void)
 {
 	kmap_fault_words(kind, words, sizeof words);
@@ -108,8 +118,8 @@ static void call_pending(void)
 	kmap_pending(&console);
 }
 
-enum { CHECK, READ_TEXT, PRINT_TEXT, ACCEPTS, BEARER, FAULT_WORDS, TEXT_FAULT_WORDS, FINDING_WORDS, START, STEP,
-	STEP_BETWEEN, DELIVER, MODIFIERS, LOCKS, PENDING, CALLS };
+enum { CHECK, READ_TEXT, PRINT_TEXT, ACCEPTS, BEARER, CELL, ACTION_NAME, FAULT_WORDS, TEXT_FAULT_WORDS, FINDING_WORDS,
+	START, STEP, STEP_BETWEEN, DELIVER, MODIFIERS, LOCKS, PENDING, CALLS };
 
 /* The calls, and the most that each took so far. */
 static struct {
@@ -122,6 +132,8 @@ static struct {
 	{ "print_text", call_print_text, 0 },
 	{ "accepts", call_accepts, 0 },
 	{ "bearer", call_bearer, 0 },
+	{ "cell", call_cell, 0 },
+	{ "action_name", call_action_name, 0 },
 	{ "fault_words", call_fault_words, 0 },
 	{ "text_fault_words", call_text_fault_words, 0 },
 	{ "finding_words", call_finding_words, 0 },
@@ -177,6 +189,7 @@ static void measure_keymap(void)
 	for (room = 0; room <= sizeof printed; room += sizeof printed)
 		measure(PRINT_TEXT);
 	for (kind = 0; kind < 258; kind++) {
+		measure(CELL);
 		measure(STEP);
 		measure(STEP_BETWEEN);
 	}
@@ -194,6 +207,8 @@ static void measure_words(void)
 		measure(FAULT_WORDS);
 		measure(TEXT_FAULT_WORDS);
 	}
+	for (kind = 0; kind < 258; kind++)
+		measure(ACTION_NAME);
 	finding = longest;
 	measure(FINDING_WORDS);
 }

@@ -132,6 +132,8 @@ static void check_acceptance(void)
 	    == KMAP_OK && kmap_accepts(tables.bytes, sizeof tables.bytes, &finding) == KMAP_OK);
 	holds("a length", kmap_accepts(tables.bytes, sizeof tables.bytes - 1, &finding) == KMAP_BAD_LENGTH);
 	tables.bytes[2] = 1;
+	holds("a length is told before a fault", kmap_accepts(tables.bytes, sizeof tables.bytes - 1, &finding)
+	    == KMAP_BAD_LENGTH && kmap_accepts(tables.bytes, 0, &finding) == KMAP_BAD_LENGTH);
 	holds("a fault", kmap_accepts(tables.bytes, sizeof tables.bytes, &finding) == KMAP_FAULTY);
 	holds("no finding is told", memcmp(&finding, &untold, sizeof finding) == 0);
 }
@@ -177,6 +179,10 @@ static void check_printing(void)
 	size = 7;
 	holds("a length", kmap_print_text(tables.bytes, 1, text, sizeof text, &size) == KMAP_BAD_LENGTH);
 	tables.bytes[2] = 1;
+	holds("a length is told before a fault", kmap_print_text(tables.bytes, sizeof tables.bytes - 1, text, sizeof text,
+	    &size) == KMAP_BAD_LENGTH && size == 7);
+	holds("a fault is told before the room", kmap_print_text(tables.bytes, sizeof tables.bytes, text, 0, &size)
+	    == KMAP_FAULTY);
 	holds("a fault", kmap_print_text(tables.bytes, sizeof tables.bytes, text, sizeof text, &size) == KMAP_FAULTY
 	    && size == 7);
 	read_text("", &fault);

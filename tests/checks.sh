@@ -199,13 +199,36 @@ cp "$top/build.sh" "$top/LICENSE" copy
 broken README.md 's/^accepted$/refused/' 'failed: README.md: kmap check us.kbd' sh copy/tests/guide.sh
 broken docs/GUIDE.md 's/^test_shift passed$/test_shift failed/' 'failed: docs/GUIDE.md: cp us.kbd' sh copy/tests/guide.sh
 
-# A C library that exports and wants another name and answers another number, with a header that tells of too little
-# stack, a limit that a program passes, and a buffer that is too short.
+# What is installed where README leaves a line out that a shell has to know, and a document that names what isn't there.
+breaks README.md '/^export PKG_CONFIG_PATH=/d'
+breaks docs/GUIDE.md '1s/$/, see `tests\/guide.sh`/'
+sh copy/tests/install.sh > said 2>&1
+holds 'the script of the installation succeeds' [ $? -ne 0 ]
+for line in 'the example of README types' 'installed documents name what is installed, but: docs/GUIDE.md:1:'; do
+    holds "it does not say: $line" grep -q "^failed: $line" said
+done
+mended README.md
+mended docs/GUIDE.md
+
+# A C library that exports and wants another name and answers another number, has memory of its own and uses a red zone,
+# with a header that tells of too little stack, a limit that a program passes, and a buffer that is too short.
 cc=${CC:-cc}
 if is_there "$cc" && is_there nm; then
     made=copy/crates/kmap_c/out
-    printf '#include <unistd.h>\nint kmap_other(void);\nint kmap_other(void)\n{\nreturn getpid();\n}\n' > other.c
-    "$cc" -fPIC -c other.c && ar r "$made/libkmap_c.a" other.o 2> said
+    cat > other.c << 'END'
+#include <unistd.h>
+static int kept;
+int kmap_other(int n)
+{
+    volatile int below = n;
+    return kept += below;
+}
+int kmap_process(void)
+{
+    return getpid();
+}
+END
+    "$cc" -O2 -mred-zone -fPIC -c other.c && ar r "$made/libkmap_c.a" other.o 2> said
     "$cc" -shared -Wl,--whole-archive "$made/libkmap_c.a" -Wl,--no-whole-archive -o "$made/libkmap.so"
     breaks include/kmap.h 's/Stack: 18,000/Stack: 17,000/; s/KMAP_BAD_EVENT (-2)/KMAP_BAD_EVENT (-9)/'
     breaks tests/c_library.sh 's/ 5712$/ 4096/'
@@ -215,6 +238,9 @@ if is_there "$cc" && is_there nm; then
     for line in 'libkmap_c.a wants nothing more: getpid' 'libkmap_c.a exports what' 'c_library tables: ' \
         'libkmap.so wants nothing more: getpid' 'libkmap.so exports what' 'kmap_read_text takes'; do
         holds "it does not say: $line" grep -q "^failed: $line" said
+    done
+    for line in 'nothing is kept below the stack pointer' 'the library has no memory of its own'; do
+        ! is_there objdump || holds "it does not say: $line" grep -q "^failed: $line" said
     done
     ! is_there size || holds 'it does not say what a program pays' grep -q '^failed: a program that only steps' said
     grep -q '^skipped: there are no sanitizers' said ||

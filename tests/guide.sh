@@ -1,7 +1,9 @@
 #!/bin/sh
-# Runs the commands of README.md and of docs/GUIDE.md and compares what they print: in a block `console` each line behind
-# `$ ` is a command, and what follows is its output, where a line `..` stands for any lines. Of the blocks `sh` those of
-# the guide are run, and must succeed; those of README build and install, which other scripts do.
+# Runs the commands of README.md and of docs/GUIDE.md and compares what they print: in a block `console` each line
+# behind `$ ` is a command, and what follows is its output, where a line `..` stands for any lines. Of the blocks `sh`
+# those of the guide are run, and must succeed; those of README build and install, which other scripts do. The program
+# is installed as README says, below HOME/.local, and the shell knows no more of it than the lines of README tell. The
+# guide begins by copying the examples into a folder, where its other commands are run.
 #
 # usage: guide.sh, with the program and the C library already built
 # The last line is 'N passed, M failed'; the status is 0 where none failed.
@@ -12,11 +14,12 @@ folder=$(mktemp -d) || exit 1
 trap 'rm -rf "$folder"' EXIT
 cd "$top" || exit 1
 unset MAKEFLAGS MFLAGS MAKELEVEL
-make RT=true PREFIX="$folder/installed" install > "$folder/said" 2>&1 || cat "$folder/said"
-PATH=$folder/installed/bin:$PATH
-PKG_CONFIG_PATH=$folder/installed/lib/pkgconfig
-LD_LIBRARY_PATH=$folder/installed/lib
-export PATH PKG_CONFIG_PATH LD_LIBRARY_PATH
+unset PKG_CONFIG_PATH LD_LIBRARY_PATH KMAP_LIBRARY PYTHONPATH
+HOME=$folder/home
+export HOME
+mkdir "$HOME"
+make RT=true PREFIX="$HOME/.local" install > "$folder/said" 2>&1 || cat "$folder/said"
+eval "$(exports_of README.md)"
 
 # blocks FILE: takes the blocks of a document apart, into run.N with want.N or script.N, in their order
 blocks() {
@@ -61,25 +64,27 @@ missing() {
 # follows DOCUMENT: its commands do what it says
 follows() {
     rm -rf "$folder/work"
-    mkdir "$folder/work"
-    cp "$top"/examples/* "$folder/work"
+    mkdir "$folder/work" "$folder/work/blocks"
+    (cd "$folder/work/blocks" && blocks "$top/$1")
     cd "$folder/work" || exit 1
-    command -v git > /dev/null && git init -q .
-    mkdir "$folder/work/.blocks"
-    (cd .blocks && blocks "$top/$1")
-    for number in $(find .blocks -name 'run.*' -o -name 'script.*' | sed 's/.*\.//' | sort -n); do
-        run=.blocks/run.$number
-        [ -f "$run" ] || run=.blocks/script.$number
+    if [ "$1" = README.md ]; then
+        mkdir keymaps && cp "$HOME"/.local/share/examples/kmap/* keymaps && cd keymaps || exit 1
+    fi
+    for number in $(find "$folder/work/blocks" -name 'run.*' -o -name 'script.*' | sed 's/.*\.//' | sort -n); do
+        run=$folder/work/blocks/run.$number
+        [ -f "$run" ] || run=$folder/work/blocks/script.$number
+        want=$folder/work/blocks/want.$number
         lacks=$(missing "$run")
         if [ -n "$lacks" ]; then
             echo "skipped: there is no $lacks"
-        elif [ "${run%.*}" = .blocks/run ]; then
-            sh "$run" 2>&1 | awk 1 > got
-            holds "$1: $(cat "$run")" prints ".blocks/want.$number" got
-            prints ".blocks/want.$number" got || diff ".blocks/want.$number" got
+        elif [ "${run##*/}" = "run.$number" ]; then
+            sh "$run" 2>&1 | awk 1 > "$folder/work/got"
+            holds "$1: $(cat "$run")" prints "$want" "$folder/work/got"
+            prints "$want" "$folder/work/got" || diff "$want" "$folder/work/got"
         elif [ "$1" != README.md ]; then
             holds "$1: $(head -n 1 "$run")" sh "$run"
         fi
+        [ "${PWD##*/}" = keymaps ] || cd keymaps || exit 1
     done
     cd "$top" || exit 1
 }

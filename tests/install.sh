@@ -2,7 +2,7 @@
 # Installs the program into an empty folder and takes it away again, with GNU make and with BSD make. In place of the
 # kit's rt stands a program that notes that it was asked to build, or one that fails. Then the same from a tree that may
 # only be read, in a folder with blanks in its name, as a user. The archive of `make dist` is unpacked elsewhere, and
-# its program run.
+# its program run. And a shell that knows no more than README tells it finds all that is installed below HOME/.local.
 #
 # usage: install.sh, with the program and the C library already built
 # The last line is 'N passed, M failed'; the status is 0 where none failed.
@@ -33,8 +33,6 @@ share/bash-completion/completions/kmap
 share/doc/kmap/CHANGELOG.md
 share/doc/kmap/LICENSE
 share/doc/kmap/README.md
-share/doc/kmap/docs/ARCHITECTURE.md
-share/doc/kmap/docs/DECISIONS.md
 share/doc/kmap/docs/FORMATS.md
 share/doc/kmap/docs/GUIDE.md
 share/doc/kmap/docs/PROOFS.md
@@ -185,6 +183,60 @@ archives() {
     same_text 'the program of the archive types the line' "$folder/typed" "$folder/got"
 }
 
+# not_installed FOLDER: the links and paths of the documents there that lead to no installed file, but for the paths of
+# PROOFS.md, which says that the files that it names are those of the repository
+not_installed() {
+    (cd "$1" && grep -o '](\([^)#]*\)' README.md docs/*.md | while IFS= read -r link; do
+        file=${link%%:*}
+        [ -e "$(dirname "$file")/${link#*](}" ] || echo "$link"
+    done
+    grep -noE '`?(tests|crates|bench|include|completions|man)/[a-z_./]*' README.md docs/GUIDE.md docs/FORMATS.md \
+        docs/TRANSLATION.md
+    grep -noE 'CONTRIBUTING|ARCHITECTURE|DECISIONS' README.md docs/*.md)
+}
+
+# in_new_shell LINE: runs a line in a shell that has a home and the lines of README, and nothing else
+in_new_shell() {
+    {
+        exports_of README.md
+        echo "$1"
+    } > "$folder/line"
+    env -i HOME="$folder/home" PATH="$PATH" TERM=dumb sh -e "$folder/line"
+}
+
+# as_readme_says: what is installed below HOME/.local is found by who has read README
+as_readme_says() {
+    mkdir "$folder/home"
+    line=$(sed -n 's/^\(make install PREFIX=[^ ]*\).*/\1/p' README.md)
+    holds "README installs: $line" in_new_shell "$line RT='$folder/built' > '$folder/said'"
+    own=$folder/home/.local
+    missing=$(not_installed "$own/share/doc/kmap")
+    holds "installed documents name what is installed, but: $missing" [ -z "$missing" ]
+    holds 'the program is found' [ "$(in_new_shell 'command -v kmap')" = "$own/bin/kmap" ]
+    if is_there man; then
+        for page in '1 kmap' '3 kmap' '5 kmap'; do
+            holds "man finds $page" in_new_shell "man -w $page > '$folder/said'"
+        done
+    fi
+    if is_there zsh; then
+        line=$(sed -n 's/.*for zsh `\(fpath=[^`]*\)`.*/\1/p' README.md)
+        holds "zsh finds completions by: $line" [ "$(in_new_shell "
+            zsh -fc '$line; autoload -Uz compinit && compinit -u -D; echo \$_comps[kmap]'")" = _kmap ]
+    fi
+    copied='mkdir -p ~/keymaps && cp ~/.local/share/examples/kmap/* ~/keymaps && cd ~/keymaps'
+    if is_there pkg-config && is_there cc; then
+        program_of README.md > "$folder/home/readme.c"
+        holds 'the example of README types' [ "$(in_new_shell "$copied
+            cc ../readme.c \$(pkg-config --cflags --libs kmap) -o readme && ./readme < us.kbd")" = a ]
+    fi
+    if is_there python3; then
+        holds 'the tests of a keymap in Python pass' in_new_shell "$copied && python3 test_keymap.py > '$folder/said'"
+    fi
+    line=$(sed -n 's/^\(make uninstall PREFIX=[^ ]*\).*/\1/p' README.md)
+    holds "README uninstalls: $line" in_new_shell "$line > '$folder/said'"
+    holds 'then nothing is left' [ -z "$(find "$own" ! -type d)" ]
+}
+
 # old_processor COMMAND..: on a processor without SSE4.2 the command fails with a line that tells of it
 old_processor() {
     ! qemu-x86_64 -cpu core2duo "$@" > "$folder/said" 2>&1 && grep -q 'x86-64-v2' "$folder/said"
@@ -217,6 +269,7 @@ for tool in make bmake; do
 done
 if is_there make; then
     archives
+    as_readme_says
 fi
 
 counted

@@ -65,6 +65,34 @@ stacks_of() {
         /^[a-z0-9_]+ kmap_[a-z_]+\(/ { sub("\\(.*", "", $2); print $2, bytes; bytes = "untold" }' "$1"
 }
 
+# exports_of README: the lines by which README tells a shell where an installation below $HOME/.local is
+exports_of() {
+    sed -n '/^```sh$/,/^```$/s/^export /export /p' "$1"
+}
+
+# program_of README: a program in C with the example of README in a function that is given a text; its status tells why
+# the text is refused
+program_of() {
+    cat << 'END'
+#include <kmap.h>
+#include <stdio.h>
+static int refuse_text(const struct kmap_text_fault *fault) { return 10 + (int)fault->line; }
+static int refuse_keymap(const struct kmap_finding *finding) { return finding->key; }
+static int typed(const uint8_t *text, size_t length)
+{
+END
+    awk '/^```/ { inside = $0 == "```c"; next } inside' "$1"
+    cat << 'END'
+return 0;
+}
+int main(void)
+{
+    static uint8_t text[65536];
+    return typed(text, fread(text, 1, sizeof text, stdin));
+}
+END
+}
+
 counted() {
     echo "$passed passed, $failed failed"
     [ $failed -eq 0 ] && [ $passed -gt 0 ]

@@ -3,3 +3,4 @@ pub mod Delivered
 pub mod NoBits
 pub mod Said
 pub mod KindNumbers
+pub mod Faulty

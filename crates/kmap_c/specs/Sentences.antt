@@ -24,7 +24,15 @@ finding_sentence a t =
     said_of_key t.key a (record { slot = t.holding_slot; column = t.holding_column })
     (record { slot = t.character_slot; column = t.character_column })
 
--- A sentence stands in front in a buffer that was `old`, and 0 behind it, where there is room for both; else nothing
+-- room for each sentence and the 0 behind it: KMAP_WORDS_SIZE
+abbrev pub words_size : ℕ
+words_size = 128
+
+-- room for each name of an action and the 0 behind it: KMAP_NAME_SIZE
+abbrev pub name_size : ℕ
+name_size = 7
+
+-- A sentence or a name stands in front in a buffer that was `old`, and 0 behind it, where there is room for both; else nothing
 -- was changed, and the status is -3.
 pub record IsSaid (sentence old : List ℕ) (status : ℤ) (new : List ℕ) : Type 0 where
   pub said : length sentence < length old

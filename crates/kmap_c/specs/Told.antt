@@ -7,7 +7,9 @@ use Rattle.keymap_core.specs.Maps.{MapValue, cell_at}
 use Rattle.keymap_check.specs.declared.finding.Finding.{Finding}
 use Rattle.keymap_check.specs.declared.bearer.Bearer.{Bearer}
 use Rattle.keymap_check.specs.declared.bearer.Bearer.TheVariants.{Nobody, Throughout, Sole, Several}
+use Rattle.keymap_tables.specs.Faults.{IsTableFault}
 use Rattle.keymap_tables.specs.Layouts.{wide, file_size}
+use Rattle.keymap_tables.specs.declared.fault.TableFault.{TableFault}
 use Rattle.kmap_c.specs.declared.KmapBearer.{KmapBearer}
 use Rattle.kmap_c.specs.declared.KmapFinding.{KmapFinding}
 
@@ -24,6 +26,10 @@ pub record IsTold (m : MapValue) (f : Finding) (t : KmapFinding) : Type 0 where
   pub character : cell_at m f.character_at.slot f.character_at.column ≡ Char t.character
   pub character_slot : t.character_slot ≡ f.character_at.slot
   pub character_column : t.character_column ≡ f.character_at.column
+
+-- tables of the right length that have a fault
+abbrev pub AreFaulty : List ℕ → Type 0
+AreFaulty tables = (length tables ≡ file_size wide) × ((f : TableFault) × IsTableFault tables f)
 
 -- 0, or -1, -4 or -5
 abbrev pub IsAcceptance : ℤ → Type 0

@@ -11,14 +11,15 @@ mod print;
 mod sentences;
 mod words;
 
-ghost use Rattle.std.specs.Prelude.{◌≡◌, ◌≢◌, ℕ, true, ◌<◌, ◌≤◌, List, [], ◌∷◌, ◌++◌, length, take, drop, map, reverse};
+ghost use Rattle.std.specs.Prelude.{◌≡◌, ◌≢◌, ◌↔◌, ℕ, true, ◌<◌, ◌≤◌, List, [], ◌∷◌, ◌++◌, length, take, drop, map, reverse};
 ghost use Rattle.std.specs.Prelude.{pos, negsuc, slice_index_or};
-ghost use Rattle.keymap_core.specs.Actions.{modifier_index, lock_index, holding_index};
+ghost use Rattle.keymap_core.specs.Actions.{modifier_index, lock_index, holding_index, IsAction, code_of, name_of};
 ghost use Rattle.keymap_core.specs.declared.action.Holding.{Holding as HoldingValue};
 ghost use Rattle.keymap_check.specs.declared.bearer.Bearer.{Bearer as BearerValue};
 ghost use Rattle.keymap_check.specs.Report.{IsBearer};
 ghost use Rattle.keymap_core.specs.Bounds.{IsMap};
-ghost use Rattle.keymap_core.specs.Maps.{MapValue};
+ghost use Rattle.keymap_core.specs.Maps.{MapValue, cell_at};
+ghost use Rattle.keymap_core.specs.declared.action.Action.{Action as ActionValue};
 ghost use Rattle.keymap_core.specs.declared.action.Modifier.{Modifier as ModifierValue};
 ghost use Rattle.keymap_core.specs.declared.action.Lock.{Lock as LockValue};
 ghost use Rattle.keymap_tables.specs.Faults.{IsTableFault};
@@ -47,6 +48,8 @@ ghost use Rattle.keymap_text.specs.declared.fault.TextFaultKind.{TextFaultKind a
 ghost use Rattle.keymap_tables.specs.declared.fault.TableFaultKind.{TableFaultKind as TableFaultKindValue};
 ghost use Rattle.kmap_c.specs.TextFaults.{IsToldFault, text_kind_number};
 ghost use Rattle.kmap_c.specs.Told.{IsTold, character_in, IsAcceptance, IsPrintStatus, IsToldBearer, bearer_status};
+ghost use Rattle.kmap_c.specs.Told.{AreFaulty};
+ghost use Rattle.kmap_c.specs.Cells.{answer_in as answer_in_cell, cell_number, cell_status};
 ghost use Rattle.kmap_c.specs.Numbers.{event_of as event_of_number, are_events as are_events_of, status_of};
 ghost use Rattle.kmap_c.specs.Numbers.{kind_number, accent_number};
 
@@ -54,10 +57,12 @@ use crate::print::print_tables;
 use crate::sentences::{push_finding_sentence, say, table_sentence, text_sentence};
 use console_core::laws::modifiers_follow_keys;
 use console_core::{
-    Event, WordStore, locks_kept, modifiers_kept, pending_kept, start_kept, step_kept,
+    Answer, Event, WordStore, locks_kept, modifiers_kept, pending_kept, start_kept, step_kept,
 };
 use keymap_check::{Bearer, Finding, check_shown, first_finding};
-use keymap_core::{Cell, Holding, KeyCode, Keymap, Lock, Modifier};
+use keymap_core::{
+    Action, COLUMN_COUNT, Cell, Holding, KeyCode, Keymap, Lock, Modifier, SLOT_LIMIT,
+};
 use keymap_tables::{Filling, TableFaultKind, TableFile, Tables, check_tables};
 use keymap_text::{TextFaultKind, read_into};
 use messages::Line;
@@ -80,6 +85,10 @@ const TEXT_FAULT: i32 = -6;
 const BAD_HOLDING: i32 = -7;
 
 const BAD_KIND: i32 = -8;
+
+const BAD_CODE: i32 = -9;
+
+const BAD_PLACE: i32 = -10;
 
 /// The greatest number of an event.
 const LAST_EVENT: u16 = 257;
@@ -243,15 +252,15 @@ pub extern "C" fn kmap_read_text(
 }
 
 /// Prints the keymap of tables as a text into a buffer: 0 where there is room for it, else -3, and `size` is how many
-/// bytes it has; -4 where they are no tables of a keymap.
+/// bytes it has; -1 for a wrong length, -4 for tables with a fault.
 #[unsafe(no_mangle)]
 pub extern "C" fn kmap_print_text(tables: &[u8], text: &mut [u8], size: &mut usize) -> i32
     ensures printed { result ≡ pos 0 → (m : MapValue) × IsMap m × (tables.now ≡ image m)
         × (size.new ≡ length (printed m)) × (text.new ≡ printed m ++ drop (length (printed m)) text.old) }
     ensures no_room { result ≡ negsuc 2 → (m : MapValue) × IsMap m × (tables.now ≡ image m)
         × (size.new ≡ length (printed m)) × (length text.old < length (printed m)) }
-    ensures faulty { result ≡ negsuc 3 → (f : TableFaultValue) × IsTableFault tables.now f }
-    ensures bad_length { result ≡ negsuc 0 → length tables.now ≢ file_size wide }
+    ensures bad_length { (result ≡ negsuc 0) ↔ (length tables.now ≢ file_size wide) }
+    ensures faulty { (result ≡ negsuc 3) ↔ AreFaulty tables.now }
     ensures status { IsPrintStatus result }
     ensures unprinted { result ≢ pos 0 → text.new ≡ text.old }
     ensures size_if_faulty { result ≡ negsuc 3 → size.new ≡ size.old }
@@ -280,6 +289,7 @@ pub extern "C" fn kmap_fault_words(kind: u32, words: &mut [u8]) -> i32
     ensures said { (k : TableFaultKindValue) → kind ≡ kind_number k
         → IsSaid (slice_index_or table_sentences kind []) words.old result words.new }
     ensures no_kind { ((k : TableFaultKindValue) → kind ≢ kind_number k) → result ≡ negsuc 7 }
+    ensures room { sentences.words_size ≤ length words.old → result ≢ negsuc 2 }
     ensures unchanged { result ≢ pos 0 → words.new ≡ words.old }
 {
     let sentence = table_sentence(kind);
@@ -296,6 +306,7 @@ pub extern "C" fn kmap_text_fault_words(kind: u32, words: &mut [u8]) -> i32
     ensures said { (k : TextFaultKindValue) → kind ≡ text_kind_number k
         → IsSaid (slice_index_or text_sentences kind []) words.old result words.new }
     ensures no_kind { ((k : TextFaultKindValue) → kind ≢ text_kind_number k) → result ≡ negsuc 7 }
+    ensures room { sentences.words_size ≤ length words.old → result ≢ negsuc 2 }
     ensures unchanged { result ≢ pos 0 → words.new ≡ words.old }
 {
     let sentence = text_sentence(kind);
@@ -333,15 +344,15 @@ fn told<K: Keymap>(map: &K, found: Finding) -> KmapFinding
 }
 
 /// Whether the tables are those of a keymap in which no modifier sticks: 0 where they are, -5 and the finding of the
-/// least key where the keymap isn't, -4 where they are no tables of a keymap.
+/// least key where the keymap isn't, -1 for a wrong length, -4 for tables with a fault.
 #[unsafe(no_mangle)]
 pub extern "C" fn kmap_accepts(tables: &[u8], finding: &mut KmapFinding) -> i32
     ensures accepted { result ≡ pos 0
         → (m : MapValue) × IsMap m × (tables.now ≡ image m) × IsSafe m × KeepsPromise m }
     ensures refused { result ≡ negsuc 4 → (m : MapValue) × IsMap m × (tables.now ≡ image m) × (¬ IsSafe m)
         × ((f : FindingValue) × IsFirstFinding m f × IsTold m f finding.new) }
-    ensures faulty { result ≡ negsuc 3 → (f : TableFaultValue) × IsTableFault tables.now f }
-    ensures bad_length { result ≡ negsuc 0 → length tables.now ≢ file_size wide }
+    ensures bad_length { (result ≡ negsuc 0) ↔ (length tables.now ≢ file_size wide) }
+    ensures faulty { (result ≡ negsuc 3) ↔ AreFaulty tables.now }
     ensures status { IsAcceptance result }
     ensures unchanged { result ≢ negsuc 4 → finding.new ≡ finding.old }
 {
@@ -389,6 +400,7 @@ pub extern "C" fn kmap_finding_words(finding: &KmapFinding, words: &mut [u8]) ->
     ensures said { (a : HoldingValue) → holding_index a ≡ finding.now.holding
         → IsSaid (sentences.finding_sentence a finding.now) words.old result words.new }
     ensures no_holding { 11 < finding.now.holding → result ≡ negsuc 6 }
+    ensures room { sentences.words_size ≤ length words.old → result ≢ negsuc 2 }
     ensures unchanged { result ≢ pos 0 → words.new ≡ words.old }
 {
     if finding.holding > 11 {
@@ -434,6 +446,55 @@ pub extern "C" fn kmap_bearer(tables: &[u8], holding: u8, bearer: &mut KmapBeare
     }
     *bearer = told_bearer(check_shown(&shown).bearer(holding_of(holding)));
     DONE
+}
+
+/// The answer that a cell is by itself.
+fn answer_in(cell: Cell) -> Answer
+    ensures { result ≡ answer_in_cell cell }
+{
+    match cell {
+        Cell::Char(c) => Answer::Char { c, meta: false },
+        Cell::Act(Action::BackTab) => Answer::BackTab,
+        Cell::Act(action) => Answer::Special(action),
+    }
+}
+
+/// The cell of a slot and column, by its number: 0, or -1 for a wrong length, or -10 for a slot above 255 or a column
+/// above 7.
+#[unsafe(no_mangle)]
+pub extern "C" fn kmap_cell(tables: &[u8], slot: u32, column: u32, cell: &mut u32) -> i32
+    ensures cell { result ≡ pos 0 → (m : MapValue) → IsMap m → tables.now ≡ image m
+        → cell.new ≡ cell_number (cell_at m slot column) }
+    ensures status { result ≡ cell_status tables.now slot column }
+    ensures unchanged { result ≢ pos 0 → cell.new ≡ cell.old }
+{
+    let Some(shown) = Tables::new(tables) else {
+        return BAD_LENGTH;
+    };
+    if slot as usize >= SLOT_LIMIT || column as usize >= COLUMN_COUNT {
+        return BAD_PLACE;
+    }
+    *cell = answer_in(shown.cell(slot as u8, column as usize)).raw();
+    DONE
+}
+
+/// Puts the name of the action of a code into a buffer, and a 0 behind it: 0, or -9 where no action has the code, or -3
+/// where there is no room for both.
+#[unsafe(no_mangle)]
+pub extern "C" fn kmap_action_name(code: u32, name: &mut [u8]) -> i32
+    ensures said { (a : ActionValue) → IsAction a → code ≡ code_of a
+        → IsSaid (name_of a) name.old result name.new }
+    ensures no_action { ((a : ActionValue) → IsAction a → code ≢ code_of a) → result ≡ negsuc 8 }
+    ensures room { sentences.name_size ≤ length name.old → result ≢ negsuc 2 }
+    ensures unchanged { result ≢ pos 0 → name.new ≡ name.old }
+{
+    if code > 255 {
+        return BAD_CODE;
+    }
+    match Action::from_code(code as u8) {
+        Some(action) => say(action.name().as_slice(), name),
+        None => BAD_CODE,
+    }
 }
 
 /// A console at its start: nothing on, nothing pending, and the first keymap in force.

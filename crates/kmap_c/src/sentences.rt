@@ -1,5 +1,5 @@
 //! Which sentence says what: for the numbers of kinds of faults and for findings, in a buffer of the caller.
-ghost use Rattle.std.specs.Prelude.{◌≡◌, ◌≤◌, ◌++◌, [], length, slice_index_or};
+ghost use Rattle.std.specs.Prelude.{◌≡◌, ◌≢◌, ◌<◌, ◌++◌, [], length, slice_index_or, negsuc};
 ghost use Rattle.arrayvec.specs.ArrayVec.{array_vec_len};
 ghost use Rattle.kmap_c.specs.Sentences.{IsSaid};
 ghost use Rattle.kmap_c.specs.Sentences as spec;
@@ -18,7 +18,7 @@ use messages::Line;
 /// The sentence of a kind of fault of a table file, empty where the number names none.
 pub(crate) fn table_sentence(kind: u32) -> &'static [u8]
     ensures words { result.now ≡ slice_index_or spec.table_sentences kind [] }
-    ensures short { length result.now ≤ 127 }
+    ensures short { length result.now < spec.words_size }
 {
     match kind {
         1 => TOO_SHORT,
@@ -37,7 +37,7 @@ pub(crate) fn table_sentence(kind: u32) -> &'static [u8]
 /// The sentence of a kind of fault of a text, empty where the number names none.
 pub(crate) fn text_sentence(kind: u32) -> &'static [u8]
     ensures words { result.now ≡ slice_index_or spec.text_sentences kind [] }
-    ensures short { length result.now ≤ 127 }
+    ensures short { length result.now < spec.words_size }
 {
     match kind {
         1 => BAD_BYTE,
@@ -71,10 +71,11 @@ pub(crate) fn push_finding_sentence(line: &mut Line, holding: Holding, finding: 
     say_of_key(line, finding.key, holding, holding_at, character_at);
 }
 
-/// Puts a sentence and a 0 in front, where there is room for both.
+/// Puts a sentence or a name and a 0 in front, where there is room for both.
 pub(crate) fn say(sentence: &[u8], words: &mut [u8]) -> i32
-    requires { length sentence.now ≤ 127 }
-    ensures { IsSaid sentence.now words.old result words.new }
+    requires { length sentence.now < spec.words_size }
+    ensures said { IsSaid sentence.now words.old result words.new }
+    ensures room { length sentence.now < length words.old → result ≢ negsuc 2 }
 {
     if words.len() <= sentence.len() {
         return NO_ROOM;

@@ -1,4 +1,5 @@
 use Rattle.std.proofs.Common.{refl, inl, inr}
+use Rattle.kmap_c.proofs.Faulty.{unfaulty}
 use Rattle.kmap_c.proofs.kmap_accepts.Goals as goal
 
 pub returns-in_default-clause-status : goal.returns-in_default-clause-status
@@ -24,3 +25,9 @@ returns-in-None-clause-status c = inl refl
 
 pub returns-in-Some-first_finding-clause-status : goal.returns-in-Some-first_finding-clause-status
 returns-in-Some-first_finding-clause-status c = inr (inr (inr refl))
+
+pub returns-in-None-clause-faulty : goal.returns-in-None-clause-faulty
+returns-in-None-clause-faulty c = unfaulty _ c.args.tables.now (λ e. cc) c.in-Ok.ensures.image
+
+pub returns-in-Some-first_finding-clause-faulty : goal.returns-in-Some-first_finding-clause-faulty
+returns-in-Some-first_finding-clause-faulty c = unfaulty _ c.args.tables.now (λ e. cc) c.in-Ok.ensures.image

@@ -14,7 +14,7 @@ returns-clause-said c =
     ∙ ap (λ (h : Holding). finding_sentence h c.args.finding.now)
     (one_holding c.holding_of.result a (c.holding_of.ensures ∙ sym is)) in
     let s : IsSaid (finding_sentence a c.args.finding.now) c.args.words.now c.say.result c.say.new.words =
-    subst (λ (s : List ℕ). IsSaid s c.args.words.now c.say.result c.say.new.words) sentence c.say.ensures in
+    subst (λ (s : List ℕ). IsSaid s c.args.words.now c.say.result c.say.new.words) sentence c.say.ensures.said in
     record {
       said = λ room. let e : c.say.result ≡ pos 0 = (s.said room).0 in (rw e refl, (s.said room).1);
       no_room = λ few. let e : c.say.result ≡ negsuc 2 = (s.no_room few).0 in (rw e refl, (s.no_room few).1);

@@ -2,8 +2,8 @@ use Rattle.std.proofs.Common.{arith, refl, ◌≤◌, []}
 use Rattle.kmap_c.proofs.Said.{set-behind}
 use Rattle.kmap_c.proofs.sentences.say.Goals as goal
 
-pub returns : goal.returns
-returns c =
+pub returns-clause-said : goal.returns-clause-said
+returns-clause-said c =
     let put = c.put-end.ensures.text [] c.args.words.now
     (record { count = refl; size = refl; text = λ room. refl }) in
     record {

@@ -1,0 +1,24 @@
+-- Tables that are those of a keymap have no fault.
+use Rattle.std.proofs.Common.{◌≡◌, ◌≢◌, ◌↔◌, subst, ℕ, List}
+use Rattle.std.specs.Prelude.{ℤ, negsuc}
+use Rattle.keymap_core.specs.Bounds.{IsMap}
+use Rattle.keymap_core.specs.Maps.{MapValue}
+use Rattle.keymap_tables.specs.Faults.{IsTableFault}
+use Rattle.keymap_tables.specs.Image.{image}
+use Rattle.keymap_tables.specs.Layouts.{wide}
+use Rattle.keymap_tables.proofs.ReadingLaws.{map-wide, no-fault}
+use Rattle.kmap_c.specs.Told.{AreFaulty}
+
+abbrev pub AreTables : List ℕ → Type 0
+AreTables tables = (m : MapValue) × IsMap m × (tables ≡ image m)
+
+not-faulty : (tables : List ℕ) → AreTables tables → AreFaulty tables → ⊥
+not-faulty tables read faulty =
+    no-fault wide read.0 faulty.1.0 read.1 (map-wide read.0 read.1)
+    (subst (λ (bytes : List ℕ). IsTableFault bytes faulty.1.0) read.2 faulty.1.1)
+
+-- another status than -4 is right
+pub unfaulty : (status : ℤ) (tables : List ℕ) → status ≢ negsuc 3 → AreTables tables
+    → (status ≡ negsuc 3) ↔ AreFaulty tables
+unfaulty status tables other read =
+    (λ is. absurd (other is), λ faulty. absurd (not-faulty tables read faulty))

@@ -101,6 +101,7 @@ scripts:
 	sh tests/guide.sh
 	sh tests/refused_memory.sh $(PROGRAM)
 	sh tests/refused_calls.sh $(CALLS)
+	sh tests/linear.sh $(PROGRAM)
 	sh tests/checks.sh $(PROGRAM)
 
 bench: all

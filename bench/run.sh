@@ -23,8 +23,8 @@ case $calls in
 *) calls=$PWD/$calls ;;
 esac
 examples=$(cd "$(dirname "$0")/../examples" && pwd)
-limits=$(cd "$(dirname "$0")" && pwd)/limits
-case ${LIMITS:=$limits} in
+here=$(cd "$(dirname "$0")" && pwd)
+case ${LIMITS:=$here/limits} in
 /*) ;;
 *) LIMITS=$PWD/$LIMITS ;;
 esac
@@ -98,39 +98,7 @@ make_refused() {
     }'
 }
 
-# make_states: as many states as the search goes over, three keys for each modifier, and letters
-make_states() {
-    awk '
-        function slot(key, cell, letter) {
-            printf "%d", key
-            for (column = 0; column < 8; column++) printf " %s", cell
-            print " " letter
-        }
-        BEGIN {
-            split("lshift rshift lctrl rctrl lalt ralt ashift meta", name, " ")
-            for (half = 0; half < 256; half += 128)
-                for (key = 0; key < 24; key++) slot(key + half, name[key % 8 + 1], "O")
-        }'
-}
-
-if perf stat -x, -e instructions:u true 2> perf.out && grep -q '^[0-9]' perf.out; then
-    unit=instructions
-    cost() {
-        perf stat -x, -e instructions:u -o cost.out "$program" "$@" > /dev/null
-        awk -F, '/instructions/ { print $1 }' cost.out
-    }
-elif command -v valgrind > /dev/null; then
-    unit=instructions
-    cost() {
-        valgrind --tool=callgrind --callgrind-out-file=/dev/null "$program" "$@" 2>&1 > /dev/null |
-            awk '/Collected/ { print $NF }'
-    }
-else
-    unit=microseconds
-    cost() {
-        { time -p "$program" "$@" > /dev/null; } 2>&1 | awk '/user|sys/ { t += $2 } END { print t * 1000000 }'
-    }
-fi
+. "$here/costs.sh"
 
 # names ARGS..: the names of the system calls of a run, one a line
 if command -v strace > /dev/null; then
@@ -325,7 +293,8 @@ covered=$(cost cover "$keymap")
 echo "script that tests a console, of us.kbd: $covered $unit; $("$program" cover "$keymap" | grep -vc '^#') events"
 echo "  $(transfers cover "$keymap")"
 measured cover "$covered"
-make_states > states
+# as many states as the search goes over
+make_states 8 > states
 covered=$(cost cover states)
 echo "the same of a keymap of 65,536 states: $covered $unit; $("$program" cover states | grep -vc '^#') events"
 measured cover-most-states "$covered"

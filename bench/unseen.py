@@ -7,7 +7,8 @@ usage: unseen.py [--check]
 Prints the ranges of each property from Python's `unicodedata`. With --check it compares them with those of
 crates/keymap_core/specs/Unseen.antt and src/unseen.rt (what a terminal doesn't show) and of
 crates/keymap_draw/specs/Characters.antt and src/characters.rt (what has a number for a legend, and which marks have a
-circle), tells each difference, and ends with status 1 where there is one.
+circle), and the short names of specs/Names.antt and src/tables.rt there with Unicode's aliases of names. It tells each
+difference, and ends with status 1 where there is one.
 
 Python has the categories and classes, but neither Bidi_Control nor Default_Ignorable_Code_Point. The first is the
 embeddings, overrides and isolates with their ends, which are the classes of that name, and three marks. The second is
@@ -163,6 +164,32 @@ FILES = [
 ]
 
 
+# The short names of characters: each is an alias of its name, by which Python finds it.
+NAMES = [
+    ("keymap_draw/specs/Names.antt", r'\((0x[0-9a-f]+), codes "([a-z]+)"\)'),
+    ("keymap_draw/src/tables.rt", r'UnseenName\((0x[0-9a-f]+), \*b"([a-z]+) *"\)'),
+]
+
+
+def named(name):
+    """The number of the character that has this alias, or None."""
+    try:
+        return ord(unicodedata.lookup(name.upper()))
+    except KeyError:
+        return None
+
+
+def misnamed():
+    for path, pattern in NAMES:
+        with open(os.path.join(CRATES, path), encoding="utf-8") as file:
+            rows = re.findall(pattern, file.read())
+        if not rows:
+            sys.exit(f"unseen.py: {path} has no names")
+        for number, name in rows:
+            if named(name) != int(number, 16):
+                yield f"{path}: not the name of {number}: {name}"
+
+
 def more(name, unassigned):
     """What a definition may have beside the characters of its property."""
     return unassigned & numbers(MARK_BLOCKS[name]) if name in MARK_BLOCKS else set()
@@ -194,11 +221,11 @@ def main():
         for name, members in wanted.items():
             print(f"{name}: {shown(members)}")
         return
-    found = list(differences(wanted, of_category["Cn"]))
+    found = [*differences(wanted, of_category["Cn"]), *misnamed()]
     for line in found:
         print(line)
-    compared = sum(len(parts) for _, _, parts in FILES)
-    print(f"unseen.py: {compared} properties compared, {len(found)} differences")
+    compared = sum(len(parts) for _, _, parts in FILES) + len(NAMES)
+    print(f"unseen.py: {compared} properties and lists of names compared, {len(found)} differences")
     sys.exit(1 if found else 0)
 
 

@@ -130,6 +130,8 @@ broken docs/FORMATS.md 's/no key is defined/no key is there/;s/defines no key/ha
 broken crates/keymap_core/src/unseen.rt 's/c == 0x3164/c == 0x3165/' '' python3 -B copy/bench/unseen.py --check
 broken crates/keymap_draw/src/characters.rt 's/ || c == 0x7fd//' '' python3 -B copy/bench/unseen.py --check
 broken crates/keymap_draw/specs/Characters.antt 's/0xfffe (c/0xffff (c/' '' python3 -B copy/bench/unseen.py --check
+broken crates/keymap_draw/src/tables.rt 's/b"lrm  "/b"rlm  "/' '' python3 -B copy/bench/unseen.py --check
+broken crates/keymap_draw/specs/Names.antt 's/"wj"/"zwj"/' '' python3 -B copy/bench/unseen.py --check
 
 # Edits that must fail, by a kit that only tells: one that is refused where its file says, elsewhere, in a branch, for a
 # name that is gone, one that can't be applied, one of which nothing is told, one that says nothing, and none at all.
@@ -189,6 +191,29 @@ printf 'reads 0\nevent -nan\n' > measured
 refuses 'no number: reads 0' sh judges.sh
 refuses 'no number: event -nan' sh judges.sh
 unset LIMITS
+
+# A program that costs as the square of its input: of the bytes of a text, and of the states of a keymap.
+if is_there valgrind; then
+    cat > squares << SH
+#!$(command -v awk) -f
+BEGIN {
+    command = ARGV[1]
+    ARGV[1] = ""
+}
+{ bytes += length(\$0) + 1 }
+END {
+    size = command == "lint" ? bytes / 512 : 4 ^ (NR / 6) / 32
+    for (i = 0; i < size; i++)
+        for (j = 0; j < size; j++)
+            count++
+}
+SH
+    chmod +x squares
+    refuses 'failed: lint of one line, four times as large, costs' sh "$top/tests/linear.sh" ./squares
+    for input in 'lint of many lines' 'search of many states' 'cover of many states'; do
+        holds "it does not say: $input" grep -q "^failed: $input, four times as large, costs" said
+    done
+fi
 
 # What README and the guide print, with what is built beside the copy.
 for file in crates/kmap/out/kmap crates/kmap_c/out/libkmap_c.a crates/kmap_c/out/libkmap.so; do

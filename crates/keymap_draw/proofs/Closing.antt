@@ -53,7 +53,7 @@ use Rattle.keymap_draw.specs.WellFormed.{State, at, scan, IsWellFormed}
 use Rattle.keymap_draw.specs.WellFormed.Place.{Before, Text, Value}
 use Rattle.keymap_draw.proofs.Classed.{valued, size_passes, legend_passes, key_passes}
 use Rattle.keymap_draw.proofs.Formed.{Leads, ◌⊳◌, lit, nothing, fills, into, ends, one_value, two_values}
-use Rattle.keymap_draw.proofs.Formed.{value_number, text_number, ids, escaped_in, textual_in, line, classes}
+use Rattle.keymap_draw.proofs.Formed.{value_number, text_number, ids, escaped_in, tag, textual_in, line, classes}
 use Rattle.keymap_draw.proofs.Formed.{opened, element, all_numbered, all_flat, either, findings, cap_in, group_in}
 use Rattle.keymap_draw.proofs.Loops.{passing-below}
 use Rattle.keymap_draw.proofs.Scans.{is_valued, is_textual, first_true, second_true}
@@ -168,7 +168,7 @@ unfolding title
 title_in fs slot e low h =
     lit words.TITLE.now refl ⊳ line (finding_of fs (slot % key_count))
     ⊳ escaped_in (slot_words slot e) (slot_words_shown slot e low h)
-    ⊳ lit words.TITLE_END.now refl
+    ⊳ tag (slot_words slot e) words.TITLE_END.now refl refl
 
 key_of_entry_in : (d : Drawing) (slot x y : ℕ) (s : Shape) (e : Entry) → slot < 256 → All IsCell e.cells
     → Within svg (key_of_entry d slot x y s e)
@@ -301,7 +301,7 @@ composed_in place c h =
     refl
     ⊳ lit (codes ">") refl
     ⊳ escaped_in (character_legend c) (character_shown c h)
-    ⊳ lit words.TEXT_END.now refl
+    ⊳ tag (character_legend c) words.TEXT_END.now refl refl
 
 table_in : {root : List ℕ} {begun : List (List ℕ)} (own : ℕ) (pairs : List (ℕ × ℕ)) → IsScalar own → All IsPair pairs
     → Leads (at Text (codes "g" ∷ root ∷ begun) ids) (table own pairs) (at Text (root ∷ begun) ids)
@@ -328,7 +328,7 @@ accent_in i accent y low is =
     one_value {u = at Text (codes "title" ∷ codes "g" ∷ svg) ids} {seen = codes "transform" ∷ codes "role" ∷ []}
     {begun = codes "g" ∷ svg} {known = ids} words.ACCENT.now y refl refl
     ⊳ escaped_in (accent_words i accent) (accent_words_shown i accent is.pairs)
-    ⊳ lit {t = at Text (codes "g" ∷ svg) ids} words.ACCENT_ROW.now refl
+    ⊳ tag {t = at Text (codes "g" ∷ svg) ids} (accent_words i accent) words.ACCENT_ROW.now refl refl
     ⊳ heading_in i 36 (codes "zcd") low refl
     ⊳ table_in accent.own accent.pairs is.own is.pairs
 

@@ -1,8 +1,8 @@
 -- The parts of the picture lead from a place to a place.
 use Rattle.std.proofs.Common.{◌≡◌, ℕ, ◌+◌, ◌==◌, Bool, true, false, List, [], ◌∷◌, ◌++◌, Option, Some, None, refl}
-use Rattle.std.proofs.Common.{All, length}
+use Rattle.std.proofs.Common.{All, length, ◌∙◌}
 use Rattle.std.proofs.lemmas.List.Elements.{All-head, All-tail}
-use Rattle.std.specs.Prelude.{codes, decimal, option_to_list, if◌then◌else◌}
+use Rattle.std.specs.Prelude.{codes, decimal, option_to_list, if◌then◌else◌, slice_index}
 use Rattle.std.specs.List.{list_all, flat_map}
 use Rattle.keymap_core.specs.declared.action.Holding.{Holding}
 use Rattle.keymap_core.specs.declared.action.Holding.TheVariants as h
@@ -24,7 +24,8 @@ use Rattle.keymap_draw.specs.WellFormed.{State, at, scan}
 use Rattle.keymap_draw.specs.WellFormed.Place.{Text, Behind, Value, Target}
 use Rattle.keymap_draw.proofs.Scans.{past, in_value, in_text, number_in_value, number_in_text, is_valued, is_textual}
 use Rattle.keymap_draw.proofs.Scans.{both_true, first_true, second_true}
-use Rattle.keymap_draw.proofs.Shown.{escaped_text}
+use Rattle.keymap_draw.proofs.Shown.{escaped_text, tag_scan, place, behind}
+use Rattle.keymap_draw.proofs.Shown.Squares.{NoBracket}
 use Rattle.keymap_draw.proofs.Texts.{AreShown}
 use Rattle.messages.specs.Filled.{filled, words_before, words_behind}
 
@@ -88,8 +89,14 @@ pub two_values : {s u : State} {seen begun known later outer more : List (List �
 two_values w x y h k l = fills (into h (value_number x) (into k (value_number y) (ends l)))
 
 pub escaped_in : {name : List ℕ} {begun : List (List ℕ)} (cs : List ℕ) → AreShown cs
-    → Leads (at Text (name ∷ begun) ids) (flat_map escaped cs) (at Text (name ∷ begun) ids)
-escaped_in {name} {begun} cs h = record { scanned = escaped_text name begun ids cs h.each }
+    → Leads (at Text (name ∷ begun) ids) (flat_map escaped cs) (at (place (behind NoBracket cs)) (name ∷ begun) ids)
+escaped_in {name} {begun} cs h = record { scanned = escaped_text name begun ids NoBracket cs h.each }
+
+-- what begins with a tag, behind characters that are escaped
+pub tag : {name : List ℕ} {begun : List (List ℕ)} {t : State} (cs bs : List ℕ) → slice_index bs 0 ≡ 60
+    → scan (Some (at Text (name ∷ begun) ids)) bs ≡ Some t
+    → Leads (at (place (behind NoBracket cs)) (name ∷ begun) ids) bs t
+tag {name} {begun} cs bs e h = record { scanned = tag_scan name begun ids (behind NoBracket cs) bs e ∙ h }
 
 pub textual_in : {name : List ℕ} {begun : List (List ℕ)} (bs : List ℕ) → list_all is_textual bs ≡ true
     → Leads (at Text (name ∷ begun) ids) bs (at Text (name ∷ begun) ids)
@@ -153,7 +160,7 @@ pub element : {root : List ℕ} {begun : List (List ℕ)} (x y : ℕ) (letters c
     → Leads (at Text (root ∷ begun) ids) (text_element x y letters characters) (at Text (root ∷ begun) ids)
 unfolding text_element
 element x y letters characters h k =
-    opened x y letters h ⊳ escaped_in characters k ⊳ lit words.TEXT_END.now refl
+    opened x y letters h ⊳ escaped_in characters k ⊳ tag characters words.TEXT_END.now refl refl
 
 pub all_numbered : {A : Type 0} {s : State} (P : A → Type 0) (f : ℕ → A → List ℕ)
     → ((i : ℕ) (x : A) → P x → Leads s (f i x) s) → (i : ℕ) (xs : List A) → All P xs → Leads s (numbered f i xs) s

@@ -10,6 +10,7 @@ mod Squeezed
 mod Texts
 mod Boards
 mod Letters
+mod ToldTwice
 mod Titles
 mod Told
 mod Agreeing

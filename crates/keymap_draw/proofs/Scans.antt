@@ -53,21 +53,24 @@ in_value seen begun ids bs h =
     still (at (Value seen) begun ids) is_valued
     (λ c e. valued_by (is_plain c) (c == 34) (c == 38 || c == 60) _ _ _ e) bs h
 
--- what a text may have without references
+-- what a text may have without references and brackets
 abbrev pub is_textual : ℕ → Bool
-is_textual c = is_plain c && (not (c == 60) && not (c == 38))
+is_textual c = is_plain c && (not (c == 60) && not (c == 38) && not (c == 93))
 
-textual_by : (plain less and feed : Bool) (x y z : Option State) → (plain && (not less && not and)) ≡ true
-    → (if plain then (if less then x else if and then y else if feed then z else z) else None) ≡ z
-textual_by true true a f x y z h = cc
-textual_by true false true f x y z h = cc
-textual_by true false false true x y z h = refl
-textual_by true false false false x y z h = refl
-textual_by false l a f x y z h = cc
+textual_by : (plain less and feed bracket : Bool) (x y z v : Option State)
+    → (plain && (not less && not and && not bracket)) ≡ true
+    → (if plain then (if less then x else if and then y else if feed then z else if bracket then v else z) else None)
+    ≡ z
+textual_by true true a f b x y z v h = cc
+textual_by true false true f b x y z v h = cc
+textual_by true false false f true x y z v h = cc
+textual_by true false false true false x y z v h = refl
+textual_by true false false false false x y z v h = refl
+textual_by false l a f b x y z v h = cc
 
 pub textual_step : (name : List ℕ) (begun ids : List (List ℕ)) (c : ℕ) → is_textual c ≡ true
     → step (Some (at Text (name ∷ begun) ids)) c ≡ Some (at Text (name ∷ begun) ids)
-textual_step name begun ids c e = textual_by (is_plain c) (c == 60) (c == 38) (c == 10) _ _ _ e
+textual_step name begun ids c e = textual_by (is_plain c) (c == 60) (c == 38) (c == 10) (c == 93) _ _ _ _ e
 
 pub in_text : (name : List ℕ) (begun ids : List (List ℕ)) (bs : List ℕ) → list_all is_textual bs ≡ true
     → scan (Some (at Text (name ∷ begun) ids)) bs ≡ Some (at Text (name ∷ begun) ids)

@@ -1,20 +1,20 @@
 -- What the legends and the titles have, and how it is scanned.
 use Prim.Native.Nat.{zero, suc}
 use Rattle.std.proofs.Common.{◌≡◌, ℕ, ◌+◌, ◌*◌, ◌<◌, Bool, true, false, List, [], ◌∷◌, ◌++◌, Option, Some}
-use Rattle.std.proofs.Common.{None, refl, ap, ◌∙◌, arith, length, get_or, All}
-use Rattle.std.specs.Prelude.{map, ◌/◌, ◌%◌, ◌&&◌, not, nat_lt, codes, if◌then◌else◌, slice_index_or}
+use Rattle.std.proofs.Common.{None, refl, ap, sym, ◌∙◌, arith, length, get_or, All, ◌==◌}
+use Rattle.std.specs.Prelude.{map, ◌/◌, ◌%◌, ◌&&◌, not, nat_lt, codes, if◌then◌else◌, slice_index, slice_index_or}
 use Rattle.std.specs.Char.{digit_char}
 use Rattle.std.specs.List.{list_all, flat_map, range_with_len}
 use Rattle.keymap_core.proofs.Lists.{along}
-use Rattle.std.proofs.lemmas.Bool.{ltb-true}
+use Rattle.std.proofs.lemmas.Bool.{ltb-true, eqb-true, false≢true}
 use Rattle.std.proofs.lemmas.Bool.Decides.{nat_tests}
 use Rattle.std.proofs.lemmas.List.Elements.{All-head, All-tail, All-nil, All-cons}
 use Rattle.std.proofs.lemmas.List.Folds.{list_all-append}
 use Rattle.keymap_core.specs.CodePoints.{code_digits, upper_digits, digit_at}
 use Rattle.keymap_core.specs.Unseen.{is_unseen}
 use Rattle.keymap_draw.specs.Markup.{escaped, is_referred, reference}
-use Rattle.keymap_draw.specs.WellFormed.{State, at, step, scan, is_shown}
-use Rattle.keymap_draw.specs.WellFormed.Place.{Text, Number}
+use Rattle.keymap_draw.specs.WellFormed.{State, Place, at, step, scan, in_text, is_plain, is_shown}
+use Rattle.keymap_draw.specs.WellFormed.Place.{Text, Bracket, Brackets, Number}
 use Rattle.keymap_draw.proofs.Scans.{past, both_true, first_true, second_true, is_textual, textual_step}
 
 -- it may stand in a text, and a terminal shows it as it is
@@ -139,23 +139,104 @@ digits_scan begun ids c low = past _ _ (upper_digits c) _ _ (upper_scan begun id
 pub below_all : (c : ℕ) → is_shown c ≡ true → c < 0x110000
 below_all c h = grind (arith, nat_tests)
 
-textual : (c : ℕ) → is_shown c ≡ true → is_referred c ≡ false → is_textual c ≡ true
-textual c h f = grind (arith, nat_tests)
+-- how many brackets stand right before a place of a text: none, one, or more
+pub data Squares : Type 0 where
+  NoBracket : Squares
+  OneBracket : Squares
+  MoreBrackets : Squares
 
-escaped_by : (name : List ℕ) (begun ids : List (List ℕ)) (c : ℕ) (b : Bool) → is_shown c ≡ true → is_referred c ≡ b
-    → scan (Some (at Text (name ∷ begun) ids)) (if b then reference c else c ∷ []) ≡ Some (at Text (name ∷ begun) ids)
-escaped_by name begun ids c true h e =
+abbrev pub place : Squares → Place
+place NoBracket = Text
+place OneBracket = Bracket
+place MoreBrackets = Brackets
+
+abbrev pub more : Squares → Squares
+more NoBracket = OneBracket
+more OneBracket = MoreBrackets
+more MoreBrackets = MoreBrackets
+
+-- behind some characters
+abbrev pub behind : Squares → List ℕ → Squares
+behind q [] = q
+behind q (c ∷ cs) = behind (if c == 93 then more q else NoBracket) cs
+
+textual : (c : ℕ) → is_shown c ≡ true → is_referred c ≡ false → c == 93 ≡ false → is_textual c ≡ true
+textual c h f b = grind (arith, nat_tests)
+
+no_greater : (c : ℕ) → is_referred c ≡ false → c == 62 ≡ false
+no_greater c f = grind (arith, nat_tests)
+
+no_bracket : (c : ℕ) → is_referred c ≡ true → c ≡ 93 → false ≡ true
+no_bracket c f e = ap is_referred (sym e) ∙ f
+
+number_ends : (name : List ℕ) (begun ids : List (List ℕ)) (c : ℕ) → is_shown c ≡ true
+    → scan (Some (at (Number 0) (name ∷ begun) ids)) (code_digits c ++ codes ";")
+    ≡ Some (at Text (name ∷ begun) ids)
+number_ends name begun ids c h =
     past _ _ (code_digits c) (codes ";") _ (digits_scan (name ∷ begun) ids c (below_all c h))
     (ap (λ b. if b then Some (at Text (name ∷ begun) ids) else None) h)
-escaped_by name begun ids c false h e = textual_step name begun ids c (textual c h e)
+
+reference_scan : (name : List ℕ) (begun ids : List (List ℕ)) (q : Squares) (c : ℕ) → is_shown c ≡ true
+    → scan (Some (at (place q) (name ∷ begun) ids)) (reference c) ≡ Some (at Text (name ∷ begun) ids)
+reference_scan name begun ids NoBracket c h = number_ends name begun ids c h
+reference_scan name begun ids OneBracket c h = number_ends name begun ids c h
+reference_scan name begun ids MoreBrackets c h = number_ends name begun ids c h
+
+bracket_scan : (name : List ℕ) (begun ids : List (List ℕ)) (q : Squares)
+    → step (Some (at (place q) (name ∷ begun) ids)) 93 ≡ Some (at (place (more q)) (name ∷ begun) ids)
+bracket_scan name begun ids NoBracket = refl
+bracket_scan name begun ids OneBracket = refl
+bracket_scan name begun ids MoreBrackets = refl
+
+plain_scan : (name : List ℕ) (begun ids : List (List ℕ)) (q : Squares) (c : ℕ) → is_textual c ≡ true
+    → c == 93 ≡ false → c == 62 ≡ false
+    → step (Some (at (place q) (name ∷ begun) ids)) c ≡ Some (at Text (name ∷ begun) ids)
+plain_scan name begun ids NoBracket c h b g = textual_step name begun ids c h
+plain_scan name begun ids OneBracket c h b g =
+    ap (λ d. if is_plain c then (if d then Some (at Brackets (name ∷ begun) ids) else in_text (name ∷ begun) ids c)
+    else None) b
+    ∙ textual_step name begun ids c h
+plain_scan name begun ids MoreBrackets c h b g =
+    ap (λ d. if is_plain c then (if d then Some (at Brackets (name ∷ begun) ids) else if c == 62 then None
+    else in_text (name ∷ begun) ids c) else None) b
+    ∙ ap (λ d. if is_plain c then (if d then None else in_text (name ∷ begun) ids c) else None) g
+    ∙ textual_step name begun ids c h
+
+escaped_by : (name : List ℕ) (begun ids : List (List ℕ)) (q : Squares) (c : ℕ) (b d : Bool) → is_shown c ≡ true
+    → is_referred c ≡ b → c == 93 ≡ d
+    → scan (Some (at (place q) (name ∷ begun) ids)) (if b then reference c else c ∷ [])
+    ≡ Some (at (place (if d then more q else NoBracket)) (name ∷ begun) ids)
+escaped_by name begun ids q c true true h e f = absurd (false≢true (no_bracket c e (eqb-true c 93 f)))
+escaped_by name begun ids q c true false h e f = reference_scan name begun ids q c h
+escaped_by name begun ids q c false true h e f =
+    ap (λ k. step (Some (at (place q) (name ∷ begun) ids)) k) (eqb-true c 93 f) ∙ bracket_scan name begun ids q
+escaped_by name begun ids q c false false h e f = plain_scan name begun ids q c (textual c h e f) f (no_greater c e)
 
 -- characters that are escaped, in a text
-pub escaped_text : (name : List ℕ) (begun ids : List (List ℕ)) (cs : List ℕ) → list_all is_seen cs ≡ true
-    → scan (Some (at Text (name ∷ begun) ids)) (flat_map escaped cs) ≡ Some (at Text (name ∷ begun) ids)
+pub escaped_text : (name : List ℕ) (begun ids : List (List ℕ)) (q : Squares) (cs : List ℕ) → list_all is_seen cs ≡ true
+    → scan (Some (at (place q) (name ∷ begun) ids)) (flat_map escaped cs)
+    ≡ Some (at (place (behind q cs)) (name ∷ begun) ids)
 unfolding escaped
-escaped_text name begun ids [] h = refl
-escaped_text name begun ids (c ∷ cs) h =
-    past _ (Some (at Text (name ∷ begun) ids)) (escaped c) (flat_map escaped cs) _
-    (escaped_by name begun ids c (is_referred c)
-    (first_true (is_shown c) (not (is_unseen c)) (first_true (is_seen c) (list_all is_seen cs) h)) refl)
-    (escaped_text name begun ids cs (second_true (is_seen c) (list_all is_seen cs) h))
+escaped_text name begun ids q [] h = refl
+escaped_text name begun ids q (c ∷ cs) h =
+    past _ (Some (at (place (if c == 93 then more q else NoBracket)) (name ∷ begun) ids)) (escaped c)
+    (flat_map escaped cs) _
+    (escaped_by name begun ids q c (is_referred c) (c == 93)
+    (first_true (is_shown c) (not (is_unseen c)) (first_true (is_seen c) (list_all is_seen cs) h)) refl refl)
+    (escaped_text name begun ids (if c == 93 then more q else NoBracket) cs
+    (second_true (is_seen c) (list_all is_seen cs) h))
+
+less_scan : (name : List ℕ) (begun ids : List (List ℕ)) (q : Squares)
+    → step (Some (at (place q) (name ∷ begun) ids)) 60 ≡ step (Some (at Text (name ∷ begun) ids)) 60
+less_scan name begun ids NoBracket = refl
+less_scan name begun ids OneBracket = refl
+less_scan name begun ids MoreBrackets = refl
+
+-- a tag behind them
+pub tag_scan : (name : List ℕ) (begun ids : List (List ℕ)) (q : Squares) (bs : List ℕ) → slice_index bs 0 ≡ 60
+    → scan (Some (at (place q) (name ∷ begun) ids)) bs ≡ scan (Some (at Text (name ∷ begun) ids)) bs
+tag_scan name begun ids q [] e = absurd (omega (arith, e))
+tag_scan name begun ids q (c ∷ bs) e =
+    ap (λ k. scan (step (Some (at (place q) (name ∷ begun) ids)) k) bs) e
+    ∙ ap (λ o. scan o bs) (less_scan name begun ids q)
+    ∙ sym (ap (λ k. scan (step (Some (at Text (name ∷ begun) ids)) k) bs) e)

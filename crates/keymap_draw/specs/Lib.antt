@@ -14,3 +14,5 @@ pub mod Told
 pub mod WellFormed
 pub mod Keyboards
 pub mod Letters
+pub mod Names
+pub mod Shapes

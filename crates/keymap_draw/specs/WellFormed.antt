@@ -1,7 +1,7 @@
 -- What is well formed as XML, told byte by byte: one element that holds all others, texts, and tags of elements out of
 -- a fixed list, with attributes out of a fixed list, none twice in a tag. Each element ends by its own end tag. No two
 -- ids are the same, and a link leads to an id that stands before it. A reference is of a character that XML 1.0 allows
--- and that is no control character.
+-- and that is no control character. `]]>` stands in no text.
 use Rattle.std.specs.Prelude.{◌≡◌, ℕ, ◌+◌, ◌*◌, ◌==◌, nat_lt, nat_le, Bool, ◌||◌, ◌&&◌, not, true, false, List, [], ◌∷◌}
 use Rattle.std.specs.Prelude.{◌++◌, codes, Option, Some, None, if◌then◌else◌, bytes_eq}
 use Rattle.std.specs.Char.{digit_value}
@@ -54,6 +54,9 @@ pub data Place : Type 0 where
   Before : Place
   -- between tags, and behind that element
   Text : Place
+  -- in a text, behind one `]`, and behind more of them
+  Bracket : Place
+  Brackets : Place
   -- behind the `<` of a tag
   Opened : Place
   -- in the name of a begin tag, and of an end tag
@@ -96,7 +99,14 @@ in_text begun ids c =
     if c == 60 then within_element Opened begun ids
     else if c == 38 then within_element Ampersand begun ids
     else if c == 10 then Some (at Text begun ids)
+    else if c == 93 then within_element Bracket begun ids
     else within_element Text begun ids
+
+abbrev pub in_brackets : List (List ℕ) → List (List ℕ) → ℕ → Option State
+in_brackets begun ids c =
+    if c == 93 then Some (at Brackets begun ids)
+    else if c == 62 then None
+    else in_text begun ids c
 
 abbrev pub is_name_byte : ℕ → Bool
 is_name_byte c = within 97 122 c || within 65 90 c || c == 45
@@ -175,6 +185,8 @@ only wanted p begun ids c = if c == wanted then Some (at p begun ids) else None
 abbrev pub step_at : Place → List (List ℕ) → List (List ℕ) → ℕ → Option State
 step_at Before begun ids c = only 60 Opened begun ids c
 step_at Text begun ids c = in_text begun ids c
+step_at Bracket begun ids c = if c == 93 then Some (at Brackets begun ids) else in_text begun ids c
+step_at Brackets begun ids c = in_brackets begun ids c
 step_at Opened begun ids c = if c == 47 then Some (at (EndName []) begun ids) else in_name [] begun ids c
 step_at (Name name) begun ids c = in_name name begun ids c
 step_at (EndName name) begun ids c = in_end_name name begun ids c

@@ -15,8 +15,10 @@ ghost use Rattle.keymap_draw.specs.Keyboards.{BoardsAreKeyboards, EachKeyOnce, N
 ghost use Rattle.keymap_draw.specs.Letters.{PairsAreLetters, CapitalsAreOfOneLetter, LettersHaveOneCapital};
 ghost use Rattle.keymap_draw.specs.Letters.{MarksAreOfTheirAccents};
 ghost use Rattle.keymap_draw.specs.Legends.{cell_legend};
+ghost use Rattle.keymap_draw.specs.Names.{LegendsAreNames, NoOthersAreNamed};
 ghost use Rattle.keymap_draw.specs.Pictures.{picture_with};
 ghost use Rattle.keymap_draw.specs.Places.{size_class, legend_classes, IsClass};
+ghost use Rattle.keymap_draw.specs.Shapes.{CapsAreOfTheirKeys};
 ghost use Rattle.keymap_draw.specs.Titles.{squeezed};
 ghost use Rattle.keymap_draw.specs.Told.{TitlesTell, PicturesTellDefinitions, PicturesTellKeymaps};
 ghost use Rattle.keymap_draw.specs.WellFormed.{IsPlain, IsShown, IsSeen, IsWellFormed};
@@ -31,7 +33,7 @@ pub fn red_caps_are_findings()
 
 /// A picture is well formed: one element that holds all others, texts and tags of a few elements, each of which ends by
 /// its own end tag, with a few attributes, none twice. No two ids are the same, and each link leads to an id that
-/// stands before it. So nothing of a keymap can begin an element, an attribute or a link.
+/// stands before it. `]]>` stands in no text. So nothing of a keymap can begin an element, an attribute or a link.
 pub fn pictures_are_well_formed()
     ensures { (m : MapValue) (fs : List FindingValue) (board : BoardValue) → IsMap m
         → IsWellFormed (picture_with m fs board) }
@@ -86,6 +88,19 @@ pub fn boards_are_keyboards()
     ensures once { EachKeyOnce }
     ensures apart { NoTwoOverlap }
     ensures on_panel { AllLieOnThePanel }
+{}
+
+/// The cap that a key uses is as wide and as high as the key, but for the 4 units before the next one: it is named by
+/// the letter of the key's shape, and its edge has the key's width and height.
+pub fn caps_are_of_their_keys()
+    ensures { CapsAreOfTheirKeys }
+{}
+
+/// A character that nobody sees has the name for a legend that Unicode abbreviates its name to, and no other character
+/// has such a name.
+pub fn names_are_of_their_characters()
+    ensures legends { LegendsAreNames }
+    ensures no_others { NoOthersAreNamed }
 {}
 
 /// A capital stands for its small letter too exactly if the two are among the letters of five alphabets; each capital

@@ -1,8 +1,11 @@
 //! Laws of the layout. No function here does anything.
-ghost use Rattle.std.specs.Prelude.{◌≡◌, ℕ, List, ◌∷◌, ◌++◌, map, true, false};
+ghost use Rattle.std.specs.Prelude.{◌≡◌, ℕ, ◌≤◌, List, [], ◌∷◌, ◌++◌, map, length, All, true, false};
 ghost use Rattle.keymap_fmt.specs.Pieces.{PieceValue, pieces, code};
 ghost use Rattle.keymap_fmt.specs.Formatted.{formatted, rendered, state_behind};
-ghost use Rattle.keymap_fmt.specs.Layout.{is_over, is_open, start};
+ghost use Rattle.keymap_fmt.specs.Columns.{Written, PairWritten, piece_of, places, tokens_of, BeginsPair, empty_line};
+ghost use Rattle.keymap_fmt.specs.Columns.{key_line, aligned_line, accent_lines};
+ghost use Rattle.keymap_fmt.specs.Layout.{is_over, is_open, row_of, start};
+ghost use Rattle.keymap_fmt.specs.declared.layout.Row.TheVariants.{Slot, Accent};
 ghost use Rattle.keymap_fmt.specs.Types.{Standing as StandingValue, TokenKind as TokenKindValue};
 ghost use Rattle.keymap_fmt.specs.Lines.{HasTidyLines};
 ghost use Rattle.keymap_fmt.specs.Same.{part_and_bytes, kind_and_bytes, token_of};
@@ -70,4 +73,28 @@ pub fn definitions_are_laid_out_alone()
     ensures { (ps qs : List PieceValue) (kind : TokenKindValue) (bytes : List ℕ) (standing : StandingValue)
         → is_over (state_behind start ps) ≡ true → is_open kind ≡ false
         → rendered (ps ++ code kind bytes standing ∷ qs) ≡ rendered ps ++ rendered (code kind bytes standing ∷ qs) }
+{}
+
+/// The lines of slots have the same columns: where a number has at most three places and each cell at most six, the
+/// number ends before column 5, the cells begin in the columns 8, 15 and so on to 57, and the lock letter in column 65.
+/// In any case a token begins in its column, or one blank behind the token before it where that leaves none before its
+/// column: a wide cell moves those behind it, as far as there is no room, and no others.
+pub fn key_lines_have_columns()
+    ensures line { (number : Written) (tokens : List Written) → row_of number.bytes ≡ Slot
+        → is_open number.kind ≡ false → length tokens ≤ 9
+        → rendered (piece_of number ∷ map piece_of tokens) ≡ empty_line number ++ key_line number tokens }
+    ensures aligned { (number : Written) (cells : List Written) (letter : Written) → places number ≤ 3
+        → length cells ≡ 8 → All (λ cell. places cell ≤ 6) cells
+        → key_line number (cells ++ letter ∷ []) ≡ aligned_line number cells letter }
+{}
+
+/// The lines of accents have the same columns too: the name begins in column 2, the character in column 8, and the
+/// pairs of each line in column 13, one blank between their tokens and four in a line. Where the name leaves no blank
+/// before the character's column, the character begins one blank behind it; where the character leaves none before
+/// column 13, the pairs of each line begin one blank behind the place where it ends.
+pub fn accent_lines_have_columns()
+    ensures { (name own : Written) (pairs : List PairWritten) → row_of name.bytes ≡ Accent
+        → is_open name.kind ≡ false → All BeginsPair pairs
+        → rendered (piece_of name ∷ piece_of own ∷ flat_map tokens_of pairs)
+        ≡ empty_line name ++ accent_lines name own pairs }
 {}

@@ -1,4 +1,5 @@
 mod Ascii
 mod Windows
 mod Pieces
-mod Plain
+pub mod Plain
+pub mod Printed

@@ -8,13 +8,15 @@ use Rattle.std.proofs.lemmas.List.Elements.{All-nil, All-cons, All-append, All-m
 use Rattle.std.proofs.lemmas.Grind.{flat_map-append}
 use Rattle.std.proofs.lemmas.Str.{encode_ascii}
 use Rattle.std.specs.Char.{IsScalar}
-use Rattle.std.specs.List.{All, flat_map}
+use Rattle.std.specs.List.{All, flat_map, list_all, range_with_len}
+use Rattle.std.proofs.lemmas.Bool.{and_parts}
 use Rattle.std.proofs.lemmas.Bool.Decides.{nat_tests}
+use Rattle.keymap_core.proofs.Lists.{along}
 use Rattle.bstr.specs.Utf8.{lossy_chars, pieces_from, pieces, decoded, or_replacement, Decoded}
 use Rattle.bstr.proofs.lemmas.SoundLemmas.{SpellsChar-decoded}
 use Rattle.keymap_core.specs.Unseen.{is_unseen}
-use Rattle.keymap_lint_text.specs.Shown.{shown_char, shown_chars, shown_name, is_plain, is_line_feed, IsPlain}
-use Rattle.keymap_lint_text.specs.Shown.{IsPlainText}
+use Rattle.keymap_lint_text.specs.Shown.{shown_char, shown_chars, shown_name, is_plain, is_line_feed, is_shown_byte}
+use Rattle.keymap_lint_text.specs.Shown.{IsPlain, IsPlainText}
 use Rattle.keymap_lint_text.specs.Told.{word_text}
 use Rattle.keymap_lint_text.specs.Excerpt.{excerpt, lines_of, line_text, caret_text, below}
 use Rattle.keymap_lint_text.specs.Excerpt.{shown_before, without_cr}
@@ -39,7 +41,7 @@ first_true : (a b h : Bool) → a ≡ true → IsTrue (a || b || not h)
 first_true true b h e = search rules
 first_true false b h e = cc
 
-last_true : (a b h : Bool) → h ≡ false → IsTrue (a || b || not h)
+pub last_true : (a b h : Bool) → h ≡ false → IsTrue (a || b || not h)
 last_true true b h e = search rules
 last_true false true h e = search rules
 last_true false false true e = cc
@@ -93,25 +95,48 @@ pub plain_if : (t : Bool) (bs : List ℕ) → IsPlainText bs → IsPlainText (if
 plain_if true bs p = p
 plain_if false bs p = plain_none
 
-two_blanks : IsPlainText (codes "  ")
-two_blanks = plain_cons 32 _ (omega arith) (search rules) (plain_cons 32 _ (omega arith) (search rules) plain_none)
+-- ASCII that a terminal shows, or a line feed
+abbrev pub is_printed : ℕ → Bool
+is_printed c = c == 10 || is_shown_byte c
 
-two_dots : IsPlainText (codes "..")
-two_dots = plain_cons 46 _ (omega arith) (search rules) (plain_cons 46 _ (omega arith) (search rules) plain_none)
+printed_byte : (c : ℕ) → is_printed c ≡ true → c < 128
+printed_byte c h = grind (arith, nat_tests, h)
 
-feed : IsPlainText (codes "\n")
-feed = plain_cons 10 _ (omega arith) (search rules) plain_none
+implied : (p q : Bool) → (not p || q) ≡ true → p ≡ true → q ≡ true
+implied true q h e = h
+implied false q h e = cc
 
-caret : IsPlainText (codes "^\n")
-caret = plain_cons 94 _ (omega arith) (search rules) feed
+printed_plain : (c : ℕ) → is_printed c ≡ true → IsTrue (is_plain c)
+printed_plain c h =
+    implied (is_printed c) (is_plain c)
+    (along (λ d. not (is_printed d) || is_plain d) (λ d. true) 0 128 refl c (omega arith)
+    (omega (arith, printed_byte c h))) h
+
+pub ascii : (bs : List ℕ) → list_all is_printed bs ≡ true → IsPlainText bs
+ascii [] h = plain_none
+ascii (c ∷ bs) h =
+    let both = and_parts (is_printed c) (list_all is_printed bs) h in
+    plain_cons c bs (printed_byte c both.0) (printed_plain c both.0) (ascii bs both.1)
 
 below_by : (tab : Bool) (bs : List ℕ) → IsPlainText bs → IsPlainText ((if tab then 9 else 32) ∷ bs)
-below_by true bs p = plain_cons 9 bs (omega arith) (search rules) p
-below_by false bs p = plain_cons 32 bs (omega arith) (search rules) p
+below_by true bs p = plain_cons 9 bs (omega arith) refl p
+below_by false bs p = plain_cons 32 bs (omega arith) refl p
 
 plain_below : (cs : List ℕ) → IsPlainText (map below cs)
 plain_below [] = plain_none
 plain_below (c ∷ cs) = below_by (c == 9) (map below cs) (plain_below cs)
+
+two_blanks : IsPlainText (codes "  ")
+two_blanks = ascii _ refl
+
+two_dots : IsPlainText (codes "..")
+two_dots = ascii _ refl
+
+feed : IsPlainText (codes "\n")
+feed = ascii _ refl
+
+caret : IsPlainText (codes "^\n")
+caret = ascii _ refl
 
 plain_line : (skipped : ℕ) (cs : List ℕ) → All IsPlain cs → IsPlainText (line_text skipped cs)
 plain_line skipped cs p =

@@ -4,10 +4,8 @@
 # make quick         types a line without any proof: QUICK='check de.kbd' FILES=examples/de.kbd for
 #                    other arguments and files
 # make test          proves and builds what changed, and runs the scripts of tests/ on it: while working on a line
-# make check         proves every crate that this machine has not proved as it stands, tries the edits that must be
-#                    refused and don't stand as tried, and runs all tests
-# make edits         tries all edits that must be refused and writes which crates' stand as tried: EDITS= for those
-#                    that don't stand so, EDITS='keymap_core kmap_c' for those of some crates
+# make check         proves every crate that this machine has not proved as it stands, tries its edits that must be
+#                    refused, and runs all tests
 # make bench         measures the program on large inputs, and fails where a limit of bench/limits is passed
 # make install       installs the program, the C library with its header, manual pages, completions, examples and
 #                    documents below $(DESTDIR)$(PREFIX), and writes nothing here where all is built
@@ -18,7 +16,7 @@
 # It is for any make: build.sh sees whether a source is newer than what is made, and the kit's `rt` what that changes.
 
 # The one number to raise; tests/version.sh then tells each place that has another one.
-VERSION = 0.2.0
+VERSION = 0.3.0
 PREFIX = /usr/local
 LIBDIR = $(PREFIX)/lib
 INCLUDEDIR = $(PREFIX)/include
@@ -29,8 +27,6 @@ CC = cc
 INSTALL = install
 # What commands of README leave in examples/ is not installed.
 EXAMPLE_FILES = de.kbd de.script kmap.py line.numbers line.script load.c test_keymap.py trap.kbd type.c type.py us.kbd
-EDITS = --anew
-MINUTES = crates/kmap/out/minutes
 QUICK = play us.kbd line.script --typed
 FILES = examples/us.kbd examples/line.script
 PROGRAM = crates/kmap/out/kmap
@@ -70,19 +66,13 @@ test: all
 	@RT="$(RT)" sh build.sh calls out/calls run -- read_map
 	$(MAKE) scripts
 
-edits:
-	@RT="$(RT)" python3 tests/edits --write $(EDITS)
-	@RT="$(RT)" python3 tests/driver --write
-
 # `rt ci` builds both programs anew, each by LLVM and by Rattle's own compiler (.by-rattle), and the scripts take what it
-# leaves. It proves the C library and leaves none, so that is built over what it proved; the edits go on with that too.
-# They take the processors that it leaves idle. What each part took is printed at the end and kept in MINUTES.
+# leaves. It proves the C library and leaves none, so that is built over what it proved.
 check:
-	@rm -f $(MINUTES)
-	RT="$(RT)" MINUTES=$(MINUTES) python3 tests/gate 'python3 tests/driver'
-	@MINUTES=$(MINUTES) python3 tests/minutes.py scripts $(MAKE) scripts
-	@MINUTES=$(MINUTES) python3 tests/minutes.py 'the other build' $(MAKE) other-build
-	@MINUTES=$(MINUTES) python3 tests/minutes.py
+	RT="$(RT)" python3 tests/refused
+	RT="$(RT)" python3 tests/archive kmap_c
+	$(MAKE) scripts
+	$(MAKE) other-build
 
 other-build:
 	sh tests/program.sh $(PROGRAM).by-rattle
@@ -95,7 +85,6 @@ scripts:
 	sh tests/names.sh
 	sh tests/words.sh
 	sh tests/modules.sh
-	python3 tests/edits --covered
 	python3 -B bench/unseen.py --check
 	sh tests/version.sh $(PROGRAM)
 	sh tests/program.sh $(PROGRAM)
@@ -162,4 +151,4 @@ dist: all
 clean:
 	rm -rf crates/*/out kmap-*.tar.gz
 
-.PHONY: all quick test edits check other-build scripts bench install uninstall dist clean
+.PHONY: all quick test check other-build scripts bench install uninstall dist clean

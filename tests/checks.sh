@@ -36,7 +36,7 @@ for part in $parts; do
 done
 for crate in "$top"/crates/*/; do
     mkdir "copy/crates/$(basename "$crate")"
-    for part in src specs proofs edits; do
+    for part in src specs proofs must-fail; do
         [ ! -d "$crate$part" ] || cp -R "$crate$part" "copy/crates/$(basename "$crate")"
     done
 done
@@ -131,18 +131,44 @@ broken crates/keymap_core/src/unseen.rt 's/c == 0x3164/c == 0x3165/' '' python3 
 broken crates/keymap_draw/src/characters.rt 's/ || c == 0x7fd//' '' python3 -B copy/bench/unseen.py --check
 broken crates/keymap_draw/specs/Characters.antt 's/0xfffe (c/0xffff (c/' '' python3 -B copy/bench/unseen.py --check
 
-# An exported function without an edit of its body, and an edit that can't be applied.
-holds 'each exported function has an edit' python3 copy/tests/edits --covered > said
-mv copy/crates/messages/edits/line_is_empty.edit .
-refuses 'messages: templates::line (src/templates.rt) has no edit of its body' python3 copy/tests/edits --covered
-holds 'no other one is missed' [ "$(grep -c 'has no edit' said)" -eq 1 ]
-mv copy/crates/messages/edits .
-refuses 'messages: templates::fill (src/templates.rt) has no edit of its body' python3 copy/tests/edits --covered
-mv edits copy/crates/messages
-mv line_is_empty.edit copy/crates/messages/edits
-broken crates/messages/src/templates.rt 's/digits.format(n)/digits.format(n + 0)/' \
-    "messages/number_is_halved.edit: an 'old:' text stands in src/templates.rt 0 times" \
-    python3 copy/tests/edits --covered
+# Edits that must fail, by a kit that only tells: one that is refused where its file says, elsewhere, in a branch, for a
+# name that is gone, one that can't be applied, one of which nothing is told, one that says nothing, and none at all.
+edit=crates/keymap_check/must-fail/steady_despite_nop.edit
+mv copy/$edit steady
+rm -r copy/crates/*/must-fail
+mkdir "copy/${edit%/*}"
+cp steady copy/$edit
+printf '#!/bin/sh\ncat "%s/told"\nexit "${ENDS:-0}"\n' "$folder" > rt
+chmod +x rt
+number=$(grep -n '^fn is_acting' copy/crates/keymap_check/src/bearer.rt | cut -d: -f1)
+tells() { echo "rt: must-fail keymap_check/steady_despite_nop.edit: $1" > told; }
+is_refused() { RT=$folder/rt python3 copy/tests/refused; }
+wrong="$edit: the file says is_acting returns, the kit tells"
+tells "refused, as it must be: note: src/bearer.rt:$((number + 4)):5: it is not proved (\`returns\`)"
+holds 'an edit is refused where its file says' is_refused > said
+holds 'the edits are counted' grep -qx '1 edits refused where they say, 0 not' said
+export ENDS=3
+is_refused > said
+holds 'the status of the kit is passed on' [ $? -eq 3 ]
+unset ENDS
+tells "refused, as it must be: note: src/bearer.rt:$((number - 8)):5: it is not proved (\`returns\`)"
+refuses "$wrong bearer_of returns" is_refused
+tells "refused, as it must be: note: src/bearer.rt:$number:1: it is not proved (\`returns-then-key\`)"
+refuses "$wrong is_acting returns-then-key" is_refused
+tells "refused, as it must be: note: src/bearer.rt:$number:1: it is not proved (\`returns-in_err-x-clause-kept\`)"
+refuses "$wrong is_acting kept" is_refused
+tells 'refused, as it must be: proofs/Steady.antt:1:1: error: `steady` is not proved'
+refuses "$wrong Steady.antt steady" is_refused
+tells 'refused, as it must be (only because a proof file names it): proofs/A.antt:1:1: error: `a`'
+refuses "$wrong refused, as it must be (only" is_refused
+tells 'BAD EDIT: it stands there no more'
+refuses "$wrong BAD EDIT" is_refused
+: > told
+refuses "$wrong nothing" is_refused
+sed '/^# refused/d' steady > copy/$edit
+refuses "$edit: the file says nothing" is_refused
+rm copy/$edit
+refuses '0 edits refused where they say, 0 not' is_refused
 
 # What is measured against limits, by the end of the script that measures: a limit that is passed, one of nothing that
 # is measured, a measure without a limit, and one that is no number.

@@ -3,31 +3,59 @@
 
 usage: takes_memory.py"""
 
+import glob
 import os
 import re
-import sys
-from importlib.machinery import SourceFileLoader
 
-sys.dont_write_bytecode = True
-from covered import Exports, is_exported  # noqa: E402
-from proved import TOP, Crates, text_of  # noqa: E402
+TOP = os.path.dirname(os.path.dirname(os.path.abspath(__file__)))
+USE = re.compile(r"^pub use [\w:]+::(\{[^}]*\}|\w+);", re.MULTILINE)
+MODULE = re.compile(r"^pub mod (\w+);", re.MULTILINE)
+# a function, and what stands before its clauses and its body, as `rt fmt` lays it out
+FUNCTION = re.compile(
+    r"^( *)(pub )?(?:const )?(?:unsafe )?(?:extern \"C\" )?fn (\w+)"
+    r"(.*?)(?=\n? *\b(?:requires|ensures)\b| \{$|^ *\{)",
+    re.MULTILINE | re.DOTALL,
+)
+IMPL = re.compile(r"^(?:unsafe )?impl(?:<.*?>)? (?:(?:\w+::)*(\w+)(?:<(.*)>)? for )?&?(?:\w+::)*(\w+)", re.MULTILINE)
 
-edits = SourceFileLoader("edits", f"{TOP}/tests/edits").load_module()
+
+def text_of(path):
+    with open(path, encoding="utf-8") as it:
+        return it.read()
+
+
+def exports_of(crate):
+    """The names that a crate exports, and the modules whose public items are exported with them."""
+    text = re.sub(r"//.*", "", text_of(f"{crate}/src/lib.rt"))
+    names = {it for found in USE.findall(text) for it in re.findall(r"\w+", found)}
+    return names, {"lib", *MODULE.findall(text)}
+
+
+def owner_at(text, at):
+    """The trait and the type of the impl block in which a place stands, or None."""
+    blocks = [it for it in IMPL.finditer(text, 0, at) if "\n}" not in text[it.end() : at]]
+    return blocks[-1].groups() if blocks else None
 
 
 def main():
-    libraries = [it for it in Crates().uses if os.path.isfile(f"{TOP}/crates/{it}/src/lib.rt")]
-    exports = {it: Exports(it) for it in libraries if not it.startswith("test")}
-    traits = {name for it in exports.values() for name in it.names}
+    crates = {it: exports_of(it) for it in glob.glob(f"{TOP}/crates/*") if os.path.isfile(f"{it}/src/lib.rt")}
+    crates = {it: found for it, found in crates.items() if not os.path.basename(it).startswith("test")}
+    traits = {name for names, _ in crates.values() for name in names}
     found = set()
-    for crate, exported in exports.items():
-        for path, text in edits.texts_of(f"{TOP}/crates/{crate}").items():
-            lines = text.split("\n")
-            for it in edits.functions_of(path, text):
-                at = next(at for at in range(it.begin - 1, -1, -1) if edits.HEADER.match(lines[at]))
-                head = re.split(r"\b(?:requires|ensures)\b", "\n".join(lines[at : it.begin]))[0]
-                if re.search(r": Global\b", head) and is_exported(exported, traits, path, lines, it):
-                    found.add(it.name if it.is_method else it.name.rpartition("::")[2])
+    for crate, (names, modules) in crates.items():
+        for path in glob.glob(f"{crate}/src/**/*.rt", recursive=True):
+            text, module = text_of(path), os.path.relpath(path, f"{crate}/src").removesuffix(".rt")
+            for it in FUNCTION.finditer(text):
+                indent, is_public, name, head = it.groups()
+                if not re.search(r": Global\b", head):
+                    continue
+                trait, types, owner = (indent and owner_at(text, it.start())) or (None, None, None)
+                if (owner or name) not in names and module not in modules:
+                    continue
+                if not indent and is_public:
+                    found.add(name)
+                elif owner and (trait in traits if trait else is_public):
+                    found.add(f"{owner}{trait or ''}{''.join(re.findall(r'[A-Za-z0-9_]+', types or ''))}::{name}")
     print(*sorted(found), sep="\n")
 
 

@@ -3,7 +3,7 @@ use clap::{Arg, ArgAction, ArgMatches, Command};
 use std::alloc::{AllocError, Global};
 
 /// The version of the program, which CHANGELOG.md and the manual pages repeat.
-const VERSION: &str = "0.2.0";
+const VERSION: &str = "0.3.0";
 
 /// A word that a subcommand takes. Each has a name, and what the help says of it.
 #[derive(Clone, Copy)]

@@ -10,10 +10,10 @@ use keymap_core::{Write, write_text};
 use keymap_draw::Board;
 use keymap_lint_text::shown_name;
 use kmap_runs::{
-    RunError, cover_run, draw_run, dump_narrow_run, dump_run, file_error_line, play_run,
-    search_run, type_run, write_run_error,
+    RunError, cover_run, draw_run, dump_narrow_run, dump_run, file_error_line, search_run,
+    type_run, write_run_error,
 };
-use play_core::Show;
+use play_core::{Show, play_next};
 use std::alloc::{AllocError, Global};
 use std::convert::AsStr;
 use std::fs::{File, Files};
@@ -300,15 +300,14 @@ where
     let mut next = opened_if_named(rt, next)?;
     let mut script = opened(rt, script)?;
     let mut out = Output::new(rt);
-    let outcome = play_run(
-        rt.alloc(),
-        show,
-        &mut text,
-        &mut next,
-        &mut script,
-        &mut out,
-    );
-    out.outcome(outcome)
+    let played = match &mut next {
+        Some(next) => play_next(rt.alloc(), show, &mut text, next, &mut script, &mut out),
+        None => play_core::play(rt.alloc(), show, &mut text, &mut script, &mut out),
+    };
+    match played {
+        Ok(()) => Ok(()),
+        Err(error) => out.outcome(Err(RunError::from(error))),
+    }
 }
 
 fn type_sentence<'a, R>(rt: &R, text: &'a str, sentence: &'a str) -> Result<(), Failure<'a>>

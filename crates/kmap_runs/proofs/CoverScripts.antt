@@ -35,6 +35,8 @@ use Rattle.play_core.specs.declared.sent.Sent.{Sent}
 use Rattle.play_core.specs.declared.show.Show.{Show}
 use Rattle.play_core.specs.Delivery.{delivered}
 use Rattle.play_core.specs.Scripts.{IsScript, key_of}
+use Rattle.play_core.specs.Playing.{Plays}
+use Rattle.play_core.specs.Runs.{moves}
 use Rattle.play_core.specs.Spelling.{sends, says, has_line_feed}
 use Rattle.play_core.specs.Written.{played_text}
 use Rattle.play_core.proofs.Spelling.{script-nil, line-script, feed-append}
@@ -44,9 +46,8 @@ use Rattle.kmap_runs.specs.Cover.{rows_of, row_at, run_len, begins_run, line_of_
 use Rattle.kmap_runs.specs.Cover.{bases_at, character_text, line_of_characters, accent_line, accent_lines, rest_word}
 use Rattle.kmap_runs.specs.Cover.{counts_line, counts_text, lists_text, all_pairs, part_line, start_line, stroke_line}
 use Rattle.kmap_runs.specs.Cover.{what_of_stroke, sent_of_stroke, stroke_lines, script_lines, cover_text}
-use Rattle.kmap_runs.specs.Inputs.{moves}
 use Rattle.kmap_runs.specs.Replayed.{strokes_sent, ShowsCover, PlaysCover}
-use Rattle.kmap_runs.specs.Runs.{CoversText, IsCovered, PlaysTexts}
+use Rattle.kmap_runs.specs.Runs.{CoversText, IsCovered}
 use Rattle.kmap_runs.specs.declared.words.TheConstants as words
 use Rattle.kmap_runs.proofs.Replayed.{feed-flat, taken-whole, same-map}
 use Rattle.messages.specs.Filled.{filled}
@@ -419,10 +420,10 @@ shows-cover m script (c, covers, e) =
 
 pub covers-played : (show : Show) (text script told : List ℕ) (t u v : Option (List ℕ))
     → CoversText (moves (Some text) t) (moves (Some []) (Some script)) (Ok tt)
-    → PlaysTexts show (moves (Some text) u) None (moves (Some script) v) (moves (Some []) (Some told)) (Ok tt)
+    → Plays show (moves (Some text) u) (moves (Some script) v) (moves (Some []) (Some told)) (Ok tt)
     → PlaysCover show text told
 covers-played show text script told t u v (m, printed, read, (c, covers, e), appends)
-    (((n, None), bytes), played, ((read_again, nothing), taken), (sent, is_script, same_shown), appended) =
+    ((n, bytes), played, (read_again, taken), (sent, is_script, same_shown), appended) =
     let text_is : bytes ≡ cover_text m c = sym (taken-whole script bytes v taken) ∙ appends ∙ e in
     let same : m ≡ n = same-map text t u m n read read_again in
     let sent_are : sent ≡ strokes_sent c =
@@ -435,5 +436,3 @@ covers-played show text script told t u v (m, printed, read, (c, covers, e), app
       appended ∙ same_shown ∙ ap (λ x. played_text show (between x x) sent) (sym same)
           ∙ ap (λ l. played_text show (between m m) l) sent_are,
     )
-covers-played show text script told t u v first
-    (((n, Some other), bytes), played, ((again, none), taken), rest, appended) = absurd none

@@ -1,5 +1,6 @@
 mod Chained
 mod CoverScripts
 mod Covered
+mod Dumped
 mod Replayed
 mod Scripts

@@ -23,12 +23,14 @@ use Rattle.console_core.specs.declared.event.Event.TheVariants as event
 use Rattle.console_core.specs.History.{Maps, HasKey, HasKeys, answers_to}
 use Rattle.console_core.specs.declared.outcome.Sticking.{Sticking}
 use Rattle.console_core.specs.declared.outcome.Sticking.TheVariants.{Sticks, Never, Undecided}
-use Rattle.console_core.specs.Sticking.{LeavesOn, LeavesOnBetween, IsAnswer, IsAnswerBetween}
+use Rattle.console_core.specs.Sticking.{IsAnswer, IsAnswerBetween}
 use Rattle.keymap_check.specs.Report.{report_of}
 use Rattle.keymap_check.specs.Scripts.{demonstration_of}
 use Rattle.keymap_check.proofs.Demonstrated.{demonstrations_leave_modifiers_on}
 use Rattle.play_core.specs.declared.sent.Sent.{Sent}
 use Rattle.play_core.specs.declared.show.Show.TheVariants as show
+use Rattle.play_core.specs.Playing.{Plays}
+use Rattle.play_core.specs.Runs.{moves}
 use Rattle.play_core.specs.Scripts.{IsScript}
 use Rattle.play_core.specs.Spelling.{sends, says, line_text, has_line_feed, IsWritable, sent_of, event_line}
 use Rattle.play_core.specs.Typing.{alone, way_for, events_in, events_for, IsTyped}
@@ -39,12 +41,11 @@ use Rattle.play_core.proofs.Verdicts.{one_list}
 use Rattle.keymap_core.specs.CodePoints.{digit_at, upper_digits, code_digits, code_text}
 use Rattle.kmap_runs.specs.Report.{check_text, demonstration_text, report}
 use Rattle.kmap_runs.specs.Search.{modifier_name, script_text, undecided_text}
-use Rattle.kmap_runs.specs.Inputs.{moves}
-use Rattle.kmap_runs.specs.Runs.{TypesSentence, PlaysTexts}
+use Rattle.kmap_runs.specs.Runs.{TypesSentence}
 use Rattle.keymap_core.specs.Unseen.{is_unseen}
 use Rattle.kmap_runs.specs.Typing.{shown, is_line_feed, comment_if, event_lines, lines_from, typing_script}
-use Rattle.kmap_runs.specs.Replayed.{ScriptTypes, Delivers, ScriptSticks, AnswerReplays, AnswerReplaysBetween}
-use Rattle.kmap_runs.specs.Replayed.{ShowsScript}
+use Rattle.kmap_runs.specs.Replayed.{ScriptTypes, Delivers, AnswerReplays, AnswerReplaysBetween}
+use Rattle.kmap_runs.specs.Replayed.{ShowsDemonstration, ShowsScript}
 use Rattle.keymap_core.proofs.Lists.{All-reversed}
 use Rattle.kmap_runs.specs.declared.words.TheConstants as words
 use Rattle.messages.specs.Filled.{filled}
@@ -227,15 +228,16 @@ typing-types m bytes cs t = record {
   typed = typed-back m (events_for m cs) bytes t.typed;
 }
 
--- ---- scripts after which a modifier is on
+-- ---- scripts of what was found
 
--- events after which a modifier is on, from a script that sends them
-sticks-by : (IsSo : List Event → Type 0) (script : List ℕ) (events : List Event) → IsScript script (map sent_of events)
-    → IsSo (reverse events) → Delivers script IsSo
-sticks-by IsSo script events is on = record {
+-- a script that sends events delivers them, and nothing else
+delivers-these : (script : List ℕ) (events : List Event) → IsScript script (map sent_of events)
+    → Delivers script (reverse events)
+delivers-these script events is = record {
   sent = map sent_of events;
   is = is;
-  so = subst (λ l. IsSo (reverse l)) (sym (delivers events)) on;
+  nothing_else = λ others h. one_list script others (map sent_of events) h is;
+  delivers = ap reverse (delivers events);
 }
 
 -- events that are of keys, the newest first, are so in their order
@@ -243,21 +245,20 @@ keys-of : (events : List Event) → HasKeys (reverse events) → HasKeys events
 keys-of events keys = subst HasKeys (reverse-reverse events) (All-reversed HasKey (reverse events) keys)
 
 -- the lines of such events
-lines-stick : (m : MapValue) (events : List Event) → LeavesOn m (reverse events)
-    → ScriptSticks m (flat_map event_line events)
-lines-stick m events on = sticks-by (LeavesOn m) _ events (events-script events (keys-of events on.0)) on
+lines-deliver : (events : List Event) → HasKeys (reverse events)
+    → Delivers (flat_map event_line events) (reverse events)
+lines-deliver events keys = delivers-these _ events (events-script events (keys-of events keys))
 
 -- the same behind a comment with the names of modifiers
-script-sticks : (on : List Modifier) (IsSo : List Event → Type 0) (events : List Event) → HasKeys (reverse events)
-    → IsSo (reverse events) → Delivers (script_text on events) IsSo
-script-sticks on IsSo events keys so =
+script-delivers : (on : List Modifier) (events : List Event) → HasKeys (reverse events)
+    → Delivers (script_text on events) (reverse events)
+script-delivers on events keys =
     let names : List ℕ = flat_map modifier_name on in
-    sticks-by IsSo (script_text on events) events
+    delivers-these (script_text on events) events
     (subst (λ t. IsScript (t ++ flat_map event_line events) (map sent_of events)) (sym (sticks-line names))
     (line-script (says (codes " sticks:" ++ names)) (flat_map event_line events) (map sent_of events)
     (feed-append (codes " sticks:") names refl (feed-flat modifier_name feed-name on))
     (events-script events (keys-of events keys))))
-    so
 
 -- a comment alone is a script of no events
 said : (line text : List ℕ) → line ≡ line_text (says text) → has_line_feed text ≡ false → IsScript line []
@@ -282,13 +283,13 @@ said-undecided p small =
 
 pub answer-replays : (m : MapValue) (found : Sticking) → IsAnswer m found → AnswerReplays m found
 answer-replays m (Sticks events on) answer =
-    script-sticks on.items (LeavesOn m) events.items answer.0.0 answer.0
+    (script-delivers on.items events.items answer.0.0, (answer.0, answer.1))
 answer-replays m Never answer = said-never
 answer-replays m (Undecided p) answer = said-undecided p
 
 pub answer-replays-between : (ms : Maps) (found : Sticking) → IsAnswerBetween ms found → AnswerReplaysBetween ms found
 answer-replays-between ms (Sticks events on) answer =
-    script-sticks on.items (LeavesOnBetween ms) events.items answer.0.0 answer.0
+    (script-delivers on.items events.items answer.0.0, (answer.0, answer.1))
 answer-replays-between ms Never answer = said-never
 answer-replays-between ms (Undecided p) answer = said-undecided p
 
@@ -316,29 +317,24 @@ typed-once m cs bytes sent t h =
 
 pub comes-back : (text sentence script typed : List ℕ) (t s u v : Option (List ℕ))
     → TypesSentence (moves (Some text) t) (moves (Some sentence) s) (moves (Some []) (Some script)) (Ok tt)
-    → PlaysTexts show.Typed (moves (Some text) u) None (moves (Some script) v) (moves (Some []) (Some typed)) (Ok tt)
+    → Plays show.Typed (moves (Some text) u) (moves (Some script) v) (moves (Some []) (Some typed)) (Ok tt)
     → typed ≡ sentence
 comes-back text sentence script typed t s u v ((m, bytes), told, (read, whole), (cs, is_typed, same_told), appends)
-    (((n, None), events), played, ((read_again, nothing), taken), (sent, is_script, same_shown), appended) =
+    ((n, events), played, (read_again, taken), (sent, is_script, same_shown), appended) =
     let script_is : script ≡ typing_script m cs = appends ∙ same_told in
     let events_are : events ≡ typing_script m cs = sym (taken-whole script events v taken) ∙ script_is in
     let same : m ≡ n = same-map text t u m n read read_again in
     appended ∙ same_shown ∙ ap (λ n. played_text show.Typed (alone n) sent) (sym same)
     ∙ typed-once m cs bytes sent is_typed (subst (λ x. IsScript x sent) events_are is_script)
     ∙ sym (taken-whole sentence bytes s whole)
-comes-back text sentence script typed t s u v first
-    (((n, Some other), events), played, ((again, none), taken), rest, appended) = absurd none
 
 -- the report with its demonstration, whether there is one
 shows-by : (m : MapValue) (o : Option (List Event)) → demonstration_of m ≡ o
-    → ShowsScript m (check_text (report_of m) ++ demonstration_text o)
-shows-by m None e = inl refl
+    → ShowsDemonstration m o (check_text (report_of m) ++ demonstration_text o)
+shows-by m None e = refl
 shows-by m (Some events) e =
-    inr (
-      flat_map event_line events,
-      refl,
-      lines-stick m events (demonstrations_leave_modifiers_on m events e),
-    )
+    let on = demonstrations_leave_modifiers_on m events e in
+    (flat_map event_line events, refl, lines-deliver events on.0, on)
 
 pub shows-script : (m : MapValue) → ShowsScript m (report m true)
 shows-script m = shows-by m (demonstration_of m) refl

@@ -1,5 +1,5 @@
 -- What the runs that lay a text out answer, and what they do to the devices that they are lent.
-use Rattle.std.specs.Prelude.{◌≡◌, ◌≢◌, ℕ, ◌<◌, List, length, take, Option, Result, Ok, Err, ⊤}
+use Rattle.std.specs.Prelude.{◌≡◌, ◌≢◌, ℕ, ◌<◌, List, [], length, take, Option, Some, Result, Ok, Err, ⊤}
 use Rattle.std.specs.Io.KnownBytes.{Appends, Keeps}
 use Rattle.keymap_core.specs.Maps.{MapValue}
 use Rattle.keymap_fmt.specs.declared.whole.FormatError.{FormatError}
@@ -7,14 +7,13 @@ use Rattle.keymap_fmt.specs.declared.whole.FormatError.TheVariants as format
 use Rattle.keymap_fmt.specs.Formatted.{formatted}
 use Rattle.keymap_text.specs.Meaning.{Spells, Fault}
 use Rattle.keymap_text.specs.Sources.{TakesWhole, limit}
-use Rattle.kmap_runs.specs.Inputs.{StopsReading, moves}
+use Rattle.play_core.specs.Runs.{StopsReading, moves}
 use Rattle.kmap_runs.specs.declared.fault_line.RunError.{RunError}
 use Rattle.kmap_runs.specs.declared.fault_line.RunError.TheVariants as error
-use Rattle.kmap_runs.specs.declared.fault_line.Source.TheVariants as source
 
 abbrev pub of_format_error : FormatError → RunError
 of_format_error format.Memory = error.Memory
-of_format_error (format.Fault f) = error.Text source.Text f
+of_format_error (format.Fault f) = error.Text f
 of_format_error format.TooLong = error.TooLong
 
 -- The text was read whole, it spells a keymap, and this is it in the layout.
@@ -28,11 +27,10 @@ pub record LaysOut (before after : Option (List ℕ)) (text laid : List ℕ) : T
 -- Or it was not read whole.
 abbrev pub RefusesLayout : Option (List ℕ) → Option (List ℕ) → RunError → Type 0
 RefusesLayout before after error.Memory = ⊤
-RefusesLayout before after (error.Text s f) =
-    (s ≡ source.Text) × (text : List ℕ) × TakesWhole before after text × Fault text f
+RefusesLayout before after (error.Text f) = (text : List ℕ) × TakesWhole before after text × Fault text f
 RefusesLayout before after error.TooLong = (text : List ℕ) × TakesWhole before after text
     × ((m : MapValue) × Spells text m) × (limit < length (formatted text))
-RefusesLayout before after (error.Read s f) = (s ≡ source.Text) × StopsReading (moves before after) f f.kind
+RefusesLayout before after (error.ReadText f) = StopsReading (moves before after) f f.kind
 RefusesLayout before after _ = ⊥
 
 -- The text is in the layout as it is.
@@ -52,3 +50,18 @@ PrintsLayout before after old new (Err (error.Write f)) =
     (text : List ℕ) × (laid : List ℕ) × LaysOut before after text laid × (f.written < length laid)
     × Appends old new (take f.written laid)
 PrintsLayout before after old new (Err e) = RefusesLayout before after e × Keeps old new
+
+-- ---- laws
+
+-- What is printed of a text in the layout spells the keymap that the text spells.
+abbrev pub PrintedLayoutsSpellTheSame : Type 0
+PrintedLayoutsSpellTheSame =
+    (text laid : List ℕ) (after : Option (List ℕ))
+    → PrintsLayout {X = Unit {0}} (Some text) after (Some []) (Some laid) (Ok (tt {0}))
+    → (m : MapValue) × Spells text m × Spells laid m
+
+-- So does the layout that is handed out for a text.
+abbrev pub ChangedTextsSpellTheSame : Type 0
+ChangedTextsSpellTheSame =
+    (text laid : List ℕ) (after : Option (List ℕ)) → ChangesText (Some text) after laid
+    → (m : MapValue) × Spells text m × Spells laid m

@@ -1,13 +1,14 @@
 -- What the printed scripts do when they are played back.
-use Rattle.std.specs.Prelude.{◌≡◌, ◌⊎◌, ◌<◌, ◌^◌, ℕ, List, [], ◌++◌, map, reverse}
+use Rattle.std.specs.Prelude.{◌≡◌, ◌<◌, ◌^◌, ℕ, List, [], ◌++◌, Option, Some, None, codes, map, reverse}
 use Rattle.keymap_core.specs.Maps.{MapValue}
 use Rattle.console_core.specs.declared.outcome.Sticking.{Sticking}
 use Rattle.console_core.specs.declared.outcome.Sticking.TheVariants.{Sticks, Never, Undecided}
 use Rattle.console_core.specs.declared.event.Event.{Event}
 use Rattle.console_core.specs.History.{Maps, between}
-use Rattle.console_core.specs.Sticking.{LeavesOn, LeavesOnBetween}
+use Rattle.console_core.specs.Sticking.{HasFewestPresses, HasFewestPressesBetween, LeavesOn, LeavesOnBetween}
 use Rattle.keymap_text.specs.Meaning.{Spells}
 use Rattle.keymap_check.specs.Report.{report_of}
+use Rattle.keymap_check.specs.Scripts.{demonstration_of}
 use Rattle.keymap_cover.specs.declared.parts.Cover.{Cover}
 use Rattle.keymap_cover.specs.Covering.{Covers, events}
 use Rattle.play_core.specs.declared.sent.Sent.{Sent}
@@ -19,7 +20,6 @@ use Rattle.play_core.specs.Typing.{alone}
 use Rattle.play_core.specs.Written.{played_text}
 use Rattle.kmap_runs.specs.Cover.{sent_of_stroke}
 use Rattle.kmap_runs.specs.Report.{check_text}
-use Rattle.kmap_runs.specs.declared.words.TheConstants as words
 use Rattle.kmap_runs.specs.Search.{found_text}
 
 -- The text is a script, and played on a new console of the map alone it types the bytes.
@@ -28,35 +28,44 @@ pub record ScriptTypes (m : MapValue) (script bytes : List ℕ) : Type 0 where
   pub is : IsScript script sent
   pub typed : played_text show.Typed (alone m) sent ≡ bytes
 
--- The text is a script, and what it delivers is so.
-pub record Delivers (script : List ℕ) (IsSo : List Event → Type 0) : Type 0 where
+-- The text is a script, and it delivers exactly this list of events, the newest first.
+pub record Delivers (script : List ℕ) (h : List Event) : Type 0 where
   pub sent : List Sent
   pub is : IsScript script sent
-  pub so : IsSo (reverse (delivered sent))
+  pub nothing_else : (others : List Sent) → IsScript script others → others ≡ sent
+  pub delivers : reverse (delivered sent) ≡ h
 
--- The text is a script, and what it delivers leaves a modifier on while no key is pressed.
-abbrev pub ScriptSticks : MapValue → List ℕ → Type 0
-ScriptSticks m script = Delivers script (LeavesOn m)
-
--- What is printed of an answer of the search: a script that does so where a modifier sticks, and else one of no events.
--- A number of presses has 64 bits.
+-- What is printed of an answer of the search: where a modifier sticks, a script that delivers exactly the events of the
+-- answer, which are so; and else a script of no events. A number of presses has 64 bits.
 abbrev pub FoundReplays : (List Event → Type 0) → Sticking → Type 0
-FoundReplays IsSo (Sticks events on) = Delivers (found_text (Sticks events on)) IsSo
+FoundReplays IsSo (Sticks events on) =
+    Delivers (found_text (Sticks events on)) (reverse events.items) × IsSo (reverse events.items)
 FoundReplays IsSo Never = IsScript (found_text Never) []
 FoundReplays IsSo (Undecided p) = p < 2 ^ 64 → IsScript (found_text (Undecided p)) []
 
+-- These events leave a modifier on, by the fewest presses.
+abbrev pub SticksSoonest : MapValue → List Event → Type 0
+SticksSoonest m h = LeavesOn m h × HasFewestPresses m h
+
+abbrev pub SticksSoonestBetween : Maps → List Event → Type 0
+SticksSoonestBetween ms h = LeavesOnBetween ms h × HasFewestPressesBetween ms h
+
 abbrev pub AnswerReplays : MapValue → Sticking → Type 0
-AnswerReplays m found = FoundReplays (LeavesOn m) found
+AnswerReplays m found = FoundReplays (SticksSoonest m) found
 
 abbrev pub AnswerReplaysBetween : Maps → Sticking → Type 0
-AnswerReplaysBetween ms found = FoundReplays (LeavesOnBetween ms) found
+AnswerReplaysBetween ms found = FoundReplays (SticksSoonestBetween ms) found
 
--- Behind the report of the check stands that there is no demonstration, or a script that leaves a modifier on.
+-- Behind the report of the check stands that there is no demonstration, or a script that delivers exactly its events,
+-- which leave a modifier on.
+abbrev pub ShowsDemonstration : MapValue → Option (List Event) → List ℕ → Type 0
+ShowsDemonstration m None text = text ≡ check_text (report_of m) ++ codes "demonstration: none\n"
+ShowsDemonstration m (Some events) text =
+    (script : List ℕ) × (text ≡ check_text (report_of m) ++ (codes "demonstration:\n" ++ script))
+    × Delivers script (reverse events) × LeavesOn m (reverse events)
+
 abbrev pub ShowsScript : MapValue → List ℕ → Type 0
-ShowsScript m text =
-    (text ≡ check_text (report_of m) ++ words.NO_DEMONSTRATION.now)
-    ⊎ ((script : List ℕ) × (text ≡ check_text (report_of m) ++ (words.DEMONSTRATION.now ++ script))
-    × ScriptSticks m script)
+ShowsScript m text = ShowsDemonstration m (demonstration_of m) text
 
 -- ---- a script that tests a console
 

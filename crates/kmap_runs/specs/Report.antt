@@ -1,4 +1,4 @@
--- The report of the check, as text.
+-- The report of the check, as text. What is told stands at the places `{}` of its words.
 use Rattle.std.specs.Prelude.{ℕ, Bool, true, false, List, [], ◌∷◌, ◌++◌, codes, decimal, Option, None, Some}
 use Rattle.std.specs.Prelude.{if◌then◌else◌}
 use Rattle.std.specs.List.{flat_map}
@@ -14,15 +14,14 @@ use Rattle.keymap_check.specs.Report.{ReportValue, report_of, bearer_in, is_stea
 use Rattle.keymap_check.specs.Said.{finding_words}
 use Rattle.keymap_check.specs.Scripts.{demonstration_of}
 use Rattle.play_core.specs.Spelling.{event_line}
-use Rattle.kmap_runs.specs.declared.words.TheConstants as words
 use Rattle.messages.specs.Filled.{filled}
 
 abbrev pub holding_name : Holding → List ℕ
 holding_name a = name_of (holding_action a)
 
 abbrev pub verdict_line : List Finding → List ℕ
-verdict_line [] = words.ACCEPTED.now
-verdict_line (f ∷ fs) = words.REFUSED.now
+verdict_line [] = codes "accepted\n"
+verdict_line (f ∷ fs) = codes "refused\n"
 
 -- a key that bears a holding action and has a character
 abbrev pub finding_line : Finding → List ℕ
@@ -34,13 +33,13 @@ is_reported_steady r (holding.Mod m) = false
 is_reported_steady r (holding.Lock l) = is_steady_in r l
 
 abbrev pub steady_text : Bool → List ℕ
-steady_text is_steady = if is_steady then words.STEADY.now else []
+steady_text is_steady = if is_steady then codes " steady" else []
 
 abbrev pub bearer_line : Bearer → List ℕ → List ℕ → List ℕ
-bearer_line Nobody name steady = filled words.NOBODY.now (name ∷ steady ∷ [])
-bearer_line (Throughout k) name steady = filled words.THROUGHOUT.now (name ∷ decimal k ∷ steady ∷ [])
-bearer_line (Sole k) name steady = filled words.SOLE.now (name ∷ decimal k ∷ steady ∷ [])
-bearer_line Several name steady = filled words.SEVERAL.now (name ∷ steady ∷ [])
+bearer_line Nobody name steady = filled (codes "{} nobody{}\n") (name ∷ steady ∷ [])
+bearer_line (Throughout k) name steady = filled (codes "{} throughout {}{}\n") (name ∷ decimal k ∷ steady ∷ [])
+bearer_line (Sole k) name steady = filled (codes "{} sole {}{}\n") (name ∷ decimal k ∷ steady ∷ [])
+bearer_line Several name steady = filled (codes "{} several{}\n") (name ∷ steady ∷ [])
 
 abbrev pub holding_line : ReportValue → Holding → List ℕ
 holding_line r a = bearer_line (bearer_in r a) (holding_name a) (steady_text (is_reported_steady r a))
@@ -49,8 +48,8 @@ abbrev pub check_text : ReportValue → List ℕ
 check_text r = verdict_line r.findings ++ flat_map finding_line r.findings ++ flat_map (holding_line r) holdings
 
 abbrev pub demonstration_text : Option (List Event) → List ℕ
-demonstration_text None = words.NO_DEMONSTRATION.now
-demonstration_text (Some events) = words.DEMONSTRATION.now ++ flat_map event_line events
+demonstration_text None = codes "demonstration: none\n"
+demonstration_text (Some events) = codes "demonstration:\n" ++ flat_map event_line events
 
 -- the demonstration comes only where it is asked for
 abbrev pub shown_text : Bool → MapValue → List ℕ

@@ -1,59 +1,40 @@
 -- What the runs of the program do to the devices that they are lent.
-use Rattle.std.specs.Prelude.{◌≡◌, ◌↔◌, ◌⊎◌, IsTrue, ℕ, ◌<◌, Bool, true, false, List, [], All, Option, Some, None}
-use Rattle.std.specs.Prelude.{Result, Ok, Err, length, take, ⊤}
+use Rattle.std.specs.Prelude.{◌≡◌, ◌↔◌, IsTrue, ℕ, Bool, true, false, List, [], All, Option, Some, None}
+use Rattle.std.specs.Prelude.{Result, Ok, Err, ⊤}
 use Rattle.std.specs.Io.KnownBytes.{Appends}
 use Rattle.keymap_core.specs.Bounds.{IsMap}
 use Rattle.keymap_core.specs.Maps.{MapValue}
-use Rattle.keymap_core.specs.declared.transfer.WriteFault.{WriteFault}
 use Rattle.keymap_text.specs.Printed.{printed}
 use Rattle.keymap_tables.specs.declared.fault.TableError.{TableError}
 use Rattle.keymap_tables.specs.Fits.{Fits, IsFirstWide}
 use Rattle.keymap_tables.specs.Image.{image, narrow_image}
+use Rattle.keymap_tables.specs.Sources.{ReadsNarrow, ReadsTables}
 use Rattle.keymap_draw.specs.declared.board.Board.{Board}
 use Rattle.keymap_draw.specs.Pictures.{picture, drawing}
 use Rattle.keymap_draw.specs.Told.{AgreeWhereShown}
 use Rattle.keymap_draw.specs.WellFormed.{IsPlain, IsWellFormed}
 use Rattle.console_core.specs.declared.outcome.Sticking.{Sticking}
 use Rattle.console_core.specs.Headline.{IsSafe}
-use Rattle.console_core.specs.History.{Maps, between}
+use Rattle.keymap_check.specs.Promises.{KeepsPromise}
+use Rattle.console_core.specs.History.{between}
 use Rattle.console_core.specs.Moves.{alone}
 use Rattle.console_core.specs.Sticking.{IsAnswer, IsAnswerBetween, NeverSticks, ReachesMoreThan, state_limit}
 use Rattle.keymap_cover.specs.declared.parts.Cover.{Cover}
 use Rattle.keymap_cover.specs.Covering.{Covers}
 use Rattle.play_core.specs.declared.type_error.TypeError.TheVariants as type
-use Rattle.play_core.specs.declared.sent.Sent.{Sent}
-use Rattle.play_core.specs.declared.show.Show.{Show}
-use Rattle.play_core.specs.Scripts.{IsScript, IsScriptFault}
+use Rattle.play_core.specs.Runs.{Moves, moves, ReadsBoth, Runs, Stays}
 use Rattle.play_core.specs.Typing.{IsTyped, IsTypeError}
-use Rattle.play_core.specs.Written.{played_text}
 use Rattle.keymap_text.specs.Meaning.{Spells}
 use Rattle.keymap_text.specs.Sources.{TakesWhole}
 use Rattle.kmap_runs.specs.declared.fault_line.RunError.{RunError}
 use Rattle.kmap_runs.specs.declared.fault_line.RunError.TheVariants as error
-use Rattle.kmap_runs.specs.declared.fault_line.Source.TheVariants as source
 use Rattle.kmap_runs.specs.Cover.{cover_text}
-use Rattle.kmap_runs.specs.Inputs.{Moves, moves, Stays, ReadsKeymap, ReadsKeymaps, ReadsFile, ReadsWhole, ReadsBoth}
-use Rattle.kmap_runs.specs.Inputs.{maps_of}
+use Rattle.kmap_runs.specs.Inputs.{of_writer, ReadsBytes, ReadsFile, ReadsKeymaps, ReadsSentence, ReadsText}
 use Rattle.kmap_runs.specs.LintRuns.{IsLinted}
 use Rattle.kmap_runs.specs.Replayed.{ShowsCover}
 use Rattle.kmap_runs.specs.Report.{report}
 use Rattle.kmap_runs.specs.Search.{found_text, is_never}
 use Rattle.kmap_runs.specs.Typing.{typing_script}
-
--- The writer failed after the first bytes of the text.
-abbrev pub StopsWriting : RunError → List ℕ → Moves → Type 0
-StopsWriting e text out =
-    (f : WriteFault) × (e ≡ error.Write f) × (f.written < length text) × Appends out.old out.new (take f.written text)
-
--- A run: what was read gives an answer and a text, which was written, or its first bytes. Or it could not be read, or
--- was read and lacks a text for this reason, and then nothing was written.
-abbrev pub Runs : {V X : Type 0} → (Result V RunError → Type 0) → (V → RunError → Type 0) → (V → X → List ℕ → Type 0)
-    → Moves → Result X RunError → Type 0
-Runs {V = V} Reads Lacks Gives out (Ok x) =
-    (v : V) × (text : List ℕ) × Reads (Ok v) × Gives v x text × Appends out.old out.new text
-Runs {V = V} {X = X} Reads Lacks Gives out (Err e) =
-    ((v : V) × (x : X) × (text : List ℕ) × Reads (Ok v) × Gives v x text × StopsWriting e text out)
-    ⊎ ((Reads (Err e) ⊎ ((v : V) × Reads (Ok v) × Lacks v e)) × Stays out)
 
 abbrev pub LacksNothing : {V : Type 0} → V → RunError → Type 0
 LacksNothing v e = ⊥
@@ -77,16 +58,17 @@ abbrev pub Reports : Bool → MapValue → Bool → List ℕ → Type 0
 Reports show m accepted told = (IsTrue accepted ↔ IsSafe m) × (told ≡ report m show)
 
 abbrev pub ChecksText : Bool → Moves → Moves → Result Bool RunError → Type 0
-ChecksText show text out r = Runs (ReadsKeymap source.Text text) LacksNothing (Reports show) out r
+ChecksText show text out r = Runs of_writer (ReadsText text) LacksNothing (Reports show) out r
 
 -- the map of a file of tables as text; `Reads` says what reading the file answers
 abbrev pub DumpsFile : (Option (List ℕ) → Option (List ℕ) → Result MapValue TableError → Type 0) → Moves → Moves
     → Result (Unit {0}) RunError → Type 0
-DumpsFile Reads file out r = Runs (ReadsFile Reads file) LacksNothing (λ m _ told. told ≡ printed m) out r
+DumpsFile Reads file out r =
+    Runs of_writer (ReadsFile Reads file) LacksNothing (λ m _ told. told ≡ printed m) out r
 
 -- the table file of a map
 abbrev pub CompilesText : Moves → Moves → Result (Unit {0}) RunError → Type 0
-CompilesText text out r = Runs (ReadsKeymap source.Text text) LacksNothing (λ m _ told. told ≡ image m) out r
+CompilesText text out r = Runs of_writer (ReadsText text) LacksNothing (λ m _ told. IsMap m × (told ≡ image m)) out r
 
 -- the first character that doesn't fit in a narrow file
 abbrev pub LacksRoom : MapValue → RunError → Type 0
@@ -96,18 +78,18 @@ LacksRoom m _ = ⊥
 -- the narrow file of a map that fits
 abbrev pub CompilesNarrowly : Moves → Moves → Result (Unit {0}) RunError → Type 0
 CompilesNarrowly text out r =
-    Runs (ReadsKeymap source.Text text) LacksRoom (λ m _ told. Fits m × (told ≡ narrow_image m)) out r
+    Runs of_writer (ReadsText text) LacksRoom (λ m _ told. IsMap m × Fits m × (told ≡ narrow_image m)) out r
 
 -- the picture of a map on a board
 abbrev pub Draws : Board → MapValue → Unit {0} → List ℕ → Type 0
 Draws board m _ told = IsMap m × (told ≡ picture m board)
 
 abbrev pub DrawsText : Board → Moves → Moves → Result (Unit {0}) RunError → Type 0
-DrawsText board text out r = Runs (ReadsKeymap source.Text text) LacksMemory (Draws board) out r
+DrawsText board text out r = Runs of_writer (ReadsText text) LacksMemory (Draws board) out r
 
 -- whether no diagnostic is an error, and the diagnostics under the name of the file
 abbrev pub LintsText : List ℕ → Moves → Moves → Result Bool RunError → Type 0
-LintsText file text out r = Runs (ReadsWhole source.Text text) LacksMemory (IsLinted file) out r
+LintsText file text out r = Runs of_writer (ReadsBytes text) LacksMemory (IsLinted file) out r
 
 -- the answer of the search to the maps of one text, or of two
 abbrev pub IsFound : MapValue × Option MapValue → Sticking → Type 0
@@ -120,7 +102,7 @@ Finds v never told =
     (found : Sticking) × IsFound v found × (never ≡ is_never found) × (told ≡ found_text found)
 
 abbrev pub SearchesTexts : Moves → Option Moves → Moves → Result Bool RunError → Type 0
-SearchesTexts text next out r = Runs (ReadsKeymaps text next) LacksMemory Finds out r
+SearchesTexts text next out r = Runs of_writer (ReadsKeymaps text next) LacksMemory Finds out r
 
 -- why no script is printed for a map
 abbrev pub LacksCover : MapValue → RunError → Type 0
@@ -133,7 +115,7 @@ abbrev pub IsCovered : MapValue → Unit {0} → List ℕ → Type 0
 IsCovered m _ told = (c : Cover) × Covers m c × (told ≡ cover_text m c)
 
 abbrev pub CoversText : Moves → Moves → Result (Unit {0}) RunError → Type 0
-CoversText text out r = Runs (ReadsKeymap source.Text text) LacksCover IsCovered out r
+CoversText text out r = Runs of_writer (ReadsText text) LacksCover IsCovered out r
 
 -- why the bytes of a sentence aren't typed
 abbrev pub LacksScript : MapValue → List ℕ → RunError → Type 0
@@ -148,25 +130,32 @@ Types m bytes told = (cs : List ℕ) × IsTyped m bytes cs × (told ≡ typing_s
 
 abbrev pub TypesSentence : Moves → Moves → Moves → Result (Unit {0}) RunError → Type 0
 TypesSentence text sentence out r =
-    Runs (ReadsBoth (ReadsKeymap source.Text text) (ReadsWhole source.Sentence sentence) (Stays sentence))
+    Runs of_writer (ReadsBoth (ReadsText text) (ReadsSentence sentence) (Stays sentence))
     (λ v e. LacksScript v.0 v.1 e) (λ v _ told. Types v.0 v.1 told) out r
 
--- why the bytes of a script are no events
-abbrev pub LacksEvents : List ℕ → RunError → Type 0
-LacksEvents bytes error.Memory = ⊤
-LacksEvents bytes (error.Script f) = IsScriptFault bytes f
-LacksEvents bytes _ = ⊥
-
--- what is shown of the events of the script on two maps
-abbrev pub Plays : Show → Maps → List ℕ → List ℕ → Type 0
-Plays show ms bytes told = (sent : List Sent) × IsScript bytes sent × (told ≡ played_text show ms sent)
-
-abbrev pub PlaysTexts : Show → Moves → Option Moves → Moves → Moves → Result (Unit {0}) RunError → Type 0
-PlaysTexts show text next script out r =
-    Runs (ReadsBoth (ReadsKeymaps text next) (ReadsWhole source.Script script) (Stays script))
-    (λ v e. LacksEvents v.1 e) (λ v _ told. Plays show (maps_of v.0) v.1 told) out r
-
 -- ---- laws
+
+-- A text that the check accepts spells a keymap that keeps the promise.
+abbrev pub AcceptedKeepTheirPromise : Type 0
+AcceptedKeepTheirPromise =
+    (show : Bool) (text out : Moves) → ChecksText show text out (Ok true)
+    → (m : MapValue) × ReadsText text (Ok m) × KeepsPromise m
+
+-- One file is compiled of a text and then dumped as another text: both spell the same keymap.
+abbrev pub CompiledAreDumped : Type 0
+CompiledAreDumped =
+    (text file told : List ℕ) (t u : Option (List ℕ))
+    → CompilesText (moves (Some text) t) (moves (Some []) (Some file)) (Ok (tt {0}))
+    → DumpsFile ReadsTables (moves (Some file) u) (moves (Some []) (Some told)) (Ok (tt {0}))
+    → (m : MapValue) × Spells text m × Spells told m
+
+-- the same of a narrow file
+abbrev pub CompiledNarrowlyAreDumped : Type 0
+CompiledNarrowlyAreDumped =
+    (text file told : List ℕ) (t u : Option (List ℕ))
+    → CompilesNarrowly (moves (Some text) t) (moves (Some []) (Some file)) (Ok (tt {0}))
+    → DumpsFile ReadsNarrow (moves (Some file) u) (moves (Some []) (Some told)) (Ok (tt {0}))
+    → (m : MapValue) × Spells text m × Spells told m
 
 -- What is drawn, whatever the text is: bytes that are well formed and printable ASCII.
 abbrev pub DrawnAreWellFormed : Type 0
@@ -180,7 +169,7 @@ DrawnTellKeymaps =
     (board another : Board) (text other : Moves) (drawn : List ℕ)
     → DrawsText board text (moves (Some []) (Some drawn)) (Ok (tt {0}))
     → DrawsText another other (moves (Some []) (Some drawn)) (Ok (tt {0}))
-    → (m n : MapValue) × ReadsKeymap source.Text text (Ok m) × ReadsKeymap source.Text other (Ok n)
+    → (m n : MapValue) × ReadsText text (Ok m) × ReadsText other (Ok n)
     × AgreeWhereShown (drawing m board) (drawing n another)
 
 -- A text that is called well spells a keymap under which no list of presses and releases leaves a modifier on.
@@ -193,5 +182,5 @@ WellLintedNeverStick =
 abbrev pub PrintedCoversAreScripts : Type 0
 PrintedCoversAreScripts =
     (text out : Moves) → CoversText text out (Ok (tt {0}))
-    → (m : MapValue) × (script : List ℕ) × ReadsKeymap source.Text text (Ok m) × Appends out.old out.new script
+    → (m : MapValue) × (script : List ℕ) × ReadsText text (Ok m) × Appends out.old out.new script
     × ShowsCover m script

@@ -1,11 +1,12 @@
 //! The run that prints a script which shows a console what a keymap can do.
 ghost use Rattle.std.specs.Prelude.{◌≡◌, ◌||◌, IfOk, IfErr};
-ghost use Rattle.kmap_runs.specs.Inputs.{blames, moves};
+ghost use Rattle.kmap_runs.specs.Inputs.{blames_text};
 ghost use Rattle.kmap_runs.specs.Runs.{CoversText, IsCovered, LacksCover, blames_writer};
+ghost use Rattle.play_core.specs.Runs.{moves};
 
 use crate::cover::cover_text;
-use crate::fault_line::{RunError, Source};
-use crate::inputs::read_keymap;
+use crate::fault_line::RunError;
+use crate::inputs::read_text;
 use keymap_core::{KeyMap, Read, Write, write_text};
 use keymap_cover::cover_of;
 use std::alloc::{AllocError, Global};
@@ -35,10 +36,10 @@ pub fn cover_run<R: Read, W: Write>(
 ) -> Result<(), RunError>
     ensures run { CoversText (moves (R.remaining reader.old) (R.remaining reader.new))
         (moves (W.contents writer.old) (W.contents writer.new)) result }
-    ensures reader_failed { R.has_failed reader.new ≡ (blames Source.Text result || R.has_failed reader.old) }
+    ensures reader_failed { R.has_failed reader.new ≡ (blames_text result || R.has_failed reader.old) }
     ensures writer_failed { W.has_failed writer.new ≡ (blames_writer result || W.has_failed writer.old) }
 {
-    let map = read_keymap(alloc, Source::Text, reader)?;
+    let map = read_text(alloc, reader)?;
     let told = covered(alloc, &map)?;
     match write_text(writer, told.as_slice()) {
         Ok(()) => Ok(()),

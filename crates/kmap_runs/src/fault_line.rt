@@ -8,34 +8,34 @@ use keymap_core::{ReadFault, ReadFaultKind, Write, WriteFault, code_text, write_
 use keymap_lint_text::shown_name;
 use keymap_tables::{TableFault, TableFaultKind, Wide};
 use keymap_text::TextFault;
-use messages::{Line, filled, line, number};
-use play_core::ScriptFault;
+use messages::{Line, filled, line, number, small};
+use play_core::{PlayError, ScriptFault, Source};
 use std::alloc::{AllocError, Global};
 use thiserror::Error;
-
-/// What a run reads.
-#[derive(Clone, Copy, Debug, PartialEq, Eq)]
-pub enum Source {
-    Text,
-    Next,
-    Script,
-    Tables,
-    Sentence,
-}
 
 /// Why a run failed. `write_run_error` writes the line that tells it.
 #[derive(Clone, Copy, Debug, PartialEq, Eq, Error)]
 pub enum RunError {
     #[error("out of memory")]
     Memory,
-    #[error("{0:?} is faulty")]
-    Text(Source, TextFault),
+    #[error("the text is faulty")]
+    Text(TextFault),
+    #[error("the next text is faulty")]
+    Next(TextFault),
     #[error("the script is faulty")]
     Script(ScriptFault),
     #[error("the tables are faulty")]
     Tables(TableFault),
-    #[error("{0:?} cannot be read")]
-    Read(Source, ReadFault),
+    #[error("the text cannot be read")]
+    ReadText(ReadFault),
+    #[error("the next text cannot be read")]
+    ReadNext(ReadFault),
+    #[error("the script cannot be read")]
+    ReadScript(ReadFault),
+    #[error("the tables cannot be read")]
+    ReadTables(ReadFault),
+    #[error("the sentence cannot be read")]
+    ReadSentence(ReadFault),
     #[error("the sentence is not UTF-8")]
     NotText { offset: u64 },
     #[error("no key types a character of the sentence")]
@@ -50,7 +50,29 @@ pub enum RunError {
     Write(WriteFault),
 }
 
-// The lines, with a place for each thing that is told.
+/// What playing a script answers is told as by any other run.
+impl From<PlayError> for RunError {
+    ghost use Rattle.std.specs.Prelude.{◌≡◌};
+    ghost use Rattle.kmap_runs.specs.Inputs.{of_playing};
+
+    ghost from_gives = { λ e r. r ≡ of_playing e };
+
+    fn from(error: PlayError) -> RunError {
+        match error {
+            PlayError::Memory => RunError::Memory,
+            PlayError::Text(fault) => RunError::Text(fault),
+            PlayError::Next(fault) => RunError::Next(fault),
+            PlayError::Script(fault) => RunError::Script(fault),
+            PlayError::Read(Source::Text, fault) => RunError::ReadText(fault),
+            PlayError::Read(Source::Next, fault) => RunError::ReadNext(fault),
+            PlayError::Read(Source::Script, fault) => RunError::ReadScript(fault),
+            PlayError::Write(fault) => RunError::Write(fault),
+        }
+    }
+}
+
+// The lines, with a place for each thing that is told. The definitions have these bytes of their own, which are proved
+// to be the same.
 pub(crate) const MEMORY: &[u8] = b"kmap: out of memory\n";
 
 pub(crate) const TEXT: &[u8] = b"kmap: {} line {} offset {}: {}\n";
@@ -83,19 +105,6 @@ pub(crate) const OF_FILE: &[u8] = b"kmap: {}: {}";
 /// How many bytes `kmap: ` has, with which each line begins.
 const FRONT: usize = 6;
 
-fn source_name(source: Source) -> &'static [u8]
-    ensures name { result.now ≡ spec.source_name source }
-    ensures bound { length result.now ≤ 8 }
-{
-    match source {
-        Source::Text => b"text",
-        Source::Next => b"next",
-        Source::Script => b"script",
-        Source::Tables => b"tables",
-        Source::Sentence => b"sentence",
-    }
-}
-
 fn table_kind_name(kind: TableFaultKind) -> &'static [u8]
     ensures name { result.now ≡ table_kind kind }
     ensures bound { length result.now ≤ 12 }
@@ -113,10 +122,11 @@ fn table_kind_name(kind: TableFaultKind) -> &'static [u8]
     }
 }
 
-fn text_fault(source: Source, fault: &TextFault) -> Line
-    ensures { result.items ≡ spec.text_fault source fault.now }
+/// The line on a fault of a text, which is named by a word of at most eight bytes.
+fn text_fault(source: &'static [u8], fault: &TextFault) -> Line
+    requires { length source.now ≤ 8 }
+    ensures { result.items ≡ spec.text_fault source.now fault.now }
 {
-    let source = source_name(source);
     let (at, offset) = (number(fault.line), number(fault.offset));
     let kind = fault.kind.name();
     line(TEXT, &[source, at.as_slice(), offset.as_slice(), kind])
@@ -138,10 +148,11 @@ fn table_fault(fault: &TableFault) -> Line
     line(TABLES, &[number(fault.offset).as_slice(), kind])
 }
 
-fn read_fault(source: Source, fault: &ReadFault) -> Line
-    ensures { result.items ≡ spec.read_fault source fault.now }
+/// The line on a reader, which is named by a word of at most eight bytes.
+fn read_fault(source: &'static [u8], fault: &ReadFault) -> Line
+    requires { length source.now ≤ 8 }
+    ensures { result.items ≡ spec.read_fault source.now fault.now }
 {
-    let source = source_name(source);
     match fault.kind {
         ReadFaultKind::Device => line(READ, &[source, number(fault.offset).as_slice()]),
         ReadFaultKind::Endless => line(ENDLESS, &[source]),
@@ -151,15 +162,23 @@ fn read_fault(source: Source, fault: &ReadFault) -> Line
 fn too_wide(wide: &Wide) -> Line
     ensures { result.items ≡ spec.too_wide wide.now }
 {
-    let (words, at, place) = match wide {
-        Wide::Cell { slot, column } => (WIDE_CELL, slot, column),
-        Wide::Accent { accent, number } => (WIDE_ACCENT, accent, number),
-    };
-    let at = number(u64::from(*at));
-    line(
-        words,
-        &[at.as_slice(), number(u64::from(*place)).as_slice()],
-    )
+    match wide {
+        Wide::Cell { slot, column } => line(
+            WIDE_CELL,
+            &[small(*slot).as_slice(), small(*column).as_slice()],
+        ),
+        Wide::Accent { accent, number } => line(
+            WIDE_ACCENT,
+            &[small(*accent).as_slice(), small(*number).as_slice()],
+        ),
+    }
+}
+
+fn no_way(offset: u64, c: char) -> Line
+    ensures { result.items ≡ spec.fault_line (RunError.NoWay offset c) }
+{
+    let c = code_text(c);
+    line(NO_WAY, &[number(offset).as_slice(), c.as_slice()])
 }
 
 /// The line of an error, with its end.
@@ -168,15 +187,17 @@ fn line_of(error: &RunError) -> Line
 {
     match error {
         RunError::Memory => line(MEMORY, &[]),
-        RunError::Text(source, fault) => text_fault(*source, fault),
+        RunError::Text(fault) => text_fault(b"text", fault),
+        RunError::Next(fault) => text_fault(b"next", fault),
         RunError::Script(fault) => script_fault(fault),
         RunError::Tables(fault) => table_fault(fault),
-        RunError::Read(source, fault) => read_fault(*source, fault),
+        RunError::ReadText(fault) => read_fault(b"text", fault),
+        RunError::ReadNext(fault) => read_fault(b"next", fault),
+        RunError::ReadScript(fault) => read_fault(b"script", fault),
+        RunError::ReadTables(fault) => read_fault(b"tables", fault),
+        RunError::ReadSentence(fault) => read_fault(b"sentence", fault),
         RunError::NotText { offset } => line(NOT_TEXT, &[number(*offset).as_slice()]),
-        RunError::NoWay { offset, c } => {
-            let c = code_text(*c);
-            line(NO_WAY, &[number(*offset).as_slice(), c.as_slice()])
-        }
+        RunError::NoWay { offset, c } => no_way(*offset, *c),
         RunError::TooWide(wide) => too_wide(wide),
         RunError::TooLong => line(TOO_LONG, &[]),
         RunError::TooManyStates => line(TOO_MANY_STATES, &[]),

@@ -1,11 +1,11 @@
 //! The runs that lay a text out.
 ghost use Rattle.std.specs.Prelude.{◌≡◌, ◌||◌, MatchOption, MatchResult};
 ghost use Rattle.kmap_runs.specs.FmtRuns as spec;
-ghost use Rattle.kmap_runs.specs.Inputs.{blames};
+ghost use Rattle.kmap_runs.specs.Inputs.{blames_text};
 ghost use Rattle.kmap_runs.specs.Runs.{blames_writer};
 
-use crate::fault_line::{RunError, Source};
-use crate::inputs::read_whole;
+use crate::fault_line::RunError;
+use crate::inputs::read_text_bytes;
 use keymap_core::{Read, Write, write_text};
 use keymap_fmt::{FormatError, format};
 use std::alloc::Global;
@@ -15,7 +15,7 @@ fn format_failure(error: FormatError) -> RunError
 {
     match error {
         FormatError::Memory => RunError::Memory,
-        FormatError::Fault(fault) => RunError::Text(Source::Text, fault),
+        FormatError::Fault(fault) => RunError::Text(fault),
         FormatError::TooLong => RunError::TooLong,
     }
 }
@@ -25,9 +25,9 @@ fn read_and_laid_out<R: Read>(alloc: Global, reader: &mut R) -> Result<(Vec<u8>,
     ensures reads { MatchResult result
         (λ r. spec.LaysOut (R.remaining reader.old) (R.remaining reader.new) r.0.items r.1.items)
         (spec.RefusesLayout (R.remaining reader.old) (R.remaining reader.new)) }
-    ensures failed { R.has_failed reader.new ≡ (blames Source.Text result || R.has_failed reader.old) }
+    ensures failed { R.has_failed reader.new ≡ (blames_text result || R.has_failed reader.old) }
 {
-    let text = read_whole(alloc, Source::Text, reader)?;
+    let text = read_text_bytes(alloc, reader)?;
     match format(alloc, text.as_slice()) {
         Ok(laid) => Ok((text, laid)),
         Err(error) => Err(format_failure(error)),
@@ -40,7 +40,7 @@ pub fn fmt_run<R: Read>(alloc: Global, reader: &mut R) -> Result<Option<Vec<u8>>
         (λ told. MatchOption told (spec.IsInLayout (R.remaining reader.old) (R.remaining reader.new))
         (λ laid. spec.ChangesText (R.remaining reader.old) (R.remaining reader.new) laid.items))
         (spec.RefusesLayout (R.remaining reader.old) (R.remaining reader.new)) }
-    ensures reader_failed { R.has_failed reader.new ≡ (blames Source.Text result || R.has_failed reader.old) }
+    ensures reader_failed { R.has_failed reader.new ≡ (blames_text result || R.has_failed reader.old) }
 {
     let (text, laid) = read_and_laid_out(alloc, reader)?;
     if text.as_slice() == laid.as_slice() {
@@ -58,7 +58,7 @@ pub fn fmt_print_run<R: Read, W: Write>(
 ) -> Result<(), RunError>
     ensures run { spec.PrintsLayout (R.remaining reader.old) (R.remaining reader.new) (W.contents writer.old)
         (W.contents writer.new) result }
-    ensures reader_failed { R.has_failed reader.new ≡ (blames Source.Text result || R.has_failed reader.old) }
+    ensures reader_failed { R.has_failed reader.new ≡ (blames_text result || R.has_failed reader.old) }
     ensures writer_failed { W.has_failed writer.new ≡ (blames_writer result || W.has_failed writer.old) }
 {
     let (_, laid) = read_and_laid_out(alloc, reader)?;

@@ -1,4 +1,5 @@
-//! Laws of the definitions: what is printed as a script is one. No function here does anything.
+//! Laws of the runs: what is printed as a script is one, and what a command says or writes of a text is so of its keymap.
+//! No function here does anything.
 ghost use Rattle.std.specs.Prelude.{◌≡◌, List, [], ℕ, map, Option, Some, None, Ok, true};
 ghost use Rattle.keymap_core.specs.Maps.{MapValue};
 ghost use Rattle.keymap_cover.specs.Covering.{events};
@@ -6,6 +7,8 @@ ghost use Rattle.keymap_cover.specs.declared.parts.Cover.{Cover as CoverValue};
 ghost use Rattle.console_core.specs.declared.outcome.Sticking.{Sticking as StickingValue};
 ghost use Rattle.console_core.specs.History.{HasKeys, Maps};
 ghost use Rattle.console_core.specs.Sticking.{IsAnswer, IsAnswerBetween};
+ghost use Rattle.play_core.specs.Playing.{Plays};
+ghost use Rattle.play_core.specs.Runs.{moves};
 ghost use Rattle.play_core.specs.Scripts.{IsScript};
 ghost use Rattle.play_core.specs.declared.show.Show.{Show as ShowValue};
 ghost use Rattle.play_core.specs.declared.show.Show.TheVariants as show;
@@ -15,13 +18,18 @@ ghost use Rattle.kmap_runs.specs.Cover.{cover_text};
 ghost use Rattle.kmap_runs.specs.Report.{report};
 ghost use Rattle.kmap_runs.specs.Replayed.{ScriptTypes, AnswerReplays, AnswerReplaysBetween, ShowsScript};
 ghost use Rattle.kmap_runs.specs.Replayed.{PlaysCover, strokes_sent};
-ghost use Rattle.kmap_runs.specs.Inputs.{moves};
+ghost use Rattle.kmap_runs.specs.FmtRuns.{ChangedTextsSpellTheSame, PrintedLayoutsSpellTheSame};
+ghost use Rattle.kmap_runs.specs.Runs.{AcceptedKeepTheirPromise, CompiledAreDumped, CompiledNarrowlyAreDumped};
 ghost use Rattle.kmap_runs.specs.Runs.{CoversText, DrawnAreWellFormed, DrawnTellKeymaps};
-ghost use Rattle.kmap_runs.specs.Runs.{PlaysTexts, PrintedCoversAreScripts, TypesSentence, WellLintedNeverStick};
+ghost use Rattle.kmap_runs.specs.Runs.{PrintedCoversAreScripts, TypesSentence, WellLintedNeverStick};
 ghost use Rattle.kmap_runs.specs.Typing.{typing_script};
 
+use keymap_check::laws::safe_maps_keep_their_promise;
 use keymap_draw::laws::{pictures_are_plain, pictures_are_well_formed, pictures_tell_keymaps};
+use keymap_fmt::laws::keymap_stays;
 use keymap_lint::laws::well_texts_never_stick;
+use keymap_tables::laws::{an_image_has_one_map, images_are_whole};
+use keymap_text::laws::printed_form_spells;
 
 /// What is printed to type characters is a script of exactly the events of their ways.
 pub fn typing_scripts_send_the_ways()
@@ -33,9 +41,10 @@ pub fn typing_scripts_type_the_sentence()
     ensures { (m : MapValue) (bytes cs : List ℕ) → IsTyped m bytes cs → ScriptTypes m (typing_script m cs) bytes }
 {}
 
-/// What is printed of an answer of the search is a script: where it found a list, one that leaves a modifier on while
-/// no key is pressed, between the same two keymaps where it has loads, and else one of no events.
-pub fn found_scripts_leave_a_modifier_on()
+/// What is printed of an answer of the search is a script: where it found a list, one that delivers exactly this list,
+/// which leaves a modifier on while no key is pressed, by the fewest presses, between the same two keymaps where it has
+/// loads; and else one of no events.
+pub fn found_scripts_deliver_the_answer()
     ensures alone { (m : MapValue) (found : StickingValue) → IsAnswer m found → AnswerReplays m found }
     ensures between { (ms : Maps) (found : StickingValue) → IsAnswerBetween ms found → AnswerReplaysBetween ms found }
 {}
@@ -44,14 +53,13 @@ pub fn found_scripts_leave_a_modifier_on()
 pub fn typed_sentences_come_back()
     ensures { (text sentence script typed : List ℕ) (t s u v : Option (List ℕ))
         → TypesSentence (moves (Some text) t) (moves (Some sentence) s) (moves (Some []) (Some script)) (Ok tt)
-        → PlaysTexts show.Typed (moves (Some text) u) None (moves (Some script) v) (moves (Some []) (Some typed))
-        (Ok tt)
+        → Plays show.Typed (moves (Some text) u) (moves (Some script) v) (moves (Some []) (Some typed)) (Ok tt)
         → typed ≡ sentence }
 {}
 
-/// Behind the report of a keymap stands `demonstration: none`, or `demonstration:` and a script that leaves a modifier
-/// on while no key is pressed.
-pub fn demonstrations_leave_a_modifier_on()
+/// Behind the report of a keymap stands `demonstration: none`, or `demonstration:` and a script that delivers exactly
+/// the events of the demonstration, which leave a modifier on while no key is pressed.
+pub fn printed_demonstrations_leave_a_modifier_on()
     ensures { (m : MapValue) → ShowsScript m (report m true) }
 {}
 
@@ -72,7 +80,7 @@ pub fn printed_covers_are_scripts()
 pub fn printed_covers_are_played()
     ensures { (show : ShowValue) (text script told : List ℕ) (t u v : Option (List ℕ))
         → CoversText (moves (Some text) t) (moves (Some []) (Some script)) (Ok tt)
-        → PlaysTexts show (moves (Some text) u) None (moves (Some script) v) (moves (Some []) (Some told)) (Ok tt)
+        → Plays show (moves (Some text) u) (moves (Some script) v) (moves (Some []) (Some told)) (Ok tt)
         → PlaysCover show text told }
 {}
 
@@ -98,4 +106,31 @@ pub fn well_linted_texts_never_stick()
     ensures { WellLintedNeverStick }
 {
     well_texts_never_stick();
+}
+
+/// A text that the run of the check accepts spells a keymap that keeps the promise.
+pub fn accepted_texts_keep_their_promise()
+    ensures { AcceptedKeepTheirPromise }
+{
+    safe_maps_keep_their_promise();
+}
+
+/// What is compiled of a text and then dumped is a text that spells the same keymap, by way of a table file and of a
+/// narrow one.
+pub fn compiled_texts_are_dumped()
+    ensures tables { CompiledAreDumped }
+    ensures narrow { CompiledNarrowlyAreDumped }
+{
+    images_are_whole();
+    an_image_has_one_map();
+    printed_form_spells();
+}
+
+/// What is printed of a text in the layout, and what is handed out for a file to be replaced, spells the keymap that
+/// the text spells.
+pub fn laid_out_texts_spell_the_same()
+    ensures printed { PrintedLayoutsSpellTheSame }
+    ensures changed { ChangedTextsSpellTheSame }
+{
+    keymap_stays();
 }

@@ -1,17 +1,17 @@
 //! The runs of the program `kmap` over any reader and writer, and the line that tells why a run failed.
 //!
 //! `check_run` writes the report of the check on the map that a text spells, `search_run` what the search for sticking
-//! modifiers found, under one map or between those of two texts; `play_run` plays a script on them; `lint_run` writes
-//! the diagnostics of a text, `fmt_print_run` the text in the layout, which `fmt_run` hands out where it differs,
-//! `draw_run` a picture of its map, and `type_run` a script that types a sentence; `compile_run` and
-//! `compile_narrow_run` write the table file of a text, `dump_run` and `dump_narrow_run` print the map of one.
-//! `write_run_error` writes the line of the `RunError` that any of them answers.
+//! modifiers found, under one map or between those of two texts; `lint_run` writes the diagnostics of a text,
+//! `fmt_print_run` the text in the layout, which `fmt_run` hands out where it differs, `draw_run` a picture of its map,
+//! and `type_run` a script that types a sentence; `compile_run` and `compile_narrow_run` write the table file of a text,
+//! `dump_run` and `dump_narrow_run` print the map of one. Playing is `play` and `play_next` of `play_core`, whose
+//! errors `RunError` takes over. `write_run_error` writes the line of the `RunError` that any of them answers.
 //!
 //! It stands on all other libraries of the workspace but that for C, and on nothing that opens files or reads a
-//! command line. Each contract says with one definition, `Runs` (`specs/Runs.antt`), which inputs were read to which
-//! values (`specs/Inputs.antt`), and which text was given of them: it was written, or after a fault of the writer its
-//! first bytes, and nothing after any other refusal; a device is blamed only if it failed. The module `laws` says that
-//! what is printed as a script is one, and what it does when it is played.
+//! command line. Each contract says with one definition, `Runs` of `play_core`, which inputs were read to which values
+//! (`specs/Inputs.antt`), and which text was given of them (`specs/Runs.antt`): it was written, or after a fault of the
+//! writer its first bytes, and nothing after any other refusal; a device is blamed only if it failed. The module `laws`
+//! says that what is printed as a script is one, and what it does when it is played.
 #![tactic(auto)]
 
 mod cover;
@@ -22,7 +22,6 @@ mod fmt_runs;
 mod inputs;
 pub mod laws;
 mod lint_runs;
-mod play_runs;
 mod report;
 mod runs;
 mod search;
@@ -32,10 +31,9 @@ mod typing;
 mod words;
 
 pub use cover_runs::cover_run;
-pub use fault_line::{RunError, Source, file_error_line, write_run_error};
+pub use fault_line::{RunError, file_error_line, write_run_error};
 pub use fmt_runs::{fmt_print_run, fmt_run};
 pub use lint_runs::lint_run;
-pub use play_runs::play_run;
 pub use runs::{check_run, compile_narrow_run, compile_run, draw_run, dump_narrow_run, dump_run};
 pub use search_runs::search_run;
 pub use type_runs::type_run;

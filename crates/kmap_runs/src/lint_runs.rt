@@ -1,11 +1,12 @@
 //! The run that prints the diagnostics of a text.
 ghost use Rattle.std.specs.Prelude.{◌≡◌, ◌||◌, IfOk};
-ghost use Rattle.kmap_runs.specs.Inputs.{blames, moves};
+ghost use Rattle.kmap_runs.specs.Inputs.{blames_text};
 ghost use Rattle.kmap_runs.specs.LintRuns as spec;
 ghost use Rattle.kmap_runs.specs.Runs.{LintsText, blames_writer};
+ghost use Rattle.play_core.specs.Runs.{moves};
 
-use crate::fault_line::{RunError, Source};
-use crate::inputs::read_whole;
+use crate::fault_line::RunError;
+use crate::inputs::read_text_bytes;
 use keymap_core::{Read, Write, write_text};
 use keymap_lint::diagnostics;
 use keymap_lint_text::lint_text;
@@ -30,10 +31,10 @@ pub fn lint_run<R: Read, W: Write>(
 ) -> Result<bool, RunError>
     ensures run { LintsText file.now (moves (R.remaining reader.old) (R.remaining reader.new))
         (moves (W.contents writer.old) (W.contents writer.new)) result }
-    ensures reader_failed { R.has_failed reader.new ≡ (blames Source.Text result || R.has_failed reader.old) }
+    ensures reader_failed { R.has_failed reader.new ≡ (blames_text result || R.has_failed reader.old) }
     ensures writer_failed { W.has_failed writer.new ≡ (blames_writer result || W.has_failed writer.old) }
 {
-    let source = read_whole(alloc, Source::Text, reader)?;
+    let source = read_text_bytes(alloc, reader)?;
     let Ok((is_well, told)) = linted(alloc, file, source.as_slice()) else {
         return Err(RunError::Memory);
     };

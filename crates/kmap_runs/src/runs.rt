@@ -1,12 +1,13 @@
 //! The runs of the program over any reader and writer.
 ghost use Rattle.std.specs.Prelude.{◌≡◌, ◌||◌, []};
 ghost use Rattle.keymap_tables.specs.Sources.{ReadsTables, ReadsNarrow};
-ghost use Rattle.kmap_runs.specs.Inputs.{blames, moves};
+ghost use Rattle.kmap_runs.specs.Inputs.{blames_tables, blames_text};
 ghost use Rattle.kmap_runs.specs.Runs.{ChecksText, CompilesNarrowly, CompilesText, DrawsText, DumpsFile, Reports};
 ghost use Rattle.kmap_runs.specs.Runs.{blames_writer};
+ghost use Rattle.play_core.specs.Runs.{moves};
 
-use crate::fault_line::{RunError, Source};
-use crate::inputs::{read_keymap, read_narrow_file, read_table_file};
+use crate::fault_line::RunError;
+use crate::inputs::{read_narrow_file, read_table_file, read_text};
 use crate::report::{Text, append_report};
 use keymap_check::check;
 use keymap_core::laws::every_keymap_is_within_the_bounds;
@@ -37,10 +38,10 @@ pub fn check_run<R: Read, W: Write>(
 ) -> Result<bool, RunError>
     ensures run { ChecksText show (moves (R.remaining reader.old) (R.remaining reader.new))
         (moves (W.contents writer.old) (W.contents writer.new)) result }
-    ensures reader_failed { R.has_failed reader.new ≡ (blames Source.Text result || R.has_failed reader.old) }
+    ensures reader_failed { R.has_failed reader.new ≡ (blames_text result || R.has_failed reader.old) }
     ensures writer_failed { W.has_failed writer.new ≡ (blames_writer result || W.has_failed writer.old) }
 {
-    let map = read_keymap(alloc, Source::Text, reader)?;
+    let map = read_text(alloc, reader)?;
     let mut told = Text::new();
     let accepted = reported(&map, show, &mut told);
     match write_text(writer, told.as_slice()) {
@@ -57,7 +58,7 @@ pub fn dump_run<R: Read, W: Write>(
 ) -> Result<(), RunError>
     ensures run { DumpsFile ReadsTables (moves (R.remaining reader.old) (R.remaining reader.new))
         (moves (W.contents writer.old) (W.contents writer.new)) result }
-    ensures reader_failed { R.has_failed reader.new ≡ (blames Source.Tables result || R.has_failed reader.old) }
+    ensures reader_failed { R.has_failed reader.new ≡ (blames_tables result || R.has_failed reader.old) }
     ensures writer_failed { W.has_failed writer.new ≡ (blames_writer result || W.has_failed writer.old) }
 {
     let map = read_table_file(alloc, reader)?;
@@ -72,7 +73,7 @@ pub fn dump_narrow_run<R: Read, W: Write>(
 ) -> Result<(), RunError>
     ensures run { DumpsFile ReadsNarrow (moves (R.remaining reader.old) (R.remaining reader.new))
         (moves (W.contents writer.old) (W.contents writer.new)) result }
-    ensures reader_failed { R.has_failed reader.new ≡ (blames Source.Tables result || R.has_failed reader.old) }
+    ensures reader_failed { R.has_failed reader.new ≡ (blames_tables result || R.has_failed reader.old) }
     ensures writer_failed { W.has_failed writer.new ≡ (blames_writer result || W.has_failed writer.old) }
 {
     let narrow = read_narrow_file(alloc, reader)?;
@@ -87,10 +88,11 @@ pub fn compile_run<R: Read, W: Write>(
 ) -> Result<(), RunError>
     ensures run { CompilesText (moves (R.remaining reader.old) (R.remaining reader.new))
         (moves (W.contents writer.old) (W.contents writer.new)) result }
-    ensures reader_failed { R.has_failed reader.new ≡ (blames Source.Text result || R.has_failed reader.old) }
+    ensures reader_failed { R.has_failed reader.new ≡ (blames_text result || R.has_failed reader.old) }
     ensures writer_failed { W.has_failed writer.new ≡ (blames_writer result || W.has_failed writer.old) }
 {
-    let map = read_keymap(alloc, Source::Text, reader)?;
+    let map = read_text(alloc, reader)?;
+    every_keymap_is_within_the_bounds(&map);
     write_tables(&map, writer).map_err(RunError::Write)
 }
 
@@ -103,10 +105,11 @@ pub fn compile_narrow_run<R: Read, W: Write>(
 ) -> Result<(), RunError>
     ensures run { CompilesNarrowly (moves (R.remaining reader.old) (R.remaining reader.new))
         (moves (W.contents writer.old) (W.contents writer.new)) result }
-    ensures reader_failed { R.has_failed reader.new ≡ (blames Source.Text result || R.has_failed reader.old) }
+    ensures reader_failed { R.has_failed reader.new ≡ (blames_text result || R.has_failed reader.old) }
     ensures writer_failed { W.has_failed writer.new ≡ (blames_writer result || W.has_failed writer.old) }
 {
-    let map = read_keymap(alloc, Source::Text, reader)?;
+    let map = read_text(alloc, reader)?;
+    every_keymap_is_within_the_bounds(&map);
     match write_narrow(&map, writer) {
         Ok(()) => Ok(()),
         Err(NarrowError::TooWide(wide)) => Err(RunError::TooWide(wide)),
@@ -123,10 +126,10 @@ pub fn draw_run<R: Read, W: Write>(
 ) -> Result<(), RunError>
     ensures run { DrawsText board (moves (R.remaining reader.old) (R.remaining reader.new))
         (moves (W.contents writer.old) (W.contents writer.new)) result }
-    ensures reader_failed { R.has_failed reader.new ≡ (blames Source.Text result || R.has_failed reader.old) }
+    ensures reader_failed { R.has_failed reader.new ≡ (blames_text result || R.has_failed reader.old) }
     ensures writer_failed { W.has_failed writer.new ≡ (blames_writer result || W.has_failed writer.old) }
 {
-    let map = read_keymap(alloc, Source::Text, reader)?;
+    let map = read_text(alloc, reader)?;
     every_keymap_is_within_the_bounds(&map);
     let Ok(drawn) = picture(alloc, &map, &check(&map), board) else {
         return Err(RunError::Memory);

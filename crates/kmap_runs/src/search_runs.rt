@@ -2,10 +2,11 @@
 ghost use Rattle.std.specs.Prelude.{◌≡◌, ◌||◌, IfOk};
 ghost use Rattle.std.specs.Option.{is_some};
 ghost use Rattle.kmap_runs.specs.Search.{is_never as is_never_of};
-ghost use Rattle.kmap_runs.specs.Inputs.{blames, has_failed_if, moves, moves_if};
+ghost use Rattle.kmap_runs.specs.Inputs.{blames_next, blames_text, has_failed_if, moves_if};
 ghost use Rattle.kmap_runs.specs.Runs.{Finds, IsFound, SearchesTexts, blames_writer};
+ghost use Rattle.play_core.specs.Runs.{moves};
 
-use crate::fault_line::{RunError, Source};
+use crate::fault_line::RunError;
 use crate::inputs::read_keymaps;
 use crate::search::found_text;
 use console_core::{Sticking, sticking, sticking_between};
@@ -53,10 +54,10 @@ pub fn search_run<R: Read, N: Read, W: Write>(
     ensures run { SearchesTexts (moves (R.remaining text.old) (R.remaining text.new))
         (moves_if N.remaining next.old next.new)
         (moves (W.contents writer.old) (W.contents writer.new)) result }
-    ensures text_failed { R.has_failed text.new ≡ (blames Source.Text result || R.has_failed text.old) }
+    ensures text_failed { R.has_failed text.new ≡ (blames_text result || R.has_failed text.old) }
     ensures next_stays { is_some next.new ≡ is_some next.old }
     ensures next_failed { has_failed_if N.has_failed next.new
-        ≡ (blames Source.Next result || has_failed_if N.has_failed next.old) }
+        ≡ (blames_next result || has_failed_if N.has_failed next.old) }
     ensures writer_failed { W.has_failed writer.new ≡ (blames_writer result || W.has_failed writer.old) }
 {
     let (first, second) = read_keymaps(alloc, text, next)?;

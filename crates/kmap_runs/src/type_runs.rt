@@ -1,10 +1,11 @@
 //! The run that prints the script which types a sentence.
 ghost use Rattle.std.specs.Prelude.{◌≡◌, ◌||◌, IfOk, IfErr};
-ghost use Rattle.kmap_runs.specs.Inputs.{blames, moves};
+ghost use Rattle.kmap_runs.specs.Inputs.{blames_sentence, blames_text};
 ghost use Rattle.kmap_runs.specs.Runs.{LacksScript, Types, TypesSentence, blames_writer};
+ghost use Rattle.play_core.specs.Runs.{moves};
 
-use crate::fault_line::{RunError, Source};
-use crate::inputs::{read_keymap, read_whole};
+use crate::fault_line::RunError;
+use crate::inputs::{read_sentence, read_text};
 use crate::typing::typing_script;
 use keymap_core::{KeyMap, Read, Write, write_text};
 use play_core::{TypeError, Ways};
@@ -49,12 +50,12 @@ pub fn type_run<R: Read, S: Read, W: Write>(
     ensures run { TypesSentence (moves (R.remaining text.old) (R.remaining text.new))
         (moves (S.remaining sentence.old) (S.remaining sentence.new))
         (moves (W.contents writer.old) (W.contents writer.new)) result }
-    ensures text_failed { R.has_failed text.new ≡ (blames Source.Text result || R.has_failed text.old) }
-    ensures sentence_failed { S.has_failed sentence.new ≡ (blames Source.Sentence result || S.has_failed sentence.old) }
+    ensures text_failed { R.has_failed text.new ≡ (blames_text result || R.has_failed text.old) }
+    ensures sentence_failed { S.has_failed sentence.new ≡ (blames_sentence result || S.has_failed sentence.old) }
     ensures writer_failed { W.has_failed writer.new ≡ (blames_writer result || W.has_failed writer.old) }
 {
-    let map = read_keymap(alloc, Source::Text, text)?;
-    let bytes = read_whole(alloc, Source::Sentence, sentence)?;
+    let map = read_text(alloc, text)?;
+    let bytes = read_sentence(alloc, sentence)?;
     let script = script_for(alloc, &map, bytes.as_slice())?;
     match write_text(writer, script.as_slice()) {
         Ok(()) => Ok(()),

@@ -3,7 +3,8 @@
 //! check", "What the search found", "The script that types a sentence" and "The script that tests a console".
 
 // The report: the verdict, and who bears a holding action. The line on a key that makes the keymap refused is
-// keymap_draw's, which shows it in pictures too.
+// keymap_check's, which pictures and the C library show too. The definitions have these bytes of their own
+// (specs/Report.antt), which are proved to be the same.
 pub(crate) const ACCEPTED: &[u8] = b"accepted\n";
 
 pub(crate) const REFUSED: &[u8] = b"refused\n";

@@ -1,3 +1,4 @@
+pub mod Chained
 pub mod Combinations
 pub mod Digits
 pub mod Found

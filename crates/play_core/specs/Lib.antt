@@ -1,6 +1,8 @@
 pub mod Delivery
 pub mod HeldKeys
 pub mod Inner
+pub mod Playing
+pub mod Runs
 pub mod Scripts
 pub mod Spelling
 pub mod Types

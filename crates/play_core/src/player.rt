@@ -18,7 +18,7 @@ use keymap_core::{KeyMap, Write, WriteFault};
 
 /// Plays what is sent on two maps, and writes what the show has of it. The first map is in force, and each load puts
 /// the other in force.
-pub fn play<W: Write>(
+pub(crate) fn play_events<W: Write>(
     show: Show,
     first: &KeyMap,
     second: &KeyMap,
@@ -33,7 +33,7 @@ pub fn play<W: Write>(
     play_shown(show, &mut WordConsole::between(first, second), sent, out)
 }
 
-/// As `play_events`, of which there is one for each show, so that no event asks what is shown.
+/// As `deliver_all`, of which there is one for each show, so that no event asks what is shown.
 fn play_shown<T: Translator, W: Write>(
     show: Show,
     console: &mut T,
@@ -47,14 +47,14 @@ fn play_shown<T: Translator, W: Write>(
     ensures failed { W.has_failed out.new ≡ (is_err result || W.has_failed out.old) }
 {
     match show {
-        Show::Lines => play_events(Show::Lines, console, sent, out),
-        Show::Typed => play_events(Show::Typed, console, sent, out),
+        Show::Lines => deliver_all(Show::Lines, console, sent, out),
+        Show::Typed => deliver_all(Show::Typed, console, sent, out),
     }
 }
 
 /// Delivers what is sent to the console, but for what is lost, and writes what the show has of it.
 #[inline(always)]
-fn play_events<T: Translator, W: Write>(
+fn deliver_all<T: Translator, W: Write>(
     show: Show,
     console: &mut T,
     sent: &[Sent],

@@ -5,7 +5,7 @@ use crate::run_devices::{DEVICE, ENDLESS};
 use keymap_core::{Write, WriteFault};
 use keymap_tables::{TableFault, TableFaultKind, Wide};
 use keymap_text::{TextFault, TextFaultKind};
-use kmap_runs::{RunError, Source, write_run_error};
+use kmap_runs::{RunError, write_run_error};
 use play_core::ScriptFault;
 use test_support::devices::slow_sheet_of;
 
@@ -90,14 +90,11 @@ static TABLE_KINDS: [(TableFaultKind, &[u8]); 9] = [
 /// Other faults, and their lines.
 static LINES: [(RunError, &[u8]); 21] = [
     (
-        RunError::Text(
-            Source::Next,
-            TextFault {
-                offset: 3,
-                line: 1,
-                kind: TextFaultKind::EndInside,
-            },
-        ),
+        RunError::Next(TextFault {
+            offset: 3,
+            line: 1,
+            kind: TextFaultKind::EndInside,
+        }),
         b"kmap: next line 1 offset 3: EndInside\n",
     ),
     (
@@ -110,31 +107,31 @@ static LINES: [(RunError, &[u8]); 21] = [
     ),
     (RunError::Memory, b"kmap: out of memory\n"),
     (
-        RunError::Read(Source::Text, DEVICE),
+        RunError::ReadText(DEVICE),
         b"kmap: text: read fault at offset 0\n",
     ),
     (
-        RunError::Read(Source::Text, ENDLESS),
+        RunError::ReadText(ENDLESS),
         b"kmap: text: more than 1048576 bytes\n",
     ),
     (
-        RunError::Read(Source::Next, DEVICE),
+        RunError::ReadNext(DEVICE),
         b"kmap: next: read fault at offset 0\n",
     ),
     (
-        RunError::Read(Source::Next, ENDLESS),
+        RunError::ReadNext(ENDLESS),
         b"kmap: next: more than 1048576 bytes\n",
     ),
     (
-        RunError::Read(Source::Script, DEVICE),
+        RunError::ReadScript(DEVICE),
         b"kmap: script: read fault at offset 0\n",
     ),
     (
-        RunError::Read(Source::Script, ENDLESS),
+        RunError::ReadScript(ENDLESS),
         b"kmap: script: more than 1048576 bytes\n",
     ),
     (
-        RunError::Read(Source::Tables, DEVICE),
+        RunError::ReadTables(DEVICE),
         b"kmap: tables: read fault at offset 0\n",
     ),
     (
@@ -160,11 +157,11 @@ static LINES: [(RunError, &[u8]); 21] = [
         b"kmap: accent too wide at accent 14 number 104\n",
     ),
     (
-        RunError::Read(Source::Sentence, DEVICE),
+        RunError::ReadSentence(DEVICE),
         b"kmap: sentence: read fault at offset 0\n",
     ),
     (
-        RunError::Read(Source::Sentence, ENDLESS),
+        RunError::ReadSentence(ENDLESS),
         b"kmap: sentence: more than 1048576 bytes\n",
     ),
     (
@@ -221,7 +218,7 @@ fn each_fault_has_its_line(rt: HostRuntime) {
         expect_at(
             &rt,
             &kind,
-            is_told(&RunError::Text(Source::Text, fault), line),
+            is_told(&RunError::Text(fault), line),
         );
     }
     for &(kind, line) in &TABLE_KINDS {

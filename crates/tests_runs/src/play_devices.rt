@@ -6,8 +6,7 @@ use crate::plays::{Played, play_texts};
 use arrayvec::ArrayVec;
 use console_core::Answer;
 use keymap_core::{Read, ReadFault, ReadFaultKind, Write, WriteFault};
-use kmap_runs::{RunError, Source, play_run};
-use play_core::{Show, typed};
+use play_core::{PlayError, Show, Source, play_next, typed};
 use std::alloc::Global;
 use std::process::Abort;
 use std::test::Fail;
@@ -32,19 +31,18 @@ fn most_of(own: Source, failing: Source, most: usize) -> usize {
 /// nothing is written.
 fn expect_named(rt: &impl Abort, alloc: Global, source: Source, most: usize) {
     let mut text = reader_of(ACCENTS, 1, most_of(Source::Text, source, most));
-    let mut next = Some(reader_of(SHIFT_AND_CAPS, 1, most_of(Source::Next, source, most)));
+    let mut next = reader_of(SHIFT_AND_CAPS, 1, most_of(Source::Next, source, most));
     let mut script = reader_of(SCRIPT, 1, most_of(Source::Script, source, most));
     let mut out = sheet_of(usize::MAX);
     let show = Show::Lines;
-    let answer = play_run(alloc, show, &mut text, &mut next, &mut script, &mut out);
+    let answer = play_next(alloc, show, &mut text, &mut next, &mut script, &mut out);
     let fault = ReadFault {
         offset: most as u64,
         kind: ReadFaultKind::Device,
     };
-    let wanted = Err(RunError::Read(source, fault));
+    let wanted = Err(PlayError::Read(source, fault));
     expect_equal_at(rt, &(source, most), &answer, &wanted);
-    let next_failed = next.is_some_and(|next| next.failed());
-    let failed = (text.failed(), next_failed, script.failed());
+    let failed = (text.failed(), next.failed(), script.failed());
     let wanted = (
         source == Source::Text,
         source == Source::Next,
@@ -110,7 +108,7 @@ fn a_writer_that_fails_after_each_number_of_bytes_has_the_first(rt: HostRuntime)
         for most in 0..=wanted.len() {
             let mut out = sheet_of(most);
             let answer = play_texts(rt.alloc(), played, &mut out);
-            let told = written(most, wanted.len()).map_err(RunError::Write);
+            let told = written(most, wanted.len()).map_err(PlayError::Write);
             expect_equal_at(&rt, &most, &answer, &told);
             let is_front = out.bytes.as_slice() == &wanted.as_bytes()[..most];
             expect_at(
@@ -165,11 +163,11 @@ static LONG: [(Show, &[u8], &[u8], usize, &[u8]); 2] = [
     (Show::Typed, b"down 42\n", b"repeat 15\n", 1400, b"\x1b[Z"),
 ];
 
-fn play_long(alloc: Global, show: Show, script: &[u8], out: &mut Sheet) -> Result<(), RunError> {
+fn play_long(alloc: Global, show: Show, script: &[u8], out: &mut Sheet) -> Result<(), PlayError> {
     let mut text = reader_of(ACCENTS, 512, usize::MAX);
-    let mut next = Some(reader_of(b"", 1, usize::MAX));
+    let mut next = reader_of(b"", 1, usize::MAX);
     let mut bytes = reader_of(script, 4096, usize::MAX);
-    play_run(alloc, show, &mut text, &mut next, &mut bytes, out)
+    play_next(alloc, show, &mut text, &mut next, &mut bytes, out)
 }
 
 /// Asserts that the line is written so many times, in few writes.

@@ -5,8 +5,7 @@ use crate::plays::{Played, play_texts};
 use keymap_core::{FromStd, Read, ReadFault, ReadFaultKind};
 use keymap_text::TextFaultKind::{BadFunction, BadLiteral, EndInside, KeyTooLarge};
 use keymap_text::{TextFault, TextFaultKind};
-use kmap_runs::{RunError, Source, play_run};
-use play_core::{ScriptFault, Show};
+use play_core::{PlayError, ScriptFault, Show, Source, play, play_next};
 use test_support::devices::{sheet_of, tape_of};
 use test_support::keymaps::{LETTER_AND_SHIFT, SHIFT_AND_CAPS};
 
@@ -81,11 +80,11 @@ fn at(offset: u64, kind: TextFaultKind) -> TextFault {
     }
 }
 
-fn error(fault: Fault) -> RunError {
+fn error(fault: Fault) -> PlayError {
     match fault {
-        Text(offset, kind) => RunError::Text(Source::Text, at(offset, kind)),
-        Next(offset, kind) => RunError::Text(Source::Next, at(offset, kind)),
-        Script(fault) => RunError::Script(fault),
+        Text(offset, kind) => PlayError::Text(at(offset, kind)),
+        Next(offset, kind) => PlayError::Next(at(offset, kind)),
+        Script(fault) => PlayError::Script(fault),
     }
 }
 
@@ -118,28 +117,21 @@ static SIZES: [(Source, usize, usize, bool); 9] = [
 fn texts_and_scripts_are_read_to_their_limit(rt: HostRuntime) {
     for &(source, size, pace, is_endless) in &SIZES {
         let mut long = tape_of(b"", size, pace, usize::MAX);
-        let mut next = Some(tape_of(b"", size, pace, usize::MAX));
         let mut text = FromStd::new(LETTER_AND_SHIFT);
         let mut other = FromStd::new(b"".as_slice());
         let mut out = sheet_of(usize::MAX);
-        let mut none = None::<FromStd<&[u8]>>;
         let (alloc, show) = (rt.alloc(), Show::Lines);
         let answer = match source {
-            Source::Text => play_run(alloc, show, &mut long, &mut none, &mut other, &mut out),
-            Source::Next => play_run(alloc, show, &mut text, &mut next, &mut other, &mut out),
-            // the script, for a play reads nothing else
-            _ => play_run(alloc, show, &mut text, &mut none, &mut long, &mut out),
-        };
-        let long = match (source, next) {
-            (Source::Next, Some(next)) => next,
-            _ => long,
+            Source::Text => play(alloc, show, &mut long, &mut other, &mut out),
+            Source::Next => play_next(alloc, show, &mut text, &mut long, &mut other, &mut out),
+            Source::Script => play(alloc, show, &mut text, &mut long, &mut out),
         };
         let fault = ReadFault {
             offset: LIMIT as u64,
             kind: ReadFaultKind::Endless,
         };
         let wanted = if is_endless {
-            Err(RunError::Read(source, fault))
+            Err(PlayError::Read(source, fault))
         } else {
             Ok(())
         };

@@ -3,8 +3,7 @@
 use crate::asserts::{expect_equal, expect_equal_at};
 use console_core::Answer;
 use keymap_core::FromStd;
-use kmap_runs::{RunError, play_run};
-use play_core::{Show, typed};
+use play_core::{PlayError, Show, play, play_next, typed};
 use std::alloc::Global;
 use std::test::Fail;
 use test_support::devices::{Sheet, sheet_of};
@@ -17,12 +16,17 @@ use test_support::keymaps::{
 pub(crate) type Played = (Show, &'static [u8], Option<&'static [u8]>, &'static str);
 
 /// What the play of texts from memory answers.
-pub(crate) fn play_texts(alloc: Global, played: Played, out: &mut Sheet) -> Result<(), RunError> {
+pub(crate) fn play_texts(alloc: Global, played: Played, out: &mut Sheet) -> Result<(), PlayError> {
     let (show, text, next, script) = played;
     let mut text = FromStd::new(text);
     let mut script = FromStd::new(script.as_bytes());
-    let mut next = next.map(FromStd::new);
-    play_run(alloc, show, &mut text, &mut next, &mut script, out)
+    match next {
+        Some(next) => {
+            let mut next = FromStd::new(next);
+            play_next(alloc, show, &mut text, &mut next, &mut script, out)
+        }
+        None => play(alloc, show, &mut text, &mut script, out),
+    }
 }
 
 /// What is played, and what is written of it.

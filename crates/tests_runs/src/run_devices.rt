@@ -8,7 +8,7 @@ use keymap_draw::Board;
 use keymap_tables::{NarrowError, TableFault, TableFaultKind, write_narrow, write_tables};
 use keymap_text::{TextFault, TextFaultKind};
 use kmap_runs::{
-    RunError, Source, check_run, compile_narrow_run, compile_run, draw_run, dump_narrow_run,
+    RunError, check_run, compile_narrow_run, compile_run, draw_run, dump_narrow_run,
     dump_run, fmt_print_run, lint_run, search_run, type_run,
 };
 use std::alloc::Global;
@@ -107,10 +107,10 @@ enum Input {
 
 fn read_error(input: Input, fault: ReadFault) -> RunError {
     match input {
-        Input::Text => RunError::Read(Source::Text, fault),
-        Input::Next => RunError::Read(Source::Next, fault),
-        Input::Sentence => RunError::Read(Source::Sentence, fault),
-        Input::Tables => RunError::Read(Source::Tables, fault),
+        Input::Text => RunError::ReadText(fault),
+        Input::Next => RunError::ReadNext(fault),
+        Input::Sentence => RunError::ReadSentence(fault),
+        Input::Tables => RunError::ReadTables(fault),
     }
 }
 
@@ -166,43 +166,43 @@ static ENDLESS_READINGS: [(Run, bool, RunError, u32); 9] = [
     (
         Run::Show,
         true,
-        RunError::Read(Source::Text, ENDLESS),
+        RunError::ReadText(ENDLESS),
         1_048_578,
     ),
     (
         Run::Search,
         true,
-        RunError::Read(Source::Text, ENDLESS),
+        RunError::ReadText(ENDLESS),
         1_048_578,
     ),
     (
         Run::SearchNext,
         false,
-        RunError::Read(Source::Next, ENDLESS),
+        RunError::ReadNext(ENDLESS),
         1_048_578,
     ),
     (
         Run::Type,
         true,
-        RunError::Read(Source::Text, ENDLESS),
+        RunError::ReadText(ENDLESS),
         1_048_578,
     ),
     (
         Run::Type,
         false,
-        RunError::Read(Source::Sentence, ENDLESS),
+        RunError::ReadSentence(ENDLESS),
         1_048_578,
     ),
     (
         Run::Lint,
         true,
-        RunError::Read(Source::Text, ENDLESS),
+        RunError::ReadText(ENDLESS),
         1_048_578,
     ),
     (
         Run::Layout,
         true,
-        RunError::Read(Source::Text, ENDLESS),
+        RunError::ReadText(ENDLESS),
         1_048_578,
     ),
     (Run::Dump, true, RunError::Tables(LONG), 15_526),
@@ -254,49 +254,49 @@ static FAULTY: [(Run, &[u8], &[u8], RunError); 12] = [
         Run::Check,
         b"1 'ab'",
         b"",
-        RunError::Text(Source::Text, BAD_LITERAL),
+        RunError::Text(BAD_LITERAL),
     ),
     (
         Run::Search,
         b"1 '",
         b"",
-        RunError::Text(Source::Text, END_INSIDE),
+        RunError::Text(END_INSIDE),
     ),
     (
         Run::Compile,
         b"1 '",
         b"",
-        RunError::Text(Source::Text, END_INSIDE),
+        RunError::Text(END_INSIDE),
     ),
     (
         Run::Draw,
         b"1 'ab'",
         b"",
-        RunError::Text(Source::Text, BAD_LITERAL),
+        RunError::Text(BAD_LITERAL),
     ),
     (
         Run::Layout,
         b"1 'ab'",
         b"",
-        RunError::Text(Source::Text, BAD_LITERAL),
+        RunError::Text(BAD_LITERAL),
     ),
     (
         Run::SearchNext,
         b"1 '",
         b"1 '",
-        RunError::Text(Source::Text, END_INSIDE),
+        RunError::Text(END_INSIDE),
     ),
     (
         Run::SearchNext,
         LETTER_AND_SHIFT,
         b"1 '",
-        RunError::Text(Source::Next, END_INSIDE),
+        RunError::Next(END_INSIDE),
     ),
     (
         Run::Type,
         b"1 '",
         b"\xff",
-        RunError::Text(Source::Text, END_INSIDE),
+        RunError::Text(END_INSIDE),
     ),
     (
         Run::Type,

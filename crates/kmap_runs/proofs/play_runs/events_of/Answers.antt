@@ -1,5 +1,0 @@
-use Rattle.play_core.proofs.ScriptSizes.{events_few}
-use Rattle.kmap_runs.proofs.play_runs.events_of.Goals as goal
-
-pub returns-in-Ok-clause-few : goal.returns-in-Ok-clause-few
-returns-in-Ok-clause-few c = events_few _ _ c.in-Ok.ensures.ok

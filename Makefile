@@ -94,6 +94,7 @@ scripts:
 	sh tests/cover.sh $(PROGRAM)
 	sh tests/lint.sh $(PROGRAM)
 	sh tests/format.sh $(PROGRAM)
+	sh tests/swapped_names.sh $(PROGRAM)
 	sh tests/c_library.sh $(PROGRAM) $(LIBRARY)
 	sh tests/completions.sh $(PROGRAM)
 	sh tests/manual.sh $(PROGRAM)

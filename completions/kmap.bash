@@ -6,7 +6,7 @@ _kmap_words() {
     '') echo 'check search lint fmt play type cover compile dump draw help -h --help -V --version' ;;
     check) echo '--show -h --help' ;;
     search) echo '--next -h --help' ;;
-    lint) echo '-h --help' ;;
+    lint) echo '--strict --name -h --help' ;;
     fmt) echo '--check --print -h --help' ;;
     play) echo '--typed --next -h --help' ;;
     type) echo '-h --help' ;;

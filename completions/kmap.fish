@@ -31,6 +31,8 @@ complete -c kmap -n '__kmap_after check' -s h -l help -d 'Print help'
 complete -c kmap -n '__kmap_after search' -l next -r -F -d 'The keymap text that a load puts in force'
 complete -c kmap -n '__kmap_after search' -s h -l help -d 'Print help'
 
+complete -c kmap -n '__kmap_after lint' -l strict -d 'Counts warnings as errors'
+complete -c kmap -n '__kmap_after lint' -l name -r -F -d 'The name that standard input is told under'
 complete -c kmap -n '__kmap_after lint' -s h -l help -d 'Print help'
 
 complete -c kmap -n '__kmap_after fmt' -l check -d 'Writes nothing, and fails where a text is not in the layout'

@@ -182,6 +182,44 @@ holds 'it stays' [ "$(wc -c < full)" -eq 1048576 ]
 head -c 1048575 /dev/zero | tr '\000' '#' > full
 fmt 'as long as a text may be' 0 "full$line" '' full
 holds 'it has its line feed' [ "$(wc -c < full)" -eq 1048576 ]
+# Options stand where they like, before, between and behind the files.
+fmt 'an option between files' 1 "odd${line}odd$line" '' odd --check even odd
+fmt 'an option behind them' 1 "odd$line" '' odd even --check
+fmt 'an option that prints between files' 0 "$good$line$good$line" '' odd --print even
+
+# `-` is the standard input: `fmt -` is a filter.
+# filters NAME STATUS STDOUT STDERR ARGS..: as fmt, with the file `odd` as standard input
+filters() {
+    label=$1 status=$2 out=$3 err=$4
+    shift 4
+    "$program" fmt "$@" < odd > stdout 2> stderr
+    got=$?
+    printf %s "$out" > wanted.out
+    printf %s "$err" > wanted.err
+    holds "$label: status $got" [ $got -eq "$status" ]
+    same_text "$label: output" wanted.out stdout
+    same_text "$label: faults" wanted.err stderr
+}
+filters 'a filter' 0 "$good$line" '' -
+holds 'a filter writes no file' [ "$(cat odd)" = '4 nop nop nop nop nop nop nop nop O' ]
+filters 'a filter that prints' 0 "$good$line" '' --print -
+filters 'a filter among files' 0 "$good$line$good$line" '' --print even -
+filters 'a filter that checks' 1 "-$line" '' --check even -
+"$program" fmt - < even > stdout
+holds 'a filter of a text in the layout' cmp -s even stdout
+"$program" fmt --check - < even > stdout
+holds 'a check of a text in the layout' [ $? -eq 0 ]
+"$program" fmt - < faulty > stdout 2> stderr
+holds 'a filter of a fault: status' [ $? -eq 1 ]
+holds 'a filter of a fault: nothing' [ ! -s stdout ]
+holds 'a filter of a fault: line' [ "$(cat stderr)" = 'kmap: -: text line 1 offset 30: Unexpected' ]
+{ read -r first; "$program" fmt -; } < "$top/examples/us.kbd" > stdout
+tail -n +2 "$top/examples/us.kbd" > wanted.out
+same_text 'a filter goes on where others have read' wanted.out stdout
+mkdir dash && (cd dash && cp ../odd ./- && "$program" fmt ./- > ../stdout)
+holds 'a file of that name' [ "$(cat stdout)" = ./- ]
+holds 'it is written' cmp -s even dash/-
+
 fmt 'both words' 2 '' "$("$program" fmt --check --print even 2>&1)$line" --check --print even
 holds 'both words: what is told' grep -q "'--check' cannot be used with '--print'" stderr
 fmt 'no file' 2 '' "$("$program" fmt 2>&1)$line"
@@ -208,7 +246,10 @@ holds 'the links stay' [ "$(readlink again) $(readlink link)" = 'link below/real
 holds 'the file that they lead to is written' cmp -s even below/real
 cp odd below/real
 : > below/real.kmap-fmt
-fmt 'a link whose new file is there' 1 '' "kmap: cannot create $(pwd -P)/below/real.kmap-fmt$line" link
+fmt 'a link whose new file is there' 0 "link$line" '' link
+holds 'the file at its end is written' cmp -s even below/real
+holds 'nothing is left beside that' [ "$(ls below)" = "real
+real.kmap-fmt" ]
 rm below/real.kmap-fmt
 ln -s nowhere loose
 fmt 'a link to nothing' 1 '' "kmap: cannot open loose$line" loose
@@ -218,10 +259,31 @@ fmt 'a hard link' 0 "hard$line" '' hard
 holds 'the other name keeps the old text' cmp -s odd harder
 cp odd file
 echo old > file.kmap-fmt
-fmt 'a new file that was left behind' 1 "two$line" "kmap: cannot create file.kmap-fmt$line" file "$(cp odd two && echo two)"
-holds 'the text stays' cmp -s odd file
-holds 'what was left behind stays' [ "$(cat file.kmap-fmt)" = old ]
-rm file.kmap-fmt
+echo older > file.kmap-fmt-2
+fmt 'new files that were left behind' 0 "file${line}two$line" '' file "$(cp odd two && echo two)"
+holds 'the text is written' cmp -s even file
+holds 'what was left behind stays' [ "$(cat file.kmap-fmt file.kmap-fmt-2)" = "old
+older" ]
+holds 'no third one is' [ ! -e file.kmap-fmt-3 ]
+rm file.kmap-fmt file.kmap-fmt-2
+mkdir taken
+cp odd taken/file
+(cd taken && : > file.kmap-fmt && seq 2 1000 | sed 's/^/file.kmap-fmt-/' | xargs touch)
+fmt 'a thousand that were left behind' 1 '' "kmap: cannot create taken/file.kmap-fmt-1000$line" taken/file
+holds 'then the text stays' cmp -s odd taken/file
+# Runs at once on one file: all end well, and nothing is left. Those that come late find it in the layout.
+mkdir once
+for run in 1 2 3 4 5 6 7 8 9 10; do
+    cp odd once/file
+    for number in 1 2 3 4 5 6 7 8; do
+        { "$program" fmt once/file > once.out.$number 2>&1; echo $? > once.status.$number; } &
+    done
+    wait
+    holds "eight runs at once, $run: statuses" [ "$(cat once.status.* | sort -u)" = 0 ]
+    holds "eight runs at once, $run: names alone" [ "$(cat once.out.* | sort -u)" = once/file ]
+    holds "eight runs at once, $run: the text" cmp -s even once/file
+    holds "eight runs at once, $run: nothing beside it" [ "$(ls once)" = file ]
+done
 mkdir dir
 mkfifo pipe
 fmt 'a folder, a pipe and a device' 1 '' "kmap: dir: not a regular file
@@ -255,10 +317,23 @@ holds 'a full disk: no new file' [ ! -e big.kmap-fmt ]
 if [ -e /dev/full ]; then
     cp odd one
     cp odd two
-    "$program" fmt one two > /dev/full 2> stderr
+    "$program" fmt even one two > /dev/full 2> stderr
     holds 'a full output: status' [ $? -eq 1 ]
-    holds 'a full output: line' [ "$(cat stderr)" = 'kmap: write fault after 0 bytes' ]
+    holds 'a full output: lines' [ "$(cat stderr)" = 'kmap: one: write fault after 0 bytes
+kmap: one: replaced' ]
+    holds 'a full output: the text is written' cmp -s even one
     holds 'a full output: nothing follows' cmp -s odd two
+    # An output that has room for one name: what was told before counts as replaced too.
+    (trap '' XFSZ; ulimit -f 8; exec head -c 20000 /dev/zero) > some 2> stderr
+    room=$(wc -c < some)
+    head -c $((room - 4)) /dev/zero > some
+    cp odd one
+    (trap '' XFSZ; ulimit -f 8; exec "$program" fmt one two) >> some 2> stderr
+    holds 'room for one name: status' [ $? -eq 1 ]
+    holds 'room for one name: lines' [ "$(cat stderr)" = 'kmap: two: write fault after 0 bytes
+kmap: one: replaced
+kmap: two: replaced' ]
+    cp odd two
     "$program" fmt --print even faulty > /dev/full 2> stderr
     holds 'a full output, printed: status' [ $? -eq 1 ]
     holds 'a full output, printed: line' [ "$(cat stderr)" = 'kmap: write fault after 0 bytes' ]

@@ -692,12 +692,9 @@ END
 same_text 'both outputs in one, in the order of the files' want got
 printf 'kmap: cannot open none1\nkmap: cannot open none2\n' > told
 lints 'files that are not there' 1 none1 clean none2 < /dev/null
-echo 'kmap: cannot open -' > told
-lints 'a dash is a name' 1 - clean < /dev/null
-cp bad ./-
 cp bad ./--bad
-lints 'and one of a file' 1 - -- --bad << END
--:1:4: $words
+lints 'names that begin with a dash' 1 ./--bad -- --bad << END
+./--bad:1:4: $words
 $excerpt
 --bad:1:4: $words
 $excerpt
@@ -788,7 +785,7 @@ u:1:2: error: the byte 0x00 begins no word [BadByte]
 END
 printf '\357\273\27730 nop\n' > t
 lints 'a byte order mark' 1 t << END
-t:1:1: error: $hidden begins no word; a character that is meant is quoted: '$hidden' [BadByte]
+t:1:1: error: a byte order mark begins no word; remove it [BadByte]
   ${hidden}30 nop
   ^
 END
@@ -865,6 +862,58 @@ for front in '' '30 ' '30 0x' '30 U+' "30 'a" "30 '" '30 fkey' '30 scr' 'dacu ' 
         short "a million of $byte behind '$front'"
     done
 done
+
+# With --strict warnings count as errors, and what is printed stays.
+cp "$top/examples/us.kbd" good
+"$program" lint begun > want
+lints 'a warning' 0 begun < want
+for place in before behind; do
+    case $place in
+    before) set -- --strict begun ;;
+    behind) set -- begun --strict ;;
+    esac
+    lints "a warning, strictly, with the option $place" 1 "$@" < want
+done
+lints 'nothing to tell, strictly' 0 good --strict good < /dev/null
+lints 'a warning among others, strictly' 1 --strict good begun good < want
+echo 'kmap: cannot open none' > told
+lints 'no file, strictly' 1 --strict good none < /dev/null
+
+# `-` is the standard input, under the name that --name gives it.
+# reads NAME STATUS INPUT WORD..: as lints, with the file INPUT as standard input, and `want` wanted
+reads() {
+    label=$1 status=$2 input=$3
+    shift 3
+    "$program" lint "$@" < "$input" > got 2> stderr
+    holds "$label: status" [ $? -eq "$status" ]
+    same_text "$label" want got
+    same_text "$label: standard error" told stderr
+    : > told
+}
+"$program" lint trap.kbd > trap.told
+sed 's/^trap\.kbd:/-:/' trap.told > want
+reads 'standard input' 1 trap.kbd -
+sed 's/^trap\.kbd:/a b.kbd:/' trap.told > want
+reads 'standard input under a name' 1 trap.kbd --name 'a b.kbd' -
+reads 'standard input under a name, the option behind' 1 trap.kbd - --name 'a b.kbd'
+{ cat want trap.told; } > both
+cp both want
+reads 'standard input under a name, and a file under its own' 1 trap.kbd --name 'a b.kbd' - trap.kbd
+cp trap.told want
+reads 'a file under its own name' 1 /dev/null --name other trap.kbd
+sed "s/^trap\\.kbd:/a${hidden}b:/" trap.told > want
+reads 'a name that a terminal does not show' 1 trap.kbd --name "$(printf 'a\033b')" -
+mkdir unread
+: > want
+echo 'kmap: -: text: read fault at offset 0' > told
+reads 'standard input is a folder' 1 unread -
+echo 'kmap: it: text: read fault at offset 0' > told
+reads 'standard input is a folder under a name' 1 unread --name it -
+rmdir unread
+mkdir dash
+(cd dash && cp ../trap.kbd ./- && "$program" lint ./- > ../got)
+sed 's,^trap\.kbd:,./-:,' trap.told > want
+same_text 'a file of that name' want got
 
 # Words, and output that can't be written.
 # refuses NAME WORD..: the words are wrong

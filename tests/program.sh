@@ -224,9 +224,25 @@ holds 'the same tables of the example' cmp -s us us.again
 echo old > kept
 ran 'compiles no faulty text' 1 '' "kmap: text line 1 offset 3: EndInside$line" compile cut kept
 holds 'an old file is left as it was' same_bytes kept "old$line"
+# The text itself is no place for its tables, by whatever name.
 cp letter own
-ran 'compiles onto the text itself' 0 '' '' compile own own
-holds 'the text is gone' cmp -s own tables
+ln -s own own.link
+ln own own.hard
+mkdir own.folder
+for out in own own.link own.hard ./own own.folder/../own; do
+    ran "does not compile onto the text, $out" 1 '' "kmap: cannot create $out$line" compile own "$out"
+    ran "nor a narrow file, $out" 1 '' "kmap: cannot create $out$line" compile own --narrow "$out"
+done
+ran 'nor by another name of it' 1 '' "kmap: cannot create own$line" compile own.link own
+cp cut cut.own
+ran 'a fault of the text is told before' 1 '' "kmap: text line 1 offset 3: EndInside$line" compile cut.own cut.own
+holds 'the text stays' cmp -s own letter
+holds 'its link stays' [ "$(readlink own.link)" = own ]
+"$program" compile own /dev/stdout >> own 2> stderr
+holds 'nor onto the text as standard output: status' [ $? -eq 1 ]
+holds 'nor onto the text as standard output: line' same_bytes stderr "kmap: cannot create /dev/stdout$line"
+holds 'the text stays there too' cmp -s own letter
+ran 'a device is no file of its own' 0 '' '' compile /dev/null /dev/null
 # The disk is full after some bytes, as far as the program sees it: the old file stays, and nothing lies beside it.
 # full FILE ARGS..: compiles onto the file where no file may have more than a few bytes
 full() {
@@ -262,11 +278,82 @@ ln -s nowhere loose
 ran 'compiles through a link to nothing' 0 '' '' compile letter loose
 holds 'a file is made there' cmp -s nowhere tables
 echo old > kept
-: > kept.kmap-new
-ran 'the new file is there already' 1 '' "kmap: cannot create kept.kmap-new$line" compile letter kept
-holds 'the old file stays beside it' same_bytes kept "old$line"
-holds 'the other file stays too' [ -e kept.kmap-new ]
-rm kept.kmap-new
+echo left > kept.kmap-new
+echo behind > kept.kmap-new-2
+ran 'new files are there already' 0 '' '' compile letter kept
+holds 'the tables are there beside them' cmp -s kept tables
+holds 'what was left behind stays' same_bytes kept.kmap-new "left$line"
+holds 'the second one stays too' same_bytes kept.kmap-new-2 "behind$line"
+holds 'and no third one' [ ! -e kept.kmap-new-3 ]
+rm kept.kmap-new kept.kmap-new-2
+mkdir taken
+echo old > taken/out
+(cd taken && : > out.kmap-new && seq 2 1000 | sed 's/^/out.kmap-new-/' | xargs touch)
+ran 'a thousand new files are there already' 1 '' "kmap: cannot create taken/out$line" compile letter taken/out
+holds 'then the old file stays' same_bytes taken/out "old$line"
+# Runs at once onto one file: all end well, and nothing is left.
+mkdir once
+for run in 1 2 3 4 5; do
+    for number in 1 2 3 4 5 6 7 8; do
+        { "$program" compile letter once/out > once.out.$number 2>&1; echo $? > once.status.$number; } &
+    done
+    wait
+    holds "eight runs at once, $run: statuses" [ "$(cat once.status.* | sort -u)" = 0 ]
+    holds "eight runs at once, $run: no line" [ -z "$(cat once.out.*)" ]
+    holds "eight runs at once, $run: the tables" cmp -s once/out tables
+    holds "eight runs at once, $run: nothing beside them" [ "$(ls once)" = out ]
+done
+
+# Where the folder takes no new file, what may be written is written in place. A name of 255 bytes has room for none
+# behind it.
+long=$(printf '%0255d' 0)
+ran 'compiles to a long name' 0 '' '' compile letter "$long"
+holds 'the tables have the long name' cmp -s "$long" tables
+echo old > "$long"
+chmod 640 "$long"
+ran 'compiles onto a long name' 0 '' '' compile letter "$long"
+holds 'the tables are there' cmp -s "$long" tables
+holds 'with the rights of the old file' [ "$(stat -c %a "$long")" = 640 ]
+ran 'a name that is too long' 1 '' "kmap: cannot create ${long}0$line" compile letter "${long}0"
+rm "$long"
+as_nobody=
+if [ "$(id -u)" -eq 0 ]; then
+    as_nobody='setpriv --reuid=65534 --regid=65534 --clear-groups'
+    # shellcheck disable=SC2086 # they are words
+    if ! $as_nobody "$program" --version > stdout 2>&1; then
+        as_nobody=none
+        echo 'skipped: nobody may not run the program, or there is no setpriv, and the superuser has all rights'
+    fi
+fi
+if [ "$as_nobody" != none ]; then
+    mkdir bare
+    for name in mine kept; do
+        echo old > bare/$name
+        [ -z "$as_nobody" ] || chown 65534:65534 bare/$name
+    done
+    chmod 644 letter bare/mine
+    chmod 444 bare/kept
+    chmod 755 .
+    chmod 555 bare
+    # refused_rights NAME OUT: OUT can't be created
+    refused_rights() {
+        # shellcheck disable=SC2086 # they are words
+        $as_nobody "$program" compile letter "$2" > stdout 2> stderr
+        holds "$1: status" [ $? -eq 1 ]
+        holds "$1: line" same_bytes stderr "kmap: cannot create $2$line"
+    }
+    # shellcheck disable=SC2086 # they are words
+    $as_nobody "$program" compile letter bare/mine > stdout 2> stderr
+    holds 'a folder without rights: status' [ $? -eq 0 ]
+    holds 'a folder without rights: no line' [ ! -s stderr ]
+    holds 'a folder without rights: written in place' cmp -s bare/mine tables
+    refused_rights 'a file without rights' bare/kept
+    holds 'a file without rights stays' same_bytes bare/kept "old$line"
+    refused_rights 'no file in such a folder' bare/none
+    holds 'none is made in such a folder' [ "$(ls bare)" = "kept
+mine" ]
+    chmod 755 bare
+fi
 "$program" compile letter /dev/stdout > piped
 holds 'compiles to a file that is open as standard output' cmp -s piped tables
 "$program" compile letter /dev/stdout | cat > piped
@@ -320,6 +407,30 @@ down 42
 up 42
 up 29
 " '' check --show "$examples/trap.kbd"
+# Many texts: each report stands behind the name of its text, and a line on a fault has the name.
+ran 'checks two' 1 "shift
+${accepted}$examples/trap.kbd
+$refused" '' check shift "$examples/trap.kbd"
+ran 'checks the same twice, with an option between' 0 "shift
+${accepted}demonstration: none
+shift
+${accepted}demonstration: none
+" '' check shift --show shift
+ran 'goes on behind a fault' 1 "shift
+${accepted}letter
+accepted
+$(bearers nobody nobody | sed 's/^lshift.*/lshift nobody/')
+" "kmap: cut: text line 1 offset 3: EndInside
+kmap: cannot open none1
+kmap: folder: text: read fault at offset 0
+kmap: blanks: text: more than 1048576 bytes
+" check shift cut none1 folder blanks letter
+ran 'one text has no name' 1 '' "kmap: text line 1 offset 3: EndInside$line" check cut
+cp shift "$(printf 'a\033[31mb')"
+ran 'a name that a terminal does not show stands before its report' 0 "$(printf 'a\357\277\275[31mb')
+${accepted}shift
+${accepted}" '' check "$(printf 'a\033[31mb')" shift
+rm "$(printf 'a\033[31mb')"
 for text in us de; do
     holds "accepts the example $text" [ "$("$program" check "$examples/$text.kbd" | head -n 1)" = accepted ]
 done
@@ -438,6 +549,43 @@ press 42: char 0; mods lshift; locks alock
 release 42: none; mods lshift; locks alock
 " '' play half found
 
+# `-` is the standard input of the commands that are no promise, `./-` a file of that name; in the others it is one too.
+# reads NAME STATUS STDOUT STDERR FILE ARGS..: as ran, with the file as standard input
+reads() {
+    input=$5
+    label=$1 status=$2 out=$3 err=$4
+    shift 5
+    exec 6< "$input"
+    ran "$label" "$status" "$out" "$err" "$@" <&6
+    exec 6<&-
+}
+printf a > sentence
+reads 'searches standard input' 0 "# never sticks$line" '' shift search -
+reads 'searches standard input as the next keymap' 1 "$("$program" search lock --next locked)$line" '' locked \
+    search lock --next -
+reads 'types on a keymap of standard input' 0 "# a
+down 30
+up 30
+" '' shift type - sentence
+reads 'types standard input' 0 "# a
+down 30
+up 30
+" '' sentence type shift -
+reads 'covers standard input' 0 "$("$program" cover shift)$line" '' shift cover -
+reads 'draws standard input' 0 "$("$program" draw shift)$line" '' shift draw -
+reads 'a fault of standard input' 1 '' "kmap: text line 1 offset 3: EndInside$line" cut search -
+reads 'check takes the name as given' 1 '' "kmap: cannot open -$line" shift check -
+reads 'play takes the name as given' 1 '' "kmap: cannot open -$line" shift play - tap
+reads 'play takes the name of a script as given' 1 '' "kmap: cannot open -$line" tap play shift -
+reads 'compile takes the name as given' 1 '' "kmap: cannot open -$line" shift compile - made
+reads 'dump takes the name as given' 1 '' "kmap: cannot open -$line" tables dump -
+cp shift ./-
+ran 'a file of that name, searched' 0 "# never sticks$line" '' search ./-
+ran 'a file of that name, checked' 0 "$accepted" '' check -
+reads 'compiles to a file of that name' 0 '' '' letter compile shift -
+holds 'it is a file' [ "$(wc -c < ./-)" -eq 15524 ]
+rm ./-
+
 # fails_to_write NAME ARGS..: on a full device and on a closed standard output the fault is told
 fails_to_write() {
     label=$1
@@ -450,6 +598,7 @@ fails_to_write() {
     holds "$label to a closed output: line" same_bytes stderr "kmap: write fault after 0 bytes$line"
 }
 fails_to_write 'checks' check shift
+fails_to_write 'checks two' check shift letter
 fails_to_write 'shows' check --show "$examples/trap.kbd"
 fails_to_write 'searches' search shift
 fails_to_write 'searches two' search lock --next locked
@@ -464,6 +613,37 @@ fails_to_write 'plays' play letter tap
 fails_to_write 'plays two' play caps load --next shift
 fails_to_write 'types' play letter tap --typed
 ran 'compiles to a full device' 1 '' "kmap: write fault after 0 bytes$line" compile letter /dev/full
+fails_to_write 'helps' --help
+fails_to_write 'helps on a command' check --help
+fails_to_write 'tells its version' --version
+
+# A reader that goes away ends the program without a word.
+# leaves NAME ARGS..: what the program writes has no reader
+leaves() {
+    label=$1
+    shift
+    mkfifo left
+    exec 4<> left 5> left
+    exec 4<&-
+    (exec "$program" "$@" >&5 5>&-) 2> stderr
+    got=$?
+    exec 5>&-
+    rm left
+    holds "$label without a reader: status $got" [ $got -eq 1 ]
+    holds "$label without a reader: no line" [ ! -s stderr ]
+}
+leaves 'checks' check shift
+leaves 'checks two' check shift letter
+leaves 'searches' search shift
+leaves 'lints' lint "$examples/trap.kbd"
+leaves 'lays out' fmt --print letter
+leaves 'tells what is not laid out' fmt --check letter letter
+leaves 'types a sentence' type shift sentence
+leaves 'covers' cover shift
+leaves 'dumps' dump tables
+leaves 'draws' draw letter
+leaves 'plays' play letter tap
+leaves 'helps' --help
 "$program" check none1 2> /dev/full
 holds 'the status stays where the line cannot be written' [ $? -eq 1 ]
 "$program" check none1 2>&-
@@ -501,8 +681,40 @@ tells 'an unknown option of help' 2 stderr stdout help --loud
 tells 'no words' 2 stderr stdout
 tells 'an unknown word' 2 stderr stdout jump
 tells 'a word too few' 2 stderr stdout play letter
-tells 'a word too many' 2 stderr stdout check letter tap
+tells 'a word too many' 2 stderr stdout search letter tap
 tells 'an unknown flag' 2 stderr stdout check letter --loud
 tells 'words that are not UTF-8' 2 stderr stdout check "$(printf '\377')"
+tells 'a later word that is not UTF-8' 2 stderr stdout check letter "$(printf 'a\377\033b')" tap
+holds 'it is told which' [ "$(head -n 1 stderr)" = \
+    "$(printf 'error: argument 3 is not valid UTF-8: a\357\277\275\357\277\275b')" ]
+tells 'a long word that is not UTF-8' 2 stderr stdout check "$(printf '%01000d\377' 0)"
+holds 'it is told too' [ "$(head -n 1 stderr)" = \
+    "$(printf 'error: argument 2 is not valid UTF-8: %01000d\357\277\275' 0)" ]
+
+# What is repeated of wrong words has no controls.
+# shows NAME TEXT ARGS..: the words are wrong, and what is told of them has this text and no control but line feeds
+shows() {
+    label=$1 text=$2
+    shift 2
+    tells "$label" 2 stderr stdout "$@"
+    holds "$label: shown" grep -qF -- "$text" stderr
+    holds "$label: no control" [ "$(LC_ALL=C tr -d '\012\040-\176\200-\377' < stderr | wc -c)" -eq 0 ]
+}
+shows 'a word too many with an escape' "$(printf "'e\357\277\275[31m.kbd'")" search letter "$(printf 'e\033[31m.kbd')"
+shows 'a command with an escape' "$(printf "'e\357\277\275[31m'")" "$(printf 'e\033[31m')"
+shows 'an option with an escape' "$(printf "'--e\357\277\275[31m'")" check "$(printf -- '--e\033[31m')" letter
+shows 'a word of two lines' "$(printf "'a\357\277\275b'")" search letter "$(printf 'a\nb')"
+# The tip has the whole word.
+tells 'a name with a dash' 2 stderr stdout check -x.kbd
+holds 'a name with a dash: its tip' grep -qxF "  tip: to pass '-x.kbd' as a value, use '-- -x.kbd'" stderr
+holds 'a name with a dash: no other' [ "$(grep -c -- "'-- " stderr)" -eq 1 ]
+tells 'a name with two dashes' 2 stderr stdout check --x=.kbd
+holds 'a name with two dashes: its tip' grep -qxF "  tip: to pass '--x=.kbd' as a value, use '-- --x=.kbd'" stderr
+cp shift ./-x.kbd
+ran 'what the tip says' 0 "$accepted" '' check -- -x.kbd
+# Options stand where they like.
+ran 'an option before the files' 0 'a' '' play --typed letter tap
+ran 'an option between the files' 0 'a' '' play letter --typed tap
+ran 'an option between compile'"'"'s' 0 '' '' compile letter --narrow small
 
 counted

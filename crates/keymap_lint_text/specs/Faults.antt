@@ -59,9 +59,15 @@ is_unnamed c = nat_lt c 33 || c == 127
 abbrev pub hex_byte : ℕ → List ℕ
 hex_byte c = digit_char (c / 16) ∷ digit_char (c % 16) ∷ []
 
+-- the byte order mark, U+FEFF in UTF-8, in front of bytes
+abbrev pub begins_with_mark : List ℕ → Bool
+begins_with_mark bytes =
+    slice_index bytes 0 == 239 && slice_index bytes 1 == 187 && slice_index bytes 2 == 191
+
 unfoldable pub bad_byte_text : List ℕ → List ℕ
 bad_byte_text bytes =
     if is_unnamed (slice_index bytes 0) then filled words.UNNAMED_BYTE.now (hex_byte (slice_index bytes 0) ∷ [])
+    else if begins_with_mark bytes then filled words.MARK.now []
     else filled words.BAD_BYTE.now (front_text bytes ∷ front_text bytes ∷ [])
 
 abbrev pub wants_character : Wanted → Bool

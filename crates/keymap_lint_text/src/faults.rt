@@ -7,8 +7,8 @@ ghost use Rattle.keymap_lint_text.specs.Faults as spec;
 use crate::told::{first_shown, started, wanted, word};
 use crate::words::{
     ALL_CELLS, BAD_BYTE, BAD_CHAR, BAD_FUNCTION, BAD_LITERAL, BAD_WORD, COMBINED, ENDS,
-    ENDS_QUOTED, FEW_CELLS, FUNCTION_KEYS, KEY_TOO_LARGE, LONG_WORD, MEANT_CHARACTER, MEANT_NOP,
-    MEANT_NUMBER, SCREENS, TOO_MANY_PAIRS, UNEXPECTED, UNNAMED_BYTE, ZERO_BASE,
+    ENDS_QUOTED, FEW_CELLS, FUNCTION_KEYS, KEY_TOO_LARGE, LONG_WORD, MARK, MEANT_CHARACTER,
+    MEANT_NOP, MEANT_NUMBER, SCREENS, TOO_MANY_PAIRS, UNEXPECTED, UNNAMED_BYTE, ZERO_BASE,
 };
 use keymap_text::{
     DefinitionStart, FaultPlace, Meaning, TextFaultKind, Wanted, next_token, word_meaning,
@@ -111,6 +111,13 @@ fn first_byte(bytes: &[u8]) -> u8
     if bytes.is_empty() { 0 } else { bytes[0] }
 }
 
+/// Whether a byte order mark stands in front of bytes.
+fn begins_with_mark(bytes: &[u8]) -> bool
+    ensures { result ≡ spec.begins_with_mark bytes.now }
+{
+    bytes.len() >= 3 && bytes[0] == 0xef && bytes[1] == 0xbb && bytes[2] == 0xbf
+}
+
 /// What is said of bytes that begin no token.
 #[tactic(auto, unfolding(crate::specs::Faults::bad_byte_text))]
 fn bad_byte(alloc: Global, bytes: &[u8]) -> Result<Vec<u8>, AllocError>
@@ -120,6 +127,8 @@ fn bad_byte(alloc: Global, bytes: &[u8]) -> Result<Vec<u8>, AllocError>
     if byte < 33 || byte == 127 {
         let digits = [hex_digit(byte / 16), hex_digit(byte % 16)];
         filled(alloc, UNNAMED_BYTE, &[&digits])
+    } else if begins_with_mark(bytes) {
+        filled(alloc, MARK, &[])
     } else {
         let character = front(alloc, bytes)?;
         filled(

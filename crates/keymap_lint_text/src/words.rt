@@ -78,6 +78,8 @@ pub(crate) const UNNAMED_BYTE: &[u8] = b"the byte 0x{} begins no word";
 
 pub(crate) const BAD_BYTE: &[u8] = b"{} begins no word; a character that is meant is quoted: '{}'";
 
+pub(crate) const MARK: &[u8] = b"a byte order mark begins no word; remove it";
+
 pub(crate) const BAD_LITERAL: &[u8] =
     b"no quoted character stands here: an apostrophe, one character other than a line feed, an apostrophe";
 

@@ -28,11 +28,17 @@ struct Described {
     words: &'static [Word],
 }
 
-/// The keymap text that most subcommands read.
+/// The keymap text that a subcommand reads.
 const TEXT: Word = File("TEXT", "The keymap text");
+
+/// The same where it may be the standard input.
+const STREAM: Word = File("TEXT", "The keymap text, or - for standard input");
 
 /// The keymap texts of a subcommand that takes one after the other.
 const TEXTS: Word = Files("TEXT", "The keymap texts");
+
+/// The same where they may be the standard input.
+const STREAMS: Word = Files("TEXT", "The keymap texts, or - for standard input");
 
 const NEXT: Word = FileOption("next", "TEXT2", "The keymap text that a load puts in force");
 
@@ -42,7 +48,7 @@ static SUBCOMMANDS: [Described; 10] = [
         about: "Accepts a keymap only if no key can leave a modifier on",
         example: "Example: kmap check --show de.kbd{n}{n}kmap(1) tells how to read the report.",
         words: &[
-            TEXT,
+            TEXTS,
             Flag(
                 "show",
                 "Also prints key presses that leave a modifier on, if found",
@@ -53,20 +59,24 @@ static SUBCOMMANDS: [Described; 10] = [
         name: "search",
         about: "Decides whether key presses can leave a modifier on",
         example: "Example: kmap search de.kbd{n}{n}kmap(1) tells how to read the answer.",
-        words: &[TEXT, NEXT],
+        words: &[STREAM, NEXT],
     },
     Described {
         name: "lint",
         about: "Tells what is wrong or doubtful in keymap texts, and where",
         example: "Example: kmap lint de.kbd us.kbd{n}{n}kmap(1) tells what to do about each kind.",
-        words: &[TEXTS],
+        words: &[
+            STREAMS,
+            Flag("strict", "Counts warnings as errors"),
+            FileOption("name", "FILE", "The name that standard input is told under"),
+        ],
     },
     Described {
         name: "fmt",
         about: "Writes keymap texts in one layout, and changes nothing else",
         example: "Example: kmap fmt de.kbd us.kbd{n}{n}kmap(1) tells what the layout is.",
         words: &[
-            TEXTS,
+            STREAMS,
             FlagWithout(
                 "check",
                 "Writes nothing, and fails where a text is not in the layout",
@@ -90,13 +100,13 @@ static SUBCOMMANDS: [Described; 10] = [
         name: "type",
         about: "Prints a script of key presses that types a sentence",
         example: "Example: kmap type de.kbd sentence > script{n}{n}kmap(1) tells which ways are tried.",
-        words: &[TEXT, File("SENTENCE", "The sentence, in UTF-8")],
+        words: &[STREAM, File("SENTENCE", "The sentence, in UTF-8, or -")],
     },
     Described {
         name: "cover",
         about: "Prints a script that tests a console with all that a keymap can do",
         example: "Example: kmap cover us.kbd > us.script{n}{n}kmap(1) tells what the script tries.",
-        words: &[TEXT],
+        words: &[STREAM],
     },
     Described {
         name: "compile",
@@ -122,7 +132,7 @@ static SUBCOMMANDS: [Described; 10] = [
         about: "Draws a keymap as one SVG picture",
         example: "Example: kmap draw de.kbd > de.svg{n}{n}kmap(1) tells how to read the picture.",
         words: &[
-            TEXT,
+            STREAM,
             Flag("ansi", "Draws a board of 104 keys in place of 105"),
         ],
     },
@@ -137,7 +147,7 @@ fn argument<'a>(alloc: Global, word: Word) -> Result<Arg<'a>, AllocError> {
     match word {
         File(name, help) => Ok(named(alloc, name, help, ArgAction::Set).required(true)),
         Files(name, help) => {
-            let files = named(alloc, name, help, ArgAction::Set).required(true);
+            let files = named(alloc, name, help, ArgAction::Append).required(true);
             Ok(files.num_args(1..))
         }
         Flag(name, help) => Ok(named(alloc, name, help, ArgAction::SetTrue).long(name)),
@@ -205,11 +215,15 @@ pub(crate) enum Request<'m, 'a> {
         narrow: bool,
     },
     Check {
-        text: &'a str,
+        texts: &'m [&'a str],
         show: bool,
     },
     Lint {
         texts: &'m [&'a str],
+        /// What stands for the name of the standard input.
+        name: Option<&'a str>,
+        /// Warnings count as errors.
+        is_strict: bool,
     },
     Fmt {
         texts: &'m [&'a str],
@@ -255,7 +269,7 @@ fn compile_request<'m, 'a>(words: &'m ArgMatches<'a>) -> Option<Request<'m, 'a>>
 
 fn check_request<'m, 'a>(words: &'m ArgMatches<'a>) -> Option<Request<'m, 'a>> {
     Some(Request::Check {
-        text: words.get_str("TEXT")?,
+        texts: words.get_strs("TEXT")?,
         show: words.get_flag("show"),
     })
 }
@@ -263,6 +277,8 @@ fn check_request<'m, 'a>(words: &'m ArgMatches<'a>) -> Option<Request<'m, 'a>> {
 fn lint_request<'m, 'a>(words: &'m ArgMatches<'a>) -> Option<Request<'m, 'a>> {
     Some(Request::Lint {
         texts: words.get_strs("TEXT")?,
+        name: words.get_str("name"),
+        is_strict: words.get_flag("strict"),
     })
 }
 

@@ -1,11 +1,14 @@
 //! `kmap fmt`: texts are laid out, and written, compared or printed.
 use crate::command_line::FmtMode;
-use crate::program::{Failure, is_well, opened};
+use crate::inputs::{Source, buffered, given, is_standard_input, opened_file};
+use crate::output::Output;
+use crate::program::{Failure, is_well, of_many, report_name};
 use crate::replace::{ReplaceFault, Replacement};
 use keymap_core::{ToStd, Write, put, write_text};
 use kmap_runs::{RunError, fmt_print_run, fmt_run};
-use std::fs::{Files, Metadata};
-use std::{fs, io};
+use std::fs;
+use std::fs::{File, Files, Metadata};
+use std::io::Read;
 
 /// What a new file has behind the name of the old one until it takes its place.
 const SUFFIX: &str = ".kmap-fmt";
@@ -19,51 +22,86 @@ pub(crate) fn format_texts<'a, R, W>(
     faults: &mut W,
 ) -> Result<bool, Failure<'a>>
 where
-    R: AllocGlobal + Files + Print,
+    R: AllocGlobal + Files<File = File> + Input + Print,
     W: Write,
 {
+    let mut replaced = Vec::new(rt.alloc());
     let mut well = true;
     for text in texts {
         let outcome = match mode {
-            FmtMode::Write => write_one(rt, text),
+            FmtMode::Write => write_one(rt, text, &mut replaced),
             FmtMode::Check => check_one(rt, text),
             FmtMode::Print => print_one(rt, text),
         };
-        match outcome {
-            Err(Failure::Run(RunError::Write(fault))) => {
-                return Err(Failure::Run(RunError::Write(fault)));
+        match (mode, outcome) {
+            (FmtMode::Write, Err(Failure::Run(RunError::Write(fault)))) => {
+                let failure = Failure::OfFile(text, RunError::Write(fault));
+                let stopped = is_well(rt.alloc(), Err(failure), faults);
+                report_replaced(rt, replaced.as_slice(), faults);
+                return Ok(stopped);
             }
-            outcome => well = is_well(rt.alloc(), outcome, faults) && well,
+            (_, outcome) => well = of_many(rt.alloc(), outcome, faults)? && well,
         }
     }
     Ok(well)
 }
 
-/// Writes a text anew if it isn't in the layout.
-fn write_one<'a, R>(rt: &R, text: &'a str) -> Result<bool, Failure<'a>>
+/// Writes a line for each text that was replaced before the output failed.
+fn report_replaced<R: AllocGlobal, W: Write>(rt: &R, replaced: &[&str], faults: &mut W) {
+    for text in replaced {
+        report_name(rt.alloc(), b"kmap: ", text, b": replaced\n", faults);
+    }
+}
+
+/// Writes a text anew if it isn't in the layout, and keeps its name.
+fn write_one<'a, R>(rt: &R, text: &'a str, replaced: &mut Vec<&'a str>) -> Result<bool, Failure<'a>>
 where
-    R: AllocGlobal + Files + Print,
+    R: AllocGlobal + Files<File = File> + Input + Print,
 {
-    let old = match fs::metadata(rt, text) {
-        Ok(metadata) if metadata.is_file() => metadata,
-        Ok(_) => return Err(Failure::NotRegular(text)),
-        Err(_) => return Err(Failure::CannotOpen(text)),
-    };
-    if let Some(laid) = laid_out(rt, text)? {
+    if is_standard_input(text) {
+        return print_one(rt, text);
+    }
+    let (old, file) = regular(rt, text)?;
+    if let Some(laid) = laid_out(rt, text, buffered(rt, file)?)? {
+        if replaced.reserve(1).is_err() {
+            return Err(Failure::Run(RunError::Memory));
+        }
         match replace(rt, text, old, laid.as_slice()) {
-            Ok(()) => tell(rt, text)?,
+            Ok(()) => {
+                let _ = replaced.push(text);
+                tell(rt, text)?;
+            }
             Err(fault) => return Err(failure_of(text, fault)),
         }
     }
     Ok(true)
 }
 
+/// A regular file, which is open, and what is known of it.
+fn regular<'a, R>(rt: &R, text: &'a str) -> Result<(Metadata, File), Failure<'a>>
+where
+    R: Files<File = File>,
+{
+    // A pipe isn't opened, since that waits for its other end.
+    match fs::metadata(rt, text) {
+        Ok(found) if found.is_file() => {}
+        Ok(_) => return Err(Failure::NotRegular(text)),
+        Err(_) => return Err(Failure::CannotOpen(text)),
+    }
+    let file = opened_file(rt, text)?;
+    match file.metadata() {
+        Ok(found) if found.is_file() => Ok((found, file)),
+        Ok(_) => Err(Failure::NotRegular(text)),
+        Err(_) => Err(Failure::CannotOpen(text)),
+    }
+}
+
 /// Whether a text is in the layout. If not, its name is told.
 fn check_one<'a, R>(rt: &R, text: &'a str) -> Result<bool, Failure<'a>>
 where
-    R: AllocGlobal + Files + Print,
+    R: AllocGlobal + Files + Input + Print,
 {
-    match laid_out(rt, text)? {
+    match laid_out(rt, text, given(rt, text)?)? {
         None => Ok(true),
         Some(_) => {
             tell(rt, text)?;
@@ -74,23 +112,23 @@ where
 
 fn print_one<'a, R>(rt: &R, text: &'a str) -> Result<bool, Failure<'a>>
 where
-    R: AllocGlobal + Files + Print,
+    R: AllocGlobal + Files + Input + Print,
 {
-    let mut source = opened(rt, text)?;
-    let mut out = ToStd::new(io::writer(rt));
+    let mut source = given(rt, text)?;
+    let mut out = Output::new(rt);
     match fmt_print_run(rt.alloc(), &mut source, &mut out) {
         Ok(()) => Ok(true),
-        Err(RunError::Write(fault)) => Err(Failure::Run(RunError::Write(fault))),
+        Err(RunError::Write(fault)) => out.outcome(Err(RunError::Write(fault))),
         Err(error) => Err(Failure::OfFile(text, error)),
     }
 }
 
 /// The layout of a text where that differs from it.
-fn laid_out<'a, R>(rt: &R, text: &'a str) -> Result<Option<Vec<u8>>, Failure<'a>>
-where
-    R: AllocGlobal + Files,
-{
-    let mut source = opened(rt, text)?;
+fn laid_out<'a, R: AllocGlobal, F: Read + Drop>(
+    rt: &R,
+    text: &'a str,
+    mut source: Source<F>,
+) -> Result<Option<Vec<u8>>, Failure<'a>> {
     match fmt_run(rt.alloc(), &mut source) {
         Ok(laid) => Ok(laid),
         Err(error) => Err(Failure::OfFile(text, error)),
@@ -99,10 +137,9 @@ where
 
 fn replace<R>(rt: &R, text: &str, old: Metadata, laid: &[u8]) -> Result<(), ReplaceFault>
 where
-    R: AllocGlobal + Files,
+    R: AllocGlobal + Files<File = File>,
 {
-    let replacement = Replacement::new(rt, text, Some(old), SUFFIX)?;
-    let mut file = replacement.create(rt)?;
+    let (replacement, mut file) = Replacement::create(rt, text, Some(old), SUFFIX)?;
     let written = match write_text(&mut ToStd::new(&mut file), laid) {
         Ok(()) => Ok(laid.len() as u64),
         Err(fault) => Err(RunError::Write(fault)),
@@ -113,7 +150,7 @@ where
 fn failure_of<'a>(text: &'a str, fault: ReplaceFault) -> Failure<'a> {
     match fault {
         ReplaceFault::Memory => Failure::Run(RunError::Memory),
-        ReplaceFault::Exists(name) | ReplaceFault::CannotCreate(name) => {
+        ReplaceFault::TakesNone(name) | ReplaceFault::CannotCreate(name) => {
             Failure::CannotCreateNew(name)
         }
         ReplaceFault::Write(error) => Failure::OfFile(text, error),
@@ -123,13 +160,13 @@ fn failure_of<'a>(text: &'a str, fault: ReplaceFault) -> Failure<'a> {
 
 /// Writes the name of a file as a line.
 fn tell<'a, R: Print>(rt: &R, name: &str) -> Result<(), Failure<'a>> {
-    let mut out = ToStd::new(io::writer(rt));
+    let mut out = Output::new(rt);
     let told = match put(&mut out, 0, name.as_bytes()) {
         Ok(before) => put(&mut out, before, b"\n"),
         Err(fault) => Err(fault),
     };
     match told {
         Ok(_) => Ok(()),
-        Err(fault) => Err(Failure::Run(RunError::Write(fault))),
+        Err(fault) => out.outcome(Err(RunError::Write(fault))),
     }
 }

@@ -5,9 +5,14 @@
 #![tactic(auto)]
 
 mod command_line;
+mod compile;
 mod format;
+mod inputs;
+mod output;
 mod program;
+mod refusal;
 mod replace;
+mod texts;
 
 use keymap_core::ToStd;
 use std::process::ExitCode;

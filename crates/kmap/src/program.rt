@@ -1,23 +1,25 @@
 //! One run of the program: the words, the files that they name, and the exit status.
 use crate::command_line::{Request, command, request_of};
+use crate::compile::compile;
 use crate::format::format_texts;
-use crate::replace::{ReplaceFault, Replacement};
-use clap::error::{Error, ErrorKind};
-use keymap_core::{FromStd, ToStd, Write, write_text};
+use crate::inputs::{given, given_if_named, opened, opened_if_named};
+use crate::output::Output;
+use crate::refusal::{not_text, refused};
+use crate::texts::{check, lint};
+use keymap_core::{Write, write_text};
 use keymap_draw::Board;
 use keymap_lint_text::shown_name;
-use keymap_tables::{NARROW_FILE, WIDE_FILE};
 use kmap_runs::{
-    RunError, check_run, compile_narrow_run, compile_run, cover_run, draw_run, dump_narrow_run,
-    dump_run, file_error_line, lint_run, search_run, type_run, write_run_error,
+    RunError, cover_run, draw_run, dump_narrow_run, dump_run, file_error_line, search_run,
+    type_run, write_run_error,
 };
 use play_core::{Show, play_next};
 use std::alloc::{AllocError, Global};
 use std::convert::AsStr;
-use std::io::BufReader;
+use std::fs::{File, Files};
 use std::process::ExitCode;
-use std::rt::{Env, Files};
-use std::{env, fs, io};
+use std::rt::Env;
+use std::{env, io};
 
 /// Why the program ends with status 1, besides a refused map.
 #[derive(Drop)]
@@ -31,22 +33,21 @@ pub(crate) enum Failure<'a> {
     /// The new file that is to take the place of another can't be made.
     CannotCreateNew(String),
     CannotReplace(&'a str),
+    /// Who read the output has gone away, which isn't told.
+    NoReader,
 }
 
-/// The status where the words are wrong.
-const WRONG_WORDS: u8 = 2;
-
-/// How many bytes of a file are asked for at once.
-const READ_AHEAD: usize = 16_384;
-
-/// A file that is read. The libraries ask for few bytes at a time, and the buffer asks the file for many. It hands on
-/// what one read of the file gave before it reads again, so what comes by a pipe or a terminal isn't waited for.
-pub(crate) type Source<F> = FromStd<BufReader<F>>;
+impl Failure<'_> {
+    /// Whether nothing more can be written to the output.
+    fn is_of_output(&self) -> bool {
+        matches!(self, Failure::NoReader | Failure::Run(RunError::Write(_)))
+    }
+}
 
 /// Does what the words of the command line ask for. A fault is one line to `faults`.
 pub(crate) fn run<R, W>(rt: &R, faults: &mut W) -> ExitCode
 where
-    R: Env + AllocGlobal + Files + Print + Eprint,
+    R: Env + AllocGlobal + Files<File = File> + Input + Print + Eprint,
     W: Write,
 {
     match words_run(rt, faults) {
@@ -73,12 +74,12 @@ fn words_of<R: Env + AllocGlobal>(rt: &R) -> Result<Option<Vec<String>>, AllocEr
 
 fn words_run<R, W>(rt: &R, faults: &mut W) -> Result<ExitCode, AllocError>
 where
-    R: Env + AllocGlobal + Files + Print + Eprint,
+    R: Env + AllocGlobal + Files<File = File> + Input + Print + Eprint,
     W: Write,
 {
     match words_of(rt)? {
         Some(words) => text_run(rt, words.as_slice(), faults),
-        None => no_text(rt),
+        None => not_text(rt),
     }
 }
 
@@ -91,7 +92,7 @@ fn asks_by_option(command: &str, option: &str) -> bool {
 /// other words, under the name that the program was called by.
 fn text_run<R, W>(rt: &R, words: &[String], faults: &mut W) -> Result<ExitCode, AllocError>
 where
-    R: AllocGlobal + Files + Print + Eprint,
+    R: Env + AllocGlobal + Files<File = File> + Input + Print + Eprint,
     W: Write,
 {
     match words {
@@ -105,7 +106,7 @@ where
 /// Does what a command line asks for.
 fn command_run<R, S, W>(rt: &R, words: &[S], faults: &mut W) -> Result<ExitCode, AllocError>
 where
-    R: AllocGlobal + Files + Print + Eprint,
+    R: Env + AllocGlobal + Files<File = File> + Input + Print + Eprint,
     S: AsStr,
     W: Write,
 {
@@ -115,32 +116,13 @@ where
                 let outcome = answer(rt, request, faults);
                 Ok(status(is_well(rt.alloc(), outcome, faults)))
             }
-            None => no_text(rt),
+            None => not_text(rt),
         },
-        Err(error) => refused(rt, error),
+        Err(error) => refused(rt, &error, words, faults),
     }
 }
 
-/// Tells what `clap` says of the words: that they are wrong, or the help or version that they ask for.
-fn refused<R: Print + Eprint>(rt: &R, error: Error) -> Result<ExitCode, AllocError> {
-    if error.kind() == ErrorKind::OutOfMemory {
-        return Err(AllocError);
-    }
-    let _ = error.print(rt);
-    Ok(ExitCode::from(if error.use_stderr() { WRONG_WORDS } else { 0 }))
-}
-
-/// Tells that the words are no text.
-fn no_text<R: AllocGlobal + Print + Eprint>(rt: &R) -> Result<ExitCode, AllocError> {
-    let refusal = command(rt.alloc())?.error(
-        ErrorKind::InvalidValue,
-        "an argument is not valid UTF-8",
-    )?;
-    let _ = refusal.print(rt);
-    Ok(ExitCode::from(WRONG_WORDS))
-}
-
-fn status(is_well: bool) -> ExitCode {
+pub(crate) fn status(is_well: bool) -> ExitCode {
     if is_well {
         ExitCode::SUCCESS
     } else {
@@ -160,6 +142,19 @@ pub(crate) fn is_well<W: Write>(
             report(alloc, &failure, faults);
             false
         }
+    }
+}
+
+/// Whether all is well with one text of many. One that can't be read gets its line, so that the next one can follow;
+/// where the output fails, none does.
+pub(crate) fn of_many<'a, W: Write>(
+    alloc: Global,
+    outcome: Result<bool, Failure<'a>>,
+    faults: &mut W,
+) -> Result<bool, Failure<'a>> {
+    match outcome {
+        Err(failure) if failure.is_of_output() => Err(failure),
+        outcome => Ok(is_well(alloc, outcome, faults)),
     }
 }
 
@@ -187,6 +182,7 @@ fn report<W: Write>(alloc: Global, failure: &Failure<'_>, faults: &mut W) {
         Failure::CannotReplace(name) => {
             report_name(alloc, b"kmap: cannot replace ", name, b"\n", faults);
         }
+        Failure::NoReader => {}
     }
 }
 
@@ -198,7 +194,13 @@ fn report_of_file<W: Write>(alloc: Global, name: &str, error: &RunError, faults:
 }
 
 /// Writes a line that has the name of a file, as it is shown.
-fn report_name<W: Write>(alloc: Global, front: &[u8], name: &str, end: &[u8], faults: &mut W) {
+pub(crate) fn report_name<W: Write>(
+    alloc: Global,
+    front: &[u8],
+    name: &str,
+    end: &[u8],
+    faults: &mut W,
+) {
     match shown_name(alloc, name.as_bytes()) {
         Ok(shown) => {
             if write_text(faults, front).is_ok() && write_text(faults, shown.as_slice()).is_ok() {
@@ -215,12 +217,16 @@ fn report_name<W: Write>(alloc: Global, front: &[u8], name: &str, end: &[u8], fa
 /// text with an error.
 fn answer<'a, R, W>(rt: &R, request: Request<'_, 'a>, faults: &mut W) -> Result<bool, Failure<'a>>
 where
-    R: AllocGlobal + Files + Print,
+    R: AllocGlobal + Files<File = File> + Input + Print,
     W: Write,
 {
     match request {
-        Request::Check { text, show } => check(rt, text, show),
-        Request::Lint { texts } => lint(rt, texts, faults),
+        Request::Check { texts, show } => check(rt, texts, show, faults),
+        Request::Lint {
+            texts,
+            name,
+            is_strict,
+        } => lint(rt, texts, name, is_strict, faults),
         Request::Fmt { texts, mode } => format_texts(rt, mode, texts, faults),
         Request::Search { text, next } => search(rt, text, next),
         Request::Dump { tables, narrow } => well(dump(rt, tables, narrow)),
@@ -248,57 +254,18 @@ fn well<'a>(outcome: Result<(), Failure<'a>>) -> Result<bool, Failure<'a>> {
     }
 }
 
-fn check<'a, R>(rt: &R, text: &'a str, show: bool) -> Result<bool, Failure<'a>>
-where
-    R: AllocGlobal + Files + Print,
-{
-    let mut source = opened(rt, text)?;
-    let mut out = ToStd::new(io::writer(rt));
-    run_outcome(check_run(rt.alloc(), &mut source, show, &mut out))
-}
-
-fn lint_one<'a, R>(rt: &R, text: &'a str) -> Result<bool, Failure<'a>>
-where
-    R: AllocGlobal + Files + Print,
-{
-    let mut source = opened(rt, text)?;
-    let mut out = ToStd::new(io::writer(rt));
-    match lint_run(rt.alloc(), text.as_bytes(), &mut source, &mut out) {
-        Err(error @ RunError::ReadText(_)) => Err(Failure::OfFile(text, error)),
-        outcome => run_outcome(outcome),
-    }
-}
-
-/// Whether no text has an error. One that can't be read gets its line, and the next one follows; where the output
-/// fails, none does.
-fn lint<'a, R, W>(rt: &R, texts: &[&'a str], faults: &mut W) -> Result<bool, Failure<'a>>
-where
-    R: AllocGlobal + Files + Print,
-    W: Write,
-{
-    let mut well = true;
-    for text in texts {
-        match lint_one(rt, text) {
-            Err(Failure::Run(RunError::Write(fault))) => {
-                return Err(Failure::Run(RunError::Write(fault)));
-            }
-            outcome => well = is_well(rt.alloc(), outcome, faults) && well,
-        }
-    }
-    Ok(well)
-}
-
 fn search<'a, R>(rt: &R, text: &'a str, next: Option<&'a str>) -> Result<bool, Failure<'a>>
 where
-    R: AllocGlobal + Files + Print,
+    R: AllocGlobal + Files + Input + Print,
 {
-    let mut text = opened(rt, text)?;
-    let mut next = opened_if_named(rt, next)?;
-    let mut out = ToStd::new(io::writer(rt));
-    run_outcome(search_run(rt.alloc(), &mut text, &mut next, &mut out))
+    let mut text = given(rt, text)?;
+    let mut next = given_if_named(rt, next)?;
+    let mut out = Output::new(rt);
+    let outcome = search_run(rt.alloc(), &mut text, &mut next, &mut out);
+    out.outcome(outcome)
 }
 
-fn run_outcome<'a, T>(outcome: Result<T, RunError>) -> Result<T, Failure<'a>> {
+pub(crate) fn run_outcome<'a, T>(outcome: Result<T, RunError>) -> Result<T, Failure<'a>> {
     match outcome {
         Ok(value) => Ok(value),
         Err(error) => Err(Failure::Run(error)),
@@ -310,99 +277,13 @@ where
     R: AllocGlobal + Files + Print,
 {
     let mut source = opened(rt, tables)?;
-    let mut out = ToStd::new(io::writer(rt));
-    run_outcome(if narrow {
+    let mut out = Output::new(rt);
+    let outcome = if narrow {
         dump_narrow_run(rt.alloc(), &mut source, &mut out)
     } else {
         dump_run(rt.alloc(), &mut source, &mut out)
-    })
-}
-
-/// Whether a file of this name can be replaced by a new one. A pipe, a device or a folder can't, nor can a link to
-/// nothing; and what the program was given as an open file is to be written there, whatever file it is.
-fn is_replaceable<R: Files>(rt: &R, out: &str) -> bool {
-    match fs::symlink_metadata(rt, out) {
-        Ok(found) if found.is_symlink() && is_of_the_system(out) => false,
-        Ok(_) => fs::metadata(rt, out).is_ok_and(|file| file.is_file()),
-        Err(_) => !out.is_empty(),
-    }
-}
-
-/// Whether a link of this name may stand for an open file, as /dev/stdout and /proc/self/fd/1 do.
-fn is_of_the_system(name: &str) -> bool {
-    name.starts_with("/dev/") || name.starts_with("/proc/")
-}
-
-/// The table file is made before OUT is touched, so a fault of the text leaves an old OUT as it is; and so does a fault
-/// of writing, since a new file takes the place of the old one. A keymap that doesn't fit in a narrow file leaves an
-/// empty OUT, which nobody takes for its tables.
-fn compile<'a, R>(rt: &R, text: &'a str, out: &'a str, narrow: bool) -> Result<(), Failure<'a>>
-where
-    R: AllocGlobal + Files,
-{
-    let mut source = opened(rt, text)?;
-    let mut table = [0; WIDE_FILE];
-    let mut room = ToStd::new(table.as_mut_slice());
-    let (outcome, size) = if narrow {
-        let outcome = compile_narrow_run(rt.alloc(), &mut source, &mut room);
-        (outcome, NARROW_FILE)
-    } else {
-        let outcome = compile_run(rt.alloc(), &mut source, &mut room);
-        (outcome, WIDE_FILE)
     };
-    match outcome {
-        Ok(()) => write_table(rt, &table[..size], out),
-        Err(RunError::TooWide(wide)) => {
-            write_table(rt, &[], out)?;
-            Err(Failure::Run(RunError::TooWide(wide)))
-        }
-        Err(error) => Err(Failure::Run(error)),
-    }
-}
-
-/// Writes a table file under this name.
-fn write_table<'a, R>(rt: &R, table: &[u8], out: &'a str) -> Result<(), Failure<'a>>
-where
-    R: AllocGlobal + Files,
-{
-    if is_replaceable(rt, out) {
-        match replace_tables(rt, table, out) {
-            Ok(()) => Ok(()),
-            Err(fault) => Err(compile_failure(out, fault)),
-        }
-    } else {
-        let Ok(file) = fs::create(rt, out) else {
-            return Err(Failure::CannotCreate(out));
-        };
-        run_outcome(write_text(&mut ToStd::new(file), table).map_err(RunError::Write))
-    }
-}
-
-/// What a new table file has behind the name of the old one until it takes its place.
-const NEW_TABLES: &str = ".kmap-new";
-
-fn replace_tables<R>(rt: &R, table: &[u8], out: &str) -> Result<(), ReplaceFault>
-where
-    R: AllocGlobal + Files,
-{
-    let replacement = Replacement::new(rt, out, fs::metadata(rt, out).ok(), NEW_TABLES)?;
-    let mut file = replacement.create(rt)?;
-    let written = match write_text(&mut ToStd::new(&mut file), table) {
-        Ok(()) => Ok(table.len() as u64),
-        Err(fault) => Err(RunError::Write(fault)),
-    };
-    replacement.finish(rt, &file, written)
-}
-
-/// Why no table file of this name was written.
-fn compile_failure<'a>(out: &'a str, fault: ReplaceFault) -> Failure<'a> {
-    match fault {
-        ReplaceFault::Memory => Failure::Run(RunError::Memory),
-        ReplaceFault::NotWritable | ReplaceFault::CannotCreate(_) => Failure::CannotCreate(out),
-        ReplaceFault::Exists(name) => Failure::CannotCreateNew(name),
-        ReplaceFault::Write(error) => Failure::Run(error),
-        ReplaceFault::CannotReplace => Failure::CannotReplace(out),
-    }
+    out.outcome(outcome)
 }
 
 fn play<'a, R>(
@@ -418,66 +299,45 @@ where
     let mut text = opened(rt, text)?;
     let mut next = opened_if_named(rt, next)?;
     let mut script = opened(rt, script)?;
-    let mut out = ToStd::new(io::writer(rt));
+    let mut out = Output::new(rt);
     let played = match &mut next {
         Some(next) => play_next(rt.alloc(), show, &mut text, next, &mut script, &mut out),
         None => play_core::play(rt.alloc(), show, &mut text, &mut script, &mut out),
     };
     match played {
         Ok(()) => Ok(()),
-        Err(error) => Err(Failure::Run(RunError::from(error))),
+        Err(error) => out.outcome(Err(RunError::from(error))),
     }
 }
 
 fn type_sentence<'a, R>(rt: &R, text: &'a str, sentence: &'a str) -> Result<(), Failure<'a>>
 where
-    R: AllocGlobal + Files + Print,
+    R: AllocGlobal + Files + Input + Print,
 {
-    let mut text = opened(rt, text)?;
-    let mut sentence = opened(rt, sentence)?;
-    let mut out = ToStd::new(io::writer(rt));
-    run_outcome(type_run(rt.alloc(), &mut text, &mut sentence, &mut out))
+    let mut text = given(rt, text)?;
+    let mut sentence = given(rt, sentence)?;
+    let mut out = Output::new(rt);
+    let outcome = type_run(rt.alloc(), &mut text, &mut sentence, &mut out);
+    out.outcome(outcome)
 }
 
 fn cover<'a, R>(rt: &R, text: &'a str) -> Result<(), Failure<'a>>
 where
-    R: AllocGlobal + Files + Print,
+    R: AllocGlobal + Files + Input + Print,
 {
-    let mut source = opened(rt, text)?;
-    let mut out = ToStd::new(io::writer(rt));
-    run_outcome(cover_run(rt.alloc(), &mut source, &mut out))
+    let mut source = given(rt, text)?;
+    let mut out = Output::new(rt);
+    let outcome = cover_run(rt.alloc(), &mut source, &mut out);
+    out.outcome(outcome)
 }
 
 fn draw<'a, R>(rt: &R, text: &'a str, ansi: bool) -> Result<(), Failure<'a>>
 where
-    R: AllocGlobal + Files + Print,
+    R: AllocGlobal + Files + Input + Print,
 {
     let board = if ansi { Board::Ansi } else { Board::Iso };
-    let mut source = opened(rt, text)?;
-    let mut out = ToStd::new(io::writer(rt));
-    run_outcome(draw_run(rt.alloc(), &mut source, board, &mut out))
-}
-
-pub(crate) fn opened<'a, R: AllocGlobal + Files>(
-    rt: &R,
-    name: &'a str,
-) -> Result<Source<R::File>, Failure<'a>> {
-    let Ok(file) = fs::open(rt, name) else {
-        return Err(Failure::CannotOpen(name));
-    };
-    match BufReader::with_capacity(rt.alloc(), READ_AHEAD, file) {
-        Ok(buffered) => Ok(FromStd::new(buffered)),
-        Err(_) => Err(Failure::Run(RunError::Memory)),
-    }
-}
-
-/// The second text, where one is named.
-fn opened_if_named<'a, R: AllocGlobal + Files>(
-    rt: &R,
-    name: Option<&'a str>,
-) -> Result<Option<Source<R::File>>, Failure<'a>> {
-    match name {
-        Some(name) => Ok(Some(opened(rt, name)?)),
-        None => Ok(None),
-    }
+    let mut source = given(rt, text)?;
+    let mut out = Output::new(rt);
+    let outcome = draw_run(rt.alloc(), &mut source, board, &mut out);
+    out.outcome(outcome)
 }

@@ -1,10 +1,14 @@
 //! Files that are written whole or not at all: the bytes go into a new file beside the old one, which takes its name
 //! once they are on the disk. Where a step fails, the new file is removed and the old one has not changed.
+//!
+//! Whoever may write the folder can put another file under a name at any time. So the new file gets its owner, group
+//! and rights by its descriptor, before a byte is in it, and takes the place of the old one only if both names still
+//! stand for what was looked at.
 use keymap_core::WriteFault;
 use kmap_runs::RunError;
 use std::alloc::{AllocError, Global};
-use std::fs::{Files, Metadata, OpenFile, OpenOptions, Permissions};
-use std::os::unix::fs::{MetadataExt, OpenOptionsExt, PermissionsExt};
+use std::fs::{File, Files, Metadata, OpenOptions, Permissions};
+use std::os::unix::fs::{MetadataExt, OpenOptionsExt, PermissionsExt, fchown};
 use std::{fs, io};
 
 /// Why a file was not replaced.
@@ -13,8 +17,8 @@ pub(crate) enum ReplaceFault {
     Memory,
     /// The old file may not be written.
     NotWritable,
-    /// The new file, which has this name, is there already.
-    Exists(String),
+    /// The folder takes no new file, which was to have this name.
+    TakesNone(String),
     /// The new file, which was to have this name, can't be made.
     CannotCreate(String),
     /// The new file can't be written or flushed.
@@ -34,6 +38,9 @@ const PRIVATE: u32 = 0o600;
 
 /// The bits of a mode that are rights: to read, write and run, of the owner, the group and all others.
 const RIGHTS: u32 = 0o777;
+
+/// How many names are tried for a new file. Each that is taken belongs to another run, or to one that was ended.
+const NAMES: u32 = 1000;
 
 /// A file that is to take the place of another.
 #[derive(Drop)]
@@ -58,51 +65,127 @@ fn target_of<R: AllocGlobal + Files>(rt: &R, name: &str) -> Result<String, Repla
     }
 }
 
-/// The two, one behind the other.
-fn joined(alloc: Global, name: &str, suffix: &str) -> Result<String, AllocError> {
-    let mut joined = String::from_str(alloc, name)?;
-    joined.push_str(suffix)?;
-    Ok(joined)
-}
-
 /// Whether a file may be written.
 fn is_writable<R: Files>(rt: &R, name: &str) -> bool {
     OpenOptions::new().write(true).open(rt, name).is_ok()
 }
 
+/// Whether two are known by the same device and number, and so are one file.
+pub(crate) fn is_same(one: &Metadata, other: &Metadata) -> bool {
+    one.dev() == other.dev() && one.ino() == other.ino()
+}
+
+/// Whether two files belong to the same owner and the same group.
+fn has_same_owner(one: &Metadata, other: &Metadata) -> bool {
+    one.uid() == other.uid() && one.gid() == other.gid()
+}
+
+/// The name of a new file beside a target: the suffix behind it, and a number from the second one on.
+fn new_name(alloc: Global, target: &str, suffix: &str, number: u32) -> Result<String, AllocError> {
+    if number == 1 {
+        format!(in alloc; "{target}{suffix}")
+    } else {
+        format!(in alloc; "{target}{suffix}-{number}")
+    }
+}
+
+/// Makes a file that isn't there. One that is to get the owner of another is nobody else's until then.
+fn created<R: Files>(rt: &R, name: &str, is_private: bool) -> io::Result<R::File> {
+    let mut how = OpenOptions::new();
+    how.write(true).create_new(true);
+    if is_private {
+        how.mode(PRIVATE);
+    }
+    how.open(rt, name)
+}
+
+/// Why a new file of this name can't be made. A folder that may not be written, or is on a disk that isn't, takes none,
+/// and no folder takes a name that is too long.
+fn why_not_created(name: String, why: io::ErrorKind) -> ReplaceFault {
+    match why {
+        io::ErrorKind::PermissionDenied
+        | io::ErrorKind::ReadOnlyFilesystem
+        | io::ErrorKind::InvalidFilename => ReplaceFault::TakesNone(name),
+        _ => ReplaceFault::CannotCreate(name),
+    }
+}
+
 impl Replacement {
-    /// The replacement of the file of this name, which has another one with the suffix behind it until it is there.
-    pub(crate) fn new<R: AllocGlobal + Files>(
+    /// Makes a new file without a byte, which is to replace the file of this name. It has the owner, group and rights
+    /// of the old one, and stands beside it with the suffix behind its name; where others have that name, also a
+    /// number.
+    pub(crate) fn create<R: AllocGlobal + Files<File = File>>(
         rt: &R,
         name: &str,
         old: Option<Metadata>,
         suffix: &str,
-    ) -> Result<Replacement, ReplaceFault> {
+    ) -> Result<(Replacement, File), ReplaceFault> {
         let target = target_of(rt, name)?;
-        if old.is_some() && !is_writable(rt, name) {
+        if old.is_some() && !is_writable(rt, target.as_str()) {
             return Err(ReplaceFault::NotWritable);
         }
-        let name = joined(rt.alloc(), target.as_str(), suffix)?;
-        Ok(Replacement { target, name, old })
+        for number in 1..=NAMES {
+            let name = new_name(rt.alloc(), target.as_str(), suffix, number)?;
+            match created(rt, name.as_str(), old.is_some()) {
+                Ok(file) => return Replacement { target, name, old }.owned(rt, file),
+                Err(error) if error.kind() == io::ErrorKind::AlreadyExists => {}
+                Err(error) => return Err(why_not_created(name, error.kind())),
+            }
+        }
+        let last = new_name(rt.alloc(), target.as_str(), suffix, NAMES)?;
+        Err(ReplaceFault::CannotCreate(last))
     }
 
-    /// The new file, without a byte.
-    pub(crate) fn create<R: AllocGlobal + Files>(&self, rt: &R) -> Result<R::File, ReplaceFault> {
-        let mut how = OpenOptions::new();
-        how.write(true).create_new(true);
-        if self.old.is_some() {
-            how.mode(PRIVATE);
+    /// Gives the new file the owner, group and rights of the old one, or removes it.
+    fn owned<R: AllocGlobal + Files<File = File>>(
+        self,
+        rt: &R,
+        file: File,
+    ) -> Result<(Replacement, File), ReplaceFault> {
+        if self.is_target_as_it_was(rt) && self.give_owner_and_rights(&file).is_ok() {
+            Ok((self, file))
+        } else {
+            self.remove(rt, &file);
+            Err(ReplaceFault::CannotReplace)
         }
-        match how.open(rt, self.name.as_str()) {
-            Ok(file) => Ok(file),
-            Err(error) => {
-                let name = String::from_str(rt.alloc(), self.name.as_str())?;
-                Err(if error.kind() == io::ErrorKind::AlreadyExists {
-                    ReplaceFault::Exists(name)
-                } else {
-                    ReplaceFault::CannotCreate(name)
-                })
+    }
+
+    fn give_owner_and_rights(&self, file: &File) -> io::Result<()> {
+        if let Some(old) = &self.old {
+            let new = file.metadata()?;
+            if !has_same_owner(&new, old) {
+                fchown(file, Some(old.uid()), Some(old.gid()))?;
             }
+            file.set_permissions(Permissions::from_mode(old.mode() & RIGHTS))?;
+        }
+        Ok(())
+    }
+
+    /// Whether the file that is replaced still is a file, of the owner that the new one gets. Another run may have
+    /// replaced it meanwhile.
+    fn is_target_as_it_was<R: Files>(&self, rt: &R) -> bool {
+        match &self.old {
+            Some(old) => fs::symlink_metadata(rt, self.target.as_str()).is_ok_and(
+                |found| found.is_file() && has_same_owner(&found, old),
+            ),
+            None => true,
+        }
+    }
+
+    /// Whether the name of the new file still stands for it.
+    fn is_named<R: Files>(&self, rt: &R, file: &File) -> bool {
+        match (
+            fs::symlink_metadata(rt, self.name.as_str()),
+            file.metadata(),
+        ) {
+            (Ok(found), Ok(new)) => is_same(&found, &new),
+            _ => false,
+        }
+    }
+
+    fn remove<R: Files>(&self, rt: &R, file: &File) {
+        if self.is_named(rt, file) {
+            let _ = rt.remove_file(self.name.as_str());
         }
     }
 
@@ -110,12 +193,12 @@ impl Replacement {
     pub(crate) fn finish<R: Files>(
         &self,
         rt: &R,
-        file: &R::File,
+        file: &File,
         written: Result<u64, RunError>,
     ) -> Result<(), ReplaceFault> {
         let outcome = self.put_in_place(rt, file, written);
         if outcome.is_err() {
-            let _ = rt.remove_file(self.name.as_str());
+            self.remove(rt, file);
         }
         outcome
     }
@@ -123,7 +206,7 @@ impl Replacement {
     fn put_in_place<R: Files>(
         &self,
         rt: &R,
-        file: &R::File,
+        file: &File,
         written: Result<u64, RunError>,
     ) -> Result<(), ReplaceFault> {
         let written = match written {
@@ -133,21 +216,13 @@ impl Replacement {
         if file.sync_all().is_err() {
             return Err(ReplaceFault::Write(RunError::Write(WriteFault { written })));
         }
-        match self.take_over(rt, file) {
-            Ok(()) => Ok(()),
-            Err(_) => Err(ReplaceFault::CannotReplace),
-        }
-    }
-
-    /// Gives the new file the owner, group, rights and name of the old one.
-    fn take_over<R: Files>(&self, rt: &R, file: &R::File) -> io::Result<()> {
-        if let Some(old) = &self.old {
-            let new = file.metadata()?;
-            if new.uid() != old.uid() || new.gid() != old.gid() {
-                rt.chown(self.name.as_str(), Some(old.uid()), Some(old.gid()))?;
+        if self.is_named(rt, file) && self.is_target_as_it_was(rt) {
+            match rt.rename(self.name.as_str(), self.target.as_str()) {
+                Ok(()) => Ok(()),
+                Err(_) => Err(ReplaceFault::CannotReplace),
             }
-            file.set_permissions(Permissions::from_mode(old.mode() & RIGHTS))?;
+        } else {
+            Err(ReplaceFault::CannotReplace)
         }
-        rt.rename(self.name.as_str(), self.target.as_str())
     }
 }

@@ -1,0 +1,97 @@
+//! The files that are read, and the standard input, for which `-` stands where a command takes it.
+use crate::program::Failure;
+use keymap_core::FromStd;
+use kmap_runs::RunError;
+use std::fs::Files;
+use std::io::{BufReader, Read};
+use std::{fs, io};
+
+/// How many bytes of a file are asked for at once.
+const READ_AHEAD: usize = 16_384;
+
+/// A file that is read. The libraries ask for few bytes at a time, and the buffer asks the file for many. It hands on
+/// what one read of the file gave before it reads again, so what comes by a pipe or a terminal isn't waited for.
+pub(crate) type Source<F> = FromStd<BufReader<F>>;
+
+/// What a name stands for.
+#[derive(Drop)]
+pub(crate) enum Origin<F, I> {
+    File(F),
+    StandardInput(I),
+}
+
+impl<F: Read, I: Read> Read for Origin<F, I> {
+    fn read(&mut self, buf: &mut [u8]) -> io::Result<usize> {
+        match self {
+            Origin::File(file) => file.read(buf),
+            Origin::StandardInput(input) => input.read(buf),
+        }
+    }
+}
+
+/// Whether a name stands for the standard input.
+pub(crate) fn is_standard_input(name: &str) -> bool {
+    name == "-"
+}
+
+/// The file of a name that is taken as given.
+pub(crate) fn opened<'a, R: AllocGlobal + Files>(
+    rt: &R,
+    name: &'a str,
+) -> Result<Source<R::File>, Failure<'a>> {
+    buffered(rt, opened_file(rt, name)?)
+}
+
+/// The second text, where one is named.
+pub(crate) fn opened_if_named<'a, R: AllocGlobal + Files>(
+    rt: &R,
+    name: Option<&'a str>,
+) -> Result<Option<Source<R::File>>, Failure<'a>> {
+    match name {
+        Some(name) => Ok(Some(opened(rt, name)?)),
+        None => Ok(None),
+    }
+}
+
+/// What a name stands for, where it may be the standard input.
+pub(crate) fn given<'a, R: AllocGlobal + Files + Input>(
+    rt: &R,
+    name: &'a str,
+) -> Result<Source<Origin<R::File, R::Reader>>, Failure<'a>> {
+    buffered(
+        rt,
+        if is_standard_input(name) {
+            Origin::StandardInput(rt.reader())
+        } else {
+            Origin::File(opened_file(rt, name)?)
+        },
+    )
+}
+
+/// What a second name stands for, where there is one.
+pub(crate) fn given_if_named<'a, R: AllocGlobal + Files + Input>(
+    rt: &R,
+    name: Option<&'a str>,
+) -> Result<Option<Source<Origin<R::File, R::Reader>>>, Failure<'a>> {
+    match name {
+        Some(name) => Ok(Some(given(rt, name)?)),
+        None => Ok(None),
+    }
+}
+
+pub(crate) fn opened_file<'a, R: Files>(rt: &R, name: &'a str) -> Result<R::File, Failure<'a>> {
+    match fs::open(rt, name) {
+        Ok(file) => Ok(file),
+        Err(_) => Err(Failure::CannotOpen(name)),
+    }
+}
+
+pub(crate) fn buffered<'a, R: AllocGlobal, F: Read + Drop>(
+    rt: &R,
+    file: F,
+) -> Result<Source<F>, Failure<'a>> {
+    match BufReader::with_capacity(rt.alloc(), READ_AHEAD, file) {
+        Ok(buffered) => Ok(FromStd::new(buffered)),
+        Err(_) => Err(Failure::Run(RunError::Memory)),
+    }
+}

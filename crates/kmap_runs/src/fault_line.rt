@@ -182,6 +182,7 @@ fn no_way(offset: u64, c: char) -> Line
 }
 
 /// The line of an error, with its end.
+#[tactic(auto, unfolding(messages::specs::Filled::filled))]
 fn line_of(error: &RunError) -> Line
     ensures { result.items ≡ spec.fault_line error.now }
 {
@@ -215,6 +216,7 @@ pub fn write_run_error<W: Write>(error: &RunError, writer: &mut W) -> Result<(),
 }
 
 /// The line of an error that has the name of a file, as `shown_name` shows it, behind `kmap: `.
+#[tactic(auto, unfolding(messages::specs::Filled::filled))]
 pub fn file_error_line(alloc: Global, file: &[u8], error: &RunError) -> Result<Vec<u8>, AllocError>
     ensures { IfOk result (λ line. line.items ≡ file_fault_line file.now error.now) }
 {

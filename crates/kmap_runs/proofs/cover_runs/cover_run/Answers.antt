@@ -5,6 +5,11 @@ use Rattle.play_core.specs.Runs.{moves}
 use Rattle.kmap_runs.specs.Runs.{CoversText}
 use Rattle.kmap_runs.proofs.cover_runs.cover_run.Goals as goal
 
+pub returns-in_err-map-clause-run : goal.returns-in_err-map-clause-run
+returns-in_err-map-clause-run g c =
+    let p = err_from_is_err_and c.from_residual.result c.from_residual.ensures.1 in
+    rw (p.1, p.2) (inr (inl c.in_err-map.ensures.reads, Keeps-refl _))
+
 pub returns-in_err-told-clause-run : goal.returns-in_err-told-clause-run
 returns-in_err-told-clause-run g c =
     let p = err_from_is_err_and c.from_residual-in_err-told.result c.from_residual-in_err-told.ensures.1 in

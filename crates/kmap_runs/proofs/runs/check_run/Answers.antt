@@ -1,5 +1,12 @@
-use Rattle.std.proofs.Common.{inl, refl}
+use Rattle.std.proofs.Common.{inl, inr, refl}
+use Rattle.std.proofs.lemmas.Result.{err_from_is_err_and}
+use Rattle.std.proofs.KnownBytes.{Keeps-refl}
 use Rattle.kmap_runs.proofs.runs.check_run.Goals as goal
+
+pub returns-in_err-map-clause-run : goal.returns-in_err-map-clause-run
+returns-in_err-map-clause-run g c =
+    let p = err_from_is_err_and c.from_residual.result c.from_residual.ensures.1 in
+    rw (p.1, p.2) (inr (inl c.in_err-map.ensures.reads, Keeps-refl _))
 
 pub returns-clause-run : goal.returns-clause-run
 returns-clause-run g c =

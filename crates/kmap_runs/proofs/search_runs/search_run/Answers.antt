@@ -1,6 +1,12 @@
 use Rattle.std.proofs.Common.{inl, inr, refl}
+use Rattle.std.proofs.lemmas.Result.{err_from_is_err_and}
 use Rattle.std.proofs.KnownBytes.{Keeps-refl}
 use Rattle.kmap_runs.proofs.search_runs.search_run.Goals as goal
+
+pub returns-in_err-first-clause-run : goal.returns-in_err-first-clause-run
+returns-in_err-first-clause-run g c =
+    let p = err_from_is_err_and c.from_residual.result c.from_residual.ensures.1 in
+    rw (p.1, p.2) (inr (inl c.in_err-first.ensures.reads, Keeps-refl _))
 
 pub returns-in_default-clause-run : goal.returns-in_default-clause-run
 returns-in_default-clause-run g c =

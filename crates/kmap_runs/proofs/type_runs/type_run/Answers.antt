@@ -3,6 +3,11 @@ use Rattle.std.proofs.lemmas.Result.{err_from_is_err_and}
 use Rattle.std.proofs.KnownBytes.{Keeps-refl}
 use Rattle.kmap_runs.proofs.type_runs.type_run.Goals as goal
 
+pub returns-in_err-map-clause-run : goal.returns-in_err-map-clause-run
+returns-in_err-map-clause-run g c =
+    let p = err_from_is_err_and c.from_residual.result c.from_residual.ensures.1 in
+    rw (p.1, p.2) (inr (inl (inl (c.in_err-map.ensures.reads, Keeps-refl _)), Keeps-refl _))
+
 pub returns-in_err-script-clause-run : goal.returns-in_err-script-clause-run
 returns-in_err-script-clause-run g c =
     let p = err_from_is_err_and c.from_residual-in_err-script.result c.from_residual-in_err-script.ensures.1 in

@@ -241,9 +241,12 @@ hex_byte_plain c e =
 
 byte_by : (bytes : List ℕ) (unnamed : Bool) → faulty.is_unnamed (slice_index bytes 0) ≡ unnamed
     → IsPlainText (if unnamed then filled words.UNNAMED_BYTE.now (faulty.hex_byte (slice_index bytes 0) ∷ [])
+    else if faulty.begins_with_mark bytes then filled words.MARK.now []
     else filled words.BAD_BYTE.now (faulty.front_text bytes ∷ faulty.front_text bytes ∷ []))
 byte_by bytes true e = one words.UNNAMED_BYTE.now _ refl (hex_byte_plain (slice_index bytes 0) e)
-byte_by bytes false e = fills words.BAD_BYTE.now _ refl (front_plain bytes, (front_plain bytes, tt))
+byte_by bytes false e =
+    either (faulty.begins_with_mark bytes) _ _ (fills words.MARK.now [] refl tt)
+    (fills words.BAD_BYTE.now _ refl (front_plain bytes, (front_plain bytes, tt)))
 
 bad_byte_plain : (bytes : List ℕ) → IsPlainText (faulty.bad_byte_text bytes)
 unfolding faulty.bad_byte_text

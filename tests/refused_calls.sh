@@ -1,9 +1,10 @@
 #!/bin/sh
-# Makes each call of the program of crates/calls with each of its own allocations refused in turn: it answers that
-# memory was refused, and leaves alone what it must. With ample memory it never answers so.
+# Makes each call of the program of crates/calls with each of its own allocations refused in turn, alone and together
+# with all later ones: it answers that memory was refused, and leaves alone what it must. With ample memory it never
+# answers so.
 #
-# It also looks whether each exported function of the libraries that takes an allocator is called there, itself or
-# through one that calls it, or through a command of kmap, of which tests/refused_memory.sh refuses all allocations.
+# It also looks whether each exported function of the libraries that takes an allocator is called there, itself: that
+# it can be called through another one shows nothing of what it answers.
 #
 # usage: refused_calls.sh PROGRAM
 # PROGRAM is that of crates/calls, which makes the calls and tells of what they left alone. The last line is
@@ -22,43 +23,66 @@ if ! command -v "${CC:-cc}" > /dev/null; then
 fi
 "${CC:-cc}" -shared -fPIC -O1 -o "$folder/refuse.so" "$tests/refuse.c" -ldl || exit 1
 
-# answers CALL NUMBER WANTED: the call answers so with this one of its own allocations refused, where it has that many
-answers() {
+# Where it isn't empty, all later allocations are refused too.
+rest=
+
+# answered CALL NUMBER: what the call answers with this one of its own allocations refused, where it has that many, and
+# how many it has; unless it ends well, its status is told behind the answer
+answered() {
     rm -f "$folder/count"
-    got=$(ALLOCATIONS="$folder/count" MARKED=1 REFUSE="$2" LD_PRELOAD="$folder/refuse.so" \
-        "$program" "$1" 2> "$folder/marks")
-    status=$?
-    holds "$1 with allocation $2 refused: '$got' in place of '$3', status $status" \
-        test "$status, $(($(wc -l < "$folder/marks"))) marks, $got" = "0, 2 marks, $3"
+    # shellcheck disable=SC2086 # it is one word or none
+    got=$(env $rest ALLOCATIONS="$folder/count" MARKED=1 REFUSE="$2" LD_PRELOAD="$folder/refuse.so" \
+        "$program" "$1" 2> "$folder/marks") || got="$got, status $?"
+    [ $(($(wc -l < "$folder/marks"))) -eq 2 ] || got="$got, $(($(wc -l < "$folder/marks"))) marks"
     count=$(cat "$folder/count")
 }
 
-# refuses CALL [ANSWER]: the call answers so with ample memory, ok unless it is given, and memory where it is refused
+# answers CALL NUMBER WANTED [OTHER]: it answers so, or as the other
+answers() {
+    answered "$1" "$2"
+    holds "$1 with allocation $2 refused${rest:+ and all later ones}: '$got' in place of '$3'" \
+        test "$got" = "$3" -o "$got" = "${4:-$3}"
+}
+
+# refuses CALL [ANSWER [OTHER]]: the call answers so with ample memory, ok unless it is given; and memory where it is
+# refused, or else, where that is alone, the other
 refuses() {
+    rest=
     answers "$1" 0 "${2:-ok}"
     all=${count:-0}
     holds "$1 takes no memory" test "$all" -gt 0
     number=1
     while [ $number -le "$all" ]; do
+        rest=
+        answers "$1" $number memory "${3:-memory}"
+        rest=REFUSE_REST=1
         answers "$1" $number memory
         number=$((number + 1))
     done
 }
 
+# yields CALL [ANSWER]: the same of a call that may do with less where a vector or a hash map would have grown
+yields() {
+    refuses "$1" "${2:-ok}" "${2:-ok}"
+}
+
 # takes_none CALL ANSWER: the call answers so, and takes no memory that could be refused
 takes_none() {
+    rest=
     answers "$1" 1 "$2"
     holds "$1 takes memory" test "$count" = 0
 }
 
 refuses KeyMap::new
-refuses try_clone
+refuses KeyMap::try_clone
 refuses read_up_to
 refuses read_map
 refuses read_map-faulty fault
 refuses MapReader::new
 refuses read_from
 refuses read_from-faulty fault
+yields definitions
+yields TextLines::new
 refuses read_tables
 refuses read_tables-faulty fault
 takes_none read_tables-short fault
@@ -70,36 +94,59 @@ takes_none read_narrow-long fault
 refuses read_narrow_from
 refuses replay-plain
 refuses replay-word
+yields sticking
+yields sticking_between
+yields sights_of
+yields events_that_show
+yields plan_for
+yields cover_of
+refuses Seen::new
+yields cells
+yields lock_settings
+yields diagnostics
+yields diagnostics-faulty fault
+yields lint_text
+yields shown_name
+yields format
+yields picture
+yields filled
+refuses read_script
+refuses read_whole
+refuses play-lines
+refuses play-typed
+refuses play_next-lines
+refuses play_next-typed
+yields Ways::of
+yields Ways::characters
+refuses check_run
+refuses check_run-shown
+yields search_run
+yields search_run-next
+refuses dump_run
+refuses dump_narrow_run
+refuses compile_run
+refuses compile_narrow_run
+yields draw_run
+yields lint_run
+yields fmt_run
+yields fmt_print_run
+yields type_run
+yields cover_run
+yields file_error_line
 
-# through COMMAND FUNCTION..: these exported functions take memory, and a command of kmap that tests/refused_memory.sh
-# refuses it goes through them
-through() {
-    for function in "$@"; do
-        [ "$function" = "$1" ] || echo "$function"
-    done
-    grep -q "^refuses [01] $1 " "$tests/refused_memory.sh" || echo "through $1, which is not refused any"
-}
-
-# The calls that the program knows are those above, and with what the commands go through all that the sources have.
-calls=$tests/../crates/calls/src/named.rt
-sed -n 's/^        "\([A-Za-z_:-]*\)" => .*/\1/p' "$calls" | sort > "$folder/known"
-sed -n 's/^\(refuses\|takes_none\) \([A-Za-z_:-]*\).*/\2/p' "$0" | sort > "$folder/made"
+# The calls that the program knows are those above; between its marks it calls what they are named by, and that is each
+# exported function that takes memory.
+calls=$tests/../crates/calls/src
+sed -n 's/^        "\([A-Za-z_:-]*\)" => .*/\1/p' "$calls"/*.rt | sort > "$folder/known"
+sed -n 's/^\(refuses\|yields\|takes_none\) \([A-Za-z_:-]*\).*/\2/p' "$0" | sort > "$folder/made"
 same_text 'each call of the program is made here' "$folder/known" "$folder/made"
-{
-    # a method stands in the program by its own name where no other has that
-    sed -e 's/-.*//' -e 's/^try_clone$/KeyMap::try_clone/' "$folder/known"
-    through check check_run
-    through compile compile_run compile_narrow_run
-    through cover cover_run cover_of events_that_show plan_for sights_of Seen::new cells lock_settings
-    through draw draw_run picture
-    through dump dump_run dump_narrow_run
-    through fmt fmt_run fmt_print_run format file_error_line
-    through lint lint_run lint_text diagnostics definitions TextLines::new shown_name filled
-    through play play_run read_script
-    through search search_run sticking sticking_between
-    through type type_run Ways::of Ways::characters
-} | sort -u > "$folder/called"
+sed 's/-.*//' "$folder/known" | sort -u > "$folder/called"
 python3 "$tests/takes_memory.py" | sort > "$folder/exported"
 same_text 'each exported function that takes memory is called' "$folder/exported" "$folder/called"
+# a method is called on a value
+sed -n '/mark(marks);/{n;s/^    let given = \([A-Za-z_:.]*\)(.*/\1/p;}' "$calls"/*.rt |
+    sed 's/.*[.:]//' | sort -u > "$folder/between"
+sed 's/.*://' "$folder/called" | sort -u > "$folder/names"
+same_text 'what is called between the marks is what the calls are named by' "$folder/names" "$folder/between"
 
 counted

@@ -1,4 +1,4 @@
-//! A reader that counts what was asked of it, and the line that tells where a call begins and ends.
+//! Devices that count what was done to them, and the line that tells where a call begins and ends.
 ghost use Rattle.std.specs.Prelude.{None, false};
 
 use keymap_core::{Failed, Read, Write, write_text};
@@ -34,6 +34,31 @@ impl Read for Given<'_> {
         buffer[..count].copy_from_slice(&left[..count]);
         self.given += count;
         Ok(count)
+    }
+
+    fn failed(&self) -> bool {
+        false
+    }
+}
+
+/// Takes all bytes, and counts the writes.
+#[derive(Drop)]
+pub struct Counting {
+    pub writes: u32,
+}
+
+pub(crate) fn writer() -> Counting {
+    Counting { writes: 0 }
+}
+
+impl Write for Counting {
+    ghost contents = { λ _. None };
+
+    ghost has_failed = { λ _. false };
+
+    fn write(&mut self, bytes: &[u8]) -> Result<usize, Failed> {
+        self.writes = self.writes.saturating_add(1);
+        Ok(bytes.len())
     }
 
     fn failed(&self) -> bool {

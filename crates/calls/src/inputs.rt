@@ -13,14 +13,27 @@ pub(crate) const TEXT: &[u8] = b"018 'e' 'E' nop nop 'e' 'E' nop nop C
 dacu 180 ( 'e' 0xe9 )
 ";
 
+/// A shift that is a character where control is on.
+pub(crate) const TRAP: &[u8] = b"029 lctrl lctrl lctrl lctrl lctrl lctrl lctrl lctrl O
+042 lshift lshift 'x' 'x' lshift lshift lshift lshift O
+";
+
 /// A text with a fault in its first byte.
 pub(crate) const FAULTY: &[u8] = b")";
 
-pub(crate) fn sample(alloc: Global) -> Result<KeyMap, AllocError> {
-    match read_map(alloc, TEXT) {
+/// Letters, one of which takes the dead key before its base, often enough that their list outgrows its memory.
+pub(crate) const SENTENCE: &[u8] = b"aA\xc3\xa9AaA\xc3\xa9AaA\xc3\xa9AaA\xc3\xa9A";
+
+/// The keymap of a text without a fault.
+pub(crate) fn map_of(alloc: Global, text: &[u8]) -> Result<KeyMap, AllocError> {
+    match read_map(alloc, text) {
         Ok(map) => Ok(map),
         Err(_) => Err(AllocError),
     }
+}
+
+pub(crate) fn sample(alloc: Global) -> Result<KeyMap, AllocError> {
+    map_of(alloc, TEXT)
 }
 
 pub(crate) fn tables(alloc: Global) -> Result<Vec<u8>, AllocError> {
@@ -35,7 +48,11 @@ pub(crate) fn narrow(alloc: Global) -> Result<Vec<u8>, AllocError> {
     Ok(bytes)
 }
 
-/// More bytes than are read at once, so that they outgrow their memory.
-pub(crate) fn long_text() -> [u8; 8000] {
-    [b' '; 8000]
+/// A script of a thousand lines: more bytes than are read at once, so that they outgrow their memory as the events do.
+pub(crate) fn script() -> [u8; 8000] {
+    let mut script = [0; 8000];
+    for (index, byte) in script.iter_mut().enumerate() {
+        *byte = b"down 30\n"[index % 8];
+    }
+    script
 }

@@ -1,4 +1,11 @@
 //! What came of a call.
+use keymap_core::ReadError;
+use keymap_fmt::FormatError;
+use keymap_tables::TableError;
+use keymap_text::TextError;
+use kmap_runs::RunError;
+use play_core::{PlayError, ScriptError, TypeError};
+use std::alloc::AllocError;
 use std::fmt;
 
 /// What a call answered.
@@ -18,19 +25,100 @@ pub struct Outcome {
     pub kept: bool,
 }
 
-impl Outcome {
-    /// A call that was lent nothing which it has to leave alone.
-    pub(crate) fn of(answer: Answer) -> Outcome {
-        Outcome { answer, kept: true }
+/// An error of a call that takes memory.
+pub(crate) trait Refusal {
+    /// Whether it tells that memory was refused.
+    fn is_memory(&self) -> bool;
+}
+
+impl Refusal for AllocError {
+    fn is_memory(&self) -> bool {
+        true
     }
 }
 
-/// The answer of a call that came to an end, if it is the right one.
-pub(crate) fn done(is_right: bool) -> Answer {
-    if is_right {
-        Answer::Done
-    } else {
-        Answer::Fault
+impl Refusal for ReadError {
+    fn is_memory(&self) -> bool {
+        matches!(self, ReadError::Memory)
+    }
+}
+
+impl Refusal for TextError {
+    fn is_memory(&self) -> bool {
+        matches!(self, TextError::Memory)
+    }
+}
+
+impl Refusal for TableError {
+    fn is_memory(&self) -> bool {
+        matches!(self, TableError::Memory)
+    }
+}
+
+impl Refusal for FormatError {
+    fn is_memory(&self) -> bool {
+        matches!(self, FormatError::Memory)
+    }
+}
+
+impl Refusal for ScriptError {
+    fn is_memory(&self) -> bool {
+        matches!(self, ScriptError::Memory)
+    }
+}
+
+impl Refusal for PlayError {
+    fn is_memory(&self) -> bool {
+        matches!(self, PlayError::Memory)
+    }
+}
+
+impl Refusal for TypeError {
+    fn is_memory(&self) -> bool {
+        matches!(self, TypeError::Memory)
+    }
+}
+
+impl Refusal for RunError {
+    fn is_memory(&self) -> bool {
+        matches!(self, RunError::Memory)
+    }
+}
+
+/// The answer of a call, which tells of what it gave whether that is the right thing.
+fn answer_of<E: Refusal + Drop>(given: Result<bool, E>) -> Answer {
+    match given {
+        Ok(true) => Answer::Done,
+        Ok(false) => Answer::Fault,
+        Err(error) => {
+            if error.is_memory() {
+                Answer::Memory
+            } else {
+                Answer::Fault
+            }
+        }
+    }
+}
+
+/// Of a call that was lent nothing which it has to leave alone.
+pub(crate) fn ended<E: Refusal + Drop>(given: Result<bool, E>) -> Outcome {
+    ended_keeping(given, true)
+}
+
+/// Of a call that left what it was lent so.
+pub(crate) fn ended_keeping<E: Refusal + Drop>(given: Result<bool, E>, kept: bool) -> Outcome {
+    Outcome {
+        answer: answer_of(given),
+        kept,
+    }
+}
+
+/// Of a call that has to leave its device alone where memory is refused, and used it so often.
+pub(crate) fn ended_untouched<E: Refusal + Drop>(given: Result<bool, E>, uses: u32) -> Outcome {
+    let answer = answer_of(given);
+    Outcome {
+        answer,
+        kept: answer != Answer::Memory || uses == 0,
     }
 }
 

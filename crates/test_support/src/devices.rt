@@ -7,10 +7,12 @@ ghost use Rattle.std.specs.Prelude.{[], None, false, length, true, ◌-◌, ◌^
 use arrayvec::ArrayVec;
 use keymap_core::{Failed, Read, Write};
 
-/// A reader that gives a text and then blanks, and fails after so many bytes.
+/// A reader that gives a text and then one byte again and again, and fails after so many bytes.
 #[derive(Drop)]
 pub struct Tape<'a> {
     pub text: &'a [u8],
+    /// What it gives behind the text.
+    pub rest: u8,
     /// How many bytes there are.
     pub size: usize,
     /// How many bytes it gives at a time.
@@ -38,6 +40,7 @@ pub fn reader_of(text: &[u8], pace: usize, most: usize) -> Tape<'_>
 /// A reader of the text and then blanks, so many bytes in all, which come so many at a time, that fails after so many.
 pub fn tape_of(text: &[u8], size: usize, pace: usize, most: usize) -> Tape<'_>
     ensures text { result.text.now ≡ text.now }
+    ensures rest { result.rest ≡ 32 }
     ensures size { result.size ≡ size }
     ensures pace { result.pace ≡ pace }
     ensures most { result.most ≡ most }
@@ -47,6 +50,7 @@ pub fn tape_of(text: &[u8], size: usize, pace: usize, most: usize) -> Tape<'_>
 {
     Tape {
         text,
+        rest: b' ',
         size,
         pace,
         most,
@@ -54,6 +58,22 @@ pub fn tape_of(text: &[u8], size: usize, pace: usize, most: usize) -> Tape<'_>
         reads: 0,
         failed: false,
     }
+}
+
+/// A reader without an end, which gives this byte again and again, one at a time.
+pub fn endless_tape_of(byte: u8) -> Tape<'static>
+    ensures text { result.text.now ≡ [] }
+    ensures rest { result.rest ≡ byte }
+    ensures size { result.size ≡ 2 ^ 64 - 1 }
+    ensures pace { result.pace ≡ 1 }
+    ensures most { result.most ≡ 2 ^ 64 - 1 }
+    ensures given { result.given ≡ 0 }
+    ensures reads { result.reads ≡ 0 }
+    ensures failed { result.failed ≡ false }
+{
+    let mut tape = tape_of(b"", usize::MAX, 1, usize::MAX);
+    tape.rest = byte;
+    tape
 }
 
 impl Read for Tape<'_> {
@@ -73,7 +93,7 @@ impl Read for Tape<'_> {
         let copied = text.len().min(count);
         buffer[..copied].copy_from_slice(&text[..copied]);
         for place in &mut buffer[copied..count] {
-            *place = b' ';
+            *place = self.rest;
         }
         self.given = self.given.saturating_add(count);
         Ok(count)

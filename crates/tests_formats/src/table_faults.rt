@@ -7,7 +7,7 @@ use keymap_tables::{TableError, TableFault, TableFaultKind};
 use keymap_text::read_map;
 use std::alloc::Global;
 use std::test::Fail;
-use test_support::devices::tape_of;
+use test_support::devices::endless_tape_of;
 use test_support::keymaps::LETTER_AND_SHIFT;
 
 /// More zeros than a table file has.
@@ -226,11 +226,11 @@ fn each_proper_prefix_is_short(rt: HostRuntime) -> Result<(), Fail> {
     Ok(())
 }
 
-/// It is left after one byte more than a file has.
+/// Of zero bytes, which are a map as far as they go. It is left after one byte more than a file has.
 #[test]
 fn a_reader_without_end_is_left(rt: HostRuntime) {
     for &form in &FORMS {
-        let mut reader = tape_of(b"", usize::MAX, 1, usize::MAX);
+        let mut reader = endless_tape_of(0);
         let wanted = TableFault {
             offset: form.length() as u64,
             kind: TableFaultKind::Long,

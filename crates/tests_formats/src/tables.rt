@@ -193,7 +193,11 @@ fn files_have_their_bytes(rt: HostRuntime) -> Result<(), Fail> {
 }
 
 /// A text, and the first place of its keymap that a narrow file can't hold.
-static TOO_WIDE: [(&[u8], Wide); 5] = [
+static TOO_WIDE: [(&[u8], Wide); 6] = [
+    (
+        b"0 'a' 'A' SOH soh fkey1 scr16 0x20ac DEL b",
+        Wide::Cell { slot: 0, column: 6 },
+    ),
     (
         b"7 'a' 'A' SOH soh fkey1 scr16 0x20ac DEL b dacu 0x20ac
 0 'a' 'A' SOH soh fkey1 scr16 0x20ac DEL b",

@@ -13,7 +13,7 @@ use kmap_runs::{
 };
 use std::alloc::Global;
 use std::mem::replace;
-use test_support::devices::{ROOM, Sheet, Tape, sheet_of, tape_of};
+use test_support::devices::{ROOM, Sheet, Tape, endless_tape_of, sheet_of, tape_of};
 use test_support::keymaps::LETTER_AND_SHIFT;
 
 /// A run; the check without and with its demonstration.
@@ -219,10 +219,18 @@ const LONG_NARROW: TableFault = TableFault {
     kind: TableFaultKind::Long,
 };
 
+/// What a reader without an end gives a run: zeros in place of tables, blanks in place of a text.
+fn endless_byte(what: Run) -> u8 {
+    match what {
+        Run::Dump | Run::DumpNarrow => 0,
+        _ => b' ',
+    }
+}
+
 #[test]
 fn an_input_without_end_is_left(rt: HostRuntime) {
     for &(what, is_first, error, most_reads) in &ENDLESS_READINGS {
-        let mut endless = tape_of(b"", usize::MAX, 1, usize::MAX);
+        let mut endless = endless_tape_of(endless_byte(what));
         let mut other = tape_of(LETTER_AND_SHIFT, 100, 64, usize::MAX);
         let mut writer = sheet_of(usize::MAX);
         let answer = if is_first {

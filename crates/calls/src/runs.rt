@@ -1,0 +1,153 @@
+//! The calls of kmap_runs. Where memory is refused, nothing was written.
+use crate::devices::{Given, mark, reader_of, writer};
+use crate::inputs::{SENTENCE, TEXT, TRAP, narrow, tables};
+use crate::outcome::{Outcome, ended, ended_untouched};
+use keymap_core::Write;
+use keymap_draw::Board;
+use kmap_runs::{
+    RunError, check_run, compile_narrow_run, compile_run, cover_run, draw_run, dump_narrow_run,
+    dump_run, file_error_line, fmt_print_run, fmt_run, lint_run, search_run, type_run,
+};
+use std::alloc::{AllocError, Global};
+
+/// Makes the call of this name. There is none where no call has the name.
+pub(crate) fn outcome_of<W: Write>(
+    alloc: Global,
+    name: &str,
+    marks: &mut W,
+) -> Result<Option<Outcome>, AllocError> {
+    let outcome = match name {
+        "check_run" => checks(alloc, TEXT, false, marks),
+        "check_run-shown" => checks(alloc, TRAP, true, marks),
+        "search_run" => searches(alloc, marks),
+        "search_run-next" => searches_next(alloc, marks),
+        "dump_run" => dumps(alloc, tables(alloc)?.as_slice(), marks),
+        "dump_narrow_run" => dumps_narrowly(alloc, narrow(alloc)?.as_slice(), marks),
+        "compile_run" => compiles(alloc, marks),
+        "compile_narrow_run" => compiles_narrowly(alloc, marks),
+        "draw_run" => draws(alloc, marks),
+        "lint_run" => lints(alloc, marks),
+        "fmt_run" => formats(alloc, marks),
+        "fmt_print_run" => prints_formatted(alloc, marks),
+        "type_run" => types(alloc, marks),
+        "cover_run" => covers(alloc, marks),
+        "file_error_line" => tells_of_a_file(alloc, marks),
+        _ => return Ok(None),
+    };
+    Ok(Some(outcome))
+}
+
+/// A demonstration is asked for where the map is refused.
+fn checks<W: Write>(alloc: Global, text: &[u8], show: bool, marks: &mut W) -> Outcome {
+    let (mut reader, mut out) = (reader_of(text), writer());
+    mark(marks);
+    let given = check_run(alloc, &mut reader, show, &mut out);
+    mark(marks);
+    ended_untouched(given.map(|accepted| accepted != show), out.writes)
+}
+
+fn searches<W: Write>(alloc: Global, marks: &mut W) -> Outcome {
+    let (mut reader, mut out) = (reader_of(TRAP), writer());
+    mark(marks);
+    let given = search_run(alloc, &mut reader, &mut None::<Given<'_>>, &mut out);
+    mark(marks);
+    ended_untouched(given.map(|is_never| !is_never), out.writes)
+}
+
+fn searches_next<W: Write>(alloc: Global, marks: &mut W) -> Outcome {
+    let (mut reader, mut out) = (reader_of(TEXT), writer());
+    let mut next = Some(reader_of(TRAP));
+    mark(marks);
+    let given = search_run(alloc, &mut reader, &mut next, &mut out);
+    mark(marks);
+    ended_untouched(given.map(|is_never| !is_never), out.writes)
+}
+
+fn dumps<W: Write>(alloc: Global, tables: &[u8], marks: &mut W) -> Outcome {
+    let (mut reader, mut out) = (reader_of(tables), writer());
+    mark(marks);
+    let given = dump_run(alloc, &mut reader, &mut out);
+    mark(marks);
+    ended_untouched(given.map(|()| true), out.writes)
+}
+
+fn dumps_narrowly<W: Write>(alloc: Global, narrow: &[u8], marks: &mut W) -> Outcome {
+    let (mut reader, mut out) = (reader_of(narrow), writer());
+    mark(marks);
+    let given = dump_narrow_run(alloc, &mut reader, &mut out);
+    mark(marks);
+    ended_untouched(given.map(|()| true), out.writes)
+}
+
+fn compiles<W: Write>(alloc: Global, marks: &mut W) -> Outcome {
+    let (mut reader, mut out) = (reader_of(TEXT), writer());
+    mark(marks);
+    let given = compile_run(alloc, &mut reader, &mut out);
+    mark(marks);
+    ended_untouched(given.map(|()| true), out.writes)
+}
+
+fn compiles_narrowly<W: Write>(alloc: Global, marks: &mut W) -> Outcome {
+    let (mut reader, mut out) = (reader_of(TEXT), writer());
+    mark(marks);
+    let given = compile_narrow_run(alloc, &mut reader, &mut out);
+    mark(marks);
+    ended_untouched(given.map(|()| true), out.writes)
+}
+
+fn draws<W: Write>(alloc: Global, marks: &mut W) -> Outcome {
+    let (mut reader, mut out) = (reader_of(TEXT), writer());
+    mark(marks);
+    let given = draw_run(alloc, &mut reader, Board::Iso, &mut out);
+    mark(marks);
+    ended_untouched(given.map(|()| true), out.writes)
+}
+
+/// The trap has an error.
+fn lints<W: Write>(alloc: Global, marks: &mut W) -> Outcome {
+    let (mut reader, mut out) = (reader_of(TRAP), writer());
+    mark(marks);
+    let given = lint_run(alloc, b"trap", &mut reader, &mut out);
+    mark(marks);
+    ended_untouched(given.map(|is_well| !is_well), out.writes)
+}
+
+fn formats<W: Write>(alloc: Global, marks: &mut W) -> Outcome {
+    let mut reader = reader_of(TEXT);
+    mark(marks);
+    let given = fmt_run(alloc, &mut reader);
+    mark(marks);
+    ended(given.map(|laid| laid.is_some()))
+}
+
+fn prints_formatted<W: Write>(alloc: Global, marks: &mut W) -> Outcome {
+    let (mut reader, mut out) = (reader_of(TEXT), writer());
+    mark(marks);
+    let given = fmt_print_run(alloc, &mut reader, &mut out);
+    mark(marks);
+    ended_untouched(given.map(|()| true), out.writes)
+}
+
+fn types<W: Write>(alloc: Global, marks: &mut W) -> Outcome {
+    let (mut reader, mut out) = (reader_of(TEXT), writer());
+    let mut sentence = reader_of(SENTENCE);
+    mark(marks);
+    let given = type_run(alloc, &mut reader, &mut sentence, &mut out);
+    mark(marks);
+    ended_untouched(given.map(|()| true), out.writes)
+}
+
+fn covers<W: Write>(alloc: Global, marks: &mut W) -> Outcome {
+    let (mut reader, mut out) = (reader_of(TEXT), writer());
+    mark(marks);
+    let given = cover_run(alloc, &mut reader, &mut out);
+    mark(marks);
+    ended_untouched(given.map(|()| true), out.writes)
+}
+
+fn tells_of_a_file<W: Write>(alloc: Global, marks: &mut W) -> Outcome {
+    mark(marks);
+    let given = file_error_line(alloc, b"a", &RunError::Memory);
+    mark(marks);
+    ended(given.map(|line| line.as_slice() == b"kmap: a: out of memory\n".as_slice()))
+}

@@ -1,0 +1,199 @@
+//! play_core: scripts, and what is played of them.
+
+use crate::asserts::{expect, expect_equal};
+use crate::devices::{broken_drip_of, drip_of, page_of};
+use console_core::{Answer, Event};
+use keymap_core::{KeyCode, ReadFault, WriteFault};
+use keymap_text::TextFault;
+use play_core::{
+    PlayError, ScriptError, ScriptFault, Sent, Show, Source, What, play, play_next, read_script,
+    typed,
+};
+use std::test::Fail;
+use test_support::keymaps::{LETTER_AND_SHIFT, NOP_UNDER_CONTROL, SHIFT_AND_CAPS};
+
+/// The word of a line, and the code of its key.
+fn told(what: What) -> (&'static str, Option<u8>) {
+    match what {
+        What::Down(key) => ("down", Some(key.get())),
+        What::Repeat(key) => ("repeat", Some(key.get())),
+        What::Up(key) => ("up", Some(key.get())),
+        What::Reset => ("reset", None),
+        What::Load => ("load", None),
+    }
+}
+
+/// The only thing that a script sends.
+fn only(sent: &[Sent]) -> Result<Sent, &'static str> {
+    match sent {
+        [only] => Ok(*only),
+        _ => Err("not one event"),
+    }
+}
+
+#[test]
+fn read_script_of_a_line(rt: HostRuntime) -> Result<(), Fail> {
+    let sent: Result<Vec<Sent>, ScriptError> = read_script(rt.alloc(), b" lost  up 042 # x");
+    let Sent { lost, what } = only(sent?.as_slice())?;
+    let _: bool = lost;
+    expect_equal(&rt, &(lost, told(what)), &(true, ("up", Some(42))));
+    Ok(())
+}
+
+/// The name of a script's fault and its line, none where memory was refused.
+fn judged(error: ScriptError) -> Option<(&'static str, u64)> {
+    match error {
+        ScriptError::Memory => None,
+        ScriptError::Fault(fault) => Some(parts_of(fault)),
+    }
+}
+
+fn parts_of(fault: ScriptFault) -> (&'static str, u64) {
+    match fault {
+        ScriptFault::BadLine(line) => ("BadLine", line),
+        ScriptFault::BadKey(line) => ("BadKey", line),
+    }
+}
+
+#[test]
+fn script_faults(rt: HostRuntime) {
+    let key: Option<ScriptError> = read_script(rt.alloc(), b"down 128").err();
+    let line: Option<ScriptError> = read_script(rt.alloc(), b"reset\ndown").err();
+    expect_equal(&rt, &key.and_then(judged), &Some(("BadKey", 1)));
+    expect_equal(&rt, &line.and_then(judged), &Some(("BadLine", 2)));
+}
+
+#[test]
+fn sent_event(rt: HostRuntime) -> Result<(), Fail> {
+    let key: KeyCode = KeyCode::new(30).ok_or("no key")?;
+    let what: What = What::Repeat(key);
+    let delivered: Option<Event> = Sent { lost: false, what }.event();
+    let lost: Option<Event> = Sent { lost: true, what }.event();
+    expect_equal(&rt, &(delivered, lost), &(Some(Event::Press(key)), None));
+    Ok(())
+}
+
+/// Whether a show has lines.
+fn has_lines(show: Show) -> bool {
+    match show {
+        Show::Lines => true,
+        Show::Typed => false,
+    }
+}
+
+fn name_of(source: Source) -> &'static str {
+    match source {
+        Source::Text => "text",
+        Source::Next => "next",
+        Source::Script => "script",
+    }
+}
+
+/// What a play failed of.
+fn blamed(error: PlayError) -> &'static str {
+    match error {
+        PlayError::Memory => "memory",
+        PlayError::Text(fault) => {
+            let _: TextFault = fault;
+            "a text"
+        }
+        PlayError::Next(fault) => {
+            let _: TextFault = fault;
+            "a next text"
+        }
+        PlayError::Script(fault) => parts_of(fault).0,
+        PlayError::Read(source, fault) => {
+            let _: ReadFault = fault;
+            name_of(source)
+        }
+        PlayError::Write(fault) => {
+            let _: WriteFault = fault;
+            "a writer"
+        }
+    }
+}
+
+const TAP: &[u8] = b"down 30\nup 30\n";
+
+#[test]
+fn play_lines(rt: HostRuntime) -> Result<(), Fail> {
+    let (mut text, mut script, mut out) = (drip_of(NOP_UNDER_CONTROL), drip_of(TAP), page_of(999));
+    let played: Result<(), PlayError> = play(
+        rt.alloc(),
+        Show::Lines,
+        &mut text,
+        &mut script,
+        &mut out,
+    );
+    expect_equal(&rt, &played, &Ok(()));
+    let wanted =
+        b"press 30: char 97; mods none; locks none\nrelease 30: none; mods none; locks none\n";
+    expect_equal(&rt, &out.bytes.as_slice(), &wanted.as_slice());
+    Ok(())
+}
+
+#[test]
+fn play_typed(rt: HostRuntime) -> Result<(), Fail> {
+    let (mut text, mut script, mut out) = (drip_of(NOP_UNDER_CONTROL), drip_of(TAP), page_of(1));
+    let show: Show = Show::Typed;
+    let played: Result<(), PlayError> = play(rt.alloc(), show, &mut text, &mut script, &mut out);
+    expect_equal(&rt, &(played, has_lines(show)), &(Ok(()), false));
+    expect_equal(&rt, &out.bytes.as_slice(), &b"a".as_slice());
+    Ok(())
+}
+
+#[test]
+fn play_blames_a_source(rt: HostRuntime) {
+    let (mut text, mut script, mut out) = (drip_of(b""), broken_drip_of(TAP), page_of(0));
+    let played: Result<(), PlayError> = play(
+        rt.alloc(),
+        Show::Lines,
+        &mut text,
+        &mut script,
+        &mut out,
+    );
+    expect_equal(&rt, &played.map_err(blamed), &Err("script"));
+}
+
+#[test]
+fn play_next_after_a_load(rt: HostRuntime) -> Result<(), Fail> {
+    let (mut text, mut next) = (drip_of(SHIFT_AND_CAPS), drip_of(LETTER_AND_SHIFT));
+    let mut script = drip_of(b"down 58\nup 58\ndown 42\nload\ndown 30\n");
+    let mut out = page_of(999);
+    let played: Result<(), PlayError> = play_next(
+        rt.alloc(),
+        Show::Lines,
+        &mut text,
+        &mut next,
+        &mut script,
+        &mut out,
+    );
+    expect_equal(&rt, &played, &Ok(()));
+    let last = b"load: none; mods none; locks none\npress 30: char 97; mods none; locks none\n";
+    expect(&rt, "the last lines", out.bytes.ends_with(last));
+    Ok(())
+}
+
+#[test]
+fn play_next_of_a_fault(rt: HostRuntime) {
+    let (mut text, mut next) = (drip_of(b""), drip_of(b"1 '"));
+    let (mut script, mut out) = (drip_of(b""), page_of(0));
+    let played: Result<(), PlayError> = play_next(
+        rt.alloc(),
+        Show::Lines,
+        &mut text,
+        &mut next,
+        &mut script,
+        &mut out,
+    );
+    expect_equal(&rt, &played.map_err(blamed), &Err("a next text"));
+}
+
+#[test]
+fn typed_answers(rt: HostRuntime) {
+    let answers: [Answer; 2] = [Answer::BackTab, Answer::Char { c: 'e', meta: true }];
+    let mut out = page_of(4);
+    let written: Result<(), WriteFault> = typed(&answers, &mut out);
+    expect_equal(&rt, &written, &Err(WriteFault { written: 4 }));
+    expect_equal(&rt, &out.bytes.as_slice(), &b"\x1b[Z\x1b".as_slice());
+}

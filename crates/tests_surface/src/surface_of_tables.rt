@@ -1,0 +1,156 @@
+//! keymap_tables: table files and narrow files.
+
+use crate::asserts::{expect, expect_equal};
+use crate::devices::{Page, drip_of, page_of};
+use keymap_core::{KeyMap, ReadFault, WriteFault};
+use keymap_tables::{
+    NarrowError, TableError, TableFault, TableFaultKind, Wide, read_narrow, read_narrow_from,
+    read_tables, read_tables_from, write_narrow, write_tables,
+};
+use keymap_text::read_map;
+use std::alloc::Global;
+use std::test::Fail;
+use test_support::keymaps::LETTER_AND_SHIFT;
+
+/// The keymap of two keys.
+fn sample(alloc: Global) -> Result<KeyMap, Fail> {
+    Ok(read_map(alloc, LETTER_AND_SHIFT)?)
+}
+
+#[test]
+fn write_tables_to_a_page(rt: HostRuntime) -> Result<(), Fail> {
+    let mut page = page_of(15_524);
+    let written: Result<(), WriteFault> = write_tables(&sample(rt.alloc())?, &mut page);
+    expect_equal(&rt, &(written, page.bytes.len()), &(Ok(()), 15_524));
+    Ok(())
+}
+
+/// The number of a kind in the list of the kinds.
+fn number_of(kind: TableFaultKind) -> u8 {
+    match kind {
+        TableFaultKind::Short => 1,
+        TableFaultKind::Long => 2,
+        TableFaultKind::BadCount => 3,
+        TableFaultKind::BadPad => 4,
+        TableFaultKind::BadFlag => 5,
+        TableFaultKind::BadAction => 6,
+        TableFaultKind::Combined => 7,
+        TableFaultKind::BadChar => 8,
+        TableFaultKind::NotEmpty => 9,
+    }
+}
+
+/// A fault of tables: its offset and the number of its kind, none where they weren't judged.
+fn judged(error: TableError) -> Option<(u64, u8)> {
+    match error {
+        TableError::Memory => None,
+        TableError::Read(fault) => {
+            let _: ReadFault = fault;
+            None
+        }
+        TableError::Fault(fault) => {
+            let TableFault { offset, kind } = fault;
+            Some((offset, number_of(kind)))
+        }
+    }
+}
+
+/// Bytes that are changed in a file of zeros, each with its place, and the fault.
+static FAULTS: [(&[(usize, u8)], (u64, u8)); 7] = [
+    (&[(0, 1), (1, 1)], (0, 3)),
+    (&[(2, 1)], (2, 4)),
+    (&[(0, 1), (37, 4)], (37, 5)),
+    (&[(0, 1), (4, 0x7b), (36, 0x80)], (4, 6)),
+    (&[(0, 1), (4, 0x9b), (36, 0x80)], (4, 7)),
+    (&[(0, 1), (5, 0xd8)], (4, 8)),
+    (&[(40, 1)], (40, 9)),
+];
+
+#[test]
+fn table_fault_of_each_kind(rt: HostRuntime) {
+    for &(changes, wanted) in &FAULTS {
+        let mut file = [0; 15_524];
+        for &(place, byte) in changes {
+            if let Some(changed) = file.get_mut(place) {
+                *changed = byte;
+            }
+        }
+        let map: Result<KeyMap, TableError> = read_tables(rt.alloc(), &file);
+        expect_equal(&rt, &map.err().and_then(judged), &Some(wanted));
+    }
+}
+
+#[test]
+fn read_tables_of_a_length(rt: HostRuntime) -> Result<(), Fail> {
+    let map: Result<KeyMap, TableError> = read_tables(rt.alloc(), &[0; 15_524]);
+    expect_equal(&rt, &map?.n_keys(), &0);
+    let short = read_tables(rt.alloc(), &[0; 15_523]).err();
+    expect_equal(&rt, &short.and_then(judged), &Some((15_523, 1)));
+    let long = read_tables(rt.alloc(), &[0; 15_525]).err();
+    expect_equal(&rt, &long.and_then(judged), &Some((15_524, 2)));
+    Ok(())
+}
+
+#[test]
+fn read_tables_from_a_drip(rt: HostRuntime) -> Result<(), Fail> {
+    let file = [0; 15_524];
+    let map: Result<KeyMap, TableError> = read_tables_from(rt.alloc(), &mut drip_of(&file));
+    expect_equal(&rt, &map?.n_keys(), &0);
+    Ok(())
+}
+
+/// Why a narrow file was not written: the place that is too wide.
+fn too_wide(error: NarrowError) -> Option<Wide> {
+    match error {
+        NarrowError::TooWide(wide) => Some(wide),
+        NarrowError::Write(fault) => {
+            let _: WriteFault = fault;
+            None
+        }
+    }
+}
+
+/// The numbers of a place that is too wide.
+fn numbers(wide: Wide) -> (u8, u8) {
+    match wide {
+        Wide::Cell { slot, column } => (slot, column),
+        Wide::Accent { accent, number } => (accent, number),
+    }
+}
+
+#[test]
+fn write_narrow_of_a_wide_map(rt: HostRuntime) -> Result<(), Fail> {
+    let map = read_map(rt.alloc(), b"0 'a' 'A' SOH soh fkey1 scr16 0x20ac DEL b")?;
+    let mut page = page_of(4_139);
+    let written: Result<(), NarrowError> = write_narrow(&map, &mut page);
+    let wide: Option<Wide> = written.err().and_then(too_wide);
+    expect_equal(&rt, &wide, &Some(Wide::Cell { slot: 0, column: 6 }));
+    expect_equal(&rt, &wide.map(numbers), &Some((0, 6)));
+    expect(&rt, "nothing is written", page.bytes.is_empty());
+    Ok(())
+}
+
+/// The narrow file of the sample.
+fn narrow_sample(alloc: Global) -> Result<Page, Fail> {
+    let mut page = page_of(4_139);
+    write_narrow(&sample(alloc)?, &mut page)?;
+    Ok(page)
+}
+
+#[test]
+fn read_narrow_of_a_file(rt: HostRuntime) -> Result<(), Fail> {
+    let file = narrow_sample(rt.alloc())?;
+    expect_equal(&rt, &file.bytes.get(..2), &Some([0x2b, 0].as_slice()));
+    let map: Result<KeyMap, TableError> = read_narrow(rt.alloc(), file.bytes.as_slice());
+    expect(&rt, "the same map", map? == sample(rt.alloc())?);
+    Ok(())
+}
+
+#[test]
+fn read_narrow_from_a_drip(rt: HostRuntime) -> Result<(), Fail> {
+    let file = narrow_sample(rt.alloc())?;
+    let mut drip = drip_of(file.bytes.as_slice());
+    let map: Result<KeyMap, TableError> = read_narrow_from(rt.alloc(), &mut drip);
+    expect(&rt, "the same map", map? == sample(rt.alloc())?);
+    Ok(())
+}

@@ -8,7 +8,10 @@ use Rattle.kmap_runs.proofs.cover_runs.cover_run.Goals as goal
 pub returns-in_err-map-clause-run : goal.returns-in_err-map-clause-run
 returns-in_err-map-clause-run g c =
     let p = err_from_is_err_and c.from_residual.result c.from_residual.ensures.1 in
-    rw (p.1, p.2) (inr (inl c.in_err-map.ensures.reads, Keeps-refl _))
+    let text = moves (g.R.Read.remaining c.args.reader.now) (g.R.Read.remaining c.read_text.new.reader) in
+    let out = g.W.Write.contents c.args.writer.now in
+    subst (λ r. CoversText text (moves out out) r) (sym (p.1 ∙ ap Err p.2))
+    (inr (inl c.in_err-map.ensures.reads, Keeps-refl out))
 
 pub returns-in_err-told-clause-run : goal.returns-in_err-told-clause-run
 returns-in_err-told-clause-run g c =

@@ -1,4 +1,6 @@
 //! The standard output.
+ghost use Rattle.std.specs.Prelude.{None};
+
 use crate::program::Failure;
 use keymap_core::{Failed, Write};
 use kmap_runs::RunError;

@@ -1,5 +1,6 @@
 mod Chained
 mod CoverScripts
 mod Covered
+mod PlainScripts
 mod Replayed
 mod Scripts

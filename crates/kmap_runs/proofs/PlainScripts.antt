@@ -1,10 +1,10 @@
 -- The script that types a sentence is UTF-8 that a terminal shows.
-use Rattle.std.proofs.Common.{◌≡◌, ℕ, ◌<◌, ◌==◌, Bool, true, false, List, [], ◌∷◌, ◌++◌, refl}
+use Rattle.std.proofs.Common.{◌≡◌, ℕ, ◌==◌, Bool, true, false, List, [], ◌∷◌, refl}
 use Rattle.std.proofs.Common.{sym, arith, append-nil, All}
-use Rattle.std.specs.Prelude.{◌/◌, ◌%◌, nat_lt, codes, decimal, encode_utf8, if◌then◌else◌}
+use Rattle.std.specs.Prelude.{◌/◌, ◌%◌, nat_lt, codes, encode_utf8, if◌then◌else◌}
 use Rattle.std.specs.Char.{IsScalar}
-use Rattle.std.specs.List.{flat_map, before_first, position_or_len}
-use Rattle.std.proofs.lemmas.List.Elements.{All-nil, All-cons, All-head, All-tail, All-take}
+use Rattle.std.specs.List.{before_first, position_or_len}
+use Rattle.std.proofs.lemmas.List.Elements.{All-nil, All-cons, All-tail, All-take}
 use Rattle.console_core.specs.declared.event.Event.{Event}
 use Rattle.console_core.specs.declared.event.Event.TheVariants as event
 use Rattle.keymap_core.specs.CodePoints.{code_text, code_digits, upper_digits, digit_at}
@@ -15,7 +15,7 @@ use Rattle.keymap_lint_text.proofs.Printed.{decimal_plain, digit_plain, either, 
 use Rattle.keymap_lint_text.specs.Shown.{IsPlain, IsPlainText}
 use Rattle.play_core.specs.Spelling.{event_line}
 use Rattle.play_core.specs.Typing.{way_for, events_in}
-use Rattle.kmap_runs.specs.Typing.{shown, is_line_feed, comment, comment_if, event_lines, lines_from, typing_script}
+use Rattle.kmap_runs.specs.Typing.{shown, is_line_feed, comment, comment_if, lines_from, typing_script}
 use Rattle.kmap_runs.specs.declared.words.TheConstants as words
 
 digit_at_plain : (c unit : ℕ) (bs : List ℕ) → IsPlainText bs → IsPlainText (digit_at c unit ∷ bs)

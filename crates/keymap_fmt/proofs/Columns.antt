@@ -1,5 +1,5 @@
 -- The tokens of a definition stand in their columns.
-use Rattle.std.proofs.Common.{◌≡◌, ℕ, ◌+◌, ◌-◌, ◌*◌, ◌<◌, ◌≤◌, ◌==◌, ◌&&◌, Bool, true, false, not, List, [], ◌∷◌, ◌++◌}
+use Rattle.std.proofs.Common.{◌≡◌, ℕ, ◌+◌, ◌-◌, ◌*◌, ◌<◌, ◌≤◌, ◌==◌, Bool, true, false, List, [], ◌∷◌, ◌++◌}
 use Rattle.std.proofs.Common.{refl, sym, ◌∙◌, ap, subst, arith, length, map, replicate, append_assoc, All, codes}
 use Rattle.std.specs.Prelude.{max, slice_index, nat_le, nat_lt, if◌then◌else◌}
 use Rattle.std.specs.List.{flat_map}
@@ -8,7 +8,7 @@ use Rattle.std.proofs.lemmas.Bool.Decides.{nat_tests}
 use Rattle.std.proofs.lemmas.List.Elements.{All-head, All-tail}
 use Rattle.std.proofs.lemmas.List.{replicate-append-replicate}
 use Rattle.keymap_core.proofs.Lists.{along}
-use Rattle.keymap_fmt.specs.Types.{State, Code}
+use Rattle.keymap_fmt.specs.Types.{State}
 use Rattle.keymap_fmt.specs.declared.layout.Row.{Row}
 use Rattle.keymap_fmt.specs.declared.layout.Row.TheVariants.{Slot, Accent, Pair}
 use Rattle.keymap_fmt.specs.Pieces.{PieceValue}

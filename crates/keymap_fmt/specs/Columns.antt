@@ -1,5 +1,5 @@
 -- In which columns the tokens of a definition stand, counted from 0.
-use Rattle.std.specs.Prelude.{◌≡◌, ℕ, ◌+◌, ◌-◌, ◌==◌, true, if◌then◌else◌, max, List, [], ◌∷◌, ◌++◌, All, codes}
+use Rattle.std.specs.Prelude.{◌≡◌, ℕ, ◌+◌, ◌-◌, ◌==◌, true, if◌then◌else◌, max, List, [], ◌∷◌, ◌++◌, codes}
 use Rattle.std.specs.Prelude.{replicate, slice_index}
 use Rattle.std.specs.List.{flat_map}
 use Rattle.keymap_fmt.specs.Types.{TokenKind, Standing}

@@ -11,7 +11,7 @@ use Rattle.std.proofs.lemmas.Bool.{and_parts}
 use Rattle.std.proofs.lemmas.Bool.Decides.{nat_tests}
 use Rattle.std.proofs.lemmas.List.Elements.{All-head, All-tail, All-take}
 use Rattle.keymap_core.proofs.Lists.{along}
-use Rattle.keymap_core.specs.Actions.{accent_names, name_of, holding_action}
+use Rattle.keymap_core.specs.Actions.{accent_names, name_of}
 use Rattle.keymap_core.specs.declared.action.Action.TheVariants as action
 use Rattle.keymap_core.specs.declared.action.Modifier.{Modifier}
 use Rattle.keymap_core.specs.declared.action.Modifier.TheVariants as mods
@@ -55,7 +55,7 @@ use Rattle.keymap_lint_text.specs.Notes as notes
 use Rattle.keymap_lint_text.specs.Said as said
 use Rattle.keymap_lint_text.specs.Shown.{IsPlain, IsPlainText, shown_chars, shown_name}
 use Rattle.keymap_lint_text.specs.Told as told
-use Rattle.keymap_lint_text.specs.Whole.{answer_if, one_diagnostic, lint_text}
+use Rattle.keymap_lint_text.specs.Whole.{one_diagnostic, lint_text}
 use Rattle.keymap_lint_text.proofs.Plain.{is_printed, ascii, plain_append, plain_none, plain_chars, plain_if}
 use Rattle.keymap_lint_text.proofs.Plain.{all_plain, excerpt_plain, word_plain, name_plain}
 

@@ -1,6 +1,6 @@
 //! Laws of the runs: what is printed as a script is one, and what a command says or writes of a text is so of its keymap.
 //! No function here does anything.
-ghost use Rattle.std.specs.Prelude.{◌≡◌, List, [], ℕ, map, Option, Some, None, Ok, true};
+ghost use Rattle.std.specs.Prelude.{◌≡◌, List, [], ℕ, map, All, Option, Some, None, Ok, true};
 ghost use Rattle.keymap_core.specs.Maps.{MapValue};
 ghost use Rattle.keymap_cover.specs.Covering.{events};
 ghost use Rattle.keymap_cover.specs.declared.parts.Cover.{Cover as CoverValue};
@@ -23,6 +23,8 @@ ghost use Rattle.kmap_runs.specs.Runs.{AcceptedKeepTheirPromise, CompiledAreDump
 ghost use Rattle.kmap_runs.specs.Runs.{CoversText, DrawnAreWellFormed, DrawnTellKeymaps};
 ghost use Rattle.kmap_runs.specs.Runs.{PrintedCoversAreScripts, TypesSentence, WellLintedNeverStick};
 ghost use Rattle.kmap_runs.specs.Typing.{typing_script};
+ghost use Rattle.keymap_lint_text.specs.Shown.{IsPlainText};
+ghost use Rattle.std.specs.Char.{IsScalar};
 
 use keymap_check::laws::safe_maps_keep_their_promise;
 use keymap_draw::laws::{pictures_are_plain, pictures_are_well_formed, pictures_tell_keymaps};
@@ -39,6 +41,12 @@ pub fn typing_scripts_send_the_ways()
 /// What is printed to type a sentence is a script that types it, played on the keymap alone.
 pub fn typing_scripts_type_the_sentence()
     ensures { (m : MapValue) (bytes cs : List ℕ) → IsTyped m bytes cs → ScriptTypes m (typing_script m cs) bytes }
+{}
+
+/// What is printed to type characters, the comments that show a sentence among it, is UTF-8 that a terminal shows: no
+/// control but a line feed, no mark that can't be seen and none that turns the direction of writing.
+pub fn typing_scripts_are_plain()
+    ensures { (m : MapValue) (cs : List ℕ) → All IsScalar cs → IsPlainText (typing_script m cs) }
 {}
 
 /// What is printed of an answer of the search is a script: where it found a list, one that delivers exactly this list,

@@ -1,0 +1,82 @@
+-- The script that types a sentence is UTF-8 that a terminal shows.
+use Rattle.std.proofs.Common.{◌≡◌, ℕ, ◌==◌, Bool, true, false, List, [], ◌∷◌, refl}
+use Rattle.std.proofs.Common.{sym, arith, append-nil, All}
+use Rattle.std.specs.Prelude.{◌/◌, ◌%◌, nat_lt, codes, encode_utf8, if◌then◌else◌}
+use Rattle.std.specs.Char.{IsScalar}
+use Rattle.std.specs.List.{before_first, position_or_len}
+use Rattle.std.proofs.lemmas.List.Elements.{All-nil, All-cons, All-tail, All-take}
+use Rattle.console_core.specs.declared.event.Event.{Event}
+use Rattle.console_core.specs.declared.event.Event.TheVariants as event
+use Rattle.keymap_core.specs.CodePoints.{code_text, code_digits, upper_digits, digit_at}
+use Rattle.keymap_core.specs.Maps.{MapValue}
+use Rattle.keymap_core.specs.Unseen.{is_unseen}
+use Rattle.keymap_lint_text.proofs.Plain.{ascii, plain_append, plain_none, last_true}
+use Rattle.keymap_lint_text.proofs.Printed.{decimal_plain, digit_plain, either, fills, plain_each, plain_flat}
+use Rattle.keymap_lint_text.specs.Shown.{IsPlain, IsPlainText}
+use Rattle.play_core.specs.Spelling.{event_line}
+use Rattle.play_core.specs.Typing.{way_for, events_in}
+use Rattle.kmap_runs.specs.Typing.{shown, is_line_feed, comment, comment_if, lines_from, typing_script}
+use Rattle.kmap_runs.specs.declared.words.TheConstants as words
+
+digit_at_plain : (c unit : ℕ) (bs : List ℕ) → IsPlainText bs → IsPlainText (digit_at c unit ∷ bs)
+digit_at_plain c unit bs p = digit_plain ((c / unit) % 16) bs (omega arith) p
+
+code_plain : (c : ℕ) → IsPlainText (code_text c)
+unfolding code_text code_digits
+code_plain c =
+    plain_append (codes "U+") _ (ascii _ refl)
+    (plain_append (upper_digits c) _
+    (either (nat_lt c 0x10000) _ _ plain_none
+    (either (nat_lt c 0x100000) _ _ (digit_at_plain c 0x10000 _ plain_none)
+    (digit_at_plain c 0x100000 _ (digit_at_plain c 0x10000 _ plain_none))))
+    (digit_at_plain c 0x1000 _
+    (digit_at_plain c 0x100 _ (digit_at_plain c 0x10 _ (digit_at_plain c 1 _ plain_none)))))
+
+-- a character as it is
+itself : (c : ℕ) → IsScalar c → is_unseen c ≡ false → IsPlainText (encode_utf8 c)
+itself c s h = record {
+  characters = c ∷ [];
+  spelled = sym (append-nil (encode_utf8 c));
+  plain = All-cons IsPlain c [] (s, last_true (c == 9) (c == 10) (is_unseen c) h) (All-nil IsPlain);
+}
+
+shown_by : (c : ℕ) (hidden : Bool) → is_unseen c ≡ hidden → IsScalar c
+    → IsPlainText (if hidden then code_text c else encode_utf8 c)
+shown_by c true h s = code_plain c
+shown_by c false h s = itself c s h
+
+shown_plain : (c : ℕ) → IsScalar c → IsPlainText (shown c)
+unfolding shown
+shown_plain c s = shown_by c (is_unseen c) refl s
+
+comment_plain : (cs : List ℕ) → All IsScalar cs → IsPlainText (comment cs)
+comment_plain cs h =
+    fills words.SENTENCE.now _ refl (
+      plain_each IsScalar shown shown_plain (before_first is_line_feed cs)
+          (All-take IsScalar (position_or_len is_line_feed cs) cs h),
+      tt,
+    )
+
+comment_if_plain : (starts : Bool) (cs : List ℕ) → All IsScalar cs → IsPlainText (comment_if starts cs)
+comment_if_plain true cs h = comment_plain cs h
+comment_if_plain false cs h = plain_none
+
+event_plain : (e : Event) → IsPlainText (event_line e)
+event_plain (event.Press k) =
+    plain_append _ _ (plain_append (codes "down ") _ (ascii _ refl) (decimal_plain k)) (ascii (codes "\n") refl)
+event_plain (event.Release k) =
+    plain_append _ _ (plain_append (codes "up ") _ (ascii _ refl) (decimal_plain k)) (ascii (codes "\n") refl)
+event_plain event.Reset = ascii _ refl
+event_plain event.Load = ascii _ refl
+
+lines_plain : (m : MapValue) (starts : Bool) (cs : List ℕ) → All IsScalar cs → IsPlainText (lines_from m starts cs)
+unfolding lines_from
+lines_plain m starts [] h = plain_none
+lines_plain m starts (c ∷ cs) h =
+    plain_append _ _
+    (plain_append _ _ (comment_if_plain starts (c ∷ cs) h)
+    (plain_flat event_line event_plain (events_in (way_for m c))))
+    (lines_plain m (is_line_feed c) cs (All-tail IsScalar c cs h))
+
+pub typing_plain : (m : MapValue) (cs : List ℕ) → All IsScalar cs → IsPlainText (typing_script m cs)
+typing_plain m cs h = lines_plain m true cs h

@@ -1,6 +1,6 @@
 -- The tokens of a definition stand in their columns.
 use Rattle.std.proofs.Common.{◌≡◌, ℕ, ◌+◌, ◌-◌, ◌*◌, ◌<◌, ◌≤◌, ◌==◌, Bool, true, false, List, [], ◌∷◌, ◌++◌}
-use Rattle.std.proofs.Common.{refl, sym, ◌∙◌, ap, subst, arith, length, map, replicate, append_assoc, All, codes}
+use Rattle.std.proofs.Common.{refl, sym, ◌∙◌, ap, subst, arith, length, map, append_assoc, All, codes}
 use Rattle.std.specs.Prelude.{max, slice_index, nat_le, nat_lt, if◌then◌else◌}
 use Rattle.std.specs.List.{flat_map}
 use Rattle.std.proofs.lemmas.Bool.{lt-leb, lt-ltb, le-ltb, ne_eqb, eqb-true}

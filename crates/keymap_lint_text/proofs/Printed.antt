@@ -204,7 +204,9 @@ accents_plain accents =
 
 column_plain : (column : ℕ) → IsPlainText (told.column_text column)
 unfolding told.column_text
-column_plain column = fills words.COLUMN.now _ refl (decimal_plain column, (named (map (λ name. name.now) words.COLUMN_NAMES) column refl, tt))
+column_plain column =
+    fills words.COLUMN.now _ refl
+    (decimal_plain column, (named (map (λ name. name.now) words.COLUMN_NAMES) column refl, tt))
 
 defined_plain : (what : Defined) → IsPlainText (told.defined_text what)
 defined_plain (Slot slot) = one words.SLOT.now _ refl (decimal_plain slot)

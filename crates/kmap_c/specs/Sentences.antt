@@ -32,8 +32,8 @@ words_size = 128
 abbrev pub name_size : ℕ
 name_size = 7
 
--- A sentence or a name stands in front in a buffer that was `old`, and 0 behind it, where there is room for both; else nothing
--- was changed, and the status is -3.
+-- A sentence or a name stands in front in a buffer that was `old`, and 0 behind it, where there is room for both; else
+-- nothing was changed, and the status is -3.
 pub record IsSaid (sentence old : List ℕ) (status : ℤ) (new : List ℕ) : Type 0 where
   pub said : length sentence < length old
       → (status ≡ pos 0) × (new ≡ (sentence ++ 0 ∷ []) ++ drop (length sentence + 1) old)

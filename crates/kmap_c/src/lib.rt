@@ -11,7 +11,8 @@ mod print;
 mod sentences;
 mod words;
 
-ghost use Rattle.std.specs.Prelude.{◌≡◌, ◌≢◌, ◌↔◌, ℕ, true, ◌<◌, ◌≤◌, List, [], ◌∷◌, ◌++◌, length, take, drop, map, reverse};
+ghost use Rattle.std.specs.Prelude.{◌≡◌, ◌≢◌, ◌↔◌, ℕ, true, ◌<◌, ◌≤◌, List, [], ◌∷◌, ◌++◌, length, take, drop, map};
+ghost use Rattle.std.specs.Prelude.{reverse};
 ghost use Rattle.std.specs.Prelude.{pos, negsuc, slice_index_or};
 ghost use Rattle.keymap_core.specs.Actions.{modifier_index, lock_index, holding_index, IsAction, code_of, name_of};
 ghost use Rattle.keymap_core.specs.declared.action.Holding.{Holding as HoldingValue};

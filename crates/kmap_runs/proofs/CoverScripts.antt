@@ -3,7 +3,7 @@ use Prim.Native.Nat.{suc}
 use Rattle.std.proofs.Common.{◌≡◌, ℕ, zero, ◌+◌, ◌<◌, ◌/◌, ◌%◌, ◌==◌, Bool, true, false, cond, eqb, ltb, List, [], ◌∷◌}
 use Rattle.std.proofs.Common.{◌++◌, length, map, drop, get_or, refl, sym, ap, subst, ◌∙◌, arith, append_assoc}
 use Rattle.std.proofs.Common.{append-nil}
-use Rattle.std.proofs.Common.{lit<, if◌then◌else◌, ne_eqb, decimal, add-one, ◌-◌, Option, Some, None, Ok}
+use Rattle.std.proofs.Common.{lit<, if◌then◌else◌, ne_eqb, decimal, add-one, ◌-◌, Option, Some, Ok}
 use Rattle.std.specs.Prelude.{codes, reverse, All}
 use Rattle.std.specs.List.{flat_map, list_any, range_with_len}
 use Rattle.std.specs.Fmt.{digits, digits_onto, digit_glyph}

@@ -2,7 +2,7 @@
 use Prim.Native.Nat.{suc}
 use Rattle.std.proofs.Common.{◌≡◌, ℕ, ◌+◌, ◌<◌, Bool, true, false, cond, eqb, List, [], ◌∷◌, ◌++◌, length, map, get_or}
 use Rattle.std.proofs.Common.{Option, Some, None, refl, sym, ap, subst, ◌∙◌, arith, append_assoc, append-nil, lit<}
-use Rattle.std.proofs.Common.{if◌then◌else◌, ne_eqb, decimal, ◌^◌, Ok, inl, inr}
+use Rattle.std.proofs.Common.{if◌then◌else◌, ne_eqb, decimal, ◌^◌, Ok}
 use Rattle.std.specs.Prelude.{codes, reverse, encode_utf8, ◌≢◌}
 use Rattle.std.specs.List.{flat_map, before_first}
 use Rattle.std.specs.Str.Parse.{AllDigits}

@@ -1,6 +1,6 @@
-//! Laws of the runs: what is printed as a script is one, and what a command says or writes of a text is so of its keymap.
-//! No function here does anything.
-ghost use Rattle.std.specs.Prelude.{◌≡◌, List, [], ℕ, map, All, Option, Some, None, Ok, true};
+//! Laws of the runs: what is printed as a script is one, and what a command says or writes of a text is so of its
+//! keymap. No function here does anything.
+ghost use Rattle.std.specs.Prelude.{◌≡◌, List, [], ℕ, map, All, Option, Some, Ok, true};
 ghost use Rattle.keymap_core.specs.Maps.{MapValue};
 ghost use Rattle.keymap_cover.specs.Covering.{events};
 ghost use Rattle.keymap_cover.specs.declared.parts.Cover.{Cover as CoverValue};

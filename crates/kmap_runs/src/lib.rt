@@ -3,9 +3,10 @@
 //! `check_run` writes the report of the check on the map that a text spells, `search_run` what the search for sticking
 //! modifiers found, under one map or between those of two texts; `lint_run` writes the diagnostics of a text,
 //! `fmt_print_run` the text in the layout, which `fmt_run` hands out where it differs, `draw_run` a picture of its map,
-//! and `type_run` a script that types a sentence; `compile_run` and `compile_narrow_run` write the table file of a text,
-//! `dump_run` and `dump_narrow_run` print the map of one. Playing is `play` and `play_next` of `play_core`, whose
-//! errors `RunError` takes over. `write_run_error` writes the line of the `RunError` that any of them answers.
+//! `cover_run` a script that tests a console, and `type_run` one that types a sentence; `compile_run` and
+//! `compile_narrow_run` write the table file of a text, `dump_run` and `dump_narrow_run` print the map of one. Playing
+//! is `play` and `play_next` of `play_core`, whose errors `RunError` takes over. `write_run_error` writes the line of the
+//! `RunError` that any of them answers.
 //!
 //! It stands on all other libraries of the workspace but that for C, and on nothing that opens files or reads a
 //! command line. Each contract says with one definition, `Runs` of `play_core`, which inputs were read to which values

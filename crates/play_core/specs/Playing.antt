@@ -1,5 +1,5 @@
 -- What playing a script over texts of keymaps reads and writes, and which error it answers.
-use Rattle.std.specs.Prelude.{◌≡◌, Bool, true, false, ℕ, List, Result, Ok, Err, ⊤}
+use Rattle.std.specs.Prelude.{◌≡◌, Bool, true, false, ℕ, List, Result, Err, ⊤}
 use Rattle.keymap_core.specs.Maps.{MapValue}
 use Rattle.keymap_core.specs.declared.transfer.ReadError.{ReadError}
 use Rattle.keymap_core.specs.declared.transfer.ReadError.TheVariants as read

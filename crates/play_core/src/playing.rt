@@ -2,8 +2,8 @@
 ghost use Rattle.std.specs.Prelude.{◌≡◌, ◌||◌, ◌≤◌, ◌+◌, false, length, IfOk, IfErr, MatchResult, Ok, Err};
 ghost use Rattle.console_core.specs.History.{between};
 ghost use Rattle.play_core.specs.Playing as spec;
-ghost use Rattle.play_core.specs.Playing.{LacksEvents, Plays, PlaysNext, PlaysScript, ReadsNext, ReadsScript, ReadsText};
-ghost use Rattle.play_core.specs.Playing.{blames, blames_writer};
+ghost use Rattle.play_core.specs.Playing.{LacksEvents, Plays, PlaysNext, PlaysScript, ReadsNext, ReadsScript};
+ghost use Rattle.play_core.specs.Playing.{ReadsText, blames, blames_writer};
 ghost use Rattle.play_core.specs.Runs.{moves};
 ghost use Rattle.play_core.specs.Scripts.{IsScript};
 

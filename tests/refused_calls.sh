@@ -81,8 +81,8 @@ refuses read_map-faulty fault
 refuses MapReader::new
 refuses read_from
 refuses read_from-faulty fault
-yields definitions
-yields TextLines::new
+refuses definitions
+refuses TextLines::new
 refuses read_tables
 refuses read_tables-faulty fault
 takes_none read_tables-short fault
@@ -94,44 +94,44 @@ takes_none read_narrow-long fault
 refuses read_narrow_from
 refuses replay-plain
 refuses replay-word
-yields sticking
-yields sticking_between
-yields sights_of
-yields events_that_show
-yields plan_for
-yields cover_of
+refuses sticking
+refuses sticking_between
+refuses sights_of
+refuses events_that_show
+refuses plan_for
+refuses cover_of
 refuses Seen::new
-yields cells
-yields lock_settings
-yields diagnostics
-yields diagnostics-faulty fault
+refuses cells
+refuses lock_settings
+refuses diagnostics
+refuses diagnostics-faulty fault
 yields lint_text
 yields shown_name
-yields format
-yields picture
-yields filled
+refuses format
+refuses picture
+refuses filled
 refuses read_script
 refuses read_whole
 refuses play-lines
 refuses play-typed
 refuses play_next-lines
 refuses play_next-typed
-yields Ways::of
+refuses Ways::of
 yields Ways::characters
 refuses check_run
 refuses check_run-shown
-yields search_run
-yields search_run-next
+refuses search_run
+refuses search_run-next
 refuses dump_run
 refuses dump_narrow_run
 refuses compile_run
 refuses compile_narrow_run
-yields draw_run
+refuses draw_run
 yields lint_run
-yields fmt_run
-yields fmt_print_run
+refuses fmt_run
+refuses fmt_print_run
 yields type_run
-yields cover_run
+refuses cover_run
 yields file_error_line
 
 # The calls that the program knows are those above; between its marks it calls what they are named by, and that is each

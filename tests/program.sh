@@ -383,10 +383,11 @@ holds 'a faulty text leaves the old file' same_bytes kept "old$line"
 # A key of which one character is too wide, and nothing else: where OUT is there before and where it isn't.
 printf %s "0 'a' 'A' SOH soh fkey1 scr16 0x20ac DEL b" > euro
 echo old > there
-for name in there absent; do
-    ran "a character too wide for $name" 1 '' "kmap: cell too wide at slot 0 column 6$line" compile euro $name --narrow
-    holds "$name is made empty" [ -f $name ]
-    holds "$name is empty" [ ! -s $name ]
+for narrow in there absent; do
+    ran "a character too wide for $narrow" 1 '' "kmap: cell too wide at slot 0 column 6$line" \
+        compile euro $narrow --narrow
+    holds "$narrow is a file" [ -f $narrow ]
+    holds "$narrow is empty" [ ! -s $narrow ]
 done
 
 # Checking.

@@ -865,17 +865,17 @@ done
 
 # With --strict warnings count as errors, and what is printed stays.
 cp "$top/examples/us.kbd" good
-"$program" lint begun > want
-lints 'a warning' 0 begun < want
+"$program" lint begun > warned
+lints 'a warning' 0 begun < warned
 for place in before behind; do
     case $place in
     before) set -- --strict begun ;;
     behind) set -- begun --strict ;;
     esac
-    lints "a warning, strictly, with the option $place" 1 "$@" < want
+    lints "a warning, strictly, with the option $place" 1 "$@" < warned
 done
 lints 'nothing to tell, strictly' 0 good --strict good < /dev/null
-lints 'a warning among others, strictly' 1 --strict good begun good < want
+lints 'a warning among others, strictly' 1 --strict good begun good < warned
 echo 'kmap: cannot open none' > told
 lints 'no file, strictly' 1 --strict good none < /dev/null
 

@@ -78,6 +78,9 @@ check:
 
 other-build:
 	sh tests/program.sh $(PROGRAM).by-rattle
+	sh tests/lint.sh $(PROGRAM).by-rattle
+	sh tests/format.sh $(PROGRAM).by-rattle
+	sh tests/swapped_names.sh $(PROGRAM).by-rattle
 	sh tests/both_builds.sh $(PROGRAM) $(PROGRAM).by-rattle
 
 # the tests of what is built; `make check` builds the static library alone

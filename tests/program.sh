@@ -673,6 +673,7 @@ tells 'help' 0 stdout stderr --help
 tells 'the version' 0 stdout stderr --version
 holds 'the version is a number' grep -qxE 'kmap [0-9]+\.[0-9]+\.[0-9]+' stdout
 "$program" --help > help
+holds 'the help names each manual page' grep -qF 'kmap(1), kmap(3) and kmap(5)' help
 for subcommand in '' $(commands_in help); do
     [ "$subcommand" != help ] || continue
     tells "help of: $subcommand" 0 stdout stderr ${subcommand:+"$subcommand"} --help

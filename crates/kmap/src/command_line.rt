@@ -177,7 +177,9 @@ fn without_subcommands<'a>(alloc: Global) -> Command<'a> {
     Command::new(alloc, "kmap")
         .version(VERSION)
         .about("Reads, checks, converts, draws and plays console keymaps")
-        .after_help("Example: kmap check de.kbd{n}{n}The manual pages are kmap(1) and kmap(5).")
+        .after_help(
+            "Example: kmap check de.kbd{n}{n}The manual pages are kmap(1), kmap(3) and kmap(5).",
+        )
         .subcommand_required(true)
         .arg_required_else_help(true)
 }

@@ -215,11 +215,7 @@ fn each_fault_has_its_line(rt: HostRuntime) {
             line: 1,
             kind,
         };
-        expect_at(
-            &rt,
-            &kind,
-            is_told(&RunError::Text(fault), line),
-        );
+        expect_at(&rt, &kind, is_told(&RunError::Text(fault), line));
     }
     for &(kind, line) in &TABLE_KINDS {
         let fault = TableFault { offset: 37, kind };

@@ -8,8 +8,8 @@ use keymap_draw::Board;
 use keymap_tables::{NarrowError, TableFault, TableFaultKind, write_narrow, write_tables};
 use keymap_text::{TextFault, TextFaultKind};
 use kmap_runs::{
-    RunError, check_run, compile_narrow_run, compile_run, draw_run, dump_narrow_run,
-    dump_run, fmt_print_run, lint_run, search_run, type_run,
+    RunError, check_run, compile_narrow_run, compile_run, draw_run, dump_narrow_run, dump_run,
+    fmt_print_run, lint_run, search_run, type_run,
 };
 use std::alloc::Global;
 use std::mem::replace;
@@ -163,48 +163,18 @@ fn an_input_that_fails_after_each_number_of_bytes_is_named(rt: HostRuntime) {
 
 /// A run over an input without an end, whether that is its first one, the error, and the most reads.
 static ENDLESS_READINGS: [(Run, bool, RunError, u32); 9] = [
-    (
-        Run::Show,
-        true,
-        RunError::ReadText(ENDLESS),
-        1_048_578,
-    ),
-    (
-        Run::Search,
-        true,
-        RunError::ReadText(ENDLESS),
-        1_048_578,
-    ),
+    (Run::Show, true, RunError::ReadText(ENDLESS), 1_048_578),
+    (Run::Search, true, RunError::ReadText(ENDLESS), 1_048_578),
     (
         Run::SearchNext,
         false,
         RunError::ReadNext(ENDLESS),
         1_048_578,
     ),
-    (
-        Run::Type,
-        true,
-        RunError::ReadText(ENDLESS),
-        1_048_578,
-    ),
-    (
-        Run::Type,
-        false,
-        RunError::ReadSentence(ENDLESS),
-        1_048_578,
-    ),
-    (
-        Run::Lint,
-        true,
-        RunError::ReadText(ENDLESS),
-        1_048_578,
-    ),
-    (
-        Run::Layout,
-        true,
-        RunError::ReadText(ENDLESS),
-        1_048_578,
-    ),
+    (Run::Type, true, RunError::ReadText(ENDLESS), 1_048_578),
+    (Run::Type, false, RunError::ReadSentence(ENDLESS), 1_048_578),
+    (Run::Lint, true, RunError::ReadText(ENDLESS), 1_048_578),
+    (Run::Layout, true, RunError::ReadText(ENDLESS), 1_048_578),
     (Run::Dump, true, RunError::Tables(LONG), 15_526),
     (Run::DumpNarrow, true, RunError::Tables(LONG_NARROW), 4_141),
 ];
@@ -258,54 +228,19 @@ const BAD_LITERAL: TextFault = TextFault {
 
 /// A run over two inputs, and its first fault.
 static FAULTY: [(Run, &[u8], &[u8], RunError); 12] = [
-    (
-        Run::Check,
-        b"1 'ab'",
-        b"",
-        RunError::Text(BAD_LITERAL),
-    ),
-    (
-        Run::Search,
-        b"1 '",
-        b"",
-        RunError::Text(END_INSIDE),
-    ),
-    (
-        Run::Compile,
-        b"1 '",
-        b"",
-        RunError::Text(END_INSIDE),
-    ),
-    (
-        Run::Draw,
-        b"1 'ab'",
-        b"",
-        RunError::Text(BAD_LITERAL),
-    ),
-    (
-        Run::Layout,
-        b"1 'ab'",
-        b"",
-        RunError::Text(BAD_LITERAL),
-    ),
-    (
-        Run::SearchNext,
-        b"1 '",
-        b"1 '",
-        RunError::Text(END_INSIDE),
-    ),
+    (Run::Check, b"1 'ab'", b"", RunError::Text(BAD_LITERAL)),
+    (Run::Search, b"1 '", b"", RunError::Text(END_INSIDE)),
+    (Run::Compile, b"1 '", b"", RunError::Text(END_INSIDE)),
+    (Run::Draw, b"1 'ab'", b"", RunError::Text(BAD_LITERAL)),
+    (Run::Layout, b"1 'ab'", b"", RunError::Text(BAD_LITERAL)),
+    (Run::SearchNext, b"1 '", b"1 '", RunError::Text(END_INSIDE)),
     (
         Run::SearchNext,
         LETTER_AND_SHIFT,
         b"1 '",
         RunError::Next(END_INSIDE),
     ),
-    (
-        Run::Type,
-        b"1 '",
-        b"\xff",
-        RunError::Text(END_INSIDE),
-    ),
+    (Run::Type, b"1 '", b"\xff", RunError::Text(END_INSIDE)),
     (
         Run::Type,
         LETTER_AND_SHIFT,

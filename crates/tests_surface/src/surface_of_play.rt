@@ -63,14 +63,28 @@ fn script_faults(rt: HostRuntime) {
     expect_equal(&rt, &line.and_then(judged), &Some(("BadLine", 2)));
 }
 
+/// What is delivered of a repeat of a key, where it is lost and where it isn't.
+fn delivered(code: u8, lost: bool) -> Option<Event> {
+    let key: KeyCode = KeyCode::new(code)?;
+    let sent: Sent = Sent {
+        lost,
+        what: What::Repeat(key),
+    };
+    sent.event()
+}
+
+/// Whether it is the press of this key.
+fn is_press(event: Option<Event>, code: u8) -> bool {
+    match event {
+        Some(Event::Press(key)) => key.get() == code,
+        _ => false,
+    }
+}
+
 #[test]
-fn sent_event(rt: HostRuntime) -> Result<(), Fail> {
-    let key: KeyCode = KeyCode::new(30).ok_or("no key")?;
-    let what: What = What::Repeat(key);
-    let delivered: Option<Event> = Sent { lost: false, what }.event();
-    let lost: Option<Event> = Sent { lost: true, what }.event();
-    expect_equal(&rt, &(delivered, lost), &(Some(Event::Press(key)), None));
-    Ok(())
+fn sent_event(rt: HostRuntime) {
+    expect(&rt, is_press(delivered(30, false), 30));
+    expect(&rt, delivered(30, true).is_none());
 }
 
 /// Whether a show has lines.

@@ -83,8 +83,12 @@ fn is_press(event: Option<Event>, code: u8) -> bool {
 
 #[test]
 fn sent_event(rt: HostRuntime) {
-    expect(&rt, is_press(delivered(30, false), 30));
-    expect(&rt, delivered(30, true).is_none());
+    expect(
+        &rt,
+        "a repeat is a press",
+        is_press(delivered(30, false), 30),
+    );
+    expect(&rt, "a lost one is nothing", delivered(30, true).is_none());
 }
 
 /// Whether a show has lines.

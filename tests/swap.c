@@ -31,8 +31,12 @@ static void before(const char *call) {
     static int done;
     const char *at = getenv("SWAP_AT");
     const char *end = getenv("END_AT");
-    if (end && strcmp(end, call) == 0)
-        raise(atoi(getenv("END_BY")));
+    if (end && strcmp(end, call) == 0) {
+        /* A shell may have started it with the signal ignored, as it does in the background. */
+        int number = atoi(getenv("END_BY"));
+        signal(number, SIG_DFL);
+        raise(number);
+    }
     if (at && strcmp(at, call) == 0 && !done) {
         done = 1;
         if (!swapped(getenv("SWAP_NAME"), getenv("SWAP_TARGET")))

@@ -73,22 +73,20 @@ fn delivered(code: u8, lost: bool) -> Option<Event> {
     sent.event()
 }
 
-/// Whether it is the press of this key.
-fn is_press(event: Option<Event>, code: u8) -> bool {
+/// The code of the key that an event presses.
+fn pressed(event: Event) -> Option<u8> {
     match event {
-        Some(Event::Press(key)) => key.get() == code,
-        _ => false,
+        Event::Press(key) => Some(key.get()),
+        Event::Release(_) => None,
+        Event::Reset => None,
+        Event::Load => None,
     }
 }
 
 #[test]
 fn sent_event(rt: HostRuntime) {
-    expect(
-        &rt,
-        "a repeat is a press",
-        is_press(delivered(30, false), 30),
-    );
-    expect(&rt, "a lost one is nothing", delivered(30, true).is_none());
+    expect_equal(&rt, &delivered(30, false).and_then(pressed), &Some(30));
+    expect_equal(&rt, &delivered(30, true).and_then(pressed), &None);
 }
 
 /// Whether a show has lines.

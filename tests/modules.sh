@@ -1,6 +1,6 @@
 #!/bin/sh
-# Checks that the table of modules in docs/ARCHITECTURE.md names the files of each crate that it lists, and no others,
-# and that each path that a page names is there.
+# Checks that docs/ARCHITECTURE.md has the crates of crates.txt and no others, that its table of modules names the files
+# of each crate that it lists, and no others, and that each path that a page names is there.
 #
 # usage: modules.sh
 # The last line is 'N passed, M failed'; the status is 0 where none failed.
@@ -26,7 +26,13 @@ def tell(is_so, what):
     print("good" if is_so else "bad", what)
 
 
-table = open("docs/ARCHITECTURE.md", encoding="utf-8").read().split("\n## The modules of each crate\n")[1].split("\n## ")[0]
+page = open("docs/ARCHITECTURE.md", encoding="utf-8").read()
+crates = page.split("\n## The crates\n")[1].split("\n## ")[0]
+named = {it for row in re.findall(r"^\| ([\w, ]+) \|", crates, re.M) for it in row.split(", ")} - {"crate"}
+lines = open("crates.txt", encoding="utf-8").read().splitlines()
+listed = {it.split(":")[0].split()[0] for it in lines if it and not it.startswith("#")}
+tell(named == listed, f"docs/ARCHITECTURE.md has the crates of crates.txt: {sorted(named ^ listed)}")
+table = page.split("\n## The modules of each crate\n")[1].split("\n## ")[0]
 for row in re.findall(r"^\| (\w+) \|(.*)\|(.*)\|(.*)\|$", table, re.M):
     crate, cells = row[0], row[1:]
     if crate == "crate":

@@ -52,7 +52,7 @@ extern "C" {
 #define KMAP_PRESS(key) ((uint16_t)((uintmax_t)(key) < 128 ? (uint16_t)(key) : KMAP_NO_EVENT))
 #define KMAP_RELEASE(key) ((uint16_t)((uintmax_t)(key) < 128 ? 128 + (uint16_t)(key) : KMAP_NO_EVENT))
 #define KMAP_RESET 256 /* modifiers off, nothing remembered and nothing pending; locks stay */
-#define KMAP_LOAD 257 /* a reset that also puts the other keymap in force */
+#define KMAP_LOAD 257 /* a reset that puts the other keymap in force; locks that no key of it bears go off */
 #define KMAP_NO_EVENT 0xffff
 
 static inline uint16_t kmap_press(uintmax_t key)

@@ -1,19 +1,21 @@
 //! Consoles that translate presses and releases of keys into characters and actions under a keymap, as genkbd_keyaction
 //! of sys/dev/kbd/kbd.c does, with a reset and a load of a second keymap besides.
 //!
-//! The crate stands on keymap_core alone. A console promises, of the whole list of events that it was delivered since
-//! it was made, the answer to each event and which modifiers and locks are on: `specs/History.antt` and
-//! `specs/Resolved.antt` define these by positions in that list. `PlainConsole` and `WordConsole` keep that promise in
-//! two layouts, `replay` and `deliver_all` deliver a list of events, and `laws` has what follows for all lists: in a
-//! keymap where no key bears a modifier or lock beside a character, a modifier is on only while a key that bears it is
-//! pressed, and once every key is released the console goes on as after a reset.
+//! The crate stands on keymap_core, and on indexmap for its searches. A console promises, of the whole list of events
+//! that it was delivered since it was made, the answer to each event, which modifiers and locks are on and which accent
+//! is pending: `specs/History.antt` and `specs/Resolved.antt` define these by positions in that list. `PlainConsole`
+//! and `WordConsole` keep that promise in two layouts, `replay` and `deliver_all` deliver a list of events, and `laws`
+//! has what follows for all lists: in a keymap where no key bears a modifier or lock beside a character, a modifier is
+//! on only while a key that bears it is pressed, and once every key is released, with no accent pending, the console
+//! goes on as after a reset.
 //!
 //! `step_kept` is the step of `WordConsole` over a `WordStore` that the caller keeps, for who calls from C. Each of
 //! them runs over a keymap however it is kept (`keymap_core::Keymap`).
 //!
 //! `sticking` decides by a search whether a keymap can leave a modifier on while no key is pressed, `sticking_between`
 //! whether two that loads exchange can. `sights_of` finds by the same search what presses can look up, and
-//! `events_that_show` events that show it, in keymaps where no turn of a lock is one-way.
+//! `events_that_show` events that show it, in keymaps where no turn of a lock is one-way. All of them may give up where
+//! more than 65,536 states can be reached.
 //!
 //! No call takes memory but `replay`, `sticking`, `sticking_between`, `sights_of` and `events_that_show`, and no call
 //! fails but for want of memory there.

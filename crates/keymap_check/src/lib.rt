@@ -15,8 +15,8 @@
 //! - In every keymap no repeat turns a steady lock (`repeats`).
 //!
 //! [`demonstrate`] tries a fixed list of scripts. That it gives none for a refused keymap does not mean that the
-//! keymap cannot stick: only for some keymaps does it say so (`without_traps`), and only some traps are sure to be
-//! shown (`shown`).
+//! keymap cannot stick: only some traps are sure to be shown (`shown`). In a keymap without traps where nobody bears
+//! clock, nlock or alock, it gives none (`without_traps`).
 //!
 //! No call takes memory or fails.
 #![tactic(auto)]

@@ -1,4 +1,4 @@
-//! A script that looks up every cell that can be looked up, and what it sees.
+//! A script that looks up what can be looked up, all of it where no turn of a lock is one-way, and what it sees.
 ghost use Rattle.std.specs.Prelude.{◌≡◌, ℕ, true, false, IfOk, MatchOption};
 ghost use Rattle.std.specs.List.{Contains};
 ghost use Rattle.console_core.specs.declared.selection.Sight.{Sight as SightValue};

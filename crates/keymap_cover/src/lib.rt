@@ -1,5 +1,5 @@
-//! A script of key events after which a console has looked up every cell that can be looked up at all, and what it
-//! sees.
+//! A script of key events after which a console has looked up every cell that can be looked up at all, where no turn of
+//! a lock is one-way, and what it sees.
 //!
 //! The crate stands on `keymap_tour`, which proposes the events, and on `console_core`: a console runs along while the
 //! script is made, so that what each press looks up is noted, however the events were chosen, and the search tells what

@@ -2,8 +2,8 @@
 //!
 //! A text is a row of pieces, its tokens and its comments, and the layout depends on these and on where each stands:
 //! beside the one before it, in the next line, or behind an empty line. [`format`] writes them anew. [`laws`] says
-//! that what it writes has the same tokens and the same comments between them, spells the same keymap, and is left
-//! alone when it is formatted again.
+//! that what it writes has the same tokens and, but for blanks at their ends, the same comments between them, spells
+//! the same keymap, and is left alone when it is formatted again.
 #![tactic(auto)]
 
 pub mod laws;

@@ -1,4 +1,4 @@
-//! Texts in which some cell selects the slots from 128 on, and that don't define both slots of each key.
+//! Texts in which some cell selects the slots from 128 on, and that define one slot of some key and not the other.
 ghost use Rattle.std.specs.Prelude.{◌≡◌, ◌&&◌, not, find};
 ghost use Rattle.keymap_core.specs.Below.{gathered};
 ghost use Rattle.keymap_core.specs.Numbers.{slot_limit};

@@ -1,4 +1,4 @@
-//! The text form of keymaps, as kbdcontrol(1) reads and dumps it: tokens, the reader and the printer.
+//! The text form of keymaps, that of keymap(5) in the profile of docs/FORMATS.md: tokens, the reader and the printer.
 //!
 //! A text is a row of definitions of keys and accents. It spells one map or has one fault, and the reader answers
 //! exactly that, whether the text comes whole, in pieces or from a device. The crate stands on `keymap_core`, whose

@@ -1,6 +1,6 @@
 //! `kmap`: reads, checks, converts, draws and plays the console keymaps of FreeBSD.
 //!
-//! The runs of the program are those of `kmap_runs`, the player's and the writers of table files. Here the command line
+//! The runs of the program are those of `kmap_runs`, and `play` and `play_next` of `play_core`. Here the command line
 //! is read (`clap`), the files that it names are opened, and the exit status is made of what comes back.
 #![tactic(auto)]
 

@@ -5,14 +5,15 @@
 //! `fmt_print_run` the text in the layout, which `fmt_run` hands out where it differs, `draw_run` a picture of its map,
 //! `cover_run` a script that tests a console, and `type_run` one that types a sentence; `compile_run` and
 //! `compile_narrow_run` write the table file of a text, `dump_run` and `dump_narrow_run` print the map of one. Playing
-//! is `play` and `play_next` of `play_core`, whose errors `RunError` takes over. `write_run_error` writes the line of the
-//! `RunError` that any of them answers.
+//! is `play` and `play_next` of `play_core`, whose errors `RunError` takes over. `write_run_error` writes the line of
+//! the `RunError` that any of them answers.
 //!
 //! It stands on all other libraries of the workspace but that for C, and on nothing that opens files or reads a
 //! command line. Each contract says with one definition, `Runs` of `play_core`, which inputs were read to which values
 //! (`specs/Inputs.antt`), and which text was given of them (`specs/Runs.antt`): it was written, or after a fault of the
-//! writer its first bytes, and nothing after any other refusal; a device is blamed only if it failed. The module `laws`
-//! says that what is printed as a script is one, and what it does when it is played.
+//! writer its first bytes, and nothing after any other refusal; a device is blamed only if it failed. Those of
+//! `fmt_run` and `fmt_print_run` say so in definitions of their own (`specs/FmtRuns.antt`). The module `laws` says that
+//! what is printed as a script is one, what it does when it is played, and what else holds of what a run writes.
 #![tactic(auto)]
 
 mod cover;

@@ -7,7 +7,7 @@
 # tells each limit that is passed, and fails then.
 #
 # usage: run.sh PROGRAM CALLS
-# CALLS is the program of crates/calls, and LIMITS another file of limits.
+# CALLS is the program of crates/calls, LIMITS another file of limits, and README another text whose table is written.
 # Costs are instructions, counted by perf(1) or else by callgrind of valgrind(1), or else microseconds of processor
 # time. Reads and writes are the system calls of these names, among them a few of the loader, counted by strace(1), or
 # else by `valgrind --trace-syscalls=yes`.
@@ -27,6 +27,10 @@ here=$(cd "$(dirname "$0")" && pwd)
 case ${LIMITS:=$here/limits} in
 /*) ;;
 *) LIMITS=$PWD/$LIMITS ;;
+esac
+case ${README:=$here/../README.md} in
+/*) ;;
+*) README=$PWD/$README ;;
 esac
 keymap=$examples/us.kbd
 folder=$(mktemp -d) || exit 1
@@ -318,6 +322,27 @@ if [ $unit != instructions ]; then
     echo 'limits are not looked at: nothing here counts instructions'
     exit 0
 fi
+# The table of README has what was measured of each limit that has words.
+awk '
+    function grouped(n,    behind) {
+        if (n ~ /[^0-9]/) return n
+        for (; length(n) > 3; n = substr(n, 1, length(n) - 3)) behind = "," substr(n, length(n) - 2) behind
+        return n behind
+    }
+    FILENAME == limits && /^[a-z]/ && NF > 2 {
+        names[++count] = $1
+        words[count] = substr($0, length($1) + length($2) + 3)
+    }
+    FILENAME == limits { next }
+    FILENAME == "measured" { value[$1] = $2; next }
+    /^\| what \| instructions \|$/ { inside = 1; print; next }
+    inside && /^\|---/ {
+        print
+        for (i = 1; i <= count; i++) print "| " words[i] " | " grouped(value[names[i]]) " |"
+        next
+    }
+    inside && /^\|/ { next }
+    { inside = 0; print }' limits="$LIMITS" "$LIMITS" measured "$README" > readme && cp readme "$README" || exit 1
 # Each limit is of something that was measured, and each measure has a limit.
 awk '
     FNR == NR && /^[a-z]/ { limit[$1] = $2; next }

@@ -1,19 +1,21 @@
 -- What the reading of a file answers is the map of the image, or the one fault.
-use Rattle.std.proofs.Common.{◌≡◌, ℕ, List, None, Some, sym, ap, ◌∙◌, subst, inl, inr}
+use Rattle.std.proofs.Common.{◌≡◌, ℕ, ◌<◌, List, None, Some, sym, ap, ◌∙◌, subst, inl, inr}
 use Rattle.std.specs.Prelude.{Result, Ok, Err, Option}
 use Rattle.std.proofs.lemmas.Bool.{cases_lt}
 use Rattle.std.proofs.Math.Nat.{eq-or-lt_of_le}
 use Rattle.std.proofs.lemmas.List.Elements.{All-weaker}
 use Rattle.keymap_core.specs.Accents.{AccentValue}
 use Rattle.keymap_core.specs.Maps.{MapValue}
-use Rattle.keymap_core.specs.Bounds.{IsCell, IsEntry, IsPair, IsAccent, IsMap}
+use Rattle.keymap_core.specs.Bounds.{IsCell, IsEntry, IsAccent, IsMap}
+use Rattle.std.specs.Char.{IsScalar}
 use Rattle.keymap_tables.specs.Types.{Cell, Char, Act, Entry, Layout, TableError, Memory, Read, Fault, TableFault}
 use Rattle.keymap_tables.specs.Types.{TableFaultKind}
 use Rattle.keymap_tables.specs.Faults.{IsFirstFault, fault_at}
-use Rattle.keymap_tables.specs.Fits.{CellFits, EntryFits, PairFits, AccentFits, FitsIn}
-use Rattle.keymap_tables.specs.Image.{image_in}
-use Rattle.keymap_tables.specs.Layouts.{wide}
-use Rattle.keymap_tables.specs.Readings.{IsReading, IsReadingIn, AnswersMap, AnswersFault}
+use Rattle.keymap_tables.specs.Fits.{CellFits, EntryFits, AccentFits, FitsIn}
+use Rattle.keymap_tables.specs.Image.{image_in, numbers_of}
+use Rattle.keymap_tables.specs.Layouts.{wide, number_limit}
+use Rattle.keymap_tables.specs.Readings.{IsReadingIn, AnswersMap, AnswersFault}
+use Rattle.keymap_tables.proofs.AccentImages.{numbers-known}
 use Rattle.keymap_tables.proofs.Images.{image-sound, same-map}
 use Rattle.keymap_tables.proofs.SlotImages.{scalar-small}
 
@@ -26,14 +28,10 @@ cell-wide (Act a) known = tt
 pub entry-wide : (entry : Entry) → IsEntry entry → EntryFits wide entry
 entry-wide entry known = All-weaker IsCell (CellFits wide) cell-wide entry.cells known.cells
 
--- each known pair fits two wide numbers
-pub pair-wide : (pair : ℕ × ℕ) → IsPair pair → PairFits wide pair
-pair-wide pair known = (scalar-small pair.0 known.0, scalar-small pair.1 known.2)
-
 -- each known accent fits wide numbers
 pub accent-wide : (accent : AccentValue) → IsAccent accent → AccentFits wide accent
 accent-wide accent known =
-    (scalar-small accent.own known.own, All-weaker IsPair (PairFits wide) pair-wide accent.pairs known.pairs)
+    All-weaker IsScalar (λ n. n < number_limit wide) scalar-small (numbers_of accent) (numbers-known accent known)
 
 -- each map fits a wide table
 pub map-wide : (m : MapValue) → IsMap m → FitsIn wide m
@@ -92,17 +90,3 @@ reading-fault l bytes (Ok n) reading f fault =
 reading-fault l bytes (Err Memory) reading f fault = tt
 reading-fault l bytes (Err (Read g)) reading f fault = absurd reading
 reading-fault l bytes (Err (Fault g)) reading f fault = one-fault (fault_at l bytes) g f reading fault
-
--- The reading of a table file, with and without what every map has there.
-pub reading-wide : (bytes : List ℕ) (r : Result MapValue TableError) → IsReadingIn wide bytes r → IsReading bytes r
-reading-wide bytes (Ok m) reading = (reading.0, reading.1)
-reading-wide bytes (Err Memory) reading = reading
-reading-wide bytes (Err (Read f)) reading = reading
-reading-wide bytes (Err (Fault f)) reading = reading
-
--- what is a reading of a table is one of the wide layout
-pub reading-in : (bytes : List ℕ) (r : Result MapValue TableError) → IsReading bytes r → IsReadingIn wide bytes r
-reading-in bytes (Ok m) reading = (reading.0, reading.1, map-wide m reading.0)
-reading-in bytes (Err Memory) reading = reading
-reading-in bytes (Err (Read f)) reading = reading
-reading-in bytes (Err (Fault f)) reading = reading

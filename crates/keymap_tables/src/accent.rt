@@ -1,7 +1,8 @@
 //! The image of an accent: its own character, its pairs, and zeros.
-ghost use Rattle.std.specs.Prelude.{◌≡◌, ◌+◌, ◌≤◌, ◌++◌, length};
+ghost use Rattle.std.specs.Prelude.{◌≡◌, ◌+◌, ◌<◌, ◌≤◌, ◌++◌, length, slice_index_or};
 ghost use Rattle.std.specs.Char.{IsScalar};
 ghost use Rattle.arrayvec.specs.ArrayVec.{array_vec_len};
+ghost use Rattle.keymap_core.specs.Accents.{blank};
 ghost use Rattle.keymap_core.specs.Bounds.{IsAccent};
 ghost use Rattle.keymap_tables.specs.Image.{accent_bytes, number_bytes};
 ghost use Rattle.keymap_tables.specs.Layouts.{wide, number_size, accent_size};
@@ -9,7 +10,7 @@ ghost use Rattle.keymap_tables.specs.Layouts.{wide, number_size, accent_size};
 use crate::layout::{ACCENT, Layout};
 use crate::slot::{push_number, push_zeros};
 use arrayvec::ArrayVec;
-use keymap_core::Accent;
+use keymap_core::{Accent, KeyMap};
 
 /// Appends the bytes of a character.
 fn push_char(image: &mut ArrayVec<u8, ACCENT>, layout: Layout, character: char)
@@ -36,4 +37,20 @@ pub(crate) fn accent_image(layout: Layout, accent: &Accent) -> ArrayVec<u8, ACCE
     }
     push_zeros(&mut image, layout.accent());
     image
+}
+
+/// The bytes of an accent of a map, zeros where it isn't in use.
+pub(crate) fn accent_piece(layout: Layout, map: &KeyMap, index: u8) -> ArrayVec<u8, ACCENT>
+    ensures bytes { result.items ≡ accent_bytes layout (slice_index_or map.now.accents index blank) }
+    ensures whole { length result.items ≡ accent_size layout }
+    ensures known { index < length map.now.accents → IsAccent (slice_index_or map.now.accents index blank) }
+{
+    match map.accent(index) {
+        Some(accent) => accent_image(layout, accent),
+        None => {
+            let mut image = ArrayVec::new();
+            push_zeros(&mut image, layout.accent());
+            image
+        }
+    }
 }

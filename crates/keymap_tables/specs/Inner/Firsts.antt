@@ -1,14 +1,15 @@
 -- What functions that go over a part of a file or of a map tell of it. HasNoFault is what the readers of
 -- src/read_slot.rt, src/read_accent.rt and src/content.rt say of a part; IsFirstFilled mirrors `check_zeros` of
 -- src/number.rt, IsFirstColumn and IsFirstNumber `wide_column` and `wide_number` of src/narrow.rt.
-use Rattle.std.specs.Prelude.{◌≡◌, ℕ, ◌<◌, ◌≤◌, List, length, slice_index_or, Option, None, Some}
+use Rattle.std.specs.Prelude.{◌≡◌, ℕ, ◌<◌, ◌≤◌, List, length, slice_index_or, None, Some}
 use Rattle.keymap_core.specs.Accents.{AccentValue}
 use Rattle.keymap_tables.specs.Types.{Char, Entry, TableFaultKind, TableFault}
-use Rattle.keymap_tables.specs.Faults.{zero_fault}
-use Rattle.keymap_tables.specs.Fits.{character_of, numbers_of}
+use Rattle.keymap_tables.specs.Faults.{FaultOf, zero_fault}
+use Rattle.keymap_tables.specs.Fits.{character_of}
+use Rattle.keymap_tables.specs.Image.{numbers_of}
 
 -- the first n places have no fault
-abbrev pub HasNoFault : (ℕ → Option TableFaultKind) → ℕ → Type 0
+abbrev pub HasNoFault : FaultOf → ℕ → Type 0
 HasNoFault fault_of n = (p : ℕ) → p < n → fault_of p ≡ None
 
 -- of the bytes from a place on, which have to be 0, the fault at the first that isn't

@@ -14,4 +14,4 @@ returns-in-Some c =
 pub returns : goal.returns
 returns c =
     All-from_get_or (AccentFits narrow) c.args.map.now.accents blank
-    (λ i below. c.loop-accent.invariant i (omega (arith, c.n_accs-accent-end.ensures.value)) below)
+    (λ i below. c.loop-accent.invariant i (omega (arith, below, c.n_accs-accent-end.ensures.value)))

@@ -16,4 +16,4 @@ returns-in-Some c =
 pub returns : goal.returns
 returns c =
     All-from_get_or (EntryFits narrow) c.args.map.now.entries undefined
-    (λ i below. c.loop-slot.invariant i (omega (arith, c.n_keys-slot-end.ensures.value)) below)
+    (λ i below. c.loop-slot.invariant i (omega (arith, below, c.n_keys-slot-end.ensures.value)))

@@ -3,7 +3,8 @@ use Rattle.std.proofs.lemmas.List.{take_all}
 use Rattle.std.proofs.lemmas.List.Elements.{All-same}
 use Rattle.keymap_tables.specs.Layouts.{number_size}
 use Rattle.keymap_tables.proofs.Sizes.{row-next}
-use Rattle.keymap_tables.proofs.Slots.{All-next, cells-more, marks-next, small-next, slot-written}
+use Rattle.keymap_tables.proofs.Marks.{marks-next, small-next}
+use Rattle.keymap_tables.proofs.SlotImages.{All-next, cells-more, slot-written}
 use Rattle.keymap_core.specs.Bounds.{IsCell}
 use Rattle.keymap_tables.proofs.slot.slot_image.Goals as goal
 

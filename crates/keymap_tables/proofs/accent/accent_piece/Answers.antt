@@ -1,10 +1,12 @@
-use Rattle.std.proofs.Common.{◌≡◌, ap, ◌∙◌, sym, [], ℕ, List, subst, None, Some}
+use Rattle.std.proofs.Common.{◌≡◌, ◌-◌, ◌++◌, ap, ◌∙◌, sym, ℕ, List, length, subst, None, Some, arith}
 use Rattle.std.proofs.lemmas.Option.{get_or_from_slice_get, unwrap_or-slice_get, slice_get-get_or}
 use Rattle.keymap_core.specs.Bounds.{IsAccent}
 use Rattle.std.specs.Prelude.{unwrap_or, Option, slice_get}
 use Rattle.keymap_core.specs.Accents.{AccentValue, blank}
-use Rattle.keymap_tables.specs.Image.{accent_bytes}
-use Rattle.keymap_tables.proofs.write.accent_piece.Goals as goal
+use Rattle.keymap_tables.specs.Image.{accent_bytes, zeros}
+use Rattle.keymap_tables.specs.Layouts.{accent_size}
+use Rattle.keymap_tables.proofs.Sizes.{accent-blank}
+use Rattle.keymap_tables.proofs.accent.accent_piece.Goals as goal
 
 pub returns-in-Some-clause-bytes : goal.returns-in-Some-clause-bytes
 returns-in-Some-clause-bytes c =
@@ -15,20 +17,16 @@ returns-in-Some-clause-bytes c =
 none_some : (o : Option AccentValue) (a : AccentValue) → None ≡ o → o ≡ Some a → ⊥
 none_some o a none some = cc
 
-accent_of : ℕ → List (ℕ × ℕ) → AccentValue
-accent_of own pairs = record { own = own; pairs = pairs }
-
-blank-made : (a : AccentValue) → a.own ≡ 0 → a.pairs ≡ [] → a ≡ blank
-unfolding accent_of
-blank-made a own none = ap (λ (v : ℕ). accent_of v a.pairs) own ∙ ap (λ (v : List (ℕ × ℕ)). accent_of 0 v) none
-
 pub returns-in-None-clause-bytes : goal.returns-in-None-clause-bytes
 returns-in-None-clause-bytes c =
+    let l = c.args.layout in
     let past =
     ap (λ (o : Option AccentValue). unwrap_or o blank) c.in-None.ensures.value
     ∙ unwrap_or-slice_get c.args.map.now.accents c.args.index blank in
-    c.accent_image-in-None.ensures.bytes
-    ∙ ap (accent_bytes c.args.layout) (blank-made c.new.result c.new.ensures.own c.new.ensures.pairs ∙ past)
+    let size : c.accent-in-None.result - 0 ≡ accent_size c.args.layout = omega arith in
+    c.push_zeros.ensures.bytes
+    ∙ ap (λ (v : List ℕ). v ++ zeros (c.accent-in-None.result - length v)) c.new-image.ensures ∙ ap zeros size
+    ∙ sym (accent-blank l) ∙ ap (accent_bytes l) past
 
 pub returns-in-Some-clause-known : goal.returns-in-Some-clause-known
 returns-in-Some-clause-known c used =

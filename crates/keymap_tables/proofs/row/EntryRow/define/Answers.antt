@@ -1,0 +1,10 @@
+use Rattle.std.proofs.Common.{List, subst}
+use Rattle.keymap_core.specs.Maps.{undefined}
+use Rattle.keymap_tables.specs.Types.{Entry}
+use Rattle.keymap_tables.proofs.Rows.{placed-end}
+use Rattle.keymap_tables.proofs.row.EntryRow.define.Goals as goal
+
+pub returns : goal.returns
+returns g c =
+    λ m xs many shown. subst (λ (v : List Entry). g.D.Definitions.shows c.define.new.self (record m { entries = v }))
+    (placed-end undefined xs c.args.index c.args.self many) (c.define.ensures _ shown)

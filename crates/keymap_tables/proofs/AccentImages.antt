@@ -10,11 +10,13 @@ use Rattle.std.proofs.lemmas.Bool.Decides.{nat_tests}
 use Rattle.std.proofs.lemmas.Grind.{flat_map-append}
 use Rattle.std.proofs.lemmas.List.{get_or_past, take_more}
 use Rattle.std.proofs.lemmas.List.Elements.{All-nil, All-same, All-push, All-cons, All-head, All-tail, All-get_or}
+use Rattle.std.proofs.lemmas.List.Elements.{All-from_get_or}
 use Rattle.std.proofs.Math.Nat.{mul-sub}
 use Rattle.std.proofs.lemmas.List.Folds.{length-prefix_len}
-use Rattle.keymap_core.specs.Accents.{AccentValue, blank}
+use Rattle.keymap_core.specs.Accents.{AccentValue, AllBasesNotZero, blank}
 use Rattle.keymap_core.specs.Bounds.{IsPair, IsAccent}
 use Rattle.keymap_tables.specs.Faults.{number_at, base_at, pairs_in, char_fault, number_fault, accent_fault, zero_fault}
+use Rattle.keymap_tables.specs.Fits.{number_in}
 use Rattle.keymap_tables.specs.Inner.Firsts.{HasNoFault}
 use Rattle.keymap_tables.specs.Inner.Taken.{AreRows, IsAccentIn}
 use Rattle.keymap_tables.specs.Image.{number_bytes, numbers_of, accent_bytes, zeros}
@@ -23,7 +25,8 @@ use Rattle.keymap_tables.specs.Types.{Layout, Wide, Narrow, NotEmpty}
 use Rattle.keymap_tables.proofs.Lifting.{row-past, number-clean, none-past}
 use Rattle.keymap_tables.proofs.Numbers.{AreBytes, number-read, number-back, same-number, zeros-behind}
 use Rattle.keymap_tables.proofs.Rows.{length-rows, length-all, filled-row, rows-clean, rows-read, same-rows}
-use Rattle.keymap_tables.proofs.Sizes.{All-at, row-inside, some-number, accent-some, accent-blank, length-number}
+use Rattle.keymap_tables.proofs.Sizes.{All-at, row-inside, some-number, zero-fits, accent-some, accent-blank}
+use Rattle.keymap_tables.proofs.Sizes.{length-number}
 use Rattle.keymap_tables.proofs.SlotImages.{char-sound}
 
 -- how many numbers from a on pass a test, of those below a + k
@@ -105,6 +108,22 @@ pub numbers-known : (accent : AccentValue) → IsAccent accent → All IsScalar 
 numbers-known accent known =
     All-cons IsScalar accent.own (flat accent.pairs) known.own (flat-known accent.pairs known.pairs)
 
+-- an accent of characters is known, where its bases are
+pub accent-known : (accent : AccentValue) → ((k : ℕ) → k < length (numbers_of accent) → IsScalar (number_in accent k))
+    → length accent.pairs ≤ 52 → AllBasesNotZero accent.pairs → IsAccent accent
+accent-known accent known few bases =
+    let is = λ (k : ℕ) (n : ℕ) (below : k < 1 + 2 * length accent.pairs) (same : number_in accent k ≡ n).
+    subst IsScalar same (known k (omega (arith, length-numbers accent, below))) in
+    record {
+      own = known 0 (omega arith);
+      few = few;
+      pairs = All-from_get_or IsPair accent.pairs (0, 0) (λ i below. (
+        is (1 + 2 * i) _ (omega arith) (number-base accent.own accent.pairs i),
+        All-get_or (λ p. p.0 ≢ 0) accent.pairs i (0, 0) below bases,
+        is (2 + 2 * i) _ (omega arith) (number-result accent.own accent.pairs i),
+      ));
+    }
+
 same-flat : (xs ys : List (ℕ × ℕ)) → flat xs ≡ flat ys → xs ≡ ys
 same-flat [] [] same = refl
 same-flat [] (q ∷ ys) same = cc
@@ -116,10 +135,6 @@ same-flat (p ∷ xs) (q ∷ ys) same =
     ap (λ (v : ℕ). (v, p.1) ∷ xs) first ∙ ap (λ (v : ℕ). (q.0, v) ∷ xs) second
     ∙ ap (λ (v : List (ℕ × ℕ)). q ∷ v) (same-flat xs ys rest)
 
--- an accent of its character and pairs
-accent_of : ℕ → List (ℕ × ℕ) → AccentValue
-accent_of own pairs = record { own = own; pairs = pairs }
-
 -- one more pair
 pub flat-push : (own : ℕ) (pairs : List (ℕ × ℕ)) (p : ℕ × ℕ)
     → own ∷ flat (pairs ++ p ∷ []) ≡ ((own ∷ flat pairs) ++ p.0 ∷ []) ++ p.1 ∷ []
@@ -129,21 +144,16 @@ flat-push own pairs p =
 
 -- they give the accent
 numbers-one : (x y : AccentValue) → numbers_of x ≡ numbers_of y → x ≡ y
-unfolding accent_of
 numbers-one x y same =
     let own : x.own ≡ y.own = cc in
     let rest : flat x.pairs ≡ flat y.pairs = cc in
-    ap (λ (v : ℕ). accent_of v x.pairs) own
-    ∙ ap (λ (v : List (ℕ × ℕ)). accent_of y.own v) (same-flat x.pairs y.pairs rest)
+    ap (λ (v : ℕ). record x { own = v }) own
+    ∙ ap (λ (v : List (ℕ × ℕ)). record y { pairs = v }) (same-flat x.pairs y.pairs rest)
 
 -- Their bytes.
 number-blank : (l : Layout) → number_bytes l 0 ≡ zeros (number_size l)
 number-blank Wide = refl
 number-blank Narrow = refl
-
-zero-fits : (l : Layout) → 0 < number_limit l
-zero-fits Wide = omega arith
-zero-fits Narrow = omega arith
 
 module _ (l : Layout) (accent : AccentValue) (is : IsAccentIn l accent) where
   sized : All (λ n. length (number_bytes l n) ≡ number_size l) (numbers_of accent)
@@ -261,32 +271,3 @@ pair-fits l own pairs p so_far first second =
     All-same (λ n. n < number_limit l) _ _ (flat-push own pairs p)
     (All-push (λ n. n < number_limit l) ((own ∷ flat pairs) ++ p.0 ∷ []) p.1
     (All-push (λ n. n < number_limit l) (own ∷ flat pairs) p.0 so_far first) second)
-
--- one more pair, written
-pub pairs-next : (l : Layout) (own : ℕ) (pairs : List (ℕ × ℕ)) (i : ℕ) (d : ℕ × ℕ) (old mid new : List ℕ)
-    → i < length pairs → old ≡ flat_map (number_bytes l) (own ∷ flat (take i pairs))
-    → mid ≡ old ++ number_bytes l (get_or pairs i d).0 → new ≡ mid ++ number_bytes l (get_or pairs i d).1
-    → new ≡ flat_map (number_bytes l) (own ∷ flat (take (i + 1) pairs))
-pairs-next l own pairs i d old mid new below so_far first second =
-    let pair = get_or pairs i d in
-    let grown : flat_map (number_bytes l) (own ∷ flat (take (i + 1) pairs))
-    ≡ (flat_map (number_bytes l) (own ∷ flat (take i pairs)) ++ number_bytes l (get_or pairs i d).0)
-    ++ number_bytes l (get_or pairs i d).1 =
-    ap (λ (v : List (ℕ × ℕ)). flat_map (number_bytes l) (own ∷ flat v)) (take_more pairs i d below)
-    ∙ ap (flat_map (number_bytes l)) (flat-push own (take i pairs) pair)
-    ∙ flat_map-append (number_bytes l) ((own ∷ flat (take i pairs)) ++ pair.0 ∷ []) (pair.1 ∷ [])
-    ∙ ap (λ (v : List ℕ). v ++ flat_map (number_bytes l) (pair.1 ∷ []))
-    (flat_map-append (number_bytes l) (own ∷ flat (take i pairs)) (pair.0 ∷ []))
-    ∙ rw (append-nil (number_bytes l pair.0), append-nil (number_bytes l pair.1)) refl in
-    second ∙ ap (λ (v : List ℕ). v ++ number_bytes l (get_or pairs i d).1) (first
-    ∙ ap (λ (v : List ℕ). v ++ number_bytes l (get_or pairs i d).0) so_far) ∙ sym grown
-
--- what the numbers in use leave
-pub numbers-rest : (l : Layout) (accent : AccentValue) (n k : ℕ) → n ≡ accent_size l
-    → k ≡ number_size l * (1 + 2 * length accent.pairs)
-    → n - k ≡ number_size l * (105 - length (numbers_of accent))
-numbers-rest l accent n k whole used =
-    let s = number_size l in
-    let m = 1 + 2 * length accent.pairs in
-    ap (λ (j : ℕ). j - k) (whole ∙ mul_comm 105 s) ∙ ap (λ (j : ℕ). number_size l * 105 - j) used ∙ sym (mul-sub s 105 m)
-    ∙ ap (λ (j : ℕ). number_size l * (105 - j)) (sym (length-numbers accent))

@@ -7,7 +7,7 @@ use Rattle.std.proofs.lemmas.List.{get_or-take, get_or-drop, get_or-replicate}
 use Rattle.keymap_core.specs.Accents.{blank}
 use Rattle.keymap_core.specs.Maps.{MapValue, undefined, entry_at, cell_at, accent_or_blank}
 use Rattle.keymap_core.specs.Bounds.{IsCell, IsEntry, IsAccent, IsMap}
-use Rattle.keymap_tables.specs.Types.{Char, Layout, Wide, Narrow, TableFault}
+use Rattle.keymap_tables.specs.Types.{Char, Layout, TableFault}
 use Rattle.keymap_tables.specs.Faults.{FaultOf, IsFirstFault, number_at, is_marked_at, count_at}
 use Rattle.keymap_tables.specs.Fits.{CellFits, EntryFits, FitsIn}
 use Rattle.keymap_tables.specs.Image.{image, image_in, number_of, is_act, flag_number}
@@ -15,7 +15,7 @@ use Rattle.keymap_tables.specs.Inner.Taken.{AreRows}
 use Rattle.keymap_tables.specs.Layouts.{wide, narrow, part, number_width, number_size, slot_size, slots_place}
 use Rattle.keymap_tables.proofs.Images.{count-part, n_keys-of, n_accs-of, part-part, slot-part}
 use Rattle.keymap_tables.proofs.ReadingLaws.{map-wide, some_none}
-use Rattle.keymap_tables.proofs.Sizes.{row-inside, All-at}
+use Rattle.keymap_tables.proofs.Sizes.{row-inside, zero-fits, All-at}
 use Rattle.keymap_tables.proofs.SlotImages.{number-in, mark-in, flag-in}
 
 -- the count of slots
@@ -61,10 +61,6 @@ undefined-known = record {
   eight = refl;
   cells = λ k d below. subst IsCell (sym (get_or-replicate 8 k (Char 0) d below)) zero-known;
 }
-
-zero-fits : (l : Layout) → CellFits l (Char 0)
-zero-fits Wide = omega arith
-zero-fits Narrow = omega arith
 
 -- an undefined entry fits
 pub undefined-fits : (l : Layout) → EntryFits l undefined

@@ -286,14 +286,9 @@ module _ (l : Layout) (m : MapValue) (is : IsMap m) (fits : FitsIn l m) where
       ∙ ap (drop (count_size l + accent_size l * i)) image-back)
       ∙ table-row (accents-are l) l 15 (omega arith) m.accents accents-in is.few_accents i below
 
--- the map of these entries and accents
-map_of : List Entry → List AccentValue → MapValue
-map_of entries accents = record { entries = entries; accents = accents }
-
 -- maps that fit are the same where their images are
 pub same-map : (l : Layout) (m n : MapValue) → IsMap m → FitsIn l m → IsMap n → FitsIn l n → image_in l m ≡ image_in l n
     → m ≡ n
-unfolding map_of
 same-map l m n is fits also too same =
     let entries =
     same-table (slots-are l) l 256 (omega arith)
@@ -303,4 +298,5 @@ same-map l m n is fits also too same =
     same-table (accents-are l) l 15 (omega arith)
     m.accents n.accents (accents-in l m is fits) (accents-in l n also too) is.few_accents also.few_accents
     (sym (image-back l m is fits) ∙ ap (drop (n_accs_place l)) same ∙ image-back l n also too) in
-    ap (λ (v : List Entry). map_of v m.accents) entries ∙ ap (λ (v : List AccentValue). map_of n.entries v) accents
+    ap (λ (v : List Entry). record m { entries = v }) entries
+    ∙ ap (λ (v : List AccentValue). record n { accents = v }) accents

@@ -1,5 +1,5 @@
 -- What the reading of a file answers is the map of the image, or the one fault.
-use Rattle.std.proofs.Common.{◌≡◌, ℕ, ◌<◌, List, None, Some, sym, ap, ◌∙◌, subst, inl, inr}
+use Rattle.std.proofs.Common.{◌≡◌, ℕ, ◌<◌, List, None, Some, sym, ap, ◌∙◌, subst, inl, inr, arith}
 use Rattle.std.specs.Prelude.{Result, Ok, Err, Option}
 use Rattle.std.proofs.lemmas.Bool.{cases_lt}
 use Rattle.std.proofs.Math.Nat.{eq-or-lt_of_le}
@@ -22,7 +22,7 @@ use Rattle.keymap_tables.proofs.SlotImages.{scalar-small}
 -- Every map fits in the wide file.
 cell-wide : (cell : Cell) → IsCell cell → CellFits wide cell
 cell-wide (Char c) known = scalar-small c known
-cell-wide (Act a) known = tt
+cell-wide (Act a) known = omega arith
 
 -- each known entry fits a wide slot
 pub entry-wide : (entry : Entry) → IsEntry entry → EntryFits wide entry
@@ -50,17 +50,12 @@ pub no-fault : (l : Layout) (m : MapValue) (f : TableFault) → IsMap m → Fits
 no-fault l m f is fits fault =
     some_none f.kind (fault_at l (image_in l m) f.offset) fault.here (image-sound l m is fits f.offset)
 
--- a fault of a place and a kind
-fault_of : ℕ → TableFaultKind → TableFault
-fault_of offset kind = record { offset = offset; kind = kind }
-
 -- a place has one kind of fault
 same-kind : (o : Option TableFaultKind) (k l : TableFaultKind) → o ≡ Some k → o ≡ Some l → k ≡ l
 same-kind o k l first second = cc
 
 -- A file has one fault.
 pub one-fault : (at : ℕ → Option TableFaultKind) (f g : TableFault) → IsFirstFault at f → IsFirstFault at g → f ≡ g
-unfolding fault_of
 one-fault at f g first second =
     let place : f.offset ≡ g.offset = elim (cases_lt f.offset g.offset) [
       | inl before ↦ absurd (some_none f.kind (at f.offset) first.here (second.before f.offset before))
@@ -71,7 +66,7 @@ one-fault at f g first second =
     ] in
     let kind : f.kind ≡ g.kind =
     same-kind (at g.offset) f.kind g.kind (subst (λ (p : ℕ). at p ≡ Some f.kind) place first.here) second.here in
-    ap (λ (p : ℕ). fault_of p f.kind) place ∙ ap (λ (k : TableFaultKind). fault_of g.offset k) kind
+    ap (λ (p : ℕ). record f { offset = p }) place ∙ ap (λ (k : TableFaultKind). record g { kind = k }) kind
 
 -- Reading the image of a map that fits gives the map.
 pub reading-image : (l : Layout) (bytes : List ℕ) (r : Result MapValue TableError) → IsReadingIn l bytes r

@@ -126,12 +126,13 @@ module _ {X : Type 0} (f : X → List ℕ) (size : ℕ) where
       ∙ ap f (get_or-filled blank n xs i inside)
 
   -- one more row, after a text
-  pub rows-next : (blank : X) (n : ℕ) (xs : List X) (i : ℕ) (text : List ℕ) → length xs ≤ n → i < n
-      → (text ++ flat_map f (take i (filled blank n xs))) ++ f (get_or xs i blank)
-      ≡ text ++ flat_map f (take (i + 1) (filled blank n xs))
-  rows-next blank n xs i text few inside =
+  pub rows-next : (blank : X) (n : ℕ) (xs : List X) (i : ℕ) (x : X) (text : List ℕ) → x ≡ get_or xs i blank
+      → length xs ≤ n → i < n
+      → (text ++ flat_map f (take i (filled blank n xs))) ++ f x ≡ text ++ flat_map f (take (i + 1) (filled blank n xs))
+  rows-next blank n xs i x text here few inside =
       let within : i < length (filled blank n xs) = omega (arith, length-filled blank n xs few) in
-      append_assoc text (flat_map f (take i (filled blank n xs))) (f (get_or xs i blank))
+      ap (λ (v : X). (text ++ flat_map f (take i (filled blank n xs))) ++ f v) here
+      ∙ append_assoc text (flat_map f (take i (filled blank n xs))) (f (get_or xs i blank))
       ∙ ap (λ (v : List ℕ). text ++ v)
       (rw (take_more (filled blank n xs) i blank within, get_or-filled blank n xs i inside, flat_map-append)
       (ap (λ (v : List ℕ). flat_map f (take i (filled blank n xs)) ++ v) (sym (append-nil (f (get_or xs i blank))))))
@@ -143,20 +144,38 @@ module _ {X : Type 0} (f : X → List ℕ) (size : ℕ) where
       rw (take_all i (filled blank n xs) (omega (arith, length-filled blank n xs few))) (flat_map-filled blank n xs empty)
 
   -- all rows, cut after one
-  pub rows-cut : (blank : X) (n : ℕ) (xs : List X) (i : ℕ) (text : List ℕ) → length xs ≤ n → i < n
-      → f blank ≡ zeros size
+  pub rows-cut : (blank : X) (n : ℕ) (xs : List X) (i : ℕ) (x : X) (text : List ℕ) → x ≡ get_or xs i blank
+      → length xs ≤ n → i < n → f blank ≡ zeros size
       → text ++ rows_bytes f size n xs
-      ≡ ((text ++ flat_map f (take i (filled blank n xs))) ++ f (get_or xs i blank))
-      ++ flat_map f (drop (i + 1) (filled blank n xs))
-  rows-cut blank n xs i text few inside empty =
+      ≡ ((text ++ flat_map f (take i (filled blank n xs))) ++ f x) ++ flat_map f (drop (i + 1) (filled blank n xs))
+  rows-cut blank n xs i x text here few inside empty =
       rw (
-        rows-next blank n xs i text few inside,
+        rows-next blank n xs i x text here few inside,
         ← flat_map-filled blank n xs empty,
         append_assoc,
         ← flat_map-append,
         take-append-drop,
       )
       refl
+
+  -- one more row, written
+  pub rows-written : (xs : List X) (i : ℕ) (x d : X) (old new : List ℕ) → i < length xs → x ≡ get_or xs i d
+      → old ≡ flat_map f (take i xs) → new ≡ old ++ f x → new ≡ flat_map f (take (i + 1) xs)
+  rows-written xs i x d old new below here so_far grown =
+      rw (take_more xs i d below, ← here, flat_map-append)
+      (grown ∙ ap (λ (v : List ℕ). v ++ f x) so_far
+      ∙ ap (λ (v : List ℕ). flat_map f (take i xs) ++ v) (sym (append-nil (f x))))
+
+  -- all rows, written, and zeros behind them
+  pub rows-ended : (n k : ℕ) (xs : List X) (i : ℕ) (old new : List ℕ) → i ≡ length xs → k ≡ n * size
+      → old ≡ flat_map f (take i xs) → length old ≡ size * i → new ≡ old ++ zeros (k - length old)
+      → new ≡ rows_bytes f size n xs
+  rows-ended n k xs i old new end whole so_far long filled =
+      let all : old ≡ flat_map f xs = so_far ∙ ap (flat_map f) (take_all i xs (omega arith)) in
+      let rest : k - length old ≡ size * (n - length xs) =
+      ap (λ (j : ℕ). j - length old) (whole ∙ mul_comm n size)
+      ∙ ap (λ (j : ℕ). size * n - j) (long ∙ ap (λ (j : ℕ). size * j) end) ∙ sym (mul-sub size n (length xs)) in
+      filled ∙ ap (λ (v : List ℕ). v ++ zeros (k - length old)) all ∙ ap (λ (j : ℕ). flat_map f xs ++ zeros j) rest
 
   -- one more row, read
   pub rows-read : (bytes : List ℕ) (xs : List X) (i : ℕ) (x : X) → flat_map f xs ≡ take (size * i) bytes

@@ -8,7 +8,7 @@ use Rattle.std.proofs.Math.Nat.{mul-le-mul_left, mul-sub}
 use Rattle.keymap_core.specs.Accents.{blank}
 use Rattle.keymap_core.specs.Maps.{undefined}
 use Rattle.keymap_tables.specs.Image.{number_bytes, count_bytes, slot_bytes, accent_bytes, zeros}
-use Rattle.keymap_tables.specs.Layouts.{number_size, pad_size, slot_size, accent_size}
+use Rattle.keymap_tables.specs.Layouts.{number_size, number_limit, pad_size, slot_size, accent_size}
 use Rattle.keymap_tables.specs.Types.{Layout, Wide, Narrow}
 
 -- row i of so many rows of one size
@@ -29,6 +29,11 @@ rows-size size n i few =
 pub some-number : (l : Layout) → 0 < number_size l
 some-number Wide = omega arith
 some-number Narrow = omega arith
+
+-- 0 fits in a number
+pub zero-fits : (l : Layout) → 0 < number_limit l
+zero-fits Wide = omega arith
+zero-fits Narrow = omega arith
 
 -- an accent has at most 420 bytes
 pub accent-small : (l : Layout) → accent_size l ≤ 420

@@ -241,14 +241,9 @@ same-cell x y known also same marked =
     sym (cell-again x known) ∙ ap (λ (n : ℕ). cell_of n (is_act x)) same
     ∙ ap (λ (t : Bool). cell_of (number_of y) t) marked ∙ cell-again y also
 
--- an entry of its cells and flag
-entry_of : List Cell → LockFlag → Entry
-entry_of cells k = record { cells = cells; flag = k }
-
 -- known entries that fit are the same where their bytes are
 pub same-entry : (l : Layout) (x y : Entry) → IsEntryIn l x → IsEntryIn l y
     → slot_bytes l x ≡ slot_bytes l y → x ≡ y
-unfolding entry_of
 same-entry l x y known also same =
     let cells : x.cells ≡ y.cells = same_lists x.cells y.cells (known.0.eight ∙ sym also.0.eight) (λ k d below.
     let column : k < 8 = omega (arith, below, known.0.eight) in
@@ -263,7 +258,7 @@ same-entry l x y known also same =
     same-flag x.flag y.flag
     (sym (flag-in l x known.0) ∙ ap (λ (v : List ℕ). slice_index v (8 * number_size l + 1)) same
     ∙ flag-in l y also.0) in
-    ap (λ (xs : List Cell). entry_of xs x.flag) cells ∙ ap (λ (k : LockFlag). entry_of y.cells k) flags
+    ap (λ (xs : List Cell). record x { cells = xs }) cells ∙ ap (λ (k : LockFlag). record y { flag = k }) flags
 
 -- the slots of a table are rows
 pub slots-are : (l : Layout) → AreRows (slot_bytes l) (slot_size l) (slot_fault l) (IsEntryIn l) undefined
@@ -280,15 +275,6 @@ pub All-next : {X : Type 0} (P : X → Type 0) (xs : List X) (i : ℕ) (x : X) �
     → All P (take i xs) → P x → All P (take (i + 1) xs)
 All-next P xs i x below here so_far is =
     All-more P xs i x below so_far (subst P here is)
-
--- one more cell written
-pub cells-more : (l : Layout) (cells : List Cell) (i : ℕ) (cell : Cell) (old new : List ℕ) → i < length cells
-    → cell ≡ get_or cells i cell → old ≡ flat_map (cell_bytes l) (take i cells) → new ≡ old ++ cell_bytes l cell
-    → new ≡ flat_map (cell_bytes l) (take (i + 1) cells)
-cells-more l cells i cell old new below here so_far grown =
-    rw (take_more cells i cell below, ← here, flat_map-append)
-    (grown ∙ ap (λ (v : List ℕ). v ++ cell_bytes l cell) so_far
-    ∙ ap (λ (v : List ℕ). flat_map (cell_bytes l) (take i cells) ++ v) (sym (append-nil (cell_bytes l cell))))
 
 -- the parts of a slot, written in turn
 pub slot-written : (l : Layout) (entry : Entry) (cells : List Cell) (i marks flag n : ℕ) (a b c e : List ℕ)
@@ -309,7 +295,7 @@ All-more_set P xs i x below so_far is = rw (take_more_set xs i x below) (All-pus
 -- a cell whose number fits, fits
 pub cell-fits : (l : Layout) (cell : Cell) (n : ℕ) → number_of cell ≡ n → n < number_limit l → CellFits l cell
 cell-fits l (Char c) n is small = rw is small
-cell-fits l (Act a) n is small = tt
+cell-fits l (Act a) n is small = omega (arith, small)
 
 -- one more cell is read: the cells so far have the bytes so far
 pub bytes-more : (l : Layout) (bytes : List ℕ) (cells : List Cell) (i : ℕ) (cell : Cell) → AreBytes bytes

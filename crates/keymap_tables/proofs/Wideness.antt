@@ -1,49 +1,38 @@
 -- Where the characters above 255 of a map stand.
-use Rattle.std.proofs.Common.{ℕ, ◌+◌, ◌*◌, ◌<◌, ◌≤◌, suc, [], length, get_or, sym, ap, subst, arith, inl, inr, mul-suc}
+use Rattle.std.proofs.Common.{ℕ, ◌+◌, ◌*◌, ◌<◌, ◌≤◌, suc, [], ap, arith, inl, inr, mul-suc}
 use Rattle.std.specs.Prelude.{All}
 use Rattle.std.proofs.lemmas.Bool.{cases_lt}
 use Rattle.std.proofs.Math.Nat.{eq-or-lt_of_le, mul-le-mul_left}
-use Rattle.std.proofs.lemmas.List.{get_or_past}
-use Rattle.std.proofs.lemmas.List.Elements.{All-nil, All-cons, All-get_or}
+use Rattle.std.proofs.lemmas.List.Elements.{All-nil, All-cons}
 use Rattle.keymap_core.specs.Accents.{AccentValue, blank}
-use Rattle.keymap_core.specs.Maps.{MapValue, undefined, entry_at, cell_at, accent_or_blank}
-use Rattle.keymap_tables.specs.Types.{Cell, Char, Act, Entry}
-use Rattle.keymap_tables.specs.Fits.{CellFits, EntryFits, AccentFits, FitsIn, character_of, IsWide}
+use Rattle.keymap_core.specs.Maps.{MapValue, undefined, entry_at, accent_or_blank}
+use Rattle.keymap_tables.specs.Types.{Char, Entry}
+use Rattle.keymap_tables.specs.Fits.{CellFits, EntryFits, AccentFits, FitsIn, character_in, number_in, IsWide}
 use Rattle.keymap_tables.specs.Fits.{IsFirstWide, place_of}
 use Rattle.keymap_tables.specs.Image.{numbers_of}
-use Rattle.keymap_tables.specs.Inner.Firsts.{IsFirstColumn, IsFirstNumber}
+use Rattle.keymap_tables.specs.Inner.Firsts.{IsFirstWideRow}
 use Rattle.keymap_tables.specs.Layouts.{narrow}
 use Rattle.keymap_tables.specs.declared.narrow.Wide.{Wide}
 use Rattle.keymap_tables.specs.declared.narrow.Wide.TheVariants as at
-use Rattle.keymap_tables.proofs.Sizes.{All-at}
+use Rattle.keymap_tables.proofs.Sizes.{All-at, zero-fits}
 use Rattle.keymap_tables.proofs.AtPlaces.{undefined-fits}
 
--- a cell that fits one byte has no character above 255
-pub fits-small : (cell : Cell) → CellFits narrow cell → character_of cell ≤ 255
-fits-small (Char c) fits = omega (arith, fits)
-fits-small (Act a) fits = omega arith
-
--- An entry fits exactly if its eight characters are at most 255.
-pub entry-small : (entry : Entry) (k : ℕ) → EntryFits narrow entry → character_of (get_or entry.cells k (Char 0)) ≤ 255
+-- each character of an entry that fits is at most 255
+entry-small : (entry : Entry) (k : ℕ) → EntryFits narrow entry → character_in entry k ≤ 255
 entry-small entry k fits =
-    elim (cases_lt k (length entry.cells)) [
-      | inl inside ↦
-          fits-small (get_or entry.cells k (Char 0)) (All-get_or (CellFits narrow) entry.cells k (Char 0) inside fits)
-      | inr past ↦
-          subst (λ (cell : Cell). character_of cell ≤ 255) (sym (get_or_past entry.cells k (Char 0) past)) (omega arith)
-    ]
-
--- where all entries fit, the entry of each slot does, also past the last one
-all-slots-fit : (m : MapValue) (s : ℕ) → All (EntryFits narrow) m.entries → EntryFits narrow (entry_at m s)
-all-slots-fit m s fits = All-at (EntryFits narrow) m.entries undefined s (undefined-fits narrow) fits
+    let small : character_in entry k < 256 = All-at (CellFits narrow) entry.cells (Char 0) k (zero-fits narrow) fits in
+    omega arith
 
 -- each number of an accent that fits is at most 255
-pub accent-small : (accent : AccentValue) (k : ℕ) → AccentFits narrow accent → get_or (numbers_of accent) k 0 ≤ 255
+accent-small : (accent : AccentValue) (k : ℕ) → AccentFits narrow accent → number_in accent k ≤ 255
 accent-small accent k fits =
-    elim (cases_lt k (length (numbers_of accent))) [
-      | inl inside ↦ omega (arith, All-get_or (λ n. n < 256) (numbers_of accent) k 0 inside fits)
-      | inr past ↦ omega (arith, get_or_past (numbers_of accent) k 0 past)
-    ]
+    let small : number_in accent k < 256 = All-at (λ n. n < 256) (numbers_of accent) 0 k (zero-fits narrow) fits in
+    omega arith
+
+-- where all entries fit, the characters of each slot are at most 255, also past the last one
+cells-small : (m : MapValue) (s k : ℕ) → All (EntryFits narrow) m.entries → character_in (entry_at m s) k ≤ 255
+cells-small m s k fits =
+    entry-small (entry_at m s) k (All-at (EntryFits narrow) m.entries undefined s (undefined-fits narrow) fits)
 
 -- The first number above 255 of rows of one size: none of the rows before it has one, and none stands before it in its
 -- own.
@@ -61,46 +50,42 @@ least value size s c inside rows before t k wide =
       ]
     ]
 
--- the first cell above 255 of the first entry that doesn't fit is the first of the map
-pub first-cell : (m : MapValue) (s column : ℕ) → s < 256 → column < 8
-    → ((t : ℕ) → t < s → EntryFits narrow (entry_at m t))
-    → IsFirstColumn (entry_at m s) column → IsFirstWide m (at.Cell s column)
-first-cell m s column small few before first = record { here = first.here; first = behind }
+-- the first character above 255 of the first entry that doesn't fit is the first of the map
+pub first-cell : (m : MapValue) (s column : ℕ) → s < 256
+    → IsFirstWideRow (EntryFits narrow) character_in 10 m.entries undefined s column → IsFirstWide m (at.Cell s column)
+first-cell m s column few found = record { here = found.here.here; first = behind }
   where
     behind : (v : Wide) → IsWide m v → place_of (at.Cell s column) ≤ place_of v
-    behind (at.Accent accent number) wide = omega arith
+    behind (at.Accent accent number) wide = omega (arith, found.here.inside)
     behind (at.Cell t k) wide =
         omega (
           arith,
-          least (λ t k. character_of (cell_at m t k)) 10 s column (omega arith)
-              (λ t earlier k. entry-small (entry_at m t) k (before t earlier)) first.before t k wide,
+          least (λ t k. character_in (entry_at m t) k) 10 s column found.here.inside
+              (λ t earlier k. entry-small (entry_at m t) k (found.before t earlier)) found.here.before t k wide,
         )
 
--- The first of a map: a number of an accent, where the cells fit, and the accents before it.
-pub blank-fits : AccentFits narrow blank
-blank-fits = All-cons (λ n. n < 256) 0 [] (omega arith) (All-nil (λ n. n < 256))
-
--- the first number above 255 of the first accent that doesn't fit is the first of the map
-pub first-number : (m : MapValue) (i number : ℕ) → number < 105 → All (EntryFits narrow) m.entries
-    → ((j : ℕ) → j < i → AccentFits narrow (accent_or_blank m j))
-    → IsFirstNumber (accent_or_blank m i) number → IsFirstWide m (at.Accent i number)
-first-number m i number few cells before first = record { here = first.here; first = behind }
+-- where the cells fit, the first number above 255 of the first accent that doesn't fit is the first of the map
+pub first-number : (m : MapValue) (i number : ℕ) → All (EntryFits narrow) m.entries
+    → IsFirstWideRow (AccentFits narrow) number_in 105 m.accents blank i number → IsFirstWide m (at.Accent i number)
+first-number m i number cells found = record { here = found.here.here; first = behind }
   where
     behind : (v : Wide) → IsWide m v → place_of (at.Accent i number) ≤ place_of v
-    behind (at.Cell t k) wide =
-        absurd (omega (arith, wide, entry-small (entry_at m t) k (all-slots-fit m t cells)))
+    behind (at.Cell t k) wide = absurd (omega (arith, wide, cells-small m t k cells))
     behind (at.Accent j k) wide =
         omega (
           arith,
-          least (λ j k. get_or (numbers_of (accent_or_blank m j)) k 0) 105 i number few
-              (λ j earlier k. accent-small (accent_or_blank m j) k (before j earlier)) first.before j k
+          least (λ j k. number_in (accent_or_blank m j) k) 105 i number found.here.inside
+              (λ j earlier k. accent-small (accent_or_blank m j) k (found.before j earlier)) found.here.before j k
               wide,
         )
+
+blank-fits : AccentFits narrow blank
+blank-fits = All-cons (λ n. n < 256) 0 [] (omega arith) (All-nil (λ n. n < 256))
 
 -- A map that fits has no character above 255.
 pub fits-no-wide : (m : MapValue) (w : Wide) → FitsIn narrow m → IsWide m w → ⊥
 fits-no-wide m (at.Cell slot column) fits wide =
-    absurd (omega (arith, wide, entry-small (entry_at m slot) column (all-slots-fit m slot fits.entries)))
+    absurd (omega (arith, wide, cells-small m slot column fits.entries))
 fits-no-wide m (at.Accent accent number) fits wide =
     absurd (omega (
       arith,

@@ -38,6 +38,9 @@ pub(crate) const NARROW_N_ACCS_AT: usize = 2562;
 /// How many bytes a narrow file has.
 pub const NARROW_FILE: usize = 4139;
 
+/// The greatest number that fits in a narrow file.
+pub(crate) const NARROW_MOST: u32 = 255;
+
 impl Layout {
     /// A cell, or an accent's character.
     pub(crate) fn number(self) -> usize

@@ -1,17 +1,19 @@
 //! A row of a table: a slot or an accent.
 ghost use Rattle.std.specs.Prelude.{◌≡◌, ℕ, ◌+◌, ◌^◌, ◌<◌, ◌≤◌, ◌||◌, List, [], ◌∷◌, ◌++◌, length, slice_index_or};
-ghost use Rattle.std.specs.Prelude.{IfOk, IfErr, OnOk, is_err};
+ghost use Rattle.std.specs.Prelude.{IfOk, IfErr, MatchOption, OnOk, is_err};
 ghost use Rattle.keymap_core.specs.Maps.{MapValue};
 ghost use Rattle.keymap_core.specs.Streams.{Pushes, size_of};
 ghost use Rattle.keymap_tables.specs.Faults.{FaultOf, IsFirstFault};
+ghost use Rattle.keymap_tables.specs.Inner.Firsts.{IsFirstWideNumber};
+ghost use Rattle.keymap_tables.specs.Layouts.{narrow};
 ghost use Rattle.keymap_tables.specs.Types.{Layout as LayoutValue};
 
-use crate::accent::accent_piece;
+use crate::accent::{accent_image, wide_number};
 use crate::fault::TableFault;
 use crate::layout::Layout;
 use crate::read_accent::read_accent;
 use crate::read_slot::read_slot;
-use crate::slot::slot_image;
+use crate::slot::{slot_image, wide_column};
 use keymap_core::{
     ACCENT_LIMIT, Accent, Definitions, Entry, KeyMap, SLOT_LIMIT, Stream, Write, WriteFault,
 };
@@ -25,10 +27,15 @@ pub(crate) trait Row: Sized + Drop {
 
     ghost faults: { LayoutValue → List ℕ → FaultOf };
 
-    /// Those that there are, and those in a file of the layout.
+    /// Those that there are, those that fit in a file of the layout, and those that are both.
     ghost Known: { Self → Type 0 };
 
+    ghost Fits: { LayoutValue → Self → Type 0 };
+
     ghost Is: { LayoutValue → Self → Type 0 };
+
+    /// Its numbers by their index, 0 for one that is the code of an action.
+    ghost number: { Self → ℕ → ℕ };
 
     /// That which stands past the last.
     ghost blank: { Self };
@@ -52,6 +59,16 @@ pub(crate) trait Row: Sized + Drop {
         ensures value { result ≡ length (rows map.now) }
         ensures few { result ≤ MOST };
 
+    /// One of a map, also past the last.
+    fn of(map: &KeyMap, index: u16) -> &Self
+        requires { index < MOST }
+        ensures { result.now ≡ slice_index_or (rows map.now) index blank };
+
+    /// The first of its numbers that is above 255.
+    fn wide_number(&self) -> Option<u8>
+        ensures { MatchOption result (Fits narrow self.now)
+            (IsFirstWideNumber (number self.now) (size narrow)) };
+
     /// The row whose image the bytes are, or their first fault.
     fn read(layout: Layout, bytes: &[u8]) -> Result<Self, TableFault>
         requires { length bytes.now ≡ size layout }
@@ -65,27 +82,26 @@ pub(crate) trait Row: Sized + Drop {
         ensures { (m : MapValue) (xs : List Self) → length xs ≡ index → D.shows into.old (put m xs)
             → D.shows into.new (put m (xs ++ self ∷ [])) };
 
-    /// Pushes the bytes of one of a map, also past the last.
+    /// Pushes its bytes.
     fn push<W: Write>(
+        &self,
         stream: &mut Stream,
         writer: &mut W,
         layout: Layout,
-        map: &KeyMap,
-        index: u16,
     ) -> Result<(), WriteFault>
-        requires inside { index < MOST }
-        requires counted { size_of stream.old + size layout < 2 ^ 64 }
+        requires { size_of stream.old + size layout < 2 ^ 64 }
         ensures bytes { Pushes (W.contents writer.old) (W.contents writer.new) stream.old stream.new
-            (image layout (slice_index_or (rows map.now) index blank)) result }
+            (image layout self.now) result }
         ensures count { OnOk result (size_of stream.new ≡ size_of stream.old + size layout) }
         ensures failed { W.has_failed writer.new ≡ (is_err result || W.has_failed writer.old) }
-        ensures known { OnOk result (index < length (rows map.now) → Known (slice_index_or (rows map.now) index blank)) };
+        ensures known { Known self.now };
 }
 
 impl Row for Entry {
     ghost use Rattle.keymap_core.specs.Bounds.{IsEntry};
     ghost use Rattle.keymap_core.specs.Maps.{undefined};
     ghost use Rattle.keymap_tables.specs.Faults.{slot_fault};
+    ghost use Rattle.keymap_tables.specs.Fits.{EntryFits, character_in};
     ghost use Rattle.keymap_tables.specs.Image.{slot_bytes};
     ghost use Rattle.keymap_tables.specs.Inner.Taken.{IsEntryIn};
     ghost use Rattle.keymap_tables.specs.Layouts.{slot_size};
@@ -98,7 +114,11 @@ impl Row for Entry {
 
     ghost Known = { IsEntry };
 
+    ghost Fits = { EntryFits };
+
     ghost Is = { IsEntryIn };
+
+    ghost number = { character_in };
 
     ghost blank = { undefined };
 
@@ -118,6 +138,14 @@ impl Row for Entry {
         map.n_keys()
     }
 
+    fn of(map: &KeyMap, index: u16) -> &Entry {
+        map.entry(index as u8)
+    }
+
+    fn wide_number(&self) -> Option<u8> {
+        wide_column(self)
+    }
+
     fn read(layout: Layout, bytes: &[u8]) -> Result<Entry, TableFault> {
         read_slot(layout, bytes)
     }
@@ -127,16 +155,12 @@ impl Row for Entry {
     }
 
     fn push<W: Write>(
+        &self,
         stream: &mut Stream,
         writer: &mut W,
         layout: Layout,
-        map: &KeyMap,
-        index: u16,
     ) -> Result<(), WriteFault> {
-        stream.push(
-            writer,
-            slot_image(layout, map.entry(index as u8)).as_slice(),
-        )
+        stream.push(writer, slot_image(layout, self).as_slice())
     }
 }
 
@@ -144,6 +168,7 @@ impl Row for Accent {
     ghost use Rattle.keymap_core.specs.Accents.{blank as no_accent};
     ghost use Rattle.keymap_core.specs.Bounds.{IsAccent};
     ghost use Rattle.keymap_tables.specs.Faults.{accent_fault};
+    ghost use Rattle.keymap_tables.specs.Fits.{AccentFits, number_in};
     ghost use Rattle.keymap_tables.specs.Image.{accent_bytes};
     ghost use Rattle.keymap_tables.specs.Inner.Taken.{IsAccentIn};
     ghost use Rattle.keymap_tables.specs.Layouts.{accent_size};
@@ -156,7 +181,11 @@ impl Row for Accent {
 
     ghost Known = { IsAccent };
 
+    ghost Fits = { AccentFits };
+
     ghost Is = { IsAccentIn };
+
+    ghost number = { number_in };
 
     ghost blank = { no_accent };
 
@@ -176,6 +205,14 @@ impl Row for Accent {
         u16::from(map.n_accs())
     }
 
+    fn of(map: &KeyMap, index: u16) -> &Accent {
+        map.accent_or_blank(index as u8)
+    }
+
+    fn wide_number(&self) -> Option<u8> {
+        wide_number(self)
+    }
+
     fn read(layout: Layout, bytes: &[u8]) -> Result<Accent, TableFault> {
         read_accent(layout, bytes)
     }
@@ -185,12 +222,11 @@ impl Row for Accent {
     }
 
     fn push<W: Write>(
+        &self,
         stream: &mut Stream,
         writer: &mut W,
         layout: Layout,
-        map: &KeyMap,
-        index: u16,
     ) -> Result<(), WriteFault> {
-        stream.push(writer, accent_piece(layout, map, index as u8).as_slice())
+        stream.push(writer, accent_image(layout, self).as_slice())
     }
 }

@@ -133,12 +133,7 @@ impl<'a> Tables<'a> {
         ensures count { (m : MapValue) → ⟦<Tables<'a> as Keymap>⟧.shows self.now m → result ≡ n_keys_of m }
         ensures few { result ≤ slot_limit }
     {
-        let n_keys = read_half(&self.bytes[..WIDE_SLOTS_AT]);
-        if n_keys > SLOT_LIMIT as u16 {
-            SLOT_LIMIT as u16
-        } else {
-            n_keys
-        }
+        read_half(&self.bytes[..WIDE_SLOTS_AT]).min(SLOT_LIMIT as u16)
     }
 
     /// How many accents are in use, no more than there are.
@@ -147,11 +142,7 @@ impl<'a> Tables<'a> {
         ensures few { result ≤ accent_limit }
     {
         let n_accs = read_half(&self.bytes[WIDE_N_ACCS_AT..WIDE_ACCENTS_AT]);
-        if n_accs > ACCENT_LIMIT as u16 {
-            ACCENT_LIMIT as u8
-        } else {
-            n_accs as u8
-        }
+        n_accs.min(ACCENT_LIMIT as u16) as u8
     }
 
     /// The entry of the slot.

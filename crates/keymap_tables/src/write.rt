@@ -30,7 +30,7 @@ fn push_table<R: Row, W: Write>(
 {
     stream.push(writer, count_image(layout, R::count(map)).as_slice())?;
     for index in 0..R::MOST {
-        R::push(stream, writer, layout, map, index)?;
+        R::of(map, index).push(stream, writer, layout)?;
     }
     Ok(())
 }

@@ -31,7 +31,7 @@ loop-column-preserved c =
       known = All-more_set IsCell _ _ _ (omega arith) c.loop-column.invariant.known c.in-Ok.ensures.known;
       fits =
           All-more_set (CellFits layout) _ _ _ (omega arith) c.loop-column.invariant.fits
-          (cell-fits layout _ _ number (number-fits layout bytes (number_size layout * i) small));
+          (cell-fits layout c.in-Ok.cell _ number (number-fits layout bytes (number_size layout * i) small));
       whole = search rules;
       bytes =
           bytes-more layout bytes _ _ _ small (omega (arith, inside)) (omega arith) c.loop-column.invariant.bytes

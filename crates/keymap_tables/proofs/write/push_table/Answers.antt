@@ -1,4 +1,4 @@
-use Rattle.std.proofs.Common.{rules, arith, ap, ◌∙◌, ◌++◌, length, List, ℕ, get_or, ◌<◌, sym, append_assoc, append-nil}
+use Rattle.std.proofs.Common.{rules, arith, ap, ◌∙◌, ◌++◌, length, List, ℕ, get_or, subst, sym, append_assoc, append-nil}
 use Rattle.std.proofs.Common.{mul-zero}
 use Rattle.std.proofs.lemmas.List.Elements.{All-from_get_or}
 use Rattle.keymap_core.proofs.Gathering.{Gathers-same, StopsIn-more, passed_on}
@@ -8,8 +8,8 @@ use Rattle.keymap_tables.proofs.Sizes.{row-next, row-inside}
 use Rattle.keymap_tables.proofs.write.push_table.Goals as goal
 use borrow.Author.Count.{below_more}
 
-pub push-requires-in-loop-index-clause-counted : goal.push-requires-in-loop-index-clause-counted
-push-requires-in-loop-index-clause-counted g c =
+pub push-requires-in-loop-index : goal.push-requires-in-loop-index
+push-requires-in-loop-index g c =
     omega (
       arith,
       c.requires.counted,
@@ -56,13 +56,12 @@ loop-index-preserved g c =
     record {
       pushed = λ start text gathers.
           Gathers-same _
-          (rows-next image size g.R.Row.blank g.R.Row.MOST rows c.loop-index.index
-          (text ++ count_bytes c.args.layout (length rows)) (omega (arith, c.count.ensures)) (omega arith))
+          (rows-next image size g.R.Row.blank g.R.Row.MOST rows c.loop-index.index _
+          (text ++ count_bytes c.args.layout (length rows)) c.of.ensures (omega (arith, c.count.ensures)) (omega arith))
           (c.in_ok-push-2.ensures.bytes start _ (c.loop-index.invariant.pushed start text gathers));
       known =
-          below_more (λ i. i < length (g.R.Row.rows c.args.map.now)
-          → g.R.Row.Known (get_or (g.R.Row.rows c.args.map.now) i g.R.Row.blank))
-          c.loop-index.index c.loop-index.invariant.known c.in_ok-push-2.ensures.known;
+          below_more (λ i. g.R.Row.Known (get_or (g.R.Row.rows c.args.map.now) i g.R.Row.blank)) c.loop-index.index
+          c.loop-index.invariant.known (subst g.R.Row.Known c.of.ensures c.in_ok-push-2.ensures.known);
       count =
           omega (
             arith,
@@ -82,7 +81,7 @@ returns-in_err-push-2-clause-bytes g c start text gathers =
     passed_on _ _ _ _ c.from_residual-in_err-push-2.ensures.1
     (StopsIn-more start _ _ _ _ _
     (sym (append_assoc text count (rows_bytes image size g.R.Row.MOST rows))
-    ∙ rows-cut image size g.R.Row.blank g.R.Row.MOST rows c.loop-index.index (text ++ count)
+    ∙ rows-cut image size g.R.Row.blank g.R.Row.MOST rows c.loop-index.index _ (text ++ count) c.of.ensures
     (omega (arith, c.count.ensures)) (omega arith) c.requires.empty)
     (c.in_err-push-2.ensures.bytes start _ (c.loop-index.invariant.pushed start text gathers)))
 
@@ -102,4 +101,4 @@ returns-clause-bytes g c start text gathers =
 pub returns-clause-known : goal.returns-clause-known
 returns-clause-known g c =
     All-from_get_or g.R.Row.Known (g.R.Row.rows c.args.map.now) g.R.Row.blank
-    (λ i below. c.loop-index.invariant.known i (omega (arith, c.count.ensures)) below)
+    (λ i below. c.loop-index.invariant.known i (omega (arith, below, c.count.ensures)))

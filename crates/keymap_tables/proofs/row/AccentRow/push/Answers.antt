@@ -1,14 +1,9 @@
 use Rattle.std.proofs.Common.{◌∙◌, List, ℕ, subst}
 use Rattle.keymap_core.specs.Streams.{Pushes}
-use Rattle.keymap_tables.proofs.Outcomes.{OnOk-held}
 use Rattle.keymap_tables.proofs.row.AccentRow.push.Goals as goal
 
 pub returns-clause-bytes : goal.returns-clause-bytes
 returns-clause-bytes g c =
     subst (λ (v : List ℕ). Pushes (g.W.Write.contents c.args.writer.now) (g.W.Write.contents c.push.new.writer)
     c.args.stream.now c.push.new.self v c.push.result)
-    (c.as_slice.ensures.value ∙ c.accent_piece.ensures.bytes) c.push.ensures.bytes
-
-pub returns-clause-known : goal.returns-clause-known
-returns-clause-known g c =
-    OnOk-held c.push.result _ c.accent_piece.ensures.known
+    (c.as_slice.ensures.value ∙ c.accent_image.ensures.bytes) c.push.ensures.bytes

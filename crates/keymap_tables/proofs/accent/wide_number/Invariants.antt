@@ -1,0 +1,7 @@
+use Rattle.std.proofs.Common.{ℕ, ◌<◌, ◌≤◌}
+use Rattle.keymap_tables.specs.Fits.{number_in}
+use Rattle.keymap_tables.proofs.accent.wide_number.Given as goal
+
+-- The numbers so far fit.
+abbrev pub invariant-loop-index : goal.invariant-loop-index
+invariant-loop-index l = (k : ℕ) → k < l.index → number_in l.accent k ≤ 255

@@ -1,0 +1,7 @@
+use Rattle.std.proofs.Common.{ℕ, ◌<◌, ◌≤◌}
+use Rattle.keymap_tables.specs.Fits.{character_in}
+use Rattle.keymap_tables.proofs.slot.wide_column.Given as goal
+
+-- The characters so far fit.
+abbrev pub invariant-loop-column : goal.invariant-loop-column
+invariant-loop-column l = (k : ℕ) → k < l.column → character_in l.entry k ≤ 255

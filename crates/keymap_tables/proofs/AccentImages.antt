@@ -1,27 +1,17 @@
 -- The image of an accent: it has no fault, and gives the accent.
-use Rattle.std.proofs.Common.{◌≡◌, ◌≢◌, ℕ, ◌+◌, ◌-◌, ◌*◌, ◌<◌, ◌≤◌, ◌==◌, suc, zero, List, [], ◌∷◌, ◌++◌, length, get_or}
-use Rattle.std.proofs.Common.{refl, sym, ap, ◌∙◌, arith, subst, add-zero, append_assoc, append-nil}
-use Rattle.std.proofs.Common.{take, mul_comm, All}
-use Rattle.std.specs.Prelude.{Bool, true, false, not}
-use Rattle.std.specs.Char.{IsScalar}
-use Rattle.std.specs.Int.{from_le_bytes}
-use Rattle.std.specs.List.{flat_map, range_with_len, prefix_len}
-use Rattle.std.proofs.lemmas.Bool.Decides.{nat_tests}
-use Rattle.std.proofs.lemmas.Grind.{flat_map-append}
-use Rattle.std.proofs.lemmas.List.{get_or_past, take_more}
-use Rattle.std.proofs.lemmas.List.Elements.{All-nil, All-same, All-push, All-cons, All-head, All-tail, All-get_or}
-use Rattle.std.proofs.lemmas.List.Elements.{All-from_get_or}
-use Rattle.std.proofs.Math.Nat.{mul-sub}
+use Rattle.keymap_tables.proofs.Common.{◌≡◌, ◌≢◌, ℕ, ◌+◌, ◌-◌, ◌*◌, ◌<◌, ◌≤◌, ◌==◌, suc, zero, List, [], ◌∷◌, ◌++◌}
+use Rattle.keymap_tables.proofs.Common.{length, get_or, refl, sym, ap, ◌∙◌, arith, subst, add-zero, append_assoc}
+use Rattle.keymap_tables.proofs.Common.{take, All, Bool, true, false, IsScalar, from_le_bytes}
+use Rattle.keymap_tables.proofs.Common.{flat_map, nat_tests, flat_map-append, get_or_past, All-nil, All-same}
+use Rattle.keymap_tables.proofs.Common.{All-push, All-cons, All-head, All-tail, All-get_or, All-from_get_or}
+use Rattle.keymap_tables.proofs.Common.{AccentValue, blank, IsPair, IsAccent, number_at, base_at, pairs_in, char_fault}
+use Rattle.keymap_tables.proofs.Common.{number_fault, accent_fault, zero_fault, number_in, HasNoFault, AreRows}
+use Rattle.keymap_tables.proofs.Common.{IsAccentIn, number_bytes, numbers_of, accent_bytes, zeros, number_width}
+use Rattle.keymap_tables.proofs.Common.{number_size, number_limit, accent_size, Layout, Wide, Narrow, NotEmpty}
+use Rattle.std.specs.Prelude.{not}
+use Rattle.std.specs.List.{range_with_len, prefix_len}
 use Rattle.std.proofs.lemmas.List.Folds.{length-prefix_len}
-use Rattle.keymap_core.specs.Accents.{AccentValue, AllBasesNotZero, blank}
-use Rattle.keymap_core.specs.Bounds.{IsPair, IsAccent}
-use Rattle.keymap_tables.specs.Faults.{number_at, base_at, pairs_in, char_fault, number_fault, accent_fault, zero_fault}
-use Rattle.keymap_tables.specs.Fits.{number_in}
-use Rattle.keymap_tables.specs.Inner.Firsts.{HasNoFault}
-use Rattle.keymap_tables.specs.Inner.Taken.{AreRows, IsAccentIn}
-use Rattle.keymap_tables.specs.Image.{number_bytes, numbers_of, accent_bytes, zeros}
-use Rattle.keymap_tables.specs.Layouts.{number_width, number_size, number_limit, accent_size}
-use Rattle.keymap_tables.specs.Types.{Layout, Wide, Narrow, NotEmpty}
+use Rattle.keymap_core.specs.Accents.{AllBasesNotZero}
 use Rattle.keymap_tables.proofs.Lifting.{row-past, number-clean, none-past}
 use Rattle.keymap_tables.proofs.Numbers.{AreBytes, number-read, number-back, same-number, zeros-behind}
 use Rattle.keymap_tables.proofs.Rows.{length-rows, length-all, filled-row, rows-clean, rows-read, same-rows}

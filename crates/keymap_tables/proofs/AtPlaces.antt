@@ -1,18 +1,12 @@
 -- What is read at the places of a map's image.
-use Rattle.std.proofs.Common.{◌≡◌, ℕ, ◌+◌, ◌*◌, ◌<◌, ◌≤◌, List, length, take, drop, get_or, refl, sym, ap, ◌∙◌}
-use Rattle.std.proofs.Common.{arith, rules, subst, add-zero}
-use Rattle.std.specs.Prelude.{slice_index}
-use Rattle.std.specs.Int.{from_le_bytes, w8}
-use Rattle.std.proofs.lemmas.List.{get_or-take, get_or-drop, get_or-replicate}
-use Rattle.keymap_core.specs.Accents.{blank}
-use Rattle.keymap_core.specs.Maps.{MapValue, undefined, entry_at, cell_at, accent_or_blank}
-use Rattle.keymap_core.specs.Bounds.{IsCell, IsEntry, IsAccent, IsMap}
-use Rattle.keymap_tables.specs.Types.{Char, Layout, TableFault}
-use Rattle.keymap_tables.specs.Faults.{FaultOf, IsFirstFault, number_at, is_marked_at, count_at}
-use Rattle.keymap_tables.specs.Fits.{CellFits, EntryFits, FitsIn}
-use Rattle.keymap_tables.specs.Image.{image, image_in, number_of, is_act, flag_number}
-use Rattle.keymap_tables.specs.Inner.Taken.{AreRows}
-use Rattle.keymap_tables.specs.Layouts.{wide, narrow, part, number_width, number_size, slot_size, slots_place}
+use Rattle.keymap_tables.proofs.Common.{◌≡◌, ℕ, ◌+◌, ◌*◌, ◌<◌, ◌≤◌, List, length, take, drop, get_or, refl, sym, ap}
+use Rattle.keymap_tables.proofs.Common.{◌∙◌, arith, rules, subst, add-zero, slice_index, from_le_bytes, w8, get_or-take}
+use Rattle.keymap_tables.proofs.Common.{get_or-drop, get_or-replicate, blank, MapValue, undefined, entry_at}
+use Rattle.keymap_tables.proofs.Common.{accent_or_blank, IsCell, IsEntry, IsAccent, IsMap, Char, Layout, TableFault}
+use Rattle.keymap_tables.proofs.Common.{FaultOf, IsFirstFault, number_at, is_marked_at, count_at, CellFits, EntryFits}
+use Rattle.keymap_tables.proofs.Common.{FitsIn, image, image_in, number_of, is_act, flag_number, AreRows, wide, narrow}
+use Rattle.keymap_tables.proofs.Common.{part, number_width, number_size, slot_size, slots_place}
+use Rattle.keymap_core.specs.Maps.{cell_at}
 use Rattle.keymap_tables.proofs.Images.{count-part, n_keys-of, n_accs-of, part-part, slot-part}
 use Rattle.keymap_tables.proofs.ReadingLaws.{map-wide, some_none}
 use Rattle.keymap_tables.proofs.Sizes.{row-inside, zero-fits, All-at}

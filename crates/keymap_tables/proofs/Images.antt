@@ -1,23 +1,18 @@
 -- Tables of rows, and the image of a map that fits: it has no fault, and gives the map.
-use Rattle.std.proofs.Common.{◌≡◌, ℕ, ◌+◌, ◌-◌, ◌*◌, ◌^◌, ◌<◌, ◌≤◌, ◌==◌, List, ◌++◌, length, take, drop, get_or, None, Some}
-use Rattle.std.proofs.Common.{cond, true, false, refl, sym, ap, ◌∙◌, subst, arith, inl, inr, length-append, All}
-use Rattle.std.specs.List.{flat_map}
-use Rattle.std.specs.Int.{from_le_bytes, w16}
-use Rattle.std.proofs.lemmas.Bool.{cases_lt, lt-ltb, le-ltb}
-use Rattle.std.proofs.lemmas.Bool.Decides.{nat_tests}
-use Rattle.std.proofs.lemmas.List.{take_at, drop_at, take-take, drop-take, drop-drop}
-use Rattle.std.proofs.lemmas.List.Elements.{All-get_or, All-weaker}
-use Rattle.keymap_core.specs.Accents.{AccentValue}
-use Rattle.keymap_core.specs.Bounds.{IsEntry, IsAccent, IsMap}
-use Rattle.keymap_core.specs.Maps.{MapValue, entry_at, accent_or_blank}
-use Rattle.keymap_tables.specs.Types.{Entry, Layout, BadPad, NotEmpty, TableFault, Short, Long}
-use Rattle.keymap_tables.specs.Faults.{FaultOf, IsFirstFault, number_fault, count_over, zero_fault, count_at, count_fault}
-use Rattle.keymap_tables.specs.Faults.{used_fault, table_fault, slot_fault, accent_fault, content_fault, fault_at}
-use Rattle.keymap_tables.specs.Fits.{EntryFits, AccentFits, FitsIn}
-use Rattle.keymap_tables.specs.Image.{count_bytes, rows_bytes, table_bytes, slot_bytes, accent_bytes, image_in, zeros}
-use Rattle.keymap_tables.specs.Inner.Firsts.{HasNoFault}
-use Rattle.keymap_tables.specs.Inner.Taken.{AreRows, IsEntryIn, IsAccentIn}
-use Rattle.keymap_tables.specs.Layouts.{part, pad_size, count_size, slot_size, slots_place, accent_size, n_accs_place}
+use Rattle.keymap_tables.proofs.Common.{◌≡◌, ℕ, ◌+◌, ◌-◌, ◌*◌, ◌^◌, ◌<◌, ◌≤◌, ◌==◌, List, ◌++◌, length, take, drop}
+use Rattle.keymap_tables.proofs.Common.{get_or, None, Some, cond, true, false, refl, sym, ap, ◌∙◌, subst, arith, inl}
+use Rattle.keymap_tables.proofs.Common.{inr, length-append, All, flat_map, from_le_bytes, w16, cases_lt, lt-ltb, le-ltb}
+use Rattle.keymap_tables.proofs.Common.{nat_tests, take_at, drop_at, drop-drop, All-get_or, All-weaker, AccentValue}
+use Rattle.keymap_tables.proofs.Common.{IsEntry, IsAccent, IsMap, MapValue, entry_at, accent_or_blank, Entry, Layout}
+use Rattle.keymap_tables.proofs.Common.{BadPad, NotEmpty, TableFault, FaultOf, IsFirstFault, number_fault, zero_fault}
+use Rattle.keymap_tables.proofs.Common.{count_at, count_fault, used_fault, table_fault, slot_fault, accent_fault}
+use Rattle.keymap_tables.proofs.Common.{fault_at, EntryFits, AccentFits, FitsIn, count_bytes, rows_bytes, table_bytes}
+use Rattle.keymap_tables.proofs.Common.{slot_bytes, accent_bytes, image_in, zeros, HasNoFault, AreRows, IsEntryIn}
+use Rattle.keymap_tables.proofs.Common.{IsAccentIn, part, pad_size, count_size, slot_size, slots_place, accent_size}
+use Rattle.keymap_tables.proofs.Common.{n_accs_place}
+use Rattle.std.proofs.lemmas.List.{take-take, drop-take}
+use Rattle.keymap_tables.specs.Types.{Short, Long}
+use Rattle.keymap_tables.specs.Faults.{count_over, content_fault}
 use Rattle.keymap_tables.specs.Layouts.{accents_place, file_size}
 use Rattle.keymap_tables.proofs.AccentImages.{accents-are}
 use Rattle.keymap_tables.proofs.Lifting.{row-past, number-passes, none-past, split-passes}

@@ -1,16 +1,9 @@
 -- What is read in place, in the bytes of an image.
-use Rattle.std.proofs.Common.{◌≡◌, ℕ, ◌+◌, ◌*◌, ◌<◌, ◌≤◌, List, length, drop, get_or, ◌≢◌, ◌==◌, ◌∷◌, None}
-use Rattle.std.proofs.Common.{Some, true, false, refl, sym, ap, ◌∙◌, inl, inr, arith, add-one}
-use Rattle.std.proofs.lemmas.List.{drop_all, get_or_past}
-use Rattle.std.proofs.lemmas.List.Elements.{All-get_or}
-use Rattle.std.proofs.Math.Seq.{drop-cons}
-use Rattle.std.proofs.lemmas.Bool.{cases_lt}
-use Rattle.std.proofs.lemmas.Bool.Decides.{nat_tests}
-use Rattle.keymap_core.specs.Accents.{AccentValue, first_result}
-use Rattle.keymap_core.specs.Bounds.{IsPair, IsAccent}
-use Rattle.keymap_tables.specs.Faults.{base_at, number_at}
-use Rattle.keymap_tables.specs.Image.{accent_bytes}
-use Rattle.keymap_tables.specs.Layouts.{wide}
+use Rattle.keymap_tables.proofs.Common.{◌≡◌, ℕ, ◌+◌, ◌*◌, ◌<◌, ◌≤◌, List, length, drop, get_or, ◌≢◌, ◌==◌, ◌∷◌, None}
+use Rattle.keymap_tables.proofs.Common.{Some, true, false, refl, sym, ap, ◌∙◌, inl, inr, arith, add-one, get_or_past}
+use Rattle.keymap_tables.proofs.Common.{All-get_or, drop-cons, cases_lt, nat_tests, AccentValue, first_result, IsPair}
+use Rattle.keymap_tables.proofs.Common.{IsAccent, base_at, number_at, accent_bytes, wide}
+use Rattle.std.proofs.lemmas.List.{drop_all}
 use Rattle.keymap_tables.proofs.AccentImages.{base-in, result-in}
 use Rattle.keymap_tables.proofs.ReadingLaws.{accent-wide}
 

@@ -1,5 +1,6 @@
 pub mod AccentImages
 pub mod AtPlaces
+pub mod Common
 pub mod Images
 pub mod InPlace
 pub mod Lifting

@@ -1,15 +1,14 @@
 -- The faults of a part, in the whole.
-use Rattle.std.proofs.Common.{◌≡◌, ℕ, ◌+◌, ◌-◌, ◌*◌, ◌/◌, ◌%◌, ◌<◌, ◌≤◌, ◌==◌, suc, zero, List, length, take, drop, refl}
-use Rattle.std.proofs.Common.{◌∙◌, subst, sym, ap, arith, None, Some, inl, inr, nat_lt, true, false, mul_comm}
-use Rattle.std.specs.Int.{Width, from_le_bytes}
-use Rattle.std.specs.Prelude.{slice_index, Option}
-use Rattle.std.proofs.lemmas.Bool.Decides.{nat_tests}
-use Rattle.std.proofs.lemmas.Bool.{cases_lt, lt-ltb, le-ltb}
+use Rattle.keymap_tables.proofs.Common.{◌≡◌, ℕ, ◌+◌, ◌-◌, ◌*◌, ◌/◌, ◌%◌, ◌<◌, ◌≤◌, ◌==◌, suc, zero, List, length, take}
+use Rattle.keymap_tables.proofs.Common.{drop, refl, ◌∙◌, subst, sym, ap, arith, None, Some, inl, inr, true, false}
+use Rattle.keymap_tables.proofs.Common.{mul_comm, from_le_bytes, slice_index, Option, nat_tests, cases_lt, lt-ltb}
+use Rattle.keymap_tables.proofs.Common.{le-ltb, FaultOf, zero_fault, number_fault, rows_fault, IsFirstFault, HasNoFault}
+use Rattle.keymap_tables.proofs.Common.{part, TableFault, TableFaultKind}
+use Rattle.std.proofs.Common.{nat_lt}
+use Rattle.std.specs.Int.{Width}
 use Rattle.std.proofs.lemmas.Nat.{div-mul-add, mod-mul-add, le-div}
-use Rattle.keymap_tables.specs.Faults.{FaultOf, zero_fault, number_fault, rows_fault, split_fault, IsFirstFault}
-use Rattle.keymap_tables.specs.Inner.Firsts.{IsFirstFilled, HasNoFault}
-use Rattle.keymap_tables.specs.Layouts.{part}
-use Rattle.keymap_tables.specs.Types.{TableFault, TableFaultKind}
+use Rattle.keymap_tables.specs.Faults.{split_fault}
+use Rattle.keymap_tables.specs.Inner.Firsts.{IsFirstFilled}
 use Rattle.keymap_tables.proofs.Sizes.{row-next}
 
 -- a place at or past the base of a part

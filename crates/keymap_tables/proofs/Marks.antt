@@ -1,13 +1,10 @@
 -- The marks of cells.
-use Rattle.std.proofs.Common.{◌≡◌, ℕ, ◌+◌, ◌-◌, ◌*◌, ◌/◌, ◌%◌, ◌^◌, ◌<◌, ◌==◌, suc, zero, List, [], ◌∷◌, length, take, get_or}
-use Rattle.std.proofs.Common.{set, cond, add-one, refl, sym, ap, ◌∙◌, arith}
+use Rattle.keymap_tables.proofs.Common.{◌≡◌, ℕ, ◌+◌, ◌-◌, ◌*◌, ◌/◌, ◌%◌, ◌^◌, ◌<◌, ◌==◌, suc, zero, List, [], ◌∷◌}
+use Rattle.keymap_tables.proofs.Common.{length, take, get_or, set, cond, add-one, refl, sym, ap, ◌∙◌, arith, nat_tests}
+use Rattle.keymap_tables.proofs.Common.{take_more, take_more_set, Cell, Char, Act, is_act, marks_of}
 use Rattle.std.specs.List.{fold}
-use Rattle.std.proofs.lemmas.Bool.Decides.{nat_tests}
-use Rattle.std.proofs.lemmas.List.{take_more, take_more_set}
 use Rattle.std.proofs.lemmas.List.Sums.{fold-append}
 use Rattle.std.proofs.Math.Nat.{pow-suc, div-div-eq-div-mul}
-use Rattle.keymap_tables.specs.Types.{Cell, Char, Act}
-use Rattle.keymap_tables.specs.Image.{is_act, marks_of}
 
 -- a mark
 abbrev bit : Cell → ℕ

@@ -1,18 +1,15 @@
 -- The bytes of numbers, and bytes that have to be 0.
-use Rattle.std.proofs.Common.{◌≡◌, ◌≢◌, ℕ, ◌+◌, ◌-◌, ◌%◌, ◌^◌, ◌<◌, ◌≤◌, List, [], ◌∷◌, ◌++◌, length, take, drop, get_or, refl}
-use Rattle.std.proofs.Common.{sym, ap, ◌∙◌, arith, None, Some, inl, inr, length-drop}
-use Rattle.std.specs.Prelude.{slice_index}
-use Rattle.std.specs.Int.{to_le_bytes, from_le_bytes, w8, w16, w32}
-use Rattle.std.proofs.lemmas.Bool.{cases_lt}
-use Rattle.std.proofs.lemmas.Bool.Decides.{nat_tests}
-use Rattle.std.proofs.lemmas.Grind.{common_steps}
-use Rattle.std.proofs.lemmas.List.{take-append-drop, length-take-le, get_or-take, get_or-drop, same_lists}
-use Rattle.std.proofs.lemmas.List.{get_or-replicate, length-replicate, get_or_default, get_or_past, get_or-append_right}
+use Rattle.keymap_tables.proofs.Common.{◌≡◌, ◌≢◌, ℕ, ◌+◌, ◌-◌, ◌%◌, ◌^◌, ◌<◌, ◌≤◌, List, [], ◌∷◌, ◌++◌, length, take}
+use Rattle.keymap_tables.proofs.Common.{drop, get_or, refl, sym, ap, ◌∙◌, arith, None, Some, inl, inr, length-drop}
+use Rattle.keymap_tables.proofs.Common.{slice_index, from_le_bytes, w8, w16, cases_lt, nat_tests, common_steps}
+use Rattle.keymap_tables.proofs.Common.{take-append-drop, get_or-take, get_or-drop, same_lists, get_or-replicate}
+use Rattle.keymap_tables.proofs.Common.{length-replicate, get_or_past, get_or-append_right, zero_fault, number_at}
+use Rattle.keymap_tables.proofs.Common.{count_at, zeros, count_bytes, number_bytes, Layout, Wide, Narrow}
+use Rattle.keymap_tables.proofs.Common.{TableFaultKind, part, pad_size, count_size, number_width, number_size}
+use Rattle.keymap_tables.proofs.Common.{number_limit}
+use Rattle.std.specs.Int.{to_le_bytes, w32}
+use Rattle.std.proofs.lemmas.List.{length-take-le, get_or_default}
 use Rattle.std.proofs.lemmas.Nat.{le_bytes_2, le_bytes_4, from_le_bytes-to_le_bytes_2, from_le_bytes-to_le_bytes_4}
-use Rattle.keymap_tables.specs.Faults.{zero_fault, number_at, count_at}
-use Rattle.keymap_tables.specs.Image.{zeros, count_bytes, number_bytes}
-use Rattle.keymap_tables.specs.Types.{Layout, Wide, Narrow, TableFaultKind}
-use Rattle.keymap_tables.specs.Layouts.{part, pad_size, count_size, number_width, number_size, number_limit}
 
 -- each byte is one
 abbrev pub AreBytes : List ℕ → Type 0

@@ -1,6 +1,6 @@
 -- Facts for one variant of a result.
-use Rattle.std.proofs.Common.{◌≡◌, subst, sym}
-use Rattle.std.specs.Prelude.{Result, Ok, Err, IsErrAnd, IfErr, OnOk}
+use Rattle.keymap_tables.proofs.Common.{◌≡◌, subst, sym, Result, Ok, Err, IfErr}
+use Rattle.std.specs.Prelude.{IsErrAnd, OnOk}
 
 -- what holds for a success may be weakened
 pub OnOk-map : {X E : Type 0} (r : Result X E) (P Q : Type 0) → OnOk r P → (P → Q) → OnOk r Q

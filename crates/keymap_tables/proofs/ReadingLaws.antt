@@ -1,19 +1,10 @@
 -- What the reading of a file answers is the map of the image, or the one fault.
-use Rattle.std.proofs.Common.{◌≡◌, ℕ, ◌<◌, List, None, Some, sym, ap, ◌∙◌, subst, inl, inr, arith}
-use Rattle.std.specs.Prelude.{Result, Ok, Err, Option}
-use Rattle.std.proofs.lemmas.Bool.{cases_lt}
-use Rattle.std.proofs.Math.Nat.{eq-or-lt_of_le}
-use Rattle.std.proofs.lemmas.List.Elements.{All-weaker}
-use Rattle.keymap_core.specs.Accents.{AccentValue}
-use Rattle.keymap_core.specs.Maps.{MapValue}
-use Rattle.keymap_core.specs.Bounds.{IsCell, IsEntry, IsAccent, IsMap}
-use Rattle.std.specs.Char.{IsScalar}
-use Rattle.keymap_tables.specs.Types.{Cell, Char, Act, Entry, Layout, TableError, Memory, Read, Fault, TableFault}
-use Rattle.keymap_tables.specs.Types.{TableFaultKind}
-use Rattle.keymap_tables.specs.Faults.{IsFirstFault, fault_at}
-use Rattle.keymap_tables.specs.Fits.{CellFits, EntryFits, AccentFits, FitsIn}
-use Rattle.keymap_tables.specs.Image.{image_in, numbers_of}
-use Rattle.keymap_tables.specs.Layouts.{wide, number_limit}
+use Rattle.keymap_tables.proofs.Common.{◌≡◌, ℕ, ◌<◌, List, None, Some, sym, ap, ◌∙◌, subst, inl, inr, arith, Result, Ok}
+use Rattle.keymap_tables.proofs.Common.{Err, Option, cases_lt, eq-or-lt_of_le, All-weaker, AccentValue, MapValue}
+use Rattle.keymap_tables.proofs.Common.{IsCell, IsEntry, IsAccent, IsMap, IsScalar, Cell, Char, Act, Entry, Layout}
+use Rattle.keymap_tables.proofs.Common.{TableFault, TableFaultKind, IsFirstFault, fault_at, CellFits, EntryFits}
+use Rattle.keymap_tables.proofs.Common.{AccentFits, FitsIn, image_in, numbers_of, wide, number_limit}
+use Rattle.keymap_tables.specs.Types.{TableError, Memory, Read, Fault}
 use Rattle.keymap_tables.specs.Readings.{IsReadingIn, AnswersMap, AnswersFault}
 use Rattle.keymap_tables.proofs.AccentImages.{numbers-known}
 use Rattle.keymap_tables.proofs.Images.{image-sound, same-map}

@@ -1,24 +1,19 @@
 -- Rows of equal size, of which those after the last one are blank.
-use Rattle.std.proofs.Common.{◌≡◌, ℕ, ◌+◌, ◌-◌, ◌*◌, ◌/◌, ◌%◌, ◌<◌, ◌≤◌, zero, suc, List, [], ◌∷◌, ◌++◌, length, take, drop}
-use Rattle.std.proofs.Common.{get_or, replicate, refl, sym, ap, ◌∙◌, arith, subst, inl, inr, None, add-one, append_assoc}
-use Rattle.std.proofs.Common.{append-nil, length-append, length-drop, mul-suc, mul-zero, mul_comm, All}
-use Rattle.std.proofs.lemmas.Grind.{flat_map-append}
-use Rattle.std.proofs.lemmas.Bool.{cases_lt}
-use Rattle.std.proofs.lemmas.List.{take-append-drop, replicate-append-replicate, length-replicate, get_or_append_left}
-use Rattle.std.proofs.lemmas.List.{get_or-append_right, get_or-replicate, get_or_past, take_more, take_all, set_at}
-use Rattle.std.proofs.lemmas.List.{take_at, drop_at, drop-drop, same_lists}
-use Rattle.std.proofs.lemmas.List.Elements.{All-head, All-tail, All-get_or, All-append, All-replicate}
+use Rattle.keymap_tables.proofs.Common.{◌≡◌, ℕ, ◌+◌, ◌-◌, ◌*◌, ◌/◌, ◌%◌, ◌<◌, ◌≤◌, zero, suc, List, [], ◌∷◌, ◌++◌}
+use Rattle.keymap_tables.proofs.Common.{length, take, drop, get_or, replicate, refl, sym, ap, ◌∙◌, arith, subst, inl}
+use Rattle.keymap_tables.proofs.Common.{inr, None, add-one, append_assoc, append-nil, length-append, length-drop}
+use Rattle.keymap_tables.proofs.Common.{mul-suc, mul-zero, mul_comm, All, flat_map-append, cases_lt, take-append-drop}
+use Rattle.keymap_tables.proofs.Common.{replicate-append-replicate, length-replicate, get_or-append_right}
+use Rattle.keymap_tables.proofs.Common.{get_or-replicate, get_or_past, take_more, take_all, take_at, drop_at, drop-drop}
+use Rattle.keymap_tables.proofs.Common.{same_lists, All-head, All-tail, All-get_or, All-append, All-replicate}
+use Rattle.keymap_tables.proofs.Common.{mul-le-mul_left, mul-sub, flat_map, placed, FaultOf, rows_fault, rows_bytes}
+use Rattle.keymap_tables.proofs.Common.{zeros, HasNoFault, part}
+use Rattle.std.proofs.lemmas.List.{get_or_append_left, set_at}
 use Rattle.std.proofs.lemmas.Nat.{mod_below}
-use Rattle.std.proofs.Math.Nat.{mul-le-mul_left, mul-div-le, div-add-mod, mul-sub}
+use Rattle.std.proofs.Math.Nat.{mul-div-le, div-add-mod}
 use Rattle.std.proofs.Math.Seq.{take-add}
-use Rattle.std.specs.List.{flat_map}
-use Rattle.keymap_core.specs.Maps.{placed}
 use Rattle.keymap_tables.proofs.Lifting.{row-at}
 use Rattle.keymap_tables.proofs.Sizes.{rows-size}
-use Rattle.keymap_tables.specs.Faults.{FaultOf, rows_fault}
-use Rattle.keymap_tables.specs.Image.{rows_bytes, zeros}
-use Rattle.keymap_tables.specs.Inner.Firsts.{HasNoFault}
-use Rattle.keymap_tables.specs.Layouts.{part}
 
 -- a list, and blanks up to a length
 abbrev pub filled : {X : Type 0} → X → ℕ → List X → List X

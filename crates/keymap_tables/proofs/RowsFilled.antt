@@ -1,19 +1,17 @@
 -- Rows that are filled one by one.
-use Rattle.std.proofs.Common.{◌≡◌, ℕ, ◌+◌, ◌-◌, ◌<◌, ◌≤◌, max, List, [], ◌∷◌, ◌++◌, length, map, replicate, set}
-use Rattle.std.proofs.Common.{refl, sym, ap, ap₂, ◌∙◌, arith, append_assoc, length-append, All}
-use Rattle.std.proofs.lemmas.List.{length-set, map-set, set-append_left, replicate-append-replicate, length-replicate}
-use Rattle.std.proofs.lemmas.List.Elements.{All-set, All-append, All-replicate}
-use Rattle.std.specs.List.{flat_map}
-use Rattle.keymap_core.specs.Accents.{AccentValue, blank}
-use Rattle.keymap_core.specs.Bounds.{IsEntry, IsAccent}
-use Rattle.keymap_core.specs.Maps.{MapValue, placed, undefined, with_entry, with_accent}
-use Rattle.keymap_tables.specs.Types.{Entry}
+use Rattle.keymap_tables.proofs.Common.{◌≡◌, ℕ, ◌+◌, ◌-◌, ◌<◌, ◌≤◌, List, [], ◌∷◌, ◌++◌, length, replicate, set, refl}
+use Rattle.keymap_tables.proofs.Common.{sym, ap, ◌∙◌, arith, append_assoc, length-append, All}
+use Rattle.keymap_tables.proofs.Common.{replicate-append-replicate, length-replicate, All-append, All-replicate}
+use Rattle.keymap_tables.proofs.Common.{flat_map, AccentValue, blank, IsEntry, IsAccent, MapValue, placed, undefined}
+use Rattle.keymap_tables.proofs.Common.{Entry, image, slot_bytes, accent_bytes, count_bytes, rows_bytes, table_bytes}
+use Rattle.keymap_tables.proofs.Common.{wide}
+use Rattle.std.proofs.Common.{max, map, ap₂}
+use Rattle.std.proofs.lemmas.List.{length-set, map-set, set-append_left}
+use Rattle.std.proofs.lemmas.List.Elements.{All-set}
+use Rattle.keymap_core.specs.Maps.{with_entry, with_accent}
 use Rattle.keymap_tables.specs.Files.{joined}
 use Rattle.keymap_tables.specs.declared.filling.Filling.{Filling}
-use Rattle.keymap_tables.specs.Image.{image, slot_bytes, accent_bytes, count_bytes, rows_bytes}
-use Rattle.keymap_tables.specs.Image.{table_bytes}
 use Rattle.keymap_tables.specs.Filled.{Shows, rows}
-use Rattle.keymap_tables.specs.Layouts.{wide}
 use Rattle.keymap_tables.proofs.AtPlaces.{undefined-known, blank-known}
 use Rattle.keymap_tables.proofs.Rows.{filled, flat_map-filled}
 use Rattle.keymap_tables.proofs.Images.{image-parts}

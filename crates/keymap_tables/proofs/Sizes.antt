@@ -1,15 +1,9 @@
 -- Sizes and places at both widths.
-use Rattle.std.proofs.Common.{◌≡◌, ℕ, ◌+◌, ◌-◌, ◌*◌, ◌<◌, ◌≤◌, suc, List, length, get_or, refl, sym, subst, inl, inr, All, arith, add-one, mul-suc}
-use Rattle.std.proofs.Common.{mul_comm}
-use Rattle.std.proofs.lemmas.Bool.{cases_lt}
-use Rattle.std.proofs.lemmas.List.{get_or_past}
-use Rattle.std.proofs.lemmas.List.Elements.{All-get_or}
-use Rattle.std.proofs.Math.Nat.{mul-le-mul_left, mul-sub}
-use Rattle.keymap_core.specs.Accents.{blank}
-use Rattle.keymap_core.specs.Maps.{undefined}
-use Rattle.keymap_tables.specs.Image.{number_bytes, count_bytes, slot_bytes, accent_bytes, zeros}
-use Rattle.keymap_tables.specs.Layouts.{number_size, number_limit, pad_size, slot_size, accent_size}
-use Rattle.keymap_tables.specs.Types.{Layout, Wide, Narrow}
+use Rattle.keymap_tables.proofs.Common.{◌≡◌, ℕ, ◌+◌, ◌-◌, ◌*◌, ◌<◌, ◌≤◌, suc, List, length, get_or, refl, sym, subst}
+use Rattle.keymap_tables.proofs.Common.{inl, inr, All, arith, add-one, mul-suc, mul_comm, cases_lt, get_or_past}
+use Rattle.keymap_tables.proofs.Common.{All-get_or, mul-le-mul_left, mul-sub, blank, undefined, number_bytes}
+use Rattle.keymap_tables.proofs.Common.{count_bytes, slot_bytes, accent_bytes, zeros, number_size, number_limit}
+use Rattle.keymap_tables.proofs.Common.{pad_size, slot_size, accent_size, Layout, Wide, Narrow}
 
 -- row i of so many rows of one size
 pub row-inside : (size n i : ℕ) → i < n → size * i + size ≤ n * size

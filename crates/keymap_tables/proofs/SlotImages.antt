@@ -1,39 +1,32 @@
 -- The image of a slot: it has no fault, and gives the entry.
-use Rattle.std.proofs.Common.{◌≡◌, ℕ, ◌+◌, ◌-◌, ◌*◌, ◌/◌, ◌%◌, ◌^◌, ◌<◌, ◌≤◌, ◌==◌, suc, zero, List, [], ◌∷◌, ◌++◌, drop}
-use Rattle.std.proofs.Common.{length, get_or, take, None, refl, sym, ap, ◌∙◌, subst, inl, inr, arith, append_assoc}
-use Rattle.std.proofs.Common.{append-nil, length-append, drop-cons, mul_comm, set, All}
-use Rattle.std.specs.Prelude.{slice_index, nat_le, Bool, true, false, unwrap_or}
-use Rattle.std.specs.Char.{IsScalar}
-use Rattle.std.specs.Int.{from_le_bytes}
-use Rattle.std.specs.List.{flat_map}
-use Rattle.std.proofs.lemmas.Bool.{cases_lt}
-use Rattle.std.proofs.lemmas.Bool.Decides.{nat_tests}
-use Rattle.std.proofs.lemmas.Grind.{common_steps, flat_map-append}
-use Rattle.std.proofs.lemmas.List.{get_or-append_right, length-replicate, same_lists, take-append-drop, take_all}
-use Rattle.std.proofs.lemmas.List.{take_more, take_more_set}
-use Rattle.std.proofs.lemmas.List.Elements.{All-get_or, All-more, All-push}
+use Rattle.keymap_tables.proofs.Common.{◌≡◌, ℕ, ◌+◌, ◌-◌, ◌*◌, ◌/◌, ◌%◌, ◌^◌, ◌<◌, ◌≤◌, ◌==◌, suc, zero, List, [], ◌∷◌}
+use Rattle.keymap_tables.proofs.Common.{◌++◌, drop, length, get_or, take, None, refl, sym, ap, ◌∙◌, subst, inl, inr}
+use Rattle.keymap_tables.proofs.Common.{arith, append_assoc, length-append, drop-cons, mul_comm, set, All}
+use Rattle.keymap_tables.proofs.Common.{slice_index, nat_le, Bool, true, false, IsScalar, from_le_bytes, flat_map}
+use Rattle.keymap_tables.proofs.Common.{cases_lt, nat_tests, common_steps, get_or-append_right}
+use Rattle.keymap_tables.proofs.Common.{length-replicate, same_lists, take-append-drop, take_all}
+use Rattle.keymap_tables.proofs.Common.{take_more_set, All-get_or, All-push, undefined, Cell, Char, Act, Entry, Layout}
+use Rattle.keymap_tables.proofs.Common.{Wide, Narrow, BadPad, IsCell, IsEntry, number_at, is_marked_at, char_fault}
+use Rattle.keymap_tables.proofs.Common.{cell_fault, slot_end_fault, slot_fault, zero_fault, HasNoFault, AreRows}
+use Rattle.keymap_tables.proofs.Common.{IsEntryIn, cell_bytes, number_of, is_act, marks_of, flag_number, slot_bytes}
+use Rattle.keymap_tables.proofs.Common.{zeros, CellFits, EntryFits, number_width, number_size, number_limit, pad_size}
+use Rattle.keymap_tables.proofs.Common.{slot_size}
+use Rattle.std.specs.Prelude.{unwrap_or}
+use Rattle.std.proofs.lemmas.List.Elements.{All-more}
 use Rattle.keymap_core.specs.Actions.{IsAction, code_of, action_of, within}
-use Rattle.keymap_core.specs.Maps.{undefined}
 use Rattle.keymap_core.specs.declared.action.Action.{Action}
-use Rattle.keymap_core.specs.declared.action.Action.TheVariants as a
-use Rattle.keymap_core.specs.declared.action.Modifier.TheVariants as m
-use Rattle.keymap_core.specs.declared.action.Lock.TheVariants as lock
-use Rattle.keymap_tables.specs.Types.{Cell, Char, Act, Entry, LockFlag, Layout, Wide, Narrow, BadPad}
-use Rattle.keymap_core.specs.declared.entry.LockFlag.TheVariants as flag
-use Rattle.keymap_core.specs.Bounds.{IsCell, IsEntry}
-use Rattle.keymap_tables.specs.Faults.{number_at, is_marked_at, char_fault, cell_fault, cell_faults, flag_fault}
-use Rattle.keymap_tables.specs.Faults.{slot_end_fault, slot_fault, zero_fault}
-use Rattle.keymap_tables.specs.Inner.Firsts.{HasNoFault}
-use Rattle.keymap_tables.specs.Inner.Taken.{AreRows, IsEntryIn}
-use Rattle.keymap_tables.specs.Image.{cell_bytes, number_of, is_act, marks_of, flag_number, slot_bytes, zeros}
-use Rattle.keymap_tables.specs.Fits.{CellFits, EntryFits}
-use Rattle.keymap_tables.specs.Layouts.{number_width, number_size, number_limit, pad_size, slot_size}
+use Rattle.keymap_tables.specs.Types.{LockFlag}
+use Rattle.keymap_tables.specs.Faults.{cell_faults, flag_fault}
 use Rattle.keymap_tables.proofs.Lifting.{row-past, number-clean, none-past}
 use Rattle.keymap_tables.proofs.Marks.{mark-bit}
 use Rattle.keymap_tables.proofs.Numbers.{AreBytes, number-back, number-read, zeros-behind, drop-zeros}
 use Rattle.keymap_tables.proofs.Rows.{length-rows, row-in, rows-clean, rows-read}
 use Rattle.keymap_tables.proofs.Sizes.{some-number, slot-some, slot-blank, length-number}
 use Rattle.keymap_core.proofs.CodeLaws.{code-read}
+use Rattle.keymap_core.specs.declared.action.Action.TheVariants as a
+use Rattle.keymap_core.specs.declared.action.Modifier.TheVariants as m
+use Rattle.keymap_core.specs.declared.action.Lock.TheVariants as lock
+use Rattle.keymap_core.specs.declared.entry.LockFlag.TheVariants as flag
 
 -- The codes are small, and none is that of a combined action.
 pub code-bounds : (action : Action) → IsAction action

@@ -1,21 +1,14 @@
 -- Where the characters above 255 of a map stand.
-use Rattle.std.proofs.Common.{ℕ, ◌+◌, ◌*◌, ◌<◌, ◌≤◌, suc, [], ap, arith, inl, inr, mul-suc}
-use Rattle.std.specs.Prelude.{All}
-use Rattle.std.proofs.lemmas.Bool.{cases_lt}
-use Rattle.std.proofs.Math.Nat.{eq-or-lt_of_le, mul-le-mul_left}
-use Rattle.std.proofs.lemmas.List.Elements.{All-nil, All-cons}
-use Rattle.keymap_core.specs.Accents.{AccentValue, blank}
-use Rattle.keymap_core.specs.Maps.{MapValue, undefined, entry_at, accent_or_blank}
-use Rattle.keymap_tables.specs.Types.{Char, Entry}
-use Rattle.keymap_tables.specs.Fits.{CellFits, EntryFits, AccentFits, FitsIn, character_in, number_in, IsWide}
-use Rattle.keymap_tables.specs.Fits.{IsFirstWide, place_of}
-use Rattle.keymap_tables.specs.Image.{numbers_of}
+use Rattle.keymap_tables.proofs.Common.{ℕ, ◌+◌, ◌*◌, ◌<◌, ◌≤◌, suc, [], ap, arith, inl, inr, mul-suc, All, cases_lt}
+use Rattle.keymap_tables.proofs.Common.{eq-or-lt_of_le, mul-le-mul_left, All-nil, All-cons, AccentValue, blank}
+use Rattle.keymap_tables.proofs.Common.{MapValue, undefined, entry_at, accent_or_blank, Char, Entry, CellFits}
+use Rattle.keymap_tables.proofs.Common.{EntryFits, AccentFits, FitsIn, character_in, number_in, numbers_of, narrow}
+use Rattle.keymap_tables.specs.Fits.{IsWide, IsFirstWide, place_of}
 use Rattle.keymap_tables.specs.Inner.Firsts.{IsFirstWideRow}
-use Rattle.keymap_tables.specs.Layouts.{narrow}
 use Rattle.keymap_tables.specs.declared.narrow.Wide.{Wide}
-use Rattle.keymap_tables.specs.declared.narrow.Wide.TheVariants as at
 use Rattle.keymap_tables.proofs.Sizes.{All-at, zero-fits}
 use Rattle.keymap_tables.proofs.AtPlaces.{undefined-fits}
+use Rattle.keymap_tables.specs.declared.narrow.Wide.TheVariants as at
 
 -- each character of an entry that fits is at most 255
 entry-small : (entry : Entry) (k : ℕ) → EntryFits narrow entry → character_in entry k ≤ 255

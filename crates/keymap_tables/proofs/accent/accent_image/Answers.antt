@@ -1,9 +1,5 @@
-use Rattle.std.proofs.Common.{arith, ◌∙◌, ap, sym, ℕ, ◌≡◌, ◌+◌, length}
-use borrow.Author.Count.{below_more}
-use Rattle.std.specs.Char.{IsScalar}
-use Rattle.keymap_tables.specs.Fits.{number_in}
-use Rattle.keymap_tables.specs.Image.{number_bytes, numbers_of}
-use Rattle.keymap_tables.specs.Layouts.{number_size}
+use Rattle.keymap_tables.proofs.Common.{arith, ◌∙◌, ap, sym, ℕ, ◌≡◌, ◌+◌, length, below_more, IsScalar, number_in}
+use Rattle.keymap_tables.proofs.Common.{number_bytes, numbers_of, number_size}
 use Rattle.keymap_tables.proofs.AccentImages.{accent-known, length-numbers}
 use Rattle.keymap_tables.proofs.Rows.{rows-written, rows-ended}
 use Rattle.keymap_tables.proofs.Sizes.{row-next, row-inside, rows-size, accent-small}

@@ -1,9 +1,5 @@
-use Rattle.std.proofs.Common.{◌≡◌, ℕ, ◌*◌, ◌<◌, length, take}
-use Rattle.std.specs.Char.{IsScalar}
-use Rattle.std.specs.List.{flat_map}
-use Rattle.keymap_tables.specs.Fits.{number_in}
-use Rattle.keymap_tables.specs.Image.{number_bytes, numbers_of}
-use Rattle.keymap_tables.specs.Layouts.{number_size}
+use Rattle.keymap_tables.proofs.Common.{◌≡◌, ℕ, ◌*◌, ◌<◌, length, take, IsScalar, flat_map, number_in, number_bytes}
+use Rattle.keymap_tables.proofs.Common.{numbers_of, number_size}
 use Rattle.keymap_tables.proofs.accent.accent_image.Given as goal
 
 -- The numbers so far were appended.

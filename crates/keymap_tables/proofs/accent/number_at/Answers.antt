@@ -1,5 +1,4 @@
-use Rattle.std.proofs.Common.{arith, ◌≡◌, ◌∙◌, ℕ, ◌+◌, ◌-◌, ◌*◌, ◌/◌, ap, sym, get_or, List}
-use Rattle.keymap_tables.specs.Fits.{number_in}
+use Rattle.keymap_tables.proofs.Common.{arith, ◌≡◌, ◌∙◌, ℕ, ◌+◌, ◌-◌, ◌*◌, ◌/◌, ap, sym, get_or, List, number_in}
 use Rattle.keymap_tables.proofs.AccentImages.{number-base, number-result}
 use Rattle.keymap_tables.proofs.accent.number_at.Goals as goal
 

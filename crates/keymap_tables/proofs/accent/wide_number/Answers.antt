@@ -1,6 +1,4 @@
-use Rattle.std.proofs.Common.{arith, ◌<◌}
-use Rattle.std.proofs.lemmas.List.Elements.{All-from_get_or}
-use Rattle.keymap_tables.specs.Image.{numbers_of}
+use Rattle.keymap_tables.proofs.Common.{arith, ◌<◌, All-from_get_or, numbers_of}
 use Rattle.keymap_tables.proofs.AccentImages.{length-numbers}
 use Rattle.keymap_tables.proofs.accent.wide_number.Goals as goal
 

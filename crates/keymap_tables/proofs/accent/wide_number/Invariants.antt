@@ -1,5 +1,4 @@
-use Rattle.std.proofs.Common.{ℕ, ◌<◌, ◌≤◌}
-use Rattle.keymap_tables.specs.Fits.{number_in}
+use Rattle.keymap_tables.proofs.Common.{ℕ, ◌<◌, ◌≤◌, number_in}
 use Rattle.keymap_tables.proofs.accent.wide_number.Given as goal
 
 -- The numbers so far fit.

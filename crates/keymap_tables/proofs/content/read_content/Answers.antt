@@ -1,11 +1,6 @@
-use Rattle.std.proofs.Common.{arith, ◌∙◌, ◌++◌, [], ℕ, List, take, drop, refl, sym, ap}
-use Rattle.std.proofs.lemmas.List.{take-append-drop}
-use Rattle.keymap_core.specs.Bounds.{IsMap}
-use Rattle.keymap_tables.specs.Faults.{slot_fault, accent_fault, table_fault}
-use Rattle.keymap_tables.specs.Image.{slot_bytes, table_bytes}
-use Rattle.keymap_tables.specs.Inner.Firsts.{HasNoFault}
-use Rattle.keymap_tables.specs.Inner.Taken.{made_of}
-use Rattle.keymap_tables.specs.Layouts.{slot_size, accent_size, n_accs_place}
+use Rattle.keymap_tables.proofs.Common.{arith, ◌∙◌, ◌++◌, [], ℕ, List, take, drop, refl, sym, ap, take-append-drop}
+use Rattle.keymap_tables.proofs.Common.{IsMap, slot_fault, accent_fault, table_fault, slot_bytes, table_bytes}
+use Rattle.keymap_tables.proofs.Common.{HasNoFault, made_of, slot_size, accent_size, n_accs_place}
 use Rattle.keymap_tables.proofs.AccentImages.{accents-are}
 use Rattle.keymap_tables.proofs.Images.{image-parts, table-sound}
 use Rattle.keymap_tables.proofs.Lifting.{split-fails, split-fails_behind}

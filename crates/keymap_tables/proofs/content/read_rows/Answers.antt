@@ -1,9 +1,6 @@
-use Rattle.std.proofs.Common.{List, [], ◌∷◌, ◌++◌, ◌≡◌, ◌+◌, ◌*◌, ◌∙◌, ℕ, take, refl, sym, ap, subst, arith, mul-zero}
-use Rattle.std.proofs.lemmas.List.{length_push}
-use Rattle.std.proofs.lemmas.List.Elements.{All-nil, All-push}
-use Rattle.keymap_tables.specs.Faults.{IsFirstFault, used_fault, zero_fault}
-use Rattle.keymap_tables.specs.Inner.Firsts.{HasNoFault}
-use Rattle.keymap_tables.specs.Types.{NotEmpty, TableFault}
+use Rattle.keymap_tables.proofs.Common.{List, [], ◌∷◌, ◌++◌, ◌≡◌, ◌+◌, ◌*◌, ◌∙◌, ℕ, take, refl, sym, ap, subst, arith}
+use Rattle.keymap_tables.proofs.Common.{mul-zero, length_push, All-nil, All-push, IsFirstFault, used_fault, zero_fault}
+use Rattle.keymap_tables.proofs.Common.{HasNoFault, NotEmpty, TableFault}
 use Rattle.keymap_tables.proofs.Lifting.{row-passes, row-fails, row-past, first-past, upto}
 use Rattle.keymap_tables.proofs.Numbers.{drop-zeros}
 use Rattle.keymap_tables.proofs.Outcomes.{OnOk-map, IfErr-map}

@@ -1,7 +1,4 @@
-use Rattle.std.proofs.Common.{◌*◌, []}
-use Rattle.keymap_core.specs.Maps.{MapValue}
-use Rattle.keymap_tables.specs.Faults.{used_fault}
-use Rattle.keymap_tables.specs.Inner.Firsts.{HasNoFault}
+use Rattle.keymap_tables.proofs.Common.{◌*◌, [], MapValue, used_fault, HasNoFault}
 use Rattle.keymap_tables.proofs.Rows.{Reads}
 use Rattle.keymap_tables.proofs.content.read_rows.Given as goal
 

@@ -1,11 +1,6 @@
-use Rattle.std.proofs.Common.{arith, ◌+◌, ◌-◌, ◌*◌, ◌<◌, ◌∙◌, ◌++◌, ℕ, List, length, take, drop, refl, sym, ap, subst}
-use Rattle.std.specs.Prelude.{IfErr}
-use Rattle.std.proofs.lemmas.List.{take-append-drop}
-use Rattle.keymap_tables.specs.Faults.{IsFirstFault, count_at, count_fault, used_fault, table_fault}
-use Rattle.keymap_tables.specs.Image.{count_bytes}
-use Rattle.keymap_tables.specs.Inner.Firsts.{HasNoFault}
-use Rattle.keymap_tables.specs.Layouts.{count_size}
-use Rattle.keymap_tables.specs.Types.{TableFault}
+use Rattle.keymap_tables.proofs.Common.{arith, ◌+◌, ◌-◌, ◌*◌, ◌<◌, ◌∙◌, ◌++◌, ℕ, List, length, take, drop, refl, sym}
+use Rattle.keymap_tables.proofs.Common.{ap, subst, IfErr, take-append-drop, IsFirstFault, count_at, count_fault}
+use Rattle.keymap_tables.proofs.Common.{used_fault, table_fault, count_bytes, HasNoFault, count_size, TableFault}
 use Rattle.keymap_tables.proofs.Images.{count-part, count-sound}
 use Rattle.keymap_tables.proofs.Lifting.{split-fails, split-fails_behind}
 use Rattle.keymap_tables.proofs.Numbers.{length-part}

@@ -1,8 +1,6 @@
-use Rattle.std.proofs.Common.{sym, ap, ◌≡◌, ◌+◌, ◌*◌, ◌∙◌, arith}
-use Rattle.std.specs.Prelude.{slice_index}
+use Rattle.keymap_tables.proofs.Common.{sym, ap, ◌≡◌, ◌+◌, ◌*◌, ◌∙◌, arith, slice_index, narrow}
 use Rattle.keymap_tables.proofs.AtPlaces.{cell-number, number-byte}
 use Rattle.keymap_tables.specs.Image.{narrow_image}
-use Rattle.keymap_tables.specs.Layouts.{narrow}
 use Rattle.keymap_tables.proofs.laws.a_narrow_image_is_by_position.Goals as goal
 
 pub returns : goal.returns

@@ -1,6 +1,5 @@
+use Rattle.keymap_tables.proofs.Common.{image_in, refl}
 use Rattle.keymap_tables.proofs.ReadingLaws.{reading-image}
-use Rattle.keymap_tables.specs.Image.{image_in}
-use Rattle.std.proofs.Common.{refl}
 use Rattle.keymap_tables.proofs.laws.reading_an_image_gives_the_map.Goals as goal
 
 pub returns : goal.returns

@@ -1,7 +1,5 @@
-use Rattle.std.proofs.Common.{arith, subst}
-use Rattle.std.proofs.lemmas.List.Elements.{All-from_get_or}
+use Rattle.keymap_tables.proofs.Common.{arith, subst, All-from_get_or, narrow}
 use Rattle.keymap_tables.specs.Inner.Firsts.{IsFirstWideNumber}
-use Rattle.keymap_tables.specs.Layouts.{narrow}
 use Rattle.keymap_tables.proofs.narrow.first_wide.Goals as goal
 
 pub returns-in-Some : goal.returns-in-Some

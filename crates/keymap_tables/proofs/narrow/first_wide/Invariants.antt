@@ -1,6 +1,4 @@
-use Rattle.std.proofs.Common.{ℕ, ◌<◌}
-use Rattle.std.specs.Prelude.{slice_index_or}
-use Rattle.keymap_tables.specs.Layouts.{narrow}
+use Rattle.keymap_tables.proofs.Common.{ℕ, ◌<◌, slice_index_or, narrow}
 use Rattle.keymap_tables.proofs.narrow.first_wide.Given as goal
 
 -- The rows so far fit.

@@ -1,10 +1,8 @@
-use Rattle.std.proofs.Common.{arith, ◌≤◌, length}
+use Rattle.keymap_tables.proofs.Common.{arith, ◌≤◌, length, count_at, count_fault, BadPad}
 use Rattle.keymap_tables.proofs.Images.{count-pad, count-front}
 use Rattle.keymap_tables.proofs.Lifting.{first-past}
 use Rattle.keymap_tables.proofs.Numbers.{count-whole}
 use Rattle.keymap_tables.proofs.Outcomes.{err_passed}
-use Rattle.keymap_tables.specs.Faults.{count_at, count_fault}
-use Rattle.keymap_tables.specs.Types.{BadPad}
 use Rattle.keymap_tables.proofs.number.read_count.Goals as goal
 
 pub returns-in_err-check_zeros-clause-fault : goal.returns-in_err-check_zeros-clause-fault

@@ -1,7 +1,6 @@
-use Rattle.std.proofs.Common.{arith, sym, ◌∙◌, ◌+◌, ◌*◌}
+use Rattle.keymap_tables.proofs.Common.{arith, sym, ◌∙◌, ◌+◌, ◌*◌, number_size}
 use Rattle.keymap_tables.proofs.AccentImages.{pairs-counted}
 use Rattle.keymap_tables.proofs.Sizes.{row-inside}
-use Rattle.keymap_tables.specs.Layouts.{number_size}
 use Rattle.keymap_tables.proofs.read_accent.count_pairs.Goals as goal
 
 pub read_number-requires : goal.read_number-requires

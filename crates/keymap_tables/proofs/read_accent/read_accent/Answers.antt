@@ -1,18 +1,9 @@
-use Rattle.std.proofs.Common.{arith, ◌≡◌, ◌+◌, ◌*◌, ◌<◌, ◌≤◌, ◌∙◌, ◌∷◌, [], None, Some, sym, refl, ap, subst, length, ℕ, take, drop, List}
-use Rattle.std.proofs.Common.{append-nil, mul-zero, All}
-use Rattle.std.specs.Char.{IsScalar}
-use Rattle.std.specs.List.{flat_map}
-use Rattle.std.proofs.lemmas.List.Elements.{All-nil, All-cons, All-same, All-push}
-use Rattle.std.proofs.lemmas.List.{length_push}
-use Rattle.keymap_core.specs.Accents.{AccentValue}
-use Rattle.keymap_core.specs.Bounds.{IsPair}
-use Rattle.keymap_tables.specs.Faults.{number_at, char_fault, number_fault, zero_fault, accent_fault, pairs_in}
-use Rattle.keymap_tables.specs.Faults.{IsFirstFault}
-use Rattle.keymap_tables.specs.Fits.{AccentFits}
-use Rattle.keymap_tables.specs.Image.{number_bytes, numbers_of}
-use Rattle.keymap_tables.specs.Inner.Firsts.{HasNoFault}
-use Rattle.keymap_tables.specs.Layouts.{number_width, number_size, number_limit, accent_size}
-use Rattle.keymap_tables.specs.Types.{NotEmpty, Layout, TableFault}
+use Rattle.keymap_tables.proofs.Common.{arith, ◌≡◌, ◌+◌, ◌*◌, ◌<◌, ◌≤◌, ◌∙◌, ◌∷◌, [], None, Some, sym, refl, ap, subst}
+use Rattle.keymap_tables.proofs.Common.{length, ℕ, take, drop, List, append-nil, mul-zero, All, IsScalar, flat_map}
+use Rattle.keymap_tables.proofs.Common.{All-nil, All-cons, All-same, All-push, length_push, AccentValue, IsPair}
+use Rattle.keymap_tables.proofs.Common.{number_at, char_fault, number_fault, zero_fault, accent_fault, pairs_in}
+use Rattle.keymap_tables.proofs.Common.{IsFirstFault, AccentFits, number_bytes, numbers_of, HasNoFault, number_width}
+use Rattle.keymap_tables.proofs.Common.{number_size, number_limit, accent_size, NotEmpty, Layout, TableFault}
 use Rattle.keymap_tables.proofs.AccentImages.{pair-read, pair-fits, length-numbers}
 use Rattle.keymap_tables.proofs.Lifting.{number-passes, number-fails, first-past, row-past, upto}
 use Rattle.keymap_tables.proofs.Numbers.{AreBytes, number-read, number-fits, drop-zeros}

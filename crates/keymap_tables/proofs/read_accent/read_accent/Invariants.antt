@@ -1,13 +1,5 @@
-use Rattle.std.proofs.Common.{◌≡◌, ◌+◌, ◌*◌, length, take}
-use Rattle.std.specs.Prelude.{All}
-use Rattle.std.specs.Char.{IsScalar}
-use Rattle.std.specs.List.{flat_map}
-use Rattle.keymap_core.specs.Bounds.{IsPair}
-use Rattle.keymap_tables.specs.Faults.{accent_fault}
-use Rattle.keymap_tables.specs.Inner.Firsts.{HasNoFault}
-use Rattle.keymap_tables.specs.Fits.{AccentFits}
-use Rattle.keymap_tables.specs.Image.{number_bytes, numbers_of}
-use Rattle.keymap_tables.specs.Layouts.{number_size}
+use Rattle.keymap_tables.proofs.Common.{◌≡◌, ◌+◌, ◌*◌, length, take, All, IsScalar, flat_map, IsPair, accent_fault}
+use Rattle.keymap_tables.proofs.Common.{HasNoFault, AccentFits, number_bytes, numbers_of, number_size}
 use Rattle.keymap_tables.proofs.read_accent.read_accent.Given as goal
 
 -- The numbers so far have the bytes so far, and no fault stands there.

@@ -1,18 +1,11 @@
-use Rattle.std.proofs.Common.{rules, arith, ◌∙◌, ◌-◌, ◌*◌, ◌/◌, ◌%◌, ◌^◌, ◌==◌, ℕ, ap, sym, take, mul_comm, ◌≡◌}
-use Rattle.std.specs.List.{flat_map}
-use Rattle.std.specs.Prelude.{slice_index, Bool}
-use Rattle.std.proofs.lemmas.List.{take_all}
-use Rattle.std.proofs.lemmas.List.Elements.{All-same}
+use Rattle.keymap_tables.proofs.Common.{rules, arith, ◌∙◌, ◌-◌, ◌*◌, ◌/◌, ◌%◌, ◌^◌, ◌==◌, ℕ, ap, sym, take, mul_comm}
+use Rattle.keymap_tables.proofs.Common.{◌≡◌, flat_map, slice_index, Bool, take_all, All-same, IsCell, is_marked_at}
+use Rattle.keymap_tables.proofs.Common.{cell_fault, slot_end_fault, CellFits, cell_bytes, number_width, number_size}
 use Rattle.keymap_tables.proofs.Lifting.{number-passes, number-fails}
 use Rattle.keymap_tables.proofs.Marks.{marks-more}
 use Rattle.keymap_tables.proofs.Numbers.{AreBytes, number-fits}
 use Rattle.keymap_tables.proofs.Sizes.{row-inside, some-number}
 use Rattle.keymap_tables.proofs.SlotImages.{All-more_set, cell-fits, bytes-more, marks-all}
-use Rattle.keymap_core.specs.Bounds.{IsCell}
-use Rattle.keymap_tables.specs.Faults.{is_marked_at, cell_fault, slot_end_fault}
-use Rattle.keymap_tables.specs.Fits.{CellFits}
-use Rattle.keymap_tables.specs.Image.{cell_bytes}
-use Rattle.keymap_tables.specs.Layouts.{number_width, number_size}
 use Rattle.keymap_tables.proofs.read_slot.read_cells.Goals as goal
 
 pub loop-column-preserved : goal.loop-column-preserved

@@ -1,12 +1,8 @@
-use Rattle.std.proofs.Common.{arith, ℕ, ◌≡◌, ◌+◌, ◌*◌, ◌<◌, ◌∙◌, ap, refl}
-use Rattle.std.specs.Prelude.{slice_index, nat_le, false}
-use Rattle.std.proofs.lemmas.Bool.Decides.{nat_tests}
+use Rattle.keymap_tables.proofs.Common.{arith, ℕ, ◌≡◌, ◌+◌, ◌*◌, ◌<◌, ◌∙◌, ap, refl, slice_index, nat_le, false}
+use Rattle.keymap_tables.proofs.Common.{nat_tests, slot_fault, number_size, slot_size, BadPad}
 use Rattle.keymap_tables.proofs.Lifting.{first-past}
 use Rattle.keymap_tables.proofs.Outcomes.{err_passed}
 use Rattle.keymap_tables.proofs.SlotImages.{slot-whole, slot-flag, slot-pad, slot-marks, slot-front, small-flag}
-use Rattle.keymap_tables.specs.Faults.{slot_fault}
-use Rattle.keymap_tables.specs.Layouts.{number_size, slot_size}
-use Rattle.keymap_tables.specs.Types.{BadPad}
 use Rattle.keymap_tables.proofs.read_slot.read_slot.Goals as goal
 
 pub returns-in_default-clause-fault : goal.returns-in_default-clause-fault

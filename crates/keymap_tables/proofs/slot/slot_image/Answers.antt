@@ -1,13 +1,9 @@
-use Rattle.std.proofs.Common.{rules, arith, ◌≡◌, ℕ, ◌+◌, ◌*◌, ap, sym, ◌∙◌, mul_comm}
-use Rattle.std.proofs.lemmas.List.{take_all}
-use Rattle.std.proofs.lemmas.List.Elements.{All-same}
-use Rattle.keymap_tables.specs.Image.{cell_bytes}
-use Rattle.keymap_tables.specs.Layouts.{number_size}
+use Rattle.keymap_tables.proofs.Common.{rules, arith, ◌≡◌, ℕ, ◌+◌, ◌*◌, ap, sym, ◌∙◌, mul_comm, take_all, All-same}
+use Rattle.keymap_tables.proofs.Common.{cell_bytes, number_size, IsCell}
 use Rattle.keymap_tables.proofs.Sizes.{row-next}
 use Rattle.keymap_tables.proofs.Marks.{marks-next, small-next}
 use Rattle.keymap_tables.proofs.Rows.{rows-written}
 use Rattle.keymap_tables.proofs.SlotImages.{All-next, slot-written}
-use Rattle.keymap_core.specs.Bounds.{IsCell}
 use Rattle.keymap_tables.proofs.slot.slot_image.Goals as goal
 
 pub loop-cell-preserved : goal.loop-cell-preserved

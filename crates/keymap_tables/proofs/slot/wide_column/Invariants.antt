@@ -1,5 +1,4 @@
-use Rattle.std.proofs.Common.{ℕ, ◌<◌, ◌≤◌}
-use Rattle.keymap_tables.specs.Fits.{character_in}
+use Rattle.keymap_tables.proofs.Common.{ℕ, ◌<◌, ◌≤◌, character_in}
 use Rattle.keymap_tables.proofs.slot.wide_column.Given as goal
 
 -- The characters so far fit.

@@ -1,7 +1,4 @@
-use Rattle.std.proofs.Common.{arith, ◌∙◌, ◌≡◌, ap, sym, ℕ, get_or, Some}
-use Rattle.std.proofs.lemmas.List.Elements.{All-get_or}
-use Rattle.keymap_core.specs.Bounds.{IsPair}
-use Rattle.keymap_tables.specs.Faults.{char_fault}
+use Rattle.keymap_tables.proofs.Common.{arith, ◌∙◌, ◌≡◌, ap, sym, ℕ, get_or, Some, All-get_or, IsPair, char_fault}
 use Rattle.keymap_tables.proofs.InPlace.{below-of, base-of, past-of, result-of, result-here, result-later, result-none}
 use Rattle.keymap_tables.proofs.ReadingLaws.{some_none}
 use Rattle.keymap_tables.proofs.SlotImages.{char-sound}

@@ -1,12 +1,10 @@
-use Rattle.std.proofs.Common.{rules, arith, ap, ◌∙◌, ◌++◌, length, List, ℕ, get_or, subst, sym, append_assoc, append-nil}
-use Rattle.std.proofs.Common.{mul-zero}
-use Rattle.std.proofs.lemmas.List.Elements.{All-from_get_or}
-use Rattle.keymap_core.proofs.Gathering.{Gathers-same, StopsIn-more, passed_on}
-use Rattle.keymap_tables.specs.Image.{count_bytes, rows_bytes}
+use Rattle.keymap_tables.proofs.Common.{rules, arith, ap, ◌∙◌, ◌++◌, length, List, ℕ, get_or, subst, sym, append_assoc}
+use Rattle.keymap_tables.proofs.Common.{append-nil, mul-zero, All-from_get_or, StopsIn-more, passed_on, count_bytes}
+use Rattle.keymap_tables.proofs.Common.{rows_bytes, below_more}
+use Rattle.keymap_core.proofs.Gathering.{Gathers-same}
 use Rattle.keymap_tables.proofs.Rows.{rows-next, rows-all, rows-cut}
 use Rattle.keymap_tables.proofs.Sizes.{row-next, row-inside}
 use Rattle.keymap_tables.proofs.write.push_table.Goals as goal
-use borrow.Author.Count.{below_more}
 
 pub push-requires-in-loop-index : goal.push-requires-in-loop-index
 push-requires-in-loop-index g c =

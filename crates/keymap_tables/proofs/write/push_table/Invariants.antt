@@ -1,9 +1,6 @@
-use Rattle.std.proofs.Common.{◌≡◌, ℕ, ◌+◌, ◌*◌, ◌<◌, length, ◌++◌, List, take}
-use Rattle.std.specs.Prelude.{Option, slice_index_or}
-use Rattle.std.specs.List.{flat_map}
+use Rattle.keymap_tables.proofs.Common.{◌≡◌, ℕ, ◌+◌, ◌*◌, ◌<◌, length, ◌++◌, List, take, Option, slice_index_or}
+use Rattle.keymap_tables.proofs.Common.{flat_map, count_bytes, count_size}
 use Rattle.keymap_core.specs.Streams.{Gathers, size_of}
-use Rattle.keymap_tables.specs.Image.{count_bytes}
-use Rattle.keymap_tables.specs.Layouts.{count_size}
 use Rattle.keymap_tables.proofs.Rows.{filled}
 use Rattle.keymap_tables.proofs.write.push_table.Given as goal
 

@@ -1,6 +1,5 @@
-use Rattle.std.proofs.Common.{◌∙◌, [], sym, append-nil}
-use Rattle.keymap_core.specs.Bounds.{IsMap}
-use Rattle.keymap_core.proofs.Gathering.{Gathers-start, StopsIn-more, passed_on}
+use Rattle.keymap_tables.proofs.Common.{◌∙◌, [], sym, append-nil, IsMap, StopsIn-more, passed_on}
+use Rattle.keymap_core.proofs.Gathering.{Gathers-start}
 use Rattle.keymap_tables.proofs.Images.{image-parts}
 use Rattle.keymap_tables.proofs.Outcomes.{OnOk-held}
 use Rattle.keymap_tables.proofs.Sizes.{slot-blank, accent-blank}

@@ -1,5 +1,4 @@
-use Rattle.std.proofs.Common.{List, subst}
-use Rattle.keymap_core.specs.Accents.{AccentValue, blank}
+use Rattle.keymap_tables.proofs.Common.{List, subst, AccentValue, blank}
 use Rattle.keymap_tables.proofs.Rows.{placed-end}
 use Rattle.keymap_tables.proofs.row.AccentRow.define.Goals as goal
 

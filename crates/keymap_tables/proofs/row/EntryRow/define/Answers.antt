@@ -1,6 +1,4 @@
-use Rattle.std.proofs.Common.{List, subst}
-use Rattle.keymap_core.specs.Maps.{undefined}
-use Rattle.keymap_tables.specs.Types.{Entry}
+use Rattle.keymap_tables.proofs.Common.{List, subst, undefined, Entry}
 use Rattle.keymap_tables.proofs.Rows.{placed-end}
 use Rattle.keymap_tables.proofs.row.EntryRow.define.Goals as goal
 

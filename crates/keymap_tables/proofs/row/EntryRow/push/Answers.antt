@@ -1,5 +1,4 @@
-use Rattle.std.proofs.Common.{◌∙◌, List, ℕ, subst}
-use Rattle.keymap_core.specs.Streams.{Pushes}
+use Rattle.keymap_tables.proofs.Common.{◌∙◌, List, ℕ, subst, Pushes}
 use Rattle.keymap_tables.proofs.row.EntryRow.push.Goals as goal
 
 pub returns-clause-bytes : goal.returns-clause-bytes

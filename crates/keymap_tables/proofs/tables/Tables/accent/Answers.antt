@@ -1,14 +1,11 @@
-use Rattle.std.proofs.Common.{arith, ◌∙◌, ◌+◌, ◌*◌, ◌≡◌, ap, List, ℕ, refl, true, false}
-use Rattle.keymap_tables.specs.Layouts.{wide, part}
+use Rattle.keymap_tables.proofs.Common.{arith, ◌∙◌, ◌+◌, ◌*◌, ◌≡◌, ap, List, ℕ, refl, true, false, wide, part}
 use Rattle.keymap_tables.proofs.AtPlaces.{accents-counted}
 use Rattle.keymap_tables.proofs.Images.{accent-part}
 use Rattle.keymap_tables.proofs.ReadingLaws.{map-wide}
 use Rattle.keymap_tables.proofs.Rows.{cut}
-use Rattle.keymap_tables.proofs.tables.Tables.accent.Goals as goal
-use Rattle.keymap_tables.proofs.tables.Tables.accent.Goals.{
-  else-index-lt-ACCENT_LIMIT-via-then-index-lt-ACCENT_LIMIT+else-index-n_accs,
-}
+use Rattle.keymap_tables.proofs.tables.Tables.accent.Goals.{else-index-lt-ACCENT_LIMIT-via-then-index-lt-ACCENT_LIMIT+else-index-n_accs}
 use Rattle.keymap_tables.proofs.tables.Tables.accent.Goals.{else-index-lt-ACCENT_LIMIT-via-else-index-lt-ACCENT_LIMIT}
+use Rattle.keymap_tables.proofs.tables.Tables.accent.Goals as goal
 
 not_true : false ≡ true → ⊥
 not_true e = cc

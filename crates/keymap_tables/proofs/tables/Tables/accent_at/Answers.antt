@@ -1,6 +1,4 @@
-use Rattle.std.proofs.Common.{sym, ◌∙◌}
-use Rattle.keymap_core.specs.Maps.{accent_or_blank}
-use Rattle.keymap_tables.specs.Layouts.{wide}
+use Rattle.keymap_tables.proofs.Common.{sym, ◌∙◌, accent_or_blank, wide}
 use Rattle.keymap_tables.proofs.AccentImages.{same-accent, accents-are}
 use Rattle.keymap_tables.proofs.AtPlaces.{faultless, accent-known}
 use Rattle.keymap_tables.proofs.ReadingLaws.{accent-wide}

@@ -1,6 +1,4 @@
-use Rattle.std.proofs.Common.{sym, ◌∙◌}
-use Rattle.keymap_core.specs.Maps.{entry_at}
-use Rattle.keymap_tables.specs.Layouts.{wide}
+use Rattle.keymap_tables.proofs.Common.{sym, ◌∙◌, entry_at, wide}
 use Rattle.keymap_tables.proofs.AtPlaces.{faultless, entry-known}
 use Rattle.keymap_tables.proofs.ReadingLaws.{entry-wide}
 use Rattle.keymap_tables.proofs.SlotImages.{same-entry, slots-are}

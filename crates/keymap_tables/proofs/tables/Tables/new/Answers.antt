@@ -1,5 +1,4 @@
-use Rattle.std.proofs.Common.{◌∙◌, ap, length, List, ℕ}
-use Rattle.keymap_tables.specs.Layouts.{wide}
+use Rattle.keymap_tables.proofs.Common.{◌∙◌, ap, length, List, ℕ, wide}
 use Rattle.keymap_tables.proofs.Images.{length-image}
 use Rattle.keymap_tables.proofs.ReadingLaws.{map-wide}
 use Rattle.keymap_tables.proofs.tables.Tables.new.Goals as goal

@@ -1,5 +1,4 @@
-use Rattle.std.proofs.Common.{arith, ◌∙◌, ◌+◌, ◌*◌, ap, List, ℕ}
-use Rattle.keymap_tables.specs.Layouts.{wide, part}
+use Rattle.keymap_tables.proofs.Common.{arith, ◌∙◌, ◌+◌, ◌*◌, ap, List, ℕ, wide, part}
 use Rattle.keymap_tables.proofs.Rows.{cut}
 use Rattle.keymap_tables.proofs.Images.{slot-part}
 use Rattle.keymap_tables.proofs.ReadingLaws.{map-wide}

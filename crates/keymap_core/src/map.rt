@@ -19,6 +19,8 @@ pub struct KeyMap {
     accents: Vec<Accent>,
     /// The undefined entry, lent for each slot past the last.
     past: Entry,
+    /// The blank accent, lent for each index past the last.
+    blank: Accent,
 }
 
 impl Model for KeyMap {
@@ -34,7 +36,7 @@ impl Model for KeyMap {
 }
 
 impl KeyMap {
-    ghost use Rattle.keymap_core.specs.Maps.{entry_at, with_entry, with_accent, n_keys_of, n_accs_of};
+    ghost use Rattle.keymap_core.specs.Maps.{entry_at, accent_or_blank, with_entry, with_accent, n_keys_of, n_accs_of};
 
     /// The map of no keys, with room for all that a map ever holds.
     pub fn new(alloc: Global) -> Result<KeyMap, AllocError>
@@ -47,6 +49,7 @@ impl KeyMap {
             entries,
             accents,
             past: UNDEFINED,
+            blank: Accent::new('\0'),
         })
     }
 
@@ -92,6 +95,13 @@ impl KeyMap {
         self.accents.get(index as usize)
     }
 
+    /// The accent of the index, blank past the last defined one.
+    pub fn accent_or_blank(&self, index: u8) -> &Accent
+        ensures { result.now ≡ accent_or_blank self.now index }
+    {
+        self.accents.get(index as usize).unwrap_or(&self.blank)
+    }
+
     /// Defines the accent. Where the index is above 14 the accent is dropped.
     pub fn set_accent(&mut self, index: u8, accent: Accent) -> Result<(), BadAccent>
         ensures ok { OnOk result (self.new ≡ with_accent self.old index accent) }
@@ -123,6 +133,7 @@ impl KeyMap {
             entries,
             accents,
             past: UNDEFINED,
+            blank: Accent::new('\0'),
         })
     }
 }

@@ -1,238 +1,263 @@
 -- The image of an accent: it has no fault, and gives the accent.
-use Rattle.std.proofs.Common.{◌≡◌, ℕ, ◌+◌, ◌-◌, ◌*◌, ◌<◌, ◌≤◌, suc, zero, List, ◌++◌, length, take, drop, get_or, None}
-use Rattle.std.proofs.Common.{mul-zero, refl, sym, ap, ◌∙◌, arith, append_assoc, length-append}
-use Rattle.std.specs.Prelude.{All}
-use Rattle.std.specs.List.{flat_map}
-use Rattle.std.specs.Int.{from_le_bytes}
-use Rattle.std.proofs.lemmas.List.{take_at, take-take, drop-take, drop-drop, take-replicate, length-replicate, drop_at}
-use Rattle.std.proofs.lemmas.List.{same_lists}
-use Rattle.std.proofs.lemmas.List.Elements.{All-get_or}
-use Rattle.keymap_core.specs.Accents.{AccentValue}
-use Rattle.keymap_core.specs.Bounds.{IsPair, IsAccent}
-use Rattle.keymap_tables.specs.Faults.{number_at, base_at, pairs_in, char_fault, accent_fault}
-use Rattle.keymap_tables.specs.Inner.Firsts.{HasNoFault}
-use Rattle.keymap_tables.specs.Fits.{PairFits, AccentFits}
-use Rattle.keymap_tables.specs.Image.{number_bytes, pair_bytes, accent_bytes, zeros}
-use Rattle.keymap_tables.specs.Layouts.{number_width, number_size, number_limit, pair_size, accent_size}
-use Rattle.keymap_tables.specs.Types.{Layout, Wide, Narrow, NotEmpty}
-use Rattle.keymap_tables.proofs.Lifting.{none-past}
-use Rattle.keymap_tables.proofs.Pairs.{pairs-counted, accent-more, accent-past}
-use Rattle.keymap_tables.proofs.RowImages.{row-in, length-rows, zeros-behind}
-use Rattle.keymap_tables.proofs.Sizes.{some-number, length-number, none-over, pair-begins, result-begins}
-use Rattle.keymap_tables.proofs.Sizes.{pair-below, result-below, pair-next, accent-whole-size}
-use Rattle.keymap_tables.proofs.SlotImages.{number-back, char-sound}
+use Rattle.keymap_tables.proofs.Common.{◌≡◌, ◌≢◌, ℕ, ◌+◌, ◌-◌, ◌*◌, ◌<◌, ◌≤◌, ◌==◌, suc, zero, List, [], ◌∷◌, ◌++◌}
+use Rattle.keymap_tables.proofs.Common.{length, get_or, refl, sym, ap, ◌∙◌, arith, subst, add-zero, append_assoc}
+use Rattle.keymap_tables.proofs.Common.{take, All, Bool, true, false, IsScalar, from_le_bytes}
+use Rattle.keymap_tables.proofs.Common.{flat_map, nat_tests, flat_map-append, get_or_past, All-nil, All-same}
+use Rattle.keymap_tables.proofs.Common.{All-push, All-cons, All-head, All-tail, All-get_or, All-from_get_or}
+use Rattle.keymap_tables.proofs.Common.{AccentValue, blank, IsPair, IsAccent, number_at, base_at, pairs_in, char_fault}
+use Rattle.keymap_tables.proofs.Common.{number_fault, accent_fault, zero_fault, number_in, HasNoFault, AreRows}
+use Rattle.keymap_tables.proofs.Common.{IsAccentIn, number_bytes, numbers_of, accent_bytes, zeros, number_width}
+use Rattle.keymap_tables.proofs.Common.{number_size, number_limit, accent_size, Layout, Wide, Narrow, NotEmpty}
+use Rattle.std.specs.Prelude.{not}
+use Rattle.std.specs.List.{range_with_len, prefix_len}
+use Rattle.std.proofs.lemmas.List.Folds.{length-prefix_len}
+use Rattle.keymap_core.specs.Accents.{AllBasesNotZero}
+use Rattle.keymap_tables.proofs.Lifting.{row-past, number-clean, none-past}
+use Rattle.keymap_tables.proofs.Numbers.{AreBytes, number-read, number-back, same-number, zeros-behind}
+use Rattle.keymap_tables.proofs.Rows.{length-rows, length-all, filled-row, rows-clean, rows-read, same-rows}
+use Rattle.keymap_tables.proofs.Sizes.{All-at, row-inside, some-number, zero-fits, accent-some, accent-blank}
+use Rattle.keymap_tables.proofs.Sizes.{length-number}
+use Rattle.keymap_tables.proofs.SlotImages.{char-sound}
 
--- what follows the own character
-abbrev tail_of : Layout → AccentValue → List ℕ
-tail_of l accent = flat_map (pair_bytes l) accent.pairs ++ zeros (pair_size l * (52 - length accent.pairs))
+-- how many numbers from a on pass a test, of those below a + k
+pub prefix_len-range : (test : ℕ → Bool) (a n k : ℕ) → n ≤ k → ((i : ℕ) → i < n → test (a + i) ≡ true)
+    → (n < k → test (a + n) ≡ false) → prefix_len test (range_with_len a k) ≡ n
+prefix_len-range test a zero zero few passing stops = refl
+prefix_len-range test a zero (suc k) few passing stops =
+    let here : test a ≡ false = subst (λ (v : ℕ). test v ≡ false) (add-zero a) (stops (omega arith)) in
+    rw here refl
+prefix_len-range test a (suc n) zero few passing stops = absurd (omega arith)
+prefix_len-range test a (suc n) (suc k) few passing stops =
+    let here : test a ≡ true = subst (λ (v : ℕ). test v ≡ true) (add-zero a) (passing 0 (omega arith)) in
+    let next : (i : ℕ) → a + suc i ≡ (a + 1) + i = λ i. omega arith in
+    let rest : prefix_len test (range_with_len (a + 1) k) ≡ n =
+    prefix_len-range test (a + 1) n k (omega arith)
+    (λ i below. subst (λ (v : ℕ). test v ≡ true) (next i) (passing (suc i) (omega arith)))
+    (λ below. subst (λ (v : ℕ). test v ≡ false) (next n) (stops (omega arith))) in
+    rw (here, rest) (omega arith)
 
--- the bytes of an accent are its own number and its tail
-accent-parts : (l : Layout) (accent : AccentValue)
-    → accent_bytes l accent ≡ number_bytes l accent.own ++ tail_of l accent
-accent-parts l accent =
-    append_assoc (number_bytes l accent.own) (flat_map (pair_bytes l) accent.pairs)
-    (zeros (pair_size l * (52 - length accent.pairs)))
+is_some_base : (n : ℕ) → n ≢ 0 → not (n == 0) ≡ true
+is_some_base n some = grind (arith, nat_tests)
 
-length-pair : (l : Layout) (pair : ℕ × ℕ) → length (pair_bytes l pair) ≡ pair_size l
-length-pair Wide pair = refl
-length-pair Narrow pair = refl
+is_no_base : (n : ℕ) → n ≡ 0 → not (n == 0) ≡ false
+is_no_base n none = rw none refl
 
--- the bytes of each pair have the size of a pair
-pairs-sized : (l : Layout) (pairs : List (ℕ × ℕ)) → All (λ pair. length (pair_bytes l pair) ≡ pair_size l) pairs
-pairs-sized l pairs k d below = length-pair l (get_or pairs k d)
+from_zero : (i : ℕ) → i ≡ 0 + i
+from_zero i = omega arith
 
-length-pairs : (l : Layout) (pairs : List (ℕ × ℕ)) → length (flat_map (pair_bytes l) pairs) ≡ pair_size l * length pairs
-length-pairs l pairs = length-rows (pair_bytes l) (pair_size l) pairs (pairs-sized l pairs)
+-- the pairs that were counted
+pub pairs-counted : (l : Layout) (bytes : List ℕ) (n : ℕ) → n ≤ 52 → ((pair : ℕ) → pair < n → base_at l bytes pair ≢ 0)
+    → (n < 52 → base_at l bytes n ≡ 0) → n ≡ pairs_in l bytes
+unfolding pairs_in
+pairs-counted l bytes n few some none =
+    let test : ℕ → Bool = λ pair. not (base_at l bytes pair == 0) in
+    let count : prefix_len test (range_with_len 0 52) ≡ n =
+    prefix_len-range test 0 n 52 few
+    (λ i below. subst (λ (v : ℕ). test v ≡ true) (from_zero i) (is_some_base (base_at l bytes i) (some i below)))
+    (λ below. subst (λ (v : ℕ). test v ≡ false) (from_zero n) (is_no_base (base_at l bytes n) (none below))) in
+    sym (length-prefix_len test (range_with_len 0 52) ∙ count)
 
--- the bytes of an accent have the size of an accent
-pub length-accent_bytes : (l : Layout) (accent : AccentValue) → IsAccent accent
-    → length (accent_bytes l accent) ≡ accent_size l
-length-accent_bytes l accent known =
-    let n = length accent.pairs in
-    let tail : length (tail_of l accent)
-    ≡ pair_size l * length accent.pairs + pair_size l * (52 - length accent.pairs) =
-    length-append (flat_map (pair_bytes l) accent.pairs) (zeros (pair_size l * (52 - length accent.pairs)))
-    ∙ omega (
-      arith,
-      length-pairs l accent.pairs,
-      length-replicate {A = ℕ} (pair_size l * (52 - length accent.pairs)) 0,
-    ) in
-    let whole : length (accent_bytes l accent) ≡ number_size l + length (tail_of l accent) =
-    ap length (accent-parts l accent) ∙ length-append (number_bytes l accent.own) (tail_of l accent)
-    ∙ ap (λ (k : ℕ). k + length (tail_of l accent)) (length-number l accent.own) in
-    omega (arith, whole, tail, accent-whole-size l n known.few)
+-- The numbers of an accent.
+abbrev flat : List (ℕ × ℕ) → List ℕ
+flat pairs = flat_map (λ pair. pair.0 ∷ pair.1 ∷ []) pairs
 
--- The bytes of a number and from a pair on.
-from-own : (l : Layout) (accent : AccentValue) → drop (number_size l) (accent_bytes l accent) ≡ tail_of l accent
-from-own l accent =
-    ap (drop (number_size l)) (accent-parts l accent)
-    ∙ drop_at (number_bytes l accent.own) (tail_of l accent) (number_size l) (length-number l accent.own)
+length-flat : (pairs : List (ℕ × ℕ)) → length (flat pairs) ≡ 2 * length pairs
+length-flat [] = refl
+length-flat (p ∷ pairs) = omega (arith, length-flat pairs)
 
--- from the pair i on, the bytes of an accent are those of its tail
-from-pair : (l : Layout) (accent : AccentValue) (i : ℕ)
-    → drop (number_size l + pair_size l * i) (accent_bytes l accent) ≡ drop (pair_size l * i) (tail_of l accent)
-from-pair l accent i =
-    sym (drop-drop (pair_size l * i) (number_size l) (accent_bytes l accent))
-    ∙ ap (drop (pair_size l * i)) (from-own l accent)
+-- as many as the pairs have, and its own
+pub length-numbers : (accent : AccentValue) → length (numbers_of accent) ≡ 1 + 2 * length accent.pairs
+length-numbers accent = omega (arith, length-flat accent.pairs)
 
--- the bytes at the place of the pair i are those of that pair
-pair-at : (l : Layout) (accent : AccentValue) (i : ℕ) (d : ℕ × ℕ) → i < length accent.pairs
-    → take (pair_size l) (drop (number_size l + pair_size l * i) (accent_bytes l accent))
-    ≡ pair_bytes l (get_or accent.pairs i d)
-pair-at l accent i d below =
-    ap (take (pair_size l)) (from-pair l accent i)
-    ∙ row-in (pair_bytes l) (pair_size l) accent.pairs (zeros (pair_size l * (52 - length accent.pairs))) i d
-    (pairs-sized l accent.pairs) below
+-- behind its own each pair has two: the base, and the result
+pub number-base : (own : ℕ) (pairs : List (ℕ × ℕ)) (i : ℕ)
+    → get_or (own ∷ flat pairs) (1 + 2 * i) 0 ≡ (get_or pairs i (0, 0)).0
+number-base own [] i = get_or_past (own ∷ []) (1 + 2 * i) 0 (omega arith)
+number-base own (p ∷ pairs) zero = refl
+number-base own (p ∷ pairs) (suc i) =
+    let further : 1 + 2 * suc i ≡ suc (suc (1 + 2 * i)) = omega arith in
+    ap (λ (k : ℕ). get_or (own ∷ flat (p ∷ pairs)) k 0) further ∙ number-base p.1 pairs i
 
--- a pair has two numbers
-twice : (l : Layout) → pair_size l ≡ number_size l + number_size l
-twice l = omega arith
+pub number-result : (own : ℕ) (pairs : List (ℕ × ℕ)) (i : ℕ)
+    → get_or (own ∷ flat pairs) (2 + 2 * i) 0 ≡ (get_or pairs i (0, 0)).1
+number-result own [] i = get_or_past (own ∷ []) (2 + 2 * i) 0 (omega arith)
+number-result own (p ∷ pairs) zero = refl
+number-result own (p ∷ pairs) (suc i) =
+    let further : 2 + 2 * suc i ≡ suc (suc (2 + 2 * i)) = omega arith in
+    ap (λ (k : ℕ). get_or (own ∷ flat (p ∷ pairs)) k 0) further ∙ number-result p.1 pairs i
 
--- the base read at the place of the pair i is the pair's base
-pub base-in : (l : Layout) (accent : AccentValue) (i : ℕ) (d : ℕ × ℕ) → i < length accent.pairs
-    → PairFits l (get_or accent.pairs i d) → base_at l (accent_bytes l accent) i ≡ (get_or accent.pairs i d).0
-base-in l accent i d below fits =
-    let s = number_size l in
-    let pair = get_or accent.pairs i d in
-    let bytes = drop (number_size l + pair_size l * i) (accent_bytes l accent) in
-    let first : take s bytes ≡ number_bytes l pair.0 =
-    sym (take-take s (pair_size l) bytes (omega arith)) ∙ ap (take s) (pair-at l accent i d below)
-    ∙ take_at (number_bytes l pair.0) (number_bytes l pair.1) s (length-number l pair.0) in
-    ap (from_le_bytes (number_width l)) first ∙ number-back l pair.0 fits.0
+flat-known : (pairs : List (ℕ × ℕ)) → All IsPair pairs → All IsScalar (flat pairs)
+flat-known [] known = All-nil IsScalar
+flat-known (p ∷ pairs) known =
+    let is = All-head IsPair p pairs known in
+    All-cons IsScalar p.0 (p.1 ∷ flat pairs) is.0
+    (All-cons IsScalar p.1 (flat pairs) is.2 (flat-known pairs (All-tail IsPair p pairs known)))
 
--- the number read behind that base is the pair's result
-pub result-in : (l : Layout) (accent : AccentValue) (i : ℕ) (d : ℕ × ℕ) → i < length accent.pairs
-    → PairFits l (get_or accent.pairs i d)
-    → number_at l (accent_bytes l accent) (number_size l + pair_size l * i + number_size l)
-    ≡ (get_or accent.pairs i d).1
-result-in l accent i d below fits =
-    let s = number_size l in
-    let pair = get_or accent.pairs i d in
-    let at = number_size l + pair_size l * i in
-    let bytes = drop at (accent_bytes l accent) in
-    let second : take s (drop (at + s) (accent_bytes l accent)) ≡ number_bytes l pair.1 =
-    ap (take s) (sym (drop-drop s at (accent_bytes l accent))) ∙ sym (drop-take s s bytes)
-    ∙ ap (λ (k : ℕ). drop s (take k bytes)) (sym (twice l))
-    ∙ ap (drop s) (pair-at l accent i d below)
-    ∙ drop_at (number_bytes l pair.0) (number_bytes l pair.1) s (length-number l pair.0) in
-    ap (from_le_bytes (number_width l)) second ∙ number-back l pair.1 fits.1
+-- those of a known accent are characters
+pub numbers-known : (accent : AccentValue) → IsAccent accent → All IsScalar (numbers_of accent)
+numbers-known accent known =
+    All-cons IsScalar accent.own (flat accent.pairs) known.own (flat-known accent.pairs known.pairs)
 
--- the number read at the start is the accent's own character
-pub own-in : (l : Layout) (accent : AccentValue) → accent.own < number_limit l
-    → number_at l (accent_bytes l accent) 0 ≡ accent.own
-own-in l accent fits =
-    let first : take (number_size l) (accent_bytes l accent) ≡ number_bytes l accent.own =
-    ap (take (number_size l)) (accent-parts l accent)
-    ∙ take_at (number_bytes l accent.own) (tail_of l accent) (number_size l) (length-number l accent.own) in
-    ap (from_le_bytes (number_width l)) first ∙ number-back l accent.own fits
+-- an accent of characters is known, where its bases are
+pub accent-known : (accent : AccentValue) → ((k : ℕ) → k < length (numbers_of accent) → IsScalar (number_in accent k))
+    → length accent.pairs ≤ 52 → AllBasesNotZero accent.pairs → IsAccent accent
+accent-known accent known few bases =
+    let is = λ (k : ℕ) (n : ℕ) (below : k < 1 + 2 * length accent.pairs) (same : number_in accent k ≡ n).
+    subst IsScalar same (known k (omega (arith, length-numbers accent, below))) in
+    record {
+      own = known 0 (omega arith);
+      few = few;
+      pairs = All-from_get_or IsPair accent.pairs (0, 0) (λ i below. (
+        is (1 + 2 * i) _ (omega arith) (number-base accent.own accent.pairs i),
+        All-get_or (λ p. p.0 ≢ 0) accent.pairs i (0, 0) below bases,
+        is (2 + 2 * i) _ (omega arith) (number-result accent.own accent.pairs i),
+      ));
+    }
 
--- after the pairs there is a base 0
-zero-number : (l : Layout) → from_le_bytes (number_width l) (zeros (number_size l)) ≡ 0
-zero-number Wide = refl
-zero-number Narrow = refl
+same-flat : (xs ys : List (ℕ × ℕ)) → flat xs ≡ flat ys → xs ≡ ys
+same-flat [] [] same = refl
+same-flat [] (q ∷ ys) same = cc
+same-flat (p ∷ xs) [] same = cc
+same-flat (p ∷ xs) (q ∷ ys) same =
+    let first : p.0 ≡ q.0 = cc in
+    let second : p.1 ≡ q.1 = cc in
+    let rest : flat xs ≡ flat ys = cc in
+    ap (λ (v : ℕ). (v, p.1) ∷ xs) first ∙ ap (λ (v : ℕ). (q.0, v) ∷ xs) second
+    ∙ ap (λ (v : List (ℕ × ℕ)). q ∷ v) (same-flat xs ys rest)
 
--- where fewer than 52 pairs are used, there is room for a number
-room-left : (l : Layout) (n : ℕ) → n < 52 → number_size l ≤ pair_size l * (52 - n)
-room-left Wide n room = omega arith
-room-left Narrow n room = omega arith
+-- one more pair
+pub flat-push : (own : ℕ) (pairs : List (ℕ × ℕ)) (p : ℕ × ℕ)
+    → own ∷ flat (pairs ++ p ∷ []) ≡ ((own ∷ flat pairs) ++ p.0 ∷ []) ++ p.1 ∷ []
+flat-push own pairs p =
+    ap (λ (v : List ℕ). own ∷ v) (flat_map-append (λ pair. pair.0 ∷ pair.1 ∷ []) pairs (p ∷ [])
+    ∙ sym (append_assoc (flat pairs) (p.0 ∷ []) (p.1 ∷ [])))
 
--- the base read behind the last pair is 0
-pub no-base : (l : Layout) (accent : AccentValue) → length accent.pairs < 52
-    → base_at l (accent_bytes l accent) (length accent.pairs) ≡ 0
-no-base l accent room =
-    let n = length accent.pairs in
-    let left = pair_size l * (52 - length accent.pairs) in
-    let behind : drop (pair_size l * length accent.pairs) (tail_of l accent)
-    ≡ zeros (pair_size l * (52 - length accent.pairs)) =
-    drop_at (flat_map (pair_bytes l) accent.pairs) (zeros (pair_size l * (52 - length accent.pairs)))
-    (pair_size l * length accent.pairs) (length-pairs l accent.pairs) in
-    let first : take (number_size l) (drop (number_size l + pair_size l * length accent.pairs) (accent_bytes l accent))
-    ≡ zeros (number_size l) =
-    ap (take (number_size l)) (from-pair l accent n ∙ behind)
-    ∙ take-replicate (number_size l) left 0 (room-left l n room) in
-    ap (from_le_bytes (number_width l)) first ∙ zero-number l
+-- they give the accent
+numbers-one : (x y : AccentValue) → numbers_of x ≡ numbers_of y → x ≡ y
+numbers-one x y same =
+    let own : x.own ≡ y.own = cc in
+    let rest : flat x.pairs ≡ flat y.pairs = cc in
+    ap (λ (v : ℕ). record x { own = v }) own
+    ∙ ap (λ (v : List (ℕ × ℕ)). record y { pairs = v }) (same-flat x.pairs y.pairs rest)
 
--- the pairs found in the bytes of an accent are as many as it has
-pairs-of : (l : Layout) (accent : AccentValue) → IsAccent accent → AccentFits l accent
-    → length accent.pairs ≡ pairs_in l (accent_bytes l accent)
-pairs-of l accent known fits =
-    pairs-counted l (accent_bytes l accent) (length accent.pairs) known.few
-    (λ i below none. let is = All-get_or IsPair accent.pairs i (0, 0) below known.pairs in
-    is.1 (sym (base-in l accent i (0, 0) below (All-get_or (PairFits l) accent.pairs i (0, 0) below fits.1)) ∙ none))
-    (no-base l accent)
+-- Their bytes.
+number-blank : (l : Layout) → number_bytes l 0 ≡ zeros (number_size l)
+number-blank Wide = refl
+number-blank Narrow = refl
 
--- no fault up to a pair
-sound-upto : (l : Layout) (accent : AccentValue) → IsAccent accent → AccentFits l accent → (i : ℕ)
-    → i ≤ length accent.pairs → HasNoFault (accent_fault l (accent_bytes l accent)) (number_size l + pair_size l * i)
-sound-upto l accent known fits zero few =
-    let own : char_fault (number_at l (accent_bytes l accent) 0) ≡ None =
-    ap char_fault (own-in l accent fits.0) ∙ char-sound accent.own known.own in
-    let first =
-    accent-more l (accent_bytes l accent) (length accent.pairs) 0 (pairs-of l accent known fits)
-    (omega (arith, some-number l)) (none-over l) (λ p below. absurd (omega arith)) own in
-    λ p below. first p (omega (arith, below, mul-zero (pair_size l)))
-sound-upto l accent known fits (suc i) few =
-    let bytes = accent_bytes l accent in
-    let n = length accent.pairs in
-    let here = number_size l + pair_size l * i in
-    let below : i < length accent.pairs = omega arith in
-    let is = All-get_or IsPair accent.pairs i (0, 0) below known.pairs in
-    let small = All-get_or (PairFits l) accent.pairs i (0, 0) below fits.1 in
-    let next : pair_size l * suc i ≡ pair_size l * i + number_size l + number_size l =
-    ap (λ (k : ℕ). pair_size l * k) (omega arith) ∙ pair-next l i in
-    let base : char_fault (number_at l bytes (number_size l + pair_size l * i)) ≡ None =
-    ap char_fault (base-in l accent i (0, 0) below small) ∙ char-sound (get_or accent.pairs i (0, 0)).0 is.0 in
-    let composed : char_fault (number_at l bytes (number_size l + pair_size l * i + number_size l)) ≡ None =
-    ap char_fault (result-in l accent i (0, 0) below small) ∙ char-sound (get_or accent.pairs i (0, 0)).1 is.2 in
-    let counted = pairs-of l accent known fits in
-    let first =
-    accent-more l bytes n here counted (pair-below l n i below) (pair-begins l i)
-    (sound-upto l accent known fits i (omega arith)) base in
-    let second =
-    accent-more l bytes n (here + number_size l) counted (result-below l n i below) (result-begins l i) first
-    composed in
-    λ p inside. second p (omega (arith, inside, next))
+module _ (l : Layout) (accent : AccentValue) (is : IsAccentIn l accent) where
+  sized : All (λ n. length (number_bytes l n) ≡ number_size l) (numbers_of accent)
+  sized k d below = length-number l (get_or (numbers_of accent) k d)
 
--- the bytes of an accent that fits have no fault
-pub accent_bytes-sound : (l : Layout) (accent : AccentValue) → IsAccent accent → AccentFits l accent
-    → HasNoFault (accent_fault l (accent_bytes l accent)) (accent_size l)
-accent_bytes-sound l accent known fits =
-    let front = number_bytes l accent.own ++ flat_map (pair_bytes l) accent.pairs in
-    let n = length accent.pairs in
-    let long : length (number_bytes l accent.own ++ flat_map (pair_bytes l) accent.pairs)
-    ≡ number_size l + pair_size l * length accent.pairs =
-    length-append (number_bytes l accent.own) (flat_map (pair_bytes l) accent.pairs)
-    ∙ omega (arith, length-pairs l accent.pairs, length-number l accent.own) in
-    none-past NotEmpty (accent_fault l (accent_bytes l accent)) (accent_bytes l accent)
-    (number_size l + pair_size l * length accent.pairs) (accent_size l)
-    (λ p past inside. accent-past l (accent_bytes l accent) n p (pairs-of l accent known fits) past)
-    (sound-upto l accent known fits n (omega arith))
-    (λ p past. zeros-behind front (pair_size l * (52 - length accent.pairs)) p (omega (arith, long, past)))
+  few : length (numbers_of accent) ≤ 105
+  few = omega (arith, length-numbers accent, is.0.few)
 
--- an accent of its character and pairs
-accent_of : ℕ → List (ℕ × ℕ) → AccentValue
-accent_of own pairs = record { own = own; pairs = pairs }
+  length-accent_bytes : length (accent_bytes l accent) ≡ accent_size l
+  length-accent_bytes = length-all (number_bytes l) (number_size l) 105 (numbers_of accent) sized few
 
--- pairs are the same where their parts are
-same-pair : (p q : ℕ × ℕ) → p.0 ≡ q.0 → p.1 ≡ q.1 → p ≡ q
-same-pair p q first second = ap (λ (v : ℕ). (v, p.1)) first ∙ ap (λ (v : ℕ). (q.0, v)) second
+  small : (k : ℕ) → get_or (numbers_of accent) k 0 < number_limit l
+  small k = All-at (λ n. n < number_limit l) (numbers_of accent) 0 k (zero-fits l) is.1
+
+  -- each number stands at its place, and 0 behind them
+  pub number-in : (k : ℕ) → k < 105
+      → number_at l (accent_bytes l accent) (number_size l * k) ≡ get_or (numbers_of accent) k 0
+  number-in k below =
+      ap (from_le_bytes (number_width l))
+      (filled-row (number_bytes l) (number_size l) 0 105 (numbers_of accent) k sized (number-blank l) few below)
+      ∙ number-back l (get_or (numbers_of accent) k 0) (small k)
+
+  pub base-in : (i : ℕ) → i < 52 → base_at l (accent_bytes l accent) i ≡ (get_or accent.pairs i (0, 0)).0
+  base-in i below = number-in (1 + 2 * i) (omega arith) ∙ number-base accent.own accent.pairs i
+
+  pub result-in : (i : ℕ) → i < 52
+      → number_at l (accent_bytes l accent) (number_size l * (2 + 2 * i)) ≡ (get_or accent.pairs i (0, 0)).1
+  result-in i below = number-in (2 + 2 * i) (omega arith) ∙ number-result accent.own accent.pairs i
+
+  -- the pairs found in the bytes of an accent are as many as it has
+  pairs-of : length accent.pairs ≡ pairs_in l (accent_bytes l accent)
+  pairs-of =
+      pairs-counted l (accent_bytes l accent) (length accent.pairs) is.0.few
+      (λ i below none. let known = All-get_or IsPair accent.pairs i (0, 0) below is.0.pairs in
+      known.1 (sym (base-in i (omega (arith, is.0.few))) ∙ none))
+      (λ room. base-in (length accent.pairs) room
+      ∙ ap (λ (p : ℕ × ℕ). p.0) (get_or_past accent.pairs (length accent.pairs) (0, 0) (omega arith)))
+
+  -- the bytes of an accent that fits have no fault
+  accent_bytes-sound : HasNoFault (accent_fault l (accent_bytes l accent)) (accent_size l)
+  accent_bytes-sound =
+      let s = number_size l in
+      let bytes = accent_bytes l accent in
+      let n = 1 + 2 * pairs_in l bytes in
+      let counted : 1 + 2 * pairs_in l (accent_bytes l accent) ≡ length (numbers_of accent) =
+      omega (arith, length-numbers accent, pairs-of) in
+      let long : length (flat_map (number_bytes l) (numbers_of accent))
+      ≡ number_size l * (1 + 2 * pairs_in l (accent_bytes l accent)) =
+      length-rows (number_bytes l) (number_size l) (numbers_of accent) sized
+      ∙ ap (λ (k : ℕ). number_size l * k) (sym counted) in
+      none-past NotEmpty (accent_fault l bytes) bytes (s * n) (accent_size l)
+      (λ p past inside. row-past (λ i. number_fault (number_width l) char_fault) s n (zero_fault NotEmpty bytes) bytes p
+      (some-number l) past)
+      (rows-clean (number_bytes l) s (λ i. number_fault (number_width l) char_fault) n (zero_fault NotEmpty bytes)
+      (numbers_of accent) (zeros (s * (105 - length (numbers_of accent)))) 0 (some-number l) counted sized
+      (λ i below. number-clean (number_width l) char_fault (number_bytes l (get_or (numbers_of accent) i 0)) s
+      (ap char_fault (number-back l (get_or (numbers_of accent) i 0) (small i))
+      ∙ char-sound (get_or (numbers_of accent) i 0)
+      (All-get_or IsScalar (numbers_of accent) i 0 below (numbers-known accent is.0)))))
+      (λ p past. zeros-behind (flat_map (number_bytes l) (numbers_of accent))
+      (s * (105 - length (numbers_of accent))) p (omega (arith, long, past)))
 
 -- accents that fit are the same where their bytes are
-pub same-accent : (l : Layout) (x y : AccentValue) → IsAccent x × AccentFits l x → IsAccent y × AccentFits l y
+pub same-accent : (l : Layout) (x y : AccentValue) → IsAccentIn l x → IsAccentIn l y
     → accent_bytes l x ≡ accent_bytes l y → x ≡ y
-unfolding accent_of
 same-accent l x y known also same =
-    let own : x.own ≡ y.own =
-    sym (own-in l x known.1.0) ∙ ap (λ (v : List ℕ). number_at l v 0) same ∙ own-in l y also.1.0 in
-    let counted : length x.pairs ≡ length y.pairs =
-    pairs-of l x known.0 known.1 ∙ ap (pairs_in l) same ∙ sym (pairs-of l y also.0 also.1) in
-    let pairs : x.pairs ≡ y.pairs = same_lists x.pairs y.pairs counted (λ k d below.
-    let within : k < length y.pairs = omega arith in
-    let small = All-get_or (PairFits l) x.pairs k d below known.1.1 in
-    let too = All-get_or (PairFits l) y.pairs k d within also.1.1 in
-    same-pair (get_or x.pairs k d) (get_or y.pairs k d)
-    (sym (base-in l x k d below small) ∙ ap (λ (v : List ℕ). base_at l v k) same ∙ base-in l y k d within too)
-    (sym (result-in l x k d below small)
-    ∙ ap (λ (v : List ℕ). number_at l v (number_size l + pair_size l * k + number_size l)) same
-    ∙ result-in l y k d within too)) in
-    ap (λ (v : ℕ). accent_of v x.pairs) own ∙ ap (λ (v : List (ℕ × ℕ)). accent_of y.own v) pairs
+    let counted : length (numbers_of x) ≡ length (numbers_of y) =
+    omega (
+      arith,
+      length-numbers x,
+      length-numbers y,
+      pairs-of l x known ∙ ap (pairs_in l) same ∙ sym (pairs-of l y also),
+    ) in
+    numbers-one x y (same-rows (number_bytes l) (number_size l) (λ n. n < number_limit l) (numbers_of x) (numbers_of y)
+    (zeros (number_size l * (105 - length (numbers_of x)))) (zeros (number_size l * (105 - length (numbers_of y))))
+    (same-number l) (sized l x known) (sized l y also) known.1 also.1 counted same)
+
+-- the accents of a table are rows
+pub accents-are : (l : Layout) → AreRows (accent_bytes l) (accent_size l) (accent_fault l) (IsAccentIn l) blank
+accents-are l = record {
+  some = accent-some l;
+  whole = length-accent_bytes l;
+  sound = accent_bytes-sound l;
+  one = same-accent l;
+  empty = accent-blank l;
+}
+
+-- one more pair, read
+pub pair-read : (l : Layout) (bytes : List ℕ) (own : ℕ) (pairs : List (ℕ × ℕ)) (i base composed : ℕ) → AreBytes bytes
+    → length bytes ≡ accent_size l → i < 52
+    → flat_map (number_bytes l) (own ∷ flat pairs) ≡ take (number_size l * (1 + 2 * i)) bytes
+    → base ≡ number_at l bytes (number_size l * (1 + 2 * i))
+    → composed ≡ number_at l bytes (number_size l * (2 + 2 * i))
+    → flat_map (number_bytes l) (own ∷ flat (pairs ++ (base, composed) ∷ []))
+    ≡ take (number_size l * (1 + 2 * (i + 1))) bytes
+pair-read l bytes own pairs i base composed small whole below so_far first second =
+    let s = number_size l in
+    let inside : (k : ℕ) → k < 105 → number_size l * k + number_size l ≤ length bytes =
+    λ k few. omega (arith, row-inside (number_size l) 105 k few) in
+    let next : 1 + 2 * i + 1 ≡ 2 + 2 * i = omega arith in
+    let last : 2 + 2 * i + 1 ≡ 1 + 2 * (i + 1) = omega arith in
+    ap (flat_map (number_bytes l)) (flat-push own pairs (base, composed))
+    ∙ rows-read (number_bytes l) s bytes ((own ∷ flat pairs) ++ base ∷ []) (2 + 2 * i) composed
+    (rows-read (number_bytes l) s bytes (own ∷ flat pairs) (1 + 2 * i) base so_far
+    (number-read l bytes (s * (1 + 2 * i)) base small (inside (1 + 2 * i) (omega arith)) first)
+    ∙ ap (λ (k : ℕ). take (number_size l * k) bytes) next)
+    (number-read l bytes (s * (2 + 2 * i)) composed small (inside (2 + 2 * i) (omega arith)) second)
+    ∙ ap (λ (k : ℕ). take (number_size l * k) bytes) last
+
+-- one more pair fits
+pub pair-fits : (l : Layout) (own : ℕ) (pairs : List (ℕ × ℕ)) (p : ℕ × ℕ)
+    → All (λ n. n < number_limit l) (own ∷ flat pairs) → p.0 < number_limit l → p.1 < number_limit l
+    → All (λ n. n < number_limit l) (own ∷ flat (pairs ++ p ∷ []))
+pair-fits l own pairs p so_far first second =
+    All-same (λ n. n < number_limit l) _ _ (flat-push own pairs p)
+    (All-push (λ n. n < number_limit l) ((own ∷ flat pairs) ++ p.0 ∷ []) p.1
+    (All-push (λ n. n < number_limit l) (own ∷ flat pairs) p.0 so_far first) second)

@@ -1,56 +1,112 @@
--- What is read at the places of a map's image: the counts, and no fault in a slot or an accent.
-use Rattle.std.proofs.Common.{◌≡◌, ◌∙◌, ap, sym, subst, refl, arith, inl, inr, ℕ, ◌<◌, List, length}
-use Rattle.std.proofs.lemmas.Bool.{cases_lt}
-use Rattle.std.proofs.lemmas.List.{get_or_past}
-use Rattle.std.proofs.lemmas.List.Elements.{All-get_or}
-use Rattle.keymap_core.specs.Accents.{AccentValue, blank}
-use Rattle.keymap_core.specs.Bounds.{IsAccent, IsEntry, IsMap}
-use Rattle.keymap_core.specs.Maps.{MapValue, accent_or_blank}
-use Rattle.keymap_tables.specs.Types.{Entry, TableFault}
-use Rattle.keymap_tables.specs.Faults.{IsFirstFault, accent_fault, count_at, slot_fault}
-use Rattle.keymap_tables.specs.Image.{accent_bytes, image, slot_bytes}
-use Rattle.keymap_tables.specs.Layouts.{accent_size, part, slot_size, wide}
-use Rattle.keymap_tables.proofs.AccentImages.{accent_bytes-sound}
-use Rattle.keymap_tables.proofs.Contents.{count-part}
-use Rattle.keymap_tables.proofs.Images.{n_accs-of, n_keys-of}
-use Rattle.keymap_tables.proofs.ReadingLaws.{accent-wide, entry-wide, some_none}
-use Rattle.keymap_tables.proofs.SlotImages.{slot_bytes-sound}
+-- What is read at the places of a map's image.
+use Rattle.keymap_tables.proofs.Common.{◌≡◌, ℕ, ◌+◌, ◌*◌, ◌<◌, ◌≤◌, List, length, take, drop, get_or, refl, sym, ap}
+use Rattle.keymap_tables.proofs.Common.{◌∙◌, arith, rules, subst, add-zero, slice_index, from_le_bytes, w8, get_or-take}
+use Rattle.keymap_tables.proofs.Common.{get_or-drop, get_or-replicate, blank, MapValue, undefined, entry_at}
+use Rattle.keymap_tables.proofs.Common.{accent_or_blank, IsCell, IsEntry, IsAccent, IsMap, Char, Layout, TableFault}
+use Rattle.keymap_tables.proofs.Common.{FaultOf, IsFirstFault, number_at, is_marked_at, count_at, CellFits, EntryFits}
+use Rattle.keymap_tables.proofs.Common.{FitsIn, image, image_in, number_of, is_act, flag_number, AreRows, wide, narrow}
+use Rattle.keymap_tables.proofs.Common.{part, number_width, number_size, slot_size, slots_place}
+use Rattle.keymap_core.specs.Maps.{cell_at}
+use Rattle.keymap_tables.proofs.Images.{count-part, n_keys-of, n_accs-of, part-part, slot-part}
+use Rattle.keymap_tables.proofs.ReadingLaws.{map-wide, some_none}
+use Rattle.keymap_tables.proofs.Sizes.{row-inside, zero-fits, All-at}
+use Rattle.keymap_tables.proofs.SlotImages.{number-in, mark-in, flag-in}
 
 -- the count of slots
 pub keys-counted : (bytes : List ℕ) (n : ℕ) → n ≡ count_at (part bytes 0 4) 0 → (m : MapValue) → IsMap m
     → bytes ≡ image m → n ≡ length m.entries
 keys-counted bytes n read m is same =
-    read ∙ count-part bytes 0 4 (omega arith) ∙ ap (λ (v : List ℕ). count_at v 0) same ∙ sym (n_keys-of wide m is)
+    read ∙ count-part bytes 0 4 (omega arith) ∙ ap (λ (v : List ℕ). count_at v 0) same
+    ∙ n_keys-of wide m is (map-wide m is)
 
 -- the count of accents
 pub accents-counted : (bytes : List ℕ) (n : ℕ) → n ≡ count_at (part bytes 9220 4) 0 → (m : MapValue) → IsMap m
     → bytes ≡ image m → n ≡ length m.accents
 accents-counted bytes n read m is same =
-    read ∙ count-part bytes 9220 4 (omega arith) ∙ ap (λ (v : List ℕ). count_at v 9220) same ∙ sym (n_accs-of wide m is)
+    read ∙ count-part bytes 9220 4 (omega arith) ∙ ap (λ (v : List ℕ). count_at v 9220) same
+    ∙ n_accs-of wide m is (map-wide m is)
 
--- the bytes of a known entry have no fault
-pub slot-faultless : (entry : Entry) (bytes : List ℕ) (f : TableFault) → IsEntry entry → bytes ≡ slot_bytes wide entry
-    → IsFirstFault (slot_fault wide bytes) f × (f.offset < slot_size wide) → ⊥
-slot-faultless entry bytes f known same fault =
-    some_none f.kind (slot_fault wide bytes f.offset) fault.0.here
-    (ap (λ (v : List ℕ). slot_fault wide v f.offset) same
-    ∙ slot_bytes-sound wide entry known (entry-wide entry known) f.offset fault.1)
+-- the image of a row has no fault
+pub faultless : {X : Type 0} {f : X → List ℕ} {size : ℕ} {fault_in : List ℕ → FaultOf} {Is : X → Type 0} {d : X}
+    → AreRows f size fault_in Is d → (x : X) (bytes : List ℕ) (g : TableFault) → Is x → bytes ≡ f x
+    → IsFirstFault (fault_in bytes) g × (g.offset < size) → ⊥
+faultless {fault_in = fault_in} rows x bytes g is same fault =
+    some_none g.kind (fault_in bytes g.offset) fault.0.here
+    (ap (λ (v : List ℕ). fault_in v g.offset) same ∙ rows.sound x is g.offset fault.1)
 
--- the bytes of a known accent have no fault
-pub accent-faultless : (accent : AccentValue) (bytes : List ℕ) (f : TableFault) → IsAccent accent
-    → bytes ≡ accent_bytes wide accent → IsFirstFault (accent_fault wide bytes) f × (f.offset < accent_size wide) → ⊥
-accent-faultless accent bytes f known same fault =
-    some_none f.kind (accent_fault wide bytes f.offset) fault.0.here
-    (ap (λ (v : List ℕ). accent_fault wide v f.offset) same
-    ∙ accent_bytes-sound wide accent known (accent-wide accent known) f.offset fault.1)
-
-blank-known : IsAccent blank
+-- a blank accent is known
+pub blank-known : IsAccent blank
 blank-known = record { own = refl; few = omega arith; pairs = λ k d below. absurd (omega (arith, below)) }
 
 -- each accent of a map is known, and so is a blank one
 pub accent-known : (m : MapValue) → IsMap m → (i : ℕ) → IsAccent (accent_or_blank m i)
-accent-known m is i =
-    elim (cases_lt i (length m.accents)) [
-      | inl used ↦ All-get_or IsAccent m.accents i blank used is.accents
-      | inr past ↦ subst IsAccent (sym (get_or_past m.accents i blank past)) blank-known
-    ]
+accent-known m is i = All-at IsAccent m.accents blank i blank-known is.accents
+
+-- a byte of a part is the byte of the whole at the part's place
+pub byte-in-part : (bytes : List ℕ) (a n i : ℕ) → i < n → slice_index (part bytes a n) i ≡ slice_index bytes (a + i)
+byte-in-part bytes a n i inside = get_or-take n (drop a bytes) i 0 inside ∙ get_or-drop a bytes i 0
+
+zero-known : IsCell (Char 0)
+zero-known = search rules
+
+-- an undefined entry is known
+pub undefined-known : IsEntry undefined
+undefined-known = record {
+  eight = refl;
+  cells = λ k d below. subst IsCell (sym (get_or-replicate 8 k (Char 0) d below)) zero-known;
+}
+
+-- an undefined entry fits
+pub undefined-fits : (l : Layout) → EntryFits l undefined
+undefined-fits l k d below = subst (CellFits l) (sym (get_or-replicate 8 k (Char 0) d below)) (zero-fits l)
+
+-- each entry of a map is known
+pub entry-known : (m : MapValue) → IsMap m → (s : ℕ) → IsEntry (entry_at m s)
+entry-known m is s = All-at IsEntry m.entries undefined s undefined-known is.entries
+
+-- each entry of a map that fits, fits
+pub entry-fits : (l : Layout) (m : MapValue) → FitsIn l m → (s : ℕ) → EntryFits l (entry_at m s)
+entry-fits l m fits s = All-at (EntryFits l) m.entries undefined s (undefined-fits l) fits.entries
+
+-- the number of each column lies in its slot
+cell-in-slot : (l : Layout) (column : ℕ) → column < 8 → number_size l * column + number_size l ≤ slot_size l
+cell-in-slot l column inside = omega (arith, row-inside (number_size l) 8 column inside)
+
+-- the number and the mark of a cell, and the flag
+pub cell-number : (l : Layout) (m : MapValue) → IsMap m → FitsIn l m → (s column : ℕ) → s < 256 → column < 8
+    → number_at l (image_in l m) (slots_place l + slot_size l * s + number_size l * column)
+    ≡ number_of (cell_at m s column)
+cell-number l m is fits s column below inside =
+    ap (from_le_bytes (number_width l))
+    (sym (part-part (image_in l m) (slots_place l + slot_size l * s) (slot_size l) (number_size l * column)
+    (number_size l) (cell-in-slot l column inside)))
+    ∙ ap (λ (v : List ℕ). number_at l v (number_size l * column)) (slot-part l m is fits s below)
+    ∙ number-in l (entry_at m s) (Char 0) column (entry-known m is s) (entry-fits l m fits s) inside
+
+-- the mark read at a slot's place tells whether the cell is an action
+pub cell-mark : (l : Layout) (m : MapValue) → IsMap m → FitsIn l m → (s column : ℕ) → s < 256 → column < 8
+    → is_marked_at l (part (image_in l m) (slots_place l + slot_size l * s) (slot_size l)) column
+    ≡ is_act (cell_at m s column)
+cell-mark l m is fits s column below inside =
+    ap (λ (v : List ℕ). is_marked_at l v column) (slot-part l m is fits s below)
+    ∙ mark-in l (entry_at m s) (Char 0) column (entry-known m is s) inside
+
+-- the flag read at a slot's place is the entry's
+pub slot-flag-at : (l : Layout) (m : MapValue) → IsMap m → FitsIn l m → (s : ℕ) → s < 256
+    → slice_index (image_in l m) (slots_place l + slot_size l * s + (8 * number_size l + 1))
+    ≡ flag_number (entry_at m s).flag
+slot-flag-at l m is fits s below =
+    sym (byte-in-part (image_in l m) (slots_place l + slot_size l * s) (slot_size l) (8 * number_size l + 1)
+    (omega arith))
+    ∙ ap (λ (v : List ℕ). slice_index v (8 * number_size l + 1)) (slot-part l m is fits s below)
+    ∙ flag-in l (entry_at m s) (entry-known m is s)
+
+-- a number of one byte
+first-byte : (bytes : List ℕ) → from_le_bytes w8 bytes ≡ get_or bytes 0 0
+first-byte bytes = omega arith
+
+-- a narrow number is one byte
+pub number-byte : (bytes : List ℕ) (at : ℕ) → number_at narrow bytes at ≡ slice_index bytes at
+number-byte bytes at =
+    first-byte (take 1 (drop at bytes)) ∙ get_or-take 1 (drop at bytes) 0 0 (omega arith) ∙ get_or-drop at bytes 0 0
+    ∙ ap (λ (k : ℕ). get_or bytes k 0) (add-zero at)

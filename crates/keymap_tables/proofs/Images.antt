@@ -1,255 +1,297 @@
--- The image of a map that fits: it has no fault, and gives the map.
-use Rattle.std.proofs.Common.{◌≡◌, ℕ, ◌+◌, ◌-◌, ◌*◌, ◌≤◌, List, ◌++◌, length, take, drop, get_or, None, sym, ap, ◌∙◌}
-use Rattle.std.proofs.Common.{subst, arith, inl, inr, append_assoc, length-append}
-use Rattle.std.specs.Prelude.{All}
-use Rattle.std.specs.List.{flat_map}
-use Rattle.std.specs.Int.{to_le_bytes, w16}
-use Rattle.std.proofs.lemmas.Bool.{cases_lt}
-use Rattle.std.proofs.lemmas.List.{take_at, drop_at, drop-drop, length-replicate, take_all}
-use Rattle.std.proofs.lemmas.List.Elements.{All-get_or}
-use Rattle.std.proofs.lemmas.Nat.{from_le_bytes-to_le_bytes_2}
-use Rattle.keymap_core.specs.Accents.{AccentValue, blank}
-use Rattle.keymap_core.specs.Maps.{MapValue, undefined}
-use Rattle.keymap_tables.specs.Types.{Entry, Layout, Wide, Narrow}
-use Rattle.keymap_core.specs.Bounds.{IsEntry, IsAccent, IsMap}
-use Rattle.keymap_tables.specs.Faults.{count_at, count_fault, slot_fault, accent_fault, row_fault, content_fault}
-use Rattle.keymap_tables.specs.Faults.{fault_at}
-use Rattle.keymap_tables.specs.Inner.Firsts.{HasNoFault}
-use Rattle.keymap_tables.specs.Fits.{EntryFits, AccentFits, FitsIn}
-use Rattle.keymap_tables.specs.Image.{image_in, count_bytes, slot_bytes, slots_bytes, accent_bytes, accents_bytes}
-use Rattle.keymap_tables.specs.Image.{zeros}
-use Rattle.keymap_tables.specs.Layouts.{part, pad_size, count_size, slot_size, slots_place, slots_size, n_accs_place}
-use Rattle.keymap_tables.specs.Layouts.{accents_place, accent_size, accents_size, file_size}
-use Rattle.keymap_tables.proofs.AccentImages.{length-accent_bytes, accent_bytes-sound, same-accent}
-use Rattle.keymap_tables.proofs.Contents.{count-part, content-past, fault-content, sound-n_keys, sound-slots}
-use Rattle.keymap_tables.proofs.Contents.{sound-n_accs, sound-accents}
-use Rattle.keymap_tables.proofs.Pads.{count-none}
-use Rattle.keymap_tables.proofs.RowImages.{IsSized, length-rows, sound-rows, same-rows, zeros-behind}
-use Rattle.keymap_tables.proofs.Sizes.{length-count, slot-some, accent-some, rows-size}
-use Rattle.keymap_tables.proofs.SlotImages.{length-slot_bytes, slot_bytes-sound, same-entry}
-use Rattle.keymap_tables.proofs.Whole.{image-parts, map_of}
+-- Tables of rows, and the image of a map that fits: it has no fault, and gives the map.
+use Rattle.keymap_tables.proofs.Common.{◌≡◌, ℕ, ◌+◌, ◌-◌, ◌*◌, ◌^◌, ◌<◌, ◌≤◌, ◌==◌, List, ◌++◌, length, take, drop}
+use Rattle.keymap_tables.proofs.Common.{get_or, None, Some, cond, true, false, refl, sym, ap, ◌∙◌, subst, arith, inl}
+use Rattle.keymap_tables.proofs.Common.{inr, length-append, All, flat_map, from_le_bytes, w16, cases_lt, lt-ltb, le-ltb}
+use Rattle.keymap_tables.proofs.Common.{nat_tests, take_at, drop_at, drop-drop, All-get_or, All-weaker, AccentValue}
+use Rattle.keymap_tables.proofs.Common.{IsEntry, IsAccent, IsMap, MapValue, entry_at, accent_or_blank, Entry, Layout}
+use Rattle.keymap_tables.proofs.Common.{BadPad, NotEmpty, TableFault, FaultOf, IsFirstFault, number_fault, zero_fault}
+use Rattle.keymap_tables.proofs.Common.{count_at, count_fault, used_fault, table_fault, slot_fault, accent_fault}
+use Rattle.keymap_tables.proofs.Common.{fault_at, EntryFits, AccentFits, FitsIn, count_bytes, rows_bytes, table_bytes}
+use Rattle.keymap_tables.proofs.Common.{slot_bytes, accent_bytes, image_in, zeros, HasNoFault, AreRows, IsEntryIn}
+use Rattle.keymap_tables.proofs.Common.{IsAccentIn, part, pad_size, count_size, slot_size, slots_place, accent_size}
+use Rattle.keymap_tables.proofs.Common.{n_accs_place}
+use Rattle.std.proofs.lemmas.List.{take-take, drop-take}
+use Rattle.keymap_tables.specs.Types.{Short, Long}
+use Rattle.keymap_tables.specs.Faults.{count_over, content_fault}
+use Rattle.keymap_tables.specs.Layouts.{accents_place, file_size}
+use Rattle.keymap_tables.proofs.AccentImages.{accents-are}
+use Rattle.keymap_tables.proofs.Lifting.{row-past, number-passes, none-past, split-passes}
+use Rattle.keymap_tables.proofs.Numbers.{zero-none, zeros-behind, count-back}
+use Rattle.keymap_tables.proofs.Rows.{length-rows, length-all, filled-row, rows-clean, same-rows}
+use Rattle.keymap_tables.proofs.Sizes.{length-count, row-inside}
+use Rattle.keymap_tables.proofs.SlotImages.{slots-are}
 
--- A count gives its number, and has no fault.
-count-again : (l : Layout) (n : ℕ) → n ≤ 256 → count_at (count_bytes l n) 0 ≡ n
-count-again Wide n few = from_le_bytes-to_le_bytes_2 n (omega arith)
-count-again Narrow n few = from_le_bytes-to_le_bytes_2 n (omega arith)
+-- a part of a part
+pub part-part : (bytes : List ℕ) (a n b k : ℕ) → b + k ≤ n → part (part bytes a n) b k ≡ part bytes (a + b) k
+part-part bytes a n b k inside =
+    let grown : n ≡ b + (n - b) = omega arith in
+    let cut : drop b (take n (drop a bytes)) ≡ take (n - b) (drop b (drop a bytes)) =
+    subst (λ (v : ℕ). drop b (take v (drop a bytes)) ≡ take (n - b) (drop b (drop a bytes))) (sym grown)
+    (drop-take b (n - b) (drop a bytes)) in
+    ap (take k) cut ∙ take-take k (n - b) (drop b (drop a bytes)) (omega arith) ∙ ap (take k) (drop-drop b a bytes)
+
+-- The places of a count.
+module _ (most : ℕ) (bytes : List ℕ) where
+  pub count-pad : (p : ℕ) → 2 ≤ p → count_fault most bytes p ≡ zero_fault BadPad bytes p
+  count-pad p past =
+      row-past (λ i. number_fault w16 (count_over most)) 2 1 (zero_fault BadPad bytes) bytes p (omega arith) past
+
+  pub count-front : count_at bytes 0 ≤ most → HasNoFault (count_fault most bytes) 2
+  count-front few =
+      number-passes w16 (λ i. count_over most) 2 1 (zero_fault BadPad bytes) bytes 0 (omega arith)
+      (λ p below. absurd (omega arith)) (grind (arith, nat_tests))
+
+-- a count in its part
+pub count-part : (bytes : List ℕ) (at n : ℕ) → 2 ≤ n → count_at (part bytes at n) 0 ≡ count_at bytes at
+count-part bytes at n whole = ap (from_le_bytes w16) (take-take 2 n (drop at bytes) whole)
 
 -- the bytes of a count within its bound have no fault
-count-sound : (l : Layout) (most n : ℕ) → n ≤ most → most ≤ 256
+pub count-sound : (l : Layout) (most n : ℕ) → n ≤ most → n < 2 ^ 16
     → HasNoFault (count_fault most (count_bytes l n)) (count_size l)
 count-sound l most n few small =
-    count-none most (count_bytes l n) (count_size l) (omega (arith, count-again l n (omega arith)))
-    (λ p past below. zeros-behind (to_le_bytes w16 n) (pad_size l) p past)
+    none-past BadPad (count_fault most (count_bytes l n)) (count_bytes l n) 2 (count_size l)
+    (λ p past inside. count-pad most (count_bytes l n) p past)
+    (count-front most (count_bytes l n) (omega (arith, count-back l n small)))
+    (λ p past. zeros-behind (take 2 (count_bytes l n)) (pad_size l) p past)
 
--- what is known of the entries and the accents of a map that fits
-abbrev pub IsGoodEntry : Layout → Entry → Type 0
-IsGoodEntry l entry = IsEntry entry × EntryFits l entry
+-- A table of rows.
+module _ {X : Type 0} {f : X → List ℕ} {size : ℕ} {fault_in : List ℕ → FaultOf} {Is : X → Type 0} {d : X}
+    (rows : AreRows f size fault_in Is d) (l : Layout) (most : ℕ) (small : most < 2 ^ 16) where
+  sized : (xs : List X) → All Is xs → All (λ x. length (f x) ≡ size) xs
+  sized xs known = All-weaker Is (λ x. length (f x) ≡ size) rows.whole xs known
 
--- an accent of known characters that fits
-abbrev pub IsGoodAccent : Layout → AccentValue → Type 0
-IsGoodAccent l accent = IsAccent accent × AccentFits l accent
+  pub length-table : (xs : List X) → All Is xs → length xs ≤ most
+      → length (table_bytes l f size most xs) ≡ count_size l + most * size
+  length-table xs known few =
+      length-append (count_bytes l (length xs)) (rows_bytes f size most xs)
+      ∙ omega (arith, length-count l (length xs), length-all f size most xs (sized xs known) few)
+
+  pub table-front : (xs : List X) → take (count_size l) (table_bytes l f size most xs) ≡ count_bytes l (length xs)
+  table-front xs =
+      take_at (count_bytes l (length xs)) (rows_bytes f size most xs) (count_size l) (length-count l (length xs))
+
+  pub table-back : (xs : List X) → drop (count_size l) (table_bytes l f size most xs) ≡ rows_bytes f size most xs
+  table-back xs =
+      drop_at (count_bytes l (length xs)) (rows_bytes f size most xs) (count_size l) (length-count l (length xs))
+
+  pub table-count : (xs : List X) → length xs ≤ most → count_at (table_bytes l f size most xs) 0 ≡ length xs
+  table-count xs few =
+      sym (count-part (table_bytes l f size most xs) 0 (count_size l) (omega arith))
+      ∙ ap (λ (v : List ℕ). count_at v 0) (table-front xs) ∙ count-back l (length xs) (omega arith)
+
+  -- each row stands at its place, and blank ones behind them
+  pub table-row : (xs : List X) → All Is xs → length xs ≤ most → (i : ℕ) → i < most
+      → part (table_bytes l f size most xs) (count_size l + size * i) size ≡ f (get_or xs i d)
+  table-row xs known few i below =
+      ap (take size) (sym (drop-drop (size * i) (count_size l) (table_bytes l f size most xs))
+      ∙ ap (drop (size * i)) (table-back xs))
+      ∙ filled-row f size d most xs i (sized xs known) rows.empty few below
+
+  -- rows have no fault
+  pub rows-sound : (xs : List X) → All Is xs → (q : ℕ)
+      → used_fault fault_in size (length xs) (rows_bytes f size most xs) q ≡ None
+  rows-sound xs known q =
+      let bytes = rows_bytes f size most xs in
+      let rest = size * (most - length xs) in
+      elim (cases_lt q (size * length xs)) [
+        | inl inside ↦
+            rows-clean f size (λ i. fault_in) (length xs) (zero_fault NotEmpty bytes) xs (zeros rest) d rows.some refl
+            (sized xs known)
+            (λ i below. rows.sound (get_or xs i d) (All-get_or Is xs i d below known)) q inside
+        | inr past ↦
+            row-past (λ i. fault_in) size (length xs) (zero_fault NotEmpty bytes) bytes q rows.some past
+            ∙ zero-none NotEmpty bytes q
+            (zeros-behind (flat_map f xs) rest q (omega (arith, length-rows f size xs (sized xs known), past)))
+      ]
+
+  -- a table has no fault
+  pub table-sound : (xs : List X) → All Is xs → length xs ≤ most → (p : ℕ)
+      → table_fault l fault_in size most (table_bytes l f size most xs) p ≡ None
+  table-sound xs known few =
+      let bytes = table_bytes l f size most xs in
+      split-passes (count_size l) (count_fault most) (used_fault fault_in size (count_at bytes 0)) bytes
+      (subst (λ (v : List ℕ). HasNoFault (count_fault most v) (count_size l)) (sym (table-front xs))
+      (count-sound l most (length xs) few (omega arith)))
+      (λ q. ap (λ (n : ℕ). used_fault fault_in size n (drop (count_size l) bytes) q) (table-count xs few)
+      ∙ ap (λ (v : List ℕ). used_fault fault_in size (length xs) v q) (table-back xs) ∙ rows-sound xs known q)
+
+  -- and gives the rows
+  pub same-table : (xs ys : List X) → All Is xs → All Is ys → length xs ≤ most → length ys ≤ most
+      → table_bytes l f size most xs ≡ table_bytes l f size most ys → xs ≡ ys
+  same-table xs ys known too few also same =
+      let counted : length xs ≡ length ys =
+      sym (table-count xs few) ∙ ap (λ (v : List ℕ). count_at v 0) same ∙ table-count ys also in
+      same-rows f size Is xs ys (zeros (size * (most - length xs))) (zeros (size * (most - length ys))) rows.one
+      (sized xs known) (sized ys too) known too counted
+      (sym (table-back xs) ∙ ap (drop (count_size l)) same ∙ table-back ys)
 
 -- what is known of all elements in two ways
 both : {X : Type 0} (P Q : X → Type 0) (xs : List X) → All P xs → All Q xs → All (λ x. P x × Q x) xs
 both P Q xs one other k d below = (All-get_or P xs k d below one, All-get_or Q xs k d below other)
 
--- the bytes of each entry have the size of a slot
-pub slots-sized : (l : Layout) (entries : List Entry) → All IsEntry entries
-    → IsSized (slot_bytes l) (slot_size l) entries
-slots-sized l entries known k d below =
-    length-slot_bytes l (get_or entries k d) (All-get_or IsEntry entries k d below known)
+-- an image is its two tables
+pub image-parts : (l : Layout) (m : MapValue)
+    → image_in l m
+    ≡ table_bytes l (slot_bytes l) (slot_size l) 256 m.entries
+    ++ table_bytes l (accent_bytes l) (accent_size l) 15 m.accents
+unfolding image_in
+image-parts l m = refl
 
--- the bytes of each accent have the size of an accent
-pub accents-sized : (l : Layout) (accents : List AccentValue) → All IsAccent accents
-    → IsSized (accent_bytes l) (accent_size l) accents
-accents-sized l accents known k d below =
-    length-accent_bytes l (get_or accents k d) (All-get_or IsAccent accents k d below known)
+-- The faults of a file of the right length.
+pub fault-content : (l : Layout) (bytes : List ℕ) (p : ℕ) → length bytes ≡ file_size l
+    → fault_at l bytes p ≡ content_fault l bytes p
+unfolding fault_at
+fault-content l bytes p whole =
+    rw (le-ltb (length bytes) (file_size l) (omega arith), le-ltb (file_size l) (length bytes) (omega arith)) refl
 
--- rows in use and zeros for the others have the size of all
-length-all : {X : Type 0} (f : X → List ℕ) (size n : ℕ) (xs : List X) → IsSized f size xs → length xs ≤ n
-    → length (flat_map f xs ++ zeros (size * (n - length xs))) ≡ n * size
-length-all f size n xs sized few =
-    length-append (flat_map f xs) (zeros (size * (n - length xs)))
-    ∙ omega (
-      arith,
-      rows-size size n (length xs) few,
-      length-rows f size xs sized,
-      length-replicate {A = ℕ} (size * (n - length xs)) 0,
-    )
+-- in a file of the right size the first fault of the content is the first fault
+pub first-content : (l : Layout) (bytes : List ℕ) (f : TableFault) → length bytes ≡ file_size l
+    → IsFirstFault (content_fault l bytes) f → IsFirstFault (fault_at l bytes) f
+first-content l bytes f whole first = record {
+  here = fault-content l bytes f.offset whole ∙ first.here;
+  before = λ p below. fault-content l bytes p whole ∙ first.before p below;
+}
 
--- the slots of a map have their size
-length-slots : (l : Layout) (m : MapValue) → IsMap m → length (slots_bytes l m.entries) ≡ slots_size l
-length-slots l m is =
-    length-all (slot_bytes l) (slot_size l) 256 m.entries (slots-sized l m.entries is.entries) is.few_entries
+-- A wrong length.
+same_place : (p : ℕ) → (p == p) ≡ true
+same_place p = grind (arith, nat_tests)
 
--- the accents of a map have their size
-length-accents : (l : Layout) (m : MapValue) → IsMap m → length (accents_bytes l m.accents) ≡ accents_size l
-length-accents l m is =
-    length-all (accent_bytes l) (accent_size l) 15 m.accents (accents-sized l m.accents is.accents) is.few_accents
+other_place : (p q : ℕ) → p < q → (p == q) ≡ false
+other_place p q below = grind (arith, nat_tests)
 
--- Four parts, cut out of their whole.
-four : (a b c d : List ℕ) → a ++ b ++ c ++ d ≡ a ++ (b ++ (c ++ d))
-four a b c d = simp append_assoc
+-- a short file has one fault, at its end
+short-here : (l : Layout) (bytes : List ℕ) (p : ℕ) → length bytes < file_size l
+    → fault_at l bytes p ≡ cond (p == length bytes) (Some Short) None
+unfolding fault_at
+short-here l bytes p short = rw (lt-ltb (length bytes) (file_size l) short) refl
 
--- the first of four parts, cut out by its length
-part-1 : (a b c d : List ℕ) (i : ℕ) → length a ≡ i → take i (a ++ b ++ c ++ d) ≡ a
-part-1 a b c d i first = ap (take i) (four a b c d) ∙ take_at a (b ++ (c ++ d)) i first
+-- a long file has one fault, behind the size of a table
+long-here : (l : Layout) (bytes : List ℕ) (p : ℕ) → file_size l < length bytes
+    → fault_at l bytes p ≡ cond (p == file_size l) (Some Long) None
+unfolding fault_at
+long-here l bytes p long =
+    rw (le-ltb (length bytes) (file_size l) (omega arith), lt-ltb (file_size l) (length bytes) long) refl
 
--- the second part, cut out by the lengths of the first two
-part-2 : (a b c d : List ℕ) (i j : ℕ) → length a ≡ i → length b ≡ j → part (a ++ b ++ c ++ d) i j ≡ b
-part-2 a b c d i j first second =
-    ap (λ (v : List ℕ). take j (drop i v)) (four a b c d) ∙ ap (take j) (drop_at a (b ++ (c ++ d)) i first)
-    ∙ take_at b (c ++ d) j second
+-- the first fault of a short file is at its end
+pub first-short : (l : Layout) (bytes : List ℕ) (f : TableFault) → length bytes < file_size l → f.offset ≡ length bytes
+    → f.kind ≡ Short → IsFirstFault (fault_at l bytes) f
+first-short l bytes f short at kind = record {
+  here = rw (at, kind) (short-here l bytes (length bytes) short ∙ rw (same_place (length bytes)) refl);
+  before = λ p below. short-here l bytes p short ∙ rw (other_place p (length bytes) (omega (arith, below, at))) refl;
+}
 
--- the third part, cut out by the lengths of the first three
-part-3 : (a b c d : List ℕ) (i j k : ℕ) → length a ≡ i → length b ≡ j → length c ≡ k
-    → part (a ++ b ++ c ++ d) (i + j) k ≡ c
-part-3 a b c d i j k first second third =
-    let behind : drop (i + j) (a ++ (b ++ (c ++ d))) ≡ c ++ d =
-    sym (drop-drop j i (a ++ (b ++ (c ++ d)))) ∙ ap (drop j) (drop_at a (b ++ (c ++ d)) i first)
-    ∙ drop_at b (c ++ d) j second in
-    ap (λ (v : List ℕ). take k (drop (i + j) v)) (four a b c d) ∙ ap (take k) behind ∙ take_at c d k third
+-- the first fault of a long file is where a table would end
+pub first-long : (l : Layout) (bytes : List ℕ) (f : TableFault) → file_size l < length bytes → f.offset ≡ file_size l
+    → f.kind ≡ Long → IsFirstFault (fault_at l bytes) f
+first-long l bytes f long at kind = record {
+  here = rw (at, kind) (long-here l bytes (file_size l) long ∙ rw (same_place (file_size l)) refl);
+  before = λ p below. long-here l bytes p long ∙ rw (other_place p (file_size l) (omega (arith, below, at))) refl;
+}
 
--- the fourth part, cut out behind the other three
-part-4 : (a b c d : List ℕ) (i l : ℕ) → length (a ++ b ++ c) ≡ i → length d ≡ l → part (a ++ b ++ c ++ d) i l ≡ d
-part-4 a b c d i l front last =
-    ap (take l) (drop_at (a ++ b ++ c) d i front) ∙ take_all l d (omega arith)
+-- The image of a map.
+module _ (l : Layout) (m : MapValue) (is : IsMap m) (fits : FitsIn l m) where
+  pub entries-in : All (IsEntryIn l) m.entries
+  entries-in = both IsEntry (EntryFits l) m.entries is.entries fits.entries
 
--- the parts before the accents reach to the accents' place
-front-long : (l : Layout) (m : MapValue) → IsMap m
-    → length (count_bytes l (length m.entries) ++ slots_bytes l m.entries ++ count_bytes l (length m.accents))
-    ≡ accents_place l
-front-long l m is =
-    length-append (count_bytes l (length m.entries) ++ slots_bytes l m.entries) (count_bytes l (length m.accents))
-    ∙ omega (
-      arith,
-      length-append (count_bytes l (length m.entries)) (slots_bytes l m.entries),
-      length-slots l m is,
-      length-count l (length m.entries),
-      length-count l (length m.accents),
-    )
+  pub accents-in : All (IsAccentIn l) m.accents
+  accents-in = both IsAccent (AccentFits l) m.accents is.accents fits.accents
 
--- an image has the size of a file
-pub length-image : (l : Layout) (m : MapValue) → IsMap m → length (image_in l m) ≡ file_size l
-length-image l m is =
-    ap length (image-parts l m)
-    ∙ length-append (count_bytes l (length m.entries) ++ slots_bytes l m.entries ++ count_bytes l (length m.accents))
-    (accents_bytes l m.accents)
-    ∙ omega (arith, front-long l m is, length-accents l m is)
+  length-slots : length (table_bytes l (slot_bytes l) (slot_size l) 256 m.entries) ≡ n_accs_place l
+  length-slots =
+      length-table (slots-are l) l 256 (omega arith)
+      m.entries entries-in is.few_entries
 
--- The parts of an image.
-pub image-n_keys : (l : Layout) (m : MapValue) → IsMap m
-    → take (slots_place l) (image_in l m) ≡ count_bytes l (length m.entries)
-image-n_keys l m is =
-    ap (take (slots_place l)) (image-parts l m)
-    ∙ part-1 (count_bytes l (length m.entries)) (slots_bytes l m.entries) (count_bytes l (length m.accents))
-    (accents_bytes l m.accents) (slots_place l) (length-count l (length m.entries))
+  pub image-front : take (n_accs_place l) (image_in l m) ≡ table_bytes l (slot_bytes l) (slot_size l) 256 m.entries
+  image-front =
+      ap (take (n_accs_place l)) (image-parts l m)
+      ∙ take_at (table_bytes l (slot_bytes l) (slot_size l) 256 m.entries)
+      (table_bytes l (accent_bytes l) (accent_size l) 15 m.accents) (n_accs_place l) length-slots
 
--- the bytes at the place of the slots are the map's slots
-pub image-slots : (l : Layout) (m : MapValue) → IsMap m
-    → part (image_in l m) (slots_place l) (slots_size l) ≡ slots_bytes l m.entries
-image-slots l m is =
-    ap (λ (v : List ℕ). part v (slots_place l) (slots_size l)) (image-parts l m)
-    ∙ part-2 (count_bytes l (length m.entries)) (slots_bytes l m.entries) (count_bytes l (length m.accents))
-    (accents_bytes l m.accents) (slots_place l) (slots_size l) (length-count l (length m.entries))
-    (length-slots l m is)
+  pub image-back : drop (n_accs_place l) (image_in l m) ≡ table_bytes l (accent_bytes l) (accent_size l) 15 m.accents
+  image-back =
+      ap (drop (n_accs_place l)) (image-parts l m)
+      ∙ drop_at (table_bytes l (slot_bytes l) (slot_size l) 256 m.entries)
+      (table_bytes l (accent_bytes l) (accent_size l) 15 m.accents) (n_accs_place l) length-slots
 
--- the bytes at the place of the second count are the number of accents
-pub image-n_accs : (l : Layout) (m : MapValue) → IsMap m
-    → part (image_in l m) (n_accs_place l) (count_size l) ≡ count_bytes l (length m.accents)
-image-n_accs l m is =
-    ap (λ (v : List ℕ). part v (n_accs_place l) (count_size l)) (image-parts l m)
-    ∙ part-3 (count_bytes l (length m.entries)) (slots_bytes l m.entries) (count_bytes l (length m.accents))
-    (accents_bytes l m.accents) (slots_place l) (slots_size l) (count_size l) (length-count l (length m.entries))
-    (length-slots l m is) (length-count l (length m.accents))
+  pub length-image : length (image_in l m) ≡ file_size l
+  length-image =
+      ap length (image-parts l m)
+      ∙ length-append (table_bytes l (slot_bytes l) (slot_size l) 256 m.entries)
+      (table_bytes l (accent_bytes l) (accent_size l) 15 m.accents)
+      ∙ omega (
+        arith,
+        length-slots,
+        length-table (accents-are l) l 15 (omega arith) m.accents accents-in is.few_accents,
+      )
 
--- the bytes at the place of the accents are the map's accents
-pub image-accents : (l : Layout) (m : MapValue) → IsMap m
-    → part (image_in l m) (accents_place l) (accents_size l) ≡ accents_bytes l m.accents
-image-accents l m is =
-    ap (λ (v : List ℕ). part v (accents_place l) (accents_size l)) (image-parts l m)
-    ∙ part-4 (count_bytes l (length m.entries)) (slots_bytes l m.entries) (count_bytes l (length m.accents))
-    (accents_bytes l m.accents) (accents_place l) (accents_size l) (front-long l m is) (length-accents l m is)
+  -- it has no fault
+  pub image-sound : (p : ℕ) → fault_at l (image_in l m) p ≡ None
+  image-sound p =
+      fault-content l (image_in l m) p length-image
+      ∙ split-passes (n_accs_place l) (table_fault l (slot_fault l) (slot_size l) 256)
+      (table_fault l (accent_fault l) (accent_size l) 15) (image_in l m)
+      (λ q below. ap (λ (v : List ℕ). table_fault l (slot_fault l) (slot_size l) 256 v q) image-front
+      ∙ table-sound (slots-are l) l 256 (omega arith)
+      m.entries entries-in is.few_entries q)
+      (λ q. ap (λ (v : List ℕ). table_fault l (accent_fault l) (accent_size l) 15 v q) image-back
+      ∙ table-sound (accents-are l) l 15 (omega arith) m.accents accents-in is.few_accents q) p
 
--- the first count read from an image is the number of entries
-pub n_keys-of : (l : Layout) (m : MapValue) → IsMap m → length m.entries ≡ count_at (image_in l m) 0
-n_keys-of l m is =
-    sym (sym (count-part (image_in l m) 0 (slots_place l) (omega arith))
-    ∙ ap (λ (v : List ℕ). count_at v 0) (image-n_keys l m is) ∙ count-again l (length m.entries) is.few_entries)
+  -- the counts
+  pub n_keys-of : count_at (image_in l m) 0 ≡ length m.entries
+  n_keys-of =
+      sym (count-part (image_in l m) 0 (n_accs_place l) (omega arith)) ∙ ap (λ (v : List ℕ). count_at v 0) image-front
+      ∙ table-count (slots-are l) l 256 (omega arith)
+      m.entries is.few_entries
 
--- the second count read from an image is the number of accents
-pub n_accs-of : (l : Layout) (m : MapValue) → IsMap m → length m.accents ≡ count_at (image_in l m) (n_accs_place l)
-n_accs-of l m is =
-    sym (sym (count-part (image_in l m) (n_accs_place l) (count_size l) (omega arith))
-    ∙ ap (λ (v : List ℕ). count_at v 0) (image-n_accs l m is)
-    ∙ count-again l (length m.accents) (omega (arith, is.few_accents)))
+  pub n_accs-of : count_at (image_in l m) (n_accs_place l) ≡ length m.accents
+  n_accs-of =
+      ap (λ (v : List ℕ). count_at v 0) image-back
+      ∙ table-count (accents-are l) l 15 (omega arith) m.accents is.few_accents
 
--- No image has a fault.
-content-sound : (l : Layout) (m : MapValue) → IsMap m → FitsIn l m
-    → HasNoFault (content_fault l (image_in l m)) (file_size l)
-content-sound l m is fits =
-    let slots : HasNoFault (row_fault (slot_fault l) (slot_size l) (length m.entries) (slots_bytes l m.entries))
-    (slots_size l) =
-    λ p below. sound-rows (slot_bytes l) (slot_fault l) (slot_size l) m.entries (slot_size l * (256 - length m.entries))
-    undefined (slot-some l) (slots-sized l m.entries is.entries)
-    (λ k d inside. slot_bytes-sound l (get_or m.entries k d) (All-get_or IsEntry m.entries k d inside is.entries)
-    (All-get_or (EntryFits l) m.entries k d inside fits.entries)) p in
-    let accents : HasNoFault (row_fault (accent_fault l) (accent_size l) (length m.accents) (accents_bytes l m.accents))
-    (accents_size l) =
-    λ p below. sound-rows (accent_bytes l) (accent_fault l) (accent_size l) m.accents
-    (accent_size l * (15 - length m.accents)) blank (accent-some l) (accents-sized l m.accents is.accents)
-    (λ k d inside. accent_bytes-sound l (get_or m.accents k d) (All-get_or IsAccent m.accents k d inside is.accents)
-    (All-get_or (AccentFits l) m.accents k d inside fits.accents)) p in
-    let upto_slots =
-    sound-n_keys l (image_in l m)
-    (subst (λ (v : List ℕ). HasNoFault (count_fault 256 v) (slots_place l)) (sym (image-n_keys l m is))
-    (count-sound l 256 (length m.entries) is.few_entries (omega arith))) in
-    let upto_n_accs = sound-slots l (image_in l m) (length m.entries) (n_keys-of l m is) upto_slots
-    (subst (λ (v : List ℕ). HasNoFault (row_fault (slot_fault l) (slot_size l) (length m.entries) v) (slots_size l))
-    (sym (image-slots l m is)) slots) in
-    let upto_accents = sound-n_accs l (image_in l m) upto_n_accs
-    (subst (λ (v : List ℕ). HasNoFault (count_fault 15 v) (count_size l)) (sym (image-n_accs l m is))
-    (count-sound l 15 (length m.accents) is.few_accents (omega arith))) in
-    sound-accents l (image_in l m) (length m.accents) (n_accs-of l m is) upto_accents
-    (subst (λ (v : List ℕ).
-    HasNoFault (row_fault (accent_fault l) (accent_size l) (length m.accents) v) (accents_size l))
-    (sym (image-accents l m is)) accents)
+  pub image-n_keys : part (image_in l m) 0 (count_size l) ≡ count_bytes l (length m.entries)
+  image-n_keys =
+      sym (part-part (image_in l m) 0 (n_accs_place l) 0 (count_size l) (omega arith))
+      ∙ ap (take (count_size l)) image-front
+      ∙ table-front (slots-are l) l 256 (omega arith)
+      m.entries
 
--- the image of a map that fits has no fault
-pub image-sound : (l : Layout) (m : MapValue) → IsMap m → FitsIn l m → (p : ℕ) → fault_at l (image_in l m) p ≡ None
-image-sound l m is fits p =
-    elim (cases_lt p (file_size l)) [
-      | inl inside ↦ fault-content l (image_in l m) p (length-image l m is) ∙ content-sound l m is fits p inside
-      | inr past ↦ fault-content l (image_in l m) p (length-image l m is) ∙ content-past l (image_in l m) p past
-    ]
+  pub image-n_accs : part (image_in l m) (n_accs_place l) (count_size l) ≡ count_bytes l (length m.accents)
+  image-n_accs =
+      ap (take (count_size l)) image-back
+      ∙ table-front (accents-are l) l 15 (omega arith) m.accents
+
+  -- each slot and accent
+  pub slot-part : (s : ℕ) → s < 256
+      → part (image_in l m) (slots_place l + slot_size l * s) (slot_size l) ≡ slot_bytes l (entry_at m s)
+  slot-part s below =
+      let place : slots_place l + slot_size l * s ≡ 0 + (slots_place l + slot_size l * s) = omega arith in
+      ap (λ (k : ℕ). part (image_in l m) k (slot_size l)) place
+      ∙ sym (part-part (image_in l m) 0 (n_accs_place l) (slots_place l + slot_size l * s) (slot_size l)
+      (omega (arith, row-inside (slot_size l) 256 s below)))
+      ∙ ap (λ (v : List ℕ). part v (slots_place l + slot_size l * s) (slot_size l)) image-front
+      ∙ table-row (slots-are l) l 256 (omega arith)
+      m.entries entries-in is.few_entries s below
+
+  pub accent-part : (i : ℕ) → i < 15
+      → part (image_in l m) (accents_place l + accent_size l * i) (accent_size l) ≡ accent_bytes l (accent_or_blank m i)
+  accent-part i below =
+      let place : accents_place l + accent_size l * i ≡ n_accs_place l + (count_size l + accent_size l * i) = omega arith in
+      ap (λ (k : ℕ). part (image_in l m) k (accent_size l)) place
+      ∙ ap (take (accent_size l)) (sym (drop-drop (count_size l + accent_size l * i) (n_accs_place l) (image_in l m))
+      ∙ ap (drop (count_size l + accent_size l * i)) image-back)
+      ∙ table-row (accents-are l) l 15 (omega arith) m.accents accents-in is.few_accents i below
 
 -- maps that fit are the same where their images are
 pub same-map : (l : Layout) (m n : MapValue) → IsMap m → FitsIn l m → IsMap n → FitsIn l n → image_in l m ≡ image_in l n
     → m ≡ n
-unfolding map_of
 same-map l m n is fits also too same =
-    let n_keys : length m.entries ≡ length n.entries =
-    n_keys-of l m is ∙ ap (λ (v : List ℕ). count_at v 0) same ∙ sym (n_keys-of l n also) in
-    let n_accs : length m.accents ≡ length n.accents =
-    n_accs-of l m is ∙ ap (λ (v : List ℕ). count_at v (n_accs_place l)) same ∙ sym (n_accs-of l n also) in
-    let slots : slots_bytes l m.entries ≡ slots_bytes l n.entries =
-    sym (image-slots l m is) ∙ ap (λ (v : List ℕ). part v (slots_place l) (slots_size l)) same
-    ∙ image-slots l n also in
-    let accents : accents_bytes l m.accents ≡ accents_bytes l n.accents =
-    sym (image-accents l m is) ∙ ap (λ (v : List ℕ). part v (accents_place l) (accents_size l)) same
-    ∙ image-accents l n also in
     let entries =
-    same-rows (slot_bytes l) (slot_size l) (IsGoodEntry l) m.entries n.entries
-    (zeros (slot_size l * (256 - length m.entries))) (zeros (slot_size l * (256 - length n.entries)))
-    (same-entry l)
-    (slots-sized l m.entries is.entries) (slots-sized l n.entries also.entries)
-    (both IsEntry (EntryFits l) m.entries is.entries fits.entries)
-    (both IsEntry (EntryFits l) n.entries also.entries too.entries) n_keys slots in
-    let accented =
-    same-rows (accent_bytes l) (accent_size l) (IsGoodAccent l) m.accents n.accents
-    (zeros (accent_size l * (15 - length m.accents))) (zeros (accent_size l * (15 - length n.accents)))
-    (same-accent l)
-    (accents-sized l m.accents is.accents) (accents-sized l n.accents also.accents)
-    (both IsAccent (AccentFits l) m.accents is.accents fits.accents)
-    (both IsAccent (AccentFits l) n.accents also.accents too.accents) n_accs accents in
-    ap (λ (v : List Entry). map_of v m.accents) entries ∙ ap (λ (v : List AccentValue). map_of n.entries v) accented
+    same-table (slots-are l) l 256 (omega arith)
+    m.entries n.entries (entries-in l m is fits) (entries-in l n also too) is.few_entries also.few_entries
+    (sym (image-front l m is fits) ∙ ap (take (n_accs_place l)) same ∙ image-front l n also too) in
+    let accents =
+    same-table (accents-are l) l 15 (omega arith)
+    m.accents n.accents (accents-in l m is fits) (accents-in l n also too) is.few_accents also.few_accents
+    (sym (image-back l m is fits) ∙ ap (drop (n_accs_place l)) same ∙ image-back l n also too) in
+    ap (λ (v : List Entry). record m { entries = v }) entries
+    ∙ ap (λ (v : List AccentValue). record n { accents = v }) accents

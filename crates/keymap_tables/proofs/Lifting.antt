@@ -1,18 +1,15 @@
 -- The faults of a part, in the whole.
-use Rattle.std.proofs.Common.{◌≡◌, ℕ, ◌+◌, ◌-◌, ◌*◌, ◌/◌, ◌%◌, ◌<◌, ◌≤◌, List, length, refl, ◌∙◌, subst}
-use Rattle.std.proofs.Common.{arith, None, inl, inr, nat_lt, true, false, mul_comm}
-use Rattle.std.specs.Prelude.{slice_index, Option}
-use Rattle.std.proofs.lemmas.Bool.Decides.{nat_tests}
-use Rattle.std.proofs.lemmas.Bool.{cases_lt}
+use Rattle.keymap_tables.proofs.Common.{◌≡◌, ℕ, ◌+◌, ◌-◌, ◌*◌, ◌/◌, ◌%◌, ◌<◌, ◌≤◌, ◌==◌, suc, zero, List, length, take}
+use Rattle.keymap_tables.proofs.Common.{drop, refl, ◌∙◌, subst, sym, ap, arith, None, Some, inl, inr, true, false}
+use Rattle.keymap_tables.proofs.Common.{mul_comm, from_le_bytes, slice_index, Option, nat_tests, cases_lt, lt-ltb}
+use Rattle.keymap_tables.proofs.Common.{le-ltb, FaultOf, zero_fault, number_fault, rows_fault, IsFirstFault, HasNoFault}
+use Rattle.keymap_tables.proofs.Common.{part, TableFault, TableFaultKind}
+use Rattle.std.proofs.Common.{nat_lt}
+use Rattle.std.specs.Int.{Width}
 use Rattle.std.proofs.lemmas.Nat.{div-mul-add, mod-mul-add, le-div}
-use Rattle.keymap_tables.specs.Faults.{zero_fault, row_fault, IsFirstFault}
-use Rattle.keymap_tables.specs.Inner.Firsts.{IsFirstFilled, HasNoFault}
-use Rattle.keymap_tables.specs.Layouts.{part}
-use Rattle.keymap_tables.specs.Types.{TableFault, TableFaultKind, NotEmpty}
-
--- the kind of fault at each place, if there is one
-abbrev pub FaultOf : Type 0
-FaultOf = ℕ → Option TableFaultKind
+use Rattle.keymap_tables.specs.Faults.{split_fault}
+use Rattle.keymap_tables.specs.Inner.Firsts.{IsFirstFilled}
+use Rattle.keymap_tables.proofs.Sizes.{row-next}
 
 -- a place at or past the base of a part
 within-part : (base p : ℕ) → base ≤ p → base + (p - base) ≡ p
@@ -61,19 +58,113 @@ first-past kind whole bytes from n f same before long first = record {
   ];
 }
 
--- A row in use, and the bytes after the rows in use.
-pub row-at : (fault_in : List ℕ → FaultOf) (size count : ℕ) (bytes : List ℕ) (i q : ℕ) → i < count → q < size
-    → row_fault fault_in size count bytes (size * i + q) ≡ fault_in (part bytes (size * i) size) q
-row-at fault_in size count bytes i q used inside =
-    let whole : (size * i + q) / size ≡ i = rw (mul_comm size i) (div-mul-add i size q inside) in
-    let rest : (size * i + q) % size ≡ q = rw (mul_comm size i) (mod-mul-add i size q inside) in
-    let test : nat_lt i count ≡ true = grind (arith, nat_tests) in
-    rw (whole, rest, test) refl
+-- The front of a list of bytes, and what follows it.
+module _ (n : ℕ) (front back : List ℕ → FaultOf) (bytes : List ℕ) where
+  pub split-front : (p : ℕ) → p < n → split_fault n front back bytes p ≡ front (take n bytes) p
+  split-front p below = rw (lt-ltb p n below) refl
 
--- behind the rows that are in use, a fault is a byte that isn't 0
-pub row-past : (fault_in : List ℕ → FaultOf) (size count : ℕ) (bytes : List ℕ) (p : ℕ) → 0 < size → size * count ≤ p
-    → row_fault fault_in size count bytes p ≡ zero_fault NotEmpty bytes p
-row-past fault_in size count bytes p some past =
-    let whole : count ≤ p / size = le-div count p size some (rw (mul_comm count size) past) in
-    let test : nat_lt (p / size) count ≡ false = grind (arith, nat_tests) in
-    rw test refl
+  pub split-back : (q : ℕ) → split_fault n front back bytes (n + q) ≡ back (drop n bytes) q
+  split-back q =
+      let here : n + q - n ≡ q = omega arith in
+      rw (le-ltb (n + q) n (omega arith), here) refl
+
+  -- the first fault of the front, and of what follows a front without one
+  pub split-fails : (cut : List ℕ) (m : ℕ) (f : TableFault) → cut ≡ take n bytes → m ≤ n
+      → IsFirstFault (front cut) f × (f.offset < m) → IsFirstFault (split_fault n front back bytes) f × (f.offset < n)
+  split-fails cut m f same few fault =
+      let first = subst (λ (v : List ℕ). IsFirstFault (front v) f) same fault.0 in
+      let inside : f.offset < n = omega (arith, fault.1) in (
+        record {
+          here = split-front f.offset inside ∙ first.here;
+          before = λ p below. split-front p (omega arith) ∙ first.before p below;
+        },
+        inside,
+      )
+
+  pub split-fails_behind : (cut : List ℕ) (at : ℕ) (f g : TableFault) → cut ≡ drop n bytes → at ≡ n
+      → HasNoFault (front (take n bytes)) n → IsFirstFault (back cut) f → g ≡ record f { offset = at + f.offset }
+      → IsFirstFault (split_fault n front back bytes) g
+  split-fails_behind cut at f g same is sound fault after =
+      subst (IsFirstFault (split_fault n front back bytes))
+      (sym (after ∙ ap (λ (k : ℕ). record f { offset = k + f.offset }) is))
+      (first-after (split_fault n front back bytes) (back (drop n bytes)) n (f.offset + 1) f (λ q inside. split-back q)
+      (λ p below. split-front p below ∙ sound p below) (subst (λ (v : List ℕ). IsFirstFault (back v) f) same fault)
+      (omega arith))
+
+  pub split-passes : HasNoFault (front (take n bytes)) n → ((q : ℕ) → back (drop n bytes) q ≡ None) → (p : ℕ)
+      → split_fault n front back bytes p ≡ None
+  split-passes sound clean p =
+      elim (cases_lt p n) [
+        | inl below ↦ split-front p below ∙ sound p below
+        | inr past ↦ subst (λ (r : ℕ). split_fault n front back bytes r ≡ None) (within-part n p past)
+            (split-back (p - n) ∙ clean (p - n))
+      ]
+
+-- Rows in use, and what follows them.
+module _ (fault_in : ℕ → List ℕ → FaultOf) (size count : ℕ) (behind : FaultOf) (bytes : List ℕ) where
+  pub row-at : (i q : ℕ) → i < count → q < size
+      → rows_fault fault_in size count behind bytes (size * i + q) ≡ fault_in i (part bytes (size * i) size) q
+  row-at i q used inside =
+      let whole : (size * i + q) / size ≡ i = rw (mul_comm size i) (div-mul-add i size q inside) in
+      let rest : (size * i + q) % size ≡ q = rw (mul_comm size i) (mod-mul-add i size q inside) in
+      let test : nat_lt i count ≡ true = grind (arith, nat_tests) in
+      rw (whole, rest, test) refl
+
+  pub row-past : (p : ℕ) → 0 < size → size * count ≤ p → rows_fault fault_in size count behind bytes p ≡ behind p
+  row-past p some past =
+      let whole : count ≤ p / size = le-div count p size some (rw (mul_comm count size) past) in
+      let test : nat_lt (p / size) count ≡ false = grind (arith, nat_tests) in
+      rw test refl
+
+  -- one more row without a fault
+  pub row-passes : (i : ℕ) → i < count → HasNoFault (rows_fault fault_in size count behind bytes) (size * i)
+      → HasNoFault (fault_in i (part bytes (size * i) size)) size
+      → HasNoFault (rows_fault fault_in size count behind bytes) (size * (i + 1))
+  row-passes i used before sound p below =
+      none-after (rows_fault fault_in size count behind bytes) (fault_in i (part bytes (size * i) size)) (size * i) size
+      (λ q inside. row-at i q used inside) before sound p (omega (arith, below, row-next size i))
+
+  -- the fault of a row, at its place
+  pub row-fails : (i at : ℕ) (f g : TableFault) → i < count → at ≡ size * i
+      → HasNoFault (rows_fault fault_in size count behind bytes) (size * i)
+      → IsFirstFault (fault_in i (part bytes (size * i) size)) f → f.offset < size
+      → g ≡ record f { offset = at + f.offset } → IsFirstFault (rows_fault fault_in size count behind bytes) g
+  row-fails i at f g used is before first inside after =
+      subst (IsFirstFault (rows_fault fault_in size count behind bytes))
+      (sym (after ∙ ap (λ (k : ℕ). record f { offset = k + f.offset }) is))
+      (first-after (rows_fault fault_in size count behind bytes) (fault_in i (part bytes (size * i) size)) (size * i)
+      size f (λ q below. row-at i q used below) before first inside)
+
+-- the bytes of a number without a fault
+pub number-clean : (w : Width) (fault_in : ℕ → Option TableFaultKind) (bytes : List ℕ) (n : ℕ)
+    → fault_in (from_le_bytes w bytes) ≡ None → HasNoFault (number_fault w fault_in bytes) n
+number-clean w fault_in bytes n clean zero below = clean
+number-clean w fault_in bytes n clean (suc p) below =
+    let test : (suc p == 0) ≡ false = grind (arith, nat_tests) in rw test refl
+
+-- Rows that are numbers.
+module _ (w : Width) (fault_in : ℕ → ℕ → Option TableFaultKind) (size count : ℕ) (behind : FaultOf) (bytes : List ℕ)
+  where
+    pub number-passes : (i : ℕ) → i < count
+        → HasNoFault (rows_fault (λ i. number_fault w (fault_in i)) size count behind bytes) (size * i)
+        → fault_in i (from_le_bytes w (part bytes (size * i) size)) ≡ None
+        → HasNoFault (rows_fault (λ i. number_fault w (fault_in i)) size count behind bytes) (size * (i + 1))
+    number-passes i used before clean =
+        row-passes (λ i. number_fault w (fault_in i)) size count behind bytes i used before
+        (number-clean w (fault_in i) (part bytes (size * i) size) size clean)
+
+    pub number-fails : (i : ℕ) (f : TableFault) → 0 < size → i < count → f.offset ≡ size * i
+        → HasNoFault (rows_fault (λ i. number_fault w (fault_in i)) size count behind bytes) (size * i)
+        → fault_in i (from_le_bytes w (part bytes (size * i) size)) ≡ Some f.kind
+        → IsFirstFault (rows_fault (λ i. number_fault w (fault_in i)) size count behind bytes) f
+    number-fails i f some used is before fault =
+        let here : size * i + 0 ≡ f.offset = omega arith in
+        record {
+          here = subst (λ (p : ℕ). rows_fault (λ i. number_fault w (fault_in i)) size count behind bytes p ≡ Some f.kind)
+              here (row-at (λ i. number_fault w (fault_in i)) size count behind bytes i 0 used some ∙ fault);
+          before = λ p below. before p (omega arith);
+        }
+
+-- no fault up to a row, which is given in another way
+pub upto : (fault_of : FaultOf) (size a b : ℕ) → a ≡ b → HasNoFault fault_of (size * a) → HasNoFault fault_of (size * b)
+upto fault_of size a b same = subst (λ (k : ℕ). HasNoFault fault_of (size * k)) same

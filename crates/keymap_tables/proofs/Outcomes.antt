@@ -1,11 +1,16 @@
 -- Facts for one variant of a result.
-use Rattle.std.proofs.Common.{◌≡◌, subst, sym}
-use Rattle.std.specs.Prelude.{Result, Ok, Err, IsErrAnd, IfErr, OnOk}
+use Rattle.keymap_tables.proofs.Common.{◌≡◌, subst, sym, Result, Ok, Err, IfErr}
+use Rattle.std.specs.Prelude.{IsErrAnd, OnOk}
 
 -- what holds for a success may be weakened
 pub OnOk-map : {X E : Type 0} (r : Result X E) (P Q : Type 0) → OnOk r P → (P → Q) → OnOk r Q
 OnOk-map (Ok x) P Q held step = step held
 OnOk-map (Err e) P Q held step = held
+
+-- what holds anyway holds for a success
+pub OnOk-held : {X E : Type 0} (r : Result X E) (P : Type 0) → P → OnOk r P
+OnOk-held (Ok x) P held = held
+OnOk-held (Err e) P held = tt
 
 -- what holds for a refusal may be weakened
 pub IfErr-map : {X E : Type 0} (r : Result X E) (P Q : E → Type 0) → IfErr r P → ((e : E) → P e → Q e) → IfErr r Q

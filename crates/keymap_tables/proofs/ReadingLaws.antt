@@ -1,39 +1,28 @@
 -- What the reading of a file answers is the map of the image, or the one fault.
-use Rattle.std.proofs.Common.{◌≡◌, ℕ, List, None, Some, sym, ap, ◌∙◌, subst, inl, inr}
-use Rattle.std.specs.Prelude.{Result, Ok, Err, Option}
-use Rattle.std.proofs.lemmas.Bool.{cases_lt}
-use Rattle.std.proofs.Math.Nat.{eq-or-lt_of_le}
-use Rattle.std.proofs.lemmas.List.Elements.{All-weaker}
-use Rattle.keymap_core.specs.Accents.{AccentValue}
-use Rattle.keymap_core.specs.Maps.{MapValue}
-use Rattle.keymap_core.specs.Bounds.{IsCell, IsEntry, IsPair, IsAccent, IsMap}
-use Rattle.keymap_tables.specs.Types.{Cell, Char, Act, Entry, Layout, TableError, Memory, Read, Fault, TableFault}
-use Rattle.keymap_tables.specs.Types.{TableFaultKind}
-use Rattle.keymap_tables.specs.Faults.{IsFirstFault, fault_at}
-use Rattle.keymap_tables.specs.Fits.{CellFits, EntryFits, PairFits, AccentFits, FitsIn}
-use Rattle.keymap_tables.specs.Image.{image_in}
-use Rattle.keymap_tables.specs.Layouts.{wide}
-use Rattle.keymap_tables.specs.Readings.{IsReading, IsReadingIn, AnswersMap, AnswersFault}
+use Rattle.keymap_tables.proofs.Common.{◌≡◌, ℕ, ◌<◌, List, None, Some, sym, ap, ◌∙◌, subst, inl, inr, arith, Result, Ok}
+use Rattle.keymap_tables.proofs.Common.{Err, Option, cases_lt, eq-or-lt_of_le, All-weaker, AccentValue, MapValue}
+use Rattle.keymap_tables.proofs.Common.{IsCell, IsEntry, IsAccent, IsMap, IsScalar, Cell, Char, Act, Entry, Layout}
+use Rattle.keymap_tables.proofs.Common.{TableFault, TableFaultKind, IsFirstFault, fault_at, CellFits, EntryFits}
+use Rattle.keymap_tables.proofs.Common.{AccentFits, FitsIn, image_in, numbers_of, wide, number_limit}
+use Rattle.keymap_tables.specs.Types.{TableError, Memory, Read, Fault}
+use Rattle.keymap_tables.specs.Readings.{IsReadingIn, AnswersMap, AnswersFault}
+use Rattle.keymap_tables.proofs.AccentImages.{numbers-known}
 use Rattle.keymap_tables.proofs.Images.{image-sound, same-map}
 use Rattle.keymap_tables.proofs.SlotImages.{scalar-small}
 
 -- Every map fits in the wide file.
 cell-wide : (cell : Cell) → IsCell cell → CellFits wide cell
 cell-wide (Char c) known = scalar-small c known
-cell-wide (Act a) known = tt
+cell-wide (Act a) known = omega arith
 
 -- each known entry fits a wide slot
 pub entry-wide : (entry : Entry) → IsEntry entry → EntryFits wide entry
 entry-wide entry known = All-weaker IsCell (CellFits wide) cell-wide entry.cells known.cells
 
--- each known pair fits two wide numbers
-pub pair-wide : (pair : ℕ × ℕ) → IsPair pair → PairFits wide pair
-pair-wide pair known = (scalar-small pair.0 known.0, scalar-small pair.1 known.2)
-
 -- each known accent fits wide numbers
 pub accent-wide : (accent : AccentValue) → IsAccent accent → AccentFits wide accent
 accent-wide accent known =
-    (scalar-small accent.own known.own, All-weaker IsPair (PairFits wide) pair-wide accent.pairs known.pairs)
+    All-weaker IsScalar (λ n. n < number_limit wide) scalar-small (numbers_of accent) (numbers-known accent known)
 
 -- each map fits a wide table
 pub map-wide : (m : MapValue) → IsMap m → FitsIn wide m
@@ -52,17 +41,12 @@ pub no-fault : (l : Layout) (m : MapValue) (f : TableFault) → IsMap m → Fits
 no-fault l m f is fits fault =
     some_none f.kind (fault_at l (image_in l m) f.offset) fault.here (image-sound l m is fits f.offset)
 
--- a fault of a place and a kind
-fault_of : ℕ → TableFaultKind → TableFault
-fault_of offset kind = record { offset = offset; kind = kind }
-
 -- a place has one kind of fault
 same-kind : (o : Option TableFaultKind) (k l : TableFaultKind) → o ≡ Some k → o ≡ Some l → k ≡ l
 same-kind o k l first second = cc
 
 -- A file has one fault.
 pub one-fault : (at : ℕ → Option TableFaultKind) (f g : TableFault) → IsFirstFault at f → IsFirstFault at g → f ≡ g
-unfolding fault_of
 one-fault at f g first second =
     let place : f.offset ≡ g.offset = elim (cases_lt f.offset g.offset) [
       | inl before ↦ absurd (some_none f.kind (at f.offset) first.here (second.before f.offset before))
@@ -73,7 +57,7 @@ one-fault at f g first second =
     ] in
     let kind : f.kind ≡ g.kind =
     same-kind (at g.offset) f.kind g.kind (subst (λ (p : ℕ). at p ≡ Some f.kind) place first.here) second.here in
-    ap (λ (p : ℕ). fault_of p f.kind) place ∙ ap (λ (k : TableFaultKind). fault_of g.offset k) kind
+    ap (λ (p : ℕ). record f { offset = p }) place ∙ ap (λ (k : TableFaultKind). record g { kind = k }) kind
 
 -- Reading the image of a map that fits gives the map.
 pub reading-image : (l : Layout) (bytes : List ℕ) (r : Result MapValue TableError) → IsReadingIn l bytes r
@@ -92,17 +76,3 @@ reading-fault l bytes (Ok n) reading f fault =
 reading-fault l bytes (Err Memory) reading f fault = tt
 reading-fault l bytes (Err (Read g)) reading f fault = absurd reading
 reading-fault l bytes (Err (Fault g)) reading f fault = one-fault (fault_at l bytes) g f reading fault
-
--- The reading of a table file, with and without what every map has there.
-pub reading-wide : (bytes : List ℕ) (r : Result MapValue TableError) → IsReadingIn wide bytes r → IsReading bytes r
-reading-wide bytes (Ok m) reading = (reading.0, reading.1)
-reading-wide bytes (Err Memory) reading = reading
-reading-wide bytes (Err (Read f)) reading = reading
-reading-wide bytes (Err (Fault f)) reading = reading
-
--- what is a reading of a table is one of the wide layout
-pub reading-in : (bytes : List ℕ) (r : Result MapValue TableError) → IsReading bytes r → IsReadingIn wide bytes r
-reading-in bytes (Ok m) reading = (reading.0, reading.1, map-wide m reading.0)
-reading-in bytes (Err Memory) reading = reading
-reading-in bytes (Err (Read f)) reading = reading
-reading-in bytes (Err (Fault f)) reading = reading

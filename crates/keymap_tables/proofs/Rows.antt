@@ -1,16 +1,19 @@
 -- Rows of equal size, of which those after the last one are blank.
-use Rattle.std.proofs.Common.{◌≡◌, ℕ, ◌+◌, ◌-◌, ◌*◌, ◌<◌, ◌≤◌, zero, suc, List, [], ◌∷◌, ◌++◌, length, take, drop}
-use Rattle.std.proofs.Common.{get_or, replicate, refl, sym, ap, ◌∙◌, arith, subst, inl, inr, add-one, append_assoc}
-use Rattle.std.proofs.Common.{append-nil, length-append, mul-suc, mul-zero}
-use Rattle.std.proofs.lemmas.Grind.{flat_map-append}
-use Rattle.std.proofs.lemmas.Bool.{cases_lt}
-use Rattle.std.proofs.lemmas.List.{take-append-drop, replicate-append-replicate, length-replicate, get_or_append_left}
-use Rattle.std.proofs.lemmas.List.{get_or-append_right, get_or-replicate, get_or_past, take_more, take_all, set_at}
+use Rattle.keymap_tables.proofs.Common.{◌≡◌, ℕ, ◌+◌, ◌-◌, ◌*◌, ◌/◌, ◌%◌, ◌<◌, ◌≤◌, zero, suc, List, [], ◌∷◌, ◌++◌}
+use Rattle.keymap_tables.proofs.Common.{length, take, drop, get_or, replicate, refl, sym, ap, ◌∙◌, arith, subst, inl}
+use Rattle.keymap_tables.proofs.Common.{inr, None, add-one, append_assoc, append-nil, length-append, length-drop}
+use Rattle.keymap_tables.proofs.Common.{mul-suc, mul-zero, mul_comm, All, flat_map-append, cases_lt, take-append-drop}
+use Rattle.keymap_tables.proofs.Common.{replicate-append-replicate, length-replicate, get_or-append_right}
+use Rattle.keymap_tables.proofs.Common.{get_or-replicate, get_or_past, take_more, take_all, take_at, drop_at, drop-drop}
+use Rattle.keymap_tables.proofs.Common.{same_lists, All-head, All-tail, All-get_or, All-append, All-replicate}
+use Rattle.keymap_tables.proofs.Common.{mul-le-mul_left, mul-sub, flat_map, placed, FaultOf, rows_fault, rows_bytes}
+use Rattle.keymap_tables.proofs.Common.{zeros, HasNoFault, part}
+use Rattle.std.proofs.lemmas.List.{get_or_append_left, set_at}
+use Rattle.std.proofs.lemmas.Nat.{mod_below}
+use Rattle.std.proofs.Math.Nat.{mul-div-le, div-add-mod}
 use Rattle.std.proofs.Math.Seq.{take-add}
-use Rattle.std.specs.List.{flat_map}
-use Rattle.keymap_core.specs.Maps.{placed}
-use Rattle.keymap_tables.specs.Layouts.{part}
-use Rattle.keymap_tables.specs.Image.{zeros}
+use Rattle.keymap_tables.proofs.Lifting.{row-at}
+use Rattle.keymap_tables.proofs.Sizes.{rows-size}
 
 -- a list, and blanks up to a length
 abbrev pub filled : {X : Type 0} → X → ℕ → List X → List X
@@ -32,75 +35,6 @@ get_or-filled blank n xs i inside =
           ∙ sym (get_or_past xs i blank past)
     ]
 
--- rows of blanks are zeros
-pub flat_map-replicate : {X : Type 0} (f : X → List ℕ) (x : X) (size n : ℕ) → f x ≡ zeros size
-    → flat_map f (replicate n x) ≡ zeros (size * n)
-flat_map-replicate f x size zero blank = rw mul-zero refl
-flat_map-replicate f x size (suc n) blank =
-    let grown : size * suc n ≡ size + size * n = mul-suc size n ∙ omega arith in
-    rw (blank, flat_map-replicate f x size n blank, grown) (replicate-append-replicate size (size * n) 0)
-
--- the bytes of what is filled up are those of the rows, and then zeros
-pub flat_map-filled : {X : Type 0} (f : X → List ℕ) (blank : X) (size n : ℕ) (xs : List X) → f blank ≡ zeros size
-    → flat_map f (filled blank n xs) ≡ flat_map f xs ++ zeros (size * (n - length xs))
-flat_map-filled f blank size n xs empty =
-    rw (flat_map-append, flat_map-replicate f blank size (n - length xs) empty) refl
-
--- one more row
-pub flat_map-next : {X : Type 0} (f : X → List ℕ) (blank : X) (n : ℕ) (xs : List X) (i : ℕ) → length xs ≤ n → i < n
-    → flat_map f (take (i + 1) (filled blank n xs)) ≡ flat_map f (take i (filled blank n xs)) ++ f (get_or xs i blank)
-flat_map-next f blank n xs i few inside =
-    let within : i < length (filled blank n xs) = omega (arith, length-filled blank n xs few) in
-    rw (take_more (filled blank n xs) i blank within, get_or-filled blank n xs i inside, flat_map-append)
-    (ap (λ (v : List ℕ). flat_map f (take i (filled blank n xs)) ++ v) (append-nil (f (get_or xs i blank))))
-
--- One more row, after a text.
-pub rows-next : {X : Type 0} (f : X → List ℕ) (blank : X) (n : ℕ) (xs : List X) (i : ℕ) (text piece : List ℕ)
-    → length xs ≤ n → i < n → piece ≡ f (get_or xs i blank)
-    → (text ++ flat_map f (take i (filled blank n xs))) ++ piece ≡ text ++ flat_map f (take (i + 1) (filled blank n xs))
-rows-next f blank n xs i text piece few inside is =
-    rw (flat_map-next f blank n xs i few inside, is)
-    (append_assoc text (flat_map f (take i (filled blank n xs))) (f (get_or xs i blank)))
-
--- All rows.
-pub rows-all : {X : Type 0} (f : X → List ℕ) (blank : X) (size n : ℕ) (xs : List X) (i : ℕ) → length xs ≤ n → n ≤ i
-    → f blank ≡ zeros size → flat_map f (take i (filled blank n xs)) ≡ flat_map f xs ++ zeros (size * (n - length xs))
-rows-all f blank size n xs i few past empty =
-    rw (take_all i (filled blank n xs) (omega (arith, length-filled blank n xs few)))
-    (flat_map-filled f blank size n xs empty)
-
--- All rows, cut after one.
-pub rows-cut : {X : Type 0} (f : X → List ℕ) (blank : X) (size n : ℕ) (xs : List X) (i : ℕ) (text piece : List ℕ)
-    → length xs ≤ n → i < n → f blank ≡ zeros size → piece ≡ f (get_or xs i blank)
-    → text ++ (flat_map f xs ++ zeros (size * (n - length xs)))
-    ≡ ((text ++ flat_map f (take i (filled blank n xs))) ++ piece) ++ flat_map f (drop (i + 1) (filled blank n xs))
-rows-cut f blank size n xs i text piece few inside empty is =
-    rw (
-      rows-next f blank n xs i text piece few inside is,
-      ← flat_map-filled f blank size n xs empty,
-      append_assoc,
-      ← flat_map-append,
-      take-append-drop,
-    )
-    refl
-
--- One more row, read.
-pub rows-read : {X : Type 0} (f : X → List ℕ) (size : ℕ) (bytes : List ℕ) (xs : List X) (i : ℕ) (x : X)
-    → flat_map f xs ≡ take (size * i) bytes → part bytes (size * i) size ≡ f x
-    → flat_map f (xs ++ x ∷ []) ≡ take (size * (i + 1)) bytes
-rows-read f size bytes xs i x so_far here =
-    let grown : size * (i + 1) ≡ size * i + size = rw add-one (mul-suc size i) in
-    rw (flat_map-append, grown, take-add (size * i) size bytes, so_far, here)
-    (ap (λ (v : List ℕ). take (size * i) bytes ++ v) (append-nil (f x)))
-
--- All rows, read.
-pub rows-whole : {X : Type 0} (f : X → List ℕ) (size n k : ℕ) (bytes : List ℕ) (xs : List X)
-    → flat_map f xs ≡ take (size * k) bytes → drop (size * k) bytes ≡ zeros (length bytes - size * k)
-    → length bytes - size * k ≡ size * (n - length xs) → bytes ≡ flat_map f xs ++ zeros (size * (n - length xs))
-rows-whole f size n k bytes xs so_far empty rest =
-    sym (take-append-drop (size * k) bytes) ∙ ap (λ (v : List ℕ). v ++ drop (size * k) bytes) (sym so_far)
-    ∙ ap (λ (v : List ℕ). flat_map f xs ++ v) (empty ∙ ap zeros rest)
-
 -- An element placed behind the last one.
 pub placed-end : {X : Type 0} (blank : X) (xs : List X) (i : ℕ) (x : X) → length xs ≡ i
     → placed blank xs i x ≡ xs ++ x ∷ []
@@ -108,12 +42,188 @@ placed-end blank xs i x end =
     let one : i + 1 - length xs ≡ 1 = omega arith in
     rw one (set_at xs blank [] x i end)
 
--- What is known of each number in use below i, and of i.
-pub known-next : (used known : ℕ → Type 0) (i : ℕ) → ((k : ℕ) → k < i → used k → known k) → (used i → known i) → (k : ℕ)
-    → k < i + 1 → used k → known k
-known-next used known i before here k below is =
-    elim (cases_lt k i) [
-      | inl low ↦ before k low is
-      | inr high ↦ let same : i ≡ k = omega arith in
-          subst (λ (j : ℕ). used j → known j) same here is
-    ]
+-- a slice that is given by its ends, and one of the place and the size of a row
+pub cut : (bytes : List ℕ) (at n : ℕ) → take (at + n - at) (drop at bytes) ≡ part bytes at n
+cut bytes at n =
+    let size : at + n - at ≡ n = omega arith in
+    ap (λ (k : ℕ). take k (drop at bytes)) size
+
+pub cut-row : (bytes : List ℕ) (size i n : ℕ) → n ≡ size
+    → take (n * i + n - n * i) (drop (n * i) bytes) ≡ part bytes (size * i) size
+cut-row bytes size i n is =
+    ap (λ (k : ℕ). take (k * i + k - k * i) (drop (k * i) bytes)) is ∙ cut bytes (size * i) size
+
+-- a slice from a place on
+pub cut-rest : (bytes : List ℕ) (n at : ℕ) → at ≡ n → take (length bytes - at) (drop at bytes) ≡ drop n bytes
+cut-rest bytes n at is =
+    take_all (length bytes - at) (drop at bytes) (omega (arith, length-drop at bytes)) ∙ ap (λ (k : ℕ). drop k bytes) is
+
+module _ {X : Type 0} (f : X → List ℕ) (size : ℕ) where
+  -- rows of one size have that size times their number
+  pub length-rows : (xs : List X) → All (λ x. length (f x) ≡ size) xs → length (flat_map f xs) ≡ size * length xs
+  length-rows [] sized = rw mul-zero refl
+  length-rows (x ∷ xs) sized =
+      let rest = length-rows xs (All-tail (λ y. length (f y) ≡ size) x xs sized) in
+      let first = All-head (λ y. length (f y) ≡ size) x xs sized in
+      omega (arith, length-append (f x) (flat_map f xs), rest, first, mul-suc size (length xs))
+
+  -- rows in use and zeros for the others have the size of all
+  pub length-all : (n : ℕ) (xs : List X) → All (λ x. length (f x) ≡ size) xs → length xs ≤ n
+      → length (rows_bytes f size n xs) ≡ n * size
+  length-all n xs sized few =
+      length-append (flat_map f xs) (zeros (size * (n - length xs)))
+      ∙ omega (
+        arith,
+        rows-size size n (length xs) few,
+        length-rows xs sized,
+        length-replicate {A = ℕ} (size * (n - length xs)) 0,
+      )
+
+  -- a row, cut out
+  pub row-in : (xs : List X) (rest : List ℕ) (i : ℕ) (d : X) → All (λ x. length (f x) ≡ size) xs → i < length xs
+      → part (flat_map f xs ++ rest) (size * i) size ≡ f (get_or xs i d)
+  row-in [] rest i d sized below = absurd (omega arith)
+  row-in (x ∷ xs) rest zero d sized below =
+      let first : length (f x) ≡ size = All-head (λ y. length (f y) ≡ size) x xs sized in
+      rw (mul-zero, append_assoc) (take_at (f x) (flat_map f xs ++ rest) size first)
+  row-in (x ∷ xs) rest (suc i) d sized below =
+      let first : length (f x) ≡ size = All-head (λ y. length (f y) ≡ size) x xs sized in
+      let place : size * suc i ≡ size + size * i = omega (arith, mul-suc size i) in
+      let behind : drop size (f x ++ (flat_map f xs ++ rest)) ≡ flat_map f xs ++ rest =
+      drop_at (f x) (flat_map f xs ++ rest) size first in
+      rw (place, append_assoc, ← drop-drop (size * i) size (f x ++ (flat_map f xs ++ rest)), behind)
+      (row-in xs rest i d (All-tail (λ y. length (f y) ≡ size) x xs sized) (omega arith))
+
+  -- rows of blanks are zeros
+  flat_map-replicate : (x : X) (n : ℕ) → f x ≡ zeros size → flat_map f (replicate n x) ≡ zeros (size * n)
+  flat_map-replicate x zero blank = rw mul-zero refl
+  flat_map-replicate x (suc n) blank =
+      let grown : size * suc n ≡ size + size * n = mul-suc size n ∙ omega arith in
+      rw (blank, flat_map-replicate x n blank, grown) (replicate-append-replicate size (size * n) 0)
+
+  -- the bytes of what is filled up are those of the rows, and then zeros
+  pub flat_map-filled : (blank : X) (n : ℕ) (xs : List X) → f blank ≡ zeros size
+      → flat_map f (filled blank n xs) ≡ rows_bytes f size n xs
+  flat_map-filled blank n xs empty = rw (flat_map-append, flat_map-replicate blank (n - length xs) empty) refl
+
+  -- a row of rows that are filled up with blanks is the element's, or blank
+  pub filled-row : (blank : X) (n : ℕ) (xs : List X) (i : ℕ) → All (λ x. length (f x) ≡ size) xs
+      → f blank ≡ zeros size → length xs ≤ n → i < n
+      → part (rows_bytes f size n xs) (size * i) size ≡ f (get_or xs i blank)
+  filled-row blank n xs i sized empty few inside =
+      let long : length (f blank) ≡ size = ap length empty ∙ length-replicate size 0 in
+      ap (λ (v : List ℕ). part v (size * i) size)
+      (sym (flat_map-filled blank n xs empty) ∙ sym (append-nil (flat_map f (filled blank n xs))))
+      ∙ row-in (filled blank n xs) [] i blank
+      (All-append (λ x. length (f x) ≡ size) xs (replicate (n - length xs) blank) sized
+      (All-replicate (λ x. length (f x) ≡ size) (n - length xs) blank long))
+      (omega (arith, length-filled blank n xs few))
+      ∙ ap f (get_or-filled blank n xs i inside)
+
+  -- one more row, after a text
+  pub rows-next : (blank : X) (n : ℕ) (xs : List X) (i : ℕ) (x : X) (text : List ℕ) → x ≡ get_or xs i blank
+      → length xs ≤ n → i < n
+      → (text ++ flat_map f (take i (filled blank n xs))) ++ f x ≡ text ++ flat_map f (take (i + 1) (filled blank n xs))
+  rows-next blank n xs i x text here few inside =
+      let within : i < length (filled blank n xs) = omega (arith, length-filled blank n xs few) in
+      ap (λ (v : X). (text ++ flat_map f (take i (filled blank n xs))) ++ f v) here
+      ∙ append_assoc text (flat_map f (take i (filled blank n xs))) (f (get_or xs i blank))
+      ∙ ap (λ (v : List ℕ). text ++ v)
+      (rw (take_more (filled blank n xs) i blank within, get_or-filled blank n xs i inside, flat_map-append)
+      (ap (λ (v : List ℕ). flat_map f (take i (filled blank n xs)) ++ v) (sym (append-nil (f (get_or xs i blank))))))
+
+  -- all rows
+  pub rows-all : (blank : X) (n : ℕ) (xs : List X) (i : ℕ) → length xs ≤ n → n ≤ i → f blank ≡ zeros size
+      → flat_map f (take i (filled blank n xs)) ≡ rows_bytes f size n xs
+  rows-all blank n xs i few past empty =
+      rw (take_all i (filled blank n xs) (omega (arith, length-filled blank n xs few))) (flat_map-filled blank n xs empty)
+
+  -- all rows, cut after one
+  pub rows-cut : (blank : X) (n : ℕ) (xs : List X) (i : ℕ) (x : X) (text : List ℕ) → x ≡ get_or xs i blank
+      → length xs ≤ n → i < n → f blank ≡ zeros size
+      → text ++ rows_bytes f size n xs
+      ≡ ((text ++ flat_map f (take i (filled blank n xs))) ++ f x) ++ flat_map f (drop (i + 1) (filled blank n xs))
+  rows-cut blank n xs i x text here few inside empty =
+      rw (
+        rows-next blank n xs i x text here few inside,
+        ← flat_map-filled blank n xs empty,
+        append_assoc,
+        ← flat_map-append,
+        take-append-drop,
+      )
+      refl
+
+  -- one more row, written
+  pub rows-written : (xs : List X) (i : ℕ) (x d : X) (old new : List ℕ) → i < length xs → x ≡ get_or xs i d
+      → old ≡ flat_map f (take i xs) → new ≡ old ++ f x → new ≡ flat_map f (take (i + 1) xs)
+  rows-written xs i x d old new below here so_far grown =
+      rw (take_more xs i d below, ← here, flat_map-append)
+      (grown ∙ ap (λ (v : List ℕ). v ++ f x) so_far
+      ∙ ap (λ (v : List ℕ). flat_map f (take i xs) ++ v) (sym (append-nil (f x))))
+
+  -- all rows, written, and zeros behind them
+  pub rows-ended : (n k : ℕ) (xs : List X) (i : ℕ) (old new : List ℕ) → i ≡ length xs → k ≡ n * size
+      → old ≡ flat_map f (take i xs) → length old ≡ size * i → new ≡ old ++ zeros (k - length old)
+      → new ≡ rows_bytes f size n xs
+  rows-ended n k xs i old new end whole so_far long filled =
+      let all : old ≡ flat_map f xs = so_far ∙ ap (flat_map f) (take_all i xs (omega arith)) in
+      let rest : k - length old ≡ size * (n - length xs) =
+      ap (λ (j : ℕ). j - length old) (whole ∙ mul_comm n size)
+      ∙ ap (λ (j : ℕ). size * n - j) (long ∙ ap (λ (j : ℕ). size * j) end) ∙ sym (mul-sub size n (length xs)) in
+      filled ∙ ap (λ (v : List ℕ). v ++ zeros (k - length old)) all ∙ ap (λ (j : ℕ). flat_map f xs ++ zeros j) rest
+
+  -- one more row, read
+  pub rows-read : (bytes : List ℕ) (xs : List X) (i : ℕ) (x : X) → flat_map f xs ≡ take (size * i) bytes
+      → part bytes (size * i) size ≡ f x → flat_map f (xs ++ x ∷ []) ≡ take (size * (i + 1)) bytes
+  rows-read bytes xs i x so_far here =
+      let grown : size * (i + 1) ≡ size * i + size = rw add-one (mul-suc size i) in
+      rw (flat_map-append, grown, take-add (size * i) size bytes, so_far, here)
+      (ap (λ (v : List ℕ). take (size * i) bytes ++ v) (append-nil (f x)))
+
+  -- all rows, read
+  pub rows-whole : (n k : ℕ) (bytes : List ℕ) (xs : List X) → length xs ≡ k → length bytes ≡ n * size
+      → flat_map f xs ≡ take (size * k) bytes → drop (size * k) bytes ≡ zeros (length bytes - size * k)
+      → bytes ≡ rows_bytes f size n xs
+  rows-whole n k bytes xs counted whole so_far empty =
+      let rest : length bytes - size * k ≡ size * (n - length xs) =
+      ap (λ (j : ℕ). j - size * k) (whole ∙ mul_comm n size) ∙ sym (mul-sub size n k)
+      ∙ ap (λ (j : ℕ). size * (n - j)) (sym counted) in
+      sym (take-append-drop (size * k) bytes) ∙ ap (λ (v : List ℕ). v ++ drop (size * k) bytes) (sym so_far)
+      ∙ ap (λ (v : List ℕ). flat_map f xs ++ v) (empty ∙ ap zeros rest)
+
+  -- rows without a fault
+  pub rows-clean : (fault_in : ℕ → List ℕ → FaultOf) (n : ℕ) (behind : FaultOf) (xs : List X) (rest : List ℕ) (d : X)
+      → 0 < size → n ≡ length xs → All (λ x. length (f x) ≡ size) xs
+      → ((i : ℕ) → i < length xs → HasNoFault (fault_in i (f (get_or xs i d))) size)
+      → HasNoFault (rows_fault fault_in size n behind (flat_map f xs ++ rest)) (size * n)
+  rows-clean fault_in n behind xs rest d some counted sized sound p within =
+      let bytes = flat_map f xs ++ rest in
+      let i = p / size in
+      let q = p % size in
+      let place : size * (p / size) + p % size ≡ p = div-add-mod p size in
+      let inside : p % size < size = mod_below p size some in
+      elim (cases_lt (p / size) n) [
+        | inl used ↦ let below : p / size < length xs = omega arith in
+            subst (λ (r : ℕ). rows_fault fault_in size n behind (flat_map f xs ++ rest) r ≡ None) place
+            (row-at fault_in size n behind bytes i q used inside
+            ∙ subst (λ (v : List ℕ). fault_in i v q ≡ None) (sym (row-in xs rest i d sized below))
+            (sound i below q inside))
+        | inr unused ↦ let far : size * n ≤ size * (p / size) = mul-le-mul_left size unused in
+            absurd (omega (arith, mul-div-le p size))
+      ]
+
+  -- Two lists of rows with the same bytes are one, where the bytes of a row give it.
+  pub same-rows : (P : X → Type 0) (xs ys : List X) (more other : List ℕ) → ((x y : X) → P x → P y → f x ≡ f y → x ≡ y)
+      → All (λ x. length (f x) ≡ size) xs → All (λ x. length (f x) ≡ size) ys → All P xs → All P ys
+      → length xs ≡ length ys → flat_map f xs ++ more ≡ flat_map f ys ++ other → xs ≡ ys
+  same-rows P xs ys more other gives sized also known too counted same =
+      same_lists xs ys counted (λ k d below.
+      let within : k < length ys = omega arith in
+      gives (get_or xs k d) (get_or ys k d) (All-get_or P xs k d below known) (All-get_or P ys k d within too)
+      (sym (row-in xs more k d sized below) ∙ ap (λ (v : List ℕ). part v (size * k) size) same
+      ∙ row-in ys other k d also within))
+
+-- the first rows are the images of so many that there are
+abbrev pub Reads : {X : Type 0} → (X → List ℕ) → (X → Type 0) → ℕ → List ℕ → ℕ → Type 0
+Reads {X = X} f Is size bytes i =
+    (xs : List X) × (length xs ≡ i) × (flat_map f xs ≡ take (size * i) bytes) × All Is xs

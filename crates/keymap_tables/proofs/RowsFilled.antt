@@ -1,21 +1,20 @@
 -- Rows that are filled one by one.
-use Rattle.std.proofs.Common.{◌≡◌, ℕ, ◌+◌, ◌-◌, ◌<◌, ◌≤◌, max, List, [], ◌∷◌, ◌++◌, length, map, replicate, set}
-use Rattle.std.proofs.Common.{refl, sym, ap, ap₂, ◌∙◌, arith, append_assoc, length-append, All}
-use Rattle.std.proofs.lemmas.List.{length-set, map-set, set-append_left, replicate-append-replicate, length-replicate}
-use Rattle.std.proofs.lemmas.List.Elements.{All-set, All-append, All-replicate}
-use Rattle.std.specs.List.{flat_map}
-use Rattle.keymap_core.specs.Accents.{AccentValue, blank}
-use Rattle.keymap_core.specs.Bounds.{IsMap, IsEntry, IsAccent, IsCell}
-use Rattle.keymap_core.specs.Maps.{MapValue, placed, undefined, with_entry, with_accent}
-use Rattle.keymap_tables.specs.Types.{Entry}
+use Rattle.keymap_tables.proofs.Common.{◌≡◌, ℕ, ◌+◌, ◌-◌, ◌<◌, ◌≤◌, List, [], ◌∷◌, ◌++◌, length, replicate, set, refl}
+use Rattle.keymap_tables.proofs.Common.{sym, ap, ◌∙◌, arith, append_assoc, length-append, All}
+use Rattle.keymap_tables.proofs.Common.{replicate-append-replicate, length-replicate, All-append, All-replicate}
+use Rattle.keymap_tables.proofs.Common.{flat_map, AccentValue, blank, IsEntry, IsAccent, MapValue, placed, undefined}
+use Rattle.keymap_tables.proofs.Common.{Entry, image, slot_bytes, accent_bytes, count_bytes, rows_bytes, table_bytes}
+use Rattle.keymap_tables.proofs.Common.{wide}
+use Rattle.std.proofs.Common.{max, map, ap₂}
+use Rattle.std.proofs.lemmas.List.{length-set, map-set, set-append_left}
+use Rattle.std.proofs.lemmas.List.Elements.{All-set}
+use Rattle.keymap_core.specs.Maps.{with_entry, with_accent}
 use Rattle.keymap_tables.specs.Files.{joined}
-use Rattle.keymap_tables.specs.declared.file.TableFile.{TableFile}
 use Rattle.keymap_tables.specs.declared.filling.Filling.{Filling}
-use Rattle.keymap_tables.specs.Image.{image, slot_bytes, accent_bytes, count_bytes, slots_bytes, accents_bytes}
 use Rattle.keymap_tables.specs.Filled.{Shows, rows}
-use Rattle.keymap_tables.specs.Layouts.{wide}
+use Rattle.keymap_tables.proofs.AtPlaces.{undefined-known, blank-known}
 use Rattle.keymap_tables.proofs.Rows.{filled, flat_map-filled}
-use Rattle.keymap_tables.proofs.Whole.{image-parts}
+use Rattle.keymap_tables.proofs.Images.{image-parts}
 
 -- a list reaches at least to what was placed
 placed-length : {X : Type 0} (x : X) (xs : List X) (i : ℕ) (y : X) → length (placed x xs i y) ≡ max (length xs) (i + 1)
@@ -49,37 +48,14 @@ rows-placed f x n xs i y row old few inside is was =
     ∙ sym (map-set f (xs ++ replicate (n - length xs) x) i y)
     ∙ sym (ap (λ v. map f v) (filled-placed x n xs i y few inside))
 
-all-placed : {X : Type 0} (P : X → Type 0) (x : X) (xs : List X) (i : ℕ) (y : X) → P x → P y → All P xs
-    → All P (placed x xs i y)
-all-placed P x xs i y is_blank is all =
-    All-set P (xs ++ replicate (i + 1 - length xs) x) i y is
-    (All-append P xs (replicate (i + 1 - length xs) x) all (All-replicate P (i + 1 - length xs) x is_blank))
-
-undefined_is : IsEntry undefined
-undefined_is = record { eight = refl; cells = All-replicate IsCell 8 _ refl }
-
-blank_is : IsAccent blank
-blank_is = record { own = refl; few = omega arith; pairs = λ k d lt. absurd (omega (arith, lt)) }
-
-map-entry : (m : MapValue) (slot : ℕ) (e : Entry) → IsMap m → slot < 256 → IsEntry e → IsMap (with_entry m slot e)
-map-entry m slot e is inside known =
-    let long = placed-length undefined m.entries slot e in
-    let few = is.few_entries in record {
-      few_entries = omega (arith, long, few, inside);
-      entries = all-placed IsEntry undefined m.entries slot e undefined_is known is.entries;
-      few_accents = is.few_accents;
-      accents = is.accents;
-    }
-
-map-accent : (m : MapValue) (i : ℕ) (a : AccentValue) → IsMap m → i < 15 → IsAccent a → IsMap (with_accent m i a)
-map-accent m i a is inside known =
-    let long = placed-length blank m.accents i a in
-    let few = is.few_accents in record {
-      few_entries = is.few_entries;
-      entries = is.entries;
-      few_accents = omega (arith, long, few, inside);
-      accents = all-placed IsAccent blank m.accents i a blank_is known is.accents;
-    }
+-- what is known of a list, and of what was placed
+placed-known : {X : Type 0} (P : X → Type 0) (x : X) (n : ℕ) (xs : List X) (i : ℕ) (y : X) → P x → length xs ≤ n
+    → All P xs → i < n → P y → (length (placed x xs i y) ≤ n) × All P (placed x xs i y)
+placed-known P x n xs i y is_blank few all inside is = (
+  omega (arith, placed-length x xs i y),
+  All-set P (xs ++ replicate (i + 1 - length xs) x) i y is
+      (All-append P xs (replicate (i + 1 - length xs) x) all (All-replicate P (i + 1 - length xs) x is_blank)),
+)
 
 -- a slot is defined
 pub shows-entry : (t : Filling) (m : MapValue) (slot n : ℕ) (e : Entry) (row : List ℕ) → Shows t m → slot < 256
@@ -88,8 +64,17 @@ pub shows-entry : (t : Filling) (m : MapValue) (slot n : ℕ) (e : Entry) (row :
     (with_entry m slot e)
 shows-entry t m slot n e row s inside known is count =
     let keys = s.n_keys in
-    let long = placed-length undefined m.entries slot e in record {
-      known = map-entry m slot e s.known inside known;
+    let long = placed-length undefined m.entries slot e in
+    let was = s.known in
+    let now =
+    placed-known IsEntry undefined 256 m.entries slot e undefined-known was.few_entries was.entries inside known in
+    record {
+      known = record {
+        few_entries = now.0;
+        entries = now.1;
+        few_accents = was.few_accents;
+        accents = was.accents;
+      };
       n_keys = omega (arith, count, keys, long);
       slots =
           rows-placed (slot_bytes wide) undefined 256 m.entries slot e row t.slots s.known.few_entries inside is
@@ -105,8 +90,16 @@ pub shows-accent : (t : Filling) (m : MapValue) (i n : ℕ) (a : AccentValue) (r
     (with_accent m i a)
 shows-accent t m i n a row s inside known is count =
     let accs = s.n_accs in
-    let long = placed-length blank m.accents i a in record {
-      known = map-accent m i a s.known inside known;
+    let long = placed-length blank m.accents i a in
+    let was = s.known in
+    let now = placed-known IsAccent blank 15 m.accents i a blank-known was.few_accents was.accents inside known in
+    record {
+      known = record {
+        few_entries = was.few_entries;
+        entries = was.entries;
+        few_accents = now.0;
+        accents = now.1;
+      };
       n_keys = s.n_keys;
       slots = s.slots;
       n_accs = omega (arith, count, accs, long);
@@ -123,12 +116,14 @@ joined-map f (x ∷ xs) = ap (λ (v : List ℕ). f x ++ v) (joined-map f xs)
 pub file-of : (t : Filling) (m : MapValue) (n k : List ℕ) → Shows t m → n ≡ count_bytes wide t.n_keys
     → k ≡ count_bytes wide t.n_accs → n ++ joined t.slots ++ k ++ joined t.accents ≡ image m
 file-of t m n k s keys accs =
-    let slots : joined t.slots ≡ slots_bytes wide m.entries =
+    let slots : joined t.slots ≡ rows_bytes (slot_bytes wide) 36 256 m.entries =
     ap joined s.slots ∙ joined-map (slot_bytes wide) (filled undefined 256 m.entries)
-    ∙ flat_map-filled (slot_bytes wide) undefined 36 256 m.entries refl in
-    let accents : joined t.accents ≡ accents_bytes wide m.accents =
+    ∙ flat_map-filled (slot_bytes wide) 36 undefined 256 m.entries refl in
+    let accents : joined t.accents ≡ rows_bytes (accent_bytes wide) 420 15 m.accents =
     ap joined s.accents ∙ joined-map (accent_bytes wide) (filled blank 15 m.accents)
-    ∙ flat_map-filled (accent_bytes wide) blank 420 15 m.accents refl in
+    ∙ flat_map-filled (accent_bytes wide) 420 blank 15 m.accents refl in
     let first : n ≡ count_bytes wide (length m.entries) = keys ∙ ap (count_bytes wide) s.n_keys in
     let third : k ≡ count_bytes wide (length m.accents) = accs ∙ ap (count_bytes wide) s.n_accs in
-    rw (first, slots, third, accents) (sym (image-parts wide m))
+    rw (first, slots, third, accents) (append_assoc (table_bytes wide (slot_bytes wide) 36 256 m.entries) (count_bytes wide (length m.accents))
+    (rows_bytes (accent_bytes wide) 420 15 m.accents)
+    ∙ sym (image-parts wide m))

@@ -1,34 +1,32 @@
 -- The image of a slot: it has no fault, and gives the entry.
-use Rattle.std.proofs.Common.{◌≡◌, ℕ, ◌+◌, ◌-◌, ◌*◌, ◌/◌, ◌%◌, ◌^◌, ◌<◌, ◌≤◌, ◌==◌, suc, zero, List, [], ◌∷◌, ◌++◌}
-use Rattle.std.proofs.Common.{mul_comm, mul-zero}
-use Rattle.std.proofs.Common.{length, get_or, cond, None, refl, sym, ap, ◌∙◌, arith, append_assoc, length-append}
-use Rattle.std.specs.Prelude.{slice_index, Bool, true, false, unwrap_or}
-use Rattle.std.specs.Char.{IsScalar}
-use Rattle.std.specs.Int.{from_le_bytes}
-use Rattle.std.specs.List.{flat_map, fold}
-use Rattle.std.proofs.lemmas.Bool.Decides.{nat_tests}
-use Rattle.std.proofs.lemmas.List.{get_or-append_right, length-replicate, same_lists}
-use Rattle.std.proofs.lemmas.List.Elements.{All-get_or}
-use Rattle.std.proofs.lemmas.Nat.{from_le_bytes-to_le_bytes_4}
-use Rattle.std.proofs.Math.Nat.{pow-suc, div-div-eq-div-mul}
+use Rattle.keymap_tables.proofs.Common.{◌≡◌, ℕ, ◌+◌, ◌-◌, ◌*◌, ◌/◌, ◌%◌, ◌^◌, ◌<◌, ◌≤◌, ◌==◌, suc, zero, List, [], ◌∷◌}
+use Rattle.keymap_tables.proofs.Common.{◌++◌, drop, length, get_or, take, None, refl, sym, ap, ◌∙◌, subst, inl, inr}
+use Rattle.keymap_tables.proofs.Common.{arith, append_assoc, length-append, drop-cons, mul_comm, set, All}
+use Rattle.keymap_tables.proofs.Common.{slice_index, nat_le, Bool, true, false, IsScalar, from_le_bytes, flat_map}
+use Rattle.keymap_tables.proofs.Common.{cases_lt, nat_tests, common_steps, get_or-append_right}
+use Rattle.keymap_tables.proofs.Common.{length-replicate, same_lists, take-append-drop, take_all}
+use Rattle.keymap_tables.proofs.Common.{take_more_set, All-get_or, All-push, undefined, Cell, Char, Act, Entry, Layout}
+use Rattle.keymap_tables.proofs.Common.{Wide, Narrow, BadPad, IsCell, IsEntry, number_at, is_marked_at, char_fault}
+use Rattle.keymap_tables.proofs.Common.{cell_fault, slot_end_fault, slot_fault, zero_fault, HasNoFault, AreRows}
+use Rattle.keymap_tables.proofs.Common.{IsEntryIn, cell_bytes, number_of, is_act, marks_of, flag_number, slot_bytes}
+use Rattle.keymap_tables.proofs.Common.{zeros, CellFits, EntryFits, number_width, number_size, number_limit, pad_size}
+use Rattle.keymap_tables.proofs.Common.{slot_size}
+use Rattle.std.specs.Prelude.{unwrap_or}
+use Rattle.std.proofs.lemmas.List.Elements.{All-more}
 use Rattle.keymap_core.specs.Actions.{IsAction, code_of, action_of, within}
 use Rattle.keymap_core.specs.declared.action.Action.{Action}
+use Rattle.keymap_tables.specs.Types.{LockFlag}
+use Rattle.keymap_tables.specs.Faults.{cell_faults, flag_fault}
+use Rattle.keymap_tables.proofs.Lifting.{row-past, number-clean, none-past}
+use Rattle.keymap_tables.proofs.Marks.{mark-bit}
+use Rattle.keymap_tables.proofs.Numbers.{AreBytes, number-back, number-read, zeros-behind, drop-zeros}
+use Rattle.keymap_tables.proofs.Rows.{length-rows, row-in, rows-clean, rows-read}
+use Rattle.keymap_tables.proofs.Sizes.{some-number, slot-some, slot-blank, length-number}
+use Rattle.keymap_core.proofs.CodeLaws.{code-read}
 use Rattle.keymap_core.specs.declared.action.Action.TheVariants as a
 use Rattle.keymap_core.specs.declared.action.Modifier.TheVariants as m
 use Rattle.keymap_core.specs.declared.action.Lock.TheVariants as lock
-use Rattle.keymap_tables.specs.Types.{Cell, Char, Act, Entry, LockFlag, Layout, Wide, Narrow}
 use Rattle.keymap_core.specs.declared.entry.LockFlag.TheVariants as flag
-use Rattle.keymap_core.specs.Bounds.{IsCell, IsEntry}
-use Rattle.keymap_tables.specs.Faults.{number_at, is_marked_at, char_fault, cell_fault, slot_fault}
-use Rattle.keymap_tables.specs.Inner.Firsts.{HasNoFault}
-use Rattle.keymap_tables.specs.Image.{cell_bytes, number_bytes, number_of, is_act, marks_of, flag_number, slot_bytes}
-use Rattle.keymap_tables.specs.Image.{zeros}
-use Rattle.keymap_tables.specs.Fits.{CellFits, EntryFits}
-use Rattle.keymap_tables.specs.Layouts.{number_width, number_size, number_limit, pad_size, slot_size}
-use Rattle.keymap_tables.proofs.RowImages.{IsSized, length-rows, row-in, zeros-behind}
-use Rattle.keymap_tables.proofs.Sizes.{length-number}
-use Rattle.keymap_tables.proofs.Cells.{sound-more, slot-none, small-flag}
-use Rattle.keymap_core.proofs.CodeLaws.{code-read}
 
 -- The codes are small, and none is that of a combined action.
 pub code-bounds : (action : Action) → IsAction action
@@ -64,54 +62,53 @@ unfolding cell_of
 cell-again (Char c) known = refl
 cell-again (Act action) known = rw (code-read action known) refl
 
--- a mark
-abbrev bit : Cell → ℕ
-bit cell = cond (is_act cell) 1 0
+-- The places behind the cells.
+isnt_at : (a b : ℕ) → b < a → (a == b) ≡ false
+isnt_at a b past = grind (arith, nat_tests)
 
--- a mark is a bit
-bit-small : (cell : Cell) → bit cell < 2
-bit-small (Char c) = omega arith
-bit-small (Act action) = omega arith
+is_at : (a : ℕ) → (a == a) ≡ true
+is_at a = grind (arith, nat_tests)
 
--- a mark is set exactly for an action
-bit-test : (cell : Cell) → (bit cell == 1) ≡ is_act cell
-bit-test (Char c) = refl
-bit-test (Act action) = refl
+module _ (l : Layout) (bytes : List ℕ) where
+  slot-behind : (p : ℕ) → 8 * number_size l ≤ p → slot_fault l bytes p ≡ slot_end_fault l bytes p
+  slot-behind p past =
+      row-past (cell_faults l bytes) (number_size l) 8 (slot_end_fault l bytes) bytes p (some-number l) (omega arith)
 
--- the marks of cells behind those of a number
-abbrev marks_from : ℕ → List Cell → ℕ
-marks_from n cells = fold (λ k cell. 2 * k + bit cell) n cells
+  pub slot-flag : slot_fault l bytes (8 * number_size l + 1) ≡ flag_fault (slice_index bytes (8 * number_size l + 1))
+  slot-flag =
+      slot-behind (8 * number_size l + 1) (omega arith)
+      ∙ rw (isnt_at (8 * number_size l + 1) (8 * number_size l) (omega arith), is_at (8 * number_size l + 1)) refl
 
--- above the marks of the cells stands the number
-marks-high : (n : ℕ) (cells : List Cell) → marks_from n cells / 2 ^ length cells ≡ n
-marks-high n [] = omega arith
-marks-high n (c ∷ cells) =
-    let half : (2 * n + bit c) / 2 ≡ n = omega (arith, bit-small c) in
-    ap (λ (k : ℕ). marks_from (2 * n + bit c) cells / k) (pow-suc 2 (length cells))
-    ∙ sym (div-div-eq-div-mul (marks_from (2 * n + bit c) cells) (2 ^ length cells) 2)
-    ∙ ap (λ (k : ℕ). k / 2) (marks-high (2 * n + bit c) cells) ∙ half
+  pub slot-pad : (p : ℕ) → 8 * number_size l + 2 ≤ p → slot_fault l bytes p ≡ zero_fault BadPad bytes p
+  slot-pad p past =
+      slot-behind p (omega arith)
+      ∙ rw (isnt_at p (8 * number_size l) (omega arith), isnt_at p (8 * number_size l + 1) (omega arith)) refl
 
--- the mark of a cell, by how many follow it
-mark-at : (cells : List Cell) (n : ℕ) (d : Cell) (i k : ℕ) → k + i + 1 ≡ length cells
-    → marks_from n cells / 2 ^ k % 2 ≡ bit (get_or cells i d)
-mark-at [] n d i k end = absurd (omega arith)
-mark-at (c ∷ cells) n d zero k end =
-    let all : k ≡ length cells = omega arith in
-    let last : (2 * n + bit c) % 2 ≡ bit c = omega (arith, bit-small c) in
-    ap (λ (j : ℕ). marks_from (2 * n + bit c) cells / 2 ^ j % 2) all
-    ∙ ap (λ (j : ℕ). j % 2) (marks-high (2 * n + bit c) cells) ∙ last
-mark-at (c ∷ cells) n d (suc i) k end = mark-at cells (2 * n + bit c) d i k (omega arith)
+  -- no fault before the flag, and before the pads
+  pub slot-marks : HasNoFault (slot_fault l bytes) (8 * number_size l)
+      → HasNoFault (slot_fault l bytes) (8 * number_size l + 1)
+  slot-marks cells p below =
+      elim (cases_lt p (8 * number_size l)) [
+        | inl front ↦ cells p front
+        | inr from ↦ let same : 8 * number_size l ≡ p = omega arith in
+            subst (λ (q : ℕ). slot_fault l bytes q ≡ None) same
+            (slot-behind (8 * number_size l) (omega arith) ∙ rw (is_at (8 * number_size l)) refl)
+      ]
 
--- the mark of a column, cut out of the marks of eight cells
-mark-bit : (cells : List Cell) → length cells ≡ 8 → (d : Cell) (i : ℕ) → i < 8
-    → (marks_of cells / 2 ^ (7 - i) % 2 == 1) ≡ is_act (get_or cells i d)
-mark-bit cells eight d i below =
-    ap (λ (n : ℕ). n == 1) (mark-at cells 0 d i (7 - i) (omega (arith, eight))) ∙ bit-test (get_or cells i d)
+  pub slot-front : HasNoFault (slot_fault l bytes) (8 * number_size l)
+      → slice_index bytes (8 * number_size l + 1) ≤ 3 → HasNoFault (slot_fault l bytes) (8 * number_size l + 2)
+  slot-front cells small p below =
+      elim (cases_lt p (8 * number_size l + 1)) [
+        | inl front ↦ slot-marks cells p front
+        | inr from ↦ let same : 8 * number_size l + 1 ≡ p = omega arith in
+            let few : nat_le (slice_index bytes (8 * number_size l + 1)) 3 ≡ true = grind (arith, nat_tests) in
+            subst (λ (q : ℕ). slot_fault l bytes q ≡ None) same (slot-flag ∙ rw few refl)
+      ]
 
--- the number of its bytes
-pub number-back : (l : Layout) (n : ℕ) → n < number_limit l → from_le_bytes (number_width l) (number_bytes l n) ≡ n
-number-back Wide n small = from_le_bytes-to_le_bytes_4 n small
-number-back Narrow n small = omega arith
+-- a flag's number is small
+pub small-flag : (byte : ℕ) (flag : LockFlag) → flag_number flag ≡ byte → byte ≤ 3
+small-flag byte flag.O is = omega arith
+small-flag byte _ is = omega arith
 
 -- the number of a known cell that fits is within its size
 pub number-small : (l : Layout) (cell : Cell) → IsCell cell → CellFits l cell → number_of cell < number_limit l
@@ -120,7 +117,7 @@ number-small Wide (Act action) known fits = omega (arith, (code-bounds action kn
 number-small Narrow (Act action) known fits = (code-bounds action known).0
 
 -- the bytes of each cell have the size of a number
-cells-sized : (l : Layout) (cells : List Cell) → IsSized (cell_bytes l) (number_size l) cells
+cells-sized : (l : Layout) (cells : List Cell) → All (λ c. length (cell_bytes l c) ≡ number_size l) cells
 cells-sized l cells k d below = length-number l (number_of (get_or cells k d))
 
 -- the cells of a known entry have eight numbers
@@ -191,31 +188,28 @@ length-slot_bytes l entry known =
     length-append (flat_map (cell_bytes l) entry.cells) (tail_of l entry)
     ∙ omega (arith, cells-long l entry known, length-replicate {A = ℕ} (pad_size l) 0)
 
--- No fault up to a cell.
-cells-sound : (l : Layout) (entry : Entry) → IsEntry entry → EntryFits l entry → (i : ℕ) → i ≤ 8
-    → HasNoFault (slot_fault l (slot_bytes l entry)) (number_size l * i)
-cells-sound l entry known fits zero few p below = absurd (omega (arith, below, mul-zero (number_size l)))
-cells-sound l entry known fits (suc i) few p below =
-    let bytes = slot_bytes l entry in
-    let inside : i < length entry.cells = omega (arith, known.eight) in
-    let next : number_size l * suc i ≡ number_size l * (i + 1) = ap (λ (n : ℕ). number_size l * n) (omega arith) in
-    let here : cell_fault (number_at l bytes (number_size l * i)) (is_marked_at l bytes i) ≡ None =
-    ap (λ (n : ℕ). cell_fault n (is_marked_at l bytes i)) (number-in l entry (Char 0) i known fits (omega arith))
-    ∙ ap (λ (t : Bool). cell_fault (number_of (get_or entry.cells i (Char 0))) t)
-    (mark-in l entry (Char 0) i known (omega arith))
-    ∙ cell-sound (get_or entry.cells i (Char 0)) (All-get_or IsCell entry.cells i (Char 0) inside known.cells) in
-    sound-more l bytes i (omega arith) (cells-sound l entry known fits i (omega arith)) here p
-    (omega (arith, below, next))
-
 -- the bytes of a known entry that fits have no fault
-pub slot_bytes-sound : (l : Layout) (entry : Entry) → IsEntry entry → EntryFits l entry
+slot_bytes-sound : (l : Layout) (entry : Entry) → IsEntryIn l entry
     → HasNoFault (slot_fault l (slot_bytes l entry)) (slot_size l)
-slot_bytes-sound l entry known fits =
-    let cells : HasNoFault (slot_fault l (slot_bytes l entry)) (8 * number_size l) =
-    λ p below. cells-sound l entry known fits 8 (omega arith) p (omega (arith, below, mul_comm (number_size l) 8)) in
-    slot-none l (slot_bytes l entry) (slot_size l) cells
-    (small-flag (slice_index (slot_bytes l entry) (8 * number_size l + 1)) entry.flag (sym (flag-in l entry known)))
-    (λ p past below. pads-in l entry p known past)
+slot_bytes-sound l entry (known, fits) =
+    let bytes = slot_bytes l entry in
+    let cells =
+    rows-clean (cell_bytes l) (number_size l) (cell_faults l bytes) 8 (slot_end_fault l bytes) entry.cells
+    (tail_of l entry) (Char 0) (some-number l) (sym known.eight) (cells-sized l entry.cells)
+    (λ i below. number-clean (number_width l) (λ n. cell_fault n (is_marked_at l bytes i))
+    (cell_bytes l (get_or entry.cells i (Char 0))) (number_size l)
+    (ap (λ (n : ℕ). cell_fault n (is_marked_at l (slot_bytes l entry) i))
+    (number-back l (number_of (get_or entry.cells i (Char 0)))
+    (number-small l (get_or entry.cells i (Char 0)) (All-get_or IsCell entry.cells i (Char 0) below known.cells)
+    (All-get_or (CellFits l) entry.cells i (Char 0) below fits)))
+    ∙ ap (λ (t : Bool). cell_fault (number_of (get_or entry.cells i (Char 0))) t)
+    (mark-in l entry (Char 0) i known (omega (arith, known.eight)))
+    ∙ cell-sound (get_or entry.cells i (Char 0)) (All-get_or IsCell entry.cells i (Char 0) below known.cells))) in
+    none-past BadPad (slot_fault l bytes) bytes (8 * number_size l + 2) (slot_size l)
+    (λ p past inside. slot-pad l bytes p past)
+    (slot-front l bytes (λ p below. cells p (omega (arith, below)))
+    (small-flag (slice_index bytes (8 * number_size l + 1)) entry.flag (sym (flag-in l entry known))))
+    (λ p past. pads-in l entry p known past)
 
 -- the lock flag of a number
 flag_of : ℕ → LockFlag
@@ -240,14 +234,9 @@ same-cell x y known also same marked =
     sym (cell-again x known) ∙ ap (λ (n : ℕ). cell_of n (is_act x)) same
     ∙ ap (λ (t : Bool). cell_of (number_of y) t) marked ∙ cell-again y also
 
--- an entry of its cells and flag
-entry_of : List Cell → LockFlag → Entry
-entry_of cells k = record { cells = cells; flag = k }
-
 -- known entries that fit are the same where their bytes are
-pub same-entry : (l : Layout) (x y : Entry) → IsEntry x × EntryFits l x → IsEntry y × EntryFits l y
+pub same-entry : (l : Layout) (x y : Entry) → IsEntryIn l x → IsEntryIn l y
     → slot_bytes l x ≡ slot_bytes l y → x ≡ y
-unfolding entry_of
 same-entry l x y known also same =
     let cells : x.cells ≡ y.cells = same_lists x.cells y.cells (known.0.eight ∙ sym also.0.eight) (λ k d below.
     let column : k < 8 = omega (arith, below, known.0.eight) in
@@ -262,4 +251,93 @@ same-entry l x y known also same =
     same-flag x.flag y.flag
     (sym (flag-in l x known.0) ∙ ap (λ (v : List ℕ). slice_index v (8 * number_size l + 1)) same
     ∙ flag-in l y also.0) in
-    ap (λ (xs : List Cell). entry_of xs x.flag) cells ∙ ap (λ (k : LockFlag). entry_of y.cells k) flags
+    ap (λ (xs : List Cell). record x { cells = xs }) cells ∙ ap (λ (k : LockFlag). record y { flag = k }) flags
+
+-- the slots of a table are rows
+pub slots-are : (l : Layout) → AreRows (slot_bytes l) (slot_size l) (slot_fault l) (IsEntryIn l) undefined
+slots-are l = record {
+  some = slot-some l;
+  whole = λ entry is. length-slot_bytes l entry is.0;
+  sound = slot_bytes-sound l;
+  one = same-entry l;
+  empty = slot-blank l;
+}
+
+-- what holds of the cells so far, and of one more
+pub All-next : {X : Type 0} (P : X → Type 0) (xs : List X) (i : ℕ) (x : X) → i < length xs → x ≡ get_or xs i x
+    → All P (take i xs) → P x → All P (take (i + 1) xs)
+All-next P xs i x below here so_far is =
+    All-more P xs i x below so_far (subst P here is)
+
+-- the parts of a slot, written in turn
+pub slot-written : (l : Layout) (entry : Entry) (cells : List Cell) (i marks flag n : ℕ) (a b c e : List ℕ)
+    → cells ≡ entry.cells → length cells ≤ i → a ≡ flat_map (cell_bytes l) (take i cells)
+    → marks ≡ marks_of (take i cells) → flag ≡ flag_number entry.flag → b ≡ a ++ marks ∷ [] → c ≡ b ++ flag ∷ []
+    → e ≡ c ++ zeros n → n ≡ pad_size l → e ≡ slot_bytes l entry
+slot-written l entry cells i marks flag n a b c e same end written mark flagged first second third pads =
+    let all : take i cells ≡ entry.cells = take_all i cells end ∙ same in
+    let written' = rw all at written in
+    let mark' = rw all at mark in
+    rw (third, second, first, mark', flagged, written', pads) (simp append_assoc)
+
+-- what holds for the elements below i, and for one set at i, holds for those below i + 1
+pub All-more_set : {X : Type 0} (P : X → Type 0) (xs : List X) (i : ℕ) (x : X) → i < length xs → All P (take i xs) → P x
+    → All P (take (i + 1) (set xs i x))
+All-more_set P xs i x below so_far is = rw (take_more_set xs i x below) (All-push P (take i xs) x so_far is)
+
+-- a cell whose number fits, fits
+pub cell-fits : (l : Layout) (cell : Cell) (n : ℕ) → number_of cell ≡ n → n < number_limit l → CellFits l cell
+cell-fits l (Char c) n is small = rw is small
+cell-fits l (Act a) n is small = omega (arith, small)
+
+-- one more cell is read: the cells so far have the bytes so far
+pub bytes-more : (l : Layout) (bytes : List ℕ) (cells : List Cell) (i : ℕ) (cell : Cell) → AreBytes bytes
+    → number_size l * i + number_size l ≤ length bytes → i < length cells
+    → flat_map (cell_bytes l) (take i cells) ≡ take (number_size l * i) bytes
+    → number_of cell ≡ number_at l bytes (number_size l * i)
+    → flat_map (cell_bytes l) (take (i + 1) (set cells i cell)) ≡ take (number_size l * (i + 1)) bytes
+bytes-more l bytes cells i cell small fits below so_far number =
+    ap (flat_map (cell_bytes l)) (take_more_set cells i cell below)
+    ∙ rows-read (cell_bytes l) (number_size l) bytes (take i cells) i cell so_far
+    (number-read l bytes (number_size l * i) (number_of cell) small fits number)
+
+-- after eight cells the marks are those of the cells
+pub marks-all : (marks : ℕ) (cells : List Cell) (i : ℕ) → i ≡ 8 → length cells ≡ 8
+    → marks_of (take i cells) ≡ marks / 2 ^ (8 - i) → marks ≡ marks_of cells
+marks-all marks cells i end whole so_far =
+    let all : take i cells ≡ cells = grind (arith, common_steps) in
+    let one : 8 - i ≡ 0 = omega arith in
+    let whole_marks = rw (all, one) at so_far in
+    let by_one : marks / 1 ≡ marks = omega arith in
+    sym (whole_marks ∙ by_one)
+
+-- what follows the cells: the marks, the flag, and zeros
+pub slot-tail : (l : Layout) (bytes : List ℕ) → length bytes ≡ slot_size l
+    → ((p : ℕ) → 8 * number_size l + 2 ≤ p → slice_index bytes p ≡ 0)
+    → drop (8 * number_size l) bytes
+    ≡ get_or bytes (8 * number_size l) 0 ∷ get_or bytes (8 * number_size l + 1) 0 ∷ zeros (pad_size l)
+slot-tail l bytes whole empty =
+    let at = 8 * number_size l in
+    let marks : 8 * number_size l < length bytes = omega arith in
+    let flag : 8 * number_size l + 1 < length bytes = omega arith in
+    let pads : length bytes - (8 * number_size l + 2) ≡ pad_size l = omega arith in
+    let next : suc (8 * number_size l) ≡ 8 * number_size l + 1 = omega arith in
+    let last : suc (8 * number_size l + 1) ≡ 8 * number_size l + 2 = omega arith in
+    drop-cons bytes at 0 marks ∙ ap (λ (k : ℕ). get_or bytes at 0 ∷ drop k bytes) next
+    ∙ ap (λ (v : List ℕ). get_or bytes at 0 ∷ v)
+    (drop-cons bytes (at + 1) 0 flag ∙ ap (λ (k : ℕ). get_or bytes (at + 1) 0 ∷ drop k bytes) last)
+    ∙ ap (λ (v : List ℕ). get_or bytes at 0 ∷ get_or bytes (at + 1) 0 ∷ v)
+    (drop-zeros bytes (at + 2) empty ∙ ap zeros pads)
+
+-- a slot by its parts
+pub slot-whole : (l : Layout) (bytes : List ℕ) (entry : Entry) → length bytes ≡ slot_size l
+    → take (8 * number_size l) bytes ≡ flat_map (cell_bytes l) entry.cells
+    → slice_index bytes (8 * number_size l) ≡ marks_of entry.cells
+    → flag_number entry.flag ≡ slice_index bytes (8 * number_size l + 1)
+    → ((p : ℕ) → 8 * number_size l + 2 ≤ p → slice_index bytes p ≡ 0) → bytes ≡ slot_bytes l entry
+slot-whole l bytes entry whole cells marks flag empty =
+    let at = 8 * number_size l in
+    sym (take-append-drop at bytes) ∙ ap (λ (v : List ℕ). v ++ drop at bytes) cells
+    ∙ ap (λ (v : List ℕ). flat_map (cell_bytes l) entry.cells ++ v)
+    (slot-tail l bytes whole empty ∙ ap (λ (n : ℕ). n ∷ get_or bytes (at + 1) 0 ∷ zeros (pad_size l)) marks
+    ∙ ap (λ (n : ℕ). marks_of entry.cells ∷ n ∷ zeros (pad_size l)) (sym flag))

@@ -1,27 +1,28 @@
 -- Which maps fit in a table file: those of which each character fits in the bytes of a number. In the wide file every
 -- map does.
-use Rattle.std.specs.Prelude.{ℕ, ◌+◌, ◌*◌, ◌<◌, ◌≤◌, ⊤, List, ◌∷◌, [], All, slice_index_or}
-use Rattle.std.specs.List.{flat_map}
+use Rattle.std.specs.Prelude.{ℕ, ◌+◌, ◌*◌, ◌<◌, ◌≤◌, All, slice_index_or}
 use Rattle.keymap_core.specs.Accents.{AccentValue}
-use Rattle.keymap_core.specs.Maps.{MapValue, cell_at, accent_or_blank}
+use Rattle.keymap_core.specs.Maps.{MapValue, entry_at, accent_or_blank}
 use Rattle.keymap_tables.specs.Types.{Cell, Char, Act, Entry, Layout}
 use Rattle.keymap_tables.specs.declared.narrow.Wide.{Wide}
 use Rattle.keymap_tables.specs.declared.narrow.Wide.TheVariants as at
+use Rattle.keymap_tables.specs.Image.{numbers_of}
 use Rattle.keymap_tables.specs.Layouts.{narrow, number_limit, number_size, slot_place, accent_place}
+
+-- the number of a character, 0 for an action
+abbrev pub character_of : Cell → ℕ
+character_of (Char c) = c
+character_of (Act a) = 0
 
 -- the code of an action always fits
 abbrev pub CellFits : Layout → Cell → Type 0
-CellFits l (Char c) = c < number_limit l
-CellFits l (Act a) = ⊤
+CellFits l cell = character_of cell < number_limit l
 
 abbrev pub EntryFits : Layout → Entry → Type 0
 EntryFits l entry = All (CellFits l) entry.cells
 
-abbrev pub PairFits : Layout → ℕ × ℕ → Type 0
-PairFits l pair = (pair.0 < number_limit l) × (pair.1 < number_limit l)
-
 abbrev pub AccentFits : Layout → AccentValue → Type 0
-AccentFits l accent = (accent.own < number_limit l) × All (PairFits l) accent.pairs
+AccentFits l accent = All (λ number. number < number_limit l) (numbers_of accent)
 
 pub record FitsIn (l : Layout) (m : MapValue) : Type 0 where
   pub entries : All (EntryFits l) m.entries
@@ -31,19 +32,18 @@ pub record FitsIn (l : Layout) (m : MapValue) : Type 0 where
 abbrev pub Fits : MapValue → Type 0
 Fits m = FitsIn narrow m
 
--- the number of a character, 0 for an action
-abbrev pub character_of : Cell → ℕ
-character_of (Char c) = c
-character_of (Act a) = 0
+-- the character in a column of an entry, 0 for an action
+abbrev pub character_in : Entry → ℕ → ℕ
+character_in entry column = character_of (slice_index_or entry.cells column (Char 0))
 
--- the own character, and the base and the result of each pair in turn
-abbrev pub numbers_of : AccentValue → List ℕ
-numbers_of accent = accent.own ∷ flat_map (λ pair. pair.0 ∷ pair.1 ∷ []) accent.pairs
+-- a number of an accent
+abbrev pub number_in : AccentValue → ℕ → ℕ
+number_in accent number = slice_index_or (numbers_of accent) number 0
 
 -- what stands at a place of a map: the character of a cell, or a number of an accent
 abbrev pub number_of_place : MapValue → Wide → ℕ
-number_of_place m (at.Cell slot column) = character_of (cell_at m slot column)
-number_of_place m (at.Accent accent number) = slice_index_or (numbers_of (accent_or_blank m accent)) number 0
+number_of_place m (at.Cell slot column) = character_in (entry_at m slot) column
+number_of_place m (at.Accent accent number) = number_in (accent_or_blank m accent) number
 
 -- a character above 255 stands there
 abbrev pub IsWide : MapValue → Wide → Type 0

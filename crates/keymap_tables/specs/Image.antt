@@ -1,15 +1,16 @@
 -- The bytes of a table file, as one list by its parts.
-use Rattle.std.specs.Prelude.{ℕ, ◌+◌, ◌-◌, ◌*◌, List, ◌∷◌, ◌++◌, length, replicate, fold, Bool, true, false}
+use Rattle.std.specs.Prelude.{ℕ, ◌+◌, ◌-◌, ◌*◌, List, [], ◌∷◌, ◌++◌, length, replicate, fold, Bool, true, false}
 use Rattle.std.specs.Prelude.{if◌then◌else◌}
 use Rattle.std.specs.List.{flat_map}
 use Rattle.std.specs.Int.{to_le_bytes, w16}
 use Rattle.keymap_core.specs.Accents.{AccentValue}
 use Rattle.keymap_core.specs.Actions.{code_of}
 use Rattle.keymap_core.specs.Maps.{MapValue}
-use Rattle.keymap_core.specs.Numbers.{slot_limit, accent_limit, pair_limit}
+use Rattle.keymap_core.specs.Numbers.{slot_limit, accent_limit}
 use Rattle.keymap_tables.specs.Types.{Cell, Char, Act, Entry, LockFlag, Layout}
 use Rattle.keymap_core.specs.declared.entry.LockFlag.TheVariants as flag
-use Rattle.keymap_tables.specs.Layouts.{wide, narrow, number_width, pad_size, pair_size, slot_size, accent_size}
+use Rattle.keymap_tables.specs.Layouts.{wide, narrow, number_width, number_size, number_count, pad_size, slot_size}
+use Rattle.keymap_tables.specs.Layouts.{accent_size}
 
 abbrev pub zeros : ℕ → List ℕ
 zeros n = replicate n 0
@@ -43,33 +44,32 @@ flag_number flag.C = 1
 flag_number flag.N = 2
 flag_number flag.B = 3
 
+-- rows one after the other, and zeros in place of those up to the limit
+abbrev pub rows_bytes : {X : Type 0} → (X → List ℕ) → ℕ → ℕ → List X → List ℕ
+rows_bytes row size most xs = flat_map row xs ++ zeros (size * (most - length xs))
+
+-- a count, and so many rows
+abbrev pub table_bytes : {X : Type 0} → Layout → (X → List ℕ) → ℕ → ℕ → List X → List ℕ
+table_bytes l row size most xs = count_bytes l (length xs) ++ rows_bytes row size most xs
+
 -- a slot: its cells, the marks, the flag, and the pads
 abbrev pub slot_bytes : Layout → Entry → List ℕ
 slot_bytes l entry =
     flat_map (cell_bytes l) entry.cells ++ marks_of entry.cells ∷ flag_number entry.flag ∷ zeros (pad_size l)
 
-abbrev pub pair_bytes : Layout → ℕ × ℕ → List ℕ
-pair_bytes l pair = number_bytes l pair.0 ++ number_bytes l pair.1
+-- the own character of an accent, and the base and the result of each pair in turn
+abbrev pub numbers_of : AccentValue → List ℕ
+numbers_of accent = accent.own ∷ flat_map (λ pair. pair.0 ∷ pair.1 ∷ []) accent.pairs
 
--- an accent: its own character, its pairs, and zeros in place of those up to the limit
+-- an accent: its numbers
 abbrev pub accent_bytes : Layout → AccentValue → List ℕ
-accent_bytes l accent =
-    number_bytes l accent.own ++ flat_map (pair_bytes l) accent.pairs
-    ++ zeros (pair_size l * (pair_limit - length accent.pairs))
-
--- the slots, zeros in place of those up to the limit
-abbrev pub slots_bytes : Layout → List Entry → List ℕ
-slots_bytes l entries = flat_map (slot_bytes l) entries ++ zeros (slot_size l * (slot_limit - length entries))
-
--- the accents, zeros in place of those up to the limit
-abbrev pub accents_bytes : Layout → List AccentValue → List ℕ
-accents_bytes l accents = flat_map (accent_bytes l) accents ++ zeros (accent_size l * (accent_limit - length accents))
+accent_bytes l accent = rows_bytes (number_bytes l) (number_size l) number_count (numbers_of accent)
 
 -- the slots, and then the accents, each after its count
 unfoldable pub image_in : Layout → MapValue → List ℕ
 image_in l m =
-    count_bytes l (length m.entries) ++ slots_bytes l m.entries ++ count_bytes l (length m.accents)
-    ++ accents_bytes l m.accents
+    table_bytes l (slot_bytes l) (slot_size l) slot_limit m.entries
+    ++ table_bytes l (accent_bytes l) (accent_size l) accent_limit m.accents
 
 -- the one image of a map
 abbrev pub image : MapValue → List ℕ

@@ -44,13 +44,13 @@ cells_size l = column_count * number_size l
 abbrev pub slot_size : Layout → ℕ
 slot_size l = cells_size l + 2 + pad_size l
 
--- a base and a result: 8, narrow 2
-abbrev pub pair_size : Layout → ℕ
-pair_size l = 2 * number_size l
+-- the numbers of an accent: its own character, and the base and the result of each pair
+abbrev pub number_count : ℕ
+number_count = 1 + 2 * pair_limit
 
--- the own character and 52 pairs: 420, narrow 105
+-- 105 numbers: 420, narrow 105
 abbrev pub accent_size : Layout → ℕ
-accent_size l = number_size l + pair_limit * pair_size l
+accent_size l = number_count * number_size l
 
 -- n_keys stands at 0, the slots at 4, narrow 2
 abbrev pub slots_place : Layout → ℕ

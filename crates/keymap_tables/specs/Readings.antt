@@ -3,24 +3,20 @@ use Rattle.std.specs.Prelude.{◌≡◌, ℕ, List, length, ⊤, Result, Ok, Err
 use Rattle.keymap_tables.specs.Types.{Layout, TableError, TableFault, Memory, Read, Fault}
 use Rattle.keymap_core.specs.Maps.{MapValue}
 use Rattle.keymap_core.specs.Bounds.{IsMap}
-use Rattle.keymap_tables.specs.Faults.{IsTableFault, IsFirstFault, fault_at}
+use Rattle.keymap_tables.specs.Faults.{IsFirstFault, fault_at}
 use Rattle.keymap_tables.specs.Fits.{FitsIn}
-use Rattle.keymap_tables.specs.Image.{image, image_in}
+use Rattle.keymap_tables.specs.Image.{image_in}
 use Rattle.keymap_tables.specs.Layouts.{wide, narrow, file_size}
 
 -- The map whose image the bytes are, or their fault. Memory is wanted only for bytes of the right length.
-abbrev pub IsReading : List ℕ → Result MapValue TableError → Type 0
-IsReading bytes (Ok m) = IsMap m × (bytes ≡ image m)
-IsReading bytes (Err Memory) = length bytes ≡ file_size wide
-IsReading bytes (Err (Read f)) = ⊥
-IsReading bytes (Err (Fault f)) = IsTableFault bytes f
-
--- The same at each width: the map fits.
 abbrev pub IsReadingIn : Layout → List ℕ → Result MapValue TableError → Type 0
 IsReadingIn l bytes (Ok m) = IsMap m × (bytes ≡ image_in l m) × FitsIn l m
 IsReadingIn l bytes (Err Memory) = length bytes ≡ file_size l
 IsReadingIn l bytes (Err (Read f)) = ⊥
 IsReadingIn l bytes (Err (Fault f)) = IsFirstFault (fault_at l bytes) f
+
+abbrev pub IsReading : List ℕ → Result MapValue TableError → Type 0
+IsReading bytes r = IsReadingIn wide bytes r
 
 abbrev pub IsNarrowReading : List ℕ → Result MapValue TableError → Type 0
 IsNarrowReading bytes r = IsReadingIn narrow bytes r

@@ -1,24 +1,40 @@
-//! The image of an accent: its own character, its pairs, and zeros.
-ghost use Rattle.std.specs.Prelude.{◌≡◌, ◌+◌, ◌≤◌, ◌++◌, length};
+//! An accent as its numbers: number 0 is its own character, 1 + 2j the base of pair j, and 2 + 2j its result. Its image
+//! is these, and zeros.
+ghost use Rattle.std.specs.Prelude.{◌≡◌, ◌+◌, ◌*◌, ◌<◌, ◌≤◌, length, MatchOption};
 ghost use Rattle.std.specs.Char.{IsScalar};
-ghost use Rattle.arrayvec.specs.ArrayVec.{array_vec_len};
+ghost use Rattle.keymap_core.specs.Accents.{AllBasesNotZero};
 ghost use Rattle.keymap_core.specs.Bounds.{IsAccent};
-ghost use Rattle.keymap_tables.specs.Image.{accent_bytes, number_bytes};
-ghost use Rattle.keymap_tables.specs.Layouts.{wide, number_size, accent_size};
+ghost use Rattle.keymap_core.specs.Numbers.{pair_limit};
+ghost use Rattle.keymap_tables.specs.Fits.{AccentFits, number_in};
+ghost use Rattle.keymap_tables.specs.Image.{accent_bytes};
+ghost use Rattle.keymap_tables.specs.Inner.Firsts.{IsFirstWideNumber};
+ghost use Rattle.keymap_tables.specs.Layouts.{narrow, accent_size};
 
-use crate::layout::{ACCENT, Layout};
+use crate::layout::{ACCENT, Layout, NARROW_MOST};
 use crate::slot::{push_number, push_zeros};
 use arrayvec::ArrayVec;
 use keymap_core::Accent;
 
-/// Appends the bytes of a character.
-fn push_char(image: &mut ArrayVec<u8, ACCENT>, layout: Layout, character: char)
-    requires { array_vec_len image.old + number_size layout ≤ accent_size wide }
-    ensures bytes { image.new.items ≡ image.old.items ++ number_bytes layout character }
-    ensures count { array_vec_len image.new ≡ array_vec_len image.old + number_size layout }
-    ensures known { IsScalar character }
+/// How many numbers an accent has: its own character, and two for each pair.
+fn number_count(accent: &Accent) -> usize
+    ensures count { result ≡ 1 + 2 * length accent.now.pairs }
+    ensures few { length accent.now.pairs ≤ pair_limit }
+    ensures bases { AllBasesNotZero accent.now.pairs }
 {
-    push_number(image, layout, character as u32);
+    1 + 2 * accent.pairs().len()
+}
+
+/// A number of an accent.
+fn number_at(accent: &Accent, index: usize) -> char
+    requires { index < 1 + 2 * length accent.now.pairs }
+    ensures value { result ≡ number_in accent.now index }
+    ensures known { IsScalar result }
+{
+    if index == 0 {
+        return accent.own();
+    }
+    let (base, composed) = accent.pairs()[(index - 1) / 2];
+    if index % 2 == 1 { base } else { composed }
 }
 
 /// The bytes of an accent.
@@ -28,12 +44,22 @@ pub(crate) fn accent_image(layout: Layout, accent: &Accent) -> ArrayVec<u8, ACCE
     ensures known { IsAccent accent.now }
 {
     let mut image = ArrayVec::new();
-    push_char(&mut image, layout, accent.own());
-    let pairs = accent.pairs();
-    for pair in pairs {
-        push_char(&mut image, layout, pair.0);
-        push_char(&mut image, layout, pair.1);
+    for index in 0..number_count(accent) {
+        push_number(&mut image, layout, number_at(accent, index) as u32);
     }
     push_zeros(&mut image, layout.accent());
     image
+}
+
+/// The first number of an accent that is above 255.
+pub(crate) fn wide_number(accent: &Accent) -> Option<u8>
+    ensures { MatchOption result (AccentFits narrow accent.now)
+        (IsFirstWideNumber (number_in accent.now) (accent_size narrow)) }
+{
+    for index in 0..number_count(accent) {
+        if number_at(accent, index) as u32 > NARROW_MOST {
+            return Some(index as u8);
+        }
+    }
+    None
 }

@@ -1,74 +1,61 @@
-//! The rows of a table file, each read once and defined in what takes definitions, up to the first fault.
-ghost use Rattle.std.specs.Prelude.{◌≡◌, ◌<◌, ◌≤◌, length, IfErr, OnOk};
-ghost use Rattle.keymap_core.specs.Numbers.{slot_limit, accent_limit};
-ghost use Rattle.keymap_tables.specs.Faults.{row_fault, slot_fault, accent_fault, content_fault, IsFirstFault};
-ghost use Rattle.keymap_tables.specs.Inner.Firsts.{HasNoFault};
-ghost use Rattle.keymap_tables.specs.Inner.Taken.{TakesSlots, TakesAccents, TakesFile};
-ghost use Rattle.keymap_tables.specs.Layouts.{slot_size, slots_size, accent_size, accents_size, file_size};
+//! The tables of a table file, each row read once and defined in what takes definitions, up to the first fault.
+ghost use Rattle.std.specs.Prelude.{◌≡◌, ◌+◌, ◌*◌, ◌<◌, ◌≤◌, length, IfErr, OnOk};
+ghost use Rattle.keymap_tables.specs.Faults.{used_fault, table_fault, content_fault, IsFirstFault};
+ghost use Rattle.keymap_tables.specs.Image.{rows_bytes, table_bytes};
+ghost use Rattle.keymap_tables.specs.Inner.Taken.{AreRows, TakesRows, TakesFile};
+ghost use Rattle.keymap_tables.specs.Layouts.{count_size, file_size};
 
 use crate::fault::{TableFault, TableFaultKind};
 use crate::layout::Layout;
 use crate::number::{check_zeros, read_count};
-use crate::read_accent::read_accent;
-use crate::read_slot::read_slot;
-use keymap_core::{ACCENT_LIMIT, Definitions, SLOT_LIMIT};
+use crate::row::Row;
+use keymap_core::{Accent, Definitions, Entry};
 
-/// Defines so many slots, and checks that zeros stand in place of the others.
-fn read_slots<D: Definitions>(
+/// Defines so many rows, and checks that zeros stand in place of the others.
+fn read_rows<R: Row, D: Definitions>(
     layout: Layout,
     bytes: &[u8],
-    n_keys: u16,
+    count: u16,
     into: &mut D,
 ) -> Result<(), TableFault>
-    requires whole { length bytes.now ≡ slots_size layout }
-    requires few { n_keys ≤ slot_limit }
-    ensures taken { OnOk result (TakesSlots D.shows into.old into.new layout n_keys bytes.now) }
-    ensures sound { OnOk result (HasNoFault (row_fault (slot_fault layout) (slot_size layout) n_keys bytes.now)
-        (slots_size layout)) }
-    ensures fault { IfErr result (λ f. IsFirstFault (row_fault (slot_fault layout)
-        (slot_size layout) n_keys bytes.now) f × (f.offset < slots_size layout)) }
+    requires rows { AreRows (R.image layout) (R.size layout) (R.faults layout) (R.Is layout) R.blank }
+    requires whole { length bytes.now ≡ R.MOST * R.size layout }
+    requires few { count ≤ R.MOST }
+    ensures taken { OnOk result (TakesRows D.shows into.old into.new R.put (R.Is layout) (λ n. n ≡ count)
+        (rows_bytes (R.image layout) (R.size layout) R.MOST) bytes.now) }
+    ensures fault { IfErr result (λ f. IsFirstFault (used_fault (R.faults layout) (R.size layout) count bytes.now) f
+        × (f.offset < R.MOST * R.size layout)) }
 {
-    for slot in 0..n_keys {
-        let at = layout.slot() * slot as usize;
-        match read_slot(layout, &bytes[at..at + layout.slot()]) {
-            Ok(entry) => into.define(slot as u8, entry),
+    let size = R::size(layout);
+    for index in 0..count {
+        let at = size * index as usize;
+        match R::read(layout, &bytes[at..at + size]) {
+            Ok(row) => row.define(into, index),
             Err(fault) => return Err(fault.after(at)),
         }
     }
-    check_zeros(
-        bytes,
-        layout.slot() * n_keys as usize,
-        TableFaultKind::NotEmpty,
-    )
+    check_zeros(bytes, size * count as usize, TableFaultKind::NotEmpty)
 }
 
-/// Defines so many accents, and checks that zeros stand in place of the others.
-fn read_accents<D: Definitions>(
+/// Reads a count, and defines so many rows.
+fn read_table<R: Row, D: Definitions>(
     layout: Layout,
     bytes: &[u8],
-    n_accs: u16,
     into: &mut D,
 ) -> Result<(), TableFault>
-    requires whole { length bytes.now ≡ accents_size layout }
-    requires few { n_accs ≤ accent_limit }
-    ensures taken { OnOk result (TakesAccents D.shows into.old into.new layout n_accs bytes.now) }
-    ensures sound { OnOk result (HasNoFault (row_fault (accent_fault layout) (accent_size layout) n_accs bytes.now)
-        (accents_size layout)) }
-    ensures fault { IfErr result (λ f. IsFirstFault (row_fault (accent_fault layout)
-        (accent_size layout) n_accs bytes.now) f × (f.offset < accents_size layout)) }
+    requires rows { AreRows (R.image layout) (R.size layout) (R.faults layout) (R.Is layout) R.blank }
+    requires whole { length bytes.now ≡ count_size layout + R.MOST * R.size layout }
+    ensures taken { OnOk result (TakesRows D.shows into.old into.new R.put (R.Is layout) (λ n. n ≤ R.MOST)
+        (table_bytes layout (R.image layout) (R.size layout) R.MOST) bytes.now) }
+    ensures fault { IfErr result (λ f. IsFirstFault (table_fault layout (R.faults layout) (R.size layout) R.MOST
+        bytes.now) f × (f.offset < count_size layout + R.MOST * R.size layout)) }
 {
-    for index in 0..n_accs {
-        let at = layout.accent() * index as usize;
-        match read_accent(layout, &bytes[at..at + layout.accent()]) {
-            Ok(accent) => into.define_accent(index as u8, accent),
-            Err(fault) => return Err(fault.after(at)),
-        }
+    let at = layout.count();
+    let count = read_count(&bytes[..at], R::MOST)?;
+    match read_rows::<R, D>(layout, &bytes[at..], count, into) {
+        Ok(()) => Ok(()),
+        Err(fault) => Err(fault.after(at)),
     }
-    check_zeros(
-        bytes,
-        layout.accent() * n_accs as usize,
-        TableFaultKind::NotEmpty,
-    )
 }
 
 /// Reads a file of the right length into what takes definitions, of which none was made before. At a fault those of the
@@ -82,20 +69,10 @@ pub(crate) fn read_content<D: Definitions>(
     ensures taken { OnOk result (TakesFile D.shows into.old into.new layout bytes.now) }
     ensures fault { IfErr result (IsFirstFault (content_fault layout bytes.now)) }
 {
-    let slots_at = layout.slots_at();
     let n_accs_at = layout.n_accs_at();
-    let accents_at = layout.accents_at();
-    let n_keys = read_count(&bytes[..slots_at], SLOT_LIMIT as u16)?;
-    match read_slots(layout, &bytes[slots_at..n_accs_at], n_keys, into) {
-        Ok(()) => {}
-        Err(fault) => return Err(fault.after(slots_at)),
-    }
-    let n_accs = match read_count(&bytes[n_accs_at..accents_at], ACCENT_LIMIT as u16) {
-        Ok(count) => count,
-        Err(fault) => return Err(fault.after(n_accs_at)),
-    };
-    match read_accents(layout, &bytes[accents_at..layout.file()], n_accs, into) {
+    read_table::<Entry, D>(layout, &bytes[..n_accs_at], into)?;
+    match read_table::<Accent, D>(layout, &bytes[n_accs_at..], into) {
         Ok(()) => Ok(()),
-        Err(fault) => Err(fault.after(accents_at)),
+        Err(fault) => Err(fault.after(n_accs_at)),
     }
 }

@@ -84,17 +84,11 @@ impl Definitions for Filling {
 
     fn define(&mut self, slot: u8, entry: Entry) {
         self.slots[slot as usize] = slot_row(&entry);
-        let slot = u16::from(slot);
-        if self.n_keys <= slot {
-            self.n_keys = slot + 1;
-        }
+        self.n_keys = self.n_keys.max(u16::from(slot) + 1);
     }
 
     fn define_accent(&mut self, index: u8, accent: Accent) {
         self.accents[index as usize] = accent_row(&accent);
-        let index = u16::from(index);
-        if self.n_accs <= index {
-            self.n_accs = index + 1;
-        }
+        self.n_accs = self.n_accs.max(u16::from(index) + 1);
     }
 }

@@ -1,7 +1,7 @@
 //! Where the parts of a table file stand, in bytes from its start, and how long they are: one format at two widths.
 ghost use Rattle.std.specs.Prelude.{◌≡◌};
-ghost use Rattle.keymap_tables.specs.Layouts.{cells_size, number_size, count_size, slot_size, pair_size, accent_size};
-ghost use Rattle.keymap_tables.specs.Layouts.{slots_place, n_accs_place, accents_place, file_size};
+ghost use Rattle.keymap_tables.specs.Layouts.{cells_size, number_size, count_size, slot_size, accent_size};
+ghost use Rattle.keymap_tables.specs.Layouts.{n_accs_place, file_size};
 
 /// How wide the numbers of a table file are.
 #[derive(Clone, Copy, Debug, PartialEq, Eq)]
@@ -33,14 +33,13 @@ pub(crate) const WIDE_ACCENTS_AT: usize = 9224;
 pub const WIDE_FILE: usize = 15524;
 
 /// The same in a narrow file.
-pub(crate) const NARROW_SLOTS_AT: usize = 2;
-
 pub(crate) const NARROW_N_ACCS_AT: usize = 2562;
-
-pub(crate) const NARROW_ACCENTS_AT: usize = 2564;
 
 /// How many bytes a narrow file has.
 pub const NARROW_FILE: usize = 4139;
+
+/// The greatest number that fits in a narrow file.
+pub(crate) const NARROW_MOST: u32 = 255;
 
 impl Layout {
     /// A cell, or an accent's character.
@@ -67,50 +66,21 @@ impl Layout {
     pub(crate) fn cells(self) -> usize
         ensures { result ≡ cells_size self }
     {
-        match self {
-            Layout::Wide => 32,
-            Layout::Narrow => 8,
-        }
+        8 * self.number()
     }
 
     /// Eight cells, the marks, the flag and the pads.
     pub(crate) fn slot(self) -> usize
         ensures { result ≡ slot_size self }
     {
-        match self {
-            Layout::Wide => SLOT,
-            Layout::Narrow => 10,
-        }
-    }
-
-    /// A base and a result.
-    pub(crate) fn pair(self) -> usize
-        ensures { result ≡ pair_size self }
-    {
-        match self {
-            Layout::Wide => 8,
-            Layout::Narrow => 2,
-        }
+        self.cells() + self.count()
     }
 
     /// The own character and 52 pairs.
     pub(crate) fn accent(self) -> usize
         ensures { result ≡ accent_size self }
     {
-        match self {
-            Layout::Wide => ACCENT,
-            Layout::Narrow => 105,
-        }
-    }
-
-    /// Where slot 0 stands.
-    pub(crate) fn slots_at(self) -> usize
-        ensures { result ≡ slots_place self }
-    {
-        match self {
-            Layout::Wide => WIDE_SLOTS_AT,
-            Layout::Narrow => NARROW_SLOTS_AT,
-        }
+        105 * self.number()
     }
 
     /// Where the number of accents stands.
@@ -120,16 +90,6 @@ impl Layout {
         match self {
             Layout::Wide => WIDE_N_ACCS_AT,
             Layout::Narrow => NARROW_N_ACCS_AT,
-        }
-    }
-
-    /// Where accent 0 stands.
-    pub(crate) fn accents_at(self) -> usize
-        ensures { result ≡ accents_place self }
-    {
-        match self {
-            Layout::Wide => WIDE_ACCENTS_AT,
-            Layout::Narrow => NARROW_ACCENTS_AT,
         }
     }
 

@@ -30,6 +30,7 @@ mod number;
 mod read;
 mod read_accent;
 mod read_slot;
+mod row;
 mod slot;
 mod source;
 mod tables;

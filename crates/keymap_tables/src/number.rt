@@ -1,11 +1,11 @@
 //! Reading of the numbers of a table.
-ghost use Rattle.std.specs.Prelude.{◌≡◌, ℕ, ◌+◌, ◌-◌, ◌<◌, ◌≤◌, length, slice_index, IfOk, IfErr, OnOk, None, Some};
+ghost use Rattle.std.specs.Prelude.{◌≡◌, ℕ, ◌+◌, ◌*◌, ◌<◌, ◌≤◌, length, slice_index, IfOk, IfErr, OnOk, None, Some};
 ghost use Rattle.std.specs.Prelude.{MatchResult, IsTrue};
 ghost use Rattle.std.specs.Char.{IsScalar};
 ghost use Rattle.keymap_core.specs.Bounds.{IsCell};
 ghost use Rattle.keymap_tables.specs.Faults.{number_at, count_at, char_fault, action_fault, cell_fault, count_fault};
 ghost use Rattle.keymap_tables.specs.Faults.{IsFirstFault};
-ghost use Rattle.keymap_tables.specs.Inner.Firsts.{IsFirstFilled, HasNoFault};
+ghost use Rattle.keymap_tables.specs.Inner.Firsts.{IsFirstFilled};
 ghost use Rattle.keymap_tables.specs.Image.{number_of, is_act, count_bytes};
 ghost use Rattle.keymap_tables.specs.Layouts.{number_size, count_size};
 ghost use Rattle.keymap_tables.specs.Types.{Layout};
@@ -14,31 +14,33 @@ use crate::fault::{TableFault, TableFaultKind};
 use crate::layout::{COUNT_PADS_AT, Layout};
 use keymap_core::{Action, Cell};
 
-/// The number of the bytes from a place on, one or four.
-pub(crate) fn read_number(layout: Layout, bytes: &[u8], at: usize) -> u32
-    requires { at + number_size layout ≤ length bytes.now }
-    ensures { result ≡ number_at layout bytes.now at }
+/// The number of an index, of one or four bytes.
+pub(crate) fn read_number(layout: Layout, bytes: &[u8], index: usize) -> u32
+    requires { number_size layout * index + number_size layout ≤ length bytes.now }
+    ensures { result ≡ number_at layout bytes.now (number_size layout * index) }
 {
     match layout {
         Layout::Wide => {
+            let at = 4 * index;
             u32::from_le_bytes([bytes[at], bytes[at + 1], bytes[at + 2], bytes[at + 3]])
         }
-        Layout::Narrow => u32::from(bytes[at]),
+        Layout::Narrow => u32::from(bytes[index]),
     }
 }
 
-/// The character of the number from a place on.
-pub(crate) fn read_char(layout: Layout, bytes: &[u8], at: usize) -> Result<char, TableFault>
-    requires { at + number_size layout ≤ length bytes.now }
-    ensures number { IfOk result (λ c. c ≡ number_at layout bytes.now at) }
+/// The character of the number of an index.
+pub(crate) fn read_char(layout: Layout, bytes: &[u8], index: usize) -> Result<char, TableFault>
+    requires { number_size layout * index + number_size layout ≤ length bytes.now }
+    ensures number { IfOk result (λ c. c ≡ number_at layout bytes.now (number_size layout * index)) }
     ensures known { IfOk result IsScalar }
-    ensures sound { OnOk result (char_fault (number_at layout bytes.now at) ≡ None) }
-    ensures fault { IfErr result (λ f. (f.offset ≡ at) × (char_fault (number_at layout bytes.now at) ≡ Some f.kind)) }
+    ensures sound { OnOk result (char_fault (number_at layout bytes.now (number_size layout * index)) ≡ None) }
+    ensures fault { IfErr result (λ f. (f.offset ≡ number_size layout * index)
+        × (char_fault (number_at layout bytes.now (number_size layout * index)) ≡ Some f.kind)) }
 {
-    match char::from_u32(read_number(layout, bytes, at)) {
+    match char::from_u32(read_number(layout, bytes, index)) {
         Some(c) => Ok(c),
         None => Err(TableFault {
-            offset: at as u64,
+            offset: (layout.number() * index) as u64,
             kind: TableFaultKind::BadChar,
         }),
     }
@@ -129,7 +131,6 @@ pub(crate) fn read_count(bytes: &[u8], most: u16) -> Result<u16, TableFault>
     ensures value { IfOk result (λ n. n ≡ count_at bytes.now 0) }
     ensures few { IfOk result (λ n. n ≤ most) }
     ensures image { (l : Layout) → length bytes.now ≡ count_size l → IfOk result (λ n. bytes.now ≡ count_bytes l n) }
-    ensures sound { OnOk result (HasNoFault (count_fault most bytes.now) (length bytes.now)) }
     ensures fault { IfErr result (λ f. IsFirstFault (count_fault most bytes.now) f × (f.offset < length bytes.now)) }
 {
     let count = read_half(bytes);

@@ -1,10 +1,8 @@
 //! Reading of an accent: its own character, its pairs, and zeros.
-ghost use Rattle.std.specs.Prelude.{◌≡◌, ◌≢◌, ℕ, ◌+◌, ◌*◌, ◌<◌, ◌≤◌, length, IfOk, IfErr, OnOk};
-ghost use Rattle.keymap_core.specs.Bounds.{IsAccent};
+ghost use Rattle.std.specs.Prelude.{◌≡◌, ◌≢◌, ℕ, ◌<◌, ◌≤◌, length, IfOk, IfErr};
 ghost use Rattle.keymap_core.specs.Numbers.{pair_limit};
 ghost use Rattle.keymap_tables.specs.Faults.{accent_fault, base_at, pairs_in, IsFirstFault};
-ghost use Rattle.keymap_tables.specs.Inner.Firsts.{HasNoFault};
-ghost use Rattle.keymap_tables.specs.Fits.{AccentFits};
+ghost use Rattle.keymap_tables.specs.Inner.Taken.{IsAccentIn};
 ghost use Rattle.keymap_tables.specs.Image.{accent_bytes};
 ghost use Rattle.keymap_tables.specs.Layouts.{accent_size};
 
@@ -21,7 +19,7 @@ fn count_pairs(layout: Layout, bytes: &[u8]) -> usize
     ensures bases { (pair : ℕ) → pair < result → base_at layout bytes.now pair ≢ 0 }
 {
     for pair in 0..PAIR_LIMIT {
-        if read_number(layout, bytes, layout.number() + layout.pair() * pair) == 0 {
+        if read_number(layout, bytes, 1 + 2 * pair) == 0 {
             return pair;
         }
     }
@@ -32,21 +30,18 @@ fn count_pairs(layout: Layout, bytes: &[u8]) -> usize
 pub(crate) fn read_accent(layout: Layout, bytes: &[u8]) -> Result<Accent, TableFault>
     requires { length bytes.now ≡ accent_size layout }
     ensures image { IfOk result (λ accent. bytes.now ≡ accent_bytes layout accent) }
-    ensures known { IfOk result IsAccent }
-    ensures fits { IfOk result (AccentFits layout) }
-    ensures sound { OnOk result (HasNoFault (accent_fault layout bytes.now) (accent_size layout)) }
+    ensures known { IfOk result (IsAccentIn layout) }
     ensures fault { IfErr result (λ f. IsFirstFault (accent_fault layout bytes.now) f
         × (f.offset < accent_size layout)) }
 {
     let pairs = count_pairs(layout, bytes);
     let mut accent = Accent::new(read_char(layout, bytes, 0)?);
     for pair in 0..pairs {
-        let at = layout.number() + layout.pair() * pair;
-        let base = read_char(layout, bytes, at)?;
-        let composed = read_char(layout, bytes, at + layout.number())?;
+        let base = read_char(layout, bytes, 1 + 2 * pair)?;
+        let composed = read_char(layout, bytes, 2 + 2 * pair)?;
         accent.push_pair(base, composed).unwrap();
     }
-    let end = layout.number() + layout.pair() * pairs;
+    let end = layout.number() * (1 + 2 * pairs);
     check_zeros(bytes, end, TableFaultKind::NotEmpty)?;
     Ok(accent)
 }

@@ -2,11 +2,12 @@
 ghost use Rattle.std.specs.Prelude.{◌≡◌, ◌<◌, length, take, IfOk, IfErr, OnOk, None, Some, All, slice_index};
 ghost use Rattle.std.specs.Prelude.{MatchOption};
 ghost use Rattle.std.specs.List.{flat_map};
-ghost use Rattle.keymap_core.specs.Bounds.{IsCell, IsEntry};
+ghost use Rattle.keymap_core.specs.Bounds.{IsCell};
 ghost use Rattle.keymap_core.specs.Numbers.{column_count};
 ghost use Rattle.keymap_tables.specs.Faults.{slot_fault, IsFirstFault};
 ghost use Rattle.keymap_tables.specs.Inner.Firsts.{HasNoFault};
-ghost use Rattle.keymap_tables.specs.Fits.{CellFits, EntryFits};
+ghost use Rattle.keymap_tables.specs.Inner.Taken.{IsEntryIn};
+ghost use Rattle.keymap_tables.specs.Fits.{CellFits};
 ghost use Rattle.keymap_tables.specs.Image.{slot_bytes, cell_bytes, marks_of, flag_number};
 ghost use Rattle.keymap_tables.specs.Layouts.{cells_size, slot_size};
 
@@ -44,13 +45,12 @@ fn read_cells(layout: Layout, bytes: &[u8]) -> Result<[Cell; COLUMN_COUNT], Tabl
     let marks = bytes[layout.cells()];
     let mut cells = [Cell::Char('\0'); COLUMN_COUNT];
     for column in 0..COLUMN_COUNT {
-        let at = layout.number() * column;
         let is_marked = (marks >> (7 - column)) % 2 == 1;
-        match cell_of(read_number(layout, bytes, at), is_marked) {
+        match cell_of(read_number(layout, bytes, column), is_marked) {
             Ok(cell) => cells[column] = cell,
             Err(kind) => {
                 return Err(TableFault {
-                    offset: at as u64,
+                    offset: (layout.number() * column) as u64,
                     kind,
                 });
             }
@@ -63,9 +63,7 @@ fn read_cells(layout: Layout, bytes: &[u8]) -> Result<[Cell; COLUMN_COUNT], Tabl
 pub(crate) fn read_slot(layout: Layout, bytes: &[u8]) -> Result<Entry, TableFault>
     requires { length bytes.now ≡ slot_size layout }
     ensures image { IfOk result (λ entry. bytes.now ≡ slot_bytes layout entry) }
-    ensures known { IfOk result IsEntry }
-    ensures fits { IfOk result (EntryFits layout) }
-    ensures sound { OnOk result (HasNoFault (slot_fault layout bytes.now) (slot_size layout)) }
+    ensures known { IfOk result (IsEntryIn layout) }
     ensures fault { IfErr result (λ f. IsFirstFault (slot_fault layout bytes.now) f × (f.offset < slot_size layout)) }
 {
     let cells = read_cells(layout, bytes)?;

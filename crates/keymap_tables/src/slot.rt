@@ -1,14 +1,18 @@
-//! The image of a slot: eight cells, the marks, the lock flag and two pads.
+//! A slot: its image, which is eight cells, the marks, the lock flag and the pads, and the first of its characters that
+//! doesn't fit in a narrow file.
 ghost use Rattle.std.specs.Prelude.{◌≡◌, ◌+◌, ◌-◌, ◌*◌, ◌<◌, ◌≤◌, ◌++◌, length, if◌then◌else◌};
+ghost use Rattle.std.specs.Prelude.{MatchOption};
 ghost use Rattle.std.specs.Int.{to_le_bytes};
 ghost use Rattle.arrayvec.specs.ArrayVec.{array_vec_len};
 ghost use Rattle.keymap_core.specs.Bounds.{IsCell, IsEntry};
 ghost use Rattle.keymap_tables.specs.Image.{slot_bytes, number_of, number_bytes, flag_number, is_act, zeros};
-ghost use Rattle.keymap_tables.specs.Layouts.{number_size, slot_size};
+ghost use Rattle.keymap_tables.specs.Fits.{EntryFits, character_of, character_in};
+ghost use Rattle.keymap_tables.specs.Inner.Firsts.{IsFirstWideNumber};
+ghost use Rattle.keymap_tables.specs.Layouts.{narrow, number_size, slot_size};
 
-use crate::layout::{Layout, SLOT};
+use crate::layout::{Layout, NARROW_MOST, SLOT};
 use arrayvec::ArrayVec;
-use keymap_core::{Cell, Entry, LockFlag};
+use keymap_core::{COLUMN_COUNT, Cell, Entry, LockFlag};
 
 /// The number of a cell.
 fn number(cell: &Cell) -> u32
@@ -91,4 +95,28 @@ pub(crate) fn slot_image(layout: Layout, entry: &Entry) -> ArrayVec<u8, SLOT>
     image.push(flag_byte(entry.flag));
     push_zeros(&mut image, layout.slot());
     image
+}
+
+/// The number of a character, 0 for an action.
+fn character(cell: &Cell) -> u32
+    ensures { result ≡ character_of cell.now }
+{
+    match cell {
+        Cell::Char(c) => *c as u32,
+        Cell::Act(_) => 0,
+    }
+}
+
+/// The column of the first character of a slot that is above 255.
+pub(crate) fn wide_column(entry: &Entry) -> Option<u8>
+    ensures { MatchOption result (EntryFits narrow entry.now)
+        (IsFirstWideNumber (character_in entry.now) (slot_size narrow)) }
+{
+    let cells = entry.cells();
+    for column in 0..COLUMN_COUNT as u8 {
+        if character(&cells[column as usize]) > NARROW_MOST {
+            return Some(column);
+        }
+    }
+    None
 }

@@ -16,11 +16,6 @@ use crate::read_accent::read_accent;
 use crate::read_slot::{flag_of, read_slot};
 use keymap_core::{ACCENT_LIMIT, Accent, Cell, Entry, Keymap, LockFlag, PAIR_LIMIT, SLOT_LIMIT};
 
-/// The bytes of a number, and of a pair of an accent.
-const NUMBER: usize = 4;
-
-const PAIR: usize = 8;
-
 /// Where the marks and the flag of a slot stand in it.
 const MARKS_AT: usize = 32;
 
@@ -34,7 +29,7 @@ fn cell_in(bytes: &[u8], column: usize) -> Cell
         → result ≡ slice_index_or e.cells column (Cell.Char 0) }
 {
     let is_marked = (bytes[MARKS_AT] >> (7 - column)) % 2 == 1;
-    match cell_of(read_number(Layout::Wide, bytes, NUMBER * column), is_marked) {
+    match cell_of(read_number(Layout::Wide, bytes, column), is_marked) {
         Ok(cell) => cell,
         Err(_) => Cell::Char('\0'),
     }
@@ -68,12 +63,12 @@ fn composed_in(bytes: &[u8], base: char) -> Option<char>
     ensures { (a : AccentValue) → IsAccent a → bytes.now ≡ accent_bytes wide a → result ≡ first_result a.pairs base }
 {
     for pair in 0..PAIR_LIMIT {
-        let from = read_number(Layout::Wide, bytes, NUMBER + PAIR * pair);
+        let from = read_number(Layout::Wide, bytes, 1 + 2 * pair);
         if from == 0 {
             return None;
         }
         if from == base as u32 {
-            return match read_char(Layout::Wide, bytes, NUMBER + PAIR * pair + NUMBER) {
+            return match read_char(Layout::Wide, bytes, 2 + 2 * pair) {
                 Ok(c) => Some(c),
                 Err(_) => None,
             };
@@ -138,12 +133,7 @@ impl<'a> Tables<'a> {
         ensures count { (m : MapValue) → ⟦<Tables<'a> as Keymap>⟧.shows self.now m → result ≡ n_keys_of m }
         ensures few { result ≤ slot_limit }
     {
-        let n_keys = read_half(&self.bytes[..WIDE_SLOTS_AT]);
-        if n_keys > SLOT_LIMIT as u16 {
-            SLOT_LIMIT as u16
-        } else {
-            n_keys
-        }
+        read_half(&self.bytes[..WIDE_SLOTS_AT]).min(SLOT_LIMIT as u16)
     }
 
     /// How many accents are in use, no more than there are.
@@ -152,11 +142,7 @@ impl<'a> Tables<'a> {
         ensures few { result ≤ accent_limit }
     {
         let n_accs = read_half(&self.bytes[WIDE_N_ACCS_AT..WIDE_ACCENTS_AT]);
-        if n_accs > ACCENT_LIMIT as u16 {
-            ACCENT_LIMIT as u8
-        } else {
-            n_accs as u8
-        }
+        n_accs.min(ACCENT_LIMIT as u16) as u8
     }
 
     /// The entry of the slot.

@@ -1,68 +1,36 @@
 //! Writing of tables.
-ghost use Rattle.std.specs.Prelude.{◌≡◌, ◌+◌, ◌^◌, ◌<◌, ◌≤◌, ◌||◌, All, length, is_err, slice_index_or, OnOk};
-ghost use Rattle.keymap_core.specs.Accents.{blank};
+ghost use Rattle.std.specs.Prelude.{◌≡◌, ◌+◌, ◌*◌, ◌^◌, ◌<◌, ◌≤◌, ◌||◌, All, length, is_err, OnOk};
 ghost use Rattle.keymap_core.specs.Devices.{WritesText};
-ghost use Rattle.keymap_core.specs.Bounds.{IsAccent, IsEntry, IsMap};
-ghost use Rattle.keymap_core.specs.Numbers.{slot_limit, accent_limit};
-ghost use Rattle.keymap_tables.specs.Image.{image, image_in, accent_bytes, slots_bytes, accents_bytes};
-ghost use Rattle.keymap_tables.specs.Layouts.{accent_size, slots_size, accents_size};
+ghost use Rattle.keymap_core.specs.Bounds.{IsMap};
 ghost use Rattle.keymap_core.specs.Streams.{Pushes, size_of};
+ghost use Rattle.keymap_tables.specs.Image.{image, image_in, table_bytes, zeros};
+ghost use Rattle.keymap_tables.specs.Layouts.{count_size};
 
-use crate::accent::accent_image;
 use crate::count::count_image;
-use crate::layout::{ACCENT, Layout};
-use crate::slot::slot_image;
-use arrayvec::ArrayVec;
-use keymap_core::{ACCENT_LIMIT, Accent, KeyMap, SLOT_LIMIT, Stream, Write, WriteFault};
+use crate::layout::Layout;
+use crate::row::Row;
+use keymap_core::{Accent, Entry, KeyMap, Stream, Write, WriteFault};
 
-fn push_slots<W: Write>(
+/// Pushes the count of the rows of a map, the rows, and zeros in place of those past the last.
+fn push_table<R: Row, W: Write>(
     stream: &mut Stream,
     writer: &mut W,
     layout: Layout,
     map: &KeyMap,
 ) -> Result<(), WriteFault>
-    requires few { length map.now.entries ≤ slot_limit }
-    requires counted { size_of stream.old + slots_size layout < 2 ^ 64 }
+    requires empty { R.image layout R.blank ≡ zeros (R.size layout) }
+    requires counted { size_of stream.old + (count_size layout + R.MOST * R.size layout) < 2 ^ 64 }
     ensures bytes { Pushes (W.contents writer.old) (W.contents writer.new) stream.old stream.new
-        (slots_bytes layout map.now.entries) result }
-    ensures count { OnOk result (size_of stream.new ≡ size_of stream.old + slots_size layout) }
+        (table_bytes layout (R.image layout) (R.size layout) R.MOST (R.rows map.now)) result }
+    ensures count { OnOk result (size_of stream.new
+        ≡ size_of stream.old + (count_size layout + R.MOST * R.size layout)) }
     ensures failed { W.has_failed writer.new ≡ (is_err result || W.has_failed writer.old) }
-    ensures known { OnOk result (All IsEntry map.now.entries) }
+    ensures known { OnOk result (All R.Known (R.rows map.now)) }
+    ensures few { length (R.rows map.now) ≤ R.MOST }
 {
-    for slot in 0..SLOT_LIMIT {
-        stream.push(writer, slot_image(layout, map.entry(slot as u8)).as_slice())?;
-    }
-    Ok(())
-}
-
-/// The bytes of an accent, zeros where it isn't in use.
-fn accent_piece(layout: Layout, map: &KeyMap, index: u8) -> ArrayVec<u8, ACCENT>
-    ensures bytes { result.items ≡ accent_bytes layout (slice_index_or map.now.accents index blank) }
-    ensures whole { length result.items ≡ accent_size layout }
-    ensures known { index < length map.now.accents → IsAccent (slice_index_or map.now.accents index blank) }
-{
-    match map.accent(index) {
-        Some(accent) => accent_image(layout, accent),
-        None => accent_image(layout, &Accent::new('\0')),
-    }
-}
-
-fn push_accents<W: Write>(
-    stream: &mut Stream,
-    writer: &mut W,
-    layout: Layout,
-    map: &KeyMap,
-) -> Result<(), WriteFault>
-    requires few { length map.now.accents ≤ accent_limit }
-    requires counted { size_of stream.old + accents_size layout < 2 ^ 64 }
-    ensures bytes { Pushes (W.contents writer.old) (W.contents writer.new) stream.old stream.new
-        (accents_bytes layout map.now.accents) result }
-    ensures count { OnOk result (size_of stream.new ≡ size_of stream.old + accents_size layout) }
-    ensures failed { W.has_failed writer.new ≡ (is_err result || W.has_failed writer.old) }
-    ensures known { OnOk result (All IsAccent map.now.accents) }
-{
-    for index in 0..ACCENT_LIMIT {
-        stream.push(writer, accent_piece(layout, map, index as u8).as_slice())?;
+    stream.push(writer, count_image(layout, R::count(map)).as_slice())?;
+    for index in 0..R::MOST {
+        R::of(map, index).push(stream, writer, layout)?;
     }
     Ok(())
 }
@@ -79,13 +47,8 @@ pub(crate) fn write_image<W: Write>(
     ensures known { OnOk result (IsMap map.now) }
 {
     let mut stream = Stream::new();
-    stream.push(writer, count_image(layout, map.n_keys()).as_slice())?;
-    push_slots(&mut stream, writer, layout, map)?;
-    stream.push(
-        writer,
-        count_image(layout, u16::from(map.n_accs())).as_slice(),
-    )?;
-    push_accents(&mut stream, writer, layout, map)?;
+    push_table::<Entry, W>(&mut stream, writer, layout, map)?;
+    push_table::<Accent, W>(&mut stream, writer, layout, map)?;
     stream.finish(writer)
 }
 

@@ -258,6 +258,14 @@ fn key_map_accent(rt: HostRuntime) -> Result<(), Fail> {
 }
 
 #[test]
+fn key_map_accent_or_blank(rt: HostRuntime) -> Result<(), Fail> {
+    let map: KeyMap = no_keys(rt.alloc())?;
+    let accent: &Accent = map.accent_or_blank(14);
+    expect_equal(&rt, accent, &Accent::new('\0'));
+    Ok(())
+}
+
+#[test]
 fn key_map_try_clone(rt: HostRuntime) -> Result<(), Fail> {
     let map: KeyMap = no_keys(rt.alloc())?;
     let copy: Result<KeyMap, AllocError> = map.try_clone(rt.alloc());

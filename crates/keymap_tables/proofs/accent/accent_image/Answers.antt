@@ -1,40 +1,51 @@
-use Rattle.std.proofs.Common.{rules, arith, ◌∙◌, sym}
-use Rattle.std.proofs.lemmas.List.{take_all}
-use Rattle.std.proofs.lemmas.List.Elements.{All-more, All-same}
-use Rattle.keymap_core.specs.Bounds.{IsPair}
-use Rattle.keymap_tables.specs.Image.{number_bytes}
-use Rattle.keymap_tables.proofs.Sizes.{pair-next}
-use Rattle.keymap_tables.proofs.Pairs.{pairs-next}
+use Rattle.keymap_tables.proofs.Common.{arith, ◌∙◌, ap, sym, ℕ, ◌≡◌, ◌+◌, length, below_more, IsScalar, number_in}
+use Rattle.keymap_tables.proofs.Common.{number_bytes, numbers_of, number_size}
+use Rattle.keymap_tables.proofs.AccentImages.{accent-known, length-numbers}
+use Rattle.keymap_tables.proofs.Rows.{rows-written, rows-ended}
+use Rattle.keymap_tables.proofs.Sizes.{row-next, row-inside, rows-size, accent-small}
 use Rattle.keymap_tables.proofs.accent.accent_image.Goals as goal
 
-pub loop-pair-preserved : goal.loop-pair-preserved
-loop-pair-preserved c = record {
-  few = search rules;
-  bytes =
-      pairs-next c.args.layout (number_bytes c.args.layout c.args.accent.now.own) c.pairs-pairs.result.now
-      c.loop-pair.pair-index (0, 0) _ _ _ (omega arith) c.loop-pair.invariant.bytes
-      c.push_char-in-loop-pair.ensures.bytes c.push_char-in-loop-pair-2.ensures.bytes;
-  each =
-      omega (
-        arith,
-        c.push_char-in-loop-pair.ensures.count,
-        c.push_char-in-loop-pair-2.ensures.count,
-        c.loop-pair.invariant.each,
-        pair-next c.args.layout c.loop-pair.pair-index,
-      );
-  known =
-      All-more IsPair c.pairs-pairs.result.now c.loop-pair.pair-index (0, 0) (omega arith) c.loop-pair.invariant.known (
-        c.push_char-in-loop-pair.ensures.known,
-        c.pairs-pairs.ensures.bases c.loop-pair.pair-index (0, 0) (omega arith),
-        c.push_char-in-loop-pair-2.ensures.known,
-      );
-}
+pub push_number-requires : goal.push_number-requires
+push_number-requires c =
+    let size = number_size c.args.layout in
+    let few = c.number_count-index-end.ensures in
+    let inside = row-inside size 105 c.loop-index.index (omega arith) in
+    (omega arith, omega (arith, c.loop-index.invariant.each, inside, accent-small c.args.layout))
+
+pub loop-index-preserved : goal.loop-index-preserved
+loop-index-preserved c =
+    let l = c.args.layout in
+    let i = c.loop-index.index in
+    record {
+      bytes =
+          rows-written (number_bytes l) (number_size l) (numbers_of c.args.accent.now) i _ 0 _ _
+          (omega (arith, length-numbers c.args.accent.now)) c.number_at.ensures.value c.loop-index.invariant.bytes
+          c.push_number.ensures.bytes;
+      each =
+          c.push_number.ensures.count ∙ ap (λ (n : ℕ). n + number_size c.args.layout) c.loop-index.invariant.each
+          ∙ sym (row-next (number_size l) i);
+      known =
+          below_more (λ k. IsScalar (number_in c.args.accent.now k)) i c.loop-index.invariant.known
+          (rw (← c.number_at.ensures.value) c.number_at.ensures.known);
+    }
+
+pub push_zeros-requires : goal.push_zeros-requires
+push_zeros-requires c =
+    let size = number_size c.args.layout in
+    let few = c.number_count-index-end.ensures in
+    let inside = rows-size size 105 c.loop-index.index (omega arith) in
+    (omega arith, (omega (arith, c.loop-index.invariant.each, inside), omega (arith, accent-small c.args.layout)))
+
+pub returns-clause-bytes : goal.returns-clause-bytes
+returns-clause-bytes c =
+    let l = c.args.layout in
+    let end : c.loop-index.index ≡ length (numbers_of c.args.accent.now) =
+    omega (arith, length-numbers c.args.accent.now) in
+    rows-ended (number_bytes l) (number_size l) 105 _ (numbers_of c.args.accent.now) c.loop-index.index _ _ end
+    c.accent.ensures c.loop-index.invariant.bytes c.loop-index.invariant.each c.push_zeros.ensures.bytes
 
 pub returns-clause-known : goal.returns-clause-known
 returns-clause-known c =
-    let all = take_all c.loop-pair.pair-index c.pairs-pairs.result.now (omega arith) ∙ c.pairs-pairs.ensures.value in
-    record {
-      own = rw c.own.ensures at c.push_char.ensures.known;
-      few = search rules;
-      pairs = All-same IsPair _ _ (sym all) c.loop-pair.invariant.known;
-    }
+    accent-known c.args.accent.now
+    (λ k below. c.loop-index.invariant.known k (omega (arith, below, length-numbers c.args.accent.now)))
+    c.number_count-index-end.ensures.few c.number_count-index-end.ensures.bases

@@ -1,17 +1,11 @@
-use Rattle.std.proofs.Common.{◌≡◌, ◌+◌, ◌*◌, ◌≤◌, ◌++◌, length, take}
-use Rattle.std.specs.List.{flat_map}
-use Rattle.std.specs.Prelude.{All}
-use Rattle.keymap_core.specs.Bounds.{IsPair}
-use Rattle.keymap_tables.specs.Image.{number_bytes, pair_bytes}
-use Rattle.keymap_tables.specs.Layouts.{number_size, pair_size}
+use Rattle.keymap_tables.proofs.Common.{◌≡◌, ℕ, ◌*◌, ◌<◌, length, take, IsScalar, flat_map, number_in, number_bytes}
+use Rattle.keymap_tables.proofs.Common.{numbers_of, number_size}
 use Rattle.keymap_tables.proofs.accent.accent_image.Given as goal
 
--- The own character and the pairs so far were appended.
-abbrev pub invariant-loop-pair : goal.invariant-loop-pair
-invariant-loop-pair l = record {
-  few : length l.pairs ≤ 52;
-  bytes : l.image.items
-      ≡ number_bytes l.layout l.accent.own ++ flat_map (pair_bytes l.layout) (take l.pair-index l.pairs);
-  known : All IsPair (take l.pair-index l.pairs);
-  each : length l.image.items ≡ number_size l.layout + pair_size l.layout * l.pair-index;
+-- The numbers so far were appended.
+abbrev pub invariant-loop-index : goal.invariant-loop-index
+invariant-loop-index l = record {
+  bytes : l.image.items ≡ flat_map (number_bytes l.layout) (take l.index (numbers_of l.accent));
+  each : length l.image.items ≡ number_size l.layout * l.index;
+  known : (k : ℕ) → k < l.index → IsScalar (number_in l.accent k);
 }

@@ -1,5 +1,5 @@
 use Rattle.std.proofs.Common.{arith, refl}
-use Rattle.keymap_tables.proofs.Contents.{first-short, first-long}
+use Rattle.keymap_tables.proofs.Images.{first-short, first-long}
 use Rattle.keymap_tables.proofs.check.check_length.Goals as goal
 
 pub returns-then-bytes-length-clause-fault : goal.returns-then-bytes-length-clause-fault

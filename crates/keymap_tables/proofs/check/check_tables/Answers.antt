@@ -1,5 +1,5 @@
 use Rattle.keymap_tables.specs.Layouts.{wide}
-use Rattle.keymap_tables.proofs.Contents.{first-content}
+use Rattle.keymap_tables.proofs.Images.{first-content}
 use Rattle.keymap_tables.proofs.Outcomes.{OnOk-map, IfErr-map}
 use Rattle.keymap_tables.proofs.check.check_tables.Goals as goal
 

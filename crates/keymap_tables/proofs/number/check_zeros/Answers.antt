@@ -1,5 +1,5 @@
 use Rattle.std.proofs.Common.{arith}
-use Rattle.keymap_tables.proofs.Pads.{zero-here, zero-none}
+use Rattle.keymap_tables.proofs.Numbers.{zero-here, zero-none}
 use Rattle.keymap_tables.proofs.number.check_zeros.Goals as goal
 
 pub returns-then-bytes-place-ne0-clause-first : goal.returns-then-bytes-place-ne0-clause-first

@@ -1,9 +1,8 @@
-use Rattle.std.proofs.Common.{arith, ◌≤◌, length}
-use Rattle.keymap_tables.proofs.Lifting.{none-past, first-past}
+use Rattle.keymap_tables.proofs.Common.{arith, ◌≤◌, length, count_at, count_fault, BadPad}
+use Rattle.keymap_tables.proofs.Images.{count-pad, count-front}
+use Rattle.keymap_tables.proofs.Lifting.{first-past}
+use Rattle.keymap_tables.proofs.Numbers.{count-whole}
 use Rattle.keymap_tables.proofs.Outcomes.{err_passed}
-use Rattle.keymap_tables.proofs.Pads.{count-pad, count-front, count-whole}
-use Rattle.keymap_tables.specs.Faults.{count_at, count_fault}
-use Rattle.keymap_tables.specs.Types.{BadPad}
 use Rattle.keymap_tables.proofs.number.read_count.Goals as goal
 
 pub returns-in_err-check_zeros-clause-fault : goal.returns-in_err-check_zeros-clause-fault
@@ -22,11 +21,3 @@ pub returns-clause-image : goal.returns-clause-image
 returns-clause-image c l whole =
     count-whole l c.args.bytes.now _ whole (λ i. omega (arith, c.type_inv.bytes i)) c.read_half-count.ensures
     (λ p past. c.in_ok-check_zeros.ensures.none p (omega arith))
-
-pub returns-clause-sound : goal.returns-clause-sound
-returns-clause-sound c =
-    let bytes = c.args.bytes.now in
-    let few : count_at bytes 0 ≤ c.args.most = omega (arith, c.read_half-count.ensures) in
-    none-past BadPad (count_fault c.args.most bytes) bytes 2 (length bytes)
-    (λ p past inside. count-pad c.args.most bytes p past)
-    (count-front c.args.most bytes few) (λ p past. c.in_ok-check_zeros.ensures.none p (omega arith))

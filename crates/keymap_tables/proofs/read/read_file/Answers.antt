@@ -1,11 +1,6 @@
-use Rattle.std.proofs.Common.{◌≡◌, List, [], ap, sym, subst, ◌∙◌}
-use Rattle.keymap_core.specs.Maps.{MapValue}
-use Rattle.keymap_tables.specs.Types.{Entry}
-use Rattle.keymap_core.specs.Bounds.{IsMap}
-use Rattle.keymap_tables.specs.Fits.{FitsIn}
-use Rattle.keymap_tables.specs.Image.{image_in}
-use Rattle.keymap_tables.specs.Inner.Taken.{made_of}
-use Rattle.keymap_tables.proofs.Contents.{first-content}
+use Rattle.keymap_tables.proofs.Common.{◌≡◌, List, [], ap, sym, subst, ◌∙◌, MapValue, Entry, IsMap, FitsIn, image_in}
+use Rattle.keymap_tables.proofs.Common.{made_of}
+use Rattle.keymap_tables.proofs.Images.{first-content}
 use Rattle.keymap_tables.proofs.read.read_file.Goals as goal
 
 -- a map without entries and accents is the one made of none

@@ -1,9 +1,6 @@
-use Rattle.keymap_tables.proofs.ReadingLaws.{map-wide, reading-image, reading-fault, reading-wide}
+use Rattle.keymap_tables.proofs.ReadingLaws.{map-wide, reading-image, reading-fault}
 use Rattle.keymap_tables.specs.Layouts.{wide}
 use Rattle.keymap_tables.proofs.read.read_tables.Goals as goal
-
-pub returns-clause-reading : goal.returns-clause-reading
-returns-clause-reading c = reading-wide c.args.bytes.now c.read_file.result c.read_file.ensures
 
 pub returns-clause-map : goal.returns-clause-map
 returns-clause-map c =

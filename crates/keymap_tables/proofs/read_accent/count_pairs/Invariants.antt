@@ -1,5 +1,4 @@
-use Rattle.std.proofs.Common.{◌≢◌, ℕ, ◌<◌}
-use Rattle.keymap_tables.specs.Faults.{base_at}
+use Rattle.keymap_tables.proofs.Common.{◌≢◌, ℕ, ◌<◌, base_at}
 use Rattle.keymap_tables.proofs.read_accent.count_pairs.Given as goal
 
 -- The bases passed aren't 0.

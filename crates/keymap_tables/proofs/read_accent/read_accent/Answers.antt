@@ -1,191 +1,169 @@
-use Rattle.std.proofs.Common.{arith, ◌≡◌, ◌+◌, ◌*◌, ◌∙◌, sym, refl, ap, subst, length, ℕ, take, drop, get_or, ◌<◌}
-use Rattle.std.proofs.Common.{mul-zero}
-use Rattle.std.specs.Char.{IsScalar}
-use Rattle.std.proofs.lemmas.List.Elements.{All-nil, All-same, All-push}
-use Rattle.std.proofs.lemmas.List.{length_push}
-use Rattle.std.specs.List.{flat_map}
-use Rattle.keymap_core.specs.Accents.{AccentValue}
-use Rattle.keymap_tables.specs.Image.{number_bytes, pair_bytes}
-use Rattle.keymap_tables.specs.Layouts.{number_size, pair_size, accent_size}
-use Rattle.keymap_tables.specs.Fits.{PairFits}
-use Rattle.keymap_core.specs.Bounds.{IsPair}
-use Rattle.keymap_tables.proofs.Cells.{number_bytes-at, number-fits}
+use Rattle.keymap_tables.proofs.Common.{arith, ◌≡◌, ◌+◌, ◌*◌, ◌<◌, ◌≤◌, ◌∙◌, ◌∷◌, [], None, Some, sym, refl, ap, subst}
+use Rattle.keymap_tables.proofs.Common.{length, ℕ, take, drop, List, append-nil, mul-zero, All, IsScalar, flat_map}
+use Rattle.keymap_tables.proofs.Common.{All-nil, All-cons, All-same, All-push, length_push, AccentValue, IsPair}
+use Rattle.keymap_tables.proofs.Common.{number_at, char_fault, number_fault, zero_fault, accent_fault, pairs_in}
+use Rattle.keymap_tables.proofs.Common.{IsFirstFault, AccentFits, number_bytes, numbers_of, HasNoFault, number_width}
+use Rattle.keymap_tables.proofs.Common.{number_size, number_limit, accent_size, NotEmpty, Layout, TableFault}
+use Rattle.keymap_tables.proofs.AccentImages.{pair-read, pair-fits, length-numbers}
+use Rattle.keymap_tables.proofs.Lifting.{number-passes, number-fails, first-past, row-past, upto}
+use Rattle.keymap_tables.proofs.Numbers.{AreBytes, number-read, number-fits, drop-zeros}
 use Rattle.keymap_tables.proofs.Outcomes.{err_passed, OnOk-at}
-use Rattle.keymap_tables.proofs.Pads.{drop-zeros}
-use Rattle.keymap_tables.proofs.Lifting.{first-past, none-past}
-use Rattle.keymap_tables.specs.Faults.{accent_fault, number_at, char_fault}
-use Rattle.keymap_tables.specs.Inner.Firsts.{HasNoFault}
-use Rattle.keymap_tables.specs.Types.{NotEmpty}
-use Rattle.keymap_tables.proofs.Pairs.{accent-past, accent-more, accent-first, pairs-more, accent-whole}
-use Rattle.keymap_tables.proofs.Sizes.{some-number, pair-begins, pair-below, result-begins, result-below, pair-next}
-use Rattle.keymap_tables.proofs.Sizes.{pair-inside, pairs-inside, none-over, at-pair}
+use Rattle.keymap_tables.proofs.Rows.{rows-whole}
+use Rattle.keymap_tables.proofs.Sizes.{row-inside, some-number}
 use Rattle.keymap_tables.proofs.read_accent.read_accent.Goals as goal
+
+-- The numbers up to the last pair.
+module _ (l : Layout) (bytes : List ℕ) (i : ℕ) (used : i < 1 + 2 * pairs_in l bytes)
+    (before : HasNoFault (accent_fault l bytes) (number_size l * i)) where
+  passes : (j : ℕ) → i + 1 ≡ j → char_fault (number_at l bytes (number_size l * i)) ≡ None
+      → HasNoFault (accent_fault l bytes) (number_size l * j)
+  passes j next clean =
+      upto (accent_fault l bytes) (number_size l) (i + 1) j next
+      (number-passes (number_width l) (λ k. char_fault) (number_size l) (1 + 2 * pairs_in l bytes)
+      (zero_fault NotEmpty bytes) bytes i used before clean)
+
+  fails : pairs_in l bytes ≤ 52 → (f : TableFault) → f.offset ≡ number_size l * i
+      → char_fault (number_at l bytes (number_size l * i)) ≡ Some f.kind
+      → IsFirstFault (accent_fault l bytes) f × (f.offset < accent_size l)
+  fails few f at bad = (
+    number-fails (number_width l) (λ k. char_fault) (number_size l) (1 + 2 * pairs_in l bytes)
+        (zero_fault NotEmpty bytes) bytes i f (some-number l) used at before bad,
+    omega (arith, at, row-inside (number_size l) 105 i (omega arith), some-number l),
+  )
+
+pub returns-in_err-read_char-clause-fault : goal.returns-in_err-read_char-clause-fault
+returns-in_err-read_char-clause-fault c =
+    let few = c.count_pairs-pairs.ensures.few in
+    let counted = c.count_pairs-pairs.ensures.value in
+    err_passed _ _ _ c.from_residual.ensures.1
+    (fails c.args.layout c.args.bytes.now 0 (omega arith)
+    (λ p below. absurd (omega (arith, below, mul-zero (number_size c.args.layout)))) (omega (arith, few, counted)) _
+    c.in_err-read_char.ensures.fault.0 c.in_err-read_char.ensures.fault.1)
 
 pub loop-pair-init : goal.loop-pair-init
 loop-pair-init c =
-    let layout = c.args.layout in
+    let l = c.args.layout in
     let bytes = c.args.bytes.now in
-    let n = c.count_pairs-pairs.result in
     let own = c.new-accent.ensures.own ∙ c.in_ok-read_char.ensures.number in
-    let small : (i : ℕ) → get_or bytes i 0 < 256 = λ i. omega (arith, c.type_inv.bytes i) in
-    let first = pairs-inside layout n c.count_pairs-pairs.ensures.few in
+    let none = c.new-accent.ensures.pairs in
+    let small : AreBytes c.args.bytes.now = λ i. omega (arith, c.type_inv.bytes i) in
+    let start : number_size l * 0 ≡ 0 = mul-zero (number_size l) in
+    let once : number_size l ≡ number_size l * 1 = omega arith in
+    let inside = row-inside (number_size l) 105 0 (omega arith) in
     record {
-      own = number_bytes-at layout bytes 0 _ small (omega (arith, first, c.requires)) own;
-      character = rw c.new-accent.ensures.own c.in_ok-read_char.ensures.known;
       bytes =
-          rw c.new-accent.ensures.pairs
-          (ap (λ (k : ℕ). take k (drop (number_size layout) bytes)) (sym (mul-zero (pair_size layout))));
-      own_fits = rw own (number-fits layout bytes 0 small);
-      fits = All-same (PairFits layout) _ _ c.new-accent.ensures.pairs (All-nil (PairFits layout));
-      count = rw c.new-accent.ensures.pairs refl;
-      known = All-same IsPair _ _ c.new-accent.ensures.pairs (All-nil IsPair);
+          ap (λ (ps : List (ℕ × ℕ)). flat_map (number_bytes c.args.layout)
+          (c.new-accent.result.own ∷ flat_map (λ pair. pair.0 ∷ pair.1 ∷ []) ps)) none
+          ∙ append-nil (number_bytes l c.new-accent.result.own)
+          ∙ sym (number-read l bytes (number_size l * 0) _ small (omega (arith, inside, c.requires)) own)
+          ∙ ap (λ (k : ℕ). take (number_size c.args.layout) (drop k c.args.bytes.now)) start
+          ∙ ap (λ (k : ℕ). take k c.args.bytes.now) once;
+      count = rw none refl;
+      character = rw c.new-accent.ensures.own c.in_ok-read_char.ensures.known;
+      known = All-same IsPair _ _ none (All-nil IsPair);
+      fits =
+          subst (λ (ps : List (ℕ × ℕ)). All (λ n. n < number_limit c.args.layout)
+          (c.new-accent.result.own ∷ flat_map (λ pair. pair.0 ∷ pair.1 ∷ []) ps)) (sym none)
+          (All-cons (λ n. n < number_limit l) _ [] (rw own (number-fits l bytes (number_size l * 0) small))
+          (All-nil (λ n. n < number_limit l)));
       sound =
-          let one =
-          accent-more layout bytes n 0 c.count_pairs-pairs.ensures.value (omega (arith, some-number layout))
-          (none-over layout) (λ p below. absurd (omega arith)) c.in_ok-read_char.ensures.sound in
-          λ p below. one p (omega (arith, mul-zero (pair_size layout)));
+          passes l bytes 0 (omega arith) (λ p below. absurd (omega (arith, below, start))) 1 (omega arith)
+          c.in_ok-read_char.ensures.sound;
     }
 
 pub returns-in_err-base-clause-fault : goal.returns-in_err-base-clause-fault
 returns-in_err-base-clause-fault c =
-    let layout = c.args.layout in
-    let bytes = c.args.bytes.now in
-    let n = c.count_pairs-pairs.result in
-    let i = c.loop-pair.pair in
-    let below = pair-below layout n i (omega arith) in
-    let place = at-pair layout i c.number.result c.pair.result c.number.ensures c.pair.ensures in
-    let at = c.in_err-base.ensures.fault.0 ∙ place in
-    let bad = ap (λ (p : ℕ). char_fault (number_at layout bytes p)) (sym place) ∙ c.in_err-base.ensures.fault.1 in
-    err_passed _ _ _ c.from_residual-in_err-base.ensures.1 (
-      accent-first layout bytes n (number_size layout + pair_size layout * i) _ c.count_pairs-pairs.ensures.value below
-          (pair-begins layout i) c.loop-pair.invariant.sound at bad,
-      omega (arith, at, below, pairs-inside layout n c.count_pairs-pairs.ensures.few),
-    )
+    let few = c.count_pairs-pairs.ensures.few in
+    let counted = c.count_pairs-pairs.ensures.value in
+    err_passed _ _ _ c.from_residual-in_err-base.ensures.1
+    (fails c.args.layout c.args.bytes.now (1 + 2 * c.loop-pair.pair) (omega arith) c.loop-pair.invariant.sound
+    (omega (arith, few, counted)) _ c.in_err-base.ensures.fault.0 c.in_err-base.ensures.fault.1)
 
 pub returns-in_err-composed-clause-fault : goal.returns-in_err-composed-clause-fault
 returns-in_err-composed-clause-fault c =
-    let layout = c.args.layout in
-    let bytes = c.args.bytes.now in
-    let n = c.count_pairs-pairs.result in
-    let i = c.loop-pair.pair in
-    let here = number_size layout + pair_size layout * i in
+    let few = c.count_pairs-pairs.ensures.few in
     let counted = c.count_pairs-pairs.ensures.value in
-    let first = at-pair layout i c.number.result c.pair.result c.number.ensures c.pair.ensures in
-    let sound =
-    accent-more layout bytes n here counted (pair-below layout n i (omega arith)) (pair-begins layout i)
-    c.loop-pair.invariant.sound
-    (ap (λ (p : ℕ). char_fault (number_at layout bytes p)) (sym first) ∙ c.in_ok-base.ensures.sound) in
-    let below = result-below layout n i (omega arith) in
-    let place =
-    ap (λ (p : ℕ). p + c.number-in-loop-pair.result) first
-    ∙ ap (λ (k : ℕ). here + k) c.number-in-loop-pair.ensures in
-    let at = c.in_err-composed.ensures.fault.0 ∙ place in
-    let bad = ap (λ (p : ℕ). char_fault (number_at layout bytes p)) (sym place) ∙ c.in_err-composed.ensures.fault.1 in
-    err_passed _ _ _ c.from_residual-in_err-composed.ensures.1 (
-      accent-first layout bytes n (here + number_size layout) _ counted below (result-begins layout i) sound at bad,
-      omega (arith, at, below, pairs-inside layout n c.count_pairs-pairs.ensures.few),
-    )
-
-pub returns-in_err-check_zeros-clause-fault : goal.returns-in_err-check_zeros-clause-fault
-returns-in_err-check_zeros-clause-fault c =
-    let layout = c.args.layout in
-    let bytes = c.args.bytes.now in
-    let n = c.count_pairs-pairs.result in
     let i = c.loop-pair.pair in
-    let last : i ≡ n = omega arith in
-    let place = at-pair layout n c.number-2.result c.pair-2.result c.number-2.ensures c.pair-2.ensures in
-    let so_far =
-    subst (λ (k : ℕ). HasNoFault (accent_fault layout bytes) (number_size layout + pair_size layout * k)) last
-    c.loop-pair.invariant.sound in
-    err_passed _ _ _ c.from_residual-in_err-check_zeros.ensures.1 (
-      first-past NotEmpty (accent_fault layout bytes) bytes _ (accent_size layout) _
-          (λ p past inside. accent-past layout bytes n p c.count_pairs-pairs.ensures.value (omega (arith, past, place)))
-          (λ p below. so_far p (omega (arith, below, place))) (omega arith) c.in_err-check_zeros.ensures.first,
-      omega (arith, c.in_err-check_zeros.ensures.first.inside),
-    )
+    err_passed _ _ _ c.from_residual-in_err-composed.ensures.1
+    (fails c.args.layout c.args.bytes.now (2 + 2 * i) (omega arith)
+    (passes c.args.layout c.args.bytes.now (1 + 2 * i) (omega arith) c.loop-pair.invariant.sound (2 + 2 * i) (omega arith)
+    c.in_ok-base.ensures.sound)
+    (omega (arith, few, counted)) _ c.in_err-composed.ensures.fault.0 c.in_err-composed.ensures.fault.1)
 
 pub loop-pair-preserved : goal.loop-pair-preserved
 loop-pair-preserved c =
-    let layout = c.args.layout in
+    let l = c.args.layout in
     let bytes = c.args.bytes.now in
-    let n = c.count_pairs-pairs.result in
     let i = c.loop-pair.pair in
-    let here = number_size layout + pair_size layout * i in
-    let counted = c.count_pairs-pairs.ensures.value in
+    let small : AreBytes c.args.bytes.now = λ k. omega (arith, c.type_inv.bytes k) in
     let few = c.count_pairs-pairs.ensures.few in
+    let counted = c.count_pairs-pairs.ensures.value in
+    let base = c.in_ok-base.ensures.number in
+    let composed = c.in_ok-composed.ensures.number in
+    let some =
+    λ (none : c.in_ok-base.base ≡ 0). c.count_pairs-pairs.ensures.bases i (omega arith) (sym base ∙ none) in
     let pushed = OnOk-at _ _ _ c.unwrap.ensures c.push_pair.ensures.ok in
     let own = ap (λ (a : AccentValue). a.own) pushed in
     let pairs = ap (λ (a : AccentValue). a.pairs) pushed in
-    let first_at = at-pair layout i c.number.result c.pair.result c.number.ensures c.pair.ensures in
-    let second_at =
-    ap (λ (p : ℕ). p + c.number-in-loop-pair.result) first_at
-    ∙ ap (λ (k : ℕ). here + k) c.number-in-loop-pair.ensures in
-    let base_is = c.in_ok-base.ensures.number ∙ ap (number_at layout bytes) first_at in
-    let result_is = c.in_ok-composed.ensures.number ∙ ap (number_at layout bytes) second_at in
-    let small : (k : ℕ) → get_or bytes k 0 < 256 = λ k. omega (arith, c.type_inv.bytes k) in
-    let below = pair-below layout n i (omega arith) in
-    let below_too = result-below layout n i (omega arith) in
-    let inside = pair-inside layout i (omega (arith, few)) in
-    let base = number_bytes-at layout bytes here _ small (omega (arith, inside, c.requires)) base_is in
-    let composed =
-    number_bytes-at layout bytes (here + number_size layout) _ small (omega (arith, inside, c.requires))
-    result_is in
-    let some =
-    λ (none : c.in_ok-base.base ≡ 0). c.count_pairs-pairs.ensures.bases i (omega arith) (sym base_is ∙ none) in
-    let first =
-    accent-more layout bytes n here counted below (pair-begins layout i) c.loop-pair.invariant.sound
-    (ap (λ (p : ℕ). char_fault (number_at layout bytes p)) (sym first_at) ∙ c.in_ok-base.ensures.sound) in
-    let second =
-    accent-more layout bytes n (here + number_size layout) counted below_too (result-begins layout i) first
-    (ap (λ (p : ℕ). char_fault (number_at layout bytes p)) (sym second_at) ∙ c.in_ok-composed.ensures.sound) in
     record {
-      own = ap (number_bytes layout) own ∙ c.loop-pair.invariant.own;
-      character = subst IsScalar (sym own) c.loop-pair.invariant.character;
       bytes =
-          ap (flat_map (pair_bytes layout)) pairs
-          ∙ pairs-more layout bytes _ i _ _ c.loop-pair.invariant.bytes base composed;
-      own_fits = rw own c.loop-pair.invariant.own_fits;
-      fits =
-          All-same (PairFits layout) _ _ pairs
-          (All-push (PairFits layout) _ _ c.loop-pair.invariant.fits (
-            rw base_is (number-fits layout bytes here small),
-            rw result_is (number-fits layout bytes (here + number_size layout) small),
-          ));
+          ap (λ (a : AccentValue). flat_map (number_bytes c.args.layout) (numbers_of a)) pushed
+          ∙ pair-read l bytes _ _ i _ _ small c.requires (omega (arith, few)) c.loop-pair.invariant.bytes base composed;
       count = ap length pairs ∙ length_push _ _ ∙ ap (λ (k : ℕ). k + 1) c.loop-pair.invariant.count;
+      character = subst IsScalar (sym own) c.loop-pair.invariant.character;
       known =
           All-same IsPair _ _ pairs
           (All-push IsPair _ _ c.loop-pair.invariant.known
           (c.in_ok-base.ensures.known, some, c.in_ok-composed.ensures.known));
-      sound = λ p inside. second p (omega (arith, inside, pair-next layout i));
+      fits =
+          subst (AccentFits l) (sym pushed)
+          (pair-fits l _ _ _ c.loop-pair.invariant.fits (rw base (number-fits l bytes (number_size l * (1 + 2 * i)) small))
+          (rw composed (number-fits l bytes (number_size l * (2 + 2 * i)) small)));
+      sound =
+          passes l bytes (2 + 2 * i) (omega arith)
+          (passes l bytes (1 + 2 * i) (omega arith) c.loop-pair.invariant.sound (2 + 2 * i) (omega arith)
+          c.in_ok-base.ensures.sound)
+          (1 + 2 * (i + 1)) (omega arith) c.in_ok-composed.ensures.sound;
     }
+
+pub returns-in_err-check_zeros-clause-fault : goal.returns-in_err-check_zeros-clause-fault
+returns-in_err-check_zeros-clause-fault c =
+    let l = c.args.layout in
+    let bytes = c.args.bytes.now in
+    let n = c.count_pairs-pairs.result in
+    let last : c.loop-pair.pair ≡ n = omega arith in
+    let place = ap (λ (k : ℕ). k * (1 + 2 * n)) c.number.ensures in
+    let counted = ap (λ (k : ℕ). number_size c.args.layout * (1 + 2 * k)) c.count_pairs-pairs.ensures.value in
+    let so_far =
+    upto (accent_fault l bytes) (number_size l) _ (1 + 2 * n) (ap (λ (k : ℕ). 1 + 2 * k) last) c.loop-pair.invariant.sound in
+    err_passed _ _ _ c.from_residual-in_err-check_zeros.ensures.1 (
+      first-past NotEmpty (accent_fault l bytes) bytes _ (accent_size l) _
+          (λ p past inside. row-past (λ k. number_fault (number_width l) char_fault) (number_size l)
+          (1 + 2 * pairs_in l bytes) (zero_fault NotEmpty bytes) bytes p (some-number l)
+          (omega (arith, past, place, counted)))
+          (λ p below. so_far p (omega (arith, below, place))) (omega arith) c.in_err-check_zeros.ensures.first,
+      omega (arith, c.in_err-check_zeros.ensures.first.inside),
+    )
 
 pub returns-clause-image : goal.returns-clause-image
 returns-clause-image c =
-    let layout = c.args.layout in
+    let l = c.args.layout in
     let bytes = c.args.bytes.now in
     let n = c.count_pairs-pairs.result in
     let last : c.loop-pair.pair ≡ n = omega arith in
-    let place = at-pair layout n c.number-2.result c.pair-2.result c.number-2.ensures c.pair-2.ensures in
-    accent-whole layout bytes c.loop-pair.accent n c.requires c.count_pairs-pairs.ensures.few
-    (c.loop-pair.invariant.count ∙ last) c.loop-pair.invariant.own
-    (c.loop-pair.invariant.bytes ∙ ap (λ (i : ℕ). take (pair_size layout * i) (drop (number_size layout) bytes)) last)
-    (drop-zeros bytes (number_size layout + pair_size layout * n)
+    let place = ap (λ (k : ℕ). k * (1 + 2 * n)) c.number.ensures in
+    rows-whole (number_bytes l) (number_size l) 105 (1 + 2 * n) bytes (numbers_of c.loop-pair.accent)
+    (omega (arith, length-numbers c.loop-pair.accent, c.loop-pair.invariant.count)) c.requires
+    (c.loop-pair.invariant.bytes ∙ ap (λ (i : ℕ). take (number_size c.args.layout * (1 + 2 * i)) c.args.bytes.now) last)
+    (drop-zeros bytes (number_size l * (1 + 2 * n))
     (λ p past. c.in_ok-check_zeros.ensures.none p (omega (arith, past, place))))
 
-pub returns-clause-fits : goal.returns-clause-fits
-returns-clause-fits c = (c.loop-pair.invariant.own_fits, c.loop-pair.invariant.fits)
-
-pub returns-clause-sound : goal.returns-clause-sound
-returns-clause-sound c =
-    let layout = c.args.layout in
-    let bytes = c.args.bytes.now in
-    let n = c.count_pairs-pairs.result in
-    let last : c.loop-pair.pair ≡ n = omega arith in
-    let place = at-pair layout n c.number-2.result c.pair-2.result c.number-2.ensures c.pair-2.ensures in
-    let so_far =
-    subst (λ (k : ℕ). HasNoFault (accent_fault layout bytes) (number_size layout + pair_size layout * k)) last
-    c.loop-pair.invariant.sound in
-    none-past NotEmpty (accent_fault layout bytes) bytes (number_size layout + pair_size layout * n)
-    (accent_size layout)
-    (λ p past inside. accent-past layout bytes n p c.count_pairs-pairs.ensures.value past) so_far
-    (λ p past. c.in_ok-check_zeros.ensures.none p (omega (arith, past, place)))
+pub returns-clause-known : goal.returns-clause-known
+returns-clause-known c = (
+  record {
+    own = c.loop-pair.invariant.character;
+    few = omega (arith, c.loop-pair.invariant.count, c.count_pairs-pairs.ensures.few);
+    pairs = c.loop-pair.invariant.known;
+  },
+  c.loop-pair.invariant.fits,
+)

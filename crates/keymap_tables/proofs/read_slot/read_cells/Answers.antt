@@ -1,14 +1,11 @@
-use Rattle.std.proofs.Common.{rules, arith, ◌∙◌, ◌-◌, ◌*◌, ◌/◌, ◌%◌, ◌^◌, ◌==◌, ℕ, get_or, ◌<◌, ap, sym}
-use Rattle.std.specs.Prelude.{slice_index, Bool}
-use Rattle.std.proofs.lemmas.List.{take_all}
-use Rattle.std.proofs.lemmas.List.Elements.{All-same}
-use Rattle.keymap_tables.proofs.Cells.{All-more_set, number-fits, cell-fits, bytes-more, marks-more, sound-more}
-use Rattle.keymap_tables.proofs.Cells.{first-cell, bytes-all, marks-all, sound-all}
-use Rattle.keymap_tables.proofs.Sizes.{row-inside}
-use Rattle.keymap_core.specs.Bounds.{IsCell}
-use Rattle.keymap_tables.specs.Faults.{number_at, is_marked_at, cell_fault}
-use Rattle.keymap_tables.specs.Fits.{CellFits}
-use Rattle.keymap_tables.specs.Layouts.{number_size}
+use Rattle.keymap_tables.proofs.Common.{rules, arith, ◌∙◌, ◌-◌, ◌*◌, ◌/◌, ◌%◌, ◌^◌, ◌==◌, ℕ, ap, sym, take, mul_comm}
+use Rattle.keymap_tables.proofs.Common.{◌≡◌, flat_map, slice_index, Bool, take_all, All-same, IsCell, is_marked_at}
+use Rattle.keymap_tables.proofs.Common.{cell_fault, slot_end_fault, CellFits, cell_bytes, number_width, number_size}
+use Rattle.keymap_tables.proofs.Lifting.{number-passes, number-fails}
+use Rattle.keymap_tables.proofs.Marks.{marks-more}
+use Rattle.keymap_tables.proofs.Numbers.{AreBytes, number-fits}
+use Rattle.keymap_tables.proofs.Sizes.{row-inside, some-number}
+use Rattle.keymap_tables.proofs.SlotImages.{All-more_set, cell-fits, bytes-more, marks-all}
 use Rattle.keymap_tables.proofs.read_slot.read_cells.Goals as goal
 
 pub loop-column-preserved : goal.loop-column-preserved
@@ -16,25 +13,26 @@ loop-column-preserved c =
     let layout = c.args.layout in
     let bytes = c.args.bytes.now in
     let i = c.loop-column.column in
-    let small : (k : ℕ) → get_or bytes k 0 < 256 = λ k. omega (arith, c.type_inv.bytes k) in
+    let small : AreBytes c.args.bytes.now = λ k. omega (arith, c.type_inv.bytes k) in
     let inside = row-inside (number_size layout) 8 i (omega arith) in
-    let read = c.read_number.ensures ∙ ap (λ (n : ℕ). number_at layout bytes (n * i)) c.number.ensures in
-    let number = c.in-Ok.ensures.number ∙ read in
+    let number = c.in-Ok.ensures.number ∙ c.read_number.ensures in
     let marked = ap (λ (at : ℕ). (slice_index bytes at / 2 ^ (7 - i)) % 2 == 1) c.cells.ensures in
     let clean =
-    ap (λ (n : ℕ). cell_fault n (is_marked_at layout bytes i)) (sym read)
+    ap (λ (n : ℕ). cell_fault n (is_marked_at layout bytes i)) (sym c.read_number.ensures)
     ∙ ap (λ (t : Bool). cell_fault c.read_number.result t) (sym marked) ∙ c.in-Ok.ensures.fault in
     record {
       known = All-more_set IsCell _ _ _ (omega arith) c.loop-column.invariant.known c.in-Ok.ensures.known;
       fits =
           All-more_set (CellFits layout) _ _ _ (omega arith) c.loop-column.invariant.fits
-          (cell-fits layout _ _ number (number-fits layout bytes (number_size layout * i) small));
+          (cell-fits layout c.in-Ok.cell _ number (number-fits layout bytes (number_size layout * i) small));
       whole = search rules;
       bytes =
           bytes-more layout bytes _ _ _ small (omega (arith, inside)) (omega arith) c.loop-column.invariant.bytes
           number;
       marks = marks-more _ _ _ _ (omega arith) (omega arith) c.loop-column.invariant.marks c.in-Ok.ensures.mark;
-      sound = sound-more layout bytes i (omega arith) c.loop-column.invariant.sound clean;
+      sound =
+          number-passes (number_width layout) (λ column n. cell_fault n (is_marked_at layout bytes column))
+          (number_size layout) 8 (slot_end_fault layout bytes) bytes i (omega arith) c.loop-column.invariant.sound clean;
     }
 
 pub returns-in-Err-clause-fault : goal.returns-in-Err-clause-fault
@@ -43,17 +41,24 @@ returns-in-Err-clause-fault c =
     let bytes = c.args.bytes.now in
     let i = c.loop-column.column in
     let at = ap (λ (n : ℕ). n * i) c.number.ensures in
-    let read = c.read_number.ensures ∙ ap (number_at layout bytes) at in
     let marked = ap (λ (p : ℕ). (slice_index bytes p / 2 ^ (7 - i)) % 2 == 1) c.cells.ensures in
     let fault =
-    ap (λ (n : ℕ). cell_fault n (is_marked_at layout bytes i)) (sym read)
-    ∙ ap (λ (t : Bool). cell_fault c.read_number.result t) (sym marked) ∙ c.in-Err.ensures.fault in
-    first-cell layout bytes i _ (omega arith) at fault c.loop-column.invariant.sound
+    ap (λ (n : ℕ). cell_fault n (is_marked_at layout bytes i)) (sym c.read_number.ensures)
+    ∙ ap (λ (t : Bool). cell_fault c.read_number.result t) (sym marked) ∙ c.in-Err.ensures.fault in (
+      number-fails (number_width layout) (λ column n. cell_fault n (is_marked_at layout bytes column))
+          (number_size layout) 8 (slot_end_fault layout bytes) bytes i _ (some-number layout) (omega arith) at
+          c.loop-column.invariant.sound fault,
+      omega (arith, at, row-inside (number_size layout) 8 i (omega arith), some-number layout),
+    )
 
 pub returns-clause-bytes : goal.returns-clause-bytes
 returns-clause-bytes c =
-    bytes-all c.args.layout c.args.bytes.now _ _ (omega arith) c.loop-column.invariant.whole
-    c.loop-column.invariant.bytes
+    let layout = c.args.layout in
+    let last : c.loop-column.column ≡ 8 = omega arith in
+    ap (λ (n : ℕ). take n c.args.bytes.now) (mul_comm 8 (number_size layout))
+    ∙ ap (λ (n : ℕ). take (number_size layout * n) c.args.bytes.now) (sym last)
+    ∙ sym c.loop-column.invariant.bytes
+    ∙ ap (flat_map (cell_bytes layout)) (take_all c.loop-column.column _ (omega (arith, c.loop-column.invariant.whole)))
 
 pub returns-clause-marks : goal.returns-clause-marks
 returns-clause-marks c =
@@ -71,4 +76,6 @@ returns-clause-fits c =
 
 pub returns-clause-sound : goal.returns-clause-sound
 returns-clause-sound c =
-    sound-all c.args.layout c.args.bytes.now c.loop-column.column (omega arith) c.loop-column.invariant.sound
+    let last : c.loop-column.column ≡ 8 = omega arith in
+    λ p below. c.loop-column.invariant.sound p
+    (omega (arith, below, ap (λ (n : ℕ). number_size c.args.layout * n) last))

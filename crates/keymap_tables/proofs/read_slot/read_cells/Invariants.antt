@@ -1,11 +1,5 @@
-use Rattle.std.proofs.Common.{◌≡◌, ℕ, ◌-◌, ◌*◌, ◌/◌, ◌^◌, ◌<◌, take, length, None}
-use Rattle.std.specs.List.{flat_map}
-use Rattle.std.specs.Prelude.{All}
-use Rattle.keymap_core.specs.Bounds.{IsCell}
-use Rattle.keymap_tables.specs.Fits.{CellFits}
-use Rattle.keymap_tables.specs.Image.{cell_bytes, marks_of}
-use Rattle.keymap_tables.specs.Layouts.{number_size}
-use Rattle.keymap_tables.specs.Faults.{slot_fault}
+use Rattle.keymap_tables.proofs.Common.{◌≡◌, ◌-◌, ◌*◌, ◌/◌, ◌^◌, take, length, flat_map, All, IsCell, CellFits}
+use Rattle.keymap_tables.proofs.Common.{cell_bytes, marks_of, number_size, slot_fault, HasNoFault}
 use Rattle.keymap_tables.proofs.read_slot.read_cells.Given as goal
 
 -- The cells read so far have the bytes and marks so far, and no fault stands there.
@@ -16,5 +10,5 @@ invariant-loop-column l = record {
   whole : length l.cells ≡ 8;
   bytes : flat_map (cell_bytes l.layout) (take l.column l.cells) ≡ take (number_size l.layout * l.column) l.bytes;
   marks : marks_of (take l.column l.cells) ≡ l.marks / 2 ^ (8 - l.column);
-  sound : (p : ℕ) → p < number_size l.layout * l.column → slot_fault l.layout l.bytes p ≡ None;
+  sound : HasNoFault (slot_fault l.layout l.bytes) (number_size l.layout * l.column);
 }

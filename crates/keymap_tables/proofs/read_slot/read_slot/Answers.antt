@@ -1,19 +1,22 @@
-use Rattle.std.proofs.Common.{arith, ℕ, ◌+◌, ◌*◌, ◌∙◌, ap, refl}
-use Rattle.std.specs.Prelude.{slice_index}
-use Rattle.keymap_tables.proofs.Cells.{slot-whole, slot-pad, slot-front, slot-bad_flag, small-flag}
-use Rattle.keymap_tables.proofs.Lifting.{none-past, first-past}
+use Rattle.keymap_tables.proofs.Common.{arith, ℕ, ◌≡◌, ◌+◌, ◌*◌, ◌<◌, ◌∙◌, ap, refl, slice_index, nat_le, false}
+use Rattle.keymap_tables.proofs.Common.{nat_tests, slot_fault, number_size, slot_size, BadPad}
+use Rattle.keymap_tables.proofs.Lifting.{first-past}
 use Rattle.keymap_tables.proofs.Outcomes.{err_passed}
-use Rattle.keymap_tables.specs.Faults.{slot_fault}
-use Rattle.keymap_tables.specs.Layouts.{number_size, slot_size}
-use Rattle.keymap_tables.specs.Types.{BadPad}
+use Rattle.keymap_tables.proofs.SlotImages.{slot-whole, slot-flag, slot-pad, slot-marks, slot-front, small-flag}
 use Rattle.keymap_tables.proofs.read_slot.read_slot.Goals as goal
 
 pub returns-in_default-clause-fault : goal.returns-in_default-clause-fault
 returns-in_default-clause-fault c =
+    let layout = c.args.layout in
+    let bytes = c.args.bytes.now in
     let at = ap (λ (n : ℕ). n + 1) c.cells-flag_at.ensures in
-    let large = c.in_default.ensures in (
-      slot-bad_flag c.args.layout c.args.bytes.now _ at refl c.in_ok-cells.ensures.sound
-          (omega (arith, large, ap (slice_index c.args.bytes.now) at)),
+    let large : 3 < slice_index bytes (8 * number_size layout + 1) =
+    omega (arith, c.in_default.ensures, ap (slice_index bytes) at) in
+    let many : nat_le (slice_index bytes (8 * number_size layout + 1)) 3 ≡ false = grind (arith, nat_tests) in (
+      record {
+        here = ap (slot_fault layout bytes) at ∙ slot-flag layout bytes ∙ rw many refl;
+        before = λ p below. slot-marks layout bytes c.in_ok-cells.ensures.sound p (omega (arith, below, at));
+      },
       omega (arith, at),
     )
 
@@ -39,12 +42,6 @@ returns-clause-image c =
     c.in_ok-cells.ensures.bytes c.in_ok-cells.ensures.marks flag
     (λ p past. c.in_ok-check_zeros.ensures.none p (omega (arith, past, c.cells-flag_at.ensures)))
 
-pub returns-clause-sound : goal.returns-clause-sound
-returns-clause-sound c =
-    let layout = c.args.layout in
-    let bytes = c.args.bytes.now in
-    let flag = c.in-Some.ensures ∙ ap (λ (n : ℕ). slice_index bytes (n + 1)) c.cells-flag_at.ensures in
-    none-past BadPad (slot_fault layout bytes) bytes (8 * number_size layout + 2) (slot_size layout)
-    (λ p past inside. slot-pad layout bytes p past)
-    (slot-front layout bytes c.in_ok-cells.ensures.sound (small-flag _ _ flag)) (λ p past.
-    c.in_ok-check_zeros.ensures.none p (omega (arith, past, c.cells-flag_at.ensures)))
+pub returns-clause-known : goal.returns-clause-known
+returns-clause-known c =
+    (record { eight = c.in_ok-cells.ensures.eight; cells = c.in_ok-cells.ensures.known }, c.in_ok-cells.ensures.fits)

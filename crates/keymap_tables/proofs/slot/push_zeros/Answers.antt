@@ -1,6 +1,4 @@
-use Rattle.std.proofs.Common.{arith, ◌≡◌, ◌-◌, ◌++◌, ◌∙◌, ap, ℕ}
-use Rattle.arrayvec.specs.ArrayVec.{array_vec_len}
-use Rattle.keymap_tables.specs.Image.{zeros}
+use Rattle.keymap_tables.proofs.Common.{arith, ◌≡◌, ◌-◌, ◌++◌, ◌∙◌, ap, ℕ, array_vec_len, zeros}
 use Rattle.keymap_tables.proofs.slot.push_zeros.Goals as goal
 
 pub returns-clause-count : goal.returns-clause-count

@@ -1,6 +1,4 @@
-use Rattle.std.proofs.Common.{◌≡◌, ◌-◌, ◌≤◌, ◌++◌}
-use Rattle.arrayvec.specs.ArrayVec.{array_vec_len}
-use Rattle.keymap_tables.specs.Image.{zeros}
+use Rattle.keymap_tables.proofs.Common.{◌≡◌, ◌-◌, ◌≤◌, ◌++◌, array_vec_len, zeros}
 use Rattle.keymap_tables.proofs.slot.push_zeros.Given as goal
 
 -- The zeros so far were appended.

@@ -1,17 +1,17 @@
-use Rattle.std.proofs.Common.{rules, arith, ◌≡◌, ℕ, ◌+◌, ◌*◌, ap, sym, ◌∙◌, mul_comm}
-use Rattle.std.proofs.lemmas.List.{take_all}
-use Rattle.std.proofs.lemmas.List.Elements.{All-same}
-use Rattle.keymap_tables.specs.Layouts.{number_size}
+use Rattle.keymap_tables.proofs.Common.{rules, arith, ◌≡◌, ℕ, ◌+◌, ◌*◌, ap, sym, ◌∙◌, mul_comm, take_all, All-same}
+use Rattle.keymap_tables.proofs.Common.{cell_bytes, number_size, IsCell}
 use Rattle.keymap_tables.proofs.Sizes.{row-next}
-use Rattle.keymap_tables.proofs.Slots.{All-next, cells-more, marks-next, small-next, slot-written}
-use Rattle.keymap_core.specs.Bounds.{IsCell}
+use Rattle.keymap_tables.proofs.Marks.{marks-next, small-next}
+use Rattle.keymap_tables.proofs.Rows.{rows-written}
+use Rattle.keymap_tables.proofs.SlotImages.{All-next, slot-written}
 use Rattle.keymap_tables.proofs.slot.slot_image.Goals as goal
 
 pub loop-cell-preserved : goal.loop-cell-preserved
 loop-cell-preserved c = record {
   eight = search rules;
   bytes =
-      cells-more c.args.layout _ _ c.cell-item.result _ _ (omega arith) c.cell-item.is c.loop-cell.invariant.bytes
+      rows-written (cell_bytes c.args.layout) (number_size c.args.layout) _ _ c.cell-item.result _ _ _ (omega arith)
+      c.cell-item.is c.loop-cell.invariant.bytes
       (rw c.number.ensures.value at c.push_number.ensures.bytes);
   four_each =
       c.push_number.ensures.count ∙ ap (λ (n : ℕ). n + number_size c.args.layout) c.loop-cell.invariant.four_each

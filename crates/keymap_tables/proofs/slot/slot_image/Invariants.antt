@@ -1,9 +1,5 @@
-use Rattle.std.proofs.Common.{◌≡◌, ◌*◌, ◌<◌, ◌^◌, length, take}
-use Rattle.std.specs.List.{flat_map}
-use Rattle.std.specs.Prelude.{All}
-use Rattle.keymap_core.specs.Bounds.{IsCell}
-use Rattle.keymap_tables.specs.Image.{cell_bytes, marks_of}
-use Rattle.keymap_tables.specs.Layouts.{number_size}
+use Rattle.keymap_tables.proofs.Common.{◌≡◌, ◌*◌, ◌<◌, ◌^◌, length, take, flat_map, All, IsCell, cell_bytes, marks_of}
+use Rattle.keymap_tables.proofs.Common.{number_size}
 use Rattle.keymap_tables.proofs.slot.slot_image.Given as goal
 
 -- The bytes, the marks and what is known of the cells so far.

@@ -1,9 +1,5 @@
-use Rattle.std.proofs.Common.{arith, ◌∙◌, ◌*◌, ap, List, ℕ, get_or}
-use Rattle.std.proofs.lemmas.List.Elements.{All-get_or}
-use Rattle.keymap_tables.specs.Types.{Char}
-use Rattle.keymap_core.specs.Bounds.{IsCell}
-use Rattle.keymap_tables.specs.Faults.{number_at, is_marked_at}
-use Rattle.keymap_tables.specs.Layouts.{wide}
+use Rattle.keymap_tables.proofs.Common.{arith, ◌∙◌, ◌*◌, ap, List, ℕ, get_or, All-get_or, Char, IsCell, number_at}
+use Rattle.keymap_tables.proofs.Common.{is_marked_at, wide}
 use Rattle.keymap_tables.proofs.ReadingLaws.{entry-wide, some_none}
 use Rattle.keymap_tables.proofs.SlotImages.{number-in, mark-in, cell-sound, same-cell}
 use Rattle.keymap_tables.proofs.tables.cell_in.Goals as goal

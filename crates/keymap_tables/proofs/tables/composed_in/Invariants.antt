@@ -1,8 +1,4 @@
-use Rattle.std.proofs.Common.{◌≡◌, ◌≤◌, length, drop}
-use Rattle.keymap_core.specs.Accents.{AccentValue, first_result}
-use Rattle.keymap_core.specs.Bounds.{IsAccent}
-use Rattle.keymap_tables.specs.Image.{accent_bytes}
-use Rattle.keymap_tables.specs.Layouts.{wide}
+use Rattle.keymap_tables.proofs.Common.{◌≡◌, ◌≤◌, length, drop, AccentValue, first_result, IsAccent, accent_bytes, wide}
 use Rattle.keymap_tables.proofs.tables.composed_in.Given as goal
 
 -- No pair passed has the base.

@@ -14,6 +14,7 @@ invariant-loop-self l = record {
   room : 15 ≤ vec_capacity l.self-inside.accents;
   entries : l.self-inside.entries ≡ l.initial.self-inside.entries;
   past : l.self-inside.past ≡ l.initial.self-inside.past;
+  blank : l.self-inside.blank ≡ l.initial.self-inside.blank;
 }
 
 abbrev pub decreases-loop-self : goal.decreases-loop-self

@@ -1,5 +1,5 @@
 use Rattle.keymap_core.specs.Maps.{entry_at}
-use Rattle.keymap_tables.proofs.Places.{entry-known}
+use Rattle.keymap_tables.proofs.AtPlaces.{entry-known}
 use Rattle.keymap_tables.proofs.tables.TablesKeymap.flag.Goals as goal
 
 pub returns : goal.returns

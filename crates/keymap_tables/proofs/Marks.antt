@@ -1,0 +1,80 @@
+-- The marks of cells.
+use Rattle.keymap_tables.proofs.Common.{◌≡◌, ℕ, ◌+◌, ◌-◌, ◌*◌, ◌/◌, ◌%◌, ◌^◌, ◌<◌, ◌==◌, suc, zero, List, [], ◌∷◌}
+use Rattle.keymap_tables.proofs.Common.{length, take, get_or, set, cond, add-one, refl, sym, ap, ◌∙◌, arith, nat_tests}
+use Rattle.keymap_tables.proofs.Common.{take_more, take_more_set, Cell, Char, Act, is_act, marks_of}
+use Rattle.std.specs.List.{fold}
+use Rattle.std.proofs.lemmas.List.Sums.{fold-append}
+use Rattle.std.proofs.Math.Nat.{pow-suc, div-div-eq-div-mul}
+
+-- a mark
+abbrev bit : Cell → ℕ
+bit cell = cond (is_act cell) 1 0
+
+-- a mark is a bit
+bit-small : (cell : Cell) → bit cell < 2
+bit-small (Char c) = omega arith
+bit-small (Act action) = omega arith
+
+-- a mark is set exactly for an action
+bit-test : (cell : Cell) → (bit cell == 1) ≡ is_act cell
+bit-test (Char c) = refl
+bit-test (Act action) = refl
+
+-- the marks of cells behind those of a number
+abbrev marks_from : ℕ → List Cell → ℕ
+marks_from n cells = fold (λ k cell. 2 * k + bit cell) n cells
+
+-- above the marks of the cells stands the number
+marks-high : (n : ℕ) (cells : List Cell) → marks_from n cells / 2 ^ length cells ≡ n
+marks-high n [] = omega arith
+marks-high n (c ∷ cells) =
+    let half : (2 * n + bit c) / 2 ≡ n = omega (arith, bit-small c) in
+    ap (λ (k : ℕ). marks_from (2 * n + bit c) cells / k) (pow-suc 2 (length cells))
+    ∙ sym (div-div-eq-div-mul (marks_from (2 * n + bit c) cells) (2 ^ length cells) 2)
+    ∙ ap (λ (k : ℕ). k / 2) (marks-high (2 * n + bit c) cells) ∙ half
+
+-- the mark of a cell, by how many follow it
+mark-at : (cells : List Cell) (n : ℕ) (d : Cell) (i k : ℕ) → k + i + 1 ≡ length cells
+    → marks_from n cells / 2 ^ k % 2 ≡ bit (get_or cells i d)
+mark-at [] n d i k end = absurd (omega arith)
+mark-at (c ∷ cells) n d zero k end =
+    let all : k ≡ length cells = omega arith in
+    let last : (2 * n + bit c) % 2 ≡ bit c = omega (arith, bit-small c) in
+    ap (λ (j : ℕ). marks_from (2 * n + bit c) cells / 2 ^ j % 2) all
+    ∙ ap (λ (j : ℕ). j % 2) (marks-high (2 * n + bit c) cells) ∙ last
+mark-at (c ∷ cells) n d (suc i) k end = mark-at cells (2 * n + bit c) d i k (omega arith)
+
+-- the mark of a column, cut out of the marks of eight cells
+pub mark-bit : (cells : List Cell) → length cells ≡ 8 → (d : Cell) (i : ℕ) → i < 8
+    → (marks_of cells / 2 ^ (7 - i) % 2 == 1) ≡ is_act (get_or cells i d)
+mark-bit cells eight d i below =
+    ap (λ (n : ℕ). n == 1) (mark-at cells 0 d i (7 - i) (omega (arith, eight))) ∙ bit-test (get_or cells i d)
+
+-- a number, by its half and its last bit
+pub halves : (y : ℕ) → 2 * (y / 2) + cond (y % 2 == 1) 1 0 ≡ y
+halves y = grind (arith, nat_tests)
+
+-- one mark fewer is cut off
+pub half-of : (marks i : ℕ) → i < 8 → marks / 2 ^ (8 - i) ≡ marks / 2 ^ (7 - i) / 2
+half-of marks i small =
+    let more : 8 - i ≡ suc (7 - i) = omega arith in
+    rw (more, pow-suc 2 (7 - i)) (sym (div-div-eq-div-mul marks (2 ^ (7 - i)) 2))
+
+-- one more cell is read: the cells so far have the marks so far
+pub marks-more : (marks : ℕ) (cells : List Cell) (i : ℕ) (cell : Cell) → i < 8 → i < length cells
+    → marks_of (take i cells) ≡ marks / 2 ^ (8 - i) → is_act cell ≡ ((marks / 2 ^ (7 - i)) % 2 == 1)
+    → marks_of (take (i + 1) (set cells i cell)) ≡ marks / 2 ^ (8 - (i + 1))
+marks-more marks cells i cell small below so_far mark =
+    let less : 8 - (i + 1) ≡ 7 - i = omega arith in
+    rw (take_more_set cells i cell below, fold-append, so_far, mark, half-of marks i small, less)
+    (halves (marks / 2 ^ (7 - i)))
+
+-- one more bit behind the marks so far is the mark of the next cell
+pub marks-next : (cells : List Cell) (i : ℕ) (cell : Cell) (old bit : ℕ) → i < length cells → cell ≡ get_or cells i cell
+    → old ≡ marks_of (take i cells) → bit ≡ cond (is_act cell) 1 0 → 2 * old + bit ≡ marks_of (take (i + 1) cells)
+marks-next cells i cell old bit below here so_far mark =
+    rw (take_more cells i cell below, ← here, fold-append, mark, so_far) refl
+
+-- one more bit behind a number of i bits gives one of i + 1
+pub small-next : (i old bit : ℕ) → old < 2 ^ i → bit < 2 → 2 * old + bit < 2 ^ (i + 1)
+small-next i old bit small two = rw (add-one, pow-suc 2 i) (omega arith)

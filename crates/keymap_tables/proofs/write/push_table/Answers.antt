@@ -1,0 +1,102 @@
+use Rattle.keymap_tables.proofs.Common.{rules, arith, ap, ◌∙◌, ◌++◌, length, List, ℕ, get_or, subst, sym, append_assoc}
+use Rattle.keymap_tables.proofs.Common.{append-nil, mul-zero, All-from_get_or, StopsIn-more, passed_on, count_bytes}
+use Rattle.keymap_tables.proofs.Common.{rows_bytes, below_more}
+use Rattle.keymap_core.proofs.Gathering.{Gathers-same}
+use Rattle.keymap_tables.proofs.Rows.{rows-next, rows-all, rows-cut}
+use Rattle.keymap_tables.proofs.Sizes.{row-next, row-inside}
+use Rattle.keymap_tables.proofs.write.push_table.Goals as goal
+
+pub push-requires-in-loop-index : goal.push-requires-in-loop-index
+push-requires-in-loop-index g c =
+    omega (
+      arith,
+      c.requires.counted,
+      c.loop-index.invariant.count,
+      row-inside (g.R.Row.size c.args.layout) g.R.Row.MOST c.loop-index.index (omega arith),
+    )
+
+pub returns-in_err-push-clause-bytes : goal.returns-in_err-push-clause-bytes
+returns-in_err-push-clause-bytes g c start text gathers =
+    let l = c.args.layout in
+    let rows = rows_bytes (g.R.Row.image l) (g.R.Row.size l) g.R.Row.MOST (g.R.Row.rows c.args.map.now) in
+    let piece =
+    c.as_slice.ensures.value ∙ c.count_image.ensures.bytes ∙ ap (count_bytes c.args.layout) c.count.ensures.value in
+    passed_on _ _ _ _ c.from_residual.ensures.1
+    (StopsIn-more start _ _ _ _ _
+    (ap (λ (v : List ℕ). text ++ (v ++ rows)) (sym piece) ∙ sym (append_assoc text c.as_slice.result.now rows))
+    (c.in_err-push.ensures.bytes start _ gathers))
+
+pub loop-index-init : goal.loop-index-init
+loop-index-init g c =
+    let piece =
+    c.as_slice.ensures.value ∙ c.count_image.ensures.bytes ∙ ap (count_bytes c.args.layout) c.count.ensures.value in
+    record {
+      pushed = λ start text gathers.
+          Gathers-same _ (ap (λ (v : List ℕ). text ++ v) piece ∙ sym (append-nil _))
+          (c.in_ok-push.ensures.bytes start text gathers);
+      known = λ i below. absurd (omega arith);
+      count =
+          omega (
+            arith,
+            c.in_ok-push.ensures.count,
+            ap length c.as_slice.ensures.value,
+            c.count_image.ensures.whole,
+            mul-zero (g.R.Row.size c.args.layout),
+          );
+      sound = search rules;
+    }
+
+pub loop-index-preserved : goal.loop-index-preserved
+loop-index-preserved g c =
+    let image = g.R.Row.image c.args.layout in
+    let size = g.R.Row.size c.args.layout in
+    let rows = g.R.Row.rows c.args.map.now in
+    record {
+      pushed = λ start text gathers.
+          Gathers-same _
+          (rows-next image size g.R.Row.blank g.R.Row.MOST rows c.loop-index.index _
+          (text ++ count_bytes c.args.layout (length rows)) c.of.ensures (omega (arith, c.count.ensures)) (omega arith))
+          (c.in_ok-push-2.ensures.bytes start _ (c.loop-index.invariant.pushed start text gathers));
+      known =
+          below_more (λ i. g.R.Row.Known (get_or (g.R.Row.rows c.args.map.now) i g.R.Row.blank)) c.loop-index.index
+          c.loop-index.invariant.known (subst g.R.Row.Known c.of.ensures c.in_ok-push-2.ensures.known);
+      count =
+          omega (
+            arith,
+            c.in_ok-push-2.ensures.count,
+            c.loop-index.invariant.count,
+            row-next (g.R.Row.size c.args.layout) c.loop-index.index,
+          );
+      sound = search rules;
+    }
+
+pub returns-in_err-push-2-clause-bytes : goal.returns-in_err-push-2-clause-bytes
+returns-in_err-push-2-clause-bytes g c start text gathers =
+    let image = g.R.Row.image c.args.layout in
+    let size = g.R.Row.size c.args.layout in
+    let rows = g.R.Row.rows c.args.map.now in
+    let count = count_bytes c.args.layout (length rows) in
+    passed_on _ _ _ _ c.from_residual-in_err-push-2.ensures.1
+    (StopsIn-more start _ _ _ _ _
+    (sym (append_assoc text count (rows_bytes image size g.R.Row.MOST rows))
+    ∙ rows-cut image size g.R.Row.blank g.R.Row.MOST rows c.loop-index.index _ (text ++ count) c.of.ensures
+    (omega (arith, c.count.ensures)) (omega arith) c.requires.empty)
+    (c.in_err-push-2.ensures.bytes start _ (c.loop-index.invariant.pushed start text gathers)))
+
+pub returns-clause-bytes : goal.returns-clause-bytes
+returns-clause-bytes g c start text gathers =
+    let image = g.R.Row.image c.args.layout in
+    let size = g.R.Row.size c.args.layout in
+    let rows = g.R.Row.rows c.args.map.now in
+    let count = count_bytes c.args.layout (length rows) in
+    Gathers-same _
+    (ap (λ (v : List ℕ). (text ++ count) ++ v)
+    (rows-all image size g.R.Row.blank g.R.Row.MOST rows c.loop-index.index (omega (arith, c.count.ensures)) (omega arith)
+    c.requires.empty)
+    ∙ append_assoc text count (rows_bytes image size g.R.Row.MOST rows))
+    (c.loop-index.invariant.pushed start text gathers)
+
+pub returns-clause-known : goal.returns-clause-known
+returns-clause-known g c =
+    All-from_get_or g.R.Row.Known (g.R.Row.rows c.args.map.now) g.R.Row.blank
+    (λ i below. c.loop-index.invariant.known i (omega (arith, below, c.count.ensures)))

@@ -1,5 +1,5 @@
 -- A token reads alone: its bytes are the same token wherever a blank stands behind them.
-use Rattle.std.proofs.Common.{◌≡◌, ℕ, ◌+◌, ◌≤◌, Bool, true, false, cond, List, [], ◌∷◌, ◌++◌, take, refl, sym, ◌∙◌}
+use Rattle.std.proofs.Common.{◌≡◌, ⊎_elim, ℕ, ◌+◌, ◌≤◌, Bool, true, false, cond, List, [], ◌∷◌, ◌++◌, take, refl, sym, ◌∙◌}
 use Rattle.std.proofs.Common.{ap, subst, arith, add-one, nat_lt, ◌&&◌, slice_index}
 use Rattle.std.specs.List.{list_all}
 use Rattle.std.proofs.lemmas.Bool.Decides.{nat_tests}
@@ -8,12 +8,11 @@ use Rattle.keymap_text.specs.Lexical.{leading, is_blank, is_word, stays_on_line,
 use Rattle.keymap_text.specs.Lexical.{Refused, front_of}
 use Rattle.keymap_text.proofs.Leading.{leading_pass, leading_fail, leading_none}
 use Rattle.keymap_text.proofs.Splitting.{front_blank, front_comment}
-use Rattle.keymap_text.proofs.Literals.{literal_no_skip}
 use Rattle.keymap_text.proofs.Quoted.{literal_alone, literal_wide, literal_on_line}
+use Rattle.keymap_text.proofs.Fronts.{skipped_by, Role, Blank, Hash, Left, Right, Quote, Letter, Other, role}
 use Rattle.keymap_text.proofs.Steps.{front_left, front_right, front_quote, front_word, front_no_role}
 use Rattle.keymap_text.specs.Alone.{IsWide, StandsAlone}
 use Rattle.keymap_text.proofs.Placing.{front_fits}
-use Rattle.keymap_text.proofs.Early.{Role, Blank, Hash, Left, Right, Quote, Letter, Other, role}
 
 -- the bytes that pass a test, and others behind them of which the first doesn't
 leading_cut : (p : ℕ → Bool) (s y : List ℕ) → leading p y ≡ 0 → leading p (take (leading p s) s ++ y) ≡ leading p s
@@ -93,28 +92,6 @@ literal_front_wide c d n s h = go (role c)
     go (Right i) = absurd (let g = sym (ap (λ c. front_of c s) i ∙ front_right s) ∙ h in cc)
     go (Quote i) =
         literal_wide s (Literal d) n (sym (ap (λ c. front_of c s) i ∙ front_quote s) ∙ h)
-    go (Letter i) = absurd (no_word (leading is_word s) (sym (front_word c s i) ∙ h))
-    go (Other r i) =
-        absurd (let g = sym (front_no_role c s r ∙ ap (λ t. cond t (word (leading is_word s)) (Refused BadByte)) i)
-        ∙ h in cc)
-
--- what is passed over is a blank or a comment
-pub skipped_separates : (c n : ℕ) (s : List ℕ) → front_of c s ≡ Skipped n → separates c ≡ true
-skipped_separates c n s h = go (role c)
-  where
-    no_word : (m : ℕ) → word m ≡ Skipped n → ⊥
-    no_word m h = step (nat_lt m 32) h
-      where
-        step : (b : Bool) → cond b (Found Word m) (Refused BadWord) ≡ Skipped n → ⊥
-        step true h = cc
-        step false h = cc
-
-    go : Role c → separates c ≡ true
-    go (Blank i) = grind (arith, nat_tests)
-    go (Hash i) = ap separates i
-    go (Left i) = absurd (let g = sym (ap (λ c. front_of c s) i ∙ front_left s) ∙ h in cc)
-    go (Right i) = absurd (let g = sym (ap (λ c. front_of c s) i ∙ front_right s) ∙ h in cc)
-    go (Quote i) = absurd (literal_no_skip s n (sym (ap (λ c. front_of c s) i ∙ front_quote s) ∙ h))
     go (Letter i) = absurd (no_word (leading is_word s) (sym (front_word c s i) ∙ h))
     go (Other r i) =
         absurd (let g = sym (front_no_role c s r ∙ ap (λ t. cond t (word (leading is_word s)) (Refused BadByte)) i)
@@ -203,3 +180,10 @@ stands_alone c n k s h =
       end = l.1;
       wide = front_wide c n k s h;
     }
+
+-- what is passed over is a blank or a comment
+pub skipped_separates : (c n : ℕ) (s : List ℕ) → front_of c s ≡ Skipped n → separates c ≡ true
+skipped_separates c n s h = ⊎_elim (λ (b : is_blank c ≡ true). blank b) (λ (e : c ≡ 35). ap separates e) (skipped_by c n s h)
+  where
+    blank : is_blank c ≡ true → separates c ≡ true
+    blank b = grind (arith, nat_tests)

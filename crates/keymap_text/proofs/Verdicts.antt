@@ -16,7 +16,7 @@ use Rattle.keymap_text.specs.Meaning.{line, list_of, ending_of_tokens, item_of, 
 use Rattle.keymap_text.specs.Meaning.{Fault, Early, found_in, place_after}
 use Rattle.keymap_text.specs.Inner.Judging.{judge, verdict, Verdict, Spelled, Faulty, ended}
 use Rattle.keymap_text.proofs.Splitting.{split_one, split_skipped, split_found, split_refused, split_unfinished}
-use Rattle.keymap_text.proofs.Early.{early_from}
+use Rattle.keymap_text.proofs.Prefixes.{early_from}
 use Rattle.keymap_text.proofs.Steps.{judge_then, judge_refused, judge_stops, judge_ends}
 use Rattle.keymap_text.proofs.Faults.{found_of, fault_is, same_fault}
 use Rattle.keymap_text.proofs.Folded.{puts, puts_are}

@@ -1,6 +1,7 @@
 pub mod Leading
 pub mod Splitting
 pub mod Literals
+pub mod InFront
 pub mod Quoted
 pub mod Steps
 pub mod Numbers

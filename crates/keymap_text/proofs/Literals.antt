@@ -205,6 +205,14 @@ literal_stable (b ∷ c ∷ s) x h =
     ap (λ p. cond p (Found (Literal b) 2) (quoted (decoded (b ∷ c ∷ (s ++ x))) (b ∷ c ∷ (s ++ x)))) (lone_same b c s x)
     ∙ chosen (is_lone (b ∷ c ∷ s)) _ _ _ h (quoted_stable (b ∷ c ∷ s) x)
 
+-- so it is unfinished, or stays
+pub literal_or : (s : List ℕ) → (literal s ≡ Unfinished) ⊎ ((x : List ℕ) → literal (s ++ x) ≡ literal s)
+literal_or s = go (literal s) refl
+  where
+    go : (f : Front) → literal s ≡ f → (literal s ≡ Unfinished) ⊎ ((x : List ℕ) → literal (s ++ x) ≡ literal s)
+    go Unfinished e = inl e
+    go f e = inr (λ x. literal_stable s x (λ u. cc))
+
 -- an unfinished one is short, and a longer one that begins so is longer than it
 closing_open : (c n : ℕ) (s : List ℕ) → closing c n s ≡ Unfinished → length s ≤ n
 closing_open c n s h = grind (arith, nat_tests)

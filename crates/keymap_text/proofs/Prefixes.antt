@@ -1,21 +1,23 @@
 -- The tokens of a text are those of a text that begins with it, but for what stands at its end. So an early fault stays.
-use Rattle.std.proofs.Common.{◌≡◌, ℕ, zero, suc, ◌+◌, ◌<◌, ◌≤◌, ◌⊎◌, inl, inr, ⊎_elim, ◌&&◌, Bool, true, false, not, List}
-use Rattle.std.proofs.Common.{[], ◌∷◌, ◌++◌, length, take, drop, refl, sym, ◌∙◌, ap, ap₂, subst, arith, Result, Ok, Err}
-use Rattle.std.proofs.Common.{eq-or-lt_of_le, le_of_eq, slice_index_or, true≢false}
-use Rattle.std.proofs.lemmas.List.{take-append-le, drop-append-le, drop_all}
-use Rattle.keymap_text.specs.Types.{TextFaultKind, EndInside, TokenKind, ParenL, ParenR, Literal, Word}
-use Rattle.keymap_text.specs.Lexical.{leading, stays_on_line, is_blank, Front, Skipped, Found, Refused, Unfinished, front_of}
-use Rattle.keymap_text.specs.Lexical.{tokens_after, TokenValue, Tokens, Ends, Stops, Then, is_empty}
+use Rattle.std.proofs.Common.{◌≡◌, ℕ, zero, suc, ◌+◌, ◌<◌, ◌≤◌, inl, inr, ⊎_elim, ◌&&◌, Bool, true, false, not, List, []}
+use Rattle.std.proofs.Common.{◌∷◌, ◌++◌, length, refl, sym, ◌∙◌, ap, ap₂, subst, arith, Result, Ok, Err, slice_index_or}
+use Rattle.std.proofs.Common.{true≢false}
+use Rattle.std.proofs.lemmas.List.{take-append-le, drop-append-le}
+use Rattle.keymap_text.specs.Types.{TextFaultKind, EndInside}
+use Rattle.keymap_text.specs.Lexical.{Front, Skipped, Found, Refused, Unfinished, front_of, tokens_after, TokenValue, Tokens}
+use Rattle.keymap_text.specs.Lexical.{Ends, Stops, Then, is_empty}
 use Rattle.keymap_text.specs.Meaning.{list_of, ending_of_tokens, tokens, ending, IsSameToken, is_settled, is_end_inside}
 use Rattle.keymap_text.specs.Meaning.{is_word_kind}
 use Rattle.keymap_text.specs.Words.{item}
 use Rattle.keymap_text.specs.Inner.Grammar.{GrammarState, accept, at_end as map_at_end, start}
 use Rattle.keymap_text.specs.Inner.Judging.{judge, verdict, Faulty}
-use Rattle.keymap_text.proofs.Fronts.{found_on, refused_on, skipped_by, found_fits, is_whole}
-use Rattle.keymap_text.proofs.Leading.{leading_le, leading_short}
-use Rattle.keymap_text.proofs.Splitting.{split_one, split_after, split_blank, split_comment, split_found, split_refused}
-use Rattle.keymap_text.proofs.Splitting.{split_none, split_unfinished, split_nil}
+use Rattle.keymap_text.specs.Inner.Scanning.{IsOpen}
+use Rattle.keymap_text.proofs.Fronts.{Stays, stays_or_open, is_whole}
+use Rattle.keymap_text.proofs.InFront.{front_fits}
+use Rattle.keymap_text.proofs.Splitting.{split_one, split_skipped, split_found, split_refused, split_none, split_unfinished}
+use Rattle.keymap_text.proofs.Splitting.{split_nil}
 use Rattle.keymap_text.proofs.Steps.{judge_then, judge_refused, judge_stops, judge_ends, late, late_fault, late_word}
+use Rattle.keymap_text.proofs.Tails.{comment_tokens, word_tokens}
 
 -- the tokens of a text, and those of a longer one
 data Continues : Tokens → Tokens → Type 0 where
@@ -35,45 +37,12 @@ move {ts = ts} {ts' = ts'} {us = us} {us' = us'} e f h =
 Keeps : List ℕ → List ℕ → Type 0
 Keeps b x = (k q : ℕ) → Continues (tokens_after k q b) (tokens_after k q (b ++ x))
 
--- nothing is left
-ends_there : (n q : ℕ) (b : List ℕ) → n ≡ length b → tokens_after n q b ≡ Ends (q + n)
-ends_there n q b e =
-    split_after n q b (le_of_eq e) ∙ ap (tokens_after 0 (q + n)) (drop_all n b (le_of_eq (sym e))) ∙ split_none (q + n)
-
--- behind a comment
-comment_keeps : (b x : List ℕ) → Keeps b x → (q : ℕ)
-    → Continues (tokens_after (leading stays_on_line b) q b) (tokens_after (leading stays_on_line (b ++ x)) q (b ++ x))
-unfolding Keeps
-comment_keeps b x k q = ⊎_elim
-    (λ e. move (ends_there _ q b e) refl at_end)
-    (λ l. move refl (ap (λ n. tokens_after n q (b ++ x)) (leading_short stays_on_line b x l)) (k _ q))
-    (eq-or-lt_of_le (leading_le stays_on_line b))
-
--- a token is settled, or a word at the end
-settled_or : (b : List ℕ) (n : ℕ) (kind : TokenKind) → n ≤ length b
-    → (kind ≡ Word → n < length b) ⊎ ((kind ≡ Word) × (drop n b ≡ []))
-settled_or b n ParenL l = inl (λ e. absurd (cc))
-settled_or b n ParenR l = inl (λ e. absurd (cc))
-settled_or b n (Literal d) l = inl (λ e. absurd (cc))
-settled_or b n Word l =
-    ⊎_elim (λ e. inr (refl, drop_all n b (le_of_eq (sym e)))) (λ k. inl (λ e. k)) (eq-or-lt_of_le l)
-
--- a token
-found_keeps : (b x : List ℕ) → Keeps b x → (q c n : ℕ) (kind : TokenKind) → front_of c b ≡ Found kind n
-    → Continues (tokens_after 0 q (c ∷ b)) (tokens_after 0 q (c ∷ (b ++ x)))
-unfolding Keeps
-found_keeps b x k q c n kind e = ⊎_elim
-    (λ l. move (split_found q c n kind b e) (split_found q c n kind (b ++ x) (found_on c n kind b x e l))
-    (same (refl, ap (λ t. c ∷ t) (sym (take-append-le n b x fits)), refl)
-    (ap (λ t. not (is_word_kind kind && is_empty t)) (drop-append-le n b x fits) ∙ is_whole kind n b x l) (k n (q + 1))))
-    (λ w. move (split_found q c n kind b e
-    ∙ ap (Then (record { kind = kind; bytes = c ∷ take n b; start = q; last = is_empty (drop n b) }))
-    (split_after n (q + 1) b fits ∙ ap (tokens_after 0 (q + 1 + n)) w.1 ∙ split_none (q + 1 + n))) refl
-    (open_word (ap₂ (λ k l. not (is_word_kind k && is_empty l)) w.0 w.1)))
-    (settled_or b n kind fits)
-  where
-    fits : n ≤ length b
-    fits = found_fits c n kind b e
+-- the tokens of open bytes go on as any
+open_continues : (b : List ℕ) (q : ℕ) (us : Tokens) → IsOpen b → Continues (tokens_after 0 q b) us
+open_continues [] q us o = move (split_none q) refl at_end
+open_continues (c ∷ b) q us (inl o) = move (comment_tokens q c b o.0 o.1) refl at_end
+open_continues (c ∷ b) q us (inr (inl o)) = move (word_tokens q c b o) refl (open_word refl)
+open_continues (c ∷ b) q us (inr (inr o)) = move (split_unfinished q c b o) refl unfinished
 
 -- by what stands in front
 keeps : (b x : List ℕ) → Keeps b x
@@ -81,22 +50,20 @@ unfolding Keeps
 keeps [] x = λ k q. move (split_nil k q) refl at_end
 keeps (c ∷ b) x = go (keeps b x)
   where
-    passed : Keeps b x → (q : ℕ) → (is_blank c ≡ true) ⊎ (c ≡ 35) → Continues (tokens_after 0 q (c ∷ b)) (tokens_after 0 q (c ∷ (b ++ x)))
-    passed k q (inl e) = move (split_blank q c b e) (split_blank q c (b ++ x) e) (k 0 (q + 1))
-    passed k q (inr e) =
-        move (ap (λ n. tokens_after 0 q (n ∷ b)) e ∙ split_comment q b)
-        (ap (λ n. tokens_after 0 q (n ∷ (b ++ x))) e ∙ split_comment q (b ++ x)) (comment_keeps b x k (q + 1))
-
-    first : Keeps b x → (q : ℕ) (f : Front) → front_of c b ≡ f
+    first : Keeps b x → (q : ℕ) (f : Front) → front_of c b ≡ f → Stays c b
         → Continues (tokens_after 0 q (c ∷ b)) (tokens_after 0 q (c ∷ (b ++ x)))
-    first k q (Skipped n) e = passed k q (skipped_by c n b e)
-    first k q (Found kind n) e = found_keeps b x k q c n kind e
-    first k q (Refused g) e =
-        move (split_refused q c g b e) (split_refused q c g (b ++ x) (refused_on c g b x e)) stopped
-    first k q Unfinished e = move (split_unfinished q c b e) refl unfinished
+    first k q (Skipped n) e s = move (split_skipped q c n b e) (split_skipped q c n (b ++ x) (s.on x ∙ e)) (k n (q + 1))
+    first k q (Found kind n) e s =
+        let fits : n ≤ length b = (front_fits c b kind n e).within in
+        move (split_found q c n kind b e) (split_found q c n kind (b ++ x) (s.on x ∙ e))
+        (same (refl, ap (λ t. c ∷ t) (sym (take-append-le n b x fits)), refl)
+        (ap (λ t. not (is_word_kind kind && is_empty t)) (drop-append-le n b x fits)
+        ∙ is_whole kind n b x (λ w. s.ended n (e ∙ ap (λ k. Found k n) w))) (k n (q + 1)))
+    first k q (Refused g) e s = move (split_refused q c g b e) (split_refused q c g (b ++ x) (s.on x ∙ e)) stopped
+    first k q Unfinished e s = move (split_unfinished q c b e) refl unfinished
 
     go : Keeps b x → (k q : ℕ) → Continues (tokens_after k q (c ∷ b)) (tokens_after k q (c ∷ (b ++ x)))
-    go i zero q = first i q (front_of c b) refl
+    go i zero q = ⊎_elim (first i q (front_of c b) refl) (open_continues (c ∷ b) q _) (stays_or_open c b)
     go i (suc k) q = move (split_one k q c b) (split_one k q c (b ++ x)) (i k (q + 1))
 
 -- the two laws
@@ -179,3 +146,9 @@ pub early_from : (b x : List ℕ) (f : TextFaultKind) (o : ℕ) → verdict b �
     → verdict (b ++ x) ≡ Faulty f o true
 unfolding Keeps
 early_from b x f o h = faults_on (keeps b x 0 0) start f o h
+
+-- open bytes have no early fault
+pub not_early : (s : GrammarState) (tail : List ℕ) (q : ℕ) (f : TextFaultKind) (o : ℕ) → IsOpen tail
+    → judge s (tokens_after 0 q tail) ≡ Faulty f o true → ⊥
+not_early s tail q f o h e =
+    late (map_at_end s) 0 f o (sym (judge_ends s 0) ∙ faults_on (open_continues tail q (Ends 0) h) s f o e)

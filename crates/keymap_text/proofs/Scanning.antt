@@ -76,8 +76,7 @@ comment_advances s (c ∷ rest) n l h e k =
     record {
       takes = λ q x.
           let place : q + 1 + m ≡ q + n = omega (arith, size) in
-          ap (λ c. judge s (tokens_after 0 q (c ∷ (rest ++ x)))) h
-          ∙ ap (judge s) (split_comment q (rest ++ x)
+          ap (judge s) (split_comment q c (rest ++ x) h
           ∙ ap (λ m. tokens_after m (q + 1) (rest ++ x)) (leading_short stays_on_line rest x (omega (arith, size, k)))
           ∙ split_after m (q + 1) (rest ++ x) (rw length-append (omega (arith, size, k)))
           ∙ ap (λ p. tokens_after 0 p (drop m (rest ++ x))) place

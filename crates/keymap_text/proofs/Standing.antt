@@ -1,15 +1,15 @@
 -- A reader that takes pieces.
 use Rattle.std.proofs.Common.{◌≡◌, ℕ, suc, ◌+◌, ◌-◌, ◌<◌, ◌≤◌, ◌==◌, Bool, true, false, List, [], ◌∷◌, ◌++◌, length, take, drop}
 use Rattle.std.proofs.Common.{get_or, refl, sym, ◌∙◌, ap, ap₂, subst, arith, Result, Ok, Err, append_assoc, append-nil}
-use Rattle.std.proofs.Common.{length-append, length-drop, count_by, take_all, drop_at, eqb-true, inl, inr}
+use Rattle.std.proofs.Common.{length-append, length-drop, count_by, take_all, drop_at, eqb-true, inl, inr, ⊎_elim}
 use Rattle.std.proofs.lemmas.List.{take-append-drop, drop_all, drop-append-le, drop-drop, length-take-le}
 use Rattle.std.proofs.lemmas.List.Sums.{count_by-le-length}
 use Rattle.std.specs.Prelude.{IfErr}
 use Rattle.keymap_core.specs.Maps.{MapValue}
 use Rattle.keymap_text.specs.Types.{TextFault}
 use Rattle.keymap_text.specs.declared.reading.Reading.{Reading}
-use Rattle.keymap_text.specs.Lexical.{leading, stays_on_line, is_word, tokens_after, literal, front_of, Front, Skipped}
-use Rattle.keymap_text.specs.Lexical.{Found, Refused, Unfinished}
+use Rattle.keymap_text.specs.Lexical.{leading, stays_on_line, is_word, tokens_after, literal}
+use Rattle.keymap_text.specs.Lexical.{Unfinished}
 use Rattle.keymap_text.specs.Meaning.{line, Early, Means}
 use Rattle.keymap_text.specs.Inner.Grammar.{GrammarState, at}
 use Rattle.keymap_text.specs.Inner.Judging.{judge, verdict, Faulty}
@@ -22,10 +22,11 @@ use Rattle.keymap_text.specs.Inner.Fields.{progress}
 use Rattle.keymap_text.specs.declared.reader.MapReader.TheInside.{Inside}
 use Rattle.keymap_text.proofs.Leading.{leading_short, leading_pass, leading_append, leading_none}
 use Rattle.keymap_text.proofs.Lines.{pending_line, line_behind, lined_read, lined_same, feeds, feeds_append, feeds_are, feeds_run, line_feed, no_feed}
-use Rattle.keymap_text.proofs.Literals.{literal_stable, lf_closes}
+use Rattle.keymap_text.proofs.InFront.{front_quote, word_found, is_quote}
+use Rattle.keymap_text.proofs.Literals.{literal_or, lf_closes}
 use Rattle.keymap_text.proofs.Splitting.{split_one, split_comment, split_after, to_end}
-use Rattle.keymap_text.proofs.Steps.{front_quote}
-use Rattle.keymap_text.proofs.Tails.{not_early, open_line}
+use Rattle.keymap_text.proofs.Prefixes.{not_early}
+use Rattle.keymap_text.proofs.Tails.{open_line}
 use Rattle.keymap_text.proofs.Verdicts.{spells_from, fault_from, fault_to}
 
 -- the bytes so far have no early fault
@@ -86,7 +87,7 @@ stands_on r new b piece h g l = record {
 comment_on : (s : GrammarState) (q : ℕ) (p y : List ℕ) → leading stays_on_line p ≡ length p
     → judge s (tokens_after 0 q (35 ∷ (p ++ y))) ≡ judge s (tokens_after (leading stays_on_line y) (q + 1 + length p) y)
 comment_on s q p y h =
-    ap (judge s) (split_comment q (p ++ y)
+    ap (judge s) (split_comment q 35 (p ++ y) refl
     ∙ ap (λ n. tokens_after n (q + 1) (p ++ y)) (leading_append stays_on_line p y h)
     ∙ passed (length p) (leading stays_on_line y) (q + 1) p y refl)
   where
@@ -115,7 +116,7 @@ pub comment_ends : (s : GrammarState) (q q' n : ℕ) (p piece x : List ℕ) → 
 comment_ends s q q' n [] piece x l e o h k r = absurd (omega (arith, l))
 comment_ends s q q' n (a ∷ p) piece x l e o h k r =
     ap (λ (a : ℕ). judge s (tokens_after 0 q (a ∷ (p ++ (piece ++ x))))) e
-    ∙ comment_on s q p (piece ++ x) (open_line p (subst (λ (a : ℕ). IsOpen (a ∷ p)) e o))
+    ∙ comment_on s q p (piece ++ x) (open_line a p e o)
     ∙ ap (λ m. judge s (tokens_after m (q + 1 + length p) (piece ++ x)))
     (leading_short stays_on_line piece x (omega (arith, h, k)) ∙ sym h)
     ∙ ap (judge s) (split_after n (q + 1 + length p) (piece ++ x) (rw length-append (omega (arith, k)))
@@ -131,7 +132,7 @@ pub comment_goes : (s : GrammarState) (q q' n : ℕ) (p piece x : List ℕ) → 
     → judge s (tokens_after 0 q (p ++ (piece ++ x))) ≡ judge s (tokens_after 0 q' (p ++ (drop n piece ++ x)))
 comment_goes s q q' n [] piece x l e o h k r = absurd (omega (arith, l))
 comment_goes s q q' n (a ∷ p) piece x l e o h k r =
-    let all = open_line p (subst (λ (a : ℕ). IsOpen (a ∷ p)) e o) in
+    let all = open_line a p e o in
     let line : leading stays_on_line (p ++ piece) ≡ length (p ++ piece) =
     leading_append stays_on_line p piece all ∙ omega (arith, h, k, length-append p piece) in
     ap (λ (a : ℕ). judge s (tokens_after 0 q (a ∷ (p ++ (piece ++ x))))) e
@@ -148,16 +149,7 @@ on_line p t f h =
 
 -- what an unfinished one begins with is unfinished
 unfinished_front : (s x : List ℕ) → literal (s ++ x) ≡ Unfinished → literal s ≡ Unfinished
-unfinished_front s x u = go (literal s) refl
-  where
-    stays : (f : Front) → literal s ≡ f → (f ≡ Unfinished → ⊥) → literal s ≡ Unfinished
-    stays f e other = sym (literal_stable s x (λ v. other (sym e ∙ v))) ∙ u
-
-    go : (f : Front) → literal s ≡ f → literal s ≡ Unfinished
-    go (Skipped n) e = stays (Skipped n) e (λ z. cc)
-    go (Found k n) e = stays (Found k n) e (λ z. cc)
-    go (Refused g) e = stays (Refused g) e (λ z. cc)
-    go Unfinished e = e
+unfinished_front s x u = ⊎_elim (λ h. h) (λ e. sym (e x) ∙ u) (literal_or s)
 
 -- none in a quoted character that is unfinished
 quoted_feeds : (s t : List ℕ) → literal (s ++ t) ≡ Unfinished → feeds t ≡ 0
@@ -181,15 +173,12 @@ open_feeds (c ∷ p) (inl h) =
     on_line (c ∷ p) stays_on_line refl
     (leading_pass stays_on_line c p (ap stays_on_line h.0) ∙ omega (arith, h.1))
 open_feeds (c ∷ p) (inr (inl h)) =
-    on_line (c ∷ p) is_word refl (leading_pass is_word c p h.0 ∙ omega (arith, h.1))
+    let w = word_found c (length p) p h in
+    on_line (c ∷ p) is_word refl (leading_pass is_word c p w.0 ∙ omega (arith, w.1))
 open_feeds (c ∷ p) (inr (inr h)) =
+    let quote = is_quote c p h in
     sym (feeds_are (c ∷ p))
-    ∙ omega (
-      arith,
-      no_feed c (ap (λ c. c == 10) h.0),
-      quoted_feeds [] p
-          (sym (front_quote p) ∙ sym (ap (λ c. front_of c p) h.0) ∙ h.1),
-    )
+    ∙ omega (arith, no_feed c (ap (λ c. c == 10) quote), quoted_feeds [] p (sym (front_quote c p quote) ∙ h))
 
 -- the same map and place
 same_state : (old new : Reading) → new.map ≡ old.map → new.grammar ≡ old.grammar → state_view old ≡ state_view new
@@ -247,7 +236,7 @@ kept_comment old new read (a ∷ t) z e o none low m g p q l = record {
       ap (λ s. judge s (tokens_after 0 (old.offset + length read) ((a ∷ t) ++ x))) (same_state old new m g)
       ∙ ap (λ (a : ℕ). judge (state_view new) (tokens_after 0 (old.offset + length read) (a ∷ (t ++ x)))) e
       ∙ comment_shift (state_view new) (old.offset + length read) new.offset t [] x
-      (open_line t (subst (λ (a : ℕ). IsOpen (a ∷ t)) e o)) (leading_none stays_on_line) (omega (arith, q))
+      (open_line a t e o) (leading_none stays_on_line) (omega (arith, q))
       ∙ ap (λ (p : List ℕ). judge (state_view new) (tokens_after 0 new.offset (p ++ x))) (sym p);
   kept = subst IsOpen (sym p) (inl (refl, leading_none stays_on_line));
   low = omega (arith, low, l, q, count_by-le-length (λ c. c == 10) read);

@@ -2,11 +2,11 @@
 use Rattle.std.specs.Prelude.{◌≡◌, ℕ, Bool, ◌+◌, ◌<◌, ◌≤◌, true, false, List, [], ◌∷◌, ◌++◌, length, take, drop, Result, Ok, Err}
 use Rattle.std.specs.Prelude.{◌⊎◌, ◌-◌}
 use Rattle.keymap_core.specs.Maps.{MapValue}
-use Rattle.keymap_text.specs.Types.{TextFaultKind, Item}
+use Rattle.keymap_text.specs.Types.{TextFaultKind, Item, Word}
 use Rattle.keymap_text.specs.declared.grammar.Grammar.{Grammar}
 use Rattle.keymap_text.specs.declared.scanner.Stop.{Stop}
 use Rattle.keymap_text.specs.Items.{character}
-use Rattle.keymap_text.specs.Lexical.{tokens_after, TokenValue, Then, leading, stays_on_line, is_word, is_space, front_of}
+use Rattle.keymap_text.specs.Lexical.{tokens_after, TokenValue, Then, leading, stays_on_line, is_space, front_of, Found}
 use Rattle.keymap_text.specs.Lexical.{Unfinished}
 use Rattle.keymap_text.specs.Meaning.{is_settled}
 use Rattle.keymap_text.specs.Words.{item}
@@ -109,9 +109,9 @@ TookCell (Ok n) old new i rest = record {
 }
 TookCell (Err e) old new i rest = (m : MapValue) (slot : ℕ) → Refuses (at m (CellAt slot i old.entry)) rest e.kind e.at
 
--- These bytes show no whole token: there are none, or they begin a comment, a word or a quoted character, and end in it.
+-- These bytes show no whole token: there are none, or they end in the comment, the word or the quoted character that
+-- they begin with.
 abbrev pub IsOpen : List ℕ → Type 0
 IsOpen [] = Unit {0}
-IsOpen (c ∷ p) = ((c ≡ 35) × (leading stays_on_line p ≡ length p))
-    ⊎ (((is_word c ≡ true) × (leading is_word p ≡ length p) × (length p < 32))
-    ⊎ ((c ≡ 39) × (front_of c p ≡ Unfinished)))
+IsOpen (c ∷ bytes) = ((c ≡ 35) × (leading stays_on_line bytes ≡ length bytes))
+    ⊎ ((front_of c bytes ≡ Found Word (length bytes)) ⊎ (front_of c bytes ≡ Unfinished))

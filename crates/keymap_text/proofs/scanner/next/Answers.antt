@@ -2,7 +2,8 @@ use Rattle.std.proofs.Common.{◌+◌, refl, sym, ◌∙◌, ap, arith}
 use Rattle.std.proofs.lemmas.List.{length-take-le}
 use Rattle.keymap_text.specs.Lexical.{Found}
 use Rattle.keymap_text.proofs.Scanning.{takes_token, takes_fault}
-use Rattle.keymap_text.proofs.Tails.{open_word, open_quote, found_short, found_here, refused_here}
+use Rattle.keymap_text.proofs.InFront.{front_fits}
+use Rattle.keymap_text.proofs.Tails.{open_word, open_quote, found_here, refused_here}
 use Rattle.keymap_text.proofs.scanner.next.Goals as goal
 
 pub returns-then-not-is_whole-clause-open : goal.returns-then-not-is_whole-clause-open
@@ -13,7 +14,7 @@ returns-then-not-is_whole-clause-open g c = λ _.
 
 pub item_of-requires : goal.item_of-requires
 item_of-requires g c = λ e.
-    let short = found_short c.args.rest.now c.in-Found.kind c.in-Found.n c.in-Found.ensures.value e in
+    let short = (front_fits _ _ c.in-Found.kind c.in-Found.n (sym c.in-Found.ensures.value)).short e in
     omega (
       arith,
       short,

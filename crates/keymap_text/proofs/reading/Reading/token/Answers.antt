@@ -3,12 +3,13 @@ use Rattle.std.proofs.Common.{arith, Ok, length-append}
 use Rattle.std.proofs.lemmas.List.{length-take-le}
 use Rattle.std.proofs.lemmas.List.Sums.{count_by-le-length}
 use Rattle.keymap_text.specs.declared.reading.Reading.{Reading}
-use Rattle.keymap_text.specs.Lexical.{Found, front_of}
+use Rattle.std.specs.Prelude.{IsFalse}
+use Rattle.keymap_text.specs.Lexical.{Found, front_of, separates}
 use Rattle.keymap_text.specs.Inner.Grammar.{GrammarState, at}
 use Rattle.keymap_text.specs.Inner.Scanning.{Advances, Refuses, IsOpen}
 use Rattle.keymap_text.specs.Inner.Views.{state_view, grammar_view, IsPlace}
 use Rattle.keymap_text.proofs.Standing.{part_kept, token_passed, token_breaks, first_same}
-use Rattle.keymap_text.proofs.Tails.{open_few, open_longer}
+use Rattle.keymap_text.proofs.Tails.{open_few, open_longer, open_stands}
 use Rattle.keymap_text.proofs.reading.Reading.token.Goals as goal
 
 pub extend-requires : goal.extend-requires
@@ -21,6 +22,16 @@ extend-requires c =
     let few = open_few (r.pending.items ++ w) tail
     (λ e. c.requires.token (sym (first_same r.pending.items w c.requires.some) ∙ e)) in
     omega (arith, few, length-append r.pending.items w)
+
+pub next-requires-clause-stands : goal.next-requires-clause-stands
+next-requires-clause-stands c =
+    let r = c.args.self.now in
+    let w = take c.few-few.result c.args.piece.now in
+    let joined : c.as_slice-2.result.now ≡ r.pending.items ++ w =
+    c.as_slice-2.ensures.value ∙ c.joined-bytes.ensures ∙ ap (λ (t : List ℕ). t ++ w) c.as_slice.ensures.value in
+    subst (λ c. IsFalse (separates c)) (sym (ap (λ (t : List ℕ). get_or t 0 0) joined
+    ∙ first_same r.pending.items w c.requires.some))
+    (open_stands r.pending.items c.requires.some c.requires.reader.tail c.requires.token)
 
 pub overflow_sub-taken : goal.overflow_sub-taken
 overflow_sub-taken c =

@@ -8,7 +8,7 @@ use Rattle.std.proofs.Math.Seq.{take-append_seam, drop-append_seam}
 use Rattle.keymap_text.specs.Alone.{StandsAlone}
 use Rattle.keymap_fmt.specs.Types.{TextFaultKind, TokenKind, Standing, Beside, Below, Comment, Code}
 use Rattle.keymap_fmt.specs.Pieces.{PieceValue, pieces_after, lowered, comment, trimmed}
-use Rattle.keymap_text.proofs.Splitting.{front_blank, front_comment}
+use Rattle.keymap_text.proofs.InFront.{front_blank, front_comment}
 use Rattle.keymap_fmt.proofs.Leading.{leading_ended}
 
 -- what keymap_text says of tokens in front (`laws::tokens_stand_alone`)
@@ -105,7 +105,7 @@ token_plain c n kind bytes h = (plain (is_blank c) refl, other (c == 35) refl)
 
     other : (b : Bool) → (c == 35) ≡ b → (c == 35) ≡ false
     other true e = absurd (
-        let g = sym (front_comment bytes) ∙ sym (ap (λ c. front_of c bytes) (eqb-true _ _ e)) ∙ h in cc)
+        let g = sym (front_comment c bytes (eqb-true _ _ e)) ∙ h in cc)
     other false e = e
 
 -- The bytes begin with a blank.

@@ -15,7 +15,8 @@ use Rattle.keymap_fmt.specs.Layout.{before, after, ending as ending_of_part, lin
 use Rattle.keymap_fmt.specs.Formatted.{rendered_from, formatted}
 use Rattle.keymap_fmt.specs.Same.{part_and_bytes, kind_and_bytes, token_in, token_of}
 use Rattle.keymap_text.proofs.Leading.{leading_pass, leading_fail}
-use Rattle.keymap_text.proofs.Splitting.{front_comment, split_one, split_nil, split_skipped, split_blank}
+use Rattle.keymap_text.proofs.InFront.{front_comment}
+use Rattle.keymap_text.proofs.Splitting.{split_one, split_nil, split_skipped, split_blank}
 use Rattle.keymap_fmt.proofs.Leading.{leading_ended}
 use Rattle.keymap_fmt.proofs.Reading.{TokenLaws, AtFront, blank, hash, token, refused, unfinished, at_front}
 use Rattle.keymap_fmt.proofs.Reading.{BeginsBlank, ReadsToken, ReadsComment, read_nil}
@@ -91,7 +92,7 @@ piece_tokens laws (c ∷ bytes) k q s = go k q s (piece_tokens laws bytes)
         ap (flat_map token_of) (ap (λ c. pieces_after 0 s (c ∷ bytes)) e ∙ read_hash s bytes)
         ∙ more (suc n) (q + 1) Below
         ∙ sym (ap (λ ts. map kind_and_bytes (list_of ts)) (ap (λ c. tokens_after 0 q (c ∷ bytes)) e
-        ∙ split_skipped q 35 n bytes (front_comment bytes) ∙ line_passed (q + 1) bytes))
+        ∙ split_skipped q 35 n bytes (front_comment 35 bytes refl) ∙ line_passed (q + 1) bytes))
     at more q s (token kind n p r h) =
         ap (flat_map token_of) (read_token s c bytes kind n p r h)
         ∙ ap (λ (ts : List (TokenKind × List ℕ)). (kind, c ∷ take n bytes) ∷ ts) (more n (q + 1) Beside)
@@ -192,7 +193,7 @@ whole_comment bytes y r h = λ q.
     let k = whole_behind w (10 ∷ y) (whole_blank 10 y refl h) (q + 1) in (
       k.0,
       ap (λ t. ending_of_tokens (tokens_after 0 q (t ++ 10 ∷ y))) r.is
-          ∙ ap ending_of_tokens (split_skipped q 35 _ (w ++ 10 ∷ y) (front_comment (w ++ 10 ∷ y)))
+          ∙ ap ending_of_tokens (split_skipped q 35 _ (w ++ 10 ∷ y) (front_comment 35 (w ++ 10 ∷ y) refl))
           ∙ ap (λ n. ending_of_tokens (tokens_after n (q + 1) (w ++ 10 ∷ y))) n ∙ k.1,
     )
 

@@ -1,19 +1,15 @@
 -- A token reads alone: its bytes are the same token wherever a blank stands behind them.
-use Rattle.std.proofs.Common.{◌≡◌, ℕ, ◌+◌, ◌≤◌, Bool, true, false, cond, List, [], ◌∷◌, ◌++◌, take, refl, sym, ◌∙◌}
-use Rattle.std.proofs.Common.{ap, subst, arith, add-one, nat_lt, ◌&&◌, slice_index}
+use Rattle.std.proofs.Common.{◌≡◌, ⊎_elim, ℕ, ◌+◌, ◌<◌, ◌≤◌, Bool, true, false, List, [], ◌∷◌, ◌++◌, take, sym, ◌∙◌, ap}
+use Rattle.std.proofs.Common.{refl, subst, arith, add-one, ◌&&◌, slice_index}
 use Rattle.std.specs.List.{list_all}
 use Rattle.std.proofs.lemmas.Bool.Decides.{nat_tests}
-use Rattle.keymap_text.specs.Types.{BadByte, BadWord, TokenKind, ParenL, ParenR, Literal, Word}
-use Rattle.keymap_text.specs.Lexical.{leading, is_blank, is_word, stays_on_line, separates, word, Skipped, Found}
-use Rattle.keymap_text.specs.Lexical.{Refused, front_of}
-use Rattle.keymap_text.proofs.Leading.{leading_pass, leading_fail, leading_none}
-use Rattle.keymap_text.proofs.Splitting.{front_blank, front_comment}
-use Rattle.keymap_text.proofs.Literals.{literal_no_skip}
-use Rattle.keymap_text.proofs.Quoted.{literal_alone, literal_wide, literal_on_line}
-use Rattle.keymap_text.proofs.Steps.{front_left, front_right, front_quote, front_word, front_no_role}
+use Rattle.keymap_text.specs.Types.{TokenKind, ParenL, ParenR, Literal, Word}
+use Rattle.keymap_text.specs.Lexical.{leading, is_blank, is_word, stays_on_line, separates, word, Skipped, Found, front_of}
 use Rattle.keymap_text.specs.Alone.{IsWide, StandsAlone}
-use Rattle.keymap_text.proofs.Placing.{front_fits}
-use Rattle.keymap_text.proofs.Early.{Role, Blank, Hash, Left, Right, Quote, Letter, Other, role}
+use Rattle.keymap_text.proofs.InFront.{InFront, Left, Right, Quote, Letters, in_front_is, front_left, front_right}
+use Rattle.keymap_text.proofs.InFront.{front_quote, front_word, front_fits, skipped_by}
+use Rattle.keymap_text.proofs.Leading.{leading_pass, leading_fail, leading_none}
+use Rattle.keymap_text.proofs.Quoted.{literal_alone, literal_wide, literal_on_line}
 
 -- the bytes that pass a test, and others behind them of which the first doesn't
 leading_cut : (p : ℕ → Bool) (s y : List ℕ) → leading p y ≡ 0 → leading p (take (leading p s) s ++ y) ≡ leading p s
@@ -33,92 +29,21 @@ leading_cut p (c ∷ s) y h = go (p c) refl (leading_cut p s y h)
 blank_no_word : (b : ℕ) → is_blank b ≡ true → is_word b ≡ false
 blank_no_word b h = grind (arith, nat_tests)
 
--- a word that is found has all letters and digits that stand there
-word_found : (m n : ℕ) (k : TokenKind) → word m ≡ Found k n → m ≡ n
-word_found m n k h = go (nat_lt m 32) h
-  where
-    go : (b : Bool) → cond b (Found Word m) (Refused BadWord) ≡ Found k n → m ≡ n
-    go true h = cc
-    go false h = absurd (cc)
-
--- by what the first byte begins
+-- by what stands in front
 front_alone : (c n b : ℕ) (k : TokenKind) (s y : List ℕ) → front_of c s ≡ Found k n → is_blank b ≡ true
     → front_of c (take n s ++ b ∷ y) ≡ Found k n
-front_alone c n b k s y h e = go (role c)
+front_alone c n b k s y h e = go k n (in_front_is c s (Found k n) h)
   where
-    to : (d : ℕ) → c ≡ d → (front_of d s ≡ Found k n → front_of d (take n s ++ b ∷ y) ≡ Found k n)
-        → front_of c (take n s ++ b ∷ y) ≡ Found k n
-    to d i f = ap (λ c. front_of c (take n s ++ b ∷ y)) i ∙ f (ap (λ c. front_of c s) (sym i) ∙ h)
+    short_word : (n : ℕ) → n < 32 → word n ≡ Found Word n
+    short_word n h = grind (arith, nat_tests)
 
-    skipped : (m : ℕ) → front_of c s ≡ Skipped m → ⊥
-    skipped m f = let g : Skipped m ≡ Found k n = sym f ∙ h in cc
-
-    refused : front_of c s ≡ Refused BadByte → ⊥
-    refused f = let g : Refused BadByte ≡ Found k n = sym f ∙ h in cc
-
-    of_word : is_word c ≡ true → front_of c (take n s ++ b ∷ y) ≡ Found k n
-    of_word w =
-        let found : word (leading is_word s) ≡ Found k n = sym (front_word c s w) ∙ h in
-        let size : leading is_word s ≡ n = word_found (leading is_word s) n k found in
+    go : (k : TokenKind) (n : ℕ) → InFront c s (Found k n) → front_of c (take n s ++ b ∷ y) ≡ Found k n
+    go k n (Left i) = front_left c (b ∷ y) i
+    go k n (Right i) = front_right c (b ∷ y) i
+    go k n (Quote i q) = front_quote c (take n s ++ b ∷ y) i ∙ literal_alone s (b ∷ y) k n q
+    go k n (Letters w l) =
         front_word c (take n s ++ b ∷ y) w
-        ∙ ap word (ap (λ m. leading is_word (take m s ++ b ∷ y)) (sym size)
-        ∙ leading_cut is_word s (b ∷ y) (leading_fail is_word b y (blank_no_word b e))) ∙ found
-
-    go : Role c → front_of c (take n s ++ b ∷ y) ≡ Found k n
-    go (Blank i) = absurd (skipped 0 (front_blank c s i))
-    go (Hash i) = absurd (skipped _ (ap (λ c. front_of c s) i ∙ front_comment s))
-    go (Left i) = to 40 i (λ f. front_left (take n s ++ b ∷ y) ∙ sym (front_left s) ∙ f)
-    go (Right i) = to 41 i (λ f. front_right (take n s ++ b ∷ y) ∙ sym (front_right s) ∙ f)
-    go (Quote i) =
-        to 39 i (λ f. front_quote (take n s ++ b ∷ y) ∙ literal_alone s (b ∷ y) k n (sym (front_quote s) ∙ f))
-    go (Letter i) = of_word i
-    go (Other r i) = absurd (refused (front_no_role c s r
-        ∙ ap (λ t. cond t (word (leading is_word s)) (Refused BadByte)) i))
-
--- a literal has two apostrophes, and something between them
-literal_front_wide : (c d n : ℕ) (s : List ℕ) → front_of c s ≡ Found (Literal d) n → 2 ≤ n
-literal_front_wide c d n s h = go (role c)
-  where
-    no_word : (m : ℕ) → word m ≡ Found (Literal d) n → ⊥
-    no_word m h = step (nat_lt m 32) h
-      where
-        step : (b : Bool) → cond b (Found Word m) (Refused BadWord) ≡ Found (Literal d) n → ⊥
-        step true h = cc
-        step false h = cc
-
-    go : Role c → 2 ≤ n
-    go (Blank i) = absurd (let g = sym (front_blank c s i) ∙ h in cc)
-    go (Hash i) = absurd (let g = sym (ap (λ c. front_of c s) i ∙ front_comment s) ∙ h in cc)
-    go (Left i) = absurd (let g = sym (ap (λ c. front_of c s) i ∙ front_left s) ∙ h in cc)
-    go (Right i) = absurd (let g = sym (ap (λ c. front_of c s) i ∙ front_right s) ∙ h in cc)
-    go (Quote i) =
-        literal_wide s (Literal d) n (sym (ap (λ c. front_of c s) i ∙ front_quote s) ∙ h)
-    go (Letter i) = absurd (no_word (leading is_word s) (sym (front_word c s i) ∙ h))
-    go (Other r i) =
-        absurd (let g = sym (front_no_role c s r ∙ ap (λ t. cond t (word (leading is_word s)) (Refused BadByte)) i)
-        ∙ h in cc)
-
--- what is passed over is a blank or a comment
-pub skipped_separates : (c n : ℕ) (s : List ℕ) → front_of c s ≡ Skipped n → separates c ≡ true
-skipped_separates c n s h = go (role c)
-  where
-    no_word : (m : ℕ) → word m ≡ Skipped n → ⊥
-    no_word m h = step (nat_lt m 32) h
-      where
-        step : (b : Bool) → cond b (Found Word m) (Refused BadWord) ≡ Skipped n → ⊥
-        step true h = cc
-        step false h = cc
-
-    go : Role c → separates c ≡ true
-    go (Blank i) = grind (arith, nat_tests)
-    go (Hash i) = ap separates i
-    go (Left i) = absurd (let g = sym (ap (λ c. front_of c s) i ∙ front_left s) ∙ h in cc)
-    go (Right i) = absurd (let g = sym (ap (λ c. front_of c s) i ∙ front_right s) ∙ h in cc)
-    go (Quote i) = absurd (literal_no_skip s n (sym (ap (λ c. front_of c s) i ∙ front_quote s) ∙ h))
-    go (Letter i) = absurd (no_word (leading is_word s) (sym (front_word c s i) ∙ h))
-    go (Other r i) =
-        absurd (let g = sym (front_no_role c s r ∙ ap (λ t. cond t (word (leading is_word s)) (Refused BadByte)) i)
-        ∙ h in cc)
+        ∙ ap word (leading_cut is_word s (b ∷ y) (leading_fail is_word b y (blank_no_word b e))) ∙ short_word n l
 
 -- a letter or digit is no LF, and no blank
 word_on_line : (c : ℕ) → is_word c ≡ true → stays_on_line c ≡ true
@@ -155,42 +80,37 @@ StandsInLine c n s =
     (list_all stays_on_line (c ∷ take n s) ≡ true) × (is_blank (slice_index (c ∷ s) n) ≡ false)
 
 token_in_line : (c n : ℕ) (k : TokenKind) (s : List ℕ) → front_of c s ≡ Found k n → StandsInLine c n s
-token_in_line c n k s h = go (role c)
+token_in_line c n k s h = go k n (in_front_is c s (Found k n) h)
   where
-    to : (d : ℕ) → c ≡ d → (front_of d s ≡ Found k n → StandsInLine d n s) → StandsInLine c n s
-    to d i f = subst (λ c. StandsInLine c n s) (sym i) (f (ap (λ c. front_of c s) (sym i) ∙ h))
+    paren : (d : ℕ) → c ≡ d → stays_on_line d ≡ true → is_blank d ≡ false → StandsInLine c 0 s
+    paren d i p q = (ap (λ c. stays_on_line c && true) i ∙ ap (λ b. b && true) p, ap is_blank i ∙ q)
 
-    paren : (d : ℕ) (j : TokenKind) → Found j 0 ≡ Found k n → stays_on_line d ≡ true → is_blank d ≡ false
-        → StandsInLine d n s
-    paren d j e p q = let z : 0 ≡ n = cc in subst (λ n. StandsInLine d n s) z (ap (λ b. b && true) p, q)
+    go : (k : TokenKind) (n : ℕ) → InFront c s (Found k n) → StandsInLine c n s
+    go k n (Left i) = paren 40 i refl refl
+    go k n (Right i) = paren 41 i refl refl
+    go k n (Quote i q) =
+        let r = literal_on_line s k n q in
+        subst (λ c. StandsInLine c n s) (sym i) (r.0, ap is_blank r.1)
+    go k n (Letters w l) = (
+      ap (λ b. b && list_all stays_on_line (take (leading is_word s) s)) (word_on_line c w) ∙ front_on_line s,
+      word_no_blank (slice_index (c ∷ s) (leading is_word s)) (front_end is_word c s w),
+    )
 
-    of_word : is_word c ≡ true → StandsInLine c n s
-    of_word w =
-        let size : leading is_word s ≡ n = word_found (leading is_word s) n k (sym (front_word c s w) ∙ h) in
-        subst (λ n. StandsInLine c n s) size (
-          ap (λ b. b && list_all stays_on_line (take (leading is_word s) s)) (word_on_line c w) ∙ front_on_line s,
-          word_no_blank (slice_index (c ∷ s) (leading is_word s)) (front_end is_word c s w),
-        )
-
-    quote : front_of 39 s ≡ Found k n → StandsInLine 39 n s
-    quote e = let r = literal_on_line s k n (sym (front_quote s) ∙ e) in (r.0, ap is_blank r.1)
-
-    go : Role c → StandsInLine c n s
-    go (Blank i) = absurd (let g = sym (front_blank c s i) ∙ h in cc)
-    go (Hash i) = absurd (let g = sym (ap (λ c. front_of c s) i ∙ front_comment s) ∙ h in cc)
-    go (Left i) = to 40 i (λ e. paren 40 ParenL (sym (front_left s) ∙ e) refl refl)
-    go (Right i) = to 41 i (λ e. paren 41 ParenR (sym (front_right s) ∙ e) refl refl)
-    go (Quote i) = to 39 i quote
-    go (Letter i) = of_word i
-    go (Other r i) =
-        absurd (let g = sym (front_no_role c s r ∙ ap (λ t. cond t (word (leading is_word s)) (Refused BadByte)) i)
-        ∙ h in cc)
-
+-- a literal has two apostrophes, and something between them
 front_wide : (c n : ℕ) (k : TokenKind) (s : List ℕ) → front_of c s ≡ Found k n → IsWide k n
-front_wide c n (Literal d) s h = literal_front_wide c d n s h
-front_wide c n ParenL s h = tt
-front_wide c n ParenR s h = tt
-front_wide c n Word s h = tt
+front_wide c n k s h = go k n (in_front_is c s (Found k n) h)
+  where
+    wide : (k : TokenKind) (n : ℕ) → 2 ≤ n → IsWide k n
+    wide (Literal d) n l = l
+    wide ParenL n l = tt
+    wide ParenR n l = tt
+    wide Word n l = tt
+
+    go : (k : TokenKind) (n : ℕ) → InFront c s (Found k n) → IsWide k n
+    go k n (Left i) = tt
+    go k n (Right i) = tt
+    go k n (Quote i q) = wide k n (literal_wide s k n q)
+    go k n (Letters w l) = tt
 
 -- what is found stands alone
 pub stands_alone : (c n : ℕ) (k : TokenKind) (s : List ℕ) → front_of c s ≡ Found k n → StandsAlone k c n s
@@ -203,3 +123,10 @@ stands_alone c n k s h =
       end = l.1;
       wide = front_wide c n k s h;
     }
+
+-- what is passed over is a blank or a comment
+pub skipped_separates : (c n : ℕ) (s : List ℕ) → front_of c s ≡ Skipped n → separates c ≡ true
+skipped_separates c n s h = ⊎_elim (λ (b : is_blank c ≡ true). blank b) (λ (e : c ≡ 35). ap separates e) (skipped_by c n s h)
+  where
+    blank : is_blank c ≡ true → separates c ≡ true
+    blank b = grind (arith, nat_tests)

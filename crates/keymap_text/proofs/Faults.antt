@@ -13,18 +13,8 @@ use Rattle.keymap_text.specs.Places.{RowPlace, AtDefinition, AtCell, AtLock, AtA
 use Rattle.keymap_text.specs.Places.{AtResult, AtPairEnd, if_accepted, next, next_at_definition}
 use Rattle.keymap_text.specs.Inner.Judging.{judge, verdict, Verdict, Spelled, Faulty, ended}
 use Rattle.keymap_text.specs.Meaning.{list_of, ending_of_tokens, item_of, place_after, FaultInText, found_in, fault_of}
+use Rattle.keymap_text.specs.Inner.Views.{place_of}
 use Rattle.keymap_text.proofs.Steps.{judge_then, judge_refused, judge_stops, judge_ends}
-
--- a place without what it holds of the map
-abbrev pub place_of : full.GrammarPlace → RowPlace
-place_of full.Definition = AtDefinition
-place_of (full.CellAt slot i e) = AtCell i
-place_of (full.LockAt slot e) = AtLock
-place_of (full.AccentCharacter i) = AtAccentCharacter
-place_of (full.AfterAccent i a) = AfterPairs (length a.pairs)
-place_of (full.PairBase i a) = AtBase (length a.pairs)
-place_of (full.PairResult i a b) = AtResult (length a.pairs)
-place_of (full.PairEnd i a b r) = AtPairEnd (length a.pairs)
 
 abbrev pub led : Result GrammarState TextFaultKind → Result RowPlace TextFaultKind
 led (Ok s) = Ok (place_of s.place)

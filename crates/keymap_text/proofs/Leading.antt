@@ -1,7 +1,6 @@
 -- How many bytes at the front pass a test.
 use Rattle.std.proofs.Common.{◌≡◌, ℕ, zero, suc, ◌+◌, ◌<◌, ◌≤◌, Bool, true, false, not, cond, List, [], ◌∷◌, ◌++◌}
 use Rattle.std.proofs.Common.{length, take, drop, get_or, refl, sym, ◌∙◌, ap, arith, add-one, drop-cons}
-use Rattle.std.proofs.Common.{length-append}
 use Rattle.std.proofs.lemmas.List.{at_drop_all}
 use Rattle.std.proofs.lemmas.Bool.Decides.{nat_tests}
 use Rattle.std.specs.Prelude.{◌==◌}
@@ -61,13 +60,6 @@ leading_append p (c ∷ w) y h = go (p c) refl (leading_append p w y)
     go true e k =
         leading_pass p c (w ++ y) e ∙ ap (λ n. n + 1) (k (omega (arith, leading_pass p c w e, h))) ∙ omega arith
     go false e k = absurd (omega (arith, leading_fail p c w e, h))
-
--- one byte more that passes
-pub leading_push : (p : ℕ → Bool) (w : List ℕ) (c : ℕ) → leading p w ≡ length w → p c ≡ true
-    → leading p (w ++ c ∷ []) ≡ length (w ++ c ∷ [])
-leading_push p w c h e =
-    leading_append p w (c ∷ []) h ∙ ap (λ n. length w + n) (leading_pass p c [] e ∙ ap (λ n. n + 1) (leading_none p))
-    ∙ sym (length-append w (c ∷ []))
 
 -- where all bytes pass, the first does, and the others do
 pub leading_tail : (p : ℕ → Bool) (c : ℕ) (w : List ℕ) → leading p (c ∷ w) ≡ suc (length w)
@@ -167,3 +159,24 @@ plain_spaces (x ∷ xs) = go (x == 32) refl (plain_spaces xs)
     go false e k = omega (arith, leading_fail (λ c. c == 32) x xs e)
 
 pub ruleset leading_rules = (leading_pass_at, leading_fail_at, leading_end, leading_le)
+
+-- a run that ends before the bytes do
+pub leading_short : (p : ℕ → Bool) (b x : List ℕ) → leading p b < length b → leading p (b ++ x) ≡ leading p b
+leading_short p [] x h = absurd (omega (arith, h))
+leading_short p (c ∷ b) x h = go (p c) refl (leading_short p b x)
+  where
+    go : (t : Bool) → p c ≡ t → (leading p b < length b → leading p (b ++ x) ≡ leading p b)
+        → leading p (c ∷ (b ++ x)) ≡ leading p (c ∷ b)
+    go true e k =
+        leading_pass p c (b ++ x) e ∙ ap (λ n. n + 1) (k (omega (arith, h, leading_pass p c b e)))
+        ∙ sym (leading_pass p c b e)
+    go false e k = leading_fail p c (b ++ x) e ∙ sym (leading_fail p c b e)
+
+-- more bytes behind make no front shorter
+pub leading_grows : (p : ℕ → Bool) (b x : List ℕ) → leading p b ≤ leading p (b ++ x)
+leading_grows p [] x = rw (leading_none p) (omega arith)
+leading_grows p (c ∷ b) x = go (p c) refl (leading_grows p b x)
+  where
+    go : (t : Bool) → p c ≡ t → leading p b ≤ leading p (b ++ x) → leading p (c ∷ b) ≤ leading p (c ∷ (b ++ x))
+    go true e k = omega (arith, k, leading_pass p c b e, leading_pass p c (b ++ x) e)
+    go false e k = omega (arith, leading_fail p c b e)

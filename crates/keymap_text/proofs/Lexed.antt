@@ -1,13 +1,14 @@
 -- Texts whose tokens are known, whatever stands behind them.
-use Rattle.std.proofs.Common.{◌≡◌, ℕ, ◌+◌, ◌<◌, ◌≤◌, true, false, List, [], ◌∷◌, ◌++◌, length, map, refl, sym, ◌∙◌, ap}
-use Rattle.std.proofs.Common.{arith, append_assoc, length-append, add-zero}
-use Rattle.keymap_text.specs.Types.{ParenL, ParenR, Literal, Item, Open, Close, Value, Char}
-use Rattle.keymap_text.specs.Lexical.{tokens_after, leading, is_word, is_blank, TokenValue, Then, is_empty}
-use Rattle.keymap_text.specs.Words.{meaning}
+use Rattle.std.proofs.Common.{◌≡◌, ℕ, suc, ◌+◌, ◌<◌, ◌≤◌, true, false, List, [], ◌∷◌, ◌++◌, length, map, refl, sym, ◌∙◌}
+use Rattle.std.proofs.Common.{ap, arith, append_assoc, length-append, add-zero}
+use Rattle.keymap_text.specs.Types.{TokenKind, ParenL, ParenR, Literal, Word, Item, Open, Close, Value, Char}
+use Rattle.keymap_text.specs.Lexical.{tokens_after, leading, is_word, is_blank, Tokens, Found, front_of}
+use Rattle.keymap_text.specs.Words.{meaning, item}
 use Rattle.keymap_text.specs.Meaning.{ending_of_tokens, item_of}
 use Rattle.keymap_text.proofs.Leading.{leading_tail, leading_fail}
-use Rattle.keymap_text.proofs.Splitting.{split_blank}
-use Rattle.keymap_text.proofs.Steps.{word_ended, found_whole, front_quote, front_left, front_right}
+use Rattle.keymap_text.proofs.InFront.{front_quote, front_left, front_right}
+use Rattle.keymap_text.proofs.Splitting.{split_blank, split_whole}
+use Rattle.keymap_text.proofs.Steps.{word_ended}
 use Rattle.keymap_text.proofs.Faults.{list_then, behind_then}
 use Rattle.keymap_text.proofs.Verdicts.{items_of}
 use Rattle.keymap_text.proofs.Literals.{printable}
@@ -63,21 +64,18 @@ pub blank_first : (c : ℕ) (u y : List ℕ) → is_word c ≡ false → leading
 blank_first c u y h = leading_fail is_word c (u ++ y) h
 
 -- one token
-one : (t : List ℕ) (k : TokenValue → Item) (i : Item) (q : ℕ) (y : List ℕ) (tok : TokenValue) (n : ℕ)
-    → tokens_after 0 q (t ++ y) ≡ Then tok (tokens_after 0 n y) → item_of tok ≡ i → n ≡ q + length t
-    → items_of (tokens_after 0 q (t ++ y)) ≡ i ∷ items_of (tokens_after 0 (q + length t) y)
-one t k i q y tok n h e l =
-    ap items_of h ∙ ap (map item_of) (list_then tok (tokens_after 0 n y))
-    ∙ ap (λ (i : Item). i ∷ items_of (tokens_after 0 n y)) e
-    ∙ ap (λ n. i ∷ items_of (tokens_after 0 n y)) l
-
--- behind one token
-last : (t : List ℕ) (q : ℕ) (y : List ℕ) (tok : TokenValue) (n : ℕ)
-    → tokens_after 0 q (t ++ y) ≡ Then tok (tokens_after 0 n y)
-    → n ≡ q + length t → ending_of_tokens (tokens_after 0 q (t ++ y))
-    ≡ ending_of_tokens (tokens_after 0 (q + length t) y)
-last t q y tok n h l = ap ending_of_tokens h ∙ behind_then tok (tokens_after 0 n y)
-    ∙ ap (λ n. ending_of_tokens (tokens_after 0 n y)) l
+lexes_one : (P : List ℕ → Type 0) (c : ℕ) (w : List ℕ) (kind : TokenKind) (i : Item)
+    → ((y : List ℕ) → P y → front_of c (w ++ y) ≡ Found kind (length w)) → item kind (c ∷ w) ≡ i
+    → Lexes P (c ∷ w) (i ∷ [])
+lexes_one P c w kind i f e = record {
+  items = λ q y h.
+      ap items_of (split_whole q c kind w y (f y h)) ∙ ap (map item_of) (list_then _ (behind q y))
+      ∙ ap (λ (i : Item). i ∷ items_of (behind q y)) e;
+  end = λ q y h. ap ending_of_tokens (split_whole q c kind w y (f y h)) ∙ behind_then _ (behind q y);
+}
+  where
+    behind : ℕ → List ℕ → Tokens
+    behind q y = tokens_after 0 (q + suc (length w)) y
 
 -- a word is one token where no letter or digit follows
 pub lexes_word : (w : List ℕ) → 0 < length w → length w ≤ 32 → leading is_word w ≡ length w
@@ -85,33 +83,18 @@ pub lexes_word : (w : List ℕ) → 0 < length w → length w ≤ 32 → leading
 lexes_word [] z l h = absurd (omega (arith, z))
 lexes_word (a ∷ w) z l h =
     let t = leading_tail is_word a w h in
-    record {
-      items = λ q y k. one (a ∷ w) item_of (Value (meaning (a ∷ w))) q y _ _
-          (word_ended a q w y t.0 t.1 k (omega (arith, l))) refl refl;
-      end = λ q y k. last (a ∷ w) q y _ _ (word_ended a q w y t.0 t.1 k (omega (arith, l))) refl;
-    }
+    lexes_one NoWord a w Word (Value (meaning (a ∷ w))) (λ y k. word_ended a w y t.0 t.1 k (omega (arith, l))) refl
 
 -- a printed quoted character is one token
 pub lexes_quoted : (c : ℕ) → 31 < c → c < 127 → Lexes NoWord (39 ∷ c ∷ 39 ∷ []) (Value (Char c) ∷ [])
-lexes_quoted c h k = record {
-  items = λ q y e. one (39 ∷ c ∷ 39 ∷ []) item_of (Value (Char c)) q y _ _ (whole q y) refl refl;
-  end = λ q y e. last (39 ∷ c ∷ 39 ∷ []) q y _ _ (whole q y) refl;
-}
-  where
-    whole : (q : ℕ) (y : List ℕ) → tokens_after 0 q (39 ∷ c ∷ 39 ∷ y) ≡ Then
-        (record { kind = Literal c; bytes = 39 ∷ c ∷ 39 ∷ []; start = q; last = is_empty y }) (tokens_after 0 (q + 3) y)
-    whole q y = found_whole (Literal c) q 39 (c ∷ 39 ∷ []) y (front_quote (c ∷ 39 ∷ y) ∙ printable c y h k)
+lexes_quoted c h k =
+    lexes_one NoWord 39 (c ∷ 39 ∷ []) (Literal c) (Value (Char c))
+    (λ y e. front_quote 39 (c ∷ 39 ∷ y) refl ∙ printable c y h k) refl
 
 -- so is a left parenthesis
 pub lexes_left : Lexes NoWord (40 ∷ []) (Open ∷ [])
-lexes_left = record {
-  items = λ q y e. one (40 ∷ []) item_of Open q y _ _ (found_whole ParenL q 40 [] y (front_left y)) refl refl;
-  end = λ q y e. last (40 ∷ []) q y _ _ (found_whole ParenL q 40 [] y (front_left y)) refl;
-}
+lexes_left = lexes_one NoWord 40 [] ParenL Open (λ y e. front_left 40 y refl) refl
 
 -- and a right one
 pub lexes_right : Lexes NoWord (41 ∷ []) (Close ∷ [])
-lexes_right = record {
-  items = λ q y e. one (41 ∷ []) item_of Close q y _ _ (found_whole ParenR q 41 [] y (front_right y)) refl refl;
-  end = λ q y e. last (41 ∷ []) q y _ _ (found_whole ParenR q 41 [] y (front_right y)) refl;
-}
+lexes_right = lexes_one NoWord 41 [] ParenR Close (λ y e. front_right 41 y refl) refl

@@ -1,16 +1,20 @@
 -- Lines: one more than the line feeds before a place.
 use Rattle.std.proofs.Common.{◌≡◌, ℕ, zero, suc, ◌+◌, ◌-◌, ◌≤◌, ◌==◌, Bool, true, false, cond, List, [], ◌∷◌, ◌++◌}
-use Rattle.std.proofs.Common.{length, take, drop, refl, sym, ◌∙◌, ap, arith, count_by, eqb-true}
-use Rattle.std.proofs.Common.{length-append, add-zero, true≢false}
-use Rattle.keymap_text.specs.Lexical.{leading}
-use Rattle.keymap_text.proofs.Leading.{leading_pass, leading_fail}
-use Rattle.std.proofs.lemmas.List.{drop-drop, drop-append-le, drop_all, take-append-le}
+use Rattle.std.proofs.Common.{length, take, drop, take_at, drop_at, refl, sym, ◌∙◌, ap, arith, count_by, eqb-true}
+use Rattle.std.proofs.Common.{length-append, true≢false}
+use Rattle.std.proofs.lemmas.List.{drop-drop, drop-append-le, take-append-le}
 use Rattle.std.proofs.lemmas.List.Recursion.{is_count_by}
 use Rattle.std.proofs.Math.Seq.{take-add}
+use Rattle.keymap_text.specs.Lexical.{leading}
 use Rattle.keymap_text.specs.Types.{TextFault}
-use Rattle.keymap_text.specs.declared.scanner.Scanner.{Scanner}
+use Rattle.keymap_text.specs.declared.reading.Reading.{Reading}
 use Rattle.keymap_text.specs.Meaning.{line}
-use Rattle.keymap_text.specs.Inner.Resuming.{Forward, IsFaultOfPending, Lined, line_feed}
+use Rattle.keymap_text.specs.Inner.Resuming.{IsFaultOfPending, Lined}
+use Rattle.keymap_text.proofs.Leading.{leading_pass, leading_fail}
+
+-- one for a line feed
+abbrev pub line_feed : ℕ → ℕ
+line_feed c = cond (c == 10) 1 0
 
 abbrev pub feeds : List ℕ → ℕ
 feeds [] = 0
@@ -33,7 +37,7 @@ line_is : (b : List ℕ) (n : ℕ) → line b n ≡ 1 + feeds (take n b)
 line_is b n = ap (λ k. 1 + k) (sym (feeds_are (take n b)))
 
 -- the line feeds of two texts
-feeds_append : (a b : List ℕ) → feeds (a ++ b) ≡ feeds a + feeds b
+pub feeds_append : (a b : List ℕ) → feeds (a ++ b) ≡ feeds a + feeds b
 feeds_append [] b = omega arith
 feeds_append (c ∷ a) b = feeds_one c (a ++ b) ∙ omega (arith, feeds_append a b, feeds_one c a)
 
@@ -64,38 +68,89 @@ line_all b n h = omega (arith, line_is b n, feeds_split n b, h)
 pub no_feed : (c : ℕ) → (c == 10) ≡ false → line_feed c ≡ 0
 no_feed c h = ap (λ b. cond b 1 0) h
 
--- one byte more was taken
-pub lined_on : (old new : Scanner) (b : List ℕ) (c : ℕ) → Lined old b → Forward old new c
-    → new.offset + length new.pending.items ≡ old.offset + length old.pending.items + 1 → Lined new (b ++ c ∷ [])
-lined_on old new b c l f n = go (c == 10) refl
-  where
-    none : feeds (drop old.offset b) ≡ 0
-    none = feeds_are _ ∙ l.none
+-- the line feeds of a front, by those of two parts
+pub count_more : (b : List ℕ) (n k : ℕ)
+    → count_by (λ c. c == 10) (take (n + k) b) ≡ count_by (λ c. c == 10) (take n b)
+    + count_by (λ c. c == 10) (take k (drop n b))
+count_more b n k =
+    sym (feeds_are (take (n + k) b)) ∙ ap feeds (take-add n k b) ∙ feeds_append (take n b) (take k (drop n b))
+    ∙ omega (arith, feeds_are (take n b), feeds_are (take k (drop n b)))
 
-    all : feeds (b ++ c ∷ []) ≡ feeds b + line_feed c
-    all = feeds_append b (c ∷ []) ∙ ap (λ k. feeds b + k) (feeds_one c [] ∙ add-zero (line_feed c))
+-- of all bytes by those of two parts
+pub count_split : (n : ℕ) (b : List ℕ)
+    → count_by (λ c. c == 10) (take n b) + count_by (λ c. c == 10) (drop n b) ≡ count_by (λ c. c == 10) b
+count_split n b =
+    omega (arith, feeds_split n b, feeds_are (take n b), feeds_are (drop n b), feeds_are b)
 
-    more : length (b ++ c ∷ []) ≡ length b + 1
-    more = length-append b (c ∷ [])
-
-    finish : feeds (drop new.offset (b ++ c ∷ [])) ≡ 0 → Lined new (b ++ c ∷ [])
-    finish z = record {
-      none = sym (feeds_are _) ∙ z;
-      fed = omega (arith, n, l.fed, more);
-      line = omega (arith, f.line, l.line, line_all b old.offset none, line_all (b ++ c ∷ []) new.offset z, all);
+-- bytes were read up to the k-th of those behind, and none of the others is a line feed
+pub lined_read : (old new : Reading) (b w : List ℕ) (k : ℕ) → Lined old b → k ≤ length w
+    → new.offset ≡ old.offset + length old.pending.items + k
+    → new.offset + length new.pending.items ≡ length b + length w
+    → new.line ≡ old.line + count_by (λ c. c == 10) (take k w) → count_by (λ c. c == 10) (drop k w) ≡ 0
+    → Lined new (b ++ w)
+lined_read old new b w k l h o f n z =
+    let place : new.offset ≡ length b + k = omega (arith, o, l.fed) in
+    let rest : drop new.offset (b ++ w) ≡ drop k w =
+    ap (λ n. drop n (b ++ w)) place ∙ sym (drop-drop k (length b) (b ++ w)) ∙ ap (drop k) (drop_at b w (length b) refl) in
+    let none : feeds (drop new.offset (b ++ w)) ≡ 0 = ap feeds rest ∙ feeds_are (drop k w) ∙ z in
+    record {
+      fed = f ∙ sym (length-append b w);
+      line = omega (
+        arith,
+        n,
+        l.line,
+        line_all b old.offset (feeds_are _ ∙ l.none),
+        line_all (b ++ w) new.offset none,
+        feeds_append b w,
+        count_split k w,
+        z,
+        feeds_are w,
+      );
+      none = sym (feeds_are _) ∙ none;
     }
 
-    go : (t : Bool) → (c == 10) ≡ t → Lined new (b ++ c ∷ [])
-    go true e = finish (ap feeds (drop_all new.offset (b ++ c ∷ [])
-        (omega (arith, f.past (eqb-true c 10 e), n, l.fed, more))))
-    go false e =
-        let here : feeds (drop old.offset (b ++ c ∷ [])) ≡ 0 =
-        ap feeds (drop-append-le old.offset b (c ∷ []) (omega (arith, l.fed)))
-        ∙ feeds_append (drop old.offset b) (c ∷ []) ∙ omega (arith, none, feeds_one c [], no_feed c e) in
-        finish (feeds_behind old.offset new.offset (b ++ c ∷ []) f.on here)
+-- bytes on one line were taken
+pub lined_same : (old new : Reading) (b w : List ℕ) → Lined old b → old.offset ≤ new.offset
+    → new.offset + length new.pending.items ≡ length b + length w → new.line ≡ old.line
+    → count_by (λ c. c == 10) w ≡ 0 → Lined new (b ++ w)
+lined_same old new b w l o f n z =
+    let none : feeds (drop old.offset b) ≡ 0 = feeds_are _ ∙ l.none in
+    let here : feeds (drop old.offset (b ++ w)) ≡ 0 =
+    ap feeds (drop-append-le old.offset b w (omega (arith, l.fed))) ∙ feeds_append (drop old.offset b) w
+    ∙ omega (arith, none, feeds_are w, z) in
+    let behind : feeds (drop new.offset (b ++ w)) ≡ 0 = feeds_behind old.offset new.offset (b ++ w) o here in
+    record {
+      fed = f ∙ sym (length-append b w);
+      line = omega (
+        arith,
+        n,
+        l.line,
+        line_all b old.offset none,
+        line_all (b ++ w) new.offset behind,
+        feeds_append b w,
+        feeds_are w,
+        z,
+      );
+      none = sym (feeds_are _) ∙ behind;
+    }
+
+-- a fault in bytes stands behind the line feeds before it
+pub line_behind : (old : Reading) (b w : List ℕ) (n : ℕ) → Lined old b
+    → old.line + count_by (λ c. c == 10) (take n w) ≡ line (b ++ w) (old.offset + length old.pending.items + n)
+line_behind old b w n l =
+    let e : line (b ++ w) (length b + n)
+    ≡ line (b ++ w) (length b) + count_by (λ c. c == 10) (take n (drop (length b) (b ++ w))) =
+    line_more (b ++ w) (length b) n in
+    let w' : take n (drop (length b) (b ++ w)) ≡ take n w = ap (take n) (drop_at b w (length b) refl) in
+    let b' : line (b ++ w) (length b) ≡ 1 + count_by (λ c. c == 10) b =
+    ap (λ t. 1 + count_by (λ c. c == 10) t) (take_at b w (length b) refl) in
+    let at : old.line ≡ 1 + count_by (λ c. c == 10) b =
+    omega (arith, l.line, line_all b old.offset (feeds_are _ ∙ l.none), feeds_are b) in
+    omega (arith, at, b') ∙ sym (e ∙ ap (λ t. line (b ++ w) (length b) + count_by (λ c. c == 10) t) w')
+    ∙ ap (λ q. line (b ++ w) q) (omega (arith, l.fed))
 
 -- a fault at what is pending stands on the line of the reader
-pub pending_line : (old : Scanner) (b more : List ℕ) (e : TextFault) → Lined old b → IsFaultOfPending e old
+pub pending_line : (old : Reading) (b more : List ℕ) (e : TextFault) → Lined old b → IsFaultOfPending e old
     → e.line ≡ line (b ++ more) e.offset
 pending_line old b more e l p =
     let none : feeds (drop old.offset b) ≡ 0 = feeds_are _ ∙ l.none in
@@ -103,40 +158,6 @@ pending_line old b more e l p =
     p.line ∙ l.line ∙ line_all b old.offset none ∙ sym (line_all b e.offset here)
     ∙ sym (ap (λ (t : List ℕ). 1 + count_by (λ c. c == 10) t)
     (take-append-le e.offset b more (omega (arith, p.to, l.fed))))
-
--- a whole token was taken, on one line
-pub lined_whole : (old new : Scanner) (b : List ℕ) → Lined old b → new.line ≡ old.line → new.pending.items ≡ []
-    → new.offset ≡ old.offset + length old.pending.items → Lined new b
-lined_whole old new b l e p o =
-    let none : feeds (drop old.offset b) ≡ 0 = feeds_are _ ∙ l.none in
-    let here : feeds (drop new.offset b) ≡ 0 = feeds_behind old.offset new.offset b (omega (arith, o)) none in
-    record {
-      fed = omega (arith, o, l.fed, ap length p);
-      line = e ∙ l.line ∙ line_all b old.offset none ∙ sym (line_all b new.offset here);
-      none = sym (feeds_are _) ∙ here;
-    }
-
--- Bytes without a line feed, where nothing was pending and nothing is.
-pub lined_run : (old new : Scanner) (b w : List ℕ) → old.pending.items ≡ [] → new.pending.items ≡ []
-    → new.line ≡ old.line → new.offset ≡ old.offset + length w → feeds w ≡ 0 → Lined old b → Lined new (b ++ w)
-lined_run old new b w p p' l o z h =
-    let e : old.offset ≡ length b = omega (arith, h.fed, ap length p) in
-    let n : new.offset ≡ length (b ++ w) = omega (arith, o, e, length-append b w) in
-    let none : feeds (drop old.offset b) ≡ 0 = feeds_are _ ∙ h.none in
-    let none' : feeds (drop new.offset (b ++ w)) ≡ 0 = ap feeds (drop_all new.offset (b ++ w) (omega (arith, n))) in
-    record {
-      fed = omega (arith, n, ap length p');
-      line = omega (
-        arith,
-        l,
-        h.line,
-        line_all b old.offset none,
-        line_all (b ++ w) new.offset none',
-        feeds_append b w,
-        z,
-      );
-      none = sym (feeds_are _) ∙ none';
-    }
 
 -- bytes of a run that no line feed belongs to
 pub feeds_run : (p : ℕ → Bool) → p 10 ≡ false → (n : ℕ) (xs : List ℕ) → n ≤ leading p xs → feeds (take n xs) ≡ 0

@@ -1,5 +1,5 @@
 -- A quoted character that is complete stays so, whatever follows.
-use Rattle.std.proofs.Common.{◌≡◌, ◌≢◌, ◌⊎◌, inl, inr, ℕ, suc, ◌+◌, ◌-◌, ◌<◌, ◌≤◌, ◌==◌, Bool, true, false, cond, List}
+use Rattle.std.proofs.Common.{◌≡◌, ◌≢◌, ◌⊎◌, inl, inr, ℕ, suc, ◌+◌, ◌<◌, ◌≤◌, ◌==◌, Bool, true, false, cond, List}
 use Rattle.std.proofs.Common.{[], ◌∷◌, ◌++◌, length, get_or, refl, sym, ◌∙◌, ap, subst, arith, nat_lt, nat_le}
 use Rattle.std.proofs.Common.{slice_index, Option, Some, None, length-append, ⊎_elim, eq-eqb, true≢false, ne_eqb}
 use Rattle.std.proofs.lemmas.Bool.Decides.{nat_tests}
@@ -205,6 +205,14 @@ literal_stable (b ∷ c ∷ s) x h =
     ap (λ p. cond p (Found (Literal b) 2) (quoted (decoded (b ∷ c ∷ (s ++ x))) (b ∷ c ∷ (s ++ x)))) (lone_same b c s x)
     ∙ chosen (is_lone (b ∷ c ∷ s)) _ _ _ h (quoted_stable (b ∷ c ∷ s) x)
 
+-- so it is unfinished, or stays
+pub literal_or : (s : List ℕ) → (literal s ≡ Unfinished) ⊎ ((x : List ℕ) → literal (s ++ x) ≡ literal s)
+literal_or s = go (literal s) refl
+  where
+    go : (f : Front) → literal s ≡ f → (literal s ≡ Unfinished) ⊎ ((x : List ℕ) → literal (s ++ x) ≡ literal s)
+    go Unfinished e = inl e
+    go f e = inr (λ x. literal_stable s x (λ u. cc))
+
 -- an unfinished one is short, and a longer one that begins so is longer than it
 closing_open : (c n : ℕ) (s : List ℕ) → closing c n s ≡ Unfinished → length s ≤ n
 closing_open c n s h = grind (arith, nat_tests)
@@ -295,11 +303,6 @@ unfinished_longer (b ∷ c ∷ s) x k n u h =
     (longer_quoted (b ∷ c ∷ s) x k n) u (λ e. cc)
     (ap (λ p. cond p (Found (Literal b) 2) (quoted (decoded (b ∷ c ∷ (s ++ x))) (b ∷ c ∷ (s ++ x))))
     (sym (lone_same b c s x)) ∙ h)
-
--- an apostrophe alone is unfinished
-pub literal_empty : literal [] ≡ Unfinished
-unfolding literal
-literal_empty = refl
 
 -- no more bytes than there are
 closing_fits : (c n m : ℕ) (k : TokenKind) (s : List ℕ) → closing c n s ≡ Found k m → m ≤ length s
@@ -440,49 +443,3 @@ lf_closes (b ∷ l) u =
       length-append (b ∷ l) (10 ∷ []),
       quoted_open (decoded s).char (decoded s).size s (not_lone s (quoted (decoded s) s) u).1,
     )
-
--- the last byte of one is an apostrophe
-closing_ends : (c n m : ℕ) (k : TokenKind) (s : List ℕ) → closing c n s ≡ Found k m → get_or s (m - 1) 0 ≡ 39
-closing_ends c n m k s h = grind (arith, nat_tests)
-
--- in both cases
-quoted_ends : (o : Option ℕ) (n m : ℕ) (k : TokenKind) (s : List ℕ)
-    → quoted (record { char = o; size = n }) s ≡ Found k m → get_or s (m - 1) 0 ≡ 39
-quoted_ends (Some c) n m k s h = closing_ends c n m k s h
-quoted_ends None n m k s h = never (length s == n) h
-  where
-    never : (b : Bool) → cond b Unfinished (Refused BadLiteral) ≡ Found k m → get_or s (m - 1) 0 ≡ 39
-    never true h = cc
-    never false h = cc
-
--- a quoted lone byte ends so
-lone_ends : (s : List ℕ) → is_lone s ≡ true → get_or s 1 0 ≡ 39
-lone_ends [] h = absurd (true≢false (sym h))
-lone_ends (b ∷ []) h = absurd (true≢false (sym h))
-lone_ends (b ∷ c ∷ s) h = grind (arith, nat_tests)
-
--- a found one ends with an apostrophe
-pub literal_ends : (s : List ℕ) (k : TokenKind) (n : ℕ) → literal s ≡ Found k n → get_or s (n - 1) 0 ≡ 39
-unfolding literal
-literal_ends s k n h = go (is_lone s) refl h
-  where
-    two : (b m : ℕ) → Found (Literal b) 2 ≡ Found k m → m ≡ 2
-    two b m e = cc
-
-    go : (b : Bool) → is_lone s ≡ b → cond b (Found (Literal (slice_index s 0)) 2) (quoted (decoded s) s) ≡ Found k n
-        → get_or s (n - 1) 0 ≡ 39
-    go true l e = ap (λ m. get_or s (m - 1) 0) (two (slice_index s 0) n e) ∙ lone_ends s l
-    go false l e = quoted_ends (decoded s).char (decoded s).size n k s e
-
--- the byte that completes one is an apostrophe
-pub found_last : (l : List ℕ) (c : ℕ) (k : TokenKind) (n : ℕ) → literal l ≡ Unfinished
-    → literal (l ++ c ∷ []) ≡ Found k n → c ≡ 39
-found_last l c k n u h =
-    let e : n - 1 ≡ length l =
-    omega (
-      arith,
-      unfinished_longer l (c ∷ []) k n u h,
-      literal_fits (l ++ c ∷ []) k n h,
-      length-append l (c ∷ []),
-    ) in
-    sym (get_or-append_seam l c [] 0) ∙ sym (ap (λ i. get_or (l ++ c ∷ []) i 0) e) ∙ literal_ends (l ++ c ∷ []) k n h

@@ -1,90 +1,21 @@
 -- Where tokens and definitions stand in a text.
-use Rattle.std.proofs.Common.{◌≡◌, ℕ, zero, suc, ◌+◌, ◌<◌, ◌≤◌, ◌==◌, Bool, true, false, cond, List, [], ◌∷◌, ◌++◌}
+use Rattle.std.proofs.Common.{◌≡◌, ℕ, zero, suc, ◌+◌, ◌<◌, ◌≤◌, List, [], ◌∷◌, ◌++◌}
 use Rattle.std.proofs.Common.{length, take, drop, map, refl, sym, ◌∙◌, ap, subst, arith, Option, Some, None, Ok, Err}
-use Rattle.std.proofs.Common.{IfSome, length-drop, append_assoc, nat_lt}
-use Rattle.std.proofs.lemmas.Bool.Decides.{nat_tests}
+use Rattle.std.proofs.Common.{IfSome, length-drop, append_assoc}
 use Rattle.std.proofs.lemmas.List.{drop-drop, length-take-le}
-use Rattle.keymap_text.specs.Types.{TextFaultKind, BadByte, BadWord, EndInside, TokenKind, ParenL, ParenR, Word}
+use Rattle.keymap_text.specs.Types.{TextFaultKind, EndInside, TokenKind, Word}
 use Rattle.keymap_text.specs.Types.{TextFault, Token, Span, Placed}
-use Rattle.keymap_text.specs.Lexical.{leading, stays_on_line, is_blank, is_word, literal, word, Front, Skipped, Found}
+use Rattle.keymap_text.specs.Lexical.{Front, Skipped, Found}
 use Rattle.keymap_text.specs.Lexical.{Refused, Unfinished, front_of, tokens_after, TokenValue, Tokens, Ends, Stops}
-use Rattle.keymap_text.specs.Lexical.{Then, first, is_empty}
+use Rattle.keymap_text.specs.Lexical.{Then, first, token_before}
 use Rattle.keymap_text.specs.Tokens.{token_view, result_view}
 use Rattle.keymap_text.specs.Placed.{span_of}
 use Rattle.keymap_text.specs.Inner.Placed.{begun, tokens_from, ComesNext}
-use Rattle.keymap_text.specs.Meaning.{list_of, is_word_kind}
-use Rattle.keymap_text.proofs.Leading.{leading_le}
-use Rattle.keymap_text.proofs.Literals.{literal_fits, literal_found}
+use Rattle.keymap_text.specs.Meaning.{list_of}
+use Rattle.keymap_text.proofs.InFront.{Fits, front_fits}
 use Rattle.keymap_text.proofs.Splitting.{split_one, split_after, split_skipped, split_found, split_refused, split_nil}
 use Rattle.keymap_text.proofs.Splitting.{split_unfinished}
 use Rattle.keymap_text.proofs.Faults.{list_then}
-
--- A token that stands in front ends within the bytes, and a word has at most 32 bytes.
-pub record Fits (kind : TokenKind) (n : ℕ) (bytes : List ℕ) : Type 0 where
-  pub within : n ≤ length bytes
-  pub short : kind ≡ Word → n < 32
-
-word_fits : (m : ℕ) (bytes : List ℕ) (kind : TokenKind) (n : ℕ) → m ≤ length bytes → word m ≡ Found kind n
-    → Fits kind n bytes
-word_fits m bytes kind n l h = go (nat_lt m 32) refl h
-  where
-    go : (b : Bool) → nat_lt m 32 ≡ b → cond b (Found Word m) (Refused BadWord) ≡ Found kind n → Fits kind n bytes
-    go true e h =
-        let same : m ≡ n = cc in
-        record { within = subst (λ k. k ≤ length bytes) same l; short = λ _. grind (arith, nat_tests) }
-    go false e h = absurd (cc)
-
-no_word : (kind : TokenKind) → is_word_kind kind ≡ false → kind ≡ Word → ⊥
-no_word kind h e = let k : is_word_kind kind ≡ true = ap is_word_kind e in cc
-
--- what stands in front, by its first byte c, test by test
-abbrev by_word : ℕ → List ℕ → Front
-by_word c bytes = cond (is_word c) (word (leading is_word bytes)) (Refused BadByte)
-
-abbrev by_quote : ℕ → List ℕ → Front
-by_quote c bytes = cond (c == 39) (literal bytes) (by_word c bytes)
-
-abbrev by_right : ℕ → List ℕ → Front
-by_right c bytes = cond (c == 41) (Found ParenR 0) (by_quote c bytes)
-
-abbrev by_left : ℕ → List ℕ → Front
-by_left c bytes = cond (c == 40) (Found ParenL 0) (by_right c bytes)
-
-abbrev by_comment : ℕ → List ℕ → Front
-by_comment c bytes = cond (c == 35) (Skipped (leading stays_on_line bytes)) (by_left c bytes)
-
-pub front_fits : (c : ℕ) (bytes : List ℕ) (kind : TokenKind) (n : ℕ) → front_of c bytes ≡ Found kind n
-    → Fits kind n bytes
-unfolding front_of
-front_fits c bytes kind n h = blank (is_blank c) h
-  where
-    in_word : (b : Bool) → cond b (word (leading is_word bytes)) (Refused BadByte) ≡ Found kind n → Fits kind n bytes
-    in_word true h = word_fits (leading is_word bytes) bytes kind n (leading_le is_word bytes) h
-    in_word false h = absurd (cc)
-
-    quote : (b : Bool) → cond b (literal bytes) (by_word c bytes) ≡ Found kind n → Fits kind n bytes
-    quote true h = record {
-      within = literal_fits bytes kind n h;
-      short = λ e. absurd (no_word kind (literal_found bytes kind n h) e);
-    }
-    quote false h = in_word (is_word c) h
-
-    right : (b : Bool) → cond b (Found ParenR 0) (by_quote c bytes) ≡ Found kind n → Fits kind n bytes
-    right true h = let z : 0 ≡ n = cc in record { within = omega arith; short = λ _. omega arith }
-    right false h = quote (c == 39) h
-
-    left : (b : Bool) → cond b (Found ParenL 0) (by_right c bytes) ≡ Found kind n → Fits kind n bytes
-    left true h = let z : 0 ≡ n = cc in record { within = omega arith; short = λ _. omega arith }
-    left false h = right (c == 41) h
-
-    comment : (b : Bool) → cond b (Skipped (leading stays_on_line bytes)) (by_left c bytes) ≡ Found kind n
-        → Fits kind n bytes
-    comment true h = absurd (cc)
-    comment false h = left (c == 40) h
-
-    blank : (b : Bool) → cond b (Skipped 0) (by_comment c bytes) ≡ Found kind n → Fits kind n bytes
-    blank true h = absurd (cc)
-    blank false h = comment (c == 35) h
 
 -- The first token t of bytes at q stands after j of them, and the others stand behind it.
 pub record IsNext (q : ℕ) (bytes : List ℕ) (ts : Tokens) (t : TokenValue) (j : ℕ) : Type 0 where
@@ -124,13 +55,13 @@ one_more q c bytes ts t (j, h) =
 
 -- the first token in front
 found_next : (q c n : ℕ) (kind : TokenKind) (bytes : List ℕ) (t : TokenValue) → front_of c bytes ≡ Found kind n
-    → record { kind = kind; bytes = c ∷ take n bytes; start = q; last = is_empty (drop n bytes) } ≡ t
+    → token_before kind (c ∷ take n bytes) q (drop n bytes) ≡ t
     → IsNext q (c ∷ bytes) (tokens_after 0 q (c ∷ bytes)) t 0
 found_next q c n kind bytes t h e =
     let f : Fits kind n bytes = front_fits c bytes kind n h in
     let l : length (take n bytes) ≡ n = length-take-le n bytes f.within in
     let within : n ≤ length bytes = f.within in
-    let u : TokenValue = record { kind = kind; bytes = c ∷ take n bytes; start = q; last = is_empty (drop n bytes) } in
+    let u : TokenValue = token_before kind (c ∷ take n bytes) q (drop n bytes) in
     let place : q + 1 + n ≡ q + 0 + suc (length (take n bytes)) = omega (arith, l) in
     let index : suc n ≡ 0 + suc (length (take n bytes)) = omega (arith, l) in
     subst (λ (t : TokenValue). IsNext q (c ∷ bytes) (tokens_after 0 q (c ∷ bytes)) t 0) e (record {
@@ -163,7 +94,7 @@ next_is (c ∷ bytes) zero q t h = go (front_of c bytes) refl (λ n. next_is byt
     go (Found kind n) e ih = (
       0,
       found_next q c n kind bytes t e
-          (then_first (record { kind = kind; bytes = c ∷ take n bytes; start = q; last = is_empty (drop n bytes) }) t
+          (then_first (token_before kind (c ∷ take n bytes) q (drop n bytes)) t
           (tokens_after n (q + 1) bytes) (sym (ap first (split_found q c n kind bytes e)) ∙ h)),
     )
     go (Refused f) e ih = absurd (fault_first f q t (sym (ap first (split_refused q c f bytes e)) ∙ h))

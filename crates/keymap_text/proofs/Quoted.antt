@@ -16,8 +16,8 @@ use Rattle.bstr.proofs.lemmas.SoundLemmas.{SpellsChar-decoded}
 use Rattle.keymap_text.specs.Types.{TextFaultKind, BadLiteral, EndInside, TokenKind, Literal}
 use Rattle.keymap_text.specs.Quoted.{IsCharacter, IsQuoted, BeginsQuoted, IsUnfinished, IsReason, quoted_token}
 use Rattle.keymap_text.proofs.Literals.{literal_stable, literal_refused, literal_fits, literal_no_skip, literal_spelled}
-use Rattle.keymap_text.proofs.Splitting.{split_found, split_refused, split_unfinished}
-use Rattle.keymap_text.proofs.Steps.{found_whole, front_quote}
+use Rattle.keymap_text.proofs.InFront.{front_quote}
+use Rattle.keymap_text.proofs.Splitting.{split_whole, split_found, split_refused, split_unfinished}
 use Rattle.keymap_text.proofs.Leading.{same_tail}
 
 -- a byte from 0x80 on stands between the apostrophes
@@ -345,11 +345,11 @@ pub quoted_found : (q c : ℕ) (bytes more : List ℕ) → IsQuoted c bytes
 quoted_found q c bytes more h =
     let w = h.between ++ 39 ∷ [] in
     let one : front_of 39 (w ++ more) ≡ Found (Literal c) (length w) =
-    front_quote (w ++ more) ∙ ap literal (append_assoc h.between (39 ∷ []) more)
+    front_quote 39 (w ++ more) refl ∙ ap literal (append_assoc h.between (39 ∷ []) more)
     ∙ character_found c h.between more h.character
     ∙ ap (Found (Literal c)) (sym (length-append h.between (39 ∷ []))) in
     subst (λ l. first (tokens_after 0 q (l ++ more)) ≡ Ok (Some (quoted_token q c l more))) (sym h.apostrophes)
-    (ap first (found_whole (Literal c) q 39 w more one))
+    (ap first (split_whole q 39 (Literal c) w more one))
 
 -- bytes that need more of a quoted character are unfinished
 pub quoted_broken : (q : ℕ) (bytes : List ℕ) → 0 < length bytes → IsUnfinished bytes
@@ -358,7 +358,7 @@ quoted_broken q [] l u = absurd (omega (arith, l))
 quoted_broken q (b ∷ s) l u =
     let quote : b ≡ 39 = head_same u.quoted.apostrophes in
     subst (λ b. first (tokens_after 0 q (b ∷ s)) ≡ Err (EndInside, q + suc (length s))) (sym quote)
-    (ap first (split_unfinished q 39 s (front_quote s ∙ unfinished_literal s
+    (ap first (split_unfinished q 39 s (front_quote 39 s refl ∙ unfinished_literal s
     (subst (λ b. IsUnfinished (b ∷ s)) quote u))) ∙ ap (λ n. Err (EndInside, n)) (omega arith))
   where
     head_same : {a b : ℕ} {s t : List ℕ} → a ∷ s ≡ b ∷ t → a ≡ b
@@ -398,7 +398,7 @@ quoted_refused q rest n m = go (literal rest) refl
     go (Skipped k) e = absurd (literal_no_skip rest k e)
     go (Found k i) e = absurd (n (begins rest k i (literal_finds rest k i e)))
     go (Refused f) e =
-        ap first (split_refused q 39 f rest (front_quote rest ∙ e)) ∙ ap (λ f. Err (f, q)) (literal_refused rest f e)
+        ap first (split_refused q 39 f rest (front_quote 39 rest refl ∙ e)) ∙ ap (λ f. Err (f, q)) (literal_refused rest f e)
 
 -- there is nothing else at an apostrophe
 pub quoted_reason : (q : ℕ) (rest : List ℕ) → IsReason (39 ∷ rest) (first (tokens_after 0 q (39 ∷ rest)))
@@ -406,12 +406,12 @@ quoted_reason q rest = go (literal rest) refl
   where
     go : (f : Front) → literal rest ≡ f → IsReason (39 ∷ rest) (first (tokens_after 0 q (39 ∷ rest)))
     go Unfinished e =
-        subst (IsReason (39 ∷ rest)) (sym (ap first (split_unfinished q 39 rest (front_quote rest ∙ e))))
+        subst (IsReason (39 ∷ rest)) (sym (ap first (split_unfinished q 39 rest (front_quote 39 rest refl ∙ e))))
         (literal_unfinished rest e)
     go (Skipped k) e = absurd (literal_no_skip rest k e)
     go (Found k i) e =
-        subst (IsReason (39 ∷ rest)) (sym (ap first (split_found q 39 i k rest (front_quote rest ∙ e))))
+        subst (IsReason (39 ∷ rest)) (sym (ap first (split_found q 39 i k rest (front_quote 39 rest refl ∙ e))))
         (begins rest k i (literal_finds rest k i e))
     go (Refused f) e =
-        subst (IsReason (39 ∷ rest)) (sym (ap first (split_refused q 39 f rest (front_quote rest ∙ e))
+        subst (IsReason (39 ∷ rest)) (sym (ap first (split_refused q 39 f rest (front_quote 39 rest refl ∙ e))
         ∙ ap (λ f. Err (f, q)) (literal_refused rest f e))) (refused_not rest f e)

@@ -1,10 +1,11 @@
 -- What a text splits into, step by step.
 use Rattle.std.proofs.Common.{◌≡◌, ℕ, zero, suc, ◌+◌, ◌-◌, ◌<◌, ◌≤◌, true, List, [], ◌∷◌, length, take, drop, get_or}
-use Rattle.std.proofs.Common.{refl, sym, ◌∙◌, ap, arith, add-one, add-zero, drop-cons, length-drop, take_all}
-use Rattle.std.proofs.lemmas.List.{drop-drop}
+use Rattle.std.proofs.Common.{refl, sym, ◌∙◌, ap, ap₂, arith, add-one, add-zero, drop-cons, length-drop, take_all, take_at, drop_at, ◌++◌}
+use Rattle.std.proofs.lemmas.List.{drop-drop, drop_all}
 use Rattle.keymap_text.specs.Types.{TextFaultKind, EndInside, TokenKind}
 use Rattle.keymap_text.specs.Lexical.{leading, stays_on_line, is_blank, Front, Skipped, Found, Refused, Unfinished}
-use Rattle.keymap_text.specs.Lexical.{front_of, tokens_after, Ends, Stops, Then, is_empty}
+use Rattle.keymap_text.specs.Lexical.{front_of, tokens_after, Ends, Stops, Then, token_before}
+use Rattle.keymap_text.proofs.InFront.{front_blank, front_comment, front_fits}
 use Rattle.keymap_text.proofs.Leading.{leading_le}
 
 -- a byte that is passed
@@ -32,6 +33,12 @@ unfolding tokens_after
 split_nil zero q = refl
 split_nil (suc k) q = refl
 
+-- all bytes are passed
+pub split_all : (n q : ℕ) (bytes : List ℕ) → n ≡ length bytes → tokens_after n q bytes ≡ Ends (q + n)
+split_all n q bytes e =
+    split_after n q bytes (omega (arith, e)) ∙ ap (tokens_after 0 (q + n)) (drop_all n bytes (omega (arith, e)))
+    ∙ split_none (q + n)
+
 -- a blank or comment in front
 pub split_skipped : (q c n : ℕ) (bytes : List ℕ) → front_of c bytes ≡ Skipped n
     → tokens_after 0 q (c ∷ bytes) ≡ tokens_after n (q + 1) bytes
@@ -40,14 +47,29 @@ split_skipped q c n bytes h = rw (h, tokens_after) refl
 
 -- a token in front
 pub split_found : (q c n : ℕ) (kind : TokenKind) (bytes : List ℕ) → front_of c bytes ≡ Found kind n
-    → tokens_after 0 q (c ∷ bytes) ≡ Then (record {
-      kind = kind;
-      bytes = c ∷ take n bytes;
-      start = q;
-      last = is_empty (drop n bytes);
-    }) (tokens_after n (q + 1) bytes)
+    → tokens_after 0 q (c ∷ bytes)
+    ≡ Then (token_before kind (c ∷ take n bytes) q (drop n bytes)) (tokens_after n (q + 1) bytes)
 unfolding tokens_after
 split_found q c n kind bytes h = rw (h, tokens_after) refl
+
+-- and the tokens behind it
+pub split_token : (q c n : ℕ) (kind : TokenKind) (bytes : List ℕ) → front_of c bytes ≡ Found kind n
+    → tokens_after 0 q (c ∷ bytes)
+    ≡ Then (token_before kind (c ∷ take n bytes) q (drop n bytes)) (tokens_after 0 (q + suc n) (drop n bytes))
+split_token q c n kind bytes h =
+    split_found q c n kind bytes h
+    ∙ ap (Then (token_before kind (c ∷ take n bytes) q (drop n bytes)))
+    (split_after n (q + 1) bytes (front_fits c bytes kind n h).within
+    ∙ ap (λ p. tokens_after 0 p (drop n bytes)) (omega arith))
+
+-- a token of the bytes w, in front of others
+pub split_whole : (q c : ℕ) (kind : TokenKind) (w x : List ℕ) → front_of c (w ++ x) ≡ Found kind (length w)
+    → tokens_after 0 q (c ∷ (w ++ x))
+    ≡ Then (token_before kind (c ∷ w) q x) (tokens_after 0 (q + suc (length w)) x)
+split_whole q c kind w x h =
+    split_token q c (length w) kind (w ++ x) h
+    ∙ ap₂ (λ (t r : List ℕ). Then (token_before kind (c ∷ t) q r) (tokens_after 0 (q + suc (length w)) r))
+    (take_at w x (length w) refl) (drop_at w x (length w) refl)
 
 -- a fault in front
 pub split_refused : (q c : ℕ) (f : TextFaultKind) (bytes : List ℕ) → front_of c bytes ≡ Refused f
@@ -61,25 +83,15 @@ pub split_unfinished : (q c : ℕ) (bytes : List ℕ) → front_of c bytes ≡ U
 unfolding tokens_after
 split_unfinished q c bytes h = rw (h, tokens_after) refl
 
--- a blank, and a comment
-pub front_blank : (c : ℕ) (bytes : List ℕ) → is_blank c ≡ true → front_of c bytes ≡ Skipped 0
-unfolding front_of
-front_blank c bytes h = rw (h, front_of) refl
-
--- a comment in front
-pub front_comment : (bytes : List ℕ) → front_of 35 bytes ≡ Skipped (leading stays_on_line bytes)
-unfolding front_of
-front_comment bytes = refl
-
 -- a blank is passed
 pub split_blank : (q c : ℕ) (bytes : List ℕ) → is_blank c ≡ true
     → tokens_after 0 q (c ∷ bytes) ≡ tokens_after 0 (q + 1) bytes
 split_blank q c bytes h = split_skipped q c 0 bytes (front_blank c bytes h)
 
 -- a comment is passed to the end of its line
-pub split_comment : (q : ℕ) (bytes : List ℕ)
-    → tokens_after 0 q (35 ∷ bytes) ≡ tokens_after (leading stays_on_line bytes) (q + 1) bytes
-split_comment q bytes = split_skipped q 35 _ bytes (front_comment bytes)
+pub split_comment : (q c : ℕ) (bytes : List ℕ) → c ≡ 35
+    → tokens_after 0 q (c ∷ bytes) ≡ tokens_after (leading stays_on_line bytes) (q + 1) bytes
+split_comment q c bytes h = split_skipped q c _ bytes (front_comment c bytes h)
 
 -- the same at an index
 pub split_blank_at : (xs : List ℕ) (i : ℕ) → i < length xs → is_blank (get_or xs i 0) ≡ true
@@ -92,7 +104,7 @@ split_blank_at xs i h e =
 pub split_comment_at : (xs : List ℕ) (i : ℕ) → i < length xs → get_or xs i 0 ≡ 35
     → tokens_after 0 i (drop i xs) ≡ tokens_after (leading stays_on_line (drop (i + 1) xs)) (i + 1) (drop (i + 1) xs)
 split_comment_at xs i h e =
-    ap (tokens_after 0 i) (drop-cons xs i 0 h) ∙ ap (λ c. tokens_after 0 i (c ∷ drop (suc i) xs)) e ∙ split_comment i _
+    ap (tokens_after 0 i) (drop-cons xs i 0 h) ∙ split_comment i _ _ e
     ∙ ap (λ n. tokens_after (leading stays_on_line (drop n xs)) (i + 1) (drop n xs)) (sym (add-one i))
 
 -- a comment to the end of its line
@@ -124,26 +136,12 @@ behind xs i n = ap (drop n) (drop-drop 1 i xs) ∙ drop-drop n (i + 1) xs
 -- a token at a place
 pub at_found : (xs : List ℕ) (i n : ℕ) (kind : TokenKind) → i < length xs
     → front_of (get_or (drop i xs) 0 0) (drop 1 (drop i xs)) ≡ Found kind n
-    → tokens_after 0 i (drop i xs) ≡ Then (record {
-      kind = kind;
-      bytes = take (i + 1 + n - i) (drop i xs);
-      start = i;
-      last = is_empty (drop (i + 1 + n) xs);
-    }) (tokens_after n (i + 1) (drop 1 (drop i xs)))
-at_found xs i n kind h e = ap (tokens_after 0 i) (first_and_rest (drop i xs) (room xs i h)) ∙ split_found i _ n kind _ e
-    ∙ ap (λ (b : List ℕ). Then (record {
-      kind = kind;
-      bytes = b;
-      start = i;
-      last = is_empty (drop n (drop 1 (drop i xs)));
-    }) (tokens_after n (i + 1) (drop 1 (drop i xs))))
-    (sym (front_bytes (drop i xs) i n (room xs i h)))
-    ∙ ap (λ (r : List ℕ). Then (record {
-      kind = kind;
-      bytes = take (i + 1 + n - i) (drop i xs);
-      start = i;
-      last = is_empty r;
-    }) (tokens_after n (i + 1) (drop 1 (drop i xs)))) (behind xs i n)
+    → tokens_after 0 i (drop i xs) ≡ Then (token_before kind (take (i + 1 + n - i) (drop i xs)) i (drop (i + 1 + n) xs))
+    (tokens_after n (i + 1) (drop 1 (drop i xs)))
+at_found xs i n kind h e =
+    ap (tokens_after 0 i) (first_and_rest (drop i xs) (room xs i h)) ∙ split_found i _ n kind _ e
+    ∙ ap₂ (λ (b r : List ℕ). Then (token_before kind b i r) (tokens_after n (i + 1) (drop 1 (drop i xs))))
+    (sym (front_bytes (drop i xs) i n (room xs i h))) (behind xs i n)
 
 -- a fault at a place
 pub at_refused : (xs : List ℕ) (i : ℕ) (f : TextFaultKind) → i < length xs

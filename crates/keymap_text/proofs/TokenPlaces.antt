@@ -5,13 +5,13 @@ use Rattle.std.proofs.lemmas.List.{length-take-le}
 use Rattle.std.proofs.lemmas.List.Elements.{All-nil, All-cons, All-weaker}
 use Rattle.keymap_text.specs.Types.{TextFaultKind, EndInside, TokenKind}
 use Rattle.keymap_text.specs.Lexical.{Front, Skipped, Found, Refused, Unfinished, front_of, tokens_after, TokenValue}
-use Rattle.keymap_text.specs.Lexical.{Tokens, Ends, Stops, is_empty}
+use Rattle.keymap_text.specs.Lexical.{Tokens, Ends, Stops, token_before}
 use Rattle.keymap_text.specs.Meaning.{list_of, tokens}
 use Rattle.keymap_text.specs.Placed.{IsPlaced}
 use Rattle.keymap_text.proofs.Splitting.{split_one, split_skipped, split_found, split_refused, split_nil}
 use Rattle.keymap_text.proofs.Splitting.{split_unfinished}
 use Rattle.keymap_text.proofs.Faults.{list_then}
-use Rattle.keymap_text.proofs.Placing.{Fits, front_fits}
+use Rattle.keymap_text.proofs.InFront.{Fits, front_fits}
 
 -- the token is one of these bytes, which stand at q
 record Among (q : ℕ) (bytes : List ℕ) (t : TokenValue) : Type 0 where
@@ -29,7 +29,7 @@ one_more q c bytes t h = record {
 }
 
 in_front : (q c n : ℕ) (kind : TokenKind) (bytes : List ℕ) → front_of c bytes ≡ Found kind n
-    → Among q (c ∷ bytes) (record { kind = kind; bytes = c ∷ take n bytes; start = q; last = is_empty (drop n bytes) })
+    → Among q (c ∷ bytes) (token_before kind (c ∷ take n bytes) q (drop n bytes))
 in_front q c n kind bytes h =
     let f : Fits kind n bytes = front_fits c bytes kind n h in
     let l : length (take n bytes) ≡ n = length-take-le n bytes f.within in record {
@@ -71,7 +71,7 @@ all_among (c ∷ bytes) zero q = go (front_of c bytes) refl (λ n. all_among byt
         subst (λ ts. All (Among q (c ∷ bytes)) (list_of ts)) (sym (split_skipped q c n bytes e)) (later n (ih n))
     go (Found kind n) e ih =
         let t : TokenValue =
-        record { kind = kind; bytes = c ∷ take n bytes; start = q; last = is_empty (drop n bytes) } in
+        token_before kind (c ∷ take n bytes) q (drop n bytes) in
         subst (λ ts. All (Among q (c ∷ bytes)) (list_of ts)) (sym (split_found q c n kind bytes e))
         (subst (All (Among q (c ∷ bytes))) (sym (list_then t (tokens_after n (q + 1) bytes)))
         (All-cons (Among q (c ∷ bytes)) t (list_of (tokens_after n (q + 1) bytes)) (in_front q c n kind bytes e)

@@ -6,7 +6,7 @@ use Rattle.std.proofs.Common.{Ok, Err, Option, Some, None}
 use Rattle.keymap_text.specs.Types.{TextFaultKind, Item, TextFault}
 use Rattle.keymap_text.specs.declared.fault.TextFaultKind.TheVariants as faults
 use Rattle.keymap_text.specs.Lexical.{TokenValue, Tokens, Ends, Stops, Then, tokens_after, front_of, Front, Skipped}
-use Rattle.keymap_text.specs.Lexical.{Refused, Unfinished, is_empty}
+use Rattle.keymap_text.specs.Lexical.{Refused, Unfinished, token_before}
 use Rattle.keymap_text.specs.Lexical as lexical
 use Rattle.keymap_core.specs.Maps.{MapValue}
 use Rattle.keymap_text.specs.Inner.Grammar.{GrammarState, accept, at_end, start, empty_map}
@@ -16,7 +16,7 @@ use Rattle.keymap_text.specs.Meaning.{line, list_of, ending_of_tokens, item_of, 
 use Rattle.keymap_text.specs.Meaning.{Fault, Early, found_in, place_after}
 use Rattle.keymap_text.specs.Inner.Judging.{judge, verdict, Verdict, Spelled, Faulty, ended}
 use Rattle.keymap_text.proofs.Splitting.{split_one, split_skipped, split_found, split_refused, split_unfinished}
-use Rattle.keymap_text.proofs.Early.{early_from}
+use Rattle.keymap_text.proofs.Prefixes.{early_from}
 use Rattle.keymap_text.proofs.Steps.{judge_then, judge_refused, judge_stops, judge_ends}
 use Rattle.keymap_text.proofs.Faults.{found_of, fault_is, same_fault}
 use Rattle.keymap_text.proofs.Folded.{puts, puts_are}
@@ -287,7 +287,7 @@ fits (c ∷ bytes) s zero q f o e h = go (front_of c bytes) refl (fits bytes)
     go (lexical.Found kind n) a ih = token (accept s (item_of t)) refl
       where
         t : TokenValue
-        t = record { kind = kind; bytes = c ∷ take n bytes; start = q; last = is_empty (drop n bytes) }
+        t = token_before kind (c ∷ take n bytes) q (drop n bytes)
 
         here : judge s (Then t (tokens_after n (q + 1) bytes)) ≡ Faulty f o e
         here = sym (ap (judge s) (split_found q c n kind bytes a)) ∙ h

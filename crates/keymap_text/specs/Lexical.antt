@@ -95,14 +95,17 @@ abbrev pub is_empty : List ℕ → Bool
 is_empty [] = true
 is_empty (c ∷ cs) = false
 
+-- a token of these bytes at the place q, before others
+abbrev pub token_before : TokenKind → List ℕ → ℕ → List ℕ → TokenValue
+token_before kind bytes q more = record { kind = kind; bytes = bytes; start = q; last = is_empty more }
+
 -- The tokens of the bytes after the first k of them, where these bytes stand at the place q of the text.
 unfoldable pub tokens_after : ℕ → ℕ → List ℕ → Tokens
 tokens_after k q [] = Ends q
 tokens_after (suc k) q (c ∷ bytes) = tokens_after k (q + 1) bytes
 tokens_after zero q (c ∷ bytes) = elim (front_of c bytes) [
   | Skipped n ↦ tokens_after n (q + 1) bytes
-  | Found kind n ↦ Then (record { kind = kind; bytes = c ∷ take n bytes; start = q; last = is_empty (drop n bytes) })
-      (tokens_after n (q + 1) bytes)
+  | Found kind n ↦ Then (token_before kind (c ∷ take n bytes) q (drop n bytes)) (tokens_after n (q + 1) bytes)
   | Refused f ↦ Stops f q
   | Unfinished ↦ Stops EndInside (q + 1 + length bytes)
 ]

@@ -1,6 +1,6 @@
 -- The line of a place in a text.
-use Rattle.std.specs.Prelude.{◌≡◌, ℕ, ◌+◌, ◌-◌, ◌*◌, ◌/◌, ◌==◌, Bool, List, length, map, take, drop}
-use Rattle.std.specs.List.{after_last, range_with_len, suffix_len}
+use Rattle.std.specs.Prelude.{◌≡◌, ℕ, ◌+◌, ◌-◌, ◌<◌, ◌≤◌, ◌==◌, Bool, false, List, length, take, drop, slice_index}
+use Rattle.std.specs.List.{after_last}
 use Rattle.keymap_text.specs.Lexical.{leading, stays_on_line}
 use Rattle.keymap_text.specs.Meaning.{line}
 
@@ -15,30 +15,24 @@ before_in_line text place = after_last is_feed (take place text)
 abbrev pub rest_of_line : List ℕ → ℕ → List ℕ
 rest_of_line text place = take (leading stays_on_line (drop place text)) (drop place text)
 
--- how many bytes a block of a text has
-abbrev pub block_size : ℕ
-block_size = 256
-
--- the line in which each block of a text begins
-unfoldable pub block_lines : List ℕ → List ℕ
-block_lines text = map (λ i. line text (i * block_size)) (range_with_len 0 (length text / block_size + 1))
-
--- where the line of a place begins, and where it ends
-abbrev pub line_start : List ℕ → ℕ → ℕ
-line_start text place = place - suffix_len stays_on_line (take place text)
-
+-- where the line of a place ends
 abbrev pub line_end : List ℕ → ℕ → ℕ
 line_end text place = place + leading stays_on_line (drop place text)
 
--- the same of the line in which each block begins
-unfoldable pub block_starts : List ℕ → List ℕ
-block_starts text = map (λ i. line_start text (i * block_size)) (range_with_len 0 (length text / block_size + 1))
+-- A line with this number begins here.
+pub record IsLineStart (text : List ℕ) (n start : ℕ) : Type 0 where
+  pub inside : start ≤ length text
+  pub begins : 0 < start → stays_on_line (slice_index text (start - 1)) ≡ false
+  pub number : line text start ≡ n
 
-unfoldable pub block_ends : List ℕ → List ℕ
-block_ends text = map (λ i. line_end text (i * block_size)) (range_with_len 0 (length text / block_size + 1))
+-- Lines begin here, one behind the other.
+pub record AreStarts (text starts : List ℕ) : Type 0 where
+  pub some : 0 < length starts
+  pub first : slice_index starts 0 ≡ 0
+  pub each : (i : ℕ) → i < length starts → IsLineStart text (i + 1) (slice_index starts i)
+  pub next : (i : ℕ) → i + 1 < length starts → line_end text (slice_index starts i) + 1 ≡ slice_index starts (i + 1)
 
--- the lines in which the blocks of a text begin: their numbers, their beginnings and their ends
-pub record AreLines (text ns ss es : List ℕ) : Type 0 where
-  pub numbers : ns ≡ block_lines text
-  pub starts : ss ≡ block_starts text
-  pub ends : es ≡ block_ends text
+-- These are the lines of a text: the last one ends where the text does.
+pub record AreLines (text starts : List ℕ) : Type 0 where
+  pub lines : AreStarts text starts
+  pub last : line_end text (slice_index starts (length starts - 1)) ≡ length text

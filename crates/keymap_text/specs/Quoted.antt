@@ -4,7 +4,7 @@ use Rattle.std.specs.Prelude.{Result, Ok, Err, ◌⊎◌}
 use Rattle.std.specs.Char.{IsScalar}
 use Rattle.keymap_text.specs.Types.{TextFaultKind, Literal}
 use Rattle.keymap_text.specs.declared.fault.TextFaultKind.TheVariants as faults
-use Rattle.keymap_text.specs.Lexical.{TokenValue, is_empty}
+use Rattle.keymap_text.specs.Lexical.{TokenValue, token_before}
 
 -- The bytes between the apostrophes: the UTF-8 of a character other than LF, or one byte from 0x80 on, which stands for
 -- the character of its number.
@@ -34,7 +34,7 @@ pub record IsUnfinished (bytes : List ℕ) : Type 0 where
 
 -- the token of a quoted character at the place q, with more bytes behind it
 abbrev pub quoted_token : ℕ → ℕ → List ℕ → List ℕ → TokenValue
-quoted_token q c bytes more = record { kind = Literal c; bytes = bytes; start = q; last = is_empty more }
+quoted_token q c bytes more = token_before (Literal c) bytes q more
 
 -- Why the first token of these bytes, or the fault in its place, is what it is.
 abbrev pub IsReason : List ℕ → Result (Option TokenValue) (TextFaultKind × ℕ) → Type 0

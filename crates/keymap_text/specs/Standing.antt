@@ -4,13 +4,13 @@
 use Rattle.std.specs.Prelude.{◌≡◌, ℕ, ◌+◌, ◌==◌, List, ◌++◌, length, drop, count_by, Some, None, Result, Ok, Err}
 use Rattle.keymap_text.specs.Types.{TextFault}
 use Rattle.keymap_text.specs.Inner.Judging.{judge, verdict, Verdict}
-use Rattle.keymap_text.specs.Inner.Resuming.{tokens_of}
+use Rattle.keymap_text.specs.Lexical.{tokens_after}
 use Rattle.keymap_text.specs.Meaning.{line, Early}
 use Rattle.keymap_text.specs.Progress.{Progress}
 
 -- what the text is, where the bytes x are all that is to come
 abbrev pub rest_of : Progress → List ℕ → Verdict
-rest_of p x = judge p.state (tokens_of p.mode p.pending p.offset x)
+rest_of p x = judge p.state (tokens_after 0 p.offset (p.pending ++ x))
 
 -- The reader has taken the bytes b, and met no fault.
 pub record StandsAfter (p : Progress) (b : List ℕ) : Type 0 where

@@ -15,6 +15,7 @@ mod names;
 mod placed;
 mod printer;
 mod reader;
+mod reading;
 mod scanner;
 mod source;
 mod text_line;

@@ -1,21 +1,21 @@
-//! Reading a text, whole or in pieces: the scanner as users see it. It sees pieces, and answers the keymap or the fault
-//! of the whole text.
+//! Reading a text, whole or in pieces, as users see it. It answers the keymap or the fault of the whole text.
 ghost use Rattle.std.specs.Prelude.{◌≡◌, ℕ, ◌+◌, ◌<◌, ◌^◌, ◌++◌, [], List, IfOk, length, MatchResult, Some, Err};
 ghost use Rattle.keymap_text.specs.Meaning.{Means, Concludes, Reads};
 ghost use Rattle.keymap_text.specs.Standing.{StandsAfter, FedAfter};
 ghost use Rattle.keymap_text.specs.Types.{TextFault as TextFaultValue};
 
 use crate::fault::{TextError, TextFault};
-use crate::scanner::Scanner;
+use crate::reading::Reading;
 use keymap_core::KeyMap;
 use std::alloc::{AllocError, Global};
 use std::marker::Model;
 
 /// Reads a text that comes in pieces. It keeps the map, at most 32 bytes of an unfinished token and its place, never
-/// the text, and allocates only the map.
+/// the text, and allocates only the map. The bytes of an unfinished token are read again with each piece until it is
+/// whole, so pieces of a few bytes cost several times as much a byte as long ones.
 #[derive(Drop)]
 pub struct MapReader {
-    scanner: Scanner,
+    reading: Reading,
     fed: u64,
     fault: Option<TextFault>,
 }
@@ -39,7 +39,7 @@ impl MapReader {
     {
         let map = KeyMap::new(alloc)?;
         Ok(MapReader {
-            scanner: Scanner::new(map),
+            reading: Reading::new(map),
             fed: 0,
             fault: None,
         })
@@ -63,7 +63,7 @@ impl MapReader {
         if let Some(f) = self.fault {
             return Err(f);
         }
-        match self.scanner.feed(piece) {
+        match self.reading.feed(piece) {
             Ok(()) => {
                 self.fed += piece.len() as u64;
                 Ok(())
@@ -82,7 +82,7 @@ impl MapReader {
     {
         match self.fault {
             Some(f) => Err(f),
-            None => self.scanner.finish(),
+            None => self.reading.finish(),
         }
     }
 }

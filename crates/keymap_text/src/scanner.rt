@@ -1,66 +1,44 @@
-//! Reading a text byte by byte, as it comes: it keeps an unfinished token, the offset and the line. It sees bytes with
-//! their places, and asks `token` where a token ends, `words` what it means, and `grammar` whether it may stand there.
-ghost use Rattle.std.specs.Prelude.{◌≡◌, ℕ, ◌+◌, ◌<◌, ◌≤◌, ◌^◌, ◌∷◌, ◌++◌, [], List, length, OnOk, IfSome, IfErr};
-ghost use Rattle.std.specs.Prelude.{Ok, Err, drop, slice_index, true, if◌then◌else◌, ◌==◌};
-ghost use Rattle.keymap_text.specs.Lexical.{literal, is_word};
-ghost use Rattle.keymap_text.specs.Inner.Judging.{verdict, ended};
-ghost use Rattle.keymap_text.specs.Words.{item, meaning};
-ghost use Rattle.keymap_text.specs.Inner.Views.{state_view, front_view, FoundFits, IsPlace};
-ghost use Rattle.keymap_text.specs.Inner.Resuming.{resume, Takes, Advances, Fronts, IsReader, Accepts, HasNoRole, Says};
-ghost use Rattle.keymap_text.specs.Inner.Resuming.{IsFaultOfPending, Took, TookCell, moved, cell_place, line_feed};
-ghost use Rattle.keymap_text.specs.Inner.Resuming.{FrontsBehind, FrontsCharacter};
-ghost use Rattle.keymap_text.specs.Inner.Grammar as spec;
+//! Reading bytes token by token, as far as they show whole tokens. It sees bytes, and asks `token` where a token ends,
+//! `words` what it means, and `grammar` whether it may stand there. It knows neither offsets nor lines.
+ghost use Rattle.std.specs.Prelude.{◌≡◌, ℕ, ◌+◌, ◌<◌, ◌≤◌, ◌-◌, ◌^◌, length, drop, Ok, IfSome, OnOk, IfOk, IsFalse, IfErr, true, false};
+ghost use Rattle.std.specs.Prelude.{slice_index};
+ghost use Rattle.keymap_core.specs.Maps.{MapValue};
 ghost use Rattle.keymap_core.specs.Numbers.{column_count};
+ghost use Rattle.keymap_text.specs.Lexical.{is_word, separates, front_of, Found};
+ghost use Rattle.keymap_text.specs.Types.{TokenKind as TokenKindValue, Word};
+ghost use Rattle.keymap_text.specs.Inner.Grammar as spec;
+ghost use Rattle.keymap_text.specs.Inner.Grammar.{GrammarState};
+ghost use Rattle.keymap_text.specs.Inner.Views.{grammar_view, IsPlace};
+ghost use Rattle.keymap_text.specs.Inner.Scanning.{Advances, Takes, Leaves, TookCell, Fits, TakesLast, Ends, Fronts};
+ghost use Rattle.keymap_text.specs.Inner.Scanning.{FrontsBehind, FrontsCharacter, IsOpen};
 
-use crate::fault::{TextFault, TextFaultKind};
+use crate::fault::TextFaultKind;
 use crate::grammar::{Grammar, Place, cell_of, character_of, lock_of, push_pair};
 use crate::names::name_meaning;
 use crate::token::{
-    Front, TokenKind, is_blank_byte, is_word_byte, line_len, literal_front, short_word_len,
-    space_len,
+    Front, TokenKind, is_blank_byte, is_word_byte, line_len, short_word_len, space_len, token_front,
 };
 use crate::words::{Item, Meaning, four_digit_number, item_of, short_number};
-use arrayvec::ArrayVec;
-use keymap_core::{KeyMap, PAIR_LIMIT};
+use keymap_core::{Definitions, PAIR_LIMIT};
 
-/// What the bytes are part of that stand after the last whole token.
+/// Why bytes are refused, and how many stand before the fault.
 #[derive(Clone, Copy)]
-pub(crate) enum Mode {
-    Between,
-    Comment,
-    Word,
-    Literal,
+pub(crate) struct Stop {
+    pub(crate) kind: TextFaultKind,
+    pub(crate) at: usize,
 }
 
-/// Takes a text byte by byte. After a fault the value is of no use.
-#[derive(Drop)]
-pub(crate) struct Scanner {
-    /// The map so far.
-    pub(crate) map: KeyMap,
-    pub(crate) grammar: Grammar,
-    pub(crate) mode: Mode,
-    /// The bytes of the token that is not whole yet.
-    pub(crate) pending: ArrayVec<u8, 32>,
-    /// The place of the first pending byte.
-    pub(crate) offset: u64,
-    /// The line of the first pending byte.
-    pub(crate) line: u64,
-}
-
-fn fault(kind: TextFaultKind, offset: u64, line: u64) -> TextFault
-    ensures kind { result.kind ≡ kind }
-    ensures offset { result.offset ≡ offset }
-    ensures line { result.line ≡ line }
+/// The same behind n bytes more.
+#[inline(always)]
+pub(crate) fn behind(n: usize, stop: Stop) -> Stop
+    requires { n + stop.at < 2 ^ 64 }
+    ensures kind { result.kind ≡ stop.kind }
+    ensures at { result.at ≡ n + stop.at }
 {
-    TextFault { offset, line, kind }
-}
-
-/// The line of the next byte, after the byte c.
-fn next_line(line: u64, c: u8) -> u64
-    requires { line + 1 < 2 ^ 64 }
-    ensures { result ≡ line + line_feed c }
-{
-    if c == b'\n' { line + 1 } else { line }
+    Stop {
+        kind: stop.kind,
+        at: n + stop.at,
+    }
 }
 
 /// The word in front, and how many bytes it has, if it is a short name.
@@ -101,8 +79,8 @@ fn front_number(rest: &[u8]) -> Option<(Item, usize)>
     }
 }
 
-/// The token in front of the bytes, and how many bytes it has, where they show that it is whole. Other tokens and what
-/// stands in their place are taken byte by byte.
+/// The token in front of the bytes, and how many bytes it has, where they show at once that it is whole. Other tokens
+/// are left to `next`.
 #[inline(always)]
 fn whole_token(rest: &[u8]) -> Option<(Item, usize)>
     requires { 0 < length rest.now }
@@ -160,549 +138,385 @@ fn close_in_front(rest: &[u8]) -> usize
     }
 }
 
-fn mode_in_comment(c: u8) -> Mode
-    ensures { result ≡ if c == 10 then Mode.Between else Mode.Comment }
+/// Takes the whole tokens in front. Answers how many bytes were taken: all, but for a token or a comment that the bytes
+/// break off.
+#[inline(always)]
+pub(crate) fn scan<D: Definitions>(
+    grammar: &mut Grammar,
+    into: &mut D,
+    bytes: &[u8],
+) -> Result<usize, Stop>
+    requires { IsPlace grammar.old.place grammar.old.accent }
+    ensures takes { Takes D.shows into.old into.new result grammar.old grammar.new bytes.now }
+    ensures leaves { Leaves result grammar.new bytes.now }
+    ensures open { IfOk result (λ n. IsOpen (drop n bytes.now)) }
 {
-    if c == b'\n' {
-        Mode::Between
-    } else {
-        Mode::Comment
+    let mut at = 0;
+    while at < bytes.len() {
+        match step(grammar, into, &bytes[at..]) {
+            Ok(0) => return Ok(at),
+            Ok(n) => at += n,
+            Err(stop) => return Err(behind(at, stop)),
+        }
+    }
+    Ok(at)
+}
+
+/// Takes as much in front as is seen at once, and else what stands in front. Answers how many bytes were taken, and 0
+/// where no whole token is in front.
+#[inline(always)]
+fn step<D: Definitions>(grammar: &mut Grammar, into: &mut D, rest: &[u8]) -> Result<usize, Stop>
+    requires place { IsPlace grammar.old.place grammar.old.accent }
+    requires some { 0 < length rest.now }
+    ensures takes { Takes D.shows into.old into.new result grammar.old grammar.new rest.now }
+    ensures leaves { Leaves result grammar.new rest.now }
+    ensures open { result ≡ Ok 0 → IsOpen rest.now }
+{
+    match quick(grammar, into, rest) {
+        Ok(0) => other(grammar, into, rest),
+        Ok(n) => Ok(n),
+        Err(stop) => Err(stop),
     }
 }
 
-impl Scanner {
-    /// A reader that stands at the beginning of a text. The map is one without definitions.
-    pub(crate) fn new(map: KeyMap) -> Self
-        requires { map ≡ spec.empty_map }
-        ensures start { (x : List ℕ) → resume result x ≡ verdict x }
-        ensures reader { IsReader result }
-        ensures fed { result.offset + length result.pending.items ≡ 0 }
-        ensures line { result.line ≡ 1 }
-    {
-        Scanner {
-            map,
-            grammar: Grammar::new(),
-            mode: Mode::Between,
-            pending: ArrayVec::new(),
-            offset: 0,
-            line: 1,
-        }
+/// Takes blanks and what is behind them, as far as that is the end of a line or whole tokens.
+#[inline(always)]
+fn quick<D: Definitions>(grammar: &mut Grammar, into: &mut D, rest: &[u8]) -> Result<usize, Stop>
+    requires place { IsPlace grammar.old.place grammar.old.accent }
+    ensures takes { Takes D.shows into.old into.new result grammar.old grammar.new rest.now }
+    ensures leaves { Leaves result grammar.new rest.now }
+{
+    let n = space_len(rest);
+    if n == rest.len() {
+        return Ok(n);
     }
+    match after_spaces(grammar, into, &rest[n..]) {
+        Ok(m) => Ok(n + m),
+        Err(stop) => Err(behind(n, stop)),
+    }
+}
 
-    /// Takes the next piece of the text.
-    pub(crate) fn feed(&mut self, piece: &[u8]) -> Result<(), TextFault>
-        requires reader { IsReader self.old }
-        requires room { self.old.offset + length self.old.pending.items + length piece.now < 2 ^ 63 }
-        ensures { Takes result self.old self.new piece.now }
-    {
-        let mut i = 0;
-        while i < piece.len() {
-            match self.front(&piece[i..]) {
-                Err(kind) => return Err(fault(kind, self.offset, self.line)),
-                Ok(0) => match self.take(piece[i]) {
-                    Ok(()) => i += 1,
-                    Err(fault) => return Err(fault),
-                },
-                Ok(n) => i += n,
+/// Takes the end of a line in front, or a whole token, and the cells where these are wanted then.
+#[inline(always)]
+fn after_spaces<D: Definitions>(
+    grammar: &mut Grammar,
+    into: &mut D,
+    rest: &[u8],
+) -> Result<usize, Stop>
+    requires place { IsPlace grammar.old.place grammar.old.accent }
+    requires some { 0 < length rest.now }
+    ensures takes { Takes D.shows into.old into.new result grammar.old grammar.new rest.now }
+    ensures leaves { Leaves result grammar.new rest.now }
+{
+    if rest[0] == b'\n' {
+        return Ok(1);
+    }
+    let begun = before_cells(grammar, into, rest)?;
+    match grammar.place {
+        Place::Cell { slot, index } => match cells(grammar, into, slot, index, &rest[begun..]) {
+            Ok(n) => Ok(begun + n),
+            Err(stop) => Err(behind(begun, stop)),
+        },
+        _ => Ok(begun),
+    }
+}
+
+/// Takes the pair or the whole token in front, unless a cell is wanted. Answers how many bytes it has, and 0 where
+/// nothing was taken.
+#[inline(always)]
+fn before_cells<D: Definitions>(
+    grammar: &mut Grammar,
+    into: &mut D,
+    rest: &[u8],
+) -> Result<usize, Stop>
+    requires place { IsPlace grammar.old.place grammar.old.accent }
+    requires some { 0 < length rest.now }
+    ensures takes { Takes D.shows into.old into.new result grammar.old grammar.new rest.now }
+    ensures leaves { Leaves result grammar.new rest.now }
+{
+    if let Place::Cell { .. } = grammar.place {
+        return Ok(0);
+    }
+    let paired = pair_in_front(grammar, rest);
+    if paired > 0 {
+        return Ok(paired);
+    }
+    token(grammar, into, rest)
+}
+
+/// Takes the pair in front where one is wanted and is seen whole. Answers how many bytes it has, and 0 where nothing
+/// was taken.
+#[inline(always)]
+fn pair_in_front(grammar: &mut Grammar, rest: &[u8]) -> usize
+    requires place { IsPlace grammar.old.place grammar.old.accent }
+    requires some { 0 < length rest.now }
+    ensures taken { 0 < result → (m : MapValue) → Advances (spec.at m (grammar_view grammar.old))
+        (spec.at m (grammar_view grammar.new)) rest.now result }
+    ensures place { IsPlace grammar.new.place grammar.new.accent }
+    ensures none { result ≡ 0 → grammar.new ≡ grammar.old }
+    ensures inside { result ≤ length rest.now }
+{
+    match grammar.place {
+        Place::AfterAccent { index } => pair(grammar, index, rest),
+        _ => 0,
+    }
+}
+
+/// Takes the pair of an accent in front, where it is seen whole. Answers how many bytes it has, and 0 where nothing
+/// was taken.
+#[inline(always)]
+fn pair(grammar: &mut Grammar, index: u8, rest: &[u8]) -> usize
+    requires place { IsPlace grammar.old.place grammar.old.accent }
+    requires after { grammar.old.place ≡ Place.AfterAccent index }
+    requires some { 0 < length rest.now }
+    ensures taken { 0 < result → (m : MapValue) → Advances (spec.at m (grammar_view grammar.old))
+        (spec.at m (grammar_view grammar.new)) rest.now result }
+    ensures place { IsPlace grammar.new.place grammar.new.accent }
+    ensures none { result ≡ 0 → grammar.new ≡ grammar.old }
+    ensures inside { result ≤ length rest.now }
+{
+    if rest[0] != b'(' || grammar.accent.pairs().len() >= PAIR_LIMIT {
+        return 0;
+    }
+    let Some((base, i)) = character_in_front(&rest[1..]) else {
+        return 0;
+    };
+    if base == '\0' {
+        return 0;
+    }
+    let Some((composed, j)) = character_in_front(&rest[1 + i..]) else {
+        return 0;
+    };
+    let end = 1 + i + j;
+    let n = close_in_front(&rest[end..]);
+    if n == 0 {
+        return 0;
+    }
+    push_pair(&mut grammar.accent, base, composed);
+    end + n
+}
+
+/// Takes the cells in front from this column on, each with the blanks before it, and behind the eighth the lock
+/// letter and the end of the line. The place is kept only behind the last cell.
+#[inline(always)]
+fn cells<D: Definitions>(
+    grammar: &mut Grammar,
+    into: &mut D,
+    slot: u8,
+    first: u8,
+    rest: &[u8],
+) -> Result<usize, Stop>
+    requires place { grammar.old.place ≡ Place.Cell slot first }
+    requires index { first < column_count }
+    ensures takes { Takes D.shows into.old into.new result grammar.old grammar.new rest.now }
+    ensures leaves { Leaves result grammar.new rest.now }
+{
+    let mut taken: usize = 0;
+    let mut index = first;
+    while index < 8 {
+        match next_cell(grammar, index, &rest[taken..]) {
+            Err(stop) => return Err(behind(taken, stop)),
+            Ok(0) => {
+                grammar.place = Place::Cell { slot, index };
+                return Ok(taken);
             }
-        }
-        Ok(())
-    }
-
-    /// The text ends here.
-    pub(crate) fn finish(mut self) -> Result<KeyMap, TextFault>
-        requires reader { IsReader self }
-        requires room { self.offset + length self.pending.items < 2 ^ 63 }
-        ensures says { Says result (resume self []) }
-        ensures place { IfErr result (λ e. IsFaultOfPending e self) }
-    {
-        match self.mode {
-            Mode::Between => self.end(),
-            Mode::Comment => self.end(),
-            Mode::Word => match self.end_word() {
-                Ok(()) => self.end(),
-                Err(f) => Err(f),
-            },
-            Mode::Literal => Err(fault(
-                TextFaultKind::EndInside,
-                self.offset + self.pending.len() as u64,
-                self.line,
-            )),
-        }
-    }
-
-    /// Takes as much in front as is seen at once, where that is anything. A fault is one at the place that is reached.
-    #[inline(always)]
-    fn front(&mut self, rest: &[u8]) -> Result<usize, TextFaultKind>
-        requires reader { IsReader self.old }
-        requires room { self.old.offset + length self.old.pending.items + length rest.now < 2 ^ 63 }
-        ensures { Took result self.old self.new rest.now }
-    {
-        match self.mode {
-            Mode::Between => self.between(rest),
-            Mode::Comment => Ok(self.comment(rest)),
-            _ => Ok(0),
-        }
-    }
-
-    /// Takes the bytes of a comment in front, as far as the end of its line, which is left.
-    #[inline(never)]
-    fn comment(&mut self, rest: &[u8]) -> usize
-        requires reader { IsReader self.old }
-        requires mode { self.old.mode ≡ Mode.Comment }
-        requires room { self.old.offset + length self.old.pending.items + length rest.now < 2 ^ 63 }
-        ensures { Advances self.old self.new rest.now result }
-    {
-        let n = line_len(rest);
-        self.offset += n as u64;
-        n
-    }
-
-    /// Takes blanks and what is behind them, as far as that is the end of a line or a whole token.
-    #[inline(always)]
-    fn between(&mut self, rest: &[u8]) -> Result<usize, TextFaultKind>
-        requires reader { IsReader self.old }
-        requires mode { self.old.mode ≡ Mode.Between }
-        requires room { self.old.offset + length self.old.pending.items + length rest.now < 2 ^ 63 }
-        ensures { Took result self.old self.new rest.now }
-    {
-        let n = self.spaces(rest);
-        if n == rest.len() {
-            return Ok(n);
-        }
-        match self.after_spaces(&rest[n..]) {
-            Ok(m) => Ok(n + m),
-            Err(kind) => Err(kind),
-        }
-    }
-
-    /// Takes the blanks in front, of which none ends the line; there may be none.
-    #[inline(always)]
-    fn spaces(&mut self, rest: &[u8]) -> usize
-        requires reader { IsReader self.old }
-        requires mode { self.old.mode ≡ Mode.Between }
-        requires room { self.old.offset + length self.old.pending.items + length rest.now < 2 ^ 63 }
-        ensures advances { Advances self.old self.new rest.now result }
-        ensures mode { self.new.mode ≡ Mode.Between }
-    {
-        let n = space_len(rest);
-        self.offset += n as u64;
-        n
-    }
-
-    /// Takes the end of a line in front, or a whole token, and the cells where these are wanted then.
-    #[inline(always)]
-    fn after_spaces(&mut self, rest: &[u8]) -> Result<usize, TextFaultKind>
-        requires reader { IsReader self.old }
-        requires mode { self.old.mode ≡ Mode.Between }
-        requires some { 0 < length rest.now }
-        requires room { self.old.offset + length self.old.pending.items + length rest.now < 2 ^ 63 }
-        ensures { Took result self.old self.new rest.now }
-    {
-        if rest[0] == b'\n' {
-            self.end_line();
-            return Ok(1);
-        }
-        let begun = self.before_cells(rest)?;
-        match self.grammar.place {
-            Place::Cell { slot, index } => match self.cells(slot, index, &rest[begun..]) {
-                Ok(n) => Ok(begun + n),
-                Err(kind) => Err(kind),
-            },
-            _ => Ok(begun),
-        }
-    }
-
-    /// Takes the pair or the whole token in front, unless a cell is wanted. Answers how many bytes it has, and 0 where
-    /// nothing was taken.
-    #[inline(always)]
-    fn before_cells(&mut self, rest: &[u8]) -> Result<usize, TextFaultKind>
-        requires reader { IsReader self.old }
-        requires mode { self.old.mode ≡ Mode.Between }
-        requires some { 0 < length rest.now }
-        requires room { self.old.offset + length self.old.pending.items + length rest.now < 2 ^ 63 }
-        ensures took { Took result self.old self.new rest.now }
-        ensures mode { OnOk result (self.new.mode ≡ Mode.Between) }
-    {
-        let paired = match self.grammar.place {
-            Place::Cell { .. } => return Ok(0),
-            Place::AfterAccent { index } => self.pair(index, rest),
-            _ => 0,
-        };
-        if paired > 0 {
-            return Ok(paired);
-        }
-        self.token(rest)
-    }
-
-    /// Takes the pair of an accent in front, where it is seen whole. Answers how many bytes it has, and 0 where nothing
-    /// was taken.
-    #[inline(always)]
-    fn pair(&mut self, index: u8, rest: &[u8]) -> usize
-        requires reader { IsReader self.old }
-        requires mode { self.old.mode ≡ Mode.Between }
-        requires place { self.old.grammar.place ≡ Place.AfterAccent index }
-        requires some { 0 < length rest.now }
-        requires room { self.old.offset + length self.old.pending.items + length rest.now < 2 ^ 63 }
-        ensures taken { 0 < result → Advances self.old self.new rest.now result }
-        ensures none { result ≡ 0 → self.new ≡ self.old }
-        ensures mode { self.new.mode ≡ Mode.Between }
-    {
-        if rest[0] != b'(' || self.grammar.accent.pairs().len() >= PAIR_LIMIT {
-            return 0;
-        }
-        let Some((base, i)) = character_in_front(&rest[1..]) else {
-            return 0;
-        };
-        if base == '\0' {
-            return 0;
-        }
-        let Some((composed, j)) = character_in_front(&rest[1 + i..]) else {
-            return 0;
-        };
-        let end = 1 + i + j;
-        let n = close_in_front(&rest[end..]);
-        if n == 0 {
-            return 0;
-        }
-        push_pair(&mut self.grammar.accent, base, composed);
-        self.offset += (end + n) as u64;
-        end + n
-    }
-
-    /// Takes the end of a line where it is in front. Answers how many bytes that has, which is 1 or 0.
-    #[inline(always)]
-    fn line_end(&mut self, rest: &[u8]) -> usize
-        requires reader { IsReader self.old }
-        requires mode { self.old.mode ≡ Mode.Between }
-        requires room { self.old.offset + length self.old.pending.items + length rest.now < 2 ^ 63 }
-        ensures { Advances self.old self.new rest.now result }
-    {
-        if rest.is_empty() || rest[0] != b'\n' {
-            return 0;
-        }
-        self.end_line();
-        1
-    }
-
-    /// Takes the end of a line between tokens.
-    #[inline(always)]
-    fn end_line(&mut self)
-        requires reader { IsReader self.old }
-        requires mode { self.old.mode ≡ Mode.Between }
-        requires room { self.old.offset + length self.old.pending.items + 1 < 2 ^ 63 }
-        ensures { Advances self.old self.new (10 ∷ []) 1 }
-    {
-        self.line += 1;
-        self.offset += 1;
-    }
-
-    /// Takes the cells in front from this column on, each with the blanks before it, and behind the eighth the lock
-    /// letter and the end of the line. The place and the offset are kept only behind the last cell.
-    #[inline(always)]
-    fn cells(&mut self, slot: u8, first: u8, rest: &[u8]) -> Result<usize, TextFaultKind>
-        requires reader { IsReader self.old }
-        requires mode { self.old.mode ≡ Mode.Between }
-        requires place { self.old.grammar.place ≡ Place.Cell slot first }
-        requires index { first < column_count }
-        requires room { self.old.offset + length self.old.pending.items + length rest.now < 2 ^ 63 }
-        ensures { Took result self.old self.new rest.now }
-    {
-        let mut taken: usize = 0;
-        let mut index = first;
-        while index < 8 {
-            match self.next_cell(index, &rest[taken..]) {
-                Err(kind) => {
-                    self.offset += taken as u64;
-                    return Err(kind);
-                }
-                Ok(0) => {
-                    self.stop_at(slot, index, taken);
-                    return Ok(taken);
-                }
-                Ok(n) => {
-                    taken += n;
-                    index += 1;
-                }
-            }
-        }
-        self.stop_at(slot, index, taken);
-        taken += self.letter(slot, &rest[taken..]);
-        Ok(taken + self.line_end(&rest[taken..]))
-    }
-
-    /// Takes the lock letter in front, where it is seen whole. Answers how many bytes it has with the blanks before it,
-    /// and 0 where nothing was taken.
-    #[inline(always)]
-    fn letter(&mut self, slot: u8, rest: &[u8]) -> usize
-        requires reader { IsReader self.old }
-        requires mode { self.old.mode ≡ Mode.Between }
-        requires place { self.old.grammar.place ≡ Place.Lock slot }
-        requires room { self.old.offset + length self.old.pending.items + length rest.now < 2 ^ 63 }
-        ensures taken { 0 < result → Advances self.old self.new rest.now result }
-        ensures none { result ≡ 0 → self.new ≡ self.old }
-        ensures mode { self.new.mode ≡ Mode.Between }
-    {
-        let blanks = space_len(rest);
-        if blanks == rest.len() {
-            return 0;
-        }
-        match whole_token(&rest[blanks..]) {
-            None => 0,
-            Some((item, n)) => match lock_of(&item) {
-                Ok(flag) => {
-                    self.grammar.close_entry(&mut self.map, slot, flag);
-                    self.offset += (blanks + n) as u64;
-                    blanks + n
-                }
-                Err(_) => 0,
-            },
-        }
-    }
-
-    /// Keeps the place of the next cell, or of the lock letter, and the offset so many bytes on.
-    #[inline(always)]
-    fn stop_at(&mut self, slot: u8, index: u8, taken: usize)
-        requires { self.old.offset + taken < 2 ^ 63 }
-        ensures { self.new ≡ moved self.old (cell_place slot index) (self.old.offset + taken) }
-    {
-        self.grammar.place = if index == 8 {
-            Place::Lock { slot }
-        } else {
-            Place::Cell { slot, index }
-        };
-        self.offset += taken as u64;
-    }
-
-    /// Takes the cell in front and the blanks before it, but for place and offset. Answers how many bytes these have,
-    /// and 0 where the bytes show none that is whole. At a fault the offset is as far on as the blanks.
-    #[inline(always)]
-    fn next_cell(&mut self, index: u8, rest: &[u8]) -> Result<usize, TextFaultKind>
-        requires index { index < column_count }
-        requires mode { self.old.mode ≡ Mode.Between }
-        requires room { self.old.offset + length rest.now < 2 ^ 63 }
-        ensures { TookCell result self.old self.new index rest.now }
-    {
-        let blanks = space_len(rest);
-        if blanks == rest.len() {
-            return Ok(0);
-        }
-        match whole_token(&rest[blanks..]) {
-            None => Ok(0),
-            Some((item, n)) => match cell_of(&item) {
-                Ok(cell) => {
-                    self.grammar.entry.cells[index as usize] = cell;
-                    Ok(blanks + n)
-                }
-                Err(kind) => {
-                    self.offset += blanks as u64;
-                    Err(kind)
-                }
-            },
-        }
-    }
-
-    /// Takes the whole token in front. Answers how many bytes it has, and 0 where the bytes show none that is whole.
-    #[inline(always)]
-    fn token(&mut self, rest: &[u8]) -> Result<usize, TextFaultKind>
-        requires reader { IsReader self.old }
-        requires mode { self.old.mode ≡ Mode.Between }
-        requires some { 0 < length rest.now }
-        requires room { self.old.offset + length self.old.pending.items + length rest.now < 2 ^ 63 }
-        ensures took { Took result self.old self.new rest.now }
-        ensures mode { OnOk result (self.new.mode ≡ Mode.Between) }
-    {
-        match whole_token(rest) {
-            None => Ok(0),
-            Some((item, n)) => match self.grammar.accept(&mut self.map, &item) {
-                Ok(()) => {
-                    self.offset += n as u64;
-                    Ok(n)
-                }
-                Err(kind) => Err(kind),
-            },
-        }
-    }
-
-    /// Takes the next byte.
-    #[inline(never)]
-    fn take(&mut self, c: u8) -> Result<(), TextFault>
-        requires reader { IsReader self.old }
-        requires room { self.old.offset + length self.old.pending.items + 1 < 2 ^ 63 }
-        ensures { Takes result self.old self.new (c ∷ []) }
-    {
-        match self.mode {
-            Mode::Between => self.begin(c),
-            Mode::Comment => {
-                self.pass(c);
-                Ok(())
-            }
-            Mode::Word => self.word_byte(c),
-            Mode::Literal => self.literal_byte(c),
-        }
-    }
-
-    /// A byte of a comment, or the end of its line.
-    fn pass(&mut self, c: u8)
-        requires reader { IsReader self.old }
-        requires mode { self.old.mode ≡ Mode.Comment }
-        requires room { self.old.offset + length self.old.pending.items + 1 < 2 ^ 63 }
-        ensures { Advances self.old self.new (c ∷ []) 1 }
-    {
-        self.mode = mode_in_comment(c);
-        self.line = next_line(self.line, c);
-        self.offset += 1;
-    }
-
-    /// The first byte after a token.
-    fn begin(&mut self, c: u8) -> Result<(), TextFault>
-        requires reader { IsReader self.old }
-        requires mode { self.old.mode ≡ Mode.Between }
-        requires room { self.old.offset + length self.old.pending.items + 1 < 2 ^ 63 }
-        ensures { Takes result self.old self.new (c ∷ []) }
-    {
-        if is_blank_byte(c) {
-            self.line = next_line(self.line, c);
-            self.offset += 1;
-            return Ok(());
-        }
-        match c {
-            b'#' => {
-                self.mode = Mode::Comment;
-                self.offset += 1;
-                Ok(())
-            }
-            b'(' => self.accept(Item::Open, 1),
-            b')' => self.accept(Item::Close, 1),
-            b'\'' => {
-                self.mode = Mode::Literal;
-                self.pending.push(c);
-                Ok(())
-            }
-            _ => self.begin_word(c),
-        }
-    }
-
-    fn begin_word(&mut self, c: u8) -> Result<(), TextFault>
-        requires reader { IsReader self.old }
-        requires mode { self.old.mode ≡ Mode.Between }
-        requires byte { HasNoRole c }
-        ensures { Takes result self.old self.new (c ∷ []) }
-    {
-        if !is_word_byte(c) {
-            return Err(fault(TextFaultKind::BadByte, self.offset, self.line));
-        }
-        self.mode = Mode::Word;
-        self.pending.push(c);
-        Ok(())
-    }
-
-    fn pending_item(&self, kind: TokenKind) -> Item
-        ensures { result ≡ item kind self.now.pending.items }
-    {
-        item_of(kind, self.pending.as_slice())
-    }
-
-    fn pending_literal(&self) -> Front
-        requires { 0 < length self.now.pending.items }
-        ensures value { front_view result ≡ literal (drop 1 self.now.pending.items) }
-        ensures fits { FoundFits result (length (drop 1 self.now.pending.items)) }
-    {
-        literal_front(&self.pending.as_slice()[1..])
-    }
-
-    /// Takes a whole token of n bytes, of which none is pending then.
-    #[inline(never)]
-    #[tactic(auto, unfolding(crate::specs::Inner::Grammar::accept))]
-    fn accept(&mut self, item: Item, n: u64) -> Result<(), TextFault>
-        requires place { IsPlace self.old.grammar.place self.old.grammar.accent }
-        requires low { self.old.line ≤ self.old.offset + 1 }
-        requires room { self.old.offset + n < 2 ^ 63 }
-        ensures accepts { Accepts result (spec.accept (state_view self.old) item) self.old.offset self.new
-            (self.old.offset + n) }
-        ensures reader { OnOk result (IsReader self.new) }
-        ensures fed { OnOk result (self.new.pending.items ≡ []) }
-        ensures line { OnOk result (self.new.line ≡ self.old.line) }
-        ensures fault_line { IfErr result (λ e. e.line ≡ self.old.line) }
-    {
-        match self.grammar.accept(&mut self.map, &item) {
-            Ok(()) => {
-                self.mode = Mode::Between;
-                self.pending.clear();
-                self.offset += n;
-                Ok(())
-            }
-            Err(kind) => Err(fault(kind, self.offset, self.line)),
-        }
-    }
-
-    /// The next byte, where a word is pending.
-    fn word_byte(&mut self, c: u8) -> Result<(), TextFault>
-        requires reader { IsReader self.old }
-        requires mode { self.old.mode ≡ Mode.Word }
-        requires room { self.old.offset + length self.old.pending.items + 1 < 2 ^ 63 }
-        ensures { Takes result self.old self.new (c ∷ []) }
-    {
-        if !is_word_byte(c) {
-            return match self.end_word() {
-                Ok(()) => self.begin(c),
-                Err(f) => Err(f),
-            };
-        }
-        if self.pending.is_full() {
-            return Err(fault(TextFaultKind::BadWord, self.offset, self.line));
-        }
-        self.pending.push(c);
-        Ok(())
-    }
-
-    /// The pending word is whole.
-    fn end_word(&mut self) -> Result<(), TextFault>
-        requires reader { IsReader self.old }
-        requires mode { self.old.mode ≡ Mode.Word }
-        requires room { self.old.offset + length self.old.pending.items < 2 ^ 63 }
-        ensures accepts { Accepts result (spec.accept (state_view self.old)
-            (Item.Value (meaning self.old.pending.items))) self.old.offset self.new
-            (self.old.offset + length self.old.pending.items) }
-        ensures reader { OnOk result (IsReader self.new) }
-        ensures fed { OnOk result (self.new.pending.items ≡ []) }
-        ensures line { OnOk result (self.new.line ≡ self.old.line) }
-        ensures fault_line { IfErr result (λ e. e.line ≡ self.old.line) }
-    {
-        let item = self.pending_item(TokenKind::Word);
-        let n = self.pending.len() as u64;
-        self.accept(item, n)
-    }
-
-    /// The next byte, where a quoted character is pending.
-    fn literal_byte(&mut self, c: u8) -> Result<(), TextFault>
-        requires reader { IsReader self.old }
-        requires mode { self.old.mode ≡ Mode.Literal }
-        requires room { self.old.offset + length self.old.pending.items + 1 < 2 ^ 63 }
-        ensures { Takes result self.old self.new (c ∷ []) }
-    {
-        self.pending.push(c);
-        match self.pending_literal() {
-            Front::Unfinished => Ok(()),
-            Front::Refused(kind) => Err(fault(kind, self.offset, self.line)),
-            Front::Found(kind, _) => {
-                let item = self.pending_item(kind);
-                let n = self.pending.len() as u64;
-                self.accept(item, n)
+            Ok(n) => {
+                taken += n;
+                index += 1;
             }
         }
     }
+    grammar.place = Place::Lock { slot };
+    let lettered = letter(grammar, into, slot, &rest[taken..]);
+    taken += lettered;
+    Ok(taken + line_end(&rest[taken..]))
+}
 
-    /// The text ends between two tokens.
-    fn end(mut self) -> Result<KeyMap, TextFault>
-        requires { IsPlace self.grammar.place self.grammar.accent }
-        ensures says { Says result (ended (spec.at_end (state_view self)) self.offset) }
-        ensures line { IfErr result (λ e. e.line ≡ self.line) }
-        ensures place { IfErr result (λ e. e.offset ≡ self.offset) }
-    {
-        match self.grammar.finish(&mut self.map) {
-            Ok(()) => Ok(self.map),
-            Err(kind) => Err(fault(kind, self.offset, self.line)),
+/// Takes the lock letter in front, where it is seen whole. Answers how many bytes it has with the blanks before it,
+/// and 0 where nothing was taken.
+#[inline(always)]
+fn letter<D: Definitions>(grammar: &mut Grammar, into: &mut D, slot: u8, rest: &[u8]) -> usize
+    requires { grammar.old.place ≡ Place.Lock slot }
+    ensures takes { Takes D.shows into.old into.new (Ok result) grammar.old grammar.new rest.now }
+    ensures leaves { Leaves (Ok result) grammar.new rest.now }
+{
+    let blanks = space_len(rest);
+    if blanks == rest.len() {
+        return 0;
+    }
+    match whole_token(&rest[blanks..]) {
+        None => 0,
+        Some((item, n)) => match lock_of(&item) {
+            Ok(flag) => {
+                grammar.close_entry(into, slot, flag);
+                blanks + n
+            }
+            Err(_) => 0,
+        },
+    }
+}
+
+/// How many bytes the end of a line in front has: 1, or 0 where there is none.
+#[inline(always)]
+fn line_end(rest: &[u8]) -> usize
+    ensures advances { (s : GrammarState) → Advances s s rest.now result }
+    ensures inside { result ≤ length rest.now }
+{
+    if rest.is_empty() {
+        return 0;
+    }
+    if rest[0] == b'\n' { 1 } else { 0 }
+}
+
+/// Takes the cell in front and the blanks before it, but for the place. Answers how many bytes these have, and 0 where
+/// the bytes show none that is whole.
+#[inline(always)]
+fn next_cell(grammar: &mut Grammar, index: u8, rest: &[u8]) -> Result<usize, Stop>
+    requires { index < column_count }
+    ensures took { TookCell result grammar.old grammar.new index rest.now }
+    ensures fits { Fits result rest.now }
+{
+    let blanks = space_len(rest);
+    if blanks == rest.len() {
+        return Ok(0);
+    }
+    match whole_token(&rest[blanks..]) {
+        None => Ok(0),
+        Some((item, n)) => match cell_of(&item) {
+            Ok(cell) => {
+                grammar.entry.cells[index as usize] = cell;
+                Ok(blanks + n)
+            }
+            Err(kind) => Err(Stop { kind, at: blanks }),
+        },
+    }
+}
+
+/// Takes the whole token in front. Answers how many bytes it has, and 0 where it isn't seen at once.
+#[inline(always)]
+fn token<D: Definitions>(grammar: &mut Grammar, into: &mut D, rest: &[u8]) -> Result<usize, Stop>
+    requires place { IsPlace grammar.old.place grammar.old.accent }
+    requires some { 0 < length rest.now }
+    ensures takes { Takes D.shows into.old into.new result grammar.old grammar.new rest.now }
+    ensures leaves { Leaves result grammar.new rest.now }
+{
+    match whole_token(rest) {
+        None => Ok(0),
+        Some((item, n)) => match grammar.accept(into, &item) {
+            Ok(()) => Ok(n),
+            Err(kind) => Err(Stop { kind, at: 0 }),
+        },
+    }
+}
+
+/// Takes the blank, comment or token in front. Answers how many bytes it has, and 0 where the bytes break it off.
+#[inline(never)]
+fn other<D: Definitions>(grammar: &mut Grammar, into: &mut D, rest: &[u8]) -> Result<usize, Stop>
+    requires place { IsPlace grammar.old.place grammar.old.accent }
+    requires some { 0 < length rest.now }
+    ensures takes { Takes D.shows into.old into.new result grammar.old grammar.new rest.now }
+    ensures leaves { Leaves result grammar.new rest.now }
+    ensures open { result ≡ Ok 0 → IsOpen rest.now }
+{
+    if is_blank_byte(rest[0]) {
+        return Ok(1);
+    }
+    if rest[0] != b'#' {
+        return next(grammar, into, rest);
+    }
+    let n = line_len(rest);
+    if n < rest.len() { Ok(n) } else { Ok(0) }
+}
+
+/// Is a token of these first bytes whole? A word at the end may go on.
+#[inline(always)]
+fn is_whole(kind: TokenKind, size: usize, rest: &[u8]) -> bool
+    requires { size ≤ length rest.now }
+    ensures whole { result ≡ true → kind ≡ Word → size < length rest.now }
+    ensures open { result ≡ false → (kind ≡ Word) × (size ≡ length rest.now) }
+{
+    match kind {
+        TokenKind::Word => size < rest.len(),
+        _ => true,
+    }
+}
+
+/// Takes the token in front. Answers how many bytes it has, and 0 where the bytes break it off.
+pub(crate) fn next<D: Definitions>(
+    grammar: &mut Grammar,
+    into: &mut D,
+    rest: &[u8],
+) -> Result<usize, Stop>
+    requires place { IsPlace grammar.old.place grammar.old.accent }
+    requires some { 0 < length rest.now }
+    requires stands { IsFalse (separates (slice_index rest.now 0)) }
+    ensures takes { Takes D.shows into.old into.new result grammar.old grammar.new rest.now }
+    ensures leaves { Leaves result grammar.new rest.now }
+    ensures open { result ≡ Ok 0 → IsOpen rest.now }
+    ensures found { IfOk result (λ n. 0 < n → (kind : TokenKindValue)
+        × (front_of (slice_index rest.now 0) (drop 1 rest.now) ≡ Found kind (n - 1))) }
+    ensures at { IfErr result (λ e. e.at ≡ 0) }
+{
+    match token_front(rest) {
+        Front::Found(kind, n) => {
+            let end = n + 1;
+            if !is_whole(kind, end, rest) {
+                return Ok(0);
+            }
+            match grammar.accept(into, &item_of(kind, &rest[..end])) {
+                Ok(()) => Ok(end),
+                Err(kind) => Err(Stop { kind, at: 0 }),
+            }
         }
+        Front::Refused(kind) => Err(Stop { kind, at: 0 }),
+        Front::Unfinished => Ok(0),
+    }
+}
+
+/// Takes the last word of a text, where these bytes, which show no whole token, are one.
+fn last_word<D: Definitions>(grammar: &mut Grammar, into: &mut D, tail: &[u8]) -> Result<(), Stop>
+    requires place { IsPlace grammar.old.place grammar.old.accent }
+    requires open { IsOpen tail.now }
+    ensures takes { TakesLast D.shows into.old into.new result grammar.old grammar.new tail.now }
+    ensures place { OnOk result (IsPlace grammar.new.place grammar.new.accent) }
+    ensures inside { IfErr result (λ e. e.at ≤ length tail.now) }
+{
+    if tail.is_empty() {
+        return Ok(());
+    }
+    if tail[0] == b'#' {
+        return Ok(());
+    }
+    match token_front(tail) {
+        Front::Found(kind, _) => match grammar.accept(into, &item_of(kind, tail)) {
+            Ok(()) => Ok(()),
+            Err(kind) => Err(Stop { kind, at: 0 }),
+        },
+        Front::Refused(kind) => Err(Stop { kind, at: 0 }),
+        Front::Unfinished => Err(Stop {
+            kind: TextFaultKind::EndInside,
+            at: tail.len(),
+        }),
+    }
+}
+
+/// The text ends behind these bytes, which show no whole token.
+pub(crate) fn end<D: Definitions>(
+    grammar: &mut Grammar,
+    into: &mut D,
+    tail: &[u8],
+) -> Result<(), Stop>
+    requires place { IsPlace grammar.old.place grammar.old.accent }
+    requires open { IsOpen tail.now }
+    ensures ends { Ends D.shows into.old into.new result grammar.old tail.now }
+    ensures inside { IfErr result (λ e. e.at ≤ length tail.now) }
+{
+    last_word(grammar, into, tail)?;
+    match grammar.finish(into) {
+        Ok(()) => Ok(()),
+        Err(kind) => Err(Stop {
+            kind,
+            at: tail.len(),
+        }),
     }
 }

@@ -1,7 +1,7 @@
 //! Tokens of a text: where blanks, words and quoted characters end. It sees bytes, and knows neither what a word means
 //! nor which token may come next.
 ghost use Rattle.std.specs.Prelude.{◌≡◌, ◌+◌, ◌<◌, ◌≤◌, ◌==◌, length, drop, slice_index, if◌then◌else◌, IsFalse, IfOk};
-ghost use Rattle.std.specs.Prelude.{IfSome, IfErr};
+ghost use Rattle.std.specs.Prelude.{IfSome, IfErr, count_by, ◌^◌};
 ghost use Rattle.keymap_text.specs.Lexical as lexical;
 ghost use Rattle.keymap_text.specs.Inner.Keys.{first_of_sixteen};
 ghost use Rattle.keymap_text.specs.Lexical.{is_blank, is_space, is_word, stays_on_line, separates, leading, is_lone};
@@ -243,6 +243,38 @@ pub(crate) fn line_len(bytes: &[u8]) -> usize
     }
 }
 
+/// How many LFs stand in few bytes: a sum in a byte is one that is made sixteen bytes at once.
+fn few_line_feeds(bytes: &[u8]) -> u8
+    requires { length bytes.now < 256 }
+    ensures { result ≡ count_by (λ c. c == 10) bytes.now }
+{
+    let mut n: u8 = 0;
+    for c in bytes {
+        if *c == b'\n' {
+            n += 1;
+        }
+    }
+    n
+}
+
+/// How many bytes are counted at once.
+const RUN: usize = 192;
+
+/// How many LFs stand in bytes.
+pub(crate) fn line_feeds(bytes: &[u8]) -> u64
+    requires { length bytes.now < 2 ^ 63 }
+    ensures value { result ≡ count_by (λ c. c == 10) bytes.now }
+    ensures bound { result ≤ length bytes.now }
+{
+    let mut n: u64 = 0;
+    let mut i: usize = 0;
+    while i + RUN < bytes.len() {
+        n += few_line_feeds(&bytes[i..i + RUN]) as u64;
+        i += RUN;
+    }
+    n + few_line_feeds(&bytes[i..]) as u64
+}
+
 /// The place of the line's end, at `at` or after it.
 pub(crate) fn line_end(text: &[u8], at: usize) -> usize
     requires { at ≤ length text.now }
@@ -305,7 +337,7 @@ fn quoted_front(bytes: &[u8]) -> Front
 /// What stands at the front of some bytes that begin with neither a blank nor a comment.
 #[inline(always)]
 #[tactic(auto, unfolding(crate::specs::Lexical::front_of))]
-fn token_front(bytes: &[u8]) -> Front
+pub(crate) fn token_front(bytes: &[u8]) -> Front
     requires some { 0 < length bytes.now }
     requires stands { IsFalse (separates (slice_index bytes.now 0)) }
     ensures value { front_view result ≡ front_of (slice_index bytes.now 0) (drop 1 bytes.now) }

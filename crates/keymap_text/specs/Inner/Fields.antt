@@ -7,19 +7,18 @@ use Rattle.keymap_text.specs.Inner.Views.{state_view}
 
 abbrev pub progress : Inside → Progress
 progress r = record {
-  state = state_view r.scanner;
-  mode = r.scanner.mode;
-  pending = r.scanner.pending.items;
-  offset = r.scanner.offset;
-  line = r.scanner.line;
+  state = state_view r.reading;
+  pending = r.reading.pending.items;
+  offset = r.reading.offset;
+  line = r.reading.line;
   fed = r.fed;
   fault = r.fault;
 }
 
--- Without a fault the scanner may go on.
+-- Without a fault it may go on.
 pub record GoesOn (r : Inside) : Type 0 where
-  pub reader : IsReader r.scanner
-  pub fed : r.scanner.offset + length r.scanner.pending.items ≡ r.fed
+  pub reader : IsReader r.reading
+  pub fed : r.reading.offset + length r.reading.pending.items ≡ r.fed
   pub room : r.fed < 2 ^ 63
 
 abbrev pub IsSound : Inside → Type 0

@@ -1,5 +1,5 @@
 -- How values of the code are seen by the definitions. Mirrors the types `Front` of src/token.rt, `Place` and `Grammar`
--- of src/grammar.rt, and `Scanner` of src/scanner.rt.
+-- of src/grammar.rt, and `Reading` of src/reading.rt.
 use Rattle.std.specs.Prelude.{◌≡◌, ◌≢◌, ℕ, ◌≤◌, ◌<◌, length, Option, Some, None, Result, Ok, Err}
 use Rattle.keymap_text.specs.declared.fault.TextFaultKind.{TextFaultKind}
 use Rattle.keymap_text.specs.declared.fault.TextFaultKind.TheVariants.{EndInside}
@@ -10,11 +10,13 @@ use Rattle.keymap_core.specs.declared.entry.Entry.{Entry}
 use Rattle.keymap_text.specs.declared.grammar.Place.{Place}
 use Rattle.keymap_text.specs.declared.grammar.Place.TheVariants as places
 use Rattle.keymap_text.specs.declared.grammar.Grammar.{Grammar}
-use Rattle.keymap_text.specs.declared.scanner.Scanner.{Scanner}
+use Rattle.keymap_text.specs.declared.reading.Reading.{Reading}
 use Rattle.keymap_core.specs.Accents.{AccentValue}
 use Rattle.keymap_core.specs.Maps.{MapValue, undefined}
 use Rattle.keymap_core.specs.Numbers.{column_count, accent_limit, pair_limit}
 use Rattle.keymap_text.specs.Inner.Grammar as spec
+use Rattle.keymap_text.specs.Places.{RowPlace, AtDefinition, AtCell, AtLock, AtAccentCharacter, AfterPairs, AtBase, AtResult}
+use Rattle.keymap_text.specs.Places.{AtPairEnd}
 
 abbrev pub front_view : Front → lexical.Front
 front_view (fronts.Found kind n) = lexical.Found kind n
@@ -41,7 +43,7 @@ abbrev pub grammar_view : Grammar → spec.GrammarPlace
 grammar_view g = place_view g.place g.entry g.accent
 
 -- with the map so far
-abbrev pub state_view : Scanner → spec.GrammarState
+abbrev pub state_view : Reading → spec.GrammarState
 state_view r = spec.at r.map (grammar_view r.grammar)
 
 -- the indices that places may have
@@ -77,3 +79,14 @@ EndsInto shows d (Err f) r = (r ≡ None) × (f ≡ EndInside)
 abbrev pub Leads : Result Place TextFaultKind → Result spec.GrammarPlace TextFaultKind → Type 0
 Leads (Ok p) r = ((a : AccentValue) → r ≡ Ok (place_view p undefined a)) × ((a : AccentValue) → IsPlace p a)
 Leads (Err f) r = r ≡ Err f
+
+-- a place without what it holds of the map
+abbrev pub place_of : spec.GrammarPlace → RowPlace
+place_of spec.Definition = AtDefinition
+place_of (spec.CellAt slot i e) = AtCell i
+place_of (spec.LockAt slot e) = AtLock
+place_of (spec.AccentCharacter i) = AtAccentCharacter
+place_of (spec.AfterAccent i a) = AfterPairs (length a.pairs)
+place_of (spec.PairBase i a) = AtBase (length a.pairs)
+place_of (spec.PairResult i a b) = AtResult (length a.pairs)
+place_of (spec.PairEnd i a b r) = AtPairEnd (length a.pairs)

@@ -1,5 +1,6 @@
 use Rattle.std.proofs.Common.{sym, ◌∙◌, refl}
-use Rattle.keymap_text.proofs.Runs.{behind_first, behind_some, right_fronts}
+use Rattle.keymap_text.proofs.Fronts.{right_fronts}
+use Rattle.keymap_text.proofs.Scanning.{behind_some, behind_first}
 use Rattle.keymap_text.proofs.scanner.close_in_front.Goals as goal
 
 pub returns-then-rest-blanks-eq41 : goal.returns-then-rest-blanks-eq41

@@ -1,5 +1,5 @@
 use Rattle.std.proofs.Common.{arith}
-use Rattle.keymap_text.proofs.Runs.{quoted_fronts, left_fronts, right_fronts}
+use Rattle.keymap_text.proofs.Fronts.{quoted_fronts, left_fronts, right_fronts}
 use Rattle.keymap_text.proofs.scanner.whole_token.Goals as goal
 
 pub returns-else-rest-ne39 : goal.returns-else-rest-ne39

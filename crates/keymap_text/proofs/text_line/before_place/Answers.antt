@@ -1,14 +1,13 @@
-use Rattle.keymap_text.proofs.BlockPlaces.{has_start, start_of_block, before_is}
+use Rattle.std.proofs.Common.{◌+◌}
+use Rattle.keymap_text.proofs.LineStarts.{before_is, found_end, on_line}
 use Rattle.keymap_text.proofs.text_line.before_place.Goals as goal
-
-pub bounds-starts-block : goal.bounds-starts-block
-bounds-starts-block c =
-    has_start c.args.text.now c.args.starts.now c.args.place c.requires.starts c.requires.place
-
-pub line_start-start-requires-clause-start : goal.line_start-start-requires-clause-start
-line_start-start-requires-clause-start c =
-    start_of_block c.args.text.now c.args.starts.now c.args.place 0 c.requires.starts c.requires.place
 
 pub returns : goal.returns
 returns c =
-    before_is c.args.text.now c.line_start-start.result c.args.place c.requires.place c.line_start-start.ensures
+    let i = c.line_index.result in
+    let b = c.args.text.now in
+    let ss = c.args.starts.now in
+    let e = c.line_index.ensures in
+    before_is b _ c.args.place c.requires.place
+    (on_line b (i + 1) _ c.args.place (c.requires.starts.lines.each i e.inside) e.begins
+    (found_end b ss i c.args.place c.requires.starts e.inside e.begins e.next c.requires.place) c.requires.place)

@@ -1,11 +1,28 @@
-use Rattle.std.proofs.Common.{◌+◌, ◌/◌}
-use Rattle.keymap_text.proofs.BlockPlaces.{block_within, end_of_block}
+use Rattle.std.proofs.Common.{◌≡◌, ◌-◌, length, get_or, arith, ap}
+use Rattle.keymap_text.specs.LineOf.{line_end}
+use Rattle.keymap_text.proofs.LineStarts.{end_of_place}
 use Rattle.keymap_text.proofs.text_line.end_at.Goals as goal
 
-pub line_end_before-requires-clause-within : goal.line_end_before-requires-clause-within
-line_end_before-requires-clause-within c =
-    block_within c.args.text.now c.args.ends.now (c.args.place / 256 + 1) c.requires.ends c.if-next-ends.true
+pub returns-then-next-starts-clause-value : goal.returns-then-next-starts-clause-value
+returns-then-next-starts-clause-value c =
+    let i = c.line_index-next.result in
+    let b = c.args.text.now in
+    let ss = c.args.starts.now in
+    let e = c.line_index-next.ensures in
+    let next = c.requires.starts.lines.next i c.if-next-starts.true in
+    omega (arith, next, end_of_place b ss i c.args.place c.requires.starts e.inside e.begins e.next c.requires.place)
 
-pub line_end_before-requires-clause-end : goal.line_end_before-requires-clause-end
-line_end_before-requires-clause-end c =
-    end_of_block c.args.text.now c.args.ends.now (c.args.place / 256 + 1) 0 c.requires.ends c.if-next-ends.true
+pub returns-else-next-starts-clause-value : goal.returns-else-next-starts-clause-value
+returns-else-next-starts-clause-value c =
+    let i = c.line_index-next.result in
+    let b = c.args.text.now in
+    let ss = c.args.starts.now in
+    let e = c.line_index-next.ensures in
+    let k : length ss - 1 ≡ i = omega (arith, c.if-next-starts.false, e.inside) in
+    let last = ap (λ k. line_end b (get_or ss k 0)) k in
+    omega (
+      arith,
+      last,
+      c.requires.starts.last,
+      end_of_place b ss i c.args.place c.requires.starts e.inside e.begins e.next c.requires.place,
+    )

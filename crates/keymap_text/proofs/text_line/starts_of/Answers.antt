@@ -1,26 +1,41 @@
-use Rattle.std.proofs.Common.{◌≡◌, ◌+◌, ◌*◌, ◌/◌, length, ap, arith, ◌∙◌}
-use Rattle.std.specs.Prelude.{map}
-use Rattle.std.specs.List.{range_with_len}
-use Rattle.keymap_text.specs.LineOf.{block_starts, block_size, line_start}
-use Rattle.keymap_text.proofs.BlockPlaces.{entry_more, start_is}
+use Rattle.std.proofs.Common.{◌≡◌, ◌+◌, ◌-◌, List, ℕ, [], ◌∷◌, ◌++◌, length, get_or, sym, ◌∙◌, ap, subst, arith, length-append}
+use Rattle.std.proofs.Math.Seq.{get_or-append_seam}
+use Rattle.keymap_text.specs.LineOf.{AreStarts, line_end}
+use Rattle.keymap_text.proofs.LineStarts.{first_start, start_pushed, end_within}
 use Rattle.keymap_text.proofs.text_line.starts_of.Goals as goal
 
-pub loop-block-preserved : goal.loop-block-preserved
-loop-block-preserved c =
+pub loop-end-init : goal.loop-end-init
+loop-end-init c =
+    let items : c.push.new.self.items ≡ 0 ∷ [] = c.in_ok-push.ensures.items ∙ ap (λ (t : List ℕ). t ++ 0 ∷ []) c.new-starts.ensures.items in
     record {
-      from = omega arith;
-      start = c.line_start-start.ensures;
-      starts =
-          entry_more (λ i. line_start c.args.text.now (i * block_size)) c.loop-block.starts.items _ c.loop-block.block
-          c.line_start-start.result c.loop-block.invariant.starts
-          (start_is c.args.text.now c.line_start-start.result (c.loop-block.block * 256) c.line_start-start.ensures)
-          c.in_ok-push.ensures.items;
+      starts = subst (λ (t : List ℕ). AreStarts c.args.text.now t) (sym items) (first_start c.args.text.now);
+      end = c.line_end-end.ensures.value
+          ∙ sym (ap (λ (t : List ℕ). line_end c.args.text.now (get_or t (length t - 1) 0)) items);
+    }
+
+pub loop-end-preserved : goal.loop-end-preserved
+loop-end-preserved c =
+    let l = c.loop-end in
+    let b = c.args.text.now in
+    let new = c.push-in-loop-end.new.self.items in
+    let last : get_or new (length new - 1) 0 ≡ l.end + 1 =
+    ap (λ (t : List ℕ). get_or t (length t - 1) 0) c.in_ok-push-2.ensures.items
+    ∙ ap (λ n. get_or (l.starts.items ++ (l.end + 1) ∷ []) n 0)
+    (omega (arith, length-append l.starts.items ((l.end + 1) ∷ [])))
+    ∙ get_or-append_seam l.starts.items (l.end + 1) [] 0 in
+    record {
+      starts = start_pushed b l.starts.items new l.end l.invariant.starts l.invariant.end c.loop-end-test.true
+          c.in_ok-push-2.ensures.items;
+      end = c.line_end-end-in-loop-end.ensures.value ∙ ap (line_end b) (sym last);
     }
 
 pub returns : goal.returns
-unfolding block_starts
 returns c =
-    let e : c.loop-block.block ≡ length c.args.text.now / 256 + 1 =
-    omega (arith, c.loop-block-test.false, c.loop-block.auto.block-end) in
-    c.loop-block.invariant.starts
-    ∙ ap (λ n. map (λ i. line_start c.args.text.now (i * block_size)) (range_with_len 0 n)) e
+    let l = c.loop-end in
+    let b = c.args.text.now in
+    let k = length l.starts.items - 1 in
+    let each = l.invariant.starts.each k (omega (arith, l.invariant.starts.some)) in
+    record {
+      lines = l.invariant.starts;
+      last = omega (arith, l.invariant.end, c.loop-end-test.false, end_within b (k + 1) (get_or l.starts.items k 0) each);
+    }

@@ -1,19 +1,33 @@
-use Rattle.std.proofs.Common.{sym, ◌∙◌}
+use Rattle.std.proofs.Common.{refl, sym, ◌∙◌, ap, subst, IsErr, arith}
 use Rattle.keymap_text.specs.Tokens.{token_view}
+use Rattle.keymap_text.specs.Inner.Grammar.{empty_map}
 use Rattle.keymap_text.specs.Inner.Placed.{tokens_from}
-use Rattle.keymap_text.specs.Wanted.{row_place}
+use Rattle.keymap_text.specs.Inner.Views.{grammar_view, place_of}
+use Rattle.keymap_text.specs.Wanted.{definition_behind}
+use Rattle.keymap_text.proofs.Faults.{step_led, led}
 use Rattle.keymap_text.proofs.WantedPlace.{reached_end, reached_on, reached_fault}
 use Rattle.keymap_text.proofs.wanted.wanted_at_fault.Goals as goal
 
-pub returns-in_default-wanted_behind : goal.returns-in_default-wanted_behind
-returns-in_default-wanted_behind c =
+pub loop-token-init : goal.loop-token-init
+loop-token-init c = record {
+  within = omega arith;
+  place = rw c.new-grammar.ensures tt;
+  reached = rw c.new-grammar.ensures refl;
+}
+
+pub returns-in-Err : goal.returns-in-Err
+returns-in-Err c =
     let text = c.args.text.now in
     let l = c.loop-token in
     let t = c.in-Some.token in
     let f = c.in-Some.ensures in
-    sym (reached_fault (row_place l.wanted) l.definition l.at c.item_of-item.result (token_view text t)
+    let p = place_of (grammar_view l.grammar) in
+    let refused = step_led empty_map (grammar_view l.grammar) c.item_of-item.result
+    ∙ ap led (c.in-Err.ensures.steps empty_map tt) in
+    ap (λ p. (p, l.definition, l.at)) c.wanted_at-wanted.ensures
+    ∙ sym (reached_fault p l.definition l.at c.item_of-item.result (token_view text t)
     (tokens_from text t.span.end) (tokens_from text l.at) f.others c.item_of-item.ensures
-    c.in_default-wanted_behind.ensures)
+    (subst IsErr (sym refused) refl))
     ∙ l.invariant.reached
 
 pub loop-token-preserved : goal.loop-token-preserved
@@ -22,20 +36,25 @@ loop-token-preserved c =
     let l = c.loop-token in
     let t = c.in-Some.token in
     let f = c.in-Some.ensures in
-    let next = c.in-Some-wanted_behind in
+    let p = place_of (grammar_view l.grammar) in
+    let s = c.in-Ok.ensures.steps empty_map tt in
     record {
       within = f.within;
-      wanted = next.ensures.1;
+      place = c.in-Ok.ensures.place;
       reached =
-          sym (reached_on (row_place l.wanted) (row_place next.next) l.definition c.definition_after-definition.result
-          l.at c.item_of-item.result (token_view text t) t.span (tokens_from text t.span.end) (tokens_from text l.at)
-          f.others
-          c.item_of-item.ensures next.ensures.0 c.definition_after-definition.ensures f.span)
+          sym (reached_on p (place_of (grammar_view c.accept.new.self)) l.definition
+          c.definition_after-definition.result l.at c.item_of-item.result (token_view text t) t.span
+          (tokens_from text t.span.end) (tokens_from text l.at) f.others c.item_of-item.ensures
+          (step_led empty_map (grammar_view l.grammar) c.item_of-item.result ∙ ap led s.2)
+          (c.definition_after-definition.ensures
+          ∙ ap (λ p. definition_behind p l.definition c.item_of-item.result t.span.start) c.wanted_at-wanted.ensures)
+          f.span)
           ∙ l.invariant.reached;
     }
 
 pub returns : goal.returns
 returns c =
-    sym (reached_end (row_place c.loop-token.wanted) c.loop-token.definition
+    ap (λ p. (p, c.loop-token.definition, c.loop-token.at)) c.wanted_at.ensures
+    ∙ sym (reached_end (place_of (grammar_view c.loop-token.grammar)) c.loop-token.definition
     c.loop-token.at (tokens_from c.args.text.now c.loop-token.at) c.in_default.ensures)
     ∙ c.loop-token.invariant.reached

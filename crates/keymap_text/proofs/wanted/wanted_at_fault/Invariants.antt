@@ -1,17 +1,17 @@
 use Rattle.std.proofs.Common.{◌≡◌, ◌≤◌, ◌-◌, length, None}
 use Rattle.keymap_text.specs.Meaning.{tokens}
 use Rattle.keymap_text.specs.Places.{AtDefinition}
-use Rattle.keymap_text.specs.Wanted.{row_place, first_refused}
+use Rattle.keymap_text.specs.Wanted.{first_refused}
 use Rattle.keymap_text.specs.Inner.Placed.{tokens_from}
-use Rattle.keymap_text.specs.Inner.Wanted.{IsWanted}
+use Rattle.keymap_text.specs.Inner.Views.{IsPlace, grammar_view, place_of}
 use Rattle.keymap_text.proofs.wanted.wanted_at_fault.Given as goal
 
 -- what the tokens to come lead to is what all lead to
 abbrev pub invariant-loop-token : goal.invariant-loop-token
 invariant-loop-token l = record {
   within : l.at ≤ length l.text;
-  wanted : IsWanted l.wanted;
-  reached : first_refused (row_place l.wanted) l.definition l.at (tokens_from l.text l.at)
+  place : IsPlace l.grammar.place l.grammar.accent;
+  reached : first_refused (place_of (grammar_view l.grammar)) l.definition l.at (tokens_from l.text l.at)
       ≡ first_refused AtDefinition None 0 (tokens l.text);
 }
 

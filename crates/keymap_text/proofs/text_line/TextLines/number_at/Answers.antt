@@ -1,26 +1,18 @@
-use Rattle.std.proofs.Common.{◌≡◌, ◌+◌, ◌≤◌, ◌<◌, ◌/◌, arith, length, subst, sym, ap, ◌∙◌}
+use Rattle.std.proofs.Common.{◌≤◌, ◌+◌, List, ℕ, length, subst, sym, ap, ◌∙◌}
+use Rattle.keymap_text.specs.LineOf.{AreLines}
 use Rattle.keymap_text.specs.Meaning.{line}
-use Rattle.keymap_text.proofs.BlockLines.{has_block, line_of_block, line_fits}
+use Rattle.keymap_text.proofs.LineStarts.{found_end, same_number}
 use Rattle.keymap_text.proofs.text_line.TextLines.number_at.Goals as goal
 
-pub index-requires : goal.index-requires
-index-requires c =
-    let within : c.args.place ≤ length c.self.inside.text.now =
-    subst (λ t. c.args.place ≤ length t) (sym c.self.view_is) c.requires in
-    subst (λ n. c.args.place / 256 < n) (sym c.self.inside.numbers.ok.0)
-    (has_block c.self.inside.text.now c.self.inside.numbers.items c.args.place c.self.invariant.numbers within)
-
-sum_is : (c : goal.After-feeds) → c.index.result.now + c.feeds.result ≡ line c.self.inside.text.now c.args.place
-sum_is c =
-    let within : c.args.place ≤ length c.self.inside.text.now =
-    subst (λ t. c.args.place ≤ length t) (sym c.self.view_is) c.requires in
-    let here = line_of_block c.self.inside.text.now c.self.inside.numbers.items c.args.place c.index.result.now
-    c.self.invariant.numbers within in
-    omega (arith, c.index.ensures, c.feeds.ensures, here)
-
-pub overflow_add-result : goal.overflow_add-result
-overflow_add-result c =
-    omega (arith, sum_is c, line_fits c.self.inside.text.now c.args.place, c.self.told.1)
-
 pub returns : goal.returns
-returns c = sum_is c ∙ ap (λ t. line t c.args.place) c.self.view_is
+returns c =
+    let b = c.self.inside.text.now in
+    let place = c.args.place in
+    let within : place ≤ length b = subst (λ t. place ≤ length t) (sym c.self.view_is) c.requires in
+    let lines : AreLines b c.as_slice.result.now =
+    subst (λ (t : List ℕ). AreLines b t) (sym c.as_slice.ensures.value) c.self.invariant in
+    let i = c.line_index.result in
+    let e = c.line_index.ensures in
+    sym (same_number b (i + 1) _ place (lines.lines.each i e.inside) e.begins
+    (found_end b c.as_slice.result.now i place lines e.inside e.begins e.next within))
+    ∙ ap (λ t. line t place) c.self.view_is

@@ -1,0 +1,209 @@
+-- Where lines begin, and the line of a place by them.
+use Rattle.std.proofs.Common.{◌≡◌, ℕ, zero, suc, ◌+◌, ◌-◌, ◌≤◌, ◌<◌, ◌==◌, Bool, true, false, not, List, [], ◌∷◌, ◌++◌}
+use Rattle.std.proofs.Common.{length, take, drop, get_or, refl, ◌∙◌, sym, ap, subst, arith, count_by, drop-cons, eqb-true}
+use Rattle.std.proofs.Common.{length-append, length-drop, eq-or-lt_of_le, ⊎_elim, true≢false}
+use Rattle.std.specs.List.{suffix_len}
+use Rattle.std.proofs.lemmas.List.{length-take, length-take-le, drop-drop, drop-take, get_or_append_left}
+use Rattle.std.proofs.lemmas.List.Sums.{suffix_len_is}
+use Rattle.std.proofs.Math.Seq.{get_or-append_seam}
+use Rattle.keymap_text.specs.Lexical.{leading, stays_on_line}
+use Rattle.keymap_text.specs.LineOf.{before_in_line, line_end, IsLineStart, AreStarts, AreLines}
+use Rattle.keymap_text.specs.Meaning.{line}
+use Rattle.keymap_text.proofs.Leading.{leading_pass, leading_fail, leading_none, leading_le}
+use Rattle.keymap_text.proofs.Lines.{line_more, feeds_are, feeds_run}
+
+-- bytes that stay on the line of those in front of them
+leading_drop : (p : ℕ → Bool) (k : ℕ) (xs : List ℕ) → k ≤ leading p xs → k + leading p (drop k xs) ≡ leading p xs
+leading_drop p zero xs h = omega arith
+leading_drop p (suc k) [] h = absurd (omega (arith, h, leading_none p))
+leading_drop p (suc k) (c ∷ xs) h = go (p c) refl (leading_drop p k xs)
+  where
+    go : (b : Bool) → p c ≡ b → (k ≤ leading p xs → k + leading p (drop k xs) ≡ leading p xs)
+        → suc k + leading p (drop k xs) ≡ leading p (c ∷ xs)
+    go true e f = omega (arith, leading_pass p c xs e, f (omega (arith, h, leading_pass p c xs e)))
+    go false e f = absurd (omega (arith, h, leading_fail p c xs e))
+
+-- the end of a line is that of each later place on it
+pub same_end : (b : List ℕ) (q p : ℕ) → q ≤ p → p ≤ line_end b q → line_end b p ≡ line_end b q
+same_end b q p l h =
+    let on : p - q + leading stays_on_line (drop (p - q) (drop q b)) ≡ leading stays_on_line (drop q b) =
+    leading_drop stays_on_line (p - q) (drop q b) (omega (arith, l, h)) in
+    let there : drop (p - q) (drop q b) ≡ drop p b =
+    drop-drop (p - q) q b ∙ ap (λ k. drop k b) (omega (arith, l)) in
+    omega (arith, l, on, ap (leading stays_on_line) there)
+
+-- what stands between the beginning of a line and a place on it
+pub before_is : (b : List ℕ) (start place : ℕ) → place ≤ length b
+    → start + suffix_len stays_on_line (take place b) ≡ place
+    → take (place - start) (drop start b) ≡ before_in_line b place
+before_is b start place l e =
+    let n : length (take place b) - suffix_len stays_on_line (take place b) ≡ start =
+    omega (arith, e, length-take place b, l) in
+    let cut : drop start (take place b) ≡ take (place - start) (drop start b) =
+    ap (λ k. drop start (take k b)) (omega (arith, e)) ∙ drop-take start (place - start) b in
+    sym cut ∙ sym (ap (λ k. drop k (take place b)) n)
+
+-- each byte in front passes
+leading_at : (p : ℕ → Bool) (xs : List ℕ) (k : ℕ) → k < leading p xs → p (get_or xs k 0) ≡ true
+leading_at p [] k h = absurd (omega (arith, h, leading_none p))
+leading_at p (c ∷ xs) k h = go (p c) refl (leading_at p xs) k h
+  where
+    go : (b : Bool) → p c ≡ b → ((k : ℕ) → k < leading p xs → p (get_or xs k 0) ≡ true) → (k : ℕ)
+        → k < leading p (c ∷ xs) → p (get_or (c ∷ xs) k 0) ≡ true
+    go true e f zero h = e
+    go true e f (suc k) h = f k (omega (arith, h, leading_pass p c xs e))
+    go false e f k h = absurd (omega (arith, h, leading_fail p c xs e))
+
+-- and the one behind them does not
+leading_stops : (p : ℕ → Bool) (xs : List ℕ) → leading p xs < length xs → p (get_or xs (leading p xs) 0) ≡ false
+leading_stops p [] h = absurd (omega (arith, h))
+leading_stops p (c ∷ xs) h = go (p c) refl (leading_stops p xs)
+  where
+    go : (b : Bool) → p c ≡ b → (leading p xs < length xs → p (get_or xs (leading p xs) 0) ≡ false)
+        → p (get_or (c ∷ xs) (leading p (c ∷ xs)) 0) ≡ false
+    go true e f =
+        let n : leading p (c ∷ xs) ≡ suc (leading p xs) = omega (arith, leading_pass p c xs e) in
+        ap (λ n. p (get_or (c ∷ xs) n 0)) n ∙ f (omega (arith, h, n))
+    go false e f = ap (λ n. p (get_or (c ∷ xs) n 0)) (leading_fail p c xs e) ∙ e
+
+-- the byte at a place, by those from an earlier one on
+at_drop : (xs : List ℕ) (s k : ℕ) → get_or (drop s xs) k 0 ≡ get_or xs (s + k) 0
+at_drop xs zero k = ap (λ n. get_or xs n 0) (omega arith)
+at_drop [] (suc s) k = refl
+at_drop (x ∷ xs) (suc s) k =
+    let e : suc (s + k) ≡ suc s + k = omega arith in at_drop xs s k ∙ ap (λ n. get_or (x ∷ xs) n 0) e
+
+at_take : (xs : List ℕ) (n k : ℕ) → k < n → get_or (take n xs) k 0 ≡ get_or xs k 0
+at_take xs zero k h = absurd (omega (arith, h))
+at_take [] (suc n) k h = refl
+at_take (x ∷ xs) (suc n) zero h = refl
+at_take (x ∷ xs) (suc n) (suc k) h = at_take xs n k (omega (arith, h))
+
+-- a place on a line
+pub on_line : (b : List ℕ) (n s place : ℕ) → IsLineStart b n s → s ≤ place → place ≤ line_end b s → place ≤ length b
+    → s + suffix_len stays_on_line (take place b) ≡ place
+on_line b n s place h l e w =
+    let size : length (take place b) ≡ place = length-take-le place b w in
+    let is = suffix_len_is stays_on_line (take place b) s 0 (omega (arith, size, l))
+    (λ k k0 k1. ap stays_on_line (at_take b place k (omega (arith, k1, size)) ∙ ap (λ n. get_or b n 0) (behind k k0)
+    ∙ sym (at_drop b s (k - s))) ∙ leading_at stays_on_line (drop s b) (k - s) (omega (arith, k0, k1, size, e)))
+    (λ z. ap stays_on_line (at_take b place (s - 1) (omega (arith, z, l))) ∙ h.begins z) in
+    omega (arith, is, size, l)
+  where
+    behind : (k : ℕ) → s ≤ k → k ≡ s + (k - s)
+    behind k h = omega (arith, h)
+
+-- it has the number of the line
+pub same_number : (b : List ℕ) (n s place : ℕ) → IsLineStart b n s → s ≤ place → place ≤ line_end b s
+    → line b place ≡ n
+same_number b n s place h l e =
+    let sum : place ≡ s + (place - s) = omega (arith, l) in
+    let none : count_by (λ c. c == 10) (take (place - s) (drop s b)) ≡ 0 =
+    sym (feeds_are (take (place - s) (drop s b)))
+    ∙ feeds_run stays_on_line refl (place - s) (drop s b) (omega (arith, l, e)) in
+    ap (line b) sum ∙ line_more b s (place - s) ∙ omega (arith, none, h.number)
+
+-- where a text goes on behind a line, the next one begins
+pub next_start : (b : List ℕ) (n s : ℕ) → IsLineStart b n s → line_end b s < length b
+    → IsLineStart b (n + 1) (line_end b s + 1)
+next_start b n s h l =
+    let e = line_end b s in
+    let stop : stays_on_line (get_or b e 0) ≡ false =
+    ap stays_on_line (sym (at_drop b s (leading stays_on_line (drop s b))))
+    ∙ leading_stops stays_on_line (drop s b) (omega (arith, l, length-drop s b)) in
+    let one : count_by (λ c. c == 10) (take 1 (drop e b)) ≡ 1 =
+    ap (λ (t : List ℕ). count_by (λ c. c == 10) (take 1 t)) (drop-cons b e 0 l)
+    ∙ feed (get_or b e 0) stop in
+    record {
+      inside = omega (arith, l);
+      begins = λ _. ap (λ k. stays_on_line (get_or b k 0)) (less e) ∙ stop;
+      number = line_more b e 1 ∙ omega (arith, one, same_number b n s e h (omega arith) (omega arith));
+    }
+  where
+    less : (e : ℕ) → e + 1 - 1 ≡ e
+    less e = omega arith
+
+    feed : (c : ℕ) → not (c == 10) ≡ false → count_by (λ c. c == 10) (c ∷ []) ≡ 1
+    feed c h = go (c == 10) h refl
+      where
+        go : (t : Bool) → not t ≡ false → (c == 10) ≡ t → count_by (λ c. c == 10) (c ∷ []) ≡ 1
+        go true h e = ap (λ t. count_by (λ n. n == 10) (t ∷ [])) (eqb-true c 10 e)
+        go false h e = absurd (true≢false h)
+
+-- the first line
+pub first_start : (b : List ℕ) → AreStarts b (0 ∷ [])
+first_start b = record {
+  some = omega arith;
+  first = refl;
+  each = only;
+  next = λ i h. absurd (omega (arith, h));
+}
+  where
+    only : (i : ℕ) → i < 1 → IsLineStart b (i + 1) (get_or (0 ∷ []) i 0)
+    only zero h = record { inside = omega arith; begins = λ z. absurd (omega (arith, z)); number = refl }
+    only (suc i) h = absurd (omega (arith, h))
+
+-- one line more
+pub start_pushed : (b old new : List ℕ) (e : ℕ) → AreStarts b old
+    → e ≡ line_end b (get_or old (length old - 1) 0) → e < length b → new ≡ old ++ (e + 1) ∷ [] → AreStarts b new
+start_pushed b old new e h last l pushed = subst (AreStarts b) (sym pushed) (record {
+  some = omega (arith, length-append old ((e + 1) ∷ []));
+  first = get_or_append_left old ((e + 1) ∷ []) 0 0 h.some ∙ h.first;
+  each = λ i k. ⊎_elim (λ (z : i ≡ length old). here i z) (λ (m : i < length old). there i m) (eq-or-lt_of_le (le i k));
+  next = λ i k. ⊎_elim (λ (z : i + 1 ≡ length old). step i z) (λ (m : i + 1 < length old). kept i m)
+      (eq-or-lt_of_le (le (i + 1) k));
+})
+  where
+    le : (i : ℕ) → i < length (old ++ (e + 1) ∷ []) → i ≤ length old
+    le i k = omega (arith, k, length-append old ((e + 1) ∷ []))
+
+    same : (i : ℕ) → i < length old → get_or (old ++ (e + 1) ∷ []) i 0 ≡ get_or old i 0
+    same i m = get_or_append_left old ((e + 1) ∷ []) 0 i m
+
+    seam : (i : ℕ) → i ≡ length old → get_or (old ++ (e + 1) ∷ []) i 0 ≡ e + 1
+    seam i z = ap (λ i. get_or (old ++ (e + 1) ∷ []) i 0) z ∙ get_or-append_seam old (e + 1) [] 0
+
+    there : (i : ℕ) → i < length old → IsLineStart b (i + 1) (get_or (old ++ (e + 1) ∷ []) i 0)
+    there i m = subst (λ s. IsLineStart b (i + 1) s) (sym (same i m)) (h.each i m)
+
+    here : (i : ℕ) → i ≡ length old → IsLineStart b (i + 1) (get_or (old ++ (e + 1) ∷ []) i 0)
+    here i z =
+        let k = length old - 1 in
+        let n : k + 1 + 1 ≡ i + 1 = omega (arith, z, h.some) in
+        let s = next_start b (k + 1) (get_or old k 0) (h.each k (omega (arith, h.some))) (omega (arith, last, l)) in
+        subst (λ n. IsLineStart b n (get_or (old ++ (e + 1) ∷ []) i 0)) n
+        (subst (λ s. IsLineStart b (k + 1 + 1) s) (ap (λ e. e + 1) (sym last) ∙ sym (seam i z)) s)
+
+    kept : (i : ℕ) → i + 1 < length old
+        → line_end b (get_or (old ++ (e + 1) ∷ []) i 0) + 1 ≡ get_or (old ++ (e + 1) ∷ []) (i + 1) 0
+    kept i m = ap (λ s. line_end b s + 1) (same i (omega (arith, m))) ∙ h.next i m ∙ sym (same (i + 1) m)
+
+    step : (i : ℕ) → i + 1 ≡ length old
+        → line_end b (get_or (old ++ (e + 1) ∷ []) i 0) + 1 ≡ get_or (old ++ (e + 1) ∷ []) (i + 1) 0
+    step i z =
+        let k : i ≡ length old - 1 = omega (arith, z) in
+        ap (λ s. line_end b s + 1) (same i (omega (arith, z)) ∙ ap (λ i. get_or old i 0) k) ∙ ap (λ e. e + 1) (sym last)
+        ∙ sym (seam (i + 1) z)
+
+-- the end of the line that is found
+pub found_end : (b ss : List ℕ) (i place : ℕ) → AreLines b ss → i < length ss → get_or ss i 0 ≤ place
+    → (i + 1 < length ss → place < get_or ss (i + 1) 0) → place ≤ length b → place ≤ line_end b (get_or ss i 0)
+found_end b ss i place h l s n w = ⊎_elim
+    (λ (z : i + 1 ≡ length ss).
+    let k : length ss - 1 ≡ i = omega (arith, z) in
+    omega (arith, ap (λ k. line_end b (get_or ss k 0)) k, h.last, w))
+    (λ (m : i + 1 < length ss). omega (arith, h.lines.next i m, n m))
+    (eq-or-lt_of_le (le l))
+  where
+    le : i < length ss → i + 1 ≤ length ss
+    le l = omega (arith, l)
+
+-- a line ends within the text
+pub end_within : (b : List ℕ) (n s : ℕ) → IsLineStart b n s → line_end b s ≤ length b
+end_within b n s h = omega (arith, h.inside, leading_le stays_on_line (drop s b), length-drop s b)
+
+-- the end of the line of a place
+pub end_of_place : (b ss : List ℕ) (i place : ℕ) → AreLines b ss → i < length ss → get_or ss i 0 ≤ place
+    → (i + 1 < length ss → place < get_or ss (i + 1) 0) → place ≤ length b
+    → line_end b place ≡ line_end b (get_or ss i 0)
+end_of_place b ss i place h l s n w = same_end b (get_or ss i 0) place s (found_end b ss i place h l s n w)

@@ -1,0 +1,188 @@
+-- What taking blanks, comments and whole tokens makes of the rest of a text.
+use Rattle.std.proofs.Common.{◌≡◌, ℕ, zero, suc, ◌+◌, ◌-◌, ◌<◌, ◌≤◌, ◌==◌, true, false, Bool, List, [], ◌∷◌, ◌++◌, length}
+use Rattle.std.proofs.Common.{take, drop, get_or, refl, sym, ◌∙◌, ap, ap₂, subst, arith, Ok, Err, append-nil}
+use Rattle.std.proofs.Common.{length-append, length-drop, drop-cons}
+use Rattle.std.proofs.lemmas.Bool.Decides.{nat_tests}
+use Rattle.std.proofs.lemmas.List.{drop-drop, drop-append-le}
+use Rattle.keymap_core.specs.Maps.{MapValue}
+use Rattle.keymap_text.specs.Types.{TextFaultKind, Item}
+use Rattle.keymap_text.specs.declared.grammar.Grammar.{Grammar}
+use Rattle.keymap_text.specs.declared.scanner.Stop.{Stop}
+use Rattle.keymap_text.specs.Lexical.{leading, is_blank, is_space, stays_on_line, tokens_after}
+use Rattle.keymap_text.specs.Inner.Grammar.{GrammarState, accept, at, step}
+use Rattle.keymap_text.specs.Inner.Judging.{judge, Faulty}
+use Rattle.keymap_text.specs.Inner.Views.{grammar_view, StepsInto}
+use Rattle.keymap_text.specs.Inner.Scanning.{Advances, Refuses, Takes, Fronts, FrontsBehind}
+use Rattle.keymap_text.proofs.Leading.{leading_pass, leading_fail, leading_none, leading_short}
+use Rattle.keymap_text.proofs.Splitting.{split_blank, split_comment, split_after, to_end}
+use Rattle.keymap_text.proofs.Steps.{judge_then, judge_refused}
+
+-- blanks
+space_blank : (c : ℕ) → is_space c ≡ true → is_blank c ≡ true
+space_blank c h = grind (arith, nat_tests)
+
+-- blanks are passed
+split_spaces : (n q : ℕ) (xs y : List ℕ) → n ≤ leading is_space xs
+    → tokens_after 0 q (xs ++ y) ≡ tokens_after 0 (q + n) (drop n xs ++ y)
+split_spaces zero q xs y h = ap (λ k. tokens_after 0 k (xs ++ y)) (omega arith)
+split_spaces (suc n) q [] y h = absurd (omega (arith, h, leading_none is_space))
+split_spaces (suc n) q (c ∷ xs) y h = go (is_space c) refl (split_spaces n (q + 1) xs y)
+  where
+    on : (k : ℕ) → q + 1 + n ≡ k → tokens_after 0 (q + 1 + n) (drop n xs ++ y) ≡ tokens_after 0 k (drop n xs ++ y)
+    on k e = ap (λ k. tokens_after 0 k (drop n xs ++ y)) e
+
+    go : (b : Bool) → is_space c ≡ b → (n ≤ leading is_space xs
+        → tokens_after 0 (q + 1) (xs ++ y) ≡ tokens_after 0 (q + 1 + n) (drop n xs ++ y))
+        → tokens_after 0 q (c ∷ (xs ++ y)) ≡ tokens_after 0 (q + suc n) (drop n xs ++ y)
+    go true e k =
+        split_blank q c (xs ++ y) (space_blank c e) ∙ k (omega (arith, h, leading_pass is_space c xs e))
+        ∙ on (q + suc n) (omega arith)
+    go false e k = absurd (omega (arith, h, leading_fail is_space c xs e))
+
+-- the same at a place of a text
+pub spaces_at : (text rest : List ℕ) (at n : ℕ) → rest ≡ take (length text - at) (drop at text)
+    → n ≤ leading is_space rest → tokens_after 0 at (drop at text) ≡ tokens_after 0 (at + n) (drop (at + n) text)
+spaces_at text rest at n e h =
+    subst (λ (t : List ℕ). tokens_after 0 at t ≡ tokens_after 0 (at + n) (drop n t)) (e ∙ to_end text at)
+    (ap (tokens_after 0 at) (sym (append-nil rest)) ∙ split_spaces n at rest [] h
+    ∙ ap (tokens_after 0 (at + n)) (append-nil (drop n rest)))
+    ∙ ap (tokens_after 0 (at + n)) (drop-drop n at text)
+
+-- nothing is taken
+pub stays : (s : GrammarState) (rest : List ℕ) → Advances s s rest 0
+stays s rest = record { takes = λ q x. ap (λ n. judge s (tokens_after 0 n (rest ++ x))) (omega arith); inside = omega arith }
+
+-- blanks are taken
+pub blanks_advance : (s : GrammarState) (n : ℕ) (rest : List ℕ) → n ≤ leading is_space rest → n ≤ length rest
+    → Advances s s rest n
+blanks_advance s n rest h l = record { takes = λ q x. ap (judge s) (split_spaces n q rest x h); inside = l }
+
+-- a blank in front is taken, also the end of a line
+pub blank_advances : (s : GrammarState) (rest : List ℕ) → 0 < length rest → is_blank (get_or rest 0 0) ≡ true
+    → Advances s s rest 1
+blank_advances s [] l h = absurd (omega (arith, l))
+blank_advances s (c ∷ rest) l h =
+    record { takes = λ q x. ap (judge s) (split_blank q c (rest ++ x) h); inside = omega arith }
+
+-- a comment is taken up to the end of its line
+pub comment_advances : (s : GrammarState) (rest : List ℕ) (n : ℕ) → 0 < length rest → get_or rest 0 0 ≡ 35
+    → n ≡ leading stays_on_line rest → n < length rest → Advances s s rest n
+comment_advances s [] n l h e k = absurd (omega (arith, l))
+comment_advances s (c ∷ rest) n l h e k =
+    let size : n ≡ leading stays_on_line rest + 1 =
+    e ∙ leading_pass stays_on_line c rest (ap stays_on_line h) in
+    let m = leading stays_on_line rest in
+    let whole : suc m ≡ n = omega (arith, size) in
+    record {
+      takes = λ q x.
+          let place : q + 1 + m ≡ q + n = omega (arith, size) in
+          ap (judge s) (split_comment q c (rest ++ x) h
+          ∙ ap (λ m. tokens_after m (q + 1) (rest ++ x)) (leading_short stays_on_line rest x (omega (arith, size, k)))
+          ∙ split_after m (q + 1) (rest ++ x) (rw length-append (omega (arith, size, k)))
+          ∙ ap (λ p. tokens_after 0 p (drop m (rest ++ x))) place
+          ∙ ap (tokens_after 0 (q + n)) (drop-append-le m rest x (omega (arith, size, k))
+          ∙ ap (λ (j : ℕ). drop j (c ∷ rest) ++ x) whole));
+      inside = omega (arith, k);
+    }
+
+-- a token that is accepted is taken
+pub token_advances : (s s' : GrammarState) (rest : List ℕ) (i : Item) (n : ℕ) → Fronts rest i n → accept s i ≡ Ok s'
+    → Advances s s' rest n
+token_advances s s' rest i n f a = record {
+  takes = λ q x. ap (judge s) (f.splits q x) ∙ judge_then s s' (f.token q x) _ (ap (accept s) (f.item q x) ∙ a);
+  inside = f.inside;
+}
+
+-- one that is not accepted is refused
+pub token_refuses : (s : GrammarState) (rest : List ℕ) (i : Item) (n : ℕ) (f : TextFaultKind) → Fronts rest i n
+    → accept s i ≡ Err f → Refuses s rest f 0
+token_refuses s rest i n e f a = record {
+  takes = λ q x.
+      ap (judge s) (f.splits q x) ∙ judge_refused s e (f.token q x) _ (ap (accept s) (f.item q x) ∙ a)
+      ∙ ap₂ (Faulty e) (f.start q x ∙ omega arith) (f.settled q x);
+  inside = omega arith;
+}
+
+-- bytes are taken behind others
+pub advances_on : (old mid new : GrammarState) (rest behind : List ℕ) (n m : ℕ) → Advances old mid rest n
+    → behind ≡ take (length rest - n) (drop n rest) → Advances mid new behind m → Advances old new rest (n + m)
+advances_on old mid new rest behind n m a e b0 =
+    let b = subst (λ (t : List ℕ). Advances mid new t m) (e ∙ to_end rest n) b0 in
+    record {
+      takes = λ q x.
+          a.takes q x ∙ b.takes (q + n) x
+          ∙ ap₂ (λ p (r : List ℕ). judge new (tokens_after 0 p (r ++ x))) (omega arith) (drop-drop m n rest);
+      inside = omega (arith, b.inside, length-drop n rest, a.inside);
+    }
+
+-- a fault behind bytes that were taken
+pub refuses_on : (old mid : GrammarState) (rest behind : List ℕ) (n m k : ℕ) (f : TextFaultKind) → Advances old mid rest n
+    → behind ≡ take (length rest - n) (drop n rest) → Refuses mid behind f m → k ≡ n + m → Refuses old rest f k
+refuses_on old mid rest behind n m k f a e r0 size =
+    let r = subst (λ (t : List ℕ). Refuses mid t f m) (e ∙ to_end rest n) r0 in
+    record {
+      takes = λ q x. a.takes q x ∙ r.takes (q + n) x ∙ ap (λ p. Faulty f p true) (omega (arith, size));
+      inside = omega (arith, size, r.inside, length-drop n rest, a.inside);
+    }
+
+-- a token behind blanks is taken
+pub behind_advances : (s s' : GrammarState) (rest : List ℕ) (t : Item) (n : ℕ) → FrontsBehind rest t n
+    → accept s t ≡ Ok s' → Advances s s' rest n
+behind_advances s s' rest t n f a =
+    subst (λ k. Advances s s' rest k) (sym f.sum)
+    (advances_on s s s' rest _ f.blanks f.size (blanks_advance s f.blanks rest f.are_blank f.inside) refl
+    (token_advances s s' _ t f.size f.fronts a))
+
+-- The same of what takes definitions. It was not touched.
+pub takes_same : {D : Type 0} → (shows : D → MapValue → Type 0) → (d : D) (g : Grammar) (rest : List ℕ) (n : ℕ)
+    → ((s : GrammarState) → Advances s s rest n) → Takes shows d d (Ok n) g g rest
+takes_same shows d g rest n a = λ m h. (m, h, a _)
+
+-- a token was accepted
+pub takes_token : {D : Type 0} → (shows : D → MapValue → Type 0) → (d d' : D) (g g' : Grammar) (rest : List ℕ) (i : Item)
+    (n : ℕ) (u : Unit {0}) → Fronts rest i n
+    → ((m : MapValue) → shows d m → StepsInto shows d' (Ok u) (step m (grammar_view g) i) (grammar_view g'))
+    → Takes shows d d' (Ok n) g g' rest
+unfolding accept
+takes_token shows d d' g g' rest i n u f s = λ m h.
+    let t = s m h in (t.0, t.1, token_advances _ _ rest i n f t.2)
+
+-- or refused
+pub takes_fault : {D : Type 0} → (shows : D → MapValue → Type 0) → (d d' : D) (g g' : Grammar) (rest : List ℕ) (i : Item)
+    (n : ℕ) (e : Stop) → Fronts rest i n → e.at ≡ 0
+    → ((m : MapValue) → shows d m → StepsInto shows d' (Err e.kind) (step m (grammar_view g) i) (grammar_view g'))
+    → Takes shows d d' (Err e) g g' rest
+unfolding accept
+takes_fault shows d d' g g' rest i n e f z s = λ m h.
+    subst (λ k. Refuses (at m (grammar_view g)) rest e.kind k) (sym z) (token_refuses _ rest i n e.kind f (s m h))
+
+-- more was taken behind
+pub takes_on : {D : Type 0} → (shows : D → MapValue → Type 0) → (d d1 d2 : D) (g g1 g2 : Grammar) (rest behind : List ℕ)
+    (n k : ℕ) → Takes shows d d1 (Ok n) g g1 rest → behind ≡ take (length rest - n) (drop n rest)
+    → Takes shows d1 d2 (Ok k) g1 g2 behind → Takes shows d d2 (Ok (n + k)) g g2 rest
+takes_on shows d d1 d2 g g1 g2 rest behind n k a e b = λ m h.
+    let s = a m h in
+    let t = b s.0 s.1 in
+    (t.0, t.1, advances_on _ _ _ rest behind n k s.2 e t.2)
+
+-- or there is a fault
+pub faults_on : {D : Type 0} → (shows : D → MapValue → Type 0) → (d d1 d2 : D) (g g1 g2 : Grammar) (rest behind : List ℕ)
+    (n : ℕ) (e e' : Stop) → Takes shows d d1 (Ok n) g g1 rest → behind ≡ take (length rest - n) (drop n rest)
+    → Takes shows d1 d2 (Err e) g1 g2 behind → e'.kind ≡ e.kind → e'.at ≡ n + e.at
+    → Takes shows d d2 (Err e') g g2 rest
+faults_on shows d d1 d2 g g1 g2 rest behind n e e' a k b kind place = λ m h.
+    let s = a m h in
+    subst (λ f. Refuses (at m (grammar_view g)) rest f e'.at) (sym kind) (refuses_on _ _ rest behind n e.at e'.at e.kind s.2 k (b s.0 s.1) place)
+
+-- bytes are left in a piece
+pub behind_some : (piece : List ℕ) (i : ℕ) → i < length piece → 0 < length (take (length piece - i) (drop i piece))
+behind_some piece i h = omega (arith, ap length (to_end piece i), length-drop i piece, h)
+
+-- the first of them
+pub behind_first : (piece : List ℕ) (i : ℕ) → i < length piece
+    → get_or piece i 0 ≡ get_or (take (length piece - i) (drop i piece)) 0 0
+behind_first piece i h = sym (ap (λ (t : List ℕ). get_or t 0 0) (to_end piece i ∙ drop-cons piece i 0 h))
+
+-- some bytes are left where not none are
+pub not_none : (n : ℕ) → (n == 0) ≡ false → 0 < n
+not_none n h = grind (arith, nat_tests)

@@ -1,0 +1,97 @@
+use Rattle.std.proofs.Common.{◌+◌, refl, sym, ◌∙◌, ap, subst, arith, Ok}
+use Rattle.keymap_text.specs.declared.grammar.Grammar.{Grammar}
+use Rattle.keymap_text.specs.declared.grammar.Place.TheVariants as places
+use Rattle.keymap_text.specs.Inner.Grammar as spec
+use Rattle.keymap_text.specs.Inner.Grammar.{at}
+use Rattle.keymap_text.specs.Inner.Scanning.{Advances, Refuses, Takes}
+use Rattle.keymap_text.specs.Inner.Views.{place_view}
+use Rattle.keymap_text.proofs.Rows.{is_cell, is_lock, next_place}
+use Rattle.keymap_text.proofs.Scanning.{stays, advances_on, refuses_on, takes_on}
+use Rattle.keymap_text.proofs.scanner.cells.Goals as goal
+
+pub loop-index-init : goal.loop-index-init
+loop-index-init g c = record {
+  inside = omega arith;
+  index = omega arith;
+  taken = λ m.
+      subst (λ p. Advances (at m (spec.CellAt c.args.slot c.args.first c.args.grammar.now.entry)) (at m p)
+      c.args.rest.now 0)
+      (is_cell c.args.slot c.args.first c.args.grammar.now.entry c.requires.index) (stays _ c.args.rest.now);
+}
+
+pub loop-index-preserved : goal.loop-index-preserved
+loop-index-preserved g c =
+    let l = c.loop-index in
+    let slot = c.args.slot in
+    let rest = c.args.rest.now in
+    let first = spec.CellAt slot c.args.first c.args.grammar.now.entry in
+    let new = c.next_cell.new.grammar in
+    record {
+      inside = omega (arith, c.in-Ok.ensures.fits);
+      index = omega (arith, c.loop-index-test.true);
+      taken = λ m.
+          subst (λ p. Advances (at m first) (at m p) rest (l.taken + c.in-Ok.n))
+          (next_place slot l.index new.entry)
+          (advances_on (at m first) _ _ rest _ l.taken c.in-Ok.n
+          (subst (λ p. Advances (at m first) (at m p) rest l.taken)
+          (sym (is_cell slot l.index l.grammar.entry c.loop-index-test.true)) (l.invariant.taken m)) refl
+          (c.in-Ok.ensures.took.some (omega (arith, c.in-Ok.n-test)) m slot));
+    }
+
+pub returns-in-Err-clause-takes : goal.returns-in-Err-clause-takes
+returns-in-Err-clause-takes g c = λ m h.
+    let l = c.loop-index in
+    let slot = c.args.slot in
+    let rest = c.args.rest.now in
+    let r = c.args.grammar.now in
+    let first = spec.CellAt slot c.args.first r.entry in
+    subst (λ p. Refuses (at m (place_view p r.entry r.accent)) rest c.behind.result.kind c.behind.result.at)
+    (sym c.requires.place)
+    (subst (λ f. Refuses (at m first) rest f c.behind.result.at) (sym c.behind.ensures.kind)
+    (refuses_on (at m first) _ rest _ l.taken c.in-Err.stop.at c.behind.result.at c.in-Err.stop.kind
+    (subst (λ p. Advances (at m first) (at m p) rest l.taken)
+    (sym (is_cell slot l.index l.grammar.entry c.loop-index-test.true)) (l.invariant.taken m)) refl
+    (c.in-Err.ensures.took m slot) c.behind.ensures.at))
+
+pub returns-in-Ok-eq0-clause-takes : goal.returns-in-Ok-eq0-clause-takes
+returns-in-Ok-eq0-clause-takes g c = λ m h.
+    let l = c.loop-index in
+    let slot = c.args.slot in
+    let rest = c.args.rest.now in
+    let r = c.args.grammar.now in
+    let first = spec.CellAt slot c.args.first r.entry in
+    let new = c.next_cell.new.grammar in
+    let same = c.in-Ok-eq0.ensures.took.none c.in-Ok-eq0.field-0-test in (
+      m,
+      h,
+      subst (λ p. Advances (at m (place_view p r.entry r.accent)) (at m (spec.CellAt slot l.index new.entry)) rest
+          l.taken) (sym c.requires.place)
+          (subst (λ p. Advances (at m first) (at m p) rest l.taken)
+          (sym (is_cell slot l.index l.grammar.entry c.loop-index-test.true)
+          ∙ ap (λ (n : Grammar). spec.CellAt slot l.index n.entry) (sym same)) (l.invariant.taken m)),
+    )
+
+pub returns-clause-takes : goal.returns-clause-takes
+returns-clause-takes g c =
+    let l = c.loop-index in
+    let slot = c.args.slot in
+    let rest = c.args.rest.now in
+    let r = c.args.grammar.now in
+    let shows = g.D.Definitions.shows in
+    let first = spec.CellAt slot c.args.first r.entry in
+    let locked : Grammar =
+    record { place = places.Lock slot; entry = l.grammar.entry; accent = l.grammar.accent } in
+    let before : Takes shows c.args.into.now c.args.into.now (Ok l.taken) r locked rest = λ m h. (
+      m,
+      h,
+      subst (λ p. Advances (at m (place_view p r.entry r.accent)) (at m (spec.LockAt slot l.grammar.entry)) rest
+          l.taken) (sym c.requires.place)
+          (subst (λ p. Advances (at m first) (at m p) rest l.taken)
+          (sym (is_lock slot l.index l.grammar.entry (omega (arith, l.invariant.index, c.loop-index-test.false))))
+          (l.invariant.taken m)),
+    ) in
+    let lettered = takes_on shows c.args.into.now c.args.into.now c.letter-lettered.new.into r locked
+    c.letter-lettered.new.grammar rest _ l.taken c.letter-lettered.result before refl c.letter-lettered.ensures.takes in
+    takes_on shows c.args.into.now c.letter-lettered.new.into c.letter-lettered.new.into r
+    c.letter-lettered.new.grammar c.letter-lettered.new.grammar rest _ (l.taken + c.letter-lettered.result)
+    c.line_end.result lettered refl (λ m h. (m, h, c.line_end.ensures.advances _))

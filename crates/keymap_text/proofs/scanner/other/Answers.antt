@@ -1,0 +1,33 @@
+use Rattle.std.proofs.Common.{◌≡◌, ℕ, sym, ◌∙◌, arith, Result, Ok}
+use Rattle.keymap_text.specs.declared.scanner.Stop.{Stop}
+use Rattle.keymap_text.proofs.Scanning.{takes_same, blank_advances, comment_advances}
+use Rattle.keymap_text.proofs.Tails.{open_comment, comment_some}
+use Rattle.keymap_text.proofs.scanner.other.Goals as goal
+
+ok_is : (n k : ℕ) → ◌≡◌ {A = Result ℕ Stop} (Ok n) (Ok k) → n ≡ k
+ok_is n k h = cc
+
+pub returns-then-is_blank_byte-clause-takes : goal.returns-then-is_blank_byte-clause-takes
+returns-then-is_blank_byte-clause-takes g c =
+    takes_same g.D.Definitions.shows c.args.into.now c.args.grammar.now c.args.rest.now 1
+    (λ s. blank_advances s c.args.rest.now c.requires.some (sym c.is_blank_byte.ensures ∙ c.if-is_blank_byte.true))
+
+pub returns-then-n-rest-clause-takes : goal.returns-then-n-rest-clause-takes
+returns-then-n-rest-clause-takes g c =
+    takes_same g.D.Definitions.shows c.args.into.now c.args.grammar.now c.args.rest.now c.line_len-n.result
+    (λ s. comment_advances s c.args.rest.now c.line_len-n.result c.requires.some c.if-rest-ne35.false
+    c.line_len-n.ensures.value c.if-n-rest.true)
+
+pub returns-then-n-rest-clause-open : goal.returns-then-n-rest-clause-open
+returns-then-n-rest-clause-open g c = λ z.
+    let zero = ok_is c.line_len-n.result 0 z in
+    absurd (omega (
+      arith,
+      zero,
+      comment_some c.args.rest.now c.requires.some c.if-rest-ne35.false,
+      c.line_len-n.ensures.value,
+    ))
+
+pub returns-else-n-rest-clause-open : goal.returns-else-n-rest-clause-open
+returns-else-n-rest-clause-open g c = λ _.
+    open_comment c.args.rest.now c.requires.some c.if-rest-ne35.false (omega (arith, c.line_len-n.ensures.value))

@@ -1,0 +1,117 @@
+-- What taking bytes in front of a text does to what is made of the text. Mirrors src/scanner.rt.
+use Rattle.std.specs.Prelude.{◌≡◌, ℕ, Bool, ◌+◌, ◌<◌, ◌≤◌, true, false, List, [], ◌∷◌, ◌++◌, length, take, drop, Result, Ok, Err}
+use Rattle.std.specs.Prelude.{◌⊎◌, ◌-◌}
+use Rattle.keymap_core.specs.Maps.{MapValue}
+use Rattle.keymap_text.specs.Types.{TextFaultKind, Item, Word}
+use Rattle.keymap_text.specs.declared.grammar.Grammar.{Grammar}
+use Rattle.keymap_text.specs.declared.scanner.Stop.{Stop}
+use Rattle.keymap_text.specs.Items.{character}
+use Rattle.keymap_text.specs.Lexical.{tokens_after, TokenValue, Then, leading, stays_on_line, is_space, front_of, Found}
+use Rattle.keymap_text.specs.Lexical.{Unfinished}
+use Rattle.keymap_text.specs.Meaning.{is_settled}
+use Rattle.keymap_text.specs.Words.{item}
+use Rattle.keymap_text.specs.Inner.Grammar.{GrammarState, GrammarPlace, CellAt, at, after_cell, at_end}
+use Rattle.keymap_text.specs.Inner.Judging.{judge, verdict, ended, Faulty, Spelled}
+use Rattle.keymap_text.specs.Inner.Views.{grammar_view, IsPlace}
+
+-- What taking the first n of some bytes did: the others are judged from the new state, whatever follows.
+pub record Advances (old new : GrammarState) (rest : List ℕ) (n : ℕ) : Type 0 where
+  pub takes : (q : ℕ) (x : List ℕ)
+      → judge old (tokens_after 0 q (rest ++ x)) ≡ judge new (tokens_after 0 (q + n) (drop n rest ++ x))
+  pub inside : n ≤ length rest
+
+-- These bytes have a fault behind the first n of them, whatever follows.
+pub record Refuses (old : GrammarState) (rest : List ℕ) (f : TextFaultKind) (n : ℕ) : Type 0 where
+  pub takes : (q : ℕ) (x : List ℕ) → judge old (tokens_after 0 q (rest ++ x)) ≡ Faulty f (q + n) true
+  pub inside : n ≤ length rest
+
+-- What taking bytes in front did to what takes the definitions: so many were taken, or they have a fault.
+abbrev pub Took : {D : Type 0} → (D → MapValue → Type 0) → D → Result ℕ Stop → GrammarState → GrammarPlace → List ℕ
+    → Type 0
+Took shows d (Ok n) s p rest = (m : MapValue) × shows d m × Advances s (at m p) rest n
+Took shows d (Err e) s p rest = Refuses s rest e.kind e.at
+
+-- the same whatever map it showed
+abbrev pub Takes : {D : Type 0} → (D → MapValue → Type 0) → D → D → Result ℕ Stop → Grammar → Grammar → List ℕ → Type 0
+Takes shows d d' r g g' rest =
+    (m : MapValue) → shows d m → Took shows d' r (at m (grammar_view g)) (grammar_view g') rest
+
+-- no more bytes than there are
+abbrev pub Fits : Result ℕ Stop → List ℕ → Type 0
+Fits (Ok n) rest = n ≤ length rest
+Fits (Err e) rest = e.at ≤ length rest
+
+-- and the text stands at a place
+abbrev pub Leaves : Result ℕ Stop → Grammar → List ℕ → Type 0
+Leaves (Ok n) g rest = (n ≤ length rest) × IsPlace g.place g.accent
+Leaves (Err e) g rest = e.at ≤ length rest
+
+-- What was done with a last word: behind it the text ends, or it is refused, or more bytes were wanted.
+abbrev pub TookLast : {D : Type 0} → (D → MapValue → Type 0) → D → Result (Unit {0}) Stop → GrammarState → GrammarPlace
+    → List ℕ → Type 0
+TookLast shows d (Ok u) s p tail = (m : MapValue) × shows d m
+    × ((q : ℕ) → judge s (tokens_after 0 q tail) ≡ ended (at_end (at m p)) (q + length tail))
+TookLast shows d (Err e) s p tail = (e.at ≤ length tail)
+    × ((q : ℕ) → judge s (tokens_after 0 q tail) ≡ Faulty e.kind (q + e.at) false)
+
+abbrev pub TakesLast : {D : Type 0} → (D → MapValue → Type 0) → D → D → Result (Unit {0}) Stop → Grammar → Grammar
+    → List ℕ → Type 0
+TakesLast shows d d' r g g' tail =
+    (m : MapValue) → shows d m → TookLast shows d' r (at m (grammar_view g)) (grammar_view g') tail
+
+-- What the end of the text did behind these bytes: it shows the map of the text, or the text has a fault there.
+abbrev pub Ended : {D : Type 0} → (D → MapValue → Type 0) → D → Result (Unit {0}) Stop → GrammarState → List ℕ → Type 0
+Ended shows d (Ok u) s tail = (m : MapValue) × shows d m × ((q : ℕ) → judge s (tokens_after 0 q tail) ≡ Spelled m)
+Ended shows d (Err e) s tail = (e.at ≤ length tail)
+    × ((q : ℕ) → judge s (tokens_after 0 q tail) ≡ Faulty e.kind (q + e.at) false)
+
+abbrev pub Ends : {D : Type 0} → (D → MapValue → Type 0) → D → D → Result (Unit {0}) Stop → Grammar → List ℕ → Type 0
+Ends shows d d' r g tail = (m : MapValue) → shows d m → Ended shows d' r (at m (grammar_view g)) tail
+
+-- What taking a whole text did: it shows the map that the text spells, or the text has a fault.
+abbrev pub Answers : {D : Type 0} → (D → MapValue → Type 0) → D → Result (Unit {0}) Stop → List ℕ → Type 0
+Answers shows d (Ok u) text = (m : MapValue) × shows d m × (verdict text ≡ Spelled m)
+Answers shows d (Err e) text = (early : Bool) × (verdict text ≡ Faulty e.kind e.at early)
+
+-- A whole token of n bytes, which stands for i, is in front, whatever follows.
+pub record Fronts (rest : List ℕ) (i : Item) (n : ℕ) : Type 0 where
+  pub token : ℕ → List ℕ → TokenValue
+  pub splits : (q : ℕ) (x : List ℕ)
+      → tokens_after 0 q (rest ++ x) ≡ Then (token q x) (tokens_after 0 (q + n) (drop n rest ++ x))
+  pub item : (q : ℕ) (x : List ℕ) → item (token q x).kind (token q x).bytes ≡ i
+  pub start : (q : ℕ) (x : List ℕ) → (token q x).start ≡ q
+  pub settled : (q : ℕ) (x : List ℕ) → is_settled (token q x) ≡ true
+  pub some : 0 < n
+  pub inside : n ≤ length rest
+
+-- A whole token, which stands for i, is in front behind blanks, of n bytes together, whatever follows.
+pub record FrontsBehind (rest : List ℕ) (i : Item) (n : ℕ) : Type 0 where
+  pub blanks : ℕ
+  pub size : ℕ
+  pub are_blank : blanks ≤ leading is_space rest
+  pub inside : blanks ≤ length rest
+  pub fronts : Fronts (take (length rest - blanks) (drop blanks rest)) i size
+  pub sum : n ≡ blanks + size
+
+-- So is one that stands for the character c.
+pub record FrontsCharacter (rest : List ℕ) (c : ℕ) (n : ℕ) : Type 0 where
+  pub item : Item
+  pub behind : FrontsBehind rest item n
+  pub is : character item ≡ Ok c
+
+-- What was done with the cell of this index: it was taken with the blanks before it, or nothing was, or there is a fault
+-- behind the blanks.
+abbrev pub TookCell : Result ℕ Stop → Grammar → Grammar → ℕ → List ℕ → Type 0
+TookCell (Ok n) old new i rest = record {
+  none : n ≡ 0 → new ≡ old;
+  some : 0 < n → (m : MapValue) (slot : ℕ)
+      → Advances (at m (CellAt slot i old.entry)) (at m (after_cell slot i new.entry)) rest n;
+}
+TookCell (Err e) old new i rest = (m : MapValue) (slot : ℕ) → Refuses (at m (CellAt slot i old.entry)) rest e.kind e.at
+
+-- These bytes show no whole token: there are none, or they end in the comment, the word or the quoted character that
+-- they begin with.
+abbrev pub IsOpen : List ℕ → Type 0
+IsOpen [] = Unit {0}
+IsOpen (c ∷ bytes) = ((c ≡ 35) × (leading stays_on_line bytes ≡ length bytes))
+    ⊎ ((front_of c bytes ≡ Found Word (length bytes)) ⊎ (front_of c bytes ≡ Unfinished))

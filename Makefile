@@ -78,7 +78,8 @@ check:
 
 other-build:
 	sh tests/program.sh $(PROGRAM).by-rattle
-	sh tests/lint.sh $(PROGRAM).by-rattle
+	sh tests/transcripts.sh $(PROGRAM).by-rattle
+	sh tests/files.sh $(PROGRAM).by-rattle
 	sh tests/format.sh $(PROGRAM).by-rattle
 	sh tests/swapped_names.sh $(PROGRAM).by-rattle
 	sh tests/both_builds.sh $(PROGRAM) $(PROGRAM).by-rattle
@@ -95,7 +96,8 @@ scripts:
 	sh tests/program.sh $(PROGRAM)
 	sh tests/draw.sh $(PROGRAM)
 	sh tests/cover.sh $(PROGRAM)
-	sh tests/lint.sh $(PROGRAM)
+	sh tests/transcripts.sh $(PROGRAM)
+	sh tests/files.sh $(PROGRAM)
 	sh tests/format.sh $(PROGRAM)
 	sh tests/swapped_names.sh $(PROGRAM)
 	sh tests/c_library.sh $(PROGRAM) $(LIBRARY)

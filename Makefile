@@ -91,10 +91,9 @@ scripts:
 	sh tests/modules.sh
 	python3 -B bench/unseen.py --check
 	sh tests/version.sh $(PROGRAM)
-	sh tests/draw.sh $(PROGRAM)
-	sh tests/cover.sh $(PROGRAM)
 	sh tests/transcripts.sh $(PROGRAM)
 	sh tests/files.sh $(PROGRAM)
+	sh tests/cover.sh $(PROGRAM)
 	sh tests/swapped_names.sh $(PROGRAM)
 	sh tests/c_library.sh $(PROGRAM) $(LIBRARY)
 	sh tests/completions.sh $(PROGRAM)

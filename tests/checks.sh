@@ -306,7 +306,8 @@ mkdir tools
 for tool in awk cat cmp cut dirname diff expr grep head ln mkdir mktemp rm sed sh sort tail tr wc comm basename cp; do
     ln -s "$(command -v $tool)" tools
 done
-refuses 'failed: there is neither xmllint nor python3' env PATH="$folder/tools" sh "$top/tests/draw.sh" "$program"
+refuses '+  there is neither xmllint nor python3' env PATH="$folder/tools" sh "$top/tests/transcripts.sh" "$program" \
+    "$top/tests/transcripts/draw.t"
 cat > fails << 'SH'
 #!/bin/sh
 case $PWD in

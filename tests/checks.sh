@@ -123,8 +123,8 @@ done
 
 broken docs/ARCHITECTURE.md 's/ `spelled`,//' \
     'failed: docs/ARCHITECTURE.md names each file of src/ of keymap_lint, and no other' sh copy/tests/modules.sh
-broken docs/PROOFS.md 's,`tests/draw.sh`,`tests/paint.sh`,' \
-    'failed: docs/PROOFS.md names tests/paint.sh, which is there' sh copy/tests/modules.sh
+broken docs/PROOFS.md 's,`tests/files.sh`,`tests/paths.sh`,' \
+    'failed: docs/PROOFS.md names tests/paths.sh, which is there' sh copy/tests/modules.sh
 broken docs/FORMATS.md 's/no key is defined/no key is there/;s/defines no key/has no key/' \
     'bad NO_KEY' sh copy/tests/words.sh
 broken crates/keymap_core/src/unseen.rt 's/c == 0x3164/c == 0x3165/' '' python3 -B copy/bench/unseen.py --check
@@ -132,6 +132,19 @@ broken crates/keymap_draw/src/characters.rt 's/ || c == 0x7fd//' '' python3 -B c
 broken crates/keymap_draw/specs/Characters.antt 's/0xfffe (c/0xffff (c/' '' python3 -B copy/bench/unseen.py --check
 broken crates/keymap_draw/src/tables.rt 's/b"lrm  "/b"rlm  "/' '' python3 -B copy/bench/unseen.py --check
 broken crates/keymap_draw/specs/Names.antt 's/"wj"/"zwj"/' '' python3 -B copy/bench/unseen.py --check
+
+# A transcript in which a command prints something else, one that ends before its end, one without a command, and none.
+transcripts() {
+    sh copy/tests/transcripts.sh "$program" "$@"
+}
+file=tests/transcripts/check.t
+number=$(grep -n '^  \$ kmap check shift$' "$top/$file" | cut -d: -f1)
+broken $file 's/^  accepted$/  refused/' "failed: check.t:$number: kmap check shift" transcripts copy/$file
+broken $file "$number"'s/.*/  $ exit/' "failed: check.t:$number: exit" transcripts copy/$file
+broken $file 's/^  \$/$/; /^  >/d' 'failed: check.t: there is no command' transcripts copy/$file
+rm copy/tests/transcripts/*
+refuses 'failed: there is no .*/copy/tests/transcripts/' transcripts
+cp "$top"/tests/transcripts/*.t copy/tests/transcripts
 
 # Edits that must fail, by a kit that only tells: one that is refused where its file says, elsewhere, in a branch, for a
 # name that is gone, one that can't be applied, one of which nothing is told, one that says nothing, and none at all.
@@ -290,10 +303,11 @@ broken crates/calls/src/runs.rt 's/given = dump_run(/given = dump_narrow_run(/' 
 
 # A picture without a reader of XML, and two builds that both fail: of the tools only those are there that are named.
 mkdir tools
-for tool in awk cat cmp cut dirname diff expr grep head mkdir mktemp rm sed sh sort tail tr wc comm basename cp; do
+for tool in awk cat cmp cut dirname diff expr grep head ln mkdir mktemp rm sed sh sort tail tr wc comm basename cp; do
     ln -s "$(command -v $tool)" tools
 done
-refuses 'failed: there is neither xmllint nor python3' env PATH="$folder/tools" sh "$top/tests/draw.sh" "$program"
+refuses '+  there is neither xmllint nor python3' env PATH="$folder/tools" sh "$top/tests/transcripts.sh" "$program" \
+    "$top/tests/transcripts/draw.t"
 cat > fails << 'SH'
 #!/bin/sh
 case $PWD in

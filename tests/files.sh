@@ -1,0 +1,290 @@
+#!/bin/sh
+# Runs the built program where a transcript can't: with pipes that stay open, readers that go away, devices and disks
+# that are full, as a user without rights, at once on one file, and against the clock.
+#
+# usage: files.sh PROGRAM
+# The last line is 'N passed, M failed'; the status is 0 where none failed.
+
+program=${1:-crates/kmap/out/kmap}
+case $program in
+/*) ;;
+*) program=$PWD/$program ;;
+esac
+top=$(cd "$(dirname "$0")/.." && pwd)
+. "$top/tests/shared.sh"
+examples=$top/examples
+folder=$(mktemp -d) || exit 1
+trap 'rm -rf "$folder"' EXIT
+cd "$folder" || exit 1
+LC_ALL=C
+export LC_ALL
+
+# ran NAME STATUS STDOUT STDERR COMMAND..: the command ends so, and writes exactly these lines, or none
+ran() {
+    label=$1 wanted=$2 out=$3 err=$4
+    shift 4
+    "$@" > stdout 2> stderr
+    holds "$label: status" [ $? -eq "$wanted" ]
+    printf %s "${out:+$out
+}" > wanted
+    same_text "$label: output" wanted stdout
+    printf %s "${err:+$err
+}" > wanted
+    same_text "$label: standard error" wanted stderr
+}
+
+# same_line FILE LINE: the file is this line
+same_line() {
+    echo "$2" | cmp -s - "$1"
+}
+
+echo "030 'a' 'A' nop nop 'a' 'A' nop nop C" > letter
+echo '042 lshift lshift lshift lshift lshift lshift lshift lshift O' > shift
+echo '058 clock clock clock clock clock clock clock clock O' > lock
+printf "042 'x' lshift 'x' lshift 'x' lshift 'x' lshift C\n059 nop clock nop clock nop clock nop clock O\n" > locked
+printf 'down 30\nup 30\n' > tap
+printf 'down 58\nup 58\nload\n' > load
+echo '30 zz' > bad
+echo '4 nop nop nop nop nop nop nop nop O' > odd
+echo '    4   nop    nop    nop    nop    nop    nop    nop    nop     O' > even
+echo '5 nop nop nop nop nop nop nop O' > faulty
+printf a > sentence
+"$program" compile letter tables
+bad_word=': error: zz means nothing; a cell that gives nothing is nop [BadWord]
+  30 zz
+     ^'
+
+# What comes by a pipe is answered once its fault has come: the pipe stays open, so there is no end to wait for.
+mkfifo pipe
+exec 3<> pipe
+printf "030 'a' zz " >&3
+ran 'a fault in an open pipe' 1 '' 'kmap: text line 1 offset 8: BadWord' timeout 10 "$program" check pipe
+exec 3>&-
+if [ -e /dev/stdin ]; then
+    cat bad | "$program" lint /dev/stdin > stdout
+    printf '/dev/stdin:1:4%s\n' "$bad_word" > wanted
+    same_text 'a text that comes by a pipe' wanted stdout
+fi
+if [ -e /dev/zero ]; then
+    ran 'a text without end' 1 '' 'kmap: /dev/zero: text: more than 1048576 bytes' "$program" lint /dev/zero
+fi
+
+# fails_to_write NAME ARGS..: on a full device and on a closed standard output the fault is told
+fails_to_write() {
+    label=$1
+    shift
+    if [ -e /dev/full ]; then
+        "$program" "$@" > /dev/full 2> stderr
+        holds "$label to a full device: status" [ $? -eq 1 ]
+        holds "$label to a full device: line" same_line stderr 'kmap: write fault after 0 bytes'
+    fi
+    "$program" "$@" >&- 2> stderr
+    holds "$label to a closed output: status" [ $? -eq 1 ]
+    holds "$label to a closed output: line" same_line stderr 'kmap: write fault after 0 bytes'
+}
+fails_to_write 'checks' check shift
+fails_to_write 'checks two' check shift letter
+fails_to_write 'shows' check --show "$examples/trap.kbd"
+fails_to_write 'searches' search shift
+fails_to_write 'searches two' search lock --next locked
+fails_to_write 'lints' lint "$examples/trap.kbd"
+fails_to_write 'lints a fault' lint bad
+fails_to_write 'lays out' fmt --print letter
+fails_to_write 'lays out before a fault' fmt --print even faulty
+fails_to_write 'tells what is not laid out' fmt --check letter
+fails_to_write 'types a sentence' type letter sentence
+fails_to_write 'dumps' dump tables
+fails_to_write 'draws' draw letter
+fails_to_write 'draws an example' draw "$examples/us.kbd"
+fails_to_write 'covers' cover letter
+fails_to_write 'plays' play letter tap
+fails_to_write 'plays two' play lock load --next shift
+fails_to_write 'types' play letter tap --typed
+fails_to_write 'helps' --help
+fails_to_write 'helps on a command' check --help
+fails_to_write 'tells its version' --version
+if [ -e /dev/full ]; then
+    ran 'compiles to a full device' 1 '' 'kmap: write fault after 0 bytes' "$program" compile letter /dev/full
+    "$program" lint shift > /dev/full 2> stderr
+    holds 'nothing for a full device: status' [ $? -eq 0 ]
+    "$program" lint none > stdout 2> /dev/full
+    holds 'a fault line for a full device: status' [ $? -eq 1 ]
+    "$program" check none 2> /dev/full
+    holds 'the status stays where the line cannot be written' [ $? -eq 1 ]
+fi
+"$program" check none 2>&-
+holds 'the status stays where there is no place for the line' [ $? -eq 1 ]
+
+# leaves NAME ARGS..: what the program writes has no reader, which ends it without a word
+leaves() {
+    label=$1
+    shift
+    mkfifo left
+    exec 4<> left 5> left
+    exec 4<&-
+    (exec "$program" "$@" >&5 5>&-) 2> stderr
+    got=$?
+    exec 5>&-
+    rm left
+    holds "$label without a reader: status $got" [ $got -eq 1 ]
+    holds "$label without a reader: no line" [ ! -s stderr ]
+}
+leaves 'checks' check shift
+leaves 'checks two' check shift letter
+leaves 'searches' search shift
+leaves 'lints' lint "$examples/trap.kbd"
+leaves 'lays out' fmt --print letter
+leaves 'tells what is not laid out' fmt --check letter letter
+leaves 'types a sentence' type letter sentence
+leaves 'covers' cover shift
+leaves 'dumps' dump tables
+leaves 'draws' draw letter
+leaves 'plays' play letter tap
+leaves 'helps' --help
+
+# A disk is full after some bytes, as far as the program sees it: the old file stays, and nothing lies beside it.
+# full ARGS..: the program, where no file may have more than 4,096 bytes or 8,192
+full() {
+    (trap '' XFSZ; ulimit -f 8; exec "$program" "$@")
+}
+echo old > kept
+for file in kept part; do
+    full compile letter $file > stdout 2> stderr
+    holds 'a full disk: status' [ $? -eq 1 ]
+    holds 'a full disk: line' grep -qxE 'kmap: write fault after (4096|8192) bytes' stderr
+    holds 'a full disk leaves no new file' [ ! -e $file.kmap-new ]
+done
+holds 'a full disk leaves the old file' same_line kept old
+holds 'a full disk leaves no part' [ ! -e part ]
+yes '# a comment ' | head -n 1000 > big
+cp big kept
+full fmt big > stdout 2> stderr
+holds 'a full disk for fmt: status' [ $? -eq 1 ]
+holds 'a full disk for fmt: line' grep -qxE 'kmap: big: write fault after (4096|8192) bytes' stderr
+holds 'a full disk for fmt: no name' [ ! -s stdout ]
+holds 'a full disk for fmt: the text stays' cmp -s big kept
+holds 'a full disk for fmt: no new file' [ ! -e big.kmap-fmt ]
+
+# The name of a file that is written, for which there is no room: the file counts as replaced.
+if [ -e /dev/full ]; then
+    cp odd one
+    cp odd two
+    "$program" fmt even one two > /dev/full 2> stderr
+    holds 'a full output: status' [ $? -eq 1 ]
+    printf 'kmap: one: write fault after 0 bytes\nkmap: one: replaced\n' > wanted
+    same_text 'a full output: lines' wanted stderr
+    holds 'a full output: the text is written' cmp -s even one
+    holds 'a full output: nothing follows' cmp -s odd two
+    # An output that has room for one name: what was told before counts as replaced too.
+    (trap '' XFSZ; ulimit -f 8; exec head -c 20000 /dev/zero) > some 2> stderr
+    room=$(wc -c < some)
+    head -c $((room - 4)) /dev/zero > some
+    cp odd one
+    full fmt one two >> some 2> stderr
+    holds 'room for one name: status' [ $? -eq 1 ]
+    printf 'kmap: two: write fault after 0 bytes\nkmap: one: replaced\nkmap: two: replaced\n' > wanted
+    same_text 'room for one name: lines' wanted stderr
+fi
+
+# Runs at once on one file: all end well, and nothing is left. Those of fmt that come late find it in the layout.
+# at_once NAME OUTPUT ARGS..: eight runs, of which some print this and the others nothing
+at_once() {
+    label=$1 output=$2
+    shift 2
+    for number in 1 2 3 4 5 6 7 8; do
+        { "$program" "$@" > once.out.$number 2>&1; echo $? > once.status.$number; } &
+    done
+    wait
+    holds "$label: statuses" [ "$(cat once.status.* | sort -u)" = 0 ]
+    holds "$label: what is told" [ "$(cat once.out.* | sort -u)" = "$output" ]
+    holds "$label: nothing beside it" [ "$(ls once)" = file ]
+}
+mkdir once
+for run in 1 2 3 4 5; do
+    at_once "eight runs of compile, $run" '' compile letter once/file
+    holds "eight runs of compile, $run: the tables" cmp -s once/file tables
+done
+for run in 1 2 3 4 5 6 7 8 9 10; do
+    cp odd once/file
+    at_once "eight runs of fmt, $run" once/file fmt once/file
+    holds "eight runs of fmt, $run: the text" cmp -s even once/file
+done
+
+# Rights that are lacking, which the superuser never lacks: so as nobody, where that can be.
+as_nobody=
+if [ "$(id -u)" -eq 0 ]; then
+    chmod 755 .
+    as_nobody='setpriv --reuid=65534 --regid=65534 --clear-groups'
+    # shellcheck disable=SC2086 # they are words
+    if ! $as_nobody "$program" --version > stdout 2>&1; then
+        as_nobody=none
+        echo 'skipped: nobody may not run the program, or there is no setpriv, and the superuser has all rights'
+    fi
+fi
+if [ "$as_nobody" != none ]; then
+    mkdir bare closed
+    echo old > bare/mine
+    echo old > bare/kept
+    cp odd odd.write
+    cp odd closed/odd
+    cp odd unread
+    [ -z "$as_nobody" ] || chown 65534:65534 bare/mine bare/kept odd.write closed/odd unread
+    chmod 644 letter bare/mine closed/odd
+    chmod 444 bare/kept odd.write
+    chmod 000 unread
+    chmod 555 bare closed
+    # shellcheck disable=SC2086 # they are words
+    ran 'a folder without rights' 0 '' '' $as_nobody "$program" compile letter bare/mine
+    holds 'a folder without rights: written in place' cmp -s bare/mine tables
+    # shellcheck disable=SC2086 # they are words
+    ran 'a file without rights' 1 '' 'kmap: cannot create bare/kept' $as_nobody "$program" compile letter bare/kept
+    holds 'a file without rights stays' same_line bare/kept old
+    # shellcheck disable=SC2086 # they are words
+    ran 'no file in such a folder' 1 '' 'kmap: cannot create bare/none' $as_nobody "$program" compile letter bare/none
+    holds 'none is made in such a folder' [ "$(ls bare)" = "kept
+mine" ]
+    # shellcheck disable=SC2086 # they are words
+    ran 'no rights to format' 1 '' 'kmap: cannot replace odd.write
+kmap: cannot create closed/odd.kmap-fmt
+kmap: cannot open unread' $as_nobody "$program" fmt odd.write closed/odd unread
+    holds 'no rights to format: a text stays' cmp -s odd odd.write
+    holds 'no rights to format: the other stays' cmp -s odd closed/odd
+    holds 'no rights to format: no new file' [ ! -e odd.write.kmap-fmt ]
+    if [ -n "$as_nobody" ]; then
+        mkdir own
+        chmod 777 own
+        cp odd own/theirs
+        chmod 666 own/theirs
+        $as_nobody "$program" fmt own/theirs > stdout 2> stderr
+        holds 'a file of another owner: line' same_line stderr 'kmap: cannot replace own/theirs'
+        holds 'a file of another owner stays' cmp -s odd own/theirs
+        holds 'no new file beside it' [ ! -e own/theirs.kmap-fmt ]
+    fi
+    chmod 755 bare closed
+fi
+
+# A text of 1 MiB in which each line but the last has no effect: all of it is told, in some seconds.
+awk -v line='1 1 1 1 1 1 1 1 1 O' 'BEGIN { for (i = 0; i < 52428; i++) print line }' > t
+start=$(date +%s)
+timeout 60 "$program" lint t > got 2> stderr
+holds 'a warning in each line: status' [ $? -eq 0 ]
+holds 'a warning in each line: within ten seconds' [ $(($(date +%s) - start)) -le 10 ]
+holds 'a warning in each line: nothing on standard error' [ ! -s stderr ]
+holds 'a warning in each line: lines' [ "$(wc -l < got)" -eq $((1 + 3 * (52427 + 8))) ]
+echo 't:52427:1: warning: this definition of slot 1 has no effect: line 52428 defines it again [defined-again]' > want
+sed -n "$((1 + 3 * 52426 + 1))p" got > last
+same_text 'a warning in each line: the last one' want last
+
+# An editor reads the places of diagnostics.
+if is_there vim; then
+    cp "$examples/trap.kbd" .
+    ln -s "$program" kmap
+    PATH=$folder:$PATH vim -es -u NONE -i NONE -c 'set makeprg=kmap\ lint\ %:S' -c 'edit trap.kbd' -c 'make!' \
+        -c 'call writefile(map(getqflist(), {_, q -> printf("%d %d %d", q.valid, q.lnum, q.col)}), "places")' \
+        -c 'qa!' > vim.said 2>&1
+    grep '^1 ' places > got
+    echo '1 6 9' > want
+    same_text 'the places that vim reads' want got
+fi
+
+counted

@@ -1,0 +1,124 @@
+`kmap cover` prints a script that tests a console, behind comments on what it leaves out and what never comes.
+
+`covers` makes the file `script`: it has a line of answers for each event, and at its end no modifier is on. `begins`
+prints the comments before the events, and `parts` those that name a part.
+  $ covers() {
+  >     kmap cover "$1" > script && kmap play "$1" script > answers &&
+  >         [ "$(wc -l < answers)" -eq "$(grep -vc '^#' script)" ] && tail -n 1 answers | grep -q 'mods none'
+  > }
+  $ begins() {
+  >     sed '/^# looks$/,$d' script
+  > }
+  $ parts() {
+  >     grep '^# [a-z-]*$' script
+  > }
+
+Only released keys are pressed, only pressed ones repeated and released, and at the end none is pressed:
+  $ possible() {
+  >     awk '
+  >         $1 == "down" { if (down[$2]) bad++; down[$2] = 1 }
+  >         $1 == "repeat" { if (!down[$2]) bad++ }
+  >         $1 == "up" { if (!down[$2]) bad++; down[$2] = 0 }
+  >         END { for (key in down) if (down[key]) bad++; exit bad > 0 }' script
+  > }
+
+Real keymaps: all that presses can reach is seen, and the upper half, which nothing selects, is never seen. There are at
+most 4,000 events.
+  $ covers "$examples/us.kbd"
+  $ begins
+  # cells: 1024, left out 0, never 1024
+  # lock settings: 512, left out 0, never 512
+  # pairs: 54, left out 0, never 0
+  # never: slots 128 to 255; columns 0 1 2 3 4 5 6 7; locks none nlock clock clock+nlock
+  $ parts
+  # looks
+  # accents
+  # rules
+  $ possible
+  $ [ "$(grep -vc '^#' script)" -le 4000 ]
+  $ covers "$examples/de.kbd"
+  $ begins
+  # cells: 1024, left out 0, never 1024
+  # lock settings: 512, left out 0, never 512
+  # pairs: 52, left out 0, never 0
+  # never: slots 128 to 255; columns 0 1 2 3 4 5 6 7; locks none nlock clock clock+nlock
+  $ parts
+  # looks
+  # accents
+  # rules
+  $ possible
+  $ [ "$(grep -vc '^#' script)" -le 4000 ]
+
+A keymap in which shift can stick: what only comes after that is not called never.
+  $ covers "$examples/trap.kbd"
+  $ begins
+  # cells: 512, left out 0, not before a modifier sticks 1536
+  # lock settings: 128, left out 0, not before a modifier sticks 896
+  # pairs: 0, left out 0, not before a modifier sticks 0
+  # not before a modifier sticks: slots 0 to 127; columns 4 5 6 7; locks nlock clock clock+nlock
+  # not before a modifier sticks: slots 128 to 255; columns 0 1 2 3 4 5 6 7; locks none nlock clock clock+nlock
+
+One key and no modifier: each of its slots is seen in one column, with no lock on, and each key is tapped once.
+  $ echo "30 'a' 'A' nop nop 'a' 'A' nop nop C" > letter
+  $ covers letter
+  $ begins
+  # cells: 128, left out 0, never 1920
+  # lock settings: 128, left out 0, never 896
+  # pairs: 0, left out 0, never 0
+  # never: slots 0 to 127; columns 1 2 3 4 5 6 7; locks nlock clock clock+nlock
+  # never: slots 128 to 255; columns 0 1 2 3 4 5 6 7; locks none nlock clock clock+nlock
+  $ grep -c '^down' script
+  128
+
+A dead key whose accent is composed with a blank and a base that is there, and one that no key has.
+  $ cat > accent << 'END'
+  > 40 dacu dacu dacu dacu dacu dacu dacu dacu O
+  > 57 ' ' ' ' ' ' ' ' ' ' ' ' ' ' ' ' O
+  > 30 'a' 'a' 'a' 'a' 'a' 'a' 'a' 'a' O dacu 180 ( 'a' 225 ) ( 'e' 233 ) ( 'a' 261 ) dgra nul ( 'a' 'b' )
+  > END
+  $ covers accent
+  $ grep -x -e '# pairs: .*' -e '# never: dacu .*' script
+  # pairs: 2, left out 0, never 1
+  # never: dacu with 101
+
+alock turns on by a key of the lower half that is a letter in the upper one: its turn is one-way, and comes last.
+  $ cat > oneway << 'END'
+  > 58 alock alock alock alock alock alock alock alock O
+  > 186 'z' 'z' 'z' 'z' 'z' 'z' 'z' 'z' O
+  > END
+  $ covers oneway
+  $ parts
+  # looks
+  # one-way
+  $ grep '^# cells' script
+  # cells: 256, left out 0, never 1792
+
+No file, a folder, a text that ends too early, and one that is too long:
+  $ kmap cover nothing
+  ! kmap: cannot open nothing
+  [1]
+  $ kmap cover .
+  ! kmap: text: read fault at offset 0
+  [1]
+  $ echo "30 'a'" > inside
+  $ kmap cover inside
+  ! kmap: text line 2 offset 7: EndInside
+  [1]
+  $ head -c 1048577 /dev/zero | tr '\000' ' ' > long
+  $ kmap cover long
+  ! kmap: text: more than 1048576 bytes
+  [1]
+
+Eleven keys for each modifier: more states than the search goes over.
+  $ awk 'BEGIN {
+  >     n = split("lshift rshift lctrl rctrl lalt ralt ashift meta", name, " ")
+  >     for (half = 0; half < 256; half += 128)
+  >         for (key = 0; key < 11 * n; key++) {
+  >             printf "%d", key + half
+  >             for (column = 0; column < 8; column++) printf " %s", name[key % n + 1]
+  >             print " O"
+  >         }
+  > }' > many
+  $ kmap cover many
+  ! kmap: more than 65536 states
+  [1]

@@ -1,0 +1,279 @@
+`kmap lint` on what is no token, or one that has no meaning: the texts as small as they can be, each with the place of
+the fault, its line, and the caret below it.
+
+BadByte. A character that begins no word, of one byte, of two and of four:
+  $ echo '30 $' > t
+  $ kmap lint t
+  t:1:4: error: $ begins no word; a character that is meant is quoted: '$' [BadByte]
+    30 $
+       ^
+  [1]
+  $ printf '30 \302\243\n' > t
+  $ kmap lint t
+  t:1:4: error: £ begins no word; a character that is meant is quoted: '£' [BadByte]
+    30 £
+       ^
+  [1]
+  $ printf '30 \360\237\230\200\n' > t
+  $ kmap lint t
+  t:1:4: error: 😀 begins no word; a character that is meant is quoted: '😀' [BadByte]
+    30 😀
+       ^
+  [1]
+
+Bytes that are not shown: a form feed, the byte 127, and one that is no character:
+  $ printf '30 \014\n' > t
+  $ kmap lint t
+  t:1:4: error: the byte 0x0c begins no word [BadByte]
+    30 �
+       ^
+  [1]
+  $ printf '30 \177\n' > t
+  $ kmap lint t
+  t:1:4: error: the byte 0x7f begins no word [BadByte]
+    30 �
+       ^
+  [1]
+  $ printf '30 \344\n' > t
+  $ kmap lint t
+  t:1:4: error: � begins no word; a character that is meant is quoted: '�' [BadByte]
+    30 �
+       ^
+  [1]
+
+BadLiteral. Two characters between apostrophes, an apostrophe that is missing, and a line feed between them:
+  $ echo "30 'ab' 'b'" > t
+  $ kmap lint t
+  t:1:4: error: no quoted character stands here: an apostrophe, one character other than a line feed, an apostrophe [BadLiteral]
+    30 'ab' 'b'
+       ^
+  [1]
+  $ echo "30 'a 'b'" > t
+  $ kmap lint t
+  t:1:4: error: no quoted character stands here: an apostrophe, one character other than a line feed, an apostrophe [BadLiteral]
+    30 'a 'b'
+       ^
+  [1]
+  $ printf "30 '\n" > t
+  $ kmap lint t
+  t:1:4: error: no quoted character stands here: an apostrophe, one character other than a line feed, an apostrophe [BadLiteral]
+    30 '
+       ^
+  [1]
+
+BadWord. A word without a meaning, where a cell is wanted and where the character of an accent is:
+  $ echo '30 zz' > t
+  $ kmap lint t
+  t:1:4: error: zz means nothing; a cell that gives nothing is nop [BadWord]
+    30 zz
+       ^
+  [1]
+  $ echo 'dacu zz' > t
+  $ kmap lint t
+  t:1:6: error: zz means nothing [BadWord]
+    dacu zz
+         ^
+  [1]
+
+A letter without apostrophes, as a cell, as the character of an accent, as a base and as a result:
+  $ echo '30 x' > t
+  $ kmap lint t
+  t:1:4: error: x means nothing; the character is 'x' [BadWord]
+    30 x
+       ^
+  [1]
+  $ echo 'dacu x' > t
+  $ kmap lint t
+  t:1:6: error: x means nothing; the character is 'x' [BadWord]
+    dacu x
+         ^
+  [1]
+  $ echo 'dacu 180 ( x' > t
+  $ kmap lint t
+  t:1:12: error: x means nothing; the character is 'x' [BadWord]
+    dacu 180 ( x
+               ^
+  [1]
+  $ echo "dacu 180 ( 'a' x" > t
+  $ kmap lint t
+  t:1:16: error: x means nothing; the character is 'x' [BadWord]
+    dacu 180 ( 'a' x
+                   ^
+  [1]
+
+A letter where no character can be meant: as a definition and as a lock letter:
+  $ echo 'x' > t
+  $ kmap lint t
+  t:1:1: error: x means nothing [BadWord]
+    x
+    ^
+  [1]
+  $ echo "30 'a' 'a' 'a' 'a' 'a' 'a' 'a' 'a' x" > t
+  $ kmap lint t
+  t:1:36: error: x means nothing [BadWord]
+    30 'a' 'a' 'a' 'a' 'a' 'a' 'a' 'a' x
+                                       ^
+  [1]
+
+A character as others write it, of which so much is told as of a word, and U+ without a number:
+  $ echo '30 U+00e4' > t
+  $ kmap lint t
+  t:1:4: error: U means nothing; for U+00e4 write 0x00e4 [BadWord]
+    30 U+00e4
+       ^
+  [1]
+  $ echo '30 U+1111111111222222222233333333334' > t
+  $ kmap lint t
+  t:1:4: error: U means nothing; for U+111111111122222222223333 write 0x111111111122222222223333 [BadWord]
+    30 U+1111111111222222222233333333334
+       ^
+  [1]
+  $ echo 'dacu U+b4, or so' > t
+  $ kmap lint t
+  t:1:6: error: U means nothing; for U+b4 write 0xb4 [BadWord]
+    dacu U+b4, or so
+         ^
+  [1]
+  $ echo '30 U+' > t
+  $ kmap lint t
+  t:1:4: error: U means nothing; the character is 'U' [BadWord]
+    30 U+
+       ^
+  [1]
+
+A word is told up to 24 characters, and has at most 32 bytes:
+  $ echo '30 abcdefghijklmnopqrstuvwxyz012345' > t
+  $ kmap lint t
+  t:1:4: error: abcdefghijklmnopqrstuvwx means nothing; a cell that gives nothing is nop [BadWord]
+    30 abcdefghijklmnopqrstuvwxyz012345
+       ^
+  [1]
+  $ echo '30 abcdefghijklmnopqrstuvwxyz0123456' > t
+  $ kmap lint t
+  t:1:4: error: a word has at most 32 bytes; this one has 33; a cell that gives nothing is nop [BadWord]
+    30 abcdefghijklmnopqrstuvwxyz0123456
+       ^
+  [1]
+  $ echo 'abcdefghijklmnopqrstuvwxyz0123456' > t
+  $ kmap lint t
+  t:1:1: error: a word has at most 32 bytes; this one has 33 [BadWord]
+    abcdefghijklmnopqrstuvwxyz0123456
+    ^
+  [1]
+
+KeyTooLarge. A slot that is too large, in decimal and in hexadecimal, and told up to 24 characters:
+  $ echo '256 nop' > t
+  $ kmap lint t
+  t:1:1: error: 256 is no slot: slots are 0 to 255 [KeyTooLarge]
+    256 nop
+    ^
+  [1]
+  $ echo '0x100 nop' > t
+  $ kmap lint t
+  t:1:1: error: 0x100 is no slot: slots are 0 to 255 [KeyTooLarge]
+    0x100 nop
+    ^
+  [1]
+  $ echo '1234567890123456789012345678 nop' > t
+  $ kmap lint t
+  t:1:1: error: 123456789012345678901234 is no slot: slots are 0 to 255 [KeyTooLarge]
+    1234567890123456789012345678 nop
+    ^
+  [1]
+
+BadChar. A surrogate, and a character that is too large:
+  $ echo '30 0xD800' > t
+  $ kmap lint t
+  t:1:4: error: 0xD800 is no character: characters are 0 to 0xd7ff and 0xe000 to 0x10ffff [BadChar]
+    30 0xD800
+       ^
+  [1]
+  $ echo 'dacu 0x110000' > t
+  $ kmap lint t
+  t:1:6: error: 0x110000 is no character: characters are 0 to 0xd7ff and 0xe000 to 0x10ffff [BadChar]
+    dacu 0x110000
+         ^
+  [1]
+
+BadFunction. A function key that is too large, the function key 0, and a screen that is too large:
+  $ echo '30 FKEY97' > t
+  $ kmap lint t
+  t:1:4: error: FKEY97 does not exist: there are fkey01 to fkey96 [BadFunction]
+    30 FKEY97
+       ^
+  [1]
+  $ echo '30 fkey0' > t
+  $ kmap lint t
+  t:1:4: error: fkey0 does not exist: there are fkey01 to fkey96 [BadFunction]
+    30 fkey0
+       ^
+  [1]
+  $ echo '30 Scr17' > t
+  $ kmap lint t
+  t:1:4: error: Scr17 does not exist: there are scr01 to scr16 [BadFunction]
+    30 Scr17
+       ^
+  [1]
+
+TooManyPairs. The pair 53 of an accent:
+  $ {
+  >     echo 'dacu 180'
+  >     seq 33 85 | sed 's/.*/ ( & 300 )/'
+  > } > t
+  $ kmap lint t
+  t:54:2: error: dacu has 52 pairs already, and room for no more [TooManyPairs]
+     ( 85 300 )
+     ^
+  [1]
+
+ZeroBase. The base 0, and its name:
+  $ echo 'dacu 180 ( 0 0xe1 )' > t
+  $ kmap lint t
+  t:1:12: error: the base of a pair is a character other than 0 [ZeroBase]
+    dacu 180 ( 0 0xe1 )
+               ^
+  [1]
+  $ echo 'dacu 180 ( nul 0xe1 )' > t
+  $ kmap lint t
+  t:1:12: error: the base of a pair is a character other than 0 [ZeroBase]
+    dacu 180 ( nul 0xe1 )
+               ^
+  [1]
+
+Combined. Each modifier joined with alock:
+  $ echo '30 lshifta' > t
+  $ kmap lint t
+  t:1:4: error: lshifta, a modifier joined with alock, is not supported; write lshift or alock [Combined]
+    30 lshifta
+       ^
+  [1]
+  $ echo '30 rshifta' > t
+  $ kmap lint t
+  t:1:4: error: rshifta, a modifier joined with alock, is not supported; write rshift or alock [Combined]
+    30 rshifta
+       ^
+  [1]
+  $ echo '30 lctrla' > t
+  $ kmap lint t
+  t:1:4: error: lctrla, a modifier joined with alock, is not supported; write lctrl or alock [Combined]
+    30 lctrla
+       ^
+  [1]
+  $ echo '30 rctrla' > t
+  $ kmap lint t
+  t:1:4: error: rctrla, a modifier joined with alock, is not supported; write rctrl or alock [Combined]
+    30 rctrla
+       ^
+  [1]
+  $ echo '30 lalta' > t
+  $ kmap lint t
+  t:1:4: error: lalta, a modifier joined with alock, is not supported; write lalt or alock [Combined]
+    30 lalta
+       ^
+  [1]
+  $ echo '30 ralta' > t
+  $ kmap lint t
+  t:1:4: error: ralta, a modifier joined with alock, is not supported; write ralt or alock [Combined]
+    30 ralta
+       ^
+  [1]

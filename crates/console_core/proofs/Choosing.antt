@@ -44,13 +44,13 @@ view-can m s e v st t has =
 
 -- ---- no keys
 
-pub no-keys : (m : MapValue) (s : State) (e : Explored) (c : ℕ) → IsView m s e → IsStand m s → e.is_complete ≡ true
+pub no-way : (m : MapValue) (s : State) (e : Explored) (c : ℕ) → IsView m s e → IsStand m s → e.is_complete ≡ true
     → (HasTap e (plain_tap (symbol.Character c)) → ⊥) → ((i : ℕ) (x : Symbol) → CanAccent m e c i x → ⊥)
     → CanType m c
     → ⊥
-no-keys m s e c v st complete direct composed (inl can) =
+no-way m s e c v st complete direct composed (inl can) =
     direct (view-met m s e v st complete (plain_tap (symbol.Character c)) can)
-no-keys m s e c v st complete direct composed (inr (i, x, can_use, made, dead, tap)) =
+no-way m s e c v st complete direct composed (inr (i, x, can_use, made, dead, tap)) =
     composed i x (
       can_use,
       view-met m s e v st complete (dead_tap i) dead,
@@ -153,7 +153,7 @@ pub composed-leads : (m : MapValue) (s : State) (e f : Explored) (i c : ℕ) (a 
     → Leads m c s h now last
 composed-leads m s e f i c a h between now mid (typed.To next) v st accented stroke w leads =
     leads-composed m s e f i c a h between now mid next v st accented stroke w leads
-composed-leads m s e f i c a h between now mid typed.NoKeys v st accented stroke w (complete, none, same) =
+composed-leads m s e f i c a h between now mid typed.NoWay v st accented stroke w (complete, none, same) =
     λ can.
     none (found-again m s mid e f (plain_tap a.then) v st w
     (behind-dead m s e i c a h between mid v st accented stroke) complete accented.2.1)

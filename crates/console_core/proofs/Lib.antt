@@ -30,6 +30,7 @@ pub mod Reaching
 pub mod Readings
 pub mod Results
 pub mod Returning
+pub mod Refused
 pub mod RoutesHome
 pub mod Runs
 pub mod Scripts

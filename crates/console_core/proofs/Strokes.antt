@@ -233,9 +233,21 @@ stands-tap u h s plain x k st (lt, idle, seen, meta) = record {
 -- ---- answers
 
 -- the answer to a press, by what is looked up
-abbrev answer_at : MapValue → Option ℕ → Bool → Option Action → Cell → Answer
+abbrev pub answer_at : MapValue → Option ℕ → Bool → Option Action → Cell → Answer
 answer_at m p meta o (Char c) = answer_char m p meta c
 answer_at m p meta o (Act a) = answer_action m p meta (taken_over o a)
+
+pub look-answer : (m : MapValue) (h : List Event) (k : ℕ) (x : Cell)
+    → answer_to_look (between m m) k h x
+    ≡ answer_at m (accent_pending_after (between m m) h) (is_on_after (between m m) Meta h)
+    (remembered_after (between m m) k h) x
+look-answer m h k (Char c) =
+    ap (λ n. answer_char n (accent_pending_after (between m m) h) (is_on_after (between m m) Meta h) c)
+    (one_map m (is_second_in_force h))
+look-answer m h k (Act a) =
+    ap (λ n. answer_action n (accent_pending_after (between m m) h) (is_on_after (between m m) Meta h)
+    (taken_over (remembered_after (between m m) k h) a))
+    (one_map m (is_second_in_force h))
 
 press-answer : (m : MapValue) (h : List Event) (s : State) (k : ℕ) (x : Cell) → Stands (alone m) h s
     → look_in (alone m) s k ≡ x
@@ -243,23 +255,10 @@ press-answer : (m : MapValue) (h : List Event) (s : State) (k : ℕ) (x : Cell) 
     ≡ answer_at m (accent_pending_after (between m m) h) (is_on_after (between m m) Meta h)
     (remembered_after (between m m) k h) x
 press-answer m h s k x st seen =
-    (answers_by_cases (between m m) k h).0 ∙ ap (λ c. answer_to_look (between m m) k h c) looked ∙ by x
-  where
-    looked : look_after (between m m) k h ≡ x
-    looked =
-        ap (λ b. look (map_of (alone m) b) (resolved (between m m) h) k) (sym st.second)
-        ∙ follows-look (alone m) (resolved (between m m) h) s k st.exact.follows ∙ seen
-
-    by : (x : Cell) → answer_to_look (between m m) k h x
-        ≡ answer_at m (accent_pending_after (between m m) h) (is_on_after (between m m) Meta h)
-        (remembered_after (between m m) k h) x
-    by (Char c) =
-        ap (λ n. answer_char n (accent_pending_after (between m m) h) (is_on_after (between m m) Meta h) c)
-        (one_map m (is_second_in_force h))
-    by (Act a) =
-        ap (λ n. answer_action n (accent_pending_after (between m m) h) (is_on_after (between m m) Meta h)
-        (taken_over (remembered_after (between m m) k h) a))
-        (one_map m (is_second_in_force h))
+    let looked : look_after (between m m) k h ≡ x =
+    ap (λ b. look (map_of (alone m) b) (resolved (between m m) h) k) (sym st.second)
+    ∙ follows-look (alone m) (resolved (between m m) h) s k st.exact.follows ∙ seen in
+    (answers_by_cases (between m m) k h).0 ∙ ap (λ c. answer_to_look (between m m) k h c) looked ∙ look-answer m h k x
 
 -- one event more, by its answer
 typed-more : (m : MapValue) (h : List Event) (e : Event) (a : Answer) → answer_to (between m m) h e ≡ a

@@ -14,7 +14,9 @@ use Rattle.console_core.specs.Types.{Event, Answer, Lock, Modifier, Move}
 use Rattle.console_core.specs.declared.event.Answer.TheVariants as answer
 use Rattle.console_core.specs.declared.typing.Keyed.{Keyed}
 use Rattle.console_core.specs.declared.typing.Typing.{Typing}
-use Rattle.console_core.specs.History.{between, resolved, answers_to, answer_to, accent_pending_after, pressed}
+use Rattle.console_core.specs.History.{between, resolved, answers_to, answer_to, accent_pending_after, pressed, HasKey}
+use Rattle.console_core.specs.History.{HasKeys}
+use Rattle.keymap_core.proofs.Lists.{All-reversed}
 use Rattle.console_core.specs.Moves.{alone, State, start, state_from, events_along}
 use Rattle.console_core.specs.Resolved.{pending}
 use Rattle.console_core.specs.Typing.{AreTyped, CanType, IsAsNew, plainly, types_something, events_of}
@@ -80,7 +82,7 @@ events_so_far keyed = flat_map (λ (k : Keyed). k.events.items) keyed
 -- the characters up to the place were typed
 pub record HaveBeenTyped (m : MapValue) (cs : List ℕ) (place : ℕ) (keyed : List Keyed) (s : State) : Type 0 where
   pub stand : IsStand m s
-  pub characters : map (λ (k : Keyed). k.character) keyed ≡ take place cs
+  pub characters : characters_of keyed ≡ take place cs
   pub can : All (λ c. CanType m c) (take place cs)
   pub typed : HasTyped m (reverse (events_so_far keyed)) s None (take place cs)
   pub below : place ≤ length cs
@@ -152,6 +154,8 @@ typed-all m cs place x s h typed all (back, is, home, off, e) none =
     (walked m (reverse (events_so_far x.keyed.items)) s None (take place cs) back typed.typed is))) in
     record {
       characters = typed.characters ∙ all;
+      keys = subst HasKeys (reverse-reverse (events_of x))
+          (All-reversed HasKey (reverse (events_of x)) end.stands.keys);
       typed = typed-answers m (events_of x) cs end.typed;
       new = as-new m (reverse (events_of x)) end.stands end.pending;
     }

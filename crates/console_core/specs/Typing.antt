@@ -1,8 +1,8 @@
 -- What keys can type, and the events that type characters.
-use Rattle.std.specs.Prelude.{◌≡◌, ◌==◌, ℕ, ◌<◌, Bool, true, false, ◌⊎◌, List, [], ◌++◌, All, Option, None, Some, ⊤}
+use Rattle.std.specs.Prelude.{◌≡◌, ◌==◌, ℕ, ◌<◌, Bool, true, false, ◌⊎◌, List, [], ◌∷◌, ◌++◌, All, Option, None, Some, ⊤}
 use Rattle.std.specs.Prelude.{if◌then◌else◌, filter, map, reverse, slice_get, take, length}
 use Rattle.std.specs.List.{flat_map}
-use Rattle.console_core.specs.Types.{Modifier, Lock, Meta, Cell, Char, Act, Event, Answer, Move}
+use Rattle.console_core.specs.Types.{Modifier, Lock, Meta, Cell, Char, Act, Event, Press, Answer, Move}
 use Rattle.keymap_core.specs.declared.action.Action.TheVariants as act
 use Rattle.keymap_core.specs.Accents.{own_of}
 use Rattle.keymap_core.specs.Maps.{MapValue, accent_at}
@@ -10,17 +10,19 @@ use Rattle.keymap_core.specs.Numbers.{key_count}
 use Rattle.console_core.specs.declared.event.Answer.TheVariants as answer
 use Rattle.console_core.specs.declared.explored.Symbol.{Symbol}
 use Rattle.console_core.specs.declared.explored.Symbol.TheVariants as symbol
+use Rattle.console_core.specs.declared.typing.Keyed.{Keyed}
 use Rattle.console_core.specs.declared.typing.Typing.{Typing}
 use Rattle.console_core.specs.declared.typing.TypingError.{TypingError}
-use Rattle.console_core.specs.declared.typing.TypingError.TheVariants.{Memory, NoKeys, TooManyStates}
+use Rattle.console_core.specs.declared.typing.TypingError.TheVariants.{Memory, NoWay, TooManyStates}
 use Rattle.console_core.specs.Answers.{usable, composed_by}
-use Rattle.console_core.specs.History.{between, resolved, is_on_after, is_locked_after, accent_pending_after, answers_to}
-use Rattle.console_core.specs.History.{IsQuiet}
+use Rattle.console_core.specs.History.{between, resolved, is_on_after, is_locked_after, accent_pending_after, answer_to}
+use Rattle.console_core.specs.History.{answers_to, HasKeys, IsQuiet}
 use Rattle.console_core.specs.Resolved.{remembered, down}
 use Rattle.console_core.specs.Moves.{Under, alone, State, is_held, IsIdle, look_in, IsPath, state_after, IsPathFrom}
 use Rattle.console_core.specs.Moves.{state_from}
 use Rattle.console_core.specs.Returning.{IsHome}
-use Rattle.console_core.specs.Sticking.{ReachesMoreThan, state_limit}
+use Rattle.console_core.specs.Sights.{IsAdmitted}
+use Rattle.console_core.specs.Sticking.{NeverForgets, ReachesMoreThan, state_limit}
 
 -- moves lead home from the state
 abbrev pub ComesHome : Under → State → Type 0
@@ -73,6 +75,10 @@ pub record IsAsNew (m : MapValue) (h : List Event) : Type 0 where
   pub locked : (l : Lock) → is_locked_after (between m m) l h ≡ false
   pub pending : accent_pending_after (between m m) h ≡ None
 
+-- the characters that are typed
+abbrev pub characters_of : List Keyed → List ℕ
+characters_of keyed = map (λ (k : Keyed). k.character) keyed
+
 -- the events of the characters, and those behind them
 abbrev pub events_of : Typing → List Event
 events_of x = flat_map (λ k. k.events.items) x.keyed.items ++ x.last.items
@@ -80,13 +86,29 @@ events_of x = flat_map (λ k. k.events.items) x.keyed.items ++ x.last.items
 -- These are the characters, and the events, delivered to a new console, type them and nothing else, and leave the
 -- console as a new one.
 pub record AreTyped (m : MapValue) (cs : List ℕ) (x : Typing) : Type 0 where
-  pub characters : map (λ k. k.character) x.keyed.items ≡ cs
+  pub characters : characters_of x.keyed.items ≡ cs
+  pub keys : HasKeys (events_of x)
   pub typed : filter types_something (answers_to (between m m) [] (events_of x)) ≡ map plainly cs
   pub new : IsAsNew m (reverse (events_of x))
+
+-- some press of the list, which has the newest event first, types the character
+abbrev pub TypesAlong : MapValue → List Event → ℕ → Type 0
+TypesAlong m h c =
+    (later before : List Event) × (k : ℕ) × (h ≡ later ++ Press k ∷ before)
+    × (answer_to (between m m) before (Press k) ≡ plainly c)
+
+-- What presses, repeats, releases and resets type that leave a new console as a new one, keys can type: of all such lists
+-- if no path leads to where a holder looks up a character, and else of clean ones. So a character that keys can't type
+-- is typed by none of them.
+abbrev pub TypedCanBeTyped : Type 0
+TypedCanBeTyped =
+    (m : MapValue) (forgets : Bool) (h : List Event) (c : ℕ) → (forgets ≡ false → NeverForgets (alone m))
+    → IsAdmitted m forgets h → IsAsNew m h → TypesAlong m h c
+    → CanType m c
 
 -- why characters aren't typed: keys can type those before the place, and not the one there
 abbrev pub IsTypingError : MapValue → List ℕ → TypingError → Type 0
 IsTypingError m cs Memory = ⊤
-IsTypingError m cs (NoKeys n) =
+IsTypingError m cs (NoWay n) =
     All (λ c. CanType m c) (take n cs) × ((c : ℕ) × (slice_get cs n ≡ Some c) × (CanType m c → ⊥))
 IsTypingError m cs TooManyStates = (p : ℕ) × ReachesMoreThan (alone m) state_limit p

@@ -38,7 +38,7 @@ pub struct Typing {
 pub enum TypingError {
     Memory,
     /// No keys can type the character at this place, the first such.
-    NoKeys(usize),
+    NoWay(usize),
     /// There are more than 65,536 states, and none of those that were met serves.
     TooManyStates,
 }
@@ -213,7 +213,7 @@ fn dead_key_for(view: &Explored, map: &KeyMap, c: char) -> Option<Accented>
 pub enum Typed {
     /// By events that lead to this state.
     To(Held),
-    NoKeys,
+    NoWay,
     TooManyStates,
 }
 
@@ -264,7 +264,7 @@ fn tap_from(
         Some(at) => Ok(Typed::To(view.stroke(alloc, events, at)?)),
         None => {
             if view.is_complete {
-                Ok(Typed::NoKeys)
+                Ok(Typed::NoWay)
             } else {
                 Ok(Typed::TooManyStates)
             }
@@ -302,7 +302,7 @@ fn type_from<'m>(
         }
         None => {
             if view.is_complete {
-                Ok(Typed::NoKeys)
+                Ok(Typed::NoWay)
             } else {
                 Ok(Typed::TooManyStates)
             }
@@ -335,7 +335,7 @@ pub fn type_characters(
         let mut events = Vec::new(alloc);
         match type_from(&mut views, alloc, &mut events, map, &from, character)? {
             Typed::To(next) => from = next,
-            Typed::NoKeys => return Err(TypingError::NoKeys(place)),
+            Typed::NoWay => return Err(TypingError::NoWay(place)),
             Typed::TooManyStates => return Err(TypingError::TooManyStates),
         }
         push_keyed(&mut keyed, Keyed { character, events })?;

@@ -150,7 +150,7 @@ LeadsByTap e t h now (typed.To next) =
     (j k : ℕ) × (x : Entry) × (slice_get e.met.entries j ≡ Some x) × HasRoute e.routes.entries (state_of x.0)
     × IsTapOf (alone (map_of_explored e)) (state_of x.0) t.is_plain t.symbol k
     × IsStroke (alone (map_of_explored e)) (origin_in e) (state_of x.0) k h now (state_of next)
-LeadsByTap e t h now typed.NoKeys = (e.is_complete ≡ true) × (HasTap e t → ⊥) × (now ≡ h)
+LeadsByTap e t h now typed.NoWay = (e.is_complete ≡ true) × (HasTap e t → ⊥) × (now ≡ h)
 LeadsByTap e t h now typed.TooManyStates = (e.is_complete ≡ false) × (HasTap e t → ⊥) × (now ≡ h)
 
 -- The events that came after h type the character from the state, and lead to the next one.
@@ -163,5 +163,5 @@ pub record TypesOne (m : MapValue) (c : ℕ) (s : State) (h now : List Event) (n
 
 abbrev pub Leads : MapValue → ℕ → State → List Event → List Event → Typed → Type 0
 Leads m c s h now (typed.To next) = TypesOne m c s h now (state_of next)
-Leads m c s h now typed.NoKeys = CanType m c → ⊥
+Leads m c s h now typed.NoWay = CanType m c → ⊥
 Leads m c s h now typed.TooManyStates = (p : ℕ) × ReachesMoreThan (alone m) state_limit p

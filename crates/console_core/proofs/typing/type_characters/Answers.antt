@@ -16,8 +16,8 @@ loop-place-init c = record {
       c.new-keyed.ensures.items c.start-from.ensures;
 }
 
-pub returns-in-NoKeys-clause-error : goal.returns-in-NoKeys-clause-error
-returns-in-NoKeys-clause-error c =
+pub returns-in-NoWay-clause-error : goal.returns-in-NoWay-clause-error
+returns-in-NoWay-clause-error c =
     let cs = c.args.characters.now in
     let x = c.index-characters-place.result in (
       c.loop-place.invariant.typed.can,
@@ -26,7 +26,7 @@ returns-in-NoKeys-clause-error c =
         slice_get-get_or cs c.loop-place.place x c.loop-place-test.true
             ∙ ap (λ z. Some z) (sym c.index-characters-place.is),
         subst (λ r. Leads c.args.map.now x (state_of c.loop-place.from) (reverse c.new-events.result.items)
-        (reverse c.type_from.new.events.items) r) c.in-NoKeys.is c.in_ok-next.ensures.leads,
+        (reverse c.type_from.new.events.items) r) c.in-NoWay.is c.in_ok-next.ensures.leads,
       ),
     )
 

@@ -2,7 +2,7 @@ use Rattle.std.proofs.Common.{subst, sym, reverse}
 use Rattle.console_core.specs.declared.explored.Symbol.TheVariants as symbol
 use Rattle.console_core.specs.Inner.Exploring.{HasTap, IsTapAt, LeadsByTap, plain_tap}
 use Rattle.console_core.specs.Inner.Searching.{state_of}
-use Rattle.console_core.proofs.Choosing.{no-keys, too-many, leads-direct, behind-dead, composed-leads}
+use Rattle.console_core.proofs.Choosing.{no-way, too-many, leads-direct, behind-dead, composed-leads}
 use Rattle.console_core.proofs.Exploring.{stand-origin}
 use Rattle.console_core.proofs.typing.type_from.Goals as goal
 
@@ -74,7 +74,7 @@ pub returns-then-view-clause-leads : goal.returns-then-view-clause-leads
 returns-then-view-clause-leads c =
     let m = c.args.map.now in
     let e = c.view_of-view.result.now in
-    no-keys m (state_of c.args.from.now) e c.args.c (c.view_of-view.ensures m c.in_ok-see.ensures.views)
+    no-way m (state_of c.args.from.now) e c.args.c (c.view_of-view.ensures m c.in_ok-see.ensures.views)
     c.requires.stand c.if-view.true
     (λ has. c.in_default.ensures (subst (λ t. HasTap e t) (sym c.plain.ensures) has)) c.in-None.ensures
 

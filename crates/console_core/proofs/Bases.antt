@@ -30,14 +30,12 @@ first-member (q ∷ pairs) b c e = by (q.0 == b) refl e (λ f. first-member pair
     by true is f more = (q, (0, omega arith, refl), eqb-true q.0 b is)
     by false is f more = later (more f)
 
-pub base-cases : (m : MapValue) (e : Explored) (i c : ℕ) (a : AccentValue) → accent_at m i ≡ Some a
-    → (o : Option Symbol)
+-- none of these is a base, so nothing is
+no-base : (m : MapValue) (e : Explored) (i c : ℕ) (a : AccentValue) → accent_at m i ≡ Some a
     → ((p : ℕ × ℕ) → Contains a.pairs p → IsBase m e i c (symbol.Character p.0) → ⊥)
-    → MatchOption o ((IsBase m e i c (symbol.Character 32) → ⊥) × (IsBase m e i c (symbol.DeadKey i) → ⊥))
-    (λ x. IsBase m e i c x)
-    → MatchOption o ((x : Symbol) → IsBase m e i c x → ⊥) (λ x. IsBase m e i c x)
-base-cases m e i c a is (Some x) pairs base = base
-base-cases m e i c a is None pairs (blank, dead) = by
+    → (IsBase m e i c (symbol.Character 32) → ⊥) → (IsBase m e i c (symbol.DeadKey i) → ⊥)
+    → (x : Symbol) → IsBase m e i c x → ⊥
+no-base m e i c a is pairs blank dead = by
   where
     tapped : (b : ℕ) (t : Bool) → (b == 32) ≡ t → IsBase m e i c (symbol.Character b)
         → (if t then Some a.own else first_result a.pairs b) ≡ Some c → ⊥
@@ -52,6 +50,17 @@ base-cases m e i c a is None pairs (blank, dead) = by
     by (symbol.DeadKey j) base =
         let q = same-dead i j (own_of (accent_at m i)) c (j == i) refl base.0 in
         dead (subst (λ z. IsBase m e i c (symbol.DeadKey z)) q.0 base)
+
+pub base-cases : (near : Bool) (m : MapValue) (e : Explored) (i c : ℕ) (a : AccentValue) → accent_at m i ≡ Some a
+    → (o : Option Symbol)
+    → (near ≡ false → (p : ℕ × ℕ) → Contains a.pairs p → IsBase m e i c (symbol.Character p.0) → ⊥)
+    → MatchOption o
+    (near ≡ false → (IsBase m e i c (symbol.Character 32) → ⊥) × (IsBase m e i c (symbol.DeadKey i) → ⊥))
+    (λ x. IsBase m e i c x)
+    → MatchOption o (near ≡ false → (x : Symbol) → IsBase m e i c x → ⊥) (λ x. IsBase m e i c x)
+base-cases near m e i c a is (Some x) pairs base = base
+base-cases near m e i c a is None pairs others =
+    λ far. let other = others far in no-base m e i c a is (pairs far) other.0 other.1
 
 -- a usable accent stands before the end of the accents
 pub usable-below : (m : MapValue) (i n : ℕ) → usable m i ≡ true → slice_get m.accents n ≡ None → i < n

@@ -250,9 +250,11 @@ can-tap-met e x complete st t (path, is, (later, goes, home), (k, tap)) =
     let same : unscrolled s ≡ unscrolled (state_after u path) = met ∙ ap (λ z. unscrolled z) all.1 ∙ q.1 in
     let ends = near-path u (state_after u path) s later same goes in
     let route : HasRoute e.routes.entries s =
-    comes-route m es e.routes.entries searched settled j y at
-    (later, ends.0,
-    near-is_home (state_from u (state_after u path) later) (state_from u s later) ends.1 home) in
+    comes-route m es e.routes.entries searched settled j y at (
+      later,
+      ends.0,
+      near-is_home (state_from u (state_after u path) later) (state_from u s later) ends.1 home,
+    ) in
     (j, k, (y, at, route, tap-near u (state_after u path) s t.is_plain t.symbol k same tap))
 
 -- and what an exploration finds can be tapped

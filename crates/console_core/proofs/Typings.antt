@@ -19,7 +19,7 @@ use Rattle.console_core.specs.History.{HasKeys}
 use Rattle.keymap_core.proofs.Lists.{All-reversed}
 use Rattle.console_core.specs.Moves.{alone, State, start, state_from, events_along}
 use Rattle.console_core.specs.Resolved.{pending}
-use Rattle.console_core.specs.Typing.{AreTyped, CanType, IsAsNew, plainly, types_something, events_of}
+use Rattle.console_core.specs.Typing.{AreTyped, CanType, IsAsNew, characters_of, plainly, types_something, events_of}
 use Rattle.console_core.specs.Inner.Exploring.{AreViews, Views, GoesHome, HasTyped, IsStand, TypesOne, kept_if, typed_along}
 use Rattle.console_core.specs.Inner.Standing.{HoldsSome, Stands}
 use Rattle.console_core.proofs.Deliveries.{reverse-cons}
@@ -91,7 +91,7 @@ pub typed-none : (m : MapValue) (cs : List ℕ) (keyed : List Keyed) (s : State)
     → HaveBeenTyped m cs 0 keyed s
 typed-none m cs keyed s none is = record {
   stand = subst (λ t. IsStand m t) (sym is) (start-stand m);
-  characters = ap (λ z. map (λ (k : Keyed). k.character) z) none;
+  characters = ap characters_of none;
   can = All-nil (λ c. CanType m c);
   typed = record {
     stands = subst (λ z. Stands (alone m) (reverse (events_so_far z)) s) (sym none)
@@ -104,16 +104,16 @@ typed-none m cs keyed s none is = record {
 }
 
 pub typed-one : (m : MapValue) (cs : List ℕ) (place : ℕ) (keyed now : List Keyed) (s : State) (one : Keyed)
-    → (h : List Event) (next : State) → HaveBeenTyped m cs place keyed s → place < length cs
-    → one.character ≡ get_or cs place one.character → TypesOne m one.character s h (reverse one.events.items) next
-    → h ≡ [] → now ≡ keyed ++ one ∷ []
+    → (next : State) → HaveBeenTyped m cs place keyed s → place < length cs
+    → one.character ≡ get_or cs place one.character → TypesOne m one.character s [] (reverse one.events.items) next
+    → now ≡ keyed ++ one ∷ []
     → HaveBeenTyped m cs (place + 1) now next
-typed-one m cs place keyed now s one h next x lt is types none e =
+typed-one m cs place keyed now s one next x lt is types e =
     let c : ℕ = one.character in
     let more : take (place + 1) cs ≡ take place cs ++ c ∷ [] =
     take_more cs place c lt ∙ ap (λ z. take place cs ++ z ∷ []) (sym is) in
     let added : reverse one.events.items ≡ types.added =
-    types.events ∙ ap (λ z. types.added ++ z) none ∙ append-nil types.added in
+    types.events ∙ append-nil types.added in
     let all : reverse (events_so_far now) ≡ types.added ++ reverse (events_so_far keyed) =
     ap (λ z. reverse (events_so_far z)) e
     ∙ ap (λ z. reverse z) (flat_map-append (λ (k : Keyed). k.events.items) keyed (one ∷ []))
@@ -122,7 +122,7 @@ typed-one m cs place keyed now s one h next x lt is types none e =
     ∙ ap (λ z. z ++ reverse (events_so_far keyed)) added in
     record {
       stand = types.stand;
-      characters = ap (λ z. map (λ (k : Keyed). k.character) z) e
+      characters = ap characters_of e
           ∙ map_push (λ (k : Keyed). k.character) keyed one ∙ ap (λ z. z ++ c ∷ []) x.characters ∙ sym more;
       can = subst (λ z. All (λ c. CanType m c) z) (sym more) (All-push (λ c. CanType m c) (take place cs) c x.can types.can);
       typed = subst (λ z. HasTyped m (reverse (events_so_far now)) next None z) (sym more)

@@ -52,7 +52,11 @@ pub struct Explored<'m> {
 }
 
 /// Explores the states from the origin.
-pub fn explore<'m>(alloc: Global, map: &'m KeyMap, origin: &Held) -> Result<Explored<'m>, AllocError>
+pub fn explore<'m>(
+    alloc: Global,
+    map: &'m KeyMap,
+    origin: &Held,
+) -> Result<Explored<'m>, AllocError>
     requires { IsOrigin (state_of origin.now) }
     ensures { IfOk result (λ e. IsView map.now (state_of origin.now) e) }
 {
@@ -133,7 +137,7 @@ impl Held {
 impl<'m> Explored<'m> {
     /// The first place from which a route leads home and where a key can be tapped so, and that key. Near places have
     /// the locks of the origin.
-    fn first_place(&self, tap: &Tap, is_near: bool) -> Option<KeyAt>
+    pub fn first_place(&self, tap: &Tap, is_near: bool) -> Option<KeyAt>
         requires { IsExplored self.now }
         ensures { MatchOption result (is_near ≡ false → HasTap self.now tap.now → ⊥)
             (λ at. IsTapAt self.now tap.now at.place at.key) }
@@ -165,7 +169,12 @@ impl<'m> Explored<'m> {
 
     /// Adds the events from the origin to the place, a tap of the key there, and those behind it to a state where no
     /// key holds a modifier, from which a route leads home. Answers that state.
-    pub fn stroke(&self, alloc: Global, events: &mut Vec<Event>, at: KeyAt) -> Result<Held, AllocError>
+    pub fn stroke(
+        &self,
+        alloc: Global,
+        events: &mut Vec<Event>,
+        at: KeyAt,
+    ) -> Result<Held, AllocError>
         requires explored { IsExplored self.now }
         requires route { IsMetAt self.now at.place }
         ensures { IfOk result (λ next. (x : Entry) → slice_get self.now.met.entries at.place ≡ Some x

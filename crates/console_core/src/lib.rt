@@ -52,7 +52,7 @@ pub use search::{sticking, sticking_between};
 pub use selection::{Selection, Sight};
 pub use showing::events_that_show;
 pub use sights::{Sights, sights_of};
-pub use typing::{Keyed, Typing, TypingError, type_characters};
 pub use translator::{Translator, is_any_on};
+pub use typing::{Keyed, Typing, TypingError, type_characters};
 pub use word_console::WordConsole;
 pub use word_store::WordStore;

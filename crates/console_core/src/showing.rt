@@ -112,7 +112,12 @@ pub fn come_home(events: &mut Vec<Event>, routes: &Routes, held: &Held) -> Resul
 }
 
 /// Adds the events that lead from home to the state at the place.
-pub fn go_out(events: &mut Vec<Event>, alloc: Global, met: &Met, place: usize) -> Result<(), AllocError>
+pub fn go_out(
+    events: &mut Vec<Event>,
+    alloc: Global,
+    met: &Met,
+    place: usize,
+) -> Result<(), AllocError>
     requires place { place < length met.now.entries }
     requires back { GoBack met.now.entries }
     ensures { OnOk result ((path : List MoveValue) → IsTrail met.now.entries place path

@@ -15,8 +15,12 @@ use Rattle.console_core.specs.Answers.{usable}
 use Rattle.console_core.specs.declared.explored.Symbol.{Symbol}
 use Rattle.console_core.specs.declared.explored.Symbol.TheVariants as symbol
 use Rattle.console_core.specs.declared.typing.Accented.{Accented}
+use Rattle.console_core.specs.declared.typing.Found.{Found}
+use Rattle.console_core.specs.declared.typing.Sought.{Sought}
 use Rattle.console_core.specs.declared.typing.Typed.{Typed}
 use Rattle.console_core.specs.declared.typing.Typed.TheVariants as typed
+use Rattle.console_core.specs.declared.typing.Way.{Way}
+use Rattle.console_core.specs.declared.typing.Way.TheVariants as way
 use Rattle.console_core.specs.Inner.Routes.{AllLeadHome, HasRoute, AreSettled, freed}
 use Rattle.console_core.specs.Inner.Searching.{state_of, under_of, origin_of, Entry, Entries, Searched}
 use Rattle.console_core.specs.Inner.Standing.{Stands}
@@ -110,6 +114,11 @@ pub record HasTyped (m : MapValue) (h : List Event) (s : State) (p : Option ℕ)
   pub pending : accent_pending_after (between m m) h ≡ p
   pub typed : typed_along m h ≡ map plainly (reverse cs)
 
+-- what holds of each entry of a map
+abbrev pub AllEntries : {K V : Type 0} → (K → V → Type 0) → List (K × V) → Type 0
+AllEntries P [] = Unit {0}
+AllEntries P (x ∷ es) = P x.0 x.1 × AllEntries P es
+
 -- explorations by the state where they begin
 abbrev pub Views : Type 0
 Views = List (Held × Explored)
@@ -118,8 +127,7 @@ abbrev pub IsView : MapValue → State → Explored → Type 0
 IsView m s e = IsExplored e × (map_of_explored e ≡ m) × (origin_in e ≡ s)
 
 abbrev pub AreViews : MapValue → Views → Type 0
-AreViews m [] = Unit {0}
-AreViews m (x ∷ views) = IsView m (state_of x.0) x.1 × AreViews m views
+AreViews m views = AllEntries (λ k e. IsView m (state_of k) e) views
 
 abbrev pub HasView : Views → State → Type 0
 HasView [] s = ⊥
@@ -144,6 +152,16 @@ abbrev pub IsAccented : MapValue → Explored → ℕ → ℕ → Accented → T
 IsAccented m e c i a =
     (usable m i ≡ true) × IsTapAt e (dead_tap i) a.dead.place a.dead.key × IsBase m e i c a.then
 
+-- the taps of a way to type the character can be made
+abbrev pub IsWay : MapValue → Explored → ℕ → Way → Type 0
+IsWay m e c (way.Direct at) = IsTapAt e (plain_tap (symbol.Character c)) at.place at.key
+IsWay m e c (way.Composed a) = (i : ℕ) × IsAccented m e c i a
+
+-- there is no way to type it
+abbrev pub HasNoWay : MapValue → Explored → ℕ → Type 0
+HasNoWay m e c =
+    (HasTap e (plain_tap (symbol.Character c)) → ⊥) × ((i : ℕ) (x : Symbol) → CanAccent m e c i x → ⊥)
+
 -- what a search for a tap answers
 abbrev pub LeadsByTap : Explored → Tap → List Event → List Event → Typed → Type 0
 LeadsByTap e t h now (typed.To next) =
@@ -160,6 +178,14 @@ pub record TypesOne (m : MapValue) (c : ℕ) (s : State) (h now : List Event) (n
   pub added : List Event
   pub events : now ≡ added ++ h
   pub types : (g : List Event) (cs : List ℕ) → HasTyped m g s None cs → HasTyped m (added ++ g) next None (cs ++ c ∷ [])
+
+-- what was typed before, by the character and the state where it began
+abbrev pub IsKnown : MapValue → Sought → Found → Type 0
+IsKnown m k v =
+    TypesOne m k.character (state_of k.from) [] (reverse v.events.items) (state_of v.next)
+
+abbrev pub AreKnown : MapValue → List (Sought × Found) → Type 0
+AreKnown m known = AllEntries (IsKnown m) known
 
 abbrev pub Leads : MapValue → ℕ → State → List Event → List Event → Typed → Type 0
 Leads m c s h now (typed.To next) = TypesOne m c s h now (state_of next)

@@ -1,5 +1,5 @@
 -- no base of the pairs before this one
-use Rattle.std.proofs.Common.{◌≡◌, ℕ, take}
+use Rattle.std.proofs.Common.{◌≡◌, ℕ, false, take}
 use Rattle.std.specs.List.{Contains}
 use Rattle.console_core.specs.declared.explored.Symbol.TheVariants as symbol
 use Rattle.console_core.specs.Inner.Exploring.{IsBase}
@@ -7,6 +7,6 @@ use Rattle.console_core.proofs.typing.base_in.Given as goal
 
 abbrev pub invariant-loop-pair : goal.invariant-loop-pair
 invariant-loop-pair l =
-    (p : ℕ × ℕ) → Contains (take l.pair-index l.accent.pairs) p
+    l.is_near ≡ false → (p : ℕ × ℕ) → Contains (take l.pair-index l.accent.pairs) p
     → IsBase l.map l.view l.index l.c (symbol.Character p.0)
     → ⊥

@@ -9,16 +9,16 @@ loop-accent-preserved c =
     let n = c.loop-accent.index in
     record {
       below = omega (arith, c.in-Some.ensures.in_range);
-      none = λ i x lt can. elim (place_last i n lt) [
-        | inl below ↦ c.loop-accent.invariant.none i x below can
+      none = λ far i x lt can. elim (place_last i n lt) [
+        | inl below ↦ c.loop-accent.invariant.none far i x below can
         | inr e ↦
-            c.in_default-accented_by.ensures x
+            c.in_default-accented_by.ensures far x
             (subst (λ j. CanAccent c.args.map.now c.args.view.now c.args.c j x) e can)
       ];
     }
 
 pub returns : goal.returns
 returns c =
-    λ i x can.
-    c.loop-accent.invariant.none i x
+    λ far i x can.
+    c.loop-accent.invariant.none far i x
     (usable-below c.args.map.now i c.loop-accent.index can.0 (sym c.in_default.ensures.value)) can

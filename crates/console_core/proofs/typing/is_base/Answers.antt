@@ -11,5 +11,5 @@ returns-then-made-c-clause-base c =
 
 pub returns-then-made-c-clause-none : goal.returns-then-made-c-clause-none
 returns-then-made-c-clause-none c =
-    λ e base.
-    c.can_tap.ensures.none e (subst (λ t. HasTap c.args.view.now t) (sym c.plain.ensures) base.1)
+    λ e far base.
+    c.can_tap.ensures.none e far (subst (λ t. HasTap c.args.view.now t) (sym c.plain.ensures) base.1)

@@ -1,8 +1,8 @@
-use Rattle.std.proofs.Common.{Some, ap, subst, sym, ◌∙◌, reverse}
+use Rattle.std.proofs.Common.{Some, [], ap, subst, sym, ◌∙◌, reverse}
 use Rattle.std.proofs.lemmas.List.{take_all}
 use Rattle.std.proofs.lemmas.Option.{slice_get-get_or}
 use Rattle.console_core.specs.Moves.{alone}
-use Rattle.console_core.specs.Inner.Exploring.{AreViews, GoesHome, Leads, origin_in}
+use Rattle.console_core.specs.Inner.Exploring.{AreKnown, AreViews, GoesHome, Leads, origin_in}
 use Rattle.console_core.specs.Inner.Searching.{state_of}
 use Rattle.console_core.proofs.Choosing.{no-route}
 use Rattle.console_core.proofs.Exploring.{stand-origin}
@@ -12,6 +12,7 @@ use Rattle.console_core.proofs.typing.type_characters.Goals as goal
 pub loop-place-init : goal.loop-place-init
 loop-place-init c = record {
   views = subst (λ v. AreViews c.args.map.now v) (sym c.new-views.ensures.empty) tt;
+  known = subst (λ v. AreKnown c.args.map.now v) (sym c.new-known.ensures.empty) tt;
   typed = typed-none c.args.map.now c.args.characters.now c.new-keyed.result.items (state_of c.start-from.result)
       c.new-keyed.ensures.items c.start-from.ensures;
 }
@@ -25,8 +26,8 @@ returns-in-NoWay-clause-error c =
         x,
         slice_get-get_or cs c.loop-place.place x c.loop-place-test.true
             ∙ ap (λ z. Some z) (sym c.index-characters-place.is),
-        subst (λ r. Leads c.args.map.now x (state_of c.loop-place.from) (reverse c.new-events.result.items)
-        (reverse c.type_from.new.events.items) r) c.in-NoWay.is c.in_ok-next.ensures.leads,
+        subst (λ r. Leads c.args.map.now x (state_of c.loop-place.from) [] (reverse c.type_next.new.events.items) r)
+            c.in-NoWay.is c.in_ok-next.ensures.leads,
       ),
     )
 
@@ -34,16 +35,17 @@ pub loop-place-preserved : goal.loop-place-preserved
 loop-place-preserved c =
     let m = c.args.map.now in
     let x = c.index-characters-place.result in
-    let h = reverse c.new-events.result.items in
+    let events = c.type_next.new.events in
     record {
       views = c.in_ok-next.ensures.views;
+      known = c.in_ok-next.ensures.known;
       typed = typed-one m c.args.characters.now c.loop-place.place c.loop-place.keyed.items
-          c.push_keyed.new.keyed.items (state_of c.loop-place.from)
-          (record { character = x; events = c.type_from.new.events }) h (state_of c.in-To.next)
+          c.push_keyed.new.keyed.items (state_of c.loop-place.from) (record { character = x; events = events })
+          (state_of c.in-To.next)
           c.loop-place.invariant.typed c.loop-place-test.true c.index-characters-place.is
-          (subst (λ r. Leads m x (state_of c.loop-place.from) h (reverse c.type_from.new.events.items) r) c.in-To.is
+          (subst (λ r. Leads m x (state_of c.loop-place.from) [] (reverse events.items) r) c.in-To.is
           c.in_ok-next.ensures.leads)
-          (ap (λ z. reverse z) c.new-events.ensures.items) c.in_ok-push_keyed.ensures;
+          c.in_ok-push_keyed.ensures;
     }
 
 pub see-requires-clause-origin : goal.see-requires-clause-origin

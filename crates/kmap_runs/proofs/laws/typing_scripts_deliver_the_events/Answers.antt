@@ -1,5 +1,5 @@
-use Rattle.kmap_runs.proofs.Replayed.{typing-sends}
-use Rattle.kmap_runs.proofs.laws.typing_scripts_send_the_ways.Goals as goal
+use Rattle.kmap_runs.proofs.Replayed.{typing-delivers}
+use Rattle.kmap_runs.proofs.laws.typing_scripts_deliver_the_events.Goals as goal
 
 pub returns : goal.returns
-returns c = typing-sends
+returns c = typing-delivers

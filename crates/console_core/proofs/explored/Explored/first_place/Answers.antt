@@ -27,7 +27,7 @@ returns-then-has_route c =
       at,
       subst (λ z. HasRoute e.routes.entries (state_of z)) is (c.has_route.ensures.has c.if-has_route.true),
       subst (λ z. IsTapOf (alone (map_of_explored e)) (state_of z) c.args.tap.now.is_plain c.args.tap.now.symbol
-      c.in-Some.key) is
+          c.in-Some.key) is
           (c.in-Some.ensures (alone (map_of_explored e)) (one_map (map_of_explored e) (state_of h).is_second)),
     )
 

@@ -24,11 +24,7 @@ fn offset_of(characters: &[char], place: usize) -> u64
 
 /// The events that type the sentence. The whole of it is read as text first, so a byte that isn't text comes before a
 /// character that can't be typed.
-pub fn type_sentence(
-    alloc: Global,
-    map: &KeyMap,
-    sentence: &[u8],
-) -> Result<Typing, TypeError>
+pub fn type_sentence(alloc: Global, map: &KeyMap, sentence: &[u8]) -> Result<Typing, TypeError>
     ensures ok { IfOk result (λ typing. IsTyped map.now sentence.now typing) }
     ensures err { IfErr result (IsTypeError map.now sentence.now) }
 {

@@ -147,6 +147,57 @@ for keymap in us de; do
     LC_ALL=C awk 'BEGIN { for (i = 32; i < 127; i++) printf "%c", i }' > sentence
     holds "$keymap.kbd types all of ASCII" "$program" type "$examples/$keymap.kbd" sentence > typing.script
 done
+# Layouts behind a lock: the lock is turned where it must be, stays on for the next characters, and is off at the end.
+cp "$top/tests/pictures/us-ru.kbd" russian
+cat > greek << 'END'
+030 'a' 'A' soh soh 'a' 'A' soh soh C
+042 lshift lshift lshift lshift lshift lshift lshift lshift O
+057 ' ' ' ' ' ' ' ' ' ' ' ' ' ' ' ' O
+058 alock alock alock alock alock alock alock alock O
+158 0x3b1 0x391 soh soh 0x3b1 0x391 soh soh C
+167 dacu duml nop nop nop nop nop nop O
+170 lshift lshift lshift lshift lshift lshift lshift lshift O
+185 ' ' ' ' ' ' ' ' ' ' ' ' ' ' ' ' O
+186 alock alock alock alock alock alock alock alock O
+dacu 180 ( 0x3b1 0x3ac ) ( 0x391 0x386 )
+duml 168
+END
+cat > hebrew << 'END'
+022 'u' 'U' nop nop 'u' 'U' nop nop C
+024 'o' 'O' nop nop 'o' 'O' nop nop C
+030 'a' 'A' nop nop 'a' 'A' nop nop C
+037 'k' 'K' nop nop 'k' 'K' nop nop C
+054 rshift rshift rshift rshift rshift rshift rshift rshift O
+058 alock alock alock alock alock alock alock alock O
+150 0x5d5 'U' nop nop 0x5d5 'U' nop nop O
+152 0x5dd 'O' nop nop 0x5dd 'O' nop nop O
+158 0x5e9 'A' nop nop 0x5e9 'A' nop nop O
+165 0x5dc 'K' nop nop 0x5dc 'K' nop nop O
+182 rshift rshift rshift rshift rshift rshift rshift rshift O
+186 alock alock alock alock alock alock alock alock O
+END
+# comes_back NAME WORDS TURNS: so many presses of key 58 are among the events that type the words there
+comes_back() {
+    printf %b "$2" > sentence
+    "$program" type "$1" sentence > typing.script
+    "$program" play --typed "$1" typing.script > got
+    holds "the $1 sentence comes back" cmp -s sentence got
+    "$program" play "$1" typing.script | tail -n 1 > last
+    holds "the $1 sentence leaves no lock on" grep -q '; mods none; locks none$' last
+    holds "the $1 sentence turns the lock $3 times" [ "$(grep -c '^down 58$' typing.script)" -eq "$3" ]
+}
+comes_back russian '\320\237\321\200\320\270\320\262\320\265\321\202, \320\274\320\270\321\200! hi' 2
+comes_back russian 'hi' 0
+comes_back greek 'a\316\254\302\264\316\206 \302\250\316\261' 2
+comes_back greek 'a\302\264a' 2
+comes_back hebrew '\327\251\327\234\327\225\327\235' 2
+comes_back hebrew '\327\251AUa\327\234' 4
+# no list of events leads back to where the lock is off
+sed '/^186/d' greek > one_way
+printf "186 nop nop nop nop nop nop nop nop O\n" >> one_way
+printf 'a\316\261' > sentence
+ran 'a character from which no keys lead back' 1 '' "kmap: sentence offset 1: no key types U+03b1$line" \
+    type one_way sentence
 printf 'a\r\rb\r' > sentence
 "$program" type "$examples/us.kbd" sentence > typing.script
 ran 'types carriage returns' 0 "$(printf 'a\r\rb\r')" '' play --typed "$examples/us.kbd" typing.script
@@ -510,6 +561,13 @@ holds 'too many states to decide: status' [ $? -eq 1 ]
 holds 'too many states to decide: line' \
     [ "$(sed 's/ [0-9][0-9]* / P /' stdout)" = '# undecided: no list of up to P presses sticks' ]
 holds 'too many states to decide: nothing else' [ ! -s stderr ]
+# What is found among those that were met is typed, and of nothing else it is said that no key types it.
+{ cat many; printf "120 'a' 'A' soh soh 'a' 'A' soh soh C\n"; } > more
+printf 'Aa' > sentence
+"$program" type more sentence > typing.script
+ran 'types where there are too many states' 0 Aa '' play --typed more typing.script
+printf 'ab' > sentence
+ran 'too many states to look among' 1 '' "kmap: more than 65536 states$line" type more sentence
 ran 'a faulty text is not searched' 1 '' "kmap: text line 1 offset 3: EndInside$line" search cut
 ran 'no text to search' 1 '' "kmap: cannot open none1$line" search none1
 # Searching between two keymaps, which stick only together.

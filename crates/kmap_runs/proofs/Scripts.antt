@@ -1,10 +1,10 @@
 -- The lines of the script that types a sentence, one character after another.
 use Prim.Native.Nat.{suc}
-use Rattle.std.proofs.Common.{◌≡◌, ℕ, ◌+◌, ◌-◌, ◌<◌, ◌≤◌, Bool, true, false, List, [], ◌∷◌, ◌++◌, length, take, drop, get_or}
+use Rattle.std.proofs.Common.{◌≡◌, ℕ, ◌+◌, ◌-◌, ◌<◌, ◌≤◌, Bool, true, false, not, List, [], ◌∷◌, ◌++◌, length, take, drop, get_or}
 use Rattle.std.proofs.Common.{append_assoc, append-nil, add-one, drop-cons, take_all, length-drop, arith, refl, sym, ap}
 use Rattle.std.proofs.Common.{◌∙◌}
 use Rattle.std.proofs.Math.ListN.{drop_of_length-le}
-use Rattle.std.specs.List.{flat_map}
+use Rattle.std.specs.List.{flat_map, prefix_len}
 use Rattle.console_core.specs.declared.typing.Keyed.{Keyed}
 use Rattle.console_core.specs.Typing.{characters_of}
 use Rattle.play_core.specs.Spelling.{event_line}
@@ -61,13 +61,14 @@ lines_end starts ks i old all past before =
 
 -- ---- the first line of the characters
 
--- at a line feed it ends
-line_cut : (c : ℕ) (cs : List ℕ) → is_line_feed c ≡ true → line_shown (c ∷ cs) ≡ []
-line_cut c cs e = rw e refl
+one_more : (n : ℕ) → 1 + n ≡ suc n
+one_more n = omega arith
 
 -- else the character is shown first
 line_on : (c : ℕ) (cs : List ℕ) → is_line_feed c ≡ false → line_shown (c ∷ cs) ≡ shown c ++ line_shown cs
-line_on c cs e = rw e refl
+line_on c cs e =
+    rw e
+    (ap (λ n. flat_map shown (take n (c ∷ cs))) (one_more (prefix_len (λ x. not (is_line_feed x)) cs)))
 
 -- what is left to show, once the character at a place is shown
 pub shown_more : (ks : List Keyed) (i : ℕ) (x : Keyed) (old new all : List ℕ) → i < length ks → x ≡ get_or ks i x
@@ -79,17 +80,3 @@ shown_more ks i x old new all inside at none now before =
     ap (λ l. l ++ line_shown rest) now ∙ append_assoc old (shown x.character) (line_shown rest)
     ∙ ap (λ l. old ++ l) (sym (line_on x.character rest none))
     ∙ ap (λ l. old ++ line_shown (characters_of l)) (sym (front ks i x inside at)) ∙ before
-
--- at a line feed nothing is
-pub shown_cut : (ks : List Keyed) (i : ℕ) (x : Keyed) (old all : List ℕ) → i < length ks → x ≡ get_or ks i x
-    → is_line_feed x.character ≡ true → old ++ line_shown (characters_of (drop i ks)) ≡ all → old ≡ all
-shown_cut ks i x old all inside at feed before =
-    sym (append-nil old)
-    ∙ ap (λ l. old ++ l) (sym (line_cut x.character (characters_of (drop (i + 1) ks)) feed))
-    ∙ ap (λ l. old ++ line_shown (characters_of l)) (sym (front ks i x inside at)) ∙ before
-
--- nor at the end
-pub shown_end : (ks : List Keyed) (i : ℕ) (old all : List ℕ) → length ks ≤ i
-    → old ++ line_shown (characters_of (drop i ks)) ≡ all → old ≡ all
-shown_end ks i old all past before =
-    sym (append-nil old) ∙ ap (λ l. old ++ line_shown (characters_of l)) (sym (drop_of_length-le ks past)) ∙ before

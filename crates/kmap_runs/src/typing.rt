@@ -1,5 +1,5 @@
 //! The script that types a sentence.
-ghost use Rattle.std.specs.Prelude.{◌≡◌, ◌++◌, OnOk, IfOk};
+ghost use Rattle.std.specs.Prelude.{◌≡◌, ◌++◌, true, OnOk, IfOk};
 ghost use Rattle.console_core.specs.Typing.{characters_of};
 ghost use Rattle.kmap_runs.specs.Typing as spec;
 

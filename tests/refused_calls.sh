@@ -98,6 +98,7 @@ refuses sticking
 refuses sticking_between
 refuses sights_of
 refuses events_that_show
+yields type_characters
 refuses plan_for
 refuses cover_of
 refuses Seen::new
@@ -116,8 +117,7 @@ refuses play-lines
 refuses play-typed
 refuses play_next-lines
 refuses play_next-typed
-refuses Ways::of
-yields Ways::characters
+yields type_sentence
 refuses check_run
 refuses check_run-shown
 refuses search_run

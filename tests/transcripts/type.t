@@ -130,3 +130,91 @@ A sentence that is too long, a folder, and no sentence:
   $ kmap type cut none1
   ! kmap: cannot open none1
   [1]
+
+Layouts behind a lock: the lock is turned where it must be, stays on for the next characters, and is off at the end.
+What is printed is the sentence as it comes back, how often the lock is turned, and what is on at the end:
+  $ cp "$tests/pictures/us-ru.kbd" russian
+  $ cat > greek << 'END'
+  > 030 'a' 'A' soh soh 'a' 'A' soh soh C
+  > 042 lshift lshift lshift lshift lshift lshift lshift lshift O
+  > 057 ' ' ' ' ' ' ' ' ' ' ' ' ' ' ' ' O
+  > 058 alock alock alock alock alock alock alock alock O
+  > 158 0x3b1 0x391 soh soh 0x3b1 0x391 soh soh C
+  > 167 dacu duml nop nop nop nop nop nop O
+  > 170 lshift lshift lshift lshift lshift lshift lshift lshift O
+  > 185 ' ' ' ' ' ' ' ' ' ' ' ' ' ' ' ' O
+  > 186 alock alock alock alock alock alock alock alock O
+  > dacu 180 ( 0x3b1 0x3ac ) ( 0x391 0x386 )
+  > duml 168
+  > END
+  $ cat > hebrew << 'END'
+  > 022 'u' 'U' nop nop 'u' 'U' nop nop C
+  > 024 'o' 'O' nop nop 'o' 'O' nop nop C
+  > 030 'a' 'A' nop nop 'a' 'A' nop nop C
+  > 037 'k' 'K' nop nop 'k' 'K' nop nop C
+  > 054 rshift rshift rshift rshift rshift rshift rshift rshift O
+  > 058 alock alock alock alock alock alock alock alock O
+  > 150 0x5d5 'U' nop nop 0x5d5 'U' nop nop O
+  > 152 0x5dd 'O' nop nop 0x5dd 'O' nop nop O
+  > 158 0x5e9 'A' nop nop 0x5e9 'A' nop nop O
+  > 165 0x5dc 'K' nop nop 0x5dc 'K' nop nop O
+  > 182 rshift rshift rshift rshift rshift rshift rshift rshift O
+  > 186 alock alock alock alock alock alock alock alock O
+  > END
+  $ typed() {
+  >     printf %s "$2" > sentence
+  >     kmap type "$1" sentence > script && kmap play --typed "$1" script && echo
+  >     grep -c '^down 58$' script
+  >     kmap play "$1" script | tail -n 1 | sed 's/^[^;]*; //'
+  > }
+  $ typed russian 'Привет, мир! hi'
+  Привет, мир! hi
+  2
+  mods none; locks none
+  $ typed russian hi
+  hi
+  0
+  mods none; locks none
+  $ typed greek 'aά´Ά ¨α'
+  aά´Ά ¨α
+  2
+  mods none; locks none
+  $ typed greek 'a´a'
+  a´a
+  2
+  mods none; locks none
+  $ typed hebrew 'שלום'
+  שלום
+  2
+  mods none; locks none
+  $ typed hebrew 'שAUaל'
+  שAUaל
+  4
+  mods none; locks none
+
+A character from which no keys lead back to where the lock is off:
+  $ sed '/^186/d' greek > one_way
+  $ echo '186 nop nop nop nop nop nop nop nop O' >> one_way
+  $ printf 'aα' > sentence
+  $ kmap type one_way sentence
+  ! kmap: sentence offset 1: no key types U+03b1
+  [1]
+
+Of more than 65,536 states what is found among those that were met is typed, and of nothing else it is said that no key
+types it:
+  $ awk 'BEGIN {
+  >     split("lshift rshift lctrl rctrl lalt ralt", name, " ")
+  >     for (key = 0; key < 48; key++) {
+  >         cell = name[key % 6 + 1]
+  >         print key, cell, cell, cell, cell, cell, cell, cell, cell, "O"
+  >     }
+  > }' > more
+  $ echo "120 'a' 'A' soh soh 'a' 'A' soh soh C" >> more
+  $ printf Aa > sentence
+  $ kmap type more sentence > script
+  $ kmap play --typed more script
+  Aa (no-eol)
+  $ printf ab > sentence
+  $ kmap type more sentence
+  ! kmap: more than 65536 states
+  [1]

@@ -4,7 +4,7 @@ use crate::inputs::{TRAP, map_of, sample};
 use crate::outcome::{Outcome, ended, ended_keeping};
 use console_core::{
     Event, PlainConsole, Sight, Sticking, Translator, WordConsole, events_that_show, replay,
-    sights_of, sticking, sticking_between,
+    sights_of, sticking, sticking_between, type_characters,
 };
 use keymap_core::{KeyCode, Lock, Modifier, Write};
 use keymap_cover::{Seen, cells, cover_of, lock_settings};
@@ -24,6 +24,7 @@ pub(crate) fn outcome_of<W: Write>(
         "sticking_between" => searches_between(alloc, marks)?,
         "sights_of" => finds_sights(alloc, marks)?,
         "events_that_show" => shows_sights(alloc, marks)?,
+        "type_characters" => types_characters(alloc, marks)?,
         "plan_for" => plans(alloc, marks)?,
         "cover_of" => covers(alloc, marks)?,
         "Seen::new" => sees_nothing(alloc, marks),
@@ -119,6 +120,14 @@ fn finds_sights<W: Write>(alloc: Global, marks: &mut W) -> Result<Outcome, Alloc
     let given = sights_of(alloc, &map);
     mark(marks);
     Ok(ended_keeping(given.map(|sights| sights.is_some()), map == twin))
+}
+
+fn types_characters<W: Write>(alloc: Global, marks: &mut W) -> Result<Outcome, AllocError> {
+    let (map, twin) = (sample(alloc)?, sample(alloc)?);
+    mark(marks);
+    let given = type_characters(alloc, &map, &['a', 'é', 'a', 'A', 'é']);
+    mark(marks);
+    Ok(ended_keeping(given.map(|typing| typing.keyed.len() == 5), map == twin))
 }
 
 /// What a press of the letter sees under shift, and with the accent pending.

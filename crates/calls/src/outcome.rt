@@ -1,4 +1,5 @@
 //! What came of a call.
+use console_core::TypingError;
 use keymap_core::ReadError;
 use keymap_fmt::FormatError;
 use keymap_tables::TableError;
@@ -76,6 +77,12 @@ impl Refusal for PlayError {
 impl Refusal for TypeError {
     fn is_memory(&self) -> bool {
         matches!(self, TypeError::Memory)
+    }
+}
+
+impl Refusal for TypingError {
+    fn is_memory(&self) -> bool {
+        matches!(self, TypingError::Memory)
     }
 }
 

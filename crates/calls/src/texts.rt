@@ -9,7 +9,7 @@ use keymap_fmt::format;
 use keymap_lint::{Lint, diagnostics};
 use keymap_lint_text::{lint_text, shown_name};
 use messages::filled;
-use play_core::{Show, Ways, play, play_next, read_script, read_whole};
+use play_core::{Show, play, play_next, read_script, read_whole, type_sentence};
 use std::alloc::{AllocError, Global};
 
 /// Makes the call of this name. There is none where no call has the name.
@@ -32,8 +32,7 @@ pub(crate) fn outcome_of<W: Write>(
         "play-typed" => plays(alloc, Show::Typed, marks),
         "play_next-lines" => plays_next(alloc, Show::Lines, marks),
         "play_next-typed" => plays_next(alloc, Show::Typed, marks),
-        "Ways::of" => finds_ways(alloc, marks)?,
-        "Ways::characters" => finds_characters(alloc, marks)?,
+        "type_sentence" => types_sentence(alloc, marks)?,
         _ => return Ok(None),
     };
     Ok(Some(outcome))
@@ -133,22 +132,10 @@ fn plays_next<W: Write>(alloc: Global, show: Show, marks: &mut W) -> Outcome {
     ended_untouched(given.map(|()| true), out.writes)
 }
 
-fn finds_ways<W: Write>(alloc: Global, marks: &mut W) -> Result<Outcome, AllocError> {
+fn types_sentence<W: Write>(alloc: Global, marks: &mut W) -> Result<Outcome, AllocError> {
     let (map, twin) = (sample(alloc)?, sample(alloc)?);
     mark(marks);
-    let given = Ways::of(alloc, &map);
+    let given = type_sentence(alloc, &map, SENTENCE);
     mark(marks);
-    let has_way = given.map(|ways| ways.way('é').is_some());
-    Ok(ended_keeping(has_way, map == twin))
-}
-
-/// Where memory is refused, the ways are what they were.
-fn finds_characters<W: Write>(alloc: Global, marks: &mut W) -> Result<Outcome, AllocError> {
-    let map = sample(alloc)?;
-    let ways = Ways::of(alloc, &map)?;
-    mark(marks);
-    let given = ways.characters(alloc, SENTENCE);
-    mark(marks);
-    let kept = ways.way('é').is_some() && ways.way('b').is_none();
-    Ok(ended_keeping(given.map(|characters| characters.len() == 16), kept))
+    Ok(ended_keeping(given.map(|typing| typing.keyed.len() == 16), map == twin))
 }

@@ -1,12 +1,15 @@
 pub mod Agreeing
 pub mod Arriving
+pub mod Bases
 pub mod Bearing
 pub mod Borne
 pub mod Bytes
+pub mod Choosing
 pub mod Codes
 pub mod Concluding
 pub mod Deciding
 pub mod Deliveries
+pub mod Exploring
 pub mod Facts
 pub mod FreshPresses
 pub mod Going
@@ -27,6 +30,7 @@ pub mod Reaching
 pub mod Readings
 pub mod Results
 pub mod Returning
+pub mod Refused
 pub mod RoutesHome
 pub mod Runs
 pub mod Scripts
@@ -34,9 +38,12 @@ pub mod Searching
 pub mod Seeing
 pub mod Since
 pub mod Staying
+pub mod Strokes
 pub mod Traps
 pub mod Twice
+pub mod Typings
 pub mod Unscrolled
+pub mod Views
 pub mod Visible
 pub mod Visits
 pub mod WordBits

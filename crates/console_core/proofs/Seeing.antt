@@ -58,7 +58,7 @@ stands-in m true h never (keys, none, clean) =
     (s, there (omega arith), f)
 
 -- the list without its newest event is spoken of too
-admitted-before : (m : MapValue) (forgets : Bool) (e : Event) (h : List Event) → IsAdmitted m forgets (e ∷ h)
+pub admitted-before : (m : MapValue) (forgets : Bool) (e : Event) (h : List Event) → IsAdmitted m forgets (e ∷ h)
     → IsAdmitted m forgets h
 admitted-before m forgets e h (keys, none, clean) = (
   All-tail HasKey e h keys,
@@ -91,7 +91,7 @@ IsFreeFor o i = (j : Modifier) → o ≡ Some (act.Mod j) → ⊥
 some_mod_dead : (held : Action) (i : ℕ) (j : Modifier) → held ≡ act.DeadKey i → Some held ≡ Some (act.Mod j) → ⊥
 some_mod_dead held i j e f = let g : Some (act.DeadKey i) ≡ Some (act.Mod j) = sym (ap (λ x. Some x) e) ∙ f in cc
 
-taken-dead : (o : Option Action) (b : Action) (i : ℕ) → taken_over o b ≡ act.DeadKey i
+pub taken-dead : (o : Option Action) (b : Action) (i : ℕ) → taken_over o b ≡ act.DeadKey i
     → (b ≡ act.DeadKey i) × IsFreeFor o i
 taken-dead None b i e = (e, (λ j f. let g : None ≡ Some (act.Mod j) = f in cc))
 taken-dead (Some held) b i e =
@@ -102,7 +102,7 @@ taken-dead (Some held) b i e =
 abbrev Takes : Option ℕ → Action → ℕ → Type 0
 Takes p a i = (p ≡ Some i) ⊎ (a ≡ act.DeadKey i)
 
-pends : (d : Option ℕ) (p : Option ℕ) (i : ℕ) → pending_after_dead_key d p ≡ Some i → d ≡ Some i
+pub pends : (d : Option ℕ) (p : Option ℕ) (i : ℕ) → pending_after_dead_key d p ≡ Some i → d ≡ Some i
 pends None p i e = let g : None ≡ Some i = e in cc
 pends (Some j) p i e = toggles (is_pending j p) e
   where

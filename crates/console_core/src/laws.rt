@@ -16,6 +16,7 @@ ghost use Rattle.console_core.specs.Sticking.{SafeNeverSticksBetween, SafeNeverF
 ghost use Rattle.console_core.specs.Sticking.{AnswersAlikeOfOneKeymap};
 ghost use Rattle.console_core.specs.Sights.{LooksAreSelected, SightsAreReachable};
 ghost use Rattle.console_core.specs.Traps.{OnOnlyWhilePressedWithoutTraps};
+ghost use Rattle.console_core.specs.Typing.{TypedCanBeTyped};
 
 /// In a safe map a modifier is on only while a key that bears it is pressed; in any map one that a key alone bears
 /// throughout is on exactly while that key is pressed.
@@ -150,4 +151,10 @@ pub fn loads_that_change_nothing()
 pub fn sights_are_reachable()
     ensures selected { LooksAreSelected }
     ensures reachable { SightsAreReachable }
+{}
+
+/// What an admitted list of presses, repeats, releases and resets types that leaves a new console as a new one, moves
+/// and taps can type. So where they can't type a character, no such list does.
+pub fn what_is_typed_can_be_typed()
+    ensures { TypedCanBeTyped }
 {}

@@ -99,7 +99,7 @@ static SUBCOMMANDS: [Described; 10] = [
     Described {
         name: "type",
         about: "Prints a script of key presses that types a sentence",
-        example: "Example: kmap type de.kbd sentence > script{n}{n}kmap(1) tells which ways are tried.",
+        example: "Example: kmap type de.kbd sentence > script{n}{n}kmap(1) tells which keys are taken.",
         words: &[STREAM, File("SENTENCE", "The sentence, in UTF-8, or -")],
     },
     Described {

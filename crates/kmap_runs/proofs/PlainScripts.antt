@@ -7,14 +7,15 @@ use Rattle.std.specs.List.{before_first, position_or_len}
 use Rattle.std.proofs.lemmas.List.Elements.{All-nil, All-cons, All-tail, All-take}
 use Rattle.console_core.specs.declared.event.Event.{Event}
 use Rattle.console_core.specs.declared.event.Event.TheVariants as event
+use Rattle.console_core.specs.declared.typing.Keyed.{Keyed}
+use Rattle.console_core.specs.declared.typing.Typing.{Typing}
+use Rattle.console_core.specs.Typing.{characters_of}
 use Rattle.keymap_core.specs.CodePoints.{code_text, code_digits, upper_digits, digit_at}
-use Rattle.keymap_core.specs.Maps.{MapValue}
 use Rattle.keymap_core.specs.Unseen.{is_unseen}
 use Rattle.keymap_lint_text.proofs.Plain.{ascii, plain_append, plain_none, last_true}
 use Rattle.keymap_lint_text.proofs.Printed.{decimal_plain, digit_plain, either, fills, plain_each, plain_flat}
 use Rattle.keymap_lint_text.specs.Shown.{IsPlain, IsPlainText}
 use Rattle.play_core.specs.Spelling.{event_line}
-use Rattle.play_core.specs.Typing.{way_for, events_in}
 use Rattle.kmap_runs.specs.Typing.{shown, is_line_feed, comment, comment_if, lines_from, typing_script}
 use Rattle.kmap_runs.specs.declared.words.TheConstants as words
 
@@ -49,17 +50,19 @@ shown_plain : (c : ℕ) → IsScalar c → IsPlainText (shown c)
 unfolding shown
 shown_plain c s = shown_by c (is_unseen c) refl s
 
-comment_plain : (cs : List ℕ) → All IsScalar cs → IsPlainText (comment cs)
-comment_plain cs h =
+comment_plain : (ks : List Keyed) → All IsScalar (characters_of ks) → IsPlainText (comment ks)
+comment_plain ks h =
+    let cs : List ℕ = characters_of ks in
     fills words.SENTENCE.now _ refl (
       plain_each IsScalar shown shown_plain (before_first is_line_feed cs)
           (All-take IsScalar (position_or_len is_line_feed cs) cs h),
       tt,
     )
 
-comment_if_plain : (starts : Bool) (cs : List ℕ) → All IsScalar cs → IsPlainText (comment_if starts cs)
-comment_if_plain true cs h = comment_plain cs h
-comment_if_plain false cs h = plain_none
+comment_if_plain : (starts : Bool) (ks : List Keyed) → All IsScalar (characters_of ks)
+    → IsPlainText (comment_if starts ks)
+comment_if_plain true ks h = comment_plain ks h
+comment_if_plain false ks h = plain_none
 
 event_plain : (e : Event) → IsPlainText (event_line e)
 event_plain (event.Press k) =
@@ -69,14 +72,14 @@ event_plain (event.Release k) =
 event_plain event.Reset = ascii _ refl
 event_plain event.Load = ascii _ refl
 
-lines_plain : (m : MapValue) (starts : Bool) (cs : List ℕ) → All IsScalar cs → IsPlainText (lines_from m starts cs)
+lines_plain : (starts : Bool) (ks : List Keyed) → All IsScalar (characters_of ks) → IsPlainText (lines_from starts ks)
 unfolding lines_from
-lines_plain m starts [] h = plain_none
-lines_plain m starts (c ∷ cs) h =
+lines_plain starts [] h = plain_none
+lines_plain starts (k ∷ ks) h =
     plain_append _ _
-    (plain_append _ _ (comment_if_plain starts (c ∷ cs) h)
-    (plain_flat event_line event_plain (events_in (way_for m c))))
-    (lines_plain m (is_line_feed c) cs (All-tail IsScalar c cs h))
+    (plain_append _ _ (comment_if_plain starts (k ∷ ks) h) (plain_flat event_line event_plain k.events.items))
+    (lines_plain (is_line_feed k.character) ks (All-tail IsScalar k.character (characters_of ks) h))
 
-pub typing_plain : (m : MapValue) (cs : List ℕ) → All IsScalar cs → IsPlainText (typing_script m cs)
-typing_plain m cs h = lines_plain m true cs h
+pub typing_plain : (x : Typing) → All IsScalar (characters_of x.keyed.items) → IsPlainText (typing_script x)
+typing_plain x h =
+    plain_append _ _ (lines_plain true x.keyed.items h) (plain_flat event_line event_plain x.last.items)

@@ -9,7 +9,7 @@ use Rattle.std.specs.Str.Parse.{AllDigits}
 use Rattle.std.proofs.lemmas.Fmt.{decimal_is_IsNumeral}
 use Rattle.std.proofs.lemmas.Bool.{or_from, true≢false}
 use Rattle.std.proofs.lemmas.List.{map-append, reverse-reverse}
-use Rattle.std.proofs.lemmas.List.Elements.{All-nil, All-head, All-tail}
+use Rattle.std.proofs.lemmas.List.Elements.{All-nil, All-cons, All-head, All-tail}
 use Rattle.std.proofs.lemmas.Str.{inside_one}
 use Rattle.keymap_core.specs.declared.action.Modifier.{Modifier}
 use Rattle.keymap_core.specs.declared.action.Modifier.TheVariants.{LeftShift, RightShift, LeftControl, RightControl}
@@ -22,6 +22,9 @@ use Rattle.console_core.specs.declared.event.Event.{Event}
 use Rattle.console_core.specs.declared.event.Event.TheVariants as event
 use Rattle.console_core.specs.History.{Maps, HasKey, HasKeys, answers_to}
 use Rattle.console_core.specs.declared.outcome.Sticking.{Sticking}
+use Rattle.console_core.specs.declared.typing.Keyed.{Keyed}
+use Rattle.console_core.specs.declared.typing.Typing.{Typing}
+use Rattle.console_core.specs.Typing.{AreTyped, characters_of, events_of}
 use Rattle.console_core.specs.declared.outcome.Sticking.TheVariants.{Sticks, Never, Undecided}
 use Rattle.console_core.specs.Sticking.{IsAnswer, IsAnswerBetween}
 use Rattle.keymap_check.specs.Report.{report_of}
@@ -33,9 +36,8 @@ use Rattle.play_core.specs.Playing.{Plays}
 use Rattle.play_core.specs.Runs.{moves}
 use Rattle.play_core.specs.Scripts.{IsScript}
 use Rattle.play_core.specs.Spelling.{sends, says, line_text, has_line_feed, IsWritable, sent_of, event_line}
-use Rattle.play_core.specs.Typing.{alone, way_for, events_in, events_for, IsTyped}
+use Rattle.play_core.specs.Typing.{alone, IsTyped}
 use Rattle.play_core.specs.Written.{typed_text, text_after, played_text}
-use Rattle.play_core.proofs.Sentences.{way-types}
 use Rattle.play_core.proofs.Spelling.{script-nil, line-script, events-script, delivers, feed-append, digits_feed}
 use Rattle.play_core.proofs.Verdicts.{one_list}
 use Rattle.keymap_core.specs.CodePoints.{digit_at, upper_digits, code_digits, code_text}
@@ -43,7 +45,7 @@ use Rattle.kmap_runs.specs.Report.{check_text, demonstration_text, report}
 use Rattle.kmap_runs.specs.Search.{modifier_name, script_text, undecided_text}
 use Rattle.kmap_runs.specs.Runs.{TypesSentence}
 use Rattle.keymap_core.specs.Unseen.{is_unseen}
-use Rattle.kmap_runs.specs.Typing.{shown, is_line_feed, comment_if, event_lines, lines_from, typing_script}
+use Rattle.kmap_runs.specs.Typing.{shown, is_line_feed, line_shown, comment_if, lines_from, typing_script}
 use Rattle.kmap_runs.specs.Replayed.{ScriptTypes, Delivers, AnswerReplays, AnswerReplaysBetween}
 use Rattle.kmap_runs.specs.Replayed.{ShowsDemonstration, ShowsScript}
 use Rattle.keymap_core.proofs.Lists.{All-reversed}
@@ -176,43 +178,58 @@ undecided-line t =
     (sym (append_assoc t (codes " presses sticks") (codes "\n")))
 
 -- a comment before a script, if there is one
-comment-before : (starts : Bool) (cs rest : List ℕ) (sent : List Sent) → IsScript rest sent
-    → IsScript (comment_if starts cs ++ rest) sent
-comment-before true cs rest sent h =
-    let first : List ℕ = before_first is_line_feed cs in
-    let line : List ℕ = flat_map shown first in
+comment-before : (starts : Bool) (ks : List Keyed) (rest : List ℕ) (sent : List Sent) → IsScript rest sent
+    → IsScript (comment_if starts ks ++ rest) sent
+comment-before true ks rest sent h =
+    let line : List ℕ = line_shown (characters_of ks) in
     subst (λ t. IsScript (t ++ rest) sent) (sym (sentence-line line))
     (line-script (says (codes " " ++ line)) rest sent
-    (feed-append (codes " ") line refl (feed-flat shown feed-shown first)) h)
-comment-before false cs rest sent h = h
+    (feed-append (codes " ") line refl (feed-flat shown feed-shown (before_first is_line_feed (characters_of ks)))) h)
+comment-before false ks rest sent h = h
 
 -- ---- the script that types a sentence
 
--- the events of a way are of keys
-way-keys : (m : MapValue) (c : ℕ) (way : Option (List Event)) → way_for m c ≡ way → HasKeys (events_in way)
-way-keys m c None e = All-nil HasKey
-way-keys m c (Some way) e = (way-types m c way e).keys
+-- the events of characters, one after another
+abbrev events_in : List Keyed → List Event
+events_in ks = flat_map (λ (k : Keyed). k.events.items) ks
 
--- the lines of characters are a script of their ways
-lines-typing : (m : MapValue) (starts : Bool) (cs : List ℕ)
-    → IsScript (lines_from m starts cs) (map sent_of (events_for m cs))
+-- events of keys are so in both parts
+keys-parts : (xs ys : List Event) → HasKeys (xs ++ ys) → HasKeys xs × HasKeys ys
+keys-parts [] ys keys = (All-nil HasKey, keys)
+keys-parts (e ∷ xs) ys keys =
+    let parts = keys-parts xs ys (All-tail HasKey e (xs ++ ys) keys) in
+    (All-cons HasKey e xs (All-head HasKey e (xs ++ ys) keys) parts.0, parts.1)
+
+-- the lines of characters before a script send their events
+lines-before : (starts : Bool) (ks : List Keyed) (rest : List ℕ) (sent : List Sent) → HasKeys (events_in ks)
+    → IsScript rest sent → IsScript (lines_from starts ks ++ rest) (map sent_of (events_in ks) ++ sent)
 unfolding lines_from
-lines-typing m starts [] = script-nil
-lines-typing m starts (c ∷ cs) =
-    let way : List Event = events_in (way_for m c) in
-    let rest : List ℕ = lines_from m (is_line_feed c) cs in
-    let sent : List Sent = map sent_of way ++ map sent_of (events_for m cs) in
-    let text = append_assoc (comment_if starts (c ∷ cs)) (event_lines m c) rest in
-    let both = map-append sent_of way (events_for m cs) in
-    let whole : IsScript (comment_if starts (c ∷ cs) ++ (event_lines m c ++ rest)) sent =
-    comment-before starts (c ∷ cs) (event_lines m c ++ rest) sent
-    (events-before way rest (map sent_of (events_for m cs)) (way-keys m c (way_for m c) refl)
-    (lines-typing m (is_line_feed c) cs)) in
-    subst (λ l. IsScript ((comment_if starts (c ∷ cs) ++ event_lines m c) ++ rest) l) (sym both)
-    (subst (λ t. IsScript t sent) (sym text) whole)
+lines-before starts [] rest sent keys h = h
+lines-before starts (k ∷ ks) rest sent keys h =
+    let events : List Event = k.events.items in
+    let comment : List ℕ = comment_if starts (k ∷ ks) in
+    let lines : List ℕ = flat_map event_line events in
+    let later : List ℕ = lines_from (is_line_feed k.character) ks in
+    let more : List Sent = map sent_of (events_in ks) ++ sent in
+    let parts : HasKeys events × HasKeys (events_in ks) = keys-parts events (events_in ks) keys in
+    let whole : IsScript (comment ++ (lines ++ (later ++ rest))) (map sent_of events ++ more) =
+    comment-before starts (k ∷ ks) (lines ++ (later ++ rest)) (map sent_of events ++ more)
+    (events-before events (later ++ rest) more parts.0
+    (lines-before (is_line_feed k.character) ks rest sent parts.1 h)) in
+    let text : ((comment ++ lines) ++ later) ++ rest ≡ comment ++ (lines ++ (later ++ rest)) = simp append_assoc in
+    let both : map sent_of (events ++ events_in ks) ++ sent ≡ map sent_of events ++ more =
+    ap (λ l. l ++ sent) (map-append sent_of events (events_in ks))
+    ∙ append_assoc (map sent_of events) (map sent_of (events_in ks)) sent in
+    subst (λ l. IsScript (((comment ++ lines) ++ later) ++ rest) l) (sym both)
+    (subst (λ t. IsScript t (map sent_of events ++ more)) (sym text) whole)
 
-pub typing-sends : (m : MapValue) (cs : List ℕ) → IsScript (typing_script m cs) (map sent_of (events_for m cs))
-typing-sends m cs = lines-typing m true cs
+typing-sends : (x : Typing) → HasKeys (events_of x) → IsScript (typing_script x) (map sent_of (events_of x))
+typing-sends x keys =
+    let typed : List Event = events_in x.keyed.items in
+    let parts : HasKeys typed × HasKeys x.last.items = keys-parts typed x.last.items keys in
+    subst (λ l. IsScript (typing_script x) l) (sym (map-append sent_of typed x.last.items))
+    (lines-before true x.keyed.items (flat_map event_line x.last.items) (map sent_of x.last.items) parts.0
+    (events-script x.last.items parts.1))
 
 -- events that type a text do so from a script that sends them
 typed-back : (m : MapValue) (events : List Event) (bytes : List ℕ)
@@ -221,11 +238,12 @@ typed-back : (m : MapValue) (events : List Event) (bytes : List ℕ)
 unfolding text_after
 typed-back m events bytes e = ap (λ l. typed_text (answers_to (alone m) [] l)) (delivers events) ∙ e
 
-pub typing-types : (m : MapValue) (bytes cs : List ℕ) → IsTyped m bytes cs → ScriptTypes m (typing_script m cs) bytes
-typing-types m bytes cs t = record {
-  sent = map sent_of (events_for m cs);
-  is = typing-sends m cs;
-  typed = typed-back m (events_for m cs) bytes t.typed;
+pub typing-types : (m : MapValue) (bytes : List ℕ) (x : Typing) → IsTyped m bytes x
+    → ScriptTypes m (typing_script x) bytes
+typing-types m bytes x t = record {
+  sent = map sent_of (events_of x);
+  is = typing-sends x t.are.keys;
+  typed = typed-back m (events_of x) bytes t.typed;
 }
 
 -- ---- scripts of what was found
@@ -239,6 +257,11 @@ delivers-these script events is = record {
   nothing_else = λ others h. one_list script others (map sent_of events) h is;
   delivers = ap reverse (delivers events);
 }
+
+-- what is printed to type characters delivers their events, and nothing else
+pub typing-delivers : (m : MapValue) (cs : List ℕ) (x : Typing) → AreTyped m cs x
+    → Delivers (typing_script x) (reverse (events_of x))
+typing-delivers m cs x t = delivers-these (typing_script x) (events_of x) (typing-sends x t.keys)
 
 -- events that are of keys, the newest first, are so in their order
 keys-of : (events : List Event) → HasKeys (reverse events) → HasKeys events
@@ -308,24 +331,24 @@ same-map text s t m n h k =
     (subst (λ x. Spells x n) (sym (taken-whole text k.0 t k.1)) k.2)
 
 -- what is typed by a script that has one reading
-typed-once : (m : MapValue) (cs bytes : List ℕ) (sent : List Sent) → IsTyped m bytes cs
-    → IsScript (typing_script m cs) sent → played_text show.Typed (alone m) sent ≡ bytes
-typed-once m cs bytes sent t h =
+typed-once : (m : MapValue) (x : Typing) (bytes : List ℕ) (sent : List Sent) → IsTyped m bytes x
+    → IsScript (typing_script x) sent → played_text show.Typed (alone m) sent ≡ bytes
+typed-once m x bytes sent t h =
     ap (λ l. played_text show.Typed (alone m) l)
-    (one_list (typing_script m cs) sent (map sent_of (events_for m cs)) h (typing-sends m cs))
-    ∙ typed-back m (events_for m cs) bytes t.typed
+    (one_list (typing_script x) sent (map sent_of (events_of x)) h (typing-sends x t.are.keys))
+    ∙ typed-back m (events_of x) bytes t.typed
 
 pub comes-back : (text sentence script typed : List ℕ) (t s u v : Option (List ℕ))
     → TypesSentence (moves (Some text) t) (moves (Some sentence) s) (moves (Some []) (Some script)) (Ok tt)
     → Plays show.Typed (moves (Some text) u) (moves (Some script) v) (moves (Some []) (Some typed)) (Ok tt)
     → typed ≡ sentence
-comes-back text sentence script typed t s u v ((m, bytes), told, (read, whole), (cs, is_typed, same_told), appends)
+comes-back text sentence script typed t s u v ((m, bytes), told, (read, whole), (x, is_typed, same_told), appends)
     ((n, events), played, (read_again, taken), (sent, is_script, same_shown), appended) =
-    let script_is : script ≡ typing_script m cs = appends ∙ same_told in
-    let events_are : events ≡ typing_script m cs = sym (taken-whole script events v taken) ∙ script_is in
+    let script_is : script ≡ typing_script x = appends ∙ same_told in
+    let events_are : events ≡ typing_script x = sym (taken-whole script events v taken) ∙ script_is in
     let same : m ≡ n = same-map text t u m n read read_again in
     appended ∙ same_shown ∙ ap (λ n. played_text show.Typed (alone n) sent) (sym same)
-    ∙ typed-once m cs bytes sent is_typed (subst (λ x. IsScript x sent) events_are is_script)
+    ∙ typed-once m x bytes sent is_typed (subst (λ z. IsScript z sent) events_are is_script)
     ∙ sym (taken-whole sentence bytes s whole)
 
 -- the report with its demonstration, whether there is one

@@ -14,6 +14,7 @@ use Rattle.keymap_draw.specs.Pictures.{picture, drawing}
 use Rattle.keymap_draw.specs.Told.{AgreeWhereShown}
 use Rattle.keymap_draw.specs.WellFormed.{IsPlain, IsWellFormed}
 use Rattle.console_core.specs.declared.outcome.Sticking.{Sticking}
+use Rattle.console_core.specs.declared.typing.Typing.{Typing}
 use Rattle.console_core.specs.Headline.{IsSafe}
 use Rattle.keymap_check.specs.Promises.{KeepsPromise}
 use Rattle.console_core.specs.History.{between}
@@ -122,11 +123,12 @@ abbrev pub LacksScript : MapValue → List ℕ → RunError → Type 0
 LacksScript m bytes error.Memory = ⊤
 LacksScript m bytes (error.NotText offset) = IsTypeError m bytes (type.NotText offset)
 LacksScript m bytes (error.NoWay offset c) = IsTypeError m bytes (type.NoWay offset c)
+LacksScript m bytes error.TooManyStates = IsTypeError m bytes type.TooManyStates
 LacksScript m bytes _ = ⊥
 
--- the script that types the characters of the sentence
+-- the script of events that type the sentence
 abbrev pub Types : MapValue → List ℕ → List ℕ → Type 0
-Types m bytes told = (cs : List ℕ) × IsTyped m bytes cs × (told ≡ typing_script m cs)
+Types m bytes told = (x : Typing) × IsTyped m bytes x × (told ≡ typing_script x)
 
 abbrev pub TypesSentence : Moves → Moves → Moves → Result (Unit {0}) RunError → Type 0
 TypesSentence text sentence out r =

@@ -1,10 +1,11 @@
 -- The script that types a sentence.
-use Rattle.std.specs.Prelude.{ℕ, ◌==◌, Bool, true, false, List, [], ◌∷◌, ◌++◌, encode_utf8}
+use Rattle.std.specs.Prelude.{ℕ, ◌==◌, Bool, true, false, List, [], ◌∷◌, ◌++◌, map, encode_utf8}
 use Rattle.std.specs.Prelude.{if◌then◌else◌}
 use Rattle.std.specs.List.{flat_map, before_first}
-use Rattle.keymap_core.specs.Maps.{MapValue}
 use Rattle.keymap_core.specs.Unseen.{is_unseen}
-use Rattle.play_core.specs.Typing.{way_for, events_in}
+use Rattle.console_core.specs.declared.typing.Keyed.{Keyed}
+use Rattle.console_core.specs.declared.typing.Typing.{Typing}
+use Rattle.console_core.specs.Typing.{characters_of}
 use Rattle.keymap_core.specs.CodePoints.{code_text}
 use Rattle.play_core.specs.Spelling.{event_line}
 use Rattle.kmap_runs.specs.declared.words.TheConstants as words
@@ -17,22 +18,24 @@ shown c = if is_unseen c then code_text c else encode_utf8 c
 abbrev pub is_line_feed : ℕ → Bool
 is_line_feed c = c == 10
 
+-- what is shown of the first line of characters
+abbrev pub line_shown : List ℕ → List ℕ
+line_shown cs = flat_map shown (before_first is_line_feed cs)
+
 -- a comment that shows the first line of the characters
-abbrev pub comment : List ℕ → List ℕ
-comment cs = filled words.SENTENCE.now (flat_map shown (before_first is_line_feed cs) ∷ [])
+abbrev pub comment : List Keyed → List ℕ
+comment ks = filled words.SENTENCE.now (line_shown (characters_of ks) ∷ [])
 
-abbrev pub comment_if : Bool → List ℕ → List ℕ
-comment_if true cs = comment cs
-comment_if false cs = []
+abbrev pub comment_if : Bool → List Keyed → List ℕ
+comment_if true ks = comment ks
+comment_if false ks = []
 
--- a line for each event of the character's way
-abbrev pub event_lines : MapValue → ℕ → List ℕ
-event_lines m c = flat_map event_line (events_in (way_for m c))
+-- the lines of the events of the characters, and before those of each line of the sentence a comment that shows it
+unfoldable pub lines_from : Bool → List Keyed → List ℕ
+lines_from starts [] = []
+lines_from starts (k ∷ ks) =
+    comment_if starts (k ∷ ks) ++ flat_map event_line k.events.items ++ lines_from (is_line_feed k.character) ks
 
--- the event lines of the characters, and before those of each line of the sentence a comment that shows it
-unfoldable pub lines_from : MapValue → Bool → List ℕ → List ℕ
-lines_from m starts [] = []
-lines_from m starts (c ∷ cs) = comment_if starts (c ∷ cs) ++ event_lines m c ++ lines_from m (is_line_feed c) cs
-
-abbrev pub typing_script : MapValue → List ℕ → List ℕ
-typing_script m cs = lines_from m true cs
+-- these, and the lines of the events behind the last character
+abbrev pub typing_script : Typing → List ℕ
+typing_script x = lines_from true x.keyed.items ++ flat_map event_line x.last.items

@@ -1,22 +1,23 @@
 //! Laws of the runs: what is printed as a script is one, and what a command says or writes of a text is so of its
 //! keymap. No function here does anything.
-ghost use Rattle.std.specs.Prelude.{◌≡◌, List, [], ℕ, map, All, Option, Some, Ok, true};
+ghost use Rattle.std.specs.Prelude.{◌≡◌, List, [], ℕ, reverse, All, Option, Some, Ok, true};
 ghost use Rattle.keymap_core.specs.Maps.{MapValue};
 ghost use Rattle.keymap_cover.specs.Covering.{events};
 ghost use Rattle.keymap_cover.specs.declared.parts.Cover.{Cover as CoverValue};
 ghost use Rattle.console_core.specs.declared.outcome.Sticking.{Sticking as StickingValue};
+ghost use Rattle.console_core.specs.declared.typing.Typing.{Typing as TypingValue};
 ghost use Rattle.console_core.specs.History.{HasKeys, Maps};
 ghost use Rattle.console_core.specs.Sticking.{IsAnswer, IsAnswerBetween};
+ghost use Rattle.console_core.specs.Typing.{AreTyped, characters_of, events_of};
 ghost use Rattle.play_core.specs.Playing.{Plays};
 ghost use Rattle.play_core.specs.Runs.{moves};
 ghost use Rattle.play_core.specs.Scripts.{IsScript};
 ghost use Rattle.play_core.specs.declared.show.Show.{Show as ShowValue};
 ghost use Rattle.play_core.specs.declared.show.Show.TheVariants as show;
-ghost use Rattle.play_core.specs.Spelling.{sent_of};
-ghost use Rattle.play_core.specs.Typing.{IsTyped, events_for};
+ghost use Rattle.play_core.specs.Typing.{IsTyped};
 ghost use Rattle.kmap_runs.specs.Cover.{cover_text};
 ghost use Rattle.kmap_runs.specs.Report.{report};
-ghost use Rattle.kmap_runs.specs.Replayed.{ScriptTypes, AnswerReplays, AnswerReplaysBetween, ShowsScript};
+ghost use Rattle.kmap_runs.specs.Replayed.{Delivers, ScriptTypes, AnswerReplays, AnswerReplaysBetween, ShowsScript};
 ghost use Rattle.kmap_runs.specs.Replayed.{PlaysCover, strokes_sent};
 ghost use Rattle.kmap_runs.specs.FmtRuns.{ChangedTextsSpellTheSame, PrintedLayoutsSpellTheSame};
 ghost use Rattle.kmap_runs.specs.Runs.{AcceptedKeepTheirPromise, CompiledAreDumped, CompiledNarrowlyAreDumped};
@@ -35,20 +36,22 @@ use keymap_tables::laws::{
 };
 use keymap_text::laws::printed_form_spells;
 
-/// What is printed to type characters is a script of exactly the events of their ways.
-pub fn typing_scripts_send_the_ways()
-    ensures { (m : MapValue) (cs : List ℕ) → IsScript (typing_script m cs) (map sent_of (events_for m cs)) }
+/// What is printed to type characters is a script that delivers exactly the events that type them.
+pub fn typing_scripts_deliver_the_events()
+    ensures { (m : MapValue) (cs : List ℕ) (x : TypingValue) → AreTyped m cs x
+        → Delivers (typing_script x) (reverse (events_of x)) }
 {}
 
 /// What is printed to type a sentence is a script that types it, played on the keymap alone.
 pub fn typing_scripts_type_the_sentence()
-    ensures { (m : MapValue) (bytes cs : List ℕ) → IsTyped m bytes cs → ScriptTypes m (typing_script m cs) bytes }
+    ensures { (m : MapValue) (bytes : List ℕ) (x : TypingValue) → IsTyped m bytes x
+        → ScriptTypes m (typing_script x) bytes }
 {}
 
 /// What is printed to type characters, the comments that show a sentence among it, is UTF-8 that a terminal shows: no
 /// control but a line feed, no mark that can't be seen and none that turns the direction of writing.
 pub fn typing_scripts_are_plain()
-    ensures { (m : MapValue) (cs : List ℕ) → All IsScalar cs → IsPlainText (typing_script m cs) }
+    ensures { (x : TypingValue) → All IsScalar (characters_of x.keyed.items) → IsPlainText (typing_script x) }
 {}
 
 /// What is printed of an answer of the search is a script: where it found a list, one that delivers exactly this list,

@@ -8,39 +8,29 @@ use crate::fault_line::RunError;
 use crate::inputs::{read_sentence, read_text};
 use crate::typing::typing_script;
 use keymap_core::{KeyMap, Read, Write, write_text};
-use play_core::{TypeError, Ways};
+use play_core::{TypeError, type_sentence};
 use std::alloc::{AllocError, Global};
-
-/// The script that types the characters of the sentence, with their ways.
-fn script_with(alloc: Global, ways: &Ways, sentence: &[u8]) -> Result<Vec<u8>, RunError>
-    ensures ok { IfOk result (λ script. Types ways.now sentence.now script.items) }
-    ensures err { IfErr result (LacksScript ways.now sentence.now) }
-{
-    let characters = match ways.characters(alloc, sentence) {
-        Ok(characters) => characters,
-        Err(TypeError::Memory) => return Err(RunError::Memory),
-        Err(TypeError::NotText { offset }) => return Err(RunError::NotText { offset }),
-        Err(TypeError::NoWay { offset, c }) => return Err(RunError::NoWay { offset, c }),
-    };
-    match typing_script(alloc, ways, characters.as_slice()) {
-        Ok(script) => Ok(script),
-        Err(AllocError) => Err(RunError::Memory),
-    }
-}
 
 /// The script that types the sentence on the map.
 fn script_for(alloc: Global, map: &KeyMap, sentence: &[u8]) -> Result<Vec<u8>, RunError>
     ensures ok { IfOk result (λ script. Types map.now sentence.now script.items) }
     ensures err { IfErr result (LacksScript map.now sentence.now) }
 {
-    match Ways::of(alloc, map) {
-        Ok(ways) => script_with(alloc, &ways, sentence),
+    let typing = match type_sentence(alloc, map, sentence) {
+        Ok(typing) => typing,
+        Err(TypeError::Memory) => return Err(RunError::Memory),
+        Err(TypeError::NotText { offset }) => return Err(RunError::NotText { offset }),
+        Err(TypeError::NoWay { offset, c }) => return Err(RunError::NoWay { offset, c }),
+        Err(TypeError::TooManyStates) => return Err(RunError::TooManyStates),
+    };
+    match typing_script(alloc, &typing) {
+        Ok(script) => Ok(script),
         Err(AllocError) => Err(RunError::Memory),
     }
 }
 
 /// Reads a text and then a sentence, and prints a script of the events that type the sentence on the map of the text:
-/// each character by its first way, and before the events of each line of the sentence a comment that shows it.
+/// the events of each character, and before those of each line of the sentence a comment that shows it.
 pub fn type_run<R: Read, S: Read, W: Write>(
     alloc: Global,
     text: &mut R,

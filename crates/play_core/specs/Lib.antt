@@ -1,5 +1,4 @@
 pub mod Delivery
-pub mod HeldKeys
 pub mod Inner
 pub mod Playing
 pub mod Runs

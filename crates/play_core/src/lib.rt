@@ -3,7 +3,7 @@
 //! A script has one event a line; a line marked as lost is sent and not delivered. `play` reads a keymap from a text
 //! and then the script, and writes a line for each delivered event, or the bytes that the answers type; `play_next`
 //! reads a second text, whose keymap a load puts in force. `read_script` reads a script alone, `read_whole` the bytes
-//! of one, and `Ways` tells which presses type a character.
+//! of one, and `type_sentence` tells which presses type a sentence.
 //!
 //! It stands on `keymap_text` for the keymap of a text, on `console_core` for the answers, and on `keymap_core` for
 //! readers and writers. It promises that what is written is the text that `specs/Written.antt` defines for the keymaps
@@ -13,8 +13,6 @@
 #![tactic(auto)]
 
 mod answer_line;
-mod effect;
-mod held_keys;
 pub mod laws;
 mod number;
 mod output;
@@ -30,15 +28,14 @@ mod show;
 mod tail;
 mod type_error;
 mod typed_bytes;
-mod ways;
 mod whole;
 mod words;
 
 pub use playing::{PlayError, Source, play, play_next};
 pub use script::{ScriptError, ScriptFault, read_script};
 pub use sent::{Sent, What};
+pub use sentence::type_sentence;
 pub use show::Show;
 pub use type_error::TypeError;
 pub use typed_bytes::typed;
-pub use ways::Ways;
 pub use whole::read_whole;

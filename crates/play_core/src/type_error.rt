@@ -10,9 +10,12 @@ pub enum TypeError {
     /// The sentence isn't UTF-8: the offset of its first byte that belongs to no character.
     #[error("not UTF-8 at offset {offset}")]
     NotText { offset: u64 },
-    /// No way types the character, the first such in the sentence, at the offset of its first byte.
+    /// No keys type the character, the first such in the sentence, at the offset of its first byte.
     #[error("no key types the character at offset {offset}")]
     NoWay { offset: u64, c: char },
+    /// The keymap has more states than a search goes over, and no keys were found among these that type a character.
+    #[error("more states than a search goes over")]
+    TooManyStates,
 }
 
 impl From<AllocError> for TypeError {

@@ -1,4 +1,4 @@
-//! The tests of play_core and kmap_runs: scripts and what is played of them, the ways that type a character, what the
+//! The tests of play_core and kmap_runs: scripts and what is played of them, the events that type a sentence, what the
 //! runs of the program write, and devices that fail. They say what no clause says.
 //!
 //! A crate with tests is proved once more together with them, so the libraries have none of their own. Nothing here is
@@ -22,4 +22,4 @@ mod run_devices;
 #[cfg(test)]
 mod scripts;
 #[cfg(test)]
-mod ways;
+mod sentences;

@@ -1,0 +1,353 @@
+-- What a list of presses, releases and resets types on its way home, moves and taps can type.
+use Rattle.std.proofs.Common.{◌≡◌, ◌⊎◌, ℕ, ◌<◌, Bool, true, false, not, List, [], ◌∷◌, ◌++◌, Option, Some, None, refl, ap}
+use Rattle.std.proofs.Common.{subst, sym, ◌∙◌, inl, inr, arith, append_assoc, append-nil, if◌then◌else◌}
+use Prim.Native.Nat.{suc}
+use Rattle.std.specs.Option.{is_some}
+use Rattle.std.proofs.lemmas.Bool.{true≢false, eqb-true, eq-eqb}
+use Rattle.std.proofs.lemmas.List.Elements.{All-head}
+use Rattle.std.proofs.lemmas.Option.{none-some}
+use Rattle.keymap_core.specs.declared.action.Action.TheVariants as act
+use Rattle.keymap_core.specs.Accents.{own_of}
+use Rattle.keymap_core.specs.Maps.{MapValue, accent_at}
+use Rattle.console_core.specs.Types.{Action, Answer, Meta, Cell, Char, Act, Event, Press, Release, Reset, Load, Move, LetGo}
+use Rattle.console_core.specs.Types.{Hold, Turn}
+use Rattle.console_core.specs.declared.event.Answer.TheVariants as answer
+use Rattle.console_core.specs.declared.explored.Symbol.{Symbol}
+use Rattle.console_core.specs.declared.explored.Symbol.TheVariants as symbol
+use Rattle.console_core.specs.Answers.{usable, is_pending, char_or_error, answer_action, composed_by}
+use Rattle.console_core.specs.Resolved.{ResolvedEvent, look, remembered, taken_over, pending, keeps_taken, usable_dead_key}
+use Rattle.console_core.specs.Resolved.{resolve, resolve_press}
+use Rattle.console_core.specs.Inner.Kept.{next_pending, pending_after_dead_key}
+use Rattle.console_core.specs.Inner.Standing.{Follows}
+use Rattle.console_core.specs.History.{between, in_force, resolved, is_second_in_force, is_on_after, HasKey, IsNoLoad}
+use Rattle.console_core.specs.History.{accent_pending_after}
+use Rattle.console_core.specs.Reading.{look_after, remembered_after}
+use Rattle.console_core.specs.Moves.{Under, alone, State, start, map_of, map_in, next_map, look_in, Holds, IsIdle, IsMove}
+use Rattle.console_core.specs.Moves.{moved, IsPathFrom, state_from, IsForgetful}
+use Rattle.console_core.specs.Returning.{IsHome}
+use Rattle.console_core.specs.Sights.{IsAdmitted}
+use Rattle.console_core.specs.Sticking.{NeverForgets, presses}
+use Rattle.console_core.specs.Typing.{ComesHome, IsTapOf, CanTap, CanType, IsAsNew, TypedCanBeTyped, cell_of, plainly}
+use Rattle.console_core.proofs.Exploring.{path-append}
+use Rattle.console_core.proofs.Going.{pending-is}
+use Rattle.console_core.proofs.OneMore.{resolved-start, resolved-more, pending-start, pending-character, pending-action}
+use Rattle.console_core.proofs.OneMore.{pending-release, pending-reset}
+use Rattle.console_core.proofs.Prefixes.{answers_by_cases}
+use Rattle.console_core.proofs.RoutesHome.{is-nothing}
+use Rattle.console_core.proofs.Scripts.{Reached}
+use Rattle.console_core.proofs.Seeing.{one_map, admitted-before, taken-dead, pends}
+use Rattle.console_core.proofs.Staying.{Stays, KeepsLetGo, KeepsHeld, LeadsOn, follows-look, follows-start, clean-spared}
+use Rattle.console_core.proofs.Staying.{stays-press, stays-release, stays-reset}
+use Rattle.console_core.proofs.Strokes.{answer_at, look-answer}
+
+-- ---- from a state on
+
+-- moves lead from the one state to the other
+abbrev LeadsTo : Under → State → State → Type 0
+LeadsTo u s t = (path : List Move) × IsPathFrom u s path × (state_from u s path ≡ t)
+
+leads-more : (u : Under) (s t : State) (move : Move) → LeadsTo u s t → IsMove u t move → LeadsTo u s (moved u t move)
+leads-more u s t move (path, made, leads) is =
+    (move ∷ path, (subst (λ x. IsMove u x move) (sym leads) is, made), ap (λ x. moved u x move) leads)
+
+lets-go-on : (u : Under) (s : State) → KeepsLetGo (LeadsTo u s)
+lets-go-on u s t k i there holds = leads-more u s t (LetGo k i) there holds
+
+leads-on : (u : Under) (s : State) → LeadsOn u (LeadsTo u s) (LeadsTo u s)
+leads-on u s = record {
+  stay = λ t there. there;
+  hold = λ t k i there is. leads-more u s t (Hold k i) there is;
+  turn = λ t k l there is. leads-more u s t (Turn k l) there is;
+}
+
+-- what moves lead to from a state that a path leads to, a path leads to
+reached-on : (u : Under) (s t : State) → Reached u s → LeadsTo u s t → Reached u t
+reached-on u s t (way, made, there) (path, more, leads) =
+    let all = path-append u start way path made (subst (λ x. IsPathFrom u x path) (sym there) more) in
+    (path ++ way, all.0, all.1 ∙ ap (λ x. state_from u x path) there ∙ leads)
+
+-- no press of a list that is spoken of forgets that a key holds a modifier
+keeps-held : (m : MapValue) (forgets : Bool) (k : ℕ) (h : List Event) → (forgets ≡ false → NeverForgets (alone m))
+    → IsAdmitted m forgets (Press k ∷ h) → (t : State) → Reached (alone m) t → Follows (resolved (between m m) h) t
+    → t.is_second ≡ is_second_in_force h
+    → KeepsHeld (alone m) t k
+keeps-held m false k h never admitted t there f is =
+    λ i forgets. never refl there.0 there.1 (subst (λ x. IsForgetful (alone m) x) (sym there.2) (i, k, forgets))
+keeps-held m true k h never (keys, none, clean) t there f is =
+    (clean-spared (alone m) (suc (presses h)) (λ p x. Unit {0})).keeps h k (clean refl) (omega arith) t tt f is
+
+-- an event leads on from the state where the console stands
+onward-event : (m : MapValue) (forgets : Bool) (s : State) (e : Event) (h : List Event)
+    → (forgets ≡ false → NeverForgets (alone m)) → IsAdmitted m forgets (e ∷ h) → (t : State) → Reached (alone m) t
+    → LeadsTo (alone m) s t → Follows (resolved (between m m) h) t → t.is_second ≡ is_second_in_force h
+    → Stays (LeadsTo (alone m) s) (is_second_in_force (e ∷ h))
+    (resolve (map_in (alone m) t) (next_map (alone m) t) (resolved (between m m) h) e ∷ resolved (between m m) h)
+onward-event m forgets s (Press k) h never admitted t there leads f is =
+    let u : Under = alone m in
+    let r : List ResolvedEvent = resolved (between m m) h in
+    subst (λ b. Stays (LeadsTo u s) b (resolve (map_in u t) (next_map u t) r (Press k) ∷ r)) is
+    (stays-press u (LeadsTo u s) (LeadsTo u s) (leads-on u s) r t leads f k (All-head HasKey (Press k) h admitted.0)
+    (keeps-held m forgets k h never admitted t there f is) (look (map_in u t) r k) (sym (follows-look u r t k f)))
+onward-event m forgets s (Release k) h never admitted t there leads f is =
+    let u : Under = alone m in
+    let r : List ResolvedEvent = resolved (between m m) h in
+    subst (λ b. Stays (LeadsTo u s) b (resolve (map_in u t) (next_map u t) r (Release k) ∷ r)) is
+    (stays-release (LeadsTo u s) (lets-go-on u s) r t leads f k (remembered k r) refl)
+onward-event m forgets s Reset h never admitted t there leads f is =
+    let u : Under = alone m in
+    let r : List ResolvedEvent = resolved (between m m) h in
+    subst (λ b. Stays (LeadsTo u s) b (resolve (map_in u t) (next_map u t) r Reset ∷ r)) is
+    (stays-reset (LeadsTo u s) (lets-go-on u s) r t leads f)
+onward-event m forgets s Load h never admitted t there leads f is =
+    absurd (true≢false (All-head IsNoLoad Load h admitted.1))
+
+-- Along the events that follow, the console stands in states that moves lead to from there.
+onward : (m : MapValue) (forgets : Bool) (s : State) (before : List Event) → (forgets ≡ false → NeverForgets (alone m))
+    → Reached (alone m) s → Follows (resolved (between m m) before) s → s.is_second ≡ is_second_in_force before
+    → (later : List Event) → IsAdmitted m forgets (later ++ before)
+    → Stays (LeadsTo (alone m) s) (is_second_in_force (later ++ before)) (resolved (between m m) (later ++ before))
+onward m forgets s before never there f is [] admitted = (s, ([], tt, refl), f, is)
+onward m forgets s before never there f is (e ∷ later) admitted =
+    let u : Under = alone m in
+    let h : List Event = later ++ before in
+    let r : List ResolvedEvent = resolved (between m m) h in
+    let (t, leads, g, second) =
+    onward m forgets s before never there f is later (admitted-before m forgets e h admitted) in
+    rw (resolved-more (between m m) h e)
+    (subst (λ b. Stays (LeadsTo u s) (is_second_in_force (e ∷ h)) (resolve (map_of u b) (map_of u (not b)) r e ∷ r))
+    second
+    (onward-event m forgets s e h never admitted t (reached-on u s t there leads) leads g second))
+
+-- so after a whole list in states that paths lead to
+stands-at : (m : MapValue) (forgets : Bool) (h : List Event) → (forgets ≡ false → NeverForgets (alone m))
+    → IsAdmitted m forgets h
+    → Stays (Reached (alone m)) (is_second_in_force h) (resolved (between m m) h)
+stands-at m forgets h never admitted =
+    subst (λ g. Stays (Reached (alone m)) (is_second_in_force g) (resolved (between m m) g)) (append-nil h)
+    (onward m forgets start [] never ([], tt, refl)
+    (subst (λ r. Follows r start) (sym (resolved-start (between m m))) follows-start) refl h
+    (subst (λ g. IsAdmitted m forgets g) (sym (append-nil h)) admitted))
+
+-- ---- on the way home
+
+-- a console that is as a new one stands at home
+new-home : (m : MapValue) (h : List Event) (t : State) → Follows (resolved (between m m) h) t → IsAsNew m h → IsHome t
+new-home m h t f new = (
+  (λ i. is-nothing (t.holder i) (sym (f.on i) ∙ new.on i)),
+  (λ l other. sym (f.locked l) ∙ new.locked l),
+)
+
+-- the first events of a list that is spoken of are one
+admitted-from : (m : MapValue) (forgets : Bool) (later h : List Event) → IsAdmitted m forgets (later ++ h)
+    → IsAdmitted m forgets h
+admitted-from m forgets [] h admitted = admitted
+admitted-from m forgets (e ∷ later) h admitted =
+    admitted-from m forgets later h (admitted-before m forgets e (later ++ h) admitted)
+
+-- A press on the way home, of a key that looks up the symbol and holds nothing, is a tap that can be made.
+can-tap : (m : MapValue) (forgets : Bool) (h later before : List Event) (k : ℕ)
+    → (forgets ≡ false → NeverForgets (alone m)) → IsAdmitted m forgets h → IsAsNew m h → h ≡ later ++ Press k ∷ before
+    → (plain : Bool) (x : Symbol) → look m (resolved (between m m) before) k ≡ cell_of x
+    → ((s : State) → Follows (resolved (between m m) before) s → KeepsHeld (alone m) s k
+    → look_in (alone m) s k ≡ cell_of x → IsIdle s k)
+    → (plain ≡ true → is_on_after (between m m) Meta before ≡ false)
+    → CanTap m plain x
+can-tap m forgets h later before k never admitted new at plain x seen idle off =
+    let u : Under = alone m in
+    let r : List ResolvedEvent = resolved (between m m) before in
+    let here : IsAdmitted m forgets (Press k ∷ before) =
+    admitted-from m forgets later (Press k ∷ before) (subst (λ g. IsAdmitted m forgets g) at admitted) in
+    let (s, there, f, second) =
+    stands-at m forgets before never (admitted-before m forgets (Press k) before here) in
+    let split : h ≡ (later ++ Press k ∷ []) ++ before = at ∙ sym (append_assoc later (Press k ∷ []) before) in
+    let (t, (path, made, leads), g, last) =
+    onward m forgets s before never there f second (later ++ Press k ∷ [])
+    (subst (λ g. IsAdmitted m forgets g) split admitted) in
+    let home : IsHome t = new-home m ((later ++ Press k ∷ []) ++ before) t g (subst (λ g. IsAsNew m g) split new) in
+    let looked : look_in u s k ≡ cell_of x =
+    sym (follows-look u r s k f) ∙ subst (λ n. look n r k ≡ cell_of x) (sym (one_map m s.is_second)) seen in
+    let tap : IsTapOf u s plain x k = (
+      All-head HasKey (Press k) before here.0,
+      idle s f (keeps-held m forgets k before never here s there f second) looked,
+      looked,
+      (λ p. sym (f.on Meta) ∙ off p),
+    ) in (
+      there.0,
+      there.1,
+      subst (λ z. ComesHome u z) (sym there.2) (path, made, subst IsHome (sym leads) home),
+      (k, subst (λ z. IsTapOf u z plain x k) (sym there.2) tap),
+    )
+
+-- a character is looked up by a key that holds nothing
+can-tap-character : (m : MapValue) (forgets : Bool) (h later before : List Event) (k c : ℕ)
+    → (forgets ≡ false → NeverForgets (alone m)) → IsAdmitted m forgets h → IsAsNew m h → h ≡ later ++ Press k ∷ before
+    → look m (resolved (between m m) before) k ≡ Char c → is_on_after (between m m) Meta before ≡ false
+    → CanTap m true (symbol.Character c)
+can-tap-character m forgets h later before k c never admitted new at seen off =
+    can-tap m forgets h later before k never admitted new at true (symbol.Character c) seen
+    (λ s f keeps looked i holds. keeps i (holds, (c, looked))) (λ p. off)
+
+-- so is a dead key that is taken
+can-tap-dead : (m : MapValue) (forgets : Bool) (h later before : List Event) (k : ℕ) (a : Action) (i : ℕ) (plain : Bool)
+    → (forgets ≡ false → NeverForgets (alone m)) → IsAdmitted m forgets h → IsAsNew m h → h ≡ later ++ Press k ∷ before
+    → look m (resolved (between m m) before) k ≡ Act a
+    → taken_over (remembered k (resolved (between m m) before)) a ≡ act.DeadKey i
+    → (plain ≡ true → is_on_after (between m m) Meta before ≡ false)
+    → CanTap m plain (symbol.DeadKey i)
+can-tap-dead m forgets h later before k a i plain never admitted new at seen taken off =
+    let free = taken-dead (remembered k (resolved (between m m) before)) a i taken in
+    can-tap m forgets h later before k never admitted new at plain (symbol.DeadKey i)
+    (seen ∙ ap (λ x. Act x) free.0) (λ s f keeps looked j holds. free.1 j (f.holds j k holds)) off
+
+-- ---- the accent that is pending
+
+usable-dead-key : (m : MapValue) (a : Action) (i : ℕ) → usable_dead_key m a ≡ Some i
+    → (a ≡ act.DeadKey i) × (usable m i ≡ true)
+usable-dead-key m (act.DeadKey j) i e = by (usable m j) refl e
+  where
+    by : (t : Bool) → usable m j ≡ t → (if t then Some j else None) ≡ Some i
+        → (act.DeadKey j ≡ act.DeadKey i) × (usable m i ≡ true)
+    by true can f =
+        let same : j ≡ i = cc in
+        (ap (λ n. act.DeadKey n) same, subst (λ n. usable m n ≡ true) same can)
+    by false can f = absurd (none-some i f)
+usable-dead-key m a i e = absurd (none-some i e)
+
+-- what is pending after a press was so before, or its dead key is taken and can be used
+takes-usable : (m : MapValue) (p : Option ℕ) (a : Action) (i : ℕ) → next_pending m p a ≡ Some i
+    → (p ≡ Some i) ⊎ ((a ≡ act.DeadKey i) × (usable m i ≡ true))
+takes-usable m p a i e = by (keeps_taken a) e
+  where
+    by : (t : Bool) → (if t then p else pending_after_dead_key (usable_dead_key m a) p) ≡ Some i
+        → (p ≡ Some i) ⊎ ((a ≡ act.DeadKey i) × (usable m i ≡ true))
+    by true f = inl f
+    by false f = inr (usable-dead-key m a i (pends (usable_dead_key m a) p i f))
+
+-- The dead key of an accent that is pending on the way home can be tapped.
+pending-tapped : (m : MapValue) (forgets : Bool) (h later before : List Event) (i : ℕ)
+    → (forgets ≡ false → NeverForgets (alone m)) → IsAdmitted m forgets h → IsAsNew m h → h ≡ later ++ before
+    → pending m (resolved (between m m) before) ≡ Some i
+    → (usable m i ≡ true) × CanTap m false (symbol.DeadKey i)
+pending-tapped m forgets h later [] i never admitted new at e =
+    absurd (none-some i (sym (ap (λ r. pending m r) (resolved-start (between m m)) ∙ pending-start m) ∙ e))
+pending-tapped m forgets h later (Release k ∷ before) i never admitted new at e =
+    pending-tapped m forgets h (later ++ Release k ∷ []) before i never admitted new
+    (at ∙ sym (append_assoc later (Release k ∷ []) before))
+    (sym (ap (λ r. pending m r) (resolved-more (between m m) before (Release k))
+    ∙ pending-release m k (resolved (between m m) before))
+    ∙ e)
+pending-tapped m forgets h later (Reset ∷ before) i never admitted new at e =
+    absurd (none-some i
+    (sym (ap (λ r. pending m r) (resolved-more (between m m) before Reset)
+    ∙ pending-reset m (resolved (between m m) before))
+    ∙ e))
+pending-tapped m forgets h later (Load ∷ before) i never admitted new at e =
+    absurd (true≢false (All-head IsNoLoad Load before
+    (admitted-from m forgets later (Load ∷ before) (subst (λ g. IsAdmitted m forgets g) at admitted)).1))
+pending-tapped m forgets h later (Press k ∷ before) i never admitted new at e =
+    let r : List ResolvedEvent = resolved (between m m) before in
+    let here : pending m (resolve_press k (look (in_force (between m m) before) r k) ∷ r) ≡ Some i =
+    ap (λ x. pending m x) (sym (resolved-more (between m m) before (Press k))) ∙ e in
+    by (look m r k) refl
+    (subst (λ n. pending m (resolve_press k (look n r k) ∷ r) ≡ Some i) (one_map m (is_second_in_force before)) here)
+    (λ was. pending-tapped m forgets h (later ++ Press k ∷ []) before i never admitted new
+    (at ∙ sym (append_assoc later (Press k ∷ []) before)) was)
+  where
+    by : (x : Cell) → look m (resolved (between m m) before) k ≡ x
+        → pending m (resolve_press k x ∷ resolved (between m m) before) ≡ Some i
+        → (pending m (resolved (between m m) before) ≡ Some i
+        → (usable m i ≡ true) × CanTap m false (symbol.DeadKey i))
+        → (usable m i ≡ true) × CanTap m false (symbol.DeadKey i)
+    by (Char c) seen f earlier =
+        absurd (none-some i (sym (pending-character m k c (resolved (between m m) before)) ∙ f))
+    by (Act a) seen f earlier =
+        elim (takes-usable m (pending m (resolved (between m m) before))
+        (taken_over (remembered k (resolved (between m m) before)) a) i
+        (sym (pending-action m k a (resolved (between m m) before)) ∙ f)) [
+          | inl was ↦ earlier was
+          | inr is ↦
+              (is.1, can-tap-dead m forgets h later before k a i false never admitted new at seen is.0 (λ p. absurd (true≢false (sym p))))
+        ]
+
+-- ---- what a press types
+
+-- a character without meta, or an error
+char-given : (meta : Bool) (o : Option ℕ) (c : ℕ) → char_or_error meta o ≡ plainly c → (o ≡ Some c) × (meta ≡ false)
+char-given meta None c e = let f : answer.Error ≡ answer.Char c false = e in cc
+char-given meta (Some d) c e = let f : answer.Char d meta ≡ answer.Char c false = e in (cc, cc)
+
+pending-same : (i : ℕ) (p : Option ℕ) → is_pending i p ≡ true → p ≡ Some i
+pending-same i None e = absurd (true≢false (sym e))
+pending-same i (Some j) e = ap (λ n. Some n) (eqb-true j i e)
+
+abbrev is_character : Answer → Bool
+is_character (answer.Char c meta) = true
+is_character _ = false
+
+-- an action that types a plain character is the dead key that is pending
+abbrev GivesOwn : MapValue → Option ℕ → Bool → Action → ℕ → Type 0
+GivesOwn m p meta a c =
+    (i : ℕ) × (a ≡ act.DeadKey i) × (p ≡ Some i) × (own_of (accent_at m i) ≡ Some c) × (meta ≡ false)
+
+dead-gives : (m : MapValue) (p : Option ℕ) (meta : Bool) (i c : ℕ) (can t : Bool) → is_pending i p ≡ t
+    → (if can then (if t then char_or_error meta (own_of (accent_at m i)) else answer.None) else answer.Error)
+    ≡ plainly c
+    → GivesOwn m p meta (act.DeadKey i) c
+dead-gives m p meta i c true true is e =
+    let given = char-given meta (own_of (accent_at m i)) c e in
+    (i, refl, pending-same i p is, given.0, given.1)
+dead-gives m p meta i c true false is e = let f : answer.None ≡ answer.Char c false = e in cc
+dead-gives m p meta i c false t is e = let f : answer.Error ≡ answer.Char c false = e in cc
+
+action-gives : (m : MapValue) (p : Option ℕ) (meta : Bool) (a : Action) (c : ℕ) → answer_action m p meta a ≡ plainly c
+    → GivesOwn m p meta a c
+action-gives m p meta (act.DeadKey i) c e = dead-gives m p meta i c (usable m i) (is_pending i p) refl e
+action-gives m None meta a c e = absurd (true≢false (sym (ap is_character e)))
+action-gives m (Some j) meta a c e = absurd (true≢false (sym (ap is_character e)))
+
+pub typed-can : TypedCanBeTyped
+typed-can m forgets h c never admitted new (later, before, k, at, types) =
+    by (look_after (between m m) k before) refl (accent_pending_after (between m m) before) refl
+    (sym ((answers_by_cases (between m m) k before).0 ∙ look-answer m before k (look_after (between m m) k before))
+    ∙ types)
+  where
+    seen-by : (x : Cell) → look_after (between m m) k before ≡ x → look m (resolved (between m m) before) k ≡ x
+    seen-by x seen =
+        subst (λ n. look n (resolved (between m m) before) k ≡ x) (one_map m (is_second_in_force before)) seen
+
+    dead : (i : ℕ) → accent_pending_after (between m m) before ≡ Some i
+        → (usable m i ≡ true) × CanTap m false (symbol.DeadKey i)
+    dead i is =
+        pending-tapped m forgets h (later ++ Press k ∷ []) before i never admitted new
+        (at ∙ sym (append_assoc later (Press k ∷ []) before)) (sym (pending-is m before) ∙ is)
+
+    tap : (d : ℕ) → look_after (between m m) k before ≡ Char d → is_on_after (between m m) Meta before ≡ false
+        → CanTap m true (symbol.Character d)
+    tap d seen off =
+        can-tap-character m forgets h later before k d never admitted new at (seen-by (Char d) seen) off
+
+    by : (x : Cell) → look_after (between m m) k before ≡ x → (p : Option ℕ)
+        → accent_pending_after (between m m) before ≡ p
+        → answer_at m p (is_on_after (between m m) Meta before) (remembered_after (between m m) k before) x ≡ plainly c
+        → CanType m c
+    by (Char d) seen None is e =
+        let f : answer.Char d (is_on_after (between m m) Meta before) ≡ answer.Char c false = e in
+        let same : d ≡ c = cc in
+        inl (subst (λ z. CanTap m true (symbol.Character z)) same (tap d seen cc))
+    by (Char d) seen (Some i) is e =
+        let given = char-given (is_on_after (between m m) Meta before) (composed_by (accent_at m i) d) c e in
+        let first = dead i is in
+        inr (i, symbol.Character d, first.0, given.0, first.1, tap d seen given.1)
+    by (Act a) seen p is e =
+        let (i, taken, pend, own, off) =
+        action-gives m p (is_on_after (between m m) Meta before) (taken_over (remembered_after (between m m) k before) a)
+        c e in
+        let first = dead i (is ∙ pend) in
+        inr (
+          i,
+          symbol.DeadKey i,
+          first.0,
+          ap (λ t. if t then own_of (accent_at m i) else None) (eq-eqb i i refl) ∙ own,
+          first.1,
+          can-tap-dead m forgets h later before k a i true never admitted new at (seen-by (Act a) seen) taken (λ q. off),
+        )

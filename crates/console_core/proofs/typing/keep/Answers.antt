@@ -1,0 +1,16 @@
+use Rattle.std.proofs.Common.{ap, subst, sym, ◌∙◌, ◌++◌, [], reverse}
+use Rattle.console_core.specs.Inner.Exploring.{AreKnown, TypesOne}
+use Rattle.console_core.specs.Inner.Searching.{state_of}
+use Rattle.console_core.proofs.Views.{are_same_sought, tells-sought, known-more}
+use Rattle.console_core.proofs.typing.keep.Goals as goal
+
+pub returns : goal.returns
+returns c =
+    λ m all types.
+    let k = c.args.sought.now in
+    let next = c.args.next.now in
+    subst (λ z. AreKnown m z) (sym c.in_ok-insert.ensures.entries)
+    (known-more are_same_sought tells-sought m c.args.known.now.entries k
+    (record { events = c.extend_from_slice.new.self; next = next }) all
+    (subst (λ z. TypesOne m k.character (state_of k.from) [] (reverse z) (state_of next))
+    (sym (c.in_ok-extend_from_slice.ensures.items ∙ ap (λ z. z ++ c.args.events.now) c.new-kept.ensures.items)) types))

@@ -127,7 +127,7 @@ SightsAreReachable =
     → IsAdmitted m forgets h → k < key_count → SeesNext m h k x
     → IsReachable m x
 
--- The same as a test.
+-- What a press sees, as tests.
 abbrev pub is_same : Bool → Bool → Bool
 is_same a b = not (exactly_one a b)
 

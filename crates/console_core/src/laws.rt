@@ -67,7 +67,8 @@ pub fn modifiers_stick_where_paths_lead()
     ensures sticks { SticksIfReached }
 {}
 
-/// The same for two keymaps that loads exchange.
+/// Between two keymaps that loads exchange a modifier can stay on exactly if a path of moves and loads leads to such a
+/// state.
 pub fn modifiers_stick_between_where_paths_lead()
     ensures never { NeverSticksBetweenUnlessReached }
     ensures sticks { SticksBetweenIfReached }

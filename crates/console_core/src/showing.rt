@@ -182,7 +182,7 @@ fn visit(
     Ok(after(&held, &guide.maps, key))
 }
 
-/// The same after a reset.
+/// Resets, and then visits the place and presses the key.
 fn show_look(
     events: &mut Vec<Event>,
     alloc: Global,
@@ -201,7 +201,7 @@ fn show_look(
     visit(events, alloc, guide, held, place, key)
 }
 
-/// The same with the accent pending, if its dead key can be pressed.
+/// Resets, taps the dead key of the accent, if it can be pressed, and then visits the place and presses the key.
 fn show_pair(
     events: &mut Vec<Event>,
     alloc: Global,
@@ -270,7 +270,7 @@ fn show_all(alloc: Global, guide: &Guide, sights: &[Sight]) -> Result<Vec<Event>
     Ok(events)
 }
 
-/// The same where no turn of a lock is one-way, and else no events.
+/// Events that show each of them where no turn of a lock is one-way, and else no events.
 fn events_from(
     alloc: Global,
     met: &Met,

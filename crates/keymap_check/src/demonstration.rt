@@ -105,7 +105,7 @@ fn try_from(map: &KeyMap, keys: &BitKeys, key: KeyCode, a: u8) -> Option<Script>
     None
 }
 
-/// The same, where a key is held for each bit of the first set.
+/// The first script that begins with the set a and leaves a modifier on, where a key is held for each bit of a.
 fn try_first_set(map: &KeyMap, keys: &BitKeys, key: KeyCode, a: u8) -> Option<Script>
     ensures { option_map (λ s. s.items) result ≡ find (leaves_modifier_on_in map.now) (scripts_with keys.now key a) }
 {

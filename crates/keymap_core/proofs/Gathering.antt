@@ -31,7 +31,7 @@ Gathers-more {before = before} after piece g counted grown = record {
   whole = rw grown (ap (λ v. v ++ piece) g.whole ∙ append_assoc g.front before.waiting piece);
 }
 
--- The same text, written in another way.
+-- a text that is equal to the one that was gathered was gathered
 pub Gathers-same : {start now : Option (List ℕ)} {stream : StreamValue} (text : List ℕ) {same : List ℕ} → text ≡ same
     → Gathers start now stream text → Gathers start now stream same
 Gathers-same text equal g =

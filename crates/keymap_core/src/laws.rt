@@ -112,7 +112,7 @@ pub fn an_entry_is_set_in_its_slot()
         → n_keys_of (with_entry map slot entry) ≡ max (n_keys_of map) (slot + 1) }
 {}
 
-/// The same of an accent.
+/// An accent that is set stands at its index, and the others stay.
 pub fn an_accent_is_set_at_its_index()
     ensures here { (map : MapValue) (index : ℕ) (accent : AccentValue)
         → accent_or_blank (with_accent map index accent) index ≡ accent }

@@ -34,8 +34,8 @@ of_rest t cells = (pairs_again t ++ unused_half t) ++ bare_digits t cells
 abbrev pub all_of : Spelled → List CellInForce → List Finding → List Diagnostic
 all_of t cells findings = (of_keys t cells findings ++ of_definitions t cells) ++ of_rest t cells
 
--- The same diagnostics: first those without a place, then by their place; those of one place in the order in which they
--- were.
+-- The diagnostics in another order: first those without a place, then by their place; those of one place in the order
+-- in which they were.
 pub record AreOrdered (found ordered : List Diagnostic) : Type 0 where
   pub same : IsPermutation found ordered
   pub in_order : IsSortedByKey (λ (d : Diagnostic). d.place) (option_cmp nat_cmp) ordered

@@ -47,7 +47,7 @@ pub enum TableError {
 }
 
 impl TableFault {
-    /// The same fault in a file where `base` more bytes come before.
+    /// The fault as it is told of a file in which `base` more bytes come before.
     pub(crate) fn after(self, base: usize) -> TableFault
         requires { base + self.offset < 2 ^ 64 }
         ensures { result ≡ record self { offset = base + self.offset } }

@@ -32,7 +32,7 @@ pub(crate) const WIDE_ACCENTS_AT: usize = 9224;
 /// How many bytes a table file has: `struct keymap` and `struct accentmap` of sys/kbio.h.
 pub const WIDE_FILE: usize = 15524;
 
-/// The same in a narrow file.
+/// Where the count of accents stands in a narrow file.
 pub(crate) const NARROW_N_ACCS_AT: usize = 2562;
 
 /// How many bytes a narrow file has.

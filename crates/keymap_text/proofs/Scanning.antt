@@ -133,7 +133,7 @@ behind_advances s s' rest t n f a =
     (advances_on s s s' rest _ f.blanks f.size (blanks_advance s f.blanks rest f.are_blank f.inside) refl
     (token_advances s s' _ t f.size f.fronts a))
 
--- The same of what takes definitions. It was not touched.
+-- What takes definitions was not touched.
 pub takes_same : {D : Type 0} → (shows : D → MapValue → Type 0) → (d : D) (g : Grammar) (rest : List ℕ) (n : ℕ)
     → ((s : GrammarState) → Advances s s rest n) → Takes shows d d (Ok n) g g rest
 takes_same shows d g rest n a = λ m h. (m, h, a _)

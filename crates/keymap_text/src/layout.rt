@@ -95,7 +95,7 @@ fn six_places(cell: &Cell) -> Option<[u8; 6]>
     }
 }
 
-/// The same of a character.
+/// The six places of a character, where it has no more.
 #[inline(always)]
 #[tactic(auto, unfolding(crate::specs::Printed::character_text))]
 fn character_places(c: char) -> Option<[u8; 6]>

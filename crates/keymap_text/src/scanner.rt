@@ -28,7 +28,7 @@ pub(crate) struct Stop {
     pub(crate) at: usize,
 }
 
-/// The same behind n bytes more.
+/// Where the scanner stops, told behind n bytes more.
 #[inline(always)]
 pub(crate) fn behind(n: usize, stop: Stop) -> Stop
     requires { n + stop.at < 2 ^ 64 }
@@ -58,8 +58,8 @@ fn front_name(rest: &[u8]) -> Option<(Item, usize)>
     }
 }
 
-/// The same if it is a short number. Most numbers of more than three digits are four hexadecimal ones, so these are
-/// read before the word is measured.
+/// The token in front, if it is a short number. Most numbers of more than three digits are four hexadecimal ones, so
+/// these are read before the word is measured.
 #[inline(always)]
 fn front_number(rest: &[u8]) -> Option<(Item, usize)>
     requires some { 0 < length rest.now }

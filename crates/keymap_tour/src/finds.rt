@@ -46,7 +46,7 @@ pub(crate) fn find<T: Translator>(
     }
 }
 
-/// The same, and where no such key is, goes where a holder looks up the cell, and presses it.
+/// Looks up the cell by a free key, or where there is none, goes where a holder looks it up, and presses it.
 pub(crate) fn find_any<T: Translator>(
     pen: &mut Pen<T>,
     views: &Views,

@@ -31,13 +31,13 @@ struct Described {
 /// The keymap text that a subcommand reads.
 const TEXT: Word = File("TEXT", "The keymap text");
 
-/// The same where it may be the standard input.
+/// The keymap text, where it may be the standard input.
 const STREAM: Word = File("TEXT", "The keymap text, or - for standard input");
 
 /// The keymap texts of a subcommand that takes one after the other.
 const TEXTS: Word = Files("TEXT", "The keymap texts");
 
-/// The same where they may be the standard input.
+/// The keymap texts, where one may be the standard input.
 const STREAMS: Word = Files("TEXT", "The keymap texts, or - for standard input");
 
 const NEXT: Word = FileOption("next", "TEXT2", "The keymap text that a load puts in force");

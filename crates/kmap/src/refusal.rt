@@ -87,8 +87,8 @@ const TIP: &str = "  tip: to pass '";
 
 const USE: &str = "' as a value, use '-- ";
 
-/// The same text where `clap` tells how to pass a part of a word, as `-x` of `-x.kbd`, with the whole word in the place
-/// of the part.
+/// The text, where `clap` tells how to pass a part of a word, as `-x` of `-x.kbd`, with the whole word in the place of
+/// the part.
 fn tip_on_whole_word(
     alloc: Global,
     text: &str,

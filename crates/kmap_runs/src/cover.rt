@@ -268,7 +268,7 @@ fn bases_of(alloc: Global, accent: &Accent) -> Result<Vec<char>, AllocError>
     Ok(bases)
 }
 
-/// The same of the accent that the keymap has at the index. There are none where it has no accent.
+/// The blank and the bases of the accent that the keymap has at the index; none where it has no accent.
 fn bases(alloc: Global, map: &KeyMap, accent: u8) -> Result<Vec<char>, AllocError>
     ensures { IfOk result (λ bases. bases.items ≡ spec.bases_at map.now accent) }
 {

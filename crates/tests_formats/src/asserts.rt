@@ -9,7 +9,7 @@ pub(crate) fn expect_equal<T: PartialEq + Debug>(rt: &impl Abort, left: &T, righ
     assert_eq!(rt; left, right);
 }
 
-/// The same for a row of a table, which the failure names.
+/// The values of a row of a table are equal; else the test fails and names the row.
 pub(crate) fn expect_equal_at<R: Debug, T: PartialEq + Debug>(
     rt: &impl Abort,
     row: &R,

@@ -82,7 +82,7 @@ fn a_read_of_std_is_made_once(rt: HostRuntime) {
     }
 }
 
-/// The same of a writer, which may also take nothing.
+/// A write of std is made once also where it fails, or takes nothing.
 #[test]
 fn a_write_of_std_is_made_once(rt: HostRuntime) {
     for &kind in &KINDS {

@@ -42,10 +42,10 @@ pub record Arrives (m : MapValue) (s : State) (h now : List Event) : Type 0 wher
   pub still : pending m (resolved (between m m) now) ≡ pending m (resolved (between m m) h)
 
 -- without loads the first map is in force in each state that was met
-met-first : (m : MapValue) (es : Entries) (s : State) → Searched (alone m) es (length es) (length es) → IsMet es s
+met-first : (m : MapValue) (es : Entries) (s : State) → Searched (alone m) start es (length es) (length es) → IsMet es s
     → s.is_second ≡ false
 met-first m es s searched (j, x, at, is) =
-    let r : IsReached (alone m) es j x = searched.reached j x at in
+    let r : IsReached (alone m) start es j x = searched.reached j x at in
     let p = path-from-start (alone m) r.0 r.2 in
     ap (λ t. t.is_second) (sym (p.1 ∙ r.3 ∙ is)) ∙ path-first m start r.0 p.0
 
@@ -75,7 +75,7 @@ then-arrives m s h mid now goes still x = record {
 }
 
 -- Home, and from there to the state that was met.
-pub arrives : (m : MapValue) (es : Entries) → Searched (alone m) es (length es) (length es) → (from t : State)
+pub arrives : (m : MapValue) (es : Entries) → Searched (alone m) start es (length es) (length es) → (from t : State)
     → IsMet es from → (moves path : List Move) → LeadsHome (alone m) from moves → IsPath (alone m) path → (s : State)
     → state_after (alone m) path ≡ s → (h : List Event) → Stands (alone m) h t → unscrolled t ≡ unscrolled from
     → Arrives m s h (events_along path ++ (events_along (reverse moves) ++ h))
@@ -207,13 +207,13 @@ freed-emptied s =
     (fun_ext (λ i. sym (emptied-none s i)))
 
 -- a state among those that were met, where the scroll lock is off, was met
-pub among-met : (u : Under) (es : Entries) → Searched u es (length es) (length es) → (p : ℕ) (s : State)
+pub among-met : (u : Under) (es : Entries) → Searched u start es (length es) (length es) → (p : ℕ) (s : State)
     → s.is_locked Scroll ≡ false → IsAmong es p s → IsMet es s
 among-met u es searched p s off (t, (j, x, at, is, le), near) =
-    let r : IsReached u es j x = searched.reached j x at in
+    let r : IsReached u start es j x = searched.reached j x at in
     (j, x, at, same-scrolled (state_of x.0) s (ap (λ z. unscrolled z) is ∙ near) (r.5 ∙ sym off))
 
-freed-met : (u : Under) (es : Entries) → Searched u es (length es) (length es) → (p : ℕ) (s : State)
+freed-met : (u : Under) (es : Entries) → Searched u start es (length es) (length es) → (p : ℕ) (s : State)
     → s.is_locked Scroll ≡ false → IsAmong es p s → IsMet es (freed s)
 freed-met u es searched p s off among =
     among-met u es searched p (freed s) off
@@ -222,7 +222,7 @@ freed-met u es searched p s off among =
     (λ t k i there holds. (searched-kept u es searched (suc p)).let_go p (omega arith) t k i there holds) s among))
 
 -- so where a look at a key leads was met
-pub after-met : (u : Under) (es : Entries) → Searched u es (length es) (length es) → (j k : ℕ) (x : Entry)
+pub after-met : (u : Under) (es : Entries) → Searched u start es (length es) (length es) → (j k : ℕ) (x : Entry)
     → slice_get es j ≡ Some x → k < 128 → (after : State) → IsAfter u (state_of x.0) k after → IsMet es after
 after-met u es searched j k x at lt after is = by is
   where
@@ -233,7 +233,7 @@ after-met u es searched j k x at lt after is = by is
     p = x.1.presses
 
     off : s.is_locked Scroll ≡ false
-    off = let r : IsReached u es j x = searched.reached j x at in r.5
+    off = let r : IsReached u start es j x = searched.reached j x at in r.5
 
     here : IsAmong es p s
     here = (s, (j, x, at, refl, omega arith), refl)
@@ -264,8 +264,8 @@ pub comes : (g : Guide) → IsGuide g → (from : State) (place : ℕ) (x : Entr
 comes g guide from place x met at moves home h h1 h2 e1 e2 t stands near =
     let m : MapValue = map_of_guide g in
     let es : Entries = entries_of g in
-    let searched : Searched (alone m) es (length es) (length es) = guide.1.searched in
-    let r : IsReached (alone m) es place x = searched.reached place x at in
+    let searched : Searched (alone m) start es (length es) (length es) = guide.1.searched in
+    let r : IsReached (alone m) start es place x = searched.reached place x at in
     subst (λ z. Arrives m (state_of x.0) h z) (ap (λ z. events_along r.0 ++ z) (sym e1) ∙ sym (e2 r.0 r.1))
     (arrives m es searched from t met moves r.0 home r.2 (state_of x.0) r.3 h stands near)
 
@@ -296,7 +296,7 @@ visits g guide from place k x met at lt moves home h h1 h2 now e1 e2 look after 
     es : Entries
     es = entries_of g
 
-    searched : Searched u es (length es) (length es)
+    searched : Searched u start es (length es) (length es)
     searched = guide.1.searched
 
     leads : IsAfter u (state_of x.0) k after

@@ -191,7 +191,7 @@ closed-safe_below u es n d safe = record {
 }
 
 -- all that was met is pressed and closed
-all-done : (u : Under) (es : Entries) → Searched u es (length es) (length es) → (q : ℕ) → AreDone u es q q
+all-done : (u : Under) (es : Entries) → Searched u start es (length es) (length es) → (q : ℕ) → AreDone u es q q
 all-done u es s q = record {
   start = s.start;
   pressed = λ j x at lt. s.pressed j x at (slice_get_within es j x at);
@@ -199,12 +199,12 @@ all-done u es s q = record {
 }
 
 -- so the moves keep the states met
-pub searched-kept : (u : Under) (es : Entries) → Searched u es (length es) (length es) → (q : ℕ)
+pub searched-kept : (u : Under) (es : Entries) → Searched u start es (length es) (length es) → (q : ℕ)
     → IsKeptBelow u q (IsAmong es)
 searched-kept u es s q = done-kept_below u es q (all-done u es s q)
 
 -- and no modifier sticks where no holder looks up a character
-pub searched-never : (u : Under) (es : Entries) → Searched u es (length es) (length es) → AreSafe u es (length es)
+pub searched-never : (u : Under) (es : Entries) → Searched u start es (length es) (length es) → AreSafe u es (length es)
     → NeverUnder u
 searched-never u es s safe =
     never-sticks u (IsAmong es)
@@ -220,7 +220,7 @@ below_level es level p order j x at lt =
     ]
 
 -- so they are pressed, closed and safe
-level-safe : (u : Under) (es : Entries) (level p : ℕ) → AreInOrder es level p → Searched u es level level
+level-safe : (u : Under) (es : Entries) (level p : ℕ) → AreInOrder es level p → Searched u start es level level
     → AreSafe u es level → IsSafeBelow u p (IsAmong es)
 level-safe u es level p order s safe =
     done-safe_below u es p
@@ -232,13 +232,13 @@ level-safe u es level p order s safe =
     (λ j x at lt. safe j x at (below_level es level p order j x at lt))
 
 -- a holder at the place looks up a character: the script of a path to it leaves its modifier on, by the fewest presses
-pub stuck-sticks : (u : Under) (es : Entries) (level p j k : ℕ) → AreInOrder es level p → Searched u es level level
+pub stuck-sticks : (u : Under) (es : Entries) (level p j k : ℕ) → AreInOrder es level p → Searched u start es level level
     → AreSafe u es level → IsStuck u es j k
     → (h : List Event) → IsScriptTo u es j k h
     → LeavesOnUnder u h × HasFewestUnder u h
 stuck-sticks u es level p j k order s safe (x, at, stuck) h is =
     let i : Modifier = stuck.0 in
-    let r : IsReached u es j x = s.reached j x at in
+    let r : IsReached u start es j x = s.reached j x at in
     let e : h ≡ script_of_path u r.0 k = is r.0 x at r.1 r.3 in
     let left = script-sticks u r.0 r.2 i k (subst (λ t. HolderForgets u t i k) (sym r.3) stuck.1) in
     let within : x.1.presses ≤ p = order-within es level p order j x at in
@@ -251,14 +251,14 @@ stuck-sticks u es level p j k order s safe (x, at, stuck) h is =
     )
 
 -- no modifier sticks by the presses of the levels below a level
-pub level-late : (u : Under) (es : Entries) (level p : ℕ) → AreInOrder es level p → Searched u es level level
+pub level-late : (u : Under) (es : Entries) (level p : ℕ) → AreInOrder es level p → Searched u start es level level
     → AreSafe u es level → NoneUnderBy u p
 level-late u es level p order s safe g keys admitted i sticks =
     sticks-late u p (IsAmong es) (level-safe u es level p order s safe) g keys admitted i sticks
 
 -- no modifier sticks by one press more where that level was closed, and some of the next one was met
 pub closed-late : (u : Under) (old es : Entries) (level p : ℕ) → AreInOrder old level p → Grows old es
-    → AreInOrder es (length old) (p + 1) → Searched u es level (length old)
+    → AreInOrder es (length old) (p + 1) → Searched u start es level (length old)
     → AreSafe u es (length old) → NoneUnderBy u (p + 1)
 closed-late u old es level p before g order s safe g' keys admitted i sticks =
     sticks-late u (p + 1) (IsAmongUpTo es p)

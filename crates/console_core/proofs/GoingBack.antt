@@ -10,9 +10,9 @@ use Rattle.console_core.specs.Moves.{release_of, releases}
 use Rattle.console_core.specs.Inner.Searching.{Entry, Entries, IsTrail, IsReached, Searched, GoBack}
 
 -- the way back from a place
-pub searched-back : (u : Under) (es : Entries) (a b : ℕ) → Searched u es a b → GoBack es
-searched-back u es a b s j x parent by at last =
-    let r : IsReached u es j x = s.reached j x at in back r.0 r.1
+pub searched-back : {o : State} (u : Under) (es : Entries) (a b : ℕ) → Searched u o es a b → GoBack es
+searched-back {o} u es a b s j x parent by at last =
+    let r : IsReached u o es j x = s.reached j x at in back r.0 r.1
   where
     some_last : (p q : ℕ × Move) → Some p ≡ Some q → p ≡ q
     some_last p q e = cc

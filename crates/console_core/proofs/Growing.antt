@@ -130,8 +130,8 @@ trail-grows es now j (move ∷ path) g (x, parent, at, last, lt, rest) =
     (x, parent, at-now es now j x g at, last, lt, trail-grows es now parent path g rest)
 
 -- that a trail leads to an entry stays so when the entries grow
-pub reached-grows : (u : Under) (es now : Entries) (j : ℕ) (x : Entry) → Grows es now → IsReached u es j x
-    → IsReached u now j x
+pub reached-grows : {o : State} (u : Under) (es now : Entries) (j : ℕ) (x : Entry) → Grows es now → IsReached u o es j x
+    → IsReached u o now j x
 reached-grows u es now j x g (path, trail, is, leads, count, off) =
     (path, trail-grows es now j path g trail, is, leads, count, off)
 
@@ -142,7 +142,7 @@ and-off true false off = refl
 and-off false false off = refl
 
 -- a move that leaves the scroll lock leaves it off
-scroll-left : (u : Under) (s : State) (move : Move) → LeavesScroll move → s.is_locked Scroll ≡ false
+pub scroll-left : (u : Under) (s : State) (move : Move) → LeavesScroll move → s.is_locked Scroll ≡ false
     → (moved u s move).is_locked Scroll ≡ false
 scroll-left u s (Turn k Scroll) leaves off = absurd (leaves refl)
 scroll-left u s Exchange leaves off =
@@ -150,10 +150,10 @@ scroll-left u s Exchange leaves off =
 scroll-left u s _ leaves off = off
 
 -- a move from where a path leads goes on with the path
-pub reached-next : (u : Under) (es now : Entries) (place n p : ℕ) (y : Entry) → Grows es now → IsReached u es place y
+pub reached-next : {o : State} (u : Under) (es now : Entries) (place n p : ℕ) (y : Entry) → Grows es now → IsReached u o es place y
     → p ≡ y.1.presses + n
     → (j : ℕ) (x : Entry) → slice_get now j ≡ Some x → place < j → IsFrom u (state_of y.0) place n p x
-    → IsReached u now j x
+    → IsReached u o now j x
 reached-next u es now place n p y g (path, trail, is, leads, count, off) e j x at lt
     (by, by_p, last, move, next, by_n, leaves) = (
       by ∷ path,

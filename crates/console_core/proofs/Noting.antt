@@ -9,7 +9,7 @@ use Rattle.std.proofs.lemmas.Bool.{true≢false}
 use Rattle.std.proofs.lemmas.Option.{slice_get_within}
 use Rattle.keymap_core.specs.Maps.{MapValue}
 use Rattle.keymap_core.specs.declared.action.Action.TheVariants as act
-use Rattle.console_core.specs.Moves.{Under, alone, State, look_in, IsForgetful, IsPath, state_after, presses_along}
+use Rattle.console_core.specs.Moves.{Under, start, alone, State, look_in, IsForgetful, IsPath, state_after, presses_along}
 use Rattle.console_core.specs.Sights.{Note, selection_of, IsNoteOf, IsNoted, Has, AreSightsOf}
 use Rattle.console_core.specs.Inner.Searching.{state_of, Entry, Entries, IsReached, Searched}
 use Rattle.console_core.specs.Inner.Noting.{IsWith, Offers, AddsOffer, AddsOffers, AddsNotes, AreNotesTo, AreNotesOf}
@@ -150,7 +150,7 @@ note-unscrolled u s t (Note.Offered a) e is = subst (λ x. IsNoteOf u x (Note.Of
 note-unscrolled u s t Note.Forgets e is = subst (λ x. IsNoteOf u x Note.Forgets) (sym e) is
 
 -- after a finished search what is noted of a path is noted of a state that was met
-pub noted-met : (u : Under) (es : Entries) → Searched u es (length es) (length es) → (n : Note) → IsNoted u n
+pub noted-met : (u : Under) (es : Entries) → Searched u start es (length es) (length es) → (n : Note) → IsNoted u n
     → (j : ℕ) × (y : Entry) × (slice_get es j ≡ Some y) × IsNoteOf u (state_of y.0) n
 noted-met u es s n (path, made, is) =
     let p : ℕ = presses_along path in
@@ -159,12 +159,12 @@ noted-met u es s n (path, made, is) =
     (j, y, at, subst (λ z. IsNoteOf u z n) (sym e) (note-unscrolled u (state_after u path) t n same is))
 
 -- so the notes of what was met are those of paths
-pub searched-noted : (m : MapValue) (es : Entries) (x : Sights) → Searched (alone m) es (length es) (length es)
+pub searched-noted : (m : MapValue) (es : Entries) (x : Sights) → Searched (alone m) start es (length es) (length es)
     → AreNotesOf (alone m) es x → AreSightsOf m x
 searched-noted m es x s notes n = (
   (λ has.
       let (j, y, at, is) = (notes n).1 has in
-      let r : IsReached (alone m) es j y = s.reached j y at in
+      let r : IsReached (alone m) start es j y = s.reached j y at in
       (r.0, r.2, subst (λ t. IsNoteOf (alone m) t n) (sym r.3) is)),
   (λ noted.
       let (j, y, at, is) = noted-met (alone m) es s n noted in

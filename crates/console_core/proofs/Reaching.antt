@@ -16,8 +16,8 @@ use Rattle.keymap_core.specs.Actions.{modifiers, locks, modifier_index, lock_ind
 use Rattle.console_core.specs.declared.held.Held.{Held}
 use Rattle.console_core.specs.Inner.Searching.{state_of, Entry, Entries, Searched, IsReached, AreWithin}
 use Rattle.console_core.specs.Inner.HeldBytes.{AreSame}
-use Rattle.console_core.specs.Moves.{Under}
-use Rattle.console_core.specs.Sticking.{ReachesMoreThan}
+use Rattle.console_core.specs.Moves.{Under, State}
+use Rattle.console_core.specs.Sticking.{ReachesMoreThanFrom}
 
 -- the tables of equal states
 modifier_place : (n : ℕ) → n < 8 → modifier_index (get_or modifiers n LeftShift) ≡ n
@@ -99,11 +99,11 @@ distinct-at E (e ∷ es) d (suc j) (suc k) x y lt at_j at_k =
     distinct-at E es (IsDistinct-tail E e.0 (keys_of es) d) j k x y (omega (arith, lt)) at_j at_k
 
 -- more than n distinct entries are more than n states that paths of their presses lead to
-pub reaches-more : (E : Held → Held → Bool) → ((x y : Held) → state_of x ≡ state_of y → E x y ≡ true)
-    → (u : Under) (es : Entries) (a b n p : ℕ) → Searched u es a b → AreWithin es p → n < length es
+pub reaches-more : {o : State} (E : Held → Held → Bool) → ((x y : Held) → state_of x ≡ state_of y → E x y ≡ true)
+    → (u : Under) (es : Entries) (a b n p : ℕ) → Searched u o es a b → AreWithin es p → n < length es
     → IsDistinct E (keys_of es)
-    → ReachesMoreThan u n p
-reaches-more E test u es a b n p s within more distinct =
+    → ReachesMoreThanFrom u o n p
+reaches-more {o} E test u es a b n p s within more distinct =
     let d : Entry = s.start.1 in
     let at : (j : ℕ) → j ≤ n → slice_get es j ≡ Some (get_or es j d) =
     λ j le. slice_get-get_or es j d (omega (arith, le, more)) in
@@ -114,7 +114,7 @@ reaches-more E test u es a b n p s within more distinct =
       (λ j. state_of (get_or es j d).0),
       (λ j le. (s.reached j (get_or es j d) (at j le)).5),
       (λ j le.
-          let r : IsReached u es j (get_or es j d) = s.reached j (get_or es j d) (at j le) in
+          let r : IsReached u o es j (get_or es j d) = s.reached j (get_or es j d) (at j le) in
           let few : (get_or es j d).1.presses ≤ p = within j (get_or es j d) (at j le) in
           (r.0, r.2, omega (arith, few, r.4), r.3)),
       (λ j k le_j le_k e. elim (cases_lt j k) [

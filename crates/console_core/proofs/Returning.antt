@@ -8,15 +8,15 @@ use Rattle.keymap_core.specs.declared.action.Lock.{Lock}
 use Rattle.keymap_core.specs.declared.action.Lock.TheVariants.{Caps, Num, Scroll, Alt}
 use Rattle.console_core.specs.declared.held.Move.{Move}
 use Rattle.console_core.specs.declared.held.Move.TheVariants.{Hold, Turn, LetGo, Exchange}
-use Rattle.console_core.specs.Moves.{Under, alone, State, IsMove, moved, IsPath, state_after}
+use Rattle.console_core.specs.Moves.{Under, start, alone, State, IsMove, moved, IsPath, state_after}
 use Rattle.console_core.specs.Returning.{IsHome, NoTurnIsOneWay}
-use Rattle.console_core.specs.Inner.Routes.{Routes, HasRoute, IsAstray, IsMet}
+use Rattle.console_core.specs.Inner.Routes.{Routes, HasRoute, IsAstray, IsMet, AreSettled}
 use Rattle.console_core.specs.Inner.Searching.{state_of, Entry, Entries, IsMetBy, IsReached, LeavesScroll, Searched}
 use Rattle.console_core.specs.Inner.Standing.{unscrolled}
 use Rattle.console_core.proofs.Unscrolled.{moves-unscrolled, same_moved, scroll-moved}
 
 -- home doesn't depend on the scroll lock
-near-is_home : (s t : State) → unscrolled t ≡ unscrolled s → IsHome s → IsHome t
+pub near-is_home : (s t : State) → unscrolled t ≡ unscrolled s → IsHome s → IsHome t
 near-is_home s t e (free, off) = ((λ i. ap (λ x. x.holder i) e ∙ free i), (λ l other. by l other))
   where
     by : (l : Lock) → l ≢ Scroll → t.is_locked l ≡ false
@@ -29,7 +29,7 @@ near-is_home s t e (free, off) = ((λ i. ap (λ x. x.holder i) e ∙ free i), (�
 met-met : (es : Entries) (p : ℕ) (s : State) → IsMetBy es p s → IsMet es s
 met-met es p s (j, x, at, is, le) = (j, x, at, is)
 
-move-met : (u : Under) (es : Entries) → Searched u es (length es) (length es) → (j : ℕ) (x : Entry)
+pub move-met : {o : State} (u : Under) (es : Entries) → Searched u o es (length es) (length es) → (j : ℕ) (x : Entry)
     → slice_get es j ≡ Some x → (move : Move) → IsMove u (state_of x.0) move → LeavesScroll move
     → IsMet es (moved u (state_of x.0) move)
 move-met u es s j x at (Hold k i) (lt, idle, seen, free) leaves =
@@ -41,23 +41,17 @@ move-met u es s j x at (LetGo k i) holds leaves =
 move-met u es s j x at Exchange is leaves = met-met es _ _ ((s.closed j x at (slice_get_within es j x at)).1 is)
 
 -- a met state without a route, near the state where a path has led
-abbrev StraysTo : Entries → Routes → State → Type 0
+abbrev pub StraysTo : Entries → Routes → State → Type 0
 StraysTo es routes s =
     (j : ℕ) × (x : Entry) × (slice_get es j ≡ Some x) × (unscrolled (state_of x.0) ≡ unscrolled s)
     × (HasRoute routes (state_of x.0) → ⊥)
 
--- a route begins at each state that was met, or the state is astray
-abbrev pub AreSettled : Under → Entries → Routes → Type 0
-AreSettled u es routes =
-    (j : ℕ) (x : Entry) → slice_get es j ≡ Some x
-    → HasRoute routes (state_of x.0) ⊎ IsAstray u routes (state_of x.0)
-
-is-astray : (u : Under) (es : Entries) (routes : Routes) → AreSettled u es routes → (j : ℕ) (x : Entry)
+pub is-astray : (u : Under) (es : Entries) (routes : Routes) → AreSettled u es routes → (j : ℕ) (x : Entry)
     → slice_get es j ≡ Some x → (HasRoute routes (state_of x.0) → ⊥) → IsAstray u routes (state_of x.0)
 is-astray u es routes settled j x at none = elim (settled j x at) [ inl has ↦ absurd (none has) | inr is ↦ is ]
 
 -- a move leads on astray
-strays-on : (m : MapValue) (es : Entries) (routes : Routes) → Searched (alone m) es (length es) (length es)
+pub strays-on : {o : State} (m : MapValue) (es : Entries) (routes : Routes) → Searched (alone m) o es (length es) (length es)
     → AreSettled (alone m) es routes → (s : State) (move : Move) → IsMove (alone m) s move → StraysTo es routes s
     → StraysTo es routes (moved (alone m) s move)
 strays-on m es routes searched settled s move is (j, x, at, near, none) = by move is
@@ -88,7 +82,7 @@ strays-on m es routes searched settled s move is (j, x, at, near, none) = by mov
     by Exchange (free, loads) = absurd (false≢true loads)
 
 -- so do all moves behind a path
-strays-along : (m : MapValue) (es : Entries) (routes : Routes) → Searched (alone m) es (length es) (length es)
+strays-along : (m : MapValue) (es : Entries) (routes : Routes) → Searched (alone m) start es (length es) (length es)
     → AreSettled (alone m) es routes → (path later : List Move) → IsPath (alone m) (later ++ path)
     → StraysTo es routes (state_after (alone m) path) → StraysTo es routes (state_after (alone m) (later ++ path))
 strays-along m es routes searched settled path [] is strays = strays
@@ -96,11 +90,11 @@ strays-along m es routes searched settled path (move ∷ later) is strays =
     strays-on m es routes searched settled (state_after (alone m) (later ++ path)) move is.0
     (strays-along m es routes searched settled path later is.1 strays)
 
-pub never-home : (m : MapValue) (es : Entries) (routes : Routes) → Searched (alone m) es (length es) (length es)
+pub never-home : (m : MapValue) (es : Entries) (routes : Routes) → Searched (alone m) start es (length es) (length es)
     → AreSettled (alone m) es routes → (j : ℕ) (x : Entry) → slice_get es j ≡ Some x
     → (HasRoute routes (state_of x.0) → ⊥) → NoTurnIsOneWay m → ⊥
 never-home m es routes searched settled j x at none returns =
-    let r : IsReached (alone m) es j x = searched.reached j x at in
+    let r : IsReached (alone m) start es j x = searched.reached j x at in
     let (later, is, home) = returns r.0 r.2 in
     let (i, y, there, near, no_route) =
     strays-along m es routes searched settled r.0 later is (j, x, at, ap (λ z. unscrolled z) (sym r.3), none) in

@@ -29,6 +29,7 @@ use Rattle.console_core.specs.Inner.Searching.{state_of, Entries, IsMetBy, IsLet
 use Rattle.console_core.specs.Inner.Searching.{LeavesScroll}
 use Rattle.console_core.specs.Inner.Routes.{LeadsHome, Routes, AllLeadHome, HasRoute, NoLetGoLeads}
 use Rattle.console_core.specs.Inner.Routes.{NoPressLeads, IsAstray}
+use Rattle.console_core.proofs.Growing.{scroll-left}
 
 -- what tests tables equal
 abbrev pub are_same : Held → Held → Bool
@@ -65,6 +66,9 @@ step-home u s n x moves (is, to, presses, leaves) home =
     let path = path-begin u s x.by (reverse moves) is from.0 in (
       subst (λ p. IsPathFrom u s p) (sym longer) path.0,
       subst (λ p. IsHome (state_from u s p)) (sym longer) (subst IsHome (sym path.1) from.1),
+      (λ off.
+          subst (λ p. (state_from u s p).is_locked Scroll ≡ false) (sym longer)
+          (subst (λ t. t.is_locked Scroll ≡ false) (sym path.1) (from.2 (scroll-left u s x.by leaves off)))),
     )
 
 -- a route that is found begins at the state

@@ -254,7 +254,7 @@ stands-move u h s Exchange (free, loads) x = record {
 }
 
 -- no events lead to the start
-stands-start : (u : Under) → Stands u [] start
+pub stands-start : (u : Under) → Stands u [] start
 stands-start u = record {
   exact = rw (resolved-start u.maps) (record {
     follows = follows-start;

@@ -24,18 +24,18 @@ use Rattle.console_core.proofs.Growing.{grows-again, met-grows, met-last, closed
 use Rattle.console_core.proofs.Growing.{reached-next}
 
 -- what was searched stays so when the entries grow
-pub searched-grows : (u : Under) (es now : Entries) (place n p a b : ℕ) (y : Entry) → slice_get es place ≡ Some y
+pub searched-grows : {o : State} (u : Under) (es now : Entries) (place n p a b : ℕ) (y : Entry) → slice_get es place ≡ Some y
     → p ≡ y.1.presses + n
-    → AreAdded u (state_of y.0) place n p es now → a ≤ length es → b ≤ length es → Searched u es a b
-    → Searched u now a b
-searched-grows u es now place n p a b y here e added le_a le_b s =
+    → AreAdded u (state_of y.0) place n p es now → a ≤ length es → b ≤ length es → Searched u o es a b
+    → Searched u o now a b
+searched-grows {o} u es now place n p a b y here e added le_a le_b s =
     let g : Grows es now = (added.0, added.1) in
     let lt : place < length es = slice_get_within es place y here in
     let either : (j : ℕ) (x : Entry) → slice_get now j ≡ Some x
     → (slice_get es j ≡ Some x) ⊎ ((length es ≤ j) × IsFrom u (state_of y.0) place n p x) =
     from-cases u (state_of y.0) place n p es now added in
     record {
-      start = met-grows es now 0 start g s.start;
+      start = met-grows es now 0 o g s.start;
       reached = λ j x at. elim (either j x at) [
         | inl old ↦ reached-grows u es now j x g (s.reached j x old)
         | inr new ↦
@@ -53,7 +53,7 @@ searched-grows u es now place n p a b y here e added le_a le_b s =
     }
 
 -- fewer of them are asked for
-pub searched-fewer : (u : Under) (es : Entries) (a b c d : ℕ) → c ≤ a → d ≤ b → Searched u es a b → Searched u es c d
+pub searched-fewer : {o : State} (u : Under) (es : Entries) (a b c d : ℕ) → c ≤ a → d ≤ b → Searched u o es a b → Searched u o es c d
 searched-fewer u es a b c d le_c le_d s = record {
   start = s.start;
   reached = s.reached;
@@ -71,8 +71,8 @@ pub same_entry : (es : Entries) (j n : ℕ) (x y : Entry)
 same_entry es j n x y e at here = same_Some y x (sym here ∙ ap (λ k. slice_get es k) (sym e) ∙ at)
 
 -- one more entry whose releases are met
-pub searched-closed : (u : Under) (es : Entries) (a n : ℕ) (y : Entry) → slice_get es n ≡ Some y → IsClosed u es y
-    → Searched u es a n → Searched u es a (n + 1)
+pub searched-closed : {o : State} (u : Under) (es : Entries) (a n : ℕ) (y : Entry) → slice_get es n ≡ Some y → IsClosed u es y
+    → Searched u o es a n → Searched u o es a (n + 1)
 searched-closed u es a n y here closed s = record {
   start = s.start;
   reached = s.reached;
@@ -84,8 +84,8 @@ searched-closed u es a n y here closed s = record {
 }
 
 -- one more entry whose presses are met
-pub searched-pressed : (u : Under) (es : Entries) (n b : ℕ) (y : Entry) → slice_get es n ≡ Some y → IsPressed u es y
-    → Searched u es n b → Searched u es (n + 1) b
+pub searched-pressed : {o : State} (u : Under) (es : Entries) (n b : ℕ) (y : Entry) → slice_get es n ≡ Some y → IsPressed u es y
+    → Searched u o es n b → Searched u o es (n + 1) b
 searched-pressed u es n b y here pressed s = record {
   start = s.start;
   reached = s.reached;
@@ -210,16 +210,16 @@ not_some None e = refl
 not_some (Some x) e = absurd (true≢false e)
 
 -- one place of a level is closed
-pub close-step : (u : Under) (es now : Entries) (level p n : ℕ) (y : Entry) → Searched u es level n
+pub close-step : {o : State} (u : Under) (es now : Entries) (level p n : ℕ) (y : Entry) → Searched u o es level n
     → AreInOrder es level p → level ≤ n → slice_get es n ≡ Some y
     → AreAdded u (state_of y.0) n 0 p es now
     → ((i : Modifier) → IsLetGoMet now p (state_of y.0) i) → IsExchangeMet u now p (state_of y.0)
-    → Searched u now level (n + 1) × AreInOrder now level p
-close-step u es now level p n y s order le here added met load =
+    → Searched u o now level (n + 1) × AreInOrder now level p
+close-step {o} u es now level p n y s order le here added met load =
     let lt : n < length es = slice_get_within es n y here in
     let e : y.1.presses ≡ p = (order n y here).1 le in
     let below : level ≤ length es = omega (arith, le, lt) in
-    let grown : Searched u now level n =
+    let grown : Searched u o now level n =
     searched-grows u es now n 0 p level n y here (omega (arith, e)) added below (omega (arith, lt)) s in
     let closed : IsClosed u now y = (
       (λ i. subst (λ q. IsLetGoMet now q (state_of y.0) i) (sym e) (met i)),
@@ -247,16 +247,16 @@ safe-more u es n y here safe before j x at lt =
     ]
 
 -- one place of a level is pressed
-pub press-step : (u : Under) (old es now : Entries) (level p n : ℕ) (y : Entry) → Searched u es n (length old)
+pub press-step : {o : State} (u : Under) (old es now : Entries) (level p n : ℕ) (y : Entry) → Searched u o es n (length old)
     → AreInOrder old level p → Grows old es
     → AreInOrder es (length old) (p + 1) → level ≤ n → n < length old → slice_get es n ≡ Some y
     → AreAdded u (state_of y.0) n 1 (p + 1) es now → ((k : ℕ) → k < 128 → ArePressesMet u now (p + 1) (state_of y.0) k)
-    → Searched u now (n + 1) (length old) × AreInOrder now (length old) (p + 1) × Grows old now
-press-step u old es now level p n y s before g order le lt here added met =
+    → Searched u o now (n + 1) (length old) × AreInOrder now (length old) (p + 1) × Grows old now
+press-step {o} u old es now level p n y s before g order le lt here added met =
     let was : slice_get old n ≡ Some y = at_old old g.0 n y lt (subst (λ z. slice_get z n ≡ Some y) g.1 here) in
     let e : y.1.presses ≡ p = (before n y was).1 le in
     let longer : length old ≤ length es = added-longer old es g in
-    let grown : Searched u now n (length old) =
+    let grown : Searched u o now n (length old) =
     searched-grows u es now n 1 (p + 1) n (length old) y here (omega (arith, e)) added (omega (arith, lt, longer))
     longer s in
     let pressed : IsPressed u now y =
@@ -271,21 +271,21 @@ pub start-entries : (E : Held → Held → Bool) (es now : Entries) (x : Entry) 
     → now ≡ x ∷ []
 start-entries E es now x none e = e ∙ ap (λ z. insert_entry E z x.0 x.1) none
 
--- a search begins with the start
-pub searched-start : (u : Under) (h : Held) → state_of h ≡ start → (es : Entries)
+-- a search begins with its origin
+pub searched-start : (u : Under) (h : Held) → (state_of h).is_locked Scroll ≡ false → (es : Entries)
     → es ≡ (h, record { presses = 0; last = None }) ∷ []
-    → Searched u es 0 0 × AreInOrder es 0 0
-searched-start u h is es e =
+    → Searched u (state_of h) es 0 0 × AreInOrder es 0 0
+searched-start u h off es e =
     let x : Entry = (h, record { presses = 0; last = None }) in
     let only : (j : ℕ) (y : Entry) → slice_get es j ≡ Some y → (j ≡ 0) × (y ≡ x) =
     λ j y at. one_entry x j y (subst (λ z. slice_get z j ≡ Some y) e at) in
     let first : slice_get es 0 ≡ Some x = ap (λ z. slice_get z 0) e in (
       record {
-        start = (0, x, first, is, omega arith);
+        start = (0, x, first, refl, omega arith);
         reached = λ j y at.
-            subst (λ z. IsReached u es j z) (sym (only j y at).1)
-            (subst (λ n. IsReached u es n x) (sym (only j y at).0)
-            ([], (x, first, refl), tt, sym is, refl, ap (λ s. s.is_locked Scroll) is));
+            subst (λ z. IsReached u (state_of h) es j z) (sym (only j y at).1)
+            (subst (λ n. IsReached u (state_of h) es n x) (sym (only j y at).0)
+            ([], (x, first, refl), tt, refl, refl, off));
         pressed = λ j y at lt. absurd (omega (arith, lt));
         closed = λ j y at lt. absurd (omega (arith, lt));
       },

@@ -1,6 +1,7 @@
 -- What mirrors functions of the code, or tells of private fields. Private contracts cite it; no public clause does.
 pub mod HeldBytes
 pub mod Kept
+pub mod Exploring
 pub mod Noting
 pub mod Routes
 pub mod Searching

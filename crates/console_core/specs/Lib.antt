@@ -19,3 +19,4 @@ pub mod Sights
 pub mod Sticking
 pub mod Traps
 pub mod Types
+pub mod Typing

@@ -101,16 +101,7 @@ HolderForgets u s i k = Holds s k i × ((c : ℕ) × (look_in u s k ≡ Char c))
 abbrev pub IsForgetful : Under → State → Type 0
 IsForgetful u s = (i : Modifier) × (k : ℕ) × HolderForgets u s i k
 
--- Paths from the start: moves with the newest first, each possible in the state where the moves before it lead.
-abbrev pub state_after : Under → List Move → State
-state_after u [] = start
-state_after u (move ∷ path) = moved u (state_after u path) move
-
-abbrev pub IsPath : Under → List Move → Type 0
-IsPath u [] = Unit {0}
-IsPath u (move ∷ path) = IsMove u (state_after u path) move × IsPath u path
-
--- The same from any state.
+-- Paths from a state: moves with the newest first, each possible in the state where the moves before it lead.
 abbrev pub state_from : Under → State → List Move → State
 state_from u s [] = s
 state_from u s (move ∷ path) = moved u (state_from u s path) move
@@ -118,6 +109,13 @@ state_from u s (move ∷ path) = moved u (state_from u s path) move
 abbrev pub IsPathFrom : Under → State → List Move → Type 0
 IsPathFrom u s [] = Unit {0}
 IsPathFrom u s (move ∷ path) = IsMove u (state_from u s path) move × IsPathFrom u s path
+
+-- Those from the start.
+abbrev pub state_after : Under → List Move → State
+state_after u path = state_from u start path
+
+abbrev pub IsPath : Under → List Move → Type 0
+IsPath u path = IsPathFrom u start path
 
 -- nothing is held, and these locks are on, under the first map
 abbrev pub free_with : (Lock → Bool) → State

@@ -12,8 +12,8 @@ use Rattle.console_core.specs.Positions.{count_where}
 use Rattle.console_core.specs.History.{Maps, between, in_force, is_on_after, pressed, HasKeys, HasNoLoads, IsQuiet}
 use Rattle.console_core.specs.Headline.{IsSafe, IsOnOnlyWhilePressed, IsOffOnceQuiet}
 use Rattle.console_core.specs.declared.held.Move.{Move}
-use Rattle.console_core.specs.Moves.{Under, alone, with_loads, State, IsPath, state_after, presses_along, IsForgetful}
-use Rattle.console_core.specs.Moves.{HolderForgets, script_of_path}
+use Rattle.console_core.specs.Moves.{Under, alone, with_loads, State, start, IsPath, state_after, presses_along}
+use Rattle.console_core.specs.Moves.{IsForgetful, HolderForgets, script_of_path, IsPathFrom, state_from}
 
 -- Sticks: no key is pressed after the list, and the modifier is on.
 abbrev pub SticksAfter : MapValue → List Event → Modifier → Type 0
@@ -59,14 +59,18 @@ NeverSticks m =
     (ms : Maps) (h : List Event) → ms.first ≡ m → HasKeys h → HasNoLoads h
     → IsOnOnlyWhilePressed m h (λ i. is_on_after ms i h) × IsOffOnceQuiet h (λ i. is_on_after ms i h)
 
--- Paths of at most p presses lead to more than n distinct states in which the scroll lock, which picks no cell, is off.
-abbrev pub ReachesMoreThan : Under → ℕ → ℕ → Type 0
-ReachesMoreThan u n p =
+-- Paths of at most p presses lead from the state to more than n distinct states in which the scroll lock, which picks
+-- no cell, is off.
+abbrev pub ReachesMoreThanFrom : Under → State → ℕ → ℕ → Type 0
+ReachesMoreThanFrom u s n p =
     (states : ℕ → State)
     × ((j : ℕ) → j ≤ n → (states j).is_locked Scroll ≡ false)
     × ((j : ℕ) → j ≤ n
-    → (path : List Move) × IsPath u path × (presses_along path ≤ p) × (state_after u path ≡ states j))
+    → (path : List Move) × IsPathFrom u s path × (presses_along path ≤ p) × (state_from u s path ≡ states j))
     × ((j k : ℕ) → j ≤ n → k ≤ n → states j ≡ states k → j ≡ k)
+
+abbrev pub ReachesMoreThan : Under → ℕ → ℕ → Type 0
+ReachesMoreThan u n p = ReachesMoreThanFrom u start n p
 
 -- each list of presses, releases and resets after which a modifier sticks has more than p presses
 abbrev pub NoneSticksBy : MapValue → ℕ → Type 0

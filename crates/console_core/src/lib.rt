@@ -20,6 +20,7 @@
 #![tactic(auto)]
 
 mod event;
+mod explored;
 mod held;
 mod kept;
 pub mod laws;
@@ -38,6 +39,7 @@ mod showing;
 mod sights;
 mod store;
 mod translator;
+mod typing;
 mod word_console;
 mod word_store;
 
@@ -51,5 +53,6 @@ pub use selection::{Selection, Sight};
 pub use showing::events_that_show;
 pub use sights::{Sights, sights_of};
 pub use translator::{Translator, is_any_on};
+pub use typing::{Keyed, Typing, TypingError, type_characters};
 pub use word_console::WordConsole;
 pub use word_store::WordStore;

@@ -188,6 +188,14 @@ pub fn routes_home(alloc: Global, met: &Met, maps: &Keymaps) -> Result<Routes, A
     }
 }
 
+/// Whether a route begins at the state.
+pub fn has_route(routes: &Routes, held: &Held) -> bool
+    ensures has { result ≡ true → HasRoute routes.now.entries (state_of held.now) }
+    ensures none { result ≡ false → HasRoute routes.now.entries (state_of held.now) → ⊥ }
+{
+    routes.contains_key(held)
+}
+
 /// Whether a route begins at each state that was met.
 pub fn has_all(routes: &Routes, met: &Met) -> bool
     ensures all { result ≡ true → (j : ℕ) (x : Entry) → slice_get met.now.entries j ≡ Some x

@@ -1,16 +1,17 @@
 //! The search for sticking modifiers over the states that presses, releases and loads lead to, by the number of
 //! presses.
 ghost use Rattle.std.specs.Prelude.{◌≡◌, ◌+◌, ◌<◌, ◌≤◌, ◌⊎◌, ◌++◌, ◌∷◌, ℕ, [], true, None, Some, length, reverse};
-ghost use Rattle.std.specs.Prelude.{slice_get, OnOk, IfOk, IfSome};
+ghost use Rattle.std.specs.Prelude.{slice_get, OnOk, IfOk, IfSome, false};
 ghost use Rattle.keymap_core.specs.Numbers.{key_count};
 ghost use Rattle.keymap_core.specs.declared.action.Modifier.{Modifier as ModifierValue};
 ghost use Rattle.console_core.specs.declared.held.Held.{Held as HeldValue};
-ghost use Rattle.console_core.specs.Inner.Searching.{state_of, under_of, IsMetBy, AreWithin, Grows, IsStep, IsLetGoMet};
+ghost use Rattle.console_core.specs.Inner.Searching.{state_of, under_of, origin_of, IsMetBy, AreWithin, Grows, IsStep, IsLetGoMet};
 ghost use Rattle.console_core.specs.Inner.Searching.{IsExchangeMet, ArePressesMet, AreAdded, Searched, AreInOrder};
 ghost use Rattle.console_core.specs.Inner.Searching.{IsStuck, AreSafe, HasEnded, GoBack, IsScriptTo};
 ghost use Rattle.console_core.specs.Inner.Searching.{IsAnswerUnder, HasMovingKeys};
 ghost use Rattle.console_core.specs.History.{between};
-ghost use Rattle.console_core.specs.Moves.{Under};
+ghost use Rattle.console_core.specs.Moves.{Under, start};
+ghost use Rattle.keymap_core.specs.declared.action.Lock.TheVariants.{Scroll};
 ghost use Rattle.console_core.specs.Sticking.{IsAnswer, IsAnswerBetween, state_limit};
 
 use crate::event::Event;
@@ -151,15 +152,15 @@ fn close(
     presses: usize,
     stops: bool,
 ) -> Result<Option<Stuck>, AllocError>
-    requires searched { Searched (under_of maps.now) met.old.entries level level }
+    requires searched { Searched (under_of maps.now) (origin_of maps.now) met.old.entries level level }
     requires safe { stops ≡ true → AreSafe (under_of maps.now) met.old.entries level }
     requires order { AreInOrder met.old.entries level presses }
     requires below { level ≤ length met.old.entries }
-    ensures searched { OnOk result (Searched (under_of maps.now) met.new.entries level level) }
+    ensures searched { OnOk result (Searched (under_of maps.now) (origin_of maps.now) met.new.entries level level) }
     ensures order { OnOk result (AreInOrder met.new.entries level presses) }
     ensures grown { OnOk result (Grows met.old.entries met.new.entries) }
     ensures closed { IfOk result (λ stuck. stuck ≡ None → length met.new.entries ≤ state_limit
-        → Searched (under_of maps.now) met.new.entries level (length met.new.entries)) }
+        → Searched (under_of maps.now) (origin_of maps.now) met.new.entries level (length met.new.entries)) }
     ensures stuck { IfOk result (λ stuck. IfSome stuck (λ x. (stops ≡ true) × IsStuck (under_of maps.now)
         met.new.entries x.place x.key)) }
     ensures safe { IfOk result (λ stuck. stops ≡ true → AreSafe (under_of maps.now) met.new.entries level) }
@@ -190,12 +191,12 @@ fn press(
 ) -> Result<(), AllocError>
     requires keys { HasMovingKeys (under_of maps.now) keys.now key_count }
     requires small { presses < state_limit }
-    requires searched { Searched (under_of maps.now) met.old.entries level (length met.old.entries) }
+    requires searched { Searched (under_of maps.now) (origin_of maps.now) met.old.entries level (length met.old.entries) }
     requires order { AreInOrder met.old.entries level presses }
     requires below { level ≤ length met.old.entries }
     ensures searched { OnOk result (length met.new.entries ≤ state_limit
-        → Searched (under_of maps.now) met.new.entries (length met.old.entries) (length met.old.entries)) }
-    ensures closed { OnOk result (Searched (under_of maps.now) met.new.entries level (length met.old.entries)) }
+        → Searched (under_of maps.now) (origin_of maps.now) met.new.entries (length met.old.entries) (length met.old.entries)) }
+    ensures closed { OnOk result (Searched (under_of maps.now) (origin_of maps.now) met.new.entries level (length met.old.entries)) }
     ensures order { OnOk result (AreInOrder met.new.entries (length met.old.entries) (presses + 1)) }
     ensures grown { OnOk result (Grows met.old.entries met.new.entries) }
 {
@@ -238,12 +239,13 @@ pub fn meet_all(
     maps: &Keymaps,
     stops: bool,
 ) -> Result<End, AllocError>
-    requires { met.old.entries ≡ [] }
-    ensures { IfOk result (λ end. HasEnded (under_of maps.now) stops met.new.entries end) }
+    requires empty { met.old.entries ≡ [] }
+    requires scroll { (origin_of maps.now).is_locked Scroll ≡ false }
+    ensures { IfOk result (λ end. HasEnded (under_of maps.now) (origin_of maps.now) stops met.new.entries end) }
 {
     let keys = moving_keys(alloc, maps)?;
     met.insert(
-        Held::start(),
+        maps.origin,
         Origin {
             presses: 0,
             last: None,
@@ -271,6 +273,7 @@ pub fn meet_all(
 
 /// Decides whether presses, releases and, where there are any, loads can leave a modifier on while no key is pressed.
 fn decide(alloc: Global, maps: &Keymaps) -> Result<Sticking, AllocError>
+    requires { origin_of maps.now ≡ start }
     ensures { IfOk result (λ answer. IsAnswerUnder (under_of maps.now) answer) }
 {
     let mut met = IndexMap::new(alloc);
@@ -293,6 +296,7 @@ pub fn sticking(alloc: Global, map: &KeyMap) -> Result<Sticking, AllocError>
         first: map,
         second: map,
         has_loads: false,
+        origin: Held::start(),
     };
     decide(alloc, &maps)
 }
@@ -311,6 +315,7 @@ pub fn sticking_between(
         first,
         second,
         has_loads: true,
+        origin: Held::start(),
     };
     decide(alloc, &maps)
 }

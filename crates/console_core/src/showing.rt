@@ -6,7 +6,7 @@ ghost use Rattle.keymap_core.specs.Numbers.{key_count};
 ghost use Rattle.console_core.specs.declared.event.Event.TheVariants as event;
 ghost use Rattle.console_core.specs.declared.held.Move.{Move as MoveValue};
 ghost use Rattle.console_core.specs.History.{HasNoLoads};
-ghost use Rattle.console_core.specs.Moves.{Under, alone, events_along};
+ghost use Rattle.console_core.specs.Moves.{Under, alone, events_along, start};
 ghost use Rattle.console_core.specs.Returning.{AreEventsThatShow, SeesAllAlong};
 ghost use Rattle.console_core.specs.Sights.{SeesBy, selection_of};
 ghost use Rattle.console_core.specs.Sticking.{ReachesMoreThan, ReleasesPressedKeys, state_limit};
@@ -99,7 +99,7 @@ fn place_offering(met: &Met, maps: &Keymaps, accent: u8) -> Option<KeyAt>
 }
 
 /// Adds the events that lead home from the state.
-fn come_home(events: &mut Vec<Event>, routes: &Routes, held: &Held) -> Result<(), AllocError>
+pub fn come_home(events: &mut Vec<Event>, routes: &Routes, held: &Held) -> Result<(), AllocError>
     requires { HasRoute routes.now.entries (state_of held.now) }
     ensures { OnOk result ((u : Under) → AllLeadHome u routes.now.entries
         → (moves : List MoveValue) × LeadsHome u (state_of held.now) moves
@@ -112,7 +112,12 @@ fn come_home(events: &mut Vec<Event>, routes: &Routes, held: &Held) -> Result<()
 }
 
 /// Adds the events that lead from home to the state at the place.
-fn go_out(events: &mut Vec<Event>, alloc: Global, met: &Met, place: usize) -> Result<(), AllocError>
+pub fn go_out(
+    events: &mut Vec<Event>,
+    alloc: Global,
+    met: &Met,
+    place: usize,
+) -> Result<(), AllocError>
     requires place { place < length met.now.entries }
     requires back { GoBack met.now.entries }
     ensures { OnOk result ((path : List MoveValue) → IsTrail met.now.entries place path
@@ -135,7 +140,7 @@ fn look(events: &mut Vec<Event>, held: &Held, key: KeyCode) -> Result<(), AllocE
 }
 
 /// Adds a press of the key and its release.
-fn tap(events: &mut Vec<Event>, key: KeyCode) -> Result<(), AllocError>
+pub fn tap(events: &mut Vec<Event>, key: KeyCode) -> Result<(), AllocError>
     ensures { OnOk result (reverse events.new.items ≡ event.Release key ∷ event.Press key ∷ reverse events.old.items) }
 {
     events.push(Event::Press(key))?;
@@ -273,14 +278,19 @@ fn events_from(
     sights: &[Sight],
 ) -> Result<Vec<Event>, AllocError>
     requires one { under_of maps.now ≡ alone maps.now.first.now }
-    requires searched { Searched (alone maps.now.first.now) met.now.entries (length met.now.entries)
+    requires searched { Searched (alone maps.now.first.now) start met.now.entries (length met.now.entries)
         (length met.now.entries) }
     ensures { IfOk result (λ events. AreEventsThatShow maps.now.first.now sights.now (reverse events.items)) }
 {
     let routes = routes_home(alloc, met, maps)?;
     if has_all(&routes, met) {
         let guide = Guide {
-            maps: *maps,
+            maps: Keymaps {
+                first: maps.first,
+                second: maps.second,
+                has_loads: maps.has_loads,
+                origin: Held::start(),
+            },
             met,
             routes: &routes,
         };
@@ -304,6 +314,7 @@ pub fn events_that_show(
         first: map,
         second: map,
         has_loads: false,
+        origin: Held::start(),
     };
     let mut met = IndexMap::new(alloc);
     match meet_all(alloc, &mut met, &maps, false)? {

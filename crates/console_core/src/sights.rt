@@ -166,6 +166,7 @@ pub fn sights_of(alloc: Global, map: &KeyMap) -> Result<Option<Sights>, AllocErr
         first: map,
         second: map,
         has_loads: false,
+        origin: Held::start(),
     };
     let mut met = IndexMap::new(alloc);
     match meet_all(alloc, &mut met, &maps, false)? {

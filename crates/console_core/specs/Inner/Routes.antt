@@ -1,6 +1,6 @@
 -- The moves that lead home from the states that a search met, and the events of a script that goes along them. Mirrors
 -- src/routes.rt and src/showing.rt.
-use Rattle.std.specs.Prelude.{◌≡◌, ◌≢◌, ◌⊎◌, ℕ, List, [], ◌∷◌, length, reverse, None, Some, slice_get}
+use Rattle.std.specs.Prelude.{◌≡◌, ◌≢◌, false, ◌⊎◌, ℕ, List, [], ◌∷◌, length, reverse, None, Some, slice_get}
 use Rattle.keymap_core.specs.declared.action.Modifier.{Modifier}
 use Rattle.keymap_core.specs.declared.action.Lock.{Lock}
 use Rattle.keymap_core.specs.declared.action.Lock.TheVariants.{Scroll}
@@ -14,16 +14,18 @@ use Rattle.console_core.specs.History.{HasKeys, HasNoLoads}
 use Rattle.keymap_core.specs.declared.action.Action.TheVariants as act
 use Rattle.keymap_core.specs.declared.entry.Cell.TheVariants.{Act}
 use Rattle.console_core.specs.Moves.{Under, State, IsMove, moved, Holds, IsIdle, look_in, state_from, IsPathFrom}
-use Rattle.console_core.specs.Moves.{with_holder, with_lock_turned}
+use Rattle.console_core.specs.Moves.{with_holder, with_lock_turned, start}
 use Rattle.console_core.specs.Returning.{IsHome}
 use Rattle.console_core.specs.Sights.{SeesAlong}
 use Rattle.console_core.specs.Sticking.{ReleasesPressedKeys}
 use Rattle.console_core.specs.Inner.Searching.{state_of, Entry, Entries, LeavesScroll, Searched}
 use Rattle.console_core.specs.Inner.Standing.{free_after, unscrolled}
 
--- the moves, the oldest first, lead home
+-- the moves, the oldest first, lead home, and leave the scroll lock off
 abbrev pub LeadsHome : Under → State → List Move → Type 0
-LeadsHome u s moves = IsPathFrom u s (reverse moves) × IsHome (state_from u s (reverse moves))
+LeadsHome u s moves =
+    IsPathFrom u s (reverse moves) × IsHome (state_from u s (reverse moves))
+    × (s.is_locked Scroll ≡ false → (state_from u s (reverse moves)).is_locked Scroll ≡ false)
 
 -- routes by the state where they begin
 abbrev pub Routes : Type 0
@@ -55,9 +57,15 @@ abbrev pub IsAstray : Under → Routes → State → Type 0
 IsAstray u routes s =
     (IsHome s → ⊥) × ((move : Move) → IsMove u s move → LeavesScroll move → HasRoute routes (moved u s move) → ⊥)
 
+-- a route begins at each state that was met, or the state is astray
+abbrev pub AreSettled : Under → Entries → Routes → Type 0
+AreSettled u es routes =
+    (j : ℕ) (x : Entry) → slice_get es j ≡ Some x
+    → HasRoute routes (state_of x.0) ⊎ IsAstray u routes (state_of x.0)
+
 -- The search met all states, and a route home begins at each of them.
 pub record AreRoutesOf (u : Under) (es : Entries) (routes : Routes) : Type 0 where
-  pub searched : Searched u es (length es) (length es)
+  pub searched : Searched u start es (length es) (length es)
   pub home : AllLeadHome u routes
   pub all : (j : ℕ) (x : Entry) → slice_get es j ≡ Some x → HasRoute routes (state_of x.0)
 

@@ -27,9 +27,10 @@ use Rattle.console_core.specs.declared.outcome.Sticking.TheVariants.{Sticks, Nev
 use Rattle.console_core.specs.History.{between, in_force, is_on_after, HasKeys, HasNoLoads}
 use Rattle.console_core.specs.Headline.{IsOnOnlyWhilePressed, IsOffOnceQuiet}
 use Rattle.console_core.specs.Moves.{Under, State, start, look_in, Holds, IsIdle, HolderForgets, IsForgetful, IsMove}
-use Rattle.console_core.specs.Moves.{moved, IsPath, presses_of, presses_along}
+use Rattle.console_core.specs.Moves.{moved, presses_of, presses_along, state_from, IsPathFrom}
 use Rattle.console_core.specs.Moves.{state_after, script_of_path, with_holder, with_lock_turned}
-use Rattle.console_core.specs.Sticking.{SticksBetween, ReachesMoreThan, ReleasesPressedKeys, presses, state_limit}
+use Rattle.console_core.specs.Sticking.{SticksBetween, ReachesMoreThan, ReachesMoreThanFrom, ReleasesPressedKeys}
+use Rattle.console_core.specs.Sticking.{presses, state_limit}
 use Rattle.console_core.specs.Sticking.{AreOnAfter}
 
 -- the state that the tables are
@@ -40,9 +41,12 @@ state_of x = record {
   is_second = x.is_second;
 }
 
--- what a search of the keymaps goes under
+-- what a search of the keymaps goes under, and where it begins
 abbrev pub under_of : Keymaps → Under
 under_of x = record { maps = between x.first.now x.second.now; has_loads = x.has_loads }
+
+abbrev pub origin_of : Keymaps → State
+origin_of x = state_of x.origin
 
 -- a state that was met, and how it was come to
 abbrev pub Entry : Type 0
@@ -114,10 +118,10 @@ IsTrail es j (move ∷ path) =
     (x : Entry) × (parent : ℕ) × (slice_get es j ≡ Some x) × (x.1.last ≡ Some (parent, move)) × (parent < j)
     × IsTrail es parent path
 
--- a path leads to the entry, by as many presses as are told, and the scroll lock is off there
-abbrev pub IsReached : Under → Entries → ℕ → Entry → Type 0
-IsReached u es j x =
-    (path : List Move) × IsTrail es j path × IsPath u path × (state_after u path ≡ state_of x.0)
+-- a path from the origin leads to the entry, by as many presses as are told, and the scroll lock is off there
+abbrev pub IsReached : Under → State → Entries → ℕ → Entry → Type 0
+IsReached u o es j x =
+    (path : List Move) × IsTrail es j path × IsPathFrom u o path × (state_from u o path ≡ state_of x.0)
     × (presses_along path ≡ x.1.presses) × ((state_of x.0).is_locked Scroll ≡ false)
 
 -- where letting go and a load lead was met by as many presses
@@ -129,11 +133,11 @@ IsClosed u es x =
 abbrev pub IsPressed : Under → Entries → Entry → Type 0
 IsPressed u es x = (k : ℕ) → k < key_count → ArePressesMet u es (x.1.presses + 1) (state_of x.0) k
 
--- The start was met and what was met is reached; those below `pressed_to` are pressed, and those below `closed_to`
--- are closed.
-pub record Searched (u : Under) (es : Entries) (pressed_to closed_to : ℕ) : Type 0 where
-  pub start : IsMetBy es 0 start
-  pub reached : (j : ℕ) (x : Entry) → slice_get es j ≡ Some x → IsReached u es j x
+-- The origin, where the search begins, was met, and what was met is reached; those below `pressed_to` are pressed, and
+-- those below `closed_to` are closed.
+pub record Searched (u : Under) (o : State) (es : Entries) (pressed_to closed_to : ℕ) : Type 0 where
+  pub start : IsMetBy es 0 o
+  pub reached : (j : ℕ) (x : Entry) → slice_get es j ≡ Some x → IsReached u o es j x
   pub pressed : (j : ℕ) (x : Entry) → slice_get es j ≡ Some x → j < pressed_to → IsPressed u es x
   pub closed : (j : ℕ) (x : Entry) → slice_get es j ≡ Some x → j < closed_to → IsClosed u es x
 
@@ -203,10 +207,11 @@ IsAnswerUnder u (Undecided p) = ReachesMoreThan u state_limit p × NoneUnderBy u
 
 -- How a search ended, and what it had met then. One that stops does so where a holder looks up a character, and one
 -- that doesn't goes on behind such a state.
-abbrev pub HasEnded : Under → Bool → Entries → End → Type 0
-HasEnded u stops es (end.AtStuck x) =
+abbrev pub HasEnded : Under → State → Bool → Entries → End → Type 0
+HasEnded u o stops es (end.AtStuck x) =
     (stops ≡ true) × IsStuck u es x.place x.key
-    × ((level p : ℕ) × AreInOrder es level p × Searched u es level level × AreSafe u es level)
-HasEnded u stops es end.Complete =
-    Searched u es (length es) (length es) × (stops ≡ true → AreSafe u es (length es))
-HasEnded u stops es (end.TooMany p) = ReachesMoreThan u state_limit p × (stops ≡ true → NoneUnderBy u p)
+    × ((level p : ℕ) × AreInOrder es level p × Searched u o es level level × AreSafe u es level)
+HasEnded u o stops es end.Complete =
+    Searched u o es (length es) (length es) × (stops ≡ true → AreSafe u es (length es))
+HasEnded u o stops es (end.TooMany p) =
+    Searched u o es 0 0 × ReachesMoreThanFrom u o state_limit p × (stops ≡ true → o ≡ start → NoneUnderBy u p)

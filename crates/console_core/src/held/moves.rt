@@ -5,6 +5,7 @@ ghost use Rattle.keymap_core.specs.Borne.{is_borne};
 ghost use Rattle.keymap_core.specs.Actions.{modifiers};
 ghost use Rattle.keymap_core.specs.Numbers.{key_count};
 ghost use Rattle.keymap_core.specs.declared.action.Modifier.{Modifier as ModifierValue};
+ghost use Rattle.keymap_core.specs.declared.action.Modifier.TheVariants.{Meta};
 ghost use Rattle.keymap_core.specs.declared.action.Lock.TheVariants.{Caps, Num, Alt};
 ghost use Rattle.keymap_core.specs.declared.action.Lock.{Lock as LockValue};
 ghost use Rattle.keymap_core.specs.declared.action.Action.TheVariants.{DeadKey, Lock as LockAction};
@@ -95,7 +96,7 @@ impl Held {
         }
     }
 
-    fn holder(&self, modifier: Modifier) -> Option<KeyCode>
+    pub fn holder(&self, modifier: Modifier) -> Option<KeyCode>
         ensures { result ≡ (state_of self.now).holder modifier }
     {
         self.holders[modifier.index()]
@@ -113,7 +114,7 @@ impl Held {
         self.locks[lock.index()]
     }
 
-    fn with_holder(&self, modifier: Modifier, holder: Option<KeyCode>) -> Held
+    pub fn with_holder(&self, modifier: Modifier, holder: Option<KeyCode>) -> Held
         ensures { state_of result ≡ with_holder_in (state_of self.now) modifier holder }
     {
         let mut next = *self;
@@ -157,6 +158,20 @@ impl Held {
         ensures { result ≡ (is_held_in (state_of self.now) left || is_held_in (state_of self.now) right) }
     {
         self.is_held(left) || self.is_held(right)
+    }
+
+    /// Whether some key holds meta.
+    pub fn is_meta_held(&self) -> bool
+        ensures { result ≡ is_held_in (state_of self.now) Meta }
+    {
+        self.is_held(Modifier::Meta)
+    }
+
+    /// Whether the same locks are on.
+    pub fn has_locks_of(&self, other: &Held) -> bool {
+        self.is_locked(Lock::Caps) == other.is_locked(Lock::Caps)
+            && self.is_locked(Lock::Num) == other.is_locked(Lock::Num)
+            && self.is_locked(Lock::Alt) == other.is_locked(Lock::Alt)
     }
 
     /// What of the state picks the cell that a key looks up.

@@ -1,7 +1,7 @@
 use Rattle.std.proofs.Common.{◌≡◌, ◌≤◌, ◌+◌, [], ◌∷◌, refl, ◌<◌, length, None, IfSome, true, subst, sym, arith}
 use Rattle.std.proofs.lemmas.Bool.{eq-eqb}
 use Rattle.console_core.specs.declared.search.Origin.{Origin}
-use Rattle.console_core.specs.Inner.Searching.{under_of, Searched, AreSafe, AreInOrder, IsStuck, HasMovingKeys}
+use Rattle.console_core.specs.Inner.Searching.{under_of, origin_of, Searched, AreSafe, AreInOrder, IsStuck, HasMovingKeys}
 use Rattle.console_core.proofs.Growing.{added-longer}
 use Rattle.console_core.proofs.Searching.{start-entries, searched-start, order-within, safe-grows, searched-fewer}
 use Rattle.console_core.proofs.Concluding.{level-late, closed-late}
@@ -12,10 +12,11 @@ pub loop-level-init : goal.loop-level-init
 loop-level-init c =
     let origin : Origin = record { presses = 0; last = None } in
     let now = c.insert.new.self.entries in
-    let e : now ≡ (c.start.result, origin) ∷ [] =
-    start-entries _ c.args.met.now.entries now (c.start.result, origin) c.requires c.in_ok-insert.ensures.entries in
-    let s : Searched (under_of c.args.maps.now) now 0 0 × AreInOrder now 0 0 =
-    searched-start (under_of c.args.maps.now) c.start.result c.start.ensures now e in
+    let from = c.args.maps.now.origin in
+    let e : now ≡ (from, origin) ∷ [] =
+    start-entries _ c.args.met.now.entries now (from, origin) c.requires.empty c.in_ok-insert.ensures.entries in
+    let s : Searched (under_of c.args.maps.now) (origin_of c.args.maps.now) now 0 0 × AreInOrder now 0 0 =
+    searched-start (under_of c.args.maps.now) from c.requires.scroll now e in
     record {
       searched = s.0;
       safe = λ stops j x at lt. absurd (omega (arith, lt));
@@ -63,12 +64,15 @@ returns-then-len-gt-BOUND c =
     let es = c.close.new.met.entries in
     let u = under_of c.args.maps.now in
     let more : 65536 < length es = omega (arith, c.if-len-gt-BOUND.true, c.len-in-loop-level.ensures.len) in (
+      searched-fewer u es c.loop-level.level c.loop-level.level 0 0 (omega arith) (omega arith)
+          c.in_ok-stuck.ensures.searched,
       reaches-more _ (λ x y e. tables-test _ _ (λ a. eq-eqb a a refl) (λ b. beq-self b) x y e) u es
           c.loop-level.level c.loop-level.level 65536 c.loop-level.presses c.in_ok-stuck.ensures.searched
           (order-within es c.loop-level.level c.loop-level.presses c.in_ok-stuck.ensures.order) more
           c.len-in-loop-level.ensures.unique,
-      (λ stops. level-late u es c.loop-level.level c.loop-level.presses c.in_ok-stuck.ensures.order
-          c.in_ok-stuck.ensures.searched (c.in_ok-stuck.ensures.safe stops)),
+      (λ stops begins. level-late u es c.loop-level.level c.loop-level.presses c.in_ok-stuck.ensures.order
+          (subst (λ o. Searched u o es c.loop-level.level c.loop-level.level) begins c.in_ok-stuck.ensures.searched)
+          (c.in_ok-stuck.ensures.safe stops)),
     )
 
 pub returns-then-len-gt-BOUND-2 : goal.returns-then-len-gt-BOUND-2
@@ -78,12 +82,15 @@ returns-then-len-gt-BOUND-2 c =
     let more : 65536 < length es = omega (arith, c.if-len-gt-BOUND-2.true, c.len-in-loop-level-2.ensures.len) in
     let mid = c.close.new.met.entries in
     let small : length mid ≤ 65536 = omega (arith, c.if-len-gt-BOUND.false, c.len-in-loop-level.ensures.len) in (
+      searched-fewer u es c.loop-level.level (length mid) 0 0 (omega arith) (omega arith)
+          c.in_ok-press.ensures.closed,
       reaches-more _ (λ x y e. tables-test _ _ (λ a. eq-eqb a a refl) (λ b. beq-self b) x y e) u es
           c.loop-level.level (length mid) 65536 (c.loop-level.presses + 1) c.in_ok-press.ensures.closed
           (order-within es (length mid) (c.loop-level.presses + 1) c.in_ok-press.ensures.order) more
           c.len-in-loop-level-2.ensures.unique,
-      (λ stops. closed-late u mid es c.loop-level.level c.loop-level.presses c.in_ok-stuck.ensures.order
-          c.in_ok-press.ensures.grown c.in_ok-press.ensures.order c.in_ok-press.ensures.closed
+      (λ stops begins. closed-late u mid es c.loop-level.level c.loop-level.presses c.in_ok-stuck.ensures.order
+          c.in_ok-press.ensures.grown c.in_ok-press.ensures.order
+          (subst (λ o. Searched u o es c.loop-level.level (length mid)) begins c.in_ok-press.ensures.closed)
           (safe-grows u mid es (length mid) c.in_ok-press.ensures.grown (omega arith)
           (c.in_ok-stuck.ensures.all_safe c.in_default.is small stops))),
     )
@@ -100,7 +107,7 @@ loop-level-preserved c =
     let closed_longer : length es ≤ length mid = added-longer es mid c.in_ok-stuck.ensures.grown in
     let pressed_longer : length mid ≤ length now = added-longer mid now c.in_ok-press.ensures.grown in
     record {
-      searched = subst (λ n. Searched u now n n) (sym e) (c.in_ok-press.ensures.searched small);
+      searched = subst (λ n. Searched u (origin_of c.args.maps.now) now n n) (sym e) (c.in_ok-press.ensures.searched small);
       safe = λ stops. subst (λ n. AreSafe u now n) (sym e)
           (safe-grows u mid now (length mid) c.in_ok-press.ensures.grown (omega arith)
           (c.in_ok-stuck.ensures.all_safe c.in_default.is few stops));

@@ -1,6 +1,6 @@
 use Rattle.std.proofs.Common.{◌≤◌, ◌<◌, ◌+◌, [], length, sym, arith}
 use Rattle.std.proofs.lemmas.List.{append-nil}
-use Rattle.console_core.specs.Inner.Searching.{under_of, Searched, AreInOrder, Grows}
+use Rattle.console_core.specs.Inner.Searching.{under_of, origin_of, Searched, AreInOrder, Grows}
 use Rattle.console_core.proofs.Searching.{press-step, order-next, searched-fewer}
 use Rattle.console_core.proofs.search.press.Goals as goal
 
@@ -27,7 +27,7 @@ loop-place-preserved c =
     let y = c.entry-held.result in
     let le : c.args.level ≤ n = omega (arith, c.loop-place.auto.place) in
     let lt : n < length old = omega (arith, c.loop-place-test.true, c.len-end.ensures.len) in
-    let step : Searched u now (n + 1) (length old) × AreInOrder now (length old) (c.args.presses + 1) × Grows old now =
+    let step : Searched u (origin_of c.args.maps.now) now (n + 1) (length old) × AreInOrder now (length old) (c.args.presses + 1) × Grows old now =
     press-step u old es now c.args.level c.args.presses n y c.loop-place.invariant.searched c.requires.order
     c.loop-place.invariant.grown c.loop-place.invariant.order le lt c.entry-held.ensures
     c.in_ok-meet_presses.ensures.added c.in_ok-meet_presses.ensures.met in

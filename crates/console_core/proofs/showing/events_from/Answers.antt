@@ -3,7 +3,8 @@ use Rattle.std.proofs.lemmas.List.Elements.{All-nil}
 use Rattle.console_core.specs.History.{IsNoLoad, HasNoLoads}
 use Rattle.console_core.specs.Moves.{alone}
 use Rattle.console_core.specs.Sticking.{ReleasesPressedKeys}
-use Rattle.console_core.proofs.Returning.{AreSettled, never-home}
+use Rattle.console_core.specs.Inner.Routes.{AreSettled}
+use Rattle.console_core.proofs.Returning.{never-home}
 use Rattle.console_core.proofs.showing.events_from.Goals as goal
 
 pub returns : goal.returns

@@ -1,7 +1,8 @@
-use Rattle.std.proofs.Common.{false, subst}
+use Rattle.std.proofs.Common.{false, subst, ap}
+use Rattle.keymap_core.specs.declared.action.Lock.TheVariants.{Scroll}
 use Rattle.console_core.specs.declared.search.End.TheVariants as end
-use Rattle.console_core.specs.Moves.{alone}
-use Rattle.console_core.specs.Inner.Searching.{HasEnded}
+use Rattle.console_core.specs.Moves.{alone, start}
+use Rattle.console_core.specs.Inner.Searching.{state_of, HasEnded}
 use Rattle.console_core.proofs.Noting.{searched-noted}
 use Rattle.console_core.proofs.sights.sights_of.Goals as goal
 
@@ -9,6 +10,19 @@ pub returns-in-Complete : goal.returns-in-Complete
 returns-in-Complete c =
     let u = alone c.args.map.now in
     let es = c.meet_all.new.met.entries in
-    let ended : HasEnded u false es end.Complete =
-    subst (λ o. HasEnded u false es o) c.in-Complete.is c.in_ok-meet_all.ensures in
+    let ended : HasEnded u start false es end.Complete =
+    subst (λ s. HasEnded u s false es end.Complete) c.start.ensures
+    (subst (λ o. HasEnded u (state_of c.start.result) false es o) c.in-Complete.is c.in_ok-meet_all.ensures) in
     searched-noted c.args.map.now es c.in_ok-noted-in-Complete.field-0 ended.0 c.in_ok-noted-in-Complete.ensures
+
+pub meet_all-requires-clause-scroll : goal.meet_all-requires-clause-scroll
+meet_all-requires-clause-scroll c = ap (λ s. s.is_locked Scroll) c.start.ensures
+
+pub returns-in-TooMany : goal.returns-in-TooMany
+returns-in-TooMany c =
+    let u = alone c.args.map.now in
+    let es = c.meet_all.new.met.entries in
+    let ended : HasEnded u start false es (end.TooMany c.in-TooMany.field-0) =
+    subst (λ s. HasEnded u s false es (end.TooMany c.in-TooMany.field-0)) c.start.ensures
+    (subst (λ o. HasEnded u (state_of c.start.result) false es o) c.in-TooMany.is c.in_ok-meet_all.ensures) in
+    (c.in-TooMany.field-0, ended.1)

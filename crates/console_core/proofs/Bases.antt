@@ -1,0 +1,68 @@
+-- What can be tapped to type a character while an accent is pending: a base of its pairs, the blank or its dead key.
+use Prim.Native.Nat.{suc}
+use Rattle.std.proofs.Common.{◌≡◌, ℕ, Bool, true, false, List, [], ◌∷◌, Option, Some, None, refl, ap, subst, sym, ◌∙◌}
+use Rattle.std.proofs.Common.{arith, if◌then◌else◌, MatchOption, slice_get, length, ◌<◌, ◌≤◌, inl, inr}
+use Rattle.std.specs.Prelude.{◌==◌}
+use Rattle.std.specs.List.{Contains}
+use Rattle.std.proofs.lemmas.Bool.{eqb-true, cases_lt, true≢false}
+use Rattle.std.proofs.lemmas.Option.{none-some, slice_get-get_or, slice_get_within}
+use Rattle.keymap_core.specs.Accents.{AccentValue, first_result, own_of}
+use Rattle.keymap_core.specs.Maps.{MapValue, accent_at}
+use Rattle.console_core.specs.declared.explored.Explored.{Explored}
+use Rattle.console_core.specs.declared.explored.Symbol.{Symbol}
+use Rattle.console_core.specs.declared.explored.Symbol.TheVariants as symbol
+use Rattle.console_core.specs.Answers.{composed_by, has_own, usable}
+use Rattle.console_core.specs.Inner.Exploring.{IsBase}
+use Rattle.console_core.proofs.Strokes.{same-dead}
+
+-- a pair has the base of a result
+first-member : (pairs : List (ℕ × ℕ)) (b c : ℕ) → first_result pairs b ≡ Some c
+    → (p : ℕ × ℕ) × Contains pairs p × (p.0 ≡ b)
+first-member [] b c e = absurd (none-some c e)
+first-member (q ∷ pairs) b c e = by (q.0 == b) refl e (λ f. first-member pairs b c f)
+  where
+    later : (p : ℕ × ℕ) × Contains pairs p × (p.0 ≡ b) → (p : ℕ × ℕ) × Contains (q ∷ pairs) p × (p.0 ≡ b)
+    later (p, (n, lt, at), is) = (p, (suc n, omega (arith, lt), at), is)
+
+    by : (t : Bool) → (q.0 == b) ≡ t → (if t then Some q.1 else first_result pairs b) ≡ Some c
+        → (first_result pairs b ≡ Some c → (p : ℕ × ℕ) × Contains pairs p × (p.0 ≡ b))
+        → (p : ℕ × ℕ) × Contains (q ∷ pairs) p × (p.0 ≡ b)
+    by true is f more = (q, (0, omega arith, refl), eqb-true q.0 b is)
+    by false is f more = later (more f)
+
+pub base-cases : (m : MapValue) (e : Explored) (i c : ℕ) (a : AccentValue) → accent_at m i ≡ Some a
+    → (o : Option Symbol)
+    → ((p : ℕ × ℕ) → Contains a.pairs p → IsBase m e i c (symbol.Character p.0) → ⊥)
+    → MatchOption o ((IsBase m e i c (symbol.Character 32) → ⊥) × (IsBase m e i c (symbol.DeadKey i) → ⊥))
+    (λ x. IsBase m e i c x)
+    → MatchOption o ((x : Symbol) → IsBase m e i c x → ⊥) (λ x. IsBase m e i c x)
+base-cases m e i c a is (Some x) pairs base = base
+base-cases m e i c a is None pairs (blank, dead) = by
+  where
+    tapped : (b : ℕ) (t : Bool) → (b == 32) ≡ t → IsBase m e i c (symbol.Character b)
+        → (if t then Some a.own else first_result a.pairs b) ≡ Some c → ⊥
+    tapped b true f base made = blank (subst (λ z. IsBase m e i c (symbol.Character z)) (eqb-true b 32 f) base)
+    tapped b false f base made =
+        let (p, has, at) = first-member a.pairs b c made in
+        pairs p has (subst (λ z. IsBase m e i c (symbol.Character z)) (sym at) base)
+
+    by : (x : Symbol) → IsBase m e i c x → ⊥
+    by (symbol.Character b) base =
+        tapped b (b == 32) refl base (sym (ap (λ o. composed_by o b) is) ∙ base.0)
+    by (symbol.DeadKey j) base =
+        let q = same-dead i j (own_of (accent_at m i)) c (j == i) refl base.0 in
+        dead (subst (λ z. IsBase m e i c (symbol.DeadKey z)) q.0 base)
+
+-- a usable accent stands before the end of the accents
+pub usable-below : (m : MapValue) (i n : ℕ) → usable m i ≡ true → slice_get m.accents n ≡ None → i < n
+usable-below m i n can none = by (accent_at m i) refl
+  where
+    ends : length m.accents ≤ n
+    ends = elim (cases_lt n (length m.accents)) [
+      | inl lt ↦ absurd (none-some _ (sym none ∙ slice_get-get_or m.accents n (record { own = 0; pairs = [] }) lt))
+      | inr le ↦ le
+    ]
+
+    by : (o : Option AccentValue) → accent_at m i ≡ o → i < n
+    by None e = absurd (true≢false (sym can ∙ ap (λ z. has_own z) e))
+    by (Some a) e = let within = slice_get_within m.accents i a e in omega (arith, within, ends)

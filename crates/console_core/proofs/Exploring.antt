@@ -1,0 +1,307 @@
+-- What an exploration met, and which taps can be made.
+use Rattle.std.proofs.Common.{◌≡◌, ◌<◌, ◌⊎◌, ℕ, Bool, true, false, List, [], ◌∷◌, ◌++◌, length, slice_get, Option, Some}
+use Rattle.std.proofs.Common.{None, refl, ap, subst, sym, ◌∙◌, inl, inr, reverse, append_assoc}
+use Rattle.std.proofs.Common.{eqb}
+use mathlib.Core.Bool.{beq}
+use Rattle.std.specs.Option.{is_some}
+use Rattle.std.specs.Map.{lookup}
+use Rattle.std.proofs.lemmas.Bool.{true≢false, cases_Bool, eqb-true, eq-eqb}
+use Rattle.console_core.specs.declared.held.Held.{Held}
+use Rattle.console_core.specs.Inner.HeldBytes.{held-equal, bool_equal}
+use Rattle.console_core.proofs.Reaching.{tables-test, beq-self}
+use Rattle.console_core.proofs.RoutesHome.{are_same, none-found, found-has, is-nothing}
+use Rattle.console_core.proofs.Searching.{same-state}
+use Rattle.keymap_core.specs.declared.action.Lock.{Lock}
+use Rattle.keymap_core.specs.declared.action.Lock.TheVariants.{Caps, Num, Scroll, Alt}
+use Rattle.keymap_core.specs.Maps.{MapValue}
+use Rattle.console_core.specs.Types.{Modifier, Event, Press, Release, Move, Hold, Turn, LetGo, Exchange}
+use Rattle.console_core.specs.declared.explored.Explored.{Explored}
+use Rattle.console_core.specs.declared.explored.Symbol.{Symbol}
+use Rattle.console_core.specs.declared.explored.Symbol.TheVariants as symbol
+use Rattle.console_core.specs.declared.explored.Tap.{Tap}
+use Rattle.console_core.specs.Answers.{usable}
+use Rattle.console_core.specs.Moves.{Under, alone, State, start, IsFree, IsMove, moved, IsPath, state_after, IsPathFrom}
+use Rattle.console_core.specs.Moves.{state_from, events_along}
+use Rattle.console_core.specs.Returning.{IsHome}
+use Rattle.console_core.specs.Typing.{ComesHome, IsTapOf, CanTap, CanType, composed_of}
+use Rattle.console_core.specs.Inner.Exploring.{map_of_explored, origin_in, IsOrigin, IsExplored, IsStand, IsTapAt, HasTap}
+use Rattle.console_core.specs.Inner.Exploring.{LetsGo, IsStroke, HasTyped, TypesOne, dead_tap, plain_tap}
+use Rattle.console_core.specs.Inner.Routes.{LeadsHome, Routes, AllLeadHome, HasRoute, AreSettled, freed}
+use Rattle.console_core.specs.Inner.Searching.{state_of, Entry, Entries, IsTrail, IsReached, LeavesScroll, Searched}
+use Rattle.console_core.specs.Inner.Standing.{unscrolled}
+use Rattle.console_core.proofs.Returning.{move-met, strays-on, StraysTo, is-astray, near-is_home}
+use Rattle.console_core.proofs.Strokes.{added-by, adds, stroke-types, tap-direct, tap-dead, tap-composed}
+use Rattle.console_core.proofs.Unscrolled.{moves-unscrolled, same_moved, scroll-moved}
+use Rattle.console_core.proofs.Visits.{near-path, path-first, home-near}
+use mathlib.Core.Path.{fun_ext}
+
+-- a route that begins at a state leads home
+pub has-leads : (u : Under) (routes : Routes) (s : State) → AllLeadHome u routes → HasRoute routes s
+    → (moves : List Move) × LeadsHome u s moves
+has-leads u [] s all has = absurd has
+has-leads u (x ∷ routes) s all (inl is) = (x.1.moves.items, subst (λ t. LeadsHome u t x.1.moves.items) is all.0)
+has-leads u (x ∷ routes) s all (inr later) = has-leads u routes s all.1 later
+
+has-home : (u : Under) (routes : Routes) (s : State) → AllLeadHome u routes → HasRoute routes s → ComesHome u s
+has-home u routes s all has = let (moves, home) = has-leads u routes s all has in (reverse moves, home.0, home.1)
+
+-- home is the start, where the scroll lock is off
+pub home-start : (s : State) → IsHome s → s.is_second ≡ false → s.is_locked Scroll ≡ false → s ≡ start
+home-start s (free, off) first scroll =
+    ap (λ x. record { holder = x; is_locked = s.is_locked; is_second = s.is_second }) (fun_ext (λ i. free i))
+    ∙ ap (λ x. record { holder = start.holder; is_locked = x; is_second = s.is_second }) (fun_ext (λ l. locks l))
+    ∙ ap (λ x. record { holder = start.holder; is_locked = start.is_locked; is_second = x }) first
+  where
+    locks : (l : Lock) → s.is_locked l ≡ start.is_locked l
+    locks Caps = off Caps (λ q. cc)
+    locks Num = off Num (λ q. cc)
+    locks Alt = off Alt (λ q. cc)
+    locks Scroll = scroll
+
+-- one path behind another
+pub path-append : (u : Under) (s : State) (path later : List Move) → IsPathFrom u s path
+    → IsPathFrom u (state_from u s path) later
+    → IsPathFrom u s (later ++ path) × (state_from u s (later ++ path) ≡ state_from u (state_from u s path) later)
+path-append u s path [] is more = (is, refl)
+path-append u s path (move ∷ later) is more =
+    let q = path-append u s path later is more.1 in
+    ((subst (λ t. IsMove u t move) (sym q.1) more.0, q.0), ap (λ t. moved u t move) q.1)
+
+-- ---- strokes
+
+-- a tap at a place, and all holders let go, where a route begins then
+pub stroke-freed : (u : Under) (o : State) (es : Entries) (routes : Routes) (j : ℕ) (x : Entry) (k : ℕ)
+    → (h h1 h2 now : List Event) (next : State) → IsReached u o es j x → AllLeadHome u routes
+    → ((path : List Move) → IsTrail es j path → h1 ≡ events_along path ++ h) → h2 ≡ Release k ∷ Press k ∷ h1
+    → LetsGo (state_of x.0) h2 now next → HasRoute routes (freed (state_of x.0))
+    → IsStroke u o (state_of x.0) k h now next
+stroke-freed u o es routes j x k h h1 h2 now next r all e1 e2 go has = record {
+  out = r.0;
+  back = go.path;
+  goes = r.2;
+  there = r.3;
+  returns = go.is u;
+  leads = go.leads u;
+  events = go.events ∙ ap (λ z. events_along go.path ++ z) (e2 ∙ ap (λ z. Release k ∷ Press k ∷ z) (e1 r.0 r.1));
+  free = λ i. ap (λ t. t.holder i) go.freed;
+  off = ap (λ t. t.is_locked Scroll) go.freed ∙ r.5;
+  home = subst (λ t. ComesHome u t) (sym go.freed) (has-home u routes (freed (state_of x.0)) all has);
+}
+
+-- a tap at a place, and the route home from there
+pub stroke-home : (m : MapValue) (o : State) (es : Entries) (j : ℕ) (x : Entry) (k : ℕ) → (h h1 h2 now : List Event)
+    → (moves : List Move) (next : State) → IsOrigin o → IsReached (alone m) o es j x
+    → ((path : List Move) → IsTrail es j path → h1 ≡ events_along path ++ h) → h2 ≡ Release k ∷ Press k ∷ h1
+    → LeadsHome (alone m) (state_of x.0) moves → now ≡ events_along (reverse moves) ++ h2 → next ≡ start
+    → IsStroke (alone m) o (state_of x.0) k h now next
+stroke-home m o es j x k h h1 h2 now moves next origin r e1 e2 home e is =
+    let s : State = state_of x.0 in
+    let second : s.is_second ≡ false =
+    ap (λ t. t.is_second) (sym r.3) ∙ path-first m o r.0 r.2 ∙ origin.1 in
+    let ends : state_from (alone m) s (reverse moves) ≡ start =
+    home-start (state_from (alone m) s (reverse moves)) home.1 (path-first m s (reverse moves) home.0 ∙ second)
+    (home.2 r.5) in
+    record {
+      out = r.0;
+      back = reverse moves;
+      goes = r.2;
+      there = r.3;
+      returns = home.0;
+      leads = ends ∙ sym is;
+      events = e ∙ ap (λ z. events_along (reverse moves) ++ z) (e2 ∙ ap (λ z. Release k ∷ Press k ∷ z) (e1 r.0 r.1));
+      free = λ i. ap (λ t. t.holder i) is;
+      off = ap (λ t. t.is_locked Scroll) is;
+      home = subst (λ t. ComesHome (alone m) t) (sym is) ([], tt, ((λ i. refl), (λ l other. refl)));
+    }
+
+-- a stroke leads from one stand to the next
+pub stand-next : (m : MapValue) (o s : State) (k : ℕ) (h now : List Event) (next : State) → IsStand m o
+    → IsStroke (alone m) o s k h now next
+    → IsStand m next
+stand-next m o s k h now next st x =
+    let u : Under = alone m in
+    let there : IsPathFrom u (state_from u o x.out) x.back = subst (λ t. IsPathFrom u t x.back) (sym x.there) x.returns in
+    let out = path-append u o x.out x.back x.goes there in
+    let all = path-append u start st.path (x.back ++ x.out) st.is
+    (subst (λ t. IsPathFrom u t (x.back ++ x.out)) (sym st.leads) out.0) in
+    record {
+      free = x.free;
+      off = x.off;
+      path = (x.back ++ x.out) ++ st.path;
+      is = all.0;
+      leads = all.1 ∙ ap (λ t. state_from u t (x.back ++ x.out)) st.leads ∙ out.1
+          ∙ ap (λ t. state_from u t x.back) x.there ∙ x.leads;
+      home = x.home;
+    }
+
+-- a stand is an origin
+pub stand-origin : (m : MapValue) (s : State) → IsStand m s → IsOrigin s
+stand-origin m s st = (st.off, ap (λ t. t.is_second) (sym st.leads) ∙ path-first m start st.path st.is)
+
+pub start-stand : (m : MapValue) → IsStand m start
+start-stand m = record {
+  free = λ i. refl;
+  off = refl;
+  path = [];
+  is = tt;
+  leads = refl;
+  home = ([], tt, ((λ i. refl), (λ l other. refl)));
+}
+
+-- ---- which taps can be made
+
+-- a tap doesn't depend on the scroll lock
+tap-near : (u : Under) (s t : State) (plain : Bool) (x : Symbol) (k : ℕ) → unscrolled t ≡ unscrolled s
+    → IsTapOf u s plain x k
+    → IsTapOf u t plain x k
+tap-near u s t plain x k e is = subst (λ z. IsTapOf u z plain x k) (sym e) is
+
+-- a state near one that a path leads to was met
+near-met : {o : State} (m : MapValue) (es : Entries) → Searched (alone m) o es (length es) (length es)
+    → (path : List Move) → IsPathFrom (alone m) o path
+    → (j : ℕ) × (x : Entry) × (slice_get es j ≡ Some x)
+    × (unscrolled (state_of x.0) ≡ unscrolled (state_from (alone m) o path))
+near-met {o} m es s [] is = let (j, x, at, e, le) = s.start in (j, x, at, ap (λ z. unscrolled z) e)
+near-met {o} m es s (move ∷ path) is = by move is.0 (near-met m es s path is.1)
+  where
+    u : Under
+    u = alone m
+
+    here : State
+    here = state_from u o path
+
+    on : (move : Move) → LeavesScroll move → IsMove u here move
+        → ((j : ℕ) × (x : Entry) × (slice_get es j ≡ Some x) × (unscrolled (state_of x.0) ≡ unscrolled here))
+        → (j : ℕ) × (x : Entry) × (slice_get es j ≡ Some x)
+        × (unscrolled (state_of x.0) ≡ unscrolled (moved u here move))
+    on move leaves is (j, x, at, near) =
+        let (i, y, there, e) =
+        move-met u es s j x at move (moves-unscrolled u here (state_of x.0) move near is) leaves in
+        (i, y, there, ap (λ z. unscrolled z) e ∙ same_moved u here (state_of x.0) move near)
+
+    by : (move : Move) → IsMove u here move
+        → ((j : ℕ) × (x : Entry) × (slice_get es j ≡ Some x) × (unscrolled (state_of x.0) ≡ unscrolled here))
+        → (j : ℕ) × (x : Entry) × (slice_get es j ≡ Some x)
+        × (unscrolled (state_of x.0) ≡ unscrolled (moved u here move))
+    by (Hold k i) is q = on (Hold k i) tt is q
+    by (Turn k Caps) is q = on (Turn k Caps) (λ z. cc) is q
+    by (Turn k Num) is q = on (Turn k Num) (λ z. cc) is q
+    by (Turn k Scroll) is (j, x, at, near) = (j, x, at, near ∙ scroll-moved here)
+    by (Turn k Alt) is q = on (Turn k Alt) (λ z. cc) is q
+    by (LetGo k i) is q = on (LetGo k i) tt is q
+    by Exchange (free, loads) q = absurd (true≢false (sym loads))
+
+-- moves from a state without a route stay astray
+strays-from : {o : State} (m : MapValue) (es : Entries) (routes : Routes)
+    → Searched (alone m) o es (length es) (length es) → AreSettled (alone m) es routes → (s : State) (path : List Move)
+    → IsPathFrom (alone m) s path → StraysTo es routes s
+    → StraysTo es routes (state_from (alone m) s path)
+strays-from m es routes searched settled s [] is strays = strays
+strays-from m es routes searched settled s (move ∷ path) is strays =
+    strays-on m es routes searched settled (state_from (alone m) s path) move is.0
+    (strays-from m es routes searched settled s path is.1 strays)
+
+-- a route begins at a state, or none does
+route-or-none : (routes : Routes) (k : Held) → HasRoute routes (state_of k) ⊎ (HasRoute routes (state_of k) → ⊥)
+route-or-none routes k = elim (cases_Bool (is_some (lookup (are_same k) routes))) [
+  | inl e ↦
+      inl
+      (found-has are_same
+      (λ x y f. same-state x y (held-equal _ _ (λ a b g. eqb-true a b g) (λ a b g. bool_equal a b g) x y f)) routes k e)
+  | inr e ↦
+      inr
+      (none-found are_same (λ x y f. tables-test eqb beq (λ a. eq-eqb a a refl) (λ b. beq-self b) x y f) routes k
+      (is-nothing (lookup (are_same k) routes) e))
+]
+
+-- so one begins where moves lead home from
+pub comes-route : {o : State} (m : MapValue) (es : Entries) (routes : Routes)
+    → Searched (alone m) o es (length es) (length es) → AreSettled (alone m) es routes → (j : ℕ) (x : Entry)
+    → slice_get es j ≡ Some x → ComesHome (alone m) (state_of x.0)
+    → HasRoute routes (state_of x.0)
+comes-route m es routes searched settled j x at (later, is, home) = elim (route-or-none routes x.0) [
+  | inl has ↦ has
+  | inr none ↦
+      let (i, y, there, near, no_route) =
+      strays-from m es routes searched settled (state_of x.0) later is (j, x, at, refl, none) in
+      absurd ((is-astray (alone m) es routes settled i y there no_route).0
+      (near-is_home (state_from (alone m) (state_of x.0) later) (state_of y.0) near home))
+]
+
+-- what can be tapped at all can be tapped in a complete exploration
+pub can-tap-met : (e : Explored) → IsExplored e → e.is_complete ≡ true → IsStand (map_of_explored e) (origin_in e)
+    → (t : Tap) → CanTap (map_of_explored e) t.is_plain t.symbol
+    → HasTap e t
+can-tap-met e x complete st t (path, is, (later, goes, home), (k, tap)) =
+    let m : MapValue = map_of_explored e in
+    let u : Under = alone m in
+    let o : State = origin_in e in
+    let es : Entries = e.met.entries in
+    let (searched, settled) = x.whole complete in
+    let (back, returns, at_home) = st.home in
+    let base : State = state_from u o back in
+    let first : base.is_second ≡ false =
+    path-first m o back returns ∙ (stand-origin m o st).1 in
+    let near : unscrolled base ≡ unscrolled start = home-near base at_home first in
+    let q = near-path u start base path near is in
+    let all = path-append u o back path returns q.0 in
+    let (j, y, at, met) = near-met m es searched (path ++ back) all.0 in
+    let s : State = state_of y.0 in
+    let same : unscrolled s ≡ unscrolled (state_after u path) = met ∙ ap (λ z. unscrolled z) all.1 ∙ q.1 in
+    let ends = near-path u (state_after u path) s later same goes in
+    let route : HasRoute e.routes.entries s =
+    comes-route m es e.routes.entries searched settled j y at (
+      later,
+      ends.0,
+      near-is_home (state_from u (state_after u path) later) (state_from u s later) ends.1 home,
+    ) in
+    (j, k, (y, at, route, tap-near u (state_after u path) s t.is_plain t.symbol k same tap))
+
+-- and what an exploration finds can be tapped
+pub tap-can : (e : Explored) → IsExplored e → IsStand (map_of_explored e) (origin_in e) → (t : Tap) → HasTap e t
+    → CanTap (map_of_explored e) t.is_plain t.symbol
+tap-can e x st t (j, k, (y, at, has, tap)) =
+    let m : MapValue = map_of_explored e in
+    let u : Under = alone m in
+    let r : IsReached u (origin_in e) e.met.entries j y = x.searched.reached j y at in
+    let all = path-append u start st.path r.0 st.is (subst (λ s. IsPathFrom u s r.0) (sym st.leads) r.2) in
+    let there : state_after u (r.0 ++ st.path) ≡ state_of y.0 =
+    all.1 ∙ ap (λ s. state_from u s r.0) st.leads ∙ r.3 in (
+      r.0 ++ st.path,
+      all.0,
+      subst (λ s. ComesHome u s) (sym there) (has-home u e.routes.entries (state_of y.0) x.home has),
+      (k, subst (λ s. IsTapOf u s t.is_plain t.symbol k) (sym there) tap),
+    )
+
+-- ---- one character
+
+-- by one tap
+pub types-direct : (m : MapValue) (o s : State) (c k : ℕ) (h now : List Event) (next : State) → IsStand m o
+    → IsStroke (alone m) o s k h now next → IsTapOf (alone m) s true (symbol.Character c) k → CanType m c
+    → TypesOne m c o h now next
+types-direct m o s c k h now next st x tap can = record {
+  can = can;
+  stand = stand-next m o s k h now next st x;
+  added = added-by x;
+  events = adds x;
+  types = λ g cs before.
+      stroke-types m o s k h now next None None cs (cs ++ c ∷ []) x (λ g t. tap-direct m g s cs c k t tap) g before;
+}
+
+-- by a dead key and a tap behind it
+pub types-composed : (m : MapValue) (o s mid t : State) (i : ℕ) (y : Symbol) (c k n : ℕ) (h between now : List Event)
+    → (next : State) → IsStand m o → IsStroke (alone m) o s k h between mid
+    → IsTapOf (alone m) s false (symbol.DeadKey i) k → usable m i ≡ true → IsStroke (alone m) mid t n between now next
+    → IsTapOf (alone m) t true y n → composed_of m i y ≡ Some c → CanType m c
+    → TypesOne m c o h now next
+types-composed m o s mid t i y c k n h between now next st x dead can_use z tap made can = record {
+  can = can;
+  stand = stand-next m mid t n between now next (stand-next m o s k h between mid st x) z;
+  added = added-by z ++ added-by x;
+  events = adds z ∙ ap (λ w. added-by z ++ w) (adds x) ∙ sym (append_assoc (added-by z) (added-by x) h);
+  types = λ g cs before.
+      subst (λ w. HasTyped m w next None (cs ++ c ∷ [])) (sym (append_assoc (added-by z) (added-by x) g))
+      (stroke-types m mid t n between now next (Some i) None cs (cs ++ c ∷ []) z
+      (λ g b. tap-composed m g t cs i y c n b tap can_use made) (added-by x ++ g)
+      (stroke-types m o s k h between mid None (Some i) cs cs x (λ g b. tap-dead m g s cs i k b dead can_use) g before));
+}

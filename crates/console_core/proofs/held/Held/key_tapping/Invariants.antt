@@ -1,0 +1,12 @@
+-- no key below this one is tapped so
+use Rattle.std.proofs.Common.{◌≡◌, ◌<◌, ℕ}
+use Rattle.console_core.specs.Moves.{Under, map_in}
+use Rattle.console_core.specs.Typing.{IsTapOf}
+use Rattle.console_core.specs.Inner.Searching.{state_of}
+use Rattle.console_core.proofs.held.Held.key_tapping.Given as goal
+
+abbrev pub invariant-loop-code : goal.invariant-loop-code
+invariant-loop-code l =
+    (u : Under) → map_in u (state_of l.self) ≡ l.map → (k : ℕ) → k < l.code
+    → IsTapOf u (state_of l.self) l.tap.is_plain l.tap.symbol k
+    → ⊥

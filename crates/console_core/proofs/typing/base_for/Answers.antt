@@ -1,0 +1,7 @@
+use Rattle.console_core.proofs.Bases.{base-cases}
+use Rattle.console_core.proofs.typing.base_for.Goals as goal
+
+pub returns-in-None : goal.returns-in-None
+returns-in-None c =
+    base-cases c.args.map.now c.args.view.now c.args.index c.args.c c.args.accent.now c.requires.accent
+    c.other_base.result c.in-None.ensures c.other_base.ensures

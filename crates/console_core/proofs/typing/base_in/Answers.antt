@@ -1,0 +1,33 @@
+use Rattle.std.proofs.Common.{◌≡◌, ◌+◌, ◌≤◌, ℕ, take, length, get_or, inl, inr, ap, subst, sym, ◌∙◌}
+use Rattle.std.specs.List.{Contains}
+use Rattle.std.proofs.lemmas.List.{take_all, get_or_default}
+use Rattle.console_core.specs.declared.explored.Symbol.TheVariants as symbol
+use Rattle.console_core.specs.Inner.Exploring.{IsBase}
+use Rattle.console_core.proofs.RoutesHome.{before-next}
+use Rattle.console_core.proofs.typing.base_in.Goals as goal
+
+pub loop-pair-preserved : goal.loop-pair-preserved
+loop-pair-preserved c =
+    λ p has base.
+    let n = c.loop-pair.pair-index in
+    let items = c.pairs-pair-items.result.now in
+    let e = c.pairs-pair-items.ensures.value in
+    let x : ℕ × ℕ = get_or items n (0, 0) in
+    elim (before-next items n x p (get_or_default items n (0, 0) x c.loop-pair-test.true) c.loop-pair-test.true
+    (subst (λ z. Contains (take (n + 1) z) p) (sym e) has)) [
+      | inl before ↦ c.loop-pair.invariant p (subst (λ z. Contains (take n z) p) e before) base
+      | inr f ↦
+          c.is_base.ensures.none c.if-is_base.false
+          (subst (λ z. IsBase c.args.map.now c.args.view.now c.args.index c.args.c z)
+          (ap (λ (q : ℕ × ℕ). symbol.Character q.0) (sym f) ∙ sym c.base_of-base.ensures) base)
+    ]
+
+pub returns : goal.returns
+returns c =
+    λ p has.
+    let n = c.loop-pair.pair-index in
+    let items = c.pairs-pair-items.result.now in
+    let e = c.pairs-pair-items.ensures.value in
+    c.loop-pair.invariant p
+    (subst (λ z. Contains (take n z) p) e
+    (subst (λ z. Contains z p) (sym (take_all n items c.loop-pair-test.false)) (subst (λ z. Contains z p) (sym e) has)))

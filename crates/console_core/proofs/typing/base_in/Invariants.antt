@@ -1,0 +1,12 @@
+-- no base of the pairs before this one
+use Rattle.std.proofs.Common.{◌≡◌, ℕ, take}
+use Rattle.std.specs.List.{Contains}
+use Rattle.console_core.specs.declared.explored.Symbol.TheVariants as symbol
+use Rattle.console_core.specs.Inner.Exploring.{IsBase}
+use Rattle.console_core.proofs.typing.base_in.Given as goal
+
+abbrev pub invariant-loop-pair : goal.invariant-loop-pair
+invariant-loop-pair l =
+    (p : ℕ × ℕ) → Contains (take l.pair-index l.accent.pairs) p
+    → IsBase l.map l.view l.index l.c (symbol.Character p.0)
+    → ⊥

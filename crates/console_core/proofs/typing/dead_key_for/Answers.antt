@@ -1,0 +1,24 @@
+use Rattle.std.proofs.Common.{inl, inr, subst, sym, arith}
+use Rattle.console_core.specs.Inner.Exploring.{CanAccent}
+use Rattle.console_core.proofs.Bases.{usable-below}
+use Rattle.console_core.proofs.Searching.{place_last}
+use Rattle.console_core.proofs.typing.dead_key_for.Goals as goal
+
+pub loop-accent-preserved : goal.loop-accent-preserved
+loop-accent-preserved c =
+    let n = c.loop-accent.index in
+    record {
+      below = omega (arith, c.in-Some.ensures.in_range);
+      none = λ i x lt can. elim (place_last i n lt) [
+        | inl below ↦ c.loop-accent.invariant.none i x below can
+        | inr e ↦
+            c.in_default-accented_by.ensures x
+            (subst (λ j. CanAccent c.args.map.now c.args.view.now c.args.c j x) e can)
+      ];
+    }
+
+pub returns : goal.returns
+returns c =
+    λ i x can.
+    c.loop-accent.invariant.none i x
+    (usable-below c.args.map.now i c.loop-accent.index can.0 (sym c.in_default.ensures.value)) can

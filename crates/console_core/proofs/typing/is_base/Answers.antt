@@ -1,0 +1,15 @@
+use Rattle.std.proofs.Common.{Some, ap, subst, sym, ◌∙◌}
+use Rattle.console_core.specs.Inner.Exploring.{HasTap}
+use Rattle.console_core.proofs.typing.is_base.Goals as goal
+
+pub returns-then-made-c-clause-base : goal.returns-then-made-c-clause-base
+returns-then-made-c-clause-base c =
+    λ e. (
+      sym c.composed.ensures ∙ c.in-Some.is ∙ ap (λ z. Some z) c.if-made-c.true,
+      subst (λ t. HasTap c.args.view.now t) c.plain.ensures (c.can_tap.ensures.can e),
+    )
+
+pub returns-then-made-c-clause-none : goal.returns-then-made-c-clause-none
+returns-then-made-c-clause-none c =
+    λ e base.
+    c.can_tap.ensures.none e (subst (λ t. HasTap c.args.view.now t) (sym c.plain.ensures) base.1)

@@ -1,0 +1,76 @@
+use Rattle.std.proofs.Common.{Some, ap, subst, sym, ◌∙◌, reverse}
+use Rattle.std.proofs.lemmas.List.{take_all}
+use Rattle.std.proofs.lemmas.Option.{slice_get-get_or}
+use Rattle.console_core.specs.Moves.{alone}
+use Rattle.console_core.specs.Inner.Exploring.{AreViews, GoesHome, Leads, origin_in}
+use Rattle.console_core.specs.Inner.Searching.{state_of}
+use Rattle.console_core.proofs.Choosing.{no-route}
+use Rattle.console_core.proofs.Exploring.{stand-origin}
+use Rattle.console_core.proofs.Typings.{typed-none, typed-one, typed-all}
+use Rattle.console_core.proofs.typing.type_characters.Goals as goal
+
+pub loop-place-init : goal.loop-place-init
+loop-place-init c = record {
+  views = subst (λ v. AreViews c.args.map.now v) (sym c.new-views.ensures.empty) tt;
+  typed = typed-none c.args.map.now c.args.characters.now c.new-keyed.result.items (state_of c.start-from.result)
+      c.new-keyed.ensures.items c.start-from.ensures;
+}
+
+pub returns-in-NoKeys-clause-error : goal.returns-in-NoKeys-clause-error
+returns-in-NoKeys-clause-error c =
+    let cs = c.args.characters.now in
+    let x = c.index-characters-place.result in (
+      c.loop-place.invariant.typed.can,
+      (
+        x,
+        slice_get-get_or cs c.loop-place.place x c.loop-place-test.true
+            ∙ ap (λ z. Some z) (sym c.index-characters-place.is),
+        subst (λ r. Leads c.args.map.now x (state_of c.loop-place.from) (reverse c.new-events.result.items)
+            (reverse c.type_from.new.events.items) r) c.in-NoKeys.is c.in_ok-next.ensures.leads,
+      ),
+    )
+
+pub loop-place-preserved : goal.loop-place-preserved
+loop-place-preserved c =
+    let m = c.args.map.now in
+    let x = c.index-characters-place.result in
+    let h = reverse c.new-events.result.items in
+    record {
+      views = c.in_ok-next.ensures.views;
+      typed = typed-one m c.args.characters.now c.loop-place.place c.loop-place.keyed.items
+          c.push_keyed.new.keyed.items (state_of c.loop-place.from)
+          (record { character = x; events = c.type_from.new.events }) h (state_of c.in-To.next)
+          c.loop-place.invariant.typed c.loop-place-test.true c.index-characters-place.is
+          (subst (λ r. Leads m x (state_of c.loop-place.from) h (reverse c.type_from.new.events.items) r) c.in-To.is
+          c.in_ok-next.ensures.leads)
+          (ap (λ z. reverse z) c.new-events.ensures.items) c.in_ok-push_keyed.ensures;
+    }
+
+pub see-requires-clause-origin : goal.see-requires-clause-origin
+see-requires-clause-origin c =
+    stand-origin c.args.map.now (state_of c.loop-place.from) c.loop-place.invariant.typed.stand
+
+pub go_home-requires : goal.go_home-requires
+go_home-requires c = (c.view_of.ensures c.args.map.now c.in_ok-see.ensures.views).0
+
+pub returns-then-branch-clause-typed : goal.returns-then-branch-clause-typed
+returns-then-branch-clause-typed c =
+    let m = c.args.map.now in
+    let cs = c.args.characters.now in
+    let s = state_of c.loop-place.from in
+    let e = c.view_of.result.now in
+    let h = reverse c.new-last.result.items in
+    let now = reverse c.go_home.new.events.items in
+    let v = c.view_of.ensures m c.in_ok-see.ensures.views in
+    typed-all m cs c.loop-place.place (record { keyed = c.loop-place.keyed; last = c.go_home.new.events }) s h
+    c.loop-place.invariant.typed (take_all c.loop-place.place cs c.loop-place-test.false)
+    (subst (λ t. GoesHome (alone m) t h now) v.2
+    (subst (λ n. GoesHome (alone n) (origin_in e) h now) v.1 (c.in_ok-go_home.ensures.0 c.if-branch.true)))
+    (ap (λ z. reverse z) c.new-last.ensures.items)
+
+pub returns-clause-error : goal.returns-clause-error
+returns-clause-error c =
+    let m = c.args.map.now in
+    no-route m (state_of c.loop-place.from) c.view_of.result.now
+    (c.view_of.ensures m c.in_ok-see.ensures.views) c.loop-place.invariant.typed.stand
+    (c.in_ok-go_home.ensures.1 c.if-branch.false)

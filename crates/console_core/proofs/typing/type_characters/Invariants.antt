@@ -1,0 +1,15 @@
+-- the characters before the place were typed
+use Rattle.std.proofs.Common.{length, ◌-◌}
+use Rattle.console_core.specs.Inner.Exploring.{AreViews}
+use Rattle.console_core.specs.Inner.Searching.{state_of}
+use Rattle.console_core.proofs.Typings.{HaveBeenTyped}
+use Rattle.console_core.proofs.typing.type_characters.Given as goal
+
+abbrev pub invariant-loop-place : goal.invariant-loop-place
+invariant-loop-place l = record {
+  views : AreViews l.map l.views.entries;
+  typed : HaveBeenTyped l.map l.characters l.place l.keyed.items (state_of l.from);
+}
+
+abbrev pub decreases-loop-place : goal.decreases-loop-place
+decreases-loop-place l = length l.characters - l.place

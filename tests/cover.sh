@@ -114,6 +114,30 @@ printf '# looks# one-way' > want
 same_text 'a lock that stays on: the parts' want got
 holds 'a lock that stays on: cells' grep -qx '# cells: 256, left out 0, never 1792' script
 
+# A dead key that only a lock which stays on leads to, and a base that no key has behind it: each is looked up, and no
+# list of events composes them. Where a key has the base there too, they can be composed.
+{
+    echo '2 alock alock alock alock alock alock alock alock O'
+    echo "30 'a' 'a' 'a' 'a' 'a' 'a' 'a' 'a' O"
+    echo '130 nop nop nop nop nop nop nop nop O'
+    echo '158 nop nop nop nop nop nop nop nop O'
+    echo '168 dacu dacu dacu dacu dacu dacu dacu dacu O'
+    echo "dacu 180 ( 'a' 0xe1 )"
+} > apart
+covers 'a dead key behind a lock that stays on' apart
+begins 'a dead key behind a lock that stays on' << 'END'
+# cells: 256, left out 0, never 1792
+# lock settings: 256, left out 0, never 768
+# pairs: 0, left out 0, never 2
+# never: slots 0 to 255; columns 1 2 3 4 5 6 7; locks nlock clock clock+nlock
+# never: dacu with 32 97
+END
+sed "s/^158 .*/158 'a' 'a' 'a' 'a' 'a' 'a' 'a' 'a' O/" apart > together
+covers 'and its base there too' together
+holds 'and its base there too: pairs' grep -qx '# pairs: 0, left out 1, never 1' script
+holds 'and its base there too: the pair that is left out' grep -qx '# left out: dacu with 97' script
+holds 'and its base there too: the pair that is never seen' grep -qx '# never: dacu with 32' script
+
 # Faults.
 refuses 'no file' 'kmap: cannot open nothing' cover nothing
 refuses 'a folder' 'kmap: text: read fault at offset 0' cover .

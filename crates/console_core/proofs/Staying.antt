@@ -295,10 +295,10 @@ abbrev pub KeepsLetGo : (State → Type 0) → Type 0
 KeepsLetGo S = (s : State) (k : ℕ) (i : Modifier) → S s → Holds s k i → S (with_holder s i None)
 
 -- a press leads from the one set to the other
-record LeadsOn (u : Under) (S T : State → Type 0) : Type 0 where
-  stay : (s : State) → S s → T s
-  hold : (s : State) (k : ℕ) (i : Modifier) → S s → IsMove u s (Hold k i) → T (with_holder s i (Some k))
-  turn : (s : State) (k : ℕ) (l : Lock) → S s → IsMove u s (Turn k l) → T (with_lock_turned s l)
+pub record LeadsOn (u : Under) (S T : State → Type 0) : Type 0 where
+  pub stay : (s : State) → S s → T s
+  pub hold : (s : State) (k : ℕ) (i : Modifier) → S s → IsMove u s (Hold k i) → T (with_holder s i (Some k))
+  pub turn : (s : State) (k : ℕ) (l : Lock) → S s → IsMove u s (Turn k l) → T (with_lock_turned s l)
 
 -- a press of the key doesn't forget that it holds a modifier
 abbrev pub KeepsHeld : Under → State → ℕ → Type 0
@@ -362,7 +362,7 @@ looked_up r k b a e =
     (ap (λ x. same_action x (holding_action a)) e ∙ same_action-refl (holding_action a))).0
 
 -- a press leads from a set to the next
-stays-press : (u : Under) (S T : State → Type 0) → LeadsOn u S T → (r : List ResolvedEvent) (s : State) → S s
+pub stays-press : (u : Under) (S T : State → Type 0) → LeadsOn u S T → (r : List ResolvedEvent) (s : State) → S s
     → Follows r s → (k : ℕ) → k < 128 → KeepsHeld u s k → (x : Cell) → look_in u s k ≡ x
     → Stays T s.is_second (resolve_press k x ∷ r)
 stays-press u S T leads r s there f k lt keeps (Char c) seen =
@@ -379,7 +379,7 @@ stays-press u S T leads r s there f k lt keeps (Act b) seen =
     ]
 
 -- a release stays in a set that letting go keeps
-stays-release : (S : State → Type 0) → KeepsLetGo S → (r : List ResolvedEvent) (s : State) → S s → Follows r s
+pub stays-release : (S : State → Type 0) → KeepsLetGo S → (r : List ResolvedEvent) (s : State) → S s → Follows r s
     → (k : ℕ) (o : Option Action) → remembered k r ≡ o → Stays S s.is_second (ReleasedKey k ∷ r)
 stays-release S keeps r s there f k None e =
     (s, there, follows-release r s k f (λ i. ap (λ o. is_this_action o (act.Mod i)) e), refl)

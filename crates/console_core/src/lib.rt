@@ -12,8 +12,8 @@
 //! them runs over a keymap however it is kept (`keymap_core::Keymap`).
 //!
 //! `sticking` decides by a search whether a keymap can leave a modifier on while no key is pressed, `sticking_between`
-//! whether two that loads exchange can. `sights_of` finds by the same search what presses can look up, and
-//! `events_that_show` events that show it, in keymaps where no turn of a lock is one-way.
+//! whether two that loads exchange can. `sights_of` finds by the same search what presses can look up, and behind which
+//! accents, and `events_that_show` events that show it, in keymaps where no turn of a lock is one-way.
 //!
 //! No call takes memory but `replay`, `sticking`, `sticking_between`, `sights_of` and `events_that_show`, and no call
 //! fails but for want of memory there.
@@ -27,6 +27,7 @@ pub mod laws;
 mod left_on;
 mod machine;
 mod moving_keys;
+mod offers;
 mod outcome;
 mod plain_console;
 mod plain_store;
@@ -51,7 +52,7 @@ pub use replays::{deliver_all, replay};
 pub use search::{sticking, sticking_between};
 pub use selection::{Selection, Sight};
 pub use showing::events_that_show;
-pub use sights::{Sights, sights_of};
+pub use sights::{Offer, Sights, sights_of};
 pub use translator::{Translator, is_any_on};
 pub use typing::{Keyed, Typing, TypingError, type_characters};
 pub use word_console::WordConsole;

@@ -93,6 +93,30 @@ alock turns on by a key of the lower half that is a letter in the upper one: its
   $ grep '^# cells' script
   # cells: 256, left out 0, never 1792
 
+A dead key that only a lock which stays on leads to, and a base that no key has behind it: each is looked up, and no list
+of events composes them. Where a key has the base there too, they can be composed:
+  $ cat > apart << 'END'
+  > 2 alock alock alock alock alock alock alock alock O
+  > 30 'a' 'a' 'a' 'a' 'a' 'a' 'a' 'a' O
+  > 130 nop nop nop nop nop nop nop nop O
+  > 158 nop nop nop nop nop nop nop nop O
+  > 168 dacu dacu dacu dacu dacu dacu dacu dacu O
+  > dacu 180 ( 'a' 0xe1 )
+  > END
+  $ covers apart
+  $ sed '/^# looks$/,$d' script
+  # cells: 256, left out 0, never 1792
+  # lock settings: 256, left out 0, never 768
+  # pairs: 0, left out 0, never 2
+  # never: slots 0 to 255; columns 1 2 3 4 5 6 7; locks nlock clock clock+nlock
+  # never: dacu with 32 97
+  $ sed "s/^158 .*/158 'a' 'a' 'a' 'a' 'a' 'a' 'a' 'a' O/" apart > together
+  $ covers together
+  $ grep ' dacu \|^# pairs' script
+  # pairs: 0, left out 1, never 1
+  # left out: dacu with 97
+  # never: dacu with 32
+
 No file, a folder, a text that ends too early, and one that is too long:
   $ kmap cover nothing
   ! kmap: cannot open nothing

@@ -188,7 +188,7 @@ look-sees m s h h2 now k y a (inr (busy, e)) sees wait =
     (releases s (reverse modifiers), h2, k, e, arrived-sees m s h h2 k y a sees wait)
 
 -- states that are the same but for the scroll lock, and in that too
-same-scrolled : (s t : State) → unscrolled s ≡ unscrolled t → s.is_locked Scroll ≡ t.is_locked Scroll → s ≡ t
+pub same-scrolled : (s t : State) → unscrolled s ≡ unscrolled t → s.is_locked Scroll ≡ t.is_locked Scroll → s ≡ t
 same-scrolled s t e scroll =
     ap (λ x. record { holder = x; is_locked = s.is_locked; is_second = s.is_second }) (ap (λ x. x.holder) e)
     ∙ ap (λ x. record { holder = t.holder; is_locked = x; is_second = s.is_second }) (fun_ext (λ l. locks l))

@@ -1,11 +1,11 @@
 -- What an exploration met, and which taps can be made.
-use Rattle.std.proofs.Common.{◌≡◌, ◌<◌, ◌⊎◌, ℕ, Bool, true, false, List, [], ◌∷◌, ◌++◌, length, slice_get, Option, Some}
+use Rattle.std.proofs.Common.{◌≡◌, ◌⊎◌, ℕ, Bool, true, false, List, [], ◌∷◌, ◌++◌, length, slice_get, Some}
 use Rattle.std.proofs.Common.{None, refl, ap, subst, sym, ◌∙◌, inl, inr, reverse, append_assoc}
 use Rattle.std.proofs.Common.{eqb}
 use mathlib.Core.Bool.{beq}
 use Rattle.std.specs.Option.{is_some}
 use Rattle.std.specs.Map.{lookup}
-use Rattle.std.proofs.lemmas.Bool.{true≢false, cases_Bool, eqb-true, eq-eqb}
+use Rattle.std.proofs.lemmas.Bool.{cases_Bool, eqb-true, eq-eqb}
 use Rattle.console_core.specs.declared.held.Held.{Held}
 use Rattle.console_core.specs.Inner.HeldBytes.{held-equal, bool_equal}
 use Rattle.console_core.proofs.Reaching.{tables-test, beq-self}
@@ -14,24 +14,23 @@ use Rattle.console_core.proofs.Searching.{same-state}
 use Rattle.keymap_core.specs.declared.action.Lock.{Lock}
 use Rattle.keymap_core.specs.declared.action.Lock.TheVariants.{Caps, Num, Scroll, Alt}
 use Rattle.keymap_core.specs.Maps.{MapValue}
-use Rattle.console_core.specs.Types.{Modifier, Event, Press, Release, Move, Hold, Turn, LetGo, Exchange}
+use Rattle.console_core.specs.Types.{Event, Press, Release, Move}
 use Rattle.console_core.specs.declared.explored.Explored.{Explored}
 use Rattle.console_core.specs.declared.explored.Symbol.{Symbol}
 use Rattle.console_core.specs.declared.explored.Symbol.TheVariants as symbol
 use Rattle.console_core.specs.declared.explored.Tap.{Tap}
 use Rattle.console_core.specs.Answers.{usable}
-use Rattle.console_core.specs.Moves.{Under, alone, State, start, IsFree, IsMove, moved, IsPath, state_after, IsPathFrom}
+use Rattle.console_core.specs.Moves.{Under, alone, State, start, IsMove, moved, state_after, IsPathFrom}
 use Rattle.console_core.specs.Moves.{state_from, events_along}
 use Rattle.console_core.specs.Returning.{IsHome}
 use Rattle.console_core.specs.Typing.{ComesHome, IsTapOf, CanTap, CanType, composed_of}
-use Rattle.console_core.specs.Inner.Exploring.{map_of_explored, origin_in, IsOrigin, IsExplored, IsStand, IsTapAt, HasTap}
-use Rattle.console_core.specs.Inner.Exploring.{LetsGo, IsStroke, HasTyped, TypesOne, dead_tap, plain_tap}
+use Rattle.console_core.specs.Inner.Exploring.{map_of_explored, origin_in, IsOrigin, IsExplored, IsStand, HasTap}
+use Rattle.console_core.specs.Inner.Exploring.{LetsGo, IsStroke, HasTyped, TypesOne}
 use Rattle.console_core.specs.Inner.Routes.{LeadsHome, Routes, AllLeadHome, HasRoute, AreSettled, freed}
-use Rattle.console_core.specs.Inner.Searching.{state_of, Entry, Entries, IsTrail, IsReached, LeavesScroll, Searched}
+use Rattle.console_core.specs.Inner.Searching.{state_of, Entry, Entries, IsTrail, IsReached, Searched}
 use Rattle.console_core.specs.Inner.Standing.{unscrolled}
-use Rattle.console_core.proofs.Returning.{move-met, strays-on, StraysTo, is-astray, near-is_home}
+use Rattle.console_core.proofs.Returning.{near-met, strays-on, StraysTo, is-astray, near-is_home}
 use Rattle.console_core.proofs.Strokes.{added-by, adds, stroke-types, tap-direct, tap-dead, tap-composed}
-use Rattle.console_core.proofs.Unscrolled.{moves-unscrolled, same_moved, scroll-moved}
 use Rattle.console_core.proofs.Visits.{near-path, path-first, home-near}
 use mathlib.Core.Path.{fun_ext}
 
@@ -156,41 +155,6 @@ tap-near : (u : Under) (s t : State) (plain : Bool) (x : Symbol) (k : ℕ) → u
     → IsTapOf u t plain x k
 tap-near u s t plain x k e is = subst (λ z. IsTapOf u z plain x k) (sym e) is
 
--- a state near one that a path leads to was met
-near-met : {o : State} (m : MapValue) (es : Entries) → Searched (alone m) o es (length es) (length es)
-    → (path : List Move) → IsPathFrom (alone m) o path
-    → (j : ℕ) × (x : Entry) × (slice_get es j ≡ Some x)
-    × (unscrolled (state_of x.0) ≡ unscrolled (state_from (alone m) o path))
-near-met {o} m es s [] is = let (j, x, at, e, le) = s.start in (j, x, at, ap (λ z. unscrolled z) e)
-near-met {o} m es s (move ∷ path) is = by move is.0 (near-met m es s path is.1)
-  where
-    u : Under
-    u = alone m
-
-    here : State
-    here = state_from u o path
-
-    on : (move : Move) → LeavesScroll move → IsMove u here move
-        → ((j : ℕ) × (x : Entry) × (slice_get es j ≡ Some x) × (unscrolled (state_of x.0) ≡ unscrolled here))
-        → (j : ℕ) × (x : Entry) × (slice_get es j ≡ Some x)
-        × (unscrolled (state_of x.0) ≡ unscrolled (moved u here move))
-    on move leaves is (j, x, at, near) =
-        let (i, y, there, e) =
-        move-met u es s j x at move (moves-unscrolled u here (state_of x.0) move near is) leaves in
-        (i, y, there, ap (λ z. unscrolled z) e ∙ same_moved u here (state_of x.0) move near)
-
-    by : (move : Move) → IsMove u here move
-        → ((j : ℕ) × (x : Entry) × (slice_get es j ≡ Some x) × (unscrolled (state_of x.0) ≡ unscrolled here))
-        → (j : ℕ) × (x : Entry) × (slice_get es j ≡ Some x)
-        × (unscrolled (state_of x.0) ≡ unscrolled (moved u here move))
-    by (Hold k i) is q = on (Hold k i) tt is q
-    by (Turn k Caps) is q = on (Turn k Caps) (λ z. cc) is q
-    by (Turn k Num) is q = on (Turn k Num) (λ z. cc) is q
-    by (Turn k Scroll) is (j, x, at, near) = (j, x, at, near ∙ scroll-moved here)
-    by (Turn k Alt) is q = on (Turn k Alt) (λ z. cc) is q
-    by (LetGo k i) is q = on (LetGo k i) tt is q
-    by Exchange (free, loads) q = absurd (true≢false (sym loads))
-
 -- moves from a state without a route stay astray
 strays-from : {o : State} (m : MapValue) (es : Entries) (routes : Routes)
     → Searched (alone m) o es (length es) (length es) → AreSettled (alone m) es routes → (s : State) (path : List Move)
@@ -245,7 +209,7 @@ can-tap-met e x complete st t (path, is, (later, goes, home), (k, tap)) =
     let near : unscrolled base ≡ unscrolled start = home-near base at_home first in
     let q = near-path u start base path near is in
     let all = path-append u o back path returns q.0 in
-    let (j, y, at, met) = near-met m es searched (path ++ back) all.0 in
+    let (j, y, at, met) = near-met u es searched (path ++ back) all.0 in
     let s : State = state_of y.0 in
     let same : unscrolled s ≡ unscrolled (state_after u path) = met ∙ ap (λ z. unscrolled z) all.1 ∙ q.1 in
     let ends = near-path u (state_after u path) s later same goes in

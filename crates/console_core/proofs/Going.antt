@@ -1,5 +1,6 @@
 -- What a press sees where a path leads from the state of a console.
-use Rattle.std.proofs.Common.{◌≡◌, ℕ, List, [], ◌∷◌, ◌++◌, refl, ap, subst, sym, ◌∙◌, append_assoc}
+use Rattle.std.proofs.Common.{◌≡◌, ℕ, true, List, [], ◌∷◌, ◌++◌, Some, None, refl, ap, subst, sym, ◌∙◌}
+use Rattle.std.proofs.Common.{append_assoc, if◌then◌else◌}
 use Rattle.std.proofs.lemmas.Bool.{false≢true}
 use Rattle.keymap_core.specs.declared.action.Action.TheVariants as act
 use Rattle.keymap_core.specs.declared.entry.Cell.TheVariants.{Act}
@@ -10,10 +11,12 @@ use Rattle.console_core.specs.declared.held.Move.{Move}
 use Rattle.console_core.specs.declared.held.Move.TheVariants.{Hold, Turn, LetGo, Exchange}
 use Rattle.console_core.specs.declared.selection.Sight.{Sight}
 use Rattle.console_core.specs.declared.selection.Sight.TheVariants as sight
-use Rattle.console_core.specs.Resolved.{ResolvedEvent, pending, taken_over}
-use Rattle.console_core.specs.Inner.Kept.{next_pending}
+use Rattle.console_core.specs.Resolved.{ResolvedEvent, pending, remembered, taken_over}
+use Rattle.console_core.specs.Answers.{usable}
+use Rattle.console_core.specs.Inner.Kept.{next_pending, pending_after_dead_key}
 use Rattle.console_core.specs.History.{between, resolved, is_second_in_force, accent_pending_after}
-use Rattle.console_core.specs.Moves.{alone, State, IsMove, events_of_move, events_along, state_from, IsPathFrom}
+use Rattle.console_core.specs.Moves.{alone, State, IsIdle, look_in, IsMove, events_of_move, events_along, state_from}
+use Rattle.console_core.specs.Moves.{IsPathFrom}
 use Rattle.console_core.specs.Sights.{SeesBy, SeesNext, IsPendingFor, selection_of}
 use Rattle.console_core.proofs.OneMore.{resolved-more, pending-action, pending-release}
 use Rattle.console_core.specs.Inner.Standing.{Stands}
@@ -77,3 +80,19 @@ going-sees m h s path k x stands is sees pending = (
         pending-is m (events_along path ++ h) ∙ pending-along m h s path stands is ∙ sym (pending-is m h) ∙ e
     still (sight.Cell slot column) e = tt
     still (sight.Locks slot caps num) e = tt
+
+-- A tap of an idle key that looks up the dead key of a usable accent leaves it pending, where none was.
+pub tap-pending : (m : MapValue) (h : List Event) (s : State) (k accent : ℕ) → Stands (alone m) h s → IsIdle s k
+    → look_in (alone m) s k ≡ Act (act.DeadKey accent) → usable m accent ≡ true
+    → pending m (resolved (between m m) h) ≡ None
+    → accent_pending_after (between m m) (Release k ∷ Press k ∷ h) ≡ Some accent
+tap-pending m h s k accent x idle seen is none =
+    let r : List ResolvedEvent = resolved (between m m) h in
+    pending-is m (Release k ∷ Press k ∷ h)
+    ∙ ap (λ z. pending m z) (resolved-more (between m m) (Press k ∷ h) (Release k))
+    ∙ pending-release m k (resolved (between m m) (Press k ∷ h))
+    ∙ ap (λ z. pending m z) (pressed-look (alone m) h s k (Act (act.DeadKey accent)) x.exact.follows x.second seen)
+    ∙ pending-action m k (act.DeadKey accent) r
+    ∙ ap (λ p. next_pending m p (taken_over (remembered k r) (act.DeadKey accent))) none
+    ∙ ap (λ o. next_pending m None (taken_over o (act.DeadKey accent))) (idle-none r s k x.exact idle)
+    ∙ ap (λ b. pending_after_dead_key (if b then Some accent else None) None) is

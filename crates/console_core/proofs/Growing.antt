@@ -39,7 +39,7 @@ at_new (y ∷ es) more zero x le e = absurd (omega (arith, le))
 at_new (y ∷ es) more (suc j) x le e = at_new es more j x (omega (arith, le)) e
 
 -- the last entry stands behind the others
-at_last : (es : Entries) (x : Entry) → slice_get (es ++ x ∷ []) (length es) ≡ Some x
+pub at_last : (es : Entries) (x : Entry) → slice_get (es ++ x ∷ []) (length es) ≡ Some x
 at_last [] x = refl
 at_last (y ∷ es) x = at_last es x
 

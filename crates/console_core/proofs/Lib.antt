@@ -2,6 +2,7 @@ pub mod Agreeing
 pub mod Arriving
 pub mod Bases
 pub mod Bearing
+pub mod Behind
 pub mod Borne
 pub mod Bytes
 pub mod Choosing
@@ -20,6 +21,7 @@ pub mod Keeping
 pub mod Looking
 pub mod MovingKeys
 pub mod Noting
+pub mod Offering
 pub mod OneMap
 pub mod OneMore
 pub mod Places
@@ -36,6 +38,7 @@ pub mod Runs
 pub mod Scripts
 pub mod Searching
 pub mod Seeing
+pub mod Shown
 pub mod Since
 pub mod Staying
 pub mod Strokes

@@ -1,51 +1,40 @@
 -- A plan goes on: a reset, the way to a state that was met, and a look at a key there, with an accent pending or not.
-use Rattle.std.proofs.Common.{◌≡◌, ◌<◌, ◌+◌, ℕ, true, false, ◌&&◌, ◌||◌, not, List, [], ◌∷◌, length}
+use Rattle.std.proofs.Common.{◌≡◌, ◌<◌, ◌+◌, ℕ, false, List, [], ◌∷◌, length}
 use Rattle.std.proofs.Common.{slice_get, get_or, take, ◌≤◌, Some, None, refl, ap, subst, sym, ◌∙◌, inl, inr, arith}
-use Rattle.std.proofs.Common.{if◌then◌else◌}
-use Rattle.std.specs.Prelude.{◌==◌}
 use Rattle.std.specs.List.{Contains}
-use Rattle.std.proofs.lemmas.Bool.{eq-eqb, cases_Bool}
+use Rattle.std.proofs.lemmas.Bool.{false≢true}
 use Rattle.std.proofs.lemmas.List.{take_all}
 use Rattle.std.proofs.lemmas.List.Elements.{All-nil, All-cons}
-use Rattle.std.specs.Option.{option_or}
-use Rattle.std.proofs.lemmas.Option.{none-some}
 use Rattle.keymap_core.specs.Maps.{MapValue}
 use Rattle.keymap_core.specs.declared.action.Action.TheVariants as act
-use Rattle.keymap_core.specs.Actions.{same_action, holding_action}
-use Rattle.keymap_core.specs.declared.action.Lock.{Lock}
-use Rattle.keymap_core.specs.declared.action.Modifier.{Modifier}
-use Rattle.keymap_core.specs.declared.action.Holding.TheVariants as holding
 use Rattle.keymap_core.specs.declared.entry.Cell.TheVariants.{Act}
 use Rattle.console_core.specs.declared.event.Event.{Event}
 use Rattle.console_core.specs.declared.event.Event.TheVariants.{Press, Release, Reset}
 use Rattle.console_core.specs.declared.selection.Sight.{Sight}
 use Rattle.console_core.specs.declared.selection.Sight.TheVariants as sight
 use Rattle.console_core.specs.declared.showing.Guide.{Guide}
-use Rattle.console_core.specs.Answers.{usable}
-use Rattle.console_core.specs.History.{between, resolved, accent_pending_after}
+use Rattle.console_core.specs.History.{between, resolved}
 use Rattle.console_core.specs.History.{HasKey, IsNoLoad, HasNoLoads}
-use Rattle.console_core.specs.Inner.Kept.{next_pending, pending_after_dead_key}
-use Rattle.console_core.specs.Resolved.{ResolvedEvent, pending, remembered, taken_over, is_this_action, held, locked}
-use Rattle.console_core.specs.Resolved.ResolvedEvent.{PressedAction, ReleasedKey}
-use Rattle.console_core.specs.Moves.{alone, State, start, look_in, IsIdle}
-use Rattle.console_core.specs.Returning.{HasUsableAccent, SeesAllAlong}
-use Rattle.console_core.specs.Sights.{Note, IsReachable, SeesAlong, SeesBy, selection_of}
+use Rattle.console_core.specs.Resolved.{pending, locked}
+use Rattle.console_core.specs.Moves.{alone, State, start, look_in, IsIdle, IsPath}
+use Rattle.console_core.specs.Returning.{SeesAllAlong}
+use Rattle.console_core.specs.Sights.{Offers, IsReachable, SeesAlong, SeesBy, selection_of}
 use Rattle.console_core.specs.Sticking.{ReleasesPressedKeys}
-use Rattle.console_core.specs.Inner.Noting.{Offers}
+use Rattle.console_core.specs.declared.explored.Symbol.TheVariants as symbol
 use Rattle.console_core.specs.Inner.Routes.{GoesOn, IsMet, IsPlan}
 use Rattle.console_core.specs.Inner.Searching.{state_of, under_of, Entry}
 use Rattle.console_core.specs.Inner.Showing.{map_of_guide, entries_of, IsGuide, Visits, GoesOnAsPlanned, ShowsAt}
 use Rattle.console_core.specs.Inner.Showing.{ShowsPairAt, Shows}
-use Rattle.console_core.specs.Inner.Standing.{free_after, Exact, Stands, but_scroll, unscrolled}
+use Rattle.console_core.specs.Inner.Standing.{free_after, Stands, but_scroll, unscrolled}
 use Rattle.console_core.proofs.Arriving.{Arrives}
-use Rattle.console_core.proofs.Going.{pending-is}
-use Rattle.console_core.proofs.Noting.{noted-met}
-use Rattle.console_core.proofs.OneMore.{resolved-start, resolved-more, held-action, held-release, locked-start}
-use Rattle.console_core.proofs.OneMore.{remembered-action, remembered-release, pending-action, pending-release}
+use Rattle.console_core.proofs.Behind.{path-split}
+use Rattle.console_core.proofs.Going.{tap-pending}
+use Rattle.console_core.proofs.Returning.{near-met}
+use Rattle.console_core.proofs.OneMore.{resolved-start, resolved-more, locked-start}
 use Rattle.console_core.proofs.OneMore.{pending-reset}
 use Rattle.console_core.proofs.RoutesHome.{before-next}
-use Rattle.console_core.proofs.Scripts.{stands-reset, idle-none, other-remembered, pressed-look, tapped-pressed}
-use Rattle.console_core.proofs.Staying.{follows-nothing, follows-release, not_holding}
+use Rattle.console_core.proofs.Scripts.{stands-reset}
+use Rattle.console_core.proofs.Strokes.{stands-tap}
 use Rattle.console_core.proofs.Visits.{goes-goes, sees-longer, tap-goes}
 use mathlib.Core.Path.{fun_ext}
 
@@ -98,80 +87,6 @@ shows-at g s place k h now after v = (
       v.sees (free_after (map_of_guide g) h) x y (plan-stands g s h plan) plan.free at sees wait),
 )
 
--- a press and release of an idle key that looks up a dead key
-exact-tap : (r : List ResolvedEvent) (s : State) (k accent : ℕ) → Exact r s → IsIdle s k
-    → Exact (ReleasedKey k ∷ (PressedAction k (act.DeadKey accent) ∷ r)) s
-exact-tap r s k accent x idle = record {
-  follows =
-      follows-release pressed_now s k
-      (follows-nothing r s k (act.DeadKey accent) x.follows
-      (λ h. ap (λ a. same_action a (holding_action h)) takes ∙ not_holding (act.DeadKey accent) h refl refl))
-      (λ i. no_modifier i);
-  only = λ n a q. elim (cases_Bool (k == n)) [
-    | inl t ↦
-        absurd (none-some a
-        (sym (remembered-release n k pressed_now ∙ ap (λ b. if b then None else remembered n pressed_now) t) ∙ q))
-    | inr t ↦
-        x.only n a
-        (sym (remembered-release n k pressed_now ∙ ap (λ b. if b then None else remembered n pressed_now) t
-        ∙ other-remembered r k n (act.DeadKey accent) t)
-        ∙ q)
-  ];
-  up = λ j. held-release (holding.Lock j) k pressed_now
-      ∙ ap (λ b. b && not (is_this_action (remembered k pressed_now) (act.Lock j))) (up j);
-}
-  where
-    pressed_now : List ResolvedEvent
-    pressed_now = PressedAction k (act.DeadKey accent) ∷ r
-
-    takes : taken_over (remembered k r) (act.DeadKey accent) ≡ act.DeadKey accent
-    takes = ap (λ o. taken_over o (act.DeadKey accent)) (idle-none r s k x idle)
-
-    now : remembered k pressed_now ≡ Some (act.DeadKey accent)
-    now =
-        remembered-action k k (act.DeadKey accent) r
-        ∙ ap (λ o. option_or o (if k == k then Some (act.DeadKey accent) else None)) (idle-none r s k x idle)
-        ∙ ap (λ b. if b then Some (act.DeadKey accent) else None) (eq-eqb k k refl)
-
-    no_modifier : (i : Modifier) → is_this_action (remembered k pressed_now) (act.Mod i) ≡ false
-    no_modifier i = ap (λ o. is_this_action o (act.Mod i)) now
-
-    up : (j : Lock) → held (holding.Lock j) pressed_now ≡ false
-    up j =
-        held-action (holding.Lock j) k (act.DeadKey accent) r
-        ∙ ap (λ a. same_action a (act.Lock j) || held (holding.Lock j) r) takes ∙ x.up j
-
--- A console stands in the same state after it, with the accent pending.
-stands-tap : (m : MapValue) (h : List Event) (s : State) (k accent : ℕ) → k < 128 → Stands (alone m) h s → IsIdle s k
-    → look_in (alone m) s k ≡ Act (act.DeadKey accent) → Stands (alone m) (Release k ∷ Press k ∷ h) s
-stands-tap m h s k accent lt x idle seen = record {
-  exact =
-      rw (
-        resolved-more (between m m) (Press k ∷ h) (Release k),
-        pressed-look (alone m) h s k (Act (act.DeadKey accent)) x.exact.follows x.second seen,
-      )
-      (exact-tap (resolved (between m m) h) s k accent x.exact idle);
-  second = x.second;
-  key = x.key;
-  pressed = λ n p. x.pressed n (tapped-pressed h k n p);
-  keys = All-cons HasKey (Release k) (Press k ∷ h) lt (All-cons HasKey (Press k) h lt x.keys);
-}
-
-tap-pending : (m : MapValue) (h : List Event) (s : State) (k accent : ℕ) → Stands (alone m) h s → IsIdle s k
-    → look_in (alone m) s k ≡ Act (act.DeadKey accent) → usable m accent ≡ true
-    → pending m (resolved (between m m) h) ≡ None
-    → accent_pending_after (between m m) (Release k ∷ Press k ∷ h) ≡ Some accent
-tap-pending m h s k accent x idle seen is none =
-    let r : List ResolvedEvent = resolved (between m m) h in
-    pending-is m (Release k ∷ Press k ∷ h)
-    ∙ ap (λ z. pending m z) (resolved-more (between m m) (Press k ∷ h) (Release k))
-    ∙ pending-release m k (resolved (between m m) (Press k ∷ h))
-    ∙ ap (λ z. pending m z) (pressed-look (alone m) h s k (Act (act.DeadKey accent)) x.exact.follows x.second seen)
-    ∙ pending-action m k (act.DeadKey accent) r
-    ∙ ap (λ p. next_pending m p (taken_over (remembered k r) (act.DeadKey accent))) none
-    ∙ ap (λ o. next_pending m None (taken_over o (act.DeadKey accent))) (idle-none r s k x.exact idle)
-    ∙ ap (λ b. pending_after_dead_key (if b then Some accent else None) None) is
-
 -- a visit behind it shows a pair
 pub shows-pair : (g : Guide) → IsGuide g → (s first : State) (accent d place k : ℕ) (h h2 now : List Event)
     (after : State) → d < 128 → Offers (under_of g.maps) first d accent
@@ -187,7 +102,7 @@ shows-pair g guide s first accent d place k h h2 now after lt offers comes v = (
         goes-goes m (Reset ∷ h) h2 now a.goes (goes-goes m h2 (Release d ∷ Press d ∷ h2) now (tap-goes m h2 d lt) q.0),
         q.1,
       )),
-  (λ x c plan at is noted sees.
+  (λ x c plan at (path, made, (is, found)) sees.
       let a = arrived plan in
       v.sees a.at x (sight.Pair accent c) (tapped a) a.near at sees
       (tap-pending m h2 a.at d accent a.stands (idle a) (seen a) is (a.still ∙ none))),
@@ -208,7 +123,9 @@ shows-pair g guide s first accent d place k h h2 now after lt offers comes v = (
         ∙ subst (λ u. look_in u first d ≡ Act (act.DeadKey accent)) guide.0 offers.1
 
     tapped : (a : Arrives m first (Reset ∷ h) h2) → Stands (alone m) (Release d ∷ Press d ∷ h2) a.at
-    tapped a = stands-tap m h2 a.at d accent lt a.stands (idle a) (seen a)
+    tapped a =
+        stands-tap (alone m) h2 a.at false (symbol.DeadKey accent) d a.stands
+        (lt, idle a, seen a, (λ e. absurd (false≢true e)))
 
     none : pending m (resolved (between m m) (Reset ∷ h)) ≡ None
     none = ap (λ z. pending m z) (resolved-more (between m m) h Reset) ∙ pending-reset m (resolved (between m m) h)
@@ -221,11 +138,11 @@ pub shows-no_pair : (g : Guide) → IsGuide g → (s : State) (accent place k : 
     → ShowsPairAt g s accent place k h h s
 shows-no_pair g guide s accent place k h met none = (
   record { met = met; plan = λ plan. plan; kept = λ x plan along. along },
-  (λ x c plan at is noted sees.
-      let (j, y, here, is_noted) =
-      noted-met (alone (map_of_guide g)) (entries_of g) guide.1.searched (Note.Offered accent) noted in
-      let (n, lt, idle, seen) = is_noted in
-      absurd (none j y n here lt (subst (λ u. Offers u (state_of y.0) n accent) (sym guide.0) (idle, seen)))),
+  (λ x c plan at (path, made, (is, (n, lt, offers))) sees.
+      let (j, y, here, near) = near-met (alone (map_of_guide g)) (entries_of g) guide.1.searched path made in
+      absurd (none j y n here lt
+      (subst (λ u. Offers u (state_of y.0) n accent) (sym guide.0)
+      (subst (λ t. Offers (alone (map_of_guide g)) t n accent) (sym near) offers)))),
 )
 
 -- what is shown where the key sees it
@@ -233,8 +150,17 @@ pub pair-shows : (g : Guide) (s : State) (accent c place k : ℕ) (h now : List 
     → ShowsPairAt g s accent place k h now after → (x : Entry) → slice_get (entries_of g) place ≡ Some x
     → SeesBy (map_of_guide g) (selection_of (state_of x.0)) k (sight.Pair accent c)
     → Shows g s (sight.Pair accent c) h now after
-pair-shows g s accent c place k h now after shows x at sees =
-    (shows.0, (λ plan is reach. shows.1 x c plan at is reach.0 sees))
+pair-shows g s accent c place k h now after shows x at sees = (
+  shows.0,
+  (λ plan (path, made, (later, before, is, offered), seen).
+      shows.1 x c plan at (
+        before,
+        (path-split (alone (map_of_guide g)) start later before
+            (subst (λ p. IsPath (alone (map_of_guide g)) p) is made)).0,
+        offered,
+      )
+      sees),
+)
 
 pub look-shows : (g : Guide) (s : State) (y : Sight) (place k : ℕ) (h now : List Event) (after : State)
     → ((accent c : ℕ) → y ≡ sight.Pair accent c → ⊥) → ShowsAt g s place k h now after
@@ -243,16 +169,15 @@ pub look-shows : (g : Guide) (s : State) (y : Sight) (place k : ℕ) (h now : Li
     → Shows g s y h now after
 look-shows g s (sight.Pair accent c) place k h now after other shows x at sees = absurd (other accent c refl)
 look-shows g s (sight.Cell slot column) place k h now after other shows x at sees =
-    (shows.0, (λ plan is reach. shows.1 x (sight.Cell slot column) plan at sees tt))
+    (shows.0, (λ plan reach. shows.1 x (sight.Cell slot column) plan at sees tt))
 look-shows g s (sight.Locks slot caps num) place k h now after other shows x at sees =
-    (shows.0, (λ plan is reach. shows.1 x (sight.Locks slot caps num) plan at sees tt))
+    (shows.0, (λ plan reach. shows.1 x (sight.Locks slot caps num) plan at sees tt))
 
 -- The plan stands, and what can be seen of the first so many sights is seen along it.
 pub record ShownTo (g : Guide) (xs : List Sight) (n : ℕ) (h : List Event) (s : State) : Type 0 where
   pub met : IsMet (entries_of g) s
   pub plan : IsPlan (map_of_guide g) (entries_of g) h s
-  pub seen : (x : Sight) → Contains (take n xs) x → HasUsableAccent (map_of_guide g) x
-      → IsReachable (map_of_guide g) x → SeesAlong (map_of_guide g) h x
+  pub seen : (x : Sight) → Contains (take n xs) x → IsReachable (map_of_guide g) x → SeesAlong (map_of_guide g) h x
 
 -- before the first
 pub shown-new : (g : Guide) → IsGuide g → (xs : List Sight) (h : List Event) (s : State) → h ≡ [] → s ≡ start
@@ -284,12 +209,11 @@ pub shown-more : (g : Guide) (xs : List Sight) (n : ℕ) (x : Sight) (h now : Li
 shown-more g xs n x h now s after p at lt shows = record {
   met = shows.0.met;
   plan = shows.0.plan p.plan;
-  seen = λ y has is reach. elim (before-next xs n x y at lt has) [
-    | inl before ↦ shows.0.kept y p.plan (p.seen y before is reach)
+  seen = λ y has reach. elim (before-next xs n x y at lt has) [
+    | inl before ↦ shows.0.kept y p.plan (p.seen y before reach)
     | inr e ↦
         subst (λ z. SeesAlong (map_of_guide g) now z) e
-        (shows.1 p.plan (subst (λ z. HasUsableAccent (map_of_guide g) z) (sym e) is)
-        (subst (λ z. IsReachable (map_of_guide g) z) (sym e) reach))
+        (shows.1 p.plan (subst (λ z. IsReachable (map_of_guide g) z) (sym e) reach))
   ];
 }
 
@@ -302,17 +226,17 @@ pub shown-none : (g : Guide) → IsGuide g → (xs : List Sight) (n : ℕ) (x : 
 shown-none g guide xs n x h s p at lt none = record {
   met = p.met;
   plan = p.plan;
-  seen = λ y has is reach. elim (before-next xs n x y at lt has) [
-    | inl before ↦ p.seen y before is reach
+  seen = λ y has reach. elim (before-next xs n x y at lt has) [
+    | inl before ↦ p.seen y before reach
     | inr e ↦ absurd (never (subst (λ z. IsReachable (map_of_guide g) z) (sym e) reach))
   ];
 }
   where
     never : IsReachable (map_of_guide g) x → ⊥
-    never (offered, (selection, k, noted, key, sees)) =
-        let (j, y, here, is) =
-        noted-met (alone (map_of_guide g)) (entries_of g) guide.1.searched (Note.Selected selection) noted in
-        none j y k here key (subst (λ z. SeesBy (map_of_guide g) z k x) (sym is) sees)
+    never (path, made, pends, (k, key, sees)) =
+        let (j, y, here, near) = near-met (alone (map_of_guide g)) (entries_of g) guide.1.searched path made in
+        none j y k here key
+        (subst (λ z. SeesBy (map_of_guide g) z k x) (sym (ap (λ t. selection_of t) near)) sees)
 
 -- all
 pub shown-all : (g : Guide) (xs : List Sight) (n : ℕ) (h : List Event) (s : State) → ShownTo g xs n h s
@@ -320,5 +244,5 @@ pub shown-all : (g : Guide) (xs : List Sight) (n : ℕ) (h : List Event) (s : St
 shown-all g xs n h s p up = (
   p.plan.loads,
   p.plan.releases,
-  (λ x has is reach. p.seen x (subst (λ z. Contains z x) (sym (take_all n xs up)) has) is reach),
+  (λ x has reach. p.seen x (subst (λ z. Contains z x) (sym (take_all n xs up)) has) reach),
 )

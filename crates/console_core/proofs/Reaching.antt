@@ -87,7 +87,7 @@ rec-at P (e ∷ es) all zero y at = subst (λ z. P z.0) (same_Some e y at) all.0
 rec-at P (e ∷ es) all (suc k) y at = rec-at P es all.1 k y at
 
 -- entries at two places of distinct ones are distinct
-distinct-at : (E : Held → Held → Bool) (es : Entries) → IsDistinct E (keys_of es) → (j k : ℕ) (x y : Entry) → j < k
+pub distinct-at : (E : Held → Held → Bool) (es : Entries) → IsDistinct E (keys_of es) → (j k : ℕ) (x y : Entry) → j < k
     → slice_get es j ≡ Some x → slice_get es k ≡ Some y → E x.0 y.0 ≡ false
 distinct-at E [] d j k x y lt at_j at_k = absurd (none-some x at_j)
 distinct-at E (e ∷ es) d zero zero x y lt at_j at_k = absurd (omega (arith, lt))

@@ -1,5 +1,5 @@
 -- Where a state that was met has no route home, some turn of a lock is one-way.
-use Rattle.std.proofs.Common.{◌≡◌, ◌≢◌, ◌⊎◌, ℕ, false, List, [], ◌∷◌, ◌++◌, length, slice_get, Some, refl, ap}
+use Rattle.std.proofs.Common.{◌≡◌, ◌≢◌, ℕ, false, List, [], ◌∷◌, ◌++◌, length, slice_get, Some, refl, ap}
 use Rattle.std.proofs.Common.{subst, sym, ◌∙◌, inl, inr}
 use Rattle.std.proofs.lemmas.Bool.{false≢true}
 use Rattle.std.proofs.lemmas.Option.{slice_get_within}
@@ -8,7 +8,8 @@ use Rattle.keymap_core.specs.declared.action.Lock.{Lock}
 use Rattle.keymap_core.specs.declared.action.Lock.TheVariants.{Caps, Num, Scroll, Alt}
 use Rattle.console_core.specs.declared.held.Move.{Move}
 use Rattle.console_core.specs.declared.held.Move.TheVariants.{Hold, Turn, LetGo, Exchange}
-use Rattle.console_core.specs.Moves.{Under, start, alone, State, IsMove, moved, IsPath, state_after}
+use Rattle.console_core.specs.Moves.{Under, start, alone, State, IsMove, moved, IsPath, state_after, IsPathFrom}
+use Rattle.console_core.specs.Moves.{state_from}
 use Rattle.console_core.specs.Returning.{IsHome, NoTurnIsOneWay}
 use Rattle.console_core.specs.Inner.Routes.{Routes, HasRoute, IsAstray, IsMet, AreSettled}
 use Rattle.console_core.specs.Inner.Searching.{state_of, Entry, Entries, IsMetBy, IsReached, LeavesScroll, Searched}
@@ -39,6 +40,47 @@ move-met u es s j x at (Turn k l) (lt, idle, seen) leaves =
 move-met u es s j x at (LetGo k i) holds leaves =
     met-met es _ _ ((s.closed j x at (slice_get_within es j x at)).0 i k holds)
 move-met u es s j x at Exchange is leaves = met-met es _ _ ((s.closed j x at (slice_get_within es j x at)).1 is)
+
+-- where moves lead from these states is among them
+abbrev pub AreClosed : Under → Entries → Type 0
+AreClosed u es =
+    (j : ℕ) (x : Entry) → slice_get es j ≡ Some x → (move : Move) → IsMove u (state_of x.0) move → LeavesScroll move
+    → IsMet es (moved u (state_of x.0) move)
+
+-- a state near this one is among them
+abbrev pub IsNear : Entries → State → Type 0
+IsNear es s = (j : ℕ) × (x : Entry) × (slice_get es j ≡ Some x) × (unscrolled (state_of x.0) ≡ unscrolled s)
+
+-- so one is near where a path leads from a state near one of them
+pub near-along : (u : Under) (es : Entries) → AreClosed u es → (s : State) (path : List Move) → IsNear es s
+    → IsPathFrom u s path → IsNear es (state_from u s path)
+near-along u es closed s [] near is = near
+near-along u es closed s (move ∷ path) near is = by move is.0 (near-along u es closed s path near is.1)
+  where
+    here : State
+    here = state_from u s path
+
+    on : (move : Move) → LeavesScroll move → IsMove u here move → IsNear es here → IsNear es (moved u here move)
+    on move leaves is (j, x, at, near) =
+        let (i, y, there, e) = closed j x at move (moves-unscrolled u here (state_of x.0) move near is) leaves in
+        (i, y, there, ap (λ z. unscrolled z) e ∙ same_moved u here (state_of x.0) move near)
+
+    by : (move : Move) → IsMove u here move → IsNear es here → IsNear es (moved u here move)
+    by (Hold k i) is q = on (Hold k i) tt is q
+    by (Turn k Caps) is q = on (Turn k Caps) (λ z. cc) is q
+    by (Turn k Num) is q = on (Turn k Num) (λ z. cc) is q
+    by (Turn k Scroll) is (j, x, at, near) = (j, x, at, near ∙ scroll-moved here)
+    by (Turn k Alt) is q = on (Turn k Alt) (λ z. cc) is q
+    by (LetGo k i) is q = on (LetGo k i) tt is q
+    by Exchange is q = on Exchange tt is q
+
+-- a finished search met one near each that a path leads to
+pub near-met : {o : State} (u : Under) (es : Entries) → Searched u o es (length es) (length es) → (path : List Move)
+    → IsPathFrom u o path → IsNear es (state_from u o path)
+near-met {o} u es s path is =
+    let (j, x, at, e, le) = s.start in
+    near-along u es (λ i y there move made leaves. move-met u es s i y there move made leaves) o path
+    (j, x, at, ap (λ z. unscrolled z) e) is
 
 -- a met state without a route, near the state where a path has led
 abbrev pub StraysTo : Entries → Routes → State → Type 0

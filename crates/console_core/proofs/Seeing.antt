@@ -1,12 +1,16 @@
--- What a press after a list sees can be seen in a state that a path leads to.
+-- What a press after a list sees can be seen in a state that a path leads to, and an accent is pending only behind where
+-- it is offered.
 use Prim.Native.Nat.{suc}
 use Rattle.std.proofs.Common.{◌≡◌, ℕ, ◌<◌, Bool, true, false, List, [], ◌∷◌, Option, Some, None, refl, ap, subst, sym}
 use Rattle.std.proofs.Common.{◌∙◌, ◌⊎◌, inl, inr, arith, if◌then◌else◌}
 use Rattle.std.proofs.lemmas.Bool.{true≢false}
 use Rattle.std.proofs.lemmas.List.Elements.{All-head, All-tail}
 use Rattle.console_core.specs.Types.{Action, Modifier, Lock, Cell, Char, Act, Event, Press, Release, Reset, Load}
+use Rattle.console_core.specs.Types.{Sight, Move, Hold, Turn, LetGo}
+use Rattle.console_core.specs.Resolved.ResolvedEvent.{PressedAction, ReleasedKey}
+use Rattle.std.proofs.lemmas.Option.{same_Some}
 use Rattle.keymap_core.specs.declared.action.Action.TheVariants as act
-use Rattle.keymap_core.specs.Actions.{same_action}
+use Rattle.keymap_core.specs.Actions.{same_action, holding_action}
 use Rattle.keymap_core.specs.Maps.{MapValue}
 use Rattle.keymap_core.proofs.SameActions.{same_action-true}
 use Rattle.console_core.specs.declared.selection.Sight.TheVariants as sight
@@ -14,15 +18,18 @@ use Rattle.console_core.specs.Answers.{usable, is_pending}
 use Rattle.console_core.specs.Resolved.{ResolvedEvent, on, locked, look, remembered, taken_over, pending, keeps_taken}
 use Rattle.console_core.specs.Resolved.{usable_dead_key, resolve_press}
 use Rattle.console_core.specs.Inner.Kept.{next_pending, pending_after_dead_key}
-use Rattle.console_core.specs.History.{between, in_force, resolved, is_second_in_force, HasKey, IsNoLoad}
-use Rattle.console_core.specs.Moves.{alone, State, is_held, IsIdle, look_in}
+use Rattle.console_core.specs.History.{between, resolved, is_second_in_force, HasKey, IsNoLoad}
+use Rattle.console_core.specs.Moves.{Under, alone, State, is_held, IsIdle, look_in, state_after}
 use Rattle.console_core.specs.Sticking.{NeverForgets, presses}
 use Rattle.console_core.specs.Sights.{selection_with, selection_of, selection_after, look_selected, IsClean, IsAdmitted}
-use Rattle.console_core.specs.Sights.{Note, IsNoteOf, IsNoted, LooksAreSelected, SightsAreReachable}
+use Rattle.console_core.specs.Sights.{SeesBy, IsOfferedIn, LooksAreSelected, SightsAreReachable}
 use Rattle.console_core.proofs.OneMore.{resolved-start, resolved-more, pending-start, pending-character, pending-action}
 use Rattle.console_core.proofs.OneMore.{pending-release, pending-reset}
 use Rattle.console_core.specs.Inner.Standing.{Follows}
-use Rattle.console_core.proofs.Staying.{follows-look, stays, all-spared, clean-spared}
+use Rattle.console_core.specs.Inner.Noting.{IsBehind}
+use Rattle.console_core.proofs.Behind.{behind-offered, behind-more}
+use Rattle.console_core.proofs.Staying.{follows-look, follows-nothing, not_holding, stays, all-spared, clean-spared}
+use Rattle.console_core.proofs.Staying.{LeadsOn, stays-press, stays-release}
 use Rattle.console_core.proofs.Scripts.{Reached, reached-kept, reached-safe}
 use mathlib.Core.Path.{fun_ext}
 
@@ -74,10 +81,13 @@ follows-selection r s f =
     let g : (λ (l : Lock). locked l r) ≡ (λ l. s.is_locked l) = fun_ext (λ l. f.locked l) in
     ap (λ x. selection_with x (λ l. locked l r)) e ∙ ap (λ y. selection_with (λ i. is_held s i) y) g
 
--- so it is noted of a state that a path leads to
-selection-noted : (m : MapValue) (h : List Event) → Stands m h → IsNoted (alone m) (Note.Selected (selection_after m h))
-selection-noted m h (s, (path, is, leads), f) =
-    (path, is, ap (λ t. selection_of t) leads ∙ sym (follows-selection (resolved (between m m) h) s f))
+-- so a press sees there what it sees after the list
+stands-sees : (m : MapValue) (h : List Event) (s : State) (path : List Move) (k : ℕ) (x : Sight)
+    → state_after (alone m) path ≡ s → Follows (resolved (between m m) h) s → SeesBy m (selection_after m h) k x
+    → SeesBy m (selection_of (state_after (alone m) path)) k x
+stands-sees m h s path k x leads f sees =
+    subst (λ y. SeesBy m y k x)
+    (follows-selection (resolved (between m m) h) s f ∙ ap (λ t. selection_of t) (sym leads)) sees
 
 -- a dead key that is taken was looked up, and nothing else is remembered
 taken-same : (held b : Action) (t : Bool) (i : ℕ) → same_action held b ≡ t → (if t then b else act.Nop) ≡ act.DeadKey i
@@ -99,8 +109,8 @@ taken-dead (Some held) b i e =
     (p.0, (λ j f. some_mod_dead held i j p.1 f))
 
 -- what becomes pending was pending, or its dead key is taken
-abbrev Takes : Option ℕ → Action → ℕ → Type 0
-Takes p a i = (p ≡ Some i) ⊎ (a ≡ act.DeadKey i)
+abbrev Takes : MapValue → Option ℕ → Action → ℕ → Type 0
+Takes m p a i = (p ≡ Some i) ⊎ ((a ≡ act.DeadKey i) × (usable m i ≡ true))
 
 pub pends : (d : Option ℕ) (p : Option ℕ) (i : ℕ) → pending_after_dead_key d p ≡ Some i → d ≡ Some i
 pends None p i e = let g : None ≡ Some i = e in cc
@@ -110,88 +120,136 @@ pends (Some j) p i e = toggles (is_pending j p) e
     toggles true f = let g : None ≡ Some i = f in cc
     toggles false f = f
 
-usable-dead : (m : MapValue) (a : Action) (i : ℕ) → usable_dead_key m a ≡ Some i → a ≡ act.DeadKey i
-usable-dead m (act.DeadKey j) i e = same (usable m j) e
+usable-dead : (m : MapValue) (a : Action) (i : ℕ) → usable_dead_key m a ≡ Some i
+    → (a ≡ act.DeadKey i) × (usable m i ≡ true)
+usable-dead m (act.DeadKey j) i e = same (usable m j) refl e
   where
-    same : (t : Bool) → (if t then Some j else None) ≡ Some i → act.DeadKey j ≡ act.DeadKey i
-    same true f = let g : Some j ≡ Some i = f in cc
-    same false f = let g : None ≡ Some i = f in cc
+    same : (t : Bool) → usable m j ≡ t → (if t then Some j else None) ≡ Some i
+        → (act.DeadKey j ≡ act.DeadKey i) × (usable m i ≡ true)
+    same true is f =
+        let g : j ≡ i = same_Some j i f in (ap (λ n. act.DeadKey n) g, subst (λ n. usable m n ≡ true) g is)
+    same false is f = let g : None ≡ Some i = f in cc
 usable-dead m a i e = let g : None ≡ Some i = e in cc
 
-takes-pending : (m : MapValue) (p : Option ℕ) (a : Action) (i : ℕ) → next_pending m p a ≡ Some i → Takes p a i
+takes-pending : (m : MapValue) (p : Option ℕ) (a : Action) (i : ℕ) → next_pending m p a ≡ Some i → Takes m p a i
 takes-pending m p a i e = by (keeps_taken a) e
   where
-    by : (t : Bool) → (if t then p else pending_after_dead_key (usable_dead_key m a) p) ≡ Some i → Takes p a i
+    by : (t : Bool) → (if t then p else pending_after_dead_key (usable_dead_key m a) p) ≡ Some i → Takes m p a i
     by true f = inl f
     by false f = inr (usable-dead m a i (pends (usable_dead_key m a) p i f))
 
--- where a dead key is taken by a press, the key holds nothing and looks it up
-offered-here : (m : MapValue) (h : List Event) (k i : ℕ) (b : Action) → Stands m h → k < 128
+-- ---- where an accent is pending
+
+-- the console stands in a state behind where the accent is offered
+abbrev StandsBehind : MapValue → ℕ → List ResolvedEvent → Type 0
+StandsBehind m i r = (s : State) × IsBehind (alone m) i s × Follows r s
+
+-- a press that takes the dead key of a usable accent leads there: the key holds nothing, and looks it up
+behind-here : (m : MapValue) (h : List Event) (k i : ℕ) (b : Action) → Stands m h → k < 128
     → look m (resolved (between m m) h) k ≡ Act b → taken_over (remembered k (resolved (between m m) h)) b
     ≡ act.DeadKey i
-    → IsNoted (alone m) (Note.Offered i)
-offered-here m h k i b (s, (path, made, leads), f) lt seen taken =
+    → usable m i ≡ true → StandsBehind m i (PressedAction k b ∷ resolved (between m m) h)
+behind-here m h k i b (s, (path, made, leads), f) lt seen taken can =
     let r : List ResolvedEvent = resolved (between m m) h in
     let p : (b ≡ act.DeadKey i) × IsFreeFor (remembered k r) i = taken-dead (remembered k r) b i taken in
     let idle : IsIdle s k = λ j holds. p.1 j (f.holds j k holds) in
     let looked : look_in (alone m) s k ≡ Act (act.DeadKey i) =
     sym (follows-look (alone m) r s k f)
     ∙ subst (λ n. look n r k ≡ Act (act.DeadKey i)) (sym (one_map m s.is_second)) (seen ∙ ap (λ x. Act x) p.0) in (
-      path,
-      made,
-      subst (λ t. IsNoteOf (alone m) t (Note.Offered i)) (sym leads) (k, lt, idle, looked),
+      s,
+      behind-offered (alone m) path i made
+          (subst (λ t. IsOfferedIn (alone m) t i) (sym leads) (can, (k, lt, (idle, looked)))) leads,
+      follows-nothing r s k b f
+          (λ held. ap (λ a. same_action a (holding_action held)) taken ∙ not_holding (act.DeadKey i) held refl refl),
     )
 
--- an accent is pending only where its dead key was offered
-offered : (m : MapValue) (forgets : Bool) (h : List Event) (i : ℕ) → (forgets ≡ false → NeverForgets (alone m))
+-- moves keep a console behind it
+behind-leads : (u : Under) (i : ℕ) → LeadsOn u (IsBehind u i) (IsBehind u i)
+behind-leads u i = record {
+  stay = λ s there. there;
+  hold = λ s k j there is. behind-more u i s (Hold k j) there is;
+  turn = λ s k l there is. behind-more u i s (Turn k l) there is;
+}
+
+behind-press : (m : MapValue) (h : List Event) (k i : ℕ) (b : Action)
+    → StandsBehind m i (resolved (between m m) h) → k < 128 → look m (resolved (between m m) h) k ≡ Act b
+    → StandsBehind m i (PressedAction k b ∷ resolved (between m m) h)
+behind-press m h k i b (s, behind, f) lt seen =
+    let u : Under = alone m in
+    let r : List ResolvedEvent = resolved (between m m) h in
+    let looked : look_in u s k ≡ Act b =
+    sym (follows-look u r s k f) ∙ subst (λ n. look n r k ≡ Act b) (sym (one_map m s.is_second)) seen in
+    let (t, there, g, is) =
+    stays-press u (IsBehind u i) (IsBehind u i) (behind-leads u i) r s behind f k lt
+    (λ j (holds, (c, e)). let g : Act b ≡ Char c = sym looked ∙ e in cc) (Act b) looked in
+    (t, there, g)
+
+behind-release : (m : MapValue) (r : List ResolvedEvent) (k i : ℕ) → StandsBehind m i r
+    → StandsBehind m i (ReleasedKey k ∷ r)
+behind-release m r k i (s, behind, f) =
+    let (t, there, g, is) =
+    stays-release (IsBehind (alone m) i) (λ s n j there holds. behind-more (alone m) i s (LetGo n j) there holds) r s
+    behind f k (remembered k r) refl in
+    (t, there, g)
+
+-- an accent is pending only behind where it is offered
+pends-behind : (m : MapValue) (forgets : Bool) (h : List Event) (i : ℕ) → (forgets ≡ false → NeverForgets (alone m))
     → IsAdmitted m forgets h → pending m (resolved (between m m) h) ≡ Some i
-    → IsNoted (alone m) (Note.Offered i)
-offered m forgets [] i never admitted e =
+    → StandsBehind m i (resolved (between m m) h)
+pends-behind m forgets [] i never admitted e =
     let g : None ≡ Some i =
     sym (pending-start m) ∙ ap (λ r. pending m r) (sym (resolved-start (between m m))) ∙ e in
     cc
-offered m forgets (Release k ∷ h) i never admitted e =
-    offered m forgets h i never (admitted-before m forgets (Release k) h admitted)
-    (sym (pending-release m k (resolved (between m m) h))
-    ∙ ap (λ r. pending m r) (sym (resolved-more (between m m) h (Release k))) ∙ e)
-offered m forgets (Reset ∷ h) i never admitted e =
+pends-behind m forgets (Release k ∷ h) i never admitted e =
+    let r : List ResolvedEvent = resolved (between m m) h in
+    subst (λ z. StandsBehind m i z) (sym (resolved-more (between m m) h (Release k)))
+    (behind-release m r k i
+    (pends-behind m forgets h i never (admitted-before m forgets (Release k) h admitted)
+    (sym (pending-release m k r) ∙ ap (λ r. pending m r) (sym (resolved-more (between m m) h (Release k))) ∙ e)))
+pends-behind m forgets (Reset ∷ h) i never admitted e =
     let g : None ≡ Some i =
     sym (pending-reset m (resolved (between m m) h))
     ∙ ap (λ r. pending m r) (sym (resolved-more (between m m) h Reset)) ∙ e in
     cc
-offered m forgets (Load ∷ h) i never admitted e = absurd (true≢false (All-head IsNoLoad Load h admitted.1))
-offered m forgets (Press k ∷ h) i never admitted e =
+pends-behind m forgets (Load ∷ h) i never admitted e =
+    absurd (true≢false (All-head IsNoLoad Load h admitted.1))
+pends-behind m forgets (Press k ∷ h) i never admitted e =
     let r : List ResolvedEvent = resolved (between m m) h in
     let before : IsAdmitted m forgets h = admitted-before m forgets (Press k) h admitted in
-    let here : pending m (resolve_press k (look (in_force (between m m) h) r k) ∷ r) ≡ Some i =
-    ap (λ x. pending m x) (sym (resolved-more (between m m) h (Press k))) ∙ e in
-    by (look m r k) refl
-    (subst (λ n. pending m (resolve_press k (look n r k) ∷ r) ≡ Some i) (one_map m (is_second_in_force h)) here)
-    (λ was. offered m forgets h i never before was)
-    (stands-in m forgets h never before)
+    let at : resolved (between m m) (Press k ∷ h) ≡ resolve_press k (look m r k) ∷ r =
+    resolved-more (between m m) h (Press k)
+    ∙ ap (λ n. resolve_press k (look n r k) ∷ r) (one_map m (is_second_in_force h)) in
+    subst (λ z. StandsBehind m i z) (sym at)
+    (by (look m r k) refl (ap (λ z. pending m z) (sym at) ∙ e) (λ was. pends-behind m forgets h i never before was)
+    (stands-in m forgets h never before))
   where
+    lt : k < 128
+    lt = All-head HasKey (Press k) h admitted.0
+
     by : (x : Cell) → look m (resolved (between m m) h) k ≡ x
         → pending m (resolve_press k x ∷ resolved (between m m) h) ≡ Some i
-        → (pending m (resolved (between m m) h) ≡ Some i → IsNoted (alone m) (Note.Offered i)) → Stands m h
-        → IsNoted (alone m) (Note.Offered i)
+        → (pending m (resolved (between m m) h) ≡ Some i → StandsBehind m i (resolved (between m m) h)) → Stands m h
+        → StandsBehind m i (resolve_press k x ∷ resolved (between m m) h)
     by (Char c) seen f earlier stands =
         let g : None ≡ Some i = sym (pending-character m k c (resolved (between m m) h)) ∙ f in cc
     by (Act b) seen f earlier stands =
         elim (takes-pending m (pending m (resolved (between m m) h))
         (taken_over (remembered k (resolved (between m m) h)) b) i
         (sym (pending-action m k b (resolved (between m m) h)) ∙ f)) [
-          | inl was ↦ earlier was
-          | inr is ↦ offered-here m h k i b stands (All-head HasKey (Press k) h admitted.0) seen is
+          | inl was ↦ behind-press m h k i b (earlier was) lt seen
+          | inr (is, can) ↦ behind-here m h k i b stands lt seen is can
         ]
 
 -- what a press after a list sees can be seen
 pub sights_are_reachable : SightsAreReachable
-sights_are_reachable m forgets h k (sight.Cell s c) never admitted lt (sees, x) =
-    (tt, (selection_after m h, k, selection-noted m h (stands-in m forgets h never admitted), lt, sees))
-sights_are_reachable m forgets h k (sight.Locks s a b) never admitted lt (sees, x) =
-    (tt, (selection_after m h, k, selection-noted m h (stands-in m forgets h never admitted), lt, sees))
-sights_are_reachable m forgets h k (sight.Pair a c) never admitted lt (sees, x) = (
-  offered m forgets h a never admitted
-      (subst (λ n. pending n (resolved (between m m) h) ≡ Some a) (one_map m (is_second_in_force h)) x),
-  (selection_after m h, k, selection-noted m h (stands-in m forgets h never admitted), lt, sees),
-)
+sights_are_reachable m forgets h k (sight.Cell slot column) never admitted lt (sees, x) =
+    let (s, (path, is, leads), f) = stands-in m forgets h never admitted in
+    (path, is, tt, (k, lt, stands-sees m h s path k (sight.Cell slot column) leads f sees))
+sights_are_reachable m forgets h k (sight.Locks slot caps num) never admitted lt (sees, x) =
+    let (s, (path, is, leads), f) = stands-in m forgets h never admitted in
+    (path, is, tt, (k, lt, stands-sees m h s path k (sight.Locks slot caps num) leads f sees))
+sights_are_reachable m forgets h k (sight.Pair accent c) never admitted lt (sees, x) =
+    let (s, (path, is, offered, leads), f) =
+    pends-behind m forgets h accent never admitted
+    (subst (λ n. pending n (resolved (between m m) h) ≡ Some accent) (one_map m (is_second_in_force h)) x) in
+    (path, is, offered, (k, lt, stands-sees m h s path k (sight.Pair accent c) leads f sees))

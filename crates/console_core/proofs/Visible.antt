@@ -1,4 +1,4 @@
--- What presses see, as a test: it passes exactly where a press sees it.
+-- What presses see and what can be seen, as tests: they pass exactly where it is so.
 use Prim.Native.Nat.{suc}
 use Rattle.std.proofs.Common.{◌≡◌, ◌⊎◌, inl, inr, ℕ, ◌<◌, Bool, true, false, ◌&&◌, List, [], ◌∷◌, refl, ap}
 use Rattle.std.proofs.Common.{subst, sym, ◌∙◌}
@@ -8,14 +8,16 @@ use Rattle.std.specs.List.{Contains, list_any, range_with_len}
 use Rattle.std.proofs.lemmas.Bool.{and_parts, eqb-true, eq-eqb, true≢false}
 use Rattle.std.proofs.lemmas.List.Folds.{list_any_at}
 use Rattle.std.proofs.lemmas.List.FromFn.{get_or-range_with_len}
-use Rattle.console_core.specs.Types.{Cell, Char, Act, Selection, Sight, Sights}
+use Rattle.console_core.specs.Types.{Cell, Char, Act, Selection, Sight, Offer, Sights}
 use Rattle.keymap_core.specs.Maps.{MapValue}
 use Rattle.keymap_core.specs.Numbers.{key_count}
 use Rattle.console_core.specs.declared.selection.Sight.TheVariants as sight
 use Rattle.console_core.specs.Columns.{slot_of}
+use Rattle.console_core.specs.Moves.{alone, state_after}
 use Rattle.console_core.specs.Sights.{slot_in, column_in, look_selected, SeesBy, is_same, is_character, sees_by}
-use Rattle.console_core.specs.Sights.{is_seeing, is_selected, is_offered}
-use Rattle.console_core.specs.Inner.Noting.{IsSelectedBy}
+use Rattle.console_core.specs.Sights.{is_seeing, is_selected, is_composed, can_see, Note, AreSightsOf, IsReachable}
+use Rattle.console_core.specs.Sights.{selection_of}
+use Rattle.console_core.specs.Inner.Noting.{IsSelectedBy, IsComposedBy}
 
 -- two tests that pass alike are one
 pub same-truth : (r b : Bool) → (r ≡ true → b ≡ true) → (r ≡ false → b ≡ false) → r ≡ b
@@ -107,33 +109,68 @@ pub true-seeing : (m : MapValue) (y : Selection) (x : Sight) (k : ℕ) → k < k
 true-seeing m y x k lt sees =
     any-member (λ j. sees_by m y j x) (range_with_len 0 key_count) k (in-range k lt) (true-sees m y k x sees)
 
--- that of the selections, by what a loop over them found
-pub selected-value : (m : MapValue) (ys : List Selection) (x : Sight) (r : Bool)
-    → (r ≡ true → IsSelectedBy m ys x) → (r ≡ false → IsSelectedBy m ys x → ⊥) → r ≡ is_selected m ys x
-selected-value m ys x r then-so then-not =
-    same-truth r (is_selected m ys x)
-    (λ e.
-    let (y, has, (k, lt, sees)) = then-so e in
-    any-member (λ z. is_seeing m z x) ys y has (true-seeing m y x k lt sees))
-    (λ e. fails (is_selected m ys x) (λ passes.
+-- that of the selections
+pub selected-true : (m : MapValue) (ys : List Selection) (x : Sight) → IsSelectedBy m ys x → is_selected m ys x ≡ true
+selected-true m ys x (y, has, (k, lt, sees)) =
+    any-member (λ z. is_seeing m z x) ys y has (true-seeing m y x k lt sees)
+
+pub true-selected : (m : MapValue) (ys : List Selection) (x : Sight) → is_selected m ys x ≡ true → IsSelectedBy m ys x
+true-selected m ys x passes =
     let (y, has, seeing) = some-member (λ z. is_seeing m z x) ys passes in
-    then-not e (y, has, seeing-true m y x seeing)))
+    (y, has, seeing-true m y x seeing)
 
--- that of the accents
-pub accents-value : (accents : List ℕ) (accent : ℕ) (r : Bool) → (r ≡ true → Contains accents accent)
-    → (r ≡ false → Contains accents accent → ⊥) → r ≡ list_any (λ a. accent == a) accents
-accents-value accents accent r then-so then-not =
-    same-truth r (list_any (λ a. accent == a) accents)
-    (λ e. any-member (λ a. accent == a) accents accent (then-so e) (eq-eqb accent accent refl))
-    (λ e. fails (list_any (λ a. accent == a) accents) (λ passes.
-    let (a, has, same) = some-member (λ a. accent == a) accents passes in
-    then-not e (subst (λ z. Contains accents z) (sym (eqb-true accent a same)) has)))
+-- that of the offers
+pub composed-true : (m : MapValue) (offers : List Offer) (accent : ℕ) (x : Sight) → IsComposedBy m offers accent x
+    → is_composed m offers accent x ≡ true
+composed-true m offers accent x (o, has, same, sees) =
+    any-member (λ z. (z.accent == accent) && is_selected m z.selections.items x) offers o has
+    (both (o.accent == accent) (is_selected m o.selections.items x) (eq-eqb o.accent accent same)
+    (selected-true m o.selections.items x sees))
 
--- what has no accent offers none that isn't noted
-pub offered-default : (s : Sights) (x : Sight) → ((accent c : ℕ) → x ≡ sight.Pair accent c → ⊥) → is_offered s x ≡ true
-offered-default s (sight.Pair accent c) then-not = absurd (then-not accent c refl)
-offered-default s (sight.Cell slot column) then-not = refl
-offered-default s (sight.Locks slot caps num) then-not = refl
+pub true-composed : (m : MapValue) (offers : List Offer) (accent : ℕ) (x : Sight)
+    → is_composed m offers accent x ≡ true → IsComposedBy m offers accent x
+true-composed m offers accent x passes =
+    let (o, has, pass) =
+    some-member (λ z. (z.accent == accent) && is_selected m z.selections.items x) offers passes in
+    let p = and_parts (o.accent == accent) (is_selected m o.selections.items x) pass in
+    (o, has, eqb-true o.accent accent p.0, true-selected m o.selections.items x p.1)
+
+-- what can be seen passes the test, and nothing else
+pub sees-all : (m : MapValue) (s : Sights) → AreSightsOf m s → (x : Sight) → can_see m s x ≡ true → IsReachable m x
+sees-all m s are (sight.Pair accent c) e =
+    let (o, has, same, (y, there, (k, lt, sees))) = true-composed m s.offers.items accent (sight.Pair accent c) e in
+    let (path, is, (offered, leads)) = (are.noted (Note.Composing accent y)).0 (o, has, same, there) in
+    (path, is, offered, (k, lt, subst (λ z. SeesBy m z k (sight.Pair accent c)) (sym leads) sees))
+sees-all m s are (sight.Cell slot column) e =
+    let (y, there, (k, lt, sees)) = true-selected m s.selections.items (sight.Cell slot column) e in
+    let (path, is, leads) = (are.noted (Note.Selected y)).0 there in
+    (path, is, tt, (k, lt, subst (λ z. SeesBy m z k (sight.Cell slot column)) (sym leads) sees))
+sees-all m s are (sight.Locks slot caps num) e =
+    let (y, there, (k, lt, sees)) = true-selected m s.selections.items (sight.Locks slot caps num) e in
+    let (path, is, leads) = (are.noted (Note.Selected y)).0 there in
+    (path, is, tt, (k, lt, subst (λ z. SeesBy m z k (sight.Locks slot caps num)) (sym leads) sees))
+
+pub all-seen : (m : MapValue) (s : Sights) → AreSightsOf m s → (x : Sight) → IsReachable m x → can_see m s x ≡ true
+all-seen m s are (sight.Pair accent c) (path, is, offered, (k, lt, sees)) =
+    let y : Selection = selection_of (state_after (alone m) path) in
+    let (o, has, same, there) = (are.noted (Note.Composing accent y)).1 (path, is, (offered, refl)) in
+    composed-true m s.offers.items accent (sight.Pair accent c) (o, has, same, (y, there, (k, lt, sees)))
+all-seen m s are (sight.Cell slot column) (path, is, x, (k, lt, sees)) =
+    let y : Selection = selection_of (state_after (alone m) path) in
+    selected-true m s.selections.items (sight.Cell slot column)
+    (y, (are.noted (Note.Selected y)).1 (path, is, refl), (k, lt, sees))
+all-seen m s are (sight.Locks slot caps num) (path, is, x, (k, lt, sees)) =
+    let y : Selection = selection_of (state_after (alone m) path) in
+    selected-true m s.selections.items (sight.Locks slot caps num)
+    (y, (are.noted (Note.Selected y)).1 (path, is, refl), (k, lt, sees))
+
+-- of all but pairs, by the selections
+pub seen-otherwise : (m : MapValue) (s : Sights) (ys : List Selection) (x : Sight)
+    → ((accent c : ℕ) → x ≡ sight.Pair accent c → ⊥) → ys ≡ s.selections.items
+    → is_selected m ys x ≡ can_see m s x
+seen-otherwise m s ys (sight.Pair accent c) other e = absurd (other accent c refl)
+seen-otherwise m s ys (sight.Cell slot column) other e = ap (λ z. is_selected m z (sight.Cell slot column)) e
+seen-otherwise m s ys (sight.Locks slot caps num) other e = ap (λ z. is_selected m z (sight.Locks slot caps num)) e
 
 -- of a cell or a lock setting, only the key of the slot can see it
 pub key-of-slot : (y : Selection) (k slot : ℕ) → k < key_count → slot_in y k ≡ slot → slot % key_count ≡ k

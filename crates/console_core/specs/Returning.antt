@@ -1,5 +1,5 @@
 -- Whether moves always lead back to where no lock is on, and the events that show what can be seen where they do.
-use Rattle.std.specs.Prelude.{◌≡◌, ◌≢◌, true, false, List, ◌++◌}
+use Rattle.std.specs.Prelude.{◌≡◌, ◌≢◌, false, List, ◌++◌}
 use Rattle.std.specs.List.{Contains}
 use Rattle.keymap_core.specs.declared.action.Lock.{Lock}
 use Rattle.keymap_core.specs.declared.action.Lock.TheVariants.{Scroll}
@@ -7,8 +7,6 @@ use Rattle.keymap_core.specs.Maps.{MapValue}
 use Rattle.console_core.specs.declared.event.Event.{Event}
 use Rattle.console_core.specs.declared.held.Move.{Move}
 use Rattle.console_core.specs.declared.selection.Sight.{Sight}
-use Rattle.console_core.specs.declared.selection.Sight.TheVariants as sight
-use Rattle.console_core.specs.Answers.{usable}
 use Rattle.console_core.specs.History.{HasNoLoads}
 use Rattle.console_core.specs.Moves.{alone, State, IsFree, IsPath, state_after}
 use Rattle.console_core.specs.Sights.{SeesAlong, IsReachable}
@@ -24,16 +22,10 @@ NoTurnIsOneWay m =
     (path : List Move) → IsPath (alone m) path
     → (later : List Move) × IsPath (alone m) (later ++ path) × IsHome (state_after (alone m) (later ++ path))
 
--- the accent of a pair can be pending
-abbrev pub HasUsableAccent : MapValue → Sight → Type 0
-HasUsableAccent m (sight.Pair accent c) = usable m accent ≡ true
-HasUsableAccent m _ = Unit {0}
-
 -- what of these can be seen is seen along the list
 abbrev pub SeesAllAlong : MapValue → List Event → List Sight → Type 0
 SeesAllAlong m h xs =
-    (x : Sight) → Contains xs x → HasUsableAccent m x → IsReachable m x
-    → SeesAlong m h x
+    (x : Sight) → Contains xs x → IsReachable m x → SeesAlong m h x
 
 -- Presses, releases of pressed keys, and resets, along which all of these that can be seen are seen, if no turn of a
 -- lock is one-way.

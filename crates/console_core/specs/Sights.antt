@@ -1,20 +1,21 @@
 -- What presses of keys see: which cells they look up, under which locks, and with which accents pending; and what can
 -- be seen at all.
-use Rattle.std.specs.Prelude.{◌≡◌, ◌==◌, ℕ, ◌<◌, Bool, true, false, ◌||◌, ◌&&◌, not, List, ◌∷◌, ◌++◌, Some}
-use Rattle.std.specs.List.{Contains, list_any, range_with_len}
+use Rattle.std.specs.Prelude.{◌≡◌, ◌≢◌, ◌==◌, ℕ, ◌<◌, Bool, true, false, ◌||◌, ◌&&◌, not, List, ◌∷◌, ◌++◌, All, map, Some}
+use Rattle.std.specs.List.{AllPairs, Contains, list_any, range_with_len}
 use Rattle.console_core.specs.Types.{Modifier, LeftShift, RightShift, LeftControl, RightControl, LeftAlt, RightAlt}
-use Rattle.console_core.specs.Types.{Lock, Caps, Num, Cell, Char, Act, Event, Press, Move, Selection, Sight, Sights}
+use Rattle.console_core.specs.Types.{Lock, Caps, Num, Cell, Char, Act, Event, Press, Move, Selection, Sight, Offer, Sights}
 use Rattle.keymap_core.specs.declared.action.Action.TheVariants as act
 use Rattle.keymap_core.specs.Maps.{MapValue, entry_at, cell_at}
 use Rattle.keymap_core.specs.Numbers.{key_count}
 use Rattle.console_core.specs.declared.selection.Sight.TheVariants as sight
+use Rattle.console_core.specs.Answers.{usable}
 use Rattle.console_core.specs.Columns.{exactly_one, flips_shift, slot_of, column_of, is_upper}
 use Rattle.console_core.specs.Resolved.{remembered}
 use Rattle.console_core.specs.History.{Maps, between, resolved, is_on_after, is_locked_after, accent_pending_after}
 use Rattle.console_core.specs.History.{HasKeys, HasNoLoads}
 use Rattle.console_core.specs.Reading.{look_after}
 use Rattle.console_core.specs.Moves.{Under, alone, State, is_held, IsIdle, look_in, IsForgetful, IsPath, state_after}
-use Rattle.console_core.specs.Sticking.{NeverForgets}
+use Rattle.console_core.specs.Sticking.{NeverForgets, IsPressOrRelease, ReleasesPressedKeys}
 
 -- what picks the cell, by which modifiers and locks are on
 abbrev pub selection_with : (Modifier → Bool) → (Lock → Bool) → Selection
@@ -80,44 +81,76 @@ IsClean ms h =
 abbrev pub IsAdmitted : MapValue → Bool → List Event → Type 0
 IsAdmitted m forgets h = HasKeys h × HasNoLoads h × (forgets ≡ true → IsClean (between m m) h)
 
--- What is noted of a state: its selection, that a key that holds nothing looks up the dead key of an accent, and that a
--- holder looks up a character.
-pub data Note : Type 0 where
-  Selected : Selection → Note
-  Offered : ℕ → Note
-  Forgets : Note
-
 abbrev pub selection_of : State → Selection
 selection_of s = selection_with (λ i. is_held s i) (λ l. s.is_locked l)
 
-abbrev pub IsNoteOf : Under → State → Note → Type 0
-IsNoteOf u s (Note.Selected y) = selection_of s ≡ y
-IsNoteOf u s (Note.Offered accent) =
-    (k : ℕ) × (k < key_count) × IsIdle s k × (look_in u s k ≡ Act (act.DeadKey accent))
-IsNoteOf u s Note.Forgets = IsForgetful u s
+-- the key holds nothing and looks up the dead key of the accent
+abbrev pub Offers : Under → State → ℕ → ℕ → Type 0
+Offers u s k accent = IsIdle s k × (look_in u s k ≡ Act (act.DeadKey accent))
 
--- it is noted of a state that a path leads to
-abbrev pub IsNoted : Under → Note → Type 0
-IsNoted u n = (path : List Move) × IsPath u path × IsNoteOf u (state_after u path) n
+-- The accent is offered in the state: it is usable, and some key offers it, so that a tap of the key leaves it pending.
+-- A dead key of an accent whose own character is 0 is an error, and drops what is pending.
+abbrev pub IsOfferedIn : Under → State → ℕ → Type 0
+IsOfferedIn u s accent = (usable u.maps.first accent ≡ true) × ((k : ℕ) × (k < key_count) × Offers u s k accent)
 
--- it is among what a search noted
-abbrev pub Has : Sights → Note → Type 0
-Has x (Note.Selected y) = Contains x.selections.items y
-Has x (Note.Offered accent) = Contains x.accents.items accent
-Has x Note.Forgets = x.forgets ≡ true
+-- The accent is offered in a state that the path leads through. Once pending it stays so along the rest: moves are
+-- presses and releases of keys that hold modifiers or turn locks, and none of these drops an accent.
+abbrev pub IsOfferedAlong : Under → List Move → ℕ → Type 0
+IsOfferedAlong u path accent =
+    (later before : List Move) × (path ≡ later ++ before) × IsOfferedIn u (state_after u before) accent
 
--- what a search noted is what is noted of the states that paths lead to
-abbrev pub AreSightsOf : MapValue → Sights → Type 0
-AreSightsOf m x = (n : Note) → (Has x n → IsNoted (alone m) n) × (IsNoted (alone m) n → Has x n)
+-- the accent of a pair can be pending at the end of the path
+abbrev pub CanPend : MapValue → List Move → Sight → Type 0
+CanPend m path (sight.Pair accent c) = IsOfferedAlong (alone m) path accent
+CanPend m path _ = Unit {0}
 
--- it can be seen, as far as paths tell
-abbrev pub IsOffered : MapValue → Sight → Type 0
-IsOffered m (sight.Pair accent c) = IsNoted (alone m) (Note.Offered accent)
-IsOffered m _ = Unit {0}
-
+-- A sight can be seen: moves lead from the start to a state where a press of some key sees it, and a pair's accent can
+-- be pending there.
 abbrev pub IsReachable : MapValue → Sight → Type 0
 IsReachable m x =
-    IsOffered m x × ((y : Selection) × (k : ℕ) × IsNoted (alone m) (Note.Selected y) × (k < key_count) × SeesBy m y k x)
+    (path : List Move) × IsPath (alone m) path × CanPend m path x
+    × ((k : ℕ) × (k < key_count) × SeesBy m (selection_of (state_after (alone m) path)) k x)
+
+-- What is noted of a path: the selection where it leads, that an accent is offered there, the selection where an accent
+-- can be pending, and that a holder looks up a character there.
+pub data Note : Type 0 where
+  Selected : Selection → Note
+  Offered : ℕ → Note
+  Composing : ℕ → Selection → Note
+  Forgets : Note
+
+abbrev pub IsNoteOf : MapValue → List Move → Note → Type 0
+IsNoteOf m path (Note.Selected y) = selection_of (state_after (alone m) path) ≡ y
+IsNoteOf m path (Note.Offered accent) = IsOfferedIn (alone m) (state_after (alone m) path) accent
+IsNoteOf m path (Note.Composing accent y) =
+    IsOfferedAlong (alone m) path accent × (selection_of (state_after (alone m) path) ≡ y)
+IsNoteOf m path Note.Forgets = IsForgetful (alone m) (state_after (alone m) path)
+
+-- it is noted of some path
+abbrev pub IsNoted : MapValue → Note → Type 0
+IsNoted m n = (path : List Move) × IsPath (alone m) path × IsNoteOf m path n
+
+-- it is among what a search noted
+abbrev pub accents_in : List Offer → List ℕ
+accents_in offers = map (λ o. o.accent) offers
+
+abbrev pub Has : Sights → Note → Type 0
+Has x (Note.Selected y) = Contains x.selections.items y
+Has x (Note.Offered accent) = Contains (accents_in x.offers.items) accent
+Has x (Note.Composing accent y) =
+    (o : Offer) × Contains x.offers.items o × (o.accent ≡ accent) × Contains o.selections.items y
+Has x Note.Forgets = x.forgets ≡ true
+
+-- no two elements are the same
+abbrev pub HasNoDoubles : {X : Type 0} → List X → Type 0
+HasNoDoubles xs = AllPairs (λ x y. x ≢ y) xs
+
+-- What a search noted is what is noted of paths, each once.
+pub record AreSightsOf (m : MapValue) (x : Sights) : Type 0 where
+  pub noted : (n : Note) → (Has x n → IsNoted m n) × (IsNoted m n → Has x n)
+  pub selections : HasNoDoubles x.selections.items
+  pub accents : HasNoDoubles (accents_in x.offers.items)
+  pub composing : (o : Offer) → Contains x.offers.items o → HasNoDoubles o.selections.items
 
 -- What a press after a list sees can be seen: after all lists if no path leads to where a holder looks up a character,
 -- and else after clean ones.
@@ -126,6 +159,13 @@ SightsAreReachable =
     (m : MapValue) (forgets : Bool) (h : List Event) (k : ℕ) (x : Sight) → (forgets ≡ false → NeverForgets (alone m))
     → IsAdmitted m forgets h → k < key_count → SeesNext m h k x
     → IsReachable m x
+
+-- And what can be seen is seen by a press after a clean list of presses and releases.
+abbrev pub ReachableIsSeen : Type 0
+ReachableIsSeen =
+    (m : MapValue) (x : Sight) → IsReachable m x
+    → (h : List Event) × (k : ℕ) × All IsPressOrRelease h × ReleasesPressedKeys h × IsAdmitted m true h
+    × (k < key_count) × SeesNext m h k x
 
 -- What a press sees, as tests.
 abbrev pub is_same : Bool → Bool → Bool
@@ -149,11 +189,11 @@ is_seeing m y x = list_any (λ k. sees_by m y k x) (range_with_len 0 key_count)
 abbrev pub is_selected : MapValue → List Selection → Sight → Bool
 is_selected m ys x = list_any (λ y. is_seeing m y x) ys
 
--- whether the accent of a pair was noted
-abbrev pub is_offered : Sights → Sight → Bool
-is_offered s (sight.Pair accent c) = list_any (λ a. accent == a) s.accents.items
-is_offered s _ = true
+-- and so under one where the accent can be pending
+abbrev pub is_composed : MapValue → List Offer → ℕ → Sight → Bool
+is_composed m offers accent x = list_any (λ o. (o.accent == accent) && is_selected m o.selections.items x) offers
 
 -- whether it can be seen, by what a search noted
 abbrev pub can_see : MapValue → Sights → Sight → Bool
-can_see m s x = is_offered s x && is_selected m s.selections.items x
+can_see m s (sight.Pair accent c) = is_composed m s.offers.items accent (sight.Pair accent c)
+can_see m s x = is_selected m s.selections.items x

@@ -18,4 +18,5 @@ pub use Rattle.console_core.specs.declared.outcome.Sticking.{Sticking}
 pub use Rattle.console_core.specs.declared.outcome.Sticking.TheVariants.{Sticks, Never, Undecided}
 pub use Rattle.console_core.specs.declared.selection.Selection.{Selection}
 pub use Rattle.console_core.specs.declared.selection.Sight.{Sight}
+pub use Rattle.console_core.specs.declared.sights.Offer.{Offer}
 pub use Rattle.console_core.specs.declared.sights.Sights.{Sights}

@@ -14,7 +14,7 @@ ghost use Rattle.console_core.specs.Sticking.{NeverSticksUnlessReached, SticksIf
 ghost use Rattle.console_core.specs.Sticking.{NeverSticksBetweenUnlessReached, SticksBetweenIfReached};
 ghost use Rattle.console_core.specs.Sticking.{SafeNeverSticksBetween, SafeNeverForgets, SafeNeverAnswersSticks};
 ghost use Rattle.console_core.specs.Sticking.{AnswersAlikeOfOneKeymap};
-ghost use Rattle.console_core.specs.Sights.{LooksAreSelected, SightsAreReachable};
+ghost use Rattle.console_core.specs.Sights.{LooksAreSelected, SightsAreReachable, ReachableIsSeen};
 ghost use Rattle.console_core.specs.Traps.{OnOnlyWhilePressedWithoutTraps};
 ghost use Rattle.console_core.specs.Typing.{TypedCanBeTyped};
 
@@ -146,12 +146,14 @@ pub fn loads_that_change_nothing()
     ensures of_one_map { LoadsOfOneMapAreResets }
 {}
 
-/// A key looks up the cell at the slot and column that the selection picks, and what a press after a list sees can be
-/// seen in a state that a path leads to: after all lists where no path leads to where a modifier is forgotten, and else
-/// after clean ones.
+/// A key looks up the cell at the slot and column that the selection picks. What a press after a list sees can be seen
+/// where a path leads, and a pair where one path leads through a state that offers its accent: after all lists where no
+/// path leads to where a modifier is forgotten, and else after clean ones. And what can be seen so is seen by a press
+/// after a clean list of presses and releases.
 pub fn sights_are_reachable()
     ensures selected { LooksAreSelected }
     ensures reachable { SightsAreReachable }
+    ensures seen { ReachableIsSeen }
 {}
 
 /// What an admitted list of presses, repeats, releases and resets types that leaves a new console as a new one, moves

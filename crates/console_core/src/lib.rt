@@ -13,9 +13,9 @@
 //! them runs over a keymap however it is kept (`keymap_core::Keymap`).
 //!
 //! `sticking` decides by a search whether a keymap can leave a modifier on while no key is pressed, `sticking_between`
-//! whether two that loads exchange can. `sights_of` finds by the same search what presses can look up, and
-//! `events_that_show` events that show it, in keymaps where no turn of a lock is one-way. All of them may give up where
-//! more than 65,536 states can be reached.
+//! whether two that loads exchange can. `sights_of` finds by the same search what presses can look up, and behind which
+//! accents, and `events_that_show` events that show it, in keymaps where no turn of a lock is one-way. All of them may
+//! give up where more than 65,536 states can be reached.
 //!
 //! No call takes memory but `replay`, `sticking`, `sticking_between`, `sights_of` and `events_that_show`, and no call
 //! fails but for want of memory there.
@@ -29,6 +29,7 @@ pub mod laws;
 mod left_on;
 mod machine;
 mod moving_keys;
+mod offers;
 mod outcome;
 mod plain_console;
 mod plain_store;
@@ -53,7 +54,7 @@ pub use replays::{deliver_all, replay};
 pub use search::{sticking, sticking_between};
 pub use selection::{Selection, Sight};
 pub use showing::events_that_show;
-pub use sights::{Sights, sights_of};
+pub use sights::{Offer, Sights, sights_of};
 pub use translator::{Translator, is_any_on};
 pub use typing::{Keyed, Typing, TypingError, type_characters};
 pub use word_console::WordConsole;

@@ -50,7 +50,7 @@ pub fn column(shift: bool, control: bool, alt: bool) -> usize
 }
 
 /// Whether the dead key is in the accent map.
-fn is_usable<K: Keymap>(map: &K, index: u8) -> bool
+pub fn is_usable<K: Keymap>(map: &K, index: u8) -> bool
     ensures { (m : MapValue) → K.shows map.now m → result ≡ usable m index }
 {
     match map.own(index) {

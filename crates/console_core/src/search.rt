@@ -102,7 +102,7 @@ fn meet_let_gos(met: &mut Met, place: usize, held: &Held, presses: usize) -> Res
 }
 
 /// Adds where moves without a press lead: letting go of the modifiers, and a load.
-fn meet_frees(
+pub fn meet_frees(
     met: &mut Met,
     maps: &Keymaps,
     place: usize,
@@ -121,7 +121,7 @@ fn meet_frees(
 }
 
 /// Adds where presses of keys lead, of which those are given that can be moves.
-fn meet_presses(
+pub fn meet_presses(
     met: &mut Met,
     maps: &Keymaps,
     keys: &[KeyCode],

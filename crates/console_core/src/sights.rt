@@ -1,35 +1,42 @@
 //! What presses of keys can see: what is noted of the states that the search meets.
-ghost use Rattle.std.specs.Prelude.{◌≡◌, ◌<◌, ◌⊎◌, ℕ, [], false, true, None, OnOk, IfOk, MatchOption};
+ghost use Rattle.std.specs.Prelude.{◌≡◌, ℕ, false, true, length, Some, slice_get, OnOk, IfOk, MatchOption};
 ghost use Rattle.std.specs.List.{Contains};
-ghost use Rattle.keymap_core.specs.Maps.{MapValue};
-ghost use Rattle.keymap_core.specs.Numbers.{key_count};
-ghost use Rattle.console_core.specs.Moves.{alone};
+ghost use Rattle.console_core.specs.Moves.{alone, start, IsForgetful};
 ghost use Rattle.console_core.specs.Sticking.{ReachesMoreThan, state_limit};
-ghost use Rattle.console_core.specs.Sights.{AreSightsOf, IsOffered, IsReachable};
-ghost use Rattle.console_core.specs.Sights.{is_offered, can_see};
-ghost use Rattle.console_core.specs.Inner.Searching.{state_of, under_of};
-ghost use Rattle.console_core.specs.Inner.Noting.{IsSelectedBy, IsWith, AddsOffer, AddsOffers, AddsNotes, AreNotesOf};
+ghost use Rattle.console_core.specs.Sights.{AreSightsOf, IsReachable, can_see, is_selected, is_composed};
+ghost use Rattle.console_core.specs.Inner.Searching.{state_of, under_of, Entry, Searched};
+ghost use Rattle.console_core.specs.Inner.Noting.{IsWith, AreSelectionsOf};
 
 use crate::held::{Held, Keymaps};
+use crate::offers::offers_of;
 use crate::search::{End, Met, entry, meet_all};
 use crate::selection::{Selection, Sight};
 use indexmap::IndexMap;
-use keymap_core::{KEY_COUNT, KeyCode, KeyMap, key_with};
+use keymap_core::KeyMap;
 use std::alloc::{AllocError, Global};
 
 /// What presses of keys can see under a keymap.
 #[derive(Debug, Drop)]
 pub struct Sights {
-    /// The selections of the states, in the order in which they were met.
+    /// The selections of the states, each once, in the order in which they were met.
     pub selections: Vec<Selection>,
-    /// The accents whose dead keys are looked up by keys that hold nothing.
-    pub accents: Vec<u8>,
+    /// The usable accents whose dead keys are looked up by keys that hold nothing, each once.
+    pub offers: Vec<Offer>,
     /// Whether a key that holds a modifier looks up a character, so that the modifier can be forgotten.
     pub forgets: bool,
 }
 
+/// An accent that can be pending.
+#[derive(Debug, Drop)]
+pub struct Offer {
+    pub accent: u8,
+    /// The selections of the states that moves lead to from where its dead key is looked up, each once.
+    pub selections: Vec<Selection>,
+}
+
 fn has_selection(selections: &[Selection], selection: Selection) -> bool
-    ensures { result ≡ true → Contains selections.now selection }
+    ensures noted { result ≡ true → Contains selections.now selection }
+    ensures unnoted { result ≡ false → Contains selections.now selection → ⊥ }
 {
     for noted in selections {
         if *noted == selection {
@@ -49,112 +56,87 @@ fn add_selection(selections: &mut Vec<Selection>, selection: Selection) -> Resul
     Ok(())
 }
 
-/// Adds the accent, if it isn't there.
-fn add_accent(accents: &mut Vec<u8>, accent: u8) -> Result<(), AllocError>
-    ensures { OnOk result (IsWith accent accents.old.items accents.new.items) }
+/// The selections of the states that were met, each once.
+pub fn selections_of(alloc: Global, met: &Met) -> Result<Vec<Selection>, AllocError>
+    ensures { IfOk result (λ v. AreSelectionsOf met.now.entries v.items) }
 {
-    if !accents.contains(&accent) {
-        accents.push(accent)?;
+    let mut selections = Vec::new(alloc);
+    for place in 0..met.len() {
+        let (held, _) = entry(met, place);
+        add_selection(&mut selections, held.selection())?;
     }
-    Ok(())
+    Ok(selections)
 }
 
-/// Adds the accent whose dead key the key looks up, if it holds nothing.
-fn add_offer(
-    accents: &mut Vec<u8>,
-    maps: &Keymaps,
-    held: &Held,
-    key: KeyCode,
-) -> Result<(), AllocError>
-    ensures { OnOk result (AddsOffer (under_of maps.now) (state_of held.now) key accents.old.items
-        accents.new.items) }
+/// Whether a key that holds a modifier looks up a character in a state that was met.
+fn forgets_in(met: &Met, maps: &Keymaps) -> bool
+    ensures some { result ≡ true → (j : ℕ) × (x : Entry) × (slice_get met.now.entries j ≡ Some x)
+        × IsForgetful (under_of maps.now) (state_of x.0) }
+    ensures none { result ≡ false → (j : ℕ) (x : Entry) → slice_get met.now.entries j ≡ Some x
+        → IsForgetful (under_of maps.now) (state_of x.0) → ⊥ }
 {
-    if let Some(accent) = held.offered(maps, key) {
-        add_accent(accents, accent)?;
+    for place in 0..met.len() {
+        let (held, _) = entry(met, place);
+        match held.forgetful(maps) {
+            Some(_) => return true,
+            None => {}
+        }
     }
-    Ok(())
+    false
 }
 
-/// Adds the accents whose dead keys are looked up by keys that hold nothing.
-fn add_offers(accents: &mut Vec<u8>, maps: &Keymaps, held: &Held) -> Result<(), AllocError>
-    ensures { OnOk result (AddsOffers (under_of maps.now) (state_of held.now) key_count accents.old.items
-        accents.new.items) }
+/// Whether a press under one of the selections sees it, where a pair's accent is pending.
+fn is_selected(map: &KeyMap, selections: &[Selection], sight: Sight) -> bool
+    ensures { result ≡ is_selected map.now selections.now sight }
 {
-    for code in 0..KEY_COUNT as u8 {
-        add_offer(accents, maps, held, key_with(code))?;
+    for selection in selections {
+        if selection.is_seeing(map, sight) {
+            return true;
+        }
     }
-    Ok(())
+    false
+}
+
+/// Whether a press sees it under one of the selections where the accent can be pending.
+fn is_composed(map: &KeyMap, offers: &[Offer], accent: u8, sight: Sight) -> bool
+    ensures { result ≡ is_composed map.now offers.now accent sight }
+{
+    for offer in offers {
+        if offer.accent == accent && is_selected(map, &offer.selections, sight) {
+            return true;
+        }
+    }
+    false
 }
 
 impl Sights {
-    /// Notes the state.
-    fn note(&mut self, maps: &Keymaps, held: &Held) -> Result<(), AllocError>
-        ensures { OnOk result (AddsNotes (under_of maps.now) (state_of held.now) self.old self.new) }
-    {
-        add_selection(&mut self.selections, held.selection())?;
-        add_offers(&mut self.accents, maps, held)?;
-        if let Some(_) = held.forgetful(maps) {
-            self.forgets = true;
-        }
-        Ok(())
-    }
-
-    fn has_accent(&self, accent: u8) -> bool
-        ensures noted { result ≡ true → Contains self.now.accents.items accent }
-        ensures unnoted { result ≡ false → Contains self.now.accents.items accent → ⊥ }
-    {
-        self.accents.contains(&accent)
-    }
-
-    /// Whether the dead key of the pair's accent is looked up by a key that holds nothing.
-    fn is_offered(&self, sight: Sight) -> bool
-        ensures offered { (m : MapValue) → AreSightsOf m self.now → result ≡ true → IsOffered m sight }
-        ensures unoffered { (m : MapValue) → AreSightsOf m self.now → result ≡ false → IsOffered m sight → ⊥ }
-        ensures value { result ≡ is_offered self.now sight }
-    {
-        match sight {
-            Sight::Pair { accent, .. } => self.has_accent(accent),
-            _ => true,
-        }
-    }
-
-    /// Whether a press under one of the selections sees it, where a pair's accent is pending.
-    fn is_selected(&self, map: &KeyMap, sight: Sight) -> bool
-        ensures seen { result ≡ true → IsSelectedBy map.now self.now.selections.items sight }
-        ensures unseen { result ≡ false → IsSelectedBy map.now self.now.selections.items sight → ⊥ }
-    {
-        for selection in &self.selections {
-            if selection.is_seeing(map, sight) {
-                return true;
-            }
-        }
-        false
-    }
-
     /// Whether a press can see it, under the keymap that these are of.
     pub fn can_see(&self, map: &KeyMap, sight: Sight) -> bool
         ensures reachable { AreSightsOf map.now self.now → result ≡ true → IsReachable map.now sight }
         ensures unreachable { AreSightsOf map.now self.now → result ≡ false → IsReachable map.now sight → ⊥ }
         ensures value { result ≡ can_see map.now self.now sight }
     {
-        self.is_offered(sight) && self.is_selected(map, sight)
+        match sight {
+            Sight::Pair { accent, .. } => is_composed(map, &self.offers, accent, sight),
+            _ => is_selected(map, &self.selections, sight),
+        }
     }
 }
 
-/// What is noted of the states that were met.
+/// What is noted of the states that were met, which are all.
 fn noted(alloc: Global, met: &Met, maps: &Keymaps) -> Result<Sights, AllocError>
-    ensures { IfOk result (λ x. AreNotesOf (under_of maps.now) met.now.entries x) }
+    requires one { under_of maps.now ≡ alone maps.now.first.now }
+    requires searched { Searched (alone maps.now.first.now) start met.now.entries (length met.now.entries)
+        (length met.now.entries) }
+    ensures { IfOk result (λ x. AreSightsOf maps.now.first.now x) }
 {
-    let mut sights = Sights {
-        selections: Vec::new(alloc),
-        accents: Vec::new(alloc),
-        forgets: false,
-    };
-    for place in 0..met.len() {
-        let (held, _) = entry(met, place);
-        sights.note(maps, &held)?;
-    }
-    Ok(sights)
+    let selections = selections_of(alloc, met)?;
+    let offers = offers_of(alloc, met, maps, &selections)?;
+    Ok(Sights {
+        selections,
+        offers,
+        forgets: forgets_in(met, maps),
+    })
 }
 
 /// What presses of keys can see under the keymap, or nothing where the search gives up.

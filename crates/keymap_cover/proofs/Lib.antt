@@ -1,3 +1,4 @@
+pub mod Beginning
 pub mod Listed
 pub mod Marking
 pub mod Showing

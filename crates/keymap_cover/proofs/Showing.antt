@@ -8,12 +8,11 @@ use Rattle.std.proofs.lemmas.List.{get_or_default}
 use Rattle.keymap_core.specs.Maps.{MapValue}
 use Rattle.console_core.specs.declared.event.Event.{Event}
 use Rattle.console_core.specs.declared.selection.Sight.{Sight}
-use Rattle.console_core.specs.declared.selection.Sight.TheVariants as sight
 use Rattle.console_core.specs.History.{Maps}
-use Rattle.console_core.specs.Returning.{HasUsableAccent, AreEventsThatShow}
+use Rattle.console_core.specs.Returning.{AreEventsThatShow}
 use Rattle.console_core.specs.Sights.{SeesAlong, IsReachable}
 use Rattle.keymap_cover.specs.declared.tour.Tour.{Tour}
-use Rattle.keymap_cover.specs.Told.{IsTold, AreTold}
+use Rattle.keymap_cover.specs.Told.{AreTold}
 use Rattle.keymap_cover.specs.SeenSights.{has_seen}
 use Rattle.keymap_cover.specs.Inner.Tours.{RunsAlong, GoesAlongToRest, ComesAfter, IsTaken, AreUp, IsTourAlong}
 use Rattle.keymap_cover.specs.Inner.Tours.{EndsAtRest, SeesAll, LeavesNothingOut}
@@ -45,16 +44,10 @@ sees-longer m more h x (later, before, k, at, sees) =
 
 pub tour-shows : (m : MapValue) (xs : List Sight) (h : List Event) (t : Tour) → AreEventsThatShow m xs h
     → IsTourAlong m h t → SeesAll m xs t
-tour-shows m xs h t (none, of, shows) (up, (g, tour, rest, exact)) steady x has usable reachable =
+tour-shows m xs h t (none, of, shows) (up, (g, tour, rest, exact)) steady x has reachable =
     let (more, is) : ComesAfter h g = exact (none, of) in
     tour.all_seen x
-    (subst (λ z. SeesAlong m z x) (sym is) (sees-longer m more h x (shows steady x has usable reachable)))
-
--- of a pair that is told of the accent is usable
-told-usable : (m : MapValue) (x : Sight) → IsTold m x → HasUsableAccent m x
-told-usable m (sight.Cell slot column) told = tt
-told-usable m (sight.Locks slot caps num) told = tt
-told-usable m (sight.Pair accent c) (usable, is) = usable
+    (subst (λ z. SeesAlong m z x) (sym is) (sees-longer m more h x (shows steady x has reachable)))
 
 -- where none of what is told of is left out
 pub none-out : (m : MapValue) (xs ys : List Sight) (t : Tour) → AreTold m xs → ys ≡ xs
@@ -63,14 +56,13 @@ none-out m xs ys t are same none steady x told reachable =
     none x (subst (λ z. Contains z x) (sym same) ((are x).0 told)) reachable
 
 -- Where something is left out though the tour shows all if no turn is one-way, some turn is.
-pub some-out : (m : MapValue) (xs ys zs : List Sight) (t other : Tour) → AreTold m xs → ys ≡ xs → zs ≡ xs
-    → SeesAll m zs t → (x : Sight) × Contains ys x × IsReachable m x × (has_seen t.seen x ≡ false)
+pub some-out : (m : MapValue) (xs ys zs : List Sight) (t other : Tour) → ys ≡ xs → zs ≡ xs → SeesAll m zs t
+    → (x : Sight) × Contains ys x × IsReachable m x × (has_seen t.seen x ≡ false)
     → LeavesNothingOut m other
-some-out m xs ys zs t other are same equal sees (x, has, reachable, unseen) steady y told can =
+some-out m xs ys zs t other same equal sees (x, has, reachable, unseen) steady y told can =
     let there : Contains xs x = subst (λ z. Contains z x) same has in
     absurd (true≢false
-    (sym (sees steady x (subst (λ z. Contains z x) (sym equal) there) (told-usable m x ((are x).1 there)) reachable)
-    ∙ unseen))
+    (sym (sees steady x (subst (λ z. Contains z x) (sym equal) there) reachable) ∙ unseen))
 
 -- what holds of the elements before a place, and of that at the place
 pub holds-more : (xs : List Sight) (i : ℕ) (d : Sight) (P : Sight → Type 0) → i < length xs → P (get_or xs i d)

@@ -40,7 +40,7 @@ use Rattle.keymap_cover.specs.Covering.{events, IsAtRest, Covers}
 use Rattle.keymap_cover.specs.Told.{IsTold}
 use Rattle.keymap_cover.proofs.Marking.{set-cases}
 use Rattle.keymap_cover.specs.Inner.Tours.{IsWith, IsPairOf, AddsPair, AddsSights, IsTour, AreUp}
-use Rattle.keymap_tour.specs.Plans.{AreInOrder}
+use Rattle.keymap_tour.specs.Plans.{AreParts}
 
 -- the pair of a press was added
 pub pair-added : (m : MapValue) (y : Selection) (k accent c : ℕ) (old now : Sight → Bool) → look_selected m y k ≡ Char c
@@ -329,12 +329,12 @@ all-off k lt = get_or-replicate 128 k false false lt
 -- a search that doesn't note that a modifier is forgotten met no such state
 pub never-forgets : (m : MapValue) (x : Sights) → AreSightsOf m x → x.forgets ≡ false → NeverForgets (alone m)
 never-forgets m x are e path is forgetful =
-    true≢false (sym ((are Note.Forgets).1 (path, is, forgetful)) ∙ e)
+    true≢false (sym ((are.noted Note.Forgets).1 (path, is, forgetful)) ∙ e)
 
 -- a tour that ends at rest, and leaves out nothing if no turn of a lock is one-way, covers
 pub tour-covers : (m : MapValue) (h : List Event) (c : Cover) (down : List Bool)
     → IsTour m h c.strokes.items down (has_seen c.seen) → IsAtRest m h → AreUp down → AreSightsOf m c.sights
-    → AreInOrder c.starts.items
+    → AreParts c.starts.items (length c.strokes.items)
     → (NoTurnIsOneWay m → (x : Sight) → IsTold m x → IsReachable m x → has_seen c.seen x ≡ true) → Covers m c
 tour-covers m h c down t rest up are parts nothing = record {
   seen = seen;

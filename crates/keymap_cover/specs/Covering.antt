@@ -1,5 +1,6 @@
 -- What a script covers.
-use Rattle.std.specs.Prelude.{◌≡◌, ℕ, ◌<◌, Bool, true, false, List, Option, None, Some, reverse, if◌then◌else◌}
+use Rattle.std.specs.Prelude.{◌≡◌, ℕ, ◌<◌, Bool, true, false, List, length, Option, None, Some, reverse}
+use Rattle.std.specs.Prelude.{if◌then◌else◌}
 use Rattle.std.specs.List.{count_by}
 use Rattle.keymap_core.specs.declared.action.Modifier.{Modifier}
 use Rattle.keymap_core.specs.Maps.{MapValue}
@@ -18,7 +19,7 @@ use Rattle.keymap_cover.specs.declared.parts.Verdict.TheVariants.{Seen, LeftOut,
 use Rattle.keymap_cover.specs.SeenSights.{has_seen}
 use Rattle.keymap_cover.specs.Strokes.{events_of, is_down, ArePossible}
 use Rattle.keymap_cover.specs.Told.{IsTold}
-use Rattle.keymap_tour.specs.Plans.{AreInOrder}
+use Rattle.keymap_tour.specs.Plans.{AreParts}
 
 -- the events of the script, with the newest first
 abbrev pub events : Cover → List Event
@@ -42,8 +43,8 @@ pub record Covers (m : MapValue) (c : Cover) : Type 0 where
   pub possible : ArePossible (reverse c.strokes.items)
   pub rest : IsAtRest m (events c)
   pub up : (k : ℕ) → k < key_count → is_down k (reverse c.strokes.items) ≡ false
-  -- its parts begin in their order, each at most once
-  pub parts : AreInOrder c.starts.items
+  -- its parts begin in their order, the first before all strokes, and each has a stroke
+  pub parts : AreParts c.starts.items (length c.strokes.items)
   -- where no turn of a lock is one-way, nothing that is told of and can be seen is left out
   pub complete : NoTurnIsOneWay m → (x : Sight) → IsTold m x → IsReachable m x → SeesAlong m (events c) x
 

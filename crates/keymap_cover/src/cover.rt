@@ -1,5 +1,5 @@
 //! A script that looks up what can be looked up, all of it where no turn of a lock is one-way, and what it sees.
-ghost use Rattle.std.specs.Prelude.{◌≡◌, ℕ, true, false, IfOk, MatchOption};
+ghost use Rattle.std.specs.Prelude.{◌≡◌, ℕ, nat_lt, true, false, filter, length, IfOk, MatchOption};
 ghost use Rattle.std.specs.List.{Contains};
 ghost use Rattle.console_core.specs.declared.selection.Sight.{Sight as SightValue};
 ghost use Rattle.console_core.specs.Moves.{alone};
@@ -8,16 +8,16 @@ ghost use Rattle.console_core.specs.Sticking.{ReachesMoreThan, state_limit};
 ghost use Rattle.keymap_cover.specs.Covering.{NeverSees, Covers, IsVerdict, verdict_of, IsCover};
 ghost use Rattle.keymap_cover.specs.Inner.Tours.{EndsAtRest, SeesAll, LeavesNothingOut};
 ghost use Rattle.keymap_cover.specs.SeenSights.{has_seen};
-ghost use Rattle.keymap_tour.specs.Plans.{AreInOrder};
+ghost use Rattle.keymap_tour.specs.Plans.{AreParts};
 
 use crate::parts::{Cover, Verdict};
 use crate::seen::Seen;
 use crate::told::told;
 use crate::tour::Tour;
 use console_core::laws::sights_are_reachable;
-use console_core::{Event, PlainConsole, Sight, Sights, events_that_show, sights_of};
+use console_core::{PlainConsole, Sight, Sights, events_that_show, sights_of};
 use keymap_core::KeyMap;
-use keymap_tour::{Part, Start, plan_for};
+use keymap_tour::{Part, Plan, Start, plan_for};
 use std::alloc::{AllocError, Global};
 
 /// Whether a press after some list that is spoken of may see it. The law says that what such a press sees can be seen.
@@ -72,28 +72,53 @@ fn leaves_out(seen: &Seen, sights: &Sights, map: &KeyMap, told: &[Sight]) -> boo
     false
 }
 
-/// The tour that is planned, and where its parts begin.
-fn tour_of(alloc: Global, map: &KeyMap) -> Result<(Tour, Vec<Start>), AllocError>
-    ensures tour { IfOk result (λ t. EndsAtRest map.now t.0) }
-    ensures parts { IfOk result (λ t. AreInOrder t.1.items) }
-{
-    let plan = plan_for(alloc, map)?;
-    let tour = Tour::along(alloc, &mut PlainConsole::new(map), map, &plan.events)?;
-    Ok((tour, plan.starts))
-}
-
-/// The only part of a script of these events begins before them.
-fn one_start(alloc: Global, events: &[Event]) -> Result<Vec<Start>, AllocError>
-    ensures { IfOk result (λ starts. AreInOrder starts.items) }
+/// The only part of a script of so many strokes, if it has any.
+fn one_start(alloc: Global, strokes: usize) -> Result<Vec<Start>, AllocError>
+    ensures { IfOk result (λ starts. AreParts starts.items strokes) }
 {
     let mut starts = Vec::new(alloc);
-    if !events.is_empty() {
+    if strokes > 0 {
         starts.push(Start {
             part: Part::Looks,
             at: 0,
         })?;
     }
     Ok(starts)
+}
+
+/// Those of these that begin before one of so many strokes.
+fn starts_before(alloc: Global, starts: &[Start], strokes: usize) -> Result<Vec<Start>, AllocError>
+    ensures { IfOk result (λ v. v.items ≡ filter (λ x. nat_lt x.at strokes) starts.now) }
+{
+    starts
+        .iter()
+        .copied()
+        .filter(|start| start.at < strokes)
+        .collect(alloc)
+}
+
+/// Where the parts of a plan begin among the strokes that its events made. An event that can't be made is left out, so
+/// there can be fewer strokes than events.
+fn starts_among(alloc: Global, plan: &Plan, strokes: usize) -> Result<Vec<Start>, AllocError>
+    requires { AreParts plan.now.starts.items (length plan.now.events.items) }
+    ensures { IfOk result (λ starts. AreParts starts.items strokes) }
+{
+    if plan.starts.is_empty() {
+        one_start(alloc, strokes)
+    } else {
+        starts_before(alloc, &plan.starts, strokes)
+    }
+}
+
+/// The tour that is planned, and where its parts begin.
+fn tour_of(alloc: Global, map: &KeyMap) -> Result<(Tour, Vec<Start>), AllocError>
+    ensures tour { IfOk result (λ t. EndsAtRest map.now t.0) }
+    ensures parts { IfOk result (λ t. AreParts t.1.items (length t.0.strokes.items)) }
+{
+    let plan = plan_for(alloc, map)?;
+    let tour = Tour::along(alloc, &mut PlainConsole::new(map), map, &plan.events)?;
+    let starts = starts_among(alloc, &plan, tour.strokes.len())?;
+    Ok((tour, starts))
 }
 
 /// The tour along events that show all of these, if no turn of a lock is one-way, or nothing where the search gives up.
@@ -103,12 +128,13 @@ fn tour_that_shows(
     told: &[Sight],
 ) -> Result<Option<(Tour, Vec<Start>)>, AllocError>
     ensures { IfOk result (λ x. MatchOption x ((p : ℕ) × ReachesMoreThan (alone map.now) state_limit p)
-        (λ t. EndsAtRest map.now t.0 × SeesAll map.now told.now t.0 × AreInOrder t.1.items)) }
+        (λ t. EndsAtRest map.now t.0 × SeesAll map.now told.now t.0 × AreParts t.1.items (length t.0.strokes.items))) }
 {
     match events_that_show(alloc, map, told)? {
         Some(events) => {
             let tour = Tour::along(alloc, &mut PlainConsole::new(map), map, &events)?;
-            Ok(Some((tour, one_start(alloc, &events)?)))
+            let starts = one_start(alloc, tour.strokes.len())?;
+            Ok(Some((tour, starts)))
         }
         None => Ok(None),
     }
@@ -123,7 +149,7 @@ fn best_tour(
 ) -> Result<Option<(Tour, Vec<Start>)>, AllocError>
     ensures { IfOk result (λ x. AreSightsOf map.now sights.now
         → MatchOption x ((p : ℕ) × ReachesMoreThan (alone map.now) state_limit p)
-        (λ t. EndsAtRest map.now t.0 × LeavesNothingOut map.now t.0 × AreInOrder t.1.items)) }
+        (λ t. EndsAtRest map.now t.0 × LeavesNothingOut map.now t.0 × AreParts t.1.items (length t.0.strokes.items))) }
 {
     let planned = tour_of(alloc, map)?;
     let told = told(alloc, map)?;

@@ -9,7 +9,7 @@
 //! new console, that what is told as left out can be seen, and that what is told as never seen no list of events sees,
 //! or no clean one where a key that holds a modifier can look up a character. Only released keys are pressed, only
 //! pressed ones repeated and released; at the end no key is down, no modifier on and no accent pending. The parts of
-//! the script begin in their order.
+//! the script begin in their order, the first before all strokes, and each has strokes.
 #![tactic(auto)]
 
 mod counts;

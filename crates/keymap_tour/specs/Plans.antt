@@ -1,6 +1,6 @@
--- The order in which the parts of a script begin.
-use Rattle.std.specs.Prelude.{ℕ, ◌<◌, List}
-use Rattle.std.specs.List.{AllPairs}
+-- Where the parts of a script begin.
+use Rattle.std.specs.Prelude.{◌≡◌, ℕ, ◌<◌, List, All}
+use Rattle.std.specs.List.{AllPairs, Contains}
 use Rattle.keymap_tour.specs.declared.Part.{Part}
 use Rattle.keymap_tour.specs.declared.Part.TheVariants.{Looks, Accents, Rules, OneWay}
 use Rattle.keymap_tour.specs.declared.Start.{Start}
@@ -12,6 +12,12 @@ part_place Accents = 1
 part_place Rules = 2
 part_place OneWay = 3
 
--- the parts stand in their order, each at most once
-abbrev pub AreInOrder : List Start → Type 0
-AreInOrder starts = AllPairs (λ x y. part_place x.part < part_place y.part) starts
+-- The parts that n events are in, each with one event or more: a part begins before its first event and ends where the
+-- next one begins, or behind the last event. A part without events has no beginning.
+pub record AreParts (starts : List Start) (n : ℕ) : Type 0 where
+  -- they stand in their order, each at most once, and each has an event before the next one begins
+  pub in_order : AllPairs (λ x y. (part_place x.part < part_place y.part) × (x.at < y.at)) starts
+  -- the last one has an event too
+  pub within : All (λ x. x.at < n) starts
+  -- the first event is in a part
+  pub first : 0 < n → (x : Start) × Contains starts x × (x.at ≡ 0)

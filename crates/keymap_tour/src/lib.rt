@@ -5,8 +5,8 @@
 //! events are written down.
 //!
 //! It promises nothing of the events: who delivers them notes what they see, as `keymap_cover` does. So hardly a
-//! function here has a clause, and all that is proved is that each call is safe and ends, and that the parts stand in
-//! their order.
+//! function here has a clause, and all that is proved is that each call is safe and ends, and where the parts begin:
+//! in their order, the first before all events, and each with an event of its own.
 #![tactic(auto)]
 
 mod accents;
@@ -23,8 +23,9 @@ mod trials;
 mod view;
 mod views;
 
-ghost use Rattle.std.specs.Prelude.{◌≡◌, ◌⊎◌, ◌∷◌, ◌++◌, [], IfOk, OnOk};
-ghost use Rattle.keymap_tour.specs.Plans.{AreInOrder};
+ghost use Rattle.std.specs.Prelude.{◌+◌, length, IfOk, OnOk};
+ghost use Rattle.keymap_tour.specs.Plans.{part_place, AreParts};
+ghost use Rattle.keymap_tour.specs.Inner.Adding.{ArePartsBelow};
 
 use crate::accents::accents;
 use crate::finds::rest;
@@ -91,32 +92,40 @@ pub struct Plan {
     pub starts: Vec<Start>,
 }
 
-/// Adds that the part begins there, unless it has no events.
-fn push_start(starts: &mut Vec<Start>, start: Start, events_len: usize) -> Result<(), AllocError>
-    ensures { OnOk result ((starts.new.items ≡ starts.old.items)
-        ⊎ (starts.new.items ≡ starts.old.items ++ start ∷ [])) }
-{
-    if events_len > start.at {
-        starts.push(start)?;
+impl Plan {
+    /// Adds the events of the part, and that it begins there, unless it has none.
+    fn add(&mut self, part: Part, events: &[Event]) -> Result<(), AllocError>
+        requires { ArePartsBelow (part_place part) self.old.starts.items (length self.old.events.items) }
+        ensures { OnOk result (ArePartsBelow (part_place part + 1) self.new.starts.items
+            (length self.new.events.items)) }
+    {
+        let at = self.events.len();
+        if !events.is_empty() {
+            self.starts.push(Start { part, at })?;
+            self.events.extend_from_slice(events)?;
+        }
+        Ok(())
     }
-    Ok(())
 }
 
-/// Writes all parts, and tells where they begin.
+/// Writes all parts, one behind the other.
 fn write_parts<T: Translator>(
     pen: &mut Pen<T>,
     views: &Views,
     map: &KeyMap,
-) -> Result<Vec<Start>, AllocError>
-    ensures { IfOk result (λ starts. AreInOrder starts.items) }
+) -> Result<Plan, AllocError>
+    ensures { IfOk result (λ plan. AreParts plan.starts.items (length plan.events.items)) }
 {
-    let mut starts = Vec::new(pen.alloc());
+    let alloc = pen.alloc();
+    let mut plan = Plan {
+        events: Vec::new(alloc),
+        starts: Vec::new(alloc),
+    };
     for part in PARTS {
-        let at = pen.events_len();
         write_part(pen, views, map, part)?;
-        push_start(&mut starts, Start { part, at }, pen.events_len())?;
+        plan.add(part, &pen.take_events())?;
     }
-    Ok(starts)
+    Ok(plan)
 }
 
 fn written<T: Translator>(
@@ -126,19 +135,15 @@ fn written<T: Translator>(
     views: &Views,
     console: &mut T,
 ) -> Result<Plan, AllocError>
-    ensures { IfOk result (λ plan. AreInOrder plan.starts.items) }
+    ensures { IfOk result (λ plan. AreParts plan.starts.items (length plan.events.items)) }
 {
     let mut pen = Pen::new(alloc, lookups, console)?;
-    let starts = write_parts(&mut pen, views, map)?;
-    Ok(Plan {
-        events: pen.into_events(),
-        starts,
-    })
+    write_parts(&mut pen, views, map)
 }
 
 /// The events to deliver to a new console of the keymap, and where their parts begin.
 pub fn plan_for(alloc: Global, map: &KeyMap) -> Result<Plan, AllocError>
-    ensures { IfOk result (λ plan. AreInOrder plan.starts.items) }
+    ensures { IfOk result (λ plan. AreParts plan.starts.items (length plan.events.items)) }
 {
     let lookups = Lookups::of(alloc, map)?;
     let views = Views::of(alloc, &lookups)?;

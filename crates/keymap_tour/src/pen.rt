@@ -4,6 +4,7 @@ use crate::state::{Locks, Move};
 use console_core::{Event, Selection, Translator, is_any_on};
 use keymap_core::{Cell, KEY_COUNT, KeyCode, Lock, Modifier, key_with};
 use std::alloc::{AllocError, Global};
+use std::mem;
 
 /// Which modifiers and locks are on.
 #[derive(Clone, Copy, PartialEq, Eq)]
@@ -12,7 +13,7 @@ pub(crate) struct Shown {
     locked: [bool; 4],
 }
 
-/// The events so far, the console after them, and what they saw.
+/// The events since they were last taken, the console after them, and what all events saw.
 #[derive(Drop)]
 pub(crate) struct Pen<'m, 'c, T: Translator> {
     alloc: Global,
@@ -59,13 +60,9 @@ impl<'m, 'c, T: Translator> Pen<'m, 'c, T> {
         })
     }
 
-    /// How many events there are.
-    pub(crate) fn events_len(&self) -> usize {
-        self.events.len()
-    }
-
-    pub(crate) fn into_events(self) -> Vec<Event> {
-        self.events
+    /// The events since they were last taken.
+    pub(crate) fn take_events(&mut self) -> Vec<Event> {
+        mem::replace(&mut self.events, Vec::new(self.alloc))
     }
 
     /// What allocates the paths.

@@ -1,5 +1,5 @@
 -- Events that show what can be seen, step by step. Mirrors src/showing.rt.
-use Rattle.std.specs.Prelude.{◌≡◌, ◌⊎◌, ℕ, true, List, ◌∷◌, ◌++◌, reverse, Some, slice_get}
+use Rattle.std.specs.Prelude.{◌≡◌, ◌⊎◌, ℕ, List, ◌∷◌, ◌++◌, reverse, Some, slice_get}
 use Rattle.keymap_core.specs.Actions.{modifiers}
 use Rattle.keymap_core.specs.declared.action.Action.TheVariants as act
 use Rattle.keymap_core.specs.declared.action.Lock.{Lock}
@@ -11,9 +11,7 @@ use Rattle.console_core.specs.declared.event.Event.TheVariants.{Press, Release, 
 use Rattle.console_core.specs.declared.selection.Sight.{Sight}
 use Rattle.console_core.specs.declared.selection.Sight.TheVariants as sight
 use Rattle.console_core.specs.declared.showing.Guide.{Guide}
-use Rattle.console_core.specs.Answers.{usable}
 use Rattle.console_core.specs.Moves.{Under, alone, State, IsIdle, look_in, releases, with_lock_turned}
-use Rattle.console_core.specs.Returning.{HasUsableAccent}
 use Rattle.console_core.specs.Sights.{Note, IsNoted, IsPendingFor, IsReachable, SeesAlong, SeesBy}
 use Rattle.console_core.specs.Sights.{selection_of}
 use Rattle.console_core.specs.Inner.Routes.{AreRoutesOf, GoesOn, IsMet, IsPlan, freed}
@@ -77,12 +75,11 @@ abbrev pub ShowsPairAt : Guide → State → ℕ → ℕ → ℕ → List Event 
 ShowsPairAt g s accent place k h now after =
     GoesOnAsPlanned g s h now after
     × ((x : Entry) (c : ℕ) → IsPlan (map_of_guide g) (entries_of g) h s → slice_get (entries_of g) place ≡ Some x
-    → usable (map_of_guide g) accent ≡ true → IsNoted (alone (map_of_guide g)) (Note.Offered accent)
+    → IsNoted (map_of_guide g) (Note.Offered accent)
     → SeesBy (map_of_guide g) (selection_of (state_of x.0)) k (sight.Pair accent c)
     → SeesAlong (map_of_guide g) now (sight.Pair accent c))
 
 abbrev pub Shows : Guide → State → Sight → List Event → List Event → State → Type 0
 Shows g s x h now after =
     GoesOnAsPlanned g s h now after
-    × (IsPlan (map_of_guide g) (entries_of g) h s → HasUsableAccent (map_of_guide g) x → IsReachable (map_of_guide g) x
-    → SeesAlong (map_of_guide g) now x)
+    × (IsPlan (map_of_guide g) (entries_of g) h s → IsReachable (map_of_guide g) x → SeesAlong (map_of_guide g) now x)

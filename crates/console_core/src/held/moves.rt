@@ -14,11 +14,10 @@ ghost use Rattle.console_core.specs.Moves.{Under, start as start_state, is_held 
 ghost use Rattle.console_core.specs.Moves.{map_in, next_map, exchanged as exchanged_in, IsFree};
 ghost use Rattle.console_core.specs.Moves.{with_holder as with_holder_in, with_lock_turned, HolderForgets};
 ghost use Rattle.console_core.specs.Moves.{IsForgetful, events_of_move, releases};
-ghost use Rattle.console_core.specs.Sights.{selection_of};
+ghost use Rattle.console_core.specs.Sights.{selection_of, Offers};
 ghost use Rattle.console_core.specs.Returning.{IsHome};
 ghost use Rattle.console_core.specs.Inner.Searching.{state_of, under_of, Entries, IsMetBy, IsLetGoMet};
 ghost use Rattle.console_core.specs.Inner.Searching.{IsExchangeMet, ArePressesMet, IsStep};
-ghost use Rattle.console_core.specs.Inner.Noting.{Offers};
 ghost use Rattle.console_core.specs.Inner.Routes.{freed};
 ghost use Rattle.console_core.specs.Inner.HeldBytes.{holder_number, bytes_of, held-equal, bool_equal, same-bytes};
 
@@ -227,7 +226,7 @@ impl Held {
     }
 
     /// Whether any lock is on but the scroll lock.
-    fn is_any_locked(&self) -> bool
+    pub fn is_any_locked(&self) -> bool
         ensures unlocked { result ≡ false → ((state_of self.now).is_locked Caps ≡ false)
             × ((state_of self.now).is_locked Num ≡ false) × ((state_of self.now).is_locked Alt ≡ false) }
         ensures locked { result ≡ true → (state_of self.now).is_locked Caps ≡ false

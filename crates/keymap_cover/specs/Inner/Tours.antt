@@ -10,7 +10,7 @@ use Rattle.keymap_core.specs.declared.entry.Cell.TheVariants.{Char}
 use Rattle.console_core.specs.declared.selection.Selection.{Selection}
 use Rattle.console_core.specs.declared.selection.Sight.TheVariants as sight
 use Rattle.console_core.specs.History.{Maps, between, HasKeys, HasNoLoads, IsNoLoad}
-use Rattle.console_core.specs.Returning.{HasUsableAccent, NoTurnIsOneWay}
+use Rattle.console_core.specs.Returning.{NoTurnIsOneWay}
 use Rattle.console_core.specs.Sights.{look_selected, SeesNext, SeesAlong, IsReachable}
 use Rattle.console_core.specs.Sticking.{IsOfPressedKey, ReleasesPressedKeys}
 use Rattle.keymap_cover.specs.declared.stroke.Stroke.{Stroke}
@@ -120,8 +120,7 @@ EndsAtRest m t = AreUp t.pressed × ((h : List Event) × IsTourOf m h t × IsAtR
 -- if no turn of a lock is one-way, it sees what of these can be seen
 abbrev pub SeesAll : MapValue → List Sight → Tour → Type 0
 SeesAll m xs t =
-    NoTurnIsOneWay m → (x : Sight) → Contains xs x → HasUsableAccent m x → IsReachable m x
-    → has_seen t.seen x ≡ true
+    NoTurnIsOneWay m → (x : Sight) → Contains xs x → IsReachable m x → has_seen t.seen x ≡ true
 
 -- and of all that is told of
 abbrev pub LeavesNothingOut : MapValue → Tour → Type 0

@@ -1,6 +1,7 @@
--- the parts before the place begin in their order
-use Rattle.keymap_tour.proofs.Ordered.{AreInOrderBelow}
+-- those of the parts before the place
+use Rattle.std.proofs.Common.{length}
+use Rattle.keymap_tour.specs.Inner.Adding.{ArePartsBelow}
 use Rattle.keymap_tour.proofs.write_parts.Given as goal
 
 abbrev pub invariant-loop-part : goal.invariant-loop-part
-invariant-loop-part g l = AreInOrderBelow l.part-index l.starts.items
+invariant-loop-part g l = ArePartsBelow l.part-index l.plan.starts.items (length l.plan.events.items)

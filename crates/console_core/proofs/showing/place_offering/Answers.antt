@@ -1,6 +1,6 @@
 use Rattle.std.proofs.Common.{◌≡◌, inl, inr, slice_get, Some, subst, sym, arith}
 use Rattle.std.proofs.lemmas.Option.{slice_get_within}
-use Rattle.console_core.specs.Inner.Noting.{Offers}
+use Rattle.console_core.specs.Sights.{Offers}
 use Rattle.console_core.specs.Inner.Searching.{state_of, under_of}
 use Rattle.console_core.proofs.Looking.{entry-at}
 use Rattle.console_core.proofs.Searching.{place_last}

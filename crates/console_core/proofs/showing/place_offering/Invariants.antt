@@ -1,7 +1,7 @@
 -- no key offers it at a place before this one
 use Rattle.std.proofs.Common.{◌≡◌, ◌<◌, ℕ, slice_get, Some}
 use Rattle.keymap_core.specs.Numbers.{key_count}
-use Rattle.console_core.specs.Inner.Noting.{Offers}
+use Rattle.console_core.specs.Sights.{Offers}
 use Rattle.console_core.specs.Inner.Searching.{Entry, state_of, under_of}
 use Rattle.console_core.proofs.showing.place_offering.Given as goal
 

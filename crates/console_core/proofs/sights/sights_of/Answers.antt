@@ -3,20 +3,19 @@ use Rattle.keymap_core.specs.declared.action.Lock.TheVariants.{Scroll}
 use Rattle.console_core.specs.declared.search.End.TheVariants as end
 use Rattle.console_core.specs.Moves.{alone, start}
 use Rattle.console_core.specs.Inner.Searching.{state_of, HasEnded}
-use Rattle.console_core.proofs.Noting.{searched-noted}
 use Rattle.console_core.proofs.sights.sights_of.Goals as goal
 
-pub returns-in-Complete : goal.returns-in-Complete
-returns-in-Complete c =
+pub meet_all-requires-clause-scroll : goal.meet_all-requires-clause-scroll
+meet_all-requires-clause-scroll c = ap (λ s. s.is_locked Scroll) c.start.ensures
+
+pub noted-requires-clause-searched : goal.noted-requires-clause-searched
+noted-requires-clause-searched c =
     let u = alone c.args.map.now in
     let es = c.meet_all.new.met.entries in
     let ended : HasEnded u start false es end.Complete =
     subst (λ s. HasEnded u s false es end.Complete) c.start.ensures
     (subst (λ o. HasEnded u (state_of c.start.result) false es o) c.in-Complete.is c.in_ok-meet_all.ensures) in
-    searched-noted c.args.map.now es c.in_ok-noted-in-Complete.field-0 ended.0 c.in_ok-noted-in-Complete.ensures
-
-pub meet_all-requires-clause-scroll : goal.meet_all-requires-clause-scroll
-meet_all-requires-clause-scroll c = ap (λ s. s.is_locked Scroll) c.start.ensures
+    ended.0
 
 pub returns-in-TooMany : goal.returns-in-TooMany
 returns-in-TooMany c =

@@ -1,5 +1,5 @@
 use Rattle.std.proofs.Common.{subst, sym, below_more}
-use Rattle.console_core.specs.Inner.Noting.{Offers}
+use Rattle.console_core.specs.Sights.{Offers}
 use Rattle.console_core.specs.Inner.Searching.{state_of, under_of}
 use Rattle.console_core.proofs.Noting.{one_accent}
 use Rattle.console_core.proofs.held.Held.key_offering.Goals as goal

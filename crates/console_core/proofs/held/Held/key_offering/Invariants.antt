@@ -1,6 +1,6 @@
 -- no key below the code offers it
 use Rattle.std.proofs.Common.{◌<◌, ℕ}
-use Rattle.console_core.specs.Inner.Noting.{Offers}
+use Rattle.console_core.specs.Sights.{Offers}
 use Rattle.console_core.specs.Inner.Searching.{state_of, under_of}
 use Rattle.console_core.proofs.held.Held.key_offering.Given as goal
 

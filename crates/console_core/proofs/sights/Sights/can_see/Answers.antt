@@ -1,24 +1,34 @@
-use Rattle.std.proofs.Common.{◌&&◌, ap, sym, ◌∙◌}
-use Rattle.console_core.specs.Sights.{Note, is_selected}
-use Rattle.console_core.proofs.Visible.{selected-value}
+use Rattle.std.proofs.Common.{◌≡◌, ap, sym, ◌∙◌}
+use Rattle.std.proofs.lemmas.Bool.{true≢false}
+use Rattle.console_core.specs.declared.selection.Sight.TheVariants.{Pair}
+use Rattle.console_core.specs.Sights.{can_see, is_composed}
+use Rattle.console_core.proofs.Visible.{sees-all, all-seen, seen-otherwise}
 use Rattle.console_core.proofs.sights.Sights.can_see.Goals as goal
 
-pub returns-then-is_offered-clause-reachable : goal.returns-then-is_offered-clause-reachable
-returns-then-is_offered-clause-reachable c =
-    λ are e.
-    let (y, has, (k, lt, sees)) = c.is_selected.ensures.seen e in (
-      c.is_offered.ensures.offered c.args.map.now are c.if-is_offered.true,
-      (y, k, (are (Note.Selected y)).0 has, lt, sees),
-    )
+pair-value : (c : goal.After-is_composed) → c.is_composed.result ≡ can_see c.args.map.now c.args.self.now c.args.sight
+pair-value c =
+    c.is_composed.ensures
+    ∙ ap (λ z. is_composed c.args.map.now z c.in-Pair.accent (Pair c.in-Pair.accent c.in-Pair.character)) c.deref.ensures.value
+    ∙ ap (λ x. can_see c.args.map.now c.args.self.now x) (sym c.in-Pair.is)
 
-pub returns-then-is_offered-clause-unreachable : goal.returns-then-is_offered-clause-unreachable
-returns-then-is_offered-clause-unreachable c =
-    λ are e (offered, (y, k, noted, lt, sees)).
-    c.is_selected.ensures.unseen e (y, (are (Note.Selected y)).1 noted, (k, lt, sees))
+pub returns-in-Pair-clause-reachable : goal.returns-in-Pair-clause-reachable
+returns-in-Pair-clause-reachable c =
+    λ are e. sees-all c.args.map.now c.args.self.now are c.args.sight (sym (pair-value c) ∙ e)
 
-pub returns-then-is_offered-clause-value : goal.returns-then-is_offered-clause-value
-returns-then-is_offered-clause-value c =
+pub returns-in-Pair-clause-unreachable : goal.returns-in-Pair-clause-unreachable
+returns-in-Pair-clause-unreachable c =
+    λ are e can.
+    true≢false (sym (all-seen c.args.map.now c.args.self.now are c.args.sight can) ∙ sym (pair-value c) ∙ e)
+
+pub returns-in_default : goal.returns-in_default
+returns-in_default c =
     let m = c.args.map.now in
-    let ys = c.args.self.now.selections.items in
-    selected-value m ys c.args.sight c.is_selected.result c.is_selected.ensures.seen c.is_selected.ensures.unseen
-    ∙ ap (λ b. b && is_selected m ys c.args.sight) (sym c.if-is_offered.true ∙ c.is_offered.ensures.value)
+    let s = c.args.self.now in
+    let value : c.is_selected.result ≡ can_see m s c.args.sight =
+    c.is_selected.ensures
+    ∙ seen-otherwise m s _ c.args.sight c.in_default.not-Pair c.deref-in_default.ensures.value in
+    record {
+      reachable = λ are e. sees-all m s are c.args.sight (sym value ∙ e);
+      unreachable = λ are e can. true≢false (sym (all-seen m s are c.args.sight can) ∙ sym value ∙ e);
+      value = value;
+    }

@@ -3,9 +3,9 @@ use Rattle.std.proofs.Common.{◌≡◌, ◌<◌, ℕ, get_or}
 use Rattle.keymap_core.specs.Numbers.{key_count}
 use Rattle.console_core.specs.Types.{Selection}
 use Rattle.console_core.specs.Sights.{SeesBy}
-use Rattle.console_core.proofs.sights.Sights.is_selected.Given as goal
+use Rattle.console_core.proofs.sights.is_selected.Given as goal
 
 abbrev pub invariant-loop-selection : goal.invariant-loop-selection
 invariant-loop-selection l =
-    (n : ℕ) → n < l.selection-index → (y : Selection) → get_or l.self.selections.items n y ≡ y → (k : ℕ) → k < key_count
+    (n : ℕ) → n < l.selection-index → (y : Selection) → get_or l.selections n y ≡ y → (k : ℕ) → k < key_count
     → SeesBy l.map y k l.sight → ⊥

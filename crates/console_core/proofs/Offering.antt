@@ -1,0 +1,477 @@
+-- The states behind where an accent is offered, as a search collects them, and the selections there.
+use Prim.Native.Nat.{zero, suc}
+use Rattle.std.proofs.Common.{◌≡◌, ℕ, ◌+◌, ◌<◌, ◌≤◌, ◌⊎◌, Bool, true, false, inl, inr, List, [], ◌∷◌, ◌++◌, length, refl}
+use Rattle.std.proofs.Common.{slice_get, Option, Some, None, ap, subst, sym, ◌∙◌, arith}
+use Rattle.std.specs.List.{Contains, IsDistinct}
+use Rattle.std.specs.Map.{keys_of, lookup}
+use Rattle.std.specs.Option.{is_some}
+use Rattle.std.proofs.lemmas.Bool.{cases_lt, true≢false}
+use Rattle.std.proofs.lemmas.List.Elements.{Contains-push_cases}
+use Rattle.std.proofs.lemmas.Option.{slice_get_within}
+use Rattle.indexmap.proofs.IndexTableLemmas.Probe.{pigeonhole}
+use Rattle.keymap_core.specs.declared.action.Lock.TheVariants.{Scroll}
+use Rattle.keymap_core.specs.Maps.{MapValue}
+use Rattle.console_core.specs.Types.{Modifier, Move, Hold, Turn, LetGo, Exchange, Selection, Offer, Sights}
+use Rattle.console_core.specs.declared.held.Held.{Held}
+use Rattle.console_core.specs.Answers.{usable}
+use Rattle.console_core.specs.Moves.{Under, alone, State, start, IsMove, moved, IsPath, state_after, IsPathFrom}
+use Rattle.console_core.specs.Moves.{state_from, IsForgetful}
+use Rattle.console_core.specs.Sights.{Note, IsNoted, Has, IsOfferedIn, AreSightsOf, accents_in, selection_of}
+use Rattle.console_core.specs.Sights.{IsOfferedAlong, HasNoDoubles}
+use Rattle.console_core.specs.Inner.Routes.{IsMet}
+use Rattle.console_core.specs.Inner.Searching.{state_of, Entry, Entries, Grows, AreWithin, AreAdded, IsMetBy}
+use Rattle.console_core.specs.Inner.Searching.{IsLetGoMet, IsExchangeMet, ArePressesMet, IsReached, LeavesScroll, Searched}
+use Rattle.console_core.specs.Inner.Standing.{unscrolled}
+use Rattle.console_core.specs.Inner.Noting.{AddsState, IsBehind, AreSeedsTo, AreBehindTo, AreBehind, IsOfferedUnlocked}
+use Rattle.console_core.specs.Inner.Noting.{AreSelectionsOf, AreAccentsOf, AreComposing, AreOffersOf}
+use Rattle.console_core.proofs.Arriving.{same-scrolled}
+use Rattle.console_core.proofs.Behind.{behind-offered, behind-more, behind-path, path-split}
+use Rattle.console_core.proofs.Exploring.{home-start}
+use Rattle.console_core.proofs.Growing.{at-now, at_old, at_new, at_last, from-cases, one_entry, scroll-left}
+use Rattle.console_core.proofs.Reaching.{distinct-at}
+use Rattle.console_core.proofs.Returning.{AreClosed, IsNear, near-along, near-met}
+use Rattle.console_core.proofs.Searching.{place_last, same_entry, meet-old}
+use Rattle.console_core.proofs.Staying.{emptied, emptied-kept, emptied-none}
+use Rattle.console_core.proofs.Visits.{path-first}
+
+-- ---- states are added
+
+-- what was met stays met
+met-grows : (es now : Entries) (s : State) → Grows es now → IsMet es s → IsMet now s
+met-grows es now s g (j, x, at, is) = (j, x, at-now es now j x g at, is)
+
+-- one that wasn't there
+pub state-new : (es now : Entries) (k : Held) → now ≡ es ++ (k, record { presses = 0; last = None }) ∷ []
+    → AreWithin es 0 → AddsState (state_of k) es now
+state-new es now k e within = record {
+  within = λ j x at. elim (either j x at) [
+    | inl old ↦ within j x old
+    | inr is ↦ omega (arith, ap (λ z. z.1.presses) is)
+  ];
+  grown = (new ∷ [], e);
+  added = (length es, new, subst (λ z. slice_get z (length es) ≡ Some new) (sym e) (at_last es new), refl);
+  only = λ j x at. elim (either j x at) [
+    | inl old ↦ inl old
+    | inr is ↦ inr (ap (λ z. state_of z.0) is)
+  ];
+}
+  where
+    new : Entry
+    new = (k, record { presses = 0; last = None })
+
+    either : (j : ℕ) (x : Entry) → slice_get now j ≡ Some x → (slice_get es j ≡ Some x) ⊎ (x ≡ new)
+    either j x at =
+        let there : slice_get (es ++ new ∷ []) j ≡ Some x = subst (λ z. slice_get z j ≡ Some x) e at in
+        elim (cases_lt j (length es)) [
+          | inl lt ↦ inl (at_old es (new ∷ []) j x lt there)
+          | inr le ↦ let (i, is) = at_new es (new ∷ []) j x le there in inr (one_entry new i x is).1
+        ]
+
+-- one that was
+pub state-old : (E : Held → Held → Bool) → ((a b : Held) → E a b ≡ true → state_of a ≡ state_of b) → (es : Entries)
+    → (k : Held) → is_some (lookup (E k) es) ≡ true → AreWithin es 0 → AddsState (state_of k) es es
+state-old E same es k e within =
+    let (j, x, at, is, le) = meet-old E same es 0 k e within in
+    record {
+      within = within;
+      grown = ([], sym (append-nothing es));
+      added = (j, x, at, is);
+      only = λ i y there. inl there;
+    }
+  where
+    append-nothing : (es : Entries) → es ++ [] ≡ es
+    append-nothing [] = refl
+    append-nothing (x ∷ es) = ap (λ z. x ∷ z) (append-nothing es)
+
+-- ---- where the accent is offered
+
+-- none at first
+pub seeds-none : (u : Under) (accent : ℕ) (met es : Entries) → es ≡ [] → AreSeedsTo u accent met 0 es
+seeds-none u accent met es e = record {
+  within = λ j x at. absurd (nothing j x at);
+  seeds = λ j x at lt. absurd (omega (arith, lt));
+  behind = λ j x at. absurd (nothing j x at);
+}
+  where
+    nothing : (j : ℕ) (x : Entry) → slice_get es j ≡ Some x → ⊥
+    nothing j x at =
+        let lt : j < length es = slice_get_within es j x at in
+        let z : length es ≡ 0 = ap (λ q. length q) e in omega (arith, lt, z)
+
+-- one more state offers it
+pub seeds-more : (u : Under) (accent : ℕ) (met es now : Entries) (n : ℕ) (x : Entry)
+    → Searched u start met (length met) (length met) → AreSeedsTo u accent met n es → slice_get met n ≡ Some x
+    → IsOfferedIn u (state_of x.0) accent → AddsState (state_of x.0) es now → AreSeedsTo u accent met (n + 1) now
+seeds-more u accent met es now n x searched before at offered added = record {
+  within = added.within;
+  seeds = λ j y there lt is. elim (place_last j n lt) [
+    | inl below ↦ met-grows es now (state_of y.0) added.grown (before.seeds j y there below is)
+    | inr e ↦ subst (λ z. IsMet now (state_of z.0)) (same_entry met j n y x e there at) added.added
+  ];
+  behind = λ j y there. elim (added.only j y there) [
+    | inl old ↦ before.behind j y old
+    | inr is ↦
+        let r : IsReached u start met n x = searched.reached n x at in (
+          subst (λ s. IsBehind u accent s) (sym is)
+              (behind-offered u r.0 accent r.2 (subst (λ s. IsOfferedIn u s accent) (sym r.3) offered) r.3),
+          ap (λ s. s.is_locked Scroll) is ∙ r.5,
+        )
+  ];
+}
+
+-- one more doesn't
+pub seeds-skip : (u : Under) (accent : ℕ) (met es : Entries) (n : ℕ) (x : Entry) → AreSeedsTo u accent met n es
+    → slice_get met n ≡ Some x → (IsOfferedIn u (state_of x.0) accent → ⊥) → AreSeedsTo u accent met (n + 1) es
+seeds-skip u accent met es n x before at none = record {
+  within = before.within;
+  seeds = λ j y there lt is. elim (place_last j n lt) [
+    | inl below ↦ before.seeds j y there below is
+    | inr e ↦
+        absurd (none (subst (λ z. IsOfferedIn u (state_of z.0) accent) (sym (same_entry met j n y x e there at)) is))
+  ];
+  behind = before.behind;
+}
+
+-- ---- where moves lead from there
+
+-- at first
+pub behind-start : (u : Under) (accent : ℕ) (met es : Entries) → AreSeedsTo u accent met (length met) es
+    → AreBehindTo u accent met es 0
+behind-start u accent met es seeds = record { seeds = seeds; moved = λ j x at lt. absurd (omega (arith, lt)) }
+
+-- what is added takes no presses that are told
+pub added-within : (u : Under) (s : State) (n q : ℕ) (es now : Entries) → AreAdded u s n q 0 es now → AreWithin es 0
+    → AreWithin now 0
+added-within u s n q es now added within j x at = elim (from-cases u s n q 0 es now added j x at) [
+  | inl old ↦ within j x old
+  | inr (after, from) ↦ omega (arith, from.1)
+]
+
+-- what is added is behind
+behind-added : (u : Under) (accent : ℕ) (met es now : Entries) (y : Entry) (n q : ℕ)
+    → AreSeedsTo u accent met (length met) es → slice_get es n ≡ Some y → AreAdded u (state_of y.0) n q 0 es now
+    → AreSeedsTo u accent met (length met) now
+behind-added u accent met es now y n q before here added = record {
+  within = added-within u (state_of y.0) n q es now added before.within;
+  seeds = λ j x at lt is. met-grows es now (state_of x.0) (added.0, added.1) (before.seeds j x at lt is);
+  behind = λ j x at. elim (from-cases u (state_of y.0) n q 0 es now added j x at) [
+    | inl old ↦ before.behind j x old
+    | inr (after, (by, count, last, is, leads, presses, leaves)) ↦
+        let (behind, off) = before.behind n y here in (
+          subst (λ s. IsBehind u accent s) (sym leads) (behind-more u accent (state_of y.0) by behind is),
+          ap (λ s. s.is_locked Scroll) leads ∙ scroll-left u (state_of y.0) by leaves off,
+        )
+  ];
+}
+
+-- where moves lead from one more state was added
+pub behind-step : (u : Under) (accent : ℕ) (met es mid now : Entries) (n : ℕ) (y : Entry)
+    → AreBehindTo u accent met es n → slice_get es n ≡ Some y → AreAdded u (state_of y.0) n 0 0 es mid
+    → AreAdded u (state_of y.0) n 1 0 mid now → ((i : Modifier) → IsLetGoMet mid 0 (state_of y.0) i)
+    → IsExchangeMet u mid 0 (state_of y.0) → ((k : ℕ) → k < 128 → ArePressesMet u now 0 (state_of y.0) k)
+    → AreBehindTo u accent met now (n + 1)
+behind-step u accent met es mid now n y before here first second let_go load press = record {
+  seeds =
+      behind-added u accent met mid now y n 1 (behind-added u accent met es mid y n 0 before.seeds here first)
+      (at-now es mid n y (first.0, first.1) here) second;
+  moved = λ j x at lt move is leaves. elim (place_last j n lt) [
+    | inl below ↦
+        later (moved u (state_of x.0) move) (before.moved j x (was j x below at) below move is leaves)
+    | inr e ↦
+        let there : slice_get now n ≡ Some y =
+        at-now mid now n y (second.0, second.1) (at-now es mid n y (first.0, first.1) here) in
+        subst (λ z. IsMet now (moved u (state_of z.0) move)) (same_entry now j n x y e at there)
+        (from_here move (subst (λ z. IsMove u (state_of z.0) move) (sym (same_entry now j n x y e at there)) is) leaves)
+  ];
+}
+  where
+    s : State
+    s = state_of y.0
+
+    up : (t : State) → IsMet mid t → IsMet now t
+    up t there = met-grows mid now t (second.0, second.1) there
+
+    later : (t : State) → IsMet es t → IsMet now t
+    later t there = up t (met-grows es mid t (first.0, first.1) there)
+
+    was : (j : ℕ) (x : Entry) → j < n → slice_get now j ≡ Some x → slice_get es j ≡ Some x
+    was j x below at =
+        let lt : n < length es = slice_get_within es n y here in
+        let mid_lt : n < length mid = slice_get_within mid n y (at-now es mid n y (first.0, first.1) here) in
+        at_old es first.0 j x (omega (arith, below, lt))
+        (subst (λ z. slice_get z j ≡ Some x) first.1
+        (at_old mid second.0 j x (omega (arith, below, mid_lt))
+        (subst (λ z. slice_get z j ≡ Some x) second.1 at)))
+
+    met-by : (es : Entries) (t : State) → IsMetBy es 0 t → IsMet es t
+    met-by es t (j, x, at, is, le) = (j, x, at, is)
+
+    from_here : (move : Move) → IsMove u s move → LeavesScroll move → IsMet now (moved u s move)
+    from_here (Hold k i) (lt, idle, seen, free) leaves = met-by now _ ((press k lt idle).0 i seen free)
+    from_here (Turn k l) (lt, idle, seen) leaves = met-by now _ ((press k lt idle).1 l leaves seen)
+    from_here (LetGo k i) holds leaves = up _ (met-by mid _ (let_go i k holds))
+    from_here Exchange is leaves = up _ (met-by mid _ (load is))
+
+-- ---- there are no more than were met
+
+-- the place where a state behind was met
+met-place : (u : Under) (accent : ℕ) (met es : Entries) → Searched u start met (length met) (length met)
+    → AreSeedsTo u accent met (length met) es → (j : ℕ) (x : Entry) → slice_get es j ≡ Some x
+    → (i : ℕ) × (z : Entry) × (slice_get met i ≡ Some z) × (state_of z.0 ≡ state_of x.0)
+met-place u accent met es searched seeds j x at =
+    let ((path, is, offered, leads), off) = seeds.behind j x at in
+    let (i, z, there, near) = near-met u met searched path is in
+    let r : IsReached u start met i z = searched.reached i z there in (
+      i,
+      z,
+      there,
+      same-scrolled (state_of z.0) (state_of x.0) (near ∙ ap (λ s. unscrolled s) leads) (r.5 ∙ sym off),
+    )
+
+-- an entry stands at each place
+entry-below : (es : Entries) (j : ℕ) → j < length es → (x : Entry) × (slice_get es j ≡ Some x)
+entry-below [] j lt = absurd (omega (arith, lt))
+entry-below (x ∷ es) zero lt = (x, refl)
+entry-below (x ∷ es) (suc j) lt = entry-below es j (omega (arith, lt))
+
+-- states that were met at one place are the same
+same-met : (met : Entries) (i j : ℕ) (x y z w : Entry) → i ≡ j → slice_get met i ≡ Some z → slice_get met j ≡ Some w
+    → state_of z.0 ≡ state_of x.0 → state_of w.0 ≡ state_of y.0 → state_of x.0 ≡ state_of y.0
+same-met met i j x y z w e there there_j is is_j =
+    sym is ∙ ap (λ q. state_of q.0) (sym (same_entry met i j z w e there there_j)) ∙ is_j
+
+pub behind-few : (E : Held → Held → Bool) → ((a b : Held) → state_of a ≡ state_of b → E a b ≡ true) → (u : Under)
+    → (accent : ℕ) (met es : Entries) → Searched u start met (length met) (length met)
+    → AreSeedsTo u accent met (length met) es → IsDistinct E (keys_of es) → length es ≤ length met
+behind-few E test u accent met es searched seeds distinct = pigeonhole (length es) (length met) place into one
+  where
+    here : (j : ℕ) (o : Option Entry) → slice_get es j ≡ o → ℕ
+    here j None e = 0
+    here j (Some x) e = (met-place u accent met es searched seeds j x e).0
+
+    place : ℕ → ℕ
+    place j = here j (slice_get es j) refl
+
+    -- the entry of a place
+    Meets : ℕ → ℕ → Type 0
+    Meets j i =
+        (x z : Entry) × (slice_get es j ≡ Some x) × (slice_get met i ≡ Some z) × (state_of z.0 ≡ state_of x.0)
+
+    meets-by : (j : ℕ) → j < length es → (o : Option Entry) (e : slice_get es j ≡ o) → Meets j (here j o e)
+    meets-by j lt None e =
+        let (x, at) = entry-below es j lt in let f : Some x ≡ None = sym at ∙ e in absurd (let g = f in cc)
+    meets-by j lt (Some x) e =
+        let (i, z, there, is) = met-place u accent met es searched seeds j x e in (x, z, e, there, is)
+
+    meets : (j : ℕ) → j < length es → Meets j (place j)
+    meets j lt = meets-by j lt (slice_get es j) refl
+
+    into : (j : ℕ) → j < length es → place j < length met
+    into j lt = let (x, z, at, there, is) = meets j lt in slice_get_within met (place j) z there
+
+    apart : (i j : ℕ) → i < j → i < length es → j < length es → place i ≡ place j → ⊥
+    apart i j lt lt_i lt_j e =
+        let (x, z, at, there, is) = meets i lt_i in
+        let (y, w, at_j, there_j, is_j) = meets j lt_j in
+        true≢false (sym (test x.0 y.0 (same-met met (place i) (place j) x y z w e there there_j is is_j))
+        ∙ distinct-at E es distinct i j x y lt at at_j)
+
+    one : (i j : ℕ) → i < length es → j < length es → place i ≡ place j → i ≡ j
+    one i j lt_i lt_j e = elim (cases_lt i j) [
+      | inl lt ↦ absurd (apart i j lt lt_i lt_j e)
+      | inr le ↦ elim (cases_lt j i) [
+        | inl lt ↦ absurd (apart j i lt lt_j lt_i (sym e))
+        | inr ge ↦ omega (arith, le, ge)
+      ]
+    ]
+
+-- ---- the selections there
+
+-- offers don't depend on the scroll lock
+offered-near : (u : Under) (s t : State) (accent : ℕ) → unscrolled t ≡ unscrolled s → IsOfferedIn u s accent
+    → IsOfferedIn u t accent
+offered-near u s t accent e is = subst (λ x. IsOfferedIn u x accent) (sym e) is
+
+-- one of the states is near where the rest of a path leads from an offer
+near-later : (u : Under) (accent : ℕ) (met es : Entries) → Searched u start met (length met) (length met)
+    → AreBehind u accent met es → (later before : List Move) → IsPath u before
+    → IsPathFrom u (state_after u before) later → IsOfferedIn u (state_after u before) accent
+    → IsNear es (state_from u (state_after u before) later)
+near-later u accent met es searched behind later before is goes offered =
+    let (j, z, there, near) = near-met u met searched before is in
+    let (i, w, seed, same) =
+    behind.seeds.seeds j z there (slice_get_within met j z there)
+    (offered-near u (state_after u before) (state_of z.0) accent near offered) in
+    let closed : AreClosed u es = λ k x place move made leaves.
+    behind.moved k x place (slice_get_within es k x place) move made leaves in
+    near-along u es closed (state_after u before) later (i, w, seed, ap (λ q. unscrolled q) same ∙ near) goes
+
+-- so one is near each behind it
+near-behind : (u : Under) (accent : ℕ) (met es : Entries) → Searched u start met (length met) (length met)
+    → AreBehind u accent met es → (path : List Move) → IsPath u path → IsOfferedAlong u path accent
+    → IsNear es (state_after u path)
+near-behind u accent met es searched behind path is (later, before, at, offered) =
+    let parts = path-split u start later before (subst (λ p. IsPath u p) at is) in
+    subst (λ p. IsNear es (state_after u p)) (sym at)
+    (subst (λ t. IsNear es t) (sym parts.2)
+    (near-later u accent met es searched behind later before parts.0 parts.1 offered))
+
+-- a selection is noted of a state behind
+behind-noted : (m : MapValue) (accent : ℕ) (s : State) (y : Selection) → IsBehind (alone m) accent s
+    → selection_of s ≡ y → IsNoted m (Note.Composing accent y)
+behind-noted m accent s y (path, is, offered, leads) e =
+    (path, is, (offered, ap (λ t. selection_of t) leads ∙ e))
+
+pub composing-behind : (m : MapValue) (accent : ℕ) (met es : Entries) (ys : List Selection)
+    → Searched (alone m) start met (length met) (length met) → AreBehind (alone m) accent met es
+    → AreSelectionsOf es ys → AreComposing m accent ys
+composing-behind m accent met es ys searched behind are = record {
+  all = λ y (path, is, (offered, e)).
+      let (j, x, at, near) =
+      near-behind (alone m) accent met es searched behind path is offered in
+      subst (λ z. Contains ys z) (ap (λ s. selection_of s) near ∙ e)
+      (are.all j x at (slice_get_within es j x at));
+  only = λ y has.
+      let (j, x, at, e) = are.only y has in
+      behind-noted m accent (state_of x.0) y (behind.seeds.behind j x at).0 e;
+  once = are.once;
+}
+
+-- Where the accent is offered with no lock on, all let go leads to the start, so all states are behind.
+start-behind : (m : MapValue) (accent : ℕ) (met : Entries) → Searched (alone m) start met (length met) (length met)
+    → usable m accent ≡ true → IsOfferedUnlocked (alone m) met accent → IsBehind (alone m) accent start
+start-behind m accent met searched can (j, x, at, unlocked, offers) =
+    let u : Under = alone m in
+    let s : State = state_of x.0 in
+    let r : IsReached u start met j x = searched.reached j x at in
+    let here : IsBehind u accent s =
+    behind-offered u r.0 accent r.2 (subst (λ t. IsOfferedIn u t accent) (sym r.3) (can, offers)) r.3 in
+    let first : s.is_second ≡ false = ap (λ t. t.is_second) (sym r.3) ∙ path-first m start r.0 r.2 in
+    subst (λ t. IsBehind u accent t)
+    (home-start (emptied s) ((λ i. emptied-none s i), unlocked) first r.5)
+    (emptied-kept (λ t. IsBehind u accent t) (λ t k i there holds. behind-more u accent t (LetGo k i) there holds) s
+    here)
+
+pub composing-all : (m : MapValue) (accent : ℕ) (met : Entries) (ys : List Selection)
+    → Searched (alone m) start met (length met) (length met) → usable m accent ≡ true
+    → IsOfferedUnlocked (alone m) met accent → AreSelectionsOf met ys → AreComposing m accent ys
+composing-all m accent met ys searched can offered are = record {
+  all = λ y (path, is, (along, e)).
+      let (j, x, at, near) = near-met (alone m) met searched path is in
+      subst (λ z. Contains ys z) (ap (λ s. selection_of s) near ∙ e)
+      (are.all j x at (slice_get_within met j x at));
+  only = λ y has.
+      let (j, x, at, e) = are.only y has in
+      let r : IsReached (alone m) start met j x = searched.reached j x at in
+      behind-noted m accent (state_of x.0) y
+      (subst (λ t. IsBehind (alone m) accent t) r.3
+      (behind-path (alone m) accent start r.0 (start-behind m accent met searched can offered) r.2))
+      e;
+  once = are.once;
+}
+
+-- ---- all together
+
+-- the offers of no accents, and of one more
+pub offers-none : (m : MapValue) (offers : List Offer) → offers ≡ [] → AreOffersOf m [] offers
+offers-none m offers e = record {
+  all = ap accents_in e;
+  each = λ o (k, lt, at). let z : length offers ≡ 0 = ap (λ q. length q) e in absurd (omega (arith, lt, z));
+}
+
+accents-push : (offers : List Offer) (o : Offer) → accents_in (offers ++ o ∷ []) ≡ accents_in offers ++ o.accent ∷ []
+accents-push [] o = refl
+accents-push (x ∷ offers) o = ap (λ z. x.accent ∷ z) (accents-push offers o)
+
+pub offers-more : (m : MapValue) (accents : List ℕ) (offers now : List Offer) (o : Offer) → AreOffersOf m accents offers
+    → now ≡ offers ++ o ∷ [] → AreComposing m o.accent o.selections.items
+    → AreOffersOf m (accents ++ o.accent ∷ []) now
+offers-more m accents offers now o before e is = subst (λ z. AreOffersOf m (accents ++ o.accent ∷ []) z) (sym e) (record {
+  all = accents-push offers o ∙ ap (λ z. z ++ o.accent ∷ []) before.all;
+  each = λ p has. elim (Contains-push_cases offers o p has) [
+    | inl was ↦ before.each p was
+    | inr same ↦ subst (λ q. AreComposing m q.accent q.selections.items) same is
+  ];
+})
+
+-- an accent of the offers has one
+has-offer : (offers : List Offer) (accent : ℕ) → Contains (accents_in offers) accent
+    → (o : Offer) × Contains offers o × (o.accent ≡ accent)
+has-offer [] accent (k, lt, at) = absurd (omega (arith, lt))
+has-offer (o ∷ offers) accent (zero, lt, at) = (o, (0, omega arith, refl), at)
+has-offer (o ∷ offers) accent (suc k, lt, at) =
+    let (p, (n, below, is), same) = has-offer offers accent (k, omega (arith, lt), at) in
+    (p, (suc n, omega (arith, below), is), same)
+
+offer-has : (offers : List Offer) (o : Offer) → Contains offers o → Contains (accents_in offers) o.accent
+offer-has [] o (k, lt, at) = absurd (omega (arith, lt))
+offer-has (p ∷ offers) o (zero, lt, at) = (0, omega arith, ap (λ q. q.accent) at)
+offer-has (p ∷ offers) o (suc k, lt, at) =
+    let (n, below, is) = offer-has offers o (k, omega (arith, lt), at) in (suc n, omega (arith, below), is)
+
+pub sights-are : (m : MapValue) (met : Entries) (x : Sights) (accents : List ℕ)
+    → Searched (alone m) start met (length met) (length met) → AreSelectionsOf met x.selections.items
+    → AreAccentsOf (alone m) met accents → AreOffersOf m accents x.offers.items
+    → (x.forgets ≡ true → (j : ℕ) × (z : Entry) × (slice_get met j ≡ Some z) × IsForgetful (alone m) (state_of z.0))
+    → (x.forgets ≡ false → (j : ℕ) (z : Entry) → slice_get met j ≡ Some z → IsForgetful (alone m) (state_of z.0) → ⊥)
+    → AreSightsOf m x
+sights-are m met x accents searched selections offered offers some none = record {
+  noted = λ n. (only n, all n);
+  selections = selections.once;
+  accents = subst (λ z. HasNoDoubles z) (sym offers.all) offered.once;
+  composing = λ o has. (offers.each o has).once;
+}
+  where
+    u : Under
+    u = alone m
+
+    reached : (j : ℕ) (z : Entry) → slice_get met j ≡ Some z → (P : State → Type 0) → P (state_of z.0)
+        → (path : List Move) × IsPath u path × P (state_after u path)
+    reached j z at P is =
+        let r : IsReached u start met j z = searched.reached j z at in
+        (r.0, r.2, subst P (sym r.3) is)
+
+    offer-of : (accent : ℕ) → Contains accents accent
+        → (o : Offer) × Contains x.offers.items o × (o.accent ≡ accent)
+    offer-of accent has = has-offer x.offers.items accent (subst (λ z. Contains z accent) (sym offers.all) has)
+
+    only : (n : Note) → Has x n → IsNoted m n
+    only (Note.Selected y) has =
+        let (j, z, at, e) = selections.only y has in reached j z at (λ s. selection_of s ≡ y) e
+    only (Note.Offered accent) has =
+        let (j, z, at, is) = offered.only accent (subst (λ q. Contains q accent) offers.all has) in
+        reached j z at (λ s. IsOfferedIn u s accent) is
+    only (Note.Composing accent y) (o, has, same, there) =
+        subst (λ a. IsNoted m (Note.Composing a y)) same ((offers.each o has).only y there)
+    only Note.Forgets e = let (j, z, at, is) = some e in reached j z at (λ s. IsForgetful u s) is
+
+    all : (n : Note) → IsNoted m n → Has x n
+    all (Note.Selected y) (path, is, e) =
+        let (j, z, at, near) = near-met u met searched path is in
+        subst (λ q. Contains x.selections.items q) (ap (λ s. selection_of s) near ∙ e)
+        (selections.all j z at (slice_get_within met j z at))
+    all (Note.Offered accent) (path, is, here) =
+        let (j, z, at, near) = near-met u met searched path is in
+        subst (λ q. Contains q accent) (sym offers.all)
+        (offered.all j z accent at (slice_get_within met j z at)
+        (offered-near u (state_after u path) (state_of z.0) accent near here))
+    all (Note.Composing accent y) (path, is, ((later, before, at, here), e)) =
+        let parts = path-split u start later before (subst (λ p. IsPath u p) at is) in
+        let (o, has, same) =
+        offer-of accent
+        (let (j, z, place, near) = near-met u met searched before parts.0 in
+        offered.all j z accent place (slice_get_within met j z place)
+        (offered-near u (state_after u before) (state_of z.0) accent near here)) in (
+          o,
+          has,
+          same,
+          (offers.each o has).all y
+              (subst (λ a. IsNoted m (Note.Composing a y)) (sym same) (path, is, ((later, before, at, here), e))),
+        )
+    all Note.Forgets (path, is, forgetful) = by x.forgets refl
+      where
+        by : (b : Bool) → x.forgets ≡ b → x.forgets ≡ true
+        by true e = e
+        by false e =
+            let (j, z, at, near) = near-met u met searched path is in
+            absurd (none e j z at (subst (λ s. IsForgetful u s) (sym near) forgetful))

@@ -1,0 +1,181 @@
+-- What can be seen is seen by a press after a clean list of presses and releases.
+use Rattle.std.proofs.Common.{◌≡◌, ◌<◌, ℕ, true, false, List, [], ◌∷◌, ◌++◌, All, Some, None, ap, subst, sym}
+use Rattle.std.proofs.Common.{◌∙◌, append_assoc}
+use Rattle.std.proofs.lemmas.Bool.{false≢true}
+use Rattle.std.proofs.lemmas.List.Elements.{All-nil, All-cons}
+use Rattle.std.proofs.lemmas.Option.{none-some}
+use Rattle.keymap_core.specs.declared.action.Action.TheVariants as act
+use Rattle.keymap_core.specs.Maps.{MapValue}
+use Rattle.console_core.specs.Types.{Modifier, Act, Char, Event, Press, Release, Move, Hold, Turn, LetGo, Exchange, Sight}
+use Rattle.console_core.specs.declared.explored.Symbol.TheVariants as symbol
+use Rattle.console_core.specs.declared.selection.Sight.TheVariants as sight
+use Rattle.console_core.specs.History.{between, resolved}
+use Rattle.console_core.specs.Moves.{Under, alone, State, start, IsIdle, IsMove, IsPath, IsPathFrom, look_in, state_after}
+use Rattle.console_core.specs.Moves.{state_from, events_along, events_of_move}
+use Rattle.console_core.specs.Resolved.{pending, remembered}
+use Rattle.console_core.specs.Reading.{look_after}
+use Rattle.console_core.specs.Sights.{IsAdmitted, IsClean, IsPendingFor, ReachableIsSeen, SeesBy, SeesNext, selection_of}
+use Rattle.console_core.specs.Sticking.{IsPressOrRelease, ReleasesPressedKeys}
+use Rattle.console_core.specs.Inner.Routes.{GoesOn}
+use Rattle.console_core.specs.Inner.Standing.{Stands}
+use Rattle.console_core.proofs.Behind.{path-split}
+use Rattle.console_core.proofs.Going.{going-sees, pending-along, tap-pending}
+use Rattle.console_core.proofs.OneMore.{resolved-start, pending-start}
+use Rattle.console_core.proofs.Scripts.{idle-none, stands-from, stands-start}
+use Rattle.console_core.proofs.Strokes.{stands-tap}
+use Rattle.console_core.proofs.Visits.{goes-goes, path-goes, tap-goes}
+
+-- presses and releases, of which no press forgets that its key holds a modifier
+record IsPlain (m : MapValue) (h : List Event) : Type 0 where
+  sent : All IsPressOrRelease h
+  clean : IsClean (between m m) h
+
+plain-start : (m : MapValue) → IsPlain m []
+plain-start m = record {
+  sent = All-nil IsPressOrRelease;
+  clean = λ later before k i c at held seen. nothing later before k at;
+}
+  where
+    nothing : (later before : List Event) (k : ℕ) → [] ≡ later ++ Press k ∷ before → ⊥
+    nothing [] before k e = let f : [] ≡ Press k ∷ before = e in cc
+    nothing (x ∷ later) before k e = let f : [] ≡ x ∷ (later ++ Press k ∷ before) = e in cc
+
+tail-same : (a b : Event) (g h : List Event) → a ∷ g ≡ b ∷ h → g ≡ h
+tail-same a b g h e = cc
+
+-- a press of a key that remembers nothing
+plain-press : (m : MapValue) (h : List Event) (k : ℕ) → remembered k (resolved (between m m) h) ≡ None → IsPlain m h
+    → IsPlain m (Press k ∷ h)
+plain-press m h k none x = record {
+  sent = All-cons IsPressOrRelease (Press k) h tt x.sent;
+  clean = λ later before j i c at held seen. by later before j i at held seen;
+}
+  where
+    by : (later before : List Event) (j : ℕ) (i : Modifier) → Press k ∷ h ≡ later ++ Press j ∷ before
+        → remembered j (resolved (between m m) before) ≡ Some (act.Mod i)
+        → {c : ℕ} → look_after (between m m) j before ≡ Char c → ⊥
+    by [] before j i at held seen =
+        let key : k ≡ j = let f : Press k ∷ h ≡ Press j ∷ before = at in cc in
+        let rest : h ≡ before = tail-same (Press k) (Press j) h before at in
+        none-some (act.Mod i)
+        (sym none ∙ ap (λ n. remembered n (resolved (between m m) h)) key
+        ∙ ap (λ g. remembered j (resolved (between m m) g)) rest ∙ held)
+    by (e ∷ later) before j i at held seen =
+        x.clean later before j i _ (tail-same (Press k) e h (later ++ Press j ∷ before) at) held seen
+
+plain-release : (m : MapValue) (h : List Event) (k : ℕ) → IsPlain m h → IsPlain m (Release k ∷ h)
+plain-release m h k x = record {
+  sent = All-cons IsPressOrRelease (Release k) h tt x.sent;
+  clean = λ later before j i c at held seen. by later before j i at held seen;
+}
+  where
+    by : (later before : List Event) (j : ℕ) (i : Modifier) → Release k ∷ h ≡ later ++ Press j ∷ before
+        → remembered j (resolved (between m m) before) ≡ Some (act.Mod i)
+        → {c : ℕ} → look_after (between m m) j before ≡ Char c → ⊥
+    by [] before j i at held seen = let f : Release k ∷ h ≡ Press j ∷ before = at in cc
+    by (e ∷ later) before j i at held seen =
+        x.clean later before j i _ (tail-same (Release k) e h (later ++ Press j ∷ before) at) held seen
+
+-- a press of an idle key, where the console stands in the state
+plain-idle : (m : MapValue) (h : List Event) (s : State) (k : ℕ) → Stands (alone m) h s → IsIdle s k → IsPlain m h
+    → IsPlain m (Press k ∷ h)
+plain-idle m h s k x idle plain = plain-press m h k (idle-none (resolved (between m m) h) s k x.exact idle) plain
+
+plain-move : (m : MapValue) (h : List Event) (s : State) (move : Move) → Stands (alone m) h s → IsMove (alone m) s move
+    → IsPlain m h → IsPlain m (events_of_move move ++ h)
+plain-move m h s (Hold k i) x is plain = plain-idle m h s k x is.1 plain
+plain-move m h s (Turn k l) x is plain = plain-release m (Press k ∷ h) k (plain-idle m h s k x is.1 plain)
+plain-move m h s (LetGo k i) x is plain = plain-release m h k plain
+plain-move m h s Exchange x is plain = absurd (false≢true is.1)
+
+plain-along : (m : MapValue) (h : List Event) (s : State) (path : List Move) → Stands (alone m) h s
+    → IsPathFrom (alone m) s path → IsPlain m h → IsPlain m (events_along path ++ h)
+plain-along m h s [] x is plain = plain
+plain-along m h s (move ∷ path) x is plain =
+    subst (λ g. IsPlain m g) (sym (append_assoc (events_of_move move) (events_along path) h))
+    (plain-move m (events_along path ++ h) (state_from (alone m) s path) move (stands-from (alone m) h s path x is.1)
+    is.0 (plain-along m h s path x is.1 plain))
+
+-- After the list the console stands in the state; the list is plain, and releases pressed keys.
+record IsShort (m : MapValue) (h : List Event) (s : State) : Type 0 where
+  stands : Stands (alone m) h s
+  plain : IsPlain m h
+  goes : GoesOn m [] h
+
+short-start : (m : MapValue) → IsShort m [] start
+short-start m = record {
+  stands = stands-start (alone m);
+  plain = plain-start m;
+  goes = record { keys = λ x. x; loads = λ x. x; releases = λ x. x; sees = λ x along. along };
+}
+
+short-along : (m : MapValue) (h : List Event) (s : State) (path : List Move) → IsShort m h s
+    → IsPathFrom (alone m) s path → IsShort m (events_along path ++ h) (state_from (alone m) s path)
+short-along m h s path x is = record {
+  stands = stands-from (alone m) h s path x.stands is;
+  plain = plain-along m h s path x.stands is x.plain;
+  goes = goes-goes m [] h (events_along path ++ h) x.goes (path-goes m h s path x.stands is);
+}
+
+short-tap : (m : MapValue) (h : List Event) (s : State) (k accent : ℕ) → IsShort m h s → k < 128 → IsIdle s k
+    → look_in (alone m) s k ≡ Act (act.DeadKey accent) → IsShort m (Release k ∷ Press k ∷ h) s
+short-tap m h s k accent x lt idle seen = record {
+  stands = stands-tap (alone m) h s false (symbol.DeadKey accent) k x.stands (lt, idle, seen, (λ e. absurd (false≢true e)));
+  plain = plain-release m (Press k ∷ h) k (plain-idle m h s k x.stands idle x.plain);
+  goes = goes-goes m [] h (Release k ∷ Press k ∷ h) x.goes (tap-goes m h k lt);
+}
+
+short-admitted : (m : MapValue) (h : List Event) (s : State) → IsShort m h s
+    → All IsPressOrRelease h × ReleasesPressedKeys h × IsAdmitted m true h
+short-admitted m h s x =
+    (x.plain.sent, x.goes.releases tt, (x.stands.keys, x.goes.loads (All-nil _), (λ e. x.plain.clean)))
+
+-- what needs no accent
+short-sees : (m : MapValue) (path : List Move) → IsPath (alone m) path → (k : ℕ) (x : Sight) → k < 128
+    → SeesBy m (selection_of (state_after (alone m) path)) k x → IsPendingFor m [] x
+    → (h : List Event) × (n : ℕ) × All IsPressOrRelease h × ReleasesPressedKeys h × IsAdmitted m true h
+    × (n < 128) × SeesNext m h n x
+short-sees m path is k x lt sees still =
+    let short : IsShort m (events_along path ++ []) (state_after (alone m) path) =
+    short-along m [] start path (short-start m) is in
+    let (sent, releases, admitted) = short-admitted m (events_along path ++ []) (state_after (alone m) path) short in (
+      events_along path ++ [],
+      k,
+      sent,
+      releases,
+      admitted,
+      lt,
+      going-sees m [] start path k x (stands-start (alone m)) is sees still,
+    )
+
+pub reachable_is_seen : ReachableIsSeen
+reachable_is_seen m (sight.Cell slot column) (path, is, x, (k, lt, sees)) =
+    short-sees m path is k (sight.Cell slot column) lt sees tt
+reachable_is_seen m (sight.Locks slot caps num) (path, is, x, (k, lt, sees)) =
+    short-sees m path is k (sight.Locks slot caps num) lt sees tt
+reachable_is_seen m (sight.Pair accent c) (path, is, (later, before, at, (can, (d, key, (idle, seen)))), (k, lt, sees)) =
+    let u : Under = alone m in
+    let s : State = state_after u before in
+    let parts = path-split u start later before (subst (λ p. IsPath u p) at is) in
+    let h : List Event = events_along before ++ [] in
+    let tapped : List Event = Release d ∷ Press d ∷ h in
+    let first : IsShort m h s = short-along m [] start before (short-start m) parts.0 in
+    let next : IsShort m tapped s = short-tap m h s d accent first key idle seen in
+    let last : IsShort m (events_along later ++ tapped) (state_from u s later) =
+    short-along m tapped s later next parts.1 in
+    let none : pending m (resolved (between m m) h) ≡ None =
+    pending-along m [] start before (stands-start u) parts.0
+    ∙ ap (λ r. pending m r) (resolved-start (between m m)) ∙ pending-start m in
+    let leads : state_after u path ≡ state_from u s later = ap (λ p. state_after u p) at ∙ parts.2 in
+    let (sent, releases, admitted) =
+    short-admitted m (events_along later ++ tapped) (state_from u s later) last in (
+      events_along later ++ tapped,
+      k,
+      sent,
+      releases,
+      admitted,
+      lt,
+      going-sees m tapped s later k (sight.Pair accent c) next.stands parts.1
+          (subst (λ t. SeesBy m (selection_of t) k (sight.Pair accent c)) leads sees)
+          (tap-pending m h s d accent first.stands idle seen can none),
+    )

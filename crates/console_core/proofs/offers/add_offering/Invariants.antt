@@ -1,0 +1,7 @@
+-- those below the place were added
+use Rattle.console_core.specs.Inner.Searching.{under_of}
+use Rattle.console_core.specs.Inner.Noting.{AreSeedsTo}
+use Rattle.console_core.proofs.offers.add_offering.Given as goal
+
+abbrev pub invariant-loop-place : goal.invariant-loop-place
+invariant-loop-place l = AreSeedsTo (under_of l.maps) l.accent l.met.entries l.place l.states.entries

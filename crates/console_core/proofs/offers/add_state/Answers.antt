@@ -1,0 +1,19 @@
+use Rattle.std.proofs.Common.{None, sym, ◌∙◌}
+use Rattle.std.proofs.lemmas.Bool.{eqb-true}
+use Rattle.indexmap.proofs.CallerLemmas.{insert_entry-new}
+use Rattle.console_core.specs.Inner.HeldBytes.{held-equal, bool_equal}
+use Rattle.console_core.proofs.Offering.{state-new, state-old}
+use Rattle.console_core.proofs.Searching.{not_some, same-state}
+use Rattle.console_core.proofs.offers.add_state.Goals as goal
+
+pub returns-in_ok-insert : goal.returns-in_ok-insert
+returns-in_ok-insert c =
+    state-new c.args.states.now.entries c.insert.new.self.entries c.args.held
+    (c.in_ok-insert.ensures.entries
+    ∙ insert_entry-new _ c.args.states.now c.args.held (record { presses = 0; last = None })
+    (not_some _ (sym c.if-not-contains_key.ensures))) c.requires
+
+pub returns-else-not-contains_key : goal.returns-else-not-contains_key
+returns-else-not-contains_key c =
+    state-old _ (λ x y e. same-state x y (held-equal _ _ (λ a b f. eqb-true a b f) (λ a b f. bool_equal a b f) x y e))
+    c.args.states.now.entries c.args.held (sym c.if-not-contains_key.ensures) c.requires

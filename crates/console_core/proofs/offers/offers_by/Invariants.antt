@@ -1,0 +1,7 @@
+-- those of the accents below the place
+use Rattle.std.proofs.Common.{take}
+use Rattle.console_core.specs.Inner.Noting.{AreOffersOf}
+use Rattle.console_core.proofs.offers.offers_by.Given as goal
+
+abbrev pub invariant-loop-accent : goal.invariant-loop-accent
+invariant-loop-accent l = AreOffersOf l.maps.first.now (take l.accent-index l.accents) l.offers.items

@@ -1,0 +1,14 @@
+use Rattle.std.proofs.Common.{◌&&◌, sym, arith, ◌∙◌}
+use Rattle.std.specs.Prelude.{◌==◌}
+use Rattle.std.proofs.lemmas.Bool.{true≢false}
+use Rattle.console_core.specs.Sights.{is_selected, is_composed}
+use Rattle.console_core.proofs.Visible.{some-member, fails}
+use Rattle.console_core.proofs.sights.is_composed.Goals as goal
+
+pub returns : goal.returns
+returns c =
+    sym (fails (is_composed c.args.map.now c.args.offers.now c.args.accent c.args.sight) (λ passes.
+    let (o, (n, lt, at), pass) =
+    some-member (λ z. (z.accent == c.args.accent) && is_selected c.args.map.now z.selections.items c.args.sight)
+    c.args.offers.now passes in
+    true≢false (sym pass ∙ c.loop-offer.invariant n (omega (arith, lt, c.loop-offer-test.false)) o at)))

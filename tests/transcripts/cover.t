@@ -104,7 +104,7 @@ of events composes them. Where a key has the base there too, they can be compose
   > dacu 180 ( 'a' 0xe1 )
   > END
   $ covers apart
-  $ sed '/^# looks$/,$d' script
+  $ begins
   # cells: 256, left out 0, never 1792
   # lock settings: 256, left out 0, never 768
   # pairs: 0, left out 0, never 2

@@ -4,25 +4,8 @@ use Rattle.std.proofs.Common.{get_or, refl, sym, ◌∙◌, ap, arith, add-one}
 use Rattle.std.proofs.lemmas.List.{take_more}
 use Rattle.std.specs.List.{list_all}
 use Rattle.keymap_text.specs.Lexical.{leading, stays_on_line, is_space}
-use Rattle.keymap_text.proofs.Leading.{leading_pass, leading_fail, leading_none, leading_tail, leading_append}
+use Rattle.keymap_text.proofs.Leading.{leading_pass, leading_fail, leading_tail, leading_append}
 use Rattle.keymap_fmt.specs.Pieces.{trimmed}
-
--- all bytes of a front pass
-pub leading_front : (p : ℕ → Bool) (s : List ℕ)
-    → leading p (take (leading p s) s) ≡ length (take (leading p s) s)
-leading_front p [] = ap (λ n. leading p (take n [])) (leading_none p) ∙ leading_none p
-    ∙ sym (ap (λ n. length {A = ℕ} (take n [])) (leading_none p))
-leading_front p (c ∷ s) = go (p c) refl (leading_front p s)
-  where
-    go : (b : Bool) → p c ≡ b → leading p (take (leading p s) s) ≡ length (take (leading p s) s)
-        → leading p (take (leading p (c ∷ s)) (c ∷ s)) ≡ length (take (leading p (c ∷ s)) (c ∷ s))
-    go true e k =
-        let size = leading_pass p c s e ∙ add-one (leading p s) in
-        ap (λ n. leading p (take n (c ∷ s))) size ∙ leading_pass p c (take (leading p s) s) e ∙ ap (λ n. n + 1) k
-        ∙ add-one (length (take (leading p s) s)) ∙ sym (ap (λ n. length (take n (c ∷ s))) size)
-    go false e k =
-        ap (λ n. leading p (take n (c ∷ s))) (leading_fail p c s e) ∙ leading_none p
-        ∙ sym (ap (λ n. length (take n (c ∷ s))) (leading_fail p c s e))
 
 -- bytes that all pass, before one that fails
 pub leading_ended : (p : ℕ → Bool) (w : List ℕ) (c : ℕ) (y : List ℕ) → leading p w ≡ length w → p c ≡ false
@@ -72,7 +55,7 @@ trim_twice (c ∷ w) = go (list_all is_space (c ∷ w)) refl (trim_twice w)
 -- what is cut stays on its line
 pub trim_on_line : (w : List ℕ) → leading stays_on_line w ≡ length w
     → leading stays_on_line (trimmed w) ≡ length (trimmed w)
-trim_on_line [] h = ap (leading stays_on_line) trim_none ∙ leading_none stays_on_line ∙ sym (ap length trim_none)
+trim_on_line [] h = ap (leading stays_on_line) trim_none ∙ sym (ap length trim_none)
 trim_on_line (c ∷ w) h =
     let t = leading_tail stays_on_line c w h in go t.0 (list_all is_space (c ∷ w)) refl (trim_on_line w t.1)
   where
@@ -80,7 +63,7 @@ trim_on_line (c ∷ w) h =
         → leading stays_on_line (trimmed w) ≡ length (trimmed w)
         → leading stays_on_line (trimmed (c ∷ w)) ≡ length (trimmed (c ∷ w))
     go p true e k =
-        ap (leading stays_on_line) (trim_all c w e) ∙ leading_none stays_on_line ∙ sym (ap length (trim_all c w e))
+        ap (leading stays_on_line) (trim_all c w e) ∙ sym (ap length (trim_all c w e))
     go p false e k =
         ap (leading stays_on_line) (trim_tail c w e) ∙ leading_pass stays_on_line c (trimmed w) p
         ∙ ap (λ n. n + 1) k ∙ add-one (length (trimmed w)) ∙ sym (ap length (trim_tail c w e))

@@ -6,7 +6,8 @@ use Rattle.keymap_text.specs.Lexical.{is_blank, is_space, stays_on_line, leading
 use Rattle.std.proofs.lemmas.List.{length-take-le, get_or-take}
 use Rattle.keymap_fmt.specs.Types.{TokenKind, Standing, AtTop, Beside, Below, Apart, Part, Comment, Code}
 use Rattle.keymap_fmt.specs.Pieces.{PieceValue, pieces_after, lower, lowered, behind, trimmed, comment}
-use Rattle.keymap_fmt.proofs.Leading.{leading_front, trim_hash, trim_twice, trim_on_line}
+use Rattle.keymap_text.proofs.Leading.{leading_front}
+use Rattle.keymap_fmt.proofs.Leading.{trim_hash, trim_twice, trim_on_line}
 use Rattle.keymap_fmt.proofs.Reading.{TokenLaws, AtFront, blank, hash, token, refused, unfinished, at_front}
 use Rattle.keymap_fmt.proofs.Reading.{ReadsToken, ReadsComment, read_nil, read_one, read_blank, read_hash, read_token}
 use Rattle.keymap_fmt.proofs.Reading.{read_refused, read_unfinished}

@@ -8,13 +8,13 @@ use Rattle.keymap_text.specs.Lexical.{leading, is_blank, is_word, stays_on_line,
 use Rattle.keymap_text.specs.Alone.{IsWide, StandsAlone}
 use Rattle.keymap_text.proofs.InFront.{InFront, Left, Right, Quote, Letters, in_front_is, front_left, front_right}
 use Rattle.keymap_text.proofs.InFront.{front_quote, front_word, front_fits, skipped_by}
-use Rattle.keymap_text.proofs.Leading.{leading_pass, leading_fail, leading_none}
+use Rattle.keymap_text.proofs.Leading.{leading_pass, leading_fail}
 use Rattle.keymap_text.proofs.Quoted.{literal_alone, literal_wide, literal_on_line}
 
 -- the bytes that pass a test, and others behind them of which the first doesn't
 leading_cut : (p : ℕ → Bool) (s y : List ℕ) → leading p y ≡ 0 → leading p (take (leading p s) s ++ y) ≡ leading p s
 leading_cut p [] y h =
-    ap (λ n. leading p (take n [] ++ y)) (leading_none p) ∙ h ∙ sym (leading_none p)
+    h
 leading_cut p (c ∷ s) y h = go (p c) refl (leading_cut p s y h)
   where
     go : (b : Bool) → p c ≡ b → leading p (take (leading p s) s ++ y) ≡ leading p s
@@ -54,7 +54,7 @@ word_no_blank c h = grind (arith, nat_tests)
 
 -- nor is one of a word
 front_on_line : (s : List ℕ) → list_all stays_on_line (take (leading is_word s) s) ≡ true
-front_on_line [] = ap (λ n. list_all stays_on_line (take n [])) (leading_none is_word)
+front_on_line [] = refl
 front_on_line (c ∷ s) = go (is_word c) refl (front_on_line s)
   where
     go : (b : Bool) → is_word c ≡ b → list_all stays_on_line (take (leading is_word s) s) ≡ true
@@ -66,7 +66,7 @@ front_on_line (c ∷ s) = go (is_word c) refl (front_on_line s)
 
 -- the last byte of a front passes
 front_end : (p : ℕ → Bool) (c : ℕ) (s : List ℕ) → p c ≡ true → p (slice_index (c ∷ s) (leading p s)) ≡ true
-front_end p c [] h = ap (λ n. p (slice_index (c ∷ []) n)) (leading_none p) ∙ h
+front_end p c [] h = h
 front_end p c (d ∷ s) h = go (p d) refl (front_end p d s)
   where
     go : (b : Bool) → p d ≡ b → (p d ≡ true → p (slice_index (d ∷ s) (leading p s)) ≡ true)

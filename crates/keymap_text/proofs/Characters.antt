@@ -12,7 +12,7 @@ use Rattle.keymap_text.specs.Lexical.{leading, is_word}
 use Rattle.keymap_text.specs.Words.{meaning, digits_of, number_after, is_digit, named, control_names}
 use Rattle.keymap_text.specs.Printed.{character_text, hex, hex4, hex_at}
 use Rattle.keymap_core.proofs.Lists.{along}
-use Rattle.keymap_text.proofs.Leading.{leading_pass, leading_none}
+use Rattle.keymap_text.proofs.Leading.{leading_pass}
 use Rattle.keymap_text.proofs.Numbers.{digits_good, digits_bad}
 use Rattle.keymap_text.proofs.Lexed.{Lexes, NoWord, lexes_word, lexes_quoted}
 use Rattle.keymap_text.proofs.PrintedLines.{PrintsCharacter}
@@ -40,7 +40,6 @@ lexes_as w m h e =
 -- a control character, computed over the names
 control_words : map (λ c. is_one_word (slice_index_or control_names c [])) (range_with_len 0 32)
     ≡ map (λ c. true) (range_with_len 0 32)
-unfolding leading
 control_words = refl
 
 -- each control name means its character
@@ -73,7 +72,6 @@ prints_control c h = record {
 
 -- del is one word
 delete_word : is_one_word (codes "del") ≡ true
-unfolding leading
 delete_word = refl
 
 -- and means the character 127
@@ -157,7 +155,7 @@ hex_number n (d ∷ ds) (h, k) =
 
 -- digits are one word
 hex_leads : (ds : List ℕ) → AreSmall ds → leading is_word (map digit_char ds) ≡ length ds
-hex_leads [] h = leading_none is_word
+hex_leads [] h = refl
 hex_leads (d ∷ ds) (h, k) =
     leading_pass is_word (digit_char d) (map digit_char ds) (hex_word d h) ∙ omega (arith, hex_leads ds k)
 
@@ -196,8 +194,7 @@ lexes_hex c ds z l h e =
     (meaning_hex (map digit_char ds) c (no_decimal (map digit_char ds))
     (after_prefix (map digit_char ds) c (hex_digits ds z h ∙ ap Some e)))
     (lexes_word (48 ∷ 120 ∷ map digit_char ds) (omega arith) (omega (arith, hex_length ds, l))
-    (leading_pass is_word 48 _ refl ∙ ap (λ n. n + 1) (leading_pass is_word 120 _ refl)
-    ∙ omega (arith, hex_leads ds h, hex_length ds)))
+    (omega (arith, hex_leads ds h, hex_length ds)))
 
 -- a character above 127 is printed as a number
 hex_text : (c : ℕ) → 127 < c → character_text c ≡ 48 ∷ 120 ∷ hex c

@@ -3,7 +3,6 @@ use Rattle.std.proofs.Common.{◌≡◌, ℕ, ◌<◌, ◌≤◌, ◌==◌, ◌�
 use Rattle.std.proofs.Common.{List, [], ◌∷◌, nat_le, get_or}
 use Rattle.std.specs.List.{range_with_len}
 use Rattle.std.proofs.lemmas.Bool.Decides.{nat_tests}
-use Rattle.keymap_text.specs.Lexical.{leading}
 use Rattle.keymap_text.specs.Words.{letters}
 use Rattle.keymap_text.specs.Printed.{control_name, filled}
 use Rattle.keymap_text.specs.declared.names.Name.{Name}
@@ -13,12 +12,10 @@ use Rattle.keymap_core.proofs.Lists.{along}
 -- computed over the table
 low_letters : (d : Name) → map (λ c. letters (get_or NAMES (cond (c == 127) 32 c) d).0) (range_with_len 0 32)
     ≡ map control_name (range_with_len 0 32)
-unfolding leading
 low_letters d = refl
 
 -- the row of del
 delete_letters : (d : Name) → letters (get_or NAMES 32 d).0 ≡ control_name 127
-unfolding leading
 delete_letters d = refl
 
 -- the row of a control character has its name

@@ -11,7 +11,7 @@ use Rattle.keymap_text.specs.Lexical.{leading, is_word}
 use Rattle.keymap_text.specs.Inner.Keys.{pack, unpacked, AreWordBytes}
 use Rattle.keymap_text.specs.declared.names.TheConstants.{LOW_BYTES}
 use Rattle.keymap_core.proofs.Lists.{along}
-use Rattle.keymap_text.proofs.Leading.{leading_pass, leading_fail, leading_none}
+use Rattle.keymap_text.proofs.Leading.{leading_pass, leading_fail}
 
 -- the bytes of words
 pub word_byte : (c : ℕ) → is_word c ≡ true → c < 256
@@ -28,7 +28,7 @@ lower_to c h = grind (arith, nat_tests)
 -- a front of word bytes has letters and digits alone
 pub letters_front : (n : ℕ) (w : List ℕ) → n ≤ leading is_word w → AreWordBytes (take n w)
 letters_front zero w h = tt
-letters_front (suc n) [] h = absurd (omega (arith, h, leading_none is_word))
+letters_front (suc n) [] h = absurd (omega (arith, h))
 letters_front (suc n) (c ∷ w) h = go (is_word c) refl (letters_front n w)
   where
     go : (b : Bool) → is_word c ≡ b → (n ≤ leading is_word w → AreWordBytes (take n w))

@@ -3,19 +3,19 @@ use Rattle.std.proofs.Common.{◌≡◌, ℕ, zero, suc, ◌+◌, ◌-◌, ◌�
 use Rattle.std.proofs.Common.{length, take, drop, get_or, refl, ◌∙◌, sym, ap, subst, arith, count_by, drop-cons, eqb-true}
 use Rattle.std.proofs.Common.{length-append, length-drop, eq-or-lt_of_le, ⊎_elim, true≢false}
 use Rattle.std.specs.List.{suffix_len}
-use Rattle.std.proofs.lemmas.List.{length-take, length-take-le, drop-drop, drop-take, get_or_append_left}
-use Rattle.std.proofs.lemmas.List.Sums.{suffix_len_is}
+use Rattle.std.proofs.lemmas.List.{length-take, length-take-le, drop-drop, drop-take, get_or_append_left, get_or-drop, get_or-take}
+use Rattle.std.proofs.lemmas.List.Sums.{suffix_len_is, prefix_len_passes, prefix_len_stops}
 use Rattle.std.proofs.Math.Seq.{get_or-append_seam}
 use Rattle.keymap_text.specs.Lexical.{leading, stays_on_line}
 use Rattle.keymap_text.specs.LineOf.{before_in_line, line_end, IsLineStart, AreStarts, AreLines}
 use Rattle.keymap_text.specs.Meaning.{line}
-use Rattle.keymap_text.proofs.Leading.{leading_pass, leading_fail, leading_none, leading_le}
-use Rattle.keymap_text.proofs.Lines.{line_more, feeds_are, feeds_run}
+use Rattle.keymap_text.proofs.Leading.{leading_pass, leading_fail, leading_le}
+use Rattle.keymap_text.proofs.Lines.{line_more, feeds_run}
 
 -- bytes that stay on the line of those in front of them
 leading_drop : (p : ℕ → Bool) (k : ℕ) (xs : List ℕ) → k ≤ leading p xs → k + leading p (drop k xs) ≡ leading p xs
 leading_drop p zero xs h = omega arith
-leading_drop p (suc k) [] h = absurd (omega (arith, h, leading_none p))
+leading_drop p (suc k) [] h = absurd (omega (arith, h))
 leading_drop p (suc k) (c ∷ xs) h = go (p c) refl (leading_drop p k xs)
   where
     go : (b : Bool) → p c ≡ b → (k ≤ leading p xs → k + leading p (drop k xs) ≡ leading p xs)
@@ -43,51 +43,15 @@ before_is b start place l e =
     ap (λ k. drop start (take k b)) (omega (arith, e)) ∙ drop-take start (place - start) b in
     sym cut ∙ sym (ap (λ k. drop k (take place b)) n)
 
--- each byte in front passes
-leading_at : (p : ℕ → Bool) (xs : List ℕ) (k : ℕ) → k < leading p xs → p (get_or xs k 0) ≡ true
-leading_at p [] k h = absurd (omega (arith, h, leading_none p))
-leading_at p (c ∷ xs) k h = go (p c) refl (leading_at p xs) k h
-  where
-    go : (b : Bool) → p c ≡ b → ((k : ℕ) → k < leading p xs → p (get_or xs k 0) ≡ true) → (k : ℕ)
-        → k < leading p (c ∷ xs) → p (get_or (c ∷ xs) k 0) ≡ true
-    go true e f zero h = e
-    go true e f (suc k) h = f k (omega (arith, h, leading_pass p c xs e))
-    go false e f k h = absurd (omega (arith, h, leading_fail p c xs e))
-
--- and the one behind them does not
-leading_stops : (p : ℕ → Bool) (xs : List ℕ) → leading p xs < length xs → p (get_or xs (leading p xs) 0) ≡ false
-leading_stops p [] h = absurd (omega (arith, h))
-leading_stops p (c ∷ xs) h = go (p c) refl (leading_stops p xs)
-  where
-    go : (b : Bool) → p c ≡ b → (leading p xs < length xs → p (get_or xs (leading p xs) 0) ≡ false)
-        → p (get_or (c ∷ xs) (leading p (c ∷ xs)) 0) ≡ false
-    go true e f =
-        let n : leading p (c ∷ xs) ≡ suc (leading p xs) = omega (arith, leading_pass p c xs e) in
-        ap (λ n. p (get_or (c ∷ xs) n 0)) n ∙ f (omega (arith, h, n))
-    go false e f = ap (λ n. p (get_or (c ∷ xs) n 0)) (leading_fail p c xs e) ∙ e
-
--- the byte at a place, by those from an earlier one on
-at_drop : (xs : List ℕ) (s k : ℕ) → get_or (drop s xs) k 0 ≡ get_or xs (s + k) 0
-at_drop xs zero k = ap (λ n. get_or xs n 0) (omega arith)
-at_drop [] (suc s) k = refl
-at_drop (x ∷ xs) (suc s) k =
-    let e : suc (s + k) ≡ suc s + k = omega arith in at_drop xs s k ∙ ap (λ n. get_or (x ∷ xs) n 0) e
-
-at_take : (xs : List ℕ) (n k : ℕ) → k < n → get_or (take n xs) k 0 ≡ get_or xs k 0
-at_take xs zero k h = absurd (omega (arith, h))
-at_take [] (suc n) k h = refl
-at_take (x ∷ xs) (suc n) zero h = refl
-at_take (x ∷ xs) (suc n) (suc k) h = at_take xs n k (omega (arith, h))
-
 -- a place on a line
 pub on_line : (b : List ℕ) (n s place : ℕ) → IsLineStart b n s → s ≤ place → place ≤ line_end b s → place ≤ length b
     → s + suffix_len stays_on_line (take place b) ≡ place
 on_line b n s place h l e w =
     let size : length (take place b) ≡ place = length-take-le place b w in
     let is = suffix_len_is stays_on_line (take place b) s 0 (omega (arith, size, l))
-    (λ k k0 k1. ap stays_on_line (at_take b place k (omega (arith, k1, size)) ∙ ap (λ n. get_or b n 0) (behind k k0)
-    ∙ sym (at_drop b s (k - s))) ∙ leading_at stays_on_line (drop s b) (k - s) (omega (arith, k0, k1, size, e)))
-    (λ z. ap stays_on_line (at_take b place (s - 1) (omega (arith, z, l))) ∙ h.begins z) in
+    (λ k k0 k1. ap stays_on_line (get_or-take place b k 0 (omega (arith, k1, size)) ∙ ap (λ n. get_or b n 0) (behind k k0)
+    ∙ sym (get_or-drop s b (k - s) 0)) ∙ prefix_len_passes stays_on_line (drop s b) (k - s) 0 (omega (arith, k0, k1, size, e)))
+    (λ z. ap stays_on_line (get_or-take place b (s - 1) 0 (omega (arith, z, l))) ∙ h.begins z) in
     omega (arith, is, size, l)
   where
     behind : (k : ℕ) → s ≤ k → k ≡ s + (k - s)
@@ -99,8 +63,7 @@ pub same_number : (b : List ℕ) (n s place : ℕ) → IsLineStart b n s → s �
 same_number b n s place h l e =
     let sum : place ≡ s + (place - s) = omega (arith, l) in
     let none : count_by (λ c. c == 10) (take (place - s) (drop s b)) ≡ 0 =
-    sym (feeds_are (take (place - s) (drop s b)))
-    ∙ feeds_run stays_on_line refl (place - s) (drop s b) (omega (arith, l, e)) in
+    feeds_run stays_on_line refl (place - s) (drop s b) (omega (arith, l, e)) in
     ap (line b) sum ∙ line_more b s (place - s) ∙ omega (arith, none, h.number)
 
 -- where a text goes on behind a line, the next one begins
@@ -109,8 +72,8 @@ pub next_start : (b : List ℕ) (n s : ℕ) → IsLineStart b n s → line_end b
 next_start b n s h l =
     let e = line_end b s in
     let stop : stays_on_line (get_or b e 0) ≡ false =
-    ap stays_on_line (sym (at_drop b s (leading stays_on_line (drop s b))))
-    ∙ leading_stops stays_on_line (drop s b) (omega (arith, l, length-drop s b)) in
+    ap stays_on_line (sym (get_or-drop s b (leading stays_on_line (drop s b)) 0))
+    ∙ prefix_len_stops stays_on_line (drop s b) 0 (omega (arith, l, length-drop s b)) in
     let one : count_by (λ c. c == 10) (take 1 (drop e b)) ≡ 1 =
     ap (λ (t : List ℕ). count_by (λ c. c == 10) (take 1 t)) (drop-cons b e 0 l)
     ∙ feed (get_or b e 0) stop in

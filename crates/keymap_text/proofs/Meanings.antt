@@ -262,7 +262,7 @@ look_named (name ∷ names) w =
 
 -- the first forty rows, by computation
 first_names : map sense_entry (take 40 NAMES) ≡ table
-unfolding sense_entry leading
+unfolding sense_entry
 first_names = refl
 
 -- the first forty rows are the table of characters and lock letters

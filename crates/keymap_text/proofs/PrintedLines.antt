@@ -14,7 +14,7 @@ use Rattle.keymap_text.specs.Rows.{KeyDefinition, AccentDefinition, AreCells, no
 use Rattle.keymap_text.specs.Rows.{one_pair, Defines, of_key, of_accent}
 use Rattle.keymap_text.specs.Printed.{key_line, accent_line, slot_text, column, cell_text, flag_letter, pair_text}
 use Rattle.keymap_text.specs.Printed.{character_text, accent_name, word, slot_words, accent_words}
-use Rattle.keymap_text.proofs.Leading.{leading_pass, leading_fail, leading_none}
+use Rattle.keymap_text.proofs.Leading.{leading_pass}
 use Rattle.keymap_text.proofs.Numbers.{digits_good}
 use Rattle.keymap_text.proofs.Splitting.{split_blank}
 use Rattle.keymap_text.proofs.Verdicts.{items_of}
@@ -34,7 +34,7 @@ lexes_behind_blank {t = t} {is = is} a = record {
 -- blanks begin with no letter or digit
 pad_first : (n : ℕ) (y : List ℕ) → leading is_word y ≡ 0 → leading is_word (replicate n 32 ++ y) ≡ 0
 pad_first zero y h = h
-pad_first (suc n) y h = leading_fail is_word 32 (replicate n 32 ++ y) refl
+pad_first (suc n) y h = refl
 
 -- blanks are no token
 lexes_pad : (n : ℕ) → Lexes NoWord (replicate n 32) []
@@ -67,14 +67,14 @@ EachPair (p ∷ ps) = (p.0 ≢ 0) × PrintsCharacter p.0 × PrintsCharacter p.1 
 -- columns begin with no letter or digit
 columns_first : (cs : List Cell) (u y : List ℕ)
     → leading is_word ((flat_map (λ c. column (cell_text c)) cs ++ 32 ∷ u) ++ y) ≡ 0
-columns_first [] u y = leading_fail is_word 32 (u ++ y) refl
-columns_first (c ∷ cs) u y = leading_fail is_word 32 _ refl
+columns_first [] u y = refl
+columns_first (c ∷ cs) u y = refl
 
 -- so do columns with another text behind them
 more_columns : (cs : List Cell) (y : List ℕ) → leading is_word y ≡ 0
     → leading is_word (flat_map (λ c. column (cell_text c)) cs ++ y) ≡ 0
 more_columns [] y h = h
-more_columns (c ∷ cs) y h = leading_fail is_word 32 _ refl
+more_columns (c ∷ cs) y h = refl
 
 -- the columns of cells are their tokens
 columns : (cs : List Cell) → EachCell cs
@@ -106,8 +106,8 @@ decimal_digit d h = rw (decimal d h) (below d h)
 -- three digits are one word
 three_word : (a b c : ℕ) → is_word a ≡ true → is_word b ≡ true → is_word c ≡ true → leading is_word (a ∷ b ∷ c ∷ []) ≡ 3
 three_word a b c h k l =
-    leading_pass is_word a _ h ∙ ap (λ n. n + 1) (leading_pass is_word b _ k
-    ∙ ap (λ n. n + 1) (leading_pass is_word c [] l ∙ ap (λ n. n + 1) (leading_none is_word)))
+    leading_pass is_word a (b ∷ c ∷ []) h ∙ ap (λ n. n + 1) (leading_pass is_word b (c ∷ []) k
+    ∙ ap (λ n. n + 1) (leading_pass is_word c [] l))
 
 -- and spell their number
 three_number : (a b c : ℕ) → a < 10 → b < 10 → c < 10
@@ -132,11 +132,11 @@ lexes_slot s h =
     subst (λ (i : Item). Lexes NoWord (slot_text s) (i ∷ []))
     (ap Value (meaning_digits (slot_text s) s (three_number (s / 100) (s / 10 % 10) (s % 10) a b c ∙ ap Some n)))
     (lexes_word (slot_text s) (omega arith) (omega arith)
-    (three_word _ _ _ (decimal_word _ a) (decimal_word _ b) (decimal_word _ c)))
+    (three_word (48 + s / 100) (48 + s / 10 % 10) (48 + s % 10) (decimal_word _ a) (decimal_word _ b) (decimal_word _ c)))
 
 -- a printed lock letter is that letter
 lexes_letter : (f : LockFlag) → Lexes NoWord (flag_letter f ∷ []) (Value (Letter f) ∷ [])
-unfolding meaning digits_of named leading
+unfolding meaning digits_of named
 lexes_letter flags.O = lexes_word (79 ∷ []) (omega arith) (omega arith) refl
 lexes_letter flags.C = lexes_word (67 ∷ []) (omega arith) (omega arith) refl
 lexes_letter flags.N = lexes_word (78 ∷ []) (omega arith) (omega arith) refl
@@ -145,13 +145,13 @@ lexes_letter flags.B = lexes_word (66 ∷ []) (omega arith) (omega arith) refl
 -- the words of cells are their tokens
 words_first : (cs : List Cell) (u y : List ℕ)
     → leading is_word ((flat_map (λ c. word (cell_text c)) cs ++ 32 ∷ u) ++ y) ≡ 0
-words_first [] u y = leading_fail is_word 32 (u ++ y) refl
-words_first (c ∷ cs) u y = leading_fail is_word 32 _ refl
+words_first [] u y = refl
+words_first (c ∷ cs) u y = refl
 
 more_words : (cs : List Cell) (y : List ℕ) → leading is_word y ≡ 0
     → leading is_word (flat_map (λ c. word (cell_text c)) cs ++ y) ≡ 0
 more_words [] y h = h
-more_words (c ∷ cs) y h = leading_fail is_word 32 _ refl
+more_words (c ∷ cs) y h = refl
 
 words : (cs : List Cell) → EachCell cs
     → (ts : List Item) × Lexes NoWord (flat_map (λ c. word (cell_text c)) cs) ts × AreCells ts cs
@@ -167,7 +167,7 @@ slot_printed slot e h l p =
     let r = words e.cells p in (
       Value (Number slot) ∷ (r.0 ++ Value (Letter e.flag) ∷ []),
       lexes_both (lexes_slot slot h)
-          (lexes_both r.1 (lexes_behind_blank (lexes_letter e.flag)) (λ y k. leading_fail is_word 32 _ refl))
+          (lexes_both r.1 (lexes_behind_blank (lexes_letter e.flag)) (λ y k. refl))
           (λ y k. words_first e.cells _ y),
       of_key h l r.2,
     )
@@ -181,7 +181,7 @@ key_printed slot e h l p =
       Value (Number slot) ∷ (r.0 ++ Value (Letter e.flag) ∷ []),
       lexes_both (lexes_slot slot h)
           (lexes_both r.1 (lexes_behind_blank (lexes_both (lexes_letter e.flag) (lexes_blank Any 10 refl)
-          (λ y k. leading_fail is_word 10 y refl))) (λ y k. leading_fail is_word 32 _ refl))
+          (λ y k. refl))) (λ y k. refl))
           (λ y k. columns_first e.cells _ y),
       of_key h l r.2,
     )
@@ -191,7 +191,7 @@ pairs_first : (ps : List (ℕ × ℕ)) (y : List ℕ) → leading is_word y ≡ 
     → leading is_word (flat_map pair_text ps ++ y) ≡ 0
 unfolding pair_text
 pairs_first [] y h = h
-pairs_first (p ∷ ps) y h = leading_fail is_word 32 _ refl
+pairs_first (p ∷ ps) y h = refl
 
 -- a printed pair is four tokens
 lexes_pair : (p : (ℕ × ℕ)) (b : PrintsCharacter p.0) (r : PrintsCharacter p.1)
@@ -200,8 +200,8 @@ unfolding pair_text
 lexes_pair p b r =
     lexes_behind_blank (lexes_both lexes_left (lexes_behind_blank
     (lexes_both b.lexes (lexes_behind_blank (lexes_both r.lexes (lexes_behind_blank lexes_right)
-    (λ y k. leading_fail is_word 32 _ refl))) (λ y k. leading_fail is_word 32 _ refl)))
-    (λ y k. leading_fail is_word 32 _ refl))
+    (λ y k. refl))) (λ y k. refl)))
+    (λ y k. refl))
 
 -- printed pairs are pairs
 pairs_printed : (ps : List (ℕ × ℕ)) → EachPair ps
@@ -217,8 +217,8 @@ pairs_printed (p ∷ ps) (z, b, r, h) = let m =
 -- the end of an accent's line begins with no letter or digit
 pairs_end : (ps : List (ℕ × ℕ)) (y : List ℕ) → leading is_word ((flat_map pair_text ps ++ 10 ∷ []) ++ y) ≡ 0
 unfolding pair_text
-pairs_end [] y = leading_fail is_word 10 y refl
-pairs_end (p ∷ ps) y = leading_fail is_word 32 _ refl
+pairs_end [] y = refl
+pairs_end (p ∷ ps) y = refl
 
 -- the name of accent i is one word, which means its action
 pub record PrintsName (i : ℕ) : Type 0 where
@@ -235,8 +235,8 @@ accent_printed i a n o l p =
       Value (Act n.action) ∷ o.token ∷ m.0,
       lexes_both n.lexes (lexes_behind_blank (lexes_both o.lexes (subst
           (λ (is : List Item). Lexes Any (flat_map pair_text a.pairs ++ 10 ∷ []) is) (append-nil m.0)
-          (lexes_both m.1 (lexes_blank Any 10 refl) (λ y k. leading_fail is_word 10 y refl)))
-          (λ y k. pairs_end a.pairs y))) (λ y k. leading_fail is_word 32 _ refl),
+          (lexes_both m.1 (lexes_blank Any 10 refl) (λ y k. refl)))
+          (λ y k. pairs_end a.pairs y))) (λ y k. refl),
       of_accent n.action n.reads o.reads l m.2,
     )
 
@@ -248,6 +248,6 @@ accent_words_printed i a n o l p =
     let m = pairs_printed a.pairs p in (
       Value (Act n.action) ∷ o.token ∷ m.0,
       lexes_both n.lexes (lexes_behind_blank (lexes_both o.lexes m.1 (pairs_first a.pairs)))
-          (λ y k. leading_fail is_word 32 _ refl),
+          (λ y k. refl),
       of_accent n.action n.reads o.reads l m.2,
     )

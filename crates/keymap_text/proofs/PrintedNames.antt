@@ -7,7 +7,6 @@ use Rattle.keymap_text.specs.Types.{Action, Act}
 use Rattle.keymap_core.specs.declared.action.Action.TheVariants as a
 use Rattle.keymap_core.specs.declared.action.Modifier.TheVariants as m
 use Rattle.keymap_core.specs.declared.action.Lock.TheVariants as l
-use Rattle.keymap_text.specs.Lexical.{leading}
 use Rattle.keymap_text.specs.Words.{meaning, digits_of, named}
 use Rattle.keymap_core.proofs.Lists.{along}
 use Rattle.keymap_text.proofs.Characters.{is_one_word}
@@ -15,7 +14,6 @@ use Rattle.keymap_text.proofs.Characters.{is_one_word}
 -- computed over the names
 screen_words : map (λ k. is_one_word (name_of (a.Screen k))) (range_with_len 1 16)
     ≡ map (λ k. true) (range_with_len 1 16)
-unfolding leading
 screen_words = refl
 
 -- the screens, by computation
@@ -27,7 +25,6 @@ screen_meanings = refl
 -- the function keys' names are words, by computation
 function_words : map (λ k. is_one_word (name_of (a.Function k))) (range_with_len 1 96)
     ≡ map (λ k. true) (range_with_len 1 96)
-unfolding leading
 function_words = refl
 
 -- the function keys up to 48, by computation
@@ -45,7 +42,6 @@ high_function_meanings = refl
 -- the dead keys' names are words, by computation
 dead_key_words : map (λ k. is_one_word (name_of (a.DeadKey k))) (range_with_len 0 15)
     ≡ map (λ k. true) (range_with_len 0 15)
-unfolding leading
 dead_key_words = refl
 
 -- and mean them, by computation
@@ -79,7 +75,6 @@ function_meaning k low high = elim (low_or_high k) [
 
 -- the name of an action is one word
 pub action_word : (action : Action) → IsAction action → is_one_word (name_of action) ≡ true
-unfolding leading
 action_word (a.Screen k) known =
     along (λ k. is_one_word (name_of (a.Screen k))) (λ k. true) 1 16 screen_words k (omega arith) (omega arith)
 action_word (a.Function k) known =

@@ -13,7 +13,7 @@ use Rattle.keymap_text.specs.Inner.Grammar.{GrammarState, accept, at, step}
 use Rattle.keymap_text.specs.Inner.Judging.{judge, Faulty}
 use Rattle.keymap_text.specs.Inner.Views.{grammar_view, StepsInto}
 use Rattle.keymap_text.specs.Inner.Scanning.{Advances, Refuses, Takes, Fronts, FrontsBehind}
-use Rattle.keymap_text.proofs.Leading.{leading_pass, leading_fail, leading_none, leading_short}
+use Rattle.keymap_text.proofs.Leading.{leading_pass, leading_fail, leading_short}
 use Rattle.keymap_text.proofs.Splitting.{split_blank, split_comment, split_after, to_end}
 use Rattle.keymap_text.proofs.Steps.{judge_then, judge_refused}
 
@@ -25,7 +25,7 @@ space_blank c h = grind (arith, nat_tests)
 split_spaces : (n q : ℕ) (xs y : List ℕ) → n ≤ leading is_space xs
     → tokens_after 0 q (xs ++ y) ≡ tokens_after 0 (q + n) (drop n xs ++ y)
 split_spaces zero q xs y h = ap (λ k. tokens_after 0 k (xs ++ y)) (omega arith)
-split_spaces (suc n) q [] y h = absurd (omega (arith, h, leading_none is_space))
+split_spaces (suc n) q [] y h = absurd (omega (arith, h))
 split_spaces (suc n) q (c ∷ xs) y h = go (is_space c) refl (split_spaces n (q + 1) xs y)
   where
     on : (k : ℕ) → q + 1 + n ≡ k → tokens_after 0 (q + 1 + n) (drop n xs ++ y) ≡ tokens_after 0 k (drop n xs ++ y)

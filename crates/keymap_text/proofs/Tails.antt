@@ -1,5 +1,5 @@
 -- What bytes begin that show no whole token.
-use Rattle.std.proofs.Common.{◌≡◌, ◌≢◌, inl, inr, ℕ, suc, ◌+◌, ◌<◌, ◌≤◌, List, [], ◌∷◌, ◌++◌, length, take, drop, get_or}
+use Rattle.std.proofs.Common.{◌≡◌, ◌≢◌, inl, inr, ℕ, suc, ◌+◌, ◌-◌, ◌<◌, ◌≤◌, List, [], ◌∷◌, ◌++◌, length, take, drop, get_or}
 use Rattle.std.proofs.Common.{refl, sym, ◌∙◌, ap, ap₂, subst, arith, Ok, Err, take_all, true, false, not, ◌&&◌}
 use Rattle.std.specs.Prelude.{IsFalse}
 use Rattle.std.proofs.lemmas.List.{drop_all}
@@ -157,20 +157,31 @@ open_few (c ∷ b) (inr (inr h)) outside =
     omega (arith, unfinished_short b (sym (front_quote c b (is_quote c b h)) ∙ h))
 
 -- a token that begins with open bytes has them all
-pub open_longer : (tail more : List ℕ) (k : TokenKind) (n : ℕ) → 0 < length tail → IsOpen tail → get_or tail 0 0 ≢ 35
+longer : (tail more : List ℕ) (k : TokenKind) (n : ℕ) → 0 < length tail → IsOpen tail → get_or tail 0 0 ≢ 35
     → front_of (get_or (tail ++ more) 0 0) (drop 1 (tail ++ more)) ≡ Found k n → length tail ≤ n + 1
-open_longer [] more k n l h outside f = absurd (omega (arith, l))
-open_longer (c ∷ b) more k n l (inl h) outside f = absurd (outside h.0)
-open_longer (c ∷ b) more k n l (inr (inl h)) outside f =
+longer [] more k n l h outside f = absurd (omega (arith, l))
+longer (c ∷ b) more k n l (inl h) outside f = absurd (outside h.0)
+longer (c ∷ b) more k n l (inr (inl h)) outside f =
     let w = word_found c (length b) b h in
     let size = word_size (leading is_word (b ++ more)) (sym (front_word c (b ++ more) w.0) ∙ f) in
     omega (arith, size, leading_append is_word b more w.1)
   where
     word_size : (m : ℕ) → word m ≡ Found k n → m ≡ n
     word_size m e = grind (arith, nat_tests)
-open_longer (c ∷ b) more k n l (inr (inr h)) outside f =
+longer (c ∷ b) more k n l (inr (inr h)) outside f =
     let quote = is_quote c b h in
     omega (
       arith,
       unfinished_longer b more k n (sym (front_quote c b quote) ∙ h) (sym (front_quote c (b ++ more) quote) ∙ f),
     )
+
+-- so it has as many bytes at least
+pub open_longer : (bytes tail more : List ℕ) (k : TokenKind) (n : ℕ) → bytes ≡ tail ++ more → 0 < length tail
+    → IsOpen tail → get_or tail 0 0 ≢ 35 → front_of (get_or bytes 0 0) (drop 1 bytes) ≡ Found k (n - 1) → 0 < n
+    → length tail ≤ n
+open_longer bytes tail more k n e l o outside f some = omega (
+  arith,
+  longer tail more k (n - 1) l o outside
+      (subst (λ (t : List ℕ). front_of (get_or t 0 0) (drop 1 t) ≡ Found k (n - 1)) e f),
+  some,
+)

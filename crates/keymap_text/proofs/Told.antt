@@ -1,11 +1,10 @@
 -- The words of a definition tell it.
-use Rattle.std.proofs.Common.{◌≡◌, ℕ, List, [], ◌++◌, sym, ◌∙◌, ap, append-nil}
+use Rattle.std.proofs.Common.{◌≡◌, ℕ, List, [], ◌++◌, refl, sym, ◌∙◌, ap, append-nil}
 use Rattle.keymap_text.specs.declared.words.Item.{Item}
-use Rattle.keymap_text.specs.Lexical.{tokens_after, is_word}
+use Rattle.keymap_text.specs.Lexical.{tokens_after}
 use Rattle.keymap_text.specs.Definitions.{IsDefinition, definition_words}
 use Rattle.keymap_text.specs.Meaning.{list_of}
 use Rattle.keymap_text.specs.Rows.{Definition, KeyDefinition, AccentDefinition, Defines}
-use Rattle.keymap_text.proofs.Leading.{leading_none}
 use Rattle.keymap_text.proofs.Lexed.{Lexes, NoWord}
 use Rattle.keymap_text.proofs.OneRow.{defined_is}
 use Rattle.keymap_text.proofs.PrintedLines.{slot_printed, accent_words_printed}
@@ -27,7 +26,7 @@ no_items q = ap items_of (split_none q)
 -- the tokens of a text that is these and no more
 all_of : (w : List ℕ) (ts : List Item) → Lexes NoWord w ts → items_of (tokens_after 0 0 (w ++ [])) ≡ ts
 all_of w ts l =
-    l.items 0 [] (leading_none is_word) ∙ ap (λ (r : List Item). ts ++ r) (no_items _) ∙ append-nil ts
+    l.items 0 [] refl ∙ ap (λ (r : List Item). ts ++ r) (no_items _) ∙ append-nil ts
 
 pub words_tell : (d e : Definition) → IsDefinition d → IsDefinition e → definition_words d ≡ definition_words e → d ≡ e
 words_tell d e p q h =

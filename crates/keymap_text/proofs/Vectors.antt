@@ -6,12 +6,11 @@ use Rattle.std.proofs.lemmas.Bool.{cond-true, cond-false}
 use Rattle.std.proofs.lemmas.Simd.{map-map, mask_l-mod, length-chunk, get_or-chunk, leading_from_mask_l}
 use Rattle.std.proofs.lemmas.Simd.{trailing_mask_l}
 use Rattle.std.proofs.lemmas.List.{length-map}
-use Rattle.std.proofs.lemmas.List.Sums.{prefix_len-le-length, prefix_len_passes, prefix_len_stops}
+use Rattle.std.proofs.lemmas.List.Sums.{prefix_len-le-length, prefix_len_is, prefix_len_passes, prefix_len_stops}
 use Rattle.std.specs.List.{prefix_len}
 use lib.Lanes.{chunk, zip2, mask_l, top}
 use Rattle.keymap_text.specs.Lexical.{leading}
 use Rattle.keymap_text.specs.Inner.Keys.{first_of_sixteen}
-use Rattle.keymap_text.proofs.Leading.{leading_is}
 
 -- vectors that were computed lane by lane from v
 zip2-map : (h : ℕ → ℕ → ℕ) (f g : ℕ → ℕ) (v : List ℕ) → zip2 h (map f v) (map g v) ≡ map (λ x. h (f x) (g x)) v
@@ -69,10 +68,10 @@ module _ (q : ℕ → Bool) (d : List ℕ) (r : ℕ) (z : List ℕ) (room : 16 �
   -- a lane stops just where q fails
   pub run_in : agree_below stops (λ x. not (q x)) 256 ≡ true → r < 16 → leading q d ≡ r
   run_in all short =
-      leading_is q d r (omega (arith, room, short))
+      prefix_len_is q d r 0 (omega (arith, room, short))
       (λ k to. not-false _ (sym (agree_below_at stops (λ x. not (q x)) 256 (get_or d k 0) all (fits k).fits)
       ∙ goes_on k to))
-      (
+      (λ _.
       let at = ap (λ j. get_or (chunk 0 16 d) j 0) (sym counted) ∙ in_chunk d r short in
       let set = subst (λ x. stops x ≡ true) at
       (not-false _ (prefix_len_stops (λ x. not (stops x)) (chunk 0 16 d) 0

@@ -4,6 +4,7 @@ use Rattle.std.specs.Prelude.{ℕ, zero, suc, ◌+◌, Bool, true, false, if◌t
 use Rattle.std.specs.Prelude.{nat_le, List, [], ◌∷◌, length, take, drop, Option, Some, None, Result, Ok, Err}
 use Rattle.std.specs.Prelude.{slice_index}
 use Rattle.std.specs.Char.{is_ascii_alphanumeric}
+use Rattle.std.specs.List.{prefix_len}
 use Rattle.bstr.specs.Utf8.{decoded, Decoded}
 use Rattle.keymap_text.specs.Types.{TextFaultKind, BadByte, BadLiteral, BadWord, EndInside, TokenKind, ParenL, ParenR}
 use Rattle.keymap_text.specs.Types.{Literal, Word}
@@ -29,9 +30,8 @@ abbrev pub stays_on_line : ℕ → Bool
 stays_on_line c = not (c == 10)
 
 -- how many bytes at the front pass the test
-unfoldable pub leading : (ℕ → Bool) → List ℕ → ℕ
-leading p [] = 0
-leading p (c ∷ cs) = if p c then leading p cs + 1 else 0
+abbrev pub leading : (ℕ → Bool) → List ℕ → ℕ
+leading p bytes = prefix_len p bytes
 
 -- What stands at the front of some bytes, with the number of its bytes after the first one.
 pub data Front : Type 0 where

@@ -1,10 +1,10 @@
 //! Reading a text that comes in pieces: what a piece shows whole is read at once, and the bytes of a token that isn't
 //! whole yet are kept and read again with the next piece. It keeps the offset and the line.
-ghost use Rattle.std.specs.Prelude.{◌≡◌, ℕ, ◌+◌, ◌-◌, ◌<◌, ◌≤◌, ◌^◌, ◌++◌, [], List, length, take, drop, IfErr, count_by};
-ghost use Rattle.std.specs.Prelude.{slice_index, ◌==◌, ◌≢◌};
+ghost use Rattle.std.specs.Prelude.{◌≡◌, ◌≢◌, ◌==◌, ℕ, ◌+◌, ◌<◌, ◌≤◌, ◌^◌, ◌++◌, [], List, length, slice_index, IfErr};
+ghost use Rattle.std.specs.Prelude.{count_by};
 ghost use Rattle.keymap_text.specs.Inner.Judging.{verdict};
 ghost use Rattle.keymap_text.specs.Inner.Scanning.{IsOpen};
-ghost use Rattle.keymap_text.specs.Inner.Resuming.{resume, IsReader, Feeds, Completes, Passes, Keeps, Says};
+ghost use Rattle.keymap_text.specs.Inner.Resuming.{resume, IsReader, Feeds, Completes, Passes, Moves, Says};
 ghost use Rattle.keymap_text.specs.Inner.Resuming.{IsFaultOfPending};
 ghost use Rattle.keymap_text.specs.Inner.Grammar as spec;
 
@@ -21,23 +21,13 @@ pub(crate) struct Reading {
     /// The map so far.
     pub(crate) map: KeyMap,
     pub(crate) grammar: Grammar,
-    /// The bytes of the token that is not whole yet; of a comment that goes on only the `#`, with bytes of it or none.
-    pub(crate) pending: ArrayVec<u8, 32>,
+    /// The bytes of the token that is not whole yet, at most 32, with room for the byte behind them; of a comment that
+    /// goes on the `#`, with bytes of it or none.
+    pub(crate) pending: ArrayVec<u8, 33>,
     /// The place of the first pending byte.
     pub(crate) offset: u64,
     /// The line of the first pending byte.
     pub(crate) line: u64,
-}
-
-/// The bytes of both.
-fn joined(pending: &[u8], behind: &[u8]) -> ArrayVec<u8, 33>
-    requires { length pending.now + length behind.now ≤ 33 }
-    ensures { result.items ≡ pending.now ++ behind.now }
-{
-    let mut bytes = ArrayVec::new();
-    bytes.try_extend_from_slice(pending).unwrap();
-    bytes.try_extend_from_slice(behind).unwrap();
-    bytes
 }
 
 /// How many bytes of a piece are read with those that are pending: no token has more than 33 with the byte behind it.
@@ -52,8 +42,8 @@ fn few(had: usize, piece: usize) -> usize
 }
 
 /// Adds bytes, for which there is room, to what is pending.
-fn extend(pending: &mut ArrayVec<u8, 32>, bytes: &[u8])
-    requires { length pending.old.items + length bytes.now ≤ 32 }
+fn extend(pending: &mut ArrayVec<u8, 33>, bytes: &[u8])
+    requires { length pending.old.items + length bytes.now ≤ 33 }
     ensures { pending.new.items ≡ pending.old.items ++ bytes.now }
 {
     pending.try_extend_from_slice(bytes).unwrap();
@@ -154,12 +144,9 @@ impl Reading {
     {
         let had = self.pending.len();
         let few = few(had, piece.len());
-        let bytes = joined(self.pending.as_slice(), &piece[..few]);
-        match next(&mut self.grammar, &mut self.map, bytes.as_slice()) {
-            Ok(0) => {
-                extend(&mut self.pending, &piece[..few]);
-                Ok(few)
-            }
+        extend(&mut self.pending, &piece[..few]);
+        match next(&mut self.grammar, &mut self.map, self.pending.as_slice()) {
+            Ok(0) => Ok(few),
             Ok(n) => {
                 let taken = n - had;
                 self.pending.clear();
@@ -181,24 +168,23 @@ impl Reading {
     {
         match scan(&mut self.grammar, &mut self.map, rest) {
             Ok(n) => {
-                self.keep(&rest[..n], &rest[n..]);
+                self.pass(&rest[..n]);
+                self.keep(&rest[n..]);
                 Ok(())
             }
             Err(stop) => Err(self.fault(&rest[..stop.at], stop.kind)),
         }
     }
 
-    /// Goes on behind the bytes that were read, and keeps those behind them, which show no whole token; of a comment only
-    /// its last byte, as a `#`.
+    /// Keeps the last bytes of a piece, which show no whole token; of a comment only its last byte, as a `#`.
     #[inline(always)]
-    fn keep(&mut self, read: &[u8], tail: &[u8])
+    fn keep(&mut self, tail: &[u8])
+        requires reader { IsReader self.old }
         requires tail { IsOpen tail.now }
         requires none { self.old.pending.items ≡ [] }
-        requires low { self.old.line ≤ self.old.offset + 1 }
-        requires room { self.old.offset + length read.now + length tail.now < 2 ^ 63 }
-        ensures { Keeps self.old self.new read.now tail.now }
+        requires room { self.old.offset + length tail.now < 2 ^ 63 }
+        ensures { Moves self.old self.new tail.now [] }
     {
-        self.pass(read);
         if tail.is_empty() {
             return;
         }

@@ -35,12 +35,12 @@ pub record Lined (r : Reading) (b : List ℕ) : Type 0 where
   pub line : r.line ≡ line b r.offset
   pub none : count_by (λ c. c == 10) (drop r.offset b) ≡ 0
 
--- What taking all of some bytes did.
-pub record Goes (old new : Reading) (bytes : List ℕ) : Type 0 where
-  pub takes : (x : List ℕ) → resume old (bytes ++ x) ≡ resume new x
+-- What taking the bytes w did, where others follow, y at least.
+pub record Moves (old new : Reading) (w y : List ℕ) : Type 0 where
+  pub takes : (x : List ℕ) → resume old (w ++ (y ++ x)) ≡ resume new (y ++ x)
   pub reader : IsReader new
-  pub fed : new.offset + length new.pending.items ≡ old.offset + length old.pending.items + length bytes
-  pub line : (b : List ℕ) → Lined old b → Lined new (b ++ bytes)
+  pub fed : new.offset + length new.pending.items ≡ old.offset + length old.pending.items + length w
+  pub line : (b : List ℕ) → Lined old b → Lined new (b ++ w)
 
 -- These bytes have a fault that stands whatever follows them.
 pub record Breaks (old : Reading) (bytes : List ℕ) (e : TextFault) : Type 0 where
@@ -48,29 +48,15 @@ pub record Breaks (old : Reading) (bytes : List ℕ) (e : TextFault) : Type 0 wh
   pub line : (b : List ℕ) → Lined old b → e.line ≡ line (b ++ bytes) e.offset
 
 abbrev pub Feeds : Result (Unit {0}) TextFault → Reading → Reading → List ℕ → Type 0
-Feeds (Ok u) old new bytes = Goes old new bytes
+Feeds (Ok u) old new bytes = Moves old new bytes []
 Feeds (Err e) old new bytes = Breaks old bytes e
 
 -- What taking the first n of some bytes did: nothing is pending then, unless these are all.
 pub record Passes (old new : Reading) (bytes : List ℕ) (n : ℕ) : Type 0 where
   pub inside : n ≤ length bytes
-  pub takes : (x : List ℕ) → resume old (bytes ++ x) ≡ resume new (drop n bytes ++ x)
-  pub reader : IsReader new
-  pub fed : new.offset + length new.pending.items ≡ old.offset + length old.pending.items + n
-  pub line : (b : List ℕ) → Lined old b → Lined new (b ++ take n bytes)
+  pub moves : Moves old new (take n bytes) (drop n bytes)
   pub clear : n < length bytes → new.pending.items ≡ []
 
 abbrev pub Completes : Result ℕ TextFault → Reading → Reading → List ℕ → Type 0
 Completes (Ok n) old new bytes = Passes old new bytes n
 Completes (Err e) old new bytes = Breaks old bytes e
-
--- What keeping the bytes behind those that were read did: they are made of what is pending then.
-pub record Keeps (old new : Reading) (read tail : List ℕ) : Type 0 where
-  pub map : new.map ≡ old.map
-  pub grammar : new.grammar ≡ old.grammar
-  pub takes : (x : List ℕ)
-      → judge (state_view old) (tokens_after 0 (old.offset + length read) (tail ++ x)) ≡ resume new x
-  pub kept : IsOpen new.pending.items
-  pub low : new.line ≤ new.offset + 1
-  pub fed : new.offset + length new.pending.items ≡ old.offset + length read + length tail
-  pub line : (b : List ℕ) → Lined old b → Lined new (b ++ (read ++ tail))

@@ -1,7 +1,7 @@
 use Rattle.std.proofs.Common.{◌≡◌, ◌+◌, ◌-◌, ◌==◌, length, take, drop, ◌∙◌, ap, arith, count_by, length-drop}
 use Rattle.std.proofs.lemmas.List.Sums.{count_by-le-length}
 use Rattle.std.proofs.lemmas.List.{length-take-le}
-use Rattle.keymap_text.proofs.Lines.{count_more, count_split}
+use Rattle.keymap_text.proofs.Lines.{feeds_more, feeds_split}
 use Rattle.keymap_text.proofs.Splitting.{to_end}
 use Rattle.keymap_text.proofs.token.line_feeds.Goals as goal
 
@@ -10,7 +10,7 @@ loop-i-preserved c =
     let l = c.loop-i in
     let b = c.args.bytes.now in
     let size : l.i + 192 - l.i ≡ 192 = omega arith in
-    let more = count_more b l.i 192 in
+    let more = feeds_more b l.i 192 in
     let taken : c.few_line_feeds.result ≡ count_by (λ c. c == 10) (take 192 (drop l.i b)) =
     c.few_line_feeds.ensures ∙ ap (λ k. count_by (λ c. c == 10) (take k (drop l.i b))) size in
     let few = count_by-le-length (λ c. c == 10) (take 192 (drop l.i b)) in
@@ -27,11 +27,11 @@ returns-clause-value c =
     let l = c.loop-i in
     let b = c.args.bytes.now in
     let rest = c.few_line_feeds-2.ensures ∙ ap (count_by (λ c. c == 10)) (to_end b l.i) in
-    omega (arith, l.invariant.value, rest, count_split l.i b)
+    omega (arith, l.invariant.value, rest, feeds_split l.i b)
 
 pub returns-clause-bound : goal.returns-clause-bound
 returns-clause-bound c =
     let l = c.loop-i in
     let b = c.args.bytes.now in
     let rest = c.few_line_feeds-2.ensures ∙ ap (count_by (λ c. c == 10)) (to_end b l.i) in
-    omega (arith, l.invariant.value, rest, count_split l.i b, count_by-le-length (λ c. c == 10) b)
+    omega (arith, l.invariant.value, rest, feeds_split l.i b, count_by-le-length (λ c. c == 10) b)

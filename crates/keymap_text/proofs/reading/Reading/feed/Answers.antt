@@ -1,10 +1,11 @@
 use Rattle.std.proofs.Common.{refl}
-use Rattle.keymap_text.proofs.Standing.{goes_whole, feeds_on}
+use Rattle.keymap_text.proofs.Standing.{moves_whole, feeds_on}
 use Rattle.keymap_text.proofs.reading.Reading.feed.Goals as goal
 
 pub returns-then-begun-piece : goal.returns-then-begun-piece
 returns-then-begun-piece c =
-    goes_whole c.args.self.now c.complete.new.self c.args.piece.now c.in-Ok.begun c.in-Ok.ensures c.if-begun-piece.true
+    moves_whole c.args.self.now c.complete.new.self c.args.piece.now c.in-Ok.begun c.in-Ok.ensures
+    c.if-begun-piece.true
 
 pub returns : goal.returns
 returns c =

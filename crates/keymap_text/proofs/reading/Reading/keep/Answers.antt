@@ -1,7 +1,8 @@
-use Rattle.std.proofs.Common.{sym, ◌∙◌, ap, arith, eqb-true, List, ℕ, [], ◌∷◌, ◌++◌, ◌+◌, ◌-◌, length}
-use Rattle.keymap_text.specs.declared.reading.Reading.{Reading}
-use Rattle.keymap_text.proofs.Scanning.{not_none}
-use Rattle.keymap_text.proofs.Standing.{kept, kept_comment, is_nil}
+use Rattle.std.proofs.Common.{◌≡◌, ◌++◌, ℕ, List, [], ◌∷◌, length, refl, sym, ◌∙◌, ap, subst, arith, eqb-true, inl}
+use Rattle.keymap_text.specs.Inner.Scanning.{IsOpen}
+use Rattle.keymap_text.specs.Inner.Views.{state_view}
+use Rattle.keymap_text.proofs.Scanning.{not_none, stays}
+use Rattle.keymap_text.proofs.Standing.{extended, comment_kept, is_nil}
 use Rattle.keymap_text.proofs.Tails.{open_few}
 use Rattle.keymap_text.proofs.reading.Reading.keep.Goals as goal
 
@@ -9,34 +10,36 @@ pub extend-requires : goal.extend-requires
 extend-requires c = omega (
   arith,
   open_few c.args.tail.now c.requires.tail c.if-tail-eq35.false,
-  ap length (ap (λ (s : Reading). s.pending.items) c.pass.ensures ∙ c.requires.none),
+  ap length c.requires.none,
 )
 
 pub returns-then-is_empty : goal.returns-then-is_empty
 returns-then-is_empty c =
     let r = c.args.self.now in
-    kept r c.pass.new.self c.args.read.now c.args.tail.now c.requires.tail c.requires.none c.requires.low
-    (ap (λ (s : Reading). s.map) c.pass.ensures) (ap (λ (s : Reading). s.grammar) c.pass.ensures)
-    (ap (λ (s : Reading). s.pending.items) c.pass.ensures ∙ c.requires.none
-    ∙ sym (is_nil c.args.tail.now (eqb-true _ _ (sym c.is_empty.ensures ∙ c.if-is_empty.true))))
-    (ap (λ (s : Reading). s.offset) c.pass.ensures) (ap (λ (s : Reading). s.line) c.pass.ensures)
+    let tail = c.args.tail.now in
+    let nil : tail ≡ [] = is_nil tail (eqb-true _ _ (sym c.is_empty.ensures ∙ c.if-is_empty.true)) in
+    extended r r (r.pending.items ++ tail) tail [] 0 (stays (state_view r) (r.pending.items ++ tail)) refl refl
+    (c.requires.none ∙ sym (ap (λ (p : List ℕ). p ++ tail) c.requires.none ∙ nil)) refl refl c.requires.reader
 
 pub returns-then-tail-eq35 : goal.returns-then-tail-eq35
 returns-then-tail-eq35 c =
-    let r = c.args.self.now in
-    kept_comment r _ c.args.read.now c.args.tail.now (not_none _ (sym c.is_empty.ensures ∙ c.if-is_empty.false))
-    c.if-tail-eq35.true c.requires.tail c.requires.none c.requires.low
-    (ap (λ (s : Reading). s.map) c.pass.ensures) (ap (λ (s : Reading). s.grammar) c.pass.ensures)
-    (c.push.ensures.items ∙ ap (λ (p : List ℕ). p ++ 35 ∷ [])
-    (ap (λ (s : Reading). s.pending.items) c.pass.ensures ∙ c.requires.none))
-    (ap (λ (s : Reading). s.offset + (length c.args.tail.now - 1)) c.pass.ensures)
-    (ap (λ (s : Reading). s.line) c.pass.ensures)
+    let p = c.push.ensures.items ∙ ap (λ (p : List ℕ). p ++ 35 ∷ []) c.requires.none in
+    comment_kept c.args.self.now _ c.args.tail.now c.requires.none
+    (not_none _ (sym c.is_empty.ensures ∙ c.if-is_empty.false)) c.if-tail-eq35.true c.requires.tail refl p refl refl
+    (record {
+      place = c.requires.reader.place;
+      tail = subst IsOpen (sym p) (inl (refl, refl));
+      low = omega (arith, c.requires.reader.low);
+    })
 
 pub returns : goal.returns
 returns c =
     let r = c.args.self.now in
-    kept r _ c.args.read.now c.args.tail.now c.requires.tail c.requires.none c.requires.low
-    (ap (λ (s : Reading). s.map) c.pass.ensures) (ap (λ (s : Reading). s.grammar) c.pass.ensures)
-    (c.extend.ensures ∙ ap (λ (p : List ℕ). p ++ c.args.tail.now)
-    (ap (λ (s : Reading). s.pending.items) c.pass.ensures ∙ c.requires.none))
-    (ap (λ (s : Reading). s.offset) c.pass.ensures) (ap (λ (s : Reading). s.line) c.pass.ensures)
+    let tail = c.args.tail.now in
+    extended r _ (r.pending.items ++ tail) tail [] 0 (stays (state_view r) (r.pending.items ++ tail)) refl refl
+    c.extend.ensures refl refl
+    (record {
+      place = c.requires.reader.place;
+      tail = subst IsOpen (sym (c.extend.ensures ∙ ap (λ (p : List ℕ). p ++ tail) c.requires.none)) c.requires.tail;
+      low = c.requires.reader.low;
+    })

@@ -1,12 +1,14 @@
-use Rattle.std.proofs.Common.{ℕ, List, take, refl, sym, subst, arith}
-use Rattle.std.proofs.lemmas.List.{length-take-le}
+use Rattle.std.proofs.Common.{◌≡◌, ◌+◌, ◌++◌, ℕ, List, [], take, drop, length, refl, sym, ◌∙◌, ap, subst, arith}
+use Rattle.std.proofs.lemmas.List.{length-take-le, take-append-drop}
 use Rattle.keymap_text.specs.declared.reading.Reading.{Reading}
-use Rattle.keymap_text.specs.Inner.Grammar.{at}
-use Rattle.keymap_text.specs.Inner.Resuming.{Keeps}
+use Rattle.keymap_text.specs.Meaning.{line}
+use Rattle.keymap_text.specs.Inner.Grammar.{GrammarState}
+use Rattle.keymap_text.specs.Inner.Resuming.{Moves}
 use Rattle.keymap_text.specs.Inner.Scanning.{Advances, Refuses}
-use Rattle.keymap_text.specs.Inner.Views.{state_view, grammar_view}
+use Rattle.keymap_text.specs.Inner.Views.{state_view, grammar_view, IsPlace}
+use Rattle.keymap_text.proofs.Lines.{line_behind}
 use Rattle.keymap_text.proofs.Splitting.{to_end}
-use Rattle.keymap_text.proofs.Standing.{scanned, scan_breaks}
+use Rattle.keymap_text.proofs.Standing.{passed, moves_on, breaks, of_map}
 use Rattle.keymap_text.proofs.reading.Reading.scan.Goals as goal
 
 pub returns-in-Ok : goal.returns-in-Ok
@@ -14,24 +16,36 @@ returns-in-Ok c =
     let r = c.args.self.now in
     let rest = c.args.rest.now in
     let n = c.in-Ok.n in
-    let mid : Reading = record {
-      map = c.scan.new.into;
-      grammar = c.scan.new.grammar;
-      pending = r.pending;
-      offset = r.offset;
-      line = r.line;
-    } in
-    let t = c.in-Ok.ensures.takes r.map refl in
-    scanned r mid c.keep.new.self rest n c.requires.none refl refl c.requires.none
-    (subst (λ m. Advances (state_view r) (at m (grammar_view c.scan.new.grammar)) rest n) (sym t.1) t.2)
-    c.in-Ok.ensures.leaves.1
-    (subst (λ (t : List ℕ). Keeps mid c.keep.new.self (take n rest) t) (to_end rest n) c.keep.ensures)
+    let new = c.pass.new.self in
+    let size = length-take-le n rest c.in-Ok.ensures.leaves.0 in
+    let taken = of_map (state_view r) (grammar_view c.scan.new.grammar) c.scan.new.into rest n
+    (c.in-Ok.ensures.takes r.map refl) in
+    let offset : new.offset ≡ r.offset + length (take n rest) = ap (λ (s : Reading). s.offset) c.pass.ensures in
+    let moved : Moves r new (take n rest) (drop n rest) =
+    passed r new rest (take n rest) (drop n rest) n
+    (subst (λ (s : GrammarState). Advances (state_view r) s rest n)
+    (sym (ap (λ (s : Reading). state_view s) c.pass.ensures)) taken)
+    (sym (take-append-drop n rest) ∙ sym (ap (λ (p : List ℕ). p ++ (take n rest ++ drop n rest)) c.requires.none))
+    (omega (arith, size, ap length c.requires.none))
+    (ap (λ (s : Reading). s.pending.items) c.pass.ensures ∙ c.requires.none) (omega (arith, offset, size))
+    (ap (λ (s : Reading). s.line) c.pass.ensures) c.requires.reader.low
+    (subst (λ (s : Reading). IsPlace s.grammar.place s.grammar.accent) (sym c.pass.ensures)
+    c.in-Ok.ensures.leaves.1) in
+    subst (λ (t : List ℕ). Moves r c.keep.new.self t []) (take-append-drop n rest)
+    (moves_on r new c.keep.new.self (take n rest) (drop n rest) moved
+    (subst (λ (t : List ℕ). Moves new c.keep.new.self t []) (to_end rest n) c.keep.ensures))
 
 pub returns-in-Err : goal.returns-in-Err
 returns-in-Err c =
     let r = c.args.self.now in
     let rest = c.args.rest.now in
-    let stop = c.in-Err.stop in
-    scan_breaks r rest stop.at c.fault.result c.requires.none
-    (subst (λ f. Refuses (state_view r) rest f stop.at) (sym c.fault.ensures.kind) (c.in-Err.ensures.takes r.map refl))
-    (omega (arith, c.fault.ensures.offset, length-take-le stop.at rest c.in-Err.ensures.leaves)) c.fault.ensures.line
+    let at = c.in-Err.stop.at in
+    let e = c.fault.result in
+    let place : e.offset ≡ r.offset + at =
+    omega (arith, c.fault.ensures.offset, length-take-le at rest c.in-Err.ensures.leaves) in
+    breaks r rest rest at e
+    (subst (λ f. Refuses (state_view r) rest f at) (sym c.fault.ensures.kind) (c.in-Err.ensures.takes r.map refl))
+    (sym (ap (λ (p : List ℕ). p ++ rest) c.requires.none)) place
+    (λ b h. c.fault.ensures.line ∙ line_behind r b rest at h
+    ∙ ap (λ q. line (b ++ rest) q) {x = r.offset + length r.pending.items + at}
+    (omega (arith, place, ap length c.requires.none)))

@@ -1,140 +1,134 @@
-use Rattle.std.proofs.Common.{◌≡◌, ◌+◌, ◌-◌, ◌≤◌, ◌==◌, ◌++◌, ℕ, List, length, take, drop, get_or, refl, sym, ◌∙◌, ap, subst}
+use Rattle.std.proofs.Common.{◌≡◌, ◌+◌, ◌-◌, ◌<◌, ◌≤◌, ◌++◌, ℕ, List, length, take, drop, get_or, refl, sym, ◌∙◌, ap, subst}
 use Rattle.std.proofs.Common.{arith, Ok, length-append}
-use Rattle.std.proofs.lemmas.List.{length-take-le}
-use Rattle.std.proofs.lemmas.List.Sums.{count_by-le-length}
-use Rattle.keymap_text.specs.declared.reading.Reading.{Reading}
+use Rattle.std.proofs.lemmas.List.{length-take-le, take-append-drop}
 use Rattle.std.specs.Prelude.{IsFalse}
-use Rattle.keymap_text.specs.Lexical.{Found, front_of, separates}
-use Rattle.keymap_text.specs.Inner.Grammar.{GrammarState, at}
+use Rattle.keymap_text.specs.declared.reading.Reading.{Reading}
+use Rattle.keymap_text.specs.Lexical.{separates}
+use Rattle.keymap_text.specs.Inner.Grammar.{GrammarState}
 use Rattle.keymap_text.specs.Inner.Scanning.{Advances, Refuses, IsOpen}
 use Rattle.keymap_text.specs.Inner.Views.{state_view, grammar_view, IsPlace}
-use Rattle.keymap_text.proofs.Standing.{part_kept, token_passed, token_breaks, first_same}
+use Rattle.keymap_text.proofs.Lines.{pending_line}
+use Rattle.keymap_text.proofs.Standing.{extended, passed, breaks, advances_more, refuses_more, joined, of_map, first_same}
 use Rattle.keymap_text.proofs.Tails.{open_few, open_longer, open_stands}
 use Rattle.keymap_text.proofs.reading.Reading.token.Goals as goal
 
-pub extend-requires : goal.extend-requires
-extend-requires c =
-    let r = c.args.self.now in
-    let w = take c.few-few.result c.args.piece.now in
-    let joined : c.as_slice-2.result.now ≡ r.pending.items ++ w =
-    c.as_slice-2.ensures.value ∙ c.joined-bytes.ensures ∙ ap (λ (t : List ℕ). t ++ w) c.as_slice.ensures.value in
-    let tail = subst IsOpen joined (c.in-Ok-eq0.ensures.open (ap Ok c.in-Ok-eq0.field-0-test)) in
-    let few = open_few (r.pending.items ++ w) tail
-    (λ e. c.requires.token (sym (first_same r.pending.items w c.requires.some) ∙ e)) in
-    omega (arith, few, length-append r.pending.items w)
+pub few-few-requires : goal.few-few-requires
+few-few-requires c = omega (
+  arith,
+  c.len-had.ensures.value,
+  open_few c.args.self.now.pending.items c.requires.reader.tail c.requires.token,
+)
 
 pub next-requires-clause-stands : goal.next-requires-clause-stands
 next-requires-clause-stands c =
-    let r = c.args.self.now in
-    let w = take c.few-few.result c.args.piece.now in
-    let joined : c.as_slice-2.result.now ≡ r.pending.items ++ w =
-    c.as_slice-2.ensures.value ∙ c.joined-bytes.ensures ∙ ap (λ (t : List ℕ). t ++ w) c.as_slice.ensures.value in
-    subst (λ c. IsFalse (separates c)) (sym (ap (λ (t : List ℕ). get_or t 0 0) joined
-    ∙ first_same r.pending.items w c.requires.some))
-    (open_stands r.pending.items c.requires.some c.requires.reader.tail c.requires.token)
+    let p = c.args.self.now.pending.items in
+    subst (λ c. IsFalse (separates c)) (sym (ap (λ (t : List ℕ). get_or t 0 0) (c.as_slice.ensures.value
+    ∙ c.extend.ensures) ∙ first_same p _ c.requires.some))
+    (open_stands p c.requires.some c.requires.reader.tail c.requires.token)
 
 pub overflow_sub-taken : goal.overflow_sub-taken
 overflow_sub-taken c =
-    let r = c.args.self.now in
-    let w = take c.few-few.result c.args.piece.now in
     let n = c.in-Ok.n in
-    let joined : c.as_slice-2.result.now ≡ r.pending.items ++ w =
-    c.as_slice-2.ensures.value ∙ c.joined-bytes.ensures ∙ ap (λ (t : List ℕ). t ++ w) c.as_slice.ensures.value in
-    let found = c.in-Ok.ensures.found (omega (arith, c.in-Ok.n-test)) in
-    let longer = open_longer r.pending.items w found.0 (n - 1) c.requires.some c.requires.reader.tail c.requires.token
-    (subst (λ (t : List ℕ). front_of (get_or t 0 0) (drop 1 t) ≡ Found found.0 (n - 1)) joined found.1) in
-    omega (arith, longer, c.len-had.ensures.value, c.in-Ok.n-test)
+    let some : 0 < n = omega (arith, c.in-Ok.n-test) in
+    let found = c.in-Ok.ensures.found some in
+    let longer = open_longer c.as_slice.result.now c.args.self.now.pending.items _ found.0 n
+    (c.as_slice.ensures.value ∙ c.extend.ensures) c.requires.some c.requires.reader.tail c.requires.token found.1 some in
+    omega (arith, longer, c.len-had.ensures.value)
 
 pub returns-in-Ok-eq0 : goal.returns-in-Ok-eq0
 returns-in-Ok-eq0 c =
     let r = c.args.self.now in
     let piece = c.args.piece.now in
-    let w = take c.few-few.result piece in
-    let joined : c.as_slice-2.result.now ≡ r.pending.items ++ w =
-    c.as_slice-2.ensures.value ∙ c.joined-bytes.ensures ∙ ap (λ (t : List ℕ). t ++ w) c.as_slice.ensures.value in
-    let tail = subst IsOpen joined (c.in-Ok-eq0.ensures.open (ap Ok c.in-Ok-eq0.field-0-test)) in
-    let few = open_few (r.pending.items ++ w) tail
-    (λ e. c.requires.token (sym (first_same r.pending.items w c.requires.some) ∙ e)) in
-    let new = grammar_view c.next.new.grammar in
-    let t = c.in-Ok-eq0.ensures.takes r.map refl in
-    part_kept r _ piece c.few-few.result
-    (subst (λ (t : List ℕ). Advances (state_view r) (at c.next.new.into new) t 0) joined
-    (subst (λ n. Advances (state_view r) (at c.next.new.into new) c.as_slice-2.result.now n) c.in-Ok-eq0.field-0-test
-    (subst (λ m. Advances (state_view r) (at m new) c.as_slice-2.result.now c.in-Ok-eq0.field-0) (sym t.1) t.2)))
-    c.few-few.ensures.inside c.extend.ensures refl refl
-    (record {
-      place = c.in-Ok-eq0.ensures.leaves.1;
-      tail = subst IsOpen (sym c.extend.ensures) tail;
-      low = c.requires.reader.low;
-    })
-    (λ l. omega (
-      arith,
-      few,
-      c.few-few.ensures.enough l,
-      c.len-had.ensures.value,
-      length-append r.pending.items w,
-      length-take-le c.few-few.result piece c.few-few.ensures.inside,
-    ))
+    let few = c.few-few.result in
+    let bytes = c.as_slice.result.now in
+    let joint = c.as_slice.ensures.value ∙ c.extend.ensures in
+    let tail = c.in-Ok-eq0.ensures.open (ap Ok c.in-Ok-eq0.field-0-test) in
+    let size = length-take-le few piece c.few-few.ensures.inside in
+    let short = open_few bytes tail (λ e. c.requires.token (sym (ap (λ (t : List ℕ). get_or t 0 0) joint
+    ∙ first_same r.pending.items _ c.requires.some) ∙ e)) in
+    record {
+      inside = c.few-few.ensures.inside;
+      moves = extended r _ bytes (take few piece) (drop few piece) c.in-Ok-eq0.field-0
+          (of_map (state_view r) (grammar_view c.next.new.grammar) c.next.new.into bytes c.in-Ok-eq0.field-0
+          (c.in-Ok-eq0.ensures.takes r.map refl)) c.in-Ok-eq0.field-0-test joint (sym c.as_slice.ensures.value) refl
+          refl
+          (record {
+            place = c.in-Ok-eq0.ensures.leaves.1;
+            tail = subst IsOpen c.as_slice.ensures.value tail;
+            low = c.requires.reader.low;
+          });
+      clear = λ l. absurd (omega (
+        arith,
+        short,
+        c.few-few.ensures.enough l,
+        c.len-had.ensures.value,
+        ap length joint,
+        length-append r.pending.items (take few piece),
+        size,
+      ));
+    }
 
 pub returns-in-Ok : goal.returns-in-Ok
 returns-in-Ok c =
     let r = c.args.self.now in
     let piece = c.args.piece.now in
     let few = c.few-few.result in
-    let w = take few piece in
     let n = c.in-Ok.n in
     let had = c.len-had.result in
+    let k = n - had in
     let new = c.pass.new.self in
-    let joined : c.as_slice-2.result.now ≡ r.pending.items ++ w =
-    c.as_slice-2.ensures.value ∙ c.joined-bytes.ensures ∙ ap (λ (t : List ℕ). t ++ w) c.as_slice.ensures.value in
-    let found = c.in-Ok.ensures.found (omega (arith, c.in-Ok.n-test)) in
-    let longer = open_longer r.pending.items w found.0 (n - 1) c.requires.some c.requires.reader.tail c.requires.token
-    (subst (λ (t : List ℕ). front_of (get_or t 0 0) (drop 1 t) ≡ Found found.0 (n - 1)) joined found.1) in
-    let has : had ≤ n = omega (arith, longer, c.len-had.ensures.value, c.in-Ok.n-test) in
-    let t = c.in-Ok.ensures.takes r.map refl in
-    let state : state_view new ≡ at c.next.new.into (grammar_view c.next.new.grammar) =
-    ap (λ (s : Reading). state_view s) c.pass.ensures in
-    let inside : n - had ≤ length piece =
+    let bytes = c.as_slice.result.now in
+    let joint = c.as_slice.ensures.value ∙ c.extend.ensures in
+    let some : 0 < n = omega (arith, c.in-Ok.n-test) in
+    let found = c.in-Ok.ensures.found some in
+    let longer = open_longer bytes r.pending.items (take few piece) found.0 n joint c.requires.some
+    c.requires.reader.tail c.requires.token found.1 some in
+    let has : had ≤ n = omega (arith, longer, c.len-had.ensures.value) in
+    let inside : k ≤ length piece =
     omega (
       arith,
       c.in-Ok.ensures.leaves.0,
-      ap length joined,
-      length-append r.pending.items w,
+      ap length joint,
+      length-append r.pending.items (take few piece),
       c.len-had.ensures.value,
       length-take-le few piece c.few-few.ensures.inside,
       c.few-few.ensures.inside,
     ) in
-    let offset : new.offset ≡ r.offset + had + length (take (n - had) piece) =
-    ap (λ (s : Reading). s.offset) c.pass.ensures in
-    token_passed r new piece few n had c.len-had.ensures.value
-    (subst (λ (t : List ℕ). Advances (state_view r) (state_view new) t n) joined
-    (subst (λ (s : GrammarState). Advances (state_view r) s c.as_slice-2.result.now n)
-    (ap (λ m. at m (grammar_view c.next.new.grammar)) (sym t.1) ∙ sym state) t.2))
-    c.few-few.ensures.inside has (ap (λ (s : Reading). s.pending.items) c.pass.ensures ∙ c.clear.ensures)
-    (omega (arith, offset, length-take-le (n - had) piece inside, has))
-    (ap (λ (s : Reading). s.line) c.pass.ensures)
-    (record {
-      place = subst (λ (s : Reading). IsPlace s.grammar.place s.grammar.accent) (sym c.pass.ensures)
-          c.in-Ok.ensures.leaves.1;
-      tail = subst IsOpen (sym (ap (λ (s : Reading). s.pending.items) c.pass.ensures ∙ c.clear.ensures)) tt;
-      low = omega (
-        arith,
-        ap (λ (s : Reading). s.line) c.pass.ensures,
-        offset,
-        c.requires.reader.low,
-        count_by-le-length (λ c. c == 10) (take (n - had) piece),
-      );
-    })
+    let size = length-take-le k piece inside in
+    let pending = ap (λ (s : Reading). s.pending.items) c.pass.ensures ∙ c.clear.ensures in
+    let offset : new.offset ≡ r.offset + had + length (take k piece) = ap (λ (s : Reading). s.offset) c.pass.ensures in
+    record {
+      inside = inside;
+      moves = passed r new (bytes ++ drop few piece) (take k piece) (drop k piece) n
+          (subst (λ (s : GrammarState). Advances (state_view r) s (bytes ++ drop few piece) n)
+          (sym (ap (λ (s : Reading). state_view s) c.pass.ensures))
+          (advances_more (state_view r) _ bytes (drop few piece) n
+          (of_map (state_view r) (grammar_view c.next.new.grammar) c.next.new.into bytes n
+          (c.in-Ok.ensures.takes r.map refl))))
+          (joined r.pending.items bytes piece few joint
+          ∙ ap (λ (t : List ℕ). r.pending.items ++ t) (sym (take-append-drop k piece)))
+          (omega (arith, size, has, c.len-had.ensures.value)) pending (omega (arith, offset, size, has))
+          (ap (λ (s : Reading). s.line) c.pass.ensures) c.requires.reader.low
+          (subst (λ (s : Reading). IsPlace s.grammar.place s.grammar.accent) (sym c.pass.ensures)
+          c.in-Ok.ensures.leaves.1);
+      clear = λ _. pending;
+    }
 
 pub returns-in-Err : goal.returns-in-Err
 returns-in-Err c =
     let r = c.args.self.now in
     let piece = c.args.piece.now in
-    let w = take c.few-few.result piece in
-    let joined : c.as_slice-2.result.now ≡ r.pending.items ++ w =
-    c.as_slice-2.ensures.value ∙ c.joined-bytes.ensures ∙ ap (λ (t : List ℕ). t ++ w) c.as_slice.ensures.value in
-    token_breaks r piece c.few-few.result c.in-Err.stop.at c.fault.result
-    (subst (λ (t : List ℕ). Refuses (state_view r) t c.fault.result.kind c.in-Err.stop.at) joined
-    (subst (λ f. Refuses (state_view r) c.as_slice-2.result.now f c.in-Err.stop.at) (sym c.fault.ensures.kind)
+    let few = c.few-few.result in
+    let bytes = c.as_slice.result.now in
+    let e = c.fault.result in
+    breaks r (bytes ++ drop few piece) piece c.in-Err.stop.at e
+    (refuses_more (state_view r) bytes (drop few piece) e.kind c.in-Err.stop.at
+    (subst (λ f. Refuses (state_view r) bytes f c.in-Err.stop.at) (sym c.fault.ensures.kind)
     (c.in-Err.ensures.takes r.map refl)))
-    c.in-Err.ensures.at (omega (arith, c.fault.ensures.offset)) (omega (arith, c.fault.ensures.line))
+    (joined r.pending.items bytes piece few (c.as_slice.ensures.value ∙ c.extend.ensures))
+    (omega (arith, c.fault.ensures.offset, c.in-Err.ensures.at))
+    (λ b h. pending_line r b piece e h (record {
+      line = omega (arith, c.fault.ensures.line);
+      from = omega (arith, c.fault.ensures.offset);
+      to = omega (arith, c.fault.ensures.offset);
+    }))

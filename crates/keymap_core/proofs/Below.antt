@@ -1,12 +1,11 @@
 -- One more number below a bound.
-use Prim.Native.Nat.{zero, suc}
-use Rattle.std.proofs.Common.{◌≡◌, ℕ, ◌<◌, ◌≤◌, length, length-append, ◌+◌, ◌-◌, Bool, true, false, List, [], ◌++◌}
-use Rattle.std.proofs.Common.{Option, Some, None, refl, ap, subst, sym, ◌∙◌, ◌⊎◌, inl, inr, if◌then◌else◌, arith}
-use Rattle.std.proofs.Common.{add-one}
+use Rattle.keymap_core.proofs.Common.{zero, suc, ◌≡◌, ℕ, ◌<◌, ◌≤◌, length, length-append, ◌+◌, ◌-◌, Bool, true, false}
+use Rattle.keymap_core.proofs.Common.{List, [], ◌++◌, Option, Some, None, refl, ap, subst, sym, ◌∙◌, inl, inr, arith}
+use Rattle.keymap_core.proofs.Common.{none-some, same_Some, option_or, first_below}
+use Rattle.std.proofs.Common.{◌⊎◌, if◌then◌else◌, add-one}
 use Rattle.std.proofs.lemmas.Bool.{cases_eq}
-use Rattle.std.proofs.lemmas.Option.{none-some, same_Some}
-use Rattle.std.specs.Option.{option_or, MatchOption}
-use Rattle.keymap_core.specs.Below.{first_below, gathered}
+use Rattle.std.specs.Option.{MatchOption}
+use Rattle.keymap_core.specs.Below.{gathered}
 
 -- a number below n + 1 is below n, or n
 pub below-suc : (i n : ℕ) → i < suc n → (i < n) ⊎ (i ≡ n)

@@ -1,21 +1,18 @@
 -- The test whether some key bears a holding action, in words.
-use Prim.Native.Nat.{zero, suc}
-use Rattle.std.proofs.Common.{◌↔◌, ◌≡◌, ℕ, ◌+◌, ◌<◌, Bool, true, false, ◌||◌, ◌&&◌, refl, ap, sym, ◌∙◌, inl, inr, arith}
-use Rattle.std.proofs.Common.{eqb}
-use Rattle.std.proofs.lemmas.Bool.{or_cases, and_parts, true≢false, cases_Bool, eqb-true, eq-eqb, or_left, or_right}
-use Rattle.keymap_core.specs.declared.action.Modifier.TheVariants as modifier
-use Rattle.keymap_core.specs.declared.action.Lock.TheVariants as lock
-use Rattle.keymap_core.specs.declared.action.Action.{Action}
-use Rattle.keymap_core.specs.declared.action.Action.TheVariants as act
+use Rattle.keymap_core.proofs.Common.{zero, suc, ◌↔◌, ◌≡◌, ℕ, ◌+◌, ◌<◌, Bool, true, false, ◌||◌, ◌&&◌, refl, ap, sym}
+use Rattle.keymap_core.proofs.Common.{◌∙◌, inl, inr, arith, eqb, or_cases, and_parts, true≢false, eqb-true, eq-eqb}
+use Rattle.keymap_core.proofs.Common.{Action, Cell, holding_action, MapValue, cell_at, any_below, is_cell_of_action}
+use Rattle.keymap_core.proofs.Common.{has_in_slot, is_upper_live, is_borne}
+use Rattle.std.proofs.lemmas.Bool.{cases_Bool, or_left, or_right}
 use Rattle.keymap_core.specs.declared.action.Holding.{Holding}
-use Rattle.keymap_core.specs.declared.action.Holding.TheVariants as holding
-use Rattle.keymap_core.specs.declared.entry.Cell.{Cell}
 use Rattle.keymap_core.specs.declared.entry.Cell.TheVariants.{Char, Act}
-use Rattle.keymap_core.specs.Actions.{holding_action}
-use Rattle.keymap_core.specs.Maps.{MapValue, cell_at}
-use Rattle.keymap_core.specs.Borne.{any_below, is_cell_of_action, has_in_slot, has_in_half, is_upper_live, is_borne}
+use Rattle.keymap_core.specs.Borne.{has_in_half}
 use Rattle.keymap_core.specs.Bearers.{StandsIn, IsUpperLive, Bears}
 use Rattle.keymap_core.proofs.SameActions.{same_action-true, same_action-refl}
+use Rattle.keymap_core.specs.declared.action.Modifier.TheVariants as modifier
+use Rattle.keymap_core.specs.declared.action.Lock.TheVariants as lock
+use Rattle.keymap_core.specs.declared.action.Action.TheVariants as act
+use Rattle.keymap_core.specs.declared.action.Holding.TheVariants as holding
 
 -- no number is below 0
 pub any-start : (test : ℕ → Bool) → any_below test 0 ≡ false

@@ -1,15 +1,13 @@
 -- The code of each action is that action's alone.
-use Rattle.std.proofs.Common.{◌↔◌, ◌∙◌, nat_lt, ◌≡◌, ℕ, ◌-◌, ◌<◌, ◌≤◌, ◌==◌, nat_le, List, [], ◌∷◌, Bool, true, false}
-use Rattle.std.proofs.Common.{refl, arith, sym, ap, subst, inl, inr, map}
-use Rattle.std.specs.Prelude.{◌||◌, is_none, Some, None, Option, cond}
-use Rattle.std.specs.List.{find, list_all, range_with_len}
-use Rattle.std.proofs.lemmas.Bool.{and_parts, cases_lt, eqb-true, leb-true}
-use Rattle.std.proofs.lemmas.Option.{none-some, same_Some}
-use Rattle.std.proofs.lemmas.Bool.Decides.{nat_tests}
-use Rattle.std.proofs.lemmas.Grind.{common_steps}
+use Rattle.keymap_core.proofs.Common.{◌↔◌, ◌∙◌, ◌≡◌, ℕ, ◌-◌, ◌<◌, ◌≤◌, ◌==◌, List, [], ◌∷◌, Bool, true, false, refl}
+use Rattle.keymap_core.proofs.Common.{arith, sym, ap, subst, inl, inr, map, ◌||◌, Some, None, Option, cond, find}
+use Rattle.keymap_core.proofs.Common.{list_all, range_with_len, and_parts, cases_lt, eqb-true, none-some, same_Some}
+use Rattle.keymap_core.proofs.Common.{nat_tests, common_steps, IsAction, action_of, plain_actions, Action}
+use Rattle.std.proofs.Common.{nat_lt, nat_le}
+use Rattle.std.specs.Prelude.{is_none}
+use Rattle.std.proofs.lemmas.Bool.{leb-true}
 use Rattle.keymap_core.proofs.Lists.{along}
-use Rattle.keymap_core.specs.Actions.{IsAction, IsCodeOfNoAction, code_of, action_of, plain_actions, within}
-use Rattle.keymap_core.specs.declared.action.Action.{Action}
+use Rattle.keymap_core.specs.Actions.{IsCodeOfNoAction, code_of, within}
 use Rattle.keymap_core.specs.declared.action.Action.TheVariants as a
 use Rattle.keymap_core.specs.declared.action.Modifier.TheVariants as m
 use Rattle.keymap_core.specs.declared.action.Lock.TheVariants as l

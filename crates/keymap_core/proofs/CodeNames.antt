@@ -1,14 +1,12 @@
 -- A search for the first action of some codes that passes a test.
-use Rattle.std.proofs.Common.{◌≡◌, ℕ, ◌<◌, ◌+◌, Bool, true, false, List, [], ◌∷◌, ◌++◌, take, drop, get_or, length}
-use Rattle.std.proofs.Common.{refl, sym, ap, ◌∙◌, Option, Some, None, take-append-drop}
-use Rattle.std.specs.List.{find, filter_map, cons_option}
-use Rattle.std.specs.Option.{option_map_or, option_or}
+use Rattle.keymap_core.proofs.Common.{◌≡◌, ℕ, ◌<◌, ◌+◌, Bool, true, false, List, [], ◌∷◌, ◌++◌, take, drop, get_or}
+use Rattle.keymap_core.proofs.Common.{length, refl, sym, ap, ◌∙◌, Option, Some, None, find, filter_map, option_map_or}
+use Rattle.keymap_core.proofs.Common.{option_or, find-append, Action, action_of}
+use Rattle.std.proofs.Common.{take-append-drop}
+use Rattle.std.specs.List.{cons_option}
 use Rattle.std.proofs.Math.Seq.{drop-cons}
 use Rattle.std.proofs.lemmas.List.{take_more}
 use Rattle.std.proofs.lemmas.List.Elements.{filter_map-append}
-use Rattle.std.proofs.lemmas.List.Folds.{find-append}
-use Rattle.keymap_core.specs.declared.action.Action.{Action}
-use Rattle.keymap_core.specs.Actions.{action_of}
 
 -- an action that fails the test changes nothing of the search
 passed_over : (p : Action → Bool) (o : Option Action) (xs : List Action) → option_map_or p o false ≡ false

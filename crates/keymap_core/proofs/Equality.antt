@@ -1,18 +1,15 @@
 -- `==` of values tells whether they are the same.
-use Rattle.std.proofs.Common.{◌≡◌, ◌==◌, ℕ, Bool, ap, rules}
-use Rattle.std.specs.Prelude.{◌&&◌}
+use Rattle.keymap_core.proofs.Common.{◌≡◌, ◌==◌, ℕ, Bool, ap, rules, ◌&&◌, and_parts, MapValue, Cell}
 use Rattle.std.specs.Bool.{Decides}
 use Rattle.std.specs.Cmp.Lexicographic.{pointwise, pointwise_decides}
-use Rattle.std.proofs.lemmas.Bool.{and_parts, and_from}
+use Rattle.std.proofs.lemmas.Bool.{and_from}
 use Rattle.keymap_core.specs.Accents.{AccentValue}
-use Rattle.keymap_core.specs.Maps.{MapValue}
-use Rattle.keymap_core.specs.declared.entry.Cell.{Cell}
 use Rattle.keymap_core.specs.declared.entry.Entry.{Entry}
+use Rattle.keymap_core.specs.declared.entry.LockFlag.{LockFlag}
 use Rattle.keymap_core.specs.contracts.entry.CellPartialEq.TheImpl as cell
 use Rattle.keymap_core.specs.contracts.entry.EntryPartialEq.TheImpl as entry
 use Rattle.keymap_core.specs.contracts.entry.LockFlagPartialEq.TheImpl as flag
 use Rattle.keymap_core.specs.contracts.accent.AccentPartialEq.TheImpl as accent
-use Rattle.keymap_core.specs.declared.entry.LockFlag.{LockFlag}
 
 -- two tests together tell two facts
 both-Decides : (p q : Bool) (P Q : Type 0) → Decides p P → Decides q Q → Decides (p && q) (P × Q)

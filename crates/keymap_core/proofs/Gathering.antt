@@ -1,9 +1,9 @@
 -- A text that goes to a writer through a buffer.
-use Rattle.std.proofs.Common.{◌≡◌, ℕ, ◌+◌, ◌≤◌, List, [], ◌++◌, length, take, sym, ap, ◌∙◌, append_assoc}
-use Rattle.std.proofs.Common.{append-nil, arith, length-append, subst}
-use Rattle.std.specs.Prelude.{Option, None, Some, Result, Ok, Err, IsErrAnd, MatchResult}
+use Rattle.keymap_core.proofs.Common.{◌≡◌, ℕ, ◌+◌, ◌≤◌, List, [], ◌++◌, length, take, sym, ap, ◌∙◌, append_assoc, arith}
+use Rattle.keymap_core.proofs.Common.{length-append, subst, Option, None, Some, Appends}
+use Rattle.std.proofs.Common.{append-nil}
+use Rattle.std.specs.Prelude.{Result, Ok, Err, IsErrAnd, MatchResult}
 use Rattle.std.proofs.lemmas.List.{take-append-le}
-use Rattle.std.specs.Io.KnownBytes.{Appends}
 use Rattle.keymap_core.specs.Streams.{StreamValue, Gathers, StopsIn}
 use Rattle.keymap_core.proofs.Taking.{Appends-trans}
 

@@ -2,6 +2,7 @@ pub mod Below
 pub mod BorneTests
 pub mod CodeLaws
 mod CodeNames
+mod Common
 mod Equality
 pub mod Gathering
 pub mod HoldingTests

@@ -1,12 +1,9 @@
 -- Lists and options, where std has no such lemma.
-use Prim.Native.Nat.{zero, suc}
-use Rattle.std.proofs.Common.{◌≡◌, ℕ, Bool, true, false, cond, List, [], ◌∷◌, get_or, replicate, Option, Some, None}
-use Rattle.std.proofs.Common.{refl, sym, ap, subst, ◌∙◌, inl, inr, map, ◌+◌, ◌<◌, ◌≤◌, arith}
-use Rattle.std.specs.Prelude.{All, find, reverse}
-use Rattle.std.specs.List.{list_any, range_with_len}
-use Rattle.std.specs.Option.{option_or}
-use Rattle.std.proofs.lemmas.Bool.{or_cases, true≢false}
-use Rattle.std.proofs.lemmas.Option.{none-some, same_Some}
+use Rattle.keymap_core.proofs.Common.{zero, suc, ◌≡◌, ℕ, Bool, true, false, cond, List, [], ◌∷◌, get_or, replicate}
+use Rattle.keymap_core.proofs.Common.{Option, Some, None, refl, sym, ap, subst, ◌∙◌, inl, inr, map, ◌+◌, ◌<◌, ◌≤◌}
+use Rattle.keymap_core.proofs.Common.{arith, All, find, list_any, range_with_len, option_or, or_cases, true≢false}
+use Rattle.keymap_core.proofs.Common.{none-some, same_Some}
+use Rattle.std.specs.Prelude.{reverse}
 use Rattle.std.proofs.Math.Nat.{eq-or-lt_of_le}
 use Rattle.std.proofs.lemmas.List.{reverse-append}
 use Rattle.std.proofs.lemmas.List.Elements.{All-nil, All-cons, All-append, All-head, All-tail}

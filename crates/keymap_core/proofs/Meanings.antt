@@ -1,17 +1,13 @@
 -- What a word means, by the tests that are made in turn.
-use Rattle.std.proofs.Common.{◌≡◌, ℕ, ◌<◌, min, Bool, true, false, cond, List, [], ◌∷◌, ◌++◌, map, refl, sym, ◌∙◌, ap}
-use Rattle.std.proofs.Common.{arith, codes, Option, Some, None}
-use Rattle.std.specs.List.{find, list_any}
-use Rattle.std.specs.Option.{option_map, option_map_or, option_or}
-use Rattle.std.specs.Str.{bytes_eq}
-use Rattle.std.proofs.lemmas.Bool.Decides.{nat_tests}
-use Rattle.std.proofs.lemmas.Option.{none-some, same_Some}
-use Rattle.std.proofs.lemmas.List.Folds.{find-append}
-use Rattle.keymap_core.specs.Actions.{name_of, plain_actions, dead_keys}
-use Rattle.keymap_core.specs.Names.{meaning_of, numbered, number_behind, combined_names, aliases, names, entry}
-use Rattle.keymap_core.specs.declared.action.Action.{Action}
-use Rattle.keymap_core.specs.declared.action.Action.TheVariants as a
+use Rattle.keymap_core.proofs.Common.{◌≡◌, ℕ, ◌<◌, min, Bool, true, false, cond, List, [], ◌∷◌, ◌++◌, map, refl, sym}
+use Rattle.keymap_core.proofs.Common.{◌∙◌, ap, arith, Option, Some, None, find, list_any, option_map, option_map_or}
+use Rattle.keymap_core.proofs.Common.{option_or, bytes_eq, nat_tests, none-some, same_Some, find-append, name_of}
+use Rattle.keymap_core.proofs.Common.{plain_actions, meaning_of, number_behind, combined_names, Action}
+use Rattle.std.proofs.Common.{codes}
+use Rattle.keymap_core.specs.Actions.{dead_keys}
+use Rattle.keymap_core.specs.Names.{numbered, aliases, names, entry}
 use Rattle.keymap_core.specs.declared.named.Named.{Named}
+use Rattle.keymap_core.specs.declared.action.Action.TheVariants as a
 use Rattle.keymap_core.specs.declared.named.Named.TheVariants as n
 
 -- the row of an action in the table of names

@@ -1,11 +1,9 @@
 -- The name of each action, read again, gives the action.
-use Rattle.std.proofs.Common.{List, All, map, ◌≡◌, ℕ, suc, refl, ap, arith}
-use Rattle.std.specs.List.{range_with_len}
-use Rattle.std.specs.Char.{to_ascii_lowercase}
+use Rattle.keymap_core.proofs.Common.{List, All, map, ◌≡◌, ℕ, refl, ap, arith, range_with_len, to_ascii_lowercase}
+use Rattle.keymap_core.proofs.Common.{IsAction, name_of, meaning_of, combined_names, Action}
+use Rattle.std.proofs.Common.{suc}
 use Rattle.keymap_core.proofs.Lists.{along}
-use Rattle.keymap_core.specs.Actions.{IsAction, name_of}
-use Rattle.keymap_core.specs.Names.{named_of, meaning_of, combined_names}
-use Rattle.keymap_core.specs.declared.action.Action.{Action}
+use Rattle.keymap_core.specs.Names.{named_of}
 use Rattle.keymap_core.specs.declared.action.Action.TheVariants as a
 use Rattle.keymap_core.specs.declared.action.Modifier.TheVariants as m
 use Rattle.keymap_core.specs.declared.action.Lock.TheVariants as l

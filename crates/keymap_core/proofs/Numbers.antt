@@ -1,16 +1,11 @@
 -- The number behind the letters of a name.
-use Rattle.std.proofs.Common.{◌≡◌, ℕ, ◌<◌, min, Bool, true, false, cond, List, [], ◌∷◌, length, take, drop, map, refl}
-use Rattle.std.proofs.Common.{sym, ◌∙◌, ap, ap₂, arith, length-take}
-use Rattle.std.specs.Prelude.{◌&&◌, Option, Some, None}
-use Rattle.std.specs.List.{list_all}
-use Rattle.std.specs.Option.{option_map}
-use Rattle.std.specs.Str.{bytes_eq}
-use Rattle.std.specs.Char.{to_ascii_lowercase, is_ascii_digit}
-use Rattle.std.proofs.lemmas.Bool.{and_parts}
-use Rattle.std.proofs.lemmas.Bool.Decides.{nat_tests}
+use Rattle.keymap_core.proofs.Common.{◌≡◌, ℕ, ◌<◌, min, Bool, true, false, cond, List, [], ◌∷◌, length, take, drop, map}
+use Rattle.keymap_core.proofs.Common.{refl, sym, ◌∙◌, ap, ap₂, arith, ◌&&◌, Option, Some, None, list_all, option_map}
+use Rattle.keymap_core.proofs.Common.{bytes_eq, to_ascii_lowercase, is_ascii_digit, and_parts, nat_tests, are_digits}
+use Rattle.keymap_core.proofs.Common.{digits_value, number_behind}
+use Rattle.std.proofs.Common.{length-take}
 use Rattle.std.proofs.lemmas.List.{take-map, drop-map, length-map}
 use Rattle.std.proofs.lemmas.Slice.Eq.{bytes_eq-Decides}
-use Rattle.keymap_core.specs.Names.{are_digits, digits_value, number_behind}
 
 -- a word in lower case
 abbrev lower : List ℕ → List ℕ

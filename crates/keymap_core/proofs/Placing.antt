@@ -1,7 +1,7 @@
 -- Lists in which one element was placed, after as many blanks as were missing.
-use Rattle.std.proofs.Common.{◌≡◌, ◌≢◌, ℕ, ◌+◌, ◌-◌, ◌≤◌, max, List, ◌++◌, length, replicate, get_or, sym, ◌∙◌, ap}
-use Rattle.std.proofs.Common.{refl, inl, inr, arith, length-append, length-set}
-use Rattle.std.proofs.lemmas.Bool.{cases_lt}
+use Rattle.keymap_core.proofs.Common.{◌≡◌, ℕ, ◌+◌, ◌-◌, ◌≤◌, List, ◌++◌, length, replicate, get_or, sym, ◌∙◌, ap, refl}
+use Rattle.keymap_core.proofs.Common.{inl, inr, arith, length-append, cases_lt}
+use Rattle.std.proofs.Common.{◌≢◌, max, length-set}
 use Rattle.std.proofs.lemmas.List.{get_or-set_same, get_or-set_other, get_or_append_left, get_or-append_right}
 use Rattle.std.proofs.lemmas.List.{get_or-replicate, length-replicate, get_or_past}
 use Rattle.keymap_core.specs.Maps.{placed}

@@ -1,14 +1,11 @@
 -- The test for the same action.
-use Rattle.std.proofs.Common.{◌≡◌, ℕ, true, cond, eqb, refl, ap, sym, ◌∙◌}
-use Rattle.std.proofs.lemmas.Bool.{eqb-true, eq-eqb, and_parts}
-use Rattle.keymap_core.specs.declared.action.Modifier.{Modifier}
+use Rattle.keymap_core.proofs.Common.{◌≡◌, ℕ, true, cond, eqb, refl, ap, sym, ◌∙◌, eqb-true, eq-eqb, and_parts}
+use Rattle.keymap_core.proofs.Common.{Modifier, Lock, Action, same_action}
 use Rattle.keymap_core.specs.declared.action.Modifier.TheVariants.{LeftShift, RightShift, LeftControl, RightControl}
 use Rattle.keymap_core.specs.declared.action.Modifier.TheVariants.{LeftAlt, RightAlt, AltShift, Meta}
-use Rattle.keymap_core.specs.declared.action.Lock.{Lock}
 use Rattle.keymap_core.specs.declared.action.Lock.TheVariants.{Caps, Num, Scroll, Alt}
-use Rattle.keymap_core.specs.declared.action.Action.{Action}
+use Rattle.keymap_core.specs.Actions.{modifier_index, lock_index, action_kind, action_number}
 use Rattle.keymap_core.specs.declared.action.Action.TheVariants as act
-use Rattle.keymap_core.specs.Actions.{modifier_index, lock_index, action_kind, action_number, same_action}
 
 -- the modifier of an index
 abbrev modifier_of : ℕ → Modifier

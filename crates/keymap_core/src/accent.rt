@@ -1,9 +1,8 @@
 //! Accents and their pairs: `struct acc_t` of sys/kbio.h.
 ghost use Rattle.std.specs.Prelude.{◌≡◌, ◌≢◌, ◌≤◌, ◌↔◌, ◌++◌, [], ◌∷◌, length, OnOk, OnErr, IsErrOf};
-ghost use Rattle.std.specs.Char.{IsScalar};
-ghost use Rattle.keymap_core.specs.Accents.{AreScalars};
 ghost use Rattle.keymap_core.specs.Numbers.{pair_limit};
 
+use crate::bounds::{Bounded, have_bounds};
 use crate::limits::PAIR_LIMIT;
 use arrayvec::ArrayVec;
 use std::marker::Model;
@@ -39,7 +38,6 @@ impl Model for Accent {
 
 impl Accent {
     ghost use Rattle.keymap_core.specs.Accents.{AllBasesNotZero};
-    ghost use Rattle.keymap_core.specs.Bounds.{IsAccent};
 
     /// The accent with this character and no pairs.
     pub fn new(own: char) -> Accent
@@ -94,28 +92,15 @@ impl Accent {
         }
         copy
     }
+}
 
-    /// Reads each pair, for the prover alone: so it is known what an accent holds.
-    pub(crate) fn has_bounds(&self)
-        ensures { IsAccent self.now }
-    {
-        is_scalar(self.own);
-        for pair in self.pairs() {
-            are_scalars(pair);
-        }
+impl Bounded for Accent {
+    ghost use Rattle.keymap_core.specs.Bounds.{IsAccent};
+
+    ghost Is = { IsAccent };
+
+    fn has_bounds(&self) {
+        self.own.has_bounds();
+        have_bounds(self.pairs());
     }
-}
-
-/// A character is a scalar value.
-fn is_scalar(c: char)
-    ensures { IsScalar c }
-{
-    let _ = c as u32;
-}
-
-fn are_scalars(pair: &(char, char))
-    ensures { AreScalars pair.now }
-{
-    is_scalar(pair.0);
-    is_scalar(pair.1);
 }

@@ -3,6 +3,7 @@ ghost use Rattle.std.specs.Prelude.{◌≡◌, length};
 ghost use Rattle.keymap_core.specs.Numbers.{column_count};
 
 use crate::action::Action;
+use crate::bounds::{Bounded, have_bounds};
 use crate::limits::COLUMN_COUNT;
 
 /// What a key gives in one column. The character 0 isn't the action `nop`.
@@ -34,7 +35,6 @@ pub(crate) const UNDEFINED: Entry = Entry {
 };
 
 impl Entry {
-    ghost use Rattle.keymap_core.specs.Bounds.{IsCell, IsEntry};
     ghost use Rattle.keymap_core.specs.Maps.{undefined};
 
     /// The entry of a slot that no definition names: eight characters 0 and flag O.
@@ -51,31 +51,29 @@ impl Entry {
     {
         &self.cells
     }
-
-    /// For the prover alone, as `has_bounds` of a cell, an accent and a map are: to read a value tells the bounds of
-    /// its type, so to read each cell tells what an entry holds.
-    pub(crate) fn has_bounds(&self)
-        ensures { IsEntry self.now }
-    {
-        for cell in self.cells() {
-            cell.has_bounds();
-        }
-    }
 }
 
-impl Cell {
+impl Bounded for Cell {
     ghost use Rattle.keymap_core.specs.Bounds.{IsCell};
 
-    fn has_bounds(&self)
-        ensures { IsCell self.now }
-    {
+    ghost Is = { IsCell };
+
+    fn has_bounds(&self) {
         match self {
-            Cell::Char(c) => {
-                let _ = *c as u32;
-            }
+            Cell::Char(c) => c.has_bounds(),
             Cell::Act(action) => {
                 let _ = action.code();
             }
         }
+    }
+}
+
+impl Bounded for Entry {
+    ghost use Rattle.keymap_core.specs.Bounds.{IsEntry};
+
+    ghost Is = { IsEntry };
+
+    fn has_bounds(&self) {
+        have_bounds(self.cells());
     }
 }

@@ -4,7 +4,7 @@ ghost use Rattle.std.specs.Char.{to_ascii_lowercase};
 ghost use Rattle.keymap_core.specs.Accents.{AccentValue, blank};
 ghost use Rattle.keymap_core.specs.Actions.{IsAction, IsCodeOfNoAction, code_of, name_of, action_of, same_action};
 ghost use Rattle.keymap_core.specs.Bearers.{Bears, IsUpperLive};
-ghost use Rattle.keymap_core.specs.Bounds.{IsMap};
+ghost use Rattle.keymap_core.specs.Bounds.{IsEntry, IsAccent, IsMap};
 ghost use Rattle.keymap_core.specs.Borne.{is_borne, is_upper_live};
 ghost use Rattle.keymap_core.specs.Maps.{MapValue, undefined, n_keys_of, n_accs_of, entry_at, accent_or_blank};
 ghost use Rattle.keymap_core.specs.Maps.{with_entry, with_accent};
@@ -17,6 +17,7 @@ ghost use Rattle.keymap_core.specs.declared.entry.Entry.{Entry};
 
 use crate::accent::Accent;
 use crate::action::Action;
+use crate::bounds::Bounded;
 use crate::entry::{Cell, Entry};
 use crate::map::KeyMap;
 use crate::named::Named;
@@ -128,4 +129,18 @@ pub fn every_keymap_is_within_the_bounds(map: &KeyMap)
     ensures { IsMap map.now }
 {
     map.has_bounds();
+}
+
+/// Each entry has eight cells, each a scalar value or an action of the table.
+pub fn every_entry_is_within_the_bounds(entry: &Entry)
+    ensures { IsEntry entry.now }
+{
+    entry.has_bounds();
+}
+
+/// Each accent has a scalar value of its own and at most 52 pairs of them, and no base 0.
+pub fn every_accent_is_within_the_bounds(accent: &Accent)
+    ensures { IsAccent accent.now }
+{
+    accent.has_bounds();
 }

@@ -16,6 +16,7 @@
 mod accent;
 mod action;
 mod bearers;
+mod bounds;
 mod code_point;
 mod definitions;
 mod device;

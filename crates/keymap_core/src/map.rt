@@ -3,6 +3,7 @@ ghost use Rattle.std.specs.Prelude.{◌≡◌, ◌<◌, ◌≤◌, ◌↔◌, []
 ghost use Rattle.keymap_core.specs.Numbers.{slot_limit, accent_limit};
 
 use crate::accent::Accent;
+use crate::bounds::{Bounded, have_bounds};
 use crate::entry::{Entry, UNDEFINED};
 use crate::limits::{ACCENT_LIMIT, SLOT_LIMIT};
 use std::alloc::{AllocError, Global};
@@ -138,34 +139,14 @@ impl KeyMap {
     }
 }
 
-impl KeyMap {
-    ghost use Rattle.std.specs.Prelude.{All, length};
-    ghost use Rattle.keymap_core.specs.Bounds.{IsEntry, IsAccent, IsMap};
+impl Bounded for KeyMap {
+    ghost use Rattle.keymap_core.specs.Bounds.{IsMap};
 
-    fn entries_have_bounds(&self)
-        ensures few { length self.now.entries ≤ slot_limit }
-        ensures all { All IsEntry self.now.entries }
-    {
-        for entry in &self.entries {
-            entry.has_bounds();
-        }
-    }
+    ghost Is = { IsMap };
 
-    fn accents_have_bounds(&self)
-        ensures few { length self.now.accents ≤ accent_limit }
-        ensures all { All IsAccent self.now.accents }
-    {
-        for accent in &self.accents {
-            accent.has_bounds();
-        }
-    }
-
-    /// Reads each entry and accent, for the prover alone: so it is known what a map holds.
-    pub(crate) fn has_bounds(&self)
-        ensures { IsMap self.now }
-    {
-        self.entries_have_bounds();
-        self.accents_have_bounds();
+    fn has_bounds(&self) {
+        have_bounds(&self.entries);
+        have_bounds(&self.accents);
     }
 }
 

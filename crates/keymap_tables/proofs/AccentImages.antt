@@ -1,17 +1,16 @@
 -- The image of an accent: it has no fault, and gives the accent.
 use Rattle.keymap_tables.proofs.Common.{◌≡◌, ◌≢◌, ℕ, ◌+◌, ◌-◌, ◌*◌, ◌<◌, ◌≤◌, ◌==◌, suc, zero, List, [], ◌∷◌, ◌++◌}
-use Rattle.keymap_tables.proofs.Common.{length, get_or, refl, sym, ap, ◌∙◌, arith, subst, add-zero, append_assoc}
-use Rattle.keymap_tables.proofs.Common.{take, All, Bool, true, false, IsScalar, from_le_bytes}
-use Rattle.keymap_tables.proofs.Common.{flat_map, nat_tests, flat_map-append, get_or_past, All-nil, All-same}
-use Rattle.keymap_tables.proofs.Common.{All-push, All-cons, All-head, All-tail, All-get_or, All-from_get_or}
-use Rattle.keymap_tables.proofs.Common.{AccentValue, blank, IsPair, IsAccent, number_at, base_at, pairs_in, char_fault}
-use Rattle.keymap_tables.proofs.Common.{number_fault, accent_fault, zero_fault, number_in, HasNoFault, AreRows}
-use Rattle.keymap_tables.proofs.Common.{IsAccentIn, number_bytes, numbers_of, accent_bytes, zeros, number_width}
-use Rattle.keymap_tables.proofs.Common.{number_size, number_limit, accent_size, Layout, Wide, Narrow, NotEmpty}
+use Rattle.keymap_tables.proofs.Common.{length, get_or, refl, sym, ap, ◌∙◌, arith, subst, add-zero, append_assoc, take}
+use Rattle.keymap_tables.proofs.Common.{All, Bool, true, false, IsScalar, from_le_bytes, flat_map, nat_tests}
+use Rattle.keymap_tables.proofs.Common.{flat_map-append, get_or_past, All-nil, All-same, All-push, All-cons, All-head}
+use Rattle.keymap_tables.proofs.Common.{All-tail, All-get_or, AccentValue, blank, IsPair, IsAccent, number_at, base_at}
+use Rattle.keymap_tables.proofs.Common.{pairs_in, char_fault, number_fault, accent_fault, zero_fault, HasNoFault}
+use Rattle.keymap_tables.proofs.Common.{AreRows, IsAccentIn, number_bytes, numbers_of, accent_bytes, zeros}
+use Rattle.keymap_tables.proofs.Common.{number_width, number_size, number_limit, accent_size, Layout, Wide, Narrow}
+use Rattle.keymap_tables.proofs.Common.{NotEmpty}
 use Rattle.std.specs.Prelude.{not}
 use Rattle.std.specs.List.{range_with_len, prefix_len}
 use Rattle.std.proofs.lemmas.List.Folds.{length-prefix_len}
-use Rattle.keymap_core.specs.Accents.{AllBasesNotZero}
 use Rattle.keymap_tables.proofs.Lifting.{row-past, number-clean, none-past}
 use Rattle.keymap_tables.proofs.Numbers.{AreBytes, number-read, number-back, same-number, zeros-behind}
 use Rattle.keymap_tables.proofs.Rows.{length-rows, length-all, filled-row, rows-clean, rows-read, same-rows}
@@ -97,22 +96,6 @@ flat-known (p ∷ pairs) known =
 pub numbers-known : (accent : AccentValue) → IsAccent accent → All IsScalar (numbers_of accent)
 numbers-known accent known =
     All-cons IsScalar accent.own (flat accent.pairs) known.own (flat-known accent.pairs known.pairs)
-
--- an accent of characters is known, where its bases are
-pub accent-known : (accent : AccentValue) → ((k : ℕ) → k < length (numbers_of accent) → IsScalar (number_in accent k))
-    → length accent.pairs ≤ 52 → AllBasesNotZero accent.pairs → IsAccent accent
-accent-known accent known few bases =
-    let is = λ (k : ℕ) (n : ℕ) (below : k < 1 + 2 * length accent.pairs) (same : number_in accent k ≡ n).
-    subst IsScalar same (known k (omega (arith, length-numbers accent, below))) in
-    record {
-      own = known 0 (omega arith);
-      few = few;
-      pairs = All-from_get_or IsPair accent.pairs (0, 0) (λ i below. (
-        is (1 + 2 * i) _ (omega arith) (number-base accent.own accent.pairs i),
-        All-get_or (λ p. p.0 ≢ 0) accent.pairs i (0, 0) below bases,
-        is (2 + 2 * i) _ (omega arith) (number-result accent.own accent.pairs i),
-      ));
-    }
 
 same-flat : (xs ys : List (ℕ × ℕ)) → flat xs ≡ flat ys → xs ≡ ys
 same-flat [] [] same = refl

@@ -1,4 +1,4 @@
--- The names of the definitions and of std that more than one file of these proofs uses, passed on from one place.
+-- The names of definitions and of std that more than one file of these proofs uses, passed on from one place.
 pub use Rattle.arrayvec.specs.ArrayVec.{array_vec_len}
 pub use Rattle.keymap_core.proofs.Gathering.{StopsIn-more, passed_on}
 pub use Rattle.keymap_core.specs.Accents.{AccentValue, blank, first_result}
@@ -38,5 +38,4 @@ pub use Rattle.std.proofs.lemmas.List.Elements.{All-push, All-replicate, All-sam
 pub use Rattle.std.specs.Char.{IsScalar}
 pub use Rattle.std.specs.Int.{from_le_bytes, w16, w8}
 pub use Rattle.std.specs.List.{flat_map}
-pub use Rattle.std.specs.Prelude.{Bool, Err, IfErr, Ok, Option, Result, nat_le, slice_index, slice_index_or}
-pub use borrow.Author.Count.{below_more}
+pub use Rattle.std.specs.Prelude.{Bool, Err, IfErr, Ok, Option, Result, nat_le, slice_index}

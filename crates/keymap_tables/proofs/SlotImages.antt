@@ -1,18 +1,16 @@
 -- The image of a slot: it has no fault, and gives the entry.
 use Rattle.keymap_tables.proofs.Common.{◌≡◌, ℕ, ◌+◌, ◌-◌, ◌*◌, ◌/◌, ◌%◌, ◌^◌, ◌<◌, ◌≤◌, ◌==◌, suc, zero, List, [], ◌∷◌}
 use Rattle.keymap_tables.proofs.Common.{◌++◌, drop, length, get_or, take, None, refl, sym, ap, ◌∙◌, subst, inl, inr}
-use Rattle.keymap_tables.proofs.Common.{arith, append_assoc, length-append, drop-cons, mul_comm, set, All}
-use Rattle.keymap_tables.proofs.Common.{slice_index, nat_le, Bool, true, false, IsScalar, from_le_bytes, flat_map}
-use Rattle.keymap_tables.proofs.Common.{cases_lt, nat_tests, common_steps, get_or-append_right}
-use Rattle.keymap_tables.proofs.Common.{length-replicate, same_lists, take-append-drop, take_all}
-use Rattle.keymap_tables.proofs.Common.{take_more_set, All-get_or, All-push, undefined, Cell, Char, Act, Entry, Layout}
-use Rattle.keymap_tables.proofs.Common.{Wide, Narrow, BadPad, IsCell, IsEntry, number_at, is_marked_at, char_fault}
-use Rattle.keymap_tables.proofs.Common.{cell_fault, slot_end_fault, slot_fault, zero_fault, HasNoFault, AreRows}
-use Rattle.keymap_tables.proofs.Common.{IsEntryIn, cell_bytes, number_of, is_act, marks_of, flag_number, slot_bytes}
-use Rattle.keymap_tables.proofs.Common.{zeros, CellFits, EntryFits, number_width, number_size, number_limit, pad_size}
-use Rattle.keymap_tables.proofs.Common.{slot_size}
+use Rattle.keymap_tables.proofs.Common.{arith, append_assoc, length-append, drop-cons, mul_comm, set, All, slice_index}
+use Rattle.keymap_tables.proofs.Common.{nat_le, Bool, true, false, IsScalar, from_le_bytes, flat_map, cases_lt}
+use Rattle.keymap_tables.proofs.Common.{nat_tests, common_steps, get_or-append_right, length-replicate, same_lists}
+use Rattle.keymap_tables.proofs.Common.{take-append-drop, take_all, take_more_set, All-get_or, All-push, undefined}
+use Rattle.keymap_tables.proofs.Common.{Cell, Char, Act, Entry, Layout, Wide, Narrow, BadPad, IsCell, IsEntry}
+use Rattle.keymap_tables.proofs.Common.{number_at, is_marked_at, char_fault, cell_fault, slot_end_fault, slot_fault}
+use Rattle.keymap_tables.proofs.Common.{zero_fault, HasNoFault, AreRows, IsEntryIn, cell_bytes, number_of, is_act}
+use Rattle.keymap_tables.proofs.Common.{marks_of, flag_number, slot_bytes, zeros, CellFits, EntryFits, number_width}
+use Rattle.keymap_tables.proofs.Common.{number_size, number_limit, pad_size, slot_size}
 use Rattle.std.specs.Prelude.{unwrap_or}
-use Rattle.std.proofs.lemmas.List.Elements.{All-more}
 use Rattle.keymap_core.specs.Actions.{IsAction, code_of, action_of, within}
 use Rattle.keymap_core.specs.declared.action.Action.{Action}
 use Rattle.keymap_tables.specs.Types.{LockFlag}
@@ -262,12 +260,6 @@ slots-are l = record {
   one = same-entry l;
   empty = slot-blank l;
 }
-
--- what holds of the cells so far, and of one more
-pub All-next : {X : Type 0} (P : X → Type 0) (xs : List X) (i : ℕ) (x : X) → i < length xs → x ≡ get_or xs i x
-    → All P (take i xs) → P x → All P (take (i + 1) xs)
-All-next P xs i x below here so_far is =
-    All-more P xs i x below so_far (subst P here is)
 
 -- the parts of a slot, written in turn
 pub slot-written : (l : Layout) (entry : Entry) (cells : List Cell) (i marks flag n : ℕ) (a b c e : List ℕ)

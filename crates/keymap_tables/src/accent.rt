@@ -1,9 +1,6 @@
 //! An accent as its numbers: number 0 is its own character, 1 + 2j the base of pair j, and 2 + 2j its result. Its image
 //! is these, and zeros.
 ghost use Rattle.std.specs.Prelude.{◌≡◌, ◌+◌, ◌*◌, ◌<◌, ◌≤◌, length, MatchOption};
-ghost use Rattle.std.specs.Char.{IsScalar};
-ghost use Rattle.keymap_core.specs.Accents.{AllBasesNotZero};
-ghost use Rattle.keymap_core.specs.Bounds.{IsAccent};
 ghost use Rattle.keymap_core.specs.Numbers.{pair_limit};
 ghost use Rattle.keymap_tables.specs.Fits.{AccentFits, number_in};
 ghost use Rattle.keymap_tables.specs.Image.{accent_bytes};
@@ -19,7 +16,6 @@ use keymap_core::Accent;
 fn number_count(accent: &Accent) -> usize
     ensures count { result ≡ 1 + 2 * length accent.now.pairs }
     ensures few { length accent.now.pairs ≤ pair_limit }
-    ensures bases { AllBasesNotZero accent.now.pairs }
 {
     1 + 2 * accent.pairs().len()
 }
@@ -27,8 +23,7 @@ fn number_count(accent: &Accent) -> usize
 /// A number of an accent.
 fn number_at(accent: &Accent, index: usize) -> char
     requires { index < 1 + 2 * length accent.now.pairs }
-    ensures value { result ≡ number_in accent.now index }
-    ensures known { IsScalar result }
+    ensures { result ≡ number_in accent.now index }
 {
     if index == 0 {
         return accent.own();
@@ -41,7 +36,6 @@ fn number_at(accent: &Accent, index: usize) -> char
 pub(crate) fn accent_image(layout: Layout, accent: &Accent) -> ArrayVec<u8, ACCENT>
     ensures bytes { result.items ≡ accent_bytes layout accent.now }
     ensures whole { length result.items ≡ accent_size layout }
-    ensures known { IsAccent accent.now }
 {
     let mut image = ArrayVec::new();
     for index in 0..number_count(accent) {

@@ -11,6 +11,7 @@ use crate::count::count_image;
 use crate::file::TableFile;
 use crate::layout::{ACCENT, COUNT, Layout, SLOT};
 use crate::slot::slot_image;
+use keymap_core::laws::{every_accent_is_within_the_bounds, every_entry_is_within_the_bounds};
 use keymap_core::{ACCENT_LIMIT, Accent, Definitions, Entry, SLOT_LIMIT};
 
 /// The slots and accents of the tables, and how many of them are in use.
@@ -27,6 +28,7 @@ fn slot_row(entry: &Entry) -> [u8; SLOT]
     ensures bytes { result ≡ slot_bytes wide entry.now }
     ensures known { IsEntry entry.now }
 {
+    every_entry_is_within_the_bounds(entry);
     let mut row = [0; SLOT];
     row.copy_from_slice(slot_image(Layout::Wide, entry).as_slice());
     row
@@ -37,6 +39,7 @@ fn accent_row(accent: &Accent) -> [u8; ACCENT]
     ensures bytes { result ≡ accent_bytes wide accent.now }
     ensures known { IsAccent accent.now }
 {
+    every_accent_is_within_the_bounds(accent);
     let mut row = [0; ACCENT];
     row.copy_from_slice(accent_image(Layout::Wide, accent).as_slice());
     row

@@ -27,9 +27,7 @@ pub(crate) trait Row: Sized + Drop {
 
     ghost faults: { LayoutValue → List ℕ → FaultOf };
 
-    /// Those that there are, those that fit in a file of the layout, and those that are both.
-    ghost Known: { Self → Type 0 };
-
+    /// Those that fit in a file of the layout, and those of them that there are.
     ghost Fits: { LayoutValue → Self → Type 0 };
 
     ghost Is: { LayoutValue → Self → Type 0 };
@@ -93,12 +91,10 @@ pub(crate) trait Row: Sized + Drop {
         ensures bytes { Pushes (W.contents writer.old) (W.contents writer.new) stream.old stream.new
             (image layout self.now) result }
         ensures count { OnOk result (size_of stream.new ≡ size_of stream.old + size layout) }
-        ensures failed { W.has_failed writer.new ≡ (is_err result || W.has_failed writer.old) }
-        ensures known { Known self.now };
+        ensures failed { W.has_failed writer.new ≡ (is_err result || W.has_failed writer.old) };
 }
 
 impl Row for Entry {
-    ghost use Rattle.keymap_core.specs.Bounds.{IsEntry};
     ghost use Rattle.keymap_core.specs.Maps.{undefined};
     ghost use Rattle.keymap_tables.specs.Faults.{slot_fault};
     ghost use Rattle.keymap_tables.specs.Fits.{EntryFits, character_in};
@@ -111,8 +107,6 @@ impl Row for Entry {
     ghost size = { slot_size };
 
     ghost faults = { slot_fault };
-
-    ghost Known = { IsEntry };
 
     ghost Fits = { EntryFits };
 
@@ -166,7 +160,6 @@ impl Row for Entry {
 
 impl Row for Accent {
     ghost use Rattle.keymap_core.specs.Accents.{blank as no_accent};
-    ghost use Rattle.keymap_core.specs.Bounds.{IsAccent};
     ghost use Rattle.keymap_tables.specs.Faults.{accent_fault};
     ghost use Rattle.keymap_tables.specs.Fits.{AccentFits, number_in};
     ghost use Rattle.keymap_tables.specs.Image.{accent_bytes};
@@ -178,8 +171,6 @@ impl Row for Accent {
     ghost size = { accent_size };
 
     ghost faults = { accent_fault };
-
-    ghost Known = { IsAccent };
 
     ghost Fits = { AccentFits };
 

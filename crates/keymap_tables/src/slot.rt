@@ -4,7 +4,6 @@ ghost use Rattle.std.specs.Prelude.{◌≡◌, ◌+◌, ◌-◌, ◌*◌, ◌<�
 ghost use Rattle.std.specs.Prelude.{MatchOption};
 ghost use Rattle.std.specs.Int.{to_le_bytes};
 ghost use Rattle.arrayvec.specs.ArrayVec.{array_vec_len};
-ghost use Rattle.keymap_core.specs.Bounds.{IsCell, IsEntry};
 ghost use Rattle.keymap_tables.specs.Image.{slot_bytes, number_of, number_bytes, flag_number, is_act, zeros};
 ghost use Rattle.keymap_tables.specs.Fits.{EntryFits, character_of, character_in};
 ghost use Rattle.keymap_tables.specs.Inner.Firsts.{IsFirstWideNumber};
@@ -16,8 +15,7 @@ use keymap_core::{COLUMN_COUNT, Cell, Entry, LockFlag};
 
 /// The number of a cell.
 fn number(cell: &Cell) -> u32
-    ensures value { result ≡ number_of cell.now }
-    ensures known { IsCell cell.now }
+    ensures { result ≡ number_of cell.now }
 {
     match cell {
         Cell::Char(c) => *c as u32,
@@ -82,7 +80,6 @@ pub(crate) fn push_zeros<const N: usize>(image: &mut ArrayVec<u8, N>, length: us
 pub(crate) fn slot_image(layout: Layout, entry: &Entry) -> ArrayVec<u8, SLOT>
     ensures bytes { result.items ≡ slot_bytes layout entry.now }
     ensures whole { length result.items ≡ slot_size layout }
-    ensures known { IsEntry entry.now }
 {
     let mut image = ArrayVec::new();
     let mut marks: u8 = 0;

@@ -1,5 +1,5 @@
 //! Writing of tables.
-ghost use Rattle.std.specs.Prelude.{◌≡◌, ◌+◌, ◌*◌, ◌^◌, ◌<◌, ◌≤◌, ◌||◌, All, length, is_err, OnOk};
+ghost use Rattle.std.specs.Prelude.{◌≡◌, ◌+◌, ◌*◌, ◌^◌, ◌<◌, ◌≤◌, ◌||◌, is_err, OnOk};
 ghost use Rattle.keymap_core.specs.Devices.{WritesText};
 ghost use Rattle.keymap_core.specs.Bounds.{IsMap};
 ghost use Rattle.keymap_core.specs.Streams.{Pushes, size_of};
@@ -9,6 +9,7 @@ ghost use Rattle.keymap_tables.specs.Layouts.{count_size};
 use crate::count::count_image;
 use crate::layout::Layout;
 use crate::row::Row;
+use keymap_core::laws::every_keymap_is_within_the_bounds;
 use keymap_core::{Accent, Entry, KeyMap, Stream, Write, WriteFault};
 
 /// Pushes the count of the rows of a map, the rows, and zeros in place of those past the last.
@@ -25,8 +26,6 @@ fn push_table<R: Row, W: Write>(
     ensures count { OnOk result (size_of stream.new
         ≡ size_of stream.old + (count_size layout + R.MOST * R.size layout)) }
     ensures failed { W.has_failed writer.new ≡ (is_err result || W.has_failed writer.old) }
-    ensures known { OnOk result (All R.Known (R.rows map.now)) }
-    ensures few { length (R.rows map.now) ≤ R.MOST }
 {
     stream.push(writer, count_image(layout, R::count(map)).as_slice())?;
     for index in 0..R::MOST {
@@ -44,8 +43,9 @@ pub(crate) fn write_image<W: Write>(
     ensures bytes { WritesText (λ f. f.written) (W.contents writer.old) (W.contents writer.new)
         (image_in layout map.now) result }
     ensures failed { W.has_failed writer.new ≡ (is_err result || W.has_failed writer.old) }
-    ensures known { OnOk result (IsMap map.now) }
+    ensures known { IsMap map.now }
 {
+    every_keymap_is_within_the_bounds(map);
     let mut stream = Stream::new();
     push_table::<Entry, W>(&mut stream, writer, layout, map)?;
     push_table::<Accent, W>(&mut stream, writer, layout, map)?;
@@ -56,7 +56,7 @@ pub(crate) fn write_image<W: Write>(
 pub fn write_tables<W: Write>(map: &KeyMap, writer: &mut W) -> Result<(), WriteFault>
     ensures bytes { WritesText (λ f. f.written) (W.contents writer.old) (W.contents writer.new) (image map.now) result }
     ensures failed { W.has_failed writer.new ≡ (is_err result || W.has_failed writer.old) }
-    ensures known { OnOk result (IsMap map.now) }
+    ensures known { IsMap map.now }
 {
     write_image(Layout::Wide, map, writer)
 }

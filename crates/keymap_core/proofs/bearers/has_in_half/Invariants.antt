@@ -1,7 +1,4 @@
-use Rattle.std.proofs.Common.{◌≡◌, ◌+◌, false}
-use Rattle.keymap_core.specs.Actions.{holding_action}
-use Rattle.keymap_core.specs.Maps.{MapValue}
-use Rattle.keymap_core.specs.Borne.{any_below, has_in_slot}
+use Rattle.keymap_core.proofs.Common.{◌≡◌, ◌+◌, false, holding_action, MapValue, any_below, has_in_slot}
 use Rattle.keymap_core.proofs.bearers.has_in_half.Given as goal
 
 abbrev pub invariant-loop-key : goal.invariant-loop-key

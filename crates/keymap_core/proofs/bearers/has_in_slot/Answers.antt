@@ -1,5 +1,4 @@
-use Rattle.std.proofs.Common.{sym, ◌∙◌, arith}
-use Rattle.keymap_core.specs.Actions.{holding_action}
+use Rattle.keymap_core.proofs.Common.{sym, ◌∙◌, arith, holding_action}
 use Rattle.keymap_core.proofs.BorneTests.{any-start, slot-none, slot-some, slot-end}
 use Rattle.keymap_core.proofs.bearers.has_in_slot.Goals as goal
 

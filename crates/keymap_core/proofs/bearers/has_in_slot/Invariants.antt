@@ -1,7 +1,4 @@
-use Rattle.std.proofs.Common.{◌≡◌, false}
-use Rattle.keymap_core.specs.Actions.{holding_action}
-use Rattle.keymap_core.specs.Maps.{MapValue, cell_at}
-use Rattle.keymap_core.specs.Borne.{any_below, is_cell_of_action}
+use Rattle.keymap_core.proofs.Common.{◌≡◌, false, holding_action, MapValue, cell_at, any_below, is_cell_of_action}
 use Rattle.keymap_core.proofs.bearers.has_in_slot.Given as goal
 
 abbrev pub invariant-loop-column : goal.invariant-loop-column

@@ -1,5 +1,4 @@
-use Rattle.std.proofs.Common.{rules}
-use Rattle.keymap_core.specs.Borne.{is_upper_live}
+use Rattle.keymap_core.proofs.Common.{rules, is_upper_live}
 use Rattle.keymap_core.proofs.bearers.is_upper_live_in.Goals as goal
 
 pub returns-then-has_in_half : goal.returns-then-has_in_half

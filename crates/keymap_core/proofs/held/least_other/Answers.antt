@@ -1,7 +1,5 @@
-use Rattle.std.proofs.Common.{◌≡◌, ◌<◌, sym, ◌∙◌, arith, subst, None}
-use Rattle.keymap_core.specs.Below.{first_below}
+use Rattle.keymap_core.proofs.Common.{◌≡◌, ◌<◌, sym, ◌∙◌, arith, subst, None, first_below, is_other}
 use Rattle.keymap_core.proofs.Below.{first_below-none, first_below-more, first_below-found}
-use Rattle.keymap_core.specs.Held.{is_other}
 use Rattle.keymap_core.proofs.held.least_other.Goals as goal
 
 pub loop-key-init : goal.loop-key-init

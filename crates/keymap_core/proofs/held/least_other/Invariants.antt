@@ -1,7 +1,5 @@
-use Rattle.std.proofs.Common.{◌≡◌, ℕ, ◌<◌, Bool, false, None}
+use Rattle.keymap_core.proofs.Common.{◌≡◌, ℕ, ◌<◌, Bool, false, None, first_below, is_other}
 use Rattle.std.specs.Prelude.{slice_index_or}
-use Rattle.keymap_core.specs.Below.{first_below}
-use Rattle.keymap_core.specs.Held.{is_other}
 use Rattle.keymap_core.proofs.held.least_other.Given as goal
 
 abbrev pub invariant-loop-key : goal.invariant-loop-key

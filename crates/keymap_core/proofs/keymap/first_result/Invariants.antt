@@ -1,4 +1,4 @@
-use Rattle.std.proofs.Common.{◌≡◌, drop}
+use Rattle.keymap_core.proofs.Common.{◌≡◌, drop}
 use Rattle.keymap_core.specs.Accents.{first_result}
 use Rattle.keymap_core.proofs.keymap.first_result.Given as goal
 

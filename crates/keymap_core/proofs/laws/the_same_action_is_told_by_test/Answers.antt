@@ -1,5 +1,4 @@
-use Rattle.std.proofs.Common.{subst, ◌≡◌, true}
-use Rattle.keymap_core.specs.Actions.{same_action}
+use Rattle.keymap_core.proofs.Common.{subst, ◌≡◌, true, same_action}
 use Rattle.keymap_core.proofs.SameActions.{same_action-true, same_action-refl}
 use Rattle.keymap_core.proofs.laws.the_same_action_is_told_by_test.Goals as goal
 

@@ -1,6 +1,4 @@
-use Rattle.std.proofs.Common.{◌∙◌, sym, ap₂, map}
-use Rattle.std.specs.Option.{option_or}
-use Rattle.std.specs.Char.{to_ascii_lowercase}
+use Rattle.keymap_core.proofs.Common.{◌∙◌, sym, ap₂, map, option_or, to_ascii_lowercase}
 use Rattle.keymap_core.proofs.Meanings.{find-names}
 use Rattle.keymap_core.proofs.named.action_named.Goals as goal
 

@@ -1,7 +1,4 @@
-use Rattle.std.proofs.Common.{◌≡◌, min, take, true}
-use Rattle.std.specs.List.{list_all}
-use Rattle.std.specs.Char.{is_ascii_digit}
-use Rattle.keymap_core.specs.Names.{digits_value}
+use Rattle.keymap_core.proofs.Common.{◌≡◌, min, take, true, list_all, is_ascii_digit, digits_value}
 use Rattle.keymap_core.proofs.named.decimal_of.Given as goal
 
 abbrev pub invariant-loop-digit : goal.invariant-loop-digit

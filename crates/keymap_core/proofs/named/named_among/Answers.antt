@@ -1,7 +1,4 @@
-use Rattle.std.proofs.Common.{sym, ◌∙◌, map}
-use Rattle.std.specs.Str.{bytes_eq}
-use Rattle.std.specs.Char.{to_ascii_lowercase}
-use Rattle.keymap_core.specs.Actions.{letters_of}
+use Rattle.keymap_core.proofs.Common.{sym, ◌∙◌, map, bytes_eq, to_ascii_lowercase, letters_of}
 use Rattle.keymap_core.proofs.CodeNames.{none-more, first-found}
 use Rattle.keymap_core.proofs.named.named_among.Goals as goal
 

@@ -1,8 +1,5 @@
-use Rattle.std.proofs.Common.{◌≡◌, None, find, map, take}
-use Rattle.std.specs.List.{filter_map}
-use Rattle.std.specs.Str.{bytes_eq}
-use Rattle.std.specs.Char.{to_ascii_lowercase}
-use Rattle.keymap_core.specs.Actions.{action_of, letters_of}
+use Rattle.keymap_core.proofs.Common.{◌≡◌, None, find, map, take, filter_map, bytes_eq, to_ascii_lowercase, action_of}
+use Rattle.keymap_core.proofs.Common.{letters_of}
 use Rattle.keymap_core.proofs.named.named_among.Given as goal
 
 abbrev pub invariant-loop-code : goal.invariant-loop-code

@@ -1,11 +1,10 @@
-use Rattle.std.proofs.Common.{ℕ, length, min, sym, ◌∙◌, ap, Option, Some, None, cond}
-use Rattle.std.specs.Option.{option_map}
-use Rattle.keymap_core.specs.Names.{are_digits, digits_value}
+use Rattle.keymap_core.proofs.Common.{ℕ, length, min, sym, ◌∙◌, ap, Option, Some, None, cond, option_map, are_digits}
+use Rattle.keymap_core.proofs.Common.{digits_value}
 use Rattle.keymap_core.proofs.Taking.{take-rest}
 use Rattle.keymap_core.proofs.Numbers.{number-behind, none-behind, none-shorter, cut}
-use Rattle.keymap_core.proofs.named.number_of.Goals as goal
 use Rattle.keymap_core.proofs.named.number_of.Goals.{then-word-letters-via-then-word-letters}
 use Rattle.keymap_core.proofs.named.number_of.Goals.{then-word-letters-via-else-word-letters+then-not-is_name}
+use Rattle.keymap_core.proofs.named.number_of.Goals as goal
 
 abbrev cut_at_255 : Option ℕ → Option ℕ
 cut_at_255 = option_map (λ n. min n 255)

@@ -1,5 +1,4 @@
-use Rattle.std.proofs.Common.{◌≡◌, ◌≤◌, ◌-◌, length, take}
-use Rattle.std.specs.Io.KnownBytes.{Appends}
+use Rattle.keymap_core.proofs.Common.{◌≡◌, ◌≤◌, ◌-◌, length, take, Appends}
 use Rattle.keymap_core.proofs.transfer.put.Given as goal
 
 -- The first `done` bytes of the piece were taken, and the writer hasn't failed in this call.

@@ -1,6 +1,5 @@
-use Rattle.keymap_tables.proofs.Common.{arith, ◌∙◌, ap, sym, ℕ, ◌≡◌, ◌+◌, length, below_more, IsScalar, number_in}
-use Rattle.keymap_tables.proofs.Common.{number_bytes, numbers_of, number_size}
-use Rattle.keymap_tables.proofs.AccentImages.{accent-known, length-numbers}
+use Rattle.keymap_tables.proofs.Common.{arith, ◌∙◌, ap, sym, ℕ, ◌≡◌, ◌+◌, length, number_bytes, numbers_of, number_size}
+use Rattle.keymap_tables.proofs.AccentImages.{length-numbers}
 use Rattle.keymap_tables.proofs.Rows.{rows-written, rows-ended}
 use Rattle.keymap_tables.proofs.Sizes.{row-next, row-inside, rows-size, accent-small}
 use Rattle.keymap_tables.proofs.accent.accent_image.Goals as goal
@@ -19,14 +18,11 @@ loop-index-preserved c =
     record {
       bytes =
           rows-written (number_bytes l) (number_size l) (numbers_of c.args.accent.now) i _ 0 _ _
-          (omega (arith, length-numbers c.args.accent.now)) c.number_at.ensures.value c.loop-index.invariant.bytes
+          (omega (arith, length-numbers c.args.accent.now)) c.number_at.ensures c.loop-index.invariant.bytes
           c.push_number.ensures.bytes;
       each =
           c.push_number.ensures.count ∙ ap (λ (n : ℕ). n + number_size c.args.layout) c.loop-index.invariant.each
           ∙ sym (row-next (number_size l) i);
-      known =
-          below_more (λ k. IsScalar (number_in c.args.accent.now k)) i c.loop-index.invariant.known
-          (rw (← c.number_at.ensures.value) c.number_at.ensures.known);
     }
 
 pub push_zeros-requires : goal.push_zeros-requires
@@ -43,9 +39,3 @@ returns-clause-bytes c =
     omega (arith, length-numbers c.args.accent.now) in
     rows-ended (number_bytes l) (number_size l) 105 _ (numbers_of c.args.accent.now) c.loop-index.index _ _ end
     c.accent.ensures c.loop-index.invariant.bytes c.loop-index.invariant.each c.push_zeros.ensures.bytes
-
-pub returns-clause-known : goal.returns-clause-known
-returns-clause-known c =
-    accent-known c.args.accent.now
-    (λ k below. c.loop-index.invariant.known k (omega (arith, below, length-numbers c.args.accent.now)))
-    c.number_count-index-end.ensures.few c.number_count-index-end.ensures.bases

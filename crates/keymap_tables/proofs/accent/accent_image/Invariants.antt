@@ -1,5 +1,4 @@
-use Rattle.keymap_tables.proofs.Common.{◌≡◌, ℕ, ◌*◌, ◌<◌, length, take, IsScalar, flat_map, number_in, number_bytes}
-use Rattle.keymap_tables.proofs.Common.{numbers_of, number_size}
+use Rattle.keymap_tables.proofs.Common.{◌≡◌, ◌*◌, length, take, flat_map, number_bytes, numbers_of, number_size}
 use Rattle.keymap_tables.proofs.accent.accent_image.Given as goal
 
 -- The numbers so far were appended.
@@ -7,5 +6,4 @@ abbrev pub invariant-loop-index : goal.invariant-loop-index
 invariant-loop-index l = record {
   bytes : l.image.items ≡ flat_map (number_bytes l.layout) (take l.index (numbers_of l.accent));
   each : length l.image.items ≡ number_size l.layout * l.index;
-  known : (k : ℕ) → k < l.index → IsScalar (number_in l.accent k);
 }

@@ -1,4 +1,5 @@
-use Rattle.keymap_tables.proofs.Common.{ℕ, ◌<◌, slice_index_or, narrow}
+use Rattle.keymap_tables.proofs.Common.{ℕ, ◌<◌, narrow}
+use Rattle.std.specs.Prelude.{slice_index_or}
 use Rattle.keymap_tables.proofs.narrow.first_wide.Given as goal
 
 -- The rows so far fit.

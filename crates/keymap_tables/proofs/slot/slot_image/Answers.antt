@@ -1,9 +1,8 @@
-use Rattle.keymap_tables.proofs.Common.{rules, arith, ◌≡◌, ℕ, ◌+◌, ◌*◌, ap, sym, ◌∙◌, mul_comm, take_all, All-same}
-use Rattle.keymap_tables.proofs.Common.{cell_bytes, number_size, IsCell}
+use Rattle.keymap_tables.proofs.Common.{rules, arith, ◌≡◌, ℕ, ◌+◌, ◌*◌, ap, sym, ◌∙◌, mul_comm, cell_bytes, number_size}
 use Rattle.keymap_tables.proofs.Sizes.{row-next}
 use Rattle.keymap_tables.proofs.Marks.{marks-next, small-next}
 use Rattle.keymap_tables.proofs.Rows.{rows-written}
-use Rattle.keymap_tables.proofs.SlotImages.{All-next, slot-written}
+use Rattle.keymap_tables.proofs.SlotImages.{slot-written}
 use Rattle.keymap_tables.proofs.slot.slot_image.Goals as goal
 
 pub loop-cell-preserved : goal.loop-cell-preserved
@@ -12,7 +11,7 @@ loop-cell-preserved c = record {
   bytes =
       rows-written (cell_bytes c.args.layout) (number_size c.args.layout) _ _ c.cell-item.result _ _ _ (omega arith)
       c.cell-item.is c.loop-cell.invariant.bytes
-      (rw c.number.ensures.value at c.push_number.ensures.bytes);
+      (rw c.number.ensures at c.push_number.ensures.bytes);
   four_each =
       c.push_number.ensures.count ∙ ap (λ (n : ℕ). n + number_size c.args.layout) c.loop-cell.invariant.four_each
       ∙ sym (row-next (number_size c.args.layout) c.loop-cell.cell-index);
@@ -20,9 +19,6 @@ loop-cell-preserved c = record {
       marks-next c.cells-cells.result.now _ c.cell-item.result _ _ (omega arith) c.cell-item.is
       c.loop-cell.invariant.marks c.mark.ensures.bit;
   small = small-next _ _ _ c.loop-cell.invariant.small c.mark.ensures.small;
-  known =
-      All-next IsCell _ _ c.cell-item.result (omega arith) c.cell-item.is c.loop-cell.invariant.known
-      c.number.ensures.known;
 }
 
 pub returns-clause-bytes : goal.returns-clause-bytes
@@ -35,11 +31,3 @@ returns-clause-bytes c =
     c.cells-cells.ensures.cells (omega arith) c.loop-cell.invariant.bytes c.loop-cell.invariant.marks
     c.flag_byte.ensures
     c.push.ensures.items c.push-2.ensures.items c.push_zeros.ensures.bytes (omega (arith, filled))
-
-pub returns-clause-known : goal.returns-clause-known
-returns-clause-known c =
-    let all = take_all c.loop-cell.cell-index c.cells-cells.result.now (omega arith) ∙ c.cells-cells.ensures.cells in
-    record {
-      eight = search rules;
-      cells = All-same IsCell _ _ (sym all) c.loop-cell.invariant.known;
-    }

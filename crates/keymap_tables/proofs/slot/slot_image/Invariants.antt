@@ -1,8 +1,7 @@
-use Rattle.keymap_tables.proofs.Common.{◌≡◌, ◌*◌, ◌<◌, ◌^◌, length, take, flat_map, All, IsCell, cell_bytes, marks_of}
-use Rattle.keymap_tables.proofs.Common.{number_size}
+use Rattle.keymap_tables.proofs.Common.{◌≡◌, ◌*◌, ◌<◌, ◌^◌, length, take, flat_map, cell_bytes, marks_of, number_size}
 use Rattle.keymap_tables.proofs.slot.slot_image.Given as goal
 
--- The bytes, the marks and what is known of the cells so far.
+-- The bytes and the marks of the cells so far.
 abbrev pub invariant-loop-cell : goal.invariant-loop-cell
 invariant-loop-cell l = record {
   eight : length l.cells ≡ 8;
@@ -10,5 +9,4 @@ invariant-loop-cell l = record {
   four_each : length l.image.items ≡ number_size l.layout * l.cell-index;
   marks : l.marks ≡ marks_of (take l.cell-index l.cells);
   small : l.marks < 2 ^ l.cell-index;
-  known : All IsCell (take l.cell-index l.cells);
 }

@@ -1,6 +1,5 @@
-use Rattle.keymap_tables.proofs.Common.{rules, arith, ap, ◌∙◌, ◌++◌, length, List, ℕ, get_or, subst, sym, append_assoc}
-use Rattle.keymap_tables.proofs.Common.{append-nil, mul-zero, All-from_get_or, StopsIn-more, passed_on, count_bytes}
-use Rattle.keymap_tables.proofs.Common.{rows_bytes, below_more}
+use Rattle.keymap_tables.proofs.Common.{rules, arith, ap, ◌∙◌, ◌++◌, length, List, ℕ, sym, append_assoc, append-nil}
+use Rattle.keymap_tables.proofs.Common.{mul-zero, StopsIn-more, passed_on, count_bytes, rows_bytes}
 use Rattle.keymap_core.proofs.Gathering.{Gathers-same}
 use Rattle.keymap_tables.proofs.Rows.{rows-next, rows-all, rows-cut}
 use Rattle.keymap_tables.proofs.Sizes.{row-next, row-inside}
@@ -34,7 +33,6 @@ loop-index-init g c =
       pushed = λ start text gathers.
           Gathers-same _ (ap (λ (v : List ℕ). text ++ v) piece ∙ sym (append-nil _))
           (c.in_ok-push.ensures.bytes start text gathers);
-      known = λ i below. absurd (omega arith);
       count =
           omega (
             arith,
@@ -57,9 +55,6 @@ loop-index-preserved g c =
           (rows-next image size g.R.Row.blank g.R.Row.MOST rows c.loop-index.index _
           (text ++ count_bytes c.args.layout (length rows)) c.of.ensures (omega (arith, c.count.ensures)) (omega arith))
           (c.in_ok-push-2.ensures.bytes start _ (c.loop-index.invariant.pushed start text gathers));
-      known =
-          below_more (λ i. g.R.Row.Known (get_or (g.R.Row.rows c.args.map.now) i g.R.Row.blank)) c.loop-index.index
-          c.loop-index.invariant.known (subst g.R.Row.Known c.of.ensures c.in_ok-push-2.ensures.known);
       count =
           omega (
             arith,
@@ -95,8 +90,3 @@ returns-clause-bytes g c start text gathers =
     c.requires.empty)
     ∙ append_assoc text count (rows_bytes image size g.R.Row.MOST rows))
     (c.loop-index.invariant.pushed start text gathers)
-
-pub returns-clause-known : goal.returns-clause-known
-returns-clause-known g c =
-    All-from_get_or g.R.Row.Known (g.R.Row.rows c.args.map.now) g.R.Row.blank
-    (λ i below. c.loop-index.invariant.known i (omega (arith, below, c.count.ensures)))

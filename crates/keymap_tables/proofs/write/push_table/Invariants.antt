@@ -1,5 +1,5 @@
-use Rattle.keymap_tables.proofs.Common.{◌≡◌, ℕ, ◌+◌, ◌*◌, ◌<◌, length, ◌++◌, List, take, Option, slice_index_or}
-use Rattle.keymap_tables.proofs.Common.{flat_map, count_bytes, count_size}
+use Rattle.keymap_tables.proofs.Common.{◌≡◌, ℕ, ◌+◌, ◌*◌, length, ◌++◌, List, take, Option, flat_map, count_bytes}
+use Rattle.keymap_tables.proofs.Common.{count_size}
 use Rattle.keymap_core.specs.Streams.{Gathers, size_of}
 use Rattle.keymap_tables.proofs.Rows.{filled}
 use Rattle.keymap_tables.proofs.write.push_table.Given as goal
@@ -11,7 +11,6 @@ invariant-loop-index g l = record {
       → Gathers start (g.W.Write.contents l.writer) l.stream
       ((text ++ count_bytes l.layout (length (g.R.Row.rows l.map)))
       ++ flat_map (g.R.Row.image l.layout) (take l.index (filled g.R.Row.blank g.R.Row.MOST (g.R.Row.rows l.map))));
-  known : (i : ℕ) → i < l.index → g.R.Row.Known (slice_index_or (g.R.Row.rows l.map) i g.R.Row.blank);
   count : size_of l.stream
       ≡ size_of l.fn.stream + (count_size l.layout + g.R.Row.size l.layout * l.index);
   sound : g.W.Write.has_failed l.writer ≡ g.W.Write.has_failed l.fn.writer;

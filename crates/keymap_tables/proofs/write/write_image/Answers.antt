@@ -1,7 +1,6 @@
-use Rattle.keymap_tables.proofs.Common.{◌∙◌, [], sym, append-nil, IsMap, StopsIn-more, passed_on}
+use Rattle.keymap_tables.proofs.Common.{◌∙◌, [], sym, append-nil, StopsIn-more, passed_on}
 use Rattle.keymap_core.proofs.Gathering.{Gathers-start}
 use Rattle.keymap_tables.proofs.Images.{image-parts}
-use Rattle.keymap_tables.proofs.Outcomes.{OnOk-held}
 use Rattle.keymap_tables.proofs.Sizes.{slot-blank, accent-blank}
 use Rattle.keymap_tables.proofs.write.write_image.Goals as goal
 
@@ -31,12 +30,3 @@ returns-clause-bytes g c =
     (c.in_ok-push_table-2.ensures.bytes _ _
     (c.in_ok-push_table.ensures.bytes _ []
     (Gathers-start _ _ c.new-stream.ensures.empty c.new-stream.ensures.none))))
-
-pub returns-clause-known : goal.returns-clause-known
-returns-clause-known g c =
-    OnOk-held c.finish.result (IsMap c.args.map.now) (record {
-      few_entries = c.in_ok-push_table.ensures.few;
-      entries = c.in_ok-push_table.ensures.known;
-      few_accents = c.in_ok-push_table-2.ensures.few;
-      accents = c.in_ok-push_table-2.ensures.known;
-    })

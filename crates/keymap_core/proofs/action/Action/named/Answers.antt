@@ -1,5 +1,4 @@
-use Rattle.std.proofs.Common.{◌∙◌, sym, map}
-use Rattle.std.specs.Char.{to_ascii_lowercase}
+use Rattle.keymap_core.proofs.Common.{◌∙◌, sym, map, to_ascii_lowercase}
 use Rattle.keymap_core.proofs.Meanings.{meaning-screen, meaning-function, meaning-combined, meaning-named}
 use Rattle.keymap_core.proofs.action.Action.named.Goals as goal
 

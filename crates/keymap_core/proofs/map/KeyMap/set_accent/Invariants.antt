@@ -1,6 +1,4 @@
-use Rattle.std.proofs.Common.{◌≡◌, ◌≤◌, ◌+◌, ◌-◌, ◌++◌, length, replicate, vec_len}
-use Rattle.std.specs.Vec.{vec_capacity}
-use Rattle.keymap_core.specs.Accents.{blank}
+use Rattle.keymap_core.proofs.Common.{◌≡◌, ◌≤◌, ◌+◌, ◌-◌, ◌++◌, length, replicate, vec_len, vec_capacity, blank}
 use Rattle.keymap_core.proofs.map.KeyMap.set_accent.Given as goal
 
 -- The accents are those at the start, and blank ones after them, up to the index.

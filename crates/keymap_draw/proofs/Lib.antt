@@ -1,16 +1,5 @@
-mod Classed
-mod Closing
-mod Formed
 mod Loops
-mod Plain
-mod Red
+mod Parts
 mod Scans
 mod Shown
-mod Squeezed
 mod Texts
-mod Boards
-mod Letters
-mod ToldTwice
-mod Titles
-mod Told
-mod Agreeing

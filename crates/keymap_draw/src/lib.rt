@@ -18,11 +18,12 @@ mod drawing;
 mod drawn;
 mod half;
 mod key;
-pub mod laws;
+
 mod legend;
 mod lists;
 mod markup;
 mod place;
+mod sheet;
 mod tables;
 mod whole;
 mod words;

@@ -20,7 +20,7 @@ use Rattle.keymap_draw.specs.Facts.Fact.{Title, Key}
 use Rattle.keymap_draw.specs.Keys.{finding_line}
 use Rattle.keymap_draw.specs.Markup.{group, text_begin, composed_begin}
 use Rattle.keymap_draw.specs.Places.{is_class}
-use Rattle.keymap_draw.specs.Sheets.{ids, within, in_svg, in_key, in_table, is_inner, are_inner, over}
+use Rattle.keymap_draw.specs.Sheets.{ids, within, in_svg, in_key, in_row, in_table, is_inner, are_inner, over}
 use Rattle.keymap_draw.specs.WellFormed.{State, Element, element, at}
 use Rattle.keymap_draw.specs.WellFormed.Place.{Text}
 use Rattle.keymap_draw.specs.WellFormed.Role.{Plain, Group, Titled, Lettered}
@@ -166,3 +166,10 @@ composed_in {fs} x None h =
 composed_in {fs} x (Some c) h =
     filling {s = within in_table fs} {t = in_quiet in_table fs} words.COMPOSED_OF.now (decimal x ∷ (c ∷ []) ∷ [])
     (both_true _ _ (decimal_inner x) (both_true _ true (classes_inner (c ∷ []) h) refl)) refl
+
+pub name_in : {fs : List Fact} (q : Squares) (x name : List ℕ) → are_inner (x ∷ name ∷ []) ≡ true
+    → Leads (spelling (codes "text") Plain in_row ids fs q) (filled words.NAME.now (x ∷ name ∷ [])) (within in_row fs)
+unfolding filled
+name_in {fs} q x name h =
+    tag q (filled words.NAME.now (x ∷ name ∷ [])) refl
+    (filling {s = in_quiet in_row fs} {t = within in_row fs} words.NAME.now (x ∷ name ∷ []) h refl)

@@ -128,10 +128,10 @@ fn push_other_keys(
     requires few { length keys.now ≤ 128 }
     ensures { IfOk result (λ s. s ≡ sheet ++ numbered (spec.other_key drawing.now half y) 0 keys.now) }
 {
-    if keys.is_empty() {
-        return Ok(sheet);
+    let mut sheet = sheet;
+    if !keys.is_empty() {
+        sheet = adorn(sheet, OTHER_KEYS, &[digits(y + 16).as_slice()])?;
     }
-    let mut sheet = adorn(sheet, OTHER_KEYS, &[digits(y + 16).as_slice()])?;
     for i in 0..keys.len() {
         let key = keys[i];
         sheet = push_other_key(sheet, drawing, half, y, i as u32, key)?;

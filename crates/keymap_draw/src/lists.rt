@@ -236,10 +236,10 @@ pub(crate) fn push_accents(
     requires known { All (λ i. i < accent_limit) accents.now }
     ensures { IfOk result (λ s. s ≡ sheet ++ numbered (spec.listed_accent map.now) 0 accents.now) }
 {
-    if accents.is_empty() {
-        return Ok(sheet);
+    let mut sheet = sheet;
+    if !accents.is_empty() {
+        sheet = adorn(sheet, ACCENTS, &[digits(y + 26).as_slice()])?;
     }
-    let mut sheet = adorn(sheet, ACCENTS, &[digits(y + 26).as_slice()])?;
     for i in 0..accents.len() {
         let index = accents[i];
         sheet = push_accent(sheet, map, y + 40, i as u32, index)?;

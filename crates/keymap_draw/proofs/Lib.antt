@@ -1,5 +1,14 @@
+mod Agreeing
+mod Boards
+mod Letters
 mod Loops
 mod Parts
+mod Plain
+mod Red
 mod Scans
 mod Shown
+mod Squeezed
 mod Texts
+mod Titles
+mod Told
+mod ToldTwice

@@ -18,7 +18,7 @@ mod drawing;
 mod drawn;
 mod half;
 mod key;
-
+pub mod laws;
 mod legend;
 mod lists;
 mod markup;

@@ -1,0 +1,57 @@
+-- What is scanned is plain.
+use Rattle.std.proofs.Common.{◌≡◌, ℕ, ◌<◌, Bool, true, false, List, [], ◌∷◌, Option, Some, None, refl, sym, ◌∙◌}
+use Rattle.std.proofs.Common.{All, get_or}
+use Rattle.std.specs.Prelude.{not, if◌then◌else◌}
+use Rattle.std.proofs.lemmas.Bool.{not-true}
+use Rattle.std.proofs.lemmas.List.Elements.{All-nil, All-cons}
+use Rattle.keymap_core.specs.Accents.{AccentValue}
+use Rattle.keymap_core.specs.Bounds.{IsCell, IsAccent, IsMap}
+use Rattle.keymap_core.specs.Maps.{MapValue}
+use Rattle.keymap_core.specs.Unseen.{is_unseen}
+use Rattle.keymap_core.specs.declared.entry.Cell.{Cell}
+use Rattle.keymap_core.specs.declared.entry.Entry.{Entry}
+use Rattle.keymap_text.specs.Printed.{slot_words, accent_words}
+use Rattle.keymap_check.specs.declared.finding.Finding.{Finding}
+use Rattle.keymap_draw.specs.declared.board.Board.{Board}
+use Rattle.keymap_draw.specs.Legends.{cell_legend}
+use Rattle.keymap_draw.specs.Facts.{Fact}
+use Rattle.keymap_draw.specs.WellFormed.{State, Tells, start, step, step_at, scan, is_plain, IsPlain, is_shown, IsShown}
+use Rattle.keymap_draw.specs.WellFormed.{IsSeen}
+use Rattle.keymap_draw.proofs.Scans.{first_true, second_true, none-some, failed}
+use Rattle.keymap_draw.proofs.Shown.{all_from, is_seen}
+use Rattle.keymap_draw.proofs.Texts.{AreShown, cell_shown, slot_words_shown, accent_words_shown}
+
+scanned_plain : (bs : List ℕ) (o : Option State) (t : State) → scan o bs ≡ Some t → All IsPlain bs
+scanned_plain [] o t h = All-nil IsPlain
+scanned_plain (b ∷ bs) None t h = absurd (none-some t (sym (failed bs) ∙ h))
+scanned_plain (b ∷ bs) (Some s) t h =
+    All-cons IsPlain b bs (by (is_plain b) refl h) (scanned_plain bs (step (Some s) b) t h)
+  where
+    by : (p : Bool) → is_plain b ≡ p → scan (if p then step_at s.place s.read b else None) bs ≡ Some t
+        → is_plain b ≡ true
+    by true e h = e
+    by false e h = absurd (none-some t (sym (failed bs) ∙ h))
+
+pub told_plain : (fs : List Fact) (bytes : List ℕ) → Tells fs bytes → All IsPlain bytes
+told_plain fs bytes h = scanned_plain bytes (Some start) _ h.scanned
+
+each_shown : (cs : List ℕ) → AreShown cs → All IsShown cs
+each_shown cs h k d l =
+    first_true (is_shown (get_or cs k d)) (not (is_unseen (get_or cs k d))) (all_from is_seen cs h.each k d l)
+
+each_seen : (cs : List ℕ) → AreShown cs → All IsSeen cs
+each_seen cs h k d l =
+    not-true (is_unseen (get_or cs k d))
+    (second_true (is_shown (get_or cs k d)) (not (is_unseen (get_or cs k d))) (all_from is_seen cs h.each k d l))
+
+pub legend_shown : (cell : Cell) → IsCell cell → All IsShown (cell_legend cell)
+legend_shown cell is = each_shown (cell_legend cell) (cell_shown cell is)
+
+pub legend_seen : (cell : Cell) → IsCell cell → All IsSeen (cell_legend cell)
+legend_seen cell is = each_seen (cell_legend cell) (cell_shown cell is)
+
+pub key_title_seen : (slot : ℕ) (e : Entry) → slot < 256 → All IsCell e.cells → All IsSeen (slot_words slot e)
+key_title_seen slot e low is = each_seen (slot_words slot e) (slot_words_shown slot e low is)
+
+pub accent_title_seen : (i : ℕ) (accent : AccentValue) → All IsSeen (accent_words i accent)
+accent_title_seen i accent = each_seen (accent_words i accent) (accent_words_shown i accent)

@@ -1,0 +1,54 @@
+-- A red cap is that of a key with a finding.
+use Rattle.std.proofs.Common.{◌≡◌, ℕ, ◌==◌, Bool, true, false, List, [], ◌∷◌, Option, Some, None, refl, sym, ap}
+use Rattle.std.proofs.Common.{◌∙◌, arith}
+use Rattle.std.specs.Prelude.{◌%◌, if◌then◌else◌}
+use Rattle.std.specs.Option.{is_some}
+use Rattle.keymap_core.specs.Numbers.{key_count}
+use Rattle.keymap_core.specs.declared.entry.Entry.{Entry}
+use Rattle.keymap_check.specs.declared.finding.Finding.{Finding}
+use Rattle.keymap_draw.specs.Drawn.{column}
+use Rattle.keymap_draw.specs.Keys.{finding_of, names_key, red, key_class, is_blank_entry, is_holding, is_doing}
+
+-- by whether the first finding is the key's
+found_by : (f : Finding) (fs : List Finding) (k : ℕ) (b : Bool) → f.key == k ≡ b
+    → is_some (finding_of fs k) ≡ names_key fs k → is_some (finding_of (f ∷ fs) k) ≡ names_key (f ∷ fs) k
+found_by f fs k true e h = rw e refl
+found_by f fs k false e h = rw e h
+
+found : (fs : List Finding) (k : ℕ) → is_some (finding_of fs k) ≡ names_key fs k
+found [] k = refl
+found (f ∷ fs) k = found_by f fs k (f.key == k) refl (found fs k)
+
+-- the classes behind the first, of which none is red
+abbrev other_class : Bool → Bool → Bool → Option ℕ
+other_class blank holding doing =
+    if blank then Some 112
+    else if holding then Some 109
+    else if doing then Some 103
+    else None
+
+other_red : (n : ℕ) → Some n ≡ Some red → n ≡ red
+other_red n h = cc
+
+class_red : (named blank holding doing : Bool)
+    → (if named then Some red else other_class blank holding doing) ≡ Some red → named ≡ true
+class_red true blank holding doing h = refl
+class_red false true holding doing h = absurd (omega (arith, other_red 112 h))
+class_red false false true doing h = absurd (omega (arith, other_red 109 h))
+class_red false false false true h = absurd (omega (arith, other_red 103 h))
+class_red false false false false h = cc
+
+pub red_named : (fs : List Finding) (slot : ℕ) (e : Entry) → key_class fs slot e ≡ Some red
+    → names_key fs (slot % key_count) ≡ true
+unfolding key_class
+red_named fs slot e h =
+    sym (found fs (slot % key_count))
+    ∙ class_red (is_some (finding_of fs (slot % key_count))) (is_blank_entry e) (is_holding (column e 0))
+    (is_doing (column e 0)) h
+
+pub named_red : (fs : List Finding) (slot : ℕ) (e : Entry) → names_key fs (slot % key_count) ≡ true
+    → key_class fs slot e ≡ Some red
+unfolding key_class
+named_red fs slot e h =
+    ap (λ b. if b then Some red else other_class (is_blank_entry e) (is_holding (column e 0)) (is_doing (column e 0)))
+    (found fs (slot % key_count) ∙ h)

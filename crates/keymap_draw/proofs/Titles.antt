@@ -1,0 +1,163 @@
+-- The titles of a picture are those of the definitions that it tells.
+use Rattle.std.proofs.Common.{◌≡◌, ℕ, ◌+◌, Bool, true, false, List, [], ◌∷◌, ◌++◌, Option, Some, None, refl, sym, ap}
+use Rattle.std.proofs.Common.{subst, ◌∙◌, map}
+use Rattle.std.specs.Prelude.{option_map, if◌then◌else◌}
+use Rattle.std.specs.List.{flat_map, filter_map, cons_option}
+use Rattle.std.proofs.lemmas.List.{map-append}
+use Rattle.keymap_core.specs.declared.entry.Cell.{Cell}
+use Rattle.keymap_core.specs.declared.entry.Entry.{Entry}
+use Rattle.keymap_core.specs.Accents.{AccentValue}
+use Rattle.keymap_core.specs.Borne.{is_upper_live}
+use Rattle.keymap_core.specs.Maps.{entry_at, accent_at}
+use Rattle.keymap_text.specs.Rows.{Definition, AccentDefinition}
+use Rattle.keymap_draw.specs.declared.board.Row.{Row}
+use Rattle.keymap_draw.specs.declared.board.Shape.{Shape}
+use Rattle.keymap_draw.specs.declared.board.TheConstants.{ISO}
+use Rattle.keymap_draw.specs.declared.drawn.DrawnCells.{DrawnCells}
+use Rattle.keymap_draw.specs.declared.half.Half.{Half}
+use Rattle.keymap_draw.specs.declared.half.Half.TheVariants.{Lower, Upper}
+use Rattle.keymap_draw.specs.declared.place.Column.{Column}
+use Rattle.keymap_draw.specs.declared.place.Column.TheVariants.{Base, Shift, Alt, AltShift}
+use Rattle.keymap_draw.specs.Boards.{row_on}
+use Rattle.keymap_draw.specs.Drawings.{Drawing}
+use Rattle.keymap_draw.specs.Drawn.{cell_in, drawn, stands_alone}
+use Rattle.keymap_draw.specs.Facts.{Fact, numbered}
+use Rattle.keymap_draw.specs.Facts.Fact.{Title, Key, Legend}
+use Rattle.keymap_draw.specs.Halves.{slot_of, board_row, some_key, other_keys, other_key, half_facts}
+use Rattle.keymap_draw.specs.Keys.{title, some_legend, drawn_legend, legends, key}
+use Rattle.keymap_draw.specs.Lists.{named_accents, listed_accent, some_accent}
+use Rattle.keymap_draw.specs.Pictures.{upper, upper_keys, upper_y, parts, picture_facts}
+use Rattle.keymap_draw.specs.Titles.{titles}
+use Rattle.keymap_draw.specs.Told.{told, told_in, key_definition, accent_definition, title_of, TitlesTell}
+use Rattle.keymap_draw.specs.WellFormed.{State, Tells}
+
+-- these are the titles among facts
+record Titled (fs : List Fact) (ts : List (List ℕ)) : Type 0 where
+  are : titles fs ≡ ts
+
+titles-append : (a b : List Fact) → titles (a ++ b) ≡ titles a ++ titles b
+titles-append [] b = refl
+titles-append (Title said ∷ a) b = ap (λ ts. said ∷ ts) (titles-append a b)
+titles-append (Key class place cap ∷ a) b = titles-append a b
+titles-append (Legend x y said ∷ a) b = titles-append a b
+
+infixl 10 ◌⊳◌
+◌⊳◌ : {a b : List Fact} {s t : List (List ℕ)} → Titled a s → Titled b t → Titled (a ++ b) (s ++ t)
+◌⊳◌ {a} {b} {s} {t} h k = record {
+  are = titles-append a b ∙ ap (λ u. u ++ titles b) h.are ∙ ap (λ u. s ++ u) k.are;
+}
+
+nothing : Titled [] []
+nothing = record { are = refl }
+
+-- ---- keys
+
+some_legend_quiet : (shape : Shape) (c : Column) (alone : Bool) (o : Option Cell)
+    → Titled (some_legend shape c alone o) []
+some_legend_quiet shape c alone None = nothing
+some_legend_quiet shape c alone (Some cell) = record { are = refl }
+
+legend_quiet : (shape : Shape) (alone : Bool) (d : DrawnCells) (c : Column) → Titled (drawn_legend shape alone d c) []
+legend_quiet shape alone d c = some_legend_quiet shape c alone (cell_in d c)
+
+legends_quiet : (shape : Shape) (e : Entry) → Titled (legends shape e) []
+unfolding legends
+legends_quiet shape e =
+    let quiet = legend_quiet shape (stands_alone e) (drawn e) in
+    quiet Base ⊳ quiet Shift ⊳ quiet Alt ⊳ quiet AltShift
+
+key_titled : (d : Drawing) (slot x y : ℕ) (shape : Shape)
+    → Titled (key d slot x y shape) (title d.findings slot (entry_at d.map slot) ∷ [])
+unfolding key
+key_titled d slot x y shape = record {
+  are = ap (λ ts. title d.findings slot (entry_at d.map slot) ∷ ts)
+      (legends_quiet shape (entry_at d.map slot)).are;
+}
+
+abbrev of : Drawing → List Definition → List (List ℕ)
+of d ds = map (title_of d.findings) ds
+
+abbrev pub on_board : Drawing → List Row → List ℕ
+on_board d rows = map (λ (row : Row). row.0) (filter_map (row_on d.board) rows)
+
+abbrev pub of_keys : Drawing → Half → List ℕ → List Definition
+of_keys d half ks = map (key_definition d.map half) ks
+
+rows_titled : (d : Drawing) (half : Half) (y : ℕ) (rows : List Row)
+    → Titled (flat_map (board_row d half y) rows) (of d (of_keys d half (on_board d rows)))
+rows_titled d half y [] = nothing
+rows_titled d half y (row ∷ rows) = by (row_on d.board row) (rows_titled d half y rows)
+  where
+    by : (o : Option Row) → Titled (flat_map (board_row d half y) rows) (of d (of_keys d half (on_board d rows)))
+        → Titled (some_key d half y o ++ flat_map (board_row d half y) rows)
+        (of d (of_keys d half (map (λ (row : Row). row.0) (cons_option o (filter_map (row_on d.board) rows)))))
+    by None h = h
+    by (Some r) h = key_titled d (slot_of half r.0) _ _ r.3 ⊳ h
+
+others_titled : (d : Drawing) (half : Half) (y i : ℕ) (ks : List ℕ)
+    → Titled (numbered (other_key d half y) i ks) (of d (of_keys d half ks))
+unfolding numbered
+others_titled d half y i [] = nothing
+others_titled d half y i (k ∷ ks) = key_titled d (slot_of half k) _ _ _ ⊳ others_titled d half y (i + 1) ks
+
+pub keys_joined : (d : Drawing) (half : Half) (xs ys : List ℕ)
+    → of_keys d half xs ++ of_keys d half ys ≡ of_keys d half (xs ++ ys)
+keys_joined d half xs ys = sym (map-append (key_definition d.map half) xs ys)
+
+-- the titles of definitions behind others
+together : {a b : List Fact} (d : Drawing) (ds es : List Definition) → Titled a (of d ds) → Titled b (of d es)
+    → Titled (a ++ b) (of d (ds ++ es))
+together {a} {b} d ds es h k = record { are = (h ⊳ k).are ∙ sym (map-append (title_of d.findings) ds es) }
+
+half_titled : (d : Drawing) (half : Half) (y : ℕ)
+    → Titled (half_facts d half (other_keys d half) y) (of d (told_in d half))
+unfolding half_facts
+half_titled d half y =
+    subst (λ ds. Titled (half_facts d half (other_keys d half) y) (of d ds)) (keys_joined d half (on_board d ISO) (other_keys d half))
+    (together d (of_keys d half (on_board d ISO)) (of_keys d half (other_keys d half))
+    (rows_titled d half (y + 40) ISO) (others_titled d half (y + 472) 0 (other_keys d half)))
+
+-- ---- accents
+
+accents_titled : (d : Drawing) (i : ℕ) (is : List ℕ)
+    → Titled (numbered (listed_accent d.map) i is) (of d (filter_map (accent_definition d.map) is))
+unfolding numbered
+accents_titled d i [] = nothing
+accents_titled d i (x ∷ is) = by (accent_at d.map x) (accents_titled d (i + 1) is)
+  where
+    by : (o : Option AccentValue)
+        → Titled (numbered (listed_accent d.map) (i + 1) is) (of d (filter_map (accent_definition d.map) is))
+        → Titled (some_accent x o ++ numbered (listed_accent d.map) (i + 1) is)
+        (of d (cons_option (option_map (AccentDefinition x) o) (filter_map (accent_definition d.map) is)))
+    by None h = h
+    by (Some accent) h = record { are = ap (λ ts. title_of d.findings (AccentDefinition x accent) ∷ ts) h.are }
+
+-- ---- the whole
+
+upper_titled : (d : Drawing) (y : ℕ)
+    → Titled (upper d (upper_keys d) y) (of d (if is_upper_live d.map then told_in d Upper else []))
+upper_titled d y = by (is_upper_live d.map)
+  where
+    by : (live : Bool) → Titled (if live then half_facts d Upper (if live then other_keys d Upper else []) y else [])
+        (of d (if live then told_in d Upper else []))
+    by true = half_titled d Upper y
+    by false = nothing
+
+pub picture_titles : (d : Drawing) → titles (picture_facts d) ≡ map (title_of d.findings) (told d)
+unfolding picture_facts parts told
+picture_titles d =
+    (together d (told_in d Lower ++ (if is_upper_live d.map then told_in d Upper else [])) _
+    (together d (told_in d Lower) _ (half_titled d Lower 16) (upper_titled d _))
+    (accents_titled d 0 (named_accents d.map))).are
+
+facts_at : Option State → List Fact
+facts_at None = []
+facts_at (Some s) = s.read.facts
+
+-- bytes tell one list of facts
+pub one_reading : (fs gs : List Fact) (bytes : List ℕ) → Tells fs bytes → Tells gs bytes → fs ≡ gs
+unfolding facts_at
+one_reading fs gs bytes h k = ap facts_at (sym h.scanned ∙ k.scanned)
+
+pub titles_tell : TitlesTell
+titles_tell d fs bytes h k = ap titles (one_reading fs (picture_facts d) bytes k h) ∙ picture_titles d

@@ -1,0 +1,102 @@
+//! Laws of the definitions. No function here does anything.
+ghost use Rattle.std.specs.Prelude.{◌≡◌, ℕ, ◌%◌, ◌<◌, ◌++◌, List, Some, true, All, codes};
+ghost use Rattle.keymap_core.specs.Accents.{AccentValue};
+ghost use Rattle.keymap_core.specs.Bounds.{IsCell};
+ghost use Rattle.keymap_core.specs.Numbers.{key_count};
+ghost use Rattle.keymap_core.specs.declared.entry.Cell.{Cell as CellValue};
+ghost use Rattle.keymap_core.specs.declared.entry.Entry.{Entry as EntryValue};
+ghost use Rattle.keymap_check.specs.declared.finding.Finding.{Finding as FindingValue};
+ghost use Rattle.keymap_text.specs.Printed.{key_line, slot_words, accent_line, accent_words};
+ghost use Rattle.keymap_draw.specs.Drawings.{Drawing};
+ghost use Rattle.keymap_draw.specs.Keys.{key_class, names_key, red};
+ghost use Rattle.keymap_draw.specs.Keyboards.{BoardsAreKeyboards, EachKeyOnce, NoTwoOverlap, AllLieOnThePanel};
+ghost use Rattle.keymap_draw.specs.Letters.{PairsAreLetters, CapitalsAreOfOneLetter, LettersHaveOneCapital};
+ghost use Rattle.keymap_draw.specs.Letters.{MarksAreOfTheirAccents};
+ghost use Rattle.keymap_draw.specs.Legends.{cell_legend};
+ghost use Rattle.keymap_draw.specs.Names.{LegendsAreNames, NoOthersAreNamed};
+ghost use Rattle.keymap_draw.specs.Pictures.{IsPicture};
+ghost use Rattle.keymap_draw.specs.Shapes.{CapsAreOfTheirKeys};
+ghost use Rattle.keymap_draw.specs.Titles.{squeezed};
+ghost use Rattle.keymap_draw.specs.Told.{TitlesTell, PicturesTellDefinitions, PicturesTellKeymaps};
+ghost use Rattle.keymap_draw.specs.WellFormed.{IsPlain, IsShown, IsSeen, IsWellFormed};
+
+/// A cap has the class of the red ones exactly if one of the findings is of its key.
+pub fn red_caps_are_findings()
+    ensures red { (fs : List FindingValue) (slot : ℕ) (e : EntryValue) → key_class fs slot e ≡ Some red
+        → names_key fs (slot % key_count) ≡ true }
+    ensures named { (fs : List FindingValue) (slot : ℕ) (e : EntryValue) → names_key fs (slot % key_count) ≡ true
+        → key_class fs slot e ≡ Some red }
+{}
+
+/// A picture is well formed: one element that holds all others, texts and tags of a few elements, each of which ends by
+/// its own end tag, with a few attributes, none twice. No two ids are the same, and each link leads to an id that
+/// stands before it. `]]>` stands in no text. So nothing of a keymap can begin an element, an attribute or a link.
+pub fn pictures_are_well_formed()
+    ensures { (d : Drawing) (bytes : List ℕ) → IsPicture d bytes → IsWellFormed bytes }
+{}
+
+/// Each byte of a picture is LF or a printable character of ASCII.
+pub fn pictures_are_plain()
+    ensures { (d : Drawing) (bytes : List ℕ) → IsPicture d bytes → All IsPlain bytes }
+{}
+
+/// Each character of a legend is one that XML 1.0 allows, and no control character, whether it stands as it is or by a
+/// reference; and none, of legends and of titles, is one that nobody sees or that turns the direction of writing.
+pub fn legends_are_shown()
+    ensures shown { (cell : CellValue) → IsCell cell → All IsShown (cell_legend cell) }
+    ensures seen { (cell : CellValue) → IsCell cell → All IsSeen (cell_legend cell) }
+    ensures key { (slot : ℕ) (e : EntryValue) → slot < 256 → All IsCell e.cells → All IsSeen (slot_words slot e) }
+    ensures accent { (i : ℕ) (accent : AccentValue) → All IsSeen (accent_words i accent) }
+{}
+
+/// What the title of a key tells is its line of the printed form with one blank between its words, and what that of an
+/// accent tells is its line.
+pub fn titles_are_printed_lines()
+    ensures key { (slot : ℕ) (e : EntryValue) → All IsCell e.cells
+        → squeezed (key_line slot e) ≡ slot_words slot e ++ codes "\n" }
+    ensures accent { (i : ℕ) (accent : AccentValue) → accent_line i accent ≡ accent_words i accent ++ codes "\n" }
+{}
+
+/// A picture tells its keymap: the titles that are read in its bytes are those of the definitions that it tells, in
+/// their order. So two keymaps with one picture are the same in each slot that it shows, and in each accent that has a
+/// character. A slot of a half that is drawn is shown if its key is on the board or it isn't blank.
+pub fn pictures_tell_keymaps()
+    ensures titles { TitlesTell }
+    ensures definitions { PicturesTellDefinitions }
+    ensures keymap { PicturesTellKeymaps }
+{}
+
+/// A board is rows of keys, one behind the other: each key code stands on it once, no two caps overlap, and all lie on
+/// the panel.
+pub fn boards_are_keyboards()
+    ensures rows { BoardsAreKeyboards }
+    ensures once { EachKeyOnce }
+    ensures apart { NoTwoOverlap }
+    ensures on_panel { AllLieOnThePanel }
+{}
+
+/// The cap that a key uses is as wide and as high as the key, but for the 4 units before the next one: it is named by
+/// the letter of the key's shape, and its edge has the key's width and height.
+pub fn caps_are_of_their_keys()
+    ensures { CapsAreOfTheirKeys }
+{}
+
+/// A character that nobody sees has the name for a legend that Unicode abbreviates its name to, and no other character
+/// has such a name.
+pub fn names_are_of_their_characters()
+    ensures legends { LegendsAreNames }
+    ensures no_others { NoOthersAreNamed }
+{}
+
+/// A capital stands for its small letter too exactly if the two are among the letters of five alphabets; each capital
+/// belongs to one small letter, and each small letter has one capital.
+pub fn capitals_are_of_one_letter()
+    ensures letters { PairsAreLetters }
+    ensures capitals { CapitalsAreOfOneLetter }
+    ensures small { LettersHaveOneCapital }
+{}
+
+/// The mark on the cap of a dead key is that of the accent that the dead key's name says.
+pub fn marks_are_of_their_accents()
+    ensures { MarksAreOfTheirAccents }
+{}

@@ -278,8 +278,8 @@ accent_agrees d e same i low h =
 -- ---- the law
 
 pub pictures_tell_keymaps : PicturesTellKeymaps
-pictures_tell_keymaps d e p q h =
-    let same = pictures_tell d e p q h in record {
+pictures_tell_keymaps d e bytes p q h k =
+    let same = pictures_tell d e bytes p q h k in record {
       slots = λ half k low shown.
           entry_told e (slot_of half k) (entry_at d.map (slot_of half k))
           (subst (Among (key_definition d.map half k)) same (slot_told d half k low shown));

@@ -6,31 +6,17 @@ use Rattle.std.proofs.Math.ListN.{drop_of_length-le}
 use Rattle.std.proofs.lemmas.List.Elements.{All-append, All-nil}
 use Rattle.std.specs.Prelude.{None, slice_get, slice_index_or}
 use Rattle.keymap_core.specs.Below.{gathered, passing, passed}
-use Rattle.keymap_draw.specs.Markup.{numbered}
+use Rattle.keymap_draw.specs.Facts.{Fact, numbered}
 
 -- nothing is left to add
-pub numbered_end : {A : Type 0} (f : ℕ → A → List ℕ) (xs : List A) (i : ℕ) (old all : List ℕ) → length xs ≤ i
+pub numbered_end : {A : Type 0} (f : ℕ → A → List Fact) (xs : List A) (i : ℕ) (old all : List Fact) → length xs ≤ i
     → old ++ numbered f i (drop i xs) ≡ all → old ≡ all
 unfolding numbered
 numbered_end f xs i old all past before =
     sym (append-nil old) ∙ ap (λ l. old ++ numbered f i l) (sym (drop_of_length-le xs past)) ∙ before
 
--- what is left to add, once the text of the element at a place is added
-pub numbered_more : {A : Type 0} (f : ℕ → A → List ℕ) (xs : List A) (i : ℕ) (x : A) (old new all : List ℕ)
-    → i < length xs → x ≡ get_or xs i x → new ≡ old ++ f i x
-    → old ++ numbered f i (drop i xs) ≡ all
-    → new ++ numbered f (i + 1) (drop (i + 1) xs) ≡ all
-unfolding numbered
-numbered_more f xs i x old new all inside at added before =
-    let first : drop i xs ≡ x ∷ drop (i + 1) xs =
-    rw add-one (drop-cons xs i x inside ∙ ap (λ b. b ∷ drop (suc i) xs) (sym at)) in
-    ap (λ l. l ++ numbered f (i + 1) (drop (i + 1) xs)) added
-    ∙ append_assoc old (f i x) (numbered f (i + 1) (drop (i + 1) xs))
-    ∙ ap (λ l. old ++ numbered f i l) (sym first)
-    ∙ before
-
--- the same, where the element is read at its place
-pub numbered_at : {A : Type 0} (f : ℕ → A → List ℕ) (xs : List A) (i : ℕ) (d : A) (old new all : List ℕ)
+-- what is left to add, once the facts of the element at a place are added
+pub numbered_at : {A : Type 0} (f : ℕ → A → List Fact) (xs : List A) (i : ℕ) (d : A) (old new all : List Fact)
     → i < length xs → new ≡ old ++ f i (get_or xs i d)
     → old ++ numbered f i (drop i xs) ≡ all
     → new ++ numbered f (i + 1) (drop (i + 1) xs) ≡ all
@@ -86,17 +72,5 @@ pub none_is : {A : Type 0} (xs : List A) (i : ℕ) (d : A) → slice_get xs i �
 none_is [] i d e = refl
 none_is (x ∷ xs) zero d e = cc
 none_is (x ∷ xs) (suc i) d e = none_is xs i d e
-
--- 5 pieces that are added in turn
-pub pieces5 : (old t1 t2 t3 t4 t5 a b c d e : List ℕ)
-    → t1 ≡ old ++ a → t2 ≡ t1 ++ b → t3 ≡ t2 ++ c → t4 ≡ t3 ++ d → t5 ≡ t4 ++ e → t5 ≡ old ++ (a ++ b ++ c ++ d ++ e)
-pieces5 old t1 t2 t3 t4 t5 a b c d e e1 e2 e3 e4 e5 = rw (e5, e4, e3, e2, e1) (simp append_assoc)
-
--- 7 pieces that are added in turn
-pub pieces7 : (old t1 t2 t3 t4 t5 t6 t7 a b c d e f g : List ℕ)
-    → t1 ≡ old ++ a → t2 ≡ t1 ++ b → t3 ≡ t2 ++ c → t4 ≡ t3 ++ d → t5 ≡ t4 ++ e → t6 ≡ t5 ++ f → t7 ≡ t6 ++ g
-    → t7 ≡ old ++ (a ++ b ++ c ++ d ++ e ++ f ++ g)
-pieces7 old t1 t2 t3 t4 t5 t6 t7 a b c d e f g e1 e2 e3 e4 e5 e6 e7 =
-    rw (e7, e6, e5, e4, e3, e2, e1) (simp append_assoc)
 
 pub ruleset passing_rules = (passing-start)

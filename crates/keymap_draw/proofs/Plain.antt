@@ -14,21 +14,12 @@ use Rattle.keymap_text.specs.Printed.{slot_words, accent_words}
 use Rattle.keymap_check.specs.declared.finding.Finding.{Finding}
 use Rattle.keymap_draw.specs.declared.board.Board.{Board}
 use Rattle.keymap_draw.specs.Legends.{cell_legend}
-use Rattle.keymap_draw.specs.Pictures.{picture_with}
-use Rattle.keymap_draw.specs.WellFormed.{State, at, step, step_at, scan, is_plain, IsPlain, is_shown, IsShown, IsSeen}
-use Rattle.keymap_draw.specs.WellFormed.Place.{Before, Text}
-use Rattle.keymap_draw.proofs.Scans.{first_true, second_true}
+use Rattle.keymap_draw.specs.Facts.{Fact}
+use Rattle.keymap_draw.specs.WellFormed.{State, Tells, start, step, step_at, scan, is_plain, IsPlain, is_shown, IsShown}
+use Rattle.keymap_draw.specs.WellFormed.{IsSeen}
+use Rattle.keymap_draw.proofs.Scans.{first_true, second_true, none-some, failed}
 use Rattle.keymap_draw.proofs.Shown.{all_from, is_seen}
 use Rattle.keymap_draw.proofs.Texts.{AreShown, cell_shown, slot_words_shown, accent_words_shown}
-use Rattle.keymap_draw.proofs.Closing.{well_formed}
-
--- where scanning has failed it stays so
-failed : (bs : List ℕ) → scan None bs ≡ None
-failed [] = refl
-failed (b ∷ bs) = failed bs
-
-none-some : (t : State) → None ≡ Some t → ⊥
-none-some t e = cc
 
 scanned_plain : (bs : List ℕ) (o : Option State) (t : State) → scan o bs ≡ Some t → All IsPlain bs
 scanned_plain [] o t h = All-nil IsPlain
@@ -36,15 +27,13 @@ scanned_plain (b ∷ bs) None t h = absurd (none-some t (sym (failed bs) ∙ h))
 scanned_plain (b ∷ bs) (Some s) t h =
     All-cons IsPlain b bs (by (is_plain b) refl h) (scanned_plain bs (step (Some s) b) t h)
   where
-    by : (p : Bool) → is_plain b ≡ p → scan (if p then step_at s.place s.begun s.ids b else None) bs ≡ Some t
+    by : (p : Bool) → is_plain b ≡ p → scan (if p then step_at s.place s.read b else None) bs ≡ Some t
         → is_plain b ≡ true
     by true e h = e
     by false e h = absurd (none-some t (sym (failed bs) ∙ h))
 
-pub picture_plain : (m : MapValue) (fs : List Finding) (board : Board) → IsMap m → All IsPlain (picture_with m fs board)
-picture_plain m fs board is =
-    let (ids, h) = well_formed m fs board is in
-    scanned_plain (picture_with m fs board) (Some (at Before [] [])) (at Text [] ids) h
+pub told_plain : (fs : List Fact) (bytes : List ℕ) → Tells fs bytes → All IsPlain bytes
+told_plain fs bytes h = scanned_plain bytes (Some start) _ h.scanned
 
 each_shown : (cs : List ℕ) → AreShown cs → All IsShown cs
 each_shown cs h k d l =
@@ -64,5 +53,5 @@ legend_seen cell is = each_seen (cell_legend cell) (cell_shown cell is)
 pub key_title_seen : (slot : ℕ) (e : Entry) → slot < 256 → All IsCell e.cells → All IsSeen (slot_words slot e)
 key_title_seen slot e low is = each_seen (slot_words slot e) (slot_words_shown slot e low is)
 
-pub accent_title_seen : (i : ℕ) (accent : AccentValue) → IsAccent accent → All IsSeen (accent_words i accent)
-accent_title_seen i accent is = each_seen (accent_words i accent) (accent_words_shown i accent is.pairs)
+pub accent_title_seen : (i : ℕ) (accent : AccentValue) → All IsSeen (accent_words i accent)
+accent_title_seen i accent = each_seen (accent_words i accent) (accent_words_shown i accent)

@@ -13,9 +13,13 @@ use Rattle.std.proofs.lemmas.List.Folds.{list_all-append}
 use Rattle.keymap_core.specs.CodePoints.{code_digits, upper_digits, digit_at}
 use Rattle.keymap_core.specs.Unseen.{is_unseen}
 use Rattle.keymap_draw.specs.Markup.{escaped, is_referred, reference}
-use Rattle.keymap_draw.specs.WellFormed.{State, Place, at, step, scan, in_text, is_plain, is_shown}
+use Rattle.keymap_draw.specs.Facts.{Fact}
+use Rattle.keymap_draw.specs.Sheets.{is_inner}
+use Rattle.keymap_draw.specs.WellFormed.{Role, Element, State, Read, Place, at, step, scan, in_text, saying}
+use Rattle.keymap_draw.specs.WellFormed.{with_characters, is_plain, is_shown}
 use Rattle.keymap_draw.specs.WellFormed.Place.{Text, Bracket, Brackets, Number}
-use Rattle.keymap_draw.proofs.Scans.{past, both_true, first_true, second_true, is_textual, textual_step}
+use Rattle.keymap_draw.proofs.Scans.{past, both_true, first_true, second_true, reading, no_characters}
+use Rattle.keymap_draw.proofs.Scans.{more_characters, is_textual, textual_step, Leads}
 
 -- it may stand in a text, and a terminal shows it as it is
 abbrev pub is_seen : ℕ → Bool
@@ -69,37 +73,37 @@ hex_passes test h d low = along (λ d. test (digit_char d)) (λ d. true) 0 16 h 
 pub hex_shown : (d : ℕ) → d < 16 → is_seen (digit_char d) ≡ true
 hex_shown = hex_passes is_seen refl
 
-hex_step : (begun ids : List (List ℕ)) (n d : ℕ) → d < 16
-    → step (Some (at (Number n) begun ids)) (digit_char d) ≡ Some (at (Number (16 * n + d)) begun ids)
-hex_step begun ids n d low =
-    along (λ d. step (Some (at (Number n) begun ids)) (digit_char d)) (λ d. Some (at (Number (16 * n + d)) begun ids))
+hex_step : (r : Read) (n d : ℕ) → d < 16
+    → step (Some (at (Number n) r)) (digit_char d) ≡ Some (at (Number (16 * n + d)) r)
+hex_step r n d low =
+    along (λ d. step (Some (at (Number n) r)) (digit_char d)) (λ d. Some (at (Number (16 * n + d)) r))
     0 16 refl d (omega arith) (omega arith)
 
-hex_then : (begun ids : List (List ℕ)) (n d : ℕ) (rest : List ℕ) (r : Option State) → d < 16
-    → scan (Some (at (Number (16 * n + d)) begun ids)) rest ≡ r
-    → scan (Some (at (Number n) begun ids)) (digit_char d ∷ rest) ≡ r
-hex_then begun ids n d rest r lt e = ap (λ o. scan o rest) (hex_step begun ids n d lt) ∙ e
+hex_then : (r : Read) (n d : ℕ) (rest : List ℕ) (o : Option State) → d < 16
+    → scan (Some (at (Number (16 * n + d)) r)) rest ≡ o
+    → scan (Some (at (Number n) r)) (digit_char d ∷ rest) ≡ o
+hex_then r n d rest o lt e = ap (λ q. scan q rest) (hex_step r n d lt) ∙ e
 
-at_number : (begun ids : List (List ℕ)) (a b : ℕ) → a ≡ b
-    → Some (at (Number a) begun ids) ≡ Some (at (Number b) begun ids)
-at_number begun ids a b e = ap (λ n. Some (at (Number n) begun ids)) e
+at_number : (r : Read) (a b : ℕ) → a ≡ b
+    → Some (at (Number a) r) ≡ Some (at (Number b) r)
+at_number r a b e = ap (λ n. Some (at (Number n) r)) e
 
 -- four digits behind a number
-four_digits : (begun ids : List (List ℕ)) (c : ℕ)
-    → scan (Some (at (Number (c / 0x10000)) begun ids))
+four_digits : (r : Read) (c : ℕ)
+    → scan (Some (at (Number (c / 0x10000)) r))
     (digit_at c 0x1000 ∷ digit_at c 0x100 ∷ digit_at c 0x10 ∷ digit_at c 1 ∷ [])
-    ≡ Some (at (Number c) begun ids)
-four_digits begun ids c =
-    hex_then begun ids (c / 0x10000) (c / 0x1000 % 16) (digit_at c 0x100 ∷ digit_at c 0x10 ∷ digit_at c 1 ∷ []) _
+    ≡ Some (at (Number c) r)
+four_digits r c =
+    hex_then r (c / 0x10000) (c / 0x1000 % 16) (digit_at c 0x100 ∷ digit_at c 0x10 ∷ digit_at c 1 ∷ []) _
     (omega arith)
-    (hex_then begun ids (16 * (c / 0x10000) + c / 0x1000 % 16) (c / 0x100 % 16) (digit_at c 0x10 ∷ digit_at c 1 ∷ []) _
+    (hex_then r (16 * (c / 0x10000) + c / 0x1000 % 16) (c / 0x100 % 16) (digit_at c 0x10 ∷ digit_at c 1 ∷ []) _
     (omega arith)
-    (hex_then begun ids (16 * (16 * (c / 0x10000) + c / 0x1000 % 16) + c / 0x100 % 16) (c / 0x10 % 16)
+    (hex_then r (16 * (16 * (c / 0x10000) + c / 0x1000 % 16) + c / 0x100 % 16) (c / 0x10 % 16)
     (digit_at c 1 ∷ []) _
     (omega arith)
-    (hex_then begun ids (16 * (16 * (16 * (c / 0x10000) + c / 0x1000 % 16) + c / 0x100 % 16) + c / 0x10 % 16)
+    (hex_then r (16 * (16 * (16 * (c / 0x10000) + c / 0x1000 % 16) + c / 0x100 % 16) + c / 0x10 % 16)
     (c / 1 % 16) [] _ (omega arith)
-    (at_number begun ids
+    (at_number r
     (16 * (16 * (16 * (16 * (c / 0x10000) + c / 0x1000 % 16) + c / 0x100 % 16) + c / 0x10 % 16) + c / 1 % 16) c
     (omega arith)))))
 
@@ -112,27 +116,27 @@ middle_number c e = let h : c < 0x100000 = ltb-true c 0x100000 e in omega arith
 high_number : (c : ℕ) → c < 0x110000 → 16 * (16 * 0 + c / 0x100000 % 16) + c / 0x10000 % 16 ≡ c / 0x10000
 high_number c h = omega arith
 
-upper_by : (begun ids : List (List ℕ)) (c : ℕ) (a b : Bool) → c < 0x110000 → nat_lt c 0x10000 ≡ a
+upper_by : (r : Read) (c : ℕ) (a b : Bool) → c < 0x110000 → nat_lt c 0x10000 ≡ a
     → nat_lt c 0x100000 ≡ b
-    → scan (Some (at (Number 0) begun ids)) (if a then [] else if b then digit_at c 0x10000 ∷ []
-    else digit_at c 0x100000 ∷ digit_at c 0x10000 ∷ []) ≡ Some (at (Number (c / 0x10000)) begun ids)
-upper_by begun ids c true b low e f = at_number begun ids 0 (c / 0x10000) (low_number c e)
-upper_by begun ids c false true low e f =
-    hex_then begun ids 0 (c / 0x10000 % 16) [] _ (omega arith)
-    (at_number begun ids (16 * 0 + c / 0x10000 % 16) (c / 0x10000) (middle_number c f))
-upper_by begun ids c false false low e f =
-    hex_then begun ids 0 (c / 0x100000 % 16) (digit_at c 0x10000 ∷ []) _ (omega arith)
-    (hex_then begun ids (16 * 0 + c / 0x100000 % 16) (c / 0x10000 % 16) [] _ (omega arith)
-    (at_number begun ids (16 * (16 * 0 + c / 0x100000 % 16) + c / 0x10000 % 16) (c / 0x10000) (high_number c low)))
+    → scan (Some (at (Number 0) r)) (if a then [] else if b then digit_at c 0x10000 ∷ []
+    else digit_at c 0x100000 ∷ digit_at c 0x10000 ∷ []) ≡ Some (at (Number (c / 0x10000)) r)
+upper_by r c true b low e f = at_number r 0 (c / 0x10000) (low_number c e)
+upper_by r c false true low e f =
+    hex_then r 0 (c / 0x10000 % 16) [] _ (omega arith)
+    (at_number r (16 * 0 + c / 0x10000 % 16) (c / 0x10000) (middle_number c f))
+upper_by r c false false low e f =
+    hex_then r 0 (c / 0x100000 % 16) (digit_at c 0x10000 ∷ []) _ (omega arith)
+    (hex_then r (16 * 0 + c / 0x100000 % 16) (c / 0x10000 % 16) [] _ (omega arith)
+    (at_number r (16 * (16 * 0 + c / 0x100000 % 16) + c / 0x10000 % 16) (c / 0x10000) (high_number c low)))
 
-upper_scan : (begun ids : List (List ℕ)) (c : ℕ) → c < 0x110000
-    → scan (Some (at (Number 0) begun ids)) (upper_digits c) ≡ Some (at (Number (c / 0x10000)) begun ids)
-upper_scan begun ids c low = upper_by begun ids c (nat_lt c 0x10000) (nat_lt c 0x100000) low refl refl
+upper_scan : (r : Read) (c : ℕ) → c < 0x110000
+    → scan (Some (at (Number 0) r)) (upper_digits c) ≡ Some (at (Number (c / 0x10000)) r)
+upper_scan r c low = upper_by r c (nat_lt c 0x10000) (nat_lt c 0x100000) low refl refl
 
-pub digits_scan : (begun ids : List (List ℕ)) (c : ℕ) → c < 0x110000
-    → scan (Some (at (Number 0) begun ids)) (code_digits c) ≡ Some (at (Number c) begun ids)
+pub digits_scan : (r : Read) (c : ℕ) → c < 0x110000
+    → scan (Some (at (Number 0) r)) (code_digits c) ≡ Some (at (Number c) r)
 unfolding code_digits
-digits_scan begun ids c low = past _ _ (upper_digits c) _ _ (upper_scan begun ids c low) (four_digits begun ids c)
+digits_scan r c low = past _ _ (upper_digits c) _ _ (upper_scan r c low) (four_digits r c)
 
 -- ---- characters of a text
 
@@ -169,74 +173,91 @@ no_greater c f = grind (arith, nat_tests)
 no_bracket : (c : ℕ) → is_referred c ≡ true → c ≡ 93 → false ≡ true
 no_bracket c f e = ap is_referred (sym e) ∙ f
 
-number_ends : (name : List ℕ) (begun ids : List (List ℕ)) (c : ℕ) → is_shown c ≡ true
-    → scan (Some (at (Number 0) (name ∷ begun) ids)) (code_digits c ++ codes ";")
-    ≡ Some (at Text (name ∷ begun) ids)
-number_ends name begun ids c h =
-    past _ _ (code_digits c) (codes ";") _ (digits_scan (name ∷ begun) ids c (below_all c h))
-    (ap (λ b. if b then Some (at Text (name ∷ begun) ids) else None) h)
+-- where the last element has this role, behind brackets
+abbrev pub spelling : List ℕ → Role → List Element → List (List ℕ) → List Fact → Squares → State
+spelling name role begun ids facts q = at (place q) (reading name role begun ids facts)
 
-reference_scan : (name : List ℕ) (begun ids : List (List ℕ)) (q : Squares) (c : ℕ) → is_shown c ≡ true
-    → scan (Some (at (place q) (name ∷ begun) ids)) (reference c) ≡ Some (at Text (name ∷ begun) ids)
-reference_scan name begun ids NoBracket c h = number_ends name begun ids c h
-reference_scan name begun ids OneBracket c h = number_ends name begun ids c h
-reference_scan name begun ids MoreBrackets c h = number_ends name begun ids c h
+number_ends : (r : Read) (c : ℕ) → is_shown c ≡ true
+    → scan (Some (at (Number 0) r)) (code_digits c ++ codes ";") ≡ Some (at Text (saying (c ∷ []) r))
+number_ends r c h =
+    past _ _ (code_digits c) (codes ";") _ (digits_scan r c (below_all c h))
+    (ap (λ b. if b then Some (at Text (saying (c ∷ []) r)) else None) h)
 
-bracket_scan : (name : List ℕ) (begun ids : List (List ℕ)) (q : Squares)
-    → step (Some (at (place q) (name ∷ begun) ids)) 93 ≡ Some (at (place (more q)) (name ∷ begun) ids)
-bracket_scan name begun ids NoBracket = refl
-bracket_scan name begun ids OneBracket = refl
-bracket_scan name begun ids MoreBrackets = refl
+reference_scan : (name : List ℕ) (role : Role) (begun : List Element) (ids : List (List ℕ)) (facts : List Fact)
+    (q : Squares) (c : ℕ) → is_shown c ≡ true
+    → scan (Some (spelling name role begun ids facts q)) (reference c)
+    ≡ Some (spelling name (with_characters role (c ∷ [])) begun ids facts NoBracket)
+reference_scan name role begun ids facts NoBracket c h = number_ends (reading name role begun ids facts) c h
+reference_scan name role begun ids facts OneBracket c h = number_ends (reading name role begun ids facts) c h
+reference_scan name role begun ids facts MoreBrackets c h = number_ends (reading name role begun ids facts) c h
 
-plain_scan : (name : List ℕ) (begun ids : List (List ℕ)) (q : Squares) (c : ℕ) → is_textual c ≡ true
-    → c == 93 ≡ false → c == 62 ≡ false
-    → step (Some (at (place q) (name ∷ begun) ids)) c ≡ Some (at Text (name ∷ begun) ids)
-plain_scan name begun ids NoBracket c h b g = textual_step name begun ids c h
-plain_scan name begun ids OneBracket c h b g =
-    ap (λ d. if is_plain c then (if d then Some (at Brackets (name ∷ begun) ids) else in_text (name ∷ begun) ids c)
-    else None) b
-    ∙ textual_step name begun ids c h
-plain_scan name begun ids MoreBrackets c h b g =
-    ap (λ d. if is_plain c then (if d then Some (at Brackets (name ∷ begun) ids) else if c == 62 then None
-    else in_text (name ∷ begun) ids c) else None) b
-    ∙ ap (λ d. if is_plain c then (if d then None else in_text (name ∷ begun) ids c) else None) g
-    ∙ textual_step name begun ids c h
+bracket_scan : (name : List ℕ) (role : Role) (begun : List Element) (ids : List (List ℕ)) (facts : List Fact)
+    (q : Squares)
+    → step (Some (spelling name role begun ids facts q)) 93
+    ≡ Some (spelling name (with_characters role (93 ∷ [])) begun ids facts (more q))
+bracket_scan name role begun ids facts NoBracket = refl
+bracket_scan name role begun ids facts OneBracket = refl
+bracket_scan name role begun ids facts MoreBrackets = refl
 
-escaped_by : (name : List ℕ) (begun ids : List (List ℕ)) (q : Squares) (c : ℕ) (b d : Bool) → is_shown c ≡ true
-    → is_referred c ≡ b → c == 93 ≡ d
-    → scan (Some (at (place q) (name ∷ begun) ids)) (if b then reference c else c ∷ [])
-    ≡ Some (at (place (if d then more q else NoBracket)) (name ∷ begun) ids)
-escaped_by name begun ids q c true true h e f = absurd (false≢true (no_bracket c e (eqb-true c 93 f)))
-escaped_by name begun ids q c true false h e f = reference_scan name begun ids q c h
-escaped_by name begun ids q c false true h e f =
-    ap (λ k. step (Some (at (place q) (name ∷ begun) ids)) k) (eqb-true c 93 f) ∙ bracket_scan name begun ids q
-escaped_by name begun ids q c false false h e f = plain_scan name begun ids q c (textual c h e f) f (no_greater c e)
+plain_scan : (name : List ℕ) (role : Role) (begun : List Element) (ids : List (List ℕ)) (facts : List Fact)
+    (q : Squares) (c : ℕ) → is_textual c ≡ true → c == 93 ≡ false → c == 62 ≡ false
+    → step (Some (spelling name role begun ids facts q)) c
+    ≡ Some (spelling name (with_characters role (c ∷ [])) begun ids facts NoBracket)
+plain_scan name role begun ids facts NoBracket c h b g = textual_step name role begun ids facts c h
+plain_scan name role begun ids facts OneBracket c h b g =
+    ap (λ d. if is_plain c then (if d then Some (at Brackets (saying (c ∷ []) (reading name role begun ids facts)))
+    else in_text (reading name role begun ids facts) c) else None) b
+    ∙ textual_step name role begun ids facts c h
+plain_scan name role begun ids facts MoreBrackets c h b g =
+    ap (λ d. if is_plain c then (if d then Some (at Brackets (saying (c ∷ []) (reading name role begun ids facts)))
+    else if c == 62 then None else in_text (reading name role begun ids facts) c) else None) b
+    ∙ ap (λ d. if is_plain c then (if d then None else in_text (reading name role begun ids facts) c) else None) g
+    ∙ textual_step name role begun ids facts c h
+
+escaped_by : (name : List ℕ) (role : Role) (begun : List Element) (ids : List (List ℕ)) (facts : List Fact)
+    (q : Squares) (c : ℕ) (b d : Bool) → is_shown c ≡ true → is_referred c ≡ b → c == 93 ≡ d
+    → scan (Some (spelling name role begun ids facts q)) (if b then reference c else c ∷ [])
+    ≡ Some (spelling name (with_characters role (c ∷ [])) begun ids facts (if d then more q else NoBracket))
+escaped_by name role begun ids facts q c true true h e f = absurd (false≢true (no_bracket c e (eqb-true c 93 f)))
+escaped_by name role begun ids facts q c true false h e f = reference_scan name role begun ids facts q c h
+escaped_by name role begun ids facts q c false true h e f =
+    rw (eqb-true c 93 f) (bracket_scan name role begun ids facts q)
+escaped_by name role begun ids facts q c false false h e f =
+    plain_scan name role begun ids facts q c (textual c h e f) f (no_greater c e)
 
 -- characters that are escaped, in a text
-pub escaped_text : (name : List ℕ) (begun ids : List (List ℕ)) (q : Squares) (cs : List ℕ) → list_all is_seen cs ≡ true
-    → scan (Some (at (place q) (name ∷ begun) ids)) (flat_map escaped cs)
-    ≡ Some (at (place (behind q cs)) (name ∷ begun) ids)
+escaped_scan : (name : List ℕ) (role : Role) (begun : List Element) (ids : List (List ℕ)) (facts : List Fact)
+    (q : Squares) (cs : List ℕ) → list_all is_seen cs ≡ true
+    → scan (Some (spelling name role begun ids facts q)) (flat_map escaped cs)
+    ≡ Some (spelling name (with_characters role cs) begun ids facts (behind q cs))
 unfolding escaped
-escaped_text name begun ids q [] h = refl
-escaped_text name begun ids q (c ∷ cs) h =
-    past _ (Some (at (place (if c == 93 then more q else NoBracket)) (name ∷ begun) ids)) (escaped c)
-    (flat_map escaped cs) _
-    (escaped_by name begun ids q c (is_referred c) (c == 93)
+escaped_scan name role begun ids facts q [] h =
+    ap (λ r. Some (spelling name r begun ids facts q)) (sym (no_characters role))
+escaped_scan name role begun ids facts q (c ∷ cs) h =
+    past _ _ (escaped c) (flat_map escaped cs) _
+    (escaped_by name role begun ids facts q c (is_referred c) (c == 93)
     (first_true (is_shown c) (not (is_unseen c)) (first_true (is_seen c) (list_all is_seen cs) h)) refl refl)
-    (escaped_text name begun ids (if c == 93 then more q else NoBracket) cs
+    (escaped_scan name (with_characters role (c ∷ [])) begun ids facts (if c == 93 then more q else NoBracket) cs
     (second_true (is_seen c) (list_all is_seen cs) h))
+    ∙ ap (λ r. Some (spelling name r begun ids facts (behind q (c ∷ cs)))) (more_characters role (c ∷ []) cs)
 
-less_scan : (name : List ℕ) (begun ids : List (List ℕ)) (q : Squares)
-    → step (Some (at (place q) (name ∷ begun) ids)) 60 ≡ step (Some (at Text (name ∷ begun) ids)) 60
-less_scan name begun ids NoBracket = refl
-less_scan name begun ids OneBracket = refl
-less_scan name begun ids MoreBrackets = refl
+pub escaped_in : {name : List ℕ} {role : Role} {begun : List Element} {ids : List (List ℕ)} {facts : List Fact}
+    (cs : List ℕ) → list_all is_seen cs ≡ true
+    → Leads (at Text (reading name role begun ids facts)) (flat_map escaped cs)
+    (spelling name (with_characters role cs) begun ids facts (behind NoBracket cs))
+escaped_in {name} {role} {begun} {ids} {facts} cs h =
+    record { scanned = escaped_scan name role begun ids facts NoBracket cs h }
+
+less_scan : (r : Read) (q : Squares) → step (Some (at (place q) r)) 60 ≡ step (Some (at Text r)) 60
+less_scan r NoBracket = refl
+less_scan r OneBracket = refl
+less_scan r MoreBrackets = refl
 
 -- a tag behind them
-pub tag_scan : (name : List ℕ) (begun ids : List (List ℕ)) (q : Squares) (bs : List ℕ) → slice_index bs 0 ≡ 60
-    → scan (Some (at (place q) (name ∷ begun) ids)) bs ≡ scan (Some (at Text (name ∷ begun) ids)) bs
-tag_scan name begun ids q [] e = absurd (omega (arith, e))
-tag_scan name begun ids q (c ∷ bs) e =
-    ap (λ k. scan (step (Some (at (place q) (name ∷ begun) ids)) k) bs) e
-    ∙ ap (λ o. scan o bs) (less_scan name begun ids q)
-    ∙ sym (ap (λ k. scan (step (Some (at Text (name ∷ begun) ids)) k) bs) e)
+pub tag : {r : Read} {t : State} (q : Squares) (bs : List ℕ) → slice_index bs 0 ≡ 60 → Leads (at Text r) bs t
+    → Leads (at (place q) r) bs t
+tag q [] e h = absurd (omega (arith, e))
+tag {r} {t} q (c ∷ bs) e h = record {
+  scanned = ap (λ k. scan (step (Some (at (place q) r)) k) bs) e ∙ ap (λ o. scan o bs) (less_scan r q)
+      ∙ sym (ap (λ k. scan (step (Some (at Text r)) k) bs) e) ∙ h.scanned;
+}

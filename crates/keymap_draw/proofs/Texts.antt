@@ -307,13 +307,13 @@ pair_shown p =
     (joined (codes " ") _ (shown refl)
     (joined (character_text p.1) (codes " )") (character_text_shown p.1) (shown refl))))
 
-pub accent_words_shown : (i : ℕ) (accent : AccentValue) → All IsPair accent.pairs → AreShown (accent_words i accent)
+pub accent_words_shown : (i : ℕ) (accent : AccentValue) → AreShown (accent_words i accent)
 unfolding accent_words
-accent_words_shown i accent pairs =
+accent_words_shown i accent =
     joined (slice_index_or accent_names i []) _ (name_shown accent_names refl i)
     (joined (codes " ") _ (shown refl)
     (joined (character_text accent.own) _ (character_text_shown accent.own)
-    (flat_shown IsPair pair_text (λ p _. pair_shown p) accent.pairs pairs)))
+    (flat_shown (λ p. Unit) pair_text (λ p _. pair_shown p) accent.pairs (λ k d _. tt))))
 
 -- the cells of each slot are cells of a keymap
 entry_cells_by : (es : List Entry) (s : ℕ) → All IsEntry es → All IsCell (slice_index_or es s undefined).cells

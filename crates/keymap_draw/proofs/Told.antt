@@ -1,129 +1,45 @@
 -- Two pictures that are one tell the same definitions.
 use Prim.Native.Nat.{zero, suc}
 use Rattle.std.proofs.Common.{◌≡◌, ℕ, ◌<◌, ◌==◌, Bool, true, false, List, [], ◌∷◌, ◌++◌, Option, Some, None}
-use Rattle.std.proofs.Common.{All, refl, sym, ap, ap₂, subst, ◌∙◌, arith, map, append_assoc}
-use Rattle.std.specs.Prelude.{◌%◌, ◌&&◌, not, codes, option_map, slice_get, slice_index_or, if◌then◌else◌}
-use Rattle.std.specs.List.{list_all, flat_map, filter_map, cons_option}
+use Rattle.std.proofs.Common.{All, get_or, refl, sym, ap, ap₂, subst, ◌∙◌, arith, map, append_assoc}
+use Rattle.std.specs.Prelude.{◌%◌, ◌&&◌, not, codes, option_map, slice_get, slice_index_or, nat_lt, if◌then◌else◌}
+use Rattle.std.specs.List.{list_all, filter_map, cons_option}
 use Rattle.std.proofs.lemmas.Bool.Decides.{nat_tests}
-use Rattle.std.proofs.lemmas.List.Elements.{All-head, All-tail, All-replicate}
+use Rattle.std.proofs.lemmas.Bool.{ltb-true}
+use Rattle.std.proofs.lemmas.List.Elements.{All-head, All-tail, All-append, All-replicate}
 use Rattle.keymap_core.specs.declared.entry.Cell.TheVariants.{Char}
 use Rattle.keymap_core.specs.declared.entry.Entry.{Entry}
 use Rattle.keymap_core.specs.Accents.{AccentValue}
 use Rattle.keymap_core.specs.Borne.{is_upper_live}
 use Rattle.keymap_core.specs.Bounds.{IsCell, IsEntry, IsAccent, IsMap}
-use Rattle.keymap_core.specs.CodePoints.{code_digits}
 use Rattle.keymap_core.specs.Maps.{MapValue, accent_at, undefined}
 use Rattle.keymap_core.specs.Numbers.{key_count}
 use Rattle.keymap_check.specs.declared.finding.Finding.{Finding}
 use Rattle.keymap_text.specs.Definitions.{IsDefinition, definition_words}
+use Rattle.keymap_text.specs.Printed.{slot_words, accent_words}
 use Rattle.keymap_text.specs.Rows.{Definition, KeyDefinition, AccentDefinition}
 use Rattle.keymap_text.proofs.Leading.{same_head, same_tail}
 use Rattle.keymap_text.proofs.Told.{words_tell}
+use Rattle.keymap_draw.specs.declared.board.Board.{Board}
+use Rattle.keymap_draw.specs.declared.board.Board.TheVariants.{Iso, Ansi}
 use Rattle.keymap_draw.specs.declared.board.Row.{Row}
-use Rattle.keymap_draw.specs.declared.board.TheConstants.{ISO}
 use Rattle.keymap_draw.specs.declared.half.Half.{Half}
 use Rattle.keymap_draw.specs.declared.half.Half.TheVariants.{Lower, Upper}
-use Rattle.keymap_draw.specs.Boards.{row_on}
 use Rattle.keymap_draw.specs.Drawings.{Drawing}
-use Rattle.keymap_draw.specs.Halves.{slot_of, other_keys}
+use Rattle.keymap_draw.specs.Halves.{slot_of, is_other, other_keys}
+use Rattle.keymap_draw.specs.Keyboards.{keys_of}
 use Rattle.keymap_check.specs.Said.{finding_words}
 use Rattle.keymap_draw.specs.Keys.{finding_of, finding_line}
-use Rattle.keymap_draw.specs.Lists.{named_accents}
-use Rattle.keymap_draw.specs.Markup.{escaped, is_referred, reference}
+use Rattle.keymap_draw.specs.Lists.{has_character, named_accents}
+use Rattle.keymap_draw.specs.Pictures.{picture_facts}
 use Rattle.keymap_draw.specs.Titles.{titles}
 use Rattle.keymap_draw.specs.Told.{told, told_in, key_definition, accent_definition, title_of, PicturesTellDefinitions}
-use Rattle.keymap_draw.specs.WellFormed.{State, Place, at, scan, is_shown}
-use Rattle.keymap_draw.specs.WellFormed.Place.{Number}
-use Rattle.keymap_draw.proofs.Closing.{IsRow, slot_low, row_low, rows_low, other_keys_low, named_low}
+use Rattle.keymap_draw.specs.WellFormed.{is_shown}
+use Rattle.keymap_draw.proofs.Loops.{passing-below}
 use Rattle.keymap_draw.proofs.Scans.{both_true, first_true, second_true}
-use Rattle.keymap_draw.proofs.Shown.{is_seen, joined, chosen, digits_scan, below_all}
+use Rattle.keymap_draw.proofs.Shown.{is_seen, all_from}
 use Rattle.keymap_draw.proofs.Texts.{AreShown, slot_words_shown, accent_words_shown}
-use Rattle.keymap_draw.proofs.Titles.{digits_pass, keys_joined, on_board, of_keys, titles_tell}
-
--- ---- references
-
--- up to the end of a reference
-abbrev is_digit : ℕ → Bool
-is_digit c = not (c == 59)
-
-no_digit : (c : ℕ) → is_digit c ≡ true → 59 ≡ c → ⊥
-no_digit c h e = let k : is_digit 59 ≡ is_digit c = ap is_digit e in cc
-
-split : (a b r s : List ℕ) → list_all is_digit a ≡ true → list_all is_digit b ≡ true → a ++ 59 ∷ r ≡ b ++ 59 ∷ s
-    → (a ≡ b) × (r ≡ s)
-split [] [] r s h k e = (refl, same_tail 59 59 r s e)
-split [] (c ∷ b) r s h k e =
-    absurd (no_digit c (first_true (is_digit c) (list_all is_digit b) k) (same_head 59 c r (b ++ 59 ∷ s) e))
-split (c ∷ a) [] r s h k e =
-    absurd (no_digit c (first_true (is_digit c) (list_all is_digit a) h) (sym (same_head c 59 (a ++ 59 ∷ r) s e)))
-split (c ∷ a) (d ∷ b) r s h k e =
-    let m = split a b r s (second_true (is_digit c) (list_all is_digit a) h)
-    (second_true (is_digit d) (list_all is_digit b) k) (same_tail c d (a ++ 59 ∷ r) (b ++ 59 ∷ s) e) in
-    (ap₂ (λ c cs. c ∷ cs) (same_head c d (a ++ 59 ∷ r) (b ++ 59 ∷ s) e) m.0, m.1)
-
-number_at : Place → ℕ
-number_at (Number n) = n
-number_at _ = 0
-
-number_in : Option State → ℕ
-number_in None = 0
-number_in (Some s) = number_at s.place
-
--- digits are of one number
-number_is : (x y : ℕ) → x < 0x110000 → y < 0x110000 → code_digits x ≡ code_digits y → x ≡ y
-unfolding number_at number_in
-number_is x y h k e =
-    ap number_in (sym (digits_scan [] [] x h) ∙ ap (scan (Some (at (Number 0) [] []))) e ∙ digits_scan [] [] y k)
-
-reference_is : (x y : ℕ) (r s : List ℕ) → x < 0x110000 → y < 0x110000 → reference x ++ r ≡ reference y ++ s
-    → (x ≡ y) × (r ≡ s)
-reference_is x y r s h k e =
-    let digits : code_digits x ++ codes ";" ++ r ≡ code_digits y ++ codes ";" ++ s =
-    same_tail 120 120 _ _ (same_tail 35 35 _ _ (same_tail 38 38 _ _ e)) in
-    let m = split (code_digits x) (code_digits y) r s (digits_pass is_digit refl x) (digits_pass is_digit refl y)
-    (sym (append_assoc (code_digits x) (codes ";") r) ∙ digits ∙ append_assoc (code_digits y) (codes ";") s) in
-    (number_is x y h k m.0, m.1)
-
-not_referred : (c : ℕ) → is_referred c ≡ false → 38 ≡ c → ⊥
-not_referred c h e = let k : is_referred 38 ≡ is_referred c = ap is_referred e in cc
-
-low : (c : ℕ) → is_seen c ≡ true → c < 0x110000
-low c h = below_all c (first_true (is_shown c) _ h)
-
-escaped_is : (x y : ℕ) (r s : List ℕ) → is_seen x ≡ true → is_seen y ≡ true → escaped x ++ r ≡ escaped y ++ s
-    → (x ≡ y) × (r ≡ s)
-unfolding escaped
-escaped_is x y r s h k e = by (is_referred x) (is_referred y) refl refl e
-  where
-    by : (a b : Bool) → is_referred x ≡ a → is_referred y ≡ b
-        → (if a then reference x else x ∷ []) ++ r ≡ (if b then reference y else y ∷ []) ++ s → (x ≡ y) × (r ≡ s)
-    by true true f g e = reference_is x y r s (low x h) (low y k) e
-    by true false f g e = absurd (not_referred y g (same_head 38 y _ _ e))
-    by false true f g e = absurd (not_referred x f (sym (same_head x 38 _ _ e)))
-    by false false f g e = (same_head x y r s e, same_tail x y r s e)
-
-no_text : (c : ℕ) (cs : List ℕ) → [] ≡ c ∷ cs → ⊥
-no_text c cs e = cc
-
-not_nothing : (c : ℕ) (r : List ℕ) → [] ≡ escaped c ++ r → ⊥
-unfolding escaped
-not_nothing c r e = by (is_referred c) e
-  where
-    by : (b : Bool) → [] ≡ (if b then reference c else c ∷ []) ++ r → ⊥
-    by true e = no_text 38 _ e
-    by false e = no_text c r e
-
--- a text with references is of one text
-escaped_are : (xs ys : List ℕ) → list_all is_seen xs ≡ true → list_all is_seen ys ≡ true
-    → flat_map escaped xs ≡ flat_map escaped ys → xs ≡ ys
-escaped_are [] [] h k e = refl
-escaped_are [] (y ∷ ys) h k e = absurd (not_nothing y (flat_map escaped ys) e)
-escaped_are (x ∷ xs) [] h k e = absurd (not_nothing x (flat_map escaped xs) (sym e))
-escaped_are (x ∷ xs) (y ∷ ys) h k e =
-    let m = escaped_is x y (flat_map escaped xs) (flat_map escaped ys)
-    (first_true (is_seen x) (list_all is_seen xs) h) (first_true (is_seen y) (list_all is_seen ys) k) e in
-    ap₂ (λ c cs. c ∷ cs) m.0 (escaped_are xs ys (second_true (is_seen x) (list_all is_seen xs) h)
-    (second_true (is_seen y) (list_all is_seen ys) k) m.1)
+use Rattle.keymap_draw.proofs.Titles.{of_keys, picture_titles, one_reading}
 
 -- ---- the last line of a title
 
@@ -156,47 +72,36 @@ behind_feed (c ∷ a) b h =
 seen_in_line : (c : ℕ) → is_shown c ≡ true → is_in_line c ≡ true
 seen_in_line c h = grind (arith, nat_tests)
 
-escaped_in_line : (cs : List ℕ) → list_all is_seen cs ≡ true → list_all is_in_line (flat_map escaped cs) ≡ true
-unfolding escaped
-escaped_in_line [] h = refl
-escaped_in_line (c ∷ cs) h =
-    joined is_in_line (escaped c) (flat_map escaped cs)
-    (chosen is_in_line (is_referred c) (reference c) (c ∷ [])
-    (λ _. joined is_in_line (codes "&#x" ++ code_digits c) (codes ";")
-    (joined is_in_line (codes "&#x") (code_digits c) refl (digits_pass is_in_line refl c)) refl)
-    (λ _. both_true (is_in_line c) true
-    (seen_in_line c (first_true (is_shown c) _ (first_true (is_seen c) (list_all is_seen cs) h))) refl))
-    (escaped_in_line cs (second_true (is_seen c) (list_all is_seen cs) h))
+words_in_line : (cs : List ℕ) → list_all is_seen cs ≡ true → list_all is_in_line cs ≡ true
+words_in_line [] h = refl
+words_in_line (c ∷ cs) h =
+    both_true (is_in_line c) (list_all is_in_line cs)
+    (seen_in_line c (first_true (is_shown c) _ (first_true (is_seen c) (list_all is_seen cs) h)))
+    (words_in_line cs (second_true (is_seen c) (list_all is_seen cs) h))
 
 -- ---- titles
 
-abbrev text_of : Definition → List ℕ
-text_of d = flat_map escaped (definition_words d)
-
-last_of_title : (fs : List Finding) (d : Definition) → list_all is_in_line (text_of d) ≡ true
-    → last_line (title_of fs d) ≡ text_of d
-last_of_title fs (AccentDefinition i accent) h = one_line (text_of (AccentDefinition i accent)) h
+last_of_title : (fs : List Finding) (d : Definition) → list_all is_in_line (definition_words d) ≡ true
+    → last_line (title_of fs d) ≡ definition_words d
+last_of_title fs (AccentDefinition i accent) h = one_line (accent_words i accent) h
 last_of_title fs (KeyDefinition slot e) h = by (finding_of fs (slot % key_count))
   where
-    by : (o : Option Finding)
-        → last_line (finding_line o ++ text_of (KeyDefinition slot e)) ≡ text_of (KeyDefinition slot e)
-    by None = one_line (text_of (KeyDefinition slot e)) h
+    by : (o : Option Finding) → last_line (finding_line o ++ slot_words slot e) ≡ slot_words slot e
+    by None = one_line (slot_words slot e) h
     by (Some f) =
-        ap last_line (append_assoc (finding_words f) (codes "\n") (text_of (KeyDefinition slot e)))
-        ∙ behind_feed (finding_words f) (text_of (KeyDefinition slot e)) h
+        ap last_line (append_assoc (finding_words f) (codes "\n") (slot_words slot e))
+        ∙ behind_feed (finding_words f) (slot_words slot e) h
 
 words_shown : (d : Definition) → IsDefinition d → AreShown (definition_words d)
 words_shown (KeyDefinition slot e) (below, is) = slot_words_shown slot e below is.cells
-words_shown (AccentDefinition i accent) (below, is) = accent_words_shown i accent is.pairs
+words_shown (AccentDefinition i accent) (below, is) = accent_words_shown i accent
 
 title_is : (fs gs : List Finding) (d e : Definition) → IsDefinition d → IsDefinition e → title_of fs d ≡ title_of gs e
     → d ≡ e
 title_is fs gs d e p q h =
-    let shown_d = words_shown d p in
-    let shown_e = words_shown e q in
-    words_tell d e p q (escaped_are (definition_words d) (definition_words e) shown_d.each shown_e.each
-    (sym (last_of_title fs d (escaped_in_line (definition_words d) shown_d.each)) ∙ ap last_line h
-    ∙ last_of_title gs e (escaped_in_line (definition_words e) shown_e.each)))
+    words_tell d e p q
+    (sym (last_of_title fs d (words_in_line (definition_words d) (words_shown d p).each)) ∙ ap last_line h
+    ∙ last_of_title gs e (words_in_line (definition_words e) (words_shown e q).each))
 
 -- each is a definition of a map
 abbrev Each : List Definition → Type 0
@@ -226,6 +131,10 @@ entry_bound [] s h = record { eight = refl; cells = All-replicate IsCell 8 (Char
 entry_bound (e ∷ es) zero h = All-head IsEntry e es h
 entry_bound (e ∷ es) (suc s) h = entry_bound es s (All-tail IsEntry e es h)
 
+slot_low : (half : Half) (k : ℕ) → k < 128 → slot_of half k < 256
+slot_low Lower k h = omega arith
+slot_low Upper k h = omega arith
+
 key_bound : (m : MapValue) (half : Half) (k : ℕ) → IsMap m → k < 128 → IsDefinition (key_definition m half k)
 key_bound m half k is below = (slot_low half k below, entry_bound m.entries (slot_of half k) is.entries)
 
@@ -234,23 +143,24 @@ each_key d half [] is h = tt
 each_key d half (k ∷ ks) is h =
     (key_bound d.map half k is (All-head (λ k. k < 128) k ks h), each_key d half ks is (All-tail (λ k. k < 128) k ks h))
 
-each_row : (d : Drawing) (half : Half) (rows : List Row) → IsMap d.map → All (λ (r : Row). r.0 < 128) rows
-    → Each (of_keys d half (on_board d rows))
-each_row d half [] is h = tt
-each_row d half (r ∷ rows) is h =
-    by (row_on d.board r) (row_low d.board r (All-head (λ (r : Row). r.0 < 128) r rows h))
-    (each_row d half rows is (All-tail (λ (r : Row). r.0 < 128) r rows h))
-  where
-    by : (o : Option Row) → IsRow o → Each (of_keys d half (on_board d rows))
-        → Each (of_keys d half (map (λ (row : Row). row.0) (cons_option o (filter_map (row_on d.board) rows))))
-    by None below more = more
-    by (Some row) below more = (key_bound d.map half row.0 is below, more)
+abbrev is_low : ℕ → Bool
+is_low k = nat_lt k 128
+
+board_low : (board : Board) → list_all is_low (map (λ (row : Row). row.0) (keys_of board)) ≡ true
+board_low Iso = refl
+board_low Ansi = refl
+
+all_low : (ks : List ℕ) → list_all is_low ks ≡ true → All (λ k. k < 128) ks
+all_low ks h k d l = ltb-true (get_or ks k d) 128 (all_from is_low ks h k d l)
+
+other_keys_low : (d : Drawing) (half : Half) → All (λ k. k < 128) (other_keys d half)
+unfolding other_keys
+other_keys_low d half = passing-below (is_other d half) 128 128 (omega arith)
 
 each_in : (d : Drawing) (half : Half) → IsMap d.map → Each (told_in d half)
 each_in d half is =
-    subst Each (keys_joined d half (on_board d ISO) (other_keys d half))
-    (each_both (of_keys d half (on_board d ISO)) (of_keys d half (other_keys d half))
-    (each_row d half ISO is (rows_low ISO refl)) (each_key d half (other_keys d half) is (other_keys_low d half)))
+    each_key d half _ is
+    (All-append (λ k. k < 128) _ (other_keys d half) (all_low _ (board_low d.board)) (other_keys_low d half))
 
 abbrev IsListed : Option AccentValue → Type 0
 IsListed None = Unit {0}
@@ -274,17 +184,17 @@ each_accent m (i ∷ is) map_is h =
     by (Some accent) accent_is more = ((All-head (λ i. i < 15) i is h, accent_is), more)
 
 each_told : (d : Drawing) → IsMap d.map → Each (told d)
-unfolding told
+unfolding told named_accents
 each_told d is =
     each_both (told_in d Lower ++ (if is_upper_live d.map then told_in d Upper else [])) _
     (each_both (told_in d Lower) _ (each_in d Lower is) (by (is_upper_live d.map)))
-    (each_accent d.map (named_accents d.map) is (named_low d.map))
+    (each_accent d.map (named_accents d.map) is (passing-below (has_character d.map) 15 15 (omega arith)))
   where
     by : (live : Bool) → Each (if live then told_in d Upper else [])
     by true = each_in d Upper is
     by false = tt
 
 pub pictures_tell : PicturesTellDefinitions
-pictures_tell d e p q h =
+pictures_tell d e bytes p q h k =
     titles_are d.findings e.findings (told d) (told e) (each_told d p) (each_told e q)
-    (sym (titles_tell d) ∙ ap titles h ∙ titles_tell e)
+    (sym (picture_titles d) ∙ ap titles (one_reading (picture_facts d) (picture_facts e) bytes h k) ∙ picture_titles e)

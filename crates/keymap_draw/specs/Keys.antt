@@ -1,7 +1,7 @@
--- One key of the picture: its cap, its code and its legends. Its title is its line of the printed form.
+-- What one key of the picture tells: its title, which is its line of the printed form, its cap, its code and its legends.
 use Rattle.std.specs.Prelude.{ℕ, ◌-◌, ◌%◌, ◌==◌, nat_lt, Bool, true, false, ◌||◌, ◌&&◌, List, [], ◌∷◌, ◌++◌}
 use Rattle.std.specs.Prelude.{codes, decimal, Option, Some, None, option_to_list, if◌then◌else◌}
-use Rattle.std.specs.List.{find, flat_map, list_all, list_any}
+use Rattle.std.specs.List.{find, list_all, list_any}
 use Rattle.std.specs.Option.{is_some}
 use Rattle.keymap_core.specs.declared.action.Action.TheVariants as a
 use Rattle.keymap_core.specs.declared.entry.Cell.{Cell}
@@ -10,7 +10,7 @@ use Rattle.keymap_core.specs.declared.entry.Entry.{Entry}
 use Rattle.keymap_core.specs.declared.entry.LockFlag.{LockFlag}
 use Rattle.keymap_core.specs.declared.entry.LockFlag.TheVariants as flag
 use Rattle.keymap_core.specs.Actions.{within}
-use Rattle.keymap_core.specs.Maps.{MapValue, entry_at}
+use Rattle.keymap_core.specs.Maps.{entry_at}
 use Rattle.keymap_core.specs.Numbers.{key_count}
 use Rattle.keymap_check.specs.declared.finding.Finding.{Finding}
 use Rattle.keymap_check.specs.Said.{finding_words}
@@ -19,14 +19,14 @@ use Rattle.keymap_draw.specs.declared.board.Shape.{Shape}
 use Rattle.keymap_draw.specs.declared.drawn.DrawnCells.{DrawnCells}
 use Rattle.keymap_draw.specs.declared.place.Column.{Column}
 use Rattle.keymap_draw.specs.declared.place.Column.TheVariants.{Base, Shift, Alt, AltShift}
-use Rattle.keymap_draw.specs.Boards.{letter, width, height}
+use Rattle.keymap_draw.specs.Boards.{letter, height}
 use Rattle.keymap_draw.specs.Drawn.{is_blank, column, cell_in, drawn, stands_alone}
 use Rattle.keymap_draw.specs.declared.words.TheConstants as words
 use Rattle.keymap_draw.specs.Legends.{cell_legend, is_word}
 use Rattle.keymap_draw.specs.Drawings.{Drawing}
-use Rattle.keymap_draw.specs.Markup.{two, escaped, class_text, text_element}
-use Rattle.keymap_draw.specs.Places.{code_x, beside_of, legend_x, legend_y, legend_classes}
-use Rattle.messages.specs.Filled.{filled}
+use Rattle.keymap_draw.specs.Facts.{Fact, place_at}
+use Rattle.keymap_draw.specs.Facts.Fact.{Title, Key, Legend}
+use Rattle.keymap_draw.specs.Places.{code_x, legend_x, legend_y}
 
 -- the finding of a key, if the check names it
 abbrev pub finding_of : List Finding → ℕ → Option Finding
@@ -72,10 +72,8 @@ finding_line None = []
 finding_line (Some f) = finding_words f ++ codes "\n"
 
 -- what the check says of the key, and its line of the printed form
-unfoldable pub title : List Finding → ℕ → Entry → List ℕ
-title fs slot e =
-    words.TITLE.now ++ finding_line (finding_of fs (slot % key_count)) ++ flat_map escaped (slot_words slot e)
-    ++ words.TITLE_END.now
+abbrev pub title : List Finding → ℕ → Entry → List ℕ
+title fs slot e = finding_line (finding_of fs (slot % key_count)) ++ slot_words slot e
 
 abbrev pub flag_words : LockFlag → List ℕ
 flag_words flag.O = []
@@ -83,42 +81,41 @@ flag_words flag.C = words.CAPS.now
 flag_words flag.N = words.NUM.now
 flag_words flag.B = words.BOTH.now
 
--- the cap, and on it the slot's number and the letter of its locks
-abbrev pub cap : ℕ → LockFlag → Shape → List ℕ
-cap slot l shape =
-    filled words.CAP.now ((letter shape ∷ []) ∷ decimal (code_x shape) ∷ decimal (height shape - 7) ∷ decimal slot
-    ∷ flag_words l ∷ [])
+-- the slot's number and the letter of its locks
+abbrev pub code : ℕ → LockFlag → Shape → Fact
+code slot l shape = Legend (decimal (code_x shape)) (decimal (height shape - 7)) (decimal slot ++ flag_words l)
 
--- the legend of a cell; it is tight where another one stands beside it on a small cap
-unfoldable pub legend : MapValue → Shape → Column → Bool → Bool → Cell → List ℕ
-legend m shape c alone beside cell =
-    text_element (legend_x shape c alone) (legend_y shape c alone (is_word (cell_legend cell)))
-    (legend_classes m c cell (cell_legend cell) alone (beside && nat_lt (width shape) 112)) (cell_legend cell)
+abbrev pub legend : Shape → Column → Bool → Cell → Fact
+legend shape c alone cell =
+    Legend (decimal (legend_x shape c alone)) (decimal (legend_y shape c alone (is_word (cell_legend cell))))
+    (cell_legend cell)
 
-abbrev pub some_legend : MapValue → Shape → Column → Bool → Bool → Option Cell → List ℕ
-some_legend m shape c alone beside None = []
-some_legend m shape c alone beside (Some cell) = legend m shape c alone beside cell
+abbrev pub some_legend : Shape → Column → Bool → Option Cell → List Fact
+some_legend shape c alone None = []
+some_legend shape c alone (Some cell) = legend shape c alone cell ∷ []
 
-abbrev pub drawn_legend : MapValue → Shape → Bool → DrawnCells → Column → List ℕ
-drawn_legend m shape alone d c = some_legend m shape c alone (is_some (cell_in d (beside_of c))) (cell_in d c)
+abbrev pub drawn_legend : Shape → Bool → DrawnCells → Column → List Fact
+drawn_legend shape alone d c = some_legend shape c alone (cell_in d c)
 
-abbrev pub legends_of : MapValue → Shape → Bool → DrawnCells → List ℕ
-legends_of m shape alone d =
-    drawn_legend m shape alone d Base ++ drawn_legend m shape alone d Shift ++ drawn_legend m shape alone d Alt
-    ++ drawn_legend m shape alone d AltShift
+abbrev pub legends_of : Shape → Bool → DrawnCells → List Fact
+legends_of shape alone d =
+    drawn_legend shape alone d Base ++ drawn_legend shape alone d Shift ++ drawn_legend shape alone d Alt
+    ++ drawn_legend shape alone d AltShift
 
-unfoldable pub legends : MapValue → Shape → Entry → List ℕ
-legends m shape e = legends_of m shape (stands_alone e) (drawn e)
+-- a legend for each cell that is drawn
+unfoldable pub legends : Shape → Entry → List Fact
+legends shape e = legends_of shape (stands_alone e) (drawn e)
 
--- the begin of the group of a key
-unfoldable pub group : Option ℕ → ℕ → ℕ → List ℕ
-group class x y = words.GROUP.now ++ class_text (option_to_list class) ++ two words.TRANSLATE.now x y
-
-abbrev pub key_of_entry : Drawing → ℕ → ℕ → ℕ → Shape → Entry → List ℕ
-key_of_entry d slot x y shape e =
-    group (key_class d.findings slot e) x y ++ title d.findings slot e ++ cap slot e.flag shape
-    ++ legends d.map shape e ++ words.GROUP_END.now
+-- the title and the cap of a key
+abbrev pub cap : List Finding → ℕ → ℕ → ℕ → Shape → Entry → List Fact
+cap fs slot x y shape e =
+    Title (title fs slot e)
+    ∷ Key (option_to_list (key_class fs slot e)) (place_at x y) (codes "#" ++ letter shape ∷ [])
+    ∷ []
 
 -- the key of a slot at a place
-unfoldable pub key : Drawing → ℕ → ℕ → ℕ → Shape → List ℕ
-key d slot x y shape = key_of_entry d slot x y shape (entry_at d.map slot)
+unfoldable pub key : Drawing → ℕ → ℕ → ℕ → Shape → List Fact
+key d slot x y shape =
+    cap d.findings slot x y shape (entry_at d.map slot)
+    ++ code slot (entry_at d.map slot).flag shape ∷ []
+    ++ legends shape (entry_at d.map slot)

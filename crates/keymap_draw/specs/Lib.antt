@@ -2,6 +2,7 @@ pub mod Boards
 pub mod Characters
 pub mod Drawings
 pub mod Drawn
+pub mod Facts
 pub mod Halves
 pub mod Keys
 pub mod Legends
@@ -9,6 +10,7 @@ pub mod Lists
 pub mod Markup
 pub mod Pictures
 pub mod Places
+pub mod Sheets
 pub mod Titles
 pub mod Told
 pub mod WellFormed

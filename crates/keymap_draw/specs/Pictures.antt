@@ -1,81 +1,43 @@
--- The whole picture.
-use Rattle.std.specs.Prelude.{ℕ, ◌+◌, ◌==◌, List, [], ◌∷◌, ◌++◌, length, decimal, if◌then◌else◌}
+-- The whole picture: what it tells of a keymap.
+use Rattle.std.specs.Prelude.{ℕ, ◌+◌, List, [], ◌++◌, length, if◌then◌else◌}
 use Rattle.keymap_core.specs.Borne.{is_upper_live}
 use Rattle.keymap_core.specs.Maps.{MapValue}
 use Rattle.keymap_check.specs.declared.finding.Finding.{Finding}
 use Rattle.keymap_check.specs.Computed.{findings_of}
 use Rattle.keymap_draw.specs.declared.board.Board.{Board}
-use Rattle.keymap_draw.specs.declared.constants.TheConstants.{STYLE, SHAPES}
 use Rattle.keymap_draw.specs.declared.half.Half.TheVariants.{Lower, Upper}
-use Rattle.keymap_draw.specs.declared.whole.Starts.{Starts}
-use Rattle.keymap_draw.specs.declared.words.TheConstants as words
 use Rattle.keymap_draw.specs.Drawings.{Drawing}
-use Rattle.keymap_draw.specs.Halves.{other_keys, half_height, half_drawing}
-use Rattle.keymap_draw.specs.Lists.{findings_height, findings_list, named_accents, accents_height, accents_list}
-use Rattle.keymap_draw.specs.Lists.{silent_accents, silent_height, silent_list}
-use Rattle.keymap_draw.specs.Markup.{one}
-use Rattle.messages.specs.Filled.{filled}
-
--- where the findings begin: below the upper half if it is drawn, else below the lower one
-abbrev pub findings_y : Drawing → ℕ → ℕ → ℕ
-findings_y d lower upper =
-    if is_upper_live d.map then 16 + half_height lower + half_height upper else 16 + half_height lower
-
--- where the accents begin
-abbrev pub accents_y : Drawing → ℕ → ℕ → ℕ
-accents_y d lower upper = findings_y d lower upper + findings_height (length d.findings)
-
--- Where the parts begin, of a picture with so many keys below the board of the lower half and of the upper half, so
--- many accents, and so many dead keys without one.
-abbrev pub starts_of : Drawing → ℕ → ℕ → ℕ → ℕ → Starts
-starts_of d lower upper named silent = record {
-  upper = 16 + half_height lower;
-  findings = findings_y d lower upper;
-  accents = accents_y d lower upper;
-  silent = accents_y d lower upper + accents_height named;
-  key = accents_y d lower upper + accents_height named + silent_height silent + 16;
-}
-
--- the begin, the style, the shapes and the page
-unfoldable pub head : ℕ → ℕ → List ℕ
-head count height =
-    filled words.BEGIN.now (decimal height ∷ decimal height
-    ∷ (if count == 0 then words.ACCEPTED.now else words.REFUSED.now) ∷ [])
-    ++ STYLE ++ SHAPES
-    ++ one words.PAGE.now height
+use Rattle.keymap_draw.specs.Facts.{Fact, numbered}
+use Rattle.keymap_draw.specs.Halves.{other_keys, half_height, half_facts}
+use Rattle.keymap_draw.specs.Lists.{named_accents, listed_accent}
+use Rattle.keymap_draw.specs.WellFormed.{Tells}
 
 -- the upper half is drawn only if it is live
-unfoldable pub upper : Drawing → List ℕ → ℕ → List ℕ
-upper d keys y = if is_upper_live d.map then half_drawing d Upper keys y else []
+abbrev pub upper : Drawing → List ℕ → ℕ → List Fact
+upper d keys y = if is_upper_live d.map then half_facts d Upper keys y else []
 
 abbrev pub upper_keys : Drawing → List ℕ
 upper_keys d = if is_upper_live d.map then other_keys d Upper else []
 
-abbrev pub drawn_from : Drawing → Starts → List ℕ → List ℕ → List ℕ → List ℕ → List ℕ
-drawn_from d starts lower above named silent =
-    head (length d.findings) (starts.key + 76) ++ half_drawing d Lower lower 16 ++ upper d above starts.upper
-    ++ findings_list d.findings starts.findings
-    ++ accents_list d.map named starts.accents
-    ++ silent_list silent starts.silent
-    ++ one words.END.now starts.key
+-- where the upper half begins, below a lower half with so many keys that the board doesn't have
+abbrev pub upper_y : ℕ → ℕ
+upper_y others = 16 + half_height others
 
--- a picture with these keys below the boards, accents and dead keys without one
-unfoldable pub drawn_with : Drawing → List ℕ → List ℕ → List ℕ → List ℕ → List ℕ
-drawn_with d lower above named silent =
-    drawn_from d (starts_of d (length lower) (length above) (length named) (length silent)) lower above named silent
+-- with these keys below the boards and these accents
+unfoldable pub parts : Drawing → List ℕ → List ℕ → List ℕ → List Fact
+parts d lower above named =
+    half_facts d Lower lower 16 ++ upper d above (upper_y (length lower)) ++ numbered (listed_accent d.map) 0 named
 
--- the picture of a drawing
-unfoldable pub picture_of : Drawing → List ℕ
-picture_of d = drawn_with d (other_keys d Lower) (upper_keys d) (named_accents d.map) (silent_accents d.map)
+unfoldable pub picture_facts : Drawing → List Fact
+picture_facts d = parts d (other_keys d Lower) (upper_keys d) (named_accents d.map)
 
--- the picture with these findings
-abbrev pub picture_with : MapValue → List Finding → Board → List ℕ
-picture_with m fs board = picture_of (record { map = m; findings = fs; board = board })
+-- The bytes are well formed, and tell these facts.
+abbrev pub IsPicture : Drawing → List ℕ → Type 0
+IsPicture d bytes = Tells (picture_facts d) bytes
+
+abbrev pub IsPictureWith : MapValue → List Finding → Board → List ℕ → Type 0
+IsPictureWith m fs board bytes = IsPicture (record { map = m; findings = fs; board = board }) bytes
 
 -- what is drawn of a map: with the findings of the check
 abbrev pub drawing : MapValue → Board → Drawing
 drawing m board = record { map = m; findings = findings_of m; board = board }
-
--- the picture with the findings of the check
-abbrev pub picture : MapValue → Board → List ℕ
-picture m board = picture_with m (findings_of m) board

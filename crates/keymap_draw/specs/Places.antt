@@ -25,12 +25,6 @@ is_above Shift = true
 is_above Alt = false
 is_above AltShift = true
 
-abbrev pub beside_of : Column → Column
-beside_of Base = Alt
-beside_of Shift = AltShift
-beside_of Alt = Base
-beside_of AltShift = Shift
-
 -- where the code of a key begins
 abbrev pub code_x : Shape → ℕ
 code_x shape.Enter = 24
@@ -56,50 +50,13 @@ legend_y s column alone word =
     else if is_above column then 20
     else low_y s
 
--- the letters that are classes of legends and keys
+-- the letters that are classes of keys and of legends, and the blank between them
 abbrev pub is_class : ℕ → Bool
-is_class letter = list_any (λ c. c == letter) (codes "botuvwxyzcraedmfpg")
+is_class letter = list_any (λ c. c == letter) (codes " botuvwxyzcraedmfpg")
 
 abbrev pub IsClass : ℕ → Type 0
 IsClass letter = is_class letter ≡ true
 
--- the letter for a word of so many characters: those for 2 to 8, of which the last is for longer ones too
-abbrev pub size_by : List ℕ → ℕ → ℕ
-size_by sizes n = slice_index sizes (min n 8 - 2)
-
--- the class for the size of a legend
-abbrev pub size_class : List ℕ → Bool → Bool → Option ℕ
-size_class legend alone tight =
-    if is_word legend then Some (
-    if alone then size_by (codes "wwxxxuu") (length legend)
-    else if tight then size_by (codes "otyybbb") (length legend)
-    else size_by (codes "vvvoott") (length legend)
-    )
-    else if alone then Some 122
-    else None
-
--- the class for its side: c in the middle, r on the right
-abbrev pub side_class : Column → Bool → Option ℕ
-side_class column alone = if alone then Some 99 else if is_right column then Some 114 else None
-
 -- the character that an accent gives by itself, 0 where there is none
 abbrev pub own_of : MapValue → ℕ → ℕ
 own_of m i = (accent_or_blank m i).own
-
--- a for a column with alt
-abbrev pub plain_class : Column → Option ℕ
-plain_class column = if is_right column then Some 97 else None
-
--- the class for the kind of a cell: e for a dead key whose accent has no character, d for any other, m for a modifier
--- or lock
-abbrev pub kind_class : MapValue → Column → Cell → Option ℕ
-kind_class m column (Char c) = plain_class column
-kind_class m column (Act (a.DeadKey i)) = Some (if own_of m i == 0 then 101 else 100)
-kind_class m column (Act (a.Mod modifier)) = Some 109
-kind_class m column (Act (a.Lock lock)) = Some 109
-kind_class m column (Act action) = plain_class column
-
-unfoldable pub legend_classes : MapValue → Column → Cell → List ℕ → Bool → Bool → List ℕ
-legend_classes m column cell legend alone tight =
-    option_to_list (size_class legend alone tight) ++ option_to_list (side_class column alone)
-    ++ option_to_list (kind_class m column cell)

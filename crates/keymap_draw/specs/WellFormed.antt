@@ -1,14 +1,17 @@
--- What is well formed as XML, told byte by byte: one element that holds all others, texts, and tags of elements out of
--- a fixed list, with attributes out of a fixed list, none twice in a tag. Each element ends by its own end tag. No two
--- ids are the same, and a link leads to an id that stands before it. A reference is of a character that XML 1.0 allows
--- and that is no control character. `]]>` stands in no text.
+-- What a reader makes of the bytes of a picture, told byte by byte. They are well formed as XML: one element that holds
+-- all others, texts, and tags of elements out of a fixed list, with attributes out of a fixed list, none twice in a tag.
+-- Each element ends by its own end tag. No two ids are the same, and a link leads to an id that stands before it. A
+-- reference is of a character that XML 1.0 allows and that is no control character. `]]>` stands in no text. What they
+-- tell are facts: the titles, the keys and the texts on their caps.
 use Rattle.std.specs.Prelude.{◌≡◌, ℕ, ◌+◌, ◌*◌, ◌==◌, nat_lt, nat_le, Bool, ◌||◌, ◌&&◌, not, true, false, List, [], ◌∷◌}
 use Rattle.std.specs.Prelude.{◌++◌, codes, Option, Some, None, if◌then◌else◌, bytes_eq}
 use Rattle.std.specs.Char.{digit_value}
-use Rattle.std.specs.List.{list_any}
+use Rattle.std.specs.List.{list_all, list_any}
 use Rattle.std.specs.Option.{option_and_then}
 use Rattle.keymap_core.specs.Actions.{within}
 use Rattle.keymap_core.specs.Unseen.{is_unseen}
+use Rattle.keymap_draw.specs.Facts.{Fact}
+use Rattle.keymap_draw.specs.Facts.Fact.{Title, Key, Legend}
 
 -- LF and the printable characters of ASCII
 abbrev pub is_plain : ℕ → Bool
@@ -48,6 +51,38 @@ attributes =
 abbrev pub is_among : List (List ℕ) → List ℕ → Bool
 is_among names name = list_any (bytes_eq name) names
 
+-- a begin tag: its name, and its attributes with their values, the last first
+pub record Tag : Type 0 where
+  pub name : List ℕ
+  pub has : List (List ℕ × List ℕ)
+
+-- the value of an attribute, nothing where the tag doesn't have it
+abbrev pub value_in : List (List ℕ × List ℕ) → List ℕ → List ℕ
+value_in [] name = []
+value_in (a ∷ more) name = if bytes_eq name a.0 then a.1 else value_in more name
+
+abbrev pub has_attribute : List (List ℕ × List ℕ) → List ℕ → Bool
+has_attribute has name = list_any (λ (a : List ℕ × List ℕ). bytes_eq name a.0) has
+
+-- what an element that has begun is to a reader
+pub data Role : Type 0 where
+  -- it tells nothing by itself
+  Plain : Role
+  -- a group that is read as one picture, with its class and its place, before what is drawn in it
+  Group : List ℕ → List ℕ → Role
+  -- the group of a key, behind its cap
+  Cap : Role
+  -- a title, and a text on a cap with where it stands, with their characters so far
+  Titled : List ℕ → Role
+  Lettered : List ℕ → List ℕ → List ℕ → Role
+
+pub record Element : Type 0 where
+  pub name : List ℕ
+  pub role : Role
+
+abbrev pub element : List ℕ → Role → Element
+element name role = record { name = name; role = role }
+
 -- where the next byte stands
 pub data Place : Type 0 where
   -- before the element that holds all others
@@ -62,154 +97,218 @@ pub data Place : Type 0 where
   -- in the name of a begin tag, and of an end tag
   Name : List ℕ → Place
   EndName : List ℕ → Place
-  -- in a begin tag, behind the name or a value, and behind a blank, with the attributes so far
-  Behind : List (List ℕ) → Place
-  Blank : List (List ℕ) → Place
+  -- in a begin tag, behind the name or a value, and behind a blank
+  Behind : Tag → Place
+  Blank : Tag → Place
   -- behind the `/` of an element without content
-  Closed : Place
-  -- in the name of an attribute, and behind its `=`
-  Attribute : List (List ℕ) → List ℕ → Place
-  Equals : List (List ℕ) → List ℕ → Place
-  -- in a value, in that of an id, where that of a link begins, and behind its `#`
-  Value : List (List ℕ) → Place
-  Id : List (List ℕ) → List ℕ → Place
-  Link : List (List ℕ) → Place
-  Target : List (List ℕ) → List ℕ → Place
+  Closed : Tag → Place
+  -- in the name of an attribute, behind its `=`, and in its value
+  Attribute : Tag → List ℕ → Place
+  Equals : Tag → List ℕ → Place
+  Value : Tag → List ℕ → List ℕ → Place
   -- behind the `&` of a reference, behind its `#`, and in its number
   Ampersand : Place
   Hash : Place
   Number : ℕ → Place
 
--- the place, the names of the elements that have begun and not ended, the last first, and the ids so far
+-- the elements that have begun and not ended, the last first, and the ids and the facts so far
+pub record Read : Type 0 where
+  pub begun : List Element
+  pub ids : List (List ℕ)
+  pub facts : List Fact
+
 pub record State : Type 0 where
   pub place : Place
-  pub begun : List (List ℕ)
-  pub ids : List (List ℕ)
+  pub read : Read
 
-abbrev pub at : Place → List (List ℕ) → List (List ℕ) → State
-at p begun ids = record { place = p; begun = begun; ids = ids }
+abbrev pub at : Place → Read → State
+at p r = record { place = p; read = r }
+
+abbrev pub is_empty : {A : Type 0} → List A → Bool
+is_empty [] = true
+is_empty (x ∷ xs) = false
+
+abbrev pub with_begun : List Element → Read → Read
+with_begun begun r = record { begun = begun; ids = r.ids; facts = r.facts }
 
 -- what stands in some element
-abbrev pub within_element : Place → List (List ℕ) → List (List ℕ) → Option State
-within_element p [] ids = None
-within_element p (name ∷ begun) ids = Some (at p (name ∷ begun) ids)
+abbrev pub within_element : Place → Read → Option State
+within_element p r = if is_empty r.begun then None else Some (at p r)
 
-abbrev pub in_text : List (List ℕ) → List (List ℕ) → ℕ → Option State
-in_text begun ids c =
-    if c == 60 then within_element Opened begun ids
-    else if c == 38 then within_element Ampersand begun ids
-    else if c == 10 then Some (at Text begun ids)
-    else if c == 93 then within_element Bracket begun ids
-    else within_element Text begun ids
+abbrev pub with_characters : Role → List ℕ → Role
+with_characters (Titled said) cs = Titled (said ++ cs)
+with_characters (Lettered x y said) cs = Lettered x y (said ++ cs)
+with_characters role cs = role
 
-abbrev pub in_brackets : List (List ℕ) → List (List ℕ) → ℕ → Option State
-in_brackets begun ids c =
-    if c == 93 then Some (at Brackets begun ids)
+-- the last element that has begun has more characters
+abbrev pub longer : List Element → List ℕ → List Element
+longer [] cs = []
+longer (e ∷ begun) cs = element e.name (with_characters e.role cs) ∷ begun
+
+abbrev pub saying : List ℕ → Read → Read
+saying cs r = with_begun (longer r.begun cs) r
+
+abbrev pub in_text : Read → ℕ → Option State
+in_text r c =
+    if c == 60 then within_element Opened r
+    else if c == 38 then within_element Ampersand r
+    else if c == 10 then Some (at Text (saying (c ∷ []) r))
+    else if c == 93 then within_element Bracket (saying (c ∷ []) r)
+    else within_element Text (saying (c ∷ []) r)
+
+abbrev pub in_brackets : Read → ℕ → Option State
+in_brackets r c =
+    if c == 93 then Some (at Brackets (saying (c ∷ []) r))
     else if c == 62 then None
-    else in_text begun ids c
+    else in_text r c
 
 abbrev pub is_name_byte : ℕ → Bool
 is_name_byte c = within 97 122 c || within 65 90 c || c == 45
 
-abbrev pub behind_name : List (List ℕ) → List (List ℕ) → List (List ℕ) → ℕ → Option State
-behind_name seen begun ids c =
-    if c == 32 then Some (at (Blank seen) begun ids)
-    else if c == 62 then Some (at Text begun ids)
-    else if c == 47 then Some (at Closed begun ids)
+abbrev pub is_capped : List Element → Bool
+is_capped [] = false
+is_capped (e ∷ begun) = elim e.role [ Cap ↦ true | role ↦ false ]
+
+-- a group with the role of a picture, a title without attributes, and a text behind a cap tell something
+abbrev pub role_of : List Element → Tag → Role
+role_of begun tag =
+    if bytes_eq tag.name (codes "g") && bytes_eq (value_in tag.has (codes "role")) (codes "img")
+    then Group (value_in tag.has (codes "class")) (value_in tag.has (codes "transform"))
+    else if bytes_eq tag.name (codes "title") && is_empty tag.has then Titled []
+    else if bytes_eq tag.name (codes "text") && is_capped begun
+    then Lettered (value_in tag.has (codes "x")) (value_in tag.has (codes "y")) []
+    else Plain
+
+abbrev pub begins : Tag → Read → Read
+begins tag r = with_begun (element tag.name (role_of r.begun tag) ∷ r.begun) r
+
+abbrev pub behind_name : Tag → Read → ℕ → Option State
+behind_name tag r c =
+    if c == 32 then Some (at (Blank tag) r)
+    else if c == 62 then Some (at Text (begins tag r))
+    else if c == 47 then Some (at (Closed tag) r)
     else None
 
-abbrev pub in_name : List ℕ → List (List ℕ) → List (List ℕ) → ℕ → Option State
-in_name name begun ids c =
-    if is_name_byte c then Some (at (Name (name ++ c ∷ [])) begun ids)
-    else if is_among elements name then behind_name [] (name ∷ begun) ids c
+abbrev pub in_name : List ℕ → Read → ℕ → Option State
+in_name name r c =
+    if is_name_byte c then Some (at (Name (name ++ c ∷ [])) r)
+    else if is_among elements name then behind_name (record { name = name; has = [] }) r c
     else None
 
--- the last element ends
-abbrev pub ended : List (List ℕ) → List (List ℕ) → Option State
-ended [] ids = None
-ended (last ∷ begun) ids = Some (at Text begun ids)
+-- the first element without content in a group that is read as one picture is the cap of a key, or makes it none
+abbrev pub role_behind : Role → Tag → Role
+role_behind (Group class place) tag = if bytes_eq tag.name (codes "use") then Cap else Plain
+role_behind role tag = role
+
+abbrev pub key_by : Role → Tag → List Fact → List Fact
+key_by (Group class place) tag facts =
+    if bytes_eq tag.name (codes "use") then facts ++ Key class place (value_in tag.has (codes "href")) ∷ []
+    else facts
+key_by role tag facts = facts
+
+-- behind an element without content
+abbrev pub passing : List Element → Tag → Read → Read
+passing [] tag r = r
+passing (e ∷ begun) tag r = record {
+  begun = element e.name (role_behind e.role tag) ∷ begun;
+  ids = r.ids;
+  facts = key_by e.role tag r.facts;
+}
+
+abbrev pub told_by : Role → List Fact → List Fact
+told_by (Titled said) facts = facts ++ Title said ∷ []
+told_by (Lettered x y said) facts = facts ++ Legend x y said ∷ []
+told_by role facts = facts
 
 -- the last element ends if that is its name
-abbrev pub ended_by : List ℕ → List (List ℕ) → List (List ℕ) → Option State
-ended_by name [] ids = None
-ended_by name (last ∷ begun) ids = if bytes_eq name last then Some (at Text begun ids) else None
+abbrev pub ended_by : List ℕ → List Element → Read → Option State
+ended_by name [] r = None
+ended_by name (last ∷ begun) r =
+    if bytes_eq name last.name
+    then Some (at Text (record { begun = begun; ids = r.ids; facts = told_by last.role r.facts }))
+    else None
 
-abbrev pub in_end_name : List ℕ → List (List ℕ) → List (List ℕ) → ℕ → Option State
-in_end_name name begun ids c =
-    if c == 62 then ended_by name begun ids else Some (at (EndName (name ++ c ∷ [])) begun ids)
+abbrev pub in_end_name : List ℕ → Read → ℕ → Option State
+in_end_name name r c =
+    if c == 62 then ended_by name r.begun r else Some (at (EndName (name ++ c ∷ [])) r)
 
 -- one of the attributes, which the tag doesn't have yet
-abbrev pub in_attribute : List (List ℕ) → List ℕ → List (List ℕ) → List (List ℕ) → ℕ → Option State
-in_attribute seen name begun ids c =
-    if is_name_byte c then Some (at (Attribute seen (name ++ c ∷ [])) begun ids)
-    else if c == 61 && is_among attributes name && not (is_among seen name) then Some (at (Equals seen name) begun ids)
+abbrev pub in_attribute : Tag → List ℕ → Read → ℕ → Option State
+in_attribute tag name r c =
+    if is_name_byte c then Some (at (Attribute tag (name ++ c ∷ [])) r)
+    else if c == 61 && is_among attributes name && not (has_attribute tag.has name) then Some (at (Equals tag name) r)
     else None
 
-abbrev pub value_of : List (List ℕ) → List ℕ → Place
-value_of seen name =
-    if bytes_eq name (codes "href") then Link (name ∷ seen)
-    else if bytes_eq name (codes "id") then Id (name ∷ seen) []
-    else Value (name ∷ seen)
+abbrev pub with_attribute : Tag → List ℕ → List ℕ → Tag
+with_attribute tag name value = record { name = tag.name; has = (name, value) ∷ tag.has }
 
-abbrev pub in_value : List (List ℕ) → List (List ℕ) → List (List ℕ) → ℕ → Option State
-in_value seen begun ids c =
-    if c == 34 then Some (at (Behind seen) begun ids)
+-- a link begins with `#`
+abbrev pub is_link : List (List ℕ) → List ℕ → Bool
+is_link ids [] = false
+is_link ids (c ∷ name) = c == 35 && is_among ids name
+
+-- a value ends: an id is a name and none of those before it, and a link leads to one of them
+abbrev pub valued : Tag → List ℕ → List ℕ → Read → Option State
+valued tag name value r =
+    if bytes_eq name (codes "id") then (
+    if list_all is_name_byte value && not (is_among r.ids value)
+    then Some (at (Behind (with_attribute tag name value))
+        (record { begun = r.begun; ids = value ∷ r.ids; facts = r.facts }))
+    else None
+    )
+    else if bytes_eq name (codes "href") && not (is_link r.ids value) then None
+    else Some (at (Behind (with_attribute tag name value)) r)
+
+abbrev pub in_value : Tag → List ℕ → List ℕ → Read → ℕ → Option State
+in_value tag name value r c =
+    if c == 34 then valued tag name value r
     else if c == 38 || c == 60 then None
-    else Some (at (Value seen) begun ids)
+    else Some (at (Value tag name (value ++ c ∷ [])) r)
 
--- the id ends, if it is none of those before it
-abbrev pub in_id : List (List ℕ) → List ℕ → List (List ℕ) → List (List ℕ) → ℕ → Option State
-in_id seen name begun ids c =
-    if is_name_byte c then Some (at (Id seen (name ++ c ∷ [])) begun ids)
-    else if c == 34 && not (is_among ids name) then Some (at (Behind seen) begun (name ∷ ids))
-    else None
-
--- the link ends, if it is one of the ids
-abbrev pub in_target : List (List ℕ) → List ℕ → List (List ℕ) → List (List ℕ) → ℕ → Option State
-in_target seen name begun ids c =
-    if is_name_byte c then Some (at (Target seen (name ++ c ∷ [])) begun ids)
-    else if c == 34 && is_among ids name then Some (at (Behind seen) begun ids)
-    else None
-
-abbrev pub in_number : ℕ → List (List ℕ) → List (List ℕ) → ℕ → Option State
-in_number n begun ids c =
-    if c == 59 then (if is_shown n then Some (at Text begun ids) else None)
-    else if nat_lt (digit_value c) 16 then Some (at (Number (16 * n + digit_value c)) begun ids)
+abbrev pub in_number : ℕ → Read → ℕ → Option State
+in_number n r c =
+    if c == 59 then (if is_shown n then Some (at Text (saying (n ∷ []) r)) else None)
+    else if nat_lt (digit_value c) 16 then Some (at (Number (16 * n + digit_value c)) r)
     else None
 
 -- what must come next
-abbrev pub only : ℕ → Place → List (List ℕ) → List (List ℕ) → ℕ → Option State
-only wanted p begun ids c = if c == wanted then Some (at p begun ids) else None
+abbrev pub only : ℕ → Place → Read → ℕ → Option State
+only wanted p r c = if c == wanted then Some (at p r) else None
 
 -- where the byte behind this one stands, if this one may stand there
-abbrev pub step_at : Place → List (List ℕ) → List (List ℕ) → ℕ → Option State
-step_at Before begun ids c = only 60 Opened begun ids c
-step_at Text begun ids c = in_text begun ids c
-step_at Bracket begun ids c = if c == 93 then Some (at Brackets begun ids) else in_text begun ids c
-step_at Brackets begun ids c = in_brackets begun ids c
-step_at Opened begun ids c = if c == 47 then Some (at (EndName []) begun ids) else in_name [] begun ids c
-step_at (Name name) begun ids c = in_name name begun ids c
-step_at (EndName name) begun ids c = in_end_name name begun ids c
-step_at (Behind seen) begun ids c = behind_name seen begun ids c
-step_at (Blank seen) begun ids c = in_attribute seen [] begun ids c
-step_at Closed begun ids c = if c == 62 then ended begun ids else None
-step_at (Attribute seen name) begun ids c = in_attribute seen name begun ids c
-step_at (Equals seen name) begun ids c = only 34 (value_of seen name) begun ids c
-step_at (Value seen) begun ids c = in_value seen begun ids c
-step_at (Id seen name) begun ids c = in_id seen name begun ids c
-step_at (Link seen) begun ids c = only 35 (Target seen []) begun ids c
-step_at (Target seen name) begun ids c = in_target seen name begun ids c
-step_at Ampersand begun ids c = only 35 Hash begun ids c
-step_at Hash begun ids c = only 120 (Number 0) begun ids c
-step_at (Number n) begun ids c = in_number n begun ids c
+abbrev pub step_at : Place → Read → ℕ → Option State
+step_at Before r c = only 60 Opened r c
+step_at Text r c = in_text r c
+step_at Bracket r c = if c == 93 then Some (at Brackets (saying (c ∷ []) r)) else in_text r c
+step_at Brackets r c = in_brackets r c
+step_at Opened r c = if c == 47 then Some (at (EndName []) r) else in_name [] r c
+step_at (Name name) r c = in_name name r c
+step_at (EndName name) r c = in_end_name name r c
+step_at (Behind tag) r c = behind_name tag r c
+step_at (Blank tag) r c = in_attribute tag [] r c
+step_at (Closed tag) r c = only 62 Text (passing r.begun tag r) c
+step_at (Attribute tag name) r c = in_attribute tag name r c
+step_at (Equals tag name) r c = only 34 (Value tag name []) r c
+step_at (Value tag name value) r c = in_value tag name value r c
+step_at Ampersand r c = only 35 Hash r c
+step_at Hash r c = only 120 (Number 0) r c
+step_at (Number n) r c = in_number n r c
 
 abbrev pub step : Option State → ℕ → Option State
-step s c = option_and_then (λ t. if is_plain c then step_at t.place t.begun t.ids c else None) s
+step s c = option_and_then (λ t. if is_plain c then step_at t.place t.read c else None) s
 
 abbrev pub scan : Option State → List ℕ → Option State
 scan s [] = s
 scan s (c ∷ cs) = scan (step s c) cs
 
+abbrev pub start : State
+start = at Before (record { begun = []; ids = []; facts = [] })
+
+-- the bytes are one element that is ended, and these are the facts that they tell
+pub record Tells (fs : List Fact) (bytes : List ℕ) : Type 0 where
+  pub ids : List (List ℕ)
+  pub scanned : scan (Some start) bytes ≡ Some (at Text (record { begun = []; ids = ids; facts = fs }))
+
 -- The bytes are one element, and all elements that begin have ended.
 abbrev pub IsWellFormed : List ℕ → Type 0
-IsWellFormed bytes = (ids : List (List ℕ)) × (scan (Some (at Before [] [])) bytes ≡ Some (at Text [] ids))
+IsWellFormed bytes = (fs : List Fact) × Tells fs bytes

@@ -1,10 +1,12 @@
 //! What a picture is drawn of.
 ghost use Rattle.std.specs.Prelude.{◌≡◌, ◌≤◌, length};
 ghost use Rattle.keymap_core.specs.Borne.{is_upper_live as is_upper_live_of};
+ghost use Rattle.keymap_core.specs.Bounds.{IsMap};
 
 use crate::board::Board;
 use keymap_check::{Finding, Report};
 use keymap_core::KeyMap;
+use keymap_core::laws::every_keymap_is_within_the_bounds;
 use std::marker::Model;
 
 /// A keymap with the findings of its check, on a board.
@@ -19,13 +21,15 @@ pub(crate) struct Drawing<'m> {
 impl<'m> Model for Drawing<'m> {
     ghost use Rattle.std.specs.Prelude.{◌≡◌, ◌≤◌, length};
     ghost use Rattle.keymap_core.specs.Borne.{is_upper_live as is_upper_live_of};
+    ghost use Rattle.keymap_core.specs.Bounds.{IsMap};
     ghost use Rattle.keymap_draw.specs.Drawings.{Drawing as DrawingValue};
 
     ghost Value = { DrawingValue };
 
     ghost view = { λ d. record { map = d.map.now; findings = d.findings.now; board = d.board } };
 
-    ghost invariant = { λ d. (length d.findings.now ≤ 128)
+    ghost invariant = { λ d. IsMap d.map.now
+        × (length d.findings.now ≤ 128)
         × (d.is_upper_live ≡ is_upper_live_of d.map.now) };
 }
 
@@ -33,6 +37,7 @@ impl<'m> Drawing<'m> {
     pub(crate) fn new(map: &'m KeyMap, report: &'m Report, board: Board) -> Drawing<'m>
         ensures { result ≡ record { map = map.now; findings = report.now.findings; board = board } }
     {
+        every_keymap_is_within_the_bounds(map);
         Drawing {
             map,
             findings: report.findings().as_slice(),
@@ -42,7 +47,8 @@ impl<'m> Drawing<'m> {
     }
 
     pub(crate) fn map(&self) -> &KeyMap
-        ensures { result.now ≡ self.now.map }
+        ensures map { result.now ≡ self.now.map }
+        ensures bounds { IsMap result.now }
     {
         self.map
     }

@@ -1,20 +1,22 @@
 //! The drawing of one half of the slots: its headline, its board, and the keys that the board doesn't have.
-ghost use Rattle.std.specs.Prelude.{◌≡◌, ◌++◌, ◌+◌, ◌≤◌, ◌<◌, ◌^◌, OnOk, length};
-ghost use Rattle.std.specs.List.{flat_map};
+ghost use Rattle.std.specs.Prelude.{◌≡◌, ◌++◌, ◌≤◌, ◌<◌, ◌^◌, IfOk, length, true};
+ghost use Rattle.std.specs.List.{flat_map, list_all};
 ghost use Rattle.keymap_draw.specs.Halves as spec;
-ghost use Rattle.keymap_draw.specs.Markup.{numbered};
+ghost use Rattle.keymap_draw.specs.Facts.{numbered};
+ghost use Rattle.keymap_draw.specs.Sheets.{is_inner};
 
 use crate::board::{ISO, Row, Shape};
 use crate::drawing::Drawing;
 use crate::key::{is_blank_entry, push_key};
-use crate::markup::{Added, push_one, push_two};
+use crate::sheet::{Sheet, adorn, digits};
 use crate::words::{
-    IS_ACCEPTED, IS_LOWER, KEY_CODE, LOWER_HALF, MORE_FINDINGS, ONE_FINDING, OTHER_KEYS, PANEL,
+    IS_ACCEPTED, KEY_CODE, KEYMAP, LOWER_HALF, MORE_FINDINGS, ONE_FINDING, OTHER_KEYS, PANEL,
     SAMPLE, SLOT, UPPER_HALF,
 };
 use arrayvec::ArrayVec;
 use keymap_core::{KEY_COUNT, push_if};
-use messages::{either, fill, number};
+use messages::either;
+use std::alloc::AllocError;
 
 /// A half of the slots: 0 to 127, or 128 to 255.
 #[derive(Clone, Copy)]
@@ -37,37 +39,42 @@ impl Half {
     }
 }
 
-#[tactic(auto, unfolding(crate::specs::Halves::row_key))]
-fn push_row(text: &mut Vec<u8>, drawing: &Drawing, half: Half, y: u32, row: &Row) -> Added
+/// Adds the key that the board has in place of one of the ISO board, where it has one.
+fn push_row(
+    sheet: Sheet,
+    drawing: &Drawing,
+    half: Half,
+    y: u32,
+    row: &Row,
+) -> Result<Sheet, AllocError>
     requires { y < 2 ^ 16 }
-    ensures { OnOk result (text.new.items ≡ text.old.items ++ spec.row_key drawing.now half y row.now) }
-{
-    let x = 28 + u32::from(row.1);
-    let y = y + 12 + u32::from(row.2);
-    push_key(text, drawing, half.slot(row.0), x, y, row.3)
-}
-
-/// Adds what the board has in place of a row of the ISO board.
-#[tactic(auto, unfolding(crate::specs::Halves::board_row))]
-fn push_board_row(text: &mut Vec<u8>, drawing: &Drawing, half: Half, y: u32, row: &Row) -> Added
-    requires { y < 2 ^ 16 }
-    ensures { OnOk result (text.new.items ≡ text.old.items ++ spec.board_row drawing.now half y row.now) }
+    ensures { IfOk result (λ s. s ≡ sheet ++ spec.board_row drawing.now half y row.now) }
 {
     match drawing.board().row(*row) {
-        Some(row) => push_row(text, drawing, half, y, &row),
-        None => Ok(()),
+        Some(row) => {
+            let x = 28 + u32::from(row.1);
+            let y = y + 12 + u32::from(row.2);
+            push_key(sheet, drawing, half.slot(row.0), x, y, row.3)
+        }
+        None => Ok(sheet),
     }
 }
 
-fn push_board_rows(text: &mut Vec<u8>, drawing: &Drawing, half: Half, y: u32, rows: &[Row]) -> Added
+fn push_rows(
+    sheet: Sheet,
+    drawing: &Drawing,
+    half: Half,
+    y: u32,
+    rows: &[Row],
+) -> Result<Sheet, AllocError>
     requires { y < 2 ^ 16 }
-    ensures { OnOk result (text.new.items
-        ≡ text.old.items ++ flat_map (spec.board_row drawing.now half y) rows.now) }
+    ensures { IfOk result (λ s. s ≡ sheet ++ flat_map (spec.board_row drawing.now half y) rows.now) }
 {
+    let mut sheet = sheet;
     for row in rows {
-        push_board_row(text, drawing, half, y, row)?;
+        sheet = push_row(sheet, drawing, half, y, row)?;
     }
-    Ok(())
+    Ok(sheet)
 }
 
 /// Whether the key isn't on the board and its slot isn't blank.
@@ -92,50 +99,44 @@ pub(crate) fn other_keys(drawing: &Drawing, half: Half) -> ArrayVec<u8, KEY_COUN
 }
 
 /// Adds a key that the board doesn't have, at its place of the rows.
-#[tactic(auto, unfolding(crate::specs::Halves::other_key))]
 fn push_other_key(
-    text: &mut Vec<u8>,
+    sheet: Sheet,
     drawing: &Drawing,
     half: Half,
     y: u32,
     place: u32,
     key: u8,
-) -> Added
+) -> Result<Sheet, AllocError>
     requires low { y < 2 ^ 16 }
     requires few { place ≤ 128 }
-    ensures { OnOk result (text.new.items ≡ text.old.items ++ spec.other_key drawing.now half y place key) }
+    ensures { IfOk result (λ s. s ≡ sheet ++ spec.other_key drawing.now half y place key) }
 {
     let x = 28 + place % 22 * 64;
     let y = y + 26 + place / 22 * 64;
-    push_key(text, drawing, half.slot(key), x, y, Shape::A)
+    push_key(sheet, drawing, half.slot(key), x, y, Shape::A)
 }
 
-/// Adds the keys that the board doesn't have.
-fn push_other_keys(text: &mut Vec<u8>, drawing: &Drawing, half: Half, y: u32, keys: &[u8]) -> Added
+/// Adds the keys that the board doesn't have, below a line, if there are any.
+fn push_other_keys(
+    sheet: Sheet,
+    drawing: &Drawing,
+    half: Half,
+    y: u32,
+    keys: &[u8],
+) -> Result<Sheet, AllocError>
     requires low { y < 2 ^ 16 }
     requires few { length keys.now ≤ 128 }
-    ensures { OnOk result (text.new.items
-        ≡ text.old.items ++ numbered (spec.other_key drawing.now half y) 0 keys.now) }
+    ensures { IfOk result (λ s. s ≡ sheet ++ numbered (spec.other_key drawing.now half y) 0 keys.now) }
 {
+    let mut sheet = sheet;
+    if !keys.is_empty() {
+        sheet = adorn(sheet, OTHER_KEYS, &[digits(y + 16).as_slice()])?;
+    }
     for i in 0..keys.len() {
         let key = keys[i];
-        push_other_key(text, drawing, half, y, i as u32, key)?;
+        sheet = push_other_key(sheet, drawing, half, y, i as u32, key)?;
     }
-    Ok(())
-}
-
-/// Adds what stands of the keys that the board doesn't have, if there are any.
-#[tactic(auto, unfolding(crate::specs::Halves::others))]
-fn push_others(text: &mut Vec<u8>, drawing: &Drawing, half: Half, y: u32, keys: &[u8]) -> Added
-    requires low { y < 2 ^ 16 }
-    requires few { length keys.now ≤ 128 }
-    ensures { OnOk result (text.new.items ≡ text.old.items ++ spec.others drawing.now half y keys.now) }
-{
-    if keys.is_empty() {
-        return Ok(());
-    }
-    push_one(text, OTHER_KEYS, y + 16)?;
-    push_other_keys(text, drawing, half, y, keys)
+    Ok(sheet)
 }
 
 /// How high the drawing of a half is, with so many keys that the board doesn't have.
@@ -152,44 +153,35 @@ pub(crate) fn half_height(others: usize) -> u32
 }
 
 /// Adds whether the keymap is accepted, and how many keys the check names.
-fn push_verdict(text: &mut Vec<u8>, y: u32, count: usize) -> Added
-    requires low { y < 2 ^ 16 }
-    requires few { count ≤ 128 }
-    ensures { OnOk result (text.new.items ≡ text.old.items ++ spec.verdict_line y count) }
+fn push_verdict(sheet: Sheet, y: u32, count: u32) -> Result<Sheet, AllocError>
+    ensures { IfOk result (λ s. s ≡ sheet) }
 {
+    let high = digits(y);
     match count {
-        0 => push_one(text, IS_ACCEPTED, y),
-        1 => push_two(text, ONE_FINDING, y, 1),
-        _ => push_two(text, MORE_FINDINGS, y, count as u32),
+        0 => adorn(sheet, IS_ACCEPTED, &[high.as_slice()]),
+        1 => adorn(sheet, ONE_FINDING, &[high.as_slice()]),
+        _ => adorn(sheet, MORE_FINDINGS, &[high.as_slice(), digits(count).as_slice()]),
     }
 }
 
-#[tactic(auto, unfolding(crate::specs::Halves::lower_headline))]
-fn push_lower_headline(text: &mut Vec<u8>, drawing: &Drawing, y: u32) -> Added
-    requires { y < 2 ^ 16 }
-    ensures { OnOk result (text.new.items ≡ text.old.items ++ spec.lower_headline drawing.now y) }
-{
-    let high = number(u64::from(y));
-    let half = either(drawing.is_upper_live(), IS_LOWER, b"");
-    fill(text, LOWER_HALF, &[high.as_slice(), half])?;
-    push_verdict(text, y, drawing.findings().len())
-}
-
 /// Adds the headline of a half.
-#[tactic(auto, unfolding(crate::specs::Halves::headline))]
-fn push_headline(text: &mut Vec<u8>, drawing: &Drawing, half: Half, y: u32) -> Added
-    requires { y < 2 ^ 16 }
-    ensures { OnOk result (text.new.items ≡ text.old.items ++ spec.headline drawing.now half y) }
+fn push_headline(sheet: Sheet, drawing: &Drawing, half: Half, y: u32) -> Result<Sheet, AllocError>
+    ensures { IfOk result (λ s. s ≡ sheet) }
 {
+    let high = digits(y);
     match half {
-        Half::Lower => push_lower_headline(text, drawing, y),
-        Half::Upper => push_one(text, UPPER_HALF, y),
+        Half::Lower => {
+            let words = either(drawing.is_upper_live(), LOWER_HALF, KEYMAP);
+            let sheet = adorn(sheet, words, &[high.as_slice()])?;
+            push_verdict(sheet, y, drawing.findings().len() as u32)
+        }
+        Half::Upper => adorn(sheet, UPPER_HALF, &[high.as_slice()]),
     }
 }
 
 /// What the number of a key is.
-fn number_name(half: Half) -> &'static [u8]
-    ensures { result.now ≡ spec.number_name half }
+fn number_name<'a>(half: Half) -> &'a [u8]
+    ensures { list_all is_inner result.now ≡ true }
 {
     match half {
         Half::Lower => KEY_CODE,
@@ -197,39 +189,22 @@ fn number_name(half: Half) -> &'static [u8]
     }
 }
 
-/// Adds the key that shows where the legends stand.
-fn push_sample(text: &mut Vec<u8>, half: Half, y: u32) -> Added
-    ensures { OnOk result (text.new.items ≡ text.old.items ++ spec.sample half y) }
-{
-    let y = number(u64::from(y));
-    fill(text, SAMPLE, &[y.as_slice(), number_name(half)])
-}
-
-/// Adds the panel of a half, with the keys of the board.
-#[tactic(auto, unfolding(crate::specs::Halves::panel))]
-fn push_panel(text: &mut Vec<u8>, drawing: &Drawing, half: Half, y: u32) -> Added
-    requires { y < 2 ^ 16 }
-    ensures { OnOk result (text.new.items ≡ text.old.items ++ spec.panel drawing.now half y) }
-{
-    push_one(text, PANEL, y)?;
-    push_board_rows(text, drawing, half, y, &ISO)?;
-    push_sample(text, half, y + 12)
-}
-
 /// Adds the drawing of a half, from y on, with the keys that the board doesn't have.
-#[tactic(auto, unfolding(crate::specs::Halves::half_drawing))]
+#[tactic(auto, unfolding(crate::specs::Halves::half_facts))]
 pub(crate) fn push_half(
-    text: &mut Vec<u8>,
+    sheet: Sheet,
     drawing: &Drawing,
     half: Half,
     keys: &[u8],
     y: u32,
-) -> Added
+) -> Result<Sheet, AllocError>
     requires low { y < 2 ^ 15 }
     requires few { length keys.now ≤ 128 }
-    ensures { OnOk result (text.new.items ≡ text.old.items ++ spec.half_drawing drawing.now half keys.now y) }
+    ensures { IfOk result (λ s. s ≡ sheet ++ spec.half_facts drawing.now half keys.now y) }
 {
-    push_headline(text, drawing, half, y + 26)?;
-    push_panel(text, drawing, half, y + 40)?;
-    push_others(text, drawing, half, y + 472, keys)
+    let sheet = push_headline(sheet, drawing, half, y + 26)?;
+    let sheet = adorn(sheet, PANEL, &[digits(y + 40).as_slice()])?;
+    let sheet = push_rows(sheet, drawing, half, y + 40, &ISO)?;
+    let sheet = adorn(sheet, SAMPLE, &[digits(y + 52).as_slice(), number_name(half)])?;
+    push_other_keys(sheet, drawing, half, y + 472, keys)
 }

@@ -1,18 +1,25 @@
 //! One key of the picture: its cap, its code and its legends. Its title is its line of the printed form.
-ghost use Rattle.std.specs.Prelude.{◌≡◌, ◌++◌, ◌∷◌, [], OnOk, option_copied};
+ghost use Rattle.std.specs.Prelude.{◌≡◌, ◌++◌, ◌∷◌, [], true, OnOk, IfOk, option_copied, option_to_list};
+ghost use Rattle.std.specs.List.{list_all};
+ghost use Rattle.keymap_core.specs.Bounds.{IsCell};
+ghost use Rattle.keymap_core.specs.Maps.{entry_at};
 ghost use Rattle.keymap_draw.specs.Keys as spec;
+ghost use Rattle.keymap_draw.specs.Places.{is_class};
+ghost use Rattle.keymap_draw.specs.Sheets.{is_inner};
 
 use crate::board::Shape;
 use crate::drawing::Drawing;
 use crate::drawn::{DrawnCells, drawn, is_blank, stands_alone};
 use crate::legend::{cell_legend, is_word};
-use crate::markup::{Added, push_class, push_escaped, push_text, push_two};
+use crate::markup::{Added, push_characters, push_escaped, push_group, push_text_begin};
 use crate::place::{Column, code_x, legend_classes, legend_x, legend_y};
-use crate::words::{BOTH, CAP, CAPS, GROUP, GROUP_END, NUM, TITLE, TITLE_END, TRANSLATE};
+use crate::sheet::{KeySheet, Sheet, digits};
+use crate::words::{BOTH, CAP, CAPS, CODE, GROUP_END, NUM, TEXT_END};
 use keymap_check::{Finding, finding_words};
 use keymap_core::{Action, Cell, Entry, KEY_COUNT, KeyMap, LockFlag};
 use keymap_text::slot_words;
-use messages::{fill, number, small};
+use messages::fill;
+use std::alloc::AllocError;
 
 /// The finding of a key, if the check names it.
 fn finding_of(findings: &[Finding], key: u8) -> Option<&Finding>
@@ -53,7 +60,8 @@ pub(crate) fn is_blank_entry(entry: &Entry) -> bool
 /// The class for the colour of a key.
 #[tactic(auto, unfolding(crate::specs::Keys::key_class))]
 fn key_class(findings: &[Finding], slot: u8, entry: &Entry) -> Option<u8>
-    ensures { result ≡ spec.key_class findings.now slot entry.now }
+    ensures value { result ≡ spec.key_class findings.now slot entry.now }
+    ensures class { list_all is_class (option_to_list result) ≡ true }
 {
     let base = &entry.cells()[0];
     if finding_of(findings, slot % KEY_COUNT as u8).is_some() {
@@ -67,16 +75,6 @@ fn key_class(findings: &[Finding], slot: u8, entry: &Entry) -> Option<u8>
     } else {
         None
     }
-}
-
-/// Begins the group of a key.
-#[tactic(auto, unfolding(crate::specs::Keys::group))]
-fn push_group(text: &mut Vec<u8>, class: Option<u8>, x: u32, y: u32) -> Added
-    ensures { OnOk result (text.new.items ≡ text.old.items ++ spec.group class x y) }
-{
-    text.extend_from_slice(GROUP)?;
-    push_class(text, class)?;
-    push_two(text, TRANSLATE, x, y)
 }
 
 /// Adds what the check says of the key in a line of its own, if it names it.
@@ -93,19 +91,10 @@ fn push_finding_line(text: &mut Vec<u8>, findings: &[Finding], key: u8) -> Added
     }
 }
 
-#[tactic(auto, unfolding(crate::specs::Keys::title))]
-fn push_title(text: &mut Vec<u8>, findings: &[Finding], slot: u8, entry: &Entry) -> Added
-    ensures { OnOk result (text.new.items ≡ text.old.items ++ spec.title findings.now slot entry.now) }
-{
-    text.extend_from_slice(TITLE)?;
-    push_finding_line(text, findings, slot % KEY_COUNT as u8)?;
-    push_escaped(text, slot_words(slot, entry).as_slice())?;
-    text.extend_from_slice(TITLE_END)
-}
-
 /// A blank and the letter of the locks, where one flips the key.
 fn flag_words(flag: LockFlag) -> &'static [u8]
-    ensures { result.now ≡ spec.flag_words flag }
+    ensures words { result.now ≡ spec.flag_words flag }
+    ensures inner { list_all is_inner result.now ≡ true }
 {
     match flag {
         LockFlag::O => b"",
@@ -115,100 +104,145 @@ fn flag_words(flag: LockFlag) -> &'static [u8]
     }
 }
 
-/// Adds the cap and the code of the key.
-fn push_cap(text: &mut Vec<u8>, slot: u8, flag: LockFlag, shape: Shape) -> Added
-    ensures { OnOk result (text.new.items ≡ text.old.items ++ spec.cap slot flag shape) }
-{
-    let x = number(u64::from(code_x(shape)));
-    let y = number(u64::from(shape.height() - 7));
-    let told = small(slot);
-    let letter = [shape.letter()];
-    fill(
-        text,
-        CAP,
-        &[
-            &letter,
-            x.as_slice(),
-            y.as_slice(),
-            told.as_slice(),
-            flag_words(flag),
-        ],
-    )
-}
-
-/// Adds the legend of a cell.
-#[tactic(auto, unfolding(crate::specs::Keys::legend))]
-fn push_legend(
-    text: &mut Vec<u8>,
-    map: &KeyMap,
-    shape: Shape,
-    column: Column,
-    cell: &Cell,
-    alone: bool,
-    beside: bool,
-) -> Added
-    ensures { OnOk result (text.new.items
-        ≡ text.old.items ++ spec.legend map.now shape column alone beside cell.now) }
-{
-    let legend = cell_legend(cell);
-    let legend = legend.as_slice();
-    let tight = beside && shape.width() < 112;
-    let classes = legend_classes(map, column, cell, legend, alone, tight);
-    let x = legend_x(shape, column, alone);
-    let y = legend_y(shape, column, alone, is_word(legend));
-    push_text(text, x, y, classes.as_slice(), legend)
-}
-
-/// Adds the legend of a column, if its cell is drawn.
-fn push_drawn(
-    text: &mut Vec<u8>,
-    map: &KeyMap,
-    shape: Shape,
-    cells: &DrawnCells,
-    alone: bool,
-    column: Column,
-) -> Added
-    ensures { OnOk result (text.new.items
-        ≡ text.old.items ++ spec.drawn_legend map.now shape alone cells.now column) }
-{
-    let beside = cells.cell(column.beside()).is_some();
-    match cells.cell(column) {
-        Some(cell) => push_legend(text, map, shape, column, &cell, alone, beside),
-        None => Ok(()),
-    }
-}
-
-/// Adds the legends of a slot.
-#[tactic(auto, unfolding(crate::specs::Keys::legends))]
-fn push_legends(text: &mut Vec<u8>, map: &KeyMap, shape: Shape, entry: &Entry) -> Added
-    ensures { OnOk result (text.new.items ≡ text.old.items ++ spec.legends map.now shape entry.now) }
-{
-    let cells = drawn(entry);
-    let alone = stands_alone(entry);
-    push_drawn(text, map, shape, &cells, alone, Column::Base)?;
-    push_drawn(text, map, shape, &cells, alone, Column::Shift)?;
-    push_drawn(text, map, shape, &cells, alone, Column::Alt)?;
-    push_drawn(text, map, shape, &cells, alone, Column::AltShift)
-}
-
-/// Adds the key of a slot at a place.
-pub(crate) fn push_key(
-    text: &mut Vec<u8>,
+/// Adds the group of a key of a slot at a place, its title and its cap.
+fn begin_key(
+    sheet: Sheet,
     drawing: &Drawing,
     slot: u8,
     x: u32,
     y: u32,
     shape: Shape,
-) -> Added
-    ensures { OnOk result (text.new.items ≡ text.old.items ++ spec.key drawing.now slot x y shape) }
+) -> Result<KeySheet, AllocError>
+    ensures { IfOk result (λ s. s
+        ≡ sheet ++ spec.cap drawing.now.findings slot x y shape (entry_at drawing.now.map slot)) }
+{
+    let Sheet { mut text } = sheet;
+    let entry = drawing.map().entry(slot);
+    let findings = drawing.findings();
+    push_group(&mut text, key_class(findings, slot, entry), x, y)?;
+    push_finding_line(&mut text, findings, slot % KEY_COUNT as u8)?;
+    push_escaped(&mut text, slot_words(slot, entry).as_slice())?;
+    fill(&mut text, CAP, &[&[shape.letter()]])?;
+    Ok(KeySheet { text })
+}
+
+/// Adds the code of the key on its cap.
+fn push_code(
+    sheet: KeySheet,
+    slot: u8,
+    flag: LockFlag,
+    shape: Shape,
+) -> Result<KeySheet, AllocError>
+    ensures { IfOk result (λ s. s ≡ sheet ++ spec.code slot flag shape ∷ []) }
+{
+    let KeySheet { mut text } = sheet;
+    let x = digits(code_x(shape));
+    let y = digits(shape.height() - 7);
+    let code = digits(u32::from(slot));
+    fill(&mut text, CODE, &[x.as_slice(), y.as_slice(), code.as_slice(), flag_words(flag)])?;
+    Ok(KeySheet { text })
+}
+
+/// For the prover alone: to read a cell tells the bounds of what stands in it.
+fn read_cell(cell: &Cell)
+    ensures { IsCell cell.now }
+{
+    match cell {
+        Cell::Char(c) => {
+            let _ = *c as u32;
+        }
+        Cell::Act(action) => {
+            let _ = action.code();
+        }
+    }
+}
+
+/// Adds the legend of a cell.
+fn push_legend(
+    sheet: KeySheet,
+    map: &KeyMap,
+    shape: Shape,
+    column: Column,
+    cell: &Cell,
+    alone: bool,
+    tight: bool,
+) -> Result<KeySheet, AllocError>
+    ensures { IfOk result (λ s. s ≡ sheet ++ spec.legend shape column alone cell.now ∷ []) }
+{
+    read_cell(cell);
+    let KeySheet { mut text } = sheet;
+    let legend = cell_legend(cell);
+    let legend = legend.as_slice();
+    let classes = legend_classes(map, column, cell, legend, alone, tight);
+    let x = legend_x(shape, column, alone);
+    let y = legend_y(shape, column, alone, is_word(legend));
+    push_text_begin(&mut text, x, y, classes.as_slice())?;
+    push_characters(&mut text, legend)?;
+    text.extend_from_slice(TEXT_END)?;
+    Ok(KeySheet { text })
+}
+
+/// Adds the legend of a column, if its cell is drawn. It is tight where another one stands beside it on a small cap.
+fn push_drawn(
+    sheet: KeySheet,
+    map: &KeyMap,
+    shape: Shape,
+    cells: &DrawnCells,
+    alone: bool,
+    column: Column,
+) -> Result<KeySheet, AllocError>
+    ensures { IfOk result (λ s. s ≡ sheet ++ spec.drawn_legend shape alone cells.now column) }
+{
+    let tight = cells.cell(column.beside()).is_some() && shape.width() < 112;
+    match cells.cell(column) {
+        Some(cell) => push_legend(sheet, map, shape, column, &cell, alone, tight),
+        None => Ok(sheet),
+    }
+}
+
+/// Adds the legends of a slot.
+#[tactic(auto, unfolding(crate::specs::Keys::legends))]
+fn push_legends(
+    sheet: KeySheet,
+    map: &KeyMap,
+    shape: Shape,
+    entry: &Entry,
+) -> Result<KeySheet, AllocError>
+    ensures { IfOk result (λ s. s ≡ sheet ++ spec.legends shape entry.now) }
+{
+    let cells = drawn(entry);
+    let alone = stands_alone(entry);
+    let sheet = push_drawn(sheet, map, shape, &cells, alone, Column::Base)?;
+    let sheet = push_drawn(sheet, map, shape, &cells, alone, Column::Shift)?;
+    let sheet = push_drawn(sheet, map, shape, &cells, alone, Column::Alt)?;
+    push_drawn(sheet, map, shape, &cells, alone, Column::AltShift)
+}
+
+/// Ends the group of a key.
+fn end_key(sheet: KeySheet) -> Result<Sheet, AllocError>
+    ensures { IfOk result (λ s. s ≡ sheet) }
+{
+    let KeySheet { mut text } = sheet;
+    text.extend_from_slice(GROUP_END)?;
+    Ok(Sheet { text })
+}
+
+/// Adds the key of a slot at a place.
+#[tactic(auto, unfolding(crate::specs::Keys::key))]
+pub(crate) fn push_key(
+    sheet: Sheet,
+    drawing: &Drawing,
+    slot: u8,
+    x: u32,
+    y: u32,
+    shape: Shape,
+) -> Result<Sheet, AllocError>
+    ensures { IfOk result (λ s. s ≡ sheet ++ spec.key drawing.now slot x y shape) }
 {
     let map = drawing.map();
     let entry = map.entry(slot);
-    let findings = drawing.findings();
-    push_group(text, key_class(findings, slot, entry), x, y)?;
-    push_title(text, findings, slot, entry)?;
-    push_cap(text, slot, entry.flag, shape)?;
-    push_legends(text, map, shape, entry)?;
-    text.extend_from_slice(GROUP_END)?;
-    Ok(())
+    let sheet = begin_key(sheet, drawing, slot, x, y, shape)?;
+    let sheet = push_code(sheet, slot, entry.flag, shape)?;
+    let sheet = push_legends(sheet, map, shape, entry)?;
+    end_key(sheet)
 }

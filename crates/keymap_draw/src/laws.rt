@@ -1,23 +1,20 @@
 //! Laws of the definitions. No function here does anything.
-ghost use Rattle.std.specs.Prelude.{◌≡◌, ℕ, ◌%◌, ◌<◌, ◌++◌, List, Some, Bool, false, true, All, option_to_list, codes};
+ghost use Rattle.std.specs.Prelude.{◌≡◌, ℕ, ◌%◌, ◌<◌, ◌++◌, List, Some, true, All, codes};
 ghost use Rattle.keymap_core.specs.Accents.{AccentValue};
-ghost use Rattle.keymap_core.specs.Bounds.{IsCell, IsAccent, IsMap};
-ghost use Rattle.keymap_core.specs.Maps.{MapValue};
+ghost use Rattle.keymap_core.specs.Bounds.{IsCell};
 ghost use Rattle.keymap_core.specs.Numbers.{key_count};
 ghost use Rattle.keymap_core.specs.declared.entry.Cell.{Cell as CellValue};
 ghost use Rattle.keymap_core.specs.declared.entry.Entry.{Entry as EntryValue};
 ghost use Rattle.keymap_check.specs.declared.finding.Finding.{Finding as FindingValue};
 ghost use Rattle.keymap_text.specs.Printed.{key_line, slot_words, accent_line, accent_words};
-ghost use Rattle.keymap_draw.specs.declared.board.Board.{Board as BoardValue};
-ghost use Rattle.keymap_draw.specs.declared.place.Column.{Column as ColumnValue};
+ghost use Rattle.keymap_draw.specs.Drawings.{Drawing};
 ghost use Rattle.keymap_draw.specs.Keys.{key_class, names_key, red};
 ghost use Rattle.keymap_draw.specs.Keyboards.{BoardsAreKeyboards, EachKeyOnce, NoTwoOverlap, AllLieOnThePanel};
 ghost use Rattle.keymap_draw.specs.Letters.{PairsAreLetters, CapitalsAreOfOneLetter, LettersHaveOneCapital};
 ghost use Rattle.keymap_draw.specs.Letters.{MarksAreOfTheirAccents};
 ghost use Rattle.keymap_draw.specs.Legends.{cell_legend};
 ghost use Rattle.keymap_draw.specs.Names.{LegendsAreNames, NoOthersAreNamed};
-ghost use Rattle.keymap_draw.specs.Pictures.{picture_with};
-ghost use Rattle.keymap_draw.specs.Places.{size_class, legend_classes, IsClass};
+ghost use Rattle.keymap_draw.specs.Pictures.{IsPicture};
 ghost use Rattle.keymap_draw.specs.Shapes.{CapsAreOfTheirKeys};
 ghost use Rattle.keymap_draw.specs.Titles.{squeezed};
 ghost use Rattle.keymap_draw.specs.Told.{TitlesTell, PicturesTellDefinitions, PicturesTellKeymaps};
@@ -35,14 +32,12 @@ pub fn red_caps_are_findings()
 /// its own end tag, with a few attributes, none twice. No two ids are the same, and each link leads to an id that
 /// stands before it. `]]>` stands in no text. So nothing of a keymap can begin an element, an attribute or a link.
 pub fn pictures_are_well_formed()
-    ensures { (m : MapValue) (fs : List FindingValue) (board : BoardValue) → IsMap m
-        → IsWellFormed (picture_with m fs board) }
+    ensures { (d : Drawing) (bytes : List ℕ) → IsPicture d bytes → IsWellFormed bytes }
 {}
 
 /// Each byte of a picture is LF or a printable character of ASCII.
 pub fn pictures_are_plain()
-    ensures { (m : MapValue) (fs : List FindingValue) (board : BoardValue) → IsMap m
-        → All IsPlain (picture_with m fs board) }
+    ensures { (d : Drawing) (bytes : List ℕ) → IsPicture d bytes → All IsPlain bytes }
 {}
 
 /// Each character of a legend is one that XML 1.0 allows, and no control character, whether it stands as it is or by a
@@ -51,17 +46,7 @@ pub fn legends_are_shown()
     ensures shown { (cell : CellValue) → IsCell cell → All IsShown (cell_legend cell) }
     ensures seen { (cell : CellValue) → IsCell cell → All IsSeen (cell_legend cell) }
     ensures key { (slot : ℕ) (e : EntryValue) → slot < 256 → All IsCell e.cells → All IsSeen (slot_words slot e) }
-    ensures accent { (i : ℕ) (accent : AccentValue) → IsAccent accent → All IsSeen (accent_words i accent) }
-{}
-
-/// The classes of a key, of a legend and of a character of an accent are letters out of a fixed list, whatever the
-/// keymap is.
-pub fn classes_are_of_a_list()
-    ensures key { (fs : List FindingValue) (slot : ℕ) (e : EntryValue)
-        → All IsClass (option_to_list (key_class fs slot e)) }
-    ensures legend { (m : MapValue) (column : ColumnValue) (cell : CellValue) (legend : List ℕ) (alone tight : Bool)
-        → All IsClass (legend_classes m column cell legend alone tight) }
-    ensures accent { (legend : List ℕ) → All IsClass (option_to_list (size_class legend false true)) }
+    ensures accent { (i : ℕ) (accent : AccentValue) → All IsSeen (accent_words i accent) }
 {}
 
 /// What the title of a key tells is its line of the printed form with one blank between its words, and what that of an
@@ -72,8 +57,8 @@ pub fn titles_are_printed_lines()
     ensures accent { (i : ℕ) (accent : AccentValue) → accent_line i accent ≡ accent_words i accent ++ codes "\n" }
 {}
 
-/// A picture tells its keymap: the titles that stand in its bytes are those of the definitions that it tells, in their
-/// order. So two keymaps with one picture are the same in each slot that it shows, and in each accent that has a
+/// A picture tells its keymap: the titles that are read in its bytes are those of the definitions that it tells, in
+/// their order. So two keymaps with one picture are the same in each slot that it shows, and in each accent that has a
 /// character. A slot of a half that is drawn is shown if its key is on the board or it isn't blank.
 pub fn pictures_tell_keymaps()
     ensures titles { TitlesTell }

@@ -23,6 +23,7 @@ mod legend;
 mod lists;
 mod markup;
 mod place;
+mod sheet;
 mod tables;
 mod whole;
 mod words;

@@ -1,20 +1,21 @@
 //! What stands below the keys: the findings of the check, the accents, and the dead keys without one.
-ghost use Rattle.std.specs.Prelude.{◌≡◌, ◌++◌, ◌+◌, ◌*◌, ◌≤◌, ◌<◌, ◌^◌, OnOk, All, length};
-ghost use Rattle.keymap_core.specs.Maps.{accent_at};
+ghost use Rattle.std.specs.Prelude.{◌≡◌, ◌++◌, ◌≤◌, ◌<◌, ◌^◌, IfOk, All, length, true};
+ghost use Rattle.std.specs.List.{list_all};
 ghost use Rattle.keymap_core.specs.Numbers.{accent_limit};
+ghost use Rattle.keymap_draw.specs.Facts.{numbered};
 ghost use Rattle.keymap_draw.specs.Lists as spec;
-ghost use Rattle.keymap_draw.specs.Markup.{numbered};
+ghost use Rattle.keymap_draw.specs.Places.{is_class};
+ghost use Rattle.keymap_draw.specs.Sheets.{is_inner};
 
 use crate::drawing::Drawing;
 use crate::half::Half;
-use crate::legend::{Legend, character_legend, marked};
-use crate::markup::{
-    Added, push_characters, push_class, push_escaped, push_one, push_open, push_text, push_two,
-};
+use crate::legend::{character_legend, marked};
+use crate::markup::{push_characters, push_composed_begin, push_escaped};
 use crate::place::{own_of, size_class};
+use crate::sheet::{RowSheet, Sheet, TableSheet, adorn, digits};
 use crate::tables::ACCENT_MARKS;
 use crate::words::{
-    ACCENT, ACCENT_ROW, ACCENTS, BASES, COMPOSED, FINDINGS, GROUP_END, LISTED_FINDING, RESULTS,
+    ACCENT, ACCENT_ROW, ACCENTS, BASES, FINDINGS, GROUP_END, LISTED_FINDING, NAME, RESULTS, SIGN,
     SILENT, TABLE_END, TEXT_END,
 };
 use arrayvec::ArrayVec;
@@ -23,56 +24,47 @@ use keymap_core::{
     ACCENT_LIMIT, Accent, AccentIndex, Action, Cell, Entry, KEY_COUNT, KeyMap, push_if,
 };
 use keymap_text::accent_words;
-use messages::{fill, number};
+use messages::{Line, fill};
+use std::alloc::AllocError;
 
 /// The accents by their indexes.
 pub(crate) type Accents = ArrayVec<u8, ACCENT_LIMIT>;
 
-/// Adds what the check says of a key, at its place of the list.
-#[tactic(auto, unfolding(crate::specs::Lists::listed_finding))]
-fn push_listed_finding(text: &mut Vec<u8>, finding: &Finding, place: u32, y: u32) -> Added
-    requires few { place ≤ 128 }
-    requires low { y < 2 ^ 16 }
-    ensures { OnOk result (text.new.items ≡ text.old.items ++ spec.listed_finding y place finding.now) }
+/// What the check says of a key.
+fn said(finding: &Finding) -> Line
+    ensures { list_all is_inner result.items ≡ true }
 {
-    let x = number(u64::from(28 + place % 2 * 720));
-    let y = number(u64::from(y + 12 + place / 2 * 20));
-    let told = finding_words(finding);
-    let told = [x.as_slice(), y.as_slice(), told.as_slice()];
-    fill(text, LISTED_FINDING, &told)
+    finding_words(finding)
 }
 
-/// Adds what the check says of each key that it names.
-fn push_listed_findings(text: &mut Vec<u8>, findings: &[Finding], y: u32) -> Added
-    requires few { length findings.now ≤ 128 }
-    requires low { y < 2 ^ 16 }
-    ensures { OnOk result (text.new.items ≡ text.old.items ++ numbered (spec.listed_finding y) 0 findings.now) }
-{
-    for i in 0..findings.len() {
-        let finding = findings[i];
-        push_listed_finding(text, &finding, i as u32, y)?;
-    }
-    Ok(())
-}
-
-/// Adds the findings, if there are any.
-#[tactic(auto, unfolding(crate::specs::Lists::findings_list))]
-pub(crate) fn push_findings(text: &mut Vec<u8>, findings: &[Finding], y: u32) -> Added
+/// Adds what the check says of each key that it names, two in a row, if there are any.
+pub(crate) fn push_findings(
+    sheet: Sheet,
+    findings: &[Finding],
+    y: u32,
+) -> Result<Sheet, AllocError>
     requires few { length findings.now ≤ 128 }
     requires low { y < 2 ^ 15 }
-    ensures { OnOk result (text.new.items ≡ text.old.items ++ spec.findings_list findings.now y) }
+    ensures { IfOk result (λ s. s ≡ sheet) }
 {
     if findings.is_empty() {
-        return Ok(());
+        return Ok(sheet);
     }
-    push_one(text, FINDINGS, y + 26)?;
-    push_listed_findings(text, findings, y + 40)
+    let mut sheet = adorn(sheet, FINDINGS, &[digits(y + 26).as_slice()])?;
+    for i in 0..findings.len() {
+        let place = i as u32;
+        let x = digits(28 + place % 2 * 720);
+        let y = digits(y + 52 + place / 2 * 20);
+        let words = said(&findings[i]);
+        let texts = [x.as_slice(), y.as_slice(), words.as_slice()];
+        sheet = adorn(sheet, LISTED_FINDING, &texts)?;
+    }
+    Ok(sheet)
 }
 
 pub(crate) fn findings_height(count: usize) -> u32
     requires { count ≤ 128 }
-    ensures value { result ≡ spec.findings_height count }
-    ensures low { result ≤ 1328 }
+    ensures { result ≤ 1328 }
 {
     if count == 0 {
         0
@@ -101,146 +93,163 @@ pub(crate) fn named_accents(map: &KeyMap) -> Accents
     accents
 }
 
-/// Adds a character of an accent, at its place of a row.
-#[tactic(auto, unfolding(crate::specs::Lists::composed))]
-fn push_composed(text: &mut Vec<u8>, place: u32, c: char) -> Added
+/// Adds a character of an accent, at its place of a line of its table.
+fn push_composed(sheet: TableSheet, place: u32, c: char) -> Result<TableSheet, AllocError>
     requires { place ≤ 52 }
-    ensures { OnOk result (text.new.items ≡ text.old.items ++ spec.composed place c) }
+    ensures { IfOk result (λ s. s ≡ sheet) }
 {
+    let TableSheet { mut text } = sheet;
     let legend = character_legend(c);
-    push_one(text, COMPOSED, 12 + 25 * place)?;
-    push_class(text, size_class(legend.as_slice(), false, true))?;
-    text.extend_from_slice(b">")?;
-    push_characters(text, legend.as_slice())?;
-    text.extend_from_slice(TEXT_END)
+    let class = size_class(legend.as_slice(), false, true);
+    push_composed_begin(&mut text, 12 + 25 * place, class)?;
+    push_characters(&mut text, legend.as_slice())?;
+    text.extend_from_slice(TEXT_END)?;
+    Ok(TableSheet { text })
 }
 
-/// Adds the base or the result of a pair.
-fn push_part(text: &mut Vec<u8>, results: bool, place: u32, pair: (char, char)) -> Added
-    requires { place < 52 }
-    ensures { OnOk result (text.new.items ≡ text.old.items ++ spec.part results place pair) }
-{
-    push_composed(text, place + 1, if results { pair.1 } else { pair.0 })
-}
-
-/// Adds the bases or the results of the pairs.
-fn push_parts(text: &mut Vec<u8>, results: bool, pairs: &[(char, char)]) -> Added
+/// Adds the bases or the results of the pairs, behind a character that stands first.
+fn push_parts(
+    sheet: TableSheet,
+    first: char,
+    results: bool,
+    pairs: &[(char, char)],
+) -> Result<TableSheet, AllocError>
     requires { length pairs.now ≤ 52 }
-    ensures { OnOk result (text.new.items ≡ text.old.items ++ numbered (spec.part results) 0 pairs.now) }
+    ensures { IfOk result (λ s. s ≡ sheet) }
 {
+    let mut sheet = push_composed(sheet, 0, first)?;
     for i in 0..pairs.len() {
         let pair = pairs[i];
-        push_part(text, results, i as u32, pair)?;
+        sheet = push_composed(sheet, i as u32 + 1, if results { pair.1 } else { pair.0 })?;
     }
-    Ok(())
+    Ok(sheet)
+}
+
+/// Begins the table of an accent, with the line of the bases.
+fn begin_table(sheet: RowSheet) -> Result<TableSheet, AllocError>
+    ensures { IfOk result (λ s. s ≡ sheet) }
+{
+    let RowSheet { mut text } = sheet;
+    text.extend_from_slice(BASES)?;
+    Ok(TableSheet { text })
+}
+
+/// Begins the line of the results.
+fn begin_results(sheet: TableSheet) -> Result<TableSheet, AllocError>
+    ensures { IfOk result (λ s. s ≡ sheet) }
+{
+    let TableSheet { mut text } = sheet;
+    text.extend_from_slice(RESULTS)?;
+    Ok(TableSheet { text })
+}
+
+/// Ends the table and the row of an accent.
+fn end_table(sheet: TableSheet) -> Result<Sheet, AllocError>
+    ensures { IfOk result (λ s. s ≡ sheet) }
+{
+    let TableSheet { mut text } = sheet;
+    text.extend_from_slice(TABLE_END)?;
+    Ok(Sheet { text })
 }
 
 /// Adds the bases above the results, first the blank and the accent's own character.
-fn push_table(text: &mut Vec<u8>, own: char, pairs: &[(char, char)]) -> Added
+fn push_table(
+    sheet: RowSheet,
+    own: char,
+    pairs: &[(char, char)],
+) -> Result<Sheet, AllocError>
     requires { length pairs.now ≤ 52 }
-    ensures { OnOk result (text.new.items ≡ text.old.items ++ spec.table own pairs.now) }
+    ensures { IfOk result (λ s. s ≡ sheet) }
 {
-    text.extend_from_slice(BASES)?;
-    push_composed(text, 0, ' ')?;
-    push_parts(text, false, pairs)?;
-    text.extend_from_slice(RESULTS)?;
-    push_composed(text, 0, own)?;
-    push_parts(text, true, pairs)?;
-    text.extend_from_slice(TABLE_END)?;
-    Ok(())
+    let sheet = begin_table(sheet)?;
+    let sheet = push_parts(sheet, ' ', false, pairs)?;
+    let sheet = begin_results(sheet)?;
+    let sheet = push_parts(sheet, own, true, pairs)?;
+    end_table(sheet)
 }
 
-/// The mark of an accent on a dotted circle.
-fn accent_sign(index: u8) -> Legend
-    requires { index < accent_limit }
-    ensures { result.items ≡ spec.accent_sign index }
-{
-    marked(ACCENT_MARKS[index as usize])
-}
-
-/// Adds the sign and the name of an accent.
-#[tactic(auto, unfolding(crate::specs::Lists::accent_heading))]
-fn push_accent_name(text: &mut Vec<u8>, index: u8, x: u32, letters: &[u8]) -> Added
+/// Adds the sign and the name of an accent, the sign in a class for its colour.
+fn push_heading(sheet: RowSheet, index: u8, x: u32, class: u8) -> Result<RowSheet, AllocError>
     requires known { index < accent_limit }
     requires near { x < 2 ^ 16 }
-    ensures { OnOk result (text.new.items ≡ text.old.items ++ spec.accent_heading index x letters.now) }
+    requires class { is_class class ≡ true }
+    ensures { IfOk result (λ s. s ≡ sheet) }
 {
+    let RowSheet { mut text } = sheet;
     let name = Action::DeadKey(AccentIndex::new(index)).name();
-    push_text(text, x, 35, letters, accent_sign(index).as_slice())?;
-    push_open(text, x + 28, 30, b"l")?;
-    text.extend_from_slice(name.as_slice())?;
-    text.extend_from_slice(TEXT_END)
+    let sign = marked(ACCENT_MARKS[index as usize]);
+    fill(&mut text, SIGN, &[digits(x).as_slice(), &[class]])?;
+    push_characters(&mut text, sign.as_slice())?;
+    fill(&mut text, NAME, &[digits(x + 28).as_slice(), name.as_slice()])?;
+    Ok(RowSheet { text })
 }
 
-/// Adds an accent.
-fn push_accent(text: &mut Vec<u8>, index: u8, accent: &Accent, y: u32) -> Added
+/// Begins the row of an accent with its title, which is its line of the printed form.
+fn begin_accent(
+    sheet: Sheet,
+    index: u8,
+    accent: &Accent,
+    y: u32,
+) -> Result<RowSheet, AllocError>
     requires { index < accent_limit }
-    ensures { OnOk result (text.new.items ≡ text.old.items ++ spec.accent_row index accent.now y) }
+    ensures { IfOk result (λ s. s ≡ sheet ++ spec.accent_title index accent.now) }
 {
-    push_one(text, ACCENT, y)?;
-    push_escaped(text, accent_words(index, accent).as_slice())?;
+    let Sheet { mut text } = sheet;
+    fill(&mut text, ACCENT, &[digits(y).as_slice()])?;
+    push_escaped(&mut text, accent_words(index, accent).as_slice())?;
     text.extend_from_slice(ACCENT_ROW)?;
-    push_accent_name(text, index, 36, b"zcd")?;
-    push_table(text, accent.own(), accent.pairs())?;
-    Ok(())
+    Ok(RowSheet { text })
 }
 
-/// Adds an accent of the map.
-fn push_accent_of(text: &mut Vec<u8>, map: &KeyMap, index: u8, y: u32) -> Added
-    requires { index < accent_limit }
-    ensures { OnOk result (text.new.items
-        ≡ text.old.items ++ spec.some_accent_row index (accent_at map.now index) y) }
-{
-    match map.accent(index) {
-        Some(accent) => push_accent(text, index, accent, y),
-        None => Ok(()),
-    }
-}
-
-/// Adds the row of an accent, at its place of the list.
-#[tactic(auto, unfolding(crate::specs::Lists::listed_accent))]
-fn push_listed_accent(text: &mut Vec<u8>, map: &KeyMap, y: u32, place: u32, index: u8) -> Added
+/// Adds the row of an accent of the map, at its place of the list.
+fn push_accent(
+    sheet: Sheet,
+    map: &KeyMap,
+    y: u32,
+    place: u32,
+    index: u8,
+) -> Result<Sheet, AllocError>
     requires known { index < accent_limit }
     requires low { y < 2 ^ 16 }
     requires few { place ≤ 15 }
-    ensures { OnOk result (text.new.items ≡ text.old.items ++ spec.listed_accent map.now y place index) }
+    ensures { IfOk result (λ s. s ≡ sheet ++ spec.listed_accent map.now place index) }
 {
-    push_accent_of(text, map, index, y + 52 * place)
-}
-
-/// Adds the rows of accents.
-fn push_accent_rows(text: &mut Vec<u8>, map: &KeyMap, accents: &[u8], y: u32) -> Added
-    requires low { y < 2 ^ 16 }
-    requires few { length accents.now ≤ 15 }
-    requires known { All (λ i. i < accent_limit) accents.now }
-    ensures { OnOk result (text.new.items ≡ text.old.items ++ numbered (spec.listed_accent map.now y) 0 accents.now) }
-{
-    for i in 0..accents.len() {
-        let index = accents[i];
-        push_listed_accent(text, map, y, i as u32, index)?;
+    match map.accent(index) {
+        Some(accent) => {
+            let sheet = begin_accent(sheet, index, accent, y + 52 * place)?;
+            let sheet = push_heading(sheet, index, 36, b'd')?;
+            push_table(sheet, accent.own(), accent.pairs())
+        }
+        None => Ok(sheet),
     }
-    Ok(())
 }
 
 /// Adds the accents that have a character, if there are any.
-#[tactic(auto, unfolding(crate::specs::Lists::accents_list))]
-pub(crate) fn push_accents(text: &mut Vec<u8>, map: &KeyMap, accents: &[u8], y: u32) -> Added
+pub(crate) fn push_accents(
+    sheet: Sheet,
+    map: &KeyMap,
+    accents: &[u8],
+    y: u32,
+) -> Result<Sheet, AllocError>
     requires low { y < 2 ^ 15 }
     requires few { length accents.now ≤ 15 }
     requires known { All (λ i. i < accent_limit) accents.now }
-    ensures { OnOk result (text.new.items ≡ text.old.items ++ spec.accents_list map.now accents.now y) }
+    ensures { IfOk result (λ s. s ≡ sheet ++ numbered (spec.listed_accent map.now) 0 accents.now) }
 {
-    if accents.is_empty() {
-        return Ok(());
+    let mut sheet = sheet;
+    if !accents.is_empty() {
+        sheet = adorn(sheet, ACCENTS, &[digits(y + 26).as_slice()])?;
     }
-    push_one(text, ACCENTS, y + 26)?;
-    push_accent_rows(text, map, accents, y + 40)
+    for i in 0..accents.len() {
+        let index = accents[i];
+        sheet = push_accent(sheet, map, y + 40, i as u32, index)?;
+    }
+    Ok(sheet)
 }
 
 pub(crate) fn accents_height(count: usize) -> u32
     requires { count ≤ 15 }
-    ensures value { result ≡ spec.accents_height count }
-    ensures low { result ≤ 820 }
+    ensures { result ≤ 820 }
 {
     if count == 0 {
         0
@@ -249,35 +258,17 @@ pub(crate) fn accents_height(count: usize) -> u32
     }
 }
 
-fn is_dead_key(cell: &Cell, index: u8) -> bool
-    ensures { result ≡ spec.is_dead_key index cell.now }
-{
-    match cell {
+fn has_dead_key(entry: &Entry, index: u8) -> bool {
+    entry.cells().iter().any(|cell| match cell {
         Cell::Act(Action::DeadKey(accent)) => accent.get() == index,
         _ => false,
-    }
-}
-
-#[tactic(auto, unfolding(crate::specs::Lists::has_dead_key))]
-fn has_dead_key(entry: &Entry, index: u8) -> bool
-    ensures { result ≡ spec.has_dead_key index entry.now }
-{
-    entry.cells().iter().any(|cell| is_dead_key(cell, index))
-}
-
-fn slot_bears_dead_key(map: &KeyMap, half: Half, index: u8, key: u8) -> bool
-    ensures { result ≡ spec.slot_bears_dead_key map.now half index key }
-{
-    has_dead_key(map.entry(half.slot(key)), index)
+    })
 }
 
 /// Whether a slot of the half bears the dead key of an accent.
-#[tactic(auto, unfolding(crate::specs::Lists::bears_dead_key))]
-fn bears_dead_key(map: &KeyMap, half: Half, index: u8) -> bool
-    ensures { result ≡ spec.bears_dead_key map.now half index }
-{
+fn bears_dead_key(map: &KeyMap, half: Half, index: u8) -> bool {
     for key in 0..KEY_COUNT as u8 {
-        if slot_bears_dead_key(map, half, index, key) {
+        if has_dead_key(map.entry(half.slot(key)), index) {
             return true;
         }
     }
@@ -285,10 +276,7 @@ fn bears_dead_key(map: &KeyMap, half: Half, index: u8) -> bool
 }
 
 /// Whether the accent has no character and a drawn half bears its dead key.
-#[tactic(auto, unfolding(crate::specs::Lists::is_silent))]
-fn is_silent(drawing: &Drawing, index: u8) -> bool
-    ensures { result ≡ spec.is_silent drawing.now.map index }
-{
+fn is_silent(drawing: &Drawing, index: u8) -> bool {
     let map = drawing.map();
     own_of(map, index) == '\0'
         && (bears_dead_key(map, Half::Lower, index)
@@ -296,9 +284,7 @@ fn is_silent(drawing: &Drawing, index: u8) -> bool
 }
 
 /// The accents without a character whose dead keys are drawn.
-#[tactic(auto, using(crate::proofs::Loops::passing_rules), unfolding(crate::specs::Lists::silent_accents))]
 pub(crate) fn silent_accents(drawing: &Drawing) -> Accents
-    ensures accents { result.items ≡ spec.silent_accents drawing.now.map }
     ensures few { length result.items ≤ 15 }
     ensures known { All (λ i. i < accent_limit) result.items }
 {
@@ -309,46 +295,44 @@ pub(crate) fn silent_accents(drawing: &Drawing) -> Accents
     accents
 }
 
-/// Adds the sign and the name of an accent, at its place of the row.
-fn push_silent_name(text: &mut Vec<u8>, place: u32, index: u8) -> Added
-    requires known { index < accent_limit }
-    requires few { place ≤ 15 }
-    ensures { OnOk result (text.new.items ≡ text.old.items ++ spec.silent_name place index) }
+/// Begins the row of the dead keys without an accent, below a line that says what they are.
+fn begin_silent(sheet: Sheet, y: u32) -> Result<RowSheet, AllocError>
+    requires { y < 2 ^ 15 }
+    ensures { IfOk result (λ s. s ≡ sheet) }
 {
-    push_accent_name(text, index, 36 + 94 * place, b"zce")
+    let Sheet { mut text } = sheet;
+    fill(&mut text, SILENT, &[digits(y + 16).as_slice(), digits(y + 26).as_slice()])?;
+    Ok(RowSheet { text })
 }
 
-fn push_silent_names(text: &mut Vec<u8>, accents: &[u8]) -> Added
-    requires few { length accents.now ≤ 15 }
-    requires known { All (λ i. i < accent_limit) accents.now }
-    ensures { OnOk result (text.new.items ≡ text.old.items ++ numbered spec.silent_name 0 accents.now) }
+fn end_row(sheet: RowSheet) -> Result<Sheet, AllocError>
+    ensures { IfOk result (λ s. s ≡ sheet) }
 {
-    for i in 0..accents.len() {
-        let index = accents[i];
-        push_silent_name(text, i as u32, index)?;
-    }
-    Ok(())
+    let RowSheet { mut text } = sheet;
+    text.extend_from_slice(GROUP_END)?;
+    Ok(Sheet { text })
 }
 
 /// Adds the dead keys without an accent, if there are any.
-#[tactic(auto, unfolding(crate::specs::Lists::silent_list))]
-pub(crate) fn push_silent(text: &mut Vec<u8>, accents: &[u8], y: u32) -> Added
+pub(crate) fn push_silent(sheet: Sheet, accents: &[u8], y: u32) -> Result<Sheet, AllocError>
     requires low { y < 2 ^ 15 }
     requires few { length accents.now ≤ 15 }
     requires known { All (λ i. i < accent_limit) accents.now }
-    ensures { OnOk result (text.new.items ≡ text.old.items ++ spec.silent_list accents.now y) }
+    ensures { IfOk result (λ s. s ≡ sheet) }
 {
     if accents.is_empty() {
-        return Ok(());
+        return Ok(sheet);
     }
-    push_two(text, SILENT, y + 16, y + 26)?;
-    push_silent_names(text, accents)?;
-    text.extend_from_slice(GROUP_END)
+    let mut sheet = begin_silent(sheet, y)?;
+    for i in 0..accents.len() {
+        let index = accents[i];
+        sheet = push_heading(sheet, index, 36 + 94 * i as u32, b'e')?;
+    }
+    end_row(sheet)
 }
 
 pub(crate) fn silent_height(count: usize) -> u32
-    ensures value { result ≡ spec.silent_height count }
-    ensures low { result ≤ 82 }
+    ensures { result ≤ 82 }
 {
     if count == 0 { 0 } else { 82 }
 }

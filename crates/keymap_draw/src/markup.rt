@@ -1,34 +1,15 @@
-//! The parts of the markup: words with numbers, texts with references, classes and text elements.
-ghost use Rattle.std.specs.Prelude.{◌≡◌, ◌++◌, ◌∷◌, [], IsTrue, OnOk, decimal, option_to_list};
+//! The parts of the markup that aren't words alone: texts with references, and begin tags with or without a class.
+ghost use Rattle.std.specs.Prelude.{◌≡◌, ◌++◌, OnOk};
 ghost use Rattle.std.specs.List.{flat_map};
-ghost use Rattle.messages.specs.Filled.{has_places};
 ghost use Rattle.keymap_draw.specs.Markup as spec;
 
-use crate::words::{CLASS, TEXT, TEXT_END};
+use crate::words::{COMPOSED, COMPOSED_OF, GROUP, GROUP_OF, TEXT, TEXT_OF};
 use keymap_core::code_digits;
 use messages::{fill, number};
 use std::alloc::AllocError;
 
 /// Whether something could be added: there may be no memory for it.
 pub(crate) type Added = Result<(), AllocError>;
-
-/// Adds words with a number at their place.
-pub(crate) fn push_one(text: &mut Vec<u8>, words: &[u8], n: u32) -> Added
-    requires { IsTrue (has_places words.now (decimal n ∷ [])) }
-    ensures { OnOk result (text.new.items ≡ text.old.items ++ spec.one words.now n) }
-{
-    fill(text, words, &[number(u64::from(n)).as_slice()])
-}
-
-/// Adds words with a number at each of their two places.
-pub(crate) fn push_two(text: &mut Vec<u8>, words: &[u8], x: u32, y: u32) -> Added
-    requires { IsTrue (has_places words.now (decimal x ∷ decimal y ∷ [])) }
-    ensures { OnOk result (text.new.items ≡ text.old.items ++ spec.two words.now x y) }
-{
-    let x = number(u64::from(x));
-    let y = number(u64::from(y));
-    fill(text, words, &[x.as_slice(), y.as_slice()])
-}
 
 /// Whether the character is written as a reference.
 fn is_referred(c: char) -> bool
@@ -77,65 +58,37 @@ pub(crate) fn push_escaped(text: &mut Vec<u8>, bytes: &[u8]) -> Added
     Ok(())
 }
 
-/// Adds each class with a blank before it.
-fn push_further(text: &mut Vec<u8>, letters: &[u8]) -> Added
-    ensures { OnOk result (text.new.items ≡ text.old.items ++ flat_map spec.further_class letters.now) }
+/// Adds the begin of a key, up to its title.
+pub(crate) fn push_group(text: &mut Vec<u8>, class: Option<u8>, x: u32, y: u32) -> Added
+    ensures { OnOk result (text.new.items ≡ text.old.items ++ spec.group class x y) }
 {
-    for letter in letters {
-        text.extend_from_slice(&[b' ', *letter])?;
-    }
-    Ok(())
-}
-
-/// Adds the attribute of classes, each of which is a letter, or nothing where there is none.
-#[tactic(auto, unfolding(crate::specs::Markup::class_text))]
-pub(crate) fn push_classes(text: &mut Vec<u8>, letters: &[u8]) -> Added
-    ensures { OnOk result (text.new.items ≡ text.old.items ++ spec.class_text letters.now) }
-{
-    match letters.split_first() {
-        None => Ok(()),
-        Some((first, rest)) => {
-            text.extend_from_slice(CLASS)?;
-            text.extend_from_slice(&[*first])?;
-            push_further(text, rest)?;
-            text.extend_from_slice(b"\"")
-        }
-    }
-}
-
-/// Adds the attribute of a class, or nothing where there is none.
-pub(crate) fn push_class(text: &mut Vec<u8>, class: Option<u8>) -> Added
-    ensures { OnOk result (text.new.items ≡ text.old.items ++ spec.class_text (option_to_list class)) }
-{
+    let x = number(u64::from(x));
+    let y = number(u64::from(y));
     match class {
-        Some(letter) => push_classes(text, &[letter]),
-        None => push_classes(text, &[]),
+        None => fill(text, GROUP, &[x.as_slice(), y.as_slice()]),
+        Some(class) => fill(text, GROUP_OF, &[&[class], x.as_slice(), y.as_slice()]),
     }
 }
 
-/// Begins a text element.
-#[tactic(auto, unfolding(crate::specs::Markup::open_text))]
-pub(crate) fn push_open(text: &mut Vec<u8>, x: u32, y: u32, letters: &[u8]) -> Added
-    ensures { OnOk result (text.new.items ≡ text.old.items ++ spec.open_text x y letters.now) }
+/// Adds the begin of a text.
+pub(crate) fn push_text_begin(text: &mut Vec<u8>, x: u32, y: u32, classes: &[u8]) -> Added
+    ensures { OnOk result (text.new.items ≡ text.old.items ++ spec.text_begin x y classes.now) }
 {
-    push_two(text, TEXT, x, y)?;
-    push_classes(text, letters)?;
-    text.extend_from_slice(b">")
+    let x = number(u64::from(x));
+    let y = number(u64::from(y));
+    match classes {
+        [] => fill(text, TEXT, &[x.as_slice(), y.as_slice()]),
+        _ => fill(text, TEXT_OF, &[x.as_slice(), y.as_slice(), classes]),
+    }
 }
 
-/// Adds a text element of characters.
-#[tactic(auto, unfolding(crate::specs::Markup::text_element))]
-pub(crate) fn push_text(
-    text: &mut Vec<u8>,
-    x: u32,
-    y: u32,
-    letters: &[u8],
-    characters: &[char],
-) -> Added
-    ensures { OnOk result (text.new.items
-        ≡ text.old.items ++ spec.text_element x y letters.now characters.now) }
+/// Adds the begin of a character in the table of an accent.
+pub(crate) fn push_composed_begin(text: &mut Vec<u8>, x: u32, class: Option<u8>) -> Added
+    ensures { OnOk result (text.new.items ≡ text.old.items ++ spec.composed_begin x class) }
 {
-    push_open(text, x, y, letters)?;
-    push_characters(text, characters)?;
-    text.extend_from_slice(TEXT_END)
+    let x = number(u64::from(x));
+    match class {
+        None => fill(text, COMPOSED, &[x.as_slice()]),
+        Some(class) => fill(text, COMPOSED_OF, &[x.as_slice(), &[class]]),
+    }
 }

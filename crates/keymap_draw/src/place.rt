@@ -1,7 +1,9 @@
 //! Where texts stand on a cap, and the classes by which the style gives them size, side and colour.
-ghost use Rattle.std.specs.Prelude.{◌≡◌, ◌≤◌, ◌<◌, ◌+◌, ◌++◌, option_to_list};
+ghost use Rattle.std.specs.Prelude.{◌≡◌, ◌≤◌, ◌+◌, true, option_to_list};
+ghost use Rattle.std.specs.List.{list_all};
 ghost use Rattle.arrayvec.specs.ArrayVec.{array_vec_len};
 ghost use Rattle.keymap_draw.specs.Places as spec;
+ghost use Rattle.keymap_draw.specs.Places.{is_class};
 
 use crate::board::Shape;
 use crate::legend::is_word;
@@ -18,12 +20,10 @@ pub(crate) enum Column {
 }
 
 impl Column {
-    ghost use Rattle.keymap_draw.specs.Places.{is_right as is_right_of, is_above as is_above_of, beside_of};
+    ghost use Rattle.keymap_draw.specs.Places.{is_right as is_right_of, is_above as is_above_of};
 
     /// The column beside it.
-    pub(crate) fn beside(self) -> Column
-        ensures { result ≡ beside_of self }
-    {
+    pub(crate) fn beside(self) -> Column {
         match self {
             Column::Base => Column::Alt,
             Column::Shift => Column::AltShift,
@@ -114,15 +114,16 @@ pub(crate) fn legend_y(shape: Shape, column: Column, alone: bool, word: bool) ->
 
 /// The letter for a word of so many characters, of which words of more than eight have the last.
 fn size_by(sizes: &[u8; 7], count: usize) -> u8
-    requires { 2 ≤ count }
-    ensures { result ≡ spec.size_by sizes.now count }
+    requires many { 2 ≤ count }
+    requires classes { list_all is_class sizes.now ≡ true }
+    ensures { is_class result ≡ true }
 {
     sizes[count.min(8) - 2]
 }
 
 /// The class for the size of a legend. One in a corner is tight where another one stands beside it on a small cap.
 pub(crate) fn size_class(legend: &[char], alone: bool, tight: bool) -> Option<u8>
-    ensures { result ≡ spec.size_class legend.now alone tight }
+    ensures { list_all is_class (option_to_list result) ≡ true }
 {
     if !is_word(legend) {
         return if alone { Some(b'z') } else { None };
@@ -138,7 +139,7 @@ pub(crate) fn size_class(legend: &[char], alone: bool, tight: bool) -> Option<u8
 
 /// The class for the side of a legend.
 fn side_class(column: Column, alone: bool) -> Option<u8>
-    ensures { result ≡ spec.side_class column alone }
+    ensures { list_all is_class (option_to_list result) ≡ true }
 {
     if alone {
         Some(b'c')
@@ -161,7 +162,7 @@ pub(crate) fn own_of(map: &KeyMap, index: u8) -> char
 
 /// The class for the kind of a cell.
 fn kind_class(map: &KeyMap, column: Column, cell: &Cell) -> Option<u8>
-    ensures { result ≡ spec.kind_class map.now column cell.now }
+    ensures { list_all is_class (option_to_list result) ≡ true }
 {
     let plain = if column.is_right() { Some(b'a') } else { None };
     match cell {
@@ -179,19 +180,26 @@ fn kind_class(map: &KeyMap, column: Column, cell: &Cell) -> Option<u8>
     }
 }
 
-fn push_some(letters: &mut ArrayVec<u8, 3>, letter: Option<u8>)
-    requires { array_vec_len letters.old + 1 ≤ 3 }
-    ensures items { letters.new.items ≡ letters.old.items ++ option_to_list letter }
-    ensures len { array_vec_len letters.new ≤ array_vec_len letters.old + 1 }
+/// Adds a class, behind a blank where there is one already.
+fn push_class(classes: &mut ArrayVec<u8, 6>, class: Option<u8>)
+    requires room { array_vec_len classes.old + 2 ≤ 6 }
+    requires class { list_all is_class (option_to_list class) ≡ true }
+    requires classes { list_all is_class classes.old.items ≡ true }
+    ensures classes { list_all is_class classes.new.items ≡ true }
+    ensures len { array_vec_len classes.new ≤ array_vec_len classes.old + 2 }
 {
-    match letter {
-        Some(letter) => letters.push(letter),
+    match class {
+        Some(class) => {
+            if !classes.is_empty() {
+                classes.push(b' ');
+            }
+            classes.push(class);
+        }
         None => {}
     }
 }
 
 /// The classes of a legend: for its size, its side and its kind.
-#[tactic(auto, unfolding(crate::specs::Places::legend_classes))]
 pub(crate) fn legend_classes(
     map: &KeyMap,
     column: Column,
@@ -199,12 +207,12 @@ pub(crate) fn legend_classes(
     legend: &[char],
     alone: bool,
     tight: bool,
-) -> ArrayVec<u8, 3>
-    ensures { result.items ≡ spec.legend_classes map.now column cell.now legend.now alone tight }
+) -> ArrayVec<u8, 6>
+    ensures { list_all is_class result.items ≡ true }
 {
-    let mut letters = ArrayVec::new();
-    push_some(&mut letters, size_class(legend, alone, tight));
-    push_some(&mut letters, side_class(column, alone));
-    push_some(&mut letters, kind_class(map, column, cell));
-    letters
+    let mut classes = ArrayVec::new();
+    push_class(&mut classes, size_class(legend, alone, tight));
+    push_class(&mut classes, side_class(column, alone));
+    push_class(&mut classes, kind_class(map, column, cell));
+    classes
 }

@@ -17,10 +17,10 @@ pub(crate) const REFUSED: &[u8] = b"refused";
 pub(crate) const PAGE: &[u8] = b"<rect class=\"page\" width=\"1492\" height=\"{}\"/>\n";
 
 // The headlines of the halves: where they stand, and which half it is or what the check says.
-pub(crate) const LOWER_HALF: &[u8] =
-    b"<text x=\"28\" y=\"{}\" class=\"h\">Console keymap{}</text>\n";
+pub(crate) const KEYMAP: &[u8] = b"<text x=\"28\" y=\"{}\" class=\"h\">Console keymap</text>\n";
 
-pub(crate) const IS_LOWER: &[u8] = b", lower half";
+pub(crate) const LOWER_HALF: &[u8] =
+    b"<text x=\"28\" y=\"{}\" class=\"h\">Console keymap, lower half</text>\n";
 
 pub(crate) const UPPER_HALF: &[u8] =
     b"<text x=\"28\" y=\"{}\" class=\"h\">Upper half: while ashift or alock is on</text>\n";
@@ -29,7 +29,7 @@ pub(crate) const IS_ACCEPTED: &[u8] =
     b"<text x=\"1464\" y=\"{}\" class=\"h r ok\">accepted</text>\n";
 
 pub(crate) const ONE_FINDING: &[u8] =
-    b"<text x=\"1464\" y=\"{}\" class=\"h r no\">refused: {} finding</text>\n";
+    b"<text x=\"1464\" y=\"{}\" class=\"h r no\">refused: 1 finding</text>\n";
 
 pub(crate) const MORE_FINDINGS: &[u8] =
     b"<text x=\"1464\" y=\"{}\" class=\"h r no\">refused: {} findings</text>\n";
@@ -52,20 +52,19 @@ pub(crate) const SLOT: &[u8] = b"slot";
 pub(crate) const OTHER_KEYS: &[u8] =
     b"<text x=\"28\" y=\"{}\" class=\"l\">Keys that this board doesn&#x0027;t have</text>\n";
 
-/// The begin of a key, which has a class and its place behind it, and its end.
-pub(crate) const GROUP: &[u8] = b"<g role=\"img\"";
+/// The begin of a key, with its place, and of one with a class, up to its title.
+pub(crate) const GROUP: &[u8] = b"<g role=\"img\" transform=\"translate({} {})\"><title>";
+
+pub(crate) const GROUP_OF: &[u8] =
+    b"<g role=\"img\" class=\"{}\" transform=\"translate({} {})\"><title>";
+
+/// The cap of a key behind its title, with the letter of its shape.
+pub(crate) const CAP: &[u8] = b"</title><use href=\"#{}\"/>";
+
+/// The code of a key, with where it stands, the code and the letter of its locks.
+pub(crate) const CODE: &[u8] = b"<text x=\"{}\" y=\"{}\">{}{}</text>";
 
 pub(crate) const GROUP_END: &[u8] = b"</g>\n";
-
-/// Where a key stands.
-pub(crate) const TRANSLATE: &[u8] = b" transform=\"translate({} {})\">";
-
-pub(crate) const TITLE: &[u8] = b"<title>";
-
-pub(crate) const TITLE_END: &[u8] = b"</title>";
-
-/// The cap of a key, with the letter of its shape, the place of its code, the code and the letter of its locks.
-pub(crate) const CAP: &[u8] = b"<use href=\"#{}\"/><text x=\"{}\" y=\"{}\">{}{}</text>";
 
 // The letters of the locks.
 pub(crate) const CAPS: &[u8] = b" C";
@@ -74,13 +73,12 @@ pub(crate) const NUM: &[u8] = b" N";
 
 pub(crate) const BOTH: &[u8] = b" B";
 
-/// The begin of a text, with its place, which has its classes behind it, and its end.
-pub(crate) const TEXT: &[u8] = b"<text x=\"{}\" y=\"{}\"";
+/// The begin of a text, with its place, and of one with classes; and the end.
+pub(crate) const TEXT: &[u8] = b"<text x=\"{}\" y=\"{}\">";
+
+pub(crate) const TEXT_OF: &[u8] = b"<text x=\"{}\" y=\"{}\" class=\"{}\">";
 
 pub(crate) const TEXT_END: &[u8] = b"</text>";
-
-/// Before the letter of the first class.
-pub(crate) const CLASS: &[u8] = b" class=\"";
 
 /// The headline of the findings, with where it stands.
 pub(crate) const FINDINGS: &[u8] = b"<text x=\"28\" y=\"{}\" class=\"h no\">Findings</text>\n";
@@ -104,8 +102,16 @@ pub(crate) const RESULTS: &[u8] = b"</g><g class=\"j\" transform=\"translate(124
 
 pub(crate) const TABLE_END: &[u8] = b"</g></g>\n";
 
-/// A character of that table, with where it stands.
-pub(crate) const COMPOSED: &[u8] = b"<text x=\"{}\"";
+/// The begin of a character of that table, with where it stands, and of one with a class.
+pub(crate) const COMPOSED: &[u8] = b"<text x=\"{}\">";
+
+pub(crate) const COMPOSED_OF: &[u8] = b"<text x=\"{}\" class=\"{}\">";
+
+// The begin of the sign of an accent, with where it stands and the class for its colour, and its name behind it, with
+// where it stands.
+pub(crate) const SIGN: &[u8] = b"<text x=\"{}\" y=\"35\" class=\"z c {}\">";
+
+pub(crate) const NAME: &[u8] = b"</text><text x=\"{}\" y=\"30\" class=\"l\">{}</text>";
 
 /// The line above the dead keys without an accent and the begin of their row, with where these stand.
 pub(crate) const SILENT: &[u8] =

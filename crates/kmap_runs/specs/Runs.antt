@@ -10,7 +10,7 @@ use Rattle.keymap_tables.specs.Fits.{Fits, IsFirstWide}
 use Rattle.keymap_tables.specs.Image.{image, narrow_image}
 use Rattle.keymap_tables.specs.Sources.{ReadsNarrow, ReadsTables}
 use Rattle.keymap_draw.specs.declared.board.Board.{Board}
-use Rattle.keymap_draw.specs.Pictures.{picture, drawing}
+use Rattle.keymap_draw.specs.Pictures.{IsPicture, drawing}
 use Rattle.keymap_draw.specs.Told.{AgreeWhereShown}
 use Rattle.keymap_draw.specs.WellFormed.{IsPlain, IsWellFormed}
 use Rattle.console_core.specs.declared.outcome.Sticking.{Sticking}
@@ -83,7 +83,7 @@ CompilesNarrowly text out r =
 
 -- the picture of a map on a board
 abbrev pub Draws : Board → MapValue → Unit {0} → List ℕ → Type 0
-Draws board m _ told = IsMap m × (told ≡ picture m board)
+Draws board m _ told = IsMap m × IsPicture (drawing m board) told
 
 abbrev pub DrawsText : Board → Moves → Moves → Result (Unit {0}) RunError → Type 0
 DrawsText board text out r = Runs of_writer (ReadsText text) LacksMemory (Draws board) out r

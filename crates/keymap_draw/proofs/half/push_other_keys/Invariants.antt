@@ -1,8 +1,8 @@
 use Rattle.std.proofs.Common.{◌≡◌, ◌++◌, drop}
+use Rattle.keymap_draw.specs.Facts.{numbered}
 use Rattle.keymap_draw.specs.Halves.{other_key}
-use Rattle.keymap_draw.specs.Markup.{numbered}
 use Rattle.keymap_draw.proofs.half.push_other_keys.Given as goal
 
 abbrev pub invariant-loop-i : goal.invariant-loop-i
-invariant-loop-i l = l.text.items ++ numbered (other_key l.drawing l.half l.y) l.i (drop l.i l.keys)
-    ≡ l.fn.text.items ++ numbered (other_key l.drawing l.half l.y) 0 l.keys
+invariant-loop-i l = l.sheet ++ numbered (other_key l.drawing l.half l.y) l.i (drop l.i l.keys)
+    ≡ l.fn.sheet ++ numbered (other_key l.drawing l.half l.y) 0 l.keys

@@ -1,5 +1,6 @@
-use Rattle.keymap_draw.proofs.Plain.{picture_plain}
+use Rattle.keymap_draw.specs.Pictures.{picture_facts}
+use Rattle.keymap_draw.proofs.Plain.{told_plain}
 use Rattle.keymap_draw.proofs.laws.pictures_are_plain.Goals as goal
 
 pub returns : goal.returns
-returns c = picture_plain
+returns c = λ d bytes h. told_plain (picture_facts d) bytes h

@@ -1,5 +1,5 @@
-use Rattle.keymap_draw.proofs.Closing.{well_formed}
+use Rattle.keymap_draw.specs.Pictures.{picture_facts}
 use Rattle.keymap_draw.proofs.laws.pictures_are_well_formed.Goals as goal
 
 pub returns : goal.returns
-returns c = well_formed
+returns c = λ d bytes h. (picture_facts d, h)

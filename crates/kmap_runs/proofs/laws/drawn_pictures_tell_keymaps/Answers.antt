@@ -1,14 +1,15 @@
-use Rattle.std.proofs.Common.{sym, ◌∙◌}
-use Rattle.keymap_draw.specs.Pictures.{drawing}
+use Rattle.std.proofs.Common.{sym, ◌∙◌, subst}
+use Rattle.keymap_draw.specs.Pictures.{IsPicture, drawing}
 use Rattle.kmap_runs.proofs.laws.drawn_pictures_tell_keymaps.Goals as goal
 
 pub returns : goal.returns
 returns c =
-    λ board another text other drawn (m, told, reads, (is, same), wrote) (n, told', reads', (is', same'), wrote'). (
+    λ board another text other drawn (m, told, reads, (is, shows), wrote) (n, told', reads', (is', shows'), wrote'). (
       m,
       n,
       reads,
       reads',
-      c.pictures_tell_keymaps.ensures.keymap (drawing m board) (drawing n another) is is'
-          (sym same ∙ sym wrote ∙ wrote' ∙ same'),
+      c.pictures_tell_keymaps.ensures.keymap (drawing m board) (drawing n another) drawn is is'
+          (subst (IsPicture (drawing m board)) (sym wrote) shows)
+          (subst (IsPicture (drawing n another)) (sym wrote') shows'),
     )

@@ -1,0 +1,68 @@
+-- The text of a picture that isn't complete: where its end stands, and what it tells so far.
+use Rattle.std.specs.Prelude.{◌≡◌, ℕ, ◌&&◌, not, ◌==◌, ◌||◌, Bool, List, [], ◌∷◌, ◌++◌, codes, Option, Some, None}
+use Rattle.std.specs.List.{list_all}
+use Rattle.std.specs.Option.{option_and_then}
+use Rattle.keymap_draw.specs.Facts.{Fact}
+use Rattle.keymap_draw.specs.WellFormed.{Role, Element, element, Place, Read, State, at, within_element, saying, scan}
+use Rattle.keymap_draw.specs.WellFormed.{start, is_plain}
+use Rattle.keymap_draw.specs.WellFormed.Place.{Text, Value}
+use Rattle.keymap_draw.specs.WellFormed.Role.{Plain, Cap}
+use Rattle.messages.specs.Filled.{words_before, words_behind}
+
+-- the ids of the head of a picture, the last first: of the shapes, and of what its title and its description are in
+abbrev pub ids : List (List ℕ)
+ids =
+    codes "E" ∷ codes "t" ∷ codes "h" ∷ codes "g" ∷ codes "f" ∷ codes "e" ∷ codes "d" ∷ codes "c" ∷ codes "b"
+    ∷ codes "a"
+    ∷ codes "desc" ∷ codes "title" ∷ []
+
+-- behind the head, in these elements, with these facts
+abbrev pub within : List Element → List Fact → State
+within begun fs = at Text (record { begun = begun; ids = ids; facts = fs })
+
+abbrev pub in_svg : List Element
+in_svg = element (codes "svg") Plain ∷ []
+
+abbrev pub in_key : List Element
+in_key = element (codes "g") Cap ∷ in_svg
+
+-- in a row below the keys, and in the table of an accent
+abbrev pub in_row : List Element
+in_row = element (codes "g") Plain ∷ in_svg
+
+abbrev pub in_table : List Element
+in_table = element (codes "g") Plain ∷ in_row
+
+abbrev pub facts_of : Option State → List Fact
+facts_of None = []
+facts_of (Some s) = s.read.facts
+
+unfoldable pub facts_in : List ℕ → List Fact
+facts_in bytes = facts_of (scan (Some start) bytes)
+
+-- what a reader makes of the bytes
+pub record ReadAs (s : State) (bytes : List ℕ) : Type 0 where
+  pub scanned : scan (Some start) bytes ≡ Some s
+
+-- the bytes end in these elements
+abbrev pub IsWithin : List Element → List ℕ → Type 0
+IsWithin begun bytes = ReadAs (within begun (facts_in bytes)) bytes
+
+-- what may stand in a value and in a text as it is
+abbrev pub is_inner : ℕ → Bool
+is_inner c = is_plain c && not (c == 34) && not (c == 38 || c == 60) && not (c == 93)
+
+abbrev pub are_inner : List (List ℕ) → Bool
+are_inner texts = list_all (list_all is_inner) texts
+
+-- the reader behind a text, in a value or between tags
+abbrev pub taking_at : Place → Read → List ℕ → Option State
+taking_at (Value tag name value) r t = Some (at (Value tag name (value ++ t)) r)
+taking_at Text r t = within_element Text (saying t r)
+taking_at p r t = None
+
+-- the reader behind words with a text at each of their places
+abbrev pub over : Option State → List ℕ → List (List ℕ) → Option State
+over s words [] = scan s words
+over s words (t ∷ ts) =
+    over (option_and_then (λ u. taking_at u.place u.read t) (scan s (words_before words))) (words_behind words) ts

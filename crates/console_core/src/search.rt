@@ -1,7 +1,7 @@
 //! The search for sticking modifiers over the states that presses, releases and loads lead to, by the number of
 //! presses.
 ghost use Rattle.std.specs.Prelude.{◌≡◌, ◌+◌, ◌<◌, ◌≤◌, ◌⊎◌, ◌++◌, ◌∷◌, ℕ, [], true, None, Some, length, reverse};
-ghost use Rattle.std.specs.Prelude.{slice_get, OnOk, IfOk, IfSome, false};
+ghost use Rattle.std.specs.Prelude.{slice_get, OnOk, IfOk, IfSome, MatchOption, false};
 ghost use Rattle.keymap_core.specs.Numbers.{key_count};
 ghost use Rattle.keymap_core.specs.declared.action.Modifier.{Modifier as ModifierValue};
 ghost use Rattle.console_core.specs.declared.held.Held.{Held as HeldValue};
@@ -12,7 +12,7 @@ ghost use Rattle.console_core.specs.Inner.Searching.{IsAnswerUnder, HasMovingKey
 ghost use Rattle.console_core.specs.History.{between};
 ghost use Rattle.console_core.specs.Moves.{Under, start};
 ghost use Rattle.keymap_core.specs.declared.action.Lock.TheVariants.{Scroll};
-ghost use Rattle.console_core.specs.Sticking.{IsAnswer, IsAnswerBetween, state_limit};
+ghost use Rattle.console_core.specs.Sticking.{IsAnswer, IsAnswerBetween, ReachesMoreThan, state_limit};
 
 use crate::event::Event;
 use crate::held::{Held, Keymaps, Move, Step};
@@ -269,6 +269,20 @@ pub fn meet_all(
         presses += 1;
     }
     Ok(End::Complete)
+}
+
+/// All states that moves lead to from the start, or nothing where the search gives up.
+pub fn all_states(alloc: Global, maps: &Keymaps) -> Result<Option<Met>, AllocError>
+    requires { origin_of maps.now ≡ start }
+    ensures { IfOk result (λ x. MatchOption x ((p : ℕ) × ReachesMoreThan (under_of maps.now) state_limit p)
+        (λ met. Searched (under_of maps.now) start met.entries (length met.entries) (length met.entries))) }
+{
+    let mut met = IndexMap::new(alloc);
+    match meet_all(alloc, &mut met, maps, false)? {
+        End::Complete => Ok(Some(met)),
+        End::TooMany(_) => Ok(None),
+        End::AtStuck(_) => unreachable!(),
+    }
 }
 
 /// Decides whether presses, releases and, where there are any, loads can leave a modifier on while no key is pressed.

@@ -17,9 +17,8 @@ ghost use Rattle.console_core.specs.Inner.Showing.{IsLookOf, IsAfter, IsGuide, V
 use crate::event::Event;
 use crate::held::{Held, Keymaps, Move};
 use crate::routes::{Routes, has_all, routes_home, state_at};
-use crate::search::{End, Met, entry, meet_all};
+use crate::search::{Met, all_states, entry};
 use crate::selection::Sight;
-use indexmap::IndexMap;
 use keymap_core::{KeyCode, KeyMap, Lock};
 use std::alloc::{AllocError, Global};
 
@@ -315,10 +314,8 @@ pub fn events_that_show(
         has_loads: false,
         origin: Held::start(),
     };
-    let mut met = IndexMap::new(alloc);
-    match meet_all(alloc, &mut met, &maps, false)? {
-        End::Complete => Ok(Some(events_from(alloc, &met, &maps, sights)?)),
-        End::TooMany(_) => Ok(None),
-        End::AtStuck(_) => unreachable!(),
+    match all_states(alloc, &maps)? {
+        Some(met) => Ok(Some(events_from(alloc, &met, &maps, sights)?)),
+        None => Ok(None),
     }
 }

@@ -9,9 +9,8 @@ ghost use Rattle.console_core.specs.Inner.Noting.{IsWith, AreSelectionsOf};
 
 use crate::held::{Held, Keymaps};
 use crate::offers::offers_of;
-use crate::search::{End, Met, entry, meet_all};
+use crate::search::{Met, all_states, entry};
 use crate::selection::{Selection, Sight};
-use indexmap::IndexMap;
 use keymap_core::KeyMap;
 use std::alloc::{AllocError, Global};
 
@@ -150,10 +149,8 @@ pub fn sights_of(alloc: Global, map: &KeyMap) -> Result<Option<Sights>, AllocErr
         has_loads: false,
         origin: Held::start(),
     };
-    let mut met = IndexMap::new(alloc);
-    match meet_all(alloc, &mut met, &maps, false)? {
-        End::Complete => Ok(Some(noted(alloc, &met, &maps)?)),
-        End::TooMany(_) => Ok(None),
-        End::AtStuck(_) => unreachable!(),
+    match all_states(alloc, &maps)? {
+        Some(met) => Ok(Some(noted(alloc, &met, &maps)?)),
+        None => Ok(None),
     }
 }

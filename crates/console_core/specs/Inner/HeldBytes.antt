@@ -1,5 +1,5 @@
 -- What a hasher is fed of the keys that hold modifiers and of the locks, and that equal ones feed it alike. Mirrors
--- `number` and `Held::bytes` of src/held/moves.rt.
+-- `number` and `Held::bytes` of src/held/moves.rt, which cites the lemmas too: a source can cite none of proofs/.
 use Rattle.std.proofs.Common.{◌≡◌, ℕ, Bool, true, false, ◌&&◌, List, [], ◌∷◌, Option, Some, None, refl, ap, sym, ◌∙◌}
 use Rattle.std.specs.Prelude.{slice_index_or}
 use Rattle.std.specs.Option.{option_eq}

@@ -1,4 +1,4 @@
--- A script while it is made. Mirrors src/tour.rt.
+-- A script while it is made. Mirrors src/noting.rt, src/walk.rt and src/cover.rt.
 use Rattle.std.specs.Prelude.{◌≡◌, ◌⊎◌, ℕ, ◌<◌, Bool, true, false, List, ◌∷◌, ◌++◌, Option, Some, reverse}
 use Rattle.std.specs.Prelude.{slice_index_or}
 use Rattle.std.specs.List.{Contains}

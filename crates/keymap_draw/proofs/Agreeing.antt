@@ -24,7 +24,7 @@ use Rattle.keymap_draw.specs.Keyboards.{keys_of}
 use Rattle.keymap_draw.specs.Lists.{has_character, named_accents}
 use Rattle.keymap_draw.specs.Told.{told, told_in, key_definition, accent_definition, shows, PicturesTellKeymaps}
 use Rattle.keymap_draw.proofs.Loops.{none_is}
-use Rattle.keymap_draw.proofs.Told.{pictures_tell}
+use Rattle.keymap_draw.proofs.Told.{Each, each_told, pictures_tell}
 
 -- ---- what is in a list of numbers
 
@@ -96,10 +96,21 @@ among_right : (x : Definition) (xs ys : List Definition) → Among x ys → Amon
 among_right x [] ys h = h
 among_right x (y ∷ xs) ys h = inr (among_right x xs ys h)
 
-among_both : (x : Definition) (xs ys : List Definition) → Among x (xs ++ ys) → Among x xs ⊎ Among x ys
-among_both x [] ys h = inr h
-among_both x (y ∷ xs) ys (inl e) = inl (inl e)
-among_both x (y ∷ xs) ys (inr h) = elim (among_both x xs ys h) [ inl here ↦ inl (inr here) | inr there ↦ inr there ]
+-- the definition is one of the map
+abbrev IsOf : MapValue → Definition → Type 0
+IsOf m (KeyDefinition s e) = e ≡ entry_at m s
+IsOf m (AccentDefinition i a) = accent_at m i ≡ Some a
+
+each_among : (P : Definition → Type 0) (x : Definition) (ds : List Definition) → Each P ds → Among x ds → P x
+each_among P x [] p h = absurd h
+each_among P x (d ∷ ds) (p, ps) (inl e) = subst P (sym e) p
+each_among P x (d ∷ ds) (p, ps) (inr h) = each_among P x ds ps h
+
+-- what one map tells, and another one too, is of the other one
+told_of : (d e : Drawing) (x : Definition) → told d ≡ told e → Among x (told d) → IsOf e.map x
+told_of d e x same h =
+    each_among (IsOf e.map) x (told e) (each_told (IsOf e.map) e (λ half k low. refl) (λ i a low at. at))
+    (subst (Among x) same h)
 
 -- ---- slots
 
@@ -146,51 +157,6 @@ slot_told d Upper k low h =
     by true e here = here
     by false e here = cc
 
-same_slot : (s t : ℕ) (e f : Entry) → KeyDefinition s e ≡ KeyDefinition t f → s ≡ t
-same_slot s t e f h = cc
-
-same_entry : (s t : ℕ) (e f : Entry) → KeyDefinition s e ≡ KeyDefinition t f → e ≡ f
-same_entry s t e f h = cc
-
-entry_told_in : (m : MapValue) (half : Half) (ks : List ℕ) (s : ℕ) (x : Entry)
-    → Among (KeyDefinition s x) (map (key_definition m half) ks) → x ≡ entry_at m s
-entry_told_in m half [] s x h = absurd h
-entry_told_in m half (k ∷ ks) s x (inl e) =
-    same_entry s (slot_of half k) x (entry_at m (slot_of half k)) e
-    ∙ ap (entry_at m) (sym (same_slot s (slot_of half k) x (entry_at m (slot_of half k)) e))
-entry_told_in m half (k ∷ ks) s x (inr h) = entry_told_in m half ks s x h
-
-no_accent : (s i : ℕ) (e : Entry) (a : AccentValue) → KeyDefinition s e ≡ AccentDefinition i a → ⊥
-no_accent s i e a h = cc
-
-no_slot_in : (m : MapValue) (is : List ℕ) (s : ℕ) (x : Entry)
-    → Among (KeyDefinition s x) (filter_map (accent_definition m) is) → ⊥
-no_slot_in m [] s x h = h
-no_slot_in m (i ∷ is) s x h = by (accent_at m i) (no_slot_in m is s x) h
-  where
-    by : (o : Option AccentValue) → (Among (KeyDefinition s x) (filter_map (accent_definition m) is) → ⊥)
-        → Among (KeyDefinition s x)
-        (cons_option (option_map (AccentDefinition i) o) (filter_map (accent_definition m) is)) → ⊥
-    by None more h = more h
-    by (Some accent) more (inl e) = no_accent s i x accent e
-    by (Some accent) more (inr h) = more h
-
-entry_told : (d : Drawing) (s : ℕ) (x : Entry) → Among (KeyDefinition s x) (told d) → x ≡ entry_at d.map s
-unfolding told
-entry_told d s x h =
-    let accents : List Definition = filter_map (accent_definition d.map) (named_accents d.map) in
-    elim (among_both (KeyDefinition s x) (halves_told d) accents h) [
-      | inl slot ↦ elim (among_both (KeyDefinition s x) (told_in d Lower) (upper_told d) slot) [
-        | inl below ↦ entry_told_in d.map Lower _ s x below
-        | inr above ↦ by (is_upper_live d.map) above
-      ]
-      | inr accent ↦ absurd (no_slot_in d.map (named_accents d.map) s x accent)
-    ]
-  where
-    by : (b : Bool) → Among (KeyDefinition s x) (if b then told_in d Upper else []) → x ≡ entry_at d.map s
-    by true above = entry_told_in d.map Upper _ s x above
-    by false above = absurd above
-
 -- ---- accents
 
 accent_among : (m : MapValue) (is : List ℕ) (i : ℕ) (a : AccentValue) → accent_at m i ≡ Some a → has is i ≡ true
@@ -221,59 +187,14 @@ accent_is_there m i h = by (accent_at m i) refl
     by None e = let none : has_character m i ≡ false =
         ap (λ (a : AccentValue). not (a.own == 0)) (none_is m.accents i blank e) in cc
 
-same_index : (i j : ℕ) (a b : AccentValue) → AccentDefinition i a ≡ AccentDefinition j b → i ≡ j
-same_index i j a b h = cc
-
-same_accent : (i j : ℕ) (a b : AccentValue) → AccentDefinition i a ≡ AccentDefinition j b → a ≡ b
-same_accent i j a b h = cc
-
-no_accent_in : (m : MapValue) (half : Half) (ks : List ℕ) (i : ℕ) (a : AccentValue)
-    → Among (AccentDefinition i a) (map (key_definition m half) ks) → ⊥
-no_accent_in m half [] i a h = h
-no_accent_in m half (k ∷ ks) i a (inl e) =
-    no_accent (slot_of half k) i (entry_at m (slot_of half k)) a (sym e)
-no_accent_in m half (k ∷ ks) i a (inr h) = no_accent_in m half ks i a h
-
-accent_told_in : (m : MapValue) (is : List ℕ) (i : ℕ) (a : AccentValue)
-    → Among (AccentDefinition i a) (filter_map (accent_definition m) is) → accent_at m i ≡ Some a
-accent_told_in m [] i a h = absurd h
-accent_told_in m (j ∷ is) i a h = by (accent_at m j) refl (accent_told_in m is i a) h
-  where
-    by : (o : Option AccentValue) → accent_at m j ≡ o
-        → (Among (AccentDefinition i a) (filter_map (accent_definition m) is) → accent_at m i ≡ Some a)
-        → Among (AccentDefinition i a)
-        (cons_option (option_map (AccentDefinition j) o) (filter_map (accent_definition m) is))
-        → accent_at m i ≡ Some a
-    by None e more h = more h
-    by (Some b) e more (inl same) =
-        ap (accent_at m) (same_index i j a b same) ∙ e ∙ ap Some (sym (same_accent i j a b same))
-    by (Some b) e more (inr h) = more h
-
-accent_told : (d : Drawing) (i : ℕ) (a : AccentValue) → Among (AccentDefinition i a) (told d)
-    → accent_at d.map i ≡ Some a
-unfolding told
-accent_told d i a h =
-    let accents : List Definition = filter_map (accent_definition d.map) (named_accents d.map) in
-    elim (among_both (AccentDefinition i a) (halves_told d) accents h) [
-      | inl slot ↦ elim (among_both (AccentDefinition i a) (told_in d Lower) (upper_told d) slot) [
-        | inl below ↦ absurd (no_accent_in d.map Lower _ i a below)
-        | inr above ↦ absurd (by (is_upper_live d.map) above)
-      ]
-      | inr accent ↦ accent_told_in d.map (named_accents d.map) i a accent
-    ]
-  where
-    by : (b : Bool) → Among (AccentDefinition i a) (if b then told_in d Upper else []) → ⊥
-    by true above = no_accent_in d.map Upper _ i a above
-    by false above = above
-
 accent_agrees : (d e : Drawing) → told d ≡ told e → (i : ℕ) → i < 15 → has_character d.map i ≡ true
     → accent_at d.map i ≡ accent_at e.map i
 unfolding told named_accents
 accent_agrees d e same i low h =
     let (a, at) = accent_is_there d.map i h in
-    at ∙ sym (accent_told e i a (subst (Among (AccentDefinition i a)) same
+    at ∙ sym (told_of d e (AccentDefinition i a) same
     (among_right (AccentDefinition i a) (halves_told d) _
-    (accent_among d.map (named_accents d.map) i a at (passing_has (has_character d.map) 15 i low h)))))
+    (accent_among d.map (named_accents d.map) i a at (passing_has (has_character d.map) 15 i low h))))
 
 -- ---- the law
 
@@ -281,7 +202,6 @@ pub pictures_tell_keymaps : PicturesTellKeymaps
 pictures_tell_keymaps d e bytes p q h k =
     let same = pictures_tell d e bytes p q h k in record {
       slots = λ half k low shown.
-          entry_told e (slot_of half k) (entry_at d.map (slot_of half k))
-          (subst (Among (key_definition d.map half k)) same (slot_told d half k low shown));
+          told_of d e (key_definition d.map half k) same (slot_told d half k low shown);
       accents = accent_agrees d e same;
     }

@@ -159,6 +159,7 @@ over_scan (t ∷ ts) s w u h e =
         ap (λ o. scan o (filled (words_behind w) ts))
         (taken v.place v.read t q (first_true (list_all is_inner t) (are_inner ts) h) f)
         ∙ rest
+
     behind : (o : Option State)
         → ((q : Option State) → over q (words_behind w) ts ≡ Some u → scan q (filled (words_behind w) ts) ≡ Some u)
         → over (option_and_then (λ (v : State). taking_at v.place v.read t) o) (words_behind w) ts ≡ Some u

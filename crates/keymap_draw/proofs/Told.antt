@@ -39,7 +39,7 @@ use Rattle.keymap_draw.proofs.Loops.{passing-below}
 use Rattle.keymap_draw.proofs.Scans.{both_true, first_true, second_true}
 use Rattle.keymap_draw.proofs.Shown.{is_seen, all_from}
 use Rattle.keymap_draw.proofs.Texts.{AreShown, slot_words_shown, accent_words_shown}
-use Rattle.keymap_draw.proofs.Titles.{of_keys, picture_titles, one_reading}
+use Rattle.keymap_draw.proofs.Titles.{picture_titles, one_reading}
 
 -- ---- the last line of a title
 
@@ -103,15 +103,15 @@ title_is fs gs d e p q h =
     (sym (last_of_title fs d (words_in_line (definition_words d) (words_shown d p).each)) ∙ ap last_line h
     ∙ last_of_title gs e (words_in_line (definition_words e) (words_shown e q).each))
 
--- each is a definition of a map
-abbrev Each : List Definition → Type 0
-Each [] = Unit {0}
-Each (d ∷ ds) = IsDefinition d × Each ds
+-- each has a property
+abbrev pub Each : (Definition → Type 0) → List Definition → Type 0
+Each P [] = Unit {0}
+Each P (d ∷ ds) = P d × Each P ds
 
 no_title : (t : List ℕ) (ts : List (List ℕ)) → [] ≡ t ∷ ts → ⊥
 no_title t ts e = cc
 
-titles_are : (fs gs : List Finding) (ds es : List Definition) → Each ds → Each es
+titles_are : (fs gs : List Finding) (ds es : List Definition) → Each IsDefinition ds → Each IsDefinition es
     → map (title_of fs) ds ≡ map (title_of gs) es → ds ≡ es
 titles_are fs gs [] [] p q h = refl
 titles_are fs gs [] (e ∷ es) p q h = absurd (no_title _ _ h)
@@ -122,9 +122,9 @@ titles_are fs gs (d ∷ ds) (e ∷ es) (p, ps) (q, qs) h =
 
 -- ---- what is told
 
-each_both : (ds es : List Definition) → Each ds → Each es → Each (ds ++ es)
-each_both [] es p q = q
-each_both (d ∷ ds) es (p, ps) q = (p, each_both ds es ps q)
+each_both : (P : Definition → Type 0) (ds es : List Definition) → Each P ds → Each P es → Each P (ds ++ es)
+each_both P [] es p q = q
+each_both P (d ∷ ds) es (p, ps) q = (p, each_both P ds es ps q)
 
 entry_bound : (es : List Entry) (s : ℕ) → All IsEntry es → IsEntry (slice_index_or es s undefined)
 entry_bound [] s h = record { eight = refl; cells = All-replicate IsCell 8 (Char 0) refl }
@@ -138,10 +138,21 @@ slot_low Upper k h = omega arith
 key_bound : (m : MapValue) (half : Half) (k : ℕ) → IsMap m → k < 128 → IsDefinition (key_definition m half k)
 key_bound m half k is below = (slot_low half k below, entry_bound m.entries (slot_of half k) is.entries)
 
-each_key : (d : Drawing) (half : Half) (ks : List ℕ) → IsMap d.map → All (λ k. k < 128) ks → Each (of_keys d half ks)
-each_key d half [] is h = tt
-each_key d half (k ∷ ks) is h =
-    (key_bound d.map half k is (All-head (λ k. k < 128) k ks h), each_key d half ks is (All-tail (λ k. k < 128) k ks h))
+abbrev IsListed : Option AccentValue → Type 0
+IsListed None = Unit {0}
+IsListed (Some accent) = IsAccent accent
+
+listed : (accents : List AccentValue) (i : ℕ) → All IsAccent accents → IsListed (slice_get accents i)
+listed [] i h = tt
+listed (accent ∷ accents) zero h = All-head IsAccent accent accents h
+listed (accent ∷ accents) (suc i) h = listed accents i (All-tail IsAccent accent accents h)
+
+each_key : (P : Definition → Type 0) (m : MapValue) (half : Half)
+    → ((k : ℕ) → k < 128 → P (key_definition m half k)) → (ks : List ℕ) → All (λ k. k < 128) ks
+    → Each P (map (key_definition m half) ks)
+each_key P m half key [] h = tt
+each_key P m half key (k ∷ ks) h =
+    (key k (All-head (λ k. k < 128) k ks h), each_key P m half key ks (All-tail (λ k. k < 128) k ks h))
 
 abbrev is_low : ℕ → Bool
 is_low k = nat_lt k 128
@@ -157,44 +168,45 @@ other_keys_low : (d : Drawing) (half : Half) → All (λ k. k < 128) (other_keys
 unfolding other_keys
 other_keys_low d half = passing-below (is_other d half) 128 128 (omega arith)
 
-each_in : (d : Drawing) (half : Half) → IsMap d.map → Each (told_in d half)
-each_in d half is =
-    each_key d half _ is
+each_in : (P : Definition → Type 0) (d : Drawing) (half : Half) → ((k : ℕ) → k < 128 → P (key_definition d.map half k))
+    → Each P (told_in d half)
+each_in P d half key =
+    each_key P d.map half key _
     (All-append (λ k. k < 128) _ (other_keys d half) (all_low _ (board_low d.board)) (other_keys_low d half))
 
-abbrev IsListed : Option AccentValue → Type 0
-IsListed None = Unit {0}
-IsListed (Some accent) = IsAccent accent
-
-listed : (accents : List AccentValue) (i : ℕ) → All IsAccent accents → IsListed (slice_get accents i)
-listed [] i h = tt
-listed (accent ∷ accents) zero h = All-head IsAccent accent accents h
-listed (accent ∷ accents) (suc i) h = listed accents i (All-tail IsAccent accent accents h)
-
-each_accent : (m : MapValue) (is : List ℕ) → IsMap m → All (λ i. i < 15) is
-    → Each (filter_map (accent_definition m) is)
-each_accent m [] map_is h = tt
-each_accent m (i ∷ is) map_is h =
-    by (accent_at m i) (listed m.accents i map_is.accents)
-    (each_accent m is map_is (All-tail (λ i. i < 15) i is h))
+each_accent : (P : Definition → Type 0) (m : MapValue)
+    → ((i : ℕ) (a : AccentValue) → i < 15 → accent_at m i ≡ Some a → P (AccentDefinition i a)) → (is : List ℕ)
+    → All (λ i. i < 15) is → Each P (filter_map (accent_definition m) is)
+each_accent P m accent [] h = tt
+each_accent P m accent (i ∷ is) h =
+    by (accent_at m i) refl (each_accent P m accent is (All-tail (λ i. i < 15) i is h))
   where
-    by : (o : Option AccentValue) → IsListed o → Each (filter_map (accent_definition m) is)
-        → Each (cons_option (option_map (AccentDefinition i) o) (filter_map (accent_definition m) is))
-    by None accent_is more = more
-    by (Some accent) accent_is more = ((All-head (λ i. i < 15) i is h, accent_is), more)
+    by : (o : Option AccentValue) → accent_at m i ≡ o → Each P (filter_map (accent_definition m) is)
+        → Each P (cons_option (option_map (AccentDefinition i) o) (filter_map (accent_definition m) is))
+    by None e more = more
+    by (Some a) e more = (accent i a (All-head (λ i. i < 15) i is h) e, more)
 
-each_told : (d : Drawing) → IsMap d.map → Each (told d)
+-- what holds of each slot and each accent of a map holds of what is told
+pub each_told : (P : Definition → Type 0) (d : Drawing)
+    → ((half : Half) (k : ℕ) → k < 128 → P (key_definition d.map half k))
+    → ((i : ℕ) (a : AccentValue) → i < 15 → accent_at d.map i ≡ Some a → P (AccentDefinition i a))
+    → Each P (told d)
 unfolding told named_accents
-each_told d is =
-    each_both (told_in d Lower ++ (if is_upper_live d.map then told_in d Upper else [])) _
-    (each_both (told_in d Lower) _ (each_in d Lower is) (by (is_upper_live d.map)))
-    (each_accent d.map (named_accents d.map) is (passing-below (has_character d.map) 15 15 (omega arith)))
+each_told P d key accent =
+    each_both P (told_in d Lower ++ (if is_upper_live d.map then told_in d Upper else [])) _
+    (each_both P (told_in d Lower) _ (each_in P d Lower (key Lower)) (by (is_upper_live d.map)))
+    (each_accent P d.map accent (named_accents d.map) (passing-below (has_character d.map) 15 15 (omega arith)))
   where
-    by : (live : Bool) → Each (if live then told_in d Upper else [])
-    by true = each_in d Upper is
+    by : (live : Bool) → Each P (if live then told_in d Upper else [])
+    by true = each_in P d Upper (key Upper)
     by false = tt
+
+each_defined : (d : Drawing) → IsMap d.map → Each IsDefinition (told d)
+each_defined d is =
+    each_told IsDefinition d (λ half k low. key_bound d.map half k is low)
+    (λ i a low e. (low, subst IsListed e (listed d.map.accents i is.accents)))
 
 pub pictures_tell : PicturesTellDefinitions
 pictures_tell d e bytes p q h k =
-    titles_are d.findings e.findings (told d) (told e) (each_told d p) (each_told e q)
+    titles_are d.findings e.findings (told d) (told e) (each_defined d p) (each_defined e q)
     (sym (picture_titles d) ∙ ap titles (one_reading (picture_facts d) (picture_facts e) bytes h k) ∙ picture_titles e)

@@ -253,7 +253,7 @@ valued tag name value r =
     if bytes_eq name (codes "id") then (
     if list_all is_name_byte value && not (is_among r.ids value)
     then Some (at (Behind (with_attribute tag name value))
-        (record { begun = r.begun; ids = value ∷ r.ids; facts = r.facts }))
+    (record { begun = r.begun; ids = value ∷ r.ids; facts = r.facts }))
     else None
     )
     else if bytes_eq name (codes "href") && not (is_link r.ids value) then None

@@ -8,6 +8,7 @@ ghost use Rattle.keymap_draw.specs.Sheets.{is_inner};
 use crate::board::{ISO, Row, Shape};
 use crate::drawing::Drawing;
 use crate::key::{is_blank_entry, push_key};
+use crate::markup::Added;
 use crate::sheet::{Sheet, adorn, digits};
 use crate::words::{
     IS_ACCEPTED, KEY_CODE, KEYMAP, LOWER_HALF, MORE_FINDINGS, ONE_FINDING, OTHER_KEYS, PANEL,
@@ -16,7 +17,6 @@ use crate::words::{
 use arrayvec::ArrayVec;
 use keymap_core::{KEY_COUNT, push_if};
 use messages::either;
-use std::alloc::AllocError;
 
 /// A half of the slots: 0 to 127, or 128 to 255.
 #[derive(Clone, Copy)]
@@ -40,13 +40,7 @@ impl Half {
 }
 
 /// Adds the key that the board has in place of one of the ISO board, where it has one.
-fn push_row(
-    sheet: Sheet,
-    drawing: &Drawing,
-    half: Half,
-    y: u32,
-    row: &Row,
-) -> Result<Sheet, AllocError>
+fn push_row(sheet: Sheet, drawing: &Drawing, half: Half, y: u32, row: &Row) -> Added<Sheet>
     requires { y < 2 ^ 16 }
     ensures { IfOk result (λ s. s ≡ sheet ++ spec.board_row drawing.now half y row.now) }
 {
@@ -60,13 +54,7 @@ fn push_row(
     }
 }
 
-fn push_rows(
-    sheet: Sheet,
-    drawing: &Drawing,
-    half: Half,
-    y: u32,
-    rows: &[Row],
-) -> Result<Sheet, AllocError>
+fn push_rows(sheet: Sheet, drawing: &Drawing, half: Half, y: u32, rows: &[Row]) -> Added<Sheet>
     requires { y < 2 ^ 16 }
     ensures { IfOk result (λ s. s ≡ sheet ++ flat_map (spec.board_row drawing.now half y) rows.now) }
 {
@@ -106,7 +94,7 @@ fn push_other_key(
     y: u32,
     place: u32,
     key: u8,
-) -> Result<Sheet, AllocError>
+) -> Added<Sheet>
     requires low { y < 2 ^ 16 }
     requires few { place ≤ 128 }
     ensures { IfOk result (λ s. s ≡ sheet ++ spec.other_key drawing.now half y place key) }
@@ -117,13 +105,7 @@ fn push_other_key(
 }
 
 /// Adds the keys that the board doesn't have, below a line, if there are any.
-fn push_other_keys(
-    sheet: Sheet,
-    drawing: &Drawing,
-    half: Half,
-    y: u32,
-    keys: &[u8],
-) -> Result<Sheet, AllocError>
+fn push_other_keys(sheet: Sheet, drawing: &Drawing, half: Half, y: u32, keys: &[u8]) -> Added<Sheet>
     requires low { y < 2 ^ 16 }
     requires few { length keys.now ≤ 128 }
     ensures { IfOk result (λ s. s ≡ sheet ++ numbered (spec.other_key drawing.now half y) 0 keys.now) }
@@ -153,19 +135,23 @@ pub(crate) fn half_height(others: usize) -> u32
 }
 
 /// Adds whether the keymap is accepted, and how many keys the check names.
-fn push_verdict(sheet: Sheet, y: u32, count: u32) -> Result<Sheet, AllocError>
+fn push_verdict(sheet: Sheet, y: u32, count: u32) -> Added<Sheet>
     ensures { IfOk result (λ s. s ≡ sheet) }
 {
     let high = digits(y);
     match count {
         0 => adorn(sheet, IS_ACCEPTED, &[high.as_slice()]),
         1 => adorn(sheet, ONE_FINDING, &[high.as_slice()]),
-        _ => adorn(sheet, MORE_FINDINGS, &[high.as_slice(), digits(count).as_slice()]),
+        _ => adorn(
+            sheet,
+            MORE_FINDINGS,
+            &[high.as_slice(), digits(count).as_slice()],
+        ),
     }
 }
 
 /// Adds the headline of a half.
-fn push_headline(sheet: Sheet, drawing: &Drawing, half: Half, y: u32) -> Result<Sheet, AllocError>
+fn push_headline(sheet: Sheet, drawing: &Drawing, half: Half, y: u32) -> Added<Sheet>
     ensures { IfOk result (λ s. s ≡ sheet) }
 {
     let high = digits(y);
@@ -197,7 +183,7 @@ pub(crate) fn push_half(
     half: Half,
     keys: &[u8],
     y: u32,
-) -> Result<Sheet, AllocError>
+) -> Added<Sheet>
     requires low { y < 2 ^ 15 }
     requires few { length keys.now ≤ 128 }
     ensures { IfOk result (λ s. s ≡ sheet ++ spec.half_facts drawing.now half keys.now y) }
@@ -205,6 +191,10 @@ pub(crate) fn push_half(
     let sheet = push_headline(sheet, drawing, half, y + 26)?;
     let sheet = adorn(sheet, PANEL, &[digits(y + 40).as_slice()])?;
     let sheet = push_rows(sheet, drawing, half, y + 40, &ISO)?;
-    let sheet = adorn(sheet, SAMPLE, &[digits(y + 52).as_slice(), number_name(half)])?;
+    let sheet = adorn(
+        sheet,
+        SAMPLE,
+        &[digits(y + 52).as_slice(), number_name(half)],
+    )?;
     push_other_keys(sheet, drawing, half, y + 472, keys)
 }

@@ -19,7 +19,6 @@ use keymap_check::{Finding, finding_words};
 use keymap_core::{Action, Cell, Entry, KEY_COUNT, KeyMap, LockFlag};
 use keymap_text::slot_words;
 use messages::fill;
-use std::alloc::AllocError;
 
 /// The finding of a key, if the check names it.
 fn finding_of(findings: &[Finding], key: u8) -> Option<&Finding>
@@ -112,7 +111,7 @@ fn begin_key(
     x: u32,
     y: u32,
     shape: Shape,
-) -> Result<KeySheet, AllocError>
+) -> Added<KeySheet>
     ensures { IfOk result (λ s. s
         ≡ sheet ++ spec.cap drawing.now.findings slot x y shape (entry_at drawing.now.map slot)) }
 {
@@ -127,19 +126,23 @@ fn begin_key(
 }
 
 /// Adds the code of the key on its cap.
-fn push_code(
-    sheet: KeySheet,
-    slot: u8,
-    flag: LockFlag,
-    shape: Shape,
-) -> Result<KeySheet, AllocError>
+fn push_code(sheet: KeySheet, slot: u8, flag: LockFlag, shape: Shape) -> Added<KeySheet>
     ensures { IfOk result (λ s. s ≡ sheet ++ spec.code slot flag shape ∷ []) }
 {
     let KeySheet { mut text } = sheet;
     let x = digits(code_x(shape));
     let y = digits(shape.height() - 7);
     let code = digits(u32::from(slot));
-    fill(&mut text, CODE, &[x.as_slice(), y.as_slice(), code.as_slice(), flag_words(flag)])?;
+    fill(
+        &mut text,
+        CODE,
+        &[
+            x.as_slice(),
+            y.as_slice(),
+            code.as_slice(),
+            flag_words(flag),
+        ],
+    )?;
     Ok(KeySheet { text })
 }
 
@@ -166,7 +169,7 @@ fn push_legend(
     cell: &Cell,
     alone: bool,
     tight: bool,
-) -> Result<KeySheet, AllocError>
+) -> Added<KeySheet>
     ensures { IfOk result (λ s. s ≡ sheet ++ spec.legend shape column alone cell.now ∷ []) }
 {
     read_cell(cell);
@@ -190,7 +193,7 @@ fn push_drawn(
     cells: &DrawnCells,
     alone: bool,
     column: Column,
-) -> Result<KeySheet, AllocError>
+) -> Added<KeySheet>
     ensures { IfOk result (λ s. s ≡ sheet ++ spec.drawn_legend shape alone cells.now column) }
 {
     let tight = cells.cell(column.beside()).is_some() && shape.width() < 112;
@@ -202,12 +205,7 @@ fn push_drawn(
 
 /// Adds the legends of a slot.
 #[tactic(auto, unfolding(crate::specs::Keys::legends))]
-fn push_legends(
-    sheet: KeySheet,
-    map: &KeyMap,
-    shape: Shape,
-    entry: &Entry,
-) -> Result<KeySheet, AllocError>
+fn push_legends(sheet: KeySheet, map: &KeyMap, shape: Shape, entry: &Entry) -> Added<KeySheet>
     ensures { IfOk result (λ s. s ≡ sheet ++ spec.legends shape entry.now) }
 {
     let cells = drawn(entry);
@@ -219,7 +217,7 @@ fn push_legends(
 }
 
 /// Ends the group of a key.
-fn end_key(sheet: KeySheet) -> Result<Sheet, AllocError>
+fn end_key(sheet: KeySheet) -> Added<Sheet>
     ensures { IfOk result (λ s. s ≡ sheet) }
 {
     let KeySheet { mut text } = sheet;
@@ -236,7 +234,7 @@ pub(crate) fn push_key(
     x: u32,
     y: u32,
     shape: Shape,
-) -> Result<Sheet, AllocError>
+) -> Added<Sheet>
     ensures { IfOk result (λ s. s ≡ sheet ++ spec.key drawing.now slot x y shape) }
 {
     let map = drawing.map();

@@ -10,7 +10,7 @@ ghost use Rattle.keymap_draw.specs.Sheets.{is_inner};
 use crate::drawing::Drawing;
 use crate::half::Half;
 use crate::legend::{character_legend, marked};
-use crate::markup::{push_characters, push_composed_begin, push_escaped};
+use crate::markup::{Added, push_characters, push_composed_begin, push_escaped};
 use crate::place::{own_of, size_class};
 use crate::sheet::{RowSheet, Sheet, TableSheet, adorn, digits};
 use crate::tables::ACCENT_MARKS;
@@ -25,7 +25,6 @@ use keymap_core::{
 };
 use keymap_text::accent_words;
 use messages::{Line, fill};
-use std::alloc::AllocError;
 
 /// The accents by their indexes.
 pub(crate) type Accents = ArrayVec<u8, ACCENT_LIMIT>;
@@ -38,11 +37,7 @@ fn said(finding: &Finding) -> Line
 }
 
 /// Adds what the check says of each key that it names, two in a row, if there are any.
-pub(crate) fn push_findings(
-    sheet: Sheet,
-    findings: &[Finding],
-    y: u32,
-) -> Result<Sheet, AllocError>
+pub(crate) fn push_findings(sheet: Sheet, findings: &[Finding], y: u32) -> Added<Sheet>
     requires few { length findings.now ≤ 128 }
     requires low { y < 2 ^ 15 }
     ensures { IfOk result (λ s. s ≡ sheet) }
@@ -94,7 +89,7 @@ pub(crate) fn named_accents(map: &KeyMap) -> Accents
 }
 
 /// Adds a character of an accent, at its place of a line of its table.
-fn push_composed(sheet: TableSheet, place: u32, c: char) -> Result<TableSheet, AllocError>
+fn push_composed(sheet: TableSheet, place: u32, c: char) -> Added<TableSheet>
     requires { place ≤ 52 }
     ensures { IfOk result (λ s. s ≡ sheet) }
 {
@@ -113,7 +108,7 @@ fn push_parts(
     first: char,
     results: bool,
     pairs: &[(char, char)],
-) -> Result<TableSheet, AllocError>
+) -> Added<TableSheet>
     requires { length pairs.now ≤ 52 }
     ensures { IfOk result (λ s. s ≡ sheet) }
 {
@@ -126,7 +121,7 @@ fn push_parts(
 }
 
 /// Begins the table of an accent, with the line of the bases.
-fn begin_table(sheet: RowSheet) -> Result<TableSheet, AllocError>
+fn begin_table(sheet: RowSheet) -> Added<TableSheet>
     ensures { IfOk result (λ s. s ≡ sheet) }
 {
     let RowSheet { mut text } = sheet;
@@ -135,7 +130,7 @@ fn begin_table(sheet: RowSheet) -> Result<TableSheet, AllocError>
 }
 
 /// Begins the line of the results.
-fn begin_results(sheet: TableSheet) -> Result<TableSheet, AllocError>
+fn begin_results(sheet: TableSheet) -> Added<TableSheet>
     ensures { IfOk result (λ s. s ≡ sheet) }
 {
     let TableSheet { mut text } = sheet;
@@ -144,7 +139,7 @@ fn begin_results(sheet: TableSheet) -> Result<TableSheet, AllocError>
 }
 
 /// Ends the table and the row of an accent.
-fn end_table(sheet: TableSheet) -> Result<Sheet, AllocError>
+fn end_table(sheet: TableSheet) -> Added<Sheet>
     ensures { IfOk result (λ s. s ≡ sheet) }
 {
     let TableSheet { mut text } = sheet;
@@ -153,11 +148,7 @@ fn end_table(sheet: TableSheet) -> Result<Sheet, AllocError>
 }
 
 /// Adds the bases above the results, first the blank and the accent's own character.
-fn push_table(
-    sheet: RowSheet,
-    own: char,
-    pairs: &[(char, char)],
-) -> Result<Sheet, AllocError>
+fn push_table(sheet: RowSheet, own: char, pairs: &[(char, char)]) -> Added<Sheet>
     requires { length pairs.now ≤ 52 }
     ensures { IfOk result (λ s. s ≡ sheet) }
 {
@@ -169,7 +160,7 @@ fn push_table(
 }
 
 /// Adds the sign and the name of an accent, the sign in a class for its colour.
-fn push_heading(sheet: RowSheet, index: u8, x: u32, class: u8) -> Result<RowSheet, AllocError>
+fn push_heading(sheet: RowSheet, index: u8, x: u32, class: u8) -> Added<RowSheet>
     requires known { index < accent_limit }
     requires near { x < 2 ^ 16 }
     requires class { is_class class ≡ true }
@@ -180,17 +171,16 @@ fn push_heading(sheet: RowSheet, index: u8, x: u32, class: u8) -> Result<RowShee
     let sign = marked(ACCENT_MARKS[index as usize]);
     fill(&mut text, SIGN, &[digits(x).as_slice(), &[class]])?;
     push_characters(&mut text, sign.as_slice())?;
-    fill(&mut text, NAME, &[digits(x + 28).as_slice(), name.as_slice()])?;
+    fill(
+        &mut text,
+        NAME,
+        &[digits(x + 28).as_slice(), name.as_slice()],
+    )?;
     Ok(RowSheet { text })
 }
 
 /// Begins the row of an accent with its title, which is its line of the printed form.
-fn begin_accent(
-    sheet: Sheet,
-    index: u8,
-    accent: &Accent,
-    y: u32,
-) -> Result<RowSheet, AllocError>
+fn begin_accent(sheet: Sheet, index: u8, accent: &Accent, y: u32) -> Added<RowSheet>
     requires { index < accent_limit }
     ensures { IfOk result (λ s. s ≡ sheet ++ spec.accent_title index accent.now) }
 {
@@ -202,13 +192,7 @@ fn begin_accent(
 }
 
 /// Adds the row of an accent of the map, at its place of the list.
-fn push_accent(
-    sheet: Sheet,
-    map: &KeyMap,
-    y: u32,
-    place: u32,
-    index: u8,
-) -> Result<Sheet, AllocError>
+fn push_accent(sheet: Sheet, map: &KeyMap, y: u32, place: u32, index: u8) -> Added<Sheet>
     requires known { index < accent_limit }
     requires low { y < 2 ^ 16 }
     requires few { place ≤ 15 }
@@ -225,12 +209,7 @@ fn push_accent(
 }
 
 /// Adds the accents that have a character, if there are any.
-pub(crate) fn push_accents(
-    sheet: Sheet,
-    map: &KeyMap,
-    accents: &[u8],
-    y: u32,
-) -> Result<Sheet, AllocError>
+pub(crate) fn push_accents(sheet: Sheet, map: &KeyMap, accents: &[u8], y: u32) -> Added<Sheet>
     requires low { y < 2 ^ 15 }
     requires few { length accents.now ≤ 15 }
     requires known { All (λ i. i < accent_limit) accents.now }
@@ -296,16 +275,20 @@ pub(crate) fn silent_accents(drawing: &Drawing) -> Accents
 }
 
 /// Begins the row of the dead keys without an accent, below a line that says what they are.
-fn begin_silent(sheet: Sheet, y: u32) -> Result<RowSheet, AllocError>
+fn begin_silent(sheet: Sheet, y: u32) -> Added<RowSheet>
     requires { y < 2 ^ 15 }
     ensures { IfOk result (λ s. s ≡ sheet) }
 {
     let Sheet { mut text } = sheet;
-    fill(&mut text, SILENT, &[digits(y + 16).as_slice(), digits(y + 26).as_slice()])?;
+    fill(
+        &mut text,
+        SILENT,
+        &[digits(y + 16).as_slice(), digits(y + 26).as_slice()],
+    )?;
     Ok(RowSheet { text })
 }
 
-fn end_row(sheet: RowSheet) -> Result<Sheet, AllocError>
+fn end_row(sheet: RowSheet) -> Added<Sheet>
     ensures { IfOk result (λ s. s ≡ sheet) }
 {
     let RowSheet { mut text } = sheet;
@@ -314,7 +297,7 @@ fn end_row(sheet: RowSheet) -> Result<Sheet, AllocError>
 }
 
 /// Adds the dead keys without an accent, if there are any.
-pub(crate) fn push_silent(sheet: Sheet, accents: &[u8], y: u32) -> Result<Sheet, AllocError>
+pub(crate) fn push_silent(sheet: Sheet, accents: &[u8], y: u32) -> Added<Sheet>
     requires low { y < 2 ^ 15 }
     requires few { length accents.now ≤ 15 }
     requires known { All (λ i. i < accent_limit) accents.now }

@@ -8,8 +8,8 @@ use keymap_core::code_digits;
 use messages::{fill, number};
 use std::alloc::AllocError;
 
-/// Whether something could be added: there may be no memory for it.
-pub(crate) type Added = Result<(), AllocError>;
+/// What something is added to, or nothing: there may be no memory for it.
+pub(crate) type Added<T = ()> = Result<T, AllocError>;
 
 /// Whether the character is written as a reference.
 fn is_referred(c: char) -> bool

@@ -8,10 +8,11 @@ ghost use Rattle.keymap_draw.specs.Sheets.{in_svg, within, over, is_inner, are_i
 ghost use Rattle.keymap_draw.specs.WellFormed.{Tells};
 
 use crate::constants::{SHAPES, STYLE};
+use crate::markup::Added;
 use crate::words::{ACCEPTED, BEGIN, END, PAGE, REFUSED};
 use arrayvec::ArrayVec;
 use messages::{either, fill, number};
-use std::alloc::{AllocError, Global};
+use std::alloc::Global;
 use std::marker::Model;
 
 /// The text behind the head of a picture, between the parts.
@@ -95,7 +96,7 @@ pub(crate) fn digits(n: u32) -> ArrayVec<u8, 20>
 }
 
 /// Adds words that tell nothing, with a text at each of their places.
-pub(crate) fn adorn(sheet: Sheet, words: &[u8], texts: &[&[u8]]) -> Result<Sheet, AllocError>
+pub(crate) fn adorn(sheet: Sheet, words: &[u8], texts: &[&[u8]]) -> Added<Sheet>
     requires places { IsTrue (has_places words.now (map (λ t. t.now) texts.now)) }
     requires inner { are_inner (map (λ t. t.now) texts.now) ≡ true }
     requires quiet { (fs : List Fact) → over (Some (within in_svg fs)) words.now (map (λ t. t.now) texts.now)
@@ -108,13 +109,17 @@ pub(crate) fn adorn(sheet: Sheet, words: &[u8], texts: &[&[u8]]) -> Result<Sheet
 }
 
 /// The head of a picture of some height: its begin, the style, the shapes and the page.
-pub(crate) fn begin(alloc: Global, is_accepted: bool, height: u32) -> Result<Sheet, AllocError>
+pub(crate) fn begin(alloc: Global, is_accepted: bool, height: u32) -> Added<Sheet>
     ensures { IfOk result (λ s. s ≡ []) }
 {
     let mut text = Vec::new(alloc);
     let high = digits(height);
     let verdict = either(is_accepted, ACCEPTED, REFUSED);
-    fill(&mut text, BEGIN, &[high.as_slice(), high.as_slice(), verdict])?;
+    fill(
+        &mut text,
+        BEGIN,
+        &[high.as_slice(), high.as_slice(), verdict],
+    )?;
     text.extend_from_slice(&STYLE)?;
     text.extend_from_slice(&SHAPES)?;
     fill(&mut text, PAGE, &[high.as_slice()])?;
@@ -122,7 +127,7 @@ pub(crate) fn begin(alloc: Global, is_accepted: bool, height: u32) -> Result<She
 }
 
 /// The text of a picture, with the key to its colours at its end.
-pub(crate) fn finish(sheet: Sheet, y: u32) -> Result<Vec<u8>, AllocError>
+pub(crate) fn finish(sheet: Sheet, y: u32) -> Added<Vec<u8>>
     ensures { IfOk result (λ text. Tells sheet text.items) }
 {
     let Sheet { mut text } = sheet;

@@ -11,6 +11,7 @@ use crate::lists::{
     accents_height, findings_height, named_accents, push_accents, push_findings, push_silent,
     silent_accents, silent_height,
 };
+use crate::markup::Added;
 use crate::sheet::{Sheet, begin, finish};
 use arrayvec::ArrayVec;
 use keymap_check::Report;
@@ -59,7 +60,7 @@ fn starts_of(drawing: &Drawing, lower: usize, upper: usize, named: usize, silent
 
 /// Adds the drawing of the upper half, if it is live.
 #[tactic(auto, unfolding(crate::specs::Pictures::upper))]
-fn push_upper(sheet: Sheet, drawing: &Drawing, keys: &[u8], y: u32) -> Result<Sheet, AllocError>
+fn push_upper(sheet: Sheet, drawing: &Drawing, keys: &[u8], y: u32) -> Added<Sheet>
     requires low { y ≤ 906 }
     requires few { length keys.now ≤ 128 }
     ensures { IfOk result (λ s. s ≡ sheet ++ spec.upper drawing.now keys.now y) }
@@ -92,7 +93,7 @@ fn picture_with(
     upper: &[u8],
     named: &[u8],
     silent: &[u8],
-) -> Result<Vec<u8>, AllocError>
+) -> Added<Vec<u8>>
     requires lower { length lower.now ≤ 128 }
     requires upper { length upper.now ≤ 128 }
     requires named { length named.now ≤ 15 }

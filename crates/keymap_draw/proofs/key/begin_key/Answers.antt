@@ -37,5 +37,11 @@ pub returns : goal.returns
 unfolding title
 returns c =
     told (read c) ∙ key_told _ _ _ _ _
-    ∙ rw (c.key_class.ensures.value, c.findings-findings.ensures.findings, c.as_slice.ensures.value,
-    c.slot_words.ensures, c.entry-entry.ensures, c.map.ensures.map) refl
+    ∙ rw (
+      c.key_class.ensures.value,
+      c.findings-findings.ensures.findings,
+      c.as_slice.ensures.value,
+      c.slot_words.ensures,
+      c.entry-entry.ensures,
+      c.map.ensures.map,
+    ) refl

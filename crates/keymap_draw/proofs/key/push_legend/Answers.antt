@@ -26,5 +26,10 @@ invariant_of-result c = is_within (read c)
 pub returns : goal.returns
 returns c =
     told (read c)
-    ∙ rw (c.legend_x-x.ensures, c.legend_y-y.ensures, c.is_word.ensures, c.as_slice-legend.ensures.value,
-    c.cell_legend-legend.ensures) refl
+    ∙ rw (
+      c.legend_x-x.ensures,
+      c.legend_y-y.ensures,
+      c.is_word.ensures,
+      c.as_slice-legend.ensures.value,
+      c.cell_legend-legend.ensures,
+    ) refl

@@ -32,8 +32,13 @@ read c =
     c.in_ok-fill.ensures
     (filling {t = begun} words.BEGIN.now
     (c.as_slice.result.now ∷ c.as_slice-2.result.now ∷ c.either-verdict.result.now ∷ [])
-    (rw (c.as_slice.ensures.value, c.as_slice-2.ensures.value, c.digits-high.ensures.inner, c.either-verdict.ensures,
-    verdict_inner c.args.is_accepted) refl) refl))
+    (rw (
+      c.as_slice.ensures.value,
+      c.as_slice-2.ensures.value,
+      c.digits-high.ensures.inner,
+      c.either-verdict.ensures,
+      verdict_inner c.args.is_accepted,
+    ) refl) refl))
     c.in_ok-extend_from_slice.ensures.items style_in)
     c.in_ok-extend_from_slice-2.ensures.items shapes_in)
     c.in_ok-fill-2.ensures

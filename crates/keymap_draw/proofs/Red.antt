@@ -1,13 +1,16 @@
--- A red cap is that of a key with a finding.
+-- A red cap is that of a key with a finding, and which classes a key has.
 use Rattle.std.proofs.Common.{◌≡◌, ℕ, ◌==◌, Bool, true, false, List, [], ◌∷◌, Option, Some, None, refl, sym, ap}
-use Rattle.std.proofs.Common.{◌∙◌, arith}
-use Rattle.std.specs.Prelude.{◌%◌, if◌then◌else◌}
+use Rattle.std.proofs.Common.{◌∙◌, arith, All}
+use Rattle.std.specs.Prelude.{◌%◌, option_to_list, if◌then◌else◌}
+use Rattle.std.specs.List.{list_all}
 use Rattle.std.specs.Option.{is_some}
 use Rattle.keymap_core.specs.Numbers.{key_count}
 use Rattle.keymap_core.specs.declared.entry.Entry.{Entry}
 use Rattle.keymap_check.specs.declared.finding.Finding.{Finding}
 use Rattle.keymap_draw.specs.Drawn.{column}
 use Rattle.keymap_draw.specs.Keys.{finding_of, names_key, red, key_class, is_blank_entry, is_holding, is_doing}
+use Rattle.keymap_draw.specs.Places.{is_class, IsClass}
+use Rattle.keymap_draw.proofs.Shown.{all_from}
 
 -- by whether the first finding is the key's
 found_by : (f : Finding) (fs : List Finding) (k : ℕ) (b : Bool) → f.key == k ≡ b
@@ -52,3 +55,18 @@ unfolding key_class
 named_red fs slot e h =
     ap (λ b. if b then Some red else other_class (is_blank_entry e) (is_holding (column e 0)) (is_doing (column e 0)))
     (found fs (slot % key_count) ∙ h)
+
+class_listed : (named blank holding doing : Bool)
+    → list_all is_class (option_to_list (if named then Some red else other_class blank holding doing)) ≡ true
+class_listed true blank holding doing = refl
+class_listed false true holding doing = refl
+class_listed false false true doing = refl
+class_listed false false false true = refl
+class_listed false false false false = refl
+
+pub keys_classed : (fs : List Finding) (slot : ℕ) (e : Entry) → All IsClass (option_to_list (key_class fs slot e))
+unfolding key_class
+keys_classed fs slot e =
+    all_from is_class _
+    (class_listed (is_some (finding_of fs (slot % key_count))) (is_blank_entry e) (is_holding (column e 0))
+    (is_doing (column e 0)))

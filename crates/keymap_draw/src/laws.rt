@@ -1,5 +1,5 @@
 //! Laws of the definitions. No function here does anything.
-ghost use Rattle.std.specs.Prelude.{◌≡◌, ℕ, ◌%◌, ◌<◌, ◌++◌, List, Some, true, All, codes};
+ghost use Rattle.std.specs.Prelude.{◌≡◌, ℕ, ◌%◌, ◌<◌, ◌++◌, List, Some, true, All, option_to_list, codes};
 ghost use Rattle.keymap_core.specs.Accents.{AccentValue};
 ghost use Rattle.keymap_core.specs.Bounds.{IsCell};
 ghost use Rattle.keymap_core.specs.Numbers.{key_count};
@@ -15,6 +15,7 @@ ghost use Rattle.keymap_draw.specs.Letters.{MarksAreOfTheirAccents};
 ghost use Rattle.keymap_draw.specs.Legends.{cell_legend};
 ghost use Rattle.keymap_draw.specs.Names.{LegendsAreNames, NoOthersAreNamed};
 ghost use Rattle.keymap_draw.specs.Pictures.{IsPicture};
+ghost use Rattle.keymap_draw.specs.Places.{IsClass};
 ghost use Rattle.keymap_draw.specs.Shapes.{CapsAreOfTheirKeys};
 ghost use Rattle.keymap_draw.specs.Titles.{squeezed};
 ghost use Rattle.keymap_draw.specs.Told.{TitlesTell, PicturesTellDefinitions, PicturesTellKeymaps};
@@ -47,6 +48,13 @@ pub fn legends_are_shown()
     ensures seen { (cell : CellValue) → IsCell cell → All IsSeen (cell_legend cell) }
     ensures key { (slot : ℕ) (e : EntryValue) → slot < 256 → All IsCell e.cells → All IsSeen (slot_words slot e) }
     ensures accent { (i : ℕ) (accent : AccentValue) → All IsSeen (accent_words i accent) }
+{}
+
+/// The class of a key is a letter out of a fixed list, whatever the keymap is. So are those of legends, which the
+/// functions of `place` ensure.
+pub fn classes_are_of_a_list()
+    ensures { (fs : List FindingValue) (slot : ℕ) (e : EntryValue)
+        → All IsClass (option_to_list (key_class fs slot e)) }
 {}
 
 /// What the title of a key tells is its line of the printed form with one blank between its words, and what that of an

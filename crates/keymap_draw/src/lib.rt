@@ -1,14 +1,14 @@
 //! One picture of a keymap: its keys with their legends on a board, as SVG.
 //!
-//! [`picture`] puts it together from small parts, each a definition of specs/: `Markup` has numbers, references and
-//! text elements, `Legends` what is written on a cap for a cell, `Drawn` which cells are drawn, `Places` where and in
-//! which classes, `Keys` a key, `Halves` a board, `Lists` what stands below, `Pictures` the whole.
+//! [`picture`] puts it together as a sheet, which is seen as the facts that a reader makes of its bytes (`Facts`,
+//! `WellFormed`): titles, keys with class, place and cap, and texts on caps. `Pictures` says which facts a picture
+//! tells, `Halves` those of a board, `Keys` those of a key, `Lists` those of the accents; `Legends` has what is written
+//! on a cap for a cell, `Drawn` which cells are drawn, `Places` where.
 //!
-//! It is proved that its bytes are those of the definition; and in [`laws`] that these bytes are plain ASCII and well
-//! formed in the sense of `WellFormed`, that legends have characters of XML alone that can be seen and classes are out
-//! of a list, that titles are lines of the printed form and tell the keymap (`Told`), that a cap is red exactly if one
-//! of the findings is of its key, and that the tables of keys, capitals and marks are those of `Keyboards` and
-//! `Letters`.
+//! It is proved that its bytes tell these facts and no other ones; and in [`laws`] that they are plain ASCII and well
+//! formed, that legends have characters of XML alone that can be seen and classes are out of a list, that titles are
+//! lines of the printed form and tell the keymap (`Told`), that a cap is red exactly if one of the findings is of its
+//! key, and that the tables of keys, capitals and marks are those of `Keyboards` and `Letters`.
 #![tactic(auto)]
 
 mod board;

@@ -1,5 +1,4 @@
+mod Adding
 mod Ascii
 mod Windows
-mod Pieces
-pub mod Plain
-pub mod Printed
+pub mod Lines

@@ -1,6 +1,6 @@
 -- What is shown of bytes, and what is told in words, stays in its line, and a terminal shows it.
 use Prim.Native.Nat.{zero, suc}
-use Rattle.std.proofs.Common.{◌≡◌, ℕ, ◌<◌, Bool, true, false, List, [], ◌∷◌, ◌++◌, refl, ap, sym, ◌∙◌, arith, rules}
+use Rattle.std.proofs.Common.{◌≡◌, ℕ, ◌<◌, Bool, true, false, List, [], ◌∷◌, ◌++◌, refl, ap, sym, subst, ◌∙◌, arith, rules}
 use Rattle.std.proofs.Common.{All, Option, Some, None, append-nil, take, drop, length}
 use Rattle.std.specs.Prelude.{◌/◌, ◌%◌, ◌==◌, ◌||◌, ◌+◌, ◌-◌, not, nat_lt, codes, decimal, map, encode_utf8, IsTrue}
 use Rattle.std.specs.Prelude.{slice_index_or, if◌then◌else◌}
@@ -26,12 +26,23 @@ use Rattle.keymap_core.specs.declared.action.Modifier.TheVariants as mods
 use Rattle.keymap_core.specs.declared.action.Lock.TheVariants as locks
 use Rattle.keymap_core.specs.declared.action.Holding.{Holding}
 use Rattle.keymap_core.specs.declared.action.Holding.TheVariants as holds
+use Rattle.keymap_lint.specs.declared.diagnostic.Kind.{Kind}
+use Rattle.keymap_lint.specs.declared.diagnostic.Kind.TheVariants as kinds
+use Rattle.keymap_lint.specs.declared.diagnostic.Severity.{Severity}
+use Rattle.keymap_lint.specs.declared.diagnostic.Severity.TheVariants as severities
+use Rattle.keymap_text.specs.declared.fault.TextFaultKind.{TextFaultKind}
+use Rattle.keymap_text.specs.declared.fault.TextFaultKind.TheVariants as faults
+use Rattle.keymap_text.specs.FaultNames.{fault_name}
+use Rattle.keymap_text.specs.LineOf.{before_in_line}
+use Rattle.keymap_text.specs.Meaning.{line}
 use Rattle.keymap_text.specs.Printed.{character_text, control_name, hex, hex4, hex_at}
 use Rattle.keymap_text.specs.Words.{control_names}
 use Rattle.messages.specs.Filled.{filled, words_before, words_behind, is_hole}
 use Rattle.keymap_lint_text.specs.Excerpt.{excerpt, lines_of, shown_line, caret_line, below, left_out}
 use Rattle.keymap_lint_text.specs.Excerpt.{shown_before, without_cr}
+use Rattle.keymap_lint_text.specs.Heads.{Said, Entry, IsMessage, head, place_text, said_text}
 use Rattle.keymap_lint_text.specs.Notes as notes
+use Rattle.keymap_lint_text.specs.Said.{kind_text, severity_text}
 use Rattle.keymap_lint_text.specs.Shown.{shown_char, shown_chars, shown_name, is_seen, is_shown_byte, IsSeen, IsLine}
 use Rattle.keymap_lint_text.specs.Shown.{AreLines}
 use Rattle.keymap_lint_text.specs.declared.words.TheConstants as words
@@ -161,6 +172,24 @@ line_flat f each xs = line_each (λ _. Unit {0}) f (λ x _. each x) xs (λ k d _
 
 -- ---- digits
 
+-- what each digit passes, all digits of a number pass
+onto_all : (p : ℕ → Bool) → ((d : ℕ) → d < 10 → p (digit_glyph false d) ≡ true) → (k n : ℕ) (acc : List ℕ)
+    → list_all p acc ≡ true → list_all p (digits_onto k 10 false n acc) ≡ true
+onto_all p each zero n acc h = h
+onto_all p each (suc k) n acc h =
+    let here : list_all p (digit_glyph false (n % 10) ∷ acc) ≡ true = rw (each (n % 10) (omega arith), h) refl in
+    choose (n / 10 == 0) _ _ here (onto_all p each k (n / 10) (digit_glyph false (n % 10) ∷ acc) here)
+  where
+    choose : (b : Bool) (xs ys : List ℕ) → list_all p xs ≡ true → list_all p ys ≡ true
+        → list_all p (if b then xs else ys) ≡ true
+    choose true xs ys h k = h
+    choose false xs ys h k = k
+
+pub decimal_all : (p : ℕ → Bool) → ((d : ℕ) → d < 10 → p (digit_glyph false d) ≡ true) → (n : ℕ)
+    → list_all p (decimal n) ≡ true
+unfolding digits
+decimal_all p each n = onto_all p each 64 n [] refl
+
 glyph_printed : (d : ℕ) → d < 10 → is_shown_byte (digit_glyph false d) ≡ true
 glyph_printed d low = along (λ d. is_shown_byte (digit_glyph false d)) (λ d. true) 0 10 refl d (omega arith) (omega arith)
 
@@ -170,16 +199,8 @@ digit_printed d low = along (λ d. is_shown_byte (digit_char d)) (λ d. true) 0 
 in_front : (c : ℕ) (bs : List ℕ) → is_shown_byte c ≡ true → IsLine bs → IsLine (c ∷ bs)
 in_front c bs h p = line_append (c ∷ []) bs (ascii (c ∷ []) (rw h refl)) p
 
-onto_line : (k n : ℕ) (acc : List ℕ) → IsLine acc → IsLine (digits_onto k 10 false n acc)
-onto_line zero n acc p = p
-onto_line (suc k) n acc p =
-    let here : IsLine (digit_glyph false (n % 10) ∷ acc) =
-    in_front (digit_glyph false (n % 10)) acc (glyph_printed (n % 10) (omega arith)) p in
-    either (n / 10 == 0) _ _ here (onto_line k (n / 10) (digit_glyph false (n % 10) ∷ acc) here)
-
 pub decimal_line : (n : ℕ) → IsLine (decimal n)
-unfolding digits
-decimal_line n = onto_line 64 n [] line_none
+decimal_line n = ascii (decimal n) (decimal_all is_shown_byte glyph_printed n)
 
 pub digit_line : (d : ℕ) (bs : List ℕ) → d < 16 → IsLine bs → IsLine (digit_char d ∷ bs)
 digit_line d bs low p = in_front (digit_char d) bs (digit_printed d low) p
@@ -285,6 +306,45 @@ sticks_line stuck events =
         (events_line events, tt),
       ),
     )
+
+-- ---- names of kinds, and a whole line
+
+pub kind_line : (kind : Kind) → IsLine (kind_text kind)
+unfolding kind_text
+kind_line kinds.NoKey = ascii _ refl
+kind_line _ = ascii _ refl
+
+pub fault_name_line : (kind : TextFaultKind) → IsLine (fault_name kind)
+fault_name_line faults.BadByte = ascii _ refl
+fault_name_line _ = ascii _ refl
+
+severity_line : (s : Severity) → IsLine (severity_text s)
+severity_line severities.Error = ascii _ refl
+severity_line _ = ascii _ refl
+
+place_line : (file text : List ℕ) (place : Option ℕ) → IsLine file → IsLine (place_text file text place)
+place_line file text None p = line_append _ _ p (ascii _ refl)
+place_line file text (Some place) p =
+    line_append _ _ (
+    line_append _ _ (
+    line_append _ _ (line_append _ _ (line_append _ _ p (ascii _ refl)) (decimal_line (line text place)))
+    (ascii _ refl))
+    (decimal_line (length (before_in_line text place) + 1))) (ascii _ refl)
+
+said_line : (s : Said) (message : List ℕ) → IsMessage s message → IsLine (said_text s message)
+said_line (Said.Judged severity kind) message (p, q) =
+    line_append _ _ (
+    line_append _ _ (
+    line_append _ _ (line_append _ _ (line_append _ _ (severity_line severity) (ascii (codes ": ") refl)) q)
+    (ascii (codes " [") refl)) p)
+    (ascii (codes "]") refl)
+said_line Said.Noted message p = line_append _ _ (ascii (codes "note: ") refl) p
+said_line (Said.Sticking modifiers events) message e =
+    line_append _ _ (ascii (codes "note: ") refl) (subst IsLine (sym e) (sticks_line modifiers events))
+
+pub head_line : (file text : List ℕ) (e : Entry) (message : List ℕ) → IsLine file → IsMessage e.said message
+    → IsLine (head file text e message)
+head_line file text e message p q = line_append _ _ (place_line file text e.place p) (said_line e.said message q)
 
 -- ---- the line of a place and the caret, and a name
 

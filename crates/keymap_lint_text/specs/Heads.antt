@@ -33,10 +33,16 @@ place_text file text (Some place) =
     file ++ codes ":" ++ decimal (line text place) ++ codes ":"
     ++ decimal (length (before_in_line text place) + 1) ++ codes ": "
 
+-- a diagnostic and a note, with a message
+abbrev pub judged_text : List ℕ → List ℕ → List ℕ → List ℕ
+judged_text severity message kind = severity ++ codes ": " ++ message ++ codes " [" ++ kind ++ codes "]"
+
+abbrev pub noted_text : List ℕ → List ℕ
+noted_text message = codes "note: " ++ message
+
 abbrev pub said_text : Said → List ℕ → List ℕ
-said_text (Said.Judged severity kind) message =
-    severity_text severity ++ codes ": " ++ message ++ codes " [" ++ kind ++ codes "]"
-said_text _ message = codes "note: " ++ message
+said_text (Said.Judged severity kind) message = judged_text (severity_text severity) message kind
+said_text _ message = noted_text message
 
 -- the first line of an entry
 abbrev pub head : List ℕ → List ℕ → Entry → List ℕ → List ℕ
@@ -47,10 +53,12 @@ abbrev pub below : List ℕ → Option ℕ → List (List ℕ)
 below text None = []
 below text (Some place) = excerpt (before_in_line text place) (rest_of_line text place)
 
--- the message is a line of what a terminal shows; of modifiers that stay on it is told which, and after which events
+-- The message, as the name of a kind, is in one line what a terminal shows. Of modifiers that stay on it tells which,
+-- and after which events.
 abbrev pub IsMessage : Said → List ℕ → Type 0
+IsMessage (Said.Judged severity kind) message = IsLine kind × IsLine message
 IsMessage (Said.Sticking modifiers events) message = message ≡ sticks_text modifiers events
-IsMessage _ message = IsLine message
+IsMessage Said.Noted message = IsLine message
 
 -- What is printed of an entry, under these bytes in place of the file's name.
 pub record IsPrinted (file text : List ℕ) (e : Entry) (printed : List ℕ) : Type 0 where

@@ -4,4 +4,5 @@ pub mod Said
 pub mod Notes
 pub mod Excerpt
 pub mod Shown
+pub mod Promises
 pub mod Inner

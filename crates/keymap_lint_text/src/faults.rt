@@ -36,44 +36,23 @@ fn is_refused(text: &[u8], place: usize) -> bool
 }
 
 /// The word in front of bytes.
-fn front_word(bytes: &[u8]) -> &[u8]
-{
+fn front_word(bytes: &[u8]) -> &[u8] {
     match bytes.iter().position(|c| !c.is_ascii_alphanumeric()) {
         Some(end) => &bytes[..end],
         None => bytes,
     }
 }
 
-/// The hexadecimal digits in front of bytes.
-fn hex_front(bytes: &[u8]) -> &[u8]
-{
-    match bytes.iter().position(|c| !c.is_ascii_hexdigit()) {
-        Some(end) => &bytes[..end],
-        None => bytes,
-    }
-}
-
 /// The hexadecimal digits behind `U+` in front of bytes.
-fn unicode_digits(bytes: &[u8]) -> &[u8]
-{
-    if bytes.len() >= 2 && bytes[0] == b'U' && bytes[1] == b'+' {
-        hex_front(&bytes[2..])
-    } else {
-        &[]
+fn unicode_digits(bytes: &[u8]) -> &[u8] {
+    if bytes.len() < 2 || bytes[0] != b'U' || bytes[1] != b'+' {
+        return &[];
     }
-}
-
-/// The front of bytes in which their first character stands whole.
-fn few_bytes(bytes: &[u8]) -> &[u8]
-{
-    if bytes.len() < 4 { bytes } else { &bytes[..4] }
-}
-
-/// The character in front of bytes, as it is shown.
-fn front(alloc: Global, bytes: &[u8]) -> Result<Vec<u8>, AllocError>
-    ensures { IfOk result (λ text. IsLine text.items) }
-{
-    first_shown(alloc, few_bytes(bytes), 1)
+    let rest = &bytes[2..];
+    match rest.iter().position(|c| !c.is_ascii_hexdigit()) {
+        Some(end) => &rest[..end],
+        None => rest,
+    }
 }
 
 fn hex_digit(digit: u8) -> u8
@@ -95,38 +74,23 @@ fn hex_byte(byte: u8) -> [u8; 2]
     [hex_digit(byte / 16), hex_digit(byte % 16)]
 }
 
-fn first_byte(bytes: &[u8]) -> u8
-{
-    if bytes.is_empty() { 0 } else { bytes[0] }
-}
-
-/// Whether a byte order mark stands in front of bytes.
-fn begins_with_mark(bytes: &[u8]) -> bool
-{
-    bytes.len() >= 3 && bytes[0] == 0xef && bytes[1] == 0xbb && bytes[2] == 0xbf
-}
-
-/// What is said of bytes that begin no token.
+/// What is said of bytes that begin no token. Their first character stands whole in four of them.
 fn bad_byte(alloc: Global, bytes: &[u8]) -> Result<Vec<u8>, AllocError>
     ensures { IfOk result (λ text. IsLine text.items) }
 {
-    let byte = first_byte(bytes);
+    let byte = if bytes.is_empty() { 0 } else { bytes[0] };
     if byte < 33 || byte == 127 {
         message(alloc, UNNAMED_BYTE, &[&hex_byte(byte)])
-    } else if begins_with_mark(bytes) {
+    } else if bytes.starts_with(b"\xef\xbb\xbf") {
         message(alloc, MARK, &[])
     } else {
-        let character = front(alloc, bytes)?;
-        message(
-            alloc,
-            BAD_BYTE,
-            &[character.as_slice(), character.as_slice()],
-        )
+        let character = first_shown(alloc, &bytes[..bytes.len().min(4)], 1)?;
+        let character = character.as_slice();
+        message(alloc, BAD_BYTE, &[character, character])
     }
 }
 
-fn wants_character(wanted: Wanted) -> bool
-{
+fn wants_character(wanted: Wanted) -> bool {
     matches!(
         wanted,
         Wanted::Cell { .. }
@@ -136,8 +100,7 @@ fn wants_character(wanted: Wanted) -> bool
     )
 }
 
-fn wants_cell(wanted: Wanted) -> bool
-{
+fn wants_cell(wanted: Wanted) -> bool {
     matches!(wanted, Wanted::Cell { .. })
 }
 
@@ -181,14 +144,8 @@ fn bad_word(alloc: Global, bytes: &[u8], wanted: Wanted) -> Result<Vec<u8>, Allo
     }
 }
 
-fn is_letter(meaning: &Meaning) -> bool
-{
-    matches!(meaning, Meaning::Letter(_))
-}
-
-fn is_lock_letter(token: &[u8]) -> bool
-{
-    token.len() == 1 && is_letter(&word_meaning(token))
+fn is_lock_letter(token: &[u8]) -> bool {
+    token.len() == 1 && matches!(&word_meaning(token), Meaning::Letter(_))
 }
 
 /// How many cells the slot has, where its lock letter may be meant.
@@ -214,18 +171,6 @@ fn cells(
     }
 }
 
-/// Whether the word is one of a screen, and not of a function key.
-fn is_screen(bytes: &[u8]) -> bool
-{
-    !bytes.is_empty() && bytes[0].to_ascii_lowercase() == b's'
-}
-
-/// The bytes but for the last one.
-fn but_last(bytes: &[u8]) -> &[u8]
-{
-    &bytes[..bytes.len().saturating_sub(1)]
-}
-
 /// What is said of a text that ends inside a token or a definition.
 fn end_inside(alloc: Global, source: &[u8], fault: &FaultPlace) -> Result<Vec<u8>, AllocError>
     requires { fault.now.behind ≤ length source.now }
@@ -237,13 +182,6 @@ fn end_inside(alloc: Global, source: &[u8], fault: &FaultPlace) -> Result<Vec<u8
         let what = wanted(alloc, fault.wanted, fault.definition)?;
         message(alloc, ENDS, &[what.as_slice()])
     }
-}
-
-/// The bytes from a place on.
-fn bytes_from(bytes: &[u8], place: usize) -> &[u8]
-    requires { place ≤ length bytes.now }
-{
-    &bytes[place..]
 }
 
 /// What is said of the fault of a text at a place.
@@ -258,7 +196,7 @@ pub(crate) fn fault_message(
     requires behind { fault.now.behind ≤ length source.now }
     ensures { IfOk result (λ text. IsLine text.items) }
 {
-    let rest = bytes_from(source, place);
+    let rest = &source[place..];
     let name = front_word(rest);
     let told = word(alloc, name)?;
     let told = told.as_slice();
@@ -280,7 +218,8 @@ pub(crate) fn fault_message(
         TextFaultKind::KeyTooLarge => message(alloc, KEY_TOO_LARGE, &[told]),
         TextFaultKind::BadChar => message(alloc, BAD_CHAR, &[told]),
         TextFaultKind::BadFunction => {
-            let names = one_of(is_screen(name), SCREENS, FUNCTION_KEYS);
+            let is_screen = !name.is_empty() && name[0].to_ascii_lowercase() == b's';
+            let names = one_of(is_screen, SCREENS, FUNCTION_KEYS);
             message(alloc, BAD_FUNCTION, &[told, names])
         }
         TextFaultKind::TooManyPairs => {
@@ -289,7 +228,7 @@ pub(crate) fn fault_message(
         }
         TextFaultKind::ZeroBase => message(alloc, ZERO_BASE, &[]),
         TextFaultKind::Combined => {
-            let alone = word(alloc, but_last(name))?;
+            let alone = word(alloc, &name[..name.len().saturating_sub(1)])?;
             message(alloc, COMBINED, &[told, alone.as_slice()])
         }
         TextFaultKind::EndInside => end_inside(alloc, source, fault),

@@ -9,7 +9,6 @@ ghost use Rattle.keymap_lint_text.specs.Whole.{answer, beginning, of_diagnostic,
 ghost use Rattle.keymap_lint_text.specs.Whole.{tells_beginning as tells_beginning_of};
 ghost use Rattle.keymap_lint.specs.Positions.{IsWithin};
 ghost use Rattle.std.specs.List.{flat_map};
-ghost use Rattle.messages.specs.Filled.{filled as filled_words};
 
 use crate::excerpt::push_excerpt;
 use crate::faults::fault_message;
@@ -36,16 +35,24 @@ fn tells_beginning(kind: TextFaultKind) -> bool
 }
 
 /// What a diagnostic says: `SEVERITY: MESSAGE [KIND]`.
+#[tactic(auto, unfolding(messages::specs::Filled::filled))]
 fn judged(
     alloc: Global,
     severity: &[u8],
     message: &[u8],
     kind: &[u8],
 ) -> Result<Vec<u8>, AllocError>
-    ensures { IfOk result (λ text. text.items
-        ≡ filled_words DIAGNOSTIC.now (severity.now ∷ message.now ∷ kind.now ∷ [])) }
+    ensures { IfOk result (λ text. text.items ≡ spec.judged_text severity.now message.now kind.now) }
 {
     filled(alloc, DIAGNOSTIC, &[severity, message, kind])
+}
+
+/// What a note says: `note: MESSAGE`.
+#[tactic(auto, unfolding(messages::specs::Filled::filled))]
+fn noted(alloc: Global, message: &[u8]) -> Result<Vec<u8>, AllocError>
+    ensures { IfOk result (λ text. text.items ≡ spec.noted_text message.now) }
+{
+    filled(alloc, NOTE, &[message])
 }
 
 /// Prints what is said of a text under these bytes in place of the file's name.
@@ -59,6 +66,7 @@ pub(crate) struct Printer<'a> {
 impl<'a> Printer<'a> {
     /// Adds what is said at a place, if it has one: `FILE:LINE:COLUMN: SAID`, the line of the text and the caret, or
     /// `FILE: SAID` alone.
+    #[tactic(auto, unfolding(messages::specs::Filled::filled))]
     fn push(&self, text: &mut Vec<u8>, place: Option<usize>, said: &[u8]) -> Result<(), AllocError>
         requires { IfSome place (λ p. p ≤ length self.now.source.now) }
         ensures { OnOk result (text.new.items ≡ text.old.items
@@ -95,6 +103,7 @@ impl<'a> Printer<'a> {
         message: &[u8],
     ) -> Result<(), AllocError>
         requires place { IfSome place (λ p. p ≤ length self.now.source.now) }
+        requires kind { IsLine kind.now }
         requires message { IsLine message.now }
         ensures { OnOk result (Adds self.now.file.now self.now.source.now
             (spec.entry place (Said.Judged severity kind.now) ∷ []) text.old.items text.new.items) }
@@ -115,7 +124,7 @@ impl<'a> Printer<'a> {
         ensures { OnOk result (Adds self.now.file.now self.now.source.now
             (spec.entry place Said.Noted ∷ []) text.old.items text.new.items) }
     {
-        let said = filled(self.alloc, NOTE, &[message])?;
+        let said = noted(self.alloc, message)?;
         self.push(text, place, said.as_slice())
     }
 
@@ -130,7 +139,7 @@ impl<'a> Printer<'a> {
             (spec.entry None (Said.Sticking modifiers.now events.now) ∷ []) text.old.items text.new.items) }
     {
         let message = sticks_message(self.alloc, modifiers, events)?;
-        let said = filled(self.alloc, NOTE, &[message.as_slice()])?;
+        let said = noted(self.alloc, message.as_slice())?;
         self.push(text, None, said.as_slice())
     }
 

@@ -1,11 +1,16 @@
-use Rattle.std.proofs.Common.{subst, ◌∷◌, [], Some}
+use Rattle.std.proofs.Common.{subst, sym, ◌∷◌, [], Some}
 use Rattle.std.proofs.lemmas.Result.{on_ok_weaker}
 use Rattle.keymap_lint.specs.declared.diagnostic.Severity.TheVariants.{Error}
 use Rattle.keymap_lint_text.specs.Heads.{Said, entry}
 use Rattle.keymap_lint_text.specs.Inner.Adding.{Adds}
 use Rattle.keymap_lint_text.specs.Whole.{beginning}
+use Rattle.keymap_lint_text.specs.Shown.{IsLine}
+use Rattle.keymap_lint_text.proofs.Lines.{fault_name_line}
 use Rattle.keymap_lint_text.proofs.Adding.{adds_both}
 use Rattle.keymap_lint_text.proofs.printer.Printer.fault.Goals as goal
+
+pub diagnostic-requires-clause-kind : goal.diagnostic-requires-clause-kind
+diagnostic-requires-clause-kind c = subst IsLine (sym c.name.ensures.name) (fault_name_line c.args.kind)
 
 pub returns : goal.returns
 returns c =

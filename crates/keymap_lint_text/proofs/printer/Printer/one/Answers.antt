@@ -1,8 +1,13 @@
-use Rattle.std.proofs.Common.{◌∙◌, sym, ap}
+use Rattle.std.proofs.Common.{◌∙◌, sym, ap, subst}
 use Rattle.std.proofs.lemmas.Result.{on_ok_weaker}
 use Rattle.keymap_lint.specs.Severities.{severity_of}
+use Rattle.keymap_lint_text.specs.Shown.{IsLine}
+use Rattle.keymap_lint_text.proofs.Lines.{kind_line}
 use Rattle.keymap_lint_text.proofs.Adding.{adds_with_answer}
 use Rattle.keymap_lint_text.proofs.printer.Printer.one.Goals as goal
+
+pub diagnostic-requires-clause-kind : goal.diagnostic-requires-clause-kind
+diagnostic-requires-clause-kind c = subst IsLine (sym c.kind_text.ensures) (kind_line c.args.diagnostic.now.kind)
 
 pub returns-then-is_noted : goal.returns-then-is_noted
 returns-then-is_noted c =

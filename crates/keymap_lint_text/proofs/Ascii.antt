@@ -25,7 +25,7 @@ small_byte c h = grind (arith, nat_tests, h)
 same_char : (c : ℕ) → is_shown_byte c ≡ true → shown_char c ≡ c
 same_char c h = grind (arith, nat_tests, h)
 
-encoded : (bs : List ℕ) → list_all is_shown_byte bs ≡ true → encode_utf8_all bs ≡ bs
+pub encoded : (bs : List ℕ) → list_all is_shown_byte bs ≡ true → encode_utf8_all bs ≡ bs
 encoded [] h = refl
 encoded (c ∷ bs) h =
     let both = and_parts _ _ h in

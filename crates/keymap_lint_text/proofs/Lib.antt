@@ -1,5 +1,8 @@
+mod Adding
+mod Alike
 mod Ascii
+mod Carets
+mod Headed
 mod Windows
-mod Pieces
+pub mod Lines
 pub mod Plain
-pub mod Printed

@@ -1,5 +1,5 @@
 -- The characters of a line, before a place and from it on.
-use Rattle.std.proofs.Common.{◌≡◌, ◌⊎◌, inl, inr, ℕ, ◌+◌, ◌-◌, ◌≤◌, ◌<◌, Bool, true, false, nat_lt, List, [], ◌++◌}
+use Rattle.std.proofs.Common.{◌≡◌, ◌⊎◌, inl, inr, ℕ, ◌+◌, ◌-◌, ◌≤◌, ◌<◌, Bool, true, false, nat_lt, List, [], ◌∷◌, ◌++◌}
 use Rattle.std.proofs.Common.{codes, length, take}
 use Rattle.std.proofs.Common.{drop, map, refl, ap, sym, ◌∙◌, arith, length-append, length-take, length-drop, take-take}
 use Rattle.std.proofs.Common.{drop-drop, take_all}
@@ -45,12 +45,11 @@ reached n m xs ys h =
     ap (take n) (sym whole) ∙ take-take n (length xs + m) (xs ++ ys) h
 
 -- both lines by whether some are left out in front, the characters that are shown, whether some are left out behind,
--- and
--- what stands below
-abbrev lines_by : Bool → List ℕ → Bool → List ℕ → List ℕ
+-- and what stands below
+abbrev lines_by : Bool → List ℕ → Bool → List ℕ → List (List ℕ)
 lines_by some part more under =
-    (codes "  " ++ (if some then codes ".." else []) ++ flat_map encode_utf8 part ++ (if more then codes ".." else [])
-    ++ codes "\n") ++ (codes "  " ++ (if some then codes "  " else []) ++ under ++ codes "^\n")
+    (codes "  " ++ (if some then codes ".." else []) ++ flat_map encode_utf8 part ++ (if more then codes ".." else []))
+    ∷ (codes "  " ++ (if some then codes "  " else []) ++ under ++ codes "^") ∷ []
 
 -- where the ones behind are all there, none of them is cut off
 reached_or_all : (n m : ℕ) (xs ys : List ℕ) → (m < length ys → n ≤ length xs + m)
@@ -62,8 +61,7 @@ reached_or_all n m xs ys h = go (cases_lt m (length ys))
     go (inr l) = ap (λ t. take n (xs ++ t)) (take_all m ys l)
 
 -- Nothing farther from the place changes what is shown: not what stands before the last m characters, nor behind the
--- first
--- n, if these are enough.
+-- first n, if these are enough.
 near_place : (m n : ℕ) (bs rs : List ℕ) → 61 ≤ m → min (length bs) (121 - length rs) ≤ m
     → 61 ≤ n → min (length rs) (121 - length bs) ≤ n
     → lines_of (last m bs) (take n rs) ≡ lines_of bs rs

@@ -1,6 +1,6 @@
 -- The line of a place in a text, and the caret below it, as a diagnostic shows them.
-use Rattle.std.specs.Prelude.{ℕ, ◌+◌, ◌-◌, ◌==◌, nat_lt, if◌then◌else◌, List, [], ◌++◌, codes, length}
-use Rattle.std.specs.Prelude.{map, take, drop, min, slice_index, encode_utf8}
+use Rattle.std.specs.Prelude.{ℕ, ◌+◌, ◌-◌, ◌==◌, nat_lt, if◌then◌else◌, List, [], ◌∷◌, ◌++◌}
+use Rattle.std.specs.Prelude.{codes, length, map, take, drop, min, slice_index, encode_utf8}
 use Rattle.std.specs.List.{flat_map}
 use Rattle.keymap_lint_text.specs.Shown.{shown_chars}
 
@@ -26,8 +26,7 @@ abbrev pub left_out : ℕ → ℕ → ℕ
 left_out b n = min (b - before_limit) (n - shown_limit)
 
 -- How many characters on one side of the place are looked at, where so many are known on the other one: one more than
--- can
--- be shown, since it matters whether one is left out.
+-- can be shown, since it matters whether one is left out.
 abbrev pub reach : ℕ → ℕ
 reach other = shown_limit + 1 - min other before_limit
 
@@ -39,25 +38,25 @@ abbrev pub blanks : ℕ → List ℕ
 blanks n = if nat_lt 0 n then codes "  " else []
 
 -- the line of these characters, of which the first ones are left out
-abbrev pub line_text : ℕ → List ℕ → List ℕ
-line_text skipped cs =
+abbrev pub shown_line : ℕ → List ℕ → List ℕ
+shown_line skipped cs =
     codes "  " ++ dots skipped ++ flat_map encode_utf8 (take shown_limit (drop skipped cs))
-    ++ dots (length cs - (skipped + shown_limit)) ++ codes "\n"
+    ++ dots (length cs - (skipped + shown_limit))
 
 -- a tab stands below a tab, and a blank below each other character
 abbrev pub below : ℕ → ℕ
 below c = if c == 9 then 9 else 32
 
 -- the caret below the place, where these characters stand before it
-abbrev pub caret_text : ℕ → List ℕ → List ℕ
-caret_text skipped cs = codes "  " ++ blanks skipped ++ map below (drop skipped cs) ++ codes "^\n"
+abbrev pub caret_line : ℕ → List ℕ → List ℕ
+caret_line skipped cs = codes "  " ++ blanks skipped ++ map below (drop skipped cs) ++ codes "^"
 
 -- both lines, by the characters before the place and those from it on
-abbrev pub lines_of : List ℕ → List ℕ → List ℕ
+abbrev pub lines_of : List ℕ → List ℕ → List (List ℕ)
 lines_of bs rs =
     let skipped = left_out (length bs) (length (bs ++ rs)) in
-    line_text skipped (bs ++ rs) ++ caret_text skipped bs
+    shown_line skipped (bs ++ rs) ∷ caret_line skipped bs ∷ []
 
 -- both lines, by the bytes of the line before the place and those from it on
-unfoldable pub excerpt : List ℕ → List ℕ → List ℕ
+unfoldable pub excerpt : List ℕ → List ℕ → List (List ℕ)
 excerpt before rest = lines_of (shown_chars (shown_before before rest)) (shown_chars (without_cr rest))

@@ -1,53 +1,74 @@
--- A diagnostic: its line with the place, the severity, the message and the kind, and the line of the text with a caret.
-use Rattle.std.specs.Prelude.{ℕ, ◌+◌, ◌&&◌, Bool, true, false, nat_lt, if◌then◌else◌, List, [], ◌∷◌, ◌++◌, codes}
-use Rattle.std.specs.Prelude.{decimal}
-use Rattle.std.specs.Prelude.{length, Option, Some, None}
-use Rattle.keymap_text.specs.declared.fault.TextFaultKind.{TextFaultKind}
-use Rattle.keymap_text.specs.declared.fault.TextFaultKind.TheVariants as faults
-use Rattle.keymap_text.specs.declared.wanted.DefinitionStart.{DefinitionStart}
-use Rattle.keymap_text.specs.declared.wanted.FaultPlace.{FaultPlace}
+-- What is printed at a place: its line with the file, the place, the severity and the kind, the line of the text, and
+-- the caret.
+use Rattle.std.specs.Prelude.{◌≡◌, ℕ, ◌+◌, List, [], ◌∷◌, ◌++◌, codes, decimal, length, Option, Some, None}
+use Rattle.console_core.specs.declared.event.Event.{Event}
+use Rattle.keymap_core.specs.declared.action.Modifier.{Modifier}
+use Rattle.keymap_lint.specs.declared.diagnostic.Severity.{Severity}
 use Rattle.keymap_text.specs.LineOf.{before_in_line, rest_of_line}
 use Rattle.keymap_text.specs.Meaning.{line}
-use Rattle.keymap_lint_text.specs.declared.words.TheConstants as words
-use Rattle.keymap_text.specs.FaultNames.{fault_name}
-use Rattle.messages.specs.Filled.{filled}
 use Rattle.keymap_lint_text.specs.Excerpt.{excerpt}
-use Rattle.keymap_lint_text.specs.Faults.{fault_text}
-use Rattle.keymap_lint_text.specs.Told.{defined_text}
+use Rattle.keymap_lint_text.specs.Notes.{sticks_text}
+use Rattle.keymap_lint_text.specs.Said.{severity_text}
+use Rattle.keymap_lint_text.specs.Shown.{IsLine, lines_text}
 
--- What is said at a place, with the file, the line and its column, both counted from 1, and the line with the caret; or
--- of the whole text. Columns are bytes.
-unfoldable pub said_at : List ℕ → List ℕ → Option ℕ → List ℕ → List ℕ
-said_at file text None said = filled words.AT_NO_PLACE.now (file ∷ said ∷ [])
-said_at file text (Some place) said =
-    filled words.AT_PLACE.now (file ∷ decimal (line text place) ∷ decimal (length (before_in_line text place) + 1)
-    ∷ said ∷ [])
-    ++ excerpt (before_in_line text place) (rest_of_line text place)
+-- What is said: a diagnostic, by its severity and the name of its kind; a note; or the note that tells which modifiers
+-- stay on after which events.
+pub data Said : Type 0 where
+  Judged : Severity → List ℕ → Said
+  Noted : Said
+  Sticking : List Modifier → List Event → Said
 
-unfoldable pub diagnostic_text : List ℕ → List ℕ → Option ℕ → List ℕ → List ℕ → List ℕ → List ℕ
-diagnostic_text file text place severity message kind =
-    said_at file text place (filled words.DIAGNOSTIC.now (severity ∷ message ∷ kind ∷ []))
+-- What is said at a place, or of the whole text.
+pub record Entry : Type 0 where
+  pub place : Option ℕ
+  pub said : Said
 
-unfoldable pub note_text : List ℕ → List ℕ → Option ℕ → List ℕ → List ℕ
-note_text file text place message = said_at file text place (filled words.NOTE.now (message ∷ []))
+abbrev pub entry : Option ℕ → Said → Entry
+entry place said = record { place = place; said = said }
 
--- faults that stand in a definition and may come from its beginning
-abbrev pub tells_beginning : TextFaultKind → Bool
-tells_beginning faults.BadWord = true
-tells_beginning faults.Unexpected = true
-tells_beginning faults.EndInside = true
-tells_beginning _ = false
+-- the file, the line and its column, both counted from 1, or the file alone; columns are bytes
+abbrev pub place_text : List ℕ → List ℕ → Option ℕ → List ℕ
+place_text file text None = file ++ codes ": "
+place_text file text (Some place) =
+    file ++ codes ":" ++ decimal (line text place) ++ codes ":"
+    ++ decimal (length (before_in_line text place) + 1) ++ codes ": "
 
--- the note where the definition begins, if that is in an earlier line
-unfoldable pub beginning_note : List ℕ → List ℕ → ℕ → TextFaultKind → Option DefinitionStart → List ℕ
-beginning_note file text place kind None = []
-beginning_note file text place kind (Some d) =
-    if tells_beginning kind && nat_lt (line text d.offset) (line text place)
-    then note_text file text (Some d.offset) (filled words.BEGINS.now (defined_text d.what ∷ []))
-    else []
+-- a diagnostic and a note, with a message
+abbrev pub judged_text : List ℕ → List ℕ → List ℕ → List ℕ
+judged_text severity message kind = severity ++ codes ": " ++ message ++ codes " [" ++ kind ++ codes "]"
 
--- the diagnostic of a text with a fault at a place
-unfoldable pub fault_diagnostic : List ℕ → List ℕ → ℕ → TextFaultKind → FaultPlace → List ℕ
-fault_diagnostic file text place kind f =
-    diagnostic_text file text (Some place) (codes "error") (fault_text text place kind f) (fault_name kind)
-    ++ beginning_note file text place kind f.definition
+abbrev pub noted_text : List ℕ → List ℕ
+noted_text message = codes "note: " ++ message
+
+abbrev pub said_text : Said → List ℕ → List ℕ
+said_text (Said.Judged severity kind) message = judged_text (severity_text severity) message kind
+said_text _ message = noted_text message
+
+-- the first line of an entry
+abbrev pub head : List ℕ → List ℕ → Entry → List ℕ → List ℕ
+head file text e message = place_text file text e.place ++ said_text e.said message
+
+-- the lines below it
+abbrev pub below : List ℕ → Option ℕ → List (List ℕ)
+below text None = []
+below text (Some place) = excerpt (before_in_line text place) (rest_of_line text place)
+
+-- The message, as the name of a kind, is in one line what a terminal shows. Of modifiers that stay on it tells which,
+-- and after which events.
+abbrev pub IsMessage : Said → List ℕ → Type 0
+IsMessage (Said.Judged severity kind) message = IsLine kind × IsLine message
+IsMessage (Said.Sticking modifiers events) message = message ≡ sticks_text modifiers events
+IsMessage Said.Noted message = IsLine message
+
+-- What is printed of an entry, under these bytes in place of the file's name.
+pub record IsPrinted (file text : List ℕ) (e : Entry) (printed : List ℕ) : Type 0 where
+  pub message : List ℕ
+  pub is_message : IsMessage e.said message
+  pub spelled : printed ≡ lines_text (head file text e message ∷ below text e.place)
+
+-- what is printed of entries, one behind the other
+abbrev pub ArePrinted : List ℕ → List ℕ → List Entry → List ℕ → Type 0
+ArePrinted file text [] printed = printed ≡ []
+ArePrinted file text (e ∷ es) printed =
+    (first : List ℕ) × (rest : List ℕ) × IsPrinted file text e first × ArePrinted file text es rest
+    × (printed ≡ first ++ rest)

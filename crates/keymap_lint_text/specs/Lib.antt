@@ -2,8 +2,7 @@ pub mod Whole
 pub mod Heads
 pub mod Said
 pub mod Notes
-pub mod Faults
-pub mod Told
-pub mod Lists
 pub mod Excerpt
 pub mod Shown
+pub mod Promises
+pub mod Inner

@@ -1,16 +1,13 @@
--- What is told of the answer of the search behind a diagnostic.
-use Rattle.std.specs.Prelude.{ℕ, List, [], ◌∷◌, ◌++◌, codes, decimal, length, Option, Some, None, ◌==◌, if◌then◌else◌}
+-- What is told of modifiers that stay on.
+use Rattle.std.specs.Prelude.{ℕ, List, [], ◌∷◌, ◌++◌, codes, decimal, length, ◌==◌, if◌then◌else◌}
 use Rattle.std.specs.List.{flat_map}
 use Rattle.keymap_core.specs.Actions.{holding_action, name_of}
 use Rattle.keymap_core.specs.declared.action.Modifier.{Modifier}
 use Rattle.keymap_core.specs.declared.action.Holding.TheVariants as holding
 use Rattle.console_core.specs.declared.event.Event.{Event}
 use Rattle.console_core.specs.declared.event.Event.TheVariants.{Press, Release, Reset, Load}
-use Rattle.console_core.specs.declared.outcome.Sticking.{Sticking}
-use Rattle.console_core.specs.declared.outcome.Sticking.TheVariants.{Sticks, Never, Undecided}
 use Rattle.keymap_lint_text.specs.declared.words.TheConstants as words
 use Rattle.messages.specs.Filled.{filled}
-use Rattle.keymap_lint_text.specs.Heads.{note_text}
 
 abbrev pub modifier_name : Modifier → List ℕ
 modifier_name m = name_of (holding_action (holding.Mod m))
@@ -43,11 +40,3 @@ unfoldable pub sticks_text : List Modifier → List Event → List ℕ
 sticks_text stuck events =
     filled words.STICKS.now (modifiers_text stuck
     ∷ (if length stuck == 1 then words.ONE_STAYS.now else words.SOME_STAY.now) ∷ events_text events ∷ [])
-
--- the note on what the search answered
-unfoldable pub answer_note : List ℕ → List ℕ → Option Sticking → List ℕ
-answer_note file text None = []
-answer_note file text (Some Never) = []
-answer_note file text (Some (Undecided presses)) = note_text file text None (filled words.UNDECIDED.now [])
-answer_note file text (Some (Sticks events stuck)) =
-    note_text file text None (sticks_text stuck.items events.items)

@@ -1,7 +1,6 @@
 -- What is shown of the bytes of a text.
-use Rattle.std.specs.Prelude.{◌≡◌, ℕ, ◌-◌, ◌==◌, Bool, IsTrue, not, ◌||◌, nat_lt, if◌then◌else◌, List, length, drop}
-use Rattle.std.specs.Prelude.{map}
-use Rattle.std.specs.Prelude.{encode_utf8}
+use Rattle.std.specs.Prelude.{◌≡◌, ℕ, ◌-◌, ◌==◌, Bool, IsTrue, not, ◌||◌, nat_lt, if◌then◌else◌, List, []}
+use Rattle.std.specs.Prelude.{◌∷◌, ◌++◌, ⊤, codes, length, drop, map, encode_utf8}
 use Rattle.std.specs.Char.{IsScalar}
 use Rattle.std.specs.List.{All, flat_map}
 use Rattle.bstr.specs.Utf8.{lossy_chars}
@@ -27,18 +26,33 @@ last n xs = drop (length xs - n) xs
 abbrev pub is_shown_byte : ℕ → Bool
 is_shown_byte c = c == 9 || not (nat_lt c 32 || nat_lt 126 c)
 
--- a tab, a line feed, or a character that a terminal shows
-abbrev pub is_plain : ℕ → Bool
-is_plain c = c == 9 || c == 10 || not (is_unseen c)
+-- a tab, or a character that a terminal shows
+abbrev pub is_seen : ℕ → Bool
+is_seen c = c == 9 || not (is_unseen c)
 
-abbrev pub is_line_feed : ℕ → Bool
-is_line_feed c = c == 10
+abbrev pub IsSeen : ℕ → Type 0
+IsSeen c = IsScalar c × IsTrue (is_seen c)
 
-abbrev pub IsPlain : ℕ → Type 0
-IsPlain c = IsScalar c × IsTrue (is_plain c)
-
--- The bytes are UTF-8 of such characters alone.
-pub record IsPlainText (bytes : List ℕ) : Type 0 where
+-- The bytes are UTF-8 of such characters alone, so they stay in their line.
+pub record IsLine (bytes : List ℕ) : Type 0 where
   pub characters : List ℕ
   pub spelled : bytes ≡ flat_map encode_utf8 characters
-  pub plain : All IsPlain characters
+  pub seen : All IsSeen characters
+
+-- each of these texts does so
+abbrev pub AreLines : List (List ℕ) → Type 0
+AreLines [] = ⊤
+AreLines (t ∷ ts) = IsLine t × AreLines ts
+
+-- what is printed of lines: each ends with a line feed
+abbrev pub ended : List ℕ → List ℕ
+ended line = line ++ codes "\n"
+
+abbrev pub lines_text : List (List ℕ) → List ℕ
+lines_text lines = flat_map ended lines
+
+-- The bytes are such lines, each with a line feed at its end.
+pub record IsPlainText (bytes : List ℕ) : Type 0 where
+  pub lines : List (List ℕ)
+  pub spelled : bytes ≡ lines_text lines
+  pub plain : All IsLine lines

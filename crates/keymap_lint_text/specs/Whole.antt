@@ -1,30 +1,59 @@
 -- What is printed of a text under the name of its file.
-use Rattle.std.specs.Prelude.{ℕ, Bool, if◌then◌else◌, List, [], ◌++◌}
+use Rattle.std.specs.Prelude.{ℕ, ◌&&◌, Bool, true, false, nat_lt, if◌then◌else◌, List, [], ◌∷◌, Option, Some, None}
 use Rattle.std.specs.List.{flat_map}
+use Rattle.console_core.specs.declared.outcome.Sticking.{Sticking}
+use Rattle.console_core.specs.declared.outcome.Sticking.TheVariants.{Sticks, Never, Undecided}
 use Rattle.keymap_lint.specs.declared.diagnostic.Diagnostic.{Diagnostic}
 use Rattle.keymap_lint.specs.declared.diagnostic.Diagnostics.{Diagnostics}
 use Rattle.keymap_lint.specs.declared.diagnostic.Lint.{Lint}
 use Rattle.keymap_lint.specs.declared.diagnostic.Lint.TheVariants.{Faulty, Spelled}
+use Rattle.keymap_lint.specs.declared.diagnostic.Severity.TheVariants.{Error}
 use Rattle.keymap_lint.specs.Severities.{severity_of, never_sticks}
-use Rattle.keymap_lint_text.specs.Heads.{diagnostic_text, fault_diagnostic}
-use Rattle.keymap_lint_text.specs.Notes.{answer_note}
+use Rattle.keymap_text.specs.declared.fault.TextFaultKind.{TextFaultKind}
+use Rattle.keymap_text.specs.declared.fault.TextFaultKind.TheVariants as faults
+use Rattle.keymap_text.specs.declared.wanted.DefinitionStart.{DefinitionStart}
+use Rattle.keymap_text.specs.FaultNames.{fault_name}
+use Rattle.keymap_text.specs.Meaning.{line}
+use Rattle.keymap_lint_text.specs.Heads.{Said, Entry, entry, ArePrinted}
+use Rattle.keymap_lint_text.specs.Said.{kind_text, is_noted}
 use Rattle.keymap_lint_text.specs.Shown.{shown_name}
-use Rattle.keymap_lint_text.specs.Said.{severity_text, message_text, kind_text, is_noted}
 
-abbrev pub answer_if : Bool → List ℕ → List ℕ → Diagnostics → List ℕ
-answer_if noted file text l = if noted then answer_note file text l.sticking else []
+-- what the search answered, if some modifier stays on or may stay on
+abbrev pub answer : Option Sticking → List Entry
+answer (Some (Sticks events modifiers)) = entry None (Said.Sticking modifiers.items events.items) ∷ []
+answer (Some (Undecided presses)) = entry None Said.Noted ∷ []
+answer _ = []
 
--- a diagnostic of a text that spells a keymap, with what the search answered where that is told behind it
-abbrev pub one_diagnostic : List ℕ → List ℕ → Diagnostics → Diagnostic → List ℕ
-one_diagnostic file text l d =
-    diagnostic_text file text d.place (severity_text (severity_of (never_sticks l.sticking) d.kind))
-    (message_text text l d.kind) (kind_text d.kind)
-    ++ answer_if (is_noted d.kind) file text l
+-- the diagnostic, and behind some kinds what the search answered
+abbrev pub judged : Diagnostics → Diagnostic → Entry
+judged l d = entry d.place (Said.Judged (severity_of (never_sticks l.sticking) d.kind) (kind_text d.kind))
 
--- what is printed under these bytes in place of the file's name
-abbrev pub text_under : List ℕ → List ℕ → Lint → List ℕ
-text_under file text (Faulty f place) = fault_diagnostic file text f.offset f.kind place
-text_under file text (Spelled l) = flat_map (one_diagnostic file text l) l.list.items
+abbrev pub of_diagnostic : Diagnostics → Diagnostic → List Entry
+of_diagnostic l d = judged l d ∷ (if is_noted d.kind then answer l.sticking else [])
 
-abbrev pub lint_text : List ℕ → List ℕ → Lint → List ℕ
-lint_text file text l = text_under (shown_name file) text l
+-- faults that stand in a definition and may come from its beginning
+abbrev pub tells_beginning : TextFaultKind → Bool
+tells_beginning faults.BadWord = true
+tells_beginning faults.Unexpected = true
+tells_beginning faults.EndInside = true
+tells_beginning _ = false
+
+-- where the definition of a fault begins, if that is in an earlier line
+abbrev pub beginning : List ℕ → ℕ → TextFaultKind → Option DefinitionStart → List Entry
+beginning text place kind None = []
+beginning text place kind (Some d) =
+    if tells_beginning kind && nat_lt (line text d.offset) (line text place)
+    then entry (Some d.offset) Said.Noted ∷ []
+    else []
+
+abbrev pub of_fault : List ℕ → ℕ → TextFaultKind → Option DefinitionStart → List Entry
+of_fault text place kind d =
+    entry (Some place) (Said.Judged Error (fault_name kind)) ∷ beginning text place kind d
+
+-- the fault, or the diagnostics in their order, each with its notes behind it
+abbrev pub entries : List ℕ → Lint → List Entry
+entries text (Faulty f place) = of_fault text f.offset f.kind place.definition
+entries text (Spelled l) = flat_map (of_diagnostic l) l.list.items
+
+abbrev pub IsLintText : List ℕ → List ℕ → Lint → List ℕ → Type 0
+IsLintText file text l printed = ArePrinted (shown_name file) text (entries text l) printed

@@ -1,7 +1,7 @@
 //! The line of a place in a text, and the caret below it, as a diagnostic shows them.
 ghost use Rattle.std.specs.Prelude.{◌≡◌, ◌≤◌, ◌++◌, length, map, take, drop, IfOk, OnOk};
 ghost use Rattle.keymap_lint_text.specs.Excerpt as spec;
-ghost use Rattle.keymap_lint_text.specs.Shown.{shown_chars as shown_of, last};
+ghost use Rattle.keymap_lint_text.specs.Shown.{shown_chars as shown_of, ended, last, lines_text};
 
 use crate::shown::{first_chars, last_chars, push_characters};
 use std::alloc::{AllocError, Global};
@@ -94,7 +94,7 @@ fn shown_part(characters: &[char], skipped: usize) -> &[char]
 /// Adds the line of these characters, of which the first ones are left out.
 fn push_line(text: &mut Vec<u8>, skipped: usize, characters: &[char]) -> Result<(), AllocError>
     requires { skipped ≤ length characters.now }
-    ensures { OnOk result (text.new.items ≡ text.old.items ++ spec.line_text skipped characters.now) }
+    ensures { OnOk result (text.new.items ≡ text.old.items ++ ended (spec.shown_line skipped characters.now)) }
 {
     let part = shown_part(characters, skipped);
     text.extend_from_slice(b"  ")?;
@@ -107,7 +107,7 @@ fn push_line(text: &mut Vec<u8>, skipped: usize, characters: &[char]) -> Result<
 /// Adds the caret below the place, where these characters stand before it.
 fn push_caret(text: &mut Vec<u8>, skipped: usize, characters: &[char]) -> Result<(), AllocError>
     requires { skipped ≤ length characters.now }
-    ensures { OnOk result (text.new.items ≡ text.old.items ++ spec.caret_text skipped characters.now) }
+    ensures { OnOk result (text.new.items ≡ text.old.items ++ ended (spec.caret_line skipped characters.now)) }
 {
     text.extend_from_slice(b"  ")?;
     push_blanks(text, skipped)?;
@@ -119,7 +119,7 @@ fn push_caret(text: &mut Vec<u8>, skipped: usize, characters: &[char]) -> Result
 fn push_lines(text: &mut Vec<u8>, before: usize, characters: &[char]) -> Result<(), AllocError>
     requires { before ≤ length characters.now }
     ensures { OnOk result (text.new.items
-        ≡ text.old.items ++ spec.lines_of (take before characters.now) (drop before characters.now)) }
+        ≡ text.old.items ++ lines_text (spec.lines_of (take before characters.now) (drop before characters.now))) }
 {
     let skipped = left_out(before, characters.len());
     push_line(text, skipped, characters)?;
@@ -160,7 +160,7 @@ pub(crate) fn push_excerpt(
     before: &[u8],
     rest: &[u8],
 ) -> Result<(), AllocError>
-    ensures { OnOk result (text.new.items ≡ text.old.items ++ spec.excerpt before.now rest.now) }
+    ensures { OnOk result (text.new.items ≡ text.old.items ++ lines_text (spec.excerpt before.now rest.now)) }
 {
     let bytes = shown_before(before, rest);
     let known = last_chars(alloc, bytes, reach(BEFORE_LIMIT))?;

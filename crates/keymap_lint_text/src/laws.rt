@@ -1,15 +1,38 @@
 //! Laws of what is printed of a text. No function here does anything.
-ghost use Rattle.std.specs.Prelude.{◌≡◌, List, ℕ, false};
-ghost use Rattle.std.specs.List.{All};
-ghost use Rattle.keymap_lint.specs.declared.diagnostic.Lint.{Lint as LintValue};
-ghost use Rattle.keymap_lint_text.specs.Shown.{shown_chars, shown_name, IsPlainText, is_line_feed};
-ghost use Rattle.keymap_lint_text.specs.Whole.{lint_text};
+ghost use Rattle.std.specs.Prelude.{List, ℕ};
+ghost use Rattle.keymap_lint_text.specs.Promises.{CaretsStandBelow, EachDiagnosticIsOneEntry, EachEntryHasOneHead};
+ghost use Rattle.keymap_lint_text.specs.Promises.{HeadsTellPlaces, NotesTellEvents, PrintedIsPlain};
+ghost use Rattle.keymap_lint_text.specs.Shown.{shown_name, IsLine};
 
-/// All that is printed of a text, whatever the text, the name of its file and the diagnostics are, is UTF-8 that a
-/// terminal shows: no control but a tab and a line feed, no mark that can't be seen and none that turns the direction
-/// of writing. So is the name of a file as it is shown, which has no line feed.
+/// All that is printed of a text, whatever the text, the name of its file and the diagnostics are, is lines of UTF-8
+/// that a terminal shows: no control but a tab and the line feed at their ends, no mark that can't be seen and none
+/// that turns the direction of writing. So is the name of a file as it is shown, in one line.
 pub fn printed_lines_are_plain()
-    ensures all { (file text : List ℕ) (l : LintValue) → IsPlainText (lint_text file text l) }
-    ensures name { (name : List ℕ) → IsPlainText (shown_name name) }
-    ensures name_in_a_line { (name : List ℕ) → All (λ c. is_line_feed c ≡ false) (shown_chars name) }
+    ensures all { PrintedIsPlain }
+    ensures name { (name : List ℕ) → IsLine (shown_name name) }
+{}
+
+/// Of a text that spells a keymap each diagnostic has one line that tells its place, its severity and its kind, in the
+/// order of the diagnostics; of a text with a fault there is one for the fault. Each further line either begins with
+/// two blanks, whatever the text has there, or is the first line of a note. A name of a file that begins with two
+/// blanks makes each line do so.
+pub fn diagnostics_have_one_head()
+    ensures entries { EachDiagnosticIsOneEntry }
+    ensures heads { EachEntryHasOneHead }
+{}
+
+/// From the first line of a diagnostic or a note it can be read at which place it stands, and whether it is an error, a
+/// warning or a note: no two of them that differ in this have the same line.
+pub fn heads_tell_their_places()
+    ensures { HeadsTellPlaces }
+{}
+
+/// The caret stands below the place of the diagnostic in the line of the text.
+pub fn carets_stand_below_places()
+    ensures { CaretsStandBelow }
+{}
+
+/// The note on modifiers that stay on tells these modifiers, and behind its colon exactly the events of the answer.
+pub fn notes_tell_the_events()
+    ensures { NotesTellEvents }
 {}

@@ -8,10 +8,11 @@
 
 mod excerpt;
 mod faults;
-mod heads;
 pub mod laws;
 mod lists;
+mod message;
 mod notes;
+mod printer;
 mod said;
 mod shown;
 mod told;

@@ -1,15 +1,12 @@
-//! What is told of the answer of the search behind a diagnostic.
+//! What is told of modifiers that stay on.
 ghost use Rattle.std.specs.Prelude.{◌≡◌, ◌++◌, IfOk, OnOk};
 ghost use Rattle.std.specs.List.{flat_map};
 ghost use Rattle.keymap_lint_text.specs.Notes as spec;
 ghost use Rattle.keymap_core.specs.Actions.{holding_action, name_of};
 
-use crate::heads::push_note;
-use crate::words::{ONE_STAYS, SOME_STAY, STICKS, UNDECIDED};
-use console_core::{Event, Sticking};
+use crate::words::{ONE_STAYS, SOME_STAY, STICKS};
+use console_core::Event;
 use keymap_core::{Holding, Modifier};
-use keymap_lint::Diagnostics;
-use keymap_text::TextLines;
 use messages::{either, filled, number};
 use std::alloc::{AllocError, Global};
 
@@ -84,7 +81,7 @@ fn events(alloc: Global, events: &[Event]) -> Result<Vec<u8>, AllocError>
 
 /// Which modifiers stay on, and after which events.
 #[tactic(auto, unfolding(crate::specs::Notes::sticks_text))]
-fn sticks_message(alloc: Global, stuck: &[Modifier], found: &[Event]) -> Result<Vec<u8>, AllocError>
+pub(crate) fn sticks_message(alloc: Global, stuck: &[Modifier], found: &[Event]) -> Result<Vec<u8>, AllocError>
     ensures { IfOk result (λ text. text.items ≡ spec.sticks_text stuck.now found.now) }
 {
     filled(
@@ -96,29 +93,4 @@ fn sticks_message(alloc: Global, stuck: &[Modifier], found: &[Event]) -> Result<
             events(alloc, found)?.as_slice(),
         ],
     )
-}
-
-/// Adds the note on what the search answered, where some modifier stays on or may stay on.
-#[tactic(auto, unfolding(crate::specs::Notes::answer_note))]
-pub(crate) fn push_answer(
-    alloc: Global,
-    text: &mut Vec<u8>,
-    file: &[u8],
-    source: &TextLines,
-    lint: &Diagnostics,
-) -> Result<(), AllocError>
-    ensures { OnOk result (text.new.items
-        ≡ text.old.items ++ spec.answer_note file.now source.now lint.now.sticking) }
-{
-    match &lint.sticking {
-        None | Some(Sticking::Never) => Ok(()),
-        Some(Sticking::Undecided(_)) => {
-            let message = filled(alloc, UNDECIDED, &[])?;
-            push_note(alloc, text, file, source, None, message.as_slice())
-        }
-        Some(Sticking::Sticks { events, modifiers }) => {
-            let message = sticks_message(alloc, modifiers.as_slice(), events.as_slice())?;
-            push_note(alloc, text, file, source, None, message.as_slice())
-        }
-    }
 }

@@ -1,11 +1,13 @@
 //! What is said of a text by a diagnostic: its severity, its message and its kind, in words.
 ghost use Rattle.std.specs.Prelude.{◌≡◌, ◌∷◌, [], IsTrue, IfOk};
+ghost use Rattle.std.specs.List.{list_all};
 ghost use Rattle.keymap_lint.specs.Positions.{TellsWithin};
 ghost use Rattle.messages.specs.Filled.{has_places};
-ghost use Rattle.keymap_lint_text.specs.Lists.{ranges as ranges_of};
 ghost use Rattle.keymap_lint_text.specs.Said as spec;
+ghost use Rattle.keymap_lint_text.specs.Shown.{IsLine, is_shown_byte};
 
-use crate::lists::{accent_name, accents, ranges};
+use crate::lists::{accents, ranges};
+use crate::message::{accent_name, digits, holding_name, message, one_of, printed, told_if};
 use crate::told::{column as column_text, defined};
 use crate::words::{
     ACCENTS, BARE_DIGIT, DEAD_KEY, DEFINED_AGAIN, HALF_DEFINED, MISSING_SLOT, MISSING_SLOTS,
@@ -15,8 +17,7 @@ use crate::words::{
 use keymap_check::{Finding, Place};
 use keymap_core::Holding;
 use keymap_lint::{Diagnostics, Kind, Severity};
-use keymap_text::{Defined, TextLines, character_text};
-use messages::{either, filled, number};
+use keymap_text::{Defined, TextLines};
 use std::alloc::{AllocError, Global};
 
 pub(crate) fn severity_text(severity: Severity) -> &'static [u8]
@@ -49,71 +50,60 @@ pub(crate) fn kind_text(kind: &Kind) -> &'static [u8]
 
 /// Ascending numbers in the words for one number or in those for more.
 fn counted(alloc: Global, one: &[u8], more: &[u8], numbers: &[u8]) -> Result<Vec<u8>, AllocError>
-    requires one { IsTrue (has_places one.now (ranges_of numbers.now ∷ [])) }
-    requires more { IsTrue (has_places more.now (ranges_of numbers.now ∷ [])) }
-    ensures { IfOk result (λ text. text.items ≡ spec.counted one.now more.now numbers.now) }
+    requires one { IsTrue (has_places one.now ([] ∷ [])) }
+    requires more { IsTrue (has_places more.now ([] ∷ [])) }
+    requires one_shown { IsTrue (list_all is_shown_byte one.now) }
+    requires more_shown { IsTrue (list_all is_shown_byte more.now) }
+    ensures { IfOk result (λ text. IsLine text.items) }
 {
     let told = ranges(alloc, numbers)?;
-    if numbers.len() == 1 {
-        filled(alloc, one, &[told.as_slice()])
-    } else {
-        filled(alloc, more, &[told.as_slice()])
-    }
+    let words = if numbers.len() == 1 { one } else { more };
+    message(alloc, words, &[told.as_slice()])
 }
 
-fn not_joined(what: Defined) -> &'static [u8]
-    ensures { result.now ≡ spec.not_joined what }
-{
-    match what {
-        Defined::Slot(_) => b"",
-        Defined::Accent(_) => NOT_JOINED,
-    }
-}
-
-/// What is said of a key that is a modifier or lock and has a character.
-#[tactic(auto, unfolding(crate::specs::Said::mixed_key_text))]
+/// What is said of a key that is a modifier or lock and has a character; its slot, where it isn't that of the modifier
+/// or lock.
 fn mixed_key(
     alloc: Global,
     finding: &Finding,
-    character: char,
+    c: char,
     never: bool,
 ) -> Result<Vec<u8>, AllocError>
-    ensures { IfOk result (λ text. text.items ≡ spec.mixed_key_text finding.now character never) }
+    ensures { IfOk result (λ text. IsLine text.items) }
 {
     let Place { slot, column } = finding.character_at;
-    let other = filled(alloc, OTHER_SLOT, &[number(u64::from(slot)).as_slice()])?;
-    let name = finding.holding.action().name();
-    filled(
+    let number = digits(u64::from(slot));
+    let other = message(alloc, OTHER_SLOT, &[number.as_slice()])?;
+    let name = holding_name(finding.holding);
+    message(
         alloc,
         MIXED_KEY,
         &[
-            number(u64::from(finding.key.get())).as_slice(),
+            digits(u64::from(finding.key.get())).as_slice(),
             name.as_slice(),
-            character_text(character).as_slice(),
+            printed(c).as_slice(),
             column_text(alloc, usize::from(column))?.as_slice(),
-            either(finding.holding_at.slot == slot, b"", other.as_slice()),
+            told_if(finding.holding_at.slot != slot, other.as_slice()),
             name.as_slice(),
-            either(never, NEVER_STICKS, b""),
+            one_of(never, NEVER_STICKS, b""),
         ],
     )
 }
 
 /// What is said of slots that the text doesn't define, and of the keys that have a character in one of them.
-#[tactic(auto, unfolding(crate::specs::Said::half_defined_text))]
 fn half_defined(
     alloc: Global,
     lint: &Diagnostics,
     selector: Holding,
     has_keys: bool,
 ) -> Result<Vec<u8>, AllocError>
-    ensures { IfOk result (λ text. text.items ≡ spec.half_defined_text lint.now selector has_keys) }
+    ensures { IfOk result (λ text. IsLine text.items) }
 {
-    let name = selector.action().name();
-    let missing = lint.missing_slots.as_slice();
-    let slots = counted(alloc, MISSING_SLOT, MISSING_SLOTS, missing)?;
+    let name = holding_name(selector);
+    let slots = counted(alloc, MISSING_SLOT, MISSING_SLOTS, lint.missing_slots.as_slice())?;
     let keys = counted(alloc, NUL_KEY, NUL_KEYS, lint.nul_keys.as_slice())?;
-    let keys = either(has_keys, keys.as_slice(), b"");
-    filled(
+    let keys = told_if(has_keys, keys.as_slice());
+    message(
         alloc,
         HALF_DEFINED,
         &[name.as_slice(), slots.as_slice(), keys],
@@ -121,47 +111,41 @@ fn half_defined(
 }
 
 /// What is said of a definition without effect, by the line of the last one.
-#[tactic(auto, unfolding(crate::specs::Said::defined_again_text))]
 fn defined_again(alloc: Global, what: Defined, last: u64) -> Result<Vec<u8>, AllocError>
-    ensures { IfOk result (λ text. text.items ≡ spec.defined_again_text what last) }
+    ensures { IfOk result (λ text. IsLine text.items) }
 {
-    let line = number(last);
-    let defined = defined(alloc, what)?;
-    filled(
-        alloc,
-        DEFINED_AGAIN,
-        &[defined.as_slice(), line.as_slice(), not_joined(what)],
-    )
+    let line = digits(last);
+    let told = defined(alloc, what)?;
+    let joined = one_of(matches!(what, Defined::Accent(_)), NOT_JOINED, b"");
+    message(alloc, DEFINED_AGAIN, &[told.as_slice(), line.as_slice(), joined])
 }
 
 /// What is said of dead keys of accents that the text doesn't define, where it defines some other accent or none.
-#[tactic(auto, unfolding(crate::specs::Said::dead_key_text))]
 fn dead_key(alloc: Global, missing: &[u8], defines_some: bool) -> Result<Vec<u8>, AllocError>
-    ensures { IfOk result (λ text. text.items ≡ spec.dead_key_text missing.now defines_some) }
+    ensures { IfOk result (λ text. IsLine text.items) }
 {
     let names = accents(alloc, missing)?;
     if defines_some {
-        let one = either(missing.len() == 1, ONE_ACCENT, ACCENTS);
-        filled(alloc, DEAD_KEY, &[names.as_slice(), one])
+        let one = one_of(missing.len() == 1, ONE_ACCENT, ACCENTS);
+        message(alloc, DEAD_KEY, &[names.as_slice(), one])
     } else {
-        filled(alloc, NO_ACCENT, &[names.as_slice()])
+        message(alloc, NO_ACCENT, &[names.as_slice()])
     }
 }
 
 /// What is said of a text that spells a keymap. A character is given as it is printed in a keymap.
-#[tactic(auto, unfolding(crate::specs::Said::message_text))]
-pub(crate) fn message(
+pub(crate) fn kind_message(
     alloc: Global,
     source: &TextLines,
     lint: &Diagnostics,
     kind: &Kind,
 ) -> Result<Vec<u8>, AllocError>
     requires { TellsWithin source.now kind.now }
-    ensures { IfOk result (λ text. text.items ≡ spec.message_text source.now lint.now kind.now) }
+    ensures { IfOk result (λ text. IsLine text.items) }
 {
     match kind {
-        Kind::NoKey => filled(alloc, NO_KEY, &[]),
-        Kind::NoShift => filled(alloc, NO_SHIFT, &[]),
+        Kind::NoKey => message(alloc, NO_KEY, &[]),
+        Kind::NoShift => message(alloc, NO_SHIFT, &[]),
         Kind::MixedKey {
             finding,
             character,
@@ -179,7 +163,7 @@ pub(crate) fn message(
             dead_key(alloc, lint.missing_accents.as_slice(), *defines_some)
         }
         Kind::ZeroAccent { accent } => {
-            filled(alloc, ZERO_ACCENT, &[accent_name(*accent).as_slice()])
+            message(alloc, ZERO_ACCENT, &[accent_name(*accent).as_slice()])
         }
         Kind::PairAgain {
             accent,
@@ -187,9 +171,9 @@ pub(crate) fn message(
             first,
         } => {
             let name = accent_name(*accent);
-            let base = character_text(*base);
-            let line = number(source.number_at(*first));
-            filled(
+            let base = printed(*base);
+            let line = digits(source.number_at(*first));
+            message(
                 alloc,
                 PAIR_AGAIN,
                 &[name.as_slice(), base.as_slice(), line.as_slice()],
@@ -204,10 +188,10 @@ pub(crate) fn message(
             )
         }
         Kind::BareDigit { character } => {
-            let digits = number(u64::from(*character as u32));
+            let digits = digits(u64::from(*character as u32));
             let digit = digits.as_slice();
-            let text = character_text(*character);
-            filled(alloc, BARE_DIGIT, &[digit, digit, text.as_slice(), digit])
+            let text = printed(*character);
+            message(alloc, BARE_DIGIT, &[digit, digit, text.as_slice(), digit])
         }
     }
 }

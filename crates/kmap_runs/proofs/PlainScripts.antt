@@ -1,4 +1,4 @@
--- The script that types a sentence is UTF-8 that a terminal shows.
+-- The script that types a sentence is lines that a terminal shows.
 use Rattle.std.proofs.Common.{◌≡◌, ℕ, ◌==◌, Bool, true, false, List, [], ◌∷◌, refl}
 use Rattle.std.proofs.Common.{sym, arith, append-nil, All}
 use Rattle.std.specs.Prelude.{◌/◌, ◌%◌, nat_lt, codes, encode_utf8, if◌then◌else◌}
@@ -12,52 +12,45 @@ use Rattle.console_core.specs.declared.typing.Typing.{Typing}
 use Rattle.console_core.specs.Typing.{characters_of}
 use Rattle.keymap_core.specs.CodePoints.{code_text, code_digits, upper_digits, digit_at}
 use Rattle.keymap_core.specs.Unseen.{is_unseen}
-use Rattle.keymap_lint_text.proofs.Plain.{ascii, plain_append, plain_none, last_true}
-use Rattle.keymap_lint_text.proofs.Printed.{decimal_plain, digit_plain, either, fills, plain_each, plain_flat}
-use Rattle.keymap_lint_text.specs.Shown.{IsPlain, IsPlainText}
+use Rattle.keymap_lint_text.proofs.Lines.{ascii, decimal_line, digit_line, either, itself, line_append, line_each}
+use Rattle.keymap_lint_text.proofs.Lines.{line_none}
+use Rattle.keymap_lint_text.proofs.Plain.{plain_append, plain_flat, plain_line, plain_none}
+use Rattle.keymap_lint_text.specs.Shown.{IsLine, IsPlainText}
+use Rattle.messages.specs.Filled.{filled}
 use Rattle.play_core.specs.Spelling.{event_line}
 use Rattle.kmap_runs.specs.Typing.{shown, is_line_feed, comment, comment_if, lines_from, typing_script}
 use Rattle.kmap_runs.specs.declared.words.TheConstants as words
 
-digit_at_plain : (c unit : ℕ) (bs : List ℕ) → IsPlainText bs → IsPlainText (digit_at c unit ∷ bs)
-digit_at_plain c unit bs p = digit_plain ((c / unit) % 16) bs (omega arith) p
+digit_at_line : (c unit : ℕ) (bs : List ℕ) → IsLine bs → IsLine (digit_at c unit ∷ bs)
+digit_at_line c unit bs p = digit_line ((c / unit) % 16) bs (omega arith) p
 
-code_plain : (c : ℕ) → IsPlainText (code_text c)
+code_line : (c : ℕ) → IsLine (code_text c)
 unfolding code_text code_digits
-code_plain c =
-    plain_append (codes "U+") _ (ascii _ refl)
-    (plain_append (upper_digits c) _
-    (either (nat_lt c 0x10000) _ _ plain_none
-    (either (nat_lt c 0x100000) _ _ (digit_at_plain c 0x10000 _ plain_none)
-    (digit_at_plain c 0x100000 _ (digit_at_plain c 0x10000 _ plain_none))))
-    (digit_at_plain c 0x1000 _
-    (digit_at_plain c 0x100 _ (digit_at_plain c 0x10 _ (digit_at_plain c 1 _ plain_none)))))
-
--- a character as it is
-itself : (c : ℕ) → IsScalar c → is_unseen c ≡ false → IsPlainText (encode_utf8 c)
-itself c s h = record {
-  characters = c ∷ [];
-  spelled = sym (append-nil (encode_utf8 c));
-  plain = All-cons IsPlain c [] (s, last_true (c == 9) (c == 10) (is_unseen c) h) (All-nil IsPlain);
-}
+code_line c =
+    line_append (codes "U+") _ (ascii _ refl)
+    (line_append (upper_digits c) _
+    (either (nat_lt c 0x10000) _ _ line_none
+    (either (nat_lt c 0x100000) _ _ (digit_at_line c 0x10000 _ line_none)
+    (digit_at_line c 0x100000 _ (digit_at_line c 0x10000 _ line_none))))
+    (digit_at_line c 0x1000 _
+    (digit_at_line c 0x100 _ (digit_at_line c 0x10 _ (digit_at_line c 1 _ line_none)))))
 
 shown_by : (c : ℕ) (hidden : Bool) → is_unseen c ≡ hidden → IsScalar c
-    → IsPlainText (if hidden then code_text c else encode_utf8 c)
-shown_by c true h s = code_plain c
+    → IsLine (if hidden then code_text c else encode_utf8 c)
+shown_by c true h s = code_line c
 shown_by c false h s = itself c s h
 
-shown_plain : (c : ℕ) → IsScalar c → IsPlainText (shown c)
+shown_line : (c : ℕ) → IsScalar c → IsLine (shown c)
 unfolding shown
-shown_plain c s = shown_by c (is_unseen c) refl s
+shown_line c s = shown_by c (is_unseen c) refl s
 
 comment_plain : (ks : List Keyed) → All IsScalar (characters_of ks) → IsPlainText (comment ks)
+unfolding filled
 comment_plain ks h =
     let cs : List ℕ = characters_of ks in
-    fills words.SENTENCE.now _ refl (
-      plain_each IsScalar shown shown_plain (before_first is_line_feed cs)
-          (All-take IsScalar (position_or_len is_line_feed cs) cs h),
-      tt,
-    )
+    plain_line _ (line_append (codes "# ") _ (ascii _ refl)
+    (line_each IsScalar shown shown_line (before_first is_line_feed cs)
+    (All-take IsScalar (position_or_len is_line_feed cs) cs h)))
 
 comment_if_plain : (starts : Bool) (ks : List Keyed) → All IsScalar (characters_of ks)
     → IsPlainText (comment_if starts ks)
@@ -65,12 +58,10 @@ comment_if_plain true ks h = comment_plain ks h
 comment_if_plain false ks h = plain_none
 
 event_plain : (e : Event) → IsPlainText (event_line e)
-event_plain (event.Press k) =
-    plain_append _ _ (plain_append (codes "down ") _ (ascii _ refl) (decimal_plain k)) (ascii (codes "\n") refl)
-event_plain (event.Release k) =
-    plain_append _ _ (plain_append (codes "up ") _ (ascii _ refl) (decimal_plain k)) (ascii (codes "\n") refl)
-event_plain event.Reset = ascii _ refl
-event_plain event.Load = ascii _ refl
+event_plain (event.Press k) = plain_line _ (line_append (codes "down ") _ (ascii _ refl) (decimal_line k))
+event_plain (event.Release k) = plain_line _ (line_append (codes "up ") _ (ascii _ refl) (decimal_line k))
+event_plain event.Reset = plain_line (codes "reset") (ascii _ refl)
+event_plain event.Load = plain_line (codes "load") (ascii _ refl)
 
 lines_plain : (starts : Bool) (ks : List Keyed) → All IsScalar (characters_of ks) → IsPlainText (lines_from starts ks)
 unfolding lines_from

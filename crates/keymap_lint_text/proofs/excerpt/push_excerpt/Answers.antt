@@ -1,6 +1,7 @@
-use Rattle.std.proofs.Common.{◌≡◌, ◌∙◌, ◌++◌, length, take, ap, arith}
+use Rattle.std.proofs.Common.{◌≡◌, ◌∙◌, ◌++◌, length, take, ap, arith, subst}
+use Rattle.std.specs.Prelude.{OnOk}
 use Rattle.keymap_lint_text.specs.Excerpt.{shown_before, without_cr, reach}
-use Rattle.keymap_lint_text.specs.Shown.{shown_chars, last}
+use Rattle.keymap_lint_text.specs.Shown.{shown_chars, last, lines_text}
 use Rattle.keymap_lint_text.proofs.Windows.{both_lines, looked_behind}
 use Rattle.keymap_lint_text.proofs.excerpt.push_excerpt.Goals as goal
 
@@ -25,10 +26,11 @@ returns c =
     let is_before : c.in_ok-characters.characters.items ≡ last (reach (length found)) front =
     c.in_ok-characters.ensures ∙ ap (λ n. last (reach n) (shown_chars bytes)) found_count
     ∙ ap (λ bs. last (reach (length found)) (shown_chars bs)) same in
-    rw (
+    let same_lines =
     both_lines c.args.before.now c.args.rest.now c.in_ok-characters.characters.items found c.as_slice-2.result.now
     c.len-count.result is_behind is_before
     (c.as_slice-2.ensures.value ∙ c.in_ok-extend_from_slice.ensures.items
     ∙ ap (λ xs. c.in_ok-characters.characters.items ++ xs) c.as_slice.ensures.value)
-    (omega (arith, c.in_ok-characters.characters.ok, c.len-count.ensures))
-    ) at c.push_lines.ensures
+    (omega (arith, c.in_ok-characters.characters.ok, c.len-count.ensures)) in
+    subst (λ t. OnOk c.push_lines.result (c.push_lines.new.text.items ≡ c.args.text.now.items ++ lines_text t))
+    same_lines c.push_lines.ensures

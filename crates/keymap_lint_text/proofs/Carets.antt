@@ -1,0 +1,109 @@
+-- The caret stands below the place, and the note on modifiers that stay on tells its events.
+use Rattle.std.proofs.Common.{◌≡◌, ℕ, ◌+◌, ◌-◌, ◌≤◌, Bool, true, false, List, [], ◌∷◌, ◌++◌, codes, refl, ap, sym, ◌∙◌}
+use Rattle.std.proofs.Common.{append_assoc, append-nil, arith, length, length-append, length-drop, take, drop, nat_lt}
+use Rattle.std.specs.Prelude.{◌==◌, encode_utf8, map, if◌then◌else◌}
+use Rattle.std.specs.List.{flat_map, list_all}
+use Rattle.std.proofs.Math.Seq.{take-append-add}
+use Rattle.std.proofs.lemmas.Grind.{flat_map-append}
+use Rattle.std.proofs.lemmas.List.{drop-append-le, map-append}
+use Rattle.console_core.specs.declared.event.Event.{Event}
+use Rattle.keymap_core.specs.declared.action.Modifier.{Modifier}
+use Rattle.messages.specs.Filled.{filled}
+use Rattle.keymap_lint_text.specs.Excerpt.{below, blanks, dots, excerpt, left_out, lines_of, shown_before, without_cr}
+use Rattle.keymap_lint_text.specs.Notes.{events_text, modifiers_text, sticks_text}
+use Rattle.keymap_lint_text.specs.Promises.{is_no_colon, HasCaretBelow, TellsEvents}
+use Rattle.keymap_lint_text.specs.Shown.{shown_chars}
+use Rattle.keymap_lint_text.specs.declared.words.TheConstants as words
+use Rattle.keymap_lint_text.proofs.Ascii.{encoded}
+
+-- two blanks and dots are of ASCII, and blanks stand below them
+abbrev dots_if : Bool → List ℕ
+dots_if b = if b then codes ".." else []
+
+front_spelled : (b : Bool) → flat_map encode_utf8 (codes "  " ++ dots_if b) ≡ codes "  " ++ dots_if b
+front_spelled true = encoded (codes "  ..") refl
+front_spelled false = encoded (codes "  ") refl
+
+dots_spelled : (b : Bool) → flat_map encode_utf8 (dots_if b) ≡ dots_if b
+dots_spelled true = encoded (codes "..") refl
+dots_spelled false = refl
+
+front_below : (b : Bool) → map below (codes "  " ++ dots_if b) ≡ codes "  " ++ (if b then codes "  " else [])
+front_below true = refl
+front_below false = refl
+
+spelled : (b c : Bool) (xs ys : List ℕ) → codes "  " ++ dots_if b ++ flat_map encode_utf8 (xs ++ ys) ++ dots_if c
+    ≡ flat_map encode_utf8 (codes "  " ++ dots_if b ++ xs ++ (ys ++ dots_if c))
+spelled b c xs ys =
+    let front = codes "  " ++ dots_if b in
+    let regrouped : front ++ xs ++ (ys ++ dots_if c) ≡ front ++ (xs ++ ys) ++ dots_if c = simp append_assoc in
+    sym (ap (flat_map encode_utf8) regrouped ∙ flat_map-append encode_utf8 (front ++ (xs ++ ys)) (dots_if c)
+    ∙ ap (λ t. t ++ flat_map encode_utf8 (dots_if c)) (flat_map-append encode_utf8 front (xs ++ ys))
+    ∙ ap (λ t. t ++ flat_map encode_utf8 (xs ++ ys) ++ flat_map encode_utf8 (dots_if c)) (front_spelled b)
+    ∙ ap (λ t. front ++ flat_map encode_utf8 (xs ++ ys) ++ t) (dots_spelled c))
+
+-- the part that is shown has all that isn't left out before the place
+part : (bs rs : List ℕ) (s : ℕ) → s ≤ length bs → length bs ≤ s + 120
+    → take 120 (drop s (bs ++ rs)) ≡ drop s bs ++ take (120 - length (drop s bs)) rs
+part bs rs s e f =
+    let whole : 120 ≡ length (drop s bs) + (120 - length (drop s bs)) = omega (arith, length-drop s bs) in
+    ap (take 120) (drop-append-le s bs rs e)
+    ∙ ap (λ n. take n (drop s bs ++ rs)) whole
+    ∙ take-append-add (drop s bs) rs (120 - length (drop s bs))
+
+below_place : (bs rs : List ℕ) → HasCaretBelow bs rs (lines_of bs rs)
+below_place bs rs =
+    let s = left_out (length bs) (length (bs ++ rs)) in
+    let front = codes "  " ++ dots s in
+    let some = take (120 - length (drop s bs)) rs in
+    let left = length (bs ++ rs) - (s + 120) in
+    let within : s ≤ length bs = omega arith in
+    let few : length bs ≤ s + 120 = omega (arith, length-append bs rs) in
+    let line : front ++ flat_map encode_utf8 (take 120 (drop s (bs ++ rs))) ++ dots left
+    ≡ flat_map encode_utf8 (front ++ drop s bs ++ (some ++ dots left)) =
+    ap (λ t. front ++ flat_map encode_utf8 t ++ dots left) (part bs rs s within few)
+    ∙ spelled (nat_lt 0 s) (nat_lt 0 left) (drop s bs) some in
+    let under : codes "  " ++ blanks s ++ map below (drop s bs) ≡ map below (front ++ drop s bs) =
+    ap (λ t. t ++ map below (drop s bs)) (sym (front_below (nat_lt 0 s))) ∙ sym (map-append below front (drop s bs)) in
+    record {
+      skipped = s;
+      shown = 120 - length (drop s bs);
+      left = left;
+      front = front ++ drop s bs;
+      stands_before = refl;
+      line =
+          ap (λ t. t ∷ (codes "  " ++ blanks s ++ map below (drop s bs) ++ codes "^") ∷ []) line
+          ∙ ap (λ t. flat_map encode_utf8 (front ++ drop s bs ++ (some ++ dots left)) ∷ (t ++ codes "^") ∷ []) under;
+    }
+
+pub caret_below : (before rest : List ℕ)
+    → HasCaretBelow (shown_chars (shown_before before rest)) (shown_chars (without_cr rest)) (excerpt before rest)
+unfolding excerpt
+caret_below before rest = below_place (shown_chars (shown_before before rest)) (shown_chars (without_cr rest))
+
+-- ---- the note on modifiers that stay on
+
+abbrev between : Bool → List ℕ
+between one =
+    codes " " ++ (if one then words.ONE_STAYS.now else words.SOME_STAY.now) ++ codes " on with no key pressed, after"
+
+told_as : (one : Bool) (m e : List ℕ)
+    → filled words.STICKS.now (m ∷ (if one then words.ONE_STAYS.now else words.SOME_STAY.now) ∷ e ∷ [])
+    ≡ m ++ between one ++ codes ": " ++ e
+unfolding filled
+told_as true m e = simp (append_assoc, append-nil)
+told_as false m e = simp (append_assoc, append-nil)
+
+no_colon_between : (one : Bool) → list_all is_no_colon (between one) ≡ true
+no_colon_between true = refl
+no_colon_between false = refl
+
+pub tells_events : (modifiers : List Modifier) (events : List Event) (message : List ℕ)
+    → message ≡ sticks_text modifiers events → TellsEvents modifiers events message
+unfolding sticks_text
+tells_events modifiers events message e =
+    let one = length modifiers == 1 in record {
+      words = between one;
+      no_colon = no_colon_between one;
+      told = e ∙ told_as one (modifiers_text modifiers) (events_text events);
+    }

@@ -1,0 +1,129 @@
+-- Each entry has one head, and no other line begins without blanks.
+use Rattle.std.proofs.Common.{◌≡◌, ℕ, Bool, true, false, List, [], ◌∷◌, ◌++◌, codes, refl, ap, sym, subst, ◌∙◌}
+use Rattle.std.proofs.Common.{append_assoc, Option, Some, None}
+use Rattle.std.specs.Prelude.{decimal, length, map, not, ◌+◌, if◌then◌else◌}
+use Rattle.std.specs.List.{All, filter, flat_map}
+use Rattle.std.proofs.lemmas.Grind.{flat_map-append}
+use Rattle.std.proofs.lemmas.List.Elements.{All-nil, All-cons, All-append, filter-append}
+use Rattle.console_core.specs.declared.outcome.Sticking.{Sticking}
+use Rattle.console_core.specs.declared.outcome.Sticking.TheVariants.{Sticks, Never, Undecided}
+use Rattle.keymap_lint.specs.declared.diagnostic.Diagnostic.{Diagnostic}
+use Rattle.keymap_lint.specs.declared.diagnostic.Diagnostics.{Diagnostics}
+use Rattle.keymap_lint.specs.declared.diagnostic.Lint.{Lint}
+use Rattle.keymap_lint.specs.declared.diagnostic.Lint.TheVariants.{Faulty, Spelled}
+use Rattle.keymap_lint.specs.declared.diagnostic.Severity.TheVariants.{Error}
+use Rattle.keymap_text.specs.FaultNames.{fault_name}
+use Rattle.keymap_text.specs.LineOf.{before_in_line, rest_of_line}
+use Rattle.keymap_text.specs.Meaning.{line}
+use Rattle.keymap_text.specs.declared.fault.TextFaultKind.{TextFaultKind}
+use Rattle.keymap_text.specs.declared.wanted.DefinitionStart.{DefinitionStart}
+use Rattle.keymap_lint_text.specs.Excerpt.{excerpt}
+use Rattle.keymap_lint_text.specs.Heads.{Said, Entry, entry, head, place_text, said_text, below, IsPrinted, ArePrinted}
+use Rattle.keymap_lint_text.specs.Promises.{is_indented, is_flush, IsHead, AreHeads, HasHeads, is_judged, diagnostics}
+use Rattle.keymap_lint_text.specs.Said.{is_noted}
+use Rattle.keymap_lint_text.specs.Shown.{ended, lines_text, shown_name, IsLine, IsPlainText}
+use Rattle.keymap_lint_text.specs.Whole.{IsLintText, entries, answer, judged, of_diagnostic, of_fault, beginning}
+use Rattle.keymap_lint_text.proofs.Lines.{excerpt_lines, head_line, name_line}
+
+-- what stands behind the file and a colon
+abbrev pub behind : List ℕ → Option ℕ → List ℕ
+behind text None = codes " "
+behind text (Some place) =
+    decimal (line text place) ++ codes ":" ++ decimal (length (before_in_line text place) + 1) ++ codes ": "
+
+pub head_is : (file text : List ℕ) (e : Entry) (m : List ℕ)
+    → head file text e m ≡ file ++ (codes ":" ++ (behind text e.place ++ said_text e.said m))
+head_is file text e m = ap (λ t. t ++ said_text e.said m) (parts e.place) ∙ simp append_assoc
+  where
+    parts : (place : Option ℕ) → place_text file text place ≡ file ++ (codes ":" ++ behind text place)
+    parts None = refl
+    parts (Some place) = simp append_assoc
+
+indented_front : (file y : List ℕ) → is_indented (file ++ codes ":" ++ y) ≡ is_indented file
+indented_front [] y = refl
+indented_front (a ∷ []) y = refl
+indented_front (a ∷ b ∷ file) y = refl
+
+head_indented : (file text : List ℕ) (e : Entry) (m : List ℕ) → is_indented (head file text e m) ≡ is_indented file
+head_indented file text e m =
+    ap is_indented (head_is file text e m ∙ sym (append_assoc file (codes ":") (behind text e.place ++ said_text e.said m)))
+    ∙ indented_front file (behind text e.place ++ said_text e.said m)
+
+below_indented : (text : List ℕ) (place : Option ℕ) → filter is_flush (below text place) ≡ []
+unfolding excerpt
+below_indented text None = refl
+below_indented text (Some place) = refl
+
+below_lines : (text : List ℕ) (place : Option ℕ) → All IsLine (below text place)
+below_lines text None = All-nil IsLine
+below_lines text (Some place) = excerpt_lines (before_in_line text place) (rest_of_line text place)
+
+-- a line that isn't indented, and lines that are, before others
+filtered : (h : List ℕ) (bs ls : List (List ℕ)) → is_indented h ≡ false → filter is_flush bs ≡ []
+    → filter is_flush (h ∷ (bs ++ ls)) ≡ h ∷ filter is_flush ls
+filtered h bs ls e f =
+    ap (λ b. if not b then h ∷ filter is_flush (bs ++ ls) else filter is_flush (bs ++ ls)) e
+    ∙ ap (λ t. h ∷ t) (filter-append is_flush bs ls ∙ ap (λ t. t ++ filter is_flush ls) f)
+
+pub all_headed : (file text : List ℕ) (es : List Entry) (printed : List ℕ) → IsLine file
+    → ArePrinted file text es printed → HasHeads file text es printed
+all_headed file text [] printed name e =
+    record { lines = []; spelled = e; plain = All-nil IsLine; heads = λ _. refl }
+all_headed file text (e ∷ es) printed name (first, rest, one, more, is) =
+    let others = all_headed file text es rest name more in
+    let h = head file text e one.message in
+    let bs = below text e.place in record {
+      lines = h ∷ (bs ++ others.lines);
+      spelled =
+          is ∙ ap (λ t. t ++ rest) one.spelled ∙ ap (λ t. lines_text (h ∷ bs) ++ t) others.spelled
+          ∙ sym (flat_map-append ended (h ∷ bs) others.lines);
+      plain =
+          All-cons IsLine h (bs ++ others.lines) (head_line file text e one.message name one.is_message)
+              (All-append IsLine bs others.lines (below_lines text e.place) others.plain);
+      heads = λ flush.
+          subst (AreHeads file text (e ∷ es))
+              (sym (filtered h bs others.lines (head_indented file text e one.message ∙ flush)
+              (below_indented text e.place)))
+              (record { message = one.message; is_message = one.is_message; spelled = refl }, others.heads flush);
+    }
+
+pub lint_headed : (file text : List ℕ) (l : Lint) (printed : List ℕ) → IsLintText file text l printed
+    → HasHeads (shown_name file) text (entries text l) printed
+lint_headed file text l printed p = all_headed (shown_name file) text (entries text l) printed (name_line file) p
+
+pub lint_plain : (file text : List ℕ) (l : Lint) (printed : List ℕ) → IsLintText file text l printed
+    → IsPlainText printed
+lint_plain file text l printed p =
+    let headed = lint_headed file text l printed p in
+    record { lines = headed.lines; spelled = headed.spelled; plain = headed.plain }
+
+-- ---- the entries that are no notes
+
+answer_noted : (s : Option Sticking) → filter is_judged (answer s) ≡ []
+answer_noted None = refl
+answer_noted (Some Never) = refl
+answer_noted (Some (Undecided presses)) = refl
+answer_noted (Some (Sticks events modifiers)) = refl
+
+noted_if : (b : Bool) (es : List Entry) → filter is_judged es ≡ [] → filter is_judged (if b then es else []) ≡ []
+noted_if true es e = e
+noted_if false es e = refl
+
+beginning_noted : (text : List ℕ) (place : ℕ) (kind : TextFaultKind) (d : Option DefinitionStart)
+    → filter is_judged (beginning text place kind d) ≡ []
+beginning_noted text place kind None = refl
+beginning_noted text place kind (Some d) = noted_if _ (entry (Some d.offset) Said.Noted ∷ []) refl
+
+each_judged : (l : Diagnostics) (ds : List Diagnostic)
+    → filter is_judged (flat_map (of_diagnostic l) ds) ≡ map (judged l) ds
+each_judged l [] = refl
+each_judged l (d ∷ ds) =
+    filter-append is_judged (of_diagnostic l d) (flat_map (of_diagnostic l) ds)
+    ∙ ap (λ t. judged l d ∷ (t ++ filter is_judged (flat_map (of_diagnostic l) ds)))
+    (noted_if (is_noted d.kind) (answer l.sticking) (answer_noted l.sticking))
+    ∙ ap (λ t. judged l d ∷ t) (each_judged l ds)
+
+pub all_judged : (text : List ℕ) (l : Lint) → filter is_judged (entries text l) ≡ diagnostics l
+all_judged text (Faulty f place) =
+    ap (λ t. entry (Some f.offset) (Said.Judged Error (fault_name f.kind)) ∷ t) (beginning_noted text f.offset f.kind place.definition)
+all_judged text (Spelled l) = each_judged l l.list.items

@@ -1,0 +1,392 @@
+-- What is shown of bytes, and what is told in words, stays in its line, and a terminal shows it.
+use Prim.Native.Nat.{zero, suc}
+use Rattle.std.proofs.Common.{◌≡◌, ℕ, ◌<◌, Bool, true, false, List, [], ◌∷◌, ◌++◌, refl, ap, sym, subst, ◌∙◌, arith, rules}
+use Rattle.std.proofs.Common.{All, Option, Some, None, append-nil, take, drop, length}
+use Rattle.std.specs.Prelude.{◌/◌, ◌%◌, ◌==◌, ◌||◌, ◌+◌, ◌-◌, not, nat_lt, codes, decimal, map, encode_utf8, IsTrue}
+use Rattle.std.specs.Prelude.{slice_index_or, if◌then◌else◌}
+use Rattle.std.specs.Char.{IsScalar, digit_char}
+use Rattle.std.specs.Fmt.{digits, digits_onto, digit_glyph}
+use Rattle.std.specs.List.{flat_map, list_all, position_or_len}
+use Rattle.std.proofs.lemmas.Bool.{and_parts}
+use Rattle.std.proofs.lemmas.Bool.Decides.{nat_tests}
+use Rattle.std.proofs.lemmas.Grind.{flat_map-append}
+use Rattle.std.proofs.lemmas.List.Elements.{All-nil, All-cons, All-append, All-map, All-weaker, All-take, All-drop}
+use Rattle.std.proofs.lemmas.List.Elements.{All-head, All-tail}
+use Rattle.std.proofs.lemmas.Str.{encode_ascii}
+use Rattle.bstr.specs.Utf8.{lossy_chars, pieces_from, pieces, decoded, or_replacement, Decoded}
+use Rattle.bstr.proofs.lemmas.SoundLemmas.{SpellsChar-decoded}
+use Rattle.console_core.specs.declared.event.Event.{Event}
+use Rattle.console_core.specs.declared.event.Event.TheVariants.{Press, Release, Reset, Load}
+use Rattle.keymap_core.proofs.Lists.{along}
+use Rattle.keymap_core.specs.Actions.{accent_names, holding_action, name_of}
+use Rattle.keymap_core.specs.Unseen.{is_unseen}
+use Rattle.keymap_core.specs.declared.action.Action.TheVariants as action
+use Rattle.keymap_core.specs.declared.action.Modifier.{Modifier}
+use Rattle.keymap_core.specs.declared.action.Modifier.TheVariants as mods
+use Rattle.keymap_core.specs.declared.action.Lock.TheVariants as locks
+use Rattle.keymap_core.specs.declared.action.Holding.{Holding}
+use Rattle.keymap_core.specs.declared.action.Holding.TheVariants as holds
+use Rattle.keymap_lint.specs.declared.diagnostic.Kind.{Kind}
+use Rattle.keymap_lint.specs.declared.diagnostic.Kind.TheVariants as kinds
+use Rattle.keymap_lint.specs.declared.diagnostic.Severity.{Severity}
+use Rattle.keymap_lint.specs.declared.diagnostic.Severity.TheVariants as severities
+use Rattle.keymap_text.specs.declared.fault.TextFaultKind.{TextFaultKind}
+use Rattle.keymap_text.specs.declared.fault.TextFaultKind.TheVariants as faults
+use Rattle.keymap_text.specs.FaultNames.{fault_name}
+use Rattle.keymap_text.specs.LineOf.{before_in_line}
+use Rattle.keymap_text.specs.Meaning.{line}
+use Rattle.keymap_text.specs.Printed.{character_text, control_name, hex, hex4, hex_at}
+use Rattle.keymap_text.specs.Words.{control_names}
+use Rattle.messages.specs.Filled.{filled, words_before, words_behind, is_hole}
+use Rattle.keymap_lint_text.specs.Excerpt.{excerpt, lines_of, shown_line, caret_line, below, left_out}
+use Rattle.keymap_lint_text.specs.Excerpt.{shown_before, without_cr}
+use Rattle.keymap_lint_text.specs.Heads.{Said, Entry, IsMessage, head, place_text, said_text}
+use Rattle.keymap_lint_text.specs.Notes as notes
+use Rattle.keymap_lint_text.specs.Said.{kind_text, severity_text}
+use Rattle.keymap_lint_text.specs.Shown.{shown_char, shown_chars, shown_name, is_seen, is_shown_byte, IsSeen, IsLine}
+use Rattle.keymap_lint_text.specs.Shown.{AreLines}
+use Rattle.keymap_lint_text.specs.declared.words.TheConstants as words
+
+-- the character that is read in front is one
+read : (bs : List ℕ) (o : Option ℕ) → (decoded bs).char ≡ o → IsScalar (or_replacement o)
+read bs (Some y) e = (SpellsChar-decoded bs y e).scalar
+read bs None e = grind (arith, nat_tests)
+
+abbrev ReadsScalar : Decoded → Type 0
+ReadsScalar p = IsScalar (or_replacement p.char)
+
+scalar_pieces : (fuel : ℕ) (bs : List ℕ) → All ReadsScalar (pieces_from fuel bs)
+unfolding pieces_from
+scalar_pieces zero bs = All-nil ReadsScalar
+scalar_pieces (suc n) [] = All-nil ReadsScalar
+scalar_pieces (suc n) (b ∷ rest) =
+    All-cons ReadsScalar (decoded (b ∷ rest)) (pieces_from n (drop (decoded (b ∷ rest)).size (b ∷ rest)))
+    (read (b ∷ rest) (decoded (b ∷ rest)).char refl) (scalar_pieces n (drop (decoded (b ∷ rest)).size (b ∷ rest)))
+
+first_true : (a h : Bool) → a ≡ true → IsTrue (a || not h)
+first_true true h e = search rules
+first_true false h e = cc
+
+last_true : (a h : Bool) → h ≡ false → IsTrue (a || not h)
+last_true true h e = search rules
+last_true false false e = cc
+last_true false true e = cc
+
+-- by whether the character is a tab, and whether a terminal doesn't show it
+shown_as : (c : ℕ) (tab hidden : Bool) → c == 9 ≡ tab → is_unseen c ≡ hidden → IsScalar c
+    → IsSeen (if tab then c else if hidden then 0xfffd else c)
+shown_as c true hidden t h s = (s, first_true (c == 9) (is_unseen c) t)
+shown_as c false true t h s = search rules
+shown_as c false false t h s = (s, last_true (c == 9) (is_unseen c) h)
+
+seen_shown : (c : ℕ) → IsScalar c → IsSeen (shown_char c)
+seen_shown c s = shown_as c (c == 9) (is_unseen c) refl refl s
+
+-- what is shown of any bytes
+pub all_seen : (bytes : List ℕ) → All IsSeen (shown_chars bytes)
+unfolding shown_chars
+all_seen bytes =
+    let pieces_read = scalar_pieces (length bytes) bytes in
+    let scalars : All IsScalar (lossy_chars bytes) =
+    All-map IsScalar (λ (p : Decoded). or_replacement p.char) (pieces bytes) pieces_read in
+    All-map IsSeen shown_char (lossy_chars bytes)
+    (All-weaker IsScalar (λ c. IsSeen (shown_char c)) seen_shown (lossy_chars bytes) scalars)
+
+-- ---- bytes behind bytes
+
+pub line_append : (a b : List ℕ) → IsLine a → IsLine b → IsLine (a ++ b)
+line_append a b p q = record {
+  characters = p.characters ++ q.characters;
+  spelled =
+      ap (λ x. x ++ b) p.spelled ∙ ap (λ x. flat_map encode_utf8 p.characters ++ x) q.spelled
+      ∙ sym (flat_map-append encode_utf8 p.characters q.characters);
+  seen = All-append IsSeen p.characters q.characters p.seen q.seen;
+}
+
+pub line_none : IsLine []
+line_none = record { characters = []; spelled = refl; seen = All-nil IsSeen }
+
+pub line_chars : (cs : List ℕ) → All IsSeen cs → IsLine (flat_map encode_utf8 cs)
+line_chars cs p = record { characters = cs; spelled = refl; seen = p }
+
+-- a character as it is
+pub itself : (c : ℕ) → IsScalar c → is_unseen c ≡ false → IsLine (encode_utf8 c)
+itself c s h = record {
+  characters = c ∷ [];
+  spelled = sym (append-nil (encode_utf8 c));
+  seen = All-cons IsSeen c [] (s, last_true (c == 9) (is_unseen c) h) (All-nil IsSeen);
+}
+
+-- an ASCII character in front
+line_cons : (c : ℕ) (bs : List ℕ) → c < 128 → IsTrue (is_seen c) → IsLine bs → IsLine (c ∷ bs)
+line_cons c bs small seen p = record {
+  characters = c ∷ p.characters;
+  spelled =
+      ap (λ x. c ∷ x) p.spelled ∙ ap (λ x. x ++ flat_map encode_utf8 p.characters) (sym (encode_ascii c small));
+  seen = All-cons IsSeen c p.characters (grind (arith, nat_tests), seen) p.seen;
+}
+
+pub line_if : (t : Bool) (bs : List ℕ) → IsLine bs → IsLine (if t then bs else [])
+line_if true bs p = p
+line_if false bs p = line_none
+
+pub either : (b : Bool) (x y : List ℕ) → IsLine x → IsLine y → IsLine (if b then x else y)
+either true x y p q = p
+either false x y p q = q
+
+small_byte : (c : ℕ) → is_shown_byte c ≡ true → c < 128
+small_byte c h = grind (arith, nat_tests, h)
+
+implied : (p q : Bool) → (not p || q) ≡ true → p ≡ true → q ≡ true
+implied true q h e = h
+implied false q h e = cc
+
+shown_byte_seen : (c : ℕ) → is_shown_byte c ≡ true → IsTrue (is_seen c)
+shown_byte_seen c h =
+    implied (is_shown_byte c) (is_seen c)
+    (along (λ d. not (is_shown_byte d) || is_seen d) (λ d. true) 0 128 refl c (omega arith)
+    (omega (arith, small_byte c h))) h
+
+pub ascii : (bs : List ℕ) → list_all is_shown_byte bs ≡ true → IsLine bs
+ascii [] h = line_none
+ascii (c ∷ bs) h =
+    let both = and_parts (is_shown_byte c) (list_all is_shown_byte bs) h in
+    line_cons c bs (small_byte c both.0) (shown_byte_seen c both.0) (ascii bs both.1)
+
+named : (names : List (List ℕ)) (i : ℕ) → list_all (list_all is_shown_byte) names ≡ true
+    → IsLine (slice_index_or names i [])
+named [] i h = line_none
+named (name ∷ names) zero h =
+    ascii name (and_parts (list_all is_shown_byte name) (list_all (list_all is_shown_byte) names) h).0
+named (name ∷ names) (suc i) h =
+    named names i (and_parts (list_all is_shown_byte name) (list_all (list_all is_shown_byte) names) h).1
+
+pub line_each : {A : Type 0} (P : A → Type 0) (f : A → List ℕ) → ((x : A) → P x → IsLine (f x)) → (xs : List A)
+    → All P xs → IsLine (flat_map f xs)
+line_each P f each [] h = line_none
+line_each P f each (x ∷ xs) h =
+    line_append (f x) (flat_map f xs) (each x (All-head P x xs h)) (line_each P f each xs (All-tail P x xs h))
+
+line_flat : {A : Type 0} (f : A → List ℕ) → ((x : A) → IsLine (f x)) → (xs : List A) → IsLine (flat_map f xs)
+line_flat f each xs = line_each (λ _. Unit {0}) f (λ x _. each x) xs (λ k d _. tt)
+
+-- ---- digits
+
+-- what each digit passes, all digits of a number pass
+onto_all : (p : ℕ → Bool) → ((d : ℕ) → d < 10 → p (digit_glyph false d) ≡ true) → (k n : ℕ) (acc : List ℕ)
+    → list_all p acc ≡ true → list_all p (digits_onto k 10 false n acc) ≡ true
+onto_all p each zero n acc h = h
+onto_all p each (suc k) n acc h =
+    let here : list_all p (digit_glyph false (n % 10) ∷ acc) ≡ true = rw (each (n % 10) (omega arith), h) refl in
+    choose (n / 10 == 0) _ _ here (onto_all p each k (n / 10) (digit_glyph false (n % 10) ∷ acc) here)
+  where
+    choose : (b : Bool) (xs ys : List ℕ) → list_all p xs ≡ true → list_all p ys ≡ true
+        → list_all p (if b then xs else ys) ≡ true
+    choose true xs ys h k = h
+    choose false xs ys h k = k
+
+pub decimal_all : (p : ℕ → Bool) → ((d : ℕ) → d < 10 → p (digit_glyph false d) ≡ true) → (n : ℕ)
+    → list_all p (decimal n) ≡ true
+unfolding digits
+decimal_all p each n = onto_all p each 64 n [] refl
+
+glyph_printed : (d : ℕ) → d < 10 → is_shown_byte (digit_glyph false d) ≡ true
+glyph_printed d low = along (λ d. is_shown_byte (digit_glyph false d)) (λ d. true) 0 10 refl d (omega arith) (omega arith)
+
+digit_printed : (d : ℕ) → d < 16 → is_shown_byte (digit_char d) ≡ true
+digit_printed d low = along (λ d. is_shown_byte (digit_char d)) (λ d. true) 0 16 refl d (omega arith) (omega arith)
+
+in_front : (c : ℕ) (bs : List ℕ) → is_shown_byte c ≡ true → IsLine bs → IsLine (c ∷ bs)
+in_front c bs h p = line_append (c ∷ []) bs (ascii (c ∷ []) (rw h refl)) p
+
+pub decimal_line : (n : ℕ) → IsLine (decimal n)
+decimal_line n = ascii (decimal n) (decimal_all is_shown_byte glyph_printed n)
+
+pub digit_line : (d : ℕ) (bs : List ℕ) → d < 16 → IsLine bs → IsLine (digit_char d ∷ bs)
+digit_line d bs low p = in_front (digit_char d) bs (digit_printed d low) p
+
+hex_line : (c p : ℕ) (bs : List ℕ) → IsLine bs → IsLine (hex_at c p ∷ bs)
+hex_line c p bs q = digit_line (c / p % 16) bs (omega arith) q
+
+four : (c : ℕ) → IsLine (hex4 c)
+four c = hex_line c 4096 _ (hex_line c 256 _ (hex_line c 16 _ (hex_line c 1 _ line_none)))
+
+number_line : (c : ℕ) → IsLine (hex c)
+unfolding hex
+number_line c =
+    either (nat_lt c 65536) _ _ (four c)
+    (either (nat_lt c 1048576) _ _ (hex_line c 65536 _ (four c))
+    (hex_line c 1048576 _ (hex_line c 65536 _ (four c))))
+
+-- ---- words, with what is told at their places
+
+front_printed : (n : ℕ) (bs : List ℕ) → list_all is_shown_byte bs ≡ true → list_all is_shown_byte (take n bs) ≡ true
+front_printed zero bs h = refl
+front_printed (suc n) [] h = refl
+front_printed (suc n) (c ∷ bs) h =
+    let both = and_parts (is_shown_byte c) (list_all is_shown_byte bs) h in
+    rw (both.0, front_printed n bs both.1) refl
+
+behind_printed : (n : ℕ) (bs : List ℕ) → list_all is_shown_byte bs ≡ true → list_all is_shown_byte (drop n bs) ≡ true
+behind_printed zero bs h = h
+behind_printed (suc n) [] h = refl
+behind_printed (suc n) (c ∷ bs) h =
+    behind_printed n bs (and_parts (is_shown_byte c) (list_all is_shown_byte bs) h).1
+
+pub fills : (w : List ℕ) (ts : List (List ℕ)) → list_all is_shown_byte w ≡ true → AreLines ts → IsLine (filled w ts)
+unfolding filled
+fills w [] h ps = ascii w h
+fills w (t ∷ ts) h ps =
+    line_append (words_before w ++ t) (filled (words_behind w) ts)
+    (line_append (words_before w) t (ascii _ (front_printed (position_or_len is_hole w) w h)) ps.0)
+    (fills (words_behind w) ts (behind_printed (position_or_len is_hole w + 2) w h) ps.1)
+
+-- ---- characters, modifiers and events
+
+quoted : (c : ℕ) → nat_lt c 32 ≡ false → nat_lt c 127 ≡ true → is_shown_byte c ≡ true
+quoted c low high = grind (arith, nat_tests)
+
+character_by : (c : ℕ) (low del high : Bool) → nat_lt c 32 ≡ low → nat_lt c 127 ≡ high
+    → IsLine (if low || del then control_name c else if high then 39 ∷ c ∷ 39 ∷ [] else codes "0x" ++ hex c)
+character_by c true del high e f = either (c == 127) _ _ (ascii _ refl) (named control_names c refl)
+character_by c false true high e f = either (c == 127) _ _ (ascii _ refl) (named control_names c refl)
+character_by c false false true e f = in_front 39 _ refl (in_front c _ (quoted c e f) (ascii _ refl))
+character_by c false false false e f = line_append _ _ (ascii (codes "0x") refl) (number_line c)
+
+pub character_line : (c : ℕ) → IsLine (character_text c)
+unfolding character_text
+character_line c = character_by c (nat_lt c 32) (c == 127) (nat_lt c 127) refl refl
+
+pub hex_byte_line : (c : ℕ) → c < 256 → IsLine (digit_char (c / 16) ∷ digit_char (c % 16) ∷ [])
+hex_byte_line c small = digit_line (c / 16) _ (omega arith) (digit_line (c % 16) [] (omega arith) line_none)
+
+pub column_line : (column : ℕ) → IsLine (slice_index_or (map (λ name. name.now) words.COLUMN_NAMES) column [])
+column_line column = named (map (λ name. name.now) words.COLUMN_NAMES) column refl
+
+pub accent_line : (i : ℕ) → IsLine (name_of (action.DeadKey i))
+accent_line i = named accent_names i refl
+
+modifier_line : (modifier : Modifier) → IsLine (name_of (action.Mod modifier))
+modifier_line mods.LeftShift = ascii _ refl
+modifier_line _ = ascii _ refl
+
+pub holding_line : (holding : Holding) → IsLine (name_of (holding_action holding))
+holding_line (holds.Mod modifier) = modifier_line modifier
+holding_line (holds.Lock locks.Caps) = ascii _ refl
+holding_line _ = ascii _ refl
+
+further_modifier_line : (modifier : Modifier) → IsLine (notes.further_modifier modifier)
+further_modifier_line modifier = line_append _ _ (ascii (codes " and ") refl) (modifier_line modifier)
+
+modifiers_line : (ms : List Modifier) → IsLine (notes.modifiers_text ms)
+modifiers_line [] = line_none
+modifiers_line (modifier ∷ ms) =
+    line_append _ _ (modifier_line modifier) (line_flat notes.further_modifier further_modifier_line ms)
+
+event_line : (e : Event) → IsLine (notes.event_text e)
+event_line (Press key) = line_append _ _ (ascii (codes "down ") refl) (decimal_line key)
+event_line (Release key) = line_append _ _ (ascii (codes "up ") refl) (decimal_line key)
+event_line Reset = ascii _ refl
+event_line Load = ascii _ refl
+
+further_event_line : (e : Event) → IsLine (notes.further_event e)
+further_event_line e = line_append _ _ (ascii (codes ", ") refl) (event_line e)
+
+events_line : (es : List Event) → IsLine (notes.events_text es)
+events_line [] = line_none
+events_line (e ∷ es) = line_append _ _ (event_line e) (line_flat notes.further_event further_event_line es)
+
+pub sticks_line : (stuck : List Modifier) (events : List Event) → IsLine (notes.sticks_text stuck events)
+unfolding notes.sticks_text
+sticks_line stuck events =
+    fills words.STICKS.now _ refl (
+      modifiers_line stuck,
+      (
+        either (length stuck == 1) _ _ (ascii words.ONE_STAYS.now refl) (ascii words.SOME_STAY.now refl),
+        (events_line events, tt),
+      ),
+    )
+
+-- ---- names of kinds, and a whole line
+
+pub kind_line : (kind : Kind) → IsLine (kind_text kind)
+unfolding kind_text
+kind_line kinds.NoKey = ascii _ refl
+kind_line _ = ascii _ refl
+
+pub fault_name_line : (kind : TextFaultKind) → IsLine (fault_name kind)
+fault_name_line faults.BadByte = ascii _ refl
+fault_name_line _ = ascii _ refl
+
+severity_line : (s : Severity) → IsLine (severity_text s)
+severity_line severities.Error = ascii _ refl
+severity_line _ = ascii _ refl
+
+place_line : (file text : List ℕ) (place : Option ℕ) → IsLine file → IsLine (place_text file text place)
+place_line file text None p = line_append _ _ p (ascii _ refl)
+place_line file text (Some place) p =
+    line_append _ _ (
+    line_append _ _ (
+    line_append _ _ (line_append _ _ (line_append _ _ p (ascii _ refl)) (decimal_line (line text place)))
+    (ascii _ refl))
+    (decimal_line (length (before_in_line text place) + 1))) (ascii _ refl)
+
+said_line : (s : Said) (message : List ℕ) → IsMessage s message → IsLine (said_text s message)
+said_line (Said.Judged severity kind) message (p, q) =
+    line_append _ _ (
+    line_append _ _ (
+    line_append _ _ (line_append _ _ (line_append _ _ (severity_line severity) (ascii (codes ": ") refl)) q)
+    (ascii (codes " [") refl)) p)
+    (ascii (codes "]") refl)
+said_line Said.Noted message p = line_append _ _ (ascii (codes "note: ") refl) p
+said_line (Said.Sticking modifiers events) message e =
+    line_append _ _ (ascii (codes "note: ") refl) (subst IsLine (sym e) (sticks_line modifiers events))
+
+pub head_line : (file text : List ℕ) (e : Entry) (message : List ℕ) → IsLine file → IsMessage e.said message
+    → IsLine (head file text e message)
+head_line file text e message p q = line_append _ _ (place_line file text e.place p) (said_line e.said message q)
+
+-- ---- the line of a place and the caret, and a name
+
+below_by : (tab : Bool) (bs : List ℕ) → IsLine bs → IsLine ((if tab then 9 else 32) ∷ bs)
+below_by true bs p = line_cons 9 bs (omega arith) refl p
+below_by false bs p = line_cons 32 bs (omega arith) refl p
+
+line_below : (cs : List ℕ) → IsLine (map below cs)
+line_below [] = line_none
+line_below (c ∷ cs) = below_by (c == 9) (map below cs) (line_below cs)
+
+two_blanks : IsLine (codes "  ")
+two_blanks = ascii _ refl
+
+two_dots : IsLine (codes "..")
+two_dots = ascii _ refl
+
+is_shown_line : (skipped : ℕ) (cs : List ℕ) → All IsSeen cs → IsLine (shown_line skipped cs)
+is_shown_line skipped cs p =
+    line_append _ _ (
+    line_append _ _ (line_append _ _ two_blanks (line_if (nat_lt 0 skipped) _ two_dots))
+    (line_chars _ (All-take IsSeen 120 _ (All-drop IsSeen skipped cs p))))
+    (line_if (nat_lt 0 (length cs - (skipped + 120))) _ two_dots)
+
+is_caret_line : (skipped : ℕ) (cs : List ℕ) → IsLine (caret_line skipped cs)
+is_caret_line skipped cs =
+    line_append _ _ (
+    line_append _ _ (line_append _ _ two_blanks (line_if (nat_lt 0 skipped) _ two_blanks))
+    (line_below (drop skipped cs))) (ascii (codes "^") refl)
+
+both_lines : (bs rs : List ℕ) → All IsSeen bs → All IsSeen rs → All IsLine (lines_of bs rs)
+both_lines bs rs p q =
+    let skipped = left_out (length bs) (length (bs ++ rs)) in
+    All-cons IsLine (shown_line skipped (bs ++ rs)) (caret_line skipped bs ∷ [])
+    (is_shown_line skipped (bs ++ rs) (All-append IsSeen bs rs p q))
+    (All-cons IsLine (caret_line skipped bs) [] (is_caret_line skipped bs) (All-nil IsLine))
+
+pub excerpt_lines : (before rest : List ℕ) → All IsLine (excerpt before rest)
+unfolding excerpt
+excerpt_lines before rest =
+    both_lines (shown_chars (shown_before before rest)) (shown_chars (without_cr rest)) (all_seen _) (all_seen _)
+
+pub name_line : (name : List ℕ) → IsLine (shown_name name)
+unfolding shown_name
+name_line name = line_chars _ (all_seen name)

@@ -9,7 +9,7 @@ use Rattle.console_core.specs.declared.explored.Symbol.{Symbol}
 use Rattle.console_core.specs.declared.explored.Symbol.TheVariants as symbol
 use Rattle.console_core.specs.declared.explored.Tap.{Tap}
 use Rattle.console_core.specs.declared.held.Held.{Held}
-use Rattle.console_core.specs.declared.typing.Accented.{Accented}
+use Rattle.console_core.specs.declared.ways.Accented.{Accented}
 use Rattle.console_core.specs.declared.typing.Typed.{Typed}
 use Rattle.console_core.specs.declared.typing.Typed.TheVariants as typed
 use Rattle.console_core.specs.Moves.{Under, alone, State, start, IsPath, state_after, IsPathFrom, state_from}

@@ -1,14 +1,15 @@
 -- Characters typed one after another, and that a console is as new behind them.
-use Rattle.std.proofs.Common.{◌≡◌, ◌+◌, ◌<◌, ◌≤◌, ℕ, Bool, true, false, List, [], ◌∷◌, ◌++◌, All, Option, Some, None, refl, ap}
+use Prim.Native.Nat.{zero, suc}
+use Rattle.std.proofs.Common.{◌≡◌, ◌+◌, ◌<◌, ◌≤◌, ◌⊎◌, ℕ, Bool, drop, inl, inr, true, false, List, [], ◌∷◌, ◌++◌, All, Option, Some, None, refl, ap}
 use Rattle.std.proofs.Common.{subst, sym, ◌∙◌, arith, append_assoc, append-nil, map, reverse, take, length, get_or, slice_get}
 use Rattle.std.proofs.Common.{if◌then◌else◌}
 use Rattle.std.specs.Prelude.{filter}
-use Rattle.std.specs.List.{flat_map}
 use Rattle.std.proofs.lemmas.Bool.{false_from_ne_true}
-use Rattle.std.proofs.lemmas.Grind.{flat_map-append}
-use Rattle.std.proofs.lemmas.List.{reverse-append, reverse-reverse, take_more, map_push}
+use Rattle.std.proofs.Math.Seq.{drop-append_seam}
+use Rattle.std.proofs.lemmas.List.{reverse-append, reverse-reverse, take_more, take_all, map_push, length-append, length-map}
+use Rattle.std.proofs.lemmas.List.{length-take-le, take-append-le}
 use Rattle.std.proofs.lemmas.List.Elements.{All-push, All-nil}
-use Rattle.std.proofs.lemmas.Option.{none-some}
+use Rattle.std.proofs.lemmas.Option.{none-some, same_Some}
 use Rattle.keymap_core.specs.Maps.{MapValue}
 use Rattle.console_core.specs.Types.{Event, Answer, Lock, Modifier, Move}
 use Rattle.console_core.specs.declared.event.Answer.TheVariants as answer
@@ -19,7 +20,8 @@ use Rattle.console_core.specs.History.{HasKeys}
 use Rattle.keymap_core.proofs.Lists.{All-reversed}
 use Rattle.console_core.specs.Moves.{alone, State, start, state_from, events_along}
 use Rattle.console_core.specs.Resolved.{pending}
-use Rattle.console_core.specs.Typing.{AreTyped, CanType, IsAsNew, characters_of, plainly, types_something, events_of}
+use Rattle.console_core.specs.Typing.{AreEnds, AreParts, AreTyped, CanType, IsAsNew, Types, characters_of, plainly}
+use Rattle.console_core.specs.Typing.{types_something}
 use Rattle.console_core.specs.Inner.Exploring.{AreViews, Views, GoesHome, HasTyped, IsStand, TypesOne, kept_if, typed_along}
 use Rattle.console_core.specs.Inner.Standing.{HoldsSome, Stands}
 use Rattle.console_core.proofs.Deliveries.{reverse-cons}
@@ -66,7 +68,7 @@ map-reverse f (x ∷ xs) =
     ∙ ap (λ z. z ++ f x ∷ []) (map-reverse f xs) ∙ sym (reverse-append (f x ∷ []) (map f xs))
 
 typed-answers : (m : MapValue) (es : List Event) (cs : List ℕ) → typed_along m (reverse es) ≡ map plainly (reverse cs)
-    → filter types_something (answers_to (between m m) [] es) ≡ map plainly cs
+    → Types m es cs
 typed-answers m es cs e =
     let xs : List Answer = filter types_something (answers_to (between m m) [] es) in
     let back : reverse xs ≡ map plainly (reverse cs) =
@@ -76,86 +78,170 @@ typed-answers m es cs e =
 
 -- ---- one after another
 
-abbrev pub events_so_far : List Keyed → List Event
-events_so_far keyed = flat_map (λ (k : Keyed). k.events.items) keyed
-
 -- the characters up to the place were typed
-pub record HaveBeenTyped (m : MapValue) (cs : List ℕ) (place : ℕ) (keyed : List Keyed) (s : State) : Type 0 where
-  pub stand : IsStand m s
-  pub characters : characters_of keyed ≡ take place cs
-  pub can : All (λ c. CanType m c) (take place cs)
-  pub typed : HasTyped m (reverse (events_so_far keyed)) s None (take place cs)
-  pub below : place ≤ length cs
+pub record HaveBeenTyped (m : MapValue) (cs : List ℕ) (place : ℕ) (keyed : List Keyed) (es : List Event) (s : State) : Type 0
+  where
+    pub stand : IsStand m s
+    pub characters : characters_of keyed ≡ take place cs
+    pub ends : AreEnds 0 keyed (length es)
+    pub parts : AreParts m cs keyed es
+    pub can : All (λ c. CanType m c) (take place cs)
+    pub typed : HasTyped m (reverse es) s None (take place cs)
+    pub below : place ≤ length cs
 
-pub typed-none : (m : MapValue) (cs : List ℕ) (keyed : List Keyed) (s : State) → keyed ≡ [] → s ≡ start
-    → HaveBeenTyped m cs 0 keyed s
-typed-none m cs keyed s none is = record {
+pub typed-none : (m : MapValue) (cs : List ℕ) (keyed : List Keyed) (es : List Event) (s : State) → keyed ≡ [] → es ≡ []
+    → s ≡ start
+    → HaveBeenTyped m cs 0 keyed es s
+typed-none m cs keyed es s none nothing is = record {
   stand = subst (λ t. IsStand m t) (sym is) (start-stand m);
   characters = ap characters_of none;
+  ends = subst (λ z. AreEnds 0 z (length es)) (sym none) (omega arith);
+  parts = subst (λ z. AreParts m cs z es) (sym none) (λ i k at. absurd (none-some k at));
   can = All-nil (λ c. CanType m c);
   typed = record {
-    stands = subst (λ z. Stands (alone m) (reverse (events_so_far z)) s) (sym none)
+    stands = subst (λ z. Stands (alone m) (reverse z) s) (sym nothing)
         (subst (λ t. Stands (alone m) [] t) (sym is) (stands-start (alone m)));
-    pending = ap (λ z. accent_pending_after (between m m) (reverse (events_so_far z))) none
+    pending = ap (λ z. accent_pending_after (between m m) (reverse z)) nothing
         ∙ pending-is m [] ∙ ap (λ r. pending m r) (resolved-start (between m m)) ∙ pending-start m;
-    typed = ap (λ z. typed_along m (reverse (events_so_far z))) none;
+    typed = ap (λ z. typed_along m (reverse z)) nothing;
   };
   below = omega arith;
 }
 
-pub typed-one : (m : MapValue) (cs : List ℕ) (place : ℕ) (keyed now : List Keyed) (s : State) (one : Keyed)
-    → (next : State) → HaveBeenTyped m cs place keyed s → place < length cs
-    → one.character ≡ get_or cs place one.character → TypesOne m one.character s [] (reverse one.events.items) next
-    → now ≡ keyed ++ one ∷ []
-    → HaveBeenTyped m cs (place + 1) now next
-typed-one m cs place keyed now s one next x lt is types e =
-    let c : ℕ = one.character in
+-- the element at a place of a list with one more is an old one or the last
+last-cases : {X : Type 0} (xs : List X) (y x : X) (i : ℕ) → slice_get (xs ++ y ∷ []) i ≡ Some x
+    → (slice_get xs i ≡ Some x) ⊎ ((i ≡ length xs) × (y ≡ x))
+last-cases [] y x zero at = inr (refl, same_Some y x at)
+last-cases [] y x (suc i) at = absurd (none-some x at)
+last-cases (z ∷ xs) y x zero at = inl at
+last-cases (z ∷ xs) y x (suc i) at =
+    elim (last-cases xs y x i at) [ inl old ↦ inl old | inr new ↦ inr (ap (λ n. suc n) new.0, new.1) ]
+
+-- one more end behind the others
+ends-more : (from last : ℕ) (ks : List Keyed) (k : Keyed) → AreEnds from ks last → last ≤ k.end
+    → AreEnds from (ks ++ k ∷ []) k.end
+ends-more from last [] k ends le = (omega (arith, ends, le), omega arith)
+ends-more from last (j ∷ ks) k ends le = (ends.0, ends-more j.end last ks k ends.1 le)
+
+ends-later : (from last later : ℕ) (ks : List Keyed) → AreEnds from ks last → last ≤ later → AreEnds from ks later
+ends-later from last later [] ends le = omega (arith, ends, le)
+ends-later from last later (j ∷ ks) ends le = (ends.0, ends-later j.end last later ks ends.1 le)
+
+-- what parts type stays so when events are added
+parts-later : (m : MapValue) (cs : List ℕ) (ks : List Keyed) (es more : List Event) → AreParts m cs ks es
+    → AreParts m cs ks (es ++ more)
+parts-later m cs ks es more parts i k at =
+    let (le, types) = parts i k at in (
+      omega (arith, le, length-append es more),
+      subst (λ z. Types m z (take (i + 1) cs)) (sym (take-append-le k.end es more le)) types,
+    )
+
+-- the events that a way adds stand behind the old ones
+added-behind : (m : MapValue) (c : ℕ) (s next : State) (old now : List Event)
+    → (types : TypesOne m c s (reverse old) (reverse now) next) → now ≡ old ++ reverse types.added
+added-behind m c s next old now types =
+    sym (reverse-reverse now) ∙ ap (λ z. reverse z) types.events ∙ reverse-append types.added (reverse old)
+    ∙ ap (λ z. z ++ reverse types.added) (reverse-reverse old)
+
+pub fits-behind : (m : MapValue) (c : ℕ) (s next : State) (old now : List Event)
+    → TypesOne m c s (reverse old) (reverse now) next → length old ≤ length now
+fits-behind m c s next old now types =
+    omega (arith, ap length (added-behind m c s next old now types), length-append old (reverse types.added))
+
+-- the events that are added to others are a way by themselves
+pub types-alone : (m : MapValue) (c : ℕ) (s next : State) (old now : List Event)
+    → TypesOne m c s (reverse old) (reverse now) next → TypesOne m c s [] (reverse (drop (length old) now)) next
+types-alone m c s next old now types = record {
+  can = types.can;
+  stand = types.stand;
+  added = types.added;
+  events = ap (λ z. reverse (drop (length old) z)) (added-behind m c s next old now types)
+      ∙ ap (λ z. reverse z) (drop-append_seam old (reverse types.added)) ∙ reverse-reverse types.added
+      ∙ sym (append-nil types.added);
+  types = types.types;
+}
+
+-- and are one behind others
+pub types-behind : (m : MapValue) (c : ℕ) (s next : State) (old es now : List Event)
+    → TypesOne m c s [] (reverse es) next → now ≡ old ++ es → TypesOne m c s (reverse old) (reverse now) next
+types-behind m c s next old es now types e = record {
+  can = types.can;
+  stand = types.stand;
+  added = types.added;
+  events = ap (λ z. reverse z) e ∙ reverse-append old es
+      ∙ ap (λ z. z ++ reverse old) (types.events ∙ append-nil types.added);
+  types = types.types;
+}
+
+pub typed-one : (m : MapValue) (cs : List ℕ) (place : ℕ) (keyed after : List Keyed) (es now : List Event) (s : State)
+    → (k : Keyed) (next : State) → HaveBeenTyped m cs place keyed es s → place < length cs
+    → k.character ≡ get_or cs place k.character → k.end ≡ length now
+    → TypesOne m k.character s (reverse es) (reverse now) next → after ≡ keyed ++ k ∷ []
+    → HaveBeenTyped m cs (place + 1) after now next
+typed-one m cs place keyed after es now s k next x lt is ends types e =
+    let c : ℕ = k.character in
     let more : take (place + 1) cs ≡ take place cs ++ c ∷ [] =
     take_more cs place c lt ∙ ap (λ z. take place cs ++ z ∷ []) (sym is) in
-    let added : reverse one.events.items ≡ types.added =
-    types.events ∙ append-nil types.added in
-    let all : reverse (events_so_far now) ≡ types.added ++ reverse (events_so_far keyed) =
-    ap (λ z. reverse (events_so_far z)) e
-    ∙ ap (λ z. reverse z) (flat_map-append (λ (k : Keyed). k.events.items) keyed (one ∷ []))
-    ∙ reverse-append (events_so_far keyed) (one.events.items ++ [])
-    ∙ ap (λ z. reverse z ++ reverse (events_so_far keyed)) (append-nil one.events.items)
-    ∙ ap (λ z. z ++ reverse (events_so_far keyed)) added in
+    let typed : HasTyped m (reverse now) next None (take (place + 1) cs) =
+    subst (λ z. HasTyped m (reverse now) next None z) (sym more)
+    (subst (λ g. HasTyped m g next None (take place cs ++ c ∷ [])) (sym types.events)
+    (types.types (reverse es) (take place cs) x.typed)) in
+    let behind : now ≡ es ++ reverse types.added = added-behind m c s next es now types in
+    let le : length es ≤ length now = fits-behind m c s next es now types in
+    let count : length keyed ≡ place =
+    sym (length-map keyed (λ (k : Keyed). k.character)) ∙ ap length x.characters
+    ∙ length-take-le place cs x.below in
     record {
       stand = types.stand;
-      characters = ap characters_of e
-          ∙ map_push (λ (k : Keyed). k.character) keyed one ∙ ap (λ z. z ++ c ∷ []) x.characters ∙ sym more;
+      characters = ap characters_of e ∙ map_push (λ (k : Keyed). k.character) keyed k
+          ∙ ap (λ z. z ++ c ∷ []) x.characters ∙ sym more;
+      ends = subst (λ z. AreEnds 0 z (length now)) (sym e)
+          (subst (λ n. AreEnds 0 (keyed ++ k ∷ []) n) ends
+          (ends-more 0 (length es) keyed k x.ends (omega (arith, ends, le))));
+      parts = λ i j at. elim (last-cases keyed k j i (subst (λ z. slice_get z i ≡ Some j) e at)) [
+        | inl old ↦
+            subst (λ z. (j.end ≤ length z) × Types m (take j.end z) (take (i + 1) cs)) (sym behind)
+            (parts-later m cs keyed es (reverse types.added) x.parts i j old)
+        | inr (here, same) ↦
+            let end : j.end ≡ length now = ap (λ (z : Keyed). z.end) (sym same) ∙ ends in (
+              omega (arith, end),
+              subst (λ n. Types m (take j.end now) (take (n + 1) cs)) (sym (here ∙ count))
+                  (subst (λ z. Types m z (take (place + 1) cs)) (sym (take_all j.end now (omega (arith, end))))
+                  (typed-answers m now (take (place + 1) cs) typed.typed)),
+            )
+      ];
       can = subst (λ z. All (λ c. CanType m c) z) (sym more) (All-push (λ c. CanType m c) (take place cs) c x.can types.can);
-      typed = subst (λ z. HasTyped m (reverse (events_so_far now)) next None z) (sym more)
-          (subst (λ g. HasTyped m g next None (take place cs ++ c ∷ [])) (sym all)
-          (types.types (reverse (events_so_far keyed)) (take place cs) x.typed));
+      typed = typed;
       below = omega (arith, lt);
     }
 
 -- all were typed, and the console is home
-pub typed-all : (m : MapValue) (cs : List ℕ) (place : ℕ) (x : Typing) (s : State) (h : List Event)
-    → HaveBeenTyped m cs place x.keyed.items s → take place cs ≡ cs
-    → GoesHome (alone m) s h (reverse x.last.items) → h ≡ []
+pub typed-all : (m : MapValue) (cs : List ℕ) (place : ℕ) (x : Typing) (es : List Event) (s : State)
+    → HaveBeenTyped m cs place x.keyed.items es s → take place cs ≡ cs
+    → GoesHome (alone m) s (reverse es) (reverse x.events.items)
     → AreTyped m cs x
-typed-all m cs place x s h typed all (back, is, home, off, e) none =
+typed-all m cs place x es s typed all (back, is, home, off, e) =
+    let now : List Event = x.events.items in
     let there : State = state_from (alone m) s back in
     let first : there.is_second ≡ false =
     path-first m s back is
     ∙ (ap (λ t. t.is_second) (sym typed.stand.leads) ∙ path-first m start typed.stand.path typed.stand.is) in
     let ends : there ≡ start = home-start there home first off in
-    let last : reverse x.last.items ≡ events_along back =
-    e ∙ ap (λ z. events_along back ++ z) none ∙ append-nil (events_along back) in
-    let events : reverse (events_of x) ≡ events_along back ++ reverse (events_so_far x.keyed.items) =
-    reverse-append (events_so_far x.keyed.items) x.last.items
-    ∙ ap (λ z. z ++ reverse (events_so_far x.keyed.items)) last in
-    let end : HasTyped m (reverse (events_of x)) start None cs =
-    subst (λ g. HasTyped m g start None cs) (sym events)
-    (subst (λ t. HasTyped m (events_along back ++ reverse (events_so_far x.keyed.items)) t None cs) ends
-    (subst (λ z. HasTyped m (events_along back ++ reverse (events_so_far x.keyed.items)) there None z) all
-    (walked m (reverse (events_so_far x.keyed.items)) s None (take place cs) back typed.typed is))) in
+    let end : HasTyped m (reverse now) start None cs =
+    subst (λ g. HasTyped m g start None cs) (sym e)
+    (subst (λ t. HasTyped m (events_along back ++ reverse es) t None cs) ends
+    (subst (λ z. HasTyped m (events_along back ++ reverse es) there None z) all
+    (walked m (reverse es) s None (take place cs) back typed.typed is))) in
+    let behind : now ≡ es ++ reverse (events_along back) =
+    sym (reverse-reverse now) ∙ ap (λ z. reverse z) e ∙ reverse-append (events_along back) (reverse es)
+    ∙ ap (λ z. z ++ reverse (events_along back)) (reverse-reverse es) in
     record {
       characters = typed.characters ∙ all;
-      keys = subst HasKeys (reverse-reverse (events_of x))
-          (All-reversed HasKey (reverse (events_of x)) end.stands.keys);
-      typed = typed-answers m (events_of x) cs end.typed;
-      new = as-new m (reverse (events_of x)) end.stands end.pending;
+      ends = ends-later 0 (length es) (length now) x.keyed.items typed.ends
+          (omega (arith, ap length behind, length-append es (reverse (events_along back))));
+      keys = subst HasKeys (reverse-reverse now) (All-reversed HasKey (reverse now) end.stands.keys);
+      types = typed-answers m now cs end.typed;
+      parts = subst (λ z. AreParts m cs x.keyed.items z) (sym behind)
+          (parts-later m cs x.keyed.items es (reverse (events_along back)) typed.parts);
+      new = as-new m (reverse now) end.stands end.pending;
     }

@@ -1,7 +1,6 @@
 -- What keys can type, and the events that type characters.
-use Rattle.std.specs.Prelude.{◌≡◌, ◌==◌, ℕ, ◌<◌, Bool, true, false, ◌⊎◌, List, [], ◌∷◌, ◌++◌, All, Option, None, Some, ⊤}
+use Rattle.std.specs.Prelude.{◌≡◌, ◌==◌, ℕ, ◌+◌, ◌<◌, ◌≤◌, Bool, true, false, ◌⊎◌, List, [], ◌∷◌, ◌++◌, All, Option, None, Some, ⊤}
 use Rattle.std.specs.Prelude.{if◌then◌else◌, filter, map, reverse, slice_get, take, length}
-use Rattle.std.specs.List.{flat_map}
 use Rattle.console_core.specs.Types.{Modifier, Lock, Meta, Cell, Char, Act, Event, Press, Answer, Move}
 use Rattle.keymap_core.specs.declared.action.Action.TheVariants as act
 use Rattle.keymap_core.specs.Accents.{own_of}
@@ -79,17 +78,29 @@ pub record IsAsNew (m : MapValue) (h : List Event) : Type 0 where
 abbrev pub characters_of : List Keyed → List ℕ
 characters_of keyed = map (λ (k : Keyed). k.character) keyed
 
--- the events of the characters, and those behind them
-abbrev pub events_of : Typing → List Event
-events_of x = flat_map (λ k. k.events.items) x.keyed.items ++ x.last.items
+-- what the events type on a new console is these characters without meta
+abbrev pub Types : MapValue → List Event → List ℕ → Type 0
+Types m es cs = filter types_something (answers_to (between m m) [] es) ≡ map plainly cs
 
--- These are the characters, and the events, delivered to a new console, type them and nothing else, and leave the
+-- the ends stand in order, from one number of events to another
+abbrev pub AreEnds : ℕ → List Keyed → ℕ → Type 0
+AreEnds from [] last = from ≤ last
+AreEnds from (k ∷ ks) last = (from ≤ k.end) × AreEnds k.end ks last
+
+-- the events up to the end of each character type the characters up to it
+abbrev pub AreParts : MapValue → List ℕ → List Keyed → List Event → Type 0
+AreParts m cs keyed es =
+    (i : ℕ) (k : Keyed) → slice_get keyed i ≡ Some k → (k.end ≤ length es) × Types m (take k.end es) (take (i + 1) cs)
+
+-- These are the characters, and the events are of keys, type them and nothing else, part by part, and leave a new
 -- console as a new one.
 pub record AreTyped (m : MapValue) (cs : List ℕ) (x : Typing) : Type 0 where
   pub characters : characters_of x.keyed.items ≡ cs
-  pub keys : HasKeys (events_of x)
-  pub typed : filter types_something (answers_to (between m m) [] (events_of x)) ≡ map plainly cs
-  pub new : IsAsNew m (reverse (events_of x))
+  pub ends : AreEnds 0 x.keyed.items (length x.events.items)
+  pub keys : HasKeys x.events.items
+  pub types : Types m x.events.items cs
+  pub parts : AreParts m cs x.keyed.items x.events.items
+  pub new : IsAsNew m (reverse x.events.items)
 
 -- some press of the list, which has the newest event first, types the character
 abbrev pub TypesAlong : MapValue → List Event → ℕ → Type 0

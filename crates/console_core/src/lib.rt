@@ -43,6 +43,7 @@ mod sights;
 mod store;
 mod translator;
 mod typing;
+mod ways;
 mod word_console;
 mod word_store;
 

@@ -1,37 +1,33 @@
-//! The events that type characters: each by a tap of a key, or by a dead key and another tap, in the state where the
-//! character before it has left the locks, as long as it can be typed there.
-ghost use Rattle.std.specs.Prelude.{◌≡◌, ◌++◌, ◌∷◌, ℕ, [], true, false, None, Some, reverse, OnOk, IfOk, IfErr};
-ghost use Rattle.std.specs.Prelude.{MatchOption};
-ghost use Rattle.std.specs.List.{Contains};
-ghost use Rattle.keymap_core.specs.Maps.{MapValue, accent_at};
-ghost use Rattle.console_core.specs.declared.explored.Symbol.{Symbol as SymbolValue};
-ghost use Rattle.console_core.specs.declared.explored.Symbol.TheVariants as symbol;
-ghost use Rattle.console_core.specs.Typing.{composed_of, AreTyped, IsTypingError};
-ghost use Rattle.console_core.specs.Inner.Exploring.{IsExplored, HasTap, IsBase, CanAccent, IsAccented, plain_tap, AreViews};
-ghost use Rattle.console_core.specs.Inner.Exploring.{IsOrigin, HasView, IsView, IsStand, LeadsByTap, Leads, TypesOne};
-ghost use Rattle.console_core.specs.Inner.Exploring.{AreKnown, HasNoWay, IsWay};
+//! The events that type characters, one after another: each by a way near the state where the character before it has
+//! left the locks, if there is one there.
+ghost use Rattle.std.specs.Prelude.{◌≡◌, ◌≤◌, ◌++◌, ◌∷◌, [], None, Some, drop, length, reverse, OnOk, IfOk, IfErr, MatchOption};
+ghost use Rattle.keymap_core.specs.Maps.{MapValue};
+ghost use Rattle.console_core.specs.Typing.{AreTyped, IsTypingError};
+ghost use Rattle.console_core.specs.Inner.Exploring.{AreKnown, AreViews, HasView, IsExplored, IsOrigin, IsStand, IsView};
+ghost use Rattle.console_core.specs.Inner.Exploring.{Leads, LeadsByTap, TypesOne};
 ghost use Rattle.console_core.specs.Inner.Searching.{state_of};
 
 use crate::event::Event;
-use crate::explored::{Explored, KeyAt, Symbol, Tap, explore};
+use crate::explored::{Explored, Symbol, Tap, explore};
 use crate::held::Held;
+use crate::ways::{Way, plain, way_for};
 use indexmap::IndexMap;
-use keymap_core::{Accent, KeyMap, Keymap};
+use keymap_core::KeyMap;
 use std::alloc::{AllocError, Global};
 
-/// A character, and the events that type it.
-#[derive(Debug, Drop)]
+/// A character, and how many events there are up to the last of those that type it.
+#[derive(Clone, Copy, Debug, PartialEq, Eq)]
 pub struct Keyed {
     pub character: char,
-    pub events: Vec<Event>,
+    pub end: usize,
 }
 
-/// Characters with the events that type them, one after another, and the events behind these that leave a console as a
-/// new one.
+/// Characters, and the events that type them one after another. Those behind the end of the last character leave a
+/// console as a new one.
 #[derive(Debug, Drop)]
 pub struct Typing {
     pub keyed: Vec<Keyed>,
-    pub last: Vec<Event>,
+    pub events: Vec<Event>,
 }
 
 /// Why characters aren't typed.
@@ -52,210 +48,6 @@ impl From<AllocError> for TypingError {
 
     fn from(_e: AllocError) -> TypingError {
         TypingError::Memory
-    }
-}
-
-/// A dead key, and what is tapped behind it.
-#[derive(Clone, Copy, Debug)]
-pub struct Accented {
-    pub dead: KeyAt,
-    pub then: Symbol,
-}
-
-/// What a tap of the symbol types while the accent is pending.
-fn composed(map: &KeyMap, index: u8, then: Symbol) -> Option<char>
-    ensures { result ≡ composed_of map.now index then }
-{
-    match then {
-        Symbol::Character(c) => {
-            if c == ' ' {
-                map.own(index)
-            } else {
-                map.composed(index, c)
-            }
-        }
-        Symbol::DeadKey(dead) => { if dead == index { map.own(index) } else { None } }
-    }
-}
-
-fn plain(symbol: Symbol) -> Tap
-    ensures { result ≡ plain_tap symbol }
-{
-    Tap {
-        symbol,
-        is_plain: true,
-    }
-}
-
-/// Whether it can be tapped, with `is_near` at a near place.
-fn can_tap(view: &Explored, tap: &Tap, is_near: bool) -> bool
-    requires { IsExplored view.now }
-    ensures can { result ≡ true → HasTap view.now tap.now }
-    ensures none { result ≡ false → is_near ≡ false → HasTap view.now tap.now → ⊥ }
-{
-    match view.first_place(tap, is_near) {
-        Some(_) => true,
-        None => false,
-    }
-}
-
-/// Whether the symbol can be tapped, and types the character while the accent is pending.
-fn is_base(view: &Explored, map: &KeyMap, index: u8, then: Symbol, c: char, is_near: bool) -> bool
-    requires { IsExplored view.now }
-    ensures base { result ≡ true → IsBase map.now view.now index c then }
-    ensures none { result ≡ false → is_near ≡ false → IsBase map.now view.now index c then → ⊥ }
-{
-    match composed(map, index, then) {
-        Some(made) => made == c && can_tap(view, &plain(then), is_near),
-        None => false,
-    }
-}
-
-/// The base of the pair.
-fn base_of(pair: &(char, char)) -> Symbol
-    ensures { result ≡ symbol.Character pair.now.0 }
-{
-    Symbol::Character(pair.0)
-}
-
-/// The base of a pair of the accent, if it can be tapped to type the character while the accent is pending.
-fn base_in(
-    view: &Explored,
-    map: &KeyMap,
-    accent: &Accent,
-    index: u8,
-    c: char,
-    is_near: bool,
-) -> Option<Symbol>
-    requires { IsExplored view.now }
-    ensures { MatchOption result (is_near ≡ false → (p : ℕ × ℕ) → Contains accent.now.pairs p
-        → IsBase map.now view.now index c (symbol.Character p.0) → ⊥)
-        (λ x. IsBase map.now view.now index c x) }
-{
-    for pair in accent.pairs() {
-        let base = base_of(pair);
-        if is_base(view, map, index, base, c, is_near) {
-            return Some(base);
-        }
-    }
-    None
-}
-
-/// The blank or the accent's dead key, if it can be tapped to type the character while the accent is pending.
-fn other_base(view: &Explored, map: &KeyMap, index: u8, c: char, is_near: bool) -> Option<Symbol>
-    requires { IsExplored view.now }
-    ensures { MatchOption result (is_near ≡ false → (IsBase map.now view.now index c (symbol.Character 32) → ⊥)
-        × (IsBase map.now view.now index c (symbol.DeadKey index) → ⊥)) (λ x. IsBase map.now view.now index c x) }
-{
-    let blank = Symbol::Character(' ');
-    let dead = Symbol::DeadKey(index);
-    if is_base(view, map, index, blank, c, is_near) {
-        Some(blank)
-    } else if is_base(view, map, index, dead, c, is_near) {
-        Some(dead)
-    } else {
-        None
-    }
-}
-
-/// What can be tapped to type the character while the accent is pending.
-fn base_for(
-    view: &Explored,
-    map: &KeyMap,
-    accent: &Accent,
-    index: u8,
-    c: char,
-    is_near: bool,
-) -> Option<Symbol>
-    requires explored { IsExplored view.now }
-    requires accent { accent_at map.now index ≡ Some accent.now }
-    ensures { MatchOption result (is_near ≡ false → (x : SymbolValue) → IsBase map.now view.now index c x → ⊥)
-        (λ x. IsBase map.now view.now index c x) }
-{
-    match base_in(view, map, accent, index, c, is_near) {
-        Some(base) => Some(base),
-        None => other_base(view, map, index, c, is_near),
-    }
-}
-
-/// The dead key of the accent, and what can be tapped behind it to type the character.
-fn accented_by(
-    view: &Explored,
-    map: &KeyMap,
-    accent: &Accent,
-    index: u8,
-    c: char,
-    is_near: bool,
-) -> Option<Accented>
-    requires explored { IsExplored view.now }
-    requires accent { accent_at map.now index ≡ Some accent.now }
-    ensures { MatchOption result (is_near ≡ false → (x : SymbolValue) → CanAccent map.now view.now c index x → ⊥)
-        (λ a. IsAccented map.now view.now c index a) }
-{
-    if accent.own() == '\0' {
-        return None;
-    }
-    let tap = Tap {
-        symbol: Symbol::DeadKey(index),
-        is_plain: false,
-    };
-    match view.first_place(&tap, is_near) {
-        Some(dead) => match base_for(view, map, accent, index, c, is_near) {
-            Some(then) => Some(Accented { dead, then }),
-            None => None,
-        },
-        None => None,
-    }
-}
-
-/// A dead key, and what can be tapped behind it to type the character.
-fn dead_key_for(view: &Explored, map: &KeyMap, c: char, is_near: bool) -> Option<Accented>
-    requires { IsExplored view.now }
-    ensures { MatchOption result (is_near ≡ false → (i : ℕ) (x : SymbolValue) → CanAccent map.now view.now c i x → ⊥)
-        (λ a. (i : ℕ) × IsAccented map.now view.now c i a) }
-{
-    let mut index = 0;
-    while let Some(accent) = map.accent(index) {
-        if let Some(found) = accented_by(view, map, accent, index, c, is_near) {
-            return Some(found);
-        }
-        index += 1;
-    }
-    None
-}
-
-/// What is tapped to type a character.
-#[derive(Clone, Copy, Debug)]
-pub enum Way {
-    /// One key.
-    Direct(KeyAt),
-    /// A dead key, and another key behind it.
-    Composed(Accented),
-}
-
-/// A way to type the character: by one key, if there is such, or else by a dead key and another one. With `is_near` all
-/// of them are at near places.
-fn way_at(view: &Explored, map: &KeyMap, c: char, is_near: bool) -> Option<Way>
-    requires { IsExplored view.now }
-    ensures { MatchOption result (is_near ≡ false → HasNoWay map.now view.now c) (λ w. IsWay map.now view.now c w) }
-{
-    match view.first_place(&plain(Symbol::Character(c)), is_near) {
-        Some(at) => Some(Way::Direct(at)),
-        None => match dead_key_for(view, map, c, is_near) {
-            Some(found) => Some(Way::Composed(found)),
-            None => None,
-        },
-    }
-}
-
-/// A way to type the character: at near places, if there is such, or else at all.
-fn way_for(view: &Explored, map: &KeyMap, c: char) -> Option<Way>
-    requires { IsExplored view.now }
-    ensures { MatchOption result (HasNoWay map.now view.now c) (λ w. IsWay map.now view.now c w) }
-{
-    match way_at(view, map, c, true) {
-        Some(way) => Some(way),
-        None => way_at(view, map, c, false),
     }
 }
 
@@ -385,8 +177,9 @@ fn recall(
     sought: &Sought,
 ) -> Result<Option<Held>, AllocError>
     ensures { IfOk result (λ r. MatchOption r (events.new.items ≡ events.old.items)
-        (λ next. (m : MapValue) → AreKnown m known.now.entries → events.old.items ≡ []
-        → TypesOne m sought.now.character (state_of sought.now.from) [] (reverse events.new.items) (state_of next))) }
+        (λ next. (m : MapValue) → AreKnown m known.now.entries
+        → TypesOne m sought.now.character (state_of sought.now.from) (reverse events.old.items)
+        (reverse events.new.items) (state_of next))) }
 {
     match known.get(sought) {
         Some(found) => {
@@ -397,20 +190,23 @@ fn recall(
     }
 }
 
-/// Keeps the events that type the character from the state.
+/// Keeps the events from a place on, which type the character from the state.
 fn keep(
     known: &mut Known,
     alloc: Global,
     sought: &Sought,
     events: &[Event],
+    start: usize,
     next: &Held,
 ) -> Result<(), AllocError>
+    requires { start ≤ length events.now }
     ensures { OnOk result ((m : MapValue) → AreKnown m known.old.entries
-        → TypesOne m sought.now.character (state_of sought.now.from) [] (reverse events.now) (state_of next.now)
+        → TypesOne m sought.now.character (state_of sought.now.from) [] (reverse (drop start events.now))
+        (state_of next.now)
         → AreKnown m known.new.entries) }
 {
     let mut kept = Vec::new(alloc);
-    kept.extend_from_slice(events)?;
+    kept.extend_from_slice(&events[start..])?;
     let found = Found {
         events: kept,
         next: *next,
@@ -431,18 +227,18 @@ fn type_next<'m>(
     requires views { AreViews map.now views.old.entries }
     requires known { AreKnown map.now known.old.entries }
     requires stand { IsStand map.now (state_of sought.now.from) }
-    requires none { events.old.items ≡ [] }
     ensures views { OnOk result (AreViews map.now views.new.entries) }
     ensures known { OnOk result (AreKnown map.now known.new.entries) }
-    ensures leads { IfOk result (λ r. Leads map.now sought.now.character (state_of sought.now.from) []
-        (reverse events.new.items) r) }
+    ensures leads { IfOk result (λ r. Leads map.now sought.now.character (state_of sought.now.from)
+        (reverse events.old.items) (reverse events.new.items) r) }
 {
     if let Some(next) = recall(known, events, sought)? {
         return Ok(Typed::To(next));
     }
+    let start = events.len();
     let typed = type_from(views, alloc, events, map, &sought.from, sought.character)?;
     if let Typed::To(next) = &typed {
-        keep(known, alloc, sought, events, next)?;
+        keep(known, alloc, sought, events, start, next)?;
     }
     Ok(typed)
 }
@@ -466,24 +262,24 @@ pub fn type_characters(
     let mut views = IndexMap::new(alloc);
     let mut known = IndexMap::new(alloc);
     let mut keyed = Vec::new(alloc);
+    let mut events = Vec::new(alloc);
     let mut from = Held::start();
     let mut place = 0;
     while place < characters.len() {
         let character = characters[place];
         let sought = Sought { from, character };
-        let mut events = Vec::new(alloc);
         match type_next(&mut views, &mut known, alloc, &mut events, map, &sought)? {
             Typed::To(next) => from = next,
             Typed::NoWay => return Err(TypingError::NoWay(place)),
             Typed::TooManyStates => return Err(TypingError::TooManyStates),
         }
-        push_keyed(&mut keyed, Keyed { character, events })?;
+        let end = events.len();
+        push_keyed(&mut keyed, Keyed { character, end })?;
         place += 1;
     }
-    let mut last = Vec::new(alloc);
     see(&mut views, alloc, map, &from)?;
-    if view_of(&views, &from).go_home(&mut last)? {
-        Ok(Typing { keyed, last })
+    if view_of(&views, &from).go_home(&mut events)? {
+        Ok(Typing { keyed, events })
     } else {
         Err(TypingError::TooManyStates)
     }

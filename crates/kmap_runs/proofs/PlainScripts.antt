@@ -1,6 +1,6 @@
 -- The script that types a sentence is lines that a terminal shows.
 use Rattle.std.proofs.Common.{◌≡◌, ℕ, ◌==◌, Bool, true, false, List, [], ◌∷◌, refl}
-use Rattle.std.proofs.Common.{sym, arith, append-nil, All}
+use Rattle.std.proofs.Common.{sym, arith, append-nil, All, ◌-◌, take, drop}
 use Rattle.std.specs.Prelude.{◌/◌, ◌%◌, nat_lt, codes, encode_utf8, if◌then◌else◌}
 use Rattle.std.specs.Char.{IsScalar}
 use Rattle.std.specs.List.{before_first, position_or_len}
@@ -63,14 +63,16 @@ event_plain (event.Release k) = plain_line _ (line_append (codes "up ") _ (ascii
 event_plain event.Reset = plain_line (codes "reset") (ascii _ refl)
 event_plain event.Load = plain_line (codes "load") (ascii _ refl)
 
-lines_plain : (starts : Bool) (ks : List Keyed) → All IsScalar (characters_of ks) → IsPlainText (lines_from starts ks)
+lines_plain : (starts : Bool) (from : ℕ) (es : List Event) (ks : List Keyed) → All IsScalar (characters_of ks)
+    → IsPlainText (lines_from starts from es ks)
 unfolding lines_from
-lines_plain starts [] h = plain_none
-lines_plain starts (k ∷ ks) h =
+lines_plain starts from es [] h = plain_flat event_line event_plain es
+lines_plain starts from es (k ∷ ks) h =
     plain_append _ _
-    (plain_append _ _ (comment_if_plain starts (k ∷ ks) h) (plain_flat event_line event_plain k.events.items))
-    (lines_plain (is_line_feed k.character) ks (All-tail IsScalar k.character (characters_of ks) h))
+    (plain_append _ _ (comment_if_plain starts (k ∷ ks) h)
+    (plain_flat event_line event_plain (take (k.end - from) es)))
+    (lines_plain (is_line_feed k.character) k.end (drop (k.end - from) es) ks
+    (All-tail IsScalar k.character (characters_of ks) h))
 
 pub typing_plain : (x : Typing) → All IsScalar (characters_of x.keyed.items) → IsPlainText (typing_script x)
-typing_plain x h =
-    plain_append _ _ (lines_plain true x.keyed.items h) (plain_flat event_line event_plain x.last.items)
+typing_plain x h = lines_plain true 0 x.events.items x.keyed.items h

@@ -1,6 +1,6 @@
 -- The printed scripts are scripts, and what they do when they are played.
 use Prim.Native.Nat.{suc}
-use Rattle.std.proofs.Common.{◌≡◌, ℕ, ◌+◌, ◌<◌, Bool, true, false, cond, eqb, List, [], ◌∷◌, ◌++◌, length, map, get_or}
+use Rattle.std.proofs.Common.{take, drop, ◌-◌, ◌≡◌, ℕ, ◌+◌, ◌<◌, Bool, true, false, cond, eqb, List, [], ◌∷◌, ◌++◌, length, map, get_or}
 use Rattle.std.proofs.Common.{Option, Some, None, refl, sym, ap, subst, ◌∙◌, arith, append_assoc, append-nil, lit<}
 use Rattle.std.proofs.Common.{if◌then◌else◌, ne_eqb, decimal, ◌^◌, Ok}
 use Rattle.std.specs.Prelude.{codes, reverse, encode_utf8, ◌≢◌}
@@ -8,8 +8,8 @@ use Rattle.std.specs.List.{flat_map, before_first}
 use Rattle.std.specs.Str.Parse.{AllDigits}
 use Rattle.std.proofs.lemmas.Fmt.{decimal_is_IsNumeral}
 use Rattle.std.proofs.lemmas.Bool.{or_from, true≢false}
-use Rattle.std.proofs.lemmas.List.{map-append, reverse-reverse}
-use Rattle.std.proofs.lemmas.List.Elements.{All-nil, All-cons, All-head, All-tail}
+use Rattle.std.proofs.lemmas.List.{map-append, reverse-reverse, take-append-drop}
+use Rattle.std.proofs.lemmas.List.Elements.{All-head, All-tail, All-take, All-drop}
 use Rattle.std.proofs.lemmas.Str.{inside_one}
 use Rattle.keymap_core.specs.declared.action.Modifier.{Modifier}
 use Rattle.keymap_core.specs.declared.action.Modifier.TheVariants.{LeftShift, RightShift, LeftControl, RightControl}
@@ -24,7 +24,7 @@ use Rattle.console_core.specs.History.{Maps, HasKey, HasKeys, answers_to}
 use Rattle.console_core.specs.declared.outcome.Sticking.{Sticking}
 use Rattle.console_core.specs.declared.typing.Keyed.{Keyed}
 use Rattle.console_core.specs.declared.typing.Typing.{Typing}
-use Rattle.console_core.specs.Typing.{AreTyped, characters_of, events_of}
+use Rattle.console_core.specs.Typing.{AreTyped, characters_of}
 use Rattle.console_core.specs.declared.outcome.Sticking.TheVariants.{Sticks, Never, Undecided}
 use Rattle.console_core.specs.Sticking.{IsAnswer, IsAnswerBetween}
 use Rattle.keymap_check.specs.Report.{report_of}
@@ -189,47 +189,28 @@ comment-before false ks rest sent h = h
 
 -- ---- the script that types a sentence
 
--- the events of characters, one after another
-abbrev events_in : List Keyed → List Event
-events_in ks = flat_map (λ (k : Keyed). k.events.items) ks
-
--- events of keys are so in both parts
-keys-parts : (xs ys : List Event) → HasKeys (xs ++ ys) → HasKeys xs × HasKeys ys
-keys-parts [] ys keys = (All-nil HasKey, keys)
-keys-parts (e ∷ xs) ys keys =
-    let parts = keys-parts xs ys (All-tail HasKey e (xs ++ ys) keys) in
-    (All-cons HasKey e xs (All-head HasKey e (xs ++ ys) keys) parts.0, parts.1)
-
--- the lines of characters before a script send their events
-lines-before : (starts : Bool) (ks : List Keyed) (rest : List ℕ) (sent : List Sent) → HasKeys (events_in ks)
-    → IsScript rest sent → IsScript (lines_from starts ks ++ rest) (map sent_of (events_in ks) ++ sent)
+-- the lines of characters are a script of the events, the last ones among them
+lines-typing : (starts : Bool) (from : ℕ) (es : List Event) (ks : List Keyed) → HasKeys es
+    → IsScript (lines_from starts from es ks) (map sent_of es)
 unfolding lines_from
-lines-before starts [] rest sent keys h = h
-lines-before starts (k ∷ ks) rest sent keys h =
-    let events : List Event = k.events.items in
+lines-typing starts from es [] keys = events-script es keys
+lines-typing starts from es (k ∷ ks) keys =
+    let n : ℕ = k.end - from in
     let comment : List ℕ = comment_if starts (k ∷ ks) in
-    let lines : List ℕ = flat_map event_line events in
-    let later : List ℕ = lines_from (is_line_feed k.character) ks in
-    let more : List Sent = map sent_of (events_in ks) ++ sent in
-    let parts : HasKeys events × HasKeys (events_in ks) = keys-parts events (events_in ks) keys in
-    let whole : IsScript (comment ++ (lines ++ (later ++ rest))) (map sent_of events ++ more) =
-    comment-before starts (k ∷ ks) (lines ++ (later ++ rest)) (map sent_of events ++ more)
-    (events-before events (later ++ rest) more parts.0
-    (lines-before (is_line_feed k.character) ks rest sent parts.1 h)) in
-    let text : ((comment ++ lines) ++ later) ++ rest ≡ comment ++ (lines ++ (later ++ rest)) = simp append_assoc in
-    let both : map sent_of (events ++ events_in ks) ++ sent ≡ map sent_of events ++ more =
-    ap (λ l. l ++ sent) (map-append sent_of events (events_in ks))
-    ∙ append_assoc (map sent_of events) (map sent_of (events_in ks)) sent in
-    subst (λ l. IsScript (((comment ++ lines) ++ later) ++ rest) l) (sym both)
-    (subst (λ t. IsScript t (map sent_of events ++ more)) (sym text) whole)
+    let lines : List ℕ = flat_map event_line (take n es) in
+    let later : List ℕ = lines_from (is_line_feed k.character) k.end (drop n es) ks in
+    let sent : List Sent = map sent_of (take n es) ++ map sent_of (drop n es) in
+    let whole : IsScript (comment ++ (lines ++ later)) sent =
+    comment-before starts (k ∷ ks) (lines ++ later) sent
+    (events-before (take n es) later (map sent_of (drop n es)) (All-take HasKey n es keys)
+    (lines-typing (is_line_feed k.character) k.end (drop n es) ks (All-drop HasKey n es keys))) in
+    let both : map sent_of es ≡ sent =
+    ap (λ l. map sent_of l) (sym (take-append-drop n es)) ∙ map-append sent_of (take n es) (drop n es) in
+    subst (λ l. IsScript ((comment ++ lines) ++ later) l) (sym both)
+    (subst (λ t. IsScript t sent) (sym (append_assoc comment lines later)) whole)
 
-typing-sends : (x : Typing) → HasKeys (events_of x) → IsScript (typing_script x) (map sent_of (events_of x))
-typing-sends x keys =
-    let typed : List Event = events_in x.keyed.items in
-    let parts : HasKeys typed × HasKeys x.last.items = keys-parts typed x.last.items keys in
-    subst (λ l. IsScript (typing_script x) l) (sym (map-append sent_of typed x.last.items))
-    (lines-before true x.keyed.items (flat_map event_line x.last.items) (map sent_of x.last.items) parts.0
-    (events-script x.last.items parts.1))
+typing-sends : (x : Typing) → HasKeys x.events.items → IsScript (typing_script x) (map sent_of x.events.items)
+typing-sends x keys = lines-typing true 0 x.events.items x.keyed.items keys
 
 -- events that type a text do so from a script that sends them
 typed-back : (m : MapValue) (events : List Event) (bytes : List ℕ)
@@ -241,9 +222,9 @@ typed-back m events bytes e = ap (λ l. typed_text (answers_to (alone m) [] l)) 
 pub typing-types : (m : MapValue) (bytes : List ℕ) (x : Typing) → IsTyped m bytes x
     → ScriptTypes m (typing_script x) bytes
 typing-types m bytes x t = record {
-  sent = map sent_of (events_of x);
+  sent = map sent_of x.events.items;
   is = typing-sends x t.are.keys;
-  typed = typed-back m (events_of x) bytes t.typed;
+  typed = typed-back m x.events.items bytes t.typed;
 }
 
 -- ---- scripts of what was found
@@ -260,8 +241,8 @@ delivers-these script events is = record {
 
 -- what is printed to type characters delivers their events, and nothing else
 pub typing-delivers : (m : MapValue) (cs : List ℕ) (x : Typing) → AreTyped m cs x
-    → Delivers (typing_script x) (reverse (events_of x))
-typing-delivers m cs x t = delivers-these (typing_script x) (events_of x) (typing-sends x t.keys)
+    → Delivers (typing_script x) (reverse x.events.items)
+typing-delivers m cs x t = delivers-these (typing_script x) x.events.items (typing-sends x t.keys)
 
 -- events that are of keys, the newest first, are so in their order
 keys-of : (events : List Event) → HasKeys (reverse events) → HasKeys events
@@ -335,8 +316,8 @@ typed-once : (m : MapValue) (x : Typing) (bytes : List ℕ) (sent : List Sent) �
     → IsScript (typing_script x) sent → played_text show.Typed (alone m) sent ≡ bytes
 typed-once m x bytes sent t h =
     ap (λ l. played_text show.Typed (alone m) l)
-    (one_list (typing_script x) sent (map sent_of (events_of x)) h (typing-sends x t.are.keys))
-    ∙ typed-back m (events_of x) bytes t.typed
+    (one_list (typing_script x) sent (map sent_of x.events.items) h (typing-sends x t.are.keys))
+    ∙ typed-back m x.events.items bytes t.typed
 
 pub comes-back : (text sentence script typed : List ℕ) (t s u v : Option (List ℕ))
     → TypesSentence (moves (Some text) t) (moves (Some sentence) s) (moves (Some []) (Some script)) (Ok tt)

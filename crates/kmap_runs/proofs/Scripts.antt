@@ -2,11 +2,13 @@
 use Prim.Native.Nat.{suc}
 use Rattle.std.proofs.Common.{◌≡◌, ℕ, ◌+◌, ◌-◌, ◌<◌, ◌≤◌, Bool, true, false, not, List, [], ◌∷◌, ◌++◌, length, take, drop, get_or}
 use Rattle.std.proofs.Common.{append_assoc, append-nil, add-one, drop-cons, take_all, length-drop, arith, refl, sym, ap}
-use Rattle.std.proofs.Common.{◌∙◌}
+use Rattle.std.proofs.Common.{◌∙◌, subst}
 use Rattle.std.proofs.Math.ListN.{drop_of_length-le}
+use Rattle.std.proofs.lemmas.List.{drop-drop}
 use Rattle.std.specs.List.{flat_map, prefix_len}
+use Rattle.console_core.specs.declared.event.Event.{Event}
 use Rattle.console_core.specs.declared.typing.Keyed.{Keyed}
-use Rattle.console_core.specs.Typing.{characters_of}
+use Rattle.console_core.specs.Typing.{AreEnds, characters_of}
 use Rattle.play_core.specs.Spelling.{event_line}
 use Rattle.kmap_runs.specs.Typing.{lines_from, comment_if, is_line_feed, line_shown, shown}
 
@@ -14,50 +16,68 @@ use Rattle.kmap_runs.specs.Typing.{lines_from, comment_if, is_line_feed, line_sh
 four_pieces : (a b c d : List ℕ) → ((a ++ b) ++ c) ++ d ≡ a ++ ((b ++ c) ++ d)
 four_pieces a b c d = simp append_assoc
 
--- the lines of a character's events
-abbrev event_lines : Keyed → List ℕ
-event_lines k = flat_map event_line k.events.items
-
 -- the lines of the first character, and those of the others
-opened : (starts : Bool) (x : Keyed) (rest : List Keyed)
-    → lines_from starts (x ∷ rest)
-    ≡ (comment_if starts (x ∷ rest) ++ event_lines x) ++ lines_from (is_line_feed x.character) rest
+opened : (starts : Bool) (from : ℕ) (es : List Event) (x : Keyed) (rest : List Keyed)
+    → lines_from starts from es (x ∷ rest)
+    ≡ (comment_if starts (x ∷ rest) ++ flat_map event_line (take (x.end - from) es))
+    ++ lines_from (is_line_feed x.character) x.end (drop (x.end - from) es) rest
 unfolding lines_from
-opened starts x rest = refl
+opened starts from es x rest = refl
 
 -- what stands at a place, and what behind it
 front : (ks : List Keyed) (i : ℕ) (x : Keyed) → i < length ks → x ≡ get_or ks i x → drop i ks ≡ x ∷ drop (i + 1) ks
 front ks i x inside at = rw add-one (drop-cons ks i x inside ∙ ap (λ b. b ∷ drop (suc i) ks) (sym at))
 
+-- the ends behind the one at a place
+pub ends-front : (from i last : ℕ) (ks : List Keyed) (x : Keyed) → i < length ks → x ≡ get_or ks i x
+    → AreEnds from (drop i ks) last → (from ≤ x.end) × AreEnds x.end (drop (i + 1) ks) last
+ends-front from i last ks x inside at ends = subst (λ z. AreEnds from z last) (front ks i x inside at) ends
+
+pub ends-within : (from last : ℕ) (ks : List Keyed) → AreEnds from ks last → from ≤ last
+ends-within from last [] ends = ends
+ends-within from last (k ∷ ks) ends = let later = ends-within k.end last ks ends.1 in omega (arith, ends.0, later)
+
+-- what lies behind an end
+drop-end : (from end : ℕ) (es : List Event) → from ≤ end → drop (end - from) (drop from es) ≡ drop end es
+drop-end from end es le =
+    let all : from + (end - from) ≡ end = omega (arith, le) in
+    drop-drop (end - from) from es ∙ ap (λ n. drop n es) all
+
 -- what is left to write, once the lines of the character at a place are written
-pub line_more : (starts : Bool) (ks : List Keyed) (i : ℕ) (x : Keyed) (old mid new all : List ℕ)
-    → i < length ks → x ≡ get_or ks i x
-    → mid ≡ old ++ comment_if starts (take (length ks - i) (drop i ks)) → new ≡ mid ++ event_lines x
-    → old ++ lines_from starts (drop i ks) ≡ all
-    → new ++ lines_from (is_line_feed x.character) (drop (i + 1) ks) ≡ all
-line_more starts ks i x old mid new all inside at comment lines before =
+pub line_more : (starts : Bool) (from : ℕ) (es : List Event) (ks : List Keyed) (i : ℕ) (x : Keyed)
+    → (old mid new all : List ℕ) → i < length ks → x ≡ get_or ks i x → from ≤ x.end
+    → mid ≡ old ++ comment_if starts (take (length ks - i) (drop i ks))
+    → new ≡ mid ++ flat_map event_line (take (x.end - from) (drop from es))
+    → old ++ lines_from starts from (drop from es) (drop i ks) ≡ all
+    → new ++ lines_from (is_line_feed x.character) x.end (drop x.end es) (drop (i + 1) ks) ≡ all
+line_more starts from es ks i x old mid new all inside at le comment lines before =
     let first = front ks i x inside at in
-    let slice : take (length ks - i) (drop i ks) ≡ x ∷ drop (i + 1) ks =
+    let rest : List Keyed = drop (i + 1) ks in
+    let here : List ℕ = flat_map event_line (take (x.end - from) (drop from es)) in
+    let later : List ℕ = lines_from (is_line_feed x.character) x.end (drop (x.end - from) (drop from es)) rest in
+    let slice : take (length ks - i) (drop i ks) ≡ x ∷ rest =
     take_all (length ks - i) (drop i ks) (omega (arith, length-drop i ks)) ∙ first in
-    ap (λ l. l ++ lines_from (is_line_feed x.character) (drop (i + 1) ks))
-    (lines ∙ ap (λ l. l ++ event_lines x) (comment ∙ ap (λ l. old ++ comment_if starts l) slice))
-    ∙ four_pieces old (comment_if starts (x ∷ drop (i + 1) ks)) (event_lines x)
-    (lines_from (is_line_feed x.character) (drop (i + 1) ks))
-    ∙ ap (λ l. old ++ l) (sym (opened starts x (drop (i + 1) ks)))
-    ∙ ap (λ l. old ++ lines_from starts l) (sym first)
+    ap (λ z. new ++ lines_from (is_line_feed x.character) x.end z rest) (sym (drop-end from x.end es le))
+    ∙ ap (λ l. l ++ later) (lines ∙ ap (λ l. l ++ here) (comment ∙ ap (λ l. old ++ comment_if starts l) slice))
+    ∙ four_pieces old (comment_if starts (x ∷ rest)) here later
+    ∙ ap (λ l. old ++ l) (sym (opened starts from (drop from es) x rest))
+    ∙ ap (λ l. old ++ lines_from starts from (drop from es) l) (sym first)
     ∙ before
 
--- no characters have no lines
-no_lines : (starts : Bool) → lines_from starts [] ≡ []
+-- behind the last character stand the lines of the events that are left
+last_lines : (starts : Bool) (from : ℕ) (es : List Event) → lines_from starts from es [] ≡ flat_map event_line es
 unfolding lines_from
-no_lines starts = refl
+last_lines starts from es = refl
 
--- nothing is left to write
-pub lines_end : (starts : Bool) (ks : List Keyed) (i : ℕ) (old all : List ℕ) → length ks ≤ i
-    → old ++ lines_from starts (drop i ks) ≡ all → old ≡ all
-lines_end starts ks i old all past before =
-    sym (append-nil old) ∙ ap (λ l. old ++ l) (sym (no_lines starts))
-    ∙ ap (λ l. old ++ lines_from starts l) (sym (drop_of_length-le ks past)) ∙ before
+pub lines_end : (starts : Bool) (from : ℕ) (es : List Event) (ks : List Keyed) (i : ℕ) (old new all : List ℕ)
+    → length ks ≤ i → new ≡ old ++ flat_map event_line (take (length es - from) (drop from es))
+    → old ++ lines_from starts from (drop from es) (drop i ks) ≡ all → new ≡ all
+lines_end starts from es ks i old new all past lines before =
+    lines
+    ∙ ap (λ z. old ++ flat_map event_line z)
+    (take_all (length es - from) (drop from es) (omega (arith, length-drop from es)))
+    ∙ ap (λ l. old ++ l) (sym (last_lines starts from (drop from es)))
+    ∙ ap (λ l. old ++ lines_from starts from (drop from es) l) (sym (drop_of_length-le ks past)) ∙ before
 
 -- ---- the first line of the characters
 

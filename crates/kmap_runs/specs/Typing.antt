@@ -1,8 +1,9 @@
 -- The script that types a sentence.
-use Rattle.std.specs.Prelude.{ℕ, ◌==◌, Bool, true, false, List, [], ◌∷◌, ◌++◌, map, encode_utf8}
+use Rattle.std.specs.Prelude.{ℕ, ◌==◌, ◌-◌, Bool, true, false, List, [], ◌∷◌, ◌++◌, take, drop, encode_utf8}
 use Rattle.std.specs.Prelude.{if◌then◌else◌}
 use Rattle.std.specs.List.{flat_map, before_first}
 use Rattle.keymap_core.specs.Unseen.{is_unseen}
+use Rattle.console_core.specs.declared.event.Event.{Event}
 use Rattle.console_core.specs.declared.typing.Keyed.{Keyed}
 use Rattle.console_core.specs.declared.typing.Typing.{Typing}
 use Rattle.console_core.specs.Typing.{characters_of}
@@ -30,12 +31,13 @@ abbrev pub comment_if : Bool → List Keyed → List ℕ
 comment_if true ks = comment ks
 comment_if false ks = []
 
--- the lines of the events of the characters, and before those of each line of the sentence a comment that shows it
-unfoldable pub lines_from : Bool → List Keyed → List ℕ
-lines_from starts [] = []
-lines_from starts (k ∷ ks) =
-    comment_if starts (k ∷ ks) ++ flat_map event_line k.events.items ++ lines_from (is_line_feed k.character) ks
+-- The lines of the events of the characters, and before those of each line of the sentence a comment that shows it; then
+-- those of the events that are left. So many events come before these.
+unfoldable pub lines_from : Bool → ℕ → List Event → List Keyed → List ℕ
+lines_from starts from es [] = flat_map event_line es
+lines_from starts from es (k ∷ ks) =
+    comment_if starts (k ∷ ks) ++ flat_map event_line (take (k.end - from) es)
+    ++ lines_from (is_line_feed k.character) k.end (drop (k.end - from) es) ks
 
--- these, and the lines of the events behind the last character
 abbrev pub typing_script : Typing → List ℕ
-typing_script x = lines_from true x.keyed.items ++ flat_map event_line x.last.items
+typing_script x = lines_from true 0 x.events.items x.keyed.items

@@ -8,7 +8,7 @@ ghost use Rattle.console_core.specs.declared.outcome.Sticking.{Sticking as Stick
 ghost use Rattle.console_core.specs.declared.typing.Typing.{Typing as TypingValue};
 ghost use Rattle.console_core.specs.History.{HasKeys, Maps};
 ghost use Rattle.console_core.specs.Sticking.{IsAnswer, IsAnswerBetween};
-ghost use Rattle.console_core.specs.Typing.{AreTyped, characters_of, events_of};
+ghost use Rattle.console_core.specs.Typing.{AreTyped, characters_of};
 ghost use Rattle.play_core.specs.Playing.{Plays};
 ghost use Rattle.play_core.specs.Runs.{moves};
 ghost use Rattle.play_core.specs.Scripts.{IsScript};
@@ -39,7 +39,7 @@ use keymap_text::laws::printed_form_spells;
 /// What is printed to type characters is a script that delivers exactly the events that type them.
 pub fn typing_scripts_deliver_the_events()
     ensures { (m : MapValue) (cs : List ℕ) (x : TypingValue) → AreTyped m cs x
-        → Delivers (typing_script x) (reverse (events_of x)) }
+        → Delivers (typing_script x) (reverse x.events.items) }
 {}
 
 /// What is printed to type a sentence is a script that types it, played on the keymap alone.

@@ -1,11 +1,11 @@
 //! The script that types a sentence.
-ghost use Rattle.std.specs.Prelude.{◌≡◌, ◌++◌, true, OnOk, IfOk};
-ghost use Rattle.console_core.specs.Typing.{characters_of};
+ghost use Rattle.std.specs.Prelude.{◌≡◌, ◌++◌, true, length, OnOk, IfOk};
+ghost use Rattle.console_core.specs.Typing.{AreEnds, characters_of};
 ghost use Rattle.kmap_runs.specs.Typing as spec;
 
 use crate::event_lines::push_events;
 use crate::words::SENTENCE;
-use console_core::{Keyed, Typing};
+use console_core::{Event, Keyed, Typing};
 use keymap_core::{code_text, is_unseen};
 use messages::parted;
 use std::alloc::{AllocError, Global};
@@ -58,29 +58,33 @@ fn push_comment_if(text: &mut Vec<u8>, starts: bool, keyed: &[Keyed]) -> Result<
     }
 }
 
-/// Adds the lines of events of the characters, and before those of each line of the sentence a comment that shows it.
-fn push_keyed(text: &mut Vec<u8>, keyed: &[Keyed]) -> Result<(), AllocError>
-    ensures { OnOk result (text.new.items ≡ text.old.items ++ spec.lines_from true keyed.now) }
+/// Adds the lines of the events of the characters, and before those of each line of the sentence a comment that shows
+/// it; then those of the events behind the last character.
+fn push_keyed(text: &mut Vec<u8>, keyed: &[Keyed], events: &[Event]) -> Result<(), AllocError>
+    requires { AreEnds 0 keyed.now (length events.now) }
+    ensures { OnOk result (text.new.items ≡ text.old.items ++ spec.lines_from true 0 events.now keyed.now) }
 {
     let mut starts = true;
+    let mut from = 0;
     let mut i = 0;
     while i < keyed.len() {
         push_comment_if(text, starts, &keyed[i..])?;
-        let one = &keyed[i];
-        push_events(text, &one.events)?;
+        let one = keyed[i];
+        push_events(text, &events[from..one.end])?;
         starts = one.character == '\n';
+        from = one.end;
         i += 1;
     }
+    push_events(text, &events[from..])?;
     Ok(())
 }
 
-/// The script that types the characters: the lines of their events, before those of each line of the sentence a comment
-/// that shows it, and the lines of the events behind the last character.
+/// The script that types the characters.
 pub(crate) fn typing_script(alloc: Global, typing: &Typing) -> Result<Vec<u8>, AllocError>
+    requires { AreEnds 0 typing.now.keyed.items (length typing.now.events.items) }
     ensures { IfOk result (λ text. text.items ≡ spec.typing_script typing.now) }
 {
     let mut text = Vec::new(alloc);
-    push_keyed(&mut text, &typing.keyed)?;
-    push_events(&mut text, &typing.last)?;
+    push_keyed(&mut text, &typing.keyed, &typing.events)?;
     Ok(text)
 }

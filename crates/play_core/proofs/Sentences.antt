@@ -13,7 +13,7 @@ use Rattle.play_core.specs.Types.{Answer}
 use Rattle.console_core.specs.declared.event.Answer.TheVariants as answer
 use Rattle.console_core.specs.declared.typing.Typing.{Typing}
 use Rattle.console_core.specs.History.{answers_to}
-use Rattle.console_core.specs.Typing.{AreTyped, events_of, plainly, types_something}
+use Rattle.console_core.specs.Typing.{AreTyped, plainly, types_something}
 use Rattle.play_core.specs.Typing.{alone, IsTyped}
 use Rattle.play_core.specs.Written.{typed_by, typed_text}
 
@@ -41,7 +41,7 @@ typed-sentence m bytes cs x text are = record {
   characters = cs;
   text = text;
   are = are;
-  typed = typing-alone (answers_to (alone m) [] (events_of x)) ∙ ap (λ z. flat_map typed_by z) are.typed
+  typed = typing-alone (answers_to (alone m) [] x.events.items) ∙ ap (λ z. flat_map typed_by z) are.types
       ∙ plain-text cs ∙ text;
 }
 

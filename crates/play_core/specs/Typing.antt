@@ -6,7 +6,7 @@ use Rattle.console_core.specs.declared.typing.Typing.{Typing}
 use Rattle.console_core.specs.History.{Maps, between, answers_to}
 use Rattle.console_core.specs.Moves.{alone as under_alone}
 use Rattle.console_core.specs.Sticking.{ReachesMoreThan, state_limit}
-use Rattle.console_core.specs.Typing.{AreTyped, CanType, events_of}
+use Rattle.console_core.specs.Typing.{AreTyped, CanType}
 use Rattle.play_core.specs.declared.type_error.TypeError.{TypeError}
 use Rattle.play_core.specs.declared.type_error.TypeError.TheVariants.{Memory, NotText, NoWay, TooManyStates}
 use Rattle.play_core.specs.Written.{typed_text}
@@ -21,7 +21,7 @@ pub record IsTyped (m : MapValue) (bytes : List ℕ) (x : Typing) : Type 0 where
   pub characters : List ℕ
   pub text : encode_utf8_all characters ≡ bytes
   pub are : AreTyped m characters x
-  pub typed : typed_text (answers_to (alone m) [] (events_of x)) ≡ bytes
+  pub typed : typed_text (answers_to (alone m) [] x.events.items) ≡ bytes
 
 -- The bytes are the text of scalars, and the one at the offset is the first that keys can't type.
 abbrev pub IsUntyped : MapValue → List ℕ → ℕ → ℕ → Type 0

@@ -1,7 +1,7 @@
 //! The events that type a sentence, and what keeps one from being typed.
 
-use crate::asserts::{expect_at, expect_equal_at};
-use console_core::{Event, Typing};
+use crate::asserts::expect_equal_at;
+use console_core::{Event, Keyed};
 use keymap_text::read_map;
 use play_core::{TypeError, read_script, type_sentence};
 use std::alloc::Global;
@@ -155,16 +155,6 @@ fn events_of(alloc: Global, script: &[u8]) -> Result<Vec<Event>, Fail> {
     Ok(events)
 }
 
-/// The events of all characters, and those behind them.
-fn events_in(alloc: Global, typing: &Typing) -> Result<Vec<Event>, Fail> {
-    let mut events = Vec::new(alloc);
-    for one in &typing.keyed {
-        events.extend_from_slice(&one.events)?;
-    }
-    events.extend_from_slice(&typing.last)?;
-    Ok(events)
-}
-
 fn expect_typed(
     rt: &impl Abort,
     alloc: Global,
@@ -176,8 +166,7 @@ fn expect_typed(
     let wanted = events_of(alloc, script)?;
     match type_sentence(alloc, &map, sentence) {
         Ok(typing) => {
-            let events = events_in(alloc, &typing)?;
-            expect_equal_at(rt, &sentence, &events.as_slice(), &wanted.as_slice());
+            expect_equal_at(rt, &sentence, &typing.events.as_slice(), &wanted.as_slice());
         }
         Err(error) => expect_equal_at(rt, &sentence, &Some(error), &None),
     }
@@ -192,17 +181,28 @@ fn sentences_are_typed_by_the_nearest_keys(rt: HostRuntime) -> Result<(), Fail> 
     Ok(())
 }
 
+/// Of a letter of each layout: the lock is turned for the second one, and back behind it.
 #[test]
-fn the_characters_have_their_events(rt: HostRuntime) -> Result<(), Fail> {
+fn each_character_tells_where_its_events_end(rt: HostRuntime) -> Result<(), Fail> {
     let map = read_map(rt.alloc(), TWO_LAYOUTS)?;
     let typing = type_sentence(rt.alloc(), &map, b"a\xce\xb1")?;
-    let wanted = ['a', '\u{3b1}'];
-    expect_at(&rt, &"characters", typing.keyed.len() == wanted.len());
-    for (one, c) in typing.keyed.iter().zip(wanted.iter()) {
-        expect_equal_at(&rt, c, &one.character, c);
-    }
-    let behind = events_of(rt.alloc(), b"down 58\nup 58\n")?;
-    expect_equal_at(&rt, &"last", &typing.last.as_slice(), &behind.as_slice());
+    let wanted = [
+        Keyed {
+            character: 'a',
+            end: 2,
+        },
+        Keyed {
+            character: '\u{3b1}',
+            end: 6,
+        },
+    ];
+    expect_equal_at(
+        &rt,
+        &"keyed",
+        &typing.keyed.as_slice(),
+        &wanted.as_slice(),
+    );
+    expect_equal_at(&rt, &"events", &typing.events.len(), &8);
     Ok(())
 }
 

@@ -14,13 +14,13 @@ use Rattle.console_core.specs.Typing.{ComesHome, IsTapOf, types_something, plain
 use Rattle.console_core.specs.Answers.{usable}
 use Rattle.console_core.specs.declared.explored.Symbol.{Symbol}
 use Rattle.console_core.specs.declared.explored.Symbol.TheVariants as symbol
-use Rattle.console_core.specs.declared.typing.Accented.{Accented}
+use Rattle.console_core.specs.declared.ways.Accented.{Accented}
 use Rattle.console_core.specs.declared.typing.Found.{Found}
 use Rattle.console_core.specs.declared.typing.Sought.{Sought}
 use Rattle.console_core.specs.declared.typing.Typed.{Typed}
 use Rattle.console_core.specs.declared.typing.Typed.TheVariants as typed
-use Rattle.console_core.specs.declared.typing.Way.{Way}
-use Rattle.console_core.specs.declared.typing.Way.TheVariants as way
+use Rattle.console_core.specs.declared.ways.Way.{Way}
+use Rattle.console_core.specs.declared.ways.Way.TheVariants as way
 use Rattle.console_core.specs.Inner.Routes.{AllLeadHome, HasRoute, AreSettled, freed}
 use Rattle.console_core.specs.Inner.Searching.{state_of, under_of, origin_of, Entry, Searched}
 use Rattle.console_core.specs.Inner.Standing.{Stands}

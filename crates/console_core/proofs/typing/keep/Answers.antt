@@ -1,4 +1,5 @@
-use Rattle.std.proofs.Common.{ap, subst, sym, ◌∙◌, ◌++◌, [], reverse}
+use Rattle.std.proofs.Common.{ap, subst, sym, ◌∙◌, ◌++◌, ◌-◌, [], arith, drop, length, reverse, take}
+use Rattle.std.proofs.lemmas.List.{length-drop, take_all}
 use Rattle.console_core.specs.Inner.Exploring.{AreKnown, TypesOne}
 use Rattle.console_core.specs.Inner.Searching.{state_of}
 use Rattle.console_core.proofs.Views.{are_same_sought, tells-sought, known-more}
@@ -9,8 +10,11 @@ returns c =
     λ m all types.
     let k = c.args.sought.now in
     let next = c.args.next.now in
+    let es = c.args.events.now in
     subst (λ z. AreKnown m z) (sym c.in_ok-insert.ensures.entries)
     (known-more are_same_sought tells-sought m c.args.known.now.entries k
     (record { events = c.extend_from_slice.new.self; next = next }) all
     (subst (λ z. TypesOne m k.character (state_of k.from) [] (reverse z) (state_of next))
-    (sym (c.in_ok-extend_from_slice.ensures.items ∙ ap (λ z. z ++ c.args.events.now) c.new-kept.ensures.items)) types))
+    (sym (c.in_ok-extend_from_slice.ensures.items
+    ∙ ap (λ z. z ++ take (length es - c.args.start) (drop c.args.start es)) c.new-kept.ensures.items
+    ∙ take_all (length es - c.args.start) (drop c.args.start es) (omega (arith, length-drop c.args.start es)))) types))

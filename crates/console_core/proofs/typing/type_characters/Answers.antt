@@ -13,8 +13,8 @@ pub loop-place-init : goal.loop-place-init
 loop-place-init c = record {
   views = subst (λ v. AreViews c.args.map.now v) (sym c.new-views.ensures.empty) tt;
   known = subst (λ v. AreKnown c.args.map.now v) (sym c.new-known.ensures.empty) tt;
-  typed = typed-none c.args.map.now c.args.characters.now c.new-keyed.result.items (state_of c.start-from.result)
-      c.new-keyed.ensures.items c.start-from.ensures;
+  typed = typed-none c.args.map.now c.args.characters.now c.new-keyed.result.items c.new-events.result.items
+      (state_of c.start-from.result) c.new-keyed.ensures.items c.new-events.ensures.items c.start-from.ensures;
 }
 
 pub returns-in-NoWay-clause-error : goal.returns-in-NoWay-clause-error
@@ -26,8 +26,8 @@ returns-in-NoWay-clause-error c =
         x,
         slice_get-get_or cs c.loop-place.place x c.loop-place-test.true
             ∙ ap (λ z. Some z) (sym c.index-characters-place.is),
-        subst (λ r. Leads c.args.map.now x (state_of c.loop-place.from) [] (reverse c.type_next.new.events.items) r)
-            c.in-NoWay.is c.in_ok-next.ensures.leads,
+        subst (λ r. Leads c.args.map.now x (state_of c.loop-place.from) (reverse c.loop-place.events.items)
+            (reverse c.type_next.new.events.items) r) c.in-NoWay.is c.in_ok-next.ensures.leads,
       ),
     )
 
@@ -35,15 +35,16 @@ pub loop-place-preserved : goal.loop-place-preserved
 loop-place-preserved c =
     let m = c.args.map.now in
     let x = c.index-characters-place.result in
-    let events = c.type_next.new.events in
+    let old = c.loop-place.events.items in
+    let now = c.type_next.new.events.items in
     record {
       views = c.in_ok-next.ensures.views;
       known = c.in_ok-next.ensures.known;
       typed = typed-one m c.args.characters.now c.loop-place.place c.loop-place.keyed.items
-          c.push_keyed.new.keyed.items (state_of c.loop-place.from) (record { character = x; events = events })
-          (state_of c.in-To.next)
-          c.loop-place.invariant.typed c.loop-place-test.true c.index-characters-place.is
-          (subst (λ r. Leads m x (state_of c.loop-place.from) [] (reverse events.items) r) c.in-To.is
+          c.push_keyed.new.keyed.items old now (state_of c.loop-place.from)
+          (record { character = x; end = c.len-end.result }) (state_of c.in-To.next)
+          c.loop-place.invariant.typed c.loop-place-test.true c.index-characters-place.is (c.len-end.ensures ∙ c.type_next.new.events.ok.0)
+          (subst (λ r. Leads m x (state_of c.loop-place.from) (reverse old) (reverse now) r) c.in-To.is
           c.in_ok-next.ensures.leads)
           c.in_ok-push_keyed.ensures;
     }
@@ -61,14 +62,13 @@ returns-then-branch-clause-typed c =
     let cs = c.args.characters.now in
     let s = state_of c.loop-place.from in
     let e = c.view_of.result.now in
-    let h = reverse c.new-last.result.items in
+    let h = reverse c.loop-place.events.items in
     let now = reverse c.go_home.new.events.items in
     let v = c.view_of.ensures m c.in_ok-see.ensures.views in
-    typed-all m cs c.loop-place.place (record { keyed = c.loop-place.keyed; last = c.go_home.new.events }) s h
-    c.loop-place.invariant.typed (take_all c.loop-place.place cs c.loop-place-test.false)
+    typed-all m cs c.loop-place.place (record { keyed = c.loop-place.keyed; events = c.go_home.new.events })
+    c.loop-place.events.items s c.loop-place.invariant.typed (take_all c.loop-place.place cs c.loop-place-test.false)
     (subst (λ t. GoesHome (alone m) t h now) v.2
     (subst (λ n. GoesHome (alone n) (origin_in e) h now) v.1 (c.in_ok-go_home.ensures.0 c.if-branch.true)))
-    (ap (λ z. reverse z) c.new-last.ensures.items)
 
 pub returns-clause-error : goal.returns-clause-error
 returns-clause-error c =

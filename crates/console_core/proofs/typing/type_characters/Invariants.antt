@@ -9,7 +9,7 @@ abbrev pub invariant-loop-place : goal.invariant-loop-place
 invariant-loop-place l = record {
   views : AreViews l.map l.views.entries;
   known : AreKnown l.map l.known.entries;
-  typed : HaveBeenTyped l.map l.characters l.place l.keyed.items (state_of l.from);
+  typed : HaveBeenTyped l.map l.characters l.place l.keyed.items l.events.items (state_of l.from);
 }
 
 abbrev pub decreases-loop-place : goal.decreases-loop-place

@@ -1,5 +1,43 @@
+use Rattle.std.proofs.Common.{◌≤◌, ◌∙◌, [], drop, length, reverse, subst, sym}
+use Rattle.console_core.specs.Inner.Exploring.{AreKnown, Leads, TypesOne}
+use Rattle.console_core.specs.Inner.Searching.{state_of}
+use Rattle.console_core.proofs.Typings.{types-alone, fits-behind}
+use Rattle.console_core.proofs.typing.type_next.Goals.{in-To+in_ok-keep, in_default-typed}
 use Rattle.console_core.proofs.typing.type_next.Goals as goal
 
 pub returns-in-Some-clause-leads : goal.returns-in-Some-clause-leads
 returns-in-Some-clause-leads c =
-    let types = rw c.in-Some.is at c.in_ok-next.ensures in types c.args.map.now c.requires.known c.requires.none
+    let types = rw c.in-Some.is at c.in_ok-next.ensures in types c.args.map.now c.requires.known
+
+pub keep-requires : goal.keep-requires
+keep-requires c =
+    let k = c.args.sought.now in
+    let old = c.recall.new.events.items in
+    let now = c.type_from.new.events.items in
+    let leads =
+    subst (λ r. Leads c.args.map.now k.character (state_of k.from) (reverse old) (reverse now) r) c.in-To.is
+    c.in_ok-typed.ensures.leads in
+    let le = fits-behind c.args.map.now k.character (state_of k.from) (state_of c.in-To.next) old now leads in
+    subst (λ n. n ≤ length c.deref.result.now) (sym (c.len-start.ensures ∙ c.recall.new.events.ok.0))
+    (subst (λ z. length old ≤ length z) (sym c.deref.ensures.value) le)
+
+pub returns-clause-known : goal.returns-clause-known
+returns-clause-known c = elim c.match-typed.branch [
+  | in-To+in_ok-keep w ↦
+      let m = c.args.map.now in
+      let k = c.args.sought.now in
+      let old = c.recall.new.events.items in
+      let now = c.type_from.new.events.items in
+      let next = state_of w.in-To.next in
+      let leads =
+      subst (λ r. Leads m k.character (state_of k.from) (reverse old) (reverse now) r) w.in-To.is
+      c.in_ok-typed.ensures.leads in
+      subst (λ z. AreKnown m z.entries) (sym w.known-is)
+      (w.in_ok-keep.ensures m c.requires.known
+      (subst (λ z. TypesOne m k.character (state_of k.from) [] (reverse (drop c.len-start.result z)) next)
+      (sym w.deref.ensures.value)
+      (subst (λ n. TypesOne m k.character (state_of k.from) [] (reverse (drop n now)) next)
+      (sym (c.len-start.ensures ∙ c.recall.new.events.ok.0))
+      (types-alone m k.character (state_of k.from) next old now leads))))
+  | in_default-typed w ↦ subst (λ z. AreKnown c.args.map.now z.entries) (sym w.known-is) c.requires.known
+]

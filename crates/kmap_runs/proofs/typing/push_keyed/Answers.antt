@@ -1,25 +1,18 @@
-use Rattle.std.proofs.Common.{ap, ◌∙◌, ◌++◌, arith}
-use Rattle.std.specs.List.{flat_map}
-use Rattle.play_core.specs.Spelling.{event_line}
-use Rattle.kmap_runs.proofs.Scripts.{line_more, lines_end}
+use Rattle.std.proofs.Common.{arith}
+use Rattle.kmap_runs.proofs.Scripts.{ends-front, ends-within, line_more, lines_end}
 use Rattle.kmap_runs.proofs.typing.push_keyed.Goals as goal
 
 pub loop-i-preserved : goal.loop-i-preserved
-loop-i-preserved c = record {
-  inside = omega (arith, c.loop-i-test.true);
-  whole =
-      line_more c.loop-i.starts c.args.keyed.now c.loop-i.i c.index-keyed-i.result c.loop-i.text.items
-      c.push_comment_if.new.text.items
-      c.push_events.new.text.items
-      _
-      c.loop-i-test.true
-      c.index-keyed-i.is
-      c.in_ok-push_comment_if.ensures
-      (c.in_ok-push_events.ensures
-      ∙ ap (λ z. c.push_comment_if.new.text.items ++ flat_map event_line z) c.deref.ensures.value)
-      c.loop-i.invariant.whole;
-}
-
-pub returns : goal.returns
-returns c =
-    lines_end c.loop-i.starts c.args.keyed.now c.loop-i.i _ _ c.loop-i-test.false c.loop-i.invariant.whole
+loop-i-preserved c =
+    let x = c.index-keyed-i.result in
+    let ends =
+    ends-front c.loop-i.from c.loop-i.i _ c.args.keyed.now x c.loop-i-test.true c.index-keyed-i.is
+    c.loop-i.invariant.ends in
+    record {
+      inside = omega (arith, c.loop-i-test.true);
+      ends = ends.1;
+      whole =
+          line_more c.loop-i.starts c.loop-i.from c.args.events.now c.args.keyed.now c.loop-i.i x _ _ _ _
+          c.loop-i-test.true c.index-keyed-i.is ends.0 c.in_ok-push_comment_if.ensures c.in_ok-push_events.ensures
+          c.loop-i.invariant.whole;
+    }

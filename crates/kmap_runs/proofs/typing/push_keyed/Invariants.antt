@@ -1,4 +1,5 @@
 use Rattle.std.proofs.Common.{◌≡◌, ◌≤◌, ◌++◌, ◌-◌, true, length, drop}
+use Rattle.console_core.specs.Typing.{AreEnds}
 use Rattle.kmap_runs.specs.Typing.{lines_from}
 use Rattle.kmap_runs.proofs.typing.push_keyed.Given as goal
 
@@ -6,7 +7,9 @@ use Rattle.kmap_runs.proofs.typing.push_keyed.Given as goal
 abbrev pub invariant-loop-i : goal.invariant-loop-i
 invariant-loop-i l = record {
   inside : l.i ≤ length l.keyed;
-  whole : l.text.items ++ lines_from l.starts (drop l.i l.keyed) ≡ l.fn.text.items ++ lines_from true l.keyed;
+  ends : AreEnds l.from (drop l.i l.keyed) (length l.events);
+  whole : l.text.items ++ lines_from l.starts l.from (drop l.from l.events) (drop l.i l.keyed)
+      ≡ l.fn.text.items ++ lines_from true 0 l.events l.keyed;
 }
 
 abbrev pub decreases-loop-i : goal.decreases-loop-i

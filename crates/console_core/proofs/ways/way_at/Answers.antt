@@ -1,6 +1,6 @@
 use Rattle.std.proofs.Common.{subst, sym}
 use Rattle.console_core.specs.Inner.Exploring.{HasTap, IsTapAt}
-use Rattle.console_core.proofs.typing.way_at.Goals as goal
+use Rattle.console_core.proofs.ways.way_at.Goals as goal
 
 pub returns-in-Some : goal.returns-in-Some
 returns-in-Some c =

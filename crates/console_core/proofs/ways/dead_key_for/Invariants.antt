@@ -2,7 +2,7 @@
 use Rattle.std.proofs.Common.{◌≡◌, ◌<◌, ◌≤◌, ◌-◌, ℕ, false}
 use Rattle.console_core.specs.declared.explored.Symbol.{Symbol}
 use Rattle.console_core.specs.Inner.Exploring.{CanAccent}
-use Rattle.console_core.proofs.typing.dead_key_for.Given as goal
+use Rattle.console_core.proofs.ways.dead_key_for.Given as goal
 
 abbrev pub invariant-loop-accent : goal.invariant-loop-accent
 invariant-loop-accent l = record {

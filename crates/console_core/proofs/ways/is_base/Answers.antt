@@ -1,6 +1,6 @@
 use Rattle.std.proofs.Common.{Some, ap, subst, sym, ◌∙◌}
 use Rattle.console_core.specs.Inner.Exploring.{HasTap}
-use Rattle.console_core.proofs.typing.is_base.Goals as goal
+use Rattle.console_core.proofs.ways.is_base.Goals as goal
 
 pub returns-then-made-c-clause-base : goal.returns-then-made-c-clause-base
 returns-then-made-c-clause-base c =

@@ -2,7 +2,7 @@ use Rattle.std.proofs.Common.{inl, inr, subst, sym, arith}
 use Rattle.console_core.specs.Inner.Exploring.{CanAccent}
 use Rattle.console_core.proofs.Bases.{usable-below}
 use Rattle.console_core.proofs.Searching.{place_last}
-use Rattle.console_core.proofs.typing.dead_key_for.Goals as goal
+use Rattle.console_core.proofs.ways.dead_key_for.Goals as goal
 
 pub loop-accent-preserved : goal.loop-accent-preserved
 loop-accent-preserved c =

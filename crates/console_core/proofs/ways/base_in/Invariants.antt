@@ -3,7 +3,7 @@ use Rattle.std.proofs.Common.{◌≡◌, ℕ, false, take}
 use Rattle.std.specs.List.{Contains}
 use Rattle.console_core.specs.declared.explored.Symbol.TheVariants as symbol
 use Rattle.console_core.specs.Inner.Exploring.{IsBase}
-use Rattle.console_core.proofs.typing.base_in.Given as goal
+use Rattle.console_core.proofs.ways.base_in.Given as goal
 
 abbrev pub invariant-loop-pair : goal.invariant-loop-pair
 invariant-loop-pair l =

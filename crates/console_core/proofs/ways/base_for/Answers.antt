@@ -1,5 +1,5 @@
 use Rattle.console_core.proofs.Bases.{base-cases}
-use Rattle.console_core.proofs.typing.base_for.Goals as goal
+use Rattle.console_core.proofs.ways.base_for.Goals as goal
 
 pub returns-in-None : goal.returns-in-None
 returns-in-None c =

@@ -4,7 +4,7 @@ use Rattle.std.proofs.lemmas.List.{take_all, get_or_default}
 use Rattle.console_core.specs.declared.explored.Symbol.TheVariants as symbol
 use Rattle.console_core.specs.Inner.Exploring.{IsBase}
 use Rattle.console_core.proofs.RoutesHome.{before-next}
-use Rattle.console_core.proofs.typing.base_in.Goals as goal
+use Rattle.console_core.proofs.ways.base_in.Goals as goal
 
 pub loop-pair-preserved : goal.loop-pair-preserved
 loop-pair-preserved c =

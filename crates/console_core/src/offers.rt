@@ -5,7 +5,7 @@ ghost use Rattle.std.specs.List.{Contains};
 ghost use Rattle.keymap_core.specs.Numbers.{key_count};
 ghost use Rattle.console_core.specs.Answers.{usable};
 ghost use Rattle.console_core.specs.Moves.{alone, start};
-ghost use Rattle.console_core.specs.Inner.Searching.{state_of, under_of, AreWithin, Searched};
+ghost use Rattle.console_core.specs.Inner.Searching.{state_of, under_of, AreWithin, Searched, HasMetAll};
 ghost use Rattle.console_core.specs.Inner.Noting.{IsWith, AddsOffer, AddsOffers, AreAccentsOf, AreSelectionsOf};
 ghost use Rattle.console_core.specs.Inner.Noting.{IsOfferedUnlocked, AddsState, AreSeedsTo, AreBehind, AreComposing};
 ghost use Rattle.console_core.specs.Inner.Noting.{AreOffersOf};
@@ -150,10 +150,8 @@ fn selections_behind(
     all: &[Selection],
     accent: u8,
 ) -> Result<Vec<Selection>, AllocError>
-    requires one { under_of maps.now ≡ alone maps.now.first.now }
+    requires met { HasMetAll maps.now met.now.entries }
     requires usable { usable maps.now.first.now accent ≡ true }
-    requires searched { Searched (alone maps.now.first.now) start met.now.entries (length met.now.entries)
-        (length met.now.entries) }
     requires all { AreSelectionsOf met.now.entries all.now }
     ensures { IfOk result (λ v. AreComposing maps.now.first.now accent v.items) }
 {
@@ -183,9 +181,7 @@ fn offers_by(
     all: &[Selection],
     accents: &[u8],
 ) -> Result<Vec<Offer>, AllocError>
-    requires one { under_of maps.now ≡ alone maps.now.first.now }
-    requires searched { Searched (alone maps.now.first.now) start met.now.entries (length met.now.entries)
-        (length met.now.entries) }
+    requires met { HasMetAll maps.now met.now.entries }
     requires all { AreSelectionsOf met.now.entries all.now }
     requires usable { (a : ℕ) → Contains accents.now a → usable maps.now.first.now a ≡ true }
     ensures { IfOk result (λ offers. AreOffersOf maps.now.first.now accents.now offers.items) }
@@ -212,9 +208,7 @@ pub fn offers_of(
     maps: &Keymaps,
     all: &[Selection],
 ) -> Result<Vec<Offer>, AllocError>
-    requires one { under_of maps.now ≡ alone maps.now.first.now }
-    requires searched { Searched (alone maps.now.first.now) start met.now.entries (length met.now.entries)
-        (length met.now.entries) }
+    requires met { HasMetAll maps.now met.now.entries }
     requires all { AreSelectionsOf met.now.entries all.now }
     ensures { IfOk result (λ offers. (accents : List ℕ) × AreAccentsOf (alone maps.now.first.now) met.now.entries accents
         × AreOffersOf maps.now.first.now accents offers.items) }

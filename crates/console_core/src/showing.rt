@@ -6,15 +6,16 @@ ghost use Rattle.keymap_core.specs.Numbers.{key_count};
 ghost use Rattle.console_core.specs.declared.event.Event.TheVariants as event;
 ghost use Rattle.console_core.specs.declared.held.Move.{Move as MoveValue};
 ghost use Rattle.console_core.specs.History.{HasNoLoads};
-ghost use Rattle.console_core.specs.Moves.{Under, alone, events_along, start};
+ghost use Rattle.console_core.specs.Moves.{Under, alone, events_along};
 ghost use Rattle.console_core.specs.Returning.{AreEventsThatShow, SeesAllAlong};
 ghost use Rattle.console_core.specs.Sights.{Offers, SeesBy, selection_of};
 ghost use Rattle.console_core.specs.Sticking.{ReachesMoreThan, ReleasesPressedKeys, state_limit};
 ghost use Rattle.console_core.specs.Inner.Routes.{AllLeadHome, HasRoute, LeadsHome, IsMet};
-ghost use Rattle.console_core.specs.Inner.Searching.{state_of, under_of, Entry, GoBack, IsTrail, Searched};
+ghost use Rattle.console_core.specs.Inner.Searching.{state_of, under_of, Entry, GoBack, IsTrail, HasMetAll};
 ghost use Rattle.console_core.specs.Inner.Showing.{IsLookOf, IsAfter, IsGuide, Visits, ShowsAt, ShowsPairAt, Shows};
 
 use crate::event::Event;
+use crate::explored::KeyAt;
 use crate::held::{Held, Keymaps, Move};
 use crate::routes::{Routes, has_all, routes_home, state_at};
 use crate::search::{Met, all_states, entry};
@@ -28,13 +29,6 @@ struct Guide<'a> {
     maps: Keymaps<'a>,
     met: &'a Met,
     routes: &'a Routes,
-}
-
-/// A place where a state was met, and a key to press there.
-#[derive(Clone, Copy)]
-struct KeyAt {
-    place: usize,
-    key: KeyCode,
 }
 
 /// Adds the events of the moves in their order.
@@ -275,9 +269,7 @@ fn events_from(
     maps: &Keymaps,
     sights: &[Sight],
 ) -> Result<Vec<Event>, AllocError>
-    requires one { under_of maps.now ≡ alone maps.now.first.now }
-    requires searched { Searched (alone maps.now.first.now) start met.now.entries (length met.now.entries)
-        (length met.now.entries) }
+    requires { HasMetAll maps.now met.now.entries }
     ensures { IfOk result (λ events. AreEventsThatShow maps.now.first.now sights.now (reverse events.items)) }
 {
     let routes = routes_home(alloc, met, maps)?;

@@ -1,10 +1,10 @@
 //! What presses of keys can see: what is noted of the states that the search meets.
-ghost use Rattle.std.specs.Prelude.{◌≡◌, ℕ, false, true, length, Some, slice_get, OnOk, IfOk, MatchOption};
+ghost use Rattle.std.specs.Prelude.{◌≡◌, ℕ, false, true, Some, slice_get, OnOk, IfOk, MatchOption};
 ghost use Rattle.std.specs.List.{Contains};
-ghost use Rattle.console_core.specs.Moves.{alone, start, IsForgetful};
+ghost use Rattle.console_core.specs.Moves.{alone, IsForgetful};
 ghost use Rattle.console_core.specs.Sticking.{ReachesMoreThan, state_limit};
 ghost use Rattle.console_core.specs.Sights.{AreSightsOf, IsReachable, can_see, is_selected, is_composed};
-ghost use Rattle.console_core.specs.Inner.Searching.{state_of, under_of, Entry, Searched};
+ghost use Rattle.console_core.specs.Inner.Searching.{state_of, under_of, Entry, HasMetAll};
 ghost use Rattle.console_core.specs.Inner.Noting.{IsWith, AreSelectionsOf};
 
 use crate::held::{Held, Keymaps};
@@ -124,9 +124,7 @@ impl Sights {
 
 /// What is noted of the states that were met, which are all.
 fn noted(alloc: Global, met: &Met, maps: &Keymaps) -> Result<Sights, AllocError>
-    requires one { under_of maps.now ≡ alone maps.now.first.now }
-    requires searched { Searched (alone maps.now.first.now) start met.now.entries (length met.now.entries)
-        (length met.now.entries) }
+    requires { HasMetAll maps.now met.now.entries }
     ensures { IfOk result (λ x. AreSightsOf maps.now.first.now x) }
 {
     let selections = selections_of(alloc, met)?;

@@ -26,7 +26,7 @@ use Rattle.console_core.specs.declared.outcome.Sticking.{Sticking}
 use Rattle.console_core.specs.declared.outcome.Sticking.TheVariants.{Sticks, Never, Undecided}
 use Rattle.console_core.specs.History.{between, in_force, is_on_after, HasKeys, HasNoLoads}
 use Rattle.console_core.specs.Headline.{IsOnOnlyWhilePressed, IsOffOnceQuiet}
-use Rattle.console_core.specs.Moves.{Under, State, start, look_in, Holds, IsIdle, HolderForgets, IsForgetful, IsMove}
+use Rattle.console_core.specs.Moves.{Under, alone, State, start, look_in, Holds, IsIdle, HolderForgets, IsForgetful, IsMove}
 use Rattle.console_core.specs.Moves.{moved, presses_of, presses_along, state_from, IsPathFrom}
 use Rattle.console_core.specs.Moves.{state_after, script_of_path, with_holder, with_lock_turned}
 use Rattle.console_core.specs.Sticking.{SticksBetween, ReachesMoreThan, ReachesMoreThanFrom, ReleasesPressedKeys}
@@ -140,6 +140,10 @@ pub record Searched (u : Under) (o : State) (es : Entries) (pressed_to closed_to
   pub reached : (j : ℕ) (x : Entry) → slice_get es j ≡ Some x → IsReached u o es j x
   pub pressed : (j : ℕ) (x : Entry) → slice_get es j ≡ Some x → j < pressed_to → IsPressed u es x
   pub closed : (j : ℕ) (x : Entry) → slice_get es j ≡ Some x → j < closed_to → IsClosed u es x
+
+-- a search of one keymap, without loads, met all states that moves lead to from the start
+abbrev pub HasMetAll : Keymaps → Entries → Type 0
+HasMetAll x es = (under_of x ≡ alone x.first.now) × Searched (alone x.first.now) start es (length es) (length es)
 
 -- in the states below the place no holder looks up a character
 abbrev pub AreSafe : Under → Entries → ℕ → Type 0

@@ -11,8 +11,8 @@ returns-in_ok-extend_from_slice c =
     let all = c.args.all.now in
     let same : c.extend_from_slice.new.self.items ≡ all =
     c.in_ok-extend_from_slice.ensures.items ∙ ap (λ z. z ++ all) c.new-selections.ensures.items in
-    composing-all m c.args.accent met c.extend_from_slice.new.self.items c.requires.searched c.requires.usable
-    (subst (λ u. IsOfferedUnlocked u met c.args.accent) c.requires.one (c.if-is_offered_unlocked.ensures refl))
+    composing-all m c.args.accent met c.extend_from_slice.new.self.items c.requires.met.1 c.requires.usable
+    (subst (λ u. IsOfferedUnlocked u met c.args.accent) c.requires.met.0 (c.if-is_offered_unlocked.ensures refl))
     (subst (λ z. AreSelectionsOf met z) (sym same) c.requires.all)
 
 pub returns-in_ok-states : goal.returns-in_ok-states
@@ -22,5 +22,5 @@ returns-in_ok-states c =
     let es = c.in_ok-states.states.entries in
     ok-then c.selections_of.result
     (λ v are.
-    composing-behind m c.args.accent met es v.items c.requires.searched
-    (subst (λ u. AreBehind u c.args.accent met es) c.requires.one c.in_ok-states.ensures) are) c.selections_of.ensures
+    composing-behind m c.args.accent met es v.items c.requires.met.1
+    (subst (λ u. AreBehind u c.args.accent met es) c.requires.met.0 c.in_ok-states.ensures) are) c.selections_of.ensures

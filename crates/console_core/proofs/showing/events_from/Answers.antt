@@ -14,10 +14,10 @@ returns c =
     let routes = c.in_ok-routes.routes.entries in
     let none : reverse c.new.result.items ≡ [] = ap reverse c.new.ensures.items in
     let settled : AreSettled (alone m) es routes =
-    subst (λ u. AreSettled u es routes) c.requires.one
-    (c.in_ok-routes.ensures.all (ap (λ u. u.has_loads) c.requires.one)) in
+    subst (λ u. AreSettled u es routes) c.requires.0
+    (c.in_ok-routes.ensures.all (ap (λ u. u.has_loads) c.requires.0)) in
     let (j, x, at, away) = c.has_all.ensures.one c.if-has_all.false in (
       subst HasNoLoads (sym none) (All-nil IsNoLoad),
       subst ReleasesPressedKeys (sym none) tt,
-      (λ returns. absurd (never-home m es routes c.requires.searched settled j x at away returns)),
+      (λ returns. absurd (never-home m es routes c.requires.1 settled j x at away returns)),
     )

@@ -18,10 +18,10 @@ returns c =
       offers = c.in_ok-offers.offers;
       forgets = c.forgets_in.result;
     } in
-    sights-are m c.args.met.now.entries x c.in_ok-offers.ensures.0 c.requires.searched c.in_ok-selections.ensures
+    sights-are m c.args.met.now.entries x c.in_ok-offers.ensures.0 c.requires.1 c.in_ok-selections.ensures
     c.in_ok-offers.ensures.1 c.in_ok-offers.ensures.2
     (λ e.
     let (j, z, at, is) = c.forgets_in.ensures.some e in
-    (j, z, at, subst (λ u. IsForgetful u (state_of z.0)) c.requires.one is))
+    (j, z, at, subst (λ u. IsForgetful u (state_of z.0)) c.requires.0 is))
     (λ e j z at is.
-    c.forgets_in.ensures.none e j z at (subst (λ u. IsForgetful u (state_of z.0)) (sym c.requires.one) is))
+    c.forgets_in.ensures.none e j z at (subst (λ u. IsForgetful u (state_of z.0)) (sym c.requires.0) is))

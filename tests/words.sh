@@ -63,7 +63,7 @@ def is_told(words):
 
 found = {name: is_told(words) for name, words in messages.items()}
 for name, _ in lists:
-    found[name] = ", ".join(names[:-1]) + " and " + names[-1] in section
+    found[name] = ", ".join(names[:-1]) + " and " + names[-1] in " ".join(section.split())
 for name, is_found in found.items():
     print("good" if is_found else "bad", name)
 PYTHON

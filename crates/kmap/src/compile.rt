@@ -1,7 +1,7 @@
 //! `kmap compile`: the table file of a text takes the place of OUT.
 use crate::inputs::{buffered, opened_file};
 use crate::program::{Failure, run_outcome};
-use crate::replace::{ReplaceFault, is_same, replace};
+use crate::replace::{ReplaceFault, Replacement, is_same};
 use keymap_core::{ToStd, write_text};
 use keymap_tables::{NARROW_FILE, WIDE_FILE};
 use kmap_runs::{RunError, compile_narrow_run, compile_run};
@@ -75,8 +75,7 @@ where
     R: AllocGlobal + Files<File = File>,
 {
     if is_replaceable(rt, out) {
-        let old = fs::metadata(rt, out).ok();
-        match replace(rt, out, old, SUFFIX, table) {
+        match replace_tables(rt, table, out) {
             Err(ReplaceFault::TakesNone(_)) => {}
             Err(fault) => return Err(failure_of(out, fault)),
             Ok(()) => return Ok(()),
@@ -88,13 +87,26 @@ where
     run_outcome(write_text(&mut ToStd::new(file), table).map_err(RunError::Write))
 }
 
+fn replace_tables<R>(rt: &R, table: &[u8], out: &str) -> Result<(), ReplaceFault>
+where
+    R: AllocGlobal + Files<File = File>,
+{
+    let old = fs::metadata(rt, out).ok();
+    let (replacement, mut file) = Replacement::create(rt, out, old, SUFFIX)?;
+    let written = match write_text(&mut ToStd::new(&mut file), table) {
+        Ok(()) => Ok(table.len() as u64),
+        Err(fault) => Err(RunError::Write(fault)),
+    };
+    replacement.finish(rt, &file, written)
+}
+
 /// Why no table file of this name was written.
 fn failure_of<'a>(out: &'a str, fault: ReplaceFault) -> Failure<'a> {
     match fault {
         ReplaceFault::Memory => Failure::Run(RunError::Memory),
         ReplaceFault::NotWritable | ReplaceFault::TakesNone(_) | ReplaceFault::CannotCreate(_) =>
             Failure::CannotCreate(out),
-        ReplaceFault::Write(fault) => Failure::Run(RunError::Write(fault)),
+        ReplaceFault::Write(error) => Failure::Run(error),
         ReplaceFault::CannotReplace => Failure::CannotReplace(out),
     }
 }

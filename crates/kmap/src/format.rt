@@ -3,8 +3,8 @@ use crate::command_line::FmtMode;
 use crate::inputs::{Source, buffered, given, is_standard_input, opened_file};
 use crate::output::Output;
 use crate::program::{Failure, is_well, of_many, report_name};
-use crate::replace::{ReplaceFault, replace};
-use keymap_core::{Write, put};
+use crate::replace::{ReplaceFault, Replacement};
+use keymap_core::{ToStd, Write, put, write_text};
 use kmap_runs::{RunError, fmt_print_run, fmt_run};
 use std::fs;
 use std::fs::{File, Files, Metadata};
@@ -66,7 +66,7 @@ where
         if replaced.reserve(1).is_err() {
             return Err(Failure::Run(RunError::Memory));
         }
-        match replace(rt, text, Some(old), SUFFIX, laid.as_slice()) {
+        match replace(rt, text, old, laid.as_slice()) {
             Ok(()) => {
                 let _ = replaced.push(text);
                 tell(rt, text)?;
@@ -135,13 +135,25 @@ fn laid_out<'a, R: AllocGlobal, F: Read + Drop>(
     }
 }
 
+fn replace<R>(rt: &R, text: &str, old: Metadata, laid: &[u8]) -> Result<(), ReplaceFault>
+where
+    R: AllocGlobal + Files<File = File>,
+{
+    let (replacement, mut file) = Replacement::create(rt, text, Some(old), SUFFIX)?;
+    let written = match write_text(&mut ToStd::new(&mut file), laid) {
+        Ok(()) => Ok(laid.len() as u64),
+        Err(fault) => Err(RunError::Write(fault)),
+    };
+    replacement.finish(rt, &file, written)
+}
+
 fn failure_of<'a>(text: &'a str, fault: ReplaceFault) -> Failure<'a> {
     match fault {
         ReplaceFault::Memory => Failure::Run(RunError::Memory),
         ReplaceFault::TakesNone(name) | ReplaceFault::CannotCreate(name) => {
             Failure::CannotCreateNew(name)
         }
-        ReplaceFault::Write(fault) => Failure::OfFile(text, RunError::Write(fault)),
+        ReplaceFault::Write(error) => Failure::OfFile(text, error),
         ReplaceFault::NotWritable | ReplaceFault::CannotReplace => Failure::CannotReplace(text),
     }
 }

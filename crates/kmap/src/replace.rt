@@ -4,7 +4,8 @@
 //! Whoever may write the folder can put another file under a name at any time. So the new file gets its owner, group
 //! and rights by its descriptor, before a byte is in it, and takes the place of the old one only if both names still
 //! stand for what was looked at.
-use keymap_core::{ToStd, WriteFault, write_text};
+use keymap_core::WriteFault;
+use kmap_runs::RunError;
 use std::alloc::{AllocError, Global};
 use std::fs::{File, Files, Metadata, OpenOptions, Permissions};
 use std::os::unix::fs::{MetadataExt, OpenOptionsExt, PermissionsExt, fchown};
@@ -21,7 +22,7 @@ pub(crate) enum ReplaceFault {
     /// The new file, which was to have this name, can't be made.
     CannotCreate(String),
     /// The new file can't be written or flushed.
-    Write(WriteFault),
+    Write(RunError),
     /// The new file can't get the owner, the rights or the name of the old one.
     CannotReplace,
 }
@@ -109,25 +110,11 @@ fn why_not_created(name: String, why: io::ErrorKind) -> ReplaceFault {
     }
 }
 
-/// Writes bytes into a new file, which takes the place of the file of this name, of which this is known if there is one.
-/// The new file has the suffix behind that name until then.
-pub(crate) fn replace<R: AllocGlobal + Files<File = File>>(
-    rt: &R,
-    name: &str,
-    old: Option<Metadata>,
-    suffix: &str,
-    bytes: &[u8],
-) -> Result<(), ReplaceFault> {
-    let (replacement, mut file) = Replacement::create(rt, name, old, suffix)?;
-    let written = write_text(&mut ToStd::new(&mut file), bytes);
-    replacement.finish(rt, &file, written, bytes.len() as u64)
-}
-
 impl Replacement {
     /// Makes a new file without a byte, which is to replace the file of this name. It has the owner, group and rights
     /// of the old one, and stands beside it with the suffix behind its name; where others have that name, also a
     /// number.
-    fn create<R: AllocGlobal + Files<File = File>>(
+    pub(crate) fn create<R: AllocGlobal + Files<File = File>>(
         rt: &R,
         name: &str,
         old: Option<Metadata>,
@@ -202,18 +189,14 @@ impl Replacement {
         }
     }
 
-    /// Puts the new file in the place of the old one, if all of its bytes were written, and else removes it.
-    fn finish<R: Files>(
+    /// Puts the new file in the place of the old one, if so many bytes were written, and else removes it.
+    pub(crate) fn finish<R: Files>(
         &self,
         rt: &R,
         file: &File,
-        written: Result<(), WriteFault>,
-        size: u64,
+        written: Result<u64, RunError>,
     ) -> Result<(), ReplaceFault> {
-        let outcome = match written {
-            Ok(()) => self.put_in_place(rt, file, size),
-            Err(fault) => Err(ReplaceFault::Write(fault)),
-        };
+        let outcome = self.put_in_place(rt, file, written);
         if outcome.is_err() {
             self.remove(rt, file);
         }
@@ -224,10 +207,14 @@ impl Replacement {
         &self,
         rt: &R,
         file: &File,
-        written: u64,
+        written: Result<u64, RunError>,
     ) -> Result<(), ReplaceFault> {
+        let written = match written {
+            Ok(written) => written,
+            Err(error) => return Err(ReplaceFault::Write(error)),
+        };
         if file.sync_all().is_err() {
-            return Err(ReplaceFault::Write(WriteFault { written }));
+            return Err(ReplaceFault::Write(RunError::Write(WriteFault { written })));
         }
         if self.is_named(rt, file) && self.is_target_as_it_was(rt) {
             match rt.rename(self.name.as_str(), self.target.as_str()) {

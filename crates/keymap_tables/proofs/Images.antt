@@ -275,7 +275,8 @@ module _ (l : Layout) (m : MapValue) (is : IsMap m) (fits : FitsIn l m) where
   pub accent-part : (i : ℕ) → i < 15
       → part (image_in l m) (accents_place l + accent_size l * i) (accent_size l) ≡ accent_bytes l (accent_or_blank m i)
   accent-part i below =
-      let place : accents_place l + accent_size l * i ≡ n_accs_place l + (count_size l + accent_size l * i) = omega arith in
+      let place : accents_place l + accent_size l * i ≡ n_accs_place l + (count_size l + accent_size l * i) =
+      omega arith in
       ap (λ (k : ℕ). part (image_in l m) k (accent_size l)) place
       ∙ ap (take (accent_size l)) (sym (drop-drop (count_size l + accent_size l * i) (n_accs_place l) (image_in l m))
       ∙ ap (drop (count_size l + accent_size l * i)) image-back)

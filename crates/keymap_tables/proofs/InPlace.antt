@@ -36,8 +36,8 @@ pub result-none : (accent : AccentValue) (i base : ℕ) → length accent.pairs 
 result-none accent i base past = ap (λ (v : List (ℕ × ℕ)). first_result v base) (drop_all i accent.pairs past)
 
 -- What is read at a pair, in the bytes of an accent.
-module _ (bytes : List ℕ) (a : AccentValue) (is : IsAccent a) (same : bytes ≡ accent_bytes wide a) (i n : ℕ) (room : i < 52)
-    (read : n ≡ number_at wide bytes (4 * (1 + 2 * i))) where
+module _ (bytes : List ℕ) (a : AccentValue) (is : IsAccent a) (same : bytes ≡ accent_bytes wide a) (i n : ℕ)
+    (room : i < 52) (read : n ≡ number_at wide bytes (4 * (1 + 2 * i))) where
   pub base-of : (get_or a.pairs i (0, 0)).0 ≡ n
   base-of =
       sym (read ∙ ap (λ (v : List ℕ). base_at wide v i) same ∙ base-in wide a (is, accent-wide a is) i room)

@@ -160,7 +160,8 @@ module _ (w : Width) (fault_in : ℕ → ℕ → Option TableFaultKind) (size co
     number-fails i f some used is before fault =
         let here : size * i + 0 ≡ f.offset = omega arith in
         record {
-          here = subst (λ (p : ℕ). rows_fault (λ i. number_fault w (fault_in i)) size count behind bytes p ≡ Some f.kind)
+          here =
+              subst (λ (p : ℕ). rows_fault (λ i. number_fault w (fault_in i)) size count behind bytes p ≡ Some f.kind)
               here (row-at (λ i. number_fault w (fault_in i)) size count behind bytes i 0 used some ∙ fault);
           before = λ p below. before p (omega arith);
         }

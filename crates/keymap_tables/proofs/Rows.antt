@@ -136,7 +136,8 @@ module _ {X : Type 0} (f : X → List ℕ) (size : ℕ) where
   pub rows-all : (blank : X) (n : ℕ) (xs : List X) (i : ℕ) → length xs ≤ n → n ≤ i → f blank ≡ zeros size
       → flat_map f (take i (filled blank n xs)) ≡ rows_bytes f size n xs
   rows-all blank n xs i few past empty =
-      rw (take_all i (filled blank n xs) (omega (arith, length-filled blank n xs few))) (flat_map-filled blank n xs empty)
+      rw (take_all i (filled blank n xs) (omega (arith, length-filled blank n xs few)))
+      (flat_map-filled blank n xs empty)
 
   -- all rows, cut after one
   pub rows-cut : (blank : X) (n : ℕ) (xs : List X) (i : ℕ) (x : X) (text : List ℕ) → x ≡ get_or xs i blank

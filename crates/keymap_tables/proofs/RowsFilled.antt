@@ -124,6 +124,6 @@ file-of t m n k s keys accs =
     ∙ flat_map-filled (accent_bytes wide) 420 blank 15 m.accents refl in
     let first : n ≡ count_bytes wide (length m.entries) = keys ∙ ap (count_bytes wide) s.n_keys in
     let third : k ≡ count_bytes wide (length m.accents) = accs ∙ ap (count_bytes wide) s.n_accs in
-    rw (first, slots, third, accents) (append_assoc (table_bytes wide (slot_bytes wide) 36 256 m.entries) (count_bytes wide (length m.accents))
-    (rows_bytes (accent_bytes wide) 420 15 m.accents)
+    rw (first, slots, third, accents) (append_assoc (table_bytes wide (slot_bytes wide) 36 256 m.entries)
+    (count_bytes wide (length m.accents)) (rows_bytes (accent_bytes wide) 420 15 m.accents)
     ∙ sym (image-parts wide m))

@@ -31,9 +31,7 @@ use keymap_check::laws::safe_maps_keep_their_promise;
 use keymap_draw::laws::{pictures_are_plain, pictures_are_well_formed, pictures_tell_keymaps};
 use keymap_fmt::laws::keymap_stays;
 use keymap_lint::laws::well_texts_never_stick;
-use keymap_tables::laws::{
-    an_image_has_one_map, each_map_fits_in_a_table_file, images_are_whole,
-};
+use keymap_tables::laws::{an_image_has_one_map, each_map_fits_in_a_table_file, images_are_whole};
 use keymap_text::laws::printed_form_spells;
 
 /// What is printed to type characters is a script that delivers exactly the events that type them.

@@ -261,7 +261,7 @@ fn key_map_accent(rt: HostRuntime) -> Result<(), Fail> {
 fn key_map_accent_or_blank(rt: HostRuntime) -> Result<(), Fail> {
     let map: KeyMap = no_keys(rt.alloc())?;
     let accent: &Accent = map.accent_or_blank(14);
-    expect_equal(&rt, accent, &Accent::new('\0'));
+    expect_equal(&rt, &accent.own(), &'\0');
     Ok(())
 }
 

@@ -24,7 +24,7 @@ pub record IsFirstWideNumber (number : ℕ → ℕ) (size index : ℕ) : Type 0 
   pub before : (k : ℕ) → k < index → number k ≤ 255
 
 -- the first row that doesn't fit, and the first of its numbers above 255
-pub record IsFirstWideRow {X : Type 0} (RowFits : X → Type 0) (number : X → ℕ → ℕ) (size : ℕ) (rows : List X) (blank : X)
-    (row index : ℕ) : Type 0 where
+pub record IsFirstWideRow {X : Type 0} (RowFits : X → Type 0) (number : X → ℕ → ℕ) (size : ℕ) (rows : List X)
+    (blank : X) (row index : ℕ) : Type 0 where
   pub here : IsFirstWideNumber (number (slice_index_or rows row blank)) size index
   pub before : (i : ℕ) → i < row → RowFits (slice_index_or rows i blank)

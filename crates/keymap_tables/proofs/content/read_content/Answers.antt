@@ -36,12 +36,13 @@ returns-in-Err-clause-fault g c =
     taken.0 taken.3 taken.1 in
     let front : HasNoFault (table_fault c.args.layout (slot_fault c.args.layout) (slot_size c.args.layout) 256
     (take (n_accs_place c.args.layout) c.args.bytes.now)) (n_accs_place c.args.layout) =
-    λ p below. ap (λ (v : List ℕ). table_fault c.args.layout (slot_fault c.args.layout) (slot_size c.args.layout) 256 v p)
+    λ p below.
+    ap (λ (v : List ℕ). table_fault c.args.layout (slot_fault c.args.layout) (slot_size c.args.layout) 256 v p)
     (sym head ∙ taken.2) ∙ sound p in
     split-fails_behind (n_accs_place l) (table_fault l (slot_fault l) (slot_size l) 256)
     (table_fault l (accent_fault l) (accent_size l) 15) bytes _ _ c.in-Err.fault _
-    (cut-rest bytes (n_accs_place l) _ c.n_accs_at-n_accs_at.ensures) c.n_accs_at-n_accs_at.ensures front c.in-Err.ensures.fault.0
-    c.after.ensures
+    (cut-rest bytes (n_accs_place l) _ c.n_accs_at-n_accs_at.ensures) c.n_accs_at-n_accs_at.ensures front
+    c.in-Err.ensures.fault.0 c.after.ensures
 
 pub returns-in-Ok-clause-taken : goal.returns-in-Ok-clause-taken
 returns-in-Ok-clause-taken g c =
@@ -64,8 +65,8 @@ returns-in-Ok-clause-taken g c =
       },
       sym (take-append-drop c.n_accs_at-n_accs_at.result bytes)
           ∙ ap (λ (v : List ℕ). v ++ drop c.n_accs_at-n_accs_at.result c.args.bytes.now) slots.2
-          ∙ ap (λ (v : List ℕ). table_bytes c.args.layout (slot_bytes c.args.layout) (slot_size c.args.layout) 256 slots.0
-          ++ v)
+          ∙ ap (λ (v : List ℕ). table_bytes c.args.layout (slot_bytes c.args.layout) (slot_size c.args.layout) 256
+          slots.0 ++ v)
           (sym (cut-rest bytes c.n_accs_at-n_accs_at.result c.n_accs_at-n_accs_at.result refl) ∙ accents.2)
           ∙ sym (image-parts l m),
       λ start. accents.4 (made_of slots.0 []) (slots.4 (made_of [] []) start),

@@ -41,8 +41,8 @@ returns-in-Err-clause-fault g c =
     (count-sound l most c.in_ok-count.count (omega (arith, c.in_ok-count.ensures.few, c.MOST.ensures)) (omega arith)) in
     let fault =
     subst (λ (k : ℕ). IsFirstFault (used_fault (g.R.Row.faults c.args.layout) (g.R.Row.size c.args.layout) k
-    (take (length c.args.bytes.now - c.count-at.result) (drop c.count-at.result c.args.bytes.now))) c.in-Err.fault) count
-    c.in-Err.ensures.fault.0 in (
+    (take (length c.args.bytes.now - c.count-at.result) (drop c.count-at.result c.args.bytes.now))) c.in-Err.fault)
+    count c.in-Err.ensures.fault.0 in (
       split-fails_behind (count_size l) (count_fault most) (used_fault (g.R.Row.faults l) size (count_at bytes 0)) bytes
           _ _ c.in-Err.fault _ (cut-rest bytes (count_size l) _ c.count-at.ensures) c.count-at.ensures front fault
           c.after.ensures,

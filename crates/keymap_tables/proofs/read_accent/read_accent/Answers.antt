@@ -86,8 +86,8 @@ returns-in_err-composed-clause-fault c =
     let i = c.loop-pair.pair in
     err_passed _ _ _ c.from_residual-in_err-composed.ensures.1
     (fails c.args.layout c.args.bytes.now (2 + 2 * i) (omega arith)
-    (passes c.args.layout c.args.bytes.now (1 + 2 * i) (omega arith) c.loop-pair.invariant.sound (2 + 2 * i) (omega arith)
-    c.in_ok-base.ensures.sound)
+    (passes c.args.layout c.args.bytes.now (1 + 2 * i) (omega arith) c.loop-pair.invariant.sound (2 + 2 * i)
+    (omega arith) c.in_ok-base.ensures.sound)
     (omega (arith, few, counted)) _ c.in_err-composed.ensures.fault.0 c.in_err-composed.ensures.fault.1)
 
 pub loop-pair-preserved : goal.loop-pair-preserved
@@ -117,7 +117,8 @@ loop-pair-preserved c =
           (c.in_ok-base.ensures.known, some, c.in_ok-composed.ensures.known));
       fits =
           subst (AccentFits l) (sym pushed)
-          (pair-fits l _ _ _ c.loop-pair.invariant.fits (rw base (number-fits l bytes (number_size l * (1 + 2 * i)) small))
+          (pair-fits l _ _ _ c.loop-pair.invariant.fits
+          (rw base (number-fits l bytes (number_size l * (1 + 2 * i)) small))
           (rw composed (number-fits l bytes (number_size l * (2 + 2 * i)) small)));
       sound =
           passes l bytes (2 + 2 * i) (omega arith)
@@ -135,7 +136,8 @@ returns-in_err-check_zeros-clause-fault c =
     let place = ap (λ (k : ℕ). k * (1 + 2 * n)) c.number.ensures in
     let counted = ap (λ (k : ℕ). number_size c.args.layout * (1 + 2 * k)) c.count_pairs-pairs.ensures.value in
     let so_far =
-    upto (accent_fault l bytes) (number_size l) _ (1 + 2 * n) (ap (λ (k : ℕ). 1 + 2 * k) last) c.loop-pair.invariant.sound in
+    upto (accent_fault l bytes) (number_size l) _ (1 + 2 * n) (ap (λ (k : ℕ). 1 + 2 * k) last)
+    c.loop-pair.invariant.sound in
     err_passed _ _ _ c.from_residual-in_err-check_zeros.ensures.1 (
       first-past NotEmpty (accent_fault l bytes) bytes _ (accent_size l) _
           (λ p past inside. row-past (λ k. number_fault (number_width l) char_fault) (number_size l)

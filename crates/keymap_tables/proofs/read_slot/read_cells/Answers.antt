@@ -32,7 +32,8 @@ loop-column-preserved c =
       marks = marks-more _ _ _ _ (omega arith) (omega arith) c.loop-column.invariant.marks c.in-Ok.ensures.mark;
       sound =
           number-passes (number_width layout) (λ column n. cell_fault n (is_marked_at layout bytes column))
-          (number_size layout) 8 (slot_end_fault layout bytes) bytes i (omega arith) c.loop-column.invariant.sound clean;
+          (number_size layout) 8 (slot_end_fault layout bytes) bytes i (omega arith) c.loop-column.invariant.sound
+          clean;
     }
 
 pub returns-in-Err-clause-fault : goal.returns-in-Err-clause-fault

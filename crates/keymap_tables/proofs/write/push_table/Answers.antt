@@ -86,7 +86,7 @@ returns-clause-bytes g c start text gathers =
     let count = count_bytes c.args.layout (length rows) in
     Gathers-same _
     (ap (λ (v : List ℕ). (text ++ count) ++ v)
-    (rows-all image size g.R.Row.blank g.R.Row.MOST rows c.loop-index.index (omega (arith, c.count.ensures)) (omega arith)
-    c.requires.empty)
+    (rows-all image size g.R.Row.blank g.R.Row.MOST rows c.loop-index.index (omega (arith, c.count.ensures))
+    (omega arith) c.requires.empty)
     ∙ append_assoc text count (rows_bytes image size g.R.Row.MOST rows))
     (c.loop-index.invariant.pushed start text gathers)

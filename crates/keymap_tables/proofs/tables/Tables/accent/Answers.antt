@@ -3,7 +3,9 @@ use Rattle.keymap_tables.proofs.AtPlaces.{accents-counted}
 use Rattle.keymap_tables.proofs.Images.{accent-part}
 use Rattle.keymap_tables.proofs.ReadingLaws.{map-wide}
 use Rattle.keymap_tables.proofs.Rows.{cut}
-use Rattle.keymap_tables.proofs.tables.Tables.accent.Goals.{else-index-lt-ACCENT_LIMIT-via-then-index-lt-ACCENT_LIMIT+else-index-n_accs}
+use Rattle.keymap_tables.proofs.tables.Tables.accent.Goals.{
+  else-index-lt-ACCENT_LIMIT-via-then-index-lt-ACCENT_LIMIT+else-index-n_accs,
+}
 use Rattle.keymap_tables.proofs.tables.Tables.accent.Goals.{else-index-lt-ACCENT_LIMIT-via-else-index-lt-ACCENT_LIMIT}
 use Rattle.keymap_tables.proofs.tables.Tables.accent.Goals as goal
 

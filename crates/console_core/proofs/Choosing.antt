@@ -18,9 +18,11 @@ use Rattle.console_core.specs.Sticking.{ReachesMoreThan, ReachesMoreThanFrom, st
 use Rattle.console_core.specs.Typing.{CanTap, CanType, ComesHome, IsTapOf}
 use Rattle.console_core.specs.Inner.Routes.{HasRoute}
 use Rattle.console_core.specs.Inner.Exploring.{map_of_explored, origin_in, IsStand, HasTap, IsStroke}
-use Rattle.console_core.specs.Inner.Exploring.{IsView, CanAccent, IsAccented, LeadsByTap, Leads, TypesOne, plain_tap, dead_tap}
+use Rattle.console_core.specs.Inner.Exploring.{IsView, CanAccent, IsAccented, LeadsByTap, Leads, TypesOne, plain_tap}
+use Rattle.console_core.specs.Inner.Exploring.{dead_tap}
 use Rattle.console_core.specs.Inner.Searching.{state_of, Entry}
-use Rattle.console_core.proofs.Exploring.{comes-route, path-append, can-tap-met, tap-can, types-direct, types-composed, stand-next}
+use Rattle.console_core.proofs.Exploring.{comes-route, path-append, can-tap-met, tap-can, types-direct, types-composed}
+use Rattle.console_core.proofs.Exploring.{stand-next}
 
 -- ---- an exploration of a stand
 

@@ -1,6 +1,7 @@
 -- The states behind where an accent is offered, as a search collects them, and the selections there.
 use Prim.Native.Nat.{zero, suc}
-use Rattle.std.proofs.Common.{◌≡◌, ℕ, ◌+◌, ◌<◌, ◌≤◌, ◌⊎◌, Bool, true, false, inl, inr, List, [], ◌∷◌, ◌++◌, length, refl}
+use Rattle.std.proofs.Common.{◌≡◌, ℕ, ◌+◌, ◌<◌, ◌≤◌, ◌⊎◌, Bool, true, false, inl, inr, List, [], ◌∷◌, ◌++◌, length}
+use Rattle.std.proofs.Common.{refl}
 use Rattle.std.proofs.Common.{slice_get, Option, Some, None, ap, subst, sym, ◌∙◌, arith}
 use Rattle.std.specs.List.{Contains, IsDistinct}
 use Rattle.std.specs.Map.{keys_of, lookup}
@@ -20,7 +21,8 @@ use Rattle.console_core.specs.Sights.{Note, IsNoted, Has, IsOfferedIn, AreSights
 use Rattle.console_core.specs.Sights.{IsOfferedAlong, HasNoDoubles}
 use Rattle.console_core.specs.Inner.Routes.{IsMet}
 use Rattle.console_core.specs.Inner.Searching.{state_of, Entry, Entries, Grows, AreWithin, AreAdded, IsMetBy}
-use Rattle.console_core.specs.Inner.Searching.{IsLetGoMet, IsExchangeMet, ArePressesMet, IsReached, LeavesScroll, Searched}
+use Rattle.console_core.specs.Inner.Searching.{IsLetGoMet, IsExchangeMet, ArePressesMet, IsReached, LeavesScroll}
+use Rattle.console_core.specs.Inner.Searching.{Searched}
 use Rattle.console_core.specs.Inner.Standing.{unscrolled}
 use Rattle.console_core.specs.Inner.Noting.{AddsState, IsBehind, AreSeedsTo, AreBehindTo, AreBehind, IsOfferedUnlocked}
 use Rattle.console_core.specs.Inner.Noting.{AreSelectionsOf, AreAccentsOf, AreComposing, AreOffersOf}

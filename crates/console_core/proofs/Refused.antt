@@ -1,5 +1,6 @@
 -- What a list of presses, releases and resets types on its way home, moves and taps can type.
-use Rattle.std.proofs.Common.{◌≡◌, ◌⊎◌, ℕ, ◌<◌, Bool, true, false, not, List, [], ◌∷◌, ◌++◌, Option, Some, None, refl, ap}
+use Rattle.std.proofs.Common.{◌≡◌, ◌⊎◌, ℕ, ◌<◌, Bool, true, false, not, List, [], ◌∷◌, ◌++◌, Option, Some, None, refl}
+use Rattle.std.proofs.Common.{ap}
 use Rattle.std.proofs.Common.{subst, sym, ◌∙◌, inl, inr, arith, append_assoc, append-nil, if◌then◌else◌}
 use Prim.Native.Nat.{suc}
 use Rattle.std.specs.Option.{is_some}
@@ -9,20 +10,23 @@ use Rattle.std.proofs.lemmas.Option.{none-some}
 use Rattle.keymap_core.specs.declared.action.Action.TheVariants as act
 use Rattle.keymap_core.specs.Accents.{own_of}
 use Rattle.keymap_core.specs.Maps.{MapValue, accent_at}
-use Rattle.console_core.specs.Types.{Action, Answer, Meta, Cell, Char, Act, Event, Press, Release, Reset, Load, Move, LetGo}
+use Rattle.console_core.specs.Types.{Action, Answer, Meta, Cell, Char, Act, Event, Press, Release, Reset, Load, Move}
+use Rattle.console_core.specs.Types.{LetGo}
 use Rattle.console_core.specs.Types.{Hold, Turn}
 use Rattle.console_core.specs.declared.event.Answer.TheVariants as answer
 use Rattle.console_core.specs.declared.explored.Symbol.{Symbol}
 use Rattle.console_core.specs.declared.explored.Symbol.TheVariants as symbol
 use Rattle.console_core.specs.Answers.{usable, is_pending, char_or_error, answer_action, composed_by}
-use Rattle.console_core.specs.Resolved.{ResolvedEvent, look, remembered, taken_over, pending, keeps_taken, usable_dead_key}
+use Rattle.console_core.specs.Resolved.{ResolvedEvent, look, remembered, taken_over, pending, keeps_taken}
+use Rattle.console_core.specs.Resolved.{usable_dead_key}
 use Rattle.console_core.specs.Resolved.{resolve, resolve_press}
 use Rattle.console_core.specs.Inner.Kept.{next_pending, pending_after_dead_key}
 use Rattle.console_core.specs.Inner.Standing.{Follows}
 use Rattle.console_core.specs.History.{between, in_force, resolved, is_second_in_force, is_on_after, HasKey, IsNoLoad}
 use Rattle.console_core.specs.History.{accent_pending_after}
 use Rattle.console_core.specs.Reading.{look_after, remembered_after}
-use Rattle.console_core.specs.Moves.{Under, alone, State, start, map_of, map_in, next_map, look_in, Holds, IsIdle, IsMove}
+use Rattle.console_core.specs.Moves.{Under, alone, State, start, map_of, map_in, next_map, look_in, Holds, IsIdle}
+use Rattle.console_core.specs.Moves.{IsMove}
 use Rattle.console_core.specs.Moves.{moved, IsPathFrom, state_from, IsForgetful}
 use Rattle.console_core.specs.Returning.{IsHome}
 use Rattle.console_core.specs.Sights.{IsAdmitted}
@@ -36,7 +40,8 @@ use Rattle.console_core.proofs.Prefixes.{answers_by_cases}
 use Rattle.console_core.proofs.RoutesHome.{is-nothing}
 use Rattle.console_core.proofs.Scripts.{Reached}
 use Rattle.console_core.proofs.Seeing.{one_map, admitted-before, taken-dead, pends}
-use Rattle.console_core.proofs.Staying.{Stays, KeepsLetGo, KeepsHeld, LeadsOn, follows-look, follows-start, clean-spared}
+use Rattle.console_core.proofs.Staying.{Stays, KeepsLetGo, KeepsHeld, LeadsOn, follows-look, follows-start}
+use Rattle.console_core.proofs.Staying.{clean-spared}
 use Rattle.console_core.proofs.Staying.{stays-press, stays-release, stays-reset}
 use Rattle.console_core.proofs.Strokes.{answer_at, look-answer}
 

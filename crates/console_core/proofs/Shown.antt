@@ -6,15 +6,18 @@ use Rattle.std.proofs.lemmas.List.Elements.{All-nil, All-cons}
 use Rattle.std.proofs.lemmas.Option.{none-some}
 use Rattle.keymap_core.specs.declared.action.Action.TheVariants as act
 use Rattle.keymap_core.specs.Maps.{MapValue}
-use Rattle.console_core.specs.Types.{Modifier, Act, Char, Event, Press, Release, Move, Hold, Turn, LetGo, Exchange, Sight}
+use Rattle.console_core.specs.Types.{Modifier, Act, Char, Event, Press, Release, Move, Hold, Turn, LetGo, Exchange}
+use Rattle.console_core.specs.Types.{Sight}
 use Rattle.console_core.specs.declared.explored.Symbol.TheVariants as symbol
 use Rattle.console_core.specs.declared.selection.Sight.TheVariants as sight
 use Rattle.console_core.specs.History.{between, resolved}
-use Rattle.console_core.specs.Moves.{Under, alone, State, start, IsIdle, IsMove, IsPath, IsPathFrom, look_in, state_after}
+use Rattle.console_core.specs.Moves.{Under, alone, State, start, IsIdle, IsMove, IsPath, IsPathFrom, look_in}
+use Rattle.console_core.specs.Moves.{state_after}
 use Rattle.console_core.specs.Moves.{state_from, events_along, events_of_move}
 use Rattle.console_core.specs.Resolved.{pending, remembered}
 use Rattle.console_core.specs.Reading.{look_after}
-use Rattle.console_core.specs.Sights.{IsAdmitted, IsClean, IsPendingFor, ReachableIsSeen, SeesBy, SeesNext, selection_of}
+use Rattle.console_core.specs.Sights.{IsAdmitted, IsClean, IsPendingFor, ReachableIsSeen, SeesBy, SeesNext}
+use Rattle.console_core.specs.Sights.{selection_of}
 use Rattle.console_core.specs.Sticking.{IsPressOrRelease, ReleasesPressedKeys}
 use Rattle.console_core.specs.Inner.Routes.{GoesOn}
 use Rattle.console_core.specs.Inner.Standing.{Stands}

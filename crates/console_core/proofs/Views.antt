@@ -11,7 +11,8 @@ use Rattle.console_core.specs.declared.explored.Explored.{Explored}
 use Rattle.console_core.specs.declared.held.Held.{Held}
 use Rattle.console_core.specs.declared.typing.Found.{Found}
 use Rattle.console_core.specs.declared.typing.Sought.{Sought}
-use Rattle.console_core.specs.Inner.Exploring.{AllEntries, Views, IsView, AreViews, HasView, TypesOne, IsKnown, AreKnown}
+use Rattle.console_core.specs.Inner.Exploring.{AllEntries, Views, IsView, AreViews, HasView, TypesOne, IsKnown}
+use Rattle.console_core.specs.Inner.Exploring.{AreKnown}
 use Rattle.console_core.specs.Inner.HeldBytes.{held-equal, bool_equal}
 use Rattle.console_core.specs.Inner.Searching.{state_of}
 use Rattle.console_core.proofs.RoutesHome.{are_same}

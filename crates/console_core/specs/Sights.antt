@@ -1,9 +1,11 @@
 -- What presses of keys see: which cells they look up, under which locks, and with which accents pending; and what can
 -- be seen at all.
-use Rattle.std.specs.Prelude.{◌≡◌, ◌≢◌, ◌==◌, ℕ, ◌<◌, Bool, true, false, ◌||◌, ◌&&◌, not, List, ◌∷◌, ◌++◌, All, map, Some}
+use Rattle.std.specs.Prelude.{◌≡◌, ◌≢◌, ◌==◌, ℕ, ◌<◌, Bool, true, false, ◌||◌, ◌&&◌, not, List, ◌∷◌, ◌++◌, All, map}
+use Rattle.std.specs.Prelude.{Some}
 use Rattle.std.specs.List.{AllPairs, Contains, list_any, range_with_len}
 use Rattle.console_core.specs.Types.{Modifier, LeftShift, RightShift, LeftControl, RightControl, LeftAlt, RightAlt}
-use Rattle.console_core.specs.Types.{Lock, Caps, Num, Cell, Char, Act, Event, Press, Move, Selection, Sight, Offer, Sights}
+use Rattle.console_core.specs.Types.{Lock, Caps, Num, Cell, Char, Act, Event, Press, Move, Selection, Sight, Offer}
+use Rattle.console_core.specs.Types.{Sights}
 use Rattle.keymap_core.specs.declared.action.Action.TheVariants as act
 use Rattle.keymap_core.specs.Maps.{MapValue, entry_at, cell_at}
 use Rattle.keymap_core.specs.Numbers.{key_count}

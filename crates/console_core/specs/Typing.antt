@@ -1,5 +1,6 @@
 -- What keys can type, and the events that type characters.
-use Rattle.std.specs.Prelude.{◌≡◌, ◌==◌, ℕ, ◌+◌, ◌<◌, ◌≤◌, Bool, true, false, ◌⊎◌, List, [], ◌∷◌, ◌++◌, All, Option, None, Some, ⊤}
+use Rattle.std.specs.Prelude.{◌≡◌, ◌==◌, ℕ, ◌+◌, ◌<◌, ◌≤◌, Bool, true, false, ◌⊎◌, List, [], ◌∷◌, ◌++◌, All, Option}
+use Rattle.std.specs.Prelude.{None, Some, ⊤}
 use Rattle.std.specs.Prelude.{if◌then◌else◌, filter, map, reverse, slice_get, take, length}
 use Rattle.console_core.specs.Types.{Modifier, Lock, Meta, Cell, Char, Act, Event, Press, Answer, Move}
 use Rattle.keymap_core.specs.declared.action.Action.TheVariants as act

@@ -5,7 +5,8 @@ ghost use Rattle.std.specs.Prelude.{slice_get, OnOk, IfOk, IfSome, MatchOption, 
 ghost use Rattle.keymap_core.specs.Numbers.{key_count};
 ghost use Rattle.keymap_core.specs.declared.action.Modifier.{Modifier as ModifierValue};
 ghost use Rattle.console_core.specs.declared.held.Held.{Held as HeldValue};
-ghost use Rattle.console_core.specs.Inner.Searching.{state_of, under_of, origin_of, IsMetBy, AreWithin, Grows, IsStep, IsLetGoMet};
+ghost use Rattle.console_core.specs.Inner.Searching.{state_of, under_of, origin_of, IsMetBy, AreWithin, Grows, IsStep};
+ghost use Rattle.console_core.specs.Inner.Searching.{IsLetGoMet};
 ghost use Rattle.console_core.specs.Inner.Searching.{IsExchangeMet, ArePressesMet, AreAdded, Searched, AreInOrder};
 ghost use Rattle.console_core.specs.Inner.Searching.{IsStuck, AreSafe, HasEnded, GoBack, IsScriptTo};
 ghost use Rattle.console_core.specs.Inner.Searching.{IsAnswerUnder, HasMovingKeys};

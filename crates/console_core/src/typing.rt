@@ -1,9 +1,11 @@
 //! The events that type characters, one after another: each by a way near the state where the character before it has
 //! left the locks, if there is one there.
-ghost use Rattle.std.specs.Prelude.{◌≡◌, ◌≤◌, ◌++◌, ◌∷◌, [], None, Some, drop, length, reverse, OnOk, IfOk, IfErr, MatchOption};
+ghost use Rattle.std.specs.Prelude.{◌≡◌, ◌≤◌, ◌++◌, ◌∷◌, [], None, Some, drop, length, reverse, OnOk, IfOk, IfErr};
+ghost use Rattle.std.specs.Prelude.{MatchOption};
 ghost use Rattle.keymap_core.specs.Maps.{MapValue};
 ghost use Rattle.console_core.specs.Typing.{AreTyped, IsTypingError};
-ghost use Rattle.console_core.specs.Inner.Exploring.{AreKnown, AreViews, HasView, IsExplored, IsOrigin, IsStand, IsView};
+ghost use Rattle.console_core.specs.Inner.Exploring.{AreKnown, AreViews, HasView, IsExplored, IsOrigin, IsStand};
+ghost use Rattle.console_core.specs.Inner.Exploring.{IsView};
 ghost use Rattle.console_core.specs.Inner.Exploring.{Leads, LeadsByTap, TypesOne};
 ghost use Rattle.console_core.specs.Inner.Searching.{state_of};
 

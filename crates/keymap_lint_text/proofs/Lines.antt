@@ -1,6 +1,7 @@
 -- What is shown of bytes, and what is told in words, stays in its line, and a terminal shows it.
 use Prim.Native.Nat.{zero, suc}
-use Rattle.std.proofs.Common.{◌≡◌, ℕ, ◌<◌, Bool, true, false, List, [], ◌∷◌, ◌++◌, refl, ap, sym, subst, ◌∙◌, arith, rules}
+use Rattle.std.proofs.Common.{◌≡◌, ℕ, ◌<◌, Bool, true, false, List, [], ◌∷◌, ◌++◌, refl, ap, sym, subst, ◌∙◌, arith}
+use Rattle.std.proofs.Common.{rules}
 use Rattle.std.proofs.Common.{All, Option, Some, None, append-nil, take, drop, length}
 use Rattle.std.specs.Prelude.{◌/◌, ◌%◌, ◌==◌, ◌||◌, ◌+◌, ◌-◌, not, nat_lt, codes, decimal, map, encode_utf8, IsTrue}
 use Rattle.std.specs.Prelude.{slice_index_or, if◌then◌else◌}

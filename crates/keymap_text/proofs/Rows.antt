@@ -10,7 +10,8 @@ use Rattle.keymap_text.specs.declared.fault.TextFaultKind.TheVariants as faults
 use Rattle.keymap_text.specs.Items.{cell, character, lock}
 use Rattle.keymap_text.specs.Lexical.{leading, is_space}
 use Rattle.keymap_text.specs.Inner.Grammar as spec
-use Rattle.keymap_text.specs.Inner.Grammar.{GrammarPlace, at, accept, after_base, after_cell, with_cell, with_pair, ◌>>=◌}
+use Rattle.keymap_text.specs.Inner.Grammar.{GrammarPlace, at, accept, after_base, after_cell, with_cell, with_pair}
+use Rattle.keymap_text.specs.Inner.Grammar.{◌>>=◌}
 use Rattle.keymap_text.specs.Inner.Scanning.{Advances, Refuses, Fronts, FrontsBehind, FrontsCharacter}
 use Rattle.keymap_text.proofs.Fronts.{left_fronts}
 use Rattle.keymap_text.proofs.Scanning.{blanks_advance, token_advances, token_refuses, behind_advances, advances_on}

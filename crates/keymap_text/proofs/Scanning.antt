@@ -1,5 +1,6 @@
 -- What taking blanks, comments and whole tokens makes of the rest of a text.
-use Rattle.std.proofs.Common.{◌≡◌, ℕ, zero, suc, ◌+◌, ◌-◌, ◌<◌, ◌≤◌, ◌==◌, true, false, Bool, List, [], ◌∷◌, ◌++◌, length}
+use Rattle.std.proofs.Common.{◌≡◌, ℕ, zero, suc, ◌+◌, ◌-◌, ◌<◌, ◌≤◌, ◌==◌, true, false, Bool, List, [], ◌∷◌, ◌++◌}
+use Rattle.std.proofs.Common.{length}
 use Rattle.std.proofs.Common.{take, drop, get_or, refl, sym, ◌∙◌, ap, ap₂, subst, arith, Ok, Err, append-nil}
 use Rattle.std.proofs.Common.{length-append, length-drop, drop-cons}
 use Rattle.std.proofs.lemmas.Bool.Decides.{nat_tests}

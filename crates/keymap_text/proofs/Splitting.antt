@@ -1,6 +1,7 @@
 -- What a text splits into, step by step.
 use Rattle.std.proofs.Common.{◌≡◌, ℕ, zero, suc, ◌+◌, ◌-◌, ◌<◌, ◌≤◌, true, List, [], ◌∷◌, length, take, drop, get_or}
-use Rattle.std.proofs.Common.{refl, sym, ◌∙◌, ap, ap₂, arith, add-one, add-zero, drop-cons, length-drop, take_all, take_at, drop_at, ◌++◌}
+use Rattle.std.proofs.Common.{refl, sym, ◌∙◌, ap, ap₂, arith, add-one, add-zero, drop-cons, length-drop, take_all}
+use Rattle.std.proofs.Common.{take_at, drop_at, ◌++◌}
 use Rattle.std.proofs.lemmas.List.{drop-drop, drop_all}
 use Rattle.keymap_text.specs.Types.{TextFaultKind, EndInside, TokenKind}
 use Rattle.keymap_text.specs.Lexical.{leading, stays_on_line, is_blank, Front, Skipped, Found, Refused, Unfinished}

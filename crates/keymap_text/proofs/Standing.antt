@@ -13,7 +13,8 @@ use Rattle.keymap_text.specs.Lexical.{leading, stays_on_line, is_word, tokens_af
 use Rattle.keymap_text.specs.Meaning.{line, Early, Means}
 use Rattle.keymap_text.specs.Inner.Grammar.{GrammarState, GrammarPlace, at}
 use Rattle.keymap_text.specs.Inner.Judging.{judge, verdict, Faulty}
-use Rattle.keymap_text.specs.Inner.Resuming.{resume, Says, IsReader, IsFaultOfPending, Lined, Moves, Breaks, Feeds, Passes}
+use Rattle.keymap_text.specs.Inner.Resuming.{resume, Says, IsReader, IsFaultOfPending, Lined, Moves, Breaks, Feeds}
+use Rattle.keymap_text.specs.Inner.Resuming.{Passes}
 use Rattle.keymap_text.specs.Inner.Scanning.{Advances, Refuses, IsOpen}
 use Rattle.keymap_text.specs.Inner.Views.{state_view, IsPlace}
 use Rattle.keymap_text.specs.Standing.{StandsAfter, FedAfter}

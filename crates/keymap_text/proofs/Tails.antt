@@ -1,11 +1,13 @@
 -- What bytes begin that show no whole token.
-use Rattle.std.proofs.Common.{◌≡◌, ◌≢◌, inl, inr, ℕ, suc, ◌+◌, ◌-◌, ◌<◌, ◌≤◌, List, [], ◌∷◌, ◌++◌, length, take, drop, get_or}
+use Rattle.std.proofs.Common.{◌≡◌, ◌≢◌, inl, inr, ℕ, suc, ◌+◌, ◌-◌, ◌<◌, ◌≤◌, List, [], ◌∷◌, ◌++◌, length, take, drop}
+use Rattle.std.proofs.Common.{get_or}
 use Rattle.std.proofs.Common.{refl, sym, ◌∙◌, ap, ap₂, subst, arith, Ok, Err, take_all, true, false, not, ◌&&◌}
 use Rattle.std.specs.Prelude.{IsFalse}
 use Rattle.std.proofs.lemmas.List.{drop_all}
 use Rattle.std.proofs.lemmas.Bool.Decides.{nat_tests}
 use Rattle.keymap_text.specs.Types.{TextFaultKind, EndInside, TokenKind, Word, Item}
-use Rattle.keymap_text.specs.Lexical.{leading, stays_on_line, is_word, separates, word, Found, Refused, Unfinished, front_of}
+use Rattle.keymap_text.specs.Lexical.{leading, stays_on_line, is_word, separates, word, Found, Refused, Unfinished}
+use Rattle.keymap_text.specs.Lexical.{front_of}
 use Rattle.keymap_text.specs.Lexical.{tokens_after, Ends, Then, token_before}
 use Rattle.keymap_text.specs.Meaning.{is_word_kind}
 use Rattle.keymap_text.specs.Words.{item}
@@ -16,7 +18,8 @@ use Rattle.keymap_text.proofs.Fronts.{found_fronts, refused_on, open_found, open
 use Rattle.keymap_text.proofs.InFront.{front_comment, front_quote, front_word, word_found, is_quote, refused_early}
 use Rattle.keymap_text.proofs.Leading.{leading_pass, leading_le, leading_append}
 use Rattle.keymap_text.proofs.Literals.{unfinished_longer, unfinished_short}
-use Rattle.keymap_text.proofs.Splitting.{split_none, split_all, split_token, split_refused, split_unfinished, split_comment}
+use Rattle.keymap_text.proofs.Splitting.{split_none, split_all, split_token, split_refused, split_unfinished}
+use Rattle.keymap_text.proofs.Splitting.{split_comment}
 use Rattle.keymap_text.proofs.Steps.{judge_then, judge_refused, judge_stops, judge_ends}
 
 -- a word at the end of the bytes is open

@@ -26,7 +26,8 @@ use Rattle.console_core.specs.declared.outcome.Sticking.{Sticking}
 use Rattle.console_core.specs.declared.outcome.Sticking.TheVariants.{Sticks, Never, Undecided}
 use Rattle.console_core.specs.History.{between, in_force, is_on_after, HasKeys, HasNoLoads}
 use Rattle.console_core.specs.Headline.{IsOnOnlyWhilePressed, IsOffOnceQuiet}
-use Rattle.console_core.specs.Moves.{Under, alone, State, start, look_in, Holds, IsIdle, HolderForgets, IsForgetful, IsMove}
+use Rattle.console_core.specs.Moves.{Under, alone, State, start, look_in, Holds, IsIdle, HolderForgets, IsForgetful}
+use Rattle.console_core.specs.Moves.{IsMove}
 use Rattle.console_core.specs.Moves.{moved, presses_of, presses_along, state_from, IsPathFrom}
 use Rattle.console_core.specs.Moves.{state_after, script_of_path, with_holder, with_lock_turned}
 use Rattle.console_core.specs.Sticking.{SticksBetween, ReachesMoreThan, ReachesMoreThanFrom, ReleasesPressedKeys}

@@ -15,7 +15,8 @@ use Rattle.keymap_core.specs.Accents.{AccentValue}
 use Rattle.keymap_core.specs.Maps.{MapValue, undefined}
 use Rattle.keymap_core.specs.Numbers.{column_count, accent_limit, pair_limit}
 use Rattle.keymap_text.specs.Inner.Grammar as spec
-use Rattle.keymap_text.specs.Places.{RowPlace, AtDefinition, AtCell, AtLock, AtAccentCharacter, AfterPairs, AtBase, AtResult}
+use Rattle.keymap_text.specs.Places.{RowPlace, AtDefinition, AtCell, AtLock, AtAccentCharacter, AfterPairs, AtBase}
+use Rattle.keymap_text.specs.Places.{AtResult}
 use Rattle.keymap_text.specs.Places.{AtPairEnd}
 
 abbrev pub front_view : Front → lexical.Front

@@ -1,7 +1,8 @@
 use Rattle.std.proofs.Common.{◌≡◌, ◌≤◌, ◌+◌, [], ◌∷◌, refl, ◌<◌, length, None, IfSome, true, subst, sym, arith}
 use Rattle.std.proofs.lemmas.Bool.{eq-eqb}
 use Rattle.console_core.specs.declared.search.Origin.{Origin}
-use Rattle.console_core.specs.Inner.Searching.{under_of, origin_of, Searched, AreSafe, AreInOrder, IsStuck, HasMovingKeys}
+use Rattle.console_core.specs.Inner.Searching.{under_of, origin_of, Searched, AreSafe, AreInOrder, IsStuck}
+use Rattle.console_core.specs.Inner.Searching.{HasMovingKeys}
 use Rattle.console_core.proofs.Growing.{added-longer}
 use Rattle.console_core.proofs.Searching.{start-entries, searched-start, order-within, safe-grows, searched-fewer}
 use Rattle.console_core.proofs.Concluding.{level-late, closed-late}

@@ -9,7 +9,8 @@ use Rattle.console_core.specs.Inner.Searching.{state_of}
 use Rattle.console_core.proofs.Looking.{entry-at}
 use Rattle.console_core.proofs.Searching.{place_last}
 use Rattle.console_core.proofs.Seeing.{one_map}
-use Rattle.console_core.proofs.explored.Explored.first_place.Goals.{then-not-is_near+in-Some+else-has_route, then-not-is_near+in_default}
+use Rattle.console_core.proofs.explored.Explored.first_place.Goals.{then-not-is_near+in-Some+else-has_route}
+use Rattle.console_core.proofs.explored.Explored.first_place.Goals.{then-not-is_near+in_default}
 use Rattle.console_core.proofs.explored.Explored.first_place.Goals.{else-not-is_near+else-has_locks_of}
 use Rattle.console_core.proofs.explored.Explored.first_place.Goals as goal
 

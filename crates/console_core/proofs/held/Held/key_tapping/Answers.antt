@@ -3,7 +3,8 @@ use Rattle.console_core.specs.Moves.{IsIdle}
 use Rattle.console_core.specs.Sights.{look_selected, selection_of}
 use Rattle.console_core.specs.Typing.{cell_of}
 use Rattle.console_core.specs.Inner.Searching.{state_of}
-use Rattle.console_core.proofs.held.Held.key_tapping.Goals.{else-is_symbol-via-then-is_symbol+else-not-holds, else-is_symbol-via-else-is_symbol}
+use Rattle.console_core.proofs.held.Held.key_tapping.Goals.{else-is_symbol-via-then-is_symbol+else-not-holds}
+use Rattle.console_core.proofs.held.Held.key_tapping.Goals.{else-is_symbol-via-else-is_symbol}
 use Rattle.console_core.proofs.held.Held.key_tapping.Goals as goal
 
 pub loop-code-init : goal.loop-code-init

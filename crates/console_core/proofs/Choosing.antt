@@ -110,7 +110,8 @@ leads-direct m s e c h now next v st (j, k, x, at, has, tap, stroke) =
     (inl (view-can m s e v st (plain_tap (symbol.Character c)) (j, k, (x, at, has, tap))))
 
 -- the state behind the dead key
-pub behind-dead : (m : MapValue) (s : State) (e : Explored) (i c : ℕ) (a : Accented) (h between : List Event) (mid : State)
+pub behind-dead : (m : MapValue) (s : State) (e : Explored) (i c : ℕ) (a : Accented) (h between : List Event)
+    (mid : State)
     → IsView m s e → IsStand m s → IsAccented m e c i a
     → ((x : Entry) → slice_get e.met.entries a.dead.place ≡ Some x
     → IsStroke (alone (map_of_explored e)) (origin_in e) (state_of x.0) a.dead.key h between mid)

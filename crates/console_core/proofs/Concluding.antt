@@ -232,7 +232,8 @@ level-safe u es level p order s safe =
     (λ j x at lt. safe j x at (below_level es level p order j x at lt))
 
 -- a holder at the place looks up a character: the script of a path to it leaves its modifier on, by the fewest presses
-pub stuck-sticks : (u : Under) (es : Entries) (level p j k : ℕ) → AreInOrder es level p → Searched u start es level level
+pub stuck-sticks : (u : Under) (es : Entries) (level p j k : ℕ) → AreInOrder es level p
+    → Searched u start es level level
     → AreSafe u es level → IsStuck u es j k
     → (h : List Event) → IsScriptTo u es j k h
     → LeavesOnUnder u h × HasFewestUnder u h

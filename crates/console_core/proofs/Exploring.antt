@@ -119,7 +119,8 @@ pub stand-next : (m : MapValue) (o s : State) (k : ℕ) (h now : List Event) (ne
     → IsStand m next
 stand-next m o s k h now next st x =
     let u : Under = alone m in
-    let there : IsPathFrom u (state_from u o x.out) x.back = subst (λ t. IsPathFrom u t x.back) (sym x.there) x.returns in
+    let there : IsPathFrom u (state_from u o x.out) x.back = subst (λ t. IsPathFrom u t x.back) (sym x.there)
+    x.returns in
     let out = path-append u o x.out x.back x.goes there in
     let all = path-append u start st.path (x.back ++ x.out) st.is
     (subst (λ t. IsPathFrom u t (x.back ++ x.out)) (sym st.leads) out.0) in
@@ -267,5 +268,6 @@ types-composed m o s mid t i y c k n h between now next st x dead can_use z tap 
       subst (λ w. HasTyped m w next None (cs ++ c ∷ [])) (sym (append_assoc (added-by z) (added-by x) g))
       (stroke-types m mid t n between now next (Some i) None cs (cs ++ c ∷ []) z
       (λ g b. tap-composed m g t cs i y c n b tap can_use made) (added-by x ++ g)
-      (stroke-types m o s k h between mid None (Some i) cs cs x (λ g b. tap-dead m g s cs i k b dead can_use) g before));
+      (stroke-types m o s k h between mid None (Some i) cs cs x (λ g b. tap-dead m g s cs i k b dead can_use) g
+      before));
 }

@@ -150,7 +150,8 @@ scroll-left u s Exchange leaves off =
 scroll-left u s _ leaves off = off
 
 -- a move from where a path leads goes on with the path
-pub reached-next : {o : State} (u : Under) (es now : Entries) (place n p : ℕ) (y : Entry) → Grows es now → IsReached u o es place y
+pub reached-next : {o : State} (u : Under) (es now : Entries) (place n p : ℕ) (y : Entry) → Grows es now
+    → IsReached u o es place y
     → p ≡ y.1.presses + n
     → (j : ℕ) (x : Entry) → slice_get now j ≡ Some x → place < j → IsFrom u (state_of y.0) place n p x
     → IsReached u o now j x

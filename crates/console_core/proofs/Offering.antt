@@ -388,13 +388,14 @@ accents-push (x ∷ offers) o = ap (λ z. x.accent ∷ z) (accents-push offers o
 pub offers-more : (m : MapValue) (accents : List ℕ) (offers now : List Offer) (o : Offer) → AreOffersOf m accents offers
     → now ≡ offers ++ o ∷ [] → AreComposing m o.accent o.selections.items
     → AreOffersOf m (accents ++ o.accent ∷ []) now
-offers-more m accents offers now o before e is = subst (λ z. AreOffersOf m (accents ++ o.accent ∷ []) z) (sym e) (record {
-  all = accents-push offers o ∙ ap (λ z. z ++ o.accent ∷ []) before.all;
-  each = λ p has. elim (Contains-push_cases offers o p has) [
-    | inl was ↦ before.each p was
-    | inr same ↦ subst (λ q. AreComposing m q.accent q.selections.items) same is
-  ];
-})
+offers-more m accents offers now o before e is = subst (λ z. AreOffersOf m (accents ++ o.accent ∷ []) z) (sym e)
+    (record {
+      all = accents-push offers o ∙ ap (λ z. z ++ o.accent ∷ []) before.all;
+      each = λ p has. elim (Contains-push_cases offers o p has) [
+        | inl was ↦ before.each p was
+        | inr same ↦ subst (λ q. AreComposing m q.accent q.selections.items) same is
+      ];
+    })
 
 -- an accent of the offers has one
 has-offer : (offers : List Offer) (accent : ℕ) → Contains (accents_in offers) accent

@@ -270,8 +270,11 @@ pending-tapped m forgets h later (Press k ∷ before) i never admitted new at e 
         (taken_over (remembered k (resolved (between m m) before)) a) i
         (sym (pending-action m k a (resolved (between m m) before)) ∙ f)) [
           | inl was ↦ earlier was
-          | inr is ↦
-              (is.1, can-tap-dead m forgets h later before k a i false never admitted new at seen is.0 (λ p. absurd (true≢false (sym p))))
+          | inr is ↦ (
+            is.1,
+            can-tap-dead m forgets h later before k a i false never admitted new at seen is.0
+                (λ p. absurd (true≢false (sym p))),
+          )
         ]
 
 -- ---- what a press types
@@ -345,7 +348,8 @@ typed-can m forgets h c never admitted new (later, before, k, at, types) =
         inr (i, symbol.Character d, first.0, given.0, first.1, tap d seen given.1)
     by (Act a) seen p is e =
         let (i, taken, pend, own, off) =
-        action-gives m p (is_on_after (between m m) Meta before) (taken_over (remembered_after (between m m) k before) a)
+        action-gives m p (is_on_after (between m m) Meta before)
+        (taken_over (remembered_after (between m m) k before) a)
         c e in
         let first = dead i (is ∙ pend) in
         inr (
@@ -354,5 +358,6 @@ typed-can m forgets h c never admitted new (later, before, k, at, types) =
           first.0,
           ap (λ t. if t then own_of (accent_at m i) else None) (eq-eqb i i refl) ∙ own,
           first.1,
-          can-tap-dead m forgets h later before k a i true never admitted new at (seen-by (Act a) seen) taken (λ q. off),
+          can-tap-dead m forgets h later before k a i true never admitted new at (seen-by (Act a) seen) taken
+              (λ q. off),
         )

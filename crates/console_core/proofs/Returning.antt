@@ -93,7 +93,8 @@ pub is-astray : (u : Under) (es : Entries) (routes : Routes) → AreSettled u es
 is-astray u es routes settled j x at none = elim (settled j x at) [ inl has ↦ absurd (none has) | inr is ↦ is ]
 
 -- a move leads on astray
-pub strays-on : {o : State} (m : MapValue) (es : Entries) (routes : Routes) → Searched (alone m) o es (length es) (length es)
+pub strays-on : {o : State} (m : MapValue) (es : Entries) (routes : Routes)
+    → Searched (alone m) o es (length es) (length es)
     → AreSettled (alone m) es routes → (s : State) (move : Move) → IsMove (alone m) s move → StraysTo es routes s
     → StraysTo es routes (moved (alone m) s move)
 strays-on m es routes searched settled s move is (j, x, at, near, none) = by move is

@@ -24,7 +24,8 @@ use Rattle.console_core.proofs.Growing.{grows-again, met-grows, met-last, closed
 use Rattle.console_core.proofs.Growing.{reached-next}
 
 -- what was searched stays so when the entries grow
-pub searched-grows : {o : State} (u : Under) (es now : Entries) (place n p a b : ℕ) (y : Entry) → slice_get es place ≡ Some y
+pub searched-grows : {o : State} (u : Under) (es now : Entries) (place n p a b : ℕ) (y : Entry)
+    → slice_get es place ≡ Some y
     → p ≡ y.1.presses + n
     → AreAdded u (state_of y.0) place n p es now → a ≤ length es → b ≤ length es → Searched u o es a b
     → Searched u o now a b
@@ -53,7 +54,8 @@ searched-grows {o} u es now place n p a b y here e added le_a le_b s =
     }
 
 -- fewer of them are asked for
-pub searched-fewer : {o : State} (u : Under) (es : Entries) (a b c d : ℕ) → c ≤ a → d ≤ b → Searched u o es a b → Searched u o es c d
+pub searched-fewer : {o : State} (u : Under) (es : Entries) (a b c d : ℕ) → c ≤ a → d ≤ b → Searched u o es a b
+    → Searched u o es c d
 searched-fewer u es a b c d le_c le_d s = record {
   start = s.start;
   reached = s.reached;
@@ -71,7 +73,8 @@ pub same_entry : (es : Entries) (j n : ℕ) (x y : Entry)
 same_entry es j n x y e at here = same_Some y x (sym here ∙ ap (λ k. slice_get es k) (sym e) ∙ at)
 
 -- one more entry whose releases are met
-pub searched-closed : {o : State} (u : Under) (es : Entries) (a n : ℕ) (y : Entry) → slice_get es n ≡ Some y → IsClosed u es y
+pub searched-closed : {o : State} (u : Under) (es : Entries) (a n : ℕ) (y : Entry) → slice_get es n ≡ Some y
+    → IsClosed u es y
     → Searched u o es a n → Searched u o es a (n + 1)
 searched-closed u es a n y here closed s = record {
   start = s.start;
@@ -84,7 +87,8 @@ searched-closed u es a n y here closed s = record {
 }
 
 -- one more entry whose presses are met
-pub searched-pressed : {o : State} (u : Under) (es : Entries) (n b : ℕ) (y : Entry) → slice_get es n ≡ Some y → IsPressed u es y
+pub searched-pressed : {o : State} (u : Under) (es : Entries) (n b : ℕ) (y : Entry) → slice_get es n ≡ Some y
+    → IsPressed u es y
     → Searched u o es n b → Searched u o es (n + 1) b
 searched-pressed u es n b y here pressed s = record {
   start = s.start;
@@ -247,7 +251,8 @@ safe-more u es n y here safe before j x at lt =
     ]
 
 -- one place of a level is pressed
-pub press-step : {o : State} (u : Under) (old es now : Entries) (level p n : ℕ) (y : Entry) → Searched u o es n (length old)
+pub press-step : {o : State} (u : Under) (old es now : Entries) (level p n : ℕ) (y : Entry)
+    → Searched u o es n (length old)
     → AreInOrder old level p → Grows old es
     → AreInOrder es (length old) (p + 1) → level ≤ n → n < length old → slice_get es n ≡ Some y
     → AreAdded u (state_of y.0) n 1 (p + 1) es now → ((k : ℕ) → k < 128 → ArePressesMet u now (p + 1) (state_of y.0) k)

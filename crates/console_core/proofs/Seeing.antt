@@ -1,5 +1,5 @@
--- What a press after a list sees can be seen in a state that a path leads to, and an accent is pending only behind where
--- it is offered.
+-- What a press after a list sees can be seen in a state that a path leads to, and an accent is pending only behind
+-- where it is offered.
 use Prim.Native.Nat.{suc}
 use Rattle.std.proofs.Common.{◌≡◌, ℕ, ◌<◌, Bool, true, false, List, [], ◌∷◌, Option, Some, None, refl, ap, subst, sym}
 use Rattle.std.proofs.Common.{◌∙◌, ◌⊎◌, inl, inr, arith, if◌then◌else◌}

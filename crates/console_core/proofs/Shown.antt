@@ -123,7 +123,8 @@ short-along m h s path x is = record {
 short-tap : (m : MapValue) (h : List Event) (s : State) (k accent : ℕ) → IsShort m h s → k < 128 → IsIdle s k
     → look_in (alone m) s k ≡ Act (act.DeadKey accent) → IsShort m (Release k ∷ Press k ∷ h) s
 short-tap m h s k accent x lt idle seen = record {
-  stands = stands-tap (alone m) h s false (symbol.DeadKey accent) k x.stands (lt, idle, seen, (λ e. absurd (false≢true e)));
+  stands = stands-tap (alone m) h s false (symbol.DeadKey accent) k x.stands
+      (lt, idle, seen, (λ e. absurd (false≢true e)));
   plain = plain-release m (Press k ∷ h) k (plain-idle m h s k x.stands idle x.plain);
   goes = goes-goes m [] h (Release k ∷ Press k ∷ h) x.goes (tap-goes m h k lt);
 }
@@ -156,7 +157,8 @@ reachable_is_seen m (sight.Cell slot column) (path, is, x, (k, lt, sees)) =
     short-sees m path is k (sight.Cell slot column) lt sees tt
 reachable_is_seen m (sight.Locks slot caps num) (path, is, x, (k, lt, sees)) =
     short-sees m path is k (sight.Locks slot caps num) lt sees tt
-reachable_is_seen m (sight.Pair accent c) (path, is, (later, before, at, (can, (d, key, (idle, seen)))), (k, lt, sees)) =
+reachable_is_seen m (sight.Pair accent c)
+    (path, is, (later, before, at, (can, (d, key, (idle, seen)))), (k, lt, sees)) =
     let u : Under = alone m in
     let s : State = state_after u before in
     let parts = path-split u start later before (subst (λ p. IsPath u p) at is) in

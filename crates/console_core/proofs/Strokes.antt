@@ -80,11 +80,12 @@ lets-go-some s h now t n i k x at holds = record {
   path = LetGo k i ∷ x.path;
   is = λ u. (subst (λ z. Holds z k i) (sym (x.leads u)) holds, x.is u);
   leads = λ u. ap (λ z. with_holder z i None) (x.leads u);
-  gone = λ j lt. gone-one i j (t.holder j) (same_modifier i j) refl (λ other. elim (place_last (modifier_index j) n lt) [
-    | inl below ↦ x.gone j below
-    | inr e ↦
-        absurd (true≢false (sym (eq-eqb (modifier_index i) (modifier_index j) (ap modifier_index (at j e))) ∙ other))
-  ]);
+  gone = λ j lt. gone-one i j (t.holder j) (same_modifier i j) refl
+      (λ other. elim (place_last (modifier_index j) n lt) [
+        | inl below ↦ x.gone j below
+        | inr e ↦
+            absurd (true≢false (sym (eq-eqb (modifier_index i) (modifier_index j) (ap modifier_index (at j e))) ∙ other))
+      ]);
   locks = x.locks;
   second = x.second;
   events = ap (λ z. Release k ∷ z) x.events;
@@ -147,7 +148,8 @@ follows-dead r s k j x idle =
     let e : remembered k r ≡ None = idle-none r s k x idle in
     record {
       on = λ i. held-action (holding.Mod i) k (act.DeadKey j) r
-          ∙ ap (λ o. same_action (taken_over o (act.DeadKey j)) (act.Mod i) || held (holding.Mod i) r) e ∙ x.follows.on i;
+          ∙ ap (λ o. same_action (taken_over o (act.DeadKey j)) (act.Mod i) || held (holding.Mod i) r) e
+          ∙ x.follows.on i;
       locked = λ l. locked-action l k (act.DeadKey j) r
           ∙ ap (λ o. if same_action (taken_over o (act.DeadKey j)) (act.Lock l) && not (held (holding.Lock l) r)
           then not (locked l r) else locked l r) e
@@ -172,7 +174,8 @@ exact-character r s k c x idle =
           (λ i. ap (λ o. is_this_action o (act.Mod i)) none);
       only = λ n a q. elim (cases_Bool (k == n)) [
         | inl t ↦
-            absurd (none-some a (sym (remembered-release n k now ∙ ap (λ b. if b then None else remembered n now) t) ∙ q))
+            absurd (none-some a (sym (remembered-release n k now ∙ ap (λ b. if b then None else remembered n now) t)
+            ∙ q))
         | inr t ↦
             x.only n a
             (sym (remembered-release n k now ∙ ap (λ b. if b then None else remembered n now) t
@@ -198,7 +201,8 @@ exact-dead r s k j x idle =
           (λ i. ap (λ o. is_this_action o (act.Mod i)) holds);
       only = λ n a q. elim (cases_Bool (k == n)) [
         | inl t ↦
-            absurd (none-some a (sym (remembered-release n k now ∙ ap (λ b. if b then None else remembered n now) t) ∙ q))
+            absurd (none-some a (sym (remembered-release n k now ∙ ap (λ b. if b then None else remembered n now) t)
+            ∙ q))
         | inr t ↦
             x.only n a
             (sym (remembered-release n k now ∙ ap (λ b. if b then None else remembered n now) t
@@ -314,7 +318,8 @@ pub walked : (m : MapValue) (h : List Event) (s : State) (p : Option ℕ) (cs : 
     → HasTyped m (events_along path ++ h) (state_from (alone m) s path) p cs
 walked m h s p cs path x is = record {
   stands = stands-from (alone m) h s path x.stands is;
-  pending = pending-is m (events_along path ++ h) ∙ pending-along m h s path x.stands is ∙ sym (pending-is m h) ∙ x.pending;
+  pending = pending-is m (events_along path ++ h) ∙ pending-along m h s path x.stands is ∙ sym (pending-is m h)
+      ∙ x.pending;
   typed = typed-path m h s path x.stands is ∙ x.typed;
 }
 
@@ -354,7 +359,8 @@ tap-direct m h s cs c k x is = record {
 }
 
 -- what a dead key makes pending, and gives
-dead-makes : (m : MapValue) (i : ℕ) (t : Bool) → usable m i ≡ t → t ≡ true → next_pending m None (act.DeadKey i) ≡ Some i
+dead-makes : (m : MapValue) (i : ℕ) (t : Bool) → usable m i ≡ t → t ≡ true
+    → next_pending m None (act.DeadKey i) ≡ Some i
 dead-makes m i true e is = ap (λ b. pending_after_dead_key (if b then Some i else None) None) e
 dead-makes m i false e is = absurd (true≢false (sym is))
 
@@ -462,7 +468,8 @@ tap-composed m h s cs i (symbol.DeadKey j) c k x is can made =
 -- ---- strokes
 
 -- the events that a stroke adds
-abbrev pub added-by : {u : Under} {o s : State} {k : ℕ} {h now : List Event} {next : State} → IsStroke u o s k h now next
+abbrev pub added-by : {u : Under} {o s : State} {k : ℕ} {h now : List Event} {next : State}
+    → IsStroke u o s k h now next
     → List Event
 added-by {k = k} x = events_along x.back ++ (Release k ∷ Press k ∷ events_along x.out)
 

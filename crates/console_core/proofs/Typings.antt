@@ -83,7 +83,8 @@ typed-answers m es cs e =
 -- ---- one after another
 
 -- the characters up to the place were typed
-pub record HaveBeenTyped (m : MapValue) (cs : List ℕ) (place : ℕ) (keyed : List Keyed) (es : List Event) (s : State) : Type 0
+pub record HaveBeenTyped (m : MapValue) (cs : List ℕ) (place : ℕ) (keyed : List Keyed) (es : List Event)
+    (s : State) : Type 0
   where
     pub stand : IsStand m s
     pub characters : characters_of keyed ≡ take place cs
@@ -214,7 +215,8 @@ typed-one m cs place keyed after es now s k next x lt is ends types e =
                   (typed-answers m now (take (place + 1) cs) typed.typed)),
             )
       ];
-      can = subst (λ z. All (λ c. CanType m c) z) (sym more) (All-push (λ c. CanType m c) (take place cs) c x.can types.can);
+      can = subst (λ z. All (λ c. CanType m c) z) (sym more)
+          (All-push (λ c. CanType m c) (take place cs) c x.can types.can);
       typed = typed;
       below = omega (arith, lt);
     }

@@ -85,7 +85,8 @@ pub known-more : (E : Sought → Sought → Bool) → TellsSought E → (m : Map
     → (k : Sought) (v : Found) → AreKnown m known → IsKnown m k v
     → AreKnown m (insert_entry E known k v)
 known-more E same m known k v all is =
-    one-entry E (IsKnown m) (λ a b v t is. let p = same a b t in same-known m b a v (sym p.0) (sym p.1) is) known k v all
+    one-entry E (IsKnown m) (λ a b v t is. let p = same a b t in same-known m b a v (sym p.0) (sym p.1) is) known k v
+    all
     is
 
 -- ---- explorations

@@ -109,9 +109,9 @@ TypesAlong m h c =
     (later before : List Event) × (k : ℕ) × (h ≡ later ++ Press k ∷ before)
     × (answer_to (between m m) before (Press k) ≡ plainly c)
 
--- What presses, repeats, releases and resets type that leave a new console as a new one, keys can type: of all such lists
--- if no path leads to where a holder looks up a character, and else of clean ones. So a character that keys can't type
--- is typed by none of them.
+-- What presses, repeats, releases and resets type that leave a new console as a new one, keys can type: of all such
+-- lists if no path leads to where a holder looks up a character, and else of clean ones. So a character that keys can't
+-- type is typed by none of them.
 abbrev pub TypedCanBeTyped : Type 0
 TypedCanBeTyped =
     (m : MapValue) (forgets : Bool) (h : List Event) (c : ℕ) → (forgets ≡ false → NeverForgets (alone m))

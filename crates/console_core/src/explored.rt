@@ -40,8 +40,8 @@ pub struct Tap {
     pub is_plain: bool,
 }
 
-/// The states that presses lead to from the origin, which is one of them, in the order of the fewest presses, and routes
-/// home from them.
+/// The states that presses lead to from the origin, which is one of them, in the order of the fewest presses, and
+/// routes home from them.
 #[derive(Drop)]
 pub struct Explored<'m> {
     pub maps: Keymaps<'m>,

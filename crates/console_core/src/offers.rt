@@ -1,5 +1,5 @@
-//! Which accents can be pending, and in which states: those that moves lead to from where a key that holds nothing looks
-//! up the accent's dead key.
+//! Which accents can be pending, and in which states: those that moves lead to from where a key that holds nothing
+//! looks up the accent's dead key.
 ghost use Rattle.std.specs.Prelude.{◌≡◌, ◌<◌, ◌++◌, ◌∷◌, [], ℕ, List, true, length, OnOk, IfOk};
 ghost use Rattle.std.specs.List.{Contains};
 ghost use Rattle.keymap_core.specs.Numbers.{key_count};
@@ -210,7 +210,8 @@ pub fn offers_of(
 ) -> Result<Vec<Offer>, AllocError>
     requires met { HasMetAll maps.now met.now.entries }
     requires all { AreSelectionsOf met.now.entries all.now }
-    ensures { IfOk result (λ offers. (accents : List ℕ) × AreAccentsOf (alone maps.now.first.now) met.now.entries accents
+    ensures { IfOk result (λ offers. (accents : List ℕ)
+        × AreAccentsOf (alone maps.now.first.now) met.now.entries accents
         × AreOffersOf maps.now.first.now accents offers.items) }
 {
     let accents = accents_of(alloc, met, maps)?;

@@ -192,12 +192,15 @@ fn press(
 ) -> Result<(), AllocError>
     requires keys { HasMovingKeys (under_of maps.now) keys.now key_count }
     requires small { presses < state_limit }
-    requires searched { Searched (under_of maps.now) (origin_of maps.now) met.old.entries level (length met.old.entries) }
+    requires searched { Searched (under_of maps.now) (origin_of maps.now) met.old.entries level
+        (length met.old.entries) }
     requires order { AreInOrder met.old.entries level presses }
     requires below { level ≤ length met.old.entries }
     ensures searched { OnOk result (length met.new.entries ≤ state_limit
-        → Searched (under_of maps.now) (origin_of maps.now) met.new.entries (length met.old.entries) (length met.old.entries)) }
-    ensures closed { OnOk result (Searched (under_of maps.now) (origin_of maps.now) met.new.entries level (length met.old.entries)) }
+        → Searched (under_of maps.now) (origin_of maps.now) met.new.entries (length met.old.entries)
+        (length met.old.entries)) }
+    ensures closed { OnOk result (Searched (under_of maps.now) (origin_of maps.now) met.new.entries level
+        (length met.old.entries)) }
     ensures order { OnOk result (AreInOrder met.new.entries (length met.old.entries) (presses + 1)) }
     ensures grown { OnOk result (Grows met.old.entries met.new.entries) }
 {

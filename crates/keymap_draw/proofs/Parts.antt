@@ -62,7 +62,8 @@ into : {w t : List ℕ} {ts : List (List ℕ)} → list_all is_inner (words_befo
     → IsInner (words_behind w) ts → IsInner w (t ∷ ts)
 unfolding filled
 into {w} {t} {ts} h k l = record {
-  all = joined is_inner (words_before w ++ t) (filled (words_behind w) ts) (joined is_inner (words_before w) t h k) l.all;
+  all = joined is_inner (words_before w ++ t) (filled (words_behind w) ts) (joined is_inner (words_before w) t h k)
+      l.all;
 }
 
 ends : {w : List ℕ} → list_all is_inner w ≡ true → IsInner w []

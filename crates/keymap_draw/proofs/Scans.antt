@@ -92,7 +92,8 @@ textual_by true false false true false x y z v h = refl
 textual_by true false false false false x y z v h = refl
 textual_by false l a f b x y z v h = cc
 
-pub textual_step : (name : List ℕ) (role : Role) (begun : List Element) (ids : List (List ℕ)) (facts : List Fact) (c : ℕ)
+pub textual_step : (name : List ℕ) (role : Role) (begun : List Element) (ids : List (List ℕ)) (facts : List Fact)
+    (c : ℕ)
     → is_textual c ≡ true
     → step (Some (at Text (reading name role begun ids facts))) c
     ≡ Some (at Text (reading name (with_characters role (c ∷ [])) begun ids facts))

@@ -113,7 +113,8 @@ half_titled : (d : Drawing) (half : Half) (y : ℕ)
     → Titled (half_facts d half (other_keys d half) y) (of d (told_in d half))
 unfolding half_facts
 half_titled d half y =
-    subst (λ ds. Titled (half_facts d half (other_keys d half) y) (of d ds)) (keys_joined d half (on_board d ISO) (other_keys d half))
+    subst (λ ds. Titled (half_facts d half (other_keys d half) y) (of d ds))
+    (keys_joined d half (on_board d ISO) (other_keys d half))
     (together d (of_keys d half (on_board d ISO)) (of_keys d half (other_keys d half))
     (rows_titled d half (y + 40) ISO) (others_titled d half (y + 472) 0 (other_keys d half)))
 

@@ -1,8 +1,8 @@
 -- What a reader makes of the bytes of a picture, told byte by byte. They are well formed as XML: one element that holds
--- all others, texts, and tags of elements out of a fixed list, with attributes out of a fixed list, none twice in a tag.
--- Each element ends by its own end tag. No two ids are the same, and a link leads to an id that stands before it. A
--- reference is of a character that XML 1.0 allows and that is no control character. `]]>` stands in no text. What they
--- tell are facts: the titles, the keys and the texts on their caps.
+-- all others, texts, and tags of elements out of a fixed list, with attributes out of a fixed list, none twice in a
+-- tag. Each element ends by its own end tag. No two ids are the same, and a link leads to an id that stands before it.
+-- A reference is of a character that XML 1.0 allows and that is no control character. `]]>` stands in no text. What
+-- they tell are facts: the titles, the keys and the texts on their caps.
 use Rattle.std.specs.Prelude.{◌≡◌, ℕ, ◌+◌, ◌*◌, ◌==◌, nat_lt, nat_le, Bool, ◌||◌, ◌&&◌, not, true, false, List, [], ◌∷◌}
 use Rattle.std.specs.Prelude.{◌++◌, codes, Option, Some, None, if◌then◌else◌, bytes_eq}
 use Rattle.std.specs.Char.{digit_value}

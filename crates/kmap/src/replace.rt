@@ -109,8 +109,8 @@ fn why_not_created(name: String, why: io::ErrorKind) -> ReplaceFault {
     }
 }
 
-/// Writes bytes into a new file, which takes the place of the file of this name, of which this is known if there is one.
-/// The new file has the suffix behind that name until then.
+/// Writes bytes into a new file, which takes the place of the file of this name, of which this is known if there is
+/// one. The new file has the suffix behind that name until then.
 pub(crate) fn replace<R: AllocGlobal + Files<File = File>>(
     rt: &R,
     name: &str,

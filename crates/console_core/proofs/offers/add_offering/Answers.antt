@@ -23,7 +23,8 @@ loop-place-preserved c =
           rw w.states-is
           (seeds-more u c.args.accent met c.loop-place.states.entries w.add_state.new.states.entries n
           c.entry-held.result c.requires.searched c.loop-place.invariant c.entry-held.ensures
-          (c.requires.usable, (w.in-Some.field-0, w.in-Some.ensures.0, w.in-Some.ensures.1)) w.in_ok-add_state-in-Some.ensures)
+          (c.requires.usable, (w.in-Some.field-0, w.in-Some.ensures.0, w.in-Some.ensures.1))
+          w.in_ok-add_state-in-Some.ensures)
       | in-None w ↦
           rw w.states-is
           (seeds-skip u c.args.accent met c.loop-place.states.entries n c.entry-held.result c.loop-place.invariant

@@ -15,7 +15,8 @@ loop-place-preserved c =
     let n = c.loop-place.place in
     let y = c.entry-held.result in
     let added : AreAdded u (state_of y.0) n 0 c.args.presses es now = c.in_ok-meet_frees.ensures.added in
-    let step : Searched u (origin_of c.args.maps.now) now c.args.level (n + 1) × AreInOrder now c.args.level c.args.presses =
+    let step : Searched u (origin_of c.args.maps.now) now c.args.level (n + 1)
+    × AreInOrder now c.args.level c.args.presses =
     close-step u es now c.args.level c.args.presses n y c.loop-place.invariant.searched c.loop-place.invariant.order
     c.loop-place.invariant.after c.entry-held.ensures added
     c.in_ok-meet_frees.ensures.met c.in_ok-meet_frees.ensures.exchanged in

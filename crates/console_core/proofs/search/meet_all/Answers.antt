@@ -108,7 +108,8 @@ loop-level-preserved c =
     let closed_longer : length es ≤ length mid = added-longer es mid c.in_ok-stuck.ensures.grown in
     let pressed_longer : length mid ≤ length now = added-longer mid now c.in_ok-press.ensures.grown in
     record {
-      searched = subst (λ n. Searched u (origin_of c.args.maps.now) now n n) (sym e) (c.in_ok-press.ensures.searched small);
+      searched = subst (λ n. Searched u (origin_of c.args.maps.now) now n n) (sym e)
+          (c.in_ok-press.ensures.searched small);
       safe = λ stops. subst (λ n. AreSafe u now n) (sym e)
           (safe-grows u mid now (length mid) c.in_ok-press.ensures.grown (omega arith)
           (c.in_ok-stuck.ensures.all_safe c.in_default.is few stops));

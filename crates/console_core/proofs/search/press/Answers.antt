@@ -27,7 +27,8 @@ loop-place-preserved c =
     let y = c.entry-held.result in
     let le : c.args.level ≤ n = omega (arith, c.loop-place.auto.place) in
     let lt : n < length old = omega (arith, c.loop-place-test.true, c.len-end.ensures.len) in
-    let step : Searched u (origin_of c.args.maps.now) now (n + 1) (length old) × AreInOrder now (length old) (c.args.presses + 1) × Grows old now =
+    let step : Searched u (origin_of c.args.maps.now) now (n + 1) (length old)
+    × AreInOrder now (length old) (c.args.presses + 1) × Grows old now =
     press-step u old es now c.args.level c.args.presses n y c.loop-place.invariant.searched c.requires.order
     c.loop-place.invariant.grown c.loop-place.invariant.order le lt c.entry-held.ensures
     c.in_ok-meet_presses.ensures.added c.in_ok-meet_presses.ensures.met in

@@ -43,7 +43,8 @@ loop-place-preserved c =
       typed = typed-one m c.args.characters.now c.loop-place.place c.loop-place.keyed.items
           c.push_keyed.new.keyed.items old now (state_of c.loop-place.from)
           (record { character = x; end = c.len-end.result }) (state_of c.in-To.next)
-          c.loop-place.invariant.typed c.loop-place-test.true c.index-characters-place.is (c.len-end.ensures ∙ c.type_next.new.events.ok.0)
+          c.loop-place.invariant.typed c.loop-place-test.true c.index-characters-place.is (c.len-end.ensures
+          ∙ c.type_next.new.events.ok.0)
           (subst (λ r. Leads m x (state_of c.loop-place.from) (reverse old) (reverse now) r) c.in-To.is
           c.in_ok-next.ensures.leads)
           c.in_ok-push_keyed.ensures;

@@ -23,7 +23,8 @@ returns-then-leaves_out c =
     let shown = c.in-Some.shown in
     let shows : EndsAtRest m shown.0 × SeesAll m asked shown.0 × AreParts shown.1.items (length shown.0.strokes.items) =
     subst (λ o. MatchOption o ((p : ℕ) × ReachesMoreThan (alone m) state_limit p)
-    (λ t. EndsAtRest m t.0 × SeesAll m asked t.0 × AreParts t.1.items (length t.0.strokes.items))) c.in-Some.is c.in_ok-shown.ensures in (
+    (λ t. EndsAtRest m t.0 × SeesAll m asked t.0 × AreParts t.1.items (length t.0.strokes.items))) c.in-Some.is
+    c.in_ok-shown.ensures in (
       c.in_ok-planned.ensures.tour,
       some-out m c.in_ok-told.told.items c.deref-in-Some.result.now asked shown.0 c.in_ok-planned.planned.0
           c.deref-in-Some.ensures.value c.deref-2.ensures.value shows.1
@@ -39,7 +40,8 @@ returns-else-leaves_out c =
     let shown = c.in-Some.shown in
     let shows : EndsAtRest m shown.0 × SeesAll m asked shown.0 × AreParts shown.1.items (length shown.0.strokes.items) =
     subst (λ o. MatchOption o ((p : ℕ) × ReachesMoreThan (alone m) state_limit p)
-    (λ t. EndsAtRest m t.0 × SeesAll m asked t.0 × AreParts t.1.items (length t.0.strokes.items))) c.in-Some.is c.in_ok-shown.ensures in (
+    (λ t. EndsAtRest m t.0 × SeesAll m asked t.0 × AreParts t.1.items (length t.0.strokes.items))) c.in-Some.is
+    c.in_ok-shown.ensures in (
       shows.0,
       none-out m c.in_ok-told.told.items c.deref-in-Some.result.now shown.0 c.in_ok-told.ensures
           c.deref-in-Some.ensures.value (c.if-leaves_out.ensures.none are refl),

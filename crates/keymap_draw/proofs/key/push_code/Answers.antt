@@ -5,7 +5,8 @@ use Rattle.keymap_draw.specs.Sheets.{ReadAs, within, in_key}
 use Rattle.keymap_draw.proofs.Scans.{filling, held, told, is_within, further}
 use Rattle.keymap_draw.proofs.key.push_code.Goals as goal
 
-read : (c : goal.In_ok-fill) → ReadAs (within in_key (c.args.sheet ++ Legend c.as_slice.result.now c.as_slice-2.result.now
+read : (c : goal.In_ok-fill) → ReadAs (within in_key
+    (c.args.sheet ++ Legend c.as_slice.result.now c.as_slice-2.result.now
     (c.as_slice-3.result.now ++ c.flag_words.result.now) ∷ [])) c.fill.new.text.items
 read c =
     further (held c.sheet.invariant c.sheet.view_is) c.in_ok-fill.ensures

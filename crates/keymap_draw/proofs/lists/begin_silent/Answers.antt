@@ -7,7 +7,8 @@ use Rattle.keymap_draw.proofs.lists.begin_silent.Goals as goal
 read : (c : goal.In_ok-fill) → ReadAs (within in_row c.args.sheet) c.fill.new.text.items
 read c =
     further (held c.sheet.invariant c.sheet.view_is) c.in_ok-fill.ensures
-    (filling {s = within in_svg c.args.sheet} {t = within in_row c.args.sheet} words.SILENT.now (c.as_slice.result.now ∷ c.as_slice-2.result.now ∷ [])
+    (filling {s = within in_svg c.args.sheet} {t = within in_row c.args.sheet} words.SILENT.now
+    (c.as_slice.result.now ∷ c.as_slice-2.result.now ∷ [])
     (rw (c.as_slice.ensures.value, c.digits.ensures.inner, c.as_slice-2.ensures.value, c.digits-2.ensures.inner) refl)
     refl)
 

@@ -42,7 +42,8 @@ read c =
     c.in_ok-extend_from_slice.ensures.items style_in)
     c.in_ok-extend_from_slice-2.ensures.items shapes_in)
     c.in_ok-fill-2.ensures
-    (filling {t = within in_svg []} words.PAGE.now (c.as_slice-3.result.now ∷ []) (rw (c.as_slice-3.ensures.value, c.digits-high.ensures.inner) refl) refl)
+    (filling {t = within in_svg []} words.PAGE.now (c.as_slice-3.result.now ∷ [])
+    (rw (c.as_slice-3.ensures.value, c.digits-high.ensures.inner) refl) refl)
 
 pub invariant_of-result : goal.invariant_of-result
 invariant_of-result c = is_within (read c)

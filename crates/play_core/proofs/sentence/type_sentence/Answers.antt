@@ -39,7 +39,8 @@ returns-in-Err-NoWay-clause-err c =
     let error = rw c.in-Err-NoWay.field-0-is at c.in-Err-NoWay.ensures.error in
     let (can, (y, at, none)) = rw c.as_slice.ensures.value at error in
     let lt : place < length cs = slice_get_within cs place y at in
-    let same : x ≡ y = same_Some x y (sym (slice_get-get_or cs place x lt ∙ ap (λ z. Some z) (sym c.index.ensures)) ∙ at) in
+    let same : x ≡ y = same_Some x y (sym (slice_get-get_or cs place x lt ∙ ap (λ z. Some z) (sym c.index.ensures))
+    ∙ at) in
     let u : IsUtf8 bytes = search rules in
     let text : encode_utf8_all cs ≡ bytes = search rules in
     let scalars : all_scalars cs ≡ true =

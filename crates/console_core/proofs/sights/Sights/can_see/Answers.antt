@@ -8,7 +8,8 @@ use Rattle.console_core.proofs.sights.Sights.can_see.Goals as goal
 pair-value : (c : goal.After-is_composed) → c.is_composed.result ≡ can_see c.args.map.now c.args.self.now c.args.sight
 pair-value c =
     c.is_composed.ensures
-    ∙ ap (λ z. is_composed c.args.map.now z c.in-Pair.accent (Pair c.in-Pair.accent c.in-Pair.character)) c.deref.ensures.value
+    ∙ ap (λ z. is_composed c.args.map.now z c.in-Pair.accent (Pair c.in-Pair.accent c.in-Pair.character))
+    c.deref.ensures.value
     ∙ ap (λ x. can_see c.args.map.now c.args.self.now x) (sym c.in-Pair.is)
 
 pub returns-in-Pair-clause-reachable : goal.returns-in-Pair-clause-reachable

@@ -5,7 +5,8 @@ ghost use Rattle.keymap_core.specs.CodePoints as spec;
 
 use arrayvec::ArrayVec;
 
-fn hex_digit(digit: u32) -> u8
+/// The lower case hexadecimal digit of a number below 16.
+pub fn hex_digit(digit: u32) -> u8
     requires { digit < 16 }
     ensures { result ≡ digit_char digit }
 {

@@ -41,7 +41,7 @@ pub use action::{
     ScreenNumber,
 };
 pub use bearers::{is_borne_in, is_upper_live_in};
-pub use code_point::{code_digits, code_text};
+pub use code_point::{code_digits, code_text, hex_digit};
 pub use definitions::Definitions;
 pub use device::{Failed, Read, Write};
 pub use entry::{Cell, Entry, LockFlag};

@@ -3,7 +3,7 @@ use Rattle.std.specs.Prelude.{ℕ, ◌-◌, ◌/◌, ◌%◌, ◌==◌, Bool, tr
 use Rattle.std.specs.Prelude.{List, [], ◌∷◌, decimal, length, take, drop, slice_index, encode_utf8}
 use Rattle.std.specs.Prelude.{Option, Some, None, Result, Ok, Err}
 use Rattle.std.specs.Char.{digit_char, is_ascii_hexdigit, to_ascii_lowercase}
-use Rattle.std.specs.List.{flat_map, before_first}
+use Rattle.std.specs.List.{flat_map, before_first, take_while}
 use Rattle.keymap_text.specs.declared.fault.TextFaultKind.{TextFaultKind}
 use Rattle.keymap_text.specs.declared.fault.TextFaultKind.TheVariants as faults
 use Rattle.keymap_text.specs.declared.wanted.Wanted.{Wanted}
@@ -33,12 +33,9 @@ abbrev pub is_refused : Result (Option TokenValue) (TextFaultKind × ℕ) → Bo
 is_refused (Ok t) = false
 is_refused (Err f) = true
 
-abbrev pub ends_word : ℕ → Bool
-ends_word c = not (is_word c)
-
 -- the word in front of bytes
 abbrev pub front_word : List ℕ → List ℕ
-front_word bytes = before_first ends_word bytes
+front_word bytes = take_while is_word bytes
 
 abbrev pub is_no_hex : ℕ → Bool
 is_no_hex c = not (is_ascii_hexdigit c)

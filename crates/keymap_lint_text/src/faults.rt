@@ -1,6 +1,5 @@
 //! What is said of the fault of a text.
 ghost use Rattle.std.specs.Prelude.{◌≡◌, ◌<◌, ◌≤◌, ◌-◌, length, take, drop, slice_index, position, IfOk, IfSome};
-ghost use Rattle.std.specs.Char.{digit_char};
 ghost use Rattle.std.specs.List.{before_first};
 ghost use Rattle.keymap_lint_text.specs.Faults as spec;
 
@@ -10,8 +9,9 @@ use crate::words::{
     ENDS_QUOTED, FEW_CELLS, FUNCTION_KEYS, KEY_TOO_LARGE, LONG_WORD, MARK, MEANT_CHARACTER,
     MEANT_NOP, MEANT_NUMBER, SCREENS, TOO_MANY_PAIRS, UNEXPECTED, UNNAMED_BYTE, ZERO_BASE,
 };
+use keymap_core::hex_digit;
 use keymap_text::{
-    DefinitionStart, FaultPlace, Meaning, TextFaultKind, Wanted, next_token, word_meaning,
+    DefinitionStart, FaultPlace, Meaning, TextFaultKind, Wanted, next_token, word_len, word_meaning,
 };
 use messages::{either, filled, number};
 use std::alloc::{AllocError, Global};
@@ -38,19 +38,11 @@ fn is_refused(text: &[u8], place: usize) -> bool
     }
 }
 
-fn word_end(bytes: &[u8]) -> Option<usize>
-    ensures place { result ≡ position spec.ends_word bytes.now }
-    ensures bound { IfSome result (λ i. i < length bytes.now) }
-{
-    bytes.iter().position(|c| !c.is_ascii_alphanumeric())
-}
-
 /// The word in front of bytes.
 fn front_word(bytes: &[u8]) -> &[u8]
     ensures { result.now ≡ spec.front_word bytes.now }
 {
-    let end = word_end(bytes).unwrap_or(bytes.len());
-    &bytes[..end]
+    &bytes[..word_len(bytes)]
 }
 
 fn hex_end(bytes: &[u8]) -> Option<usize>
@@ -94,17 +86,6 @@ fn front(alloc: Global, bytes: &[u8]) -> Result<Vec<u8>, AllocError>
     first_shown(alloc, few_bytes(bytes), 1)
 }
 
-fn hex_digit(digit: u8) -> u8
-    requires { digit < 16 }
-    ensures { result ≡ digit_char digit }
-{
-    if digit < 10 {
-        b'0' + digit
-    } else {
-        b'a' + (digit - 10)
-    }
-}
-
 fn first_byte(bytes: &[u8]) -> u8
     ensures { result ≡ slice_index bytes.now 0 }
 {
@@ -125,7 +106,7 @@ fn bad_byte(alloc: Global, bytes: &[u8]) -> Result<Vec<u8>, AllocError>
 {
     let byte = first_byte(bytes);
     if byte < 33 || byte == 127 {
-        let digits = [hex_digit(byte / 16), hex_digit(byte % 16)];
+        let digits = [hex_digit(byte as u32 / 16), hex_digit(byte as u32 % 16)];
         filled(alloc, UNNAMED_BYTE, &[&digits])
     } else if begins_with_mark(bytes) {
         filled(alloc, MARK, &[])

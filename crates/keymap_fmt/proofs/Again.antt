@@ -5,7 +5,7 @@ use Rattle.keymap_fmt.specs.Pieces.{PieceValue, pieces_after, pieces, behind}
 use Rattle.keymap_fmt.specs.Layout.{before, after, ending, start}
 use Rattle.keymap_fmt.specs.Formatted.{rendered_from, formatted}
 use Rattle.keymap_fmt.specs.Same.{part_and_bytes}
-use Rattle.keymap_fmt.proofs.Reading.{TokenLaws, token_read, comment_read}
+use Rattle.keymap_fmt.proofs.Reading.{token_read, comment_read}
 use Rattle.keymap_fmt.proofs.Texts.{ArePieces, no_piece, one_piece, Reads, text_pieces}
 use Rattle.keymap_fmt.proofs.Written.{IsAt, lowered_by, read_blanks, before_blanks, before_again, after_at}
 use Rattle.keymap_fmt.proofs.Written.{rendered_blank, line_end_read}
@@ -66,9 +66,9 @@ again_from s u qs a (one_piece {ps = ps} p r h more) =
     ∙ written_again s p (stands s p u) _ ps (before_again s p.part p.bytes u p.standing a h)
     (again_from (after s p.part p.bytes) (behind p.part) ps (after_at s p.part p.bytes) more)
 
-pub parts_stay : TokenLaws → (text : List ℕ)
+pub parts_stay : (text : List ℕ)
     → map part_and_bytes (pieces (formatted text)) ≡ map part_and_bytes (pieces text)
-parts_stay laws text = parts_from start AtTop (pieces text) (text_pieces laws text 0 AtTop)
+parts_stay text = parts_from start AtTop (pieces text) (text_pieces text 0 AtTop)
 
-pub formatted_again : TokenLaws → (text : List ℕ) → formatted (formatted text) ≡ formatted text
-formatted_again laws text = again_from start AtTop (pieces text) refl (text_pieces laws text 0 AtTop)
+pub formatted_again : (text : List ℕ) → formatted (formatted text) ≡ formatted text
+formatted_again text = again_from start AtTop (pieces text) refl (text_pieces text 0 AtTop)

@@ -1,49 +1,14 @@
 -- What a text has as pieces, step by step.
-use Rattle.std.proofs.Common.{◌≡◌, ℕ, zero, suc, ◌==◌, ◌||◌, Bool, true, false, List, [], ◌∷◌, ◌++◌, length, take, drop}
-use Rattle.std.proofs.Common.{refl, sym, ◌∙◌, ap, eqb-true, true≢false, slice_index}
+use Rattle.std.proofs.Common.{◌≡◌, ℕ, zero, suc, ◌-◌, ◌==◌, true, false, List, [], ◌∷◌, ◌++◌, length, take, drop, get_or}
+use Rattle.std.proofs.Common.{refl, sym, ◌∙◌, ap, arith, eq-eqb, slice_index}
+use Rattle.std.proofs.lemmas.Bool.Decides.{nat_tests}
 use Rattle.std.specs.List.{list_all}
-use Rattle.keymap_text.specs.Lexical.{is_space, is_blank, separates, stays_on_line, leading, front_of, Front, Found}
-use Rattle.keymap_text.specs.Lexical.{Skipped, Refused, Unfinished}
 use Rattle.std.proofs.Math.Seq.{take-append_seam, drop-append_seam}
-use Rattle.keymap_text.specs.Alone.{StandsAlone}
+use Rattle.keymap_text.specs.Lexical.{is_space, is_blank, stays_on_line, leading, front_of, Found, Refused, Unfinished}
+use Rattle.keymap_text.proofs.InFront.{front_blank, front_comment}
 use Rattle.keymap_fmt.specs.Types.{TextFaultKind, TokenKind, Standing, Beside, Below, Comment, Code}
 use Rattle.keymap_fmt.specs.Pieces.{PieceValue, pieces_after, lowered, comment, trimmed}
-use Rattle.keymap_text.proofs.InFront.{front_blank, front_comment}
-use Rattle.keymap_fmt.proofs.Leading.{leading_ended}
-
--- what keymap_text says of tokens in front (`laws::tokens_stand_alone`)
-pub record TokenLaws : Type 0 where
-  pub found : (c n : ℕ) (kind : TokenKind) (bytes : List ℕ) → front_of c bytes ≡ Found kind n
-      → StandsAlone kind c n bytes
-  pub skipped : (c n : ℕ) (bytes : List ℕ) → front_of c bytes ≡ Skipped n → separates c ≡ true
-
--- what stands at the front of some bytes
-pub data AtFront (c : ℕ) (bytes : List ℕ) : Type 0 where
-  blank : is_blank c ≡ true → AtFront c bytes
-  hash : c ≡ 35 → AtFront c bytes
-  token : (kind : TokenKind) (n : ℕ) → is_blank c ≡ false → (c == 35) ≡ false → front_of c bytes ≡ Found kind n
-      → AtFront c bytes
-  refused : (f : TextFaultKind) → is_blank c ≡ false → (c == 35) ≡ false → front_of c bytes ≡ Refused f
-      → AtFront c bytes
-  unfinished : is_blank c ≡ false → (c == 35) ≡ false → front_of c bytes ≡ Unfinished → AtFront c bytes
-
--- something does
-pub at_front : TokenLaws → (c : ℕ) (bytes : List ℕ) → AtFront c bytes
-at_front laws c bytes = go (is_blank c) refl (c == 35) refl (front_of c bytes) refl
-  where
-    apart : is_blank c ≡ false → (c == 35) ≡ false → separates c ≡ true → ⊥
-    apart p q h =
-        let other : separates c ≡ false = ap (λ b. b || (c == 35)) p ∙ q in
-        true≢false (sym h ∙ other)
-
-    go : (a : Bool) → is_blank c ≡ a → (b : Bool) → (c == 35) ≡ b → (f : Front) → front_of c bytes ≡ f
-        → AtFront c bytes
-    go true p b q f r = blank p
-    go false p true q f r = hash (eqb-true _ _ q)
-    go false p false q (Found kind n) r = token kind n p q r
-    go false p false q (Refused f) r = refused f p q r
-    go false p false q Unfinished r = unfinished p q r
-    go false p false q (Skipped n) r = absurd (apart p q (laws.skipped c n bytes r))
+use Rattle.keymap_fmt.proofs.Leading.{leading_ended, trim_kept}
 
 -- no bytes have no pieces
 pub read_nil : (k : ℕ) (s : Standing) → pieces_after k s [] ≡ []
@@ -67,46 +32,35 @@ read_after (suc k) s (c ∷ bytes) = read_one k s c bytes ∙ read_after k s byt
 pub read_blank : (s : Standing) (c : ℕ) (bytes : List ℕ) → is_blank c ≡ true
     → pieces_after 0 s (c ∷ bytes) ≡ pieces_after 0 (lowered c s) bytes
 unfolding pieces_after
-read_blank s c bytes h = rw (h, pieces_after) refl
+read_blank s c bytes h = rw (front_blank c bytes h, no_hash c h, pieces_after) refl
+  where
+    no_hash : (c : ℕ) → is_blank c ≡ true → (c == 35) ≡ false
+    no_hash c h = grind (arith, nat_tests)
 
 -- a comment
-pub read_hash : (s : Standing) (bytes : List ℕ) → pieces_after 0 s (35 ∷ bytes)
-    ≡ comment (35 ∷ take (leading stays_on_line bytes) bytes) s
+pub read_hash : (s : Standing) (c : ℕ) (bytes : List ℕ) → c ≡ 35 → pieces_after 0 s (c ∷ bytes)
+    ≡ comment (c ∷ take (leading stays_on_line bytes) bytes) s
     ∷ pieces_after (suc (leading stays_on_line bytes)) Below bytes
 unfolding pieces_after
-read_hash s bytes = refl
+read_hash s c bytes h = rw (front_comment c bytes h, eq-eqb c 35 h, pieces_after) refl
 
 -- a token
-pub read_token : (s : Standing) (c : ℕ) (bytes : List ℕ) (kind : TokenKind) (n : ℕ) → is_blank c ≡ false
-    → (c == 35) ≡ false → front_of c bytes ≡ Found kind n → pieces_after 0 s (c ∷ bytes)
+pub read_token : (s : Standing) (c : ℕ) (bytes : List ℕ) (kind : TokenKind) (n : ℕ) → front_of c bytes ≡ Found kind n
+    → pieces_after 0 s (c ∷ bytes)
     ≡ record { part = Code kind; bytes = c ∷ take n bytes; standing = s } ∷ pieces_after n Beside bytes
 unfolding pieces_after
-read_token s c bytes kind n p q h = rw (p, q, h, pieces_after) refl
+read_token s c bytes kind n h = rw (h, pieces_after) refl
 
 -- a place where no token stands
-pub read_refused : (s : Standing) (c : ℕ) (bytes : List ℕ) (f : TextFaultKind) → is_blank c ≡ false
-    → (c == 35) ≡ false → front_of c bytes ≡ Refused f → pieces_after 0 s (c ∷ bytes) ≡ []
+pub read_refused : (s : Standing) (c : ℕ) (bytes : List ℕ) (f : TextFaultKind) → front_of c bytes ≡ Refused f
+    → pieces_after 0 s (c ∷ bytes) ≡ []
 unfolding pieces_after
-read_refused s c bytes f p q h = rw (p, q, h, pieces_after) refl
+read_refused s c bytes f h = rw (h, pieces_after) refl
 
-pub read_unfinished : (s : Standing) (c : ℕ) (bytes : List ℕ) → is_blank c ≡ false
-    → (c == 35) ≡ false → front_of c bytes ≡ Unfinished → pieces_after 0 s (c ∷ bytes) ≡ []
+pub read_unfinished : (s : Standing) (c : ℕ) (bytes : List ℕ) → front_of c bytes ≡ Unfinished
+    → pieces_after 0 s (c ∷ bytes) ≡ []
 unfolding pieces_after
-read_unfinished s c bytes p q h = rw (p, q, h, pieces_after) refl
-
--- a token begins with neither a blank nor a comment
-pub token_plain : (c n : ℕ) (kind : TokenKind) (bytes : List ℕ) → front_of c bytes ≡ Found kind n
-    → (is_blank c ≡ false) × ((c == 35) ≡ false)
-token_plain c n kind bytes h = (plain (is_blank c) refl, other (c == 35) refl)
-  where
-    plain : (b : Bool) → is_blank c ≡ b → is_blank c ≡ false
-    plain true e = absurd (let g = sym (front_blank c bytes e) ∙ h in cc)
-    plain false e = e
-
-    other : (b : Bool) → (c == 35) ≡ b → (c == 35) ≡ false
-    other true e = absurd (
-        let g = sym (front_comment c bytes (eqb-true _ _ e)) ∙ h in cc)
-    other false e = e
+read_unfinished s c bytes h = rw (h, pieces_after) refl
 
 -- The bytes begin with a blank.
 pub record BeginsBlank (y : List ℕ) : Type 0 where
@@ -129,7 +83,7 @@ pub record ReadsComment (bytes : List ℕ) : Type 0 where
   pub rest : List ℕ
   pub is : bytes ≡ 35 ∷ rest
   pub on_line : leading stays_on_line rest ≡ length rest
-  pub cut : trimmed (35 ∷ rest) ≡ 35 ∷ rest
+  pub end : is_space (slice_index (35 ∷ rest) (length rest)) ≡ false
 
 -- such a token in front
 pub token_read : (kind : TokenKind) (bytes y : List ℕ) (s : Standing) → ReadsToken kind bytes → BeginsBlank y
@@ -140,8 +94,7 @@ token_read kind bytes y s r b =
     let w = r.rest in
     let found : front_of c (w ++ y) ≡ Found kind (length w) =
     ap (λ y. front_of c (w ++ y)) b.is ∙ r.alone b.first b.rest b.blank in
-    let plain = token_plain c (length w) kind (w ++ y) found in
-    ap (λ t. pieces_after 0 s (t ++ y)) r.is ∙ read_token s c (w ++ y) kind (length w) plain.0 plain.1 found
+    ap (λ t. pieces_after 0 s (t ++ y)) r.is ∙ read_token s c (w ++ y) kind (length w) found
     ∙ ap (λ (t : List ℕ). record { part = Code kind; bytes = c ∷ t; standing = s }
     ∷ pieces_after (length w) Beside (w ++ y)) (take-append_seam w y)
     ∙ ap (λ (t : List ℕ). record { part = Code kind; bytes = t; standing = s }
@@ -161,10 +114,15 @@ pub comment_read : (bytes y : List ℕ) (s : Standing) → ReadsComment bytes
 comment_read bytes y s r =
     let w = r.rest in
     let n : leading stays_on_line (w ++ 10 ∷ y) ≡ length w = leading_ended stays_on_line w 10 y r.on_line refl in
-    ap (λ t. pieces_after 0 s (t ++ 10 ∷ y)) r.is ∙ read_hash s (w ++ 10 ∷ y)
+    let kept : trimmed (35 ∷ w) ≡ 35 ∷ w =
+    trim_kept (35 ∷ w) (omega arith) (ap (λ n. is_space (get_or (35 ∷ w) n 0)) (before (length w)) ∙ r.end) in
+    ap (λ t. pieces_after 0 s (t ++ 10 ∷ y)) r.is ∙ read_hash s 35 (w ++ 10 ∷ y) refl
     ∙ ap (λ n. comment (35 ∷ take n (w ++ 10 ∷ y)) s ∷ pieces_after (suc n) Below (w ++ 10 ∷ y)) n
     ∙ ap (λ t. comment (35 ∷ t) s ∷ pieces_after (suc (length w)) Below (w ++ 10 ∷ y)) (take-append_seam w (10 ∷ y))
     ∙ ap (λ (t : List ℕ). record { part = Comment; bytes = t; standing = s }
-    ∷ pieces_after (suc (length w)) Below (w ++ 10 ∷ y)) (r.cut ∙ sym r.is)
+    ∷ pieces_after (suc (length w)) Below (w ++ 10 ∷ y)) (kept ∙ sym r.is)
     ∙ ap (λ (ps : List PieceValue). record { part = Comment; bytes = bytes; standing = s } ∷ ps)
     (read_after (suc (length w)) Below (w ++ 10 ∷ y) ∙ ap (pieces_after 0 Below) (drop_line w y 10))
+  where
+    before : (n : ℕ) → suc n - 1 ≡ n
+    before n = omega arith

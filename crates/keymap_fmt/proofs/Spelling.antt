@@ -1,11 +1,11 @@
 -- The tokens among the pieces are those of the text, so what is written spells what the text spells.
-use Rattle.std.proofs.Common.{◌≡◌, ℕ, zero, suc, ◌+◌, ◌==◌, Bool, true, false, List, [], ◌∷◌, ◌++◌, length, take}
+use Rattle.std.proofs.Common.{◌≡◌, ◌⊎◌, inl, inr, ℕ, zero, suc, ◌+◌, ◌==◌, Bool, true, false, List, [], ◌∷◌, ◌++◌, length, take}
 use Rattle.std.proofs.Common.{map, refl, sym, ◌∙◌, ap, subst, arith, add-one, if◌then◌else◌, Ok}
 use Rattle.std.proofs.lemmas.Bool.Decides.{nat_tests}
 use Rattle.std.specs.List.{flat_map}
 use Rattle.keymap_fmt.specs.Types.{TextFaultKind, TokenKind, State, Standing, AtTop, Beside, Below, Part, Comment, Code}
-use Rattle.keymap_text.specs.Lexical.{is_blank, stays_on_line, leading, front_of, Found}
-use Rattle.keymap_text.specs.Lexical.{Refused, Unfinished, TokenValue, tokens_after}
+use Rattle.keymap_text.specs.Lexical.{is_blank, stays_on_line, leading, front_of, Front, Skipped, Found, Refused}
+use Rattle.keymap_text.specs.Lexical.{Unfinished, TokenValue, tokens_after}
 use Rattle.keymap_text.specs.Meaning.{list_of, ending_of_tokens, tokens, items, item_of, ending, Spells}
 use Rattle.keymap_text.specs.Rows.{IsRow}
 use Rattle.keymap_text.specs.Words.{item}
@@ -15,10 +15,9 @@ use Rattle.keymap_fmt.specs.Layout.{before, after, ending as ending_of_part, lin
 use Rattle.keymap_fmt.specs.Formatted.{rendered_from, formatted}
 use Rattle.keymap_fmt.specs.Same.{part_and_bytes, kind_and_bytes, token_in, token_of}
 use Rattle.keymap_text.proofs.Leading.{leading_pass, leading_fail}
-use Rattle.keymap_text.proofs.InFront.{front_comment}
-use Rattle.keymap_text.proofs.Splitting.{split_one, split_nil, split_skipped, split_blank}
+use Rattle.keymap_text.proofs.InFront.{skipped_by}
+use Rattle.keymap_text.proofs.Splitting.{split_one, split_nil, split_comment, split_blank}
 use Rattle.keymap_fmt.proofs.Leading.{leading_ended}
-use Rattle.keymap_fmt.proofs.Reading.{TokenLaws, AtFront, blank, hash, token, refused, unfinished, at_front}
 use Rattle.keymap_fmt.proofs.Reading.{BeginsBlank, ReadsToken, ReadsComment, read_nil}
 use Rattle.keymap_fmt.proofs.Reading.{read_one, read_blank, read_hash, read_token, read_refused, read_unfinished}
 use Rattle.keymap_fmt.proofs.Texts.{ArePieces, no_piece, one_piece, Reads, text_pieces}
@@ -75,47 +74,51 @@ line_passed q (c ∷ bytes) = go (stays_on_line c) refl (line_passed (q + 1) byt
         ∙ sym (ap (λ n. tokens_after (suc n) q (c ∷ bytes)) n)
 
 -- the tokens among the pieces are those of the bytes
-pub piece_tokens : TokenLaws → (bytes : List ℕ) (k q : ℕ) (s : Standing)
+pub piece_tokens : (bytes : List ℕ) (k q : ℕ) (s : Standing)
     → flat_map token_of (pieces_after k s bytes) ≡ map kind_and_bytes (list_of (tokens_after k q bytes))
-piece_tokens laws [] k q s = ap (flat_map token_of) (read_nil k s) ∙ sym (ap (map kind_and_bytes) (no_tokens k q))
-piece_tokens laws (c ∷ bytes) k q s = go k q s (piece_tokens laws bytes)
+piece_tokens [] k q s = ap (flat_map token_of) (read_nil k s) ∙ sym (ap (map kind_and_bytes) (no_tokens k q))
+piece_tokens (c ∷ bytes) k q s = go k q s (piece_tokens bytes)
   where
-    at : ((k q : ℕ) (s : Standing) → flat_map token_of (pieces_after k s bytes)
-        ≡ map kind_and_bytes (list_of (tokens_after k q bytes))) → (q : ℕ) (s : Standing) → AtFront c bytes
+    skipped : ((k q : ℕ) (s : Standing) → flat_map token_of (pieces_after k s bytes)
+        ≡ map kind_and_bytes (list_of (tokens_after k q bytes))) → (q : ℕ) (s : Standing)
+        → (is_blank c ≡ true) ⊎ (c ≡ 35)
         → flat_map token_of (pieces_after 0 s (c ∷ bytes))
         ≡ map kind_and_bytes (list_of (tokens_after 0 q (c ∷ bytes)))
-    at more q s (blank e) =
+    skipped more q s (inl e) =
         ap (flat_map token_of) (read_blank s c bytes e) ∙ more 0 (q + 1) (lowered c s)
         ∙ sym (ap (λ ts. map kind_and_bytes (list_of ts)) (split_blank q c bytes e))
-    at more q s (hash e) =
-        let n = leading stays_on_line bytes in
-        ap (flat_map token_of) (ap (λ c. pieces_after 0 s (c ∷ bytes)) e ∙ read_hash s bytes)
-        ∙ more (suc n) (q + 1) Below
-        ∙ sym (ap (λ ts. map kind_and_bytes (list_of ts)) (ap (λ c. tokens_after 0 q (c ∷ bytes)) e
-        ∙ split_skipped q 35 n bytes (front_comment 35 bytes refl) ∙ line_passed (q + 1) bytes))
-    at more q s (token kind n p r h) =
-        ap (flat_map token_of) (read_token s c bytes kind n p r h)
+    skipped more q s (inr e) =
+        ap (flat_map token_of) (read_hash s c bytes e) ∙ more (suc (leading stays_on_line bytes)) (q + 1) Below
+        ∙ sym (ap (λ ts. map kind_and_bytes (list_of ts)) (split_comment q c bytes e ∙ line_passed (q + 1) bytes))
+
+    at : ((k q : ℕ) (s : Standing) → flat_map token_of (pieces_after k s bytes)
+        ≡ map kind_and_bytes (list_of (tokens_after k q bytes))) → (q : ℕ) (s : Standing) (f : Front)
+        → front_of c bytes ≡ f → flat_map token_of (pieces_after 0 s (c ∷ bytes))
+        ≡ map kind_and_bytes (list_of (tokens_after 0 q (c ∷ bytes)))
+    at more q s (Skipped n) h = skipped more q s (skipped_by c n bytes h)
+    at more q s (Found kind n) h =
+        ap (flat_map token_of) (read_token s c bytes kind n h)
         ∙ ap (λ (ts : List (TokenKind × List ℕ)). (kind, c ∷ take n bytes) ∷ ts) (more n (q + 1) Beside)
         ∙ sym (token_in_front q c n kind bytes h)
-    at more q s (refused f p r h) =
-        ap (flat_map token_of) (read_refused s c bytes f p r h)
+    at more q s (Refused f) h =
+        ap (flat_map token_of) (read_refused s c bytes f h)
         ∙ sym (ap (map kind_and_bytes) (refused_front q c f bytes h))
-    at more q s (unfinished p r h) =
-        ap (flat_map token_of) (read_unfinished s c bytes p r h)
+    at more q s Unfinished h =
+        ap (flat_map token_of) (read_unfinished s c bytes h)
         ∙ sym (ap (map kind_and_bytes) (unfinished_front q c bytes h))
 
     go : (k q : ℕ) (s : Standing) → ((k q : ℕ) (s : Standing) → flat_map token_of (pieces_after k s bytes)
         ≡ map kind_and_bytes (list_of (tokens_after k q bytes)))
         → flat_map token_of (pieces_after k s (c ∷ bytes))
         ≡ map kind_and_bytes (list_of (tokens_after k q (c ∷ bytes)))
-    go zero q s more = at more q s (at_front laws c bytes)
+    go zero q s more = at more q s (front_of c bytes) refl
     go (suc k) q s more =
         ap (flat_map token_of) (read_one k s c bytes) ∙ more k (q + 1) s
         ∙ sym (ap (λ ts. map kind_and_bytes (list_of ts)) (split_one k q c bytes))
 
-pub tokens_of_pieces : TokenLaws → (text : List ℕ)
+pub tokens_of_pieces : (text : List ℕ)
     → flat_map token_of (pieces text) ≡ map kind_and_bytes (tokens text)
-tokens_of_pieces laws text = piece_tokens laws text 0 0 AtTop
+tokens_of_pieces text = piece_tokens text 0 0 AtTop
 
 -- tokens are told by the parts
 in_parts : (ps : List PieceValue)
@@ -123,12 +126,12 @@ in_parts : (ps : List PieceValue)
 in_parts [] = refl
 in_parts (p ∷ ps) = ap (λ (ts : List (TokenKind × List ℕ)). token_in p.part p.bytes ++ ts) (in_parts ps)
 
-pub tokens_stay : TokenLaws → (text : List ℕ)
+pub tokens_stay : (text : List ℕ)
     → map kind_and_bytes (tokens (formatted text)) ≡ map kind_and_bytes (tokens text)
-tokens_stay laws text =
-    sym (tokens_of_pieces laws (formatted text)) ∙ sym (in_parts (pieces (formatted text)))
-    ∙ ap (flat_map (λ (p : Part × List ℕ). token_in p.0 p.1)) (parts_stay laws text) ∙ in_parts (pieces text)
-    ∙ tokens_of_pieces laws text
+tokens_stay text =
+    sym (tokens_of_pieces (formatted text)) ∙ sym (in_parts (pieces (formatted text)))
+    ∙ ap (flat_map (λ (p : Part × List ℕ). token_in p.0 p.1)) (parts_stay text) ∙ in_parts (pieces text)
+    ∙ tokens_of_pieces text
 
 -- one more in front
 one_more : {A : Type 0} (x : A) (xs ys : List A) → xs ≡ ys → x ∷ xs ≡ x ∷ ys
@@ -140,10 +143,10 @@ item_of_both : (ts : List TokenValue)
 item_of_both [] = refl
 item_of_both (t ∷ ts) = one_more (item t.kind t.bytes) _ _ (item_of_both ts)
 
-items_stay : TokenLaws → (text : List ℕ) → items (formatted text) ≡ items text
-items_stay laws text =
+items_stay : (text : List ℕ) → items (formatted text) ≡ items text
+items_stay text =
     sym (item_of_both (tokens (formatted text)))
-    ∙ ap (map (λ (p : TokenKind × List ℕ). item p.0 p.1)) (tokens_stay laws text) ∙ item_of_both (tokens text)
+    ∙ ap (map (λ (p : TokenKind × List ℕ). item p.0 p.1)) (tokens_stay text) ∙ item_of_both (tokens text)
 
 -- These bytes are tokens to their end, behind the first k of them.
 IsWhole : ℕ → List ℕ → Type 0
@@ -193,7 +196,7 @@ whole_comment bytes y r h = λ q.
     let k = whole_behind w (10 ∷ y) (whole_blank 10 y refl h) (q + 1) in (
       k.0,
       ap (λ t. ending_of_tokens (tokens_after 0 q (t ++ 10 ∷ y))) r.is
-          ∙ ap ending_of_tokens (split_skipped q 35 _ (w ++ 10 ∷ y) (front_comment 35 (w ++ 10 ∷ y) refl))
+          ∙ ap ending_of_tokens (split_comment q 35 (w ++ 10 ∷ y) refl)
           ∙ ap (λ n. ending_of_tokens (tokens_after n (q + 1) (w ++ 10 ∷ y))) n ∙ k.1,
     )
 
@@ -219,17 +222,17 @@ whole_from s u qs (one_piece {ps = ps} p r h more) =
     whole_blanks (before s p.part p.bytes p.standing) _ (before_blanks s p.part p.bytes p.standing)
     (whole_piece s p.part p.bytes ps r (whole_from (after s p.part p.bytes) (behind p.part) ps more))
 
-formatted_whole : TokenLaws → (text : List ℕ) → (end : ℕ) × (ending (formatted text) ≡ Ok end)
+formatted_whole : (text : List ℕ) → (end : ℕ) × (ending (formatted text) ≡ Ok end)
 unfolding IsWhole
-formatted_whole laws text = whole_from start AtTop (pieces text) (text_pieces laws text 0 AtTop) 0
+formatted_whole text = whole_from start AtTop (pieces text) (text_pieces text 0 AtTop) 0
 
 -- it spells what the text spells
-pub keymap_stays : TokenLaws → (text : List ℕ) (m : MapValue) → Spells text m → Spells (formatted text) m
-keymap_stays laws text m h =
-    let end = formatted_whole laws text in
+pub keymap_stays : (text : List ℕ) (m : MapValue) → Spells text m → Spells (formatted text) m
+keymap_stays text m h =
+    let end = formatted_whole text in
     record {
       definitions = h.definitions;
-      row = subst (λ is. IsRow is h.definitions) (sym (items_stay laws text)) h.row;
+      row = subst (λ is. IsRow is h.definitions) (sym (items_stay text)) h.row;
       end = end.0;
       whole = end.1;
       map = h.map;

@@ -1,14 +1,16 @@
 -- The pieces of a text: each one reads alone, and stands where a piece can stand.
-use Rattle.std.proofs.Common.{◌≡◌, ℕ, zero, suc, ◌==◌, Bool, true, false, List, [], ◌∷◌, if◌then◌else◌, take, refl, sym}
-use Rattle.std.proofs.Common.{◌∙◌, ap, subst, length, slice_index, arith}
+use Rattle.std.proofs.Common.{◌≡◌, ◌⊎◌, inl, inr, ℕ, zero, suc, ◌==◌, Bool, true, false, List, [], ◌∷◌, if◌then◌else◌, take}
+use Rattle.std.proofs.Common.{refl, sym, ◌∙◌, ap, subst, length, slice_index, arith}
 use Rattle.std.proofs.lemmas.Bool.Decides.{nat_tests}
-use Rattle.keymap_text.specs.Lexical.{is_blank, is_space, stays_on_line, leading, front_of, Found}
 use Rattle.std.proofs.lemmas.List.{length-take-le, get_or-take}
+use Rattle.keymap_text.specs.Lexical.{is_blank, is_space, stays_on_line, leading, front_of, Front, Skipped, Found, Refused}
+use Rattle.keymap_text.specs.Lexical.{Unfinished}
+use Rattle.keymap_text.proofs.Alone.{stands_alone}
+use Rattle.keymap_text.proofs.InFront.{skipped_by}
+use Rattle.keymap_text.proofs.Leading.{leading_front, leading_part}
 use Rattle.keymap_fmt.specs.Types.{TokenKind, Standing, AtTop, Beside, Below, Apart, Part, Comment, Code}
 use Rattle.keymap_fmt.specs.Pieces.{PieceValue, pieces_after, lower, lowered, behind, trimmed, comment}
-use Rattle.keymap_text.proofs.Leading.{leading_front}
-use Rattle.keymap_fmt.proofs.Leading.{trim_hash, trim_twice, trim_on_line}
-use Rattle.keymap_fmt.proofs.Reading.{TokenLaws, AtFront, blank, hash, token, refused, unfinished, at_front}
+use Rattle.keymap_fmt.proofs.Leading.{trim_first}
 use Rattle.keymap_fmt.proofs.Reading.{ReadsToken, ReadsComment, read_nil, read_one, read_blank, read_hash, read_token}
 use Rattle.keymap_fmt.proofs.Reading.{read_refused, read_unfinished}
 
@@ -68,14 +70,20 @@ after_blank c s ps no_piece = no_piece
 after_blank c s ps (one_piece p r h more) = one_piece p r (blank_reaches c s p.standing h) more
 
 -- a comment of a text reads as a comment
-comment_reads : (bytes : List ℕ) → ReadsComment (trimmed (35 ∷ take (leading stays_on_line bytes) bytes))
-comment_reads bytes =
+comment_reads : (c : ℕ) (bytes : List ℕ) → c ≡ 35
+    → ReadsComment (trimmed (c ∷ take (leading stays_on_line bytes) bytes))
+comment_reads c bytes h =
     let w = take (leading stays_on_line bytes) bytes in
+    let cut = trim_first c w (ap is_space h) in
+    let m = cut.0 in
+    let size = length-take-le m w cut.1.within in
     record {
-      rest = trimmed w;
-      is = trim_hash w;
-      on_line = trim_on_line w (leading_front stays_on_line bytes);
-      cut = trim_hash (trimmed w) ∙ ap (λ (v : List ℕ). 35 ∷ v) (trim_twice w);
+      rest = take m w;
+      is = cut.1.is ∙ ap (λ (c : ℕ). c ∷ take m w) h;
+      on_line = leading_part stays_on_line m w (omega (arith, cut.1.within, leading_front stays_on_line bytes));
+      end = ap (λ n. is_space (slice_index (35 ∷ take m w) n)) size
+          ∙ ap is_space (get_or-take (suc m) (35 ∷ w) m 0 (omega arith))
+          ∙ ap (λ (c : ℕ). is_space (slice_index (c ∷ w) m)) (sym h) ∙ cut.1.end;
     }
 
 -- what is no blank is none that ends no line
@@ -83,10 +91,10 @@ no_space : (c : ℕ) → is_blank c ≡ false → is_space c ≡ false
 no_space c h = grind (arith, nat_tests)
 
 -- a token of a text reads as that token
-token_reads : TokenLaws → (c n : ℕ) (kind : TokenKind) (bytes : List ℕ) → front_of c bytes ≡ Found kind n
+token_reads : (c n : ℕ) (kind : TokenKind) (bytes : List ℕ) → front_of c bytes ≡ Found kind n
     → ReadsToken kind (c ∷ take n bytes)
-token_reads laws c n kind bytes h =
-    let t = laws.found c n kind bytes h in
+token_reads c n kind bytes h =
+    let t = stands_alone c n kind bytes h in
     let size : length (take n bytes) ≡ n = length-take-le n bytes t.within in
     record {
       first = c;
@@ -100,25 +108,29 @@ token_reads laws c n kind bytes h =
     }
 
 -- those of a text
-pub text_pieces : TokenLaws → (bytes : List ℕ) (k : ℕ) (s : Standing) → ArePieces s (pieces_after k s bytes)
-text_pieces laws [] k s = subst (ArePieces s) (sym (read_nil k s)) no_piece
-text_pieces laws (c ∷ bytes) k s = go k s (text_pieces laws bytes)
+pub text_pieces : (bytes : List ℕ) (k : ℕ) (s : Standing) → ArePieces s (pieces_after k s bytes)
+text_pieces [] k s = subst (ArePieces s) (sym (read_nil k s)) no_piece
+text_pieces (c ∷ bytes) k s = go k s (text_pieces bytes)
   where
-    at : ((k : ℕ) (s : Standing) → ArePieces s (pieces_after k s bytes)) → (s : Standing) → AtFront c bytes
-        → ArePieces s (pieces_after 0 s (c ∷ bytes))
-    at more s (blank e) = subst (ArePieces s) (sym (read_blank s c bytes e)) (after_blank c s _ (more 0 (lowered c s)))
-    at more s (hash e) =
-        subst (ArePieces s) (sym (ap (λ c. pieces_after 0 s (c ∷ bytes)) e ∙ read_hash s bytes))
-        (one_piece (comment (35 ∷ take (leading stays_on_line bytes) bytes) s) (comment_reads bytes) (reaches_itself s)
-        (more (suc (leading stays_on_line bytes)) Below))
-    at more s (token kind n p q h) =
-        subst (ArePieces s) (sym (read_token s c bytes kind n p q h))
-        (one_piece (record { part = Code kind; bytes = c ∷ take n bytes; standing = s })
-        (token_reads laws c n kind bytes h) (reaches_itself s) (more n Beside))
-    at more s (refused f p q h) = subst (ArePieces s) (sym (read_refused s c bytes f p q h)) no_piece
-    at more s (unfinished p q h) = subst (ArePieces s) (sym (read_unfinished s c bytes p q h)) no_piece
+    skipped : ((k : ℕ) (s : Standing) → ArePieces s (pieces_after k s bytes)) → (s : Standing)
+        → (is_blank c ≡ true) ⊎ (c ≡ 35) → ArePieces s (pieces_after 0 s (c ∷ bytes))
+    skipped more s (inl e) = subst (ArePieces s) (sym (read_blank s c bytes e)) (after_blank c s _ (more 0 (lowered c s)))
+    skipped more s (inr e) =
+        subst (ArePieces s) (sym (read_hash s c bytes e))
+        (one_piece (comment (c ∷ take (leading stays_on_line bytes) bytes) s) (comment_reads c bytes e)
+        (reaches_itself s) (more (suc (leading stays_on_line bytes)) Below))
+
+    at : ((k : ℕ) (s : Standing) → ArePieces s (pieces_after k s bytes)) → (s : Standing) (f : Front)
+        → front_of c bytes ≡ f → ArePieces s (pieces_after 0 s (c ∷ bytes))
+    at more s (Skipped n) h = skipped more s (skipped_by c n bytes h)
+    at more s (Found kind n) h =
+        subst (ArePieces s) (sym (read_token s c bytes kind n h))
+        (one_piece (record { part = Code kind; bytes = c ∷ take n bytes; standing = s }) (token_reads c n kind bytes h)
+        (reaches_itself s) (more n Beside))
+    at more s (Refused f) h = subst (ArePieces s) (sym (read_refused s c bytes f h)) no_piece
+    at more s Unfinished h = subst (ArePieces s) (sym (read_unfinished s c bytes h)) no_piece
 
     go : (k : ℕ) (s : Standing) → ((k : ℕ) (s : Standing) → ArePieces s (pieces_after k s bytes))
         → ArePieces s (pieces_after k s (c ∷ bytes))
-    go zero s more = at more s (at_front laws c bytes)
+    go zero s more = at more s (front_of c bytes) refl
     go (suc k) s more = subst (ArePieces s) (sym (read_one k s c bytes)) (more k s)

@@ -6,14 +6,12 @@ use Rattle.std.specs.List.{list_all}
 use Rattle.std.proofs.lemmas.Bool.Decides.{nat_tests}
 use Rattle.keymap_fmt.specs.Types.{TokenKind, State, Standing, AtTop, Beside, Below, Apart, Part, Comment, Code}
 use Rattle.keymap_text.specs.Lexical.{is_space, stays_on_line, leading}
-use Rattle.keymap_fmt.specs.Pieces.{PieceValue, pieces, behind, trimmed}
+use Rattle.keymap_fmt.specs.Pieces.{PieceValue, pieces, behind}
 use Rattle.keymap_fmt.specs.Layout.{is_open, begins_line, opened, lead, width, before, after, ending, line_end, start}
 use Rattle.keymap_fmt.specs.Layout.{line_begun, lines_before, comment_lead}
 use Rattle.keymap_fmt.specs.Formatted.{rendered_from, formatted}
 use Rattle.keymap_fmt.specs.Lines.{Edge, Blank, Ink, LineEnd, EmptyLine, behind_byte, are_lines, HasTidyLines}
 use Rattle.keymap_text.proofs.Leading.{leading_tail}
-use Rattle.keymap_fmt.proofs.Leading.{trim_all, trim_tail}
-use Rattle.keymap_fmt.proofs.Reading.{TokenLaws}
 use Rattle.keymap_fmt.proofs.Texts.{ArePieces, no_piece, one_piece, Reads, reaches, text_pieces}
 use Rattle.keymap_fmt.proofs.Written.{IsAt, closed, after_at}
 
@@ -74,21 +72,6 @@ front_all p [] h = refl
 front_all p (c ∷ w) h =
     let t = leading_tail p c w h in ap (λ b. b && list_all p w) t.0 ∙ front_all p w t.1
 
--- what is cut ends with no blank
-cut_end : (c : ℕ) (w : List ℕ) → trimmed (c ∷ w) ≡ c ∷ w → is_space (slice_index (c ∷ w) (length w)) ≡ false
-cut_end c [] h = go (is_space c) refl
-  where
-    go : (b : Bool) → is_space c ≡ b → is_space c ≡ false
-    go true e = absurd (let k = sym (trim_all c [] (ap (λ b. b && true) e)) ∙ h in cc)
-    go false e = e
-cut_end c (d ∷ w) h = go (list_all is_space (c ∷ d ∷ w)) refl (cut_end d w)
-  where
-    go : (b : Bool) → list_all is_space (c ∷ d ∷ w) ≡ b
-        → (trimmed (d ∷ w) ≡ d ∷ w → is_space (slice_index (d ∷ w) (length w)) ≡ false)
-        → is_space (slice_index (d ∷ w) (length w)) ≡ false
-    go true e more = absurd (let k = sym (trim_all c (d ∷ w) e) ∙ h in cc)
-    go false e more = let k : c ∷ trimmed (d ∷ w) ≡ c ∷ d ∷ w = sym (trim_tail c (d ∷ w) e) ∙ h in more (cc)
-
 -- what stands before a piece that would stand at u
 abbrev edge_at : Standing → Edge
 edge_at AtTop = EmptyLine
@@ -101,7 +84,7 @@ piece_passed : (part : Part) (bytes y : List ℕ) (e : Edge) → Reads part byte
     → are_lines e (bytes ++ (ending part ++ y)) ≡ are_lines (edge_at (behind part)) y
 piece_passed Comment bytes y e r =
     ap (λ b. are_lines e (b ++ 10 ∷ y)) r.is
-    ∙ ink_passed 35 r.rest (10 ∷ y) e (front_all stays_on_line r.rest r.on_line) (cut_end 35 r.rest r.cut)
+    ∙ ink_passed 35 r.rest (10 ∷ y) e (front_all stays_on_line r.rest r.on_line) r.end
     ∙ one_passed Ink LineEnd 10 y refl
 piece_passed (Code kind) bytes y e r =
     ap (λ b. are_lines e (b ++ y)) r.is ∙ ink_passed r.first r.rest y e r.on_line r.end
@@ -216,5 +199,5 @@ from_top qs (one_piece {ps = ps} p r h more) =
     inr (piece_tidy start AtTop p ps refl r h
     (lines_from (after start p.part p.bytes) (behind p.part) ps (after_at start p.part p.bytes) (inside p.part) more))
 
-pub tidy_lines : TokenLaws → (text : List ℕ) → HasTidyLines (formatted text)
-tidy_lines laws text = from_top (pieces text) (text_pieces laws text 0 AtTop)
+pub tidy_lines : (text : List ℕ) → HasTidyLines (formatted text)
+tidy_lines text = from_top (pieces text) (text_pieces text 0 AtTop)

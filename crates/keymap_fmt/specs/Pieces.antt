@@ -1,8 +1,7 @@
 -- A text as a row of pieces: its tokens and its comments, and where each stands.
-use Rattle.std.specs.Prelude.{ℕ, zero, suc, true, false, if◌then◌else◌, ◌==◌, List, [], ◌∷◌, take}
-use Rattle.std.specs.List.{list_all}
-use Rattle.keymap_text.specs.Lexical.{is_blank, is_space, stays_on_line, leading, front_of, Found, Skipped, Refused}
-use Rattle.keymap_text.specs.Lexical.{Unfinished}
+use Rattle.std.specs.Prelude.{ℕ, zero, suc, ◌-◌, if◌then◌else◌, ◌==◌, List, [], ◌∷◌, length, take}
+use Rattle.std.specs.List.{suffix_len}
+use Rattle.keymap_text.specs.Lexical.{is_space, front_of, Found, Skipped, Refused, Unfinished}
 use Rattle.keymap_fmt.specs.Types.{TokenKind, Standing, AtTop, Beside, Below, Apart, Part, Comment, Code}
 
 -- a token or a comment, with its bytes, and where it stands
@@ -29,8 +28,7 @@ behind (Code kind) = Beside
 
 -- the bytes without the blanks, tabs and CRs at their end
 unfoldable pub trimmed : List ℕ → List ℕ
-trimmed [] = []
-trimmed (c ∷ cs) = if list_all is_space (c ∷ cs) then [] else c ∷ trimmed cs
+trimmed bytes = take (length bytes - suffix_len is_space bytes) bytes
 
 abbrev pub comment : List ℕ → Standing → PieceValue
 comment bytes s = record { part = Comment; bytes = trimmed bytes; standing = s }
@@ -43,18 +41,12 @@ code kind bytes s = record { part = Code kind; bytes = bytes; standing = s }
 unfoldable pub pieces_after : ℕ → Standing → List ℕ → List PieceValue
 pieces_after k s [] = []
 pieces_after (suc k) s (c ∷ bytes) = pieces_after k s bytes
-pieces_after zero s (c ∷ bytes) = elim (is_blank c) [
-  | true ↦ pieces_after 0 (lowered c s) bytes
-  | false ↦ elim (c == 35) [
-    | true ↦ comment (c ∷ take (leading stays_on_line bytes) bytes) s
-        ∷ pieces_after (suc (leading stays_on_line bytes)) Below bytes
-    | false ↦ elim (front_of c bytes) [
-      | Found kind n ↦ code kind (c ∷ take n bytes) s ∷ pieces_after n Beside bytes
-      | Skipped n ↦ []
-      | Refused f ↦ []
-      | Unfinished ↦ []
-    ]
-  ]
+pieces_after zero s (c ∷ bytes) = elim (front_of c bytes) [
+  | Skipped n ↦ if c == 35 then comment (c ∷ take n bytes) s ∷ pieces_after (suc n) Below bytes
+      else pieces_after n (lowered c s) bytes
+  | Found kind n ↦ code kind (c ∷ take n bytes) s ∷ pieces_after n Beside bytes
+  | Refused f ↦ []
+  | Unfinished ↦ []
 ]
 
 abbrev pub pieces : List ℕ → List PieceValue

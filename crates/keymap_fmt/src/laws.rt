@@ -13,45 +13,36 @@ ghost use Rattle.keymap_text.specs.Meaning.{tokens, Spells};
 ghost use Rattle.keymap_core.specs.Maps.{MapValue};
 ghost use Rattle.std.specs.List.{flat_map};
 
-use keymap_text::laws::{one_meaning, tokens_stand_alone};
+use keymap_text::laws::one_meaning;
 
 /// What is formatted has the same tokens and the same comments in the same order, byte for byte but for the blanks at
 /// the end of a comment.
 pub fn parts_stay()
     ensures { (text : List ℕ) → map part_and_bytes (pieces (formatted text)) ≡ map part_and_bytes (pieces text) }
-{
-    tokens_stand_alone();
-}
+{}
 
 /// The tokens among the pieces of a text are its tokens.
 pub fn pieces_hold_the_tokens()
     ensures { (text : List ℕ) → flat_map token_of (pieces text) ≡ map kind_and_bytes (tokens text) }
-{
-    tokens_stand_alone();
-}
+{}
 
 /// What is formatted has the same tokens: each has the same kind and the same bytes.
 pub fn tokens_stay()
     ensures { (text : List ℕ) → map kind_and_bytes (tokens (formatted text)) ≡ map kind_and_bytes (tokens text) }
-{
-    tokens_stand_alone();
-}
+{}
 
 /// What is formatted spells the keymap that the text spells, and no other.
 pub fn keymap_stays()
     ensures spells { (text : List ℕ) (m : MapValue) → Spells text m → Spells (formatted text) m }
     ensures no_other { (text : List ℕ) (m n : MapValue) → Spells text m → Spells (formatted text) n → n ≡ m }
 {
-    tokens_stand_alone();
     one_meaning();
 }
 
 /// What is formatted is left alone when it is formatted again.
 pub fn formatting_again_changes_nothing()
     ensures { (text : List ℕ) → formatted (formatted text) ≡ formatted text }
-{
-    tokens_stand_alone();
-}
+{}
 
 /// Two texts with the same pieces, each beside the one before it, in the next line or behind an empty line as in the
 /// other, have one layout.
@@ -63,9 +54,7 @@ pub fn same_pieces_have_one_layout()
 /// others.
 pub fn lines_are_tidy()
     ensures { (text : List ℕ) → HasTidyLines (formatted text) }
-{
-    tokens_stand_alone();
-}
+{}
 
 /// A definition is laid out as it would be alone, whatever stands before it and behind it: pieces that end a
 /// definition, a pair or a comment, and pieces that begin with a definition, give together what each of them gives.

@@ -1,13 +1,12 @@
 //! The pieces of a text: its tokens and its comments, and where each stands.
-ghost use Rattle.std.specs.Prelude.{◌≡◌, ◌≤◌, ◌<◌, ◌+◌, length, drop, slice_index, IsFalse};
-ghost use Rattle.keymap_text.specs.Lexical.{is_blank, is_space, leading, stays_on_line, separates};
-ghost use Rattle.keymap_fmt.specs.Pieces.{lower as lower_of, lowered as lowered_at, pieces_after, trimmed};
+ghost use Rattle.std.specs.Prelude.{◌≡◌, ◌≤◌, ◌<◌, length, drop, slice_index, IsFalse};
+ghost use Rattle.keymap_text.specs.Lexical.{is_space, leading, separates};
+ghost use Rattle.keymap_fmt.specs.Pieces.{lower as lower_of, pieces_after, trimmed};
 ghost use Rattle.keymap_fmt.specs.Pieces.{behind as standing_behind};
 ghost use Rattle.keymap_fmt.specs.Inner.Reading.{ComesNext, MayCome};
 ghost use Rattle.keymap_fmt.specs.Types.{Standing as StandingValue};
 
-use keymap_text::laws::tokens_stand_alone;
-use keymap_text::{TokenKind, next_token};
+use keymap_text::{TokenKind, is_space_byte, line_end, next_token, space_len};
 
 /// Where a piece stands in the text.
 #[derive(Clone, Copy)]
@@ -48,17 +47,6 @@ fn lower(standing: Standing) -> Standing
     }
 }
 
-/// Where a piece stands that stands there but for this blank before it.
-fn lowered(c: u8, standing: Standing) -> Standing
-    ensures { result ≡ lowered_at c standing }
-{
-    if c == b'\n' {
-        lower(standing)
-    } else {
-        standing
-    }
-}
-
 /// Where a piece stands that comes right behind one.
 pub(crate) fn behind(part: Part) -> Standing
     ensures { result ≡ standing_behind part }
@@ -67,33 +55,6 @@ pub(crate) fn behind(part: Part) -> Standing
         Part::Comment => Standing::Below,
         Part::Code(_) => Standing::Beside,
     }
-}
-
-fn is_space_byte(c: u8) -> bool
-    ensures { result ≡ is_space c }
-{
-    c == b' ' || c == b'\t' || c == b'\r'
-}
-
-fn is_blank_byte(c: u8) -> bool
-    ensures { result ≡ is_blank c }
-{
-    is_space_byte(c) || c == b'\n'
-}
-
-/// The place of the line's end, at `at` or after it.
-#[tactic(auto, using(keymap_text::proofs::Leading::leading_rules))]
-fn line_end(text: &[u8], at: usize) -> usize
-    requires { at ≤ length text.now }
-    ensures length { result ≤ length text.now }
-    ensures from { at ≤ result }
-    ensures value { result ≡ at + leading stays_on_line (drop at text.now) }
-{
-    let mut i = at;
-    while i < text.len() && text[i] != b'\n' {
-        i += 1;
-    }
-    i
 }
 
 /// The bytes without the blanks, tabs and CRs at their end.
@@ -128,7 +89,6 @@ fn token(text: &[u8], at: usize, standing: Standing) -> Option<Piece<'_>>
     requires stands { IsFalse (separates (slice_index text.now at)) }
     ensures { MayCome text.now at standing result }
 {
-    tokens_stand_alone();
     match next_token(text, at) {
         Ok(Some(token)) => Some(Piece {
             part: Part::Code(token.kind),
@@ -148,12 +108,9 @@ fn spaces_end(text: &[u8], at: usize) -> usize
     ensures from { at ≤ result }
     ensures same { (s : StandingValue)
         → pieces_after 0 s (drop at text.now) ≡ pieces_after 0 s (drop result text.now) }
+    ensures behind { leading is_space (drop result text.now) ≡ 0 }
 {
-    let mut i = at;
-    while i < text.len() && text[i] == b' ' {
-        i += 1;
-    }
-    i
+    at + space_len(&text[at..])
 }
 
 /// The first piece from a place on, which would stand there.
@@ -164,14 +121,14 @@ pub(crate) fn next_piece(text: &[u8], at: usize, first: Standing) -> Option<Piec
     let mut i = spaces_end(text, at);
     let mut standing = first;
     while i < text.len() {
-        if text[i] == b'#' {
-            return Some(comment(text, i, standing));
+        match text[i] {
+            b'\n' => {
+                standing = lower(standing);
+                i = spaces_end(text, i + 1);
+            }
+            b'#' => return Some(comment(text, i, standing)),
+            _ => return token(text, i, standing),
         }
-        if !is_blank_byte(text[i]) {
-            return token(text, i, standing);
-        }
-        standing = lowered(text[i], standing);
-        i = spaces_end(text, i + 1);
     }
     None
 }

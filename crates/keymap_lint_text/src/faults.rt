@@ -1,6 +1,5 @@
 //! What is said of the fault of a text.
 ghost use Rattle.std.specs.Prelude.{◌≡◌, ◌<◌, ◌≤◌, length, IfOk};
-ghost use Rattle.std.specs.Char.{digit_char};
 ghost use Rattle.keymap_lint_text.specs.Shown.{IsLine};
 
 use crate::message::{digits, first_shown, message, one_of, word};
@@ -10,8 +9,9 @@ use crate::words::{
     ENDS_QUOTED, FEW_CELLS, FUNCTION_KEYS, KEY_TOO_LARGE, LONG_WORD, MARK, MEANT_CHARACTER,
     MEANT_NOP, MEANT_NUMBER, SCREENS, TOO_MANY_PAIRS, UNEXPECTED, UNNAMED_BYTE, ZERO_BASE,
 };
+use keymap_core::hex_digit;
 use keymap_text::{
-    DefinitionStart, FaultPlace, Meaning, TextFaultKind, Wanted, next_token, word_meaning,
+    DefinitionStart, FaultPlace, Meaning, TextFaultKind, Wanted, next_token, word_len, word_meaning,
 };
 use std::alloc::{AllocError, Global};
 
@@ -37,10 +37,7 @@ fn is_refused(text: &[u8], place: usize) -> bool
 
 /// The word in front of bytes.
 fn front_word(bytes: &[u8]) -> &[u8] {
-    match bytes.iter().position(|c| !c.is_ascii_alphanumeric()) {
-        Some(end) => &bytes[..end],
-        None => bytes,
-    }
+    &bytes[..word_len(bytes)]
 }
 
 /// The hexadecimal digits behind `U+` in front of bytes.
@@ -55,23 +52,12 @@ fn unicode_digits(bytes: &[u8]) -> &[u8] {
     }
 }
 
-fn hex_digit(digit: u8) -> u8
-    requires { digit < 16 }
-    ensures { result ≡ digit_char digit }
-{
-    if digit < 10 {
-        b'0' + digit
-    } else {
-        b'a' + (digit - 10)
-    }
-}
-
 /// A byte in two digits.
 #[tactic(auto, using(crate::proofs::Lines::hex_byte_line))]
 fn hex_byte(byte: u8) -> [u8; 2]
     ensures { IsLine result }
 {
-    [hex_digit(byte / 16), hex_digit(byte % 16)]
+    [hex_digit(byte as u32 / 16), hex_digit(byte as u32 % 16)]
 }
 
 /// What is said of bytes that begin no token. Their first character stands whole in four of them.

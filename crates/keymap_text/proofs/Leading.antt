@@ -1,9 +1,9 @@
 -- How many bytes at the front pass a test.
 use Rattle.std.proofs.Common.{◌≡◌, ◌==◌, ℕ, zero, suc, ◌+◌, ◌<◌, ◌≤◌, Bool, true, false, not, cond, List, [], ◌∷◌, ◌++◌}
 use Rattle.std.proofs.Common.{length, take, drop, get_or, refl, sym, ◌∙◌, ap, arith, eq-eqb, ne_eqb, ⊎_elim}
-use Rattle.std.proofs.Common.{eq-or-lt_of_le, drop-cons}
+use Rattle.std.proofs.Common.{eq-or-lt_of_le, drop-cons, append-nil}
 use Rattle.std.proofs.lemmas.Bool.Decides.{nat_tests}
-use Rattle.std.proofs.lemmas.List.{length-take-le, get_or-take}
+use Rattle.std.proofs.lemmas.List.{length-take-le, get_or-take, drop_all}
 use Rattle.std.proofs.lemmas.List.Folds.{prefix_len-append}
 use Rattle.std.proofs.lemmas.List.Sums.{prefix_len_is, prefix_len-drop_yes, prefix_len-drop_no, prefix_len-drop_all}
 use Rattle.std.proofs.lemmas.List.Sums.{prefix_len-le-length, prefix_len_passes, prefix_len_stops}
@@ -43,14 +43,15 @@ leading_grows p b x = ⊎_elim
     (eq-or-lt_of_le (leading_le p b))
 
 -- all bytes of a front pass
-pub leading_front : (p : ℕ → Bool) (s : List ℕ)
-    → leading p (take (leading p s) s) ≡ length (take (leading p s) s)
-leading_front p s =
-    let n = leading p s in
-    let size = length-take-le n s (leading_le p s) in
+pub leading_part : (p : ℕ → Bool) (n : ℕ) (s : List ℕ) → n ≤ leading p s → leading p (take n s) ≡ length (take n s)
+leading_part p n s h =
+    let size = length-take-le n s (omega (arith, h, leading_le p s)) in
     prefix_len_is p (take n s) (length (take n s)) 0 (omega arith)
-    (λ k l. ap p (get_or-take n s k 0 (omega (arith, l, size))) ∙ prefix_len_passes p s k 0 (omega (arith, l, size)))
+    (λ k l. ap p (get_or-take n s k 0 (omega (arith, l, size))) ∙ prefix_len_passes p s k 0 (omega (arith, l, size, h)))
     (λ l. absurd (omega (arith, l)))
+
+pub leading_front : (p : ℕ → Bool) (s : List ℕ) → leading p (take (leading p s) s) ≡ length (take (leading p s) s)
+leading_front p s = leading_part p (leading p s) s (omega arith)
 
 -- and the byte behind it doesn't
 pub leading_behind : (p : ℕ → Bool) (s x : List ℕ) → leading p s < length s
@@ -58,6 +59,12 @@ pub leading_behind : (p : ℕ → Bool) (s x : List ℕ) → leading p s < lengt
 leading_behind p s x h =
     ap (λ t. leading p (t ++ x)) (drop-cons s (leading p s) 0 h)
     ∙ leading_fail p (get_or s (leading p s) 0) (drop (suc (leading p s)) s ++ x) (prefix_len_stops p s 0 h)
+
+pub leading_rest : (p : ℕ → Bool) (s : List ℕ) → leading p (drop (leading p s) s) ≡ 0
+leading_rest p s = ⊎_elim
+    (λ e. ap (leading p) (drop_all (leading p s) s (omega (arith, e))))
+    (λ l. ap (leading p) (sym (append-nil (drop (leading p s) s))) ∙ leading_behind p s [] l)
+    (eq-or-lt_of_le (leading_le p s))
 
 -- where all bytes pass, the first does, and the others do
 pub leading_tail : (p : ℕ → Bool) (c : ℕ) (w : List ℕ) → leading p (c ∷ w) ≡ suc (length w)

@@ -6,7 +6,7 @@ ghost use Rattle.keymap_core.specs.Numbers.{accent_limit};
 
 use crate::names::{control_name, control_places};
 use arrayvec::ArrayVec;
-use keymap_core::{Accent, AccentIndex, Action, Cell, Entry, LockFlag};
+use keymap_core::{Accent, AccentIndex, Action, Cell, Entry, LockFlag, code_digits};
 
 /// The text of a cell, at most `0x10ffff`.
 type Text = ArrayVec<u8, 8>;
@@ -30,34 +30,14 @@ fn text_of(bytes: &[u8]) -> Text
     text
 }
 
-fn hex_digit(d: u32) -> u8
-    requires { d < 16 }
-    ensures { result ≡ digit_char d }
-{
-    if d < 10 {
-        b'0' + d as u8
-    } else {
-        b'a' - 10 + d as u8
-    }
-}
-
-/// A number in hexadecimal, with four to six digits.
-#[tactic(auto, unfolding(crate::specs::Printed::hex))]
-fn hex_text(c: u32) -> Text
-    requires { c < 0x110000 }
+/// The number of a character in hexadecimal, with four to six digits.
+#[tactic(auto, unfolding(crate::specs::Printed::hex, keymap_core::specs::CodePoints::code_digits))]
+fn hex_text(c: char) -> Text
     ensures { result.items ≡ codes "0x" ++ spec.hex c }
 {
     let mut text = text_of(b"0x");
-    if c >= 0x100000 {
-        text.push(hex_digit(c / 0x100000 % 16));
-    }
-    if c >= 0x10000 {
-        text.push(hex_digit(c / 0x10000 % 16));
-    }
-    text.push(hex_digit(c / 0x1000 % 16));
-    text.push(hex_digit(c / 0x100 % 16));
-    text.push(hex_digit(c / 0x10 % 16));
-    text.push(hex_digit(c % 16));
+    text.try_extend_from_slice(code_digits(c).as_slice())
+        .unwrap();
     text
 }
 
@@ -70,7 +50,7 @@ pub fn character_text(c: char) -> Text
     match c {
         '\0'..='\x1f' | '\x7f' => text_of(control_name(c as u8)),
         ' '..='~' => text_of(&[b'\'', c as u8, b'\'']),
-        _ => hex_text(c as u32),
+        _ => hex_text(c),
     }
 }
 

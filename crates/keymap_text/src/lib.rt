@@ -33,6 +33,6 @@ pub use printer::print_map;
 pub use reader::{MapReader, read_map};
 pub use source::{LIMIT, read_from};
 pub use text_line::{TextLine, TextLines};
-pub use token::{Span, Token, TokenKind, next_token};
+pub use token::{Span, Token, TokenKind, is_space_byte, line_end, next_token, space_len, word_len};
 pub use wanted::{DefinitionStart, FaultPlace, Wanted, wanted_at_fault};
 pub use words::{Meaning, word_meaning};

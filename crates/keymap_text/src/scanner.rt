@@ -17,7 +17,8 @@ use crate::fault::TextFaultKind;
 use crate::grammar::{Grammar, Place, cell_of, character_of, lock_of, push_pair};
 use crate::names::name_meaning;
 use crate::token::{
-    Front, TokenKind, is_blank_byte, is_word_byte, line_len, short_word_len, space_len, token_front,
+    Front, TokenKind, first_spaces, is_blank_byte, is_word_byte, line_len, short_word_len,
+    token_front,
 };
 use crate::words::{Item, Meaning, four_digit_number, item_of, short_number};
 use keymap_core::{Definitions, PAIR_LIMIT};
@@ -113,7 +114,7 @@ fn whole_token(rest: &[u8]) -> Option<(Item, usize)>
 fn character_in_front(rest: &[u8]) -> Option<(char, usize)>
     ensures { IfSome result (λ found. FrontsCharacter rest.now found.0 found.1) }
 {
-    let blanks = space_len(rest);
+    let blanks = first_spaces(rest);
     if blanks == rest.len() {
         return None;
     }
@@ -131,7 +132,7 @@ fn character_in_front(rest: &[u8]) -> Option<(char, usize)>
 fn close_in_front(rest: &[u8]) -> usize
     ensures { 0 < result → FrontsBehind rest.now Item.Close result }
 {
-    let blanks = space_len(rest);
+    let blanks = first_spaces(rest);
     if blanks < rest.len() && rest[blanks] == b')' {
         blanks + 1
     } else {
@@ -187,7 +188,7 @@ fn quick<D: Definitions>(grammar: &mut Grammar, into: &mut D, rest: &[u8]) -> Re
     ensures takes { Takes D.shows into.old into.new result grammar.old grammar.new rest.now }
     ensures leaves { Leaves result grammar.new rest.now }
 {
-    let n = space_len(rest);
+    let n = first_spaces(rest);
     if n == rest.len() {
         return Ok(n);
     }
@@ -341,7 +342,7 @@ fn letter<D: Definitions>(grammar: &mut Grammar, into: &mut D, slot: u8, rest: &
     ensures takes { Takes D.shows into.old into.new (Ok result) grammar.old grammar.new rest.now }
     ensures leaves { Leaves (Ok result) grammar.new rest.now }
 {
-    let blanks = space_len(rest);
+    let blanks = first_spaces(rest);
     if blanks == rest.len() {
         return 0;
     }
@@ -377,7 +378,7 @@ fn next_cell(grammar: &mut Grammar, index: u8, rest: &[u8]) -> Result<usize, Sto
     ensures took { TookCell result grammar.old grammar.new index rest.now }
     ensures fits { Fits result rest.now }
 {
-    let blanks = space_len(rest);
+    let blanks = first_spaces(rest);
     if blanks == rest.len() {
         return Ok(0);
     }

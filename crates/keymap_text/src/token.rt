@@ -101,8 +101,9 @@ static WORD_BYTES: [bool; 256] = [
     false, false, false, false, false, false, false, false, false, false,
 ];
 
+/// Is it a blank, a tab or a CR?
 #[inline(always)]
-pub(crate) fn is_space_byte(c: u8) -> bool
+pub fn is_space_byte(c: u8) -> bool
     ensures { result ≡ is_space c }
 {
     SPACE_BYTES[c as usize]
@@ -122,7 +123,7 @@ fn space_run(bytes: &[u8]) -> usize
 /// once, and what else stands in front is measured as a whole.
 #[inline(always)]
 #[tactic(auto, using(crate::proofs::Leading::plain_spaces, crate::proofs::Leading::leading_le))]
-pub(crate) fn space_len(bytes: &[u8]) -> usize
+pub(crate) fn first_spaces(bytes: &[u8]) -> usize
     ensures length { result ≤ length bytes.now }
     ensures blank { result ≤ leading is_space bytes.now }
 {
@@ -132,13 +133,13 @@ pub(crate) fn space_len(bytes: &[u8]) -> usize
             return run;
         }
     }
-    all_space_len(bytes)
+    space_len(bytes)
 }
 
-/// How many blanks that end no line stand in front.
+/// How many blanks, tabs and CRs stand in front.
 #[inline(never)]
 #[tactic(auto, using(crate::proofs::Leading::leading_rules))]
-fn all_space_len(bytes: &[u8]) -> usize
+pub fn space_len(bytes: &[u8]) -> usize
     ensures length { result ≤ length bytes.now }
     ensures value { result ≡ leading is_space bytes.now }
 {
@@ -202,10 +203,10 @@ fn short_word_len_at_end(bytes: &[u8]) -> usize
     if n < bytes.len() { n } else { 16 }
 }
 
-/// How many word bytes stand in front.
+/// How many ASCII letters and digits stand in front.
 #[inline(always)]
 #[tactic(auto, using(crate::proofs::Leading::leading_le))]
-pub(crate) fn word_len(bytes: &[u8]) -> usize
+pub fn word_len(bytes: &[u8]) -> usize
     ensures length { result ≤ length bytes.now }
     ensures value { result ≡ leading is_word bytes.now }
 {
@@ -276,7 +277,7 @@ pub(crate) fn line_feeds(bytes: &[u8]) -> u64
 }
 
 /// The place of the line's end, at `at` or after it.
-pub(crate) fn line_end(text: &[u8], at: usize) -> usize
+pub fn line_end(text: &[u8], at: usize) -> usize
     requires { at ≤ length text.now }
     ensures length { result ≤ length text.now }
     ensures value { result ≡ at + leading stays_on_line (drop at text.now) }
@@ -379,7 +380,7 @@ fn token_start(text: &[u8], at: usize) -> usize
     ensures same { tokens_after 0 at (drop at text.now) ≡ tokens_after 0 result (drop result text.now) }
     ensures stands { result < length text.now → IsFalse (separates (slice_index text.now result)) }
 {
-    let mut i = at + space_len(&text[at..]);
+    let mut i = at + first_spaces(&text[at..]);
     while i < text.len() {
         if text[i] == b'#' {
             i = line_end(text, i + 1);

@@ -2,6 +2,4 @@ use Rattle.keymap_fmt.proofs.Again.{formatted_again}
 use Rattle.keymap_fmt.proofs.laws.formatting_again_changes_nothing.Goals as goal
 
 pub returns : goal.returns
-returns c =
-    let l = c.tokens_stand_alone.ensures in
-    formatted_again (record { found = l.found; skipped = l.skipped })
+returns c = formatted_again

@@ -2,11 +2,7 @@ use Rattle.keymap_fmt.proofs.Spelling.{keymap_stays}
 use Rattle.keymap_fmt.proofs.laws.keymap_stays.Goals as goal
 
 pub returns-clause-spells : goal.returns-clause-spells
-returns-clause-spells c =
-    let l = c.tokens_stand_alone.ensures in
-    keymap_stays (record { found = l.found; skipped = l.skipped })
+returns-clause-spells c = keymap_stays
 
 pub returns-clause-no_other : goal.returns-clause-no_other
-returns-clause-no_other c = λ text m n h k.
-    let l = c.tokens_stand_alone.ensures in
-    c.one_meaning.ensures.one_map _ n m k (keymap_stays (record { found = l.found; skipped = l.skipped }) text m h)
+returns-clause-no_other c = λ text m n h k. c.one_meaning.ensures.one_map _ n m k (keymap_stays text m h)

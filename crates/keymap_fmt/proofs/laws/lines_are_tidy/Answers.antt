@@ -2,6 +2,4 @@ use Rattle.keymap_fmt.proofs.Tidy.{tidy_lines}
 use Rattle.keymap_fmt.proofs.laws.lines_are_tidy.Goals as goal
 
 pub returns : goal.returns
-returns c =
-    let l = c.tokens_stand_alone.ensures in
-    tidy_lines (record { found = l.found; skipped = l.skipped })
+returns c = tidy_lines

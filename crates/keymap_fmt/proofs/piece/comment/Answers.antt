@@ -6,7 +6,7 @@ use Rattle.keymap_fmt.proofs.piece.comment.Goals.{then-end-text, else-end-text}
 pub returns : goal.returns
 returns c = elim c.if-end-text.branch [
   | then-end-text w ↦ record {
-    ends = omega (arith, w.result-is, c.line_end-end.ensures.from);
+    ends = omega (arith, w.result-is, c.line_end-end.ensures.value);
     within = omega (arith, w.result-is, w.if-end-text.true);
     bytes = tt;
     others = comment_found c.args.text.now c.trim.result.now c.args.at c.line_end-end.result c.if-end-text.result
@@ -14,7 +14,7 @@ returns c = elim c.if-end-text.branch [
         (inl w.result-is);
   }
   | else-end-text w ↦ record {
-    ends = omega (arith, w.result-is, c.line_end-end.ensures.from);
+    ends = omega (arith, w.result-is, c.line_end-end.ensures.value);
     within = omega (arith, w.result-is, c.line_end-end.ensures.length);
     bytes = tt;
     others = comment_found c.args.text.now c.trim.result.now c.args.at c.line_end-end.result c.if-end-text.result

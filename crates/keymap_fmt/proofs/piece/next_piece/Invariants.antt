@@ -1,4 +1,5 @@
 use Rattle.std.proofs.Common.{length, ◌-◌, ◌≡◌, ◌≤◌, drop}
+use Rattle.keymap_text.specs.Lexical.{leading, is_space}
 use Rattle.keymap_fmt.specs.Pieces.{pieces_after}
 use Rattle.keymap_fmt.proofs.piece.next_piece.Given as goal
 
@@ -8,6 +9,7 @@ invariant-loop-i l = record {
   from : l.at ≤ l.i;
   within : l.i ≤ length l.text;
   same : pieces_after 0 l.fn.first (drop l.fn.at l.text) ≡ pieces_after 0 l.standing (drop l.i l.text);
+  behind : leading is_space (drop l.i l.text) ≡ 0;
 }
 
 abbrev pub decreases-loop-i : goal.decreases-loop-i

@@ -1,11 +1,24 @@
-use Rattle.std.proofs.Common.{arith, ◌∙◌}
-use Rattle.keymap_fmt.proofs.Finding.{space_at}
+use Rattle.std.proofs.Common.{drop, sym, ◌∙◌, ap, arith}
+use Rattle.std.proofs.lemmas.List.{drop-drop}
+use Rattle.keymap_text.specs.Lexical.{is_space, leading}
+use Rattle.keymap_text.proofs.Leading.{leading_rest}
+use Rattle.keymap_text.proofs.Splitting.{to_end}
+use Rattle.keymap_fmt.specs.Pieces.{pieces_after}
+use Rattle.keymap_fmt.proofs.Finding.{spaces_passed}
 use Rattle.keymap_fmt.proofs.piece.spaces_end.Goals as goal
 
-pub loop-i-preserved : goal.loop-i-preserved
-loop-i-preserved c = record {
-  from = omega arith;
-  within = omega arith;
-  same = λ s. c.loop-i.invariant.same s
-      ∙ space_at c.args.text.now c.loop-i.i s c.loop-i-test.true c.if-text-i-eq32.true;
-}
+pub returns-clause-same : goal.returns-clause-same
+returns-clause-same c = λ s.
+    let text = c.args.text.now in
+    let n = c.space_len.result in
+    spaces_passed n s (drop c.args.at text)
+    (omega (arith, c.space_len.ensures.value, ap (leading is_space) (to_end text c.args.at)))
+    ∙ ap (pieces_after 0 s) (drop-drop n c.args.at text)
+
+pub returns-clause-behind : goal.returns-clause-behind
+returns-clause-behind c =
+    let text = c.args.text.now in
+    let at = c.args.at in
+    ap (leading is_space) (sym (drop-drop c.space_len.result at text)
+    ∙ ap (λ n. drop n (drop at text)) (c.space_len.ensures.value ∙ ap (leading is_space) (to_end text at)))
+    ∙ leading_rest is_space (drop at text)

@@ -4,21 +4,16 @@ use Rattle.keymap_fmt.proofs.piece.token.Goals as goal
 
 pub returns-in-Ok-Some : goal.returns-in-Ok-Some
 returns-in-Ok-Some c =
-    let l = c.tokens_stand_alone.ensures in
     let found = rw c.in-Ok-Some.field-0-is at c.in-Ok-Some.ensures in
-    piece_found (record { found = l.found; skipped = l.skipped })
-    c.args.text.now c.args.at c.args.standing c.in-Ok-Some.token c.requires.inside c.requires.stands found.exact
-    found.span
+    piece_found c.args.text.now c.args.at c.args.standing c.requires.inside c.requires.stands c.in-Ok-Some.token
+    found.exact found.span
 
 pub returns-in-Ok-None : goal.returns-in-Ok-None
 returns-in-Ok-None c =
-    let l = c.tokens_stand_alone.ensures in
     let found = rw c.in-Ok-None.field-0-is at c.in-Ok-None.ensures in
-    none_found (record { found = l.found; skipped = l.skipped })
-    c.args.text.now c.args.at c.args.standing _ c.requires.inside c.requires.stands found.exact refl
+    none_found c.args.text.now c.args.at c.args.standing c.requires.inside c.requires.stands _ found.exact refl
 
 pub returns-in-Err : goal.returns-in-Err
 returns-in-Err c =
-    let l = c.tokens_stand_alone.ensures in
-    none_found (record { found = l.found; skipped = l.skipped })
-    c.args.text.now c.args.at c.args.standing _ c.requires.inside c.requires.stands c.in-Err.ensures.exact refl
+    none_found c.args.text.now c.args.at c.args.standing c.requires.inside c.requires.stands _ c.in-Err.ensures.exact
+    refl

@@ -1,12 +1,13 @@
-use Rattle.std.proofs.Common.{length, ◌≡◌, ◌≤◌, take}
-use Rattle.keymap_fmt.specs.Pieces.{trimmed}
+use Rattle.std.proofs.Common.{◌+◌, ◌≡◌, ◌≤◌, length, take}
+use Rattle.std.specs.List.{suffix_len}
+use Rattle.keymap_text.specs.Lexical.{is_space}
 use Rattle.keymap_fmt.proofs.piece.trim.Given as goal
 
--- what was passed is cut
+-- all bytes that were passed are blanks
 abbrev pub invariant-loop-end : goal.invariant-loop-end
 invariant-loop-end l = record {
   within : l.end ≤ length l.bytes;
-  same : trimmed (take l.end l.bytes) ≡ trimmed l.bytes;
+  same : l.end + suffix_len is_space l.bytes ≡ length l.bytes + suffix_len is_space (take l.end l.bytes);
 }
 
 abbrev pub decreases-loop-end : goal.decreases-loop-end

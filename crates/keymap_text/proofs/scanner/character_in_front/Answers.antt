@@ -5,10 +5,10 @@ pub returns-in-Ok : goal.returns-in-Ok
 returns-in-Ok c = record {
   item = c.in-Some.item;
   behind = record {
-    blanks = c.space_len-blanks.result;
+    blanks = c.first_spaces-blanks.result;
     size = c.in-Some.n;
-    are_blank = c.space_len-blanks.ensures.blank;
-    inside = c.space_len-blanks.ensures.length;
+    are_blank = c.first_spaces-blanks.ensures.blank;
+    inside = c.first_spaces-blanks.ensures.length;
     fronts = c.in-Some.ensures;
     sum = refl;
   };

@@ -13,7 +13,7 @@ returns-in-Ok-clause-takes g c = λ m h.
     let r = c.args.grammar.now in
     let new = c.close_entry.new.self in
     let rest = c.args.rest.now in
-    let b = c.space_len-blanks.result in
+    let b = c.first_spaces-blanks.result in
     let n = c.in-Some.n in
     let m' = with_entry m c.args.slot (record { cells = r.entry.cells; flag = c.in-Ok.flag }) in (
       m',
@@ -22,8 +22,8 @@ returns-in-Ok-clause-takes g c = λ m h.
           (sym c.requires)
           (subst (λ p. Advances (at m (spec.LockAt c.args.slot r.entry)) (at m' (place_view p new.entry new.accent)) rest
           (b + n)) (sym c.close_entry.ensures.place)
-          (letter_taken m c.args.slot b n r.entry rest c.in-Some.item c.in-Ok.flag c.space_len-blanks.ensures.blank
-          c.space_len-blanks.ensures.length c.in-Some.ensures (sym c.in-Ok.ensures))),
+          (letter_taken m c.args.slot b n r.entry rest c.in-Some.item c.in-Ok.flag c.first_spaces-blanks.ensures.blank
+          c.first_spaces-blanks.ensures.length c.in-Some.ensures (sym c.in-Ok.ensures))),
     )
 
 pub returns-in-Ok-clause-leaves : goal.returns-in-Ok-clause-leaves

@@ -7,7 +7,7 @@ use Rattle.keymap_text.proofs.token.token_start.Goals as goal
 pub loop-i-init : goal.loop-i-init
 loop-i-init c = record {
   within = omega arith;
-  same = spaces_at c.args.text.now _ c.args.at c.space_len.result refl c.space_len.ensures.blank;
+  same = spaces_at c.args.text.now _ c.args.at c.first_spaces.result refl c.first_spaces.ensures.blank;
 }
 
 pub loop-i-preserved-then-text-i-eq35 : goal.loop-i-preserved-then-text-i-eq35

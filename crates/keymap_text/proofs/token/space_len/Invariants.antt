@@ -1,6 +1,6 @@
 use Rattle.std.proofs.Common.{length, ◌-◌, ◌≡◌, ◌+◌, ◌≤◌, drop}
 use Rattle.keymap_text.specs.Lexical.{is_space, leading}
-use Rattle.keymap_text.proofs.token.all_space_len.Given as goal
+use Rattle.keymap_text.proofs.token.space_len.Given as goal
 
 abbrev pub invariant-loop-i : goal.invariant-loop-i
 invariant-loop-i l = record {

@@ -1,4 +1,4 @@
--- What the printer of diagnostics adds, entry by entry.
+-- What the printer of diagnostics adds, remark by remark.
 use Rattle.std.proofs.Common.{◌≡◌, ℕ, ◌<◌, List, [], ◌∷◌, ◌++◌, true, refl, ap, sym, subst, ◌∙◌, append_assoc}
 use Rattle.std.proofs.Common.{append-nil, get_or, take}
 use Rattle.std.specs.Prelude.{◌+◌, length, if◌then◌else◌}
@@ -9,15 +9,15 @@ use Rattle.keymap_lint.specs.declared.diagnostic.Diagnostic.{Diagnostic}
 use Rattle.keymap_lint.specs.declared.diagnostic.Diagnostics.{Diagnostics}
 use Rattle.keymap_lint.specs.declared.diagnostic.Severity.{Severity}
 use Rattle.keymap_lint.specs.Severities.{severity_of, never_sticks}
-use Rattle.keymap_lint_text.specs.Heads.{Said, Entry, entry, head, below, place_text, said_text, IsMessage}
+use Rattle.keymap_lint_text.specs.Heads.{Said, Remark, remark, head, below, place_text, said_text, IsMessage}
 use Rattle.keymap_lint_text.specs.Heads.{ArePrinted}
 use Rattle.keymap_lint_text.specs.Inner.Adding.{Adds}
-use Rattle.keymap_lint_text.specs.Said.{kind_text, is_noted}
+use Rattle.keymap_lint_text.specs.Names.{kind_text, is_noted}
 use Rattle.keymap_lint_text.specs.Shown.{lines_text}
 use Rattle.keymap_lint_text.specs.Whole.{answer, judged, of_diagnostic}
 
--- what is printed of entries, and behind it what is printed of others
-printed_both : (file text : List ℕ) (es fs : List Entry) (a b : List ℕ) → ArePrinted file text es a
+-- what is printed of remarks, and behind it what is printed of others
+printed_both : (file text : List ℕ) (es fs : List Remark) (a b : List ℕ) → ArePrinted file text es a
     → ArePrinted file text fs b → ArePrinted file text (es ++ fs) (a ++ b)
 printed_both file text [] fs a b e p = rw e p
 printed_both file text (x ∷ es) fs a b (first, rest, one, more, e) p =
@@ -26,7 +26,7 @@ printed_both file text (x ∷ es) fs a b (first, rest, one, more, e) p =
 pub adds_none : (file text : List ℕ) (old : List ℕ) → Adds file text [] old old
 adds_none file text old = record { added = []; printed = refl; behind = sym (append-nil old) }
 
-pub adds_one : (file text : List ℕ) (e : Entry) (message said old new : List ℕ) → IsMessage e.said message
+pub adds_one : (file text : List ℕ) (e : Remark) (message said old new : List ℕ) → IsMessage e.said message
     → said ≡ said_text e.said message → new ≡ old ++ lines_text ((place_text file text e.place ++ said) ∷ below text e.place)
     → Adds file text (e ∷ []) old new
 adds_one file text e message said old new is_message is behind =
@@ -38,7 +38,7 @@ adds_one file text e message said old new is_message is behind =
       behind = behind ∙ ap (λ t. old ++ lines_text ((place_text file text e.place ++ t) ∷ below text e.place)) is;
     }
 
-pub adds_both : (file text : List ℕ) (es fs : List Entry) (old mid new : List ℕ) → Adds file text es old mid
+pub adds_both : (file text : List ℕ) (es fs : List Remark) (old mid new : List ℕ) → Adds file text es old mid
     → Adds file text fs mid new → Adds file text (es ++ fs) old new
 adds_both file text es fs old mid new p q = record {
   added = p.added ++ q.added;
@@ -49,12 +49,12 @@ adds_both file text es fs old mid new p q = record {
 -- a diagnostic with what the search answered behind it
 pub adds_with_answer : (file text : List ℕ) (l : Diagnostics) (d : Diagnostic) (severity : Severity)
     (kind old mid new : List ℕ) → severity ≡ severity_of (never_sticks l.sticking) d.kind → kind ≡ kind_text d.kind
-    → is_noted d.kind ≡ true → Adds file text (entry d.place (Said.Judged severity kind) ∷ []) old mid
+    → is_noted d.kind ≡ true → Adds file text (remark d.place (Said.Judged severity kind) ∷ []) old mid
     → Adds file text (answer l.sticking) mid new → Adds file text (of_diagnostic l d) old new
 adds_with_answer file text l d severity kind old mid new e f noted p q =
     let one : Adds file text (judged l d ∷ []) old mid =
-    subst (λ k. Adds file text (entry d.place (Said.Judged (severity_of (never_sticks l.sticking) d.kind) k) ∷ [])
-    old mid) f (subst (λ s. Adds file text (entry d.place (Said.Judged s kind) ∷ []) old mid) e p) in
+    subst (λ k. Adds file text (remark d.place (Said.Judged (severity_of (never_sticks l.sticking) d.kind) k) ∷ [])
+    old mid) f (subst (λ s. Adds file text (remark d.place (Said.Judged s kind) ∷ []) old mid) e p) in
     subst (λ b. Adds file text (judged l d ∷ (if b then answer l.sticking else [])) old new) (sym noted)
     (adds_both file text (judged l d ∷ []) (answer l.sticking) old mid new one q)
 
@@ -72,8 +72,3 @@ adds_more file text l ds d i old mid new within is p q =
     (append-nil (of_diagnostic l (get_or ds i d)) ∙ ap (of_diagnostic l) (sym is)) in
     subst (λ es. Adds file text es old new) (sym more)
     (adds_both file text (flat_map (of_diagnostic l) (take i ds)) (of_diagnostic l d) old mid new p q)
-
--- what is added to nothing is what is printed
-pub all_printed : (file text : List ℕ) (es : List Entry) (old new : List ℕ) → old ≡ [] → Adds file text es old new
-    → ArePrinted file text es new
-all_printed file text es old new e p = rw (p.behind, e) p.printed

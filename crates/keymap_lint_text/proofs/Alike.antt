@@ -11,7 +11,7 @@ use Rattle.keymap_text.specs.LineOf.{before_in_line}
 use Rattle.keymap_text.specs.Meaning.{line}
 use Rattle.keymap_lint.specs.declared.diagnostic.Severity.{Severity}
 use Rattle.keymap_lint.specs.declared.diagnostic.Severity.TheVariants as severities
-use Rattle.keymap_lint_text.specs.Heads.{Said, Entry, head, place_text, said_text}
+use Rattle.keymap_lint_text.specs.Heads.{Said, Remark, head, place_text, said_text}
 use Rattle.keymap_lint_text.specs.Promises.{AreAlike, label}
 use Rattle.keymap_lint_text.proofs.Headed.{behind, head_is}
 use Rattle.keymap_lint_text.proofs.Lines.{decimal_all}
@@ -105,7 +105,7 @@ alike_by file text (Some p) (Some q) s t m n e =
       same_label s t m n said,
     )
 
-pub heads_alike : (file text : List ℕ) (d e : Entry) (m n : List ℕ) → head file text d m ≡ head file text e n
+pub heads_alike : (file text : List ℕ) (d e : Remark) (m n : List ℕ) → head file text d m ≡ head file text e n
     → AreAlike file text d e
 heads_alike file text d e m n is =
     let rest = append_cancel_left file _ _ (sym (head_is file text d m) ∙ is ∙ head_is file text e n) in

@@ -1,4 +1,4 @@
--- Each entry has one head, and no other line begins without blanks.
+-- Each remark has one head, and no other line begins without blanks.
 use Rattle.std.proofs.Common.{◌≡◌, ℕ, Bool, true, false, List, [], ◌∷◌, ◌++◌, codes, refl, ap, sym, subst, ◌∙◌}
 use Rattle.std.proofs.Common.{append_assoc, Option, Some, None}
 use Rattle.std.specs.Prelude.{decimal, length, map, not, ◌+◌, if◌then◌else◌}
@@ -18,11 +18,11 @@ use Rattle.keymap_text.specs.Meaning.{line}
 use Rattle.keymap_text.specs.declared.fault.TextFaultKind.{TextFaultKind}
 use Rattle.keymap_text.specs.declared.wanted.DefinitionStart.{DefinitionStart}
 use Rattle.keymap_lint_text.specs.Excerpt.{excerpt}
-use Rattle.keymap_lint_text.specs.Heads.{Said, Entry, entry, head, place_text, said_text, below, IsPrinted, ArePrinted}
-use Rattle.keymap_lint_text.specs.Promises.{is_indented, is_flush, IsHead, AreHeads, HasHeads, is_judged, diagnostics}
-use Rattle.keymap_lint_text.specs.Said.{is_noted}
+use Rattle.keymap_lint_text.specs.Heads.{Said, Remark, remark, head, place_text, said_text, below, ArePrinted}
+use Rattle.keymap_lint_text.specs.Promises.{is_indented, is_flush, AreHeads, HasHeads, is_judged, diagnostics}
+use Rattle.keymap_lint_text.specs.Names.{is_noted}
 use Rattle.keymap_lint_text.specs.Shown.{ended, lines_text, shown_name, IsLine, IsPlainText}
-use Rattle.keymap_lint_text.specs.Whole.{IsLintText, entries, answer, judged, of_diagnostic, of_fault, beginning}
+use Rattle.keymap_lint_text.specs.Whole.{IsLintText, remarks, answer, judged, of_diagnostic, beginning}
 use Rattle.keymap_lint_text.proofs.Lines.{excerpt_lines, head_line, name_line}
 
 -- what stands behind the file and a colon
@@ -31,7 +31,7 @@ behind text None = codes " "
 behind text (Some place) =
     decimal (line text place) ++ codes ":" ++ decimal (length (before_in_line text place) + 1) ++ codes ": "
 
-pub head_is : (file text : List ℕ) (e : Entry) (m : List ℕ)
+pub head_is : (file text : List ℕ) (e : Remark) (m : List ℕ)
     → head file text e m ≡ file ++ (codes ":" ++ (behind text e.place ++ said_text e.said m))
 head_is file text e m = ap (λ t. t ++ said_text e.said m) (parts e.place) ∙ simp append_assoc
   where
@@ -44,7 +44,7 @@ indented_front [] y = refl
 indented_front (a ∷ []) y = refl
 indented_front (a ∷ b ∷ file) y = refl
 
-head_indented : (file text : List ℕ) (e : Entry) (m : List ℕ) → is_indented (head file text e m) ≡ is_indented file
+head_indented : (file text : List ℕ) (e : Remark) (m : List ℕ) → is_indented (head file text e m) ≡ is_indented file
 head_indented file text e m =
     ap is_indented (head_is file text e m ∙ sym (append_assoc file (codes ":") (behind text e.place ++ said_text e.said m)))
     ∙ indented_front file (behind text e.place ++ said_text e.said m)
@@ -65,7 +65,7 @@ filtered h bs ls e f =
     ap (λ b. if not b then h ∷ filter is_flush (bs ++ ls) else filter is_flush (bs ++ ls)) e
     ∙ ap (λ t. h ∷ t) (filter-append is_flush bs ls ∙ ap (λ t. t ++ filter is_flush ls) f)
 
-pub all_headed : (file text : List ℕ) (es : List Entry) (printed : List ℕ) → IsLine file
+pub all_headed : (file text : List ℕ) (es : List Remark) (printed : List ℕ) → IsLine file
     → ArePrinted file text es printed → HasHeads file text es printed
 all_headed file text [] printed name e =
     record { lines = []; spelled = e; plain = All-nil IsLine; heads = λ _. refl }
@@ -88,8 +88,8 @@ all_headed file text (e ∷ es) printed name (first, rest, one, more, is) =
     }
 
 pub lint_headed : (file text : List ℕ) (l : Lint) (printed : List ℕ) → IsLintText file text l printed
-    → HasHeads (shown_name file) text (entries text l) printed
-lint_headed file text l printed p = all_headed (shown_name file) text (entries text l) printed (name_line file) p
+    → HasHeads (shown_name file) text (remarks text l) printed
+lint_headed file text l printed p = all_headed (shown_name file) text (remarks text l) printed (name_line file) p
 
 pub lint_plain : (file text : List ℕ) (l : Lint) (printed : List ℕ) → IsLintText file text l printed
     → IsPlainText printed
@@ -97,7 +97,7 @@ lint_plain file text l printed p =
     let headed = lint_headed file text l printed p in
     record { lines = headed.lines; spelled = headed.spelled; plain = headed.plain }
 
--- ---- the entries that are no notes
+-- ---- the remarks that are no notes
 
 answer_noted : (s : Option Sticking) → filter is_judged (answer s) ≡ []
 answer_noted None = refl
@@ -105,14 +105,14 @@ answer_noted (Some Never) = refl
 answer_noted (Some (Undecided presses)) = refl
 answer_noted (Some (Sticks events modifiers)) = refl
 
-noted_if : (b : Bool) (es : List Entry) → filter is_judged es ≡ [] → filter is_judged (if b then es else []) ≡ []
+noted_if : (b : Bool) (es : List Remark) → filter is_judged es ≡ [] → filter is_judged (if b then es else []) ≡ []
 noted_if true es e = e
 noted_if false es e = refl
 
 beginning_noted : (text : List ℕ) (place : ℕ) (kind : TextFaultKind) (d : Option DefinitionStart)
     → filter is_judged (beginning text place kind d) ≡ []
 beginning_noted text place kind None = refl
-beginning_noted text place kind (Some d) = noted_if _ (entry (Some d.offset) Said.Noted ∷ []) refl
+beginning_noted text place kind (Some d) = noted_if _ (remark (Some d.offset) Said.Noted ∷ []) refl
 
 each_judged : (l : Diagnostics) (ds : List Diagnostic)
     → filter is_judged (flat_map (of_diagnostic l) ds) ≡ map (judged l) ds
@@ -123,7 +123,7 @@ each_judged l (d ∷ ds) =
     (noted_if (is_noted d.kind) (answer l.sticking) (answer_noted l.sticking))
     ∙ ap (λ t. judged l d ∷ t) (each_judged l ds)
 
-pub all_judged : (text : List ℕ) (l : Lint) → filter is_judged (entries text l) ≡ diagnostics l
+pub all_judged : (text : List ℕ) (l : Lint) → filter is_judged (remarks text l) ≡ diagnostics l
 all_judged text (Faulty f place) =
-    ap (λ t. entry (Some f.offset) (Said.Judged Error (fault_name f.kind)) ∷ t) (beginning_noted text f.offset f.kind place.definition)
+    ap (λ t. remark (Some f.offset) (Said.Judged Error (fault_name f.kind)) ∷ t) (beginning_noted text f.offset f.kind place.definition)
 all_judged text (Spelled l) = each_judged l l.list.items

@@ -41,12 +41,13 @@ use Rattle.keymap_text.specs.Words.{control_names}
 use Rattle.messages.specs.Filled.{filled, words_before, words_behind, is_hole}
 use Rattle.keymap_lint_text.specs.Excerpt.{excerpt, lines_of, shown_line, caret_line, below, left_out}
 use Rattle.keymap_lint_text.specs.Excerpt.{shown_before, without_cr}
-use Rattle.keymap_lint_text.specs.Heads.{Said, Entry, IsMessage, head, place_text, said_text}
+use Rattle.keymap_lint_text.specs.Heads.{Said, Remark, IsMessage, head, place_text, said_text}
 use Rattle.keymap_lint_text.specs.Notes as notes
-use Rattle.keymap_lint_text.specs.Said.{kind_text, severity_text}
+use Rattle.keymap_lint_text.specs.Names.{kind_text, severity_text}
 use Rattle.keymap_lint_text.specs.Shown.{shown_char, shown_chars, shown_name, is_seen, is_shown_byte, IsSeen, IsLine}
 use Rattle.keymap_lint_text.specs.Shown.{AreLines}
 use Rattle.keymap_lint_text.specs.declared.words.TheConstants as words
+use Rattle.keymap_lint_text.proofs.Ascii.{small_byte}
 
 -- the character that is read in front is one
 read : (bs : List ℕ) (o : Option ℕ) → (decoded bs).char ≡ o → IsScalar (or_replacement o)
@@ -134,9 +135,6 @@ line_if false bs p = line_none
 pub either : (b : Bool) (x y : List ℕ) → IsLine x → IsLine y → IsLine (if b then x else y)
 either true x y p q = p
 either false x y p q = q
-
-small_byte : (c : ℕ) → is_shown_byte c ≡ true → c < 128
-small_byte c h = grind (arith, nat_tests, h)
 
 implied : (p q : Bool) → (not p || q) ≡ true → p ≡ true → q ≡ true
 implied true q h e = h
@@ -343,7 +341,7 @@ said_line Said.Noted message p = line_append _ _ (ascii (codes "note: ") refl) p
 said_line (Said.Sticking modifiers events) message e =
     line_append _ _ (ascii (codes "note: ") refl) (subst IsLine (sym e) (sticks_line modifiers events))
 
-pub head_line : (file text : List ℕ) (e : Entry) (message : List ℕ) → IsLine file → IsMessage e.said message
+pub head_line : (file text : List ℕ) (e : Remark) (message : List ℕ) → IsLine file → IsMessage e.said message
     → IsLine (head file text e message)
 head_line file text e message p q = line_append _ _ (place_line file text e.place p) (said_line e.said message q)
 

@@ -8,7 +8,7 @@ use Rattle.keymap_text.specs.LineOf.{before_in_line, rest_of_line}
 use Rattle.keymap_text.specs.Meaning.{line}
 use Rattle.keymap_lint_text.specs.Excerpt.{excerpt}
 use Rattle.keymap_lint_text.specs.Notes.{sticks_text}
-use Rattle.keymap_lint_text.specs.Said.{severity_text}
+use Rattle.keymap_lint_text.specs.Names.{severity_text}
 use Rattle.keymap_lint_text.specs.Shown.{IsLine, lines_text}
 
 -- What is said: a diagnostic, by its severity and the name of its kind; a note; or the note that tells which modifiers
@@ -19,12 +19,12 @@ pub data Said : Type 0 where
   Sticking : List Modifier → List Event → Said
 
 -- What is said at a place, or of the whole text.
-pub record Entry : Type 0 where
+pub record Remark : Type 0 where
   pub place : Option ℕ
   pub said : Said
 
-abbrev pub entry : Option ℕ → Said → Entry
-entry place said = record { place = place; said = said }
+abbrev pub remark : Option ℕ → Said → Remark
+remark place said = record { place = place; said = said }
 
 -- the file, the line and its column, both counted from 1, or the file alone; columns are bytes
 abbrev pub place_text : List ℕ → List ℕ → Option ℕ → List ℕ
@@ -44,8 +44,8 @@ abbrev pub said_text : Said → List ℕ → List ℕ
 said_text (Said.Judged severity kind) message = judged_text (severity_text severity) message kind
 said_text _ message = noted_text message
 
--- the first line of an entry
-abbrev pub head : List ℕ → List ℕ → Entry → List ℕ → List ℕ
+-- the first line of a remark
+abbrev pub head : List ℕ → List ℕ → Remark → List ℕ → List ℕ
 head file text e message = place_text file text e.place ++ said_text e.said message
 
 -- the lines below it
@@ -60,14 +60,14 @@ IsMessage (Said.Judged severity kind) message = IsLine kind × IsLine message
 IsMessage (Said.Sticking modifiers events) message = message ≡ sticks_text modifiers events
 IsMessage Said.Noted message = IsLine message
 
--- What is printed of an entry, under these bytes in place of the file's name.
-pub record IsPrinted (file text : List ℕ) (e : Entry) (printed : List ℕ) : Type 0 where
+-- What is printed of a remark, under these bytes in place of the file's name.
+pub record IsPrinted (file text : List ℕ) (e : Remark) (printed : List ℕ) : Type 0 where
   pub message : List ℕ
   pub is_message : IsMessage e.said message
   pub spelled : printed ≡ lines_text (head file text e message ∷ below text e.place)
 
--- what is printed of entries, one behind the other
-abbrev pub ArePrinted : List ℕ → List ℕ → List Entry → List ℕ → Type 0
+-- what is printed of remarks, one behind the other
+abbrev pub ArePrinted : List ℕ → List ℕ → List Remark → List ℕ → Type 0
 ArePrinted file text [] printed = printed ≡ []
 ArePrinted file text (e ∷ es) printed =
     (first : List ℕ) × (rest : List ℕ) × IsPrinted file text e first × ArePrinted file text es rest

@@ -1,6 +1,6 @@
 pub mod Whole
 pub mod Heads
-pub mod Said
+pub mod Names
 pub mod Notes
 pub mod Excerpt
 pub mod Shown

@@ -8,12 +8,12 @@ use Rattle.keymap_lint.specs.declared.diagnostic.Lint.{Lint}
 use Rattle.keymap_lint.specs.declared.diagnostic.Lint.TheVariants.{Faulty, Spelled}
 use Rattle.keymap_lint.specs.declared.diagnostic.Severity.TheVariants.{Error}
 use Rattle.keymap_text.specs.FaultNames.{fault_name}
-use Rattle.keymap_lint_text.specs.Excerpt.{below, blanks, dots, excerpt, shown_before, without_cr}
-use Rattle.keymap_lint_text.specs.Heads.{Said, Entry, IsMessage, entry, head, place_text}
-use Rattle.keymap_lint_text.specs.Notes.{events_text, modifiers_text, sticks_text}
-use Rattle.keymap_lint_text.specs.Said.{severity_text}
+use Rattle.keymap_lint_text.specs.Excerpt.{below, dots, excerpt, shown_before, without_cr}
+use Rattle.keymap_lint_text.specs.Heads.{Said, Remark, IsMessage, remark, head, place_text}
+use Rattle.keymap_lint_text.specs.Notes.{events_text, modifiers_text}
+use Rattle.keymap_lint_text.specs.Names.{severity_text}
 use Rattle.keymap_lint_text.specs.Shown.{IsLine, IsPlainText, lines_text, shown_chars, shown_name}
-use Rattle.keymap_lint_text.specs.Whole.{IsLintText, entries, judged}
+use Rattle.keymap_lint_text.specs.Whole.{IsLintText, remarks, judged}
 
 abbrev pub PrintedIsPlain : Type 0
 PrintedIsPlain = (file text : List ℕ) (l : Lint) (printed : List ℕ) → IsLintText file text l printed → IsPlainText printed
@@ -25,59 +25,59 @@ is_indented line = slice_index line 0 == 32 && slice_index line 1 == 32
 abbrev pub is_flush : List ℕ → Bool
 is_flush line = not (is_indented line)
 
--- The line tells the entry's place, its severity and its kind, or that it is a note, and some message.
-pub record IsHead (file text : List ℕ) (e : Entry) (line : List ℕ) : Type 0 where
+-- The line tells the remark's place, its severity and its kind, or that it is a note, and some message.
+pub record IsHead (file text : List ℕ) (e : Remark) (line : List ℕ) : Type 0 where
   pub message : List ℕ
   pub is_message : IsMessage e.said message
   pub spelled : line ≡ head file text e message
 
--- the lines are the heads of the entries, one for each and in their order
-abbrev pub AreHeads : List ℕ → List ℕ → List Entry → List (List ℕ) → Type 0
+-- the lines are the heads of the remarks, one for each and in their order
+abbrev pub AreHeads : List ℕ → List ℕ → List Remark → List (List ℕ) → Type 0
 AreHeads file text [] lines = lines ≡ []
 AreHeads file text (e ∷ es) [] = ⊥
 AreHeads file text (e ∷ es) (line ∷ lines) = IsHead file text e line × AreHeads file text es lines
 
--- The printed bytes are lines. Those that don't begin with two blanks are the heads of the entries; a file's name that
+-- The printed bytes are lines. Those that don't begin with two blanks are the heads of the remarks; a file's name that
 -- begins with two blanks is left out, since with it each line does.
-pub record HasHeads (file text : List ℕ) (es : List Entry) (printed : List ℕ) : Type 0 where
+pub record HasHeads (file text : List ℕ) (es : List Remark) (printed : List ℕ) : Type 0 where
   pub lines : List (List ℕ)
   pub spelled : printed ≡ lines_text lines
   pub plain : All IsLine lines
   pub heads : is_indented file ≡ false → AreHeads file text es (filter is_flush lines)
 
-abbrev pub EachEntryHasOneHead : Type 0
-EachEntryHasOneHead =
+abbrev pub EachRemarkHasOneHead : Type 0
+EachRemarkHasOneHead =
     (file text : List ℕ) (l : Lint) (printed : List ℕ) → IsLintText file text l printed
-    → HasHeads (shown_name file) text (entries text l) printed
+    → HasHeads (shown_name file) text (remarks text l) printed
 
-abbrev pub is_judged : Entry → Bool
+abbrev pub is_judged : Remark → Bool
 is_judged e = is_judged_of e.said
   where
     is_judged_of : Said → Bool
     is_judged_of (Said.Judged severity kind) = true
     is_judged_of _ = false
 
--- the entries that are no notes: the fault, or the diagnostics in their order
-abbrev pub diagnostics : Lint → List Entry
-diagnostics (Faulty f place) = entry (Some f.offset) (Said.Judged Error (fault_name f.kind)) ∷ []
+-- the remarks that are no notes: the fault, or the diagnostics in their order
+abbrev pub diagnostics : Lint → List Remark
+diagnostics (Faulty f place) = remark (Some f.offset) (Said.Judged Error (fault_name f.kind)) ∷ []
 diagnostics (Spelled l) = map (judged l) l.list.items
 
-abbrev pub EachDiagnosticIsOneEntry : Type 0
-EachDiagnosticIsOneEntry = (text : List ℕ) (l : Lint) → filter is_judged (entries text l) ≡ diagnostics l
+abbrev pub EachDiagnosticIsOneRemark : Type 0
+EachDiagnosticIsOneRemark = (text : List ℕ) (l : Lint) → filter is_judged (remarks text l) ≡ diagnostics l
 
 -- the severity, or that it is a note
 abbrev pub label : Said → List ℕ
 label (Said.Judged severity kind) = severity_text severity
 label _ = codes "note"
 
--- One line is no head of two entries that have another place, severity or, one of them, are a note.
-pub record AreAlike (file text : List ℕ) (d e : Entry) : Type 0 where
+-- Two remarks of which one line is the head have the same place, and both are errors, warnings or notes.
+pub record AreAlike (file text : List ℕ) (d e : Remark) : Type 0 where
   pub place : place_text file text d.place ≡ place_text file text e.place
   pub label : label d.said ≡ label e.said
 
 abbrev pub HeadsTellPlaces : Type 0
 HeadsTellPlaces =
-    (file text : List ℕ) (d e : Entry) (m n : List ℕ) → head file text d m ≡ head file text e n
+    (file text : List ℕ) (d e : Remark) (m n : List ℕ) → head file text d m ≡ head file text e n
     → AreAlike file text d e
 
 -- Of the characters before a place and from it on some are shown, in one line with two blanks in front, and dots for

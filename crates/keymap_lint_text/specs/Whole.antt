@@ -2,7 +2,7 @@
 use Rattle.std.specs.Prelude.{ℕ, ◌&&◌, Bool, true, false, nat_lt, if◌then◌else◌, List, [], ◌∷◌, Option, Some, None}
 use Rattle.std.specs.List.{flat_map}
 use Rattle.console_core.specs.declared.outcome.Sticking.{Sticking}
-use Rattle.console_core.specs.declared.outcome.Sticking.TheVariants.{Sticks, Never, Undecided}
+use Rattle.console_core.specs.declared.outcome.Sticking.TheVariants.{Sticks, Undecided}
 use Rattle.keymap_lint.specs.declared.diagnostic.Diagnostic.{Diagnostic}
 use Rattle.keymap_lint.specs.declared.diagnostic.Diagnostics.{Diagnostics}
 use Rattle.keymap_lint.specs.declared.diagnostic.Lint.{Lint}
@@ -14,21 +14,21 @@ use Rattle.keymap_text.specs.declared.fault.TextFaultKind.TheVariants as faults
 use Rattle.keymap_text.specs.declared.wanted.DefinitionStart.{DefinitionStart}
 use Rattle.keymap_text.specs.FaultNames.{fault_name}
 use Rattle.keymap_text.specs.Meaning.{line}
-use Rattle.keymap_lint_text.specs.Heads.{Said, Entry, entry, ArePrinted}
-use Rattle.keymap_lint_text.specs.Said.{kind_text, is_noted}
+use Rattle.keymap_lint_text.specs.Heads.{Said, Remark, remark, ArePrinted}
+use Rattle.keymap_lint_text.specs.Names.{kind_text, is_noted}
 use Rattle.keymap_lint_text.specs.Shown.{shown_name}
 
 -- what the search answered, if some modifier stays on or may stay on
-abbrev pub answer : Option Sticking → List Entry
-answer (Some (Sticks events modifiers)) = entry None (Said.Sticking modifiers.items events.items) ∷ []
-answer (Some (Undecided presses)) = entry None Said.Noted ∷ []
+abbrev pub answer : Option Sticking → List Remark
+answer (Some (Sticks events modifiers)) = remark None (Said.Sticking modifiers.items events.items) ∷ []
+answer (Some (Undecided presses)) = remark None Said.Noted ∷ []
 answer _ = []
 
 -- the diagnostic, and behind some kinds what the search answered
-abbrev pub judged : Diagnostics → Diagnostic → Entry
-judged l d = entry d.place (Said.Judged (severity_of (never_sticks l.sticking) d.kind) (kind_text d.kind))
+abbrev pub judged : Diagnostics → Diagnostic → Remark
+judged l d = remark d.place (Said.Judged (severity_of (never_sticks l.sticking) d.kind) (kind_text d.kind))
 
-abbrev pub of_diagnostic : Diagnostics → Diagnostic → List Entry
+abbrev pub of_diagnostic : Diagnostics → Diagnostic → List Remark
 of_diagnostic l d = judged l d ∷ (if is_noted d.kind then answer l.sticking else [])
 
 -- faults that stand in a definition and may come from its beginning
@@ -39,21 +39,21 @@ tells_beginning faults.EndInside = true
 tells_beginning _ = false
 
 -- where the definition of a fault begins, if that is in an earlier line
-abbrev pub beginning : List ℕ → ℕ → TextFaultKind → Option DefinitionStart → List Entry
+abbrev pub beginning : List ℕ → ℕ → TextFaultKind → Option DefinitionStart → List Remark
 beginning text place kind None = []
 beginning text place kind (Some d) =
     if tells_beginning kind && nat_lt (line text d.offset) (line text place)
-    then entry (Some d.offset) Said.Noted ∷ []
+    then remark (Some d.offset) Said.Noted ∷ []
     else []
 
-abbrev pub of_fault : List ℕ → ℕ → TextFaultKind → Option DefinitionStart → List Entry
+abbrev pub of_fault : List ℕ → ℕ → TextFaultKind → Option DefinitionStart → List Remark
 of_fault text place kind d =
-    entry (Some place) (Said.Judged Error (fault_name kind)) ∷ beginning text place kind d
+    remark (Some place) (Said.Judged Error (fault_name kind)) ∷ beginning text place kind d
 
 -- the fault, or the diagnostics in their order, each with its notes behind it
-abbrev pub entries : List ℕ → Lint → List Entry
-entries text (Faulty f place) = of_fault text f.offset f.kind place.definition
-entries text (Spelled l) = flat_map (of_diagnostic l) l.list.items
+abbrev pub remarks : List ℕ → Lint → List Remark
+remarks text (Faulty f place) = of_fault text f.offset f.kind place.definition
+remarks text (Spelled l) = flat_map (of_diagnostic l) l.list.items
 
 abbrev pub IsLintText : List ℕ → List ℕ → Lint → List ℕ → Type 0
-IsLintText file text l printed = ArePrinted (shown_name file) text (entries text l) printed
+IsLintText file text l printed = ArePrinted (shown_name file) text (remarks text l) printed

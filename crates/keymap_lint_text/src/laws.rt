@@ -1,6 +1,6 @@
 //! Laws of what is printed of a text. No function here does anything.
 ghost use Rattle.std.specs.Prelude.{List, ℕ};
-ghost use Rattle.keymap_lint_text.specs.Promises.{CaretsStandBelow, EachDiagnosticIsOneEntry, EachEntryHasOneHead};
+ghost use Rattle.keymap_lint_text.specs.Promises.{CaretsStandBelow, EachDiagnosticIsOneRemark, EachRemarkHasOneHead};
 ghost use Rattle.keymap_lint_text.specs.Promises.{HeadsTellPlaces, NotesTellEvents, PrintedIsPlain};
 ghost use Rattle.keymap_lint_text.specs.Shown.{shown_name, IsLine};
 
@@ -17,8 +17,8 @@ pub fn printed_lines_are_plain()
 /// two blanks, whatever the text has there, or is the first line of a note. A name of a file that begins with two
 /// blanks makes each line do so.
 pub fn diagnostics_have_one_head()
-    ensures entries { EachDiagnosticIsOneEntry }
-    ensures heads { EachEntryHasOneHead }
+    ensures remarks { EachDiagnosticIsOneRemark }
+    ensures heads { EachRemarkHasOneHead }
 {}
 
 /// From the first line of a diagnostic or a note it can be read at which place it stands, and whether it is an error, a

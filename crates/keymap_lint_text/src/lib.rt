@@ -1,9 +1,9 @@
 //! What `kmap lint` prints of a keymap text: the values of keymap_lint in words, each with its place, the line of the
 //! text and a caret.
 //!
-//! `lint_text` is all of it. What is said is told by `specs/Whole.antt` and the definitions that it cites; the words
-//! stand in `src/words.rt` alone, and docs/FORMATS.md has each of them. The module `laws` says what a terminal is
-//! given.
+//! `lint_text` is all of it. Which lines are printed, and what each tells, `specs/Whole.antt` and the definitions that
+//! it cites say. A message is there some text of one line: its words stand in `src/words.rt` alone, and docs/FORMATS.md
+//! has each of them. The module `laws` says what who reads the lines may rely on.
 #![tactic(auto)]
 
 mod excerpt;

@@ -106,7 +106,7 @@ impl<'a> Printer<'a> {
         requires kind { IsLine kind.now }
         requires message { IsLine message.now }
         ensures { OnOk result (Adds self.now.file.now self.now.source.now
-            (spec.entry place (Said.Judged severity kind.now) ∷ []) text.old.items text.new.items) }
+            (spec.remark place (Said.Judged severity kind.now) ∷ []) text.old.items text.new.items) }
     {
         let said = judged(self.alloc, severity_text(severity), message, kind)?;
         self.push(text, place, said.as_slice())
@@ -122,7 +122,7 @@ impl<'a> Printer<'a> {
         requires place { IfSome place (λ p. p ≤ length self.now.source.now) }
         requires message { IsLine message.now }
         ensures { OnOk result (Adds self.now.file.now self.now.source.now
-            (spec.entry place Said.Noted ∷ []) text.old.items text.new.items) }
+            (spec.remark place Said.Noted ∷ []) text.old.items text.new.items) }
     {
         let said = noted(self.alloc, message)?;
         self.push(text, place, said.as_slice())
@@ -136,7 +136,7 @@ impl<'a> Printer<'a> {
         events: &[Event],
     ) -> Result<(), AllocError>
         ensures { OnOk result (Adds self.now.file.now self.now.source.now
-            (spec.entry None (Said.Sticking modifiers.now events.now) ∷ []) text.old.items text.new.items) }
+            (spec.remark None (Said.Sticking modifiers.now events.now) ∷ []) text.old.items text.new.items) }
     {
         let message = sticks_message(self.alloc, modifiers, events)?;
         let said = noted(self.alloc, message.as_slice())?;

@@ -3,7 +3,7 @@ ghost use Rattle.std.specs.Prelude.{◌≡◌, ◌∷◌, [], IsTrue, IfOk};
 ghost use Rattle.std.specs.List.{list_all};
 ghost use Rattle.keymap_lint.specs.Positions.{TellsWithin};
 ghost use Rattle.messages.specs.Filled.{has_places};
-ghost use Rattle.keymap_lint_text.specs.Said as spec;
+ghost use Rattle.keymap_lint_text.specs.Names as spec;
 ghost use Rattle.keymap_lint_text.specs.Shown.{IsLine, is_shown_byte};
 
 use crate::lists::{accents, ranges};
@@ -30,7 +30,7 @@ pub(crate) fn severity_text(severity: Severity) -> &'static [u8]
 }
 
 /// The name of a kind.
-#[tactic(auto, unfolding(crate::specs::Said::kind_text))]
+#[tactic(auto, unfolding(crate::specs::Names::kind_text))]
 pub(crate) fn kind_text(kind: &Kind) -> &'static [u8]
     ensures { result.now ≡ spec.kind_text kind.now }
 {
@@ -197,7 +197,7 @@ pub(crate) fn kind_message(
 }
 
 /// Whether what the search answered is told behind a diagnostic of this kind.
-#[tactic(auto, unfolding(crate::specs::Said::is_noted))]
+#[tactic(auto, unfolding(crate::specs::Names::is_noted))]
 pub(crate) fn is_noted(kind: &Kind) -> bool
     ensures { result ≡ spec.is_noted kind.now }
 {

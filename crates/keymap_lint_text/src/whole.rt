@@ -2,7 +2,7 @@
 ghost use Rattle.std.specs.Prelude.{IfOk};
 ghost use Rattle.keymap_lint.specs.Positions.{LiesWithin};
 ghost use Rattle.keymap_lint_text.specs.Heads.{ArePrinted};
-ghost use Rattle.keymap_lint_text.specs.Whole.{IsLintText, entries};
+ghost use Rattle.keymap_lint_text.specs.Whole.{IsLintText, remarks};
 
 use crate::printer::Printer;
 use crate::shown::shown_name;
@@ -13,7 +13,7 @@ use std::alloc::{AllocError, Global};
 /// What is printed of a text under these bytes in place of the file's name.
 fn text_under(alloc: Global, file: &[u8], source: &[u8], lint: &Lint) -> Result<Vec<u8>, AllocError>
     requires { LiesWithin source.now lint.now }
-    ensures { IfOk result (λ text. ArePrinted file.now source.now (entries source.now lint.now) text.items) }
+    ensures { IfOk result (λ text. ArePrinted file.now source.now (remarks source.now lint.now) text.items) }
 {
     let mut text = Vec::new(alloc);
     match lint {

@@ -1,5 +1,5 @@
-//! The words of the diagnostics. What is told stands at the places `{}`, in the order in which the contracts list it.
-//! The forms are those of docs/FORMATS.md, "Diagnostics".
+//! The words of the diagnostics. What is told stands at the places `{}`. The forms are those of docs/FORMATS.md,
+//! "Diagnostics"; no contract has these words.
 
 // A diagnostic or note: the file, the line, the column and what is said, or the file and what is said.
 pub(crate) const AT_PLACE: &[u8] = b"{}:{}:{}: {}\n";

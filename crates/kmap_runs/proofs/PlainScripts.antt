@@ -1,10 +1,10 @@
 -- The script that types a sentence is lines that a terminal shows.
 use Rattle.std.proofs.Common.{◌≡◌, ℕ, ◌==◌, Bool, true, false, List, [], ◌∷◌, refl}
-use Rattle.std.proofs.Common.{sym, arith, append-nil, All, ◌-◌, take, drop}
+use Rattle.std.proofs.Common.{arith, All, ◌-◌, take, drop}
 use Rattle.std.specs.Prelude.{◌/◌, ◌%◌, nat_lt, codes, encode_utf8, if◌then◌else◌}
 use Rattle.std.specs.Char.{IsScalar}
 use Rattle.std.specs.List.{before_first, position_or_len}
-use Rattle.std.proofs.lemmas.List.Elements.{All-nil, All-cons, All-tail, All-take}
+use Rattle.std.proofs.lemmas.List.Elements.{All-tail, All-take}
 use Rattle.console_core.specs.declared.event.Event.{Event}
 use Rattle.console_core.specs.declared.event.Event.TheVariants as event
 use Rattle.console_core.specs.declared.typing.Keyed.{Keyed}

@@ -1,7 +1,7 @@
 use Rattle.std.proofs.Common.{subst, sym, ◌∷◌, [], Some}
 use Rattle.std.proofs.lemmas.Result.{on_ok_weaker}
 use Rattle.keymap_lint.specs.declared.diagnostic.Severity.TheVariants.{Error}
-use Rattle.keymap_lint_text.specs.Heads.{Said, entry}
+use Rattle.keymap_lint_text.specs.Heads.{Said, remark}
 use Rattle.keymap_lint_text.specs.Inner.Adding.{Adds}
 use Rattle.keymap_lint_text.specs.Whole.{beginning}
 use Rattle.keymap_lint_text.specs.Shown.{IsLine}
@@ -18,7 +18,7 @@ returns c =
     let text = c.args.self.now.source.now in
     let old = c.args.text.now.items in
     let mid = c.diagnostic.new.text.items in
-    let first = subst (λ name. Adds file text (entry (Some c.args.place) (Said.Judged Error name) ∷ []) old mid)
+    let first = subst (λ name. Adds file text (remark (Some c.args.place) (Said.Judged Error name) ∷ []) old mid)
     c.name.ensures.name c.in_ok-diagnostic.ensures in
     on_ok_weaker c.beginning.result (adds_both file text _
     (beginning text c.args.place c.args.kind c.args.fault.now.definition) old mid c.beginning.new.text.items first)

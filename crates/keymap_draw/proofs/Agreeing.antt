@@ -6,7 +6,6 @@ use Rattle.std.specs.Prelude.{◌⊎◌, ◌||◌, not, option_map, if◌then◌
 use Rattle.std.specs.List.{list_any, filter_map, cons_option}
 use Rattle.std.proofs.lemmas.Bool.{agree_below, agree_below_at, cases_order, or_cases, and_parts, eqb-true, eq-eqb}
 use Rattle.std.proofs.lemmas.List.Folds.{list_any-append}
-use Rattle.keymap_core.specs.declared.entry.Entry.{Entry}
 use Rattle.keymap_core.specs.Accents.{AccentValue, blank}
 use Rattle.keymap_core.specs.Borne.{is_upper_live}
 use Rattle.keymap_core.specs.Maps.{MapValue, entry_at, accent_at}
@@ -19,7 +18,7 @@ use Rattle.keymap_draw.specs.declared.half.Half.TheVariants.{Lower, Upper}
 use Rattle.keymap_core.specs.Below.{gathered, passing, passed}
 use Rattle.keymap_draw.specs.Boards.{is_on}
 use Rattle.keymap_draw.specs.Drawings.{Drawing}
-use Rattle.keymap_draw.specs.Halves.{slot_of, is_other, other_keys}
+use Rattle.keymap_draw.specs.Halves.{is_other, other_keys}
 use Rattle.keymap_draw.specs.Keyboards.{keys_of}
 use Rattle.keymap_draw.specs.Lists.{has_character, named_accents}
 use Rattle.keymap_draw.specs.Told.{told, told_in, key_definition, accent_definition, shows, PicturesTellKeymaps}

@@ -1,7 +1,7 @@
 -- How the parts of the picture are read that tell something.
 use Rattle.std.proofs.Common.{◌≡◌, ℕ, ◌==◌, Bool, true, false, List, [], ◌∷◌, ◌++◌, Option, Some, None, refl, sym, ap}
 use Rattle.std.proofs.Common.{◌∙◌, append_assoc}
-use Rattle.std.specs.Prelude.{◌||◌, ◌&&◌, codes, decimal, option_to_list}
+use Rattle.std.specs.Prelude.{◌||◌, codes, decimal, option_to_list}
 use Rattle.std.specs.List.{list_all, list_any}
 use Rattle.std.proofs.lemmas.Bool.{eqb-true}
 use Rattle.keymap_core.specs.declared.action.Holding.{Holding}

@@ -5,14 +5,11 @@ use Rattle.std.specs.Prelude.{not, if◌then◌else◌}
 use Rattle.std.proofs.lemmas.Bool.{not-true}
 use Rattle.std.proofs.lemmas.List.Elements.{All-nil, All-cons}
 use Rattle.keymap_core.specs.Accents.{AccentValue}
-use Rattle.keymap_core.specs.Bounds.{IsCell, IsAccent, IsMap}
-use Rattle.keymap_core.specs.Maps.{MapValue}
+use Rattle.keymap_core.specs.Bounds.{IsCell}
 use Rattle.keymap_core.specs.Unseen.{is_unseen}
 use Rattle.keymap_core.specs.declared.entry.Cell.{Cell}
 use Rattle.keymap_core.specs.declared.entry.Entry.{Entry}
 use Rattle.keymap_text.specs.Printed.{slot_words, accent_words}
-use Rattle.keymap_check.specs.declared.finding.Finding.{Finding}
-use Rattle.keymap_draw.specs.declared.board.Board.{Board}
 use Rattle.keymap_draw.specs.Legends.{cell_legend}
 use Rattle.keymap_draw.specs.Facts.{Fact}
 use Rattle.keymap_draw.specs.WellFormed.{State, Tells, start, step, step_at, scan, is_plain, IsPlain, is_shown, IsShown}

@@ -14,7 +14,6 @@ use Rattle.keymap_core.specs.CodePoints.{code_digits, upper_digits, digit_at}
 use Rattle.keymap_core.specs.Unseen.{is_unseen}
 use Rattle.keymap_draw.specs.Markup.{escaped, is_referred, reference}
 use Rattle.keymap_draw.specs.Facts.{Fact}
-use Rattle.keymap_draw.specs.Sheets.{is_inner}
 use Rattle.keymap_draw.specs.WellFormed.{Role, Element, State, Read, Place, at, step, scan, in_text, saying}
 use Rattle.keymap_draw.specs.WellFormed.{with_characters, is_plain, is_shown}
 use Rattle.keymap_draw.specs.WellFormed.Place.{Text, Bracket, Brackets, Number}

@@ -20,7 +20,7 @@ use Rattle.keymap_core.specs.declared.entry.LockFlag.{LockFlag}
 use Rattle.keymap_core.specs.declared.entry.LockFlag.TheVariants as flag
 use Rattle.keymap_core.specs.Accents.{AccentValue}
 use Rattle.keymap_core.specs.Actions.{IsAction, name_of, two_digits, accent_names, within}
-use Rattle.keymap_core.specs.Bounds.{IsCell, IsEntry, IsPair, IsMap}
+use Rattle.keymap_core.specs.Bounds.{IsCell, IsEntry, IsMap}
 use Rattle.keymap_core.specs.CodePoints.{code_digits, code_text, upper_digits, digit_at}
 use Rattle.keymap_core.specs.Maps.{MapValue, entry_at, undefined}
 use Rattle.keymap_text.specs.Printed.{control_name, character_text, cell_text, hex, hex4, hex_at, slot_words, slot_text}

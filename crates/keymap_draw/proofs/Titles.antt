@@ -26,7 +26,7 @@ use Rattle.keymap_draw.specs.Facts.Fact.{Title, Key, Legend}
 use Rattle.keymap_draw.specs.Halves.{slot_of, board_row, some_key, other_keys, other_key, half_facts}
 use Rattle.keymap_draw.specs.Keys.{title, some_legend, drawn_legend, legends, key}
 use Rattle.keymap_draw.specs.Lists.{named_accents, listed_accent, some_accent}
-use Rattle.keymap_draw.specs.Pictures.{upper, upper_keys, upper_y, parts, picture_facts}
+use Rattle.keymap_draw.specs.Pictures.{upper, upper_keys, parts, picture_facts}
 use Rattle.keymap_draw.specs.Titles.{titles}
 use Rattle.keymap_draw.specs.Told.{told, told_in, key_definition, accent_definition, title_of, TitlesTell}
 use Rattle.keymap_draw.specs.WellFormed.{State, Tells}

@@ -1,17 +1,13 @@
 -- Where texts stand on a cap, and the classes by which the style gives them size, side and colour.
-use Rattle.std.specs.Prelude.{ℕ, ◌+◌, ◌-◌, ◌/◌, ◌==◌, Bool, true, false, List, ◌++◌, codes, length, min, slice_index}
-use Rattle.std.specs.Prelude.{◌≡◌, Option, Some, None, option_to_list, if◌then◌else◌}
+use Rattle.std.specs.Prelude.{ℕ, ◌+◌, ◌-◌, ◌/◌, ◌==◌, Bool, true, false, codes}
+use Rattle.std.specs.Prelude.{◌≡◌, if◌then◌else◌}
 use Rattle.std.specs.List.{list_any}
-use Rattle.keymap_core.specs.declared.action.Action.TheVariants as a
-use Rattle.keymap_core.specs.declared.entry.Cell.{Cell}
-use Rattle.keymap_core.specs.declared.entry.Cell.TheVariants.{Char, Act}
 use Rattle.keymap_core.specs.Maps.{MapValue, accent_or_blank}
 use Rattle.keymap_draw.specs.declared.board.Shape.{Shape}
 use Rattle.keymap_draw.specs.declared.board.Shape.TheVariants as shape
 use Rattle.keymap_draw.specs.declared.place.Column.{Column}
 use Rattle.keymap_draw.specs.declared.place.Column.TheVariants.{Base, Shift, Alt, AltShift}
 use Rattle.keymap_draw.specs.Boards.{width, height}
-use Rattle.keymap_draw.specs.Legends.{is_word}
 
 abbrev pub is_right : Column → Bool
 is_right Base = false

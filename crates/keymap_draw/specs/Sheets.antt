@@ -3,7 +3,7 @@ use Rattle.std.specs.Prelude.{◌≡◌, ℕ, ◌&&◌, not, ◌==◌, ◌||◌,
 use Rattle.std.specs.List.{list_all}
 use Rattle.std.specs.Option.{option_and_then}
 use Rattle.keymap_draw.specs.Facts.{Fact}
-use Rattle.keymap_draw.specs.WellFormed.{Role, Element, element, Place, Read, State, at, within_element, saying, scan}
+use Rattle.keymap_draw.specs.WellFormed.{Element, element, Place, Read, State, at, within_element, saying, scan}
 use Rattle.keymap_draw.specs.WellFormed.{start, is_plain}
 use Rattle.keymap_draw.specs.WellFormed.Place.{Text, Value}
 use Rattle.keymap_draw.specs.WellFormed.Role.{Plain, Cap}

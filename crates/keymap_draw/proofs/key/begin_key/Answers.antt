@@ -1,8 +1,6 @@
-use Rattle.std.proofs.Common.{[], ◌∷◌, ◌++◌, ◌∙◌, refl, append_assoc, arith, ◌<◌, List, ℕ}
-use Rattle.std.specs.Prelude.{codes, ◌%◌, option_to_list}
+use Rattle.std.proofs.Common.{◌++◌, ◌∙◌, refl, arith, ◌<◌, List, ℕ}
+use Rattle.std.specs.Prelude.{◌%◌, option_to_list}
 use Rattle.keymap_core.specs.Numbers.{key_count}
-use Rattle.keymap_draw.specs.declared.words.TheConstants as words
-use Rattle.keymap_draw.specs.Boards.{letter}
 use Rattle.keymap_draw.specs.Facts.{place_at}
 use Rattle.keymap_draw.specs.Keys.{finding_of, finding_line}
 use Rattle.keymap_draw.specs.Sheets.{ReadAs, within, in_key}

@@ -1,6 +1,6 @@
-use Rattle.std.proofs.Common.{[], ◌∷◌, refl}
+use Rattle.std.proofs.Common.{[], refl}
 use Rattle.keymap_draw.specs.Sheets.{ReadAs, ids}
-use Rattle.keymap_draw.specs.WellFormed.{State, at}
+use Rattle.keymap_draw.specs.WellFormed.{at}
 use Rattle.keymap_draw.specs.WellFormed.Place.{Text}
 use Rattle.keymap_draw.proofs.Scans.{filling, held, further}
 use Rattle.keymap_draw.proofs.sheet.finish.Goals as goal

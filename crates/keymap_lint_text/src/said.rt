@@ -63,12 +63,7 @@ fn counted(alloc: Global, one: &[u8], more: &[u8], numbers: &[u8]) -> Result<Vec
 
 /// What is said of a key that is a modifier or lock and has a character; its slot, where it isn't that of the modifier
 /// or lock.
-fn mixed_key(
-    alloc: Global,
-    finding: &Finding,
-    c: char,
-    never: bool,
-) -> Result<Vec<u8>, AllocError>
+fn mixed_key(alloc: Global, finding: &Finding, c: char, never: bool) -> Result<Vec<u8>, AllocError>
     ensures { IfOk result (λ text. IsLine text.items) }
 {
     let Place { slot, column } = finding.character_at;
@@ -100,7 +95,12 @@ fn half_defined(
     ensures { IfOk result (λ text. IsLine text.items) }
 {
     let name = holding_name(selector);
-    let slots = counted(alloc, MISSING_SLOT, MISSING_SLOTS, lint.missing_slots.as_slice())?;
+    let slots = counted(
+        alloc,
+        MISSING_SLOT,
+        MISSING_SLOTS,
+        lint.missing_slots.as_slice(),
+    )?;
     let keys = counted(alloc, NUL_KEY, NUL_KEYS, lint.nul_keys.as_slice())?;
     let keys = told_if(has_keys, keys.as_slice());
     message(
@@ -117,7 +117,11 @@ fn defined_again(alloc: Global, what: Defined, last: u64) -> Result<Vec<u8>, All
     let line = digits(last);
     let told = defined(alloc, what)?;
     let joined = one_of(matches!(what, Defined::Accent(_)), NOT_JOINED, b"");
-    message(alloc, DEFINED_AGAIN, &[told.as_slice(), line.as_slice(), joined])
+    message(
+        alloc,
+        DEFINED_AGAIN,
+        &[told.as_slice(), line.as_slice(), joined],
+    )
 }
 
 /// What is said of dead keys of accents that the text doesn't define, where it defines some other accent or none.

@@ -32,9 +32,13 @@ pub adds_one : (file text : List ℕ) (e : Remark) (message said old new : List 
 adds_one file text e message said old new is_message is behind =
     let added = lines_text (head file text e message ∷ below text e.place) in record {
       added = added;
-      printed =
-          (added, [], record { message = message; is_message = is_message; spelled = refl }, refl,
-          sym (append-nil added));
+      printed = (
+        added,
+        [],
+        record { message = message; is_message = is_message; spelled = refl },
+        refl,
+        sym (append-nil added),
+      );
       behind = behind ∙ ap (λ t. old ++ lines_text ((place_text file text e.place ++ t) ∷ below text e.place)) is;
     }
 

@@ -79,12 +79,12 @@ all_headed file text (e ∷ es) printed name (first, rest, one, more, is) =
           ∙ sym (flat_map-append ended (h ∷ bs) others.lines);
       plain =
           All-cons IsLine h (bs ++ others.lines) (head_line file text e one.message name one.is_message)
-              (All-append IsLine bs others.lines (below_lines text e.place) others.plain);
+          (All-append IsLine bs others.lines (below_lines text e.place) others.plain);
       heads = λ flush.
           subst (AreHeads file text (e ∷ es))
-              (sym (filtered h bs others.lines (head_indented file text e one.message ∙ flush)
-              (below_indented text e.place)))
-              (record { message = one.message; is_message = one.is_message; spelled = refl }, others.heads flush);
+          (sym (filtered h bs others.lines (head_indented file text e one.message ∙ flush)
+          (below_indented text e.place)))
+          (record { message = one.message; is_message = one.is_message; spelled = refl }, others.heads flush);
     }
 
 pub lint_headed : (file text : List ℕ) (l : Lint) (printed : List ℕ) → IsLintText file text l printed

@@ -4,7 +4,7 @@ use Rattle.std.proofs.Common.{◌≡◌, ℕ, ◌<◌, Bool, true, false, List, 
 use Rattle.std.proofs.Common.{rules}
 use Rattle.std.proofs.Common.{All, Option, Some, None, append-nil, take, drop, length}
 use Rattle.std.specs.Prelude.{◌/◌, ◌%◌, ◌==◌, ◌||◌, ◌+◌, ◌-◌, not, nat_lt, codes, decimal, map, encode_utf8, IsTrue}
-use Rattle.std.specs.Prelude.{slice_index_or, if◌then◌else◌}
+use Rattle.std.specs.Prelude.{if◌then◌else◌}
 use Rattle.std.specs.Char.{IsScalar, digit_char}
 use Rattle.std.specs.Fmt.{digits, digits_onto, digit_glyph}
 use Rattle.std.specs.List.{flat_map, list_all, position_or_len}
@@ -19,14 +19,11 @@ use Rattle.bstr.proofs.lemmas.SoundLemmas.{SpellsChar-decoded}
 use Rattle.console_core.specs.declared.event.Event.{Event}
 use Rattle.console_core.specs.declared.event.Event.TheVariants.{Press, Release, Reset, Load}
 use Rattle.keymap_core.proofs.Lists.{along}
-use Rattle.keymap_core.specs.Actions.{accent_names, holding_action, name_of}
+use Rattle.keymap_core.specs.Actions.{name_of}
 use Rattle.keymap_core.specs.Unseen.{is_unseen}
 use Rattle.keymap_core.specs.declared.action.Action.TheVariants as action
 use Rattle.keymap_core.specs.declared.action.Modifier.{Modifier}
 use Rattle.keymap_core.specs.declared.action.Modifier.TheVariants as mods
-use Rattle.keymap_core.specs.declared.action.Lock.TheVariants as locks
-use Rattle.keymap_core.specs.declared.action.Holding.{Holding}
-use Rattle.keymap_core.specs.declared.action.Holding.TheVariants as holds
 use Rattle.keymap_lint.specs.declared.diagnostic.Kind.{Kind}
 use Rattle.keymap_lint.specs.declared.diagnostic.Kind.TheVariants as kinds
 use Rattle.keymap_lint.specs.declared.diagnostic.Severity.{Severity}
@@ -36,8 +33,6 @@ use Rattle.keymap_text.specs.declared.fault.TextFaultKind.TheVariants as faults
 use Rattle.keymap_text.specs.FaultNames.{fault_name}
 use Rattle.keymap_text.specs.LineOf.{before_in_line}
 use Rattle.keymap_text.specs.Meaning.{line}
-use Rattle.keymap_text.specs.Printed.{character_text, control_name, hex, hex4, hex_at}
-use Rattle.keymap_text.specs.Words.{control_names}
 use Rattle.messages.specs.Filled.{filled, words_before, words_behind, is_hole}
 use Rattle.keymap_lint_text.specs.Excerpt.{excerpt, lines_of, shown_line, caret_line, below, left_out}
 use Rattle.keymap_lint_text.specs.Excerpt.{shown_before, without_cr}
@@ -152,14 +147,6 @@ ascii (c ∷ bs) h =
     let both = and_parts (is_shown_byte c) (list_all is_shown_byte bs) h in
     line_cons c bs (small_byte c both.0) (shown_byte_seen c both.0) (ascii bs both.1)
 
-named : (names : List (List ℕ)) (i : ℕ) → list_all (list_all is_shown_byte) names ≡ true
-    → IsLine (slice_index_or names i [])
-named [] i h = line_none
-named (name ∷ names) zero h =
-    ascii name (and_parts (list_all is_shown_byte name) (list_all (list_all is_shown_byte) names) h).0
-named (name ∷ names) (suc i) h =
-    named names i (and_parts (list_all is_shown_byte name) (list_all (list_all is_shown_byte) names) h).1
-
 pub line_each : {A : Type 0} (P : A → Type 0) (f : A → List ℕ) → ((x : A) → P x → IsLine (f x)) → (xs : List A)
     → All P xs → IsLine (flat_map f xs)
 line_each P f each [] h = line_none
@@ -204,20 +191,7 @@ decimal_line n = ascii (decimal n) (decimal_all is_shown_byte glyph_printed n)
 pub digit_line : (d : ℕ) (bs : List ℕ) → d < 16 → IsLine bs → IsLine (digit_char d ∷ bs)
 digit_line d bs low p = in_front (digit_char d) bs (digit_printed d low) p
 
-hex_line : (c p : ℕ) (bs : List ℕ) → IsLine bs → IsLine (hex_at c p ∷ bs)
-hex_line c p bs q = digit_line (c / p % 16) bs (omega arith) q
-
-four : (c : ℕ) → IsLine (hex4 c)
-four c = hex_line c 4096 _ (hex_line c 256 _ (hex_line c 16 _ (hex_line c 1 _ line_none)))
-
-number_line : (c : ℕ) → IsLine (hex c)
-unfolding hex
-number_line c =
-    either (nat_lt c 65536) _ _ (four c)
-    (either (nat_lt c 1048576) _ _ (hex_line c 65536 _ (four c))
-    (hex_line c 1048576 _ (hex_line c 65536 _ (four c))))
-
--- ---- words, with what is told at their places
+-- ---- words, with what is told at their places, modifiers and events
 
 front_printed : (n : ℕ) (bs : List ℕ) → list_all is_shown_byte bs ≡ true → list_all is_shown_byte (take n bs) ≡ true
 front_printed zero bs h = refl
@@ -240,39 +214,9 @@ fills w (t ∷ ts) h ps =
     (line_append (words_before w) t (ascii _ (front_printed (position_or_len is_hole w) w h)) ps.0)
     (fills (words_behind w) ts (behind_printed (position_or_len is_hole w + 2) w h) ps.1)
 
--- ---- characters, modifiers and events
-
-quoted : (c : ℕ) → nat_lt c 32 ≡ false → nat_lt c 127 ≡ true → is_shown_byte c ≡ true
-quoted c low high = grind (arith, nat_tests)
-
-character_by : (c : ℕ) (low del high : Bool) → nat_lt c 32 ≡ low → nat_lt c 127 ≡ high
-    → IsLine (if low || del then control_name c else if high then 39 ∷ c ∷ 39 ∷ [] else codes "0x" ++ hex c)
-character_by c true del high e f = either (c == 127) _ _ (ascii _ refl) (named control_names c refl)
-character_by c false true high e f = either (c == 127) _ _ (ascii _ refl) (named control_names c refl)
-character_by c false false true e f = in_front 39 _ refl (in_front c _ (quoted c e f) (ascii _ refl))
-character_by c false false false e f = line_append _ _ (ascii (codes "0x") refl) (number_line c)
-
-pub character_line : (c : ℕ) → IsLine (character_text c)
-unfolding character_text
-character_line c = character_by c (nat_lt c 32) (c == 127) (nat_lt c 127) refl refl
-
-pub hex_byte_line : (c : ℕ) → c < 256 → IsLine (digit_char (c / 16) ∷ digit_char (c % 16) ∷ [])
-hex_byte_line c small = digit_line (c / 16) _ (omega arith) (digit_line (c % 16) [] (omega arith) line_none)
-
-pub column_line : (column : ℕ) → IsLine (slice_index_or (map (λ name. name.now) words.COLUMN_NAMES) column [])
-column_line column = named (map (λ name. name.now) words.COLUMN_NAMES) column refl
-
-pub accent_line : (i : ℕ) → IsLine (name_of (action.DeadKey i))
-accent_line i = named accent_names i refl
-
 modifier_line : (modifier : Modifier) → IsLine (name_of (action.Mod modifier))
 modifier_line mods.LeftShift = ascii _ refl
 modifier_line _ = ascii _ refl
-
-pub holding_line : (holding : Holding) → IsLine (name_of (holding_action holding))
-holding_line (holds.Mod modifier) = modifier_line modifier
-holding_line (holds.Lock locks.Caps) = ascii _ refl
-holding_line _ = ascii _ refl
 
 further_modifier_line : (modifier : Modifier) → IsLine (notes.further_modifier modifier)
 further_modifier_line modifier = line_append _ _ (ascii (codes " and ") refl) (modifier_line modifier)

@@ -52,21 +52,14 @@ fn unicode_digits(bytes: &[u8]) -> &[u8] {
     }
 }
 
-/// A byte in two digits.
-#[tactic(auto, using(crate::proofs::Lines::hex_byte_line))]
-fn hex_byte(byte: u8) -> [u8; 2]
-    ensures { IsLine result }
-{
-    [hex_digit(byte as u32 / 16), hex_digit(byte as u32 % 16)]
-}
-
 /// What is said of bytes that begin no token. Their first character stands whole in four of them.
 fn bad_byte(alloc: Global, bytes: &[u8]) -> Result<Vec<u8>, AllocError>
     ensures { IfOk result (λ text. IsLine text.items) }
 {
     let byte = if bytes.is_empty() { 0 } else { bytes[0] };
     if byte < 33 || byte == 127 {
-        message(alloc, UNNAMED_BYTE, &[&hex_byte(byte)])
+        let number = word(alloc, &[hex_digit(byte as u32 / 16), hex_digit(byte as u32 % 16)])?;
+        message(alloc, UNNAMED_BYTE, &[number.as_slice()])
     } else if bytes.starts_with(b"\xef\xbb\xbf") {
         message(alloc, MARK, &[])
     } else {

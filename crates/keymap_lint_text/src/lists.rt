@@ -48,12 +48,17 @@ pub(crate) fn ranges(alloc: Global, numbers: &[u8]) -> Result<Vec<u8>, AllocErro
     Ok(text)
 }
 
-fn push_listed(text: &mut Vec<u8>, accents: &[u8], place: usize) -> Result<(), AllocError>
+fn push_listed(
+    alloc: Global,
+    text: &mut Vec<u8>,
+    accents: &[u8],
+    place: usize,
+) -> Result<(), AllocError>
     requires place { place < length accents.now }
     requires before { IsLine text.old.items }
     ensures { OnOk result (IsLine text.new.items) }
 {
-    let name = accent_name(accents[place]);
+    let name = accent_name(alloc, accents[place])?;
     if place == 0 {
         add(text, b"{}", &[name.as_slice()])
     } else if place + 1 == accents.len() {
@@ -69,7 +74,7 @@ pub(crate) fn accents(alloc: Global, accents: &[u8]) -> Result<Vec<u8>, AllocErr
 {
     let mut text = Vec::new(alloc);
     for i in 0..accents.len() {
-        push_listed(&mut text, accents, i)?;
+        push_listed(alloc, &mut text, accents, i)?;
     }
     Ok(text)
 }

@@ -6,8 +6,7 @@ ghost use Rattle.keymap_lint_text.specs.Shown.{AreLines, IsLine, is_shown_byte};
 
 use crate::shown::{first_chars, push_characters};
 use arrayvec::ArrayVec;
-use keymap_core::{ACCENT_LIMIT, AccentIndex, Action, Holding, Name};
-use keymap_text::character_text;
+use keymap_core::{ACCENT_LIMIT, AccentIndex, Action};
 use messages::{fill, number};
 use std::alloc::{AllocError, Global};
 
@@ -61,33 +60,6 @@ pub(crate) fn digits(n: u64) -> ArrayVec<u8, 20>
     number(n)
 }
 
-/// A character as it is printed in a keymap.
-#[tactic(auto, using(crate::proofs::Lines::character_line))]
-pub(crate) fn printed(c: char) -> ArrayVec<u8, 8>
-    ensures { IsLine result.items }
-{
-    character_text(c)
-}
-
-/// The name of a modifier or lock.
-#[tactic(auto, using(crate::proofs::Lines::holding_line))]
-pub(crate) fn holding_name(holding: Holding) -> Name
-    ensures { IsLine result.items }
-{
-    holding.action().name()
-}
-
-/// The name of an accent; nothing where there is no accent with this index.
-pub(crate) fn accent_name(accent: u8) -> Name
-    ensures { IsLine result.items }
-{
-    if usize::from(accent) < ACCENT_LIMIT {
-        Action::DeadKey(AccentIndex::new(accent)).name()
-    } else {
-        Name::new()
-    }
-}
-
 /// The first characters of bytes as they are shown, so many at most.
 pub(crate) fn first_shown(alloc: Global, bytes: &[u8], limit: usize) -> Result<Vec<u8>, AllocError>
     ensures { IfOk result (λ text. IsLine text.items) }
@@ -98,9 +70,21 @@ pub(crate) fn first_shown(alloc: Global, bytes: &[u8], limit: usize) -> Result<V
     Ok(text)
 }
 
-/// A token as it is told: its first characters as they are shown.
+/// A token or name as it is told: its first characters as they are shown.
 pub(crate) fn word(alloc: Global, token: &[u8]) -> Result<Vec<u8>, AllocError>
     ensures { IfOk result (λ text. IsLine text.items) }
 {
     first_shown(alloc, token, WORD_LIMIT)
+}
+
+/// The name of an accent; nothing where there is no accent with this index.
+pub(crate) fn accent_name(alloc: Global, accent: u8) -> Result<Vec<u8>, AllocError>
+    ensures { IfOk result (λ text. IsLine text.items) }
+{
+    if usize::from(accent) < ACCENT_LIMIT {
+        let name = Action::DeadKey(AccentIndex::new(accent)).name();
+        word(alloc, name.as_slice())
+    } else {
+        Ok(Vec::new(alloc))
+    }
 }

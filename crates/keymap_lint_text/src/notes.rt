@@ -81,7 +81,11 @@ fn events(alloc: Global, events: &[Event]) -> Result<Vec<u8>, AllocError>
 
 /// Which modifiers stay on, and after which events.
 #[tactic(auto, unfolding(crate::specs::Notes::sticks_text))]
-pub(crate) fn sticks_message(alloc: Global, stuck: &[Modifier], found: &[Event]) -> Result<Vec<u8>, AllocError>
+pub(crate) fn sticks_message(
+    alloc: Global,
+    stuck: &[Modifier],
+    found: &[Event],
+) -> Result<Vec<u8>, AllocError>
     ensures { IfOk result (λ text. text.items ≡ spec.sticks_text stuck.now found.now) }
 {
     filled(

@@ -159,7 +159,9 @@ impl<'a> Printer<'a> {
         let Some(start) = definition else {
             return Ok(());
         };
-        if tells_beginning(kind) && self.source.number_at(start.offset) < self.source.number_at(place) {
+        if tells_beginning(kind)
+            && self.source.number_at(start.offset) < self.source.number_at(place)
+        {
             let what = defined(self.alloc, start.what)?;
             let said = message(self.alloc, BEGINS, &[what.as_slice()])?;
             self.note(text, Some(start.offset), said.as_slice())
@@ -183,7 +185,13 @@ impl<'a> Printer<'a> {
             (of_fault self.now.source.now place kind fault.now.definition) text.old.items text.new.items) }
     {
         let said = fault_message(self.alloc, self.source.text(), place, kind, fault)?;
-        self.diagnostic(text, Some(place), Severity::Error, kind.name(), said.as_slice())?;
+        self.diagnostic(
+            text,
+            Some(place),
+            Severity::Error,
+            kind.name(),
+            said.as_slice(),
+        )?;
         self.beginning(text, place, kind, fault.definition)
     }
 
@@ -218,7 +226,13 @@ impl<'a> Printer<'a> {
         let kind = &diagnostic.kind;
         let severity = kind.severity(lint.never_sticks());
         let said = kind_message(self.alloc, self.source, lint, kind)?;
-        self.diagnostic(text, diagnostic.place, severity, kind_text(kind), said.as_slice())?;
+        self.diagnostic(
+            text,
+            diagnostic.place,
+            severity,
+            kind_text(kind),
+            said.as_slice(),
+        )?;
         if is_noted(kind) {
             self.answer(text, &lint.sticking)
         } else {

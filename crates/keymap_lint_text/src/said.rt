@@ -7,7 +7,7 @@ ghost use Rattle.keymap_lint_text.specs.Names as spec;
 ghost use Rattle.keymap_lint_text.specs.Shown.{IsLine, is_shown_byte};
 
 use crate::lists::{accents, ranges};
-use crate::message::{accent_name, digits, holding_name, message, one_of, printed, told_if};
+use crate::message::{accent_name, digits, message, one_of, told_if, word};
 use crate::told::{column as column_text, defined};
 use crate::words::{
     ACCENTS, BARE_DIGIT, DEAD_KEY, DEFINED_AGAIN, HALF_DEFINED, MISSING_SLOT, MISSING_SLOTS,
@@ -17,7 +17,7 @@ use crate::words::{
 use keymap_check::{Finding, Place};
 use keymap_core::Holding;
 use keymap_lint::{Diagnostics, Kind, Severity};
-use keymap_text::{Defined, TextLines};
+use keymap_text::{Defined, TextLines, character_text};
 use std::alloc::{AllocError, Global};
 
 pub(crate) fn severity_text(severity: Severity) -> &'static [u8]
@@ -63,25 +63,20 @@ fn counted(alloc: Global, one: &[u8], more: &[u8], numbers: &[u8]) -> Result<Vec
 
 /// What is said of a key that is a modifier or lock and has a character; its slot, where it isn't that of the modifier
 /// or lock.
-fn mixed_key(
-    alloc: Global,
-    finding: &Finding,
-    c: char,
-    never: bool,
-) -> Result<Vec<u8>, AllocError>
+fn mixed_key(alloc: Global, finding: &Finding, c: char, never: bool) -> Result<Vec<u8>, AllocError>
     ensures { IfOk result (λ text. IsLine text.items) }
 {
     let Place { slot, column } = finding.character_at;
     let number = digits(u64::from(slot));
     let other = message(alloc, OTHER_SLOT, &[number.as_slice()])?;
-    let name = holding_name(finding.holding);
+    let name = word(alloc, finding.holding.action().name().as_slice())?;
     message(
         alloc,
         MIXED_KEY,
         &[
             digits(u64::from(finding.key.get())).as_slice(),
             name.as_slice(),
-            printed(c).as_slice(),
+            word(alloc, character_text(c).as_slice())?.as_slice(),
             column_text(alloc, usize::from(column))?.as_slice(),
             told_if(finding.holding_at.slot != slot, other.as_slice()),
             name.as_slice(),
@@ -99,8 +94,13 @@ fn half_defined(
 ) -> Result<Vec<u8>, AllocError>
     ensures { IfOk result (λ text. IsLine text.items) }
 {
-    let name = holding_name(selector);
-    let slots = counted(alloc, MISSING_SLOT, MISSING_SLOTS, lint.missing_slots.as_slice())?;
+    let name = word(alloc, selector.action().name().as_slice())?;
+    let slots = counted(
+        alloc,
+        MISSING_SLOT,
+        MISSING_SLOTS,
+        lint.missing_slots.as_slice(),
+    )?;
     let keys = counted(alloc, NUL_KEY, NUL_KEYS, lint.nul_keys.as_slice())?;
     let keys = told_if(has_keys, keys.as_slice());
     message(
@@ -117,7 +117,11 @@ fn defined_again(alloc: Global, what: Defined, last: u64) -> Result<Vec<u8>, All
     let line = digits(last);
     let told = defined(alloc, what)?;
     let joined = one_of(matches!(what, Defined::Accent(_)), NOT_JOINED, b"");
-    message(alloc, DEFINED_AGAIN, &[told.as_slice(), line.as_slice(), joined])
+    message(
+        alloc,
+        DEFINED_AGAIN,
+        &[told.as_slice(), line.as_slice(), joined],
+    )
 }
 
 /// What is said of dead keys of accents that the text doesn't define, where it defines some other accent or none.
@@ -163,15 +167,16 @@ pub(crate) fn kind_message(
             dead_key(alloc, lint.missing_accents.as_slice(), *defines_some)
         }
         Kind::ZeroAccent { accent } => {
-            message(alloc, ZERO_ACCENT, &[accent_name(*accent).as_slice()])
+            let name = accent_name(alloc, *accent)?;
+            message(alloc, ZERO_ACCENT, &[name.as_slice()])
         }
         Kind::PairAgain {
             accent,
             base,
             first,
         } => {
-            let name = accent_name(*accent);
-            let base = printed(*base);
+            let name = accent_name(alloc, *accent)?;
+            let base = word(alloc, character_text(*base).as_slice())?;
             let line = digits(source.number_at(*first));
             message(
                 alloc,
@@ -190,7 +195,7 @@ pub(crate) fn kind_message(
         Kind::BareDigit { character } => {
             let digits = digits(u64::from(*character as u32));
             let digit = digits.as_slice();
-            let text = printed(*character);
+            let text = word(alloc, character_text(*character).as_slice())?;
             message(alloc, BARE_DIGIT, &[digit, digit, text.as_slice(), digit])
         }
     }

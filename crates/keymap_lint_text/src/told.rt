@@ -1,8 +1,8 @@
 //! What the diagnostics tell of: columns, definitions, and what is wanted.
-ghost use Rattle.std.specs.Prelude.{◌≡◌, [], slice_index_or, map, IfOk};
+ghost use Rattle.std.specs.Prelude.{IfOk};
 ghost use Rattle.keymap_lint_text.specs.Shown.{IsLine};
 
-use crate::message::{accent_name, digits, message};
+use crate::message::{accent_name, digits, message, word};
 use crate::words::{
     A_BASE, A_CELL, A_CHARACTER, A_DEFINITION, A_LOCK, A_PAIR, A_PAIR_END, A_RESULT, COLUMN,
     COLUMN_NAMES, SLOT,
@@ -10,9 +10,8 @@ use crate::words::{
 use keymap_text::{Defined, DefinitionStart, Wanted};
 use std::alloc::{AllocError, Global};
 
-fn column_words(column: usize) -> &'static [u8]
-    ensures { result.now ≡ slice_index_or (map (λ name. name.now) COLUMN_NAMES) column [] }
-{
+/// What selects a column of a slot.
+fn column_name(column: usize) -> &'static [u8] {
     if column < 8 {
         COLUMN_NAMES[column]
     } else {
@@ -20,22 +19,13 @@ fn column_words(column: usize) -> &'static [u8]
     }
 }
 
-/// What selects a column of a slot.
-fn column_name(column: usize) -> &'static [u8]
-    ensures { IsLine result.now }
-{
-    column_words(column)
-}
-
 /// A column, and what selects it.
 pub(crate) fn column(alloc: Global, column: usize) -> Result<Vec<u8>, AllocError>
     ensures { IfOk result (λ text. IsLine text.items) }
 {
-    message(
-        alloc,
-        COLUMN,
-        &[digits(column as u64).as_slice(), column_name(column)],
-    )
+    let name = word(alloc, column_name(column))?;
+    let number = digits(column as u64);
+    message(alloc, COLUMN, &[number.as_slice(), name.as_slice()])
 }
 
 /// What a definition defines: a slot by its number, an accent by its name.
@@ -44,7 +34,7 @@ pub(crate) fn defined(alloc: Global, what: Defined) -> Result<Vec<u8>, AllocErro
 {
     match what {
         Defined::Slot(slot) => message(alloc, SLOT, &[digits(u64::from(slot)).as_slice()]),
-        Defined::Accent(accent) => message(alloc, b"{}", &[accent_name(accent).as_slice()]),
+        Defined::Accent(accent) => accent_name(alloc, accent),
     }
 }
 

@@ -19,7 +19,11 @@ fn text_under(alloc: Global, file: &[u8], source: &[u8], lint: &Lint) -> Result<
     match lint {
         Lint::Faulty { fault, place } => {
             let lines = TextLines::new(alloc, source)?;
-            let printer = Printer { alloc, file, source: &lines };
+            let printer = Printer {
+                alloc,
+                file,
+                source: &lines,
+            };
             printer.fault(&mut text, fault.offset as usize, fault.kind, place)?;
         }
         Lint::Spelled(diagnostics) => {
@@ -28,7 +32,11 @@ fn text_under(alloc: Global, file: &[u8], source: &[u8], lint: &Lint) -> Result<
                 return Ok(text);
             }
             let lines = TextLines::new(alloc, source)?;
-            let printer = Printer { alloc, file, source: &lines };
+            let printer = Printer {
+                alloc,
+                file,
+                source: &lines,
+            };
             printer.each(&mut text, diagnostics, list)?;
         }
     }

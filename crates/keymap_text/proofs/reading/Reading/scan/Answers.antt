@@ -19,7 +19,7 @@ returns-in-Ok c =
     let new = c.pass.new.self in
     let size = length-take-le n rest c.in-Ok.ensures.leaves.0 in
     let taken = of_map (state_view r) (grammar_view c.scan.new.grammar) c.scan.new.into rest n
-    (c.in-Ok.ensures.takes r.map refl) in
+    (c.in-Ok.ensures.takes.took r.map refl) in
     let offset : new.offset ≡ r.offset + length (take n rest) = ap (λ (s : Reading). s.offset) c.pass.ensures in
     let moved : Moves r new (take n rest) (drop n rest) =
     passed r new rest (take n rest) (drop n rest) n
@@ -44,7 +44,7 @@ returns-in-Err c =
     let place : e.offset ≡ r.offset + at =
     omega (arith, c.fault.ensures.offset, length-take-le at rest c.in-Err.ensures.leaves) in
     breaks r rest rest at e
-    (subst (λ f. Refuses (state_view r) rest f at) (sym c.fault.ensures.kind) (c.in-Err.ensures.takes r.map refl))
+    (subst (λ f. Refuses (state_view r) rest f at) (sym c.fault.ensures.kind) (c.in-Err.ensures.takes.took r.map refl))
     (sym (ap (λ (p : List ℕ). p ++ rest) c.requires.none)) place
     (λ b h. c.fault.ensures.line ∙ line_behind r b rest at h
     ∙ ap (λ q. line (b ++ rest) q) {x = r.offset + length r.pending.items + at}

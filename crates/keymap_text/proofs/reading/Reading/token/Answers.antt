@@ -50,7 +50,7 @@ returns-in-Ok-eq0 c =
       inside = c.few-few.ensures.inside;
       moves = extended r _ bytes (take few piece) (drop few piece) c.in-Ok-eq0.field-0
           (of_map (state_view r) (grammar_view c.next.new.grammar) c.next.new.into bytes c.in-Ok-eq0.field-0
-          (c.in-Ok-eq0.ensures.takes r.map refl)) c.in-Ok-eq0.field-0-test joint (sym c.as_slice.ensures.value) refl
+          (c.in-Ok-eq0.ensures.takes.took r.map refl)) c.in-Ok-eq0.field-0-test joint (sym c.as_slice.ensures.value) refl
           refl
           (record {
             place = c.in-Ok-eq0.ensures.leaves.1;
@@ -104,7 +104,7 @@ returns-in-Ok c =
           (sym (ap (λ (s : Reading). state_view s) c.pass.ensures))
           (advances_more (state_view r) _ bytes (drop few piece) n
           (of_map (state_view r) (grammar_view c.next.new.grammar) c.next.new.into bytes n
-          (c.in-Ok.ensures.takes r.map refl))))
+          (c.in-Ok.ensures.takes.took r.map refl))))
           (joined r.pending.items bytes piece few joint
           ∙ ap (λ (t : List ℕ). r.pending.items ++ t) (sym (take-append-drop k piece)))
           (omega (arith, size, has, c.len-had.ensures.value)) pending (omega (arith, offset, size, has))
@@ -124,7 +124,7 @@ returns-in-Err c =
     breaks r (bytes ++ drop few piece) piece c.in-Err.stop.at e
     (refuses_more (state_view r) bytes (drop few piece) e.kind c.in-Err.stop.at
     (subst (λ f. Refuses (state_view r) bytes f c.in-Err.stop.at) (sym c.fault.ensures.kind)
-    (c.in-Err.ensures.takes r.map refl)))
+    (c.in-Err.ensures.takes.took r.map refl)))
     (joined r.pending.items bytes piece few (c.as_slice.ensures.value ∙ c.extend.ensures))
     (omega (arith, c.fault.ensures.offset, c.in-Err.ensures.at))
     (λ b h. pending_line r b piece e h (record {

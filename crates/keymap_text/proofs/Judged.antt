@@ -1,20 +1,12 @@
 -- A whole text, read into what takes its definitions.
-use Rattle.std.proofs.Common.{◌≡◌, ℕ, ◌-◌, Bool, true, List, [], length, take, drop, sym, ◌∙◌, ap, ap₂, subst, arith}
-use Rattle.std.proofs.Common.{append-nil, Some, Ok, Err}
-use Rattle.keymap_core.specs.Maps.{MapValue}
-use Rattle.keymap_text.specs.Types.{TextFaultKind, TextFault}
-use Rattle.keymap_text.specs.declared.grammar.Grammar.{Grammar}
-use Rattle.keymap_text.specs.declared.grammar.Place.TheVariants as places
-use Rattle.keymap_text.specs.declared.scanner.Stop.{Stop}
-use Rattle.keymap_text.specs.Lexical.{tokens_after}
-use Rattle.keymap_text.specs.Meaning.{line, Fault}
+use Rattle.keymap_text.proofs.Common.{◌≡◌, ℕ, ◌-◌, Bool, true, List, [], length, take, drop, sym, ◌∙◌, ap, ap₂, subst}
+use Rattle.keymap_text.proofs.Common.{arith, append-nil, Some, Ok, Err, MapValue, TextFaultKind, TextFault, Grammar}
+use Rattle.keymap_text.proofs.Common.{Stop, tokens_after, line, Fault, start, at, judge, verdict, Faulty, Advances}
+use Rattle.keymap_text.proofs.Common.{Refuses, Takes, grammar_view, place_view}
 use Rattle.keymap_text.specs.ReadInto.{no_keys}
-use Rattle.keymap_text.specs.Inner.Grammar.{start, at}
-use Rattle.keymap_text.specs.Inner.Judging.{judge, verdict, Faulty}
-use Rattle.keymap_text.specs.Inner.Scanning.{Advances, Refuses, Takes}
-use Rattle.keymap_text.specs.Inner.Views.{grammar_view, place_view}
 use Rattle.keymap_text.proofs.Splitting.{to_end}
 use Rattle.keymap_text.proofs.Verdicts.{fault_from}
+use Rattle.keymap_text.specs.declared.grammar.Place.TheVariants as places
 
 -- the grammar begins where a definition is wanted
 begun : (g : Grammar) → g.place ≡ places.Definition → at no_keys (grammar_view g) ≡ start

@@ -1,15 +1,10 @@
 -- Names and numbers.
-use Rattle.std.proofs.Common.{◌≡◌, ℕ, suc, ◌+◌, ◌*◌, ◌^◌, ◌<◌, ◌≤◌, Bool, true, false, cond, ◌&&◌, List, [], ◌∷◌}
-use Rattle.std.proofs.Common.{length, take, drop, get_or, refl, sym, ◌∙◌, ap, arith, add-one, drop-cons, pow_mono}
-use Rattle.std.proofs.Common.{pow-add, nat_lt, Some, None, Option, mul-le-mul_left, ap₂, ◌==◌, take_all}
-use Rattle.std.proofs.lemmas.List.{at_drop_all}
-use Rattle.std.proofs.lemmas.List.Sums.{fold_more}
+use Rattle.keymap_text.proofs.Common.{◌≡◌, ℕ, suc, ◌+◌, ◌*◌, ◌^◌, ◌<◌, ◌≤◌, Bool, true, false, cond, ◌&&◌, List, []}
+use Rattle.keymap_text.proofs.Common.{◌∷◌, length, take, drop, get_or, refl, sym, ◌∙◌, ap, arith, add-one, drop-cons}
+use Rattle.keymap_text.proofs.Common.{pow_mono, pow-add, nat_lt, Some, None, Option, mul-le-mul_left, ap₂, ◌==◌}
+use Rattle.keymap_text.proofs.Common.{take_all, at_drop_all, fold_more, nat_tests, list_all, digit_value, Name}
+use Rattle.keymap_text.proofs.Common.{meaning_by_names, letters, sense_meaning, same_name, digits_of, number, is_digit}
 use Rattle.std.proofs.lemmas.List.Folds.{list_all_at, list_all_more}
-use Rattle.std.proofs.lemmas.Bool.Decides.{nat_tests}
-use Rattle.std.specs.List.{list_all}
-use Rattle.std.specs.Char.{digit_value}
-use Rattle.keymap_text.specs.Types.{Name}
-use Rattle.keymap_text.specs.Words.{meaning_by_names, letters, sense_meaning, same_name, digits_of, number, is_digit}
 
 -- no row has no name
 pub look_none : (w : List ℕ) → meaning_by_names [] w ≡ None

@@ -1,26 +1,20 @@
 -- The printed lines are definitions.
-use Rattle.std.proofs.Common.{◌≡◌, ◌≢◌, ℕ, zero, suc, ◌+◌, ◌-◌, ◌*◌, ◌/◌, ◌%◌, ◌<◌, ◌≤◌, true, List, [], ◌∷◌, ◌++◌}
-use Rattle.std.proofs.Common.{length, replicate, refl, ◌∙◌, ap, subst, arith, Ok, Some, append-nil, nat_lt}
-use Rattle.std.specs.List.{flat_map, list_all}
-use Rattle.std.specs.Char.{digit_value}
-use Rattle.std.proofs.lemmas.Bool.Decides.{nat_tests}
-use Rattle.keymap_text.specs.Types.{Entry, Cell, LockFlag, Action, Item, Open, Close, Value, Number, Act, Letter}
-use Rattle.keymap_core.specs.declared.entry.LockFlag.TheVariants as flags
-use Rattle.keymap_text.specs.Lexical.{tokens_after, leading, is_word}
-use Rattle.keymap_text.specs.Words.{meaning, digits_of, named, is_digit}
-use Rattle.keymap_core.specs.Accents.{AccentValue}
-use Rattle.keymap_text.specs.Items.{character, cell, accent_index}
-use Rattle.keymap_text.specs.Rows.{KeyDefinition, AccentDefinition, AreCells, no_cells, one_cell, ArePairs, no_pairs}
-use Rattle.keymap_text.specs.Rows.{one_pair, Defines, of_key, of_accent}
-use Rattle.keymap_text.specs.Printed.{key_line, accent_line, slot_text, column, filled, cell_text, flag_letter, pair_text}
-use Rattle.keymap_text.specs.Printed.{character_text, accent_name, slot_words, accent_words}
+use Rattle.keymap_text.proofs.Common.{◌≡◌, ◌≢◌, ℕ, zero, suc, ◌+◌, ◌-◌, ◌*◌, ◌/◌, ◌%◌, ◌<◌, ◌≤◌, true, List, [], ◌∷◌}
+use Rattle.keymap_text.proofs.Common.{◌++◌, length, replicate, refl, ◌∙◌, ap, subst, arith, Ok, Some, append-nil}
+use Rattle.keymap_text.proofs.Common.{nat_lt, flat_map, list_all, digit_value, nat_tests, Entry, Cell, LockFlag, Action}
+use Rattle.keymap_text.proofs.Common.{Item, Open, Close, Value, Number, Act, Letter, tokens_after, leading, is_word}
+use Rattle.keymap_text.proofs.Common.{meaning, digits_of, named, is_digit, AccentValue, character, cell, accent_index}
+use Rattle.keymap_text.proofs.Common.{KeyDefinition, AccentDefinition, AreCells, no_cells, one_cell, ArePairs, no_pairs}
+use Rattle.keymap_text.proofs.Common.{one_pair, Defines, of_key, of_accent, key_line, accent_line, slot_text, column}
+use Rattle.keymap_text.proofs.Common.{filled, cell_text, flag_letter, pair_text, character_text, accent_name}
+use Rattle.keymap_text.proofs.Common.{slot_words, accent_words, ending_of_tokens}
 use Rattle.keymap_text.proofs.Leading.{leading_pass}
 use Rattle.keymap_text.proofs.Numbers.{digits_good}
 use Rattle.keymap_text.proofs.Splitting.{split_blank}
 use Rattle.keymap_text.proofs.Verdicts.{items_of}
-use Rattle.keymap_text.specs.Meaning.{ending_of_tokens}
 use Rattle.keymap_text.proofs.Lexed.{Lexes, NoWord, Any, lexes_none, lexes_both, lexes_blank, lexes_word, lexes_left}
 use Rattle.keymap_text.proofs.Lexed.{lexes_right}
+use Rattle.keymap_core.specs.declared.entry.LockFlag.TheVariants as flags
 
 -- a blank in front changes nothing
 lexes_behind_blank : {P : List ℕ → Type 0} {t : List ℕ} {is : List Item} → Lexes P t is → Lexes P (32 ∷ t) is

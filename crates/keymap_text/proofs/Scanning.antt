@@ -1,18 +1,10 @@
 -- What taking blanks, comments and whole tokens makes of the rest of a text.
-use Rattle.std.proofs.Common.{◌≡◌, ℕ, zero, suc, ◌+◌, ◌-◌, ◌<◌, ◌≤◌, ◌==◌, true, false, Bool, List, [], ◌∷◌, ◌++◌, length}
-use Rattle.std.proofs.Common.{take, drop, get_or, refl, sym, ◌∙◌, ap, ap₂, subst, arith, Ok, Err, append-nil}
-use Rattle.std.proofs.Common.{length-append, length-drop, drop-cons}
-use Rattle.std.proofs.lemmas.Bool.Decides.{nat_tests}
-use Rattle.std.proofs.lemmas.List.{drop-drop, drop-append-le}
-use Rattle.keymap_core.specs.Maps.{MapValue}
-use Rattle.keymap_text.specs.Types.{TextFaultKind, Item}
-use Rattle.keymap_text.specs.declared.grammar.Grammar.{Grammar}
-use Rattle.keymap_text.specs.declared.scanner.Stop.{Stop}
-use Rattle.keymap_text.specs.Lexical.{leading, is_blank, is_space, stays_on_line, tokens_after}
-use Rattle.keymap_text.specs.Inner.Grammar.{GrammarState, accept, at, step}
-use Rattle.keymap_text.specs.Inner.Judging.{judge, Faulty}
-use Rattle.keymap_text.specs.Inner.Views.{grammar_view}
-use Rattle.keymap_text.specs.Inner.Scanning.{Advances, Refuses, Takes, Fronts, FrontsBehind}
+use Rattle.keymap_text.proofs.Common.{◌≡◌, ℕ, zero, suc, ◌+◌, ◌-◌, ◌<◌, ◌≤◌, ◌==◌, true, false, Bool, List, [], ◌∷◌}
+use Rattle.keymap_text.proofs.Common.{◌++◌, length, take, drop, get_or, refl, sym, ◌∙◌, ap, ap₂, subst, arith, Ok, Err}
+use Rattle.keymap_text.proofs.Common.{append-nil, length-append, length-drop, drop-cons, nat_tests, drop-drop}
+use Rattle.keymap_text.proofs.Common.{drop-append-le, MapValue, TextFaultKind, Item, Grammar, Stop, leading, is_blank}
+use Rattle.keymap_text.proofs.Common.{is_space, stays_on_line, tokens_after, GrammarState, accept, at, step, judge}
+use Rattle.keymap_text.proofs.Common.{Faulty, grammar_view, Advances, Refuses, Takes, Fronts, FrontsBehind}
 use Rattle.keymap_text.proofs.Leading.{leading_pass, leading_fail, leading_short}
 use Rattle.keymap_text.proofs.Splitting.{split_blank, split_comment, split_after, to_end}
 use Rattle.keymap_text.proofs.Steps.{judge_then, judge_refused}

@@ -1,10 +1,9 @@
 -- What a text splits into, step by step.
-use Rattle.std.proofs.Common.{◌≡◌, ℕ, zero, suc, ◌+◌, ◌-◌, ◌<◌, ◌≤◌, true, List, [], ◌∷◌, length, take, drop, get_or}
-use Rattle.std.proofs.Common.{refl, sym, ◌∙◌, ap, ap₂, arith, add-one, add-zero, drop-cons, length-drop, take_all, take_at, drop_at, ◌++◌}
-use Rattle.std.proofs.lemmas.List.{drop-drop, drop_all}
-use Rattle.keymap_text.specs.Types.{TextFaultKind, EndInside, TokenKind}
-use Rattle.keymap_text.specs.Lexical.{leading, stays_on_line, is_blank, Front, Skipped, Found, Refused, Unfinished}
-use Rattle.keymap_text.specs.Lexical.{front_of, tokens_after, Ends, Stops, Then, token_before}
+use Rattle.keymap_text.proofs.Common.{◌≡◌, ℕ, zero, suc, ◌+◌, ◌-◌, ◌<◌, ◌≤◌, true, List, [], ◌∷◌, length, take, drop}
+use Rattle.keymap_text.proofs.Common.{get_or, refl, sym, ◌∙◌, ap, ap₂, arith, add-one, add-zero, drop-cons, length-drop}
+use Rattle.keymap_text.proofs.Common.{take_all, take_at, drop_at, ◌++◌, drop-drop, drop_all, TextFaultKind, EndInside}
+use Rattle.keymap_text.proofs.Common.{TokenKind, leading, stays_on_line, is_blank, Front, Skipped, Found, Refused}
+use Rattle.keymap_text.proofs.Common.{Unfinished, front_of, tokens_after, Ends, Stops, Then, token_before}
 use Rattle.keymap_text.proofs.InFront.{front_blank, front_comment, front_fits}
 use Rattle.keymap_text.proofs.Leading.{leading_le}
 

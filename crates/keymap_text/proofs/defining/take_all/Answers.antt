@@ -1,5 +1,4 @@
-use Rattle.std.proofs.Common.{refl, sym, ◌∙◌, ap₂, true, false}
-use Rattle.keymap_text.specs.Inner.Judging.{Faulty}
+use Rattle.keymap_text.proofs.Common.{refl, sym, ◌∙◌, ap₂, true, false, Faulty}
 use Rattle.keymap_text.proofs.Judged.{taken_whole, refused_whole}
 use Rattle.keymap_text.proofs.defining.take_all.Goals as goal
 

@@ -1,5 +1,4 @@
-use Rattle.std.proofs.Common.{refl, ap}
-use Rattle.keymap_text.specs.Lexical.{is_blank}
+use Rattle.keymap_text.proofs.Common.{refl, ap, is_blank}
 use Rattle.keymap_text.proofs.Scanning.{takes_same, takes_on, faults_on, blank_advances}
 use Rattle.keymap_text.proofs.scanner.after_spaces.Goals as goal
 

@@ -1,13 +1,9 @@
-use Rattle.std.proofs.Common.{◌≡◌, ◌+◌, ℕ, List, refl, sym, ◌∙◌, ap, subst, arith, Ok}
-use Rattle.keymap_text.specs.declared.grammar.Grammar.{Grammar}
-use Rattle.keymap_text.specs.declared.grammar.Place.TheVariants as places
-use Rattle.keymap_text.specs.Inner.Grammar as spec
-use Rattle.keymap_core.specs.Maps.{MapValue}
-use Rattle.keymap_text.specs.Inner.Grammar.{GrammarState, at}
-use Rattle.keymap_text.specs.Inner.Scanning.{Advances, Refuses, Takes}
-use Rattle.keymap_text.specs.Inner.Views.{place_view, grammar_view}
+use Rattle.keymap_text.proofs.Common.{◌≡◌, ◌+◌, ℕ, List, refl, sym, ◌∙◌, ap, subst, arith, Ok, Grammar, MapValue}
+use Rattle.keymap_text.proofs.Common.{GrammarState, at, Advances, Refuses, Takes, place_view, grammar_view}
 use Rattle.keymap_text.proofs.Rows.{is_cell, is_lock, next_place}
 use Rattle.keymap_text.proofs.Scanning.{stays, advances_on, refuses_on, takes_on, takes_same}
+use Rattle.keymap_text.specs.declared.grammar.Place.TheVariants as places
+use Rattle.keymap_text.specs.Inner.Grammar as spec
 use Rattle.keymap_text.proofs.scanner.cells.Goals as goal
 
 pub loop-index-init : goal.loop-index-init

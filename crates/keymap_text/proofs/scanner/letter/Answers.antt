@@ -1,11 +1,8 @@
-use Rattle.std.proofs.Common.{◌+◌, sym, subst, arith}
-use Rattle.keymap_core.specs.Maps.{with_entry}
-use Rattle.keymap_text.specs.Inner.Grammar as spec
-use Rattle.keymap_text.specs.Inner.Grammar.{at}
-use Rattle.keymap_text.specs.Inner.Scanning.{Advances}
-use Rattle.keymap_text.specs.Inner.Views.{place_view, grammar_view, IsPlace}
+use Rattle.keymap_text.proofs.Common.{◌+◌, sym, subst, arith, with_entry, at, Advances, place_view, grammar_view}
+use Rattle.keymap_text.proofs.Common.{IsPlace}
 use Rattle.keymap_text.proofs.Rows.{letter_taken}
 use Rattle.keymap_text.proofs.Scanning.{takes_same, stays}
+use Rattle.keymap_text.specs.Inner.Grammar as spec
 use Rattle.keymap_text.proofs.scanner.letter.Goals as goal
 
 pub returns-in-Ok-clause-takes : goal.returns-in-Ok-clause-takes

@@ -1,6 +1,4 @@
-use Rattle.std.proofs.Common.{◌+◌, refl, sym, ◌∙◌, ap, arith}
-use Rattle.std.proofs.lemmas.List.{length-take-le}
-use Rattle.keymap_text.specs.Lexical.{Found}
+use Rattle.keymap_text.proofs.Common.{◌+◌, refl, sym, ◌∙◌, ap, arith, length-take-le, Found}
 use Rattle.keymap_text.proofs.Scanning.{takes_token, takes_fault}
 use Rattle.keymap_text.proofs.InFront.{front_fits}
 use Rattle.keymap_text.proofs.Tails.{open_word, open_quote, found_here, refused_here}

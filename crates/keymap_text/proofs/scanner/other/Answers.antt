@@ -1,5 +1,4 @@
-use Rattle.std.proofs.Common.{◌≡◌, ℕ, sym, ◌∙◌, arith, Result, Ok}
-use Rattle.keymap_text.specs.declared.scanner.Stop.{Stop}
+use Rattle.keymap_text.proofs.Common.{◌≡◌, ℕ, sym, ◌∙◌, arith, Result, Ok, Stop}
 use Rattle.keymap_text.proofs.Scanning.{takes_same, blank_advances, comment_advances}
 use Rattle.keymap_text.proofs.Tails.{open_comment, comment_some}
 use Rattle.keymap_text.proofs.scanner.other.Goals as goal

@@ -1,4 +1,4 @@
-use Rattle.std.proofs.Common.{refl}
+use Rattle.keymap_text.proofs.Common.{refl}
 use Rattle.keymap_text.proofs.Scanning.{takes_same, takes_on, faults_on, blanks_advance}
 use Rattle.keymap_text.proofs.scanner.quick.Goals as goal
 

@@ -1,6 +1,4 @@
-use Rattle.std.proofs.Common.{refl, sym, subst, arith}
-use Rattle.std.proofs.lemmas.List.{at_drop_all}
-use Rattle.keymap_text.specs.Inner.Scanning.{IsOpen}
+use Rattle.keymap_text.proofs.Common.{refl, sym, subst, arith, at_drop_all, IsOpen}
 use Rattle.keymap_text.proofs.Scanning.{takes_same, takes_on, faults_on, stays}
 use Rattle.keymap_text.proofs.scanner.scan.Goals as goal
 

@@ -1,4 +1,4 @@
-use Rattle.std.proofs.Common.{refl}
+use Rattle.keymap_text.proofs.Common.{refl}
 use Rattle.keymap_text.proofs.Scanning.{takes_token, takes_fault, takes_same, stays}
 use Rattle.keymap_text.proofs.scanner.token.Goals as goal
 

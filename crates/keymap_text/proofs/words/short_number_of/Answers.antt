@@ -1,4 +1,4 @@
-use Rattle.std.proofs.Common.{◌≤◌, ℕ, subst, eqb-true, sym, ◌∙◌, arith}
+use Rattle.keymap_text.proofs.Common.{◌≤◌, ℕ, subst, eqb-true, sym, ◌∙◌, arith}
 use Rattle.keymap_text.proofs.Numbers.{digits_none, digits_bad, more_fits, spells_more, spells_all}
 use Rattle.keymap_text.proofs.words.short_number_of.Goals as goal
 

@@ -1,11 +1,6 @@
-use Rattle.std.proofs.Common.{◌≡◌, ◌+◌, ◌++◌, ℕ, List, [], take, drop, length, refl, sym, ◌∙◌, ap, subst, arith}
-use Rattle.std.proofs.lemmas.List.{length-take-le, take-append-drop}
-use Rattle.keymap_text.specs.declared.reading.Reading.{Reading}
-use Rattle.keymap_text.specs.Meaning.{line}
-use Rattle.keymap_text.specs.Inner.Grammar.{GrammarState}
-use Rattle.keymap_text.specs.Inner.Resuming.{Moves}
-use Rattle.keymap_text.specs.Inner.Scanning.{Advances, Refuses}
-use Rattle.keymap_text.specs.Inner.Views.{state_view, grammar_view, IsPlace}
+use Rattle.keymap_text.proofs.Common.{◌≡◌, ◌+◌, ◌++◌, ℕ, List, [], take, drop, length, refl, sym, ◌∙◌, ap, subst, arith}
+use Rattle.keymap_text.proofs.Common.{length-take-le, take-append-drop, Reading, line, GrammarState, Moves, Advances}
+use Rattle.keymap_text.proofs.Common.{Refuses, state_view, grammar_view, IsPlace}
 use Rattle.keymap_text.proofs.Lines.{line_behind}
 use Rattle.keymap_text.proofs.Splitting.{to_end}
 use Rattle.keymap_text.proofs.Standing.{passed, moves_on, breaks, of_map}

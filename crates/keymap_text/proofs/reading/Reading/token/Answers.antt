@@ -1,14 +1,10 @@
-use Rattle.std.proofs.Common.{◌≡◌, ◌+◌, ◌-◌, ◌<◌, ◌≤◌, ◌++◌, ℕ, List, length, take, drop, get_or, refl, sym, ◌∙◌, ap, subst}
-use Rattle.std.proofs.Common.{arith, Ok, length-append}
-use Rattle.std.proofs.lemmas.List.{length-take-le, take-append-drop}
-use Rattle.std.specs.Prelude.{IsFalse}
-use Rattle.keymap_text.specs.declared.reading.Reading.{Reading}
-use Rattle.keymap_text.specs.Lexical.{separates}
-use Rattle.keymap_text.specs.Inner.Grammar.{GrammarState}
-use Rattle.keymap_text.specs.Inner.Scanning.{Advances, Refuses, IsOpen}
-use Rattle.keymap_text.specs.Inner.Views.{state_view, grammar_view, IsPlace}
+use Rattle.keymap_text.proofs.Common.{◌≡◌, ◌+◌, ◌-◌, ◌<◌, ◌≤◌, ◌++◌, ℕ, List, length, take, drop, get_or, refl, sym}
+use Rattle.keymap_text.proofs.Common.{◌∙◌, ap, subst, arith, Ok, length-append, length-take-le, take-append-drop}
+use Rattle.keymap_text.proofs.Common.{IsFalse, Reading, separates, GrammarState, Advances, Refuses, IsOpen, state_view}
+use Rattle.keymap_text.proofs.Common.{grammar_view, IsPlace}
 use Rattle.keymap_text.proofs.Lines.{pending_line}
-use Rattle.keymap_text.proofs.Standing.{extended, passed, breaks, advances_more, refuses_more, joined, of_map, first_same}
+use Rattle.keymap_text.proofs.Standing.{extended, passed, breaks, advances_more, refuses_more, joined, of_map}
+use Rattle.keymap_text.proofs.Standing.{first_same}
 use Rattle.keymap_text.proofs.Tails.{open_few, open_longer, open_stands}
 use Rattle.keymap_text.proofs.reading.Reading.token.Goals as goal
 

@@ -56,7 +56,7 @@ key_line number tokens =
 abbrev pub filled : Written → List ℕ
 filled t = t.bytes ++ blanks (7 - places t)
 
--- the same line with each token in its column: the number ends before column 5, the cells take seven places each from
+-- that line with each token in its column: the number ends before column 5, the cells take seven places each from
 -- column 8 on, and the lock letter stands in column 65
 abbrev pub aligned_line : Written → List Written → Written → List ℕ
 aligned_line number cells letter =

@@ -17,7 +17,7 @@ lower Beside = Below
 lower Below = Apart
 lower Apart = Apart
 
--- the same if the blank c stands before it
+-- or if the blank c stands before it
 abbrev pub lowered : ℕ → Standing → Standing
 lowered c s = if c == 10 then lower s else s
 

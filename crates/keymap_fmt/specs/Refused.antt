@@ -17,7 +17,7 @@ IsRefused text errors.Memory = ⊤
 IsRefused text (errors.Fault f) = Fault text f
 IsRefused text errors.TooLong = ((m : MapValue) × Spells text m) × IsTooLong text
 
--- why the layout of a text that spells a keymap is not made
+-- What the layout alone is refused for.
 abbrev pub IsUnfinished : List ℕ → FormatError → Type 0
 IsUnfinished text errors.Memory = ⊤
 IsUnfinished text (errors.Fault f) = ⊥

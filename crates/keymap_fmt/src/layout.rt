@@ -259,7 +259,7 @@ fn begin_row(
     Ok(())
 }
 
-/// Writes the token behind what the open line has, at once where it goes on in its row, as most do.
+/// Adds the line ends before a token, at once where it goes on in its row, as most do.
 #[tactic(auto, unfolding(crate::specs::Layout::opened))]
 fn open_row(
     laid: &mut Vec<u8>,

@@ -86,7 +86,7 @@ fn lint_spelled(alloc: Global, text: &SpelledText) -> Result<Diagnostics, AllocE
     Ok(lint)
 }
 
-/// The diagnostics of a text that has these definitions and tokens.
+/// The diagnostics of a text that spells a map with these definitions and tokens.
 fn lint_rows(
     alloc: Global,
     definitions: &[Placed],
@@ -102,7 +102,7 @@ fn lint_rows(
     Ok(lint)
 }
 
-/// The diagnostics of a text that spells the map.
+/// The diagnostics of a text that spells this map.
 fn lint_map(alloc: Global, text: &[u8], map: &KeyMap) -> Result<Diagnostics, AllocError>
     requires { Spells text.now map.now }
     ensures { IfOk result (λ l. AreOfMap text.now map.now l) }

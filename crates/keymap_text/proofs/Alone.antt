@@ -1,11 +1,8 @@
 -- A token reads alone: its bytes are the same token wherever a blank stands behind them.
-use Rattle.std.proofs.Common.{◌≡◌, ⊎_elim, ℕ, ◌+◌, ◌<◌, ◌≤◌, Bool, true, false, List, [], ◌∷◌, ◌++◌, take, sym, ◌∙◌, ap}
-use Rattle.std.proofs.Common.{refl, subst, arith, add-one, ◌&&◌, slice_index}
-use Rattle.std.specs.List.{list_all}
-use Rattle.std.proofs.lemmas.Bool.Decides.{nat_tests}
-use Rattle.keymap_text.specs.Types.{TokenKind, ParenL, ParenR, Literal, Word}
-use Rattle.keymap_text.specs.Lexical.{leading, is_blank, is_word, stays_on_line, separates, word, Skipped, Found}
-use Rattle.keymap_text.specs.Lexical.{front_of}
+use Rattle.keymap_text.proofs.Common.{◌≡◌, ⊎_elim, ℕ, ◌+◌, ◌<◌, ◌≤◌, Bool, true, false, List, [], ◌∷◌, ◌++◌, take, sym}
+use Rattle.keymap_text.proofs.Common.{◌∙◌, ap, refl, subst, arith, add-one, ◌&&◌, slice_index, list_all, nat_tests}
+use Rattle.keymap_text.proofs.Common.{TokenKind, ParenL, ParenR, Literal, Word, leading, is_blank, is_word}
+use Rattle.keymap_text.proofs.Common.{stays_on_line, separates, word, Skipped, Found, front_of}
 use Rattle.keymap_text.specs.Alone.{IsWide, StandsAlone}
 use Rattle.keymap_text.proofs.InFront.{InFront, Left, Right, Quote, Letters, in_front_is, front_left, front_right}
 use Rattle.keymap_text.proofs.InFront.{front_quote, front_word, front_fits, skipped_by}

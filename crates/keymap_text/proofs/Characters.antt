@@ -1,21 +1,16 @@
 -- The printed text of a character, and of an action, is one token, which is that character or action.
-use Rattle.std.proofs.Common.{◌≡◌, ◌≢◌, ℕ, suc, ◌+◌, ◌*◌, ◌/◌, ◌%◌, ◌<◌, ◌≤◌, ◌==◌, ◌&&◌, Bool, true, false, cond}
-use Rattle.std.proofs.Common.{List, [], ◌∷◌, length, map, fold, refl, sym, ◌∙◌, ap, subst, arith, Ok, Err, Some, None}
-use Rattle.std.proofs.Common.{ne_eqb, nat_lt, nat_le, codes, slice_index_or}
-use Rattle.std.specs.List.{list_all, range_with_len}
-use Rattle.std.specs.Char.{digit_char, digit_value}
+use Rattle.keymap_text.proofs.Common.{◌≡◌, ◌≢◌, ℕ, suc, ◌+◌, ◌*◌, ◌/◌, ◌%◌, ◌<◌, ◌≤◌, ◌==◌, ◌&&◌, Bool, true, false}
+use Rattle.keymap_text.proofs.Common.{cond, List, [], ◌∷◌, length, map, fold, refl, sym, ◌∙◌, ap, subst, arith, Ok, Err}
+use Rattle.keymap_text.proofs.Common.{Some, None, ne_eqb, nat_lt, nat_le, codes, slice_index_or, list_all}
+use Rattle.keymap_text.proofs.Common.{range_with_len, digit_char, digit_value, nat_tests, Value, Meaning, Number, Char}
+use Rattle.keymap_text.proofs.Common.{leading, is_word, meaning, digits_of, number_after, is_digit, named}
+use Rattle.keymap_text.proofs.Common.{control_names, character_text, hex, hex4, hex_at, along}
 use lib.Utf8.{scalar}
-use Rattle.std.proofs.lemmas.Bool.Decides.{nat_tests}
-use Rattle.keymap_text.specs.declared.fault.TextFaultKind.TheVariants as faults
-use Rattle.keymap_text.specs.Types.{Value, Meaning, Number, Char}
-use Rattle.keymap_text.specs.Lexical.{leading, is_word}
-use Rattle.keymap_text.specs.Words.{meaning, digits_of, number_after, is_digit, named, control_names}
-use Rattle.keymap_text.specs.Printed.{character_text, hex, hex4, hex_at}
-use Rattle.keymap_core.proofs.Lists.{along}
 use Rattle.keymap_text.proofs.Leading.{leading_pass}
 use Rattle.keymap_text.proofs.Numbers.{digits_good, digits_bad}
 use Rattle.keymap_text.proofs.Lexed.{Lexes, NoWord, lexes_word, lexes_quoted}
 use Rattle.keymap_text.proofs.PrintedLines.{PrintsCharacter}
+use Rattle.keymap_text.specs.declared.fault.TextFaultKind.TheVariants as faults
 
 -- a text of one word
 abbrev pub is_one_word : List ℕ → Bool

@@ -1,11 +1,8 @@
 -- The tables of the classes of bytes.
-use Rattle.std.proofs.Common.{◌≡◌, ℕ, ◌<◌, map, get_or, refl, false, arith}
-use Rattle.std.specs.List.{range_with_len}
+use Rattle.keymap_text.proofs.Common.{◌≡◌, ℕ, ◌<◌, map, get_or, refl, false, arith, range_with_len, digit_value}
+use Rattle.keymap_text.proofs.Common.{is_space, is_word, along}
 use Rattle.keymap_text.specs.declared.token.TheConstants.{SPACE_BYTES, WORD_BYTES}
-use Rattle.std.specs.Char.{digit_value}
 use Rattle.keymap_text.specs.declared.words.TheConstants.{DIGITS}
-use Rattle.keymap_text.specs.Lexical.{is_space, is_word}
-use Rattle.keymap_core.proofs.Lists.{along}
 
 -- computed over the tables
 spaces : map (λ c. get_or SPACE_BYTES c false) (range_with_len 0 256) ≡ map is_space (range_with_len 0 256)

@@ -1,13 +1,8 @@
 -- The table of names begins with the names of the control characters.
-use Rattle.std.proofs.Common.{◌≡◌, ℕ, ◌<◌, ◌≤◌, ◌==◌, ◌⊎◌, inl, inr, true, cond, length, map, refl, sym, subst, arith}
-use Rattle.std.proofs.Common.{List, [], ◌∷◌, nat_le, get_or}
-use Rattle.std.specs.List.{range_with_len}
-use Rattle.std.proofs.lemmas.Bool.Decides.{nat_tests}
-use Rattle.keymap_text.specs.Words.{letters}
-use Rattle.keymap_text.specs.Printed.{control_name, filled}
+use Rattle.keymap_text.proofs.Common.{◌≡◌, ℕ, ◌<◌, ◌≤◌, ◌==◌, ◌⊎◌, inl, inr, true, cond, length, map, refl, sym, subst}
+use Rattle.keymap_text.proofs.Common.{arith, List, [], ◌∷◌, nat_le, get_or, range_with_len, nat_tests, letters}
+use Rattle.keymap_text.proofs.Common.{control_name, filled, NAMES, along}
 use Rattle.keymap_text.specs.declared.names.Name.{Name}
-use Rattle.keymap_text.specs.declared.names.TheConstants.{NAMES}
-use Rattle.keymap_core.proofs.Lists.{along}
 
 -- computed over the table
 low_letters : (d : Name) → map (λ c. letters (get_or NAMES (cond (c == 127) 32 c) d).0) (range_with_len 0 32)

@@ -1,20 +1,16 @@
 -- The faults of the reader's machine are those of the places.
-use Rattle.std.proofs.Common.{◌≡◌, ℕ, ◌+◌, ◌==◌, Bool, true, false, cond, List, [], ◌∷◌, length, refl, sym, ◌∙◌, ap}
-use Rattle.std.proofs.Common.{Result, Ok, Err, Option, Some, None, length-append, nat_lt}
-use Rattle.keymap_text.specs.Types.{TextFaultKind, Item, Open, Close, Value, Number, Char, Act, Combined, Entry, Cell}
-use Rattle.keymap_text.specs.Types.{LockFlag}
-use Rattle.keymap_text.specs.declared.fault.TextFaultKind.TheVariants as faults
-use Rattle.keymap_text.specs.Lexical.{TokenValue, Tokens, Ends, Stops, Then, tokens_after}
-use Rattle.keymap_text.specs.Inner.Grammar as full
-use Rattle.keymap_core.specs.Maps.{MapValue, undefined, with_entry, with_accent}
-use Rattle.keymap_text.specs.Items.{character, cell, lock, accent_index}
-use Rattle.keymap_text.specs.Inner.Grammar.{GrammarState, accept, at, at_end, first_of}
-use Rattle.keymap_text.specs.Places.{RowPlace, AtDefinition, AtCell, AtLock, AtAccentCharacter, AfterPairs, AtBase}
-use Rattle.keymap_text.specs.Places.{AtResult, AtPairEnd, if_accepted, next, next_at_definition}
-use Rattle.keymap_text.specs.Inner.Judging.{judge, verdict, Verdict, Spelled, Faulty, ended}
-use Rattle.keymap_text.specs.Meaning.{list_of, ending_of_tokens, item_of, place_after, FaultInText, found_in, fault_of}
-use Rattle.keymap_text.specs.Inner.Views.{place_of}
+use Rattle.keymap_text.proofs.Common.{◌≡◌, ℕ, ◌+◌, ◌==◌, Bool, true, false, cond, List, [], ◌∷◌, length, refl, sym, ◌∙◌}
+use Rattle.keymap_text.proofs.Common.{ap, Result, Ok, Err, Option, Some, None, length-append, nat_lt, TextFaultKind}
+use Rattle.keymap_text.proofs.Common.{Item, Open, Close, Value, Number, Char, Act, Combined, Entry, Cell, LockFlag}
+use Rattle.keymap_text.proofs.Common.{TokenValue, Tokens, Ends, Stops, Then, tokens_after, MapValue, undefined}
+use Rattle.keymap_text.proofs.Common.{with_entry, with_accent, character, cell, lock, accent_index, GrammarState}
+use Rattle.keymap_text.proofs.Common.{accept, at, at_end, first_of, RowPlace, AtDefinition, AtCell, AtLock}
+use Rattle.keymap_text.proofs.Common.{AtAccentCharacter, AfterPairs, AtBase, AtResult, AtPairEnd, if_accepted, next}
+use Rattle.keymap_text.proofs.Common.{next_at_definition, judge, verdict, Verdict, Spelled, Faulty, ended, list_of}
+use Rattle.keymap_text.proofs.Common.{ending_of_tokens, item_of, place_after, FaultInText, found_in, fault_of, place_of}
 use Rattle.keymap_text.proofs.Steps.{judge_then, judge_refused, judge_stops, judge_ends}
+use Rattle.keymap_text.specs.declared.fault.TextFaultKind.TheVariants as faults
+use Rattle.keymap_text.specs.Inner.Grammar as full
 
 abbrev pub led : Result GrammarState TextFaultKind → Result RowPlace TextFaultKind
 led (Ok s) = Ok (place_of s.place)

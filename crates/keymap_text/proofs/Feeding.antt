@@ -1,23 +1,16 @@
 -- A text that is read from a device, piece by piece.
-use Rattle.std.proofs.Common.{◌≡◌, ℕ, zero, suc, ◌+◌, ◌≤◌, ◌<◌, List, [], ◌∷◌, ◌++◌, length, take, refl, sym, ◌∙◌}
-use Rattle.std.proofs.Common.{subst, arith, Option, Some, None, Result, Ok, Err, length-append, append-nil, IfErr}
+use Rattle.keymap_text.proofs.Common.{◌≡◌, ℕ, zero, suc, ◌+◌, ◌≤◌, ◌<◌, List, [], ◌∷◌, ◌++◌, length, take, refl, sym}
+use Rattle.keymap_text.proofs.Common.{◌∙◌, subst, arith, Option, Some, None, Result, Ok, Err, length-append, append-nil}
+use Rattle.keymap_text.proofs.Common.{IfErr, MapValue, TextError, TextFault, verdict, judge, Spelled, tokens_after}
+use Rattle.keymap_text.proofs.Common.{empty_map, at_end, Concludes, StandsAfter, FedAfter, limit, HasNoEarlyFault}
+use Rattle.keymap_text.proofs.Common.{TakesWhole, FailsInside, TextGoesPast, ReadsMap, StopsAtOnce, length-take-le}
 use mathlib.Core.Logic.{inl, inr}
 use Rattle.std.specs.Io.KnownBytes.{Consumes, IsAtEnd, Keeps}
 use Rattle.std.proofs.KnownBytes.{Consumes-trans, Consumes-kept, Consumes-nil}
-use Rattle.keymap_core.specs.Maps.{MapValue}
-use Rattle.keymap_core.specs.declared.transfer.ReadFaultKind.TheVariants as kinds
-use Rattle.keymap_text.specs.Types.{TextError, TextFault}
-use Rattle.keymap_text.specs.declared.fault.TextError.TheVariants as errors
 use Rattle.keymap_text.specs.Progress.{Progress}
-use Rattle.keymap_text.specs.Inner.Judging.{verdict, judge, Spelled}
-use Rattle.keymap_text.specs.Lexical.{tokens_after}
-use Rattle.keymap_text.specs.Inner.Grammar.{empty_map, at_end}
-use Rattle.keymap_text.specs.Meaning.{Concludes}
-use Rattle.keymap_text.specs.Standing.{StandsAfter, FedAfter}
-use Rattle.keymap_text.specs.Sources.{limit, HasNoEarlyFault, TakesWhole, FailsInside, TextGoesPast, ReadsMap}
-use Rattle.keymap_text.specs.Sources.{StopsAtOnce}
 use Rattle.keymap_text.proofs.Verdicts.{spells_from, fault_or_map}
-use Rattle.std.proofs.lemmas.List.{length-take-le}
+use Rattle.keymap_core.specs.declared.transfer.ReadFaultKind.TheVariants as kinds
+use Rattle.keymap_text.specs.declared.fault.TextError.TheVariants as errors
 
 -- The reader stands after the bytes that the device gave, which have no early fault.
 pub record IsFed (old new : Option (List ℕ)) (reader : Progress) (taken : ℕ) : Type 0 where

@@ -1,18 +1,12 @@
 -- Definitions put into a map one by one, and the last ones.
-use Rattle.std.proofs.Common.{◌≡◌, ℕ, zero, suc, ◌+◌, ◌<◌, ◌==◌, Bool, true, false, cond, max, List, [], ◌∷◌, ◌++◌}
-use Rattle.std.proofs.Common.{length, get_or, replicate, map, refl, sym, ◌∙◌, ap, arith, Option, Some, None, eqb-true}
-use Rattle.std.proofs.Common.{eq-eqb, true≢false, length-set, length-append, ◌-◌}
-use Rattle.std.specs.List.{range_with_len}
-use Rattle.std.specs.Option.{option_or}
-use Rattle.std.proofs.lemmas.List.{get_or-set_same, get_or-set_other, length-map}
-use Rattle.std.proofs.lemmas.List.FromFn.{get_or-map-range_with_len, length-range_with_len}
-use Rattle.keymap_text.specs.Types.{Entry}
-use Rattle.keymap_core.specs.Accents.{AccentValue, blank}
-use Rattle.keymap_core.specs.Maps.{MapValue, with_entry, with_accent, undefined, placed}
-use Rattle.keymap_text.specs.Inner.Grammar.{empty_map}
-use Rattle.keymap_text.specs.Rows.{Definition, KeyDefinition, AccentDefinition, last, of_slot, of_index, greatest}
-use Rattle.keymap_text.specs.Rows.{slots_needed, accents_needed, or_default, map_of}
-use Rattle.keymap_core.proofs.Lists.{get_or-replicate_default}
+use Rattle.keymap_text.proofs.Common.{◌≡◌, ℕ, zero, suc, ◌+◌, ◌<◌, ◌==◌, Bool, true, false, cond, max, List, [], ◌∷◌}
+use Rattle.keymap_text.proofs.Common.{◌++◌, length, get_or, replicate, map, refl, sym, ◌∙◌, ap, arith, Option, Some}
+use Rattle.keymap_text.proofs.Common.{None, eqb-true, eq-eqb, true≢false, length-set, length-append, ◌-◌}
+use Rattle.keymap_text.proofs.Common.{range_with_len, option_or, get_or-set_same, get_or-set_other, length-map}
+use Rattle.keymap_text.proofs.Common.{get_or-map-range_with_len, length-range_with_len, Entry, AccentValue, blank}
+use Rattle.keymap_text.proofs.Common.{MapValue, with_entry, with_accent, undefined, placed, empty_map, Definition}
+use Rattle.keymap_text.proofs.Common.{KeyDefinition, AccentDefinition, last, of_slot, of_index, greatest, slots_needed}
+use Rattle.keymap_text.proofs.Common.{accents_needed, or_default, map_of, get_or-replicate_default}
 
 abbrev pub put : MapValue → Definition → MapValue
 put m (KeyDefinition s e) = with_entry m s e

@@ -1,17 +1,11 @@
 -- What stands in front of some bytes stays there, whatever follows, unless the bytes break it off.
-use Rattle.std.proofs.Common.{◌≡◌, ◌⊎◌, inl, inr, ⊎_elim, ℕ, zero, suc, ◌+◌, ◌<◌, ◌≤◌, ◌&&◌, true, false, not, List, []}
-use Rattle.std.proofs.Common.{◌∷◌, ◌++◌, length, take, drop, get_or, refl, sym, ◌∙◌, ap, ap₂, arith}
-use Rattle.std.proofs.Common.{eq-or-lt_of_le}
-use Rattle.std.proofs.lemmas.Bool.Decides.{nat_tests}
-use Rattle.std.proofs.lemmas.List.{take-append-le, drop-append-le}
-use Rattle.keymap_text.specs.Types.{TextFaultKind, BadWord, TokenKind, Word, Literal, ParenL, ParenR, Item, Value, Open}
-use Rattle.keymap_text.specs.Types.{Close}
-use Rattle.keymap_text.specs.Types.{Char}
-use Rattle.keymap_text.specs.Lexical.{leading, stays_on_line, is_word, word, Front, Skipped, Found, Refused}
-use Rattle.keymap_text.specs.Lexical.{front_of, tokens_after, token_before, Then, is_empty}
-use Rattle.keymap_text.specs.Meaning.{is_word_kind}
-use Rattle.keymap_text.specs.Words.{item, meaning}
-use Rattle.keymap_text.specs.Inner.Scanning.{Fronts, IsOpen}
+use Rattle.keymap_text.proofs.Common.{◌≡◌, ◌⊎◌, inl, inr, ⊎_elim, ℕ, zero, suc, ◌+◌, ◌<◌, ◌≤◌, ◌&&◌, true, false, not}
+use Rattle.keymap_text.proofs.Common.{List, [], ◌∷◌, ◌++◌, length, take, drop, get_or, refl, sym, ◌∙◌, ap, ap₂, arith}
+use Rattle.keymap_text.proofs.Common.{eq-or-lt_of_le, nat_tests, take-append-le, drop-append-le, TextFaultKind, BadWord}
+use Rattle.keymap_text.proofs.Common.{TokenKind, Word, Literal, ParenL, ParenR, Item, Value, Open, Close, Char, leading}
+use Rattle.keymap_text.proofs.Common.{stays_on_line, is_word, word, Front, Skipped, Found, Refused, front_of}
+use Rattle.keymap_text.proofs.Common.{tokens_after, token_before, Then, is_empty, is_word_kind, item, meaning, Fronts}
+use Rattle.keymap_text.proofs.Common.{IsOpen}
 use Rattle.keymap_text.proofs.InFront.{InFront, Blank, Comment, Left, Right, Quote, Letters, Long, Nothing, in_front}
 use Rattle.keymap_text.proofs.InFront.{front_blank, front_comment, front_left, front_right, front_quote, front_word}
 use Rattle.keymap_text.proofs.InFront.{no_word}

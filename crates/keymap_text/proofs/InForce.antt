@@ -1,20 +1,11 @@
 -- The last definition of what a map has is the one in force.
-use Rattle.std.proofs.Common.{◌≡◌, ℕ, ◌+◌, ◌*◌, Bool, true, false, cond, List, [], ◌∷◌, ◌++◌, length, take, drop, map}
-use Rattle.std.proofs.Common.{get_or, refl, sym, ◌∙◌, ap, subst, arith, Option, Some, None, eqb-true}
-use Rattle.std.proofs.lemmas.List.{length-map}
-use Rattle.std.proofs.lemmas.Option.{none-some, same_Some}
-use Rattle.std.proofs.Math.Seq.{drop-append-add, take-append_seam}
-use Rattle.std.specs.Option.{option_or}
-use Rattle.keymap_text.specs.Types.{Entry, Defined, Slot, Accent, Placed}
-use Rattle.keymap_core.specs.Accents.{AccentValue, blank}
-use Rattle.keymap_core.specs.Maps.{MapValue, undefined}
-use Rattle.keymap_text.specs.Lexical.{TokenValue}
-use Rattle.keymap_text.specs.Meaning.{item_of, tokens}
-use Rattle.keymap_text.specs.Rows.{Definition, KeyDefinition, AccentDefinition, Defines, last, of_slot, of_index}
-use Rattle.keymap_text.specs.Rows.{or_default, map_of}
-use Rattle.keymap_text.specs.Placed.{Row, AreRows, no_row, one_row, IsSpelledBy, defined, places_after, places_of}
-use Rattle.keymap_text.specs.Placed.{is_same, last_of}
-use Rattle.keymap_text.specs.Inner.Grammar.{empty_map}
+use Rattle.keymap_text.proofs.Common.{◌≡◌, ℕ, ◌+◌, ◌*◌, Bool, true, false, cond, List, [], ◌∷◌, ◌++◌, length, take}
+use Rattle.keymap_text.proofs.Common.{drop, map, get_or, refl, sym, ◌∙◌, ap, subst, arith, Option, Some, None, eqb-true}
+use Rattle.keymap_text.proofs.Common.{length-map, none-some, same_Some, drop-append-add, take-append_seam, option_or}
+use Rattle.keymap_text.proofs.Common.{Entry, Defined, Slot, Accent, Placed, AccentValue, blank, MapValue, undefined}
+use Rattle.keymap_text.proofs.Common.{TokenValue, item_of, tokens, Definition, KeyDefinition, AccentDefinition, Defines}
+use Rattle.keymap_text.proofs.Common.{last, of_slot, of_index, or_default, map_of, Row, AreRows, no_row, one_row}
+use Rattle.keymap_text.proofs.Common.{IsSpelledBy, defined, places_after, places_of, is_same, last_of, empty_map}
 use Rattle.keymap_text.proofs.Folded.{last_none, last_more, entries_of, accents_of, puts_are}
 use Rattle.keymap_text.proofs.Parts.{slot_tokens, accent_tokens}
 

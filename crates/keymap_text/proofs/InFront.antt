@@ -1,11 +1,9 @@
 -- What stands in front of some bytes, by its first byte.
-use Rattle.std.proofs.Common.{◌≡◌, ◌⊎◌, inl, inr, ℕ, ◌<◌, ◌≤◌, ◌==◌, Bool, true, false, not, cond, List}
-use Rattle.std.proofs.Common.{length, refl, ap, subst, arith, nat_lt, eqb-true}
-use Rattle.std.proofs.lemmas.Bool.Decides.{nat_tests}
-use Rattle.keymap_text.specs.Types.{TextFaultKind, BadByte, BadWord, TokenKind, ParenL, ParenR, Word}
-use Rattle.keymap_text.specs.Lexical.{leading, stays_on_line, is_blank, is_word, literal, word, Front, Skipped, Found}
-use Rattle.keymap_text.specs.Lexical.{Refused, Unfinished, front_of}
-use Rattle.keymap_text.specs.Meaning.{is_word_kind, is_end_inside}
+use Rattle.keymap_text.proofs.Common.{◌≡◌, ◌⊎◌, inl, inr, ℕ, ◌<◌, ◌≤◌, ◌==◌, Bool, true, false, not, cond, List, length}
+use Rattle.keymap_text.proofs.Common.{refl, ap, subst, arith, nat_lt, eqb-true, nat_tests, TextFaultKind, BadByte}
+use Rattle.keymap_text.proofs.Common.{BadWord, TokenKind, ParenL, ParenR, Word, leading, stays_on_line, is_blank}
+use Rattle.keymap_text.proofs.Common.{is_word, literal, word, Front, Skipped, Found, Refused, Unfinished, front_of}
+use Rattle.keymap_text.proofs.Common.{is_word_kind, is_end_inside}
 use Rattle.keymap_text.proofs.Leading.{leading_le}
 use Rattle.keymap_text.proofs.Literals.{literal_fits, literal_found, literal_no_skip, literal_refused}
 
@@ -75,7 +73,7 @@ in_front c s = go (is_blank c) (c == 35) (c == 40) (c == 41) (c == 39) (is_word 
     go false false false false false true p q r s t u = letters _ refl u
     go false false false false false false p q r s t u = Nothing (λ y. rw (p, q, r, s, t, u) refl)
 
--- the same where it is known
+-- where that is known
 pub in_front_is : (c : ℕ) (s : List ℕ) (f : Front) → front_of c s ≡ f → InFront c s f
 in_front_is c s f h = subst (InFront c s) h (in_front c s)
 

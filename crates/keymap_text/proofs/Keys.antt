@@ -1,16 +1,10 @@
 -- The keys of words.
-use Rattle.std.proofs.Common.{◌≡◌, ℕ, zero, suc, ◌+◌, ◌*◌, ◌/◌, ◌%◌, ◌<◌, ◌≤◌, Bool, true, false, cond}
-use Rattle.std.proofs.Common.{List, [], ◌∷◌, length, take, get_or, map, refl, sym, ◌∙◌, ap, ap₂, arith, eq-eqb, ne_eqb}
+use Rattle.keymap_text.proofs.Common.{◌≡◌, ℕ, zero, suc, ◌+◌, ◌*◌, ◌/◌, ◌%◌, ◌<◌, ◌≤◌, Bool, true, false, cond, List}
+use Rattle.keymap_text.proofs.Common.{[], ◌∷◌, length, take, get_or, map, refl, sym, ◌∙◌, ap, ap₂, arith, eq-eqb}
+use Rattle.keymap_text.proofs.Common.{ne_eqb, nat_tests, range_with_len, from_le_bytes, w64, to_ascii_lowercase}
+use Rattle.keymap_text.proofs.Common.{leading, is_word, pack, unpacked, AreWordBytes, LOW_BYTES, along}
 use Rattle.std.proofs.lemmas.Nat.{and_block, or_block, or_disjoint, and_le_l, and_le_r}
-use Rattle.std.proofs.lemmas.Bool.Decides.{nat_tests}
 use lib.Bits.{bit_and, bit_or}
-use Rattle.std.specs.List.{range_with_len}
-use Rattle.std.specs.Int.{from_le_bytes, w64}
-use Rattle.std.specs.Char.{to_ascii_lowercase}
-use Rattle.keymap_text.specs.Lexical.{leading, is_word}
-use Rattle.keymap_text.specs.Inner.Keys.{pack, unpacked, AreWordBytes}
-use Rattle.keymap_text.specs.declared.names.TheConstants.{LOW_BYTES}
-use Rattle.keymap_core.proofs.Lists.{along}
 use Rattle.keymap_text.proofs.Leading.{leading_pass, leading_fail}
 
 -- the bytes of words

@@ -1,15 +1,11 @@
 -- The tables of the last definitions.
-use Rattle.std.proofs.Common.{◌≡◌, ◌≢◌, ℕ, ◌<◌, ◌≤◌, ◌==◌, Bool, true, false, cond, List, [], ◌∷◌, ◌++◌}
-use Rattle.std.proofs.Common.{length, set, get_or, map, refl, sym, ◌∙◌, ap, arith, Option, Some, None}
-use Rattle.std.proofs.Common.{eqb-true, eq-eqb, true≢false, length-set, ne_eqb, replicate}
-use Rattle.std.proofs.lemmas.List.{get_or-set_same, get_or-set_other, ext_get_or, get_or-replicate}
-use Rattle.std.proofs.lemmas.List.FromFn.{length-map-range_with_len, get_or-map-range_with_len}
-use Rattle.std.specs.List.{range_with_len}
-use Rattle.std.specs.Option.{option_or}
+use Rattle.keymap_text.proofs.Common.{◌≡◌, ◌≢◌, ℕ, ◌<◌, ◌≤◌, ◌==◌, Bool, true, false, cond, List, [], ◌∷◌, ◌++◌, length}
+use Rattle.keymap_text.proofs.Common.{set, get_or, map, refl, sym, ◌∙◌, ap, arith, Option, Some, None, eqb-true, eq-eqb}
+use Rattle.keymap_text.proofs.Common.{true≢false, length-set, ne_eqb, replicate, get_or-set_same, get_or-set_other}
+use Rattle.keymap_text.proofs.Common.{ext_get_or, get_or-replicate, length-map-range_with_len}
+use Rattle.keymap_text.proofs.Common.{get_or-map-range_with_len, range_with_len, option_or, Defined, Slot, Accent}
+use Rattle.keymap_text.proofs.Common.{Placed, is_same, last_of, HasLast}
 use Rattle.keymap_text.specs.declared.last.LastDefinitions.{LastDefinitions}
-use Rattle.keymap_text.specs.Types.{Defined, Slot, Accent, Placed}
-use Rattle.keymap_text.specs.Placed.{is_same, last_of}
-use Rattle.keymap_text.specs.Inner.LastOf.{HasLast}
 
 -- one definition before the others
 last_more : (what : Defined) (p : Placed) (ps : List Placed)

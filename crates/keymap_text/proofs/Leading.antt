@@ -1,15 +1,11 @@
 -- How many bytes at the front pass a test.
-use Rattle.std.proofs.Common.{◌≡◌, ◌==◌, ℕ, zero, suc, ◌+◌, ◌<◌, ◌≤◌, Bool, true, false, not, cond, List, [], ◌∷◌, ◌++◌}
-use Rattle.std.proofs.Common.{length, take, drop, get_or, refl, sym, ◌∙◌, ap, arith, eq-eqb, ne_eqb, ⊎_elim}
-use Rattle.std.proofs.Common.{eq-or-lt_of_le, drop-cons, append-nil}
-use Rattle.std.proofs.lemmas.Bool.Decides.{nat_tests}
-use Rattle.std.proofs.lemmas.List.{length-take-le, get_or-take, drop_all}
+use Rattle.keymap_text.proofs.Common.{◌≡◌, ◌==◌, ℕ, zero, suc, ◌+◌, ◌<◌, ◌≤◌, Bool, true, false, not, cond, List, []}
+use Rattle.keymap_text.proofs.Common.{◌∷◌, ◌++◌, length, take, drop, get_or, refl, sym, ◌∙◌, ap, arith, eq-eqb, ne_eqb}
+use Rattle.keymap_text.proofs.Common.{⊎_elim, eq-or-lt_of_le, drop-cons, append-nil, nat_tests, length-take-le}
+use Rattle.keymap_text.proofs.Common.{get_or-take, drop_all, prefix_len_is, prefix_len-drop_yes, prefix_len-drop_no}
+use Rattle.keymap_text.proofs.Common.{prefix_len-drop_all, prefix_len-le-length, prefix_len_passes, prefix_len_stops}
+use Rattle.keymap_text.proofs.Common.{Some, None, IsFirstByte, is_byte, leading, is_space, stays_on_line}
 use Rattle.std.proofs.lemmas.List.Folds.{prefix_len-append}
-use Rattle.std.proofs.lemmas.List.Sums.{prefix_len_is, prefix_len-drop_yes, prefix_len-drop_no, prefix_len-drop_all}
-use Rattle.std.proofs.lemmas.List.Sums.{prefix_len-le-length, prefix_len_passes, prefix_len_stops}
-use Rattle.std.specs.Prelude.{Some, None}
-use Rattle.bstr.specs.Find.{IsFirstByte, is_byte}
-use Rattle.keymap_text.specs.Lexical.{leading, is_space, stays_on_line}
 
 -- the number, where the first byte passes and where it does not
 pub leading_pass : (p : ℕ → Bool) (c : ℕ) (cs : List ℕ) → p c ≡ true → leading p (c ∷ cs) ≡ leading p cs + 1

@@ -1,10 +1,9 @@
 -- Texts whose tokens are known, whatever stands behind them.
-use Rattle.std.proofs.Common.{◌≡◌, ℕ, suc, ◌+◌, ◌<◌, ◌≤◌, true, false, List, [], ◌∷◌, ◌++◌, length, map, refl, sym, ◌∙◌}
-use Rattle.std.proofs.Common.{ap, arith, append_assoc, length-append, add-zero}
-use Rattle.keymap_text.specs.Types.{TokenKind, ParenL, ParenR, Literal, Word, Item, Open, Close, Value, Char}
-use Rattle.keymap_text.specs.Lexical.{tokens_after, leading, is_word, is_blank, Tokens, Found, front_of}
-use Rattle.keymap_text.specs.Words.{meaning, item}
-use Rattle.keymap_text.specs.Meaning.{ending_of_tokens, item_of}
+use Rattle.keymap_text.proofs.Common.{◌≡◌, ℕ, suc, ◌+◌, ◌<◌, ◌≤◌, true, false, List, [], ◌∷◌, ◌++◌, length, map, refl}
+use Rattle.keymap_text.proofs.Common.{sym, ◌∙◌, ap, arith, append_assoc, length-append, add-zero, TokenKind, ParenL}
+use Rattle.keymap_text.proofs.Common.{ParenR, Literal, Word, Item, Open, Close, Value, Char, tokens_after, leading}
+use Rattle.keymap_text.proofs.Common.{is_word, is_blank, Tokens, Found, front_of, meaning, item, ending_of_tokens}
+use Rattle.keymap_text.proofs.Common.{item_of}
 use Rattle.keymap_text.proofs.Leading.{leading_tail, leading_fail}
 use Rattle.keymap_text.proofs.InFront.{front_quote, front_left, front_right}
 use Rattle.keymap_text.proofs.Splitting.{split_blank, split_whole}

@@ -1,16 +1,11 @@
 -- Where lines begin, and the line of a place by them.
-use Rattle.std.proofs.Common.{◌≡◌, ℕ, zero, suc, ◌+◌, ◌-◌, ◌≤◌, ◌<◌, ◌==◌, Bool, true, false, not, List, [], ◌∷◌, ◌++◌}
-use Rattle.std.proofs.Common.{length, take, drop, get_or, refl, ◌∙◌, sym, ap, subst, arith, count_by, drop-cons}
-use Rattle.std.proofs.Common.{eqb-true}
-use Rattle.std.proofs.Common.{length-append, length-drop, eq-or-lt_of_le, ⊎_elim, true≢false}
-use Rattle.std.specs.List.{suffix_len}
-use Rattle.std.proofs.lemmas.List.{length-take, length-take-le, drop-drop, drop-take, get_or_append_left, get_or-drop}
-use Rattle.std.proofs.lemmas.List.{get_or-take}
-use Rattle.std.proofs.lemmas.List.Sums.{suffix_len_is, prefix_len_passes, prefix_len_stops}
-use Rattle.std.proofs.Math.Seq.{get_or-append_seam}
-use Rattle.keymap_text.specs.Lexical.{leading, stays_on_line}
-use Rattle.keymap_text.specs.LineOf.{before_in_line, line_end, IsLineStart, AreStarts, AreLines}
-use Rattle.keymap_text.specs.Meaning.{line}
+use Rattle.keymap_text.proofs.Common.{◌≡◌, ℕ, zero, suc, ◌+◌, ◌-◌, ◌≤◌, ◌<◌, ◌==◌, Bool, true, false, not, List, []}
+use Rattle.keymap_text.proofs.Common.{◌∷◌, ◌++◌, length, take, drop, get_or, refl, ◌∙◌, sym, ap, subst, arith, count_by}
+use Rattle.keymap_text.proofs.Common.{drop-cons, eqb-true, length-append, length-drop, eq-or-lt_of_le, ⊎_elim}
+use Rattle.keymap_text.proofs.Common.{true≢false, suffix_len, length-take, length-take-le, drop-drop, drop-take}
+use Rattle.keymap_text.proofs.Common.{get_or_append_left, get_or-drop, get_or-take, suffix_len_is, prefix_len_passes}
+use Rattle.keymap_text.proofs.Common.{prefix_len_stops, get_or-append_seam, leading, stays_on_line, before_in_line}
+use Rattle.keymap_text.proofs.Common.{line_end, IsLineStart, AreStarts, AreLines, line}
 use Rattle.keymap_text.proofs.Leading.{leading_pass, leading_fail, leading_le}
 use Rattle.keymap_text.proofs.Lines.{line_more, feeds_run}
 

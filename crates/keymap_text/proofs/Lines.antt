@@ -1,15 +1,9 @@
 -- Lines: one more than the line feeds before a place.
-use Rattle.std.proofs.Common.{◌≡◌, ℕ, zero, suc, ◌+◌, ◌-◌, ◌≤◌, ◌==◌, Bool, true, false, cond, List, [], ◌∷◌, ◌++◌}
-use Rattle.std.proofs.Common.{length, take, drop, take_at, drop_at, refl, sym, ◌∙◌, ap, arith, count_by, eqb-true}
-use Rattle.std.proofs.Common.{length-append, true≢false}
-use Rattle.std.proofs.lemmas.List.{drop-drop, drop_all, drop-append-le, take-append-le}
-use Rattle.std.proofs.lemmas.List.Sums.{sum_by-append, sum_by-cons, sum_by-take-drop}
-use Rattle.std.proofs.Math.Seq.{take-add}
-use Rattle.keymap_text.specs.Lexical.{leading}
-use Rattle.keymap_text.specs.Types.{TextFault}
-use Rattle.keymap_text.specs.declared.reading.Reading.{Reading}
-use Rattle.keymap_text.specs.Meaning.{line}
-use Rattle.keymap_text.specs.Inner.Resuming.{IsFaultOfPending, Lined}
+use Rattle.keymap_text.proofs.Common.{◌≡◌, ℕ, zero, suc, ◌+◌, ◌-◌, ◌≤◌, ◌==◌, Bool, true, false, cond, List, [], ◌∷◌}
+use Rattle.keymap_text.proofs.Common.{◌++◌, length, take, drop, take_at, drop_at, refl, sym, ◌∙◌, ap, arith, count_by}
+use Rattle.keymap_text.proofs.Common.{eqb-true, length-append, true≢false, drop-drop, drop_all, drop-append-le}
+use Rattle.keymap_text.proofs.Common.{take-append-le, sum_by-append, sum_by-cons, sum_by-take-drop, take-add, leading}
+use Rattle.keymap_text.proofs.Common.{TextFault, Reading, line, IsFaultOfPending, Lined}
 use Rattle.keymap_text.proofs.Leading.{leading_pass, leading_fail}
 
 -- how many line feeds there are

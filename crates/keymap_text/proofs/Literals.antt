@@ -1,20 +1,15 @@
 -- A quoted character that is complete stays so, whatever follows.
-use Rattle.std.proofs.Common.{◌≡◌, ◌≢◌, ◌⊎◌, inl, inr, ℕ, suc, ◌+◌, ◌<◌, ◌≤◌, ◌==◌, Bool, true, false, cond, List}
-use Rattle.std.proofs.Common.{[], ◌∷◌, ◌++◌, length, get_or, refl, sym, ◌∙◌, ap, subst, arith, nat_lt, nat_le}
-use Rattle.std.proofs.Common.{slice_index, Option, Some, None, length-append, ⊎_elim, eq-eqb, true≢false, ne_eqb}
-use Rattle.std.proofs.lemmas.Bool.Decides.{nat_tests}
-use Rattle.std.proofs.lemmas.List.{get_or_append_left}
-use Rattle.std.proofs.lemmas.Bool.{le-ltb}
-use Rattle.bstr.specs.Utf8.{decoded, decoded_by, Decoded, bad, good, second, continues, code_of_3, code_of_4}
+use Rattle.keymap_text.proofs.Common.{◌≡◌, ◌≢◌, ◌⊎◌, inl, inr, ℕ, suc, ◌+◌, ◌<◌, ◌≤◌, ◌==◌, Bool, true, false, cond}
+use Rattle.keymap_text.proofs.Common.{List, [], ◌∷◌, ◌++◌, length, get_or, refl, sym, ◌∙◌, ap, subst, arith, nat_lt}
+use Rattle.keymap_text.proofs.Common.{nat_le, slice_index, Option, Some, None, length-append, ⊎_elim, eq-eqb}
+use Rattle.keymap_text.proofs.Common.{true≢false, ne_eqb, nat_tests, get_or_append_left, le-ltb, decoded, decoded_by}
+use Rattle.keymap_text.proofs.Common.{Decoded, bad, good, second, continues, code_of_3, code_of_4, get_or-append_seam}
+use Rattle.keymap_text.proofs.Common.{TextFaultKind, BadLiteral, TokenKind, Literal, is_word_kind, Front, Skipped}
+use Rattle.keymap_text.proofs.Common.{Found, Refused, Unfinished, literal, quoted, closing, unclosed, is_lone}
 use Rattle.bstr.proofs.lemmas.PieceLemmas.{size-bounds}
 use Rattle.bstr.proofs.lemmas.EncodeLemmas.{decoded-encode}
 use Rattle.std.specs.Prelude.{encode_utf8}
-use Rattle.std.proofs.Math.Seq.{get_or-append_seam}
 use lib.Utf8.{scalar}
-use Rattle.keymap_text.specs.Types.{TextFaultKind, BadLiteral, TokenKind, Literal}
-use Rattle.keymap_text.specs.Meaning.{is_word_kind}
-use Rattle.keymap_text.specs.Lexical.{Front, Skipped, Found, Refused, Unfinished, literal, quoted, closing, unclosed}
-use Rattle.keymap_text.specs.Lexical.{is_lone}
 
 -- tests of a number
 not_zero : (n : ℕ) → 0 < n → (n == 0) ≡ false

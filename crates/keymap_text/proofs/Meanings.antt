@@ -1,28 +1,20 @@
 -- Each row of the table of names says what its name means.
-use Rattle.std.proofs.Common.{◌≡◌, ℕ, suc, ◌+◌, ◌*◌, ◌<◌, Bool, true, false, cond, ◌&&◌, List, [], ◌∷◌, length, take}
-use Rattle.std.proofs.Common.{drop, get_or, map, fold, All, refl, sym, ◌∙◌, ap, ap₂, arith, nat_lt, nat_le, Option}
-use Rattle.std.proofs.Common.{Some, None, IfSome, codes, bytes_eq, ◌≤◌, length-take, take_all}
+use Rattle.keymap_text.proofs.Common.{◌≡◌, ℕ, suc, ◌+◌, ◌*◌, ◌<◌, Bool, true, false, cond, ◌&&◌, List, [], ◌∷◌, length}
+use Rattle.keymap_text.proofs.Common.{take, drop, get_or, map, fold, All, refl, sym, ◌∙◌, ap, ap₂, arith, nat_lt}
+use Rattle.keymap_text.proofs.Common.{nat_le, Option, Some, None, IfSome, codes, bytes_eq, ◌≤◌, length-take, take_all}
+use Rattle.keymap_text.proofs.Common.{get_or-map, take-map, drop-map, length-map, lt-ltb, nat_tests, list_all}
+use Rattle.keymap_text.proofs.Common.{range_with_len, to_ascii_lowercase, digit_value, named_of, meaning_of, Number}
+use Rattle.keymap_text.proofs.Common.{Act, Name, Meaning, NAMES, pack, unpacked, KeyMeans, IsTrueName, function_name}
+use Rattle.keymap_text.proofs.Common.{screen_name, name_key, ArePlaced, along, leading, is_word, from_le_bytes, w64}
+use Rattle.keymap_text.proofs.Common.{meaning, same_name, sense_meaning, letters, meaning_by_names, named, table}
+use Rattle.keymap_text.proofs.Common.{digits_of, number, number_after, is_digit, of_action}
 use Rattle.std.proofs.lemmas.Str.Ascii.{lowercase-lowercase}
-use Rattle.std.proofs.lemmas.List.{get_or-map, take-map, drop-map, length-map}
-use Rattle.std.proofs.lemmas.Bool.{lt-ltb}
-use Rattle.std.proofs.lemmas.Bool.Decides.{nat_tests}
-use Rattle.std.specs.List.{list_all, range_with_len}
-use Rattle.std.specs.Char.{to_ascii_lowercase, digit_value}
-use Rattle.keymap_core.specs.Names.{named_of, meaning_of}
 use Rattle.keymap_core.specs.declared.named.Named.{Named}
-use Rattle.keymap_text.specs.Types.{Number, Act, Name, Meaning}
-use Rattle.keymap_text.specs.declared.names.TheConstants.{NAMES}
-use Rattle.keymap_text.specs.Inner.Keys.{pack, unpacked, KeyMeans, IsTrueName, function_name, screen_name}
-use Rattle.keymap_text.specs.Inner.Keys.{name_key, place_of, ArePlaced}
+use Rattle.keymap_text.specs.Inner.Keys.{place_of}
 use Rattle.keymap_text.proofs.Keys.{unpack_packed, letters_front}
 use Rattle.keymap_text.proofs.Leading.{leading_pass, leading_fail}
 use Rattle.keymap_text.proofs.Numbers.{digits_good}
-use Rattle.keymap_core.proofs.Lists.{along}
-use Rattle.keymap_text.specs.Lexical.{leading, is_word}
 use Rattle.keymap_core.specs.declared.action.Action.TheVariants as a
-use Rattle.std.specs.Int.{from_le_bytes, w64}
-use Rattle.keymap_text.specs.Words.{meaning, same_name, sense_meaning, letters, meaning_by_names, named, table}
-use Rattle.keymap_text.specs.Words.{digits_of, number, number_after, is_digit, of_action}
 
 -- case has no effect
 idem : (w : List ℕ) → map to_ascii_lowercase (map to_ascii_lowercase w) ≡ map to_ascii_lowercase w

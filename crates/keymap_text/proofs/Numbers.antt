@@ -1,15 +1,10 @@
 -- Names and numbers.
-use Rattle.std.proofs.Common.{◌≡◌, ℕ, suc, ◌+◌, ◌*◌, ◌^◌, ◌<◌, ◌≤◌, Bool, true, false, cond, ◌&&◌, List, [], ◌∷◌}
-use Rattle.std.proofs.Common.{length, take, drop, get_or, refl, sym, ◌∙◌, ap, arith, add-one, drop-cons, pow_mono}
-use Rattle.std.proofs.Common.{pow-add, nat_lt, Some, None, Option, mul-le-mul_left, ap₂, zero, ◌==◌, true≢false}
-use Rattle.std.proofs.lemmas.List.{at_drop_all}
-use Rattle.std.proofs.lemmas.List.Sums.{fold_more}
+use Rattle.keymap_text.proofs.Common.{◌≡◌, ℕ, suc, ◌+◌, ◌*◌, ◌^◌, ◌<◌, ◌≤◌, Bool, true, false, cond, ◌&&◌, List, []}
+use Rattle.keymap_text.proofs.Common.{◌∷◌, length, take, drop, get_or, refl, sym, ◌∙◌, ap, arith, add-one, drop-cons}
+use Rattle.keymap_text.proofs.Common.{pow_mono, pow-add, nat_lt, Some, None, Option, mul-le-mul_left, ap₂, ◌==◌}
+use Rattle.keymap_text.proofs.Common.{take_all, at_drop_all, fold_more, nat_tests, list_all, digit_value, Name}
+use Rattle.keymap_text.proofs.Common.{meaning_by_names, letters, sense_meaning, same_name, digits_of, number, is_digit}
 use Rattle.std.proofs.lemmas.List.Folds.{list_all_at, list_all_more}
-use Rattle.std.proofs.lemmas.Bool.Decides.{nat_tests}
-use Rattle.std.specs.List.{list_all}
-use Rattle.std.specs.Char.{digit_value}
-use Rattle.keymap_text.specs.Types.{Name}
-use Rattle.keymap_text.specs.Words.{meaning_by_names, letters, sense_meaning, same_name, digits_of, number, is_digit}
 
 -- no row has no name
 pub look_none : (w : List ℕ) → meaning_by_names [] w ≡ None
@@ -49,7 +44,7 @@ look_on_at names i d w h e =
 pub ruleset look_rules = (look_end, look_here_at, look_on_at)
 
 -- one digit more makes a number four bits longer at most
-pub bound_step : (n base d i : ℕ) → n < 2 ^ (4 * i) → base ≤ 16 → d < base → n * base + d < 2 ^ (4 * (i + 1))
+bound_step : (n base d i : ℕ) → n < 2 ^ (4 * i) → base ≤ 16 → d < base → n * base + d < 2 ^ (4 * (i + 1))
 bound_step n base d i h b e =
     let k = mul-le-mul_left n b in
     let p : 2 ^ (4 * (i + 1)) ≡ 2 ^ (4 * i) * 16 = ap (λ m. 2 ^ m) (four i) ∙ pow-add 2 (4 * i) 4 in
@@ -58,19 +53,12 @@ bound_step n base d i h b e =
     four : (i : ℕ) → 4 * (i + 1) ≡ 4 * i + 4
     four i = omega arith
 
--- so many digits fit in four times as many bits
-pub room : (most i : ℕ) → i < most → 2 ^ (4 * (i + 1)) ≤ 2 ^ (4 * most)
-room most i h = pow_mono {i = 4 * (i + 1)} {j = 4 * most} (omega arith)
-
--- so does the product on the way
-pub product_fits : (most n base i : ℕ) → n < 2 ^ (4 * i) → base ≤ 16 → i < most → n * base < 2 ^ (4 * most)
-product_fits most n base i h b l =
-    let k = mul-le-mul_left n b in
-    let p : 2 ^ (4 * (i + 1)) ≡ 2 ^ (4 * i) * 16 = ap (λ m. 2 ^ m) (four i) ∙ pow-add 2 (4 * i) 4 in
-    omega (arith, k, p, room most i l)
-  where
-    four : (i : ℕ) → 4 * (i + 1) ≡ 4 * i + 4
-    four i = omega arith
+-- so it fits in four bits for each of the digits that there are at most
+pub more_fits : (most n base d i : ℕ) → n < 2 ^ (4 * i) → base ≤ 16 → d < base → i < most
+    → n * base + d < 2 ^ (4 * most)
+more_fits most n base d i h b e l =
+    let room : 2 ^ (4 * (i + 1)) ≤ 2 ^ (4 * most) = pow_mono {i = 4 * (i + 1)} {j = 4 * most} (omega arith) in
+    omega (arith, room, bound_step n base d i h b e)
 
 -- no digit spells no number
 pub digits_none : (base : ℕ) (w : List ℕ) → length w ≡ 0 → digits_of base w ≡ None
@@ -104,19 +92,39 @@ digits_good base (x ∷ w) h e = rw (some (length w), e) refl
     some n = grind (arith, nat_tests)
 
 -- the number of one digit more
-pub number_more : (base : ℕ) (w : List ℕ) (i : ℕ) → i < length w
+number_more : (base : ℕ) (w : List ℕ) (i : ℕ) → i < length w
     → number base (take (i + 1) w) ≡ number base (take i w) * base + digit_value (get_or w i 0)
 number_more base w i h = fold_more (λ n c. n * base + digit_value c) 0 w i 0 h
 
 -- one digit more
-pub digits_more : (base : ℕ) (w : List ℕ) (i : ℕ) → i < length w → list_all (is_digit base) (take i w) ≡ true
+digits_more : (base : ℕ) (w : List ℕ) (i : ℕ) → i < length w → list_all (is_digit base) (take i w) ≡ true
     → digit_value (get_or w i 0) < base → list_all (is_digit base) (take (i + 1) w) ≡ true
 digits_more base w i h e d = list_all_more (is_digit base) w i 0 h ∙ ap₂ (λ a b. a && b) e (lt-test _ _ d)
   where
     lt-test : (d n : ℕ) → d < n → nat_lt d n ≡ true
     lt-test d n h = grind (arith, nat_tests)
 
--- a length that is not 0
-pub not_empty : (n : ℕ) → (n == 0) ≡ false → 0 < n
-not_empty zero h = absurd (true≢false h)
-not_empty (suc n) h = omega arith
+-- The first i bytes are digits, and spell n.
+pub record Spells (base : ℕ) (w : List ℕ) (i n : ℕ) : Type 0 where
+  pub value : n ≡ number base (take i w)
+  pub digits : list_all (is_digit base) (take i w) ≡ true
+  pub bound : n < 2 ^ (4 * i)
+
+pub spells_more : (base : ℕ) (w : List ℕ) (i n d : ℕ) → i < length w → base ≤ 16 → d ≡ digit_value (get_or w i 0)
+    → d < base → Spells base w i n → Spells base w (i + 1) (n * base + d)
+spells_more base w i n d h b is e s = record {
+  value = ap₂ (λ n d. n * base + d) s.value is ∙ sym (number_more base w i h);
+  digits = digits_more base w i h s.digits (omega (arith, is, e));
+  bound = bound_step n base d i s.bound b e;
+}
+
+-- all of them spell the number
+pub spells_all : (base : ℕ) (w : List ℕ) (i n : ℕ) → (length w == 0) ≡ false → length w ≤ i → Spells base w i n
+    → Some n ≡ digits_of base w
+spells_all base w i n some h s =
+    let e = take_all i w h in
+    ap Some (s.value ∙ ap (number base) e)
+    ∙ sym (digits_good base w (not_empty (length w) some) (sym (ap (list_all (is_digit base)) e) ∙ s.digits))
+  where
+    not_empty : (n : ℕ) → (n == 0) ≡ false → 0 < n
+    not_empty n h = grind (arith, nat_tests)

@@ -1,18 +1,13 @@
 -- Tokens are the rows of one list at most.
-use Rattle.std.proofs.Common.{◌≡◌, ℕ, ◌+◌, List, [], ◌∷◌, ◌++◌, length, map, refl, sym, ◌∙◌, ap, ap₂, arith, append-nil}
-use Rattle.keymap_text.specs.Types.{Entry, Cell, LockFlag, Action, Placed, Number, Act, Letter, Item, Open, Close}
-use Rattle.keymap_text.specs.Types.{Value}
-use Rattle.keymap_core.specs.Accents.{AccentValue}
-use Rattle.keymap_text.specs.Items.{character, cell, accent_index}
-use Rattle.keymap_text.specs.Lexical.{TokenValue}
-use Rattle.keymap_text.specs.Meaning.{item_of}
-use Rattle.keymap_text.specs.Rows.{Definition, KeyDefinition, AccentDefinition, AreCells, no_cells, one_cell, ArePairs}
-use Rattle.keymap_text.specs.Rows.{no_pairs, one_pair, Defines, of_key, of_accent}
-use Rattle.keymap_text.specs.Placed.{Row, AreRows, no_row, one_row, places_after}
+use Rattle.keymap_text.proofs.Common.{◌≡◌, ℕ, ◌+◌, List, [], ◌∷◌, ◌++◌, length, map, refl, sym, ◌∙◌, ap, ap₂, arith}
+use Rattle.keymap_text.proofs.Common.{append-nil, Entry, Cell, LockFlag, Action, Placed, Number, Act, Letter, Item}
+use Rattle.keymap_text.proofs.Common.{Open, Close, Value, AccentValue, character, cell, accent_index, TokenValue}
+use Rattle.keymap_text.proofs.Common.{item_of, Definition, KeyDefinition, AccentDefinition, AreCells, no_cells}
+use Rattle.keymap_text.proofs.Common.{one_cell, ArePairs, no_pairs, one_pair, Defines, of_key, of_accent, Row, AreRows}
+use Rattle.keymap_text.proofs.Common.{no_row, one_row, places_after, same_Some}
 use Rattle.keymap_text.proofs.RowPlaces.{places_are}
 use Rattle.keymap_text.proofs.Leading.{same_head, same_tail}
 use Rattle.keymap_text.proofs.Row.{ok_is}
-use Rattle.std.proofs.lemmas.Option.{same_Some}
 
 empty_more : {A : Type 0} (x : A) (xs : List A) → [] ≡ x ∷ xs → ⊥
 empty_more x xs h = cc

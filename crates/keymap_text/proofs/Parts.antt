@@ -1,11 +1,9 @@
 -- Which tokens of a definition are its parts.
-use Rattle.std.proofs.Common.{◌≡◌, ℕ, zero, suc, ◌+◌, ◌*◌, ◌<◌, List, [], ◌∷◌, ◌++◌, length, take, drop, get_or}
-use Rattle.std.proofs.Common.{refl, sym, ◌∙◌, ap, subst, arith, Ok, add-one, length-append}
-use Rattle.keymap_text.specs.Types.{Cell, Entry, Number, Act, Letter, Item, Open, Close, Value}
-use Rattle.keymap_core.specs.Accents.{AccentValue}
-use Rattle.keymap_text.specs.Items.{character, cell}
-use Rattle.keymap_text.specs.Rows.{KeyDefinition, AccentDefinition, AreCells, no_cells, one_cell, ArePairs}
-use Rattle.keymap_text.specs.Rows.{no_pairs, one_pair, Defines, of_key, of_accent}
+use Rattle.keymap_text.proofs.Common.{◌≡◌, ℕ, zero, suc, ◌+◌, ◌*◌, ◌<◌, List, [], ◌∷◌, ◌++◌, length, take, drop, get_or}
+use Rattle.keymap_text.proofs.Common.{refl, sym, ◌∙◌, ap, subst, arith, Ok, add-one, length-append, Cell, Entry, Number}
+use Rattle.keymap_text.proofs.Common.{Act, Letter, Item, Open, Close, Value, AccentValue, character, cell}
+use Rattle.keymap_text.proofs.Common.{KeyDefinition, AccentDefinition, AreCells, no_cells, one_cell, ArePairs, no_pairs}
+use Rattle.keymap_text.proofs.Common.{one_pair, Defines, of_key, of_accent}
 
 -- as many tokens as cells
 pub count_cells : {ts : List Item} {cs : List Cell} → AreCells ts cs → length ts ≡ length cs

@@ -1,7 +1,7 @@
 -- A text of lines, and its front up to one of them.
-use Rattle.std.proofs.Common.{◌≡◌, ℕ, zero, suc, ◌+◌, ◌-◌, ◌<◌, List, [], ◌∷◌, ◌++◌, sym, ◌∙◌, ap, arith, Some, None}
-use Rattle.std.proofs.Common.{append_assoc, append-nil, add-one, slice_get, slice_index_or}
-use Rattle.std.specs.List.{flat_map, range_with_len}
+use Rattle.keymap_text.proofs.Common.{◌≡◌, ℕ, zero, suc, ◌+◌, ◌-◌, ◌<◌, List, [], ◌∷◌, ◌++◌, sym, ◌∙◌, ap, arith, Some}
+use Rattle.keymap_text.proofs.Common.{None, append_assoc, append-nil, add-one, slice_get, slice_index_or, flat_map}
+use Rattle.keymap_text.proofs.Common.{range_with_len}
 
 -- the pieces of the numbers from a on
 pieces_more : (f : ℕ → List ℕ) (a n : ℕ)

@@ -1,17 +1,11 @@
 -- Where tokens and definitions stand in a text.
-use Rattle.std.proofs.Common.{◌≡◌, ℕ, zero, suc, ◌+◌, ◌<◌, ◌≤◌, List, [], ◌∷◌, ◌++◌}
-use Rattle.std.proofs.Common.{length, take, drop, map, refl, sym, ◌∙◌, ap, subst, arith, Option, Some, None, Ok, Err}
-use Rattle.std.proofs.Common.{IfSome, length-drop, append_assoc}
-use Rattle.std.proofs.lemmas.List.{drop-drop, length-take-le}
-use Rattle.keymap_text.specs.Types.{TextFaultKind, EndInside, TokenKind, Word}
-use Rattle.keymap_text.specs.Types.{TextFault, Token, Span, Placed}
-use Rattle.keymap_text.specs.Lexical.{Front, Skipped, Found}
-use Rattle.keymap_text.specs.Lexical.{Refused, Unfinished, front_of, tokens_after, TokenValue, Tokens, Ends, Stops}
-use Rattle.keymap_text.specs.Lexical.{Then, first, token_before}
-use Rattle.keymap_text.specs.Tokens.{token_view, result_view}
-use Rattle.keymap_text.specs.Placed.{span_of}
-use Rattle.keymap_text.specs.Inner.Placed.{begun, tokens_from, ComesNext}
-use Rattle.keymap_text.specs.Meaning.{list_of}
+use Rattle.keymap_text.proofs.Common.{◌≡◌, ℕ, zero, suc, ◌+◌, ◌<◌, ◌≤◌, List, [], ◌∷◌, ◌++◌, length, take, drop, map}
+use Rattle.keymap_text.proofs.Common.{refl, sym, ◌∙◌, ap, subst, arith, Option, Some, None, Ok, Err, IfSome}
+use Rattle.keymap_text.proofs.Common.{length-drop, append_assoc, drop-drop, length-take-le, TextFaultKind, EndInside}
+use Rattle.keymap_text.proofs.Common.{TokenKind, Word, TextFault, Token, Span, Placed, Front, Skipped, Found, Refused}
+use Rattle.keymap_text.proofs.Common.{Unfinished, front_of, tokens_after, TokenValue, Tokens, Ends, Stops, Then, first}
+use Rattle.keymap_text.proofs.Common.{token_before, token_view, result_view, span_of, begun, tokens_from, ComesNext}
+use Rattle.keymap_text.proofs.Common.{list_of}
 use Rattle.keymap_text.proofs.InFront.{Fits, front_fits}
 use Rattle.keymap_text.proofs.Splitting.{split_one, split_after, split_skipped, split_found, split_refused, split_nil}
 use Rattle.keymap_text.proofs.Splitting.{split_unfinished}

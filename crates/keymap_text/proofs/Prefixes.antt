@@ -1,24 +1,16 @@
 -- The tokens of a text are those of a text that begins with it, but for what stands at its end. So an early fault stays.
-use Rattle.std.proofs.Common.{◌≡◌, ℕ, zero, suc, ◌+◌, ◌<◌, ◌≤◌, inl, inr, ⊎_elim, ◌&&◌, Bool, true, false, not, List}
-use Rattle.std.proofs.Common.{[]}
-use Rattle.std.proofs.Common.{◌∷◌, ◌++◌, length, refl, sym, ◌∙◌, ap, ap₂, subst, arith, Result, Ok, Err, slice_index_or}
-use Rattle.std.proofs.Common.{true≢false}
-use Rattle.std.proofs.lemmas.List.{take-append-le, drop-append-le}
-use Rattle.keymap_text.specs.Types.{TextFaultKind, EndInside}
-use Rattle.keymap_text.specs.Lexical.{Front, Skipped, Found, Refused, Unfinished, front_of, tokens_after, TokenValue}
-use Rattle.keymap_text.specs.Lexical.{Tokens}
-use Rattle.keymap_text.specs.Lexical.{Ends, Stops, Then, is_empty}
-use Rattle.keymap_text.specs.Meaning.{list_of, ending_of_tokens, tokens, ending, IsSameToken, is_settled, is_end_inside}
-use Rattle.keymap_text.specs.Meaning.{is_word_kind}
-use Rattle.keymap_text.specs.Words.{item}
-use Rattle.keymap_text.specs.Inner.Grammar.{GrammarState, accept, at_end as map_at_end, start}
-use Rattle.keymap_text.specs.Inner.Judging.{judge, verdict, Faulty}
-use Rattle.keymap_text.specs.Inner.Scanning.{IsOpen}
+use Rattle.keymap_text.proofs.Common.{◌≡◌, ℕ, zero, suc, ◌+◌, ◌<◌, ◌≤◌, inl, inr, ⊎_elim, ◌&&◌, Bool, true, false, not}
+use Rattle.keymap_text.proofs.Common.{List, [], ◌∷◌, ◌++◌, length, refl, sym, ◌∙◌, ap, ap₂, subst, arith, Result, Ok}
+use Rattle.keymap_text.proofs.Common.{Err, slice_index_or, true≢false, take-append-le, drop-append-le, TextFaultKind}
+use Rattle.keymap_text.proofs.Common.{EndInside, Front, Skipped, Found, Refused, Unfinished, front_of, tokens_after}
+use Rattle.keymap_text.proofs.Common.{TokenValue, Tokens, Ends, Stops, Then, is_empty, list_of, ending_of_tokens}
+use Rattle.keymap_text.proofs.Common.{tokens, ending, IsSameToken, is_settled, is_end_inside, is_word_kind, item}
+use Rattle.keymap_text.proofs.Common.{GrammarState, accept, start, judge, verdict, Faulty, IsOpen}
+use Rattle.keymap_text.specs.Inner.Grammar.{at_end as map_at_end}
 use Rattle.keymap_text.proofs.Fronts.{Stays, stays_or_open, is_whole}
 use Rattle.keymap_text.proofs.InFront.{front_fits}
 use Rattle.keymap_text.proofs.Splitting.{split_one, split_skipped, split_found, split_refused, split_none}
-use Rattle.keymap_text.proofs.Splitting.{split_unfinished}
-use Rattle.keymap_text.proofs.Splitting.{split_nil}
+use Rattle.keymap_text.proofs.Splitting.{split_unfinished, split_nil}
 use Rattle.keymap_text.proofs.Steps.{judge_then, judge_refused, judge_stops, judge_ends, late, late_fault, late_word}
 use Rattle.keymap_text.proofs.Tails.{comment_tokens, word_tokens}
 

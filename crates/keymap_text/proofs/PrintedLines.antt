@@ -1,26 +1,20 @@
 -- The printed lines are definitions.
-use Rattle.std.proofs.Common.{◌≡◌, ◌≢◌, ℕ, zero, suc, ◌+◌, ◌-◌, ◌*◌, ◌/◌, ◌%◌, ◌<◌, ◌≤◌, true, List, [], ◌∷◌, ◌++◌}
-use Rattle.std.proofs.Common.{length, replicate, refl, ◌∙◌, ap, subst, arith, Ok, Some, append-nil, nat_lt}
-use Rattle.std.specs.List.{flat_map, list_all}
-use Rattle.std.specs.Char.{digit_value}
-use Rattle.std.proofs.lemmas.Bool.Decides.{nat_tests}
-use Rattle.keymap_text.specs.Types.{Entry, Cell, LockFlag, Action, Item, Open, Close, Value, Number, Act, Letter}
-use Rattle.keymap_core.specs.declared.entry.LockFlag.TheVariants as flags
-use Rattle.keymap_text.specs.Lexical.{tokens_after, leading, is_word}
-use Rattle.keymap_text.specs.Words.{meaning, digits_of, named, is_digit}
-use Rattle.keymap_core.specs.Accents.{AccentValue}
-use Rattle.keymap_text.specs.Items.{character, cell, accent_index}
-use Rattle.keymap_text.specs.Rows.{KeyDefinition, AccentDefinition, AreCells, no_cells, one_cell, ArePairs, no_pairs}
-use Rattle.keymap_text.specs.Rows.{one_pair, Defines, of_key, of_accent}
-use Rattle.keymap_text.specs.Printed.{key_line, accent_line, slot_text, column, cell_text, flag_letter, pair_text}
-use Rattle.keymap_text.specs.Printed.{character_text, accent_name, word, slot_words, accent_words}
+use Rattle.keymap_text.proofs.Common.{◌≡◌, ◌≢◌, ℕ, zero, suc, ◌+◌, ◌-◌, ◌*◌, ◌/◌, ◌%◌, ◌<◌, ◌≤◌, true, List, [], ◌∷◌}
+use Rattle.keymap_text.proofs.Common.{◌++◌, length, replicate, refl, ◌∙◌, ap, subst, arith, Ok, Some, append-nil}
+use Rattle.keymap_text.proofs.Common.{nat_lt, flat_map, list_all, digit_value, nat_tests, Entry, Cell, LockFlag, Action}
+use Rattle.keymap_text.proofs.Common.{Item, Open, Close, Value, Number, Act, Letter, tokens_after, leading, is_word}
+use Rattle.keymap_text.proofs.Common.{meaning, digits_of, named, is_digit, AccentValue, character, cell, accent_index}
+use Rattle.keymap_text.proofs.Common.{KeyDefinition, AccentDefinition, AreCells, no_cells, one_cell, ArePairs, no_pairs}
+use Rattle.keymap_text.proofs.Common.{one_pair, Defines, of_key, of_accent, key_line, accent_line, slot_text, column}
+use Rattle.keymap_text.proofs.Common.{filled, cell_text, flag_letter, pair_text, character_text, accent_name}
+use Rattle.keymap_text.proofs.Common.{slot_words, accent_words, ending_of_tokens}
 use Rattle.keymap_text.proofs.Leading.{leading_pass}
 use Rattle.keymap_text.proofs.Numbers.{digits_good}
 use Rattle.keymap_text.proofs.Splitting.{split_blank}
 use Rattle.keymap_text.proofs.Verdicts.{items_of}
-use Rattle.keymap_text.specs.Meaning.{ending_of_tokens}
 use Rattle.keymap_text.proofs.Lexed.{Lexes, NoWord, Any, lexes_none, lexes_both, lexes_blank, lexes_word, lexes_left}
 use Rattle.keymap_text.proofs.Lexed.{lexes_right}
+use Rattle.keymap_core.specs.declared.entry.LockFlag.TheVariants as flags
 
 -- a blank in front changes nothing
 lexes_behind_blank : {P : List ℕ → Type 0} {t : List ℕ} {is : List Item} → Lexes P t is → Lexes P (32 ∷ t) is
@@ -64,24 +58,26 @@ abbrev pub EachPair : List (ℕ × ℕ) → Type 0
 EachPair [] = Unit {0}
 EachPair (p ∷ ps) = (p.0 ≢ 0) × PrintsCharacter p.0 × PrintsCharacter p.1 × EachPair ps
 
--- columns begin with no letter or digit
-columns_first : (cs : List Cell) (u y : List ℕ)
-    → leading is_word ((flat_map (λ c. column (cell_text c)) cs ++ 32 ∷ u) ++ y) ≡ 0
-columns_first [] u y = refl
-columns_first (c ∷ cs) u y = refl
+-- the texts of cells, each behind a blank and filled or not
+module _ (text : Cell → List ℕ) where
+  -- they begin with no letter or digit
+  texts_first : (cs : List Cell) (u y : List ℕ)
+      → leading is_word ((flat_map (λ c. 32 ∷ text c) cs ++ 32 ∷ u) ++ y) ≡ 0
+  texts_first [] u y = refl
+  texts_first (c ∷ cs) u y = refl
 
--- so do columns with another text behind them
-more_columns : (cs : List Cell) (y : List ℕ) → leading is_word y ≡ 0
-    → leading is_word (flat_map (λ c. column (cell_text c)) cs ++ y) ≡ 0
-more_columns [] y h = h
-more_columns (c ∷ cs) y h = refl
+  more_texts : (cs : List Cell) (y : List ℕ) → leading is_word y ≡ 0
+      → leading is_word (flat_map (λ c. 32 ∷ text c) cs ++ y) ≡ 0
+  more_texts [] y h = h
+  more_texts (c ∷ cs) y h = refl
 
--- the columns of cells are their tokens
-columns : (cs : List Cell) → EachCell cs
-    → (ts : List Item) × Lexes NoWord (flat_map (λ c. column (cell_text c)) cs) ts × AreCells ts cs
-columns [] h = ([], lexes_none NoWord, no_cells)
-columns (c ∷ cs) (p, h) = let r =
-    columns cs h in (p.token ∷ r.0, lexes_both (lexes_column p.lexes) r.1 (more_columns cs), one_cell p.reads r.2)
+  -- they are the tokens of the cells
+  texts_lexed : ((c : Cell) (p : PrintsCell c) → Lexes NoWord (32 ∷ text c) (p.token ∷ [])) → (cs : List Cell)
+      → EachCell cs → (ts : List Item) × Lexes NoWord (flat_map (λ c. 32 ∷ text c) cs) ts × AreCells ts cs
+  texts_lexed each [] h = ([], lexes_none NoWord, no_cells)
+  texts_lexed each (c ∷ cs) (p, h) = let r =
+      texts_lexed each cs h in
+      (p.token ∷ r.0, lexes_both (each c p) r.1 (more_texts cs), one_cell p.reads r.2)
 
 -- the slot
 meaning_digits : (w : List ℕ) (n : ℕ) → digits_of 10 w ≡ Some n → meaning w ≡ Number n
@@ -142,33 +138,16 @@ lexes_letter flags.C = lexes_word (67 ∷ []) (omega arith) (omega arith) refl
 lexes_letter flags.N = lexes_word (78 ∷ []) (omega arith) (omega arith) refl
 lexes_letter flags.B = lexes_word (66 ∷ []) (omega arith) (omega arith) refl
 
--- the words of cells are their tokens
-words_first : (cs : List Cell) (u y : List ℕ)
-    → leading is_word ((flat_map (λ c. word (cell_text c)) cs ++ 32 ∷ u) ++ y) ≡ 0
-words_first [] u y = refl
-words_first (c ∷ cs) u y = refl
-
-more_words : (cs : List Cell) (y : List ℕ) → leading is_word y ≡ 0
-    → leading is_word (flat_map (λ c. word (cell_text c)) cs ++ y) ≡ 0
-more_words [] y h = h
-more_words (c ∷ cs) y h = refl
-
-words : (cs : List Cell) → EachCell cs
-    → (ts : List Item) × Lexes NoWord (flat_map (λ c. word (cell_text c)) cs) ts × AreCells ts cs
-words [] h = ([], lexes_none NoWord, no_cells)
-words (c ∷ cs) (p, h) = let r =
-    words cs h in (p.token ∷ r.0, lexes_both (lexes_behind_blank p.lexes) r.1 (more_words cs), one_cell p.reads r.2)
-
 -- the words of a slot are its definition
 pub slot_printed : (slot : ℕ) (e : Entry) → slot < 256 → length e.cells ≡ 8 → EachCell e.cells
     → (ts : List Item) × Lexes NoWord (slot_words slot e) ts × Defines ts (KeyDefinition slot e)
 unfolding slot_words
 slot_printed slot e h l p =
-    let r = words e.cells p in (
+    let r = texts_lexed cell_text (λ c p. lexes_behind_blank p.lexes) e.cells p in (
       Value (Number slot) ∷ (r.0 ++ Value (Letter e.flag) ∷ []),
       lexes_both (lexes_slot slot h)
           (lexes_both r.1 (lexes_behind_blank (lexes_letter e.flag)) (λ y k. refl))
-          (λ y k. words_first e.cells _ y),
+          (λ y k. texts_first cell_text e.cells _ y),
       of_key h l r.2,
     )
 
@@ -177,12 +156,12 @@ pub key_printed : (slot : ℕ) (e : Entry) → slot < 256 → length e.cells ≡
     → (ts : List Item) × Lexes Any (key_line slot e) ts × Defines ts (KeyDefinition slot e)
 unfolding key_line
 key_printed slot e h l p =
-    let r = columns e.cells p in (
+    let r = texts_lexed (λ c. filled (cell_text c)) (λ c p. lexes_column p.lexes) e.cells p in (
       Value (Number slot) ∷ (r.0 ++ Value (Letter e.flag) ∷ []),
       lexes_both (lexes_slot slot h)
           (lexes_both r.1 (lexes_behind_blank (lexes_both (lexes_letter e.flag) (lexes_blank Any 10 refl)
           (λ y k. refl))) (λ y k. refl))
-          (λ y k. columns_first e.cells _ y),
+          (λ y k. texts_first (λ c. filled (cell_text c)) e.cells _ y),
       of_key h l r.2,
     )
 

@@ -1,15 +1,11 @@
 -- The name of each action is one word, which means that action.
-use Rattle.std.proofs.Common.{◌≡◌, ℕ, ◌<◌, ◌≤◌, Bool, true, false, map, refl, arith, nat_le, ◌⊎◌, inl, inr}
-use Rattle.std.proofs.lemmas.Bool.Decides.{nat_tests}
-use Rattle.std.specs.List.{range_with_len}
-use Rattle.keymap_core.specs.Actions.{IsAction, name_of}
-use Rattle.keymap_text.specs.Types.{Action, Act}
+use Rattle.keymap_text.proofs.Common.{◌≡◌, ℕ, ◌<◌, ◌≤◌, Bool, true, false, map, refl, arith, nat_le, ◌⊎◌, inl, inr}
+use Rattle.keymap_text.proofs.Common.{nat_tests, range_with_len, IsAction, name_of, Action, Act, meaning, digits_of}
+use Rattle.keymap_text.proofs.Common.{named, along}
+use Rattle.keymap_text.proofs.Characters.{is_one_word}
 use Rattle.keymap_core.specs.declared.action.Action.TheVariants as a
 use Rattle.keymap_core.specs.declared.action.Modifier.TheVariants as m
 use Rattle.keymap_core.specs.declared.action.Lock.TheVariants as l
-use Rattle.keymap_text.specs.Words.{meaning, digits_of, named}
-use Rattle.keymap_core.proofs.Lists.{along}
-use Rattle.keymap_text.proofs.Characters.{is_one_word}
 
 -- computed over the names
 screen_words : map (λ k. is_one_word (name_of (a.Screen k))) (range_with_len 1 16)

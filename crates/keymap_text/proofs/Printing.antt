@@ -1,27 +1,17 @@
 -- A printed map spells the map.
-use Rattle.std.proofs.Common.{◌≡◌, ◌≢◌, ℕ, zero, suc, ◌+◌, ◌<◌, ◌≤◌, ◌==◌, Bool, true, false, cond, max, List, [], ◌∷◌}
-use Rattle.std.proofs.Common.{◌++◌, length, get_or, map, refl, sym, ◌∙◌, ap, ap₂, subst, arith, Result, Ok, Err, Option}
-use Rattle.std.proofs.Common.{Some, None, append_assoc, append-nil, eqb-true, eq-eqb, ne_eqb, true≢false, nat_lt, All}
-use Rattle.std.proofs.Common.{inl, inr}
-use Rattle.std.specs.List.{flat_map, range_with_len}
-use Rattle.std.specs.Option.{option_or}
-use Rattle.std.proofs.Math.Nat.{eq-or-lt_of_le}
-use Rattle.std.proofs.lemmas.Bool.Decides.{nat_tests}
+use Rattle.keymap_text.proofs.Common.{◌≡◌, ◌≢◌, ℕ, zero, suc, ◌+◌, ◌<◌, ◌≤◌, ◌==◌, Bool, true, false, cond, max, List}
+use Rattle.keymap_text.proofs.Common.{[], ◌∷◌, ◌++◌, length, get_or, map, refl, sym, ◌∙◌, ap, ap₂, subst, arith, Result}
+use Rattle.keymap_text.proofs.Common.{Ok, Err, Option, Some, None, append_assoc, append-nil, eqb-true, eq-eqb, ne_eqb}
+use Rattle.keymap_text.proofs.Common.{true≢false, nat_lt, All, inl, inr, flat_map, range_with_len, option_or}
+use Rattle.keymap_text.proofs.Common.{eq-or-lt_of_le, nat_tests, blank, MapValue, undefined, name_of, Cell, Item, Open}
+use Rattle.keymap_text.proofs.Common.{Close, Value, Number, Char, Act, TextFaultKind, character, cell, tokens_after}
+use Rattle.keymap_text.proofs.Common.{Definition, KeyDefinition, AccentDefinition, Defines, IsRow, no_definition}
+use Rattle.keymap_text.proofs.Common.{one_definition, last, of_slot, of_index, greatest, slots_needed, accents_needed}
+use Rattle.keymap_text.proofs.Common.{or_default, map_of, key_line, accent_line, printed, key_lines, accent_lines}
+use Rattle.keymap_text.proofs.Common.{Spells, ending_of_tokens, list_of}
 use lib.Utf8.{scalar, scalar_cases}
-use Rattle.keymap_core.specs.Accents.{blank}
-use Rattle.keymap_core.specs.Maps.{MapValue, undefined}
-use Rattle.keymap_core.specs.Actions.{name_of}
 use Rattle.keymap_core.specs.declared.action.Action.TheVariants.{DeadKey}
-use Rattle.keymap_text.specs.Types.{Cell, Item, Open, Close, Value, Number, Char, Act, TextFaultKind}
-use Rattle.keymap_core.specs.declared.entry.Cell.TheVariants as cells
-use Rattle.keymap_text.specs.Items.{character, cell}
-use Rattle.keymap_text.specs.Lexical.{tokens_after}
-use Rattle.keymap_text.specs.Rows.{Definition, KeyDefinition, AccentDefinition, Defines, IsRow, no_definition}
-use Rattle.keymap_text.specs.Rows.{one_definition, last, of_slot, of_index, greatest, slots_needed, accents_needed}
-use Rattle.keymap_text.specs.Rows.{or_default, map_of}
 use Rattle.keymap_core.specs.Bounds.{IsMap, IsCell, IsPair}
-use Rattle.keymap_text.specs.Printed.{key_line, accent_line, printed, key_lines, accent_lines}
-use Rattle.keymap_text.specs.Meaning.{Spells, ending_of_tokens, list_of}
 use Rattle.keymap_text.proofs.Splitting.{split_none}
 use Rattle.keymap_text.proofs.Verdicts.{items_of}
 use Rattle.keymap_text.proofs.Folded.{last_none, last_more, greatest_none, greatest_more, by_range, same_map}
@@ -31,6 +21,7 @@ use Rattle.keymap_text.proofs.PrintedLines.{accent_printed}
 use Rattle.keymap_text.proofs.Characters.{lexes_as, prints_control, prints_delete, prints_quoted, prints_four}
 use Rattle.keymap_text.proofs.Characters.{prints_five, prints_six}
 use Rattle.keymap_text.proofs.PrintedNames.{action_word, action_meaning}
+use Rattle.keymap_core.specs.declared.entry.Cell.TheVariants as cells
 
 -- each character prints
 pub prints_character : (c : ℕ) → scalar c ≡ true → PrintsCharacter c

@@ -1,19 +1,16 @@
 -- What stands at an apostrophe, in the words of the format.
-use Rattle.std.proofs.Common.{◌≡◌, ◌≢◌, inl, inr, ℕ, suc, ◌+◌, ◌<◌, ◌≤◌, ◌==◌, Bool, true, false, cond, List}
-use Rattle.std.proofs.Common.{[], ◌∷◌, ◌++◌, length, take, drop, slice_index, refl, sym, ◌∙◌, ap, ap₂, subst, arith}
-use Rattle.std.proofs.Common.{nat_lt, Ok, Err, Option, Some, None, length-append, append_assoc}
-use Rattle.std.proofs.Common.{append-nil, ⊎_elim, true≢false, take_at, ◌&&◌, add-one}
-use Rattle.std.specs.List.{list_all}
+use Rattle.keymap_text.proofs.Common.{◌≡◌, ◌≢◌, inl, inr, ℕ, suc, ◌+◌, ◌<◌, ◌≤◌, ◌==◌, Bool, true, false, cond, List}
+use Rattle.keymap_text.proofs.Common.{[], ◌∷◌, ◌++◌, length, take, drop, slice_index, refl, sym, ◌∙◌, ap, ap₂, subst}
+use Rattle.keymap_text.proofs.Common.{arith, nat_lt, Ok, Err, Option, Some, None, length-append, append_assoc}
+use Rattle.keymap_text.proofs.Common.{append-nil, ⊎_elim, true≢false, take_at, ◌&&◌, add-one, list_all, get_or_at}
+use Rattle.keymap_text.proofs.Common.{drop_more, drop_all, stays_on_line, Front, Skipped, Found, Refused, Unfinished}
+use Rattle.keymap_text.proofs.Common.{literal, quoted, closing, unclosed, is_lone, front_of, first, tokens_after}
+use Rattle.keymap_text.proofs.Common.{nat_tests, decoded, Decoded, good, second, continues, code_of_3, code_of_4}
+use Rattle.keymap_text.proofs.Common.{TextFaultKind, BadLiteral, EndInside, TokenKind, Literal}
 use Rattle.std.proofs.lemmas.List.Folds.{list_all-append}
-use Rattle.std.proofs.lemmas.List.{get_or_at, drop_more, drop_all}
-use Rattle.keymap_text.specs.Lexical.{stays_on_line, Front, Skipped, Found, Refused, Unfinished, literal, quoted}
-use Rattle.keymap_text.specs.Lexical.{closing, unclosed, is_lone, front_of, first, tokens_after}
-use Rattle.std.proofs.lemmas.Bool.Decides.{nat_tests}
 use Rattle.std.specs.Char.{encode_utf8}
-use Rattle.bstr.specs.Utf8.{decoded, Decoded, good, second, continues, code_of_3, code_of_4}
 use Rattle.bstr.proofs.lemmas.PieceLemmas.{by-shape, value-9, value-12}
 use Rattle.bstr.proofs.lemmas.SoundLemmas.{SpellsChar-decoded}
-use Rattle.keymap_text.specs.Types.{TextFaultKind, BadLiteral, EndInside, TokenKind, Literal}
 use Rattle.keymap_text.specs.Quoted.{IsCharacter, IsQuoted, BeginsQuoted, IsUnfinished, IsReason, quoted_token}
 use Rattle.keymap_text.proofs.Literals.{literal_stable, literal_refused, literal_fits, literal_no_skip, literal_spelled}
 use Rattle.keymap_text.proofs.InFront.{front_quote}

@@ -1,24 +1,20 @@
 -- The reader's machine accepts exactly the rows of definitions.
-use Rattle.std.proofs.Common.{◌≡◌, ◌≢◌, ℕ, ◌+◌, ◌<◌, ◌≤◌, ◌==◌, Bool, true, false, cond, List, [], ◌∷◌, ◌++◌}
-use Rattle.std.proofs.Common.{length, take, set, refl, sym, ◌∙◌, ap, subst, arith, Result, Ok, Err, Option, Some, None}
-use Rattle.std.proofs.Common.{length-append, length-set, append_assoc, append-nil, nat_lt, eqb-true, ne_eqb, eq-eqb}
-use Rattle.std.proofs.Common.{true≢false, take_all}
-use Rattle.std.proofs.lemmas.Bool.Decides.{nat_tests}
-use Rattle.std.proofs.lemmas.Option.{none-some, same_Some}
-use Rattle.std.proofs.lemmas.List.{take_more_set}
-use Rattle.keymap_text.specs.Types.{TextFaultKind, Entry, Cell, LockFlag, Action, Item, Open, Close, Value, Number}
-use Rattle.keymap_text.specs.Types.{Char, Act, Combined, Letter}
-use Rattle.keymap_text.specs.declared.fault.TextFaultKind.TheVariants as faults
-use Rattle.keymap_core.specs.Accents.{AccentValue}
-use Rattle.keymap_core.specs.Maps.{MapValue, undefined, with_entry, with_accent}
-use Rattle.keymap_text.specs.Items.{character, cell, lock, accent_index}
-use Rattle.keymap_text.specs.Inner.Grammar.{GrammarState, GrammarPlace, Definition, CellAt, LockAt, AccentCharacter}
-use Rattle.keymap_text.specs.Inner.Grammar.{AfterAccent, PairBase, PairResult, PairEnd, accept, at, at_end, start, step}
-use Rattle.keymap_text.specs.Inner.Grammar.{first_of, empty_map, with_cell, with_pair, after_cell, after_base, ◌>>=◌}
-use Rattle.keymap_text.specs.Rows as rows
-use Rattle.keymap_text.specs.Rows.{KeyDefinition, AccentDefinition, AreCells, no_cells, one_cell, ArePairs, no_pairs}
-use Rattle.keymap_text.specs.Rows.{one_pair, Defines, of_key, of_accent, IsRow, no_definition, one_definition}
+use Rattle.keymap_text.proofs.Common.{◌≡◌, ◌≢◌, ℕ, ◌+◌, ◌<◌, ◌≤◌, ◌==◌, Bool, true, false, cond, List, [], ◌∷◌, ◌++◌}
+use Rattle.keymap_text.proofs.Common.{length, take, set, refl, sym, ◌∙◌, ap, subst, arith, Result, Ok, Err, Option}
+use Rattle.keymap_text.proofs.Common.{Some, None, length-append, length-set, append_assoc, append-nil, nat_lt, eqb-true}
+use Rattle.keymap_text.proofs.Common.{ne_eqb, eq-eqb, true≢false, take_all, nat_tests, none-some, same_Some}
+use Rattle.keymap_text.proofs.Common.{take_more_set, TextFaultKind, Entry, Cell, LockFlag, Action, Item, Open, Close}
+use Rattle.keymap_text.proofs.Common.{Value, Number, Char, Act, Combined, Letter, AccentValue, MapValue, undefined}
+use Rattle.keymap_text.proofs.Common.{with_entry, with_accent, character, cell, lock, accent_index, GrammarState}
+use Rattle.keymap_text.proofs.Common.{GrammarPlace, CellAt, LockAt, AccentCharacter, AfterAccent, PairBase, PairResult}
+use Rattle.keymap_text.proofs.Common.{PairEnd, accept, at, at_end, start, step, first_of, empty_map, with_cell}
+use Rattle.keymap_text.proofs.Common.{with_pair, after_cell, after_base, ◌>>=◌, KeyDefinition, AccentDefinition}
+use Rattle.keymap_text.proofs.Common.{AreCells, no_cells, one_cell, ArePairs, no_pairs, one_pair, Defines, of_key}
+use Rattle.keymap_text.proofs.Common.{of_accent, IsRow, no_definition, one_definition}
+use Rattle.keymap_text.specs.Inner.Grammar.{Definition}
 use Rattle.keymap_text.proofs.Folded.{put, puts, puts_push}
+use Rattle.keymap_text.specs.declared.fault.TextFaultKind.TheVariants as faults
+use Rattle.keymap_text.specs.Rows as rows
 
 -- a fault is no answer
 err_ok : {A : Type 0} (e : TextFaultKind) (y : A) → ◌≡◌ {A = Result A TextFaultKind} (Err e) (Ok y) → ⊥

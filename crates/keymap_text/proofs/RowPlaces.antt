@@ -1,22 +1,14 @@
 -- Where definitions begin is where their rows begin.
-use Rattle.std.proofs.Common.{◌≡◌, ℕ, suc, ◌+◌, ◌<◌, true, false, cond, List, [], ◌∷◌, ◌++◌, length, map, refl, sym}
-use Rattle.std.proofs.Common.{◌∙◌, ap, ap₂, subst, arith, Some, None, length-append, append_assoc, nat_lt}
-use Rattle.std.proofs.lemmas.Bool.Decides.{nat_tests}
-use Rattle.std.proofs.lemmas.List.{length-map}
-use Rattle.keymap_text.specs.Types.{Action, Defined, Slot, Accent, TokenKind, Meaning, Number, Act, Letter, Item, Open}
-use Rattle.keymap_text.specs.Types.{Close, Value}
-use Rattle.keymap_core.specs.Maps.{MapValue}
-use Rattle.keymap_text.specs.declared.token.TokenKind.TheVariants as kinds
-use Rattle.keymap_text.specs.Items.{accent_index}
-use Rattle.keymap_text.specs.Words.{item}
-use Rattle.keymap_text.specs.Lexical.{TokenValue}
-use Rattle.keymap_text.specs.Meaning.{item_of, tokens, Spells}
-use Rattle.keymap_text.specs.Rows.{Definition, ArePairs, no_pairs, one_pair, Defines, of_key, of_accent, IsRow}
-use Rattle.keymap_text.specs.Rows.{no_definition, one_definition, map_of}
-use Rattle.keymap_text.specs.Placed.{Row, AreRows, no_row, one_row, IsSpelledBy, defined, places_after, places_of}
-use Rattle.keymap_text.specs.Placed.{begins}
-use Rattle.keymap_text.specs.Inner.Placed.{behind, is_open, begun}
+use Rattle.keymap_text.proofs.Common.{◌≡◌, ℕ, suc, ◌+◌, ◌<◌, true, false, cond, List, [], ◌∷◌, ◌++◌, length, map, refl}
+use Rattle.keymap_text.proofs.Common.{sym, ◌∙◌, ap, ap₂, subst, arith, Some, None, length-append, append_assoc, nat_lt}
+use Rattle.keymap_text.proofs.Common.{nat_tests, length-map, Action, Defined, Slot, Accent, TokenKind, Meaning, Number}
+use Rattle.keymap_text.proofs.Common.{Act, Letter, Item, Open, Close, Value, MapValue, accent_index, item, TokenValue}
+use Rattle.keymap_text.proofs.Common.{item_of, tokens, Spells, Definition, ArePairs, no_pairs, one_pair, Defines}
+use Rattle.keymap_text.proofs.Common.{of_key, of_accent, IsRow, no_definition, one_definition, map_of, Row, AreRows}
+use Rattle.keymap_text.proofs.Common.{no_row, one_row, IsSpelledBy, defined, places_after, places_of, begins, behind}
+use Rattle.keymap_text.proofs.Common.{is_open, begun}
 use Rattle.keymap_text.proofs.Parts.{count_cells}
+use Rattle.keymap_text.specs.declared.token.TokenKind.TheVariants as kinds
 
 -- A list whose image begins with u.
 record Begins (ts : List TokenValue) (u : Item) (us : List Item) : Type 0 where

@@ -1,21 +1,16 @@
 -- What taking cells, the lock letter and the pair of an accent makes of the rest of a text.
-use Rattle.std.proofs.Common.{◌≡◌, ◌≢◌, ℕ, ◌+◌, ◌-◌, ◌<◌, ◌≤◌, ◌==◌, Bool, true, false, cond, List, length, take, drop}
-use Rattle.std.proofs.Common.{get_or, refl, sym, ◌∙◌, ap, arith, Ok, Err, eqb-true, eq-eqb, ne_eqb, true≢false}
-use Rattle.std.proofs.lemmas.Bool.{lt-ltb}
-use Rattle.keymap_core.specs.Accents.{AccentValue}
-use Rattle.keymap_core.specs.Maps.{MapValue, with_entry}
+use Rattle.keymap_text.proofs.Common.{◌≡◌, ◌≢◌, ℕ, ◌+◌, ◌-◌, ◌<◌, ◌≤◌, ◌==◌, Bool, true, false, cond, List, length}
+use Rattle.keymap_text.proofs.Common.{take, drop, get_or, refl, sym, ◌∙◌, ap, arith, Ok, Err, eqb-true, eq-eqb, ne_eqb}
+use Rattle.keymap_text.proofs.Common.{true≢false, lt-ltb, AccentValue, MapValue, with_entry, Entry, Cell, LockFlag}
+use Rattle.keymap_text.proofs.Common.{TextFaultKind, Item, Open, Close, cell, character, lock, leading, is_space}
+use Rattle.keymap_text.proofs.Common.{GrammarPlace, at, accept, after_base, after_cell, with_cell, with_pair, ◌>>=◌}
+use Rattle.keymap_text.proofs.Common.{Advances, Refuses, Fronts, FrontsBehind, FrontsCharacter}
 use Rattle.keymap_core.specs.Numbers.{pair_limit}
-use Rattle.keymap_text.specs.Types.{Entry, Cell, LockFlag, TextFaultKind, Item, Open, Close}
-use Rattle.keymap_text.specs.declared.fault.TextFaultKind.TheVariants as faults
-use Rattle.keymap_text.specs.Items.{cell, character, lock}
-use Rattle.keymap_text.specs.Lexical.{leading, is_space}
-use Rattle.keymap_text.specs.Inner.Grammar as spec
-use Rattle.keymap_text.specs.Inner.Grammar.{GrammarPlace, at, accept, after_base, after_cell, with_cell, with_pair}
-use Rattle.keymap_text.specs.Inner.Grammar.{◌>>=◌}
-use Rattle.keymap_text.specs.Inner.Scanning.{Advances, Refuses, Fronts, FrontsBehind, FrontsCharacter}
 use Rattle.keymap_text.proofs.Fronts.{left_fronts}
 use Rattle.keymap_text.proofs.Scanning.{blanks_advance, token_advances, token_refuses, behind_advances, advances_on}
 use Rattle.keymap_text.proofs.Scanning.{refuses_on}
+use Rattle.keymap_text.specs.declared.fault.TextFaultKind.TheVariants as faults
+use Rattle.keymap_text.specs.Inner.Grammar as spec
 
 -- the place of the cell with this index, or of the lock letter behind the eight cells
 abbrev pub cell_place : ℕ → ℕ → Entry → GrammarPlace

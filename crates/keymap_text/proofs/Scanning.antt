@@ -1,19 +1,10 @@
 -- What taking blanks, comments and whole tokens makes of the rest of a text.
-use Rattle.std.proofs.Common.{◌≡◌, ℕ, zero, suc, ◌+◌, ◌-◌, ◌<◌, ◌≤◌, ◌==◌, true, false, Bool, List, [], ◌∷◌, ◌++◌}
-use Rattle.std.proofs.Common.{length}
-use Rattle.std.proofs.Common.{take, drop, get_or, refl, sym, ◌∙◌, ap, ap₂, subst, arith, Ok, Err, append-nil}
-use Rattle.std.proofs.Common.{length-append, length-drop, drop-cons}
-use Rattle.std.proofs.lemmas.Bool.Decides.{nat_tests}
-use Rattle.std.proofs.lemmas.List.{drop-drop, drop-append-le}
-use Rattle.keymap_core.specs.Maps.{MapValue}
-use Rattle.keymap_text.specs.Types.{TextFaultKind, Item}
-use Rattle.keymap_text.specs.declared.grammar.Grammar.{Grammar}
-use Rattle.keymap_text.specs.declared.scanner.Stop.{Stop}
-use Rattle.keymap_text.specs.Lexical.{leading, is_blank, is_space, stays_on_line, tokens_after}
-use Rattle.keymap_text.specs.Inner.Grammar.{GrammarState, accept, at, step}
-use Rattle.keymap_text.specs.Inner.Judging.{judge, Faulty}
-use Rattle.keymap_text.specs.Inner.Views.{grammar_view, StepsInto}
-use Rattle.keymap_text.specs.Inner.Scanning.{Advances, Refuses, Takes, Fronts, FrontsBehind}
+use Rattle.keymap_text.proofs.Common.{◌≡◌, ℕ, zero, suc, ◌+◌, ◌-◌, ◌<◌, ◌≤◌, ◌==◌, true, false, Bool, List, [], ◌∷◌}
+use Rattle.keymap_text.proofs.Common.{◌++◌, length, take, drop, get_or, refl, sym, ◌∙◌, ap, ap₂, subst, arith, Ok, Err}
+use Rattle.keymap_text.proofs.Common.{append-nil, length-append, length-drop, drop-cons, nat_tests, drop-drop}
+use Rattle.keymap_text.proofs.Common.{drop-append-le, MapValue, TextFaultKind, Item, Grammar, Stop, leading, is_blank}
+use Rattle.keymap_text.proofs.Common.{is_space, stays_on_line, tokens_after, GrammarState, accept, at, step, judge}
+use Rattle.keymap_text.proofs.Common.{Faulty, grammar_view, Advances, Refuses, Takes, Fronts, FrontsBehind}
 use Rattle.keymap_text.proofs.Leading.{leading_pass, leading_fail, leading_short}
 use Rattle.keymap_text.proofs.Splitting.{split_blank, split_comment, split_after, to_end}
 use Rattle.keymap_text.proofs.Steps.{judge_then, judge_refused}
@@ -40,7 +31,7 @@ split_spaces (suc n) q (c ∷ xs) y h = go (is_space c) refl (split_spaces n (q 
         ∙ on (q + suc n) (omega arith)
     go false e k = absurd (omega (arith, h, leading_fail is_space c xs e))
 
--- the same at a place of a text
+-- blanks at a place of a text
 pub spaces_at : (text rest : List ℕ) (at n : ℕ) → rest ≡ take (length text - at) (drop at text)
     → n ≤ leading is_space rest → tokens_after 0 at (drop at text) ≡ tokens_after 0 (at + n) (drop (at + n) text)
 spaces_at text rest at n e h =
@@ -135,45 +126,53 @@ behind_advances s s' rest t n f a =
     (token_advances s s' _ t f.size f.fronts a))
 
 -- What takes definitions was not touched.
-pub takes_same : {D : Type 0} → (shows : D → MapValue → Type 0) → (d : D) (g : Grammar) (rest : List ℕ) (n : ℕ)
+pub takes_same : {D : Type 0} {shows : D → MapValue → Type 0} {d : D} {g : Grammar} {rest : List ℕ} {n : ℕ}
     → ((s : GrammarState) → Advances s s rest n) → Takes shows d d (Ok n) g g rest
-takes_same shows d g rest n a = λ m h. (m, h, a _)
+takes_same a = record { took = λ m h. (m, h, a _) }
 
 -- a token was accepted
-pub takes_token : {D : Type 0} → (shows : D → MapValue → Type 0) → (d d' : D) (g g' : Grammar) (rest : List ℕ) (i : Item)
-    (n : ℕ) (u : Unit {0}) → Fronts rest i n
-    → ((m : MapValue) → shows d m → StepsInto shows d' (Ok u) (step m (grammar_view g) i) (grammar_view g'))
+pub takes_token : {D : Type 0} {shows : D → MapValue → Type 0} {d d' : D} {g g' : Grammar} {rest : List ℕ} {i : Item}
+    {n : ℕ} → Fronts rest i n
+    → ((m : MapValue) → shows d m
+    → (m' : MapValue) × shows d' m' × (step m (grammar_view g) i ≡ Ok (at m' (grammar_view g'))))
     → Takes shows d d' (Ok n) g g' rest
 unfolding accept
-takes_token shows d d' g g' rest i n u f s = λ m h.
-    let t = s m h in (t.0, t.1, token_advances _ _ rest i n f t.2)
+takes_token {rest = rest} {i = i} {n = n} f s = record {
+  took = λ m h. let t = s m h in (t.0, t.1, token_advances _ _ rest i n f t.2);
+}
 
 -- or refused
-pub takes_fault : {D : Type 0} → (shows : D → MapValue → Type 0) → (d d' : D) (g g' : Grammar) (rest : List ℕ) (i : Item)
-    (n : ℕ) (e : Stop) → Fronts rest i n → e.at ≡ 0
-    → ((m : MapValue) → shows d m → StepsInto shows d' (Err e.kind) (step m (grammar_view g) i) (grammar_view g'))
-    → Takes shows d d' (Err e) g g' rest
+pub takes_fault : {D : Type 0} {shows : D → MapValue → Type 0} {d d' : D} {g g' : Grammar} {rest : List ℕ} {i : Item}
+    {n : ℕ} {e : Stop} → Fronts rest i n → e.at ≡ 0
+    → ((m : MapValue) → shows d m → step m (grammar_view g) i ≡ Err e.kind) → Takes shows d d' (Err e) g g' rest
 unfolding accept
-takes_fault shows d d' g g' rest i n e f z s = λ m h.
-    subst (λ k. Refuses (at m (grammar_view g)) rest e.kind k) (sym z) (token_refuses _ rest i n e.kind f (s m h))
+takes_fault {g = g} {rest = rest} {i = i} {n = n} {e = e} f z s = record {
+  took = λ m h.
+      subst (λ k. Refuses (at m (grammar_view g)) rest e.kind k) (sym z) (token_refuses _ rest i n e.kind f (s m h));
+}
 
 -- more was taken behind
-pub takes_on : {D : Type 0} → (shows : D → MapValue → Type 0) → (d d1 d2 : D) (g g1 g2 : Grammar) (rest behind : List ℕ)
-    (n k : ℕ) → Takes shows d d1 (Ok n) g g1 rest → behind ≡ take (length rest - n) (drop n rest)
+pub takes_on : {D : Type 0} {shows : D → MapValue → Type 0} {d d1 d2 : D} {g g1 g2 : Grammar} {rest behind : List ℕ}
+    {n k : ℕ} → Takes shows d d1 (Ok n) g g1 rest → behind ≡ take (length rest - n) (drop n rest)
     → Takes shows d1 d2 (Ok k) g1 g2 behind → Takes shows d d2 (Ok (n + k)) g g2 rest
-takes_on shows d d1 d2 g g1 g2 rest behind n k a e b = λ m h.
-    let s = a m h in
-    let t = b s.0 s.1 in
-    (t.0, t.1, advances_on _ _ _ rest behind n k s.2 e t.2)
+takes_on {rest = rest} {behind = behind} {n = n} {k = k} a e b = record {
+  took = λ m h.
+      let s = a.took m h in
+      let t = b.took s.0 s.1 in
+      (t.0, t.1, advances_on _ _ _ rest behind n k s.2 e t.2);
+}
 
 -- or there is a fault
-pub faults_on : {D : Type 0} → (shows : D → MapValue → Type 0) → (d d1 d2 : D) (g g1 g2 : Grammar) (rest behind : List ℕ)
-    (n : ℕ) (e e' : Stop) → Takes shows d d1 (Ok n) g g1 rest → behind ≡ take (length rest - n) (drop n rest)
+pub faults_on : {D : Type 0} {shows : D → MapValue → Type 0} {d d1 d2 : D} {g g1 g2 : Grammar} {rest behind : List ℕ}
+    {n : ℕ} {e e' : Stop} → Takes shows d d1 (Ok n) g g1 rest → behind ≡ take (length rest - n) (drop n rest)
     → Takes shows d1 d2 (Err e) g1 g2 behind → e'.kind ≡ e.kind → e'.at ≡ n + e.at
     → Takes shows d d2 (Err e') g g2 rest
-faults_on shows d d1 d2 g g1 g2 rest behind n e e' a k b kind place = λ m h.
-    let s = a m h in
-    subst (λ f. Refuses (at m (grammar_view g)) rest f e'.at) (sym kind) (refuses_on _ _ rest behind n e.at e'.at e.kind s.2 k (b s.0 s.1) place)
+faults_on {g = g} {rest = rest} {behind = behind} {n = n} {e = e} {e' = e'} a k b kind place = record {
+  took = λ m h.
+      let s = a.took m h in
+      subst (λ f. Refuses (at m (grammar_view g)) rest f e'.at) (sym kind)
+      (refuses_on _ _ rest behind n e.at e'.at e.kind s.2 k (b.took s.0 s.1) place);
+}
 
 -- bytes are left in a piece
 pub behind_some : (piece : List ℕ) (i : ℕ) → i < length piece → 0 < length (take (length piece - i) (drop i piece))

@@ -1,11 +1,9 @@
 -- What a text splits into, step by step.
-use Rattle.std.proofs.Common.{◌≡◌, ℕ, zero, suc, ◌+◌, ◌-◌, ◌<◌, ◌≤◌, true, List, [], ◌∷◌, length, take, drop, get_or}
-use Rattle.std.proofs.Common.{refl, sym, ◌∙◌, ap, ap₂, arith, add-one, add-zero, drop-cons, length-drop, take_all}
-use Rattle.std.proofs.Common.{take_at, drop_at, ◌++◌}
-use Rattle.std.proofs.lemmas.List.{drop-drop, drop_all}
-use Rattle.keymap_text.specs.Types.{TextFaultKind, EndInside, TokenKind}
-use Rattle.keymap_text.specs.Lexical.{leading, stays_on_line, is_blank, Front, Skipped, Found, Refused, Unfinished}
-use Rattle.keymap_text.specs.Lexical.{front_of, tokens_after, Ends, Stops, Then, token_before}
+use Rattle.keymap_text.proofs.Common.{◌≡◌, ℕ, zero, suc, ◌+◌, ◌-◌, ◌<◌, ◌≤◌, true, List, [], ◌∷◌, length, take, drop}
+use Rattle.keymap_text.proofs.Common.{get_or, refl, sym, ◌∙◌, ap, ap₂, arith, add-one, add-zero, drop-cons, length-drop}
+use Rattle.keymap_text.proofs.Common.{take_all, take_at, drop_at, ◌++◌, drop-drop, drop_all, TextFaultKind, EndInside}
+use Rattle.keymap_text.proofs.Common.{TokenKind, leading, stays_on_line, is_blank, Front, Skipped, Found, Refused}
+use Rattle.keymap_text.proofs.Common.{Unfinished, front_of, tokens_after, Ends, Stops, Then, token_before}
 use Rattle.keymap_text.proofs.InFront.{front_blank, front_comment, front_fits}
 use Rattle.keymap_text.proofs.Leading.{leading_le}
 
@@ -94,14 +92,14 @@ pub split_comment : (q c : ℕ) (bytes : List ℕ) → c ≡ 35
     → tokens_after 0 q (c ∷ bytes) ≡ tokens_after (leading stays_on_line bytes) (q + 1) bytes
 split_comment q c bytes h = split_skipped q c _ bytes (front_comment c bytes h)
 
--- the same at an index
+-- a blank at an index
 pub split_blank_at : (xs : List ℕ) (i : ℕ) → i < length xs → is_blank (get_or xs i 0) ≡ true
     → tokens_after 0 i (drop i xs) ≡ tokens_after 0 (i + 1) (drop (i + 1) xs)
 split_blank_at xs i h e =
     ap (tokens_after 0 i) (drop-cons xs i 0 h) ∙ split_blank i _ _ e
     ∙ ap (λ n. tokens_after 0 (i + 1) (drop n xs)) (sym (add-one i))
 
--- the same at a place
+-- a comment at an index
 pub split_comment_at : (xs : List ℕ) (i : ℕ) → i < length xs → get_or xs i 0 ≡ 35
     → tokens_after 0 i (drop i xs) ≡ tokens_after (leading stays_on_line (drop (i + 1) xs)) (i + 1) (drop (i + 1) xs)
 split_comment_at xs i h e =
@@ -157,7 +155,7 @@ at_unfinished xs i h e =
     ap (tokens_after 0 i) (first_and_rest (drop i xs) (room xs i h)) ∙ split_unfinished i _ _ e
     ∙ ap (Stops EndInside) (rw (length-drop, length-drop) (omega arith))
 
--- the same of the slice that begins at i
+-- the slice that begins at i
 pub to_end : (xs : List ℕ) (i : ℕ) → take (length xs - i) (drop i xs) ≡ drop i xs
 to_end xs i = take_all (length xs - i) (drop i xs) (rw length-drop (omega arith))
 

@@ -1,24 +1,13 @@
 -- A reader that takes pieces.
-use Rattle.std.proofs.Common.{◌≡◌, ℕ, ◌+◌, ◌<◌, ◌≤◌, ◌==◌, Bool, true, false, List, [], ◌∷◌, ◌++◌, length, take, drop}
-use Rattle.std.proofs.Common.{get_or, refl, sym, ◌∙◌, ap, ap₂, subst, arith, Result, Ok, Err, append_assoc, append-nil}
-use Rattle.std.proofs.Common.{length-append, take_all, drop_at, eqb-true, inl, inr, ⊎_elim, ◌-◌}
-use Rattle.std.proofs.lemmas.List.{take-append-drop, drop_all, drop-append-le}
-use Rattle.std.proofs.lemmas.List.Sums.{count_by-le-length}
-use Rattle.std.proofs.Math.Seq.{drop-append-add}
-use Rattle.std.specs.Prelude.{IfErr}
-use Rattle.keymap_core.specs.Maps.{MapValue}
-use Rattle.keymap_text.specs.Types.{TextFault, TextFaultKind}
-use Rattle.keymap_text.specs.declared.reading.Reading.{Reading}
-use Rattle.keymap_text.specs.Lexical.{leading, stays_on_line, is_word, tokens_after, literal, Unfinished}
-use Rattle.keymap_text.specs.Meaning.{line, Early, Means}
-use Rattle.keymap_text.specs.Inner.Grammar.{GrammarState, GrammarPlace, at}
-use Rattle.keymap_text.specs.Inner.Judging.{judge, verdict, Faulty}
-use Rattle.keymap_text.specs.Inner.Resuming.{resume, Says, IsReader, IsFaultOfPending, Lined, Moves, Breaks, Feeds}
-use Rattle.keymap_text.specs.Inner.Resuming.{Passes}
-use Rattle.keymap_text.specs.Inner.Scanning.{Advances, Refuses, IsOpen}
-use Rattle.keymap_text.specs.Inner.Views.{state_view, IsPlace}
-use Rattle.keymap_text.specs.Standing.{StandsAfter, FedAfter}
-use Rattle.keymap_text.specs.Inner.Fields.{progress}
+use Rattle.keymap_text.proofs.Common.{◌≡◌, ℕ, ◌+◌, ◌<◌, ◌≤◌, ◌==◌, Bool, true, false, List, [], ◌∷◌, ◌++◌, length, take}
+use Rattle.keymap_text.proofs.Common.{drop, get_or, refl, sym, ◌∙◌, ap, ap₂, subst, arith, Result, Ok, Err}
+use Rattle.keymap_text.proofs.Common.{append_assoc, append-nil, length-append, take_all, drop_at, eqb-true, inl, inr}
+use Rattle.keymap_text.proofs.Common.{⊎_elim, ◌-◌, take-append-drop, drop_all, drop-append-le, count_by-le-length}
+use Rattle.keymap_text.proofs.Common.{drop-append-add, IfErr, MapValue, TextFault, TextFaultKind, Reading, leading}
+use Rattle.keymap_text.proofs.Common.{stays_on_line, is_word, tokens_after, literal, Unfinished, line, Early, Means}
+use Rattle.keymap_text.proofs.Common.{GrammarState, GrammarPlace, at, judge, verdict, Faulty, resume, Says, IsReader}
+use Rattle.keymap_text.proofs.Common.{IsFaultOfPending, Lined, Moves, Breaks, Feeds, Passes, Advances, Refuses, IsOpen}
+use Rattle.keymap_text.proofs.Common.{state_view, IsPlace, StandsAfter, FedAfter, progress}
 use Rattle.keymap_text.specs.declared.reader.MapReader.TheInside.{Inside}
 use Rattle.keymap_text.proofs.InFront.{front_quote, word_found, is_quote}
 use Rattle.keymap_text.proofs.Leading.{leading_pass, leading_append, leading_le}

@@ -1,15 +1,9 @@
 -- How tokens are judged, and what stands at a byte.
-use Rattle.std.proofs.Common.{◌≡◌, ℕ, ◌+◌, ◌<◌, true, false, not, List, [], ◌++◌}
-use Rattle.std.proofs.Common.{refl, sym, ◌∙◌, ap, length, add-zero, arith, Result, Ok, Err, Option, Some, None}
-use Rattle.std.proofs.lemmas.Bool.Decides.{nat_tests}
-use Rattle.keymap_text.specs.Types.{TextFaultKind, EndInside, Word}
-use Rattle.keymap_text.specs.Lexical.{leading, is_word, word, Found, front_of, tokens_after}
-use Rattle.keymap_text.specs.Lexical.{TokenValue, Tokens, Ends, Stops, Then}
-use Rattle.keymap_text.specs.Words.{item}
-use Rattle.keymap_core.specs.Maps.{MapValue}
-use Rattle.keymap_text.specs.Inner.Grammar.{GrammarState, accept, at_end}
-use Rattle.keymap_text.specs.Meaning.{is_settled, is_end_inside}
-use Rattle.keymap_text.specs.Inner.Judging.{judge, Faulty, ended}
+use Rattle.keymap_text.proofs.Common.{◌≡◌, ℕ, ◌+◌, ◌<◌, true, false, not, List, [], ◌++◌, refl, sym, ◌∙◌, ap, length}
+use Rattle.keymap_text.proofs.Common.{add-zero, arith, Result, Ok, Err, Option, Some, None, nat_tests, TextFaultKind}
+use Rattle.keymap_text.proofs.Common.{EndInside, Word, leading, is_word, word, Found, front_of, tokens_after}
+use Rattle.keymap_text.proofs.Common.{TokenValue, Tokens, Ends, Stops, Then, item, MapValue, GrammarState, accept}
+use Rattle.keymap_text.proofs.Common.{at_end, is_settled, is_end_inside, judge, Faulty, ended}
 use Rattle.keymap_text.proofs.Leading.{leading_append}
 use Rattle.keymap_text.proofs.InFront.{front_word}
 use Rattle.keymap_text.proofs.Splitting.{split_none}

@@ -1,19 +1,11 @@
 -- What bytes begin that show no whole token.
-use Rattle.std.proofs.Common.{◌≡◌, ◌≢◌, inl, inr, ℕ, suc, ◌+◌, ◌-◌, ◌<◌, ◌≤◌, List, [], ◌∷◌, ◌++◌, length, take, drop}
-use Rattle.std.proofs.Common.{get_or}
-use Rattle.std.proofs.Common.{refl, sym, ◌∙◌, ap, ap₂, subst, arith, Ok, Err, take_all, true, false, not, ◌&&◌}
-use Rattle.std.specs.Prelude.{IsFalse}
-use Rattle.std.proofs.lemmas.List.{drop_all}
-use Rattle.std.proofs.lemmas.Bool.Decides.{nat_tests}
-use Rattle.keymap_text.specs.Types.{TextFaultKind, EndInside, TokenKind, Word, Item}
-use Rattle.keymap_text.specs.Lexical.{leading, stays_on_line, is_word, separates, word, Found, Refused, Unfinished}
-use Rattle.keymap_text.specs.Lexical.{front_of}
-use Rattle.keymap_text.specs.Lexical.{tokens_after, Ends, Then, token_before}
-use Rattle.keymap_text.specs.Meaning.{is_word_kind}
-use Rattle.keymap_text.specs.Words.{item}
-use Rattle.keymap_text.specs.Inner.Grammar.{GrammarState, accept, at_end}
-use Rattle.keymap_text.specs.Inner.Judging.{judge, ended, Faulty}
-use Rattle.keymap_text.specs.Inner.Scanning.{Refuses, Fronts, IsOpen}
+use Rattle.keymap_text.proofs.Common.{◌≡◌, ◌≢◌, inl, inr, ℕ, suc, ◌+◌, ◌-◌, ◌<◌, ◌≤◌, List, [], ◌∷◌, ◌++◌, length, take}
+use Rattle.keymap_text.proofs.Common.{drop, get_or, refl, sym, ◌∙◌, ap, ap₂, subst, arith, Ok, Err, take_all, true}
+use Rattle.keymap_text.proofs.Common.{false, not, ◌&&◌, IsFalse, drop_all, nat_tests, TextFaultKind, EndInside}
+use Rattle.keymap_text.proofs.Common.{TokenKind, Word, Item, leading, stays_on_line, is_word, separates, word, Found}
+use Rattle.keymap_text.proofs.Common.{Refused, Unfinished, front_of, tokens_after, Ends, Then, token_before}
+use Rattle.keymap_text.proofs.Common.{is_word_kind, item, GrammarState, accept, at_end, judge, ended, Faulty, Refuses}
+use Rattle.keymap_text.proofs.Common.{Fronts, IsOpen}
 use Rattle.keymap_text.proofs.Fronts.{found_fronts, refused_on, open_found, open_refused}
 use Rattle.keymap_text.proofs.InFront.{front_comment, front_quote, front_word, word_found, is_quote, refused_early}
 use Rattle.keymap_text.proofs.Leading.{leading_pass, leading_le, leading_append}

@@ -1,13 +1,9 @@
 -- The bytes of a token are those of the text at its place.
-use Rattle.std.proofs.Common.{◌≡◌, ℕ, zero, suc, ◌+◌, ◌≤◌, List, [], ◌∷◌, length, take, drop, refl, sym, ◌∙◌, ap, subst}
-use Rattle.std.proofs.Common.{arith, All}
-use Rattle.std.proofs.lemmas.List.{length-take-le}
+use Rattle.keymap_text.proofs.Common.{◌≡◌, ℕ, zero, suc, ◌+◌, ◌≤◌, List, [], ◌∷◌, length, take, drop, refl, sym, ◌∙◌}
+use Rattle.keymap_text.proofs.Common.{ap, subst, arith, All, length-take-le, TextFaultKind, EndInside, TokenKind, Front}
+use Rattle.keymap_text.proofs.Common.{Skipped, Found, Refused, Unfinished, front_of, tokens_after, TokenValue, Tokens}
+use Rattle.keymap_text.proofs.Common.{Ends, Stops, token_before, list_of, tokens, IsPlaced}
 use Rattle.std.proofs.lemmas.List.Elements.{All-nil, All-cons, All-weaker}
-use Rattle.keymap_text.specs.Types.{TextFaultKind, EndInside, TokenKind}
-use Rattle.keymap_text.specs.Lexical.{Front, Skipped, Found, Refused, Unfinished, front_of, tokens_after, TokenValue}
-use Rattle.keymap_text.specs.Lexical.{Tokens, Ends, Stops, token_before}
-use Rattle.keymap_text.specs.Meaning.{list_of, tokens}
-use Rattle.keymap_text.specs.Placed.{IsPlaced}
 use Rattle.keymap_text.proofs.Splitting.{split_one, split_skipped, split_found, split_refused, split_nil}
 use Rattle.keymap_text.proofs.Splitting.{split_unfinished}
 use Rattle.keymap_text.proofs.Faults.{list_then}

@@ -1,10 +1,8 @@
 -- The words of a definition tell it.
-use Rattle.std.proofs.Common.{◌≡◌, ℕ, List, [], ◌++◌, refl, sym, ◌∙◌, ap, append-nil}
+use Rattle.keymap_text.proofs.Common.{◌≡◌, ℕ, List, [], ◌++◌, refl, sym, ◌∙◌, ap, append-nil, tokens_after, list_of}
+use Rattle.keymap_text.proofs.Common.{Definition, KeyDefinition, AccentDefinition, Defines}
 use Rattle.keymap_text.specs.declared.words.Item.{Item}
-use Rattle.keymap_text.specs.Lexical.{tokens_after}
 use Rattle.keymap_text.specs.Definitions.{IsDefinition, definition_words}
-use Rattle.keymap_text.specs.Meaning.{list_of}
-use Rattle.keymap_text.specs.Rows.{Definition, KeyDefinition, AccentDefinition, Defines}
 use Rattle.keymap_text.proofs.Lexed.{Lexes, NoWord}
 use Rattle.keymap_text.proofs.OneRow.{defined_is}
 use Rattle.keymap_text.proofs.PrintedLines.{slot_printed, accent_words_printed}

@@ -1,16 +1,12 @@
 -- From the mask of sixteen bytes to the bytes in front that pass a test.
-use Rattle.std.proofs.Common.{◌≡◌, ℕ, ◌+◌, ◌%◌, ◌^◌, ◌<◌, ◌≤◌, Bool, true, false, not, List, [], ◌∷◌, map}
-use Rattle.std.proofs.Common.{length, get_or, replicate, Fits, w8, refl, sym, ap, ap₂, ◌∙◌, subst, arith, inl, inr}
-use Rattle.std.proofs.lemmas.Bool.{agree_below, agree_below_at, not-true, not-false, cases_eq, eq-eqb, ne_eqb}
-use Rattle.std.proofs.lemmas.Bool.{cond-true, cond-false}
-use Rattle.std.proofs.lemmas.Simd.{map-map, mask_l-mod, length-chunk, get_or-chunk, leading_from_mask_l}
-use Rattle.std.proofs.lemmas.Simd.{trailing_mask_l}
-use Rattle.std.proofs.lemmas.List.{length-map}
-use Rattle.std.proofs.lemmas.List.Sums.{prefix_len-le-length, prefix_len_is, prefix_len_passes, prefix_len_stops}
-use Rattle.std.specs.List.{prefix_len}
+use Rattle.keymap_text.proofs.Common.{◌≡◌, ℕ, ◌+◌, ◌%◌, ◌^◌, ◌<◌, ◌≤◌, Bool, true, false, not, List, [], ◌∷◌, map}
+use Rattle.keymap_text.proofs.Common.{length, get_or, replicate, Fits, w8, refl, sym, ap, ap₂, ◌∙◌, subst, arith, inl}
+use Rattle.keymap_text.proofs.Common.{inr, agree_below, agree_below_at, not-true, not-false, cases_eq, eq-eqb, ne_eqb}
+use Rattle.keymap_text.proofs.Common.{cond-true, cond-false, map-map, mask_l-mod, length-chunk, get_or-chunk}
+use Rattle.keymap_text.proofs.Common.{leading_from_mask_l, trailing_mask_l, length-map, prefix_len-le-length}
+use Rattle.keymap_text.proofs.Common.{prefix_len_is, prefix_len_passes, prefix_len_stops, prefix_len, leading}
+use Rattle.keymap_text.proofs.Common.{first_of_sixteen}
 use lib.Lanes.{chunk, zip2, mask_l, top}
-use Rattle.keymap_text.specs.Lexical.{leading}
-use Rattle.keymap_text.specs.Inner.Keys.{first_of_sixteen}
 
 -- vectors that were computed lane by lane from v
 zip2-map : (h : ℕ → ℕ → ℕ) (f g : ℕ → ℕ) (v : List ℕ) → zip2 h (map f v) (map g v) ≡ map (λ x. h (f x) (g x)) v

@@ -1,27 +1,22 @@
 -- The verdict of the reader's machine is what the definitions say.
-use Rattle.std.proofs.lemmas.List.{take-append-le}
-use Rattle.std.proofs.Common.{◌≡◌, ◌⊎◌, inl, inr, ℕ, Bool, true, false, cond, ap₂, zero, suc, ◌+◌, ◌≤◌, ◌==◌, length}
-use Rattle.std.proofs.Common.{take, drop, arith, count_by, List, [], ◌∷◌, ◌++◌, map, refl, sym, ◌∙◌, ap, subst, Result}
-use Rattle.std.proofs.Common.{Ok, Err, Option, Some, None}
-use Rattle.keymap_text.specs.Types.{TextFaultKind, Item, TextFault}
-use Rattle.keymap_text.specs.declared.fault.TextFaultKind.TheVariants as faults
-use Rattle.keymap_text.specs.Lexical.{TokenValue, Tokens, Ends, Stops, Then, tokens_after, front_of, Front, Skipped}
-use Rattle.keymap_text.specs.Lexical.{Refused, Unfinished, token_before}
-use Rattle.keymap_text.specs.Lexical as lexical
-use Rattle.keymap_core.specs.Maps.{MapValue}
-use Rattle.keymap_text.specs.Inner.Grammar.{GrammarState, accept, at_end, start, empty_map}
-use Rattle.keymap_text.specs.Places.{RowPlace, AtDefinition, may_end}
-use Rattle.keymap_text.specs.Rows.{Definition, IsRow}
-use Rattle.keymap_text.specs.Meaning.{line, list_of, ending_of_tokens, item_of, items, FaultInText, fault_of, Spells}
-use Rattle.keymap_text.specs.Meaning.{Fault, Early, found_in, place_after}
-use Rattle.keymap_text.specs.Inner.Judging.{judge, verdict, Verdict, Spelled, Faulty, ended}
+use Rattle.keymap_text.proofs.Common.{take-append-le, ◌≡◌, ◌⊎◌, inl, inr, ℕ, Bool, true, false, cond, ap₂, zero, suc}
+use Rattle.keymap_text.proofs.Common.{◌+◌, ◌≤◌, ◌==◌, length, take, drop, arith, count_by, List, [], ◌∷◌, ◌++◌, map}
+use Rattle.keymap_text.proofs.Common.{refl, sym, ◌∙◌, ap, subst, Result, Ok, Err, Option, Some, None, TextFaultKind}
+use Rattle.keymap_text.proofs.Common.{Item, TextFault, TokenValue, Tokens, Ends, Stops, Then, tokens_after, front_of}
+use Rattle.keymap_text.proofs.Common.{Front, Skipped, Refused, Unfinished, token_before, MapValue, GrammarState, accept}
+use Rattle.keymap_text.proofs.Common.{at_end, start, empty_map, RowPlace, AtDefinition, may_end, Definition, IsRow}
+use Rattle.keymap_text.proofs.Common.{line, list_of, ending_of_tokens, item_of, items, FaultInText, fault_of, Spells}
+use Rattle.keymap_text.proofs.Common.{Fault, Early, found_in, place_after, judge, verdict, Verdict, Spelled, Faulty}
+use Rattle.keymap_text.proofs.Common.{ended}
 use Rattle.keymap_text.proofs.Splitting.{split_one, split_skipped, split_found, split_refused, split_unfinished}
+use Rattle.keymap_text.proofs.Splitting.{split_nil}
 use Rattle.keymap_text.proofs.Prefixes.{early_from}
 use Rattle.keymap_text.proofs.Steps.{judge_then, judge_refused, judge_stops, judge_ends}
 use Rattle.keymap_text.proofs.Faults.{found_of, fault_is, same_fault}
 use Rattle.keymap_text.proofs.Folded.{puts, puts_are}
 use Rattle.keymap_text.proofs.Row.{steps, stands_after, stands_first, row_at_end, row_defined}
-use Rattle.keymap_text.proofs.Splitting.{split_nil}
+use Rattle.keymap_text.specs.declared.fault.TextFaultKind.TheVariants as faults
+use Rattle.keymap_text.specs.Lexical as lexical
 
 abbrev pub items_of : Tokens → List Item
 items_of ts = map item_of (list_of ts)

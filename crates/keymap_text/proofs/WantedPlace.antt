@@ -1,12 +1,8 @@
 -- Where tokens lead, one by one.
-use Rattle.std.proofs.Common.{◌≡◌, ℕ, List, [], ◌∷◌, Result, Ok, Err, Option, refl, sym, ◌∙◌, ap, IsErr, true≢false}
-use Rattle.keymap_text.specs.Types.{TextFaultKind, Span, Item}
+use Rattle.keymap_text.proofs.Common.{◌≡◌, ℕ, List, [], ◌∷◌, Result, Ok, Err, Option, refl, sym, ◌∙◌, ap, IsErr}
+use Rattle.keymap_text.proofs.Common.{true≢false, TextFaultKind, Span, Item, TokenValue, item_of, span_of, RowPlace}
+use Rattle.keymap_text.proofs.Common.{next, definition_behind, first_refused}
 use Rattle.keymap_text.specs.declared.wanted.DefinitionStart.{DefinitionStart}
-use Rattle.keymap_text.specs.Lexical.{TokenValue}
-use Rattle.keymap_text.specs.Meaning.{item_of}
-use Rattle.keymap_text.specs.Placed.{span_of}
-use Rattle.keymap_text.specs.Places.{RowPlace, next}
-use Rattle.keymap_text.specs.Wanted.{definition_behind, first_refused}
 
 -- behind the last token
 pub reached_end : (p : RowPlace) (d : Option DefinitionStart) (n : ℕ) (ts : List TokenValue) → ts ≡ []

@@ -50,7 +50,7 @@ closing c n bytes =
     else if slice_index bytes n == 39 then Found (Literal c) (n + 1)
     else Refused BadLiteral
 
--- the same where no character stands first, though the first n bytes may begin one
+-- where no character stands first, though the first n bytes may begin one
 abbrev pub unclosed : ℕ → List ℕ → Front
 unclosed n bytes = if length bytes == n then Unfinished else Refused BadLiteral
 

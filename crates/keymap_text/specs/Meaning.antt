@@ -90,7 +90,7 @@ Fault text f = (early : Bool) × FaultAt text f early
 abbrev pub Early : List ℕ → TextFault → Type 0
 Early text f = FaultAt text f true
 
--- the same token, but for whether the text ends after it
+-- one token, but for whether the text ends after it
 abbrev pub IsSameToken : TokenValue → TokenValue → Type 0
 IsSameToken t u = (t.kind ≡ u.kind) × (t.bytes ≡ u.bytes) × (t.start ≡ u.start)
 
@@ -99,14 +99,14 @@ abbrev pub Means : Result MapValue TextFault → List ℕ → Type 0
 Means (Ok m) text = Spells text m
 Means (Err f) text = Fault text f
 
--- the same as an error of reading
+-- with the fault as an error of reading
 abbrev pub Concludes : Result MapValue TextError → List ℕ → Type 0
 Concludes (Ok m) text = Spells text m
 Concludes (Err errors.Memory) text = ⊥
 Concludes (Err (errors.Read f)) text = ⊥
 Concludes (Err (errors.Fault f)) text = Fault text f
 
--- the same where the map may have been refused its memory
+-- where the map may have been refused its memory
 abbrev pub Reads : Result MapValue TextError → List ℕ → Type 0
 Reads (Ok m) text = Spells text m
 Reads (Err errors.Memory) text = ⊤

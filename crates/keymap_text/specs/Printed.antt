@@ -47,7 +47,7 @@ filled text = text ++ replicate (6 - length text) 32
 abbrev pub column : List ℕ → List ℕ
 column text = codes " " ++ filled text
 
--- the same without blanks behind it
+-- without blanks behind it
 abbrev pub word : List ℕ → List ℕ
 word text = codes " " ++ text
 

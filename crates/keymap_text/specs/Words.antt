@@ -76,7 +76,7 @@ sense_meaning senses.Halt = Act actions.Halt
 sense_meaning senses.PowerDown = Act actions.PowerDown
 sense_meaning senses.Paste = Act actions.Paste
 
--- the same as named, of the names as the code has them
+-- as `named` tells, of the names as the code has them
 unfoldable pub meaning_by_names : List Name → List ℕ → Option Meaning
 meaning_by_names [] w = None
 meaning_by_names (name ∷ names) w =

@@ -75,7 +75,7 @@ fn six_places(cell: &Cell) -> Option<[u8; 6]>
     }
 }
 
-/// The six places of a character, where it has no more.
+/// The text of a character, filled in this way, where it is one of ASCII.
 #[inline(always)]
 #[tactic(auto, unfolding(crate::specs::Printed::character_text))]
 fn character_places(c: char) -> Option<[u8; 6]>

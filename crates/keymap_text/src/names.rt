@@ -127,7 +127,7 @@ pub fn control_name(c: u8) -> &'static [u8]
     NAMES[place].letters()
 }
 
-/// The name of a control character, filled on the right with blanks to six places.
+/// Its name, filled on the right with blanks to six places.
 #[inline(always)]
 pub(crate) fn control_places(c: u8) -> [u8; 6]
     requires { (c < 32) ⊎ (c ≡ 127) }

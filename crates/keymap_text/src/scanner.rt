@@ -1,7 +1,6 @@
 //! Reading bytes token by token, as far as they show whole tokens. It sees bytes, and asks `token` where a token ends,
 //! `words` what it means, and `grammar` whether it may stand there. It knows neither offsets nor lines.
-ghost use Rattle.std.specs.Prelude.{◌≡◌, ℕ, ◌+◌, ◌<◌, ◌≤◌, ◌-◌, ◌^◌, length, drop, Ok, IfSome, OnOk, IfOk, IsFalse};
-ghost use Rattle.std.specs.Prelude.{IfErr, true, false};
+ghost use Rattle.std.specs.Prelude.{◌≡◌, ℕ, ◌+◌, ◌<◌, ◌≤◌, ◌-◌, ◌^◌, length, drop, Ok, IfSome, OnOk, IfOk, IsFalse, IfErr, true, false};
 ghost use Rattle.std.specs.Prelude.{slice_index};
 ghost use Rattle.keymap_core.specs.Maps.{MapValue};
 ghost use Rattle.keymap_core.specs.Numbers.{column_count};
@@ -30,7 +29,10 @@ pub(crate) struct Stop {
     pub(crate) at: usize,
 }
 
-/// Where the scanner stops, told behind n bytes more.
+/// How many bytes were taken, or why they are refused.
+pub(crate) type Taken = Result<usize, Stop>;
+
+/// A fault behind n bytes more.
 #[inline(always)]
 pub(crate) fn behind(n: usize, stop: Stop) -> Stop
     requires { n + stop.at < 2 ^ 64 }
@@ -60,8 +62,8 @@ fn front_name(rest: &[u8]) -> Option<(Item, usize)>
     }
 }
 
-/// The token in front, if it is a short number. Most numbers of more than three digits are four hexadecimal ones, so
-/// these are read before the word is measured.
+/// The number in front, and how many bytes it has, if it is short. Most numbers of more than three digits are four
+/// hexadecimal ones, so these are read before the word is measured.
 #[inline(always)]
 fn front_number(rest: &[u8]) -> Option<(Item, usize)>
     requires some { 0 < length rest.now }
@@ -143,11 +145,7 @@ fn close_in_front(rest: &[u8]) -> usize
 /// Takes the whole tokens in front. Answers how many bytes were taken: all, but for a token or a comment that the bytes
 /// break off.
 #[inline(always)]
-pub(crate) fn scan<D: Definitions>(
-    grammar: &mut Grammar,
-    into: &mut D,
-    bytes: &[u8],
-) -> Result<usize, Stop>
+pub(crate) fn scan<D: Definitions>(grammar: &mut Grammar, into: &mut D, bytes: &[u8]) -> Taken
     requires { IsPlace grammar.old.place grammar.old.accent }
     ensures takes { Takes D.shows into.old into.new result grammar.old grammar.new bytes.now }
     ensures leaves { Leaves result grammar.new bytes.now }
@@ -167,7 +165,7 @@ pub(crate) fn scan<D: Definitions>(
 /// Takes as much in front as is seen at once, and else what stands in front. Answers how many bytes were taken, and 0
 /// where no whole token is in front.
 #[inline(always)]
-fn step<D: Definitions>(grammar: &mut Grammar, into: &mut D, rest: &[u8]) -> Result<usize, Stop>
+fn step<D: Definitions>(grammar: &mut Grammar, into: &mut D, rest: &[u8]) -> Taken
     requires place { IsPlace grammar.old.place grammar.old.accent }
     requires some { 0 < length rest.now }
     ensures takes { Takes D.shows into.old into.new result grammar.old grammar.new rest.now }
@@ -183,7 +181,7 @@ fn step<D: Definitions>(grammar: &mut Grammar, into: &mut D, rest: &[u8]) -> Res
 
 /// Takes blanks and what is behind them, as far as that is the end of a line or whole tokens.
 #[inline(always)]
-fn quick<D: Definitions>(grammar: &mut Grammar, into: &mut D, rest: &[u8]) -> Result<usize, Stop>
+fn quick<D: Definitions>(grammar: &mut Grammar, into: &mut D, rest: &[u8]) -> Taken
     requires place { IsPlace grammar.old.place grammar.old.accent }
     ensures takes { Takes D.shows into.old into.new result grammar.old grammar.new rest.now }
     ensures leaves { Leaves result grammar.new rest.now }
@@ -200,11 +198,7 @@ fn quick<D: Definitions>(grammar: &mut Grammar, into: &mut D, rest: &[u8]) -> Re
 
 /// Takes the end of a line in front, or a whole token, and the cells where these are wanted then.
 #[inline(always)]
-fn after_spaces<D: Definitions>(
-    grammar: &mut Grammar,
-    into: &mut D,
-    rest: &[u8],
-) -> Result<usize, Stop>
+fn after_spaces<D: Definitions>(grammar: &mut Grammar, into: &mut D, rest: &[u8]) -> Taken
     requires place { IsPlace grammar.old.place grammar.old.accent }
     requires some { 0 < length rest.now }
     ensures takes { Takes D.shows into.old into.new result grammar.old grammar.new rest.now }
@@ -226,11 +220,7 @@ fn after_spaces<D: Definitions>(
 /// Takes the pair or the whole token in front, unless a cell is wanted. Answers how many bytes it has, and 0 where
 /// nothing was taken.
 #[inline(always)]
-fn before_cells<D: Definitions>(
-    grammar: &mut Grammar,
-    into: &mut D,
-    rest: &[u8],
-) -> Result<usize, Stop>
+fn before_cells<D: Definitions>(grammar: &mut Grammar, into: &mut D, rest: &[u8]) -> Taken
     requires place { IsPlace grammar.old.place grammar.old.accent }
     requires some { 0 < length rest.now }
     ensures takes { Takes D.shows into.old into.new result grammar.old grammar.new rest.now }
@@ -307,7 +297,7 @@ fn cells<D: Definitions>(
     slot: u8,
     first: u8,
     rest: &[u8],
-) -> Result<usize, Stop>
+) -> Taken
     requires place { grammar.old.place ≡ Place.Cell slot first }
     requires index { first < column_count }
     ensures takes { Takes D.shows into.old into.new result grammar.old grammar.new rest.now }
@@ -373,7 +363,7 @@ fn line_end(rest: &[u8]) -> usize
 /// Takes the cell in front and the blanks before it, but for the place. Answers how many bytes these have, and 0 where
 /// the bytes show none that is whole.
 #[inline(always)]
-fn next_cell(grammar: &mut Grammar, index: u8, rest: &[u8]) -> Result<usize, Stop>
+fn next_cell(grammar: &mut Grammar, index: u8, rest: &[u8]) -> Taken
     requires { index < column_count }
     ensures took { TookCell result grammar.old grammar.new index rest.now }
     ensures fits { Fits result rest.now }
@@ -396,7 +386,7 @@ fn next_cell(grammar: &mut Grammar, index: u8, rest: &[u8]) -> Result<usize, Sto
 
 /// Takes the whole token in front. Answers how many bytes it has, and 0 where it isn't seen at once.
 #[inline(always)]
-fn token<D: Definitions>(grammar: &mut Grammar, into: &mut D, rest: &[u8]) -> Result<usize, Stop>
+fn token<D: Definitions>(grammar: &mut Grammar, into: &mut D, rest: &[u8]) -> Taken
     requires place { IsPlace grammar.old.place grammar.old.accent }
     requires some { 0 < length rest.now }
     ensures takes { Takes D.shows into.old into.new result grammar.old grammar.new rest.now }
@@ -413,7 +403,7 @@ fn token<D: Definitions>(grammar: &mut Grammar, into: &mut D, rest: &[u8]) -> Re
 
 /// Takes the blank, comment or token in front. Answers how many bytes it has, and 0 where the bytes break it off.
 #[inline(never)]
-fn other<D: Definitions>(grammar: &mut Grammar, into: &mut D, rest: &[u8]) -> Result<usize, Stop>
+fn other<D: Definitions>(grammar: &mut Grammar, into: &mut D, rest: &[u8]) -> Taken
     requires place { IsPlace grammar.old.place grammar.old.accent }
     requires some { 0 < length rest.now }
     ensures takes { Takes D.shows into.old into.new result grammar.old grammar.new rest.now }
@@ -444,11 +434,7 @@ fn is_whole(kind: TokenKind, size: usize, rest: &[u8]) -> bool
 }
 
 /// Takes the token in front. Answers how many bytes it has, and 0 where the bytes break it off.
-pub(crate) fn next<D: Definitions>(
-    grammar: &mut Grammar,
-    into: &mut D,
-    rest: &[u8],
-) -> Result<usize, Stop>
+pub(crate) fn next<D: Definitions>(grammar: &mut Grammar, into: &mut D, rest: &[u8]) -> Taken
     requires place { IsPlace grammar.old.place grammar.old.accent }
     requires some { 0 < length rest.now }
     requires stands { IsFalse (separates (slice_index rest.now 0)) }

@@ -194,7 +194,7 @@ pub(crate) fn short_word_len(bytes: &[u8]) -> usize
     }
 }
 
-/// The length of a word of less than 16 bytes, where few bytes are left.
+/// That number where few bytes are left.
 #[inline(never)]
 fn short_word_len_at_end(bytes: &[u8]) -> usize
     ensures { result < 16 → (result < length bytes.now) × (result ≡ leading is_word bytes.now) }
@@ -219,7 +219,7 @@ pub fn word_len(bytes: &[u8]) -> usize
     all_word_len(bytes)
 }
 
-/// The length of the word in front, byte by byte.
+/// That number, byte by byte.
 #[inline(never)]
 #[tactic(auto, using(crate::proofs::Leading::leading_rules))]
 fn all_word_len(bytes: &[u8]) -> usize
@@ -323,7 +323,7 @@ pub(crate) fn literal_front(bytes: &[u8]) -> Front
     }
 }
 
-/// The quoted character in front. A printable byte of ASCII and an apostrophe are seen at once.
+/// The quoted character whose bytes these are; a printable byte of ASCII and an apostrophe are seen at once.
 #[inline(always)]
 fn quoted_front(bytes: &[u8]) -> Front
     ensures value { front_view result ≡ literal bytes.now }

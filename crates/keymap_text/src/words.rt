@@ -77,7 +77,7 @@ fn long_number_of(base: u8, digits: &[u8]) -> Option<u128>
     Some(n)
 }
 
-/// The number of few digits; none where there are no bytes or one of them is no digit.
+/// The number that few digits spell; none where there are no bytes or one of them is no digit.
 #[inline(always)]
 fn short_number_of(base: u8, digits: &[u8]) -> Option<u64>
     requires base { base ≤ 16 }

@@ -32,10 +32,10 @@ abbrev pub Took : {D : Type 0} → (D → MapValue → Type 0) → D → Result 
 Took shows d (Ok n) s p rest = (m : MapValue) × shows d m × Advances s (at m p) rest n
 Took shows d (Err e) s p rest = Refuses s rest e.kind e.at
 
--- the same whatever map it showed
-abbrev pub Takes : {D : Type 0} → (D → MapValue → Type 0) → D → D → Result ℕ Stop → Grammar → Grammar → List ℕ → Type 0
-Takes shows d d' r g g' rest =
-    (m : MapValue) → shows d m → Took shows d' r (at m (grammar_view g)) (grammar_view g') rest
+-- whatever map it showed
+pub record Takes {D : Type 0} (shows : D → MapValue → Type 0) (d d' : D) (r : Result ℕ Stop) (g g' : Grammar)
+    (rest : List ℕ) : Type 0 where
+  pub took : (m : MapValue) → shows d m → Took shows d' r (at m (grammar_view g)) (grammar_view g') rest
 
 -- no more bytes than there are
 abbrev pub Fits : Result ℕ Stop → List ℕ → Type 0

@@ -1,6 +1,4 @@
-use Rattle.std.proofs.Common.{take, refl, sym, subst, arith}
-use Rattle.std.proofs.lemmas.List.{take_all, take_more}
-use Rattle.keymap_text.specs.Inner.LastOf.{HasLast}
+use Rattle.keymap_text.proofs.Common.{take, refl, sym, subst, arith, take_all, take_more, HasLast}
 use Rattle.keymap_text.proofs.LastOf.{none_yet, all_slots, all_accents}
 use Rattle.keymap_text.proofs.last.last_definitions.Goals as goal
 

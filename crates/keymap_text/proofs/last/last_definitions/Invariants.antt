@@ -1,5 +1,4 @@
-use Rattle.std.proofs.Common.{take}
-use Rattle.keymap_text.specs.Inner.LastOf.{HasLast}
+use Rattle.keymap_text.proofs.Common.{take, HasLast}
 use Rattle.keymap_text.proofs.last.last_definitions.Given as goal
 
 -- the last ones of those that were passed

@@ -1,4 +1,4 @@
-use Rattle.std.proofs.Common.{arith}
+use Rattle.keymap_text.proofs.Common.{arith}
 use Rattle.keymap_text.proofs.LastOf.{accent_put, accent_left}
 use Rattle.keymap_text.proofs.last.put_accent.Goals as goal
 

@@ -1,4 +1,4 @@
-use Rattle.std.proofs.Common.{arith}
+use Rattle.keymap_text.proofs.Common.{arith}
 use Rattle.keymap_text.proofs.LastOf.{slot_put}
 use Rattle.keymap_text.proofs.last.put_slot.Goals as goal
 

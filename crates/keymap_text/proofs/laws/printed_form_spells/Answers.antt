@@ -1,4 +1,4 @@
-use Rattle.keymap_text.specs.Printed.{printed}
+use Rattle.keymap_text.proofs.Common.{printed}
 use Rattle.keymap_text.proofs.Printing.{printed_spells}
 use Rattle.keymap_text.proofs.Verdicts.{one_map, not_both}
 use Rattle.keymap_text.proofs.laws.printed_form_spells.Goals as goal

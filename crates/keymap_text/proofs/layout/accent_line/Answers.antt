@@ -1,5 +1,4 @@
-use Rattle.std.proofs.Common.{append_assoc}
-use Rattle.keymap_text.specs.Printed.{accent_words, accent_line}
+use Rattle.keymap_text.proofs.Common.{append_assoc, accent_words, accent_line}
 use Rattle.keymap_text.proofs.layout.accent_line.Goals as goal
 
 pub returns : goal.returns

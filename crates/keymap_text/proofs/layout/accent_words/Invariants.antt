@@ -1,6 +1,5 @@
-use Rattle.std.proofs.Common.{◌≡◌, ◌≤◌, ◌+◌, ◌*◌, ◌++◌, ◌∷◌, length, take}
-use Rattle.std.specs.List.{flat_map}
-use Rattle.keymap_text.specs.Printed.{accent_name, character_text, pair_text}
+use Rattle.keymap_text.proofs.Common.{◌≡◌, ◌≤◌, ◌+◌, ◌*◌, ◌++◌, ◌∷◌, length, take, flat_map, accent_name}
+use Rattle.keymap_text.proofs.Common.{character_text, pair_text}
 use Rattle.keymap_text.proofs.layout.accent_words.Given as goal
 
 abbrev pub invariant-loop-base : goal.invariant-loop-base

@@ -1,6 +1,4 @@
-use Rattle.std.proofs.Common.{◌≡◌, ◌≤◌, ◌+◌, ◌*◌, ◌++◌, length, take}
-use Rattle.std.specs.List.{flat_map}
-use Rattle.keymap_text.specs.Printed.{slot_text, column, cell_text}
+use Rattle.keymap_text.proofs.Common.{◌≡◌, ◌≤◌, ◌+◌, ◌*◌, ◌++◌, length, take, flat_map, slot_text, column, cell_text}
 use Rattle.keymap_text.proofs.layout.key_line.Given as goal
 
 abbrev pub invariant-loop-cell : goal.invariant-loop-cell

@@ -1,6 +1,5 @@
-use Rattle.std.proofs.Common.{◌≡◌, ◌≤◌, ◌+◌, ◌*◌, ◌++◌, length, take}
-use Rattle.std.specs.List.{flat_map}
-use Rattle.keymap_text.specs.Printed.{slot_text, word, cell_text}
+use Rattle.keymap_text.proofs.Common.{◌≡◌, ◌≤◌, ◌+◌, ◌*◌, ◌++◌, length, take, flat_map, slot_text, cell_text}
+use Rattle.keymap_text.specs.Printed.{word}
 use Rattle.keymap_text.proofs.layout.slot_words.Given as goal
 
 abbrev pub invariant-loop-cell : goal.invariant-loop-cell

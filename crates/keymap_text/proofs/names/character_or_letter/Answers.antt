@@ -1,4 +1,4 @@
-use Rattle.std.proofs.Common.{◌∙◌}
+use Rattle.keymap_text.proofs.Common.{◌∙◌}
 use Rattle.keymap_text.proofs.Meanings.{look_in_table}
 use Rattle.keymap_text.proofs.names.character_or_letter.Goals as goal
 

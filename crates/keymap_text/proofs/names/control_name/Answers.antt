@@ -1,6 +1,4 @@
-use Rattle.std.proofs.Common.{ℕ, List, ◌≤◌, length, get_or, ap, sym, subst, ◌∙◌}
-use Rattle.keymap_text.specs.Words.{letters}
-use Rattle.keymap_text.specs.declared.names.TheConstants.{NAMES}
+use Rattle.keymap_text.proofs.Common.{ℕ, List, ◌≤◌, length, get_or, ap, sym, subst, ◌∙◌, letters, NAMES}
 use Rattle.keymap_text.proofs.ControlNames.{control_letters, short_name}
 use Rattle.keymap_text.proofs.names.control_name.Goals as goal
 

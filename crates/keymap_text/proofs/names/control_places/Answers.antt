@@ -1,5 +1,4 @@
-use Rattle.std.proofs.Common.{get_or, ap, ◌∙◌}
-use Rattle.keymap_text.specs.declared.names.TheConstants.{NAMES}
+use Rattle.keymap_text.proofs.Common.{get_or, ap, ◌∙◌, NAMES}
 use Rattle.keymap_text.proofs.ControlNames.{six_of, control_six}
 use Rattle.keymap_text.proofs.names.control_places.Goals as goal
 

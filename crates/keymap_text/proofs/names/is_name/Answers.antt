@@ -1,5 +1,4 @@
-use Rattle.std.proofs.Common.{ℕ, List, ap, ◌∙◌}
-use Rattle.keymap_text.specs.Words.{same_name}
+use Rattle.keymap_text.proofs.Common.{ℕ, List, ap, ◌∙◌, same_name}
 use Rattle.keymap_text.proofs.names.is_name.Goals as goal
 
 pub returns : goal.returns

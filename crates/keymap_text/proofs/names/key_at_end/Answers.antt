@@ -1,8 +1,5 @@
-use Rattle.std.proofs.Common.{ℕ, List, ◌≡◌, ◌≤◌, ◌∷◌, ◌++◌, [], take, get_or, map, sym, ap, subst, ◌∙◌, arith}
-use Rattle.std.proofs.lemmas.List.{take_more_set, take_more, length-set}
-use Rattle.std.specs.Char.{to_ascii_lowercase}
-use Rattle.keymap_text.specs.Lexical.{is_word}
-use Rattle.keymap_text.specs.Inner.Keys.{pack}
+use Rattle.keymap_text.proofs.Common.{ℕ, List, ◌≡◌, ◌≤◌, ◌∷◌, ◌++◌, [], take, get_or, map, sym, ap, subst, ◌∙◌, arith}
+use Rattle.keymap_text.proofs.Common.{take_more_set, take_more, length-set, to_ascii_lowercase, is_word, pack}
 use Rattle.keymap_text.proofs.Leading.{leading_same}
 use Rattle.keymap_text.proofs.names.key_at_end.Goals as goal
 

@@ -1,4 +1,4 @@
-use Rattle.std.proofs.Common.{length, ◌-◌, ◌≡◌, ◌≤◌, take}
+use Rattle.keymap_text.proofs.Common.{length, ◌-◌, ◌≡◌, ◌≤◌, take}
 use Rattle.keymap_text.proofs.names.key_at_end.Given as goal
 
 abbrev pub invariant-loop-i : goal.invariant-loop-i

@@ -1,5 +1,4 @@
-use Rattle.std.proofs.Common.{arith}
-use Rattle.keymap_text.specs.Lexical.{is_word}
+use Rattle.keymap_text.proofs.Common.{arith, is_word}
 use Rattle.keymap_text.proofs.Leading.{leading_le}
 use Rattle.keymap_text.proofs.names.key_of.Goals as goal
 

@@ -1,6 +1,5 @@
-use Rattle.std.proofs.Common.{◌<◌, length, subst}
+use Rattle.keymap_text.proofs.Common.{◌<◌, length, subst, MatchOption}
 use Rattle.std.specs.Array.{IsFirstChunk}
-use Rattle.std.specs.Option.{MatchOption}
 use Rattle.keymap_text.proofs.Keys.{packed_front}
 use Rattle.keymap_text.proofs.names.key_of_eight.Goals as goal
 

@@ -1,6 +1,4 @@
-use Rattle.std.proofs.Common.{length, ◌-◌, ◌≡◌, ◌+◌, ◌≤◌, drop}
-use Rattle.keymap_text.specs.Lexical.{leading}
-use Rattle.keymap_text.specs.Words.{is_letter}
+use Rattle.keymap_text.proofs.Common.{length, ◌-◌, ◌≡◌, ◌+◌, ◌≤◌, drop, leading, is_letter}
 use Rattle.keymap_text.proofs.names.name_len.Given as goal
 
 abbrev pub invariant-loop-i : goal.invariant-loop-i

@@ -1,4 +1,4 @@
-use Rattle.std.proofs.Common.{arith, Some}
+use Rattle.keymap_text.proofs.Common.{arith, Some}
 use Rattle.keymap_text.proofs.Meanings.{names_true, names_placed, some_means}
 use Rattle.keymap_text.proofs.names.name_meaning.Goals as goal
 

@@ -1,4 +1,4 @@
-use Rattle.std.proofs.Common.{arith}
+use Rattle.keymap_text.proofs.Common.{arith}
 use Rattle.keymap_text.proofs.Meanings.{function_means, screen_means}
 use Rattle.keymap_text.proofs.names.numbered_meaning.Goals as goal
 

@@ -1,8 +1,5 @@
-use Rattle.std.proofs.Common.{◌≡◌, ℕ, ◌+◌, ◌++◌, All, subst, map, vec_len, refl, sym, ◌∙◌, ap, append-nil}
-use Rattle.keymap_text.specs.Tokens.{token_view}
-use Rattle.keymap_text.specs.Meaning.{tokens}
-use Rattle.keymap_text.specs.Placed.{span_of, StandsAmong}
-use Rattle.keymap_text.specs.Inner.Placed.{begun, tokens_from}
+use Rattle.keymap_text.proofs.Common.{◌≡◌, ℕ, ◌+◌, ◌++◌, All, subst, map, vec_len, refl, sym, ◌∙◌, ap, append-nil}
+use Rattle.keymap_text.proofs.Common.{token_view, tokens, span_of, StandsAmong, begun, tokens_from}
 use Rattle.keymap_text.proofs.Placing.{spans_on, begun_on, begun_none}
 use Rattle.keymap_text.proofs.RowPlaces.{spelled_by}
 use Rattle.keymap_text.proofs.placed.definitions.Goals as goal

@@ -1,7 +1,5 @@
-use Rattle.std.proofs.Common.{◌≡◌, All, ◌≤◌, ◌++◌, ◌-◌, length, map, vec_len}
-use Rattle.keymap_text.specs.Meaning.{tokens}
-use Rattle.keymap_text.specs.Placed.{span_of, StandsAmong}
-use Rattle.keymap_text.specs.Inner.Placed.{begun, tokens_from}
+use Rattle.keymap_text.proofs.Common.{◌≡◌, All, ◌≤◌, ◌++◌, ◌-◌, length, map, vec_len, tokens, span_of, StandsAmong}
+use Rattle.keymap_text.proofs.Common.{begun, tokens_from}
 use Rattle.keymap_text.proofs.placed.definitions.Given as goal
 
 -- what was found so far, and what is in the tokens to come, are what is in the text

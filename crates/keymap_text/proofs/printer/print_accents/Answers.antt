@@ -1,8 +1,5 @@
-use Rattle.std.proofs.Common.{rules, arith, ◌≡◌, ℕ, List, length, ap, sym, ◌∙◌}
-use Rattle.std.specs.Prelude.{slice_index_or, option_copied}
-use Rattle.keymap_core.specs.Accents.{blank}
-use Rattle.keymap_core.proofs.Gathering.{Gathers-same, StopsIn-more, passed_on}
-use Rattle.keymap_text.specs.Printed.{accent_line}
+use Rattle.keymap_text.proofs.Common.{rules, arith, ◌≡◌, ℕ, List, length, ap, sym, ◌∙◌, slice_index_or, option_copied}
+use Rattle.keymap_text.proofs.Common.{blank, Gathers-same, StopsIn-more, passed_on, accent_line}
 use Rattle.keymap_text.proofs.Pieces.{lines-next, lines-cut, element_is}
 use Rattle.keymap_text.proofs.printer.print_accents.Goals as goal
 

@@ -1,9 +1,5 @@
-use Rattle.std.proofs.Common.{◌≡◌, ℕ, ◌≤◌, ◌+◌, ◌*◌, ◌++◌, List, slice_index_or}
-use Rattle.std.specs.Prelude.{Option}
-use Rattle.std.specs.List.{flat_map, range_with_len}
-use Rattle.keymap_core.specs.Streams.{Gathers, size_of}
-use Rattle.keymap_core.specs.Accents.{blank}
-use Rattle.keymap_text.specs.Printed.{accent_line}
+use Rattle.keymap_text.proofs.Common.{◌≡◌, ℕ, ◌≤◌, ◌+◌, ◌*◌, ◌++◌, List, slice_index_or, Option, flat_map}
+use Rattle.keymap_text.proofs.Common.{range_with_len, Gathers, size_of, blank, accent_line}
 use Rattle.keymap_text.proofs.printer.print_accents.Given as goal
 
 -- The lines of the accents so far were pushed, and the writer hasn't failed in this call.

@@ -1,7 +1,5 @@
-use Rattle.std.proofs.Common.{rules, arith, ◌≡◌, ℕ, List, length, ap, ◌∙◌}
-use Rattle.keymap_core.specs.Maps.{entry_at}
-use Rattle.keymap_core.proofs.Gathering.{Gathers-same, StopsIn-more, passed_on}
-use Rattle.keymap_text.specs.Printed.{key_line}
+use Rattle.keymap_text.proofs.Common.{rules, arith, ◌≡◌, ℕ, List, length, ap, ◌∙◌, entry_at, Gathers-same, StopsIn-more}
+use Rattle.keymap_text.proofs.Common.{passed_on, key_line}
 use Rattle.keymap_text.proofs.Pieces.{lines-next, lines-cut}
 use Rattle.keymap_text.proofs.printer.print_keys.Goals as goal
 

@@ -1,9 +1,5 @@
-use Rattle.std.proofs.Common.{◌≡◌, ℕ, ◌≤◌, ◌+◌, ◌*◌, ◌++◌, List}
-use Rattle.std.specs.Prelude.{Option}
-use Rattle.std.specs.List.{flat_map, range_with_len}
-use Rattle.keymap_core.specs.Streams.{Gathers, size_of}
-use Rattle.keymap_core.specs.Maps.{entry_at}
-use Rattle.keymap_text.specs.Printed.{key_line}
+use Rattle.keymap_text.proofs.Common.{◌≡◌, ℕ, ◌≤◌, ◌+◌, ◌*◌, ◌++◌, List, Option, flat_map, range_with_len, Gathers}
+use Rattle.keymap_text.proofs.Common.{size_of, entry_at, key_line}
 use Rattle.keymap_text.proofs.printer.print_keys.Given as goal
 
 -- The lines of the slots so far were pushed, and the writer hasn't failed in this call.

@@ -1,5 +1,4 @@
-use Rattle.std.proofs.Common.{refl, sym, append-nil}
-use Rattle.keymap_core.proofs.Gathering.{Gathers-start, StopsIn-more, passed_on}
+use Rattle.keymap_text.proofs.Common.{refl, sym, append-nil, Gathers-start, StopsIn-more, passed_on}
 use Rattle.keymap_text.proofs.printer.print_map.Goals as goal
 
 pub returns-in_err-print_keys-clause-bytes : goal.returns-in_err-print_keys-clause-bytes

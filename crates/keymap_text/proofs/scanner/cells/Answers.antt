@@ -1,12 +1,9 @@
-use Rattle.std.proofs.Common.{◌+◌, refl, sym, ◌∙◌, ap, subst, arith, Ok}
-use Rattle.keymap_text.specs.declared.grammar.Grammar.{Grammar}
+use Rattle.keymap_text.proofs.Common.{◌≡◌, ◌+◌, ℕ, List, refl, sym, ◌∙◌, ap, subst, arith, Ok, Grammar, MapValue}
+use Rattle.keymap_text.proofs.Common.{GrammarState, at, Advances, Refuses, Takes, place_view, grammar_view}
+use Rattle.keymap_text.proofs.Rows.{is_cell, is_lock, next_place}
+use Rattle.keymap_text.proofs.Scanning.{stays, advances_on, refuses_on, takes_on, takes_same}
 use Rattle.keymap_text.specs.declared.grammar.Place.TheVariants as places
 use Rattle.keymap_text.specs.Inner.Grammar as spec
-use Rattle.keymap_text.specs.Inner.Grammar.{at}
-use Rattle.keymap_text.specs.Inner.Scanning.{Advances, Refuses, Takes}
-use Rattle.keymap_text.specs.Inner.Views.{place_view}
-use Rattle.keymap_text.proofs.Rows.{is_cell, is_lock, next_place}
-use Rattle.keymap_text.proofs.Scanning.{stays, advances_on, refuses_on, takes_on}
 use Rattle.keymap_text.proofs.scanner.cells.Goals as goal
 
 pub loop-index-init : goal.loop-index-init
@@ -38,38 +35,46 @@ loop-index-preserved g c =
           (c.in-Ok.ensures.took.some (omega (arith, c.in-Ok.n-test)) m slot));
     }
 
+-- the cells so far, from the place where the first of them is wanted
+so_far : (m : MapValue) (slot first : ℕ) (r : Grammar) (s : GrammarState) (rest : List ℕ) (n : ℕ)
+    → r.place ≡ places.Cell slot first → Advances (at m (spec.CellAt slot first r.entry)) s rest n
+    → Advances (at m (grammar_view r)) s rest n
+so_far m slot first r s rest n place a =
+    subst (λ p. Advances (at m (place_view p r.entry r.accent)) s rest n) (sym place) a
+
 pub returns-in-Err-clause-takes : goal.returns-in-Err-clause-takes
-returns-in-Err-clause-takes g c = λ m h.
+returns-in-Err-clause-takes g c =
     let l = c.loop-index in
     let slot = c.args.slot in
     let rest = c.args.rest.now in
     let r = c.args.grammar.now in
-    let first = spec.CellAt slot c.args.first r.entry in
-    subst (λ p. Refuses (at m (place_view p r.entry r.accent)) rest c.behind.result.kind c.behind.result.at)
-    (sym c.requires.place)
-    (subst (λ f. Refuses (at m first) rest f c.behind.result.at) (sym c.behind.ensures.kind)
-    (refuses_on (at m first) _ rest _ l.taken c.in-Err.stop.at c.behind.result.at c.in-Err.stop.kind
-    (subst (λ p. Advances (at m first) (at m p) rest l.taken)
-    (sym (is_cell slot l.index l.grammar.entry c.loop-index-test.true)) (l.invariant.taken m)) refl
-    (c.in-Err.ensures.took m slot) c.behind.ensures.at))
+    record {
+      took = λ m h.
+          subst (λ f. Refuses (at m (grammar_view r)) rest f c.behind.result.at) (sym c.behind.ensures.kind)
+          (refuses_on (at m (grammar_view r)) _ rest _ l.taken c.in-Err.stop.at c.behind.result.at c.in-Err.stop.kind
+          (so_far m slot c.args.first r _ rest l.taken c.requires.place
+          (subst (λ p. Advances (at m (spec.CellAt slot c.args.first r.entry)) (at m p) rest l.taken)
+          (sym (is_cell slot l.index l.grammar.entry c.loop-index-test.true)) (l.invariant.taken m))) refl
+          (c.in-Err.ensures.took m slot) c.behind.ensures.at);
+    }
 
 pub returns-in-Ok-eq0-clause-takes : goal.returns-in-Ok-eq0-clause-takes
-returns-in-Ok-eq0-clause-takes g c = λ m h.
+returns-in-Ok-eq0-clause-takes g c =
     let l = c.loop-index in
     let slot = c.args.slot in
     let rest = c.args.rest.now in
     let r = c.args.grammar.now in
-    let first = spec.CellAt slot c.args.first r.entry in
-    let new = c.next_cell.new.grammar in
-    let same = c.in-Ok-eq0.ensures.took.none c.in-Ok-eq0.field-0-test in (
-      m,
-      h,
-      subst (λ p. Advances (at m (place_view p r.entry r.accent)) (at m (spec.CellAt slot l.index new.entry)) rest
-          l.taken) (sym c.requires.place)
-          (subst (λ p. Advances (at m first) (at m p) rest l.taken)
-          (sym (is_cell slot l.index l.grammar.entry c.loop-index-test.true)
-          ∙ ap (λ (n : Grammar). spec.CellAt slot l.index n.entry) (sym same)) (l.invariant.taken m)),
-    )
+    let same = c.in-Ok-eq0.ensures.took.none c.in-Ok-eq0.field-0-test in
+    record {
+      took = λ m h. (
+        m,
+        h,
+        so_far m slot c.args.first r _ rest l.taken c.requires.place
+            (subst (λ p. Advances (at m (spec.CellAt slot c.args.first r.entry)) (at m p) rest l.taken)
+            (sym (is_cell slot l.index l.grammar.entry c.loop-index-test.true)
+            ∙ ap (λ (n : Grammar). spec.CellAt slot l.index n.entry) (sym same)) (l.invariant.taken m)),
+      );
+    }
 
 pub returns-clause-takes : goal.returns-clause-takes
 returns-clause-takes g c =
@@ -77,21 +82,16 @@ returns-clause-takes g c =
     let slot = c.args.slot in
     let rest = c.args.rest.now in
     let r = c.args.grammar.now in
-    let shows = g.D.Definitions.shows in
-    let first = spec.CellAt slot c.args.first r.entry in
     let locked : Grammar =
     record { place = places.Lock slot; entry = l.grammar.entry; accent = l.grammar.accent } in
-    let before : Takes shows c.args.into.now c.args.into.now (Ok l.taken) r locked rest = λ m h. (
-      m,
-      h,
-      subst (λ p. Advances (at m (place_view p r.entry r.accent)) (at m (spec.LockAt slot l.grammar.entry)) rest
-          l.taken) (sym c.requires.place)
-          (subst (λ p. Advances (at m first) (at m p) rest l.taken)
-          (sym (is_lock slot l.index l.grammar.entry (omega (arith, l.invariant.index, c.loop-index-test.false))))
-          (l.invariant.taken m)),
-    ) in
-    let lettered = takes_on shows c.args.into.now c.args.into.now c.letter-lettered.new.into r locked
-    c.letter-lettered.new.grammar rest _ l.taken c.letter-lettered.result before refl c.letter-lettered.ensures.takes in
-    takes_on shows c.args.into.now c.letter-lettered.new.into c.letter-lettered.new.into r
-    c.letter-lettered.new.grammar c.letter-lettered.new.grammar rest _ (l.taken + c.letter-lettered.result)
-    c.line_end.result lettered refl (λ m h. (m, h, c.line_end.ensures.advances _))
+    let before : Takes g.D.Definitions.shows c.args.into.now c.args.into.now (Ok l.taken) r locked rest = record {
+      took = λ m h. (
+        m,
+        h,
+        so_far m slot c.args.first r _ rest l.taken c.requires.place
+            (subst (λ p. Advances (at m (spec.CellAt slot c.args.first r.entry)) (at m p) rest l.taken)
+            (sym (is_lock slot l.index l.grammar.entry (omega (arith, l.invariant.index, c.loop-index-test.false))))
+            (l.invariant.taken m)),
+      );
+    } in
+    takes_on (takes_on before refl c.letter-lettered.ensures.takes) refl (takes_same c.line_end.ensures.advances)

@@ -1,9 +1,6 @@
-use Rattle.std.proofs.Common.{◌≤◌, ◌-◌, length}
-use Rattle.keymap_core.specs.Maps.{MapValue}
-use Rattle.keymap_text.specs.Inner.Grammar as spec
-use Rattle.keymap_text.specs.Inner.Grammar.{at}
-use Rattle.keymap_text.specs.Inner.Scanning.{Advances}
+use Rattle.keymap_text.proofs.Common.{◌≤◌, ◌-◌, length, MapValue, at, Advances}
 use Rattle.keymap_text.proofs.Rows.{cell_place}
+use Rattle.keymap_text.specs.Inner.Grammar as spec
 use Rattle.keymap_text.proofs.scanner.cells.Given as goal
 
 abbrev pub invariant-loop-index : goal.invariant-loop-index

@@ -1,4 +1,4 @@
-use Rattle.std.proofs.Common.{sym, refl}
+use Rattle.keymap_text.proofs.Common.{sym, refl}
 use Rattle.keymap_text.proofs.scanner.character_in_front.Goals as goal
 
 pub returns-in-Ok : goal.returns-in-Ok

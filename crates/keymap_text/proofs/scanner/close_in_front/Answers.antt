@@ -1,4 +1,4 @@
-use Rattle.std.proofs.Common.{sym, ◌∙◌, refl}
+use Rattle.keymap_text.proofs.Common.{sym, ◌∙◌, refl}
 use Rattle.keymap_text.proofs.Fronts.{right_fronts}
 use Rattle.keymap_text.proofs.Scanning.{behind_some, behind_first}
 use Rattle.keymap_text.proofs.scanner.close_in_front.Goals as goal

@@ -1,6 +1,5 @@
-use Rattle.std.proofs.Common.{sym, subst, arith}
+use Rattle.keymap_text.proofs.Common.{sym, subst, arith, Fronts}
 use Rattle.keymap_text.specs.declared.words.Item.TheVariants.{Value}
-use Rattle.keymap_text.specs.Inner.Scanning.{Fronts}
 use Rattle.keymap_text.proofs.Fronts.{word_fronts}
 use Rattle.keymap_text.proofs.scanner.front_number.Goals as goal
 

@@ -1,6 +1,4 @@
-use Rattle.std.proofs.Common.{◌∙◌, ap, sym, arith, eqb-true}
-use Rattle.keymap_text.specs.Inner.Grammar.{at, accept}
-use Rattle.keymap_text.specs.Inner.Views.{grammar_view}
+use Rattle.keymap_text.proofs.Common.{◌∙◌, ap, sym, arith, eqb-true, at, accept, grammar_view}
 use Rattle.keymap_text.proofs.Scanning.{not_none}
 use Rattle.keymap_text.proofs.Tails.{end_none, end_comment, end_word, end_refused, end_quote, open_not_refused}
 use Rattle.keymap_text.proofs.Tails.{open_stands, open_few}

@@ -1,30 +1,30 @@
-use Rattle.std.proofs.Common.{◌+◌, sym, subst, arith}
-use Rattle.keymap_core.specs.Maps.{with_entry}
-use Rattle.keymap_text.specs.Inner.Grammar as spec
-use Rattle.keymap_text.specs.Inner.Grammar.{at}
-use Rattle.keymap_text.specs.Inner.Scanning.{Advances}
-use Rattle.keymap_text.specs.Inner.Views.{place_view, grammar_view, IsPlace}
+use Rattle.keymap_text.proofs.Common.{◌+◌, sym, subst, arith, with_entry, at, Advances, place_view, grammar_view}
+use Rattle.keymap_text.proofs.Common.{IsPlace}
 use Rattle.keymap_text.proofs.Rows.{letter_taken}
 use Rattle.keymap_text.proofs.Scanning.{takes_same, stays}
+use Rattle.keymap_text.specs.Inner.Grammar as spec
 use Rattle.keymap_text.proofs.scanner.letter.Goals as goal
 
 pub returns-in-Ok-clause-takes : goal.returns-in-Ok-clause-takes
-returns-in-Ok-clause-takes g c = λ m h.
+returns-in-Ok-clause-takes g c =
     let r = c.args.grammar.now in
     let new = c.close_entry.new.self in
     let rest = c.args.rest.now in
-    let b = c.first_spaces-blanks.result in
-    let n = c.in-Some.n in
-    let m' = with_entry m c.args.slot (record { cells = r.entry.cells; flag = c.in-Ok.flag }) in (
-      m',
-      c.close_entry.ensures.shows m h,
-      subst (λ p. Advances (at m (place_view p r.entry r.accent)) (at m' (grammar_view new)) rest (b + n))
-          (sym c.requires)
-          (subst (λ p. Advances (at m (spec.LockAt c.args.slot r.entry)) (at m' (place_view p new.entry new.accent)) rest
-          (b + n)) (sym c.close_entry.ensures.place)
-          (letter_taken m c.args.slot b n r.entry rest c.in-Some.item c.in-Ok.flag c.first_spaces-blanks.ensures.blank
-          c.first_spaces-blanks.ensures.length c.in-Some.ensures (sym c.in-Ok.ensures))),
-    )
+    let size = c.first_spaces-blanks.result + c.in-Some.n in
+    record {
+      took = λ m h.
+          let m' = with_entry m c.args.slot (record { cells = r.entry.cells; flag = c.in-Ok.flag }) in (
+            m',
+            c.close_entry.ensures.shows m h,
+            subst (λ p. Advances (at m (place_view p r.entry r.accent)) (at m' (grammar_view new)) rest size)
+                (sym c.requires)
+                (subst (λ p. Advances (at m (spec.LockAt c.args.slot r.entry)) (at m' (place_view p new.entry new.accent))
+                rest size) (sym c.close_entry.ensures.place)
+                (letter_taken m c.args.slot c.first_spaces-blanks.result c.in-Some.n r.entry rest c.in-Some.item
+                c.in-Ok.flag c.first_spaces-blanks.ensures.blank c.first_spaces-blanks.ensures.length c.in-Some.ensures
+                (sym c.in-Ok.ensures))),
+          );
+    }
 
 pub returns-in-Ok-clause-leaves : goal.returns-in-Ok-clause-leaves
 returns-in-Ok-clause-leaves g c = (
@@ -34,4 +34,4 @@ returns-in-Ok-clause-leaves g c = (
 
 pub returns-in-None-clause-takes : goal.returns-in-None-clause-takes
 returns-in-None-clause-takes g c =
-    takes_same g.D.Definitions.shows c.args.into.now c.args.grammar.now c.args.rest.now 0 (λ s. stays s c.args.rest.now)
+    takes_same (λ s. stays s c.args.rest.now)

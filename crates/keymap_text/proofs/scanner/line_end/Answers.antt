@@ -1,5 +1,4 @@
-use Rattle.std.proofs.Common.{ap, sym, ◌∙◌}
-use Rattle.keymap_text.specs.Lexical.{is_blank}
+use Rattle.keymap_text.proofs.Common.{ap, sym, ◌∙◌, is_blank}
 use Rattle.keymap_text.proofs.Scanning.{blank_advances, not_none}
 use Rattle.keymap_text.proofs.scanner.line_end.Goals as goal
 

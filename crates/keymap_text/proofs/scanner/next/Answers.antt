@@ -1,6 +1,4 @@
-use Rattle.std.proofs.Common.{◌+◌, refl, sym, ◌∙◌, ap, arith}
-use Rattle.std.proofs.lemmas.List.{length-take-le}
-use Rattle.keymap_text.specs.Lexical.{Found}
+use Rattle.keymap_text.proofs.Common.{◌+◌, refl, sym, ◌∙◌, ap, arith, length-take-le, Found}
 use Rattle.keymap_text.proofs.Scanning.{takes_token, takes_fault}
 use Rattle.keymap_text.proofs.InFront.{front_fits}
 use Rattle.keymap_text.proofs.Tails.{open_word, open_quote, found_here, refused_here}
@@ -23,25 +21,20 @@ item_of-requires g c = λ e.
 
 pub returns-in-Ok-clause-takes : goal.returns-in-Ok-clause-takes
 returns-in-Ok-clause-takes g c =
-    let n = c.in-Found.n in
-    takes_token g.D.Definitions.shows c.args.into.now c.accept.new.into c.args.grammar.now c.accept.new.self
-    c.args.rest.now c.item_of.result (n + 1) c.in-Ok.field-0
-    (found_here c.args.rest.now c.in-Found.kind n c.item_of.result c.requires.some c.in-Found.ensures.value
-    c.in-Found.ensures.fits (c.is_whole.ensures.whole c.if-not-is_whole.false) c.item_of.ensures)
-    c.in-Ok.ensures.steps
+    takes_token (found_here c.args.rest.now c.in-Found.kind c.in-Found.n c.item_of.result c.requires.some
+    c.in-Found.ensures.value c.in-Found.ensures.fits (c.is_whole.ensures.whole c.if-not-is_whole.false)
+    c.item_of.ensures) c.in-Ok.ensures.steps
 
 pub returns-in-Err-clause-takes : goal.returns-in-Err-clause-takes
 returns-in-Err-clause-takes g c =
-    let n = c.in-Found.n in
-    takes_fault g.D.Definitions.shows c.args.into.now c.accept.new.into c.args.grammar.now c.accept.new.self
-    c.args.rest.now c.item_of.result (n + 1) (record { kind = c.in-Err.kind; at = 0 })
-    (found_here c.args.rest.now c.in-Found.kind n c.item_of.result c.requires.some c.in-Found.ensures.value
-    c.in-Found.ensures.fits (c.is_whole.ensures.whole c.if-not-is_whole.false) c.item_of.ensures)
-    refl c.in-Err.ensures.steps
+    takes_fault (found_here c.args.rest.now c.in-Found.kind c.in-Found.n c.item_of.result c.requires.some
+    c.in-Found.ensures.value c.in-Found.ensures.fits (c.is_whole.ensures.whole c.if-not-is_whole.false)
+    c.item_of.ensures) refl c.in-Err.ensures.steps
 
 pub returns-in-Refused-clause-takes : goal.returns-in-Refused-clause-takes
-returns-in-Refused-clause-takes g c = λ m h.
-    refused_here _ c.args.rest.now c.in-Refused.kind c.requires.some c.in-Refused.ensures.value
+returns-in-Refused-clause-takes g c = record {
+  took = λ m h. refused_here _ c.args.rest.now c.in-Refused.kind c.requires.some c.in-Refused.ensures.value;
+}
 
 pub returns-in-Unfinished-clause-open : goal.returns-in-Unfinished-clause-open
 returns-in-Unfinished-clause-open g c = λ _. open_quote c.args.rest.now c.requires.some c.in-Unfinished.ensures.value

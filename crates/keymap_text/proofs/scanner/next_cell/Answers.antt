@@ -1,4 +1,4 @@
-use Rattle.std.proofs.Common.{sym, arith}
+use Rattle.keymap_text.proofs.Common.{sym, arith}
 use Rattle.keymap_text.proofs.Rows.{cell_taken, cell_refused}
 use Rattle.keymap_text.proofs.scanner.next_cell.Goals as goal
 

@@ -1,5 +1,4 @@
-use Rattle.std.proofs.Common.{◌≡◌, ℕ, sym, ◌∙◌, arith, Result, Ok}
-use Rattle.keymap_text.specs.declared.scanner.Stop.{Stop}
+use Rattle.keymap_text.proofs.Common.{◌≡◌, ℕ, sym, ◌∙◌, arith, Result, Ok, Stop}
 use Rattle.keymap_text.proofs.Scanning.{takes_same, blank_advances, comment_advances}
 use Rattle.keymap_text.proofs.Tails.{open_comment, comment_some}
 use Rattle.keymap_text.proofs.scanner.other.Goals as goal
@@ -9,13 +8,11 @@ ok_is n k h = cc
 
 pub returns-then-is_blank_byte-clause-takes : goal.returns-then-is_blank_byte-clause-takes
 returns-then-is_blank_byte-clause-takes g c =
-    takes_same g.D.Definitions.shows c.args.into.now c.args.grammar.now c.args.rest.now 1
-    (λ s. blank_advances s c.args.rest.now c.requires.some (sym c.is_blank_byte.ensures ∙ c.if-is_blank_byte.true))
+    takes_same (λ s. blank_advances s c.args.rest.now c.requires.some (sym c.is_blank_byte.ensures ∙ c.if-is_blank_byte.true))
 
 pub returns-then-n-rest-clause-takes : goal.returns-then-n-rest-clause-takes
 returns-then-n-rest-clause-takes g c =
-    takes_same g.D.Definitions.shows c.args.into.now c.args.grammar.now c.args.rest.now c.line_len-n.result
-    (λ s. comment_advances s c.args.rest.now c.line_len-n.result c.requires.some c.if-rest-ne35.false
+    takes_same (λ s. comment_advances s c.args.rest.now c.line_len-n.result c.requires.some c.if-rest-ne35.false
     c.line_len-n.ensures.value c.if-n-rest.true)
 
 pub returns-then-n-rest-clause-open : goal.returns-then-n-rest-clause-open

@@ -1,7 +1,4 @@
-use Rattle.std.proofs.Common.{◌+◌, sym, ap, subst, arith, length}
-use Rattle.keymap_text.specs.Inner.Grammar.{at, with_pair}
-use Rattle.keymap_text.specs.Inner.Scanning.{Advances}
-use Rattle.keymap_text.specs.Inner.Views.{place_view}
+use Rattle.keymap_text.proofs.Common.{◌+◌, sym, ap, subst, arith, length, at, with_pair, Advances, place_view}
 use Rattle.keymap_text.proofs.Rows.{pair_taken}
 use Rattle.keymap_text.proofs.scanner.pair.Goals as goal
 

@@ -1,6 +1,4 @@
-use Rattle.std.proofs.Common.{◌≤◌, ◌-◌, length, Ok}
-use Rattle.keymap_text.specs.Inner.Scanning.{Takes}
-use Rattle.keymap_text.specs.Inner.Views.{IsPlace}
+use Rattle.keymap_text.proofs.Common.{◌≤◌, ◌-◌, length, Ok, Takes, IsPlace}
 use Rattle.keymap_text.proofs.scanner.scan.Given as goal
 
 abbrev pub invariant-loop-at : goal.invariant-loop-at

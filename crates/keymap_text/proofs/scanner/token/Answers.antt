@@ -1,18 +1,12 @@
-use Rattle.std.proofs.Common.{refl}
+use Rattle.keymap_text.proofs.Common.{refl}
 use Rattle.keymap_text.proofs.Scanning.{takes_token, takes_fault, takes_same, stays}
 use Rattle.keymap_text.proofs.scanner.token.Goals as goal
 
 pub returns-in-None-clause-takes : goal.returns-in-None-clause-takes
-returns-in-None-clause-takes g c =
-    takes_same g.D.Definitions.shows c.args.into.now c.args.grammar.now c.args.rest.now 0 (λ s. stays s c.args.rest.now)
+returns-in-None-clause-takes g c = takes_same (λ s. stays s c.args.rest.now)
 
 pub returns-in-Ok-clause-takes : goal.returns-in-Ok-clause-takes
-returns-in-Ok-clause-takes g c =
-    takes_token g.D.Definitions.shows c.args.into.now c.accept.new.into c.args.grammar.now c.accept.new.self
-    c.args.rest.now c.in-Some.item c.in-Some.n c.in-Ok.field-0 c.in-Some.ensures c.in-Ok.ensures.steps
+returns-in-Ok-clause-takes g c = takes_token c.in-Some.ensures c.in-Ok.ensures.steps
 
 pub returns-in-Err-clause-takes : goal.returns-in-Err-clause-takes
-returns-in-Err-clause-takes g c =
-    takes_fault g.D.Definitions.shows c.args.into.now c.accept.new.into c.args.grammar.now c.accept.new.self
-    c.args.rest.now c.in-Some.item c.in-Some.n (record { kind = c.in-Err.kind; at = 0 }) c.in-Some.ensures refl
-    c.in-Err.ensures.steps
+returns-in-Err-clause-takes g c = takes_fault c.in-Some.ensures refl c.in-Err.ensures.steps

@@ -1,4 +1,4 @@
-use Rattle.std.proofs.Common.{arith}
+use Rattle.keymap_text.proofs.Common.{arith}
 use Rattle.keymap_text.proofs.Fronts.{quoted_fronts, left_fronts, right_fronts}
 use Rattle.keymap_text.proofs.scanner.whole_token.Goals as goal
 

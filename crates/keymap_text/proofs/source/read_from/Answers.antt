@@ -1,10 +1,7 @@
-use Rattle.std.proofs.Common.{rules, arith, refl, subst, Err, sym}
-use Rattle.keymap_text.specs.Types.{TextError}
-use Rattle.keymap_text.specs.Sources.{ReadsMap, limit}
-use Rattle.keymap_text.proofs.Feeding.{fed_none, fed_more, fed_early, fed_whole, fed_fails, fed_past}
-use Rattle.keymap_text.proofs.Feeding.{at_once_more, at_once_whole}
+use Rattle.keymap_text.proofs.Common.{rules, arith, refl, subst, Err, sym, TextError, ReadsMap, limit, length-take-le}
+use Rattle.keymap_text.proofs.Feeding.{fed_none, fed_more, fed_early, fed_whole, fed_fails, fed_past, at_once_more}
+use Rattle.keymap_text.proofs.Feeding.{at_once_whole}
 use Rattle.keymap_text.proofs.source.read_from.Goals as goal
-use Rattle.std.proofs.lemmas.List.{length-take-le}
 
 pub loop-taken-init : goal.loop-taken-init
 loop-taken-init g c = record { fed = fed_none _ _ c.in-Ok.ensures; within = search rules; sound = refl }

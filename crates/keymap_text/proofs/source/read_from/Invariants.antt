@@ -1,5 +1,4 @@
-use Rattle.std.proofs.Common.{◌≡◌, ◌≤◌, ◌-◌}
-use Rattle.keymap_text.specs.Sources.{limit}
+use Rattle.keymap_text.proofs.Common.{◌≡◌, ◌≤◌, ◌-◌, limit}
 use Rattle.keymap_text.proofs.Feeding.{IsFed}
 use Rattle.keymap_text.proofs.source.read_from.Given as goal
 

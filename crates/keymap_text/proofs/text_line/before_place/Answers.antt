@@ -1,4 +1,4 @@
-use Rattle.std.proofs.Common.{◌+◌}
+use Rattle.keymap_text.proofs.Common.{◌+◌}
 use Rattle.keymap_text.proofs.LineStarts.{before_is, found_end, on_line}
 use Rattle.keymap_text.proofs.text_line.before_place.Goals as goal
 

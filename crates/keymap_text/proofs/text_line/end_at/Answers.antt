@@ -1,5 +1,4 @@
-use Rattle.std.proofs.Common.{◌≡◌, ◌-◌, length, get_or, arith, ap}
-use Rattle.keymap_text.specs.LineOf.{line_end}
+use Rattle.keymap_text.proofs.Common.{◌≡◌, ◌-◌, length, get_or, arith, ap, line_end}
 use Rattle.keymap_text.proofs.LineStarts.{end_of_place}
 use Rattle.keymap_text.proofs.text_line.end_at.Goals as goal
 

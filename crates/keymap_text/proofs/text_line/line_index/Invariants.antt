@@ -1,4 +1,4 @@
-use Rattle.std.proofs.Common.{◌≤◌, ◌<◌, ◌-◌, length, get_or}
+use Rattle.keymap_text.proofs.Common.{◌≤◌, ◌<◌, ◌-◌, length, get_or}
 use Rattle.keymap_text.proofs.text_line.line_index.Given as goal
 
 abbrev pub invariant-loop-high : goal.invariant-loop-high

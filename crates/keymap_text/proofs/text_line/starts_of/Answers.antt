@@ -1,7 +1,5 @@
-use Rattle.std.proofs.Common.{◌≡◌, ◌+◌, ◌-◌, List, ℕ, [], ◌∷◌, ◌++◌, length, get_or, sym, ◌∙◌, ap, subst, arith}
-use Rattle.std.proofs.Common.{length-append}
-use Rattle.std.proofs.Math.Seq.{get_or-append_seam}
-use Rattle.keymap_text.specs.LineOf.{AreStarts, line_end}
+use Rattle.keymap_text.proofs.Common.{◌≡◌, ◌+◌, ◌-◌, List, ℕ, [], ◌∷◌, ◌++◌, length, get_or, sym, ◌∙◌, ap, subst, arith}
+use Rattle.keymap_text.proofs.Common.{length-append, get_or-append_seam, AreStarts, line_end}
 use Rattle.keymap_text.proofs.LineStarts.{first_start, start_pushed, end_within}
 use Rattle.keymap_text.proofs.text_line.starts_of.Goals as goal
 

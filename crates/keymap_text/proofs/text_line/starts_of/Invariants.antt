@@ -1,5 +1,4 @@
-use Rattle.std.proofs.Common.{◌≡◌, ◌-◌, length, get_or}
-use Rattle.keymap_text.specs.LineOf.{AreStarts, line_end}
+use Rattle.keymap_text.proofs.Common.{◌≡◌, ◌-◌, length, get_or, AreStarts, line_end}
 use Rattle.keymap_text.proofs.text_line.starts_of.Given as goal
 
 abbrev pub invariant-loop-end : goal.invariant-loop-end

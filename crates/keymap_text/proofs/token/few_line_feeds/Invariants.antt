@@ -1,4 +1,4 @@
-use Rattle.std.proofs.Common.{◌≡◌, ◌≤◌, ◌==◌, take, count_by}
+use Rattle.keymap_text.proofs.Common.{◌≡◌, ◌≤◌, ◌==◌, take, count_by}
 use Rattle.keymap_text.proofs.token.few_line_feeds.Given as goal
 
 abbrev pub invariant-loop-c : goal.invariant-loop-c

@@ -1,4 +1,4 @@
-use Rattle.std.proofs.Common.{arith}
+use Rattle.keymap_text.proofs.Common.{arith}
 use Rattle.keymap_text.proofs.Classes.{space_class}
 use Rattle.keymap_text.proofs.token.is_space_byte.Goals as goal
 

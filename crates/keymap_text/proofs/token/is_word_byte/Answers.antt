@@ -1,4 +1,4 @@
-use Rattle.std.proofs.Common.{arith}
+use Rattle.keymap_text.proofs.Common.{arith}
 use Rattle.keymap_text.proofs.Classes.{word_class}
 use Rattle.keymap_text.proofs.token.is_word_byte.Goals as goal
 

@@ -1,6 +1,5 @@
-use Rattle.std.proofs.Common.{◌≡◌, ◌+◌, ◌-◌, ◌==◌, length, take, drop, ◌∙◌, ap, arith, count_by, length-drop}
-use Rattle.std.proofs.lemmas.List.Sums.{count_by-le-length}
-use Rattle.std.proofs.lemmas.List.{length-take-le}
+use Rattle.keymap_text.proofs.Common.{◌≡◌, ◌+◌, ◌-◌, ◌==◌, length, take, drop, ◌∙◌, ap, arith, count_by, length-drop}
+use Rattle.keymap_text.proofs.Common.{count_by-le-length, length-take-le}
 use Rattle.keymap_text.proofs.Lines.{feeds_more, feeds_split}
 use Rattle.keymap_text.proofs.Splitting.{to_end}
 use Rattle.keymap_text.proofs.token.line_feeds.Goals as goal

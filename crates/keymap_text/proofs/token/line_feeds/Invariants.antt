@@ -1,4 +1,4 @@
-use Rattle.std.proofs.Common.{◌≡◌, ◌≤◌, ◌-◌, ◌==◌, length, take, count_by}
+use Rattle.keymap_text.proofs.Common.{◌≡◌, ◌≤◌, ◌-◌, ◌==◌, length, take, count_by}
 use Rattle.keymap_text.proofs.token.line_feeds.Given as goal
 
 abbrev pub invariant-loop-i : goal.invariant-loop-i

@@ -1,5 +1,4 @@
-use Rattle.std.proofs.Common.{subst, arith}
-use Rattle.bstr.specs.Find.{IsFirstByte, is_byte}
+use Rattle.keymap_text.proofs.Common.{subst, arith, IsFirstByte, is_byte}
 use Rattle.keymap_text.proofs.Leading.{line_found, line_whole}
 use Rattle.keymap_text.proofs.token.line_len.Goals as goal
 

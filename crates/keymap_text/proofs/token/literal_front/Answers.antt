@@ -1,8 +1,6 @@
-use Rattle.std.proofs.Common.{◌≡◌, ℕ, List, true, false, cond, length, None, refl, sym, ◌∙◌, ap, ◌==◌, eq-eqb}
-use Rattle.std.proofs.Common.{slice_index}
-use Rattle.bstr.specs.Utf8.{decoded, Decoded}
-use Rattle.keymap_text.specs.Types.{Literal}
-use Rattle.keymap_text.specs.Lexical.{literal, is_lone, quoted, Unfinished, Found}
+use Rattle.keymap_text.proofs.Common.{◌≡◌, ℕ, List, true, false, cond, length, None, refl, sym, ◌∙◌, ap, ◌==◌, eq-eqb}
+use Rattle.keymap_text.proofs.Common.{slice_index, decoded, Decoded, Literal, literal, is_lone, quoted, Unfinished}
+use Rattle.keymap_text.proofs.Common.{Found}
 use Rattle.keymap_text.proofs.token.literal_front.Goals as goal
 
 open_quote : (d : Decoded) (bytes : List ℕ) → d.char ≡ None → (length bytes == d.size) ≡ true

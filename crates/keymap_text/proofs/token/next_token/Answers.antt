@@ -1,6 +1,5 @@
-use Rattle.std.proofs.Common.{◌<◌, length, refl, sym, ◌∙◌, ap, ap₂, arith, Err}
-use Rattle.std.proofs.lemmas.List.{at_drop_all}
-use Rattle.keymap_text.specs.Lexical.{tokens_after, first}
+use Rattle.keymap_text.proofs.Common.{◌<◌, length, refl, sym, ◌∙◌, ap, ap₂, arith, Err, at_drop_all, tokens_after}
+use Rattle.keymap_text.proofs.Common.{first}
 use Rattle.keymap_text.proofs.Splitting.{split_none, at_found, at_refused, at_unfinished, front_is, to_end}
 use Rattle.keymap_text.proofs.token.next_token.Goals as goal
 

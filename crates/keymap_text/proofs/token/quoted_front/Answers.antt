@@ -1,4 +1,4 @@
-use Rattle.std.proofs.Common.{sym, arith}
+use Rattle.keymap_text.proofs.Common.{sym, arith}
 use Rattle.keymap_text.proofs.Literals.{printable_front}
 use Rattle.keymap_text.proofs.token.quoted_front.Goals as goal
 

@@ -1,5 +1,4 @@
-use Rattle.std.proofs.Common.{length, ◌-◌, ◌≡◌, ◌+◌, ◌≤◌, drop}
-use Rattle.keymap_text.specs.Lexical.{is_space, leading}
+use Rattle.keymap_text.proofs.Common.{length, ◌-◌, ◌≡◌, ◌+◌, ◌≤◌, drop, is_space, leading}
 use Rattle.keymap_text.proofs.token.space_len.Given as goal
 
 abbrev pub invariant-loop-i : goal.invariant-loop-i

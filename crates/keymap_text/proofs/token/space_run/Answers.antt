@@ -1,6 +1,4 @@
-use Rattle.std.proofs.Common.{refl, sym}
-use Rattle.std.proofs.lemmas.Simd.{zip2_splat, length-chunk}
-use Rattle.std.specs.Prelude.{◌==◌}
+use Rattle.keymap_text.proofs.Common.{refl, sym, zip2_splat, length-chunk, ◌==◌}
 use lib.Lanes.{chunk}
 use Rattle.keymap_text.proofs.Vectors.{run_in}
 use Rattle.keymap_text.proofs.token.space_run.Goals as goal

@@ -1,5 +1,4 @@
-use Rattle.std.proofs.Common.{drop, refl, sym, ◌∙◌, ap, arith}
-use Rattle.keymap_text.specs.Lexical.{tokens_after}
+use Rattle.keymap_text.proofs.Common.{drop, refl, sym, ◌∙◌, ap, arith, tokens_after}
 use Rattle.keymap_text.proofs.Splitting.{split_blank_at, split_line_at}
 use Rattle.keymap_text.proofs.Scanning.{spaces_at}
 use Rattle.keymap_text.proofs.token.token_start.Goals as goal

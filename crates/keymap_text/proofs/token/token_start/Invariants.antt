@@ -1,5 +1,4 @@
-use Rattle.std.proofs.Common.{length, ◌-◌, ◌≡◌, ◌≤◌, drop}
-use Rattle.keymap_text.specs.Lexical.{tokens_after}
+use Rattle.keymap_text.proofs.Common.{length, ◌-◌, ◌≡◌, ◌≤◌, drop, tokens_after}
 use Rattle.keymap_text.proofs.token.token_start.Given as goal
 
 abbrev pub invariant-loop-i : goal.invariant-loop-i

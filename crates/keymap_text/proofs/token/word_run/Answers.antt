@@ -1,7 +1,5 @@
-use Rattle.std.proofs.Common.{ℕ, leb, cond, bit_and, refl, sym}
-use Rattle.std.proofs.lemmas.Simd.{zip2_splat, length-chunk}
+use Rattle.keymap_text.proofs.Common.{ℕ, leb, cond, bit_and, refl, sym, zip2_splat, length-chunk, is_word}
 use lib.Lanes.{chunk}
-use Rattle.keymap_text.specs.Lexical.{is_word}
 use Rattle.keymap_text.proofs.Vectors.{joined, splat_is, run_in}
 use Rattle.keymap_text.proofs.token.word_run.Goals as goal
 

@@ -1,9 +1,5 @@
-use Rattle.std.proofs.Common.{refl, sym, ◌∙◌, ap, subst, IsErr, arith}
-use Rattle.keymap_text.specs.Tokens.{token_view}
-use Rattle.keymap_text.specs.Inner.Grammar.{empty_map}
-use Rattle.keymap_text.specs.Inner.Placed.{tokens_from}
-use Rattle.keymap_text.specs.Inner.Views.{grammar_view, place_of}
-use Rattle.keymap_text.specs.Wanted.{definition_behind}
+use Rattle.keymap_text.proofs.Common.{refl, sym, ◌∙◌, ap, subst, IsErr, arith, token_view, empty_map, tokens_from}
+use Rattle.keymap_text.proofs.Common.{grammar_view, place_of, definition_behind}
 use Rattle.keymap_text.proofs.Faults.{step_led, led}
 use Rattle.keymap_text.proofs.WantedPlace.{reached_end, reached_on, reached_fault}
 use Rattle.keymap_text.proofs.wanted.wanted_at_fault.Goals as goal

@@ -1,9 +1,5 @@
-use Rattle.std.proofs.Common.{◌≡◌, ◌≤◌, ◌-◌, length, None}
-use Rattle.keymap_text.specs.Meaning.{tokens}
-use Rattle.keymap_text.specs.Places.{AtDefinition}
-use Rattle.keymap_text.specs.Wanted.{first_refused}
-use Rattle.keymap_text.specs.Inner.Placed.{tokens_from}
-use Rattle.keymap_text.specs.Inner.Views.{IsPlace, grammar_view, place_of}
+use Rattle.keymap_text.proofs.Common.{◌≡◌, ◌≤◌, ◌-◌, length, None, tokens, AtDefinition, first_refused, tokens_from}
+use Rattle.keymap_text.proofs.Common.{IsPlace, grammar_view, place_of}
 use Rattle.keymap_text.proofs.wanted.wanted_at_fault.Given as goal
 
 -- what the tokens to come lead to is what all lead to

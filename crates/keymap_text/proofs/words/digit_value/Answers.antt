@@ -1,4 +1,4 @@
-use Rattle.std.proofs.Common.{arith}
+use Rattle.keymap_text.proofs.Common.{arith}
 use Rattle.keymap_text.proofs.Classes.{digit_class}
 use Rattle.keymap_text.proofs.words.digit_value.Goals as goal
 

@@ -1,4 +1,4 @@
-use Rattle.std.proofs.Common.{sym, ap, ◌∙◌, arith}
+use Rattle.keymap_text.proofs.Common.{sym, ap, ◌∙◌, arith}
 use Rattle.keymap_text.specs.declared.words.Meaning.TheVariants.{Number}
 use Rattle.keymap_text.proofs.Meanings.{four_digits}
 use Rattle.keymap_text.proofs.words.four_digit_number.Goals as goal

@@ -1,5 +1,4 @@
-use Rattle.std.proofs.Common.{refl, arith, ◌∙◌, ap}
-use Rattle.keymap_text.specs.Words.{digits_of}
+use Rattle.keymap_text.proofs.Common.{refl, arith, ◌∙◌, ap, digits_of}
 use Rattle.keymap_text.proofs.Splitting.{to_end}
 use Rattle.keymap_text.proofs.Meanings.{decimal_means, hexadecimal_means}
 use Rattle.keymap_text.proofs.words.short_number.Goals as goal

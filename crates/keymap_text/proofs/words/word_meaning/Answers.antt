@@ -1,7 +1,5 @@
-use Rattle.std.proofs.Common.{◌≡◌, List, ℕ, None, Some, codes, sym, ◌∙◌, ap, refl}
-use Rattle.keymap_core.specs.Names.{named_of}
-use Rattle.keymap_text.specs.Types.{Meaning}
-use Rattle.keymap_text.specs.Words.{meaning, named, table, digits_of, number_after, of_action}
+use Rattle.keymap_text.proofs.Common.{◌≡◌, List, ℕ, None, Some, codes, sym, ◌∙◌, ap, refl, named_of, Meaning, meaning}
+use Rattle.keymap_text.proofs.Common.{named, table, digits_of, number_after, of_action}
 use Rattle.keymap_text.proofs.words.word_meaning.Goals as goal
 
 by_name : (w : List ℕ) (m : Meaning) → None ≡ digits_of 10 w → None ≡ number_after (codes "0x") 16 w

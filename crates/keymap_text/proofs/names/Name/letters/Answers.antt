@@ -1,4 +1,4 @@
-use Rattle.std.proofs.Common.{take, ap}
+use Rattle.keymap_text.proofs.Common.{take, ap}
 use Rattle.keymap_text.proofs.names.Name.letters.Goals as goal
 
 pub returns : goal.returns

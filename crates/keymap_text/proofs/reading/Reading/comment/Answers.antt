@@ -1,7 +1,5 @@
-use Rattle.std.proofs.Common.{◌≡◌, ◌++◌, ℕ, List, length, take, drop, refl, sym, ◌∙◌, ap, subst, arith}
-use Rattle.std.proofs.lemmas.List.{length-take-le}
-use Rattle.keymap_text.specs.Lexical.{leading, stays_on_line}
-use Rattle.keymap_text.specs.Inner.Scanning.{IsOpen}
+use Rattle.keymap_text.proofs.Common.{◌≡◌, ◌++◌, ℕ, List, length, take, drop, refl, sym, ◌∙◌, ap, subst, arith}
+use Rattle.keymap_text.proofs.Common.{length-take-le, leading, stays_on_line, IsOpen}
 use Rattle.keymap_text.proofs.Leading.{leading_front, leading_behind}
 use Rattle.keymap_text.proofs.Standing.{comment_ends, comment_goes}
 use Rattle.keymap_text.proofs.reading.Reading.comment.Goals as goal

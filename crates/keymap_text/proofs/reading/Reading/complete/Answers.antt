@@ -1,4 +1,4 @@
-use Rattle.std.proofs.Common.{sym, ◌∙◌, eqb-true, ap, length}
+use Rattle.keymap_text.proofs.Common.{sym, ◌∙◌, eqb-true, ap, length}
 use Rattle.keymap_text.proofs.Standing.{passes_none, is_nil}
 use Rattle.keymap_text.proofs.reading.Reading.complete.Goals as goal
 

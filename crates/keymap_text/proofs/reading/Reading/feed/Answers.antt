@@ -1,4 +1,4 @@
-use Rattle.std.proofs.Common.{refl}
+use Rattle.keymap_text.proofs.Common.{refl}
 use Rattle.keymap_text.proofs.Standing.{moves_whole, feeds_on}
 use Rattle.keymap_text.proofs.reading.Reading.feed.Goals as goal
 

@@ -1,7 +1,4 @@
-use Rattle.std.proofs.Common.{refl, sym, ◌∙◌, ap, append-nil, false}
-use Rattle.keymap_text.specs.Lexical.{tokens_after}
-use Rattle.keymap_text.specs.Inner.Judging.{judge, Spelled}
-use Rattle.keymap_text.specs.Inner.Views.{state_view}
+use Rattle.keymap_text.proofs.Common.{refl, sym, ◌∙◌, ap, append-nil, false, tokens_after, judge, Spelled, state_view}
 use Rattle.keymap_text.proofs.reading.Reading.finish.Goals as goal
 
 pub returns-in-Ok-clause-says : goal.returns-in-Ok-clause-says

@@ -1,6 +1,5 @@
-use Rattle.std.proofs.Common.{◌≡◌, ◌++◌, ℕ, List, [], ◌∷◌, length, refl, sym, ◌∙◌, ap, subst, arith, eqb-true, inl}
-use Rattle.keymap_text.specs.Inner.Scanning.{IsOpen}
-use Rattle.keymap_text.specs.Inner.Views.{state_view}
+use Rattle.keymap_text.proofs.Common.{◌≡◌, ◌++◌, ℕ, List, [], ◌∷◌, length, refl, sym, ◌∙◌, ap, subst, arith, eqb-true}
+use Rattle.keymap_text.proofs.Common.{inl, IsOpen, state_view}
 use Rattle.keymap_text.proofs.Scanning.{not_none, stays}
 use Rattle.keymap_text.proofs.Standing.{extended, comment_kept, is_nil}
 use Rattle.keymap_text.proofs.Tails.{open_few}

@@ -1,11 +1,6 @@
-use Rattle.std.proofs.Common.{◌≡◌, ◌+◌, ◌++◌, ℕ, List, [], take, drop, length, refl, sym, ◌∙◌, ap, subst, arith}
-use Rattle.std.proofs.lemmas.List.{length-take-le, take-append-drop}
-use Rattle.keymap_text.specs.declared.reading.Reading.{Reading}
-use Rattle.keymap_text.specs.Meaning.{line}
-use Rattle.keymap_text.specs.Inner.Grammar.{GrammarState}
-use Rattle.keymap_text.specs.Inner.Resuming.{Moves}
-use Rattle.keymap_text.specs.Inner.Scanning.{Advances, Refuses}
-use Rattle.keymap_text.specs.Inner.Views.{state_view, grammar_view, IsPlace}
+use Rattle.keymap_text.proofs.Common.{◌≡◌, ◌+◌, ◌++◌, ℕ, List, [], take, drop, length, refl, sym, ◌∙◌, ap, subst, arith}
+use Rattle.keymap_text.proofs.Common.{length-take-le, take-append-drop, Reading, line, GrammarState, Moves, Advances}
+use Rattle.keymap_text.proofs.Common.{Refuses, state_view, grammar_view, IsPlace}
 use Rattle.keymap_text.proofs.Lines.{line_behind}
 use Rattle.keymap_text.proofs.Splitting.{to_end}
 use Rattle.keymap_text.proofs.Standing.{passed, moves_on, breaks, of_map}
@@ -19,7 +14,7 @@ returns-in-Ok c =
     let new = c.pass.new.self in
     let size = length-take-le n rest c.in-Ok.ensures.leaves.0 in
     let taken = of_map (state_view r) (grammar_view c.scan.new.grammar) c.scan.new.into rest n
-    (c.in-Ok.ensures.takes r.map refl) in
+    (c.in-Ok.ensures.takes.took r.map refl) in
     let offset : new.offset ≡ r.offset + length (take n rest) = ap (λ (s : Reading). s.offset) c.pass.ensures in
     let moved : Moves r new (take n rest) (drop n rest) =
     passed r new rest (take n rest) (drop n rest) n
@@ -44,7 +39,7 @@ returns-in-Err c =
     let place : e.offset ≡ r.offset + at =
     omega (arith, c.fault.ensures.offset, length-take-le at rest c.in-Err.ensures.leaves) in
     breaks r rest rest at e
-    (subst (λ f. Refuses (state_view r) rest f at) (sym c.fault.ensures.kind) (c.in-Err.ensures.takes r.map refl))
+    (subst (λ f. Refuses (state_view r) rest f at) (sym c.fault.ensures.kind) (c.in-Err.ensures.takes.took r.map refl))
     (sym (ap (λ (p : List ℕ). p ++ rest) c.requires.none)) place
     (λ b h. c.fault.ensures.line ∙ line_behind r b rest at h
     ∙ ap (λ q. line (b ++ rest) q) {x = r.offset + length r.pending.items + at}

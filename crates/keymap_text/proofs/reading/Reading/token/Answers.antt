@@ -1,13 +1,7 @@
-use Rattle.std.proofs.Common.{◌≡◌, ◌+◌, ◌-◌, ◌<◌, ◌≤◌, ◌++◌, ℕ, List, length, take, drop, get_or, refl, sym, ◌∙◌, ap}
-use Rattle.std.proofs.Common.{subst}
-use Rattle.std.proofs.Common.{arith, Ok, length-append}
-use Rattle.std.proofs.lemmas.List.{length-take-le, take-append-drop}
-use Rattle.std.specs.Prelude.{IsFalse}
-use Rattle.keymap_text.specs.declared.reading.Reading.{Reading}
-use Rattle.keymap_text.specs.Lexical.{separates}
-use Rattle.keymap_text.specs.Inner.Grammar.{GrammarState}
-use Rattle.keymap_text.specs.Inner.Scanning.{Advances, Refuses, IsOpen}
-use Rattle.keymap_text.specs.Inner.Views.{state_view, grammar_view, IsPlace}
+use Rattle.keymap_text.proofs.Common.{◌≡◌, ◌+◌, ◌-◌, ◌<◌, ◌≤◌, ◌++◌, ℕ, List, length, take, drop, get_or, refl, sym}
+use Rattle.keymap_text.proofs.Common.{◌∙◌, ap, subst, arith, Ok, length-append, length-take-le, take-append-drop}
+use Rattle.keymap_text.proofs.Common.{IsFalse, Reading, separates, GrammarState, Advances, Refuses, IsOpen, state_view}
+use Rattle.keymap_text.proofs.Common.{grammar_view, IsPlace}
 use Rattle.keymap_text.proofs.Lines.{pending_line}
 use Rattle.keymap_text.proofs.Standing.{extended, passed, breaks, advances_more, refuses_more, joined, of_map}
 use Rattle.keymap_text.proofs.Standing.{first_same}
@@ -52,7 +46,7 @@ returns-in-Ok-eq0 c =
       inside = c.few-few.ensures.inside;
       moves = extended r _ bytes (take few piece) (drop few piece) c.in-Ok-eq0.field-0
           (of_map (state_view r) (grammar_view c.next.new.grammar) c.next.new.into bytes c.in-Ok-eq0.field-0
-          (c.in-Ok-eq0.ensures.takes r.map refl)) c.in-Ok-eq0.field-0-test joint (sym c.as_slice.ensures.value) refl
+          (c.in-Ok-eq0.ensures.takes.took r.map refl)) c.in-Ok-eq0.field-0-test joint (sym c.as_slice.ensures.value) refl
           refl
           (record {
             place = c.in-Ok-eq0.ensures.leaves.1;
@@ -106,7 +100,7 @@ returns-in-Ok c =
           (sym (ap (λ (s : Reading). state_view s) c.pass.ensures))
           (advances_more (state_view r) _ bytes (drop few piece) n
           (of_map (state_view r) (grammar_view c.next.new.grammar) c.next.new.into bytes n
-          (c.in-Ok.ensures.takes r.map refl))))
+          (c.in-Ok.ensures.takes.took r.map refl))))
           (joined r.pending.items bytes piece few joint
           ∙ ap (λ (t : List ℕ). r.pending.items ++ t) (sym (take-append-drop k piece)))
           (omega (arith, size, has, c.len-had.ensures.value)) pending (omega (arith, offset, size, has))
@@ -126,7 +120,7 @@ returns-in-Err c =
     breaks r (bytes ++ drop few piece) piece c.in-Err.stop.at e
     (refuses_more (state_view r) bytes (drop few piece) e.kind c.in-Err.stop.at
     (subst (λ f. Refuses (state_view r) bytes f c.in-Err.stop.at) (sym c.fault.ensures.kind)
-    (c.in-Err.ensures.takes r.map refl)))
+    (c.in-Err.ensures.takes.took r.map refl)))
     (joined r.pending.items bytes piece few (c.as_slice.ensures.value ∙ c.extend.ensures))
     (omega (arith, c.fault.ensures.offset, c.in-Err.ensures.at))
     (λ b h. pending_line r b piece e h (record {

@@ -1,6 +1,4 @@
-use Rattle.std.proofs.Common.{◌≤◌, ◌+◌, List, ℕ, length, subst, sym, ap, ◌∙◌}
-use Rattle.keymap_text.specs.LineOf.{AreLines}
-use Rattle.keymap_text.specs.Meaning.{line}
+use Rattle.keymap_text.proofs.Common.{◌≤◌, ◌+◌, List, ℕ, length, subst, sym, ap, ◌∙◌, AreLines, line}
 use Rattle.keymap_text.proofs.LineStarts.{found_end, same_number}
 use Rattle.keymap_text.proofs.text_line.TextLines.number_at.Goals as goal
 

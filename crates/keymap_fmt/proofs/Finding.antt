@@ -1,6 +1,6 @@
 -- What the search for a piece finds at a place of the text.
-use Rattle.std.proofs.Common.{◌≡◌, ◌≢◌, ℕ, zero, suc, ◌+◌, ◌-◌, ◌<◌, ◌≤◌, ◌==◌, Bool, true, false, if◌then◌else◌, List, []}
-use Rattle.std.proofs.Common.{◌∷◌, length, take, drop, get_or, refl, sym, ◌∙◌, ap, subst, arith, add-one, drop-cons}
+use Rattle.std.proofs.Common.{◌≡◌, ◌≢◌, ℕ, zero, suc, ◌+◌, ◌-◌, ◌<◌, ◌≤◌, ◌==◌, Bool, true, false, if◌then◌else◌, List}
+use Rattle.std.proofs.Common.{[], ◌∷◌, length, take, drop, get_or, refl, sym, ◌∙◌, ap, subst, arith, add-one, drop-cons}
 use Rattle.std.proofs.Common.{Option, Some, None, Result, Ok, Err, true≢false, length-drop, ◌⊎◌, ⊎_elim}
 use Rattle.std.specs.Prelude.{IsFalse}
 use Rattle.std.proofs.lemmas.Bool.Decides.{nat_tests}
@@ -9,8 +9,9 @@ use Rattle.keymap_fmt.specs.Types.{TextFaultKind, TokenKind, Standing, Beside, B
 use Rattle.keymap_text.specs.declared.fault.TextFaultKind.TheVariants.{EndInside}
 use Rattle.keymap_text.specs.declared.token.TokenKind.TheVariants.{ParenL, ParenR, Literal, Word}
 use Rattle.keymap_text.specs.declared.token.Token.{Token}
-use Rattle.keymap_text.specs.Lexical.{is_blank, is_space, separates, stays_on_line, leading, front_of, Front, Skipped, Found}
-use Rattle.keymap_text.specs.Lexical.{Refused, Unfinished, TokenValue, Tokens, Stops, Then, tokens_after, token_before, first}
+use Rattle.keymap_text.specs.Lexical.{is_blank, is_space, separates, stays_on_line, leading, front_of, Front, Skipped}
+use Rattle.keymap_text.specs.Lexical.{Found, Refused, Unfinished, TokenValue, Tokens, Stops, Then, tokens_after}
+use Rattle.keymap_text.specs.Lexical.{token_before, first}
 use Rattle.keymap_text.specs.Tokens.{token_view}
 use Rattle.keymap_text.proofs.Alone.{stands_alone, skipped_separates}
 use Rattle.keymap_text.proofs.InFront.{front_fits}
@@ -19,7 +20,8 @@ use Rattle.keymap_text.proofs.Splitting.{split_found, split_refused, split_unfin
 use Rattle.keymap_fmt.specs.Pieces.{PieceValue, pieces_after, lower, lowered, trimmed}
 use Rattle.keymap_fmt.specs.Layout.{width}
 use Rattle.keymap_fmt.specs.Inner.Reading.{ComesNext}
-use Rattle.keymap_fmt.proofs.Reading.{read_after, read_nil, read_blank, read_hash, read_token, read_refused, read_unfinished}
+use Rattle.keymap_fmt.proofs.Reading.{read_after, read_nil, read_blank, read_hash, read_token, read_refused}
+use Rattle.keymap_fmt.proofs.Reading.{read_unfinished}
 
 -- a blank at a place
 pub blank_at : (text : List ℕ) (i : ℕ) (s : Standing) → i < length text → is_blank (get_or text i 0) ≡ true
@@ -89,7 +91,8 @@ spaces_passed (suc n) s (c ∷ bytes) h = go (is_space c) refl (spaces_passed n 
     no_end : (c : ℕ) → is_space c ≡ true → (c == 10) ≡ false
     no_end c h = grind (arith, nat_tests)
 
-    go : (b : Bool) → is_space c ≡ b → (n ≤ leading is_space bytes → pieces_after 0 s bytes ≡ pieces_after 0 s (drop n bytes))
+    go : (b : Bool) → is_space c ≡ b
+        → (n ≤ leading is_space bytes → pieces_after 0 s bytes ≡ pieces_after 0 s (drop n bytes))
         → pieces_after 0 s (c ∷ bytes) ≡ pieces_after 0 s (drop n bytes)
     go true e k =
         read_blank s c bytes (blank c e)

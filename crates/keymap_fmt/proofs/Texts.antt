@@ -1,10 +1,10 @@
 -- The pieces of a text: each one reads alone, and stands where a piece can stand.
-use Rattle.std.proofs.Common.{◌≡◌, ◌⊎◌, inl, inr, ℕ, zero, suc, ◌==◌, Bool, true, false, List, [], ◌∷◌, if◌then◌else◌, take}
-use Rattle.std.proofs.Common.{refl, sym, ◌∙◌, ap, subst, length, slice_index, arith}
+use Rattle.std.proofs.Common.{◌≡◌, ◌⊎◌, inl, inr, ℕ, zero, suc, ◌==◌, Bool, true, false, List, [], ◌∷◌, if◌then◌else◌}
+use Rattle.std.proofs.Common.{take, refl, sym, ◌∙◌, ap, subst, length, slice_index, arith}
 use Rattle.std.proofs.lemmas.Bool.Decides.{nat_tests}
 use Rattle.std.proofs.lemmas.List.{length-take-le, get_or-take}
-use Rattle.keymap_text.specs.Lexical.{is_blank, is_space, stays_on_line, leading, front_of, Front, Skipped, Found, Refused}
-use Rattle.keymap_text.specs.Lexical.{Unfinished}
+use Rattle.keymap_text.specs.Lexical.{is_blank, is_space, stays_on_line, leading, front_of, Front, Skipped, Found}
+use Rattle.keymap_text.specs.Lexical.{Refused, Unfinished}
 use Rattle.keymap_text.proofs.Alone.{stands_alone}
 use Rattle.keymap_text.proofs.InFront.{skipped_by}
 use Rattle.keymap_text.proofs.Leading.{leading_front, leading_part}
@@ -114,7 +114,8 @@ text_pieces (c ∷ bytes) k s = go k s (text_pieces bytes)
   where
     skipped : ((k : ℕ) (s : Standing) → ArePieces s (pieces_after k s bytes)) → (s : Standing)
         → (is_blank c ≡ true) ⊎ (c ≡ 35) → ArePieces s (pieces_after 0 s (c ∷ bytes))
-    skipped more s (inl e) = subst (ArePieces s) (sym (read_blank s c bytes e)) (after_blank c s _ (more 0 (lowered c s)))
+    skipped more s (inl e) = subst (ArePieces s) (sym (read_blank s c bytes e))
+        (after_blank c s _ (more 0 (lowered c s)))
     skipped more s (inr e) =
         subst (ArePieces s) (sym (read_hash s c bytes e))
         (one_piece (comment (c ∷ take (leading stays_on_line bytes) bytes) s) (comment_reads c bytes e)

@@ -1,7 +1,6 @@
 -- Where no cell is a dead key of an accent that isn't defined, no accent is missing.
 use Rattle.std.proofs.Common.{◌≡◌, ℕ, Bool, true, false, List, [], ◌∷◌, ◌++◌, None, Some, Option, cond, refl, ap, sym}
-use Rattle.std.proofs.Common.{◌∙◌}
-use Rattle.std.proofs.Common.{zero, suc, arith, ◌||◌}
+use Rattle.std.proofs.Common.{◌∙◌, zero, suc, arith, ◌||◌}
 use Rattle.std.specs.Prelude.{◌&&◌, not}
 use Rattle.std.specs.List.{find}
 use Rattle.std.specs.Option.{is_some}

@@ -124,7 +124,7 @@ stands_alone c n k s h =
 
 -- what is passed over is a blank or a comment
 pub skipped_separates : (c n : ℕ) (s : List ℕ) → front_of c s ≡ Skipped n → separates c ≡ true
-skipped_separates c n s h = ⊎_elim (λ (b : is_blank c ≡ true). blank b) (λ (e : c ≡ 35). ap separates e) (skipped_by c n s h)
+skipped_separates c n s h = ⊎_elim blank (λ (e : c ≡ 35). ap separates e) (skipped_by c n s h)
   where
     blank : is_blank c ≡ true → separates c ≡ true
     blank b = grind (arith, nat_tests)

@@ -46,8 +46,10 @@ pub on_line : (b : List ℕ) (n s place : ℕ) → IsLineStart b n s → s ≤ p
 on_line b n s place h l e w =
     let size : length (take place b) ≡ place = length-take-le place b w in
     let is = suffix_len_is stays_on_line (take place b) s 0 (omega (arith, size, l))
-    (λ k k0 k1. ap stays_on_line (get_or-take place b k 0 (omega (arith, k1, size)) ∙ ap (λ n. get_or b n 0) (behind k k0)
-    ∙ sym (get_or-drop s b (k - s) 0)) ∙ prefix_len_passes stays_on_line (drop s b) (k - s) 0 (omega (arith, k0, k1, size, e)))
+    (λ k k0 k1. ap stays_on_line (get_or-take place b k 0 (omega (arith, k1, size))
+    ∙ ap (λ n. get_or b n 0) (behind k k0)
+    ∙ sym (get_or-drop s b (k - s) 0)) ∙ prefix_len_passes stays_on_line (drop s b) (k - s) 0
+    (omega (arith, k0, k1, size, e)))
     (λ z. ap stays_on_line (get_or-take place b (s - 1) 0 (omega (arith, z, l))) ∙ h.begins z) in
     omega (arith, is, size, l)
   where

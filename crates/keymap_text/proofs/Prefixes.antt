@@ -1,4 +1,5 @@
--- The tokens of a text are those of a text that begins with it, but for what stands at its end. So an early fault stays.
+-- The tokens of a text are those of a longer one that begins with it, but for what stands at its end. So an early fault
+-- stays.
 use Rattle.keymap_text.proofs.Common.{◌≡◌, ℕ, zero, suc, ◌+◌, ◌<◌, ◌≤◌, inl, inr, ⊎_elim, ◌&&◌, Bool, true, false, not}
 use Rattle.keymap_text.proofs.Common.{List, [], ◌∷◌, ◌++◌, length, refl, sym, ◌∙◌, ap, ap₂, subst, arith, Result, Ok}
 use Rattle.keymap_text.proofs.Common.{Err, slice_index_or, true≢false, take-append-le, drop-append-le, TextFaultKind}

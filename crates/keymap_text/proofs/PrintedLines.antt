@@ -128,7 +128,8 @@ lexes_slot s h =
     subst (λ (i : Item). Lexes NoWord (slot_text s) (i ∷ []))
     (ap Value (meaning_digits (slot_text s) s (three_number (s / 100) (s / 10 % 10) (s % 10) a b c ∙ ap Some n)))
     (lexes_word (slot_text s) (omega arith) (omega arith)
-    (three_word (48 + s / 100) (48 + s / 10 % 10) (48 + s % 10) (decimal_word _ a) (decimal_word _ b) (decimal_word _ c)))
+    (three_word (48 + s / 100) (48 + s / 10 % 10) (48 + s % 10) (decimal_word _ a) (decimal_word _ b)
+    (decimal_word _ c)))
 
 -- a printed lock letter is that letter
 lexes_letter : (f : LockFlag) → Lexes NoWord (flag_letter f ∷ []) (Value (Letter f) ∷ [])

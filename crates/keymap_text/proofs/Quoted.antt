@@ -395,7 +395,8 @@ quoted_refused q rest n m = go (literal rest) refl
     go (Skipped k) e = absurd (literal_no_skip rest k e)
     go (Found k i) e = absurd (n (begins rest k i (literal_finds rest k i e)))
     go (Refused f) e =
-        ap first (split_refused q 39 f rest (front_quote 39 rest refl ∙ e)) ∙ ap (λ f. Err (f, q)) (literal_refused rest f e)
+        ap first (split_refused q 39 f rest (front_quote 39 rest refl ∙ e))
+        ∙ ap (λ f. Err (f, q)) (literal_refused rest f e)
 
 -- there is nothing else at an apostrophe
 pub quoted_reason : (q : ℕ) (rest : List ℕ) → IsReason (39 ∷ rest) (first (tokens_after 0 q (39 ∷ rest)))

@@ -42,7 +42,10 @@ spaces_at text rest at n e h =
 
 -- nothing is taken
 pub stays : (s : GrammarState) (rest : List ℕ) → Advances s s rest 0
-stays s rest = record { takes = λ q x. ap (λ n. judge s (tokens_after 0 n (rest ++ x))) (omega arith); inside = omega arith }
+stays s rest = record {
+  takes = λ q x. ap (λ n. judge s (tokens_after 0 n (rest ++ x))) (omega arith);
+  inside = omega arith;
+}
 
 -- blanks are taken
 pub blanks_advance : (s : GrammarState) (n : ℕ) (rest : List ℕ) → n ≤ leading is_space rest → n ≤ length rest
@@ -108,7 +111,8 @@ advances_on old mid new rest behind n m a e b0 =
     }
 
 -- a fault behind bytes that were taken
-pub refuses_on : (old mid : GrammarState) (rest behind : List ℕ) (n m k : ℕ) (f : TextFaultKind) → Advances old mid rest n
+pub refuses_on : (old mid : GrammarState) (rest behind : List ℕ) (n m k : ℕ) (f : TextFaultKind)
+    → Advances old mid rest n
     → behind ≡ take (length rest - n) (drop n rest) → Refuses mid behind f m → k ≡ n + m → Refuses old rest f k
 refuses_on old mid rest behind n m k f a e r0 size =
     let r = subst (λ (t : List ℕ). Refuses mid t f m) (e ∙ to_end rest n) r0 in

@@ -199,7 +199,8 @@ comment_ends old new w y some hash o all stops s p q l r =
     ∙ ap (λ (t : List ℕ). judge (state_view new) (tokens_after 0 new.offset (t ++ (y ++ x)))) (sym p))
   where
     ends : (s : GrammarState) (q : ℕ) (p x : List ℕ) → 0 < length p → get_or p 0 0 ≡ 35 → IsOpen p
-        → judge s (tokens_after 0 q (p ++ (w ++ (y ++ x)))) ≡ judge s (tokens_after 0 (q + length p + length w) (y ++ x))
+        → judge s (tokens_after 0 q (p ++ (w ++ (y ++ x))))
+        ≡ judge s (tokens_after 0 (q + length p + length w) (y ++ x))
     ends s q [] x l e o = absurd (omega (arith, l))
     ends s q (a ∷ p) x l e o =
         ap (λ (t : List ℕ). judge s (tokens_after 0 q (a ∷ t))) (sym (append_assoc p w (y ++ x)))
@@ -235,7 +236,8 @@ pub comment_kept : (old new : Reading) (tail : List ℕ) → old.pending.items �
     → new.offset ≡ old.offset + (length tail - 1) → new.line ≡ old.line → IsReader new → Moves old new tail []
 comment_kept old new [] none some hash o s p q l r = absurd (omega (arith, some))
 comment_kept old new (a ∷ t) none some hash o s p q l r =
-    still old new (a ∷ t) [] (open_feeds (a ∷ t) o) (omega (arith, q)) l (omega (arith, q, ap length p, ap length none)) r
+    still old new (a ∷ t) [] (open_feeds (a ∷ t) o) (omega (arith, q)) l
+    (omega (arith, q, ap length p, ap length none)) r
     (λ x. ap (λ (t' : List ℕ). judge (state_view old) (tokens_after 0 old.offset (t' ++ ((a ∷ t) ++ x)))) none
     ∙ comment_shift (state_view old) old.offset new.offset a 35 t [] x hash refl (open_line a t hash o) refl
     (omega (arith, q))
@@ -243,7 +245,8 @@ comment_kept old new (a ∷ t) none some hash o s p q l r =
     ∙ ap (λ (t' : List ℕ). judge (state_view new) (tokens_after 0 new.offset (t' ++ x))) (sym p))
 
 -- bytes were taken behind others
-pub moves_on : (old mid new : Reading) (w v : List ℕ) → Moves old mid w v → Moves mid new v [] → Moves old new (w ++ v) []
+pub moves_on : (old mid new : Reading) (w v : List ℕ) → Moves old mid w v → Moves mid new v []
+    → Moves old new (w ++ v) []
 moves_on old mid new w v a b = record {
   takes = λ x. ap (λ (t : List ℕ). resume old t) (append_assoc w v x) ∙ a.takes x ∙ b.takes x;
   reader = b.reader;

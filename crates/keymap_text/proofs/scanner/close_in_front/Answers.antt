@@ -10,6 +10,7 @@ returns-then-rest-blanks-eq41 c = λ some. record {
   are_blank = c.first_spaces-blanks.ensures.blank;
   inside = c.first_spaces-blanks.ensures.length;
   fronts = right_fronts _ (behind_some c.args.rest.now c.first_spaces-blanks.result c.if-blanks-rest.true)
-      (sym (behind_first c.args.rest.now c.first_spaces-blanks.result c.if-blanks-rest.true) ∙ c.if-rest-blanks-eq41.true);
+      (sym (behind_first c.args.rest.now c.first_spaces-blanks.result c.if-blanks-rest.true)
+      ∙ c.if-rest-blanks-eq41.true);
   sum = refl;
 }

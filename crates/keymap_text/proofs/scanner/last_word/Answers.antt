@@ -13,11 +13,16 @@ pub item_of-requires : goal.item_of-requires
 item_of-requires g c = λ _. open_few c.args.tail.now c.requires.open c.if-tail-eq35.false
 
 pub returns-then-is_empty-clause-takes : goal.returns-then-is_empty-clause-takes
-returns-then-is_empty-clause-takes g c = λ m h. (m, h, λ q. end_none _ c.args.tail.now q (eqb-true _ _ (sym c.is_empty.ensures ∙ c.if-is_empty.true)))
+returns-then-is_empty-clause-takes g c = λ m h.
+    (m, h, λ q. end_none _ c.args.tail.now q (eqb-true _ _ (sym c.is_empty.ensures ∙ c.if-is_empty.true)))
 
 pub returns-then-tail-eq35-clause-takes : goal.returns-then-tail-eq35-clause-takes
-returns-then-tail-eq35-clause-takes g c = λ m h.
-    (m, h, λ q. end_comment _ c.args.tail.now q (not_none _ (sym c.is_empty.ensures ∙ c.if-is_empty.false)) c.if-tail-eq35.true c.requires.open)
+returns-then-tail-eq35-clause-takes g c = λ m h. (
+  m,
+  h,
+  λ q. end_comment _ c.args.tail.now q (not_none _ (sym c.is_empty.ensures ∙ c.if-is_empty.false))
+      c.if-tail-eq35.true c.requires.open,
+)
 
 pub returns-in-Ok-clause-takes : goal.returns-in-Ok-clause-takes
 unfolding accept
@@ -50,5 +55,6 @@ returns-in-Refused-clause-takes g c =
 pub returns-in-Unfinished-clause-takes : goal.returns-in-Unfinished-clause-takes
 returns-in-Unfinished-clause-takes g c = λ m h. (
   omega arith,
-  λ q. end_quote _ c.args.tail.now q (not_none _ (sym c.is_empty.ensures ∙ c.if-is_empty.false)) c.in-Unfinished.ensures.value,
+  λ q. end_quote _ c.args.tail.now q (not_none _ (sym c.is_empty.ensures ∙ c.if-is_empty.false))
+      c.in-Unfinished.ensures.value,
 )

@@ -18,7 +18,8 @@ returns-in-Ok-clause-takes g c =
             c.close_entry.ensures.shows m h,
             subst (λ p. Advances (at m (place_view p r.entry r.accent)) (at m' (grammar_view new)) rest size)
                 (sym c.requires)
-                (subst (λ p. Advances (at m (spec.LockAt c.args.slot r.entry)) (at m' (place_view p new.entry new.accent))
+                (subst (λ p. Advances (at m (spec.LockAt c.args.slot r.entry))
+                (at m' (place_view p new.entry new.accent))
                 rest size) (sym c.close_entry.ensures.place)
                 (letter_taken m c.args.slot c.first_spaces-blanks.result c.in-Some.n r.entry rest c.in-Some.item
                 c.in-Ok.flag c.first_spaces-blanks.ensures.blank c.first_spaces-blanks.ensures.length c.in-Some.ensures

@@ -14,5 +14,6 @@ returns-in-Ok-clause-took c = record {
 pub returns-in-Err-clause-took : goal.returns-in-Err-clause-took
 returns-in-Err-clause-took c = λ m slot.
     cell_refused m slot c.args.index c.first_spaces-blanks.result c.in-Some.n c.args.grammar.now.entry c.args.rest.now
-    c.in-Some.item c.in-Err.kind c.first_spaces-blanks.ensures.blank c.first_spaces-blanks.ensures.length c.in-Some.ensures
+    c.in-Some.item c.in-Err.kind c.first_spaces-blanks.ensures.blank c.first_spaces-blanks.ensures.length
+    c.in-Some.ensures
     (sym c.in-Err.ensures)

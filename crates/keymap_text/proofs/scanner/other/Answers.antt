@@ -8,7 +8,8 @@ ok_is n k h = cc
 
 pub returns-then-is_blank_byte-clause-takes : goal.returns-then-is_blank_byte-clause-takes
 returns-then-is_blank_byte-clause-takes g c =
-    takes_same (λ s. blank_advances s c.args.rest.now c.requires.some (sym c.is_blank_byte.ensures ∙ c.if-is_blank_byte.true))
+    takes_same (λ s. blank_advances s c.args.rest.now c.requires.some
+    (sym c.is_blank_byte.ensures ∙ c.if-is_blank_byte.true))
 
 pub returns-then-n-rest-clause-takes : goal.returns-then-n-rest-clause-takes
 returns-then-n-rest-clause-takes g c =

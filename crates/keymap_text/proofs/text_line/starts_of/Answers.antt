@@ -5,7 +5,8 @@ use Rattle.keymap_text.proofs.text_line.starts_of.Goals as goal
 
 pub loop-end-init : goal.loop-end-init
 loop-end-init c =
-    let items : c.push.new.self.items ≡ 0 ∷ [] = c.in_ok-push.ensures.items ∙ ap (λ (t : List ℕ). t ++ 0 ∷ []) c.new-starts.ensures.items in
+    let items : c.push.new.self.items ≡ 0 ∷ [] =
+    c.in_ok-push.ensures.items ∙ ap (λ (t : List ℕ). t ++ 0 ∷ []) c.new-starts.ensures.items in
     record {
       starts = subst (λ (t : List ℕ). AreStarts c.args.text.now t) (sym items) (first_start c.args.text.now);
       end = c.line_end-end.ensures.value
@@ -36,5 +37,10 @@ returns c =
     let each = l.invariant.starts.each k (omega (arith, l.invariant.starts.some)) in
     record {
       lines = l.invariant.starts;
-      last = omega (arith, l.invariant.end, c.loop-end-test.false, end_within b (k + 1) (get_or l.starts.items k 0) each);
+      last = omega (
+        arith,
+        l.invariant.end,
+        c.loop-end-test.false,
+        end_within b (k + 1) (get_or l.starts.items k 0) each,
+      );
     }

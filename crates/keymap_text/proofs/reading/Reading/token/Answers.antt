@@ -28,7 +28,8 @@ overflow_sub-taken c =
     let some : 0 < n = omega (arith, c.in-Ok.n-test) in
     let found = c.in-Ok.ensures.found some in
     let longer = open_longer c.as_slice.result.now c.args.self.now.pending.items _ found.0 n
-    (c.as_slice.ensures.value ∙ c.extend.ensures) c.requires.some c.requires.reader.tail c.requires.token found.1 some in
+    (c.as_slice.ensures.value ∙ c.extend.ensures) c.requires.some c.requires.reader.tail c.requires.token found.1
+    some in
     omega (arith, longer, c.len-had.ensures.value)
 
 pub returns-in-Ok-eq0 : goal.returns-in-Ok-eq0
@@ -46,7 +47,8 @@ returns-in-Ok-eq0 c =
       inside = c.few-few.ensures.inside;
       moves = extended r _ bytes (take few piece) (drop few piece) c.in-Ok-eq0.field-0
           (of_map (state_view r) (grammar_view c.next.new.grammar) c.next.new.into bytes c.in-Ok-eq0.field-0
-          (c.in-Ok-eq0.ensures.takes.took r.map refl)) c.in-Ok-eq0.field-0-test joint (sym c.as_slice.ensures.value) refl
+          (c.in-Ok-eq0.ensures.takes.took r.map refl)) c.in-Ok-eq0.field-0-test joint
+          (sym c.as_slice.ensures.value) refl
           refl
           (record {
             place = c.in-Ok-eq0.ensures.leaves.1;

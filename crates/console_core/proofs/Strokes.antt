@@ -155,11 +155,6 @@ follows-dead r s k j x idle =
           other-remembered r k n (act.DeadKey j) (not-holder s k n i idle holds) ∙ x.follows.holds i n holds;
     }
 
--- what a key remembers that was released
-let-go-none : (r : List ResolvedEvent) (k : ℕ) → remembered k (ReleasedKey k ∷ r) ≡ None
-let-go-none r k =
-    remembered-release k k r ∙ ap (λ b. if b then None else remembered k r) (eq-eqb k k refl)
-
 pub exact-character : (r : List ResolvedEvent) (s : State) (k c : ℕ) → Exact r s → IsIdle s k
     → Exact (ReleasedKey k ∷ (PressedCharacter k c ∷ r)) s
 exact-character r s k c x idle =

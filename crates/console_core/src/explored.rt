@@ -1,6 +1,6 @@
 //! The states that presses lead to from one where no key holds a modifier, the taps that can be made in them, and the
 //! events of those.
-ghost use Rattle.std.specs.Prelude.{◌≡◌, true, false, reverse, slice_get, Some, OnOk, IfOk};
+ghost use Rattle.std.specs.Prelude.{◌≡◌, true, false, reverse, slice_get, Some, IfOk};
 ghost use Rattle.std.specs.Prelude.{MatchOption, ℕ};
 ghost use Rattle.console_core.specs.Moves.{Under, alone, map_in};
 ghost use Rattle.console_core.specs.Typing.{IsTapOf, cell_of};

@@ -1,4 +1,5 @@
--- What an exploration keeps, and the events of one tap of a key. Mirrors `Explored` of src/explored.rt, and src/typing.rt.
+-- What an exploration keeps, and the events of one tap of a key. Mirrors `Explored` of src/explored.rt, src/ways.rt and
+-- src/typing.rt.
 use Rattle.std.specs.Prelude.{◌≡◌, ℕ, Bool, true, false, List, [], ◌∷◌, ◌++◌, length, reverse, None, Some, slice_get, ◌⊎◌, Option, map}
 use Rattle.keymap_core.specs.declared.action.Lock.TheVariants.{Scroll}
 use Rattle.keymap_core.specs.Maps.{MapValue}

@@ -1,5 +1,5 @@
 -- What an exploration met, and which taps can be made.
-use Rattle.std.proofs.Common.{◌≡◌, ◌<◌, ◌⊎◌, ℕ, Bool, true, false, List, [], ◌∷◌, ◌++◌, length, slice_get, Option, Some}
+use Rattle.std.proofs.Common.{◌≡◌, ◌⊎◌, ℕ, Bool, true, false, List, [], ◌∷◌, ◌++◌, length, slice_get, Some}
 use Rattle.std.proofs.Common.{None, refl, ap, subst, sym, ◌∙◌, inl, inr, reverse, append_assoc}
 use Rattle.std.proofs.Common.{eqb}
 use mathlib.Core.Bool.{beq}
@@ -14,18 +14,18 @@ use Rattle.console_core.proofs.Searching.{same-state}
 use Rattle.keymap_core.specs.declared.action.Lock.{Lock}
 use Rattle.keymap_core.specs.declared.action.Lock.TheVariants.{Caps, Num, Scroll, Alt}
 use Rattle.keymap_core.specs.Maps.{MapValue}
-use Rattle.console_core.specs.Types.{Modifier, Event, Press, Release, Move, Hold, Turn, LetGo, Exchange}
+use Rattle.console_core.specs.Types.{Event, Press, Release, Move, Hold, Turn, LetGo, Exchange}
 use Rattle.console_core.specs.declared.explored.Explored.{Explored}
 use Rattle.console_core.specs.declared.explored.Symbol.{Symbol}
 use Rattle.console_core.specs.declared.explored.Symbol.TheVariants as symbol
 use Rattle.console_core.specs.declared.explored.Tap.{Tap}
 use Rattle.console_core.specs.Answers.{usable}
-use Rattle.console_core.specs.Moves.{Under, alone, State, start, IsFree, IsMove, moved, IsPath, state_after, IsPathFrom}
+use Rattle.console_core.specs.Moves.{Under, alone, State, start, IsMove, moved, state_after, IsPathFrom}
 use Rattle.console_core.specs.Moves.{state_from, events_along}
 use Rattle.console_core.specs.Returning.{IsHome}
 use Rattle.console_core.specs.Typing.{ComesHome, IsTapOf, CanTap, CanType, composed_of}
-use Rattle.console_core.specs.Inner.Exploring.{map_of_explored, origin_in, IsOrigin, IsExplored, IsStand, IsTapAt, HasTap}
-use Rattle.console_core.specs.Inner.Exploring.{LetsGo, IsStroke, HasTyped, TypesOne, dead_tap, plain_tap}
+use Rattle.console_core.specs.Inner.Exploring.{map_of_explored, origin_in, IsOrigin, IsExplored, IsStand, HasTap}
+use Rattle.console_core.specs.Inner.Exploring.{LetsGo, IsStroke, HasTyped, TypesOne}
 use Rattle.console_core.specs.Inner.Routes.{LeadsHome, Routes, AllLeadHome, HasRoute, AreSettled, freed}
 use Rattle.console_core.specs.Inner.Searching.{state_of, Entry, Entries, IsTrail, IsReached, LeavesScroll, Searched}
 use Rattle.console_core.specs.Inner.Standing.{unscrolled}

@@ -14,7 +14,7 @@ use Rattle.console_core.specs.declared.search.Origin.{Origin}
 use Rattle.std.specs.Option.{is_some}
 use Rattle.std.specs.Map.{lookup}
 use Rattle.indexmap.specs.IndexMap.{insert_entry}
-use Rattle.console_core.specs.Moves.{Under, State, start, look_in, with_holder, with_lock_turned, IsForgetful}
+use Rattle.console_core.specs.Moves.{Under, State, look_in, with_holder, with_lock_turned, IsForgetful}
 use Rattle.console_core.specs.Inner.Searching.{state_of, Entry, Entries, Grows, IsStep, IsMetBy, IsLetGoMet}
 use Rattle.console_core.specs.Inner.Searching.{IsExchangeMet, ArePressesMet, AreWithin, IsFrom, AreAdded, IsReached}
 use Rattle.console_core.specs.Inner.Searching.{IsClosed, IsPressed, Searched, AreSafe, AreInOrder}

@@ -7,7 +7,7 @@ use Rattle.console_core.specs.Types.{Event, Press, Release, Move, Answer}
 use Rattle.console_core.specs.declared.explored.Explored.{Explored}
 use Rattle.console_core.specs.declared.explored.Tap.{Tap}
 use Rattle.console_core.specs.declared.held.Held.{Held}
-use Rattle.console_core.specs.Moves.{Under, alone, State, start, IsFree, IsPath, state_after, IsPathFrom, state_from, events_along}
+use Rattle.console_core.specs.Moves.{Under, alone, State, IsFree, IsPath, state_after, IsPathFrom, state_from, events_along}
 use Rattle.console_core.specs.Returning.{IsHome}
 use Rattle.console_core.specs.Sticking.{ReachesMoreThanFrom, ReachesMoreThan, state_limit}
 use Rattle.console_core.specs.History.{answer_to, between, accent_pending_after}
@@ -23,7 +23,7 @@ use Rattle.console_core.specs.declared.typing.Typed.TheVariants as typed
 use Rattle.console_core.specs.declared.ways.Way.{Way}
 use Rattle.console_core.specs.declared.ways.Way.TheVariants as way
 use Rattle.console_core.specs.Inner.Routes.{AllLeadHome, HasRoute, AreSettled, freed}
-use Rattle.console_core.specs.Inner.Searching.{state_of, under_of, origin_of, Entry, Entries, Searched}
+use Rattle.console_core.specs.Inner.Searching.{state_of, under_of, origin_of, Entry, Searched}
 use Rattle.console_core.specs.Inner.Standing.{Stands}
 
 abbrev pub map_of_explored : Explored → MapValue

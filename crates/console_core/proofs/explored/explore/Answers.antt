@@ -1,4 +1,4 @@
-use Rattle.std.proofs.Common.{false, true, length, refl, subst, sym, ◌∙◌, arith}
+use Rattle.std.proofs.Common.{false, length, refl, subst, sym, ◌∙◌, arith}
 use Rattle.std.proofs.lemmas.Bool.{true≢false}
 use Rattle.console_core.specs.declared.search.End.TheVariants as end
 use Rattle.console_core.specs.Moves.{alone}

@@ -3,7 +3,7 @@ use Rattle.std.proofs.lemmas.Bool.{true≢false}
 use Rattle.std.proofs.lemmas.Option.{slice_get_within}
 use Rattle.console_core.specs.Moves.{alone}
 use Rattle.console_core.specs.Typing.{IsTapOf}
-use Rattle.console_core.specs.Inner.Exploring.{map_of_explored, IsTapAt}
+use Rattle.console_core.specs.Inner.Exploring.{map_of_explored}
 use Rattle.console_core.specs.Inner.Routes.{HasRoute}
 use Rattle.console_core.specs.Inner.Searching.{state_of}
 use Rattle.console_core.proofs.Looking.{entry-at}

@@ -1,4 +1,4 @@
-use Rattle.std.proofs.Common.{reverse, sym, ◌∙◌}
+use Rattle.std.proofs.Common.{reverse, sym}
 use Rattle.std.proofs.lemmas.Bool.{true≢false}
 use Rattle.console_core.specs.Moves.{alone}
 use Rattle.console_core.specs.Inner.Exploring.{map_of_explored}

@@ -1,10 +1,10 @@
-use Rattle.std.proofs.Common.{subst, reverse, slice_get, Some, ◌≡◌, ap, sym}
-use Rattle.std.proofs.lemmas.Option.{slice_get_within, same_Some}
+use Rattle.std.proofs.Common.{subst, reverse, sym}
+use Rattle.std.proofs.lemmas.Option.{slice_get_within}
 use Rattle.console_core.specs.Moves.{alone}
 use Rattle.console_core.specs.Inner.Exploring.{map_of_explored, origin_in, LetsGo}
 use Rattle.console_core.specs.Inner.Routes.{HasRoute, LeadsHome, freed}
 use Rattle.console_core.specs.Inner.Searching.{state_of}
-use Rattle.console_core.proofs.Exploring.{stroke-freed, stroke-home, types-composed, tap-can, can-tap-met, types-direct}
+use Rattle.console_core.proofs.Exploring.{stroke-freed, stroke-home}
 use Rattle.console_core.proofs.GoingBack.{searched-back}
 use Rattle.console_core.proofs.explored.Explored.stroke.Goals as goal
 

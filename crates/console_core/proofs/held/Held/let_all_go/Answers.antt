@@ -1,4 +1,4 @@
-use Rattle.std.proofs.Common.{arith, reverse, subst, sym, ap, ◌∙◌, ◌+◌, ◌≡◌, ◌∷◌, Some}
+use Rattle.std.proofs.Common.{arith, reverse, subst, sym, ap, ◌∙◌, ◌+◌, ◌∷◌}
 use Rattle.console_core.specs.Types.{Release}
 use Rattle.console_core.specs.Inner.Searching.{state_of}
 use Rattle.console_core.proofs.Looking.{push-reversed}

@@ -1,5 +1,5 @@
 -- Which keys a character is typed with, by what was explored.
-use Rattle.std.proofs.Common.{◌≡◌, ◌+◌, ◌≤◌, ℕ, true, false, List, [], ◌∷◌, ◌++◌, slice_get, Some, refl, ap, subst, sym}
+use Rattle.std.proofs.Common.{◌≡◌, ◌+◌, ℕ, true, false, List, [], ◌∷◌, ◌++◌, slice_get, Some, ap, subst, sym}
 use Rattle.std.proofs.Common.{◌∙◌, inl, inr, arith}
 use Rattle.std.proofs.lemmas.Bool.{cases_Bool}
 use Rattle.keymap_core.specs.Maps.{MapValue}
@@ -13,7 +13,7 @@ use Rattle.console_core.specs.declared.ways.Accented.{Accented}
 use Rattle.console_core.specs.declared.typing.Typed.{Typed}
 use Rattle.console_core.specs.declared.typing.Typed.TheVariants as typed
 use Rattle.console_core.specs.Moves.{Under, alone, State, start, IsPath, state_after, IsPathFrom, state_from}
-use Rattle.console_core.specs.Moves.{presses_along, presses_of}
+use Rattle.console_core.specs.Moves.{presses_along}
 use Rattle.console_core.specs.Sticking.{ReachesMoreThan, ReachesMoreThanFrom, state_limit}
 use Rattle.console_core.specs.Typing.{CanTap, CanType, ComesHome, IsTapOf}
 use Rattle.console_core.specs.Inner.Routes.{HasRoute}

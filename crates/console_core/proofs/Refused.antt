@@ -1,9 +1,7 @@
 -- What a list of presses, releases and resets types on its way home, moves and taps can type.
-use Rattle.std.proofs.Common.{◌≡◌, ◌⊎◌, ℕ, ◌<◌, Bool, true, false, not, List, [], ◌∷◌, ◌++◌, Option, Some, None, refl}
-use Rattle.std.proofs.Common.{ap}
+use Rattle.std.proofs.Common.{◌≡◌, ◌⊎◌, ℕ, Bool, true, false, not, List, [], ◌∷◌, ◌++◌, Option, Some, None, refl, ap}
 use Rattle.std.proofs.Common.{subst, sym, ◌∙◌, inl, inr, arith, append_assoc, append-nil, if◌then◌else◌}
 use Prim.Native.Nat.{suc}
-use Rattle.std.specs.Option.{is_some}
 use Rattle.std.proofs.lemmas.Bool.{true≢false, eqb-true, eq-eqb}
 use Rattle.std.proofs.lemmas.List.Elements.{All-head}
 use Rattle.std.proofs.lemmas.Option.{none-some}
@@ -25,8 +23,7 @@ use Rattle.console_core.specs.Inner.Standing.{Follows}
 use Rattle.console_core.specs.History.{between, in_force, resolved, is_second_in_force, is_on_after, HasKey, IsNoLoad}
 use Rattle.console_core.specs.History.{accent_pending_after}
 use Rattle.console_core.specs.Reading.{look_after, remembered_after}
-use Rattle.console_core.specs.Moves.{Under, alone, State, start, map_of, map_in, next_map, look_in, Holds, IsIdle}
-use Rattle.console_core.specs.Moves.{IsMove}
+use Rattle.console_core.specs.Moves.{Under, alone, State, start, map_of, map_in, next_map, look_in, IsIdle, IsMove}
 use Rattle.console_core.specs.Moves.{moved, IsPathFrom, state_from, IsForgetful}
 use Rattle.console_core.specs.Returning.{IsHome}
 use Rattle.console_core.specs.Sights.{IsAdmitted}

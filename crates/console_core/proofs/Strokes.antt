@@ -1,6 +1,5 @@
 -- Taps of keys in states that moves lead to: where they lead, and what they type.
-use Rattle.std.proofs.Common.{◌≡◌, ◌+◌, ◌<◌, ◌⊎◌, ℕ, Bool, true, false, ◌&&◌, ◌||◌, not, List, [], ◌∷◌, ◌++◌, Option}
-use Rattle.std.proofs.Common.{Some}
+use Rattle.std.proofs.Common.{◌≡◌, ◌+◌, ◌<◌, ℕ, Bool, true, false, ◌&&◌, ◌||◌, not, List, [], ◌∷◌, ◌++◌, Option, Some}
 use Rattle.std.proofs.Common.{None, refl, ap, subst, sym, ◌∙◌, inl, inr, arith, append_assoc, map, reverse}
 use Rattle.std.proofs.Common.{if◌then◌else◌}
 use Rattle.std.specs.Prelude.{◌==◌}
@@ -14,26 +13,25 @@ use Rattle.keymap_core.specs.Actions.{same_modifier, modifier_index, same_action
 use Rattle.std.specs.Option.{option_or}
 use Rattle.keymap_core.specs.Accents.{own_of}
 use Rattle.keymap_core.specs.Maps.{MapValue, accent_at}
-use Rattle.console_core.specs.Types.{Action, Modifier, Meta, Cell, Char, Act, Event, Press, Release, Answer, Lock, Move}
+use Rattle.console_core.specs.Types.{Action, Modifier, Meta, Cell, Char, Act, Event, Press, Release, Answer, Move}
 use Rattle.console_core.specs.Types.{Hold, Turn, LetGo, Exchange}
 use Rattle.console_core.specs.declared.event.Answer.TheVariants as answer
 use Rattle.console_core.specs.declared.explored.Symbol.{Symbol}
 use Rattle.console_core.specs.declared.explored.Symbol.TheVariants as symbol
 use Rattle.console_core.specs.Answers.{usable, answer_char, answer_action, answer_release, char_or_error, composed_by}
 use Rattle.console_core.specs.Answers.{answer_dead_key, is_pending}
-use Rattle.console_core.specs.Resolved.{ResolvedEvent, remembered, taken_over, pending, on, held, locked, look}
+use Rattle.console_core.specs.Resolved.{ResolvedEvent, remembered, taken_over, pending, held, locked, look}
 use Rattle.console_core.specs.Resolved.{is_this_action, resolve_press}
 use Rattle.console_core.specs.Resolved.ResolvedEvent.{PressedCharacter, PressedAction, ReleasedKey}
 use Rattle.console_core.specs.Inner.Kept.{next_pending, pending_after_dead_key}
-use Rattle.console_core.specs.History.{between, resolved, in_force, is_second_in_force, accent_pending_after, HasKey}
+use Rattle.console_core.specs.History.{between, resolved, is_second_in_force, accent_pending_after, HasKey}
 use Rattle.console_core.specs.History.{is_on_after, answer_to}
 use Rattle.console_core.specs.Reading.{remembered_after, look_after, answer_to_look}
 use Rattle.console_core.specs.Moves.{Under, alone, State, Holds, IsIdle, IsMove, look_in, is_held, with_holder}
 use Rattle.console_core.specs.Moves.{IsPathFrom, state_from, events_along, events_of_move, map_of}
 use Rattle.console_core.specs.Typing.{IsTapOf, cell_of, composed_of, types_something, plainly}
 use Rattle.console_core.specs.Inner.Exploring.{LetsGo, IsStroke, HasTyped, typed_along, kept_if}
-use Rattle.console_core.specs.Inner.Routes.{freed}
-use Rattle.console_core.specs.Inner.Standing.{Follows, Exact, Stands, HoldsSome}
+use Rattle.console_core.specs.Inner.Standing.{Follows, Exact, Stands}
 use Rattle.console_core.proofs.Going.{pending-along, pending-is}
 use Rattle.console_core.proofs.OneMore.{resolved-more, held-character, held-action, held-release, locked-character}
 use Rattle.console_core.proofs.OneMore.{locked-action, remembered-character, remembered-release, pending-character}
@@ -157,11 +155,6 @@ follows-dead r s k j x idle =
       holds = λ i n holds.
           other-remembered r k n (act.DeadKey j) (not-holder s k n i idle holds) ∙ x.follows.holds i n holds;
     }
-
--- what a key remembers that was released
-let-go-none : (r : List ResolvedEvent) (k : ℕ) → remembered k (ReleasedKey k ∷ r) ≡ None
-let-go-none r k =
-    remembered-release k k r ∙ ap (λ b. if b then None else remembered k r) (eq-eqb k k refl)
 
 pub exact-character : (r : List ResolvedEvent) (s : State) (k c : ℕ) → Exact r s → IsIdle s k
     → Exact (ReleasedKey k ∷ (PressedCharacter k c ∷ r)) s

@@ -1,9 +1,7 @@
 -- Characters typed one after another, and that a console is as new behind them.
 use Prim.Native.Nat.{zero, suc}
-use Rattle.std.proofs.Common.{◌≡◌, ◌+◌, ◌<◌, ◌≤◌, ◌⊎◌, ℕ, Bool, drop, inl, inr, true, false, List, [], ◌∷◌, ◌++◌, All}
-use Rattle.std.proofs.Common.{Option, Some, None, refl, ap}
-use Rattle.std.proofs.Common.{subst, sym, ◌∙◌, arith, append_assoc, append-nil, map, reverse, take, length, get_or}
-use Rattle.std.proofs.Common.{slice_get}
+use Rattle.std.proofs.Common.{◌≡◌, ◌+◌, ◌<◌, ◌≤◌, ◌⊎◌, ℕ, Bool, drop, inl, inr, true, false, List, [], ◌∷◌, ◌++◌, All, Some, None, refl, ap}
+use Rattle.std.proofs.Common.{subst, sym, ◌∙◌, arith, append_assoc, append-nil, map, reverse, take, length, get_or, slice_get}
 use Rattle.std.proofs.Common.{if◌then◌else◌}
 use Rattle.std.specs.Prelude.{filter}
 use Rattle.std.proofs.lemmas.Bool.{false_from_ne_true}
@@ -14,8 +12,7 @@ use Rattle.std.proofs.lemmas.List.{length-take-le, take-append-le}
 use Rattle.std.proofs.lemmas.List.Elements.{All-push, All-nil}
 use Rattle.std.proofs.lemmas.Option.{none-some, same_Some}
 use Rattle.keymap_core.specs.Maps.{MapValue}
-use Rattle.console_core.specs.Types.{Event, Answer, Lock, Modifier, Move}
-use Rattle.console_core.specs.declared.event.Answer.TheVariants as answer
+use Rattle.console_core.specs.Types.{Event, Answer}
 use Rattle.console_core.specs.declared.typing.Keyed.{Keyed}
 use Rattle.console_core.specs.declared.typing.Typing.{Typing}
 use Rattle.console_core.specs.History.{between, resolved, answers_to, answer_to, accent_pending_after, pressed, HasKey}
@@ -25,8 +22,7 @@ use Rattle.console_core.specs.Moves.{alone, State, start, state_from, events_alo
 use Rattle.console_core.specs.Resolved.{pending}
 use Rattle.console_core.specs.Typing.{AreEnds, AreParts, AreTyped, CanType, IsAsNew, Types, characters_of, plainly}
 use Rattle.console_core.specs.Typing.{types_something}
-use Rattle.console_core.specs.Inner.Exploring.{AreViews, Views, GoesHome, HasTyped, IsStand, TypesOne, kept_if}
-use Rattle.console_core.specs.Inner.Exploring.{typed_along}
+use Rattle.console_core.specs.Inner.Exploring.{GoesHome, HasTyped, IsStand, TypesOne, kept_if, typed_along}
 use Rattle.console_core.specs.Inner.Standing.{HoldsSome, Stands}
 use Rattle.console_core.proofs.Deliveries.{reverse-cons}
 use Rattle.console_core.proofs.Exploring.{home-start, start-stand}

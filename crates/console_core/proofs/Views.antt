@@ -1,5 +1,5 @@
 -- What holds of the entries of a map: what was typed before, and explorations by the state where they begin.
-use Rattle.std.proofs.Common.{◌≡◌, ◌⊎◌, Bool, true, false, List, [], ◌∷◌, Option, Some, None, refl, ap, subst, sym, ◌∙◌}
+use Rattle.std.proofs.Common.{◌≡◌, ◌⊎◌, Bool, true, false, List, [], ◌∷◌, Some, None, refl, ap, subst, sym, ◌∙◌}
 use Rattle.std.proofs.Common.{inl, inr, cond, eqb, reverse, ◌&&◌, if◌then◌else◌}
 use Rattle.std.specs.Option.{is_some}
 use Rattle.std.specs.Map.{lookup}

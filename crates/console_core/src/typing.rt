@@ -10,7 +10,7 @@ ghost use Rattle.console_core.specs.Inner.Exploring.{Leads, LeadsByTap, TypesOne
 ghost use Rattle.console_core.specs.Inner.Searching.{state_of};
 
 use crate::event::Event;
-use crate::explored::{Explored, Symbol, Tap, explore};
+use crate::explored::{Explored, Tap, explore};
 use crate::held::Held;
 use crate::ways::{Way, plain, way_for};
 use indexmap::IndexMap;

@@ -1,5 +1,5 @@
 -- A run that reads one input and then does what another run does.
-use Rattle.std.proofs.Common.{◌≡◌, ℕ, List, Result, Ok, Err, inl, inr}
+use Rattle.std.proofs.Common.{ℕ, List, Result, Ok, Err, inl, inr}
 use Rattle.keymap_core.specs.declared.transfer.WriteFault.{WriteFault}
 use Rattle.play_core.specs.Runs.{Moves, ReadsBoth, Runs}
 

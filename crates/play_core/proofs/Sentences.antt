@@ -1,6 +1,6 @@
 -- What answers type, and the offset of a character in a text.
-use Rattle.std.proofs.Common.{◌≡◌, ℕ, ◌<◌, false, List, [], ◌∷◌, ◌++◌, refl, ap, sym, ◌∙◌, map, append-nil, length}
-use Rattle.std.proofs.Common.{take, drop, get_or, ◌+◌, ◌≤◌, arith, length-append, subst}
+use Rattle.std.proofs.Common.{◌≡◌, ℕ, ◌<◌, List, [], ◌∷◌, ◌++◌, refl, ap, sym, ◌∙◌, map, length}
+use Rattle.std.proofs.Common.{take, drop, get_or, ◌+◌, ◌≤◌, arith, length-append}
 use Prim.Native.Nat.{zero, suc}
 use Rattle.std.specs.Char.{len_utf8}
 use Rattle.std.proofs.lemmas.Str.{encodes-append, length-encode}

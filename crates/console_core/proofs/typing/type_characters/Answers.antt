@@ -1,4 +1,4 @@
-use Rattle.std.proofs.Common.{Some, [], ap, subst, sym, ◌∙◌, reverse}
+use Rattle.std.proofs.Common.{Some, ap, subst, sym, ◌∙◌, reverse}
 use Rattle.std.proofs.lemmas.List.{take_all}
 use Rattle.std.proofs.lemmas.Option.{slice_get-get_or}
 use Rattle.console_core.specs.Moves.{alone}

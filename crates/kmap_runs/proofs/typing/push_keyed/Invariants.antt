@@ -7,6 +7,7 @@ use Rattle.kmap_runs.proofs.typing.push_keyed.Given as goal
 abbrev pub invariant-loop-i : goal.invariant-loop-i
 invariant-loop-i l = record {
   inside : l.i ≤ length l.keyed;
+  within : l.from ≤ length l.events;
   ends : AreEnds l.from (drop l.i l.keyed) (length l.events);
   whole : l.text.items ++ lines_from l.starts l.from (drop l.from l.events) (drop l.i l.keyed)
       ≡ l.fn.text.items ++ lines_from true 0 l.events l.keyed;

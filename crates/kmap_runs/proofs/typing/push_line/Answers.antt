@@ -1,8 +1,14 @@
-use Rattle.std.proofs.Common.{ne_eqb}
+use Rattle.std.proofs.Common.{get_or, ne_eqb}
+use Rattle.std.proofs.lemmas.List.{get_or_default}
+use Rattle.console_core.specs.declared.typing.Keyed.{Keyed}
 use Rattle.kmap_runs.proofs.Scripts.{shown_more}
 use Rattle.kmap_runs.proofs.typing.push_line.Goals as goal
 
 pub loop-one-preserved : goal.loop-one-preserved
 loop-one-preserved c =
-    shown_more c.args.keyed.now c.loop-one.one-index c.one-item.result _ _ _ c.loop-one-test.true c.one-item.is
+    let ks = c.args.keyed.now in
+    let n = c.loop-one.one-index in
+    let none : Keyed = record { character = 0; end = 0 } in
+    let x : Keyed = get_or ks n none in
+    shown_more ks n x _ _ _ c.loop-one-test.true (get_or_default ks n none x c.loop-one-test.true)
     (ne_eqb _ _ c.if-one-eq10.false) c.in_ok-push_shown.ensures c.loop-one.invariant

@@ -82,7 +82,8 @@ lets-go-some s h now t n i k x at holds = record {
       (λ other. elim (place_last (modifier_index j) n lt) [
         | inl below ↦ x.gone j below
         | inr e ↦
-            absurd (true≢false (sym (eq-eqb (modifier_index i) (modifier_index j) (ap modifier_index (at j e))) ∙ other))
+            absurd (true≢false (sym (eq-eqb (modifier_index i) (modifier_index j) (ap modifier_index (at j e)))
+            ∙ other))
       ]);
   locks = x.locks;
   second = x.second;

@@ -1,7 +1,9 @@
 -- Characters typed one after another, and that a console is as new behind them.
 use Prim.Native.Nat.{zero, suc}
-use Rattle.std.proofs.Common.{◌≡◌, ◌+◌, ◌<◌, ◌≤◌, ◌⊎◌, ℕ, Bool, drop, inl, inr, true, false, List, [], ◌∷◌, ◌++◌, All, Some, None, refl, ap}
-use Rattle.std.proofs.Common.{subst, sym, ◌∙◌, arith, append_assoc, append-nil, map, reverse, take, length, get_or, slice_get}
+use Rattle.std.proofs.Common.{◌≡◌, ◌+◌, ◌<◌, ◌≤◌, ◌⊎◌, ℕ, Bool, drop, inl, inr, true, false, List, [], ◌∷◌, ◌++◌, All}
+use Rattle.std.proofs.Common.{Some, None, refl, ap}
+use Rattle.std.proofs.Common.{subst, sym, ◌∙◌, arith, append_assoc, append-nil, map, reverse, take, length, get_or}
+use Rattle.std.proofs.Common.{slice_get}
 use Rattle.std.proofs.Common.{if◌then◌else◌}
 use Rattle.std.specs.Prelude.{filter}
 use Rattle.std.proofs.lemmas.Bool.{false_from_ne_true}

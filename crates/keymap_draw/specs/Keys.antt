@@ -1,4 +1,5 @@
--- What one key of the picture tells: its title, which is its line of the printed form, its cap, its code and its legends.
+-- What one key of the picture tells: its title, which is its line of the printed form, its cap, its code and its
+-- legends.
 use Rattle.std.specs.Prelude.{ℕ, ◌-◌, ◌%◌, ◌==◌, Bool, true, false, ◌||◌, List, [], ◌∷◌, ◌++◌}
 use Rattle.std.specs.Prelude.{codes, decimal, Option, Some, None, option_to_list, if◌then◌else◌}
 use Rattle.std.specs.List.{find, list_all, list_any}

@@ -27,7 +27,8 @@ pub adds_none : (file text : List ℕ) (old : List ℕ) → Adds file text [] ol
 adds_none file text old = record { added = []; printed = refl; behind = sym (append-nil old) }
 
 pub adds_one : (file text : List ℕ) (e : Remark) (message said old new : List ℕ) → IsMessage e.said message
-    → said ≡ said_text e.said message → new ≡ old ++ lines_text ((place_text file text e.place ++ said) ∷ below text e.place)
+    → said ≡ said_text e.said message → new ≡ old ++ lines_text
+    ((place_text file text e.place ++ said) ∷ below text e.place)
     → Adds file text (e ∷ []) old new
 adds_one file text e message said old new is_message is behind =
     let added = lines_text (head file text e message ∷ below text e.place) in record {

@@ -42,7 +42,11 @@ same_front (x ∷ xs) (y ∷ ys) us vs h k e =
     let first : x ≡ y = cc in
     let more : xs ++ (58 ∷ us) ≡ ys ++ (58 ∷ vs) = cc in
     let rest = same_front xs ys us vs (and_parts (is_inner x) (list_all is_inner xs) h).1
-    (and_parts (is_inner y) (list_all is_inner ys) k).1 more in (ap (λ t. x ∷ t) rest.0 ∙ ap (λ c. c ∷ ys) first, rest.1)
+    (and_parts (is_inner y) (list_all is_inner ys) k).1 more in (
+      ap (λ t. x ∷ t) rest.0
+          ∙ ap (λ c. c ∷ ys) first,
+      rest.1,
+    )
 
 no_blank : (ds x y : List ℕ) → list_all is_inner ds ≡ true → 32 ∷ x ≡ ds ++ (58 ∷ y) → ⊥
 no_blank [] x y h e = let never : true ≡ false = ap (λ t. slice_index t 0 == 32) e in cc

@@ -46,7 +46,8 @@ indented_front (a ∷ b ∷ file) y = refl
 
 head_indented : (file text : List ℕ) (e : Remark) (m : List ℕ) → is_indented (head file text e m) ≡ is_indented file
 head_indented file text e m =
-    ap is_indented (head_is file text e m ∙ sym (append_assoc file (codes ":") (behind text e.place ++ said_text e.said m)))
+    ap is_indented (head_is file text e m
+    ∙ sym (append_assoc file (codes ":") (behind text e.place ++ said_text e.said m)))
     ∙ indented_front file (behind text e.place ++ said_text e.said m)
 
 below_indented : (text : List ℕ) (place : Option ℕ) → filter is_flush (below text place) ≡ []
@@ -125,5 +126,6 @@ each_judged l (d ∷ ds) =
 
 pub all_judged : (text : List ℕ) (l : Lint) → filter is_judged (remarks text l) ≡ diagnostics l
 all_judged text (Faulty f place) =
-    ap (λ t. remark (Some f.offset) (Said.Judged Error (fault_name f.kind)) ∷ t) (beginning_noted text f.offset f.kind place.definition)
+    ap (λ t. remark (Some f.offset) (Said.Judged Error (fault_name f.kind)) ∷ t)
+    (beginning_noted text f.offset f.kind place.definition)
 all_judged text (Spelled l) = each_judged l l.list.items

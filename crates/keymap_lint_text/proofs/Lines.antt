@@ -177,7 +177,8 @@ unfolding digits
 decimal_all p each n = onto_all p each 64 n [] refl
 
 glyph_printed : (d : ℕ) → d < 10 → is_shown_byte (digit_glyph false d) ≡ true
-glyph_printed d low = along (λ d. is_shown_byte (digit_glyph false d)) (λ d. true) 0 10 refl d (omega arith) (omega arith)
+glyph_printed d low = along (λ d. is_shown_byte (digit_glyph false d)) (λ d. true) 0 10 refl d (omega arith)
+    (omega arith)
 
 digit_printed : (d : ℕ) → d < 16 → is_shown_byte (digit_char d) ≡ true
 digit_printed d low = along (λ d. is_shown_byte (digit_char d)) (λ d. true) 0 16 refl d (omega arith) (omega arith)

@@ -16,7 +16,8 @@ use Rattle.keymap_lint_text.specs.Shown.{IsLine, IsPlainText, lines_text, shown_
 use Rattle.keymap_lint_text.specs.Whole.{IsLintText, remarks, judged}
 
 abbrev pub PrintedIsPlain : Type 0
-PrintedIsPlain = (file text : List ℕ) (l : Lint) (printed : List ℕ) → IsLintText file text l printed → IsPlainText printed
+PrintedIsPlain = (file text : List ℕ) (l : Lint) (printed : List ℕ) → IsLintText file text l printed
+    → IsPlainText printed
 
 -- a line that begins with two blanks, as that of a place does, and that of its caret
 abbrev pub is_indented : List ℕ → Bool

@@ -58,7 +58,10 @@ fn bad_byte(alloc: Global, bytes: &[u8]) -> Result<Vec<u8>, AllocError>
 {
     let byte = if bytes.is_empty() { 0 } else { bytes[0] };
     if byte < 33 || byte == 127 {
-        let number = word(alloc, &[hex_digit(byte as u32 / 16), hex_digit(byte as u32 % 16)])?;
+        let number = word(
+            alloc,
+            &[hex_digit(byte as u32 / 16), hex_digit(byte as u32 % 16)],
+        )?;
         message(alloc, UNNAMED_BYTE, &[number.as_slice()])
     } else if bytes.starts_with(b"\xef\xbb\xbf") {
         message(alloc, MARK, &[])

@@ -31,8 +31,8 @@ abbrev pub comment_if : Bool → List Keyed → List ℕ
 comment_if true ks = comment ks
 comment_if false ks = []
 
--- The lines of the events of the characters, and before those of each line of the sentence a comment that shows it; then
--- those of the events that are left. So many events come before these.
+-- The lines of the events of the characters, and before those of each line of the sentence a comment that shows it;
+-- then those of the events that are left. So many events come before these.
 unfoldable pub lines_from : Bool → ℕ → List Event → List Keyed → List ℕ
 lines_from starts from es [] = flat_map event_line es
 lines_from starts from es (k ∷ ks) =

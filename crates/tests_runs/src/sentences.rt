@@ -56,7 +56,11 @@ static TYPED: [(&[u8], &[u8], &[u8]); 14] = [
         b"\xc3\x89\xc2\xb4",
         b"down 26\nup 26\ndown 42\ndown 18\nup 18\nup 42\ndown 26\nup 26\ndown 57\nup 57\n",
     ),
-    (DEAD_KEY_ALONE, b"\xc2\xb4", b"down 26\nup 26\ndown 26\nup 26\n"),
+    (
+        DEAD_KEY_ALONE,
+        b"\xc2\xb4",
+        b"down 26\nup 26\ndown 26\nup 26\n",
+    ),
     (
         TWO_DEAD_KEYS,
         b"@\xce\xa9",
@@ -90,7 +94,11 @@ static TYPED: [(&[u8], &[u8], &[u8]); 14] = [
         b"\xce\xac\xce\xac",
         b"down 40\nup 40\ndown 58\nup 58\ndown 30\nup 30\ndown 40\nup 40\ndown 30\nup 30\ndown 58\nup 58\n",
     ),
-    (TWO_LAYOUTS, b"\xc3\xa1", b"down 40\nup 40\ndown 30\nup 30\n"),
+    (
+        TWO_LAYOUTS,
+        b"\xc3\xa1",
+        b"down 40\nup 40\ndown 30\nup 30\n",
+    ),
     (ONE_WAY, b"a", b"down 30\nup 30\n"),
 ];
 
@@ -113,20 +121,9 @@ static REFUSED: [(&[u8], &[u8], TypeError); 8] = [
         TypeError::NoWay { offset: 4, c: 'b' },
     ),
     // a new line is no blank
-    (
-        TWO_LAYOUTS,
-        b"a\n",
-        TypeError::NoWay {
-            offset: 1,
-            c: '\n',
-        },
-    ),
+    (TWO_LAYOUTS, b"a\n", TypeError::NoWay { offset: 1, c: '\n' }),
     // from where it is typed no presses lead back
-    (
-        ONE_WAY,
-        b"ab",
-        TypeError::NoWay { offset: 1, c: 'b' },
-    ),
+    (ONE_WAY, b"ab", TypeError::NoWay { offset: 1, c: 'b' }),
     (
         DEAD_KEY_ALONE,
         b"\xcc\x81",
@@ -135,11 +132,7 @@ static REFUSED: [(&[u8], &[u8], TypeError); 8] = [
             c: '\u{301}',
         },
     ),
-    (
-        ACCENTS,
-        b"\xc3\xa9\xc3(z",
-        TypeError::NotText { offset: 2 },
-    ),
+    (ACCENTS, b"\xc3\xa9\xc3(z", TypeError::NotText { offset: 2 }),
     (ACCENTS, b"z\xe2\x82", TypeError::NotText { offset: 1 }),
 ];
 
@@ -196,12 +189,7 @@ fn each_character_tells_where_its_events_end(rt: HostRuntime) -> Result<(), Fail
             end: 6,
         },
     ];
-    expect_equal_at(
-        &rt,
-        &"keyed",
-        &typing.keyed.as_slice(),
-        &wanted.as_slice(),
-    );
+    expect_equal_at(&rt, &"keyed", &typing.keyed.as_slice(), &wanted.as_slice());
     expect_equal_at(&rt, &"events", &typing.events.len(), &8);
     Ok(())
 }

@@ -1,13 +1,15 @@
 -- What an exploration keeps, and the events of one tap of a key. Mirrors `Explored` of src/explored.rt, src/ways.rt and
 -- src/typing.rt.
-use Rattle.std.specs.Prelude.{◌≡◌, ℕ, Bool, true, false, List, [], ◌∷◌, ◌++◌, length, reverse, None, Some, slice_get, ◌⊎◌, Option, map}
+use Rattle.std.specs.Prelude.{◌≡◌, ℕ, Bool, true, false, List, [], ◌∷◌, ◌++◌, length, reverse, None, Some, slice_get}
+use Rattle.std.specs.Prelude.{◌⊎◌, Option, map}
 use Rattle.keymap_core.specs.declared.action.Lock.TheVariants.{Scroll}
 use Rattle.keymap_core.specs.Maps.{MapValue}
 use Rattle.console_core.specs.Types.{Event, Press, Release, Move, Answer}
 use Rattle.console_core.specs.declared.explored.Explored.{Explored}
 use Rattle.console_core.specs.declared.explored.Tap.{Tap}
 use Rattle.console_core.specs.declared.held.Held.{Held}
-use Rattle.console_core.specs.Moves.{Under, alone, State, IsFree, IsPath, state_after, IsPathFrom, state_from, events_along}
+use Rattle.console_core.specs.Moves.{Under, alone, State, IsFree, IsPath, state_after, IsPathFrom, state_from}
+use Rattle.console_core.specs.Moves.{events_along}
 use Rattle.console_core.specs.Returning.{IsHome}
 use Rattle.console_core.specs.Sticking.{ReachesMoreThanFrom, ReachesMoreThan, state_limit}
 use Rattle.console_core.specs.History.{answer_to, between, accent_pending_after}

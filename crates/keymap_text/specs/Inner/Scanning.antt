@@ -100,8 +100,8 @@ pub record FrontsCharacter (rest : List ℕ) (c : ℕ) (n : ℕ) : Type 0 where
   pub behind : FrontsBehind rest item n
   pub is : character item ≡ Ok c
 
--- What was done with the cell of this index: it was taken with the blanks before it, or nothing was, or there is a fault
--- behind the blanks.
+-- What was done with the cell of this index: it was taken with the blanks before it, or nothing was, or there is a
+-- fault behind the blanks.
 abbrev pub TookCell : Result ℕ Stop → Grammar → Grammar → ℕ → List ℕ → Type 0
 TookCell (Ok n) old new i rest = record {
   none : n ≡ 0 → new ≡ old;

@@ -28,7 +28,8 @@ slice_bounds-push_events-end c =
     let none : Keyed = record { character = 0; end = 0 } in
     let x : Keyed = get_or ks n none in
     let at = get_or_default ks n none x c.loop-i-test.true in
-    let ends = ends-front c.loop-i.from n (length c.args.events.now) ks x c.loop-i-test.true at c.loop-i.invariant.ends in
+    let ends = ends-front c.loop-i.from n (length c.args.events.now) ks x c.loop-i-test.true at
+    c.loop-i.invariant.ends in
     ends-within x.end (length c.args.events.now) _ ends.1
 
 pub returns : goal.returns

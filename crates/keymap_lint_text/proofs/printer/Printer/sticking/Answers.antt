@@ -9,4 +9,5 @@ returns c =
     on_ok_weaker c.push.result (adds_one c.args.self.now.file.now c.args.self.now.source.now
     (remark None (Said.Sticking c.args.modifiers.now c.args.events.now)) c.as_slice.result.now c.as_slice-2.result.now
     c.args.text.now.items c.push.new.text.items
-    (c.as_slice.ensures.value ∙ c.in_ok-message.ensures) (c.as_slice-2.ensures.value ∙ c.in_ok-said.ensures)) c.push.ensures
+    (c.as_slice.ensures.value ∙ c.in_ok-message.ensures) (c.as_slice-2.ensures.value ∙ c.in_ok-said.ensures))
+    c.push.ensures

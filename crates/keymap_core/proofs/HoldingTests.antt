@@ -1,9 +1,8 @@
--- Tests of all modifiers or all locks, and of each one.
-use Rattle.keymap_core.proofs.Common.{◌≡◌, Bool, true, false, refl, sym, ◌∙◌, list_any, true≢false, Modifier, Lock}
+-- Tests of all modifiers, and of each one.
+use Rattle.keymap_core.proofs.Common.{◌≡◌, Bool, true, false, refl, sym, ◌∙◌, list_any, true≢false, Modifier}
 use Rattle.std.proofs.lemmas.Bool.{or_parts, true_from_ne_false}
-use Rattle.keymap_core.specs.Actions.{locks, modifiers}
+use Rattle.keymap_core.specs.Actions.{modifiers}
 use Rattle.keymap_core.specs.declared.action.Modifier.TheVariants as modifier
-use Rattle.keymap_core.specs.declared.action.Lock.TheVariants as lock
 
 -- where the test of all finds none, no modifier passes
 pub no-modifier : (f : Modifier → Bool) → list_any f modifiers ≡ false → (i : Modifier) → f i ≡ false
@@ -30,22 +29,6 @@ no-modifier f e =
     by modifier.AltShift a b c d g h k n = k
     by modifier.Meta a b c d g h k n = n
 
--- where the test of all finds none, no lock passes
-pub no-lock : (f : Lock → Bool) → list_any f locks ≡ false → (l : Lock) → f l ≡ false
-no-lock f e =
-    let a = or_parts _ _ e in
-    let b = or_parts _ _ a.1 in
-    let c = or_parts _ _ b.1 in
-    let d = or_parts _ _ c.1 in
-    λ l. by l a.0 b.0 c.0 d.0
-  where
-    by : (l : Lock) → f lock.Caps ≡ false → f lock.Num ≡ false → f lock.Scroll ≡ false → f lock.Alt ≡ false
-        → f l ≡ false
-    by lock.Caps a b c d = a
-    by lock.Num a b c d = b
-    by lock.Scroll a b c d = c
-    by lock.Alt a b c d = d
-
 -- where no modifier passes, the test of all finds none
 pub no-modifiers : (f : Modifier → Bool) → ((i : Modifier) → f i ≡ false) → list_any f modifiers ≡ false
 no-modifiers f none =
@@ -59,10 +42,6 @@ no-modifiers f none =
       none modifier.AltShift,
       none modifier.Meta,
     ) refl
-
--- where no lock passes, the test of all finds none
-pub no-locks : (f : Lock → Bool) → ((l : Lock) → f l ≡ false) → list_any f locks ≡ false
-no-locks f none = rw (none lock.Caps, none lock.Num, none lock.Scroll, none lock.Alt) refl
 
 -- where a modifier passes, the test of all finds one
 pub some-modifier : (f : Modifier → Bool) (i : Modifier) → f i ≡ true → list_any f modifiers ≡ true

@@ -7,11 +7,6 @@ pub OnOk-map : {X E : Type 0} (r : Result X E) (P Q : Type 0) → OnOk r P → (
 OnOk-map (Ok x) P Q held step = step held
 OnOk-map (Err e) P Q held step = held
 
--- what holds anyway holds for a success
-pub OnOk-held : {X E : Type 0} (r : Result X E) (P : Type 0) → P → OnOk r P
-OnOk-held (Ok x) P held = held
-OnOk-held (Err e) P held = tt
-
 -- what holds for a refusal may be weakened
 pub IfErr-map : {X E : Type 0} (r : Result X E) (P Q : E → Type 0) → IfErr r P → ((e : E) → P e → Q e) → IfErr r Q
 IfErr-map (Ok x) P Q held step = held

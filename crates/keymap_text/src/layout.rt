@@ -1,6 +1,5 @@
 //! The lines of a printed map.
 ghost use Rattle.std.specs.Prelude.{◌≡◌, ◌+◌, ◌<◌, ◌≤◌, ◌++◌, length, codes, IfSome};
-ghost use Rattle.std.specs.Char.{digit_char};
 ghost use Rattle.keymap_text.specs.Printed as spec;
 ghost use Rattle.keymap_core.specs.Numbers.{accent_limit};
 

@@ -1,6 +1,6 @@
 //! Reading bytes token by token, as far as they show whole tokens. It sees bytes, and asks `token` where a token ends,
 //! `words` what it means, and `grammar` whether it may stand there. It knows neither offsets nor lines.
-ghost use Rattle.std.specs.Prelude.{◌≡◌, ℕ, ◌+◌, ◌<◌, ◌≤◌, ◌-◌, ◌^◌, length, drop, Ok, IfSome, OnOk, IfOk, IsFalse};
+ghost use Rattle.std.specs.Prelude.{◌≡◌, ◌+◌, ◌<◌, ◌≤◌, ◌-◌, ◌^◌, length, drop, Ok, IfSome, OnOk, IfOk, IsFalse};
 ghost use Rattle.std.specs.Prelude.{IfErr, true, false};
 ghost use Rattle.std.specs.Prelude.{slice_index};
 ghost use Rattle.keymap_core.specs.Maps.{MapValue};

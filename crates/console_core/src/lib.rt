@@ -17,8 +17,12 @@
 //! accents, and `events_that_show` events that show it, in keymaps where no turn of a lock is one-way. All of them may
 //! give up where more than 65,536 states can be reached.
 //!
-//! No call takes memory but `replay`, `sticking`, `sticking_between`, `sights_of` and `events_that_show`, and no call
-//! fails but for want of memory there.
+//! `type_characters` makes the events that type characters, in whatever layout a lock selects them, or names the first
+//! character that no keys can type.
+//!
+//! No call takes memory but `replay`, `sticking`, `sticking_between`, `sights_of`, `events_that_show` and
+//! `type_characters`. These fail for want of memory, `type_characters` besides where a character can't be typed or
+//! more than 65,536 states can be reached, and no other call fails.
 #![tactic(auto)]
 
 mod event;

@@ -17,6 +17,8 @@ mod faults;
 #[cfg(test)]
 mod maps;
 #[cfg(test)]
+mod pieces;
+#[cfg(test)]
 mod printing;
 #[cfg(test)]
 mod reading;

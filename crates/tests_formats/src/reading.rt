@@ -282,11 +282,12 @@ fn read_by_bytes(rt: &impl Abort, alloc: Global, text: &[u8]) -> Result<KeyMap, 
     reader.finish().map_err(TextError::Fault)
 }
 
-/// Whether a text is answered the same whole as it was in pieces.
-fn is_read_as(alloc: Global, text: &[u8], in_pieces: Result<KeyMap, TextError>) -> bool {
+/// Whether the text is answered the same whole and byte by byte.
+fn is_read_the_same(rt: &impl Abort, alloc: Global, text: &[u8]) -> bool {
+    let by_bytes = read_by_bytes(rt, alloc, text);
     match read_map(alloc, text) {
-        Ok(map) => is_map(in_pieces, &map),
-        Err(error) => in_pieces.err() == Some(error) && error != TextError::Memory,
+        Ok(map) => is_map(by_bytes, &map),
+        Err(error) => by_bytes.err() == Some(error) && error != TextError::Memory,
     }
 }
 
@@ -294,62 +295,7 @@ fn is_read_as(alloc: Global, text: &[u8], in_pieces: Result<KeyMap, TextError>) 
 fn each_prefix_is_read_the_same_byte_by_byte(rt: HostRuntime) {
     for text in [ACCENTS, UPPER_HALF, LETTER_AND_SHIFT] {
         for end in 0..=text.len() {
-            let by_bytes = read_by_bytes(&rt, rt.alloc(), &text[..end]);
-            expect_at(&rt, &end, is_read_as(rt.alloc(), &text[..end], by_bytes));
+            expect_at(&rt, &end, is_read_the_same(&rt, rt.alloc(), &text[..end]));
         }
-    }
-}
-
-/// The number behind this one, in a row that looks random.
-fn number_behind(number: u32) -> u32 {
-    number.wrapping_mul(1_664_525).wrapping_add(1_013_904_223)
-}
-
-/// The map or fault of a text that is fed in pieces of 0 to 40 bytes, whose lengths go by the row behind the number.
-fn read_by_pieces(
-    rt: &impl Abort,
-    alloc: Global,
-    text: &[u8],
-    mut number: u32,
-) -> Result<KeyMap, TextError> {
-    let Ok(mut reader) = MapReader::new(alloc) else {
-        return Err(TextError::Memory);
-    };
-    let mut rest = text;
-    while !rest.is_empty() {
-        assert!(rt; reader.fed() <= 1 << 20);
-        number = number_behind(number);
-        let size = ((number >> 16) as usize % 41).min(rest.len() - 1);
-        if let Err(fault) = reader.feed(&rest[..size]) {
-            return Err(TextError::Fault(fault));
-        }
-        assert!(rt; reader.fed() <= 1 << 20);
-        if let Err(fault) = reader.feed(&rest[size..=size]) {
-            return Err(TextError::Fault(fault));
-        }
-        rest = &rest[size + 1..];
-    }
-    reader.finish().map_err(TextError::Fault)
-}
-
-/// Ten thousand texts, each in pieces of its own: from some place of a text on, so most of them have a fault.
-#[test]
-fn texts_in_random_pieces_are_read_the_same(rt: HostRuntime) {
-    let mut number = 1;
-    for at in 0..10_000 {
-        number = number_behind(number);
-        let text = match at % 3 {
-            0 => ACCENTS,
-            1 => UPPER_HALF,
-            _ => LETTER_AND_SHIFT,
-        };
-        let begin = if at % 2 == 0 {
-            0
-        } else {
-            (number >> 16) as usize % 64
-        };
-        let text = &text[begin.min(text.len())..];
-        let in_pieces = read_by_pieces(&rt, rt.alloc(), text, number);
-        expect_at(&rt, &at, is_read_as(rt.alloc(), text, in_pieces));
     }
 }

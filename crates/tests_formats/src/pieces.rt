@@ -21,13 +21,13 @@ const TIMES: u32 = 60;
 /// In how many pieces a text comes: of thousands of bytes, of a line or so, and of less than a word.
 const PIECES: [usize; 3] = [40, 1_000, 10_000];
 
-/// Characters of one to four bytes, tabs and CRs, tokens with no blank between them, and comments, of which one is
+/// Characters of one to four bytes, tabs, CRs and a NUL, tokens with no blank between them, and comments, of which one is
 /// longer than most pieces, one ends in a part of a character, and one has an apostrophe.
 const SIGNS: &[u8] =
     b"# What stands here is longer than most pieces, so it is broken off more than once. ## #
 001 'a' '\xc3\xa9' '\xe2\x82\xac' '\xf0\x9f\x98\x80' '#' ''' '\\' '\xff' C\r\n\
 \t0x2\tfkey01\tfkey96\tscr01\tSCR16\t0x20ac\t8364\tpanic\tDEL\tb\t# the row's end \xe2\x82\r\n\
-255'a''b''c''d'nop'\n''\r''\t'N dgra'`'('a'0xe0)('e'232)# ' (
+255'a''b''c''d'nop'\0''\r''\t'N dgra'`'('a'0xe0)('e'232)# ' (
 dacu 180\n\n  ( 'e' 0x0000000000000000000000000000e9 )\n#\n##\ndtil 0 ( 1 2 )\n";
 
 /// What stands at the end of a long text, and its fault.

@@ -21,8 +21,8 @@ const TIMES: u32 = 60;
 /// In how many pieces a text comes: of thousands of bytes, of a line or so, and of less than a word.
 const PIECES: [usize; 3] = [40, 1_000, 10_000];
 
-/// Characters of one to four bytes, tabs, CRs and a NUL, tokens with no blank between them, and comments, of which one is
-/// longer than most pieces, one ends in a part of a character, and one has an apostrophe.
+/// Characters of one to four bytes, tabs, CRs and a NUL, tokens with no blank between them, and comments, of which one
+/// is longer than most pieces, one ends in a part of a character, and one has an apostrophe.
 const SIGNS: &[u8] =
     b"# What stands here is longer than most pieces, so it is broken off more than once. ## #
 001 'a' '\xc3\xa9' '\xe2\x82\xac' '\xf0\x9f\x98\x80' '#' ''' '\\' '\xff' C\r\n\

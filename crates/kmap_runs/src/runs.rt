@@ -1,5 +1,7 @@
 //! The runs of the program over any reader and writer.
-ghost use Rattle.std.specs.Prelude.{◌≡◌, ◌||◌, []};
+ghost use Rattle.std.specs.Prelude.{◌≡◌, ◌||◌, [], IfOk};
+ghost use Rattle.keymap_core.specs.Bounds.{IsMap};
+ghost use Rattle.keymap_draw.specs.Pictures.{IsPicture, drawing};
 ghost use Rattle.keymap_tables.specs.Sources.{ReadsTables, ReadsNarrow};
 ghost use Rattle.kmap_runs.specs.Inputs.{blames_tables, blames_text};
 ghost use Rattle.kmap_runs.specs.Runs.{ChecksText, CompilesNarrowly, CompilesText, DrawsText, DumpsFile, Reports};
@@ -15,7 +17,7 @@ use keymap_core::{KeyMap, Read, Write, write_text};
 use keymap_draw::{Board, picture};
 use keymap_tables::{NarrowError, write_narrow, write_tables};
 use keymap_text::print_map;
-use std::alloc::Global;
+use std::alloc::{AllocError, Global};
 
 /// Checks a map and appends the report. Answers whether the map is accepted.
 fn reported(map: &KeyMap, show: bool, text: &mut Text) -> bool
@@ -117,6 +119,17 @@ pub fn compile_narrow_run<R: Read, W: Write>(
     }
 }
 
+/// The picture of a map on a board, with what the check finds.
+fn drawn_on(alloc: Global, map: &KeyMap, board: Board) -> Result<Vec<u8>, AllocError>
+    ensures { IfOk result (λ text. IsMap map.now × IsPicture (drawing map.now board) text.items) }
+{
+    every_keymap_is_within_the_bounds(map);
+    match picture(alloc, map, &check(map), board) {
+        Ok(drawn) => Ok(drawn),
+        Err(error) => Err(error),
+    }
+}
+
 /// Reads a text and writes the picture of its map on a board.
 pub fn draw_run<R: Read, W: Write>(
     alloc: Global,
@@ -130,8 +143,7 @@ pub fn draw_run<R: Read, W: Write>(
     ensures writer_failed { W.has_failed writer.new ≡ (blames_writer result || W.has_failed writer.old) }
 {
     let map = read_text(alloc, reader)?;
-    every_keymap_is_within_the_bounds(&map);
-    let Ok(drawn) = picture(alloc, &map, &check(&map), board) else {
+    let Ok(drawn) = drawn_on(alloc, &map, board) else {
         return Err(RunError::Memory);
     };
     write_text(writer, drawn.as_slice()).map_err(RunError::Write)

@@ -8,6 +8,12 @@ returns-in_err-map-clause-run g c =
     let p = err_from_is_err_and c.from_residual.result c.from_residual.ensures.1 in
     rw (p.1, p.2) (inr (inl (inl (c.in_err-map.ensures.reads, Keeps-refl _)), Keeps-refl _))
 
+pub returns-in_err-bytes-clause-run : goal.returns-in_err-bytes-clause-run
+returns-in_err-bytes-clause-run g c =
+    let p = err_from_is_err_and c.from_residual-in_err-bytes.result c.from_residual-in_err-bytes.ensures.1 in
+    rw (p.1, p.2)
+    (inr (inl (inr (c.in_ok-map.map, c.in_ok-map.ensures.reads, c.in_err-bytes.ensures.reads)), Keeps-refl _))
+
 pub returns-in_err-script-clause-run : goal.returns-in_err-script-clause-run
 returns-in_err-script-clause-run g c =
     let p = err_from_is_err_and c.from_residual-in_err-script.result c.from_residual-in_err-script.ensures.1 in

@@ -5,10 +5,10 @@ them.
 usage: unseen.py [--check]
 
 Prints the ranges of each property from Python's `unicodedata`. With --check it compares them with those of
-crates/keymap_core/specs/Unseen.antt and src/unseen.rt (what a terminal doesn't show) and of
-crates/keymap_draw/specs/Characters.antt and src/characters.rt (what has a number for a legend, and which marks have a
-circle), and the short names of specs/Names.antt and src/tables.rt there with Unicode's aliases of names. It tells each
-difference, and ends with status 1 where there is one.
+crates/keymap_core/specs/Unseen.antt and src/unseen.rt (what a terminal doesn't show) and with the tables of
+crates/keymap_draw/src/characters.rt (what has a number for a legend, and which marks have a circle), which the
+definitions cite, and the short names of specs/Names.antt and src/tables.rt there with Unicode's aliases of names. It
+tells each difference, and ends with status 1 where there is one.
 
 Python has the categories and classes, but neither Bidi_Control nor Default_Ignorable_Code_Point. The first is the
 embeddings, overrides and isolates with their ends, which are the classes of that name, and three marks. The second is
@@ -42,19 +42,19 @@ PREPENDED = [(0x600, 0x605), (0x6DD, 0x6DD), (0x70F, 0x70F), (0x890, 0x891), (0x
 UNASSIGNED = [(0x40000, 0xDFFFF), (0xE1000, 0xEFFFF)]
 EMPTY_BRAILLE = 0x2800
 
-# The blocks of which the marks are compared, by the definition that has them.
+# The blocks of which the marks are compared.
 MARK_BLOCKS = {
-    "is_diacritical_mark": [(0x300, 0x36F), (0x1AB0, 0x1AFF), (0x1DC0, 0x1DFF), (0xFE20, 0xFE2F)],
-    "is_cyrillic_mark": [(0x400, 0x52F), (0x1C80, 0x1C8F), (0x2DE0, 0x2DFF), (0xA640, 0xA69F)],
-    "is_hebrew_mark": [(0x590, 0x5FF), (0xFB1D, 0xFB4F)],
-    "is_arabic_mark": [(0x600, 0x6FF), (0x750, 0x77F), (0x870, 0x8FF)],
-    "is_syriac_mark": [(0x700, 0x74F), (0x860, 0x86F)],
-    "is_thaana_mark": [(0x780, 0x7BF)],
-    "is_nko_mark": [(0x7C0, 0x7FF)],
-    "is_thai_mark": [(0xE00, 0xE7F)],
-    "is_lao_mark": [(0xE80, 0xEFF)],
-    "is_symbol_mark": [(0x20D0, 0x20FF)],
-    "is_kana_mark": [(0x3000, 0x309F)],
+    "diacritical marks": [(0x300, 0x36F), (0x1AB0, 0x1AFF), (0x1DC0, 0x1DFF), (0xFE20, 0xFE2F)],
+    "Cyrillic": [(0x400, 0x52F), (0x1C80, 0x1C8F), (0x2DE0, 0x2DFF), (0xA640, 0xA69F)],
+    "Hebrew": [(0x590, 0x5FF), (0xFB1D, 0xFB4F)],
+    "Arabic": [(0x600, 0x6FF), (0x750, 0x77F), (0x870, 0x8FF)],
+    "Syriac": [(0x700, 0x74F), (0x860, 0x86F)],
+    "Thaana": [(0x780, 0x7BF)],
+    "N'Ko": [(0x7C0, 0x7FF)],
+    "Thai": [(0xE00, 0xE7F)],
+    "Lao": [(0xE80, 0xEFF)],
+    "symbols": [(0x20D0, 0x20FF)],
+    "ideographs and kana": [(0x3000, 0x309F)],
 }
 
 # The definitions that make up each property.
@@ -64,13 +64,6 @@ UNSEEN_PARTS = {
     "Bidi_Control": ["turns_direction"],
     "Default_Ignorable_Code_Point": ["is_ignorable_letter", "is_ignorable_sign", "is_ignorable_above"],
     "interlinear annotation": ["annotates"],
-}
-DRAWN_PARTS = {
-    "Zs and the empty pattern of Braille": ["is_space"],
-    "Co": ["is_private"],
-    "noncharacters": ["is_noncharacter"],
-    "Cn": ["is_unassigned"],
-    **{f"Mn and Me of {name}": [name] for name in MARK_BLOCKS},
 }
 
 
@@ -114,7 +107,7 @@ def drawn_properties(of_category):
         "Co": of_category["Co"],
         "noncharacters": {n for n in range(0x110000) if 0xFDD0 <= n <= 0xFDEF or n & 0xFFFE == 0xFFFE},
         "Cn": of_category["Cn"] & numbers(UNASSIGNED),
-        **{f"Mn and Me of {name}": marks & numbers(blocks) for name, blocks in MARK_BLOCKS.items()},
+        **{f"Mn and Me: {name}": marks & numbers(blocks) for name, blocks in MARK_BLOCKS.items()},
     }
 
 
@@ -159,8 +152,14 @@ CODE = r"fn %s\(c: u32\).*?\n\{(.*?)\n\}"
 FILES = [
     ("keymap_core/specs/Unseen.antt", SPEC, UNSEEN_PARTS),
     ("keymap_core/src/unseen.rt", CODE, UNSEEN_PARTS),
-    ("keymap_draw/specs/Characters.antt", SPEC, DRAWN_PARTS),
-    ("keymap_draw/src/characters.rt", CODE, DRAWN_PARTS),
+]
+
+# The tables of what isn't drawn as it is, and what the definition and the code add to the first of them: the last
+# characters of each plane.
+TABLES = "keymap_draw/src/characters.rt"
+PLANES = [
+    ("keymap_draw/specs/Characters.antt", rf"nat_le {NUMBER} \(c % {NUMBER}\)"),
+    (TABLES, rf"{NUMBER} <= number % {NUMBER}"),
 ]
 
 
@@ -190,21 +189,51 @@ def misnamed():
                 yield f"{path}: not the name of {number}: {name}"
 
 
-def more(name, unassigned):
-    """What a definition may have beside the characters of its property."""
-    return unassigned & numbers(MARK_BLOCKS[name]) if name in MARK_BLOCKS else set()
+def table(name):
+    """The characters of a table of spans."""
+    with open(os.path.join(CRATES, TABLES), encoding="utf-8") as file:
+        match = re.search(rf"static {name}: \[Span; \d+\] = \[(.*?)\n\];", file.read(), re.S)
+    if not match:
+        sys.exit(f"unseen.py: {TABLES} has no {name}")
+    spans = re.findall(r"Span\((0x[0-9a-f]+), (0x[0-9a-f]+)\)", match.group(1))
+    return numbers([(int(first, 16), int(last, 16)) for first, last in spans])
 
 
-def differences(wanted, unassigned):
+def plane_ends():
+    """The last characters of each plane, as each file has them."""
+    for path, pattern in PLANES:
+        with open(os.path.join(CRATES, path), encoding="utf-8") as file:
+            match = re.search(pattern, file.read())
+        if not match:
+            sys.exit(f"unseen.py: {path} has no last characters of a plane")
+        first, size = (int(number.replace("_", ""), 16) for number in match.groups())
+        yield path, {n for n in range(0x110000) if first <= n % size}
+
+
+def compared(path, kind, has, wanted, may=frozenset()):
+    """What a file has that isn't of the kind, and what it lacks."""
+    if has - wanted - may:
+        yield f"{path}: not {kind}: {shown(has - wanted - may)}"
+    if wanted - has:
+        yield f"{path}: missing of {kind}: {shown(wanted - has)}"
+
+
+def undrawn(drawn, unassigned):
+    """The differences of the tables."""
+    marks = {kind for kind in drawn if kind.startswith("Mn and Me: ")}
+    numbered = set().union(*(drawn[kind] for kind in drawn.keys() - marks))
+    for path, ends in plane_ends():
+        yield from compared(path, "what has a number", table("NUMBERED") | ends, numbered)
+    blocks = numbers([block for blocks in MARK_BLOCKS.values() for block in blocks])
+    wanted = set().union(*(drawn[kind] for kind in marks))
+    yield from compared(TABLES, "Mn and Me of these blocks", table("MARKS"), wanted, unassigned & blocks)
+
+
+def differences(wanted):
     for path, pattern, parts in FILES:
         has_each = defined(path, pattern, [name for names in parts.values() for name in names])
         for kind, names in parts.items():
-            has = set().union(*(has_each[name] for name in names))
-            wrong = has - wanted[kind] - more(names[0], unassigned)
-            if wrong:
-                yield f"{path}: not {kind}: {shown(wrong)}"
-            if wanted[kind] - has:
-                yield f"{path}: missing of {kind}: {shown(wanted[kind] - has)}"
+            yield from compared(path, kind, set().union(*(has_each[name] for name in names)), wanted[kind])
 
 
 def main():
@@ -216,16 +245,16 @@ def main():
         of_category.setdefault(unicodedata.category(chr(n)), set()).add(n)
         if unicodedata.bidirectional(chr(n)) in DIRECTION_CLASSES:
             direction.add(n)
-    wanted = {**unseen_properties(of_category, direction), **drawn_properties(of_category)}
+    unseen, drawn = unseen_properties(of_category, direction), drawn_properties(of_category)
     if not sys.argv[1:]:
-        for name, members in wanted.items():
+        for name, members in {**unseen, **drawn}.items():
             print(f"{name}: {shown(members)}")
         return
-    found = [*differences(wanted, of_category["Cn"]), *misnamed()]
+    found = [*differences(unseen), *undrawn(drawn, of_category["Cn"]), *misnamed()]
     for line in found:
         print(line)
-    compared = sum(len(parts) for _, _, parts in FILES) + len(NAMES)
-    print(f"unseen.py: {compared} properties and lists of names compared, {len(found)} differences")
+    count = sum(len(parts) for _, _, parts in FILES) + len(PLANES) + 1 + len(NAMES)
+    print(f"unseen.py: {count} properties, tables and lists of names compared, {len(found)} differences")
     sys.exit(1 if found else 0)
 
 

@@ -52,17 +52,23 @@ prints() {
     head -n "$(wc -l < before)" "$2" | cmp -s - before && tail -n "$(wc -l < behind)" "$2" | cmp -s - behind
 }
 
-# missing FILE: the programs that a command names and this machine lacks
+# missing FILE: the programs that a command names and this machine lacks, and the files that skipped ones would have made
 missing() {
     for tool in ckbcomp pkg-config cc python3 git; do
         if grep -qw -e "$tool" "$1" && ! command -v "$tool" > /dev/null; then
             echo "$tool"
         fi
     done
+    for made in $unmade; do
+        if grep -qF -e "$made" "$1"; then
+            echo "$made"
+        fi
+    done
 }
 
 # follows DOCUMENT: its commands do what it says
 follows() {
+    unmade=
     rm -rf "$folder/work"
     mkdir "$folder/work" "$folder/work/blocks"
     (cd "$folder/work/blocks" && blocks "$top/$1")
@@ -76,7 +82,8 @@ follows() {
         want=$folder/work/blocks/want.$number
         lacks=$(missing "$run")
         if [ -n "$lacks" ]; then
-            echo "skipped: there is no $lacks"
+            echo "skipped: there is no" $lacks
+            unmade="$unmade $(grep -oE '> *[a-z][a-z0-9.-]*' "$run" | tr -d '> ' | tr '\n' ' ')"
         elif [ "${run##*/}" = "run.$number" ]; then
             sh "$run" 2>&1 | awk 1 > "$folder/work/got"
             holds "$1: $(cat "$run")" prints "$want" "$folder/work/got"

@@ -100,7 +100,7 @@ refuses sights_of
 refuses events_that_show
 yields type_characters
 refuses plan_for
-refuses cover_of
+yields cover_of
 refuses Seen::new
 refuses cells
 refuses lock_settings
@@ -131,7 +131,7 @@ yields lint_run
 refuses fmt_run
 refuses fmt_print_run
 yields type_run
-refuses cover_run
+yields cover_run
 yields file_error_line
 
 # The calls that the program knows are those above; between its marks it calls what they are named by, and that is each

@@ -64,7 +64,9 @@ pub(crate) fn push_number<const N: usize>(image: &mut ArrayVec<u8, N>, layout: L
     }
 }
 
-/// Appends zeros up to a length.
+/// Appends zeros up to a length. It is not inlined, so that who makes a row makes a call: a function without calls may
+/// keep values below the stack pointer, where an interrupt of a kernel writes.
+#[inline(never)]
 pub(crate) fn push_zeros<const N: usize>(image: &mut ArrayVec<u8, N>, length: usize)
     requires below { array_vec_len image.old ≤ length }
     requires room { length ≤ N }

@@ -323,7 +323,7 @@ if [ $unit != instructions ]; then
     exit 0
 fi
 # The table of README has what was measured of each limit that has words.
-awk '
+awk -v limits="$LIMITS" '
     function grouped(n,    behind) {
         if (n ~ /[^0-9]/) return n
         for (; length(n) > 3; n = substr(n, 1, length(n) - 3)) behind = "," substr(n, length(n) - 2) behind
@@ -342,7 +342,7 @@ awk '
         next
     }
     inside && /^\|/ { next }
-    { inside = 0; print }' limits="$LIMITS" "$LIMITS" measured "$README" > readme && cp readme "$README" || exit 1
+    { inside = 0; print }' "$LIMITS" measured "$README" > readme && cp readme "$README" || exit 1
 # Each limit is of something that was measured, and each measure has a limit.
 awk '
     FNR == NR && /^[a-z]/ { limit[$1] = $2; next }

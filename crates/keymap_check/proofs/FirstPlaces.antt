@@ -1,29 +1,22 @@
 -- The findings, read as statements on the map.
-use Prim.Native.Nat.{zero, suc}
-use Rattle.std.proofs.Common.{◌≡◌, ℕ, ◌<◌, ◌≤◌, ◌+◌, ◌-◌, ◌⊎◌, Bool, true, false, List, [], ◌∷◌, ◌++◌, Option, Some}
-use Rattle.std.proofs.Common.{None, refl, ap, subst, sym, ◌∙◌, inl, inr, arith}
-use Rattle.std.specs.Prelude.{nat_lt, All, AllPairs, Any}
-use Rattle.std.proofs.lemmas.Bool.{cases_Bool, true≢false, ltb-true, ltb-false, lt-ltb, le-ltb}
-use Rattle.keymap_check.specs.Types.{Holding, Cell, Act, Kind, Finding, Place}
-use Rattle.keymap_core.specs.Actions.{holding_action}
-use Rattle.keymap_core.specs.Maps.{MapValue, cell_at}
-use Rattle.keymap_core.specs.Bearers.{IsUpperLive}
-use Rattle.keymap_core.specs.Below.{gathered}
-use Rattle.keymap_core.proofs.Below.{IsFirstBelow, below-suc}
-use Rattle.keymap_check.specs.declared.kind.Kind.TheVariants as kind
-use Rattle.keymap_core.specs.Borne.{is_upper_live}
-use Rattle.keymap_check.specs.Cells.{is_of_kind, cell_of, slot_at, column_at, place_at, place_count, first_place}
-use Rattle.keymap_check.specs.Cells.{is_character, is_any_holding}
-use Rattle.keymap_check.specs.Computed.{findings_at, findings_of, finding_by, finding_with, held_by}
-use Rattle.std.proofs.lemmas.List.Elements.{All-cons, All-nil}
+use Rattle.keymap_check.proofs.Common.{zero, suc, ◌≡◌, ℕ, ◌<◌, ◌≤◌, ◌+◌, ◌-◌, ◌⊎◌, Bool, true, false, List, [], ◌∷◌}
+use Rattle.keymap_check.proofs.Common.{◌++◌, Option, Some, None, refl, ap, subst, sym, ◌∙◌, inl, inr, arith, nat_lt}
+use Rattle.keymap_check.proofs.Common.{All, cases_Bool, true≢false, ltb-true, ltb-false, lt-ltb, le-ltb, Holding, Cell}
+use Rattle.keymap_check.proofs.Common.{Act, Kind, Finding, holding_action, MapValue, cell_at, IsUpperLive, gathered}
+use Rattle.keymap_check.proofs.Common.{IsFirstBelow, below-suc, is_upper_live, is_of_kind, cell_of, place_count}
+use Rattle.keymap_check.proofs.Common.{first_place, is_character, is_any_holding, findings_at, finding_by, finding_with}
+use Rattle.keymap_check.proofs.Common.{held_by, All-cons, All-nil, IsUnsafeKey, live-upper, upper-is_live}
+use Rattle.std.specs.Prelude.{AllPairs, Any}
+use Rattle.keymap_check.specs.Types.{Place}
+use Rattle.keymap_check.specs.Cells.{slot_at, column_at, place_at}
+use Rattle.keymap_check.specs.Computed.{findings_of}
 use Rattle.std.proofs.lemmas.List.Kept.{AllPairs-cons}
 use Rattle.keymap_check.specs.Findings.{IsPlaceOf, NotAfter, IsFirstOf, IsHoldingCell, IsCharacterCell, IsFinding}
-use Rattle.keymap_check.specs.Findings.{IsUnsafeKey}
 use Rattle.keymap_check.specs.Report.{FindingsAreComputed}
 use Rattle.keymap_check.proofs.Same.{character-cell, holding-cell, IsHeldBy, holding-any}
 use Rattle.keymap_check.proofs.Places.{first_place-some, count_if, count_least}
-use Rattle.keymap_core.proofs.BorneTests.{live-upper, upper-is_live}
 use Rattle.keymap_check.proofs.Findings.{safe_by}
+use Rattle.keymap_check.specs.declared.kind.Kind.TheVariants as kind
 
 -- the place with a number
 place_low : (k p : ℕ) (t : Bool) → nat_lt p 8 ≡ t → t ≡ true → (slot_at k p ≡ k) × (column_at p ≡ p)
@@ -160,8 +153,7 @@ finding-held : (m : MapValue) (k p q : ℕ) (o : Option Holding) → k < 128 →
     → first_place m kind.Character k ≡ Some q → held_by (cell_of m k p) ≡ o → AreOf m k (finding_with k p q o)
 finding-held m k p q None lt e f h = tt
 finding-held m k p q (Some a) lt e f h =
-    let s : IsFirstBelow (λ j. is_of_kind kind.AnyHolding (cell_of m k j)) (place_count m) p =
-    first_place-some m kind.AnyHolding k p e in
+    let s = first_place-some m kind.AnyHolding k p e in
     let b : IsHeldBy (cell_of m k p) = holding-cell (cell_of m k p) s.1 in
     let same : b.0 ≡ a = some_same b.0 a (sym b.2 ∙ h) in (
       refl,

@@ -1,15 +1,11 @@
 -- The places of a key's cells, and the cells that it has.
-use Rattle.std.proofs.Common.{◌≡◌, ℕ, ◌<◌, ◌≤◌, ◌+◌, ◌-◌, Bool, true, false, Some, None, refl, ap, subst, sym, ◌∙◌, inl}
-use Rattle.std.proofs.Common.{inr, if◌then◌else◌, arith}
-use Rattle.std.specs.Prelude.{nat_lt}
-use Rattle.std.proofs.lemmas.Bool.{cases_Bool, ltb-true, ltb-false, lt-ltb, le-ltb}
-use Rattle.keymap_check.specs.Types.{Cell, Kind}
-use Rattle.keymap_core.specs.Maps.{MapValue, cell_at}
-use Rattle.keymap_core.specs.Bearers.{StandsIn, IsCellOf}
-use Rattle.keymap_core.specs.Borne.{is_upper_live}
-use Rattle.keymap_core.proofs.BorneTests.{live-upper, upper-is_live}
-use Rattle.keymap_core.proofs.Below.{first_below-no, first_below-some, IsFirstBelow, NoneBelow}
-use Rattle.keymap_check.specs.Cells.{is_of_kind, place_count, cell_of, first_place}
+use Rattle.keymap_check.proofs.Common.{◌≡◌, ℕ, ◌<◌, ◌≤◌, ◌+◌, ◌-◌, Bool, true, false, Some, None, refl, ap, subst, sym}
+use Rattle.keymap_check.proofs.Common.{◌∙◌, inl, inr, if◌then◌else◌, arith, nat_lt, cases_Bool, ltb-true, ltb-false}
+use Rattle.keymap_check.proofs.Common.{lt-ltb, le-ltb, Cell, Kind, MapValue, cell_at, IsCellOf, is_upper_live}
+use Rattle.keymap_check.proofs.Common.{live-upper, upper-is_live, first_below-no, first_below-some, IsFirstBelow}
+use Rattle.keymap_check.proofs.Common.{is_of_kind, place_count, cell_of, first_place}
+use Rattle.keymap_core.specs.Bearers.{StandsIn}
+use Rattle.keymap_core.proofs.Below.{NoneBelow}
 
 -- a key has 16 places where the upper half is live, and else 8
 pub count_if : (m : MapValue) (t : Bool) → is_upper_live m ≡ t → place_count m ≡ (if t then 16 else 8)

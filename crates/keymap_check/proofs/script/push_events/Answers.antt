@@ -1,11 +1,10 @@
-use Rattle.std.proofs.Common.{◌≡◌, ◌≤◌, ◌<◌, ◌+◌, ap, sym, ◌∙◌, arith, length, refl, append_assoc, length-append, lit<}
-use Rattle.std.proofs.lemmas.List.{append-nil}
-use Rattle.arrayvec.specs.ArrayVec.{array_vec_len}
-use Rattle.keymap_core.specs.Below.{gathered}
-use Rattle.keymap_core.proofs.Below.{gathered-none, gathered-more, gathered-le}
-use Rattle.keymap_check.specs.Scripts.{event_at, events_of}
-use Rattle.keymap_check.proofs.script.push_events.Goals as goal
+use Rattle.keymap_check.proofs.Common.{◌≡◌, ◌≤◌, ◌<◌, ◌+◌, ap, sym, ◌∙◌, arith, length, refl, length-append, lit<}
+use Rattle.keymap_check.proofs.Common.{append-nil, array_vec_len, gathered, gathered-none, gathered-more, event_at}
+use Rattle.keymap_check.proofs.Common.{events_of}
+use Rattle.std.proofs.Common.{append_assoc}
+use Rattle.keymap_core.proofs.Below.{gathered-le}
 use Rattle.keymap_check.proofs.script.push_events.Goals.{in-Some, in-None}
+use Rattle.keymap_check.proofs.script.push_events.Goals as goal
 
 pub loop-bit-init : goal.loop-bit-init
 loop-bit-init c =

@@ -17,26 +17,17 @@ use Rattle.keymap_fmt.proofs.Reading.{read_refused, read_unfinished}
 -- may a piece stand at t that stands at s if nothing is before it?
 abbrev pub reaches : Standing → Standing → Bool
 reaches AtTop AtTop = true
-reaches AtTop other = false
-reaches Beside other = true
+reaches Beside t = true
 reaches Below Below = true
 reaches Below Apart = true
-reaches Below other = false
 reaches Apart Apart = true
-reaches Apart other = false
+reaches s t = false
 
 -- the end of a line leads on
 lower_reaches : (s t : Standing) → reaches (lower s) t ≡ true → reaches s t ≡ true
-lower_reaches AtTop AtTop h = refl
-lower_reaches AtTop Beside h = h
-lower_reaches AtTop Below h = h
-lower_reaches AtTop Apart h = h
 lower_reaches Beside t h = refl
-lower_reaches Below AtTop h = h
-lower_reaches Below Beside h = h
 lower_reaches Below Below h = refl
-lower_reaches Below Apart h = refl
-lower_reaches Apart t h = h
+lower_reaches s t h = h
 
 -- so does any blank
 blank_reaches : (c : ℕ) (s t : Standing) → reaches (lowered c s) t ≡ true → reaches s t ≡ true
@@ -49,9 +40,7 @@ blank_reaches c s t h = go (c == 10) refl
 -- a piece stands where nothing is before it
 reaches_itself : (s : Standing) → reaches s s ≡ true
 reaches_itself AtTop = refl
-reaches_itself Beside = refl
-reaches_itself Below = refl
-reaches_itself Apart = refl
+reaches_itself s = refl
 
 -- its bytes are the piece again
 abbrev pub Reads : Part → List ℕ → Type 0

@@ -24,9 +24,7 @@ run e (c ∷ cs) = elim (behind_byte e c) [ Some f ↦ run f cs | None ↦ None 
 one_passed : (e f : Edge) (c : ℕ) (y : List ℕ) → behind_byte e c ≡ Some f → are_lines e (c ∷ y) ≡ are_lines f y
 unfolding are_lines
 one_passed Blank f c y h = rw (h, are_lines) refl
-one_passed Ink f c y h = rw (h, are_lines) refl
-one_passed LineEnd f c y h = rw (h, are_lines) refl
-one_passed EmptyLine f c y h = rw (h, are_lines) refl
+one_passed e f c y h = rw (h, are_lines) refl
 
 -- some bytes
 all_passed : (g y : List ℕ) (e f : Edge) → run e g ≡ Some f → are_lines e (g ++ y) ≡ are_lines f y
@@ -96,18 +94,12 @@ Runs e g = (f : Edge) × (run e g ≡ Some f)
 line_runs : (column : ℕ) (u t : Standing) → IsAt u column → reaches u t ≡ true
     → Runs (edge_at u) (line_begun column t)
 line_runs column AtTop AtTop h r = subst (λ n. Runs EmptyLine (line_begun n AtTop)) (sym h) (EmptyLine, refl)
-line_runs column AtTop Beside h r = absurd (cc)
-line_runs column AtTop Below h r = absurd (cc)
-line_runs column AtTop Apart h r = absurd (cc)
-line_runs column Below AtTop h r = absurd (cc)
-line_runs column Below Beside h r = absurd (cc)
 line_runs column Below Below h r = subst (λ n. Runs LineEnd (line_begun n Below)) (sym h) (LineEnd, refl)
 line_runs column Below Apart h r = subst (λ n. Runs LineEnd (line_begun n Apart)) (sym h) (EmptyLine, refl)
-line_runs column Beside AtTop h r = (LineEnd, rw (closed column h) refl)
-line_runs column Beside Beside h r = (LineEnd, rw (closed column h) refl)
-line_runs column Beside Below h r = (LineEnd, rw (closed column h) refl)
 line_runs column Beside Apart h r = (EmptyLine, rw (closed column h) refl)
+line_runs column Beside t h r = (LineEnd, rw (closed column h) refl)
 line_runs column Apart t h r = absurd h
+line_runs column s t h r = absurd (cc)
 
 -- the end of the open line
 below_runs : (column : ℕ) (u : Standing) → IsAt u column → Runs (edge_at u) (line_begun column Below)
@@ -118,13 +110,11 @@ below_runs column Apart h = absurd h
 
 comment_runs : (column : ℕ) (u t : Standing) → IsAt u column → reaches u t ≡ true
     → Runs (edge_at u) (comment_lead column t)
-comment_runs column u AtTop h r = line_runs column u AtTop h r
 comment_runs column u Beside h r = two (edge_at u)
   where
     two : (e : Edge) → Runs e (32 ∷ 32 ∷ [])
     two e = (Blank, refl)
-comment_runs column u Below h r = line_runs column u Below h r
-comment_runs column u Apart h r = line_runs column u Apart h r
+comment_runs column u t h r = line_runs column u t h r
 
 lines_run : (s : State) (kind : TokenKind) (u t : Standing) → IsAt u s.column → reaches u t ≡ true
     → Runs (edge_at u) (lines_before s kind t)

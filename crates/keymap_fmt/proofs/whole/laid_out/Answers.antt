@@ -42,8 +42,7 @@ returns-clause-laid c =
 
 pub returns-then-len-gt-LIMIT-2-clause-refused : goal.returns-then-len-gt-LIMIT-2-clause-refused
 returns-then-len-gt-LIMIT-2-clause-refused c =
-    let same : c.end_line.new.laid.items ≡ formatted c.args.text.now =
-    end_written c.loop-piece.laid.items c.end_line.new.laid.items (formatted c.args.text.now) c.loop-piece.state
-    (pieces_after 0 c.loop-piece.standing (drop c.loop-piece.at c.args.text.now)) c.in_default.ensures
-    c.in-Ok-end_line.ensures c.loop-piece.invariant.same in
+    let same = end_written c.loop-piece.laid.items c.end_line.new.laid.items (formatted c.args.text.now)
+    c.loop-piece.state (pieces_after 0 c.loop-piece.standing (drop c.loop-piece.at c.args.text.now))
+    c.in_default.ensures c.in-Ok-end_line.ensures c.loop-piece.invariant.same in
     omega (arith, c.if-len-gt-LIMIT-2.true, c.len-2.ensures, c.end_line.new.laid.ok.0, ap length same)

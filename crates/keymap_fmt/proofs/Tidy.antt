@@ -1,15 +1,11 @@
 -- The lines of what is written.
-use Rattle.std.proofs.Common.{◌≡◌, inl, inr, ℕ, zero, suc, ◌==◌, ◌&&◌, Bool, true, false, if◌then◌else◌}
-use Rattle.std.proofs.Common.{List, [], ◌∷◌, ◌++◌, length, replicate, refl, sym, ◌∙◌, ap, subst, arith}
-use Rattle.std.proofs.Common.{slice_index, Option, Some, None, true≢false, append_assoc}
-use Rattle.std.specs.List.{list_all}
-use Rattle.std.proofs.lemmas.Bool.Decides.{nat_tests}
-use Rattle.keymap_fmt.specs.Types.{TokenKind, State, Standing, AtTop, Beside, Below, Apart, Part, Comment, Code}
-use Rattle.keymap_text.specs.Lexical.{is_space, stays_on_line, leading}
-use Rattle.keymap_fmt.specs.Pieces.{PieceValue, pieces, behind}
-use Rattle.keymap_fmt.specs.Layout.{is_open, begins_line, opened, lead, width, before, after, ending, line_end, start}
-use Rattle.keymap_fmt.specs.Layout.{line_begun, lines_before, comment_lead}
-use Rattle.keymap_fmt.specs.Formatted.{rendered_from, formatted}
+use Rattle.keymap_fmt.proofs.Common.{◌≡◌, inl, inr, ℕ, zero, suc, ◌==◌, ◌&&◌, Bool, true, false, if◌then◌else◌, List}
+use Rattle.keymap_fmt.proofs.Common.{[], ◌∷◌, ◌++◌, length, replicate, refl, sym, ◌∙◌, ap, subst, arith, slice_index}
+use Rattle.keymap_fmt.proofs.Common.{Option, Some, None, true≢false, append_assoc, list_all, nat_tests, TokenKind}
+use Rattle.keymap_fmt.proofs.Common.{State, Standing, AtTop, Beside, Below, Apart, Part, Comment, Code, is_space}
+use Rattle.keymap_fmt.proofs.Common.{stays_on_line, leading, PieceValue, pieces, behind, is_open, begins_line, opened}
+use Rattle.keymap_fmt.proofs.Common.{lead, width, before, after, ending, line_end, start, line_begun, lines_before}
+use Rattle.keymap_fmt.proofs.Common.{comment_lead, rendered_from, formatted}
 use Rattle.keymap_fmt.specs.Lines.{Edge, Blank, Ink, LineEnd, EmptyLine, behind_byte, are_lines, HasTidyLines}
 use Rattle.keymap_text.proofs.Leading.{leading_tail}
 use Rattle.keymap_fmt.proofs.Texts.{ArePieces, no_piece, one_piece, Reads, reaches, text_pieces}

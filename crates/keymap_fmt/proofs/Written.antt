@@ -1,13 +1,10 @@
 -- What is written before a piece, and how it is read again.
-use Rattle.std.proofs.Common.{◌≡◌, ℕ, zero, suc, ◌<◌, ◌==◌, Bool, true, false, if◌then◌else◌, List}
-use Rattle.std.proofs.Common.{[], ◌∷◌, ◌++◌, length, replicate, refl, sym, ◌∙◌, ap, subst, arith}
-use Rattle.std.proofs.lemmas.Bool.Decides.{nat_tests}
-use Rattle.keymap_fmt.specs.Types.{TokenKind, State, Standing, AtTop, Beside, Below, Apart, Part, Comment, Code}
-use Rattle.keymap_text.specs.Lexical.{is_blank}
-use Rattle.keymap_fmt.specs.Pieces.{PieceValue, pieces_after, lowered, behind}
-use Rattle.keymap_fmt.specs.Layout.{begins_line, is_open, is_apart, opened, lead, width, after, line_end, line_begun}
-use Rattle.keymap_fmt.specs.Layout.{lines_before, comment_lead, before}
-use Rattle.keymap_fmt.specs.Formatted.{rendered_from}
+use Rattle.keymap_fmt.proofs.Common.{◌≡◌, ℕ, zero, suc, ◌<◌, ◌==◌, Bool, true, false, if◌then◌else◌, List, [], ◌∷◌}
+use Rattle.keymap_fmt.proofs.Common.{◌++◌, length, replicate, refl, sym, ◌∙◌, ap, subst, arith, nat_tests, TokenKind}
+use Rattle.keymap_fmt.proofs.Common.{State, Standing, AtTop, Beside, Below, Apart, Part, Comment, Code, is_blank}
+use Rattle.keymap_fmt.proofs.Common.{PieceValue, pieces_after, lowered, behind, begins_line, is_open, is_apart, opened}
+use Rattle.keymap_fmt.proofs.Common.{lead, width, after, line_end, line_begun, lines_before, comment_lead, before}
+use Rattle.keymap_fmt.proofs.Common.{rendered_from}
 use Rattle.keymap_fmt.proofs.Reading.{BeginsBlank, read_blank, read_nil}
 use Rattle.keymap_fmt.proofs.Texts.{reaches}
 

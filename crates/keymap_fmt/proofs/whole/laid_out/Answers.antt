@@ -1,6 +1,5 @@
-use Rattle.std.proofs.Common.{◌≡◌, ◌<◌, ◌∷◌, length, sym, ◌∙◌, ap, arith, drop}
-use Rattle.keymap_fmt.specs.Pieces.{pieces_after, behind}
-use Rattle.keymap_fmt.specs.Formatted.{rendered_from, formatted}
+use Rattle.keymap_fmt.proofs.Common.{◌<◌, ◌∷◌, length, sym, ◌∙◌, ap, arith, drop, pieces_after, behind}
+use Rattle.keymap_fmt.proofs.Common.{rendered_from, formatted}
 use Rattle.keymap_fmt.specs.Inner.Reading.{piece_view}
 use Rattle.keymap_fmt.proofs.Writing.{piece_written, end_written, longer}
 use Rattle.keymap_fmt.proofs.whole.laid_out.Goals as goal

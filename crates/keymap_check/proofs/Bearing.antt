@@ -1,11 +1,11 @@
 -- The bearers that are found, and the keys that bear.
 use Rattle.keymap_check.proofs.Common.{zero, suc, ◌≡◌, ◌≢◌, ℕ, ◌<◌, Bool, true, false, not, Option, Some, None, refl}
-use Rattle.keymap_check.proofs.Common.{ap, subst, sym, ◌∙◌, inl, inr, if◌then◌else◌, arith, cases_Bool, true≢false}
-use Rattle.keymap_check.proofs.Common.{is_some, Lock, Holding, Cell, Act, Bearer, Nobody, holding_action, MapValue}
-use Rattle.keymap_check.proofs.Common.{IsCellOf, Bears, BearsThroughout, below-suc, IsPlain, IsSteady, IsActing}
-use Rattle.keymap_check.proofs.Common.{first_place, cell_of, is_holding, is_character_or_nop, bears_holding}
-use Rattle.keymap_check.proofs.Common.{bearer_with, next_bearer, bearer_below, bearer_of, IsBearer, ReportValue}
-use Rattle.keymap_check.proofs.Common.{bearer_in}
+use Rattle.keymap_check.proofs.Common.{ap, subst, sym, ◌∙◌, inl, inr, if◌then◌else◌, arith, true≢false, is_some, Lock}
+use Rattle.keymap_check.proofs.Common.{Holding, Cell, Act, Bearer, Nobody, holding_action, MapValue, IsCellOf, Bears}
+use Rattle.keymap_check.proofs.Common.{BearsThroughout, below-suc, IsPlain, IsSteady, IsActing, first_place, cell_of}
+use Rattle.keymap_check.proofs.Common.{is_holding, bears_holding, bearer_with, next_bearer, bearer_below, bearer_of}
+use Rattle.keymap_check.proofs.Common.{IsBearer, ReportValue, bearer_in}
+use Rattle.std.proofs.lemmas.Bool.{cases_Bool}
 use Rattle.std.specs.Option.{is_none}
 use Rattle.keymap_check.specs.Types.{Throughout, Sole, Several}
 use Rattle.keymap_core.specs.Bearers.{IsAlone}

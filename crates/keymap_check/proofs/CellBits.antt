@@ -64,28 +64,20 @@ high_same i j false e = ne_eqb (8 + i) (8 + j) (λ s. eqb-false i j e (omega ari
 
 -- a cell has the bit of a holding action exactly if it is that action
 holding-bit : (a : Holding) (x : Cell) → is_set (2 ^ holding_index a) (cell_bit x) ≡ is_holding a x
-holding-bit (holding.Mod i) (Char c) =
-    let lt : modifier_index i < 8 = modifier_index-lt i in apart 12 (modifier_index i) (λ e. omega (arith, lt, e))
+holding-bit (holding.Mod i) (Char c) = apart 12 (modifier_index i) (λ e. omega (arith, modifier_index-lt i, e))
 holding-bit (holding.Mod i) (Act (act.Mod j)) = is_set-pow (modifier_index i) (modifier_index j)
 holding-bit (holding.Mod i) (Act (act.Lock l)) =
-    let lt : modifier_index i < 8 = modifier_index-lt i in
-    apart (8 + lock_index l) (modifier_index i) (λ e. omega (arith, lt, e))
-holding-bit (holding.Mod i) (Act act.Nop) =
-    let lt : modifier_index i < 8 = modifier_index-lt i in apart 13 (modifier_index i) (λ e. omega (arith, lt, e))
-holding-bit (holding.Mod i) (Act b) =
-    let lt : modifier_index i < 8 = modifier_index-lt i in apart 14 (modifier_index i) (λ e. omega (arith, lt, e))
-holding-bit (holding.Lock k) (Char c) =
-    let lt : lock_index k < 4 = lock_index-lt k in apart 12 (8 + lock_index k) (λ e. omega (arith, lt, e))
+    apart (8 + lock_index l) (modifier_index i) (λ e. omega (arith, modifier_index-lt i, e))
+holding-bit (holding.Mod i) (Act act.Nop) = apart 13 (modifier_index i) (λ e. omega (arith, modifier_index-lt i, e))
+holding-bit (holding.Mod i) (Act b) = apart 14 (modifier_index i) (λ e. omega (arith, modifier_index-lt i, e))
+holding-bit (holding.Lock k) (Char c) = apart 12 (8 + lock_index k) (λ e. omega (arith, lock_index-lt k, e))
 holding-bit (holding.Lock k) (Act (act.Mod j)) =
-    let lt : modifier_index j < 8 = modifier_index-lt j in
-    apart (modifier_index j) (8 + lock_index k) (λ e. omega (arith, lt, e))
+    apart (modifier_index j) (8 + lock_index k) (λ e. omega (arith, modifier_index-lt j, e))
 holding-bit (holding.Lock k) (Act (act.Lock l)) =
     is_set-pow (8 + lock_index k) (8 + lock_index l)
     ∙ high_same (lock_index l) (lock_index k) (eqb (lock_index l) (lock_index k)) refl
-holding-bit (holding.Lock k) (Act act.Nop) =
-    let lt : lock_index k < 4 = lock_index-lt k in apart 13 (8 + lock_index k) (λ e. omega (arith, lt, e))
-holding-bit (holding.Lock k) (Act b) =
-    let lt : lock_index k < 4 = lock_index-lt k in apart 14 (8 + lock_index k) (λ e. omega (arith, lt, e))
+holding-bit (holding.Lock k) (Act act.Nop) = apart 13 (8 + lock_index k) (λ e. omega (arith, lock_index-lt k, e))
+holding-bit (holding.Lock k) (Act b) = apart 14 (8 + lock_index k) (λ e. omega (arith, lock_index-lt k, e))
 
 -- all bits but that of a holding action
 cell_bit-lt : (x : Cell) → cell_bit x < 15

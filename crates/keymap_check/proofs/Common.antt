@@ -11,8 +11,7 @@ pub use Rattle.console_core.specs.Resolved.{on}
 unfoldable pub use Rattle.console_core.specs.Resolved.{remembered}
 pub use Rattle.console_core.specs.Resolved.ResolvedEvent.{PressedAction}
 pub use Rattle.console_core.specs.Traps.{HasNoTrap, NobodyBearsCellPickingLocks}
-pub use Rattle.keymap_check.specs.Cells.{cell_of, is_any_holding, is_character, is_character_or_nop, is_group_cell}
-pub use Rattle.keymap_check.specs.Cells.{is_holding, is_of_group, is_of_kind}
+pub use Rattle.keymap_check.specs.Cells.{cell_of, is_any_holding, is_character, is_holding, is_of_group, is_of_kind}
 unfoldable pub use Rattle.keymap_check.specs.Cells.{first_place, place_count}
 pub use Rattle.keymap_check.specs.Computed.{bearer_of, bearer_with, bears_holding, finding_by, finding_with}
 pub use Rattle.keymap_check.specs.Computed.{findings_at, held_by, next_bearer}
@@ -43,10 +42,10 @@ pub use Rattle.keymap_core.specs.Maps.{MapValue, cell_at}
 pub use Rattle.keymap_core.specs.declared.action.Lock.TheVariants.{Caps}
 pub use Rattle.std.proofs.Common.{Bool, List, None, Option, Some, [], add-one, ap, arith, false, if◌then◌else◌, inl}
 pub use Rattle.std.proofs.Common.{inr, length, length-append, lit<, not, refl, subst, sym, true, ℕ, ◌%◌, ◌&&◌, ◌*◌}
-pub use Rattle.std.proofs.Common.{◌++◌, ◌+◌, ◌-◌, ◌<◌, ◌^◌, ◌||◌, ◌∙◌, ◌∷◌, ◌≡◌, ◌≢◌, ◌≤◌, ◌⊎◌}
-pub use Rattle.std.proofs.lemmas.Bool.{and_parts, cases_Bool, eq-eqb, eqb-true, false_from_ne_true, le-ltb, lt-ltb}
-pub use Rattle.std.proofs.lemmas.Bool.{ltb-false, ltb-true, not-true, or_right, true≢false}
+pub use Rattle.std.proofs.Common.{◌++◌, ◌+◌, ◌-◌, ◌<◌, ◌^◌, ◌||◌, ◌∙◌, ◌∷◌, ◌≡◌, ◌≢◌, ◌≤◌}
+pub use Rattle.std.proofs.lemmas.Bool.{and_parts, cases_lt, eq-eqb, eqb-true, false_from_ne_true, le-ltb, lt-ltb}
+pub use Rattle.std.proofs.lemmas.Bool.{not-true, or_right, true≢false}
 pub use Rattle.std.proofs.lemmas.List.{append-nil}
 pub use Rattle.std.proofs.lemmas.List.Elements.{All-append, All-cons, All-nil}
 pub use Rattle.std.specs.Option.{is_some, option_or}
-pub use Rattle.std.specs.Prelude.{All, IfSome, IsNone, find, nat_lt, reverse, ◌==◌}
+pub use Rattle.std.specs.Prelude.{All, IfSome, IsNone, find, reverse, ◌==◌}

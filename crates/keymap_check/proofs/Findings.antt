@@ -1,8 +1,8 @@
 -- A map has no findings exactly if it is safe.
-use Rattle.keymap_check.proofs.Common.{zero, suc, ◌≡◌, ℕ, ◌<◌, ◌++◌, List, [], ◌∷◌, true, Option, Some, None, refl, ap}
-use Rattle.keymap_check.proofs.Common.{subst, sym, ◌∙◌, inl, inr, arith, true≢false, Holding, Char, Act, holding_action}
-use Rattle.keymap_check.proofs.Common.{MapValue, IsCellOf, Bears, gathered, below-suc, first_place, cell_of}
-use Rattle.keymap_check.proofs.Common.{is_character, is_any_holding, held_by, finding_with, finding_by, findings_at}
+use Rattle.keymap_check.proofs.Common.{zero, suc, ◌≡◌, ℕ, ◌<◌, ◌++◌, List, [], ◌∷◌, Option, Some, None, refl, ap, subst}
+use Rattle.keymap_check.proofs.Common.{sym, ◌∙◌, inl, inr, arith, true≢false, Holding, Char, Act, holding_action}
+use Rattle.keymap_check.proofs.Common.{MapValue, IsCellOf, Bears, gathered, below-suc, first_place, cell_of, held_by}
+use Rattle.keymap_check.proofs.Common.{finding_with, finding_by, findings_at}
 use Rattle.keymap_check.specs.Report.{NoFindingsExactlyIfSafe}
 use Rattle.keymap_check.proofs.Same.{character-cell, IsHeldBy, holding-cell, holding-any}
 use Rattle.keymap_check.proofs.Places.{first_place-cell, no_place-cell}

@@ -25,6 +25,10 @@ module _ {A : Type 0} (test : A → Bool) where
       → find test (gathered f (n + 1)) ≡ None
   try-more f n e g = rw (add-one, find-more f n, e, g) refl
 
+  -- after all numbers
+  pub try-none : (f : ℕ → List A) (i n : ℕ) → i ≡ n → find test (gathered f i) ≡ None → None ≡ find test (gathered f n)
+  try-none f i n e none = sym (ap (λ k. find test (gathered f k)) (sym e) ∙ none)
+
   -- the first found in the list i, where nothing is before it, is the first of all
   pub try-found : (f : ℕ → List A) (i n : ℕ) (s : A) → i < n → find test (gathered f i) ≡ None
       → find test (f i) ≡ Some s → find test (gathered f n) ≡ Some s

@@ -1,6 +1,7 @@
 -- The promises, from the laws over the two maps of a console.
-use Rattle.keymap_check.proofs.Common.{◌≡◌, ℕ, ◌⊎◌, inl, inr, ap, subst, sym, ◌∙◌, All-cons, Lock, Modifier, Press}
-use Rattle.keymap_check.proofs.Common.{MapValue, BearsThroughout, Maps, HasKey, is_on_after, IsSteady, IsPlain}
+use Rattle.keymap_check.proofs.Common.{◌≡◌, ℕ, inl, inr, ap, subst, sym, ◌∙◌, All-cons, Lock, Modifier, Press, MapValue}
+use Rattle.keymap_check.proofs.Common.{BearsThroughout, Maps, HasKey, is_on_after, IsSteady, IsPlain}
+use Rattle.std.proofs.Common.{◌⊎◌}
 use Rattle.console_core.specs.Headline.{IsSafe, OnOnlyWhilePressed, OnExactlyWhilePressed, RepeatsTurnNoSteadyLock}
 use Rattle.console_core.specs.Headline.{OffOnceQuiet, GoesOnAsAfterReset, LockedByFreshPresses, IsOnOnlyWhilePressed}
 use Rattle.console_core.specs.Plain.{plain_look, LooksPlainly}

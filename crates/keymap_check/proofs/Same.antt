@@ -1,7 +1,8 @@
 -- Tests of a cell, and what they say of it.
 use Rattle.keymap_check.proofs.Common.{◌≡◌, ℕ, Bool, true, false, not, Some, refl, ap, sym, ◌∙◌, true≢false, Holding}
 use Rattle.keymap_check.proofs.Common.{Cell, Char, Act, holding_action, IsActing, same_action-true, is_holding}
-use Rattle.keymap_check.proofs.Common.{is_character, is_any_holding, is_character_or_nop, held_by}
+use Rattle.keymap_check.proofs.Common.{is_character, is_any_holding, held_by}
+use Rattle.keymap_check.specs.Cells.{is_character_or_nop}
 use Rattle.keymap_core.proofs.SameActions.{same_action-refl}
 use Rattle.keymap_core.specs.declared.action.Action.TheVariants as act
 use Rattle.keymap_core.specs.declared.action.Holding.TheVariants as holding

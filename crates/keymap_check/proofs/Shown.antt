@@ -7,10 +7,11 @@ use Rattle.keymap_check.proofs.Common.{RightControl, LeftAlt, RightAlt, AltShift
 use Rattle.keymap_check.proofs.Common.{Release, Group, Finding, modifier_index, MapValue, cell_at, IsCellOf}
 use Rattle.keymap_check.proofs.Common.{IsUpperLive, gathered, first_below-some, on, remembered, Maps, between}
 use Rattle.keymap_check.proofs.Common.{is_on_after, resolved, is_any_on_after, PressedAction, same_action-true}
-use Rattle.keymap_check.proofs.Common.{first_place, cell_of, is_of_group, is_group_cell, findings_at, group_at}
-use Rattle.keymap_check.proofs.Common.{bears_group, bit_key, bit_keys, script, scripts_of, scripts_with, scripts_for}
-use Rattle.keymap_check.proofs.Common.{tried_at, has_some, leaves_modifier_on, demonstration_of, group_of, bit_of_group}
-use Rattle.keymap_check.proofs.Common.{with_bit, HasShownTrap, bits_of}
+use Rattle.keymap_check.proofs.Common.{first_place, cell_of, is_of_group, findings_at, group_at, bears_group, bit_key}
+use Rattle.keymap_check.proofs.Common.{bit_keys, script, scripts_of, scripts_with, scripts_for, tried_at, has_some}
+use Rattle.keymap_check.proofs.Common.{leaves_modifier_on, demonstration_of, group_of, bit_of_group, with_bit}
+use Rattle.keymap_check.proofs.Common.{HasShownTrap, bits_of}
+use Rattle.keymap_check.specs.Cells.{is_group_cell}
 use Rattle.console_core.specs.Resolved.{held, locked, look, resolve_press}
 use Rattle.console_core.specs.Columns.{slot_of, column_of}
 use Rattle.console_core.specs.Resolved.ResolvedEvent.{PressedCharacter, ReleasedKey}
@@ -148,36 +149,17 @@ HasSet keys k j =
     (b : ℕ) × (b < 16) × (lacks_key keys b ≡ false)
     × (script keys k 0 b ≡ Press k ∷ Press j ∷ Press k ∷ Release k ∷ Release j ∷ [])
 
--- the key of the first bit has a set
-set-0 : (p q r : Option ℕ) (k j : ℕ) → HasSet (Some j ∷ p ∷ q ∷ r ∷ []) k j
-unfolding gathered lacks_key
-set-0 p q r k j = (1, lit< tt, refl, refl)
-
--- the key of the second bit has a set
-set-1 : (p q r : Option ℕ) (k j : ℕ) → HasSet (p ∷ Some j ∷ q ∷ r ∷ []) k j
-unfolding gathered lacks_key
-set-1 p q r k j = (2, lit< tt, refl, refl)
-
--- the key of the third bit has a set
-set-2 : (p q r : Option ℕ) (k j : ℕ) → HasSet (p ∷ q ∷ Some j ∷ r ∷ []) k j
-unfolding gathered lacks_key
-set-2 p q r k j = (4, lit< tt, refl, refl)
-
--- the key of the fourth bit has a set
-set-3 : (p q r : Option ℕ) (k j : ℕ) → HasSet (p ∷ q ∷ r ∷ Some j ∷ []) k j
-unfolding gathered lacks_key
-set-3 p q r k j = (8, lit< tt, refl, refl)
-
 -- the key of each bit has a set
 has-set : (m : MapValue) (k j : ℕ) (g : Group) → bit_key m k (bit_of_group g) ≡ Some j → HasSet (bit_keys m k) k j
+unfolding gathered lacks_key
 has-set m k j group.Shift e =
-    subst (λ o. HasSet (o ∷ bit_key m k 1 ∷ bit_key m k 2 ∷ bit_key m k 3 ∷ []) k j) (sym e) (set-0 _ _ _ k j)
+    subst (λ o. HasSet (o ∷ bit_key m k 1 ∷ bit_key m k 2 ∷ bit_key m k 3 ∷ []) k j) (sym e) (1, lit< tt, refl, refl)
 has-set m k j group.Control e =
-    subst (λ o. HasSet (bit_key m k 0 ∷ o ∷ bit_key m k 2 ∷ bit_key m k 3 ∷ []) k j) (sym e) (set-1 _ _ _ k j)
+    subst (λ o. HasSet (bit_key m k 0 ∷ o ∷ bit_key m k 2 ∷ bit_key m k 3 ∷ []) k j) (sym e) (2, lit< tt, refl, refl)
 has-set m k j group.Alt e =
-    subst (λ o. HasSet (bit_key m k 0 ∷ bit_key m k 1 ∷ o ∷ bit_key m k 3 ∷ []) k j) (sym e) (set-2 _ _ _ k j)
+    subst (λ o. HasSet (bit_key m k 0 ∷ bit_key m k 1 ∷ o ∷ bit_key m k 3 ∷ []) k j) (sym e) (4, lit< tt, refl, refl)
 has-set m k j group.AltShift e =
-    subst (λ o. HasSet (bit_key m k 0 ∷ bit_key m k 1 ∷ bit_key m k 2 ∷ o ∷ []) k j) (sym e) (set-3 _ _ _ k j)
+    subst (λ o. HasSet (bit_key m k 0 ∷ bit_key m k 1 ∷ bit_key m k 2 ∷ o ∷ []) k j) (sym e) (8, lit< tt, refl, refl)
 
 -- a script that is tried leaves no modifier on where none is given
 if_here : {A : Type 0} (test : A → Bool) (t : Bool) (xs ys : List A) → t ≡ true

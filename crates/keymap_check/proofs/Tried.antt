@@ -3,8 +3,7 @@ use Rattle.keymap_check.proofs.Common.{◌≡◌, ◌≢◌, ℕ, true, false, n
 use Rattle.keymap_check.proofs.Common.{true≢false, eq-eqb, eqb-true, and_parts, not-true, false_from_ne_true, is_some}
 use Rattle.keymap_check.proofs.Common.{is_other, Modifier, LeftShift, RightShift, LeftControl, RightControl, LeftAlt}
 use Rattle.keymap_check.proofs.Common.{RightAlt, AltShift, Char, Act, Group, MapValue, IsCellOf, first_below}
-use Rattle.keymap_check.proofs.Common.{IsFirstBelow, first_below-some, first_below-no, first_place, cell_of}
-use Rattle.keymap_check.proofs.Common.{is_of_group, is_group_cell, is_any_holding, is_character, findings_at}
+use Rattle.keymap_check.proofs.Common.{first_below-some, first_below-no, first_place, cell_of, is_of_group, findings_at}
 use Rattle.keymap_check.proofs.Common.{finding_by, IsUnsafeKey, group_at, bears_group, bit_key, has_some, group_of}
 use Rattle.keymap_check.proofs.Common.{bit_of_group}
 use Rattle.keymap_check.specs.Tried.{BearsGroup, IsBitKey, BitKeysAreLeast, TriedKeysAreUnsafe}

@@ -1,5 +1,5 @@
-use Rattle.keymap_check.proofs.Common.{◌≡◌, ◌+◌, ap, sym, ◌∙◌, arith, length, refl, append-nil, array_vec_len, gathered}
-use Rattle.keymap_check.proofs.Common.{gathered-none, gathered-more, findings_at}
+use Rattle.keymap_check.proofs.Common.{◌≡◌, ap, sym, ◌∙◌, arith, length, refl, append-nil, array_vec_len, gathered}
+use Rattle.keymap_check.proofs.Common.{gathered-none, gathered-more, findings_at, MapValue}
 use Rattle.keymap_check.proofs.finding.findings.Goals.{in-Some, in-None}
 use Rattle.keymap_check.proofs.finding.findings.Goals as goal
 
@@ -13,32 +13,21 @@ loop-key-init g c =
 
 pub loop-key-preserved : goal.loop-key-preserved
 loop-key-preserved g c =
+    let more = λ (m : MapValue). gathered-more (findings_at m) c.loop-key.key in
+    let before = c.loop-key.invariant.found in
     elim c.match-find_at.branch [
       | in-Some w ↦
           let e = ap array_vec_len w.findings-is ∙ w.push.ensures.len in
           record {
-            found =
-                λ m shows is. rw (
-                  w.findings-is,
-                  w.push.ensures.items,
-                  gathered-more (findings_at m) c.loop-key.key,
-                  c.loop-key.invariant.found m shows is,
-                  w.in-Some.ensures m shows is,
-                )
-                refl;
+            found = λ m shows is.
+                rw (w.findings-is, w.push.ensures.items, more m, before m shows is, w.in-Some.ensures m shows is) refl;
             room = omega (arith, e, c.loop-key.invariant.room);
           }
       | in-None w ↦
           let e = ap array_vec_len w.findings-is in
           record {
-            found =
-                λ m shows is. rw (
-                  w.findings-is,
-                  gathered-more (findings_at m) c.loop-key.key,
-                  c.loop-key.invariant.found m shows is,
-                  w.in-None.ensures m shows is,
-                )
-                (sym (append-nil _));
+            found = λ m shows is.
+                rw (w.findings-is, more m, before m shows is, w.in-None.ensures m shows is) (sym (append-nil _));
             room = omega (arith, e, c.loop-key.invariant.room);
           }
     ]

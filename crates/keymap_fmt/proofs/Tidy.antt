@@ -1,7 +1,7 @@
 -- The lines of what is written.
 use Rattle.keymap_fmt.proofs.Common.{◌≡◌, inl, inr, ℕ, zero, suc, ◌==◌, ◌&&◌, Bool, true, false, if◌then◌else◌, List}
 use Rattle.keymap_fmt.proofs.Common.{[], ◌∷◌, ◌++◌, length, replicate, refl, sym, ◌∙◌, ap, subst, arith, slice_index}
-use Rattle.keymap_fmt.proofs.Common.{Option, Some, None, true≢false, append_assoc, list_all, nat_tests, TokenKind}
+use Rattle.keymap_fmt.proofs.Common.{Option, Some, None, append_assoc, list_all, nat_tests, TokenKind}
 use Rattle.keymap_fmt.proofs.Common.{State, Standing, AtTop, Beside, Below, Apart, Part, Comment, Code, is_space}
 use Rattle.keymap_fmt.proofs.Common.{stays_on_line, leading, PieceValue, pieces, behind, is_open, begins_line, opened}
 use Rattle.keymap_fmt.proofs.Common.{lead, width, before, after, ending, line_end, start, line_begun, lines_before}
@@ -10,6 +10,7 @@ use Rattle.keymap_fmt.specs.Lines.{Edge, Blank, Ink, LineEnd, EmptyLine, behind_
 use Rattle.keymap_text.proofs.Leading.{leading_tail}
 use Rattle.keymap_fmt.proofs.Texts.{ArePieces, no_piece, one_piece, Reads, reaches, text_pieces}
 use Rattle.keymap_fmt.proofs.Written.{IsAt, closed, after_at}
+use Rattle.std.proofs.lemmas.Bool.{and_parts}
 
 -- what stands behind some bytes
 abbrev run : Edge → List ℕ → Option Edge
@@ -34,11 +35,6 @@ all_passed (c ∷ g) y e f h = go (behind_byte e c) refl (all_passed g y) h
     go (Some d) k more l = one_passed e d c (g ++ y) k ∙ more d f l
     go None k more l = absurd (cc)
 
--- both of two tests
-both_true : (a b : Bool) → (a && b) ≡ true → (a ≡ true) × (b ≡ true)
-both_true true b h = (refl, h)
-both_true false b h = absurd (true≢false (sym h))
-
 not_end : (c : ℕ) → stays_on_line c ≡ true → (c == 10) ≡ false
 not_end c h = grind (arith, nat_tests)
 
@@ -54,9 +50,9 @@ ink_byte e c h k = in_line_byte e c h ∙ ap (λ b. Some (if b then Blank else I
 ink_passed : (c : ℕ) (w y : List ℕ) (e : Edge) → list_all stays_on_line (c ∷ w) ≡ true
     → is_space (slice_index (c ∷ w) (length w)) ≡ false → are_lines e (c ∷ (w ++ y)) ≡ are_lines Ink y
 ink_passed c [] y e h k =
-    let b = both_true (stays_on_line c) true h in one_passed e Ink c y (ink_byte e c b.0 k)
+    let b = and_parts (stays_on_line c) true h in one_passed e Ink c y (ink_byte e c b.0 k)
 ink_passed c (d ∷ w) y e h k =
-    let b = both_true (stays_on_line c) (list_all stays_on_line (d ∷ w)) h in
+    let b = and_parts (stays_on_line c) (list_all stays_on_line (d ∷ w)) h in
     one_passed e (if is_space c then Blank else Ink) c (d ∷ (w ++ y)) (in_line_byte e c b.0)
     ∙ ink_passed d w y (if is_space c then Blank else Ink) b.1 k
 

@@ -18,7 +18,8 @@ use Rattle.keymap_core.specs.declared.entry.LockFlag.TheVariants as flag
 use Rattle.keymap_core.specs.Accents.{AccentValue}
 use Rattle.keymap_core.specs.Actions.{IsAction, name_of, two_digits, accent_names}
 use Rattle.keymap_core.specs.Bounds.{IsCell}
-use Rattle.keymap_text.specs.Printed.{control_name, character_text, cell_text, column, word, hex, hex4, hex_at}
+use Rattle.keymap_text.specs.Printed.{control_name, character_text, cell_text, column, word}
+use Rattle.keymap_core.specs.CodePoints.{code_digits, digit_at}
 use Rattle.keymap_text.specs.Printed.{slot_text, key_line, slot_words, accent_words, accent_line, accent_name}
 use Rattle.keymap_text.specs.Printed.{flag_letter, pair_text}
 use Rattle.keymap_text.specs.Words.{control_names}
@@ -97,33 +98,30 @@ action_solid (a.Mod m.LeftShift) h = solid _ _ refl
 action_solid (a.Lock l.Caps) h = solid _ _ refl
 action_solid _ h = solid _ _ refl
 
-hex_mark : (c unit : ℕ) → 0 < unit → is_mark (hex_at c unit) ≡ true
-hex_mark c unit h =
-    hex_passes is_mark refl (c / unit % 16) (omega arith)
+-- the digits of a number in front of others
+digit_first : (c unit : ℕ) (ds : List ℕ) → 0 < unit → list_all is_mark ds ≡ true
+    → list_all is_mark (digit_at c unit ∷ ds) ≡ true
+digit_first c unit ds h k =
+    both_true (is_mark (digit_at c unit)) (list_all is_mark ds)
+    (hex_passes is_mark refl (c / unit % 16) (omega arith)) k
 
-hex4_marks : (c : ℕ) → list_all is_mark (hex4 c) ≡ true
-hex4_marks c =
-    both_true (is_mark (hex_at c 4096)) (list_all is_mark (hex_at c 256 ∷ hex_at c 16 ∷ hex_at c 1 ∷ []))
-    (hex_mark c 4096 (omega arith))
-    (both_true (is_mark (hex_at c 256)) (list_all is_mark (hex_at c 16 ∷ hex_at c 1 ∷ []))
-    (hex_mark c 256 (omega arith))
-    (both_true (is_mark (hex_at c 16)) (list_all is_mark (hex_at c 1 ∷ [])) (hex_mark c 16 (omega arith))
-    (both_true (is_mark (hex_at c 1)) true (hex_mark c 1 (omega arith)) refl)))
+upper_marks : (c : ℕ) (ds : List ℕ) (a b : Bool) → list_all is_mark ds ≡ true
+    → list_all is_mark ((if a then [] else if b then digit_at c 0x10000 ∷ []
+    else digit_at c 0x100000 ∷ digit_at c 0x10000 ∷ []) ++ ds)
+    ≡ true
+upper_marks c ds true b h = h
+upper_marks c ds false true h = digit_first c 0x10000 ds (omega arith) h
+upper_marks c ds false false h =
+    digit_first c 0x100000 (digit_at c 0x10000 ∷ ds) (omega arith) (digit_first c 0x10000 ds (omega arith) h)
 
-marks_if : (b : Bool) (x y : List ℕ) → list_all is_mark x ≡ true → list_all is_mark y ≡ true
-    → list_all is_mark (if b then x else y) ≡ true
-marks_if true x y h k = h
-marks_if false x y h k = k
-
-hex_marks : (c : ℕ) → list_all is_mark (hex c) ≡ true
-unfolding hex
+hex_marks : (c : ℕ) → list_all is_mark (code_digits c) ≡ true
+unfolding code_digits
 hex_marks c =
-    marks_if (nat_lt c 65536) (hex4 c) _ (hex4_marks c)
-    (marks_if (nat_lt c 1048576) (hex_at c 65536 ∷ hex4 c) (hex_at c 1048576 ∷ hex_at c 65536 ∷ hex4 c)
-    (both_true (is_mark (hex_at c 65536)) (list_all is_mark (hex4 c)) (hex_mark c 65536 (omega arith)) (hex4_marks c))
-    (both_true (is_mark (hex_at c 1048576)) (list_all is_mark (hex_at c 65536 ∷ hex4 c))
-    (hex_mark c 1048576 (omega arith))
-    (both_true (is_mark (hex_at c 65536)) (list_all is_mark (hex4 c)) (hex_mark c 65536 (omega arith)) (hex4_marks c))))
+    upper_marks c (digit_at c 0x1000 ∷ digit_at c 0x100 ∷ digit_at c 0x10 ∷ digit_at c 1 ∷ []) (nat_lt c 0x10000)
+    (nat_lt c 0x100000)
+    (digit_first c 0x1000 (digit_at c 0x100 ∷ digit_at c 0x10 ∷ digit_at c 1 ∷ []) (omega arith)
+    (digit_first c 0x100 (digit_at c 0x10 ∷ digit_at c 1 ∷ []) (omega arith)
+    (digit_first c 0x10 (digit_at c 1 ∷ []) (omega arith) (digit_first c 1 [] (omega arith) refl))))
 
 low_control : (c : ℕ) → (nat_lt c 32 || c == 127) ≡ true → c == 127 ≡ false → c < 32
 low_control c h e = grind (arith, nat_tests)
@@ -137,8 +135,8 @@ character_solid : (c : ℕ) → IsSolid (character_text c)
 unfolding character_text
 character_solid c =
     solid_if (nat_lt c 32 || c == 127) (control_name c) _ (λ h. control_solid c h)
-    (λ _. solid_if (nat_lt c 127) (39 ∷ c ∷ 39 ∷ []) (codes "0x" ++ hex c) (λ _. quoted c)
-    (λ _. solid 48 (codes "x" ++ hex c) (hex_marks c)))
+    (λ _. solid_if (nat_lt c 127) (39 ∷ c ∷ 39 ∷ []) (codes "0x" ++ code_digits c) (λ _. quoted c)
+    (λ _. solid 48 (codes "x" ++ code_digits c) (hex_marks c)))
 
 cell_solid : (cell : Cell) → IsCell cell → IsSolid (cell_text cell)
 cell_solid (Char c) h = character_solid c

@@ -23,8 +23,8 @@ use Rattle.keymap_core.specs.Actions.{IsAction, name_of, two_digits, accent_name
 use Rattle.keymap_core.specs.Bounds.{IsCell, IsEntry, IsMap}
 use Rattle.keymap_core.specs.CodePoints.{code_digits, code_text, upper_digits, digit_at}
 use Rattle.keymap_core.specs.Maps.{MapValue, entry_at, undefined}
-use Rattle.keymap_text.specs.Printed.{control_name, character_text, cell_text, hex, hex4, hex_at, slot_words, slot_text}
-use Rattle.keymap_text.specs.Printed.{pair_text, accent_words, flag_letter, word}
+use Rattle.keymap_text.specs.Printed.{control_name, character_text, cell_text, slot_words, slot_text, pair_text}
+use Rattle.keymap_text.specs.Printed.{accent_words, flag_letter, word}
 use Rattle.keymap_text.specs.Words.{control_names}
 use Rattle.keymap_draw.specs.declared.tables.UnseenName.{UnseenName}
 use Rattle.keymap_draw.specs.declared.tables.TheConstants.{UNSEEN_NAMES, ACCENT_MARKS}
@@ -116,12 +116,15 @@ upper_shown c =
     (λ _. chosen (nat_lt c 0x100000) (digit_at c 0x10000 ∷ []) (digit_at c 0x100000 ∷ digit_at c 0x10000 ∷ [])
     (λ _. five_shown c) (λ _. six_shown c))
 
+digits_shown : (c : ℕ) → AreShown (code_digits c)
+unfolding code_digits
+digits_shown c =
+    joined (upper_digits c) (digit_at c 0x1000 ∷ digit_at c 0x100 ∷ digit_at c 0x10 ∷ digit_at c 1 ∷ [])
+    (upper_shown c) (four_shown c)
+
 code_shown : (c : ℕ) → AreShown (code_text c)
-unfolding code_text code_digits
-code_shown c =
-    joined (codes "U+") (code_digits c) (shown refl)
-    (joined (upper_digits c) (digit_at c 0x1000 ∷ digit_at c 0x100 ∷ digit_at c 0x10 ∷ digit_at c 1 ∷ [])
-    (upper_shown c) (four_shown c))
+unfolding code_text
+code_shown c = joined (codes "U+") (code_digits c) (shown refl) (digits_shown c)
 
 decimal_shown : (n : ℕ) → AreShown (decimal n)
 decimal_shown n =
@@ -252,18 +255,6 @@ cell_shown (Act action) h = action_legend_shown action h
 
 -- ---- lines of the printed form
 
-hex_four : (c : ℕ) → AreShown (hex4 c)
-hex_four c = four_shown c
-
-hex_digits : (c : ℕ) → AreShown (hex c)
-unfolding hex
-hex_digits c =
-    chosen (nat_lt c 65536) (hex4 c) _ (λ _. hex_four c)
-    (λ _. chosen (nat_lt c 1048576) (hex_at c 65536 ∷ hex4 c) _
-    (λ _. before (hex_at c 65536) (hex4 c) (unit_shown c 65536 (omega arith)) (hex_four c))
-    (λ _. before (hex_at c 1048576) (hex_at c 65536 ∷ hex4 c) (unit_shown c 1048576 (omega arith))
-    (before (hex_at c 65536) (hex4 c) (unit_shown c 65536 (omega arith)) (hex_four c))))
-
 between_shown : (c : ℕ) → (nat_lt c 32 || c == 127) ≡ false → nat_lt c 127 ≡ true → is_seen c ≡ true
 between_shown c e f = low_shown c (not_low c e) (let h : c < 127 = ltb-true c 127 f in omega arith)
 
@@ -273,7 +264,7 @@ character_text_shown c =
     chosen (nat_lt c 32 || c == 127) (control_name c) _ (λ _. control_shown c)
     (λ e. chosen (nat_lt c 127) (39 ∷ c ∷ 39 ∷ []) _
     (λ f. before 39 (c ∷ 39 ∷ []) refl (before c (39 ∷ []) (between_shown c e f) (shown refl)))
-    (λ _. joined (codes "0x") (hex c) (shown refl) (hex_digits c)))
+    (λ _. joined (codes "0x") (code_digits c) (shown refl) (digits_shown c)))
 
 cell_text_shown : (cell : Cell) → IsCell cell → AreShown (word (cell_text cell))
 cell_text_shown (Char c) h = joined (codes " ") (character_text c) (shown refl) (character_text_shown c)

@@ -9,7 +9,7 @@ use Rattle.keymap_core.specs.declared.action.Lock.TheVariants.{Caps, Num, Scroll
 use Rattle.console_core.specs.declared.event.Event.{Event}
 use Rattle.console_core.specs.declared.event.Event.TheVariants.{Press, Release}
 use Rattle.console_core.specs.declared.held.Move.{Move}
-use Rattle.console_core.specs.declared.held.Move.TheVariants.{Turn}
+use Rattle.console_core.specs.declared.held.Move.TheVariants.{Turn, LetGo}
 use Rattle.console_core.specs.declared.selection.Sight.{Sight}
 use Rattle.console_core.specs.declared.selection.Sight.TheVariants as sight
 use Rattle.console_core.specs.declared.showing.Guide.{Guide}
@@ -219,7 +219,8 @@ freed-met u es searched p s off among =
     among-met u es searched p (freed s) off
     (subst (λ z. IsAmong es p z) (sym (freed-emptied s))
     (emptied-kept (IsAmong es p)
-    (λ t k i there holds. (searched-kept u es searched (suc p)).let_go p (omega arith) t k i there holds) s among))
+    (λ t k i there holds.
+    (searched-kept u es searched (suc p)).moved p p t (LetGo k i) (omega arith) (omega arith) there holds) s among))
 
 -- so where a look at a key leads was met
 pub after-met : (u : Under) (es : Entries) → Searched u start es (length es) (length es) → (j k : ℕ) (x : Entry)
@@ -242,7 +243,7 @@ after-met u es searched j k x at lt after is = by is
         → IsMet es (freed (with_lock_turned s l))
     turn l still move =
         freed-met u es searched (suc p) (with_lock_turned s l) still
-        ((searched-kept u es searched (suc p)).turn p (omega arith) s k l here move)
+        ((searched-kept u es searched (suc (suc p))).moved p (suc p) s (Turn k l) (omega arith) (omega arith) here move)
 
     turned : (l : Lock) → IsMove u s (Turn k l) → IsTurned s l after → IsMet es after
     turned Caps move e = subst (λ z. IsMet es z) (sym e) (turn Caps off move)

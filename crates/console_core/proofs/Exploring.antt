@@ -1,16 +1,13 @@
 -- What an exploration met, and which taps can be made.
 use Rattle.std.proofs.Common.{◌≡◌, ◌⊎◌, ℕ, Bool, true, false, List, [], ◌∷◌, ◌++◌, length, slice_get, Some}
 use Rattle.std.proofs.Common.{None, refl, ap, subst, sym, ◌∙◌, inl, inr, reverse, append_assoc}
-use Rattle.std.proofs.Common.{eqb}
-use mathlib.Core.Bool.{beq}
 use Rattle.std.specs.Option.{is_some}
 use Rattle.std.specs.Map.{lookup}
-use Rattle.std.proofs.lemmas.Bool.{cases_Bool, eqb-true, eq-eqb}
+use Rattle.std.proofs.lemmas.Bool.{cases_Bool}
 use Rattle.console_core.specs.declared.held.Held.{Held}
-use Rattle.console_core.specs.Inner.HeldBytes.{held-equal, bool_equal}
-use Rattle.console_core.proofs.Reaching.{tables-test, beq-self}
-use Rattle.console_core.proofs.RoutesHome.{are_same, none-found, found-has, is-nothing}
-use Rattle.console_core.proofs.Searching.{same-state}
+use Rattle.console_core.proofs.Entries.{none-found, found-has}
+use Rattle.console_core.proofs.RoutesHome.{is-nothing}
+use Rattle.console_core.proofs.SameStates.{are_same}
 use Rattle.keymap_core.specs.declared.action.Lock.{Lock}
 use Rattle.keymap_core.specs.declared.action.Lock.TheVariants.{Caps, Num, Scroll, Alt}
 use Rattle.keymap_core.specs.Maps.{MapValue}
@@ -171,12 +168,10 @@ route-or-none : (routes : Routes) (k : Held) → HasRoute routes (state_of k) �
 route-or-none routes k = elim (cases_Bool (is_some (lookup (are_same k) routes))) [
   | inl e ↦
       inl
-      (found-has are_same
-      (λ x y f. same-state x y (held-equal _ _ (λ a b g. eqb-true a b g) (λ a b g. bool_equal a b g) x y f)) routes k e)
+      (found-has routes k e)
   | inr e ↦
       inr
-      (none-found are_same (λ x y f. tables-test eqb beq (λ a. eq-eqb a a refl) (λ b. beq-self b) x y f) routes k
-      (is-nothing (lookup (are_same k) routes) e))
+      (none-found routes k (is-nothing (lookup (are_same k) routes) e))
 ]
 
 -- so one begins where moves lead home from

@@ -10,6 +10,7 @@ pub mod Codes
 pub mod Concluding
 pub mod Deciding
 pub mod Deliveries
+pub mod Entries
 pub mod Exploring
 pub mod Facts
 pub mod FreshPresses
@@ -35,6 +36,7 @@ pub mod Returning
 pub mod Refused
 pub mod RoutesHome
 pub mod Runs
+pub mod SameStates
 pub mod Scripts
 pub mod Searching
 pub mod Seeing

@@ -628,11 +628,8 @@ reached-more u s move there is =
 pub reached-kept : (u : Under) (n : ℕ) → IsKeptBelow u n (λ p s. Reached u s)
 reached-kept u n = record {
   start = ([], tt, refl);
-  let_go = λ p lt s k i there h. reached-more u s (LetGo k i) there h;
-  exchange = λ p lt s there is. reached-more u s Exchange there is;
   more = λ p s there. there;
-  hold = λ p lt s k i there is. reached-more u s (Hold k i) there is;
-  turn = λ p lt s k l there is. reached-more u s (Turn k l) there is;
+  moved = λ p q s move e lt there is. reached-more u s move there is;
 }
 
 -- where no path leads to a holder that looks up a character, they are safe

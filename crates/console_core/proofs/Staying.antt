@@ -1,6 +1,6 @@
 -- A console stands in a state of sets that the moves keep, whatever presses, releases, resets and loads come.
 use Prim.Native.Nat.{suc}
-use Rattle.std.proofs.Common.{◌≡◌, ℕ, ◌<◌, ◌≤◌, ◌⊎◌, Bool, true, false, ◌&&◌, ◌||◌, not, eqb, List, [], ◌∷◌, Option}
+use Rattle.std.proofs.Common.{◌≡◌, ℕ, ◌+◌, ◌<◌, ◌≤◌, ◌⊎◌, Bool, true, false, ◌&&◌, ◌||◌, not, eqb, List, [], ◌∷◌, Option}
 use Rattle.std.proofs.Common.{Some, None, refl, ap, subst, sym, ◌∙◌, inl, inr, arith, if◌then◌else◌}
 use Rattle.std.specs.Prelude.{◌==◌}
 use Rattle.std.proofs.Math.Bool.{and-true, and-false}
@@ -31,9 +31,10 @@ use Rattle.console_core.specs.History.{Maps, in_force, resolved, is_on_after, is
 use Rattle.console_core.specs.History.{HasKeys, IsNoLoad}
 use Rattle.console_core.specs.Moves.{Under, State, start, is_held, map_of, map_in, look_in, Holds, IsIdle, with_holder}
 use Rattle.console_core.specs.Moves.{with_lock_turned, exchanged, next_map, IsFree, IsMove, IsForgetful}
-use Rattle.console_core.specs.Moves.{HolderForgets}
+use Rattle.console_core.specs.Moves.{HolderForgets, moved, presses_of}
 use Rattle.console_core.specs.Sights.{IsClean}
-use Rattle.console_core.specs.declared.held.Move.TheVariants.{Hold, Turn, Exchange}
+use Rattle.console_core.specs.declared.held.Move.{Move}
+use Rattle.console_core.specs.declared.held.Move.TheVariants.{Hold, Turn, LetGo, Exchange}
 use Rattle.console_core.specs.Sticking.{SticksBetween, presses}
 use Rattle.console_core.specs.Inner.Searching.{Admits, NeverUnder}
 use Rattle.console_core.specs.Inner.Standing.{Follows}
@@ -479,17 +480,12 @@ follows-start = record {
   holds = λ i k h. absurd (some_none k None h refl);
 }
 
--- Sets of states by how many presses lead to them: below n letting go and exchanging the maps stay in a set, and a
--- press leads from a set to the next one.
+-- Sets of states by how many presses lead to them: below n a move leads from a set to that of its presses more.
 pub record IsKeptBelow (u : Under) (n : ℕ) (S : ℕ → State → Type 0) : Type 0 where
   pub start : S 0 start
-  pub let_go : (p : ℕ) → p < n → (s : State) (k : ℕ) (i : Modifier) → S p s → Holds s k i → S p (with_holder s i None)
-  pub exchange : (p : ℕ) → p < n → (s : State) → S p s → IsMove u s Exchange → S p (exchanged (next_map u s) s)
   pub more : (p : ℕ) (s : State) → S p s → S (suc p) s
-  pub hold : (p : ℕ) → p < n → (s : State) (k : ℕ) (i : Modifier) → S p s → IsMove u s (Hold k i)
-      → S (suc p) (with_holder s i (Some k))
-  pub turn : (p : ℕ) → p < n → (s : State) (k : ℕ) (l : Lock) → S p s → IsMove u s (Turn k l)
-      → S (suc p) (with_lock_turned s l)
+  pub moved : (p q : ℕ) (s : State) (move : Move) → p + presses_of move ≡ q → q < n → S p s → IsMove u s move
+      → S q (moved u s move)
 
 -- the same, and no holder looks up a character
 pub record IsSafeBelow (u : Under) (n : ℕ) (S : ℕ → State → Type 0) : Type 0 where
@@ -527,20 +523,20 @@ Below n S p s = p < n → S p s
 
 -- letting go stays in the sets below n
 below-lets_go : (u : Under) (n : ℕ) (S : ℕ → State → Type 0) → IsKeptBelow u n S → (p : ℕ) → KeepsLetGo (Below n S p)
-below-lets_go u n S kept p s k i there h lt = kept.let_go p lt s k i (there lt) h
+below-lets_go u n S kept p s k i there h lt = kept.moved p p s (LetGo k i) (omega arith) lt (there lt) h
 
 -- exchanging the maps stays in the sets below n
 below-exchanges : (u : Under) (n : ℕ) (S : ℕ → State → Type 0) → IsKeptBelow u n S → (p : ℕ)
     → KeepsExchange u (Below n S p)
-below-exchanges u n S kept p s there is lt = kept.exchange p lt s (there lt) is
+below-exchanges u n S kept p s there is lt = kept.moved p p s Exchange (omega arith) lt (there lt) is
 
 -- below n a press leads from a set to the next
-below-leads_on : (u : Under) (n : ℕ) (S : ℕ → State → Type 0) → IsKeptBelow u n S → (p : ℕ) → p < n
+below-leads_on : (u : Under) (n : ℕ) (S : ℕ → State → Type 0) → IsKeptBelow u n S → (p : ℕ)
     → LeadsOn u (S p) (Below n S (suc p))
-below-leads_on u n S kept p lt = record {
+below-leads_on u n S kept p = record {
   stay = λ s there next. kept.more p s there;
-  hold = λ s k i there is next. kept.hold p lt s k i there is;
-  turn = λ s k l there is next. kept.turn p lt s k l there is;
+  hold = λ s k i there is next. kept.moved p (suc p) s (Hold k i) (omega arith) next there is;
+  turn = λ s k l there is next. kept.moved p (suc p) s (Turn k l) (omega arith) next there is;
 }
 
 -- an event stays in the set of the presses so far
@@ -554,7 +550,7 @@ stays-event u n S P kept spared (Press k) h keeps key admitted le s there f is =
     let r : List ResolvedEvent = resolved u.maps h in
     let lt : presses h < n = omega (arith, le) in
     subst (λ b. Stays (Below n S (suc (presses h))) b (resolve (map_in u s) (next_map u s) r (Press k) ∷ r)) is
-    (stays-press u (S (presses h)) (Below n S (suc (presses h))) (below-leads_on u n S kept (presses h) lt) r s
+    (stays-press u (S (presses h)) (Below n S (suc (presses h))) (below-leads_on u n S kept (presses h)) r s
     (there lt) f k key (spared.keeps h k keeps lt s (there lt) f is) (look (map_in u s) r k)
     (sym (follows-look u r s k f)))
 stays-event u n S P kept spared (Release k) h keeps key admitted le s there f is =

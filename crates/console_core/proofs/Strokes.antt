@@ -33,14 +33,14 @@ use Rattle.console_core.specs.Typing.{IsTapOf, cell_of, composed_of, types_somet
 use Rattle.console_core.specs.Inner.Exploring.{LetsGo, IsStroke, HasTyped, typed_along, kept_if}
 use Rattle.console_core.specs.Inner.Standing.{Follows, Exact, Stands}
 use Rattle.console_core.proofs.Going.{pending-along, pending-is}
-use Rattle.console_core.proofs.OneMore.{resolved-more, held-character, held-action, held-release, locked-character}
+use Rattle.console_core.proofs.OneMore.{resolved-more, held-character, held-action, held-release}
 use Rattle.console_core.proofs.OneMore.{locked-action, remembered-character, remembered-release, pending-character}
 use Rattle.console_core.proofs.OneMore.{pending-action, pending-release, remembered-action}
 use Rattle.console_core.proofs.Prefixes.{answers_by_cases}
 use Rattle.console_core.proofs.Scripts.{idle-none, other-remembered, pressed-look, stands-from, tapped-pressed}
 use Rattle.console_core.proofs.Searching.{place_last}
 use Rattle.console_core.proofs.Seeing.{one_map}
-use Rattle.console_core.proofs.Staying.{follows-look, follows-release}
+use Rattle.console_core.proofs.Staying.{follows-character, follows-look, follows-release}
 use mathlib.Core.Path.{fun_ext}
 
 -- ---- letting go of all holders
@@ -130,17 +130,7 @@ not-holder : (s : State) (k n : ℕ) (i : Modifier) → IsIdle s k → Holds s n
 not-holder s k n i idle holds =
     false_from_ne_true (k == n) (λ e. idle i (subst (λ j. Holds s j i) (sym (eqb-true k n e)) holds))
 
--- a press that looks up a character, or a dead key, leaves the state
-follows-character : (r : List ResolvedEvent) (s : State) (k c : ℕ) → Follows r s → IsIdle s k
-    → Follows (PressedCharacter k c ∷ r) s
-follows-character r s k c f idle = record {
-  on = λ i. held-character (holding.Mod i) k c r ∙ f.on i;
-  locked = λ l. locked-character l k c r ∙ f.locked l;
-  holds = λ i n holds.
-      remembered-character n k c r ∙ ap (λ b. if b then None else remembered n r) (not-holder s k n i idle holds)
-      ∙ f.holds i n holds;
-}
-
+-- a press that looks up a dead key leaves the state
 follows-dead : (r : List ResolvedEvent) (s : State) (k j : ℕ) → Exact r s → IsIdle s k
     → Follows (PressedAction k (act.DeadKey j) ∷ r) s
 follows-dead r s k j x idle =

@@ -1,13 +1,25 @@
 -- No look depends on the scroll lock, so states that differ in it alone lead on alike.
-use Rattle.std.proofs.Common.{◌≡◌, Bool, ◌&&◌, not, Some, None, refl, ap, subst, sym, ◌∙◌, if◌then◌else◌}
-use Rattle.console_core.specs.Types.{Lock, Caps, Scroll, Move, Hold, Turn, LetGo, Exchange}
+use Rattle.std.proofs.Common.{◌≡◌, ◌⊎◌, inl, inr, ℕ, Bool, ◌&&◌, not, Some, None, refl, ap, subst, sym, ◌∙◌}
+use Rattle.std.proofs.Common.{if◌then◌else◌}
+use Rattle.console_core.specs.Types.{Lock, Caps, Num, Scroll, Alt, Move, Hold, Turn, LetGo, Exchange}
 use Rattle.keymap_core.specs.Actions.{same_lock}
 use Rattle.keymap_core.specs.Borne.{is_borne}
 use Rattle.keymap_core.specs.Maps.{MapValue}
 use Rattle.keymap_core.specs.declared.action.Holding.TheVariants as holding
 use Rattle.console_core.specs.Moves.{Under, State, with_holder, with_lock_turned, next_map, IsMove, moved}
+use Rattle.console_core.specs.Inner.Searching.{LeavesScroll}
 use Rattle.console_core.specs.Inner.Standing.{but_scroll, unscrolled}
 use mathlib.Core.Path.{fun_ext}
+
+-- a move leaves the scroll lock, or turns it
+pub leaves-scroll_or_turns : (move : Move) → LeavesScroll move ⊎ ((k : ℕ) × (move ≡ Turn k Scroll))
+leaves-scroll_or_turns (Turn k Scroll) = inr (k, refl)
+leaves-scroll_or_turns (Turn k Caps) = inl (λ e. cc)
+leaves-scroll_or_turns (Turn k Num) = inl (λ e. cc)
+leaves-scroll_or_turns (Turn k Alt) = inl (λ e. cc)
+leaves-scroll_or_turns (Hold k i) = inl tt
+leaves-scroll_or_turns (LetGo k i) = inl tt
+leaves-scroll_or_turns Exchange = inl tt
 
 -- moves don't depend on the scroll lock
 pub moves-unscrolled : (u : Under) (s t : State) (move : Move) → unscrolled t ≡ unscrolled s → IsMove u s move

@@ -67,10 +67,9 @@ pub fn explore<'m>(
         origin: *origin,
     };
     let mut met = IndexMap::new(alloc);
-    let is_complete = match meet_all(alloc, &mut met, &maps, false)? {
+    let is_complete = match meet_all(alloc, &mut met, &maps)? {
         End::Complete => true,
         End::TooMany(_) => false,
-        End::AtStuck(_) => unreachable!(),
     };
     let routes = routes_home(alloc, &met, &maps)?;
     Ok(Explored {

@@ -31,14 +31,22 @@ LeadsHome u s moves =
 abbrev pub Routes : Type 0
 Routes = List (Held × Route)
 
+-- what holds of each entry of a map
+abbrev pub AllEntries : {K V : Type 0} → (K → V → Type 0) → List (K × V) → Type 0
+AllEntries P [] = Unit {0}
+AllEntries P (x ∷ es) = P x.0 x.1 × AllEntries P es
+
+-- an entry of a map by states is of this one
+abbrev pub HasEntry : {V : Type 0} → List (Held × V) → State → Type 0
+HasEntry [] s = ⊥
+HasEntry (x ∷ es) s = (state_of x.0 ≡ s) ⊎ HasEntry es s
+
 abbrev pub AllLeadHome : Under → Routes → Type 0
-AllLeadHome u [] = Unit {0}
-AllLeadHome u (x ∷ routes) = LeadsHome u (state_of x.0) x.1.moves.items × AllLeadHome u routes
+AllLeadHome u routes = AllEntries (λ k r. LeadsHome u (state_of k) r.moves.items) routes
 
 -- one begins at the state
 abbrev pub HasRoute : Routes → State → Type 0
-HasRoute [] s = ⊥
-HasRoute (x ∷ routes) s = (state_of x.0 ≡ s) ⊎ HasRoute routes s
+HasRoute routes s = HasEntry routes s
 
 -- letting go of no modifier leads to where a route begins
 abbrev pub NoLetGoLeads : Routes → State → Type 0

@@ -1,5 +1,5 @@
 //! Where presses, releases and loads lead from a state of the search, and what they are as events.
-ghost use Rattle.std.specs.Prelude.{◌≡◌, ◌≢◌, ◌<◌, ℕ, false, true, None, ◌||◌, ◌&&◌, ◌++◌, reverse, OnOk};
+ghost use Rattle.std.specs.Prelude.{◌≡◌, ◌<◌, ℕ, false, true, None, ◌||◌, ◌&&◌, ◌++◌, reverse, OnOk};
 ghost use Rattle.std.specs.Prelude.{MatchOption, IfSome};
 ghost use Rattle.keymap_core.specs.Borne.{is_borne};
 ghost use Rattle.keymap_core.specs.Actions.{modifiers};
@@ -13,11 +13,11 @@ ghost use Rattle.keymap_core.specs.declared.entry.Cell.TheVariants.{Act};
 ghost use Rattle.console_core.specs.Moves.{Under, start as start_state, is_held as is_held_in, look_in, IsIdle};
 ghost use Rattle.console_core.specs.Moves.{map_in, next_map, exchanged as exchanged_in, IsFree};
 ghost use Rattle.console_core.specs.Moves.{with_holder as with_holder_in, with_lock_turned, HolderForgets};
-ghost use Rattle.console_core.specs.Moves.{IsForgetful, events_of_move, releases};
+ghost use Rattle.console_core.specs.Moves.{IsForgetful, events_of_move, releases, Holds, IsMove, moved};
+ghost use Rattle.console_core.specs.declared.held.Move.TheVariants.{Exchange as ExchangeMove};
 ghost use Rattle.console_core.specs.Sights.{selection_of, Offers};
 ghost use Rattle.console_core.specs.Returning.{IsHome};
-ghost use Rattle.console_core.specs.Inner.Searching.{state_of, under_of, Entries, IsMetBy, IsLetGoMet};
-ghost use Rattle.console_core.specs.Inner.Searching.{IsExchangeMet, ArePressesMet, IsStep};
+ghost use Rattle.console_core.specs.Inner.Searching.{state_of, under_of, StepsTo, PressesLead, IsStep};
 ghost use Rattle.console_core.specs.Inner.Routes.{freed};
 ghost use Rattle.console_core.specs.Inner.HeldBytes.{holder_number, bytes_of, held-equal, bool_equal, same-bytes};
 
@@ -333,8 +333,8 @@ impl Held {
 
     /// Where letting go of the modifier leads.
     pub fn let_go(&self, modifier: Modifier) -> Option<Step>
-        ensures met { (es : Entries) (p : ℕ) → IfSome result (λ x. IsMetBy es p (state_of x.to))
-            → IsLetGoMet es p (state_of self.now) modifier }
+        ensures leads { (k : ℕ) → Holds (state_of self.now) k modifier
+            → StepsTo result (with_holder_in (state_of self.now) modifier None) }
         ensures step { (u : Under) → IfSome result (IsStep u (state_of self.now) 0) }
     {
         match self.holder(modifier) {
@@ -349,8 +349,8 @@ impl Held {
     /// Where a load of the other keymap leads, while no key holds a modifier. A load at other times leads where it does
     /// once the holders let go.
     pub fn exchange(&self, maps: &Keymaps) -> Option<Step>
-        ensures met { (es : Entries) (p : ℕ) → IfSome result (λ x. IsMetBy es p (state_of x.to))
-            → IsExchangeMet (under_of maps.now) es p (state_of self.now) }
+        ensures leads { IsMove (under_of maps.now) (state_of self.now) ExchangeMove
+            → StepsTo result (moved (under_of maps.now) (state_of self.now) ExchangeMove) }
         ensures step { IfSome result (IsStep (under_of maps.now) (state_of self.now) 0) }
     {
         if maps.has_loads && self.is_free() {
@@ -365,8 +365,7 @@ impl Held {
 
     /// Where a press of the key leads, with its release if it turns a lock.
     pub fn pressed(&self, maps: &Keymaps, key: KeyCode) -> Option<Step>
-        ensures met { (es : Entries) (p : ℕ) → IfSome result (λ x. IsMetBy es p (state_of x.to))
-            → ArePressesMet (under_of maps.now) es p (state_of self.now) key }
+        ensures leads { PressesLead (under_of maps.now) (state_of self.now) key (StepsTo result) }
         ensures step { IfSome result (IsStep (under_of maps.now) (state_of self.now) 1) }
     {
         match self.look(maps, key) {

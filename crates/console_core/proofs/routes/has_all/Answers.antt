@@ -1,15 +1,11 @@
-use Rattle.std.proofs.Common.{◌≡◌, ◌<◌, length, inl, inr, slice_get, Some, get_or, refl, subst, sym, arith, None}
-use Rattle.std.proofs.lemmas.Bool.{eqb-true, eq-eqb}
+use Rattle.std.proofs.Common.{◌≡◌, ◌<◌, length, inl, inr, slice_get, Some, get_or, subst, sym, arith, None}
 use Rattle.std.proofs.lemmas.Option.{slice_get-get_or, slice_get_within}
 use Rattle.console_core.specs.declared.search.Origin.{Origin}
-use Rattle.console_core.specs.Inner.HeldBytes.{held-equal, bool_equal}
 use Rattle.console_core.specs.Inner.Routes.{HasRoute}
 use Rattle.console_core.specs.Inner.Searching.{state_of, Entry}
-use Rattle.std.proofs.Common.{eqb}
-use mathlib.Core.Bool.{beq}
-use Rattle.console_core.proofs.Reaching.{tables-test, beq-self}
-use Rattle.console_core.proofs.RoutesHome.{are_same, none-found, found-has, is-nothing}
-use Rattle.console_core.proofs.Searching.{same-state, place_last}
+use Rattle.console_core.proofs.Entries.{none-found, found-has}
+use Rattle.console_core.proofs.RoutesHome.{is-nothing}
+use Rattle.console_core.proofs.Searching.{place_last}
 use Rattle.console_core.proofs.routes.has_all.Goals as goal
 
 pub returns-then-not-contains_key-clause-one : goal.returns-then-not-contains_key-clause-one
@@ -26,8 +22,7 @@ returns-then-not-contains_key-clause-one c =
       get_or es n d,
       at,
       (λ has.
-          none-found are_same (λ x y e. tables-test eqb beq (λ a. eq-eqb a a refl) (λ b. beq-self b) x y e)
-          c.args.routes.now.entries c.state_at.result (is-nothing _ (sym c.if-not-contains_key.ensures))
+          none-found c.args.routes.now.entries c.state_at.result (is-nothing _ (sym c.if-not-contains_key.ensures))
           (subst (λ h. HasRoute c.args.routes.now.entries (state_of h)) (sym (c.state_at.ensures (get_or es n d) at))
           has)),
     )
@@ -39,9 +34,7 @@ loop-place-preserved c =
       | inr e ↦
           subst (λ h. HasRoute c.args.routes.now.entries (state_of h))
           (c.state_at.ensures x (subst (λ k. slice_get c.args.met.now.entries k ≡ Some x) e at))
-          (found-has _ (λ x y e.
-          same-state x y (held-equal _ _ (λ a b f. eqb-true a b f) (λ a b f. bool_equal a b f) x y e))
-          c.args.routes.now.entries c.state_at.result (sym c.if-not-contains_key.ensures))
+          (found-has c.args.routes.now.entries c.state_at.result (sym c.if-not-contains_key.ensures))
     ]
 
 pub returns-clause-all : goal.returns-clause-all

@@ -22,7 +22,7 @@ loop-modifier-preserved c =
     (λ i e k.
     subst (λ j. Holds s k j → HasRoute routes (with_holder s j None) → ⊥)
     (modifier-at i c.loop-modifier.modifier-index _ e)
-    (let_go-astray routes s _ c.let_go.result c.let_go.ensures.met
+    (let_go-astray routes s _ c.let_go.result c.let_go.ensures.leads
     (c.in_ok-route.ensures.astray (is-none _ c.in_default.not-Some)) k))
 
 pub returns-clause-astray : goal.returns-clause-astray

@@ -18,5 +18,5 @@ loop-code-preserved c =
     let routes = c.args.routes.now.entries in
     below_more _ _ c.loop-code.invariant
     (subst (λ k. NoPressLeads u routes s k) c.key_with.ensures
-    (press-astray u routes s c.key_with.result c.pressed.result c.pressed.ensures.met
+    (press-astray u routes s c.key_with.result c.pressed.result c.pressed.ensures.leads
     (c.in_ok-route.ensures.astray (is-none _ c.in_default.not-Some))))

@@ -325,10 +325,9 @@ composing-behind m accent met es ys searched behind are = record {
   all = λ y (path, is, (offered, e)).
       let (j, x, at, near) =
       near-behind (alone m) accent met es searched behind path is offered in
-      subst (λ z. Contains ys z) (ap (λ s. selection_of s) near ∙ e)
-      (are.all j x at (slice_get_within es j x at));
+      are.all y (j, x, at, slice_get_within es j x at, ap (λ s. selection_of s) near ∙ e);
   only = λ y has.
-      let (j, x, at, e) = are.only y has in
+      let (j, x, at, lt, e) = are.only y has in
       behind-noted m accent (state_of x.0) y (behind.seeds.behind j x at).0 e;
   once = are.once;
 }
@@ -354,10 +353,9 @@ pub composing-all : (m : MapValue) (accent : ℕ) (met : Entries) (ys : List Sel
 composing-all m accent met ys searched can offered are = record {
   all = λ y (path, is, (along, e)).
       let (j, x, at, near) = near-met (alone m) met searched path is in
-      subst (λ z. Contains ys z) (ap (λ s. selection_of s) near ∙ e)
-      (are.all j x at (slice_get_within met j x at));
+      are.all y (j, x, at, slice_get_within met j x at, ap (λ s. selection_of s) near ∙ e);
   only = λ y has.
-      let (j, x, at, e) = are.only y has in
+      let (j, x, at, lt, e) = are.only y has in
       let r : IsReached (alone m) start met j x = searched.reached j x at in
       behind-noted m accent (state_of x.0) y
       (subst (λ t. IsBehind (alone m) accent t) r.3
@@ -400,12 +398,6 @@ has-offer (o ∷ offers) accent (suc k, lt, at) =
     let (p, (n, below, is), same) = has-offer offers accent (k, omega (arith, lt), at) in
     (p, (suc n, omega (arith, below), is), same)
 
-offer-has : (offers : List Offer) (o : Offer) → Contains offers o → Contains (accents_in offers) o.accent
-offer-has [] o (k, lt, at) = absurd (omega (arith, lt))
-offer-has (p ∷ offers) o (zero, lt, at) = (0, omega arith, ap (λ q. q.accent) at)
-offer-has (p ∷ offers) o (suc k, lt, at) =
-    let (n, below, is) = offer-has offers o (k, omega (arith, lt), at) in (suc n, omega (arith, below), is)
-
 pub sights-are : (m : MapValue) (met : Entries) (x : Sights) (accents : List ℕ)
     → Searched (alone m) start met (length met) (length met) → AreSelectionsOf met x.selections.items
     → AreAccentsOf (alone m) met accents → AreOffersOf m accents x.offers.items
@@ -434,9 +426,9 @@ sights-are m met x accents searched selections offered offers some none = record
 
     only : (n : Note) → Has x n → IsNoted m n
     only (Note.Selected y) has =
-        let (j, z, at, e) = selections.only y has in reached j z at (λ s. selection_of s ≡ y) e
+        let (j, z, at, lt, e) = selections.only y has in reached j z at (λ s. selection_of s ≡ y) e
     only (Note.Offered accent) has =
-        let (j, z, at, is) = offered.only accent (subst (λ q. Contains q accent) offers.all has) in
+        let (j, z, at, lt, is) = offered.only accent (subst (λ q. Contains q accent) offers.all has) in
         reached j z at (λ s. IsOfferedIn u s accent) is
     only (Note.Composing accent y) (o, has, same, there) =
         subst (λ a. IsNoted m (Note.Composing a y)) same ((offers.each o has).only y there)
@@ -446,20 +438,24 @@ sights-are m met x accents searched selections offered offers some none = record
     all : (n : Note) → IsNoted m n → Has x n
     all (Note.Selected y) (path, is, e) =
         let (j, z, at, near) = near-met u met searched path is in
-        subst (λ q. Contains x.selections.items q) (ap (λ s. selection_of s) near ∙ e)
-        (selections.all j z at (slice_get_within met j z at))
+        selections.all y (j, z, at, slice_get_within met j z at, ap (λ s. selection_of s) near ∙ e)
     all (Note.Offered accent) (path, is, here) =
         let (j, z, at, near) = near-met u met searched path is in
         subst (λ q. Contains q accent) (sym offers.all)
-        (offered.all j z accent at (slice_get_within met j z at)
-        (offered-near u (state_after u path) (state_of z.0) accent near here))
+        (offered.all accent
+        (j, z, at, slice_get_within met j z at, offered-near u (state_after u path) (state_of z.0) accent near here))
     all (Note.Composing accent y) (path, is, ((later, before, at, here), e)) =
         let parts = path-split u start later before (subst (λ p. IsPath u p) at is) in
         let (o, has, same) =
         offer-of accent
         (let (j, z, place, near) = near-met u met searched before parts.0 in
-        offered.all j z accent place (slice_get_within met j z place)
-        (offered-near u (state_after u before) (state_of z.0) accent near here)) in (
+        offered.all accent (
+          j,
+          z,
+          place,
+          slice_get_within met j z place,
+          offered-near u (state_after u before) (state_of z.0) accent near here,
+        )) in (
           o,
           has,
           same,

@@ -110,6 +110,19 @@ pub up_again : (t x : Bool) → x ≡ false → ((t || x) && not t) ≡ false
 up_again true x e = refl
 up_again false x e = rw e refl
 
+-- after a tap of a key the others remember what they did
+pub tap-only : (r now : List ResolvedEvent) (s : State) (k : ℕ) → Exact r s
+    → ((n : ℕ) → k == n ≡ false → remembered n now ≡ remembered n r) → (n : ℕ) (a : Action)
+    → remembered n (ReleasedKey k ∷ now) ≡ Some a → HoldsSome s n
+tap-only r now s k x same n a q = elim (cases_Bool (k == n)) [
+  | inl t ↦
+      absurd (none-some a
+      (sym (remembered-release n k now ∙ ap (λ b. if b then None else remembered n now) t) ∙ q))
+  | inr t ↦
+      x.only n a
+      (sym (remembered-release n k now ∙ ap (λ b. if b then None else remembered n now) t ∙ same n t) ∙ q)
+]
+
 -- a press and release of an idle key that turns a lock
 exact-turn : (r : List ResolvedEvent) (s : State) (k : ℕ) (l : Lock) → Exact r s → IsIdle s k
     → Exact (ReleasedKey k ∷ (PressedAction k (act.Lock l) ∷ r)) (with_lock_turned s l)
@@ -122,19 +135,7 @@ exact-turn r s k l x idle =
       follows =
           follows-release (PressedAction k (act.Lock l) ∷ r) (with_lock_turned s l) k
           (follows-turn r s k (act.Lock l) l x.follows e (x.up l)) (λ i. ap (λ o. is_this_action o (act.Mod i)) now);
-      only = λ n a q. elim (cases_Bool (k == n)) [
-        | inl t ↦
-            absurd (none-some a
-            (sym (remembered-release n k (PressedAction k (act.Lock l) ∷ r)
-            ∙ ap (λ b. if b then None else remembered n (PressedAction k (act.Lock l) ∷ r)) t)
-            ∙ q))
-        | inr t ↦
-            x.only n a
-            (sym (remembered-release n k (PressedAction k (act.Lock l) ∷ r)
-            ∙ ap (λ b. if b then None else remembered n (PressedAction k (act.Lock l) ∷ r)) t
-            ∙ other-remembered r k n (act.Lock l) t)
-            ∙ q)
-      ];
+      only = tap-only r (PressedAction k (act.Lock l) ∷ r) s k x (λ n t. other-remembered r k n (act.Lock l) t);
       up = λ j. held-release (holding.Lock j) k (PressedAction k (act.Lock l) ∷ r)
           ∙ ap (λ o. held (holding.Lock j) (PressedAction k (act.Lock l) ∷ r)
           && not (is_this_action o (act.Lock j))) now

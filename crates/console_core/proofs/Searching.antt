@@ -1,6 +1,6 @@
 -- The search level by level: it meets what a release, a load or a press leads to, and closes and presses each place.
 use Prim.Native.Nat.{suc}
-use Rattle.std.proofs.Common.{◌≡◌, ℕ, ◌+◌, ◌<◌, ◌≤◌, Bool, true, false, cond, ◌⊎◌, inl, inr, List, [], ◌∷◌, ◌++◌}
+use Rattle.std.proofs.Common.{◌≡◌, ℕ, ◌+◌, ◌<◌, ◌≤◌, Bool, true, false, cond, ◌⊎◌, inl, inr, [], ◌∷◌, ◌++◌}
 use Rattle.std.proofs.Common.{IfSome, length, slice_get, Option, Some, None, refl, ap, subst, sym, ◌∙◌, arith}
 use Rattle.std.proofs.lemmas.Bool.{cases_lt, true≢false}
 use Rattle.std.proofs.lemmas.Option.{slice_get_within, same_Some}

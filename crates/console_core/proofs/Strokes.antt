@@ -3,13 +3,13 @@ use Rattle.std.proofs.Common.{◌≡◌, ◌+◌, ◌<◌, ℕ, Bool, true, fals
 use Rattle.std.proofs.Common.{None, refl, ap, subst, sym, ◌∙◌, inl, inr, arith, append_assoc, map, reverse}
 use Rattle.std.proofs.Common.{if◌then◌else◌}
 use Rattle.std.specs.Prelude.{◌==◌}
-use Rattle.std.proofs.lemmas.Bool.{cases_Bool, true≢false, eqb-true, eq-eqb, false_from_ne_true}
+use Rattle.std.proofs.lemmas.Bool.{true≢false, eqb-true, eq-eqb}
 use Rattle.std.proofs.lemmas.List.{reverse-append}
 use Rattle.std.proofs.lemmas.List.Elements.{All-cons}
 use Rattle.std.proofs.lemmas.Option.{none-some}
 use Rattle.keymap_core.specs.declared.action.Action.TheVariants as act
 use Rattle.keymap_core.specs.declared.action.Holding.TheVariants as holding
-use Rattle.keymap_core.specs.Actions.{same_modifier, modifier_index, same_action}
+use Rattle.keymap_core.specs.Actions.{same_modifier, modifier_index, same_action, holding_action}
 use Rattle.std.specs.Option.{option_or}
 use Rattle.keymap_core.specs.Accents.{own_of}
 use Rattle.keymap_core.specs.Maps.{MapValue, accent_at}
@@ -20,7 +20,7 @@ use Rattle.console_core.specs.declared.explored.Symbol.{Symbol}
 use Rattle.console_core.specs.declared.explored.Symbol.TheVariants as symbol
 use Rattle.console_core.specs.Answers.{usable, answer_char, answer_action, answer_release, char_or_error, composed_by}
 use Rattle.console_core.specs.Answers.{answer_dead_key, is_pending}
-use Rattle.console_core.specs.Resolved.{ResolvedEvent, remembered, taken_over, pending, held, locked, look}
+use Rattle.console_core.specs.Resolved.{ResolvedEvent, remembered, taken_over, pending, held, look}
 use Rattle.console_core.specs.Resolved.{is_this_action, resolve_press}
 use Rattle.console_core.specs.Resolved.ResolvedEvent.{PressedCharacter, PressedAction, ReleasedKey}
 use Rattle.console_core.specs.Inner.Kept.{next_pending, pending_after_dead_key}
@@ -34,13 +34,13 @@ use Rattle.console_core.specs.Inner.Exploring.{LetsGo, IsStroke, HasTyped, typed
 use Rattle.console_core.specs.Inner.Standing.{Follows, Exact, Stands}
 use Rattle.console_core.proofs.Going.{pending-along, pending-is}
 use Rattle.console_core.proofs.OneMore.{resolved-more, held-character, held-action, held-release}
-use Rattle.console_core.proofs.OneMore.{locked-action, remembered-character, remembered-release, pending-character}
+use Rattle.console_core.proofs.OneMore.{remembered-character, pending-character}
 use Rattle.console_core.proofs.OneMore.{pending-action, pending-release, remembered-action}
 use Rattle.console_core.proofs.Prefixes.{answers_by_cases}
-use Rattle.console_core.proofs.Scripts.{idle-none, other-remembered, pressed-look, stands-from, tapped-pressed}
+use Rattle.console_core.proofs.Scripts.{tap-only, idle-none, other-remembered, pressed-look, stands-from, tapped-pressed}
 use Rattle.console_core.proofs.Searching.{place_last}
 use Rattle.console_core.proofs.Seeing.{one_map}
-use Rattle.console_core.proofs.Staying.{follows-character, follows-look, follows-release}
+use Rattle.console_core.proofs.Staying.{not_holding, follows-character, follows-nothing, follows-look, follows-release}
 use mathlib.Core.Path.{fun_ext}
 
 -- ---- letting go of all holders
@@ -125,27 +125,13 @@ lets-go-all s h now t x = record {
 
 -- ---- a tap of a key
 
--- the key isn't a holder
-not-holder : (s : State) (k n : ℕ) (i : Modifier) → IsIdle s k → Holds s n i → (k == n) ≡ false
-not-holder s k n i idle holds =
-    false_from_ne_true (k == n) (λ e. idle i (subst (λ j. Holds s j i) (sym (eqb-true k n e)) holds))
-
 -- a press that looks up a dead key leaves the state
 follows-dead : (r : List ResolvedEvent) (s : State) (k j : ℕ) → Exact r s → IsIdle s k
     → Follows (PressedAction k (act.DeadKey j) ∷ r) s
 follows-dead r s k j x idle =
-    let e : remembered k r ≡ None = idle-none r s k x idle in
-    record {
-      on = λ i. held-action (holding.Mod i) k (act.DeadKey j) r
-          ∙ ap (λ o. same_action (taken_over o (act.DeadKey j)) (act.Mod i) || held (holding.Mod i) r) e
-          ∙ x.follows.on i;
-      locked = λ l. locked-action l k (act.DeadKey j) r
-          ∙ ap (λ o. if same_action (taken_over o (act.DeadKey j)) (act.Lock l) && not (held (holding.Lock l) r)
-          then not (locked l r) else locked l r) e
-          ∙ x.follows.locked l;
-      holds = λ i n holds.
-          other-remembered r k n (act.DeadKey j) (not-holder s k n i idle holds) ∙ x.follows.holds i n holds;
-    }
+    follows-nothing r s k (act.DeadKey j) x.follows
+    (λ h. ap (λ o. same_action (taken_over o (act.DeadKey j)) (holding_action h)) (idle-none r s k x idle)
+    ∙ not_holding (act.DeadKey j) h refl refl)
 
 pub exact-character : (r : List ResolvedEvent) (s : State) (k c : ℕ) → Exact r s → IsIdle s k
     → Exact (ReleasedKey k ∷ (PressedCharacter k c ∷ r)) s
@@ -156,16 +142,8 @@ exact-character r s k c x idle =
     record {
       follows = follows-release now s k (follows-character r s k c x.follows idle)
           (λ i. ap (λ o. is_this_action o (act.Mod i)) none);
-      only = λ n a q. elim (cases_Bool (k == n)) [
-        | inl t ↦
-            absurd (none-some a (sym (remembered-release n k now ∙ ap (λ b. if b then None else remembered n now) t)
-            ∙ q))
-        | inr t ↦
-            x.only n a
-            (sym (remembered-release n k now ∙ ap (λ b. if b then None else remembered n now) t
-            ∙ remembered-character n k c r ∙ ap (λ b. if b then None else remembered n r) t)
-            ∙ q)
-      ];
+      only = tap-only r now s k x
+          (λ n t. remembered-character n k c r ∙ ap (λ b. if b then None else remembered n r) t);
       up = λ l. held-release (holding.Lock l) k now
           ∙ ap (λ b. b && not (is_this_action (remembered k now) (act.Lock l)))
           (held-character (holding.Lock l) k c r ∙ x.up l);
@@ -183,16 +161,7 @@ exact-dead r s k j x idle =
     record {
       follows = follows-release now s k (follows-dead r s k j x idle)
           (λ i. ap (λ o. is_this_action o (act.Mod i)) holds);
-      only = λ n a q. elim (cases_Bool (k == n)) [
-        | inl t ↦
-            absurd (none-some a (sym (remembered-release n k now ∙ ap (λ b. if b then None else remembered n now) t)
-            ∙ q))
-        | inr t ↦
-            x.only n a
-            (sym (remembered-release n k now ∙ ap (λ b. if b then None else remembered n now) t
-            ∙ other-remembered r k n (act.DeadKey j) t)
-            ∙ q)
-      ];
+      only = tap-only r now s k x (λ n t. other-remembered r k n (act.DeadKey j) t);
       up = λ l. held-release (holding.Lock l) k now
           ∙ ap (λ b. b && not (is_this_action (remembered k now) (act.Lock l)))
           (held-action (holding.Lock l) k (act.DeadKey j) r

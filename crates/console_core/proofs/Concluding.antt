@@ -11,10 +11,11 @@ use Rattle.console_core.specs.Moves.{Under, State, start, IsMove, moved, presses
 use Rattle.console_core.specs.Moves.{script_of_path}
 use Rattle.console_core.specs.Inner.Searching.{state_of, Entry, Entries, IsMetBy, IsReached, AreDone}
 use Rattle.console_core.specs.Inner.Searching.{Searched, AreSafe, IsStuck, IsScriptTo, IsEnd, HasEnded}
-use Rattle.console_core.specs.Inner.Searching.{NeverUnder, LeavesOnUnder, HasFewestUnder, NoneUnderBy}
 use Rattle.console_core.specs.Inner.Standing.{unscrolled}
-use Rattle.console_core.specs.Sticking.{presses}
-use Rattle.console_core.proofs.Scripts.{script-sticks, presses-script, releases-script}
+use Rattle.console_core.specs.Sticking.{presses, NeverSticksUnder, NoneSticksUnderBy, LeavesOnUnder, HasFewestUnder}
+use Rattle.console_core.specs.Sticking.{ReleasesPressedKeys}
+use Rattle.console_core.proofs.Deciding.{under-self, never-under, sticks_if_reached}
+use Rattle.console_core.proofs.Scripts.{presses-script, releases-script}
 use Rattle.console_core.proofs.Searching.{met-up, all-done}
 use Rattle.console_core.proofs.Staying.{IsKeptBelow, IsSafeBelow, never-sticks, sticks-late}
 use Rattle.console_core.proofs.Unscrolled.{leaves-scroll_or_turns, moves-unscrolled, same_moved, scroll-moved}
@@ -66,17 +67,20 @@ safe-below u es n met done safe = record {
 }
 
 -- where all states were met and no holder looks up a character, no modifier sticks
-pub complete-never : (u : Under) (es : Entries) → HasEnded u start es Complete → AreSafe u es (length es) → NeverUnder u
+pub complete-never : (u : Under) (es : Entries) → HasEnded u start es Complete → AreSafe u es (length es)
+    → NeverSticksUnder u
 complete-never u es (s, ordered, all) safe =
-    never-sticks u (IsAmong es)
-    (λ n. safe-below u es n s.start (all-done u es all n) (λ j x at lt. safe j x at (slice_get_within es j x at)))
+    never-under u
+    (never-sticks u (IsAmong es)
+    (λ n. safe-below u es n s.start (all-done u es all n) (λ j x at lt. safe j x at (slice_get_within es j x at))))
 
 -- where too many were, none does by the presses that are told
 pub none-late : (u : Under) (es : Entries) (p : ℕ) → HasEnded u start es (TooMany p) → AreSafe u es (length es)
-    → NoneUnderBy u p
-none-late u es p (s, ordered, (more, within, done)) safe g keys admitted i sticks =
+    → NoneSticksUnderBy u p
+none-late u es p (s, ordered, (more, within, done)) safe g keys admitted i (quiet, on) =
     sticks-late u p (IsAmong es)
-    (safe-below u es p s.start done (λ j x at lt. safe j x at (slice_get_within es j x at))) g keys admitted i sticks
+    (safe-below u es p s.start done (λ j x at lt. safe j x at (slice_get_within es j x at))) g keys admitted i
+    quiet (on u.maps (under-self u))
 
 -- where fewer presses lead than to a place is done
 done-before : (u : Under) (es : Entries) (end : End) → IsEnd u start es end → (j : ℕ) (x : Entry)
@@ -90,18 +94,21 @@ done-before u es (TooMany p) (more, within, done) j x at =
 -- fewest presses.
 pub stuck-sticks : (u : Under) (es : Entries) (end : End) (j k : ℕ) → HasEnded u start es end → IsStuck u es j k
     → AreSafe u es j → (h : List Event) → IsScriptTo u es j k h → LeavesOnUnder u h × HasFewestUnder u h
+    × ReleasesPressedKeys h
 stuck-sticks u es end j k (s, ordered, ended) (x, at, stuck) safe h is =
     let i : Modifier = stuck.0 in
     let r : IsReached u start es j x = s.reached j x at in
     let script : h ≡ script_of_path u r.0 k = is r.0 x at r.1 r.3 in
-    let left = script-sticks u r.0 r.2 i k (subst (λ t. HolderForgets u t i k) (sym r.3) stuck.1) in
+    let left = sticks_if_reached u r.0 r.2 i k (subst (λ t. HolderForgets u t i k) (sym r.3) stuck.1) in
     let count : presses h ≡ suc x.1.presses = ap presses script ∙ presses-script u r.0 k ∙ ap suc r.4 in (
-      subst (λ y. LeavesOnUnder u y) (sym script) (left.0, left.1, (i, left.2), releases-script u r.0 r.2 k),
-      (λ g keys admitted l sticks.
+      subst (λ y. LeavesOnUnder u y) (sym script) (left.0, left.1, (i, left.2)),
+      (λ g keys admitted l (quiet, on).
           let late : x.1.presses < presses g =
           sticks-late u x.1.presses (IsAmong es)
-          (safe-below u es x.1.presses s.start (done-before u es end ended j x at) before) g keys admitted l sticks in
+          (safe-below u es x.1.presses s.start (done-before u es end ended j x at) before) g keys admitted l quiet
+          (on u.maps (under-self u)) in
           omega (arith, count, late)),
+      subst ReleasesPressedKeys (sym script) (releases-script u r.0 r.2 k),
     )
   where
     before : (n : ℕ) (y : Entry) → slice_get es n ≡ Some y → y.1.presses < x.1.presses → IsForgetful u (state_of y.0)

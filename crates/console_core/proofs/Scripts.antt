@@ -36,8 +36,7 @@ use Rattle.console_core.specs.Moves.{Under, State, start, map_of, look_in, Holds
 use Rattle.console_core.specs.Moves.{with_lock_turned, exchanged, IsFree, IsMove, moved, HolderForgets, state_after}
 use Rattle.console_core.specs.Moves.{IsPath, events_of_move, events_along, release_of, releases, script_of_path}
 use Rattle.console_core.specs.Moves.{presses_of, presses_along, IsForgetful, state_from, IsPathFrom, free_with, alone}
-use Rattle.console_core.specs.Inner.Searching.{IsSent, NeverUnder}
-use Rattle.console_core.specs.Sticking.{presses, SticksBetween, NeverForgets, ReleasesPressedKeys}
+use Rattle.console_core.specs.Sticking.{presses, IsSent, NeverForgets, ReleasesPressedKeys}
 use Rattle.console_core.proofs.Bearing.{remembered-pressed}
 use Rattle.console_core.proofs.FreshPresses.{no_loads-first}
 use Rattle.console_core.proofs.OneMore.{resolved-start, resolved-more, held-start, held-character, held-action}
@@ -48,7 +47,7 @@ use Rattle.console_core.proofs.OneMore.{pressed-press, pressed-release, pressed-
 use Rattle.console_core.specs.Inner.Standing.{Follows, HoldsSome, Exact, Stands}
 use Rattle.console_core.proofs.Staying.{follows-look, follows-start, follows-hold, follows-turn}
 use Rattle.console_core.proofs.Staying.{follows-let_go, follows-release, follows-load, takes, same_mods, some_mods}
-use Rattle.console_core.proofs.Staying.{some_none, IsKeptBelow, IsSafeBelow, never-sticks}
+use Rattle.console_core.proofs.Staying.{some_none, IsKeptBelow, IsSafeBelow, NeverIn, never-sticks}
 
 -- a key that is idle remembers nothing
 pub idle-none : (r : List ResolvedEvent) (s : State) (k : ℕ) → Exact r s → IsIdle s k → remembered k r ≡ None
@@ -443,30 +442,30 @@ quiet-after u h s i k x holds n lt =
     ])
 
 -- presses, releases and, where there are any, loads
-sent-release : (u : Under) (o : Option ℕ) (h : List Event) → All (IsSent u) h → All (IsSent u) (release_of o ++ h)
+sent-release : (u : Under) (o : Option ℕ) (h : List Event) → All (IsSent u.has_loads) h → All (IsSent u.has_loads) (release_of o ++ h)
 sent-release u None h x = x
-sent-release u (Some k) h x = All-cons (IsSent u) (Release k) h tt x
+sent-release u (Some k) h x = All-cons (IsSent u.has_loads) (Release k) h tt x
 
 -- releases of holders are sent
-sent-releases : (u : Under) (s : State) (more : List Modifier) (h : List Event) → All (IsSent u) h
-    → All (IsSent u) (releases s more ++ h)
+sent-releases : (u : Under) (s : State) (more : List Modifier) (h : List Event) → All (IsSent u.has_loads) h
+    → All (IsSent u.has_loads) (releases s more ++ h)
 sent-releases u s [] h x = x
 sent-releases u s (i ∷ more) h x =
     rw (apart (s.holder i) (releases s more) h)
     (sent-release u (s.holder i) (releases s more ++ h) (sent-releases u s more h x))
 
 -- the events of a move are sent
-sent-move : (u : Under) (s : State) (move : Move) (h : List Event) → IsMove u s move → All (IsSent u) h
-    → All (IsSent u) (events_of_move move ++ h)
-sent-move u s (Hold k i) h is x = All-cons (IsSent u) (Press k) h tt x
+sent-move : (u : Under) (s : State) (move : Move) (h : List Event) → IsMove u s move → All (IsSent u.has_loads) h
+    → All (IsSent u.has_loads) (events_of_move move ++ h)
+sent-move u s (Hold k i) h is x = All-cons (IsSent u.has_loads) (Press k) h tt x
 sent-move u s (Turn k l) h is x =
-    All-cons (IsSent u) (Release k) (Press k ∷ h) tt (All-cons (IsSent u) (Press k) h tt x)
-sent-move u s (LetGo k i) h is x = All-cons (IsSent u) (Release k) h tt x
-sent-move u s Exchange h is x = All-cons (IsSent u) Load h is.1 x
+    All-cons (IsSent u.has_loads) (Release k) (Press k ∷ h) tt (All-cons (IsSent u.has_loads) (Press k) h tt x)
+sent-move u s (LetGo k i) h is x = All-cons (IsSent u.has_loads) (Release k) h tt x
+sent-move u s Exchange h is x = All-cons (IsSent u.has_loads) Load h is.1 x
 
 -- the events along a path are sent
-sent-along : (u : Under) (path : List Move) → IsPath u path → All (IsSent u) (events_along path)
-sent-along u [] is = All-nil (IsSent u)
+sent-along : (u : Under) (path : List Move) → IsPath u path → All (IsSent u.has_loads) (events_along path)
+sent-along u [] is = All-nil (IsSent u.has_loads)
 sent-along u (move ∷ path) is =
     sent-move u (state_after u path) move (events_along path) is.0 (sent-along u path is.1)
 
@@ -606,13 +605,13 @@ left-after u path is i k forgets =
 -- a path to a state where a holder looks up a character makes a modifier stick
 pub script-sticks : (u : Under) (path : List Move) → IsPath u path → (i : Modifier) (k : ℕ)
     → HolderForgets u (state_after u path) i k
-    → HasKeys (script_of_path u path k) × All (IsSent u) (script_of_path u path k)
-    × SticksBetween u.maps (script_of_path u path k) i
+    → HasKeys (script_of_path u path k) × All (IsSent u.has_loads) (script_of_path u path k)
+    × (IsQuiet (script_of_path u path k) × (is_on_after u.maps i (script_of_path u path k) ≡ true))
 script-sticks u path is i k forgets =
     let left : IsLeft u.maps (script_of_path u path k) i = left-after u path is i k forgets in (
       left.keys,
       sent-releases u (state_after u path) modifiers (Press k ∷ events_along path)
-          (All-cons (IsSent u) (Press k) (events_along path) tt (sent-along u path is)),
+          (All-cons (IsSent u.has_loads) (Press k) (events_along path) tt (sent-along u path is)),
       (quiet-after u (events_along path) (state_after u path) i k (stands u path is) forgets.0, left.on),
     )
 
@@ -641,5 +640,5 @@ reached-safe u never n = record {
 }
 
 -- without such a path no modifier ever sticks
-pub never-unless_reached : (u : Under) → NeverForgets u → NeverUnder u
+pub never-unless_reached : (u : Under) → NeverForgets u → NeverIn u
 never-unless_reached u never = never-sticks u (λ p s. Reached u s) (reached-safe u never)

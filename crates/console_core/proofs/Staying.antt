@@ -28,15 +28,14 @@ use Rattle.console_core.specs.Resolved.{ResolvedEvent, held, locked, on, remembe
 use Rattle.console_core.specs.Resolved.{resolve, resolve_press}
 use Rattle.console_core.specs.Resolved.ResolvedEvent.{PressedCharacter, PressedAction, ReleasedKey, WasReset, WasLoaded}
 use Rattle.console_core.specs.History.{Maps, in_force, resolved, is_on_after, is_second_in_force, pressed, HasKey}
-use Rattle.console_core.specs.History.{HasKeys, IsNoLoad}
+use Rattle.console_core.specs.History.{HasKeys, IsNoLoad, IsQuiet}
 use Rattle.console_core.specs.Moves.{Under, State, start, is_held, map_of, map_in, look_in, Holds, IsIdle, with_holder}
 use Rattle.console_core.specs.Moves.{with_lock_turned, exchanged, next_map, IsFree, IsMove, IsForgetful}
 use Rattle.console_core.specs.Moves.{HolderForgets, moved, presses_of}
 use Rattle.console_core.specs.Sights.{IsClean}
 use Rattle.console_core.specs.declared.held.Move.{Move}
 use Rattle.console_core.specs.declared.held.Move.TheVariants.{Hold, Turn, LetGo, Exchange}
-use Rattle.console_core.specs.Sticking.{SticksBetween, presses}
-use Rattle.console_core.specs.Inner.Searching.{Admits, NeverUnder}
+use Rattle.console_core.specs.Sticking.{Admits, presses}
 use Rattle.console_core.specs.Inner.Standing.{Follows}
 use Rattle.console_core.specs.Headline.{IsOnOnlyWhilePressed, IsOffOnceQuiet}
 use Rattle.console_core.proofs.OneMore.{resolved-start, resolved-more, held-start, held-character, held-action}
@@ -620,8 +619,15 @@ within-on u n S safe h keys admitted le =
     stays u n S (λ g. Unit {0}) safe.kept (all-spared u n S safe) h tt keys admitted le in
     follows-on u.maps h s.0 s.2 keys
 
+-- after each list that is admitted a modifier is on only while a key that bears it is pressed
+abbrev pub NeverIn : Under → Type 0
+NeverIn u =
+    (h : List Event) → HasKeys h → Admits u h
+    → IsOnOnlyWhilePressed (in_force u.maps h) h (λ i. is_on_after u.maps i h)
+    × IsOffOnceQuiet h (λ i. is_on_after u.maps i h)
+
 -- sets that are safe below every number
-pub never-sticks : (u : Under) (S : ℕ → State → Type 0) → ((n : ℕ) → IsSafeBelow u n S) → NeverUnder u
+pub never-sticks : (u : Under) (S : ℕ → State → Type 0) → ((n : ℕ) → IsSafeBelow u n S) → NeverIn u
 never-sticks u S safe h keys admitted =
     let on : IsOnOnlyWhilePressed (in_force u.maps h) h (λ i. is_on_after u.maps i h) =
     within-on u (presses h) S (safe (presses h)) h keys admitted (omega arith) in
@@ -629,8 +635,8 @@ never-sticks u S safe h keys admitted =
 
 -- sets that are safe below n
 pub sticks-late : (u : Under) (n : ℕ) (S : ℕ → State → Type 0) → IsSafeBelow u n S → (h : List Event) → HasKeys h
-    → Admits u h → (i : Modifier) → SticksBetween u.maps h i → n < presses h
-sticks-late u n S safe h keys admitted i (quiet, on) =
+    → Admits u h → (i : Modifier) → IsQuiet h → is_on_after u.maps i h ≡ true → n < presses h
+sticks-late u n S safe h keys admitted i quiet on =
     elim (cases_lt n (presses h)) [
       | inl lt ↦ lt
       | inr le ↦

@@ -8,10 +8,10 @@ ghost use Rattle.keymap_core.specs.declared.action.Lock.TheVariants.{Scroll};
 ghost use Rattle.console_core.specs.declared.held.Held.{Held as HeldValue};
 ghost use Rattle.console_core.specs.Inner.Searching.{state_of, under_of, origin_of, IsMetBy, AreWithin, Grows, IsStep};
 ghost use Rattle.console_core.specs.Inner.Searching.{AreMet, AreAdded, Searched, AreInOrder, HasMovingKeys, HasEnded};
-ghost use Rattle.console_core.specs.Inner.Searching.{IsStuck, AreSafe, GoBack, IsScriptTo, IsAnswerUnder};
+ghost use Rattle.console_core.specs.Inner.Searching.{IsStuck, AreSafe, GoBack, IsScriptTo};
 ghost use Rattle.console_core.specs.History.{between};
 ghost use Rattle.console_core.specs.Moves.{Under, Holds, with_holder, start};
-ghost use Rattle.console_core.specs.Sticking.{IsAnswer, IsAnswerBetween, ReachesMoreThan, state_limit};
+ghost use Rattle.console_core.specs.Sticking.{IsAnswer, IsAnswerBetween, IsAnswerUnder, ReachesMoreThan, state_limit};
 
 use crate::event::Event;
 use crate::held::{Held, Keymaps, Move, Step};

@@ -1,8 +1,9 @@
 -- A demonstration leaves a modifier on in the sense of the search.
 use Prim.Native.Nat.{zero, suc}
 use Rattle.std.proofs.Common.{◌≡◌, ℕ, ◌<◌, Bool, true, false, List, [], ◌∷◌, ◌++◌, Option, Some, None, refl, ap}
-use Rattle.std.proofs.Common.{◌∙◌, if◌then◌else◌}
+use Rattle.std.proofs.Common.{sym, ◌∙◌, if◌then◌else◌}
 use Rattle.std.specs.Prelude.{reverse, All}
+use Rattle.std.proofs.lemmas.Bool.{true≢false}
 use Rattle.std.proofs.lemmas.List.Elements.{All-append, All-nil, All-cons, All-weaker}
 use Rattle.keymap_core.specs.Held.{key_at}
 use Rattle.keymap_check.specs.Types.{Modifier, Event, Press, Release, Reset, Load}
@@ -11,7 +12,8 @@ use Rattle.keymap_core.specs.Below.{gathered}
 use Rattle.keymap_core.specs.Actions.{modifiers}
 use Rattle.console_core.specs.Resolved.{on}
 use Rattle.console_core.specs.History.{Maps, between, is_on_after, HasKey, IsNoLoad, HasNoLoads}
-use Rattle.console_core.specs.Sticking.{IsPressOrRelease}
+use Rattle.console_core.specs.Moves.{alone}
+use Rattle.console_core.specs.Sticking.{AreUnder, IsPressOrRelease}
 use Rattle.console_core.proofs.OneMap.{without_loads}
 use Rattle.keymap_check.specs.Computed.{findings_at}
 use Rattle.keymap_check.specs.Scripts.{bit_keys, event_if, event_at, events_of, script, is_chosen}
@@ -85,12 +87,12 @@ no_load : (e : Event) → IsKeyEvent e → IsNoLoad e
 no_load (Press k) x = refl
 no_load (Release k) x = refl
 no_load Reset x = refl
-no_load Load x = absurd x.1
+no_load Load x = absurd (true≢false (sym x.1))
 
 -- what is on in a console of the map twice is on in each console whose first map it is
 on-first : (m : MapValue) (h : List Event) (i : Modifier) → HasNoLoads h → is_on_after (between m m) i h ≡ true
-    → (ms : Maps) → ms.first ≡ m → is_on_after ms i h ≡ true
-on-first m h i none e ms first =
+    → (ms : Maps) → AreUnder (alone m) ms → is_on_after ms i h ≡ true
+on-first m h i none e ms (first, loads) =
     ap (on i) (without_loads ms h none).1 ∙ ap (λ x. is_on_after (between x x) i h) first ∙ e
 
 pub demonstrations_leave_modifiers_on : DemonstrationsLeaveModifiersOn

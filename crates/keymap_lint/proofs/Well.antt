@@ -5,8 +5,8 @@ use Rattle.std.proofs.lemmas.Bool.{true≢false, or_parts, or_from}
 use Rattle.keymap_core.specs.Maps.{MapValue}
 use Rattle.keymap_lint.specs.Types.{Sticking, Diagnostic, Kind, Diagnostics, Faulty, Spelled}
 use Rattle.console_core.specs.declared.outcome.Sticking.TheVariants.{Sticks, Never, Undecided}
-use Rattle.console_core.specs.History.{in_force, is_on_after}
-use Rattle.console_core.specs.Headline.{IsSafe, IsOnOnlyWhilePressed}
+use Rattle.console_core.specs.History.{in_force}
+use Rattle.console_core.specs.Headline.{IsSafe}
 use Rattle.console_core.specs.Sticking.{NeverSticks}
 use Rattle.console_core.proofs.Headline.{on_only_while_pressed, off_once_quiet}
 use Rattle.console_core.proofs.OneMap.{first_in_force}
@@ -18,12 +18,9 @@ use Rattle.keymap_lint.proofs.Named.{keys_are_named_exactly_if_refused}
 
 -- under a safe keymap no modifier sticks
 safe_never_sticks : (m : MapValue) → IsSafe m → NeverSticks m
-safe_never_sticks m safe ms h first keys none =
-    let e : in_force ms h ≡ m = first_in_force ms h none ∙ first in
-    let held : IsSafe (in_force ms h) = subst IsSafe (sym e) safe in (
-      subst (λ n. IsOnOnlyWhilePressed n h (λ i. is_on_after ms i h)) e (on_only_while_pressed ms h held keys),
-      off_once_quiet ms h held keys,
-    )
+safe_never_sticks m safe ms h (first, loads) keys none =
+    let held : IsSafe (in_force ms h) = subst IsSafe (sym (first_in_force ms h (none refl) ∙ first)) safe in
+    (on_only_while_pressed ms h held keys, off_once_quiet ms h held keys)
 
 -- what names a key is an error, unless the search answers that no modifier sticks
 named_is_error : (k : Kind) → names_a_key k ≡ true → is_error (severity_of false k) ≡ true

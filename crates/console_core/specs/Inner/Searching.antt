@@ -1,8 +1,7 @@
 -- What the search keeps: the states that it has met, in their order, each with how it was come to, and which of them
 -- are done. Mirrors `Held` and `Keymaps` of src/held.rt and the functions of src/search.rt.
-use Rattle.std.specs.Prelude.{◌≡◌, ◌≢◌, ℕ, ◌+◌, ◌<◌, ◌≤◌, false, true, length, List, [], ◌∷◌, ◌++◌, All, None}
-use Rattle.std.specs.Prelude.{Some, slice_get, Option}
-use Rattle.std.specs.Prelude.{slice_index_or, reverse, ◌⊎◌}
+use Rattle.std.specs.Prelude.{◌≡◌, ◌≢◌, ℕ, ◌+◌, ◌<◌, ◌≤◌, ◌⊎◌, false, length, List, [], ◌∷◌, ◌++◌, All, Option, None}
+use Rattle.std.specs.Prelude.{Some, slice_get, slice_index_or}
 use Rattle.std.specs.List.{Contains}
 use Rattle.keymap_core.specs.declared.action.Modifier.{Modifier}
 use Rattle.keymap_core.specs.declared.action.Lock.{Lock}
@@ -12,7 +11,6 @@ use Rattle.keymap_core.specs.declared.entry.Cell.{Cell}
 use Rattle.keymap_core.specs.declared.entry.Cell.TheVariants.{Act}
 use Rattle.keymap_core.specs.Actions.{modifier_index, lock_index}
 use Rattle.console_core.specs.declared.event.Event.{Event}
-use Rattle.console_core.specs.declared.event.Event.TheVariants.{Press, Release, Reset, Load}
 use Rattle.console_core.specs.declared.held.Held.{Held}
 use Rattle.console_core.specs.declared.held.Keymaps.{Keymaps}
 use Rattle.console_core.specs.declared.held.Move.{Move}
@@ -21,17 +19,11 @@ use Rattle.console_core.specs.declared.held.Step.{Step}
 use Rattle.console_core.specs.declared.search.Origin.{Origin}
 use Rattle.console_core.specs.declared.search.End.{End}
 use Rattle.console_core.specs.declared.search.End.TheVariants as end
-use Rattle.console_core.specs.declared.outcome.Sticking.{Sticking}
-use Rattle.console_core.specs.declared.outcome.Sticking.TheVariants.{Sticks, Never, Undecided}
-use Rattle.console_core.specs.History.{between, in_force, is_on_after, HasKeys, HasNoLoads}
-use Rattle.console_core.specs.Headline.{IsOnOnlyWhilePressed, IsOffOnceQuiet}
-use Rattle.console_core.specs.Moves.{Under, alone, State, start, look_in, IsIdle, HolderForgets, IsForgetful}
-use Rattle.console_core.specs.Moves.{IsMove}
+use Rattle.console_core.specs.History.{between}
+use Rattle.console_core.specs.Moves.{Under, alone, State, start, look_in, IsIdle, HolderForgets, IsForgetful, IsMove}
 use Rattle.console_core.specs.Moves.{moved, presses_of, presses_along, state_from, IsPathFrom}
 use Rattle.console_core.specs.Moves.{state_after, script_of_path, with_holder, with_lock_turned}
-use Rattle.console_core.specs.Sticking.{SticksBetween, ReachesMoreThan, ReachesMoreThanFrom, ReleasesPressedKeys}
-use Rattle.console_core.specs.Sticking.{presses, state_limit}
-use Rattle.console_core.specs.Sticking.{AreOnAfter}
+use Rattle.console_core.specs.Sticking.{ReachesMoreThanFrom, state_limit}
 
 -- the state that the tables are
 abbrev pub state_of : Held → State
@@ -181,46 +173,6 @@ IsScriptTo u es j k h =
 -- at the place a modifier is held by the key, which looks up a character
 abbrev pub IsStuck : Under → Entries → ℕ → ℕ → Type 0
 IsStuck u es j k = (x : Entry) × (slice_get es j ≡ Some x) × ((i : Modifier) × HolderForgets u (state_of x.0) i k)
-
--- a press, a release, or a load where there are any
-abbrev pub IsSent : Under → Event → Type 0
-IsSent u (Press k) = Unit {0}
-IsSent u (Release k) = Unit {0}
-IsSent u Reset = ⊥
-IsSent u Load = u.has_loads ≡ true
-
--- the list has loads only where there are any
-abbrev pub Admits : Under → List Event → Type 0
-Admits u h = u.has_loads ≡ false → HasNoLoads h
-
--- some modifier sticks after this list, and after none that is admitted and has fewer presses
-abbrev pub LeavesOnUnder : Under → List Event → Type 0
-LeavesOnUnder u h =
-    HasKeys h × All (IsSent u) h × ((i : Modifier) × SticksBetween u.maps h i) × ReleasesPressedKeys h
-
-abbrev pub HasFewestUnder : Under → List Event → Type 0
-HasFewestUnder u h =
-    (g : List Event) → HasKeys g → Admits u g → (i : Modifier) → SticksBetween u.maps g i → presses h ≤ presses g
-
--- each list that is admitted and after which a modifier sticks has more than p presses
-abbrev pub NoneUnderBy : Under → ℕ → Type 0
-NoneUnderBy u p =
-    (g : List Event) → HasKeys g → Admits u g → (i : Modifier) → SticksBetween u.maps g i → p < presses g
-
--- after each list that is admitted a modifier is on only while a key that bears it is pressed
-abbrev pub NeverUnder : Under → Type 0
-NeverUnder u =
-    (h : List Event) → HasKeys h → Admits u h
-    → IsOnOnlyWhilePressed (in_force u.maps h) h (λ i. is_on_after u.maps i h)
-    × IsOffOnceQuiet h (λ i. is_on_after u.maps i h)
-
--- what each answer says of the keymaps, with loads or without
-abbrev pub IsAnswerUnder : Under → Sticking → Type 0
-IsAnswerUnder u (Sticks events on) =
-    LeavesOnUnder u (reverse events.items) × HasFewestUnder u (reverse events.items)
-    × AreOnAfter u.maps (reverse events.items) on.items
-IsAnswerUnder u Never = NeverUnder u
-IsAnswerUnder u (Undecided p) = ReachesMoreThan u state_limit p × NoneUnderBy u p
 
 -- a search that ends so met all states that moves lead to, or too many
 abbrev pub IsEnd : Under → State → Entries → End → Type 0

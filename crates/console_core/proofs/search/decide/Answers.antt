@@ -7,6 +7,7 @@ use Rattle.console_core.specs.Moves.{Under, State, start}
 use Rattle.console_core.specs.Sticking.{AreOnAfter}
 use Rattle.console_core.specs.Inner.Searching.{under_of, Entries, HasEnded}
 use Rattle.console_core.proofs.Concluding.{complete-never, none-late, stuck-sticks}
+use Rattle.console_core.proofs.Deciding.{sent-admitted, are-on-under}
 use Rattle.console_core.proofs.GoingBack.{searched-back}
 use Rattle.console_core.proofs.search.decide.Goals as goal
 
@@ -33,11 +34,14 @@ returns-in-Some c =
     let stuck = c.in-Some.ensures in
     let left =
     stuck-sticks u es _ c.in-Some.stuck.place c.in-Some.stuck.key (from-start u _ es _ c.requires c.in_ok-end.ensures)
-    stuck.0 stuck.1 (reverse c.in_ok-events.events.items) (c.in_ok-events.ensures u) in (
+    stuck.0 stuck.1 (reverse c.in_ok-events.events.items) (c.in_ok-events.ensures u) in
+    let h = reverse c.in_ok-events.events.items in (
       left.0,
       left.1,
-      subst (λ es. AreOnAfter u.maps (reverse es) c.in_ok-modifiers.modifiers.items) c.as_slice.ensures.value
-          c.in_ok-modifiers.ensures,
+      left.2,
+      are-on-under u h c.in_ok-modifiers.modifiers.items (sent-admitted u h left.0.1)
+          (subst (λ es. AreOnAfter u.maps (reverse es) c.in_ok-modifiers.modifiers.items) c.as_slice.ensures.value
+          c.in_ok-modifiers.ensures),
     )
 
 pub returns-in-Complete : goal.returns-in-Complete

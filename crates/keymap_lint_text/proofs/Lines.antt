@@ -10,6 +10,7 @@ use Rattle.std.specs.Fmt.{digits, digits_onto, digit_glyph}
 use Rattle.std.specs.List.{flat_map, list_all, position_or_len}
 use Rattle.std.proofs.lemmas.Bool.{and_parts}
 use Rattle.std.proofs.lemmas.Bool.Decides.{nat_tests}
+use Rattle.std.proofs.lemmas.List.Folds.{list_all-append}
 use Rattle.std.proofs.lemmas.Grind.{flat_map-append}
 use Rattle.std.proofs.lemmas.List.Elements.{All-nil, All-cons, All-append, All-map, All-weaker, All-take, All-drop}
 use Rattle.std.proofs.lemmas.List.Elements.{All-head, All-tail}
@@ -127,7 +128,7 @@ pub line_if : (t : Bool) (bs : List ℕ) → IsLine bs → IsLine (if t then bs 
 line_if true bs p = p
 line_if false bs p = line_none
 
-pub either : (b : Bool) (x y : List ℕ) → IsLine x → IsLine y → IsLine (if b then x else y)
+either : (b : Bool) (x y : List ℕ) → IsLine x → IsLine y → IsLine (if b then x else y)
 either true x y p q = p
 either false x y p q = q
 
@@ -180,40 +181,51 @@ glyph_printed : (d : ℕ) → d < 10 → is_shown_byte (digit_glyph false d) ≡
 glyph_printed d low = along (λ d. is_shown_byte (digit_glyph false d)) (λ d. true) 0 10 refl d (omega arith)
     (omega arith)
 
-digit_printed : (d : ℕ) → d < 16 → is_shown_byte (digit_char d) ≡ true
+pub digit_printed : (d : ℕ) → d < 16 → is_shown_byte (digit_char d) ≡ true
 digit_printed d low = along (λ d. is_shown_byte (digit_char d)) (λ d. true) 0 16 refl d (omega arith) (omega arith)
-
-in_front : (c : ℕ) (bs : List ℕ) → is_shown_byte c ≡ true → IsLine bs → IsLine (c ∷ bs)
-in_front c bs h p = line_append (c ∷ []) bs (ascii (c ∷ []) (rw h refl)) p
 
 pub decimal_line : (n : ℕ) → IsLine (decimal n)
 decimal_line n = ascii (decimal n) (decimal_all is_shown_byte glyph_printed n)
 
-pub digit_line : (d : ℕ) (bs : List ℕ) → d < 16 → IsLine bs → IsLine (digit_char d ∷ bs)
-digit_line d bs low p = in_front (digit_char d) bs (digit_printed d low) p
-
 -- ---- words, with what is told at their places, modifiers and events
 
-front_printed : (n : ℕ) (bs : List ℕ) → list_all is_shown_byte bs ≡ true → list_all is_shown_byte (take n bs) ≡ true
-front_printed zero bs h = refl
-front_printed (suc n) [] h = refl
-front_printed (suc n) (c ∷ bs) h =
-    let both = and_parts (is_shown_byte c) (list_all is_shown_byte bs) h in
-    rw (both.0, front_printed n bs both.1) refl
+front_all : (p : ℕ → Bool) (n : ℕ) (bs : List ℕ) → list_all p bs ≡ true → list_all p (take n bs) ≡ true
+front_all p zero bs h = refl
+front_all p (suc n) [] h = refl
+front_all p (suc n) (c ∷ bs) h =
+    let both = and_parts (p c) (list_all p bs) h in rw (both.0, front_all p n bs both.1) refl
 
-behind_printed : (n : ℕ) (bs : List ℕ) → list_all is_shown_byte bs ≡ true → list_all is_shown_byte (drop n bs) ≡ true
-behind_printed zero bs h = h
-behind_printed (suc n) [] h = refl
-behind_printed (suc n) (c ∷ bs) h =
-    behind_printed n bs (and_parts (is_shown_byte c) (list_all is_shown_byte bs) h).1
+behind_all : (p : ℕ → Bool) (n : ℕ) (bs : List ℕ) → list_all p bs ≡ true → list_all p (drop n bs) ≡ true
+behind_all p zero bs h = h
+behind_all p (suc n) [] h = refl
+behind_all p (suc n) (c ∷ bs) h = behind_all p n bs (and_parts (p c) (list_all p bs) h).1
+
+pub append_all : (p : ℕ → Bool) (a b : List ℕ) → list_all p a ≡ true → list_all p b ≡ true
+    → list_all p (a ++ b) ≡ true
+append_all p a b h k = list_all-append p a b ∙ rw (h, k) refl
+
+-- all bytes of these texts pass
+abbrev pub EachPasses : (ℕ → Bool) → List (List ℕ) → Type 0
+EachPasses p [] = Unit {0}
+EachPasses p (t ∷ ts) = (list_all p t ≡ true) × EachPasses p ts
+
+-- what the bytes of words and of the texts at their places pass
+pub filled_all : (p : ℕ → Bool) (w : List ℕ) (ts : List (List ℕ)) → list_all p w ≡ true → EachPasses p ts
+    → list_all p (filled w ts) ≡ true
+unfolding filled
+filled_all p w [] h ps = h
+filled_all p w (t ∷ ts) h ps =
+    append_all p (words_before w ++ t) (filled (words_behind w) ts)
+    (append_all p (words_before w) t (front_all p (position_or_len is_hole w) w h) ps.0)
+    (filled_all p (words_behind w) ts (behind_all p (position_or_len is_hole w + 2) w h) ps.1)
 
 pub fills : (w : List ℕ) (ts : List (List ℕ)) → list_all is_shown_byte w ≡ true → AreLines ts → IsLine (filled w ts)
 unfolding filled
 fills w [] h ps = ascii w h
 fills w (t ∷ ts) h ps =
     line_append (words_before w ++ t) (filled (words_behind w) ts)
-    (line_append (words_before w) t (ascii _ (front_printed (position_or_len is_hole w) w h)) ps.0)
-    (fills (words_behind w) ts (behind_printed (position_or_len is_hole w + 2) w h) ps.1)
+    (line_append (words_before w) t (ascii _ (front_all is_shown_byte (position_or_len is_hole w) w h)) ps.0)
+    (fills (words_behind w) ts (behind_all is_shown_byte (position_or_len is_hole w + 2) w h) ps.1)
 
 modifier_line : (modifier : Modifier) → IsLine (name_of (action.Mod modifier))
 modifier_line mods.LeftShift = ascii _ refl

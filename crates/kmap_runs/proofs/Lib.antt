@@ -1,4 +1,5 @@
 mod Chained
+mod Comments
 mod CoverScripts
 mod Covered
 mod Dumped

@@ -29,7 +29,7 @@ use Rattle.keymap_text.specs.Meaning.{Spells}
 use Rattle.keymap_text.specs.Sources.{TakesWhole}
 use Rattle.kmap_runs.specs.declared.fault_line.RunError.{RunError}
 use Rattle.kmap_runs.specs.declared.fault_line.RunError.TheVariants as error
-use Rattle.kmap_runs.specs.Cover.{cover_text}
+use Rattle.kmap_runs.specs.Cover.{IsCoverText}
 use Rattle.kmap_runs.specs.Inputs.{of_writer, ReadsBytes, ReadsFile, ReadsKeymaps, ReadsSentence, ReadsText}
 use Rattle.kmap_runs.specs.LintRuns.{IsLinted}
 use Rattle.kmap_runs.specs.Replayed.{ShowsCover}
@@ -113,7 +113,7 @@ LacksCover m _ = ⊥
 
 -- a script, with what it sees and doesn't see
 abbrev pub IsCovered : MapValue → Unit {0} → List ℕ → Type 0
-IsCovered m _ told = (c : Cover) × Covers m c × (told ≡ cover_text m c)
+IsCovered m _ told = (c : Cover) × Covers m c × IsCoverText m c told
 
 abbrev pub CoversText : Moves → Moves → Result (Unit {0}) RunError → Type 0
 CoversText text out r = Runs of_writer (ReadsText text) LacksCover IsCovered out r

@@ -15,7 +15,7 @@ ghost use Rattle.play_core.specs.Scripts.{IsScript};
 ghost use Rattle.play_core.specs.declared.show.Show.{Show as ShowValue};
 ghost use Rattle.play_core.specs.declared.show.Show.TheVariants as show;
 ghost use Rattle.play_core.specs.Typing.{IsTyped};
-ghost use Rattle.kmap_runs.specs.Cover.{cover_text};
+ghost use Rattle.kmap_runs.specs.Cover.{IsCoverText};
 ghost use Rattle.kmap_runs.specs.Report.{report};
 ghost use Rattle.kmap_runs.specs.Replayed.{Delivers, ScriptTypes, AnswerReplays, AnswerReplaysBetween, ShowsScript};
 ghost use Rattle.kmap_runs.specs.Replayed.{PlaysCover, strokes_sent};
@@ -77,7 +77,8 @@ pub fn printed_demonstrations_leave_a_modifier_on()
 /// What is printed of a cover, its comments with counts and lists, the comment that begins each part and a line for
 /// each stroke, is a script of exactly these strokes.
 pub fn cover_scripts_send_the_strokes()
-    ensures { (m : MapValue) (c : CoverValue) → HasKeys (events c) → IsScript (cover_text m c) (strokes_sent c) }
+    ensures { (m : MapValue) (c : CoverValue) (text : List ℕ) → IsCoverText m c text → HasKeys (events c)
+        → IsScript text (strokes_sent c) }
 {}
 
 /// What the run that prints it wrote for a text is a script of the strokes of a cover of the keymap that the text

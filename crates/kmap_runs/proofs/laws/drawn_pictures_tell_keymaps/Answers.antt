@@ -1,4 +1,4 @@
-use Rattle.std.proofs.Common.{sym, ◌∙◌, subst}
+use Rattle.std.proofs.Common.{sym, subst}
 use Rattle.keymap_draw.specs.Pictures.{IsPicture, drawing}
 use Rattle.kmap_runs.proofs.laws.drawn_pictures_tell_keymaps.Goals as goal
 

@@ -1,0 +1,8 @@
+use Rattle.std.proofs.Common.{◌≡◌, ◌++◌}
+use Rattle.std.specs.List.{flat_map, range_with_len}
+use Rattle.kmap_runs.specs.Cover.{column_text, is_in}
+use Rattle.kmap_runs.proofs.cover.push_columns.Given as goal
+
+abbrev pub invariant-loop-column : goal.invariant-loop-column
+invariant-loop-column l =
+    l.text.items ≡ l.fn.text.items ++ flat_map (column_text (is_in l.listing) l.slot) (range_with_len 0 l.column)

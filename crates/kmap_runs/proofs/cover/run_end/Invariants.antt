@@ -1,0 +1,7 @@
+use Rattle.std.proofs.Common.{◌<◌, ◌≤◌}
+use Rattle.keymap_core.specs.Numbers.{slot_limit}
+use Rattle.kmap_runs.specs.Cover.{AreAlike, is_in}
+use Rattle.kmap_runs.proofs.cover.run_end.Given as goal
+
+abbrev pub invariant-loop-slot : goal.invariant-loop-slot
+invariant-loop-slot l = (l.first < l.slot) × (l.slot ≤ slot_limit) × AreAlike (is_in l.listing) l.first l.slot

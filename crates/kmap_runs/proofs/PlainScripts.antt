@@ -1,6 +1,5 @@
 -- The script that types a sentence is lines that a terminal shows.
-use Rattle.std.proofs.Common.{◌≡◌, ℕ, Bool, true, false, List, [], ◌∷◌, refl}
-use Rattle.std.proofs.Common.{All, ◌-◌, take, drop}
+use Rattle.std.proofs.Common.{◌≡◌, ℕ, Bool, true, false, List, [], ◌∷◌, refl, All, ◌-◌, take, drop}
 use Rattle.std.specs.Prelude.{codes, encode_utf8, if◌then◌else◌}
 use Rattle.std.specs.Char.{IsScalar}
 use Rattle.std.specs.List.{before_first, position_or_len}

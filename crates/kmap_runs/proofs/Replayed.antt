@@ -1,7 +1,6 @@
 -- The printed scripts are scripts, and what they do when they are played.
 use Prim.Native.Nat.{suc}
-use Rattle.std.proofs.Common.{take, drop, ◌-◌, ◌≡◌, ℕ, ◌<◌, Bool, true, false, List, [], ◌∷◌, ◌++◌}
-use Rattle.std.proofs.Common.{length, map, get_or}
+use Rattle.std.proofs.Common.{take, drop, ◌-◌, ◌≡◌, ℕ, ◌<◌, Bool, true, false, List, [], ◌∷◌, ◌++◌, length, map, get_or}
 use Rattle.std.proofs.Common.{Option, Some, None, refl, sym, ap, subst, ◌∙◌, arith, append_assoc, append-nil, lit<}
 use Rattle.std.proofs.Common.{if◌then◌else◌, ne_eqb, decimal, Ok}
 use Rattle.std.specs.Prelude.{reverse, encode_utf8, ◌≢◌}

@@ -1,8 +1,7 @@
 -- The lines of the script that types a sentence, one character after another.
 use Prim.Native.Nat.{suc}
 use Rattle.std.proofs.Common.{◌≡◌, ℕ, ◌+◌, ◌-◌, ◌<◌, ◌≤◌, Bool, false, not, List, [], ◌∷◌, ◌++◌, length, take, drop}
-use Rattle.std.proofs.Common.{get_or}
-use Rattle.std.proofs.Common.{append_assoc, add-one, drop-cons, take_all, length-drop, arith, refl, sym, ap}
+use Rattle.std.proofs.Common.{get_or, append_assoc, add-one, drop-cons, take_all, length-drop, arith, refl, sym, ap}
 use Rattle.std.proofs.Common.{◌∙◌, subst}
 use Rattle.std.proofs.Math.ListN.{drop_of_length-le}
 use Rattle.std.proofs.lemmas.List.{drop-drop}

@@ -20,7 +20,8 @@ ghost use Rattle.kmap_runs.specs.Report.{report};
 ghost use Rattle.kmap_runs.specs.Replayed.{Delivers, ScriptTypes, AnswerReplays, AnswerReplaysBetween, ShowsScript};
 ghost use Rattle.kmap_runs.specs.Replayed.{PlaysCover, strokes_sent};
 ghost use Rattle.kmap_runs.specs.FmtRuns.{ChangedTextsSpellTheSame, PrintedLayoutsSpellTheSame};
-ghost use Rattle.kmap_runs.specs.Runs.{AcceptedKeepTheirPromise, CompiledAreDumped, CompiledNarrowlyAreDumped};
+ghost use Rattle.keymap_tables.specs.Sources.{ReadsNarrow, ReadsTables};
+ghost use Rattle.kmap_runs.specs.Runs.{AcceptedKeepTheirPromise, AreDumped, CompilesNarrowly, CompilesText};
 ghost use Rattle.kmap_runs.specs.Runs.{CoversText, DrawnAreWellFormed, DrawnTellKeymaps};
 ghost use Rattle.kmap_runs.specs.Runs.{PrintedCoversAreScripts, TypesSentence, WellLintedNeverStick};
 ghost use Rattle.kmap_runs.specs.Typing.{typing_script};
@@ -130,8 +131,8 @@ pub fn accepted_texts_keep_their_promise()
 /// What is compiled of a text and then dumped is a text that spells the same keymap, by way of a table file and of a
 /// narrow one.
 pub fn compiled_texts_are_dumped()
-    ensures tables { CompiledAreDumped }
-    ensures narrow { CompiledNarrowlyAreDumped }
+    ensures tables { AreDumped CompilesText ReadsTables }
+    ensures narrow { AreDumped CompilesNarrowly ReadsNarrow }
 {
     each_map_fits_in_a_table_file();
     images_are_whole();

@@ -136,6 +136,11 @@ all_gathered P f h (suc n) = All-append P (gathered f n) (f n) (all_gathered P f
 all_one : {Y : Type 0} (P : Y → Type 0) (y : Y) → P y → All P (y ∷ [])
 all_one P y h = All-cons P y [] h (All-nil P)
 
+-- what is said only if the test says so
+all_if : {Y : Type 0} (P : Y → Type 0) (b : Bool) (y : Y) → P y → All P (option_to_list (cond b (Some y) None))
+all_if P true y h = all_one P y h
+all_if P false y h = All-nil P
+
 pub cells_in_force_are_spelled : CellsInForceAreSpelled
 cells_in_force_are_spelled text m rows by =
     all_flat IsThere (λ p. Unit {0}) (cells_of t) of_one t.definitions (λ k d l. tt)
@@ -263,24 +268,15 @@ all_of_text text m rows by fs are =
         go : (o : Option Placed) → last_of (Slot f.holding_at.slot) t.definitions ≡ o
             → All S (option_to_list (mixed_by t fs f o))
         go None e = All-nil S
-        go (Some p) e = by_test (is_mixed t f)
-          where
-            place : ℕ
-            place = offset_at t (p.first + (1 + f.holding_at.column))
-
-            d : Diagnostic
-            d =
-                at place (kinds.MixedKey f (character_of (cell_at m f.character_at.slot f.character_at.column))
-                (is_greatest t fs f.key))
-
-            here : SpellsCell text place (Act (holding_action f.holding))
-            here =
-                subst (SpellsCell text place) is.holding
-                (spelled_at text m rows by f.holding_at.slot p e f.holding_at.column is.first_holding.0.0)
-
-            by_test : (b : Bool) → All S (option_to_list (cond b (Some d) None))
-            by_test true = all_one S d ((w (p.first + (1 + f.holding_at.column)), tt), here)
-            by_test false = All-nil S
+        go (Some p) e =
+            let place : ℕ = offset_at t (p.first + (1 + f.holding_at.column)) in
+            all_if S (is_mixed t f)
+            (at place (kinds.MixedKey f (character_of (cell_at m f.character_at.slot f.character_at.column))
+            (is_greatest t fs f.key))) (
+              (w (p.first + (1 + f.holding_at.column)), tt),
+              subst (SpellsCell text place) is.holding
+                  (spelled_at text m rows by f.holding_at.slot p e f.holding_at.column is.first_holding.0.0),
+            )
 
     halves : (slots keys has_mixed : Bool) (o : Option CellInForce) → find (selects t) cells ≡ o
         → All S (option_to_list (cond slots (half_at t keys has_mixed o) None))
@@ -336,14 +332,9 @@ all_of_text text m rows by fs are =
 
     zero : (i : ℕ) (o : Option Placed) → All S (option_to_list (zero_by t cells i o))
     zero i None = All-nil S
-    zero i (Some p) = go (is_zero (own_of (accent_at m i)) && is_given t cells i)
-      where
-        d : Diagnostic
-        d = at (offset_at t (p.first + 1)) (kinds.ZeroAccent i)
-
-        go : (b : Bool) → All S (option_to_list (cond b (Some d) None))
-        go true = all_one S d ((w (p.first + 1), tt), tt)
-        go false = All-nil S
+    zero i (Some p) =
+        all_if S (is_zero (own_of (accent_at m i)) && is_given t cells i)
+        (at (offset_at t (p.first + 1)) (kinds.ZeroAccent i)) ((w (p.first + 1), tt), tt)
 
     pair : (i first : ℕ) (ps : List (ℕ × ℕ)) (j : ℕ) (o : Option ℕ)
         → All S (option_to_list (pair_by t i first (base_at ps j) j o))
@@ -366,14 +357,9 @@ all_of_text text m rows by fs are =
 
     digits : (c : CellInForce) (x : Cell) → SpellsCell text c.span.start x → All S (option_to_list (digit_by c x))
     digits c (Act a) h = All-nil S
-    digits c (Char n) h = go (c.span.end - c.span.start == 1)
-      where
-        d : Diagnostic
-        d = at c.span.start (kinds.BareDigit n)
-
-        go : (b : Bool) → All S (option_to_list (cond b (Some d) None))
-        go true = all_one S d ((low c.span.start (Char n) h, tt), h)
-        go false = All-nil S
+    digits c (Char n) h =
+        all_if S (c.span.end - c.span.start == 1) (at c.span.start (kinds.BareDigit n))
+        ((low c.span.start (Char n) h, tt), h)
 
 -- ---- a fault
 

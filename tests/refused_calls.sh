@@ -97,7 +97,8 @@ refuses replay-word
 refuses sticking
 refuses sticking_between
 refuses sights_of
-refuses events_that_show
+refuses Planner::new
+refuses Planner::visit
 yields type_characters
 refuses plan_for
 yields cover_of

@@ -24,7 +24,7 @@ use Rattle.console_core.proofs.Scripts.{stands-from, idle-none, pressed-look}
 use Rattle.console_core.proofs.Seeing.{follows-selection, one_map}
 
 -- a move leaves the accent that is pending
-pending-move : (m : MapValue) (h : List Event) (s : State) (move : Move) → IsMove (alone m) s move
+pub pending-move : (m : MapValue) (h : List Event) (s : State) (move : Move) → IsMove (alone m) s move
     → Stands (alone m) h s
     → pending m (resolved (between m m) (events_of_move move ++ h)) ≡ pending m (resolved (between m m) h)
 pending-move m h s (Hold k i) (lt, idle, seen, free) x =

@@ -1,5 +1,5 @@
 pub mod Agreeing
-pub mod Arriving
+pub mod Approaching
 pub mod Bases
 pub mod Bearing
 pub mod Behind
@@ -26,7 +26,6 @@ pub mod OneMap
 pub mod OneMore
 pub mod Places
 pub mod PlainLooks
-pub mod Planning
 pub mod Prefixes
 pub mod Reaching
 pub mod Readings

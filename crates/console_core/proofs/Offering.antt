@@ -26,7 +26,7 @@ use Rattle.console_core.specs.Inner.Searching.{Searched}
 use Rattle.console_core.specs.Inner.Standing.{unscrolled}
 use Rattle.console_core.specs.Inner.Noting.{AddsState, IsBehind, AreSeedsTo, AreBehindTo, AreBehind, IsOfferedUnlocked}
 use Rattle.console_core.specs.Inner.Noting.{AreSelectionsOf, AreAccentsOf, AreComposing, AreOffersOf}
-use Rattle.console_core.proofs.Arriving.{same-scrolled}
+use Rattle.console_core.proofs.Unscrolled.{same-scrolled}
 use Rattle.console_core.proofs.Behind.{behind-offered, behind-more, behind-path, path-split}
 use Rattle.console_core.proofs.Exploring.{home-start}
 use Rattle.console_core.proofs.Growing.{at-now, at_old, at_new, at_last, from-cases, one_entry, scroll-left}

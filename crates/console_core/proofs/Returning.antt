@@ -1,4 +1,4 @@
--- Where a state that was met has no route home, some turn of a lock is one-way.
+-- From a state that was met without a route home no moves lead there.
 use Rattle.std.proofs.Common.{◌≡◌, ◌≢◌, ℕ, false, List, [], ◌∷◌, ◌++◌, length, slice_get, Some, refl, ap}
 use Rattle.std.proofs.Common.{subst, sym, ◌∙◌, inl, inr}
 use Rattle.std.proofs.lemmas.Bool.{false≢true}
@@ -123,23 +123,3 @@ strays-on m es routes searched settled s move is (j, x, at, near, none) = by mov
     by (Turn k Alt) is = on (Turn k Alt) (λ q. cc) is
     by (LetGo k i) is = on (LetGo k i) tt is
     by Exchange (free, loads) = absurd (false≢true loads)
-
--- so do all moves behind a path
-strays-along : (m : MapValue) (es : Entries) (routes : Routes) → Searched (alone m) start es (length es) (length es)
-    → AreSettled (alone m) es routes → (path later : List Move) → IsPath (alone m) (later ++ path)
-    → StraysTo es routes (state_after (alone m) path) → StraysTo es routes (state_after (alone m) (later ++ path))
-strays-along m es routes searched settled path [] is strays = strays
-strays-along m es routes searched settled path (move ∷ later) is strays =
-    strays-on m es routes searched settled (state_after (alone m) (later ++ path)) move is.0
-    (strays-along m es routes searched settled path later is.1 strays)
-
-pub never-home : (m : MapValue) (es : Entries) (routes : Routes) → Searched (alone m) start es (length es) (length es)
-    → AreSettled (alone m) es routes → (j : ℕ) (x : Entry) → slice_get es j ≡ Some x
-    → (HasRoute routes (state_of x.0) → ⊥) → NoTurnIsOneWay m → ⊥
-never-home m es routes searched settled j x at none returns =
-    let r : IsReached (alone m) start es j x = searched.reached j x at in
-    let (later, is, home) = returns r.0 r.2 in
-    let (i, y, there, near, no_route) =
-    strays-along m es routes searched settled r.0 later is (j, x, at, ap (λ z. unscrolled z) (sym r.3), none) in
-    (is-astray (alone m) es routes settled i y there no_route).0
-    (near-is_home (state_after (alone m) (later ++ r.0)) (state_of y.0) near home)

@@ -60,7 +60,7 @@ pub other-remembered : (r : List ResolvedEvent) (k j : ℕ) (b : Action) → k =
 other-remembered r k j b e = rw (remembered-action j k b r, e) (option_or-none (remembered j r))
 
 -- the holders after a move
-hold-self : (s : State) (i : Modifier) (k : ℕ) → Holds (with_holder s i (Some k)) k i
+pub hold-self : (s : State) (i : Modifier) (k : ℕ) → Holds (with_holder s i (Some k)) k i
 hold-self s i k = ap (λ t. if t then Some k else s.holder i) (same_action-refl (act.Mod i))
 
 -- the step of the next lemma, by whether the modifiers are the same
@@ -620,7 +620,7 @@ abbrev pub Reached : Under → State → Type 0
 Reached u s = (path : List Move) × IsPath u path × (state_after u path ≡ s)
 
 -- a move from a state that is reached reaches the next
-reached-more : (u : Under) (s : State) (move : Move) → Reached u s → IsMove u s move → Reached u (moved u s move)
+pub reached-more : (u : Under) (s : State) (move : Move) → Reached u s → IsMove u s move → Reached u (moved u s move)
 reached-more u s move there is =
     (move ∷ there.0, (subst (λ x. IsMove u x move) (sym there.2) is, there.1), ap (λ x. moved u x move) there.2)
 

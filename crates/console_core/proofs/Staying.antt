@@ -80,13 +80,13 @@ not_holding a (holding.Mod i) e f = rw e refl
 not_holding a (holding.Lock l) e f = rw f refl
 
 -- whether an action is a modifier, a lock or neither
-abbrev Kind : Action → Type 0
+abbrev pub Kind : Action → Type 0
 Kind a =
     ((i : Modifier) × (a ≡ act.Mod i))
     ⊎ (((l : Lock) × (a ≡ act.Lock l)) ⊎ ((h : Holding) → same_action a (holding_action h) ≡ false))
 
 -- each action is a modifier, a lock or neither
-kind_of : (a : Action) → Kind a
+pub kind_of : (a : Action) → Kind a
 kind_of (act.Mod i) = inl (i, refl)
 kind_of (act.Lock l) = inr (inl (l, refl))
 kind_of a = inr (inr (λ h. not_holding a h refl refl))
@@ -168,7 +168,7 @@ still_on i j true x s n t h e = sym (ap (λ y. is_held s y) (sym (same_mods i j 
 still_on i j false x s n t h e = e
 
 -- a press that takes a modifier, which is on
-follows-again : (r : List ResolvedEvent) (s : State) (k : ℕ) (b : Action) (i : Modifier) (n : ℕ) → Follows r s
+pub follows-again : (r : List ResolvedEvent) (s : State) (k : ℕ) (b : Action) (i : Modifier) (n : ℕ) → Follows r s
     → taken_over (remembered k r) b ≡ act.Mod i → Holds s n i → Follows (PressedAction k b ∷ r) s
 follows-again r s k b i n f e h = record {
   on =

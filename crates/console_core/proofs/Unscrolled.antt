@@ -1,6 +1,6 @@
 -- No look depends on the scroll lock, so states that differ in it alone lead on alike.
 use Rattle.std.proofs.Common.{◌≡◌, Bool, ◌&&◌, not, Some, None, refl, ap, subst, sym, ◌∙◌, if◌then◌else◌}
-use Rattle.console_core.specs.Types.{Lock, Caps, Scroll, Move, Hold, Turn, LetGo, Exchange}
+use Rattle.console_core.specs.Types.{Lock, Caps, Num, Scroll, Alt, Move, Hold, Turn, LetGo, Exchange}
 use Rattle.keymap_core.specs.Actions.{same_lock}
 use Rattle.keymap_core.specs.Borne.{is_borne}
 use Rattle.keymap_core.specs.Maps.{MapValue}
@@ -69,3 +69,16 @@ pub scroll-moved : (s : State) → unscrolled s ≡ unscrolled (with_lock_turned
 scroll-moved s =
     ap (λ x. record { holder = s.holder; is_locked = x; is_second = s.is_second })
     (fun_ext (λ j. scroll_turned s.is_locked j))
+
+-- states that are the same but for the scroll lock, and in that too
+pub same-scrolled : (s t : State) → unscrolled s ≡ unscrolled t → s.is_locked Scroll ≡ t.is_locked Scroll → s ≡ t
+same-scrolled s t e scroll =
+    ap (λ x. record { holder = x; is_locked = s.is_locked; is_second = s.is_second }) (ap (λ x. x.holder) e)
+    ∙ ap (λ x. record { holder = t.holder; is_locked = x; is_second = s.is_second }) (fun_ext (λ l. locks l))
+    ∙ ap (λ x. record { holder = t.holder; is_locked = t.is_locked; is_second = x }) (ap (λ x. x.is_second) e)
+  where
+    locks : (l : Lock) → s.is_locked l ≡ t.is_locked l
+    locks Caps = ap (λ x. x.is_locked Caps) e
+    locks Num = ap (λ x. x.is_locked Num) e
+    locks Scroll = scroll
+    locks Alt = ap (λ x. x.is_locked Alt) e

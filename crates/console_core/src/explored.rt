@@ -45,8 +45,8 @@ pub struct Tap {
 #[derive(Drop)]
 pub struct Explored<'m> {
     pub maps: Keymaps<'m>,
-    met: Met,
-    routes: Routes,
+    pub(crate) met: Met,
+    pub(crate) routes: Routes,
     /// Whether these are all states. Else they are more than 65,536.
     pub is_complete: bool,
 }

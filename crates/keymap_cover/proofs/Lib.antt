@@ -1,4 +1,3 @@
-pub mod Beginning
 pub mod Listed
 pub mod Marking
 pub mod Showing

@@ -279,6 +279,11 @@ at-rest m h = (
   refl,
 )
 
+-- nor is it before all events
+pub at-rest_new : (m : MapValue) → IsAtRest m []
+unfolding resolved held dead_keys_taken pending_by_dead_keys
+at-rest_new m = ((λ k lt. pressed-start k), (λ i. refl), refl)
+
 -- a key that isn't down isn't pressed: a reset lifts keys, and else they go up alone
 by-whether : (t v a b : Bool) → (a ≡ false → b ≡ false) → (if t then v else a) ≡ false
     → (if t then v else b) ≡ false

@@ -47,7 +47,7 @@ pub(crate) fn other_character(map: &KeyMap, bases: &[char]) -> Option<(KeyCode, 
 }
 
 /// Whether both the dead key and the character can be looked up from a new console.
-fn is_reachable(views: &Views, dead: &Cell, character: &Cell) -> bool {
+pub(crate) fn is_reachable(views: &Views, dead: &Cell, character: &Cell) -> bool {
     match views.from(Locks::none(), Turns::All) {
         Some(view) => {
             view.idle(dead).is_some()

@@ -150,3 +150,25 @@ pub fn plan_for(alloc: Global, map: &KeyMap) -> Result<Plan, AllocError>
     let mut console = PlainConsole::new(map);
     written(alloc, map, &lookups, &views, &mut console)
 }
+
+/// The trials written down.
+fn written_trials<T: Translator>(
+    alloc: Global,
+    map: &KeyMap,
+    lookups: &Lookups,
+    views: &Views,
+    console: &mut T,
+) -> Result<Vec<Event>, AllocError> {
+    let mut pen = Pen::new(alloc, lookups, console)?;
+    rules(&mut pen, views, map)?;
+    rest(&mut pen, views, Turns::BothWays)?;
+    Ok(pen.take_events())
+}
+
+/// Trials of what keys do to each other: events to deliver to a console that is at rest, with no lock on.
+pub fn trials_for(alloc: Global, map: &KeyMap) -> Result<Vec<Event>, AllocError> {
+    let lookups = Lookups::of(alloc, map)?;
+    let views = Views::of(alloc, &lookups)?;
+    let mut console = PlainConsole::new(map);
+    written_trials(alloc, map, &lookups, &views, &mut console)
+}

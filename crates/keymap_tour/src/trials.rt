@@ -1,5 +1,5 @@
 //! The trials of what comes between a dead key and a base.
-use crate::accents::{bases, dead_key, other_character};
+use crate::accents::{bases, dead_key, is_reachable, other_character};
 use crate::finds::find;
 use crate::pen::Pen;
 use crate::state::State;
@@ -191,7 +191,7 @@ fn try_accent<T: Translator>(
     take(pen, views, &Cell::Char(' '))
 }
 
-/// The trials with the first accent that was composed with a blank.
+/// The trials with the first accent that can be composed with a blank.
 pub(crate) fn trials_of_accents<T: Translator>(
     pen: &mut Pen<T>,
     views: &Views,
@@ -199,8 +199,8 @@ pub(crate) fn trials_of_accents<T: Translator>(
 ) -> Result<(), AllocError> {
     for accent in 0..map.n_accs() {
         let bases = bases(pen.alloc(), map, accent)?;
-        if !bases.is_empty() && pen.has_pair(accent, ' ') {
-            if let Some(dead) = dead_key(accent) {
+        if let Some(dead) = dead_key(accent) {
+            if !bases.is_empty() && is_reachable(views, &dead, &Cell::Char(' ')) {
                 return try_accent(pen, views, map, &dead, &bases);
             }
         }

@@ -63,30 +63,9 @@ AreSettled u es routes =
     (j : ℕ) (x : Entry) → slice_get es j ≡ Some x
     → HasRoute routes (state_of x.0) ⊎ IsAstray u routes (state_of x.0)
 
--- The search met all states, and a route home begins at each of them.
-pub record AreRoutesOf (u : Under) (es : Entries) (routes : Routes) : Type 0 where
-  pub searched : Searched u start es (length es) (length es)
-  pub home : AllLeadHome u routes
-  pub all : (j : ℕ) (x : Entry) → slice_get es j ≡ Some x → HasRoute routes (state_of x.0)
-
--- what holds of events holds of more of them
-pub record GoesOn (m : MapValue) (old now : List Event) : Type 0 where
-  pub keys : HasKeys old → HasKeys now
-  pub loads : HasNoLoads old → HasNoLoads now
-  pub releases : ReleasesPressedKeys old → ReleasesPressedKeys now
-  pub sees : (x : Sight) → SeesAlong m old x → SeesAlong m now x
-
 -- the state was met
 abbrev pub IsMet : Entries → State → Type 0
 IsMet es s = (j : ℕ) × (x : Entry) × (slice_get es j ≡ Some x) × (state_of x.0 ≡ s)
-
--- After the events and a reset the console stands in the state, but for the scroll lock, and the search met it.
-pub record IsPlan (m : MapValue) (es : Entries) (h : List Event) (s : State) : Type 0 where
-  pub keys : HasKeys h
-  pub loads : HasNoLoads h
-  pub releases : ReleasesPressedKeys h
-  pub free : unscrolled (free_after m h) ≡ unscrolled s
-  pub met : IsMet es s
 
 -- letting go of all holders, one after another
 abbrev pub freed : State → State

@@ -19,6 +19,7 @@ ghost use Rattle.console_core.specs.Returning.{IsHome};
 ghost use Rattle.console_core.specs.Inner.Searching.{state_of, under_of, Entries, IsMetBy, IsLetGoMet};
 ghost use Rattle.console_core.specs.Inner.Searching.{IsExchangeMet, ArePressesMet, IsStep};
 ghost use Rattle.console_core.specs.Inner.Routes.{freed};
+ghost use Rattle.console_core.specs.Inner.Showing.{IsRepeated, IsSteady};
 ghost use Rattle.console_core.specs.Inner.HeldBytes.{holder_number, bytes_of, held-equal, bool_equal, same-bytes};
 
 use super::{Held, Keymaps, Move, Step};
@@ -317,6 +318,30 @@ impl Held {
         match &self.look(maps, key) {
             Cell::Act(Action::Lock(lock)) => { if self.holds(key) { None } else { Some(*lock) } }
             _ => None,
+        }
+    }
+
+    /// Whether the key holds a modifier and looks up an action, so that one more press of it leaves the state.
+    pub fn is_repeated(&self, maps: &Keymaps, key: KeyCode) -> bool
+        ensures { result ≡ true → IsRepeated (under_of maps.now) (state_of self.now) key }
+    {
+        match self.look(maps, key) {
+            Cell::Act(_) => self.holds(key),
+            Cell::Char(_) => false,
+        }
+    }
+
+    /// Whether a press of the key and its release leave the state, but for the scroll lock.
+    pub fn is_steady(&self, maps: &Keymaps, key: KeyCode) -> bool
+        ensures { result ≡ true → IsSteady (under_of maps.now) (state_of self.now) key }
+    {
+        if self.holds(key) {
+            return false;
+        }
+        match self.look(maps, key) {
+            Cell::Act(Action::Mod(modifier)) => !self.is_held(modifier),
+            Cell::Act(Action::Lock(lock)) => lock == Lock::Scroll,
+            _ => true,
         }
     }
 

@@ -13,7 +13,7 @@ returns-else-is_some-clause-along g c =
     let t = c.args.console.now in (
       h,
       (stands, tour),
-      ([], refl),
+      (([], refl), (λ l. refl)),
       rests m h old.strokes.items old.pressed (has_seen old.seen) tour c.requires
           (sym (c.is_any_on.ensures (between m m) h stands) ∙ c.if-is_any_on.false)
           (sym (g.met.T.Translator.pending_where_it_stands t (between m m) h stands) ∙ sym c.pending.ensures

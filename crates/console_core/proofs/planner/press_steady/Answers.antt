@@ -1,0 +1,17 @@
+use Rattle.std.proofs.Common.{◌∷◌, reverse, ap, subst, sym, ◌∙◌}
+use Rattle.console_core.specs.Types.{Press}
+use Rattle.console_core.specs.Inner.Searching.{state_of}
+use Rattle.console_core.specs.Inner.Showing.{IsRepeated, Leads}
+use Rattle.console_core.proofs.Approaching.{repeat-leads}
+use Rattle.console_core.proofs.Looking.{push-reversed}
+use Rattle.console_core.proofs.planner.press_steady.Goals as goal
+
+pub returns-then-is_repeated : goal.returns-then-is_repeated
+returns-then-is_repeated c =
+    λ m one.
+    let s = state_of c.args.held.now in
+    let k = c.args.key in
+    let old = reverse c.args.events.now.items in
+    subst (λ z. Leads m s s old z)
+    (sym (ap reverse c.in_ok-push.ensures.items ∙ push-reversed c.args.events.now.items (Press k)))
+    (repeat-leads m s k old (subst (λ u. IsRepeated u s k) one (c.is_repeated.ensures c.if-is_repeated.true)))

@@ -1,6 +1,6 @@
 use Rattle.std.proofs.Common.{refl, subst, sym, arith, below_more}
 use Rattle.console_core.specs.Sights.{SeesBy}
-use Rattle.console_core.proofs.selection.Selection.key_seeing.Goals as goal
+use Rattle.console_core.proofs.selection.Selection.first_seeing.Goals as goal
 
 pub loop-code-preserved : goal.loop-code-preserved
 loop-code-preserved c =

@@ -99,8 +99,9 @@ refuses sticking_between
 refuses sights_of
 refuses Planner::new
 refuses Planner::visit
+refuses Planner::events_to
+refuses find_onward
 yields type_characters
-refuses plan_for
 yields cover_of
 refuses Seen::new
 refuses cells

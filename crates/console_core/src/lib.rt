@@ -34,6 +34,7 @@ mod left_on;
 mod machine;
 mod moving_keys;
 mod offers;
+mod onward;
 mod outcome;
 mod plain_console;
 mod plain_store;
@@ -53,7 +54,9 @@ mod word_console;
 mod word_store;
 
 pub use event::{Answer, Event};
+pub use explored::KeyAt;
 pub use kept::{locks_kept, modifiers_kept, pending_kept, start_kept, step_kept};
+pub use onward::{Onward, Reached, find_onward};
 pub use outcome::Sticking;
 pub use plain_console::PlainConsole;
 pub use planner::Planner;

@@ -18,9 +18,11 @@ ghost use Rattle.console_core.specs.Inner.Showing.{LeadsToSee, ShowsNot, locks_i
 use crate::event::Event;
 use crate::explored::{Explored, KeyAt, Symbol, Tap, explore};
 use crate::held::{Held, Keymaps};
+use crate::onward::Reached;
 use crate::routes::{has_route, state_at};
 use crate::selection::{Selection, Sight};
 use crate::showing::{come_home, go_out, tap};
+use crate::translator::Translator;
 use keymap_core::{KeyCode, KeyMap, Lock};
 use std::alloc::{AllocError, Global};
 use std::marker::Model;
@@ -310,11 +312,12 @@ impl<'m> Planner<'m> {
         }
     }
 
-    /// What picks the cells where the next visit leads, if keys may be tapped there.
-    pub fn selection(&self) -> Option<Selection> {
+    /// What picks the cells where the next visit leads, and the key that is pressed there, if others may be tapped before.
+    pub fn next_press(&self) -> Option<(Selection, KeyCode)> {
         match &self.aim {
             Some(Aim { at, dead: None, .. }) => {
-                Some(state_at(&self.explored.met, at.place).selection())
+                let selection = state_at(&self.explored.met, at.place).selection();
+                Some((selection, at.key))
             }
             _ => None,
         }
@@ -337,12 +340,50 @@ impl<'m> Planner<'m> {
             None => Ok(Vec::new(alloc)),
         }
     }
+}
 
-    /// A reset, and the events home from where a console stands behind the events so far.
-    pub fn events_home(&self, alloc: Global) -> Result<Vec<Event>, AllocError> {
+/// The states and ways between them, for who presses keys in them for other reasons.
+impl<'m> Planner<'m> {
+    /// How many states there are.
+    pub fn len(&self) -> usize {
+        self.explored.met.len()
+    }
+
+    /// The state at the place, if a route home begins there.
+    pub fn state(&self, place: usize) -> Option<Reached> {
+        if place < self.explored.met.len() {
+            let held = state_at(&self.explored.met, place);
+            if has_route(&self.explored.routes, &held) {
+                return Some(Reached { held });
+            }
+        }
+        None
+    }
+
+    /// Whether a route home begins where a turn of the lock leads from home. The scroll lock may stay on.
+    pub fn takes_back(&self, lock: Lock) -> bool {
+        lock == Lock::Scroll || has_route(&self.explored.routes, &Held::start().with_turned(lock))
+    }
+
+    /// The events from home to the place, if there is a state.
+    pub fn events_to(&self, alloc: Global, place: usize) -> Result<Vec<Event>, AllocError> {
         let mut events = Vec::new(alloc);
-        events.push(Event::Reset)?;
-        come_home(&mut events, &self.explored.routes, &self.from)?;
+        if place < self.explored.met.len() {
+            go_out(&mut events, alloc, &self.explored.met, place)?;
+        }
         Ok(events)
+    }
+
+    /// Adds the events home from where the console stands while no key holds a modifier, if a route begins there.
+    pub fn push_home<T: Translator>(
+        &self,
+        events: &mut Vec<Event>,
+        console: &T,
+    ) -> Result<(), AllocError> {
+        let held = Held::free(console);
+        if has_route(&self.explored.routes, &held) {
+            come_home(events, &self.explored.routes, &held)?;
+        }
+        Ok(())
     }
 }

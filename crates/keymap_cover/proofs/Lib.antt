@@ -4,3 +4,4 @@ pub mod Showing
 pub mod Telling
 pub mod Touring
 pub mod Walking
+mod Ordered

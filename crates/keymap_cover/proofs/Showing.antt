@@ -25,7 +25,7 @@ use Rattle.keymap_cover.specs.Strokes.{event_of, events_of, is_down}
 use Rattle.keymap_cover.specs.Told.{IsTold}
 use Rattle.keymap_cover.specs.Inner.Pairs.{pairs_in}
 use Rattle.keymap_cover.specs.Inner.Tours.{RunsAlong, IsTourOf, GoesAlongToRest, ComesAfter, AreUp, IsUnderWay}
-use Rattle.keymap_cover.specs.Inner.Tours.{GoesUnderWay, GoesFurther, SeesAll, LeavesNothingOut, EndsAtRest}
+use Rattle.keymap_cover.specs.Inner.Tours.{GoesUnderWay, GoesFurther, GoesResting, SeesAll, LeavesNothingOut, EndsAtRest}
 use Rattle.keymap_cover.proofs.Telling.{all-told}
 use Rattle.keymap_cover.proofs.Touring.{at-rest_new}
 use Rattle.keymap_cover.proofs.Walking.{after-more}
@@ -204,18 +204,22 @@ walks-further m x y A a B b C d first second h at =
     let (f, end, there, more, same) = second g run in
     (f, end, there, after-more h g f after more)
 
--- what is told of is seen, and then the script goes further
+-- what is told of is seen, and then the script goes further, and onward
 pub script-whole : (m : MapValue) (A : Maps → List Event → Type 0) (p : Planned) (a : Tour)
-    (B : Maps → List Event → Type 0) (q : Planned) (b : Tour) (C : Maps → List Event → Type 0) (d : Tour) (n : ℕ)
+    (B : Maps → List Event → Type 0) (q : Planned) (b : Tour) (C : Maps → List Event → Type 0) (d : Tour)
+    (D : Maps → List Event → Type 0) (e : Tour) (n : ℕ)
     → IsUnderWay m A p a [] → GoesUnderWay m A p a B q b (LeavesNothingOut m b × (n ≤ length b.strokes.items))
-    → GoesFurther m B b C d → AreUp d.pressed
-    → EndsAtRest m d × LeavesNothingOut m d × (n ≤ length b.strokes.items)
-    × (length b.strokes.items ≤ length d.strokes.items)
-script-whole m A p a B q b C d n new shown further up =
+    → GoesFurther m B b C d → AreUp d.pressed → GoesResting m C d D e
+    → EndsAtRest m e × LeavesNothingOut m e × (n ≤ length b.strokes.items)
+    × (length b.strokes.items ≤ length d.strokes.items) × (length d.strokes.items ≤ length e.strokes.items)
+script-whole m A p a B q b C d D e n new shown further up onward =
     let (g, w, after, (nothing, le)) = shown [] new in
-    let (f, run, rest, more) = further g w.runs in (
-      (up, (f, run.1, rest)),
-      (λ steady x told can. seen-still m g f b d x w.runs.1 run.1 more (nothing steady x told can)),
+    let (f, run, rest, more) = further g w.runs in
+    let (k, (end, ups, still), last) = onward f (run, up, rest) in (
+      (ups, (k, end.1, still)),
+      (λ steady x told can.
+          seen-still m g k b e x w.runs.1 end.1 (after-more g f k more last) (nothing steady x told can)),
       le,
       tour-longer m g f b d w.runs.1 run.1 more,
+      tour-longer m f k d e run.1 end.1 last,
     )

@@ -40,7 +40,7 @@ use Rattle.keymap_cover.specs.Covering.{events, IsAtRest, Covers}
 use Rattle.keymap_cover.specs.Told.{IsTold}
 use Rattle.keymap_cover.proofs.Marking.{set-cases}
 use Rattle.keymap_cover.specs.Inner.Tours.{IsWith, IsPairOf, AddsPair, AddsSights, IsTour, AreUp}
-use Rattle.keymap_tour.specs.Plans.{AreParts}
+use Rattle.keymap_cover.specs.Parts.{AreParts}
 
 -- the pair of a press was added
 pub pair-added : (m : MapValue) (y : Selection) (k accent c : ℕ) (old now : Sight → Bool) → look_selected m y k ≡ Char c

@@ -8,17 +8,18 @@ ghost use Rattle.keymap_cover.specs.Covering.{NeverSees, Covers, IsVerdict, verd
 ghost use Rattle.keymap_cover.specs.Inner.Tours.{AreUp, EndsAtRest, GoesFurther, GoesUnderWay, IsPlanFor};
 ghost use Rattle.keymap_cover.specs.Inner.Tours.{LeavesNothingOut, SeesAll};
 ghost use Rattle.keymap_cover.specs.SeenSights.{has_seen};
-ghost use Rattle.keymap_tour.specs.Plans.{AreParts, part_place};
-ghost use Rattle.keymap_tour.specs.Inner.Adding.{ArePartsBelow};
+ghost use Rattle.keymap_cover.specs.Parts.{AreParts, part_place};
+ghost use Rattle.keymap_cover.specs.Inner.Adding.{ArePartsBelow};
 
-use crate::parts::{Cover, Verdict};
+use crate::families::trials;
+use crate::one_way::go_onward;
+use crate::parts::{Cover, Part, Start, Verdict};
 use crate::seen::Seen;
 use crate::told::{told_of_keys, told_pairs};
 use crate::tour::Tour;
 use console_core::laws::sights_are_reachable;
 use console_core::{PlainConsole, Planner, Selection, Sight, Sights, Translator, sights_of};
 use keymap_core::{KEY_COUNT, KeyCode, KeyMap, key_with};
-use keymap_tour::{Part, Start, trials_for};
 use std::alloc::{AllocError, Global};
 
 /// Whether a press after some list that is spoken of may see it. The law says that what such a press sees can be seen.
@@ -49,7 +50,7 @@ impl Cover {
 }
 
 /// Whether it is left out: it can be seen, and wasn't.
-fn is_left_out(seen: &Seen, sights: &Sights, map: &KeyMap, sight: Sight) -> bool
+pub(crate) fn is_left_out(seen: &Seen, sights: &Sights, map: &KeyMap, sight: Sight) -> bool
     ensures none { AreSightsOf map.now sights.now → result ≡ false → IsReachable map.now sight
         → has_seen seen.now sight ≡ true }
     ensures some { AreSightsOf map.now sights.now → result ≡ true → IsReachable map.now sight
@@ -59,14 +60,14 @@ fn is_left_out(seen: &Seen, sights: &Sights, map: &KeyMap, sight: Sight) -> bool
 }
 
 /// Whether a press of the key under the selection sees a cell or a lock setting that wasn't seen.
-fn sees_new(seen: &Seen, map: &KeyMap, selection: Selection, key: KeyCode) -> bool {
+pub(crate) fn sees_new(seen: &Seen, map: &KeyMap, selection: Selection, key: KeyCode) -> bool {
     let slot = selection.slot(key);
     let column = selection.column(map, key);
     let Selection { caps, num, .. } = selection;
     !seen.has(Sight::Cell { slot, column }) || !seen.has(Sight::Locks { slot, caps, num })
 }
 
-/// The keys whose press sees something new where the next visit leads.
+/// The keys whose press sees something new where the next visit leads, but for the one that is pressed there last.
 fn new_keys(
     alloc: Global,
     planner: &Planner,
@@ -74,10 +75,10 @@ fn new_keys(
     map: &KeyMap,
 ) -> Result<Vec<KeyCode>, AllocError> {
     let mut keys = Vec::new(alloc);
-    if let Some(selection) = planner.selection() {
+    if let Some((selection, pressed)) = planner.next_press() {
         for code in 0..KEY_COUNT as u8 {
             let key = key_with(code);
-            if sees_new(seen, map, selection, key) {
+            if key != pressed && sees_new(seen, map, selection, key) {
                 keys.push(key)?;
             }
         }
@@ -160,21 +161,24 @@ fn begin(starts: &mut Vec<Start>, part: Part, at: usize, end: usize) -> Result<(
     Ok(())
 }
 
-/// Where the parts begin of a script whose first parts end behind so many strokes.
+/// Where the parts begin of a script whose parts end behind so many strokes.
 fn starts_of(
     alloc: Global,
     first: usize,
     second: usize,
     third: usize,
+    last: usize,
 ) -> Result<Vec<Start>, AllocError>
     requires first { first ≤ second }
     requires second { second ≤ third }
-    ensures { IfOk result (λ starts. AreParts starts.items third) }
+    requires third { third ≤ last }
+    ensures { IfOk result (λ starts. AreParts starts.items last) }
 {
     let mut starts = Vec::new(alloc);
-    begin(&mut starts, Part::Looks, 0, first)?;
-    begin(&mut starts, Part::Accents, first, second)?;
-    begin(&mut starts, Part::Rules, second, third)?;
+    begin(&mut starts, Part::Cells, 0, first)?;
+    begin(&mut starts, Part::Pairs, first, second)?;
+    begin(&mut starts, Part::Trials, second, third)?;
+    begin(&mut starts, Part::OneWay, third, last)?;
     Ok(starts)
 }
 
@@ -211,9 +215,10 @@ fn try_keys<T: Translator>(
     ensures along { OnOk result (GoesFurther map.now (T.stands console.old) tour.old (T.stands console.new) tour.new) }
     ensures up { OnOk result (AreUp tour.new.pressed) }
 {
-    let home = planner.events_home(alloc)?;
+    let mut home = Vec::new(alloc);
+    planner.push_home(&mut home, &*console)?;
     tour.walk(console, map, &home)?;
-    let trials = trials_for(alloc, map)?;
+    let trials = trials(alloc, map, planner)?;
     tour.walk(console, map, &trials)?;
     Ok(())
 }
@@ -236,7 +241,9 @@ fn tour_of<T: Translator>(
     let first = show_told(alloc, planner, &mut tour, console, map, sights)?;
     let second = tour.strokes.len();
     try_keys(alloc, planner, &mut tour, console, map)?;
-    let starts = starts_of(alloc, first, second, tour.strokes.len())?;
+    let third = tour.strokes.len();
+    go_onward(alloc, &mut tour, console, map, sights)?;
+    let starts = starts_of(alloc, first, second, third, tour.strokes.len())?;
     Ok((tour, starts))
 }
 

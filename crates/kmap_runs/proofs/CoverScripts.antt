@@ -27,9 +27,9 @@ use Rattle.keymap_cover.specs.declared.stroke.Stroke.TheVariants.{Down, Repeat, 
 use Rattle.keymap_cover.specs.Covering.{events, is_verdict, verdict_of, counts_of}
 use Rattle.keymap_cover.specs.SightLists.{all_cells, all_lock_settings}
 use Rattle.keymap_cover.specs.Strokes.{event_of, events_of}
-use Rattle.keymap_tour.specs.declared.Part.{Part}
-use Rattle.keymap_tour.specs.declared.Part.TheVariants.{Looks, Accents, Rules, OneWay}
-use Rattle.keymap_tour.specs.declared.Start.{Start}
+use Rattle.keymap_cover.specs.declared.parts.Part.{Part}
+use Rattle.keymap_cover.specs.declared.parts.Part.TheVariants.{Cells, Pairs, Trials, OneWay}
+use Rattle.keymap_cover.specs.declared.parts.Start.{Start}
 use Rattle.keymap_text.specs.Meaning.{Spells}
 use Rattle.play_core.specs.declared.sent.Sent.{Sent}
 use Rattle.play_core.specs.declared.show.Show.{Show}
@@ -316,9 +316,9 @@ quiet-lists m c =
 -- ---- strokes
 
 quiet-part : (part : Part) → Adds (part_line part) []
-quiet-part Looks = quiet-comment (codes " looks\n") (codes " looks", refl, refl)
-quiet-part Accents = quiet-comment (codes " accents\n") (codes " accents", refl, refl)
-quiet-part Rules = quiet-comment (codes " rules\n") (codes " rules", refl, refl)
+quiet-part Cells = quiet-comment (codes " cells\n") (codes " cells", refl, refl)
+quiet-part Pairs = quiet-comment (codes " pairs\n") (codes " pairs", refl, refl)
+quiet-part Trials = quiet-comment (codes " trials\n") (codes " trials", refl, refl)
 quiet-part OneWay = quiet-comment (codes " one-way\n") (codes " one-way", refl, refl)
 
 quiet-start : (place : ℕ) (s : Start) → Adds (start_line place s) []

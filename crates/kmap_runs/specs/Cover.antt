@@ -19,9 +19,9 @@ use Rattle.keymap_cover.specs.declared.parts.Verdict.{Verdict}
 use Rattle.keymap_cover.specs.declared.parts.Verdict.TheVariants.{LeftOut, Never}
 use Rattle.keymap_cover.specs.declared.stroke.Stroke.{Stroke}
 use Rattle.keymap_cover.specs.declared.stroke.Stroke.TheVariants.{Down, Repeat, Up, Reset}
-use Rattle.keymap_tour.specs.declared.Part.{Part}
-use Rattle.keymap_tour.specs.declared.Part.TheVariants.{Looks, Accents, Rules, OneWay}
-use Rattle.keymap_tour.specs.declared.Start.{Start}
+use Rattle.keymap_cover.specs.declared.parts.Part.{Part}
+use Rattle.keymap_cover.specs.declared.parts.Part.TheVariants.{Cells, Pairs, Trials, OneWay}
+use Rattle.keymap_cover.specs.declared.parts.Start.{Start}
 use Rattle.play_core.specs.Spelling.{sent_line}
 use Rattle.play_core.specs.declared.sent.Sent.{Sent}
 use Rattle.play_core.specs.declared.sent.What.{What}
@@ -168,10 +168,10 @@ lists_text m c =
 
 -- the comment that begins a part
 abbrev pub part_line : Part → List ℕ
-part_line Looks = words.LOOKS.now
-part_line Accents = words.ACCENTS.now
-part_line Rules = words.RULES.now
-part_line OneWay = words.ONE_WAY.now
+part_line Cells = words.CELLS_PART.now
+part_line Pairs = words.PAIRS_PART.now
+part_line Trials = words.TRIALS_PART.now
+part_line OneWay = words.ONE_WAY_PART.now
 
 -- a comment if the part begins at the place
 abbrev pub start_line : ℕ → Start → List ℕ

@@ -9,8 +9,9 @@ ghost use Rattle.kmap_runs.specs.Cover as spec;
 
 use crate::event_lines::event_line;
 use crate::words::{
-    ACCENTS, ALL_PAIRS, BOTH_LOCKS, CELLS, CLOCK, COLUMNS, COUNTS, LEFT_OUT, LISTED, LOCK_SETTINGS,
-    LOCKS, LOOKS, NEVER, NLOCK, NO_LOCK, ONE_SLOT, ONE_WAY, PAIRS, REPEAT, RULES, SLOTS, UNSTUCK,
+    ALL_PAIRS, BOTH_LOCKS, CELLS, CELLS_PART, CLOCK, COLUMNS, COUNTS, LEFT_OUT, LISTED,
+    LOCK_SETTINGS, LOCKS, NEVER, NLOCK, NO_LOCK, ONE_SLOT, ONE_WAY_PART, PAIRS, PAIRS_PART, REPEAT,
+    SLOTS, TRIALS_PART, UNSTUCK,
 };
 use console_core::{Event, Sight};
 use keymap_core::{ACCENT_LIMIT, Accent, AccentIndex, Action, COLUMN_COUNT, KeyMap, SLOT_LIMIT};
@@ -467,10 +468,10 @@ fn part_line(part: Part) -> &'static [u8]
     ensures { result.now ≡ spec.part_line part }
 {
     match part {
-        Part::Looks => LOOKS,
-        Part::Accents => ACCENTS,
-        Part::Rules => RULES,
-        Part::OneWay => ONE_WAY,
+        Part::Cells => CELLS_PART,
+        Part::Pairs => PAIRS_PART,
+        Part::Trials => TRIALS_PART,
+        Part::OneWay => ONE_WAY_PART,
     }
 }
 

@@ -71,13 +71,13 @@ pub(crate) const BOTH_LOCKS: &[u8] = b" clock+nlock";
 pub(crate) const LISTED: &[u8] = b" {}";
 
 // Where its parts begin.
-pub(crate) const LOOKS: &[u8] = b"# looks\n";
+pub(crate) const CELLS_PART: &[u8] = b"# cells\n";
 
-pub(crate) const ACCENTS: &[u8] = b"# accents\n";
+pub(crate) const PAIRS_PART: &[u8] = b"# pairs\n";
 
-pub(crate) const RULES: &[u8] = b"# rules\n";
+pub(crate) const TRIALS_PART: &[u8] = b"# trials\n";
 
-pub(crate) const ONE_WAY: &[u8] = b"# one-way\n";
+pub(crate) const ONE_WAY_PART: &[u8] = b"# one-way\n";
 
 // A repeat, which no other printed script has.
 pub(crate) const REPEAT: &[u8] = b"repeat {}\n";

@@ -6,7 +6,7 @@ ghost use Rattle.keymap_core.specs.Actions.{modifiers};
 ghost use Rattle.keymap_core.specs.Numbers.{key_count};
 ghost use Rattle.keymap_core.specs.declared.action.Modifier.{Modifier as ModifierValue};
 ghost use Rattle.keymap_core.specs.declared.action.Modifier.TheVariants.{Meta};
-ghost use Rattle.keymap_core.specs.declared.action.Lock.TheVariants.{Caps, Num, Alt};
+ghost use Rattle.keymap_core.specs.declared.action.Lock.TheVariants.{Caps, Num, Scroll, Alt};
 ghost use Rattle.keymap_core.specs.declared.action.Lock.{Lock as LockValue};
 ghost use Rattle.keymap_core.specs.declared.action.Action.TheVariants.{DeadKey, Lock as LockAction};
 ghost use Rattle.keymap_core.specs.declared.entry.Cell.TheVariants.{Act};
@@ -25,6 +25,7 @@ ghost use Rattle.console_core.specs.Inner.HeldBytes.{holder_number, bytes_of, he
 use super::{Held, Keymaps, Move, Step};
 use crate::event::Event;
 use crate::selection::Selection;
+use crate::translator::Translator;
 use keymap_core::{
     Action, Cell, Holding, KEY_COUNT, KeyCode, KeyMap, Lock, MODIFIERS, Modifier, key_with,
 };
@@ -70,6 +71,23 @@ impl Held {
         Held {
             holders: [None; 8],
             locks: [false; 4],
+            is_second: false,
+        }
+    }
+
+    /// The state in which no key holds a modifier and the locks of the console are on.
+    pub fn free<T: Translator>(console: &T) -> Held
+        ensures off { (state_of result).is_locked Scroll ≡ false }
+        ensures first { (state_of result).is_second ≡ false }
+    {
+        Held {
+            holders: [None; 8],
+            locks: [
+                console.locked(Lock::Caps),
+                console.locked(Lock::Num),
+                false,
+                console.locked(Lock::Alt),
+            ],
             is_second: false,
         }
     }

@@ -124,6 +124,15 @@ GoesFurther m stood before stands t =
 abbrev pub AreUp : List Bool → Type 0
 AreUp down = (k : ℕ) → k < key_count → slice_index_or down k false ≡ false
 
+-- the console runs along a tour that is at rest with no key down
+abbrev pub IsResting : MapValue → (Maps → List Event → Type 0) → Tour → List Event → Type 0
+IsResting m stands t h = RunsAlong m stands h t × AreUp t.pressed × IsAtRest m h
+
+-- it goes on so by some events more
+abbrev pub GoesResting : MapValue → (Maps → List Event → Type 0) → Tour → (Maps → List Event → Type 0) → Tour → Type 0
+GoesResting m stood before stands t =
+    (h : List Event) → IsResting m stood before h → (g : List Event) × IsResting m stands t g × ComesAfter h g
+
 -- The console runs along a tour that is at rest with no key down, and the planner's locks are on.
 pub record IsUnderWay (m : MapValue) (stands : Maps → List Event → Type 0) (p : Planned) (t : Tour) (h : List Event)
     : Type 0 where

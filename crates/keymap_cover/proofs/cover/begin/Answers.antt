@@ -1,7 +1,7 @@
 use Rattle.std.proofs.Common.{refl, subst, arith}
-use Rattle.keymap_tour.specs.Plans.{part_place}
-use Rattle.keymap_tour.specs.Inner.Adding.{ArePartsBelow}
-use Rattle.keymap_tour.proofs.Ordered.{parts-skip, parts-more}
+use Rattle.keymap_cover.specs.Parts.{part_place}
+use Rattle.keymap_cover.specs.Inner.Adding.{ArePartsBelow}
+use Rattle.keymap_cover.proofs.Ordered.{parts-skip, parts-more}
 use Rattle.keymap_cover.proofs.cover.begin.Goals as goal
 
 pub returns-in_ok-push : goal.returns-in_ok-push

@@ -5,11 +5,11 @@ use Rattle.std.proofs.Common.{sym, arith}
 use Rattle.std.proofs.lemmas.Bool.{cases_lt}
 use Rattle.std.proofs.lemmas.List.Elements.{All-push, Contains-push, Contains-append_left}
 use Rattle.std.proofs.lemmas.List.Quantifiers.{all_pairs_push}
-use Rattle.keymap_tour.specs.declared.Part.{Part}
-use Rattle.keymap_tour.specs.declared.Part.TheVariants.{Looks, Accents, Rules, OneWay}
-use Rattle.keymap_tour.specs.declared.Start.{Start}
-use Rattle.keymap_tour.specs.Plans.{part_place}
-use Rattle.keymap_tour.specs.Inner.Adding.{ArePartsBelow}
+use Rattle.keymap_cover.specs.declared.parts.Part.{Part}
+use Rattle.keymap_cover.specs.declared.parts.Part.TheVariants.{Cells, Pairs, Trials, OneWay}
+use Rattle.keymap_cover.specs.declared.parts.Start.{Start}
+use Rattle.keymap_cover.specs.Parts.{part_place}
+use Rattle.keymap_cover.specs.Inner.Adding.{ArePartsBelow}
 
 -- no events are in no part
 pub parts-none : (starts : List Start) (n : ℕ) → starts ≡ [] → n ≡ 0 → ArePartsBelow 0 starts n
@@ -51,11 +51,3 @@ parts-more place starts now start n m at x e begins more =
       below = All-push (λ x. part_place x.part < place + 1) starts start (λ k d lt. omega (arith, x.below k d lt))
           (omega (arith, at));
     })
-
--- the parts by their places
-pub part-at : (i : ℕ) (d : Part) → i < 4 → part_place (get_or (Looks ∷ Accents ∷ Rules ∷ OneWay ∷ []) i d) ≡ i
-part-at zero d lt = refl
-part-at (suc zero) d lt = refl
-part-at (suc (suc zero)) d lt = refl
-part-at (suc (suc (suc zero))) d lt = refl
-part-at (suc (suc (suc (suc n)))) d lt = absurd (omega arith)

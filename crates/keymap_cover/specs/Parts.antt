@@ -1,15 +1,15 @@
 -- Where the parts of a script begin.
 use Rattle.std.specs.Prelude.{◌≡◌, ℕ, ◌<◌, List, All}
 use Rattle.std.specs.List.{AllPairs, Contains}
-use Rattle.keymap_tour.specs.declared.Part.{Part}
-use Rattle.keymap_tour.specs.declared.Part.TheVariants.{Looks, Accents, Rules, OneWay}
-use Rattle.keymap_tour.specs.declared.Start.{Start}
+use Rattle.keymap_cover.specs.declared.parts.Part.{Part}
+use Rattle.keymap_cover.specs.declared.parts.Part.TheVariants.{Cells, Pairs, Trials, OneWay}
+use Rattle.keymap_cover.specs.declared.parts.Start.{Start}
 
 -- the place of a part among all
 abbrev pub part_place : Part → ℕ
-part_place Looks = 0
-part_place Accents = 1
-part_place Rules = 2
+part_place Cells = 0
+part_place Pairs = 1
+part_place Trials = 2
 part_place OneWay = 3
 
 -- The parts that n events are in, each with one event or more: a part begins before its first event and ends where the

@@ -60,3 +60,5 @@ panel_all Ansi = refl
 
 pub all_lie_on_the_panel : AllLieOnThePanel
 all_lie_on_the_panel board = each is_on_panel (keys_of board) (panel_all board)
+
+pub ruleset board_laws = (boards_are_keyboards, each_key_once, no_two_overlap, all_lie_on_the_panel)

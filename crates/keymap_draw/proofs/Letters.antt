@@ -143,3 +143,5 @@ letters_have_one_capital small capital other e f =
     ap (λ (p : ℕ × ℕ). p.1)
     (one_of small_differs small_once (small, capital) (small, other) (same_not small small refl)
     (same_not small small refl) (letter_of small capital e) (letter_of small other f))
+
+pub ruleset letter_laws = (pairs_are_letters, capitals_are_of_one_letter, letters_have_one_capital)

@@ -1,4 +1,3 @@
-mod Agreeing
 mod Boards
 mod Letters
 mod Loops
@@ -7,7 +6,6 @@ mod Plain
 mod Red
 mod Scans
 mod Shown
-mod Squeezed
 mod Texts
 mod Titles
 mod Told

@@ -47,10 +47,6 @@ passing-more test n r old new e before added =
 pub passing-start : (test : ℕ → Bool) (old : List ℕ) → old ≡ [] → old ≡ passing test 0
 passing-start test old e = e ∙ sym (passing-none test)
 
--- a number of a list in front of another, or of that one
-all_join : (P : ℕ → Type 0) (xs ys : List ℕ) → All P xs → All P ys → All P (xs ++ ys)
-all_join P xs ys a b = All-append P xs ys a b
-
 passed-below : (b : Bool) (n k : ℕ) → n < k → All (λ i. i < k) (passed b n)
 passed-below true n k h = one n h
   where
@@ -64,7 +60,7 @@ pub passing-below : (test : ℕ → Bool) (n k : ℕ) → n ≤ k → All (λ i.
 unfolding passing gathered
 passing-below test zero k h = All-nil (λ i. i < k)
 passing-below test (suc n) k h =
-    all_join (λ i. i < k) (passing test n) (passed (test n) n) (passing-below test n k (omega arith))
+    All-append (λ i. i < k) (passing test n) (passed (test n) n) (passing-below test n k (omega arith))
     (passed-below (test n) n k (omega arith))
 
 -- past the end there is only what stands for it

@@ -15,7 +15,8 @@ use Rattle.keymap_draw.specs.Facts.{Fact}
 use Rattle.keymap_draw.specs.WellFormed.{State, Tells, start, step, step_at, scan, is_plain, IsPlain, is_shown, IsShown}
 use Rattle.keymap_draw.specs.WellFormed.{IsSeen}
 use Rattle.keymap_draw.proofs.Scans.{first_true, second_true, none-some, failed}
-use Rattle.keymap_draw.proofs.Shown.{all_from, is_seen}
+use Rattle.keymap_draw.specs.Sheets.{is_seen}
+use Rattle.keymap_draw.proofs.Shown.{all_from}
 use Rattle.keymap_draw.proofs.Texts.{AreShown, cell_shown, slot_words_shown, accent_words_shown}
 
 scanned_plain : (bs : List ℕ) (o : Option State) (t : State) → scan o bs ≡ Some t → All IsPlain bs
@@ -52,3 +53,5 @@ key_title_seen slot e low is = each_seen (slot_words slot e) (slot_words_shown s
 
 pub accent_title_seen : (i : ℕ) (accent : AccentValue) → All IsSeen (accent_words i accent)
 accent_title_seen i accent = each_seen (accent_words i accent) (accent_words_shown i accent)
+
+pub ruleset shown_laws = (legend_shown, legend_seen, key_title_seen, accent_title_seen)

@@ -34,7 +34,8 @@ use Rattle.keymap_draw.specs.Legends.{name_in, unfilled, marked, is_coded, unsee
 use Rattle.keymap_draw.specs.Legends.{other_legend, character_legend, accent_mark, action_legend, cell_legend}
 use Rattle.keymap_draw.specs.WellFormed.{is_shown}
 use Rattle.keymap_draw.proofs.Scans.{both_true, first_true, second_true, decimal_all, digit_passes}
-use Rattle.keymap_draw.proofs.Shown.{is_seen, joined as all_joined, flat_all, name_all, item_all, hex_shown}
+use Rattle.keymap_draw.specs.Sheets.{is_seen}
+use Rattle.keymap_draw.proofs.Shown.{joined as all_joined, flat_all, name_all, item_all, hex_shown}
 
 -- each may stand in a text, and a terminal shows it as it is
 pub record AreShown (cs : List ℕ) : Type 0 where

@@ -1,7 +1,9 @@
 //! The boards, and the shapes of their keys. All lengths are naturals, of which 64 are one key.
 
-ghost use Rattle.std.specs.Prelude.{◌≡◌, ◌≤◌};
+ghost use Rattle.std.specs.Prelude.{◌≡◌, ◌≤◌, ◌∷◌, [], true};
+ghost use Rattle.std.specs.List.{list_all};
 ghost use Rattle.keymap_draw.specs.Boards as spec;
+ghost use Rattle.keymap_draw.specs.Sheets.{is_inner};
 
 /// A keyboard.
 #[derive(Clone, Copy, Debug, PartialEq, Eq)]
@@ -40,20 +42,21 @@ impl Shape {
     ghost use Rattle.keymap_draw.specs.Boards.{letter as letter_of, width as width_of, height as height_of};
 
     /// The letter that names it in the picture.
-    pub(crate) fn letter(self) -> u8
-        ensures { result ≡ letter_of self }
+    pub(crate) fn letter(self) -> &'static [u8]
+        ensures value { result.now ≡ letter_of self ∷ [] }
+        ensures inner { list_all is_inner result.now ≡ true }
     {
         match self {
-            Shape::A => b'a',
-            Shape::B => b'b',
-            Shape::C => b'c',
-            Shape::D => b'd',
-            Shape::E => b'e',
-            Shape::F => b'f',
-            Shape::G => b'g',
-            Shape::H => b'h',
-            Shape::Tall => b't',
-            Shape::Enter => b'E',
+            Shape::A => b"a",
+            Shape::B => b"b",
+            Shape::C => b"c",
+            Shape::D => b"d",
+            Shape::E => b"e",
+            Shape::F => b"f",
+            Shape::G => b"g",
+            Shape::H => b"h",
+            Shape::Tall => b"t",
+            Shape::Enter => b"E",
         }
     }
 

@@ -2,7 +2,7 @@
 use Prim.Native.Nat.{zero, suc}
 use Rattle.std.proofs.Common.{◌≡◌, ℕ, ◌+◌, ◌*◌, ◌<◌, Bool, true, false, List, [], ◌∷◌, ◌++◌, Option, Some}
 use Rattle.std.proofs.Common.{None, refl, ap, sym, ◌∙◌, arith, length, get_or, All, ◌==◌}
-use Rattle.std.specs.Prelude.{map, ◌/◌, ◌%◌, ◌&&◌, not, nat_lt, codes, if◌then◌else◌, slice_index_or}
+use Rattle.std.specs.Prelude.{map, ◌/◌, ◌%◌, not, nat_lt, codes, if◌then◌else◌, slice_index_or}
 use Rattle.std.specs.Char.{digit_char}
 use Rattle.std.specs.List.{list_all, flat_map, range_with_len}
 use Rattle.keymap_core.proofs.Lists.{along}

@@ -25,13 +25,11 @@ use Rattle.keymap_text.proofs.Leading.{same_head, same_tail}
 use Rattle.keymap_text.proofs.Told.{words_tell}
 use Rattle.keymap_draw.specs.declared.board.Board.{Board}
 use Rattle.keymap_draw.specs.declared.board.Board.TheVariants.{Iso, Ansi}
-use Rattle.keymap_draw.specs.declared.board.Row.{Row}
 use Rattle.keymap_draw.specs.declared.half.Half.{Half}
 use Rattle.keymap_draw.specs.declared.half.Half.TheVariants.{Lower, Upper}
-use Rattle.keymap_draw.specs.Boards.{is_on}
+use Rattle.keymap_draw.specs.Boards.{Row, keys_of, is_on}
 use Rattle.keymap_draw.specs.Drawings.{Drawing}
 use Rattle.keymap_draw.specs.Halves.{slot_of, is_other, other_keys}
-use Rattle.keymap_draw.specs.Keyboards.{keys_of}
 use Rattle.keymap_check.specs.Said.{finding_words}
 use Rattle.keymap_draw.specs.Keys.{finding_of, finding_line}
 use Rattle.keymap_draw.specs.Lists.{has_character, named_accents}
@@ -143,7 +141,7 @@ listed (accent ∷ accents) zero h = All-head IsAccent accent accents h
 listed (accent ∷ accents) (suc i) h = listed accents i (All-tail IsAccent accent accents h)
 
 abbrev codes_of : Board → List ℕ
-codes_of board = map (λ (row : Row). row.0) (keys_of board)
+codes_of board = map (λ (row : Row). row.code) (keys_of board)
 
 board_low : (board : Board) → list_all (λ k. nat_lt k 128) (codes_of board) ≡ true
 board_low Iso = refl
@@ -155,15 +153,17 @@ IsLow k = k < 128
 keys_low : (d : Drawing) (half : Half) → All IsLow (codes_of d.board ++ other_keys d half)
 unfolding other_keys
 keys_low d half =
-    All-append IsLow _ (other_keys d half)
-    (All-weaker (λ k. nat_lt k 128 ≡ true) IsLow (λ k. ltb-true k 128) _ (all_from _ _ (board_low d.board)))
+    All-append IsLow (codes_of d.board) (other_keys d half)
+    (All-weaker (λ k. nat_lt k 128 ≡ true) IsLow (λ k. ltb-true k 128) (codes_of d.board)
+    (all_from (λ k. nat_lt k 128) (codes_of d.board) (board_low d.board)))
     (passing-below (is_other d half) 128 128 (omega arith))
 
 each_in : (P : Definition → Type 0) (d : Drawing) (half : Half) → ((k : ℕ) → k < 128 → P (key_definition d.map half k))
     → All P (told_in d half)
 each_in P d half key =
-    All-map P (key_definition d.map half) _
-    (All-weaker IsLow (λ k. P (key_definition d.map half k)) key _ (keys_low d half))
+    let ks : List ℕ = codes_of d.board ++ other_keys d half in
+    All-map P (key_definition d.map half) ks
+    (All-weaker IsLow (λ k. P (key_definition d.map half k)) key ks (keys_low d half))
 
 each_accent : (P : Definition → Type 0) (m : MapValue)
     → ((i : ℕ) (a : AccentValue) → i < 15 → accent_at m i ≡ Some a → P (AccentDefinition i a)) → (is : List ℕ)
@@ -266,7 +266,7 @@ mapped f (y ∷ xs) x (suc i, l, e) = let (j, m, g) = mapped f xs x (i, omega (a
 in_half : (d : Drawing) (half : Half) (k : ℕ) → k < 128 → (is_on d.board k || is_other d half k) ≡ true
     → Contains (told_in d half) (key_definition d.map half k)
 unfolding other_keys
-in_half d half k low h = mapped (key_definition d.map half) _ k
+in_half d half k low h = mapped (key_definition d.map half) (codes_of d.board ++ other_keys d half) k
     (elim (or_cases (is_on d.board k) (is_other d half k) h) [
       | inl on ↦ Contains-append_left (codes_of d.board) (other_keys d half) k (on_board d.board k low on)
       | inr other ↦ Contains-append_right (codes_of d.board) (other_keys d half) k

@@ -1,11 +1,12 @@
 //! The drawing of one half of the slots: its headline, its board, and the keys that the board doesn't have.
-ghost use Rattle.std.specs.Prelude.{◌≡◌, ◌++◌, ◌≤◌, ◌<◌, ◌^◌, IfOk, length, true};
+ghost use Rattle.std.specs.Prelude.{◌≡◌, ◌+◌, ◌*◌, ◌++◌, ◌≤◌, ◌<◌, ◌^◌, IfOk, length, true};
 ghost use Rattle.std.specs.List.{flat_map, list_all};
+ghost use Rattle.keymap_draw.specs.Boards.{laid};
 ghost use Rattle.keymap_draw.specs.Halves as spec;
 ghost use Rattle.keymap_draw.specs.Facts.{numbered};
 ghost use Rattle.keymap_draw.specs.Sheets.{is_inner};
 
-use crate::board::{ISO, Row, Shape};
+use crate::board::{RUNS, Run, Shape};
 use crate::drawing::Drawing;
 use crate::key::{is_blank_entry, push_key};
 use crate::markup::Added;
@@ -40,40 +41,63 @@ impl Half {
     }
 }
 
-/// Adds the key that the board has in place of one of the ISO board, where it has one.
-fn push_row(
+/// Adds keys of a run side by side up to a code 0, the first one at x.
+fn push_keys(
     sheet: Sheet<InPicture>,
     drawing: &Drawing,
     half: Half,
     y: u32,
-    row: &Row,
+    x: u32,
+    run: Run,
+    codes: &[u8],
 ) -> Added<Sheet<InPicture>>
-    requires { y < 2 ^ 16 }
-    ensures { IfOk result (λ s. s ≡ sheet ++ spec.board_row drawing.now half y row.now) }
+    requires low { y < 2 ^ 16 }
+    requires few { x + 400 * length codes.now < 2 ^ 20 }
+    ensures { IfOk result (λ s. s
+        ≡ sheet ++ flat_map (spec.board_key drawing.now half y) (laid x run.2 run.3 codes.now)) }
 {
-    match drawing.board().row(*row) {
-        Some(row) => {
-            let x = 28 + u32::from(row.1);
-            let y = y + 12 + u32::from(row.2);
-            push_key(sheet, drawing, half.slot(row.0), x, y, row.3)
+    match codes {
+        [] => Ok(sheet),
+        [0, ..] => Ok(sheet),
+        [code, codes @ ..] => {
+            let (slot, top) = (half.slot(*code), y + 12 + u32::from(run.2));
+            let sheet = push_key(sheet, drawing, slot, 28 + x, top, run.3)?;
+            push_keys(sheet, drawing, half, y, x + run.3.width(), run, codes)
         }
-        None => Ok(sheet),
     }
 }
 
-fn push_rows(
+/// Adds the keys of a run, if the board has them.
+fn push_run(
     sheet: Sheet<InPicture>,
     drawing: &Drawing,
     half: Half,
     y: u32,
-    rows: &[Row],
+    run: &Run,
 ) -> Added<Sheet<InPicture>>
     requires { y < 2 ^ 16 }
-    ensures { IfOk result (λ s. s ≡ sheet ++ flat_map (spec.board_row drawing.now half y) rows.now) }
+    ensures { IfOk result (λ s. s ≡ sheet ++ spec.run_keys drawing.now half y run.now) }
+{
+    if drawing.board().has_run(run) {
+        push_keys(sheet, drawing, half, y, u32::from(run.1), *run, &run.4)
+    } else {
+        Ok(sheet)
+    }
+}
+
+fn push_runs(
+    sheet: Sheet<InPicture>,
+    drawing: &Drawing,
+    half: Half,
+    y: u32,
+    runs: &[Run],
+) -> Added<Sheet<InPicture>>
+    requires { y < 2 ^ 16 }
+    ensures { IfOk result (λ s. s ≡ sheet ++ flat_map (spec.run_keys drawing.now half y) runs.now) }
 {
     let mut sheet = sheet;
-    for row in rows {
-        sheet = push_row(sheet, drawing, half, y, row)?;
+    for run in runs {
+        sheet = push_run(sheet, drawing, half, y, run)?;
     }
     Ok(sheet)
 }
@@ -224,7 +248,7 @@ pub(crate) fn push_half(
 {
     let sheet = push_headline(sheet, drawing, half, y + 26)?;
     let sheet = adorn(sheet, PANEL, &[Plain(digits(y + 40).as_slice())])?;
-    let sheet = push_rows(sheet, drawing, half, y + 40, &ISO)?;
+    let sheet = push_runs(sheet, drawing, half, y + 40, &RUNS)?;
     let sheet = push_sample(sheet, half, y + 52)?;
     push_other_keys(sheet, drawing, half, y + 472, keys)
 }

@@ -9,7 +9,7 @@ ghost use Rattle.keymap_check.specs.declared.finding.Finding.{Finding as Finding
 ghost use Rattle.keymap_text.specs.Printed.{key_line, slot_words, accent_line, accent_words, column, word};
 ghost use Rattle.keymap_draw.specs.Drawings.{Drawing};
 ghost use Rattle.keymap_draw.specs.Keys.{key_class, names_key, red};
-ghost use Rattle.keymap_draw.specs.Keyboards.{BoardsAreKeyboards, EachKeyOnce, NoTwoOverlap, AllLieOnThePanel};
+ghost use Rattle.keymap_draw.specs.Keyboards.{EachKeyOnce, NoTwoOverlap, AllLieOnThePanel};
 ghost use Rattle.keymap_draw.specs.Letters.{PairsAreLetters, CapitalsAreOfOneLetter, LettersHaveOneCapital};
 ghost use Rattle.keymap_draw.specs.Letters.{MarksAreOfTheirAccents};
 ghost use Rattle.keymap_draw.specs.Legends.{cell_legend};
@@ -78,11 +78,8 @@ pub fn pictures_tell_keymaps()
     ensures keymap { PicturesTellKeymaps }
 {}
 
-/// A board is rows of keys, one behind the other: each key code stands on it once, no two caps overlap, and all lie on
-/// the panel.
-#[tactic(auto, using(crate::proofs::Boards::board_laws))]
+/// On a board each key code stands once, no two caps overlap, and all lie on the panel.
 pub fn boards_are_keyboards()
-    ensures rows { BoardsAreKeyboards }
     ensures once { EachKeyOnce }
     ensures apart { NoTwoOverlap }
     ensures on_panel { AllLieOnThePanel }

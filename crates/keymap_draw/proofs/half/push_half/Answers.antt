@@ -1,15 +1,15 @@
 use Rattle.std.proofs.Common.{◌≡◌, ◌+◌, ◌++◌, ◌∙◌, ap, subst, append_assoc}
 use Rattle.std.specs.Prelude.{IfOk}
 use Rattle.std.specs.List.{flat_map}
-use Rattle.keymap_draw.specs.declared.board.TheConstants.{ISO}
+use Rattle.keymap_draw.specs.declared.board.TheConstants.{RUNS}
 use Rattle.keymap_draw.specs.Facts.{numbered}
-use Rattle.keymap_draw.specs.Halves.{board_row, other_key, half_facts}
+use Rattle.keymap_draw.specs.Halves.{run_keys, other_key, half_facts}
 use Rattle.keymap_draw.proofs.half.push_half.Goals as goal
 
 pub returns : goal.returns
 unfolding half_facts
 returns c =
-    let rows = flat_map (board_row c.args.drawing.now c.args.half (c.args.y + 40)) ISO in
+    let rows = flat_map (run_keys c.args.drawing.now c.args.half (c.args.y + 40)) RUNS in
     let others = numbered (other_key c.args.drawing.now c.args.half (c.args.y + 472)) 0 c.args.keys.now in
     subst (λ fs. IfOk c.push_other_keys.result (λ s. s ≡ fs))
     (ap (λ l. l ++ others) (c.in_ok-sheet-4.ensures ∙ c.in_ok-sheet-3.ensures

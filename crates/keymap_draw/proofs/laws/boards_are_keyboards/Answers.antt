@@ -1,0 +1,11 @@
+use Rattle.keymap_draw.proofs.Boards as lemma
+use Rattle.keymap_draw.proofs.laws.boards_are_keyboards.Goals as goal
+
+pub returns-clause-once : goal.returns-clause-once
+returns-clause-once c = lemma.each_key_once
+
+pub returns-clause-apart : goal.returns-clause-apart
+returns-clause-apart c = lemma.no_two_overlap
+
+pub returns-clause-on_panel : goal.returns-clause-on_panel
+returns-clause-on_panel c = lemma.all_lie_on_the_panel
